@@ -1,0 +1,10 @@
+//! A log's header, its events, and the grammar that leads from a line to its item and back.
+#![tactic(auto)]
+
+pub mod event;
+pub mod header;
+pub mod malformed;
+
+pub use event::{Event, Item};
+pub use header::Header;
+pub use malformed::Malformed;

@@ -1,0 +1,25 @@
+-- Intervals of input page numbers, and the span of a descriptor.
+use Rattle.std.specs.Prelude.{ℕ, ◌^◌, ◌≤◌, ◌-◌, ◌*◌, ◌+◌}
+
+-- the page numbers from lo to hi, both among them
+pub record Extent : Type 0 where
+  pub lo : ℕ
+  pub hi : ℕ
+
+-- the page number is in the interval
+abbrev pub Has : Extent → ℕ → Type 0
+Has e n = (e.lo ≤ n) × (n ≤ e.hi)
+
+-- some page number is in both
+abbrev pub Meets : Extent → Extent → Type 0
+Meets e f = (n : ℕ) × Has e n × Has f n
+
+-- each page number of the second is in the first
+abbrev pub Holds : Extent → Extent → Type 0
+Holds e f = (n : ℕ) → Has f n → Has e n
+
+-- The bytes of input addresses that one descriptor of a level translates. Each of the four levels
+-- takes nine bits of the address above the 12 bits within a page.
+-- Source: Arm ARM (DDI 0487), "VMSAv8-64 translation table walks", the 4 KiB granule.
+abbrev pub span_of : ℕ → ℕ
+span_of level = 2 ^ (12 + 9 * (3 - level))

@@ -1,0 +1,62 @@
+//! Intervals of input pages, and the span of a descriptor.
+
+ghost use Rattle.std.specs.Prelude.{◌≡◌, ℕ, ◌≤◌, ◌<◌, ◌↔◌, IsTrue};
+ghost use Rattle.bbm_regimes.specs.Extent.{span_of};
+
+use std::marker::Model;
+
+/// A closed interval of input page numbers: the page numbers from `lo` to `hi`, both among them, where
+/// `lo` is at most `hi`. A clause sees its `Extent`.
+#[derive(Clone, Copy, Debug, PartialEq, Eq)]
+pub struct Interval {
+    /// The first input page number.
+    pub lo: u64,
+    /// The last input page number.
+    pub hi: u64,
+}
+
+impl Model for Interval {
+    ghost use Rattle.std.specs.Prelude.{◌≤◌};
+    ghost use Rattle.bbm_regimes.specs.Extent.{Extent};
+
+    ghost Value = { Extent };
+
+    ghost view = { λ i. record { lo = i.lo; hi = i.hi } };
+
+    ghost invariant = { (λ i. i.lo ≤ i.hi) };
+
+    ghost inverse = { λ e. record { lo = e.lo; hi = e.hi } };
+}
+
+#[tactic(auto, using(crate::proofs::Intervals::intervals))]
+impl Interval {
+    ghost use Rattle.bbm_regimes.specs.Extent.{Meets, Holds};
+
+    /// Whether some page number is in both intervals.
+    pub fn meets(self, other: Interval) -> bool
+        ensures { IsTrue result ↔ Meets self other }
+    {
+        self.lo <= other.hi && other.lo <= self.hi
+    }
+
+    /// Whether each page number of the other interval is in this one.
+    pub fn holds(self, other: Interval) -> bool
+        ensures { IsTrue result ↔ Holds self other }
+    {
+        self.lo <= other.lo && other.hi <= self.hi
+    }
+}
+
+/// The bytes of input addresses that one descriptor of this level translates: 2^39, 2^30, 2^21 or
+/// 2^12. Source: Arm ARM (DDI 0487), "VMSAv8-64 translation table walks", the 4 KiB granule.
+pub fn span(level: u8) -> u64
+    requires { level ≤ 3 }
+    ensures { result ≡ span_of level }
+{
+    match level {
+        0 => 1 << 39,
+        1 => 1 << 30,
+        2 => 1 << 21,
+        _ => 1 << 12,
+    }
+}

@@ -1,0 +1,119 @@
+//! Processing elements and sets of them.
+
+ghost use Rattle.std.specs.Prelude.{◌≡◌, ℕ, ◌<◌, ◌≤◌, ◌↔◌, ◌&&◌, ◌||◌, not, nat_eq, nat_lt, false, IsTrue, IsSome, IfSome};
+ghost use Rattle.std.specs.List.{list_any};
+
+use std::marker::Model;
+
+/// A processing element: its number in the log, 0 to 63. Source: project's own choice.
+#[derive(Clone, Copy, Debug, PartialEq, Eq)]
+pub struct Pe {
+    number: u8,
+}
+
+impl Model for Pe {
+    ghost Value = { ℕ };
+
+    ghost view = { λ p. p.number };
+
+    ghost invariant = { (λ p. p.number < 64) };
+
+    ghost inverse = { λ n. record { number = n } };
+}
+
+impl Pe {
+    /// The PE with this number; None exactly where the number is 64 or more.
+    pub fn new(n: u8) -> Option<Pe>
+        ensures is_one { IsSome result ↔ (n < 64) }
+        ensures value { IfSome result (λ pe. pe ≡ n) }
+    {
+        if n < 64 { Some(Pe { number: n }) } else { None }
+    }
+
+    /// The number of the PE, 0 to 63.
+    pub fn get(self) -> u8
+        ensures value { result ≡ self }
+        ensures below { self < 64 }
+    {
+        self.number
+    }
+}
+
+/// A set of processing elements. Contracts speak of it by its points alone, `pe_in mask p`.
+#[derive(Clone, Copy, Debug)]
+pub struct PeMask {
+    bits: u64,
+}
+
+#[tactic(auto, using(crate::proofs::Masks::masks), unfolding(crate::specs::PeMask::pe_in))]
+impl PeMask {
+    ghost use Rattle.bbm_regimes.specs.PeMask.{pe_in};
+
+    /// The set of no PE.
+    pub fn none() -> PeMask
+        ensures { (p : ℕ) → pe_in result p ≡ false }
+    {
+        PeMask { bits: 0 }
+    }
+
+    /// The set of this PE alone.
+    pub fn one(pe: Pe) -> PeMask
+        ensures { (p : ℕ) → pe_in result p ≡ nat_eq p pe }
+    {
+        PeMask {
+            bits: 1 << pe.number,
+        }
+    }
+
+    /// The set of the first n PEs.
+    pub fn all(n: u8) -> PeMask
+        requires some { 1 ≤ n }
+        requires within { n ≤ 64 }
+        ensures { (p : ℕ) → pe_in result p ≡ nat_lt p n }
+    {
+        PeMask {
+            bits: u64::MAX >> (64 - n),
+        }
+    }
+
+    /// The PEs that are in both sets.
+    pub fn and(self, other: PeMask) -> PeMask
+        ensures { (p : ℕ) → pe_in result p ≡ (pe_in self p && pe_in other p) }
+    {
+        PeMask {
+            bits: self.bits & other.bits,
+        }
+    }
+
+    /// The PEs that are in one of the sets.
+    pub fn or(self, other: PeMask) -> PeMask
+        ensures { (p : ℕ) → pe_in result p ≡ (pe_in self p || pe_in other p) }
+    {
+        PeMask {
+            bits: self.bits | other.bits,
+        }
+    }
+
+    /// The PEs of this set that aren't in the other.
+    pub fn minus(self, other: PeMask) -> PeMask
+        ensures { (p : ℕ) → pe_in result p ≡ (pe_in self p && not (pe_in other p)) }
+    {
+        PeMask {
+            bits: self.bits & !other.bits,
+        }
+    }
+
+    /// Whether the PE is in the set.
+    pub fn has(self, pe: Pe) -> bool
+        ensures { result ≡ pe_in self pe }
+    {
+        self.bits >> pe.number & 1 == 1
+    }
+
+    /// Whether no PE is in the set.
+    pub fn is_empty(self) -> bool
+        ensures { IsTrue result ↔ ((p : ℕ) → pe_in self p ≡ false) }
+    {
+        self.bits == 0
+    }
+}
