@@ -2,9 +2,12 @@
 #![tactic(auto)]
 
 pub mod event;
+pub mod fits;
 pub mod header;
+pub mod keyword;
 pub mod malformed;
 
 pub use event::{Event, Item};
 pub use header::Header;
+pub use keyword::Keyword;
 pub use malformed::Malformed;
