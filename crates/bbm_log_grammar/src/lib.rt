@@ -2,5 +2,7 @@
 #![tactic(auto)]
 
 pub mod spell;
+mod tables;
+pub mod write;
 
 pub use spell::{add, add_decimal, add_hex};
