@@ -93,11 +93,11 @@ module _ (base : ℕ) (is : IsBase base) where
   spell-append : (k n : ℕ) (acc : List ℕ) → spell k n acc ≡ spell k n [] ++ acc
   spell-append zero n acc = refl
   spell-append (suc k) n acc = elim (cases_lt n base) [
-      | inl l ↦ spell_last k n acc l ∙ ap (λ (x : List ℕ). x ++ acc) (sym (spell_last k n [] l))
-      | inr l ↦ spell_next k n acc l ∙ spell-append k (n / base) (glyph (n % base) ∷ acc)
+    | inl l ↦ spell_last k n acc l ∙ ap (λ (x : List ℕ). x ++ acc) (sym (spell_last k n [] l))
+    | inr l ↦ spell_next k n acc l ∙ spell-append k (n / base) (glyph (n % base) ∷ acc)
         ∙ sym (append_assoc (spell k (n / base) []) (glyph (n % base) ∷ []) acc)
         ∙ ap (λ (x : List ℕ). x ++ acc) (sym (spell_next k n [] l ∙ spell-append k (n / base) (glyph (n % base) ∷ [])))
-    ]
+  ]
 
   half_below : (k n : ℕ) → n < 2 ^ suc k → n / base < 2 ^ k
   half_below k n h = is.half n (2 ^ k) (omega (arith, pow-suc 2 k))
@@ -107,9 +107,9 @@ module _ (base : ℕ) (is : IsBase base) where
   spell_enough zero k n acc p q = let l : n < base = omega (arith, is.two) in spell_last zero n acc l ∙ sym (spell_last k n acc l)
   spell_enough (suc j) zero n acc p q = let l : n < base = omega (arith, is.two) in spell_last (suc j) n acc l ∙ sym (spell_last zero n acc l)
   spell_enough (suc j) (suc k) n acc p q = elim (cases_lt n base) [
-      | inl l ↦ spell_last (suc j) n acc l ∙ sym (spell_last (suc k) n acc l)
-      | inr l ↦ spell_next (suc j) n acc l ∙ spell_enough j k (n / base) (glyph (n % base) ∷ acc) (half_below (suc j) n p) (half_below (suc k) n q) ∙ sym (spell_next (suc k) n acc l)
-    ]
+    | inl l ↦ spell_last (suc j) n acc l ∙ sym (spell_last (suc k) n acc l)
+    | inr l ↦ spell_next (suc j) n acc l ∙ spell_enough j k (n / base) (glyph (n % base) ∷ acc) (half_below (suc j) n p) (half_below (suc k) n q) ∙ sym (spell_next (suc k) n acc l)
+  ]
 
   abbrev text : ℕ → List ℕ
   text n = digits base false n
@@ -167,9 +167,9 @@ module _ (base : ℕ) (is : IsBase base) where
       let l : n < base = omega (arith, is.two) in
       subst Leads (sym (spell_last zero n acc l)) (glyph_nonzero n some (omega (arith, is.low)))
   spell_leads (suc k) n acc some bound = elim (cases_lt n base) [
-      | inl l ↦ subst Leads (sym (spell_last (suc k) n acc l)) (glyph_nonzero n some (omega (arith, is.low)))
-      | inr l ↦ subst Leads (sym (spell_next (suc k) n acc l)) (spell_leads k (n / base) (glyph (n % base) ∷ acc) (is.large n l) (half_below (suc k) n bound))
-    ]
+    | inl l ↦ subst Leads (sym (spell_last (suc k) n acc l)) (glyph_nonzero n some (omega (arith, is.low)))
+    | inr l ↦ subst Leads (sym (spell_next (suc k) n acc l)) (spell_leads k (n / base) (glyph (n % base) ∷ acc) (is.large n l) (half_below (suc k) n bound))
+  ]
 
   text_leads : (n : ℕ) → 0 < n → n < 2 ^ 64 → Leads (text n)
   unfolding digits
@@ -209,15 +209,15 @@ module _ (base : ℕ) (is : IsBase base) where
   -- a single digit, or digits of which the first is no zero, spell their value
   text_value : (c : ℕ) (cs : List ℕ) → (c ≡ 48 → cs ≡ []) → all_lower (c ∷ cs) ≡ true → digits_value base (c ∷ cs) < 2 ^ 64 → text (digits_value base (c ∷ cs)) ≡ c ∷ cs
   text_value c cs lead lower bound = elim (cases_lt 0 (digit_value c)) [
-      | inl some ↦
+    | inl some ↦
         let start : digits_value base (c ∷ cs) ≡ digits_value_after base (digit_value c) cs = ap (λ (n : ℕ). digits_value_after base n cs) {x = 0 * base + digit_value c} {y = digit_value c} (omega arith) in
         ap text start ∙ text_after (digit_value c) cs some here.1 (subst (λ (n : ℕ). n < 2 ^ 64) start bound) ∙ ap (λ (x : List ℕ). x ++ cs) (one (digit_value c) refl)
-      | inr none ↦
+    | inr none ↦
         let zero_here : digit_value c ≡ 0 = omega arith in
         let is_zero : c ≡ 48 = lower_glyph c here.0 ∙ ap glyph zero_here in
         let alone : cs ≡ [] = lead is_zero in
         ap text (ap (digits_value base) (ap (λ (x : List ℕ). c ∷ x) alone) ∙ start_zero zero_here) ∙ one 0 zero_here ∙ ap (λ (x : List ℕ). c ∷ x) (sym alone)
-    ]
+  ]
     where
       here : (is_lower_digit base c ≡ true) × (all_lower cs ≡ true)
       here = both_true (is_lower_digit base c) (all_lower cs) lower
@@ -298,20 +298,20 @@ module _ (base : ℕ) (is : IsBase base) where
   -- a number of digits that are its own is spelled with them
   text_not_nil : (n : ℕ) → n < 2 ^ 64 → text n ≡ [] → ⊥
   text_not_nil n bound e = elim (cases_lt 0 n) [
-      | inl some ↦ subst Leads e (text_leads n some bound)
-      | inr none ↦
+    | inl some ↦ subst Leads e (text_leads n some bound)
+    | inr none ↦
         let single : text n ≡ glyph n ∷ [] = text_small n (omega (arith, is.two)) in
         (cc)
-    ]
+  ]
 
   -- two digits or more don't begin with `0`
   text_no_zero : (n c : ℕ) (cs : List ℕ) → n < 2 ^ 64 → text n ≡ 48 ∷ c ∷ cs → ⊥
   text_no_zero n c cs bound e = elim (cases_lt 0 n) [
-      | inl some ↦ subst Leads e (text_leads n some bound) refl
-      | inr none ↦
+    | inl some ↦ subst Leads e (text_leads n some bound) refl
+    | inr none ↦
         let single : text n ≡ glyph n ∷ [] = text_small n (omega (arith, is.two)) in
         (cc)
-    ]
+  ]
 
   text_lower : (n : ℕ) (ds : List ℕ) → text n ≡ ds → all_lower ds ≡ true
   text_lower n ds e = ap all_lower (sym e) ∙ text_all_lower n
@@ -327,13 +327,13 @@ module _ (base : ℕ) (is : IsBase base) where
   spelled_is [] = spelled_no [] (λ bound e. text_not_nil (digits_value base []) bound e)
   spelled_is (c ∷ []) = by_digits c [] (λ _. refl) (number_after base 0 (c ∷ [])) refl
   spelled_is (c ∷ d ∷ cs) = elim (eqb_tells c 48) [
-      | inl zero_first ↦
+    | inl zero_first ↦
         spelled_no (c ∷ d ∷ cs) (λ bound e. text_no_zero (digits_value base (c ∷ d ∷ cs)) d cs bound (e ∙ ap (λ (x : ℕ). x ∷ d ∷ cs) zero_first.1))
         ∙ sym (ap (λ (t : Bool). cond t None (number_after base 0 (c ∷ d ∷ cs))) zero_first.0)
-      | inr other ↦
+    | inr other ↦
         by_digits c (d ∷ cs) (λ e. absurd (other.1 e)) (number_after base 0 (c ∷ d ∷ cs)) refl
         ∙ sym (ap (λ (t : Bool). cond t None (number_after base 0 (c ∷ d ∷ cs))) other.0)
-    ]
+  ]
 
 -- `0x` and then a number in hex
 abbrev pub hex_of : List ℕ → Option ℕ
