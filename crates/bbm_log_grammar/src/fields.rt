@@ -1,6 +1,6 @@
 //! The fields of a line.
 
-ghost use Rattle.std.specs.Prelude.{◌≡◌, ℕ, [], ◌∷◌, ◌==◌, MatchOption};
+ghost use Rattle.std.specs.Prelude.{◌≡◌, ℕ, [], ◌∷◌, ◌==◌, MatchOption, MatchResult};
 ghost use Rattle.std.specs.List.{position};
 ghost use Rattle.bbm_events.specs.Spelling.{fields};
 
@@ -53,5 +53,12 @@ impl<'a> Fields<'a> {
             )),
             None => Some((line, Fields { rest: None })),
         }
+    }
+
+    /// The next field, and those after it; the cause where no field is left.
+    pub(crate) fn next_or(self, absent: Malformed) -> Result<(&'a [u8], Fields<'a>), Malformed>
+        ensures { MatchResult result (λ x. self.entry ≡ x.0.now ∷ x.1) (λ cause. (self.entry ≡ []) × (cause ≡ absent)) }
+    {
+        self.next().ok_or(absent)
     }
 }

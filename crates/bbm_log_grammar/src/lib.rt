@@ -3,4 +3,6 @@
 
 mod fields;
 pub mod numbers;
+mod readers;
+mod values;
 mod words;
