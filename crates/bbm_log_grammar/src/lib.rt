@@ -1,8 +1,14 @@
 //! Reads the lines of a log by its grammar.
 #![tactic(auto)]
 
+mod events;
 mod fields;
-pub mod numbers;
+mod headers;
+mod numbers;
 mod readers;
 mod values;
 mod words;
+
+pub use events::read_event;
+pub use headers::read_header;
+pub use numbers::{read_decimal, read_hex};
