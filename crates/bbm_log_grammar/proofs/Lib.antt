@@ -1,7 +1,9 @@
 pub mod Joining
+pub mod Numerals
 pub mod OneLine
+pub mod OneSpelling
 pub mod Short
 pub mod Spelled
-pub mod Values
+pub mod Splitting
 pub mod WordsRead
 pub mod Written
