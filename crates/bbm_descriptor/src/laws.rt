@@ -24,7 +24,11 @@ pub fn law_core_of_its_descriptor()
 /// A write needs break-before-make exactly where both values are valid and their cores differ.
 #[tactic(auto, using(crate::proofs::Cores::needs_told))]
 pub fn law_need()
-    ensures { (kind : Kind) (level old new : ℕ) → (needs kind level old new ≡ true) ↔ ((is_valid kind level old ≡ true) × (is_valid kind level new ≡ true) × (core_of kind level old ≢ core_of kind level new)) }
+    ensures { (kind : Kind) (level old new : ℕ) →
+        (needs kind level old new ≡ true)
+        ↔ ((is_valid kind level old ≡ true)
+        × (is_valid kind level new ≡ true)
+        × (core_of kind level old ≢ core_of kind level new)) }
 {}
 
 /// The need is symmetric.
@@ -35,7 +39,8 @@ pub fn law_need_is_symmetric()
 
 /// There is no need between values of equal cores.
 pub fn law_no_need_of_equal_cores()
-    ensures { (kind : Kind) (level old new : ℕ) → core_of kind level old ≡ core_of kind level new → needs kind level old new ≡ false }
+    ensures { (kind : Kind) (level old new : ℕ) →
+        core_of kind level old ≡ core_of kind level new → needs kind level old new ≡ false }
 {}
 
 /// There is no need of a value over itself.

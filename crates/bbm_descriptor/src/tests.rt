@@ -170,6 +170,7 @@ fn tells_where_break_before_make_is_needed(rt: HostRuntime) {
         (Kind::Ttbr0, 0, 0x4000_1003, 0x8000_0000_4000_1003, true),
         (Kind::S2, 0, 0x4000_1003, 0x8000_0000_4000_1003, false),
     ] {
+        assert!(rt; level <= 3);
         assert_eq!(rt;
             needs_bbm(kind, level, old, new),
             want,
