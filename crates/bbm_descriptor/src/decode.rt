@@ -1,6 +1,6 @@
 //! Values of places, decoded by the kind and the level of the table that they stand in.
 
-ghost use Rattle.std.specs.Prelude.{◌≡◌, ℕ, Bool, true, false, ◌<◌, ◌≤◌, ◌+◌, ◌*◌, ◌^◌, ◌%◌, ◌-◌, ◌↔◌, ◌&&◌, IsTrue, IsNone, IfSome};
+ghost use Rattle.std.specs.Prelude.{◌≡◌, false, ◌<◌, ◌≤◌, ◌^◌, ◌%◌, ◌↔◌, ◌&&◌, IsNone, IfSome};
 ghost use Rattle.bbm_descriptor.specs.Fields.{bits, bit, address, next_of, ns_table, out_of};
 ghost use Rattle.bbm_descriptor.specs.Descriptor.{leaf, stage1, desc_of, desc_as, core_of, core_in, desc_with, is_valid, needs, Fits};
 

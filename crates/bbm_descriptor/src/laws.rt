@@ -1,7 +1,7 @@
 //! Laws of descriptors, for the proofs of the crates above. Each function does nothing; its contract is
 //! the law.
 
-ghost use Rattle.std.specs.Prelude.{◌≡◌, ◌≢◌, ℕ, true, false, ◌≤◌, ◌↔◌, ◌&&◌, Option, is_some};
+ghost use Rattle.std.specs.Prelude.{◌≡◌, ◌≢◌, ℕ, true, false, ◌≤◌, ◌↔◌, is_some};
 ghost use Rattle.bbm_regimes.specs.declared.regime.Kind.{Kind};
 ghost use Rattle.bbm_descriptor.specs.declared.desc.Core.{Core};
 ghost use Rattle.bbm_descriptor.specs.Descriptor.{desc_of, core_of, core_in, desc_with, is_valid, same_core, needs, Fits};
