@@ -1,0 +1,4 @@
+pub mod Faults
+pub mod Flow
+pub mod Memory
+pub mod Reading
