@@ -1,3 +1,4 @@
+pub mod Byte
 pub mod Faults
 pub mod Flow
 pub mod Memory

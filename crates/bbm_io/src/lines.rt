@@ -2,7 +2,9 @@
 
 ghost use Rattle.std.specs.Prelude.{◌≡◌, ◌+◌, ◌<◌, ◌≤◌, ◌^◌, ◌≢◌, [], ◌∷◌, length, true, false, is_err, Ok, Err, OnErr};
 ghost use Rattle.bbm_io.specs.Faults.{Rose};
-ghost use Rattle.bbm_io.specs.Flow.{preceded, AtEnd, plain};
+ghost use Rattle.bbm_io.specs.Flow.{plain};
+ghost use Rattle.bbm_io.specs.Reading.{Reading, Took, Counts};
+ghost use Rattle.bbm_io.specs.Byte.{Gave};
 
 use crate::source::{Failed, Source};
 use arrayvec::ArrayVec;
@@ -58,8 +60,6 @@ impl Model for Lines {
 }
 
 impl Lines {
-    ghost use Rattle.bbm_io.specs.Reading.{Took, Counts};
-
     /// A reader that has taken nothing.
     pub fn new() -> Lines
         ensures { result ≡ record { bytes = []; taken = 0; failed = false } }
@@ -118,7 +118,10 @@ enum Next {
 }
 
 /// Asks the source for one byte.
+#[tactic(auto, using(crate::proofs::Flow::flow))]
 fn next_byte<S: Source>(src: &mut S) -> Next
+    ensures gave { Gave result (S.left src.old) (S.left src.new) }
+    ensures fault { result ≡ Next.Fault → Rose (S.faults src.old) (S.faults src.new) }
     ensures never_falls { S.faults src.old ≤ S.faults src.new }
 {
     let mut buf = [0];
@@ -130,13 +133,21 @@ fn next_byte<S: Source>(src: &mut S) -> Next
 }
 
 /// Reads the bytes of a line up to its newline into `line`, and counts the bytes taken.
+#[tactic(auto, using(crate::proofs::Flow::flow))]
 fn read_line<S: Source>(
     line: &mut ArrayVec<u8, LINE_BYTES>,
     taken: &mut u64,
     src: &mut S,
 ) -> Result<LineOrEnd, LineFault>
     requires empty { line.old.items ≡ [] }
-    requires some { taken.old ≤ 2 ^ 40 }
+    requires within { taken.old ≤ 2 ^ 40 }
+    ensures took { Took result line.new.items (S.left src.old) (S.left src.new) }
+    ensures counts { let was : Reading = record { bytes = line.old.items; taken = taken.old; failed = false } in
+        let now : Reading = record { bytes = line.new.items; taken = taken.new; failed = is_err result } in
+        Counts result was now }
+    ensures plain { plain line.new.items ≡ true }
+    ensures read_fault { result ≡ Err LineFault.ReadFault → Rose (S.faults src.old) (S.faults src.new) }
+    ensures never_falls { S.faults src.old ≤ S.faults src.new }
 {
     while *taken < LOG_BYTES {
         match next_byte(src) {

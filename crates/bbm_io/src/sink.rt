@@ -56,18 +56,21 @@ impl Sink for CleanSink {
 #[derive(Drop)]
 pub struct MemSink {
     bytes: Vec<u8>,
+    room: usize,
     fails: Vec<u64>,
     calls: u64,
     faults: u64,
 }
 
 impl Model for MemSink {
-    ghost use Rattle.std.specs.Prelude.{vec_capacity};
+    ghost use Rattle.std.specs.Prelude.{◌≤◌, vec_len, vec_capacity};
     ghost use Rattle.bbm_io.specs.Memory.{SinkState};
 
     ghost Value = { SinkState };
 
-    ghost view = { λ s. record { held = s.bytes.items; room = vec_capacity s.bytes; fails = s.fails.items; calls = s.calls; faults = s.faults } };
+    ghost view = { λ s. record { held = s.bytes.items; room = s.room; fails = s.fails.items; calls = s.calls; faults = s.faults } };
+
+    ghost invariant = { (λ s. (vec_len s.bytes ≤ s.room) × (s.room ≤ vec_capacity s.bytes)) };
 }
 
 impl MemSink {
@@ -77,8 +80,10 @@ impl MemSink {
         requires { bytes.items ≡ [] }
         ensures { result ≡ record { held = []; room = vec_capacity bytes; fails = fails.items; calls = 0; faults = 0 } }
     {
+        let room = bytes.capacity();
         MemSink {
             bytes,
+            room,
             fails,
             calls: 0,
             faults: 0,
@@ -111,10 +116,10 @@ impl Sink for MemSink {
             ≡ (if is_err result then min (self.old.faults + 1) (2 ^ 64 - 1) else self.old.faults) }
         ensures calls { self.new.calls ≡ min (self.old.calls + 1) (2 ^ 64 - 1) }
         ensures listed { self.new.fails ≡ self.old.fails }
+        ensures counted { self.old.faults < 2 ^ 64 }
         ensures room { self.new.room ≡ self.old.room }
     {
-        let room = self.bytes.capacity() - self.bytes.len();
-        let count = piece.len().min(room);
+        let count = piece.len().min(self.room - self.bytes.len());
         if next_fails(&mut self.calls, &self.fails)
             || count == 0 && !piece.is_empty()
             || self.bytes.extend_from_slice(&piece[..count]).is_err()
@@ -128,6 +133,7 @@ impl Sink for MemSink {
 
 /// Writes the whole piece. `Failed` comes only where the sink's count of faults rose, or stands at
 /// 2^64 - 1, and then a proper prefix of the piece was taken; so an empty piece is always Ok.
+#[tactic(auto, using(crate::proofs::Flow::flow))]
 pub fn put<K: Sink>(out: &mut K, piece: &[u8]) -> Result<(), Failed>
     ensures whole { OnOk result (K.held out.new ≡ extended (K.held out.old) piece.now) }
     ensures part { OnErr result ((n : ℕ) × (n < length piece.now) × (K.held out.new ≡ extended (K.held out.old) (take n piece.now))) }
@@ -135,10 +141,9 @@ pub fn put<K: Sink>(out: &mut K, piece: &[u8]) -> Result<(), Failed>
     ensures quiet { ¬ (Rose (K.faults out.old) (K.faults out.new)) → IsOk result }
     ensures never_falls { K.faults out.old ≤ K.faults out.new }
 {
-    let mut rest = piece;
-    while !rest.is_empty() {
-        let count = out.write(rest)?;
-        rest = &rest[count..];
+    let mut done = 0;
+    while done < piece.len() {
+        done += out.write(&piece[done..])?;
     }
     Ok(())
 }
