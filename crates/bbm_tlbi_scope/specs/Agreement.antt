@@ -1,5 +1,5 @@
 -- What an entry and a place of a tree have in common, where the entry was read through the place.
-use Rattle.std.specs.Prelude.{◌≡◌, ℕ, Bool, true, false, ◌≤◌, IsTrue}
+use Rattle.std.specs.Prelude.{◌≡◌, Bool, true, false, ◌≤◌}
 use Rattle.bbm_regimes.specs.Extent.{holds}
 use Rattle.bbm_regimes.specs.declared.regime.Kind.{Kind}
 use Rattle.bbm_regimes.specs.declared.regime.Kind.TheVariants.{El2, S2, Ttbr0, Ttbr1}

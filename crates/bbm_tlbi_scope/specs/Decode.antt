@@ -1,5 +1,5 @@
 -- The scope of a TLBI operation with its operand.
-use Rattle.std.specs.Prelude.{ℕ, Bool, true, false, Option, Some, None, Result, Ok, Err, ◌==◌, ◌||◌, if◌then◌else◌}
+use Rattle.std.specs.Prelude.{ℕ, Bool, true, Option, Some, None, Result, Ok, Err, ◌==◌, ◌||◌, if◌then◌else◌}
 use Rattle.bbm_regimes.specs.Extent.{Extent}
 use Rattle.bbm_tlbi_scope.specs.declared.op.TlbiOp.{TlbiOp}
 use Rattle.bbm_tlbi_scope.specs.declared.scope.Family.{Family}
@@ -33,13 +33,17 @@ page_field _ xt = va_page xt
 abbrev pub one_page : ℕ → Extent
 one_page n = record { lo = n; hi = n }
 
+-- the pages of the operand: its one page, or None where it has no page number
+abbrev pub interval_field : Family → ℕ → Option Extent
+interval_field family xt = if has_page family then Some (one_page (page_field family xt)) else None
+
 -- the scope of an operand that can be decoded
 abbrev pub decoded : Operation → ℕ → Scope
 decoded o xt = record {
   family = o.family;
   asid = if has_asid o.family then Some (asid_field xt) else None;
   vmid_scoped = by_vmid o.family;
-  interval = if has_page o.family then Some (one_page (page_field o.family xt)) else None;
+  interval = interval_field o.family xt;
   last_only = o.last_only;
   level = if has_page o.family then level_hint xt else None;
   broadcast = o.broadcast;

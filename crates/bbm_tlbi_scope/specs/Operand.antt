@@ -1,6 +1,6 @@
 -- The fields of the operand of a TLBI: the value of its register Xt.
 -- Source: Arm ARM (DDI 0487), "TLB maintenance instructions", the argument of each operation.
-use Rattle.std.specs.Prelude.{ℕ, Bool, Option, Some, None, ◌+◌, ◌-◌, ◌/◌, ◌%◌, ◌^◌, ◌==◌, ◌||◌, if◌then◌else◌}
+use Rattle.std.specs.Prelude.{ℕ, Option, Some, None, ◌+◌, ◌-◌, ◌/◌, ◌%◌, ◌^◌, ◌==◌, if◌then◌else◌}
 
 -- the number in the bits from high down to low
 abbrev pub bits : ℕ → ℕ → ℕ → ℕ

@@ -1,5 +1,9 @@
 //! What a TLBI operation with its operand says: its scope.
 
+ghost use Rattle.std.specs.Prelude.{◌≡◌};
+ghost use Rattle.bbm_tlbi_scope.specs.Operations as words;
+ghost use Rattle.bbm_tlbi_scope.specs.Numbers as numbers;
+
 use bbm_regimes::Interval;
 
 /// The family of a TLBI operation. Source: Arm ARM (DDI 0487), "TLB maintenance instructions".
@@ -23,6 +27,57 @@ pub enum Family {
     VaAll,
     /// The stage 1 entries of an ASID that aren't global.
     Asid,
+}
+
+impl Family {
+    /// Whether a TLBI of the family takes the entries of its issuer's VMID alone.
+    pub fn by_vmid(self) -> bool
+        ensures { result ≡ words.by_vmid self }
+    {
+        matches!(self, Family::VmAll1 | Family::VmAll12 | Family::Ipa)
+    }
+
+    /// Whether the operand has a page number.
+    pub fn has_page(self) -> bool
+        ensures { result ≡ words.has_page self }
+    {
+        matches!(
+            self,
+            Family::El2Va | Family::Ipa | Family::Va | Family::VaAll
+        )
+    }
+
+    /// Whether the operand has an ASID.
+    pub fn has_asid(self) -> bool
+        ensures { result ≡ words.has_asid self }
+    {
+        matches!(self, Family::Va | Family::Asid)
+    }
+
+    /// Whether the family is one that a hypervisor uses. Source: project's own choice.
+    pub fn of_hyp(self) -> bool
+        ensures { result ≡ words.of_hyp self }
+    {
+        matches!(
+            self,
+            Family::El2All
+                | Family::El2Va
+                | Family::E1All
+                | Family::VmAll1
+                | Family::VmAll12
+                | Family::Ipa
+        )
+    }
+
+    /// Whether the family is one that a kernel uses. Source: project's own choice.
+    pub fn of_kernel(self) -> bool
+        ensures { result ≡ words.of_kernel self }
+    {
+        matches!(
+            self,
+            Family::VmAll1 | Family::Va | Family::VaAll | Family::Asid
+        )
+    }
 }
 
 /// The scope of a TLBI: what it invalidates. Which fields are None follows from the family.
@@ -51,4 +106,46 @@ pub enum BadOperand {
     NonCanonical = 1,
     /// The level hint is for a granule of 16 or 64 KiB.
     TtlGranule = 2,
+}
+
+impl Scope {
+    /// Whether the scope names pages, and some page of the region is among them.
+    pub fn names_some(self, region: Interval) -> bool
+        ensures { result ≡ numbers.names_some self.interval region }
+    {
+        match self.interval {
+            Some(interval) => interval.meets(region),
+            None => false,
+        }
+    }
+
+    /// Whether the scope names pages, and each page of the region is among them.
+    pub fn names_all(self, region: Interval) -> bool
+        ensures { result ≡ numbers.names_all self.interval region }
+    {
+        match self.interval {
+            Some(interval) => interval.holds(region),
+            None => false,
+        }
+    }
+
+    /// Whether the level hint of the scope is none or this level, 0 to 3.
+    pub fn hint_allows(self, level: u8) -> bool
+        ensures { result ≡ numbers.hint_allows self.level level }
+    {
+        match self.level {
+            Some(hint) => hint == level,
+            None => true,
+        }
+    }
+}
+
+/// Whether the VMID or ASID is there and is this number, 0 to 65535.
+pub fn is_number(named: Option<u16>, number: u16) -> bool
+    ensures { result ≡ numbers.is_number named number }
+{
+    match named {
+        Some(named) => named == number,
+        None => false,
+    }
 }
