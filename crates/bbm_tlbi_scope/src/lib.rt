@@ -17,3 +17,6 @@ pub use laws::{law_cover_takes, law_whole_tag_takes};
 pub use op::TlbiOp;
 pub use scope::{BadOperand, Family, Scope};
 pub use taking::{takes, whole_tag};
+
+#[cfg(test)]
+mod tests;
