@@ -10,5 +10,9 @@ mod values;
 mod words;
 
 pub use events::read_event;
+pub use fields::field;
 pub use headers::read_header;
 pub use numbers::{read_decimal, read_hex};
+
+#[cfg(test)]
+mod tests;
