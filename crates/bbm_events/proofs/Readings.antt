@@ -18,7 +18,7 @@ use Rattle.bbm_events.specs.Heading.{Heading, heading_ok}
 use Rattle.bbm_events.specs.Spelling.{fields, hex, decimal_value, hex_value, where_spelled}
 use Rattle.bbm_events.specs.Words.{has_operand, value_of, keyword_word, keywords, asid_from_word, asid_froms}
 use Rattle.bbm_events.specs.Fits.{fits_heading, item_fits, is_pe, is_page, is_place, is_value, is_lock, is_count, is_root_page, is_root_lock, is_operand}
-use Rattle.bbm_events.specs.Lines.{◌>>=◌, Fields, magic_field, header_field, Reading, found, next_field, passing, checked, hyp_fields, kernel_fields, world_fields, header_of, item_of, line_after, line_field, pe_field, page_field, place_field, root_page_field, value_field, operand_field, lock_field, lock_value, root_lock, root_lock_field, count_field, kind_field, dsb_field, op_field, reg_field, whole, pe_alone, pe_and, pe_and_two, root_line, tlbi_line, end_line}
+use Rattle.bbm_events.specs.Lines.{◌>>=◌, Fields, magic_field, header_field, Reading, found, next_field, passing, checked, hyp_fields, kernel_fields, world_fields, header_of, item_of, line_after, line_field, keyword_field, pe_field, page_field, place_field, root_page_field, value_field, operand_field, lock_field, lock_value, root_lock, root_lock_field, count_field, kind_field, dsb_field, op_field, reg_field, whole, pe_alone, pe_and, pe_and_two, root_line, tlbi_line, end_line}
 
 -- where two steps give a value, the first gave one that leads the second to it
 pub bind_ok : {A B : Type 0} (r : Result A Malformed) (f : A → Result B Malformed) {y : B} → (r >>= f) ≡ Ok y → (x : A) × (r ≡ Ok x) × (f x ≡ Ok y)
@@ -173,7 +173,7 @@ line_fits h first.End rest e = end_line_fits h rest e
 pub item_of_fits : (h : Heading) (line : List ℕ) (x : Item) → item_of h line ≡ Ok x → item_fits h x ≡ true
 unfolding item_of
 item_of_fits h line x e =
-    let word = bind_ok (line_field UnknownWord (value_of keyword_word keywords) (fields line)) _ e in
+    let word = bind_ok (keyword_field (fields line)) _ e in
     line_fits h word.0.0 word.0.1 word.2
 
 -- a header that is read keeps its ranges

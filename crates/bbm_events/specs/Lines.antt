@@ -215,10 +215,14 @@ line_after h first.Lock = pe_and h lock_field event.Lock
 line_after h first.Unlock = pe_and h lock_field event.Unlock
 line_after h first.End = end_line
 
+-- the first word of a line; a line always has a first field, if an empty one
+abbrev pub keyword_field : Fields → Reading Keyword
+keyword_field = line_field UnknownWord (value_of keyword_word keywords)
+
 -- A line after the header.
 unfoldable pub item_of : Heading → List ℕ → Result Item Malformed
 item_of h line = do
-  word ← line_field UnknownWord (value_of keyword_word keywords) (fields line)
+  word ← keyword_field (fields line)
   line_after h word.0 word.1
 
 -- The other direction: the fields of a header and of an item, with a space between two of them.
