@@ -8,7 +8,6 @@ pub mod laws;
 mod numbers;
 mod readers;
 pub mod spell;
-mod tables;
 mod values;
 mod words;
 pub mod write;
