@@ -1,0 +1,4 @@
+pub mod Judged
+pub mod CasesEl2
+pub mod CasesStage2
+pub mod CasesKernel
