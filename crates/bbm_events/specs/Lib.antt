@@ -1,1 +1,5 @@
+pub mod Fits
 pub mod Heading
+pub mod Lines
+pub mod Spelling
+pub mod Words

@@ -1,0 +1,4 @@
+pub mod Numerals
+pub mod Splitting
+pub mod Short
+pub mod Spelled
