@@ -2,3 +2,4 @@ pub mod Judged
 pub mod CasesEl2
 pub mod CasesStage2
 pub mod CasesKernel
+pub mod ReadableLaw
