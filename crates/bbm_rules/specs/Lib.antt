@@ -21,3 +21,4 @@ pub mod Tags
 pub mod Texts
 pub mod Tree
 pub mod Values
+pub mod Sentences

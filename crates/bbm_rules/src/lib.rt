@@ -3,12 +3,14 @@
 
 pub mod checker;
 pub mod claim;
+pub mod laws;
 pub mod phase;
 pub mod rule;
 pub mod verdict;
 
 pub use checker::{Checker, StepFault};
 pub use claim::Claim;
+pub use laws::law_readable_value;
 pub use phase::Phase;
 pub use rule::Rule;
 pub use verdict::Verdict;
