@@ -1,9 +1,9 @@
-pub mod Joining
 pub mod Numerals
+pub mod Splitting
+pub mod Joining
 pub mod OneLine
-pub mod OneSpelling
 pub mod Short
 pub mod Spelled
-pub mod Splitting
+pub mod OneSpelling
 pub mod WordsRead
 pub mod Written

@@ -1,10 +1,10 @@
 //! The lines after the header.
 
 ghost use Rattle.std.specs.Prelude.{◌≡◌, true, IfOk, IfErr};
+ghost use Rattle.bbm_events.specs.Causes.{IsLineCause};
 ghost use Rattle.bbm_events.specs.Fits.{item_fits};
 ghost use Rattle.bbm_events.specs.Lines.{item_of};
 ghost use Rattle.bbm_events.specs.Lines as lines;
-ghost use Rattle.bbm_events.specs.declared.event.Event.TheVariants as event;
 ghost use Rattle.bbm_events.specs.declared.keyword.Keyword.TheVariants as first;
 
 use crate::fields::Fields;
@@ -157,15 +157,25 @@ fn keyword_field<'a>(fields: Fields<'a>) -> Result<(Keyword, Fields<'a>), Malfor
     Ok((keyword, rest))
 }
 
+/// The item that a line spells, or the first cause for which it spells none.
+#[tactic(auto, unfolding(bbm_events::specs::Lines::item_of))]
+fn item_on(header: &Header, line: &[u8]) -> Result<Item, Malformed>
+    ensures { result ≡ item_of header.now line.now }
+{
+    let (keyword, fields) = keyword_field(Fields::of(line))?;
+    line_after(header, keyword, fields)
+}
+
 /// The event or the end that a line after the header says; the bytes are the line's without its
 /// newline. Where the line isn't the one spelling of an item, the answer is the first cause:
 /// `UnknownWord` where the first field is no word of the table of lines, and then, for each field from
 /// left to right, `MissingField` where it is absent and else the cause of its kind where it can't be
 /// read, and at last `ExtraField` where a further field follows. Source: project's own choice.
-#[tactic(auto, unfolding(bbm_events::specs::Lines::item_of))]
+#[tactic(auto, using(bbm_events::proofs::Readings::item_of_fits, bbm_events::proofs::Causes::item_of_causes))]
 pub fn read_event(header: &Header, line: &[u8]) -> Result<Item, Malformed>
     ensures item { result ≡ item_of header.now line.now }
+    ensures fits { IfOk result (λ item. item_fits header.now item ≡ true) }
+    ensures causes { IfErr result IsLineCause }
 {
-    let (keyword, fields) = keyword_field(Fields::of(line))?;
-    line_after(header, keyword, fields)
+    item_on(header, line)
 }

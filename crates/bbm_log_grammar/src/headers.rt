@@ -1,7 +1,8 @@
 //! The first line.
 
-ghost use Rattle.std.specs.Prelude.{◌≡◌, Ok, Err, MatchResult};
+ghost use Rattle.std.specs.Prelude.{◌≡◌, Ok, Err, IfErr, MatchResult};
 ghost use Rattle.bbm_regimes.specs.declared.regime.World.TheVariants.{Hyp, Kernel};
+ghost use Rattle.bbm_events.specs.Causes.{IsHeaderCause};
 ghost use Rattle.bbm_events.specs.Spelling.{decimal_value};
 ghost use Rattle.bbm_events.specs.Words.{value_of, asid_from_word, asid_froms};
 ghost use Rattle.bbm_events.specs.Lines.{header_of};
@@ -129,15 +130,24 @@ fn world_fields(word: &[u8], fields: Fields) -> Result<Header, Malformed>
     }
 }
 
-/// The header that line 1 says; the bytes are the line's without its newline. `NoMagic` where the
-/// first two fields aren't `bbmlog` and `1`, and `BadHeader` where the line isn't the one spelling of a
-/// header for another reason. Source: project's own choice.
+/// The header that a line spells, or the cause for which it spells none.
 #[tactic(auto, unfolding(bbm_events::specs::Lines::header_of))]
-pub fn read_header(line: &[u8]) -> Result<Header, Malformed>
-    ensures header { result ≡ header_of line.now }
+fn header_on(line: &[u8]) -> Result<Header, Malformed>
+    ensures { result ≡ header_of line.now }
 {
     let (_, fields) = magic_field(b"bbmlog", Fields::of(line))?;
     let (_, fields) = magic_field(b"1", fields)?;
     let (world, fields) = fields.next_or(Malformed::BadHeader)?;
     world_fields(world, fields)
+}
+
+/// The header that line 1 says; the bytes are the line's without its newline. `NoMagic` where the
+/// first two fields aren't `bbmlog` and `1`, and `BadHeader` where the line isn't the one spelling of a
+/// header for another reason. Source: project's own choice.
+#[tactic(auto, using(bbm_events::proofs::Causes::header_of_causes))]
+pub fn read_header(line: &[u8]) -> Result<Header, Malformed>
+    ensures header { result ≡ header_of line.now }
+    ensures causes { IfErr result IsHeaderCause }
+{
+    header_on(line)
 }

@@ -1,0 +1,14 @@
+//! Descriptors: what a value of a translation table means at a kind and a level, its core, and when a
+//! write over it needs break-before-make.
+#![tactic(auto)]
+
+pub mod decode;
+pub mod desc;
+pub mod laws;
+pub mod memory;
+#[cfg(test)]
+mod tests;
+
+pub use decode::{core, needs_bbm, read};
+pub use desc::{Core, Desc};
+pub use memory::Memory;
