@@ -4,6 +4,6 @@ pub mod Joining
 pub mod OneLine
 pub mod Short
 pub mod Spelled
-pub mod Values
+pub mod OneSpelling
 pub mod WordsRead
 pub mod Written

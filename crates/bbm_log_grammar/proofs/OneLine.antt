@@ -23,12 +23,13 @@ use Rattle.bbm_events.specs.declared.malformed.Malformed.{Malformed}
 use Rattle.bbm_events.specs.declared.malformed.Malformed.TheVariants.{NoMagic, BadHeader, UnknownWord, BadNumber, BadPe, BadAddress, MissingField, ExtraField}
 use Rattle.bbm_events.specs.Heading.{Heading, heading_ok, world_ok}
 use Rattle.bbm_events.specs.Spelling.{fields, joined, hex, decimal_value, hex_value}
-use Rattle.bbm_events.specs.Words.{value_of, keyword_word, keywords, kind_word, kinds, reg_word, regs, asid_from_word, asid_froms, dsb_word, dsbs, op_word, ops, has_operand}
+use Rattle.bbm_tlbi_scope.specs.Operations.{has_operand}
+use Rattle.bbm_events.specs.Words.{value_of, keyword_word, keywords, kind_word, kinds, reg_word, regs, asid_from_word, asid_froms, dsb_word, dsbs, op_word, ops}
 use Rattle.bbm_events.specs.Fits.{root_pages, fits_heading, item_fits, is_pe, is_page, is_place, is_value, is_lock, is_count, is_root_page, is_root_lock, is_operand}
 use Rattle.bbm_events.specs.Lines.{◌>>=◌, Fields, Reading, found, next_field, passing, checked, header_field, hyp_fields, kernel_fields, world_fields, header_of, item_of, line_after, line_field, pe_field, page_field, place_field, root_page_field, value_field, operand_field, lock_field, lock_value, root_lock, root_lock_field, count_field, kind_field, dsb_field, op_field, reg_field, whole, pe_alone, pe_and, pe_and_two, root_line, tlbi_line, end_line, header_fields, header_line, lock_text, operand_fields, event_fields, item_fields, item_line, magic_field, exactly}
 use Rattle.bbm_events.proofs.Readings.{bind_ok, field_ok}
 use Rattle.bbm_log_grammar.proofs.Joining.{joined_fields}
-use Rattle.bbm_log_grammar.proofs.Values.{decimal_once, hex_once, word_once}
+use Rattle.bbm_log_grammar.proofs.OneSpelling.{decimal_once, hex_once, word_once}
 
 passing_from : (test : ℕ → Bool) (o : Option ℕ) {n : ℕ} → passing test o ≡ Some n → o ≡ Some n
 passing_from test None e = cc
@@ -123,10 +124,12 @@ pe_and_once : {A : Type 0} (h : Heading) (second : Fields → Reading A) (event 
 pe_and_once h second event spelling once rest e =
     let pe = bind_ok (pe_field h rest) _ e in
     let a = bind_ok (second pe.0.1) _ pe.2 in
-    let end = whole_end _ a.0.1 a.2 in
-    (pe.0.0, a.0.0,
-    pe_once h rest pe.1 ∙ ap (λ (left : Fields). decimal pe.0.0 ∷ left) (once pe.0.1 a.0 a.1 ∙ ap (λ (left : Fields). spelling a.0.0 ∷ left) end.0),
-    end.1)
+    let end = whole_end _ a.0.1 a.2 in (
+      pe.0.0,
+      a.0.0,
+      pe_once h rest pe.1 ∙ ap (λ (left : Fields). decimal pe.0.0 ∷ left) (once pe.0.1 a.0 a.1 ∙ ap (λ (left : Fields). spelling a.0.0 ∷ left) end.0),
+      end.1,
+    )
 
 pe_and_two_once : {A B : Type 0} (h : Heading) (second : Fields → Reading A) (third : Fields → Reading B) (event : ℕ → A → B → Event) (spelling : A → List ℕ) (writing : B → List ℕ)
     → ((rest : Fields) (x : A × Fields) → second rest ≡ Ok x → rest ≡ spelling x.0 ∷ x.1)
@@ -137,11 +140,14 @@ pe_and_two_once h second third event spelling writing once again rest e =
     let pe = bind_ok (pe_field h rest) _ e in
     let a = bind_ok (second pe.0.1) _ pe.2 in
     let b = bind_ok (third a.0.1) _ a.2 in
-    let end = whole_end _ b.0.1 b.2 in
-    (pe.0.0, a.0.0, b.0.0,
-    pe_once h rest pe.1 ∙ ap (λ (left : Fields). decimal pe.0.0 ∷ left) (once pe.0.1 a.0 a.1
-    ∙ ap (λ (left : Fields). spelling a.0.0 ∷ left) (again a.0.1 b.0 b.1 ∙ ap (λ (left : Fields). writing b.0.0 ∷ left) end.0)),
-    end.1)
+    let end = whole_end _ b.0.1 b.2 in (
+      pe.0.0,
+      a.0.0,
+      b.0.0,
+      pe_once h rest pe.1 ∙ ap (λ (left : Fields). decimal pe.0.0 ∷ left) (once pe.0.1 a.0 a.1
+          ∙ ap (λ (left : Fields). spelling a.0.0 ∷ left) (again a.0.1 b.0 b.1 ∙ ap (λ (left : Fields). writing b.0.0 ∷ left) end.0)),
+      end.1,
+    )
 
 -- the fields of the item that a line is read as
 as_item : (word : List ℕ) (rest left : Fields) (y : Item) {x : Item} → rest ≡ left → word ∷ left ≡ item_fields y → y ≡ x → word ∷ rest ≡ item_fields x
