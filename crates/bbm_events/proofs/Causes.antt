@@ -10,10 +10,11 @@ use Rattle.bbm_events.specs.declared.keyword.Keyword.{Keyword}
 use Rattle.bbm_events.specs.declared.keyword.Keyword.TheVariants as first
 use Rattle.bbm_regimes.specs.declared.regime.World.TheVariants.{Hyp, Kernel}
 use Rattle.bbm_tlbi_scope.specs.declared.op.TlbiOp.{TlbiOp}
+use Rattle.bbm_tlbi_scope.specs.Operations.{has_operand}
 use Rattle.bbm_events.specs.Heading.{Heading, heading_ok}
 use Rattle.bbm_events.specs.Spelling.{fields, decimal_value, hex_value}
 use Rattle.bbm_events.specs.Fits.{is_pe, is_page, is_place, is_root_page, is_count}
-use Rattle.bbm_events.specs.Words.{has_operand, value_of, keyword_word, keywords, kind_word, kinds, reg_word, regs, dsb_word, dsbs, op_word, ops, asid_from_word, asid_froms}
+use Rattle.bbm_events.specs.Words.{value_of, keyword_word, keywords, kind_word, kinds, reg_word, regs, dsb_word, dsbs, op_word, ops, asid_from_word, asid_froms}
 use Rattle.bbm_events.specs.Causes.{IsHeaderCause, IsLineCause}
 use Rattle.bbm_events.specs.Lines.{◌>>=◌, Fields, Reading, found, next_field, checked, hyp_fields, kernel_fields, world_fields, header_of, item_of, line_after, passing, exactly, magic_field, header_field, keyword_field, line_field, pe_field, page_field, place_field, root_page_field, lock_value, lock_field, root_lock, root_lock_field, count_field, kind_field, dsb_field, op_field, reg_field, operand_field, value_field, whole, pe_alone, pe_and, pe_and_two, root_line, tlbi_line, end_line}
 

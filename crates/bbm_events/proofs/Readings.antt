@@ -14,9 +14,10 @@ use Rattle.bbm_events.specs.declared.keyword.Keyword.{Keyword}
 use Rattle.bbm_events.specs.declared.keyword.Keyword.TheVariants as first
 use Rattle.bbm_regimes.specs.declared.regime.Kind.{Kind}
 use Rattle.bbm_tlbi_scope.specs.declared.op.TlbiOp.{TlbiOp}
+use Rattle.bbm_tlbi_scope.specs.Operations.{has_operand}
 use Rattle.bbm_events.specs.Heading.{Heading, heading_ok}
 use Rattle.bbm_events.specs.Spelling.{fields, hex, decimal_value, hex_value, where_spelled}
-use Rattle.bbm_events.specs.Words.{has_operand, value_of, keyword_word, keywords, asid_from_word, asid_froms}
+use Rattle.bbm_events.specs.Words.{value_of, keyword_word, keywords, asid_from_word, asid_froms}
 use Rattle.bbm_events.specs.Fits.{fits_heading, item_fits, is_pe, is_page, is_place, is_value, is_lock, is_count, is_root_page, is_root_lock, is_operand}
 use Rattle.bbm_events.specs.Lines.{◌>>=◌, Fields, magic_field, header_field, Reading, found, next_field, passing, checked, hyp_fields, kernel_fields, world_fields, header_of, item_of, line_after, line_field, keyword_field, pe_field, page_field, place_field, root_page_field, value_field, operand_field, lock_field, lock_value, root_lock, root_lock_field, count_field, kind_field, dsb_field, op_field, reg_field, whole, pe_alone, pe_and, pe_and_two, root_line, tlbi_line, end_line}
 

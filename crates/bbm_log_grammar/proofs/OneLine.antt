@@ -1,15 +1,10 @@
 -- A line that is read as a header or an item is the line that is written of it.
-use Rattle.std.proofs.Common.{◌≡◌, ℕ, ◌^◌, ◌<◌, ◌≤◌, List, [], ◌∷◌, ◌++◌, Bool, true, false, ◌&&◌, cond, nat_lt, ◌%◌, ◌*◌, ◌==◌, refl, ap, sym, ◌∙◌, Option, Some, None, Result, Ok, Err, arith}
-use Rattle.std.specs.Prelude.{◌||◌, nat_le, codes, decimal, bytes_eq}
+use Rattle.std.proofs.Common.{◌≡◌, ℕ, List, [], ◌∷◌, Bool, true, false, cond, refl, ap, sym, ◌∙◌, Option, Some, None, Ok, Err}
+use Rattle.std.specs.Prelude.{codes, decimal, bytes_eq}
 use Rattle.std.specs.Option.{option_map}
-use Rattle.std.specs.Fmt.{digits}
 use Rattle.std.proofs.lemmas.Slice.Eq.{bytes_eq-Decides}
-use Rattle.std.proofs.lemmas.Bool.{and_parts, ltb-true, leb-true, eqb-true}
-use Rattle.std.proofs.lemmas.Bool.Decides.{nat_tests}
-use Rattle.bbm_regimes.specs.declared.regime.World.{World}
 use Rattle.bbm_regimes.specs.declared.regime.World.TheVariants.{Hyp, Kernel}
 use Rattle.bbm_regimes.specs.declared.regime.Kind.{Kind}
-use Rattle.bbm_regimes.specs.declared.regime.AsidFrom.{AsidFrom}
 use Rattle.bbm_regimes.specs.declared.regime.Reg.{Reg}
 use Rattle.bbm_barriers.specs.declared.Dsb.{Dsb}
 use Rattle.bbm_tlbi_scope.specs.declared.op.TlbiOp.{TlbiOp}
@@ -20,12 +15,13 @@ use Rattle.bbm_events.specs.declared.event.Event.TheVariants as event
 use Rattle.bbm_events.specs.declared.event.Item.{Item}
 use Rattle.bbm_events.specs.declared.event.Item.TheVariants as item
 use Rattle.bbm_events.specs.declared.malformed.Malformed.{Malformed}
-use Rattle.bbm_events.specs.declared.malformed.Malformed.TheVariants.{NoMagic, BadHeader, UnknownWord, BadNumber, BadPe, BadAddress, MissingField, ExtraField}
-use Rattle.bbm_events.specs.Heading.{Heading, heading_ok, world_ok}
-use Rattle.bbm_events.specs.Spelling.{fields, joined, hex, decimal_value, hex_value}
-use Rattle.bbm_events.specs.Words.{value_of, keyword_word, keywords, kind_word, kinds, reg_word, regs, asid_from_word, asid_froms, dsb_word, dsbs, op_word, ops, has_operand}
-use Rattle.bbm_events.specs.Fits.{root_pages, fits_heading, item_fits, is_pe, is_page, is_place, is_value, is_lock, is_count, is_root_page, is_root_lock, is_operand}
-use Rattle.bbm_events.specs.Lines.{◌>>=◌, Fields, Reading, found, next_field, passing, checked, header_field, hyp_fields, kernel_fields, world_fields, header_of, item_of, line_after, line_field, pe_field, page_field, place_field, root_page_field, value_field, operand_field, lock_field, lock_value, root_lock, root_lock_field, count_field, kind_field, dsb_field, op_field, reg_field, whole, pe_alone, pe_and, pe_and_two, root_line, tlbi_line, end_line, header_fields, header_line, lock_text, operand_fields, event_fields, item_fields, item_line, magic_field, exactly}
+use Rattle.bbm_events.specs.declared.malformed.Malformed.TheVariants.{NoMagic, BadHeader, UnknownWord, BadNumber, BadPe, BadAddress, MissingField}
+use Rattle.bbm_events.specs.Heading.{Heading, heading_ok}
+use Rattle.bbm_events.specs.Spelling.{fields, hex, decimal_value, hex_value}
+use Rattle.bbm_tlbi_scope.specs.Operations.{has_operand}
+use Rattle.bbm_events.specs.Words.{value_of, keyword_word, keywords, kind_word, kinds, reg_word, regs, asid_from_word, asid_froms, dsb_word, dsbs, op_word, ops}
+use Rattle.bbm_events.specs.Fits.{is_pe, is_page, is_place, is_lock, is_count, is_root_page}
+use Rattle.bbm_events.specs.Lines.{Fields, Reading, next_field, passing, checked, header_field, hyp_fields, kernel_fields, world_fields, header_of, item_of, line_after, line_field, pe_field, page_field, place_field, root_page_field, value_field, operand_field, lock_field, lock_value, root_lock, root_lock_field, count_field, kind_field, dsb_field, op_field, reg_field, whole, pe_alone, pe_and, pe_and_two, root_line, tlbi_line, end_line, header_fields, header_line, lock_text, operand_fields, item_fields, item_line, magic_field, exactly}
 use Rattle.bbm_events.proofs.Readings.{bind_ok, field_ok}
 use Rattle.bbm_log_grammar.proofs.Joining.{joined_fields}
 use Rattle.bbm_log_grammar.proofs.OneSpelling.{decimal_once, hex_once, word_once}

@@ -1,10 +1,10 @@
 -- A line that is written is read as what was written.
-use Rattle.std.proofs.Common.{◌≡◌, ℕ, ◌^◌, ◌<◌, ◌≤◌, List, [], ◌∷◌, ◌++◌, Bool, true, false, ◌&&◌, cond, nat_lt, ◌%◌, ◌*◌, ◌==◌, refl, ap, sym, ◌∙◌, Option, Some, None, Result, Ok, Err, arith}
+use Rattle.std.proofs.Common.{◌≡◌, ℕ, ◌^◌, ◌<◌, ◌≤◌, List, [], ◌∷◌, Bool, true, false, ◌&&◌, cond, nat_lt, ◌%◌, ◌*◌, ◌==◌, refl, ap, sym, ◌∙◌, Option, Some, None, Result, Ok, Err, arith}
 use Rattle.std.specs.Prelude.{◌||◌, nat_le, codes, decimal, bytes_eq}
 use Rattle.std.specs.Option.{option_map}
 use Rattle.std.specs.Fmt.{digits}
 use Rattle.std.proofs.lemmas.Slice.Eq.{bytes_eq-Decides}
-use Rattle.std.proofs.lemmas.Bool.{and_parts, ltb-true, leb-true, eqb-true}
+use Rattle.std.proofs.lemmas.Bool.{and_parts, ltb-true, eqb-true}
 use Rattle.std.proofs.lemmas.Bool.Decides.{nat_tests}
 use Rattle.bbm_regimes.specs.declared.regime.World.{World}
 use Rattle.bbm_regimes.specs.declared.regime.World.TheVariants.{Hyp, Kernel}
@@ -18,12 +18,13 @@ use Rattle.bbm_events.specs.declared.event.Event.TheVariants as event
 use Rattle.bbm_events.specs.declared.event.Item.{Item}
 use Rattle.bbm_events.specs.declared.event.Item.TheVariants as item
 use Rattle.bbm_events.specs.declared.malformed.Malformed.{Malformed}
-use Rattle.bbm_events.specs.declared.malformed.Malformed.TheVariants.{NoMagic, BadHeader, UnknownWord, BadNumber, BadPe, BadAddress, MissingField, ExtraField}
+use Rattle.bbm_events.specs.declared.malformed.Malformed.TheVariants.{BadHeader, UnknownWord, BadNumber, BadPe, BadAddress, MissingField}
 use Rattle.bbm_events.specs.Heading.{Heading, heading_ok, world_ok}
 use Rattle.bbm_events.specs.Spelling.{fields, joined, hex, decimal_value, hex_value}
-use Rattle.bbm_events.specs.Words.{value_of, keyword_word, keywords, kind_word, kinds, reg_word, regs, asid_from_word, asid_froms, dsb_word, dsbs, op_word, ops, has_operand}
+use Rattle.bbm_tlbi_scope.specs.Operations.{has_operand}
+use Rattle.bbm_events.specs.Words.{value_of, keyword_word, keywords, kind_word, kinds, reg_word, regs, asid_from_word, asid_froms, dsb_word, dsbs, op_word, ops}
 use Rattle.bbm_events.specs.Fits.{root_pages, fits_heading, item_fits, is_pe, is_page, is_place, is_value, is_lock, is_count, is_root_page, is_root_lock, is_operand}
-use Rattle.bbm_events.specs.Lines.{◌>>=◌, Fields, Reading, found, next_field, passing, checked, header_field, hyp_fields, kernel_fields, world_fields, header_of, item_of, line_after, line_field, pe_field, page_field, place_field, root_page_field, value_field, operand_field, lock_field, lock_value, root_lock, root_lock_field, count_field, kind_field, dsb_field, op_field, reg_field, whole, pe_alone, pe_and, pe_and_two, root_line, tlbi_line, end_line, header_fields, header_line, lock_text, operand_fields, event_fields, item_fields, item_line, magic_field}
+use Rattle.bbm_events.specs.Lines.{◌>>=◌, Fields, Reading, found, next_field, passing, checked, header_field, world_fields, header_of, item_of, line_after, line_field, pe_field, page_field, place_field, root_page_field, value_field, operand_field, lock_field, lock_value, root_lock, root_lock_field, count_field, kind_field, dsb_field, op_field, reg_field, pe_alone, pe_and, pe_and_two, root_line, tlbi_line, header_fields, header_line, lock_text, operand_fields, event_fields, item_fields, item_line, magic_field}
 use Rattle.bbm_log_grammar.proofs.Joining.{no_space, no_spaces, fields_joined, digits_no_space}
 use Rattle.bbm_log_grammar.proofs.OneSpelling.{decimal_read, hex_read}
 use Rattle.bbm_log_grammar.proofs.WordsRead.{kind_word_read, reg_word_read, asid_from_word_read, dsb_word_read, op_word_read, kind_word_no_space, reg_word_no_space, asid_from_word_no_space, dsb_word_no_space, op_word_no_space}

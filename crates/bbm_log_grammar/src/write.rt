@@ -13,7 +13,7 @@ use crate::spell::{add, add_decimal, add_hex};
 use crate::words::{asid_from_word, dsb_word, kind_word, op_word, reg_word};
 use arrayvec::ArrayVec;
 use bbm_barriers::Dsb;
-use bbm_events::{Event, Header, Item, has_operand};
+use bbm_events::{Event, Header, Item};
 use bbm_regimes::{AsidFrom, Kind, Page, Pe, Place, Reg, World};
 use bbm_tlbi_scope::TlbiOp;
 
@@ -122,7 +122,7 @@ fn tlbi_line(out: &mut ArrayVec<u8, 200>, pe: Pe, op: TlbiOp, xt: u64)
 {
     begin(out, b"tlbi", pe);
     add_word_field(out, op_word(op));
-    if has_operand(op) {
+    if op.has_operand() {
         add_hex_field(out, xt);
     }
 }
