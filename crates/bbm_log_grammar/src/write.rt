@@ -148,6 +148,7 @@ fn lock_line(out: &mut ArrayVec<u8, 200>, word: &[u8], pe: Pe, lock: u16)
     add_decimal_field(out, lock as u64);
 }
 
+/// The line of an event.
 fn event_line(out: &mut ArrayVec<u8, 200>, event: Event)
     requires empty { out.old.items ≡ [] }
     ensures { out.new.items ≡ joined (event_fields event) }
@@ -221,6 +222,7 @@ pub fn write_header(header: &Header, out: &mut ArrayVec<u8, 200>)
     }
 }
 
+/// The line of an item, whatever the header.
 #[tactic(auto, unfolding(bbm_events::specs::Lines::item_line))]
 fn any_line(item: Item, out: &mut ArrayVec<u8, 200>)
     requires empty { out.old.items ≡ [] }
