@@ -14,3 +14,6 @@ pub use header::Header;
 pub use keyword::Keyword;
 pub use laws::{law_header_causes, law_header_in_range, law_item_causes, law_item_fits};
 pub use malformed::Malformed;
+
+#[cfg(test)]
+mod tests;
