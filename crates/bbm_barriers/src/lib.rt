@@ -1,6 +1,12 @@
 //! DSB and DMB options: to which PEs a DSB publishes earlier writes, and which TLBIs it completes.
 #![tactic(auto)]
 
+ghost use Rattle.std.specs.Prelude.{◌≡◌, ℕ, ◌<◌, ◌≤◌};
+ghost use Rattle.bbm_regimes.specs.PeMask.{pe_in};
+ghost use Rattle.bbm_barriers.specs.Options.{publishes, answers_broadcast, answers_local};
+
+use bbm_regimes::{Pe, PeMask};
+
 /// The shareability domain of a barrier. `Full` is the domain of the options `sy`, `st` and `ld`.
 /// Source: Arm ARM (DDI 0487), "Memory barriers".
 #[derive(Clone, Copy, Debug, PartialEq, Eq)]
@@ -33,4 +39,86 @@ pub struct Dsb {
     pub domain: Domain,
     /// The accesses that it waits for.
     pub types: Types,
+}
+
+/// The PEs to which a DSB of the issuer publishes the issuer's earlier writes, in a log with `n` PEs, 1
+/// to 64: every PE, the issuer alone, or none, by the table of the options. Source: Arm ARM (DDI 0487),
+/// "Memory barriers"; that all PEs are in one inner shareable domain is the project's own choice.
+pub fn publishes_to(dsb: Dsb, issuer: Pe, n: u8) -> PeMask
+    requires some { 1 ≤ n }
+    requires within { n ≤ 64 }
+    requires issuer_below { issuer < n }
+    ensures { (p : ℕ) → pe_in result p ≡ publishes dsb issuer n p }
+{
+    match dsb.types {
+        Types::Loads => PeMask::none(),
+        Types::All | Types::Stores => match dsb.domain {
+            Domain::Non => PeMask::one(issuer),
+            Domain::Full | Domain::Inner | Domain::Outer => PeMask::all(n),
+        },
+    }
+}
+
+/// Whether a DSB completes its issuer's earlier TLBIs that are broadcast. Source: Arm ARM (DDI 0487),
+/// "TLB maintenance instructions".
+pub fn completes_broadcast(dsb: Dsb) -> bool
+    ensures { result ≡ answers_broadcast dsb }
+{
+    match (dsb.types, dsb.domain) {
+        (Types::All, Domain::Full | Domain::Inner | Domain::Outer) => true,
+        (Types::All, Domain::Non) | (Types::Stores | Types::Loads, _) => false,
+    }
+}
+
+/// Whether a DSB completes its issuer's earlier TLBIs that aren't broadcast. Source: Arm ARM (DDI 0487),
+/// "TLB maintenance instructions".
+pub fn completes_local(dsb: Dsb) -> bool
+    ensures { result ≡ answers_local dsb }
+{
+    matches!(dsb.types, Types::All)
+}
+
+#[cfg(test)]
+mod tests {
+    use super::*;
+    use std::test::Fail;
+
+    /// The PEs 0 to 3 that hear of the writes of PE 1, in a log with three PEs.
+    fn heard(dsb: Dsb) -> Option<[bool; 4]> {
+        let mask = publishes_to(dsb, Pe::new(1)?, 3);
+        Some([
+            mask.has(Pe::new(0)?),
+            mask.has(Pe::new(1)?),
+            mask.has(Pe::new(2)?),
+            mask.has(Pe::new(3)?),
+        ])
+    }
+
+    #[test]
+    fn twelve_options(rt: HostRuntime) -> Result<(), Fail> {
+        let everyone = [true, true, true, false];
+        let issuer = [false, true, false, false];
+        let nobody = [false; 4];
+        let rows = [
+            (Domain::Full, Types::All, everyone, true, true),
+            (Domain::Inner, Types::All, everyone, true, true),
+            (Domain::Outer, Types::All, everyone, true, true),
+            (Domain::Non, Types::All, issuer, false, true),
+            (Domain::Full, Types::Stores, everyone, false, false),
+            (Domain::Inner, Types::Stores, everyone, false, false),
+            (Domain::Outer, Types::Stores, everyone, false, false),
+            (Domain::Non, Types::Stores, issuer, false, false),
+            (Domain::Full, Types::Loads, nobody, false, false),
+            (Domain::Inner, Types::Loads, nobody, false, false),
+            (Domain::Outer, Types::Loads, nobody, false, false),
+            (Domain::Non, Types::Loads, nobody, false, false),
+        ];
+        for (domain, types, heard_by, broadcast, local) in rows {
+            let dsb = Dsb { domain, types };
+            assert_eq!(rt; heard(dsb).ok_or("PE")?, heard_by, "{dsb:?}");
+            assert_eq!(rt; completes_broadcast(dsb), broadcast, "{dsb:?}");
+            assert_eq!(rt; completes_local(dsb), local, "{dsb:?}");
+        }
+        Ok(())
+    }
 }

@@ -52,7 +52,8 @@ abbrev pub desc_as : Form → Kind → ℕ → ℕ → Desc
 desc_as invalid kind level value = Invalid
 desc_as table kind level value = Table (next_of value) (stage1 kind && ns_table value)
 desc_as leaf kind level value =
-    Leaf (out_of level value) (attrs_of value) (share_of value) (stage1 kind && not (not_global value)) (contiguous_of value)
+    Leaf (out_of level value) (attrs_of value) (share_of value)
+    (stage1 kind && not (not_global value)) (contiguous_of value)
 
 -- what a value of a place means at a kind and a level
 abbrev pub desc_of : Kind → ℕ → ℕ → Desc

@@ -46,7 +46,6 @@ contiguous_of value = bit value 52
 -- The output address of a leaf, by its level: bits [47:30] of a level 1 block, [47:21] of a level 2
 -- block, [47:12] of a level 3 page. No leaf stands at level 0.
 abbrev pub out_of : ℕ → ℕ → ℕ
-out_of zero value = 0
 out_of (suc zero) value = address value 30
 out_of (suc (suc zero)) value = address value 21
 out_of _ value = address value 12

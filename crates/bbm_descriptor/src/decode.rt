@@ -1,14 +1,14 @@
 //! Values of places, decoded by the kind and the level of the table that they stand in.
 
-ghost use Rattle.std.specs.Prelude.{◌≡◌, ℕ, Bool, true, false, ◌<◌, ◌≤◌, ◌+◌, ◌*◌, ◌^◌, ◌%◌, ◌-◌, ◌↔◌, ◌&&◌, IsTrue, IsNone, IfSome};
+ghost use Rattle.std.specs.Prelude.{◌≡◌, false, ◌<◌, ◌≤◌, ◌^◌, ◌%◌, ◌↔◌, ◌&&◌, IsNone, IfSome};
 ghost use Rattle.bbm_descriptor.specs.Fields.{bits, bit, address, next_of, ns_table, out_of};
 ghost use Rattle.bbm_descriptor.specs.Descriptor.{leaf, stage1, desc_of, desc_as, core_of, core_in, desc_with, is_valid, needs, Fits};
 
+use crate::desc::{Core, Desc};
 use bbm_regimes::{Kind, Page};
 
-use crate::desc::{Core, Desc};
-
 // Bits [high:low] of a value.
+#[tactic(auto, using(crate::proofs::Shifts::shifts))]
 fn bits_at(value: u64, high: u32, low: u32) -> u64
     requires order { low ≤ high }
     requires within { high < 64 }
@@ -26,6 +26,7 @@ fn has_bit(value: u64, k: u32) -> bool
 }
 
 // The address in bits [47:low] of a value.
+#[tactic(auto, using(crate::proofs::Shifts::shifts))]
 fn address_at(value: u64, low: u32) -> u64
     requires { low < 48 }
     ensures value { result ≡ address value low }
@@ -35,12 +36,14 @@ fn address_at(value: u64, low: u32) -> u64
     bits_at(value, 47, low) << low
 }
 
+// Whether tables of this kind are of stage 1.
 fn is_stage1(kind: Kind) -> bool
     ensures { result ≡ stage1 kind }
 {
     kind != Kind::S2
 }
 
+// The table of this value, whose bits [1:0] are 11 above level 3.
 fn read_table(kind: Kind, value: u64) -> Desc
     ensures { result ≡ Desc.Table (next_of value) (stage1 kind && ns_table value) }
 {
@@ -50,10 +53,8 @@ fn read_table(kind: Kind, value: u64) -> Desc
     }
 }
 
-// The output address of a leaf.
+// The output address of a leaf, by its level.
 fn output(level: u8, value: u64) -> u64
-    requires some { 1 ≤ level }
-    requires level { level ≤ 3 }
     ensures { result ≡ out_of level value }
 {
     match level {
@@ -63,9 +64,8 @@ fn output(level: u8, value: u64) -> u64
     }
 }
 
+// The leaf of this value, which is a block or a page.
 fn read_leaf(kind: Kind, level: u8, value: u64) -> Desc
-    requires some { 1 ≤ level }
-    requires level { level ≤ 3 }
     ensures { result ≡ desc_as leaf kind level value }
 {
     Desc::Leaf {

@@ -1,7 +1,7 @@
 //! Descriptors, by the kind and the level of the table that they stand in.
 
 ghost use Rattle.std.specs.Prelude.{◌≡◌};
-ghost use Rattle.bbm_descriptor.specs.Descriptor.{desc_with};
+ghost use Rattle.bbm_descriptor.specs.Descriptor.{core_in, desc_with};
 
 use bbm_regimes::{Kind, Page};
 
@@ -62,7 +62,8 @@ pub enum Core {
 impl Core {
     /// The descriptor with the fields of this core.
     pub fn desc(self) -> Desc
-        ensures { result ≡ desc_with self }
+        ensures fields { result ≡ desc_with self }
+        ensures core { core_in result ≡ Some self }
     {
         match self {
             Core::Table { next, ns } => Desc::Table { next, ns },

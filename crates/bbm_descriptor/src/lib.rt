@@ -4,7 +4,10 @@
 
 pub mod decode;
 pub mod desc;
+pub mod laws;
 pub mod memory;
+#[cfg(test)]
+mod tests;
 
 pub use decode::{core, needs_bbm, read};
 pub use desc::{Core, Desc};

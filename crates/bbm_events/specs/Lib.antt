@@ -1,1 +1,6 @@
+pub mod Causes
+pub mod Fits
 pub mod Heading
+pub mod Lines
+pub mod Spelling
+pub mod Words

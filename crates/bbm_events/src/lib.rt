@@ -2,9 +2,15 @@
 #![tactic(auto)]
 
 pub mod event;
+pub mod fitting;
 pub mod header;
+pub mod keyword;
+pub mod laws;
 pub mod malformed;
 
 pub use event::{Event, Item};
+pub use fitting::{fits, has_operand, root_pages};
 pub use header::Header;
+pub use keyword::Keyword;
+pub use laws::{law_header_causes, law_header_in_range, law_item_causes, law_item_fits};
 pub use malformed::Malformed;

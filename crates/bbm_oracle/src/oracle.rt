@@ -137,8 +137,8 @@ impl Oracle {
 impl Checker for Oracle {
     ghost stands = { StandsFor };
 
-    fn judges(&self, event: Event) -> bool {
-        match event {
+    fn judges(&self, event: &Event) -> bool {
+        match *event {
             Event::Init { .. } => true,
             Event::Root { kind, lock, .. } => {
                 judges_kind(kind) && lock.is_none() && root_page(&self.events).is_none()

@@ -91,7 +91,7 @@ fn event_of(line: Line) -> Event {
 fn judged(alloc: Global, lines: &[Line]) -> Option<(Result<(), StepFault>, u64)> {
     let mut oracle = Oracle::new(alloc, &header()).unwrap();
     for line in lines {
-        if !oracle.judges(event_of(*line)) {
+        if !oracle.judges(&event_of(*line)) {
             return None;
         }
         let answer = oracle.step(alloc, event_of(*line));

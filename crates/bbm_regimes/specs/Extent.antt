@@ -1,5 +1,5 @@
 -- Intervals of input page numbers, and the span of a descriptor.
-use Rattle.std.specs.Prelude.{ℕ, ◌^◌, ◌≤◌, ◌-◌, ◌*◌, ◌+◌}
+use Rattle.std.specs.Prelude.{ℕ, Bool, ◌^◌, ◌≤◌, ◌-◌, ◌*◌, ◌+◌, ◌&&◌, nat_le}
 
 -- the page numbers from lo to hi, both among them
 pub record Extent : Type 0 where
@@ -17,6 +17,13 @@ Meets e f = (n : ℕ) × Has e n × Has f n
 -- each page number of the second is in the first
 abbrev pub Holds : Extent → Extent → Type 0
 Holds e f = (n : ℕ) → Has f n → Has e n
+
+-- the same two as tests of the ends; on intervals whose first number is at most the last they say the same
+abbrev pub meets : Extent → Extent → Bool
+meets e f = nat_le e.lo f.hi && nat_le f.lo e.hi
+
+abbrev pub holds : Extent → Extent → Bool
+holds e f = nat_le e.lo f.lo && nat_le f.hi e.hi
 
 -- The bytes of input addresses that one descriptor of a level translates. Each of the four levels
 -- takes nine bits of the address above the 12 bits within a page.

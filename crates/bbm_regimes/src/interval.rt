@@ -30,18 +30,20 @@ impl Model for Interval {
 
 #[tactic(auto, using(crate::proofs::Intervals::intervals))]
 impl Interval {
-    ghost use Rattle.bbm_regimes.specs.Extent.{Meets, Holds};
+    ghost use Rattle.bbm_regimes.specs.Extent.{Meets, Holds, meets, holds};
 
     /// Whether some page number is in both intervals.
     pub fn meets(self, other: Interval) -> bool
-        ensures { IsTrue result ↔ Meets self other }
+        ensures common { IsTrue result ↔ Meets self other }
+        ensures ends { result ≡ meets self other }
     {
         self.lo <= other.hi && other.lo <= self.hi
     }
 
     /// Whether each page number of the other interval is in this one.
     pub fn holds(self, other: Interval) -> bool
-        ensures { IsTrue result ↔ Holds self other }
+        ensures within { IsTrue result ↔ Holds self other }
+        ensures ends { result ≡ holds self other }
     {
         self.lo <= other.lo && other.hi <= self.hi
     }

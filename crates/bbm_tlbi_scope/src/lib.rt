@@ -1,6 +1,22 @@
 //! TLBI operations: what each decodes to, which TLB entries it takes, and which places it covers.
 #![tactic(auto)]
 
+pub mod covering;
+pub mod decoding;
+pub mod entry;
+pub mod laws;
 pub mod op;
+pub mod operand;
+pub mod scope;
+pub mod taking;
 
+pub use covering::cover;
+pub use decoding::decode;
+pub use entry::{Cover, EntryHead, EntryKind, PlaceView, TagSet};
+pub use laws::{law_cover_takes, law_whole_tag_takes};
 pub use op::TlbiOp;
+pub use scope::{BadOperand, Family, Scope};
+pub use taking::{takes, whole_tag};
+
+#[cfg(test)]
+mod tests;

@@ -1,5 +1,11 @@
 //! The words of the TLBI operations.
 
+ghost use Rattle.std.specs.Prelude.{◌≡◌};
+ghost use Rattle.bbm_tlbi_scope.specs.Operations as words;
+
+use crate::scope::Family;
+use bbm_regimes::World;
+
 /// A TLBI operation. A name that ends in `is` is the broadcast form, to the inner shareable domain.
 /// Source: Arm ARM (DDI 0487), "TLB maintenance instructions".
 #[derive(Clone, Copy, Debug, PartialEq, Eq)]
@@ -56,4 +62,93 @@ pub enum TlbiOp {
     Aside1,
     /// ASIDE1IS.
     Aside1is,
+}
+
+impl TlbiOp {
+    /// The family of the operation. Source: Arm ARM (DDI 0487), "TLB maintenance instructions".
+    pub fn family(self) -> Family
+        ensures { result ≡ words.family_of self }
+    {
+        match self {
+            TlbiOp::Alle2 | TlbiOp::Alle2is => Family::El2All,
+            TlbiOp::Vae2 | TlbiOp::Vae2is | TlbiOp::Vale2 | TlbiOp::Vale2is => Family::El2Va,
+            TlbiOp::Alle1 | TlbiOp::Alle1is => Family::E1All,
+            TlbiOp::Vmalle1 | TlbiOp::Vmalle1is => Family::VmAll1,
+            TlbiOp::Vmalls12e1 | TlbiOp::Vmalls12e1is => Family::VmAll12,
+            TlbiOp::Ipas2e1 | TlbiOp::Ipas2e1is | TlbiOp::Ipas2le1 | TlbiOp::Ipas2le1is => {
+                Family::Ipa
+            }
+            TlbiOp::Vae1 | TlbiOp::Vae1is | TlbiOp::Vale1 | TlbiOp::Vale1is => Family::Va,
+            TlbiOp::Vaae1 | TlbiOp::Vaae1is | TlbiOp::Vaale1 | TlbiOp::Vaale1is => Family::VaAll,
+            TlbiOp::Aside1 | TlbiOp::Aside1is => Family::Asid,
+        }
+    }
+
+    /// Whether the operation takes last-level entries alone. Source: Arm ARM (DDI 0487), "TLB
+    /// maintenance instructions".
+    pub fn last_only(self) -> bool
+        ensures { result ≡ (words.operation self).last_only }
+    {
+        matches!(
+            self,
+            TlbiOp::Vale2
+                | TlbiOp::Vale2is
+                | TlbiOp::Ipas2le1
+                | TlbiOp::Ipas2le1is
+                | TlbiOp::Vale1
+                | TlbiOp::Vale1is
+                | TlbiOp::Vaale1
+                | TlbiOp::Vaale1is
+        )
+    }
+
+    /// Whether the operation reaches every PE, and not its issuer alone. Source: Arm ARM (DDI 0487),
+    /// "TLB maintenance instructions"; that all PEs are in one inner shareable domain is the project's
+    /// own choice.
+    pub fn is_broadcast(self) -> bool
+        ensures { result ≡ (words.operation self).broadcast }
+    {
+        matches!(
+            self,
+            TlbiOp::Alle2is
+                | TlbiOp::Vae2is
+                | TlbiOp::Vale2is
+                | TlbiOp::Alle1is
+                | TlbiOp::Vmalle1is
+                | TlbiOp::Vmalls12e1is
+                | TlbiOp::Ipas2e1is
+                | TlbiOp::Ipas2le1is
+                | TlbiOp::Vae1is
+                | TlbiOp::Vale1is
+                | TlbiOp::Vaae1is
+                | TlbiOp::Vaale1is
+                | TlbiOp::Aside1is
+        )
+    }
+
+    /// Whether the operation has an operand, the value of a register Xt. Source: Arm ARM (DDI 0487),
+    /// "TLB maintenance instructions".
+    pub fn has_operand(self) -> bool
+        ensures { result ≡ words.has_operand self }
+    {
+        self.family().has_page() || self.family().has_asid()
+    }
+
+    /// Whether the operation takes the entries of its issuer's VMID alone. Source: Arm ARM (DDI 0487),
+    /// "TLB maintenance instructions".
+    pub fn scoped_by_vmid(self) -> bool
+        ensures { result ≡ words.scoped_by_vmid self }
+    {
+        self.family().by_vmid()
+    }
+
+    /// Whether the operation is one of the world. Source: project's own choice.
+    pub fn of_world(self, world: World) -> bool
+        ensures { result ≡ words.of_world world self }
+    {
+        match world {
+            World::Hyp { .. } => self.family().of_hyp(),
+            World::Kernel { .. } => self.family().of_kernel(),
+        }
+    }
 }

@@ -1,0 +1,265 @@
+-- The grammar of a log: which header or item a line spells, or the first cause for which it spells none,
+-- and the one line of a header or an item. A line is its bytes without the newline.
+-- Source: project's own choice.
+use Rattle.std.specs.Prelude.{ℕ, List, [], ◌∷◌, Bool, if◌then◌else◌, Option, Some, None, Result, Ok, Err, codes, decimal, bytes_eq}
+use Rattle.std.specs.Option.{option_map}
+use Rattle.bbm_regimes.specs.declared.regime.World.{World}
+use Rattle.bbm_regimes.specs.declared.regime.World.TheVariants.{Hyp, Kernel}
+use Rattle.bbm_regimes.specs.declared.regime.Kind.{Kind}
+use Rattle.bbm_regimes.specs.declared.regime.Reg.{Reg}
+use Rattle.bbm_barriers.specs.declared.Dsb.{Dsb}
+use Rattle.bbm_tlbi_scope.specs.declared.op.TlbiOp.{TlbiOp}
+use Rattle.bbm_events.specs.declared.event.Event.{Event}
+use Rattle.bbm_events.specs.declared.event.Event.TheVariants as event
+use Rattle.bbm_events.specs.declared.event.Item.{Item}
+use Rattle.bbm_events.specs.declared.event.Item.TheVariants as item
+use Rattle.bbm_events.specs.declared.keyword.Keyword.{Keyword}
+use Rattle.bbm_events.specs.declared.keyword.Keyword.TheVariants as first
+use Rattle.bbm_events.specs.declared.malformed.Malformed.{Malformed}
+use Rattle.bbm_events.specs.declared.malformed.Malformed.TheVariants.{NoMagic, BadHeader, UnknownWord, BadNumber, BadPe, BadAddress, MissingField, ExtraField}
+use Rattle.bbm_events.specs.Heading.{Heading, heading_ok}
+use Rattle.bbm_events.specs.Spelling.{fields, joined, hex, decimal_value, hex_value}
+use Rattle.bbm_events.specs.Words.{value_of, keyword_word, keywords, kind_word, kinds, reg_word, regs, asid_from_word, asid_froms, dsb_word, dsbs, op_word, ops, has_operand}
+use Rattle.bbm_events.specs.Fits.{is_pe, is_page, is_place, is_root_page, is_lock, is_count}
+
+-- The first cause ends the reading of a line.
+infixl 10 ◌>>=◌
+abbrev pub ◌>>=◌ : {A B : Type 0} → Result A Malformed → (A → Result B Malformed) → Result B Malformed
+(Ok x) >>= f = f x
+(Err cause) >>= f = Err cause
+
+-- what is left of a line
+abbrev pub Fields : Type 0
+Fields = List (List ℕ)
+
+-- what is read of a line from its left: a value, and the fields that follow
+abbrev pub Reading : Type 0 → Type 0
+Reading A = Result (A × Fields) Malformed
+
+-- the value with the fields that follow, or the cause where there is none
+abbrev pub found : {A : Type 0} → Malformed → Option A → Fields → Reading A
+found cause None rest = Err cause
+found cause (Some value) rest = Ok (value, rest)
+
+-- The next field, read; the first cause where it is absent, the second where it can't be read.
+abbrev pub next_field : {A : Type 0} → Malformed → Malformed → (List ℕ → Option A) → Fields → Reading A
+next_field absent unreadable read [] = Err absent
+next_field absent unreadable read (text ∷ rest) = found unreadable (read text) rest
+
+-- the number, where it passes the test
+abbrev pub passing : (ℕ → Bool) → Option ℕ → Option ℕ
+passing test None = None
+passing test (Some n) = if test n then Some n else None
+
+-- The header.
+
+abbrev pub exactly : List ℕ → List ℕ → Option (List ℕ)
+exactly word text = if bytes_eq word text then Some text else None
+
+abbrev pub magic_field : List ℕ → Fields → Reading (List ℕ)
+magic_field word = next_field NoMagic NoMagic (exactly word)
+
+abbrev pub header_field : {A : Type 0} → (List ℕ → Option A) → Fields → Reading A
+header_field read = next_field BadHeader BadHeader read
+
+-- the heading, where no field is left and its numbers are in their ranges
+abbrev pub checked : Heading → Fields → Result Heading Malformed
+checked h [] = if heading_ok h then Ok h else Err BadHeader
+checked h (text ∷ rest) = Err BadHeader
+
+-- `PES EL2START S2START S2PAGES`
+abbrev pub hyp_fields : Fields → Result Heading Malformed
+hyp_fields rest = do
+  pes ← header_field decimal_value rest
+  el2_start ← header_field decimal_value pes.1
+  s2_start ← header_field decimal_value el2_start.1
+  s2_pages ← header_field decimal_value s2_start.1
+  checked (record { pes = pes.0; world = Hyp el2_start.0 s2_start.0 s2_pages.0 }) s2_pages.1
+
+-- `PES START0 START1 ASIDFROM`
+abbrev pub kernel_fields : Fields → Result Heading Malformed
+kernel_fields rest = do
+  pes ← header_field decimal_value rest
+  start0 ← header_field decimal_value pes.1
+  start1 ← header_field decimal_value start0.1
+  asid_from ← header_field (value_of asid_from_word asid_froms) start1.1
+  checked (record { pes = pes.0; world = Kernel start0.0 start1.0 asid_from.0 }) asid_from.1
+
+-- the fields after the word of the world
+abbrev pub world_fields : List ℕ → Fields → Result Heading Malformed
+world_fields word rest =
+    if bytes_eq word (codes "hyp") then hyp_fields rest
+    else (if bytes_eq word (codes "kernel") then kernel_fields rest else Err BadHeader)
+
+-- Line 1: `bbmlog 1 hyp PES EL2START S2START S2PAGES` or `bbmlog 1 kernel PES START0 START1 ASIDFROM`.
+unfoldable pub header_of : List ℕ → Result Heading Malformed
+header_of line = do
+  magic ← magic_field (codes "bbmlog") (fields line)
+  version ← magic_field (codes "1") magic.1
+  world ← header_field Some version.1
+  world_fields world.0 world.1
+
+-- The fields of event lines, each with the cause where it can't be read.
+
+abbrev pub line_field : {A : Type 0} → Malformed → (List ℕ → Option A) → Fields → Reading A
+line_field cause read = next_field MissingField cause read
+
+abbrev pub pe_field : Heading → Fields → Reading ℕ
+pe_field h = line_field BadPe (λ text. passing (is_pe h) (decimal_value text))
+
+abbrev pub page_field : Fields → Reading ℕ
+page_field = line_field BadAddress (λ text. passing is_page (hex_value text))
+
+abbrev pub place_field : Fields → Reading ℕ
+place_field = line_field BadAddress (λ text. passing is_place (hex_value text))
+
+abbrev pub root_page_field : Heading → Kind → Fields → Reading ℕ
+root_page_field h kind = line_field BadAddress (λ text. passing (is_root_page h.world kind) (hex_value text))
+
+abbrev pub value_field : Fields → Reading ℕ
+value_field = line_field BadNumber hex_value
+
+-- an operand stands exactly where the operation has one
+abbrev pub operand_field : TlbiOp → Fields → Reading ℕ
+operand_field op rest = if has_operand op then value_field rest else Ok (0, rest)
+
+abbrev pub lock_value : List ℕ → Option ℕ
+lock_value text = passing is_lock (decimal_value text)
+
+abbrev pub lock_field : Fields → Reading ℕ
+lock_field = line_field BadNumber lock_value
+
+-- a lock, or `-` for none
+abbrev pub root_lock : List ℕ → Option (Option ℕ)
+root_lock text = if bytes_eq text (codes "-") then Some None else option_map Some (lock_value text)
+
+abbrev pub root_lock_field : Fields → Reading (Option ℕ)
+root_lock_field = line_field BadNumber root_lock
+
+abbrev pub count_field : Fields → Reading ℕ
+count_field = line_field BadNumber (λ text. passing is_count (decimal_value text))
+
+abbrev pub kind_field : Fields → Reading Kind
+kind_field = line_field UnknownWord (value_of kind_word kinds)
+
+abbrev pub dsb_field : Fields → Reading Dsb
+dsb_field = line_field UnknownWord (value_of dsb_word dsbs)
+
+abbrev pub op_field : Fields → Reading TlbiOp
+op_field = line_field UnknownWord (value_of op_word ops)
+
+abbrev pub reg_field : Fields → Reading Reg
+reg_field = line_field UnknownWord (value_of reg_word regs)
+
+-- the value, where no field is left
+abbrev pub whole : {A : Type 0} → A → Fields → Result A Malformed
+whole value [] = Ok value
+whole value (text ∷ rest) = Err ExtraField
+
+-- The shapes of event lines: each begins with a PE.
+
+abbrev pub pe_alone : Heading → (ℕ → Event) → Fields → Result Item Malformed
+pe_alone h event rest = do
+  pe ← pe_field h rest
+  whole (item.Event (event pe.0)) pe.1
+
+abbrev pub pe_and : {A : Type 0} → Heading → (Fields → Reading A) → (ℕ → A → Event) → Fields → Result Item Malformed
+pe_and h second event rest = do
+  pe ← pe_field h rest
+  x ← second pe.1
+  whole (item.Event (event pe.0 x.0)) x.1
+
+abbrev pub pe_and_two : {A B : Type 0} → Heading → (Fields → Reading A) → (Fields → Reading B) → (ℕ → A → B → Event) → Fields → Result Item Malformed
+pe_and_two h second third event rest = do
+  pe ← pe_field h rest
+  x ← second pe.1
+  y ← third x.1
+  whole (item.Event (event pe.0 x.0 y.0)) y.1
+
+-- `PE KIND LOCK PAGE`
+abbrev pub root_line : Heading → Fields → Result Item Malformed
+root_line h rest = do
+  pe ← pe_field h rest
+  kind ← kind_field pe.1
+  lock ← root_lock_field kind.1
+  page ← root_page_field h kind.0 lock.1
+  whole (item.Event (event.Root pe.0 kind.0 lock.0 page.0)) page.1
+
+-- `PE OP` or `PE OP XT`
+abbrev pub tlbi_line : Heading → Fields → Result Item Malformed
+tlbi_line h rest = do
+  pe ← pe_field h rest
+  op ← op_field pe.1
+  xt ← operand_field op.0 op.1
+  whole (item.Event (event.Tlbi pe.0 op.0 xt.0)) xt.1
+
+-- `COUNT`
+abbrev pub end_line : Fields → Result Item Malformed
+end_line rest = do
+  count ← count_field rest
+  whole (item.End count.0) count.1
+
+-- The table of lines: what follows each first word.
+abbrev pub line_after : Heading → Keyword → Fields → Result Item Malformed
+line_after h first.Init = pe_and h page_field event.Init
+line_after h first.Null = pe_and h page_field event.Null
+line_after h first.Root = root_line h
+line_after h first.Unroot = pe_and h page_field event.Unroot
+line_after h first.Write = pe_and_two h place_field value_field event.Write
+line_after h first.Dsb = pe_and h dsb_field event.Dsb
+line_after h first.Dmb = pe_and h dsb_field event.Dmb
+line_after h first.Isb = pe_alone h event.Isb
+line_after h first.Tlbi = tlbi_line h
+line_after h first.Msr = pe_and_two h reg_field value_field event.Msr
+line_after h first.Lock = pe_and h lock_field event.Lock
+line_after h first.Unlock = pe_and h lock_field event.Unlock
+line_after h first.End = end_line
+
+-- the first word of a line; a line always has a first field, if an empty one
+abbrev pub keyword_field : Fields → Reading Keyword
+keyword_field = line_field UnknownWord (value_of keyword_word keywords)
+
+-- A line after the header.
+unfoldable pub item_of : Heading → List ℕ → Result Item Malformed
+item_of h line = do
+  word ← keyword_field (fields line)
+  line_after h word.0 word.1
+
+-- The other direction: the fields of a header and of an item, with a space between two of them.
+
+abbrev pub header_fields : ℕ → World → Fields
+header_fields pes (Hyp el2_start s2_start s2_pages) = codes "hyp" ∷ decimal pes ∷ decimal el2_start ∷ decimal s2_start ∷ decimal s2_pages ∷ []
+header_fields pes (Kernel start0 start1 asid_from) = codes "kernel" ∷ decimal pes ∷ decimal start0 ∷ decimal start1 ∷ asid_from_word asid_from ∷ []
+
+-- the one line of a header
+unfoldable pub header_line : Heading → List ℕ
+header_line h = joined (codes "bbmlog" ∷ codes "1" ∷ header_fields h.pes h.world)
+
+abbrev pub lock_text : Option ℕ → List ℕ
+lock_text None = codes "-"
+lock_text (Some lock) = decimal lock
+
+abbrev pub operand_fields : TlbiOp → ℕ → Fields
+operand_fields op xt = if has_operand op then hex xt ∷ [] else []
+
+abbrev pub event_fields : Event → Fields
+event_fields (event.Init pe page) = codes "init" ∷ decimal pe ∷ hex page ∷ []
+event_fields (event.Null pe page) = codes "null" ∷ decimal pe ∷ hex page ∷ []
+event_fields (event.Root pe kind lock page) = codes "root" ∷ decimal pe ∷ kind_word kind ∷ lock_text lock ∷ hex page ∷ []
+event_fields (event.Unroot pe page) = codes "unroot" ∷ decimal pe ∷ hex page ∷ []
+event_fields (event.Write pe place value) = codes "w" ∷ decimal pe ∷ hex place ∷ hex value ∷ []
+event_fields (event.Dsb pe dsb) = codes "dsb" ∷ decimal pe ∷ dsb_word dsb ∷ []
+event_fields (event.Dmb pe dsb) = codes "dmb" ∷ decimal pe ∷ dsb_word dsb ∷ []
+event_fields (event.Isb pe) = codes "isb" ∷ decimal pe ∷ []
+event_fields (event.Tlbi pe op xt) = codes "tlbi" ∷ decimal pe ∷ op_word op ∷ operand_fields op xt
+event_fields (event.Msr pe reg value) = codes "msr" ∷ decimal pe ∷ reg_word reg ∷ hex value ∷ []
+event_fields (event.Lock pe lock) = codes "lock" ∷ decimal pe ∷ decimal lock ∷ []
+event_fields (event.Unlock pe lock) = codes "unlock" ∷ decimal pe ∷ decimal lock ∷ []
+
+abbrev pub item_fields : Item → Fields
+item_fields (item.Event event) = event_fields event
+item_fields (item.End count) = codes "end" ∷ decimal count ∷ []
+
+-- the one line of an item
+unfoldable pub item_line : Item → List ℕ
+item_line item = joined (item_fields item)

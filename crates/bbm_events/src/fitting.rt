@@ -1,0 +1,106 @@
+//! Which events fit a header.
+
+ghost use Rattle.std.specs.Prelude.{◌≡◌, ◌<◌};
+ghost use Rattle.bbm_events.specs.Fits as spec;
+ghost use Rattle.bbm_events.specs.Fits.{fits_heading, is_pe};
+ghost use Rattle.bbm_events.specs.Words as words;
+
+use crate::event::Event;
+use crate::header::Header;
+use bbm_regimes::{Kind, Page, Pe, Place, World};
+use bbm_tlbi_scope::TlbiOp;
+
+/// Locks have numbers below 1,024. Source: project's own choice.
+const LOCKS: u16 = 1024;
+
+/// Whether the operation takes an operand: those for an address or an ASID take one, and those for a
+/// whole regime or a whole VMID take none. Source: Arm ARM (DDI 0487), "TLB maintenance instructions".
+pub fn has_operand(op: TlbiOp) -> bool
+    ensures { result ≡ words.has_operand op }
+{
+    match op {
+        TlbiOp::Alle2 | TlbiOp::Alle2is | TlbiOp::Alle1 | TlbiOp::Alle1is => false,
+        TlbiOp::Vmalle1 | TlbiOp::Vmalle1is | TlbiOp::Vmalls12e1 | TlbiOp::Vmalls12e1is => false,
+        _ => true,
+    }
+}
+
+/// The number of consecutive pages of a root of this kind, 1 to 16.
+pub fn root_pages(world: World, kind: Kind) -> u8
+    ensures { result ≡ spec.root_pages world kind }
+{
+    match (world, kind) {
+        (World::Hyp { s2_pages, .. }, Kind::S2) => s2_pages,
+        _ => 1,
+    }
+}
+
+fn has_pe(header: &Header, pe: Pe) -> bool
+    ensures { result ≡ is_pe header.now pe }
+{
+    pe.get() < header.pes
+}
+
+// Each page and each place is one by its type.
+fn is_page(page: Page) -> bool
+    ensures { result ≡ spec.is_page page }
+{
+    let _ = page.get();
+    true
+}
+
+fn is_place(place: Place) -> bool
+    ensures { result ≡ spec.is_place place }
+{
+    let _ = place.get();
+    true
+}
+
+fn is_root_page(world: World, kind: Kind, page: Page) -> bool
+    requires { 0 < spec.root_pages world kind }
+    ensures { result ≡ spec.is_root_page world kind page }
+{
+    page.get() % (4096 * root_pages(world, kind) as u64) == 0
+}
+
+fn is_root_lock(lock: Option<u16>) -> bool
+    ensures { result ≡ spec.is_root_lock lock }
+{
+    lock.is_none_or(|lock| lock < LOCKS)
+}
+
+/// Whether the event can stand in a log with this header: its PE is below the header's number, its
+/// lock is below 1,024, its operand is 0 where the operation has none, and a root is aligned to its
+/// number of pages, which is 1 but for stage 2 of the Hyp world. Source: project's own choice, but for
+/// the alignment: Arm ARM (DDI 0487), "VMSAv8-64 translation table walks", concatenated translation tables.
+pub fn fits(header: &Header, event: Event) -> bool
+    ensures { result ≡ fits_heading header.now event }
+{
+    match event {
+        Event::Init { pe, page } => has_pe(header, pe) && is_page(page),
+        Event::Null { pe, page } => has_pe(header, pe) && is_page(page),
+        Event::Root {
+            pe,
+            kind,
+            lock,
+            page,
+        } => has_pe(header, pe) && is_root_lock(lock) && is_root_page(header.world, kind, page),
+        Event::Unroot { pe, page } => has_pe(header, pe) && is_page(page),
+        Event::Write {
+            pe,
+            place,
+            value: _,
+        } => has_pe(header, pe) && is_place(place),
+        Event::Dsb { pe, dsb: _ } => has_pe(header, pe),
+        Event::Dmb { pe, dsb: _ } => has_pe(header, pe),
+        Event::Isb { pe } => has_pe(header, pe),
+        Event::Tlbi { pe, op, xt } => has_pe(header, pe) && (has_operand(op) || xt == 0),
+        Event::Msr {
+            pe,
+            reg: _,
+            value: _,
+        } => has_pe(header, pe),
+        Event::Lock { pe, lock } => has_pe(header, pe) && lock < LOCKS,
+        Event::Unlock { pe, lock } => has_pe(header, pe) && lock < LOCKS,
+    }
+}

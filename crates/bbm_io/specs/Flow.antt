@@ -1,0 +1,24 @@
+-- What reads take from a source, and what writes add to a sink, where these tell their bytes.
+use Rattle.std.specs.Prelude.{ℕ, ◌≡◌, List, [], ◌∷◌, ◌++◌, Bool, true, ◌&&◌, not, nat_eq, Option, None, Some}
+
+-- What a source had left before these bytes were taken: the bytes, and then what is left now. A source
+-- that tells nothing goes on telling nothing.
+abbrev pub preceded : List ℕ → Option (List ℕ) → Option (List ℕ)
+preceded taken None = None
+preceded taken (Some left) = Some (taken ++ left)
+
+-- What a sink holds after these bytes were added: what it held, and then the bytes. A sink that tells
+-- nothing goes on telling nothing.
+abbrev pub extended : Option (List ℕ) → List ℕ → Option (List ℕ)
+extended None added = None
+extended (Some held) added = Some (held ++ added)
+
+-- nothing is left, where the source tells it
+abbrev pub AtEnd : Option (List ℕ) → Type 0
+AtEnd None = Unit {0}
+AtEnd (Some left) = left ≡ []
+
+-- whether no byte is a newline, which is 10
+abbrev pub plain : List ℕ → Bool
+plain [] = true
+plain (b ∷ bs) = not (nat_eq b 10) && plain bs

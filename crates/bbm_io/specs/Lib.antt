@@ -1,0 +1,5 @@
+pub mod Byte
+pub mod Faults
+pub mod Flow
+pub mod Memory
+pub mod Reading

@@ -1,0 +1,43 @@
+-- Lines of a source, read one after another: a piece of at most 200 bytes up to each newline, out of
+-- at most 2^40 bytes. Source: project's own choice.
+use Rattle.std.specs.Prelude.{ℕ, ◌≡◌, ◌≢◌, ◌<◌, ◌≤◌, ◌+◌, ◌^◌, List, [], ◌∷◌, ◌++◌, length, Bool, Option, Result, Ok, Err}
+use Rattle.bbm_io.specs.declared.lines.LineOrEnd.{LineOrEnd}
+use Rattle.bbm_io.specs.declared.lines.LineOrEnd.TheVariants.{Line, Cut, End}
+use Rattle.bbm_io.specs.declared.lines.LineFault.{LineFault}
+use Rattle.bbm_io.specs.declared.lines.LineFault.TheVariants.{TooLong, ReadFault, LogTooLong}
+use Rattle.bbm_io.specs.Flow.{preceded, AtEnd}
+
+-- a reader of lines
+pub record Reading : Type 0 where
+  -- what the last call kept: the line or cut piece without its newline
+  pub bytes : List ℕ
+  -- how many bytes all calls took
+  pub taken : ℕ
+  -- whether the last call was a fault
+  pub failed : Bool
+
+-- What one call took from the source, by its answer: the bytes that it kept, and after a line its
+-- newline, or the 201st byte of a line that is too long. The last two are what the source had left
+-- before and after.
+abbrev pub Took : Result LineOrEnd LineFault → List ℕ → Option (List ℕ) → Option (List ℕ) → Type 0
+Took (Ok Line) kept old new = old ≡ preceded (kept ++ 10 ∷ []) new
+Took (Ok Cut) kept old new = (old ≡ preceded kept new) × AtEnd new
+Took (Ok End) kept old new = (old ≡ new) × AtEnd new
+Took (Err TooLong) kept old new = (b : ℕ) × (b ≢ 10) × (old ≡ preceded (kept ++ b ∷ []) new)
+Took (Err ReadFault) kept old new = old ≡ preceded kept new
+Took (Err LogTooLong) kept old new = old ≡ preceded kept new
+
+-- How many bytes one call kept, and how many were taken in all before and after, by its answer. Each
+-- answer but a line, a line that is too long and a log that is too long comes from a call that still
+-- might take a byte.
+abbrev pub Counts : Result LineOrEnd LineFault → Reading → Reading → Type 0
+Counts (Ok Line) was now =
+    (length now.bytes ≤ 200) × (now.taken ≡ was.taken + length now.bytes + 1) × (now.taken ≤ 2 ^ 40)
+Counts (Ok Cut) was now =
+    (1 ≤ length now.bytes) × (length now.bytes ≤ 200) × (now.taken ≡ was.taken + length now.bytes) × (now.taken < 2 ^ 40)
+Counts (Ok End) was now = (now.bytes ≡ []) × (now.taken ≡ was.taken) × (now.taken < 2 ^ 40)
+Counts (Err TooLong) was now = (length now.bytes ≡ 200) × (now.taken ≡ was.taken + 201) × (now.taken ≤ 2 ^ 40)
+Counts (Err ReadFault) was now =
+    (length now.bytes ≤ 200) × (now.taken ≡ was.taken + length now.bytes) × (now.taken < 2 ^ 40)
+Counts (Err LogTooLong) was now =
+    (length now.bytes ≤ 200) × (now.taken ≡ was.taken + length now.bytes) × (now.taken ≡ 2 ^ 40)

@@ -1,0 +1,16 @@
+//! Reading and writing bytes through traits that say which calls may fail and why: sources and sinks in
+//! memory and over std, lines of a source, and writing a whole piece to a sink.
+#![tactic(auto)]
+
+pub mod lines;
+pub mod sink;
+pub mod source;
+pub mod streams;
+
+pub use lines::{LineFault, LineOrEnd, Lines};
+pub use sink::{CleanSink, MemSink, Sink, put};
+pub use source::{CleanSource, Failed, MemSource, Source};
+pub use streams::{StdSink, StdSource};
+
+#[cfg(test)]
+mod tests;

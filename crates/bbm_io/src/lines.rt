@@ -1,0 +1,170 @@
+//! Lines of a source, one after another.
+
+ghost use Rattle.std.specs.Prelude.{◌≡◌, ◌+◌, ◌<◌, ◌≤◌, ◌^◌, ◌≢◌, [], ◌∷◌, length, true, false, is_err, Ok, Err, OnErr};
+ghost use Rattle.bbm_io.specs.Faults.{Rose};
+ghost use Rattle.bbm_io.specs.Flow.{plain};
+ghost use Rattle.bbm_io.specs.Reading.{Reading, Took, Counts};
+ghost use Rattle.bbm_io.specs.Byte.{Gave};
+
+use crate::source::{Failed, Source};
+use arrayvec::ArrayVec;
+use std::marker::Model;
+
+/// The most bytes of a line, without its newline. Source: project's own choice.
+const LINE_BYTES: usize = 200;
+
+/// The most bytes that a reader of lines takes. Source: project's own choice.
+const LOG_BYTES: u64 = 1 << 40;
+
+/// What stands where a line was asked for.
+#[derive(Clone, Copy, Debug, PartialEq, Eq)]
+pub enum LineOrEnd {
+    /// A line: 0 to 200 bytes up to a newline.
+    Line,
+    /// A line that is cut: 1 to 200 bytes, and then the end.
+    Cut,
+    /// The end, at once.
+    End,
+}
+
+/// Why a line wasn't read.
+#[derive(Clone, Copy, Debug, PartialEq, Eq)]
+pub enum LineFault {
+    /// 201 bytes came without a newline.
+    TooLong = 1,
+    /// The source answered that a read failed.
+    ReadFault = 2,
+    /// 2^40 bytes were taken, and one more is wanted.
+    LogTooLong = 3,
+}
+
+/// A reader of lines. It keeps the last line alone, at most 200 bytes of it. A clause sees its
+/// `Reading`.
+#[derive(Drop)]
+pub struct Lines {
+    line: ArrayVec<u8, LINE_BYTES>,
+    taken: u64,
+    failed: bool,
+}
+
+impl Model for Lines {
+    ghost use Rattle.std.specs.Prelude.{◌≤◌, ◌^◌, length, ◌≡◌, true};
+    ghost use Rattle.bbm_io.specs.Reading.{Reading};
+    ghost use Rattle.bbm_io.specs.Flow.{plain};
+
+    ghost Value = { Reading };
+
+    ghost view = { λ l. record { bytes = l.line.items; taken = l.taken; failed = l.failed } };
+
+    ghost invariant = { (λ l. (length l.line.items ≤ 200) × (l.taken ≤ 2 ^ 40) × (plain l.line.items ≡ true)) };
+}
+
+impl Lines {
+    /// A reader that has taken nothing.
+    pub fn new() -> Lines
+        ensures { result ≡ record { bytes = []; taken = 0; failed = false } }
+    {
+        Lines {
+            line: ArrayVec::new(),
+            taken: 0,
+            failed: false,
+        }
+    }
+
+    /// Reads the next line, a byte at a time. The answers and faults are those of `LineOrEnd` and
+    /// `LineFault`; `ReadFault` comes only where the source's count of faults rose, or stands at
+    /// 2^64 - 1. In every case what was taken from the source stands in `bytes`, but for the newline
+    /// of a line and the 201st byte of a line that is too long. After a fault no further line is read.
+    pub fn next<S: Source>(&mut self, src: &mut S) -> Result<LineOrEnd, LineFault>
+        requires { self.old.failed ≡ false }
+        ensures took { Took result self.new.bytes (S.left src.old) (S.left src.new) }
+        ensures counts { Counts result self.old self.new }
+        ensures plain { plain self.new.bytes ≡ true }
+        ensures failed { self.new.failed ≡ is_err result }
+        ensures read_fault { result ≡ Err LineFault.ReadFault → Rose (S.faults src.old) (S.faults src.new) }
+        ensures quiet { ¬ (Rose (S.faults src.old) (S.faults src.new)) → result ≢ Err LineFault.ReadFault }
+        ensures never_falls { S.faults src.old ≤ S.faults src.new }
+    {
+        self.line.clear();
+        let answer = read_line(&mut self.line, &mut self.taken, src);
+        self.failed = answer.is_err();
+        answer
+    }
+
+    /// The bytes of the last line or cut piece, without its newline; none at the start and at the end.
+    /// After a fault, the bytes of the line that were taken, but for the 201st.
+    pub fn bytes(&self) -> &[u8]
+        ensures bytes { result.now ≡ self.now.bytes }
+        ensures within { length self.now.bytes ≤ 200 }
+        ensures plain { plain self.now.bytes ≡ true }
+    {
+        &self.line
+    }
+
+    /// Whether the last line was a fault.
+    pub fn failed(&self) -> bool
+        ensures failed { result ≡ self.now.failed }
+        ensures taken { self.now.taken ≤ 2 ^ 40 }
+    {
+        self.failed
+    }
+}
+
+/// What one read of one byte gave.
+enum Next {
+    Byte(u8),
+    Nothing,
+    Fault,
+}
+
+/// Asks the source for one byte.
+#[tactic(auto, using(crate::proofs::Flow::flow))]
+fn next_byte<S: Source>(src: &mut S) -> Next
+    ensures gave { Gave result (S.left src.old) (S.left src.new) }
+    ensures fault { result ≡ Next.Fault → Rose (S.faults src.old) (S.faults src.new) }
+    ensures never_falls { S.faults src.old ≤ S.faults src.new }
+{
+    let mut buf = [0];
+    match src.read(&mut buf) {
+        Ok(0) => Next::Nothing,
+        Ok(_) => Next::Byte(buf[0]),
+        Err(Failed) => Next::Fault,
+    }
+}
+
+/// Reads the bytes of a line up to its newline into `line`, and counts the bytes taken.
+#[tactic(auto, using(crate::proofs::Flow::flow))]
+fn read_line<S: Source>(
+    line: &mut ArrayVec<u8, LINE_BYTES>,
+    taken: &mut u64,
+    src: &mut S,
+) -> Result<LineOrEnd, LineFault>
+    requires empty { line.old.items ≡ [] }
+    requires within { taken.old ≤ 2 ^ 40 }
+    ensures took { Took result line.new.items (S.left src.old) (S.left src.new) }
+    ensures counts { let was : Reading = record { bytes = line.old.items; taken = taken.old; failed = false } in
+        let now : Reading = record { bytes = line.new.items; taken = taken.new; failed = is_err result } in
+        Counts result was now }
+    ensures plain { plain line.new.items ≡ true }
+    ensures read_fault { result ≡ Err LineFault.ReadFault → Rose (S.faults src.old) (S.faults src.new) }
+    ensures never_falls { S.faults src.old ≤ S.faults src.new }
+{
+    while *taken < LOG_BYTES {
+        match next_byte(src) {
+            Next::Fault => return Err(LineFault::ReadFault),
+            Next::Nothing if line.is_empty() => return Ok(LineOrEnd::End),
+            Next::Nothing => return Ok(LineOrEnd::Cut),
+            Next::Byte(byte) => {
+                *taken += 1;
+                if byte == b'\n' {
+                    return Ok(LineOrEnd::Line);
+                }
+                if line.is_full() {
+                    return Err(LineFault::TooLong);
+                }
+                line.push(byte);
+            }
+        }
+    }
+    Err(LineFault::LogTooLong)
+}

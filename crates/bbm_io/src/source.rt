@@ -1,0 +1,155 @@
+//! Sources of bytes: the trait, and two sources in memory.
+
+ghost use Rattle.std.specs.Prelude.{◌≡◌, ℕ, ◌+◌, ◌-◌, ◌^◌, ◌<◌, ◌≤◌, List, ◌++◌, if◌then◌else◌, length, take, drop, min, is_err, IfOk, OnErr, Option, Some, vec_len};
+ghost use Rattle.bbm_io.specs.Faults.{Rose};
+ghost use Rattle.bbm_io.specs.Flow.{preceded, AtEnd};
+ghost use Rattle.bbm_io.specs.Memory.{fails_next};
+
+use std::marker::Model;
+
+/// A read or a write failed. What came of it stands at the call that answers this.
+#[derive(Clone, Copy, Debug, PartialEq, Eq)]
+pub struct Failed;
+
+/// Where bytes come from. `left` is the bytes still to come, where the source tells them, and `faults`
+/// is a count that never falls. Source: project's own choice.
+pub trait Source {
+    ghost left: { Self → Option (List ℕ) };
+
+    ghost faults: { Self → ℕ };
+
+    /// Puts the next bytes at the front of `buf` and answers how many, at most its length. None for a
+    /// `buf` that isn't empty means that nothing is left. `Failed` comes only where the count of faults
+    /// rose, or stands at 2^64 - 1, and then what is left is as before.
+    fn read(&mut self, buf: &mut [u8]) -> Result<usize, Failed>
+        ensures bound { IfOk result (λ n. n ≤ length buf.new) }
+        ensures bytes { IfOk result (λ n. left self.old ≡ preceded (take n buf.new) (left self.new)) }
+        ensures end { result ≡ Ok 0 → 0 < length buf.new → AtEnd (left self.new) }
+        ensures unread { OnErr result (left self.new ≡ left self.old) }
+        ensures failed { OnErr result (Rose (faults self.old) (faults self.new)) }
+        ensures never_falls { faults self.old ≤ faults self.new };
+}
+
+/// A source over memory whose calls never fail: its count of faults is 0. It tells what is left. A
+/// clause sees the bytes that are left.
+#[derive(Drop)]
+pub struct CleanSource {
+    bytes: Vec<u8>,
+    at: usize,
+}
+
+impl Model for CleanSource {
+    ghost Value = { List ℕ };
+
+    ghost view = { λ s. drop s.at s.bytes.items };
+
+    ghost invariant = { (λ s. s.at ≤ vec_len s.bytes) };
+}
+
+impl CleanSource {
+    /// A source of these bytes.
+    pub fn new(bytes: Vec<u8>) -> CleanSource
+        ensures { result ≡ bytes.items }
+    {
+        CleanSource { bytes, at: 0 }
+    }
+}
+
+/// Copies as many bytes as fit to the front of `buf`, and answers how many.
+fn copy_front(bytes: &[u8], buf: &mut [u8]) -> usize
+    ensures count { result ≡ min (length bytes.now) (length buf.old) }
+    ensures front { take result buf.new ≡ take result bytes.now }
+{
+    let count = bytes.len().min(buf.len());
+    buf[..count].copy_from_slice(&bytes[..count]);
+    count
+}
+
+impl Source for CleanSource {
+    ghost left = { λ s. Some s };
+
+    ghost faults = { λ _. 0 };
+
+    fn read(&mut self, buf: &mut [u8]) -> Result<usize, Failed>
+        ensures count { result ≡ Ok (min (length self.old) (length buf.new)) }
+        ensures bytes { self.old ≡ take (min (length self.old) (length buf.new)) buf.new ++ self.new }
+    {
+        let count = copy_front(&self.bytes[self.at..], buf);
+        self.at += count;
+        Ok(count)
+    }
+}
+
+/// Counts one more call, and answers whether it is one of those that fail.
+pub(crate) fn next_fails(calls: &mut u64, fails: &[u64]) -> bool
+    ensures fails { result ≡ fails_next fails.now calls.old }
+    ensures calls { calls.new ≡ min (calls.old + 1) (2 ^ 64 - 1) }
+{
+    let Some(number) = calls.checked_add(1) else {
+        return false;
+    };
+    *calls = number;
+    fails.contains(&number)
+}
+
+/// A source over memory, some of whose calls fail. It tells what is left. A clause sees its
+/// `SourceState`.
+#[derive(Drop)]
+pub struct MemSource {
+    bytes: Vec<u8>,
+    at: usize,
+    fails: Vec<u64>,
+    calls: u64,
+    faults: u64,
+}
+
+impl Model for MemSource {
+    ghost use Rattle.std.specs.Prelude.{◌≤◌, drop, vec_len};
+    ghost use Rattle.bbm_io.specs.Memory.{SourceState};
+
+    ghost Value = { SourceState };
+
+    ghost view = { λ s. record { left = drop s.at s.bytes.items; fails = s.fails.items; calls = s.calls; faults = s.faults } };
+
+    ghost invariant = { (λ s. (s.at ≤ vec_len s.bytes) × (s.faults ≤ s.calls)) };
+}
+
+impl MemSource {
+    /// A source of these bytes whose calls with these numbers, counted from 1, fail. No other call of
+    /// it fails. Its count of faults is 0.
+    pub fn new(bytes: Vec<u8>, fails: Vec<u64>) -> MemSource
+        ensures { result ≡ record { left = bytes.items; fails = fails.items; calls = 0; faults = 0 } }
+    {
+        MemSource {
+            bytes,
+            at: 0,
+            fails,
+            calls: 0,
+            faults: 0,
+        }
+    }
+}
+
+impl Source for MemSource {
+    ghost left = { λ s. Some s.left };
+
+    ghost faults = { λ s. s.faults };
+
+    fn read(&mut self, buf: &mut [u8]) -> Result<usize, Failed>
+        ensures fails { is_err result ≡ fails_next self.old.fails self.old.calls }
+        ensures count { IfOk result (λ n. n ≡ min (length self.old.left) (length buf.new)) }
+        ensures bytes { IfOk result (λ n. self.old.left ≡ take n buf.new ++ self.new.left) }
+        ensures unread { OnErr result (self.new.left ≡ self.old.left) }
+        ensures faults { self.new.faults ≡ (if is_err result then self.old.faults + 1 else self.old.faults) }
+        ensures calls { self.new.calls ≡ min (self.old.calls + 1) (2 ^ 64 - 1) }
+        ensures listed { self.new.fails ≡ self.old.fails }
+    {
+        if next_fails(&mut self.calls, &self.fails) {
+            self.faults += 1;
+            return Err(Failed);
+        }
+        let count = copy_front(&self.bytes[self.at..], buf);
+        self.at += count;
+        Ok(count)
+    }
+}

@@ -1,0 +1,9 @@
+pub mod Numerals
+pub mod Splitting
+pub mod Joining
+pub mod OneLine
+pub mod Short
+pub mod Spelled
+pub mod Values
+pub mod WordsRead
+pub mod Written

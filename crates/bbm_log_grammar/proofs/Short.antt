@@ -1,0 +1,77 @@
+-- Each word has at most 12 bytes.
+use Rattle.std.proofs.Common.{◌≤◌, length, arith}
+use Rattle.bbm_regimes.specs.declared.regime.Kind.{Kind}
+use Rattle.bbm_regimes.specs.declared.regime.Kind.TheVariants.{El2, S2, Ttbr0, Ttbr1}
+use Rattle.bbm_regimes.specs.declared.regime.Reg.{Reg}
+use Rattle.bbm_regimes.specs.declared.regime.Reg.TheVariants.{Ttbr0El2, VttbrEl2, Ttbr0El1, Ttbr1El1}
+use Rattle.bbm_regimes.specs.declared.regime.AsidFrom.{AsidFrom}
+use Rattle.bbm_regimes.specs.declared.regime.AsidFrom.TheVariants as from
+use Rattle.bbm_barriers.specs.declared.Dsb.{Dsb}
+use Rattle.bbm_barriers.specs.declared.Domain.{Domain}
+use Rattle.bbm_barriers.specs.declared.Domain.TheVariants.{Full, Inner, Outer, Non}
+use Rattle.bbm_barriers.specs.declared.Types.{Types}
+use Rattle.bbm_barriers.specs.declared.Types.TheVariants.{All, Stores, Loads}
+use Rattle.bbm_tlbi_scope.specs.declared.op.TlbiOp.{TlbiOp}
+use Rattle.bbm_tlbi_scope.specs.declared.op.TlbiOp.TheVariants.{Alle2, Alle2is, Vae2, Vae2is, Vale2, Vale2is, Alle1, Alle1is, Vmalle1, Vmalle1is, Vmalls12e1, Vmalls12e1is, Ipas2e1, Ipas2e1is, Ipas2le1, Ipas2le1is, Vae1, Vae1is, Vale1, Vale1is, Vaae1, Vaae1is, Vaale1, Vaale1is, Aside1, Aside1is}
+use Rattle.bbm_events.specs.Words.{kind_word, reg_word, asid_from_word, option_word, dsb_word, op_word}
+
+pub kind_word_short : (kind : Kind) → length (kind_word kind) ≤ 12
+kind_word_short El2 = omega arith
+kind_word_short S2 = omega arith
+kind_word_short Ttbr0 = omega arith
+kind_word_short Ttbr1 = omega arith
+
+pub reg_word_short : (reg : Reg) → length (reg_word reg) ≤ 12
+reg_word_short Ttbr0El2 = omega arith
+reg_word_short VttbrEl2 = omega arith
+reg_word_short Ttbr0El1 = omega arith
+reg_word_short Ttbr1El1 = omega arith
+
+pub asid_from_word_short : (asid_from : AsidFrom) → length (asid_from_word asid_from) ≤ 12
+asid_from_word_short from.Ttbr0 = omega arith
+asid_from_word_short from.Ttbr1 = omega arith
+
+option_word_short : (domain : Domain) (types : Types) → length (option_word domain types) ≤ 12
+option_word_short Full All = omega arith
+option_word_short Full Stores = omega arith
+option_word_short Full Loads = omega arith
+option_word_short Inner All = omega arith
+option_word_short Inner Stores = omega arith
+option_word_short Inner Loads = omega arith
+option_word_short Outer All = omega arith
+option_word_short Outer Stores = omega arith
+option_word_short Outer Loads = omega arith
+option_word_short Non All = omega arith
+option_word_short Non Stores = omega arith
+option_word_short Non Loads = omega arith
+
+pub dsb_word_short : (dsb : Dsb) → length (dsb_word dsb) ≤ 12
+dsb_word_short dsb = option_word_short dsb.domain dsb.types
+
+pub op_word_short : (op : TlbiOp) → length (op_word op) ≤ 12
+op_word_short Alle2 = omega arith
+op_word_short Alle2is = omega arith
+op_word_short Vae2 = omega arith
+op_word_short Vae2is = omega arith
+op_word_short Vale2 = omega arith
+op_word_short Vale2is = omega arith
+op_word_short Alle1 = omega arith
+op_word_short Alle1is = omega arith
+op_word_short Vmalle1 = omega arith
+op_word_short Vmalle1is = omega arith
+op_word_short Vmalls12e1 = omega arith
+op_word_short Vmalls12e1is = omega arith
+op_word_short Ipas2e1 = omega arith
+op_word_short Ipas2e1is = omega arith
+op_word_short Ipas2le1 = omega arith
+op_word_short Ipas2le1is = omega arith
+op_word_short Vae1 = omega arith
+op_word_short Vae1is = omega arith
+op_word_short Vale1 = omega arith
+op_word_short Vale1is = omega arith
+op_word_short Vaae1 = omega arith
+op_word_short Vaae1is = omega arith
+op_word_short Vaale1 = omega arith
+op_word_short Vaale1is = omega arith
+op_word_short Aside1 = omega arith
+op_word_short Aside1is = omega arith

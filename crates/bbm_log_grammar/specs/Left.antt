@@ -1,0 +1,8 @@
+-- What is left of a line.
+use Rattle.std.specs.Prelude.{ℕ, List, [], Option, Some, None}
+use Rattle.bbm_events.specs.Spelling.{fields}
+
+-- the fields that are left, where these bytes or none are left
+abbrev pub fields_left : Option (List ℕ) → List (List ℕ)
+fields_left None = []
+fields_left (Some line) = fields line

@@ -1,0 +1,154 @@
+//! The fields of event lines, each with the cause where it can't be read.
+
+ghost use Rattle.std.specs.Prelude.{◌≡◌};
+ghost use Rattle.bbm_events.specs.Lines as lines;
+
+use crate::fields::Fields;
+use crate::numbers::read_hex;
+use crate::values::{count_of, lock_of, page_of, pe_of, place_of, root_lock_of, root_page_of};
+use crate::words::{dsb_of, kind_of, op_of, reg_of};
+use bbm_barriers::Dsb;
+use bbm_events::{Header, Item, Malformed, has_operand};
+use bbm_regimes::{Kind, Page, Pe, Place, Reg};
+use bbm_tlbi_scope::TlbiOp;
+
+/// A PE.
+pub(crate) fn pe_field<'a>(
+    header: &Header,
+    fields: Fields<'a>,
+) -> Result<(Pe, Fields<'a>), Malformed>
+    ensures { result ≡ lines.pe_field header.now fields.entry }
+{
+    let (text, rest) = fields.next_or(Malformed::MissingField)?;
+    let value = pe_of(header, text).ok_or(Malformed::BadPe)?;
+    Ok((value, rest))
+}
+
+/// A page.
+pub(crate) fn page_field<'a>(fields: Fields<'a>) -> Result<(Page, Fields<'a>), Malformed>
+    ensures { result ≡ lines.page_field fields.entry }
+{
+    let (text, rest) = fields.next_or(Malformed::MissingField)?;
+    let value = page_of(text).ok_or(Malformed::BadAddress)?;
+    Ok((value, rest))
+}
+
+/// A place.
+pub(crate) fn place_field<'a>(fields: Fields<'a>) -> Result<(Place, Fields<'a>), Malformed>
+    ensures { result ≡ lines.place_field fields.entry }
+{
+    let (text, rest) = fields.next_or(Malformed::MissingField)?;
+    let value = place_of(text).ok_or(Malformed::BadAddress)?;
+    Ok((value, rest))
+}
+
+/// The first page of a root of the kind.
+pub(crate) fn root_page_field<'a>(
+    header: &Header,
+    kind: Kind,
+    fields: Fields<'a>,
+) -> Result<(Page, Fields<'a>), Malformed>
+    ensures { result ≡ lines.root_page_field header.now kind fields.entry }
+{
+    let (text, rest) = fields.next_or(Malformed::MissingField)?;
+    let value = root_page_of(header, kind, text).ok_or(Malformed::BadAddress)?;
+    Ok((value, rest))
+}
+
+/// A value.
+pub(crate) fn value_field<'a>(fields: Fields<'a>) -> Result<(u64, Fields<'a>), Malformed>
+    ensures { result ≡ lines.value_field fields.entry }
+{
+    let (text, rest) = fields.next_or(Malformed::MissingField)?;
+    let value = read_hex(text).ok_or(Malformed::BadNumber)?;
+    Ok((value, rest))
+}
+
+/// A lock.
+pub(crate) fn lock_field<'a>(fields: Fields<'a>) -> Result<(u16, Fields<'a>), Malformed>
+    ensures { result ≡ lines.lock_field fields.entry }
+{
+    let (text, rest) = fields.next_or(Malformed::MissingField)?;
+    let value = lock_of(text).ok_or(Malformed::BadNumber)?;
+    Ok((value, rest))
+}
+
+/// The lock of a root.
+pub(crate) fn root_lock_field<'a>(
+    fields: Fields<'a>,
+) -> Result<(Option<u16>, Fields<'a>), Malformed>
+    ensures { result ≡ lines.root_lock_field fields.entry }
+{
+    let (text, rest) = fields.next_or(Malformed::MissingField)?;
+    let value = root_lock_of(text).ok_or(Malformed::BadNumber)?;
+    Ok((value, rest))
+}
+
+/// A number of event lines.
+pub(crate) fn count_field<'a>(fields: Fields<'a>) -> Result<(u32, Fields<'a>), Malformed>
+    ensures { result ≡ lines.count_field fields.entry }
+{
+    let (text, rest) = fields.next_or(Malformed::MissingField)?;
+    let value = count_of(text).ok_or(Malformed::BadNumber)?;
+    Ok((value, rest))
+}
+
+/// A kind.
+pub(crate) fn kind_field<'a>(fields: Fields<'a>) -> Result<(Kind, Fields<'a>), Malformed>
+    ensures { result ≡ lines.kind_field fields.entry }
+{
+    let (text, rest) = fields.next_or(Malformed::MissingField)?;
+    let value = kind_of(text).ok_or(Malformed::UnknownWord)?;
+    Ok((value, rest))
+}
+
+/// The option of a barrier.
+pub(crate) fn dsb_field<'a>(fields: Fields<'a>) -> Result<(Dsb, Fields<'a>), Malformed>
+    ensures { result ≡ lines.dsb_field fields.entry }
+{
+    let (text, rest) = fields.next_or(Malformed::MissingField)?;
+    let value = dsb_of(text).ok_or(Malformed::UnknownWord)?;
+    Ok((value, rest))
+}
+
+/// The operation of a TLBI.
+pub(crate) fn op_field<'a>(fields: Fields<'a>) -> Result<(TlbiOp, Fields<'a>), Malformed>
+    ensures { result ≡ lines.op_field fields.entry }
+{
+    let (text, rest) = fields.next_or(Malformed::MissingField)?;
+    let value = op_of(text).ok_or(Malformed::UnknownWord)?;
+    Ok((value, rest))
+}
+
+/// A register.
+pub(crate) fn reg_field<'a>(fields: Fields<'a>) -> Result<(Reg, Fields<'a>), Malformed>
+    ensures { result ≡ lines.reg_field fields.entry }
+{
+    let (text, rest) = fields.next_or(Malformed::MissingField)?;
+    let value = reg_of(text).ok_or(Malformed::UnknownWord)?;
+    Ok((value, rest))
+}
+
+/// The operand of a TLBI, where the operation has one.
+pub(crate) fn operand_field<'a>(
+    op: TlbiOp,
+    fields: Fields<'a>,
+) -> Result<(u64, Fields<'a>), Malformed>
+    ensures { result ≡ lines.operand_field op fields.entry }
+{
+    if has_operand(op) {
+        value_field(fields)
+    } else {
+        Ok((0, fields))
+    }
+}
+
+/// The item, where no field is left.
+pub(crate) fn whole(item: Item, fields: Fields) -> Result<Item, Malformed>
+    ensures { result ≡ lines.whole item fields.entry }
+{
+    match fields.next() {
+        None => Ok(item),
+        Some(_) => Err(Malformed::ExtraField),
+    }
+}

@@ -1,0 +1,81 @@
+//! The values that one field spells.
+
+ghost use Rattle.std.specs.Prelude.{◌≡◌, Some, None};
+ghost use Rattle.bbm_events.specs.Spelling.{decimal_value, hex_value};
+ghost use Rattle.bbm_events.specs.Fits as fits;
+ghost use Rattle.bbm_events.specs.Lines as lines;
+
+use crate::numbers::{read_decimal, read_hex};
+use bbm_events::{Header, root_pages};
+use bbm_regimes::{Kind, Page, Pe, Place};
+
+/// Locks have numbers below 1,024.
+const LOCKS: u64 = 1024;
+
+/// A PE of the log.
+pub(crate) fn pe_of(header: &Header, field: &[u8]) -> Option<Pe>
+    ensures { result ≡ lines.passing (fits.is_pe header.now) (decimal_value field.now) }
+{
+    let number = read_decimal(field)?;
+    if number < header.pes as u64 {
+        Pe::new(number as u8)
+    } else {
+        None
+    }
+}
+
+/// A page.
+pub(crate) fn page_of(field: &[u8]) -> Option<Page>
+    ensures { result ≡ lines.passing fits.is_page (hex_value field.now) }
+{
+    Page::new(read_hex(field)?)
+}
+
+/// A place.
+pub(crate) fn place_of(field: &[u8]) -> Option<Place>
+    ensures { result ≡ lines.passing fits.is_place (hex_value field.now) }
+{
+    Place::new(read_hex(field)?)
+}
+
+/// The first page of a root of this kind.
+pub(crate) fn root_page_of(header: &Header, kind: Kind, field: &[u8]) -> Option<Page>
+    ensures { result ≡ lines.passing (fits.is_root_page header.now.world kind) (hex_value field.now) }
+{
+    let page = page_of(field)?;
+    if page.get() % (4096 * root_pages(header.world, kind) as u64) == 0 {
+        Some(page)
+    } else {
+        None
+    }
+}
+
+/// A lock's number.
+pub(crate) fn lock_of(field: &[u8]) -> Option<u16>
+    ensures { result ≡ lines.lock_value field.now }
+{
+    let number = read_decimal(field)?;
+    if number < LOCKS {
+        Some(number as u16)
+    } else {
+        None
+    }
+}
+
+/// The lock of a root, or `-` for none.
+pub(crate) fn root_lock_of(field: &[u8]) -> Option<Option<u16>>
+    ensures { result ≡ lines.root_lock field.now }
+{
+    if field == b"-".as_slice() {
+        Some(None)
+    } else {
+        lock_of(field).map(Some)
+    }
+}
+
+/// A number of event lines.
+pub(crate) fn count_of(field: &[u8]) -> Option<u32>
+    ensures { result ≡ lines.passing fits.is_count (decimal_value field.now) }
+{
+    u32::try_from(read_decimal(field)?).ok()
+}

@@ -1,0 +1,274 @@
+//! The words of a log.
+
+ghost use Rattle.std.specs.Prelude.{◌≡◌};
+ghost use Rattle.bbm_events.specs.Words as words;
+
+use bbm_barriers::{Domain, Dsb, Types};
+use bbm_events::Keyword;
+use bbm_regimes::{AsidFrom, Kind, Reg};
+use bbm_tlbi_scope::TlbiOp;
+
+/// The first words of lines.
+const KEYWORDS: [Keyword; 13] = [
+    Keyword::Init,
+    Keyword::Null,
+    Keyword::Root,
+    Keyword::Unroot,
+    Keyword::Write,
+    Keyword::Dsb,
+    Keyword::Dmb,
+    Keyword::Isb,
+    Keyword::Tlbi,
+    Keyword::Msr,
+    Keyword::Lock,
+    Keyword::Unlock,
+    Keyword::End,
+];
+
+/// The word of a line's first field.
+pub(crate) fn keyword_word(keyword: Keyword) -> &'static [u8]
+    ensures { result.now ≡ words.keyword_word keyword }
+{
+    match keyword {
+        Keyword::Init => b"init",
+        Keyword::Null => b"null",
+        Keyword::Root => b"root",
+        Keyword::Unroot => b"unroot",
+        Keyword::Write => b"w",
+        Keyword::Dsb => b"dsb",
+        Keyword::Dmb => b"dmb",
+        Keyword::Isb => b"isb",
+        Keyword::Tlbi => b"tlbi",
+        Keyword::Msr => b"msr",
+        Keyword::Lock => b"lock",
+        Keyword::Unlock => b"unlock",
+        Keyword::End => b"end",
+    }
+}
+
+/// The keyword that the field is.
+pub(crate) fn keyword_of(field: &[u8]) -> Option<Keyword>
+    ensures { result ≡ words.value_of words.keyword_word words.keywords field.now }
+{
+    KEYWORDS
+        .iter()
+        .copied()
+        .find(|keyword| keyword_word(*keyword) == field)
+}
+
+/// The kinds of roots.
+const KINDS: [Kind; 4] = [Kind::El2, Kind::S2, Kind::Ttbr0, Kind::Ttbr1];
+
+/// The word of a kind.
+pub(crate) fn kind_word(kind: Kind) -> &'static [u8]
+    ensures { result.now ≡ words.kind_word kind }
+{
+    match kind {
+        Kind::El2 => b"el2",
+        Kind::S2 => b"s2",
+        Kind::Ttbr0 => b"ttbr0",
+        Kind::Ttbr1 => b"ttbr1",
+    }
+}
+
+/// The kind that the field is.
+pub(crate) fn kind_of(field: &[u8]) -> Option<Kind>
+    ensures { result ≡ words.value_of words.kind_word words.kinds field.now }
+{
+    KINDS.iter().copied().find(|kind| kind_word(*kind) == field)
+}
+
+/// The root registers.
+const REGS: [Reg; 4] = [Reg::Ttbr0El2, Reg::VttbrEl2, Reg::Ttbr0El1, Reg::Ttbr1El1];
+
+/// The word of a register.
+pub(crate) fn reg_word(reg: Reg) -> &'static [u8]
+    ensures { result.now ≡ words.reg_word reg }
+{
+    match reg {
+        Reg::Ttbr0El2 => b"ttbr0_el2",
+        Reg::VttbrEl2 => b"vttbr_el2",
+        Reg::Ttbr0El1 => b"ttbr0_el1",
+        Reg::Ttbr1El1 => b"ttbr1_el1",
+    }
+}
+
+/// The register that the field is.
+pub(crate) fn reg_of(field: &[u8]) -> Option<Reg>
+    ensures { result ≡ words.value_of words.reg_word words.regs field.now }
+{
+    REGS.iter().copied().find(|reg| reg_word(*reg) == field)
+}
+
+/// The registers that can name the current ASID.
+const ASID_FROMS: [AsidFrom; 2] = [AsidFrom::Ttbr0, AsidFrom::Ttbr1];
+
+/// The word of the register that names the current ASID.
+pub(crate) fn asid_from_word(asid_from: AsidFrom) -> &'static [u8]
+    ensures { result.now ≡ words.asid_from_word asid_from }
+{
+    match asid_from {
+        AsidFrom::Ttbr0 => b"ttbr0",
+        AsidFrom::Ttbr1 => b"ttbr1",
+    }
+}
+
+/// The register for the current ASID that the field is.
+pub(crate) fn asid_from_of(field: &[u8]) -> Option<AsidFrom>
+    ensures { result ≡ words.value_of words.asid_from_word words.asid_froms field.now }
+{
+    ASID_FROMS
+        .iter()
+        .copied()
+        .find(|asid_from| asid_from_word(*asid_from) == field)
+}
+
+/// The options of barriers.
+const DSBS: [Dsb; 12] = [
+    Dsb {
+        domain: Domain::Full,
+        types: Types::All,
+    },
+    Dsb {
+        domain: Domain::Full,
+        types: Types::Stores,
+    },
+    Dsb {
+        domain: Domain::Full,
+        types: Types::Loads,
+    },
+    Dsb {
+        domain: Domain::Inner,
+        types: Types::All,
+    },
+    Dsb {
+        domain: Domain::Inner,
+        types: Types::Stores,
+    },
+    Dsb {
+        domain: Domain::Inner,
+        types: Types::Loads,
+    },
+    Dsb {
+        domain: Domain::Outer,
+        types: Types::All,
+    },
+    Dsb {
+        domain: Domain::Outer,
+        types: Types::Stores,
+    },
+    Dsb {
+        domain: Domain::Outer,
+        types: Types::Loads,
+    },
+    Dsb {
+        domain: Domain::Non,
+        types: Types::All,
+    },
+    Dsb {
+        domain: Domain::Non,
+        types: Types::Stores,
+    },
+    Dsb {
+        domain: Domain::Non,
+        types: Types::Loads,
+    },
+];
+
+/// The word of a barrier's option.
+pub(crate) fn dsb_word(dsb: Dsb) -> &'static [u8]
+    ensures { result.now ≡ words.dsb_word dsb }
+{
+    match (dsb.domain, dsb.types) {
+        (Domain::Full, Types::All) => b"sy",
+        (Domain::Full, Types::Stores) => b"st",
+        (Domain::Full, Types::Loads) => b"ld",
+        (Domain::Inner, Types::All) => b"ish",
+        (Domain::Inner, Types::Stores) => b"ishst",
+        (Domain::Inner, Types::Loads) => b"ishld",
+        (Domain::Outer, Types::All) => b"osh",
+        (Domain::Outer, Types::Stores) => b"oshst",
+        (Domain::Outer, Types::Loads) => b"oshld",
+        (Domain::Non, Types::All) => b"nsh",
+        (Domain::Non, Types::Stores) => b"nshst",
+        (Domain::Non, Types::Loads) => b"nshld",
+    }
+}
+
+/// The barrier whose option the field is.
+pub(crate) fn dsb_of(field: &[u8]) -> Option<Dsb>
+    ensures { result ≡ words.value_of words.dsb_word words.dsbs field.now }
+{
+    DSBS.iter().copied().find(|dsb| dsb_word(*dsb) == field)
+}
+
+/// The operations of TLBIs.
+const OPS: [TlbiOp; 26] = [
+    TlbiOp::Alle2,
+    TlbiOp::Alle2is,
+    TlbiOp::Vae2,
+    TlbiOp::Vae2is,
+    TlbiOp::Vale2,
+    TlbiOp::Vale2is,
+    TlbiOp::Alle1,
+    TlbiOp::Alle1is,
+    TlbiOp::Vmalle1,
+    TlbiOp::Vmalle1is,
+    TlbiOp::Vmalls12e1,
+    TlbiOp::Vmalls12e1is,
+    TlbiOp::Ipas2e1,
+    TlbiOp::Ipas2e1is,
+    TlbiOp::Ipas2le1,
+    TlbiOp::Ipas2le1is,
+    TlbiOp::Vae1,
+    TlbiOp::Vae1is,
+    TlbiOp::Vale1,
+    TlbiOp::Vale1is,
+    TlbiOp::Vaae1,
+    TlbiOp::Vaae1is,
+    TlbiOp::Vaale1,
+    TlbiOp::Vaale1is,
+    TlbiOp::Aside1,
+    TlbiOp::Aside1is,
+];
+
+/// The word of an operation.
+pub(crate) fn op_word(op: TlbiOp) -> &'static [u8]
+    ensures { result.now ≡ words.op_word op }
+{
+    match op {
+        TlbiOp::Alle2 => b"alle2",
+        TlbiOp::Alle2is => b"alle2is",
+        TlbiOp::Vae2 => b"vae2",
+        TlbiOp::Vae2is => b"vae2is",
+        TlbiOp::Vale2 => b"vale2",
+        TlbiOp::Vale2is => b"vale2is",
+        TlbiOp::Alle1 => b"alle1",
+        TlbiOp::Alle1is => b"alle1is",
+        TlbiOp::Vmalle1 => b"vmalle1",
+        TlbiOp::Vmalle1is => b"vmalle1is",
+        TlbiOp::Vmalls12e1 => b"vmalls12e1",
+        TlbiOp::Vmalls12e1is => b"vmalls12e1is",
+        TlbiOp::Ipas2e1 => b"ipas2e1",
+        TlbiOp::Ipas2e1is => b"ipas2e1is",
+        TlbiOp::Ipas2le1 => b"ipas2le1",
+        TlbiOp::Ipas2le1is => b"ipas2le1is",
+        TlbiOp::Vae1 => b"vae1",
+        TlbiOp::Vae1is => b"vae1is",
+        TlbiOp::Vale1 => b"vale1",
+        TlbiOp::Vale1is => b"vale1is",
+        TlbiOp::Vaae1 => b"vaae1",
+        TlbiOp::Vaae1is => b"vaae1is",
+        TlbiOp::Vaale1 => b"vaale1",
+        TlbiOp::Vaale1is => b"vaale1is",
+        TlbiOp::Aside1 => b"aside1",
+        TlbiOp::Aside1is => b"aside1is",
+    }
+}
+
+/// The operation that the field is.
+pub(crate) fn op_of(field: &[u8]) -> Option<TlbiOp>
+    ensures { result ≡ words.value_of words.op_word words.ops field.now }
+{
+    OPS.iter().copied().find(|op| op_word(*op) == field)
+}

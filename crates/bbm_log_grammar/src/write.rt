@@ -1,0 +1,237 @@
+//! The one line of a header, and of an item.
+
+ghost use Rattle.std.specs.Prelude.{◌≡◌, ◌+◌, ◌≤◌, true, ◌++◌, ◌∷◌, [], length, decimal};
+ghost use Rattle.arrayvec.specs.ArrayVec.{array_vec_len};
+ghost use Rattle.bbm_events.specs.declared.event.Event.TheVariants as event;
+ghost use Rattle.bbm_events.specs.Spelling.{hex, joined};
+ghost use Rattle.bbm_events.specs.Words as words;
+ghost use Rattle.bbm_events.specs.Fits.{fits_heading, item_fits};
+ghost use Rattle.bbm_events.specs.Lines.{header_line, item_line, lock_text, event_fields};
+ghost use Rattle.bbm_regimes.specs.declared.regime.World.TheVariants.{Hyp, Kernel};
+
+use crate::spell::{add, add_decimal, add_hex};
+use crate::tables::{asid_from_word, dsb_word, kind_word, op_word, reg_word};
+use arrayvec::ArrayVec;
+use bbm_barriers::Dsb;
+use bbm_events::{Event, Header, Item, has_operand};
+use bbm_regimes::{AsidFrom, Kind, Page, Pe, Place, Reg, World};
+use bbm_tlbi_scope::TlbiOp;
+
+/// A space and a word of at most 12 bytes.
+fn add_word_field(out: &mut ArrayVec<u8, 200>, word: &[u8])
+    requires short { length word.now ≤ 12 }
+    requires room { array_vec_len out.old + 13 ≤ 200 }
+    ensures appended { out.new.items ≡ out.old.items ++ 32 ∷ word.now }
+    ensures longer { array_vec_len out.new ≤ array_vec_len out.old + 13 }
+{
+    add(out, b" ");
+    add(out, word);
+}
+
+/// A space and a number in decimal.
+fn add_decimal_field(out: &mut ArrayVec<u8, 200>, n: u64)
+    requires room { array_vec_len out.old + 21 ≤ 200 }
+    ensures appended { out.new.items ≡ out.old.items ++ 32 ∷ decimal n }
+    ensures longer { array_vec_len out.new ≤ array_vec_len out.old + 21 }
+{
+    add(out, b" ");
+    add_decimal(out, n);
+}
+
+/// A space and a number in hex.
+fn add_hex_field(out: &mut ArrayVec<u8, 200>, n: u64)
+    requires room { array_vec_len out.old + 19 ≤ 200 }
+    ensures appended { out.new.items ≡ out.old.items ++ 32 ∷ hex n }
+    ensures longer { array_vec_len out.new ≤ array_vec_len out.old + 19 }
+{
+    add(out, b" ");
+    add_hex(out, n);
+}
+
+/// The first word of an event line and its PE.
+fn begin(out: &mut ArrayVec<u8, 200>, word: &[u8], pe: Pe)
+    requires empty { out.old.items ≡ [] }
+    requires short { length word.now ≤ 12 }
+    ensures written { out.new.items ≡ word.now ++ 32 ∷ decimal pe }
+    ensures longer { array_vec_len out.new ≤ 33 }
+{
+    add(out, word);
+    add_decimal_field(out, pe.get() as u64);
+}
+
+/// A lock, or `-` for none.
+fn add_lock_field(out: &mut ArrayVec<u8, 200>, lock: Option<u16>)
+    requires room { array_vec_len out.old + 21 ≤ 200 }
+    ensures appended { out.new.items ≡ out.old.items ++ 32 ∷ lock_text lock }
+    ensures longer { array_vec_len out.new ≤ array_vec_len out.old + 21 }
+{
+    match lock {
+        None => add_word_field(out, b"-"),
+        Some(lock) => add_decimal_field(out, lock as u64),
+    }
+}
+
+/// `WORD PE PAGE`
+fn page_line(out: &mut ArrayVec<u8, 200>, word: &[u8], pe: Pe, page: Page)
+    requires empty { out.old.items ≡ [] }
+    requires short { length word.now ≤ 12 }
+    ensures { out.new.items ≡ joined (word.now ∷ decimal pe ∷ hex page ∷ []) }
+{
+    begin(out, word, pe);
+    add_hex_field(out, page.get());
+}
+
+/// `root PE KIND LOCK PAGE`
+#[tactic(auto, using(crate::proofs::Short::kind_word_short))]
+fn root_line(out: &mut ArrayVec<u8, 200>, pe: Pe, kind: Kind, lock: Option<u16>, page: Page)
+    requires empty { out.old.items ≡ [] }
+    ensures { out.new.items ≡ joined (event_fields (event.Root pe kind lock page)) }
+{
+    begin(out, b"root", pe);
+    add_word_field(out, kind_word(kind));
+    add_lock_field(out, lock);
+    add_hex_field(out, page.get());
+}
+
+/// `w PE PLACE VALUE`
+fn store_line(out: &mut ArrayVec<u8, 200>, pe: Pe, place: Place, value: u64)
+    requires empty { out.old.items ≡ [] }
+    ensures { out.new.items ≡ joined (event_fields (event.Write pe place value)) }
+{
+    begin(out, b"w", pe);
+    add_hex_field(out, place.get());
+    add_hex_field(out, value);
+}
+
+/// `WORD PE OPTION`
+#[tactic(auto, using(crate::proofs::Short::dsb_word_short))]
+fn barrier_line(out: &mut ArrayVec<u8, 200>, word: &[u8], pe: Pe, dsb: Dsb)
+    requires empty { out.old.items ≡ [] }
+    requires short { length word.now ≤ 12 }
+    ensures { out.new.items ≡ joined (word.now ∷ decimal pe ∷ words.dsb_word dsb ∷ []) }
+{
+    begin(out, word, pe);
+    add_word_field(out, dsb_word(dsb));
+}
+
+/// `tlbi PE OP`, and ` XT` where the operation has an operand.
+#[tactic(auto, using(crate::proofs::Short::op_word_short))]
+fn tlbi_line(out: &mut ArrayVec<u8, 200>, pe: Pe, op: TlbiOp, xt: u64)
+    requires empty { out.old.items ≡ [] }
+    ensures { out.new.items ≡ joined (event_fields (event.Tlbi pe op xt)) }
+{
+    begin(out, b"tlbi", pe);
+    add_word_field(out, op_word(op));
+    if has_operand(op) {
+        add_hex_field(out, xt);
+    }
+}
+
+/// `msr PE REG VALUE`
+#[tactic(auto, using(crate::proofs::Short::reg_word_short))]
+fn register_line(out: &mut ArrayVec<u8, 200>, pe: Pe, reg: Reg, value: u64)
+    requires empty { out.old.items ≡ [] }
+    ensures { out.new.items ≡ joined (event_fields (event.Msr pe reg value)) }
+{
+    begin(out, b"msr", pe);
+    add_word_field(out, reg_word(reg));
+    add_hex_field(out, value);
+}
+
+/// `WORD PE LOCK`
+fn lock_line(out: &mut ArrayVec<u8, 200>, word: &[u8], pe: Pe, lock: u16)
+    requires empty { out.old.items ≡ [] }
+    requires short { length word.now ≤ 12 }
+    ensures { out.new.items ≡ joined (word.now ∷ decimal pe ∷ decimal lock ∷ []) }
+{
+    begin(out, word, pe);
+    add_decimal_field(out, lock as u64);
+}
+
+fn event_line(out: &mut ArrayVec<u8, 200>, event: Event)
+    requires empty { out.old.items ≡ [] }
+    ensures { out.new.items ≡ joined (event_fields event) }
+{
+    match event {
+        Event::Init { pe, page } => page_line(out, b"init", pe, page),
+        Event::Null { pe, page } => page_line(out, b"null", pe, page),
+        Event::Root {
+            pe,
+            kind,
+            lock,
+            page,
+        } => root_line(out, pe, kind, lock, page),
+        Event::Unroot { pe, page } => page_line(out, b"unroot", pe, page),
+        Event::Write { pe, place, value } => store_line(out, pe, place, value),
+        Event::Dsb { pe, dsb } => barrier_line(out, b"dsb", pe, dsb),
+        Event::Dmb { pe, dsb } => barrier_line(out, b"dmb", pe, dsb),
+        Event::Isb { pe } => begin(out, b"isb", pe),
+        Event::Tlbi { pe, op, xt } => tlbi_line(out, pe, op, xt),
+        Event::Msr { pe, reg, value } => register_line(out, pe, reg, value),
+        Event::Lock { pe, lock } => lock_line(out, b"lock", pe, lock),
+        Event::Unlock { pe, lock } => lock_line(out, b"unlock", pe, lock),
+    }
+}
+
+/// The line of a header, as the last four fields are decimals.
+#[tactic(auto, unfolding(bbm_events::specs::Lines::header_line))]
+fn hyp_line(out: &mut ArrayVec<u8, 200>, pes: u8, el2_start: u8, s2_start: u8, s2_pages: u8)
+    requires empty { out.old.items ≡ [] }
+    ensures { out.new.items ≡ header_line (record { pes = pes; world = Hyp el2_start s2_start s2_pages }) }
+{
+    add(out, b"bbmlog 1 hyp");
+    add_decimal_field(out, pes as u64);
+    add_decimal_field(out, el2_start as u64);
+    add_decimal_field(out, s2_start as u64);
+    add_decimal_field(out, s2_pages as u64);
+}
+
+#[tactic(auto, unfolding(bbm_events::specs::Lines::header_line), using(crate::proofs::Short::asid_from_word_short))]
+fn kernel_line(out: &mut ArrayVec<u8, 200>, pes: u8, start0: u8, start1: u8, asid_from: AsidFrom)
+    requires empty { out.old.items ≡ [] }
+    ensures { out.new.items ≡ header_line (record { pes = pes; world = Kernel start0 start1 asid_from }) }
+{
+    add(out, b"bbmlog 1 kernel");
+    add_decimal_field(out, pes as u64);
+    add_decimal_field(out, start0 as u64);
+    add_decimal_field(out, start1 as u64);
+    add_word_field(out, asid_from_word(asid_from));
+}
+
+/// Writes line 1 of a log with this header, without its newline, into an empty buffer. The line is the
+/// one that `read_header` reads as this header. Source: project's own choice.
+pub fn write_header(header: &Header, out: &mut ArrayVec<u8, 200>)
+    requires empty { out.old.items ≡ [] }
+    ensures { out.new.items ≡ header_line header.now }
+{
+    match header.world {
+        World::Hyp {
+            el2_start,
+            s2_start,
+            s2_pages,
+        } => hyp_line(out, header.pes, el2_start, s2_start, s2_pages),
+        World::Kernel {
+            start0,
+            start1,
+            asid_from,
+        } => kernel_line(out, header.pes, start0, start1, asid_from),
+    }
+}
+
+/// Writes the line of an event, or the last line with its count, without its newline, into an empty
+/// buffer. The item has to fit the header. The line is the one that `read_event` reads as this item.
+/// Source: project's own choice.
+#[tactic(auto, unfolding(bbm_events::specs::Lines::item_line))]
+pub fn write_event(_header: &Header, item: Item, out: &mut ArrayVec<u8, 200>)
+    requires empty { out.old.items ≡ [] }
+    requires fits { item_fits _header.now item ≡ true }
+    ensures { out.new.items ≡ item_line item }
+{
+    match item {
+        Item::Event(event) => event_line(out, event),
+        Item::End(count) => {
+            add(out, b"end");
+            add_decimal_field(out, count as u64);
+        }
+    }
+}

@@ -1,0 +1,5 @@
+pub mod Judged
+pub mod CasesEl2
+pub mod CasesStage2
+pub mod CasesKernel
+pub mod ReadableLaw

@@ -1,0 +1,36 @@
+-- What the rules trust: every pattern of events that is there, or the patterns that a certificate names.
+use Rattle.std.specs.Prelude.{ℕ, Bool, true, false, ◌&&◌, ◌||◌, ◌==◌, List, [], ◌∷◌}
+use Rattle.bbm_regimes.specs.declared.regime.Tag.{Tag}
+use Rattle.bbm_regimes.specs.declared.regime.Tag.TheVariants.{El2, Vmid, Asid, Ttbr1}
+use Rattle.bbm_rules.specs.declared.claim.Claim.{Claim}
+use Rattle.bbm_rules.specs.declared.claim.Claim.TheVariants.{OneStep, TwoStep, TagTaken}
+
+-- whether two tags are the same
+abbrev pub same_tag : Tag → Tag → Bool
+same_tag El2 El2 = true
+same_tag (Vmid v) (Vmid w) = v == w
+same_tag (Asid a) (Asid b) = a == b
+same_tag Ttbr1 Ttbr1 = true
+same_tag _ _ = false
+
+-- whether two claims are the same
+abbrev pub same_claim : Claim → Claim → Bool
+same_claim (OneStep a p b t d) (OneStep a' p' b' t' d') = a == a' && p == p' && b == b' && t == t' && d == d'
+same_claim (TwoStep a p b t1 d1 t2 d2) (TwoStep a' p' b' t1' d1' t2' d2') =
+    a == a' && p == p' && b == b' && t1 == t1' && d1 == d1' && t2 == t2' && d2 == d2'
+same_claim (TagTaken g p t d) (TagTaken g' p' t' d') = same_tag g g' && p == p' && t == t' && d == d'
+same_claim _ _ = false
+
+-- Under `Patterns` a place is cleansed, and a tag taken away, by every pattern of events that the definitions ask
+-- for. Under `Listed` only by a pattern that a claim of the list names. Source: project's own choice.
+pub data Trust : Type 0 where
+  Patterns : Trust
+  Listed : List Claim → Trust
+
+abbrev pub claimed : List Claim → Claim → Bool
+claimed [] claim = false
+claimed (c ∷ cs) claim = same_claim c claim || claimed cs claim
+
+abbrev pub allows : Trust → Claim → Bool
+allows Patterns claim = true
+allows (Listed cs) claim = claimed cs claim

@@ -1,0 +1,164 @@
+-- The verdict on a list of bytes: a fold over its lines. It knows nothing of a reader or of a checker.
+-- Source: project's own choice.
+use Rattle.std.specs.Prelude.{ℕ, zero, suc, Bool, true, false, ◌==◌, nat_lt, nat_le, List, [], ◌∷◌, ◌++◌, length, drop, Option, Some, None, Result, Ok, Err, if◌then◌else◌}
+use Rattle.bbm_regimes.specs.declared.regime.Which.{Which}
+use Rattle.bbm_regimes.specs.declared.regime.Which.TheVariants.{LineBytes, Events}
+use Rattle.bbm_events.specs.declared.event.Event.{Event}
+use Rattle.bbm_events.specs.declared.event.Item.{Item}
+use Rattle.bbm_events.specs.declared.event.Item.TheVariants as item
+use Rattle.bbm_events.specs.declared.malformed.Malformed.{Malformed as Cause}
+use Rattle.bbm_events.specs.declared.malformed.Malformed.TheVariants.{NoEnd, WrongCount, AfterEnd, NotBuilt}
+use Rattle.bbm_events.specs.Heading.{Heading}
+use Rattle.bbm_events.specs.Lines.{header_of, item_of}
+use Rattle.bbm_rules.specs.declared.verdict.Verdict.{Verdict}
+use Rattle.bbm_rules.specs.declared.verdict.Verdict.TheVariants.{Accepted, Refused, Malformed, Limit}
+use Rattle.bbm_rules.specs.FirstPath.{Breach, broken, is_built, is_built_heading}
+
+-- The lines of a text: the pieces that end in a newline, byte 10, without it; and what stands after the
+-- last newline.
+pub record Text : Type 0 where
+  pub lines : List (List ℕ)
+  pub rest : List ℕ
+
+-- one more byte before a text
+abbrev pub before_text : ℕ → List (List ℕ) → List ℕ → Text
+before_text byte [] rest = record { lines = []; rest = byte ∷ rest }
+before_text byte (line ∷ lines) rest = record { lines = (byte ∷ line) ∷ lines; rest = rest }
+
+abbrev pub text_of : List ℕ → Text
+text_of [] = record { lines = []; rest = [] }
+text_of (byte ∷ bytes) =
+    if byte == 10 then record { lines = [] ∷ (text_of bytes).lines; rest = (text_of bytes).rest }
+    else before_text byte (text_of bytes).lines (text_of bytes).rest
+
+-- the bytes of a text
+abbrev pub bytes_of : List (List ℕ) → List ℕ → List ℕ
+bytes_of [] rest = rest
+bytes_of (line ∷ lines) rest = line ++ 10 ∷ bytes_of lines rest
+
+-- A line is too long where 201 bytes come without a newline.
+abbrev pub is_too_long : List ℕ → Bool
+is_too_long line = nat_lt 200 (length line)
+
+-- The limits that hold for a command, beside that of a line's bytes, which always holds: at most so
+-- many events, or any number of them.
+pub record Limits : Type 0 where
+  pub events : Option ℕ
+
+-- the limits of `check`
+abbrev pub check_limits : Limits
+check_limits = record { events = Some 2000 }
+
+-- whether so many events reach a limit, so that one more would pass it
+abbrev pub is_reached : Option ℕ → ℕ → Bool
+is_reached None count = false
+is_reached (Some limit) count = nat_le limit count
+
+-- how far the lines were read: none; the header and these events, the newest first; the end after these
+-- events
+pub data Progress : Type 0 where
+  AtHeader : Progress
+  AtEvents : Heading → List Event → Progress
+  AtEnd : List Event → Progress
+
+-- what one line decides: the verdict, or how far the lines are read with it
+pub data Step : Type 0 where
+  Decides : Verdict → Step
+  GoesOn : Progress → Step
+
+-- The order within one line: a malformed line, one that isn't judged yet, a broken rule, a limit.
+
+-- an event that keeps the rules
+abbrev pub after_kept : Limits → ℕ → Heading → List Event → Event → Step
+after_kept limits number heading h event =
+    if is_reached limits.events (length h) then Decides (Limit number Events)
+    else GoesOn (AtEvents heading (event ∷ h))
+
+abbrev pub after_judged : Limits → ℕ → Heading → List Event → Event → Option Breach → Step
+after_judged limits number heading h event (Some breach) = Decides (Refused number breach.rule breach.at)
+after_judged limits number heading h event None = after_kept limits number heading h event
+
+abbrev pub after_event : Limits → ℕ → Heading → List Event → Event → Step
+after_event limits number heading h event =
+    if is_built heading h event then after_judged limits number heading h event (broken heading h event)
+    else Decides (Malformed number NotBuilt)
+
+abbrev pub after_item : Limits → ℕ → Heading → List Event → Result Item Cause → Step
+after_item limits number heading h (Ok (item.Event event)) = after_event limits number heading h event
+after_item limits number heading h (Ok (item.End count)) =
+    if count == length h then GoesOn (AtEnd h) else Decides (Malformed number WrongCount)
+after_item limits number heading h (Err cause) = Decides (Malformed number cause)
+
+abbrev pub after_header : ℕ → Result Heading Cause → Step
+after_header number (Ok heading) =
+    if is_built_heading heading then GoesOn (AtEvents heading []) else Decides (Malformed number NotBuilt)
+after_header number (Err cause) = Decides (Malformed number cause)
+
+-- A line of at most 200 bytes.
+abbrev pub after_line : Limits → ℕ → Progress → List ℕ → Step
+after_line limits number AtHeader line = after_header number (header_of line)
+after_line limits number (AtEvents heading h) line = after_item limits number heading h (item_of heading line)
+after_line limits number (AtEnd h) line = Decides (Malformed number AfterEnd)
+
+-- A line that is too long, or the bytes after the last newline: more than 200 of them reach the limit of
+-- a line, unless an `end` line came before.
+abbrev pub too_long_at : ℕ → Progress → Verdict
+too_long_at number (AtEnd h) = Malformed number AfterEnd
+too_long_at number _ = Limit number LineBytes
+
+-- what line number n decides
+unfoldable pub step_of : Limits → ℕ → Progress → List ℕ → Step
+step_of limits number progress line =
+    if is_too_long line then Decides (too_long_at number progress) else after_line limits number progress line
+
+-- The end of the input, after these bytes since the last newline.
+abbrev pub cut_at : ℕ → Progress → List ℕ → Verdict
+cut_at number (AtEnd h) [] = Accepted (length h)
+cut_at number (AtEnd h) (byte ∷ rest) = Malformed number AfterEnd
+cut_at number AtHeader rest = Malformed number NoEnd
+cut_at number (AtEvents heading h) rest = Malformed number NoEnd
+
+unfoldable pub end_of : ℕ → Progress → List ℕ → Verdict
+end_of number progress rest = if is_too_long rest then too_long_at number progress else cut_at number progress rest
+
+-- the events before the deciding line, the newest first
+abbrev pub events_in : Progress → List Event
+events_in AtHeader = []
+events_in (AtEvents heading h) = h
+events_in (AtEnd h) = h
+
+-- What comes of a list of bytes: the verdict, the bytes that need not be read for it, and the events
+-- before the line that decides, the newest first.
+pub record Outcome : Type 0 where
+  pub verdict : Verdict
+  pub unread : List ℕ
+  pub log : List Event
+
+-- The bytes that stay unread behind a line that decides: of one that is too long 201 bytes are read.
+abbrev pub unread_after : List ℕ → List (List ℕ) → List ℕ → List ℕ
+unread_after line lines rest =
+    if is_too_long line then drop 201 (bytes_of (line ∷ lines) rest) else bytes_of lines rest
+
+-- the outcome where a line decides, and else that of the lines behind it
+abbrev pub outcome_after : Progress → List ℕ → List (List ℕ) → List ℕ → (Progress → Outcome) → Step → Outcome
+outcome_after progress line lines rest goes_on (Decides verdict) =
+    record { verdict = verdict; unread = unread_after line lines rest; log = events_in progress }
+outcome_after progress line lines rest goes_on (GoesOn next) = goes_on next
+
+-- from line number n on, where the lines before were read so far
+abbrev pub outcome_from : Limits → ℕ → Progress → List (List ℕ) → List ℕ → Outcome
+outcome_from limits number progress [] rest =
+    record { verdict = end_of number progress rest; unread = drop 201 rest; log = events_in progress }
+outcome_from limits number progress (line ∷ lines) rest =
+    outcome_after progress line lines rest (λ next. outcome_from limits (suc number) next lines rest) (step_of limits number progress line)
+
+-- the outcome of a list of bytes, from its first line on
+abbrev pub outcome_of : Limits → List ℕ → Outcome
+outcome_of limits bytes = outcome_from limits 1 AtHeader (text_of bytes).lines (text_of bytes).rest
+
+abbrev pub verdict_of : Limits → List ℕ → Verdict
+verdict_of limits bytes = (outcome_of limits bytes).verdict
+
+-- the events of the log: those before the deciding line, or all of them, the newest first
+abbrev pub log_of : Limits → List ℕ → List Event
+log_of limits bytes = (outcome_of limits bytes).log

@@ -1,0 +1,17 @@
+//! The rules of table maintenance as definitions over a log's history, and what every checker promises.
+#![tactic(auto)]
+
+pub mod checker;
+pub mod claim;
+pub mod laws;
+pub mod laws;
+pub mod phase;
+pub mod rule;
+pub mod verdict;
+
+pub use checker::{Checker, StepFault};
+pub use claim::Claim;
+pub use laws::law_readable_value;
+pub use phase::Phase;
+pub use rule::Rule;
+pub use verdict::Verdict;

@@ -1,0 +1,36 @@
+//! Laws of the tables, which hold of every scope, entry and place.
+
+ghost use Rattle.std.specs.Prelude.{◌≡◌, ℕ, true, false, Option};
+ghost use Rattle.bbm_regimes.specs.declared.regime.Kind.{Kind};
+ghost use Rattle.bbm_regimes.specs.declared.regime.Kind.TheVariants.{Ttbr0};
+ghost use Rattle.bbm_tlbi_scope.specs.declared.scope.Scope.{Scope};
+ghost use Rattle.bbm_tlbi_scope.specs.declared.entry.EntryHead.{EntryHead};
+ghost use Rattle.bbm_tlbi_scope.specs.declared.entry.EntryKind.TheVariants.{Stage2, Combined};
+ghost use Rattle.bbm_tlbi_scope.specs.declared.entry.PlaceView.{PlaceView};
+ghost use Rattle.bbm_tlbi_scope.specs.declared.entry.Cover.TheVariants.{Half, Second, Full};
+ghost use Rattle.bbm_tlbi_scope.specs.Agreement.{Agrees, read_through, tag_of};
+ghost use Rattle.bbm_tlbi_scope.specs.Covers.{cover_of};
+ghost use Rattle.bbm_tlbi_scope.specs.Tags.{takes_whole_tag};
+ghost use Rattle.bbm_tlbi_scope.specs.Takes.{taken, is_global_leaf};
+
+/// What covers a place takes the entries that were read through it: a full cover takes each of them, the
+/// first half of a stage 2 cover takes the stage 2 entries, and the second half those that combine the
+/// stages. The call does nothing; the law is its contract.
+#[tactic(auto, using(crate::proofs::Agreeing::laws))]
+pub fn law_cover_takes()
+    ensures full { (s : Scope) (vmid : Option ℕ) (e : EntryHead) (v : PlaceView) →
+        Agrees e v → cover_of s vmid v ≡ Full → taken s vmid e ≡ true }
+    ensures half { (s : Scope) (vmid : Option ℕ) (e : EntryHead) (v : PlaceView) →
+        Agrees e v → e.kind ≡ Stage2 → cover_of s vmid v ≡ Half → taken s vmid e ≡ true }
+    ensures second { (s : Scope) (vmid : Option ℕ) (e : EntryHead) (v : PlaceView) →
+        Agrees e v → e.kind ≡ Combined → cover_of s vmid v ≡ Second → taken s vmid e ≡ true }
+{}
+
+/// A TLBI that takes a whole tag takes each entry of the tag, where no entry of the lower range ends in a
+/// leaf for every ASID. The call does nothing; the law is its contract.
+#[tactic(auto, using(crate::proofs::Agreeing::laws))]
+pub fn law_whole_tag_takes()
+    ensures { (s : Scope) (vmid : Option ℕ) (e : EntryHead) (kind : Kind) →
+        read_through e.kind kind ≡ true → (kind ≡ Ttbr0 → is_global_leaf e ≡ false) →
+        takes_whole_tag s vmid (tag_of kind e) ≡ true → taken s vmid e ≡ true }
+{}
