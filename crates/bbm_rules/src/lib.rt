@@ -4,7 +4,6 @@
 pub mod checker;
 pub mod claim;
 pub mod laws;
-pub mod laws;
 pub mod phase;
 pub mod rule;
 pub mod verdict;
