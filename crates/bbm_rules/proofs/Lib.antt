@@ -3,3 +3,4 @@ pub mod CasesEl2
 pub mod CasesStage2
 pub mod CasesKernel
 pub mod ReadableLaw
+pub mod OpenLaw
