@@ -4,3 +4,4 @@ pub mod CasesStage2
 pub mod CasesKernel
 pub mod ReadableLaw
 pub mod OpenLaw
+pub mod TagLaw

@@ -27,11 +27,11 @@ to_contains (y ∷ ys) x (inl e) = (0, suc-le-suc zero-le, e)
 to_contains (y ∷ ys) x (inr i) =
     let c : Contains ys x = to_contains ys x i in (suc c.0, suc-le-suc c.1, c.2)
 
-abbrev tail_of : {A : Type 0} → List A → List A
+abbrev pub tail_of : {A : Type 0} → List A → List A
 tail_of [] = []
 tail_of (x ∷ xs) = xs
 
-abbrev head_of : {A : Type 0} → A → List A → A
+abbrev pub head_of : {A : Type 0} → A → List A → A
 head_of d [] = d
 head_of d (x ∷ xs) = x
 
@@ -133,7 +133,7 @@ module _ (A : Type 0) (event : A → Event) (q : ℕ) where
       at_tlbi x h ts t (pe == q) (ap (completes_for q (event t.tlbi)) is) (λ k. ap (issues q) is ∙ k) i rest
   one_more x h ts t (Dsb pe dsb) is i rest =
       at_dsb x h dsb ts t (pe == q)
-        (λ k. ap (completes_for q (event t.tlbi)) is ∙ or_of (pe == q) (completes dsb (event t.tlbi)) k) i rest
+      (λ k. ap (completes_for q (event t.tlbi)) is ∙ or_of (pe == q) (completes dsb (event t.tlbi)) k) i rest
   one_more x h ts t e is i rest = further x h t (ap (completes_for q (event t.tlbi)) is) (rest i)
 
   sound : (h : List A) (t : Issued A) → In (unanswered event q h) t → Open event q h t
@@ -169,14 +169,14 @@ module _ (A : Type 0) (event : A → Event) (q : ℕ) where
       kept_tlbi t.tlbi t.before (unanswered event q t.before) t (event t.tlbi) issued refl
   complete_from (x ∷ newer) h t split issued none =
       kept_older x (newer ++ t.tlbi ∷ t.before) (unanswered event q (newer ++ t.tlbi ∷ t.before)) t (event x)
-        (none x [] newer refl)
-        (complete_from newer (newer ++ t.tlbi ∷ t.before) t refl issued
-          (λ y after before k. none y (x ∷ after) before (ap (λ es. x ∷ es) k)))
+      (none x [] newer refl)
+      (complete_from newer (newer ++ t.tlbi ∷ t.before) t refl issued
+      (λ y after before k. none y (x ∷ after) before (ap (λ es. x ∷ es) k)))
 
   complete : (h : List A) (t : Issued A) → Open event q h t → In (unanswered event q h) t
   complete h t o =
       subst (λ (es : List A). In (unanswered event q es) t) (sym o.split)
-        (complete_from o.newer h t o.split o.issued o.uncompleted)
+      (complete_from o.newer h t o.split o.issued o.uncompleted)
 
 -- The list and the sentence say the same, of events and of events with notes.
 pub open_sound : (q : ℕ) (h : List Event) (t : Issued Event) → Contains (unanswered itself q h) t → Open itself q h t

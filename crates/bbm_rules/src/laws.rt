@@ -1,11 +1,14 @@
 //! Laws of the definitions: three of them say the same as a sentence over all ways to split a history.
 
 ghost use Rattle.std.specs.Prelude.{◌≡◌, ℕ, true, List, Contains};
+ghost use Rattle.bbm_regimes.specs.declared.regime.Tag.{Tag};
+ghost use Rattle.bbm_events.specs.Heading.{Heading};
 ghost use Rattle.bbm_events.specs.declared.event.Event.{Event};
+ghost use Rattle.bbm_rules.specs.Claims.{Trust};
 ghost use Rattle.bbm_rules.specs.Notes.{Noted, event_of};
 ghost use Rattle.bbm_rules.specs.Reach.{Issued, unanswered};
-ghost use Rattle.bbm_rules.specs.Sentences.{Open, Readable};
-ghost use Rattle.bbm_rules.specs.Tags.{itself};
+ghost use Rattle.bbm_rules.specs.Sentences.{HoldsTag, Open, Readable};
+ghost use Rattle.bbm_rules.specs.Tags.{holds_at, itself};
 ghost use Rattle.bbm_rules.specs.Values.{is_readable};
 
 /// A value of a place is among the readable ones exactly where the place had it at some moment since the
@@ -30,4 +33,14 @@ pub fn law_answered()
         Contains (unanswered event_of q h) t → Open event_of q h t }
     ensures noted_complete { (q : ℕ) (h : List Noted) (t : Issued Noted) →
         Open event_of q h t → Contains (unanswered event_of q h) t }
+{}
+
+/// A tag is among those that a root holds at a PE exactly where it was readable there for the root at some
+/// moment, and no TLBI after that moment takes it away. The call does nothing; the law is its contract.
+#[tactic(auto, using(crate::proofs::TagLaw::laws))]
+pub fn law_tag_held()
+    ensures sound { (heading : Heading) (trust : Trust) (p root : ℕ) (tag : Tag) (h : List Event) →
+        holds_at heading trust p root tag h ≡ true → HoldsTag heading trust p root tag h }
+    ensures complete { (heading : Heading) (trust : Trust) (p root : ℕ) (tag : Tag) (h : List Event) →
+        HoldsTag heading trust p root tag h → holds_at heading trust p root tag h ≡ true }
 {}

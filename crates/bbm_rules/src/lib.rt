@@ -10,7 +10,7 @@ pub mod verdict;
 
 pub use checker::{Checker, StepFault};
 pub use claim::Claim;
-pub use laws::{law_answered, law_readable_value};
+pub use laws::{law_answered, law_readable_value, law_tag_held};
 pub use phase::Phase;
 pub use rule::Rule;
 pub use verdict::Verdict;
