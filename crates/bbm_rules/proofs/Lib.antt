@@ -5,3 +5,4 @@ pub mod CasesKernel
 pub mod ReadableLaw
 pub mod OpenLaw
 pub mod TagLaw
+pub mod NotesLaw

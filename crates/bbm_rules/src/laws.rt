@@ -1,11 +1,13 @@
-//! Laws of the definitions: three of them say the same as a sentence over all ways to split a history.
+//! Laws of the definitions: three of them say the same as a sentence over all ways to split a history, and the annotated
+//! history keeps the events.
 
 ghost use Rattle.std.specs.Prelude.{◌≡◌, ℕ, true, List, Contains};
 ghost use Rattle.bbm_regimes.specs.declared.regime.Tag.{Tag};
 ghost use Rattle.bbm_events.specs.Heading.{Heading};
 ghost use Rattle.bbm_events.specs.declared.event.Event.{Event};
 ghost use Rattle.bbm_rules.specs.Claims.{Trust};
-ghost use Rattle.bbm_rules.specs.Notes.{Noted, event_of};
+ghost use Rattle.bbm_rules.specs.Covers.{noted};
+ghost use Rattle.bbm_rules.specs.Notes.{Noted, event_of, events_of};
 ghost use Rattle.bbm_rules.specs.Reach.{Issued, unanswered};
 ghost use Rattle.bbm_rules.specs.Sentences.{HoldsTag, Open, Readable};
 ghost use Rattle.bbm_rules.specs.Tags.{holds_at, itself};
@@ -43,4 +45,11 @@ pub fn law_tag_held()
         holds_at heading trust p root tag h ≡ true → HoldsTag heading trust p root tag h }
     ensures complete { (heading : Heading) (trust : Trust) (p root : ℕ) (tag : Tag) (h : List Event) →
         HoldsTag heading trust p root tag h → holds_at heading trust p root tag h ≡ true }
+{}
+
+/// The annotated history is the history: with each event its notes, and no other event. The call does
+/// nothing; the law is its contract.
+#[tactic(auto, using(crate::proofs::NotesLaw::events_noted))]
+pub fn law_notes_keep_the_events()
+    ensures { (heading : Heading) (trust : Trust) (h : List Event) → events_of (noted heading trust h) ≡ h }
 {}
