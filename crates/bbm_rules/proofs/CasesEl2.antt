@@ -115,6 +115,61 @@ pub local_flush_on_each_pe_after_shared_publication : judged (hyp 2 1 1 1) (
     ∷ []) ≡ Accepted 11
 local_flush_on_each_pe_after_shared_publication = refl
 
+-- A DSB for stores alone doesn't answer the TLBI.
+pub store_barrier_answers_nothing : judged (hyp 2 1 1 1) (
+    Init 0 0x40000000
+    ∷ Root 0 El2 None 0x40000000
+    ∷ Write 0 0x40000008 0x80000701
+    ∷ Write 0 0x40000008 0x0
+    ∷ Dsb 0 ishst
+    ∷ Tlbi 0 Vae2is 0x40000
+    ∷ Dsb 0 ishst
+    ∷ Write 0 0x40000008 0xc0000701
+    ∷ []) ≡ Refused 9 BreakBeforeMake 0x40000008
+store_barrier_answers_nothing = refl
+
+-- The same block is made again between the issue of the TLBI and its answer.
+pub remake_voids_the_flush : judged (hyp 2 1 1 1) (
+    Init 0 0x40000000
+    ∷ Root 0 El2 None 0x40000000
+    ∷ Write 0 0x40000008 0x80000701
+    ∷ Write 0 0x40000008 0x0
+    ∷ Dsb 0 ishst
+    ∷ Tlbi 0 Vae2is 0x40000
+    ∷ Write 0 0x40000008 0x80000701
+    ∷ Write 0 0x40000008 0x0
+    ∷ Dsb 0 ish
+    ∷ Write 0 0x40000008 0xc0000701
+    ∷ []) ≡ Refused 11 BreakBeforeMake 0x40000008
+remake_voids_the_flush = refl
+
+-- A one-page flush covers the broken block below, but not the table: at its issue the place below still held the block.
+pub broken_child_still_counts : judged (hyp 2 1 1 1) (
+    Init 0 0x40000000
+    ∷ Root 0 El2 None 0x40000000
+    ∷ Init 0 0x40001000
+    ∷ Write 0 0x40000000 0x40001003
+    ∷ Write 0 0x40001000 0x80000701
+    ∷ Write 0 0x40001000 0x0
+    ∷ Write 0 0x40000000 0x0
+    ∷ Dsb 0 ishst
+    ∷ Tlbi 0 Vae2is 0x0
+    ∷ Dsb 0 ish
+    ∷ Init 0 0x40001000
+    ∷ []) ≡ Refused 12 PageInUse 0x40001000
+broken_child_still_counts = refl
+
+-- PE 0 may still use the second root, so the first, which it takes now, is the least one in conflict.
+pub tag_conflict_at_the_new_base : judged (hyp 1 1 1 1) (
+    Init 0 0x40000000
+    ∷ Init 0 0x40001000
+    ∷ Root 0 El2 None 0x40000000
+    ∷ Root 0 El2 None 0x40001000
+    ∷ Msr 0 Ttbr0El2 0x40001000
+    ∷ Msr 0 Ttbr0El2 0x40000000
+    ∷ []) ≡ Refused 7 TagConflict 0x40000000
+tag_conflict_at_the_new_base = refl
+
 -- A block is written in a page whose table above was cleared and not flushed.
 pub valid_write_below_a_broken_table : judged (hyp 2 1 1 1) (
     Init 0 0x40000000

@@ -97,6 +97,23 @@ pub page_still_hanging_is_initialised : judged (hyp 2 1 1 1) (
     ∷ []) ≡ Refused 15 PageInUse 0x40003000
 page_still_hanging_is_initialised = refl
 
+-- The flush comes under VMID 0, and the root holds VMID 5.
+pub flush_under_another_vmid : judged (hyp 1 1 1 1) (
+    Init 0 0x40002000
+    ∷ Root 0 S2 None 0x40002000
+    ∷ Msr 0 VttbrEl2 0x5000040002000
+    ∷ Isb 0
+    ∷ Write 0 0x40002008 0x800007fd
+    ∷ Write 0 0x40002008 0x0
+    ∷ Msr 0 VttbrEl2 0x0
+    ∷ Isb 0
+    ∷ Dsb 0 ishst
+    ∷ Tlbi 0 Vmalls12e1is 0
+    ∷ Dsb 0 ish
+    ∷ Write 0 0x40002008 0xc00007fd
+    ∷ []) ≡ Refused 13 BreakBeforeMake 0x40002008
+flush_under_another_vmid = refl
+
 -- A TLBI scoped by VMID comes between a write of VTTBR_EL2 and its ISB.
 pub vmid_of_the_tlbi_not_synchronised : judged (hyp 2 1 1 1) (
     Init 0 0x40002000

@@ -1,9 +1,16 @@
 -- Three of the definitions once more, as sentences over all ways to split a history. `laws.rt` says that they say the
 -- same. A history is newest first, so in `newer ++ older` the events of `newer` came after those of `older`.
-use Rattle.std.specs.Prelude.{◌≡◌, ℕ, Bool, true, false, List, [], ◌∷◌, ◌++◌}
+use Rattle.std.specs.Prelude.{◌≡◌, ℕ, suc, ◌<◌, ◌≤◌, Bool, true, false, ◌&&◌, ◌==◌, List, [], ◌∷◌, ◌++◌, length}
+use Rattle.bbm_barriers.specs.declared.Dsb.{Dsb as Barrier}
+use Rattle.bbm_regimes.specs.declared.regime.Tag.{Tag}
+use Rattle.bbm_events.specs.Heading.{Heading}
 use Rattle.bbm_events.specs.declared.event.Event.{Event}
-use Rattle.bbm_events.specs.declared.event.Event.TheVariants.{Init, Write}
+use Rattle.bbm_events.specs.declared.event.Event.TheVariants.{Init, Write, Dsb, Tlbi}
+use Rattle.bbm_rules.specs.declared.claim.Claim.TheVariants.{TagTaken}
+use Rattle.bbm_rules.specs.Claims.{Trust, allows}
 use Rattle.bbm_rules.specs.Places.{page_of}
+use Rattle.bbm_rules.specs.Reach.{Issued, completes, reaches}
+use Rattle.bbm_rules.specs.Tags.{itself, reads, reads_for_some, takes_tag}
 use Rattle.bbm_rules.specs.Values.{published, value_of}
 
 -- The value is readable at p: at some moment since the last init of its page the place had it, and no write of the
@@ -16,3 +23,47 @@ pub record Readable (pes : ℕ) (h : List Event) (place p value : ℕ) : Type 0 
   pub no_init : (q : ℕ) (after before : List Event) → newer ≡ after ++ Init q (page_of place) ∷ before → ⊥
   pub unreplaced : (q w : ℕ) (after before : List Event) → newer ≡ after ++ Write q place w ∷ before
       → published pes q p after ≡ false
+
+-- whether the event is a TLBI that q issues, and whether it is a DSB of q that completes the TLBI
+abbrev pub issues : ℕ → Event → Bool
+issues q (Tlbi pe op xt) = pe == q
+issues q _ = false
+
+abbrev pub completes_for : ℕ → Event → Event → Bool
+completes_for q tlbi (Dsb pe dsb) = pe == q && completes dsb tlbi
+completes_for q tlbi _ = false
+
+-- The TLBI is open: q issued it, `before` came before it, and no DSB of q after it completes it. So the first DSB of q
+-- that completes it is the one that finds it open.
+pub record Open {A : Type 0} (event : A → Event) (q : ℕ) (h : List A) (t : Issued A) : Type 0 where
+  pub newer : List A
+  pub split : h ≡ newer ++ t.tlbi ∷ t.before
+  pub issued : issues q (event t.tlbi) ≡ true
+  pub uncompleted : (x : A) (after before : List A) → newer ≡ after ++ x ∷ before
+      → completes_for q (event t.tlbi) (event x) ≡ false
+
+-- The TLBI takes the tag away at p: it reaches p and takes the whole tag; a DSB of its issuer q answers it, the first that
+-- completes it; and at no moment from its issue to its answer is the tag readable at p for any root. The history up to a
+-- moment is the older part of a split; the moments from the issue on are those with more events than came before it.
+pub record TakenAway (heading : Heading) (trust : Trust) (p : ℕ) (tag : Tag) (h : List Event) (t : Issued Event) : Type 0 where
+  pub q : ℕ
+  pub dsb : Barrier
+  pub later : List Event
+  pub earlier : List Event
+  pub split : h ≡ later ++ Dsb q dsb ∷ earlier
+  pub is_open : Open itself q earlier t
+  pub answered : completes dsb t.tlbi ≡ true
+  pub reached : reaches t.tlbi p ≡ true
+  pub whole : takes_tag heading t.tlbi t.before tag ≡ true
+  pub unread : (after moment : List Event) → Dsb q dsb ∷ earlier ≡ after ++ moment → length t.before < length moment
+      → reads_for_some heading moment p tag ≡ false
+  pub allowed : allows trust (TagTaken tag p (suc (length t.before)) (suc (length earlier))) ≡ true
+
+-- The root holds the tag at p: at some moment it was readable at p for the root, and no TLBI after that moment takes it
+-- away.
+pub record HoldsTag (heading : Heading) (trust : Trust) (p root : ℕ) (tag : Tag) (h : List Event) : Type 0 where
+  pub newer : List Event
+  pub older : List Event
+  pub split : h ≡ newer ++ older
+  pub read : reads heading older p tag root ≡ true
+  pub not_taken : (t : Issued Event) → TakenAway heading trust p tag h t → length older ≤ length t.before → ⊥

@@ -10,7 +10,20 @@ pub mod verdict;
 
 pub use checker::{Checker, StepFault};
 pub use claim::Claim;
-pub use laws::law_readable_value;
+pub use laws::{law_answered, law_notes_keep_the_events, law_readable_value, law_tag_held};
 pub use phase::Phase;
 pub use rule::Rule;
 pub use verdict::Verdict;
+
+#[cfg(test)]
+mod tests {
+    use crate::laws::{law_answered, law_notes_keep_the_events, law_readable_value, law_tag_held};
+
+    #[test]
+    fn laws_hold() {
+        law_answered();
+        law_notes_keep_the_events();
+        law_readable_value();
+        law_tag_held();
+    }
+}
