@@ -115,11 +115,11 @@ module _ (base : ℕ) (is : IsBase base) where
   text n = digits base false n
 
   -- the digits of n, from its first digit on
-  text_small : (n : ℕ) → n < base → text n ≡ glyph n ∷ []
+  pub text_small : (n : ℕ) → n < base → text n ≡ glyph n ∷ []
   unfolding digits
   text_small n h = spell_last 63 n [] h
 
-  text_more : (n : ℕ) → base ≤ n → n < 2 ^ 64 → text n ≡ text (n / base) ++ (glyph (n % base) ∷ [])
+  pub text_more : (n : ℕ) → base ≤ n → n < 2 ^ 64 → text n ≡ text (n / base) ++ (glyph (n % base) ∷ [])
   unfolding digits
   text_more n h bound =
       spell_next 63 n [] h ∙ spell_enough 62 63 (n / base) (glyph (n % base) ∷ []) (is.half n (2 ^ 63) (omega arith)) (omega (arith, is.half n (2 ^ 63) (omega arith)))

@@ -22,3 +22,5 @@ pub use write::{write_event, write_header};
 
 #[cfg(test)]
 mod tests;
+#[cfg(test)]
+mod write_tests;
