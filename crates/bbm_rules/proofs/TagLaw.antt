@@ -12,7 +12,7 @@ use Rattle.bbm_events.specs.Heading.{Heading}
 use Rattle.bbm_events.specs.declared.event.Event.{Event}
 use Rattle.bbm_events.specs.declared.event.Event.TheVariants.{Dsb}
 use Rattle.bbm_rules.proofs.OpenLaw.{In, from_contains, to_contains, head_of, tail_of, open_sound, open_complete}
-use Rattle.bbm_rules.specs.declared.claim.Claim.TheVariants.{TagTaken}
+use Rattle.bbm_rules.specs.declared.claim.Claim.TheVariants.{Taken}
 use Rattle.bbm_rules.specs.Claims.{Trust, allows, same_tag}
 use Rattle.bbm_rules.specs.Reach.{Issued, completes, reaches, unanswered}
 use Rattle.bbm_rules.specs.Sentences.{HoldsTag, Open, TakenAway}
@@ -170,19 +170,19 @@ module _ (heading : Heading) (trust : Trust) (p : ℕ) (tag : Tag) where
     reached : reaches t.tlbi p ≡ true
     whole : takes_tag heading t.tlbi t.before tag ≡ true
     unread : unread_after heading (length t.before) p tag (Dsb q dsb ∷ h) ≡ true
-    allowed : allows trust (TagTaken tag p (suc (length t.before)) (suc (length h))) ≡ true
+    allowed : allows trust (Taken p tag (suc (length t.before)) (suc (length h))) ≡ true
 
   parts : (q : ℕ) (dsb : Barrier) (h : List Event) (t : Issued Event)
       → (completes dsb t.tlbi && reaches t.tlbi p && takes_tag heading t.tlbi t.before tag
       && unread_after heading (length t.before) p tag (Dsb q dsb ∷ h)
-      && allows trust (TagTaken tag p (suc (length t.before)) (suc (length h)))) ≡ true
+      && allows trust (Taken p tag (suc (length t.before)) (suc (length h)))) ≡ true
       → Takes q dsb h t
   parts q dsb h t k =
       let c = completes dsb t.tlbi in
       let r = reaches t.tlbi p in
       let w = takes_tag heading t.tlbi t.before tag in
       let u = unread_after heading (length t.before) p tag (Dsb q dsb ∷ h) in
-      let a = allows trust (TagTaken tag p (suc (length t.before)) (suc (length h))) in
+      let a = allows trust (Taken p tag (suc (length t.before)) (suc (length h))) in
       let k4 = and_parts (((c && r) && w) && u) a k in
       let k3 = and_parts ((c && r) && w) u k4.0 in
       let k2 = and_parts (c && r) w k3.0 in
@@ -196,7 +196,7 @@ module _ (heading : Heading) (trust : Trust) (p : ℕ) (tag : Tag) where
       elim (or_cases
       (completes dsb t.tlbi && reaches t.tlbi p && takes_tag heading t.tlbi t.before tag
       && unread_after heading (length t.before) p tag (Dsb q dsb ∷ h)
-      && allows trust (TagTaken tag p (suc (length t.before)) (suc (length h))))
+      && allows trust (Taken p tag (suc (length t.before)) (suc (length h))))
       (taken_with heading trust p tag (Dsb q dsb) h ts) k) [
         | inl here ↦ (t, inl refl, parts q dsb h t here)
         | inr there ↦ let r = taken_sound q dsb h ts there in (r.0, inr r.1, r.2)
@@ -205,13 +205,13 @@ module _ (heading : Heading) (trust : Trust) (p : ℕ) (tag : Tag) where
   joined : (q : ℕ) (dsb : Barrier) (h : List Event) (t : Issued Event) → Takes q dsb h t
       → (completes dsb t.tlbi && reaches t.tlbi p && takes_tag heading t.tlbi t.before tag
       && unread_after heading (length t.before) p tag (Dsb q dsb ∷ h)
-      && allows trust (TagTaken tag p (suc (length t.before)) (suc (length h)))) ≡ true
+      && allows trust (Taken p tag (suc (length t.before)) (suc (length h)))) ≡ true
   joined q dsb h t k =
       let c = completes dsb t.tlbi in
       let r = reaches t.tlbi p in
       let w = takes_tag heading t.tlbi t.before tag in
       let u = unread_after heading (length t.before) p tag (Dsb q dsb ∷ h) in
-      let a = allows trust (TagTaken tag p (suc (length t.before)) (suc (length h))) in
+      let a = allows trust (Taken p tag (suc (length t.before)) (suc (length h))) in
       and_from (((c && r) && w) && u) a (and_from ((c && r) && w) u (and_from (c && r) w (and_from c r k.answered k.reached) k.whole) k.unread) k.allowed
 
   taken_complete : (q : ℕ) (dsb : Barrier) (h : List Event) (ts : List (Issued Event)) (t : Issued Event)
@@ -220,13 +220,13 @@ module _ (heading : Heading) (trust : Trust) (p : ℕ) (tag : Tag) where
   taken_complete q dsb h (u ∷ ts) t (inl same) k =
       or_left (completes dsb u.tlbi && reaches u.tlbi p && takes_tag heading u.tlbi u.before tag
       && unread_after heading (length u.before) p tag (Dsb q dsb ∷ h)
-      && allows trust (TagTaken tag p (suc (length u.before)) (suc (length h))))
+      && allows trust (Taken p tag (suc (length u.before)) (suc (length h))))
       (taken_with heading trust p tag (Dsb q dsb) h ts)
       (joined q dsb h u (subst (λ (v : Issued Event). Takes q dsb h v) (sym same) k))
   taken_complete q dsb h (u ∷ ts) t (inr i) k =
       or_right (completes dsb u.tlbi && reaches u.tlbi p && takes_tag heading u.tlbi u.before tag
       && unread_after heading (length u.before) p tag (Dsb q dsb ∷ h)
-      && allows trust (TagTaken tag p (suc (length u.before)) (suc (length h))))
+      && allows trust (Taken p tag (suc (length u.before)) (suc (length h))))
       (taken_with heading trust p tag (Dsb q dsb) h ts)
       (taken_complete q dsb h ts t i k)
 
