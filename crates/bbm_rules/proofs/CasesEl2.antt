@@ -170,6 +170,19 @@ pub tag_conflict_at_the_new_base : judged (hyp 1 1 1 1) (
     ∷ []) ≡ Refused 7 TagConflict 0x40000000
 tag_conflict_at_the_new_base = refl
 
+-- PE 1 never flushes.
+pub local_flush_on_one_pe : judged (hyp 2 1 1 1) (
+    Init 0 0x40000000
+    ∷ Root 0 El2 None 0x40000000
+    ∷ Write 0 0x40000008 0x80000701
+    ∷ Write 0 0x40000008 0x0
+    ∷ Dsb 0 ishst
+    ∷ Tlbi 0 Alle2 0
+    ∷ Dsb 0 nsh
+    ∷ Write 0 0x40000008 0xc0000701
+    ∷ []) ≡ Refused 9 BreakBeforeMake 0x40000008
+local_flush_on_one_pe = refl
+
 -- A block is written in a page whose table above was cleared and not flushed.
 pub valid_write_below_a_broken_table : judged (hyp 2 1 1 1) (
     Init 0 0x40000000

@@ -6,3 +6,4 @@ pub mod ReadableLaw
 pub mod OpenLaw
 pub mod TagLaw
 pub mod NotesLaw
+pub mod CasesClaims

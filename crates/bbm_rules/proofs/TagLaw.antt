@@ -1,8 +1,7 @@
 -- The tags that a root holds at a PE are those that the sentence names.
-use Rattle.std.proofs.Common.{◌≡◌, ℕ, zero, suc, ◌+◌, ◌<◌, ◌≤◌, Bool, true, false, cond, not, ◌&&◌, ◌||◌, ◌⊎◌, ◌==◌, nat_le, List, [], ◌∷◌, ◌++◌, length, Contains, refl, sym, ◌∙◌, ap, subst, inl, inr, arith, true≢false, length-append, Option, Some, None}
-use Rattle.std.proofs.lemmas.Bool.{eqb-true, eq-eqb, or_cases, or_left, or_right, and_parts, and_from, le-leb, leb-true, leb-false, not_from_false}
+use Rattle.std.proofs.Common.{◌≡◌, ℕ, suc, ◌+◌, ◌<◌, ◌≤◌, Bool, true, false, cond, not, ◌&&◌, ◌||◌, ◌⊎◌, ◌==◌, nat_le, List, [], ◌∷◌, ◌++◌, length, refl, sym, ◌∙◌, ap, subst, inl, inr, arith, true≢false, length-append}
+use Rattle.std.proofs.lemmas.Bool.{eqb-true, eq-eqb, or_cases, or_left, or_right, and_parts, and_from, leb-true, leb-false, not_from_false}
 use Rattle.bbm_barriers.specs.declared.Dsb.{Dsb as Barrier}
-use Rattle.bbm_regimes.specs.declared.regime.AsidFrom.{AsidFrom}
 use Rattle.bbm_regimes.specs.declared.regime.AsidFrom.TheVariants.{Ttbr0 as FromTtbr0, Ttbr1 as FromTtbr1}
 use Rattle.bbm_regimes.specs.declared.regime.Tag.{Tag}
 use Rattle.bbm_regimes.specs.declared.regime.Tag.TheVariants.{El2, Vmid, Asid, Ttbr1}
@@ -12,11 +11,11 @@ use Rattle.bbm_events.specs.Heading.{Heading}
 use Rattle.bbm_events.specs.declared.event.Event.{Event}
 use Rattle.bbm_events.specs.declared.event.Event.TheVariants.{Dsb}
 use Rattle.bbm_rules.proofs.OpenLaw.{In, from_contains, to_contains, head_of, tail_of, open_sound, open_complete}
-use Rattle.bbm_rules.specs.declared.claim.Claim.TheVariants.{TagTaken}
+use Rattle.bbm_rules.specs.declared.claim.Claim.TheVariants.{Taken}
 use Rattle.bbm_rules.specs.Claims.{Trust, allows, same_tag}
 use Rattle.bbm_rules.specs.Reach.{Issued, completes, reaches, unanswered}
 use Rattle.bbm_rules.specs.Sentences.{HoldsTag, Open, TakenAway}
-use Rattle.bbm_rules.specs.Tags.{Reading, has_reading, has_tag, holds_at, itself, kept, loses, readings, readings_in, reads, reads_for_some, tag_among, tags_at, tags_for, taken_with, takes_tag, unread_after, with_tag, with_tags}
+use Rattle.bbm_rules.specs.Tags.{Reading, has_reading, has_tag, holds_at, itself, kept, loses, readings, readings_in, reads, reads_for_some, tag_among, tags_at, tags_for, taken_with, takes_tag, unread_after, with_tags}
 
 -- ---- tags
 
@@ -170,19 +169,19 @@ module _ (heading : Heading) (trust : Trust) (p : ℕ) (tag : Tag) where
     reached : reaches t.tlbi p ≡ true
     whole : takes_tag heading t.tlbi t.before tag ≡ true
     unread : unread_after heading (length t.before) p tag (Dsb q dsb ∷ h) ≡ true
-    allowed : allows trust (TagTaken tag p (suc (length t.before)) (suc (length h))) ≡ true
+    allowed : allows trust (Taken p tag (suc (length t.before)) (suc (length h))) ≡ true
 
   parts : (q : ℕ) (dsb : Barrier) (h : List Event) (t : Issued Event)
       → (completes dsb t.tlbi && reaches t.tlbi p && takes_tag heading t.tlbi t.before tag
       && unread_after heading (length t.before) p tag (Dsb q dsb ∷ h)
-      && allows trust (TagTaken tag p (suc (length t.before)) (suc (length h)))) ≡ true
+      && allows trust (Taken p tag (suc (length t.before)) (suc (length h)))) ≡ true
       → Takes q dsb h t
   parts q dsb h t k =
       let c = completes dsb t.tlbi in
       let r = reaches t.tlbi p in
       let w = takes_tag heading t.tlbi t.before tag in
       let u = unread_after heading (length t.before) p tag (Dsb q dsb ∷ h) in
-      let a = allows trust (TagTaken tag p (suc (length t.before)) (suc (length h))) in
+      let a = allows trust (Taken p tag (suc (length t.before)) (suc (length h))) in
       let k4 = and_parts (((c && r) && w) && u) a k in
       let k3 = and_parts ((c && r) && w) u k4.0 in
       let k2 = and_parts (c && r) w k3.0 in
@@ -196,7 +195,7 @@ module _ (heading : Heading) (trust : Trust) (p : ℕ) (tag : Tag) where
       elim (or_cases
       (completes dsb t.tlbi && reaches t.tlbi p && takes_tag heading t.tlbi t.before tag
       && unread_after heading (length t.before) p tag (Dsb q dsb ∷ h)
-      && allows trust (TagTaken tag p (suc (length t.before)) (suc (length h))))
+      && allows trust (Taken p tag (suc (length t.before)) (suc (length h))))
       (taken_with heading trust p tag (Dsb q dsb) h ts) k) [
         | inl here ↦ (t, inl refl, parts q dsb h t here)
         | inr there ↦ let r = taken_sound q dsb h ts there in (r.0, inr r.1, r.2)
@@ -205,13 +204,13 @@ module _ (heading : Heading) (trust : Trust) (p : ℕ) (tag : Tag) where
   joined : (q : ℕ) (dsb : Barrier) (h : List Event) (t : Issued Event) → Takes q dsb h t
       → (completes dsb t.tlbi && reaches t.tlbi p && takes_tag heading t.tlbi t.before tag
       && unread_after heading (length t.before) p tag (Dsb q dsb ∷ h)
-      && allows trust (TagTaken tag p (suc (length t.before)) (suc (length h)))) ≡ true
+      && allows trust (Taken p tag (suc (length t.before)) (suc (length h)))) ≡ true
   joined q dsb h t k =
       let c = completes dsb t.tlbi in
       let r = reaches t.tlbi p in
       let w = takes_tag heading t.tlbi t.before tag in
       let u = unread_after heading (length t.before) p tag (Dsb q dsb ∷ h) in
-      let a = allows trust (TagTaken tag p (suc (length t.before)) (suc (length h))) in
+      let a = allows trust (Taken p tag (suc (length t.before)) (suc (length h))) in
       and_from (((c && r) && w) && u) a (and_from ((c && r) && w) u (and_from (c && r) w (and_from c r k.answered k.reached) k.whole) k.unread) k.allowed
 
   taken_complete : (q : ℕ) (dsb : Barrier) (h : List Event) (ts : List (Issued Event)) (t : Issued Event)
@@ -220,13 +219,13 @@ module _ (heading : Heading) (trust : Trust) (p : ℕ) (tag : Tag) where
   taken_complete q dsb h (u ∷ ts) t (inl same) k =
       or_left (completes dsb u.tlbi && reaches u.tlbi p && takes_tag heading u.tlbi u.before tag
       && unread_after heading (length u.before) p tag (Dsb q dsb ∷ h)
-      && allows trust (TagTaken tag p (suc (length u.before)) (suc (length h))))
+      && allows trust (Taken p tag (suc (length u.before)) (suc (length h))))
       (taken_with heading trust p tag (Dsb q dsb) h ts)
       (joined q dsb h u (subst (λ (v : Issued Event). Takes q dsb h v) (sym same) k))
   taken_complete q dsb h (u ∷ ts) t (inr i) k =
       or_right (completes dsb u.tlbi && reaches u.tlbi p && takes_tag heading u.tlbi u.before tag
       && unread_after heading (length u.before) p tag (Dsb q dsb ∷ h)
-      && allows trust (TagTaken tag p (suc (length u.before)) (suc (length h))))
+      && allows trust (Taken p tag (suc (length u.before)) (suc (length h))))
       (taken_with heading trust p tag (Dsb q dsb) h ts)
       (taken_complete q dsb h ts t i k)
 

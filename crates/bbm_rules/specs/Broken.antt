@@ -1,5 +1,5 @@
 -- The least rule that an event breaks, and the logs that keep the rules.
-use Rattle.std.specs.Prelude.{ℕ, suc, Bool, true, false, ◌&&◌, List, [], ◌∷◌, length, Option, Some, None, is_none}
+use Rattle.std.specs.Prelude.{ℕ, suc, Bool, true, ◌&&◌, List, [], ◌∷◌, length, Option, Some, None, is_none}
 use Rattle.bbm_events.specs.Heading.{Heading}
 use Rattle.bbm_events.specs.declared.event.Event.{Event}
 use Rattle.bbm_rules.specs.declared.rule.Rule.{Rule}

@@ -1,9 +1,9 @@
 -- What the rules trust: every pattern of events that is there, or the patterns that a certificate names.
-use Rattle.std.specs.Prelude.{ℕ, Bool, true, false, ◌&&◌, ◌||◌, ◌==◌, List, [], ◌∷◌}
+use Rattle.std.specs.Prelude.{Bool, true, false, ◌&&◌, ◌||◌, ◌==◌, List, [], ◌∷◌}
 use Rattle.bbm_regimes.specs.declared.regime.Tag.{Tag}
 use Rattle.bbm_regimes.specs.declared.regime.Tag.TheVariants.{El2, Vmid, Asid, Ttbr1}
 use Rattle.bbm_rules.specs.declared.claim.Claim.{Claim}
-use Rattle.bbm_rules.specs.declared.claim.Claim.TheVariants.{OneStep, TwoStep, TagTaken}
+use Rattle.bbm_rules.specs.declared.claim.Claim.TheVariants.{Place, Two, Taken}
 
 -- whether two tags are the same
 abbrev pub same_tag : Tag → Tag → Bool
@@ -15,10 +15,10 @@ same_tag _ _ = false
 
 -- whether two claims are the same
 abbrev pub same_claim : Claim → Claim → Bool
-same_claim (OneStep a p b t d) (OneStep a' p' b' t' d') = a == a' && p == p' && b == b' && t == t' && d == d'
-same_claim (TwoStep a p b t1 d1 t2 d2) (TwoStep a' p' b' t1' d1' t2' d2') =
-    a == a' && p == p' && b == b' && t1 == t1' && d1 == d1' && t2 == t2' && d2 == d2'
-same_claim (TagTaken g p t d) (TagTaken g' p' t' d') = same_tag g g' && p == p' && t == t' && d == d'
+same_claim (Place p a b t d) (Place p' a' b' t' d') = p == p' && a == a' && b == b' && t == t' && d == d'
+same_claim (Two p a b t1 d1 t2 d2) (Two p' a' b' t1' d1' t2' d2') =
+    p == p' && a == a' && b == b' && t1 == t1' && d1 == d1' && t2 == t2' && d2 == d2'
+same_claim (Taken p g t d) (Taken p' g' t' d') = p == p' && same_tag g g' && t == t' && d == d'
 same_claim _ _ = false
 
 -- Under `Patterns` a place is cleansed, and a tag taken away, by every pattern of events that the definitions ask

@@ -1,6 +1,5 @@
 -- How far a TLBI covers each place at its issue, and the history annotated with it.
-use Rattle.std.specs.Prelude.{ℕ, suc, Bool, true, false, List, [], ◌∷◌, length, Option, Some, None, is_some, Result, Ok, Err}
-use Rattle.bbm_regimes.specs.declared.regime.Kind.{Kind}
+use Rattle.std.specs.Prelude.{ℕ, suc, Bool, false, List, [], ◌∷◌, length, Option, Some, None, is_some, Result, Ok, Err}
 use Rattle.bbm_descriptor.specs.Descriptor.{desc_of}
 use Rattle.bbm_descriptor.specs.declared.desc.Desc.{Desc}
 use Rattle.bbm_descriptor.specs.declared.desc.Desc.TheVariants.{Leaf}

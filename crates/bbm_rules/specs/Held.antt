@@ -1,5 +1,5 @@
 -- What a place holds: the value that some TLB may still keep, or that the place has.
-use Rattle.std.specs.Prelude.{ℕ, Bool, true, false, ◌&&◌, ◌==◌, List, [], ◌∷◌, Option, Some, None, if◌then◌else◌}
+use Rattle.std.specs.Prelude.{ℕ, Bool, ◌&&◌, ◌==◌, List, [], ◌∷◌, Option, Some, None, if◌then◌else◌}
 use Rattle.bbm_regimes.specs.declared.regime.Kind.{Kind}
 use Rattle.bbm_descriptor.specs.Descriptor.{is_valid}
 use Rattle.bbm_events.specs.Heading.{Heading}
@@ -34,7 +34,7 @@ last_valid kind level place (n ∷ h) = last_valid_after kind level place n.even
 
 -- whether a place is cleansed at every PE of the header
 abbrev pub cleansed_everywhere : Heading → Trust → ℕ → List Noted → Bool
-cleansed_everywhere heading trust place since = every_pe heading.pes (λ p. cleansed trust heading.pes place p since)
+cleansed_everywhere heading trust place since = every_pe heading.pes (λ p. cleansed heading trust place p since)
 
 -- Held: the last valid value of the place since the last init of its page, unless the place is cleansed at every PE.
 -- Source: Arm ARM (DDI 0487), "Using break-before-make when updating translation table entries".

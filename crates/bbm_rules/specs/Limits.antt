@@ -1,5 +1,5 @@
 -- The limits that a history reaches. The limits on bytes, events, steps and lines are those of the reader.
-use Rattle.std.specs.Prelude.{ℕ, Bool, true, false, ◌&&◌, not, nat_le, List, length, Option, Some, None, if◌then◌else◌}
+use Rattle.std.specs.Prelude.{Bool, true, false, ◌&&◌, not, nat_le, List, length, Option, Some, None}
 use Rattle.bbm_regimes.specs.declared.regime.Which.{Which}
 use Rattle.bbm_regimes.specs.declared.regime.Which.TheVariants.{Pages, Roots, Values}
 use Rattle.bbm_events.specs.declared.event.Event.{Event}

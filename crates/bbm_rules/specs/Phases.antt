@@ -1,5 +1,5 @@
 -- How far a place has been taken through break-before-make at a PE.
-use Rattle.std.specs.Prelude.{ℕ, Bool, true, false, List, Option, Some, None, if◌then◌else◌}
+use Rattle.std.specs.Prelude.{ℕ, List, Option, Some, None, if◌then◌else◌}
 use Rattle.bbm_descriptor.specs.Descriptor.{is_valid}
 use Rattle.bbm_events.specs.Heading.{Heading}
 use Rattle.bbm_events.specs.declared.event.Event.{Event}
@@ -17,9 +17,9 @@ use Rattle.bbm_rules.specs.Values.{value_of}
 -- the phase of a broken place: the furthest that it has come
 abbrev pub broken_phase : Heading → Trust → ℕ → ℕ → List Noted → Phase
 broken_phase heading trust place p since =
-    if cleansed trust heading.pes place p since then Cleansed
-    else (if half heading.pes place p since then Half
-    else (if seen heading.pes place p since then Seen
+    if cleansed heading trust place p since then Cleansed
+    else (if half heading place p since then Half
+    else (if seen heading place p since then Seen
     else Broken))
 
 abbrev pub phase_since : Heading → Trust → List Noted → Node → ℕ → ℕ → Option ValidWrite → Phase

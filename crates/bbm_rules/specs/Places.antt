@@ -19,11 +19,6 @@ among n (m ∷ ms) = m == n || among n ms
 abbrev pub with_number : ℕ → List ℕ → List ℕ
 with_number n ms = if among n ms then ms else n ∷ ms
 
--- the list without the number
-abbrev pub without_number : ℕ → List ℕ → List ℕ
-without_number n [] = []
-without_number n (m ∷ ms) = if m == n then without_number n ms else m ∷ without_number n ms
-
 -- the numbers that stand in the list more than once
 abbrev pub repeated : List ℕ → List ℕ
 repeated [] = []

@@ -9,7 +9,6 @@ use Rattle.bbm_regimes.specs.declared.regime.World.TheVariants.{Hyp, Kernel}
 use Rattle.bbm_events.specs.Heading.{Heading}
 use Rattle.bbm_events.specs.declared.event.Event.{Event}
 use Rattle.bbm_events.specs.declared.event.Event.TheVariants.{Isb, Msr}
-use Rattle.bbm_rules.specs.Places.{among}
 
 -- whether two registers are the same
 abbrev pub same_reg : Reg → Reg → Bool

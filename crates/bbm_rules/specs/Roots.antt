@@ -1,6 +1,6 @@
 -- Roots of translation tables. A history is the list of the events taken so far, the newest first.
-use Rattle.std.specs.Prelude.{ℕ, zero, suc, ◌+◌, ◌-◌, ◌*◌, ◌/◌, ◌^◌, Bool, true, false, ◌||◌, ◌&&◌, not, ◌==◌, List, [], ◌∷◌, Option, Some, None, find, filter, is_some, if◌then◌else◌}
-use Rattle.bbm_regimes.specs.Extent.{Extent, span_of}
+use Rattle.std.specs.Prelude.{ℕ, zero, suc, ◌+◌, ◌-◌, ◌*◌, ◌/◌, ◌^◌, Bool, true, false, ◌==◌, List, [], ◌∷◌, Option, Some, None, find, if◌then◌else◌}
+use Rattle.bbm_regimes.specs.Extent.{span_of}
 use Rattle.bbm_regimes.specs.declared.regime.Kind.{Kind}
 use Rattle.bbm_regimes.specs.declared.regime.Kind.TheVariants.{El2, S2, Ttbr0, Ttbr1}
 use Rattle.bbm_regimes.specs.declared.regime.World.{World}

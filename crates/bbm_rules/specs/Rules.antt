@@ -18,12 +18,12 @@ use Rattle.bbm_events.specs.Heading.{Heading}
 use Rattle.bbm_events.specs.declared.event.Event.{Event}
 use Rattle.bbm_events.specs.declared.event.Event.TheVariants.{Init, Null, Root, Unroot, Write, Tlbi, Msr, Lock, Unlock}
 use Rattle.bbm_rules.specs.Attach.{Attached, End, all_ends, attached_by, pages_of}
-use Rattle.bbm_rules.specs.Claims.{Trust, same_tag}
+use Rattle.bbm_rules.specs.Claims.{Trust}
 use Rattle.bbm_rules.specs.Covers.{is_global}
 use Rattle.bbm_rules.specs.Locks.{holder_of}
 use Rattle.bbm_rules.specs.Notes.{Noted, events_of}
 use Rattle.bbm_rules.specs.Pages.{is_fresh, is_null}
-use Rattle.bbm_rules.specs.Places.{among, if_so, is_that, least, page_of, repeated, some_pe}
+use Rattle.bbm_rules.specs.Places.{if_so, is_that, least, page_of, repeated, some_pe}
 use Rattle.bbm_rules.specs.Registers.{base_of, kind_of_reg, one_number, register_values, vmids}
 use Rattle.bbm_rules.specs.Roots.{Declared, is_root, kind_in_world, lock_of, root_at, root_pages, roots_of, same_kind}
 use Rattle.bbm_rules.specs.Tags.{Reading, holds_tag, readings, tags_of}
@@ -199,9 +199,6 @@ no_root h _ = None
 -- Source: project's own choice, after Arm ARM (DDI 0487), "Translation Lookaside Buffers".
 abbrev pub is_other_holder : Heading → Trust → List Event → Reading → Declared → Bool
 is_other_holder heading trust h reading r = not (r.page == reading.root) && holds_tag heading trust r.page reading.tag h
-
-abbrev pub page_of_root : Declared → ℕ
-page_of_root r = r.page
 
 abbrev pub conflicts_with : Heading → Trust → List Event → List Declared → Reading → List ℕ
 conflicts_with heading trust h [] reading = []

@@ -1,12 +1,12 @@
 -- Three of the definitions once more, as sentences over all ways to split a history. `laws.rt` says that they say the
 -- same. A history is newest first, so in `newer ++ older` the events of `newer` came after those of `older`.
-use Rattle.std.specs.Prelude.{◌≡◌, ℕ, suc, ◌<◌, ◌≤◌, Bool, true, false, ◌&&◌, ◌==◌, List, [], ◌∷◌, ◌++◌, length}
+use Rattle.std.specs.Prelude.{◌≡◌, ℕ, suc, ◌<◌, ◌≤◌, Bool, true, false, ◌&&◌, ◌==◌, List, ◌∷◌, ◌++◌, length}
 use Rattle.bbm_barriers.specs.declared.Dsb.{Dsb as Barrier}
 use Rattle.bbm_regimes.specs.declared.regime.Tag.{Tag}
 use Rattle.bbm_events.specs.Heading.{Heading}
 use Rattle.bbm_events.specs.declared.event.Event.{Event}
 use Rattle.bbm_events.specs.declared.event.Event.TheVariants.{Init, Write, Dsb, Tlbi}
-use Rattle.bbm_rules.specs.declared.claim.Claim.TheVariants.{TagTaken}
+use Rattle.bbm_rules.specs.declared.claim.Claim.TheVariants.{Taken}
 use Rattle.bbm_rules.specs.Claims.{Trust, allows}
 use Rattle.bbm_rules.specs.Places.{page_of}
 use Rattle.bbm_rules.specs.Reach.{Issued, completes, reaches}
@@ -15,14 +15,14 @@ use Rattle.bbm_rules.specs.Values.{published, value_of}
 
 -- The value is readable at p: at some moment since the last init of its page the place had it, and no write of the
 -- place after that moment is published to p.
-pub record Readable (pes : ℕ) (h : List Event) (place p value : ℕ) : Type 0 where
+pub record Readable (heading : Heading) (h : List Event) (place p value : ℕ) : Type 0 where
   pub newer : List Event
   pub older : List Event
   pub split : h ≡ newer ++ older
   pub had : value_of older place ≡ value
   pub no_init : (q : ℕ) (after before : List Event) → newer ≡ after ++ Init q (page_of place) ∷ before → ⊥
   pub unreplaced : (q w : ℕ) (after before : List Event) → newer ≡ after ++ Write q place w ∷ before
-      → published pes q p after ≡ false
+      → published heading q p after ≡ false
 
 -- whether the event is a TLBI that q issues, and whether it is a DSB of q that completes the TLBI
 abbrev pub issues : ℕ → Event → Bool
@@ -57,7 +57,7 @@ pub record TakenAway (heading : Heading) (trust : Trust) (p : ℕ) (tag : Tag) (
   pub whole : takes_tag heading t.tlbi t.before tag ≡ true
   pub unread : (after moment : List Event) → Dsb q dsb ∷ earlier ≡ after ++ moment → length t.before < length moment
       → reads_for_some heading moment p tag ≡ false
-  pub allowed : allows trust (TagTaken tag p (suc (length t.before)) (suc (length earlier))) ≡ true
+  pub allowed : allows trust (Taken p tag (suc (length t.before)) (suc (length earlier))) ≡ true
 
 -- The root holds the tag at p: at some moment it was readable at p for the root, and no TLBI after that moment takes it
 -- away.

@@ -18,7 +18,7 @@ use Rattle.bbm_tlbi_scope.specs.Tags.{takes_whole_tag}
 use Rattle.bbm_events.specs.Heading.{Heading}
 use Rattle.bbm_events.specs.declared.event.Event.{Event}
 use Rattle.bbm_events.specs.declared.event.Event.TheVariants.{Dsb, Tlbi}
-use Rattle.bbm_rules.specs.declared.claim.Claim.TheVariants.{TagTaken}
+use Rattle.bbm_rules.specs.declared.claim.Claim.TheVariants.{Taken}
 use Rattle.bbm_rules.specs.Claims.{Trust, allows, same_tag}
 use Rattle.bbm_rules.specs.Reach.{Issued, completes, reaches, unanswered}
 use Rattle.bbm_rules.specs.Registers.{base_of, number_of, register_values, vmid_of}
@@ -114,7 +114,7 @@ taken_with heading trust p tag (Dsb q dsb) h [] = false
 taken_with heading trust p tag (Dsb q dsb) h (t ∷ ts) =
     (completes dsb t.tlbi && reaches t.tlbi p && takes_tag heading t.tlbi t.before tag
     && unread_after heading (length t.before) p tag (Dsb q dsb ∷ h)
-    && allows trust (TagTaken tag p (suc (length t.before)) (suc (length h))))
+    && allows trust (Taken p tag (suc (length t.before)) (suc (length h))))
     || taken_with heading trust p tag (Dsb q dsb) h ts
 taken_with heading trust p tag _ h ts = false
 

@@ -11,7 +11,7 @@ use Rattle.bbm_events.specs.declared.event.Event.{Event}
 use Rattle.bbm_rules.specs.Claims.{Trust}
 use Rattle.bbm_rules.specs.Held.{held}
 use Rattle.bbm_rules.specs.Notes.{Noted, events_of}
-use Rattle.bbm_rules.specs.Places.{page_of, index_of}
+use Rattle.bbm_rules.specs.Places.{index_of}
 use Rattle.bbm_rules.specs.Roots.{Declared, first_input_page, input_pages, root_pages, roots_of, start_of}
 use Rattle.bbm_rules.specs.Values.{places_in, value_of}
 

@@ -18,10 +18,10 @@ ghost use Rattle.bbm_rules.specs.Values.{is_readable};
 /// the law is its contract.
 #[tactic(auto, using(crate::proofs::ReadableLaw::laws))]
 pub fn law_readable_value()
-    ensures sound { (pes : ℕ) (h : List Event) (place p value : ℕ) →
-        is_readable pes h place p value ≡ true → Readable pes h place p value }
-    ensures complete { (pes : ℕ) (h : List Event) (place p value : ℕ) →
-        Readable pes h place p value → is_readable pes h place p value ≡ true }
+    ensures sound { (heading : Heading) (h : List Event) (place p value : ℕ) →
+        is_readable heading h place p value ≡ true → Readable heading h place p value }
+    ensures complete { (heading : Heading) (h : List Event) (place p value : ℕ) →
+        Readable heading h place p value → is_readable heading h place p value ≡ true }
 {}
 
 /// A TLBI is among the unanswered ones of a PE exactly where the PE issued it and no DSB of it since
