@@ -2,8 +2,8 @@
 use Rattle.std.specs.Prelude.{◌≡◌, List, Option, Some, None, Result, Ok, Err}
 use Rattle.bbm_events.specs.declared.event.Event.{Event}
 use Rattle.bbm_events.specs.Heading.{Heading}
-use Rattle.bbm_rules.specs.declared.checker.StepFault.{StepFault}
-use Rattle.bbm_rules.specs.declared.checker.StepFault.TheVariants.{Broken}
+use Rattle.bbm_rules.specs.declared.step_fault.StepFault.{StepFault}
+use Rattle.bbm_rules.specs.declared.step_fault.StepFault.TheVariants.{Broken}
 use Rattle.bbm_rules.specs.FirstPath.{Breach}
 
 -- a header, and the events taken, the newest first

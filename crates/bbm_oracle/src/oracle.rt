@@ -4,7 +4,7 @@ ghost use Rattle.std.specs.Prelude.{◌≡◌, ℕ, ◌&&◌, List, [], ◌∷�
 ghost use Rattle.bbm_events.specs.declared.event.Event.{Event};
 ghost use Rattle.bbm_regimes.specs.declared.regime.Kind.{Kind as TableKind};
 ghost use Rattle.bbm_events.specs.Heading.{Heading};
-ghost use Rattle.bbm_rules.specs.Answers.{Answers};
+ghost use Rattle.bbm_rules.specs.FirstPathAnswers.{Answers};
 ghost use Rattle.bbm_rules.specs.FirstPath.{broken, is_built, is_built_value, is_inner, is_all, is_alle2is, is_el2};
 ghost use Rattle.bbm_oracle.specs.Taken.{StandsFor, answer_to};
 
@@ -13,7 +13,7 @@ use bbm_barriers::{Domain, Dsb, Types};
 use bbm_descriptor::needs_bbm;
 use bbm_events::{Event, Header};
 use bbm_regimes::{Kind, NoMemory, Page, Place};
-use bbm_rules::{Checker, Rule, StepFault};
+use bbm_rules::{FirstPathChecker, Rule, StepFault};
 use bbm_tlbi_scope::TlbiOp;
 use std::alloc::Global;
 use std::marker::Model;
@@ -134,7 +134,7 @@ impl Oracle {
 }
 
 #[tactic(auto, unfolding(bbm_rules::specs::FirstPath::is_built))]
-impl Checker for Oracle {
+impl FirstPathChecker for Oracle {
     ghost stands = { StandsFor };
 
     fn judges(&self, event: &Event) -> bool {

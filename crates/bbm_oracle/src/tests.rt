@@ -4,7 +4,7 @@ use crate::Oracle;
 use bbm_barriers::{Domain, Dsb, Types};
 use bbm_events::{Event, Header};
 use bbm_regimes::{Kind, Page, Pe, Place, World};
-use bbm_rules::{Checker, Rule, StepFault};
+use bbm_rules::{FirstPathChecker, Rule, StepFault};
 use bbm_tlbi_scope::TlbiOp;
 use std::alloc::Global;
 

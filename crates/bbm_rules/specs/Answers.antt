@@ -1,13 +1,44 @@
--- What a checker's answer to an event means.
-use Rattle.std.specs.Prelude.{◌≡◌, ℕ, Option, Some, None, Result, Ok, Err}
-use Rattle.bbm_rules.specs.declared.checker.StepFault.{StepFault}
-use Rattle.bbm_rules.specs.declared.checker.StepFault.TheVariants.{Broken, Limit, NoMemory}
-use Rattle.bbm_rules.specs.FirstPath.{Breach}
+-- What a checker's answer to an event means, and where it takes no memory.
+use Rattle.std.specs.Prelude.{◌≡◌, ℕ, Bool, true, false, ◌&&◌, ◌||◌, ◌==◌, List, [], ◌∷◌, Option, Some, None, is_none, Result, Ok, Err, if◌then◌else◌}
+use Rattle.bbm_regimes.specs.declared.regime.Which.{Which}
+use Rattle.bbm_events.specs.Heading.{Heading}
+use Rattle.bbm_events.specs.declared.event.Event.{Event}
+use Rattle.bbm_events.specs.declared.event.Event.TheVariants.{Init, Write, Dsb, Dmb, Isb, Lock, Unlock}
+use Rattle.bbm_rules.specs.declared.step_fault.StepFault.{StepFault}
+use Rattle.bbm_rules.specs.declared.step_fault.StepFault.TheVariants.{Broken, Limit, NoMemory}
+use Rattle.bbm_rules.specs.Attach.{attached_by}
+use Rattle.bbm_rules.specs.Broken.{Breach}
+use Rattle.bbm_rules.specs.Claims.{Patterns}
+use Rattle.bbm_rules.specs.Covers.{noted}
+use Rattle.bbm_rules.specs.Places.{page_of}
 
--- Given the least broken rule with its place, or none: the event is taken where none is broken, and
--- refused with exactly that rule and place. Want of memory may come in the place of either.
-abbrev pub Answers : Result (Unit {0}) StepFault → Option Breach → Type 0
-Answers (Ok _) breach = breach ≡ None
-Answers (Err (Broken rule at)) breach = breach ≡ Some (record { rule = rule; at = at })
-Answers (Err (Limit which)) breach = ⊥
-Answers (Err NoMemory) breach = Unit {0}
+-- Given the least broken rule with its number, or none, and the limit that the event reaches, or none: the event is
+-- taken where there is neither; a broken rule is named before a limit. Want of memory may come in the place of any.
+abbrev pub Answers : Result (Unit {0}) StepFault → Option Breach → Option Which → Type 0
+Answers (Ok _) breach limit = (breach ≡ None) × (limit ≡ None)
+Answers (Err (Broken rule at)) breach limit = breach ≡ Some (record { rule = rule; at = at })
+Answers (Err (Limit which)) breach limit = (breach ≡ None) × (limit ≡ Some which)
+Answers (Err NoMemory) breach limit = Unit {0}
+
+-- The events for which a frugal checker takes no memory. Source: project's own choice.
+abbrev pub takes_no_memory : Event → Bool
+takes_no_memory (Dsb pe dsb) = true
+takes_no_memory (Dmb pe dsb) = true
+takes_no_memory (Isb pe) = true
+takes_no_memory (Lock pe lock) = true
+takes_no_memory (Unlock pe lock) = true
+takes_no_memory _ = false
+
+-- whether the place was written since the last init of its page
+abbrev pub is_written : List Event → ℕ → Bool
+is_written [] place = false
+is_written (Write pe at value ∷ h) place = at == place || is_written h place
+is_written (Init pe page ∷ h) place = if page == page_of place then false else is_written h place
+is_written (_ ∷ h) place = is_written h place
+
+-- Whether the event is a write that attaches nothing, at a place that was written since the last init of its page. Room
+-- for the place stands already. Source: project's own choice.
+abbrev pub rewrites : Heading → List Event → Event → Bool
+rewrites heading h (Write pe place value) =
+    is_written h place && is_none (attached_by heading Patterns (noted heading Patterns h) (Write pe place value))
+rewrites heading h _ = false

@@ -5,6 +5,7 @@ pub mod Claims
 pub mod Cleansing
 pub mod Covers
 pub mod FirstPath
+pub mod FirstPathAnswers
 pub mod Held
 pub mod Limits
 pub mod Locks
@@ -17,8 +18,8 @@ pub mod Reach
 pub mod Registers
 pub mod Roots
 pub mod Rules
+pub mod Sentences
 pub mod Tags
 pub mod Texts
 pub mod Tree
 pub mod Values
-pub mod Sentences

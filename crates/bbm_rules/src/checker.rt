@@ -1,53 +1,59 @@
 //! What every checker of events promises.
 
-ghost use Rattle.std.specs.Prelude.{◌≡◌, ℕ, List, ◌∷◌, ◌<◌, ◌^◌, length, IsTrue, OnOk, OnErr};
+ghost use Rattle.std.specs.Prelude.{◌≡◌, ◌≢◌, ℕ, List, ◌∷◌, ◌<◌, ◌-◌, ◌^◌, Bool, true, length, OnOk, OnErr, Err};
 ghost use Rattle.bbm_events.specs.declared.event.Event.{Event};
+ghost use Rattle.bbm_events.specs.Fits.{fits_heading};
 ghost use Rattle.bbm_events.specs.Heading.{Heading};
-ghost use Rattle.bbm_rules.specs.Answers.{Answers};
-ghost use Rattle.bbm_rules.specs.FirstPath.{broken, is_built};
+ghost use Rattle.bbm_rules.specs.Answers.{Answers, takes_no_memory, rewrites};
+ghost use Rattle.bbm_rules.specs.Broken.{broken};
+ghost use Rattle.bbm_rules.specs.Claims.{Patterns};
+ghost use Rattle.bbm_rules.specs.Limits.{limit_of};
+ghost use Rattle.bbm_rules.specs.Phases.{phase_of};
 
-use crate::rule::Rule;
+use crate::phase::Phase;
+use crate::step_fault::StepFault;
 use bbm_events::Event;
-use bbm_regimes::Which;
+use bbm_regimes::{Pe, Place};
 use std::alloc::Global;
-use thiserror::Error;
 
-/// Why a checker didn't take an event.
-#[derive(Clone, Copy, Debug, PartialEq, Eq, Error)]
-pub enum StepFault {
-    /// The event breaks this rule, the least that it breaks, at this address or number.
-    #[error("broken rule")]
-    Broken(Rule, u64),
-    /// The event keeps the rules and would pass this limit.
-    #[error("limit")]
-    Limit(Which),
-    /// There was no memory.
-    #[error("no memory")]
-    NoMemory,
-}
-
-/// A checker takes the events of a log one by one. It stands for a history, newest event first, of a
-/// header.
+/// A checker takes the events of a log one by one. It stands for a history of a header, the newest event
+/// first, and judges by the rules over all patterns of events. Source: project's own choice.
 pub trait Checker {
     /// The checker stands for this history of this header.
     ghost stands: { Self → Heading → List Event → Type 0 };
 
-    /// Whether this version judges the event after the events taken so far.
-    fn judges(&self, event: &Event) -> bool
-        ensures { (heading : Heading) (h : List Event) → stands self.now heading h
-            → result ≡ is_built heading h event.now };
+    /// Whether `step` takes memory only where it needs new room.
+    ghost frugal: { Self → Bool };
 
-    /// Takes an event that the checker judges. Ok exactly where the event keeps the rules and passes no limit, and
-    /// there is memory; then the checker stands for the history with the event. After any other answer
-    /// it is as before: `Broken` exactly where the event breaks a rule, with the least; `NoMemory` where
-    /// there was none.
+    /// Takes an event that fits the header, after fewer than 2^64 - 1 events. Ok exactly where the event
+    /// breaks no rule and reaches no limit, and there is memory; then the checker stands for the history
+    /// with the event. After any other answer it is as before: `Broken` with the least rule that the event
+    /// breaks and the number that the rule names; `Limit` with the limit of pages, roots or values that an
+    /// event which keeps the rules reaches; `NoMemory`, in the place of any answer.
     fn step(&mut self, alloc: Global, event: Event) -> Result<(), StepFault>
+        requires fits { (heading : Heading) (h : List Event) → stands self.old heading h
+            → fits_heading heading event ≡ true }
+        requires room { (heading : Heading) (h : List Event) → stands self.old heading h
+            → length h < 2 ^ 64 - 1 }
         ensures judged { (heading : Heading) (h : List Event) → stands self.old heading h
-            → IsTrue (is_built heading h event) → Answers result (broken heading h event) }
+            → Answers result (broken heading Patterns h event) (limit_of h event) }
         ensures taken { OnOk result ((heading : Heading) (h : List Event) → stands self.old heading h
             → stands self.new heading (event ∷ h)) }
         ensures unchanged { OnErr result ((heading : Heading) (h : List Event)
-            → stands self.old heading h → stands self.new heading h) };
+            → stands self.old heading h → stands self.new heading h) }
+        ensures frugal_barriers { frugal self.old ≡ true → takes_no_memory event ≡ true
+            → result ≢ Err StepFault.NoMemory }
+        ensures frugal_writes { (heading : Heading) (h : List Event) → stands self.old heading h
+            → frugal self.old ≡ true → rewrites heading h event ≡ true
+            → result ≢ Err StepFault.NoMemory }
+        ensures stays_frugal { frugal self.new ≡ frugal self.old };
+
+    /// How far the place has been taken through break-before-make at a PE of the header: `Clean` where it
+    /// is in no tree or holds nothing.
+    fn phase(&self, place: Place, pe: Pe) -> Phase
+        requires { (heading : Heading) (h : List Event) → stands self.now heading h → pe < heading.pes }
+        ensures { (heading : Heading) (h : List Event) → stands self.now heading h
+            → result ≡ phase_of heading Patterns h place pe };
 
     /// The number of events taken.
     fn events(&self) -> u64

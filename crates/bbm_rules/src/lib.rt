@@ -3,16 +3,20 @@
 
 pub mod checker;
 pub mod claim;
+pub mod first_path;
 pub mod laws;
 pub mod phase;
 pub mod rule;
+pub mod step_fault;
 pub mod verdict;
 
-pub use checker::{Checker, StepFault};
+pub use checker::Checker;
 pub use claim::Claim;
+pub use first_path::FirstPathChecker;
 pub use laws::{law_answered, law_notes_keep_the_events, law_readable_value, law_tag_held};
 pub use phase::Phase;
 pub use rule::Rule;
+pub use step_fault::StepFault;
 pub use verdict::Verdict;
 
 #[cfg(test)]

@@ -2,7 +2,7 @@
 
 ghost use Rattle.std.specs.Prelude.{◌≡◌, ◌+◌, ◌≤◌, ℕ, List, [], Option, OnOk, IfOk, Err, length};
 ghost use Rattle.bbm_events.specs.declared.event.Event.{Event};
-ghost use Rattle.bbm_rules.specs.Answers.{Answers};
+ghost use Rattle.bbm_rules.specs.FirstPathAnswers.{Answers};
 ghost use Rattle.bbm_rules.specs.FirstPath.{Breach, is_built_heading};
 ghost use Rattle.bbm_rules.specs.Outcome.{check_limits, AtHeader, AtEvents, after_header, after_event, after_item};
 ghost use Rattle.bbm_oracle.specs.Taken.{StandsFor};
@@ -15,7 +15,7 @@ use bbm_io::{Lines, Source};
 use bbm_log_grammar::{read_event, read_header};
 use bbm_oracle::Oracle;
 use bbm_regimes::{Which, World};
-use bbm_rules::{Checker, StepFault, Verdict};
+use bbm_rules::{FirstPathChecker, StepFault, Verdict};
 use std::alloc::Global;
 
 /// The most events of a log. Source: project's own choice.
