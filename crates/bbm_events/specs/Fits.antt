@@ -6,12 +6,12 @@ use Rattle.bbm_regimes.specs.declared.regime.World.TheVariants.{Hyp}
 use Rattle.bbm_regimes.specs.declared.regime.Kind.{Kind}
 use Rattle.bbm_regimes.specs.declared.regime.Kind.TheVariants.{S2}
 use Rattle.bbm_tlbi_scope.specs.declared.op.TlbiOp.{TlbiOp}
+use Rattle.bbm_tlbi_scope.specs.Operations.{has_operand}
 use Rattle.bbm_events.specs.declared.event.Event.{Event}
 use Rattle.bbm_events.specs.declared.event.Event.TheVariants.{Init, Null, Root, Unroot, Write, Dsb, Dmb, Isb, Tlbi, Msr, Lock, Unlock}
 use Rattle.bbm_events.specs.declared.event.Item.{Item}
 use Rattle.bbm_events.specs.declared.event.Item.TheVariants as item
 use Rattle.bbm_events.specs.Heading.{Heading}
-use Rattle.bbm_events.specs.Words.{has_operand}
 
 -- The address of a page, and of a descriptor.
 -- Source: Arm ARM (DDI 0487), "VMSAv8-64 descriptor formats", the 4 KiB granule with 48-bit addresses.

@@ -1,3 +1,4 @@
+pub mod Causes
 pub mod Fits
 pub mod Heading
 pub mod Lines

@@ -9,6 +9,7 @@ use Rattle.bbm_regimes.specs.declared.regime.Kind.{Kind}
 use Rattle.bbm_regimes.specs.declared.regime.Reg.{Reg}
 use Rattle.bbm_barriers.specs.declared.Dsb.{Dsb}
 use Rattle.bbm_tlbi_scope.specs.declared.op.TlbiOp.{TlbiOp}
+use Rattle.bbm_tlbi_scope.specs.Operations.{has_operand}
 use Rattle.bbm_events.specs.declared.event.Event.{Event}
 use Rattle.bbm_events.specs.declared.event.Event.TheVariants as event
 use Rattle.bbm_events.specs.declared.event.Item.{Item}
@@ -19,7 +20,7 @@ use Rattle.bbm_events.specs.declared.malformed.Malformed.{Malformed}
 use Rattle.bbm_events.specs.declared.malformed.Malformed.TheVariants.{NoMagic, BadHeader, UnknownWord, BadNumber, BadPe, BadAddress, MissingField, ExtraField}
 use Rattle.bbm_events.specs.Heading.{Heading, heading_ok}
 use Rattle.bbm_events.specs.Spelling.{fields, joined, hex, decimal_value, hex_value}
-use Rattle.bbm_events.specs.Words.{value_of, keyword_word, keywords, kind_word, kinds, reg_word, regs, asid_from_word, asid_froms, dsb_word, dsbs, op_word, ops, has_operand}
+use Rattle.bbm_events.specs.Words.{value_of, keyword_word, keywords, kind_word, kinds, reg_word, regs, asid_from_word, asid_froms, dsb_word, dsbs, op_word, ops}
 use Rattle.bbm_events.specs.Fits.{is_pe, is_page, is_place, is_root_page, is_lock, is_count}
 
 -- The first cause ends the reading of a line.
@@ -215,10 +216,14 @@ line_after h first.Lock = pe_and h lock_field event.Lock
 line_after h first.Unlock = pe_and h lock_field event.Unlock
 line_after h first.End = end_line
 
+-- the first word of a line; a line always has a first field, if an empty one
+abbrev pub keyword_field : Fields → Reading Keyword
+keyword_field = line_field UnknownWord (value_of keyword_word keywords)
+
 -- A line after the header.
 unfoldable pub item_of : Heading → List ℕ → Result Item Malformed
 item_of h line = do
-  word ← line_field UnknownWord (value_of keyword_word keywords) (fields line)
+  word ← keyword_field (fields line)
   line_after h word.0 word.1
 
 -- The other direction: the fields of a header and of an item, with a space between two of them.

@@ -1,5 +1,5 @@
 -- The words of a log, each kind of word as one table from a value to its word, and one list of its values.
-use Rattle.std.specs.Prelude.{ℕ, List, [], ◌∷◌, Bool, true, false, Option, codes, bytes_eq}
+use Rattle.std.specs.Prelude.{ℕ, List, [], ◌∷◌, Option, codes, bytes_eq}
 use Rattle.std.specs.List.{find}
 use Rattle.bbm_regimes.specs.declared.regime.Kind.{Kind}
 use Rattle.bbm_regimes.specs.declared.regime.Kind.TheVariants.{El2, S2, Ttbr0, Ttbr1}
@@ -127,17 +127,3 @@ ops =
     Alle2 ∷ Alle2is ∷ Vae2 ∷ Vae2is ∷ Vale2 ∷ Vale2is ∷ Alle1 ∷ Alle1is ∷ Vmalle1 ∷ Vmalle1is ∷ Vmalls12e1 ∷ Vmalls12e1is
     ∷ Ipas2e1 ∷ Ipas2e1is ∷ Ipas2le1 ∷ Ipas2le1is ∷ Vae1 ∷ Vae1is ∷ Vale1 ∷ Vale1is ∷ Vaae1 ∷ Vaae1is ∷ Vaale1 ∷ Vaale1is
     ∷ Aside1 ∷ Aside1is ∷ []
-
--- Whether the operation takes an operand: those for a whole regime or a whole VMID take none, and those
--- for an address or an ASID take one.
--- Source: Arm ARM (DDI 0487), "TLB maintenance instructions".
-abbrev pub has_operand : TlbiOp → Bool
-has_operand Alle2 = false
-has_operand Alle2is = false
-has_operand Alle1 = false
-has_operand Alle1is = false
-has_operand Vmalle1 = false
-has_operand Vmalle1is = false
-has_operand Vmalls12e1 = false
-has_operand Vmalls12e1is = false
-has_operand _ = true

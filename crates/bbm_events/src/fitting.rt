@@ -3,27 +3,13 @@
 ghost use Rattle.std.specs.Prelude.{◌≡◌, ◌<◌};
 ghost use Rattle.bbm_events.specs.Fits as spec;
 ghost use Rattle.bbm_events.specs.Fits.{fits_heading, is_pe};
-ghost use Rattle.bbm_events.specs.Words as words;
 
 use crate::event::Event;
 use crate::header::Header;
 use bbm_regimes::{Kind, Page, Pe, Place, World};
-use bbm_tlbi_scope::TlbiOp;
 
 /// Locks have numbers below 1,024. Source: project's own choice.
 const LOCKS: u16 = 1024;
-
-/// Whether the operation takes an operand: those for an address or an ASID take one, and those for a
-/// whole regime or a whole VMID take none. Source: Arm ARM (DDI 0487), "TLB maintenance instructions".
-pub fn has_operand(op: TlbiOp) -> bool
-    ensures { result ≡ words.has_operand op }
-{
-    match op {
-        TlbiOp::Alle2 | TlbiOp::Alle2is | TlbiOp::Alle1 | TlbiOp::Alle1is => false,
-        TlbiOp::Vmalle1 | TlbiOp::Vmalle1is | TlbiOp::Vmalls12e1 | TlbiOp::Vmalls12e1is => false,
-        _ => true,
-    }
-}
 
 /// The number of consecutive pages of a root of this kind, 1 to 16.
 pub fn root_pages(world: World, kind: Kind) -> u8
@@ -94,7 +80,7 @@ pub fn fits(header: &Header, event: Event) -> bool
         Event::Dsb { pe, dsb: _ } => has_pe(header, pe),
         Event::Dmb { pe, dsb: _ } => has_pe(header, pe),
         Event::Isb { pe } => has_pe(header, pe),
-        Event::Tlbi { pe, op, xt } => has_pe(header, pe) && (has_operand(op) || xt == 0),
+        Event::Tlbi { pe, op, xt } => has_pe(header, pe) && (op.has_operand() || xt == 0),
         Event::Msr {
             pe,
             reg: _,

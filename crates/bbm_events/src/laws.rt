@@ -1,8 +1,9 @@
 //! What the grammar promises of each line.
 
-ghost use Rattle.std.specs.Prelude.{◌≡◌, ℕ, List, true, Ok};
+ghost use Rattle.std.specs.Prelude.{◌≡◌, ℕ, List, true, Ok, IfErr};
 ghost use Rattle.bbm_events.specs.declared.event.Item.{Item};
 ghost use Rattle.bbm_events.specs.Heading.{Heading, heading_ok};
+ghost use Rattle.bbm_events.specs.Causes.{IsHeaderCause, IsLineCause};
 ghost use Rattle.bbm_events.specs.Fits.{item_fits};
 ghost use Rattle.bbm_events.specs.Lines.{header_of, item_of};
 
@@ -16,4 +17,16 @@ pub fn law_header_in_range()
 #[tactic(auto, using(crate::proofs::Readings::item_of_fits))]
 pub fn law_item_fits()
     ensures { (heading : Heading) (line : List ℕ) (item : Item) → item_of heading line ≡ Ok item → item_fits heading item ≡ true }
+{}
+
+/// A line that spells no header has a cause of line 1.
+#[tactic(auto, using(crate::proofs::Causes::header_of_causes))]
+pub fn law_header_causes()
+    ensures { (line : List ℕ) → IfErr (header_of line) IsHeaderCause }
+{}
+
+/// A line that spells no item has a cause of a line after the header.
+#[tactic(auto, using(crate::proofs::Causes::item_of_causes))]
+pub fn law_item_causes()
+    ensures { (heading : Heading) (line : List ℕ) → IfErr (item_of heading line) IsLineCause }
 {}

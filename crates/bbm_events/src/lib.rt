@@ -9,8 +9,11 @@ pub mod laws;
 pub mod malformed;
 
 pub use event::{Event, Item};
-pub use fitting::{fits, has_operand, root_pages};
+pub use fitting::{fits, root_pages};
 pub use header::Header;
 pub use keyword::Keyword;
-pub use laws::{law_header_in_range, law_item_fits};
+pub use laws::{law_header_causes, law_header_in_range, law_item_causes, law_item_fits};
 pub use malformed::Malformed;
+
+#[cfg(test)]
+mod tests;

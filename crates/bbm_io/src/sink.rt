@@ -33,8 +33,10 @@ pub trait Sink {
 pub struct CleanSink;
 
 impl CleanSink {
-    /// A sink that has taken nothing.
-    pub fn new() -> CleanSink {
+    /// A sink that has taken nothing. Its count of faults is 0.
+    pub fn new() -> CleanSink
+        ensures { ⟦<CleanSink as Sink>⟧.faults result ≡ 0 }
+    {
         CleanSink
     }
 }

@@ -1,10 +1,10 @@
 -- The digits that a number is written with are those that lead back to it, read one by one.
-use Rattle.std.proofs.Common.{◌≡◌, ◌≢◌, ◌-◌, length, take, drop, get_or, ℕ, zero, suc, ◌+◌, ◌*◌, ◌/◌, ◌%◌, ◌^◌, ◌<◌, ◌≤◌, List, [], ◌∷◌, ◌++◌, Bool, true, false, not, ◌&&◌, cond, nat_lt, nat_eq, ◌==◌, ◌⊎◌, inl, inr, refl, ap, sym, ◌∙◌, subst, Option, Some, None, arith}
+use Rattle.std.proofs.Common.{◌≡◌, ◌≢◌, ◌-◌, length, take, drop, get_or, ℕ, zero, suc, ◌+◌, ◌*◌, ◌/◌, ◌%◌, ◌^◌, ◌<◌, ◌≤◌, List, [], ◌∷◌, ◌++◌, Bool, true, false, ◌&&◌, cond, nat_lt, ◌==◌, inl, inr, refl, ap, sym, ◌∙◌, subst, Option, Some, None, arith}
 use Rattle.std.specs.Fmt.{digit_glyph, digits_onto, digits}
 use Rattle.std.specs.Char.{digit_value}
 use Rattle.std.specs.Str.Parse.{digits_value, digits_value_after}
 use Rattle.std.proofs.lemmas.Str.{digit_value-digit_char}
-use Rattle.std.proofs.lemmas.Bool.{cases_lt, ltb-true, ltb-false, lt-ltb, le-ltb}
+use Rattle.std.proofs.lemmas.Bool.{cases_lt, ltb-true, ltb-false, lt-ltb}
 use Rattle.std.proofs.lemmas.Bool.Decides.{eqb_tells, nat_tests}
 use Rattle.std.proofs.lemmas.List.{append_assoc, append-nil, take_all}
 use Rattle.std.proofs.Math.Nat.{pow-suc}
@@ -115,11 +115,11 @@ module _ (base : ℕ) (is : IsBase base) where
   text n = digits base false n
 
   -- the digits of n, from its first digit on
-  text_small : (n : ℕ) → n < base → text n ≡ glyph n ∷ []
+  pub text_small : (n : ℕ) → n < base → text n ≡ glyph n ∷ []
   unfolding digits
   text_small n h = spell_last 63 n [] h
 
-  text_more : (n : ℕ) → base ≤ n → n < 2 ^ 64 → text n ≡ text (n / base) ++ (glyph (n % base) ∷ [])
+  pub text_more : (n : ℕ) → base ≤ n → n < 2 ^ 64 → text n ≡ text (n / base) ++ (glyph (n % base) ∷ [])
   unfolding digits
   text_more n h bound =
       spell_next 63 n [] h ∙ spell_enough 62 63 (n / base) (glyph (n % base) ∷ []) (is.half n (2 ^ 63) (omega arith)) (omega (arith, is.half n (2 ^ 63) (omega arith)))

@@ -1,7 +1,8 @@
 //! The fields of a line.
 
-ghost use Rattle.std.specs.Prelude.{◌≡◌, ℕ, [], ◌∷◌, ◌==◌, MatchOption, MatchResult};
+ghost use Rattle.std.specs.Prelude.{◌≡◌, ℕ, [], ◌∷◌, ◌==◌, MatchOption, MatchResult, slice_get};
 ghost use Rattle.std.specs.List.{position};
+ghost use Rattle.std.specs.Option.{option_copied};
 ghost use Rattle.bbm_events.specs.Spelling.{fields};
 
 use bbm_events::Malformed;
@@ -61,4 +62,14 @@ impl<'a> Fields<'a> {
     {
         self.next().ok_or(absent)
     }
+}
+
+/// The field of a line with this number, counted from 0: the pieces of the line between its single
+/// spaces. None exactly where the line has no field of that number. Two spaces in a row, or a space at
+/// an end, make an empty field, and a line of no bytes is one empty field. Source: project's own
+/// choice.
+pub fn field(line: &[u8], i: u8) -> Option<&[u8]>
+    ensures { option_copied result ≡ slice_get (fields line.now) i }
+{
+    line.split(|byte| *byte == b' ').nth(i as usize)
 }

@@ -1,13 +1,26 @@
 //! Reads and writes the lines of a log by its grammar.
 #![tactic(auto)]
 
+mod events;
 mod fields;
-pub mod numbers;
+mod headers;
+pub mod laws;
+mod numbers;
 mod readers;
 pub mod spell;
-mod tables;
 mod values;
 mod words;
 pub mod write;
 
+pub use events::read_event;
+pub use fields::field;
+pub use headers::read_header;
+pub use laws::{law_one_line, law_written_is_read};
+pub use numbers::{read_decimal, read_hex};
 pub use spell::{add, add_decimal, add_hex};
+pub use write::{write_event, write_header};
+
+#[cfg(test)]
+mod tests;
+#[cfg(test)]
+mod write_tests;

@@ -8,7 +8,7 @@ use crate::numbers::read_hex;
 use crate::values::{count_of, lock_of, page_of, pe_of, place_of, root_lock_of, root_page_of};
 use crate::words::{dsb_of, kind_of, op_of, reg_of};
 use bbm_barriers::Dsb;
-use bbm_events::{Header, Item, Malformed, has_operand};
+use bbm_events::{Header, Item, Malformed};
 use bbm_regimes::{Kind, Page, Pe, Place, Reg};
 use bbm_tlbi_scope::TlbiOp;
 
@@ -136,7 +136,7 @@ pub(crate) fn operand_field<'a>(
 ) -> Result<(u64, Fields<'a>), Malformed>
     ensures { result ≡ lines.operand_field op fields.entry }
 {
-    if has_operand(op) {
+    if op.has_operand() {
         value_field(fields)
     } else {
         Ok((0, fields))

@@ -1,19 +1,19 @@
 //! The one line of a header, and of an item.
 
-ghost use Rattle.std.specs.Prelude.{◌≡◌, ◌+◌, ◌≤◌, true, ◌++◌, ◌∷◌, [], length, decimal};
+ghost use Rattle.std.specs.Prelude.{◌≡◌, ◌+◌, ◌≤◌, true, Ok, ◌++◌, ◌∷◌, [], length, decimal};
 ghost use Rattle.arrayvec.specs.ArrayVec.{array_vec_len};
 ghost use Rattle.bbm_events.specs.declared.event.Event.TheVariants as event;
 ghost use Rattle.bbm_events.specs.Spelling.{hex, joined};
 ghost use Rattle.bbm_events.specs.Words as words;
-ghost use Rattle.bbm_events.specs.Fits.{fits_heading, item_fits};
-ghost use Rattle.bbm_events.specs.Lines.{header_line, item_line, lock_text, event_fields};
+ghost use Rattle.bbm_events.specs.Fits.{item_fits};
+ghost use Rattle.bbm_events.specs.Lines.{header_of, item_of, header_line, item_line, lock_text, event_fields};
 ghost use Rattle.bbm_regimes.specs.declared.regime.World.TheVariants.{Hyp, Kernel};
 
 use crate::spell::{add, add_decimal, add_hex};
-use crate::tables::{asid_from_word, dsb_word, kind_word, op_word, reg_word};
+use crate::words::{asid_from_word, dsb_word, kind_word, op_word, reg_word};
 use arrayvec::ArrayVec;
 use bbm_barriers::Dsb;
-use bbm_events::{Event, Header, Item, has_operand};
+use bbm_events::{Event, Header, Item};
 use bbm_regimes::{AsidFrom, Kind, Page, Pe, Place, Reg, World};
 use bbm_tlbi_scope::TlbiOp;
 
@@ -122,7 +122,7 @@ fn tlbi_line(out: &mut ArrayVec<u8, 200>, pe: Pe, op: TlbiOp, xt: u64)
 {
     begin(out, b"tlbi", pe);
     add_word_field(out, op_word(op));
-    if has_operand(op) {
+    if op.has_operand() {
         add_hex_field(out, xt);
     }
 }
@@ -148,6 +148,7 @@ fn lock_line(out: &mut ArrayVec<u8, 200>, word: &[u8], pe: Pe, lock: u16)
     add_decimal_field(out, lock as u64);
 }
 
+/// The line of an event.
 fn event_line(out: &mut ArrayVec<u8, 200>, event: Event)
     requires empty { out.old.items ≡ [] }
     ensures { out.new.items ≡ joined (event_fields event) }
@@ -173,7 +174,7 @@ fn event_line(out: &mut ArrayVec<u8, 200>, event: Event)
     }
 }
 
-/// The line of a header, as the last four fields are decimals.
+/// `bbmlog 1 hyp PES EL2START S2START S2PAGES`
 #[tactic(auto, unfolding(bbm_events::specs::Lines::header_line))]
 fn hyp_line(out: &mut ArrayVec<u8, 200>, pes: u8, el2_start: u8, s2_start: u8, s2_pages: u8)
     requires empty { out.old.items ≡ [] }
@@ -186,6 +187,7 @@ fn hyp_line(out: &mut ArrayVec<u8, 200>, pes: u8, el2_start: u8, s2_start: u8, s
     add_decimal_field(out, s2_pages as u64);
 }
 
+/// `bbmlog 1 kernel PES START0 START1 ASIDFROM`
 #[tactic(auto, unfolding(bbm_events::specs::Lines::header_line), using(crate::proofs::Short::asid_from_word_short))]
 fn kernel_line(out: &mut ArrayVec<u8, 200>, pes: u8, start0: u8, start1: u8, asid_from: AsidFrom)
     requires empty { out.old.items ≡ [] }
@@ -198,11 +200,13 @@ fn kernel_line(out: &mut ArrayVec<u8, 200>, pes: u8, start0: u8, start1: u8, asi
     add_word_field(out, asid_from_word(asid_from));
 }
 
-/// Writes line 1 of a log with this header, without its newline, into an empty buffer. The line is the
-/// one that `read_header` reads as this header. Source: project's own choice.
+/// Writes line 1 of a log with this header, without its newline, into an empty buffer. Reading the line
+/// gives the header again. Source: project's own choice.
+#[tactic(auto, using(crate::proofs::Written::header_written_is_read))]
 pub fn write_header(header: &Header, out: &mut ArrayVec<u8, 200>)
     requires empty { out.old.items ≡ [] }
-    ensures { out.new.items ≡ header_line header.now }
+    ensures line { out.new.items ≡ header_line header.now }
+    ensures read_again { header_of out.new.items ≡ Ok header.now }
 {
     match header.world {
         World::Hyp {
@@ -218,13 +222,10 @@ pub fn write_header(header: &Header, out: &mut ArrayVec<u8, 200>)
     }
 }
 
-/// Writes the line of an event, or the last line with its count, without its newline, into an empty
-/// buffer. The item has to fit the header. The line is the one that `read_event` reads as this item.
-/// Source: project's own choice.
+/// The line of an item, whatever the header.
 #[tactic(auto, unfolding(bbm_events::specs::Lines::item_line))]
-pub fn write_event(_header: &Header, item: Item, out: &mut ArrayVec<u8, 200>)
+fn any_line(item: Item, out: &mut ArrayVec<u8, 200>)
     requires empty { out.old.items ≡ [] }
-    requires fits { item_fits _header.now item ≡ true }
     ensures { out.new.items ≡ item_line item }
 {
     match item {
@@ -234,4 +235,19 @@ pub fn write_event(_header: &Header, item: Item, out: &mut ArrayVec<u8, 200>)
             add_decimal_field(out, count as u64);
         }
     }
+}
+
+/// Writes the line of an event, or the last line with its count, without its newline, into an empty
+/// buffer. The item has to fit the header. Reading the line gives the item again. Source: project's own
+/// choice.
+#[tactic(auto, using(crate::proofs::Written::item_written_is_read))]
+pub fn write_event(header: &Header, item: Item, out: &mut ArrayVec<u8, 200>)
+    requires empty { out.old.items ≡ [] }
+    requires fits { item_fits header.now item ≡ true }
+    ensures line { out.new.items ≡ item_line item }
+    ensures read_again { item_of header.now out.new.items ≡ Ok item }
+{
+    // The header's type keeps its ranges, without which no PE could be read again.
+    let _pes = header.pes;
+    any_line(item, out);
 }

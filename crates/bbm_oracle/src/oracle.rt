@@ -2,7 +2,7 @@
 
 ghost use Rattle.std.specs.Prelude.{◌≡◌, ℕ, ◌&&◌, List, [], ◌∷◌, Option, reverse, IsOk, IfOk, IsTrue, length, OnOk, OnErr};
 ghost use Rattle.bbm_events.specs.declared.event.Event.{Event};
-ghost use Rattle.bbm_regimes.specs.declared.regime.Kind.{Kind as KindOf};
+ghost use Rattle.bbm_regimes.specs.declared.regime.Kind.{Kind as TableKind};
 ghost use Rattle.bbm_events.specs.Heading.{Heading};
 ghost use Rattle.bbm_rules.specs.Answers.{Answers};
 ghost use Rattle.bbm_rules.specs.FirstPath.{broken, is_built, is_built_value, is_inner, is_all, is_alle2is, is_el2};
@@ -18,8 +18,9 @@ use bbm_tlbi_scope::TlbiOp;
 use std::alloc::Global;
 use std::marker::Model;
 
-/// A checker that keeps the header and the events that it took. A clause sees the header and the
-/// history, the newest event first.
+/// A checker that keeps the header and the events that it took, for logs in which one EL2 root page is
+/// maintained. A clause sees the header and the history, the newest event first. It searches all events at
+/// each `step`.
 #[derive(Drop)]
 pub struct Oracle {
     header: Header,
@@ -104,7 +105,7 @@ impl Oracle {
 
     // Page-in-use: a page that isn't fresh becomes the root.
     fn root_fault(&self, page: Page) -> Result<(), StepFault>
-        ensures { (pe : ℕ) (kind : KindOf) (lock : Option ℕ) → result
+        ensures { (pe : ℕ) (kind : TableKind) (lock : Option ℕ) → result
             ≡ answer_to (broken self.now.heading self.now.history (Event.Root pe kind lock page)) }
     {
         if is_fresh(&self.events, page) {
@@ -136,8 +137,8 @@ impl Oracle {
 impl Checker for Oracle {
     ghost stands = { StandsFor };
 
-    fn judges(&self, event: Event) -> bool {
-        match event {
+    fn judges(&self, event: &Event) -> bool {
+        match *event {
             Event::Init { .. } => true,
             Event::Root { kind, lock, .. } => {
                 judges_kind(kind) && lock.is_none() && root_page(&self.events).is_none()

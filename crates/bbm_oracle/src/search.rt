@@ -82,7 +82,7 @@ pub fn trace_of(events: &[Event], place: Place) -> Option<Trace>
 }
 
 /// The value that the place holds, in a log with so many PEs, at least 1; None where it holds none.
-#[tactic(auto, using(crate::proofs::Searches::held_by_trace))]
+#[tactic(auto, using(crate::proofs::TraceLemmas::held_by_trace))]
 pub fn held(pes: u8, events: &[Event], place: Place) -> Option<u64>
     requires { 1 ≤ pes }
     ensures { result ≡ held_value pes (reverse events.now) place }

@@ -8,7 +8,7 @@ use bbm_rules::{Checker, Rule, StepFault};
 use bbm_tlbi_scope::TlbiOp;
 use std::alloc::Global;
 
-/// A line of a log in which PE 0 maintains one root page and PE 1 may issue barriers.
+/// A line of a log in which PE 0 maintains one root page and PE 1 may issue a barrier.
 #[derive(Clone, Copy)]
 enum Line {
     /// `init 0 0x40000000`
@@ -17,11 +17,26 @@ enum Line {
     Root,
     /// `w 0 0x40000008 VALUE`
     Write(u64),
-    /// `dsb PE ish`
-    Dsb(Pe),
+    /// `dsb 0 ish`
+    Dsb,
+    /// `dsb 1 ish`
+    OtherDsb,
     /// `tlbi 0 alle2is`
     Tlbi,
 }
+
+/// A block, the place cleared, a block with another output address, and one with other permissions.
+const MADE: Line = Line::Write(0x8000_0701);
+
+const CLEAR: Line = Line::Write(0);
+
+const MOVED: Line = Line::Write(0xc000_0701);
+
+const SAME_CORE: Line = Line::Write(0x8000_0781);
+
+const UNBROKEN: Result<(), StepFault> = Err(StepFault::Broken(Rule::BreakBeforeMake, 0x4000_0008));
+
+const IN_USE: Result<(), StepFault> = Err(StepFault::Broken(Rule::PageInUse, 0x4000_0000));
 
 // The header `bbmlog 1 hyp 2 1 1 1`.
 fn header() -> Header {
@@ -31,6 +46,16 @@ fn header() -> Header {
             el2_start: 1,
             s2_start: 1,
             s2_pages: 1,
+        },
+    }
+}
+
+fn dsb_ish(pe: Pe) -> Event {
+    Event::Dsb {
+        pe,
+        dsb: Dsb {
+            domain: Domain::Inner,
+            types: Types::All,
         },
     }
 }
@@ -51,13 +76,8 @@ fn event_of(line: Line) -> Event {
             place: Place::new(0x4000_0008).unwrap(),
             value,
         },
-        Line::Dsb(issuer) => Event::Dsb {
-            pe: issuer,
-            dsb: Dsb {
-                domain: Domain::Inner,
-                types: Types::All,
-            },
-        },
+        Line::Dsb => dsb_ish(pe),
+        Line::OtherDsb => dsb_ish(Pe::new(1).unwrap()),
         Line::Tlbi => Event::Tlbi {
             pe,
             op: TlbiOp::Alle2is,
@@ -71,7 +91,7 @@ fn event_of(line: Line) -> Event {
 fn judged(alloc: Global, lines: &[Line]) -> Option<(Result<(), StepFault>, u64)> {
     let mut oracle = Oracle::new(alloc, &header()).unwrap();
     for line in lines {
-        if !oracle.judges(event_of(*line)) {
+        if !oracle.judges(&event_of(*line)) {
             return None;
         }
         let answer = oracle.step(alloc, event_of(*line));
@@ -84,58 +104,52 @@ fn judged(alloc: Global, lines: &[Line]) -> Option<(Result<(), StepFault>, u64)>
 
 #[test]
 fn judges_logs(rt: HostRuntime) {
-    use Line::{Init, Root, Tlbi, Write};
-    let dsb = Line::Dsb(Pe::new(0).unwrap());
-    let other_dsb = Line::Dsb(Pe::new(1).unwrap());
-    let made = Write(0x8000_0701);
-    let moved = Write(0xc000_0701);
-    let unbroken = Err(StepFault::Broken(Rule::BreakBeforeMake, 0x4000_0008));
-    let in_use = Err(StepFault::Broken(Rule::PageInUse, 0x4000_0000));
+    use Line::{Dsb, Init, OtherDsb, Root, Tlbi};
     let table: [(&str, &[Line], Result<(), StepFault>, u64); 10] = [
         (
             "remap",
-            &[Init, Root, made, Write(0), dsb, Tlbi, dsb, moved],
+            &[Init, Root, MADE, CLEAR, Dsb, Tlbi, Dsb, MOVED],
             Ok(()),
             8,
         ),
         (
             "no flush",
-            &[Init, Root, made, Write(0), dsb, moved],
-            unbroken,
+            &[Init, Root, MADE, CLEAR, Dsb, MOVED],
+            UNBROKEN,
             5,
         ),
         (
             "flush first",
-            &[Init, Root, made, Write(0), Tlbi, dsb, moved],
-            unbroken,
+            &[Init, Root, MADE, CLEAR, Tlbi, Dsb, MOVED],
+            UNBROKEN,
             6,
         ),
         (
             "other dsb",
-            &[Init, Root, made, Write(0), dsb, Tlbi, other_dsb, moved],
-            unbroken,
+            &[Init, Root, MADE, CLEAR, Dsb, Tlbi, OtherDsb, MOVED],
+            UNBROKEN,
             7,
         ),
         (
             "early dsb",
-            &[Init, Root, made, dsb, Write(0), Tlbi, dsb, moved],
-            unbroken,
+            &[Init, Root, MADE, Dsb, CLEAR, Tlbi, Dsb, MOVED],
+            UNBROKEN,
             7,
         ),
         (
             "no last dsb",
-            &[Init, Root, made, Write(0), dsb, Tlbi, moved],
-            unbroken,
+            &[Init, Root, MADE, CLEAR, Dsb, Tlbi, MOVED],
+            UNBROKEN,
             6,
         ),
         (
             "same core",
-            &[Init, Root, made, Write(0), dsb, Write(0x8000_0781)],
+            &[Init, Root, MADE, CLEAR, Dsb, SAME_CORE],
             Ok(()),
             6,
         ),
-        ("untracked root", &[Root], in_use, 0),
-        ("root again", &[Init, Root, Init], in_use, 2),
+        ("untracked root", &[Root], IN_USE, 0),
+        ("init of the root", &[Init, Root, Init], IN_USE, 2),
         ("init again", &[Init, Init, Root], Ok(()), 3),
     ];
     for (name, lines, answer, events) in table {

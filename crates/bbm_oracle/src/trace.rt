@@ -2,7 +2,7 @@
 
 ghost use Rattle.std.specs.Prelude.{◌≡◌, ℕ, List, [], ◌∷◌};
 ghost use Rattle.bbm_regimes.specs.declared.regime.Kind.TheVariants.{El2};
-ghost use Rattle.bbm_barriers.specs.declared.Dsb.{Dsb as Option_of_Dsb};
+ghost use Rattle.bbm_barriers.specs.declared.Dsb.{Dsb as Barrier};
 ghost use Rattle.bbm_descriptor.specs.Descriptor.{is_valid};
 ghost use Rattle.bbm_tlbi_scope.specs.declared.op.TlbiOp.{TlbiOp};
 ghost use Rattle.bbm_events.specs.declared.event.Event.{Event};
@@ -73,7 +73,7 @@ fn written(trace: Trace, pe: Pe) -> Trace
 
 // The trace where the PE issued a DSB.
 fn published(trace: Trace, pe: Pe) -> Trace
-    ensures { (place : ℕ) (dsb : Option_of_Dsb) → Extends trace result (Event.Dsb pe dsb) place }
+    ensures { (place : ℕ) (dsb : Barrier) → Extends trace result (Event.Dsb pe dsb) place }
 {
     Trace {
         seen: trace.seen || trace.writers.has(pe),

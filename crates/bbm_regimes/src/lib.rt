@@ -11,3 +11,70 @@ pub use address::{Page, Place};
 pub use interval::{Interval, span};
 pub use pe::{Pe, PeMask};
 pub use regime::{AsidFrom, Kind, NoMemory, Reg, Tag, Which, World};
+
+#[cfg(test)]
+mod tests {
+    use super::*;
+
+    // Addresses and whether they are a page's and a place's.
+    const ADDRESSES: [(u64, bool, bool); 7] = [
+        (0, true, true),
+        (0x1000, true, true),
+        (0x4000_0008, false, true),
+        (0x4000_0004, false, false),
+        (0xffff_ffff_f000, true, true),
+        (0xffff_ffff_fff8, false, true),
+        (0x1_0000_0000_0000, false, false),
+    ];
+
+    #[test]
+    fn addresses(rt: HostRuntime) {
+        for (addr, is_page, is_place) in ADDRESSES {
+            assert_eq!(rt; Page::new(addr).is_some(), is_page, "page {addr:x}");
+            assert_eq!(rt; Place::new(addr).is_some(), is_place, "place {addr:x}");
+        }
+        if let Some(place) = Place::new(0x4000_1ff8) {
+            assert_eq!(rt; place.page().get(), 0x4000_1000);
+            assert_eq!(rt; place.index(), 511);
+        }
+    }
+
+    #[test]
+    fn masks(rt: HostRuntime) {
+        for (n, is_pe) in [(0, true), (63, true), (64, false), (255, false)] {
+            assert_eq!(rt; Pe::new(n).is_some(), is_pe, "pe {n}");
+        }
+        if let (Some(first), Some(last)) = (Pe::new(0), Pe::new(63)) {
+            let every = PeMask::all(64);
+            let others = every.minus(PeMask::one(last));
+            assert!(rt; every.has(last) && !others.has(last) && others.has(first));
+            assert!(rt; !PeMask::all(63).has(last) && PeMask::all(1).has(first));
+            assert!(rt; others.and(PeMask::one(last)).is_empty() && PeMask::none().is_empty());
+            assert!(rt; PeMask::none().or(PeMask::one(last)).has(last));
+        }
+    }
+
+    // Two intervals, and whether they meet and the first holds the second.
+    const INTERVALS: [((u64, u64), (u64, u64), bool, bool); 5] = [
+        ((0, 9), (9, 12), true, false),
+        ((0, 8), (9, 12), false, false),
+        ((0, 12), (9, 12), true, true),
+        ((9, 12), (0, 12), true, false),
+        ((5, 5), (5, 5), true, true),
+    ];
+
+    #[test]
+    fn intervals(rt: HostRuntime) {
+        for ((lo, hi), (low, high), meets, holds) in INTERVALS {
+            assert!(rt; lo <= hi && low <= high);
+            let first = Interval { lo, hi };
+            let second = Interval { lo: low, hi: high };
+            assert_eq!(rt; first.meets(second), meets);
+            assert_eq!(rt; first.holds(second), holds);
+        }
+        for (level, bytes) in [(0, 512 << 30), (1, 1 << 30), (2, 2 << 20), (3, 4096)] {
+            assert!(rt; level <= 3);
+            assert_eq!(rt; span(level), bytes);
+        }
+    }
+}

@@ -33,9 +33,9 @@ pub trait Checker {
     ghost stands: { Self → Heading → List Event → Type 0 };
 
     /// Whether this version judges the event after the events taken so far.
-    fn judges(&self, event: Event) -> bool
+    fn judges(&self, event: &Event) -> bool
         ensures { (heading : Heading) (h : List Event) → stands self.now heading h
-            → result ≡ is_built heading h event };
+            → result ≡ is_built heading h event.now };
 
     /// Takes an event that the checker judges. Ok exactly where the event keeps the rules and passes no limit, and
     /// there is memory; then the checker stands for the history with the event. After any other answer

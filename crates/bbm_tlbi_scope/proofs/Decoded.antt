@@ -1,10 +1,8 @@
 -- What is known of a scope that was decoded.
-use Rattle.std.proofs.Common.{◌≡◌, ℕ, Bool, true, false, Result, Ok, Err, refl, ap, sym, if◌then◌else◌}
+use Rattle.std.proofs.Common.{◌≡◌, ℕ, Bool, true, false, Ok, Err, ap, if◌then◌else◌}
 use Rattle.bbm_tlbi_scope.specs.declared.op.TlbiOp.{TlbiOp}
 use Rattle.bbm_tlbi_scope.specs.declared.scope.Scope.{Scope}
-use Rattle.bbm_tlbi_scope.specs.declared.scope.BadOperand.{BadOperand}
 use Rattle.bbm_tlbi_scope.specs.declared.scope.BadOperand.TheVariants.{NonCanonical, TtlGranule}
-use Rattle.bbm_tlbi_scope.specs.declared.scope.Family.{Family}
 use Rattle.bbm_tlbi_scope.specs.Operations.{operation, family_of, scoped_by_vmid}
 use Rattle.bbm_tlbi_scope.specs.Decode.{canonical, granule_known, decoded, scope_of, needs_vmid}
 

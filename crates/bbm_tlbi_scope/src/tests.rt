@@ -1,8 +1,22 @@
 //! Tables of operands, places and entries, with values worked out by hand.
 
+ghost use Rattle.std.specs.Prelude.{◌≡◌, false};
+
 use super::*;
 use bbm_regimes::{Interval, Kind, Tag, World};
 use std::test::Fail;
+
+/// The ASID, the first page number and the level hint of a decoded operand.
+type Fields = (Option<u16>, Option<u64>, Option<u8>);
+
+fn fields(op: TlbiOp, xt: u64) -> Result<Fields, BadOperand> {
+    let scope = decode(op, xt)?;
+    let first = match scope.interval {
+        Some(interval) => Some(interval.lo),
+        None => None,
+    };
+    Ok((scope.asid, first, scope.level))
+}
 
 #[test]
 fn operands(rt: HostRuntime) {
@@ -68,25 +82,34 @@ fn operands(rt: HostRuntime) {
         ),
     ];
     for (op, xt, want) in rows {
-        let got = decode(op, xt).map(|s| (s.asid, s.interval.map(|i| i.lo), s.level));
-        assert_eq!(rt; got, want, "{op:?} {xt}");
+        assert_eq!(rt; fields(op, xt), want, "{op:?} {xt}");
     }
 }
 
-/// A place of level 1, of the first gigabyte above 1 GiB.
-fn at_level_one(kind: Kind, table: bool, childless: bool, tags: TagSet) -> PlaceView {
-    PlaceView {
+/// What the place of a tree holds: a leaf, a table that holds something, or one that holds nothing.
+#[derive(Clone, Copy)]
+enum Holding {
+    Leaf,
+    FullTable,
+    EmptyTable,
+}
+
+/// How far a TLBI under VMID 5 covers the place of level 1 of the first gigabyte above 1 GiB.
+fn cover_there(op: TlbiOp, xt: u64, kind: Kind, holding: Holding, tags: TagSet) -> Option<Cover> {
+    let scope = decode(op, xt).ok()?;
+    let view = PlaceView {
         kind,
         region: Interval {
             lo: 0x40000,
             hi: 0x7ffff,
         },
         level: 1,
-        table,
+        table: !matches!(holding, Holding::Leaf),
         global: false,
-        childless,
+        childless: matches!(holding, Holding::EmptyTable),
         tags,
-    }
+    };
+    Some(cover(scope, Some(5), view))
 }
 
 /// An entry that ends in the leaf at such a place, under VMID 5.
@@ -106,42 +129,172 @@ fn leaf_entry(kind: EntryKind) -> EntryHead {
 }
 
 #[test]
-fn places_and_entries(rt: HostRuntime) -> Result<(), Fail> {
-    let el2 = at_level_one(Kind::El2, false, false, TagSet::One(Tag::El2));
-    let block = at_level_one(Kind::S2, false, false, TagSet::One(Tag::Vmid(5)));
-    let other = at_level_one(Kind::S2, false, false, TagSet::One(Tag::Vmid(6)));
-    let many = at_level_one(Kind::S2, false, false, TagSet::Many);
-    let full_table = at_level_one(Kind::S2, true, false, TagSet::One(Tag::Vmid(5)));
-    let empty_table = at_level_one(Kind::S2, true, true, TagSet::None);
+fn places(rt: HostRuntime) {
     let rows = [
-        (TlbiOp::Vae2is, 0x40000, el2, Cover::Full),
-        (TlbiOp::Vale2is, 0x600000040000, el2, Cover::None),
-        (TlbiOp::Alle2, 0, el2, Cover::Full),
-        (TlbiOp::Ipas2e1is, 0x40000, block, Cover::Half),
-        (TlbiOp::Ipas2e1is, 0x500000040000, block, Cover::Half),
-        (TlbiOp::Ipas2e1is, 0x80000, block, Cover::None),
-        (TlbiOp::Vmalle1is, 0, block, Cover::Second),
-        (TlbiOp::Vmalle1is, 0, other, Cover::None),
-        (TlbiOp::Vmalls12e1is, 0, many, Cover::None),
-        (TlbiOp::Alle1is, 0, many, Cover::Full),
-        (TlbiOp::Vmalls12e1is, 0, full_table, Cover::Full),
-        (TlbiOp::Ipas2e1is, 0x40000, full_table, Cover::None),
-        (TlbiOp::Ipas2e1is, 0x40000, empty_table, Cover::Half),
-        (TlbiOp::Ipas2le1is, 0x40000, empty_table, Cover::None),
+        (
+            TlbiOp::Vae2is,
+            0x40000,
+            Kind::El2,
+            Holding::Leaf,
+            TagSet::One(Tag::El2),
+            Cover::Full,
+        ),
+        (
+            TlbiOp::Vale2is,
+            0x600000040000,
+            Kind::El2,
+            Holding::Leaf,
+            TagSet::One(Tag::El2),
+            Cover::None,
+        ),
+        (
+            TlbiOp::Alle2,
+            0,
+            Kind::El2,
+            Holding::Leaf,
+            TagSet::One(Tag::El2),
+            Cover::Full,
+        ),
+        (
+            TlbiOp::Ipas2e1is,
+            0x40000,
+            Kind::S2,
+            Holding::Leaf,
+            TagSet::One(Tag::Vmid(5)),
+            Cover::Half,
+        ),
+        (
+            TlbiOp::Ipas2e1is,
+            0x500000040000,
+            Kind::S2,
+            Holding::Leaf,
+            TagSet::One(Tag::Vmid(5)),
+            Cover::Half,
+        ),
+        (
+            TlbiOp::Ipas2e1is,
+            0x80000,
+            Kind::S2,
+            Holding::Leaf,
+            TagSet::One(Tag::Vmid(5)),
+            Cover::None,
+        ),
+        (
+            TlbiOp::Vmalle1is,
+            0,
+            Kind::S2,
+            Holding::Leaf,
+            TagSet::One(Tag::Vmid(5)),
+            Cover::Second,
+        ),
+        (
+            TlbiOp::Vmalle1is,
+            0,
+            Kind::S2,
+            Holding::Leaf,
+            TagSet::One(Tag::Vmid(6)),
+            Cover::None,
+        ),
+        (
+            TlbiOp::Vmalls12e1is,
+            0,
+            Kind::S2,
+            Holding::Leaf,
+            TagSet::Many,
+            Cover::None,
+        ),
+        (
+            TlbiOp::Alle1is,
+            0,
+            Kind::S2,
+            Holding::Leaf,
+            TagSet::Many,
+            Cover::Full,
+        ),
+        (
+            TlbiOp::Vmalls12e1is,
+            0,
+            Kind::S2,
+            Holding::FullTable,
+            TagSet::One(Tag::Vmid(5)),
+            Cover::Full,
+        ),
+        (
+            TlbiOp::Ipas2e1is,
+            0x40000,
+            Kind::S2,
+            Holding::FullTable,
+            TagSet::One(Tag::Vmid(5)),
+            Cover::None,
+        ),
+        (
+            TlbiOp::Ipas2e1is,
+            0x40000,
+            Kind::S2,
+            Holding::EmptyTable,
+            TagSet::None,
+            Cover::Half,
+        ),
+        (
+            TlbiOp::Ipas2le1is,
+            0x40000,
+            Kind::S2,
+            Holding::EmptyTable,
+            TagSet::None,
+            Cover::None,
+        ),
     ];
-    for (op, xt, view, want) in rows {
-        let scope = decode(op, xt).ok().ok_or("operand")?;
-        assert_eq!(rt; cover(scope, Some(5), view), want, "{op:?} {xt}");
+    for (op, xt, kind, holding, tags, want) in rows {
+        assert_eq!(rt;
+            cover_there(op, xt, kind, holding, tags),
+            Some(want),
+            "{op:?} {xt}"
+        );
     }
-    let ipa = decode(TlbiOp::Ipas2e1is, 0x40000).ok().ok_or("operand")?;
-    assert!(rt; takes(ipa, Some(5), leaf_entry(EntryKind::Stage2)));
-    assert!(rt; !takes(ipa, Some(6), leaf_entry(EntryKind::Stage2)));
-    assert!(rt; !takes(ipa, Some(5), leaf_entry(EntryKind::Combined)));
+}
+
+/// Whether a TLBI under this VMID takes a leaf entry of VMID 5.
+fn taken_there(op: TlbiOp, xt: u64, vmid: u16, kind: EntryKind) -> Option<bool> {
+    match decode(op, xt) {
+        Ok(scope) => Some(takes(scope, Some(vmid), leaf_entry(kind))),
+        Err(_) => None,
+    }
+}
+
+#[test]
+fn entries(rt: HostRuntime) {
+    let rows = [
+        (TlbiOp::Ipas2e1is, 0x40000, 5, EntryKind::Stage2, true),
+        (TlbiOp::Ipas2e1is, 0x40000, 6, EntryKind::Stage2, false),
+        (TlbiOp::Ipas2e1is, 0x40000, 5, EntryKind::Combined, false),
+        (TlbiOp::Vmalle1is, 0, 5, EntryKind::Combined, true),
+        (TlbiOp::Vmalle1is, 0, 5, EntryKind::Stage2, false),
+        (TlbiOp::Alle1is, 0, 5, EntryKind::El2, false),
+    ];
+    for (op, xt, vmid, kind, want) in rows {
+        assert_eq!(rt;
+            taken_there(op, xt, vmid, kind),
+            Some(want),
+            "{op:?} {vmid}"
+        );
+    }
+}
+
+/// Whether a TLBI by ASID takes the whole of a tag.
+fn by_asid(scope: &Scope, tag: Tag) -> bool
+    requires { scope.now.vmid_scoped ≡ false }
+{
+    whole_tag(*scope, None, tag)
+}
+
+#[test]
+fn whole_tags(rt: HostRuntime) -> Result<(), Fail> {
     let asid = decode(TlbiOp::Aside1is, 0x5000000000000)
         .ok()
         .ok_or("operand")?;
-    assert!(rt; whole_tag(asid, None, Tag::Asid(5)));
-    assert!(rt; !whole_tag(asid, None, Tag::Asid(6)));
+    assert!(rt; !asid.vmid_scoped);
+    assert!(rt; by_asid(&asid, Tag::Asid(5)));
+    assert!(rt; !by_asid(&asid, Tag::Asid(6)));
     Ok(())
 }
 

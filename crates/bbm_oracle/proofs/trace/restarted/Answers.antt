@@ -1,7 +1,7 @@
 use Rattle.std.proofs.Common.{◌≡◌, true, ◌&&◌, ◌==◌, refl, sym, ◌∙◌}
 use Rattle.bbm_regimes.specs.declared.regime.Kind.TheVariants.{El2}
 use Rattle.bbm_descriptor.specs.Descriptor.{is_valid}
-use Rattle.bbm_oracle.proofs.Searches.{last_valid_now}
+use Rattle.bbm_oracle.proofs.TraceLemmas.{last_valid_now}
 use Rattle.bbm_oracle.proofs.trace.restarted.Goals as goal
 
 pub returns-then-is_valid_here : goal.returns-then-is_valid_here

@@ -1,5 +1,5 @@
 use Rattle.bbm_rules.specs.FirstPath.{last_valid}
-use Rattle.bbm_oracle.proofs.Searches.{traces_later}
+use Rattle.bbm_oracle.proofs.TraceLemmas.{traces_later}
 use Rattle.bbm_oracle.proofs.trace.traced.Goals as goal
 
 pub returns-in-Some-trace : goal.returns-in-Some-trace

@@ -1,6 +1,5 @@
--- Lemmas of the searches: one more event, and what a trace tells.
-use Rattle.std.proofs.Common.{◌≡◌, ℕ, ◌+◌, ◌<◌, ◌≤◌, zero, suc, Bool, true, false, ◌&&◌, ◌==◌, cond, List, [], ◌∷◌, length, get_or, take, reverse, Option, Some, None, refl, sym, ap, ◌∙◌, arith}
-use Rattle.std.proofs.lemmas.List.{take_more, reverse-append}
+-- Lemmas of traces: one more event, and what a trace tells of the value held.
+use Rattle.std.proofs.Common.{◌≡◌, ℕ, ◌≤◌, zero, suc, Bool, true, false, ◌&&◌, ◌==◌, cond, List, [], ◌∷◌, Option, Some, None, refl, sym, ap, arith}
 use Rattle.bbm_regimes.specs.declared.regime.Kind.TheVariants.{El2}
 use Rattle.bbm_descriptor.specs.Descriptor.{is_valid}
 use Rattle.bbm_events.specs.declared.event.Event.{Event}
@@ -8,10 +7,6 @@ use Rattle.bbm_events.specs.declared.event.Event.TheVariants.{Write}
 use Rattle.bbm_rules.specs.FirstPath.{ValidWrite, last_valid, later, cleansed, every_pe, held_in}
 use Rattle.bbm_oracle.specs.declared.trace.Trace.{Trace}
 use Rattle.bbm_oracle.specs.Traces.{Extends, Traces, still_held}
-
--- the newest of one item more stands in front
-pub reverse_take_more : {X : Type 0} (xs : List X) (i : ℕ) (d : X) → i < length xs → reverse (take (i + 1) xs) ≡ get_or xs i d ∷ reverse (take i xs)
-reverse_take_more xs i d h = ap reverse (take_more xs i d h) ∙ reverse-append (take i xs) (get_or xs i d ∷ [])
 
 -- a valid write of the place begins a trace
 pub last_valid_now : (h : List Event) (pe at value place : ℕ) → (at == place && is_valid El2 1 value) ≡ true → last_valid (Write pe at value ∷ h) place ≡ Some (record { value = value; after = [] })

@@ -1,0 +1,156 @@
+-- Each word is read as its value again, and holds no space.
+use Rattle.std.proofs.Common.{◌≡◌, true, refl, Some}
+use Rattle.bbm_regimes.specs.declared.regime.Kind.{Kind}
+use Rattle.bbm_regimes.specs.declared.regime.Kind.TheVariants.{El2, S2, Ttbr0, Ttbr1}
+use Rattle.bbm_regimes.specs.declared.regime.Reg.{Reg}
+use Rattle.bbm_regimes.specs.declared.regime.Reg.TheVariants.{Ttbr0El2, VttbrEl2, Ttbr0El1, Ttbr1El1}
+use Rattle.bbm_regimes.specs.declared.regime.AsidFrom.{AsidFrom}
+use Rattle.bbm_regimes.specs.declared.regime.AsidFrom.TheVariants as from
+use Rattle.bbm_barriers.specs.declared.Dsb.{Dsb}
+use Rattle.bbm_barriers.specs.declared.Domain.{Domain}
+use Rattle.bbm_barriers.specs.declared.Domain.TheVariants.{Full, Inner, Outer, Non}
+use Rattle.bbm_barriers.specs.declared.Types.{Types}
+use Rattle.bbm_barriers.specs.declared.Types.TheVariants.{All, Stores, Loads}
+use Rattle.bbm_tlbi_scope.specs.declared.op.TlbiOp.{TlbiOp}
+use Rattle.bbm_tlbi_scope.specs.declared.op.TlbiOp.TheVariants.{Alle2, Alle2is, Vae2, Vae2is, Vale2, Vale2is, Alle1, Alle1is, Vmalle1, Vmalle1is, Vmalls12e1, Vmalls12e1is, Ipas2e1, Ipas2e1is, Ipas2le1, Ipas2le1is, Vae1, Vae1is, Vale1, Vale1is, Vaae1, Vaae1is, Vaale1, Vaale1is, Aside1, Aside1is}
+use Rattle.bbm_events.specs.declared.keyword.Keyword.{Keyword}
+use Rattle.bbm_events.specs.declared.keyword.Keyword.TheVariants as first
+use Rattle.bbm_events.specs.Words.{value_of, keyword_word, keywords, kind_word, kinds, reg_word, regs, asid_from_word, asid_froms, option_word, dsb_word, dsbs, op_word, ops}
+use Rattle.bbm_log_grammar.proofs.Joining.{no_space}
+
+pub keyword_word_read : (keyword : Keyword) → value_of keyword_word keywords (keyword_word keyword) ≡ Some keyword
+keyword_word_read first.Init = refl
+keyword_word_read first.Null = refl
+keyword_word_read first.Root = refl
+keyword_word_read first.Unroot = refl
+keyword_word_read first.Write = refl
+keyword_word_read first.Dsb = refl
+keyword_word_read first.Dmb = refl
+keyword_word_read first.Isb = refl
+keyword_word_read first.Tlbi = refl
+keyword_word_read first.Msr = refl
+keyword_word_read first.Lock = refl
+keyword_word_read first.Unlock = refl
+keyword_word_read first.End = refl
+
+pub kind_word_read : (kind : Kind) → value_of kind_word kinds (kind_word kind) ≡ Some kind
+kind_word_read El2 = refl
+kind_word_read S2 = refl
+kind_word_read Ttbr0 = refl
+kind_word_read Ttbr1 = refl
+
+pub kind_word_no_space : (kind : Kind) → no_space (kind_word kind) ≡ true
+kind_word_no_space El2 = refl
+kind_word_no_space S2 = refl
+kind_word_no_space Ttbr0 = refl
+kind_word_no_space Ttbr1 = refl
+
+pub reg_word_read : (reg : Reg) → value_of reg_word regs (reg_word reg) ≡ Some reg
+reg_word_read Ttbr0El2 = refl
+reg_word_read VttbrEl2 = refl
+reg_word_read Ttbr0El1 = refl
+reg_word_read Ttbr1El1 = refl
+
+pub reg_word_no_space : (reg : Reg) → no_space (reg_word reg) ≡ true
+reg_word_no_space Ttbr0El2 = refl
+reg_word_no_space VttbrEl2 = refl
+reg_word_no_space Ttbr0El1 = refl
+reg_word_no_space Ttbr1El1 = refl
+
+pub asid_from_word_read : (asid_from : AsidFrom) → value_of asid_from_word asid_froms (asid_from_word asid_from) ≡ Some asid_from
+asid_from_word_read from.Ttbr0 = refl
+asid_from_word_read from.Ttbr1 = refl
+
+pub asid_from_word_no_space : (asid_from : AsidFrom) → no_space (asid_from_word asid_from) ≡ true
+asid_from_word_no_space from.Ttbr0 = refl
+asid_from_word_no_space from.Ttbr1 = refl
+
+pub op_word_read : (op : TlbiOp) → value_of op_word ops (op_word op) ≡ Some op
+op_word_read Alle2 = refl
+op_word_read Alle2is = refl
+op_word_read Vae2 = refl
+op_word_read Vae2is = refl
+op_word_read Vale2 = refl
+op_word_read Vale2is = refl
+op_word_read Alle1 = refl
+op_word_read Alle1is = refl
+op_word_read Vmalle1 = refl
+op_word_read Vmalle1is = refl
+op_word_read Vmalls12e1 = refl
+op_word_read Vmalls12e1is = refl
+op_word_read Ipas2e1 = refl
+op_word_read Ipas2e1is = refl
+op_word_read Ipas2le1 = refl
+op_word_read Ipas2le1is = refl
+op_word_read Vae1 = refl
+op_word_read Vae1is = refl
+op_word_read Vale1 = refl
+op_word_read Vale1is = refl
+op_word_read Vaae1 = refl
+op_word_read Vaae1is = refl
+op_word_read Vaale1 = refl
+op_word_read Vaale1is = refl
+op_word_read Aside1 = refl
+op_word_read Aside1is = refl
+
+pub op_word_no_space : (op : TlbiOp) → no_space (op_word op) ≡ true
+op_word_no_space Alle2 = refl
+op_word_no_space Alle2is = refl
+op_word_no_space Vae2 = refl
+op_word_no_space Vae2is = refl
+op_word_no_space Vale2 = refl
+op_word_no_space Vale2is = refl
+op_word_no_space Alle1 = refl
+op_word_no_space Alle1is = refl
+op_word_no_space Vmalle1 = refl
+op_word_no_space Vmalle1is = refl
+op_word_no_space Vmalls12e1 = refl
+op_word_no_space Vmalls12e1is = refl
+op_word_no_space Ipas2e1 = refl
+op_word_no_space Ipas2e1is = refl
+op_word_no_space Ipas2le1 = refl
+op_word_no_space Ipas2le1is = refl
+op_word_no_space Vae1 = refl
+op_word_no_space Vae1is = refl
+op_word_no_space Vale1 = refl
+op_word_no_space Vale1is = refl
+op_word_no_space Vaae1 = refl
+op_word_no_space Vaae1is = refl
+op_word_no_space Vaale1 = refl
+op_word_no_space Vaale1is = refl
+op_word_no_space Aside1 = refl
+op_word_no_space Aside1is = refl
+
+option_word_read : (domain : Domain) (types : Types) → value_of dsb_word dsbs (option_word domain types) ≡ Some (record { domain = domain; types = types })
+option_word_read Full All = refl
+option_word_read Full Stores = refl
+option_word_read Full Loads = refl
+option_word_read Inner All = refl
+option_word_read Inner Stores = refl
+option_word_read Inner Loads = refl
+option_word_read Outer All = refl
+option_word_read Outer Stores = refl
+option_word_read Outer Loads = refl
+option_word_read Non All = refl
+option_word_read Non Stores = refl
+option_word_read Non Loads = refl
+
+pub dsb_word_read : (dsb : Dsb) → value_of dsb_word dsbs (dsb_word dsb) ≡ Some dsb
+dsb_word_read dsb = option_word_read dsb.domain dsb.types
+
+option_word_no_space : (domain : Domain) (types : Types) → no_space (option_word domain types) ≡ true
+option_word_no_space Full All = refl
+option_word_no_space Full Stores = refl
+option_word_no_space Full Loads = refl
+option_word_no_space Inner All = refl
+option_word_no_space Inner Stores = refl
+option_word_no_space Inner Loads = refl
+option_word_no_space Outer All = refl
+option_word_no_space Outer Stores = refl
+option_word_no_space Outer Loads = refl
+option_word_no_space Non All = refl
+option_word_no_space Non Stores = refl
+option_word_no_space Non Loads = refl
+
+pub dsb_word_no_space : (dsb : Dsb) → no_space (dsb_word dsb) ≡ true
+dsb_word_no_space dsb = option_word_no_space dsb.domain dsb.types

@@ -1,0 +1,181 @@
+//! The lines after the header.
+
+ghost use Rattle.std.specs.Prelude.{◌≡◌, true, IfOk, IfErr};
+ghost use Rattle.bbm_events.specs.Causes.{IsLineCause};
+ghost use Rattle.bbm_events.specs.Fits.{item_fits};
+ghost use Rattle.bbm_events.specs.Lines.{item_of};
+ghost use Rattle.bbm_events.specs.Lines as lines;
+ghost use Rattle.bbm_events.specs.declared.keyword.Keyword.TheVariants as first;
+
+use crate::fields::Fields;
+use crate::readers::*;
+use crate::words::keyword_of;
+use bbm_events::{Event, Header, Item, Keyword, Malformed};
+
+fn init_line(header: &Header, fields: Fields) -> Result<Item, Malformed>
+    ensures { result ≡ lines.line_after header.now first.Init fields.entry }
+{
+    let (pe, fields) = pe_field(header, fields)?;
+    let (page, fields) = page_field(fields)?;
+    whole(Item::Event(Event::Init { pe, page }), fields)
+}
+
+fn null_line(header: &Header, fields: Fields) -> Result<Item, Malformed>
+    ensures { result ≡ lines.line_after header.now first.Null fields.entry }
+{
+    let (pe, fields) = pe_field(header, fields)?;
+    let (page, fields) = page_field(fields)?;
+    whole(Item::Event(Event::Null { pe, page }), fields)
+}
+
+fn root_line(header: &Header, fields: Fields) -> Result<Item, Malformed>
+    ensures { result ≡ lines.line_after header.now first.Root fields.entry }
+{
+    let (pe, fields) = pe_field(header, fields)?;
+    let (kind, fields) = kind_field(fields)?;
+    let (lock, fields) = root_lock_field(fields)?;
+    let (page, fields) = root_page_field(header, kind, fields)?;
+    whole(
+        Item::Event(Event::Root {
+            pe,
+            kind,
+            lock,
+            page,
+        }),
+        fields,
+    )
+}
+
+fn unroot_line(header: &Header, fields: Fields) -> Result<Item, Malformed>
+    ensures { result ≡ lines.line_after header.now first.Unroot fields.entry }
+{
+    let (pe, fields) = pe_field(header, fields)?;
+    let (page, fields) = page_field(fields)?;
+    whole(Item::Event(Event::Unroot { pe, page }), fields)
+}
+
+fn write_line(header: &Header, fields: Fields) -> Result<Item, Malformed>
+    ensures { result ≡ lines.line_after header.now first.Write fields.entry }
+{
+    let (pe, fields) = pe_field(header, fields)?;
+    let (place, fields) = place_field(fields)?;
+    let (value, fields) = value_field(fields)?;
+    whole(Item::Event(Event::Write { pe, place, value }), fields)
+}
+
+fn dsb_line(header: &Header, fields: Fields) -> Result<Item, Malformed>
+    ensures { result ≡ lines.line_after header.now first.Dsb fields.entry }
+{
+    let (pe, fields) = pe_field(header, fields)?;
+    let (dsb, fields) = dsb_field(fields)?;
+    whole(Item::Event(Event::Dsb { pe, dsb }), fields)
+}
+
+fn dmb_line(header: &Header, fields: Fields) -> Result<Item, Malformed>
+    ensures { result ≡ lines.line_after header.now first.Dmb fields.entry }
+{
+    let (pe, fields) = pe_field(header, fields)?;
+    let (dsb, fields) = dsb_field(fields)?;
+    whole(Item::Event(Event::Dmb { pe, dsb }), fields)
+}
+
+fn isb_line(header: &Header, fields: Fields) -> Result<Item, Malformed>
+    ensures { result ≡ lines.line_after header.now first.Isb fields.entry }
+{
+    let (pe, fields) = pe_field(header, fields)?;
+    whole(Item::Event(Event::Isb { pe }), fields)
+}
+
+fn tlbi_line(header: &Header, fields: Fields) -> Result<Item, Malformed>
+    ensures { result ≡ lines.line_after header.now first.Tlbi fields.entry }
+{
+    let (pe, fields) = pe_field(header, fields)?;
+    let (op, fields) = op_field(fields)?;
+    let (xt, fields) = operand_field(op, fields)?;
+    whole(Item::Event(Event::Tlbi { pe, op, xt }), fields)
+}
+
+fn msr_line(header: &Header, fields: Fields) -> Result<Item, Malformed>
+    ensures { result ≡ lines.line_after header.now first.Msr fields.entry }
+{
+    let (pe, fields) = pe_field(header, fields)?;
+    let (reg, fields) = reg_field(fields)?;
+    let (value, fields) = value_field(fields)?;
+    whole(Item::Event(Event::Msr { pe, reg, value }), fields)
+}
+
+fn lock_line(header: &Header, fields: Fields) -> Result<Item, Malformed>
+    ensures { result ≡ lines.line_after header.now first.Lock fields.entry }
+{
+    let (pe, fields) = pe_field(header, fields)?;
+    let (lock, fields) = lock_field(fields)?;
+    whole(Item::Event(Event::Lock { pe, lock }), fields)
+}
+
+fn unlock_line(header: &Header, fields: Fields) -> Result<Item, Malformed>
+    ensures { result ≡ lines.line_after header.now first.Unlock fields.entry }
+{
+    let (pe, fields) = pe_field(header, fields)?;
+    let (lock, fields) = lock_field(fields)?;
+    whole(Item::Event(Event::Unlock { pe, lock }), fields)
+}
+
+fn end_line(header: &Header, fields: Fields) -> Result<Item, Malformed>
+    ensures { result ≡ lines.line_after header.now first.End fields.entry }
+{
+    let (count, fields) = count_field(fields)?;
+    whole(Item::End(count), fields)
+}
+
+/// The item of a line that begins with this word.
+fn line_after(header: &Header, keyword: Keyword, fields: Fields) -> Result<Item, Malformed>
+    ensures { result ≡ lines.line_after header.now keyword fields.entry }
+{
+    match keyword {
+        Keyword::Init => init_line(header, fields),
+        Keyword::Null => null_line(header, fields),
+        Keyword::Root => root_line(header, fields),
+        Keyword::Unroot => unroot_line(header, fields),
+        Keyword::Write => write_line(header, fields),
+        Keyword::Dsb => dsb_line(header, fields),
+        Keyword::Dmb => dmb_line(header, fields),
+        Keyword::Isb => isb_line(header, fields),
+        Keyword::Tlbi => tlbi_line(header, fields),
+        Keyword::Msr => msr_line(header, fields),
+        Keyword::Lock => lock_line(header, fields),
+        Keyword::Unlock => unlock_line(header, fields),
+        Keyword::End => end_line(header, fields),
+    }
+}
+
+/// The first word of a line.
+fn keyword_field<'a>(fields: Fields<'a>) -> Result<(Keyword, Fields<'a>), Malformed>
+    ensures { result ≡ lines.keyword_field fields.entry }
+{
+    let (text, rest) = fields.next_or(Malformed::MissingField)?;
+    let keyword = keyword_of(text).ok_or(Malformed::UnknownWord)?;
+    Ok((keyword, rest))
+}
+
+/// The item that a line spells, or the first cause for which it spells none.
+#[tactic(auto, unfolding(bbm_events::specs::Lines::item_of))]
+fn item_on(header: &Header, line: &[u8]) -> Result<Item, Malformed>
+    ensures { result ≡ item_of header.now line.now }
+{
+    let (keyword, fields) = keyword_field(Fields::of(line))?;
+    line_after(header, keyword, fields)
+}
+
+/// The event or the end that a line after the header says; the bytes are the line's without its
+/// newline. Where the line isn't the one spelling of an item, the answer is the first cause:
+/// `UnknownWord` where the first field is no word of the table of lines, and then, for each field from
+/// left to right, `MissingField` where it is absent and else the cause of its kind where it can't be
+/// read, and at last `ExtraField` where a further field follows. Source: project's own choice.
+#[tactic(auto, using(bbm_events::proofs::Readings::item_of_fits, bbm_events::proofs::Causes::item_of_causes))]
+pub fn read_event(header: &Header, line: &[u8]) -> Result<Item, Malformed>
+    ensures item { result ≡ item_of header.now line.now }
+    ensures fits { IfOk result (λ item. item_fits header.now item ≡ true) }
+    ensures causes { IfErr result IsLineCause }
+{
+    item_on(header, line)
+}

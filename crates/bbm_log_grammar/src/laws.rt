@@ -1,0 +1,21 @@
+//! What reading and writing promise of each other.
+
+ghost use Rattle.std.specs.Prelude.{◌≡◌, ℕ, List, true, Ok};
+ghost use Rattle.bbm_events.specs.declared.event.Item.{Item};
+ghost use Rattle.bbm_events.specs.Heading.{Heading, heading_ok};
+ghost use Rattle.bbm_events.specs.Fits.{item_fits};
+ghost use Rattle.bbm_events.specs.Lines.{header_of, item_of, header_line, item_line};
+
+/// A written header is read as the same header, and a written item that fits is read as the same item.
+#[tactic(auto, using(crate::proofs::Written::header_written_is_read, crate::proofs::Written::item_written_is_read))]
+pub fn law_written_is_read()
+    ensures header { (heading : Heading) → heading_ok heading ≡ true → header_of (header_line heading) ≡ Ok heading }
+    ensures item { (heading : Heading) (item : Item) → heading_ok heading ≡ true → item_fits heading item ≡ true → item_of heading (item_line item) ≡ Ok item }
+{}
+
+/// Each header and each item has one line: what a line is read as is written as that line.
+#[tactic(auto, using(crate::proofs::OneLine::header_one_line, crate::proofs::OneLine::item_one_line))]
+pub fn law_one_line()
+    ensures header { (line : List ℕ) (heading : Heading) → header_of line ≡ Ok heading → line ≡ header_line heading }
+    ensures item { (heading : Heading) (line : List ℕ) (item : Item) → item_of heading line ≡ Ok item → line ≡ item_line item }
+{}

@@ -1,0 +1,4 @@
+pub mod Pieces
+pub mod Run
+pub mod Stages
+pub mod Writing

@@ -1,0 +1,12 @@
+//! The top call: a log is read from a source and judged, and the verdict is written to a sink.
+#![tactic(auto)]
+
+mod judging;
+mod line;
+pub mod status;
+mod stop;
+mod text;
+mod top;
+
+pub use status::Status;
+pub use top::run;
