@@ -7,7 +7,8 @@ use Rattle.bbm_events.specs.declared.event.Event.TheVariants.{Init, Root, Write,
 use Rattle.bbm_rules.specs.declared.claim.Claim.TheVariants.{Place}
 use Rattle.bbm_rules.specs.declared.rule.Rule.TheVariants.{BreakBeforeMake}
 use Rattle.bbm_rules.specs.declared.verdict.Verdict.TheVariants.{Accepted, Refused}
-use Rattle.bbm_rules.specs.Broken.{verdict_of}
+use Rattle.bbm_rules.specs.Broken.{broken, verdict_of}
+use Rattle.bbm_rules.specs.Tree.{tree}
 use Rattle.bbm_rules.specs.Claims.Trust.{Listed}
 use Rattle.bbm_rules.proofs.Judged.{hyp, ish, ishst}
 
@@ -28,15 +29,18 @@ remap = reverse (
 -- The claims name the publication, the TLBI and its answer at each of the two PEs.
 pub verify_the_cert :
     verdict_of (hyp 2 1 1 1) (Listed (Place 0 0x40000008 6 7 8 ∷ Place 1 0x40000008 6 7 8 ∷ [])) remap ≡ Accepted 9
+unfolding broken tree
 verify_the_cert = refl
 
 -- Nothing is claimed of PE 1.
 pub verify_with_a_claim_missing :
     verdict_of (hyp 2 1 1 1) (Listed (Place 0 0x40000008 6 7 8 ∷ [])) remap ≡ Refused 10 BreakBeforeMake 0x40000008
+unfolding broken tree
 verify_with_a_claim_missing = refl
 
 -- The DSB at 4 came before the clear, so it publishes nothing of it.
 pub verify_with_a_wrong_position :
     verdict_of (hyp 2 1 1 1) (Listed (Place 0 0x40000008 4 7 8 ∷ Place 1 0x40000008 6 7 8 ∷ [])) remap
     ≡ Refused 10 BreakBeforeMake 0x40000008
+unfolding broken tree
 verify_with_a_wrong_position = refl

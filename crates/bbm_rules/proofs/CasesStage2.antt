@@ -6,6 +6,8 @@ use Rattle.bbm_tlbi_scope.specs.declared.op.TlbiOp.TheVariants.{Vmalle1is, Vmall
 use Rattle.bbm_events.specs.declared.event.Event.TheVariants.{Init, Root, Write, Dsb, Isb, Tlbi, Msr}
 use Rattle.bbm_rules.specs.declared.rule.Rule.TheVariants.{BreakBeforeMake, NotFresh, PageInUse, UnsyncedVmid}
 use Rattle.bbm_rules.specs.declared.verdict.Verdict.TheVariants.{Accepted, Refused}
+use Rattle.bbm_rules.specs.Broken.{broken}
+use Rattle.bbm_rules.specs.Tree.{tree}
 use Rattle.bbm_rules.proofs.Judged.{hyp, judged, ish, ishst}
 
 -- The flush by address is answered, then the flush of the combined entries is issued and answered.
@@ -23,6 +25,7 @@ pub stage2_two_step_flush : judged (hyp 2 1 1 1) (
     ∷ Dsb 0 ish
     ∷ Write 0 0x40002008 0xc00007fd
     ∷ []) ≡ Accepted 12
+unfolding broken tree
 stage2_two_step_flush = refl
 
 -- Both are issued before one DSB answers them.
@@ -39,6 +42,7 @@ pub stage2_two_steps_under_one_dsb : judged (hyp 2 1 1 1) (
     ∷ Dsb 0 ish
     ∷ Write 0 0x40002008 0xc00007fd
     ∷ []) ≡ Refused 12 BreakBeforeMake 0x40002008
+unfolding broken tree
 stage2_two_steps_under_one_dsb = refl
 
 -- A table is flushed whole; its page is initialised and linked elsewhere.
@@ -57,6 +61,7 @@ pub stage2_table_flushed_whole_and_linked_elsewhere : judged (hyp 2 1 1 1) (
     ∷ Init 0 0x40003000
     ∷ Write 0 0x40002010 0x40003003
     ∷ []) ≡ Accepted 13
+unfolding broken tree
 stage2_table_flushed_whole_and_linked_elsewhere = refl
 
 -- A one-page flush doesn't cover a table whose places hold something, so its page still hangs.
@@ -76,6 +81,7 @@ pub table_with_children_flushed_by_one_page : judged (hyp 2 1 1 1) (
     ∷ Dsb 0 ish
     ∷ Write 0 0x40002010 0x40003003
     ∷ []) ≡ Refused 15 NotFresh 0x40003000
+unfolding broken tree
 table_with_children_flushed_by_one_page = refl
 
 -- The same, and the page is initialised.
@@ -95,6 +101,7 @@ pub page_still_hanging_is_initialised : judged (hyp 2 1 1 1) (
     ∷ Dsb 0 ish
     ∷ Init 0 0x40003000
     ∷ []) ≡ Refused 15 PageInUse 0x40003000
+unfolding broken tree
 page_still_hanging_is_initialised = refl
 
 -- The flush comes under VMID 0, and the root holds VMID 5.
@@ -112,6 +119,7 @@ pub flush_under_another_vmid : judged (hyp 1 1 1 1) (
     ∷ Dsb 0 ish
     ∷ Write 0 0x40002008 0xc00007fd
     ∷ []) ≡ Refused 13 BreakBeforeMake 0x40002008
+unfolding broken tree
 flush_under_another_vmid = refl
 
 -- A TLBI scoped by VMID comes between a write of VTTBR_EL2 and its ISB.
@@ -121,6 +129,7 @@ pub vmid_of_the_tlbi_not_synchronised : judged (hyp 2 1 1 1) (
     ∷ Msr 1 VttbrEl2 0x5000040002000
     ∷ Tlbi 1 Vmalle1is 0
     ∷ []) ≡ Refused 5 UnsyncedVmid 0x1
+unfolding broken tree
 vmid_of_the_tlbi_not_synchronised = refl
 
 -- A root of sixteen joined pages is written in its last page.
@@ -144,4 +153,5 @@ pub walk_over_joined_stage2_root : judged (hyp 1 1 1 16) (
     ∷ Root 0 S2 None 0x40010000
     ∷ Write 0 0x4001fff8 0xc00007fd
     ∷ []) ≡ Accepted 18
+unfolding broken tree
 walk_over_joined_stage2_root = refl

@@ -7,3 +7,4 @@ pub mod OpenLaw
 pub mod TagLaw
 pub mod NotesLaw
 pub mod CasesClaims
+pub mod Patterns

@@ -51,7 +51,7 @@ first_broken heading trust h e (rule ∷ rest) =
     breach_or rule (breaks heading trust h e rule) (first_broken heading trust h e rest)
 
 -- The least rule that the event breaks after the history, or none. Source: project's own choice.
-abbrev pub broken : Heading → Trust → List Event → Event → Option Breach
+unfoldable pub broken : Heading → Trust → List Event → Event → Option Breach
 broken heading trust h e = first_broken heading trust (noted heading trust h) e rules
 
 -- A log keeps the rules where each event breaks none after those before it.

@@ -38,5 +38,5 @@ phase_in heading trust h place p (Some n) = phase_since heading trust h n place 
 abbrev pub phase_after : Heading → Trust → List Noted → ℕ → ℕ → Phase
 phase_after heading trust h place p = phase_in heading trust h place p (node_of heading trust h (page_of place))
 
-abbrev pub phase_of : Heading → Trust → List Event → ℕ → ℕ → Phase
+unfoldable pub phase_of : Heading → Trust → List Event → ℕ → ℕ → Phase
 phase_of heading trust h place p = phase_after heading trust (noted heading trust h) place p

@@ -97,7 +97,7 @@ nodes_at heading trust h (suc level) =
     flat_map (starts_at heading (suc level)) (roots_of (events_of h))
     ++ flat_map (children heading trust h) (nodes_at heading trust h level)
 
-abbrev pub tree : Heading → Trust → List Noted → List Node
+unfoldable pub tree : Heading → Trust → List Noted → List Node
 tree heading trust h =
     nodes_at heading trust h 0 ++ nodes_at heading trust h 1 ++ nodes_at heading trust h 2 ++ nodes_at heading trust h 3
 
