@@ -3,8 +3,8 @@ use Rattle.std.specs.Prelude.{ℕ, List, reverse}
 use Rattle.bbm_regimes.specs.declared.regime.AsidFrom.{AsidFrom}
 use Rattle.bbm_regimes.specs.declared.regime.World.TheVariants.{Hyp, Kernel}
 use Rattle.bbm_barriers.specs.declared.Dsb.{Dsb as Barrier}
-use Rattle.bbm_barriers.specs.declared.Domain.TheVariants.{Full, Inner, Outer, Non}
-use Rattle.bbm_barriers.specs.declared.Types.TheVariants.{All, Stores, Loads}
+use Rattle.bbm_barriers.specs.declared.Domain.TheVariants.{Inner, Non}
+use Rattle.bbm_barriers.specs.declared.Types.TheVariants.{All, Stores}
 use Rattle.bbm_events.specs.Heading.{Heading}
 use Rattle.bbm_events.specs.declared.event.Event.{Event}
 use Rattle.bbm_rules.specs.declared.verdict.Verdict.{Verdict}
