@@ -3,11 +3,10 @@
 
 use bbm_io::{StdSink, StdSource};
 use bbm_session::{Status, run};
-use std::env;
-use std::io;
 use std::io::ErrorKind;
 use std::process::ExitCode;
 use std::rt::Env;
+use std::{env, io};
 
 // The words after the program's name.
 fn words<R: Env + AllocGlobal>(rt: &R) -> io::Result<Vec<String>> {

@@ -1,5 +1,5 @@
 -- How the outcome goes on after one line, over what a source had left and has left.
-use Rattle.std.proofs.Common.{◌≡◌, ◌≢◌, ℕ, suc, ◌+◌, ◌<◌, ◌≤◌, Bool, true, false, not, nat_eq, nat_lt, List, [], ◌++◌, length, drop, Option, Some, None, refl, ap, sym, ◌∙◌, arith, append_assoc, append-nil, length-append, add-one, subst, nat_le, ◌⊎◌, inl, inr, ◌∷◌, Result, Ok, Err}
+use Rattle.std.proofs.Common.{◌≡◌, ◌≢◌, ℕ, suc, ◌<◌, ◌≤◌, true, false, nat_eq, List, [], ◌++◌, length, drop, Option, Some, None, refl, ap, sym, ◌∙◌, arith, append_assoc, append-nil, length-append, add-one, subst, nat_le, inl, inr, ◌∷◌, Result, Ok, Err}
 use Rattle.std.proofs.Math.ListN.{drop_of_length-le}
 use Rattle.std.proofs.Math.Seq.{drop-append_seam}
 use Rattle.std.proofs.lemmas.Bool.Decides.{nat_tests}
@@ -14,13 +14,13 @@ use Rattle.bbm_oracle.specs.Taken.{Taken}
 use Rattle.bbm_rules.specs.declared.verdict.Verdict.{Verdict}
 use Rattle.bbm_rules.specs.declared.verdict.Verdict.TheVariants.{Accepted, Malformed, Limit}
 use Rattle.bbm_rules.specs.FirstPath.{Breach, broken, is_built}
-use Rattle.bbm_rules.specs.Outcome.{Limits, check_limits, AtHeader, AtEvents, AtEnd, after_header, after_item, after_event, after_judged, Progress, Step, Decides, GoesOn, Outcome, outcome_from, outcome_after, text_of, bytes_of, is_too_long, step_of, end_of, after_line, cut_at, too_long_at, events_in, unread_after}
+use Rattle.bbm_rules.specs.Outcome.{Limits, check_limits, AtHeader, AtEvents, AtEnd, after_header, after_item, after_event, after_judged, Progress, Decides, GoesOn, Outcome, outcome_from, outcome_after, text_of, bytes_of, is_too_long, step_of, end_of, after_line, cut_at, too_long_at, events_in}
 use Rattle.bbm_session.specs.declared.line.Piece.TheVariants.{Line, Rest, TooLong}
 use Rattle.bbm_session.specs.declared.stop.Stop.{Stop}
 use Rattle.bbm_session.specs.declared.stop.Stop.TheVariants.{Decided, ReadFault, NoMemory}
 use Rattle.bbm_session.specs.declared.stop.Turn.{Turn}
 use Rattle.bbm_session.specs.declared.stop.Turn.TheVariants.{Event, End}
-use Rattle.bbm_session.specs.Pieces.{IsLong, Takes}
+use Rattle.bbm_session.specs.Pieces.{Takes}
 use Rattle.bbm_session.specs.Stages.{outcome_at, Shrinks, Continues, Concludes, Stops, StopsAt, JudgesHeader, JudgesLine, Starts, Advances}
 use Rattle.bbm_session.proofs.Texts.{plain-head, text_of-line, text_of-plain, text_of-prefix, bytes_of-text_of, prefixed}
 
@@ -99,7 +99,7 @@ long-at limits n p line [] rest is_long = (end_of-long n p (line ++ rest) (longe
 long-at limits n p line (first ∷ lines) rest is_long =
     let too_long = longer line first is_long in
     let unread : drop 201 ((line ++ first) ++ 10 ∷ bytes_of lines rest) ≡ first ++ 10 ∷ bytes_of lines rest =
-        ap (λ x. drop 201 x) (append_assoc line first (10 ∷ bytes_of lines rest)) ∙ seam line (first ++ 10 ∷ bytes_of lines rest) is_long in
+    ap (λ x. drop 201 x) (append_assoc line first (10 ∷ bytes_of lines rest)) ∙ seam line (first ++ 10 ∷ bytes_of lines rest) is_long in
     rw (step_of-long limits n p (line ++ first) too_long, long (line ++ first) too_long) (refl, unread)
 
 -- 201 bytes without a newline

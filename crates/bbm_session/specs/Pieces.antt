@@ -1,6 +1,6 @@
 -- What one call takes from the source. No public contract cites these words.
 use Rattle.std.specs.Prelude.{◌≡◌, ◌≢◌, ℕ, ◌+◌, ◌≤◌, List, [], ◌∷◌, ◌++◌, length, Option, false}
-use Rattle.bbm_io.specs.Flow.{preceded, AtEnd, plain}
+use Rattle.bbm_io.specs.Flow.{preceded, AtEnd}
 use Rattle.bbm_io.specs.Reading.{Reading}
 use Rattle.bbm_session.specs.declared.line.Piece.{Piece}
 use Rattle.bbm_session.specs.declared.line.Piece.TheVariants.{Line, Rest, TooLong, ReadFault}

@@ -1,6 +1,6 @@
 -- What the contracts of the session's parts say: how the outcome of what a source has left goes on from part to
 -- part. No public contract cites these words.
-use Rattle.std.specs.Prelude.{◌≡◌, ℕ, suc, ◌+◌, ◌*◌, ◌≤◌, false, List, [], ◌∷◌, ◌++◌, length, Option, Some, None, Result, Ok, Err}
+use Rattle.std.specs.Prelude.{◌≡◌, ℕ, ◌+◌, ◌*◌, ◌≤◌, false, List, [], length, Option, Some, None, Result, Ok, Err}
 use Rattle.bbm_io.specs.Faults.{Rose}
 use Rattle.bbm_io.specs.Flow.{preceded}
 use Rattle.bbm_io.specs.Reading.{Reading}

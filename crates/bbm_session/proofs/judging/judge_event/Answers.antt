@@ -1,4 +1,4 @@
-use Rattle.std.proofs.Common.{◌≡◌, ℕ, ◌∷◌, ◌≤◌, ◌<◌, length, Bool, true, None, sym, ap, ◌∙◌, refl, arith}
+use Rattle.std.proofs.Common.{◌≡◌, ◌∷◌, ◌≤◌, ◌<◌, length, true, None, sym, ap, ◌∙◌, refl, arith}
 use Rattle.bbm_rules.specs.FirstPath.{broken, is_built}
 use Rattle.bbm_session.proofs.Stages.{event-limit, event-kept}
 use Rattle.bbm_session.proofs.judging.judge_event.Goals as goal

@@ -1,4 +1,4 @@
-use Rattle.std.proofs.Common.{◌≡◌, ℕ, length, nat_eq, true, false, refl, sym, ap, ◌∙◌}
+use Rattle.std.proofs.Common.{◌≡◌, length, nat_eq, true, false, refl, sym, ap, ◌∙◌}
 use Rattle.bbm_events.specs.declared.malformed.Malformed.TheVariants.{AfterEnd}
 use Rattle.bbm_rules.specs.declared.verdict.Verdict.TheVariants.{Accepted, Malformed}
 use Rattle.bbm_rules.specs.Outcome.{check_limits, AtEnd}
