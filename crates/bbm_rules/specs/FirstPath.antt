@@ -3,20 +3,20 @@
 -- the events that the oracle judges so far, and they go when the oracle is written over the whole ones.
 --
 -- A history is the list of the events taken so far, the newest first.
-use Rattle.std.specs.Prelude.{ℕ, ◌+◌, ◌*◌, ◌/◌, ◌%◌, ◌^◌, zero, suc, Bool, true, false, ◌&&◌, ◌||◌, not, ◌==◌, nat_eq, List, [], ◌∷◌, Option, Some, None, is_none, if◌then◌else◌}
+use Rattle.std.specs.Prelude.{ℕ, ◌*◌, ◌/◌, ◌%◌, ◌^◌, zero, suc, Bool, true, false, ◌&&◌, ◌||◌, not, ◌==◌, List, [], ◌∷◌, Option, Some, None, is_none, if◌then◌else◌}
 use Rattle.bbm_regimes.specs.declared.regime.Kind.{Kind}
-use Rattle.bbm_regimes.specs.declared.regime.Kind.TheVariants.{El2, S2, Ttbr0, Ttbr1}
+use Rattle.bbm_regimes.specs.declared.regime.Kind.TheVariants.{El2}
 use Rattle.bbm_regimes.specs.declared.regime.World.{World}
 use Rattle.bbm_regimes.specs.declared.regime.World.TheVariants.{Hyp, Kernel}
 use Rattle.bbm_barriers.specs.declared.Domain.{Domain}
-use Rattle.bbm_barriers.specs.declared.Domain.TheVariants.{Full, Inner, Outer, Non}
+use Rattle.bbm_barriers.specs.declared.Domain.TheVariants.{Inner}
 use Rattle.bbm_barriers.specs.declared.Types.{Types}
-use Rattle.bbm_barriers.specs.declared.Types.TheVariants.{All, Stores, Loads}
+use Rattle.bbm_barriers.specs.declared.Types.TheVariants.{All}
 use Rattle.bbm_tlbi_scope.specs.declared.op.TlbiOp.{TlbiOp}
 use Rattle.bbm_tlbi_scope.specs.declared.op.TlbiOp.TheVariants.{Alle2is}
 use Rattle.bbm_descriptor.specs.Descriptor.{is_valid, needs}
 use Rattle.bbm_events.specs.declared.event.Event.{Event}
-use Rattle.bbm_events.specs.declared.event.Event.TheVariants.{Init, Null, Root, Unroot, Write, Dsb, Dmb, Isb, Tlbi, Msr, Lock, Unlock}
+use Rattle.bbm_events.specs.declared.event.Event.TheVariants.{Init, Root, Write, Dsb, Tlbi}
 use Rattle.bbm_events.specs.Heading.{Heading}
 use Rattle.bbm_rules.specs.declared.rule.Rule.{Rule}
 use Rattle.bbm_rules.specs.declared.rule.Rule.TheVariants.{BreakBeforeMake, PageInUse}

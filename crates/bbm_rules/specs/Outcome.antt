@@ -1,7 +1,6 @@
 -- The verdict on a list of bytes: a fold over its lines. It knows nothing of a reader or of a checker.
 -- Source: project's own choice.
-use Rattle.std.specs.Prelude.{ℕ, zero, suc, Bool, true, false, ◌==◌, nat_lt, nat_le, List, [], ◌∷◌, ◌++◌, length, drop, Option, Some, None, Result, Ok, Err, if◌then◌else◌}
-use Rattle.bbm_regimes.specs.declared.regime.Which.{Which}
+use Rattle.std.specs.Prelude.{ℕ, suc, Bool, false, ◌==◌, nat_lt, nat_le, List, [], ◌∷◌, ◌++◌, length, drop, Option, Some, None, Result, Ok, Err, if◌then◌else◌}
 use Rattle.bbm_regimes.specs.declared.regime.Which.TheVariants.{LineBytes, Events}
 use Rattle.bbm_events.specs.declared.event.Event.{Event}
 use Rattle.bbm_events.specs.declared.event.Item.{Item}
