@@ -4,6 +4,7 @@ ghost use Rattle.std.specs.Prelude.{◌≡◌, ◌≢◌, ◌≤◌, ◌<◌, �
 ghost use Rattle.std.specs.String.{string_bytes};
 ghost use Rattle.bbm_io.specs.Faults.{Rose};
 ghost use Rattle.bbm_io.specs.Flow.{preceded, extended};
+ghost use Rattle.bbm_rules.specs.declared.verdict.Verdict.{Verdict as VerdictOf};
 ghost use Rattle.bbm_rules.specs.Outcome.{check_limits, outcome_of, verdict_of};
 ghost use Rattle.bbm_rules.specs.Texts.{verdict_text};
 ghost use Rattle.bbm_session.specs.Run.{says_check, status_of, tells_verdict, usage_text};
@@ -104,16 +105,21 @@ pub fn run<S: Source, K: Sink>(
         → result ≡ status_of (verdict_of check_limits bytes) }
     ensures text { (bytes : List ℕ) → S.left log.old ≡ Some bytes → tells_verdict result ≡ true
         → K.held out.new ≡ extended (K.held out.old) (verdict_text (verdict_of check_limits bytes)) }
+    ensures some_verdict { tells_verdict result ≡ true → (verdict : VerdictOf) × (result ≡ status_of verdict)
+        × (K.held out.new ≡ extended (K.held out.old) (verdict_text verdict)) }
     ensures unread { (bytes : List ℕ) → S.left log.old ≡ Some bytes → tells_verdict result ≡ true
         → S.left log.new ≡ Some (outcome_of check_limits bytes).unread }
 
     // The faults, by their causes.
     ensures read_fault { result ≡ Status.ReadFault → Rose (S.faults log.old) (S.faults log.new) }
     ensures write_fault { result ≡ Status.WriteFault → Rose (K.faults out.old) (K.faults out.new) }
-    ensures part { result ≡ Status.WriteFault → (text : List ℕ) × Part text (K.held out.old) (K.held out.new) }
+    ensures part_of_usage { result ≡ Status.WriteFault → says_check (map string_bytes words.now.items) ≡ false
+        → Part usage_text (K.held out.old) (K.held out.new) }
     ensures part_of_text { (bytes : List ℕ) → S.left log.old ≡ Some bytes → result ≡ Status.WriteFault
         → says_check (map string_bytes words.now.items) ≡ true
         → Part (verdict_text (verdict_of check_limits bytes)) (K.held out.old) (K.held out.new) }
+    ensures part_of_some { result ≡ Status.WriteFault → says_check (map string_bytes words.now.items) ≡ true
+        → (verdict : VerdictOf) × Part (verdict_text verdict) (K.held out.old) (K.held out.new) }
     ensures unwritten { (result ≡ Status.ReadFault) ⊎ (result ≡ Status.NoMemory)
         → K.held out.new ≡ K.held out.old }
 
