@@ -1,2 +1,7 @@
 pub mod Causes
+pub mod Joining
+pub mod OneLine
+pub mod OneSpelling
 pub mod Readings
+pub mod WordsRead
+pub mod Written

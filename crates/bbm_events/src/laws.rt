@@ -5,7 +5,7 @@ ghost use Rattle.bbm_events.specs.declared.event.Item.{Item};
 ghost use Rattle.bbm_events.specs.Heading.{Heading, heading_ok};
 ghost use Rattle.bbm_events.specs.Causes.{IsHeaderCause, IsLineCause};
 ghost use Rattle.bbm_events.specs.Fits.{item_fits};
-ghost use Rattle.bbm_events.specs.Lines.{header_of, item_of};
+ghost use Rattle.bbm_events.specs.Lines.{header_of, item_of, header_line, item_line};
 
 /// Each header that a line spells has its numbers in their ranges.
 #[tactic(auto, using(crate::proofs::Readings::header_of_ok))]
@@ -29,4 +29,18 @@ pub fn law_header_causes()
 #[tactic(auto, using(crate::proofs::Causes::item_of_causes))]
 pub fn law_item_causes()
     ensures { (heading : Heading) (line : List ℕ) → IfErr (item_of heading line) IsLineCause }
+{}
+
+/// A written header is read as the same header, and a written item that fits is read as the same item.
+#[tactic(auto, using(crate::proofs::Written::header_written_is_read, crate::proofs::Written::item_written_is_read))]
+pub fn law_written_is_read()
+    ensures header { (heading : Heading) → heading_ok heading ≡ true → header_of (header_line heading) ≡ Ok heading }
+    ensures item { (heading : Heading) (item : Item) → heading_ok heading ≡ true → item_fits heading item ≡ true → item_of heading (item_line item) ≡ Ok item }
+{}
+
+/// Each header and each item has one line: what a line is read as is written as that line.
+#[tactic(auto, using(crate::proofs::OneLine::header_one_line, crate::proofs::OneLine::item_one_line))]
+pub fn law_one_line()
+    ensures header { (line : List ℕ) (heading : Heading) → header_of line ≡ Ok heading → line ≡ header_line heading }
+    ensures item { (heading : Heading) (line : List ℕ) (item : Item) → item_of heading line ≡ Ok item → line ≡ item_line item }
 {}

@@ -12,7 +12,10 @@ pub use event::{Event, Item};
 pub use fitting::{fits, root_pages};
 pub use header::Header;
 pub use keyword::Keyword;
-pub use laws::{law_header_causes, law_header_in_range, law_item_causes, law_item_fits};
+pub use laws::{
+    law_header_causes, law_header_in_range, law_item_causes, law_item_fits, law_one_line,
+    law_written_is_read,
+};
 pub use malformed::Malformed;
 
 #[cfg(test)]

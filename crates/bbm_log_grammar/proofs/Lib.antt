@@ -1,9 +1,4 @@
 pub mod Numerals
 pub mod Splitting
-pub mod Joining
-pub mod OneLine
 pub mod Short
 pub mod Spelled
-pub mod OneSpelling
-pub mod WordsRead
-pub mod Written

@@ -10,7 +10,7 @@ ghost use Rattle.bbm_events.specs.declared.keyword.Keyword.TheVariants as first;
 use crate::fields::Fields;
 use crate::readers::*;
 use crate::words::keyword_of;
-use bbm_events::{Event, Header, Item, Keyword, Malformed};
+use bbm_events::{Event, Header, Item, Keyword, Malformed, law_item_causes, law_item_fits};
 
 fn init_line(header: &Header, fields: Fields) -> Result<Item, Malformed>
     ensures { result ≡ lines.line_after header.now first.Init fields.entry }
@@ -171,11 +171,12 @@ fn item_on(header: &Header, line: &[u8]) -> Result<Item, Malformed>
 /// `UnknownWord` where the first field is no word of the table of lines, and then, for each field from
 /// left to right, `MissingField` where it is absent and else the cause of its kind where it can't be
 /// read, and at last `ExtraField` where a further field follows. Source: project's own choice.
-#[tactic(auto, using(bbm_events::proofs::Readings::item_of_fits, bbm_events::proofs::Causes::item_of_causes))]
 pub fn read_event(header: &Header, line: &[u8]) -> Result<Item, Malformed>
     ensures item { result ≡ item_of header.now line.now }
     ensures fits { IfOk result (λ item. item_fits header.now item ≡ true) }
     ensures causes { IfErr result IsLineCause }
 {
+    law_item_fits();
+    law_item_causes();
     item_on(header, line)
 }

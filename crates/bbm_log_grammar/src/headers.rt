@@ -11,7 +11,7 @@ ghost use Rattle.bbm_events.specs.Lines as lines;
 use crate::fields::Fields;
 use crate::numbers::read_decimal;
 use crate::words::asid_from_of;
-use bbm_events::{Header, Malformed};
+use bbm_events::{Header, Malformed, law_header_causes};
 use bbm_regimes::{AsidFrom, World};
 
 /// A field that is this word.
@@ -144,10 +144,10 @@ fn header_on(line: &[u8]) -> Result<Header, Malformed>
 /// The header that line 1 says; the bytes are the line's without its newline. `NoMagic` where the
 /// first two fields aren't `bbmlog` and `1`, and `BadHeader` where the line isn't the one spelling of a
 /// header for another reason. Source: project's own choice.
-#[tactic(auto, using(bbm_events::proofs::Causes::header_of_causes))]
 pub fn read_header(line: &[u8]) -> Result<Header, Malformed>
     ensures header { result ≡ header_of line.now }
     ensures causes { IfErr result IsHeaderCause }
 {
+    law_header_causes();
     header_on(line)
 }

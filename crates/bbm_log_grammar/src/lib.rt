@@ -4,7 +4,6 @@
 mod events;
 mod fields;
 mod headers;
-pub mod laws;
 mod numbers;
 mod readers;
 pub mod spell;
@@ -12,10 +11,10 @@ mod values;
 mod words;
 pub mod write;
 
+pub use bbm_events::{law_one_line, law_written_is_read};
 pub use events::read_event;
 pub use fields::field;
 pub use headers::read_header;
-pub use laws::{law_one_line, law_written_is_read};
 pub use numbers::{read_decimal, read_hex};
 pub use spell::{add, add_decimal, add_hex};
 pub use write::{write_event, write_header};

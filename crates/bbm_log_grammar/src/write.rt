@@ -13,7 +13,7 @@ use crate::spell::{add, add_decimal, add_hex};
 use crate::words::{asid_from_word, dsb_word, kind_word, op_word, reg_word};
 use arrayvec::ArrayVec;
 use bbm_barriers::Dsb;
-use bbm_events::{Event, Header, Item};
+use bbm_events::{Event, Header, Item, law_written_is_read};
 use bbm_regimes::{AsidFrom, Kind, Page, Pe, Place, Reg, World};
 use bbm_tlbi_scope::TlbiOp;
 
@@ -202,12 +202,12 @@ fn kernel_line(out: &mut ArrayVec<u8, 200>, pes: u8, start0: u8, start1: u8, asi
 
 /// Writes line 1 of a log with this header, without its newline, into an empty buffer. Reading the line
 /// gives the header again. Source: project's own choice.
-#[tactic(auto, using(crate::proofs::Written::header_written_is_read))]
 pub fn write_header(header: &Header, out: &mut ArrayVec<u8, 200>)
     requires empty { out.old.items ≡ [] }
     ensures line { out.new.items ≡ header_line header.now }
     ensures read_again { header_of out.new.items ≡ Ok header.now }
 {
+    law_written_is_read();
     match header.world {
         World::Hyp {
             el2_start,
@@ -240,7 +240,6 @@ fn any_line(item: Item, out: &mut ArrayVec<u8, 200>)
 /// Writes the line of an event, or the last line with its count, without its newline, into an empty
 /// buffer. The item has to fit the header. Reading the line gives the item again. Source: project's own
 /// choice.
-#[tactic(auto, using(crate::proofs::Written::item_written_is_read))]
 pub fn write_event(header: &Header, item: Item, out: &mut ArrayVec<u8, 200>)
     requires empty { out.old.items ≡ [] }
     requires fits { item_fits header.now item ≡ true }
@@ -249,5 +248,6 @@ pub fn write_event(header: &Header, item: Item, out: &mut ArrayVec<u8, 200>)
 {
     // The header's type keeps its ranges, without which no PE could be read again.
     let _pes = header.pes;
+    law_written_is_read();
     any_line(item, out);
 }

@@ -16,7 +16,7 @@ use Rattle.bbm_tlbi_scope.specs.declared.op.TlbiOp.TheVariants.{Alle2, Alle2is, 
 use Rattle.bbm_events.specs.declared.keyword.Keyword.{Keyword}
 use Rattle.bbm_events.specs.declared.keyword.Keyword.TheVariants as first
 use Rattle.bbm_events.specs.Words.{value_of, keyword_word, keywords, kind_word, kinds, reg_word, regs, asid_from_word, asid_froms, option_word, dsb_word, dsbs, op_word, ops}
-use Rattle.bbm_log_grammar.proofs.Joining.{no_space}
+use Rattle.bbm_events.proofs.Joining.{no_space}
 
 pub keyword_word_read : (keyword : Keyword) → value_of keyword_word keywords (keyword_word keyword) ≡ Some keyword
 keyword_word_read first.Init = refl

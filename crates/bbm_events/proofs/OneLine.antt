@@ -23,8 +23,8 @@ use Rattle.bbm_events.specs.Words.{value_of, keyword_word, keywords, kind_word, 
 use Rattle.bbm_events.specs.Fits.{is_pe, is_page, is_place, is_lock, is_count, is_root_page}
 use Rattle.bbm_events.specs.Lines.{Fields, Reading, next_field, passing, checked, header_field, hyp_fields, kernel_fields, world_fields, header_of, item_of, line_after, line_field, pe_field, page_field, place_field, root_page_field, value_field, operand_field, lock_field, lock_value, root_lock, root_lock_field, count_field, kind_field, dsb_field, op_field, reg_field, whole, pe_alone, pe_and, pe_and_two, root_line, tlbi_line, end_line, header_fields, header_line, lock_text, operand_fields, item_fields, item_line, magic_field, exactly}
 use Rattle.bbm_events.proofs.Readings.{bind_ok, field_ok}
-use Rattle.bbm_log_grammar.proofs.Joining.{joined_fields}
-use Rattle.bbm_log_grammar.proofs.OneSpelling.{decimal_once, hex_once, word_once}
+use Rattle.bbm_events.proofs.Joining.{joined_fields}
+use Rattle.bbm_events.proofs.OneSpelling.{decimal_once, hex_once, word_once}
 
 passing_from : (test : ℕ → Bool) (o : Option ℕ) {n : ℕ} → passing test o ≡ Some n → o ≡ Some n
 passing_from test None e = cc

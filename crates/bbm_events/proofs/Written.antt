@@ -25,9 +25,9 @@ use Rattle.bbm_tlbi_scope.specs.Operations.{has_operand}
 use Rattle.bbm_events.specs.Words.{value_of, keyword_word, keywords, kind_word, kinds, reg_word, regs, asid_from_word, asid_froms, dsb_word, dsbs, op_word, ops}
 use Rattle.bbm_events.specs.Fits.{root_pages, fits_heading, item_fits, is_pe, is_page, is_place, is_value, is_lock, is_count, is_root_page, is_root_lock, is_operand}
 use Rattle.bbm_events.specs.Lines.{◌>>=◌, Fields, Reading, found, next_field, passing, checked, header_field, world_fields, header_of, item_of, line_after, line_field, pe_field, page_field, place_field, root_page_field, value_field, operand_field, lock_field, lock_value, root_lock, root_lock_field, count_field, kind_field, dsb_field, op_field, reg_field, pe_alone, pe_and, pe_and_two, root_line, tlbi_line, header_fields, header_line, lock_text, operand_fields, event_fields, item_fields, item_line, magic_field}
-use Rattle.bbm_log_grammar.proofs.Joining.{no_space, no_spaces, fields_joined, digits_no_space}
-use Rattle.bbm_log_grammar.proofs.OneSpelling.{decimal_read, hex_read}
-use Rattle.bbm_log_grammar.proofs.WordsRead.{kind_word_read, reg_word_read, asid_from_word_read, dsb_word_read, op_word_read, kind_word_no_space, reg_word_no_space, asid_from_word_no_space, dsb_word_no_space, op_word_no_space}
+use Rattle.bbm_events.proofs.Joining.{no_space, no_spaces, fields_joined, digits_no_space}
+use Rattle.bbm_events.proofs.OneSpelling.{decimal_read, hex_read}
+use Rattle.bbm_events.proofs.WordsRead.{kind_word_read, reg_word_read, asid_from_word_read, dsb_word_read, op_word_read, kind_word_no_space, reg_word_no_space, asid_from_word_no_space, dsb_word_no_space, op_word_no_space}
 
 -- a step that gives a value leads on with it
 on : {A B : Type 0} (r : Result A Malformed) (f : A → Result B Malformed) {x : A} → r ≡ Ok x → (r >>= f) ≡ f x
