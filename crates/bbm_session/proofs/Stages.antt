@@ -99,7 +99,7 @@ long-at limits n p line [] rest is_long = (end_of-long n p (line ++ rest) (longe
 long-at limits n p line (first ∷ lines) rest is_long =
     let too_long = longer line first is_long in
     let unread : drop 201 ((line ++ first) ++ 10 ∷ bytes_of lines rest) ≡ first ++ 10 ∷ bytes_of lines rest =
-        ap (λ x. drop 201 x) (append_assoc line first (10 ∷ bytes_of lines rest)) ∙ seam line (first ++ 10 ∷ bytes_of lines rest) is_long in
+    ap (λ x. drop 201 x) (append_assoc line first (10 ∷ bytes_of lines rest)) ∙ seam line (first ++ 10 ∷ bytes_of lines rest) is_long in
     rw (step_of-long limits n p (line ++ first) too_long, long (line ++ first) too_long) (refl, unread)
 
 -- 201 bytes without a newline

@@ -82,12 +82,7 @@ fn refusal(number: u64, fault: StepFault) -> Stop
 }
 
 // What an event on this line decides.
-fn judge_event(
-    alloc: Global,
-    number: u64,
-    oracle: &mut Oracle,
-    event: Event,
-) -> Result<Turn, Stop>
+fn judge_event(alloc: Global, number: u64, oracle: &mut Oracle, event: Event) -> Result<Turn, Stop>
     requires { length oracle.old.history ≤ 2000 }
     ensures { JudgesLine result
         (after_event check_limits number oracle.old.heading oracle.old.history event)
@@ -200,11 +195,7 @@ pub fn event_lines<S: Source>(
 }
 
 /// Reads behind the `end` line, where nothing may follow.
-pub fn nothing_follows<S: Source>(
-    number: u64,
-    lines: &mut Lines,
-    log: &mut S,
-) -> Result<(), Stop>
+pub fn nothing_follows<S: Source>(number: u64, lines: &mut Lines, log: &mut S) -> Result<(), Stop>
     requires ready { Ready lines.old number }
     requires number { number ≤ 2003 }
     ensures closes { (h : List Event) → Closes result number h (S.left log.old) (S.left log.new)

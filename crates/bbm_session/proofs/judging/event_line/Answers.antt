@@ -13,7 +13,7 @@ returns-in-Line-clause-advances g c =
     let t = c.args.oracle.now in
     let line = c.next_piece.new.lines.bytes in
     let read : c.read_event.result ≡ item_of t.heading line =
-        c.read_event.ensures.item ∙ ap (item_of c.args.header.now) c.bytes.ensures.bytes ∙ ap (λ heading. item_of heading line) (sym c.requires.heading) in
+    c.read_event.ensures.item ∙ ap (item_of c.args.header.now) c.bytes.ensures.bytes ∙ ap (λ heading. item_of heading line) (sym c.requires.heading) in
     let judged = subst (λ r. JudgesLine c.judge_item.result (after_item check_limits c.args.number t.heading t.history r) t c.judge_item.new.oracle) read c.judge_item.ensures in
     line-advances c.judge_item.result c.args.number t c.judge_item.new.oracle line _ _ _ _ c.in-Line.ensures.plain c.in-Line.ensures.within c.in-Line.ensures.takes judged
 

@@ -16,7 +16,7 @@ lines-preserved g c =
       ready = c.in-Ok-Event.ensures.ready;
       continues = continues-trans check_limits 2 c.lines.number (c.lines.number + 1) _ (AtEvents t.heading t.history) (AtEvents t'.heading t'.history) _ _ _ kept.continues taken.0;
       shrinks = shrinks-trans _ _ _ kept.shrinks c.in-Ok-Event.ensures.shrinks;
-      faults = omega (arith, kept.faults, c.in-Ok-Event.ensures.never_falls)
+      faults = omega (arith, kept.faults, c.in-Ok-Event.ensures.never_falls);
     }
 
 pub returns-in-Ok-End-clause-shrinks : goal.returns-in-Ok-End-clause-shrinks

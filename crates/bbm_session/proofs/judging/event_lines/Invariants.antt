@@ -11,7 +11,7 @@ invariant-lines g l = record {
   ready : Ready l.lines l.number;
   continues : Continues check_limits 2 (AtEvents l.header []) (g.S.Source.left l.initial.log) l.number (AtEvents l.oracle.heading l.oracle.history) (g.S.Source.left l.log);
   shrinks : Shrinks (g.S.Source.left l.initial.log) (g.S.Source.left l.log);
-  faults : g.S.Source.faults l.initial.log ≤ g.S.Source.faults l.log
+  faults : g.S.Source.faults l.initial.log ≤ g.S.Source.faults l.log;
 }
 
 abbrev pub decreases-lines : goal.decreases-lines
