@@ -114,6 +114,8 @@ pub fn run<S: Source, K: Sink>(
     ensures part_of_text { (bytes : List ℕ) → S.left log.old ≡ Some bytes → result ≡ Status.WriteFault
         → says_check (map string_bytes words.now.items) ≡ true
         → Part (verdict_text (verdict_of check_limits bytes)) (K.held out.old) (K.held out.new) }
+    ensures part_of_usage { says_check (map string_bytes words.now.items) ≡ false → result ≡ Status.WriteFault
+        → Part usage_text (K.held out.old) (K.held out.new) }
     ensures unwritten { (result ≡ Status.ReadFault) ⊎ (result ≡ Status.NoMemory)
         → K.held out.new ≡ K.held out.old }
 
