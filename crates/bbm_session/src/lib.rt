@@ -10,3 +10,6 @@ mod top;
 
 pub use status::Status;
 pub use top::run;
+
+#[cfg(test)]
+mod tests;

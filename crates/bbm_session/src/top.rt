@@ -100,7 +100,7 @@ pub fn run<S: Source, K: Sink>(
         → S.left log.new ≡ S.left log.old }
 
     // A verdict: the status is that of the verdict of the bytes that were left, its whole text and
-    // nothing else is written, and the bytes that it doesn't need stay unread.
+    // nothing else is written, and the bytes that it doesn't need stay unread, also where the write fails.
     ensures status { (bytes : List ℕ) → S.left log.old ≡ Some bytes → tells_verdict result ≡ true
         → result ≡ status_of (verdict_of check_limits bytes) }
     ensures text { (bytes : List ℕ) → S.left log.old ≡ Some bytes → tells_verdict result ≡ true
@@ -108,6 +108,9 @@ pub fn run<S: Source, K: Sink>(
     ensures some_verdict { tells_verdict result ≡ true → (verdict : VerdictOf) × (result ≡ status_of verdict)
         × (K.held out.new ≡ extended (K.held out.old) (verdict_text verdict)) }
     ensures unread { (bytes : List ℕ) → S.left log.old ≡ Some bytes → tells_verdict result ≡ true
+        → S.left log.new ≡ Some (outcome_of check_limits bytes).unread }
+    ensures unread_untold { (bytes : List ℕ) → S.left log.old ≡ Some bytes → result ≡ Status.WriteFault
+        → says_check (map string_bytes words.now.items) ≡ true
         → S.left log.new ≡ Some (outcome_of check_limits bytes).unread }
 
     // The faults, by their causes.
