@@ -8,3 +8,11 @@ pub mod TagLaw
 pub mod NotesLaw
 pub mod CasesClaims
 pub mod Patterns
+pub mod ListLemmas
+pub mod RuleLemmas
+pub mod HeldLemmas
+pub mod FreshLemmas
+pub mod TreeLemmas
+pub mod PathLemmas
+pub mod GrowthLemmas
+pub mod OneNodeLaw

@@ -1,0 +1,190 @@
+-- What one more event does to what a place holds: nothing new, unless it is a valid write of the place.
+use Rattle.std.proofs.Common.{◌≡◌, ℕ, zero, suc, ◌%◌, ◌&&◌, Bool, true, false, cond, ◌⊎◌, ◌==◌, List, [], ◌∷◌, Option, Some, None, refl, sym, ◌∙◌, ap, subst, inl, inr, arith, true≢false}
+use Rattle.std.proofs.lemmas.Bool.{and_from, and_parts, eq-eqb, eqb-true, or_cases}
+use Rattle.bbm_regimes.specs.declared.regime.Kind.{Kind}
+use Rattle.bbm_descriptor.specs.Descriptor.{Form, form_01, form_11, is_valid, valid_form}
+use Rattle.bbm_descriptor.specs.Fields.{type_bits}
+use Rattle.bbm_events.specs.Heading.{Heading}
+use Rattle.bbm_events.specs.declared.event.Event.{Event}
+use Rattle.bbm_events.specs.declared.event.Event.TheVariants.{Init, Write}
+use Rattle.bbm_rules.proofs.ListLemmas.{with_keeps}
+use Rattle.bbm_rules.proofs.OpenLaw.{In}
+use Rattle.bbm_rules.proofs.Patterns.{cleansed_stays}
+use Rattle.bbm_rules.specs.Claims.{Trust}
+use Rattle.bbm_rules.specs.Cleansing.{cleansed}
+use Rattle.bbm_rules.specs.Held.{ValidWrite, cleansed_everywhere, held, held_after, last_valid, last_valid_after, later}
+use Rattle.bbm_rules.specs.Notes.{Noted, events_of}
+use Rattle.bbm_rules.specs.Places.{among, every_pe, page_of}
+use Rattle.bbm_rules.specs.Values.{written_places}
+
+-- ---- the last valid write
+
+-- the valid write of which one more event came after
+pub record Older (n : Noted) (o : Option ValidWrite) (w : ValidWrite) : Type 0 where
+  pub before : ValidWrite
+  pub is : o ≡ Some before
+  pub same : before.value ≡ w.value
+  pub longer : n ∷ before.since ≡ w.since
+
+pub older : (n : Noted) (o : Option ValidWrite) (w : ValidWrite) → later n o ≡ Some w → Older n o w
+older n None w e = cc
+older n (Some v) w e =
+    let same : record { value = v.value; since = n ∷ v.since } ≡ w = cc in
+    record { before = v; is = refl; same = ap (λ (x : ValidWrite). x.value) same; longer = ap (λ (x : ValidWrite). x.since) same }
+
+-- the event is a valid write of the place, of this value
+pub record ValidAt (kind : Kind) (level place value : ℕ) (e : Event) : Type 0 where
+  pub pe : ℕ
+  pub is : e ≡ Write pe place value
+  pub valid : is_valid kind level value ≡ true
+
+by_write : (kind : Kind) (level place pe at value : ℕ) (o : Option ValidWrite) (w : ValidWrite) (b : Bool)
+    → (at == place && is_valid kind level value) ≡ b
+    → cond b (Some (record { value = value; since = [] })) o ≡ Some w
+    → (o ≡ Some w) ⊎ ValidAt kind level place w.value (Write pe at value)
+by_write kind level place pe at value o w true k e =
+    let parts = and_parts (at == place) (is_valid kind level value) k in
+    let same : record { value = value; since = [] } ≡ w = cc in
+    let there : at ≡ place = eqb-true at place parts.0 in
+    let v : value ≡ w.value = ap (λ (x : ValidWrite). x.value) same in
+    inr (record {
+      pe = pe;
+      is = ap (λ (x : ℕ). Write pe x value) there ∙ ap (Write pe place) v;
+      valid = subst (λ (x : ℕ). is_valid kind level x ≡ true) v parts.1;
+    })
+by_write kind level place pe at value o w false k e = inl e
+
+by_init : (o : Option ValidWrite) (w : ValidWrite) (b : Bool) → cond b None o ≡ Some w → o ≡ Some w
+by_init o w true e = cc
+by_init o w false e = e
+
+pub last_cases : (kind : Kind) (level place : ℕ) (e : Event) (n : Noted) (found : Option ValidWrite) (w : ValidWrite)
+    → last_valid_after kind level place e n found ≡ Some w
+    → (later n found ≡ Some w) ⊎ ValidAt kind level place w.value e
+last_cases kind level place (Write pe at value) n found w e =
+    by_write kind level place pe at value (later n found) w (at == place && is_valid kind level value) refl e
+last_cases kind level place (Init pe page) n found w e = inl (by_init (later n found) w (page == page_of place) e)
+last_cases kind level place e n found w k = inl k
+
+-- its value is valid
+pub last_is_valid : (kind : Kind) (level place : ℕ) (h : List Noted) (w : ValidWrite)
+    → last_valid kind level place h ≡ Some w → is_valid kind level w.value ≡ true
+last_is_valid kind level place [] w e = cc
+last_is_valid kind level place (n ∷ h) w e =
+    elim (last_cases kind level place n.event n (last_valid kind level place h) w e) [
+      | inl k ↦
+          let o = older n (last_valid kind level place h) w k in
+          subst (λ (x : ℕ). is_valid kind level x ≡ true) o.same (last_is_valid kind level place h o.before o.is)
+      | inr v ↦ v.valid
+    ]
+
+-- its place was written
+among_from : (n : ℕ) (ms : List ℕ) → among n ms ≡ true → In ms n
+among_from n [] e = absurd (true≢false (sym e))
+among_from n (m ∷ ms) e =
+    elim (or_cases (m == n) (among n ms) e) [ inl same ↦ inl (eqb-true m n same) | inr there ↦ inr (among_from n ms there) ]
+
+with_it : (n : ℕ) (ms : List ℕ) (b : Bool) → among n ms ≡ b → In (cond b ms (n ∷ ms)) n
+with_it n ms true e = among_from n ms e
+with_it n ms false e = inl refl
+
+written_here : (pe place value : ℕ) (es : List Event) → In (written_places (Write pe place value ∷ es)) place
+written_here pe place value es = with_it place (written_places es) (among place (written_places es)) refl
+
+written_stays : (e : Event) (es : List Event) (place : ℕ) → In (written_places es) place → In (written_places (e ∷ es)) place
+written_stays (Write pe at value) es place i = with_keeps at (written_places es) place i
+written_stays e es place i = i
+
+pub last_is_written : (kind : Kind) (level place : ℕ) (h : List Noted) (w : ValidWrite)
+    → last_valid kind level place h ≡ Some w → In (written_places (events_of h)) place
+last_is_written kind level place [] w e = cc
+last_is_written kind level place (n ∷ h) w e =
+    elim (last_cases kind level place n.event n (last_valid kind level place h) w e) [
+      | inl k ↦
+          let o = older n (last_valid kind level place h) w k in
+          written_stays n.event (events_of h) place (last_is_written kind level place h o.before o.is)
+      | inr v ↦ subst (λ (x : Event). In (written_places (x ∷ events_of h)) place) (sym v.is)
+          (written_here v.pe place w.value (events_of h))
+    ]
+
+-- a valid value has bit 0 set
+odd_by : (level value : ℕ) (b c : Bool) → (type_bits value == 3) ≡ b → (type_bits value == 1) ≡ c
+    → valid_form (cond b (form_11 level) (cond c (form_01 level) Form.invalid)) ≡ true → value % 2 ≡ 1
+odd_by level value true c e k v = let h : type_bits value ≡ 3 = eqb-true (type_bits value) 3 e in omega arith
+odd_by level value false true e k v = let h : type_bits value ≡ 1 = eqb-true (type_bits value) 1 k in omega arith
+odd_by level value false false e k v = absurd (true≢false (sym v))
+
+pub valid_is_odd : (kind : Kind) (level value : ℕ) → is_valid kind level value ≡ true → (value % 2 == 1) ≡ true
+valid_is_odd kind level value v =
+    eq-eqb (value % 2) 1 (odd_by level value (type_bits value == 3) (type_bits value == 1) refl refl v)
+
+-- ---- what the place holds
+
+every_more : (n : ℕ) (test other : ℕ → Bool) → ((p : ℕ) → test p ≡ true → other p ≡ true)
+    → every_pe n test ≡ true → every_pe n other ≡ true
+every_more zero test other more e = e
+every_more (suc n) test other more e =
+    let parts = and_parts (test n) (every_pe n test) e in
+    and_from (other n) (every_pe n other) (more n parts.0) (every_more n test other more parts.1)
+
+module _ (heading : Heading) (trust : Trust) (place : ℕ) where
+  everywhere_stays : (n : Noted) (since : List Noted) → cleansed_everywhere heading trust place since ≡ true
+      → cleansed_everywhere heading trust place (n ∷ since) ≡ true
+  everywhere_stays n since e =
+      every_more heading.pes (λ p. cleansed heading trust place p since) (λ p. cleansed heading trust place p (n ∷ since))
+      (λ p k. cleansed_stays heading trust place p n since k) e
+
+  -- the valid write whose value a place holds
+  pub record Holding (o : Option ValidWrite) (value : ℕ) : Type 0 where
+    pub write : ValidWrite
+    pub is : o ≡ Some write
+    pub same : write.value ≡ value
+    pub uncleansed : cleansed_everywhere heading trust place write.since ≡ false
+
+  holding_by : (w : ValidWrite) (value : ℕ) (b : Bool) → cleansed_everywhere heading trust place w.since ≡ b
+      → cond b None (Some w.value) ≡ Some value → Holding (Some w) value
+  holding_by w value true k e = cc
+  holding_by w value false k e = record { write = w; is = refl; same = cc; uncleansed = k }
+
+  pub holding : (o : Option ValidWrite) (value : ℕ) → held_after heading trust place o ≡ Some value → Holding o value
+  holding None value e = cc
+  holding (Some w) value e = holding_by w value (cleansed_everywhere heading trust place w.since) refl e
+
+  still_held : (w : ValidWrite) (o : Option ValidWrite) (value : ℕ) → o ≡ Some w → w.value ≡ value
+      → cleansed_everywhere heading trust place w.since ≡ false → held_after heading trust place o ≡ Some value
+  still_held w o value k same u =
+      ap (held_after heading trust place) k
+      ∙ (ap (λ (b : Bool). cond b None (Some w.value)) u ∙ ap Some same)
+
+  not_before : (n : Noted) (since longer : List Noted) (b : Bool) → cleansed_everywhere heading trust place since ≡ b
+      → n ∷ since ≡ longer → cleansed_everywhere heading trust place longer ≡ false → b ≡ false
+  not_before n since longer true k same u =
+      absurd (true≢false (sym (everywhere_stays n since k) ∙ (ap (cleansed_everywhere heading trust place) same ∙ u)))
+  not_before n since longer false k same u = refl
+
+  -- what one more event leaves held was held before, or the event is a valid write of it at the place
+  pub held_cases : (kind : Kind) (level : ℕ) (n : Noted) (h : List Noted) (value : ℕ)
+      → held heading trust kind level place (n ∷ h) ≡ Some value
+      → (held heading trust kind level place h ≡ Some value) ⊎ ValidAt kind level place value n.event
+  held_cases kind level n h value e =
+      let now : Holding (last_valid kind level place (n ∷ h)) value = holding (last_valid kind level place (n ∷ h)) value e in
+      elim (last_cases kind level place n.event n (last_valid kind level place h) now.write now.is) [
+        | inl k ↦
+            let o = older n (last_valid kind level place h) now.write k in
+            inl (still_held o.before (last_valid kind level place h) value o.is (o.same ∙ now.same)
+            (not_before n o.before.since now.write.since (cleansed_everywhere heading trust place o.before.since) refl
+            o.longer now.uncleansed))
+        | inr v ↦ inr (subst (λ (x : ℕ). ValidAt kind level place x n.event) now.same v)
+      ]
+
+  pub held_is_valid : (kind : Kind) (level : ℕ) (h : List Noted) (value : ℕ)
+      → held heading trust kind level place h ≡ Some value → is_valid kind level value ≡ true
+  held_is_valid kind level h value e =
+      let k : Holding (last_valid kind level place h) value = holding (last_valid kind level place h) value e in
+      subst (λ (x : ℕ). is_valid kind level x ≡ true) k.same (last_is_valid kind level place h k.write k.is)
+
+  pub held_is_written : (kind : Kind) (level : ℕ) (h : List Noted) (value : ℕ)
+      → held heading trust kind level place h ≡ Some value → In (written_places (events_of h)) place
+  held_is_written kind level h value e =
+      let k : Holding (last_valid kind level place h) value = holding (last_valid kind level place h) value e in
+      last_is_written kind level place h k.write k.is

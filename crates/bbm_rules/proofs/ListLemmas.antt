@@ -1,0 +1,240 @@
+-- Elements of lists that are made from others, and lists of ends that lie in pages of their own.
+use Rattle.std.proofs.Common.{◌≡◌, ℕ, Bool, true, false, cond, ◌⊎◌, ◌==◌, List, [], ◌∷◌, ◌++◌, Option, Some, None, is_some, find, filter, flat_map, filter_map, refl, sym, ◌∙◌, ap, subst, inl, inr, true≢false}
+use Rattle.std.proofs.lemmas.Bool.{eq-eqb, or_left, or_right}
+use Rattle.std.specs.List.{cons_option}
+use Rattle.bbm_rules.proofs.OpenLaw.{In}
+use Rattle.bbm_rules.specs.Attach.{End, pages_of}
+use Rattle.bbm_rules.specs.Places.{among, least, repeated, with_number}
+
+-- ---- elements
+
+pub in_left : {X : Type 0} (xs ys : List X) (x : X) → In xs x → In (xs ++ ys) x
+in_left [] ys x i = absurd i
+in_left (y ∷ xs) ys x (inl e) = inl e
+in_left (y ∷ xs) ys x (inr i) = inr (in_left xs ys x i)
+
+pub in_right : {X : Type 0} (xs ys : List X) (x : X) → In ys x → In (xs ++ ys) x
+in_right [] ys x i = i
+in_right (y ∷ xs) ys x i = inr (in_right xs ys x i)
+
+pub in_append : {X : Type 0} (xs ys : List X) (x : X) → In (xs ++ ys) x → In xs x ⊎ In ys x
+in_append [] ys x i = inr i
+in_append (y ∷ xs) ys x (inl e) = inl (inl e)
+in_append (y ∷ xs) ys x (inr i) = elim (in_append xs ys x i) [ inl l ↦ inl (inr l) | inr r ↦ inr r ]
+
+pub from_flat : {X A : Type 0} (f : X → List A) (xs : List X) (a : A) → In (flat_map f xs) a
+    → (x : X) × In xs x × In (f x) a
+from_flat f [] a i = absurd i
+from_flat f (x ∷ xs) a i =
+    elim (in_append (f x) (flat_map f xs) a i) [
+      | inl here ↦ (x, inl refl, here)
+      | inr there ↦ let r = from_flat f xs a there in (r.0, inr r.1, r.2)
+    ]
+
+pub to_flat : {X A : Type 0} (f : X → List A) (xs : List X) (x : X) (a : A) → In xs x → In (f x) a → In (flat_map f xs) a
+to_flat f [] x a i k = absurd i
+to_flat {X} {A} f (y ∷ xs) x a (inl e) k =
+    in_left (f y) (flat_map f xs) a (subst (λ (z : X). In (f z) a) (sym e) k)
+to_flat f (y ∷ xs) x a (inr i) k = in_right (f y) (flat_map f xs) a (to_flat f xs x a i k)
+
+in_option : {Y : Type 0} (o : Option Y) (ys : List Y) (y : Y) → In (cons_option o ys) y → (o ≡ Some y) ⊎ In ys y
+in_option None ys y i = inr i
+in_option (Some z) ys y (inl e) = inl (ap Some e)
+in_option (Some z) ys y (inr i) = inr i
+
+option_has : {Y : Type 0} (o : Option Y) (ys : List Y) (y : Y) → o ≡ Some y → In (cons_option o ys) y
+option_has {Y} o ys y e = subst (λ (p : Option Y). In (cons_option p ys) y) (sym e) (inl refl)
+
+option_keeps : {Y : Type 0} (o : Option Y) (ys : List Y) (y : Y) → In ys y → In (cons_option o ys) y
+option_keeps None ys y i = i
+option_keeps (Some z) ys y i = inr i
+
+pub from_filter_map : {X Y : Type 0} (f : X → Option Y) (xs : List X) (y : Y) → In (filter_map f xs) y
+    → (x : X) × In xs x × (f x ≡ Some y)
+from_filter_map f [] y i = absurd i
+from_filter_map f (x ∷ xs) y i =
+    elim (in_option (f x) (filter_map f xs) y i) [
+      | inl here ↦ (x, inl refl, here)
+      | inr there ↦ let r = from_filter_map f xs y there in (r.0, inr r.1, r.2)
+    ]
+
+pub to_filter_map : {X Y : Type 0} (f : X → Option Y) (xs : List X) (x : X) (y : Y) → In xs x → f x ≡ Some y
+    → In (filter_map f xs) y
+to_filter_map f [] x y i k = absurd i
+to_filter_map f (z ∷ xs) x y (inl e) k = option_has (f z) (filter_map f xs) y (ap f e ∙ k)
+to_filter_map f (z ∷ xs) x y (inr i) k = option_keeps (f z) (filter_map f xs) y (to_filter_map f xs x y i k)
+
+in_cond : {X : Type 0} (b : Bool) (x : X) (xs : List X) (y : X) → In (cond b (x ∷ xs) xs) y
+    → ((b ≡ true) × (x ≡ y)) ⊎ In xs y
+in_cond true x xs y (inl e) = inl (refl, e)
+in_cond true x xs y (inr i) = inr i
+in_cond false x xs y i = inr i
+
+cond_has : {X : Type 0} (b : Bool) (x : X) (xs : List X) → b ≡ true → In (cond b (x ∷ xs) xs) x
+cond_has true x xs e = inl refl
+cond_has false x xs e = absurd (true≢false (sym e))
+
+cond_keeps : {X : Type 0} (b : Bool) (x : X) (xs : List X) (y : X) → In xs y → In (cond b (x ∷ xs) xs) y
+cond_keeps true x xs y i = inr i
+cond_keeps false x xs y i = i
+
+pub from_filter : {X : Type 0} (test : X → Bool) (xs : List X) (x : X) → In (filter test xs) x → In xs x × (test x ≡ true)
+from_filter test [] x i = absurd i
+from_filter test (y ∷ xs) x i =
+    elim (in_cond (test y) y (filter test xs) x i) [
+      | inl here ↦ (inl here.1, sym (ap test here.1) ∙ here.0)
+      | inr there ↦ let r = from_filter test xs x there in (inr r.0, r.1)
+    ]
+
+pub to_filter : {X : Type 0} (test : X → Bool) (xs : List X) (x : X) → In xs x → test x ≡ true → In (filter test xs) x
+to_filter test [] x i k = absurd i
+to_filter {X} test (y ∷ xs) x (inl e) k =
+    subst (λ (z : X). In (cond (test y) (y ∷ filter test xs) (filter test xs)) z) e
+    (cond_has (test y) y (filter test xs) (ap test e ∙ k))
+to_filter test (y ∷ xs) x (inr i) k = cond_keeps (test y) y (filter test xs) x (to_filter test xs x i k)
+
+-- an empty list has no element
+pub none_in : {X : Type 0} (xs : List X) (x : X) → xs ≡ [] → In xs x → ⊥
+none_in {X} xs x e i = let k : In {X = X} [] x = subst (λ (ys : List X). In ys x) e i in k
+
+-- what `find` finds
+found_one : {X : Type 0} (test : X → Bool) (x : X) (rest : Option X) (y : X) (b : Bool) → test x ≡ b
+    → cond b (Some x) rest ≡ Some y → ((x ≡ y) × (test y ≡ true)) ⊎ (rest ≡ Some y)
+found_one test x rest y true t e = let same : x ≡ y = cc in inl (same, sym (ap test same) ∙ t)
+found_one test x rest y false t e = inr e
+
+pub found : {X : Type 0} (test : X → Bool) (xs : List X) (y : X) → find test xs ≡ Some y → In xs y × (test y ≡ true)
+found test [] y e = cc
+found test (x ∷ xs) y e =
+    elim (found_one test x (find test xs) y (test x) refl e) [
+      | inl here ↦ (inl here.0, here.1)
+      | inr there ↦ let r = found test xs y there in (inr r.0, r.1)
+    ]
+
+find_here : {X : Type 0} (x : X) (rest : Option X) (b : Bool) → b ≡ true → is_some (cond b (Some x) rest) ≡ true
+find_here x rest true e = refl
+find_here x rest false e = absurd (true≢false (sym e))
+
+find_there : {X : Type 0} (x : X) (rest : Option X) (b : Bool) → is_some rest ≡ true → is_some (cond b (Some x) rest) ≡ true
+find_there x rest true e = refl
+find_there x rest false e = e
+
+pub finds : {X : Type 0} (test : X → Bool) (xs : List X) (y : X) → In xs y → test y ≡ true → is_some (find test xs) ≡ true
+finds test [] y i k = absurd i
+finds test (x ∷ xs) y (inl e) k = find_here x (find test xs) (test x) (ap test e ∙ k)
+finds test (x ∷ xs) y (inr i) k = find_there x (find test xs) (test x) (finds test xs y i k)
+
+-- ---- numbers
+
+pub among_in : (n : ℕ) (ms : List ℕ) → In ms n → among n ms ≡ true
+among_in n [] i = absurd i
+among_in n (m ∷ ms) (inl e) = or_left (m == n) (among n ms) (eq-eqb m n e)
+among_in n (m ∷ ms) (inr i) = or_right (m == n) (among n ms) (among_in n ms i)
+
+with_kept : (n : ℕ) (ms : List ℕ) (m : ℕ) (b : Bool) → In ms m → In (cond b ms (n ∷ ms)) m
+with_kept n ms m true i = i
+with_kept n ms m false i = inr i
+
+pub with_keeps : (n : ℕ) (ms : List ℕ) (m : ℕ) → In ms m → In (with_number n ms) m
+with_keeps n ms m i = with_kept n ms m (among n ms) i
+
+pub least_none : (ms : List ℕ) → least ms ≡ None → ms ≡ []
+least_none [] e = refl
+least_none (m ∷ ms) e = cc
+
+pub append_none : {X : Type 0} (xs ys : List X) → xs ++ ys ≡ [] → (xs ≡ []) × (ys ≡ [])
+append_none [] ys e = (refl, e)
+append_none (x ∷ xs) ys e = cc
+
+-- no number stands twice in the list
+abbrev pub Apart : List ℕ → Type 0
+Apart [] = Unit {0}
+Apart (n ∷ ns) = (In ns n → ⊥) × Apart ns
+
+apart_one : (n : ℕ) (ms : List ℕ) (b : Bool) → among n ms ≡ b → cond b (n ∷ repeated ms) (repeated ms) ≡ []
+    → (repeated ms ≡ [] → Apart ms) → Apart (n ∷ ms)
+apart_one n ms true a e rest = cc
+apart_one n ms false a e rest = (λ i. true≢false (sym (among_in n ms i) ∙ a), rest e)
+
+pub apart : (ms : List ℕ) → repeated ms ≡ [] → Apart ms
+apart [] e = tt
+apart (n ∷ ms) e = apart_one n ms (among n ms) refl e (apart ms)
+
+-- ---- ends in pages of their own
+
+pub in_pages : (ends : List End) (e : End) → In ends e → In (pages_of ends) e.page
+in_pages [] e i = absurd i
+in_pages (d ∷ ends) e (inl same) = inl (ap (λ (x : End). x.page) same)
+in_pages (d ∷ ends) e (inr i) = inr (in_pages ends e i)
+
+pub from_pages : (ends : List End) (page : ℕ) → In (pages_of ends) page → (e : End) × In ends e × (e.page ≡ page)
+from_pages [] page i = absurd i
+from_pages (d ∷ ends) page (inl same) = (d, inl refl, same)
+from_pages (d ∷ ends) page (inr i) = let r = from_pages ends page i in (r.0, inr r.1, r.2)
+
+-- no end of one list lies in the page of an end of the other
+abbrev pub Disjoint : List End → List End → Type 0
+Disjoint xs ys = (x y : End) → In xs x → In ys y → x.page ≡ y.page → ⊥
+
+pub record Parted (xs ys : List End) : Type 0 where
+  pub first : Apart (pages_of xs)
+  pub second : Apart (pages_of ys)
+  pub between : Disjoint xs ys
+
+pub parted : (xs ys : List End) → Apart (pages_of (xs ++ ys)) → Parted xs ys
+parted [] ys a = record { first = tt; second = a; between = λ x y i j e. absurd i }
+parted (z ∷ xs) ys a =
+    let r : Parted xs ys = parted xs ys a.1 in
+    record {
+      first = (
+        λ i. let k = from_pages xs z.page i in
+            a.0 (subst (λ (page : ℕ). In (pages_of (xs ++ ys)) page) k.2 (in_pages (xs ++ ys) k.0 (in_left xs ys k.0 k.1))),
+        r.first,
+      );
+      second = r.second;
+      between = λ x y i j e. by_place x y i j e r.between;
+    }
+  where
+    by_place : (x y : End) → In (z ∷ xs) x → In ys y → x.page ≡ y.page → Disjoint xs ys → ⊥
+    by_place x y (inl same) j e rest =
+        a.0 (subst (λ (page : ℕ). In (pages_of (xs ++ ys)) page) (sym e ∙ ap (λ (d : End). d.page) (sym same))
+        (in_pages (xs ++ ys) y (in_right xs ys y j)))
+    by_place x y (inr i) j e rest = rest x y i j e
+
+-- the ends that a list of places gives, each place those of a list of its own
+module _ (f : ℕ → Option ℕ) (g : ℕ → List End) where
+  pub of_place : (ps : List ℕ) (a x : ℕ) (e : End) → In ps a → f a ≡ Some x → In (g x) e → In (flat_map g (filter_map f ps)) e
+  of_place ps a x e i k j = to_flat g (filter_map f ps) x e (to_filter_map f ps a x i k) j
+
+  at_head : (p x : ℕ) (ps : List ℕ) → f p ≡ Some x → flat_map g (filter_map f (p ∷ ps)) ≡ g x ++ flat_map g (filter_map f ps)
+  at_head p x ps k = ap (λ (o : Option ℕ). flat_map g (cons_option o (filter_map f ps))) k
+
+  head_parted : (p x : ℕ) (ps : List ℕ) → f p ≡ Some x → Apart (pages_of (flat_map g (filter_map f (p ∷ ps))))
+      → Parted (g x) (flat_map g (filter_map f ps))
+  head_parted p x ps k a =
+      parted (g x) (flat_map g (filter_map f ps))
+      (subst (λ (es : List End). Apart (pages_of es)) (at_head p x ps k) a)
+
+  tail_by : (o : Option ℕ) (ps : List ℕ) → Apart (pages_of (flat_map g (cons_option o (filter_map f ps))))
+      → Apart (pages_of (flat_map g (filter_map f ps)))
+  tail_by None ps a = a
+  tail_by (Some x) ps a = (parted (g x) (flat_map g (filter_map f ps)) a).second
+
+  -- the ends of one place are apart
+  pub place_apart : (ps : List ℕ) (a x : ℕ) → Apart (pages_of (flat_map g (filter_map f ps))) → In ps a → f a ≡ Some x
+      → Apart (pages_of (g x))
+  place_apart [] a x h i k = absurd i
+  place_apart (p ∷ ps) a x h (inl same) k = (head_parted p x ps (ap f same ∙ k) h).first
+  place_apart (p ∷ ps) a x h (inr i) k = place_apart ps a x (tail_by (f p) ps h) i k
+
+  -- two ends in one page are of one place
+  pub same_place : (ps : List ℕ) (a b x y : ℕ) (s t : End) → Apart (pages_of (flat_map g (filter_map f ps)))
+      → In ps a → In ps b → f a ≡ Some x → f b ≡ Some y → In (g x) s → In (g y) t → s.page ≡ t.page → a ≡ b
+  same_place [] a b x y s t h i j k l u v e = absurd i
+  same_place (p ∷ ps) a b x y s t h (inl same) (inl same') k l u v e = sym same ∙ same'
+  same_place (p ∷ ps) a b x y s t h (inl same) (inr j) k l u v e =
+      absurd ((head_parted p x ps (ap f same ∙ k) h).between s t u (of_place ps b y t j l v) e)
+  same_place (p ∷ ps) a b x y s t h (inr i) (inl same) k l u v e =
+      absurd ((head_parted p y ps (ap f same ∙ l) h).between t s v (of_place ps a x s i k u) (sym e))
+  same_place (p ∷ ps) a b x y s t h (inr i) (inr j) k l u v e =
+      same_place ps a b x y s t (tail_by (f p) ps h) i j k l u v e
