@@ -13,7 +13,9 @@ pub mod verdict;
 pub use checker::Checker;
 pub use claim::Claim;
 pub use first_path::FirstPathChecker;
-pub use laws::{law_answered, law_notes_keep_the_events, law_readable_value, law_tag_held};
+pub use laws::{
+    law_answered, law_notes_keep_the_events, law_one_node, law_readable_value, law_tag_held,
+};
 pub use phase::Phase;
 pub use rule::Rule;
 pub use step_fault::StepFault;
@@ -21,12 +23,15 @@ pub use verdict::Verdict;
 
 #[cfg(test)]
 mod tests {
-    use crate::laws::{law_answered, law_notes_keep_the_events, law_readable_value, law_tag_held};
+    use crate::laws::{
+        law_answered, law_notes_keep_the_events, law_one_node, law_readable_value, law_tag_held,
+    };
 
     #[test]
     fn laws_hold() {
         law_answered();
         law_notes_keep_the_events();
+        law_one_node();
         law_readable_value();
         law_tag_held();
     }
