@@ -11,7 +11,7 @@ mod values;
 mod words;
 pub mod write;
 
-pub use bbm_events::{law_one_line, law_written_is_read};
+pub use bbm_events::{Item, Malformed, law_one_line, law_written_is_read};
 pub use events::read_event;
 pub use fields::field;
 pub use headers::read_header;

@@ -316,7 +316,7 @@ pub el2_root_switched_on_another_pe_too_early : judged (hyp 2 1 1 1) (
 unfolding broken tree
 el2_root_switched_on_another_pe_too_early = refl
 
--- PE 1 takes it after the first was flushed.
+-- PE 0 takes another root after the first was flushed.
 pub el2_root_switched_after_the_flush : judged (hyp 2 1 1 1) (
     Init 0 0x40000000
     ∷ Root 0 El2 None 0x40000000

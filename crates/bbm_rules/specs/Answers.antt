@@ -14,6 +14,7 @@ use Rattle.bbm_rules.specs.Places.{page_of}
 
 -- Given the least broken rule with its number, or none, and the limit that the event reaches, or none: the event is
 -- taken where there is neither; a broken rule is named before a limit. Want of memory may come in the place of any.
+-- Source: project's own choice.
 abbrev pub Answers : Result (Unit {0}) StepFault → Option Breach → Option Which → Type 0
 Answers (Ok _) breach limit = (breach ≡ None) × (limit ≡ None)
 Answers (Err (Broken rule at)) breach limit = breach ≡ Some (record { rule = rule; at = at })

@@ -37,7 +37,7 @@ ends_below heading trust kind h (suc left) level page =
     ]
 
 -- The pages that an event attaches, each as often as paths end in it. `first` are the named pages, at which the paths
--- of no places end; `deeper` are the ends of all longer paths.
+-- of no places end; `deeper` are the ends of all longer paths. Source: project's own choice.
 pub record Attached : Type 0 where
   pub kind : Kind
   pub first : List End

@@ -54,13 +54,14 @@ first_broken heading trust h e (rule ∷ rest) =
 unfoldable pub broken : Heading → Trust → List Event → Event → Option Breach
 broken heading trust h e = first_broken heading trust (noted heading trust h) e rules
 
--- A log keeps the rules where each event breaks none after those before it.
+-- A log keeps the rules where each event breaks none after those before it. Source: project's own choice.
 abbrev pub keeps : Heading → Trust → List Event → Bool
 keeps heading trust [] = true
 keeps heading trust (e ∷ h) = keeps heading trust h && is_none (broken heading trust h e)
 
 -- The verdict on a log whose lines are well formed and reach no limit, newest event first: the first event that breaks
 -- a rule decides. The header is line 1, so the event of position i stands on line i + 1.
+-- Source: project's own choice.
 abbrev pub refused_at : ℕ → Option Breach → Verdict
 refused_at n None = Accepted n
 refused_at n (Some breach) = Refused (suc n) breach.rule breach.at

@@ -28,6 +28,7 @@ publishes_write heading place p (Dsb q dsb) before = publishes_to heading dsb q 
 publishes_write heading place p _ before = false
 
 -- Seen: some write of the place is published to p, at a position that passes the test.
+-- Source: Arm ARM (DDI 0487), "Using break-before-make when updating translation table entries".
 abbrev pub seen_where : (ℕ → Bool) → Heading → ℕ → ℕ → List Noted → Bool
 seen_where test heading place p [] = false
 seen_where test heading place p (n ∷ since) =
@@ -83,7 +84,7 @@ abbrev pub always_half : ℕ → ℕ → ℕ → Bool
 always_half b t d = true
 
 -- Half: a DSB publishes a write of the place to p; after it a TLBI that reaches p and covers the place half is
--- issued; and that TLBI is answered.
+-- issued; and that TLBI is answered. Source: Arm ARM (DDI 0487), "TLB maintenance instructions".
 abbrev pub half : Heading → ℕ → ℕ → List Noted → Bool
 half heading place p since = half_where always_half heading place p since
 

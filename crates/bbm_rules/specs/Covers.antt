@@ -26,7 +26,7 @@ is_global (Leaf out attrs share global contiguous) = global
 is_global _ = false
 
 -- How a TLBI sees a place of a tree that holds a value. The tags are those that the root of the place holds at any
--- PE.
+-- PE. Source: project's own choice.
 abbrev pub view_of : Heading → Trust → List Noted → Node → ℕ → ℕ → PlaceView
 view_of heading trust h n place value = record {
   kind = n.kind;
@@ -65,6 +65,7 @@ cover_at heading trust h (Tlbi pe op xt) place =
 cover_at heading trust h _ place = NoCover
 
 -- The annotated history: each event with how far it covers each place, by the notes of the events before it.
+-- Source: project's own choice.
 abbrev pub note : Heading → Trust → List Noted → Event → Noted
 note heading trust h e = record { event = e; covers = cover_at heading trust h e; position = suc (length h) }
 

@@ -31,6 +31,7 @@ abbrev pub page_of : ℕ → ℕ
 page_of place = place / 4096 * 4096
 
 -- Value: the value of the last write of the place since the last init of its page, else 0.
+-- Source: project's own choice.
 abbrev pub value_of : List Event → ℕ → ℕ
 value_of [] place = 0
 value_of (Write pe at value ∷ h) place = if at == place then value else value_of h place
@@ -57,7 +58,7 @@ is_page (Some root) page = root == page
 abbrev pub is_root : List Event → ℕ → Bool
 is_root h page = is_page (root_page h) page
 
--- Fresh: the page was initialised and is in no tree.
+-- Fresh: the page was initialised and is in no tree. Source: project's own choice.
 abbrev pub is_fresh : List Event → ℕ → Bool
 is_fresh h page = initialised h page && not (is_root h page)
 
@@ -98,6 +99,7 @@ abbrev pub reaches : ℕ → Bool
 reaches p = true
 
 -- Seen: some write of the place is published to the PE p, by a later DSB of the PE that wrote.
+-- Source: Arm ARM (DDI 0487), "Using break-before-make when updating translation table entries".
 abbrev pub seen : List Event → ℕ → ℕ → Bool
 seen [] place p = false
 seen (Dsb pe dsb ∷ h) place p = (publishes_to p && written_by h pe place) || seen h place p
@@ -113,6 +115,8 @@ flushed_by (_ ∷ h) pe place p = flushed_by h pe place p
 
 -- Cleansed at the PE p: a write of the place is published to p, after that a TLBI that reaches p was issued,
 -- and after that a DSB of its issuer answers it.
+-- Source: Arm ARM (DDI 0487), "Using break-before-make when updating translation table entries", and "TLB
+-- maintenance instructions".
 abbrev pub cleansed : List Event → ℕ → ℕ → Bool
 cleansed [] place p = false
 cleansed (Dsb pe dsb ∷ h) place p = flushed_by h pe place p || cleansed h place p
@@ -124,6 +128,7 @@ every_pe zero test = true
 every_pe (suc n) test = test n && every_pe n test
 
 -- Held: the last valid value of the place since the init of its page, unless the place is cleansed at every PE.
+-- Source: Arm ARM (DDI 0487), "Using break-before-make when updating translation table entries".
 abbrev pub held_in : ℕ → ℕ → Option ValidWrite → Option ℕ
 held_in n place None = None
 held_in n place (Some w) = if every_pe n (λ p. cleansed w.after place p) then None else Some w.value
@@ -138,6 +143,8 @@ needs_over (Some old) value = needs El2 1 old value
 -- The rule that an event breaks after a history, of the two that these logs can break.
 -- Break-before-make: a valid value is written at a place that holds a value of another core.
 -- Page-in-use: the page of the root is initialised, or a page that isn't fresh becomes the root.
+-- Source: Arm ARM (DDI 0487), "Using break-before-make when updating translation table entries"; that a page in
+-- use is refused is the project's own choice.
 unfoldable pub broken : Heading → List Event → Event → Option Breach
 broken heading h (Write pe place value) =
     if needs_over (held heading.pes h place) value then Some (record { rule = BreakBeforeMake; at = place })

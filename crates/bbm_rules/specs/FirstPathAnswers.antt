@@ -6,6 +6,7 @@ use Rattle.bbm_rules.specs.FirstPath.{Breach}
 
 -- Given the least broken rule with its place, or none: the event is taken where none is broken, and
 -- refused with exactly that rule and place. Want of memory may come in the place of either.
+-- Source: project's own choice.
 abbrev pub Answers : Result (Unit {0}) StepFault → Option Breach → Type 0
 Answers (Ok _) breach = breach ≡ None
 Answers (Err (Broken rule at)) breach = breach ≡ Some (record { rule = rule; at = at })

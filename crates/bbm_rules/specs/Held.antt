@@ -21,7 +21,7 @@ later n None = None
 later n (Some w) = Some (record { value = w.value; since = n ∷ w.since })
 
 -- The last valid write of a place since the last init of its page, where the place has this kind and level. Given is
--- that of the history before the event.
+-- that of the history before the event. Source: project's own choice.
 abbrev pub last_valid_after : Kind → ℕ → ℕ → Event → Noted → Option ValidWrite → Option ValidWrite
 last_valid_after kind level place (Write pe at value) n found =
     if at == place && is_valid kind level value then Some (record { value = value; since = [] }) else later n found

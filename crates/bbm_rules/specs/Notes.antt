@@ -1,6 +1,6 @@
 -- The annotated history. Which places a TLBI covers depends on what they hold at its issue, and what a place holds
 -- depends on the TLBIs that covered it before. So each event stands in a list, the newest first, with what the
--- definitions say of it from the older part of the list alone.
+-- definitions say of it from the older part of the list alone. Source: project's own choice.
 use Rattle.std.specs.Prelude.{ℕ, List, [], ◌∷◌}
 use Rattle.bbm_tlbi_scope.specs.declared.entry.Cover.{Cover}
 use Rattle.bbm_events.specs.declared.event.Event.{Event}

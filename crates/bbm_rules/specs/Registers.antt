@@ -46,7 +46,8 @@ register_values (_ ∷ h) p reg = register_values h p reg
 abbrev pub base_of : ℕ → Option ℕ
 base_of value = if value == 0 then None else Some (value % 2 ^ 48 / 2 * 2)
 
--- the VMID or the ASID of a register value: bits [63:48]; 0 of value 0
+-- The VMID or the ASID of a register value: bits [63:48]; 0 of value 0.
+-- Source: Arm ARM (DDI 0487), "AArch64 System register descriptions", VTTBR_EL2, TTBR0_EL1 and TTBR1_EL1.
 abbrev pub number_of : ℕ → ℕ
 number_of value = value / 2 ^ 48
 

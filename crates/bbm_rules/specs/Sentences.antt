@@ -15,6 +15,8 @@ use Rattle.bbm_rules.specs.Values.{published, value_of}
 
 -- The value is readable at p: at some moment since the last init of its page the place had it, and no write of the
 -- place after that moment is published to p.
+-- Source: Arm ARM (DDI 0487), "Translation table walk coherency", read as: a walk may see any value that no
+-- published later one replaced.
 pub record Readable (heading : Heading) (h : List Event) (place p value : ℕ) : Type 0 where
   pub newer : List Event
   pub older : List Event
@@ -35,6 +37,8 @@ completes_for q tlbi _ = false
 
 -- The TLBI is open: q issued it, `before` came before it, and no DSB of q after it completes it. So the first DSB of q
 -- that completes it is the one that finds it open.
+-- Source: Arm ARM (DDI 0487), "TLB maintenance instructions", "Ordering and completion of TLB maintenance
+-- instructions".
 pub record Open {A : Type 0} (event : A → Event) (q : ℕ) (h : List A) (t : Issued A) : Type 0 where
   pub newer : List A
   pub split : h ≡ newer ++ t.tlbi ∷ t.before
@@ -45,6 +49,7 @@ pub record Open {A : Type 0} (event : A → Event) (q : ℕ) (h : List A) (t : I
 -- The TLBI takes the tag away at p: it reaches p and takes the whole tag; a DSB of its issuer q answers it, the first that
 -- completes it; and at no moment from its issue to its answer is the tag readable at p for any root. The history up to a
 -- moment is the older part of a split; the moments from the issue on are those with more events than came before it.
+-- Source: project's own choice, after Arm ARM (DDI 0487), "TLB maintenance instructions".
 pub record TakenAway (heading : Heading) (trust : Trust) (p : ℕ) (tag : Tag) (h : List Event) (t : Issued Event) : Type 0 where
   pub q : ℕ
   pub dsb : Barrier
@@ -60,7 +65,7 @@ pub record TakenAway (heading : Heading) (trust : Trust) (p : ℕ) (tag : Tag) (
   pub allowed : allows trust (Taken p tag (suc (length t.before)) (suc (length earlier))) ≡ true
 
 -- The root holds the tag at p: at some moment it was readable at p for the root, and no TLBI after that moment takes it
--- away.
+-- away. Source: project's own choice, after Arm ARM (DDI 0487), "Translation Lookaside Buffers".
 pub record HoldsTag (heading : Heading) (trust : Trust) (p root : ℕ) (tag : Tag) (h : List Event) : Type 0 where
   pub newer : List Event
   pub older : List Event

@@ -94,7 +94,7 @@ unread_after heading n p tag (e ∷ h) =
     nat_le (suc (length h)) n || (not (reads_for_some heading (e ∷ h) p tag) && unread_after heading n p tag h)
 
 -- Whole-tag TLBI: one that takes everything that a TLB keeps under the tag. It is issued under the VMID that its
--- issuer then has.
+-- issuer then has. Source: Arm ARM (DDI 0487), "TLB maintenance instructions"; the term is the project's own choice.
 abbrev pub whole_tag : Result Scope BadOperand → Option ℕ → Tag → Bool
 whole_tag (Err _) vmid tag = false
 whole_tag (Ok scope) vmid tag = takes_whole_tag scope vmid tag
@@ -159,6 +159,7 @@ abbrev pub holds_at : Heading → Trust → ℕ → ℕ → Tag → List Event �
 holds_at heading trust p root tag h = tag_among tag (tags_at heading trust p root h)
 
 -- Tags held by a root: those that it holds at some PE, each once.
+-- Source: project's own choice, after Arm ARM (DDI 0487), "Translation Lookaside Buffers".
 abbrev pub tags_below : ℕ → Heading → Trust → ℕ → List Event → List Tag
 tags_below zero heading trust root h = []
 tags_below (suc p) heading trust root h =

@@ -120,7 +120,7 @@ some_invalid kind h (a ∷ above) = not (is_valid kind a.level (value_of h a.pla
 abbrev pub in_limbo : List Noted → Node → Bool
 in_limbo h n = some_invalid n.kind (events_of h) n.above
 
--- Childless: no place of the next page of a held table holds anything.
+-- Childless: no place of the next page of a held table holds anything. Source: project's own choice.
 abbrev pub holds_nothing : Heading → Trust → Kind → ℕ → List Noted → List ℕ → Bool
 holds_nothing heading trust kind level h [] = true
 holds_nothing heading trust kind level h (place ∷ places) =

@@ -8,6 +8,7 @@ use Rattle.bbm_events.specs.declared.event.Event.TheVariants.{Init, Write, Dsb}
 use Rattle.bbm_rules.specs.Places.{page_of, among, with_number}
 
 -- Value: the value of the last write of the place since the last init of its page, else 0.
+-- Source: project's own choice.
 abbrev pub value_of : List Event → ℕ → ℕ
 value_of [] place = 0
 value_of (Write pe at value ∷ h) place = if at == place then value else value_of h place
