@@ -39,6 +39,7 @@ fn reads_stage_1(rt: HostRuntime) {
         (Kind::El2, 0, 0x8000_0701, Desc::Invalid),
         (Kind::El2, 1, 0x200, Desc::Invalid),
         (Kind::El2, 1, 0x8000_0702, Desc::Invalid),
+        (Kind::El2, 1, 0x4000_0003, table(0x4000_0000, false)),
         (
             Kind::El2,
             1,
@@ -114,7 +115,9 @@ fn reads_stage_2(rt: HostRuntime) {
         (0, 0x8000_0000_4001_1003, table(0x4001_1000, false)),
         (1, 0x200, Desc::Invalid),
         (1, 0x4000_3003, table(0x4000_3000, false)),
+        (1, 0x4000_0003, table(0x4000_0000, false)),
         (1, 0x8000_07fd, leaf(0x8000_0000, 15, 3, false, false)),
+        (1, 0xc000_07fd, leaf(0xc000_0000, 15, 3, false, false)),
         (1, 0x8000_0ffd, leaf(0x8000_0000, 15, 3, false, false)),
         (2, 0x4021_2003, table(0x4021_2000, false)),
         (2, 0x4020_07fd, leaf(0x4020_0000, 15, 3, false, false)),
@@ -149,6 +152,7 @@ fn tells_where_break_before_make_is_needed(rt: HostRuntime) {
         (Kind::El2, 1, 0x8000_0701, 0xc000_0701, true),
         (Kind::El2, 1, 0x8000_0701, 0x8000_0781, false),
         (Kind::El2, 1, 0x8000_0701, 0x4000_1003, true),
+        (Kind::S2, 1, 0x8000_07fd, 0xc000_07fd, true),
         // one of them invalid, or both
         (Kind::El2, 1, 0x8000_0701, 0x0, false),
         (Kind::El2, 1, 0x200, 0x8000_0701, false),

@@ -59,6 +59,7 @@ fn operands(rt: HostRuntime) {
             0x700000000009,
             Ok((None, Some(9), Some(3))),
         ),
+        (TlbiOp::Ipas2e1is, 0x0, Ok((None, Some(0), None))),
         (
             TlbiOp::Vae1is,
             0x70ffff8000000,
@@ -253,6 +254,65 @@ fn places(rt: HostRuntime) {
     }
 }
 
+/// How far a TLBI covers the leaf of a page of the kernel world.
+fn cover_page(op: TlbiOp, xt: u64, kind: Kind, global: bool, tags: TagSet) -> Option<Cover> {
+    let scope = decode(op, xt).ok()?;
+    let page = match kind {
+        Kind::Ttbr1 => 0xffff8000000,
+        _ => 0x40000,
+    };
+    let view = PlaceView {
+        kind,
+        region: Interval { lo: page, hi: page },
+        level: 3,
+        table: false,
+        global,
+        childless: false,
+        tags,
+    };
+    Some(cover(scope, Some(0), view))
+}
+
+#[test]
+fn upper_places(rt: HostRuntime) {
+    let rows = [
+        (TlbiOp::Vae1is, 0x70ffff8000000, true, Cover::Full),
+        (TlbiOp::Vae1is, 0x70ffff8000001, true, Cover::None),
+        (TlbiOp::Vae1is, 0x70ffff8000000, false, Cover::None),
+        (TlbiOp::Vaae1is, 0xffff8000000, true, Cover::Full),
+        (TlbiOp::Vaae1is, 0xffff8000000, false, Cover::Full),
+        (TlbiOp::Vmalle1is, 0, true, Cover::Full),
+        (TlbiOp::Vmalle1is, 0, false, Cover::Full),
+        (TlbiOp::Aside1is, 0x7000000000000, false, Cover::None),
+    ];
+    for (op, xt, global, want) in rows {
+        assert_eq!(rt;
+            cover_page(op, xt, Kind::Ttbr1, global, TagSet::One(Tag::Ttbr1)),
+            Some(want),
+            "{op:?} {xt} {global}"
+        );
+    }
+}
+
+#[test]
+fn lower_places(rt: HostRuntime) {
+    let rows = [
+        (TlbiOp::Vae1is, 0x7000000040000, Cover::Full),
+        (TlbiOp::Vae1is, 0x5000000040000, Cover::None),
+        (TlbiOp::Vaae1is, 0x40000, Cover::Full),
+        (TlbiOp::Vmalle1is, 0, Cover::Full),
+        (TlbiOp::Aside1is, 0x7000000000000, Cover::Full),
+        (TlbiOp::Aside1is, 0x5000000000000, Cover::None),
+    ];
+    for (op, xt, want) in rows {
+        assert_eq!(rt;
+            cover_page(op, xt, Kind::Ttbr0, false, TagSet::One(Tag::Asid(7))),
+            Some(want),
+            "{op:?} {xt}"
+        );
+    }
+}
+
 /// Whether a TLBI under this VMID takes a leaf entry of VMID 5.
 fn taken_there(op: TlbiOp, xt: u64, vmid: u16, kind: EntryKind) -> Option<bool> {
     match decode(op, xt) {
@@ -276,6 +336,43 @@ fn entries(rt: HostRuntime) {
             taken_there(op, xt, vmid, kind),
             Some(want),
             "{op:?} {vmid}"
+        );
+    }
+}
+
+/// Whether a TLBI takes an entry of ASID 7 that ends at level 2, in a leaf that isn't global or in a table.
+fn kernel_taken(op: TlbiOp, xt: u64, last: bool) -> Option<bool> {
+    let scope = decode(op, xt).ok()?;
+    let entry = EntryHead {
+        kind: EntryKind::El1,
+        vmid: 0,
+        asid: 7,
+        region: Interval {
+            lo: 0x40000,
+            hi: 0x401ff,
+        },
+        last,
+        level: 2,
+        global: false,
+    };
+    Some(takes(scope, Some(0), entry))
+}
+
+#[test]
+fn kernel_entries(rt: HostRuntime) {
+    let rows = [
+        (TlbiOp::Aside1is, 0x7000000000000, true, true),
+        (TlbiOp::Aside1is, 0x5000000000000, true, false),
+        (TlbiOp::Vale1is, 0x7000000040000, true, true),
+        (TlbiOp::Vale1is, 0x7000000040000, false, false),
+        (TlbiOp::Vae1is, 0x7000000040000, false, true),
+        (TlbiOp::Aside1is, 0x7000000000000, false, true),
+    ];
+    for (op, xt, last, want) in rows {
+        assert_eq!(rt;
+            kernel_taken(op, xt, last),
+            Some(want),
+            "{op:?} {xt} {last}"
         );
     }
 }
