@@ -30,19 +30,19 @@ short line h = grind (arith, nat_tests)
 long : (line : List ℕ) → 200 < length line → is_too_long line ≡ true
 long line h = grind (arith, nat_tests)
 
-step_of-short : (limits : Limits) (n : ℕ) (p : Progress) (line : List ℕ) → length line ≤ 200 → step_of limits n p line ≡ after_line limits n p line
+pub step_of-short : (limits : Limits) (n : ℕ) (p : Progress) (line : List ℕ) → length line ≤ 200 → step_of limits n p line ≡ after_line limits n p line
 unfolding step_of
 step_of-short limits n p line h = rw (short line h) refl
 
-step_of-long : (limits : Limits) (n : ℕ) (p : Progress) (line : List ℕ) → 200 < length line → step_of limits n p line ≡ Decides (too_long_at n p)
+pub step_of-long : (limits : Limits) (n : ℕ) (p : Progress) (line : List ℕ) → 200 < length line → step_of limits n p line ≡ Decides (too_long_at n p)
 unfolding step_of
 step_of-long limits n p line h = rw (long line h) refl
 
-end_of-short : (n : ℕ) (p : Progress) (rest : List ℕ) → length rest ≤ 200 → end_of n p rest ≡ cut_at n p rest
+pub end_of-short : (n : ℕ) (p : Progress) (rest : List ℕ) → length rest ≤ 200 → end_of n p rest ≡ cut_at n p rest
 unfolding end_of
 end_of-short n p rest h = rw (short rest h) refl
 
-end_of-long : (n : ℕ) (p : Progress) (rest : List ℕ) → 200 < length rest → end_of n p rest ≡ too_long_at n p
+pub end_of-long : (n : ℕ) (p : Progress) (rest : List ℕ) → 200 < length rest → end_of n p rest ≡ too_long_at n p
 unfolding end_of
 end_of-long n p rest h = rw (long rest h) refl
 
@@ -88,7 +88,7 @@ end-decides limits n p v line (Some bytes) (Some rest) is_plain is_short taken a
     let outcome_is = outcome_at-end limits n p line is_plain is_short in
     rw (bytes_are, at_end) (concludes-at limits n p line [] v _ outcome_is cut refl)
 
-seam : (line rest : List ℕ) → length line ≡ 201 → drop 201 (line ++ rest) ≡ rest
+pub seam : (line rest : List ℕ) → length line ≡ 201 → drop 201 (line ++ rest) ≡ rest
 seam line rest is_long = ap (λ n. drop n (line ++ rest)) (sym is_long) ∙ drop-append_seam line rest
 
 longer : (line more : List ℕ) → length line ≡ 201 → 200 < length (line ++ more)

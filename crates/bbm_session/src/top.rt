@@ -1,13 +1,13 @@
 //! The top call.
 
-ghost use Rattle.std.specs.Prelude.{◌≡◌, ◌≢◌, ◌≤◌, ◌<◌, ◌⊎◌, ℕ, List, Option, Some, true, false, length, take, map};
+ghost use Rattle.std.specs.Prelude.{◌≡◌, ◌≢◌, ◌≤◌, ◌<◌, ◌⊎◌, ℕ, List, [], Option, Some, true, false, length, take, map};
 ghost use Rattle.std.specs.String.{string_bytes};
 ghost use Rattle.bbm_io.specs.Faults.{Rose};
 ghost use Rattle.bbm_io.specs.Flow.{preceded, extended};
 ghost use Rattle.bbm_rules.specs.declared.verdict.Verdict.{Verdict as VerdictOf};
 ghost use Rattle.bbm_rules.specs.Outcome.{check_limits, outcome_of, verdict_of};
 ghost use Rattle.bbm_rules.specs.Texts.{verdict_text};
-ghost use Rattle.bbm_session.specs.Run.{says_check, status_of, tells_verdict, usage_text};
+ghost use Rattle.bbm_session.specs.Run.{ReadTo, says_check, status_of, tells_verdict, usage_text};
 ghost use Rattle.bbm_session.specs.Stages.{Shrinks};
 ghost use Rattle.bbm_session.specs.Writing.{Wrote, Part, Checks};
 
@@ -109,6 +109,10 @@ pub fn run<S: Source, K: Sink>(
         × (K.held out.new ≡ extended (K.held out.old) (verdict_text verdict)) }
     ensures unread { (bytes : List ℕ) → S.left log.old ≡ Some bytes → tells_verdict result ≡ true
         → S.left log.new ≡ Some (outcome_of check_limits bytes).unread }
+    ensures read_to_the_line { (bytes : List ℕ) → S.left log.old ≡ Some bytes → tells_verdict result ≡ true
+        → ReadTo bytes (verdict_of check_limits bytes) (S.left log.new) }
+    ensures accepted_reads_all { (bytes : List ℕ) → S.left log.old ≡ Some bytes → result ≡ Status.Accepted
+        → S.left log.new ≡ Some [] }
     ensures unread_untold { (bytes : List ℕ) → S.left log.old ≡ Some bytes → result ≡ Status.WriteFault
         → says_check (map string_bytes words.now.items) ≡ true
         → S.left log.new ≡ Some (outcome_of check_limits bytes).unread }
