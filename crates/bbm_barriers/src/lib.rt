@@ -32,7 +32,7 @@ pub enum Types {
     Loads,
 }
 
-/// The option of a DSB or a DMB.
+/// The option of a DSB or a DMB. Source: Arm ARM (DDI 0487), "Memory barriers".
 #[derive(Clone, Copy, Debug, PartialEq, Eq)]
 pub struct Dsb {
     /// The shareability domain that the barrier reaches.

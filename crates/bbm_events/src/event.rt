@@ -75,7 +75,8 @@ pub enum Event {
     },
 }
 
-/// What a line after the header says: an event, or the end with the number of event lines.
+/// What a line after the header says: an event, or the end with the number of event lines. Source:
+/// project's own choice.
 #[derive(Clone, Copy, Debug, PartialEq, Eq)]
 pub enum Item {
     /// An event line.

@@ -11,7 +11,8 @@ use bbm_regimes::{Kind, Page, Pe, Place, World};
 /// Locks have numbers below 1,024. Source: project's own choice.
 const LOCKS: u16 = 1024;
 
-/// The number of consecutive pages of a root of this kind, 1 to 16.
+/// The number of consecutive pages of a root of this kind, 1 to 16. Source: Arm ARM (DDI 0487), "VMSAv8-64
+/// translation table walks", concatenated translation tables.
 pub fn root_pages(world: World, kind: Kind) -> u8
     ensures { result ≡ spec.root_pages world kind }
 {

@@ -6,7 +6,7 @@ ghost use Rattle.bbm_regimes.specs.Extent.{span_of};
 use std::marker::Model;
 
 /// A closed interval of input page numbers: the page numbers from `lo` to `hi`, both among them, where
-/// `lo` is at most `hi`. A clause sees its `Extent`.
+/// `lo` is at most `hi`. A clause sees its `Extent`. Source: project's own choice.
 #[derive(Clone, Copy, Debug, PartialEq, Eq)]
 pub struct Interval {
     /// The first input page number.

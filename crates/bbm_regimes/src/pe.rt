@@ -39,7 +39,8 @@ impl Pe {
     }
 }
 
-/// A set of processing elements. Contracts speak of it by its points alone, `pe_in mask p`.
+/// A set of processing elements, of numbers 0 to 63. Contracts speak of it by its points alone,
+/// `pe_in mask p`. Source: project's own choice.
 #[derive(Clone, Copy, Debug)]
 pub struct PeMask {
     bits: u64,

@@ -1,6 +1,7 @@
 //! Kinds of translation tables, root registers, tags, and the world that a log belongs to.
 
 /// There was no memory. The call that answers this changed nothing unless its contract says otherwise.
+/// Source: project's own choice.
 #[derive(Clone, Copy, Debug, PartialEq, Eq)]
 pub struct NoMemory;
 

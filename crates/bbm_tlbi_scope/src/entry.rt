@@ -15,7 +15,7 @@ pub enum EntryKind {
     El1,
 }
 
-/// What a TLBI sees of a TLB entry.
+/// What a TLBI sees of a TLB entry. Source: Arm ARM (DDI 0487), "TLB maintenance instructions".
 #[derive(Clone, Copy, Debug, PartialEq, Eq)]
 pub struct EntryHead {
     /// The kind of the entry.
@@ -34,7 +34,7 @@ pub struct EntryHead {
     pub global: bool,
 }
 
-/// The tags that a root holds, at any PE, at the issue of a TLBI.
+/// The tags that a root holds, at any PE, at the issue of a TLBI. Source: project's own choice.
 #[derive(Clone, Copy, Debug, PartialEq, Eq)]
 pub enum TagSet {
     /// No tag.
@@ -45,7 +45,7 @@ pub enum TagSet {
     Many,
 }
 
-/// A place that holds a value, at the issue of a TLBI.
+/// A place that holds a value, at the issue of a TLBI. Source: project's own choice.
 #[derive(Clone, Copy, Debug, PartialEq, Eq)]
 pub struct PlaceView {
     /// The kind of the tree that the place is in.

@@ -80,7 +80,8 @@ impl Family {
     }
 }
 
-/// The scope of a TLBI: what it invalidates. Which fields are None follows from the family.
+/// The scope of a TLBI: what it invalidates. Which fields are None follows from the family. Source: Arm
+/// ARM (DDI 0487), "TLB maintenance instructions".
 #[derive(Clone, Copy, Debug, PartialEq, Eq)]
 pub struct Scope {
     /// The family of the operation.
@@ -140,7 +141,7 @@ impl Scope {
     }
 }
 
-/// Whether the VMID or ASID is there and is this number, 0 to 65535.
+/// Whether the VMID or ASID is there and is this number, 0 to 65535. Source: project's own choice.
 pub fn is_number(named: Option<u16>, number: u16) -> bool
     ensures { result ≡ numbers.is_number named number }
 {
