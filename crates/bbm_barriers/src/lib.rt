@@ -42,11 +42,11 @@ pub struct Dsb {
 }
 
 /// The PEs to which a DSB of the issuer publishes the issuer's earlier writes, in a log with `n` PEs, 1
-/// to 64: every PE, the issuer alone, or none, by the table of the options. Source: Arm ARM (DDI 0487),
+/// to 128: every PE, the issuer alone, or none, by the table of the options. Source: Arm ARM (DDI 0487),
 /// "Memory barriers"; that all PEs are in one inner shareable domain is the project's own choice.
 pub fn publishes_to(dsb: Dsb, issuer: Pe, n: u8) -> PeMask
     requires some { 1 ≤ n }
-    requires within { n ≤ 64 }
+    requires within { n ≤ 128 }
     requires issuer_below { issuer < n }
     ensures { (p : ℕ) → pe_in result p ≡ publishes dsb issuer n p }
 {

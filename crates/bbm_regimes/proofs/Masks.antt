@@ -1,6 +1,6 @@
 -- The bits of a mask, one by one.
 use Rattle.std.proofs.Common.{◌≡◌, ◌≢◌, ℕ, Bool, true, false, ◌&&◌, ◌||◌, not, ◌==◌, nat_eq, nat_lt, ◌<◌, ◌≤◌, ◌-◌, ◌^◌, ◌*◌, ◌%◌, ◌/◌, ◌↔◌, ◌⊎◌, zero, suc, min, max, IsTrue, refl, ap, sym, ◌∙◌, inl, inr, arith}
-use Rattle.std.specs.Int.{bit_at, bit_not, w64}
+use Rattle.std.specs.Int.{bit_at, bit_not, w128}
 use Rattle.std.specs.Prelude.{bit_and, bit_or}
 use Rattle.std.proofs.lemmas.Nat.Bits.{bit_at-zero, bit_at_and, bit_at_or, bit_at_not, bit_at-lt, bit_at-pow_same, bit_at-pow_other, bit_at_ones, bit_at_ones_above, bit_at_above, ones_shr, shr_and_one, same_from_bits}
 use Rattle.std.proofs.lemmas.Bool.{cases_lt}
@@ -33,16 +33,16 @@ pub has_bit-or : (a b p : ℕ) → has_bit (bit_or a b) p ≡ (has_bit a p || ha
 has_bit-or a b p = rw bit_at_or (one_one (bit_at a p) (bit_at b p) (bit_at-lt a p) (bit_at-lt b p))
 
 -- the bit of a number that is above its width is not set
-pub has_bit-minus : (a b p : ℕ) → a < 2 ^ 64 → b < 2 ^ 64 → has_bit (bit_and a (18446744073709551615 - b)) p ≡ (has_bit a p && not (has_bit b p))
+pub has_bit-minus : (a b p : ℕ) → a < 2 ^ 128 → b < 2 ^ 128 → has_bit (bit_and a (340282366920938463463374607431768211455 - b)) p ≡ (has_bit a p && not (has_bit b p))
 has_bit-minus a b p ha hb =
-    elim (cases_lt p 64) [
-      | inl below ↦ rw (bit_at_and, bit_at_not w64 b p hb below) (one_less (bit_at a p) (bit_at b p) (bit_at-lt a p) (bit_at-lt b p))
-      | inr above ↦ rw (bit_at_and, bit_at_above a 64 p ha above) (none_less (bit_at (18446744073709551615 - b) p) (bit_at b p))
+    elim (cases_lt p 128) [
+      | inl below ↦ rw (bit_at_and, bit_at_not w128 b p hb below) (one_less (bit_at a p) (bit_at b p) (bit_at-lt a p) (bit_at-lt b p))
+      | inr above ↦ rw (bit_at_and, bit_at_above a 128 p ha above) (none_less (bit_at (340282366920938463463374607431768211455 - b) p) (bit_at b p))
     ]
 
-pub has_bit-one : (k p : ℕ) → k < 64 → has_bit (1 * 2 ^ k % 18446744073709551616) p ≡ (p == k)
+pub has_bit-one : (k p : ℕ) → k < 128 → has_bit (1 * 2 ^ k % 340282366920938463463374607431768211456) p ≡ (p == k)
 has_bit-one k p hk =
-    let same : 1 * 2 ^ k % 18446744073709551616 ≡ 2 ^ k = one_shl k 64 hk in
+    let same : 1 * 2 ^ k % 340282366920938463463374607431768211456 ≡ 2 ^ k = one_shl k 128 hk in
     rw same (elim (eqb_tells p k) [
       | inl found ↦ rw found.1 (ap (λ x. x == 1) (bit_at-pow_same k)) ∙ sym found.0
       | inr other ↦ ap (λ x. x == 1) (bit_at-pow_other k p other.1) ∙ sym other.0
@@ -54,10 +54,10 @@ all-below n p below = rw (bit_at_ones n p below) (grind (arith, nat_tests))
 all-above : (n p : ℕ) → n ≤ p → has_bit (2 ^ n - 1) p ≡ nat_lt p n
 all-above n p above = rw (bit_at_ones_above n p above) (grind (arith, nat_tests))
 
-pub has_bit-all : (n p : ℕ) → 1 ≤ n → n ≤ 64 → has_bit (18446744073709551615 / 2 ^ (64 - n)) p ≡ nat_lt p n
+pub has_bit-all : (n p : ℕ) → 1 ≤ n → n ≤ 128 → has_bit (340282366920938463463374607431768211455 / 2 ^ (128 - n)) p ≡ nat_lt p n
 has_bit-all n p some within =
-    let shifted : 18446744073709551615 / 2 ^ (64 - n) ≡ 2 ^ (64 - (64 - n)) - 1 = ones_shr 64 (64 - n) (omega arith) in
-    let back : 64 - (64 - n) ≡ n = omega arith in
+    let shifted : 340282366920938463463374607431768211455 / 2 ^ (128 - n) ≡ 2 ^ (128 - (128 - n)) - 1 = ones_shr 128 (128 - n) (omega arith) in
+    let back : 128 - (128 - n) ≡ n = omega arith in
     rw (shifted, back) (elim (cases_lt p n) [ inl below ↦ all-below n p below | inr above ↦ all-above n p above ])
 
 pub has_bit-at : (a k : ℕ) → (bit_and (a / 2 ^ k) 1 == 1) ≡ has_bit a k

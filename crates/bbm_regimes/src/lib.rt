@@ -41,14 +41,14 @@ mod tests {
 
     #[test]
     fn masks(rt: HostRuntime) {
-        for (n, is_pe) in [(0, true), (63, true), (64, false), (255, false)] {
+        for (n, is_pe) in [(0, true), (127, true), (128, false), (255, false)] {
             assert_eq!(rt; Pe::new(n).is_some(), is_pe, "pe {n}");
         }
-        if let (Some(first), Some(last)) = (Pe::new(0), Pe::new(63)) {
-            let every = PeMask::all(64);
+        if let (Some(first), Some(last)) = (Pe::new(0), Pe::new(127)) {
+            let every = PeMask::all(128);
             let others = every.minus(PeMask::one(last));
             assert!(rt; every.has(last) && !others.has(last) && others.has(first));
-            assert!(rt; !PeMask::all(63).has(last) && PeMask::all(1).has(first));
+            assert!(rt; !PeMask::all(127).has(last) && PeMask::all(1).has(first));
             assert!(rt; others.and(PeMask::one(last)).is_empty() && PeMask::none().is_empty());
             assert!(rt; PeMask::none().or(PeMask::one(last)).has(last));
         }

@@ -5,7 +5,7 @@ ghost use Rattle.std.specs.List.{list_any};
 
 use std::marker::Model;
 
-/// A processing element: its number in the log, 0 to 63. Source: project's own choice.
+/// A processing element: its number in the log, 0 to 127. Source: project's own choice.
 #[derive(Clone, Copy, Debug, PartialEq, Eq)]
 pub struct Pe {
     number: u8,
@@ -16,34 +16,34 @@ impl Model for Pe {
 
     ghost view = { λ p. p.number };
 
-    ghost invariant = { (λ p. p.number < 64) };
+    ghost invariant = { (λ p. p.number < 128) };
 
     ghost inverse = { λ n. record { number = n } };
 }
 
 impl Pe {
-    /// The PE with this number; None exactly where the number is 64 or more.
+    /// The PE with this number; None exactly where the number is 128 or more.
     pub fn new(n: u8) -> Option<Pe>
-        ensures is_one { IsSome result ↔ (n < 64) }
+        ensures is_one { IsSome result ↔ (n < 128) }
         ensures value { IfSome result (λ pe. pe ≡ n) }
     {
-        if n < 64 { Some(Pe { number: n }) } else { None }
+        if n < 128 { Some(Pe { number: n }) } else { None }
     }
 
-    /// The number of the PE, 0 to 63.
+    /// The number of the PE, 0 to 127.
     pub fn get(self) -> u8
         ensures value { result ≡ self }
-        ensures below { self < 64 }
+        ensures below { self < 128 }
     {
         self.number
     }
 }
 
-/// A set of processing elements, of numbers 0 to 63. Contracts speak of it by its points alone,
+/// A set of processing elements, of numbers 0 to 127. Contracts speak of it by its points alone,
 /// `pe_in mask p`. Source: project's own choice.
 #[derive(Clone, Copy, Debug)]
 pub struct PeMask {
-    bits: u64,
+    bits: u128,
 }
 
 #[tactic(auto, using(crate::proofs::Masks::masks), unfolding(crate::specs::PeMask::pe_in))]
@@ -69,11 +69,11 @@ impl PeMask {
     /// The set of the first n PEs.
     pub fn all(n: u8) -> PeMask
         requires some { 1 ≤ n }
-        requires within { n ≤ 64 }
+        requires within { n ≤ 128 }
         ensures { (p : ℕ) → pe_in result p ≡ nat_lt p n }
     {
         PeMask {
-            bits: u64::MAX >> (64 - n),
+            bits: u128::MAX >> (128 - n),
         }
     }
 
