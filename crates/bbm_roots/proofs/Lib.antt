@@ -1,0 +1,4 @@
+pub mod Columns
+pub mod Tests
+pub mod Lists
+pub mod PendingBits

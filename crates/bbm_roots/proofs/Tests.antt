@@ -1,0 +1,85 @@
+-- Tests of tags and sets of PEs.
+use Rattle.std.proofs.Common.{◌≡◌, ℕ, zero, suc, ◌<◌, ◌≤◌, Bool, true, false, ◌&&◌, ◌||◌, not, nat_lt, refl, sym, ◌∙◌, ap, arith, IsTrue, ⊎_elim}
+use Rattle.std.proofs.lemmas.Bool.{true_from_ne_false, cases_lt, false≢true, lt-ltb, ltb-true, eqb-true}
+use Rattle.std.proofs.lemmas.Bool.Decides.{nat_tests}
+use Rattle.bbm_regimes.specs.declared.regime.Tag.{Tag}
+use Rattle.bbm_regimes.specs.declared.regime.Tag.TheVariants.{El2, Vmid, Asid, Ttbr1}
+use Rattle.bbm_roots.specs.Holds.{some_pe}
+use Rattle.bbm_roots.specs.Pendings.{same_flag}
+use Rattle.bbm_roots.specs.Readings.{same_tag}
+
+or-left : (a b : Bool) → (a || b) ≡ false → a ≡ false
+or-left true b e = e
+or-left false b e = refl
+
+or-right : (a b : Bool) → (a || b) ≡ false → b ≡ false
+or-right true true e = e
+or-right true false e = refl
+or-right false b e = e
+
+-- no PE below n passes
+pub none_below : (n : ℕ) (test : ℕ → Bool) → ((p : ℕ) → p < n → test p ≡ false) → some_pe n test ≡ false
+none_below zero test h = refl
+none_below (suc n) test h =
+    rw (h n (omega arith)) (none_below n test (λ p lt. h p (omega arith)))
+
+pub none_at : (n : ℕ) (test : ℕ → Bool) (p : ℕ) → some_pe n test ≡ false → p < n → test p ≡ false
+none_at zero test p e lt = absurd (omega arith)
+none_at (suc n) test p e lt =
+    ⊎_elim (λ (less : p < n). none_at n test p (or-right (test n) (some_pe n test) e) less)
+    (λ (last : n ≤ p).
+    let same : p ≡ n = omega arith in
+    ap test same ∙ or-left (test n) (some_pe n test) e)
+    (cases_lt p n)
+
+pub and-true : (b : Bool) → (b && true) ≡ b
+and-true true = refl
+and-true false = refl
+
+pub and-false : (b : Bool) → (b && false) ≡ false
+and-false true = refl
+and-false false = refl
+
+-- whether the common part with the first n PEs is empty
+pub some_pe-empty : (n : ℕ) (test both : ℕ → Bool) (r : Bool) → ((p : ℕ) → both p ≡ (test p && nat_lt p n)) →
+    (IsTrue r → (p : ℕ) → both p ≡ false) → (((p : ℕ) → both p ≡ false) → IsTrue r) → not r ≡ some_pe n test
+some_pe-empty n test both true same none all =
+    sym (none_below n test (λ p lt.
+    let within : nat_lt p n ≡ true = lt-ltb p n lt in
+    sym (and-true (test p)) ∙ ap (λ (b : Bool). test p && b) (sym within) ∙ sym (same p) ∙ none refl p))
+some_pe-empty n test both false same none all =
+    sym (true_from_ne_false (some_pe n test) (λ (e : some_pe n test ≡ false). false≢true (all (outside e))))
+  where
+    outside : some_pe n test ≡ false → (p : ℕ) → both p ≡ false
+    outside e p = same p ∙ by_test (nat_lt p n) refl
+      where
+        by_test : (b : Bool) → nat_lt p n ≡ b → (test p && nat_lt p n) ≡ false
+        by_test true within =
+            ap (λ (b : Bool). b && nat_lt p n) (none_at n test p e (ltb-true p n within))
+        by_test false beyond = ap (λ (b : Bool). test p && b) beyond ∙ and-false (test p)
+
+pub and_left : (a b : Bool) → (a && b) ≡ true → a ≡ true
+and_left true b e = refl
+and_left false b e = e
+
+pub and_right : (a b : Bool) → (a && b) ≡ true → b ≡ true
+and_right true b e = e
+and_right false true e = refl
+and_right false false e = e
+
+pub and_comm : (a b : Bool) → (a && b) ≡ (b && a)
+and_comm true b = sym (and-true b)
+and_comm false b = sym (and-false b)
+
+pub same_flag-true : (a b : Bool) → same_flag a b ≡ true → a ≡ b
+same_flag-true true true e = refl
+same_flag-true true false e = sym e
+same_flag-true false true e = e
+same_flag-true false false e = refl
+
+pub same_tag-true : (a b : Tag) → same_tag a b ≡ true → a ≡ b
+same_tag-true El2 El2 e = refl
+same_tag-true (Vmid v) (Vmid w) e = ap Vmid (eqb-true v w e)
+same_tag-true (Asid v) (Asid w) e = ap Asid (eqb-true v w e)
+same_tag-true Ttbr1 Ttbr1 e = refl
+same_tag-true _ _ e = absurd (false≢true e)

@@ -1,0 +1,16 @@
+use Rattle.std.proofs.Common.{List, ◌∷◌, arith, ◌<◌, length, sym, ap, ◌≡◌}
+use Rattle.bbm_roots.specs.declared.load.Load.{Load}
+use Rattle.bbm_roots.specs.Columns.{loads_in}
+use Rattle.bbm_roots.proofs.Columns.{changed, read}
+use Rattle.bbm_roots.proofs.registers.put.Goals as goal
+
+pub returns-clause-loads : goal.returns-clause-loads
+returns-clause-loads c =
+    changed (λ (xs : List Load). c.args.load ∷ xs) _ _ _ c.index_mut.result.now c.put_front.new.loads c.get.ensures.value
+    c.requires.known c.index_mut.ensures.value c.put_front.ensures
+
+pub put_front-requires : goal.put_front-requires
+put_front-requires c =
+    let e : loads_in c.args.column.now.items c.args.pe ≡ c.index_mut.result.now.items =
+    read _ _ _ c.index_mut.result.now c.get.ensures.value c.requires.known c.index_mut.ensures.value in
+    rw (← e) c.requires.room

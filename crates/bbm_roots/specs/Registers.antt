@@ -1,0 +1,87 @@
+-- The root registers of a PE: what the values that may still be in use name. A list of calls is newest first.
+use Rattle.std.specs.Prelude.{ℕ, ◌*◌, ◌/◌, ◌%◌, ◌^◌, Bool, true, false, ◌&&◌, ◌||◌, not, ◌==◌, List, [], ◌∷◌, Option, Some, None, map, if◌then◌else◌}
+use Rattle.bbm_regimes.specs.declared.regime.Kind.{Kind}
+use Rattle.bbm_regimes.specs.declared.regime.Kind.TheVariants.{El2, S2, Ttbr0, Ttbr1}
+use Rattle.bbm_regimes.specs.declared.regime.Reg.{Reg}
+use Rattle.bbm_regimes.specs.declared.regime.Reg.TheVariants.{Ttbr0El2, VttbrEl2, Ttbr0El1, Ttbr1El1}
+use Rattle.bbm_regimes.specs.declared.regime.World.{World}
+use Rattle.bbm_regimes.specs.declared.regime.World.TheVariants.{Hyp, Kernel}
+use Rattle.bbm_roots.specs.Calls.{Call, Isb, WriteReg}
+use Rattle.bbm_roots.specs.declared.load.Load.{Load}
+
+-- whether two registers are the same
+abbrev pub same_reg : Reg → Reg → Bool
+same_reg Ttbr0El2 Ttbr0El2 = true
+same_reg VttbrEl2 VttbrEl2 = true
+same_reg Ttbr0El1 Ttbr0El1 = true
+same_reg Ttbr1El1 Ttbr1El1 = true
+same_reg _ _ = false
+
+-- the kind of the roots that a register names
+abbrev pub kind_of_reg : Reg → Kind
+kind_of_reg Ttbr0El2 = El2
+kind_of_reg VttbrEl2 = S2
+kind_of_reg Ttbr0El1 = Ttbr0
+kind_of_reg Ttbr1El1 = Ttbr1
+
+-- The two registers of a world. Source: project's own choice.
+abbrev pub first_reg : World → Reg
+first_reg (Hyp el2_start s2_start s2_pages) = Ttbr0El2
+first_reg (Kernel start0 start1 asid_from) = Ttbr0El1
+
+abbrev pub second_reg : World → Reg
+second_reg (Hyp el2_start s2_start s2_pages) = VttbrEl2
+second_reg (Kernel start0 start1 asid_from) = Ttbr1El1
+
+abbrev pub is_first : Reg → Bool
+is_first Ttbr0El2 = true
+is_first VttbrEl2 = false
+is_first Ttbr0El1 = true
+is_first Ttbr1El1 = false
+
+abbrev pub is_of_world : World → Reg → Bool
+is_of_world world reg = same_reg reg (first_reg world) || same_reg reg (second_reg world)
+
+-- The base that a register value names: bits [47:1], as an address. Value 0 names none, and bit 0 is ignored.
+-- Source: Arm ARM (DDI 0487), "AArch64 System register descriptions", TTBR0_EL2, VTTBR_EL2, TTBR0_EL1 and
+-- TTBR1_EL1; that value 0 names no root is the project's own choice.
+abbrev pub base_of : ℕ → Option ℕ
+base_of value = if value == 0 then None else Some (value % 2 ^ 48 / 2 * 2)
+
+-- The VMID or the ASID of a register value: bits [63:48]; 0 of value 0.
+-- Source: Arm ARM (DDI 0487), "AArch64 System register descriptions", VTTBR_EL2, TTBR0_EL1 and TTBR1_EL1.
+abbrev pub number_of : ℕ → ℕ
+number_of value = value / 2 ^ 48
+
+-- whether a value means that no walk is made: a null page as the base of TTBR0_EL1
+-- Source: project's own choice.
+abbrev pub names_null : Reg → Bool → Bool
+names_null Ttbr0El1 null = null
+names_null _ null = false
+
+-- the root that a value names, None where it names none
+abbrev pub root_of : Reg → ℕ → Bool → Option ℕ
+root_of reg value null = if names_null reg null then None else base_of value
+
+abbrev pub load_of : Reg → ℕ → Bool → Load
+load_of reg value null = record { number = number_of value; root = root_of reg value null }
+
+-- what the value 0 names, with which each register starts
+abbrev pub at_start : Load
+at_start = record { number = 0; root = None }
+
+-- the list with its first value alone
+abbrev pub newest : List Load → List Load
+newest [] = []
+newest (x ∷ xs) = x ∷ []
+
+-- What the readable values of a register of p name, newest first: those that it had, the first 0 among them, and
+-- that no later write of the register by p replaced before an ISB of p. An ISB of p leaves the newest alone.
+-- Source: Arm ARM (DDI 0487), "Context synchronization event".
+abbrev pub register_values : List Call → ℕ → Reg → List Load
+register_values [] p reg = at_start ∷ []
+register_values (WriteReg pe r value null ∷ cs) p reg =
+    if pe == p && same_reg r reg then load_of r value null ∷ register_values cs p reg else register_values cs p reg
+register_values (Isb pe ∷ cs) p reg =
+    if pe == p then newest (register_values cs p reg) else register_values cs p reg
+register_values (_ ∷ cs) p reg = register_values cs p reg

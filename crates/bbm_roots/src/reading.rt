@@ -1,0 +1,200 @@
+//! Readable tags: what the readable values of the registers of a PE name, each with its tag.
+
+ghost use Rattle.std.specs.Prelude.{◌≡◌, ℕ, ◌++◌, flat_map, OnOk, IfOk};
+ghost use Rattle.bbm_roots.specs.Readings as spec;
+
+use crate::load::Load;
+use bbm_regimes::{AsidFrom, Kind, NoMemory, Page, Tag, World};
+use std::alloc::Global;
+
+/// A tag that is readable for a root. Source: project's own choice.
+#[derive(Clone, Copy, Debug, PartialEq, Eq)]
+pub struct Reading {
+    /// The tag.
+    pub tag: Tag,
+    /// The first page of the root.
+    pub root: Page,
+}
+
+/// Whether the tags are the same.
+pub fn same_tag(tag: Tag, other: Tag) -> bool
+    ensures { result ≡ spec.same_tag tag other }
+{
+    match (tag, other) {
+        (Tag::El2, Tag::El2) => true,
+        (Tag::Vmid(v), Tag::Vmid(w)) => v == w,
+        (Tag::Asid(a), Tag::Asid(b)) => a == b,
+        (Tag::Ttbr1, Tag::Ttbr1) => true,
+        _ => false,
+    }
+}
+
+/// The place of a tag in the order `El2`, VMIDs, ASIDs, `Ttbr1`, 0 to 131073. Source: project's own choice.
+pub fn tag_rank(tag: Tag) -> u32
+    ensures { result ≡ spec.tag_rank tag }
+{
+    match tag {
+        Tag::El2 => 0,
+        Tag::Vmid(v) => 1 + v as u32,
+        Tag::Asid(a) => 65537 + a as u32,
+        Tag::Ttbr1 => 131073,
+    }
+}
+
+/// The tag under which a TLB reads through a root of the kind, with the VMID or ASID.
+pub fn tag_of(kind: Kind, number: u16) -> Tag
+    ensures { result ≡ spec.tag_of kind number }
+{
+    match kind {
+        Kind::El2 => Tag::El2,
+        Kind::S2 => Tag::Vmid(number),
+        Kind::Ttbr0 => Tag::Asid(number),
+        Kind::Ttbr1 => Tag::Ttbr1,
+    }
+}
+
+// Adds the tag with the root, where there is one.
+fn add(readings: &mut Vec<Reading>, tag: Tag, root: Option<Page>) -> Result<(), NoMemory>
+    ensures { OnOk result (readings.new.items ≡ readings.old.items ++ spec.reading_at tag root) }
+{
+    match root {
+        Some(root) => readings.push(Reading { tag, root }).map_err(|_| NoMemory),
+        None => Ok(()),
+    }
+}
+
+// Adds what the values of the register of a kind name, each with its own VMID or ASID.
+fn add_own(readings: &mut Vec<Reading>, kind: Kind, loads: &[Load]) -> Result<(), NoMemory>
+    ensures { OnOk result (readings.new.items ≡ readings.old.items ++ flat_map (spec.own_reading kind) loads.now) }
+{
+    for load in loads {
+        add(readings, tag_of(kind, load.number), load.root)?;
+    }
+    Ok(())
+}
+
+// Adds what the values of TTBR0_EL1 name, under this ASID.
+fn add_under(readings: &mut Vec<Reading>, tag: Tag, loads: &[Load]) -> Result<(), NoMemory>
+    ensures { OnOk result (readings.new.items ≡ readings.old.items ++ flat_map (spec.reading_under tag) loads.now) }
+{
+    for load in loads {
+        add(readings, tag, load.root)?;
+    }
+    Ok(())
+}
+
+// Adds what the values of TTBR0_EL1 name, under each ASID of the values of TTBR1_EL1.
+fn add_each(readings: &mut Vec<Reading>, first: &[Load], second: &[Load]) -> Result<(), NoMemory>
+    ensures { OnOk result (readings.new.items ≡ readings.old.items ++ flat_map (spec.readings_with first.now) second.now) }
+{
+    for load in second {
+        add_under(readings, Tag::Asid(load.number), first)?;
+    }
+    Ok(())
+}
+
+/// The readable tags of a PE, each with its root, of the readable values of the two registers of the world.
+/// `NoMemory` where there is none. Source: Arm ARM (DDI 0487), "Translation Lookaside Buffers", and TCR_EL1.A1
+/// of "AArch64 System register descriptions".
+pub fn readings(
+    alloc: Global,
+    world: World,
+    first: &[Load],
+    second: &[Load],
+) -> Result<Vec<Reading>, NoMemory>
+    ensures { IfOk result (λ readings. readings.items ≡ spec.readings_of world first.now second.now) }
+{
+    let mut readings = Vec::new(alloc);
+    match world {
+        World::Hyp { .. } => {
+            add_own(&mut readings, Kind::El2, first)?;
+            add_own(&mut readings, Kind::S2, second)?;
+        }
+        World::Kernel {
+            asid_from: AsidFrom::Ttbr0,
+            ..
+        } => {
+            add_own(&mut readings, Kind::Ttbr0, first)?;
+            add_own(&mut readings, Kind::Ttbr1, second)?;
+        }
+        World::Kernel {
+            asid_from: AsidFrom::Ttbr1,
+            ..
+        } => {
+            add_each(&mut readings, first, second)?;
+            add_own(&mut readings, Kind::Ttbr1, second)?;
+        }
+    }
+    Ok(readings)
+}
+
+/// Whether the tag is readable for the root.
+pub fn has_reading(readings: &[Reading], tag: Tag, root: Page) -> bool
+    ensures { result ≡ spec.has_reading tag root readings.now }
+{
+    readings.iter().any(|reading| same_tag(reading.tag, tag) && reading.root == root)
+}
+
+/// Whether the tag is readable for some root.
+pub fn has_tag(readings: &[Reading], tag: Tag) -> bool
+    ensures { result ≡ spec.has_tag tag readings.now }
+{
+    readings.iter().any(|reading| same_tag(reading.tag, tag))
+}
+
+/// Whether the tag is readable for another root than this.
+pub fn has_other(readings: &[Reading], tag: Tag, root: Page) -> bool
+    ensures { result ≡ spec.has_other tag root readings.now }
+{
+    readings.iter().any(|reading| same_tag(reading.tag, tag) && reading.root != root)
+}
+
+// Whether one of the values names a root.
+fn names_some(loads: &[Load]) -> bool
+    ensures { result ≡ spec.names_some loads.now }
+{
+    loads.iter().any(|load| load.root.is_some())
+}
+
+// Whether one of the values names a root with this VMID or ASID.
+fn names_with(loads: &[Load], number: u16) -> bool
+    ensures { result ≡ spec.names_with number loads.now }
+{
+    loads
+        .iter()
+        .any(|load| load.root.is_some() && load.number == number)
+}
+
+// Whether one of the values has this ASID.
+fn has_number(loads: &[Load], number: u16) -> bool
+    ensures { result ≡ spec.has_number number loads.now }
+{
+    loads.iter().any(|load| load.number == number)
+}
+
+/// Whether the tag is readable for some root, by the readable values of the two registers of the world. Source:
+/// Arm ARM (DDI 0487), "Translation Lookaside Buffers".
+pub fn reads_tag(world: World, first: &[Load], second: &[Load], tag: Tag) -> bool
+    ensures { result ≡ spec.reads_tag world first.now second.now tag }
+{
+    match (world, tag) {
+        (World::Hyp { .. }, Tag::El2) => names_some(first),
+        (World::Hyp { .. }, Tag::Vmid(number)) => names_with(second, number),
+        (World::Kernel { .. }, Tag::Ttbr1) => names_some(second),
+        (
+            World::Kernel {
+                asid_from: AsidFrom::Ttbr0,
+                ..
+            },
+            Tag::Asid(number),
+        ) => names_with(first, number),
+        (
+            World::Kernel {
+                asid_from: AsidFrom::Ttbr1,
+                ..
+            },
+            Tag::Asid(number),
+        ) => { names_some(first) && has_number(second, number) }
+        _ => false,
+    }
+}
