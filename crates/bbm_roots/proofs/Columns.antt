@@ -1,5 +1,6 @@
 -- A column of registers at one PE, read and written.
-use Rattle.std.proofs.Common.{◌≡◌, ℕ, zero, suc, ◌<◌, ◌≤◌, ◌∷◌, [], List, nat_eq, length, set, get_or, take, refl, arith, cond, nat_le, ◌==◌, true, false, Bool, sym, ◌∙◌, ap, subst}
+use Rattle.std.proofs.Common.{◌≡◌, ℕ, ⊎_elim, ◌++◌, ◌+◌, zero, suc, ◌<◌, ◌≤◌, ◌∷◌, [], List, nat_eq, length, set, get_or, take, refl, arith, cond, nat_le, ◌==◌, true, false, Bool, sym, ◌∙◌, ap, subst}
+use Rattle.std.proofs.lemmas.Bool.{cases_lt}
 use Rattle.std.proofs.lemmas.Bool.Decides.{nat_tests}
 use Rattle.std.proofs.Math.Dec.{eqb-suc-zero, eqb-zero-suc, eqb-suc-suc}
 use Rattle.arrayvec.specs.ArrayVec.{ArrayVec}
@@ -43,3 +44,29 @@ read vs i pe old at within is =
 -- whether nine values are there
 pub full : (n : ℕ) → n ≤ 9 → (n == 9) ≡ nat_le 9 n
 full n h = grind (arith, nat_tests)
+
+pub loads_in-push : (vs : Column) (v : ArrayVec Load) (p : ℕ) → p < length vs → loads_in (vs ++ v ∷ []) p ≡ loads_in vs p
+loads_in-push [] v p h = absurd (omega arith)
+loads_in-push (w ∷ ws) v zero h = refl
+loads_in-push (w ∷ ws) v (suc p) h = loads_in-push ws v p (omega arith)
+
+pub loads_in-last : (vs : Column) (v : ArrayVec Load) → loads_in (vs ++ v ∷ []) (length vs) ≡ v.items
+loads_in-last [] v = refl
+loads_in-last (w ∷ ws) v = loads_in-last ws v
+
+-- one more PE, with these values
+pub loads_in-more : (xs : List Load) (vs : Column) (v : ArrayVec Load) (n : ℕ) → length vs ≡ n → v.items ≡ xs →
+    ((p : ℕ) → p < n → loads_in vs p ≡ xs) → (p : ℕ) → p < n + 1 → loads_in (vs ++ v ∷ []) p ≡ xs
+loads_in-more xs vs v n len here before p lt =
+    ⊎_elim (λ (less : p < n). loads_in-push vs v p (omega arith) ∙ before p less)
+        (λ (last : n ≤ p).
+            let at : length vs ≡ p = omega arith in
+            subst (λ (k : ℕ). loads_in (vs ++ v ∷ []) k ≡ xs) at (loads_in-last vs v ∙ here))
+        (cases_lt p n)
+
+pub grown : (xs : List Load) (vs ws : Column) (v : ArrayVec Load) → ws ≡ vs ++ v ∷ [] → v.items ≡ xs →
+    ((p : ℕ) → p < length vs → loads_in vs p ≡ xs) → (p : ℕ) → p < length vs + 1 → loads_in ws p ≡ xs
+grown xs vs ws v is here before p lt =
+    ap (λ (us : Column). loads_in us p) is ∙ loads_in-more xs vs v (length vs) refl here before p lt
+
+pub ruleset growing = (grown)

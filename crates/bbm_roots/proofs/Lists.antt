@@ -84,3 +84,15 @@ module _ {X F : Type 0} (R : F → X → Bool → F → Type 0) (bit : X → Boo
 
   pub kept-any : (f : F) (xs ys : List X) → IsFiltered R f xs ys → list_any bit ys ≡ list_any bit xs
   kept-any f xs ys h = ap (list_any bit) h.4 ∙ in_turn h.0 xs f h.1 h.2 h.3
+
+-- a weaker test finds what a stronger one finds
+pub any-weaker : {X : Type 0} (strong weak : X → Bool) → ((x : X) → strong x ≡ true → weak x ≡ true) →
+    (xs : List X) → list_any strong xs ≡ true → list_any weak xs ≡ true
+any-weaker strong weak h [] e = e
+any-weaker strong weak h (x ∷ xs) e =
+    or_cases (strong x) (weak x) (list_any strong xs) (list_any weak xs) (h x) (any-weaker strong weak h xs) e
+  where
+    or_cases : (a a' b b' : Bool) → (a ≡ true → a' ≡ true) → (b ≡ true → b' ≡ true) → (a || b) ≡ true → (a' || b') ≡ true
+    or_cases true a' b b' f g e = ap (λ (t : Bool). t || b') (f refl)
+    or_cases false true b b' f g e = refl
+    or_cases false false b b' f g e = g e

@@ -6,10 +6,10 @@ use Rattle.bbm_barriers.specs.Options.{answers}
 use Rattle.bbm_barriers.specs.declared.Dsb.{Dsb}
 use Rattle.bbm_regimes.specs.PeMask.{pe_in}
 use Rattle.bbm_regimes.specs.declared.regime.Tag.{Tag}
-use Rattle.bbm_roots.specs.Pendings.{is_open, is_answered, is_pending, pending_bit, pending_in, same_flag}
+use Rattle.bbm_roots.specs.Pendings.{is_open, is_answered, is_pending, pending_bit, pending_in, answered_in, same_flag}
 use Rattle.bbm_roots.specs.Readings.{same_tag}
 use Rattle.std.proofs.lemmas.Map.Views.{any-filter_same}
-use Rattle.bbm_roots.proofs.Tests.{and_left, and_right, and_comm, same_flag-true}
+use Rattle.bbm_roots.proofs.Tests.{and_left, and_right, and_comm, same_flag-true, same_flag-comm, same_tag-true}
 use Rattle.bbm_roots.specs.declared.pending.Pending.{Pending}
 
 open-same : (issuer : ℕ) (dsb : Dsb) (q : ℕ) (b : Bool) (g : Tag) (p : ℕ) (x : Pending) →
@@ -29,3 +29,77 @@ any-open issuer dsb q b g p xs =
     any-filter_same (pending_bit q b g p) (is_open issuer dsb) (not (nat_eq q issuer && answers dsb b))
     (open-same issuer dsb q b g p) xs
     ∙ and_comm (not (nat_eq q issuer && answers dsb b)) (pending_in xs q b g p)
+
+module _ (q : ℕ) (b : Bool) (g : Tag) (x : Pending) (found : is_pending q b g x ≡ true) where
+  pub key-issuer : x.issuer ≡ q
+  key-issuer =
+      eqb-true x.issuer q (and_left (nat_eq x.issuer q) (same_flag x.broadcast b)
+          (and_left (nat_eq x.issuer q && same_flag x.broadcast b) (same_tag x.tag g) found))
+
+  pub key-flag : x.broadcast ≡ b
+  key-flag =
+      same_flag-true x.broadcast b (and_right (nat_eq x.issuer q) (same_flag x.broadcast b)
+          (and_left (nat_eq x.issuer q && same_flag x.broadcast b) (same_tag x.tag g) found))
+
+  pub key-tag : x.tag ≡ g
+  key-tag = same_tag-true x.tag g (and_right (nat_eq x.issuer q && same_flag x.broadcast b) (same_tag x.tag g) found)
+
+-- an entry that gets the PEs which a test of its issuer, kind and tag allows
+pub noted-bit : (issuer : ℕ) (flag : Bool) (takes sees : Tag → Bool) (q : ℕ) (b : Bool) (g : Tag) (x : Pending) (old new : Bool) →
+    new ≡ (old || ((nat_eq x.issuer issuer && same_flag x.broadcast flag && takes x.tag) && sees x.tag)) →
+    (is_pending q b g x && new)
+        ≡ ((is_pending q b g x && old) || (is_pending q b g x && ((nat_eq q issuer && same_flag flag b && takes g) && sees g)))
+noted-bit issuer flag takes sees q b g x old new e = by_key (is_pending q b g x) refl
+  where
+    by_key : (k : Bool) → is_pending q b g x ≡ k →
+        (k && new) ≡ ((k && old) || (k && ((nat_eq q issuer && same_flag flag b && takes g) && sees g)))
+    by_key false found = refl
+    by_key true found =
+        e
+        ∙ ap (λ (n : ℕ). old || ((nat_eq n issuer && same_flag x.broadcast flag && takes x.tag) && sees x.tag)) (key-issuer q b g x found)
+        ∙ ap (λ (f : Bool). old || ((nat_eq q issuer && same_flag f flag && takes x.tag) && sees x.tag)) (key-flag q b g x found)
+        ∙ ap (λ (f : Bool). old || ((nat_eq q issuer && f && takes x.tag) && sees x.tag)) (same_flag-comm b flag)
+        ∙ ap (λ (t : Tag). old || ((nat_eq q issuer && same_flag flag b && takes t) && sees t)) (key-tag q b g x found)
+
+-- what a DSB answers, broadcast TLBIs and others apart
+pub answered-split : (q : ℕ) (dsb : Dsb) (g : Tag) (p : ℕ) (xs : List Pending) →
+    answered_in xs q dsb g p
+        ≡ ((answers dsb true && pending_in xs q true g p) || (answers dsb false && pending_in xs q false g p))
+answered-split q dsb g p [] = none (answers dsb true) (answers dsb false)
+  where
+    none : (a b : Bool) → false ≡ ((a && false) || (b && false))
+    none true true = refl
+    none true false = refl
+    none false true = refl
+    none false false = refl
+answered-split q dsb g p (x ∷ xs) =
+    by_flag x.broadcast (nat_eq x.issuer q) (same_tag x.tag g) (pe_in x.pes p)
+        (pending_in xs q true g p) (pending_in xs q false g p) (answered_in xs q dsb g p) (answered-split q dsb g p xs)
+  where
+    by_flag : (b k t m u v r : Bool) → r ≡ ((answers dsb true && u) || (answers dsb false && v)) →
+        (((k && answers dsb b) && t && m) || r)
+            ≡ ((answers dsb true && (((k && same_flag b true && t) && m) || u))
+            || (answers dsb false && (((k && same_flag b false && t) && m) || v)))
+    by_flag true false t m u v r e = e
+    by_flag true true t m u v r e = all (answers dsb true) (answers dsb false) t m u v r e
+      where
+        all : (a c t m u v r : Bool) → r ≡ ((a && u) || (c && v)) →
+            ((a && t && m) || r) ≡ ((a && ((t && m) || u)) || (c && v))
+        all true c true true u v r e = refl
+        all true c true false u v r e = e
+        all true c false m u v r e = e
+        all false c t m u v r e = e
+    by_flag false false t m u v r e = e
+    by_flag false true t m u v r e = other (answers dsb true) (answers dsb false) t m u v r e
+      where
+        other : (a c t m u v r : Bool) → r ≡ ((a && u) || (c && v)) →
+            ((c && t && m) || r) ≡ ((a && u) || (c && ((t && m) || v)))
+        other true true true true true v r e = refl
+        other true true true true false v r e = refl
+        other false true true true u v r e = refl
+        other true true true false u v r e = e
+        other false true true false u v r e = e
+        other true true false m u v r e = e
+        other false true false m u v r e = e
+        other true false t m u v r e = e
+        other false false t m u v r e = e

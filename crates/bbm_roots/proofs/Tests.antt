@@ -1,5 +1,5 @@
 -- Tests of tags and sets of PEs.
-use Rattle.std.proofs.Common.{◌≡◌, ℕ, zero, suc, ◌<◌, ◌≤◌, Bool, true, false, ◌&&◌, ◌||◌, not, nat_lt, refl, sym, ◌∙◌, ap, arith, IsTrue, ⊎_elim}
+use Rattle.std.proofs.Common.{◌≡◌, ℕ, zero, suc, ◌<◌, ◌≤◌, Bool, true, false, ◌&&◌, ◌||◌, not, nat_lt, nat_eq, ◌+◌, subst, refl, sym, ◌∙◌, ap, arith, IsTrue, ⊎_elim}
 use Rattle.std.proofs.lemmas.Bool.{true_from_ne_false, cases_lt, false≢true, lt-ltb, ltb-true, eqb-true}
 use Rattle.std.proofs.lemmas.Bool.Decides.{nat_tests}
 use Rattle.bbm_regimes.specs.declared.regime.Tag.{Tag}
@@ -58,6 +58,10 @@ some_pe-empty n test both false same none all =
             ap (λ (b : Bool). b && nat_lt p n) (none_at n test p e (ltb-true p n within))
         by_test false beyond = ap (λ (b : Bool). test p && b) beyond ∙ and-false (test p)
 
+pub or-false : (b : Bool) → (b || false) ≡ b
+or-false true = refl
+or-false false = refl
+
 pub and_left : (a b : Bool) → (a && b) ≡ true → a ≡ true
 and_left true b e = refl
 and_left false b e = e
@@ -83,3 +87,9 @@ same_tag-true (Vmid v) (Vmid w) e = ap Vmid (eqb-true v w e)
 same_tag-true (Asid v) (Asid w) e = ap Asid (eqb-true v w e)
 same_tag-true Ttbr1 Ttbr1 e = refl
 same_tag-true _ _ e = absurd (false≢true e)
+
+pub same_flag-comm : (a b : Bool) → same_flag a b ≡ same_flag b a
+same_flag-comm true true = refl
+same_flag-comm true false = refl
+same_flag-comm false true = refl
+same_flag-comm false false = refl

@@ -4,3 +4,6 @@ pub mod Holds
 pub mod Pendings
 pub mod Readings
 pub mod Registers
+pub mod Roots
+pub mod Stands
+pub mod Tags

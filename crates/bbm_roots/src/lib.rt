@@ -2,10 +2,15 @@
 //! each root holds.
 #![tactic(auto)]
 
-pub mod hold;
-pub mod load;
-pub mod pending;
-pub mod reading;
-pub mod registers;
+mod fault;
+mod hold;
+mod issue;
+mod load;
+mod pending;
+mod reading;
+mod registers;
+mod root;
+mod roots;
 
-pub use load::Load;
+pub use fault::{InUse, RootFault, Unsynced};
+pub use roots::Roots;

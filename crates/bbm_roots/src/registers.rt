@@ -1,13 +1,17 @@
 //! The register values of each PE that may still be in use.
 #![tactic(auto)]
 
-ghost use Rattle.std.specs.Prelude.{◌≡◌, ℕ, ◌<◌, ◌∷◌, [], nat_eq, nat_le, length, IsTrue, if◌then◌else◌};
+ghost use Rattle.std.specs.Prelude.{◌≡◌, ℕ, ◌<◌, ◌≤◌, ◌+◌, ◌∷◌, [], nat_eq, nat_le, length, vec_len, ◌&&◌, ◌||◌, IfOk, OnOk, if◌then◌else◌};
+ghost use Rattle.bbm_regimes.specs.PeMask.{pe_in};
 ghost use Rattle.bbm_roots.specs.Columns.{Column, loads_in};
-ghost use Rattle.bbm_roots.specs.Registers.{newest};
+ghost use Rattle.bbm_roots.specs.Registers.{at_start, newest};
 
-use crate::load::Load;
+use crate::load::{Load, is_first};
+use crate::reading::reads_tag;
 use arrayvec::ArrayVec;
-use bbm_regimes::{Page, Pe};
+use bbm_events::Header;
+use bbm_regimes::{NoMemory, Page, Pe, PeMask, Reg, Tag, World};
+use std::alloc::Global;
 
 /// The values of one register that may still be in use, the newest first: one that every PE starts with or
 /// made its own by an ISB, and eight written since. Source: project's own choice.
@@ -56,4 +60,121 @@ pub fn sync(column: &mut Vec<Loads>, pe: Pe)
     ensures pes { length column.new.items ≡ length column.old.items }
 {
     column[pe.get() as usize].truncate(1);
+}
+
+// The values that a register starts with.
+fn start_loads(number: u16, root: Option<Page>) -> Loads
+    ensures { result.items ≡ record { number = number; root = root } ∷ [] }
+{
+    let mut loads = ArrayVec::new();
+    loads.push(Load { number, root });
+    loads
+}
+
+// One more PE, with the value 0.
+#[tactic(auto, using(crate::proofs::Columns::growing))]
+fn add_pe(column: &mut Vec<Loads>) -> Result<(), NoMemory>
+    ensures pes { OnOk result (length column.new.items ≡ length column.old.items + 1) }
+    ensures start { OnOk result (((p : ℕ) → p < length column.old.items → loads_in column.old.items p ≡ at_start ∷ [])
+        → (p : ℕ) → p < length column.old.items + 1 → loads_in column.new.items p ≡ at_start ∷ []) }
+{
+    match column.push(start_loads(0, None)) {
+        Ok(()) => Ok(()),
+        Err(_) => Err(NoMemory),
+    }
+}
+
+// A column of as many PEs as the number says, each with the value 0.
+fn new_column(alloc: Global, pes: u8) -> Result<Vec<Loads>, NoMemory>
+    ensures pes { IfOk result (λ column. length column.items ≡ pes) }
+    ensures start { IfOk result (λ column. (p : ℕ) → p < pes → loads_in column.items p ≡ at_start ∷ []) }
+{
+    let mut column = Vec::new(alloc);
+    for _pe in 0..pes {
+        add_pe(&mut column)?;
+    }
+    Ok(column)
+}
+
+// The set, with the PE where the test says so.
+fn with_pe(pes: PeMask, pe: Pe, test: bool) -> PeMask
+    ensures { (p : ℕ) → pe_in result p ≡ (pe_in pes p || (nat_eq p pe && test)) }
+{
+    if test { pes.or(PeMask::one(pe)) } else { pes }
+}
+
+/// The root registers of every PE: what the values name that may still be in use, the newest first, for each of
+/// the two registers of the world. Source: project's own choice.
+#[derive(Drop)]
+pub struct Registers {
+    /// The number of PEs, 1 to 128.
+    pub pes: u8,
+    /// The world.
+    pub world: World,
+    /// TTBR0_EL2 or TTBR0_EL1, by the PE's number.
+    pub first: Vec<Loads>,
+    /// VTTBR_EL2 or TTBR1_EL1, by the PE's number.
+    pub second: Vec<Loads>,
+    ghost some: { 1 ≤ pes },
+    ghost within: { pes ≤ 128 },
+    ghost first_pes: { vec_len first ≡ pes },
+    ghost second_pes: { vec_len second ≡ pes },
+}
+
+impl Registers {
+    ghost use Rattle.std.specs.Prelude.{not, nat_lt};
+    ghost use Rattle.bbm_roots.specs.Readings.{reads_tag as spec_reads_tag};
+    ghost use Rattle.bbm_roots.specs.Registers.{is_first as spec_is_first};
+
+    /// The registers of the header's PEs, each with the value 0.
+    pub fn new(alloc: Global, header: &Header) -> Result<Registers, NoMemory>
+        ensures pes { IfOk result (λ r. r.pes ≡ header.now.pes) }
+        ensures world { IfOk result (λ r. r.world ≡ header.now.world) }
+        ensures first { IfOk result (λ r. (p : ℕ) → p < r.pes → loads_in r.first.items p ≡ at_start ∷ []) }
+        ensures second { IfOk result (λ r. (p : ℕ) → p < r.pes → loads_in r.second.items p ≡ at_start ∷ []) }
+    {
+        let first = new_column(alloc, header.pes)?;
+        let second = new_column(alloc, header.pes)?;
+        Ok(Registers {
+            pes: header.pes,
+            world: header.world,
+            first,
+            second,
+        })
+    }
+
+    /// Whether the PE wrote the register eight times without an ISB between.
+    pub fn is_full(&self, pe: Pe, reg: Reg) -> bool
+        requires { pe < self.now.pes }
+        ensures { result ≡ nat_le 9 (length (if spec_is_first reg then loads_in self.now.first.items pe
+            else loads_in self.now.second.items pe)) }
+    {
+        if is_first(reg) {
+            is_full(&self.first, pe)
+        } else {
+            is_full(&self.second, pe)
+        }
+    }
+
+    /// The PEs of the set at which the tag is readable for no root.
+    pub fn unread(&self, reach: PeMask, tag: Tag) -> PeMask
+        ensures { (p : ℕ) → pe_in result p ≡ (nat_lt p self.now.pes && (pe_in reach p
+            && not (spec_reads_tag self.now.world (loads_in self.now.first.items p) (loads_in self.now.second.items p) tag))) }
+    {
+        let mut unread = PeMask::none();
+        for number in 0..self.pes {
+            let pe = Pe::new(number).unwrap();
+            unread = with_pe(unread, pe, reach.has(pe) && !self.reads(pe, tag));
+        }
+        unread
+    }
+
+    // Whether the tag is readable at the PE for some root.
+    fn reads(&self, pe: Pe, tag: Tag) -> bool
+        requires { pe < self.now.pes }
+        ensures { result ≡ spec_reads_tag self.now.world (loads_in self.now.first.items pe)
+            (loads_in self.now.second.items pe) tag }
+    {
+        reads_tag(self.world, loads_at(&self.first, pe), loads_at(&self.second, pe), tag)
+    }
 }

@@ -1,0 +1,150 @@
+-- What one more call does to the tags that are held and to the TLBIs that are awaited.
+use Rattle.std.proofs.Common.{◌≡◌, ℕ, Bool, true, false, ◌&&◌, ◌||◌, not, nat_eq, List, [], ◌∷◌, refl, sym, ◌∙◌, ap}
+use Rattle.std.proofs.lemmas.Bool.{false≢true}
+use Rattle.std.specs.List.{list_any}
+use Rattle.bbm_barriers.specs.Options.{answers}
+use Rattle.bbm_barriers.specs.declared.Dsb.{Dsb}
+use Rattle.bbm_regimes.specs.declared.regime.AsidFrom.TheVariants.{Ttbr0 as FromTtbr0, Ttbr1 as FromTtbr1}
+use Rattle.bbm_regimes.specs.declared.regime.Tag.{Tag}
+use Rattle.bbm_regimes.specs.declared.regime.World.{World}
+use Rattle.bbm_regimes.specs.declared.regime.World.TheVariants.{Hyp, Kernel}
+use Rattle.bbm_roots.specs.Calls.{Call, Complete}
+use Rattle.bbm_roots.specs.Readings.{has_reading, has_tag, is_reading, is_of_tag, same_tag}
+use Rattle.bbm_roots.specs.Tags.{readings, reads, reads_for_some, awaited, loses, holds_at, issues, answered_by}
+use Rattle.bbm_roots.specs.declared.reading.Reading.{Reading}
+use Rattle.bbm_roots.proofs.Lists.{any-weaker}
+use Rattle.bbm_roots.proofs.Tests.{and_left, and_right, and-true, and-false}
+
+-- where a tag is readable for a root, the root holds it
+pub reads-holds : (world : World) (cs : List Call) (g : Tag) (r p : ℕ) → reads world cs p g r ≡ true →
+    holds_at world cs g r p ≡ true
+reads-holds (Hyp a b c) [] g r p e = e
+reads-holds (Kernel a b FromTtbr0) [] g r p e = e
+reads-holds (Kernel a b FromTtbr1) [] g r p e = e
+reads-holds world (c ∷ cs) g r p e = ap (λ (b : Bool). b || (holds_at world cs g r p && not (loses world c cs g p))) e
+
+pub reads-some : (world : World) (cs : List Call) (g : Tag) (r p : ℕ) → reads world cs p g r ≡ true →
+    reads_for_some world cs p g ≡ true
+reads-some world cs g r p e =
+    any-weaker (is_reading g r) (is_of_tag g) (λ (x : Reading) k. and_left (same_tag x.tag g) (nat_eq x.root r) k)
+        (readings world cs p) e
+
+not-true : (b : Bool) → not b ≡ true → b ≡ false
+not-true true e = sym e
+not-true false e = refl
+
+-- where an answer is awaited, the tag is readable for no root
+pub awaited-unread : (world : World) (cs : List Call) (q : ℕ) (b : Bool) (g : Tag) (p : ℕ) →
+    awaited world cs q b g p ≡ true → reads_for_some world cs p g ≡ false
+awaited-unread world [] q b g p e = absurd (false≢true e)
+awaited-unread world (c ∷ cs) q b g p e =
+    not-true (reads_for_some world (c ∷ cs) p g)
+        (and_right (issues c q b g p || (awaited world cs q b g p && not (answered_by c q b)))
+            (not (reads_for_some world (c ∷ cs) p g)) e)
+
+-- a call that makes no tag readable and takes none away
+pub holds-stay : (world : World) (c : Call) (cs : List Call) (g : Tag) (r p : ℕ) →
+    (reads world (c ∷ cs) p g r ≡ true → reads world cs p g r ≡ true) → loses world c cs g p ≡ false →
+    holds_at world (c ∷ cs) g r p ≡ holds_at world cs g r p
+holds-stay world c cs g r p less none =
+    by_case (reads world (c ∷ cs) p g r) (holds_at world cs g r p) (loses world c cs g p)
+        (λ e. reads-holds world cs g r p (less e)) none
+  where
+    by_case : (a h l : Bool) → (a ≡ true → h ≡ true) → l ≡ false → (a || (h && not l)) ≡ h
+    by_case true h l f e = sym (f refl)
+    by_case false h true f e = absurd (false≢true (sym e))
+    by_case false h false f e = and-true h
+
+-- a call that issues nothing, answers nothing, and makes no tag readable
+pub awaited-stay : (world : World) (c : Call) (cs : List Call) (q : ℕ) (b : Bool) (g : Tag) (p : ℕ) →
+    (reads_for_some world (c ∷ cs) p g ≡ true → reads_for_some world cs p g ≡ true) →
+    issues c q b g p ≡ false → answered_by c q b ≡ false →
+    awaited world (c ∷ cs) q b g p ≡ awaited world cs q b g p
+awaited-stay world c cs q b g p less no_issue no_answer =
+    by_case (issues c q b g p) (awaited world cs q b g p) (answered_by c q b) (reads_for_some world (c ∷ cs) p g)
+        (reads_for_some world cs p g) (awaited-unread world cs q b g p) less no_issue no_answer
+  where
+    by_case : (i w n s t : Bool) → (w ≡ true → t ≡ false) → (s ≡ true → t ≡ true) → i ≡ false → n ≡ false →
+        ((i || (w && not n)) && not s) ≡ w
+    by_case true w n s t f h e k = absurd (false≢true (sym e))
+    by_case false w true s t f h e k = absurd (false≢true (sym k))
+    by_case false true false true t f h e k = absurd (false≢true (sym (f refl) ∙ h refl))
+    by_case false true false false t f h e k = refl
+    by_case false false false s t f h e k = refl
+
+-- a tag that is readable is taken away by no call
+pub reads-kept : (world : World) (pe : ℕ) (dsb : Dsb) (cs : List Call) (g : Tag) (r p : ℕ) →
+    reads world cs p g r ≡ true → loses world (Complete pe dsb) cs g p ≡ false
+reads-kept world pe dsb cs g r p e =
+    by_case (answers dsb true) (answers dsb false) (awaited world cs pe true g p) (awaited world cs pe false g p)
+        (reads_for_some world cs p g) (awaited-unread world cs pe true g p) (awaited-unread world cs pe false g p)
+        (reads-some world cs g r p e)
+  where
+    by_case : (a b v w s : Bool) → (v ≡ true → s ≡ false) → (w ≡ true → s ≡ false) → s ≡ true → ((a && v) || (b && w)) ≡ false
+    by_case a b true w s f h k = absurd (false≢true (sym (f refl) ∙ k))
+    by_case a b false true s f h k = absurd (false≢true (sym (h refl) ∙ k))
+    by_case true true false false s f h k = refl
+    by_case true false false false s f h k = refl
+    by_case false true false false s f h k = refl
+    by_case false false false false s f h k = refl
+
+-- a DSB takes away what it answers
+pub holds-complete : (world : World) (pe : ℕ) (dsb : Dsb) (cs : List Call) (g : Tag) (r p : ℕ) →
+    holds_at world (Complete pe dsb ∷ cs) g r p ≡ (holds_at world cs g r p && not (loses world (Complete pe dsb) cs g p))
+holds-complete world pe dsb cs g r p =
+    by_case (reads world cs p g r) (holds_at world cs g r p) (loses world (Complete pe dsb) cs g p)
+        (reads-holds world cs g r p) (reads-kept world pe dsb cs g r p)
+  where
+    by_case : (a h l : Bool) → (a ≡ true → h ≡ true) → (a ≡ true → l ≡ false) → (a || (h && not l)) ≡ (h && not l)
+    by_case true h l f e = sym (ap (λ (x : Bool). x && not l) (f refl) ∙ ap not (e refl))
+    by_case false h l f e = refl
+
+pub awaited-complete : (world : World) (pe : ℕ) (dsb : Dsb) (cs : List Call) (q : ℕ) (b : Bool) (g : Tag) (p : ℕ) →
+    awaited world (Complete pe dsb ∷ cs) q b g p ≡ (awaited world cs q b g p && not (nat_eq q pe && answers dsb b))
+awaited-complete world pe dsb cs q b g p =
+    by_case (awaited world cs q b g p) (nat_eq q pe && answers dsb b) (reads_for_some world cs p g)
+        (awaited-unread world cs q b g p)
+  where
+    by_case : (w n s : Bool) → (w ≡ true → s ≡ false) → ((w && not n) && not s) ≡ (w && not n)
+    by_case true n true f = absurd (false≢true (sym (f refl)))
+    by_case true true false f = refl
+    by_case true false false f = refl
+    by_case false n s f = refl
+
+pub awaited-issue : (i w s : Bool) → (w ≡ true → s ≡ false) → ((i || (w && true)) && not s) ≡ (w || (i && not s))
+awaited-issue i true true f = absurd (false≢true (sym (f refl)))
+awaited-issue true true false f = refl
+awaited-issue false true false f = refl
+awaited-issue true false s f = refl
+awaited-issue false false s f = refl
+
+-- what a list of entries takes away is what the calls take away
+pub holds-completed : (world : World) (pe : ℕ) (dsb : Dsb) (cs : List Call) (g : Tag) (r p : ℕ) (h t f : Bool) →
+    h ≡ holds_at world cs g r p →
+    (holds_at world cs g r p ≡ true → t ≡ awaited world cs pe true g p) →
+    (holds_at world cs g r p ≡ true → f ≡ awaited world cs pe false g p) →
+    (h && not ((answers dsb true && t) || (answers dsb false && f))) ≡ holds_at world (Complete pe dsb ∷ cs) g r p
+holds-completed world pe dsb cs g r p h t f same all local =
+    by_case (holds_at world cs g r p) h refl same ∙ sym (holds-complete world pe dsb cs g r p)
+  where
+    by_case : (k h : Bool) → holds_at world cs g r p ≡ k → h ≡ holds_at world cs g r p →
+        (h && not ((answers dsb true && t) || (answers dsb false && f)))
+            ≡ (holds_at world cs g r p && not (loses world (Complete pe dsb) cs g p))
+    by_case true h held e =
+        ap (λ (x : Bool). x && not ((answers dsb true && t) || (answers dsb false && f))) e
+        ∙ ap (λ (x : Bool). holds_at world cs g r p && not ((answers dsb true && x) || (answers dsb false && f))) (all held)
+        ∙ ap (λ (x : Bool). holds_at world cs g r p && not ((answers dsb true && awaited world cs pe true g p) || (answers dsb false && x))) (local held)
+    by_case false h held e =
+        ap (λ (x : Bool). x && not ((answers dsb true && t) || (answers dsb false && f))) (e ∙ held)
+        ∙ ap (λ (x : Bool). x && not (loses world (Complete pe dsb) cs g p)) (sym held)
+
+pub held-before : (world : World) (pe : ℕ) (dsb : Dsb) (cs : List Call) (g : Tag) (r p : ℕ) →
+    holds_at world (Complete pe dsb ∷ cs) g r p ≡ true → holds_at world cs g r p ≡ true
+held-before world pe dsb cs g r p e =
+    and_left (holds_at world cs g r p) (not (loses world (Complete pe dsb) cs g p))
+        (sym (holds-complete world pe dsb cs g r p) ∙ e)
+
+pub not-before : (world : World) (pe : ℕ) (dsb : Dsb) (cs : List Call) (g : Tag) (r p : ℕ) →
+    holds_at world cs g r p ≡ false → holds_at world (Complete pe dsb ∷ cs) g r p ≡ false
+not-before world pe dsb cs g r p e =
+    holds-complete world pe dsb cs g r p ∙ ap (λ (x : Bool). x && not (loses world (Complete pe dsb) cs g p)) e

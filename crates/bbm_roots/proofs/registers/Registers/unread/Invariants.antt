@@ -1,0 +1,10 @@
+use Rattle.std.proofs.Common.{◌≡◌, ℕ, ◌&&◌, not, nat_lt}
+use Rattle.bbm_regimes.specs.PeMask.{pe_in}
+use Rattle.bbm_roots.specs.Columns.{loads_in}
+use Rattle.bbm_roots.specs.Readings.{reads_tag}
+use Rattle.bbm_roots.proofs.registers.Registers.unread.Given as goal
+
+abbrev pub invariant-loop-number : goal.invariant-loop-number
+invariant-loop-number l =
+    (p : ℕ) → pe_in l.unread p ≡ (nat_lt p l.number && (pe_in l.reach p
+    && not (reads_tag l.self.world (loads_in l.self.first.items p) (loads_in l.self.second.items p) l.tag)))

@@ -1,0 +1,39 @@
+-- What the roots stand for: a list of accepted calls, point by point.
+use Rattle.std.specs.Prelude.{◌≡◌, ◌<◌, ◌≤◌, ℕ, Bool, true, false, List, [], ◌∷◌, Option, Some, nat_eq, length}
+use Rattle.indexmap.specs.IndexMap.{get, index_map_len, spare}
+use Rattle.bbm_regimes.specs.declared.regime.Reg.{Reg}
+use Rattle.bbm_regimes.specs.declared.regime.Tag.{Tag}
+use Rattle.bbm_regimes.specs.declared.regime.World.{World}
+use Rattle.bbm_roots.specs.Calls.{Call}
+use Rattle.bbm_roots.specs.Columns.{loads_in}
+use Rattle.bbm_roots.specs.Holds.{hold_in}
+use Rattle.bbm_roots.specs.Pendings.{pending_in}
+use Rattle.bbm_roots.specs.Registers.{at_start, first_reg, second_reg, register_values, is_of_world, kind_of_reg}
+use Rattle.bbm_roots.specs.Roots.{root_at, roots_of, is_root}
+use Rattle.bbm_roots.specs.Tags.{holds_at, awaited}
+use Rattle.bbm_roots.specs.declared.load.Load.{Load}
+use Rattle.bbm_roots.specs.declared.roots.Roots.{Roots}
+
+-- the number of PEs, and the world
+abbrev pub pes_of : Roots → ℕ
+pes_of roots = roots.registers.pes
+
+abbrev pub world_of : Roots → World
+world_of roots = roots.registers.world
+
+-- The roots stand for the calls: they keep what the readable values of each register name, the declared roots, which
+-- PEs hold a tag for a root, and, where a tag is held, which unanswered TLBIs are about to take it away.
+pub record Stands (roots : Roots) (cs : List Call) : Type 0 where
+  pub first : (p : ℕ) → p < pes_of roots → loads_in roots.registers.first.items p ≡ register_values cs p (first_reg (world_of roots))
+  pub second : (p : ℕ) → p < pes_of roots → loads_in roots.registers.second.items p ≡ register_values cs p (second_reg (world_of roots))
+  pub outside : (p : ℕ) (reg : Reg) → pes_of roots ≤ p → register_values cs p reg ≡ at_start ∷ []
+  pub declared : (page : ℕ) → get nat_eq roots.declared page ≡ root_at cs page
+  pub count : index_map_len roots.declared ≡ length (roots_of cs)
+  pub holds : (tag : Tag) (root p : ℕ) → hold_in roots.holds.items tag root p ≡ holds_at (world_of roots) cs tag root p
+  pub inside : (tag : Tag) (root p : ℕ) → pes_of roots ≤ p → holds_at (world_of roots) cs tag root p ≡ false
+  pub pendings : (q : ℕ) (broadcast : Bool) (tag : Tag) (root p : ℕ) → holds_at (world_of roots) cs tag root p ≡ true →
+      pending_in roots.pendings.items q broadcast tag p ≡ awaited (world_of roots) cs q broadcast tag p
+
+-- room for one more root
+abbrev pub IsPrepared : Roots → Type 0
+IsPrepared roots = (0 < spare roots.declared) × (index_map_len roots.declared < 1024)

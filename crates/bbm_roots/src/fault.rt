@@ -1,0 +1,37 @@
+//! Why a call is refused.
+
+use bbm_regimes::{Page, Pe, Tag, Which};
+use thiserror::Error;
+
+/// What keeps a root from being retired. Source: project's own choice.
+#[derive(Clone, Copy, Debug, PartialEq, Eq)]
+pub enum InUse {
+    /// The first PE that may still use a register value with this base.
+    Pe(Pe),
+    /// The first tag that the root holds, in the order `El2`, VMIDs, ASIDs, `Ttbr1`.
+    Tag(Tag),
+}
+
+/// Why a call of `Roots` is refused. Source: project's own choice.
+#[derive(Clone, Copy, Debug, Error)]
+pub enum RootFault {
+    /// There was no memory.
+    #[error("no memory")]
+    NoMemory,
+    /// A limit is reached.
+    #[error("limit reached")]
+    Limit(Which),
+    /// No declared root has this base or first page, in bytes.
+    #[error("no root")]
+    NoRoot(u64),
+    /// The root with this first page holds the tag, which would be readable for another root.
+    #[error("tag conflict")]
+    TagConflict(Tag, Page),
+    /// The root is in use.
+    #[error("root in use")]
+    RootInUse(InUse),
+}
+
+/// The VMIDs of a PE differ: the two least of them. Source: project's own choice.
+#[derive(Clone, Copy, Debug, PartialEq, Eq)]
+pub struct Unsynced(pub u16, pub u16);

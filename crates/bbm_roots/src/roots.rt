@@ -1,0 +1,181 @@
+//! The roots, their tags and the registers that name them.
+
+use crate::hold::Held;
+use crate::pending::Pending;
+use crate::registers::Registers;
+use crate::root::{Declared, same_kind};
+use crate::fault::{RootFault, Unsynced};
+use crate::{hold, issue, pending, registers};
+use crate::load::{Load, is_first};
+use bbm_barriers::Dsb;
+use bbm_events::Header;
+use bbm_regimes::{Kind, NoMemory, Page, Pe, PeMask, Reg, Which, World};
+use bbm_tlbi_scope::Scope;
+use indexmap::IndexMap;
+use std::alloc::Global;
+
+/// The number of roots that may be declared at one time. Source: project's own choice.
+const MAX_ROOTS: usize = 1024;
+
+/// The declared roots, the register values of each PE that may still be in use, and the tags that each root holds.
+/// Clauses speak of the list of calls that were accepted, which it stands for. Source: project's own choice.
+#[derive(Drop)]
+pub struct Roots {
+    registers: Registers,
+    declared: IndexMap<u64, Declared>,
+    holds: Vec<Held>,
+    pendings: Vec<Pending>,
+}
+
+impl Roots {
+    ghost use Rattle.std.specs.Prelude.{◌≡◌, ◌≢◌, ◌||◌, nat_eq, ℕ, ◌<◌, ◌≤◌, ◌↔◌, List, [], ◌∷◌, Err, None, length, IsOk, IfOk, OnOk, OnErr, IfErr, IsTrue, IsSome};
+    ghost use Rattle.bbm_tlbi_scope.specs.Decode.{needs_vmid};
+    ghost use Rattle.bbm_regimes.specs.PeMask.{pe_in};
+    ghost use Rattle.bbm_roots.specs.Calls as call;
+    ghost use Rattle.bbm_roots.specs.Calls.{Call};
+    ghost use Rattle.bbm_roots.specs.Roots as spec;
+    ghost use Rattle.bbm_roots.specs.Stands.{Stands, IsPrepared, pes_of, world_of};
+
+    /// The roots of a log with this header before any call. `NoMemory` where there is none.
+    pub fn new(alloc: Global, header: &Header) -> Result<Roots, RootFault>
+        ensures empty { IfOk result (λ roots. Stands roots []) }
+        ensures pes { IfOk result (λ roots. pes_of roots ≡ header.now.pes) }
+        ensures world { IfOk result (λ roots. world_of roots ≡ header.now.world) }
+        ensures fault { IfErr result (λ fault. fault ≡ RootFault.NoMemory) }
+    {
+        match Registers::new(alloc, header) {
+            Ok(registers) => Ok(Roots {
+                registers,
+                declared: IndexMap::new(alloc),
+                holds: Vec::new(alloc),
+                pendings: Vec::new(alloc),
+            }),
+            Err(_) => Err(RootFault::NoMemory),
+        }
+    }
+
+    /// Whether the page is the first page of a declared root of the kind.
+    pub fn is_root(&self, kind: Kind, page: Page) -> bool
+        ensures { (calls : List Call) → Stands self.now calls → result ≡ spec.is_root calls kind page }
+    {
+        match self.declared.get(&page.get()) {
+            Some(root) => same_kind(root.kind, kind),
+            None => false,
+        }
+    }
+
+    /// The lock of the declared root with this first page, 0 to 65535; None where it has none or isn't declared.
+    pub fn lock_of(&self, page: Page) -> Option<u16>
+        ensures { (calls : List Call) → Stands self.now calls → result ≡ spec.lock_of calls page }
+    {
+        match self.declared.get(&page.get()) {
+            Some(root) => root.lock,
+            None => None,
+        }
+    }
+
+    /// Makes room for one more root. `Limit(Roots)` exactly where 1,024 are declared; else `NoMemory` where there is
+    /// none. Nothing else changes. After Ok the next `declare` answers Ok, unless another call that takes memory comes
+    /// between.
+    pub fn prepare(&mut self, _alloc: Global) -> Result<(), RootFault>
+        ensures prepared { OnOk result (IsPrepared self.new) }
+        ensures limit { (calls : List Call) → Stands self.old calls
+            → (result ≡ Err (RootFault.Limit Which.Roots)) ↔ (1024 ≤ length (spec.roots_of calls)) }
+        ensures fault { IfErr result (λ fault. fault ≢ RootFault.Limit Which.Roots → fault ≡ RootFault.NoMemory) }
+        ensures same { (calls : List Call) → Stands self.old calls → Stands self.new calls }
+        ensures pes { pes_of self.new ≡ pes_of self.old }
+        ensures world { world_of self.new ≡ world_of self.old }
+    {
+        if self.declared.len() >= MAX_ROOTS {
+            return Err(RootFault::Limit(Which::Roots));
+        }
+        match self.declared.reserve(1) {
+            Ok(()) => Ok(()),
+            Err(_) => Err(RootFault::NoMemory),
+        }
+    }
+
+    /// Declares a root of the kind with this first page, which isn't that of a declared root, and its lock or none.
+    /// `Limit(Roots)` exactly where 1,024 are declared; else `NoMemory` where there is none, but not after Ok of
+    /// `prepare` without another call between that takes memory. A refusal changes nothing.
+    pub fn declare(&mut self, _alloc: Global, kind: Kind, page: Page, lock: Option<u16>) -> Result<(), RootFault>
+        requires { (calls : List Call) → Stands self.old calls → spec.root_at calls page ≡ None }
+        ensures taken { OnOk result ((calls : List Call) → Stands self.old calls
+            → Stands self.new (call.Declare kind page lock ∷ calls)) }
+        ensures prepared { IsPrepared self.old → IsOk result }
+        ensures limit { (calls : List Call) → Stands self.old calls
+            → (result ≡ Err (RootFault.Limit Which.Roots)) ↔ (1024 ≤ length (spec.roots_of calls)) }
+        ensures fault { IfErr result (λ fault. fault ≢ RootFault.Limit Which.Roots → fault ≡ RootFault.NoMemory) }
+        ensures same { OnErr result ((calls : List Call) → Stands self.old calls → Stands self.new calls) }
+        ensures pes { pes_of self.new ≡ pes_of self.old }
+        ensures world { world_of self.new ≡ world_of self.old }
+    {
+        if self.declared.len() >= MAX_ROOTS {
+            return Err(RootFault::Limit(Which::Roots));
+        }
+        match self.declared.insert(page.get(), Declared { page, kind, lock }) {
+            Ok(_) => Ok(()),
+            Err(_) => Err(RootFault::NoMemory),
+        }
+    }
+
+    /// An ISB of the PE: its newest register values alone stay in use.
+    pub fn isb(&mut self, pe: Pe)
+        requires { pe < pes_of self.old }
+        ensures taken { (calls : List Call) → Stands self.old calls → Stands self.new (call.Isb pe ∷ calls) }
+        ensures prepared { IsPrepared self.old → IsPrepared self.new }
+        ensures pes { pes_of self.new ≡ pes_of self.old }
+        ensures world { world_of self.new ≡ world_of self.old }
+    {
+        registers::sync(&mut self.registers.first, pe);
+        registers::sync(&mut self.registers.second, pe);
+    }
+
+    /// A DSB of the PE: it answers TLBIs that the PE issued, which take tags away.
+    pub fn complete(&mut self, issuer: Pe, dsb: Dsb)
+        requires { issuer < pes_of self.old }
+        ensures taken { (calls : List Call) → Stands self.old calls
+            → Stands self.new (call.Complete issuer dsb ∷ calls) }
+        ensures prepared { IsPrepared self.old → IsPrepared self.new }
+        ensures pes { pes_of self.new ≡ pes_of self.old }
+        ensures world { world_of self.new ≡ world_of self.old }
+    {
+        hold::release(&mut self.holds, &self.pendings, issuer, dsb);
+        hold::sweep(&mut self.holds);
+        pending::settle(&mut self.pendings, issuer, dsb);
+    }
+
+    /// A TLBI of the PE, of this scope and under this VMID, which is there where the scope is that of a VMID.
+    /// `NoMemory` where there is none; then nothing changes.
+    pub fn issue(&mut self, _alloc: Global, issuer: Pe, scope: Scope, vmid: Option<u16>) -> Result<(), RootFault>
+        requires known { issuer < pes_of self.old }
+        requires vmid { IsTrue (needs_vmid scope) → IsSome vmid }
+        ensures taken { OnOk result ((calls : List Call) → Stands self.old calls
+            → Stands self.new (call.Issue issuer scope vmid ∷ calls)) }
+        ensures fault { IfErr result (λ fault. fault ≡ RootFault.NoMemory) }
+        ensures same { OnErr result ((calls : List Call) → Stands self.old calls → Stands self.new calls) }
+        ensures prepared { IsPrepared self.old → IsPrepared self.new }
+        ensures pes { pes_of self.new ≡ pes_of self.old }
+        ensures world { world_of self.new ≡ world_of self.old }
+    {
+        match issue::make_room(&mut self.pendings, &self.holds, issuer, &scope, vmid) {
+            Ok(()) => {
+                let reach = self.reach(issuer, scope.broadcast);
+                issue::note(&mut self.pendings, &self.registers, reach, issuer, &scope, vmid);
+                Ok(())
+            }
+            Err(_) => Err(RootFault::NoMemory),
+        }
+    }
+
+    // The PEs that a TLBI of the issuer reaches.
+    fn reach(&self, issuer: Pe, broadcast: bool) -> PeMask
+        ensures { (p : ℕ) → p < pes_of self.now → pe_in result p ≡ (broadcast || nat_eq p issuer) }
+    {
+        if broadcast {
+            PeMask::all(self.registers.pes)
+        } else {
+            PeMask::one(issuer)
+        }
+    }
+}
