@@ -1,5 +1,5 @@
 -- Tests of the readings of a PE: what the values in front alone give, all values give; and the test by cases.
-use Rattle.std.proofs.Common.{◌≡◌, ℕ, Bool, true, false, ◌&&◌, ◌||◌, ◌==◌, List, [], ◌∷◌, ◌++◌, refl, sym, ◌∙◌, ap, Option, Some, None, is_some}
+use Rattle.std.proofs.Common.{◌≡◌, ℕ, Bool, true, false, ◌&&◌, ◌||◌, ◌==◌, List, [], ◌∷◌, ◌++◌, refl, sym, ◌∙◌, ap, cond, Option, Some, None, is_some}
 use Rattle.std.specs.List.{list_any, flat_map}
 use Rattle.std.proofs.lemmas.List.Folds.{list_any-append}
 use Rattle.bbm_regimes.specs.declared.regime.AsidFrom.TheVariants.{Ttbr0 as FromTtbr0, Ttbr1 as FromTtbr1}
@@ -72,3 +72,138 @@ module _ (t : Reading → Bool) where
       both (flat_map (readings_with (newest xs)) (newest ys)) (flat_map (own_reading Ttbr1) (newest ys))
           (flat_map (readings_with xs) ys) (flat_map (own_reading Ttbr1) ys)
           (crossed xs ys) (grows (own_reading Ttbr1) ys) e
+
+-- the same where one PE alone had an ISB
+pub readings-isb : (t : Reading → Bool) (world : World) (b : Bool) (xs ys : List Load) →
+    list_any t (readings_of world (cond b (newest xs) xs) (cond b (newest ys) ys)) ≡ true →
+    list_any t (readings_of world xs ys) ≡ true
+readings-isb t world true xs ys e = readings-newest t world xs ys e
+readings-isb t world false xs ys e = e
+
+pub newest-same : (b : Bool) (x : Load) → cond b (newest (x ∷ [])) (x ∷ []) ≡ x ∷ []
+newest-same true x = refl
+newest-same false x = refl
+
+-- the test by cases
+some-name : (root : Option ℕ) (tag g : Tag) → list_any (is_of_tag g) (reading_at tag root) ≡ (is_some root && same_tag tag g)
+some-name None tag g = refl
+some-name (Some n) tag g = or-false (same_tag tag g)
+
+any-same : {X : Type 0} (p q : X → Bool) → ((x : X) → p x ≡ q x) → (xs : List X) → list_any p xs ≡ list_any q xs
+any-same p q h [] = refl
+any-same p q h (x ∷ xs) = ap (λ (b : Bool). b || list_any p xs) (h x) ∙ ap (λ (b : Bool). q x || b) (any-same p q h xs)
+
+any-none : {X : Type 0} (xs : List X) → list_any (λ x. false) xs ≡ false
+any-none [] = refl
+any-none (x ∷ xs) = any-none xs
+
+and-false : (a : Bool) → (a && false) ≡ false
+and-false true = refl
+and-false false = refl
+
+and-true : (a : Bool) → (a && true) ≡ a
+and-true true = refl
+and-true false = refl
+
+-- the readings of a kind have a tag that isn't of the kind nowhere, one that always is where a root is named, and one
+-- with a number where a root is named with it
+module _ (g : Tag) (kind : Kind) where
+  own : (xs : List Load) → has_tag g (flat_map (own_reading kind) xs) ≡ list_any (λ x. is_some x.root && same_tag (tag_of kind x.number) g) xs
+  own xs =
+      any-flat_map (is_of_tag g) (own_reading kind) xs
+      ∙ any-same (λ x. list_any (is_of_tag g) (own_reading kind x)) (λ x. is_some x.root && same_tag (tag_of kind x.number) g)
+          (λ x. some-name x.root (tag_of kind x.number) g) xs
+
+  own-none : ((n : ℕ) → same_tag (tag_of kind n) g ≡ false) → (xs : List Load) → has_tag g (flat_map (own_reading kind) xs) ≡ false
+  own-none h xs =
+      own xs
+      ∙ any-same (λ x. is_some x.root && same_tag (tag_of kind x.number) g) (λ x. false)
+          (λ x. ap (λ (b : Bool). is_some x.root && b) (h x.number) ∙ and-false (is_some x.root)) xs
+      ∙ any-none xs
+
+  own-all : ((n : ℕ) → same_tag (tag_of kind n) g ≡ true) → (xs : List Load) → has_tag g (flat_map (own_reading kind) xs) ≡ list_any names_root xs
+  own-all h xs =
+      own xs
+      ∙ any-same (λ x. is_some x.root && same_tag (tag_of kind x.number) g) names_root
+          (λ x. ap (λ (b : Bool). is_some x.root && b) (h x.number) ∙ and-true (is_some x.root)) xs
+
+join : (g : Tag) (xs ys : List Reading) (a b : Bool) → has_tag g xs ≡ a → has_tag g ys ≡ b → has_tag g (xs ++ ys) ≡ (a || b)
+join g xs ys a b e f = list_any-append (is_of_tag g) xs ys ∙ ap (λ (x : Bool). x || has_tag g ys) e ∙ ap (λ (y : Bool). a || y) f
+
+-- the readings under each ASID of the second list
+crossed-one : (a n : ℕ) (xs : List Load) → has_tag (Asid a) (flat_map (reading_under (Asid n)) xs) ≡ (list_any names_root xs && (n == a))
+crossed-one a n [] = refl
+crossed-one a n (x ∷ xs) =
+    list_any-append (is_of_tag (Asid a)) (reading_at (Asid n) x.root) (flat_map (reading_under (Asid n)) xs)
+    ∙ ap (λ (b : Bool). b || has_tag (Asid a) (flat_map (reading_under (Asid n)) xs)) (some-name x.root (Asid n) (Asid a))
+    ∙ ap (λ (b : Bool). (is_some x.root && (n == a)) || b) (crossed-one a n xs)
+    ∙ factor (is_some x.root) (list_any names_root xs) (n == a)
+  where
+    factor : (p q c : Bool) → ((p && c) || (q && c)) ≡ ((p || q) && c)
+    factor true true true = refl
+    factor true true false = refl
+    factor true false c = or-false c
+    factor false q c = refl
+
+crossed-asid : (a : ℕ) (xs ys : List Load) → has_tag (Asid a) (flat_map (readings_with xs) ys) ≡ (list_any names_root xs && list_any (numbered a) ys)
+crossed-asid a xs [] = sym (and-false (list_any names_root xs))
+crossed-asid a xs (y ∷ ys) =
+    list_any-append (is_of_tag (Asid a)) (readings_with xs y) (flat_map (readings_with xs) ys)
+    ∙ ap (λ (b : Bool). b || has_tag (Asid a) (flat_map (readings_with xs) ys)) (crossed-one a y.number xs)
+    ∙ ap (λ (b : Bool). (list_any names_root xs && (y.number == a)) || b) (crossed-asid a xs ys)
+    ∙ factor (list_any names_root xs) (y.number == a) (list_any (numbered a) ys)
+  where
+    factor : (p c d : Bool) → ((p && c) || (p && d)) ≡ (p && (c || d))
+    factor true c d = refl
+    factor false c d = refl
+
+crossed-none : (g : Tag) → ((n : ℕ) → same_tag (Asid n) g ≡ false) → (xs ys : List Load) → has_tag g (flat_map (readings_with xs) ys) ≡ false
+crossed-none g h xs ys =
+    any-flat_map (is_of_tag g) (readings_with xs) ys
+    ∙ any-same (λ y. list_any (is_of_tag g) (readings_with xs y)) (λ y. false)
+        (λ y. any-flat_map (is_of_tag g) (reading_under (Asid y.number)) xs
+            ∙ any-same (λ x. list_any (is_of_tag g) (reading_under (Asid y.number) x)) (λ x. false)
+                (λ x. some-name x.root (Asid y.number) g ∙ ap (λ (b : Bool). is_some x.root && b) (h y.number) ∙ and-false (is_some x.root)) xs
+            ∙ any-none xs) ys
+    ∙ any-none ys
+
+pub reads_tag-is : (world : World) (xs ys : List Load) (g : Tag) → has_tag g (readings_of world xs ys) ≡ reads_tag world xs ys g
+reads_tag-is (Hyp a b c) xs ys El2Tag =
+    join El2Tag (flat_map (own_reading El2) xs) (flat_map (own_reading S2) ys) (list_any names_root xs) false
+        (own-all El2Tag El2 (λ n. refl) xs) (own-none El2Tag S2 (λ n. refl) ys)
+    ∙ or-false (list_any names_root xs)
+reads_tag-is (Hyp a b c) xs ys (Vmid v) =
+    join (Vmid v) (flat_map (own_reading El2) xs) (flat_map (own_reading S2) ys) false (list_any (names_root_with v) ys)
+        (own-none (Vmid v) El2 (λ n. refl) xs) (own (Vmid v) S2 ys)
+reads_tag-is (Hyp a b c) xs ys (Asid v) =
+    join (Asid v) (flat_map (own_reading El2) xs) (flat_map (own_reading S2) ys) false false
+        (own-none (Asid v) El2 (λ n. refl) xs) (own-none (Asid v) S2 (λ n. refl) ys)
+reads_tag-is (Hyp a b c) xs ys Ttbr1Tag =
+    join Ttbr1Tag (flat_map (own_reading El2) xs) (flat_map (own_reading S2) ys) false false
+        (own-none Ttbr1Tag El2 (λ n. refl) xs) (own-none Ttbr1Tag S2 (λ n. refl) ys)
+reads_tag-is (Kernel a b FromTtbr0) xs ys El2Tag =
+    join El2Tag (flat_map (own_reading Ttbr0) xs) (flat_map (own_reading Ttbr1) ys) false false
+        (own-none El2Tag Ttbr0 (λ n. refl) xs) (own-none El2Tag Ttbr1 (λ n. refl) ys)
+reads_tag-is (Kernel a b FromTtbr0) xs ys (Vmid v) =
+    join (Vmid v) (flat_map (own_reading Ttbr0) xs) (flat_map (own_reading Ttbr1) ys) false false
+        (own-none (Vmid v) Ttbr0 (λ n. refl) xs) (own-none (Vmid v) Ttbr1 (λ n. refl) ys)
+reads_tag-is (Kernel a b FromTtbr0) xs ys (Asid v) =
+    join (Asid v) (flat_map (own_reading Ttbr0) xs) (flat_map (own_reading Ttbr1) ys) (list_any (names_root_with v) xs) false
+        (own (Asid v) Ttbr0 xs) (own-none (Asid v) Ttbr1 (λ n. refl) ys)
+    ∙ or-false (list_any (names_root_with v) xs)
+reads_tag-is (Kernel a b FromTtbr0) xs ys Ttbr1Tag =
+    join Ttbr1Tag (flat_map (own_reading Ttbr0) xs) (flat_map (own_reading Ttbr1) ys) false (list_any names_root ys)
+        (own-none Ttbr1Tag Ttbr0 (λ n. refl) xs) (own-all Ttbr1Tag Ttbr1 (λ n. refl) ys)
+reads_tag-is (Kernel a b FromTtbr1) xs ys El2Tag =
+    join El2Tag (flat_map (readings_with xs) ys) (flat_map (own_reading Ttbr1) ys) false false
+        (crossed-none El2Tag (λ n. refl) xs ys) (own-none El2Tag Ttbr1 (λ n. refl) ys)
+reads_tag-is (Kernel a b FromTtbr1) xs ys (Vmid v) =
+    join (Vmid v) (flat_map (readings_with xs) ys) (flat_map (own_reading Ttbr1) ys) false false
+        (crossed-none (Vmid v) (λ n. refl) xs ys) (own-none (Vmid v) Ttbr1 (λ n. refl) ys)
+reads_tag-is (Kernel a b FromTtbr1) xs ys (Asid v) =
+    join (Asid v) (flat_map (readings_with xs) ys) (flat_map (own_reading Ttbr1) ys) (list_any names_root xs && list_any (numbered v) ys) false
+        (crossed-asid v xs ys) (own-none (Asid v) Ttbr1 (λ n. refl) ys)
+    ∙ or-false (list_any names_root xs && list_any (numbered v) ys)
+reads_tag-is (Kernel a b FromTtbr1) xs ys Ttbr1Tag =
+    join Ttbr1Tag (flat_map (readings_with xs) ys) (flat_map (own_reading Ttbr1) ys) false (list_any names_root ys)
+        (crossed-none Ttbr1Tag (λ n. refl) xs ys) (own-all Ttbr1Tag Ttbr1 (λ n. refl) ys)

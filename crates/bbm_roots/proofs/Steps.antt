@@ -1,5 +1,5 @@
 -- What one more call does to the tags that are held and to the TLBIs that are awaited.
-use Rattle.std.proofs.Common.{◌≡◌, ℕ, Bool, true, false, ◌&&◌, ◌||◌, not, nat_eq, List, [], ◌∷◌, refl, sym, ◌∙◌, ap}
+use Rattle.std.proofs.Common.{◌≡◌, ℕ, Bool, true, false, ◌&&◌, ◌||◌, not, nat_eq, List, [], ◌∷◌, refl, sym, ◌∙◌, ap, Option}
 use Rattle.std.proofs.lemmas.Bool.{false≢true}
 use Rattle.std.specs.List.{list_any}
 use Rattle.bbm_barriers.specs.Options.{answers}
@@ -8,7 +8,8 @@ use Rattle.bbm_regimes.specs.declared.regime.AsidFrom.TheVariants.{Ttbr0 as From
 use Rattle.bbm_regimes.specs.declared.regime.Tag.{Tag}
 use Rattle.bbm_regimes.specs.declared.regime.World.{World}
 use Rattle.bbm_regimes.specs.declared.regime.World.TheVariants.{Hyp, Kernel}
-use Rattle.bbm_roots.specs.Calls.{Call, Complete}
+use Rattle.bbm_tlbi_scope.specs.declared.scope.Scope.{Scope}
+use Rattle.bbm_roots.specs.Calls.{Call, Complete, Issue}
 use Rattle.bbm_roots.specs.Readings.{has_reading, has_tag, is_reading, is_of_tag, same_tag}
 use Rattle.bbm_roots.specs.Tags.{readings, reads, reads_for_some, awaited, loses, holds_at, issues, answered_by}
 use Rattle.bbm_roots.specs.declared.reading.Reading.{Reading}
@@ -148,3 +149,11 @@ pub not-before : (world : World) (pe : ℕ) (dsb : Dsb) (cs : List Call) (g : Ta
     holds_at world cs g r p ≡ false → holds_at world (Complete pe dsb ∷ cs) g r p ≡ false
 not-before world pe dsb cs g r p e =
     holds-complete world pe dsb cs g r p ∙ ap (λ (x : Bool). x && not (loses world (Complete pe dsb) cs g p)) e
+
+-- a TLBI takes nothing away yet; what it issues is awaited
+pub awaited-issued : (world : World) (pe : ℕ) (scope : Scope) (vmid : Option ℕ) (cs : List Call) (q : ℕ) (b : Bool) (g : Tag) (p : ℕ) →
+    awaited world (Issue pe scope vmid ∷ cs) q b g p
+        ≡ (awaited world cs q b g p || (issues (Issue pe scope vmid) q b g p && not (reads_for_some world cs p g)))
+awaited-issued world pe scope vmid cs q b g p =
+    awaited-issue (issues (Issue pe scope vmid) q b g p) (awaited world cs q b g p) (reads_for_some world cs p g)
+        (awaited-unread world cs q b g p)

@@ -81,7 +81,7 @@ newest (x ∷ xs) = x ∷ []
 abbrev pub register_values : List Call → ℕ → Reg → List Load
 register_values [] p reg = at_start ∷ []
 register_values (WriteReg pe r value null ∷ cs) p reg =
-    if pe == p && same_reg r reg then load_of r value null ∷ register_values cs p reg else register_values cs p reg
+    if p == pe && same_reg r reg then load_of r value null ∷ register_values cs p reg else register_values cs p reg
 register_values (Isb pe ∷ cs) p reg =
-    if pe == p then newest (register_values cs p reg) else register_values cs p reg
+    if p == pe then newest (register_values cs p reg) else register_values cs p reg
 register_values (_ ∷ cs) p reg = register_values cs p reg
