@@ -4,3 +4,4 @@ pub mod Lists
 pub mod PendingBits
 pub mod Flat
 pub mod Steps
+pub mod RootLists

@@ -6,7 +6,7 @@ use Rattle.bbm_barriers.specs.Options.{answers}
 use Rattle.bbm_barriers.specs.declared.Dsb.{Dsb}
 use Rattle.bbm_regimes.specs.PeMask.{pe_in}
 use Rattle.bbm_regimes.specs.declared.regime.Tag.{Tag}
-use Rattle.bbm_roots.specs.Pendings.{is_open, is_answered, is_pending, pending_bit, pending_in, answered_in, same_flag}
+use Rattle.bbm_roots.specs.Pendings.{is_open, is_answered, is_pending, pending_bit, pending_in, answered_in, has_pending, same_flag}
 use Rattle.bbm_roots.specs.Readings.{same_tag}
 use Rattle.std.proofs.lemmas.Map.Views.{any-filter_same}
 use Rattle.bbm_roots.proofs.Tests.{and_left, and_right, and_comm, same_flag-true, same_flag-comm, same_tag-true}
@@ -103,3 +103,14 @@ answered-split q dsb g p (x ∷ xs) =
         other false true false m u v r e = e
         other true false t m u v r e = e
         other false false t m u v r e = e
+
+-- the entry of an issuer, which is this one
+pub entry-there : (q issuer : ℕ) (flag b takes : Bool) (g : Tag) (xs : List Pending) →
+    (nat_eq q issuer && same_flag flag b && takes) ≡ true → (takes ≡ true → has_pending issuer flag g xs ≡ true) →
+    has_pending q b g xs ≡ true
+entry-there q issuer flag b takes g xs key there =
+    let front : (nat_eq q issuer && same_flag flag b) ≡ true = and_left (nat_eq q issuer && same_flag flag b) takes key in
+    ap (λ (n : ℕ). has_pending n b g xs) (eqb-true q issuer (and_left (nat_eq q issuer) (same_flag flag b) front))
+    ∙ ap (λ (f : Bool). has_pending issuer f g xs)
+        (sym (same_flag-true flag b (and_right (nat_eq q issuer) (same_flag flag b) front)))
+    ∙ there (and_right (nat_eq q issuer && same_flag flag b) takes key)

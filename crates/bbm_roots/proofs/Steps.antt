@@ -9,7 +9,9 @@ use Rattle.bbm_regimes.specs.declared.regime.Tag.{Tag}
 use Rattle.bbm_regimes.specs.declared.regime.World.{World}
 use Rattle.bbm_regimes.specs.declared.regime.World.TheVariants.{Hyp, Kernel}
 use Rattle.bbm_tlbi_scope.specs.declared.scope.Scope.{Scope}
+use Rattle.bbm_tlbi_scope.specs.Tags.{takes_whole_tag}
 use Rattle.bbm_roots.specs.Calls.{Call, Complete, Issue}
+use Rattle.bbm_roots.specs.Pendings.{same_flag}
 use Rattle.bbm_roots.specs.Readings.{has_reading, has_tag, is_reading, is_of_tag, same_tag}
 use Rattle.bbm_roots.specs.Tags.{readings, reads, reads_for_some, awaited, loses, holds_at, issues, answered_by}
 use Rattle.bbm_roots.specs.declared.reading.Reading.{Reading}
@@ -157,3 +159,25 @@ pub awaited-issued : (world : World) (pe : ℕ) (scope : Scope) (vmid : Option �
 awaited-issued world pe scope vmid cs q b g p =
     awaited-issue (issues (Issue pe scope vmid) q b g p) (awaited world cs q b g p) (reads_for_some world cs p g)
         (awaited-unread world cs q b g p)
+
+-- what a list of entries notes is what is awaited
+pub noted : (world : World) (pe : ℕ) (scope : Scope) (vmid : Option ℕ) (cs : List Call) (q : ℕ) (b : Bool) (g : Tag) (p : ℕ)
+    (old has below rin rt : Bool) → old ≡ awaited world cs q b g p →
+    ((nat_eq q pe && same_flag scope.broadcast b && takes_whole_tag scope vmid g) ≡ true → has ≡ true) →
+    below ≡ true → rin ≡ (scope.broadcast || nat_eq p pe) → rt ≡ reads_for_some world cs p g →
+    (old || (has && ((nat_eq q pe && same_flag scope.broadcast b && takes_whole_tag scope vmid g) && (below && (rin && not rt)))))
+        ≡ awaited world (Issue pe scope vmid ∷ cs) q b g p
+noted world pe scope vmid cs q b g p old has below rin rt is_old is_there is_below is_reach is_read =
+    by_key (nat_eq q pe && same_flag scope.broadcast b && takes_whole_tag scope vmid g) has below is_there is_below
+    ∙ ap (λ (x : Bool). x || ((nat_eq q pe && same_flag scope.broadcast b && takes_whole_tag scope vmid g) && rin && not rt)) is_old
+    ∙ ap (λ (x : Bool). awaited world cs q b g p || ((nat_eq q pe && same_flag scope.broadcast b && takes_whole_tag scope vmid g) && x && not rt)) is_reach
+    ∙ ap (λ (x : Bool). awaited world cs q b g p || (issues (Issue pe scope vmid) q b g p && not x)) is_read
+    ∙ sym (awaited-issued world pe scope vmid cs q b g p)
+  where
+    by_key : (k has below : Bool) → (k ≡ true → has ≡ true) → below ≡ true →
+        (old || (has && (k && (below && (rin && not rt))))) ≡ (old || (k && rin && not rt))
+    by_key true true true h e = refl
+    by_key true false below h e = absurd (false≢true (h refl))
+    by_key true true false h e = absurd (false≢true e)
+    by_key false true below h e = refl
+    by_key false false below h e = refl

@@ -1,13 +1,13 @@
 //! The register values of each PE that may still be in use.
 #![tactic(auto)]
 
-ghost use Rattle.std.specs.Prelude.{◌≡◌, ℕ, ◌<◌, ◌≤◌, ◌+◌, ◌∷◌, [], nat_eq, nat_le, length, vec_len, ◌&&◌, ◌||◌, IfOk, OnOk, if◌then◌else◌};
+ghost use Rattle.std.specs.Prelude.{◌≡◌, ℕ, ◌<◌, ◌≤◌, ◌+◌, ◌∷◌, ◌++◌, [], nat_eq, nat_le, length, vec_len, ◌&&◌, ◌||◌, IfOk, OnOk, if◌then◌else◌};
 ghost use Rattle.bbm_regimes.specs.PeMask.{pe_in};
 ghost use Rattle.bbm_roots.specs.Columns.{Column, loads_in};
 ghost use Rattle.bbm_roots.specs.Registers.{at_start, newest};
 
 use crate::load::{Load, is_first};
-use crate::reading::reads_tag;
+use crate::reading::{Reading, readings, reads_tag};
 use arrayvec::ArrayVec;
 use bbm_events::Header;
 use bbm_regimes::{NoMemory, Page, Pe, PeMask, Reg, Tag, World};
@@ -96,6 +96,24 @@ fn new_column(alloc: Global, pes: u8) -> Result<Vec<Loads>, NoMemory>
     Ok(column)
 }
 
+// The value in front of the others.
+fn with_front(alloc: Global, load: Load, loads: &[Load]) -> Result<Vec<Load>, NoMemory>
+    ensures { IfOk result (λ all. all.items ≡ load ∷ loads.now) }
+{
+    let mut all = Vec::new(alloc);
+    add_load(&mut all, load.number, load.root)?;
+    for load in loads {
+        add_load(&mut all, load.number, load.root)?;
+    }
+    Ok(all)
+}
+
+fn add_load(loads: &mut Vec<Load>, number: u16, root: Option<Page>) -> Result<(), NoMemory>
+    ensures { OnOk result (loads.new.items ≡ loads.old.items ++ record { number = number; root = root } ∷ []) }
+{
+    loads.push(Load { number, root }).map_err(|_| NoMemory)
+}
+
 // The set, with the PE where the test says so.
 fn with_pe(pes: PeMask, pe: Pe, test: bool) -> PeMask
     ensures { (p : ℕ) → pe_in result p ≡ (pe_in pes p || (nat_eq p pe && test)) }
@@ -123,7 +141,7 @@ pub struct Registers {
 
 impl Registers {
     ghost use Rattle.std.specs.Prelude.{not, nat_lt};
-    ghost use Rattle.bbm_roots.specs.Readings.{reads_tag as spec_reads_tag};
+    ghost use Rattle.bbm_roots.specs.Readings.{readings_of, reads_tag as spec_reads_tag};
     ghost use Rattle.bbm_roots.specs.Registers.{is_first as spec_is_first};
 
     /// The registers of the header's PEs, each with the value 0.
@@ -176,5 +194,42 @@ impl Registers {
             (loads_in self.now.second.items pe) tag }
     {
         reads_tag(self.world, loads_at(&self.first, pe), loads_at(&self.second, pe), tag)
+    }
+
+    /// The readable tags of the PE after it writes the register with this value. `NoMemory` where there is none.
+    pub fn readings_with(&self, alloc: Global, pe: Pe, reg: Reg, load: Load) -> Result<Vec<Reading>, NoMemory>
+        requires known { pe < self.now.pes }
+        ensures { IfOk result (λ readings. readings.items ≡ readings_of self.now.world
+            (if spec_is_first reg then load ∷ loads_in self.now.first.items pe else loads_in self.now.first.items pe)
+            (if spec_is_first reg then loads_in self.now.second.items pe else load ∷ loads_in self.now.second.items pe)) }
+    {
+        let first = loads_at(&self.first, pe);
+        let second = loads_at(&self.second, pe);
+        if is_first(reg) {
+            let first = with_front(alloc, load, first)?;
+            readings(alloc, self.world, &first, second)
+        } else {
+            let second = with_front(alloc, load, second)?;
+            readings(alloc, self.world, first, &second)
+        }
+    }
+
+    /// Puts the value in front of those of the register, which isn't full.
+    pub fn put(&mut self, pe: Pe, reg: Reg, load: Load)
+        requires known { pe < self.old.pes }
+        requires room { length (if spec_is_first reg then loads_in self.old.first.items pe
+            else loads_in self.old.second.items pe) < 9 }
+        ensures first { (p : ℕ) → loads_in self.new.first.items p ≡ (if nat_eq p pe && spec_is_first reg
+            then load ∷ loads_in self.old.first.items p else loads_in self.old.first.items p) }
+        ensures second { (p : ℕ) → loads_in self.new.second.items p ≡ (if nat_eq p pe && not (spec_is_first reg)
+            then load ∷ loads_in self.old.second.items p else loads_in self.old.second.items p) }
+        ensures pes { self.new.pes ≡ self.old.pes }
+        ensures world { self.new.world ≡ self.old.world }
+    {
+        if is_first(reg) {
+            put(&mut self.first, pe, load);
+        } else {
+            put(&mut self.second, pe, load);
+        }
     }
 }
