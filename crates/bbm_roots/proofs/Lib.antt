@@ -4,4 +4,6 @@ pub mod Lists
 pub mod PendingBits
 pub mod Flat
 pub mod Steps
+pub mod Written
+pub mod Made
 pub mod RootLists

@@ -181,3 +181,64 @@ noted world pe scope vmid cs q b g p old has below rin rt is_old is_there is_bel
     by_key true true false h e = absurd (false≢true e)
     by_key false true below h e = refl
     by_key false false below h e = refl
+
+-- A register write of one PE, at which the tags and roots seen are then readable.
+module _ (world : World) (c : Call) (cs : List Call) (pe : ℕ) (seen : List Reading)
+    (here : (p : ℕ) → nat_eq p pe ≡ true → readings world (c ∷ cs) p ≡ seen)
+    (there : (p : ℕ) → nat_eq p pe ≡ false → readings world (c ∷ cs) p ≡ readings world cs p)
+    (no_loss : (g : Tag) (p : ℕ) → loses world c cs g p ≡ false) where
+  pub holds-written : (g : Tag) (r p : ℕ) →
+      (holds_at world cs g r p || (nat_eq p pe && has_reading g r seen)) ≡ holds_at world (c ∷ cs) g r p
+  holds-written g r p = by_pe (nat_eq p pe) refl
+    where
+      swap : (h s l : Bool) → l ≡ false → (h || s) ≡ (s || (h && not l))
+      swap true true l e = refl
+      swap true false l e = sym (ap not e)
+      swap false true l e = refl
+      swap false false l e = refl
+      or-false : (h : Bool) → (h || false) ≡ h
+      or-false true = refl
+      or-false false = refl
+      by_pe : (b : Bool) → nat_eq p pe ≡ b → (holds_at world cs g r p || (b && has_reading g r seen)) ≡ holds_at world (c ∷ cs) g r p
+      by_pe true e =
+          swap (holds_at world cs g r p) (has_reading g r seen) (loses world c cs g p) (no_loss g p)
+          ∙ ap (λ (xs : List Reading). has_reading g r xs || (holds_at world cs g r p && not (loses world c cs g p))) (sym (here p e))
+      by_pe false e =
+          or-false (holds_at world cs g r p)
+          ∙ sym (holds-stay world c cs g r p (λ k. sym (ap (has_reading g r) (there p e)) ∙ k) (no_loss g p))
+
+  pub awaited-written : (q : ℕ) (b : Bool) (g : Tag) (r p : ℕ) (old : Bool) →
+      issues c q b g p ≡ false → answered_by c q b ≡ false → holds_at world (c ∷ cs) g r p ≡ true →
+      (holds_at world cs g r p ≡ true → old ≡ awaited world cs q b g p) →
+      (old && not (nat_eq p pe && has_tag g seen)) ≡ awaited world (c ∷ cs) q b g p
+  awaited-written q b g r p old no_issue no_answer held is_old = by_pe (nat_eq p pe) refl
+    where
+      last : (h s l t : Bool) → (s ≡ true → t ≡ true) → t ≡ false → (s || (h && not l)) ≡ true → h ≡ true
+      last true s l t f e k = refl
+      last false true l t f e k = absurd (false≢true (sym e ∙ f refl))
+      last false false l t f e k = absurd (false≢true k)
+      plain : (w i n : Bool) → i ≡ false → n ≡ false → (w && true) ≡ ((i || (w && not n)) && true)
+      plain true true n e k = absurd (false≢true (sym e))
+      plain true false true e k = absurd (false≢true (sym k))
+      plain true false false e k = refl
+      plain false true n e k = absurd (false≢true (sym e))
+      plain false false n e k = refl
+      by_tag : (t : Bool) → nat_eq p pe ≡ true → has_tag g seen ≡ t → (old && not t) ≡ awaited world (c ∷ cs) q b g p
+      by_tag true at tag =
+          and-false old
+          ∙ sym (and-false (issues c q b g p || (awaited world cs q b g p && not (answered_by c q b))))
+          ∙ ap (λ (x : Bool). (issues c q b g p || (awaited world cs q b g p && not (answered_by c q b))) && not x)
+              (sym tag ∙ sym (ap (has_tag g) (here p at)))
+      by_tag false at tag =
+          let unread : reads_for_some world (c ∷ cs) p g ≡ false = ap (has_tag g) (here p at) ∙ tag in
+          ap (λ (x : Bool). x && true)
+              (is_old (last (holds_at world cs g r p) (reads world (c ∷ cs) p g r) (loses world c cs g p)
+                  (reads_for_some world (c ∷ cs) p g) (reads-some world (c ∷ cs) g r p) unread held))
+          ∙ plain (awaited world cs q b g p) (issues c q b g p) (answered_by c q b) no_issue no_answer
+          ∙ ap (λ (x : Bool). (issues c q b g p || (awaited world cs q b g p && not (answered_by c q b))) && not x) (sym unread)
+      by_pe : (m : Bool) → nat_eq p pe ≡ m → (old && not (m && has_tag g seen)) ≡ awaited world (c ∷ cs) q b g p
+      by_pe true at = by_tag (has_tag g seen) at refl
+      by_pe false at =
+          let same = holds-stay world c cs g r p (λ k. sym (ap (has_reading g r) (there p at)) ∙ k) (no_loss g p) in
+          and-true old ∙ is_old (sym same ∙ held)
+          ∙ sym (awaited-stay world c cs q b g p (λ k. sym (ap (has_tag g) (there p at)) ∙ k) no_issue no_answer)

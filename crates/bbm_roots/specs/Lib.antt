@@ -3,6 +3,7 @@ pub mod Columns
 pub mod Holds
 pub mod Pendings
 pub mod Readings
+pub mod Refusals
 pub mod Registers
 pub mod Roots
 pub mod Stands

@@ -6,7 +6,8 @@ use crate::registers::Registers;
 use crate::root::{Declared, same_kind};
 use crate::fault::{RootFault, Unsynced};
 use crate::{hold, issue, pending, registers};
-use crate::load::{Load, is_first};
+use crate::load::{Load, base_of, kind_of, names_null, number_of};
+use crate::reading::Reading;
 use bbm_barriers::Dsb;
 use bbm_events::Header;
 use bbm_regimes::{Kind, NoMemory, Page, Pe, PeMask, Reg, Which, World};
@@ -28,12 +29,19 @@ pub struct Roots {
 }
 
 impl Roots {
-    ghost use Rattle.std.specs.Prelude.{◌≡◌, ◌≢◌, ◌||◌, nat_eq, ℕ, ◌<◌, ◌≤◌, ◌↔◌, List, [], ◌∷◌, Err, None, length, IsOk, IfOk, OnOk, OnErr, IfErr, IsTrue, IsSome};
+    ghost use Rattle.std.specs.Prelude.{◌≡◌, ◌≢◌, ◌||◌, ◌&&◌, not, true, false, Bool, if◌then◌else◌, Some, IfSome, nat_eq, ℕ, ◌<◌, ◌≤◌, ◌↔◌, List, [], ◌∷◌, Err, None, length, IsOk, IfOk, OnOk, OnErr, IfErr, IsTrue, IsSome};
     ghost use Rattle.bbm_tlbi_scope.specs.Decode.{needs_vmid};
     ghost use Rattle.bbm_regimes.specs.PeMask.{pe_in};
     ghost use Rattle.bbm_roots.specs.Calls as call;
     ghost use Rattle.bbm_roots.specs.Calls.{Call};
     ghost use Rattle.bbm_roots.specs.Roots as spec;
+    ghost use Rattle.bbm_roots.specs.Columns.{loads_in};
+    ghost use Rattle.bbm_roots.specs.Holds.{hold_in, has_hold};
+    ghost use Rattle.bbm_roots.specs.Pendings.{pending_in};
+    ghost use Rattle.bbm_roots.specs.Readings.{has_reading, has_tag, readings_of};
+    ghost use Rattle.bbm_roots.specs.Refusals.{missing_root};
+    ghost use Rattle.bbm_roots.specs.Registers.{is_first as spec_is_first, is_of_world, root_of};
+    ghost use Rattle.bbm_regimes.specs.declared.regime.Tag.{Tag as TheTag};
     ghost use Rattle.bbm_roots.specs.Stands.{Stands, IsPrepared, pes_of, world_of};
 
     /// The roots of a log with this header before any call. `NoMemory` where there is none.
@@ -177,5 +185,140 @@ impl Roots {
         } else {
             PeMask::one(issuer)
         }
+    }
+
+    // The root that a value names, None where it names none; `NoRoot` with its base where that is no declared root.
+    fn named_root(&self, reg: Reg, value: u64, null: bool) -> Result<Option<Page>, RootFault>
+        ensures named { IfOk result (λ root. (calls : List Call) → Stands self.now calls
+            → root ≡ root_of reg value null) }
+        ensures found { OnOk result ((calls : List Call) → Stands self.now calls
+            → missing_root calls reg value null ≡ None) }
+        ensures missing { IfErr result (λ fault. (base : ℕ) × (fault ≡ RootFault.NoRoot base)
+            × ((calls : List Call) → Stands self.now calls → missing_root calls reg value null ≡ Some base)) }
+    {
+        if names_null(reg, null) {
+            return Ok(None);
+        }
+        match base_of(value) {
+            Some(base) => match self.root_page(kind_of(reg), base) {
+                Some(page) => Ok(Some(page)),
+                None => Err(RootFault::NoRoot(base)),
+            },
+            None => Ok(None),
+        }
+    }
+
+    // The page of the declared root of the kind with this base.
+    fn root_page(&self, kind: Kind, base: u64) -> Option<Page>
+        ensures found { IfSome result (λ page. (calls : List Call) → Stands self.now calls
+            → (page ≡ base) × (spec.is_root calls kind base ≡ true)) }
+        ensures missing { result ≡ None → (calls : List Call) → Stands self.now calls
+            → spec.is_root calls kind base ≡ false }
+    {
+        match self.declared.get(&base) {
+            Some(root) => {
+                if same_kind(root.kind, kind) {
+                    Some(root.page)
+                } else {
+                    None
+                }
+            }
+            None => None,
+        }
+    }
+
+    // Takes the value of a register that names what was judged, under the readable tags that it gives.
+    fn take(&mut self, pe: Pe, reg: Reg, number: u16, root: Option<Page>, seen: &[Reading])
+        requires known { pe < pes_of self.old }
+        requires room { length (if spec_is_first reg then loads_in self.old.registers.first.items pe
+            else loads_in self.old.registers.second.items pe) < 9 }
+        requires entries { (g : TheTag) (r : ℕ) → has_reading g r seen.now ≡ true
+            → has_hold g r self.old.holds.items ≡ true }
+        ensures first { (p : ℕ) → loads_in self.new.registers.first.items p
+            ≡ (if nat_eq p pe && spec_is_first reg then record { number = number; root = root } ∷ loads_in self.old.registers.first.items p
+            else loads_in self.old.registers.first.items p) }
+        ensures second { (p : ℕ) → loads_in self.new.registers.second.items p
+            ≡ (if nat_eq p pe && not (spec_is_first reg) then record { number = number; root = root } ∷ loads_in self.old.registers.second.items p
+            else loads_in self.old.registers.second.items p) }
+        ensures holds { (g : TheTag) (r p : ℕ) → hold_in self.new.holds.items g r p
+            ≡ (hold_in self.old.holds.items g r p || (nat_eq p pe && has_reading g r seen.now)) }
+        ensures pendings { (q : ℕ) (b : Bool) (g : TheTag) (p : ℕ) → pending_in self.new.pendings.items q b g p
+            ≡ (pending_in self.old.pendings.items q b g p && not (nat_eq p pe && has_tag g seen.now)) }
+        ensures declared { self.new.declared ≡ self.old.declared }
+        ensures pes { pes_of self.new ≡ pes_of self.old }
+        ensures world { world_of self.new ≡ world_of self.old }
+    {
+        hold::mark(&mut self.holds, seen, pe);
+        pending::clear(&mut self.pendings, seen, pe);
+        self.registers.put(pe, reg, Load { number, root });
+    }
+
+    /// The PE writes the register, which is one of the world. `null` tells whether the base of the value is a null page,
+    /// which counts in TTBR0_EL1 alone: such a value names no root, as 0 does. `NoRoot` with the base exactly where the
+    /// value names another base than that of a declared root of the register's kind; else `TagConflict` exactly where
+    /// a tag would then be readable at the PE for one root while another holds it: with the least first page of such
+    /// another root, and its first such tag in the order `El2`, VMIDs, ASIDs, `Ttbr1`; else `Limit(Values)` exactly
+    /// where it is the ninth write without an ISB between. `NoMemory` may come in the place of the last two and of Ok.
+    /// A refusal changes nothing.
+    pub fn write_reg(
+        &mut self,
+        alloc: Global,
+        pe: Pe,
+        reg: Reg,
+        value: u64,
+        null: bool,
+    ) -> Result<(), RootFault>
+        requires known { pe < pes_of self.old }
+        requires of_world { is_of_world (world_of self.old) reg ≡ true }
+        ensures taken { OnOk result ((calls : List Call) → Stands self.old calls
+            → Stands self.new (call.WriteReg pe reg value null ∷ calls)) }
+        ensures same { OnErr result ((calls : List Call) → Stands self.old calls → Stands self.new calls) }
+        ensures prepared { IsPrepared self.old → IsPrepared self.new }
+        ensures pes { pes_of self.new ≡ pes_of self.old }
+        ensures world { world_of self.new ≡ world_of self.old }
+    {
+        let root = self.named_root(reg, value, null)?;
+        let number = number_of(value);
+        let seen = self.judge(alloc, pe, reg, number, &root)?;
+        self.take(pe, reg, number, root, &seen);
+        Ok(())
+    }
+
+    // The readable tags of the PE after the write, each with an entry; the refusals that come after `NoRoot`.
+    fn judge(
+        &mut self,
+        alloc: Global,
+        pe: Pe,
+        reg: Reg,
+        number: u16,
+        root: &Option<Page>,
+    ) -> Result<Vec<Reading>, RootFault>
+        requires known { pe < pes_of self.old }
+        ensures seen { IfOk result (λ seen. seen.items ≡ readings_of (world_of self.old)
+            (if spec_is_first reg then record { number = number; root = root.now } ∷ loads_in self.old.registers.first.items pe
+            else loads_in self.old.registers.first.items pe)
+            (if spec_is_first reg then loads_in self.old.registers.second.items pe
+            else record { number = number; root = root.now } ∷ loads_in self.old.registers.second.items pe)) }
+        ensures entries { IfOk result (λ seen. (g : TheTag) (r : ℕ) → has_reading g r seen.items ≡ true
+            → has_hold g r self.new.holds.items ≡ true) }
+        ensures room { OnOk result (length (if spec_is_first reg then loads_in self.old.registers.first.items pe
+            else loads_in self.old.registers.second.items pe) < 9) }
+        ensures holds { (g : TheTag) (r p : ℕ) → hold_in self.new.holds.items g r p ≡ hold_in self.old.holds.items g r p }
+        ensures registers { self.new.registers ≡ self.old.registers }
+        ensures declared { self.new.declared ≡ self.old.declared }
+        ensures pendings { self.new.pendings ≡ self.old.pendings }
+    {
+        let seen = match self.registers.readings_with(alloc, pe, reg, Load { number, root: *root }) {
+            Ok(seen) => seen,
+            Err(_) => return Err(RootFault::NoMemory),
+        };
+        match hold::make_room(&mut self.holds, &seen) {
+            Ok(()) => (),
+            Err(_) => return Err(RootFault::NoMemory),
+        }
+        if self.registers.is_full(pe, reg) {
+            return Err(RootFault::Limit(Which::Values));
+        }
+        Ok(seen)
     }
 }

@@ -1,0 +1,44 @@
+-- What roots stand for, with the number of PEs and the world named apart.
+use Rattle.std.proofs.Common.{◌≡◌, ◌<◌, ◌≤◌, ℕ, Bool, true, false, List, [], ◌∷◌, nat_eq, length, sym, subst}
+use Rattle.indexmap.specs.IndexMap.{get, index_map_len}
+use Rattle.bbm_regimes.specs.declared.regime.Reg.{Reg}
+use Rattle.bbm_regimes.specs.declared.regime.Tag.{Tag}
+use Rattle.bbm_regimes.specs.declared.regime.World.{World}
+use Rattle.bbm_roots.specs.Calls.{Call}
+use Rattle.bbm_roots.specs.Columns.{loads_in}
+use Rattle.bbm_roots.specs.Holds.{hold_in}
+use Rattle.bbm_roots.specs.Pendings.{pending_in}
+use Rattle.bbm_roots.specs.Registers.{at_start, first_reg, second_reg, register_values}
+use Rattle.bbm_roots.specs.Roots.{root_at, roots_of}
+use Rattle.bbm_roots.specs.Stands.{Stands, pes_of, world_of}
+use Rattle.bbm_roots.specs.Tags.{holds_at, awaited}
+use Rattle.bbm_roots.specs.declared.roots.Roots.{Roots}
+
+pub record Made (world : World) (pes : ℕ) (roots : Roots) (cs : List Call) : Type 0 where
+  pub first : (p : ℕ) → p < pes → loads_in roots.registers.first.items p ≡ register_values cs p (first_reg world)
+  pub second : (p : ℕ) → p < pes → loads_in roots.registers.second.items p ≡ register_values cs p (second_reg world)
+  pub outside : (p : ℕ) (reg : Reg) → pes ≤ p → register_values cs p reg ≡ at_start ∷ []
+  pub declared : (page : ℕ) → get nat_eq roots.declared page ≡ root_at cs page
+  pub count : index_map_len roots.declared ≡ length (roots_of cs)
+  pub holds : (tag : Tag) (root p : ℕ) → hold_in roots.holds.items tag root p ≡ holds_at world cs tag root p
+  pub inside : (tag : Tag) (root p : ℕ) → pes ≤ p → holds_at world cs tag root p ≡ false
+  pub pendings : (q : ℕ) (broadcast : Bool) (tag : Tag) (root p : ℕ) → holds_at world cs tag root p ≡ true →
+      pending_in roots.pendings.items q broadcast tag p ≡ awaited world cs q broadcast tag p
+
+stands-from : (roots : Roots) (cs : List Call) → Made (world_of roots) (pes_of roots) roots cs → Stands roots cs
+stands-from roots cs m = record {
+  first = m.first;
+  second = m.second;
+  outside = m.outside;
+  declared = m.declared;
+  count = m.count;
+  holds = m.holds;
+  inside = m.inside;
+  pendings = m.pendings }
+
+pub stands-made : (roots : Roots) (cs : List Call) (world : World) (pes : ℕ) → world_of roots ≡ world → pes_of roots ≡ pes →
+    Made world pes roots cs → Stands roots cs
+stands-made roots cs world pes w n m =
+    stands-from roots cs
+        (subst (λ (k : ℕ). Made (world_of roots) k roots cs) (sym n)
+            (subst (λ (v : World). Made v pes roots cs) (sym w) m))

@@ -1,0 +1,73 @@
+-- What a register write leaves readable.
+use Rattle.std.proofs.Common.{◌≡◌, ℕ, Bool, true, false, ◌&&◌, not, nat_eq, List, ◌∷◌, refl, sym, ◌∙◌, ap, subst, cond}
+use Rattle.std.proofs.lemmas.Bool.{false≢true, eqb-true}
+use Rattle.bbm_regimes.specs.declared.regime.Reg.{Reg}
+use Rattle.bbm_regimes.specs.declared.regime.Reg.TheVariants.{Ttbr0El2, VttbrEl2, Ttbr0El1, Ttbr1El1}
+use Rattle.bbm_regimes.specs.declared.regime.World.{World}
+use Rattle.bbm_regimes.specs.declared.regime.World.TheVariants.{Hyp, Kernel}
+use Rattle.bbm_roots.specs.Calls.{Call, WriteReg}
+use Rattle.bbm_roots.specs.Readings.{readings_of}
+use Rattle.bbm_roots.specs.Registers.{register_values, first_reg, second_reg, is_first, is_of_world, same_reg, load_of}
+use Rattle.bbm_roots.specs.Tags.{readings}
+use Rattle.bbm_roots.specs.declared.load.Load.{Load}
+use Rattle.bbm_roots.specs.declared.reading.Reading.{Reading}
+
+-- a register of the world is its first or its second
+pub is_the_first : (world : World) (reg : Reg) → is_of_world world reg ≡ true → same_reg reg (first_reg world) ≡ is_first reg
+is_the_first (Hyp a b c) Ttbr0El2 e = refl
+is_the_first (Hyp a b c) VttbrEl2 e = refl
+is_the_first (Hyp a b c) Ttbr0El1 e = absurd (false≢true e)
+is_the_first (Hyp a b c) Ttbr1El1 e = absurd (false≢true e)
+is_the_first (Kernel a b c) Ttbr0El2 e = absurd (false≢true e)
+is_the_first (Kernel a b c) VttbrEl2 e = absurd (false≢true e)
+is_the_first (Kernel a b c) Ttbr0El1 e = refl
+is_the_first (Kernel a b c) Ttbr1El1 e = refl
+
+pub is_the_second : (world : World) (reg : Reg) → is_of_world world reg ≡ true → same_reg reg (second_reg world) ≡ not (is_first reg)
+is_the_second (Hyp a b c) Ttbr0El2 e = refl
+is_the_second (Hyp a b c) VttbrEl2 e = refl
+is_the_second (Hyp a b c) Ttbr0El1 e = absurd (false≢true e)
+is_the_second (Hyp a b c) Ttbr1El1 e = absurd (false≢true e)
+is_the_second (Kernel a b c) Ttbr0El2 e = absurd (false≢true e)
+is_the_second (Kernel a b c) VttbrEl2 e = absurd (false≢true e)
+is_the_second (Kernel a b c) Ttbr0El1 e = refl
+is_the_second (Kernel a b c) Ttbr1El1 e = refl
+
+-- at another PE the same stays readable
+pub elsewhere : (world : World) (pe : ℕ) (reg : Reg) (value : ℕ) (null : Bool) (cs : List Call) (p : ℕ) → nat_eq p pe ≡ false →
+    readings world (WriteReg pe reg value null ∷ cs) p ≡ readings world cs p
+elsewhere world pe reg value null cs p e =
+    ap (λ (b : Bool). readings_of world
+        (cond (b && same_reg reg (first_reg world)) (load_of reg value null ∷ register_values cs p (first_reg world)) (register_values cs p (first_reg world)))
+        (cond (b && same_reg reg (second_reg world)) (load_of reg value null ∷ register_values cs p (second_reg world)) (register_values cs p (second_reg world)))) e
+
+-- at the PE the new value stands in front in its register
+pub right-here : (world : World) (pe : ℕ) (reg : Reg) (value : ℕ) (null : Bool) (cs : List Call) (p : ℕ) (load : Load) (first second : List Load) →
+    is_of_world world reg ≡ true → load ≡ load_of reg value null →
+    first ≡ register_values cs pe (first_reg world) → second ≡ register_values cs pe (second_reg world) → nat_eq p pe ≡ true →
+    readings world (WriteReg pe reg value null ∷ cs) p
+        ≡ readings_of world (cond (is_first reg) (load ∷ first) first) (cond (is_first reg) second (load ∷ second))
+right-here world pe reg value null cs p load first second of_world is_load is_left is_right at =
+    ap (λ (b : Bool). readings_of world
+        (cond (b && same_reg reg (first_reg world)) (load_of reg value null ∷ register_values cs p (first_reg world)) (register_values cs p (first_reg world)))
+        (cond (b && same_reg reg (second_reg world)) (load_of reg value null ∷ register_values cs p (second_reg world)) (register_values cs p (second_reg world)))) at
+    ∙ ap (λ (b : Bool). readings_of world
+        (cond b (load_of reg value null ∷ register_values cs p (first_reg world)) (register_values cs p (first_reg world)))
+        (cond (same_reg reg (second_reg world)) (load_of reg value null ∷ register_values cs p (second_reg world)) (register_values cs p (second_reg world)))) (is_the_first world reg of_world)
+    ∙ ap (λ (b : Bool). readings_of world
+        (cond (is_first reg) (load_of reg value null ∷ register_values cs p (first_reg world)) (register_values cs p (first_reg world)))
+        (cond b (load_of reg value null ∷ register_values cs p (second_reg world)) (register_values cs p (second_reg world)))) (is_the_second world reg of_world)
+    ∙ ap (λ (n : ℕ). readings_of world
+        (cond (is_first reg) (load_of reg value null ∷ register_values cs n (first_reg world)) (register_values cs n (first_reg world)))
+        (cond (not (is_first reg)) (load_of reg value null ∷ register_values cs n (second_reg world)) (register_values cs n (second_reg world)))) (eqb-true p pe at)
+    ∙ ap (λ (l : Load). readings_of world
+        (cond (is_first reg) (l ∷ register_values cs pe (first_reg world)) (register_values cs pe (first_reg world)))
+        (cond (not (is_first reg)) (l ∷ register_values cs pe (second_reg world)) (register_values cs pe (second_reg world)))) (sym is_load)
+    ∙ ap (λ (xs : List Load). readings_of world (cond (is_first reg) (load ∷ xs) xs)
+        (cond (not (is_first reg)) (load ∷ register_values cs pe (second_reg world)) (register_values cs pe (second_reg world)))) (sym is_left)
+    ∙ ap (λ (ys : List Load). readings_of world (cond (is_first reg) (load ∷ first) first) (cond (not (is_first reg)) (load ∷ ys) ys)) (sym is_right)
+    ∙ ap (λ (ys : List Load). readings_of world (cond (is_first reg) (load ∷ first) first) ys) (turned (is_first reg) (load ∷ second) second)
+  where
+    turned : (b : Bool) (xs ys : List Load) → cond (not b) xs ys ≡ cond b ys xs
+    turned true xs ys = refl
+    turned false xs ys = refl
