@@ -40,7 +40,7 @@ impl Roots {
     ghost use Rattle.bbm_roots.specs.Pendings.{pending_in};
     ghost use Rattle.bbm_roots.specs.Readings.{has_reading, has_tag, readings_of};
     ghost use Rattle.bbm_roots.specs.Refusals.{missing_root};
-    ghost use Rattle.bbm_roots.specs.Registers.{is_first as spec_is_first, is_of_world, root_of};
+    ghost use Rattle.bbm_roots.specs.Registers.{is_first as spec_is_first, is_of_world, register_values, root_of};
     ghost use Rattle.bbm_regimes.specs.declared.regime.Tag.{Tag as TheTag};
     ghost use Rattle.bbm_roots.specs.Stands.{Stands, IsPrepared, pes_of, world_of};
 
@@ -273,6 +273,14 @@ impl Roots {
         ensures taken { OnOk result ((calls : List Call) → Stands self.old calls
             → Stands self.new (call.WriteReg pe reg value null ∷ calls)) }
         ensures same { OnErr result ((calls : List Call) → Stands self.old calls → Stands self.new calls) }
+        ensures named { OnOk result ((calls : List Call) → Stands self.old calls
+            → missing_root calls reg value null ≡ None) }
+        ensures no_root { (base : ℕ) → result ≡ Err (RootFault.NoRoot base) → (calls : List Call)
+            → Stands self.old calls → missing_root calls reg value null ≡ Some base }
+        ensures room { OnOk result ((calls : List Call) → Stands self.old calls
+            → length (register_values calls pe reg) < 9) }
+        ensures limit { result ≡ Err (RootFault.Limit Which.Values) → (calls : List Call)
+            → Stands self.old calls → 9 ≤ length (register_values calls pe reg) }
         ensures prepared { IsPrepared self.old → IsPrepared self.new }
         ensures pes { pes_of self.new ≡ pes_of self.old }
         ensures world { world_of self.new ≡ world_of self.old }
@@ -303,6 +311,9 @@ impl Roots {
             → has_hold g r self.new.holds.items ≡ true) }
         ensures room { OnOk result (length (if spec_is_first reg then loads_in self.old.registers.first.items pe
             else loads_in self.old.registers.second.items pe) < 9) }
+        ensures other { (base : ℕ) → result ≢ Err (RootFault.NoRoot base) }
+        ensures limit { result ≡ Err (RootFault.Limit Which.Values) → 9 ≤ length (if spec_is_first reg
+            then loads_in self.old.registers.first.items pe else loads_in self.old.registers.second.items pe) }
         ensures holds { (g : TheTag) (r p : ℕ) → hold_in self.new.holds.items g r p ≡ hold_in self.old.holds.items g r p }
         ensures registers { self.new.registers ≡ self.old.registers }
         ensures declared { self.new.declared ≡ self.old.declared }
