@@ -59,10 +59,10 @@ pub loads_in-more : (xs : List Load) (vs : Column) (v : ArrayVec Load) (n : ℕ)
     ((p : ℕ) → p < n → loads_in vs p ≡ xs) → (p : ℕ) → p < n + 1 → loads_in (vs ++ v ∷ []) p ≡ xs
 loads_in-more xs vs v n len here before p lt =
     ⊎_elim (λ (less : p < n). loads_in-push vs v p (omega arith) ∙ before p less)
-        (λ (last : n ≤ p).
-            let at : length vs ≡ p = omega arith in
-            subst (λ (k : ℕ). loads_in (vs ++ v ∷ []) k ≡ xs) at (loads_in-last vs v ∙ here))
-        (cases_lt p n)
+    (λ (last : n ≤ p).
+    let at : length vs ≡ p = omega arith in
+    subst (λ (k : ℕ). loads_in (vs ++ v ∷ []) k ≡ xs) at (loads_in-last vs v ∙ here))
+    (cases_lt p n)
 
 pub grown : (xs : List Load) (vs ws : Column) (v : ArrayVec Load) → ws ≡ vs ++ v ∷ [] → v.items ≡ xs →
     ((p : ℕ) → p < length vs → loads_in vs p ≡ xs) → (p : ℕ) → p < length vs + 1 → loads_in ws p ≡ xs

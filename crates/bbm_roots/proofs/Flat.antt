@@ -14,7 +14,7 @@ use Rattle.bbm_roots.specs.Registers.{newest}
 use Rattle.bbm_roots.specs.declared.load.Load.{Load}
 use Rattle.bbm_roots.specs.declared.reading.Reading.{Reading}
 use Rattle.bbm_roots.proofs.Lists.{any-weaker}
-use Rattle.bbm_roots.proofs.Tests.{or-false}
+use Rattle.bbm_roots.proofs.Bits.{or-false}
 
 -- a test of what each element gives
 pub any-flat_map : {X Y : Type 0} (t : Y → Bool) (f : X → List Y) (xs : List X) →
@@ -44,9 +44,9 @@ module _ (t : Reading → Bool) where
   crossed xs ys e =
       any-flat_map t (readings_with xs) ys
       ∙ any-weaker (λ y. list_any t (readings_with (newest xs) y)) (λ y. list_any t (readings_with xs y))
-          (λ y. grows (reading_under (Asid y.number)) xs) ys
-          (any-newest (λ y. list_any t (readings_with (newest xs) y)) ys
-              (sym (any-flat_map t (readings_with (newest xs)) (newest ys)) ∙ e))
+      (λ y. grows (reading_under (Asid y.number)) xs) ys
+      (any-newest (λ y. list_any t (readings_with (newest xs) y)) ys
+      (sym (any-flat_map t (readings_with (newest xs)) (newest ys)) ∙ e))
 
   both : (ls bs cs ds : List Reading) → (list_any t ls ≡ true → list_any t cs ≡ true) →
       (list_any t bs ≡ true → list_any t ds ≡ true) → list_any t (ls ++ bs) ≡ true → list_any t (cs ++ ds) ≡ true
@@ -62,16 +62,16 @@ module _ (t : Reading → Bool) where
       list_any t (readings_of world (newest xs) (newest ys)) ≡ true → list_any t (readings_of world xs ys) ≡ true
   readings-newest (Hyp a b c) xs ys e =
       both (flat_map (own_reading El2) (newest xs)) (flat_map (own_reading S2) (newest ys))
-          (flat_map (own_reading El2) xs) (flat_map (own_reading S2) ys)
-          (grows (own_reading El2) xs) (grows (own_reading S2) ys) e
+      (flat_map (own_reading El2) xs) (flat_map (own_reading S2) ys)
+      (grows (own_reading El2) xs) (grows (own_reading S2) ys) e
   readings-newest (Kernel a b FromTtbr0) xs ys e =
       both (flat_map (own_reading Ttbr0) (newest xs)) (flat_map (own_reading Ttbr1) (newest ys))
-          (flat_map (own_reading Ttbr0) xs) (flat_map (own_reading Ttbr1) ys)
-          (grows (own_reading Ttbr0) xs) (grows (own_reading Ttbr1) ys) e
+      (flat_map (own_reading Ttbr0) xs) (flat_map (own_reading Ttbr1) ys)
+      (grows (own_reading Ttbr0) xs) (grows (own_reading Ttbr1) ys) e
   readings-newest (Kernel a b FromTtbr1) xs ys e =
       both (flat_map (readings_with (newest xs)) (newest ys)) (flat_map (own_reading Ttbr1) (newest ys))
-          (flat_map (readings_with xs) ys) (flat_map (own_reading Ttbr1) ys)
-          (crossed xs ys) (grows (own_reading Ttbr1) ys) e
+      (flat_map (readings_with xs) ys) (flat_map (own_reading Ttbr1) ys)
+      (crossed xs ys) (grows (own_reading Ttbr1) ys) e
 
 -- the same where one PE alone had an ISB
 pub readings-isb : (t : Reading → Bool) (world : World) (b : Bool) (xs ys : List Load) →
@@ -112,20 +112,20 @@ module _ (g : Tag) (kind : Kind) where
   own xs =
       any-flat_map (is_of_tag g) (own_reading kind) xs
       ∙ any-same (λ x. list_any (is_of_tag g) (own_reading kind x)) (λ x. is_some x.root && same_tag (tag_of kind x.number) g)
-          (λ x. some-name x.root (tag_of kind x.number) g) xs
+      (λ x. some-name x.root (tag_of kind x.number) g) xs
 
   own-none : ((n : ℕ) → same_tag (tag_of kind n) g ≡ false) → (xs : List Load) → has_tag g (flat_map (own_reading kind) xs) ≡ false
   own-none h xs =
       own xs
       ∙ any-same (λ x. is_some x.root && same_tag (tag_of kind x.number) g) (λ x. false)
-          (λ x. ap (λ (b : Bool). is_some x.root && b) (h x.number) ∙ and-false (is_some x.root)) xs
+      (λ x. ap (λ (b : Bool). is_some x.root && b) (h x.number) ∙ and-false (is_some x.root)) xs
       ∙ any-none xs
 
   own-all : ((n : ℕ) → same_tag (tag_of kind n) g ≡ true) → (xs : List Load) → has_tag g (flat_map (own_reading kind) xs) ≡ list_any names_root xs
   own-all h xs =
       own xs
       ∙ any-same (λ x. is_some x.root && same_tag (tag_of kind x.number) g) names_root
-          (λ x. ap (λ (b : Bool). is_some x.root && b) (h x.number) ∙ and-true (is_some x.root)) xs
+      (λ x. ap (λ (b : Bool). is_some x.root && b) (h x.number) ∙ and-true (is_some x.root)) xs
 
 join : (g : Tag) (xs ys : List Reading) (a b : Bool) → has_tag g xs ≡ a → has_tag g ys ≡ b → has_tag g (xs ++ ys) ≡ (a || b)
 join g xs ys a b e f = list_any-append (is_of_tag g) xs ys ∙ ap (λ (x : Bool). x || has_tag g ys) e ∙ ap (λ (y : Bool). a || y) f
@@ -161,49 +161,49 @@ crossed-none : (g : Tag) → ((n : ℕ) → same_tag (Asid n) g ≡ false) → (
 crossed-none g h xs ys =
     any-flat_map (is_of_tag g) (readings_with xs) ys
     ∙ any-same (λ y. list_any (is_of_tag g) (readings_with xs y)) (λ y. false)
-        (λ y. any-flat_map (is_of_tag g) (reading_under (Asid y.number)) xs
-            ∙ any-same (λ x. list_any (is_of_tag g) (reading_under (Asid y.number) x)) (λ x. false)
-                (λ x. some-name x.root (Asid y.number) g ∙ ap (λ (b : Bool). is_some x.root && b) (h y.number) ∙ and-false (is_some x.root)) xs
-            ∙ any-none xs) ys
+    (λ y. any-flat_map (is_of_tag g) (reading_under (Asid y.number)) xs
+    ∙ any-same (λ x. list_any (is_of_tag g) (reading_under (Asid y.number) x)) (λ x. false)
+    (λ x. some-name x.root (Asid y.number) g ∙ ap (λ (b : Bool). is_some x.root && b) (h y.number) ∙ and-false (is_some x.root)) xs
+    ∙ any-none xs) ys
     ∙ any-none ys
 
 pub reads_tag-is : (world : World) (xs ys : List Load) (g : Tag) → has_tag g (readings_of world xs ys) ≡ reads_tag world xs ys g
 reads_tag-is (Hyp a b c) xs ys El2Tag =
     join El2Tag (flat_map (own_reading El2) xs) (flat_map (own_reading S2) ys) (list_any names_root xs) false
-        (own-all El2Tag El2 (λ n. refl) xs) (own-none El2Tag S2 (λ n. refl) ys)
+    (own-all El2Tag El2 (λ n. refl) xs) (own-none El2Tag S2 (λ n. refl) ys)
     ∙ or-false (list_any names_root xs)
 reads_tag-is (Hyp a b c) xs ys (Vmid v) =
     join (Vmid v) (flat_map (own_reading El2) xs) (flat_map (own_reading S2) ys) false (list_any (names_root_with v) ys)
-        (own-none (Vmid v) El2 (λ n. refl) xs) (own (Vmid v) S2 ys)
+    (own-none (Vmid v) El2 (λ n. refl) xs) (own (Vmid v) S2 ys)
 reads_tag-is (Hyp a b c) xs ys (Asid v) =
     join (Asid v) (flat_map (own_reading El2) xs) (flat_map (own_reading S2) ys) false false
-        (own-none (Asid v) El2 (λ n. refl) xs) (own-none (Asid v) S2 (λ n. refl) ys)
+    (own-none (Asid v) El2 (λ n. refl) xs) (own-none (Asid v) S2 (λ n. refl) ys)
 reads_tag-is (Hyp a b c) xs ys Ttbr1Tag =
     join Ttbr1Tag (flat_map (own_reading El2) xs) (flat_map (own_reading S2) ys) false false
-        (own-none Ttbr1Tag El2 (λ n. refl) xs) (own-none Ttbr1Tag S2 (λ n. refl) ys)
+    (own-none Ttbr1Tag El2 (λ n. refl) xs) (own-none Ttbr1Tag S2 (λ n. refl) ys)
 reads_tag-is (Kernel a b FromTtbr0) xs ys El2Tag =
     join El2Tag (flat_map (own_reading Ttbr0) xs) (flat_map (own_reading Ttbr1) ys) false false
-        (own-none El2Tag Ttbr0 (λ n. refl) xs) (own-none El2Tag Ttbr1 (λ n. refl) ys)
+    (own-none El2Tag Ttbr0 (λ n. refl) xs) (own-none El2Tag Ttbr1 (λ n. refl) ys)
 reads_tag-is (Kernel a b FromTtbr0) xs ys (Vmid v) =
     join (Vmid v) (flat_map (own_reading Ttbr0) xs) (flat_map (own_reading Ttbr1) ys) false false
-        (own-none (Vmid v) Ttbr0 (λ n. refl) xs) (own-none (Vmid v) Ttbr1 (λ n. refl) ys)
+    (own-none (Vmid v) Ttbr0 (λ n. refl) xs) (own-none (Vmid v) Ttbr1 (λ n. refl) ys)
 reads_tag-is (Kernel a b FromTtbr0) xs ys (Asid v) =
     join (Asid v) (flat_map (own_reading Ttbr0) xs) (flat_map (own_reading Ttbr1) ys) (list_any (names_root_with v) xs) false
-        (own (Asid v) Ttbr0 xs) (own-none (Asid v) Ttbr1 (λ n. refl) ys)
+    (own (Asid v) Ttbr0 xs) (own-none (Asid v) Ttbr1 (λ n. refl) ys)
     ∙ or-false (list_any (names_root_with v) xs)
 reads_tag-is (Kernel a b FromTtbr0) xs ys Ttbr1Tag =
     join Ttbr1Tag (flat_map (own_reading Ttbr0) xs) (flat_map (own_reading Ttbr1) ys) false (list_any names_root ys)
-        (own-none Ttbr1Tag Ttbr0 (λ n. refl) xs) (own-all Ttbr1Tag Ttbr1 (λ n. refl) ys)
+    (own-none Ttbr1Tag Ttbr0 (λ n. refl) xs) (own-all Ttbr1Tag Ttbr1 (λ n. refl) ys)
 reads_tag-is (Kernel a b FromTtbr1) xs ys El2Tag =
     join El2Tag (flat_map (readings_with xs) ys) (flat_map (own_reading Ttbr1) ys) false false
-        (crossed-none El2Tag (λ n. refl) xs ys) (own-none El2Tag Ttbr1 (λ n. refl) ys)
+    (crossed-none El2Tag (λ n. refl) xs ys) (own-none El2Tag Ttbr1 (λ n. refl) ys)
 reads_tag-is (Kernel a b FromTtbr1) xs ys (Vmid v) =
     join (Vmid v) (flat_map (readings_with xs) ys) (flat_map (own_reading Ttbr1) ys) false false
-        (crossed-none (Vmid v) (λ n. refl) xs ys) (own-none (Vmid v) Ttbr1 (λ n. refl) ys)
+    (crossed-none (Vmid v) (λ n. refl) xs ys) (own-none (Vmid v) Ttbr1 (λ n. refl) ys)
 reads_tag-is (Kernel a b FromTtbr1) xs ys (Asid v) =
     join (Asid v) (flat_map (readings_with xs) ys) (flat_map (own_reading Ttbr1) ys) (list_any names_root xs && list_any (numbered v) ys) false
-        (crossed-asid v xs ys) (own-none (Asid v) Ttbr1 (λ n. refl) ys)
+    (crossed-asid v xs ys) (own-none (Asid v) Ttbr1 (λ n. refl) ys)
     ∙ or-false (list_any names_root xs && list_any (numbered v) ys)
 reads_tag-is (Kernel a b FromTtbr1) xs ys Ttbr1Tag =
     join Ttbr1Tag (flat_map (readings_with xs) ys) (flat_map (own_reading Ttbr1) ys) false (list_any names_root ys)
-        (crossed-none Ttbr1Tag (λ n. refl) xs ys) (own-all Ttbr1Tag Ttbr1 (λ n. refl) ys)
+    (crossed-none Ttbr1Tag (λ n. refl) xs ys) (own-all Ttbr1Tag Ttbr1 (λ n. refl) ys)

@@ -1,5 +1,5 @@
 pub mod Columns
-pub mod Tests
+pub mod Bits
 pub mod Lists
 pub mod PendingBits
 pub mod Flat

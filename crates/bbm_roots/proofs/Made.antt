@@ -34,11 +34,12 @@ stands-from roots cs m = record {
   count = m.count;
   holds = m.holds;
   inside = m.inside;
-  pendings = m.pendings }
+  pendings = m.pendings;
+}
 
 pub stands-made : (roots : Roots) (cs : List Call) (world : World) (pes : ℕ) → world_of roots ≡ world → pes_of roots ≡ pes →
     Made world pes roots cs → Stands roots cs
 stands-made roots cs world pes w n m =
     stands-from roots cs
-        (subst (λ (k : ℕ). Made (world_of roots) k roots cs) (sym n)
-            (subst (λ (v : World). Made v pes roots cs) (sym w) m))
+    (subst (λ (k : ℕ). Made (world_of roots) k roots cs) (sym n)
+    (subst (λ (v : World). Made v pes roots cs) (sym w) m))

@@ -9,7 +9,7 @@ use Rattle.bbm_regimes.specs.declared.regime.Tag.{Tag}
 use Rattle.bbm_roots.specs.Pendings.{is_open, is_answered, is_pending, pending_bit, pending_in, answered_in, has_pending, same_flag}
 use Rattle.bbm_roots.specs.Readings.{same_tag}
 use Rattle.std.proofs.lemmas.Map.Views.{any-filter_same}
-use Rattle.bbm_roots.proofs.Tests.{and_left, and_right, and_comm, same_flag-true, same_flag-comm, same_tag-true}
+use Rattle.bbm_roots.proofs.Bits.{and_left, and_right, and_comm, same_flag-true, same_flag-comm, same_tag-true}
 use Rattle.bbm_roots.specs.declared.pending.Pending.{Pending}
 
 open-same : (issuer : ℕ) (dsb : Dsb) (q : ℕ) (b : Bool) (g : Tag) (p : ℕ) (x : Pending) →
@@ -34,12 +34,12 @@ module _ (q : ℕ) (b : Bool) (g : Tag) (x : Pending) (found : is_pending q b g 
   pub key-issuer : x.issuer ≡ q
   key-issuer =
       eqb-true x.issuer q (and_left (nat_eq x.issuer q) (same_flag x.broadcast b)
-          (and_left (nat_eq x.issuer q && same_flag x.broadcast b) (same_tag x.tag g) found))
+      (and_left (nat_eq x.issuer q && same_flag x.broadcast b) (same_tag x.tag g) found))
 
   pub key-flag : x.broadcast ≡ b
   key-flag =
       same_flag-true x.broadcast b (and_right (nat_eq x.issuer q) (same_flag x.broadcast b)
-          (and_left (nat_eq x.issuer q && same_flag x.broadcast b) (same_tag x.tag g) found))
+      (and_left (nat_eq x.issuer q && same_flag x.broadcast b) (same_tag x.tag g) found))
 
   pub key-tag : x.tag ≡ g
   key-tag = same_tag-true x.tag g (and_right (nat_eq x.issuer q && same_flag x.broadcast b) (same_tag x.tag g) found)
@@ -48,7 +48,7 @@ module _ (q : ℕ) (b : Bool) (g : Tag) (x : Pending) (found : is_pending q b g 
 pub noted-bit : (issuer : ℕ) (flag : Bool) (takes sees : Tag → Bool) (q : ℕ) (b : Bool) (g : Tag) (x : Pending) (old new : Bool) →
     new ≡ (old || ((nat_eq x.issuer issuer && same_flag x.broadcast flag && takes x.tag) && sees x.tag)) →
     (is_pending q b g x && new)
-        ≡ ((is_pending q b g x && old) || (is_pending q b g x && ((nat_eq q issuer && same_flag flag b && takes g) && sees g)))
+    ≡ ((is_pending q b g x && old) || (is_pending q b g x && ((nat_eq q issuer && same_flag flag b && takes g) && sees g)))
 noted-bit issuer flag takes sees q b g x old new e = by_key (is_pending q b g x) refl
   where
     by_key : (k : Bool) → is_pending q b g x ≡ k →
@@ -64,7 +64,7 @@ noted-bit issuer flag takes sees q b g x old new e = by_key (is_pending q b g x)
 -- what a DSB answers, broadcast TLBIs and others apart
 pub answered-split : (q : ℕ) (dsb : Dsb) (g : Tag) (p : ℕ) (xs : List Pending) →
     answered_in xs q dsb g p
-        ≡ ((answers dsb true && pending_in xs q true g p) || (answers dsb false && pending_in xs q false g p))
+    ≡ ((answers dsb true && pending_in xs q true g p) || (answers dsb false && pending_in xs q false g p))
 answered-split q dsb g p [] = none (answers dsb true) (answers dsb false)
   where
     none : (a b : Bool) → false ≡ ((a && false) || (b && false))
@@ -74,12 +74,12 @@ answered-split q dsb g p [] = none (answers dsb true) (answers dsb false)
     none false false = refl
 answered-split q dsb g p (x ∷ xs) =
     by_flag x.broadcast (nat_eq x.issuer q) (same_tag x.tag g) (pe_in x.pes p)
-        (pending_in xs q true g p) (pending_in xs q false g p) (answered_in xs q dsb g p) (answered-split q dsb g p xs)
+    (pending_in xs q true g p) (pending_in xs q false g p) (answered_in xs q dsb g p) (answered-split q dsb g p xs)
   where
     by_flag : (b k t m u v r : Bool) → r ≡ ((answers dsb true && u) || (answers dsb false && v)) →
         (((k && answers dsb b) && t && m) || r)
-            ≡ ((answers dsb true && (((k && same_flag b true && t) && m) || u))
-            || (answers dsb false && (((k && same_flag b false && t) && m) || v)))
+        ≡ ((answers dsb true && (((k && same_flag b true && t) && m) || u))
+        || (answers dsb false && (((k && same_flag b false && t) && m) || v)))
     by_flag true false t m u v r e = e
     by_flag true true t m u v r e = all (answers dsb true) (answers dsb false) t m u v r e
       where
@@ -112,5 +112,5 @@ entry-there q issuer flag b takes g xs key there =
     let front : (nat_eq q issuer && same_flag flag b) ≡ true = and_left (nat_eq q issuer && same_flag flag b) takes key in
     ap (λ (n : ℕ). has_pending n b g xs) (eqb-true q issuer (and_left (nat_eq q issuer) (same_flag flag b) front))
     ∙ ap (λ (f : Bool). has_pending issuer f g xs)
-        (sym (same_flag-true flag b (and_right (nat_eq q issuer) (same_flag flag b) front)))
+    (sym (same_flag-true flag b (and_right (nat_eq q issuer) (same_flag flag b) front)))
     ∙ there (and_right (nat_eq q issuer && same_flag flag b) takes key)

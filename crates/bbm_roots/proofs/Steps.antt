@@ -16,7 +16,7 @@ use Rattle.bbm_roots.specs.Readings.{has_reading, has_tag, is_reading, is_of_tag
 use Rattle.bbm_roots.specs.Tags.{readings, reads, reads_for_some, awaited, loses, holds_at, issues, answered_by}
 use Rattle.bbm_roots.specs.declared.reading.Reading.{Reading}
 use Rattle.bbm_roots.proofs.Lists.{any-weaker}
-use Rattle.bbm_roots.proofs.Tests.{and_left, and_right, and-true, and-false}
+use Rattle.bbm_roots.proofs.Bits.{and_left, and_right, and-true, and-false}
 
 -- where a tag is readable for a root, the root holds it
 pub reads-holds : (world : World) (cs : List Call) (g : Tag) (r p : ℕ) → reads world cs p g r ≡ true →
@@ -30,7 +30,7 @@ pub reads-some : (world : World) (cs : List Call) (g : Tag) (r p : ℕ) → read
     reads_for_some world cs p g ≡ true
 reads-some world cs g r p e =
     any-weaker (is_reading g r) (is_of_tag g) (λ (x : Reading) k. and_left (same_tag x.tag g) (nat_eq x.root r) k)
-        (readings world cs p) e
+    (readings world cs p) e
 
 not-true : (b : Bool) → not b ≡ true → b ≡ false
 not-true true e = sym e
@@ -42,8 +42,8 @@ pub awaited-unread : (world : World) (cs : List Call) (q : ℕ) (b : Bool) (g : 
 awaited-unread world [] q b g p e = absurd (false≢true e)
 awaited-unread world (c ∷ cs) q b g p e =
     not-true (reads_for_some world (c ∷ cs) p g)
-        (and_right (issues c q b g p || (awaited world cs q b g p && not (answered_by c q b)))
-            (not (reads_for_some world (c ∷ cs) p g)) e)
+    (and_right (issues c q b g p || (awaited world cs q b g p && not (answered_by c q b)))
+    (not (reads_for_some world (c ∷ cs) p g)) e)
 
 -- a call that makes no tag readable and takes none away
 pub holds-stay : (world : World) (c : Call) (cs : List Call) (g : Tag) (r p : ℕ) →
@@ -51,7 +51,7 @@ pub holds-stay : (world : World) (c : Call) (cs : List Call) (g : Tag) (r p : �
     holds_at world (c ∷ cs) g r p ≡ holds_at world cs g r p
 holds-stay world c cs g r p less none =
     by_case (reads world (c ∷ cs) p g r) (holds_at world cs g r p) (loses world c cs g p)
-        (λ e. reads-holds world cs g r p (less e)) none
+    (λ e. reads-holds world cs g r p (less e)) none
   where
     by_case : (a h l : Bool) → (a ≡ true → h ≡ true) → l ≡ false → (a || (h && not l)) ≡ h
     by_case true h l f e = sym (f refl)
@@ -65,7 +65,7 @@ pub awaited-stay : (world : World) (c : Call) (cs : List Call) (q : ℕ) (b : Bo
     awaited world (c ∷ cs) q b g p ≡ awaited world cs q b g p
 awaited-stay world c cs q b g p less no_issue no_answer =
     by_case (issues c q b g p) (awaited world cs q b g p) (answered_by c q b) (reads_for_some world (c ∷ cs) p g)
-        (reads_for_some world cs p g) (awaited-unread world cs q b g p) less no_issue no_answer
+    (reads_for_some world cs p g) (awaited-unread world cs q b g p) less no_issue no_answer
   where
     by_case : (i w n s t : Bool) → (w ≡ true → t ≡ false) → (s ≡ true → t ≡ true) → i ≡ false → n ≡ false →
         ((i || (w && not n)) && not s) ≡ w
@@ -80,8 +80,8 @@ pub reads-kept : (world : World) (pe : ℕ) (dsb : Dsb) (cs : List Call) (g : Ta
     reads world cs p g r ≡ true → loses world (Complete pe dsb) cs g p ≡ false
 reads-kept world pe dsb cs g r p e =
     by_case (answers dsb true) (answers dsb false) (awaited world cs pe true g p) (awaited world cs pe false g p)
-        (reads_for_some world cs p g) (awaited-unread world cs pe true g p) (awaited-unread world cs pe false g p)
-        (reads-some world cs g r p e)
+    (reads_for_some world cs p g) (awaited-unread world cs pe true g p) (awaited-unread world cs pe false g p)
+    (reads-some world cs g r p e)
   where
     by_case : (a b v w s : Bool) → (v ≡ true → s ≡ false) → (w ≡ true → s ≡ false) → s ≡ true → ((a && v) || (b && w)) ≡ false
     by_case a b true w s f h k = absurd (false≢true (sym (f refl) ∙ k))
@@ -96,7 +96,7 @@ pub holds-complete : (world : World) (pe : ℕ) (dsb : Dsb) (cs : List Call) (g 
     holds_at world (Complete pe dsb ∷ cs) g r p ≡ (holds_at world cs g r p && not (loses world (Complete pe dsb) cs g p))
 holds-complete world pe dsb cs g r p =
     by_case (reads world cs p g r) (holds_at world cs g r p) (loses world (Complete pe dsb) cs g p)
-        (reads-holds world cs g r p) (reads-kept world pe dsb cs g r p)
+    (reads-holds world cs g r p) (reads-kept world pe dsb cs g r p)
   where
     by_case : (a h l : Bool) → (a ≡ true → h ≡ true) → (a ≡ true → l ≡ false) → (a || (h && not l)) ≡ (h && not l)
     by_case true h l f e = sym (ap (λ (x : Bool). x && not l) (f refl) ∙ ap not (e refl))
@@ -106,7 +106,7 @@ pub awaited-complete : (world : World) (pe : ℕ) (dsb : Dsb) (cs : List Call) (
     awaited world (Complete pe dsb ∷ cs) q b g p ≡ (awaited world cs q b g p && not (nat_eq q pe && answers dsb b))
 awaited-complete world pe dsb cs q b g p =
     by_case (awaited world cs q b g p) (nat_eq q pe && answers dsb b) (reads_for_some world cs p g)
-        (awaited-unread world cs q b g p)
+    (awaited-unread world cs q b g p)
   where
     by_case : (w n s : Bool) → (w ≡ true → s ≡ false) → ((w && not n) && not s) ≡ (w && not n)
     by_case true n true f = absurd (false≢true (sym (f refl)))
@@ -132,7 +132,7 @@ holds-completed world pe dsb cs g r p h t f same all local =
   where
     by_case : (k h : Bool) → holds_at world cs g r p ≡ k → h ≡ holds_at world cs g r p →
         (h && not ((answers dsb true && t) || (answers dsb false && f)))
-            ≡ (holds_at world cs g r p && not (loses world (Complete pe dsb) cs g p))
+        ≡ (holds_at world cs g r p && not (loses world (Complete pe dsb) cs g p))
     by_case true h held e =
         ap (λ (x : Bool). x && not ((answers dsb true && t) || (answers dsb false && f))) e
         ∙ ap (λ (x : Bool). holds_at world cs g r p && not ((answers dsb true && x) || (answers dsb false && f))) (all held)
@@ -145,7 +145,7 @@ pub held-before : (world : World) (pe : ℕ) (dsb : Dsb) (cs : List Call) (g : T
     holds_at world (Complete pe dsb ∷ cs) g r p ≡ true → holds_at world cs g r p ≡ true
 held-before world pe dsb cs g r p e =
     and_left (holds_at world cs g r p) (not (loses world (Complete pe dsb) cs g p))
-        (sym (holds-complete world pe dsb cs g r p) ∙ e)
+    (sym (holds-complete world pe dsb cs g r p) ∙ e)
 
 pub not-before : (world : World) (pe : ℕ) (dsb : Dsb) (cs : List Call) (g : Tag) (r p : ℕ) →
     holds_at world cs g r p ≡ false → holds_at world (Complete pe dsb ∷ cs) g r p ≡ false
@@ -155,10 +155,10 @@ not-before world pe dsb cs g r p e =
 -- a TLBI takes nothing away yet; what it issues is awaited
 pub awaited-issued : (world : World) (pe : ℕ) (scope : Scope) (vmid : Option ℕ) (cs : List Call) (q : ℕ) (b : Bool) (g : Tag) (p : ℕ) →
     awaited world (Issue pe scope vmid ∷ cs) q b g p
-        ≡ (awaited world cs q b g p || (issues (Issue pe scope vmid) q b g p && not (reads_for_some world cs p g)))
+    ≡ (awaited world cs q b g p || (issues (Issue pe scope vmid) q b g p && not (reads_for_some world cs p g)))
 awaited-issued world pe scope vmid cs q b g p =
     awaited-issue (issues (Issue pe scope vmid) q b g p) (awaited world cs q b g p) (reads_for_some world cs p g)
-        (awaited-unread world cs q b g p)
+    (awaited-unread world cs q b g p)
 
 -- what a list of entries notes is what is awaited
 pub noted : (world : World) (pe : ℕ) (scope : Scope) (vmid : Option ℕ) (cs : List Call) (q : ℕ) (b : Bool) (g : Tag) (p : ℕ)
@@ -166,7 +166,7 @@ pub noted : (world : World) (pe : ℕ) (scope : Scope) (vmid : Option ℕ) (cs :
     ((nat_eq q pe && same_flag scope.broadcast b && takes_whole_tag scope vmid g) ≡ true → has ≡ true) →
     below ≡ true → rin ≡ (scope.broadcast || nat_eq p pe) → rt ≡ reads_for_some world cs p g →
     (old || (has && ((nat_eq q pe && same_flag scope.broadcast b && takes_whole_tag scope vmid g) && (below && (rin && not rt)))))
-        ≡ awaited world (Issue pe scope vmid ∷ cs) q b g p
+    ≡ awaited world (Issue pe scope vmid ∷ cs) q b g p
 noted world pe scope vmid cs q b g p old has below rin rt is_old is_there is_below is_reach is_read =
     by_key (nat_eq q pe && same_flag scope.broadcast b && takes_whole_tag scope vmid g) has below is_there is_below
     ∙ ap (λ (x : Bool). x || ((nat_eq q pe && same_flag scope.broadcast b && takes_whole_tag scope vmid g) && rin && not rt)) is_old
@@ -196,9 +196,11 @@ module _ (world : World) (c : Call) (cs : List Call) (pe : ℕ) (seen : List Rea
       swap true false l e = sym (ap not e)
       swap false true l e = refl
       swap false false l e = refl
+
       or-false : (h : Bool) → (h || false) ≡ h
       or-false true = refl
       or-false false = refl
+
       by_pe : (b : Bool) → nat_eq p pe ≡ b → (holds_at world cs g r p || (b && has_reading g r seen)) ≡ holds_at world (c ∷ cs) g r p
       by_pe true e =
           swap (holds_at world cs g r p) (has_reading g r seen) (loses world c cs g p) (no_loss g p)
@@ -217,25 +219,28 @@ module _ (world : World) (c : Call) (cs : List Call) (pe : ℕ) (seen : List Rea
       last true s l t f e k = refl
       last false true l t f e k = absurd (false≢true (sym e ∙ f refl))
       last false false l t f e k = absurd (false≢true k)
+
       plain : (w i n : Bool) → i ≡ false → n ≡ false → (w && true) ≡ ((i || (w && not n)) && true)
       plain true true n e k = absurd (false≢true (sym e))
       plain true false true e k = absurd (false≢true (sym k))
       plain true false false e k = refl
       plain false true n e k = absurd (false≢true (sym e))
       plain false false n e k = refl
+
       by_tag : (t : Bool) → nat_eq p pe ≡ true → has_tag g seen ≡ t → (old && not t) ≡ awaited world (c ∷ cs) q b g p
       by_tag true at tag =
           and-false old
           ∙ sym (and-false (issues c q b g p || (awaited world cs q b g p && not (answered_by c q b))))
           ∙ ap (λ (x : Bool). (issues c q b g p || (awaited world cs q b g p && not (answered_by c q b))) && not x)
-              (sym tag ∙ sym (ap (has_tag g) (here p at)))
+          (sym tag ∙ sym (ap (has_tag g) (here p at)))
       by_tag false at tag =
           let unread : reads_for_some world (c ∷ cs) p g ≡ false = ap (has_tag g) (here p at) ∙ tag in
           ap (λ (x : Bool). x && true)
-              (is_old (last (holds_at world cs g r p) (reads world (c ∷ cs) p g r) (loses world c cs g p)
-                  (reads_for_some world (c ∷ cs) p g) (reads-some world (c ∷ cs) g r p) unread held))
+          (is_old (last (holds_at world cs g r p) (reads world (c ∷ cs) p g r) (loses world c cs g p)
+          (reads_for_some world (c ∷ cs) p g) (reads-some world (c ∷ cs) g r p) unread held))
           ∙ plain (awaited world cs q b g p) (issues c q b g p) (answered_by c q b) no_issue no_answer
           ∙ ap (λ (x : Bool). (issues c q b g p || (awaited world cs q b g p && not (answered_by c q b))) && not x) (sym unread)
+
       by_pe : (m : Bool) → nat_eq p pe ≡ m → (old && not (m && has_tag g seen)) ≡ awaited world (c ∷ cs) q b g p
       by_pe true at = by_tag (has_tag g seen) at refl
       by_pe false at =

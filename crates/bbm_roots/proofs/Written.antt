@@ -38,33 +38,33 @@ pub elsewhere : (world : World) (pe : ℕ) (reg : Reg) (value : ℕ) (null : Boo
     readings world (WriteReg pe reg value null ∷ cs) p ≡ readings world cs p
 elsewhere world pe reg value null cs p e =
     ap (λ (b : Bool). readings_of world
-        (cond (b && same_reg reg (first_reg world)) (load_of reg value null ∷ register_values cs p (first_reg world)) (register_values cs p (first_reg world)))
-        (cond (b && same_reg reg (second_reg world)) (load_of reg value null ∷ register_values cs p (second_reg world)) (register_values cs p (second_reg world)))) e
+    (cond (b && same_reg reg (first_reg world)) (load_of reg value null ∷ register_values cs p (first_reg world)) (register_values cs p (first_reg world)))
+    (cond (b && same_reg reg (second_reg world)) (load_of reg value null ∷ register_values cs p (second_reg world)) (register_values cs p (second_reg world)))) e
 
 -- at the PE the new value stands in front in its register
 pub right-here : (world : World) (pe : ℕ) (reg : Reg) (value : ℕ) (null : Bool) (cs : List Call) (p : ℕ) (load : Load) (first second : List Load) →
     is_of_world world reg ≡ true → load ≡ load_of reg value null →
     first ≡ register_values cs pe (first_reg world) → second ≡ register_values cs pe (second_reg world) → nat_eq p pe ≡ true →
     readings world (WriteReg pe reg value null ∷ cs) p
-        ≡ readings_of world (cond (is_first reg) (load ∷ first) first) (cond (is_first reg) second (load ∷ second))
+    ≡ readings_of world (cond (is_first reg) (load ∷ first) first) (cond (is_first reg) second (load ∷ second))
 right-here world pe reg value null cs p load first second of_world is_load is_left is_right at =
     ap (λ (b : Bool). readings_of world
-        (cond (b && same_reg reg (first_reg world)) (load_of reg value null ∷ register_values cs p (first_reg world)) (register_values cs p (first_reg world)))
-        (cond (b && same_reg reg (second_reg world)) (load_of reg value null ∷ register_values cs p (second_reg world)) (register_values cs p (second_reg world)))) at
+    (cond (b && same_reg reg (first_reg world)) (load_of reg value null ∷ register_values cs p (first_reg world)) (register_values cs p (first_reg world)))
+    (cond (b && same_reg reg (second_reg world)) (load_of reg value null ∷ register_values cs p (second_reg world)) (register_values cs p (second_reg world)))) at
     ∙ ap (λ (b : Bool). readings_of world
-        (cond b (load_of reg value null ∷ register_values cs p (first_reg world)) (register_values cs p (first_reg world)))
-        (cond (same_reg reg (second_reg world)) (load_of reg value null ∷ register_values cs p (second_reg world)) (register_values cs p (second_reg world)))) (is_the_first world reg of_world)
+    (cond b (load_of reg value null ∷ register_values cs p (first_reg world)) (register_values cs p (first_reg world)))
+    (cond (same_reg reg (second_reg world)) (load_of reg value null ∷ register_values cs p (second_reg world)) (register_values cs p (second_reg world)))) (is_the_first world reg of_world)
     ∙ ap (λ (b : Bool). readings_of world
-        (cond (is_first reg) (load_of reg value null ∷ register_values cs p (first_reg world)) (register_values cs p (first_reg world)))
-        (cond b (load_of reg value null ∷ register_values cs p (second_reg world)) (register_values cs p (second_reg world)))) (is_the_second world reg of_world)
+    (cond (is_first reg) (load_of reg value null ∷ register_values cs p (first_reg world)) (register_values cs p (first_reg world)))
+    (cond b (load_of reg value null ∷ register_values cs p (second_reg world)) (register_values cs p (second_reg world)))) (is_the_second world reg of_world)
     ∙ ap (λ (n : ℕ). readings_of world
-        (cond (is_first reg) (load_of reg value null ∷ register_values cs n (first_reg world)) (register_values cs n (first_reg world)))
-        (cond (not (is_first reg)) (load_of reg value null ∷ register_values cs n (second_reg world)) (register_values cs n (second_reg world)))) (eqb-true p pe at)
+    (cond (is_first reg) (load_of reg value null ∷ register_values cs n (first_reg world)) (register_values cs n (first_reg world)))
+    (cond (not (is_first reg)) (load_of reg value null ∷ register_values cs n (second_reg world)) (register_values cs n (second_reg world)))) (eqb-true p pe at)
     ∙ ap (λ (l : Load). readings_of world
-        (cond (is_first reg) (l ∷ register_values cs pe (first_reg world)) (register_values cs pe (first_reg world)))
-        (cond (not (is_first reg)) (l ∷ register_values cs pe (second_reg world)) (register_values cs pe (second_reg world)))) (sym is_load)
+    (cond (is_first reg) (l ∷ register_values cs pe (first_reg world)) (register_values cs pe (first_reg world)))
+    (cond (not (is_first reg)) (l ∷ register_values cs pe (second_reg world)) (register_values cs pe (second_reg world)))) (sym is_load)
     ∙ ap (λ (xs : List Load). readings_of world (cond (is_first reg) (load ∷ xs) xs)
-        (cond (not (is_first reg)) (load ∷ register_values cs pe (second_reg world)) (register_values cs pe (second_reg world)))) (sym is_left)
+    (cond (not (is_first reg)) (load ∷ register_values cs pe (second_reg world)) (register_values cs pe (second_reg world)))) (sym is_left)
     ∙ ap (λ (ys : List Load). readings_of world (cond (is_first reg) (load ∷ first) first) (cond (not (is_first reg)) (load ∷ ys) ys)) (sym is_right)
     ∙ ap (λ (ys : List Load). readings_of world (cond (is_first reg) (load ∷ first) first) ys) (turned (is_first reg) (load ∷ second) second)
   where

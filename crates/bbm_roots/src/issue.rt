@@ -25,7 +25,12 @@ fn takes(scope: &Scope, vmid: Option<u16>, tag: Tag) -> bool
 }
 
 // Makes an entry of the issuer and the tag, with no PE in it, where there is none.
-fn make_entry(pendings: &mut Vec<Pending>, issuer: Pe, broadcast: bool, tag: Tag) -> Result<(), NoMemory>
+fn make_entry(
+    pendings: &mut Vec<Pending>,
+    issuer: Pe,
+    broadcast: bool,
+    tag: Tag,
+) -> Result<(), NoMemory>
     ensures same { (q : ℕ) (b : Bool) (g : TheTag) (p : ℕ) → spec.pending_in pendings.new.items q b g p
         ≡ spec.pending_in pendings.old.items q b g p }
     ensures made { OnOk result ((q : ℕ) (b : Bool) (g : TheTag) → spec.has_pending q b g pendings.new.items
@@ -90,9 +95,9 @@ fn added(
     requires { IsTrue (needs_vmid scope.now) → IsSome vmid }
     ensures { (p : ℕ) → pe_in result p
         ≡ ((nat_eq pending.now.issuer issuer && spec.same_flag pending.now.broadcast scope.now.broadcast
-            && takes_whole_tag scope.now vmid pending.now.tag)
+        && takes_whole_tag scope.now vmid pending.now.tag)
         && (nat_lt p registers.now.pes && (pe_in reach p && not (spec_reads_tag registers.now.world
-            (loads_in registers.now.first.items p) (loads_in registers.now.second.items p) pending.now.tag)))) }
+        (loads_in registers.now.first.items p) (loads_in registers.now.second.items p) pending.now.tag)))) }
 {
     if is_of(pending, issuer, scope.broadcast) && takes(scope, vmid, pending.tag) {
         registers.unread(reach, pending.tag)
@@ -115,9 +120,11 @@ fn note_one(
         ≡ (spec.pending_bit q b g p pending.old || (spec.is_pending q b g pending.old
         && ((nat_eq q issuer && spec.same_flag scope.now.broadcast b && takes_whole_tag scope.now vmid g)
         && (nat_lt p registers.now.pes && (pe_in reach p && not (spec_reads_tag registers.now.world
-            (loads_in registers.now.first.items p) (loads_in registers.now.second.items p) g)))))) }
+        (loads_in registers.now.first.items p) (loads_in registers.now.second.items p) g)))))) }
 {
-    pending.pes = pending.pes.or(added(pending, registers, reach, issuer, scope, vmid));
+    pending.pes = pending
+        .pes
+        .or(added(pending, registers, reach, issuer, scope, vmid));
 }
 
 /// Notes a TLBI of the issuer in the entries of the tags that it takes: the PEs that it reaches and at which the tag
@@ -135,7 +142,7 @@ pub fn note(
         ≡ (spec.pending_in pendings.old q b g p || (spec.has_pending q b g pendings.old
         && ((nat_eq q issuer && spec.same_flag scope.now.broadcast b && takes_whole_tag scope.now vmid g)
         && (nat_lt p registers.now.pes && (pe_in reach p && not (spec_reads_tag registers.now.world
-            (loads_in registers.now.first.items p) (loads_in registers.now.second.items p) g)))))) }
+        (loads_in registers.now.first.items p) (loads_in registers.now.second.items p) g)))))) }
 {
     for pending in pendings.iter_mut() {
         note_one(pending, registers, reach, issuer, scope, vmid);

@@ -14,3 +14,6 @@ mod roots;
 
 pub use fault::{InUse, RootFault, Unsynced};
 pub use roots::Roots;
+
+#[cfg(test)]
+mod tests;

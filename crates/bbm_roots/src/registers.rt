@@ -193,11 +193,22 @@ impl Registers {
         ensures { result ≡ spec_reads_tag self.now.world (loads_in self.now.first.items pe)
             (loads_in self.now.second.items pe) tag }
     {
-        reads_tag(self.world, loads_at(&self.first, pe), loads_at(&self.second, pe), tag)
+        reads_tag(
+            self.world,
+            loads_at(&self.first, pe),
+            loads_at(&self.second, pe),
+            tag,
+        )
     }
 
     /// The readable tags of the PE after it writes the register with this value. `NoMemory` where there is none.
-    pub fn readings_with(&self, alloc: Global, pe: Pe, reg: Reg, load: Load) -> Result<Vec<Reading>, NoMemory>
+    pub fn readings_with(
+        &self,
+        alloc: Global,
+        pe: Pe,
+        reg: Reg,
+        load: Load,
+    ) -> Result<Vec<Reading>, NoMemory>
         requires known { pe < self.now.pes }
         ensures { IfOk result (λ readings. readings.items ≡ readings_of self.now.world
             (if spec_is_first reg then load ∷ loads_in self.now.first.items pe else loads_in self.now.first.items pe)

@@ -1,13 +1,13 @@
 //! The roots, their tags and the registers that name them.
 
+use crate::fault::{RootFault, Unsynced};
 use crate::hold::Held;
+use crate::load::{Load, base_of, kind_of, names_null, number_of};
 use crate::pending::Pending;
+use crate::reading::Reading;
 use crate::registers::Registers;
 use crate::root::{Declared, same_kind};
-use crate::fault::{RootFault, Unsynced};
 use crate::{hold, issue, pending, registers};
-use crate::load::{Load, base_of, kind_of, names_null, number_of};
-use crate::reading::Reading;
 use bbm_barriers::Dsb;
 use bbm_events::Header;
 use bbm_regimes::{Kind, NoMemory, Page, Pe, PeMask, Reg, Which, World};
@@ -106,7 +106,13 @@ impl Roots {
     /// Declares a root of the kind with this first page, which isn't that of a declared root, and its lock or none.
     /// `Limit(Roots)` exactly where 1,024 are declared; else `NoMemory` where there is none, but not after Ok of
     /// `prepare` without another call between that takes memory. A refusal changes nothing.
-    pub fn declare(&mut self, _alloc: Global, kind: Kind, page: Page, lock: Option<u16>) -> Result<(), RootFault>
+    pub fn declare(
+        &mut self,
+        _alloc: Global,
+        kind: Kind,
+        page: Page,
+        lock: Option<u16>,
+    ) -> Result<(), RootFault>
         requires { (calls : List Call) → Stands self.old calls → spec.root_at calls page ≡ None }
         ensures taken { OnOk result ((calls : List Call) → Stands self.old calls
             → Stands self.new (call.Declare kind page lock ∷ calls)) }
@@ -121,7 +127,10 @@ impl Roots {
         if self.declared.len() >= MAX_ROOTS {
             return Err(RootFault::Limit(Which::Roots));
         }
-        match self.declared.insert(page.get(), Declared { page, kind, lock }) {
+        match self
+            .declared
+            .insert(page.get(), Declared { page, kind, lock })
+        {
             Ok(_) => Ok(()),
             Err(_) => Err(RootFault::NoMemory),
         }
@@ -155,7 +164,13 @@ impl Roots {
 
     /// A TLBI of the PE, of this scope and under this VMID, which is there where the scope is that of a VMID.
     /// `NoMemory` where there is none; then nothing changes.
-    pub fn issue(&mut self, _alloc: Global, issuer: Pe, scope: Scope, vmid: Option<u16>) -> Result<(), RootFault>
+    pub fn issue(
+        &mut self,
+        _alloc: Global,
+        issuer: Pe,
+        scope: Scope,
+        vmid: Option<u16>,
+    ) -> Result<(), RootFault>
         requires known { issuer < pes_of self.old }
         requires vmid { IsTrue (needs_vmid scope) → IsSome vmid }
         ensures taken { OnOk result ((calls : List Call) → Stands self.old calls
@@ -169,7 +184,14 @@ impl Roots {
         match issue::make_room(&mut self.pendings, &self.holds, issuer, &scope, vmid) {
             Ok(()) => {
                 let reach = self.reach(issuer, scope.broadcast);
-                issue::note(&mut self.pendings, &self.registers, reach, issuer, &scope, vmid);
+                issue::note(
+                    &mut self.pendings,
+                    &self.registers,
+                    reach,
+                    issuer,
+                    &scope,
+                    vmid,
+                );
                 Ok(())
             }
             Err(_) => Err(RootFault::NoMemory),
@@ -255,11 +277,9 @@ impl Roots {
 
     /// The PE writes the register, which is one of the world. `null` tells whether the base of the value is a null page,
     /// which counts in TTBR0_EL1 alone: such a value names no root, as 0 does. `NoRoot` with the base exactly where the
-    /// value names another base than that of a declared root of the register's kind; else `TagConflict` exactly where
-    /// a tag would then be readable at the PE for one root while another holds it: with the least first page of such
-    /// another root, and its first such tag in the order `El2`, VMIDs, ASIDs, `Ttbr1`; else `Limit(Values)` exactly
-    /// where it is the ninth write without an ISB between. `NoMemory` may come in the place of the last two and of Ok.
-    /// A refusal changes nothing.
+    /// value names another base than that of a declared root of the register's kind; else `Limit(Values)` exactly
+    /// where it is the ninth write without an ISB between. `NoMemory` may come in the place of the last and of Ok. A
+    /// refusal changes nothing. That a tag would be readable for one root while another holds it isn't judged here.
     pub fn write_reg(
         &mut self,
         alloc: Global,
@@ -319,7 +339,15 @@ impl Roots {
         ensures declared { self.new.declared ≡ self.old.declared }
         ensures pendings { self.new.pendings ≡ self.old.pendings }
     {
-        let seen = match self.registers.readings_with(alloc, pe, reg, Load { number, root: *root }) {
+        let seen = match self.registers.readings_with(
+            alloc,
+            pe,
+            reg,
+            Load {
+                number,
+                root: *root,
+            },
+        ) {
             Ok(seen) => seen,
             Err(_) => return Err(RootFault::NoMemory),
         };

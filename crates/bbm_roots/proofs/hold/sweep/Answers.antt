@@ -2,7 +2,7 @@ use Rattle.std.proofs.Common.{rules, ◌≡◌, false, ap, ◌∙◌, ◌&&◌, 
 use Rattle.bbm_regimes.specs.PeMask.{pe_in}
 use Rattle.bbm_roots.specs.Holds.{holds_bit, is_hold}
 use Rattle.bbm_roots.proofs.Lists.{kept-any}
-use Rattle.bbm_roots.proofs.Tests.{and-false}
+use Rattle.bbm_roots.proofs.Bits.{and-false}
 use Rattle.bbm_roots.proofs.hold.sweep.Goals as goal
 
 pub returns : goal.returns

@@ -9,4 +9,5 @@ abbrev pub invariant-loop-held : goal.invariant-loop-held
 invariant-loop-held l = record {
   same : (q : ℕ) (b : Bool) (g : Tag) (p : ℕ) → pending_in l.pendings.items q b g p ≡ pending_in l.initial.pendings.items q b g p;
   made : (g : Tag) (r : ℕ) → has_hold g r (take l.held-index l.holds) ≡ true → takes_whole_tag l.scope l.vmid g ≡ true
-      → has_pending l.issuer l.scope.broadcast g l.pendings.items ≡ true }
+      → has_pending l.issuer l.scope.broadcast g l.pendings.items ≡ true;
+}

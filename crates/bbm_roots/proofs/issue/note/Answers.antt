@@ -12,9 +12,10 @@ loop-pending-preserved c = record {
   front = λ q b g p. marked-more (pending_bit q b g p) (is_pending q b g)
       ((nat_eq q c.args.issuer && same_flag c.args.scope.now.broadcast b && takes_whole_tag c.args.scope.now c.args.vmid g)
       && (nat_lt p c.args.registers.now.pes && (pe_in c.args.reach p && not (reads_tag c.args.registers.now.world
-          (loads_in c.args.registers.now.first.items p) (loads_in c.args.registers.now.second.items p) g))))
+      (loads_in c.args.registers.now.first.items p) (loads_in c.args.registers.now.second.items p) g))))
       c.loop-pending.pendings c.args.pendings.now c.loop-pending.pending-index c.pending-item.result c.note_one.new.pending
       (omega arith) (omega arith)
       (c.loop-pending.invariant.back c.loop-pending.pending-index c.pending-item.result (omega arith))
       (c.loop-pending.invariant.front q b g p) (c.note_one.ensures q b g p);
-  back = back-more c.loop-pending.pendings c.args.pendings.now c.loop-pending.pending-index c.note_one.new.pending c.loop-pending.invariant.back }
+  back = back-more c.loop-pending.pendings c.args.pendings.now c.loop-pending.pending-index c.note_one.new.pending c.loop-pending.invariant.back;
+}

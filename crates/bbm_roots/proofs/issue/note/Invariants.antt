@@ -15,5 +15,6 @@ invariant-loop-pending l = record {
       || (has_pending q b g (take l.pending-index l.initial.pendings)
       && ((nat_eq q l.issuer && same_flag l.scope.broadcast b && takes_whole_tag l.scope l.vmid g)
       && (nat_lt p l.registers.pes && (pe_in l.reach p && not (reads_tag l.registers.world
-          (loads_in l.registers.first.items p) (loads_in l.registers.second.items p) g))))));
-  back : (k : ℕ) (d : Pending) → l.pending-index ≤ k → get_or l.pendings k d ≡ get_or l.initial.pendings k d }
+      (loads_in l.registers.first.items p) (loads_in l.registers.second.items p) g))))));
+  back : (k : ℕ) (d : Pending) → l.pending-index ≤ k → get_or l.pendings k d ≡ get_or l.initial.pendings k d;
+}

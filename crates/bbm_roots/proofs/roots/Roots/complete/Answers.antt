@@ -20,21 +20,22 @@ returns-clause-taken c = λ calls stands. record {
   holds = λ g r p.
       c.sweep.ensures g r p
       ∙ ap (λ (xs : List Held). hold_in xs g r p)
-          (with_items_is c.args.self.now.holds c.release.new.holds (omega (arith, c.release.auto.holds)))
+      (with_items_is c.args.self.now.holds c.release.new.holds (omega (arith, c.release.auto.holds)))
       ∙ c.release.ensures g r p
       ∙ ap (λ (b : Bool). hold_in c.deref_mut.result.now g r p && not b)
-          (answered-split c.args.issuer c.args.dsb g p c.deref.result.now)
+      (answered-split c.args.issuer c.args.dsb g p c.deref.result.now)
       ∙ holds-completed (world_of c.args.self.now) c.args.issuer c.args.dsb calls g r p
-          (hold_in c.deref_mut.result.now g r p)
-          (pending_in c.deref.result.now c.args.issuer true g p) (pending_in c.deref.result.now c.args.issuer false g p)
-          (ap (λ (xs : List Held). hold_in xs g r p) c.deref_mut.ensures.value ∙ stands.holds g r p)
-          (λ held. ap (λ (xs : List Pending). pending_in xs c.args.issuer true g p) c.deref.ensures.value
-              ∙ stands.pendings c.args.issuer true g r p held)
-          (λ held. ap (λ (xs : List Pending). pending_in xs c.args.issuer false g p) c.deref.ensures.value
-              ∙ stands.pendings c.args.issuer false g r p held);
+      (hold_in c.deref_mut.result.now g r p)
+      (pending_in c.deref.result.now c.args.issuer true g p) (pending_in c.deref.result.now c.args.issuer false g p)
+      (ap (λ (xs : List Held). hold_in xs g r p) c.deref_mut.ensures.value ∙ stands.holds g r p)
+      (λ held. ap (λ (xs : List Pending). pending_in xs c.args.issuer true g p) c.deref.ensures.value
+      ∙ stands.pendings c.args.issuer true g r p held)
+      (λ held. ap (λ (xs : List Pending). pending_in xs c.args.issuer false g p) c.deref.ensures.value
+      ∙ stands.pendings c.args.issuer false g r p held);
   inside = λ g r p past. not-before (world_of c.args.self.now) c.args.issuer c.args.dsb calls g r p (stands.inside g r p past);
   pendings = λ q b g r p held.
       c.settle.ensures q b g p
       ∙ ap (λ (x : Bool). x && not (nat_eq q c.args.issuer && answers c.args.dsb b))
-          (stands.pendings q b g r p (held-before (world_of c.args.self.now) c.args.issuer c.args.dsb calls g r p held))
-      ∙ sym (awaited-complete (world_of c.args.self.now) c.args.issuer c.args.dsb calls q b g p) }
+      (stands.pendings q b g r p (held-before (world_of c.args.self.now) c.args.issuer c.args.dsb calls g r p held))
+      ∙ sym (awaited-complete (world_of c.args.self.now) c.args.issuer c.args.dsb calls q b g p);
+}

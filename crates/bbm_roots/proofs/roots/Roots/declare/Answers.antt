@@ -17,24 +17,25 @@ returns-in-Ok-clause-taken c = λ calls stands.
     let same = λ (g : Tag) (r p : ℕ) (e : reads world calls p g r ≡ true). e in
     let same_some = λ (g : Tag) (p : ℕ) (e : reads_for_some world calls p g ≡ true). e in
     let none : c.in-Ok.field-0 ≡ None =
-        c.in-Ok.ensures.old ∙ stands.declared c.get.result
-        ∙ ap (λ (n : ℕ). root_at calls n) c.get.ensures.value ∙ c.requires calls stands in
+    c.in-Ok.ensures.old ∙ stands.declared c.get.result
+    ∙ ap (λ (n : ℕ). root_at calls n) c.get.ensures.value ∙ c.requires calls stands in
     let len : index_map_len c.insert.new.self ≡ index_map_len c.args.self.now.declared + 1 =
-        c.in-Ok.ensures.len ∙ ap (λ (o : Option Declared). index_map_len c.args.self.now.declared + cond (is_some o) 0 1) none in
+    c.in-Ok.ensures.len ∙ ap (λ (o : Option Declared). index_map_len c.args.self.now.declared + cond (is_some o) 0 1) none in
     let short : length (retired c.args.page (roots_of calls)) ≡ length (roots_of calls) =
-        ap (length {A = Declared}) (absent-retired c.args.page (roots_of calls) (c.requires calls stands)) in
+    ap (length {A = Declared}) (absent-retired c.args.page (roots_of calls) (c.requires calls stands)) in
     record {
-  first = stands.first;
-  second = stands.second;
-  outside = stands.outside;
-  declared = λ q.
-      c.in-Ok.ensures.updates.0 q
-      ∙ ap (λ (n : ℕ). cond (nat_eq n q) (Some root) (get nat_eq c.args.self.now.declared q)) c.get.ensures.value
-      ∙ ap (λ (o : Option Declared). cond (nat_eq c.args.page q) (Some root) o) (stands.declared q)
-      ∙ sym (found-declared root c.args.page q (roots_of calls) refl);
-  count = omega (arith, stands.count);
-  holds = λ g r p. stands.holds g r p ∙ sym (holds-stay world (Declare c.args.kind c.args.page c.args.lock) calls g r p (same g r p) refl);
-  inside = λ g r p past. holds-stay world (Declare c.args.kind c.args.page c.args.lock) calls g r p (same g r p) refl ∙ stands.inside g r p past;
-  pendings = λ q b g r p held.
-      stands.pendings q b g r p (sym (holds-stay world (Declare c.args.kind c.args.page c.args.lock) calls g r p (same g r p) refl) ∙ held)
-      ∙ sym (awaited-stay world (Declare c.args.kind c.args.page c.args.lock) calls q b g p (same_some g p) refl refl) }
+      first = stands.first;
+      second = stands.second;
+      outside = stands.outside;
+      declared = λ q.
+          c.in-Ok.ensures.updates.0 q
+          ∙ ap (λ (n : ℕ). cond (nat_eq n q) (Some root) (get nat_eq c.args.self.now.declared q)) c.get.ensures.value
+          ∙ ap (λ (o : Option Declared). cond (nat_eq c.args.page q) (Some root) o) (stands.declared q)
+          ∙ sym (found-declared root c.args.page q (roots_of calls) refl);
+      count = omega (arith, stands.count);
+      holds = λ g r p. stands.holds g r p ∙ sym (holds-stay world (Declare c.args.kind c.args.page c.args.lock) calls g r p (same g r p) refl);
+      inside = λ g r p past. holds-stay world (Declare c.args.kind c.args.page c.args.lock) calls g r p (same g r p) refl ∙ stands.inside g r p past;
+      pendings = λ q b g r p held.
+          stands.pendings q b g r p (sym (holds-stay world (Declare c.args.kind c.args.page c.args.lock) calls g r p (same g r p) refl) ∙ held)
+          ∙ sym (awaited-stay world (Declare c.args.kind c.args.page c.args.lock) calls q b g p (same_some g p) refl refl);
+    }

@@ -26,35 +26,36 @@ returns-in-Ok-clause-taken c = λ calls stands.
     let same = λ (g : Tag) (r p : ℕ) (e : reads world calls p g r ≡ true). e in
     let stay = λ (g : Tag) (r p : ℕ). holds-stay world (Issue c.args.issuer c.args.scope c.args.vmid) calls g r p (same g r p) refl in
     record {
-  first = stands.first;
-  second = stands.second;
-  outside = stands.outside;
-  declared = stands.declared;
-  count = stands.count;
-  holds = λ g r p. stands.holds g r p ∙ sym (stay g r p);
-  inside = λ g r p past. stay g r p ∙ stands.inside g r p past;
-  pendings = λ q b g r p after.
-      let held : holds_at world calls g r p ≡ true = sym (stay g r p) ∙ after in
-      let below : p < pes_of c.args.self.now =
+      first = stands.first;
+      second = stands.second;
+      outside = stands.outside;
+      declared = stands.declared;
+      count = stands.count;
+      holds = λ g r p. stands.holds g r p ∙ sym (stay g r p);
+      inside = λ g r p past. stay g r p ∙ stands.inside g r p past;
+      pendings = λ q b g r p after.
+          let held : holds_at world calls g r p ≡ true = sym (stay g r p) ∙ after in
+          let below : p < pes_of c.args.self.now =
           ⊎_elim (λ (lt : p < pes_of c.args.self.now). lt)
-              (λ (past : pes_of c.args.self.now ≤ p). absurd (false≢true (sym (stands.inside g r p past) ∙ held)))
-              (cases_lt p (pes_of c.args.self.now)) in
-      ap (λ (xs : List Pending). pending_in xs q b g p)
+          (λ (past : pes_of c.args.self.now ≤ p). absurd (false≢true (sym (stands.inside g r p past) ∙ held)))
+          (cases_lt p (pes_of c.args.self.now)) in
+          ap (λ (xs : List Pending). pending_in xs q b g p)
           (with_items_is c.make_room.new.pendings c.note.new.pendings (omega (arith, c.note.auto.pendings)))
-      ∙ c.note.ensures q b g p
-      ∙ noted world c.args.issuer c.args.scope c.args.vmid calls q b g p
+          ∙ c.note.ensures q b g p
+          ∙ noted world c.args.issuer c.args.scope c.args.vmid calls q b g p
           (pending_in c.deref_mut.result.now q b g p) (has_pending q b g c.deref_mut.result.now)
           (nat_lt p (pes_of c.args.self.now)) (pe_in c.reach-reach.result p)
           (reads_tag world (loads_in c.args.self.now.registers.first.items p) (loads_in c.args.self.now.registers.second.items p) g)
           (ap (λ (xs : List Pending). pending_in xs q b g p) c.deref_mut.ensures.value
-              ∙ c.in-Ok.ensures.same q b g p ∙ stands.pendings q b g r p held)
+          ∙ c.in-Ok.ensures.same q b g p ∙ stands.pendings q b g r p held)
           (λ key. ap (λ (xs : List Pending). has_pending q b g xs) c.deref_mut.ensures.value
-              ∙ entry-there q c.args.issuer c.args.scope.broadcast b (takes_whole_tag c.args.scope c.args.vmid g) g
-                  c.make_room.new.pendings.items key
-                  (c.in-Ok.ensures.made g r p
-                      (ap (λ (xs : List Held). hold_in xs g r p) c.deref.ensures.value ∙ stands.holds g r p ∙ held)))
+          ∙ entry-there q c.args.issuer c.args.scope.broadcast b (takes_whole_tag c.args.scope c.args.vmid g) g
+          c.make_room.new.pendings.items key
+          (c.in-Ok.ensures.made g r p
+          (ap (λ (xs : List Held). hold_in xs g r p) c.deref.ensures.value ∙ stands.holds g r p ∙ held)))
           (lt-ltb p (pes_of c.args.self.now) below)
           (c.reach-reach.ensures p below)
           (ap (λ (xs : List Load). reads_tag world xs (loads_in c.args.self.now.registers.second.items p) g) (stands.first p below)
-              ∙ ap (λ (ys : List Load). reads_tag world (register_values calls p (first_reg world)) ys g) (stands.second p below)
-              ∙ sym (reads_tag-is world (register_values calls p (first_reg world)) (register_values calls p (second_reg world)) g)) }
+          ∙ ap (λ (ys : List Load). reads_tag world (register_values calls p (first_reg world)) ys g) (stands.second p below)
+          ∙ sym (reads_tag-is world (register_values calls p (first_reg world)) (register_values calls p (second_reg world)) g));
+    }

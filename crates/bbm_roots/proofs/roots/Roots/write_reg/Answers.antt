@@ -28,58 +28,59 @@ returns-clause-taken c = λ calls stands.
     let call : Call = WriteReg pe reg c.args.value c.args.null in
     let load : Load = record { number = c.number_of-number.result; root = c.in_ok-root.root } in
     let is_load : load ≡ load_of reg c.args.value c.args.null =
-        ap (λ (n : ℕ). let l : Load = record { number = n; root = c.in_ok-root.root } in l) c.number_of-number.ensures
-        ∙ ap (λ (o : Option ℕ). let l : Load = record { number = number_of c.args.value; root = o } in l)
-            (c.in_ok-root.ensures.named calls stands) in
+    ap (λ (n : ℕ). let l : Load = record { number = n; root = c.in_ok-root.root } in l) c.number_of-number.ensures
+    ∙ ap (λ (o : Option ℕ). let l : Load = record { number = number_of c.args.value; root = o } in l)
+    (c.in_ok-root.ensures.named calls stands) in
     let regs = c.in_ok-seen.ensures.registers in
     let here : (p : ℕ) → nat_eq p pe ≡ true → readings world (call ∷ calls) p ≡ seen = λ p at.
-        right-here world pe reg c.args.value c.args.null calls p load
-            (loads_in old.registers.first.items pe) (loads_in old.registers.second.items pe)
-            c.requires.of_world is_load (stands.first pe c.requires.known) (stands.second pe c.requires.known) at
-        ∙ sym c.in_ok-seen.ensures.seen ∙ sym c.deref.ensures.value in
+    right-here world pe reg c.args.value c.args.null calls p load
+    (loads_in old.registers.first.items pe) (loads_in old.registers.second.items pe)
+    c.requires.of_world is_load (stands.first pe c.requires.known) (stands.second pe c.requires.known) at
+    ∙ sym c.in_ok-seen.ensures.seen ∙ sym c.deref.ensures.value in
     let there : (p : ℕ) → nat_eq p pe ≡ false → readings world (call ∷ calls) p ≡ readings world calls p =
-        elsewhere world pe reg c.args.value c.args.null calls in
+    elsewhere world pe reg c.args.value c.args.null calls in
     let written : (g : Tag) (r p : ℕ) →
-            (holds_at world calls g r p || (nat_eq p pe && has_reading g r seen)) ≡ holds_at world (call ∷ calls) g r p =
-        holds-written world call calls pe seen here there (λ g p. refl) in
+    (holds_at world calls g r p || (nat_eq p pe && has_reading g r seen)) ≡ holds_at world (call ∷ calls) g r p =
+    holds-written world call calls pe seen here there (λ g p. refl) in
     let ne : (p : ℕ) → pes_of old ≤ p → nat_eq p pe ≡ false = λ p past.
-        let other : p ≢ pe = omega (arith, c.requires.known) in ne_eqb p pe other in
+    let other : p ≢ pe = omega (arith, c.requires.known) in ne_eqb p pe other in
     stands-made c.take.new.self (call ∷ calls) world (pes_of old)
-        (c.take.ensures.world ∙ ap (λ (r : Registers). r.world) regs)
-        (c.take.ensures.pes ∙ ap (λ (r : Registers). r.pes) regs)
-        (record {
-  first = λ p lt.
-      c.take.ensures.first p
-      ∙ ap (λ (r : Registers). cond (nat_eq p pe && is_first reg) (load ∷ loads_in r.first.items p) (loads_in r.first.items p)) regs
-      ∙ ap (λ (xs : List Load). cond (nat_eq p pe && is_first reg) (load ∷ xs) xs) (stands.first p lt)
-      ∙ ap (λ (l : Load). cond (nat_eq p pe && is_first reg) (l ∷ register_values calls p (first_reg world)) (register_values calls p (first_reg world))) is_load
-      ∙ ap (λ (b : Bool). cond (nat_eq p pe && b) (load_of reg c.args.value c.args.null ∷ register_values calls p (first_reg world)) (register_values calls p (first_reg world)))
+    (c.take.ensures.world ∙ ap (λ (r : Registers). r.world) regs)
+    (c.take.ensures.pes ∙ ap (λ (r : Registers). r.pes) regs)
+    (record {
+      first = λ p lt.
+          c.take.ensures.first p
+          ∙ ap (λ (r : Registers). cond (nat_eq p pe && is_first reg) (load ∷ loads_in r.first.items p) (loads_in r.first.items p)) regs
+          ∙ ap (λ (xs : List Load). cond (nat_eq p pe && is_first reg) (load ∷ xs) xs) (stands.first p lt)
+          ∙ ap (λ (l : Load). cond (nat_eq p pe && is_first reg) (l ∷ register_values calls p (first_reg world)) (register_values calls p (first_reg world))) is_load
+          ∙ ap (λ (b : Bool). cond (nat_eq p pe && b) (load_of reg c.args.value c.args.null ∷ register_values calls p (first_reg world)) (register_values calls p (first_reg world)))
           (sym (is_the_first world reg c.requires.of_world));
-  second = λ p lt.
-      c.take.ensures.second p
-      ∙ ap (λ (r : Registers). cond (nat_eq p pe && not (is_first reg)) (load ∷ loads_in r.second.items p) (loads_in r.second.items p)) regs
-      ∙ ap (λ (xs : List Load). cond (nat_eq p pe && not (is_first reg)) (load ∷ xs) xs) (stands.second p lt)
-      ∙ ap (λ (l : Load). cond (nat_eq p pe && not (is_first reg)) (l ∷ register_values calls p (second_reg world)) (register_values calls p (second_reg world))) is_load
-      ∙ ap (λ (b : Bool). cond (nat_eq p pe && b) (load_of reg c.args.value c.args.null ∷ register_values calls p (second_reg world)) (register_values calls p (second_reg world)))
+      second = λ p lt.
+          c.take.ensures.second p
+          ∙ ap (λ (r : Registers). cond (nat_eq p pe && not (is_first reg)) (load ∷ loads_in r.second.items p) (loads_in r.second.items p)) regs
+          ∙ ap (λ (xs : List Load). cond (nat_eq p pe && not (is_first reg)) (load ∷ xs) xs) (stands.second p lt)
+          ∙ ap (λ (l : Load). cond (nat_eq p pe && not (is_first reg)) (l ∷ register_values calls p (second_reg world)) (register_values calls p (second_reg world))) is_load
+          ∙ ap (λ (b : Bool). cond (nat_eq p pe && b) (load_of reg c.args.value c.args.null ∷ register_values calls p (second_reg world)) (register_values calls p (second_reg world)))
           (sym (is_the_second world reg c.requires.of_world));
-  outside = λ p other past.
-      ap (λ (b : Bool). cond (b && same_reg reg other) (load_of reg c.args.value c.args.null ∷ register_values calls p other) (register_values calls p other)) (ne p past)
-      ∙ stands.outside p other past;
-  declared = λ q.
-      let d1 = c.take.ensures.declared in let d2 = c.in_ok-seen.ensures.declared in let s = stands.declared q in cc;
-  count =
-      let d1 = c.take.ensures.declared in let d2 = c.in_ok-seen.ensures.declared in let s = stands.count in cc;
-  holds = λ g r p.
-      c.take.ensures.holds g r p
-      ∙ ap (λ (b : Bool). b || (nat_eq p pe && has_reading g r seen)) (c.in_ok-seen.ensures.holds g r p ∙ stands.holds g r p)
-      ∙ written g r p;
-  inside = λ g r p past.
-      sym (written g r p)
-      ∙ ap (λ (h : Bool). h || (nat_eq p pe && has_reading g r seen)) (stands.inside g r p past)
-      ∙ ap (λ (b : Bool). b && has_reading g r seen) (ne p past);
-  pendings = λ q b g r p held.
-      c.take.ensures.pendings q b g p
-      ∙ awaited-written world call calls pe seen here there (λ g p. refl) q b g r p
+      outside = λ p other past.
+          ap (λ (b : Bool). cond (b && same_reg reg other) (load_of reg c.args.value c.args.null ∷ register_values calls p other) (register_values calls p other)) (ne p past)
+          ∙ stands.outside p other past;
+      declared = λ q.
+          let d1 = c.take.ensures.declared in let d2 = c.in_ok-seen.ensures.declared in let s = stands.declared q in cc;
+      count =
+          let d1 = c.take.ensures.declared in let d2 = c.in_ok-seen.ensures.declared in let s = stands.count in cc;
+      holds = λ g r p.
+          c.take.ensures.holds g r p
+          ∙ ap (λ (b : Bool). b || (nat_eq p pe && has_reading g r seen)) (c.in_ok-seen.ensures.holds g r p ∙ stands.holds g r p)
+          ∙ written g r p;
+      inside = λ g r p past.
+          sym (written g r p)
+          ∙ ap (λ (h : Bool). h || (nat_eq p pe && has_reading g r seen)) (stands.inside g r p past)
+          ∙ ap (λ (b : Bool). b && has_reading g r seen) (ne p past);
+      pendings = λ q b g r p held.
+          c.take.ensures.pendings q b g p
+          ∙ awaited-written world call calls pe seen here there (λ g p. refl) q b g r p
           (pending_in c.judge.new.self.pendings.items q b g p) refl refl held
           (λ before. ap (λ (v : Vec Pending Global). pending_in v.items q b g p) c.in_ok-seen.ensures.pendings
-              ∙ stands.pendings q b g r p before) })
+          ∙ stands.pendings q b g r p before);
+    })
