@@ -277,7 +277,7 @@ impl Roots {
 
     /// The PE writes the register, which is one of the world. `null` tells whether the base of the value is a null page,
     /// which counts in TTBR0_EL1 alone: such a value names no root, as 0 does. `NoRoot` with the base where the
-    /// value names another base than that of a declared root of the register's kind; else `Limit(Values)` exactly
+    /// value names another base than that of a declared root of the register's kind; else `Limit(Values)`
     /// where it is the ninth write without an ISB between. `NoMemory` may come in the place of the last and of Ok. A
     /// refusal changes nothing. That a tag would be readable for one root while another holds it isn't judged here.
     pub fn write_reg(
