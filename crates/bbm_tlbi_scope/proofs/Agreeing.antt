@@ -16,7 +16,7 @@ use Rattle.bbm_tlbi_scope.specs.declared.entry.TagSet.{TagSet}
 use Rattle.bbm_tlbi_scope.specs.declared.entry.TagSet.TheVariants.{None as NoTag, One, Many}
 use Rattle.bbm_tlbi_scope.specs.declared.entry.Cover.{Cover}
 use Rattle.bbm_tlbi_scope.specs.declared.entry.Cover.TheVariants.{None as NoCover, Half, Second, Full}
-use Rattle.bbm_tlbi_scope.specs.Numbers.{is_number, hint_allows, names_some, names_all}
+use Rattle.bbm_tlbi_scope.specs.Numbers.{is_number, lacks_vmid, hint_allows, names_some, names_all}
 use Rattle.bbm_tlbi_scope.specs.Takes.{fits_entry, is_global_leaf, taken_by, taken}
 use Rattle.bbm_tlbi_scope.specs.Covers.{fits_leaf, fits_place, vmid_matches, asid_matches, where_fits, cover_by, cover_of}
 use Rattle.bbm_tlbi_scope.specs.Tags.{whole_tag_by, takes_whole_tag}
@@ -104,6 +104,11 @@ second_where : (b : Bool) → where_fits Second b ≡ Second → b ≡ true
 second_where true h = refl
 second_where false h = cc
 
+-- a cover that is some cover is that of the table, and the TLBI has the VMID that it needs
+cover_has_vmid : (lacks : Bool) (given wanted : Cover) → (NoCover ≡ wanted → ⊥) → (if lacks then NoCover else given) ≡ wanted → (not lacks ≡ true) × (given ≡ wanted)
+cover_has_vmid true given wanted some h = absurd (some h)
+cover_has_vmid false given wanted some h = (refl, h)
+
 -- the grades of cover differ
 other_grade : (given wanted : Cover) (b : Bool) → (given ≡ wanted → ⊥) → (NoCover ≡ wanted → ⊥) → where_fits given b ≡ wanted → ⊥
 other_grade given wanted true differs some h = differs h
@@ -156,19 +161,16 @@ el2_full El2All s vmid e v a h = refl
 el2_full El2Va s vmid e v a h = a.fits (full_where (fits_place s v) h)
 el2_full _ s vmid e v a h = cc
 
-stage2_full : (f : Family) (s : Scope) (vmid : Option ℕ) (e : EntryHead) (v : PlaceView) → Fits S2 s e v → cover_by S2 f s vmid v ≡ Full → taken_by Stage2 f s vmid e ≡ true
-stage2_full E1All s vmid e v a h = refl
-stage2_full VmAll12 s vmid e v a h = vmid_of_tag vmid v.tags e.vmid a.tag (full_where (vmid_matches vmid v.tags) h)
-stage2_full Ipa s vmid e v a h = absurd (half_is_not_full (fits_place s v && vmid_matches vmid v.tags) h)
-stage2_full VmAll1 s vmid e v a h = absurd (second_is_not_full (vmid_matches vmid v.tags) h)
-stage2_full _ s vmid e v a h = cc
-
-combined_full : (f : Family) (s : Scope) (vmid : Option ℕ) (e : EntryHead) (v : PlaceView) → Fits S2 s e v → cover_by S2 f s vmid v ≡ Full → taken_by Combined f s vmid e ≡ true
-combined_full E1All s vmid e v a h = refl
-combined_full VmAll12 s vmid e v a h = vmid_of_tag vmid v.tags e.vmid a.tag (full_where (vmid_matches vmid v.tags) h)
-combined_full Ipa s vmid e v a h = absurd (half_is_not_full (fits_place s v && vmid_matches vmid v.tags) h)
-combined_full VmAll1 s vmid e v a h = absurd (second_is_not_full (vmid_matches vmid v.tags) h)
-combined_full _ s vmid e v a h = cc
+-- the two kinds of entries that are read through trees of stage 2
+stage2_full : (ek : EntryKind) (f : Family) (s : Scope) (vmid : Option ℕ) (e : EntryHead) (v : PlaceView) → read_through ek S2 ≡ true → Fits S2 s e v
+    → cover_by S2 f s vmid v ≡ Full → taken_by ek f s vmid e ≡ true
+stage2_full Stage2 E1All s vmid e v through a h = refl
+stage2_full Combined E1All s vmid e v through a h = refl
+stage2_full Stage2 VmAll12 s vmid e v through a h = vmid_of_tag vmid v.tags e.vmid a.tag (full_where (vmid_matches vmid v.tags) h)
+stage2_full Combined VmAll12 s vmid e v through a h = vmid_of_tag vmid v.tags e.vmid a.tag (full_where (vmid_matches vmid v.tags) h)
+stage2_full ek Ipa s vmid e v through a h = absurd (half_is_not_full (fits_place s v && vmid_matches vmid v.tags) h)
+stage2_full ek VmAll1 s vmid e v through a h = absurd (second_is_not_full (vmid_matches vmid v.tags) h)
+stage2_full _ _ s vmid e v through a h = cc
 
 lower_full : (f : Family) (s : Scope) (vmid : Option ℕ) (e : EntryHead) (v : PlaceView) → Fits Ttbr0 s e v → cover_by Ttbr0 f s vmid v ≡ Full → taken_by El1 f s vmid e ≡ true
 lower_full VmAll1 s vmid e v a h = refl
@@ -198,8 +200,7 @@ upper_full _ s vmid e v a h = cc
 full_by : (ek : EntryKind) (vk : Kind) (s : Scope) (vmid : Option ℕ) (e : EntryHead) (v : PlaceView) → read_through ek vk ≡ true → Fits vk s e v
     → cover_by vk s.family s vmid v ≡ Full → taken_by ek s.family s vmid e ≡ true
 full_by El2Entry El2 s vmid e v through a h = el2_full s.family s vmid e v a h
-full_by Stage2 S2 s vmid e v through a h = stage2_full s.family s vmid e v a h
-full_by Combined S2 s vmid e v through a h = combined_full s.family s vmid e v a h
+full_by ek S2 s vmid e v through a h = stage2_full ek s.family s vmid e v through a h
 full_by El1 Ttbr0 s vmid e v through a h = lower_full s.family s vmid e v a h
 full_by El1 Ttbr1 s vmid e v through a h = upper_full s.family s vmid e v a h
 full_by _ _ s vmid e v through a h = cc
@@ -239,13 +240,25 @@ fits_from_agrees s e v a = record {
 }
 
 pub full_takes : (s : Scope) (vmid : Option ℕ) (e : EntryHead) (v : PlaceView) → Agrees e v → cover_of s vmid v ≡ Full → taken s vmid e ≡ true
-full_takes s vmid e v a h = full_by e.kind v.kind s vmid e v a.kind (fits_from_agrees s e v a) h
+full_takes s vmid e v a h =
+    let known : (not (lacks_vmid s.vmid_scoped vmid) ≡ true) × (cover_by v.kind s.family s vmid v ≡ Full)
+    = cover_has_vmid (lacks_vmid s.vmid_scoped vmid) (cover_by v.kind s.family s vmid v) Full (λ e. cc) h in
+    both (not (lacks_vmid s.vmid_scoped vmid)) (taken_by e.kind s.family s vmid e) known.0
+    (full_by e.kind v.kind s vmid e v a.kind (fits_from_agrees s e v a) known.1)
 
 pub half_takes : (s : Scope) (vmid : Option ℕ) (e : EntryHead) (v : PlaceView) → Agrees e v → e.kind ≡ Stage2 → cover_of s vmid v ≡ Half → taken s vmid e ≡ true
-half_takes s vmid e v a kind h = half_by e.kind v.kind s.family s vmid e v kind a.kind (fits_from_agrees s e v a) h
+half_takes s vmid e v a kind h =
+    let known : (not (lacks_vmid s.vmid_scoped vmid) ≡ true) × (cover_by v.kind s.family s vmid v ≡ Half)
+    = cover_has_vmid (lacks_vmid s.vmid_scoped vmid) (cover_by v.kind s.family s vmid v) Half (λ e. cc) h in
+    both (not (lacks_vmid s.vmid_scoped vmid)) (taken_by e.kind s.family s vmid e) known.0
+    (half_by e.kind v.kind s.family s vmid e v kind a.kind (fits_from_agrees s e v a) known.1)
 
 pub second_takes : (s : Scope) (vmid : Option ℕ) (e : EntryHead) (v : PlaceView) → Agrees e v → e.kind ≡ Combined → cover_of s vmid v ≡ Second → taken s vmid e ≡ true
-second_takes s vmid e v a kind h = second_by e.kind v.kind s.family s vmid e v kind a.kind (fits_from_agrees s e v a) h
+second_takes s vmid e v a kind h =
+    let known : (not (lacks_vmid s.vmid_scoped vmid) ≡ true) × (cover_by v.kind s.family s vmid v ≡ Second)
+    = cover_has_vmid (lacks_vmid s.vmid_scoped vmid) (cover_by v.kind s.family s vmid v) Second (λ e. cc) h in
+    both (not (lacks_vmid s.vmid_scoped vmid)) (taken_by e.kind s.family s vmid e) known.0
+    (second_by e.kind v.kind s.family s vmid e v kind a.kind (fits_from_agrees s e v a) known.1)
 
 -- a whole-tag TLBI takes the entries of the tag
 whole_by : (ek : EntryKind) (vk : Kind) (f : Family) (s : Scope) (vmid : Option ℕ) (e : EntryHead) → read_through ek vk ≡ true
@@ -262,6 +275,9 @@ whole_by _ _ _ s vmid e through lower h = cc
 
 pub whole_takes : (s : Scope) (vmid : Option ℕ) (e : EntryHead) (kind : Kind) → read_through e.kind kind ≡ true → (kind ≡ Ttbr0 → is_global_leaf e ≡ false)
     → takes_whole_tag s vmid (tag_of kind e) ≡ true → taken s vmid e ≡ true
-whole_takes s vmid e kind through lower h = whole_by e.kind kind s.family s vmid e through lower h
+whole_takes s vmid e kind through lower h =
+    both (not (lacks_vmid s.vmid_scoped vmid)) (taken_by e.kind s.family s vmid e)
+    (both_left (not (lacks_vmid s.vmid_scoped vmid)) (whole_tag_by (tag_of kind e) s.family s vmid) h)
+    (whole_by e.kind kind s.family s vmid e through lower (both_right (not (lacks_vmid s.vmid_scoped vmid)) (whole_tag_by (tag_of kind e) s.family s vmid) h))
 
 pub ruleset laws = (full_takes, half_takes, second_takes, whole_takes)

@@ -11,7 +11,7 @@ use Rattle.bbm_tlbi_scope.specs.declared.entry.TagSet.{TagSet}
 use Rattle.bbm_tlbi_scope.specs.declared.entry.TagSet.TheVariants.{None as NoTag, One}
 use Rattle.bbm_tlbi_scope.specs.declared.entry.Cover.{Cover}
 use Rattle.bbm_tlbi_scope.specs.declared.entry.Cover.TheVariants.{None as NoCover, Half, Second, Full}
-use Rattle.bbm_tlbi_scope.specs.Numbers.{is_number, hint_allows, names_some, names_all}
+use Rattle.bbm_tlbi_scope.specs.Numbers.{is_number, lacks_vmid, hint_allows, names_some, names_all}
 
 -- whether a scope fits a held leaf
 abbrev pub fits_leaf : Scope → PlaceView → Bool
@@ -65,6 +65,7 @@ cover_by Ttbr1 VaAll s vmid v = where_fits Full (fits_place s v)
 cover_by Ttbr1 Va s vmid v = where_fits Full (fits_place s v && (not v.table && v.global))
 cover_by _ _ s vmid v = NoCover
 
--- how far a TLBI of this scope, under this VMID, covers the place
+-- How far a TLBI of this scope, under this VMID, covers the place. Where it is for one VMID alone and none is
+-- defined, it covers nothing: which entries it takes isn't known. Source: project's own choice.
 abbrev pub cover_of : Scope → Option ℕ → PlaceView → Cover
-cover_of s vmid v = cover_by v.kind s.family s vmid v
+cover_of s vmid v = if lacks_vmid s.vmid_scoped vmid then NoCover else cover_by v.kind s.family s vmid v

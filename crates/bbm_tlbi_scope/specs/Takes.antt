@@ -6,7 +6,7 @@ use Rattle.bbm_tlbi_scope.specs.declared.scope.Scope.{Scope}
 use Rattle.bbm_tlbi_scope.specs.declared.entry.EntryKind.{EntryKind}
 use Rattle.bbm_tlbi_scope.specs.declared.entry.EntryKind.TheVariants.{El2, Stage2, Combined, El1}
 use Rattle.bbm_tlbi_scope.specs.declared.entry.EntryHead.{EntryHead}
-use Rattle.bbm_tlbi_scope.specs.Numbers.{is_number, hint_allows, names_some}
+use Rattle.bbm_tlbi_scope.specs.Numbers.{is_number, lacks_vmid, hint_allows, names_some}
 
 -- Whether the address of a scope fits an entry. An entry that ends in a table is fitted by no scope for the
 -- last level alone, and by none with a level hint; the latter is the project's own choice.
@@ -34,6 +34,7 @@ taken_by El1 Va s vmid e = fits_entry s e && (is_number s.asid e.asid || is_glob
 taken_by El1 Asid s vmid e = is_number s.asid e.asid && not (is_global_leaf e)
 taken_by _ _ s vmid e = false
 
--- whether a TLBI of this scope, under this VMID, takes the entry
+-- Whether a TLBI of this scope, under this VMID, takes the entry. Where it is for one VMID alone and none is
+-- defined, it takes nothing. Source: project's own choice.
 abbrev pub taken : Scope → Option ℕ → EntryHead → Bool
-taken s vmid e = taken_by e.kind s.family s vmid e
+taken s vmid e = not (lacks_vmid s.vmid_scoped vmid) && taken_by e.kind s.family s vmid e
