@@ -1,5 +1,5 @@
 -- A scope over a range of pages beside the scopes that are alike but have one page of it.
-use Rattle.std.specs.Prelude.{◌≡◌, ℕ, Bool, Option, Some, ◌≤◌, not, ◌||◌}
+use Rattle.std.specs.Prelude.{◌≡◌, ℕ, Bool, Some, ◌≤◌, not, ◌||◌}
 use Rattle.bbm_regimes.specs.Extent.{Extent, Has}
 use Rattle.bbm_tlbi_scope.specs.declared.scope.Scope.{Scope}
 use Rattle.bbm_tlbi_scope.specs.declared.entry.PlaceView.{PlaceView}
