@@ -53,7 +53,7 @@ enum At {
     Cleansed,
 }
 
-fn at(state: EntryState, pe: Pe) -> At {
+fn view_of(state: EntryState, pe: Pe) -> At {
     match state {
         EntryState::Clean => At::Clean,
         EntryState::Live { .. } => At::Live,
@@ -81,25 +81,48 @@ fn core() -> Core {
     }
 }
 
-/// The state and the pendings of PE 0 after a DSB of it.
-fn barrier(state: EntryState, pends: Pends, pe: Pe, dsb: Dsb) -> (EntryState, Pends)
-    requires { pe < 2 }
-{
-    state.dsb(pe, dsb, 2).complete(pends, dsb, 2)
+/// The state of the place, and the pendings of PE 0.
+#[derive(Clone, Copy)]
+struct Kept {
+    state: EntryState,
+    pends: Pends,
 }
 
-/// The state and the pendings of PE 0 after one step.
-fn step(state: EntryState, pends: Pends, act: Act, zero: Pe, one: Pe) -> (EntryState, Pends)
+/// What is kept after a DSB of this PE.
+fn whole_barrier(kept: &Kept, pe: Pe, dsb: Dsb) -> Kept
+    requires { pe < 2 }
+{
+    let (state, pends) = kept.state.dsb(pe, dsb, 2).complete(kept.pends, dsb, 2);
+    Kept { state, pends }
+}
+
+/// What is kept after one step.
+fn step(kept: &Kept, act: Act, zero: Pe, one: Pe) -> Kept
     requires first { zero < 2 }
     requires second { one < 2 }
 {
     match act {
-        Make => (state.write(zero, Some(core())), Pends::none()),
-        Break => (state.write(zero, None), pends),
-        Barrier(dsb) => barrier(state, pends, zero, dsb),
-        Flush(cover) => (state, state.tlbi(pends, PeMask::all(2), true, cover)),
-        Local(cover) => (state, state.tlbi(pends, PeMask::one(zero), false, cover)),
-        Other(dsb) => (state.dsb(one, dsb, 2), pends),
+        Make => Kept {
+            state: kept.state.write(zero, Some(core())),
+            pends: Pends::none(),
+        },
+        Break => Kept {
+            state: kept.state.write(zero, None),
+            pends: kept.pends,
+        },
+        Barrier(dsb) => whole_barrier(kept, zero, dsb),
+        Flush(cover) => Kept {
+            state: kept.state,
+            pends: kept.state.tlbi(kept.pends, PeMask::all(2), true, cover),
+        },
+        Local(cover) => Kept {
+            state: kept.state,
+            pends: kept.state.tlbi(kept.pends, PeMask::one(zero), false, cover),
+        },
+        Other(dsb) => Kept {
+            state: kept.state.dsb(one, dsb, 2),
+            pends: kept.pends,
+        },
     }
 }
 
@@ -107,14 +130,14 @@ fn step(state: EntryState, pends: Pends, act: Act, zero: Pe, one: Pe) -> (EntryS
 fn after(acts: &[Act]) -> Option<(At, At)> {
     let zero = Pe::new(0)?;
     let one = Pe::new(1)?;
-    let mut state = EntryState::new();
-    let mut pends = Pends::none();
+    let mut kept = Kept {
+        state: EntryState::new(),
+        pends: Pends::none(),
+    };
     for act in acts {
-        let next = step(state, pends, *act, zero, one);
-        state = next.0;
-        pends = next.1;
+        kept = step(&kept, *act, zero, one);
     }
-    Some((at(state, zero), at(state, one)))
+    Some((view_of(kept.state, zero), view_of(kept.state, one)))
 }
 
 #[test]
