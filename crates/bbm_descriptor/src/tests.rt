@@ -1,9 +1,10 @@
 //! Values worked out by hand from the tables of descriptor fields, those of the worked logs among them.
 
-ghost use Rattle.std.specs.Prelude.{◌≡◌, ◌^◌, ◌<◌, ◌%◌};
+ghost use Rattle.std.specs.Prelude.{◌≡◌, ◌^◌, ◌<◌, ◌≤◌, ◌%◌};
 
 use crate::{Core, Desc, core, needs_bbm, read};
 use bbm_regimes::{Kind, Page};
+use std::process::Abort;
 
 fn table(next: u64, ns: bool) -> Desc
     requires below { next < 2 ^ 48 }
@@ -25,57 +26,64 @@ fn leaf(out: u64, attrs: u8, share: u8, global: bool, contiguous: bool) -> Desc 
     }
 }
 
+// The value is read as this descriptor, and its core has the same fields.
+fn expect_read(rt: &impl Abort, kind: Kind, level: u8, value: u64, want: Desc)
+    requires { level ≤ 3 }
+{
+    assert_eq!(rt; read(kind, level, value), want, "{value} at level {level}");
+    assert_eq!(rt;
+        core(kind, level, value)
+            .map(Core::desc)
+            .unwrap_or(Desc::Invalid),
+        want,
+        "core of {value} at level {level}"
+    );
+}
+
 #[test]
-fn reads_stage_1(rt: HostRuntime) {
-    for (kind, level, value, want) in [
-        (Kind::El2, 0, 0x0, Desc::Invalid),
-        (Kind::El2, 0, 0x4000_1003, table(0x4000_1000, false)),
-        (
-            Kind::Ttbr0,
-            0,
-            0x8000_0000_4000_1003,
-            table(0x4000_1000, true),
-        ),
-        (Kind::El2, 0, 0x8000_0701, Desc::Invalid),
-        (Kind::El2, 1, 0x200, Desc::Invalid),
-        (Kind::El2, 1, 0x8000_0702, Desc::Invalid),
-        (Kind::El2, 1, 0x4000_0003, table(0x4000_0000, false)),
-        (
-            Kind::El2,
-            1,
-            0xffff_ffff_f003,
-            table(0xffff_ffff_f000, false),
-        ),
-        (
-            Kind::El2,
-            1,
-            0x8000_0701,
-            leaf(0x8000_0000, 0, 3, true, false),
-        ),
-        (
-            Kind::El2,
-            1,
-            0x8000_0781,
-            leaf(0x8000_0000, 0, 3, true, false),
-        ),
+fn reads_stage_1_level_0(rt: HostRuntime) {
+    for (kind, value, want) in [
+        (Kind::El2, 0x0, Desc::Invalid),
+        (Kind::El2, 0x4000_1003, table(0x4000_1000, false)),
+        (Kind::Ttbr0, 0x8000_0000_4000_1003, table(0x4000_1000, true)),
+        (Kind::El2, 0x8000_0701, Desc::Invalid),
+    ] {
+        expect_read(&rt, kind, 0, value, want);
+    }
+}
+
+#[test]
+fn reads_stage_1_level_1(rt: HostRuntime) {
+    for (kind, value, want) in [
+        (Kind::El2, 0x200, Desc::Invalid),
+        (Kind::El2, 0x8000_0702, Desc::Invalid),
+        (Kind::El2, 0x4000_0003, table(0x4000_0000, false)),
+        (Kind::El2, 0xffff_ffff_f003, table(0xffff_ffff_f000, false)),
+        (Kind::El2, 0x8000_0701, leaf(0x8000_0000, 0, 3, true, false)),
+        (Kind::El2, 0x8000_0781, leaf(0x8000_0000, 0, 3, true, false)),
         (
             Kind::Ttbr1,
-            1,
             0x8000_0f01,
             leaf(0x8000_0000, 0, 3, false, false),
         ),
         (
             Kind::El2,
-            1,
             0x10_0000_8000_0701,
             leaf(0x8000_0000, 0, 3, true, true),
         ),
         (
             Kind::El2,
-            1,
             0xffff_ffff_ffff_fffd,
             leaf(0xffff_c000_0000, 15, 3, false, true),
         ),
+    ] {
+        expect_read(&rt, kind, 1, value, want);
+    }
+}
+
+#[test]
+fn reads_stage_1_levels_2_and_3(rt: HostRuntime) {
+    for (kind, level, value, want) in [
         (Kind::Ttbr1, 2, 0x4000_2003, table(0x4000_2000, false)),
         (
             Kind::Ttbr0,
@@ -97,14 +105,7 @@ fn reads_stage_1(rt: HostRuntime) {
             leaf(0x12_3456_7000, 11, 2, false, false),
         ),
     ] {
-        assert_eq!(rt; read(kind, level, value), want, "{value} at level {level}");
-        assert_eq!(rt;
-            core(kind, level, value)
-                .map(Core::desc)
-                .unwrap_or(Desc::Invalid),
-            want,
-            "{value} at level {level}"
-        );
+        expect_read(&rt, kind, level, value, want);
     }
 }
 
@@ -130,18 +131,7 @@ fn reads_stage_2(rt: HostRuntime) {
             leaf(0xffff_ffff_f000, 15, 3, false, true),
         ),
     ] {
-        assert_eq!(rt;
-            read(Kind::S2, level, value),
-            want,
-            "{value} at level {level}"
-        );
-        assert_eq!(rt;
-            core(Kind::S2, level, value)
-                .map(Core::desc)
-                .unwrap_or(Desc::Invalid),
-            want,
-            "{value} at level {level}"
-        );
+        expect_read(&rt, Kind::S2, level, value, want);
     }
 }
 
