@@ -16,10 +16,10 @@ holder_after (taken pe number ∷ calls) lock = if number == lock then Some pe e
 holder_after (given pe number ∷ calls) lock = if number == lock then None else holder_after calls lock
 
 -- Which lists are accepted: a lock is taken where it is free, and given back by the PE that holds it.
-abbrev pub Accepted : List Call → Type 0
-Accepted [] = Unit {0}
-Accepted (taken pe lock ∷ calls) = Accepted calls × (holder_after calls lock ≡ None)
-Accepted (given pe lock ∷ calls) = Accepted calls × (holder_after calls lock ≡ Some pe)
+abbrev pub AreAccepted : List Call → Type 0
+AreAccepted [] = Unit {0}
+AreAccepted (taken pe lock ∷ calls) = AreAccepted calls × (holder_after calls lock ≡ None)
+AreAccepted (given pe lock ∷ calls) = AreAccepted calls × (holder_after calls lock ≡ Some pe)
 
 -- none of the calls takes the lock or gives it back
 abbrev pub LeavesAlone : ℕ → List Call → Type 0
@@ -39,6 +39,6 @@ unfoldable pub holder_at : Locks → ℕ → Option ℕ
 holder_at locks lock = get_or locks.holders lock None
 
 -- the locks are as after these accepted calls
-pub record StandsFor (locks : Locks) (calls : List Call) : Type 0 where
-  pub accepted : Accepted calls
+pub record AreAfter (locks : Locks) (calls : List Call) : Type 0 where
+  pub accepted : AreAccepted calls
   pub holders : (lock : ℕ) → holder_at locks lock ≡ holder_after calls lock

@@ -21,12 +21,12 @@ pub struct Locks {
 
 #[tactic(auto, unfolding(crate::specs::Holders::holder_at))]
 impl Locks {
-    ghost use Rattle.bbm_locks.specs.Holders.{Call, taken, given, Accepted, StandsFor, holder_after, holder_at};
+    ghost use Rattle.bbm_locks.specs.Holders.{Call, taken, given, AreAfter, holder_after, holder_at};
 
     /// Locks that are all free. They stand for no call.
     pub fn new() -> Locks
         ensures free { (lock : ℕ) → holder_at result lock ≡ None }
-        ensures calls { StandsFor result [] }
+        ensures calls { AreAfter result [] }
     {
         Locks {
             holders: [None; 1024],
@@ -38,7 +38,7 @@ impl Locks {
     pub fn holder(&self, lock: u16) -> Option<Pe>
         requires { lock < 1024 }
         ensures point { result ≡ holder_at self.now lock }
-        ensures calls { (calls : List Call) → StandsFor self.now calls → result ≡ holder_after calls lock }
+        ensures calls { (calls : List Call) → AreAfter self.now calls → result ≡ holder_after calls lock }
     {
         self.holders[lock as usize]
     }
@@ -50,7 +50,7 @@ impl Locks {
         ensures busy { (holder : ℕ) → (result ≡ Err (record { 0 = holder })) ↔ (holder_at self.old lock ≡ Some holder) }
         ensures taken { OnOk result ((l : ℕ) → holder_at self.new l ≡ (if lock == l then Some pe else holder_at self.old l)) }
         ensures refused { OnErr result ((l : ℕ) → holder_at self.new l ≡ holder_at self.old l) }
-        ensures calls { OnOk result ((calls : List Call) → StandsFor self.old calls → StandsFor self.new (taken pe lock ∷ calls)) }
+        ensures calls { OnOk result ((calls : List Call) → AreAfter self.old calls → AreAfter self.new (taken pe lock ∷ calls)) }
     {
         if let Some(holder) = self.holders[lock as usize] {
             return Err(Busy(holder));
@@ -66,7 +66,7 @@ impl Locks {
         ensures held { IsOk result ↔ (holder_at self.old lock ≡ Some pe) }
         ensures given { OnOk result ((l : ℕ) → holder_at self.new l ≡ (if lock == l then None else holder_at self.old l)) }
         ensures refused { OnErr result ((l : ℕ) → holder_at self.new l ≡ holder_at self.old l) }
-        ensures calls { OnOk result ((calls : List Call) → StandsFor self.old calls → StandsFor self.new (given pe lock ∷ calls)) }
+        ensures calls { OnOk result ((calls : List Call) → AreAfter self.old calls → AreAfter self.new (given pe lock ∷ calls)) }
     {
         if self.holders[lock as usize] != Some(pe) {
             return Err(NotHolder);
