@@ -44,10 +44,10 @@ pub record StandsAfter (value : ℕ → ℕ) (root : WalkRoot) (above : List ℕ
 abbrev pub place_number : (ℕ → ℕ) → WalkRoot → List ℕ → ℕ → ℕ
 place_number value root above place = (place - page_after value root above) / 8
 
--- The region of the place in front of a list: the part of the region of the table above that has the place's number,
--- each part as long as the span of the level. It begins at this input address. In joined pages of a root the numbers
--- go on from page to page, so page j has the j-th part of the input range.
--- Of an empty list it is the input range of the root.
+-- The region of the place in front of a list: the part with the place's number of the region of the table above it, or
+-- of the input range for a place of the root. Each part is as long as the span of the level. In joined pages of a root
+-- the numbers go on from page to page, so page j has the j-th part of the input range. The region of an empty list is
+-- the input range. It begins at this input address,
 abbrev pub region_from : (ℕ → ℕ) → WalkRoot → List ℕ → ℕ
 region_from value root [] = root.first
 region_from value root (place ∷ above) =
@@ -82,8 +82,10 @@ pub record EndsIn (value : ℕ → ℕ) (root : WalkRoot) (form : Form) (place :
   pub stands : StandsAfter value root above place
   pub has_form : form_of (level_after root above) (value place) ≡ form
 
--- The listing: each such list that ends in a leaf, with the region of its last place, and the level and the output
--- address of the leaf. No listed leaf has a region that holds the address.
+-- The listing has each such list that ends in a leaf, `EndsIn value root leaf place above`, with the region of its last
+-- place, and the level and the output address of the leaf.
+
+-- no listed leaf has a region that holds the address
 abbrev pub NoLeaf : (ℕ → ℕ) → WalkRoot → ℕ → Type 0
 NoLeaf value root addr =
     (place : ℕ) (above : List ℕ) → EndsIn value root leaf place above → ¬ RegionHolds value root (place ∷ above) addr
