@@ -1,7 +1,7 @@
 -- The verdict on lines is that of the first line that decides, or else that of the end.
-use Rattle.std.proofs.Common.{◌≡◌, ◌⊎◌, ℕ, suc, ◌+◌, List, [], ◌∷◌, ◌++◌, length, Option, Some, None, refl, ap, sym, ◌∙◌, subst, inl, inr, arith}
+use Rattle.std.proofs.Common.{◌≡◌, ◌⊎◌, ℕ, suc, ◌+◌, List, [], ◌∷◌, ◌++◌, length, Option, Some, refl, ap, sym, ◌∙◌, subst, inl, inr, arith}
 use Rattle.bbm_rules.specs.declared.verdict.Verdict.{Verdict}
-use Rattle.bbm_rules.specs.Outcome.{Judge, Limits, Progress, AtHeader, Step, Decides, GoesOn, step_of, end_of, outcome_after, Outcome, outcome_from, verdict_of_lines, goes_on_to, read_from, read_lines, DecidedByLine, DecidedByEnd}
+use Rattle.bbm_rules.specs.Outcome.{Judge, Limits, Progress, AtHeader, Step, Decides, GoesOn, step_of, end_of, outcome_after, Outcome, outcome_from, verdict_of_lines, goes_on_to, read_from, DecidedByLine, DecidedByEnd}
 
 -- a line that decides
 decides_now : (p : Progress) (line : List ℕ) (lines : List (List ℕ)) (rest : List ℕ) (v : Verdict) (f : Progress → Outcome) (s : Step)
