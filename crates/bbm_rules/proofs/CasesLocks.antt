@@ -58,6 +58,30 @@ pub unroot_without_the_lock : judged (
 unfolding judged
 unroot_without_the_lock = refl
 
+-- The PE that writes holds the lock.
+pub write_with_the_lock : judged (
+    "bbmlog 1 hyp 2 1 1 1"
+    ∷ "init 0 0x40000000"
+    ∷ "root 0 el2 3 0x40000000"
+    ∷ "lock 1 3"
+    ∷ "w 1 0x40000008 0x80000701"
+    ∷ "end 4"
+    ∷ []) ≡ codes "accepted 4 events\n"
+unfolding judged
+write_with_the_lock = refl
+
+-- The PE that retires the root holds the lock.
+pub unroot_with_the_lock : judged (
+    "bbmlog 1 hyp 2 1 1 1"
+    ∷ "init 0 0x40000000"
+    ∷ "root 0 el2 3 0x40000000"
+    ∷ "lock 1 3"
+    ∷ "unroot 1 0x40000000"
+    ∷ "end 4"
+    ∷ []) ≡ codes "accepted 4 events\n"
+unfolding judged
+unroot_with_the_lock = refl
+
 -- A lock is taken that is held.
 pub lock_taken_twice : judged (
     "bbmlog 1 hyp 2 1 1 1"
