@@ -7,6 +7,7 @@ pub mod OpenLaw
 pub mod TagLaw
 pub mod NotesLaw
 pub mod CasesClaims
+pub mod SearchLemmas
 pub mod Patterns
 pub mod ListLemmas
 pub mod RuleLemmas

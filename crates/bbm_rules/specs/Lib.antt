@@ -1,6 +1,7 @@
 pub mod Answers
 pub mod Attach
 pub mod Broken
+pub mod Chain
 pub mod Claims
 pub mod Cleansing
 pub mod Covers
@@ -18,6 +19,7 @@ pub mod Reach
 pub mod Registers
 pub mod Roots
 pub mod Rules
+pub mod Search
 pub mod Sentences
 pub mod Tags
 pub mod Texts
