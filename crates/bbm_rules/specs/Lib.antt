@@ -8,6 +8,7 @@ pub mod FirstPath
 pub mod FirstPathAnswers
 pub mod Held
 pub mod Limits
+pub mod Lists
 pub mod Locks
 pub mod Notes
 pub mod Outcome

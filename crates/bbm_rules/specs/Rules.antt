@@ -23,8 +23,9 @@ use Rattle.bbm_rules.specs.Covers.{is_global}
 use Rattle.bbm_rules.specs.Locks.{holder_of}
 use Rattle.bbm_rules.specs.Notes.{Noted, events_of}
 use Rattle.bbm_rules.specs.Pages.{is_fresh, is_null}
-use Rattle.bbm_rules.specs.Places.{if_so, is_that, least, page_of, repeated, some_pe}
-use Rattle.bbm_rules.specs.Registers.{base_of, kind_of_reg, one_number, register_values, vmids}
+use Rattle.bbm_rules.specs.Lists.{if_so, is_that, least, one_number, repeated, some_pe}
+use Rattle.bbm_rules.specs.Places.{page_of}
+use Rattle.bbm_rules.specs.Registers.{base_of, kind_of_reg, register_values, vmids}
 use Rattle.bbm_rules.specs.Roots.{Declared, is_root, kind_in_world, lock_of, root_at, root_pages, roots_of, same_kind}
 use Rattle.bbm_rules.specs.Tags.{Reading, holds_tag, readings, tags_of}
 use Rattle.bbm_rules.specs.Tree.{Node, held_in, in_limbo, in_tree, node_of}
