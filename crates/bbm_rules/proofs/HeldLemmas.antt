@@ -14,7 +14,8 @@ use Rattle.bbm_rules.specs.Claims.{Trust}
 use Rattle.bbm_rules.specs.Cleansing.{cleansed}
 use Rattle.bbm_rules.specs.Held.{ValidWrite, cleansed_everywhere, held, last_valid, last_valid_after, later}
 use Rattle.bbm_rules.specs.Notes.{Noted, events_of}
-use Rattle.bbm_rules.specs.Places.{among, every_pe, page_of}
+use Rattle.bbm_rules.specs.Lists.{among, every_pe}
+use Rattle.bbm_rules.specs.Places.{page_of}
 use Rattle.bbm_rules.specs.Values.{written_places}
 
 -- ---- the last valid write

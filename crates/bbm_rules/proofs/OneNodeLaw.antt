@@ -23,7 +23,8 @@ use Rattle.bbm_rules.specs.Claims.{Trust}
 use Rattle.bbm_rules.specs.Covers.{note, noted}
 use Rattle.bbm_rules.specs.Notes.{Noted, events_of}
 use Rattle.bbm_rules.specs.Pages.{is_fresh}
-use Rattle.bbm_rules.specs.Places.{if_so, page_of, repeated}
+use Rattle.bbm_rules.specs.Lists.{if_so, repeated}
+use Rattle.bbm_rules.specs.Places.{page_of}
 use Rattle.bbm_rules.specs.Roots.{Declared, first_input_page, input_pages, retired, root_pages, roots_of, start_of}
 use Rattle.bbm_rules.specs.Rules.{bad_ends, judged_ends, not_fresh, of_attached, unfresh, untracked_page}
 use Rattle.bbm_rules.specs.Tree.{Node, held_at, next_in, next_of, node_below, node_of, nodes_at, nodes_of_pages, nodes_of_root, region_start, tree}

@@ -7,8 +7,8 @@ use Rattle.bbm_tlbi_scope.specs.declared.entry.Cover.TheVariants.{Half, Second, 
 use Rattle.bbm_events.specs.Heading.{Heading}
 use Rattle.bbm_events.specs.declared.event.Event.{Event}
 use Rattle.bbm_events.specs.declared.event.Event.TheVariants.{Dsb}
-use Rattle.bbm_rules.proofs.OpenLaw.{In, to_contains, open_note_sound}
-use Rattle.bbm_rules.proofs.SearchLemmas.{Found, some_found, some_later, some_weaker}
+use Rattle.bbm_rules.proofs.OpenLaw.{to_contains, open_note_sound}
+use Rattle.bbm_rules.proofs.SearchLemmas.{Found, any_found, any_weaker, some_found, some_later, some_weaker}
 use Rattle.bbm_rules.specs.Claims.{Trust}
 use Rattle.bbm_rules.specs.Claims.Trust.{Patterns}
 use Rattle.bbm_rules.specs.Cleansing.{answered_where, answers_one, any_position, any_positions, cleansed, flushes, full_step, half, half_step, half_where, is_answer, is_completed, is_publication, one_allowed, publishes_write, same_cover, second_step, seen, seen_where, two_allowed}
@@ -22,8 +22,8 @@ answers_weaker : (test other : Issued Noted → Bool) (e : Event) (older : List 
     → ((t : Issued Noted) → test t ≡ true → other t ≡ true)
     → answers_one test e older ≡ true → answers_one other e older ≡ true
 answers_weaker test other (Dsb q dsb) older weaker s =
-    some_weaker (is_completed dsb test) (is_completed dsb other) (unanswered event_of q older)
-    (λ t others k. let both = and_parts (completes dsb t.tlbi.event) (test t) k in
+    any_weaker (is_completed dsb test) (is_completed dsb other) (unanswered event_of q older)
+    (λ t k. let both = and_parts (completes dsb t.tlbi.event) (test t) k in
     and_from (completes dsb t.tlbi.event) (other t) both.0 (weaker t both.1)) s
 answers_weaker test other e older weaker s = s
 
@@ -120,19 +120,13 @@ pub record AnsweredOne (test : Issued Noted → Bool) (e : Event) (older : List 
 pub answered_one : (test : Issued Noted → Bool) (e : Event) (older : List Noted)
     → answers_one test e older ≡ true → AnsweredOne test e older
 answered_one test (Dsb q dsb) older s =
-    let f : Found (is_completed dsb test) (unanswered event_of q older)
-    = some_found (is_completed dsb test) (unanswered event_of q older) s in
+    let f = any_found (is_completed dsb test) (unanswered event_of q older) s in
     record {
-      issued = f.item;
+      issued = f.0;
       q = q;
-      is_open = open_note_sound q older f.item (to_contains (unanswered event_of q older) f.item
-          (subst (λ (ts : List (Issued Noted)). In ts f.item) (sym f.split) (in_split f.newer f.item f.older)));
-      passed = (and_parts (completes dsb f.item.tlbi.event) (test f.item) f.passed).1;
+      is_open = open_note_sound q older f.0 (to_contains (unanswered event_of q older) f.0 f.1);
+      passed = (and_parts (completes dsb f.0.tlbi.event) (test f.0) f.2).1;
     }
-  where
-    in_split : (newer : List (Issued Noted)) (t : Issued Noted) (others : List (Issued Noted)) → In (newer ++ t ∷ others) t
-    in_split [] t others = inl refl
-    in_split (u ∷ newer) t others = inr (in_split newer t others)
 answered_one test e older s = absurd (true≢false (sym s))
 
 module _ (heading : Heading) (place p : ℕ) where

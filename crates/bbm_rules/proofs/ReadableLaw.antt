@@ -4,7 +4,8 @@ use Rattle.std.proofs.lemmas.Bool.{eqb-true, eq-eqb, or_cases, or_left, or_right
 use Rattle.bbm_events.specs.Heading.{Heading}
 use Rattle.bbm_events.specs.declared.event.Event.{Event}
 use Rattle.bbm_events.specs.declared.event.Event.TheVariants.{Init, Write}
-use Rattle.bbm_rules.specs.Places.{page_of, among}
+use Rattle.bbm_rules.specs.Lists.{among}
+use Rattle.bbm_rules.specs.Places.{page_of}
 use Rattle.bbm_rules.specs.Values.{value_of, published, publishes_for, readable_before, is_readable}
 use Rattle.bbm_rules.specs.Sentences.{Readable}
 

@@ -1,7 +1,8 @@
 -- A search through a history finds an item with what came before it, and later items keep what it found.
-use Rattle.std.proofs.Common.{◌≡◌, Bool, true, List, [], ◌∷◌, ◌++◌, refl, sym, ap, subst, inl, inr, true≢false}
+use Rattle.std.proofs.Common.{◌≡◌, Bool, true, List, [], ◌∷◌, ◌++◌, refl, sym, ◌∙◌, ap, subst, inl, inr, true≢false}
 use Rattle.std.proofs.lemmas.Bool.{or_cases, or_left, or_right}
-use Rattle.bbm_rules.specs.Search.{some}
+use Rattle.bbm_rules.proofs.OpenLaw.{In}
+use Rattle.bbm_rules.specs.Lists.{any, some}
 
 -- an item that passes the test
 pub record Found {A : Type 0} (test : A → List A → Bool) (h : List A) : Type 0 where
@@ -43,3 +44,24 @@ some_weaker test other h weaker s =
       split = f.split;
       passed = weaker f.item f.older f.passed;
     })
+
+-- ---- a list of no order
+
+module _ {A : Type 0} (test : A → Bool) where
+  pub any_found : (xs : List A) → any test xs ≡ true → (x : A) × In xs x × (test x ≡ true)
+  any_found [] s = absurd (true≢false (sym s))
+  any_found (x ∷ xs) s =
+      elim (or_cases (test x) (any test xs) s) [
+        | inl here ↦ (x, inl refl, here)
+        | inr there ↦ let r = any_found xs there in (r.0, inr r.1, r.2)
+      ]
+
+  pub any_finds : (xs : List A) (x : A) → In xs x → test x ≡ true → any test xs ≡ true
+  any_finds [] x i k = absurd i
+  any_finds (y ∷ xs) x (inl e) k = or_left (test y) (any test xs) (ap test e ∙ k)
+  any_finds (y ∷ xs) x (inr i) k = or_right (test y) (any test xs) (any_finds xs x i k)
+
+pub any_weaker : {A : Type 0} (test other : A → Bool) (xs : List A)
+    → ((x : A) → test x ≡ true → other x ≡ true) → any test xs ≡ true → any other xs ≡ true
+any_weaker test other xs weaker s =
+    let f = any_found test xs s in any_finds other xs f.0 f.1 (weaker f.0 f.2)

@@ -12,9 +12,9 @@ use Rattle.bbm_events.specs.declared.event.Event.{Event}
 use Rattle.bbm_events.specs.declared.event.Event.TheVariants.{Write, Dsb}
 use Rattle.bbm_rules.specs.declared.claim.Claim.TheVariants.{Place, Two}
 use Rattle.bbm_rules.specs.Claims.{Trust, allows}
+use Rattle.bbm_rules.specs.Lists.{any, some}
 use Rattle.bbm_rules.specs.Notes.{Noted, event_of}
 use Rattle.bbm_rules.specs.Reach.{Issued, completes, reaches, unanswered}
-use Rattle.bbm_rules.specs.Search.{some}
 use Rattle.bbm_rules.specs.Values.{publishes_to}
 
 -- a write of the place by the PE q
@@ -26,11 +26,11 @@ abbrev pub is_write : ℕ → ℕ → Noted → List Noted → Bool
 is_write q place n older = writes q place n.event
 
 -- a barrier that answers a TLBI of its PE which passes the test; the test has the position of the answer first
-abbrev pub is_completed : Barrier → (Issued Noted → Bool) → Issued Noted → List (Issued Noted) → Bool
-is_completed dsb test t others = completes dsb t.tlbi.event && test t
+abbrev pub is_completed : Barrier → (Issued Noted → Bool) → Issued Noted → Bool
+is_completed dsb test t = completes dsb t.tlbi.event && test t
 
 abbrev pub answers_one : (Issued Noted → Bool) → Event → List Noted → Bool
-answers_one test (Dsb q dsb) older = some (is_completed dsb test) (unanswered event_of q older)
+answers_one test (Dsb q dsb) older = any (is_completed dsb test) (unanswered event_of q older)
 answers_one test _ older = false
 
 abbrev pub is_answer : (ℕ → Issued Noted → Bool) → Noted → List Noted → Bool

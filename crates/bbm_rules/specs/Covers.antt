@@ -13,8 +13,8 @@ use Rattle.bbm_tlbi_scope.specs.Decode.{scope_of}
 use Rattle.bbm_events.specs.Heading.{Heading}
 use Rattle.bbm_events.specs.declared.event.Event.{Event}
 use Rattle.bbm_events.specs.declared.event.Event.TheVariants.{Tlbi}
-use Rattle.bbm_rules.specs.Chain.{◌>>=◌}
 use Rattle.bbm_rules.specs.Claims.{Trust}
+use Rattle.bbm_rules.specs.Lists.{◌>>=◌}
 use Rattle.bbm_rules.specs.Notes.{Noted, events_of}
 use Rattle.bbm_rules.specs.Places.{page_of}
 use Rattle.bbm_rules.specs.Registers.{vmid_of}

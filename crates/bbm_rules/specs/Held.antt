@@ -6,11 +6,11 @@ use Rattle.bbm_descriptor.specs.Descriptor.{is_valid}
 use Rattle.bbm_events.specs.Heading.{Heading}
 use Rattle.bbm_events.specs.declared.event.Event.{Event}
 use Rattle.bbm_events.specs.declared.event.Event.TheVariants.{Init, Write}
-use Rattle.bbm_rules.specs.Chain.{◌>>=◌}
 use Rattle.bbm_rules.specs.Claims.{Trust}
 use Rattle.bbm_rules.specs.Cleansing.{cleansed}
 use Rattle.bbm_rules.specs.Notes.{Noted}
-use Rattle.bbm_rules.specs.Places.{page_of, every_pe}
+use Rattle.bbm_rules.specs.Lists.{◌>>=◌, every_pe}
+use Rattle.bbm_rules.specs.Places.{page_of}
 
 -- a valid write: its value, and the part of the history after it
 pub record ValidWrite : Type 0 where

@@ -1,7 +1,6 @@
 pub mod Answers
 pub mod Attach
 pub mod Broken
-pub mod Chain
 pub mod Claims
 pub mod Cleansing
 pub mod Covers
@@ -9,6 +8,7 @@ pub mod FirstPath
 pub mod FirstPathAnswers
 pub mod Held
 pub mod Limits
+pub mod Lists
 pub mod Locks
 pub mod Notes
 pub mod Outcome
@@ -19,7 +19,6 @@ pub mod Reach
 pub mod Registers
 pub mod Roots
 pub mod Rules
-pub mod Search
 pub mod Sentences
 pub mod Tags
 pub mod Texts

@@ -5,7 +5,7 @@ use Rattle.bbm_regimes.specs.declared.regime.Which.TheVariants.{Pages, Roots, Va
 use Rattle.bbm_events.specs.declared.event.Event.{Event}
 use Rattle.bbm_events.specs.declared.event.Event.TheVariants.{Init, Root, Msr}
 use Rattle.bbm_rules.specs.Pages.{initialised}
-use Rattle.bbm_rules.specs.Places.{among}
+use Rattle.bbm_rules.specs.Lists.{among}
 use Rattle.bbm_rules.specs.Registers.{register_values}
 use Rattle.bbm_rules.specs.Roots.{roots_of}
 

@@ -5,7 +5,7 @@ use Rattle.bbm_events.specs.declared.event.Event.{Event}
 use Rattle.bbm_events.specs.declared.event.Event.TheVariants.{Init, Null}
 use Rattle.bbm_rules.specs.Claims.{Trust}
 use Rattle.bbm_rules.specs.Notes.{Noted}
-use Rattle.bbm_rules.specs.Places.{with_number}
+use Rattle.bbm_rules.specs.Lists.{with_number}
 use Rattle.bbm_rules.specs.Tree.{in_tree}
 
 -- Null page: a page that was declared by `null`. As the base of TTBR0 it means that no walk is made.

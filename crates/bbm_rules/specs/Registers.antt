@@ -9,6 +9,7 @@ use Rattle.bbm_regimes.specs.declared.regime.World.TheVariants.{Hyp, Kernel}
 use Rattle.bbm_events.specs.Heading.{Heading}
 use Rattle.bbm_events.specs.declared.event.Event.{Event}
 use Rattle.bbm_events.specs.declared.event.Event.TheVariants.{Isb, Msr}
+use Rattle.bbm_rules.specs.Lists.{newest, one_number}
 
 -- whether two registers are the same
 abbrev pub same_reg : Reg → Reg → Bool
@@ -24,11 +25,6 @@ kind_of_reg Ttbr0El2 = El2
 kind_of_reg VttbrEl2 = S2
 kind_of_reg Ttbr0El1 = Ttbr0
 kind_of_reg Ttbr1El1 = Ttbr1
-
--- the list with its first number alone
-abbrev pub newest : List ℕ → List ℕ
-newest [] = []
-newest (x ∷ xs) = x ∷ []
 
 -- Readable values of a register of p, newest first: those that it had, the first 0 among them, and that no later
 -- write of the register by p replaced before an ISB of p. An ISB of p leaves the newest alone.
@@ -48,21 +44,12 @@ base_of value = if value == 0 then None else Some (value % 2 ^ 48 / 2 * 2)
 
 -- The VMID or the ASID of a register value: bits [63:48]; 0 of value 0.
 -- Source: Arm ARM (DDI 0487), "AArch64 System register descriptions", VTTBR_EL2, TTBR0_EL1 and TTBR1_EL1.
-abbrev pub number_of : ℕ → ℕ
-number_of value = value / 2 ^ 48
+abbrev pub tag_number : ℕ → ℕ
+tag_number value = value / 2 ^ 48
 
 -- the VMIDs of the values of VTTBR_EL2 that p may still use
 abbrev pub vmids : List Event → ℕ → List ℕ
-vmids h p = map number_of (register_values h p VttbrEl2)
-
--- the one number of a list, None where it has several
-abbrev pub all_are : ℕ → List ℕ → Bool
-all_are n [] = true
-all_are n (m ∷ ms) = m == n && all_are n ms
-
-abbrev pub one_number : List ℕ → Option ℕ
-one_number [] = None
-one_number (n ∷ ms) = if all_are n ms then Some n else None
+vmids h p = map tag_number (register_values h p VttbrEl2)
 
 -- The VMID under which a PE issues its TLBIs: the one VMID of the values of VTTBR_EL2 that it may still use, None
 -- where there are several. In the Kernel world 0 stands for the one VMID, which isn't logged.

@@ -17,16 +17,15 @@ use Rattle.bbm_events.specs.Heading.{Heading}
 use Rattle.bbm_events.specs.declared.event.Event.{Event}
 use Rattle.bbm_events.specs.declared.event.Event.TheVariants.{Init, Null, Root, Unroot, Write, Tlbi, Msr, Lock, Unlock}
 use Rattle.bbm_rules.specs.Attach.{Attached, End, all_ends, attached_by, pages_of}
-use Rattle.bbm_rules.specs.Chain.{◌>>=◌}
 use Rattle.bbm_rules.specs.Claims.{Trust}
 use Rattle.bbm_rules.specs.Covers.{is_global}
 use Rattle.bbm_rules.specs.Locks.{holder_of}
 use Rattle.bbm_rules.specs.Notes.{Noted, events_of}
 use Rattle.bbm_rules.specs.Pages.{is_fresh, is_null}
-use Rattle.bbm_rules.specs.Places.{if_so, is_that, least, page_of, repeated, some_pe}
+use Rattle.bbm_rules.specs.Lists.{◌>>=◌, any, if_so, is_that, least, repeated, some_pe}
+use Rattle.bbm_rules.specs.Places.{page_of}
 use Rattle.bbm_rules.specs.Registers.{base_of, kind_of_reg, register_values, vmid_of}
 use Rattle.bbm_rules.specs.Roots.{Declared, is_root, kind_in_world, lock_of, root_at, root_pages, roots_of, same_kind}
-use Rattle.bbm_rules.specs.Search.{some}
 use Rattle.bbm_rules.specs.Tags.{Reading, holds_tag, readings, tags_of}
 use Rattle.bbm_rules.specs.Tree.{held_at, in_limbo, in_tree, node_of}
 use Rattle.bbm_rules.specs.Values.{places_in, value_of}
@@ -61,20 +60,20 @@ is_contiguous kind _ = false
 abbrev pub is_global_user : Kind → Desc → Bool
 is_global_user kind desc = same_kind kind Ttbr0 && is_global desc
 
-abbrev pub has_value : List Event → ℕ → List ℕ → Bool
-has_value h place places = not (value_of h place == 0)
+abbrev pub has_value : List Event → ℕ → Bool
+has_value h place = not (value_of h place == 0)
 
 abbrev pub takes_null : List Event → Reg → ℕ → Bool
 takes_null h Ttbr0El1 base = is_null h base
 takes_null h _ base = false
 
-abbrev pub names_base : ℕ → ℕ → List ℕ → Bool
-names_base page value values = is_that (base_of value) page
+abbrev pub names_base : ℕ → ℕ → Bool
+names_base page value = is_that (base_of value) page
 
 -- whether the page is the base of a value that p may still use in some register
 abbrev pub is_base_at : List Event → ℕ → ℕ → Bool
 is_base_at h page p =
-    some (names_base page) (flat_map (register_values h p) (Ttbr0El2 ∷ VttbrEl2 ∷ Ttbr0El1 ∷ Ttbr1El1 ∷ []))
+    any (names_base page) (flat_map (register_values h p) (Ttbr0El2 ∷ VttbrEl2 ∷ Ttbr0El1 ∷ Ttbr1El1 ∷ []))
 
 abbrev pub is_bad : Result Scope BadOperand → Bool
 is_bad (Ok scope) = false
@@ -180,7 +179,7 @@ module _ (heading : Heading) (trust : Trust) (h : List Noted) where
   page_in_use (Init pe page) = if_so (in_tree heading trust h page || is_null (events_of h) page) page
   page_in_use (Root pe kind lock page) = least (unfresh (root_pages heading.world kind page))
   page_in_use (Null pe page) = if_so (not (is_fresh heading trust h page)
-      || some (has_value (events_of h)) (places_in (events_of h) page)) page
+      || any (has_value (events_of h)) (places_in (events_of h) page)) page
   page_in_use _ = None
 
   -- 11, no-root: a register is given a value other than 0 whose base is neither the first page of a declared root of

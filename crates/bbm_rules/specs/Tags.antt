@@ -21,7 +21,7 @@ use Rattle.bbm_events.specs.declared.event.Event.TheVariants.{Dsb, Tlbi}
 use Rattle.bbm_rules.specs.declared.claim.Claim.TheVariants.{Taken}
 use Rattle.bbm_rules.specs.Claims.{Trust, allows, same_tag}
 use Rattle.bbm_rules.specs.Reach.{Issued, completes, reaches, unanswered}
-use Rattle.bbm_rules.specs.Registers.{base_of, number_of, register_values, vmid_of}
+use Rattle.bbm_rules.specs.Registers.{base_of, tag_number, register_values, vmid_of}
 use Rattle.bbm_rules.specs.Roots.{is_root}
 
 -- a tag that is readable for a root
@@ -41,17 +41,17 @@ abbrev pub el2_reading : List Event → ℕ → List Reading
 el2_reading h value = reading_of h El2 El2Tag value
 
 abbrev pub vmid_reading : List Event → ℕ → List Reading
-vmid_reading h value = reading_of h S2 (Vmid (number_of value)) value
+vmid_reading h value = reading_of h S2 (Vmid (tag_number value)) value
 
 abbrev pub ttbr1_reading : List Event → ℕ → List Reading
 ttbr1_reading h value = reading_of h Ttbr1 Ttbr1Tag value
 
 -- the ASID is that of the same value of TTBR0_EL1, or that of a value of TTBR1_EL1
 abbrev pub own_asid_reading : List Event → ℕ → List Reading
-own_asid_reading h value = reading_of h Ttbr0 (Asid (number_of value)) value
+own_asid_reading h value = reading_of h Ttbr0 (Asid (tag_number value)) value
 
 abbrev pub asid_reading : List Event → List ℕ → ℕ → List Reading
-asid_reading h values asid_value = flat_map (reading_of h Ttbr0 (Asid (number_of asid_value))) values
+asid_reading h values asid_value = flat_map (reading_of h Ttbr0 (Asid (tag_number asid_value))) values
 
 abbrev pub asid_readings : AsidFrom → List Event → ℕ → List Reading
 asid_readings FromTtbr0 h p = flat_map (own_asid_reading h) (register_values h p Ttbr0El1)

@@ -9,13 +9,12 @@ use Rattle.bbm_descriptor.specs.declared.desc.Desc.{Desc}
 use Rattle.bbm_descriptor.specs.declared.desc.Desc.TheVariants.{Table}
 use Rattle.bbm_events.specs.Heading.{Heading}
 use Rattle.bbm_events.specs.declared.event.Event.{Event}
-use Rattle.bbm_rules.specs.Chain.{◌>>=◌}
 use Rattle.bbm_rules.specs.Claims.{Trust}
 use Rattle.bbm_rules.specs.Held.{held}
+use Rattle.bbm_rules.specs.Lists.{◌>>=◌, any}
 use Rattle.bbm_rules.specs.Notes.{Noted, events_of}
 use Rattle.bbm_rules.specs.Places.{index_of}
 use Rattle.bbm_rules.specs.Roots.{Declared, first_input_page, input_pages, root_pages, roots_of, start_of}
-use Rattle.bbm_rules.specs.Search.{some}
 use Rattle.bbm_rules.specs.Values.{places_in, value_of}
 
 -- a place above a page, and its level
@@ -77,11 +76,11 @@ node_below n place next = record {
 }
 
 -- Limbo: the present value of a place above is invalid. Source: project's own choice.
-abbrev pub is_broken : Kind → List Event → Above → List Above → Bool
-is_broken kind h a further = not (is_valid kind a.level (value_of h a.place))
+abbrev pub is_broken : Kind → List Event → Above → Bool
+is_broken kind h a = not (is_valid kind a.level (value_of h a.place))
 
 abbrev pub in_limbo : List Noted → Node → Bool
-in_limbo h n = some (is_broken n.kind (events_of h)) n.above
+in_limbo h n = any (is_broken n.kind (events_of h)) n.above
 
 abbrev pub is_for : ℕ → Node → Bool
 is_for page n = n.page == page
@@ -119,12 +118,12 @@ module _ (heading : Heading) (trust : Trust) (h : List Noted) where
   in_tree page = is_some (node_of page)
 
   -- Childless: no place of the next page of a held table holds anything. Source: project's own choice.
-  abbrev pub holds_some : Kind → ℕ → ℕ → List ℕ → Bool
-  holds_some kind level place places = is_some (held heading trust kind level place h)
+  abbrev pub holds_some : Kind → ℕ → ℕ → Bool
+  holds_some kind level place = is_some (held heading trust kind level place h)
 
   abbrev pub childless_below : Node → Option ℕ → Bool
   childless_below n None = false
-  childless_below n (Some next) = not (some (holds_some n.kind (suc n.level)) (places_in (events_of h) next))
+  childless_below n (Some next) = not (any (holds_some n.kind (suc n.level)) (places_in (events_of h) next))
 
   abbrev pub is_childless : Node → ℕ → Bool
   is_childless n value = childless_below n (next_of n.kind n.level value)

@@ -5,7 +5,8 @@ use Rattle.bbm_barriers.specs.Options.{publishes}
 use Rattle.bbm_events.specs.Heading.{Heading}
 use Rattle.bbm_events.specs.declared.event.Event.{Event}
 use Rattle.bbm_events.specs.declared.event.Event.TheVariants.{Init, Write, Dsb}
-use Rattle.bbm_rules.specs.Places.{page_of, among, with_number}
+use Rattle.bbm_rules.specs.Lists.{among, with_number}
+use Rattle.bbm_rules.specs.Places.{page_of}
 
 -- Value: the value of the last write of the place since the last init of its page, else 0.
 -- Source: project's own choice.

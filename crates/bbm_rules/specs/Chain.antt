@@ -1,7 +1,0 @@
--- `do` over Option: `x ← o` goes on with the value that o has, and gives None where it has none.
--- Source: project's own choice.
-use Rattle.std.specs.Prelude.{Option, option_and_then}
-
-infixl 10 ◌>>=◌
-abbrev pub ◌>>=◌ : {A B : Type 0} → Option A → (A → Option B) → Option B
-o >>= f = option_and_then f o
