@@ -4,6 +4,7 @@ pub mod CasesStage2
 pub mod CasesKernel
 pub mod ReadableLaw
 pub mod OpenLaw
+pub mod SearchLemmas
 pub mod TagLaw
 pub mod NotesLaw
 pub mod CasesClaims
