@@ -1,4 +1,4 @@
--- What a search of a list finds, and that it finds what is there.
+-- What a search finds, and that it finds what is there; later items keep what it found.
 use Rattle.std.proofs.Common.{◌≡◌, Bool, true, false, List, [], ◌∷◌, ◌++◌, refl, sym, ◌∙◌, ap, subst, inl, inr, true≢false}
 use Rattle.std.proofs.lemmas.Bool.{or_cases, or_left, or_right, or_parts, or_from}
 use Rattle.bbm_rules.proofs.OpenLaw.{In}
@@ -50,21 +50,35 @@ pub is_none_at : {A : Type 0} (test : A → Bool) (xs : List A)
 is_none_at test xs all =
     is_none_of test xs (λ x i. let r = split_in xs x i in all x r.0 r.1 r.2)
 
+-- an item of a history that passes the test, with what came before it
+pub record Found {A : Type 0} (test : A → List A → Bool) (h : List A) : Type 0 where
+  pub newer : List A
+  pub item : A
+  pub older : List A
+  pub split : h ≡ newer ++ item ∷ older
+  pub passed : test item older ≡ true
+
 module _ {A : Type 0} (test : A → List A → Bool) where
-  pub some_found : (h : List A) → some test h ≡ true
-      → (newer : List A) × (x : A) × (older : List A) × (h ≡ newer ++ x ∷ older) × (test x older ≡ true)
-  some_found [] k = absurd (true≢false (sym k))
-  some_found (x ∷ h) k =
-      elim (or_cases (test x h) (some test h) k) [
-        | inl here ↦ ([], x, h, refl, here)
+  -- later items keep what was found
+  pub some_later : (newer older : List A) → some test older ≡ true → some test (newer ++ older) ≡ true
+  some_later [] older s = s
+  some_later (x ∷ newer) older s =
+      or_right (test x (newer ++ older)) (some test (newer ++ older)) (some_later newer older s)
+
+  pub some_found : (h : List A) → some test h ≡ true → Found test h
+  some_found [] s = absurd (true≢false (sym s))
+  some_found (x ∷ h) s =
+      elim (or_cases (test x h) (some test h) s) [
+        | inl here ↦ record { newer = []; item = x; older = h; split = refl; passed = here }
         | inr there ↦
-            let r = some_found h there in (x ∷ r.0, r.1, r.2, ap (λ (es : List A). x ∷ es) r.3, r.4)
+            let f : Found test h = some_found h there in
+            record { newer = x ∷ f.newer; item = f.item; older = f.older; split = ap (λ xs. x ∷ xs) f.split; passed = f.passed }
       ]
 
-  pub some_finds : (newer older : List A) (x : A) → test x older ≡ true → some test (newer ++ x ∷ older) ≡ true
-  some_finds [] older x k = or_left (test x older) (some test older) k
-  some_finds (y ∷ newer) older x k =
-      or_right (test y (newer ++ x ∷ older)) (some test (newer ++ x ∷ older)) (some_finds newer older x k)
+  pub some_finds : (h : List A) → Found test h → some test h ≡ true
+  some_finds h f =
+      subst (λ (xs : List A). some test xs ≡ true) (sym f.split)
+      (some_later f.newer (f.item ∷ f.older) (or_left (test f.item f.older) (some test f.older) f.passed))
 
   pub none_before : (h : List A) → some test h ≡ false
       → (newer : List A) (x : A) (older : List A) → h ≡ newer ++ x ∷ older → test x older ≡ false
@@ -73,7 +87,8 @@ module _ {A : Type 0} (test : A → List A → Bool) where
       by : (b : Bool) → test x older ≡ b → test x older ≡ false
       by false t = t
       by true t =
-          absurd (true≢false (sym (some_finds newer older x t) ∙ (ap (some test) (sym e) ∙ k)))
+          absurd (true≢false
+          (sym (some_finds h (record { newer = newer; item = x; older = older; split = e; passed = t })) ∙ k))
 
   pub is_none_before : (h : List A)
       → ((newer : List A) (x : A) (older : List A) → h ≡ newer ++ x ∷ older → test x older ≡ false) → some test h ≡ false
@@ -82,7 +97,14 @@ module _ {A : Type 0} (test : A → List A → Bool) where
       or_from (test x h) (some test h) (all [] x h refl)
       (is_none_before h (λ newer y older e. all (x ∷ newer) y older (ap (λ (es : List A). x ∷ es) e)))
 
-  -- later events keep what was found
-  pub some_later : (newer h : List A) → some test h ≡ true → some test (newer ++ h) ≡ true
-  some_later [] h k = k
-  some_later (x ∷ newer) h k = or_right (test x (newer ++ h)) (some test (newer ++ h)) (some_later newer h k)
+pub some_weaker : {A : Type 0} (test other : A → List A → Bool) (h : List A)
+    → ((x : A) (older : List A) → test x older ≡ true → other x older ≡ true) → some test h ≡ true → some other h ≡ true
+some_weaker test other h weaker s =
+    let f : Found test h = some_found test h s in
+    some_finds other h (record {
+      newer = f.newer;
+      item = f.item;
+      older = f.older;
+      split = f.split;
+      passed = weaker f.item f.older f.passed;
+    })

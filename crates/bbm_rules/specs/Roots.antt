@@ -1,6 +1,6 @@
 -- Roots of translation tables. A history is newest first.
 -- Source: project's own choice, but where another is named.
-use Rattle.std.specs.Prelude.{ℕ, zero, suc, ◌+◌, ◌-◌, ◌*◌, ◌/◌, ◌^◌, Bool, true, false, not, ◌&&◌, ◌==◌, List, [], ◌∷◌, Option, filter, find}
+use Rattle.std.specs.Prelude.{ℕ, zero, suc, ◌+◌, ◌-◌, ◌*◌, ◌/◌, ◌^◌, Bool, true, false, not, ◌&&◌, ◌==◌, List, [], ◌∷◌, Option, filter, find, if◌then◌else◌}
 use Rattle.bbm_regimes.specs.Extent.{span_of}
 use Rattle.bbm_regimes.specs.declared.regime.Kind.{Kind}
 use Rattle.bbm_regimes.specs.declared.regime.Kind.TheVariants.{El2, S2, Ttbr0, Ttbr1}
@@ -61,10 +61,6 @@ kind_in_world (Kernel start0 start1 asid_from) Ttbr0 = true
 kind_in_world (Kernel start0 start1 asid_from) Ttbr1 = true
 kind_in_world _ _ = false
 
--- the roots that have trees: a kind of the other world has none
-abbrev pub roots_in : World → List Event → List Declared
-roots_in world h = filter (λ r. kind_in_world world r.kind) (roots_of h)
-
 -- The level at which walks of a kind start: the header's.
 -- Source: Arm ARM (DDI 0487), "VMSAv8-64 translation table walks".
 abbrev pub start_of : World → Kind → ℕ
@@ -80,13 +76,13 @@ abbrev pub page_count : World → Kind → ℕ
 page_count (Hyp el2_start s2_start s2_pages) S2 = s2_pages
 page_count _ _ = 1
 
--- the pages of a root: so many consecutive pages from its first on
+-- the pages of a root: so many consecutive pages from its first on; a kind of the other world has none, so no tree
 abbrev pub pages_from : ℕ → ℕ → List ℕ
 pages_from page zero = []
 pages_from page (suc n) = page ∷ pages_from (page + 4096) n
 
 abbrev pub root_pages : World → Kind → ℕ → List ℕ
-root_pages world kind page = pages_from page (page_count world kind)
+root_pages world kind page = if kind_in_world world kind then pages_from page (page_count world kind) else []
 
 -- the number of input pages that one descriptor of a level translates
 abbrev pub input_pages : ℕ → ℕ
