@@ -4,7 +4,11 @@ pub mod CasesStage2
 pub mod CasesKernel
 pub mod ReadableLaw
 pub mod OpenLaw
+pub mod EqualityLaw
 pub mod SearchLemmas
+pub mod LockLaw
+pub mod RegisterLaw
+pub mod RootLaw
 pub mod TagLaw
 pub mod NotesLaw
 pub mod CasesClaims
