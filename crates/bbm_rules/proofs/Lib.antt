@@ -4,10 +4,14 @@ pub mod CasesStage2
 pub mod CasesKernel
 pub mod ReadableLaw
 pub mod OpenLaw
+pub mod EqualityLaw
+pub mod SearchLemmas
+pub mod LockLaw
+pub mod RegisterLaw
+pub mod RootLaw
 pub mod TagLaw
 pub mod NotesLaw
 pub mod CasesClaims
-pub mod SearchLemmas
 pub mod Patterns
 pub mod ListLemmas
 pub mod RuleLemmas

@@ -12,7 +12,7 @@ use Rattle.bbm_events.specs.declared.event.Event.TheVariants.{Root, Unroot, Writ
 use Rattle.bbm_rules.proofs.FreshLemmas.{Settled, settled_on}
 use Rattle.bbm_rules.proofs.GrowthLemmas.{InTree, OneNode, first_pages, fresh_has_none, from_tree, has_node, node_found, still_one}
 use Rattle.bbm_rules.proofs.HeldLemmas.{ValidAt, held_cases, held_is_valid}
-use Rattle.bbm_rules.proofs.ListLemmas.{Parted, append_none, apart, in_left, in_pages, in_right, least_none, none_in, parted, to_filter}
+use Rattle.bbm_rules.proofs.ListLemmas.{Parted, append_none, apart, from_filter, in_left, in_pages, in_right, least_none, none_in, parted, to_filter}
 use Rattle.bbm_rules.proofs.OpenLaw.{In, from_contains}
 use Rattle.bbm_rules.proofs.PathLemmas.{AllFresh}
 use Rattle.bbm_rules.proofs.RuleLemmas.{Kept, if_none, kept}
@@ -25,21 +25,14 @@ use Rattle.bbm_rules.specs.Notes.{Noted, events_of}
 use Rattle.bbm_rules.specs.Pages.{is_fresh}
 use Rattle.bbm_rules.specs.Lists.{if_so, repeated}
 use Rattle.bbm_rules.specs.Places.{page_of}
-use Rattle.bbm_rules.specs.Roots.{Declared, first_input_page, input_pages, retired, root_pages, roots_of, start_of}
+use Rattle.bbm_rules.specs.Roots.{Declared, first_input_page, input_pages, is_at, retired, root_pages, roots_of, start_of}
 use Rattle.bbm_rules.specs.Rules.{bad_ends, judged_ends, not_fresh, of_attached, unfresh, untracked_page}
 use Rattle.bbm_rules.specs.Tree.{Node, held_at, next_in, next_of, node_below, node_of, nodes_at, nodes_of_pages, nodes_of_root, region_start, tree}
 
 -- ---- the roots
 
-retired_by : (b : Bool) (r : Declared) (rs qs : List Declared) (s : Declared) → In (cond b rs (r ∷ rs)) s
-    → (In rs s → In qs s) → In (r ∷ qs) s
-retired_by true r rs qs s i rest = inr (rest i)
-retired_by false r rs qs s (inl e) rest = inl e
-retired_by false r rs qs s (inr i) rest = inr (rest i)
-
 in_retired : (page : ℕ) (rs : List Declared) (s : Declared) → In (retired page rs) s → In rs s
-in_retired page [] s i = i
-in_retired page (r ∷ rs) s i = retired_by (r.page == page) r (retired page rs) rs s i (in_retired page rs s)
+in_retired page rs s i = (from_filter (λ (r : Declared). not (is_at page r)) rs s i).0
 
 in_first : (level : ℕ) (pages : List ℕ) (e : End) → In (map (end_at level) pages) e → In pages e.page
 in_first level [] e i = absurd i

@@ -1,15 +1,12 @@
 -- How far a TLBI covers each place at its issue, and the history annotated with it. Source: project's own choice.
-use Rattle.std.specs.Prelude.{ℕ, suc, Bool, false, List, [], ◌∷◌, length, Option, Some, is_some, Result, Ok}
+use Rattle.std.specs.Prelude.{ℕ, suc, Bool, false, List, [], ◌∷◌, length, Option, Some, None, is_some, unwrap_or}
 use Rattle.bbm_descriptor.specs.Descriptor.{desc_of}
 use Rattle.bbm_descriptor.specs.declared.desc.Desc.{Desc}
 use Rattle.bbm_descriptor.specs.declared.desc.Desc.TheVariants.{Leaf}
 use Rattle.bbm_tlbi_scope.specs.declared.entry.Cover.{Cover}
 use Rattle.bbm_tlbi_scope.specs.declared.entry.Cover.TheVariants.{None as NoCover}
 use Rattle.bbm_tlbi_scope.specs.declared.entry.PlaceView.{PlaceView}
-use Rattle.bbm_tlbi_scope.specs.declared.scope.BadOperand.{BadOperand}
-use Rattle.bbm_tlbi_scope.specs.declared.scope.Scope.{Scope}
 use Rattle.bbm_tlbi_scope.specs.Covers.{cover_of}
-use Rattle.bbm_tlbi_scope.specs.Decode.{scope_of}
 use Rattle.bbm_events.specs.Heading.{Heading}
 use Rattle.bbm_events.specs.declared.event.Event.{Event}
 use Rattle.bbm_events.specs.declared.event.Event.TheVariants.{Tlbi}
@@ -17,7 +14,7 @@ use Rattle.bbm_rules.specs.Claims.{Trust}
 use Rattle.bbm_rules.specs.Lists.{◌>>=◌}
 use Rattle.bbm_rules.specs.Notes.{Noted, events_of}
 use Rattle.bbm_rules.specs.Places.{page_of}
-use Rattle.bbm_rules.specs.Registers.{vmid_of}
+use Rattle.bbm_rules.specs.Registers.{named_scope, vmid_of}
 use Rattle.bbm_rules.specs.Tags.{tag_set, tags_of}
 use Rattle.bbm_rules.specs.Tree.{Node, held_at, is_childless, next_of, node_of, region_of}
 
@@ -25,10 +22,6 @@ use Rattle.bbm_rules.specs.Tree.{Node, held_at, is_childless, next_of, node_of, 
 abbrev pub is_global : Desc → Bool
 is_global (Leaf out attrs share global contiguous) = global
 is_global _ = false
-
-abbrev pub cover_with : Result Scope BadOperand → Option ℕ → Option PlaceView → Cover
-cover_with (Ok scope) vmid (Some view) = cover_of scope vmid view
-cover_with _ vmid view = NoCover
 
 module _ (heading : Heading) (trust : Trust) where
   module _ (h : List Noted) where
@@ -56,9 +49,15 @@ module _ (heading : Heading) (trust : Trust) where
     -- issuer then has. It covers nothing where its operand can't be decoded, where it needs a VMID and there are
     -- several, and where the place is in no tree or holds nothing.
     -- Source: Arm ARM (DDI 0487), "TLB maintenance instructions".
+    abbrev pub covered : Event → ℕ → Option Cover
+    covered (Tlbi pe op xt) place = do
+      scope ← named_scope heading (events_of h) pe op xt
+      view ← view_at place
+      Some (cover_of scope (vmid_of heading (events_of h) pe) view)
+    covered _ place = None
+
     abbrev pub cover_at : Event → ℕ → Cover
-    cover_at (Tlbi pe op xt) place = cover_with (scope_of op xt) (vmid_of heading (events_of h) pe) (view_at place)
-    cover_at _ place = NoCover
+    cover_at e place = unwrap_or (covered e place) NoCover
 
     -- the event with its notes, by those of the events before it
     abbrev pub note : Event → Noted

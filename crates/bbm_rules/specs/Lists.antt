@@ -7,10 +7,10 @@ infixl 10 ◌>>=◌
 abbrev pub ◌>>=◌ : {A B : Type 0} → Option A → (A → Option B) → Option B
 o >>= f = option_and_then f o
 
--- the number where the test holds
-abbrev pub if_so : Bool → ℕ → Option ℕ
-if_so false n = None
-if_so true n = Some n
+-- the item where the test holds
+abbrev pub if_so : {A : Type 0} → Bool → A → Option A
+if_so false x = None
+if_so true x = Some x
 
 -- whether there is a number and it is this one
 abbrev pub is_that : Option ℕ → ℕ → Bool

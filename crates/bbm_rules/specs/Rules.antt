@@ -12,7 +12,7 @@ use Rattle.bbm_descriptor.specs.declared.desc.Desc.TheVariants.{Leaf}
 use Rattle.bbm_tlbi_scope.specs.declared.scope.BadOperand.{BadOperand}
 use Rattle.bbm_tlbi_scope.specs.declared.scope.Scope.{Scope}
 use Rattle.bbm_tlbi_scope.specs.Decode.{scope_of}
-use Rattle.bbm_tlbi_scope.specs.Operations.{of_world, scoped_by_vmid}
+use Rattle.bbm_tlbi_scope.specs.Operations.{of_world}
 use Rattle.bbm_events.specs.Heading.{Heading}
 use Rattle.bbm_events.specs.declared.event.Event.{Event}
 use Rattle.bbm_events.specs.declared.event.Event.TheVariants.{Init, Null, Root, Unroot, Write, Tlbi, Msr, Lock, Unlock}
@@ -24,7 +24,7 @@ use Rattle.bbm_rules.specs.Notes.{Noted, events_of}
 use Rattle.bbm_rules.specs.Pages.{is_fresh, is_null}
 use Rattle.bbm_rules.specs.Lists.{◌>>=◌, any, if_so, is_that, least, repeated, some_pe}
 use Rattle.bbm_rules.specs.Places.{page_of}
-use Rattle.bbm_rules.specs.Registers.{base_of, kind_of_reg, register_values, vmid_of}
+use Rattle.bbm_rules.specs.Registers.{base_of, kind_of_reg, lacks_vmid, register_values}
 use Rattle.bbm_rules.specs.Roots.{Declared, is_root, kind_in_world, lock_of, root_at, root_pages, roots_of, same_kind}
 use Rattle.bbm_rules.specs.Tags.{Reading, holds_tag, readings, tags_of}
 use Rattle.bbm_rules.specs.Tree.{held_at, in_limbo, in_tree, node_of}
@@ -220,7 +220,7 @@ module _ (heading : Heading) (trust : Trust) (h : List Noted) where
   -- 14, unsynced-vmid: in the Hyp world, a TLBI scoped by VMID comes from a PE whose readable values of VTTBR_EL2 have
   -- more than one VMID. At: the PE's number.
   abbrev pub unsynced_vmid : Event → Option ℕ
-  unsynced_vmid (Tlbi pe op xt) = if_so (scoped_by_vmid op && is_none (vmid_of heading (events_of h) pe)) pe
+  unsynced_vmid (Tlbi pe op xt) = if_so (lacks_vmid heading (events_of h) pe op) pe
   unsynced_vmid _ = None
 
   -- 15, bad-operand: the operand of a TLBI can't be decoded. At: the operand.

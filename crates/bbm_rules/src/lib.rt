@@ -3,6 +3,7 @@
 
 pub mod checker;
 pub mod claim;
+pub mod event_laws;
 pub mod first_path;
 pub mod laws;
 pub mod phase;
@@ -12,6 +13,9 @@ pub mod verdict;
 
 pub use checker::Checker;
 pub use claim::Claim;
+pub use event_laws::{
+    law_equality_tests, law_lock_held, law_published, law_readable_register, law_root,
+};
 pub use first_path::FirstPathChecker;
 pub use laws::{
     law_answered, law_notes_keep_the_events, law_one_node, law_readable_value, law_tag_held,
@@ -23,6 +27,9 @@ pub use verdict::Verdict;
 
 #[cfg(test)]
 mod tests {
+    use crate::event_laws::{
+        law_equality_tests, law_lock_held, law_published, law_readable_register, law_root,
+    };
     use crate::laws::{
         law_answered, law_notes_keep_the_events, law_one_node, law_readable_value, law_tag_held,
     };
@@ -30,9 +37,14 @@ mod tests {
     #[test]
     fn laws_hold() {
         law_answered();
+        law_equality_tests();
+        law_lock_held();
         law_notes_keep_the_events();
         law_one_node();
+        law_published();
+        law_readable_register();
         law_readable_value();
+        law_root();
         law_tag_held();
     }
 }
