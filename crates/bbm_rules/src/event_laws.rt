@@ -5,11 +5,12 @@ ghost use Rattle.std.specs.Prelude.{◌≡◌, ◌↔◌, ℕ, true, false, List
 ghost use Rattle.bbm_regimes.specs.declared.regime.Kind.{Kind};
 ghost use Rattle.bbm_regimes.specs.declared.regime.Reg.{Reg};
 ghost use Rattle.bbm_regimes.specs.declared.regime.Tag.{Tag};
+ghost use Rattle.bbm_tlbi_scope.specs.declared.entry.TagSet.TheVariants.{None as NoTag, One, Many};
 ghost use Rattle.bbm_events.specs.Heading.{Heading};
 ghost use Rattle.bbm_events.specs.declared.event.Event.{Event};
 ghost use Rattle.bbm_rules.specs.declared.claim.Claim.{Claim};
 ghost use Rattle.bbm_rules.specs.Changes.{changes};
-ghost use Rattle.bbm_rules.specs.Claims.{same_claim, same_tag};
+ghost use Rattle.bbm_rules.specs.Claims.{Trust, same_claim, same_tag};
 ghost use Rattle.bbm_rules.specs.Lists.{among};
 ghost use Rattle.bbm_rules.specs.Locks.{holder_of};
 ghost use Rattle.bbm_rules.specs.Pages.{initialised, is_null};
@@ -17,7 +18,7 @@ ghost use Rattle.bbm_rules.specs.Reach.{unanswered};
 ghost use Rattle.bbm_rules.specs.Registers.{register_values, same_reg};
 ghost use Rattle.bbm_rules.specs.Roots.{Declared, root_at, roots_of, same_kind};
 ghost use Rattle.bbm_rules.specs.Sentences.{HoldsLock, IsDeclared, Published, ReadableRegister};
-ghost use Rattle.bbm_rules.specs.Tags.{itself};
+ghost use Rattle.bbm_rules.specs.Tags.{holds_tag, itself, tag_set, tags_of};
 ghost use Rattle.bbm_rules.specs.Values.{published, value_of, written_places};
 
 /// The tests for equality of tags, registers, kinds and claims hold exactly where the two are equal. The call does
@@ -89,4 +90,19 @@ pub fn law_changes()
         unanswered itself q (e ∷ h) ≡ unanswered itself q h }
     ensures locks { (e : Event) (h : List Event) (lock : ℕ) → (changes e).locks ≡ false →
         holder_of (e ∷ h) lock ≡ holder_of h lock }
+{}
+
+/// The tag set of a root says which tags it holds: none; one and no other; or two different ones at least. The call
+/// does nothing; the law is its contract.
+#[tactic(auto, using(crate::proofs::TagSetLaw::laws))]
+pub fn law_tag_set()
+    ensures none { (heading : Heading) (trust : Trust) (root : ℕ) (h : List Event) →
+        tag_set (tags_of heading trust root h) ≡ NoTag → (tag : Tag) → holds_tag heading trust root tag h ≡ false }
+    ensures one { (heading : Heading) (trust : Trust) (root : ℕ) (h : List Event) (g : Tag) →
+        tag_set (tags_of heading trust root h) ≡ One g → (tag : Tag) →
+        holds_tag heading trust root tag h ≡ same_tag g tag }
+    ensures many { (heading : Heading) (trust : Trust) (root : ℕ) (h : List Event) →
+        tag_set (tags_of heading trust root h) ≡ Many →
+        (g k : Tag) × (same_tag g k ≡ false) × (holds_tag heading trust root g h ≡ true)
+        × (holds_tag heading trust root k h ≡ true) }
 {}

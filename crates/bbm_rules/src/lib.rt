@@ -15,6 +15,7 @@ pub use checker::Checker;
 pub use claim::Claim;
 pub use event_laws::{
     law_changes, law_equality_tests, law_lock_held, law_published, law_readable_register, law_root,
+    law_tag_set,
 };
 pub use first_path::FirstPathChecker;
 pub use laws::{
@@ -47,6 +48,7 @@ mod tests {
         law_readable_register();
         law_readable_value();
         law_root();
+        law_tag_set();
         law_tag_held();
     }
 }
