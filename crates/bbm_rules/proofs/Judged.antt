@@ -1,5 +1,5 @@
 -- The words in which the worked cases are written.
-use Rattle.std.specs.Prelude.{ℕ, List, reverse}
+use Rattle.std.specs.Prelude.{ℕ, false, List, reverse}
 use Rattle.bbm_regimes.specs.declared.regime.AsidFrom.{AsidFrom}
 use Rattle.bbm_regimes.specs.declared.regime.World.TheVariants.{Hyp, Kernel}
 use Rattle.bbm_barriers.specs.declared.Dsb.{Dsb as Barrier}
@@ -17,10 +17,10 @@ judged heading log = verdict_of heading Patterns (reverse log)
 
 -- the two forms of a header: the number of PEs, and the fields of the world
 abbrev pub hyp : ℕ → ℕ → ℕ → ℕ → Heading
-hyp pes el2_start s2_start s2_pages = record { pes = pes; world = Hyp el2_start s2_start s2_pages }
+hyp pes el2_start s2_start s2_pages = record { version = 1; pes = pes; cnp = false; world = Hyp el2_start s2_start s2_pages }
 
 abbrev pub kernel : ℕ → ℕ → ℕ → AsidFrom → Heading
-kernel pes start0 start1 asid_from = record { pes = pes; world = Kernel start0 start1 asid_from }
+kernel pes start0 start1 asid_from = record { version = 1; pes = pes; cnp = false; world = Kernel start0 start1 asid_from }
 
 -- the options of a DSB
 abbrev pub ish : Barrier
