@@ -7,6 +7,8 @@ pub mod OpenLaw
 pub mod EqualityLaw
 pub mod SearchLemmas
 pub mod LockLaw
+pub mod TagSetLaw
+pub mod ChangesLaw
 pub mod RegisterLaw
 pub mod RootLaw
 pub mod TagLaw

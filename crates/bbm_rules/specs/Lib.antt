@@ -1,6 +1,7 @@
 pub mod Answers
 pub mod Attach
 pub mod Broken
+pub mod Changes
 pub mod Claims
 pub mod Cleansing
 pub mod Covers

@@ -6,6 +6,7 @@ use Rattle.bbm_regimes.specs.declared.regime.Kind.{Kind}
 use Rattle.bbm_regimes.specs.declared.regime.Kind.TheVariants.{El2, S2, Ttbr0, Ttbr1}
 use Rattle.bbm_regimes.specs.declared.regime.World.{World}
 use Rattle.bbm_regimes.specs.declared.regime.World.TheVariants.{Hyp, Kernel}
+use Rattle.bbm_regimes.specs.World.{page_count}
 use Rattle.bbm_events.specs.declared.event.Event.{Event}
 use Rattle.bbm_events.specs.declared.event.Event.TheVariants.{Root, Unroot}
 use Rattle.bbm_rules.specs.Lists.{◌>>=◌, any}
@@ -69,12 +70,6 @@ start_of (Hyp el2_start s2_start s2_pages) S2 = s2_start
 start_of (Kernel start0 start1 asid_from) Ttbr0 = start0
 start_of (Kernel start0 start1 asid_from) Ttbr1 = start1
 start_of _ _ = 0
-
--- The number of pages of a root: one, or the header's number of joined pages at stage 2.
--- Source: Arm ARM (DDI 0487), "VMSAv8-64 translation table walks", concatenated tables.
-abbrev pub page_count : World → Kind → ℕ
-page_count (Hyp el2_start s2_start s2_pages) S2 = s2_pages
-page_count _ _ = 1
 
 -- the pages of a root: so many consecutive pages from its first on; a kind of the other world has none, so no tree
 abbrev pub pages_from : ℕ → ℕ → List ℕ

@@ -1,7 +1,9 @@
 -- The values of a place, and which of them a PE may still read. A history is newest first.
 -- Source: project's own choice, but where another is named.
-use Rattle.std.specs.Prelude.{ℕ, Bool, false, ◌&&◌, ◌==◌, List, [], ◌∷◌, filter, if◌then◌else◌}
+use Rattle.std.specs.Prelude.{ℕ, Bool, true, false, not, ◌&&◌, ◌==◌, List, [], ◌∷◌, filter, if◌then◌else◌}
 use Rattle.bbm_barriers.specs.declared.Dsb.{Dsb as Barrier}
+use Rattle.bbm_barriers.specs.declared.Domain.{Domain}
+use Rattle.bbm_barriers.specs.declared.Domain.TheVariants.{Non}
 use Rattle.bbm_barriers.specs.Options.{publishes}
 use Rattle.bbm_events.specs.Heading.{Heading}
 use Rattle.bbm_events.specs.declared.event.Event.{Event}
@@ -29,10 +31,14 @@ is_in_page page place = page_of place == page
 abbrev pub places_in : List Event → ℕ → List ℕ
 places_in h page = filter (is_in_page page) (written_places h)
 
+abbrev pub is_non : Domain → Bool
+is_non Non = true
+is_non _ = false
+
 module _ (heading : Heading) where
-  -- whether a DSB of q publishes its earlier writes to p
+  -- whether a DSB of q publishes its earlier writes to p; under `cnp` one of the non-shareable domain publishes nothing
   abbrev pub publishes_to : Barrier → ℕ → ℕ → Bool
-  publishes_to dsb q p = publishes dsb q heading.pes p
+  publishes_to dsb q p = publishes dsb q heading.pes p && not (heading.cnp && is_non dsb.domain)
 
   -- Published: a write of the PE q is published to p where a later DSB of q publishes to p. Here `later` are the
   -- events after the write, in any order.

@@ -1,20 +1,25 @@
 //! Laws of the definitions on plain events: the tests decide what they name, and what computes says the same as a
 //! sentence over all ways to split a history.
 
-ghost use Rattle.std.specs.Prelude.{◌≡◌, ◌↔◌, ℕ, true, List, Some, Contains};
+ghost use Rattle.std.specs.Prelude.{◌≡◌, ◌↔◌, ℕ, true, false, List, ◌∷◌, Some, Contains};
 ghost use Rattle.bbm_regimes.specs.declared.regime.Kind.{Kind};
 ghost use Rattle.bbm_regimes.specs.declared.regime.Reg.{Reg};
 ghost use Rattle.bbm_regimes.specs.declared.regime.Tag.{Tag};
+ghost use Rattle.bbm_tlbi_scope.specs.declared.entry.TagSet.TheVariants.{None as NoTag, One, Many};
 ghost use Rattle.bbm_events.specs.Heading.{Heading};
 ghost use Rattle.bbm_events.specs.declared.event.Event.{Event};
 ghost use Rattle.bbm_rules.specs.declared.claim.Claim.{Claim};
-ghost use Rattle.bbm_rules.specs.Claims.{same_claim, same_tag};
+ghost use Rattle.bbm_rules.specs.Changes.{changes};
+ghost use Rattle.bbm_rules.specs.Claims.{Trust, same_claim, same_tag};
 ghost use Rattle.bbm_rules.specs.Lists.{among};
 ghost use Rattle.bbm_rules.specs.Locks.{holder_of};
+ghost use Rattle.bbm_rules.specs.Pages.{initialised, is_null};
+ghost use Rattle.bbm_rules.specs.Reach.{unanswered};
 ghost use Rattle.bbm_rules.specs.Registers.{register_values, same_reg};
 ghost use Rattle.bbm_rules.specs.Roots.{Declared, root_at, roots_of, same_kind};
 ghost use Rattle.bbm_rules.specs.Sentences.{HoldsLock, IsDeclared, Published, ReadableRegister};
-ghost use Rattle.bbm_rules.specs.Values.{published};
+ghost use Rattle.bbm_rules.specs.Tags.{holds_tag, itself, tag_set, tags_of};
+ghost use Rattle.bbm_rules.specs.Values.{published, value_of, written_places};
 
 /// The tests for equality of tags, registers, kinds and claims hold exactly where the two are equal. The call does
 /// nothing; the law is its contract.
@@ -64,4 +69,40 @@ pub fn law_published()
         published heading q p later ≡ true → Published heading q p later }
     ensures complete { (heading : Heading) (q p : ℕ) (later : List Event) →
         Published heading q p later → published heading q p later ≡ true }
+{}
+
+/// An event keeps the answer of each definition that its row of the table of changes doesn't name. The call does
+/// nothing; the law is its contract.
+#[tactic(auto, using(crate::proofs::ChangesLaw::laws))]
+pub fn law_changes()
+    ensures values { (e : Event) (h : List Event) (place : ℕ) → (changes e).values ≡ false →
+        value_of (e ∷ h) place ≡ value_of h place }
+    ensures written { (e : Event) (h : List Event) → (changes e).values ≡ false → written_places (e ∷ h) ≡ written_places h }
+    ensures publications { (heading : Heading) (q p : ℕ) (e : Event) (later : List Event) →
+        (changes e).publications ≡ false → published heading q p (e ∷ later) ≡ published heading q p later }
+    ensures inits { (e : Event) (h : List Event) → (changes e).inits ≡ false → initialised (e ∷ h) ≡ initialised h }
+    ensures nulls { (e : Event) (h : List Event) (page : ℕ) → (changes e).nulls ≡ false →
+        is_null (e ∷ h) page ≡ is_null h page }
+    ensures roots { (e : Event) (h : List Event) → (changes e).roots ≡ false → roots_of (e ∷ h) ≡ roots_of h }
+    ensures registers { (e : Event) (h : List Event) (p : ℕ) (reg : Reg) → (changes e).registers ≡ false →
+        register_values (e ∷ h) p reg ≡ register_values h p reg }
+    ensures flushes { (e : Event) (h : List Event) (q : ℕ) → (changes e).flushes ≡ false →
+        unanswered itself q (e ∷ h) ≡ unanswered itself q h }
+    ensures locks { (e : Event) (h : List Event) (lock : ℕ) → (changes e).locks ≡ false →
+        holder_of (e ∷ h) lock ≡ holder_of h lock }
+{}
+
+/// The tag set of a root says which tags it holds: none; one and no other; or two different ones at least. The call
+/// does nothing; the law is its contract.
+#[tactic(auto, using(crate::proofs::TagSetLaw::laws))]
+pub fn law_tag_set()
+    ensures none { (heading : Heading) (trust : Trust) (root : ℕ) (h : List Event) →
+        tag_set (tags_of heading trust root h) ≡ NoTag → (tag : Tag) → holds_tag heading trust root tag h ≡ false }
+    ensures one { (heading : Heading) (trust : Trust) (root : ℕ) (h : List Event) (g : Tag) →
+        tag_set (tags_of heading trust root h) ≡ One g → (tag : Tag) →
+        holds_tag heading trust root tag h ≡ same_tag g tag }
+    ensures many { (heading : Heading) (trust : Trust) (root : ℕ) (h : List Event) →
+        tag_set (tags_of heading trust root h) ≡ Many →
+        (g k : Tag) × (same_tag g k ≡ false) × (holds_tag heading trust root g h ≡ true)
+        × (holds_tag heading trust root k h ≡ true) }
 {}

@@ -14,7 +14,8 @@ pub mod verdict;
 pub use checker::Checker;
 pub use claim::Claim;
 pub use event_laws::{
-    law_equality_tests, law_lock_held, law_published, law_readable_register, law_root,
+    law_changes, law_equality_tests, law_lock_held, law_published, law_readable_register, law_root,
+    law_tag_set,
 };
 pub use first_path::FirstPathChecker;
 pub use laws::{
@@ -28,7 +29,8 @@ pub use verdict::Verdict;
 #[cfg(test)]
 mod tests {
     use crate::event_laws::{
-        law_equality_tests, law_lock_held, law_published, law_readable_register, law_root,
+        law_changes, law_equality_tests, law_lock_held, law_published, law_readable_register,
+        law_root,
     };
     use crate::laws::{
         law_answered, law_notes_keep_the_events, law_one_node, law_readable_value, law_tag_held,
@@ -37,6 +39,7 @@ mod tests {
     #[test]
     fn laws_hold() {
         law_answered();
+        law_changes();
         law_equality_tests();
         law_lock_held();
         law_notes_keep_the_events();
@@ -45,6 +48,7 @@ mod tests {
         law_readable_register();
         law_readable_value();
         law_root();
+        law_tag_set();
         law_tag_held();
     }
 }
