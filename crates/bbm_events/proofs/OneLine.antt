@@ -16,12 +16,12 @@ use Rattle.bbm_events.specs.declared.event.Item.{Item}
 use Rattle.bbm_events.specs.declared.event.Item.TheVariants as item
 use Rattle.bbm_events.specs.declared.malformed.Malformed.{Malformed}
 use Rattle.bbm_events.specs.declared.malformed.Malformed.TheVariants.{NoMagic, BadHeader, UnknownWord, BadNumber, BadPe, BadAddress, MissingField}
-use Rattle.bbm_events.specs.Heading.{Heading, heading_ok}
+use Rattle.bbm_events.specs.Heading.{Heading, heading_ok, is_version, may_share}
 use Rattle.bbm_events.specs.Spelling.{fields, hex, decimal_value, hex_value}
 use Rattle.bbm_tlbi_scope.specs.Operations.{has_operand}
-use Rattle.bbm_events.specs.Words.{value_of, keyword_word, keywords, kind_word, kinds, reg_word, regs, asid_from_word, asid_froms, dsb_word, dsbs, op_word, ops}
+use Rattle.bbm_events.specs.Words.{with_word, keyword_word, keywords, cnp_word, cnps, kind_word, kinds, reg_word, regs, asid_from_word, asid_froms, dsb_word, dsbs, op_word, ops}
 use Rattle.bbm_events.specs.Fits.{is_pe, is_page, is_place, is_lock, is_count, is_root_page}
-use Rattle.bbm_events.specs.Lines.{Fields, Reading, next_field, passing, checked, header_field, hyp_fields, kernel_fields, world_fields, header_of, item_of, line_after, line_field, pe_field, page_field, place_field, root_page_field, value_field, operand_field, lock_field, lock_value, root_lock, root_lock_field, count_field, kind_field, dsb_field, op_field, reg_field, whole, pe_alone, pe_and, pe_and_two, root_line, tlbi_line, end_line, header_fields, header_line, lock_text, operand_fields, item_fields, item_line, magic_field, exactly}
+use Rattle.bbm_events.specs.Lines.{Fields, FieldRead, next_field, passing, checked, version_field, cnp_field, cnp_fields, header_field, hyp_fields, kernel_fields, world_fields, header_of, item_of, line_after, line_field, pe_field, page_field, place_field, root_page_field, value_field, operand_field, lock_field, lock_value, root_lock, root_lock_field, count_field, kind_field, dsb_field, op_field, reg_field, whole, pe_alone, pe_and, pe_and_two, root_line, tlbi_line, end_line, header_fields, header_line, lock_text, operand_fields, item_fields, item_line, magic_field, exactly}
 use Rattle.bbm_events.proofs.Readings.{bind_ok, field_ok}
 use Rattle.bbm_events.proofs.Joining.{joined_fields}
 use Rattle.bbm_events.proofs.OneSpelling.{decimal_once, hex_once, word_once}
@@ -85,16 +85,16 @@ root_lock_once : (rest : Fields) (x : Option ℕ × Fields) → root_lock_field 
 root_lock_once rest x e = field_once MissingField BadNumber root_lock lock_text lock_text_once rest e
 
 kind_once : (rest : Fields) (x : Kind × Fields) → kind_field rest ≡ Ok x → rest ≡ kind_word x.0 ∷ x.1
-kind_once rest x e = field_once MissingField UnknownWord (value_of kind_word kinds) kind_word (λ text v f. word_once kind_word kinds text f) rest e
+kind_once rest x e = field_once MissingField UnknownWord (with_word kind_word kinds) kind_word (λ text v f. word_once kind_word kinds text f) rest e
 
 dsb_once : (rest : Fields) (x : Dsb × Fields) → dsb_field rest ≡ Ok x → rest ≡ dsb_word x.0 ∷ x.1
-dsb_once rest x e = field_once MissingField UnknownWord (value_of dsb_word dsbs) dsb_word (λ text v f. word_once dsb_word dsbs text f) rest e
+dsb_once rest x e = field_once MissingField UnknownWord (with_word dsb_word dsbs) dsb_word (λ text v f. word_once dsb_word dsbs text f) rest e
 
 op_once : (rest : Fields) (x : TlbiOp × Fields) → op_field rest ≡ Ok x → rest ≡ op_word x.0 ∷ x.1
-op_once rest x e = field_once MissingField UnknownWord (value_of op_word ops) op_word (λ text v f. word_once op_word ops text f) rest e
+op_once rest x e = field_once MissingField UnknownWord (with_word op_word ops) op_word (λ text v f. word_once op_word ops text f) rest e
 
 reg_once : (rest : Fields) (x : Reg × Fields) → reg_field rest ≡ Ok x → rest ≡ reg_word x.0 ∷ x.1
-reg_once rest x e = field_once MissingField UnknownWord (value_of reg_word regs) reg_word (λ text v f. word_once reg_word regs text f) rest e
+reg_once rest x e = field_once MissingField UnknownWord (with_word reg_word regs) reg_word (λ text v f. word_once reg_word regs text f) rest e
 
 operand_once : (op : TlbiOp) (rest : Fields) (x : ℕ × Fields) → operand_field op rest ≡ Ok x → x.1 ≡ [] → rest ≡ operand_fields op x.0
 operand_once op rest x e end = by (has_operand op) e
@@ -112,7 +112,7 @@ pe_alone_once h event rest e =
     let end = whole_end _ pe.0.1 pe.2 in
     (pe.0.0, pe_once h rest pe.1 ∙ ap (λ (left : Fields). decimal pe.0.0 ∷ left) end.0, end.1)
 
-pe_and_once : {A : Type 0} (h : Heading) (second : Fields → Reading A) (event : ℕ → A → Event) (spelling : A → List ℕ)
+pe_and_once : {A : Type 0} (h : Heading) (second : Fields → FieldRead A) (event : ℕ → A → Event) (spelling : A → List ℕ)
     → ((rest : Fields) (x : A × Fields) → second rest ≡ Ok x → rest ≡ spelling x.0 ∷ x.1)
     → (rest : Fields) {x : Item} → pe_and h second event rest ≡ Ok x
     → (pe : ℕ) × (a : A) × (rest ≡ decimal pe ∷ spelling a ∷ []) × (item.Event (event pe a) ≡ x)
@@ -126,7 +126,7 @@ pe_and_once h second event spelling once rest e =
       end.1,
     )
 
-pe_and_two_once : {A B : Type 0} (h : Heading) (second : Fields → Reading A) (third : Fields → Reading B) (event : ℕ → A → B → Event) (spelling : A → List ℕ) (writing : B → List ℕ)
+pe_and_two_once : {A B : Type 0} (h : Heading) (second : Fields → FieldRead A) (third : Fields → FieldRead B) (event : ℕ → A → B → Event) (spelling : A → List ℕ) (writing : B → List ℕ)
     → ((rest : Fields) (x : A × Fields) → second rest ≡ Ok x → rest ≡ spelling x.0 ∷ x.1)
     → ((rest : Fields) (x : B × Fields) → third rest ≡ Ok x → rest ≡ writing x.0 ∷ x.1)
     → (rest : Fields) {x : Item} → pe_and_two h second third event rest ≡ Ok x
@@ -196,13 +196,13 @@ line_once h first.Lock rest e = let l = pe_and_once h lock_field event.Lock deci
 line_once h first.Unlock rest e = let l = pe_and_once h lock_field event.Unlock decimal lock_once rest e in as_item (codes "unlock") rest (decimal l.0 ∷ decimal l.1 ∷ []) (item.Event (event.Unlock l.0 l.1)) l.2 refl l.3
 line_once h first.End rest e = end_line_once rest e
 
-keyword_once : (rest : Fields) {x : Keyword × Fields} → line_field UnknownWord (value_of keyword_word keywords) rest ≡ Ok x → rest ≡ keyword_word x.0 ∷ x.1
-keyword_once rest e = field_once MissingField UnknownWord (value_of keyword_word keywords) keyword_word (λ text v f. word_once keyword_word keywords text f) rest e
+keyword_once : (rest : Fields) {x : Keyword × Fields} → line_field UnknownWord (with_word keyword_word keywords) rest ≡ Ok x → rest ≡ keyword_word x.0 ∷ x.1
+keyword_once rest e = field_once MissingField UnknownWord (with_word keyword_word keywords) keyword_word (λ text v f. word_once keyword_word keywords text f) rest e
 
 pub item_one_line : (h : Heading) (line : List ℕ) (x : Item) → item_of h line ≡ Ok x → line ≡ item_line x
 unfolding item_of item_line
 item_one_line h line x e =
-    let word = bind_ok (line_field UnknownWord (value_of keyword_word keywords) (fields line)) _ e in
+    let word = bind_ok (line_field UnknownWord (with_word keyword_word keywords) (fields line)) _ e in
     joined_fields line (item_fields x) (keyword_once (fields line) word.1 ∙ line_once h word.0.0 word.0.1 word.2)
 
 -- The header.
@@ -230,58 +230,78 @@ checked_once h [] {x = x} e = (refl, by (heading_ok h) e)
     by false f = cc
 checked_once h (text ∷ rest) e = cc
 
+cnp_once : (version : ℕ) (rest : Fields) (x : Bool × Fields) → cnp_field version rest ≡ Ok x → x.1 ≡ [] → rest ≡ cnp_fields version x.0
+cnp_once version rest x e end = by (may_share version) e
+  where
+    by : (shares : Bool) → cond shares (header_field (with_word cnp_word cnps) rest) (Ok (false, rest)) ≡ Ok x → rest ≡ cond shares (cnp_word x.0 ∷ []) []
+    by true f =
+        field_once BadHeader BadHeader (with_word cnp_word cnps) cnp_word (λ text v g. word_once cnp_word cnps text g) rest f
+        ∙ ap (λ (left : Fields). cnp_word x.0 ∷ left) end
+    by false f = let left : rest ≡ x.1 = cc in left ∙ end
+
 -- the fields after the version
 abbrev heading_fields : Heading → Fields
-heading_fields h = header_fields h.pes h.world
+heading_fields h = header_fields h.pes h.world (cnp_fields h.version h.cnp)
 
-hyp_once : (rest : Fields) {x : Heading} → hyp_fields rest ≡ Ok x → codes "hyp" ∷ rest ≡ heading_fields x
-hyp_once rest e =
+hyp_once : (version : ℕ) (rest : Fields) {x : Heading} → hyp_fields version rest ≡ Ok x → (codes "hyp" ∷ rest ≡ heading_fields x) × (version ≡ x.version)
+hyp_once version rest e =
     let pes = bind_ok (header_field decimal_value rest) _ e in
     let el2_start = bind_ok (header_field decimal_value pes.0.1) _ pes.2 in
     let s2_start = bind_ok (header_field decimal_value el2_start.0.1) _ el2_start.2 in
     let s2_pages = bind_ok (header_field decimal_value s2_start.0.1) _ s2_start.2 in
-    let end = checked_once (record { pes = pes.0.0; world = Hyp el2_start.0.0 s2_start.0.0 s2_pages.0.0 }) s2_pages.0.1 s2_pages.2 in
-    ap (λ (left : Fields). codes "hyp" ∷ left) (number_once rest pes.1
-    ∙ ap (λ (left : Fields). decimal pes.0.0 ∷ left) (number_once pes.0.1 el2_start.1
-    ∙ ap (λ (left : Fields). decimal el2_start.0.0 ∷ left) (number_once el2_start.0.1 s2_start.1
-    ∙ ap (λ (left : Fields). decimal s2_start.0.0 ∷ left) (number_once s2_start.0.1 s2_pages.1
-    ∙ ap (λ (left : Fields). decimal s2_pages.0.0 ∷ left) end.0))))
-    ∙ ap heading_fields end.1
+    let cnp = bind_ok (cnp_field version s2_pages.0.1) _ s2_pages.2 in
+    let end = checked_once (record { version = version; pes = pes.0.0; cnp = cnp.0.0; world = Hyp el2_start.0.0 s2_start.0.0 s2_pages.0.0 }) cnp.0.1 cnp.2 in (
+      ap (λ (left : Fields). codes "hyp" ∷ left) (number_once rest pes.1
+          ∙ ap (λ (left : Fields). decimal pes.0.0 ∷ left) (number_once pes.0.1 el2_start.1
+          ∙ ap (λ (left : Fields). decimal el2_start.0.0 ∷ left) (number_once el2_start.0.1 s2_start.1
+          ∙ ap (λ (left : Fields). decimal s2_start.0.0 ∷ left) (number_once s2_start.0.1 s2_pages.1
+          ∙ ap (λ (left : Fields). decimal s2_pages.0.0 ∷ left) (cnp_once version s2_pages.0.1 cnp.0 cnp.1 end.0)))))
+          ∙ ap heading_fields end.1,
+      ap (λ (h : Heading). h.version) end.1,
+    )
 
-kernel_once : (rest : Fields) {x : Heading} → kernel_fields rest ≡ Ok x → codes "kernel" ∷ rest ≡ heading_fields x
-kernel_once rest e =
+kernel_once : (version : ℕ) (rest : Fields) {x : Heading} → kernel_fields version rest ≡ Ok x → (codes "kernel" ∷ rest ≡ heading_fields x) × (version ≡ x.version)
+kernel_once version rest e =
     let pes = bind_ok (header_field decimal_value rest) _ e in
     let start0 = bind_ok (header_field decimal_value pes.0.1) _ pes.2 in
     let start1 = bind_ok (header_field decimal_value start0.0.1) _ start0.2 in
-    let asid_from = bind_ok (header_field (value_of asid_from_word asid_froms) start1.0.1) _ start1.2 in
-    let end = checked_once (record { pes = pes.0.0; world = Kernel start0.0.0 start1.0.0 asid_from.0.0 }) asid_from.0.1 asid_from.2 in
-    ap (λ (left : Fields). codes "kernel" ∷ left) (number_once rest pes.1
-    ∙ ap (λ (left : Fields). decimal pes.0.0 ∷ left) (number_once pes.0.1 start0.1
-    ∙ ap (λ (left : Fields). decimal start0.0.0 ∷ left) (number_once start0.0.1 start1.1
-    ∙ ap (λ (left : Fields). decimal start1.0.0 ∷ left) (field_once BadHeader BadHeader (value_of asid_from_word asid_froms) asid_from_word (λ text v f. word_once asid_from_word asid_froms text f) start1.0.1 asid_from.1
-    ∙ ap (λ (left : Fields). asid_from_word asid_from.0.0 ∷ left) end.0))))
-    ∙ ap heading_fields end.1
+    let asid_from = bind_ok (header_field (with_word asid_from_word asid_froms) start1.0.1) _ start1.2 in
+    let cnp = bind_ok (cnp_field version asid_from.0.1) _ asid_from.2 in
+    let end = checked_once (record { version = version; pes = pes.0.0; cnp = cnp.0.0; world = Kernel start0.0.0 start1.0.0 asid_from.0.0 }) cnp.0.1 cnp.2 in (
+      ap (λ (left : Fields). codes "kernel" ∷ left) (number_once rest pes.1
+          ∙ ap (λ (left : Fields). decimal pes.0.0 ∷ left) (number_once pes.0.1 start0.1
+          ∙ ap (λ (left : Fields). decimal start0.0.0 ∷ left) (number_once start0.0.1 start1.1
+          ∙ ap (λ (left : Fields). decimal start1.0.0 ∷ left) (field_once BadHeader BadHeader (with_word asid_from_word asid_froms) asid_from_word (λ text v f. word_once asid_from_word asid_froms text f) start1.0.1 asid_from.1
+          ∙ ap (λ (left : Fields). asid_from_word asid_from.0.0 ∷ left) (cnp_once version asid_from.0.1 cnp.0 cnp.1 end.0)))))
+          ∙ ap heading_fields end.1,
+      ap (λ (h : Heading). h.version) end.1,
+    )
 
-world_once : (word : List ℕ) (rest : Fields) {x : Heading} → world_fields word rest ≡ Ok x → word ∷ rest ≡ heading_fields x
-world_once word rest {x = x} e = by (bytes_eq word (codes "hyp")) (bytes_eq word (codes "kernel")) refl refl e
+world_once : (version : ℕ) (word : List ℕ) (rest : Fields) {x : Heading} → world_fields version word rest ≡ Ok x → (word ∷ rest ≡ heading_fields x) × (version ≡ x.version)
+world_once version word rest {x = x} e = by (bytes_eq word (codes "hyp")) (bytes_eq word (codes "kernel")) refl refl e
   where
     by : (hyp kernel : Bool) → bytes_eq word (codes "hyp") ≡ hyp → bytes_eq word (codes "kernel") ≡ kernel
-        → cond hyp (hyp_fields rest) (cond kernel (kernel_fields rest) (Err BadHeader)) ≡ Ok x → word ∷ rest ≡ heading_fields x
-    by true kernel is other f = ap (λ (text : List ℕ). text ∷ rest) ((bytes_eq-Decides word (codes "hyp")).0 is) ∙ hyp_once rest f
-    by false true is other f = ap (λ (text : List ℕ). text ∷ rest) ((bytes_eq-Decides word (codes "kernel")).0 other) ∙ kernel_once rest f
+        → cond hyp (hyp_fields version rest) (cond kernel (kernel_fields version rest) (Err BadHeader)) ≡ Ok x → (word ∷ rest ≡ heading_fields x) × (version ≡ x.version)
+    by true kernel is other f = let once = hyp_once version rest f in (ap (λ (text : List ℕ). text ∷ rest) ((bytes_eq-Decides word (codes "hyp")).0 is) ∙ once.0, once.1)
+    by false true is other f = let once = kernel_once version rest f in (ap (λ (text : List ℕ). text ∷ rest) ((bytes_eq-Decides word (codes "kernel")).0 other) ∙ once.0, once.1)
     by false false is other f = cc
 
 any_once : (text value : List ℕ) → Some text ≡ Some value → text ≡ value
 any_once text value e = cc
 
+version_once : (rest : Fields) {x : ℕ × Fields} → version_field rest ≡ Ok x → rest ≡ decimal x.0 ∷ x.1
+version_once rest e = field_once NoMagic NoMagic (λ text. passing is_version (decimal_value text)) decimal (decimal_passing_once is_version) rest e
+
 pub header_one_line : (line : List ℕ) (x : Heading) → header_of line ≡ Ok x → line ≡ header_line x
 unfolding header_of header_line
 header_one_line line x e =
     let magic = bind_ok (magic_field (codes "bbmlog") (fields line)) _ e in
-    let version = bind_ok (magic_field (codes "1") magic.0.1) _ magic.2 in
+    let version = bind_ok (version_field magic.0.1) _ magic.2 in
     let world = bind_ok (header_field Some version.0.1) _ version.2 in
-    joined_fields line (codes "bbmlog" ∷ codes "1" ∷ heading_fields x)
+    let once = world_once version.0.0 world.0.0 world.0.1 world.2 in
+    joined_fields line (codes "bbmlog" ∷ decimal x.version ∷ heading_fields x)
     (magic_once (codes "bbmlog") (fields line) magic.1
-    ∙ ap (λ (left : Fields). codes "bbmlog" ∷ left) (magic_once (codes "1") magic.0.1 version.1
-    ∙ ap (λ (left : Fields). codes "1" ∷ left) (field_once BadHeader BadHeader Some (λ text. text) any_once version.0.1 world.1
-    ∙ world_once world.0.0 world.0.1 world.2)))
+    ∙ ap (λ (left : Fields). codes "bbmlog" ∷ left) (version_once magic.0.1 version.1
+    ∙ ap (λ (left : Fields). decimal version.0.0 ∷ left) (field_once BadHeader BadHeader Some (λ text. text) any_once version.0.1 world.1
+    ∙ once.0)
+    ∙ ap (λ (n : ℕ). decimal n ∷ heading_fields x) once.1))

@@ -15,9 +15,9 @@ use Rattle.bbm_tlbi_scope.specs.declared.op.TlbiOp.{TlbiOp}
 use Rattle.bbm_tlbi_scope.specs.Operations.{has_operand}
 use Rattle.bbm_events.specs.Heading.{Heading, heading_ok}
 use Rattle.bbm_events.specs.Spelling.{fields, hex, decimal_value, hex_value, where_spelled}
-use Rattle.bbm_events.specs.Words.{value_of, asid_from_word, asid_froms}
+use Rattle.bbm_events.specs.Words.{with_word, asid_from_word, asid_froms}
 use Rattle.bbm_events.specs.Fits.{fits_heading, item_fits, is_pe, is_page, is_place, is_value, is_lock, is_count, is_root_page, is_root_lock, is_operand}
-use Rattle.bbm_events.specs.Lines.{◌>>=◌, Fields, magic_field, header_field, Reading, found, next_field, passing, checked, hyp_fields, kernel_fields, world_fields, header_of, item_of, line_after, keyword_field, pe_field, page_field, place_field, root_page_field, value_field, operand_field, lock_field, lock_value, root_lock, root_lock_field, count_field, kind_field, dsb_field, op_field, reg_field, whole, pe_alone, pe_and, pe_and_two, root_line, tlbi_line, end_line}
+use Rattle.bbm_events.specs.Lines.{◌>>=◌, Fields, magic_field, version_field, cnp_field, header_field, FieldRead, found, next_field, passing, checked, hyp_fields, kernel_fields, world_fields, header_of, item_of, line_after, keyword_field, pe_field, page_field, place_field, root_page_field, value_field, operand_field, lock_field, lock_value, root_lock, root_lock_field, count_field, kind_field, dsb_field, op_field, reg_field, whole, pe_alone, pe_and, pe_and_two, root_line, tlbi_line, end_line}
 
 -- where two steps give a value, the first gave one that leads the second to it
 pub bind_ok : {A B : Type 0} (r : Result A Malformed) (f : A → Result B Malformed) {y : B} → (r >>= f) ≡ Ok y → (x : A) × (r ≡ Ok x) × (f x ≡ Ok y)
@@ -79,7 +79,7 @@ pe_alone_fits h event fit rest e =
     let is = whole_ok _ _ pe.2 in
     rw (← is) (fit pe.0.0 (passing_field_ok MissingField BadPe (is_pe h) decimal_value rest pe.1))
 
-pub pe_and_fits : {A : Type 0} (h : Heading) (second : Fields → Reading A) (event : ℕ → A → Event) (Good : A → Type 0)
+pub pe_and_fits : {A : Type 0} (h : Heading) (second : Fields → FieldRead A) (event : ℕ → A → Event) (Good : A → Type 0)
     → ((rest : Fields) (x : A × Fields) → second rest ≡ Ok x → Good x.0)
     → ((pe : ℕ) (a : A) → is_pe h pe ≡ true → Good a → fits_heading h (event pe a) ≡ true)
     → (rest : Fields) {x : Item} → pe_and h second event rest ≡ Ok x → item_fits h x ≡ true
@@ -89,7 +89,7 @@ pe_and_fits h second event Good good fit rest e =
     let is = whole_ok _ _ a.2 in
     rw (← is) (fit pe.0.0 a.0.0 (passing_field_ok MissingField BadPe (is_pe h) decimal_value rest pe.1) (good pe.0.1 a.0 a.1))
 
-pub pe_and_two_fits : {A B : Type 0} (h : Heading) (second : Fields → Reading A) (third : Fields → Reading B) (event : ℕ → A → B → Event) (Good : A → Type 0) (Fine : B → Type 0)
+pub pe_and_two_fits : {A B : Type 0} (h : Heading) (second : Fields → FieldRead A) (third : Fields → FieldRead B) (event : ℕ → A → B → Event) (Good : A → Type 0) (Fine : B → Type 0)
     → ((rest : Fields) (x : A × Fields) → second rest ≡ Ok x → Good x.0)
     → ((rest : Fields) (x : B × Fields) → third rest ≡ Ok x → Fine x.0)
     → ((pe : ℕ) (a : A) (b : B) → is_pe h pe ≡ true → Good a → Fine b → fits_heading h (event pe a b) ≡ true)
@@ -185,34 +185,36 @@ checked_ok h [] {x = x} e = by_ranges (heading_ok h) refl e
     by_ranges false is_false f = cc
 checked_ok h (text ∷ rest) e = cc
 
-hyp_ok : (rest : Fields) {x : Heading} → hyp_fields rest ≡ Ok x → heading_ok x ≡ true
-hyp_ok rest e =
+hyp_ok : (version : ℕ) (rest : Fields) {x : Heading} → hyp_fields version rest ≡ Ok x → heading_ok x ≡ true
+hyp_ok version rest e =
     let pes = bind_ok (header_field decimal_value rest) _ e in
     let el2_start = bind_ok (header_field decimal_value pes.0.1) _ pes.2 in
     let s2_start = bind_ok (header_field decimal_value el2_start.0.1) _ el2_start.2 in
     let s2_pages = bind_ok (header_field decimal_value s2_start.0.1) _ s2_start.2 in
-    checked_ok (record { pes = pes.0.0; world = Hyp el2_start.0.0 s2_start.0.0 s2_pages.0.0 }) s2_pages.0.1 s2_pages.2
+    let cnp = bind_ok (cnp_field version s2_pages.0.1) _ s2_pages.2 in
+    checked_ok (record { version = version; pes = pes.0.0; cnp = cnp.0.0; world = Hyp el2_start.0.0 s2_start.0.0 s2_pages.0.0 }) cnp.0.1 cnp.2
 
-kernel_ok : (rest : Fields) {x : Heading} → kernel_fields rest ≡ Ok x → heading_ok x ≡ true
-kernel_ok rest e =
+kernel_ok : (version : ℕ) (rest : Fields) {x : Heading} → kernel_fields version rest ≡ Ok x → heading_ok x ≡ true
+kernel_ok version rest e =
     let pes = bind_ok (header_field decimal_value rest) _ e in
     let start0 = bind_ok (header_field decimal_value pes.0.1) _ pes.2 in
     let start1 = bind_ok (header_field decimal_value start0.0.1) _ start0.2 in
-    let asid_from = bind_ok (header_field (value_of asid_from_word asid_froms) start1.0.1) _ start1.2 in
-    checked_ok (record { pes = pes.0.0; world = Kernel start0.0.0 start1.0.0 asid_from.0.0 }) asid_from.0.1 asid_from.2
+    let asid_from = bind_ok (header_field (with_word asid_from_word asid_froms) start1.0.1) _ start1.2 in
+    let cnp = bind_ok (cnp_field version asid_from.0.1) _ asid_from.2 in
+    checked_ok (record { version = version; pes = pes.0.0; cnp = cnp.0.0; world = Kernel start0.0.0 start1.0.0 asid_from.0.0 }) cnp.0.1 cnp.2
 
-world_ok_of : (word : List ℕ) (rest : Fields) {x : Heading} → world_fields word rest ≡ Ok x → heading_ok x ≡ true
-world_ok_of word rest {x = x} e = by_word (bytes_eq word (codes "hyp")) (bytes_eq word (codes "kernel")) e
+world_ok_of : (version : ℕ) (word : List ℕ) (rest : Fields) {x : Heading} → world_fields version word rest ≡ Ok x → heading_ok x ≡ true
+world_ok_of version word rest {x = x} e = by_word (bytes_eq word (codes "hyp")) (bytes_eq word (codes "kernel")) e
   where
-    by_word : (hyp kernel : Bool) → cond hyp (hyp_fields rest) (cond kernel (kernel_fields rest) (Err BadHeader)) ≡ Ok x → heading_ok x ≡ true
-    by_word true kernel f = hyp_ok rest f
-    by_word false true f = kernel_ok rest f
+    by_word : (hyp kernel : Bool) → cond hyp (hyp_fields version rest) (cond kernel (kernel_fields version rest) (Err BadHeader)) ≡ Ok x → heading_ok x ≡ true
+    by_word true kernel f = hyp_ok version rest f
+    by_word false true f = kernel_ok version rest f
     by_word false false f = cc
 
 pub header_of_ok : (line : List ℕ) (x : Heading) → header_of line ≡ Ok x → heading_ok x ≡ true
 unfolding header_of
 header_of_ok line x e =
     let magic = bind_ok (magic_field (codes "bbmlog") (fields line)) _ e in
-    let version = bind_ok (magic_field (codes "1") magic.0.1) _ magic.2 in
+    let version = bind_ok (version_field magic.0.1) _ magic.2 in
     let world = bind_ok (header_field Some version.0.1) _ version.2 in
-    world_ok_of world.0.0 world.0.1 world.2
+    world_ok_of version.0.0 world.0.0 world.0.1 world.2

@@ -1,13 +1,14 @@
 -- A line that is written is read as what was written.
-use Rattle.std.proofs.Common.{◌≡◌, ℕ, ◌^◌, ◌<◌, ◌≤◌, List, [], ◌∷◌, Bool, true, false, ◌&&◌, cond, nat_lt, ◌%◌, ◌*◌, ◌==◌, refl, ap, sym, ◌∙◌, Option, Some, None, Result, Ok, Err, arith}
+use Rattle.std.proofs.Common.{◌≡◌, ℕ, ◌^◌, ◌<◌, ◌≤◌, List, [], ◌∷◌, Bool, true, false, not, ◌&&◌, cond, nat_lt, ◌%◌, ◌*◌, ◌==◌, refl, ap, sym, ◌∙◌, Option, Some, None, Result, Ok, Err, arith}
 use Rattle.std.specs.Prelude.{◌||◌, nat_le, codes, decimal, bytes_eq}
 use Rattle.std.specs.Option.{option_map}
 use Rattle.std.specs.Fmt.{digits}
 use Rattle.std.proofs.lemmas.Slice.Eq.{bytes_eq-Decides}
-use Rattle.std.proofs.lemmas.Bool.{and_parts, ltb-true, eqb-true}
+use Rattle.std.proofs.lemmas.Bool.{and_parts, ltb-true, leb-true, eqb-true}
 use Rattle.std.proofs.lemmas.Bool.Decides.{nat_tests}
 use Rattle.bbm_regimes.specs.declared.regime.World.{World}
 use Rattle.bbm_regimes.specs.declared.regime.World.TheVariants.{Hyp, Kernel}
+use Rattle.bbm_regimes.specs.World.{world_ok, page_count}
 use Rattle.bbm_regimes.specs.declared.regime.Kind.{Kind}
 use Rattle.bbm_regimes.specs.declared.regime.AsidFrom.{AsidFrom}
 use Rattle.bbm_regimes.specs.declared.regime.Reg.{Reg}
@@ -18,16 +19,16 @@ use Rattle.bbm_events.specs.declared.event.Event.TheVariants as event
 use Rattle.bbm_events.specs.declared.event.Item.{Item}
 use Rattle.bbm_events.specs.declared.event.Item.TheVariants as item
 use Rattle.bbm_events.specs.declared.malformed.Malformed.{Malformed}
-use Rattle.bbm_events.specs.declared.malformed.Malformed.TheVariants.{BadHeader, UnknownWord, BadNumber, BadPe, BadAddress, MissingField}
-use Rattle.bbm_events.specs.Heading.{Heading, heading_ok, world_ok}
+use Rattle.bbm_events.specs.declared.malformed.Malformed.TheVariants.{NoMagic, BadHeader, UnknownWord, BadNumber, BadPe, BadAddress, MissingField}
+use Rattle.bbm_events.specs.Heading.{Heading, heading_ok, is_version, are_pes, may_share}
 use Rattle.bbm_events.specs.Spelling.{fields, joined, hex, decimal_value, hex_value}
 use Rattle.bbm_tlbi_scope.specs.Operations.{has_operand}
-use Rattle.bbm_events.specs.Words.{value_of, keyword_word, keywords, kind_word, kinds, reg_word, regs, asid_from_word, asid_froms, dsb_word, dsbs, op_word, ops}
-use Rattle.bbm_events.specs.Fits.{root_pages, fits_heading, item_fits, is_pe, is_page, is_place, is_value, is_lock, is_count, is_root_page, is_root_lock, is_operand}
-use Rattle.bbm_events.specs.Lines.{◌>>=◌, Fields, Reading, found, next_field, passing, checked, header_field, world_fields, header_of, item_of, line_after, line_field, pe_field, page_field, place_field, root_page_field, value_field, operand_field, lock_field, lock_value, root_lock, root_lock_field, count_field, kind_field, dsb_field, op_field, reg_field, pe_alone, pe_and, pe_and_two, root_line, tlbi_line, header_fields, header_line, lock_text, operand_fields, event_fields, item_fields, item_line, magic_field}
+use Rattle.bbm_events.specs.Words.{with_word, keyword_word, keywords, cnp_word, cnps, kind_word, kinds, reg_word, regs, asid_from_word, asid_froms, dsb_word, dsbs, op_word, ops}
+use Rattle.bbm_events.specs.Fits.{fits_heading, item_fits, is_pe, is_page, is_place, is_value, is_lock, is_count, is_root_page, is_root_lock, is_operand}
+use Rattle.bbm_events.specs.Lines.{◌>>=◌, Fields, FieldRead, found, next_field, passing, checked, version_field, cnp_field, cnp_fields, header_field, world_fields, header_of, item_of, line_after, line_field, pe_field, page_field, place_field, root_page_field, value_field, operand_field, lock_field, lock_value, root_lock, root_lock_field, count_field, kind_field, dsb_field, op_field, reg_field, pe_alone, pe_and, pe_and_two, root_line, tlbi_line, header_fields, header_line, lock_text, operand_fields, event_fields, item_fields, item_line, magic_field}
 use Rattle.bbm_events.proofs.Joining.{no_space, no_spaces, fields_joined, digits_no_space}
 use Rattle.bbm_events.proofs.OneSpelling.{decimal_read, hex_read}
-use Rattle.bbm_events.proofs.WordsRead.{kind_word_read, reg_word_read, asid_from_word_read, dsb_word_read, op_word_read, kind_word_no_space, reg_word_no_space, asid_from_word_no_space, dsb_word_no_space, op_word_no_space}
+use Rattle.bbm_events.proofs.WordsRead.{cnp_word_read, cnp_word_no_space, kind_word_read, reg_word_read, asid_from_word_read, dsb_word_read, op_word_read, kind_word_no_space, reg_word_no_space, asid_from_word_no_space, dsb_word_no_space, op_word_no_space}
 
 -- a step that gives a value leads on with it
 on : {A B : Type 0} (r : Result A Malformed) (f : A → Result B Malformed) {x : A} → r ≡ Ok x → (r >>= f) ≡ f x
@@ -42,16 +43,31 @@ passing_read test o {n = n} e h = ap (λ o. passing test o) e ∙ ap (λ t. cond
 both : {a b : Bool} → a ≡ true → b ≡ true → (a && b) ≡ true
 both p q = rw (p, q) refl
 
-all_three : (pes : ℕ) (rest : Bool) → (nat_le 1 pes && nat_le pes 64 && rest) ≡ true → (pes ≤ 64) × (rest ≡ true)
-all_three pes rest e = (grind (arith, nat_tests), grind (arith, nat_tests))
+-- what a heading's ranges say of its parts
+record Ranges (h : Heading) : Type 0 where
+  version : is_version h.version ≡ true
+  pes : h.pes ≤ 128
+  cnp : (may_share h.version || not h.cnp) ≡ true
+  world : world_ok h.world ≡ true
+
+pes_most : (few : Bool) (pes : ℕ) → (nat_le 1 pes && nat_le pes (cond few 64 128)) ≡ true → pes ≤ 128
+pes_most true pes e = let most = leb-true pes 64 (and_parts (nat_le 1 pes) (nat_le pes 64) e).1 in omega (arith, most)
+pes_most false pes e = leb-true pes 128 (and_parts (nat_le 1 pes) (nat_le pes 128) e).1
+
+ranges : (h : Heading) → heading_ok h ≡ true → Ranges h
+ranges h ok =
+    let front = and_parts (is_version h.version && are_pes h.version h.pes && (may_share h.version || not h.cnp)) (world_ok h.world) ok in
+    let some = and_parts (is_version h.version && are_pes h.version h.pes) (may_share h.version || not h.cnp) front.0 in
+    let both = and_parts (is_version h.version) (are_pes h.version h.pes) some.0 in
+    record { version = both.0; pes = pes_most (nat_lt h.version 3) h.pes both.1; cnp = some.1; world = front.1 }
 
 -- The numbers of an item that fits are below 2 ^ 64.
 
 pe_below : (h : Heading) (pe : ℕ) → heading_ok h ≡ true → is_pe h pe ≡ true → pe < 2 ^ 64
 pe_below h pe ok fits =
-    let few = all_three h.pes (world_ok h.world) ok in
+    let few = (ranges h ok).pes in
     let less = ltb-true pe h.pes fits in
-    omega (arith, few.0, less)
+    omega (arith, few, less)
 
 aligned_below : (n : ℕ) (aligned : Bool) → (nat_lt n (2 ^ 48) && aligned) ≡ true → n < 2 ^ 64
 aligned_below n aligned e = let below = ltb-true n (2 ^ 48) (and_parts (nat_lt n (2 ^ 48)) aligned e).0 in omega (arith, below)
@@ -76,7 +92,7 @@ place_read n rest fits = address_read is_place n rest (aligned_below n (n % 8 ==
 
 root_page_read : (h : Heading) (kind : Kind) (n : ℕ) (rest : Fields) → is_root_page h.world kind n ≡ true → root_page_field h kind (hex n ∷ rest) ≡ Ok (n, rest)
 root_page_read h kind n rest fits =
-    let page = and_parts (is_page n) (n % (4096 * root_pages h.world kind) == 0) fits in
+    let page = and_parts (is_page n) (n % (4096 * page_count h.world kind) == 0) fits in
     address_read (is_root_page h.world kind) n rest (aligned_below n (n % 4096 == 0) page.0) fits
 
 value_read : (n : ℕ) (rest : Fields) → is_value n ≡ true → value_field (hex n ∷ rest) ≡ Ok (n, rest)
@@ -120,16 +136,16 @@ root_lock_read (Some n) rest fits =
     ∙ ap (λ o. option_map Some o) (lock_value_read n fits))
 
 kind_read : (kind : Kind) (rest : Fields) → kind_field (kind_word kind ∷ rest) ≡ Ok (kind, rest)
-kind_read kind rest = field_read MissingField UnknownWord (value_of kind_word kinds) (kind_word kind) rest (kind_word_read kind)
+kind_read kind rest = field_read MissingField UnknownWord (with_word kind_word kinds) (kind_word kind) rest (kind_word_read kind)
 
 dsb_read : (dsb : Dsb) (rest : Fields) → dsb_field (dsb_word dsb ∷ rest) ≡ Ok (dsb, rest)
-dsb_read dsb rest = field_read MissingField UnknownWord (value_of dsb_word dsbs) (dsb_word dsb) rest (dsb_word_read dsb)
+dsb_read dsb rest = field_read MissingField UnknownWord (with_word dsb_word dsbs) (dsb_word dsb) rest (dsb_word_read dsb)
 
 op_read : (op : TlbiOp) (rest : Fields) → op_field (op_word op ∷ rest) ≡ Ok (op, rest)
-op_read op rest = field_read MissingField UnknownWord (value_of op_word ops) (op_word op) rest (op_word_read op)
+op_read op rest = field_read MissingField UnknownWord (with_word op_word ops) (op_word op) rest (op_word_read op)
 
 reg_read : (reg : Reg) (rest : Fields) → reg_field (reg_word reg ∷ rest) ≡ Ok (reg, rest)
-reg_read reg rest = field_read MissingField UnknownWord (value_of reg_word regs) (reg_word reg) rest (reg_word_read reg)
+reg_read reg rest = field_read MissingField UnknownWord (with_word reg_word regs) (reg_word reg) rest (reg_word_read reg)
 
 -- an operand is written exactly where it is read
 operand_read : (op : TlbiOp) (xt : ℕ) → is_operand op xt ≡ true → operand_field op (operand_fields op xt) ≡ Ok (xt, [])
@@ -144,13 +160,13 @@ operand_read op xt fits = by (has_operand op) fits
 pe_alone_read : (h : Heading) (event : ℕ → Event) (pe : ℕ) → heading_ok h ≡ true → is_pe h pe ≡ true → pe_alone h event (decimal pe ∷ []) ≡ Ok (item.Event (event pe))
 pe_alone_read h event pe ok fits = on (pe_field h (decimal pe ∷ [])) _ (pe_read h pe [] ok fits)
 
-pe_and_read : {A : Type 0} (h : Heading) (second : Fields → Reading A) (event : ℕ → A → Event) (pe : ℕ) (x : A) (text : List ℕ)
+pe_and_read : {A : Type 0} (h : Heading) (second : Fields → FieldRead A) (event : ℕ → A → Event) (pe : ℕ) (x : A) (text : List ℕ)
     → heading_ok h ≡ true → is_pe h pe ≡ true → second (text ∷ []) ≡ Ok (x, []) → pe_and h second event (decimal pe ∷ text ∷ []) ≡ Ok (item.Event (event pe x))
 pe_and_read h second event pe x text ok fits e =
     on (pe_field h (decimal pe ∷ text ∷ [])) _ (pe_read h pe (text ∷ []) ok fits)
     ∙ on (second (text ∷ [])) _ e
 
-pe_and_two_read : {A B : Type 0} (h : Heading) (second : Fields → Reading A) (third : Fields → Reading B) (event : ℕ → A → B → Event) (pe : ℕ) (x : A) (y : B) (text more : List ℕ)
+pe_and_two_read : {A B : Type 0} (h : Heading) (second : Fields → FieldRead A) (third : Fields → FieldRead B) (event : ℕ → A → B → Event) (pe : ℕ) (x : A) (y : B) (text more : List ℕ)
     → heading_ok h ≡ true → is_pe h pe ≡ true → second (text ∷ more ∷ []) ≡ Ok (x, more ∷ []) → third (more ∷ []) ≡ Ok (y, [])
     → pe_and_two h second third event (decimal pe ∷ text ∷ more ∷ []) ≡ Ok (item.Event (event pe x y))
 pe_and_two_read h second third event pe x y text more ok fits e f =
@@ -178,7 +194,7 @@ tlbi_read h pe op xt ok fits =
 
 -- the fields of a line, read
 abbrev read_fields : Heading → Fields → Result Item Malformed
-read_fields h all = line_field UnknownWord (value_of keyword_word keywords) all >>= (λ word. line_after h word.0 word.1)
+read_fields h all = line_field UnknownWord (with_word keyword_word keywords) all >>= (λ word. line_after h word.0 word.1)
 
 event_read : (h : Heading) (event : Event) → heading_ok h ≡ true → fits_heading h event ≡ true → read_fields h (event_fields event) ≡ Ok (item.Event event)
 event_read h (event.Init pe page) ok fits = let parts = and_parts (is_pe h pe) (is_page page) fits in pe_and_read h page_field event.Init pe page (hex page) ok parts.0 (page_read page [] parts.1)
@@ -280,46 +296,75 @@ number_read n rest below = field_read BadHeader BadHeader decimal_value (decimal
 in_range : (h : Heading) → heading_ok h ≡ true → checked h [] ≡ Ok h
 in_range h ok = ap (λ t. cond t (Ok h) (Err BadHeader)) ok
 
-pes_below : (pes : ℕ) (world : World) → heading_ok (record { pes = pes; world = world }) ≡ true → (pes < 2 ^ 64) × (world_ok world ≡ true)
-pes_below pes world ok = let few = all_three pes (world_ok world) ok in (omega (arith, few.0), few.1)
+-- version 1 writes no field of shared TLBs, and reads none
+cnp_read : (version : ℕ) (cnp : Bool) → (may_share version || not cnp) ≡ true → cnp_field version (cnp_fields version cnp) ≡ Ok (cnp, [])
+cnp_read version cnp fits = by (may_share version) cnp fits
+  where
+    by : (shares cnp : Bool) → (shares || not cnp) ≡ true → cond shares (header_field (with_word cnp_word cnps) (cond shares (cnp_word cnp ∷ []) [])) (Ok (false, cond shares (cnp_word cnp ∷ []) [])) ≡ Ok (cnp, [])
+    by true cnp f = field_read BadHeader BadHeader (with_word cnp_word cnps) (cnp_word cnp) [] (cnp_word_read cnp)
+    by false true f = cc
+    by false false f = refl
+
+version_read : (version : ℕ) (rest : Fields) → is_version version ≡ true → version_field (decimal version ∷ rest) ≡ Ok (version, rest)
+version_read version rest fits =
+    let low = leb-true version 4 (and_parts (nat_le 1 version) (nat_le version 4) fits).1 in
+    field_read NoMagic NoMagic (λ text. passing is_version (decimal_value text)) (decimal version) rest
+    (passing_read is_version (decimal_value (decimal version)) (decimal_read version (omega (arith, low))) fits)
 
 -- the fields of line 1, read
 abbrev read_header_fields : Fields → Result Heading Malformed
 read_header_fields all =
     magic_field (codes "bbmlog") all >>= (λ magic.
-    magic_field (codes "1") magic.1 >>= (λ version.
-    header_field Some version.1 >>= (λ world. world_fields world.0 world.1)))
+    version_field magic.1 >>= (λ version.
+    header_field Some version.1 >>= (λ world. world_fields version.0 world.0 world.1)))
 
-world_read : (pes : ℕ) (world : World) → heading_ok (record { pes = pes; world = world }) ≡ true
-    → read_header_fields (codes "bbmlog" ∷ codes "1" ∷ header_fields pes world) ≡ Ok (record { pes = pes; world = world })
-world_read pes (Hyp el2_start s2_start s2_pages) ok =
-    let some = pes_below pes (Hyp el2_start s2_start s2_pages) ok in
-    let small = hyp_below el2_start s2_start s2_pages some.1 in
-    on (header_field decimal_value (decimal pes ∷ decimal el2_start ∷ decimal s2_start ∷ decimal s2_pages ∷ [])) _ (number_read pes (decimal el2_start ∷ decimal s2_start ∷ decimal s2_pages ∷ []) some.0)
-    ∙ on (header_field decimal_value (decimal el2_start ∷ decimal s2_start ∷ decimal s2_pages ∷ [])) _ (number_read el2_start (decimal s2_start ∷ decimal s2_pages ∷ []) small.0)
-    ∙ on (header_field decimal_value (decimal s2_start ∷ decimal s2_pages ∷ [])) _ (number_read s2_start (decimal s2_pages ∷ []) small.1)
-    ∙ on (header_field decimal_value (decimal s2_pages ∷ [])) _ (number_read s2_pages [] small.2)
-    ∙ in_range (record { pes = pes; world = Hyp el2_start s2_start s2_pages }) ok
-world_read pes (Kernel start0 start1 asid_from) ok =
-    let some = pes_below pes (Kernel start0 start1 asid_from) ok in
-    let small = kernel_below start0 start1 asid_from some.1 in
-    on (header_field decimal_value (decimal pes ∷ decimal start0 ∷ decimal start1 ∷ asid_from_word asid_from ∷ [])) _ (number_read pes (decimal start0 ∷ decimal start1 ∷ asid_from_word asid_from ∷ []) some.0)
-    ∙ on (header_field decimal_value (decimal start0 ∷ decimal start1 ∷ asid_from_word asid_from ∷ [])) _ (number_read start0 (decimal start1 ∷ asid_from_word asid_from ∷ []) small.0)
-    ∙ on (header_field decimal_value (decimal start1 ∷ asid_from_word asid_from ∷ [])) _ (number_read start1 (asid_from_word asid_from ∷ []) small.1)
-    ∙ on (header_field (value_of asid_from_word asid_froms) (asid_from_word asid_from ∷ [])) _ (field_read BadHeader BadHeader (value_of asid_from_word asid_froms) (asid_from_word asid_from) [] (asid_from_word_read asid_from))
-    ∙ in_range (record { pes = pes; world = Kernel start0 start1 asid_from }) ok
+world_read : (version pes : ℕ) (cnp : Bool) (world : World) → heading_ok (record { version = version; pes = pes; cnp = cnp; world = world }) ≡ true
+    → read_header_fields (codes "bbmlog" ∷ decimal version ∷ header_fields pes world (cnp_fields version cnp)) ≡ Ok (record { version = version; pes = pes; cnp = cnp; world = world })
+world_read version pes cnp (Hyp el2_start s2_start s2_pages) ok =
+    let here = ranges (record { version = version; pes = pes; cnp = cnp; world = Hyp el2_start s2_start s2_pages }) ok in
+    let small = hyp_below el2_start s2_start s2_pages here.world in
+    let after = cnp_fields version cnp in
+    on (version_field (decimal version ∷ codes "hyp" ∷ decimal pes ∷ decimal el2_start ∷ decimal s2_start ∷ decimal s2_pages ∷ after)) _
+    (version_read version (codes "hyp" ∷ decimal pes ∷ decimal el2_start ∷ decimal s2_start ∷ decimal s2_pages ∷ after) here.version)
+    ∙ on (header_field decimal_value (decimal pes ∷ decimal el2_start ∷ decimal s2_start ∷ decimal s2_pages ∷ after)) _ (number_read pes (decimal el2_start ∷ decimal s2_start ∷ decimal s2_pages ∷ after) (omega (arith, here.pes)))
+    ∙ on (header_field decimal_value (decimal el2_start ∷ decimal s2_start ∷ decimal s2_pages ∷ after)) _ (number_read el2_start (decimal s2_start ∷ decimal s2_pages ∷ after) small.0)
+    ∙ on (header_field decimal_value (decimal s2_start ∷ decimal s2_pages ∷ after)) _ (number_read s2_start (decimal s2_pages ∷ after) small.1)
+    ∙ on (header_field decimal_value (decimal s2_pages ∷ after)) _ (number_read s2_pages after small.2)
+    ∙ on (cnp_field version after) _ (cnp_read version cnp here.cnp)
+    ∙ in_range (record { version = version; pes = pes; cnp = cnp; world = Hyp el2_start s2_start s2_pages }) ok
+world_read version pes cnp (Kernel start0 start1 asid_from) ok =
+    let here = ranges (record { version = version; pes = pes; cnp = cnp; world = Kernel start0 start1 asid_from }) ok in
+    let small = kernel_below start0 start1 asid_from here.world in
+    let after = cnp_fields version cnp in
+    on (version_field (decimal version ∷ codes "kernel" ∷ decimal pes ∷ decimal start0 ∷ decimal start1 ∷ asid_from_word asid_from ∷ after)) _
+    (version_read version (codes "kernel" ∷ decimal pes ∷ decimal start0 ∷ decimal start1 ∷ asid_from_word asid_from ∷ after) here.version)
+    ∙ on (header_field decimal_value (decimal pes ∷ decimal start0 ∷ decimal start1 ∷ asid_from_word asid_from ∷ after)) _ (number_read pes (decimal start0 ∷ decimal start1 ∷ asid_from_word asid_from ∷ after) (omega (arith, here.pes)))
+    ∙ on (header_field decimal_value (decimal start0 ∷ decimal start1 ∷ asid_from_word asid_from ∷ after)) _ (number_read start0 (decimal start1 ∷ asid_from_word asid_from ∷ after) small.0)
+    ∙ on (header_field decimal_value (decimal start1 ∷ asid_from_word asid_from ∷ after)) _ (number_read start1 (asid_from_word asid_from ∷ after) small.1)
+    ∙ on (header_field (with_word asid_from_word asid_froms) (asid_from_word asid_from ∷ after)) _ (field_read BadHeader BadHeader (with_word asid_from_word asid_froms) (asid_from_word asid_from) after (asid_from_word_read asid_from))
+    ∙ on (cnp_field version after) _ (cnp_read version cnp here.cnp)
+    ∙ in_range (record { version = version; pes = pes; cnp = cnp; world = Kernel start0 start1 asid_from }) ok
 
-header_no_spaces : (pes : ℕ) (world : World) → no_spaces (header_fields pes world) ≡ true
-header_no_spaces pes (Hyp el2_start s2_start s2_pages) =
-    dec pes (decimal el2_start ∷ decimal s2_start ∷ decimal s2_pages ∷ [])
-    (dec el2_start (decimal s2_start ∷ decimal s2_pages ∷ []) (dec s2_start (decimal s2_pages ∷ []) (dec s2_pages [] refl)))
-header_no_spaces pes (Kernel start0 start1 asid_from) =
-    dec pes (decimal start0 ∷ decimal start1 ∷ asid_from_word asid_from ∷ [])
-    (dec start0 (decimal start1 ∷ asid_from_word asid_from ∷ []) (dec start1 (asid_from_word asid_from ∷ [])
-    (one_more (asid_from_word asid_from) [] (asid_from_word_no_space asid_from) refl)))
+cnp_no_spaces : (version : ℕ) (cnp : Bool) → no_spaces (cnp_fields version cnp) ≡ true
+cnp_no_spaces version cnp = by (may_share version)
+  where
+    by : (shares : Bool) → no_spaces (cond shares (cnp_word cnp ∷ []) []) ≡ true
+    by true = one_more (cnp_word cnp) [] (cnp_word_no_space cnp) refl
+    by false = refl
+
+header_no_spaces : (pes : ℕ) (world : World) (after : Fields) → no_spaces after ≡ true → no_spaces (header_fields pes world after) ≡ true
+header_no_spaces pes (Hyp el2_start s2_start s2_pages) after clean =
+    dec pes (decimal el2_start ∷ decimal s2_start ∷ decimal s2_pages ∷ after)
+    (dec el2_start (decimal s2_start ∷ decimal s2_pages ∷ after) (dec s2_start (decimal s2_pages ∷ after) (dec s2_pages after clean)))
+header_no_spaces pes (Kernel start0 start1 asid_from) after clean =
+    dec pes (decimal start0 ∷ decimal start1 ∷ asid_from_word asid_from ∷ after)
+    (dec start0 (decimal start1 ∷ asid_from_word asid_from ∷ after) (dec start1 (asid_from_word asid_from ∷ after)
+    (one_more (asid_from_word asid_from) after (asid_from_word_no_space asid_from) clean)))
 
 pub header_written_is_read : (h : Heading) → heading_ok h ≡ true → header_of (header_line h) ≡ Ok h
 unfolding header_of header_line
 header_written_is_read h ok =
-    ap read_header_fields (fields_joined (codes "bbmlog") (codes "1" ∷ header_fields h.pes h.world) (header_no_spaces h.pes h.world))
-    ∙ world_read h.pes h.world ok
+    let after = cnp_fields h.version h.cnp in
+    ap read_header_fields (fields_joined (codes "bbmlog") (decimal h.version ∷ header_fields h.pes h.world after)
+    (dec h.version (header_fields h.pes h.world after) (header_no_spaces h.pes h.world after (cnp_no_spaces h.version h.cnp))))
+    ∙ world_read h.version h.pes h.cnp h.world ok

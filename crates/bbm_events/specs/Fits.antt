@@ -2,9 +2,8 @@
 -- Source: project's own choice, but for the alignments.
 use Rattle.std.specs.Prelude.{ℕ, ◌^◌, ◌*◌, ◌%◌, Bool, true, ◌&&◌, ◌||◌, nat_lt, ◌==◌, Option, Some, None}
 use Rattle.bbm_regimes.specs.declared.regime.World.{World}
-use Rattle.bbm_regimes.specs.declared.regime.World.TheVariants.{Hyp}
 use Rattle.bbm_regimes.specs.declared.regime.Kind.{Kind}
-use Rattle.bbm_regimes.specs.declared.regime.Kind.TheVariants.{S2}
+use Rattle.bbm_regimes.specs.World.{page_count}
 use Rattle.bbm_tlbi_scope.specs.declared.op.TlbiOp.{TlbiOp}
 use Rattle.bbm_tlbi_scope.specs.Operations.{has_operand}
 use Rattle.bbm_events.specs.declared.event.Event.{Event}
@@ -30,15 +29,10 @@ is_lock n = nat_lt n 1024
 abbrev pub is_count : ℕ → Bool
 is_count n = nat_lt n (2 ^ 32)
 
--- the number of consecutive pages of a root
-abbrev pub root_pages : World → Kind → ℕ
-root_pages (Hyp el2_start s2_start s2_pages) S2 = s2_pages
-root_pages _ _ = 1
-
 -- The first page of a root is aligned to the size of all its pages.
 -- Source: Arm ARM (DDI 0487), "VMSAv8-64 translation table walks", concatenated translation tables.
 abbrev pub is_root_page : World → Kind → ℕ → Bool
-is_root_page world kind n = is_page n && n % (4096 * root_pages world kind) == 0
+is_root_page world kind n = is_page n && n % (4096 * page_count world kind) == 0
 
 abbrev pub is_root_lock : Option ℕ → Bool
 is_root_lock None = true

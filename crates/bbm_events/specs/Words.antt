@@ -1,5 +1,5 @@
 -- The words of a log, each kind of word as one table from a value to its word, and one list of its values.
-use Rattle.std.specs.Prelude.{ℕ, List, [], ◌∷◌, Option, codes, bytes_eq}
+use Rattle.std.specs.Prelude.{ℕ, List, [], ◌∷◌, Bool, true, false, Option, codes, bytes_eq}
 use Rattle.std.specs.List.{find}
 use Rattle.bbm_regimes.specs.declared.regime.Kind.{Kind}
 use Rattle.bbm_regimes.specs.declared.regime.Kind.TheVariants.{El2, S2, Ttbr0, Ttbr1}
@@ -18,8 +18,8 @@ use Rattle.bbm_events.specs.declared.keyword.Keyword.{Keyword}
 use Rattle.bbm_events.specs.declared.keyword.Keyword.TheVariants as first
 
 -- the value, among these, whose word this is
-abbrev pub value_of : {A : Type 0} → (A → List ℕ) → List A → List ℕ → Option A
-value_of word values text = find (λ value. bytes_eq (word value) text) values
+abbrev pub with_word : {A : Type 0} → (A → List ℕ) → List A → List ℕ → Option A
+with_word word values text = find (λ value. bytes_eq (word value) text) values
 
 -- the first word of a line. Source: project's own choice.
 abbrev pub keyword_word : Keyword → List ℕ
@@ -39,6 +39,14 @@ keyword_word first.End = codes "end"
 
 abbrev pub keywords : List Keyword
 keywords = first.Init ∷ first.Null ∷ first.Root ∷ first.Unroot ∷ first.Write ∷ first.Dsb ∷ first.Dmb ∷ first.Isb ∷ first.Tlbi ∷ first.Msr ∷ first.Lock ∷ first.Unlock ∷ first.End ∷ []
+
+-- whether TLBs are shared. Source: project's own choice.
+abbrev pub cnp_word : Bool → List ℕ
+cnp_word true = codes "cnp"
+cnp_word false = codes "-"
+
+abbrev pub cnps : List Bool
+cnps = true ∷ false ∷ []
 
 -- the kind of a root. Source: project's own choice.
 abbrev pub kind_word : Kind → List ℕ

@@ -1,6 +1,7 @@
 //! Which events fit a header.
 
 ghost use Rattle.std.specs.Prelude.{◌≡◌, ◌<◌};
+ghost use Rattle.bbm_regimes.specs.World.{page_count};
 ghost use Rattle.bbm_events.specs.Fits as spec;
 ghost use Rattle.bbm_events.specs.Fits.{fits_heading, is_pe};
 
@@ -13,8 +14,8 @@ const LOCKS: u16 = 1024;
 
 /// The number of consecutive pages of a root of this kind, 1 to 16. Source: Arm ARM (DDI 0487), "VMSAv8-64
 /// translation table walks", concatenated translation tables.
-pub fn root_pages(world: World, kind: Kind) -> u8
-    ensures { result ≡ spec.root_pages world kind }
+pub fn page_count(world: World, kind: Kind) -> u8
+    ensures { result ≡ page_count world kind }
 {
     match (world, kind) {
         (World::Hyp { s2_pages, .. }, Kind::S2) => s2_pages,
@@ -44,10 +45,10 @@ fn is_place(place: Place) -> bool
 }
 
 fn is_root_page(world: World, kind: Kind, page: Page) -> bool
-    requires { 0 < spec.root_pages world kind }
+    requires { 0 < page_count world kind }
     ensures { result ≡ spec.is_root_page world kind page }
 {
-    page.get() % (4096 * root_pages(world, kind) as u64) == 0
+    page.get() % (4096 * page_count(world, kind) as u64) == 0
 }
 
 fn is_root_lock(lock: Option<u16>) -> bool

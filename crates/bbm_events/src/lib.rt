@@ -9,7 +9,7 @@ pub mod laws;
 pub mod malformed;
 
 pub use event::{Event, Item};
-pub use fitting::{fits, root_pages};
+pub use fitting::{fits, page_count};
 pub use header::Header;
 pub use keyword::Keyword;
 pub use laws::{

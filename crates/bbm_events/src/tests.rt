@@ -5,7 +5,9 @@ use bbm_tlbi_scope::TlbiOp;
 /// A header of the Hyp world with two PEs and stage 2 roots of 16 pages.
 fn header() -> Header {
     Header {
+        version: 1,
         pes: 2,
+        cnp: false,
         world: World::Hyp {
             el2_start: 1,
             s2_start: 1,

@@ -1,3 +1,4 @@
+pub mod WorldFaults
 pub mod Numerals
 pub mod Splitting
 pub mod Short

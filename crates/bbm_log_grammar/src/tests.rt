@@ -5,7 +5,9 @@ use bbm_regimes::World;
 /// A header of the Hyp world with two PEs.
 fn two_pes() -> Header {
     Header {
+        version: 1,
         pes: 2,
+        cnp: false,
         world: World::Hyp {
             el2_start: 1,
             s2_start: 1,

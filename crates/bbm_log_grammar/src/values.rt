@@ -2,15 +2,28 @@
 
 ghost use Rattle.std.specs.Prelude.{◌≡◌, Some, None};
 ghost use Rattle.bbm_events.specs.Spelling.{decimal_value, hex_value};
+ghost use Rattle.bbm_events.specs.Heading.{is_version};
 ghost use Rattle.bbm_events.specs.Fits as fits;
 ghost use Rattle.bbm_events.specs.Lines as lines;
 
 use crate::numbers::{read_decimal, read_hex};
-use bbm_events::{Header, root_pages};
+use bbm_events::{Header, page_count};
 use bbm_regimes::{Kind, Page, Pe, Place};
 
 /// Locks have numbers below 1,024.
 const LOCKS: u64 = 1024;
+
+/// The version of a log.
+pub(crate) fn version_of(field: &[u8]) -> Option<u8>
+    ensures { result ≡ lines.passing is_version (decimal_value field.now) }
+{
+    let number = read_decimal(field)?;
+    if 1 <= number && number <= 4 {
+        Some(number as u8)
+    } else {
+        None
+    }
+}
 
 /// A PE of the log.
 pub(crate) fn pe_of(header: &Header, field: &[u8]) -> Option<Pe>
@@ -43,7 +56,7 @@ pub(crate) fn root_page_of(header: &Header, kind: Kind, field: &[u8]) -> Option<
     ensures { result ≡ lines.passing (fits.is_root_page header.now.world kind) (hex_value field.now) }
 {
     let page = page_of(field)?;
-    if page.get() % (4096 * root_pages(header.world, kind) as u64) == 0 {
+    if page.get() % (4096 * page_count(header.world, kind) as u64) == 0 {
         Some(page)
     } else {
         None

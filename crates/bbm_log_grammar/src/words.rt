@@ -48,12 +48,32 @@ pub(crate) fn keyword_word(keyword: Keyword) -> &'static [u8]
 
 /// The keyword that the field is.
 pub(crate) fn keyword_of(field: &[u8]) -> Option<Keyword>
-    ensures { result ≡ words.value_of words.keyword_word words.keywords field.now }
+    ensures { result ≡ words.with_word words.keyword_word words.keywords field.now }
 {
     KEYWORDS
         .iter()
         .copied()
         .find(|keyword| keyword_word(*keyword) == field)
+}
+
+/// Whether TLBs are shared.
+const CNPS: [bool; 2] = [true, false];
+
+/// The word of whether TLBs are shared.
+pub(crate) fn cnp_word(cnp: bool) -> &'static [u8]
+    ensures { result.now ≡ words.cnp_word cnp }
+{
+    match cnp {
+        true => b"cnp",
+        false => b"-",
+    }
+}
+
+/// Whether TLBs are shared, by the field.
+pub(crate) fn cnp_of(field: &[u8]) -> Option<bool>
+    ensures { result ≡ words.with_word words.cnp_word words.cnps field.now }
+{
+    CNPS.iter().copied().find(|cnp| cnp_word(*cnp) == field)
 }
 
 /// The kinds of roots.
@@ -73,7 +93,7 @@ pub(crate) fn kind_word(kind: Kind) -> &'static [u8]
 
 /// The kind that the field is.
 pub(crate) fn kind_of(field: &[u8]) -> Option<Kind>
-    ensures { result ≡ words.value_of words.kind_word words.kinds field.now }
+    ensures { result ≡ words.with_word words.kind_word words.kinds field.now }
 {
     KINDS.iter().copied().find(|kind| kind_word(*kind) == field)
 }
@@ -95,7 +115,7 @@ pub(crate) fn reg_word(reg: Reg) -> &'static [u8]
 
 /// The register that the field is.
 pub(crate) fn reg_of(field: &[u8]) -> Option<Reg>
-    ensures { result ≡ words.value_of words.reg_word words.regs field.now }
+    ensures { result ≡ words.with_word words.reg_word words.regs field.now }
 {
     REGS.iter().copied().find(|reg| reg_word(*reg) == field)
 }
@@ -115,7 +135,7 @@ pub(crate) fn asid_from_word(asid_from: AsidFrom) -> &'static [u8]
 
 /// The register for the current ASID that the field is.
 pub(crate) fn asid_from_of(field: &[u8]) -> Option<AsidFrom>
-    ensures { result ≡ words.value_of words.asid_from_word words.asid_froms field.now }
+    ensures { result ≡ words.with_word words.asid_from_word words.asid_froms field.now }
 {
     ASID_FROMS
         .iter()
@@ -197,7 +217,7 @@ pub(crate) fn dsb_word(dsb: Dsb) -> &'static [u8]
 
 /// The barrier whose option the field is.
 pub(crate) fn dsb_of(field: &[u8]) -> Option<Dsb>
-    ensures { result ≡ words.value_of words.dsb_word words.dsbs field.now }
+    ensures { result ≡ words.with_word words.dsb_word words.dsbs field.now }
 {
     DSBS.iter().copied().find(|dsb| dsb_word(*dsb) == field)
 }
@@ -268,7 +288,7 @@ pub(crate) fn op_word(op: TlbiOp) -> &'static [u8]
 
 /// The operation that the field is.
 pub(crate) fn op_of(field: &[u8]) -> Option<TlbiOp>
-    ensures { result ≡ words.value_of words.op_word words.ops field.now }
+    ensures { result ≡ words.with_word words.op_word words.ops field.now }
 {
     OPS.iter().copied().find(|op| op_word(*op) == field)
 }

@@ -1,16 +1,16 @@
 //! The one line of a header, and of an item.
 
-ghost use Rattle.std.specs.Prelude.{◌≡◌, ◌+◌, ◌≤◌, true, Ok, ◌++◌, ◌∷◌, [], length, decimal};
+ghost use Rattle.std.specs.Prelude.{◌≡◌, ◌+◌, ◌≤◌, true, Ok, ◌++◌, ◌∷◌, [], length, codes, decimal};
 ghost use Rattle.arrayvec.specs.ArrayVec.{array_vec_len};
 ghost use Rattle.bbm_events.specs.declared.event.Event.TheVariants as event;
 ghost use Rattle.bbm_events.specs.Spelling.{hex, joined};
 ghost use Rattle.bbm_events.specs.Words as words;
 ghost use Rattle.bbm_events.specs.Fits.{item_fits};
-ghost use Rattle.bbm_events.specs.Lines.{header_of, item_of, header_line, item_line, lock_text, event_fields};
+ghost use Rattle.bbm_events.specs.Lines.{header_of, item_of, header_fields, cnp_fields, header_line, item_line, lock_text, event_fields};
 ghost use Rattle.bbm_regimes.specs.declared.regime.World.TheVariants.{Hyp, Kernel};
 
 use crate::spell::{add, add_decimal, add_hex};
-use crate::words::{asid_from_word, dsb_word, kind_word, op_word, reg_word};
+use crate::words::{asid_from_word, cnp_word, dsb_word, kind_word, op_word, reg_word};
 use arrayvec::ArrayVec;
 use bbm_barriers::Dsb;
 use bbm_events::{Event, Header, Item, law_written_is_read};
@@ -174,34 +174,59 @@ fn event_line(out: &mut ArrayVec<u8, 200>, event: Event)
     }
 }
 
-/// `bbmlog 1 hyp PES EL2START S2START S2PAGES`
-#[tactic(auto, unfolding(bbm_events::specs::Lines::header_line))]
-fn hyp_line(out: &mut ArrayVec<u8, 200>, pes: u8, el2_start: u8, s2_start: u8, s2_pages: u8)
+/// `bbmlog VERSION` and the word of the world.
+fn begin_header(out: &mut ArrayVec<u8, 200>, version: u8, world: &[u8])
     requires empty { out.old.items ≡ [] }
-    ensures { out.new.items ≡ header_line (record { pes = pes; world = Hyp el2_start s2_start s2_pages }) }
+    requires short { length world.now ≤ 12 }
+    ensures written { out.new.items ≡ joined (codes "bbmlog" ∷ decimal version ∷ world.now ∷ []) }
+    ensures longer { array_vec_len out.new ≤ 40 }
 {
-    add(out, b"bbmlog 1 hyp");
-    add_decimal_field(out, pes as u64);
+    add(out, b"bbmlog");
+    add_decimal_field(out, version as u64);
+    add_word_field(out, world);
+}
+
+/// `bbmlog VERSION hyp PES EL2START S2START S2PAGES`, and ` CNP` from version 2 on.
+#[tactic(auto, using(crate::proofs::Short::cnp_word_short))]
+fn hyp_line(out: &mut ArrayVec<u8, 200>, header: &Header, el2_start: u8, s2_start: u8, s2_pages: u8)
+    requires empty { out.old.items ≡ [] }
+    ensures { out.new.items ≡ joined (codes "bbmlog" ∷ decimal header.now.version ∷ header_fields header.now.pes (Hyp el2_start s2_start s2_pages) (cnp_fields header.now.version header.now.cnp)) }
+{
+    begin_header(out, header.version, b"hyp");
+    add_decimal_field(out, header.pes as u64);
     add_decimal_field(out, el2_start as u64);
     add_decimal_field(out, s2_start as u64);
     add_decimal_field(out, s2_pages as u64);
+    if header.version >= 2 {
+        add_word_field(out, cnp_word(header.cnp));
+    }
 }
 
-/// `bbmlog 1 kernel PES START0 START1 ASIDFROM`
-#[tactic(auto, unfolding(bbm_events::specs::Lines::header_line), using(crate::proofs::Short::asid_from_word_short))]
-fn kernel_line(out: &mut ArrayVec<u8, 200>, pes: u8, start0: u8, start1: u8, asid_from: AsidFrom)
+/// `bbmlog VERSION kernel PES START0 START1 ASIDFROM`, and ` CNP` from version 2 on.
+#[tactic(auto, using(crate::proofs::Short::asid_from_word_short, crate::proofs::Short::cnp_word_short))]
+fn kernel_line(
+    out: &mut ArrayVec<u8, 200>,
+    header: &Header,
+    start0: u8,
+    start1: u8,
+    asid_from: AsidFrom,
+)
     requires empty { out.old.items ≡ [] }
-    ensures { out.new.items ≡ header_line (record { pes = pes; world = Kernel start0 start1 asid_from }) }
+    ensures { out.new.items ≡ joined (codes "bbmlog" ∷ decimal header.now.version ∷ header_fields header.now.pes (Kernel start0 start1 asid_from) (cnp_fields header.now.version header.now.cnp)) }
 {
-    add(out, b"bbmlog 1 kernel");
-    add_decimal_field(out, pes as u64);
+    begin_header(out, header.version, b"kernel");
+    add_decimal_field(out, header.pes as u64);
     add_decimal_field(out, start0 as u64);
     add_decimal_field(out, start1 as u64);
     add_word_field(out, asid_from_word(asid_from));
+    if header.version >= 2 {
+        add_word_field(out, cnp_word(header.cnp));
+    }
 }
 
 /// Writes line 1 of a log with this header, without its newline, into an empty buffer. Reading the line
 /// gives the header again. Source: project's own choice.
+#[tactic(auto, unfolding(bbm_events::specs::Lines::header_line))]
 pub fn write_header(header: &Header, out: &mut ArrayVec<u8, 200>)
     requires empty { out.old.items ≡ [] }
     ensures line { out.new.items ≡ header_line header.now }
@@ -213,12 +238,12 @@ pub fn write_header(header: &Header, out: &mut ArrayVec<u8, 200>)
             el2_start,
             s2_start,
             s2_pages,
-        } => hyp_line(out, header.pes, el2_start, s2_start, s2_pages),
+        } => hyp_line(out, header, el2_start, s2_start, s2_pages),
         World::Kernel {
             start0,
             start1,
             asid_from,
-        } => kernel_line(out, header.pes, start0, start1, asid_from),
+        } => kernel_line(out, header, start0, start1, asid_from),
     }
 }
 

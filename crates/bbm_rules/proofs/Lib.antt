@@ -20,6 +20,13 @@ pub mod CasesLimits
 pub mod CasesAnswers
 pub mod ReadableLaw
 pub mod OpenLaw
+pub mod EqualityLaw
+pub mod SearchLemmas
+pub mod LockLaw
+pub mod TagSetLaw
+pub mod ChangesLaw
+pub mod RegisterLaw
+pub mod RootLaw
 pub mod TagLaw
 pub mod NotesLaw
 pub mod Patterns

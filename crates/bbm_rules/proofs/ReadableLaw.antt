@@ -1,12 +1,16 @@
 -- The readable values of a place are those that the sentence names.
 use Rattle.std.proofs.Common.{◌≡◌, ℕ, Bool, true, false, cond, ◌||◌, ◌==◌, List, [], ◌∷◌, ◌++◌, refl, sym, ◌∙◌, ap, subst, inl, inr, true≢false}
-use Rattle.std.proofs.lemmas.Bool.{eqb-true, eq-eqb, or_cases, or_left, or_right}
+use Rattle.std.proofs.lemmas.Bool.{and_from, and_parts, eqb-true, eq-eqb, or_cases, or_left, or_right}
+use Rattle.bbm_barriers.specs.declared.Dsb.{Dsb as Barrier}
 use Rattle.bbm_events.specs.Heading.{Heading}
 use Rattle.bbm_events.specs.declared.event.Event.{Event}
-use Rattle.bbm_events.specs.declared.event.Event.TheVariants.{Init, Write}
-use Rattle.bbm_rules.specs.Places.{page_of, among}
-use Rattle.bbm_rules.specs.Values.{value_of, published, publishes_for, readable_before, is_readable}
-use Rattle.bbm_rules.specs.Sentences.{Readable}
+use Rattle.bbm_events.specs.declared.event.Event.TheVariants.{Init, Write, Dsb}
+use Rattle.bbm_rules.proofs.OpenLaw.{In}
+use Rattle.bbm_rules.proofs.SearchLemmas.{any_finds, any_found, in_split, split_in}
+use Rattle.bbm_rules.specs.Lists.{among}
+use Rattle.bbm_rules.specs.Places.{page_of}
+use Rattle.bbm_rules.specs.Values.{value_of, published, publishes_for, publishes_to, readable_before, is_readable}
+use Rattle.bbm_rules.specs.Sentences.{Published, Readable}
 
 -- the event is an init of the page, or a write of the place
 abbrev inits : ℕ → Event → Bool
@@ -275,3 +279,35 @@ readable_complete heading h place p value r =
     })))
 
 pub ruleset laws = (readable_sound, readable_complete)
+
+-- Published, by a later DSB.
+is_publisher : (heading : Heading) (q p : ℕ) (e : Event) → publishes_for heading q p e ≡ true
+    → (dsb : Barrier) × (e ≡ Dsb q dsb) × (publishes_to heading dsb q p ≡ true)
+is_publisher heading q p (Dsb pe dsb) k =
+    let parts = and_parts (pe == q) (publishes_to heading dsb pe p) k in
+    let pe_is : pe ≡ q = eqb-true pe q parts.0 in
+    (dsb, ap (λ n. Dsb n dsb) pe_is, sym (ap (λ n. publishes_to heading dsb n p) pe_is) ∙ parts.1)
+is_publisher heading q p e k = absurd (true≢false (sym k))
+
+pub published_sound : (heading : Heading) (q p : ℕ) (later : List Event) → published heading q p later ≡ true
+    → Published heading q p later
+published_sound heading q p later k =
+    let r = any_found (publishes_for heading q p) later k in
+    let s = split_in later r.0 r.1 in
+    let d = is_publisher heading q p r.0 r.2 in
+    record {
+      dsb = d.0;
+      after = s.0;
+      before = s.1;
+      split = s.2 ∙ ap (λ e. s.0 ++ e ∷ s.1) d.1;
+      publishes = d.2;
+    }
+
+pub published_complete : (heading : Heading) (q p : ℕ) (later : List Event) → Published heading q p later
+    → published heading q p later ≡ true
+published_complete heading q p later s =
+    any_finds (publishes_for heading q p) later (Dsb q s.dsb)
+    (subst (λ (es : List Event). In es (Dsb q s.dsb)) (sym s.split) (in_split s.after s.before (Dsb q s.dsb)))
+    (and_from (q == q) (publishes_to heading s.dsb q p) (self_eq q) s.publishes)
+
+pub ruleset published_laws = (published_sound, published_complete)

@@ -1,6 +1,7 @@
 pub mod Answers
 pub mod Attach
 pub mod Broken
+pub mod Changes
 pub mod Claims
 pub mod Cleansing
 pub mod Covers
@@ -8,6 +9,7 @@ pub mod FirstPath
 pub mod FirstPathAnswers
 pub mod Held
 pub mod Limits
+pub mod Lists
 pub mod Locks
 pub mod Notes
 pub mod Outcome

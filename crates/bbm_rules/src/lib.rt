@@ -3,6 +3,7 @@
 
 pub mod checker;
 pub mod claim;
+pub mod event_laws;
 pub mod first_path;
 pub mod laws;
 pub mod phase;
@@ -12,6 +13,10 @@ pub mod verdict;
 
 pub use checker::Checker;
 pub use claim::Claim;
+pub use event_laws::{
+    law_changes, law_equality_tests, law_lock_held, law_published, law_readable_register, law_root,
+    law_tag_set,
+};
 pub use first_path::FirstPathChecker;
 pub use laws::{
     law_answered, law_notes_keep_the_events, law_one_node, law_readable_value, law_tag_held,
@@ -23,6 +28,10 @@ pub use verdict::{Verdict, law_first_line_decides};
 
 #[cfg(test)]
 mod tests {
+    use crate::event_laws::{
+        law_changes, law_equality_tests, law_lock_held, law_published, law_readable_register,
+        law_root,
+    };
     use crate::laws::{
         law_answered, law_notes_keep_the_events, law_one_node, law_readable_value, law_tag_held,
     };
@@ -31,9 +40,16 @@ mod tests {
     #[test]
     fn laws_hold() {
         law_answered();
+        law_changes();
+        law_equality_tests();
+        law_lock_held();
         law_notes_keep_the_events();
         law_one_node();
+        law_published();
+        law_readable_register();
         law_readable_value();
+        law_root();
+        law_tag_set();
         law_tag_held();
         law_first_line_decides();
     }
