@@ -9,7 +9,7 @@ use Rattle.bbm_events.specs.declared.event.Event.TheVariants.{Init, Root, Msr}
 use Rattle.bbm_rules.specs.Limits.{limit_of}
 use Rattle.bbm_rules.specs.Outcome.{Limits, check_limits, limit_at}
 use Rattle.bbm_rules.specs.Pages.{initialised}
-use Rattle.bbm_rules.specs.Places.{among}
+use Rattle.bbm_rules.specs.Lists.{among}
 use Rattle.bbm_rules.specs.Registers.{register_values}
 use Rattle.bbm_rules.specs.Roots.{roots_of}
 use Rattle.bbm_rules.proofs.Judged.{judged}

@@ -18,6 +18,8 @@ pub mod CasesClaims
 pub mod CasesValues
 pub mod CasesLimits
 pub mod CasesAnswers
+pub mod CasesVersions
+pub mod CasesUnreached
 pub mod ReadableLaw
 pub mod OpenLaw
 pub mod EqualityLaw

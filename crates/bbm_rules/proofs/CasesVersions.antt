@@ -1,0 +1,58 @@
+-- Worked cases: what later versions of a log have: shared TLBs, more PEs, labels and flushes of ranges.
+use Rattle.std.specs.Prelude.{◌≡◌, [], ◌∷◌, codes, refl}
+use Rattle.bbm_rules.proofs.Judged.{judged}
+
+-- Where PEs share no TLB entries each may flush for itself, as in version 1.
+pub version_2_without_cnp : judged (
+    "bbmlog 2 hyp 2 1 1 1 -"
+    ∷ "init 0 0x40000000"
+    ∷ "root 0 el2 - 0x40000000"
+    ∷ "w 0 0x40000008 0x80000701"
+    ∷ "dsb 0 ish"
+    ∷ "w 0 0x40000008 0x0"
+    ∷ "dsb 0 ishst"
+    ∷ "tlbi 0 alle2"
+    ∷ "dsb 0 nsh"
+    ∷ "tlbi 1 alle2"
+    ∷ "dsb 1 nsh"
+    ∷ "w 0 0x40000008 0xc0000701"
+    ∷ "end 11"
+    ∷ []) ≡ codes "accepted 11 events\n"
+unfolding judged
+version_2_without_cnp = refl
+
+-- Where PEs may share TLB entries a register value may have the CnP bit.
+pub cnp_bit_with_cnp : judged (
+    "bbmlog 2 hyp 2 1 1 1 cnp"
+    ∷ "init 0 0x40000000"
+    ∷ "root 0 el2 - 0x40000000"
+    ∷ "msr 0 ttbr0_el2 0x40000001"
+    ∷ "end 3"
+    ∷ []) ≡ codes "accepted 3 events\n"
+unfolding judged
+cnp_bit_with_cnp = refl
+
+-- A log of version 3 has up to 128 PEs.
+pub version_3_remap : judged (
+    "bbmlog 3 hyp 128 1 1 1 -"
+    ∷ "init 0 0x40000000"
+    ∷ "root 0 el2 - 0x40000000"
+    ∷ "w 0 0x40000008 0x80000701"
+    ∷ "dsb 0 ishst"
+    ∷ "w 0 0x40000008 0x0"
+    ∷ "dsb 0 ishst"
+    ∷ "tlbi 0 vae2is 0x40000"
+    ∷ "dsb 0 ish"
+    ∷ "w 0 0x40000008 0xc0000701"
+    ∷ "end 9"
+    ∷ []) ≡ codes "accepted 9 events\n"
+unfolding judged
+version_3_remap = refl
+
+-- And no more.
+pub header_with_129_pes : judged (
+    "bbmlog 3 hyp 129 1 1 1 -"
+    ∷ "end 0"
+    ∷ []) ≡ codes "malformed line 1 cause 2 BadHeader\n"
+unfolding judged
+header_with_129_pes = refl
