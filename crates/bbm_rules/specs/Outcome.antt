@@ -44,7 +44,7 @@ abbrev pub is_too_long : List ℕ → Bool
 is_too_long line = nat_lt 200 (length line)
 
 -- What a log is judged by: whether a header and an event are judged at all, the least rule that an event breaks after
--- a history, and the limit that it reaches. `whole` are the rules; `first_path` is what this version judges, in whose
+-- a history, and the limit that it reaches. `all_rules` are the rules; `first_path` is what this version judges, in whose
 -- logs no event reaches a limit of a history before that on events.
 pub record Judge : Type 0 where
   pub judges_heading : Heading → Bool
@@ -52,8 +52,8 @@ pub record Judge : Type 0 where
   pub breach : Heading → List Event → Event → Option Breach
   pub limit : List Event → Event → Option Which
 
-abbrev pub whole : Trust → Judge
-whole trust = record {
+abbrev pub all_rules : Trust → Judge
+all_rules trust = record {
   judges_heading = λ heading. true;
   judges = λ heading h event. true;
   breach = λ heading h event. broken heading trust h event;
