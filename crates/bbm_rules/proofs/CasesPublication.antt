@@ -149,6 +149,22 @@ pub store_barrier_answers_nothing : judged (
 unfolding judged
 store_barrier_answers_nothing = refl
 
+-- The DSB is of another PE than the TLBI, so it doesn't answer it.
+pub dsb_of_another_pe_answers_nothing : judged (
+    "bbmlog 1 hyp 2 1 1 1"
+    ∷ "init 0 0x40000000"
+    ∷ "root 0 el2 - 0x40000000"
+    ∷ "w 0 0x40000008 0x80000701"
+    ∷ "w 0 0x40000008 0x0"
+    ∷ "dsb 0 ishst"
+    ∷ "tlbi 0 vae2is 0x40000"
+    ∷ "dsb 1 ish"
+    ∷ "w 0 0x40000008 0xc0000701"
+    ∷ "end 8"
+    ∷ []) ≡ codes "refused line 9 rule 4 break-before-make at 0x40000008\n"
+unfolding judged
+dsb_of_another_pe_answers_nothing = refl
+
 -- A non-shareable DSB doesn't answer a broadcast TLBI.
 pub nsh_answers_no_broadcast : judged (
     "bbmlog 1 hyp 2 1 1 1"

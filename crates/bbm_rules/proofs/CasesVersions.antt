@@ -56,3 +56,33 @@ pub header_with_129_pes : judged (
     ∷ []) ≡ codes "malformed line 1 cause 2 BadHeader\n"
 unfolding judged
 header_with_129_pes = refl
+
+-- The verdict on a refused log carries the label of the deciding event.
+pub label_of_the_refused_event : judged (
+    "bbmlog 3 hyp 128 1 1 1 -"
+    ∷ "init 0 0x40000000 @boot.c:10"
+    ∷ "root 0 el2 - 0x40000000"
+    ∷ "w 127 0x40000008 0x80000701"
+    ∷ "w 127 0x40000008 0xc0000701 @mm/map.c:88"
+    ∷ "end 4"
+    ∷ []) ≡ codes "refused line 5 rule 4 break-before-make at 0x40000008 @mm/map.c:88\n"
+unfolding judged
+label_of_the_refused_event = refl
+
+-- A label has one byte at least.
+pub empty_label : judged (
+    "bbmlog 3 hyp 128 1 1 1 -"
+    ∷ "isb 127 @"
+    ∷ "end 1"
+    ∷ []) ≡ codes "malformed line 2 cause 13 BadLabel\n"
+unfolding judged
+empty_label = refl
+
+-- A field that doesn't begin with `@` is no label.
+pub field_that_is_no_label : judged (
+    "bbmlog 3 hyp 128 1 1 1 -"
+    ∷ "isb 127 x"
+    ∷ "end 1"
+    ∷ []) ≡ codes "malformed line 2 cause 8 ExtraField\n"
+unfolding judged
+field_that_is_no_label = refl

@@ -102,25 +102,28 @@ pub data Step : Type 0 where
   Decides : Verdict → Step
   GoesOn : Progress → Step
 
--- The order within one line: a malformed line, one that isn't judged, a broken rule, a limit.
+-- The order within one line: a malformed line, one that isn't judged, a broken rule, a limit. A label of the event
+-- goes into the verdict that refuses it, and into no history.
 
 -- an event that keeps the rules, by the limit that it reaches
 abbrev pub after_kept : ℕ → Heading → List Event → Event → Option Which → Step
 after_kept number heading h event (Some which) = Decides (Limit number which)
 after_kept number heading h event None = GoesOn (AtEvents heading (event ∷ h))
 
-abbrev pub after_judged : Judge → Limits → ℕ → Heading → List Event → Event → Option Breach → Step
-after_judged judge limits number heading h event (Some breach) = Decides (Refused number breach.rule breach.at)
-after_judged judge limits number heading h event None =
+abbrev pub after_judged : Judge → Limits → ℕ → Heading → List Event → Event → Option (List ℕ) → Option Breach → Step
+after_judged judge limits number heading h event label (Some breach) = Decides (Refused number breach.rule breach.at label)
+after_judged judge limits number heading h event label None =
     after_kept number heading h event (limit_at limits number h (judge.limit h event))
 
-abbrev pub after_event : Judge → Limits → ℕ → Heading → List Event → Event → Step
-after_event judge limits number heading h event =
-    if judge.judges heading h event then after_judged judge limits number heading h event (judge.breach heading h event)
+abbrev pub after_event : Judge → Limits → ℕ → Heading → List Event → Event → Option (List ℕ) → Step
+after_event judge limits number heading h event label =
+    if judge.judges heading h event
+    then after_judged judge limits number heading h event label (judge.breach heading h event)
     else Decides (Malformed number NotBuilt)
 
 abbrev pub after_item : Judge → Limits → ℕ → Heading → List Event → Result Item Cause → Step
-after_item judge limits number heading h (Ok (item.Event event)) = after_event judge limits number heading h event
+after_item judge limits number heading h (Ok (item.Event event label)) =
+    after_event judge limits number heading h event label
 after_item judge limits number heading h (Ok (item.End count)) =
     if count == length h then GoesOn (AtEnd h) else Decides (Malformed number WrongCount)
 after_item judge limits number heading h (Err cause) = Decides (Malformed number cause)
@@ -203,7 +206,7 @@ outcome_of judge limits bytes = outcome_of_lines judge limits (text_of bytes).li
 abbrev pub verdict_of_bytes : Judge → Limits → List ℕ → Verdict
 verdict_of_bytes judge limits bytes = (outcome_of judge limits bytes).verdict
 
--- the events of the log: those before the deciding line, or all of them, the newest first
+-- the events of the log, without their labels: those before the deciding line, or all of them, the newest first
 abbrev pub log_of : Judge → Limits → List ℕ → List Event
 log_of judge limits bytes = (outcome_of judge limits bytes).log
 
