@@ -108,3 +108,8 @@ some_weaker test other h weaker s =
       split = f.split;
       passed = weaker f.item f.older f.passed;
     })
+
+pub any_weaker : {A : Type 0} (test other : A → Bool) (xs : List A)
+    → ((x : A) → test x ≡ true → other x ≡ true) → any test xs ≡ true → any other xs ≡ true
+any_weaker test other xs weaker s =
+    let f = any_found test xs s in any_finds other xs f.0 f.1 (weaker f.0 f.2)
