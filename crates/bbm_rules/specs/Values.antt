@@ -65,8 +65,5 @@ module _ (heading : Heading) where
       if page == page_of place then 0 ∷ [] else readable_before (Init q page ∷ later) h place p
   readable_before later (e ∷ h) place p = readable_before (e ∷ later) h place p
 
-  abbrev pub readable_values : List Event → ℕ → ℕ → List ℕ
-  readable_values h place p = readable_before [] h place p
-
   abbrev pub is_readable : List Event → ℕ → ℕ → ℕ → Bool
-  is_readable h place p value = among value (readable_values h place p)
+  is_readable h place p value = among value (readable_before [] h place p)
