@@ -2,18 +2,9 @@
 -- Source: project's own choice, but where another is named.
 use Rattle.std.specs.Prelude.{ℕ, ◌*◌, ◌/◌, ◌%◌, ◌^◌, Bool, ◌&&◌, ◌==◌, List, [], ◌∷◌, Option, Some, None, is_none, map, if◌then◌else◌}
 use Rattle.std.specs.Result.{result_ok}
-use Rattle.bbm_regimes.specs.declared.regime.Reg.{Reg}
-use Rattle.bbm_regimes.specs.declared.regime.Reg.TheVariants.{VttbrEl2}
 pub use Rattle.bbm_regimes.specs.Same.{kind_of_reg, same_reg}
-use Rattle.bbm_regimes.specs.declared.regime.World.{World}
-use Rattle.bbm_regimes.specs.declared.regime.World.TheVariants.{Hyp, Kernel}
-use Rattle.bbm_tlbi_scope.specs.declared.op.TlbiOp.{TlbiOp}
-use Rattle.bbm_tlbi_scope.specs.declared.scope.Scope.{Scope}
-use Rattle.bbm_tlbi_scope.specs.Decode.{scope_of}
 use Rattle.bbm_tlbi_scope.specs.Operations.{scoped_by_vmid}
-use Rattle.bbm_events.specs.Heading.{Heading}
-use Rattle.bbm_events.specs.declared.event.Event.{Event}
-use Rattle.bbm_events.specs.declared.event.Event.TheVariants.{Isb, Msr}
+use Rattle.bbm_rules.specs.Prelude.{Reg, VttbrEl2, World, Hyp, Kernel, TlbiOp, Scope, scope_of, Heading, Event, Isb, Msr}
 use Rattle.bbm_rules.specs.Lists.{newest, one_number}
 
 -- Readable values of a register of p, newest first: those that it had, the first 0 among them, and that no later

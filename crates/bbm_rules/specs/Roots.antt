@@ -1,12 +1,9 @@
 -- Roots of translation tables. A history is newest first.
 -- Source: project's own choice, but where another is named.
 use Rattle.std.specs.Prelude.{ℕ, zero, suc, ◌+◌, Bool, not, ◌&&◌, ◌==◌, List, [], ◌∷◌, Option, filter, find, if◌then◌else◌}
-use Rattle.bbm_regimes.specs.declared.regime.Kind.{Kind}
-use Rattle.bbm_regimes.specs.declared.regime.World.{World}
 pub use Rattle.bbm_regimes.specs.Same.{same_kind}
 pub use Rattle.bbm_regimes.specs.World.{first_input_page, input_pages, kind_in_world, page_count, start_of}
-use Rattle.bbm_events.specs.declared.event.Event.{Event}
-use Rattle.bbm_events.specs.declared.event.Event.TheVariants.{Root, Unroot}
+use Rattle.bbm_rules.specs.Prelude.{Kind, World, Event, Root, Unroot}
 use Rattle.bbm_rules.specs.Lists.{◌>>=◌, any}
 
 -- a declared root: its first page, its kind, and the lock that its writers hold, or none

@@ -1,13 +1,10 @@
 -- The values of a place, and which of them a PE may still read. A history is newest first.
 -- Source: project's own choice, but where another is named.
 use Rattle.std.specs.Prelude.{ℕ, Bool, true, false, not, ◌&&◌, ◌==◌, List, [], ◌∷◌, filter, if◌then◌else◌}
-use Rattle.bbm_barriers.specs.declared.Dsb.{Dsb as Barrier}
 use Rattle.bbm_barriers.specs.declared.Domain.{Domain}
 use Rattle.bbm_barriers.specs.declared.Domain.TheVariants.{Non}
 use Rattle.bbm_barriers.specs.Options.{publishes}
-use Rattle.bbm_events.specs.Heading.{Heading}
-use Rattle.bbm_events.specs.declared.event.Event.{Event}
-use Rattle.bbm_events.specs.declared.event.Event.TheVariants.{Init, Write, Dsb}
+use Rattle.bbm_rules.specs.Prelude.{Barrier, Heading, Event, Init, Write, Dsb}
 use Rattle.bbm_rules.specs.Lists.{among, any, with_number}
 use Rattle.bbm_rules.specs.Places.{page_of}
 
