@@ -1,10 +1,7 @@
 -- The readable values of a place are those that the sentence names.
 use Rattle.std.proofs.Common.{◌≡◌, ℕ, Bool, true, false, cond, ◌||◌, ◌==◌, List, [], ◌∷◌, ◌++◌, refl, sym, ◌∙◌, ap, subst, inl, inr, true≢false}
 use Rattle.std.proofs.lemmas.Bool.{and_from, and_parts, eqb-true, or_cases, or_left, or_right}
-use Rattle.bbm_barriers.specs.declared.Dsb.{Dsb as Barrier}
-use Rattle.bbm_events.specs.Heading.{Heading}
-use Rattle.bbm_events.specs.declared.event.Event.{Event}
-use Rattle.bbm_events.specs.declared.event.Event.TheVariants.{Init, Write, Dsb}
+use Rattle.bbm_rules.specs.Prelude.{Barrier, Heading, Event, Init, Write, Dsb}
 use Rattle.bbm_rules.proofs.EqualityLaw.{same_number}
 use Rattle.bbm_rules.proofs.OpenLaw.{In, head_of, tail_of}
 use Rattle.bbm_rules.proofs.SearchLemmas.{any_finds, any_found, in_split, split_in}

@@ -1,9 +1,7 @@
 -- The roots of a history are those that the sentence names, and a page has one at most.
 use Rattle.std.proofs.Common.{◌≡◌, ℕ, Bool, true, false, cond, not, ◌==◌, List, [], ◌∷◌, ◌++◌, Option, Some, Contains, find, refl, sym, ◌∙◌, ap, subst, inl, inr, true≢false}
 use Rattle.std.proofs.lemmas.Bool.{eqb-true, false_from_ne_true, not-true, not_from_false, or_from, or_parts}
-use Rattle.bbm_regimes.specs.declared.regime.Kind.{Kind}
-use Rattle.bbm_events.specs.declared.event.Event.{Event}
-use Rattle.bbm_events.specs.declared.event.Event.TheVariants.{Root, Unroot}
+use Rattle.bbm_rules.specs.Prelude.{Kind, Event, Root, Unroot}
 use Rattle.bbm_rules.proofs.EqualityLaw.{same_number}
 use Rattle.bbm_rules.proofs.ListLemmas.{found, from_filter, to_filter}
 use Rattle.bbm_rules.proofs.OpenLaw.{In, from_contains, to_contains}

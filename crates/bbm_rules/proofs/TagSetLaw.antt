@@ -1,10 +1,8 @@
 -- The list of the tags that a root holds has each of them once, so the tag set says whether there is none, one or more.
 use Rattle.std.proofs.Common.{◌≡◌, ℕ, Bool, true, false, cond, not, ◌&&◌, ◌==◌, List, [], ◌∷◌, filter, filter_map, flat_map, Some, refl, sym, ◌∙◌, ap, subst, inl, inr, true≢false}
 use Rattle.std.proofs.lemmas.Bool.{and_parts, false_from_ne_true, or_cases}
-use Rattle.bbm_regimes.specs.declared.regime.Tag.{Tag}
 use Rattle.bbm_tlbi_scope.specs.declared.entry.TagSet.TheVariants.{None as NoTag, One, Many}
-use Rattle.bbm_events.specs.Heading.{Heading}
-use Rattle.bbm_events.specs.declared.event.Event.{Event}
+use Rattle.bbm_rules.specs.Prelude.{Tag, Heading, Event}
 use Rattle.bbm_rules.proofs.EqualityLaw.{tag_equal, tag_self}
 use Rattle.bbm_rules.proofs.ListLemmas.{from_filter, in_left, in_right, to_filter, to_filter_map, to_flat}
 use Rattle.bbm_rules.proofs.OpenLaw.{In}
