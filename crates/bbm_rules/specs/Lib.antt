@@ -16,6 +16,7 @@ pub mod Outcome
 pub mod Pages
 pub mod Phases
 pub mod Places
+pub mod Prelude
 pub mod Reach
 pub mod Registers
 pub mod Roots

@@ -30,7 +30,7 @@ pub use verdict::{Verdict, law_first_line_decides};
 mod tests {
     use crate::event_laws::{
         law_changes, law_equality_tests, law_lock_held, law_published, law_readable_register,
-        law_root,
+        law_root, law_tag_set,
     };
     use crate::laws::{
         law_answered, law_notes_keep_the_events, law_one_node, law_readable_value, law_tag_held,
