@@ -296,6 +296,29 @@ pub root_of_a_page_never_initialised : judged (
 unfolding judged
 root_of_a_page_never_initialised = refl
 
+-- A page that points to a fresh page becomes a root.
+pub root_that_links_a_fresh_page : judged (
+    "bbmlog 1 hyp 2 1 1 1"
+    ∷ "init 0 0x40000000"
+    ∷ "init 0 0x40001000"
+    ∷ "w 0 0x40000008 0x40001003"
+    ∷ "root 0 el2 - 0x40000000"
+    ∷ "end 4"
+    ∷ []) ≡ codes "accepted 4 events\n"
+unfolding judged
+root_that_links_a_fresh_page = refl
+
+-- A page that points to a page which was never initialised becomes a root.
+pub root_that_links_a_page_never_initialised : judged (
+    "bbmlog 1 hyp 2 1 1 1"
+    ∷ "init 0 0x40000000"
+    ∷ "w 0 0x40000008 0x40001003"
+    ∷ "root 0 el2 - 0x40000000"
+    ∷ "end 3"
+    ∷ []) ≡ codes "refused line 4 rule 6 not-fresh at 0x40001000\n"
+unfolding judged
+root_that_links_a_page_never_initialised = refl
+
 -- A page of a tree becomes no root.
 pub root_declared_twice : judged (
     "bbmlog 1 hyp 2 1 1 1"
