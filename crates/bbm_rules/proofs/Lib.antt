@@ -32,6 +32,7 @@ pub mod RootLaw
 pub mod TagLaw
 pub mod NotesLaw
 pub mod Patterns
+pub mod PatternLaw
 pub mod ListLemmas
 pub mod RuleLemmas
 pub mod HeldLemmas
@@ -40,3 +41,4 @@ pub mod TreeLemmas
 pub mod PathLemmas
 pub mod GrowthLemmas
 pub mod OneNodeLaw
+pub mod VersionLaw

@@ -5,6 +5,7 @@ pub mod checker;
 pub mod claim;
 pub mod event_laws;
 pub mod first_path;
+pub mod history_laws;
 pub mod laws;
 pub mod phase;
 pub mod rule;
@@ -18,8 +19,9 @@ pub use event_laws::{
     law_tag_set,
 };
 pub use first_path::FirstPathChecker;
+pub use history_laws::{law_cleansed, law_half, law_seen};
 pub use laws::{
-    law_answered, law_notes_keep_the_events, law_one_node, law_readable_value, law_tag_held,
+    law_answered, law_notes_keep_the_events, law_one_node, law_readable_value, law_tag_held, law_version,
 };
 pub use phase::Phase;
 pub use rule::Rule;
@@ -32,14 +34,18 @@ mod tests {
         law_changes, law_equality_tests, law_lock_held, law_published, law_readable_register,
         law_root, law_tag_set,
     };
+    use crate::history_laws::{law_cleansed, law_half, law_seen};
     use crate::laws::{
-        law_answered, law_notes_keep_the_events, law_one_node, law_readable_value, law_tag_held,
+        law_answered, law_notes_keep_the_events, law_one_node, law_readable_value, law_tag_held, law_version,
     };
     use crate::verdict::law_first_line_decides;
 
     #[test]
     fn laws_hold() {
         law_answered();
+        law_cleansed();
+        law_half();
+        law_seen();
         law_changes();
         law_equality_tests();
         law_lock_held();
@@ -52,5 +58,6 @@ mod tests {
         law_tag_set();
         law_tag_held();
         law_first_line_decides();
+        law_version();
     }
 }
