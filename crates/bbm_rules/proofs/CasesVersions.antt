@@ -21,6 +21,25 @@ pub version_2_without_cnp : judged (
 unfolding judged
 version_2_without_cnp = refl
 
+-- Where PEs may share TLB entries a local flush covers nothing.
+pub cnp_local_flush_is_refused : judged (
+    "bbmlog 2 hyp 2 1 1 1 cnp"
+    ∷ "init 0 0x40000000"
+    ∷ "root 0 el2 - 0x40000000"
+    ∷ "w 0 0x40000008 0x80000701"
+    ∷ "dsb 0 ish"
+    ∷ "w 0 0x40000008 0x0"
+    ∷ "dsb 0 ishst"
+    ∷ "tlbi 0 alle2"
+    ∷ "dsb 0 nsh"
+    ∷ "tlbi 1 alle2"
+    ∷ "dsb 1 nsh"
+    ∷ "w 0 0x40000008 0xc0000701"
+    ∷ "end 11"
+    ∷ []) ≡ codes "refused line 12 rule 4 break-before-make at 0x40000008\n"
+unfolding judged
+cnp_local_flush_is_refused = refl
+
 -- Where PEs may share TLB entries a register value may have the CnP bit.
 pub cnp_bit_with_cnp : judged (
     "bbmlog 2 hyp 2 1 1 1 cnp"
@@ -31,6 +50,17 @@ pub cnp_bit_with_cnp : judged (
     ∷ []) ≡ codes "accepted 3 events\n"
 unfolding judged
 cnp_bit_with_cnp = refl
+
+-- Where they share none it may not.
+pub cnp_bit_without_cnp : judged (
+    "bbmlog 2 hyp 2 1 1 1 -"
+    ∷ "init 0 0x40000000"
+    ∷ "root 0 el2 - 0x40000000"
+    ∷ "msr 0 ttbr0_el2 0x40000001"
+    ∷ "end 3"
+    ∷ []) ≡ codes "refused line 4 rule 1 wrong-world at 0x0\n"
+unfolding judged
+cnp_bit_without_cnp = refl
 
 -- A log of version 3 has up to 128 PEs.
 pub version_3_remap : judged (
