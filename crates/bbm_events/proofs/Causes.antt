@@ -11,7 +11,7 @@ use Rattle.bbm_events.specs.declared.keyword.Keyword.TheVariants as first
 use Rattle.bbm_regimes.specs.declared.regime.World.TheVariants.{Hyp, Kernel}
 use Rattle.bbm_tlbi_scope.specs.declared.op.TlbiOp.{TlbiOp}
 use Rattle.bbm_tlbi_scope.specs.Operations.{has_operand}
-use Rattle.bbm_events.specs.Heading.{Heading, heading_ok, is_version, may_label, may_share}
+use Rattle.bbm_events.specs.Heading.{Heading, heading_ok, is_version, has_op, may_label, may_share}
 use Rattle.bbm_events.specs.Spelling.{fields, decimal_value, hex_value}
 use Rattle.bbm_events.specs.Fits.{is_pe, is_page, is_place, is_root_page, is_count}
 use Rattle.bbm_events.specs.Words.{with_word, keyword_word, keywords, cnp_word, cnps, kind_word, kinds, reg_word, regs, dsb_word, dsbs, op_word, ops, asid_from_word, asid_froms}
@@ -99,7 +99,7 @@ root_line_ends h rest =
 tlbi_line_ends : (h : Heading) (rest : Fields) → Ends IsLineCause (tlbi_line h rest)
 tlbi_line_ends h rest =
     then_ends IsLineCause (pe_field h rest) _ (pe_ends h rest) (λ pe.
-    then_ends IsLineCause (op_field pe.1) _ (word_ends (with_word op_word ops) pe.1) (λ op.
+    then_ends IsLineCause (op_field h.version pe.1) _ (word_ends (λ text. passing (has_op h.version) (with_word op_word ops text)) pe.1) (λ op.
     then_ends IsLineCause (operand_field op.0 op.1) _ (operand_ends op.0 op.1) (λ xt. item_ends h _ xt.1)))
 
 end_line_ends : (rest : Fields) → Ends IsLineCause (end_line rest)

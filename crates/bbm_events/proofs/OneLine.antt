@@ -17,7 +17,7 @@ use Rattle.bbm_events.specs.declared.event.Item.{Item}
 use Rattle.bbm_events.specs.declared.event.Item.TheVariants as item
 use Rattle.bbm_events.specs.declared.malformed.Malformed.{Malformed}
 use Rattle.bbm_events.specs.declared.malformed.Malformed.TheVariants.{NoMagic, BadHeader, UnknownWord, BadNumber, BadPe, BadAddress, MissingField, BadLabel}
-use Rattle.bbm_events.specs.Heading.{Heading, heading_ok, is_version, may_label, may_share}
+use Rattle.bbm_events.specs.Heading.{Heading, heading_ok, is_version, has_op, may_label, may_share}
 use Rattle.bbm_events.specs.Label.{is_label}
 use Rattle.bbm_events.specs.Spelling.{fields, hex, decimal_value, hex_value}
 use Rattle.bbm_tlbi_scope.specs.Operations.{has_operand}
@@ -28,9 +28,9 @@ use Rattle.bbm_events.proofs.Readings.{bind_ok, field_ok}
 use Rattle.bbm_events.proofs.Joining.{joined_fields}
 use Rattle.bbm_events.proofs.OneSpelling.{decimal_once, hex_once, word_once}
 
-passing_from : (test : ℕ → Bool) (o : Option ℕ) {n : ℕ} → passing test o ≡ Some n → o ≡ Some n
+passing_from : {A : Type 0} (test : A → Bool) (o : Option A) {n : A} → passing test o ≡ Some n → o ≡ Some n
 passing_from test None e = cc
-passing_from test (Some m) {n = n} e = by (test m) e
+passing_from {A = A} test (Some m) {n = n} e = by (test m) e
   where
     by : (t : Bool) → cond t (Some m) None ≡ Some n → Some m ≡ Some n
     by true f = f
@@ -92,8 +92,10 @@ kind_once rest x e = field_once MissingField UnknownWord (with_word kind_word ki
 dsb_once : (rest : Fields) (x : Dsb × Fields) → dsb_field rest ≡ Ok x → rest ≡ dsb_word x.0 ∷ x.1
 dsb_once rest x e = field_once MissingField UnknownWord (with_word dsb_word dsbs) dsb_word (λ text v f. word_once dsb_word dsbs text f) rest e
 
-op_once : (rest : Fields) (x : TlbiOp × Fields) → op_field rest ≡ Ok x → rest ≡ op_word x.0 ∷ x.1
-op_once rest x e = field_once MissingField UnknownWord (with_word op_word ops) op_word (λ text v f. word_once op_word ops text f) rest e
+op_once : (version : ℕ) (rest : Fields) (x : TlbiOp × Fields) → op_field version rest ≡ Ok x → rest ≡ op_word x.0 ∷ x.1
+op_once version rest x e =
+    field_once MissingField UnknownWord (λ text. passing (has_op version) (with_word op_word ops text)) op_word
+    (λ text v f. word_once op_word ops text (passing_from (has_op version) (with_word op_word ops text) f)) rest e
 
 reg_once : (rest : Fields) (x : Reg × Fields) → reg_field rest ≡ Ok x → rest ≡ reg_word x.0 ∷ x.1
 reg_once rest x e = field_once MissingField UnknownWord (with_word reg_word regs) reg_word (λ text v f. word_once reg_word regs text f) rest e
@@ -195,11 +197,11 @@ root_line_once h rest e =
 tlbi_line_once : (h : Heading) (rest : Fields) {x : Item} → tlbi_line h rest ≡ Ok x → codes "tlbi" ∷ rest ≡ item_fields x
 tlbi_line_once h rest e =
     let pe = bind_ok (pe_field h rest) _ e in
-    let op = bind_ok (op_field pe.0.1) _ pe.2 in
+    let op = bind_ok (op_field h.version pe.0.1) _ pe.2 in
     let xt = bind_ok (operand_field op.0.0 op.0.1) _ op.2 in
     let end = item_once h _ xt.0.1 xt.2 in
     as_item (codes "tlbi") rest (decimal pe.0.0 ∷ op_word op.0.0 ∷ (operand_fields op.0.0 xt.0.0 ++ label_fields end.0)) (item.Event (event.Tlbi pe.0.0 op.0.0 xt.0.0) end.0)
-    (pe_once h rest pe.1 ∙ ap (λ (left : Fields). decimal pe.0.0 ∷ left) (op_once pe.0.1 op.0 op.1
+    (pe_once h rest pe.1 ∙ ap (λ (left : Fields). decimal pe.0.0 ∷ left) (op_once h.version pe.0.1 op.0 op.1
     ∙ ap (λ (left : Fields). op_word op.0.0 ∷ left) (operand_once op.0.0 op.0.1 (label_fields end.0) xt.0 xt.1 end.1)))
     refl end.2
 

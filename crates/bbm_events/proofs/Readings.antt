@@ -5,7 +5,7 @@ use Rattle.bbm_events.specs.declared.event.Event.TheVariants as event
 use Rattle.bbm_events.specs.declared.event.Item.{Item}
 use Rattle.bbm_events.specs.declared.event.Item.TheVariants as item
 use Rattle.bbm_events.specs.declared.malformed.Malformed.{Malformed}
-use Rattle.bbm_events.specs.declared.malformed.Malformed.TheVariants.{BadHeader, BadNumber, BadPe, BadAddress, MissingField, BadLabel}
+use Rattle.bbm_events.specs.declared.malformed.Malformed.TheVariants.{BadHeader, UnknownWord, BadNumber, BadPe, BadAddress, MissingField, BadLabel}
 use Rattle.std.specs.Prelude.{bytes_eq, codes, drop, ◌==◌, ◌||◌}
 use Rattle.std.specs.Str.Parse.{digits_value}
 use Rattle.bbm_regimes.specs.declared.regime.World.TheVariants.{Hyp, Kernel}
@@ -14,10 +14,10 @@ use Rattle.bbm_events.specs.declared.keyword.Keyword.{Keyword}
 use Rattle.bbm_events.specs.declared.keyword.Keyword.TheVariants as first
 use Rattle.bbm_tlbi_scope.specs.declared.op.TlbiOp.{TlbiOp}
 use Rattle.bbm_tlbi_scope.specs.Operations.{has_operand}
-use Rattle.bbm_events.specs.Heading.{Heading, heading_ok, may_label}
+use Rattle.bbm_events.specs.Heading.{Heading, heading_ok, has_op, may_label}
 use Rattle.bbm_events.specs.Label.{is_label}
 use Rattle.bbm_events.specs.Spelling.{fields, hex, decimal_value, hex_value, where_spelled}
-use Rattle.bbm_events.specs.Words.{with_word, asid_from_word, asid_froms}
+use Rattle.bbm_events.specs.Words.{with_word, asid_from_word, asid_froms, op_word, ops}
 use Rattle.bbm_events.specs.Fits.{fits_heading, item_fits, is_pe, is_page, is_place, is_value, is_lock, is_count, is_root_page, is_root_lock, is_operand, label_fits}
 use Rattle.bbm_events.specs.Lines.{◌>>=◌, Fields, magic_field, version_field, cnp_field, header_field, FieldRead, found, next_field, passing, checked, hyp_fields, kernel_fields, world_fields, header_of, item_of, line_after, keyword_field, pe_field, page_field, place_field, root_page_field, value_field, operand_field, lock_field, lock_value, root_lock, root_lock_field, count_field, kind_field, dsb_field, op_field, reg_field, whole, is_marked, label_field, event_item, pe_alone, pe_and, pe_and_two, root_line, tlbi_line, end_line}
 
@@ -26,10 +26,10 @@ pub bind_ok : {A B : Type 0} (r : Result A Malformed) (f : A → Result B Malfor
 bind_ok (Ok x) f e = (x, refl, e)
 bind_ok (Err cause) f e = cc
 
--- a number that is read passes its test
-passing_ok : (test : ℕ → Bool) (o : Option ℕ) {n : ℕ} → passing test o ≡ Some n → test n ≡ true
+-- a value that is read passes its test
+passing_ok : {A : Type 0} (test : A → Bool) (o : Option A) {n : A} → passing test o ≡ Some n → test n ≡ true
 passing_ok test None e = cc
-passing_ok test (Some m) {n = n} e = passed (test m) refl e
+passing_ok {A = A} test (Some m) {n = n} e = passed (test m) refl e
   where
     passed : (b : Bool) → test m ≡ b → cond b (Some m) None ≡ Some n → test n ≡ true
     passed true is_true e = cc
@@ -44,8 +44,8 @@ field_ok {A = A} absent unreadable read (text ∷ rest) {x = x} e = taken (read 
     taken (Some value) is_value e = (text, cc, cc)
     taken None is_none e = cc
 
--- so a number that is read passes the test of its field
-pub passing_field_ok : (absent unreadable : Malformed) (test : ℕ → Bool) (read : List ℕ → Option ℕ) (rest : Fields) {x : ℕ × Fields} → next_field absent unreadable (λ text. passing test (read text)) rest ≡ Ok x → test x.0 ≡ true
+-- so a value that is read passes the test of its field
+pub passing_field_ok : {A : Type 0} (absent unreadable : Malformed) (test : A → Bool) (read : List ℕ → Option A) (rest : Fields) {x : A × Fields} → next_field absent unreadable (λ text. passing test (read text)) rest ≡ Ok x → test x.0 ≡ true
 passing_field_ok absent unreadable test read rest e =
     let taken = field_ok absent unreadable (λ (text : List ℕ). passing test (read text)) rest e in
     passing_ok test (read taken.0) taken.2
@@ -150,10 +150,11 @@ operand_kept op rest {x = x} e = by_operand (has_operand op) e
 tlbi_line_fits : (h : Heading) (rest : Fields) {x : Item} → tlbi_line h rest ≡ Ok x → item_fits h x ≡ true
 tlbi_line_fits h rest e =
     let pe = bind_ok (pe_field h rest) _ e in
-    let op = bind_ok (op_field pe.0.1) _ pe.2 in
+    let op = bind_ok (op_field h.version pe.0.1) _ pe.2 in
     let xt = bind_ok (operand_field op.0.0 op.0.1) _ op.2 in
     let is = item_ok h _ _ xt.2 in
-    rw (← is.2) (both (both (passing_field_ok MissingField BadPe (is_pe h) decimal_value rest pe.1) (operand_kept op.0.0 op.0.1 xt.1)) is.1)
+    rw (← is.2) (both (both (both (passing_field_ok MissingField BadPe (is_pe h) decimal_value rest pe.1)
+    (passing_field_ok MissingField UnknownWord (has_op h.version) (with_word op_word ops) pe.0.1 op.1)) (operand_kept op.0.0 op.0.1 xt.1)) is.1)
 
 end_line_fits : (h : Heading) (rest : Fields) {x : Item} → end_line rest ≡ Ok x → item_fits h x ≡ true
 end_line_fits h rest e =

@@ -12,7 +12,7 @@ use Rattle.bbm_barriers.specs.declared.Domain.TheVariants.{Full, Inner, Outer, N
 use Rattle.bbm_barriers.specs.declared.Types.{Types}
 use Rattle.bbm_barriers.specs.declared.Types.TheVariants.{All, Stores, Loads}
 use Rattle.bbm_tlbi_scope.specs.declared.op.TlbiOp.{TlbiOp}
-use Rattle.bbm_tlbi_scope.specs.declared.op.TlbiOp.TheVariants.{Alle2, Alle2is, Vae2, Vae2is, Vale2, Vale2is, Alle1, Alle1is, Vmalle1, Vmalle1is, Vmalls12e1, Vmalls12e1is, Ipas2e1, Ipas2e1is, Ipas2le1, Ipas2le1is, Vae1, Vae1is, Vale1, Vale1is, Vaae1, Vaae1is, Vaale1, Vaale1is, Aside1, Aside1is}
+use Rattle.bbm_tlbi_scope.specs.declared.op.TlbiOp.TheVariants.{Alle2, Alle2is, Vae2, Vae2is, Vale2, Vale2is, Alle1, Alle1is, Vmalle1, Vmalle1is, Vmalls12e1, Vmalls12e1is, Ipas2e1, Ipas2e1is, Ipas2le1, Ipas2le1is, Vae1, Vae1is, Vale1, Vale1is, Vaae1, Vaae1is, Vaale1, Vaale1is, Aside1, Aside1is, Rvae2, Rvae2is, Rvale2, Rvale2is, Ripas2e1, Ripas2e1is, Ripas2le1, Ripas2le1is, Rvae1, Rvae1is, Rvale1, Rvale1is, Rvaae1, Rvaae1is, Rvaale1, Rvaale1is}
 use Rattle.bbm_events.specs.declared.keyword.Keyword.{Keyword}
 use Rattle.bbm_events.specs.declared.keyword.Keyword.TheVariants as first
 use Rattle.bbm_events.specs.Words.{with_word, keyword_word, keywords, cnp_word, cnps, kind_word, kinds, reg_word, regs, asid_from_word, asid_froms, option_word, dsb_word, dsbs, op_word, ops}
@@ -100,6 +100,22 @@ op_word_read Vaale1 = refl
 op_word_read Vaale1is = refl
 op_word_read Aside1 = refl
 op_word_read Aside1is = refl
+op_word_read Rvae2 = refl
+op_word_read Rvae2is = refl
+op_word_read Rvale2 = refl
+op_word_read Rvale2is = refl
+op_word_read Ripas2e1 = refl
+op_word_read Ripas2e1is = refl
+op_word_read Ripas2le1 = refl
+op_word_read Ripas2le1is = refl
+op_word_read Rvae1 = refl
+op_word_read Rvae1is = refl
+op_word_read Rvale1 = refl
+op_word_read Rvale1is = refl
+op_word_read Rvaae1 = refl
+op_word_read Rvaae1is = refl
+op_word_read Rvaale1 = refl
+op_word_read Rvaale1is = refl
 
 pub op_word_no_space : (op : TlbiOp) → no_space (op_word op) ≡ true
 op_word_no_space Alle2 = refl
@@ -128,6 +144,22 @@ op_word_no_space Vaale1 = refl
 op_word_no_space Vaale1is = refl
 op_word_no_space Aside1 = refl
 op_word_no_space Aside1is = refl
+op_word_no_space Rvae2 = refl
+op_word_no_space Rvae2is = refl
+op_word_no_space Rvale2 = refl
+op_word_no_space Rvale2is = refl
+op_word_no_space Ripas2e1 = refl
+op_word_no_space Ripas2e1is = refl
+op_word_no_space Ripas2le1 = refl
+op_word_no_space Ripas2le1is = refl
+op_word_no_space Rvae1 = refl
+op_word_no_space Rvae1is = refl
+op_word_no_space Rvale1 = refl
+op_word_no_space Rvale1is = refl
+op_word_no_space Rvaae1 = refl
+op_word_no_space Rvaae1is = refl
+op_word_no_space Rvaale1 = refl
+op_word_no_space Rvaale1is = refl
 
 option_word_read : (domain : Domain) (types : Types) → with_word dsb_word dsbs (option_word domain types) ≡ Some (record { domain = domain; types = types })
 option_word_read Full All = refl

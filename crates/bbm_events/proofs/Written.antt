@@ -20,7 +20,7 @@ use Rattle.bbm_events.specs.declared.event.Item.{Item}
 use Rattle.bbm_events.specs.declared.event.Item.TheVariants as item
 use Rattle.bbm_events.specs.declared.malformed.Malformed.{Malformed}
 use Rattle.bbm_events.specs.declared.malformed.Malformed.TheVariants.{NoMagic, BadHeader, UnknownWord, BadNumber, BadPe, BadAddress, MissingField, BadLabel}
-use Rattle.bbm_events.specs.Heading.{Heading, heading_ok, is_version, are_pes, may_label, may_share}
+use Rattle.bbm_events.specs.Heading.{Heading, heading_ok, is_version, are_pes, has_op, may_label, may_share}
 use Rattle.bbm_events.specs.Label.{is_label}
 use Rattle.bbm_events.specs.Spelling.{fields, joined, hex, decimal_value, hex_value}
 use Rattle.bbm_tlbi_scope.specs.Operations.{has_operand}
@@ -39,7 +39,7 @@ on r f e = ap (λ r. r >>= f) e
 field_read : {A : Type 0} (absent unreadable : Malformed) (read : List ℕ → Option A) (text : List ℕ) (rest : Fields) {x : A} → read text ≡ Some x → next_field absent unreadable read (text ∷ rest) ≡ Ok (x, rest)
 field_read absent unreadable read text rest e = ap (λ o. found unreadable o rest) e
 
-passing_read : (test : ℕ → Bool) (o : Option ℕ) {n : ℕ} → o ≡ Some n → test n ≡ true → passing test o ≡ Some n
+passing_read : {A : Type 0} (test : A → Bool) (o : Option A) {n : A} → o ≡ Some n → test n ≡ true → passing test o ≡ Some n
 passing_read test o {n = n} e h = ap (λ o. passing test o) e ∙ ap (λ t. cond t (Some n) None) h
 
 both : {a b : Bool} → a ≡ true → b ≡ true → (a && b) ≡ true
@@ -143,8 +143,10 @@ kind_read kind rest = field_read MissingField UnknownWord (with_word kind_word k
 dsb_read : (dsb : Dsb) (rest : Fields) → dsb_field (dsb_word dsb ∷ rest) ≡ Ok (dsb, rest)
 dsb_read dsb rest = field_read MissingField UnknownWord (with_word dsb_word dsbs) (dsb_word dsb) rest (dsb_word_read dsb)
 
-op_read : (op : TlbiOp) (rest : Fields) → op_field (op_word op ∷ rest) ≡ Ok (op, rest)
-op_read op rest = field_read MissingField UnknownWord (with_word op_word ops) (op_word op) rest (op_word_read op)
+op_read : (version : ℕ) (op : TlbiOp) (rest : Fields) → has_op version op ≡ true → op_field version (op_word op ∷ rest) ≡ Ok (op, rest)
+op_read version op rest fits =
+    field_read MissingField UnknownWord (λ text. passing (has_op version) (with_word op_word ops text)) (op_word op) rest
+    (passing_read (has_op version) (with_word op_word ops (op_word op)) (op_word_read op) fits)
 
 reg_read : (reg : Reg) (rest : Fields) → reg_field (reg_word reg ∷ rest) ≡ Ok (reg, rest)
 reg_read reg rest = field_read MissingField UnknownWord (with_word reg_word regs) (reg_word reg) rest (reg_word_read reg)
@@ -209,9 +211,10 @@ tlbi_read : (h : Heading) (pe : ℕ) (op : TlbiOp) (xt : ℕ) (label : Option (L
     → tlbi_line h (decimal pe ∷ op_word op ∷ (operand_fields op xt ++ label_fields label)) ≡ Ok (item.Event (event.Tlbi pe op xt) label)
 tlbi_read h pe op xt label ok fits labelled =
     let left = operand_fields op xt ++ label_fields label in
-    let parts = and_parts (is_pe h pe) (is_operand op xt) fits in
-    on (pe_field h (decimal pe ∷ op_word op ∷ left)) _ (pe_read h pe (op_word op ∷ left) ok parts.0)
-    ∙ on (op_field (op_word op ∷ left)) _ (op_read op left)
+    let parts = and_parts (is_pe h pe && has_op h.version op) (is_operand op xt) fits in
+    let front = and_parts (is_pe h pe) (has_op h.version op) parts.0 in
+    on (pe_field h (decimal pe ∷ op_word op ∷ left)) _ (pe_read h pe (op_word op ∷ left) ok front.0)
+    ∙ on (op_field h.version (op_word op ∷ left)) _ (op_read h.version op left front.1)
     ∙ on (operand_field op left) _ (operand_read op xt (label_fields label) parts.1)
     ∙ item_read h (event.Tlbi pe op xt) label labelled
 

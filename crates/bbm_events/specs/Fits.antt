@@ -10,7 +10,7 @@ use Rattle.bbm_events.specs.declared.event.Event.{Event}
 use Rattle.bbm_events.specs.declared.event.Event.TheVariants.{Init, Null, Root, Unroot, Write, Dsb, Dmb, Isb, Tlbi, Msr, Lock, Unlock}
 use Rattle.bbm_events.specs.declared.event.Item.{Item}
 use Rattle.bbm_events.specs.declared.event.Item.TheVariants as item
-use Rattle.bbm_events.specs.Heading.{Heading, may_label}
+use Rattle.bbm_events.specs.Heading.{Heading, has_op, may_label}
 use Rattle.bbm_events.specs.Label.{is_label}
 
 -- The address of a page, and of a descriptor.
@@ -55,7 +55,7 @@ fits_heading h (Write pe place value) = is_pe h pe && is_place place && is_value
 fits_heading h (Dsb pe dsb) = is_pe h pe
 fits_heading h (Dmb pe dsb) = is_pe h pe
 fits_heading h (Isb pe) = is_pe h pe
-fits_heading h (Tlbi pe op xt) = is_pe h pe && is_operand op xt
+fits_heading h (Tlbi pe op xt) = is_pe h pe && has_op h.version op && is_operand op xt
 fits_heading h (Msr pe reg value) = is_pe h pe && is_value value
 fits_heading h (Lock pe lock) = is_pe h pe && is_lock lock
 fits_heading h (Unlock pe lock) = is_pe h pe && is_lock lock

@@ -3,6 +3,8 @@
 use Rattle.std.specs.Prelude.{ℕ, Bool, ◌&&◌, ◌||◌, not, nat_le, nat_lt, if◌then◌else◌}
 use Rattle.bbm_regimes.specs.declared.regime.World.{World}
 use Rattle.bbm_regimes.specs.World.{world_ok}
+use Rattle.bbm_tlbi_scope.specs.declared.op.TlbiOp.{TlbiOp}
+use Rattle.bbm_tlbi_scope.specs.Operations.{operation}
 
 -- the version of the log, the number of PEs, whether their TLBs may copy entries from one another, and the
 -- world with the levels at which walks start
@@ -26,6 +28,10 @@ may_share version = nat_le 2 version
 -- Versions 3 and 4 have labels.
 abbrev pub may_label : ℕ → Bool
 may_label version = nat_le 3 version
+
+-- Version 4 has the operations for a range of pages.
+abbrev pub has_op : ℕ → TlbiOp → Bool
+has_op version op = nat_le 4 version || not (operation op).range
 
 abbrev pub heading_ok : Heading → Bool
 heading_ok h = is_version h.version && are_pes h.version h.pes && (may_share h.version || not h.cnp) && world_ok h.world

@@ -18,7 +18,7 @@ use Rattle.bbm_events.specs.declared.keyword.Keyword.{Keyword}
 use Rattle.bbm_events.specs.declared.keyword.Keyword.TheVariants as first
 use Rattle.bbm_events.specs.declared.malformed.Malformed.{Malformed}
 use Rattle.bbm_events.specs.declared.malformed.Malformed.TheVariants.{NoMagic, BadHeader, UnknownWord, BadNumber, BadPe, BadAddress, MissingField, ExtraField, BadLabel}
-use Rattle.bbm_events.specs.Heading.{Heading, heading_ok, is_version, may_label, may_share}
+use Rattle.bbm_events.specs.Heading.{Heading, heading_ok, is_version, has_op, may_label, may_share}
 use Rattle.bbm_events.specs.Label.{is_label}
 use Rattle.bbm_events.specs.Spelling.{fields, joined, hex, decimal_value, hex_value}
 use Rattle.bbm_events.specs.Words.{with_word, keyword_word, keywords, cnp_word, cnps, kind_word, kinds, reg_word, regs, asid_from_word, asid_froms, dsb_word, dsbs, op_word, ops}
@@ -48,10 +48,10 @@ abbrev pub next_field : {A : Type 0} → Malformed → Malformed → (List ℕ �
 next_field absent unreadable read [] = Err absent
 next_field absent unreadable read (text ∷ rest) = found unreadable (read text) rest
 
--- the number, where it passes the test
-abbrev pub passing : (ℕ → Bool) → Option ℕ → Option ℕ
+-- the value, where it passes the test
+abbrev pub passing : {A : Type 0} → (A → Bool) → Option A → Option A
 passing test None = None
-passing test (Some n) = if test n then Some n else None
+passing test (Some value) = if test value then Some value else None
 
 -- The header.
 
@@ -158,8 +158,8 @@ kind_field = line_field UnknownWord (with_word kind_word kinds)
 abbrev pub dsb_field : Fields → FieldRead Dsb
 dsb_field = line_field UnknownWord (with_word dsb_word dsbs)
 
-abbrev pub op_field : Fields → FieldRead TlbiOp
-op_field = line_field UnknownWord (with_word op_word ops)
+abbrev pub op_field : ℕ → Fields → FieldRead TlbiOp
+op_field version = line_field UnknownWord (λ text. passing (has_op version) (with_word op_word ops text))
 
 abbrev pub reg_field : Fields → FieldRead Reg
 reg_field = line_field UnknownWord (with_word reg_word regs)
@@ -222,7 +222,7 @@ root_line h rest = do
 abbrev pub tlbi_line : Heading → Fields → Result Item Malformed
 tlbi_line h rest = do
   pe ← pe_field h rest
-  op ← op_field pe.1
+  op ← op_field h.version pe.1
   xt ← operand_field op.0 op.1
   event_item h (event.Tlbi pe.0 op.0 xt.0) xt.1
 

@@ -13,7 +13,7 @@ use Rattle.bbm_barriers.specs.declared.Domain.TheVariants.{Full, Inner, Outer, N
 use Rattle.bbm_barriers.specs.declared.Types.{Types}
 use Rattle.bbm_barriers.specs.declared.Types.TheVariants.{All, Stores, Loads}
 use Rattle.bbm_tlbi_scope.specs.declared.op.TlbiOp.{TlbiOp}
-use Rattle.bbm_tlbi_scope.specs.declared.op.TlbiOp.TheVariants.{Alle2, Alle2is, Vae2, Vae2is, Vale2, Vale2is, Alle1, Alle1is, Vmalle1, Vmalle1is, Vmalls12e1, Vmalls12e1is, Ipas2e1, Ipas2e1is, Ipas2le1, Ipas2le1is, Vae1, Vae1is, Vale1, Vale1is, Vaae1, Vaae1is, Vaale1, Vaale1is, Aside1, Aside1is}
+use Rattle.bbm_tlbi_scope.specs.declared.op.TlbiOp.TheVariants.{Alle2, Alle2is, Vae2, Vae2is, Vale2, Vale2is, Alle1, Alle1is, Vmalle1, Vmalle1is, Vmalls12e1, Vmalls12e1is, Ipas2e1, Ipas2e1is, Ipas2le1, Ipas2le1is, Vae1, Vae1is, Vale1, Vale1is, Vaae1, Vaae1is, Vaale1, Vaale1is, Aside1, Aside1is, Rvae2, Rvae2is, Rvale2, Rvale2is, Ripas2e1, Ripas2e1is, Ripas2le1, Ripas2le1is, Rvae1, Rvae1is, Rvale1, Rvale1is, Rvaae1, Rvaae1is, Rvaale1, Rvaale1is}
 use Rattle.bbm_events.specs.declared.keyword.Keyword.{Keyword}
 use Rattle.bbm_events.specs.declared.keyword.Keyword.TheVariants as first
 
@@ -129,9 +129,27 @@ op_word Vaale1 = codes "vaale1"
 op_word Vaale1is = codes "vaale1is"
 op_word Aside1 = codes "aside1"
 op_word Aside1is = codes "aside1is"
+op_word Rvae2 = codes "rvae2"
+op_word Rvae2is = codes "rvae2is"
+op_word Rvale2 = codes "rvale2"
+op_word Rvale2is = codes "rvale2is"
+op_word Ripas2e1 = codes "ripas2e1"
+op_word Ripas2e1is = codes "ripas2e1is"
+op_word Ripas2le1 = codes "ripas2le1"
+op_word Ripas2le1is = codes "ripas2le1is"
+op_word Rvae1 = codes "rvae1"
+op_word Rvae1is = codes "rvae1is"
+op_word Rvale1 = codes "rvale1"
+op_word Rvale1is = codes "rvale1is"
+op_word Rvaae1 = codes "rvaae1"
+op_word Rvaae1is = codes "rvaae1is"
+op_word Rvaale1 = codes "rvaale1"
+op_word Rvaale1is = codes "rvaale1is"
 
 abbrev pub ops : List TlbiOp
 ops =
     Alle2 ∷ Alle2is ∷ Vae2 ∷ Vae2is ∷ Vale2 ∷ Vale2is ∷ Alle1 ∷ Alle1is ∷ Vmalle1 ∷ Vmalle1is ∷ Vmalls12e1 ∷ Vmalls12e1is
     ∷ Ipas2e1 ∷ Ipas2e1is ∷ Ipas2le1 ∷ Ipas2le1is ∷ Vae1 ∷ Vae1is ∷ Vale1 ∷ Vale1is ∷ Vaae1 ∷ Vaae1is ∷ Vaale1 ∷ Vaale1is
-    ∷ Aside1 ∷ Aside1is ∷ []
+    ∷ Aside1 ∷ Aside1is
+    ∷ Rvae2 ∷ Rvae2is ∷ Rvale2 ∷ Rvale2is ∷ Ripas2e1 ∷ Ripas2e1is ∷ Ripas2le1 ∷ Ripas2le1is
+    ∷ Rvae1 ∷ Rvae1is ∷ Rvale1 ∷ Rvale1is ∷ Rvaae1 ∷ Rvaae1is ∷ Rvaale1 ∷ Rvaale1is ∷ []

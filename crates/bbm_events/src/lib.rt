@@ -10,7 +10,7 @@ pub mod laws;
 pub mod malformed;
 
 pub use event::{Event, Item};
-pub use fitting::{fits, page_count};
+pub use fitting::{fits, has_op, page_count};
 pub use header::Header;
 pub use keyword::Keyword;
 pub use label::Label;

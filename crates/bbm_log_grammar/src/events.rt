@@ -91,7 +91,7 @@ fn tlbi_line(header: &Header, fields: Fields) -> Result<Item, Malformed>
     ensures { result ≡ lines.line_after header.now first.Tlbi fields.entry }
 {
     let (pe, fields) = pe_field(header, fields)?;
-    let (op, fields) = op_field(fields)?;
+    let (op, fields) = op_field(header, fields)?;
     let (xt, fields) = operand_field(op, fields)?;
     event_item(header, Event::Tlbi { pe, op, xt }, fields)
 }

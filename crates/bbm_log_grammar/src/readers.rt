@@ -8,7 +8,7 @@ use crate::numbers::read_hex;
 use crate::values::{count_of, is_marked, label_of, lock_of, page_of, pe_of, place_of, root_lock_of, root_page_of};
 use crate::words::{dsb_of, kind_of, op_of, reg_of};
 use bbm_barriers::Dsb;
-use bbm_events::{Event, Header, Item, Label, Malformed};
+use bbm_events::{Event, Header, Item, Label, Malformed, has_op};
 use bbm_regimes::{Kind, Page, Pe, Place, Reg};
 use bbm_tlbi_scope::TlbiOp;
 
@@ -112,12 +112,19 @@ pub(crate) fn dsb_field<'a>(fields: Fields<'a>) -> Result<(Dsb, Fields<'a>), Mal
 }
 
 /// The operation of a TLBI.
-pub(crate) fn op_field<'a>(fields: Fields<'a>) -> Result<(TlbiOp, Fields<'a>), Malformed>
-    ensures { result ≡ lines.op_field fields.entry }
+pub(crate) fn op_field<'a>(
+    header: &Header,
+    fields: Fields<'a>,
+) -> Result<(TlbiOp, Fields<'a>), Malformed>
+    ensures { result ≡ lines.op_field header.now.version fields.entry }
 {
     let (text, rest) = fields.next_or(Malformed::MissingField)?;
     let value = op_of(text).ok_or(Malformed::UnknownWord)?;
-    Ok((value, rest))
+    if has_op(header, value) {
+        Ok((value, rest))
+    } else {
+        Err(Malformed::UnknownWord)
+    }
 }
 
 /// A register.

@@ -223,7 +223,7 @@ pub(crate) fn dsb_of(field: &[u8]) -> Option<Dsb>
 }
 
 /// The operations of TLBIs.
-const OPS: [TlbiOp; 26] = [
+const OPS: [TlbiOp; 42] = [
     TlbiOp::Alle2,
     TlbiOp::Alle2is,
     TlbiOp::Vae2,
@@ -250,6 +250,22 @@ const OPS: [TlbiOp; 26] = [
     TlbiOp::Vaale1is,
     TlbiOp::Aside1,
     TlbiOp::Aside1is,
+    TlbiOp::Rvae2,
+    TlbiOp::Rvae2is,
+    TlbiOp::Rvale2,
+    TlbiOp::Rvale2is,
+    TlbiOp::Ripas2e1,
+    TlbiOp::Ripas2e1is,
+    TlbiOp::Ripas2le1,
+    TlbiOp::Ripas2le1is,
+    TlbiOp::Rvae1,
+    TlbiOp::Rvae1is,
+    TlbiOp::Rvale1,
+    TlbiOp::Rvale1is,
+    TlbiOp::Rvaae1,
+    TlbiOp::Rvaae1is,
+    TlbiOp::Rvaale1,
+    TlbiOp::Rvaale1is,
 ];
 
 /// The word of an operation.
@@ -283,6 +299,22 @@ pub(crate) fn op_word(op: TlbiOp) -> &'static [u8]
         TlbiOp::Vaale1is => b"vaale1is",
         TlbiOp::Aside1 => b"aside1",
         TlbiOp::Aside1is => b"aside1is",
+        TlbiOp::Rvae2 => b"rvae2",
+        TlbiOp::Rvae2is => b"rvae2is",
+        TlbiOp::Rvale2 => b"rvale2",
+        TlbiOp::Rvale2is => b"rvale2is",
+        TlbiOp::Ripas2e1 => b"ripas2e1",
+        TlbiOp::Ripas2e1is => b"ripas2e1is",
+        TlbiOp::Ripas2le1 => b"ripas2le1",
+        TlbiOp::Ripas2le1is => b"ripas2le1is",
+        TlbiOp::Rvae1 => b"rvae1",
+        TlbiOp::Rvae1is => b"rvae1is",
+        TlbiOp::Rvale1 => b"rvale1",
+        TlbiOp::Rvale1is => b"rvale1is",
+        TlbiOp::Rvaae1 => b"rvaae1",
+        TlbiOp::Rvaae1is => b"rvaae1is",
+        TlbiOp::Rvaale1 => b"rvaale1",
+        TlbiOp::Rvaale1is => b"rvaale1is",
     }
 }
 

@@ -1,2 +1,3 @@
+pub mod Both
 pub mod Agreeing
-pub mod Decoded
+pub mod Ranging
