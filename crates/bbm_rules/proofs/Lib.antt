@@ -6,6 +6,7 @@ pub mod ReadableLaw
 pub mod OpenLaw
 pub mod EqualityLaw
 pub mod SearchLemmas
+pub mod LimitLaw
 pub mod LockLaw
 pub mod TagSetLaw
 pub mod ChangesLaw

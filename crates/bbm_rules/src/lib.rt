@@ -14,8 +14,8 @@ pub mod verdict;
 pub use checker::Checker;
 pub use claim::Claim;
 pub use event_laws::{
-    law_changes, law_equality_tests, law_lock_held, law_published, law_readable_register, law_root,
-    law_tag_set,
+    law_changes, law_equality_tests, law_limits, law_lock_held, law_published,
+    law_readable_register, law_root, law_tag_set,
 };
 pub use first_path::FirstPathChecker;
 pub use laws::{
@@ -29,8 +29,8 @@ pub use verdict::Verdict;
 #[cfg(test)]
 mod tests {
     use crate::event_laws::{
-        law_changes, law_equality_tests, law_lock_held, law_published, law_readable_register,
-        law_root, law_tag_set,
+        law_changes, law_equality_tests, law_limits, law_lock_held, law_published,
+        law_readable_register, law_root, law_tag_set,
     };
     use crate::laws::{
         law_answered, law_notes_keep_the_events, law_one_node, law_readable_value, law_tag_held,
@@ -41,6 +41,7 @@ mod tests {
         law_answered();
         law_changes();
         law_equality_tests();
+        law_limits();
         law_lock_held();
         law_notes_keep_the_events();
         law_one_node();
