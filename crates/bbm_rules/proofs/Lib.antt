@@ -7,6 +7,7 @@ pub mod OpenLaw
 pub mod EqualityLaw
 pub mod SearchLemmas
 pub mod LimitLaw
+pub mod VmidLaw
 pub mod LockLaw
 pub mod TagSetLaw
 pub mod ChangesLaw

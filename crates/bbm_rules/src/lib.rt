@@ -15,7 +15,7 @@ pub use checker::Checker;
 pub use claim::Claim;
 pub use event_laws::{
     law_changes, law_equality_tests, law_limits, law_lock_held, law_published,
-    law_readable_register, law_root, law_tag_set,
+    law_readable_register, law_root, law_tag_set, law_vmid,
 };
 pub use first_path::FirstPathChecker;
 pub use laws::{
@@ -30,7 +30,7 @@ pub use verdict::Verdict;
 mod tests {
     use crate::event_laws::{
         law_changes, law_equality_tests, law_limits, law_lock_held, law_published,
-        law_readable_register, law_root, law_tag_set,
+        law_readable_register, law_root, law_tag_set, law_vmid,
     };
     use crate::laws::{
         law_answered, law_notes_keep_the_events, law_one_node, law_readable_value, law_tag_held,
@@ -51,5 +51,6 @@ mod tests {
         law_root();
         law_tag_set();
         law_tag_held();
+        law_vmid();
     }
 }
