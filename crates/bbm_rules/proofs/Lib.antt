@@ -17,6 +17,7 @@ pub mod TagLaw
 pub mod NotesLaw
 pub mod CasesClaims
 pub mod Patterns
+pub mod PatternLaw
 pub mod ListLemmas
 pub mod RuleLemmas
 pub mod HeldLemmas
@@ -25,3 +26,4 @@ pub mod TreeLemmas
 pub mod PathLemmas
 pub mod GrowthLemmas
 pub mod OneNodeLaw
+pub mod VersionLaw

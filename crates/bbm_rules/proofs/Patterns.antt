@@ -2,6 +2,7 @@
 -- patterns cleanse.
 use Rattle.std.proofs.Common.{◌≡◌, ℕ, Bool, true, ◌&&◌, List, [], ◌∷◌, ◌++◌, refl, sym, subst, inl, inr, true≢false}
 use Rattle.std.proofs.lemmas.Bool.{or_cases, or_left, or_right, and_parts, and_from}
+use Rattle.bbm_barriers.specs.declared.Dsb.{Dsb as Barrier}
 use Rattle.bbm_tlbi_scope.specs.declared.entry.Cover.{Cover}
 use Rattle.bbm_tlbi_scope.specs.declared.entry.Cover.TheVariants.{Half, Second, Full}
 use Rattle.bbm_events.specs.Heading.{Heading}
@@ -46,15 +47,15 @@ module _ (heading : Heading) (place p : ℕ) where
       → ((older : List Noted) → test older ≡ true → other older ≡ true)
       → flushes heading place p cover test t ≡ true → flushes heading place p cover other t ≡ true
   flushes_weaker cover test other t weaker k =
-      let parts = and_parts (reaches t.tlbi.event p && same_cover (t.tlbi.covers place) cover) (test t.before) k in
-      and_from (reaches t.tlbi.event p && same_cover (t.tlbi.covers place) cover) (other t.before) parts.0
+      let parts = and_parts (reaches heading t.tlbi.event p && same_cover (t.tlbi.covers place) cover) (test t.before) k in
+      and_from (reaches heading t.tlbi.event p && same_cover (t.tlbi.covers place) cover) (other t.before) parts.0
       (weaker t.before parts.1)
 
   -- what a TLBI flushes was ready for it
   ready : (cover : Cover) (test : List Noted → Bool) (t : Issued Noted) → flushes heading place p cover test t ≡ true
       → test t.before ≡ true
   ready cover test t k =
-      (and_parts (reaches t.tlbi.event p && same_cover (t.tlbi.covers place) cover) (test t.before) k).1
+      (and_parts (reaches heading t.tlbi.event p && same_cover (t.tlbi.covers place) cover) (test t.before) k).1
 
   half_weaker : (test other : ℕ → ℕ → ℕ → Bool) (since : List Noted)
       → ((b t d : ℕ) → test b t d ≡ true → other b t d ≡ true)
@@ -114,7 +115,10 @@ cleansed_stays heading trust place p newer since s =
 pub record AnsweredOne (test : Issued Noted → Bool) (e : Event) (older : List Noted) : Type 0 where
   pub issued : Issued Noted
   pub q : ℕ
+  pub dsb : Barrier
+  pub barrier : e ≡ Dsb q dsb
   pub is_open : Open event_of q older issued
+  pub completed : completes dsb issued.tlbi.event ≡ true
   pub passed : test issued ≡ true
 
 pub answered_one : (test : Issued Noted → Bool) (e : Event) (older : List Noted)
@@ -124,7 +128,10 @@ answered_one test (Dsb q dsb) older s =
     record {
       issued = f.0;
       q = q;
+      dsb = dsb;
+      barrier = refl;
       is_open = open_note_sound q older f.0 (to_contains (unanswered event_of q older) f.0 f.1);
+      completed = (and_parts (completes dsb f.0.tlbi.event) (test f.0) f.2).0;
       passed = (and_parts (completes dsb f.0.tlbi.event) (test f.0) f.2).1;
     }
 answered_one test e older s = absurd (true≢false (sym s))

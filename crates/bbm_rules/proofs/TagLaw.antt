@@ -66,7 +66,7 @@ module _ (heading : Heading) (trust : Trust) (p : ℕ) (tag : Tag) where
 
   record Takes (q : ℕ) (dsb : Barrier) (h : List Event) (t : Issued Event) : Type 0 where
     answered : completes dsb t.tlbi ≡ true
-    reached : reaches t.tlbi p ≡ true
+    reached : reaches heading t.tlbi p ≡ true
     whole : takes_tag heading t.tlbi t.before tag ≡ true
     unread : read_since heading (length t.before) p tag (Dsb q dsb ∷ h) ≡ false
     allowed : allows trust (Taken p tag (suc (length t.before)) (suc (length h))) ≡ true
@@ -75,7 +75,7 @@ module _ (heading : Heading) (trust : Trust) (p : ℕ) (tag : Tag) where
       → is_taken_by heading trust p tag q dsb h t ≡ true → Takes q dsb h t
   parts q dsb h t k =
       let c = completes dsb t.tlbi in
-      let r = reaches t.tlbi p in
+      let r = reaches heading t.tlbi p in
       let w = takes_tag heading t.tlbi t.before tag in
       let u = read_since heading (length t.before) p tag (Dsb q dsb ∷ h) in
       let a = allows trust (Taken p tag (suc (length t.before)) (suc (length h))) in
@@ -89,7 +89,7 @@ module _ (heading : Heading) (trust : Trust) (p : ℕ) (tag : Tag) where
       → is_taken_by heading trust p tag q dsb h t ≡ true
   joined q dsb h t k =
       let c = completes dsb t.tlbi in
-      let r = reaches t.tlbi p in
+      let r = reaches heading t.tlbi p in
       let w = takes_tag heading t.tlbi t.before tag in
       let u = read_since heading (length t.before) p tag (Dsb q dsb ∷ h) in
       let a = allows trust (Taken p tag (suc (length t.before)) (suc (length h))) in

@@ -6,7 +6,7 @@
 use Rattle.std.specs.Prelude.{ℕ, Bool, true, false, ◌&&◌, ◌||◌, ◌==◌, List}
 use Rattle.bbm_barriers.specs.declared.Dsb.{Dsb as Barrier}
 use Rattle.bbm_tlbi_scope.specs.declared.entry.Cover.{Cover}
-use Rattle.bbm_tlbi_scope.specs.declared.entry.Cover.TheVariants.{Half, Second, Full}
+use Rattle.bbm_tlbi_scope.specs.declared.entry.Cover.TheVariants.{None as NoCover, Half, Second, Full}
 use Rattle.bbm_events.specs.Heading.{Heading}
 use Rattle.bbm_events.specs.declared.event.Event.{Event}
 use Rattle.bbm_events.specs.declared.event.Event.TheVariants.{Write, Dsb}
@@ -41,6 +41,7 @@ answered_where test since = some (is_answer test) since
 
 -- whether two grades of cover are the same
 abbrev pub same_cover : Cover → Cover → Bool
+same_cover NoCover NoCover = true
 same_cover Half Half = true
 same_cover Second Second = true
 same_cover Full Full = true
@@ -72,7 +73,7 @@ module _ (heading : Heading) (place p : ℕ) where
   -- a TLBI that reaches p and covers the place so far, issued when the test held of what came before it
   abbrev pub flushes : Cover → (List Noted → Bool) → Issued Noted → Bool
   flushes cover test t =
-      reaches t.tlbi.event p && same_cover (t.tlbi.covers place) cover && test t.before
+      reaches heading t.tlbi.event p && same_cover (t.tlbi.covers place) cover && test t.before
 
   -- Half: a barrier publishes a write of the place to p at b; then at t a TLBI that reaches p and covers the place half is
   -- issued; and at d that TLBI is answered.

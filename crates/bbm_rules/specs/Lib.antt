@@ -14,6 +14,7 @@ pub mod Locks
 pub mod Notes
 pub mod Outcome
 pub mod Pages
+pub mod PatternSentences
 pub mod Phases
 pub mod Places
 pub mod Prelude
@@ -26,3 +27,4 @@ pub mod Tags
 pub mod Texts
 pub mod Tree
 pub mod Values
+pub mod Version

@@ -1,7 +1,7 @@
 -- The seventeen rules. Each says whether an event breaks it after h, the annotated history, newest first: None where
 -- it doesn't, else the number that is reported as `at`, an address, or the number of a PE or a lock. The sentences
 -- are those of docs/RULES.md. Source: project's own choice, but for rule 4.
-use Rattle.std.specs.Prelude.{ℕ, ◌%◌, Bool, true, false, ◌&&◌, ◌||◌, not, ◌==◌, nat_lt, List, [], ◌∷◌, ◌++◌, length, Option, Some, None, is_none, Result, Ok, Err, filter, flat_map, map, option_to_list, if◌then◌else◌}
+use Rattle.std.specs.Prelude.{ℕ, ◌%◌, Bool, true, false, ◌&&◌, ◌||◌, not, ◌==◌, nat_le, nat_lt, List, [], ◌∷◌, ◌++◌, length, Option, Some, None, is_none, Result, Ok, Err, filter, flat_map, map, option_to_list, if◌then◌else◌}
 use Rattle.bbm_regimes.specs.declared.regime.Kind.{Kind}
 use Rattle.bbm_regimes.specs.declared.regime.Kind.TheVariants.{S2, Ttbr0}
 use Rattle.bbm_regimes.specs.declared.regime.Reg.{Reg}
@@ -81,10 +81,14 @@ is_bad (Err why) = true
 
 module _ (heading : Heading) (trust : Trust) (h : List Noted) where
   -- 1, wrong-world: it has a root kind, a register or a TLBI operation that isn't of the header's world, or it is a
-  -- `null` in the Hyp world. At: 0.
+  -- `null` in the Hyp world, or it is an `msr` of a value with bit 0 set under a header of version 2 or later without
+  -- `cnp`. At: 0.
+  abbrev pub asks_to_share : ℕ → Bool
+  asks_to_share value = nat_le 2 heading.version && not heading.cnp && value % 2 == 1
+
   abbrev pub wrong_world : Event → Option ℕ
   wrong_world (Root pe kind lock page) = if_so (not (kind_in_world heading.world kind)) 0
-  wrong_world (Msr pe reg value) = if_so (not (kind_in_world heading.world (kind_of_reg reg))) 0
+  wrong_world (Msr pe reg value) = if_so (not (kind_in_world heading.world (kind_of_reg reg)) || asks_to_share value) 0
   wrong_world (Tlbi pe op xt) = if_so (not (of_world heading.world op)) 0
   wrong_world (Null pe page) = if_so (kind_in_world heading.world S2) 0
   wrong_world _ = None

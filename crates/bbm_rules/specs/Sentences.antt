@@ -102,7 +102,7 @@ pub record TakenAway (heading : Heading) (trust : Trust) (p : ℕ) (tag : Tag) (
   pub split : h ≡ later ++ Dsb q dsb ∷ earlier
   pub is_open : Open itself q earlier t
   pub answered : completes dsb t.tlbi ≡ true
-  pub reached : reaches t.tlbi p ≡ true
+  pub reached : reaches heading t.tlbi p ≡ true
   pub whole : takes_tag heading t.tlbi t.before tag ≡ true
   pub unread : (after moment : List Event) → Dsb q dsb ∷ earlier ≡ after ++ moment → length t.before < length moment
       → reads_for_some heading moment p tag ≡ false

@@ -89,7 +89,7 @@ module _ (heading : Heading) where
     -- answer. Source: project's own choice, after Arm ARM (DDI 0487), "TLB maintenance instructions".
     abbrev pub is_taken_by : ℕ → Tag → ℕ → Barrier → List Event → Issued Event → Bool
     is_taken_by p tag q dsb h t =
-        completes dsb t.tlbi && reaches t.tlbi p && takes_tag t.tlbi t.before tag
+        completes dsb t.tlbi && reaches heading t.tlbi p && takes_tag t.tlbi t.before tag
         && not (read_since (length t.before) p tag (Dsb q dsb ∷ h))
         && allows trust (Taken p tag (suc (length t.before)) (suc (length h)))
 

@@ -5,6 +5,7 @@ pub mod checker;
 pub mod claim;
 pub mod event_laws;
 pub mod first_path;
+pub mod history_laws;
 pub mod laws;
 pub mod phase;
 pub mod rule;
@@ -18,8 +19,9 @@ pub use event_laws::{
     law_readable_register, law_root, law_tag_set, law_vmid,
 };
 pub use first_path::FirstPathChecker;
+pub use history_laws::{law_cleansed, law_half, law_seen};
 pub use laws::{
-    law_answered, law_notes_keep_the_events, law_one_node, law_readable_value, law_tag_held,
+    law_answered, law_notes_keep_the_events, law_one_node, law_readable_value, law_tag_held, law_version,
 };
 pub use phase::Phase;
 pub use rule::Rule;
@@ -32,13 +34,17 @@ mod tests {
         law_changes, law_equality_tests, law_limits, law_lock_held, law_published,
         law_readable_register, law_root, law_tag_set, law_vmid,
     };
+    use crate::history_laws::{law_cleansed, law_half, law_seen};
     use crate::laws::{
-        law_answered, law_notes_keep_the_events, law_one_node, law_readable_value, law_tag_held,
+        law_answered, law_notes_keep_the_events, law_one_node, law_readable_value, law_tag_held, law_version,
     };
 
     #[test]
     fn laws_hold() {
         law_answered();
+        law_cleansed();
+        law_half();
+        law_seen();
         law_changes();
         law_equality_tests();
         law_limits();
@@ -52,5 +58,6 @@ mod tests {
         law_tag_set();
         law_tag_held();
         law_vmid();
+        law_version();
     }
 }
