@@ -1,6 +1,6 @@
 -- The VMID of a PE is the one of all its readable values, and there is none where two of them differ.
-use Rattle.std.proofs.Common.{◌≡◌, ℕ, Bool, true, false, cond, ◌&&◌, ◌||◌, ◌==◌, List, [], ◌∷◌, Option, Some, None, map, refl, sym, ◌∙◌, ap, subst, inl, inr, true≢false}
-use Rattle.std.proofs.lemmas.Bool.{and_cases, and_parts, eqb-true, eqb-false, or_cases, or_left, or_right}
+use Rattle.std.proofs.Common.{◌≡◌, ℕ, Bool, true, false, cond, ◌==◌, List, [], ◌∷◌, Some, None, map, refl, sym, ◌∙◌, ap, inl, inr, true≢false}
+use Rattle.std.proofs.lemmas.Bool.{and_cases, and_parts, eqb-true, or_cases, or_left, or_right}
 use Rattle.bbm_rules.proofs.EqualityLaw.{same_number}
 use Rattle.bbm_rules.proofs.RegisterLaw.{first}
 use Rattle.bbm_rules.specs.Lists.{among, every, newest, one_number}

@@ -21,7 +21,8 @@ pub use event_laws::{
 pub use first_path::FirstPathChecker;
 pub use history_laws::{law_cleansed, law_half, law_seen};
 pub use laws::{
-    law_answered, law_notes_keep_the_events, law_one_node, law_readable_value, law_tag_held, law_version,
+    law_answered, law_notes_keep_the_events, law_one_node, law_readable_value, law_tag_held,
+    law_version,
 };
 pub use phase::Phase;
 pub use rule::Rule;
@@ -36,7 +37,8 @@ mod tests {
     };
     use crate::history_laws::{law_cleansed, law_half, law_seen};
     use crate::laws::{
-        law_answered, law_notes_keep_the_events, law_one_node, law_readable_value, law_tag_held, law_version,
+        law_answered, law_notes_keep_the_events, law_one_node, law_readable_value, law_tag_held,
+        law_version,
     };
 
     #[test]
