@@ -1,17 +1,9 @@
 -- Worked cases: where an event reaches a limit, and where not.
-use Rattle.std.proofs.Common.{◌≡◌, ℕ, true, false, List, [], ◌∷◌, length, Option, Some, None, codes, refl}
-use Rattle.bbm_regimes.specs.declared.regime.Kind.{Kind}
-use Rattle.bbm_regimes.specs.declared.regime.Reg.{Reg}
+use Rattle.std.proofs.Common.{◌≡◌, ℕ, List, [], ◌∷◌, length, Some, None, codes, refl}
 use Rattle.bbm_regimes.specs.declared.regime.Which.{Which}
-use Rattle.bbm_regimes.specs.declared.regime.Which.TheVariants.{Pages, Roots, Values, Events, Lines}
+use Rattle.bbm_regimes.specs.declared.regime.Which.TheVariants.{Events, Lines}
 use Rattle.bbm_events.specs.declared.event.Event.{Event}
-use Rattle.bbm_events.specs.declared.event.Event.TheVariants.{Init, Root, Msr}
-use Rattle.bbm_rules.specs.Limits.{limit_of}
 use Rattle.bbm_rules.specs.Outcome.{Limits, check_limits, limit_at}
-use Rattle.bbm_rules.specs.Pages.{initialised}
-use Rattle.bbm_rules.specs.Lists.{among}
-use Rattle.bbm_rules.specs.Registers.{register_values}
-use Rattle.bbm_rules.specs.Roots.{roots_of}
 use Rattle.bbm_rules.proofs.Judged.{judged}
 
 -- Eight writes of a register without an ISB of its PE between reach no limit.
@@ -82,33 +74,8 @@ pub no_root_comes_before_the_limit : judged (
 unfolding judged
 no_root_comes_before_the_limit = refl
 
--- The other limits are too large for a log here, so these are laws over the numbers that a history has.
-
-module _ (h : List Event) (pe page : ℕ) where
-  -- While 1,024 roots are declared a `root` reaches the limit.
-  pub roots_1024 : (kind : Kind) (lock : Option ℕ) → length (roots_of h) ≡ 1024 → limit_of h (Root pe kind lock page) ≡ Some Roots
-  roots_1024 kind lock e = rw e refl
-
-  pub roots_1023 : (kind : Kind) (lock : Option ℕ) → length (roots_of h) ≡ 1023 → limit_of h (Root pe kind lock page) ≡ None
-  roots_1023 kind lock e = rw e refl
-
-  -- After 16,384 pages were initialised an init of another page reaches the limit.
-  pub pages_16384 : among page (initialised h) ≡ false → length (initialised h) ≡ 16384 → limit_of h (Init pe page) ≡ Some Pages
-  pages_16384 new e = rw (new, e) refl
-
-  pub pages_16383 : among page (initialised h) ≡ false → length (initialised h) ≡ 16383 → limit_of h (Init pe page) ≡ None
-  pages_16383 new e = rw (new, e) refl
-
-  -- An init of a page that was initialised before never does.
-  pub pages_known : among page (initialised h) ≡ true → limit_of h (Init pe page) ≡ None
-  pages_known known = rw known refl
-
-  -- Where the register has nine readable values a write of it reaches the limit, and where it has eight it doesn't.
-  pub values_9 : (reg : Reg) (value : ℕ) → length (register_values h pe reg) ≡ 9 → limit_of h (Msr pe reg value) ≡ Some Values
-  values_9 reg value e = rw e refl
-
-  pub values_8 : (reg : Reg) (value : ℕ) → length (register_values h pe reg) ≡ 8 → limit_of h (Msr pe reg value) ≡ None
-  values_8 reg value e = rw e refl
+-- The limits of pages and of roots are too large for a log here: `law_limits` says them. Those of events and of lines are,
+-- too; these are laws over their numbers.
 
 module _ (h : List Event) (number : ℕ) where
   -- After 2,000 events one more reaches the limit of `check`.

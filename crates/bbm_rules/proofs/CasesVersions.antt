@@ -116,3 +116,75 @@ pub field_that_is_no_label : judged (
     ∷ []) ≡ codes "malformed line 2 cause 8 ExtraField\n"
 unfolding judged
 field_that_is_no_label = refl
+
+-- A flush of all pages of a table's region covers the table.
+pub range_tlbi_over_the_whole_table : judged (
+    "bbmlog 4 hyp 2 1 1 1 -"
+    ∷ "init 0 0x40000000"
+    ∷ "root 0 el2 - 0x40000000"
+    ∷ "init 0 0x40001000"
+    ∷ "w 0 0x40001000 0x80000701"
+    ∷ "w 0 0x40000008 0x40001003"
+    ∷ "w 0 0x40000008 0x0"
+    ∷ "dsb 0 ishst"
+    ∷ "tlbi 0 rvae2is 0x718000040000"
+    ∷ "dsb 0 ish"
+    ∷ "w 0 0x40000008 0xc0000701"
+    ∷ "end 10"
+    ∷ []) ≡ codes "accepted 10 events\n"
+unfolding judged
+range_tlbi_over_the_whole_table = refl
+
+-- A flush of three quarters of them doesn't.
+pub range_tlbi_over_three_quarters : judged (
+    "bbmlog 4 hyp 2 1 1 1 -"
+    ∷ "init 0 0x40000000"
+    ∷ "root 0 el2 - 0x40000000"
+    ∷ "init 0 0x40001000"
+    ∷ "w 0 0x40001000 0x80000701"
+    ∷ "w 0 0x40000008 0x40001003"
+    ∷ "w 0 0x40000008 0x0"
+    ∷ "dsb 0 ishst"
+    ∷ "tlbi 0 rvae2is 0x710000040000"
+    ∷ "dsb 0 ish"
+    ∷ "w 0 0x40000008 0xc0000701"
+    ∷ "end 10"
+    ∷ []) ≡ codes "refused line 11 rule 4 break-before-make at 0x40000008\n"
+unfolding judged
+range_tlbi_over_three_quarters = refl
+
+-- The operand isn't of the 4 KiB granule.
+pub range_tlbi_of_another_granule : judged (
+    "bbmlog 4 hyp 2 1 1 1 -"
+    ∷ "init 0 0x40000000"
+    ∷ "root 0 el2 - 0x40000000"
+    ∷ "init 0 0x40001000"
+    ∷ "w 0 0x40001000 0x80000701"
+    ∷ "w 0 0x40000008 0x40001003"
+    ∷ "w 0 0x40000008 0x0"
+    ∷ "dsb 0 ishst"
+    ∷ "tlbi 0 rvae2is 0x318000040000"
+    ∷ "dsb 0 ish"
+    ∷ "w 0 0x40000008 0xc0000701"
+    ∷ "end 10"
+    ∷ []) ≡ codes "refused line 9 rule 15 bad-operand at 0x318000040000\n"
+unfolding judged
+range_tlbi_of_another_granule = refl
+
+-- The level hint is 1, and the range begins at no multiple of 1 GiB.
+pub range_tlbi_not_aligned : judged (
+    "bbmlog 4 hyp 2 1 1 1 -"
+    ∷ "init 0 0x40000000"
+    ∷ "root 0 el2 - 0x40000000"
+    ∷ "init 0 0x40001000"
+    ∷ "w 0 0x40001000 0x80000701"
+    ∷ "w 0 0x40000008 0x40001003"
+    ∷ "w 0 0x40000008 0x0"
+    ∷ "dsb 0 ishst"
+    ∷ "tlbi 0 rvae2is 0x71a000040001"
+    ∷ "dsb 0 ish"
+    ∷ "w 0 0x40000008 0xc0000701"
+    ∷ "end 10"
+    ∷ []) ≡ codes "refused line 9 rule 15 bad-operand at 0x71a000040001\n"
+unfolding judged
+range_tlbi_not_aligned = refl

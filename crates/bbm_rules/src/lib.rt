@@ -15,8 +15,8 @@ pub mod verdict;
 pub use checker::Checker;
 pub use claim::Claim;
 pub use event_laws::{
-    law_changes, law_equality_tests, law_lock_held, law_published, law_readable_register, law_root,
-    law_tag_set,
+    law_changes, law_equality_tests, law_limits, law_lock_held, law_published,
+    law_readable_register, law_root, law_tag_set, law_vmid,
 };
 pub use first_path::FirstPathChecker;
 pub use history_laws::{law_cleansed, law_half, law_seen};
@@ -32,8 +32,8 @@ pub use verdict::{Verdict, law_first_line_decides};
 #[cfg(test)]
 mod tests {
     use crate::event_laws::{
-        law_changes, law_equality_tests, law_lock_held, law_published, law_readable_register,
-        law_root, law_tag_set,
+        law_changes, law_equality_tests, law_limits, law_lock_held, law_published,
+        law_readable_register, law_root, law_tag_set, law_vmid,
     };
     use crate::history_laws::{law_cleansed, law_half, law_seen};
     use crate::laws::{
@@ -50,6 +50,7 @@ mod tests {
         law_seen();
         law_changes();
         law_equality_tests();
+        law_limits();
         law_lock_held();
         law_notes_keep_the_events();
         law_one_node();
@@ -60,6 +61,7 @@ mod tests {
         law_tag_set();
         law_tag_held();
         law_first_line_decides();
+        law_vmid();
         law_version();
     }
 }
