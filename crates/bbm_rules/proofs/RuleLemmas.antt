@@ -8,7 +8,7 @@ use Rattle.bbm_rules.specs.declared.rule.Rule.TheVariants.{BreakBeforeMake, NotF
 use Rattle.bbm_rules.specs.Broken.{Breach, breach_or, breaks, first_broken, rules}
 use Rattle.bbm_rules.specs.Claims.{Trust}
 use Rattle.bbm_rules.specs.Notes.{Noted}
-use Rattle.bbm_rules.specs.Places.{if_so}
+use Rattle.bbm_rules.specs.Lists.{if_so}
 use Rattle.bbm_rules.specs.Rules.{break_before_make, not_fresh, page_in_use, rewritten_fresh}
 
 neither : (rule : Rule) (o : Option ℕ) (rest : Option Breach) → breach_or rule o rest ≡ None → (o ≡ None) × (rest ≡ None)
