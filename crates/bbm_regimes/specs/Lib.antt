@@ -1,3 +1,4 @@
 pub mod Extent
 pub mod PeMask
+pub mod Same
 pub mod World

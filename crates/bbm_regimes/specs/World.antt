@@ -1,7 +1,9 @@
--- What a world says of its tables: the ranges of its fields, and the number of pages of a root.
-use Rattle.std.specs.Prelude.{ℕ, Bool, ◌&&◌, ◌||◌, ◌==◌, nat_le, if◌then◌else◌}
+-- What a world says of its tables: the ranges of its fields, its kinds, and the pages, the start level and the input
+-- addresses of a root of each kind.
+use Rattle.std.specs.Prelude.{ℕ, ◌-◌, ◌*◌, ◌/◌, ◌^◌, Bool, true, false, ◌&&◌, ◌||◌, ◌==◌, nat_le, if◌then◌else◌}
+use Rattle.bbm_regimes.specs.Extent.{span_of}
 use Rattle.bbm_regimes.specs.declared.regime.Kind.{Kind}
-use Rattle.bbm_regimes.specs.declared.regime.Kind.TheVariants.{S2}
+use Rattle.bbm_regimes.specs.declared.regime.Kind.TheVariants.{El2, S2, Ttbr0, Ttbr1}
 use Rattle.bbm_regimes.specs.declared.regime.World.{World}
 use Rattle.bbm_regimes.specs.declared.regime.World.TheVariants.{Hyp, Kernel}
 
@@ -20,3 +22,31 @@ world_ok (Kernel start0 start1 asid_from) = nat_le start0 2 && nat_le start1 2
 abbrev pub page_count : World → Kind → ℕ
 page_count (Hyp el2_start s2_start s2_pages) S2 = s2_pages
 page_count _ _ = 1
+
+-- whether the kind is one of the world
+abbrev pub kind_in_world : World → Kind → Bool
+kind_in_world (Hyp el2_start s2_start s2_pages) El2 = true
+kind_in_world (Hyp el2_start s2_start s2_pages) S2 = true
+kind_in_world (Kernel start0 start1 asid_from) Ttbr0 = true
+kind_in_world (Kernel start0 start1 asid_from) Ttbr1 = true
+kind_in_world _ _ = false
+
+-- The level at which walks of a kind of the world start.
+-- Source: Arm ARM (DDI 0487), "VMSAv8-64 translation table walks".
+abbrev pub start_of : World → Kind → ℕ
+start_of (Hyp el2_start s2_start s2_pages) El2 = el2_start
+start_of (Hyp el2_start s2_start s2_pages) S2 = s2_start
+start_of (Kernel start0 start1 asid_from) Ttbr0 = start0
+start_of (Kernel start0 start1 asid_from) Ttbr1 = start1
+start_of _ _ = 0
+
+-- the number of input pages that one descriptor of a level translates
+abbrev pub input_pages : ℕ → ℕ
+input_pages level = span_of level / 4096
+
+-- The first input page number of a kind's trees. Regions count from input address 0, but for the upper range,
+-- which is the highest part of the addresses: its last page is 2^44 - 1.
+-- Source: Arm ARM (DDI 0487), "VMSAv8-64 translation table walks".
+abbrev pub first_input_page : World → Kind → ℕ
+first_input_page world Ttbr1 = 2 ^ 44 - 512 * input_pages (start_of world Ttbr1)
+first_input_page world _ = 0

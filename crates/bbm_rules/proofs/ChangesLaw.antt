@@ -1,9 +1,6 @@
 -- An event keeps the answer of each definition that its row of the table doesn't name.
 use Rattle.std.proofs.Common.{◌≡◌, ℕ, false, List, ◌∷◌, refl, true≢false}
-use Rattle.bbm_regimes.specs.declared.regime.Reg.{Reg}
-use Rattle.bbm_events.specs.Heading.{Heading}
-use Rattle.bbm_events.specs.declared.event.Event.{Event}
-use Rattle.bbm_events.specs.declared.event.Event.TheVariants.{Init, Null, Root, Unroot, Write, Dsb, Isb, Tlbi, Msr, Lock, Unlock}
+use Rattle.bbm_rules.specs.Prelude.{Reg, Heading, Event, Init, Null, Root, Unroot, Write, Dsb, Isb, Tlbi, Msr, Lock, Unlock}
 use Rattle.bbm_rules.specs.Changes.{changes}
 use Rattle.bbm_rules.specs.Locks.{holder_of}
 use Rattle.bbm_rules.specs.Pages.{initialised, is_null}

@@ -1,8 +1,7 @@
 -- The holder of a lock is the PE that the sentence names.
 use Rattle.std.proofs.Common.{◌≡◌, ℕ, Bool, true, false, cond, ◌&&◌, ◌==◌, List, [], ◌∷◌, ◌++◌, Option, Some, None, refl, sym, ◌∙◌, ap, subst, true≢false}
 use Rattle.std.proofs.lemmas.Bool.{and_parts, and_from, eqb-true, false_from_ne_true, or_from, or_parts}
-use Rattle.bbm_events.specs.declared.event.Event.{Event}
-use Rattle.bbm_events.specs.declared.event.Event.TheVariants.{Lock, Unlock}
+use Rattle.bbm_rules.specs.Prelude.{Event, Lock, Unlock}
 use Rattle.bbm_rules.proofs.EqualityLaw.{same_number}
 use Rattle.bbm_rules.proofs.SearchLemmas.{is_none_at, none_at}
 use Rattle.bbm_rules.specs.Lists.{any, is_that}

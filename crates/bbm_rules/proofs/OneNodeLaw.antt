@@ -1,5 +1,5 @@
 -- In a history that keeps the rules a page has at most one node in the trees.
-use Rattle.std.proofs.Common.{◌≡◌, ℕ, zero, suc, ◌+◌, ◌-◌, ◌*◌, ◌&&◌, not, Bool, true, false, cond, ◌⊎◌, ◌==◌, List, [], ◌∷◌, ◌++◌, Option, Some, None, option_and_then, is_none, is_some, flat_map, map, Contains, refl, sym, ◌∙◌, ap, subst, inl, inr, true≢false, eqb-true}
+use Rattle.std.proofs.Common.{◌≡◌, ℕ, zero, suc, ◌+◌, ◌-◌, ◌*◌, ◌&&◌, not, Bool, true, false, ◌⊎◌, ◌==◌, List, [], ◌∷◌, ◌++◌, Option, Some, None, option_and_then, is_none, is_some, flat_map, map, Contains, refl, sym, ◌∙◌, ap, subst, inl, inr, true≢false, eqb-true}
 use Rattle.std.proofs.lemmas.Bool.{and_parts, not-false, not_from_false}
 use Rattle.bbm_regimes.specs.declared.regime.Kind.{Kind}
 use Rattle.bbm_regimes.specs.declared.regime.Kind.TheVariants.{El2}

@@ -1,11 +1,9 @@
 -- The readable values of a place are those that the sentence names.
 use Rattle.std.proofs.Common.{◌≡◌, ℕ, Bool, true, false, cond, ◌||◌, ◌==◌, List, [], ◌∷◌, ◌++◌, refl, sym, ◌∙◌, ap, subst, inl, inr, true≢false}
-use Rattle.std.proofs.lemmas.Bool.{and_from, and_parts, eqb-true, eq-eqb, or_cases, or_left, or_right}
-use Rattle.bbm_barriers.specs.declared.Dsb.{Dsb as Barrier}
-use Rattle.bbm_events.specs.Heading.{Heading}
-use Rattle.bbm_events.specs.declared.event.Event.{Event}
-use Rattle.bbm_events.specs.declared.event.Event.TheVariants.{Init, Write, Dsb}
-use Rattle.bbm_rules.proofs.OpenLaw.{In}
+use Rattle.std.proofs.lemmas.Bool.{and_from, and_parts, eqb-true, or_cases, or_left, or_right}
+use Rattle.bbm_rules.specs.Prelude.{Barrier, Heading, Event, Init, Write, Dsb}
+use Rattle.bbm_rules.proofs.EqualityLaw.{same_number}
+use Rattle.bbm_rules.proofs.OpenLaw.{In, head_of, tail_of}
 use Rattle.bbm_rules.proofs.SearchLemmas.{any_finds, any_found, in_split, split_in}
 use Rattle.bbm_rules.specs.Lists.{among}
 use Rattle.bbm_rules.specs.Places.{page_of}
@@ -21,22 +19,11 @@ abbrev stores : ℕ → Event → Bool
 stores place (Write q at value) = at == place
 stores place _ = false
 
-abbrev head_of : Event → List Event → Event
-head_of d [] = d
-head_of d (e ∷ es) = e
-
-abbrev tail_of : List Event → List Event
-tail_of [] = []
-tail_of (e ∷ es) = es
-
 same_head : (e x : Event) (es xs : List Event) → e ∷ es ≡ x ∷ xs → e ≡ x
 same_head e x es xs k = ap (head_of e) k
 
 same_tail : (e x : Event) (es xs : List Event) → e ∷ es ≡ x ∷ xs → es ≡ xs
 same_tail e x es xs k = ap tail_of k
-
-self_eq : (n : ℕ) → (n == n) ≡ true
-self_eq n = eq-eqb n n refl
 
 false_true : {A : Type 0} (b : Bool) → b ≡ false → b ≡ true → A
 false_true b f t = absurd (true≢false (sym t ∙ f))
@@ -96,7 +83,7 @@ further heading later h place p value e not_init unpublished b = record {
   where
     kept : (q : ℕ) (after before : List Event) → e ∷ b.newer ≡ after ++ Init q (page_of place) ∷ before → ⊥
     kept q [] before k = false_true (inits (page_of place) e) not_init
-        (ap (inits (page_of place)) (same_head e (Init q (page_of place)) b.newer before k) ∙ self_eq (page_of place))
+        (ap (inits (page_of place)) (same_head e (Init q (page_of place)) b.newer before k) ∙ same_number (page_of place))
     kept q (x ∷ after) before k =
         b.no_init q after before (same_tail e x b.newer (after ++ Init q (page_of place) ∷ before) k)
 
@@ -114,7 +101,7 @@ further heading later h place p value e not_init unpublished b = record {
 not_stored : (heading : Heading) (p place : ℕ) (later : List Event) (e : Event) → stores place e ≡ false
     → (q w : ℕ) → e ≡ Write q place w → published heading q p later ≡ false
 not_stored heading p place later e none q w k =
-    false_true (stores place e) none (ap (stores place) k ∙ self_eq place)
+    false_true (stores place e) none (ap (stores place) k ∙ same_number place)
 
 abbrev writer_of : Event → ℕ
 writer_of (Write q at value) = q
@@ -176,7 +163,7 @@ current_write : (heading : Heading) (later h : List Event) (place p q at v : ℕ
     (cond b (v ∷ cond (published heading q p later) [] (readable_before heading (Write q at v ∷ later) h place p))
     (readable_before heading (Write q at v ∷ later) h place p)) ≡ true
 current_write heading later h place p q at v true k =
-    or_left (v == v) (among v (cond (published heading q p later) [] (readable_before heading (Write q at v ∷ later) h place p))) (self_eq v)
+    or_left (v == v) (among v (cond (published heading q p later) [] (readable_before heading (Write q at v ∷ later) h place p))) (same_number v)
 current_write heading later h place p q at v false k = k
 
 current_init : (value : ℕ) (values : List ℕ) (b : Bool) → among value values ≡ true
@@ -308,6 +295,6 @@ pub published_complete : (heading : Heading) (q p : ℕ) (later : List Event) �
 published_complete heading q p later s =
     any_finds (publishes_for heading q p) later (Dsb q s.dsb)
     (subst (λ (es : List Event). In es (Dsb q s.dsb)) (sym s.split) (in_split s.after s.before (Dsb q s.dsb)))
-    (and_from (q == q) (publishes_to heading s.dsb q p) (self_eq q) s.publishes)
+    (and_from (q == q) (publishes_to heading s.dsb q p) (same_number q) s.publishes)
 
 pub ruleset published_laws = (published_sound, published_complete)

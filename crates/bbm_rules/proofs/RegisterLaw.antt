@@ -1,9 +1,7 @@
 -- The readable values of a register are those that the sentence names.
 use Rattle.std.proofs.Common.{◌≡◌, ℕ, Bool, true, false, cond, ◌&&◌, ◌==◌, List, [], ◌∷◌, ◌++◌, refl, sym, ◌∙◌, ap, subst, inl, inr, true≢false}
 use Rattle.std.proofs.lemmas.Bool.{and_from, and_left, and_parts, eqb-true, false_from_ne_true, or_cases, or_from, or_left, or_parts, or_right}
-use Rattle.bbm_regimes.specs.declared.regime.Reg.{Reg}
-use Rattle.bbm_events.specs.declared.event.Event.{Event}
-use Rattle.bbm_events.specs.declared.event.Event.TheVariants.{Isb, Msr}
+use Rattle.bbm_rules.specs.Prelude.{Reg, Event, Isb, Msr}
 use Rattle.bbm_rules.proofs.EqualityLaw.{reg_equal, reg_self, same_number}
 use Rattle.bbm_rules.proofs.SearchLemmas.{in_split, is_none_before, is_none_of, none_before, none_of, split_in}
 use Rattle.bbm_rules.specs.Lists.{among, any, newest, some}

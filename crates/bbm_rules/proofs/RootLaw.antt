@@ -1,9 +1,7 @@
 -- The roots of a history are those that the sentence names, and a page has one at most.
 use Rattle.std.proofs.Common.{◌≡◌, ℕ, Bool, true, false, cond, not, ◌==◌, List, [], ◌∷◌, ◌++◌, Option, Some, Contains, find, refl, sym, ◌∙◌, ap, subst, inl, inr, true≢false}
-use Rattle.std.proofs.lemmas.Bool.{eqb-true, false_from_ne_true, not_from_false, or_from, or_parts}
-use Rattle.bbm_regimes.specs.declared.regime.Kind.{Kind}
-use Rattle.bbm_events.specs.declared.event.Event.{Event}
-use Rattle.bbm_events.specs.declared.event.Event.TheVariants.{Root, Unroot}
+use Rattle.std.proofs.lemmas.Bool.{eqb-true, false_from_ne_true, not-true, not_from_false, or_from, or_parts}
+use Rattle.bbm_rules.specs.Prelude.{Kind, Event, Root, Unroot}
 use Rattle.bbm_rules.proofs.EqualityLaw.{same_number}
 use Rattle.bbm_rules.proofs.ListLemmas.{found, from_filter, to_filter}
 use Rattle.bbm_rules.proofs.OpenLaw.{In, from_contains, to_contains}
@@ -12,13 +10,9 @@ use Rattle.bbm_rules.specs.Lists.{any}
 use Rattle.bbm_rules.specs.Roots.{Declared, is_at, retired, root_at, roots_of}
 use Rattle.bbm_rules.specs.Sentences.{IsDeclared}
 
-not_true : (b : Bool) → not b ≡ true → b ≡ false
-not_true true k = sym k
-not_true false k = refl
-
 pub kept_page : (page : ℕ) (rs : List Declared) (r : Declared) → In (retired page rs) r → In rs r × ((r.page == page) ≡ false)
 kept_page page rs r i =
-    let k = from_filter (λ (s : Declared). not (is_at page s)) rs r i in (k.0, not_true (r.page == page) k.1)
+    let k = from_filter (λ (s : Declared). not (is_at page s)) rs r i in (k.0, not-true (r.page == page) k.1)
 
 still_there : (page : ℕ) (rs : List Declared) (r : Declared) → In rs r → (r.page == page) ≡ false → In (retired page rs) r
 still_there page rs r i other =

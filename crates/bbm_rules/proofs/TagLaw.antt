@@ -1,7 +1,7 @@
 -- The tags that a root holds at a PE are those that the sentence names, and the list of all tags that it holds has
 -- each of them once.
 use Rattle.std.proofs.Common.{◌≡◌, ℕ, suc, ◌+◌, ◌<◌, ◌≤◌, Bool, true, false, not, ◌&&◌, ◌==◌, nat_le, List, [], ◌∷◌, ◌++◌, length, refl, sym, ◌∙◌, ap, subst, inl, inr, arith, true≢false, length-append}
-use Rattle.std.proofs.lemmas.Bool.{or_cases, or_left, or_right, and_parts, and_from, leb-true, leb-false, le-leb, not_from_false}
+use Rattle.std.proofs.lemmas.Bool.{or_cases, or_left, or_right, and_parts, and_from, leb-true, leb-false, le-leb, not-true, not_from_false}
 use Rattle.bbm_barriers.specs.declared.Dsb.{Dsb as Barrier}
 use Rattle.bbm_regimes.specs.declared.regime.AsidFrom.TheVariants.{Ttbr0 as FromTtbr0, Ttbr1 as FromTtbr1}
 use Rattle.bbm_regimes.specs.declared.regime.Tag.{Tag}
@@ -35,10 +35,6 @@ not_at_start : (heading : Heading) (p root : ℕ) (tag : Tag) → reads heading 
 not_at_start heading p root tag k =
     let r = any_found (has_tag_and_root tag root) (readings heading [] p) k in
     subst (λ (rs : List Reading). In rs r.0) (no_reading heading.world p) r.1
-
-not_true : (b : Bool) → not b ≡ true → b ≡ false
-not_true true k = sym k
-not_true false k = refl
 
 second_false : (a b : Bool) → (a && b) ≡ false → a ≡ true → b ≡ false
 second_false true b k e = k
@@ -87,7 +83,7 @@ module _ (heading : Heading) (trust : Trust) (p : ℕ) (tag : Tag) where
       let k3 = and_parts ((c && r) && w) (not u) k4.0 in
       let k2 = and_parts (c && r) w k3.0 in
       let k1 = and_parts c r k2.0 in
-      record { answered = k1.0; reached = k1.1; whole = k2.1; unread = not_true u k3.1; allowed = k4.1 }
+      record { answered = k1.0; reached = k1.1; whole = k2.1; unread = not-true u k3.1; allowed = k4.1 }
 
   joined : (q : ℕ) (dsb : Barrier) (h : List Event) (t : Issued Event) → Takes q dsb h t
       → is_taken_by heading trust p tag q dsb h t ≡ true
@@ -213,7 +209,7 @@ module _ (heading : Heading) (trust : Trust) (p : ℕ) (tag : Tag) where
         | inl now ↦ at_once root (e ∷ h) now
         | inr before ↦
             let r = and_parts (holds_at heading trust p root tag h) (not (loses heading trust p tag e h)) before in
-            longer root e h (not_true (loses heading trust p tag e h) r.1) (sound root h r.0)
+            longer root e h (not-true (loses heading trust p tag e h) r.1) (sound root h r.0)
       ]
 
   complete_from : (root : ℕ) (newer older : List Event) → reads heading older p tag root ≡ true

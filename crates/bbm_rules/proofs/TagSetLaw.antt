@@ -1,17 +1,15 @@
 -- The list of the tags that a root holds has each of them once, so the tag set says whether there is none, one or more.
-use Rattle.std.proofs.Common.{◌≡◌, ℕ, Bool, true, false, cond, not, ◌&&◌, ◌==◌, List, [], ◌∷◌, filter, flat_map, refl, sym, ◌∙◌, ap, subst, inl, inr, true≢false}
+use Rattle.std.proofs.Common.{◌≡◌, ℕ, Bool, true, false, cond, not, ◌&&◌, ◌==◌, List, [], ◌∷◌, filter, filter_map, flat_map, Some, refl, sym, ◌∙◌, ap, subst, inl, inr, true≢false}
 use Rattle.std.proofs.lemmas.Bool.{and_parts, false_from_ne_true, or_cases}
-use Rattle.bbm_regimes.specs.declared.regime.Tag.{Tag}
 use Rattle.bbm_tlbi_scope.specs.declared.entry.TagSet.TheVariants.{None as NoTag, One, Many}
-use Rattle.bbm_events.specs.Heading.{Heading}
-use Rattle.bbm_events.specs.declared.event.Event.{Event}
+use Rattle.bbm_rules.specs.Prelude.{Tag, Heading, Event}
 use Rattle.bbm_rules.proofs.EqualityLaw.{tag_equal, tag_self}
-use Rattle.bbm_rules.proofs.ListLemmas.{from_filter, in_left, in_right, to_filter, to_flat}
+use Rattle.bbm_rules.proofs.ListLemmas.{from_filter, in_left, in_right, to_filter, to_filter_map, to_flat}
 use Rattle.bbm_rules.proofs.OpenLaw.{In}
 use Rattle.bbm_rules.proofs.SearchLemmas.{any_finds, any_found}
 use Rattle.bbm_rules.specs.Claims.{Trust, same_tag}
-use Rattle.bbm_rules.specs.Lists.{any, below}
-use Rattle.bbm_rules.specs.Tags.{Reading, distinct, ever_read, has_tag_and_root, holds_at, holds_tag, loses, readings, reads, tag_set, tags_for, tags_of}
+use Rattle.bbm_rules.specs.Lists.{any, below, if_so}
+use Rattle.bbm_rules.specs.Tags.{Reading, distinct, ever_read, has_tag_and_root, holds_at, holds_tag, loses, readings, reads, tag_set, tag_for, tags_of}
 
 -- ---- a list with each tag once
 
@@ -63,36 +61,25 @@ filter_once test (g ∷ gs) o = filter_by test g gs (test g) o.0 (filter_once te
 
 -- ---- the tags that were ever readable
 
-tags_by : (r : Reading) (root : ℕ) (tag : Tag) (rs : List Reading) (b : Bool) → (r.root == root) ≡ b → b ≡ true → r.tag ≡ tag
-    → In (cond b (r.tag ∷ tags_for root rs) (tags_for root rs)) tag
-tags_by r root tag rs true e k same = inl same
-tags_by r root tag rs false e k same = absurd (true≢false (sym k))
-
-past_reading : (r : Reading) (root : ℕ) (tag : Tag) (rs : List Reading) (b : Bool) → In (tags_for root rs) tag
-    → In (cond b (r.tag ∷ tags_for root rs) (tags_for root rs)) tag
-past_reading r root tag rs true i = inr i
-past_reading r root tag rs false i = i
-
 in_tags : (tag : Tag) (root : ℕ) (rs : List Reading) (r : Reading) → In rs r → has_tag_and_root tag root r ≡ true
-    → In (tags_for root rs) tag
-in_tags tag root [] r i k = absurd i
-in_tags tag root (s ∷ rs) r (inl same) k =
-    let parts = and_parts (same_tag s.tag tag) (s.root == root) (ap (has_tag_and_root tag root) same ∙ k) in
-    tags_by s root tag rs (s.root == root) refl parts.1 (tag_equal s.tag tag parts.0)
-in_tags tag root (s ∷ rs) r (inr i) k = past_reading s root tag rs (s.root == root) (in_tags tag root rs r i k)
+    → In (filter_map (tag_for root) rs) tag
+in_tags tag root rs r i k =
+    let parts = and_parts (same_tag r.tag tag) (r.root == root) k in
+    to_filter_map (tag_for root) rs r tag i
+    (ap (λ b. if_so b r.tag) parts.1 ∙ ap (λ g. Some g) (tag_equal r.tag tag parts.0))
 
 module _ (heading : Heading) (trust : Trust) (root : ℕ) (tag : Tag) where
   was_read : (p : ℕ) → In (below heading.pes) p → (h : List Event) → holds_at heading trust p root tag h ≡ true
       → In (ever_read heading root h) tag
   was_read p among [] k = absurd (true≢false (sym k))
   was_read p among (e ∷ h) k =
-      let now = flat_map (λ (q : ℕ). tags_for root (readings heading (e ∷ h) q)) (below heading.pes) in
+      let now = flat_map (λ (q : ℕ). filter_map (tag_for root) (readings heading (e ∷ h) q)) (below heading.pes) in
       elim (or_cases (reads heading (e ∷ h) p tag root)
       (holds_at heading trust p root tag h && not (loses heading trust p tag e h)) k) [
         | inl here ↦
             let r = any_found (has_tag_and_root tag root) (readings heading (e ∷ h) p) here in
             in_left now (ever_read heading root h) tag
-            (to_flat (λ (q : ℕ). tags_for root (readings heading (e ∷ h) q)) (below heading.pes) p tag among
+            (to_flat (λ (q : ℕ). filter_map (tag_for root) (readings heading (e ∷ h) q)) (below heading.pes) p tag among
             (in_tags tag root (readings heading (e ∷ h) p) r.0 r.1 r.2))
         | inr before ↦
             let r = and_parts (holds_at heading trust p root tag h) (not (loses heading trust p tag e h)) before in

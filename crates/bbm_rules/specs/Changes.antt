@@ -2,8 +2,7 @@
 -- one, and the laws say that a definition keeps its answer where its event's row doesn't name it.
 -- Source: project's own choice.
 use Rattle.std.specs.Prelude.{Bool, true, false}
-use Rattle.bbm_events.specs.declared.event.Event.{Event}
-use Rattle.bbm_events.specs.declared.event.Event.TheVariants.{Init, Null, Root, Unroot, Write, Dsb, Dmb, Isb, Tlbi, Msr, Lock, Unlock}
+use Rattle.bbm_rules.specs.Prelude.{Event, Init, Null, Root, Unroot, Write, Dsb, Dmb, Isb, Tlbi, Msr, Lock, Unlock}
 
 pub record Changes : Type 0 where
   -- the values of places, and which places were ever written

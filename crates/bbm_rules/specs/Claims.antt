@@ -1,19 +1,10 @@
 -- What the rules trust: every pattern of events that is there, or the patterns that a certificate names.
 -- Source: project's own choice.
 use Rattle.std.specs.Prelude.{Bool, true, false, ◌&&◌, ◌==◌, List}
-use Rattle.bbm_regimes.specs.declared.regime.Tag.{Tag}
-use Rattle.bbm_regimes.specs.declared.regime.Tag.TheVariants.{El2, Vmid, Asid, Ttbr1}
+pub use Rattle.bbm_regimes.specs.Same.{same_tag}
 use Rattle.bbm_rules.specs.declared.claim.Claim.{Claim}
 use Rattle.bbm_rules.specs.declared.claim.Claim.TheVariants.{Place, Two, Taken}
 use Rattle.bbm_rules.specs.Lists.{any}
-
--- whether two tags are the same
-abbrev pub same_tag : Tag → Tag → Bool
-same_tag El2 El2 = true
-same_tag (Vmid v) (Vmid w) = v == w
-same_tag (Asid a) (Asid b) = a == b
-same_tag Ttbr1 Ttbr1 = true
-same_tag _ _ = false
 
 -- whether two claims are the same
 abbrev pub same_claim : Claim → Claim → Bool

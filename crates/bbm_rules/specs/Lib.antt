@@ -17,6 +17,7 @@ pub mod Pages
 pub mod PatternSentences
 pub mod Phases
 pub mod Places
+pub mod Prelude
 pub mod Reach
 pub mod Registers
 pub mod Roots

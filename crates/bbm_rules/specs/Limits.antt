@@ -3,8 +3,7 @@
 use Rattle.std.specs.Prelude.{◌&&◌, not, nat_le, List, length, Option, None}
 use Rattle.bbm_regimes.specs.declared.regime.Which.{Which}
 use Rattle.bbm_regimes.specs.declared.regime.Which.TheVariants.{Pages, Roots, Values}
-use Rattle.bbm_events.specs.declared.event.Event.{Event}
-use Rattle.bbm_events.specs.declared.event.Event.TheVariants.{Init, Root, Msr}
+use Rattle.bbm_rules.specs.Prelude.{Event, Init, Root, Msr}
 use Rattle.bbm_rules.specs.Pages.{initialised}
 use Rattle.bbm_rules.specs.Lists.{among, if_so}
 use Rattle.bbm_rules.specs.Registers.{register_values}

@@ -1,6 +1,8 @@
 -- Words on lists, on options and on tests, of no subject of their own.
 -- Source: project's own choice.
-use Rattle.std.specs.Prelude.{ℕ, zero, suc, min, Bool, true, false, ◌&&◌, ◌||◌, ◌==◌, List, [], ◌∷◌, Option, Some, None, option_and_then, if◌then◌else◌}
+use Rattle.std.specs.Prelude.{ℕ, zero, suc, min, Bool, true, false, ◌||◌, ◌==◌, List, [], ◌∷◌, Option, Some, None, option_and_then, unwrap_or, if◌then◌else◌}
+-- whether some item of a list passes the test, and whether every item does
+pub use Rattle.std.specs.List.{list_any as any, list_all as every}
 
 -- what may be missing: with `do`, the first step that gives None ends the others
 infixl 10 ◌>>=◌
@@ -16,15 +18,6 @@ if_so true x = Some x
 abbrev pub is_that : Option ℕ → ℕ → Bool
 is_that None n = false
 is_that (Some m) n = m == n
-
--- whether some item of a list passes the test, and whether every item does
-abbrev pub any : {A : Type 0} → (A → Bool) → List A → Bool
-any test [] = false
-any test (x ∷ xs) = test x || any test xs
-
-abbrev pub every : {A : Type 0} → (A → Bool) → List A → Bool
-every test [] = true
-every test (x ∷ xs) = test x && every test xs
 
 -- Search in a history: whether some item passes the test. The test has the item and what came before it.
 abbrev pub some : {A : Type 0} → (A → List A → Bool) → List A → Bool
@@ -52,13 +45,9 @@ repeated [] = []
 repeated (n ∷ ms) = if among n ms then n ∷ repeated ms else repeated ms
 
 -- the least number of the list, None where it is empty
-abbrev pub lesser : ℕ → Option ℕ → ℕ
-lesser n None = n
-lesser n (Some m) = min n m
-
 abbrev pub least : List ℕ → Option ℕ
 least [] = None
-least (n ∷ ms) = Some (lesser n (least ms))
+least (n ∷ ms) = Some (min n (unwrap_or (least ms) n))
 
 -- the one number of a list, None where it has several or none
 abbrev pub one_number : List ℕ → Option ℕ

@@ -1,8 +1,7 @@
 -- Who holds a lock. A history is newest first.
 -- Source: project's own choice.
 use Rattle.std.specs.Prelude.{ℕ, ◌&&◌, ◌==◌, List, [], ◌∷◌, Option, Some, None, if◌then◌else◌}
-use Rattle.bbm_events.specs.declared.event.Event.{Event}
-use Rattle.bbm_events.specs.declared.event.Event.TheVariants.{Lock, Unlock}
+use Rattle.bbm_rules.specs.Prelude.{Event, Lock, Unlock}
 use Rattle.bbm_rules.specs.Lists.{is_that}
 
 -- The PE that took the lock last and hasn't given it back; None where the lock is free, as each is at the start. An

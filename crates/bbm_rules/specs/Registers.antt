@@ -1,36 +1,11 @@
 -- The root registers of a PE: which of their values may still be in use. A history is newest first.
 -- Source: project's own choice, but where another is named.
-use Rattle.std.specs.Prelude.{ℕ, ◌*◌, ◌/◌, ◌%◌, ◌^◌, Bool, true, false, ◌&&◌, ◌==◌, List, [], ◌∷◌, Option, Some, None, is_none, map, if◌then◌else◌}
+use Rattle.std.specs.Prelude.{ℕ, ◌*◌, ◌/◌, ◌%◌, ◌^◌, Bool, ◌&&◌, ◌==◌, List, [], ◌∷◌, Option, Some, None, is_none, map, if◌then◌else◌}
 use Rattle.std.specs.Result.{result_ok}
-use Rattle.bbm_regimes.specs.declared.regime.Kind.{Kind}
-use Rattle.bbm_regimes.specs.declared.regime.Kind.TheVariants.{El2, S2, Ttbr0, Ttbr1}
-use Rattle.bbm_regimes.specs.declared.regime.Reg.{Reg}
-use Rattle.bbm_regimes.specs.declared.regime.Reg.TheVariants.{Ttbr0El2, VttbrEl2, Ttbr0El1, Ttbr1El1}
-use Rattle.bbm_regimes.specs.declared.regime.World.{World}
-use Rattle.bbm_regimes.specs.declared.regime.World.TheVariants.{Hyp, Kernel}
-use Rattle.bbm_tlbi_scope.specs.declared.op.TlbiOp.{TlbiOp}
-use Rattle.bbm_tlbi_scope.specs.declared.scope.Scope.{Scope}
-use Rattle.bbm_tlbi_scope.specs.Decode.{scope_of}
+pub use Rattle.bbm_regimes.specs.Same.{kind_of_reg, same_reg}
 use Rattle.bbm_tlbi_scope.specs.Operations.{scoped_by_vmid}
-use Rattle.bbm_events.specs.Heading.{Heading}
-use Rattle.bbm_events.specs.declared.event.Event.{Event}
-use Rattle.bbm_events.specs.declared.event.Event.TheVariants.{Isb, Msr}
+use Rattle.bbm_rules.specs.Prelude.{Reg, VttbrEl2, World, Hyp, Kernel, TlbiOp, Scope, scope_of, Heading, Event, Isb, Msr}
 use Rattle.bbm_rules.specs.Lists.{newest, one_number}
-
--- whether two registers are the same
-abbrev pub same_reg : Reg → Reg → Bool
-same_reg Ttbr0El2 Ttbr0El2 = true
-same_reg VttbrEl2 VttbrEl2 = true
-same_reg Ttbr0El1 Ttbr0El1 = true
-same_reg Ttbr1El1 Ttbr1El1 = true
-same_reg _ _ = false
-
--- the kind of the roots that a register names
-abbrev pub kind_of_reg : Reg → Kind
-kind_of_reg Ttbr0El2 = El2
-kind_of_reg VttbrEl2 = S2
-kind_of_reg Ttbr0El1 = Ttbr0
-kind_of_reg Ttbr1El1 = Ttbr1
 
 -- Readable values of a register of p, newest first: those that it had, the first 0 among them, and that no later
 -- write of the register by p replaced before an ISB of p. An ISB of p leaves the newest alone.

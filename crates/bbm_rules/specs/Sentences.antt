@@ -2,13 +2,7 @@
 -- the same. A history is newest first, so in `newer ++ older` the events of `newer` came after those of `older`.
 -- Source: project's own choice, but where another is named.
 use Rattle.std.specs.Prelude.{◌≡◌, ℕ, suc, ◌<◌, ◌≤◌, Bool, true, false, ◌&&◌, ◌==◌, List, [], ◌∷◌, ◌++◌, length, Option, if◌then◌else◌}
-use Rattle.bbm_barriers.specs.declared.Dsb.{Dsb as Barrier}
-use Rattle.bbm_regimes.specs.declared.regime.Kind.{Kind}
-use Rattle.bbm_regimes.specs.declared.regime.Reg.{Reg}
-use Rattle.bbm_regimes.specs.declared.regime.Tag.{Tag}
-use Rattle.bbm_events.specs.Heading.{Heading}
-use Rattle.bbm_events.specs.declared.event.Event.{Event}
-use Rattle.bbm_events.specs.declared.event.Event.TheVariants.{Init, Root, Unroot, Write, Dsb, Isb, Tlbi, Msr, Lock, Unlock}
+use Rattle.bbm_rules.specs.Prelude.{Barrier, Kind, Reg, Tag, Heading, Event, Init, Root, Unroot, Write, Dsb, Isb, Tlbi, Msr, Lock, Unlock}
 use Rattle.bbm_rules.specs.declared.claim.Claim.TheVariants.{Taken}
 use Rattle.bbm_rules.specs.Claims.{Trust, allows}
 use Rattle.bbm_rules.specs.Places.{page_of}

@@ -1,22 +1,10 @@
 -- Tags: under which a PE may read through a root, and which a root holds. A history is newest first.
 -- Source: project's own choice, but where another is named.
 use Rattle.std.specs.Prelude.{ℕ, suc, Bool, false, ◌&&◌, ◌||◌, not, nat_le, ◌==◌, List, [], ◌∷◌, ◌++◌, length, Option, Some, None, filter, filter_map, flat_map, if◌then◌else◌}
-use Rattle.bbm_barriers.specs.declared.Dsb.{Dsb as Barrier}
-use Rattle.bbm_regimes.specs.declared.regime.AsidFrom.{AsidFrom}
-use Rattle.bbm_regimes.specs.declared.regime.AsidFrom.TheVariants.{Ttbr0 as FromTtbr0, Ttbr1 as FromTtbr1}
-use Rattle.bbm_regimes.specs.declared.regime.Reg.{Reg}
-use Rattle.bbm_regimes.specs.declared.regime.Reg.TheVariants.{Ttbr0El2, VttbrEl2, Ttbr0El1, Ttbr1El1}
-use Rattle.bbm_regimes.specs.declared.regime.Tag.{Tag}
-use Rattle.bbm_regimes.specs.declared.regime.Tag.TheVariants.{El2 as El2Tag, Vmid, Asid, Ttbr1 as Ttbr1Tag}
-use Rattle.bbm_regimes.specs.declared.regime.World.{World}
-use Rattle.bbm_regimes.specs.declared.regime.World.TheVariants.{Hyp, Kernel}
 use Rattle.bbm_tlbi_scope.specs.declared.entry.TagSet.{TagSet}
 use Rattle.bbm_tlbi_scope.specs.declared.entry.TagSet.TheVariants.{None as NoTag, One, Many}
-use Rattle.bbm_tlbi_scope.specs.declared.scope.Scope.{Scope}
 use Rattle.bbm_tlbi_scope.specs.Tags.{takes_whole_tag}
-use Rattle.bbm_events.specs.Heading.{Heading}
-use Rattle.bbm_events.specs.declared.event.Event.{Event}
-use Rattle.bbm_events.specs.declared.event.Event.TheVariants.{Dsb, Tlbi}
+use Rattle.bbm_rules.specs.Prelude.{Barrier, AsidFrom, FromTtbr0, FromTtbr1, Reg, Ttbr0El2, VttbrEl2, Ttbr0El1, Ttbr1El1, Tag, El2Tag, Vmid, Asid, Ttbr1Tag, World, Hyp, Kernel, Heading, Event, Dsb, Tlbi}
 use Rattle.bbm_rules.specs.declared.claim.Claim.TheVariants.{Taken}
 use Rattle.bbm_rules.specs.Claims.{Trust, allows, same_tag}
 use Rattle.bbm_rules.specs.Lists.{◌>>=◌, any, below, if_so, some, some_pe}
@@ -61,20 +49,14 @@ readings_in (Kernel start0 start1 asid_from) h p =
 abbrev pub itself : Event → Event
 itself e = e
 
-abbrev pub is_whole : Option Scope → Option ℕ → Tag → Bool
-is_whole None vmid tag = false
-is_whole (Some scope) vmid tag = takes_whole_tag scope vmid tag
-
 abbrev pub has_tag : Tag → Reading → Bool
 has_tag tag r = same_tag r.tag tag
 
 abbrev pub has_tag_and_root : Tag → ℕ → Reading → Bool
 has_tag_and_root tag root r = same_tag r.tag tag && r.root == root
 
--- the tags of the readings of a root
-abbrev pub tags_for : ℕ → List Reading → List Tag
-tags_for root [] = []
-tags_for root (r ∷ rs) = if r.root == root then r.tag ∷ tags_for root rs else tags_for root rs
+abbrev pub tag_for : ℕ → Reading → Option Tag
+tag_for root r = if_so (r.root == root) r.tag
 
 module _ (heading : Heading) where
   abbrev pub readings : List Event → ℕ → List Reading
@@ -97,7 +79,8 @@ module _ (heading : Heading) where
   -- Whole-tag TLBI: one that takes everything that a TLB keeps under the tag. It is issued under the VMID that its
   -- issuer then has. Source: Arm ARM (DDI 0487), "TLB maintenance instructions"; the term is the project's own choice.
   abbrev pub takes_tag : Event → List Event → Tag → Bool
-  takes_tag (Tlbi pe op xt) before tag = is_whole (named_scope heading before pe op xt) (vmid_of heading before pe) tag
+  takes_tag (Tlbi pe op xt) before tag =
+      elim (named_scope heading before pe op xt) [ None ↦ false | Some scope ↦ takes_whole_tag scope (vmid_of heading before pe) tag ]
   takes_tag _ before tag = false
 
   module _ (trust : Trust) where
@@ -127,7 +110,7 @@ module _ (heading : Heading) where
   -- the tags that were ever readable for the root, at any PE
   abbrev pub ever_read : ℕ → List Event → List Tag
   ever_read root [] = []
-  ever_read root (e ∷ h) = flat_map (λ p. tags_for root (readings (e ∷ h) p)) (below heading.pes) ++ ever_read root h
+  ever_read root (e ∷ h) = flat_map (λ p. filter_map (tag_for root) (readings (e ∷ h) p)) (below heading.pes) ++ ever_read root h
 
 -- each tag of the list once
 abbrev pub distinct : List Tag → List Tag

@@ -1,13 +1,10 @@
 -- The values of a place, and which of them a PE may still read. A history is newest first.
 -- Source: project's own choice, but where another is named.
 use Rattle.std.specs.Prelude.{ℕ, Bool, true, false, not, ◌&&◌, ◌==◌, List, [], ◌∷◌, filter, if◌then◌else◌}
-use Rattle.bbm_barriers.specs.declared.Dsb.{Dsb as Barrier}
 use Rattle.bbm_barriers.specs.declared.Domain.{Domain}
 use Rattle.bbm_barriers.specs.declared.Domain.TheVariants.{Non}
 use Rattle.bbm_barriers.specs.Options.{publishes}
-use Rattle.bbm_events.specs.Heading.{Heading}
-use Rattle.bbm_events.specs.declared.event.Event.{Event}
-use Rattle.bbm_events.specs.declared.event.Event.TheVariants.{Init, Write, Dsb}
+use Rattle.bbm_rules.specs.Prelude.{Barrier, Heading, Event, Init, Write, Dsb}
 use Rattle.bbm_rules.specs.Lists.{among, any, with_number}
 use Rattle.bbm_rules.specs.Places.{page_of}
 
@@ -65,8 +62,5 @@ module _ (heading : Heading) where
       if page == page_of place then 0 ∷ [] else readable_before (Init q page ∷ later) h place p
   readable_before later (e ∷ h) place p = readable_before (e ∷ later) h place p
 
-  abbrev pub readable_values : List Event → ℕ → ℕ → List ℕ
-  readable_values h place p = readable_before [] h place p
-
   abbrev pub is_readable : List Event → ℕ → ℕ → ℕ → Bool
-  is_readable h place p value = among value (readable_values h place p)
+  is_readable h place p value = among value (readable_before [] h place p)
