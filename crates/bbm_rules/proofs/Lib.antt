@@ -24,6 +24,8 @@ pub mod ReadableLaw
 pub mod OpenLaw
 pub mod EqualityLaw
 pub mod SearchLemmas
+pub mod LimitLaw
+pub mod VmidLaw
 pub mod LockLaw
 pub mod TagSetLaw
 pub mod ChangesLaw

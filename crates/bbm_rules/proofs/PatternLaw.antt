@@ -1,5 +1,5 @@
 -- Seen, half and cleansed are what the sentences say.
-use Rattle.std.proofs.Common.{◌≡◌, ◌↔◌, ℕ, Bool, true, false, ◌&&◌, ◌⊎◌, ◌==◌, List, [], ◌∷◌, ◌++◌, refl, sym, ◌∙◌, ap, subst, inl, inr, true≢false}
+use Rattle.std.proofs.Common.{◌≡◌, ℕ, Bool, true, ◌&&◌, ◌==◌, List, ◌∷◌, ◌++◌, refl, sym, ◌∙◌, ap, subst, inl, inr, true≢false}
 use Rattle.std.proofs.lemmas.Bool.{eq-eqb, eqb-true, or_cases, or_left, or_right, and_parts, and_from}
 use Rattle.bbm_barriers.specs.declared.Dsb.{Dsb as Barrier}
 use Rattle.bbm_tlbi_scope.specs.declared.entry.Cover.{Cover}
@@ -7,7 +7,7 @@ use Rattle.bbm_tlbi_scope.specs.declared.entry.Cover.TheVariants.{None as NoCove
 use Rattle.bbm_events.specs.Heading.{Heading}
 use Rattle.bbm_events.specs.declared.event.Event.{Event}
 use Rattle.bbm_events.specs.declared.event.Event.TheVariants.{Write, Dsb}
-use Rattle.bbm_rules.proofs.OpenLaw.{In, from_contains, open_note_complete}
+use Rattle.bbm_rules.proofs.OpenLaw.{from_contains, open_note_complete}
 use Rattle.bbm_rules.proofs.Patterns.{AnsweredOne, answered_one}
 use Rattle.bbm_rules.proofs.SearchLemmas.{Found, any_finds, some_found, some_finds}
 use Rattle.bbm_rules.specs.Claims.{Trust}

@@ -50,7 +50,7 @@ module _ (p : ℕ) (reg : Reg) where
   first_isb values value true rest = ap newest rest
   first_isb values value false rest = rest
 
-  first : (h : List Event) → newest (register_values h p reg) ≡ register_value h p reg ∷ []
+  pub first : (h : List Event) → newest (register_values h p reg) ≡ register_value h p reg ∷ []
   first [] = refl
   first (Msr pe r v ∷ h) = first_write v h (pe == p && same_reg r reg) (first h)
   first (Isb pe ∷ h) = first_isb (register_values h p reg) (register_value h p reg) (pe == p) (first h)

@@ -16,14 +16,14 @@ use Rattle.bbm_rules.specs.declared.claim.Claim.TheVariants.{Taken}
 use Rattle.bbm_rules.specs.Claims.{Trust, allows, same_tag}
 use Rattle.bbm_rules.specs.Reach.{Issued, completes, reaches, unanswered}
 use Rattle.bbm_rules.specs.Sentences.{HoldsTag, Open, TakenAway}
-use Rattle.bbm_rules.specs.Tags.{Reading, has_tag, has_tag_and_root, holds_at, is_read_after, is_taken_by, itself, loses, read_since, readings, readings_in, reads, reads_for_some, takes_tag}
+use Rattle.bbm_rules.specs.Tags.{Reading, holds_at, is_taken_by, itself, loses, read_since, readings, readings_in, reads, reads_for_some, takes_tag}
 
 -- a tag that is readable for a root is readable for some root
 pub some_reading : (heading : Heading) (h : List Event) (p : ℕ) (tag : Tag) (root : ℕ) → reads heading h p tag root ≡ true
     → reads_for_some heading h p tag ≡ true
 some_reading heading h p tag root k =
-    let r = any_found (has_tag_and_root tag root) (readings heading h p) k in
-    any_finds (has_tag tag) (readings heading h p) r.0 r.1 (and_parts (same_tag r.0.tag tag) (r.0.root == root) r.2).0
+    let r = any_found (λ (r : Reading). same_tag r.tag tag && r.root == root) (readings heading h p) k in
+    any_finds (λ (r : Reading). same_tag r.tag tag) (readings heading h p) r.0 r.1 (and_parts (same_tag r.0.tag tag) (r.0.root == root) r.2).0
 
 -- at the start no tag is readable
 no_reading : (world : World) (p : ℕ) → readings_in world [] p ≡ []
@@ -33,7 +33,7 @@ no_reading (Kernel start0 start1 FromTtbr1) p = refl
 
 not_at_start : (heading : Heading) (p root : ℕ) (tag : Tag) → reads heading [] p tag root ≡ true → ⊥
 not_at_start heading p root tag k =
-    let r = any_found (has_tag_and_root tag root) (readings heading [] p) k in
+    let r = any_found (λ (r : Reading). same_tag r.tag tag && r.root == root) (readings heading [] p) k in
     subst (λ (rs : List Reading). In rs r.0) (no_reading heading.world p) r.1
 
 second_false : (a b : Bool) → (a && b) ≡ false → a ≡ true → b ≡ false
@@ -48,7 +48,7 @@ module _ (heading : Heading) (trust : Trust) (p : ℕ) (tag : Tag) where
   unread_at n h after [] k split below = absurd (omega arith)
   unread_at n h after (e ∷ m) k split below =
       second_false (nat_le n (length m)) (reads_for_some heading (e ∷ m) p tag)
-      (none_before (is_read_after heading n p tag) h k after e m split) (le-leb n (length m) (omega arith))
+      (none_before (λ (e : Event) (before : List Event). nat_le n (length before) && reads_for_some heading (e ∷ before) p tag) h k after e m split) (le-leb n (length m) (omega arith))
 
   unread_one : (n : ℕ) (e : Event) (m : List Event) → (n < suc (length m) → reads_for_some heading (e ∷ m) p tag ≡ false)
       → (b : Bool) → nat_le n (length m) ≡ b → (b && reads_for_some heading (e ∷ m) p tag) ≡ false
@@ -59,7 +59,7 @@ module _ (heading : Heading) (trust : Trust) (p : ℕ) (tag : Tag) where
       → ((after moment : List Event) → h ≡ after ++ moment → n < length moment → reads_for_some heading moment p tag ≡ false)
       → read_since heading n p tag h ≡ false
   unread_all n h all =
-      is_none_before (is_read_after heading n p tag) h
+      is_none_before (λ (e : Event) (before : List Event). nat_le n (length before) && reads_for_some heading (e ∷ before) p tag) h
       (λ after e m split. unread_one n e m (all after (e ∷ m) split) (nat_le n (length m)) refl)
 
   -- ---- the answer that takes the tag away

@@ -9,7 +9,7 @@ use Rattle.bbm_rules.proofs.OpenLaw.{In}
 use Rattle.bbm_rules.proofs.SearchLemmas.{any_finds, any_found}
 use Rattle.bbm_rules.specs.Claims.{Trust, same_tag}
 use Rattle.bbm_rules.specs.Lists.{any, below, if_so}
-use Rattle.bbm_rules.specs.Tags.{Reading, distinct, ever_read, has_tag_and_root, holds_at, holds_tag, loses, readings, reads, tag_set, tag_for, tags_of}
+use Rattle.bbm_rules.specs.Tags.{Reading, distinct, ever_read, holds_at, holds_tag, loses, readings, reads, tag_set, tag_for, tags_of}
 
 -- ---- a list with each tag once
 
@@ -61,7 +61,7 @@ filter_once test (g ∷ gs) o = filter_by test g gs (test g) o.0 (filter_once te
 
 -- ---- the tags that were ever readable
 
-in_tags : (tag : Tag) (root : ℕ) (rs : List Reading) (r : Reading) → In rs r → has_tag_and_root tag root r ≡ true
+in_tags : (tag : Tag) (root : ℕ) (rs : List Reading) (r : Reading) → In rs r → (same_tag r.tag tag && r.root == root) ≡ true
     → In (filter_map (tag_for root) rs) tag
 in_tags tag root rs r i k =
     let parts = and_parts (same_tag r.tag tag) (r.root == root) k in
@@ -77,7 +77,7 @@ module _ (heading : Heading) (trust : Trust) (root : ℕ) (tag : Tag) where
       elim (or_cases (reads heading (e ∷ h) p tag root)
       (holds_at heading trust p root tag h && not (loses heading trust p tag e h)) k) [
         | inl here ↦
-            let r = any_found (has_tag_and_root tag root) (readings heading (e ∷ h) p) here in
+            let r = any_found (λ (r : Reading). same_tag r.tag tag && r.root == root) (readings heading (e ∷ h) p) here in
             in_left now (ever_read heading root h) tag
             (to_flat (λ (q : ℕ). filter_map (tag_for root) (readings heading (e ∷ h) q)) (below heading.pes) p tag among
             (in_tags tag root (readings heading (e ∷ h) p) r.0 r.1 r.2))

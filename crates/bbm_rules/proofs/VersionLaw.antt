@@ -1,12 +1,11 @@
 -- Versions 1 and 2 judge alike, where the header has no `cnp` and no register is given a value with bit 0 set.
-use Rattle.std.proofs.Common.{◌≡◌, ℕ, suc, ◌&&◌, ◌||◌, not, Bool, false, List, [], ◌∷◌, length, Option, None, is_none, refl, sym, ◌∙◌, ap}
+use Rattle.std.proofs.Common.{◌≡◌, ℕ, suc, ◌&&◌, ◌||◌, not, Bool, false, List, [], ◌∷◌, length, Option, is_none, refl, sym, ◌∙◌, ap}
 use Rattle.std.proofs.lemmas.Bool.{or_parts}
 use Rattle.bbm_events.specs.Heading.{Heading}
 use Rattle.bbm_events.specs.declared.event.Event.{Event}
 use Rattle.bbm_events.specs.declared.event.Event.TheVariants.{Msr}
 use Rattle.bbm_rules.specs.declared.rule.Rule.{Rule}
 use Rattle.bbm_rules.specs.declared.rule.Rule.TheVariants.{WrongWorld}
-use Rattle.bbm_rules.specs.declared.verdict.Verdict.{Verdict}
 use Rattle.bbm_rules.specs.Broken.{Breach, breach_or, breaks, broken, first_broken, keeps, rules, verdict_after, verdict_of}
 use Rattle.bbm_rules.specs.Claims.{Trust}
 use Rattle.bbm_rules.specs.Covers.{noted}

@@ -20,9 +20,6 @@ pub data Trust : Type 0 where
   Patterns : Trust
   Listed : List Claim → Trust
 
-abbrev pub claimed : List Claim → Claim → Bool
-claimed cs claim = any (λ c. same_claim c claim) cs
-
 abbrev pub allows : Trust → Claim → Bool
 allows Patterns claim = true
-allows (Listed cs) claim = claimed cs claim
+allows (Listed cs) claim = any (λ c. same_claim c claim) cs

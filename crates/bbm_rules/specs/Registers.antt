@@ -28,14 +28,10 @@ base_of value = if value == 0 then None else Some (value % 2 ^ 48 / 2 * 2)
 abbrev pub tag_number : ℕ → ℕ
 tag_number value = value / 2 ^ 48
 
--- the VMIDs of the values of VTTBR_EL2 that p may still use
-abbrev pub vmids : List Event → ℕ → List ℕ
-vmids h p = map tag_number (register_values h p VttbrEl2)
-
 -- The VMID under which a PE issues its TLBIs: the one VMID of the values of VTTBR_EL2 that it may still use, None
 -- where there are several. In the Kernel world 0 stands for the one VMID, which isn't logged.
 abbrev pub vmid_in : World → List Event → ℕ → Option ℕ
-vmid_in (Hyp el2_start s2_start s2_pages) h p = one_number (vmids h p)
+vmid_in (Hyp el2_start s2_start s2_pages) h p = one_number (map tag_number (register_values h p VttbrEl2))
 vmid_in (Kernel start0 start1 asid_from) h p = Some 0
 
 module _ (heading : Heading) where

@@ -41,10 +41,11 @@ lock_of h page = do
   r ← root_at h page
   r.lock
 
--- the pages of a root: so many consecutive pages from its first on; a kind of the other world has none, so no tree
+-- so many consecutive pages from a first one on
 abbrev pub pages_from : ℕ → ℕ → List ℕ
 pages_from page zero = []
 pages_from page (suc n) = page ∷ pages_from (page + 4096) n
 
+-- the pages of a root; one of a kind of the other world has none, so it has no tree
 abbrev pub root_pages : World → Kind → ℕ → List ℕ
 root_pages world kind page = if kind_in_world world kind then pages_from page (page_count world kind) else []

@@ -49,12 +49,6 @@ readings_in (Kernel start0 start1 asid_from) h p =
 abbrev pub itself : Event → Event
 itself e = e
 
-abbrev pub has_tag : Tag → Reading → Bool
-has_tag tag r = same_tag r.tag tag
-
-abbrev pub has_tag_and_root : Tag → ℕ → Reading → Bool
-has_tag_and_root tag root r = same_tag r.tag tag && r.root == root
-
 abbrev pub tag_for : ℕ → Reading → Option Tag
 tag_for root r = if_so (r.root == root) r.tag
 
@@ -64,17 +58,14 @@ module _ (heading : Heading) where
 
   -- whether the tag is readable at p for the root, and for some root
   abbrev pub reads : List Event → ℕ → Tag → ℕ → Bool
-  reads h p tag root = any (has_tag_and_root tag root) (readings h p)
+  reads h p tag root = any (λ r. same_tag r.tag tag && r.root == root) (readings h p)
 
   abbrev pub reads_for_some : List Event → ℕ → Tag → Bool
-  reads_for_some h p tag = any (has_tag tag) (readings h p)
+  reads_for_some h p tag = any (λ r. same_tag r.tag tag) (readings h p)
 
   -- whether it is readable at p for some root at some moment after the first n events
-  abbrev pub is_read_after : ℕ → ℕ → Tag → Event → List Event → Bool
-  is_read_after n p tag e h = nat_le n (length h) && reads_for_some (e ∷ h) p tag
-
   abbrev pub read_since : ℕ → ℕ → Tag → List Event → Bool
-  read_since n p tag h = some (is_read_after n p tag) h
+  read_since n p tag h = some (λ e before. nat_le n (length before) && reads_for_some (e ∷ before) p tag) h
 
   -- Whole-tag TLBI: one that takes everything that a TLB keeps under the tag. It is issued under the VMID that its
   -- issuer then has. Source: Arm ARM (DDI 0487), "TLB maintenance instructions"; the term is the project's own choice.

@@ -1,21 +1,26 @@
 //! Laws of the definitions on plain events: the tests decide what they name, and what computes says the same as a
 //! sentence over all ways to split a history.
 
-ghost use Rattle.std.specs.Prelude.{◌≡◌, ◌↔◌, ℕ, true, false, List, ◌∷◌, Some, Contains};
+ghost use Rattle.std.specs.Prelude.{◌≡◌, ◌↔◌, ℕ, ◌≤◌, true, false, length, Option, None, List, ◌==◌, ◌∷◌, Some, Contains};
 ghost use Rattle.bbm_regimes.specs.declared.regime.Kind.{Kind};
 ghost use Rattle.bbm_regimes.specs.declared.regime.Reg.{Reg};
+ghost use Rattle.bbm_regimes.specs.declared.regime.Reg.TheVariants.{VttbrEl2};
 ghost use Rattle.bbm_regimes.specs.declared.regime.Tag.{Tag};
+ghost use Rattle.bbm_regimes.specs.declared.regime.Which.TheVariants.{Pages, Roots, Values};
+ghost use Rattle.bbm_regimes.specs.declared.regime.World.TheVariants.{Hyp};
 ghost use Rattle.bbm_tlbi_scope.specs.declared.entry.TagSet.TheVariants.{None as NoTag, One, Many};
 ghost use Rattle.bbm_events.specs.Heading.{Heading};
 ghost use Rattle.bbm_events.specs.declared.event.Event.{Event};
+ghost use Rattle.bbm_events.specs.declared.event.Event.TheVariants.{Init, Msr, Root};
 ghost use Rattle.bbm_rules.specs.declared.claim.Claim.{Claim};
 ghost use Rattle.bbm_rules.specs.Changes.{changes};
 ghost use Rattle.bbm_rules.specs.Claims.{Trust, same_claim, same_tag};
+ghost use Rattle.bbm_rules.specs.Limits.{limit_of};
 ghost use Rattle.bbm_rules.specs.Lists.{among};
 ghost use Rattle.bbm_rules.specs.Locks.{holder_of};
 ghost use Rattle.bbm_rules.specs.Pages.{initialised, is_null};
 ghost use Rattle.bbm_rules.specs.Reach.{unanswered};
-ghost use Rattle.bbm_rules.specs.Registers.{register_values, same_reg};
+ghost use Rattle.bbm_rules.specs.Registers.{register_values, same_reg, tag_number, vmid_of};
 ghost use Rattle.bbm_rules.specs.Roots.{Declared, root_at, roots_of, same_kind};
 ghost use Rattle.bbm_rules.specs.Sentences.{HoldsLock, IsDeclared, Published, ReadableRegister};
 ghost use Rattle.bbm_rules.specs.Tags.{holds_tag, itself, tag_set, tags_of};
@@ -105,4 +110,30 @@ pub fn law_tag_set()
         tag_set (tags_of heading trust root h) ≡ Many →
         (g k : Tag) × (same_tag g k ≡ false) × (holds_tag heading trust root g h ≡ true)
         × (holds_tag heading trust root k h ≡ true) }
+{}
+
+/// An event reaches a limit exactly so: an `init` of a page that wasn't initialised before, after 16,384 pages were; a
+/// `root` while 1,024 are declared; a register write where nine values of the register are readable. The call does
+/// nothing; the law is its contract.
+#[tactic(auto, using(crate::proofs::LimitLaw::laws))]
+pub fn law_limits()
+    ensures pages { (h : List Event) (pe page : ℕ) → (limit_of h (Init pe page) ≡ Some Pages)
+        ↔ ((among page (initialised h) ≡ false) × (16384 ≤ length (initialised h))) }
+    ensures roots { (h : List Event) (pe : ℕ) (kind : Kind) (lock : Option ℕ) (page : ℕ) →
+        (limit_of h (Root pe kind lock page) ≡ Some Roots) ↔ (1024 ≤ length (roots_of h)) }
+    ensures values { (h : List Event) (pe : ℕ) (reg : Reg) (value : ℕ) →
+        (limit_of h (Msr pe reg value) ≡ Some Values) ↔ (9 ≤ length (register_values h pe reg)) }
+{}
+
+/// In the Hyp world the VMID of a PE is that of each of its readable values of VTTBR_EL2, and it has none exactly where
+/// two of them differ. The call does nothing; the law is its contract.
+#[tactic(auto, using(crate::proofs::VmidLaw::laws))]
+pub fn law_vmid()
+    ensures one { (heading : Heading) (el2_start s2_start s2_pages : ℕ) (h : List Event) (p v value : ℕ) →
+        heading.world ≡ Hyp el2_start s2_start s2_pages → vmid_of heading h p ≡ Some v →
+        among value (register_values h p VttbrEl2) ≡ true → tag_number value ≡ v }
+    ensures several { (heading : Heading) (el2_start s2_start s2_pages : ℕ) (h : List Event) (p : ℕ) →
+        heading.world ≡ Hyp el2_start s2_start s2_pages → vmid_of heading h p ≡ None →
+        (a b : ℕ) × (among a (register_values h p VttbrEl2) ≡ true) × (among b (register_values h p VttbrEl2) ≡ true)
+        × ((tag_number a == tag_number b) ≡ false) }
 {}

@@ -15,8 +15,8 @@ pub mod verdict;
 pub use checker::Checker;
 pub use claim::Claim;
 pub use event_laws::{
-    law_changes, law_equality_tests, law_lock_held, law_published, law_readable_register, law_root,
-    law_tag_set,
+    law_changes, law_equality_tests, law_limits, law_lock_held, law_published,
+    law_readable_register, law_root, law_tag_set, law_vmid,
 };
 pub use first_path::FirstPathChecker;
 pub use history_laws::{law_childless, law_cleansed, law_each_rule, law_fresh, law_half, law_held, law_limbo, law_notes, law_paths, law_seen, law_tree};
@@ -32,8 +32,8 @@ pub use verdict::{Verdict, law_first_line_decides};
 #[cfg(test)]
 mod tests {
     use crate::event_laws::{
-        law_changes, law_equality_tests, law_lock_held, law_published, law_readable_register,
-        law_root, law_tag_set,
+        law_changes, law_equality_tests, law_limits, law_lock_held, law_published,
+        law_readable_register, law_root, law_tag_set, law_vmid,
     };
     use crate::history_laws::{law_childless, law_cleansed, law_each_rule, law_fresh, law_half, law_held, law_limbo, law_notes, law_paths, law_seen, law_tree};
     use crate::laws::{
@@ -58,6 +58,7 @@ mod tests {
         law_tree();
         law_changes();
         law_equality_tests();
+        law_limits();
         law_lock_held();
         law_notes_keep_the_events();
         law_one_node();
@@ -68,6 +69,7 @@ mod tests {
         law_tag_set();
         law_tag_held();
         law_first_line_decides();
+        law_vmid();
         law_version();
     }
 }
