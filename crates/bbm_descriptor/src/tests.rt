@@ -155,10 +155,12 @@ fn tells_where_break_before_make_is_needed(rt: HostRuntime) {
         (Kind::El2, 0, 0x8000_0701, 0xc000_0701, false),
         // nG, bit 11
         (Kind::Ttbr1, 1, 0x8000_0701, 0x8000_0f01, true),
+        (Kind::El2, 1, 0x8000_0701, 0x8000_0f01, true),
         (Kind::S2, 1, 0x8000_07fd, 0x8000_0ffd, false),
         // SH and the memory attributes
         (Kind::S2, 1, 0x8000_07fd, 0x8000_04fd, true),
         (Kind::S2, 1, 0x8000_07fd, 0x8000_07c1, true),
+        (Kind::El2, 1, 0x8000_0701, 0x8000_0721, true),
         // AF, then DBM, then bits 54 and 53, then the bits for software, then Contiguous
         (Kind::El2, 1, 0x8000_0701, 0x8000_0301, false),
         (Kind::El2, 1, 0x8000_0701, 0x8_0000_8000_0701, false),
@@ -168,7 +170,10 @@ fn tells_where_break_before_make_is_needed(rt: HostRuntime) {
         // the next table, and NSTable
         (Kind::S2, 2, 0x4000_1003, 0x4000_3003, true),
         (Kind::Ttbr0, 0, 0x4000_1003, 0x8000_0000_4000_1003, true),
+        (Kind::El2, 0, 0x4000_1003, 0x8000_0000_4000_1003, true),
         (Kind::S2, 0, 0x4000_1003, 0x8000_0000_4000_1003, false),
+        // bits 01 are invalid at level 3
+        (Kind::El2, 3, 0x4000_0703, 0x8000_0701, false),
     ] {
         assert!(rt; level <= 3);
         assert_eq!(rt;
