@@ -1,21 +1,22 @@
 -- Which causes the reading of a header, and of a line after it, can end with.
-use Rattle.std.proofs.Common.{ℕ, List, [], ◌∷◌, Bool, true, false, Option, Some, None, Result, Ok, Err}
+use Rattle.std.proofs.Common.{ℕ, List, [], ◌∷◌, Bool, true, false, ◌&&◌, Option, Some, None, Result, Ok, Err}
+use Rattle.std.specs.Option.{option_map}
 use Rattle.std.specs.Prelude.{IfErr, bytes_eq, codes, if◌then◌else◌}
 use Rattle.bbm_events.specs.declared.event.Event.{Event}
 use Rattle.bbm_events.specs.declared.event.Event.TheVariants as event
 use Rattle.bbm_events.specs.declared.malformed.Malformed.{Malformed}
-use Rattle.bbm_events.specs.declared.malformed.Malformed.TheVariants.{NoMagic, BadHeader, UnknownWord, BadNumber, BadPe, BadAddress, MissingField}
+use Rattle.bbm_events.specs.declared.malformed.Malformed.TheVariants.{NoMagic, BadHeader, UnknownWord, BadNumber, BadPe, BadAddress, MissingField, BadLabel}
 use Rattle.bbm_events.specs.declared.keyword.Keyword.{Keyword}
 use Rattle.bbm_events.specs.declared.keyword.Keyword.TheVariants as first
 use Rattle.bbm_regimes.specs.declared.regime.World.TheVariants.{Hyp, Kernel}
 use Rattle.bbm_tlbi_scope.specs.declared.op.TlbiOp.{TlbiOp}
 use Rattle.bbm_tlbi_scope.specs.Operations.{has_operand}
-use Rattle.bbm_events.specs.Heading.{Heading, heading_ok, is_version, may_share}
+use Rattle.bbm_events.specs.Heading.{Heading, heading_ok, is_version, may_label, may_share}
 use Rattle.bbm_events.specs.Spelling.{fields, decimal_value, hex_value}
 use Rattle.bbm_events.specs.Fits.{is_pe, is_page, is_place, is_root_page, is_count}
 use Rattle.bbm_events.specs.Words.{with_word, keyword_word, keywords, cnp_word, cnps, kind_word, kinds, reg_word, regs, dsb_word, dsbs, op_word, ops, asid_from_word, asid_froms}
 use Rattle.bbm_events.specs.Causes.{IsHeaderCause, IsLineCause}
-use Rattle.bbm_events.specs.Lines.{◌>>=◌, Fields, FieldRead, found, next_field, checked, hyp_fields, kernel_fields, world_fields, header_of, item_of, line_after, passing, exactly, magic_field, version_field, cnp_field, header_field, keyword_field, line_field, pe_field, page_field, place_field, root_page_field, lock_value, lock_field, root_lock, root_lock_field, count_field, kind_field, dsb_field, op_field, reg_field, operand_field, value_field, whole, pe_alone, pe_and, pe_and_two, root_line, tlbi_line, end_line}
+use Rattle.bbm_events.specs.Lines.{◌>>=◌, Fields, FieldRead, found, next_field, checked, hyp_fields, kernel_fields, world_fields, header_of, item_of, line_after, passing, exactly, magic_field, version_field, cnp_field, header_field, keyword_field, line_field, pe_field, page_field, place_field, root_page_field, lock_value, lock_field, root_lock, root_lock_field, count_field, kind_field, dsb_field, op_field, reg_field, operand_field, value_field, whole, is_marked, label_value, label_field, event_item, pe_alone, pe_and, pe_and_two, root_line, tlbi_line, end_line}
 
 -- each cause that the result can have is one of these
 abbrev Ends : {A : Type 0} → (Malformed → Type 0) → Result A Malformed → Type 0
@@ -37,22 +38,34 @@ whole_ends : {A : Type 0} (value : A) (rest : Fields) → Ends IsLineCause (whol
 whole_ends value [] = tt
 whole_ends value (text ∷ rest) = tt
 
+label_ends : (version : ℕ) (rest : Fields) → Ends IsLineCause (label_field version rest)
+label_ends version [] = tt
+label_ends version (text ∷ rest) = by (may_label version && is_marked text) (option_map Some (label_value text))
+  where
+    by : (marked : Bool) (label : Option (Option (List ℕ))) → Ends IsLineCause (if marked then found BadLabel label rest else Ok (None, text ∷ rest))
+    by true None = tt
+    by true (Some label) = tt
+    by false label = tt
+
+item_ends : (h : Heading) (event : Event) (rest : Fields) → Ends IsLineCause (event_item h event rest)
+item_ends h event rest = then_ends IsLineCause (label_field h.version rest) _ (label_ends h.version rest) (λ label. whole_ends _ label.1)
+
 pe_ends : (h : Heading) (rest : Fields) → Ends IsLineCause (pe_field h rest)
 pe_ends h rest = field_ends IsLineCause MissingField BadPe (λ text. passing (is_pe h) (decimal_value text)) rest tt tt
 
 pe_alone_ends : (h : Heading) (event : ℕ → Event) (rest : Fields) → Ends IsLineCause (pe_alone h event rest)
-pe_alone_ends h event rest = then_ends IsLineCause (pe_field h rest) _ (pe_ends h rest) (λ pe. whole_ends _ pe.1)
+pe_alone_ends h event rest = then_ends IsLineCause (pe_field h rest) _ (pe_ends h rest) (λ pe. item_ends h _ pe.1)
 
 pe_and_ends : {A : Type 0} (h : Heading) (second : Fields → FieldRead A) (event : ℕ → A → Event) → ((left : Fields) → Ends IsLineCause (second left)) → (rest : Fields) → Ends IsLineCause (pe_and h second event rest)
 pe_and_ends h second event ends rest =
     then_ends IsLineCause (pe_field h rest) _ (pe_ends h rest) (λ pe.
-    then_ends IsLineCause (second pe.1) _ (ends pe.1) (λ a. whole_ends _ a.1))
+    then_ends IsLineCause (second pe.1) _ (ends pe.1) (λ a. item_ends h _ a.1))
 
 pe_and_two_ends : {A B : Type 0} (h : Heading) (second : Fields → FieldRead A) (third : Fields → FieldRead B) (event : ℕ → A → B → Event) → ((left : Fields) → Ends IsLineCause (second left)) → ((left : Fields) → Ends IsLineCause (third left)) → (rest : Fields) → Ends IsLineCause (pe_and_two h second third event rest)
 pe_and_two_ends h second third event ends more rest =
     then_ends IsLineCause (pe_field h rest) _ (pe_ends h rest) (λ pe.
     then_ends IsLineCause (second pe.1) _ (ends pe.1) (λ a.
-    then_ends IsLineCause (third a.1) _ (more a.1) (λ b. whole_ends _ b.1)))
+    then_ends IsLineCause (third a.1) _ (more a.1) (λ b. item_ends h _ b.1)))
 
 page_ends : (left : Fields) → Ends IsLineCause (page_field left)
 page_ends left = field_ends IsLineCause MissingField BadAddress (λ text. passing is_page (hex_value text)) left tt tt
@@ -81,13 +94,13 @@ root_line_ends h rest =
     then_ends IsLineCause (pe_field h rest) _ (pe_ends h rest) (λ pe.
     then_ends IsLineCause (kind_field pe.1) _ (word_ends (with_word kind_word kinds) pe.1) (λ kind.
     then_ends IsLineCause (root_lock_field kind.1) _ (field_ends IsLineCause MissingField BadNumber root_lock kind.1 tt tt) (λ lock.
-    then_ends IsLineCause (root_page_field h kind.0 lock.1) _ (field_ends IsLineCause MissingField BadAddress (λ text. passing (is_root_page h.world kind.0) (hex_value text)) lock.1 tt tt) (λ page. whole_ends _ page.1))))
+    then_ends IsLineCause (root_page_field h kind.0 lock.1) _ (field_ends IsLineCause MissingField BadAddress (λ text. passing (is_root_page h.world kind.0) (hex_value text)) lock.1 tt tt) (λ page. item_ends h _ page.1))))
 
 tlbi_line_ends : (h : Heading) (rest : Fields) → Ends IsLineCause (tlbi_line h rest)
 tlbi_line_ends h rest =
     then_ends IsLineCause (pe_field h rest) _ (pe_ends h rest) (λ pe.
     then_ends IsLineCause (op_field pe.1) _ (word_ends (with_word op_word ops) pe.1) (λ op.
-    then_ends IsLineCause (operand_field op.0 op.1) _ (operand_ends op.0 op.1) (λ xt. whole_ends _ xt.1)))
+    then_ends IsLineCause (operand_field op.0 op.1) _ (operand_ends op.0 op.1) (λ xt. item_ends h _ xt.1)))
 
 end_line_ends : (rest : Fields) → Ends IsLineCause (end_line rest)
 end_line_ends rest = then_ends IsLineCause (count_field rest) _ (field_ends IsLineCause MissingField BadNumber (λ text. passing is_count (decimal_value text)) rest tt tt) (λ count. whole_ends _ count.1)

@@ -1,5 +1,6 @@
 pub mod Causes
 pub mod Joining
+pub mod Labels
 pub mod OneLine
 pub mod OneSpelling
 pub mod Readings

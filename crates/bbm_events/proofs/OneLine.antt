@@ -1,7 +1,8 @@
 -- A line that is read as a header or an item is the line that is written of it.
-use Rattle.std.proofs.Common.{◌≡◌, ℕ, List, [], ◌∷◌, Bool, true, false, cond, refl, ap, sym, ◌∙◌, Option, Some, None, Ok, Err}
+use Rattle.std.proofs.Common.{◌≡◌, ℕ, List, [], ◌∷◌, ◌++◌, drop, Bool, true, false, ◌&&◌, cond, refl, ap, sym, ◌∙◌, Option, Some, None, Ok, Err}
 use Rattle.std.specs.Prelude.{codes, decimal, bytes_eq}
 use Rattle.std.specs.Option.{option_map}
+use Rattle.std.proofs.lemmas.Bool.{eqb-true}
 use Rattle.std.proofs.lemmas.Slice.Eq.{bytes_eq-Decides}
 use Rattle.bbm_regimes.specs.declared.regime.World.TheVariants.{Hyp, Kernel}
 use Rattle.bbm_regimes.specs.declared.regime.Kind.{Kind}
@@ -15,13 +16,14 @@ use Rattle.bbm_events.specs.declared.event.Event.TheVariants as event
 use Rattle.bbm_events.specs.declared.event.Item.{Item}
 use Rattle.bbm_events.specs.declared.event.Item.TheVariants as item
 use Rattle.bbm_events.specs.declared.malformed.Malformed.{Malformed}
-use Rattle.bbm_events.specs.declared.malformed.Malformed.TheVariants.{NoMagic, BadHeader, UnknownWord, BadNumber, BadPe, BadAddress, MissingField}
-use Rattle.bbm_events.specs.Heading.{Heading, heading_ok, is_version, may_share}
+use Rattle.bbm_events.specs.declared.malformed.Malformed.TheVariants.{NoMagic, BadHeader, UnknownWord, BadNumber, BadPe, BadAddress, MissingField, BadLabel}
+use Rattle.bbm_events.specs.Heading.{Heading, heading_ok, is_version, may_label, may_share}
+use Rattle.bbm_events.specs.Label.{is_label}
 use Rattle.bbm_events.specs.Spelling.{fields, hex, decimal_value, hex_value}
 use Rattle.bbm_tlbi_scope.specs.Operations.{has_operand}
 use Rattle.bbm_events.specs.Words.{with_word, keyword_word, keywords, cnp_word, cnps, kind_word, kinds, reg_word, regs, asid_from_word, asid_froms, dsb_word, dsbs, op_word, ops}
 use Rattle.bbm_events.specs.Fits.{is_pe, is_page, is_place, is_lock, is_count, is_root_page}
-use Rattle.bbm_events.specs.Lines.{Fields, FieldRead, next_field, passing, checked, version_field, cnp_field, cnp_fields, header_field, hyp_fields, kernel_fields, world_fields, header_of, item_of, line_after, line_field, pe_field, page_field, place_field, root_page_field, value_field, operand_field, lock_field, lock_value, root_lock, root_lock_field, count_field, kind_field, dsb_field, op_field, reg_field, whole, pe_alone, pe_and, pe_and_two, root_line, tlbi_line, end_line, header_fields, header_line, lock_text, operand_fields, item_fields, item_line, magic_field, exactly}
+use Rattle.bbm_events.specs.Lines.{Fields, FieldRead, next_field, passing, checked, version_field, cnp_field, cnp_fields, header_field, hyp_fields, kernel_fields, world_fields, header_of, item_of, line_after, line_field, pe_field, page_field, place_field, root_page_field, value_field, operand_field, lock_field, lock_value, root_lock, root_lock_field, count_field, kind_field, dsb_field, op_field, reg_field, whole, found, is_marked, label_field, label_fields, event_item, pe_alone, pe_and, pe_and_two, root_line, tlbi_line, end_line, header_fields, header_line, lock_text, operand_fields, item_fields, item_line, magic_field, exactly}
 use Rattle.bbm_events.proofs.Readings.{bind_ok, field_ok}
 use Rattle.bbm_events.proofs.Joining.{joined_fields}
 use Rattle.bbm_events.proofs.OneSpelling.{decimal_once, hex_once, word_once}
@@ -96,52 +98,80 @@ op_once rest x e = field_once MissingField UnknownWord (with_word op_word ops) o
 reg_once : (rest : Fields) (x : Reg × Fields) → reg_field rest ≡ Ok x → rest ≡ reg_word x.0 ∷ x.1
 reg_once rest x e = field_once MissingField UnknownWord (with_word reg_word regs) reg_word (λ text v f. word_once reg_word regs text f) rest e
 
-operand_once : (op : TlbiOp) (rest : Fields) (x : ℕ × Fields) → operand_field op rest ≡ Ok x → x.1 ≡ [] → rest ≡ operand_fields op x.0
-operand_once op rest x e end = by (has_operand op) e
+operand_once : (op : TlbiOp) (rest after : Fields) (x : ℕ × Fields) → operand_field op rest ≡ Ok x → x.1 ≡ after → rest ≡ operand_fields op x.0 ++ after
+operand_once op rest after x e end = by (has_operand op) e
   where
-    by : (has : Bool) → cond has (value_field rest) (Ok (0, rest)) ≡ Ok x → rest ≡ cond has (hex x.0 ∷ []) []
+    by : (has : Bool) → cond has (value_field rest) (Ok (0, rest)) ≡ Ok x → rest ≡ cond has (hex x.0 ∷ []) [] ++ after
     by true f = value_once rest x f ∙ ap (λ (left : Fields). hex x.0 ∷ left) end
     by false f = let left : rest ≡ x.1 = cc in left ∙ end
+
+-- a label is marked by its first byte
+marked_is : (text : List ℕ) → is_marked text ≡ true → text ≡ 64 ∷ drop 1 text
+marked_is [] e = cc
+marked_is (byte ∷ bytes) e = ap (λ (b : ℕ). b ∷ bytes) (eqb-true byte 64 e)
+
+label_once : (version : ℕ) (rest : Fields) (x : Option (List ℕ) × Fields) → label_field version rest ≡ Ok x → x.1 ≡ [] → rest ≡ label_fields x.0
+label_once version [] x e end = let none : None ≡ x.0 = cc in ap label_fields none
+label_once version (text ∷ rest) x e end = by (may_label version) (is_marked text) (is_label (drop 1 text)) refl e
+  where
+    by : (may marked label : Bool) → is_marked text ≡ marked
+        → cond (may && marked) (found BadLabel (option_map Some (cond label (Some (drop 1 text)) None)) rest) (Ok (None, text ∷ rest)) ≡ Ok x → text ∷ rest ≡ label_fields x.0
+    by true true true mark f =
+        let some : Some (drop 1 text) ≡ x.0 = cc in
+        let left : rest ≡ x.1 = cc in
+        ap (λ (t : List ℕ). t ∷ rest) (marked_is text mark) ∙ ap (λ (more : Fields). (64 ∷ drop 1 text) ∷ more) (left ∙ end) ∙ ap label_fields some
+    by true true false mark f = cc
+    by true false b mark f = let left : text ∷ rest ≡ x.1 = cc in let some_left : text ∷ rest ≡ [] = left ∙ end in cc
+    by false marked b mark f = let left : text ∷ rest ≡ x.1 = cc in let some_left : text ∷ rest ≡ [] = left ∙ end in cc
+
+item_once : (h : Heading) (event : Event) (rest : Fields) {x : Item} → event_item h event rest ≡ Ok x
+    → (label : Option (List ℕ)) × (rest ≡ label_fields label) × (item.Event event label ≡ x)
+item_once h event rest e =
+    let label = bind_ok (label_field h.version rest) _ e in
+    let end = whole_end _ label.0.1 label.2 in
+    (label.0.0, label_once h.version rest label.0 label.1 end.0, end.1)
 
 -- The shapes of event lines.
 
 pe_alone_once : (h : Heading) (event : ℕ → Event) (rest : Fields) {x : Item} → pe_alone h event rest ≡ Ok x
-    → (pe : ℕ) × (rest ≡ decimal pe ∷ []) × (item.Event (event pe) ≡ x)
+    → (pe : ℕ) × (label : Option (List ℕ)) × (rest ≡ decimal pe ∷ label_fields label) × (item.Event (event pe) label ≡ x)
 pe_alone_once h event rest e =
     let pe = bind_ok (pe_field h rest) _ e in
-    let end = whole_end _ pe.0.1 pe.2 in
-    (pe.0.0, pe_once h rest pe.1 ∙ ap (λ (left : Fields). decimal pe.0.0 ∷ left) end.0, end.1)
+    let end = item_once h _ pe.0.1 pe.2 in
+    (pe.0.0, end.0, pe_once h rest pe.1 ∙ ap (λ (left : Fields). decimal pe.0.0 ∷ left) end.1, end.2)
 
 pe_and_once : {A : Type 0} (h : Heading) (second : Fields → FieldRead A) (event : ℕ → A → Event) (spelling : A → List ℕ)
     → ((rest : Fields) (x : A × Fields) → second rest ≡ Ok x → rest ≡ spelling x.0 ∷ x.1)
     → (rest : Fields) {x : Item} → pe_and h second event rest ≡ Ok x
-    → (pe : ℕ) × (a : A) × (rest ≡ decimal pe ∷ spelling a ∷ []) × (item.Event (event pe a) ≡ x)
+    → (pe : ℕ) × (a : A) × (label : Option (List ℕ)) × (rest ≡ decimal pe ∷ spelling a ∷ label_fields label) × (item.Event (event pe a) label ≡ x)
 pe_and_once h second event spelling once rest e =
     let pe = bind_ok (pe_field h rest) _ e in
     let a = bind_ok (second pe.0.1) _ pe.2 in
-    let end = whole_end _ a.0.1 a.2 in (
+    let end = item_once h _ a.0.1 a.2 in (
       pe.0.0,
       a.0.0,
-      pe_once h rest pe.1 ∙ ap (λ (left : Fields). decimal pe.0.0 ∷ left) (once pe.0.1 a.0 a.1 ∙ ap (λ (left : Fields). spelling a.0.0 ∷ left) end.0),
-      end.1,
+      end.0,
+      pe_once h rest pe.1 ∙ ap (λ (left : Fields). decimal pe.0.0 ∷ left) (once pe.0.1 a.0 a.1 ∙ ap (λ (left : Fields). spelling a.0.0 ∷ left) end.1),
+      end.2,
     )
 
 pe_and_two_once : {A B : Type 0} (h : Heading) (second : Fields → FieldRead A) (third : Fields → FieldRead B) (event : ℕ → A → B → Event) (spelling : A → List ℕ) (writing : B → List ℕ)
     → ((rest : Fields) (x : A × Fields) → second rest ≡ Ok x → rest ≡ spelling x.0 ∷ x.1)
     → ((rest : Fields) (x : B × Fields) → third rest ≡ Ok x → rest ≡ writing x.0 ∷ x.1)
     → (rest : Fields) {x : Item} → pe_and_two h second third event rest ≡ Ok x
-    → (pe : ℕ) × (a : A) × (b : B) × (rest ≡ decimal pe ∷ spelling a ∷ writing b ∷ []) × (item.Event (event pe a b) ≡ x)
+    → (pe : ℕ) × (a : A) × (b : B) × (label : Option (List ℕ)) × (rest ≡ decimal pe ∷ spelling a ∷ writing b ∷ label_fields label) × (item.Event (event pe a b) label ≡ x)
 pe_and_two_once h second third event spelling writing once again rest e =
     let pe = bind_ok (pe_field h rest) _ e in
     let a = bind_ok (second pe.0.1) _ pe.2 in
     let b = bind_ok (third a.0.1) _ a.2 in
-    let end = whole_end _ b.0.1 b.2 in (
+    let end = item_once h _ b.0.1 b.2 in (
       pe.0.0,
       a.0.0,
       b.0.0,
+      end.0,
       pe_once h rest pe.1 ∙ ap (λ (left : Fields). decimal pe.0.0 ∷ left) (once pe.0.1 a.0 a.1
-          ∙ ap (λ (left : Fields). spelling a.0.0 ∷ left) (again a.0.1 b.0 b.1 ∙ ap (λ (left : Fields). writing b.0.0 ∷ left) end.0)),
-      end.1,
+          ∙ ap (λ (left : Fields). spelling a.0.0 ∷ left) (again a.0.1 b.0 b.1 ∙ ap (λ (left : Fields). writing b.0.0 ∷ left) end.1)),
+      end.2,
     )
 
 -- the fields of the item that a line is read as
@@ -154,24 +184,24 @@ root_line_once h rest e =
     let kind = bind_ok (kind_field pe.0.1) _ pe.2 in
     let lock = bind_ok (root_lock_field kind.0.1) _ kind.2 in
     let page = bind_ok (root_page_field h kind.0.0 lock.0.1) _ lock.2 in
-    let end = whole_end _ page.0.1 page.2 in
-    as_item (codes "root") rest (decimal pe.0.0 ∷ kind_word kind.0.0 ∷ lock_text lock.0.0 ∷ hex page.0.0 ∷ []) (item.Event (event.Root pe.0.0 kind.0.0 lock.0.0 page.0.0))
+    let end = item_once h _ page.0.1 page.2 in
+    as_item (codes "root") rest (decimal pe.0.0 ∷ kind_word kind.0.0 ∷ lock_text lock.0.0 ∷ hex page.0.0 ∷ label_fields end.0) (item.Event (event.Root pe.0.0 kind.0.0 lock.0.0 page.0.0) end.0)
     (pe_once h rest pe.1 ∙ ap (λ (left : Fields). decimal pe.0.0 ∷ left) (kind_once pe.0.1 kind.0 kind.1
     ∙ ap (λ (left : Fields). kind_word kind.0.0 ∷ left) (root_lock_once kind.0.1 lock.0 lock.1
     ∙ ap (λ (left : Fields). lock_text lock.0.0 ∷ left) (root_page_once h kind.0.0 lock.0.1 page.0 page.1
-    ∙ ap (λ (left : Fields). hex page.0.0 ∷ left) end.0))))
-    refl end.1
+    ∙ ap (λ (left : Fields). hex page.0.0 ∷ left) end.1))))
+    refl end.2
 
 tlbi_line_once : (h : Heading) (rest : Fields) {x : Item} → tlbi_line h rest ≡ Ok x → codes "tlbi" ∷ rest ≡ item_fields x
 tlbi_line_once h rest e =
     let pe = bind_ok (pe_field h rest) _ e in
     let op = bind_ok (op_field pe.0.1) _ pe.2 in
     let xt = bind_ok (operand_field op.0.0 op.0.1) _ op.2 in
-    let end = whole_end _ xt.0.1 xt.2 in
-    as_item (codes "tlbi") rest (decimal pe.0.0 ∷ op_word op.0.0 ∷ operand_fields op.0.0 xt.0.0) (item.Event (event.Tlbi pe.0.0 op.0.0 xt.0.0))
+    let end = item_once h _ xt.0.1 xt.2 in
+    as_item (codes "tlbi") rest (decimal pe.0.0 ∷ op_word op.0.0 ∷ (operand_fields op.0.0 xt.0.0 ++ label_fields end.0)) (item.Event (event.Tlbi pe.0.0 op.0.0 xt.0.0) end.0)
     (pe_once h rest pe.1 ∙ ap (λ (left : Fields). decimal pe.0.0 ∷ left) (op_once pe.0.1 op.0 op.1
-    ∙ ap (λ (left : Fields). op_word op.0.0 ∷ left) (operand_once op.0.0 op.0.1 xt.0 xt.1 end.0)))
-    refl end.1
+    ∙ ap (λ (left : Fields). op_word op.0.0 ∷ left) (operand_once op.0.0 op.0.1 (label_fields end.0) xt.0 xt.1 end.1)))
+    refl end.2
 
 end_line_once : (rest : Fields) {x : Item} → end_line rest ≡ Ok x → codes "end" ∷ rest ≡ item_fields x
 end_line_once rest e =
@@ -182,18 +212,18 @@ end_line_once rest e =
     refl end.1
 
 line_once : (h : Heading) (word : Keyword) (rest : Fields) {x : Item} → line_after h word rest ≡ Ok x → keyword_word word ∷ rest ≡ item_fields x
-line_once h first.Init rest e = let l = pe_and_once h page_field event.Init hex page_once rest e in as_item (codes "init") rest (decimal l.0 ∷ hex l.1 ∷ []) (item.Event (event.Init l.0 l.1)) l.2 refl l.3
-line_once h first.Null rest e = let l = pe_and_once h page_field event.Null hex page_once rest e in as_item (codes "null") rest (decimal l.0 ∷ hex l.1 ∷ []) (item.Event (event.Null l.0 l.1)) l.2 refl l.3
+line_once h first.Init rest e = let l = pe_and_once h page_field event.Init hex page_once rest e in as_item (codes "init") rest (decimal l.0 ∷ hex l.1 ∷ label_fields l.2) (item.Event (event.Init l.0 l.1) l.2) l.3 refl l.4
+line_once h first.Null rest e = let l = pe_and_once h page_field event.Null hex page_once rest e in as_item (codes "null") rest (decimal l.0 ∷ hex l.1 ∷ label_fields l.2) (item.Event (event.Null l.0 l.1) l.2) l.3 refl l.4
 line_once h first.Root rest e = root_line_once h rest e
-line_once h first.Unroot rest e = let l = pe_and_once h page_field event.Unroot hex page_once rest e in as_item (codes "unroot") rest (decimal l.0 ∷ hex l.1 ∷ []) (item.Event (event.Unroot l.0 l.1)) l.2 refl l.3
-line_once h first.Write rest e = let l = pe_and_two_once h place_field value_field event.Write hex hex place_once value_once rest e in as_item (codes "w") rest (decimal l.0 ∷ hex l.1 ∷ hex l.2 ∷ []) (item.Event (event.Write l.0 l.1 l.2)) l.3 refl l.4
-line_once h first.Dsb rest e = let l = pe_and_once h dsb_field event.Dsb dsb_word dsb_once rest e in as_item (codes "dsb") rest (decimal l.0 ∷ dsb_word l.1 ∷ []) (item.Event (event.Dsb l.0 l.1)) l.2 refl l.3
-line_once h first.Dmb rest e = let l = pe_and_once h dsb_field event.Dmb dsb_word dsb_once rest e in as_item (codes "dmb") rest (decimal l.0 ∷ dsb_word l.1 ∷ []) (item.Event (event.Dmb l.0 l.1)) l.2 refl l.3
-line_once h first.Isb rest e = let l = pe_alone_once h event.Isb rest e in as_item (codes "isb") rest (decimal l.0 ∷ []) (item.Event (event.Isb l.0)) l.1 refl l.2
+line_once h first.Unroot rest e = let l = pe_and_once h page_field event.Unroot hex page_once rest e in as_item (codes "unroot") rest (decimal l.0 ∷ hex l.1 ∷ label_fields l.2) (item.Event (event.Unroot l.0 l.1) l.2) l.3 refl l.4
+line_once h first.Write rest e = let l = pe_and_two_once h place_field value_field event.Write hex hex place_once value_once rest e in as_item (codes "w") rest (decimal l.0 ∷ hex l.1 ∷ hex l.2 ∷ label_fields l.3) (item.Event (event.Write l.0 l.1 l.2) l.3) l.4 refl l.5
+line_once h first.Dsb rest e = let l = pe_and_once h dsb_field event.Dsb dsb_word dsb_once rest e in as_item (codes "dsb") rest (decimal l.0 ∷ dsb_word l.1 ∷ label_fields l.2) (item.Event (event.Dsb l.0 l.1) l.2) l.3 refl l.4
+line_once h first.Dmb rest e = let l = pe_and_once h dsb_field event.Dmb dsb_word dsb_once rest e in as_item (codes "dmb") rest (decimal l.0 ∷ dsb_word l.1 ∷ label_fields l.2) (item.Event (event.Dmb l.0 l.1) l.2) l.3 refl l.4
+line_once h first.Isb rest e = let l = pe_alone_once h event.Isb rest e in as_item (codes "isb") rest (decimal l.0 ∷ label_fields l.1) (item.Event (event.Isb l.0) l.1) l.2 refl l.3
 line_once h first.Tlbi rest e = tlbi_line_once h rest e
-line_once h first.Msr rest e = let l = pe_and_two_once h reg_field value_field event.Msr reg_word hex reg_once value_once rest e in as_item (codes "msr") rest (decimal l.0 ∷ reg_word l.1 ∷ hex l.2 ∷ []) (item.Event (event.Msr l.0 l.1 l.2)) l.3 refl l.4
-line_once h first.Lock rest e = let l = pe_and_once h lock_field event.Lock decimal lock_once rest e in as_item (codes "lock") rest (decimal l.0 ∷ decimal l.1 ∷ []) (item.Event (event.Lock l.0 l.1)) l.2 refl l.3
-line_once h first.Unlock rest e = let l = pe_and_once h lock_field event.Unlock decimal lock_once rest e in as_item (codes "unlock") rest (decimal l.0 ∷ decimal l.1 ∷ []) (item.Event (event.Unlock l.0 l.1)) l.2 refl l.3
+line_once h first.Msr rest e = let l = pe_and_two_once h reg_field value_field event.Msr reg_word hex reg_once value_once rest e in as_item (codes "msr") rest (decimal l.0 ∷ reg_word l.1 ∷ hex l.2 ∷ label_fields l.3) (item.Event (event.Msr l.0 l.1 l.2) l.3) l.4 refl l.5
+line_once h first.Lock rest e = let l = pe_and_once h lock_field event.Lock decimal lock_once rest e in as_item (codes "lock") rest (decimal l.0 ∷ decimal l.1 ∷ label_fields l.2) (item.Event (event.Lock l.0 l.1) l.2) l.3 refl l.4
+line_once h first.Unlock rest e = let l = pe_and_once h lock_field event.Unlock decimal lock_once rest e in as_item (codes "unlock") rest (decimal l.0 ∷ decimal l.1 ∷ label_fields l.2) (item.Event (event.Unlock l.0 l.1) l.2) l.3 refl l.4
 line_once h first.End rest e = end_line_once rest e
 
 keyword_once : (rest : Fields) {x : Keyword × Fields} → line_field UnknownWord (with_word keyword_word keywords) rest ≡ Ok x → rest ≡ keyword_word x.0 ∷ x.1

@@ -3,8 +3,9 @@ use Rattle.std.proofs.Common.{◌≡◌, ℕ, List, [], ◌∷◌, Bool, true, f
 use Rattle.bbm_events.specs.declared.event.Event.{Event}
 use Rattle.bbm_events.specs.declared.event.Event.TheVariants as event
 use Rattle.bbm_events.specs.declared.event.Item.{Item}
+use Rattle.bbm_events.specs.declared.event.Item.TheVariants as item
 use Rattle.bbm_events.specs.declared.malformed.Malformed.{Malformed}
-use Rattle.bbm_events.specs.declared.malformed.Malformed.TheVariants.{BadHeader, BadNumber, BadPe, BadAddress, MissingField}
+use Rattle.bbm_events.specs.declared.malformed.Malformed.TheVariants.{BadHeader, BadNumber, BadPe, BadAddress, MissingField, BadLabel}
 use Rattle.std.specs.Prelude.{bytes_eq, codes, drop, ◌==◌, ◌||◌}
 use Rattle.std.specs.Str.Parse.{digits_value}
 use Rattle.bbm_regimes.specs.declared.regime.World.TheVariants.{Hyp, Kernel}
@@ -13,11 +14,12 @@ use Rattle.bbm_events.specs.declared.keyword.Keyword.{Keyword}
 use Rattle.bbm_events.specs.declared.keyword.Keyword.TheVariants as first
 use Rattle.bbm_tlbi_scope.specs.declared.op.TlbiOp.{TlbiOp}
 use Rattle.bbm_tlbi_scope.specs.Operations.{has_operand}
-use Rattle.bbm_events.specs.Heading.{Heading, heading_ok}
+use Rattle.bbm_events.specs.Heading.{Heading, heading_ok, may_label}
+use Rattle.bbm_events.specs.Label.{is_label}
 use Rattle.bbm_events.specs.Spelling.{fields, hex, decimal_value, hex_value, where_spelled}
 use Rattle.bbm_events.specs.Words.{with_word, asid_from_word, asid_froms}
-use Rattle.bbm_events.specs.Fits.{fits_heading, item_fits, is_pe, is_page, is_place, is_value, is_lock, is_count, is_root_page, is_root_lock, is_operand}
-use Rattle.bbm_events.specs.Lines.{◌>>=◌, Fields, magic_field, version_field, cnp_field, header_field, FieldRead, found, next_field, passing, checked, hyp_fields, kernel_fields, world_fields, header_of, item_of, line_after, keyword_field, pe_field, page_field, place_field, root_page_field, value_field, operand_field, lock_field, lock_value, root_lock, root_lock_field, count_field, kind_field, dsb_field, op_field, reg_field, whole, pe_alone, pe_and, pe_and_two, root_line, tlbi_line, end_line}
+use Rattle.bbm_events.specs.Fits.{fits_heading, item_fits, is_pe, is_page, is_place, is_value, is_lock, is_count, is_root_page, is_root_lock, is_operand, label_fits}
+use Rattle.bbm_events.specs.Lines.{◌>>=◌, Fields, magic_field, version_field, cnp_field, header_field, FieldRead, found, next_field, passing, checked, hyp_fields, kernel_fields, world_fields, header_of, item_of, line_after, keyword_field, pe_field, page_field, place_field, root_page_field, value_field, operand_field, lock_field, lock_value, root_lock, root_lock_field, count_field, kind_field, dsb_field, op_field, reg_field, whole, is_marked, label_field, event_item, pe_alone, pe_and, pe_and_two, root_line, tlbi_line, end_line}
 
 -- where two steps give a value, the first gave one that leads the second to it
 pub bind_ok : {A B : Type 0} (r : Result A Malformed) (f : A → Result B Malformed) {y : B} → (r >>= f) ≡ Ok y → (x : A) × (r ≡ Ok x) × (f x ≡ Ok y)
@@ -70,14 +72,32 @@ whole_ok value (text ∷ rest) e = cc
 both : {a b : Bool} → a ≡ true → b ≡ true → (a && b) ≡ true
 both p q = rw (p, q) refl
 
+label_kept : (version : ℕ) (rest : Fields) {x : Option (List ℕ) × Fields} → label_field version rest ≡ Ok x → label_fits version x.0 ≡ true
+label_kept version [] {x = x} e = let none : None ≡ x.0 = cc in rw (← none) refl
+label_kept version (text ∷ rest) {x = x} e = by_mark (may_label version) (is_marked text) (is_label (drop 1 text)) refl refl e
+  where
+    by_mark : (may marked label : Bool) → may_label version ≡ may → is_label (drop 1 text) ≡ label
+        → cond (may && marked) (found BadLabel (option_map Some (cond label (Some (drop 1 text)) None)) rest) (Ok (None, text ∷ rest)) ≡ Ok x → label_fits version x.0 ≡ true
+    by_mark true true true may label f = let some : Some (drop 1 text) ≡ x.0 = cc in rw (← some) (both may label)
+    by_mark true true false may label f = cc
+    by_mark true false b may label f = let none : None ≡ x.0 = cc in rw (← none) refl
+    by_mark false marked b may label f = let none : None ≡ x.0 = cc in rw (← none) refl
+
+-- the event of a line, and a label that fits
+item_ok : (h : Heading) (event : Event) (rest : Fields) {x : Item} → event_item h event rest ≡ Ok x
+    → (label : Option (List ℕ)) × (label_fits h.version label ≡ true) × (item.Event event label ≡ x)
+item_ok h event rest e =
+    let label = bind_ok (label_field h.version rest) _ e in
+    (label.0.0, label_kept h.version rest label.1, whole_ok _ _ label.2)
+
 -- the shapes of lines
 
 pub pe_alone_fits : (h : Heading) (event : ℕ → Event) → ((pe : ℕ) → is_pe h pe ≡ true → fits_heading h (event pe) ≡ true)
     → (rest : Fields) {x : Item} → pe_alone h event rest ≡ Ok x → item_fits h x ≡ true
 pe_alone_fits h event fit rest e =
     let pe = bind_ok (pe_field h rest) _ e in
-    let is = whole_ok _ _ pe.2 in
-    rw (← is) (fit pe.0.0 (passing_field_ok MissingField BadPe (is_pe h) decimal_value rest pe.1))
+    let is = item_ok h _ _ pe.2 in
+    rw (← is.2) (both (fit pe.0.0 (passing_field_ok MissingField BadPe (is_pe h) decimal_value rest pe.1)) is.1)
 
 pub pe_and_fits : {A : Type 0} (h : Heading) (second : Fields → FieldRead A) (event : ℕ → A → Event) (Good : A → Type 0)
     → ((rest : Fields) (x : A × Fields) → second rest ≡ Ok x → Good x.0)
@@ -86,8 +106,8 @@ pub pe_and_fits : {A : Type 0} (h : Heading) (second : Fields → FieldRead A) (
 pe_and_fits h second event Good good fit rest e =
     let pe = bind_ok (pe_field h rest) _ e in
     let a = bind_ok (second pe.0.1) _ pe.2 in
-    let is = whole_ok _ _ a.2 in
-    rw (← is) (fit pe.0.0 a.0.0 (passing_field_ok MissingField BadPe (is_pe h) decimal_value rest pe.1) (good pe.0.1 a.0 a.1))
+    let is = item_ok h _ _ a.2 in
+    rw (← is.2) (both (fit pe.0.0 a.0.0 (passing_field_ok MissingField BadPe (is_pe h) decimal_value rest pe.1) (good pe.0.1 a.0 a.1)) is.1)
 
 pub pe_and_two_fits : {A B : Type 0} (h : Heading) (second : Fields → FieldRead A) (third : Fields → FieldRead B) (event : ℕ → A → B → Event) (Good : A → Type 0) (Fine : B → Type 0)
     → ((rest : Fields) (x : A × Fields) → second rest ≡ Ok x → Good x.0)
@@ -98,8 +118,8 @@ pe_and_two_fits h second third event Good Fine good fine fit rest e =
     let pe = bind_ok (pe_field h rest) _ e in
     let a = bind_ok (second pe.0.1) _ pe.2 in
     let b = bind_ok (third a.0.1) _ a.2 in
-    let is = whole_ok _ _ b.2 in
-    rw (← is) (fit pe.0.0 a.0.0 b.0.0 (passing_field_ok MissingField BadPe (is_pe h) decimal_value rest pe.1) (good pe.0.1 a.0 a.1) (fine a.0.1 b.0 b.1))
+    let is = item_ok h _ _ b.2 in
+    rw (← is.2) (both (fit pe.0.0 a.0.0 b.0.0 (passing_field_ok MissingField BadPe (is_pe h) decimal_value rest pe.1) (good pe.0.1 a.0 a.1) (fine a.0.1 b.0 b.1)) is.1)
 
 root_lock_kept : (text : List ℕ) {o : Option ℕ} → root_lock text ≡ Some o → is_root_lock o ≡ true
 root_lock_kept text {o = o} e = by_dash (bytes_eq text (codes "-")) (lock_value text) refl e
@@ -115,10 +135,10 @@ root_line_fits h rest e =
     let kind = bind_ok (kind_field pe.0.1) _ pe.2 in
     let lock = bind_ok (root_lock_field kind.0.1) _ kind.2 in
     let page = bind_ok (root_page_field h kind.0.0 lock.0.1) _ lock.2 in
-    let is = whole_ok _ _ page.2 in
+    let is = item_ok h _ _ page.2 in
     let lock_read = field_ok MissingField BadNumber root_lock kind.0.1 lock.1 in
-    rw (← is) (both (both (passing_field_ok MissingField BadPe (is_pe h) decimal_value rest pe.1) (root_lock_kept lock_read.0 lock_read.2))
-    (passing_field_ok MissingField BadAddress (is_root_page h.world kind.0.0) hex_value lock.0.1 page.1))
+    rw (← is.2) (both (both (both (passing_field_ok MissingField BadPe (is_pe h) decimal_value rest pe.1) (root_lock_kept lock_read.0 lock_read.2))
+    (passing_field_ok MissingField BadAddress (is_root_page h.world kind.0.0) hex_value lock.0.1 page.1)) is.1)
 
 operand_kept : (op : TlbiOp) (rest : Fields) {x : ℕ × Fields} → operand_field op rest ≡ Ok x → is_operand op x.0 ≡ true
 operand_kept op rest {x = x} e = by_operand (has_operand op) e
@@ -132,8 +152,8 @@ tlbi_line_fits h rest e =
     let pe = bind_ok (pe_field h rest) _ e in
     let op = bind_ok (op_field pe.0.1) _ pe.2 in
     let xt = bind_ok (operand_field op.0.0 op.0.1) _ op.2 in
-    let is = whole_ok _ _ xt.2 in
-    rw (← is) (both (passing_field_ok MissingField BadPe (is_pe h) decimal_value rest pe.1) (operand_kept op.0.0 op.0.1 xt.1))
+    let is = item_ok h _ _ xt.2 in
+    rw (← is.2) (both (both (passing_field_ok MissingField BadPe (is_pe h) decimal_value rest pe.1) (operand_kept op.0.0 op.0.1 xt.1)) is.1)
 
 end_line_fits : (h : Heading) (rest : Fields) {x : Item} → end_line rest ≡ Ok x → item_fits h x ≡ true
 end_line_fits h rest e =

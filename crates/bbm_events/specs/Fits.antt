@@ -1,6 +1,6 @@
 -- Which events and items can stand in a log with a header.
 -- Source: project's own choice, but for the alignments.
-use Rattle.std.specs.Prelude.{ℕ, ◌^◌, ◌*◌, ◌%◌, Bool, true, ◌&&◌, ◌||◌, nat_lt, ◌==◌, Option, Some, None}
+use Rattle.std.specs.Prelude.{ℕ, List, ◌^◌, ◌*◌, ◌%◌, Bool, true, ◌&&◌, ◌||◌, nat_lt, ◌==◌, Option, Some, None}
 use Rattle.bbm_regimes.specs.declared.regime.World.{World}
 use Rattle.bbm_regimes.specs.declared.regime.Kind.{Kind}
 use Rattle.bbm_regimes.specs.World.{page_count}
@@ -10,7 +10,8 @@ use Rattle.bbm_events.specs.declared.event.Event.{Event}
 use Rattle.bbm_events.specs.declared.event.Event.TheVariants.{Init, Null, Root, Unroot, Write, Dsb, Dmb, Isb, Tlbi, Msr, Lock, Unlock}
 use Rattle.bbm_events.specs.declared.event.Item.{Item}
 use Rattle.bbm_events.specs.declared.event.Item.TheVariants as item
-use Rattle.bbm_events.specs.Heading.{Heading}
+use Rattle.bbm_events.specs.Heading.{Heading, may_label}
+use Rattle.bbm_events.specs.Label.{is_label}
 
 -- The address of a page, and of a descriptor.
 -- Source: Arm ARM (DDI 0487), "VMSAv8-64 descriptor formats", the 4 KiB granule with 48-bit addresses.
@@ -59,7 +60,12 @@ fits_heading h (Msr pe reg value) = is_pe h pe && is_value value
 fits_heading h (Lock pe lock) = is_pe h pe && is_lock lock
 fits_heading h (Unlock pe lock) = is_pe h pe && is_lock lock
 
--- the same of an item: an event fits, and the count of an end is below 2 ^ 32
+-- none, or under version 3 and later a label
+abbrev pub label_fits : ℕ → Option (List ℕ) → Bool
+label_fits version None = true
+label_fits version (Some label) = may_label version && is_label label
+
+-- the same of an item: an event and its label fit, and the count of an end is below 2 ^ 32
 abbrev pub item_fits : Heading → Item → Bool
-item_fits h (item.Event event) = fits_heading h event
+item_fits h (item.Event event label) = fits_heading h event && label_fits h.version label
 item_fits h (item.End count) = is_count count

@@ -23,5 +23,9 @@ are_pes version n = nat_le 1 n && nat_le n (if nat_lt version 3 then 64 else 128
 abbrev pub may_share : ℕ → Bool
 may_share version = nat_le 2 version
 
+-- Versions 3 and 4 have labels.
+abbrev pub may_label : ℕ → Bool
+may_label version = nat_le 3 version
+
 abbrev pub heading_ok : Heading → Bool
 heading_ok h = is_version h.version && are_pes h.version h.pes && (may_share h.version || not h.cnp) && world_ok h.world

@@ -1,6 +1,7 @@
 pub mod Causes
 pub mod Fits
 pub mod Heading
+pub mod Label
 pub mod Lines
 pub mod Spelling
 pub mod Words

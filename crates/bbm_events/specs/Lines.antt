@@ -1,7 +1,7 @@
 -- The grammar of a log: which header or item a line spells, or the first cause for which it spells none,
 -- and the one line of a header or an item. A line is its bytes without the newline.
 -- Source: project's own choice.
-use Rattle.std.specs.Prelude.{ℕ, List, [], ◌∷◌, Bool, false, if◌then◌else◌, Option, Some, None, Result, Ok, Err, codes, decimal, bytes_eq}
+use Rattle.std.specs.Prelude.{ℕ, List, [], ◌∷◌, ◌++◌, drop, Bool, false, ◌&&◌, ◌==◌, if◌then◌else◌, Option, Some, None, Result, Ok, Err, codes, decimal, bytes_eq}
 use Rattle.std.specs.Option.{option_map}
 use Rattle.bbm_regimes.specs.declared.regime.World.{World}
 use Rattle.bbm_regimes.specs.declared.regime.World.TheVariants.{Hyp, Kernel}
@@ -17,8 +17,9 @@ use Rattle.bbm_events.specs.declared.event.Item.TheVariants as item
 use Rattle.bbm_events.specs.declared.keyword.Keyword.{Keyword}
 use Rattle.bbm_events.specs.declared.keyword.Keyword.TheVariants as first
 use Rattle.bbm_events.specs.declared.malformed.Malformed.{Malformed}
-use Rattle.bbm_events.specs.declared.malformed.Malformed.TheVariants.{NoMagic, BadHeader, UnknownWord, BadNumber, BadPe, BadAddress, MissingField, ExtraField}
-use Rattle.bbm_events.specs.Heading.{Heading, heading_ok, is_version, may_share}
+use Rattle.bbm_events.specs.declared.malformed.Malformed.TheVariants.{NoMagic, BadHeader, UnknownWord, BadNumber, BadPe, BadAddress, MissingField, ExtraField, BadLabel}
+use Rattle.bbm_events.specs.Heading.{Heading, heading_ok, is_version, may_label, may_share}
+use Rattle.bbm_events.specs.Label.{is_label}
 use Rattle.bbm_events.specs.Spelling.{fields, joined, hex, decimal_value, hex_value}
 use Rattle.bbm_events.specs.Words.{with_word, keyword_word, keywords, cnp_word, cnps, kind_word, kinds, reg_word, regs, asid_from_word, asid_froms, dsb_word, dsbs, op_word, ops}
 use Rattle.bbm_events.specs.Fits.{is_pe, is_page, is_place, is_root_page, is_lock, is_count}
@@ -168,25 +169,45 @@ abbrev pub whole : {A : Type 0} → A → Fields → Result A Malformed
 whole value [] = Ok value
 whole value (text ∷ rest) = Err ExtraField
 
--- The shapes of event lines: each begins with a PE.
+-- a field that is marked as a label
+abbrev pub is_marked : List ℕ → Bool
+is_marked [] = false
+is_marked (byte ∷ bytes) = byte == 64
+
+-- the label behind the mark `@`
+abbrev pub label_value : List ℕ → Option (List ℕ)
+label_value text = if is_label (drop 1 text) then Some (drop 1 text) else None
+
+-- the label that follows the last field of an event line, where one stands there
+abbrev pub label_field : ℕ → Fields → FieldRead (Option (List ℕ))
+label_field version [] = Ok (None, [])
+label_field version (text ∷ rest) = if may_label version && is_marked text then found BadLabel (option_map Some (label_value text)) rest else Ok (None, text ∷ rest)
+
+-- the event with its label, where no field is left
+abbrev pub event_item : Heading → Event → Fields → Result Item Malformed
+event_item h event rest = do
+  label ← label_field h.version rest
+  whole (item.Event event label.0) label.1
+
+-- The shapes of event lines: each begins with a PE, and can end with a label.
 
 abbrev pub pe_alone : Heading → (ℕ → Event) → Fields → Result Item Malformed
 pe_alone h event rest = do
   pe ← pe_field h rest
-  whole (item.Event (event pe.0)) pe.1
+  event_item h (event pe.0) pe.1
 
 abbrev pub pe_and : {A : Type 0} → Heading → (Fields → FieldRead A) → (ℕ → A → Event) → Fields → Result Item Malformed
 pe_and h second event rest = do
   pe ← pe_field h rest
   x ← second pe.1
-  whole (item.Event (event pe.0 x.0)) x.1
+  event_item h (event pe.0 x.0) x.1
 
 abbrev pub pe_and_two : {A B : Type 0} → Heading → (Fields → FieldRead A) → (Fields → FieldRead B) → (ℕ → A → B → Event) → Fields → Result Item Malformed
 pe_and_two h second third event rest = do
   pe ← pe_field h rest
   x ← second pe.1
   y ← third x.1
-  whole (item.Event (event pe.0 x.0 y.0)) y.1
+  event_item h (event pe.0 x.0 y.0) y.1
 
 -- `PE KIND LOCK PAGE`
 abbrev pub root_line : Heading → Fields → Result Item Malformed
@@ -195,7 +216,7 @@ root_line h rest = do
   kind ← kind_field pe.1
   lock ← root_lock_field kind.1
   page ← root_page_field h kind.0 lock.1
-  whole (item.Event (event.Root pe.0 kind.0 lock.0 page.0)) page.1
+  event_item h (event.Root pe.0 kind.0 lock.0 page.0) page.1
 
 -- `PE OP` or `PE OP XT`
 abbrev pub tlbi_line : Heading → Fields → Result Item Malformed
@@ -203,9 +224,9 @@ tlbi_line h rest = do
   pe ← pe_field h rest
   op ← op_field pe.1
   xt ← operand_field op.0 op.1
-  whole (item.Event (event.Tlbi pe.0 op.0 xt.0)) xt.1
+  event_item h (event.Tlbi pe.0 op.0 xt.0) xt.1
 
--- `COUNT`
+-- `COUNT`, which no label follows
 abbrev pub end_line : Fields → Result Item Malformed
 end_line rest = do
   count ← count_field rest
@@ -272,8 +293,12 @@ event_fields (event.Msr pe reg value) = codes "msr" ∷ decimal pe ∷ reg_word 
 event_fields (event.Lock pe lock) = codes "lock" ∷ decimal pe ∷ decimal lock ∷ []
 event_fields (event.Unlock pe lock) = codes "unlock" ∷ decimal pe ∷ decimal lock ∷ []
 
+abbrev pub label_fields : Option (List ℕ) → Fields
+label_fields None = []
+label_fields (Some label) = (64 ∷ label) ∷ []
+
 abbrev pub item_fields : Item → Fields
-item_fields (item.Event event) = event_fields event
+item_fields (item.Event event label) = event_fields event ++ label_fields label
 item_fields (item.End count) = codes "end" ∷ decimal count ∷ []
 
 -- the one line of an item

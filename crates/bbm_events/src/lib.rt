@@ -5,6 +5,7 @@ pub mod event;
 pub mod fitting;
 pub mod header;
 pub mod keyword;
+pub mod label;
 pub mod laws;
 pub mod malformed;
 
@@ -12,6 +13,7 @@ pub use event::{Event, Item};
 pub use fitting::{fits, page_count};
 pub use header::Header;
 pub use keyword::Keyword;
+pub use label::Label;
 pub use laws::{
     law_header_causes, law_header_in_range, law_item_causes, law_item_fits, law_one_line,
     law_written_is_read,

@@ -1,14 +1,14 @@
 //! The fields of event lines, each with the cause where it can't be read.
 
-ghost use Rattle.std.specs.Prelude.{◌≡◌};
+ghost use Rattle.std.specs.Prelude.{◌≡◌, ◌∷◌};
 ghost use Rattle.bbm_events.specs.Lines as lines;
 
 use crate::fields::Fields;
 use crate::numbers::read_hex;
-use crate::values::{count_of, lock_of, page_of, pe_of, place_of, root_lock_of, root_page_of};
+use crate::values::{count_of, is_marked, label_of, lock_of, page_of, pe_of, place_of, root_lock_of, root_page_of};
 use crate::words::{dsb_of, kind_of, op_of, reg_of};
 use bbm_barriers::Dsb;
-use bbm_events::{Header, Item, Malformed};
+use bbm_events::{Event, Header, Item, Label, Malformed};
 use bbm_regimes::{Kind, Page, Pe, Place, Reg};
 use bbm_tlbi_scope::TlbiOp;
 
@@ -140,6 +140,36 @@ pub(crate) fn operand_field<'a>(
         value_field(fields)
     } else {
         Ok((0, fields))
+    }
+}
+
+/// The event with the label that its line's last field is, where no field is left.
+fn labelled(
+    header: &Header,
+    event: Event,
+    text: &[u8],
+    fields: Fields,
+) -> Result<Item, Malformed>
+    ensures { result ≡ lines.event_item header.now event (text.now ∷ fields.entry) }
+{
+    if header.version < 3 || !is_marked(text) {
+        return Err(Malformed::ExtraField);
+    }
+    let label = label_of(text).ok_or(Malformed::BadLabel)?;
+    whole(Item::Event(event, Some(label)), fields)
+}
+
+/// The event, and the label where a field is left.
+pub(crate) fn event_item(
+    header: &Header,
+    event: Event,
+    fields: Fields,
+) -> Result<Item, Malformed>
+    ensures { result ≡ lines.event_item header.now event fields.entry }
+{
+    match fields.next() {
+        None => Ok(Item::Event(event, None)),
+        Some((text, rest)) => labelled(header, event, text, rest),
     }
 }
 

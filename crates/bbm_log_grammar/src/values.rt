@@ -1,13 +1,13 @@
 //! The values that one field spells.
 
-ghost use Rattle.std.specs.Prelude.{◌≡◌, Some, None};
+ghost use Rattle.std.specs.Prelude.{◌≡◌, true, Some, None};
 ghost use Rattle.bbm_events.specs.Spelling.{decimal_value, hex_value};
 ghost use Rattle.bbm_events.specs.Heading.{is_version};
 ghost use Rattle.bbm_events.specs.Fits as fits;
 ghost use Rattle.bbm_events.specs.Lines as lines;
 
 use crate::numbers::{read_decimal, read_hex};
-use bbm_events::{Header, page_count};
+use bbm_events::{Header, Label, page_count};
 use bbm_regimes::{Kind, Page, Pe, Place};
 
 /// Locks have numbers below 1,024.
@@ -91,4 +91,20 @@ pub(crate) fn count_of(field: &[u8]) -> Option<u32>
     ensures { result ≡ lines.passing fits.is_count (decimal_value field.now) }
 {
     u32::try_from(read_decimal(field)?).ok()
+}
+
+/// Whether the field is marked as a label.
+pub(crate) fn is_marked(field: &[u8]) -> bool
+    ensures { result ≡ lines.is_marked field.now }
+{
+    matches!(field, [b'@', ..])
+}
+
+/// The label behind the mark of the field.
+#[tactic(auto, using(crate::proofs::Marks::unmarked))]
+pub(crate) fn label_of(field: &[u8]) -> Option<Label>
+    requires { lines.is_marked field.now ≡ true }
+    ensures { result ≡ lines.label_value field.now }
+{
+    Label::new(&field[1..])
 }

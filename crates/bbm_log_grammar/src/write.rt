@@ -2,18 +2,19 @@
 
 ghost use Rattle.std.specs.Prelude.{◌≡◌, ◌+◌, ◌≤◌, true, Ok, ◌++◌, ◌∷◌, [], length, codes, decimal};
 ghost use Rattle.arrayvec.specs.ArrayVec.{array_vec_len};
+ghost use Rattle.bbm_events.specs.declared.event.Event.{Event};
 ghost use Rattle.bbm_events.specs.declared.event.Event.TheVariants as event;
 ghost use Rattle.bbm_events.specs.Spelling.{hex, joined};
 ghost use Rattle.bbm_events.specs.Words as words;
 ghost use Rattle.bbm_events.specs.Fits.{item_fits};
-ghost use Rattle.bbm_events.specs.Lines.{header_of, item_of, header_fields, cnp_fields, header_line, item_line, lock_text, event_fields};
+ghost use Rattle.bbm_events.specs.Lines.{header_of, item_of, header_fields, cnp_fields, header_line, item_line, lock_text, event_fields, label_fields};
 ghost use Rattle.bbm_regimes.specs.declared.regime.World.TheVariants.{Hyp, Kernel};
 
 use crate::spell::{add, add_decimal, add_hex};
 use crate::words::{asid_from_word, cnp_word, dsb_word, kind_word, op_word, reg_word};
 use arrayvec::ArrayVec;
 use bbm_barriers::Dsb;
-use bbm_events::{Event, Header, Item, law_written_is_read};
+use bbm_events::{Event, Header, Item, Label, law_written_is_read};
 use bbm_regimes::{AsidFrom, Kind, Page, Pe, Place, Reg, World};
 use bbm_tlbi_scope::TlbiOp;
 
@@ -75,7 +76,8 @@ fn add_lock_field(out: &mut ArrayVec<u8, 200>, lock: Option<u16>)
 fn page_line(out: &mut ArrayVec<u8, 200>, word: &[u8], pe: Pe, page: Page)
     requires empty { out.old.items ≡ [] }
     requires short { length word.now ≤ 12 }
-    ensures { out.new.items ≡ joined (word.now ∷ decimal pe ∷ hex page ∷ []) }
+    ensures line { out.new.items ≡ joined (word.now ∷ decimal pe ∷ hex page ∷ []) }
+    ensures longer { array_vec_len out.new ≤ 100 }
 {
     begin(out, word, pe);
     add_hex_field(out, page.get());
@@ -85,7 +87,8 @@ fn page_line(out: &mut ArrayVec<u8, 200>, word: &[u8], pe: Pe, page: Page)
 #[tactic(auto, using(crate::proofs::Short::kind_word_short))]
 fn root_line(out: &mut ArrayVec<u8, 200>, pe: Pe, kind: Kind, lock: Option<u16>, page: Page)
     requires empty { out.old.items ≡ [] }
-    ensures { out.new.items ≡ joined (event_fields (event.Root pe kind lock page)) }
+    ensures line { out.new.items ≡ joined (event_fields (event.Root pe kind lock page)) }
+    ensures longer { array_vec_len out.new ≤ 100 }
 {
     begin(out, b"root", pe);
     add_word_field(out, kind_word(kind));
@@ -96,7 +99,8 @@ fn root_line(out: &mut ArrayVec<u8, 200>, pe: Pe, kind: Kind, lock: Option<u16>,
 /// `w PE PLACE VALUE`
 fn store_line(out: &mut ArrayVec<u8, 200>, pe: Pe, place: Place, value: u64)
     requires empty { out.old.items ≡ [] }
-    ensures { out.new.items ≡ joined (event_fields (event.Write pe place value)) }
+    ensures line { out.new.items ≡ joined (event_fields (event.Write pe place value)) }
+    ensures longer { array_vec_len out.new ≤ 100 }
 {
     begin(out, b"w", pe);
     add_hex_field(out, place.get());
@@ -108,7 +112,8 @@ fn store_line(out: &mut ArrayVec<u8, 200>, pe: Pe, place: Place, value: u64)
 fn barrier_line(out: &mut ArrayVec<u8, 200>, word: &[u8], pe: Pe, dsb: Dsb)
     requires empty { out.old.items ≡ [] }
     requires short { length word.now ≤ 12 }
-    ensures { out.new.items ≡ joined (word.now ∷ decimal pe ∷ words.dsb_word dsb ∷ []) }
+    ensures line { out.new.items ≡ joined (word.now ∷ decimal pe ∷ words.dsb_word dsb ∷ []) }
+    ensures longer { array_vec_len out.new ≤ 100 }
 {
     begin(out, word, pe);
     add_word_field(out, dsb_word(dsb));
@@ -118,7 +123,8 @@ fn barrier_line(out: &mut ArrayVec<u8, 200>, word: &[u8], pe: Pe, dsb: Dsb)
 #[tactic(auto, using(crate::proofs::Short::op_word_short))]
 fn tlbi_line(out: &mut ArrayVec<u8, 200>, pe: Pe, op: TlbiOp, xt: u64)
     requires empty { out.old.items ≡ [] }
-    ensures { out.new.items ≡ joined (event_fields (event.Tlbi pe op xt)) }
+    ensures line { out.new.items ≡ joined (event_fields (event.Tlbi pe op xt)) }
+    ensures longer { array_vec_len out.new ≤ 100 }
 {
     begin(out, b"tlbi", pe);
     add_word_field(out, op_word(op));
@@ -131,7 +137,8 @@ fn tlbi_line(out: &mut ArrayVec<u8, 200>, pe: Pe, op: TlbiOp, xt: u64)
 #[tactic(auto, using(crate::proofs::Short::reg_word_short))]
 fn register_line(out: &mut ArrayVec<u8, 200>, pe: Pe, reg: Reg, value: u64)
     requires empty { out.old.items ≡ [] }
-    ensures { out.new.items ≡ joined (event_fields (event.Msr pe reg value)) }
+    ensures line { out.new.items ≡ joined (event_fields (event.Msr pe reg value)) }
+    ensures longer { array_vec_len out.new ≤ 100 }
 {
     begin(out, b"msr", pe);
     add_word_field(out, reg_word(reg));
@@ -142,7 +149,8 @@ fn register_line(out: &mut ArrayVec<u8, 200>, pe: Pe, reg: Reg, value: u64)
 fn lock_line(out: &mut ArrayVec<u8, 200>, word: &[u8], pe: Pe, lock: u16)
     requires empty { out.old.items ≡ [] }
     requires short { length word.now ≤ 12 }
-    ensures { out.new.items ≡ joined (word.now ∷ decimal pe ∷ decimal lock ∷ []) }
+    ensures line { out.new.items ≡ joined (word.now ∷ decimal pe ∷ decimal lock ∷ []) }
+    ensures longer { array_vec_len out.new ≤ 100 }
 {
     begin(out, word, pe);
     add_decimal_field(out, lock as u64);
@@ -151,7 +159,8 @@ fn lock_line(out: &mut ArrayVec<u8, 200>, word: &[u8], pe: Pe, lock: u16)
 /// The line of an event.
 fn event_line(out: &mut ArrayVec<u8, 200>, event: Event)
     requires empty { out.old.items ≡ [] }
-    ensures { out.new.items ≡ joined (event_fields event) }
+    ensures line { out.new.items ≡ joined (event_fields event) }
+    ensures longer { array_vec_len out.new ≤ 100 }
 {
     match event {
         Event::Init { pe, page } => page_line(out, b"init", pe, page),
@@ -247,6 +256,18 @@ pub fn write_header(header: &Header, out: &mut ArrayVec<u8, 200>)
     }
 }
 
+/// A space, the mark `@` and the label, where there is one.
+#[tactic(auto, using(crate::proofs::Parts::parts))]
+fn add_label_field(out: &mut ArrayVec<u8, 200>, label: Option<Label>)
+    requires room { array_vec_len out.old ≤ 100 }
+    ensures { (event : Event) → out.old.items ≡ joined (event_fields event) → out.new.items ≡ joined (event_fields event ++ label_fields label) }
+{
+    if let Some(label) = label {
+        add(out, b" @");
+        add(out, label.bytes());
+    }
+}
+
 /// The line of an item, whatever the header.
 #[tactic(auto, unfolding(bbm_events::specs::Lines::item_line))]
 fn any_line(item: Item, out: &mut ArrayVec<u8, 200>)
@@ -254,7 +275,10 @@ fn any_line(item: Item, out: &mut ArrayVec<u8, 200>)
     ensures { out.new.items ≡ item_line item }
 {
     match item {
-        Item::Event(event) => event_line(out, event),
+        Item::Event(event, label) => {
+            event_line(out, event);
+            add_label_field(out, label);
+        }
         Item::End(count) => {
             add(out, b"end");
             add_decimal_field(out, count as u64);
@@ -263,8 +287,8 @@ fn any_line(item: Item, out: &mut ArrayVec<u8, 200>)
 }
 
 /// Writes the line of an event, or the last line with its count, without its newline, into an empty
-/// buffer. The item has to fit the header. Reading the line gives the item again. Source: project's own
-/// choice.
+/// buffer. The item has to fit the header, so that it has a label only under version 3 or 4. Reading the
+/// line gives the item again. Source: project's own choice.
 pub fn write_event(header: &Header, item: Item, out: &mut ArrayVec<u8, 200>)
     requires empty { out.old.items ≡ [] }
     requires fits { item_fits header.now item ≡ true }

@@ -86,7 +86,7 @@ fn writes_each_line(rt: HostRuntime) {
     for (event, line) in lines(pe, page, place).iter() {
         assert!(rt; fits(&HYP, *event));
         let mut out = ArrayVec::new();
-        write_event(&HYP, Item::Event(*event), &mut out);
+        write_event(&HYP, Item::Event(*event, None), &mut out);
         assert_eq!(rt; out.as_slice(), *line);
     }
     let mut out = ArrayVec::new();

@@ -89,10 +89,10 @@ with_it : (n : ℕ) (ms : List ℕ) (b : Bool) → among n ms ≡ b → In (cond
 with_it n ms true e = among_from n ms e
 with_it n ms false e = inl refl
 
-written_here : (pe place value : ℕ) (es : List Event) → In (written_places (Write pe place value ∷ es)) place
+pub written_here : (pe place value : ℕ) (es : List Event) → In (written_places (Write pe place value ∷ es)) place
 written_here pe place value es = with_it place (written_places es) (among place (written_places es)) refl
 
-written_stays : (e : Event) (es : List Event) (place : ℕ) → In (written_places es) place → In (written_places (e ∷ es)) place
+pub written_stays : (e : Event) (es : List Event) (place : ℕ) → In (written_places es) place → In (written_places (e ∷ es)) place
 written_stays (Write pe at value) es place i = with_keeps at (written_places es) place i
 written_stays e es place i = i
 

@@ -15,10 +15,11 @@ use Rattle.bbm_rules.proofs.HeldLemmas.{ValidAt, held_cases, held_is_valid}
 use Rattle.bbm_rules.proofs.ListLemmas.{Parted, append_none, apart, from_filter, in_left, in_pages, in_right, least_none, none_in, parted, to_filter}
 use Rattle.bbm_rules.proofs.OpenLaw.{In, from_contains}
 use Rattle.bbm_rules.proofs.PathLemmas.{AllFresh}
-use Rattle.bbm_rules.proofs.RuleLemmas.{Kept, if_none, kept}
+use Rattle.bbm_rules.proofs.RuleLemmas.{Unbroken, if_none, throughout}
 use Rattle.bbm_rules.proofs.TreeLemmas.{Child, Rooted, at_level, at_start, level_is, level_of_page}
 use Rattle.bbm_rules.specs.Attach.{Attached, End, all_ends, attached_by, attached_from, end_at, ends_below, pages_of}
 use Rattle.bbm_rules.specs.Broken.{broken, first_broken, keeps, rules}
+use Rattle.bbm_rules.specs.declared.rule.Rule.TheVariants.{BreakBeforeMake, NotFresh, PageInUse}
 use Rattle.bbm_rules.specs.Claims.{Trust}
 use Rattle.bbm_rules.specs.Covers.{note, noted}
 use Rattle.bbm_rules.specs.Notes.{Noted, events_of}
@@ -83,10 +84,6 @@ not_invalid Form.table kind level value v e = cc
 not_invalid Form.leaf kind level value v e = cc
 
 -- ---- rules
-
-none_from : {X : Type 0} (o : Option X) → is_none o ≡ true → o ≡ None
-none_from None e = refl
-none_from (Some x) e = absurd (true≢false (sym e))
 
 module _ (heading : Heading) (trust : Trust) (h : List Noted) where
   fresh_by : (pages : List ℕ) (page : ℕ) (b : Bool) → is_fresh heading trust h page ≡ b → unfresh heading trust h pages ≡ []
@@ -162,7 +159,7 @@ module _ (heading : Heading) (trust : Trust) (h : List Noted) where
     -- ---- a root
 
     after_root : (n : Noted) (pe : ℕ) (kind : Kind) (lock : Option ℕ) (page : ℕ) → n.event ≡ Root pe kind lock page
-        → Kept heading trust h (Root pe kind lock page) → OneNode heading trust (n ∷ h)
+        → Unbroken heading trust h (Root pe kind lock page) → OneNode heading trust (n ∷ h)
     after_root n pe kind lock page change kept =
         still_one heading trust h settled kind level n bs (record {
           begin = record {
@@ -198,10 +195,10 @@ module _ (heading : Heading) (trust : Trust) (h : List Noted) where
         firsts = first_are kind level page base pages
 
         rule : Attaches (Root pe kind lock page) (attached_from heading trust h kind level pages)
-        rule = attaches (Root pe kind lock page) (attached_from heading trust h kind level pages) refl kept.fresh
+        rule = attaches (Root pe kind lock page) (attached_from heading trust h kind level pages) refl (kept NotFresh)
 
         used : unfresh heading trust h pages ≡ []
-        used = least_none (unfresh heading trust h pages) kept.in_use
+        used = least_none (unfresh heading trust h pages) (kept PageInUse)
 
         no_write : (q place value : ℕ) → n.event ≡ Write q place value → ⊥
         no_write q place value is = let k : Root pe kind lock page ≡ Write q place value = sym change ∙ is in cc
@@ -234,7 +231,7 @@ module _ (heading : Heading) (trust : Trust) (h : List Noted) where
 
     -- ---- a write
 
-    module _ (n : Noted) (pe at value : ℕ) (change : n.event ≡ Write pe at value) (rule : Kept heading trust h (Write pe at value)) where
+    module _ (n : Noted) (pe at value : ℕ) (change : n.event ≡ Write pe at value) (rule : Unbroken heading trust h (Write pe at value)) where
       -- the write links the page of c below its place
       record Links (p c : Node) : Type 0 where
         node : node_of heading trust h (page_of at) ≡ Some p
@@ -257,7 +254,7 @@ module _ (heading : Heading) (trust : Trust) (h : List Noted) where
           → held_at heading trust h p at ≡ Some old → k.place ≡ at → k.value ≡ value → Child heading trust h p c
       rewritten p c old k node holds there is =
           let unneeded : option_and_then (over p) (held_at heading trust h p at) ≡ None
-          = subst (λ (o : Option Node). option_and_then over_node o ≡ None) node rule.make in
+          = subst (λ (o : Option Node). option_and_then over_node o ≡ None) node (rule BreakBeforeMake) in
           let same : differ (core_in (desc_of p.kind p.level old)) (core_in (desc_of p.kind p.level value)) ≡ false
           = if_none (needs p.kind p.level old value) at
           (subst (λ (o : Option ℕ). option_and_then (over p) o ≡ None) holds unneeded) in
@@ -354,7 +351,7 @@ module _ (heading : Heading) (trust : Trust) (h : List Noted) where
           attached = rw (node, empty, link) refl
 
           rules_say : Attaches (Write pe at value) (attached_from heading trust h q.kind (suc q.level) (next ∷ []))
-          rules_say = attaches (Write pe at value) (attached_from heading trust h q.kind (suc q.level) (next ∷ [])) attached rule.fresh
+          rules_say = attaches (Write pe at value) (attached_from heading trust h q.kind (suc q.level) (next ∷ [])) attached (rule NotFresh)
 
           is_q : (p c : Node) → Links p c → q ≡ p
           is_q p c x = let same : Some q ≡ Some p = sym node ∙ x.node in cc
@@ -392,7 +389,7 @@ module _ (heading : Heading) (trust : Trust) (h : List Noted) where
 
     -- ---- any event
 
-    by_event : (e : Event) (n : Noted) → n.event ≡ e → Kept heading trust h e → OneNode heading trust (n ∷ h)
+    by_event : (e : Event) (n : Noted) → n.event ≡ e → Unbroken heading trust h e → OneNode heading trust (n ∷ h)
     by_event (Root pe kind lock page) n change kept = after_root n pe kind lock page change kept
     by_event (Write pe at value) n change kept = after_write n pe at value change kept
     by_event e n change kept = after_quiet n (ap is_quiet change)
@@ -407,41 +404,41 @@ none_at_start heading trust (suc level) n i =
       | inr r ↦ none_at_start heading trust level r.0 r.1
     ]
 
-unbroken_rules : (heading : Heading) (trust : Trust) (h : List Event) (e : Event) → broken heading trust h e ≡ None
-    → first_broken heading trust (noted heading trust h) e rules ≡ None
-unfolding broken
-unbroken_rules heading trust h e k = k
+-- What holds throughout a history that keeps the rules. What a further proof needs is one field more here, and one line
+-- more in `invariants`.
+pub record Invariants (heading : Heading) (trust : Trust) (h : List Noted) : Type 0 where
+  pub settled : Settled heading trust h
+  pub one : OneNode heading trust h
 
-throughout : (heading : Heading) (trust : Trust) (h : List Event) → keeps heading trust h ≡ true
-    → Settled heading trust (noted heading trust h) × OneNode heading trust (noted heading trust h)
-throughout heading trust [] k = (
-  λ kind level place w fresh last. absurd (true≢false (sym fresh)),
-  λ n m t u same. absurd (none_at_start heading trust t.level n t.there),
-)
-throughout heading trust (e ∷ h) k =
-    let parts = and_parts (keeps heading trust h) (is_none (broken heading trust h e)) k in
-    let before = throughout heading trust h parts.0 in
-    let rule : Kept heading trust (noted heading trust h) e = kept heading trust (noted heading trust h) e
-    (unbroken_rules heading trust h e (none_from (broken heading trust h e) parts.1)) in
-    let n : Noted = note heading trust (noted heading trust h) e in (
-      settled_on heading trust (noted heading trust h) n before.0 rule,
-      by_event heading trust (noted heading trust h) before.0 before.1 e n refl rule,
-    )
+pub invariants : (heading : Heading) (trust : Trust) (h : List Event) → keeps heading trust h ≡ true
+    → Invariants heading trust (noted heading trust h)
+invariants heading trust h k =
+    throughout heading trust (Invariants heading trust)
+    (record {
+      settled = λ kind level place w fresh last. absurd (true≢false (sym fresh));
+      one = λ n m t u same. absurd (none_at_start heading trust t.level n t.there);
+    })
+    (λ older e kept rule before.
+    let n : Noted = note heading trust (noted heading trust older) e in
+    record {
+      settled = settled_on heading trust (noted heading trust older) n before.settled rule;
+      one = by_event heading trust (noted heading trust older) before.settled before.one e n refl rule;
+    }) h k
 
 -- A page has at most one node, and that is the one that the definitions take.
 pub at_most_one : (heading : Heading) (trust : Trust) (h : List Event) → keeps heading trust h ≡ true → (n m : Node)
     → Contains (tree heading trust (noted heading trust h)) n → Contains (tree heading trust (noted heading trust h)) m
     → n.page ≡ m.page → n ≡ m
 at_most_one heading trust h k n m c d same =
-    (throughout heading trust h k).1 n m
+    (invariants heading trust h k).one n m
     (from_tree heading trust (noted heading trust h) n (from_contains (tree heading trust (noted heading trust h)) n c))
     (from_tree heading trust (noted heading trust h) m (from_contains (tree heading trust (noted heading trust h)) m d)) same
 
 pub the_first : (heading : Heading) (trust : Trust) (h : List Event) → keeps heading trust h ≡ true → (n : Node)
     → Contains (tree heading trust (noted heading trust h)) n → node_of heading trust (noted heading trust h) n.page ≡ Some n
 the_first heading trust h k n c =
-    let both = throughout heading trust h k in
-    node_is heading trust (noted heading trust h) both.0 both.1 n.page n
+    let i : Invariants heading trust (noted heading trust h) = invariants heading trust h k in
+    node_is heading trust (noted heading trust h) i.settled i.one n.page n
     (from_tree heading trust (noted heading trust h) n (from_contains (tree heading trust (noted heading trust h)) n c)) refl
 
 pub ruleset laws = (the_first)

@@ -22,7 +22,7 @@ module _ (heading : Heading) (trust : Trust) (h : List Noted) where
   abbrev pub ends_from : Kind → ℕ → ℕ → ℕ → List End
   ends_from kind left level page = end_at level page ∷ ends_below heading trust h kind left level page
 
-  below_fresh : (kind : Kind) (left level page : ℕ) → is_fresh heading trust h page ≡ true
+  pub below_fresh : (kind : Kind) (left level page : ℕ) → is_fresh heading trust h page ≡ true
       → ends_below heading trust h kind (suc left) level page
       ≡ flat_map (ends_from kind left (suc level)) (filter_map (next_at kind level (events_of h)) (places_in (events_of h) page))
   below_fresh kind left level page fresh = rw (fresh, ends_below) refl

@@ -28,7 +28,7 @@ breach_or rule (Some at) rest = Some (record { rule = rule; at = at })
 -- the verdict where the event before position n + 1 breaks this rule or none
 abbrev pub refused_at : ℕ → Option Breach → Verdict
 refused_at n None = Accepted n
-refused_at n (Some breach) = Refused (suc n) breach.rule breach.at
+refused_at n (Some breach) = Refused (suc n) breach.rule breach.at None
 
 abbrev pub verdict_after : ℕ → Option Breach → Verdict → Verdict
 verdict_after n breach (Accepted events) = refused_at n breach
@@ -69,7 +69,7 @@ module _ (heading : Heading) (trust : Trust) where
   keeps (e ∷ h) = keeps h && is_none (broken h e)
 
   -- The verdict on a log whose lines are well formed and reach no limit, newest event first: the first event that breaks
-  -- a rule decides. The header is line 1, so the event of position i stands on line i + 1.
+  -- a rule decides. The header is line 1, so the event of position i stands on line i + 1. Events have no labels here.
   abbrev pub verdict_of : List Event → Verdict
   verdict_of [] = Accepted 0
   verdict_of (e ∷ h) = verdict_after (suc (length h)) (broken h e) (verdict_of h)

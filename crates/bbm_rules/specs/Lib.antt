@@ -26,5 +26,6 @@ pub mod Sentences
 pub mod Tags
 pub mod Texts
 pub mod Tree
+pub mod TreeSentences
 pub mod Values
 pub mod Version

@@ -19,7 +19,10 @@ pub use event_laws::{
     law_readable_register, law_root, law_tag_set, law_vmid,
 };
 pub use first_path::FirstPathChecker;
-pub use history_laws::{law_cleansed, law_half, law_seen};
+pub use history_laws::{
+    law_childless, law_cleansed, law_each_rule, law_fresh, law_half, law_held, law_limbo,
+    law_notes, law_paths, law_seen, law_tree,
+};
 pub use laws::{
     law_answered, law_notes_keep_the_events, law_one_node, law_readable_value, law_tag_held,
     law_version,
@@ -27,7 +30,7 @@ pub use laws::{
 pub use phase::Phase;
 pub use rule::Rule;
 pub use step_fault::StepFault;
-pub use verdict::Verdict;
+pub use verdict::{Verdict, law_first_line_decides};
 
 #[cfg(test)]
 mod tests {
@@ -35,18 +38,30 @@ mod tests {
         law_changes, law_equality_tests, law_limits, law_lock_held, law_published,
         law_readable_register, law_root, law_tag_set, law_vmid,
     };
-    use crate::history_laws::{law_cleansed, law_half, law_seen};
+    use crate::history_laws::{
+        law_childless, law_cleansed, law_each_rule, law_fresh, law_half, law_held, law_limbo,
+        law_notes, law_paths, law_seen, law_tree,
+    };
     use crate::laws::{
         law_answered, law_notes_keep_the_events, law_one_node, law_readable_value, law_tag_held,
         law_version,
     };
+    use crate::verdict::law_first_line_decides;
 
     #[test]
     fn laws_hold() {
         law_answered();
+        law_childless();
         law_cleansed();
+        law_each_rule();
+        law_fresh();
         law_half();
+        law_held();
+        law_limbo();
+        law_notes();
+        law_paths();
         law_seen();
+        law_tree();
         law_changes();
         law_equality_tests();
         law_limits();
@@ -60,6 +75,7 @@ mod tests {
         law_tag_set();
         law_tag_held();
         law_vmid();
+        law_first_line_decides();
         law_version();
     }
 }
