@@ -33,7 +33,7 @@ module _ (heading : Heading) (trust : Trust) where
       let rest : noted heading trust h ≡ older = ap tail_of split in (
         sym rest ∙ ap (noted heading trust) (sym (events_noted h) ∙ ap events_of rest),
         sym first ∙ (ap (λ (x : List Noted). note heading trust x e) rest
-        ∙ ap (note heading trust older) (ap (λ (x : Noted). x.event) first)),
+            ∙ ap (note heading trust older) (ap (λ (x : Noted). x.event) first)),
       )
   older_is_noted (e ∷ h) (m ∷ newer) older n split = older_is_noted h newer older n (ap tail_of split)
 
