@@ -1,8 +1,7 @@
 -- The bytes before the first newline.
-use Rattle.std.proofs.Common.{◌≡◌, ◌≢◌, ℕ, zero, suc, ◌+◌, ◌<◌, ◌≤◌, List, [], ◌∷◌, length, take, min, Option, None, Some, IfSome, Bool, true, false, nat_eq, slice_index, refl, ap, sym, ◌∙◌, arith, ne_eqb}
+use Rattle.std.proofs.Common.{◌≡◌, ℕ, zero, suc, ◌<◌, ◌≤◌, List, [], ◌∷◌, length, take, min, Option, None, Some, IfSome, Bool, true, false, nat_eq, slice_index, refl, arith}
 use Rattle.std.proofs.lemmas.List.{length-take, take-take}
-use Rattle.std.proofs.lemmas.Bool.{not-true}
-use Rattle.memchr.specs.Find.{IsFirstByte, is_byte, Nowhere, Passes}
+use Rattle.memchr.specs.Find.{IsFirstByte, is_byte}
 use Rattle.bbm_io.specs.Flow.{plain}
 
 other : (b : Bool) → ¬ (b ≡ true) → b ≡ false

@@ -1,5 +1,5 @@
 -- Sources and sinks over readers and writers of std.
-use Rattle.std.specs.Prelude.{ℕ, List, ◌++◌, Option}
+use Rattle.std.specs.Prelude.{ℕ, List, Option}
 use Rattle.std.specs.Io.KnownBytes.{prepend_known}
 
 -- a source over a reader

@@ -167,6 +167,7 @@ fn reads_lines_in_pieces(rt: HostRuntime) -> Result<(), Fail> {
         });
         let mut lines = Lines::new();
         for answer in answers.split(' ') {
+            assert!(rt; !lines.failed());
             let end = match lines.next(&mut source) {
                 Ok(LineOrEnd::Line) => "",
                 Ok(_) => ".",
