@@ -1,4 +1,5 @@
 pub mod Judged
+pub mod FirstLineLaw
 pub mod CasesEl2
 pub mod CasesStage2
 pub mod CasesKernel

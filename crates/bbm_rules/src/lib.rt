@@ -19,13 +19,14 @@ pub use laws::{
 pub use phase::Phase;
 pub use rule::Rule;
 pub use step_fault::StepFault;
-pub use verdict::Verdict;
+pub use verdict::{Verdict, law_first_line_decides};
 
 #[cfg(test)]
 mod tests {
     use crate::laws::{
         law_answered, law_notes_keep_the_events, law_one_node, law_readable_value, law_tag_held,
     };
+    use crate::verdict::law_first_line_decides;
 
     #[test]
     fn laws_hold() {
@@ -34,5 +35,6 @@ mod tests {
         law_one_node();
         law_readable_value();
         law_tag_held();
+        law_first_line_decides();
     }
 }

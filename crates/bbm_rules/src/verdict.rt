@@ -1,5 +1,9 @@
 //! The verdict on a log.
 
+ghost use Rattle.std.specs.Prelude.{◌≡◌, ◌⊎◌, ℕ, List};
+ghost use Rattle.bbm_rules.specs.Outcome.{DecidedByEnd, DecidedByLine, Judge, Limits, verdict_of_lines};
+ghost use Rattle.bbm_rules.specs.declared.verdict.Verdict.{Verdict as VerdictOf};
+
 use crate::rule::Rule;
 use bbm_events::Malformed;
 use bbm_regimes::Which;
@@ -18,3 +22,17 @@ pub enum Verdict {
     /// This line reaches a limit of the program.
     Limit { line: u64, which: Which },
 }
+
+/// The verdict on the lines of an input, with the bytes after its last newline, is what the first line
+/// that decides says, and where none does, what the end says. The call does nothing; the law is its
+/// contract.
+#[tactic(auto, using(crate::proofs::FirstLineLaw::laws))]
+pub fn law_first_line_decides()
+    ensures by_line { (judge : Judge) (limits : Limits) (lines : List (List ℕ)) (rest : List ℕ) (verdict : VerdictOf) →
+        DecidedByLine judge limits lines verdict → verdict_of_lines judge limits lines rest ≡ verdict }
+    ensures by_end { (judge : Judge) (limits : Limits) (lines : List (List ℕ)) (rest : List ℕ) (verdict : VerdictOf) →
+        DecidedByEnd judge limits lines rest verdict → verdict_of_lines judge limits lines rest ≡ verdict }
+    ensures one_decides { (judge : Judge) (limits : Limits) (lines : List (List ℕ)) (rest : List ℕ) →
+        DecidedByLine judge limits lines (verdict_of_lines judge limits lines rest)
+        ⊎ DecidedByEnd judge limits lines rest (verdict_of_lines judge limits lines rest) }
+{}
