@@ -8,7 +8,7 @@ mod stop;
 mod text;
 mod top;
 
-pub use status::Status;
+pub use status::{Status, number};
 pub use top::run;
 
 #[cfg(test)]
