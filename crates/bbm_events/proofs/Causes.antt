@@ -19,14 +19,14 @@ use Rattle.bbm_events.specs.Causes.{IsHeaderCause, IsLineCause}
 use Rattle.bbm_events.specs.Lines.{◌>>=◌, Fields, FieldRead, found, next_field, checked, hyp_fields, kernel_fields, world_fields, header_of, item_of, line_after, passing, exactly, magic_field, version_field, cnp_field, header_field, keyword_field, line_field, pe_field, page_field, place_field, root_page_field, lock_value, lock_field, root_lock, root_lock_field, count_field, kind_field, dsb_field, op_field, reg_field, operand_field, value_field, whole, is_marked, label_value, label_field, event_item, pe_alone, pe_and, pe_and_two, root_line, tlbi_line, end_line}
 
 -- each cause that the result can have is one of these
-abbrev Ends : {A : Type 0} → (Malformed → Type 0) → Result A Malformed → Type 0
+abbrev pub Ends : {A : Type 0} → (Malformed → Type 0) → Result A Malformed → Type 0
 Ends Cause r = IfErr r Cause
 
-then_ends : {A B : Type 0} (Cause : Malformed → Type 0) (r : Result A Malformed) (f : A → Result B Malformed) → Ends Cause r → ((x : A) → Ends Cause (f x)) → Ends Cause (r >>= f)
+pub then_ends : {A B : Type 0} (Cause : Malformed → Type 0) (r : Result A Malformed) (f : A → Result B Malformed) → Ends Cause r → ((x : A) → Ends Cause (f x)) → Ends Cause (r >>= f)
 then_ends Cause (Ok x) f here later = later x
 then_ends Cause (Err cause) f here later = here
 
-field_ends : {A : Type 0} (Cause : Malformed → Type 0) (absent unreadable : Malformed) (read : List ℕ → Option A) (rest : Fields) → Cause absent → Cause unreadable → Ends Cause (next_field absent unreadable read rest)
+pub field_ends : {A : Type 0} (Cause : Malformed → Type 0) (absent unreadable : Malformed) (read : List ℕ → Option A) (rest : Fields) → Cause absent → Cause unreadable → Ends Cause (next_field absent unreadable read rest)
 field_ends Cause absent unreadable read [] p q = p
 field_ends {A = A} Cause absent unreadable read (text ∷ rest) p q = by (read text)
   where
@@ -34,7 +34,7 @@ field_ends {A = A} Cause absent unreadable read (text ∷ rest) p q = by (read t
     by None = q
     by (Some value) = tt
 
-whole_ends : {A : Type 0} (value : A) (rest : Fields) → Ends IsLineCause (whole value rest)
+pub whole_ends : {A : Type 0} (value : A) (rest : Fields) → Ends IsLineCause (whole value rest)
 whole_ends value [] = tt
 whole_ends value (text ∷ rest) = tt
 
@@ -50,7 +50,7 @@ label_ends version (text ∷ rest) = by (may_label version && is_marked text) (o
 item_ends : (h : Heading) (event : Event) (rest : Fields) → Ends IsLineCause (event_item h event rest)
 item_ends h event rest = then_ends IsLineCause (label_field h.version rest) _ (label_ends h.version rest) (λ label. whole_ends _ label.1)
 
-pe_ends : (h : Heading) (rest : Fields) → Ends IsLineCause (pe_field h rest)
+pub pe_ends : (h : Heading) (rest : Fields) → Ends IsLineCause (pe_field h rest)
 pe_ends h rest = field_ends IsLineCause MissingField BadPe (λ text. passing (is_pe h) (decimal_value text)) rest tt tt
 
 pe_alone_ends : (h : Heading) (event : ℕ → Event) (rest : Fields) → Ends IsLineCause (pe_alone h event rest)
@@ -70,16 +70,16 @@ pe_and_two_ends h second third event ends more rest =
 page_ends : (left : Fields) → Ends IsLineCause (page_field left)
 page_ends left = field_ends IsLineCause MissingField BadAddress (λ text. passing is_page (hex_value text)) left tt tt
 
-place_ends : (left : Fields) → Ends IsLineCause (place_field left)
+pub place_ends : (left : Fields) → Ends IsLineCause (place_field left)
 place_ends left = field_ends IsLineCause MissingField BadAddress (λ text. passing is_place (hex_value text)) left tt tt
 
-value_ends : (left : Fields) → Ends IsLineCause (value_field left)
+pub value_ends : (left : Fields) → Ends IsLineCause (value_field left)
 value_ends left = field_ends IsLineCause MissingField BadNumber hex_value left tt tt
 
 lock_ends : (left : Fields) → Ends IsLineCause (lock_field left)
 lock_ends left = field_ends IsLineCause MissingField BadNumber lock_value left tt tt
 
-word_ends : {A : Type 0} (read : List ℕ → Option A) (left : Fields) → Ends IsLineCause (line_field UnknownWord read left)
+pub word_ends : {A : Type 0} (read : List ℕ → Option A) (left : Fields) → Ends IsLineCause (line_field UnknownWord read left)
 word_ends read left = field_ends IsLineCause MissingField UnknownWord read left tt tt
 
 operand_ends : (op : TlbiOp) (left : Fields) → Ends IsLineCause (operand_field op left)

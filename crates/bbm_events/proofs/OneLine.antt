@@ -28,7 +28,7 @@ use Rattle.bbm_events.proofs.Readings.{bind_ok, field_ok}
 use Rattle.bbm_events.proofs.Joining.{joined_fields}
 use Rattle.bbm_events.proofs.OneSpelling.{decimal_once, hex_once, word_once}
 
-passing_from : {A : Type 0} (test : A → Bool) (o : Option A) {n : A} → passing test o ≡ Some n → o ≡ Some n
+pub passing_from : {A : Type 0} (test : A → Bool) (o : Option A) {n : A} → passing test o ≡ Some n → o ≡ Some n
 passing_from test None e = cc
 passing_from {A = A} test (Some m) {n = n} e = by (test m) e
   where
@@ -36,37 +36,37 @@ passing_from {A = A} test (Some m) {n = n} e = by (test m) e
     by true f = f
     by false f = cc
 
-whole_end : {A : Type 0} (value : A) (rest : Fields) {y : A} → whole value rest ≡ Ok y → (rest ≡ []) × (value ≡ y)
+pub whole_end : {A : Type 0} (value : A) (rest : Fields) {y : A} → whole value rest ≡ Ok y → (rest ≡ []) × (value ≡ y)
 whole_end value [] e = (refl, cc)
 whole_end value (text ∷ rest) e = cc
 
 -- a field of which each value has one spelling
-field_once : {A : Type 0} (absent unreadable : Malformed) (read : List ℕ → Option A) (spelling : A → List ℕ)
+pub field_once : {A : Type 0} (absent unreadable : Malformed) (read : List ℕ → Option A) (spelling : A → List ℕ)
     → ((text : List ℕ) (value : A) → read text ≡ Some value → text ≡ spelling value)
     → (rest : Fields) {x : A × Fields} → next_field absent unreadable read rest ≡ Ok x → rest ≡ spelling x.0 ∷ x.1
 field_once absent unreadable read spelling once rest {x = x} e =
     let taken = field_ok absent unreadable read rest e in
     taken.1 ∙ ap (λ (text : List ℕ). text ∷ x.1) (once taken.0 x.0 taken.2)
 
-decimal_passing_once : (test : ℕ → Bool) (text : List ℕ) (n : ℕ) → passing test (decimal_value text) ≡ Some n → text ≡ decimal n
+pub decimal_passing_once : (test : ℕ → Bool) (text : List ℕ) (n : ℕ) → passing test (decimal_value text) ≡ Some n → text ≡ decimal n
 decimal_passing_once test text n e = decimal_once text (passing_from test (decimal_value text) e)
 
 hex_passing_once : (test : ℕ → Bool) (text : List ℕ) (n : ℕ) → passing test (hex_value text) ≡ Some n → text ≡ hex n
 hex_passing_once test text n e = hex_once text (passing_from test (hex_value text) e)
 
-pe_once : (h : Heading) (rest : Fields) {x : ℕ × Fields} → pe_field h rest ≡ Ok x → rest ≡ decimal x.0 ∷ x.1
+pub pe_once : (h : Heading) (rest : Fields) {x : ℕ × Fields} → pe_field h rest ≡ Ok x → rest ≡ decimal x.0 ∷ x.1
 pe_once h rest e = field_once MissingField BadPe (λ text. passing (is_pe h) (decimal_value text)) decimal (decimal_passing_once (is_pe h)) rest e
 
 page_once : (rest : Fields) (x : ℕ × Fields) → page_field rest ≡ Ok x → rest ≡ hex x.0 ∷ x.1
 page_once rest x e = field_once MissingField BadAddress (λ text. passing is_page (hex_value text)) hex (hex_passing_once is_page) rest e
 
-place_once : (rest : Fields) (x : ℕ × Fields) → place_field rest ≡ Ok x → rest ≡ hex x.0 ∷ x.1
+pub place_once : (rest : Fields) (x : ℕ × Fields) → place_field rest ≡ Ok x → rest ≡ hex x.0 ∷ x.1
 place_once rest x e = field_once MissingField BadAddress (λ text. passing is_place (hex_value text)) hex (hex_passing_once is_place) rest e
 
 root_page_once : (h : Heading) (kind : Kind) (rest : Fields) (x : ℕ × Fields) → root_page_field h kind rest ≡ Ok x → rest ≡ hex x.0 ∷ x.1
 root_page_once h kind rest x e = field_once MissingField BadAddress (λ text. passing (is_root_page h.world kind) (hex_value text)) hex (hex_passing_once (is_root_page h.world kind)) rest e
 
-value_once : (rest : Fields) (x : ℕ × Fields) → value_field rest ≡ Ok x → rest ≡ hex x.0 ∷ x.1
+pub value_once : (rest : Fields) (x : ℕ × Fields) → value_field rest ≡ Ok x → rest ≡ hex x.0 ∷ x.1
 value_once rest x e = field_once MissingField BadNumber hex_value hex (λ text n f. hex_once text f) rest e
 
 lock_once : (rest : Fields) (x : ℕ × Fields) → lock_field rest ≡ Ok x → rest ≡ decimal x.0 ∷ x.1
@@ -86,7 +86,7 @@ lock_text_once text lock e = by (bytes_eq text (codes "-")) (lock_value text) re
 root_lock_once : (rest : Fields) (x : Option ℕ × Fields) → root_lock_field rest ≡ Ok x → rest ≡ lock_text x.0 ∷ x.1
 root_lock_once rest x e = field_once MissingField BadNumber root_lock lock_text lock_text_once rest e
 
-kind_once : (rest : Fields) (x : Kind × Fields) → kind_field rest ≡ Ok x → rest ≡ kind_word x.0 ∷ x.1
+pub kind_once : (rest : Fields) (x : Kind × Fields) → kind_field rest ≡ Ok x → rest ≡ kind_word x.0 ∷ x.1
 kind_once rest x e = field_once MissingField UnknownWord (with_word kind_word kinds) kind_word (λ text v f. word_once kind_word kinds text f) rest e
 
 dsb_once : (rest : Fields) (x : Dsb × Fields) → dsb_field rest ≡ Ok x → rest ≡ dsb_word x.0 ∷ x.1
@@ -239,7 +239,7 @@ item_one_line h line x e =
 
 -- The header.
 
-exactly_once : (word text : List ℕ) {x : List ℕ} → exactly word text ≡ Some x → text ≡ word
+pub exactly_once : (word text : List ℕ) {x : List ℕ} → exactly word text ≡ Some x → text ≡ word
 exactly_once word text {x = x} e = by (bytes_eq word text) refl e
   where
     by : (t : Bool) → bytes_eq word text ≡ t → cond t (Some text) None ≡ Some x → text ≡ word

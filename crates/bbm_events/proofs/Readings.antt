@@ -27,7 +27,7 @@ bind_ok (Ok x) f e = (x, refl, e)
 bind_ok (Err cause) f e = cc
 
 -- a value that is read passes its test
-passing_ok : {A : Type 0} (test : A → Bool) (o : Option A) {n : A} → passing test o ≡ Some n → test n ≡ true
+pub passing_ok : {A : Type 0} (test : A → Bool) (o : Option A) {n : A} → passing test o ≡ Some n → test n ≡ true
 passing_ok test None e = cc
 passing_ok {A = A} test (Some m) {n = n} e = passed (test m) refl e
   where
@@ -69,7 +69,7 @@ pub whole_ok : {A : Type 0} (value : A) (rest : Fields) {y : A} → whole value 
 whole_ok value [] e = cc
 whole_ok value (text ∷ rest) e = cc
 
-both : {a b : Bool} → a ≡ true → b ≡ true → (a && b) ≡ true
+pub both : {a b : Bool} → a ≡ true → b ≡ true → (a && b) ≡ true
 both p q = rw (p, q) refl
 
 label_kept : (version : ℕ) (rest : Fields) {x : Option (List ℕ) × Fields} → label_field version rest ≡ Ok x → label_fits version x.0 ≡ true
@@ -165,13 +165,13 @@ end_line_fits h rest e =
 page_kept : (rest : Fields) (x : ℕ × Fields) → page_field rest ≡ Ok x → is_page x.0 ≡ true
 page_kept rest x e = passing_field_ok MissingField BadAddress is_page hex_value rest e
 
-place_kept : (rest : Fields) (x : ℕ × Fields) → place_field rest ≡ Ok x → is_place x.0 ≡ true
+pub place_kept : (rest : Fields) (x : ℕ × Fields) → place_field rest ≡ Ok x → is_place x.0 ≡ true
 place_kept rest x e = passing_field_ok MissingField BadAddress is_place hex_value rest e
 
 lock_kept : (rest : Fields) (x : ℕ × Fields) → lock_field rest ≡ Ok x → is_lock x.0 ≡ true
 lock_kept rest x e = passing_field_ok MissingField BadNumber is_lock decimal_value rest e
 
-value_kept : (rest : Fields) (x : ℕ × Fields) → value_field rest ≡ Ok x → is_value x.0 ≡ true
+pub value_kept : (rest : Fields) (x : ℕ × Fields) → value_field rest ≡ Ok x → is_value x.0 ≡ true
 value_kept rest x e = value_field_ok rest e
 
 line_fits : (h : Heading) (word : Keyword) (rest : Fields) {x : Item} → line_after h word rest ≡ Ok x → item_fits h x ≡ true

@@ -33,13 +33,13 @@ use Rattle.bbm_events.proofs.Labels.{label_no_space}
 use Rattle.bbm_events.proofs.WordsRead.{cnp_word_read, cnp_word_no_space, kind_word_read, reg_word_read, asid_from_word_read, dsb_word_read, op_word_read, kind_word_no_space, reg_word_no_space, asid_from_word_no_space, dsb_word_no_space, op_word_no_space}
 
 -- a step that gives a value leads on with it
-on : {A B : Type 0} (r : Result A Malformed) (f : A → Result B Malformed) {x : A} → r ≡ Ok x → (r >>= f) ≡ f x
+pub on : {A B : Type 0} (r : Result A Malformed) (f : A → Result B Malformed) {x : A} → r ≡ Ok x → (r >>= f) ≡ f x
 on r f e = ap (λ r. r >>= f) e
 
-field_read : {A : Type 0} (absent unreadable : Malformed) (read : List ℕ → Option A) (text : List ℕ) (rest : Fields) {x : A} → read text ≡ Some x → next_field absent unreadable read (text ∷ rest) ≡ Ok (x, rest)
+pub field_read : {A : Type 0} (absent unreadable : Malformed) (read : List ℕ → Option A) (text : List ℕ) (rest : Fields) {x : A} → read text ≡ Some x → next_field absent unreadable read (text ∷ rest) ≡ Ok (x, rest)
 field_read absent unreadable read text rest e = ap (λ o. found unreadable o rest) e
 
-passing_read : {A : Type 0} (test : A → Bool) (o : Option A) {n : A} → o ≡ Some n → test n ≡ true → passing test o ≡ Some n
+pub passing_read : {A : Type 0} (test : A → Bool) (o : Option A) {n : A} → o ≡ Some n → test n ≡ true → passing test o ≡ Some n
 passing_read test o {n = n} e h = ap (λ o. passing test o) e ∙ ap (λ t. cond t (Some n) None) h
 
 both : {a b : Bool} → a ≡ true → b ≡ true → (a && b) ≡ true
@@ -76,7 +76,7 @@ aligned_below n aligned e = let below = ltb-true n (2 ^ 48) (and_parts (nat_lt n
 
 -- The fields of event lines.
 
-pe_read : (h : Heading) (pe : ℕ) (rest : Fields) → heading_ok h ≡ true → is_pe h pe ≡ true → pe_field h (decimal pe ∷ rest) ≡ Ok (pe, rest)
+pub pe_read : (h : Heading) (pe : ℕ) (rest : Fields) → heading_ok h ≡ true → is_pe h pe ≡ true → pe_field h (decimal pe ∷ rest) ≡ Ok (pe, rest)
 pe_read h pe rest ok fits =
     field_read MissingField BadPe (λ text. passing (is_pe h) (decimal_value text)) (decimal pe) rest
     (passing_read (is_pe h) (decimal_value (decimal pe)) (decimal_read pe (pe_below h pe ok fits)) fits)
@@ -89,7 +89,7 @@ address_read test n rest below fits =
 page_read : (n : ℕ) (rest : Fields) → is_page n ≡ true → page_field (hex n ∷ rest) ≡ Ok (n, rest)
 page_read n rest fits = address_read is_page n rest (aligned_below n (n % 4096 == 0) fits) fits
 
-place_read : (n : ℕ) (rest : Fields) → is_place n ≡ true → place_field (hex n ∷ rest) ≡ Ok (n, rest)
+pub place_read : (n : ℕ) (rest : Fields) → is_place n ≡ true → place_field (hex n ∷ rest) ≡ Ok (n, rest)
 place_read n rest fits = address_read is_place n rest (aligned_below n (n % 8 == 0) fits) fits
 
 root_page_read : (h : Heading) (kind : Kind) (n : ℕ) (rest : Fields) → is_root_page h.world kind n ≡ true → root_page_field h kind (hex n ∷ rest) ≡ Ok (n, rest)
@@ -97,7 +97,7 @@ root_page_read h kind n rest fits =
     let page = and_parts (is_page n) (n % (4096 * page_count h.world kind) == 0) fits in
     address_read (is_root_page h.world kind) n rest (aligned_below n (n % 4096 == 0) page.0) fits
 
-value_read : (n : ℕ) (rest : Fields) → is_value n ≡ true → value_field (hex n ∷ rest) ≡ Ok (n, rest)
+pub value_read : (n : ℕ) (rest : Fields) → is_value n ≡ true → value_field (hex n ∷ rest) ≡ Ok (n, rest)
 value_read n rest fits = field_read MissingField BadNumber hex_value (hex n) rest (hex_read n (ltb-true n (2 ^ 64) fits))
 
 lock_below : (n : ℕ) → is_lock n ≡ true → n < 2 ^ 64
@@ -137,7 +137,7 @@ root_lock_read (Some n) rest fits =
     (ap (λ t. cond t (Some None) (option_map Some (lock_value (decimal n)))) (dash_unread (decimal n) (decimal_read n (lock_below n fits)))
     ∙ ap (λ o. option_map Some o) (lock_value_read n fits))
 
-kind_read : (kind : Kind) (rest : Fields) → kind_field (kind_word kind ∷ rest) ≡ Ok (kind, rest)
+pub kind_read : (kind : Kind) (rest : Fields) → kind_field (kind_word kind ∷ rest) ≡ Ok (kind, rest)
 kind_read kind rest = field_read MissingField UnknownWord (with_word kind_word kinds) (kind_word kind) rest (kind_word_read kind)
 
 dsb_read : (dsb : Dsb) (rest : Fields) → dsb_field (dsb_word dsb ∷ rest) ≡ Ok (dsb, rest)
@@ -244,13 +244,13 @@ event_read h (event.Unlock pe lock) label ok fits labelled = let parts = and_par
 
 -- No field of a line holds a space.
 
-one_more : (piece : List ℕ) (pieces : List (List ℕ)) → no_space piece ≡ true → no_spaces pieces ≡ true → no_spaces (piece ∷ pieces) ≡ true
+pub one_more : (piece : List ℕ) (pieces : List (List ℕ)) → no_space piece ≡ true → no_spaces pieces ≡ true → no_spaces (piece ∷ pieces) ≡ true
 one_more piece pieces p q = both p q
 
-dec : (n : ℕ) (pieces : List (List ℕ)) → no_spaces pieces ≡ true → no_spaces (decimal n ∷ pieces) ≡ true
+pub dec : (n : ℕ) (pieces : List (List ℕ)) → no_spaces pieces ≡ true → no_spaces (decimal n ∷ pieces) ≡ true
 dec n pieces h = one_more (decimal n) pieces (digits_no_space 10 n) h
 
-hexa : (n : ℕ) (pieces : List (List ℕ)) → no_spaces pieces ≡ true → no_spaces (hex n ∷ pieces) ≡ true
+pub hexa : (n : ℕ) (pieces : List (List ℕ)) → no_spaces pieces ≡ true → no_spaces (hex n ∷ pieces) ≡ true
 hexa n pieces h = one_more (hex n) pieces (digits_no_space 16 n) h
 
 lock_no_space : (lock : Option ℕ) → no_space (lock_text lock) ≡ true

@@ -99,7 +99,9 @@ pub fn fits(header: &Header, event: Event) -> bool
         Event::Dsb { pe, dsb: _ } => has_pe(header, pe),
         Event::Dmb { pe, dsb: _ } => has_pe(header, pe),
         Event::Isb { pe } => has_pe(header, pe),
-        Event::Tlbi { pe, op, xt } => has_pe(header, pe) && has_op(header, op) && is_operand(op, xt),
+        Event::Tlbi { pe, op, xt } => has_pe(header, pe)
+            && has_op(header, op)
+            && is_operand(op, xt),
         Event::Msr {
             pe,
             reg: _,

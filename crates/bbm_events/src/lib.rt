@@ -7,6 +7,7 @@ pub mod header;
 pub mod keyword;
 pub mod label;
 pub mod laws;
+pub mod machine;
 pub mod malformed;
 
 pub use event::{Event, Item};
@@ -15,9 +16,11 @@ pub use header::Header;
 pub use keyword::Keyword;
 pub use label::Label;
 pub use laws::{
-    law_header_causes, law_header_in_range, law_item_causes, law_item_fits, law_one_line,
+    law_header_causes, law_header_in_range, law_item_causes, law_item_fits, law_machine_causes,
+    law_machine_fits, law_machine_one_line, law_machine_written_is_read, law_one_line,
     law_written_is_read,
 };
+pub use machine::{MachineLine, MachineWord};
 pub use malformed::Malformed;
 
 #[cfg(test)]

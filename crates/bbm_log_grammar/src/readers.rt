@@ -5,7 +5,9 @@ ghost use Rattle.bbm_events.specs.Lines as lines;
 
 use crate::fields::Fields;
 use crate::numbers::read_hex;
-use crate::values::{count_of, is_marked, label_of, lock_of, page_of, pe_of, place_of, root_lock_of, root_page_of};
+use crate::values::{
+    count_of, is_marked, label_of, lock_of, page_of, pe_of, place_of, root_lock_of, root_page_of,
+};
 use crate::words::{dsb_of, kind_of, op_of, reg_of};
 use bbm_barriers::Dsb;
 use bbm_events::{Event, Header, Item, Label, Malformed, has_op};
@@ -151,12 +153,7 @@ pub(crate) fn operand_field<'a>(
 }
 
 /// The event with the label that its line's last field is, where no field is left.
-fn labelled(
-    header: &Header,
-    event: Event,
-    text: &[u8],
-    fields: Fields,
-) -> Result<Item, Malformed>
+fn labelled(header: &Header, event: Event, text: &[u8], fields: Fields) -> Result<Item, Malformed>
     ensures { result ≡ lines.event_item header.now event (text.now ∷ fields.entry) }
 {
     if header.version < 3 || !is_marked(text) {
@@ -167,11 +164,7 @@ fn labelled(
 }
 
 /// The event, and the label where a field is left.
-pub(crate) fn event_item(
-    header: &Header,
-    event: Event,
-    fields: Fields,
-) -> Result<Item, Malformed>
+pub(crate) fn event_item(header: &Header, event: Event, fields: Fields) -> Result<Item, Malformed>
     ensures { result ≡ lines.event_item header.now event fields.entry }
 {
     match fields.next() {
@@ -180,12 +173,12 @@ pub(crate) fn event_item(
     }
 }
 
-/// The item, where no field is left.
-pub(crate) fn whole(item: Item, fields: Fields) -> Result<Item, Malformed>
-    ensures { result ≡ lines.whole item fields.entry }
+/// The value, where no field is left.
+pub(crate) fn whole<T: Copy>(value: T, fields: Fields) -> Result<T, Malformed>
+    ensures { result ≡ lines.whole value fields.entry }
 {
     match fields.next() {
-        None => Ok(item),
+        None => Ok(value),
         Some(_) => Err(Malformed::ExtraField),
     }
 }

@@ -66,7 +66,7 @@ const LINES: [(&[u8], Malformed); 44] = [
 const HEADERS: [(&[u8], Malformed); 16] = [
     (b"", Malformed::NoMagic),
     (b"bbmlog", Malformed::NoMagic),
-    (b"bbmlog 2 hyp 2 1 1 1", Malformed::NoMagic),
+    (b"bbmlog 5 hyp 2 1 1 1", Malformed::NoMagic),
     (b"bbmlog  1 hyp 2 1 1 1", Malformed::NoMagic),
     (b" bbmlog 1 hyp 2 1 1 1", Malformed::NoMagic),
     (b"bbmlog 1", Malformed::BadHeader),

@@ -5,6 +5,7 @@ ghost use Rattle.bbm_events.specs.Spelling.{decimal_value, hex_value};
 ghost use Rattle.bbm_events.specs.Heading.{is_version};
 ghost use Rattle.bbm_events.specs.Fits as fits;
 ghost use Rattle.bbm_events.specs.Lines as lines;
+ghost use Rattle.bbm_events.specs.Machine as machine;
 
 use crate::numbers::{read_decimal, read_hex};
 use bbm_events::{Header, Label, page_count};
@@ -12,6 +13,9 @@ use bbm_regimes::{Kind, Page, Pe, Place};
 
 /// Locks have numbers below 1,024.
 const LOCKS: u64 = 1024;
+
+/// VMIDs and ASIDs have 16 bits.
+const TAGS: u64 = 1 << 16;
 
 /// The version of a log.
 pub(crate) fn version_of(field: &[u8]) -> Option<u8>
@@ -89,6 +93,37 @@ pub(crate) fn root_lock_of(field: &[u8]) -> Option<Option<u16>>
 /// A number of event lines.
 pub(crate) fn count_of(field: &[u8]) -> Option<u32>
     ensures { result ≡ lines.passing fits.is_count (decimal_value field.now) }
+{
+    u32::try_from(read_decimal(field)?).ok()
+}
+
+/// Whether an entry of the kind can have the number as its VMID or ASID.
+fn is_tag(kind: Kind, number: u64) -> bool
+    ensures { result ≡ machine.is_tag kind number }
+{
+    match kind {
+        Kind::El2 => number == 0,
+        Kind::S2 => number < TAGS,
+        Kind::Ttbr0 => number < TAGS,
+        Kind::Ttbr1 => number < TAGS,
+    }
+}
+
+/// The VMID or ASID of an entry of the kind.
+pub(crate) fn tag_of(kind: Kind, field: &[u8]) -> Option<u16>
+    ensures { result ≡ lines.passing (machine.is_tag kind) (decimal_value field.now) }
+{
+    let number = read_decimal(field)?;
+    if is_tag(kind, number) {
+        Some(number as u16)
+    } else {
+        None
+    }
+}
+
+/// The number of an entry.
+pub(crate) fn entry_of(field: &[u8]) -> Option<u32>
+    ensures { result ≡ lines.passing machine.is_entry (decimal_value field.now) }
 {
     u32::try_from(read_decimal(field)?).ok()
 }

@@ -1,10 +1,11 @@
 //! The words of a log.
 
 ghost use Rattle.std.specs.Prelude.{◌≡◌};
+ghost use Rattle.bbm_events.specs.Machine as machine;
 ghost use Rattle.bbm_events.specs.Words as words;
 
 use bbm_barriers::{Domain, Dsb, Types};
-use bbm_events::Keyword;
+use bbm_events::{Keyword, MachineWord};
 use bbm_regimes::{AsidFrom, Kind, Reg};
 use bbm_tlbi_scope::TlbiOp;
 
@@ -54,6 +55,38 @@ pub(crate) fn keyword_of(field: &[u8]) -> Option<Keyword>
         .iter()
         .copied()
         .find(|keyword| keyword_word(*keyword) == field)
+}
+
+/// The second words of machine lines.
+const MACHINE_WORDS: [MachineWord; 5] = [
+    MachineWord::Start,
+    MachineWord::Extend,
+    MachineWord::Combine,
+    MachineWord::Share,
+    MachineWord::Drop,
+];
+
+/// The second word of a machine line.
+fn machine_word(word: MachineWord) -> &'static [u8]
+    ensures { result.now ≡ machine.machine_word word }
+{
+    match word {
+        MachineWord::Start => b"start",
+        MachineWord::Extend => b"extend",
+        MachineWord::Combine => b"combine",
+        MachineWord::Share => b"share",
+        MachineWord::Drop => b"drop",
+    }
+}
+
+/// The step whose word the field is.
+pub(crate) fn machine_word_of(field: &[u8]) -> Option<MachineWord>
+    ensures { result ≡ words.with_word machine.machine_word machine.machine_words field.now }
+{
+    MACHINE_WORDS
+        .iter()
+        .copied()
+        .find(|word| machine_word(*word) == field)
 }
 
 /// Whether TLBs are shared.

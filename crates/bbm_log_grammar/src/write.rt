@@ -19,7 +19,7 @@ use bbm_regimes::{AsidFrom, Kind, Page, Pe, Place, Reg, World};
 use bbm_tlbi_scope::TlbiOp;
 
 /// A space and a word of at most 12 bytes.
-fn add_word_field(out: &mut ArrayVec<u8, 200>, word: &[u8])
+pub(crate) fn add_word_field(out: &mut ArrayVec<u8, 200>, word: &[u8])
     requires short { length word.now ≤ 12 }
     requires room { array_vec_len out.old + 13 ≤ 200 }
     ensures appended { out.new.items ≡ out.old.items ++ 32 ∷ word.now }
@@ -30,7 +30,7 @@ fn add_word_field(out: &mut ArrayVec<u8, 200>, word: &[u8])
 }
 
 /// A space and a number in decimal.
-fn add_decimal_field(out: &mut ArrayVec<u8, 200>, n: u64)
+pub(crate) fn add_decimal_field(out: &mut ArrayVec<u8, 200>, n: u64)
     requires room { array_vec_len out.old + 21 ≤ 200 }
     ensures appended { out.new.items ≡ out.old.items ++ 32 ∷ decimal n }
     ensures longer { array_vec_len out.new ≤ array_vec_len out.old + 21 }
@@ -40,7 +40,7 @@ fn add_decimal_field(out: &mut ArrayVec<u8, 200>, n: u64)
 }
 
 /// A space and a number in hex.
-fn add_hex_field(out: &mut ArrayVec<u8, 200>, n: u64)
+pub(crate) fn add_hex_field(out: &mut ArrayVec<u8, 200>, n: u64)
     requires room { array_vec_len out.old + 19 ≤ 200 }
     ensures appended { out.new.items ≡ out.old.items ++ 32 ∷ hex n }
     ensures longer { array_vec_len out.new ≤ array_vec_len out.old + 19 }
