@@ -1,3 +1,2 @@
-pub mod Both
 pub mod Agreeing
 pub mod Ranging

@@ -1,7 +1,7 @@
 -- A scope over a range of pages takes and covers what the scopes with one page of it do.
 use Rattle.std.proofs.Common.{◌≡◌, ◌≢◌, ℕ, Bool, true, false, Option, Some, is_none, min, max, ◌&&◌, ◌||◌, not, ◌≤◌, ◌↔◌, refl, ap, sym, ◌∙◌, arith, if◌then◌else◌}
+use Rattle.std.proofs.lemmas.Bool.{and_from, and_parts}
 use Rattle.std.proofs.lemmas.Bool.Decides.{nat_tests}
-use Rattle.bbm_tlbi_scope.proofs.Both.{both, both_left, both_right}
 use Rattle.bbm_regimes.specs.Extent.{Extent, Has, meets, holds}
 use Rattle.bbm_regimes.specs.declared.regime.Kind.{Kind}
 use Rattle.bbm_regimes.specs.declared.regime.Kind.TheVariants.{El2, S2, Ttbr0, Ttbr1}
@@ -42,7 +42,7 @@ holds_wider pages region n inside h = grind (arith, nat_tests)
 
 -- a conjunction holds where its first part holds of the wider
 and_wider : (a b other : Bool) → (a ≡ true → b ≡ true) → (a && other) ≡ true → (b && other) ≡ true
-and_wider a b other wider h = both b other (wider (both_left a other h)) (both_right a other h)
+and_wider a b other wider h = and_from b other (wider (and_parts a other h).0) (and_parts a other h).1
 
 -- the pages of a scope count for nothing beside the fit
 covers_at_page : (k : Kind) (f : Family) (fits : Bool) (s : Scope) (n : ℕ) (vmid : Option ℕ) (v : PlaceView) → cover_by k f fits (at_page s n) vmid v ≡ cover_by k f fits s vmid v
@@ -79,7 +79,7 @@ takes_at_page _ _ fits s n vmid e = refl
 
 takes_fitting : (k : EntryKind) (f : Family) (s : Scope) (vmid : Option ℕ) (e : EntryHead) → taken_by k f false s vmid e ≡ true → taken_by k f true s vmid e ≡ true
 takes_fitting El2Entry El2Va s vmid e h = cc
-takes_fitting Stage2 Ipa s vmid e h = let e : false ≡ true = both_right (is_number vmid e.vmid) false h in cc
+takes_fitting Stage2 Ipa s vmid e h = let e : false ≡ true = (and_parts (is_number vmid e.vmid) false h).1 in cc
 takes_fitting El1 VaAll s vmid e h = cc
 takes_fitting El1 Va s vmid e h = cc
 takes_fitting Combined E1All s vmid e h = h
@@ -120,13 +120,13 @@ place_wider false childless s pages n v over inside h =
     and_wider (names_some (Some (one_page n)) v.region) (names_some s.interval v.region) (hint_allows s.level v.level)
     (some_wider s.interval pages v.region n over.interval inside) h
 place_wider true true s pages n v over inside h =
-    both (not s.last_only && is_none s.level) (names_some s.interval v.region)
-    (both_left (not s.last_only && is_none s.level) (names_some (Some (one_page n)) v.region) h)
-    (some_wider s.interval pages v.region n over.interval inside (both_right (not s.last_only && is_none s.level) (names_some (Some (one_page n)) v.region) h))
+    and_from (not s.last_only && is_none s.level) (names_some s.interval v.region)
+    (and_parts (not s.last_only && is_none s.level) (names_some (Some (one_page n)) v.region) h).0
+    (some_wider s.interval pages v.region n over.interval inside (and_parts (not s.last_only && is_none s.level) (names_some (Some (one_page n)) v.region) h).1)
 place_wider true false s pages n v over inside h =
-    both (not s.last_only && is_none s.level) (names_all s.interval v.region)
-    (both_left (not s.last_only && is_none s.level) (names_all (Some (one_page n)) v.region) h)
-    (all_wider s.interval pages v.region n over.interval inside (both_right (not s.last_only && is_none s.level) (names_all (Some (one_page n)) v.region) h))
+    and_from (not s.last_only && is_none s.level) (names_all s.interval v.region)
+    (and_parts (not s.last_only && is_none s.level) (names_all (Some (one_page n)) v.region) h).0
+    (all_wider s.interval pages v.region n over.interval inside (and_parts (not s.last_only && is_none s.level) (names_all (Some (one_page n)) v.region) h).1)
 
 place_same : (table childless : Bool) (s : Scope) (n : ℕ) (v : PlaceView) → (not table || childless) ≡ true
     → names_some (Some (one_page n)) v.region ≡ names_some s.interval v.region
