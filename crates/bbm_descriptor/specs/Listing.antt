@@ -66,7 +66,8 @@ pub record RegionHolds (value : ℕ → ℕ) (root : WalkRoot) (places : List �
 -- the input range holds the address, and so does the region of each place of the list
 abbrev pub EachHolds : (ℕ → ℕ) → WalkRoot → List ℕ → ℕ → Type 0
 EachHolds value root [] addr = RegionHolds value root [] addr
-EachHolds value root (place ∷ above) addr = EachHolds value root above addr × RegionHolds value root (place ∷ above) addr
+EachHolds value root (place ∷ above) addr =
+    EachHolds value root above addr × RegionHolds value root (place ∷ above) addr
 
 -- the list begins in a page of the root and goes on through table values into their next pages
 abbrev pub Tables : (ℕ → ℕ) → WalkRoot → List ℕ → Type 0

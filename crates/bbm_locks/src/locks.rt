@@ -48,9 +48,11 @@ impl Locks {
     pub fn take(&mut self, pe: Pe, lock: u16) -> Result<(), Busy>
         requires { lock < 1024 }
         ensures busy { (holder : ℕ) → (result ≡ Err (record { 0 = holder })) ↔ (holder_at self.old lock ≡ Some holder) }
-        ensures taken { OnOk result ((l : ℕ) → holder_at self.new l ≡ (if lock == l then Some pe else holder_at self.old l)) }
+        ensures taken { OnOk result (
+            (l : ℕ) → holder_at self.new l ≡ (if lock == l then Some pe else holder_at self.old l)) }
         ensures refused { OnErr result ((l : ℕ) → holder_at self.new l ≡ holder_at self.old l) }
-        ensures calls { OnOk result ((calls : List Call) → AreAfter self.old calls → AreAfter self.new (taken pe lock ∷ calls)) }
+        ensures calls { OnOk result (
+            (calls : List Call) → AreAfter self.old calls → AreAfter self.new (taken pe lock ∷ calls)) }
     {
         if let Some(holder) = self.holders[lock as usize] {
             return Err(Busy(holder));
@@ -64,9 +66,11 @@ impl Locks {
     pub fn give(&mut self, pe: Pe, lock: u16) -> Result<(), NotHolder>
         requires { lock < 1024 }
         ensures held { IsOk result ↔ (holder_at self.old lock ≡ Some pe) }
-        ensures given { OnOk result ((l : ℕ) → holder_at self.new l ≡ (if lock == l then None else holder_at self.old l)) }
+        ensures given { OnOk result (
+            (l : ℕ) → holder_at self.new l ≡ (if lock == l then None else holder_at self.old l)) }
         ensures refused { OnErr result ((l : ℕ) → holder_at self.new l ≡ holder_at self.old l) }
-        ensures calls { OnOk result ((calls : List Call) → AreAfter self.old calls → AreAfter self.new (given pe lock ∷ calls)) }
+        ensures calls { OnOk result (
+            (calls : List Call) → AreAfter self.old calls → AreAfter self.new (given pe lock ∷ calls)) }
     {
         if self.holders[lock as usize] != Some(pe) {
             return Err(NotHolder);
