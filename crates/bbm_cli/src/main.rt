@@ -2,8 +2,7 @@
 #![tactic(auto)]
 
 use bbm_io::{StdSink, StdSource};
-use bbm_session::{Status, run};
-use std::io::ErrorKind;
+use bbm_session::{number, run_words};
 use std::process::ExitCode;
 use std::rt::Env;
 use std::{env, io};
@@ -17,19 +16,8 @@ fn words<R: Env + AllocGlobal>(rt: &R) -> io::Result<Vec<String>> {
     Ok(words)
 }
 
-// Does what the words ask for, from standard input to standard output.
-fn judged(rt: &HostRuntime, words: &Vec<String>) -> Status {
+fn main(rt: HostRuntime) -> ExitCode {
     let mut log = StdSource::new(rt.stdin());
     let mut out = StdSink::new(rt.stdout());
-    run(rt.alloc(), words, &mut log, &mut out)
-}
-
-// Words that can't be gathered are no command; without memory for them nothing is written.
-fn main(rt: HostRuntime) -> ExitCode {
-    let status = match words(&rt) {
-        Ok(words) => judged(&rt, &words),
-        Err(error) if error.kind() == ErrorKind::OutOfMemory => Status::NoMemory,
-        Err(_) => judged(&rt, &Vec::new(rt.alloc())),
-    };
-    ExitCode::from(status as u8)
+    ExitCode::from(number(run_words(rt.alloc(), words(&rt), &mut log, &mut out)))
 }

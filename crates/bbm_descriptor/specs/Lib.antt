@@ -1,2 +1,4 @@
 pub mod Fields
 pub mod Descriptor
+pub mod Listing
+pub mod Pairs

@@ -1,7 +1,7 @@
 //! Values of places, decoded by the kind and the level of the table that they stand in.
 
 ghost use Rattle.std.specs.Prelude.{◌≡◌, false, ◌<◌, ◌≤◌, ◌^◌, ◌%◌, ◌↔◌, ◌&&◌, IsNone, IfSome};
-ghost use Rattle.bbm_descriptor.specs.Fields.{bits, bit, address, next_of, ns_table, out_of};
+ghost use Rattle.bbm_descriptor.specs.Fields.{value_bits, value_bit, address, next_of, ns_table, out_of};
 ghost use Rattle.bbm_descriptor.specs.Descriptor.{leaf, stage1, desc_of, desc_as, core_of, core_in, desc_with, is_valid, needs, Fits};
 
 use crate::desc::{Core, Desc};
@@ -12,7 +12,7 @@ use bbm_regimes::{Kind, Page};
 fn bits_at(value: u64, high: u32, low: u32) -> u64
     requires order { low ≤ high }
     requires within { high < 64 }
-    ensures { result ≡ bits value high low }
+    ensures { result ≡ value_bits value high low }
 {
     value >> low & u64::MAX >> (63 + low - high)
 }
@@ -20,7 +20,7 @@ fn bits_at(value: u64, high: u32, low: u32) -> u64
 // Whether bit k of a value is 1.
 fn has_bit(value: u64, k: u32) -> bool
     requires { k < 64 }
-    ensures { result ≡ bit value k }
+    ensures { result ≡ value_bit value k }
 {
     bits_at(value, k, k) == 1
 }

@@ -8,7 +8,9 @@ pub mod laws;
 pub mod memory;
 #[cfg(test)]
 mod tests;
+pub mod walk;
 
 pub use decode::{core, needs_bbm, read};
 pub use desc::{Core, Desc};
-pub use memory::Memory;
+pub use memory::{Memory, Pairs};
+pub use walk::{Walk, place_for, walk_from};

@@ -1,5 +1,7 @@
 pub mod Causes
 pub mod Joining
+pub mod Labels
+pub mod MachineLines
 pub mod OneLine
 pub mod OneSpelling
 pub mod Readings

@@ -7,7 +7,7 @@ use Rattle.std.proofs.lemmas.Bool.{lt-ltb}
 use Rattle.std.proofs.lemmas.Fmt.{digits_is_IsNumeral, decimal_is_IsNumeral}
 use Rattle.std.proofs.lemmas.Slice.Eq.{bytes_eq-Decides}
 use Rattle.bbm_events.specs.Spelling.{hex, where_spelled, decimal_value, hex_value}
-use Rattle.bbm_events.specs.Words.{value_of}
+use Rattle.bbm_events.specs.Words.{with_word}
 
 cond_true : {A : Type 0} {a b : Bool} (x : Option A) → a ≡ true → b ≡ true → cond (a && b) x None ≡ x
 cond_true x p q = rw (p, q) refl
@@ -44,11 +44,11 @@ unfolding hex_value
 hex_once text e = spelled_once hex text (digits_value 16 (drop 2 text)) e
 
 -- a word that is read is the value's word
-pub word_once : {A : Type 0} (word : A → List ℕ) (values : List A) (text : List ℕ) {value : A} → value_of word values text ≡ Some value → text ≡ word value
+pub word_once : {A : Type 0} (word : A → List ℕ) (values : List A) (text : List ℕ) {value : A} → with_word word values text ≡ Some value → text ≡ word value
 word_once word [] text e = cc
 word_once {A = A} word (first ∷ others) text {value = value} e = by (bytes_eq (word first) text) refl (λ f. word_once word others text f) e
   where
-    by : (t : Bool) → bytes_eq (word first) text ≡ t → (value_of word others text ≡ Some value → text ≡ word value)
-        → cond t (Some first) (value_of word others text) ≡ Some value → text ≡ word value
+    by : (t : Bool) → bytes_eq (word first) text ≡ t → (with_word word others text ≡ Some value → text ≡ word value)
+        → cond t (Some first) (with_word word others text) ≡ Some value → text ≡ word value
     by true is later f = let same : first ≡ value = cc in sym ((bytes_eq-Decides (word first) text).0 is) ∙ ap word same
     by false is later f = later f

@@ -3,8 +3,9 @@ use Rattle.std.proofs.Common.{◌≡◌, ℕ, List, [], ◌∷◌, Bool, true, f
 use Rattle.bbm_events.specs.declared.event.Event.{Event}
 use Rattle.bbm_events.specs.declared.event.Event.TheVariants as event
 use Rattle.bbm_events.specs.declared.event.Item.{Item}
+use Rattle.bbm_events.specs.declared.event.Item.TheVariants as item
 use Rattle.bbm_events.specs.declared.malformed.Malformed.{Malformed}
-use Rattle.bbm_events.specs.declared.malformed.Malformed.TheVariants.{BadHeader, BadNumber, BadPe, BadAddress, MissingField}
+use Rattle.bbm_events.specs.declared.malformed.Malformed.TheVariants.{BadHeader, UnknownWord, BadNumber, BadPe, BadAddress, MissingField, BadLabel}
 use Rattle.std.specs.Prelude.{bytes_eq, codes, drop, ◌==◌, ◌||◌}
 use Rattle.std.specs.Str.Parse.{digits_value}
 use Rattle.bbm_regimes.specs.declared.regime.World.TheVariants.{Hyp, Kernel}
@@ -13,21 +14,22 @@ use Rattle.bbm_events.specs.declared.keyword.Keyword.{Keyword}
 use Rattle.bbm_events.specs.declared.keyword.Keyword.TheVariants as first
 use Rattle.bbm_tlbi_scope.specs.declared.op.TlbiOp.{TlbiOp}
 use Rattle.bbm_tlbi_scope.specs.Operations.{has_operand}
-use Rattle.bbm_events.specs.Heading.{Heading, heading_ok}
+use Rattle.bbm_events.specs.Heading.{Heading, heading_ok, has_op, may_label}
+use Rattle.bbm_events.specs.Label.{is_label}
 use Rattle.bbm_events.specs.Spelling.{fields, hex, decimal_value, hex_value, where_spelled}
-use Rattle.bbm_events.specs.Words.{value_of, asid_from_word, asid_froms}
-use Rattle.bbm_events.specs.Fits.{fits_heading, item_fits, is_pe, is_page, is_place, is_value, is_lock, is_count, is_root_page, is_root_lock, is_operand}
-use Rattle.bbm_events.specs.Lines.{◌>>=◌, Fields, magic_field, header_field, Reading, found, next_field, passing, checked, hyp_fields, kernel_fields, world_fields, header_of, item_of, line_after, keyword_field, pe_field, page_field, place_field, root_page_field, value_field, operand_field, lock_field, lock_value, root_lock, root_lock_field, count_field, kind_field, dsb_field, op_field, reg_field, whole, pe_alone, pe_and, pe_and_two, root_line, tlbi_line, end_line}
+use Rattle.bbm_events.specs.Words.{with_word, asid_from_word, asid_froms, op_word, ops}
+use Rattle.bbm_events.specs.Fits.{fits_heading, item_fits, is_pe, is_page, is_place, is_value, is_lock, is_count, is_root_page, is_root_lock, is_operand, label_fits}
+use Rattle.bbm_events.specs.Lines.{◌>>=◌, Fields, magic_field, version_field, cnp_field, header_field, FieldRead, found, next_field, passing, checked, hyp_fields, kernel_fields, world_fields, header_of, item_of, line_after, keyword_field, pe_field, page_field, place_field, root_page_field, value_field, operand_field, lock_field, lock_value, root_lock, root_lock_field, count_field, kind_field, dsb_field, op_field, reg_field, whole, is_marked, label_field, event_item, pe_alone, pe_and, pe_and_two, root_line, tlbi_line, end_line}
 
 -- where two steps give a value, the first gave one that leads the second to it
 pub bind_ok : {A B : Type 0} (r : Result A Malformed) (f : A → Result B Malformed) {y : B} → (r >>= f) ≡ Ok y → (x : A) × (r ≡ Ok x) × (f x ≡ Ok y)
 bind_ok (Ok x) f e = (x, refl, e)
 bind_ok (Err cause) f e = cc
 
--- a number that is read passes its test
-passing_ok : (test : ℕ → Bool) (o : Option ℕ) {n : ℕ} → passing test o ≡ Some n → test n ≡ true
+-- a value that is read passes its test
+pub passing_ok : {A : Type 0} (test : A → Bool) (o : Option A) {n : A} → passing test o ≡ Some n → test n ≡ true
 passing_ok test None e = cc
-passing_ok test (Some m) {n = n} e = passed (test m) refl e
+passing_ok {A = A} test (Some m) {n = n} e = passed (test m) refl e
   where
     passed : (b : Bool) → test m ≡ b → cond b (Some m) None ≡ Some n → test n ≡ true
     passed true is_true e = cc
@@ -42,8 +44,8 @@ field_ok {A = A} absent unreadable read (text ∷ rest) {x = x} e = taken (read 
     taken (Some value) is_value e = (text, cc, cc)
     taken None is_none e = cc
 
--- so a number that is read passes the test of its field
-pub passing_field_ok : (absent unreadable : Malformed) (test : ℕ → Bool) (read : List ℕ → Option ℕ) (rest : Fields) {x : ℕ × Fields} → next_field absent unreadable (λ text. passing test (read text)) rest ≡ Ok x → test x.0 ≡ true
+-- so a value that is read passes the test of its field
+pub passing_field_ok : {A : Type 0} (absent unreadable : Malformed) (test : A → Bool) (read : List ℕ → Option A) (rest : Fields) {x : A × Fields} → next_field absent unreadable (λ text. passing test (read text)) rest ≡ Ok x → test x.0 ≡ true
 passing_field_ok absent unreadable test read rest e =
     let taken = field_ok absent unreadable (λ (text : List ℕ). passing test (read text)) rest e in
     passing_ok test (read taken.0) taken.2
@@ -67,8 +69,26 @@ pub whole_ok : {A : Type 0} (value : A) (rest : Fields) {y : A} → whole value 
 whole_ok value [] e = cc
 whole_ok value (text ∷ rest) e = cc
 
-both : {a b : Bool} → a ≡ true → b ≡ true → (a && b) ≡ true
+pub both : {a b : Bool} → a ≡ true → b ≡ true → (a && b) ≡ true
 both p q = rw (p, q) refl
+
+label_kept : (version : ℕ) (rest : Fields) {x : Option (List ℕ) × Fields} → label_field version rest ≡ Ok x → label_fits version x.0 ≡ true
+label_kept version [] {x = x} e = let none : None ≡ x.0 = cc in rw (← none) refl
+label_kept version (text ∷ rest) {x = x} e = by_mark (may_label version) (is_marked text) (is_label (drop 1 text)) refl refl e
+  where
+    by_mark : (may marked label : Bool) → may_label version ≡ may → is_label (drop 1 text) ≡ label
+        → cond (may && marked) (found BadLabel (option_map Some (cond label (Some (drop 1 text)) None)) rest) (Ok (None, text ∷ rest)) ≡ Ok x → label_fits version x.0 ≡ true
+    by_mark true true true may label f = let some : Some (drop 1 text) ≡ x.0 = cc in rw (← some) (both may label)
+    by_mark true true false may label f = cc
+    by_mark true false b may label f = let none : None ≡ x.0 = cc in rw (← none) refl
+    by_mark false marked b may label f = let none : None ≡ x.0 = cc in rw (← none) refl
+
+-- the event of a line, and a label that fits
+item_ok : (h : Heading) (event : Event) (rest : Fields) {x : Item} → event_item h event rest ≡ Ok x
+    → (label : Option (List ℕ)) × (label_fits h.version label ≡ true) × (item.Event event label ≡ x)
+item_ok h event rest e =
+    let label = bind_ok (label_field h.version rest) _ e in
+    (label.0.0, label_kept h.version rest label.1, whole_ok _ _ label.2)
 
 -- the shapes of lines
 
@@ -76,20 +96,20 @@ pub pe_alone_fits : (h : Heading) (event : ℕ → Event) → ((pe : ℕ) → is
     → (rest : Fields) {x : Item} → pe_alone h event rest ≡ Ok x → item_fits h x ≡ true
 pe_alone_fits h event fit rest e =
     let pe = bind_ok (pe_field h rest) _ e in
-    let is = whole_ok _ _ pe.2 in
-    rw (← is) (fit pe.0.0 (passing_field_ok MissingField BadPe (is_pe h) decimal_value rest pe.1))
+    let is = item_ok h _ _ pe.2 in
+    rw (← is.2) (both (fit pe.0.0 (passing_field_ok MissingField BadPe (is_pe h) decimal_value rest pe.1)) is.1)
 
-pub pe_and_fits : {A : Type 0} (h : Heading) (second : Fields → Reading A) (event : ℕ → A → Event) (Good : A → Type 0)
+pub pe_and_fits : {A : Type 0} (h : Heading) (second : Fields → FieldRead A) (event : ℕ → A → Event) (Good : A → Type 0)
     → ((rest : Fields) (x : A × Fields) → second rest ≡ Ok x → Good x.0)
     → ((pe : ℕ) (a : A) → is_pe h pe ≡ true → Good a → fits_heading h (event pe a) ≡ true)
     → (rest : Fields) {x : Item} → pe_and h second event rest ≡ Ok x → item_fits h x ≡ true
 pe_and_fits h second event Good good fit rest e =
     let pe = bind_ok (pe_field h rest) _ e in
     let a = bind_ok (second pe.0.1) _ pe.2 in
-    let is = whole_ok _ _ a.2 in
-    rw (← is) (fit pe.0.0 a.0.0 (passing_field_ok MissingField BadPe (is_pe h) decimal_value rest pe.1) (good pe.0.1 a.0 a.1))
+    let is = item_ok h _ _ a.2 in
+    rw (← is.2) (both (fit pe.0.0 a.0.0 (passing_field_ok MissingField BadPe (is_pe h) decimal_value rest pe.1) (good pe.0.1 a.0 a.1)) is.1)
 
-pub pe_and_two_fits : {A B : Type 0} (h : Heading) (second : Fields → Reading A) (third : Fields → Reading B) (event : ℕ → A → B → Event) (Good : A → Type 0) (Fine : B → Type 0)
+pub pe_and_two_fits : {A B : Type 0} (h : Heading) (second : Fields → FieldRead A) (third : Fields → FieldRead B) (event : ℕ → A → B → Event) (Good : A → Type 0) (Fine : B → Type 0)
     → ((rest : Fields) (x : A × Fields) → second rest ≡ Ok x → Good x.0)
     → ((rest : Fields) (x : B × Fields) → third rest ≡ Ok x → Fine x.0)
     → ((pe : ℕ) (a : A) (b : B) → is_pe h pe ≡ true → Good a → Fine b → fits_heading h (event pe a b) ≡ true)
@@ -98,8 +118,8 @@ pe_and_two_fits h second third event Good Fine good fine fit rest e =
     let pe = bind_ok (pe_field h rest) _ e in
     let a = bind_ok (second pe.0.1) _ pe.2 in
     let b = bind_ok (third a.0.1) _ a.2 in
-    let is = whole_ok _ _ b.2 in
-    rw (← is) (fit pe.0.0 a.0.0 b.0.0 (passing_field_ok MissingField BadPe (is_pe h) decimal_value rest pe.1) (good pe.0.1 a.0 a.1) (fine a.0.1 b.0 b.1))
+    let is = item_ok h _ _ b.2 in
+    rw (← is.2) (both (fit pe.0.0 a.0.0 b.0.0 (passing_field_ok MissingField BadPe (is_pe h) decimal_value rest pe.1) (good pe.0.1 a.0 a.1) (fine a.0.1 b.0 b.1)) is.1)
 
 root_lock_kept : (text : List ℕ) {o : Option ℕ} → root_lock text ≡ Some o → is_root_lock o ≡ true
 root_lock_kept text {o = o} e = by_dash (bytes_eq text (codes "-")) (lock_value text) refl e
@@ -115,10 +135,10 @@ root_line_fits h rest e =
     let kind = bind_ok (kind_field pe.0.1) _ pe.2 in
     let lock = bind_ok (root_lock_field kind.0.1) _ kind.2 in
     let page = bind_ok (root_page_field h kind.0.0 lock.0.1) _ lock.2 in
-    let is = whole_ok _ _ page.2 in
+    let is = item_ok h _ _ page.2 in
     let lock_read = field_ok MissingField BadNumber root_lock kind.0.1 lock.1 in
-    rw (← is) (both (both (passing_field_ok MissingField BadPe (is_pe h) decimal_value rest pe.1) (root_lock_kept lock_read.0 lock_read.2))
-    (passing_field_ok MissingField BadAddress (is_root_page h.world kind.0.0) hex_value lock.0.1 page.1))
+    rw (← is.2) (both (both (both (passing_field_ok MissingField BadPe (is_pe h) decimal_value rest pe.1) (root_lock_kept lock_read.0 lock_read.2))
+    (passing_field_ok MissingField BadAddress (is_root_page h.world kind.0.0) hex_value lock.0.1 page.1)) is.1)
 
 operand_kept : (op : TlbiOp) (rest : Fields) {x : ℕ × Fields} → operand_field op rest ≡ Ok x → is_operand op x.0 ≡ true
 operand_kept op rest {x = x} e = by_operand (has_operand op) e
@@ -130,10 +150,11 @@ operand_kept op rest {x = x} e = by_operand (has_operand op) e
 tlbi_line_fits : (h : Heading) (rest : Fields) {x : Item} → tlbi_line h rest ≡ Ok x → item_fits h x ≡ true
 tlbi_line_fits h rest e =
     let pe = bind_ok (pe_field h rest) _ e in
-    let op = bind_ok (op_field pe.0.1) _ pe.2 in
+    let op = bind_ok (op_field h.version pe.0.1) _ pe.2 in
     let xt = bind_ok (operand_field op.0.0 op.0.1) _ op.2 in
-    let is = whole_ok _ _ xt.2 in
-    rw (← is) (both (passing_field_ok MissingField BadPe (is_pe h) decimal_value rest pe.1) (operand_kept op.0.0 op.0.1 xt.1))
+    let is = item_ok h _ _ xt.2 in
+    rw (← is.2) (both (both (both (passing_field_ok MissingField BadPe (is_pe h) decimal_value rest pe.1)
+    (passing_field_ok MissingField UnknownWord (has_op h.version) (with_word op_word ops) pe.0.1 op.1)) (operand_kept op.0.0 op.0.1 xt.1)) is.1)
 
 end_line_fits : (h : Heading) (rest : Fields) {x : Item} → end_line rest ≡ Ok x → item_fits h x ≡ true
 end_line_fits h rest e =
@@ -144,13 +165,13 @@ end_line_fits h rest e =
 page_kept : (rest : Fields) (x : ℕ × Fields) → page_field rest ≡ Ok x → is_page x.0 ≡ true
 page_kept rest x e = passing_field_ok MissingField BadAddress is_page hex_value rest e
 
-place_kept : (rest : Fields) (x : ℕ × Fields) → place_field rest ≡ Ok x → is_place x.0 ≡ true
+pub place_kept : (rest : Fields) (x : ℕ × Fields) → place_field rest ≡ Ok x → is_place x.0 ≡ true
 place_kept rest x e = passing_field_ok MissingField BadAddress is_place hex_value rest e
 
 lock_kept : (rest : Fields) (x : ℕ × Fields) → lock_field rest ≡ Ok x → is_lock x.0 ≡ true
 lock_kept rest x e = passing_field_ok MissingField BadNumber is_lock decimal_value rest e
 
-value_kept : (rest : Fields) (x : ℕ × Fields) → value_field rest ≡ Ok x → is_value x.0 ≡ true
+pub value_kept : (rest : Fields) (x : ℕ × Fields) → value_field rest ≡ Ok x → is_value x.0 ≡ true
 value_kept rest x e = value_field_ok rest e
 
 line_fits : (h : Heading) (word : Keyword) (rest : Fields) {x : Item} → line_after h word rest ≡ Ok x → item_fits h x ≡ true
@@ -185,34 +206,36 @@ checked_ok h [] {x = x} e = by_ranges (heading_ok h) refl e
     by_ranges false is_false f = cc
 checked_ok h (text ∷ rest) e = cc
 
-hyp_ok : (rest : Fields) {x : Heading} → hyp_fields rest ≡ Ok x → heading_ok x ≡ true
-hyp_ok rest e =
+hyp_ok : (version : ℕ) (rest : Fields) {x : Heading} → hyp_fields version rest ≡ Ok x → heading_ok x ≡ true
+hyp_ok version rest e =
     let pes = bind_ok (header_field decimal_value rest) _ e in
     let el2_start = bind_ok (header_field decimal_value pes.0.1) _ pes.2 in
     let s2_start = bind_ok (header_field decimal_value el2_start.0.1) _ el2_start.2 in
     let s2_pages = bind_ok (header_field decimal_value s2_start.0.1) _ s2_start.2 in
-    checked_ok (record { pes = pes.0.0; world = Hyp el2_start.0.0 s2_start.0.0 s2_pages.0.0 }) s2_pages.0.1 s2_pages.2
+    let cnp = bind_ok (cnp_field version s2_pages.0.1) _ s2_pages.2 in
+    checked_ok (record { version = version; pes = pes.0.0; cnp = cnp.0.0; world = Hyp el2_start.0.0 s2_start.0.0 s2_pages.0.0 }) cnp.0.1 cnp.2
 
-kernel_ok : (rest : Fields) {x : Heading} → kernel_fields rest ≡ Ok x → heading_ok x ≡ true
-kernel_ok rest e =
+kernel_ok : (version : ℕ) (rest : Fields) {x : Heading} → kernel_fields version rest ≡ Ok x → heading_ok x ≡ true
+kernel_ok version rest e =
     let pes = bind_ok (header_field decimal_value rest) _ e in
     let start0 = bind_ok (header_field decimal_value pes.0.1) _ pes.2 in
     let start1 = bind_ok (header_field decimal_value start0.0.1) _ start0.2 in
-    let asid_from = bind_ok (header_field (value_of asid_from_word asid_froms) start1.0.1) _ start1.2 in
-    checked_ok (record { pes = pes.0.0; world = Kernel start0.0.0 start1.0.0 asid_from.0.0 }) asid_from.0.1 asid_from.2
+    let asid_from = bind_ok (header_field (with_word asid_from_word asid_froms) start1.0.1) _ start1.2 in
+    let cnp = bind_ok (cnp_field version asid_from.0.1) _ asid_from.2 in
+    checked_ok (record { version = version; pes = pes.0.0; cnp = cnp.0.0; world = Kernel start0.0.0 start1.0.0 asid_from.0.0 }) cnp.0.1 cnp.2
 
-world_ok_of : (word : List ℕ) (rest : Fields) {x : Heading} → world_fields word rest ≡ Ok x → heading_ok x ≡ true
-world_ok_of word rest {x = x} e = by_word (bytes_eq word (codes "hyp")) (bytes_eq word (codes "kernel")) e
+world_ok_of : (version : ℕ) (word : List ℕ) (rest : Fields) {x : Heading} → world_fields version word rest ≡ Ok x → heading_ok x ≡ true
+world_ok_of version word rest {x = x} e = by_word (bytes_eq word (codes "hyp")) (bytes_eq word (codes "kernel")) e
   where
-    by_word : (hyp kernel : Bool) → cond hyp (hyp_fields rest) (cond kernel (kernel_fields rest) (Err BadHeader)) ≡ Ok x → heading_ok x ≡ true
-    by_word true kernel f = hyp_ok rest f
-    by_word false true f = kernel_ok rest f
+    by_word : (hyp kernel : Bool) → cond hyp (hyp_fields version rest) (cond kernel (kernel_fields version rest) (Err BadHeader)) ≡ Ok x → heading_ok x ≡ true
+    by_word true kernel f = hyp_ok version rest f
+    by_word false true f = kernel_ok version rest f
     by_word false false f = cc
 
 pub header_of_ok : (line : List ℕ) (x : Heading) → header_of line ≡ Ok x → heading_ok x ≡ true
 unfolding header_of
 header_of_ok line x e =
     let magic = bind_ok (magic_field (codes "bbmlog") (fields line)) _ e in
-    let version = bind_ok (magic_field (codes "1") magic.0.1) _ magic.2 in
+    let version = bind_ok (version_field magic.0.1) _ magic.2 in
     let world = bind_ok (header_field Some version.0.1) _ version.2 in
-    world_ok_of world.0.0 world.0.1 world.2
+    world_ok_of version.0.0 world.0.0 world.0.1 world.2

@@ -1,5 +1,5 @@
 -- Each word is read as its value again, and holds no space.
-use Rattle.std.proofs.Common.{◌≡◌, true, refl, Some}
+use Rattle.std.proofs.Common.{◌≡◌, Bool, true, false, refl, Some}
 use Rattle.bbm_regimes.specs.declared.regime.Kind.{Kind}
 use Rattle.bbm_regimes.specs.declared.regime.Kind.TheVariants.{El2, S2, Ttbr0, Ttbr1}
 use Rattle.bbm_regimes.specs.declared.regime.Reg.{Reg}
@@ -12,13 +12,13 @@ use Rattle.bbm_barriers.specs.declared.Domain.TheVariants.{Full, Inner, Outer, N
 use Rattle.bbm_barriers.specs.declared.Types.{Types}
 use Rattle.bbm_barriers.specs.declared.Types.TheVariants.{All, Stores, Loads}
 use Rattle.bbm_tlbi_scope.specs.declared.op.TlbiOp.{TlbiOp}
-use Rattle.bbm_tlbi_scope.specs.declared.op.TlbiOp.TheVariants.{Alle2, Alle2is, Vae2, Vae2is, Vale2, Vale2is, Alle1, Alle1is, Vmalle1, Vmalle1is, Vmalls12e1, Vmalls12e1is, Ipas2e1, Ipas2e1is, Ipas2le1, Ipas2le1is, Vae1, Vae1is, Vale1, Vale1is, Vaae1, Vaae1is, Vaale1, Vaale1is, Aside1, Aside1is}
+use Rattle.bbm_tlbi_scope.specs.declared.op.TlbiOp.TheVariants.{Alle2, Alle2is, Vae2, Vae2is, Vale2, Vale2is, Alle1, Alle1is, Vmalle1, Vmalle1is, Vmalls12e1, Vmalls12e1is, Ipas2e1, Ipas2e1is, Ipas2le1, Ipas2le1is, Vae1, Vae1is, Vale1, Vale1is, Vaae1, Vaae1is, Vaale1, Vaale1is, Aside1, Aside1is, Rvae2, Rvae2is, Rvale2, Rvale2is, Ripas2e1, Ripas2e1is, Ripas2le1, Ripas2le1is, Rvae1, Rvae1is, Rvale1, Rvale1is, Rvaae1, Rvaae1is, Rvaale1, Rvaale1is}
 use Rattle.bbm_events.specs.declared.keyword.Keyword.{Keyword}
 use Rattle.bbm_events.specs.declared.keyword.Keyword.TheVariants as first
-use Rattle.bbm_events.specs.Words.{value_of, keyword_word, keywords, kind_word, kinds, reg_word, regs, asid_from_word, asid_froms, option_word, dsb_word, dsbs, op_word, ops}
+use Rattle.bbm_events.specs.Words.{with_word, keyword_word, keywords, cnp_word, cnps, kind_word, kinds, reg_word, regs, asid_from_word, asid_froms, option_word, dsb_word, dsbs, op_word, ops}
 use Rattle.bbm_events.proofs.Joining.{no_space}
 
-pub keyword_word_read : (keyword : Keyword) → value_of keyword_word keywords (keyword_word keyword) ≡ Some keyword
+pub keyword_word_read : (keyword : Keyword) → with_word keyword_word keywords (keyword_word keyword) ≡ Some keyword
 keyword_word_read first.Init = refl
 keyword_word_read first.Null = refl
 keyword_word_read first.Root = refl
@@ -33,7 +33,15 @@ keyword_word_read first.Lock = refl
 keyword_word_read first.Unlock = refl
 keyword_word_read first.End = refl
 
-pub kind_word_read : (kind : Kind) → value_of kind_word kinds (kind_word kind) ≡ Some kind
+pub cnp_word_read : (cnp : Bool) → with_word cnp_word cnps (cnp_word cnp) ≡ Some cnp
+cnp_word_read true = refl
+cnp_word_read false = refl
+
+pub cnp_word_no_space : (cnp : Bool) → no_space (cnp_word cnp) ≡ true
+cnp_word_no_space true = refl
+cnp_word_no_space false = refl
+
+pub kind_word_read : (kind : Kind) → with_word kind_word kinds (kind_word kind) ≡ Some kind
 kind_word_read El2 = refl
 kind_word_read S2 = refl
 kind_word_read Ttbr0 = refl
@@ -45,7 +53,7 @@ kind_word_no_space S2 = refl
 kind_word_no_space Ttbr0 = refl
 kind_word_no_space Ttbr1 = refl
 
-pub reg_word_read : (reg : Reg) → value_of reg_word regs (reg_word reg) ≡ Some reg
+pub reg_word_read : (reg : Reg) → with_word reg_word regs (reg_word reg) ≡ Some reg
 reg_word_read Ttbr0El2 = refl
 reg_word_read VttbrEl2 = refl
 reg_word_read Ttbr0El1 = refl
@@ -57,7 +65,7 @@ reg_word_no_space VttbrEl2 = refl
 reg_word_no_space Ttbr0El1 = refl
 reg_word_no_space Ttbr1El1 = refl
 
-pub asid_from_word_read : (asid_from : AsidFrom) → value_of asid_from_word asid_froms (asid_from_word asid_from) ≡ Some asid_from
+pub asid_from_word_read : (asid_from : AsidFrom) → with_word asid_from_word asid_froms (asid_from_word asid_from) ≡ Some asid_from
 asid_from_word_read from.Ttbr0 = refl
 asid_from_word_read from.Ttbr1 = refl
 
@@ -65,7 +73,7 @@ pub asid_from_word_no_space : (asid_from : AsidFrom) → no_space (asid_from_wor
 asid_from_word_no_space from.Ttbr0 = refl
 asid_from_word_no_space from.Ttbr1 = refl
 
-pub op_word_read : (op : TlbiOp) → value_of op_word ops (op_word op) ≡ Some op
+pub op_word_read : (op : TlbiOp) → with_word op_word ops (op_word op) ≡ Some op
 op_word_read Alle2 = refl
 op_word_read Alle2is = refl
 op_word_read Vae2 = refl
@@ -92,6 +100,22 @@ op_word_read Vaale1 = refl
 op_word_read Vaale1is = refl
 op_word_read Aside1 = refl
 op_word_read Aside1is = refl
+op_word_read Rvae2 = refl
+op_word_read Rvae2is = refl
+op_word_read Rvale2 = refl
+op_word_read Rvale2is = refl
+op_word_read Ripas2e1 = refl
+op_word_read Ripas2e1is = refl
+op_word_read Ripas2le1 = refl
+op_word_read Ripas2le1is = refl
+op_word_read Rvae1 = refl
+op_word_read Rvae1is = refl
+op_word_read Rvale1 = refl
+op_word_read Rvale1is = refl
+op_word_read Rvaae1 = refl
+op_word_read Rvaae1is = refl
+op_word_read Rvaale1 = refl
+op_word_read Rvaale1is = refl
 
 pub op_word_no_space : (op : TlbiOp) → no_space (op_word op) ≡ true
 op_word_no_space Alle2 = refl
@@ -120,8 +144,24 @@ op_word_no_space Vaale1 = refl
 op_word_no_space Vaale1is = refl
 op_word_no_space Aside1 = refl
 op_word_no_space Aside1is = refl
+op_word_no_space Rvae2 = refl
+op_word_no_space Rvae2is = refl
+op_word_no_space Rvale2 = refl
+op_word_no_space Rvale2is = refl
+op_word_no_space Ripas2e1 = refl
+op_word_no_space Ripas2e1is = refl
+op_word_no_space Ripas2le1 = refl
+op_word_no_space Ripas2le1is = refl
+op_word_no_space Rvae1 = refl
+op_word_no_space Rvae1is = refl
+op_word_no_space Rvale1 = refl
+op_word_no_space Rvale1is = refl
+op_word_no_space Rvaae1 = refl
+op_word_no_space Rvaae1is = refl
+op_word_no_space Rvaale1 = refl
+op_word_no_space Rvaale1is = refl
 
-option_word_read : (domain : Domain) (types : Types) → value_of dsb_word dsbs (option_word domain types) ≡ Some (record { domain = domain; types = types })
+option_word_read : (domain : Domain) (types : Types) → with_word dsb_word dsbs (option_word domain types) ≡ Some (record { domain = domain; types = types })
 option_word_read Full All = refl
 option_word_read Full Stores = refl
 option_word_read Full Loads = refl
@@ -135,7 +175,7 @@ option_word_read Non All = refl
 option_word_read Non Stores = refl
 option_word_read Non Loads = refl
 
-pub dsb_word_read : (dsb : Dsb) → value_of dsb_word dsbs (dsb_word dsb) ≡ Some dsb
+pub dsb_word_read : (dsb : Dsb) → with_word dsb_word dsbs (dsb_word dsb) ≡ Some dsb
 dsb_word_read dsb = option_word_read dsb.domain dsb.types
 
 option_word_no_space : (domain : Domain) (types : Types) → no_space (option_word domain types) ≡ true

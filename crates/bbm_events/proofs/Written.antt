@@ -1,13 +1,14 @@
 -- A line that is written is read as what was written.
-use Rattle.std.proofs.Common.{◌≡◌, ℕ, ◌^◌, ◌<◌, ◌≤◌, List, [], ◌∷◌, Bool, true, false, ◌&&◌, cond, nat_lt, ◌%◌, ◌*◌, ◌==◌, refl, ap, sym, ◌∙◌, Option, Some, None, Result, Ok, Err, arith}
+use Rattle.std.proofs.Common.{◌≡◌, ℕ, ◌^◌, ◌<◌, ◌≤◌, List, [], ◌∷◌, ◌++◌, Bool, true, false, not, ◌&&◌, cond, nat_lt, ◌%◌, ◌*◌, ◌==◌, refl, ap, sym, ◌∙◌, Option, Some, None, Result, Ok, Err, arith}
 use Rattle.std.specs.Prelude.{◌||◌, nat_le, codes, decimal, bytes_eq}
 use Rattle.std.specs.Option.{option_map}
 use Rattle.std.specs.Fmt.{digits}
 use Rattle.std.proofs.lemmas.Slice.Eq.{bytes_eq-Decides}
-use Rattle.std.proofs.lemmas.Bool.{and_parts, ltb-true, eqb-true}
+use Rattle.std.proofs.lemmas.Bool.{and_parts, ltb-true, leb-true, eqb-true}
 use Rattle.std.proofs.lemmas.Bool.Decides.{nat_tests}
 use Rattle.bbm_regimes.specs.declared.regime.World.{World}
 use Rattle.bbm_regimes.specs.declared.regime.World.TheVariants.{Hyp, Kernel}
+use Rattle.bbm_regimes.specs.World.{world_ok, page_count}
 use Rattle.bbm_regimes.specs.declared.regime.Kind.{Kind}
 use Rattle.bbm_regimes.specs.declared.regime.AsidFrom.{AsidFrom}
 use Rattle.bbm_regimes.specs.declared.regime.Reg.{Reg}
@@ -18,47 +19,64 @@ use Rattle.bbm_events.specs.declared.event.Event.TheVariants as event
 use Rattle.bbm_events.specs.declared.event.Item.{Item}
 use Rattle.bbm_events.specs.declared.event.Item.TheVariants as item
 use Rattle.bbm_events.specs.declared.malformed.Malformed.{Malformed}
-use Rattle.bbm_events.specs.declared.malformed.Malformed.TheVariants.{BadHeader, UnknownWord, BadNumber, BadPe, BadAddress, MissingField}
-use Rattle.bbm_events.specs.Heading.{Heading, heading_ok, world_ok}
+use Rattle.bbm_events.specs.declared.malformed.Malformed.TheVariants.{NoMagic, BadHeader, UnknownWord, BadNumber, BadPe, BadAddress, MissingField, BadLabel}
+use Rattle.bbm_events.specs.Heading.{Heading, heading_ok, is_version, are_pes, has_op, may_label, may_share}
+use Rattle.bbm_events.specs.Label.{is_label}
 use Rattle.bbm_events.specs.Spelling.{fields, joined, hex, decimal_value, hex_value}
 use Rattle.bbm_tlbi_scope.specs.Operations.{has_operand}
-use Rattle.bbm_events.specs.Words.{value_of, keyword_word, keywords, kind_word, kinds, reg_word, regs, asid_from_word, asid_froms, dsb_word, dsbs, op_word, ops}
-use Rattle.bbm_events.specs.Fits.{root_pages, fits_heading, item_fits, is_pe, is_page, is_place, is_value, is_lock, is_count, is_root_page, is_root_lock, is_operand}
-use Rattle.bbm_events.specs.Lines.{◌>>=◌, Fields, Reading, found, next_field, passing, checked, header_field, world_fields, header_of, item_of, line_after, line_field, pe_field, page_field, place_field, root_page_field, value_field, operand_field, lock_field, lock_value, root_lock, root_lock_field, count_field, kind_field, dsb_field, op_field, reg_field, pe_alone, pe_and, pe_and_two, root_line, tlbi_line, header_fields, header_line, lock_text, operand_fields, event_fields, item_fields, item_line, magic_field}
+use Rattle.bbm_events.specs.Words.{with_word, keyword_word, keywords, cnp_word, cnps, kind_word, kinds, reg_word, regs, asid_from_word, asid_froms, dsb_word, dsbs, op_word, ops}
+use Rattle.bbm_events.specs.Fits.{fits_heading, item_fits, is_pe, is_page, is_place, is_value, is_lock, is_count, is_root_page, is_root_lock, is_operand, label_fits}
+use Rattle.bbm_events.specs.Lines.{◌>>=◌, Fields, FieldRead, found, next_field, passing, checked, version_field, cnp_field, cnp_fields, header_field, world_fields, header_of, item_of, line_after, line_field, pe_field, page_field, place_field, root_page_field, value_field, operand_field, lock_field, lock_value, root_lock, root_lock_field, count_field, kind_field, dsb_field, op_field, reg_field, label_value, label_field, label_fields, event_item, pe_alone, pe_and, pe_and_two, root_line, tlbi_line, header_fields, header_line, lock_text, operand_fields, event_fields, item_fields, item_line, magic_field}
 use Rattle.bbm_events.proofs.Joining.{no_space, no_spaces, fields_joined, digits_no_space}
 use Rattle.bbm_events.proofs.OneSpelling.{decimal_read, hex_read}
-use Rattle.bbm_events.proofs.WordsRead.{kind_word_read, reg_word_read, asid_from_word_read, dsb_word_read, op_word_read, kind_word_no_space, reg_word_no_space, asid_from_word_no_space, dsb_word_no_space, op_word_no_space}
+use Rattle.bbm_events.proofs.Labels.{label_no_space}
+use Rattle.bbm_events.proofs.WordsRead.{cnp_word_read, cnp_word_no_space, kind_word_read, reg_word_read, asid_from_word_read, dsb_word_read, op_word_read, kind_word_no_space, reg_word_no_space, asid_from_word_no_space, dsb_word_no_space, op_word_no_space}
 
 -- a step that gives a value leads on with it
-on : {A B : Type 0} (r : Result A Malformed) (f : A → Result B Malformed) {x : A} → r ≡ Ok x → (r >>= f) ≡ f x
+pub on : {A B : Type 0} (r : Result A Malformed) (f : A → Result B Malformed) {x : A} → r ≡ Ok x → (r >>= f) ≡ f x
 on r f e = ap (λ r. r >>= f) e
 
-field_read : {A : Type 0} (absent unreadable : Malformed) (read : List ℕ → Option A) (text : List ℕ) (rest : Fields) {x : A} → read text ≡ Some x → next_field absent unreadable read (text ∷ rest) ≡ Ok (x, rest)
+pub field_read : {A : Type 0} (absent unreadable : Malformed) (read : List ℕ → Option A) (text : List ℕ) (rest : Fields) {x : A} → read text ≡ Some x → next_field absent unreadable read (text ∷ rest) ≡ Ok (x, rest)
 field_read absent unreadable read text rest e = ap (λ o. found unreadable o rest) e
 
-passing_read : (test : ℕ → Bool) (o : Option ℕ) {n : ℕ} → o ≡ Some n → test n ≡ true → passing test o ≡ Some n
+pub passing_read : {A : Type 0} (test : A → Bool) (o : Option A) {n : A} → o ≡ Some n → test n ≡ true → passing test o ≡ Some n
 passing_read test o {n = n} e h = ap (λ o. passing test o) e ∙ ap (λ t. cond t (Some n) None) h
 
 both : {a b : Bool} → a ≡ true → b ≡ true → (a && b) ≡ true
 both p q = rw (p, q) refl
 
-all_three : (pes : ℕ) (rest : Bool) → (nat_le 1 pes && nat_le pes 64 && rest) ≡ true → (pes ≤ 64) × (rest ≡ true)
-all_three pes rest e = (grind (arith, nat_tests), grind (arith, nat_tests))
+-- what a heading's ranges say of its parts
+record Ranges (h : Heading) : Type 0 where
+  version : is_version h.version ≡ true
+  pes : h.pes ≤ 128
+  cnp : (may_share h.version || not h.cnp) ≡ true
+  world : world_ok h.world ≡ true
+
+pes_most : (few : Bool) (pes : ℕ) → (nat_le 1 pes && nat_le pes (cond few 64 128)) ≡ true → pes ≤ 128
+pes_most true pes e = let most = leb-true pes 64 (and_parts (nat_le 1 pes) (nat_le pes 64) e).1 in omega (arith, most)
+pes_most false pes e = leb-true pes 128 (and_parts (nat_le 1 pes) (nat_le pes 128) e).1
+
+ranges : (h : Heading) → heading_ok h ≡ true → Ranges h
+ranges h ok =
+    let front = and_parts (is_version h.version && are_pes h.version h.pes && (may_share h.version || not h.cnp)) (world_ok h.world) ok in
+    let some = and_parts (is_version h.version && are_pes h.version h.pes) (may_share h.version || not h.cnp) front.0 in
+    let both = and_parts (is_version h.version) (are_pes h.version h.pes) some.0 in
+    record { version = both.0; pes = pes_most (nat_lt h.version 3) h.pes both.1; cnp = some.1; world = front.1 }
 
 -- The numbers of an item that fits are below 2 ^ 64.
 
 pe_below : (h : Heading) (pe : ℕ) → heading_ok h ≡ true → is_pe h pe ≡ true → pe < 2 ^ 64
 pe_below h pe ok fits =
-    let few = all_three h.pes (world_ok h.world) ok in
+    let few = (ranges h ok).pes in
     let less = ltb-true pe h.pes fits in
-    omega (arith, few.0, less)
+    omega (arith, few, less)
 
 aligned_below : (n : ℕ) (aligned : Bool) → (nat_lt n (2 ^ 48) && aligned) ≡ true → n < 2 ^ 64
 aligned_below n aligned e = let below = ltb-true n (2 ^ 48) (and_parts (nat_lt n (2 ^ 48)) aligned e).0 in omega (arith, below)
 
 -- The fields of event lines.
 
-pe_read : (h : Heading) (pe : ℕ) (rest : Fields) → heading_ok h ≡ true → is_pe h pe ≡ true → pe_field h (decimal pe ∷ rest) ≡ Ok (pe, rest)
+pub pe_read : (h : Heading) (pe : ℕ) (rest : Fields) → heading_ok h ≡ true → is_pe h pe ≡ true → pe_field h (decimal pe ∷ rest) ≡ Ok (pe, rest)
 pe_read h pe rest ok fits =
     field_read MissingField BadPe (λ text. passing (is_pe h) (decimal_value text)) (decimal pe) rest
     (passing_read (is_pe h) (decimal_value (decimal pe)) (decimal_read pe (pe_below h pe ok fits)) fits)
@@ -71,15 +89,15 @@ address_read test n rest below fits =
 page_read : (n : ℕ) (rest : Fields) → is_page n ≡ true → page_field (hex n ∷ rest) ≡ Ok (n, rest)
 page_read n rest fits = address_read is_page n rest (aligned_below n (n % 4096 == 0) fits) fits
 
-place_read : (n : ℕ) (rest : Fields) → is_place n ≡ true → place_field (hex n ∷ rest) ≡ Ok (n, rest)
+pub place_read : (n : ℕ) (rest : Fields) → is_place n ≡ true → place_field (hex n ∷ rest) ≡ Ok (n, rest)
 place_read n rest fits = address_read is_place n rest (aligned_below n (n % 8 == 0) fits) fits
 
 root_page_read : (h : Heading) (kind : Kind) (n : ℕ) (rest : Fields) → is_root_page h.world kind n ≡ true → root_page_field h kind (hex n ∷ rest) ≡ Ok (n, rest)
 root_page_read h kind n rest fits =
-    let page = and_parts (is_page n) (n % (4096 * root_pages h.world kind) == 0) fits in
+    let page = and_parts (is_page n) (n % (4096 * page_count h.world kind) == 0) fits in
     address_read (is_root_page h.world kind) n rest (aligned_below n (n % 4096 == 0) page.0) fits
 
-value_read : (n : ℕ) (rest : Fields) → is_value n ≡ true → value_field (hex n ∷ rest) ≡ Ok (n, rest)
+pub value_read : (n : ℕ) (rest : Fields) → is_value n ≡ true → value_field (hex n ∷ rest) ≡ Ok (n, rest)
 value_read n rest fits = field_read MissingField BadNumber hex_value (hex n) rest (hex_read n (ltb-true n (2 ^ 64) fits))
 
 lock_below : (n : ℕ) → is_lock n ≡ true → n < 2 ^ 64
@@ -119,152 +137,194 @@ root_lock_read (Some n) rest fits =
     (ap (λ t. cond t (Some None) (option_map Some (lock_value (decimal n)))) (dash_unread (decimal n) (decimal_read n (lock_below n fits)))
     ∙ ap (λ o. option_map Some o) (lock_value_read n fits))
 
-kind_read : (kind : Kind) (rest : Fields) → kind_field (kind_word kind ∷ rest) ≡ Ok (kind, rest)
-kind_read kind rest = field_read MissingField UnknownWord (value_of kind_word kinds) (kind_word kind) rest (kind_word_read kind)
+pub kind_read : (kind : Kind) (rest : Fields) → kind_field (kind_word kind ∷ rest) ≡ Ok (kind, rest)
+kind_read kind rest = field_read MissingField UnknownWord (with_word kind_word kinds) (kind_word kind) rest (kind_word_read kind)
 
 dsb_read : (dsb : Dsb) (rest : Fields) → dsb_field (dsb_word dsb ∷ rest) ≡ Ok (dsb, rest)
-dsb_read dsb rest = field_read MissingField UnknownWord (value_of dsb_word dsbs) (dsb_word dsb) rest (dsb_word_read dsb)
+dsb_read dsb rest = field_read MissingField UnknownWord (with_word dsb_word dsbs) (dsb_word dsb) rest (dsb_word_read dsb)
 
-op_read : (op : TlbiOp) (rest : Fields) → op_field (op_word op ∷ rest) ≡ Ok (op, rest)
-op_read op rest = field_read MissingField UnknownWord (value_of op_word ops) (op_word op) rest (op_word_read op)
+op_read : (version : ℕ) (op : TlbiOp) (rest : Fields) → has_op version op ≡ true → op_field version (op_word op ∷ rest) ≡ Ok (op, rest)
+op_read version op rest fits =
+    field_read MissingField UnknownWord (λ text. passing (has_op version) (with_word op_word ops text)) (op_word op) rest
+    (passing_read (has_op version) (with_word op_word ops (op_word op)) (op_word_read op) fits)
 
 reg_read : (reg : Reg) (rest : Fields) → reg_field (reg_word reg ∷ rest) ≡ Ok (reg, rest)
-reg_read reg rest = field_read MissingField UnknownWord (value_of reg_word regs) (reg_word reg) rest (reg_word_read reg)
+reg_read reg rest = field_read MissingField UnknownWord (with_word reg_word regs) (reg_word reg) rest (reg_word_read reg)
 
 -- an operand is written exactly where it is read
-operand_read : (op : TlbiOp) (xt : ℕ) → is_operand op xt ≡ true → operand_field op (operand_fields op xt) ≡ Ok (xt, [])
-operand_read op xt fits = by (has_operand op) fits
+operand_read : (op : TlbiOp) (xt : ℕ) (after : Fields) → is_operand op xt ≡ true → operand_field op (operand_fields op xt ++ after) ≡ Ok (xt, after)
+operand_read op xt after fits = by (has_operand op) fits
   where
-    by : (has : Bool) → (is_value xt && (has || xt == 0)) ≡ true → cond has (value_field (cond has (hex xt ∷ []) [])) (Ok (0, cond has (hex xt ∷ []) [])) ≡ Ok (xt, [])
-    by true f = value_read xt [] (and_parts (is_value xt) true f).0
-    by false f = let zero_is : xt ≡ 0 = eqb-true xt 0 (and_parts (is_value xt) (xt == 0) f).1 in ap (λ n. Ok (n, [])) (sym zero_is)
+    by : (has : Bool) → (is_value xt && (has || xt == 0)) ≡ true → cond has (value_field (cond has (hex xt ∷ []) [] ++ after)) (Ok (0, cond has (hex xt ∷ []) [] ++ after)) ≡ Ok (xt, after)
+    by true f = value_read xt after (and_parts (is_value xt) true f).0
+    by false f = let zero_is : xt ≡ 0 = eqb-true xt 0 (and_parts (is_value xt) (xt == 0) f).1 in ap (λ n. Ok (n, after)) (sym zero_is)
+
+label_read : (version : ℕ) (label : Option (List ℕ)) → label_fits version label ≡ true → label_field version (label_fields label) ≡ Ok (label, [])
+label_read version None fits = refl
+label_read version (Some text) fits =
+    let parts = and_parts (may_label version) (is_label text) fits in
+    ap (λ t. cond (t && true) (found BadLabel (option_map Some (label_value (64 ∷ text))) []) (Ok (None, (64 ∷ text) ∷ []))) parts.0
+    ∙ ap (λ t. found BadLabel (option_map Some (cond t (Some text) None)) []) parts.1
+
+item_read : (h : Heading) (event : Event) (label : Option (List ℕ)) → label_fits h.version label ≡ true → event_item h event (label_fields label) ≡ Ok (item.Event event label)
+item_read h event label fits = on (label_field h.version (label_fields label)) _ (label_read h.version label fits)
 
 -- The shapes of event lines.
 
-pe_alone_read : (h : Heading) (event : ℕ → Event) (pe : ℕ) → heading_ok h ≡ true → is_pe h pe ≡ true → pe_alone h event (decimal pe ∷ []) ≡ Ok (item.Event (event pe))
-pe_alone_read h event pe ok fits = on (pe_field h (decimal pe ∷ [])) _ (pe_read h pe [] ok fits)
+pe_alone_read : (h : Heading) (event : ℕ → Event) (pe : ℕ) (label : Option (List ℕ)) → heading_ok h ≡ true → is_pe h pe ≡ true → label_fits h.version label ≡ true
+    → pe_alone h event (decimal pe ∷ label_fields label) ≡ Ok (item.Event (event pe) label)
+pe_alone_read h event pe label ok fits labelled =
+    on (pe_field h (decimal pe ∷ label_fields label)) _ (pe_read h pe (label_fields label) ok fits)
+    ∙ item_read h (event pe) label labelled
 
-pe_and_read : {A : Type 0} (h : Heading) (second : Fields → Reading A) (event : ℕ → A → Event) (pe : ℕ) (x : A) (text : List ℕ)
-    → heading_ok h ≡ true → is_pe h pe ≡ true → second (text ∷ []) ≡ Ok (x, []) → pe_and h second event (decimal pe ∷ text ∷ []) ≡ Ok (item.Event (event pe x))
-pe_and_read h second event pe x text ok fits e =
-    on (pe_field h (decimal pe ∷ text ∷ [])) _ (pe_read h pe (text ∷ []) ok fits)
-    ∙ on (second (text ∷ [])) _ e
+pe_and_read : {A : Type 0} (h : Heading) (second : Fields → FieldRead A) (event : ℕ → A → Event) (pe : ℕ) (x : A) (text : List ℕ) (label : Option (List ℕ))
+    → heading_ok h ≡ true → is_pe h pe ≡ true → second (text ∷ label_fields label) ≡ Ok (x, label_fields label) → label_fits h.version label ≡ true
+    → pe_and h second event (decimal pe ∷ text ∷ label_fields label) ≡ Ok (item.Event (event pe x) label)
+pe_and_read h second event pe x text label ok fits e labelled =
+    on (pe_field h (decimal pe ∷ text ∷ label_fields label)) _ (pe_read h pe (text ∷ label_fields label) ok fits)
+    ∙ on (second (text ∷ label_fields label)) _ e
+    ∙ item_read h (event pe x) label labelled
 
-pe_and_two_read : {A B : Type 0} (h : Heading) (second : Fields → Reading A) (third : Fields → Reading B) (event : ℕ → A → B → Event) (pe : ℕ) (x : A) (y : B) (text more : List ℕ)
-    → heading_ok h ≡ true → is_pe h pe ≡ true → second (text ∷ more ∷ []) ≡ Ok (x, more ∷ []) → third (more ∷ []) ≡ Ok (y, [])
-    → pe_and_two h second third event (decimal pe ∷ text ∷ more ∷ []) ≡ Ok (item.Event (event pe x y))
-pe_and_two_read h second third event pe x y text more ok fits e f =
-    on (pe_field h (decimal pe ∷ text ∷ more ∷ [])) _ (pe_read h pe (text ∷ more ∷ []) ok fits)
-    ∙ on (second (text ∷ more ∷ [])) _ e
-    ∙ on (third (more ∷ [])) _ f
+pe_and_two_read : {A B : Type 0} (h : Heading) (second : Fields → FieldRead A) (third : Fields → FieldRead B) (event : ℕ → A → B → Event) (pe : ℕ) (x : A) (y : B) (text more : List ℕ) (label : Option (List ℕ))
+    → heading_ok h ≡ true → is_pe h pe ≡ true
+    → second (text ∷ more ∷ label_fields label) ≡ Ok (x, more ∷ label_fields label) → third (more ∷ label_fields label) ≡ Ok (y, label_fields label) → label_fits h.version label ≡ true
+    → pe_and_two h second third event (decimal pe ∷ text ∷ more ∷ label_fields label) ≡ Ok (item.Event (event pe x y) label)
+pe_and_two_read h second third event pe x y text more label ok fits e f labelled =
+    on (pe_field h (decimal pe ∷ text ∷ more ∷ label_fields label)) _ (pe_read h pe (text ∷ more ∷ label_fields label) ok fits)
+    ∙ on (second (text ∷ more ∷ label_fields label)) _ e
+    ∙ on (third (more ∷ label_fields label)) _ f
+    ∙ item_read h (event pe x y) label labelled
 
-root_read : (h : Heading) (pe : ℕ) (kind : Kind) (lock : Option ℕ) (page : ℕ) → heading_ok h ≡ true → fits_heading h (event.Root pe kind lock page) ≡ true
-    → root_line h (decimal pe ∷ kind_word kind ∷ lock_text lock ∷ hex page ∷ []) ≡ Ok (item.Event (event.Root pe kind lock page))
-root_read h pe kind lock page ok fits =
+root_read : (h : Heading) (pe : ℕ) (kind : Kind) (lock : Option ℕ) (page : ℕ) (label : Option (List ℕ)) → heading_ok h ≡ true → fits_heading h (event.Root pe kind lock page) ≡ true → label_fits h.version label ≡ true
+    → root_line h (decimal pe ∷ kind_word kind ∷ lock_text lock ∷ hex page ∷ label_fields label) ≡ Ok (item.Event (event.Root pe kind lock page) label)
+root_read h pe kind lock page label ok fits labelled =
+    let after = label_fields label in
     let first = and_parts (is_pe h pe && is_root_lock lock) (is_root_page h.world kind page) fits in
     let pe_lock = and_parts (is_pe h pe) (is_root_lock lock) first.0 in
-    on (pe_field h (decimal pe ∷ kind_word kind ∷ lock_text lock ∷ hex page ∷ [])) _ (pe_read h pe (kind_word kind ∷ lock_text lock ∷ hex page ∷ []) ok pe_lock.0)
-    ∙ on (kind_field (kind_word kind ∷ lock_text lock ∷ hex page ∷ [])) _ (kind_read kind (lock_text lock ∷ hex page ∷ []))
-    ∙ on (root_lock_field (lock_text lock ∷ hex page ∷ [])) _ (root_lock_read lock (hex page ∷ []) pe_lock.1)
-    ∙ on (root_page_field h kind (hex page ∷ [])) _ (root_page_read h kind page [] first.1)
+    on (pe_field h (decimal pe ∷ kind_word kind ∷ lock_text lock ∷ hex page ∷ after)) _ (pe_read h pe (kind_word kind ∷ lock_text lock ∷ hex page ∷ after) ok pe_lock.0)
+    ∙ on (kind_field (kind_word kind ∷ lock_text lock ∷ hex page ∷ after)) _ (kind_read kind (lock_text lock ∷ hex page ∷ after))
+    ∙ on (root_lock_field (lock_text lock ∷ hex page ∷ after)) _ (root_lock_read lock (hex page ∷ after) pe_lock.1)
+    ∙ on (root_page_field h kind (hex page ∷ after)) _ (root_page_read h kind page after first.1)
+    ∙ item_read h (event.Root pe kind lock page) label labelled
 
-tlbi_read : (h : Heading) (pe : ℕ) (op : TlbiOp) (xt : ℕ) → heading_ok h ≡ true → fits_heading h (event.Tlbi pe op xt) ≡ true
-    → tlbi_line h (decimal pe ∷ op_word op ∷ operand_fields op xt) ≡ Ok (item.Event (event.Tlbi pe op xt))
-tlbi_read h pe op xt ok fits =
-    let parts = and_parts (is_pe h pe) (is_operand op xt) fits in
-    on (pe_field h (decimal pe ∷ op_word op ∷ operand_fields op xt)) _ (pe_read h pe (op_word op ∷ operand_fields op xt) ok parts.0)
-    ∙ on (op_field (op_word op ∷ operand_fields op xt)) _ (op_read op (operand_fields op xt))
-    ∙ on (operand_field op (operand_fields op xt)) _ (operand_read op xt parts.1)
+tlbi_read : (h : Heading) (pe : ℕ) (op : TlbiOp) (xt : ℕ) (label : Option (List ℕ)) → heading_ok h ≡ true → fits_heading h (event.Tlbi pe op xt) ≡ true → label_fits h.version label ≡ true
+    → tlbi_line h (decimal pe ∷ op_word op ∷ (operand_fields op xt ++ label_fields label)) ≡ Ok (item.Event (event.Tlbi pe op xt) label)
+tlbi_read h pe op xt label ok fits labelled =
+    let left = operand_fields op xt ++ label_fields label in
+    let parts = and_parts (is_pe h pe && has_op h.version op) (is_operand op xt) fits in
+    let front = and_parts (is_pe h pe) (has_op h.version op) parts.0 in
+    on (pe_field h (decimal pe ∷ op_word op ∷ left)) _ (pe_read h pe (op_word op ∷ left) ok front.0)
+    ∙ on (op_field h.version (op_word op ∷ left)) _ (op_read h.version op left front.1)
+    ∙ on (operand_field op left) _ (operand_read op xt (label_fields label) parts.1)
+    ∙ item_read h (event.Tlbi pe op xt) label labelled
 
 -- the fields of a line, read
 abbrev read_fields : Heading → Fields → Result Item Malformed
-read_fields h all = line_field UnknownWord (value_of keyword_word keywords) all >>= (λ word. line_after h word.0 word.1)
+read_fields h all = line_field UnknownWord (with_word keyword_word keywords) all >>= (λ word. line_after h word.0 word.1)
 
-event_read : (h : Heading) (event : Event) → heading_ok h ≡ true → fits_heading h event ≡ true → read_fields h (event_fields event) ≡ Ok (item.Event event)
-event_read h (event.Init pe page) ok fits = let parts = and_parts (is_pe h pe) (is_page page) fits in pe_and_read h page_field event.Init pe page (hex page) ok parts.0 (page_read page [] parts.1)
-event_read h (event.Null pe page) ok fits = let parts = and_parts (is_pe h pe) (is_page page) fits in pe_and_read h page_field event.Null pe page (hex page) ok parts.0 (page_read page [] parts.1)
-event_read h (event.Root pe kind lock page) ok fits = root_read h pe kind lock page ok fits
-event_read h (event.Unroot pe page) ok fits = let parts = and_parts (is_pe h pe) (is_page page) fits in pe_and_read h page_field event.Unroot pe page (hex page) ok parts.0 (page_read page [] parts.1)
-event_read h (event.Write pe place value) ok fits =
+event_read : (h : Heading) (event : Event) (label : Option (List ℕ)) → heading_ok h ≡ true → fits_heading h event ≡ true → label_fits h.version label ≡ true
+    → read_fields h (event_fields event ++ label_fields label) ≡ Ok (item.Event event label)
+event_read h (event.Init pe page) label ok fits labelled = let parts = and_parts (is_pe h pe) (is_page page) fits in pe_and_read h page_field event.Init pe page (hex page) label ok parts.0 (page_read page (label_fields label) parts.1) labelled
+event_read h (event.Null pe page) label ok fits labelled = let parts = and_parts (is_pe h pe) (is_page page) fits in pe_and_read h page_field event.Null pe page (hex page) label ok parts.0 (page_read page (label_fields label) parts.1) labelled
+event_read h (event.Root pe kind lock page) label ok fits labelled = root_read h pe kind lock page label ok fits labelled
+event_read h (event.Unroot pe page) label ok fits labelled = let parts = and_parts (is_pe h pe) (is_page page) fits in pe_and_read h page_field event.Unroot pe page (hex page) label ok parts.0 (page_read page (label_fields label) parts.1) labelled
+event_read h (event.Write pe place value) label ok fits labelled =
     let parts = and_parts (is_pe h pe && is_place place) (is_value value) fits in
     let front = and_parts (is_pe h pe) (is_place place) parts.0 in
-    pe_and_two_read h place_field value_field event.Write pe place value (hex place) (hex value) ok front.0 (place_read place (hex value ∷ []) front.1) (value_read value [] parts.1)
-event_read h (event.Dsb pe dsb) ok fits = pe_and_read h dsb_field event.Dsb pe dsb (dsb_word dsb) ok fits (dsb_read dsb [])
-event_read h (event.Dmb pe dsb) ok fits = pe_and_read h dsb_field event.Dmb pe dsb (dsb_word dsb) ok fits (dsb_read dsb [])
-event_read h (event.Isb pe) ok fits = pe_alone_read h event.Isb pe ok fits
-event_read h (event.Tlbi pe op xt) ok fits = tlbi_read h pe op xt ok fits
-event_read h (event.Msr pe reg value) ok fits =
+    pe_and_two_read h place_field value_field event.Write pe place value (hex place) (hex value) label ok front.0 (place_read place (hex value ∷ label_fields label) front.1) (value_read value (label_fields label) parts.1) labelled
+event_read h (event.Dsb pe dsb) label ok fits labelled = pe_and_read h dsb_field event.Dsb pe dsb (dsb_word dsb) label ok fits (dsb_read dsb (label_fields label)) labelled
+event_read h (event.Dmb pe dsb) label ok fits labelled = pe_and_read h dsb_field event.Dmb pe dsb (dsb_word dsb) label ok fits (dsb_read dsb (label_fields label)) labelled
+event_read h (event.Isb pe) label ok fits labelled = pe_alone_read h event.Isb pe label ok fits labelled
+event_read h (event.Tlbi pe op xt) label ok fits labelled = tlbi_read h pe op xt label ok fits labelled
+event_read h (event.Msr pe reg value) label ok fits labelled =
     let parts = and_parts (is_pe h pe) (is_value value) fits in
-    pe_and_two_read h reg_field value_field event.Msr pe reg value (reg_word reg) (hex value) ok parts.0 (reg_read reg (hex value ∷ [])) (value_read value [] parts.1)
-event_read h (event.Lock pe lock) ok fits = let parts = and_parts (is_pe h pe) (is_lock lock) fits in pe_and_read h lock_field event.Lock pe lock (decimal lock) ok parts.0 (lock_read lock [] parts.1)
-event_read h (event.Unlock pe lock) ok fits = let parts = and_parts (is_pe h pe) (is_lock lock) fits in pe_and_read h lock_field event.Unlock pe lock (decimal lock) ok parts.0 (lock_read lock [] parts.1)
+    pe_and_two_read h reg_field value_field event.Msr pe reg value (reg_word reg) (hex value) label ok parts.0 (reg_read reg (hex value ∷ label_fields label)) (value_read value (label_fields label) parts.1) labelled
+event_read h (event.Lock pe lock) label ok fits labelled = let parts = and_parts (is_pe h pe) (is_lock lock) fits in pe_and_read h lock_field event.Lock pe lock (decimal lock) label ok parts.0 (lock_read lock (label_fields label) parts.1) labelled
+event_read h (event.Unlock pe lock) label ok fits labelled = let parts = and_parts (is_pe h pe) (is_lock lock) fits in pe_and_read h lock_field event.Unlock pe lock (decimal lock) label ok parts.0 (lock_read lock (label_fields label) parts.1) labelled
 
 -- No field of a line holds a space.
 
-one_more : (piece : List ℕ) (pieces : List (List ℕ)) → no_space piece ≡ true → no_spaces pieces ≡ true → no_spaces (piece ∷ pieces) ≡ true
+pub one_more : (piece : List ℕ) (pieces : List (List ℕ)) → no_space piece ≡ true → no_spaces pieces ≡ true → no_spaces (piece ∷ pieces) ≡ true
 one_more piece pieces p q = both p q
 
-dec : (n : ℕ) (pieces : List (List ℕ)) → no_spaces pieces ≡ true → no_spaces (decimal n ∷ pieces) ≡ true
+pub dec : (n : ℕ) (pieces : List (List ℕ)) → no_spaces pieces ≡ true → no_spaces (decimal n ∷ pieces) ≡ true
 dec n pieces h = one_more (decimal n) pieces (digits_no_space 10 n) h
 
-hexa : (n : ℕ) (pieces : List (List ℕ)) → no_spaces pieces ≡ true → no_spaces (hex n ∷ pieces) ≡ true
+pub hexa : (n : ℕ) (pieces : List (List ℕ)) → no_spaces pieces ≡ true → no_spaces (hex n ∷ pieces) ≡ true
 hexa n pieces h = one_more (hex n) pieces (digits_no_space 16 n) h
 
 lock_no_space : (lock : Option ℕ) → no_space (lock_text lock) ≡ true
 lock_no_space None = refl
 lock_no_space (Some n) = digits_no_space 10 n
 
-operand_no_spaces : (op : TlbiOp) (xt : ℕ) → no_spaces (operand_fields op xt) ≡ true
-operand_no_spaces op xt = by (has_operand op)
+operand_no_spaces : (op : TlbiOp) (xt : ℕ) (after : Fields) → no_spaces after ≡ true → no_spaces (operand_fields op xt ++ after) ≡ true
+operand_no_spaces op xt after clean = by (has_operand op)
   where
-    by : (has : Bool) → no_spaces (cond has (hex xt ∷ []) []) ≡ true
-    by true = hexa xt [] refl
-    by false = refl
+    by : (has : Bool) → no_spaces (cond has (hex xt ∷ []) [] ++ after) ≡ true
+    by true = hexa xt after clean
+    by false = clean
 
-event_no_spaces : (event : Event) → no_spaces (event_fields event) ≡ true
-event_no_spaces (event.Init pe page) = dec pe (hex page ∷ []) (hexa page [] refl)
-event_no_spaces (event.Null pe page) = dec pe (hex page ∷ []) (hexa page [] refl)
-event_no_spaces (event.Root pe kind lock page) =
-    dec pe (kind_word kind ∷ lock_text lock ∷ hex page ∷ [])
-    (one_more (kind_word kind) (lock_text lock ∷ hex page ∷ []) (kind_word_no_space kind)
-    (one_more (lock_text lock) (hex page ∷ []) (lock_no_space lock) (hexa page [] refl)))
-event_no_spaces (event.Unroot pe page) = dec pe (hex page ∷ []) (hexa page [] refl)
-event_no_spaces (event.Write pe place value) = dec pe (hex place ∷ hex value ∷ []) (hexa place (hex value ∷ []) (hexa value [] refl))
-event_no_spaces (event.Dsb pe dsb) = dec pe (dsb_word dsb ∷ []) (one_more (dsb_word dsb) [] (dsb_word_no_space dsb) refl)
-event_no_spaces (event.Dmb pe dsb) = dec pe (dsb_word dsb ∷ []) (one_more (dsb_word dsb) [] (dsb_word_no_space dsb) refl)
-event_no_spaces (event.Isb pe) = dec pe [] refl
-event_no_spaces (event.Tlbi pe op xt) =
-    dec pe (op_word op ∷ operand_fields op xt)
-    (one_more (op_word op) (operand_fields op xt) (op_word_no_space op) (operand_no_spaces op xt))
-event_no_spaces (event.Msr pe reg value) = dec pe (reg_word reg ∷ hex value ∷ []) (one_more (reg_word reg) (hex value ∷ []) (reg_word_no_space reg) (hexa value [] refl))
-event_no_spaces (event.Lock pe lock) = dec pe (decimal lock ∷ []) (dec lock [] refl)
-event_no_spaces (event.Unlock pe lock) = dec pe (decimal lock ∷ []) (dec lock [] refl)
+event_no_spaces : (event : Event) (after : Fields) → no_spaces after ≡ true → no_spaces (event_fields event ++ after) ≡ true
+event_no_spaces (event.Init pe page) after clean = dec pe (hex page ∷ after) (hexa page after clean)
+event_no_spaces (event.Null pe page) after clean = dec pe (hex page ∷ after) (hexa page after clean)
+event_no_spaces (event.Root pe kind lock page) after clean =
+    dec pe (kind_word kind ∷ lock_text lock ∷ hex page ∷ after)
+    (one_more (kind_word kind) (lock_text lock ∷ hex page ∷ after) (kind_word_no_space kind)
+    (one_more (lock_text lock) (hex page ∷ after) (lock_no_space lock) (hexa page after clean)))
+event_no_spaces (event.Unroot pe page) after clean = dec pe (hex page ∷ after) (hexa page after clean)
+event_no_spaces (event.Write pe place value) after clean = dec pe (hex place ∷ hex value ∷ after) (hexa place (hex value ∷ after) (hexa value after clean))
+event_no_spaces (event.Dsb pe dsb) after clean = dec pe (dsb_word dsb ∷ after) (one_more (dsb_word dsb) after (dsb_word_no_space dsb) clean)
+event_no_spaces (event.Dmb pe dsb) after clean = dec pe (dsb_word dsb ∷ after) (one_more (dsb_word dsb) after (dsb_word_no_space dsb) clean)
+event_no_spaces (event.Isb pe) after clean = dec pe after clean
+event_no_spaces (event.Tlbi pe op xt) after clean =
+    dec pe (op_word op ∷ (operand_fields op xt ++ after))
+    (one_more (op_word op) (operand_fields op xt ++ after) (op_word_no_space op) (operand_no_spaces op xt after clean))
+event_no_spaces (event.Msr pe reg value) after clean = dec pe (reg_word reg ∷ hex value ∷ after) (one_more (reg_word reg) (hex value ∷ after) (reg_word_no_space reg) (hexa value after clean))
+event_no_spaces (event.Lock pe lock) after clean = dec pe (decimal lock ∷ after) (dec lock after clean)
+event_no_spaces (event.Unlock pe lock) after clean = dec pe (decimal lock ∷ after) (dec lock after clean)
 
-event_fields_again : (event : Event) → fields (joined (event_fields event)) ≡ event_fields event
-event_fields_again (event.Init pe page) = fields_joined (codes "init") (decimal pe ∷ hex page ∷ []) (event_no_spaces (event.Init pe page))
-event_fields_again (event.Null pe page) = fields_joined (codes "null") (decimal pe ∷ hex page ∷ []) (event_no_spaces (event.Null pe page))
-event_fields_again (event.Root pe kind lock page) = fields_joined (codes "root") (decimal pe ∷ kind_word kind ∷ lock_text lock ∷ hex page ∷ []) (event_no_spaces (event.Root pe kind lock page))
-event_fields_again (event.Unroot pe page) = fields_joined (codes "unroot") (decimal pe ∷ hex page ∷ []) (event_no_spaces (event.Unroot pe page))
-event_fields_again (event.Write pe place value) = fields_joined (codes "w") (decimal pe ∷ hex place ∷ hex value ∷ []) (event_no_spaces (event.Write pe place value))
-event_fields_again (event.Dsb pe dsb) = fields_joined (codes "dsb") (decimal pe ∷ dsb_word dsb ∷ []) (event_no_spaces (event.Dsb pe dsb))
-event_fields_again (event.Dmb pe dsb) = fields_joined (codes "dmb") (decimal pe ∷ dsb_word dsb ∷ []) (event_no_spaces (event.Dmb pe dsb))
-event_fields_again (event.Isb pe) = fields_joined (codes "isb") (decimal pe ∷ []) (event_no_spaces (event.Isb pe))
-event_fields_again (event.Tlbi pe op xt) = fields_joined (codes "tlbi") (decimal pe ∷ op_word op ∷ operand_fields op xt) (event_no_spaces (event.Tlbi pe op xt))
-event_fields_again (event.Msr pe reg value) = fields_joined (codes "msr") (decimal pe ∷ reg_word reg ∷ hex value ∷ []) (event_no_spaces (event.Msr pe reg value))
-event_fields_again (event.Lock pe lock) = fields_joined (codes "lock") (decimal pe ∷ decimal lock ∷ []) (event_no_spaces (event.Lock pe lock))
-event_fields_again (event.Unlock pe lock) = fields_joined (codes "unlock") (decimal pe ∷ decimal lock ∷ []) (event_no_spaces (event.Unlock pe lock))
+label_no_spaces : (version : ℕ) (label : Option (List ℕ)) → label_fits version label ≡ true → no_spaces (label_fields label) ≡ true
+label_no_spaces version None fits = refl
+label_no_spaces version (Some text) fits = one_more (64 ∷ text) [] (label_no_space text (and_parts (may_label version) (is_label text) fits).1) refl
 
-item_fields_again : (x : Item) → fields (joined (item_fields x)) ≡ item_fields x
-item_fields_again (item.Event event) = event_fields_again event
-item_fields_again (item.End count) = fields_joined (codes "end") (decimal count ∷ []) (dec count [] refl)
+-- an event's line has a first word
+pub event_fields_some : (event : Event) → (word : List ℕ) × (rest : Fields) × (event_fields event ≡ word ∷ rest)
+event_fields_some (event.Init pe page) = (_, _, refl)
+event_fields_some (event.Null pe page) = (_, _, refl)
+event_fields_some (event.Root pe kind lock page) = (_, _, refl)
+event_fields_some (event.Unroot pe page) = (_, _, refl)
+event_fields_some (event.Write pe place value) = (_, _, refl)
+event_fields_some (event.Dsb pe dsb) = (_, _, refl)
+event_fields_some (event.Dmb pe dsb) = (_, _, refl)
+event_fields_some (event.Isb pe) = (_, _, refl)
+event_fields_some (event.Tlbi pe op xt) = (_, _, refl)
+event_fields_some (event.Msr pe reg value) = (_, _, refl)
+event_fields_some (event.Lock pe lock) = (_, _, refl)
+event_fields_some (event.Unlock pe lock) = (_, _, refl)
+
+again : (word : List ℕ) (rest all : Fields) → all ≡ word ∷ rest → no_spaces all ≡ true → fields (joined all) ≡ all
+again word rest all is clean =
+    ap (λ (fs : Fields). fields (joined fs)) is
+    ∙ fields_joined word rest (sym (ap no_spaces is) ∙ clean)
+    ∙ sym is
+
+item_fields_again : (h : Heading) (x : Item) → item_fits h x ≡ true → fields (joined (item_fields x)) ≡ item_fields x
+item_fields_again h (item.Event event label) fits =
+    let labelled = (and_parts (fits_heading h event) (label_fits h.version label) fits).1 in
+    let some = event_fields_some event in
+    again some.0 (some.1 ++ label_fields label) (event_fields event ++ label_fields label) (ap (λ (fs : Fields). fs ++ label_fields label) some.2)
+    (event_no_spaces event (label_fields label) (label_no_spaces h.version label labelled))
+item_fields_again h (item.End count) fits = fields_joined (codes "end") (decimal count ∷ []) (dec count [] refl)
 
 item_fields_read : (h : Heading) (x : Item) → heading_ok h ≡ true → item_fits h x ≡ true → read_fields h (item_fields x) ≡ Ok x
-item_fields_read h (item.Event event) ok fits = event_read h event ok fits
+item_fields_read h (item.Event event label) ok fits =
+    let parts = and_parts (fits_heading h event) (label_fits h.version label) fits in
+    event_read h event label ok parts.0 parts.1
 item_fields_read h (item.End count) ok fits = on (count_field (decimal count ∷ [])) _ (count_read count [] fits)
 
 pub item_written_is_read : (h : Heading) (x : Item) → heading_ok h ≡ true → item_fits h x ≡ true → item_of h (item_line x) ≡ Ok x
 unfolding item_of item_line
-item_written_is_read h x ok fits = ap (λ (all : Fields). read_fields h all) (item_fields_again x) ∙ item_fields_read h x ok fits
+item_written_is_read h x ok fits = ap (λ (all : Fields). read_fields h all) (item_fields_again h x fits) ∙ item_fields_read h x ok fits
 
 -- The header.
 
@@ -280,46 +340,75 @@ number_read n rest below = field_read BadHeader BadHeader decimal_value (decimal
 in_range : (h : Heading) → heading_ok h ≡ true → checked h [] ≡ Ok h
 in_range h ok = ap (λ t. cond t (Ok h) (Err BadHeader)) ok
 
-pes_below : (pes : ℕ) (world : World) → heading_ok (record { pes = pes; world = world }) ≡ true → (pes < 2 ^ 64) × (world_ok world ≡ true)
-pes_below pes world ok = let few = all_three pes (world_ok world) ok in (omega (arith, few.0), few.1)
+-- version 1 writes no field of shared TLBs, and reads none
+cnp_read : (version : ℕ) (cnp : Bool) → (may_share version || not cnp) ≡ true → cnp_field version (cnp_fields version cnp) ≡ Ok (cnp, [])
+cnp_read version cnp fits = by (may_share version) cnp fits
+  where
+    by : (shares cnp : Bool) → (shares || not cnp) ≡ true → cond shares (header_field (with_word cnp_word cnps) (cond shares (cnp_word cnp ∷ []) [])) (Ok (false, cond shares (cnp_word cnp ∷ []) [])) ≡ Ok (cnp, [])
+    by true cnp f = field_read BadHeader BadHeader (with_word cnp_word cnps) (cnp_word cnp) [] (cnp_word_read cnp)
+    by false true f = cc
+    by false false f = refl
+
+version_read : (version : ℕ) (rest : Fields) → is_version version ≡ true → version_field (decimal version ∷ rest) ≡ Ok (version, rest)
+version_read version rest fits =
+    let low = leb-true version 4 (and_parts (nat_le 1 version) (nat_le version 4) fits).1 in
+    field_read NoMagic NoMagic (λ text. passing is_version (decimal_value text)) (decimal version) rest
+    (passing_read is_version (decimal_value (decimal version)) (decimal_read version (omega (arith, low))) fits)
 
 -- the fields of line 1, read
 abbrev read_header_fields : Fields → Result Heading Malformed
 read_header_fields all =
     magic_field (codes "bbmlog") all >>= (λ magic.
-    magic_field (codes "1") magic.1 >>= (λ version.
-    header_field Some version.1 >>= (λ world. world_fields world.0 world.1)))
+    version_field magic.1 >>= (λ version.
+    header_field Some version.1 >>= (λ world. world_fields version.0 world.0 world.1)))
 
-world_read : (pes : ℕ) (world : World) → heading_ok (record { pes = pes; world = world }) ≡ true
-    → read_header_fields (codes "bbmlog" ∷ codes "1" ∷ header_fields pes world) ≡ Ok (record { pes = pes; world = world })
-world_read pes (Hyp el2_start s2_start s2_pages) ok =
-    let some = pes_below pes (Hyp el2_start s2_start s2_pages) ok in
-    let small = hyp_below el2_start s2_start s2_pages some.1 in
-    on (header_field decimal_value (decimal pes ∷ decimal el2_start ∷ decimal s2_start ∷ decimal s2_pages ∷ [])) _ (number_read pes (decimal el2_start ∷ decimal s2_start ∷ decimal s2_pages ∷ []) some.0)
-    ∙ on (header_field decimal_value (decimal el2_start ∷ decimal s2_start ∷ decimal s2_pages ∷ [])) _ (number_read el2_start (decimal s2_start ∷ decimal s2_pages ∷ []) small.0)
-    ∙ on (header_field decimal_value (decimal s2_start ∷ decimal s2_pages ∷ [])) _ (number_read s2_start (decimal s2_pages ∷ []) small.1)
-    ∙ on (header_field decimal_value (decimal s2_pages ∷ [])) _ (number_read s2_pages [] small.2)
-    ∙ in_range (record { pes = pes; world = Hyp el2_start s2_start s2_pages }) ok
-world_read pes (Kernel start0 start1 asid_from) ok =
-    let some = pes_below pes (Kernel start0 start1 asid_from) ok in
-    let small = kernel_below start0 start1 asid_from some.1 in
-    on (header_field decimal_value (decimal pes ∷ decimal start0 ∷ decimal start1 ∷ asid_from_word asid_from ∷ [])) _ (number_read pes (decimal start0 ∷ decimal start1 ∷ asid_from_word asid_from ∷ []) some.0)
-    ∙ on (header_field decimal_value (decimal start0 ∷ decimal start1 ∷ asid_from_word asid_from ∷ [])) _ (number_read start0 (decimal start1 ∷ asid_from_word asid_from ∷ []) small.0)
-    ∙ on (header_field decimal_value (decimal start1 ∷ asid_from_word asid_from ∷ [])) _ (number_read start1 (asid_from_word asid_from ∷ []) small.1)
-    ∙ on (header_field (value_of asid_from_word asid_froms) (asid_from_word asid_from ∷ [])) _ (field_read BadHeader BadHeader (value_of asid_from_word asid_froms) (asid_from_word asid_from) [] (asid_from_word_read asid_from))
-    ∙ in_range (record { pes = pes; world = Kernel start0 start1 asid_from }) ok
+world_read : (version pes : ℕ) (cnp : Bool) (world : World) → heading_ok (record { version = version; pes = pes; cnp = cnp; world = world }) ≡ true
+    → read_header_fields (codes "bbmlog" ∷ decimal version ∷ header_fields pes world (cnp_fields version cnp)) ≡ Ok (record { version = version; pes = pes; cnp = cnp; world = world })
+world_read version pes cnp (Hyp el2_start s2_start s2_pages) ok =
+    let here = ranges (record { version = version; pes = pes; cnp = cnp; world = Hyp el2_start s2_start s2_pages }) ok in
+    let small = hyp_below el2_start s2_start s2_pages here.world in
+    let after = cnp_fields version cnp in
+    on (version_field (decimal version ∷ codes "hyp" ∷ decimal pes ∷ decimal el2_start ∷ decimal s2_start ∷ decimal s2_pages ∷ after)) _
+    (version_read version (codes "hyp" ∷ decimal pes ∷ decimal el2_start ∷ decimal s2_start ∷ decimal s2_pages ∷ after) here.version)
+    ∙ on (header_field decimal_value (decimal pes ∷ decimal el2_start ∷ decimal s2_start ∷ decimal s2_pages ∷ after)) _ (number_read pes (decimal el2_start ∷ decimal s2_start ∷ decimal s2_pages ∷ after) (omega (arith, here.pes)))
+    ∙ on (header_field decimal_value (decimal el2_start ∷ decimal s2_start ∷ decimal s2_pages ∷ after)) _ (number_read el2_start (decimal s2_start ∷ decimal s2_pages ∷ after) small.0)
+    ∙ on (header_field decimal_value (decimal s2_start ∷ decimal s2_pages ∷ after)) _ (number_read s2_start (decimal s2_pages ∷ after) small.1)
+    ∙ on (header_field decimal_value (decimal s2_pages ∷ after)) _ (number_read s2_pages after small.2)
+    ∙ on (cnp_field version after) _ (cnp_read version cnp here.cnp)
+    ∙ in_range (record { version = version; pes = pes; cnp = cnp; world = Hyp el2_start s2_start s2_pages }) ok
+world_read version pes cnp (Kernel start0 start1 asid_from) ok =
+    let here = ranges (record { version = version; pes = pes; cnp = cnp; world = Kernel start0 start1 asid_from }) ok in
+    let small = kernel_below start0 start1 asid_from here.world in
+    let after = cnp_fields version cnp in
+    on (version_field (decimal version ∷ codes "kernel" ∷ decimal pes ∷ decimal start0 ∷ decimal start1 ∷ asid_from_word asid_from ∷ after)) _
+    (version_read version (codes "kernel" ∷ decimal pes ∷ decimal start0 ∷ decimal start1 ∷ asid_from_word asid_from ∷ after) here.version)
+    ∙ on (header_field decimal_value (decimal pes ∷ decimal start0 ∷ decimal start1 ∷ asid_from_word asid_from ∷ after)) _ (number_read pes (decimal start0 ∷ decimal start1 ∷ asid_from_word asid_from ∷ after) (omega (arith, here.pes)))
+    ∙ on (header_field decimal_value (decimal start0 ∷ decimal start1 ∷ asid_from_word asid_from ∷ after)) _ (number_read start0 (decimal start1 ∷ asid_from_word asid_from ∷ after) small.0)
+    ∙ on (header_field decimal_value (decimal start1 ∷ asid_from_word asid_from ∷ after)) _ (number_read start1 (asid_from_word asid_from ∷ after) small.1)
+    ∙ on (header_field (with_word asid_from_word asid_froms) (asid_from_word asid_from ∷ after)) _ (field_read BadHeader BadHeader (with_word asid_from_word asid_froms) (asid_from_word asid_from) after (asid_from_word_read asid_from))
+    ∙ on (cnp_field version after) _ (cnp_read version cnp here.cnp)
+    ∙ in_range (record { version = version; pes = pes; cnp = cnp; world = Kernel start0 start1 asid_from }) ok
 
-header_no_spaces : (pes : ℕ) (world : World) → no_spaces (header_fields pes world) ≡ true
-header_no_spaces pes (Hyp el2_start s2_start s2_pages) =
-    dec pes (decimal el2_start ∷ decimal s2_start ∷ decimal s2_pages ∷ [])
-    (dec el2_start (decimal s2_start ∷ decimal s2_pages ∷ []) (dec s2_start (decimal s2_pages ∷ []) (dec s2_pages [] refl)))
-header_no_spaces pes (Kernel start0 start1 asid_from) =
-    dec pes (decimal start0 ∷ decimal start1 ∷ asid_from_word asid_from ∷ [])
-    (dec start0 (decimal start1 ∷ asid_from_word asid_from ∷ []) (dec start1 (asid_from_word asid_from ∷ [])
-    (one_more (asid_from_word asid_from) [] (asid_from_word_no_space asid_from) refl)))
+cnp_no_spaces : (version : ℕ) (cnp : Bool) → no_spaces (cnp_fields version cnp) ≡ true
+cnp_no_spaces version cnp = by (may_share version)
+  where
+    by : (shares : Bool) → no_spaces (cond shares (cnp_word cnp ∷ []) []) ≡ true
+    by true = one_more (cnp_word cnp) [] (cnp_word_no_space cnp) refl
+    by false = refl
+
+header_no_spaces : (pes : ℕ) (world : World) (after : Fields) → no_spaces after ≡ true → no_spaces (header_fields pes world after) ≡ true
+header_no_spaces pes (Hyp el2_start s2_start s2_pages) after clean =
+    dec pes (decimal el2_start ∷ decimal s2_start ∷ decimal s2_pages ∷ after)
+    (dec el2_start (decimal s2_start ∷ decimal s2_pages ∷ after) (dec s2_start (decimal s2_pages ∷ after) (dec s2_pages after clean)))
+header_no_spaces pes (Kernel start0 start1 asid_from) after clean =
+    dec pes (decimal start0 ∷ decimal start1 ∷ asid_from_word asid_from ∷ after)
+    (dec start0 (decimal start1 ∷ asid_from_word asid_from ∷ after) (dec start1 (asid_from_word asid_from ∷ after)
+    (one_more (asid_from_word asid_from) after (asid_from_word_no_space asid_from) clean)))
 
 pub header_written_is_read : (h : Heading) → heading_ok h ≡ true → header_of (header_line h) ≡ Ok h
 unfolding header_of header_line
 header_written_is_read h ok =
-    ap read_header_fields (fields_joined (codes "bbmlog") (codes "1" ∷ header_fields h.pes h.world) (header_no_spaces h.pes h.world))
-    ∙ world_read h.pes h.world ok
+    let after = cnp_fields h.version h.cnp in
+    ap read_header_fields (fields_joined (codes "bbmlog") (decimal h.version ∷ header_fields h.pes h.world after)
+    (dec h.version (header_fields h.pes h.world after) (header_no_spaces h.pes h.world after (cnp_no_spaces h.version h.cnp))))
+    ∙ world_read h.version h.pes h.cnp h.world ok

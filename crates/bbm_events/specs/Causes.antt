@@ -2,7 +2,7 @@
 -- Source: project's own choice.
 use Rattle.std.specs.Prelude.{⊤}
 use Rattle.bbm_events.specs.declared.malformed.Malformed.{Malformed}
-use Rattle.bbm_events.specs.declared.malformed.Malformed.TheVariants.{NoMagic, BadHeader, UnknownWord, BadNumber, BadPe, BadAddress, MissingField, ExtraField}
+use Rattle.bbm_events.specs.declared.malformed.Malformed.TheVariants.{NoMagic, BadHeader, UnknownWord, BadNumber, BadPe, BadAddress, MissingField, ExtraField, BadLabel}
 
 -- the causes of line 1
 abbrev pub IsHeaderCause : Malformed → Type 0
@@ -18,4 +18,5 @@ IsLineCause BadPe = ⊤
 IsLineCause BadAddress = ⊤
 IsLineCause MissingField = ⊤
 IsLineCause ExtraField = ⊤
+IsLineCause BadLabel = ⊤
 IsLineCause _ = ⊥

@@ -1,7 +1,7 @@
 -- The grammar of a log: which header or item a line spells, or the first cause for which it spells none,
 -- and the one line of a header or an item. A line is its bytes without the newline.
 -- Source: project's own choice.
-use Rattle.std.specs.Prelude.{ℕ, List, [], ◌∷◌, Bool, if◌then◌else◌, Option, Some, None, Result, Ok, Err, codes, decimal, bytes_eq}
+use Rattle.std.specs.Prelude.{ℕ, List, [], ◌∷◌, ◌++◌, drop, Bool, false, ◌&&◌, ◌==◌, if◌then◌else◌, Option, Some, None, Result, Ok, Err, codes, decimal, bytes_eq}
 use Rattle.std.specs.Option.{option_map}
 use Rattle.bbm_regimes.specs.declared.regime.World.{World}
 use Rattle.bbm_regimes.specs.declared.regime.World.TheVariants.{Hyp, Kernel}
@@ -17,10 +17,11 @@ use Rattle.bbm_events.specs.declared.event.Item.TheVariants as item
 use Rattle.bbm_events.specs.declared.keyword.Keyword.{Keyword}
 use Rattle.bbm_events.specs.declared.keyword.Keyword.TheVariants as first
 use Rattle.bbm_events.specs.declared.malformed.Malformed.{Malformed}
-use Rattle.bbm_events.specs.declared.malformed.Malformed.TheVariants.{NoMagic, BadHeader, UnknownWord, BadNumber, BadPe, BadAddress, MissingField, ExtraField}
-use Rattle.bbm_events.specs.Heading.{Heading, heading_ok}
+use Rattle.bbm_events.specs.declared.malformed.Malformed.TheVariants.{NoMagic, BadHeader, UnknownWord, BadNumber, BadPe, BadAddress, MissingField, ExtraField, BadLabel}
+use Rattle.bbm_events.specs.Heading.{Heading, heading_ok, is_version, has_op, may_label, may_share}
+use Rattle.bbm_events.specs.Label.{is_label}
 use Rattle.bbm_events.specs.Spelling.{fields, joined, hex, decimal_value, hex_value}
-use Rattle.bbm_events.specs.Words.{value_of, keyword_word, keywords, kind_word, kinds, reg_word, regs, asid_from_word, asid_froms, dsb_word, dsbs, op_word, ops}
+use Rattle.bbm_events.specs.Words.{with_word, keyword_word, keywords, cnp_word, cnps, kind_word, kinds, reg_word, regs, asid_from_word, asid_froms, dsb_word, dsbs, op_word, ops}
 use Rattle.bbm_events.specs.Fits.{is_pe, is_page, is_place, is_root_page, is_lock, is_count}
 
 -- The first cause ends the reading of a line.
@@ -34,148 +35,179 @@ abbrev pub Fields : Type 0
 Fields = List (List ℕ)
 
 -- what is read of a line from its left: a value, and the fields that follow
-abbrev pub Reading : Type 0 → Type 0
-Reading A = Result (A × Fields) Malformed
+abbrev pub FieldRead : Type 0 → Type 0
+FieldRead A = Result (A × Fields) Malformed
 
 -- the value with the fields that follow, or the cause where there is none
-abbrev pub found : {A : Type 0} → Malformed → Option A → Fields → Reading A
+abbrev pub found : {A : Type 0} → Malformed → Option A → Fields → FieldRead A
 found cause None rest = Err cause
 found cause (Some value) rest = Ok (value, rest)
 
 -- The next field, read; the first cause where it is absent, the second where it can't be read.
-abbrev pub next_field : {A : Type 0} → Malformed → Malformed → (List ℕ → Option A) → Fields → Reading A
+abbrev pub next_field : {A : Type 0} → Malformed → Malformed → (List ℕ → Option A) → Fields → FieldRead A
 next_field absent unreadable read [] = Err absent
 next_field absent unreadable read (text ∷ rest) = found unreadable (read text) rest
 
--- the number, where it passes the test
-abbrev pub passing : (ℕ → Bool) → Option ℕ → Option ℕ
+-- the value, where it passes the test
+abbrev pub passing : {A : Type 0} → (A → Bool) → Option A → Option A
 passing test None = None
-passing test (Some n) = if test n then Some n else None
+passing test (Some value) = if test value then Some value else None
 
 -- The header.
 
 abbrev pub exactly : List ℕ → List ℕ → Option (List ℕ)
 exactly word text = if bytes_eq word text then Some text else None
 
-abbrev pub magic_field : List ℕ → Fields → Reading (List ℕ)
+abbrev pub magic_field : List ℕ → Fields → FieldRead (List ℕ)
 magic_field word = next_field NoMagic NoMagic (exactly word)
 
-abbrev pub header_field : {A : Type 0} → (List ℕ → Option A) → Fields → Reading A
+abbrev pub header_field : {A : Type 0} → (List ℕ → Option A) → Fields → FieldRead A
 header_field read = next_field BadHeader BadHeader read
+
+-- the second field of a header, `1` to `4`
+abbrev pub version_field : Fields → FieldRead ℕ
+version_field = next_field NoMagic NoMagic (λ text. passing is_version (decimal_value text))
+
+-- whether TLBs are shared; version 1 doesn't say it
+abbrev pub cnp_field : ℕ → Fields → FieldRead Bool
+cnp_field version rest = if may_share version then header_field (with_word cnp_word cnps) rest else Ok (false, rest)
 
 -- the heading, where no field is left and its numbers are in their ranges
 abbrev pub checked : Heading → Fields → Result Heading Malformed
 checked h [] = if heading_ok h then Ok h else Err BadHeader
 checked h (text ∷ rest) = Err BadHeader
 
--- `PES EL2START S2START S2PAGES`
-abbrev pub hyp_fields : Fields → Result Heading Malformed
-hyp_fields rest = do
+-- `PES EL2START S2START S2PAGES`, and from version 2 on `CNP`
+abbrev pub hyp_fields : ℕ → Fields → Result Heading Malformed
+hyp_fields version rest = do
   pes ← header_field decimal_value rest
   el2_start ← header_field decimal_value pes.1
   s2_start ← header_field decimal_value el2_start.1
   s2_pages ← header_field decimal_value s2_start.1
-  checked (record { pes = pes.0; world = Hyp el2_start.0 s2_start.0 s2_pages.0 }) s2_pages.1
+  cnp ← cnp_field version s2_pages.1
+  checked (record { version = version; pes = pes.0; cnp = cnp.0; world = Hyp el2_start.0 s2_start.0 s2_pages.0 }) cnp.1
 
--- `PES START0 START1 ASIDFROM`
-abbrev pub kernel_fields : Fields → Result Heading Malformed
-kernel_fields rest = do
+-- `PES START0 START1 ASIDFROM`, and from version 2 on `CNP`
+abbrev pub kernel_fields : ℕ → Fields → Result Heading Malformed
+kernel_fields version rest = do
   pes ← header_field decimal_value rest
   start0 ← header_field decimal_value pes.1
   start1 ← header_field decimal_value start0.1
-  asid_from ← header_field (value_of asid_from_word asid_froms) start1.1
-  checked (record { pes = pes.0; world = Kernel start0.0 start1.0 asid_from.0 }) asid_from.1
+  asid_from ← header_field (with_word asid_from_word asid_froms) start1.1
+  cnp ← cnp_field version asid_from.1
+  checked (record { version = version; pes = pes.0; cnp = cnp.0; world = Kernel start0.0 start1.0 asid_from.0 }) cnp.1
 
 -- the fields after the word of the world
-abbrev pub world_fields : List ℕ → Fields → Result Heading Malformed
-world_fields word rest =
-    if bytes_eq word (codes "hyp") then hyp_fields rest
-    else (if bytes_eq word (codes "kernel") then kernel_fields rest else Err BadHeader)
+abbrev pub world_fields : ℕ → List ℕ → Fields → Result Heading Malformed
+world_fields version word rest =
+    if bytes_eq word (codes "hyp") then hyp_fields version rest
+    else (if bytes_eq word (codes "kernel") then kernel_fields version rest else Err BadHeader)
 
--- Line 1: `bbmlog 1 hyp PES EL2START S2START S2PAGES` or `bbmlog 1 kernel PES START0 START1 ASIDFROM`.
+-- Line 1: `bbmlog VERSION hyp PES EL2START S2START S2PAGES` or `bbmlog VERSION kernel PES START0 START1 ASIDFROM`,
+-- and from version 2 on one more field, `cnp` or `-`.
 unfoldable pub header_of : List ℕ → Result Heading Malformed
 header_of line = do
   magic ← magic_field (codes "bbmlog") (fields line)
-  version ← magic_field (codes "1") magic.1
+  version ← version_field magic.1
   world ← header_field Some version.1
-  world_fields world.0 world.1
+  world_fields version.0 world.0 world.1
 
 -- The fields of event lines, each with the cause where it can't be read.
 
-abbrev pub line_field : {A : Type 0} → Malformed → (List ℕ → Option A) → Fields → Reading A
+abbrev pub line_field : {A : Type 0} → Malformed → (List ℕ → Option A) → Fields → FieldRead A
 line_field cause read = next_field MissingField cause read
 
-abbrev pub pe_field : Heading → Fields → Reading ℕ
+abbrev pub pe_field : Heading → Fields → FieldRead ℕ
 pe_field h = line_field BadPe (λ text. passing (is_pe h) (decimal_value text))
 
-abbrev pub page_field : Fields → Reading ℕ
+abbrev pub page_field : Fields → FieldRead ℕ
 page_field = line_field BadAddress (λ text. passing is_page (hex_value text))
 
-abbrev pub place_field : Fields → Reading ℕ
+abbrev pub place_field : Fields → FieldRead ℕ
 place_field = line_field BadAddress (λ text. passing is_place (hex_value text))
 
-abbrev pub root_page_field : Heading → Kind → Fields → Reading ℕ
+abbrev pub root_page_field : Heading → Kind → Fields → FieldRead ℕ
 root_page_field h kind = line_field BadAddress (λ text. passing (is_root_page h.world kind) (hex_value text))
 
-abbrev pub value_field : Fields → Reading ℕ
+abbrev pub value_field : Fields → FieldRead ℕ
 value_field = line_field BadNumber hex_value
 
 -- an operand stands exactly where the operation has one
-abbrev pub operand_field : TlbiOp → Fields → Reading ℕ
+abbrev pub operand_field : TlbiOp → Fields → FieldRead ℕ
 operand_field op rest = if has_operand op then value_field rest else Ok (0, rest)
 
 abbrev pub lock_value : List ℕ → Option ℕ
 lock_value text = passing is_lock (decimal_value text)
 
-abbrev pub lock_field : Fields → Reading ℕ
+abbrev pub lock_field : Fields → FieldRead ℕ
 lock_field = line_field BadNumber lock_value
 
 -- a lock, or `-` for none
 abbrev pub root_lock : List ℕ → Option (Option ℕ)
 root_lock text = if bytes_eq text (codes "-") then Some None else option_map Some (lock_value text)
 
-abbrev pub root_lock_field : Fields → Reading (Option ℕ)
+abbrev pub root_lock_field : Fields → FieldRead (Option ℕ)
 root_lock_field = line_field BadNumber root_lock
 
-abbrev pub count_field : Fields → Reading ℕ
+abbrev pub count_field : Fields → FieldRead ℕ
 count_field = line_field BadNumber (λ text. passing is_count (decimal_value text))
 
-abbrev pub kind_field : Fields → Reading Kind
-kind_field = line_field UnknownWord (value_of kind_word kinds)
+abbrev pub kind_field : Fields → FieldRead Kind
+kind_field = line_field UnknownWord (with_word kind_word kinds)
 
-abbrev pub dsb_field : Fields → Reading Dsb
-dsb_field = line_field UnknownWord (value_of dsb_word dsbs)
+abbrev pub dsb_field : Fields → FieldRead Dsb
+dsb_field = line_field UnknownWord (with_word dsb_word dsbs)
 
-abbrev pub op_field : Fields → Reading TlbiOp
-op_field = line_field UnknownWord (value_of op_word ops)
+abbrev pub op_field : ℕ → Fields → FieldRead TlbiOp
+op_field version = line_field UnknownWord (λ text. passing (has_op version) (with_word op_word ops text))
 
-abbrev pub reg_field : Fields → Reading Reg
-reg_field = line_field UnknownWord (value_of reg_word regs)
+abbrev pub reg_field : Fields → FieldRead Reg
+reg_field = line_field UnknownWord (with_word reg_word regs)
 
 -- the value, where no field is left
 abbrev pub whole : {A : Type 0} → A → Fields → Result A Malformed
 whole value [] = Ok value
 whole value (text ∷ rest) = Err ExtraField
 
--- The shapes of event lines: each begins with a PE.
+-- a field that is marked as a label
+abbrev pub is_marked : List ℕ → Bool
+is_marked [] = false
+is_marked (byte ∷ bytes) = byte == 64
+
+-- the label behind the mark `@`
+abbrev pub label_value : List ℕ → Option (List ℕ)
+label_value text = if is_label (drop 1 text) then Some (drop 1 text) else None
+
+-- the label that follows the last field of an event line, where one stands there
+abbrev pub label_field : ℕ → Fields → FieldRead (Option (List ℕ))
+label_field version [] = Ok (None, [])
+label_field version (text ∷ rest) = if may_label version && is_marked text then found BadLabel (option_map Some (label_value text)) rest else Ok (None, text ∷ rest)
+
+-- the event with its label, where no field is left
+abbrev pub event_item : Heading → Event → Fields → Result Item Malformed
+event_item h event rest = do
+  label ← label_field h.version rest
+  whole (item.Event event label.0) label.1
+
+-- The shapes of event lines: each begins with a PE, and can end with a label.
 
 abbrev pub pe_alone : Heading → (ℕ → Event) → Fields → Result Item Malformed
 pe_alone h event rest = do
   pe ← pe_field h rest
-  whole (item.Event (event pe.0)) pe.1
+  event_item h (event pe.0) pe.1
 
-abbrev pub pe_and : {A : Type 0} → Heading → (Fields → Reading A) → (ℕ → A → Event) → Fields → Result Item Malformed
+abbrev pub pe_and : {A : Type 0} → Heading → (Fields → FieldRead A) → (ℕ → A → Event) → Fields → Result Item Malformed
 pe_and h second event rest = do
   pe ← pe_field h rest
   x ← second pe.1
-  whole (item.Event (event pe.0 x.0)) x.1
+  event_item h (event pe.0 x.0) x.1
 
-abbrev pub pe_and_two : {A B : Type 0} → Heading → (Fields → Reading A) → (Fields → Reading B) → (ℕ → A → B → Event) → Fields → Result Item Malformed
+abbrev pub pe_and_two : {A B : Type 0} → Heading → (Fields → FieldRead A) → (Fields → FieldRead B) → (ℕ → A → B → Event) → Fields → Result Item Malformed
 pe_and_two h second third event rest = do
   pe ← pe_field h rest
   x ← second pe.1
   y ← third x.1
-  whole (item.Event (event pe.0 x.0 y.0)) y.1
+  event_item h (event pe.0 x.0 y.0) y.1
 
 -- `PE KIND LOCK PAGE`
 abbrev pub root_line : Heading → Fields → Result Item Malformed
@@ -184,17 +216,17 @@ root_line h rest = do
   kind ← kind_field pe.1
   lock ← root_lock_field kind.1
   page ← root_page_field h kind.0 lock.1
-  whole (item.Event (event.Root pe.0 kind.0 lock.0 page.0)) page.1
+  event_item h (event.Root pe.0 kind.0 lock.0 page.0) page.1
 
 -- `PE OP` or `PE OP XT`
 abbrev pub tlbi_line : Heading → Fields → Result Item Malformed
 tlbi_line h rest = do
   pe ← pe_field h rest
-  op ← op_field pe.1
+  op ← op_field h.version pe.1
   xt ← operand_field op.0 op.1
-  whole (item.Event (event.Tlbi pe.0 op.0 xt.0)) xt.1
+  event_item h (event.Tlbi pe.0 op.0 xt.0) xt.1
 
--- `COUNT`
+-- `COUNT`, which no label follows
 abbrev pub end_line : Fields → Result Item Malformed
 end_line rest = do
   count ← count_field rest
@@ -217,8 +249,8 @@ line_after h first.Unlock = pe_and h lock_field event.Unlock
 line_after h first.End = end_line
 
 -- the first word of a line; a line always has a first field, if an empty one
-abbrev pub keyword_field : Fields → Reading Keyword
-keyword_field = line_field UnknownWord (value_of keyword_word keywords)
+abbrev pub keyword_field : Fields → FieldRead Keyword
+keyword_field = line_field UnknownWord (with_word keyword_word keywords)
 
 -- A line after the header.
 unfoldable pub item_of : Heading → List ℕ → Result Item Malformed
@@ -228,13 +260,17 @@ item_of h line = do
 
 -- The other direction: the fields of a header and of an item, with a space between two of them.
 
-abbrev pub header_fields : ℕ → World → Fields
-header_fields pes (Hyp el2_start s2_start s2_pages) = codes "hyp" ∷ decimal pes ∷ decimal el2_start ∷ decimal s2_start ∷ decimal s2_pages ∷ []
-header_fields pes (Kernel start0 start1 asid_from) = codes "kernel" ∷ decimal pes ∷ decimal start0 ∷ decimal start1 ∷ asid_from_word asid_from ∷ []
+abbrev pub cnp_fields : ℕ → Bool → Fields
+cnp_fields version cnp = if may_share version then cnp_word cnp ∷ [] else []
+
+-- the world's word, the number of PEs and the world's fields, with those that follow
+abbrev pub header_fields : ℕ → World → Fields → Fields
+header_fields pes (Hyp el2_start s2_start s2_pages) after = codes "hyp" ∷ decimal pes ∷ decimal el2_start ∷ decimal s2_start ∷ decimal s2_pages ∷ after
+header_fields pes (Kernel start0 start1 asid_from) after = codes "kernel" ∷ decimal pes ∷ decimal start0 ∷ decimal start1 ∷ asid_from_word asid_from ∷ after
 
 -- the one line of a header
 unfoldable pub header_line : Heading → List ℕ
-header_line h = joined (codes "bbmlog" ∷ codes "1" ∷ header_fields h.pes h.world)
+header_line h = joined (codes "bbmlog" ∷ decimal h.version ∷ header_fields h.pes h.world (cnp_fields h.version h.cnp))
 
 abbrev pub lock_text : Option ℕ → List ℕ
 lock_text None = codes "-"
@@ -257,8 +293,12 @@ event_fields (event.Msr pe reg value) = codes "msr" ∷ decimal pe ∷ reg_word 
 event_fields (event.Lock pe lock) = codes "lock" ∷ decimal pe ∷ decimal lock ∷ []
 event_fields (event.Unlock pe lock) = codes "unlock" ∷ decimal pe ∷ decimal lock ∷ []
 
+abbrev pub label_fields : Option (List ℕ) → Fields
+label_fields None = []
+label_fields (Some label) = (64 ∷ label) ∷ []
+
 abbrev pub item_fields : Item → Fields
-item_fields (item.Event event) = event_fields event
+item_fields (item.Event event label) = event_fields event ++ label_fields label
 item_fields (item.End count) = codes "end" ∷ decimal count ∷ []
 
 -- the one line of an item

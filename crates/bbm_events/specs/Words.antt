@@ -1,5 +1,5 @@
 -- The words of a log, each kind of word as one table from a value to its word, and one list of its values.
-use Rattle.std.specs.Prelude.{ℕ, List, [], ◌∷◌, Option, codes, bytes_eq}
+use Rattle.std.specs.Prelude.{ℕ, List, [], ◌∷◌, Bool, true, false, Option, codes, bytes_eq}
 use Rattle.std.specs.List.{find}
 use Rattle.bbm_regimes.specs.declared.regime.Kind.{Kind}
 use Rattle.bbm_regimes.specs.declared.regime.Kind.TheVariants.{El2, S2, Ttbr0, Ttbr1}
@@ -13,13 +13,13 @@ use Rattle.bbm_barriers.specs.declared.Domain.TheVariants.{Full, Inner, Outer, N
 use Rattle.bbm_barriers.specs.declared.Types.{Types}
 use Rattle.bbm_barriers.specs.declared.Types.TheVariants.{All, Stores, Loads}
 use Rattle.bbm_tlbi_scope.specs.declared.op.TlbiOp.{TlbiOp}
-use Rattle.bbm_tlbi_scope.specs.declared.op.TlbiOp.TheVariants.{Alle2, Alle2is, Vae2, Vae2is, Vale2, Vale2is, Alle1, Alle1is, Vmalle1, Vmalle1is, Vmalls12e1, Vmalls12e1is, Ipas2e1, Ipas2e1is, Ipas2le1, Ipas2le1is, Vae1, Vae1is, Vale1, Vale1is, Vaae1, Vaae1is, Vaale1, Vaale1is, Aside1, Aside1is}
+use Rattle.bbm_tlbi_scope.specs.declared.op.TlbiOp.TheVariants.{Alle2, Alle2is, Vae2, Vae2is, Vale2, Vale2is, Alle1, Alle1is, Vmalle1, Vmalle1is, Vmalls12e1, Vmalls12e1is, Ipas2e1, Ipas2e1is, Ipas2le1, Ipas2le1is, Vae1, Vae1is, Vale1, Vale1is, Vaae1, Vaae1is, Vaale1, Vaale1is, Aside1, Aside1is, Rvae2, Rvae2is, Rvale2, Rvale2is, Ripas2e1, Ripas2e1is, Ripas2le1, Ripas2le1is, Rvae1, Rvae1is, Rvale1, Rvale1is, Rvaae1, Rvaae1is, Rvaale1, Rvaale1is}
 use Rattle.bbm_events.specs.declared.keyword.Keyword.{Keyword}
 use Rattle.bbm_events.specs.declared.keyword.Keyword.TheVariants as first
 
 -- the value, among these, whose word this is
-abbrev pub value_of : {A : Type 0} → (A → List ℕ) → List A → List ℕ → Option A
-value_of word values text = find (λ value. bytes_eq (word value) text) values
+abbrev pub with_word : {A : Type 0} → (A → List ℕ) → List A → List ℕ → Option A
+with_word word values text = find (λ value. bytes_eq (word value) text) values
 
 -- the first word of a line. Source: project's own choice.
 abbrev pub keyword_word : Keyword → List ℕ
@@ -39,6 +39,14 @@ keyword_word first.End = codes "end"
 
 abbrev pub keywords : List Keyword
 keywords = first.Init ∷ first.Null ∷ first.Root ∷ first.Unroot ∷ first.Write ∷ first.Dsb ∷ first.Dmb ∷ first.Isb ∷ first.Tlbi ∷ first.Msr ∷ first.Lock ∷ first.Unlock ∷ first.End ∷ []
+
+-- whether TLBs are shared. Source: project's own choice.
+abbrev pub cnp_word : Bool → List ℕ
+cnp_word true = codes "cnp"
+cnp_word false = codes "-"
+
+abbrev pub cnps : List Bool
+cnps = true ∷ false ∷ []
 
 -- the kind of a root. Source: project's own choice.
 abbrev pub kind_word : Kind → List ℕ
@@ -121,9 +129,27 @@ op_word Vaale1 = codes "vaale1"
 op_word Vaale1is = codes "vaale1is"
 op_word Aside1 = codes "aside1"
 op_word Aside1is = codes "aside1is"
+op_word Rvae2 = codes "rvae2"
+op_word Rvae2is = codes "rvae2is"
+op_word Rvale2 = codes "rvale2"
+op_word Rvale2is = codes "rvale2is"
+op_word Ripas2e1 = codes "ripas2e1"
+op_word Ripas2e1is = codes "ripas2e1is"
+op_word Ripas2le1 = codes "ripas2le1"
+op_word Ripas2le1is = codes "ripas2le1is"
+op_word Rvae1 = codes "rvae1"
+op_word Rvae1is = codes "rvae1is"
+op_word Rvale1 = codes "rvale1"
+op_word Rvale1is = codes "rvale1is"
+op_word Rvaae1 = codes "rvaae1"
+op_word Rvaae1is = codes "rvaae1is"
+op_word Rvaale1 = codes "rvaale1"
+op_word Rvaale1is = codes "rvaale1is"
 
 abbrev pub ops : List TlbiOp
 ops =
     Alle2 ∷ Alle2is ∷ Vae2 ∷ Vae2is ∷ Vale2 ∷ Vale2is ∷ Alle1 ∷ Alle1is ∷ Vmalle1 ∷ Vmalle1is ∷ Vmalls12e1 ∷ Vmalls12e1is
     ∷ Ipas2e1 ∷ Ipas2e1is ∷ Ipas2le1 ∷ Ipas2le1is ∷ Vae1 ∷ Vae1is ∷ Vale1 ∷ Vale1is ∷ Vaae1 ∷ Vaae1is ∷ Vaale1 ∷ Vaale1is
-    ∷ Aside1 ∷ Aside1is ∷ []
+    ∷ Aside1 ∷ Aside1is
+    ∷ Rvae2 ∷ Rvae2is ∷ Rvale2 ∷ Rvale2is ∷ Ripas2e1 ∷ Ripas2e1is ∷ Ripas2le1 ∷ Ripas2le1is
+    ∷ Rvae1 ∷ Rvae1is ∷ Rvale1 ∷ Rvale1is ∷ Rvaae1 ∷ Rvaae1is ∷ Rvaale1 ∷ Rvaale1is ∷ []

@@ -1,5 +1,6 @@
 //! The events of a log.
 
+use crate::label::Label;
 use bbm_barriers::Dsb;
 use bbm_regimes::{Kind, Page, Pe, Place, Reg};
 use bbm_tlbi_scope::TlbiOp;
@@ -75,12 +76,12 @@ pub enum Event {
     },
 }
 
-/// What a line after the header says: an event, or the end with the number of event lines. Source:
-/// project's own choice.
+/// What a line after the header says: an event with its label or none, or the end with the number of event
+/// lines. Source: project's own choice.
 #[derive(Clone, Copy, Debug, PartialEq, Eq)]
 pub enum Item {
-    /// An event line.
-    Event(Event),
+    /// An event line. Only a line under version 3 or 4 has a label.
+    Event(Event, Option<Label>),
     /// The last line, with its count.
     End(u32),
 }

@@ -1,20 +1,23 @@
 //! Which events fit a header.
 
 ghost use Rattle.std.specs.Prelude.{◌≡◌, ◌<◌};
+ghost use Rattle.bbm_regimes.specs.World.{page_count};
+ghost use Rattle.bbm_events.specs.Heading as heading;
 ghost use Rattle.bbm_events.specs.Fits as spec;
 ghost use Rattle.bbm_events.specs.Fits.{fits_heading, is_pe};
 
 use crate::event::Event;
 use crate::header::Header;
 use bbm_regimes::{Kind, Page, Pe, Place, World};
+use bbm_tlbi_scope::TlbiOp;
 
 /// Locks have numbers below 1,024. Source: project's own choice.
 const LOCKS: u16 = 1024;
 
 /// The number of consecutive pages of a root of this kind, 1 to 16. Source: Arm ARM (DDI 0487), "VMSAv8-64
 /// translation table walks", concatenated translation tables.
-pub fn root_pages(world: World, kind: Kind) -> u8
-    ensures { result ≡ spec.root_pages world kind }
+pub fn page_count(world: World, kind: Kind) -> u8
+    ensures { result ≡ page_count world kind }
 {
     match (world, kind) {
         (World::Hyp { s2_pages, .. }, Kind::S2) => s2_pages,
@@ -44,10 +47,10 @@ fn is_place(place: Place) -> bool
 }
 
 fn is_root_page(world: World, kind: Kind, page: Page) -> bool
-    requires { 0 < spec.root_pages world kind }
+    requires { 0 < page_count world kind }
     ensures { result ≡ spec.is_root_page world kind page }
 {
-    page.get() % (4096 * root_pages(world, kind) as u64) == 0
+    page.get() % (4096 * page_count(world, kind) as u64) == 0
 }
 
 fn is_root_lock(lock: Option<u16>) -> bool
@@ -56,9 +59,24 @@ fn is_root_lock(lock: Option<u16>) -> bool
     lock.is_none_or(|lock| lock < LOCKS)
 }
 
+/// Whether the header's version has the operation: those for a range of pages are of version 4. Source:
+/// project's own choice.
+pub fn has_op(header: &Header, op: TlbiOp) -> bool
+    ensures { result ≡ heading.has_op header.now.version op }
+{
+    header.version >= 4 || !op.is_range()
+}
+
+fn is_operand(op: TlbiOp, xt: u64) -> bool
+    ensures { result ≡ spec.is_operand op xt }
+{
+    op.has_operand() || xt == 0
+}
+
 /// Whether the event can stand in a log with this header: its PE is below the header's number, its
 /// lock is below 1,024, its operand is 0 where the operation has none, and a root is aligned to its
-/// number of pages, which is 1 but for stage 2 of the Hyp world. Source: project's own choice, but for
+/// number of pages, which is 1 but for stage 2 of the Hyp world. An operation for a range of pages asks for
+/// version 4. Source: project's own choice, but for
 /// the alignment: Arm ARM (DDI 0487), "VMSAv8-64 translation table walks", concatenated translation tables.
 pub fn fits(header: &Header, event: Event) -> bool
     ensures { result ≡ fits_heading header.now event }
@@ -81,7 +99,9 @@ pub fn fits(header: &Header, event: Event) -> bool
         Event::Dsb { pe, dsb: _ } => has_pe(header, pe),
         Event::Dmb { pe, dsb: _ } => has_pe(header, pe),
         Event::Isb { pe } => has_pe(header, pe),
-        Event::Tlbi { pe, op, xt } => has_pe(header, pe) && (op.has_operand() || xt == 0),
+        Event::Tlbi { pe, op, xt } => has_pe(header, pe)
+            && has_op(header, op)
+            && is_operand(op, xt),
         Event::Msr {
             pe,
             reg: _,

@@ -2,6 +2,8 @@
 
 ghost use Rattle.std.specs.Prelude.{◌≡◌, ℕ, List, true, Ok, IfErr};
 ghost use Rattle.bbm_events.specs.declared.event.Item.{Item};
+ghost use Rattle.bbm_events.specs.declared.machine.MachineLine.{MachineLine};
+ghost use Rattle.bbm_events.specs.Machine.{machine_of, machine_fits, machine_line};
 ghost use Rattle.bbm_events.specs.Heading.{Heading, heading_ok};
 ghost use Rattle.bbm_events.specs.Causes.{IsHeaderCause, IsLineCause};
 ghost use Rattle.bbm_events.specs.Fits.{item_fits};
@@ -43,4 +45,28 @@ pub fn law_written_is_read()
 pub fn law_one_line()
     ensures header { (line : List ℕ) (heading : Heading) → header_of line ≡ Ok heading → line ≡ header_line heading }
     ensures item { (heading : Heading) (line : List ℕ) (item : Item) → item_of heading line ≡ Ok item → line ≡ item_line item }
+{}
+
+/// Each step that a machine line spells fits the header under which the line is read.
+#[tactic(auto, using(crate::proofs::MachineLines::machine_of_fits))]
+pub fn law_machine_fits()
+    ensures { (heading : Heading) (line : List ℕ) (step : MachineLine) → machine_of heading line ≡ Ok step → machine_fits heading step ≡ true }
+{}
+
+/// A line that spells no step has a cause of a line after the header.
+#[tactic(auto, using(crate::proofs::MachineLines::machine_of_causes))]
+pub fn law_machine_causes()
+    ensures { (heading : Heading) (line : List ℕ) → IfErr (machine_of heading line) IsLineCause }
+{}
+
+/// A written step is read as the same step under each header that it fits.
+#[tactic(auto, using(crate::proofs::MachineLines::machine_written_is_read))]
+pub fn law_machine_written_is_read()
+    ensures { (heading : Heading) (step : MachineLine) → heading_ok heading ≡ true → machine_fits heading step ≡ true → machine_of heading (machine_line step) ≡ Ok step }
+{}
+
+/// Each step has one line: what a machine line is read as is written as that line.
+#[tactic(auto, using(crate::proofs::MachineLines::machine_one_line))]
+pub fn law_machine_one_line()
+    ensures { (heading : Heading) (line : List ℕ) (step : MachineLine) → machine_of heading line ≡ Ok step → line ≡ machine_line step }
 {}

@@ -5,17 +5,22 @@ pub mod event;
 pub mod fitting;
 pub mod header;
 pub mod keyword;
+pub mod label;
 pub mod laws;
+pub mod machine;
 pub mod malformed;
 
 pub use event::{Event, Item};
-pub use fitting::{fits, root_pages};
+pub use fitting::{fits, has_op, page_count};
 pub use header::Header;
 pub use keyword::Keyword;
+pub use label::Label;
 pub use laws::{
-    law_header_causes, law_header_in_range, law_item_causes, law_item_fits, law_one_line,
+    law_header_causes, law_header_in_range, law_item_causes, law_item_fits, law_machine_causes,
+    law_machine_fits, law_machine_one_line, law_machine_written_is_read, law_one_line,
     law_written_is_read,
 };
+pub use machine::{MachineLine, MachineWord};
 pub use malformed::Malformed;
 
 #[cfg(test)]

@@ -3,7 +3,7 @@
 /// Why a line is malformed, with the number that the program prints. Source: project's own choice.
 #[derive(Clone, Copy, Debug, PartialEq, Eq)]
 pub enum Malformed {
-    /// The first two fields of line 1 aren't `bbmlog` and `1`.
+    /// The first two fields of line 1 aren't `bbmlog` and `1` to `4`.
     NoMagic = 1,
     /// Another fault of line 1.
     BadHeader = 2,
@@ -27,4 +27,6 @@ pub enum Malformed {
     AfterEnd = 11,
     /// The line is well formed, but this version doesn't judge it yet.
     NotBuilt = 12,
+    /// The field behind the last begins with `@` and isn't a label.
+    BadLabel = 13,
 }

@@ -1,11 +1,13 @@
-use crate::{Event, Header, fits};
+use crate::{Event, Header, Label, fits};
 use bbm_regimes::{Kind, Page, Pe, World};
 use bbm_tlbi_scope::TlbiOp;
 
-/// A header of the Hyp world with two PEs and stage 2 roots of 16 pages.
+/// A header of version 3 of the Hyp world with two PEs and stage 2 roots of 16 pages.
 fn header() -> Header {
     Header {
+        version: 3,
         pes: 2,
+        cnp: false,
         world: World::Hyp {
             el2_start: 1,
             s2_start: 1,
@@ -48,6 +50,7 @@ fn tells_which_events_fit(rt: HostRuntime) {
         (TlbiOp::Alle2is, 0, true),
         (TlbiOp::Alle2is, 1, false),
         (TlbiOp::Vae2is, 1, true),
+        (TlbiOp::Rvae2is, 1, false),
     ] {
         assert_eq!(rt; tlbi_fits(op, xt), Some(fit));
     }
@@ -58,4 +61,44 @@ fn tells_which_events_fit(rt: HostRuntime) {
     ] {
         assert_eq!(rt; root_fits(kind, addr), Some(fit));
     }
+}
+
+// Bytes, and whether they are those of a label.
+const LABELS: [(&[u8], bool); 8] = [
+    (b"", false),
+    (b"a", true),
+    (b"mm/map.c:88", true),
+    (b"A-Z_az09", true),
+    (b"abcdefghijklmnopqrstuvwxyz012345", true),
+    (b"abcdefghijklmnopqrstuvwxyz0123456", false),
+    (b"a b", false),
+    (b"a@b", false),
+];
+
+#[test]
+fn makes_labels(rt: HostRuntime) {
+    for (bytes, is_label) in LABELS {
+        assert_eq!(rt; Label::new(bytes).is_some(), is_label);
+    }
+    let label = Label::new(b"boot.c:10").unwrap();
+    assert_eq!(rt; label.bytes(), b"boot.c:10".as_slice());
+}
+
+/// A header of version 4.
+const NEWEST: Header = Header {
+    version: 4,
+    pes: 128,
+    cnp: true,
+    world: World::Hyp {
+        el2_start: 1,
+        s2_start: 1,
+        s2_pages: 1,
+    },
+};
+
+#[test]
+fn fits_a_range_under_version_4(rt: HostRuntime) {
+    let pe = Pe::new(1).unwrap();
+    let op = TlbiOp::Rvae2is;
+    assert!(rt; fits(&NEWEST, Event::Tlbi { pe, op, xt: 1 }));
 }

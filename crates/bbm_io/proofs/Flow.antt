@@ -1,7 +1,7 @@
 -- Bytes taken one after another, and bytes added one after another.
 use Rattle.std.proofs.Common.{◌≡◌, ◌≢◌, ℕ, ◌+◌, ◌-◌, List, [], ◌∷◌, ◌++◌, length, take, drop, Bool, true, false, ◌&&◌, not, nat_eq, Option, None, Some, refl, ap, sym, ◌∙◌, append_assoc}
 use Rattle.std.proofs.lemmas.Bool.{ne_eqb}
-use Rattle.std.proofs.lemmas.List.{append-nil, take_rest}
+use Rattle.std.proofs.lemmas.List.{append-nil, take_rest, drop-drop, take-append-drop}
 use Rattle.std.proofs.Math.Seq.{take-add}
 use Rattle.bbm_io.specs.Flow.{preceded, extended, plain}
 
@@ -37,3 +37,13 @@ wrote-more (Some held) piece done count =
     ap Some (append_assoc held (take done piece) (take count (take (length piece - done) (drop done piece))) ∙ ap (λ (xs : List ℕ). held ++ xs) (ap (λ (xs : List ℕ). take done piece ++ take count xs) (take_rest piece done) ∙ sym (take-add done count piece)))
 
 pub ruleset flow = (preceded-nil, took-more, plain-append, extended-nil, wrote-more)
+
+-- what is left of bytes in memory, where the next ones were taken
+pub rest-more : (bytes : List ℕ) (at count : ℕ) → drop (at + count) bytes ≡ drop count (drop at bytes)
+rest-more bytes at count = sym (drop-drop count at bytes)
+
+pub rest-taken : (bytes : List ℕ) (at count : ℕ) → Some (drop at bytes) ≡ preceded (take count (drop at bytes)) (Some (drop (at + count) bytes))
+rest-taken bytes at count =
+    ap Some (sym (take-append-drop count (drop at bytes)) ∙ ap (λ xs. take count (drop at bytes) ++ xs) (sym (rest-more bytes at count)))
+
+pub ruleset memory = (rest-more, rest-taken)

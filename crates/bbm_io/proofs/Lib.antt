@@ -1,1 +1,3 @@
 pub mod Flow
+pub mod Readers
+pub mod Newlines

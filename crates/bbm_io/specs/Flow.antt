@@ -18,6 +18,11 @@ abbrev pub AtEnd : Option (List ℕ) → Type 0
 AtEnd None = Unit {0}
 AtEnd (Some left) = left ≡ []
 
+-- these bytes are all that is left, where the source tells it
+abbrev pub IsAllOf : List ℕ → Option (List ℕ) → Type 0
+IsAllOf bytes None = Unit {0}
+IsAllOf bytes (Some left) = left ≡ bytes
+
 -- whether no byte is a newline, which is 10
 abbrev pub plain : List ℕ → Bool
 plain [] = true

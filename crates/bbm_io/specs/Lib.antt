@@ -3,3 +3,4 @@ pub mod Faults
 pub mod Flow
 pub mod Memory
 pub mod Reading
+pub mod Streams

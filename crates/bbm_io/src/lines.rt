@@ -1,13 +1,14 @@
 //! Lines of a source, one after another.
 
-ghost use Rattle.std.specs.Prelude.{◌≡◌, ◌+◌, ◌<◌, ◌≤◌, ◌^◌, ◌≢◌, [], ◌∷◌, length, true, false, is_err, Ok, Err, OnErr};
+ghost use Rattle.std.specs.Prelude.{◌≡◌, ◌+◌, ◌-◌, ◌<◌, ◌≤◌, ◌^◌, ◌≢◌, [], ◌∷◌, ◌++◌, take, IfSome, length, true, false, is_err, Ok, Err, OnErr};
 ghost use Rattle.bbm_io.specs.Faults.{Rose};
-ghost use Rattle.bbm_io.specs.Flow.{plain};
+ghost use Rattle.bbm_io.specs.Flow.{preceded, plain};
 ghost use Rattle.bbm_io.specs.Reading.{Reading, Took, Counts};
 ghost use Rattle.bbm_io.specs.Byte.{Gave};
 
 use crate::source::{Failed, Source};
 use arrayvec::ArrayVec;
+use memchr::memchr;
 use std::marker::Model;
 
 /// The most bytes of a line, without its newline. Source: project's own choice.
@@ -50,7 +51,7 @@ pub struct Lines {
 impl Model for Lines {
     ghost use Rattle.std.specs.Prelude.{◌≤◌, ◌^◌, length, ◌≡◌, true};
     ghost use Rattle.bbm_io.specs.Reading.{Reading};
-    ghost use Rattle.bbm_io.specs.Flow.{plain};
+    ghost use Rattle.bbm_io.specs.Flow.{preceded, plain};
 
     ghost Value = { Reading };
 
@@ -71,9 +72,10 @@ impl Lines {
         }
     }
 
-    /// Reads the next line, a byte at a time. The answers and faults are those of `LineOrEnd` and
-    /// `LineFault`; `ReadFault` comes only where the source's count of faults rose, or stands at
-    /// 2^64 - 1. In every case what was taken from the source stands in `bytes`, but for the newline
+    /// Reads the next line; one that lies whole in what the source has at hand is taken at once, and any
+    /// other a byte at a time. The answers and faults are those of `LineOrEnd` and `LineFault`; `ReadFault`
+    /// comes only where the source's count of faults rose, or stands at 2^64 - 1, and where it doesn't come
+    /// the count stays. In every case what was taken from the source stands in `bytes`, but for the newline
     /// of a line and the 201st byte of a line that is too long. After a fault no further line is read.
     pub fn next<S: Source>(&mut self, src: &mut S) -> Result<LineOrEnd, LineFault>
         requires { self.old.failed ≡ false }
@@ -83,10 +85,11 @@ impl Lines {
         ensures failed { self.new.failed ≡ is_err result }
         ensures read_fault { result ≡ Err LineFault.ReadFault → Rose (S.faults src.old) (S.faults src.new) }
         ensures quiet { ¬ (Rose (S.faults src.old) (S.faults src.new)) → result ≢ Err LineFault.ReadFault }
+        ensures sound { result ≢ Err LineFault.ReadFault → S.faults src.new ≡ S.faults src.old }
         ensures never_falls { S.faults src.old ≤ S.faults src.new }
     {
         self.line.clear();
-        let answer = read_line(&mut self.line, &mut self.taken, src);
+        let answer = next_line(&mut self.line, &mut self.taken, src);
         self.failed = answer.is_err();
         answer
     }
@@ -110,6 +113,83 @@ impl Lines {
     }
 }
 
+// Takes the line that lies whole in what the source has at hand; answers whether one does.
+fn take_line<S: Source>(line: &mut ArrayVec<u8, LINE_BYTES>, taken: &mut u64, src: &mut S) -> bool
+    requires empty { line.old.items ≡ [] }
+    requires within { taken.old ≤ 2 ^ 40 }
+    ensures took { result ≡ true → S.left src.old ≡ preceded (line.new.items ++ 10 ∷ []) (S.left src.new) }
+    ensures counted { result ≡ true → taken.new ≡ taken.old + length line.new.items + 1 }
+    ensures within { taken.new ≤ 2 ^ 40 }
+    ensures short { length line.new.items ≤ 200 }
+    ensures plain { plain line.new.items ≡ true }
+    ensures untaken { result ≡ false → S.left src.new ≡ S.left src.old }
+    ensures uncounted { result ≡ false → taken.new ≡ taken.old }
+    ensures unkept { result ≡ false → line.new.items ≡ [] }
+    ensures sound { S.faults src.new ≡ S.faults src.old }
+{
+    let Some(count) = line_at_hand(src.ahead()) else {
+        return false;
+    };
+    let bytes = count as u64 + 1;
+    if bytes > LOG_BYTES - *taken {
+        return false;
+    }
+    if line.try_extend_from_slice(&src.ahead()[..count]).is_err() {
+        return false;
+    }
+    *taken += bytes;
+    src.consume(count + 1);
+    true
+}
+
+// The number of bytes before the first newline, where there are at most 200.
+fn line_at_hand(bytes: &[u8]) -> Option<usize>
+    ensures newline { IfSome result (λ n. take (n + 1) bytes.now ≡ take n bytes.now ++ 10 ∷ []) }
+    ensures plain { IfSome result (λ n. plain (take n bytes.now) ≡ true) }
+    ensures short { IfSome result (λ n. n ≤ 200) }
+    ensures within { IfSome result (λ n. n + 1 ≤ length bytes.now) }
+{
+    memchr(b'\n', &bytes[..bytes.len().min(LINE_BYTES + 1)])
+}
+
+// Reads the next line.
+fn next_line<S: Source>(
+    line: &mut ArrayVec<u8, LINE_BYTES>,
+    taken: &mut u64,
+    src: &mut S,
+) -> Result<LineOrEnd, LineFault>
+    requires empty { line.old.items ≡ [] }
+    requires within { taken.old ≤ 2 ^ 40 }
+    ensures took { Took result line.new.items (S.left src.old) (S.left src.new) }
+    ensures counts { let was : Reading = record { bytes = line.old.items; taken = taken.old; failed = false } in
+        let now : Reading = record { bytes = line.new.items; taken = taken.new; failed = is_err result } in
+        Counts result was now }
+    ensures plain { plain line.new.items ≡ true }
+    ensures read_fault { result ≡ Err LineFault.ReadFault → Rose (S.faults src.old) (S.faults src.new) }
+    ensures sound { result ≢ Err LineFault.ReadFault → S.faults src.new ≡ S.faults src.old }
+    ensures never_falls { S.faults src.old ≤ S.faults src.new }
+{
+    if take_line(line, taken, src) {
+        return Ok(LineOrEnd::Line);
+    }
+    if is_cut(src.ahead()) && *taken < LOG_BYTES {
+        match src.more() {
+            Ok(came) => {
+                if came && take_line(line, taken, src) {
+                    return Ok(LineOrEnd::Line);
+                }
+            }
+            Err(Failed) => return Err(LineFault::ReadFault),
+        }
+    }
+    read_line(line, taken, src)
+}
+
+// Whether the bytes at hand end within a line: there are some, and fewer than make a line too long.
+fn is_cut(bytes: &[u8]) -> bool {
+    (1..=LINE_BYTES).contains(&bytes.len())
+}
+
 /// What one read of one byte gave.
 enum Next {
     Byte(u8),
@@ -122,6 +202,7 @@ enum Next {
 fn next_byte<S: Source>(src: &mut S) -> Next
     ensures gave { Gave result (S.left src.old) (S.left src.new) }
     ensures fault { result ≡ Next.Fault → Rose (S.faults src.old) (S.faults src.new) }
+    ensures sound { result ≢ Next.Fault → S.faults src.new ≡ S.faults src.old }
     ensures never_falls { S.faults src.old ≤ S.faults src.new }
 {
     let mut buf = [0];
@@ -147,6 +228,7 @@ fn read_line<S: Source>(
         Counts result was now }
     ensures plain { plain line.new.items ≡ true }
     ensures read_fault { result ≡ Err LineFault.ReadFault → Rose (S.faults src.old) (S.faults src.new) }
+    ensures sound { result ≢ Err LineFault.ReadFault → S.faults src.new ≡ S.faults src.old }
     ensures never_falls { S.faults src.old ≤ S.faults src.new }
 {
     while *taken < LOG_BYTES {

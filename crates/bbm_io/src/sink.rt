@@ -17,13 +17,14 @@ pub trait Sink {
 
     /// Takes the first bytes of `piece` and answers how many: at least one where `piece` isn't empty.
     /// `Failed` comes only where the count of faults rose, or stands at 2^64 - 1, and then nothing was
-    /// taken.
+    /// taken. Where it doesn't come the count stays.
     fn write(&mut self, piece: &[u8]) -> Result<usize, Failed>
         ensures bound { IfOk result (λ n. n ≤ length piece.now) }
         ensures some { 0 < length piece.now → IfOk result (λ n. 1 ≤ n) }
         ensures bytes { IfOk result (λ n. held self.new ≡ extended (held self.old) (take n piece.now)) }
         ensures untaken { OnErr result (held self.new ≡ held self.old) }
         ensures failed { OnErr result (Rose (faults self.old) (faults self.new)) }
+        ensures sound { OnOk result (faults self.new ≡ faults self.old) }
         ensures never_falls { faults self.old ≤ faults self.new };
 }
 
@@ -134,12 +135,14 @@ impl Sink for MemSink {
 }
 
 /// Writes the whole piece. `Failed` comes only where the sink's count of faults rose, or stands at
-/// 2^64 - 1, and then a proper prefix of the piece was taken; so an empty piece is always Ok.
+/// 2^64 - 1, and then a proper prefix of the piece was taken; so an empty piece is always Ok. Where it
+/// doesn't come the count stays.
 #[tactic(auto, using(crate::proofs::Flow::flow))]
 pub fn put<K: Sink>(out: &mut K, piece: &[u8]) -> Result<(), Failed>
     ensures whole { OnOk result (K.held out.new ≡ extended (K.held out.old) piece.now) }
     ensures part { OnErr result ((n : ℕ) × (n < length piece.now) × (K.held out.new ≡ extended (K.held out.old) (take n piece.now))) }
     ensures failed { OnErr result (Rose (K.faults out.old) (K.faults out.new)) }
+    ensures sound { OnOk result (K.faults out.new ≡ K.faults out.old) }
     ensures quiet { ¬ (Rose (K.faults out.old) (K.faults out.new)) → IsOk result }
     ensures never_falls { K.faults out.old ≤ K.faults out.new }
 {

@@ -1,8 +1,8 @@
 //! Sources of bytes: the trait, and two sources in memory.
 
-ghost use Rattle.std.specs.Prelude.{◌≡◌, ℕ, ◌+◌, ◌-◌, ◌^◌, ◌<◌, ◌≤◌, List, ◌++◌, if◌then◌else◌, length, take, drop, min, is_err, IfOk, OnErr, Option, Some, vec_len};
+ghost use Rattle.std.specs.Prelude.{◌≡◌, ℕ, ◌+◌, ◌-◌, ◌^◌, ◌<◌, ◌≤◌, ◌⊎◌, List, [], ◌++◌, if◌then◌else◌, length, take, drop, min, true, false, is_err, IfOk, OnOk, OnErr, Option, Some, Ok, vec_len};
 ghost use Rattle.bbm_io.specs.Faults.{Rose};
-ghost use Rattle.bbm_io.specs.Flow.{preceded, AtEnd};
+ghost use Rattle.bbm_io.specs.Flow.{preceded, AtEnd, IsAllOf};
 ghost use Rattle.bbm_io.specs.Memory.{fails_next};
 
 use std::marker::Model;
@@ -11,27 +11,60 @@ use std::marker::Model;
 #[derive(Clone, Copy, Debug, PartialEq, Eq)]
 pub struct Failed;
 
-/// Where bytes come from. `left` is the bytes still to come, where the source tells them, and `faults`
-/// is a count that never falls. Source: project's own choice.
+/// Where bytes come from. `left` is the bytes still to come, where the source tells them, `at_hand` those
+/// of them that it has read ahead, `room` how many it has at hand at most, and `faults` a count that never
+/// falls. Source: project's own choice.
 pub trait Source {
     ghost left: { Self → Option (List ℕ) };
+
+    ghost at_hand: { Self → List ℕ };
+
+    ghost room: { Self → ℕ };
 
     ghost faults: { Self → ℕ };
 
     /// Puts the next bytes at the front of `buf` and answers how many, at most its length. None for a
     /// `buf` that isn't empty means that nothing is left. `Failed` comes only where the count of faults
-    /// rose, or stands at 2^64 - 1, and then what is left is as before.
+    /// rose, or stands at 2^64 - 1, and then what is left is as before. Where it doesn't come the count stays.
     fn read(&mut self, buf: &mut [u8]) -> Result<usize, Failed>
         ensures bound { IfOk result (λ n. n ≤ length buf.new) }
         ensures bytes { IfOk result (λ n. left self.old ≡ preceded (take n buf.new) (left self.new)) }
         ensures end { result ≡ Ok 0 → 0 < length buf.new → AtEnd (left self.new) }
         ensures unread { OnErr result (left self.new ≡ left self.old) }
         ensures failed { OnErr result (Rose (faults self.old) (faults self.new)) }
+        ensures sound { OnOk result (faults self.new ≡ faults self.old) }
+        ensures never_falls { faults self.old ≤ faults self.new };
+
+    /// The bytes that were read ahead and not yet taken, the next one first.
+    fn ahead(&self) -> &[u8]
+        ensures { result.now ≡ at_hand self.now };
+
+    /// Takes this many of the bytes at hand.
+    fn consume(&mut self, count: usize)
+        requires { count ≤ length (at_hand self.old) }
+        ensures bytes { left self.old ≡ preceded (take count (at_hand self.old)) (left self.new) }
+        ensures rest { at_hand self.new ≡ drop count (at_hand self.old) }
+        ensures sound { faults self.new ≡ faults self.old };
+
+    /// Reads further bytes ahead, behind those at hand, and takes none. Answers whether there are more at
+    /// hand now; no comes only where there is no room for more, or nothing more is left. `Failed` comes only
+    /// where the count of faults rose, or stands at 2^64 - 1, and then what is at hand is as before. Where it
+    /// doesn't come the count stays.
+    fn more(&mut self) -> Result<bool, Failed>
+        ensures untaken { left self.new ≡ left self.old }
+        ensures behind { (further : List ℕ) × (at_hand self.new ≡ at_hand self.old ++ further) }
+        ensures some { result ≡ Ok true → length (at_hand self.old) < length (at_hand self.new) }
+        ensures none { result ≡ Ok false → at_hand self.new ≡ at_hand self.old }
+        ensures end { result ≡ Ok false
+            → (room self.old ≤ length (at_hand self.old)) ⊎ IsAllOf (at_hand self.new) (left self.new) }
+        ensures unread { OnErr result (at_hand self.new ≡ at_hand self.old) }
+        ensures failed { OnErr result (Rose (faults self.old) (faults self.new)) }
+        ensures sound { OnOk result (faults self.new ≡ faults self.old) }
         ensures never_falls { faults self.old ≤ faults self.new };
 }
 
-/// A source over memory whose calls never fail: its count of faults is 0. It tells what is left. A
-/// clause sees the bytes that are left.
+/// A source over memory whose calls never fail: its count of faults is 0. It tells what is left, and has
+/// all of it at hand. A clause sees the bytes that are left.
 #[derive(Drop)]
 pub struct CleanSource {
     bytes: Vec<u8>,
@@ -56,7 +89,7 @@ impl CleanSource {
 }
 
 /// Copies as many bytes as fit to the front of `buf`, and answers how many.
-fn copy_front(bytes: &[u8], buf: &mut [u8]) -> usize
+pub(crate) fn copy_front(bytes: &[u8], buf: &mut [u8]) -> usize
     ensures count { result ≡ min (length bytes.now) (length buf.old) }
     ensures front { take result buf.new ≡ take result bytes.now }
 {
@@ -68,6 +101,10 @@ fn copy_front(bytes: &[u8], buf: &mut [u8]) -> usize
 impl Source for CleanSource {
     ghost left = { λ s. Some s };
 
+    ghost at_hand = { λ s. s };
+
+    ghost room = { λ s. length s };
+
     ghost faults = { λ _. 0 };
 
     fn read(&mut self, buf: &mut [u8]) -> Result<usize, Failed>
@@ -77,6 +114,19 @@ impl Source for CleanSource {
         let count = copy_front(&self.bytes[self.at..], buf);
         self.at += count;
         Ok(count)
+    }
+
+    fn ahead(&self) -> &[u8] {
+        &self.bytes[self.at..]
+    }
+
+    #[tactic(auto, using(crate::proofs::Flow::memory))]
+    fn consume(&mut self, count: usize) {
+        self.at += count;
+    }
+
+    fn more(&mut self) -> Result<bool, Failed> {
+        Ok(false)
     }
 }
 
@@ -92,8 +142,8 @@ pub(crate) fn next_fails(calls: &mut u64, fails: &[u64]) -> bool
     fails.contains(&number)
 }
 
-/// A source over memory, some of whose calls fail. It tells what is left. A clause sees its
-/// `SourceState`.
+/// A source over memory, some of whose calls of `read` fail. It tells what is left, and has nothing at hand.
+/// A clause sees its `SourceState`.
 #[derive(Drop)]
 pub struct MemSource {
     bytes: Vec<u8>,
@@ -133,6 +183,10 @@ impl MemSource {
 impl Source for MemSource {
     ghost left = { λ s. Some s.left };
 
+    ghost at_hand = { λ _. [] };
+
+    ghost room = { λ _. 0 };
+
     ghost faults = { λ s. s.faults };
 
     fn read(&mut self, buf: &mut [u8]) -> Result<usize, Failed>
@@ -151,5 +205,15 @@ impl Source for MemSource {
         let count = copy_front(&self.bytes[self.at..], buf);
         self.at += count;
         Ok(count)
+    }
+
+    fn ahead(&self) -> &[u8] {
+        &[]
+    }
+
+    fn consume(&mut self, _count: usize) {}
+
+    fn more(&mut self) -> Result<bool, Failed> {
+        Ok(false)
     }
 }

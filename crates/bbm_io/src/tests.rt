@@ -1,7 +1,10 @@
 //! Lines, pieces and failing calls over sources and sinks in memory and over std.
 
 use super::*;
+use arrayvec::ArrayVec;
 use std::alloc::{AllocError, Global};
+use std::io;
+use std::io::{ErrorKind, Read, Write};
 use std::test::Fail;
 
 /// This many letters `a`, and then the text.
@@ -92,4 +95,140 @@ fn copies_over_std(rt: HostRuntime) -> Result<(), Fail> {
     }
     assert_eq!(rt; copy.as_slice(), bytes.as_slice());
     Ok(())
+}
+
+/// What one call of a reader or a writer does: it passes so many bytes at most, or fails.
+#[derive(Clone, Copy)]
+enum Turn {
+    Pass(usize),
+    Fail(ErrorKind),
+}
+
+/// A reader and writer whose calls go by their turns, and then pass all bytes.
+#[derive(Drop)]
+struct Wire<'a> {
+    bytes: &'a [u8],
+    turns: &'a [Turn],
+    sent: ArrayVec<u8, 16>,
+}
+
+/// How many bytes the next call passes.
+fn next_turn(turns: &mut &[Turn]) -> io::Result<usize> {
+    let Some((turn, rest)) = turns.split_first() else {
+        return Ok(usize::MAX);
+    };
+    *turns = rest;
+    match *turn {
+        Turn::Pass(count) => Ok(count),
+        Turn::Fail(kind) => Err(io::Error::new(kind, "as the test asks")),
+    }
+}
+
+impl Read for Wire<'_> {
+    fn read(&mut self, buf: &mut [u8]) -> io::Result<usize> {
+        let count = next_turn(&mut self.turns)?.min(buf.len());
+        self.bytes.read(&mut buf[..count])
+    }
+}
+
+impl Write for Wire<'_> {
+    fn write(&mut self, buf: &[u8]) -> io::Result<usize> {
+        let count = next_turn(&mut self.turns)?.min(buf.len());
+        let _fits = self.sent.try_extend_from_slice(&buf[..count]);
+        Ok(count)
+    }
+
+    fn flush(&mut self) -> io::Result<()> {
+        Ok(())
+    }
+}
+
+#[test]
+fn reads_lines_in_pieces(rt: HostRuntime) -> Result<(), Fail> {
+    use Turn::{Fail, Pass};
+
+    let again = Fail(ErrorKind::Interrupted);
+    let fault = Fail(ErrorKind::Other);
+    // What the reader's calls do, and what stands where the four lines and pieces were asked for.
+    for (turns, answers) in [
+        ([Pass(16), Pass(16), Pass(16)], "ab cde f. ."),
+        ([Pass(1), Pass(1), Pass(1)], "ab cde f. ."),
+        ([again, Pass(4), again], "ab cde f. ."),
+        ([Pass(3), again, Pass(1)], "ab cde f. ."),
+        ([Pass(0), Pass(2), again], ". ab cde f."),
+        ([fault, again, Pass(16)], "!"),
+        ([Pass(4), fault, Pass(16)], "ab !"),
+        ([Pass(7), fault, Pass(16)], "ab cde !"),
+    ] {
+        let mut source = StdSource::new(Wire {
+            bytes: b"ab\ncde\nf",
+            turns: &turns,
+            sent: ArrayVec::new(),
+        });
+        let mut lines = Lines::new();
+        for answer in answers.split(' ') {
+            assert!(rt; !lines.failed());
+            let end = match lines.next(&mut source) {
+                Ok(LineOrEnd::Line) => "",
+                Ok(_) => ".",
+                Err(_) => "!",
+            };
+            let text = format!(in rt.alloc(); "{}{end}", str::from_utf8(lines.bytes())?)?;
+            assert_eq!(rt; text.as_str(), answer, "of {answers}");
+        }
+    }
+    Ok(())
+}
+
+#[test]
+fn reads_ahead(rt: HostRuntime) -> Result<(), Fail> {
+    let mut source = StdSource::new(Wire {
+        bytes: b"abcde",
+        turns: &[Turn::Pass(2), Turn::Pass(1), Turn::Fail(ErrorKind::Other)],
+        sent: ArrayVec::new(),
+    });
+    assert_eq!(rt; source.read(&mut []), Ok(0));
+    assert_eq!(rt; source.ahead(), b"".as_slice());
+    assert_eq!(rt; source.more(), Ok(true));
+    source.consume(1);
+    assert_eq!(rt; source.more(), Ok(true));
+    assert_eq!(rt; source.more(), Err(Failed));
+    assert_eq!(rt; source.ahead(), b"bc".as_slice());
+    assert_eq!(rt; source.more(), Ok(true));
+    assert_eq!(rt; source.more(), Ok(false));
+    assert_eq!(rt; source.ahead(), b"bcde".as_slice());
+    let mut memory = MemSource::new(letters(rt.alloc(), 1, "")?, Vec::new(rt.alloc()));
+    assert_eq!(rt; memory.more(), Ok(false));
+    assert_eq!(rt; memory.ahead(), b"".as_slice());
+    Ok(())
+}
+
+#[test]
+fn puts_pieces_over_std(rt: HostRuntime) {
+    use Turn::{Fail, Pass};
+
+    let again = Fail(ErrorKind::Interrupted);
+    // What the writer's calls do, whether the piece goes out, and what the writer was sent.
+    for (turns, answer, sent) in [
+        ([Pass(1), again, Pass(2)], Ok(()), "abcde"),
+        ([again, again, Pass(9)], Ok(()), "abcde"),
+        ([Pass(2), Pass(0), Pass(9)], Err(Failed), "ab"),
+        (
+            [Pass(4), Fail(ErrorKind::BrokenPipe), Pass(9)],
+            Err(Failed),
+            "abcd",
+        ),
+    ] {
+        let mut wire = Wire {
+            bytes: b"",
+            turns: &turns,
+            sent: ArrayVec::new(),
+        };
+        assert_eq!(rt;
+            put(&mut StdSink::new(&mut wire), b"abcde"),
+            answer,
+            "{sent} is sent"
+        );
+        assert_eq!(rt; wire.sent.as_slice(), sent.as_bytes());
+    }
 }

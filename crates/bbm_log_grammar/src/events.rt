@@ -17,7 +17,7 @@ fn init_line(header: &Header, fields: Fields) -> Result<Item, Malformed>
 {
     let (pe, fields) = pe_field(header, fields)?;
     let (page, fields) = page_field(fields)?;
-    whole(Item::Event(Event::Init { pe, page }), fields)
+    event_item(header, Event::Init { pe, page }, fields)
 }
 
 fn null_line(header: &Header, fields: Fields) -> Result<Item, Malformed>
@@ -25,7 +25,7 @@ fn null_line(header: &Header, fields: Fields) -> Result<Item, Malformed>
 {
     let (pe, fields) = pe_field(header, fields)?;
     let (page, fields) = page_field(fields)?;
-    whole(Item::Event(Event::Null { pe, page }), fields)
+    event_item(header, Event::Null { pe, page }, fields)
 }
 
 fn root_line(header: &Header, fields: Fields) -> Result<Item, Malformed>
@@ -35,13 +35,14 @@ fn root_line(header: &Header, fields: Fields) -> Result<Item, Malformed>
     let (kind, fields) = kind_field(fields)?;
     let (lock, fields) = root_lock_field(fields)?;
     let (page, fields) = root_page_field(header, kind, fields)?;
-    whole(
-        Item::Event(Event::Root {
+    event_item(
+        header,
+        Event::Root {
             pe,
             kind,
             lock,
             page,
-        }),
+        },
         fields,
     )
 }
@@ -51,7 +52,7 @@ fn unroot_line(header: &Header, fields: Fields) -> Result<Item, Malformed>
 {
     let (pe, fields) = pe_field(header, fields)?;
     let (page, fields) = page_field(fields)?;
-    whole(Item::Event(Event::Unroot { pe, page }), fields)
+    event_item(header, Event::Unroot { pe, page }, fields)
 }
 
 fn write_line(header: &Header, fields: Fields) -> Result<Item, Malformed>
@@ -60,7 +61,7 @@ fn write_line(header: &Header, fields: Fields) -> Result<Item, Malformed>
     let (pe, fields) = pe_field(header, fields)?;
     let (place, fields) = place_field(fields)?;
     let (value, fields) = value_field(fields)?;
-    whole(Item::Event(Event::Write { pe, place, value }), fields)
+    event_item(header, Event::Write { pe, place, value }, fields)
 }
 
 fn dsb_line(header: &Header, fields: Fields) -> Result<Item, Malformed>
@@ -68,7 +69,7 @@ fn dsb_line(header: &Header, fields: Fields) -> Result<Item, Malformed>
 {
     let (pe, fields) = pe_field(header, fields)?;
     let (dsb, fields) = dsb_field(fields)?;
-    whole(Item::Event(Event::Dsb { pe, dsb }), fields)
+    event_item(header, Event::Dsb { pe, dsb }, fields)
 }
 
 fn dmb_line(header: &Header, fields: Fields) -> Result<Item, Malformed>
@@ -76,23 +77,23 @@ fn dmb_line(header: &Header, fields: Fields) -> Result<Item, Malformed>
 {
     let (pe, fields) = pe_field(header, fields)?;
     let (dsb, fields) = dsb_field(fields)?;
-    whole(Item::Event(Event::Dmb { pe, dsb }), fields)
+    event_item(header, Event::Dmb { pe, dsb }, fields)
 }
 
 fn isb_line(header: &Header, fields: Fields) -> Result<Item, Malformed>
     ensures { result ≡ lines.line_after header.now first.Isb fields.entry }
 {
     let (pe, fields) = pe_field(header, fields)?;
-    whole(Item::Event(Event::Isb { pe }), fields)
+    event_item(header, Event::Isb { pe }, fields)
 }
 
 fn tlbi_line(header: &Header, fields: Fields) -> Result<Item, Malformed>
     ensures { result ≡ lines.line_after header.now first.Tlbi fields.entry }
 {
     let (pe, fields) = pe_field(header, fields)?;
-    let (op, fields) = op_field(fields)?;
+    let (op, fields) = op_field(header, fields)?;
     let (xt, fields) = operand_field(op, fields)?;
-    whole(Item::Event(Event::Tlbi { pe, op, xt }), fields)
+    event_item(header, Event::Tlbi { pe, op, xt }, fields)
 }
 
 fn msr_line(header: &Header, fields: Fields) -> Result<Item, Malformed>
@@ -101,7 +102,7 @@ fn msr_line(header: &Header, fields: Fields) -> Result<Item, Malformed>
     let (pe, fields) = pe_field(header, fields)?;
     let (reg, fields) = reg_field(fields)?;
     let (value, fields) = value_field(fields)?;
-    whole(Item::Event(Event::Msr { pe, reg, value }), fields)
+    event_item(header, Event::Msr { pe, reg, value }, fields)
 }
 
 fn lock_line(header: &Header, fields: Fields) -> Result<Item, Malformed>
@@ -109,7 +110,7 @@ fn lock_line(header: &Header, fields: Fields) -> Result<Item, Malformed>
 {
     let (pe, fields) = pe_field(header, fields)?;
     let (lock, fields) = lock_field(fields)?;
-    whole(Item::Event(Event::Lock { pe, lock }), fields)
+    event_item(header, Event::Lock { pe, lock }, fields)
 }
 
 fn unlock_line(header: &Header, fields: Fields) -> Result<Item, Malformed>
@@ -117,7 +118,7 @@ fn unlock_line(header: &Header, fields: Fields) -> Result<Item, Malformed>
 {
     let (pe, fields) = pe_field(header, fields)?;
     let (lock, fields) = lock_field(fields)?;
-    whole(Item::Event(Event::Unlock { pe, lock }), fields)
+    event_item(header, Event::Unlock { pe, lock }, fields)
 }
 
 fn end_line(header: &Header, fields: Fields) -> Result<Item, Malformed>
@@ -170,7 +171,9 @@ fn item_on(header: &Header, line: &[u8]) -> Result<Item, Malformed>
 /// newline. Where the line isn't the one spelling of an item, the answer is the first cause:
 /// `UnknownWord` where the first field is no word of the table of lines, and then, for each field from
 /// left to right, `MissingField` where it is absent and else the cause of its kind where it can't be
-/// read, and at last `ExtraField` where a further field follows. Source: project's own choice.
+/// read. Under versions 3 and 4 a label can follow the last field of an event line: `BadLabel` where the
+/// field there begins with `@` and isn't a label. At last `ExtraField` where a further field follows.
+/// Source: project's own choice.
 pub fn read_event(header: &Header, line: &[u8]) -> Result<Item, Malformed>
     ensures item { result ≡ item_of header.now line.now }
     ensures fits { IfOk result (λ item. item_fits header.now item ≡ true) }

@@ -1,16 +1,19 @@
 //! The first line.
 
-ghost use Rattle.std.specs.Prelude.{◌≡◌, Ok, Err, IfErr, MatchResult};
+ghost use Rattle.std.specs.Prelude.{◌≡◌, ◌||◌, not, true, if◌then◌else◌, Some, None, Ok, Err, IfOk, IfErr, MatchResult};
 ghost use Rattle.bbm_regimes.specs.declared.regime.World.TheVariants.{Hyp, Kernel};
+ghost use Rattle.bbm_regimes.specs.World.{world_ok};
 ghost use Rattle.bbm_events.specs.Causes.{IsHeaderCause};
+ghost use Rattle.bbm_events.specs.Heading as heading;
 ghost use Rattle.bbm_events.specs.Spelling.{decimal_value};
-ghost use Rattle.bbm_events.specs.Words.{value_of, asid_from_word, asid_froms};
+ghost use Rattle.bbm_events.specs.Words.{with_word, asid_from_word, asid_froms};
 ghost use Rattle.bbm_events.specs.Lines.{header_of};
 ghost use Rattle.bbm_events.specs.Lines as lines;
 
 use crate::fields::Fields;
 use crate::numbers::read_decimal;
-use crate::words::asid_from_of;
+use crate::values::version_of;
+use crate::words::{asid_from_of, cnp_of};
 use bbm_events::{Header, Malformed, law_header_causes};
 use bbm_regimes::{AsidFrom, World};
 
@@ -37,94 +40,140 @@ fn number_field<'a>(fields: Fields<'a>) -> Result<(u64, Fields<'a>), Malformed>
 
 /// The register for the current ASID.
 fn asid_from_field<'a>(fields: Fields<'a>) -> Result<(AsidFrom, Fields<'a>), Malformed>
-    ensures { result ≡ lines.header_field (value_of asid_from_word asid_froms) fields.entry }
+    ensures { result ≡ lines.header_field (with_word asid_from_word asid_froms) fields.entry }
 {
     let (text, rest) = fields.next_or(Malformed::BadHeader)?;
     let asid_from = asid_from_of(text).ok_or(Malformed::BadHeader)?;
     Ok((asid_from, rest))
 }
 
-/// The header of the Hyp world with these numbers, where no field is left.
-fn hyp_header(
-    pes: u64,
-    el2_start: u64,
-    s2_start: u64,
-    s2_pages: u64,
-    fields: Fields,
-) -> Result<Header, Malformed>
-    ensures { result ≡ lines.checked (record { pes = pes; world = Hyp el2_start s2_start s2_pages }) fields.entry }
+/// The version of the log.
+fn version_field<'a>(fields: Fields<'a>) -> Result<(u8, Fields<'a>), Malformed>
+    ensures version { result ≡ lines.version_field fields.entry }
+    ensures in_range { IfOk result (λ x. heading.is_version x.0 ≡ true) }
+{
+    let (text, rest) = fields.next_or(Malformed::NoMagic)?;
+    let version = version_of(text).ok_or(Malformed::NoMagic)?;
+    Ok((version, rest))
+}
+
+/// Whether TLBs are shared, which version 1 doesn't say.
+fn cnp_field<'a>(version: u8, fields: Fields<'a>) -> Result<(bool, Fields<'a>), Malformed>
+    ensures cnp { result ≡ lines.cnp_field version fields.entry }
+    ensures shares { IfOk result (λ x. (heading.may_share version || not x.0) ≡ true) }
+{
+    if version < 2 {
+        return Ok((false, fields));
+    }
+    let (text, rest) = fields.next_or(Malformed::BadHeader)?;
+    let cnp = cnp_of(text).ok_or(Malformed::BadHeader)?;
+    Ok((cnp, rest))
+}
+
+/// Whether a log of this version can have so many PEs.
+fn are_pes(version: u8, pes: u64) -> bool
+    ensures { result ≡ heading.are_pes version pes }
+{
+    let most = if version < 3 { 64 } else { 128 };
+    1 <= pes && pes <= most
+}
+
+/// The Hyp world with these numbers, where they are in their ranges.
+fn hyp_world(el2_start: u64, s2_start: u64, s2_pages: u64) -> Option<World>
+    ensures { result ≡ (if world_ok (Hyp el2_start s2_start s2_pages) then Some (Hyp el2_start s2_start s2_pages) else None) }
 {
     let pages_fit = match s2_pages {
         1 => true,
         2 | 4 | 8 | 16 => s2_start != 0,
         _ => false,
     };
-    let in_range = 1 <= pes && pes <= 64 && el2_start <= 2 && s2_start <= 2 && pages_fit;
-    if !in_range || fields.next().is_some() {
-        return Err(Malformed::BadHeader);
-    }
-    Ok(Header {
-        pes: pes as u8,
-        world: World::Hyp {
+    if el2_start <= 2 && s2_start <= 2 && pages_fit {
+        Some(World::Hyp {
             el2_start: el2_start as u8,
             s2_start: s2_start as u8,
             s2_pages: s2_pages as u8,
-        },
-    })
+        })
+    } else {
+        None
+    }
 }
 
-/// The header of the Kernel world with these numbers, where no field is left.
-fn kernel_header(
-    pes: u64,
-    start0: u64,
-    start1: u64,
-    asid_from: AsidFrom,
-    fields: Fields,
-) -> Result<Header, Malformed>
-    ensures { result ≡ lines.checked (record { pes = pes; world = Kernel start0 start1 asid_from }) fields.entry }
+/// The Kernel world with these numbers, where they are in their ranges.
+fn kernel_world(start0: u64, start1: u64, asid_from: AsidFrom) -> Option<World>
+    ensures { result ≡ (if world_ok (Kernel start0 start1 asid_from) then Some (Kernel start0 start1 asid_from) else None) }
 {
-    let in_range = 1 <= pes && pes <= 64 && start0 <= 2 && start1 <= 2;
-    if !in_range || fields.next().is_some() {
-        return Err(Malformed::BadHeader);
-    }
-    Ok(Header {
-        pes: pes as u8,
-        world: World::Kernel {
+    if start0 <= 2 && start1 <= 2 {
+        Some(World::Kernel {
             start0: start0 as u8,
             start1: start1 as u8,
             asid_from,
-        },
+        })
+    } else {
+        None
+    }
+}
+
+/// The header, where it has as many PEs as its version allows and no field is left.
+fn checked(
+    version: u8,
+    pes: u64,
+    cnp: bool,
+    world: World,
+    fields: Fields,
+) -> Result<Header, Malformed>
+    requires version { heading.is_version version ≡ true }
+    requires shares { (heading.may_share version || not cnp) ≡ true }
+    requires world { world_ok world ≡ true }
+    ensures { result ≡ lines.checked (record { version = version; pes = pes; cnp = cnp; world = world }) fields.entry }
+{
+    if !are_pes(version, pes) || fields.next().is_some() {
+        return Err(Malformed::BadHeader);
+    }
+    Ok(Header {
+        version,
+        pes: pes as u8,
+        cnp,
+        world,
     })
 }
 
-fn hyp_fields(fields: Fields) -> Result<Header, Malformed>
-    ensures { result ≡ lines.hyp_fields fields.entry }
+#[tactic(auto, using(crate::proofs::WorldFaults::unfit_world))]
+fn hyp_fields(version: u8, fields: Fields) -> Result<Header, Malformed>
+    requires { heading.is_version version ≡ true }
+    ensures { result ≡ lines.hyp_fields version fields.entry }
 {
     let (pes, fields) = number_field(fields)?;
     let (el2_start, fields) = number_field(fields)?;
     let (s2_start, fields) = number_field(fields)?;
     let (s2_pages, fields) = number_field(fields)?;
-    hyp_header(pes, el2_start, s2_start, s2_pages, fields)
+    let (cnp, fields) = cnp_field(version, fields)?;
+    let world = hyp_world(el2_start, s2_start, s2_pages).ok_or(Malformed::BadHeader)?;
+    checked(version, pes, cnp, world, fields)
 }
 
-fn kernel_fields(fields: Fields) -> Result<Header, Malformed>
-    ensures { result ≡ lines.kernel_fields fields.entry }
+#[tactic(auto, using(crate::proofs::WorldFaults::unfit_world))]
+fn kernel_fields(version: u8, fields: Fields) -> Result<Header, Malformed>
+    requires { heading.is_version version ≡ true }
+    ensures { result ≡ lines.kernel_fields version fields.entry }
 {
     let (pes, fields) = number_field(fields)?;
     let (start0, fields) = number_field(fields)?;
     let (start1, fields) = number_field(fields)?;
     let (asid_from, fields) = asid_from_field(fields)?;
-    kernel_header(pes, start0, start1, asid_from, fields)
+    let (cnp, fields) = cnp_field(version, fields)?;
+    let world = kernel_world(start0, start1, asid_from).ok_or(Malformed::BadHeader)?;
+    checked(version, pes, cnp, world, fields)
 }
 
 /// The fields after the word of the world.
-fn world_fields(word: &[u8], fields: Fields) -> Result<Header, Malformed>
-    ensures { result ≡ lines.world_fields word.now fields.entry }
+fn world_fields(version: u8, word: &[u8], fields: Fields) -> Result<Header, Malformed>
+    requires { heading.is_version version ≡ true }
+    ensures { result ≡ lines.world_fields version word.now fields.entry }
 {
     if word == b"hyp".as_slice() {
-        hyp_fields(fields)
+        hyp_fields(version, fields)
     } else if word == b"kernel".as_slice() {
-        kernel_fields(fields)
+        kernel_fields(version, fields)
     } else {
         Err(Malformed::BadHeader)
     }
@@ -136,13 +185,13 @@ fn header_on(line: &[u8]) -> Result<Header, Malformed>
     ensures { result ≡ header_of line.now }
 {
     let (_, fields) = magic_field(b"bbmlog", Fields::of(line))?;
-    let (_, fields) = magic_field(b"1", fields)?;
+    let (version, fields) = version_field(fields)?;
     let (world, fields) = fields.next_or(Malformed::BadHeader)?;
-    world_fields(world, fields)
+    world_fields(version, world, fields)
 }
 
 /// The header that line 1 says; the bytes are the line's without its newline. `NoMagic` where the
-/// first two fields aren't `bbmlog` and `1`, and `BadHeader` where the line isn't the one spelling of a
+/// first two fields aren't `bbmlog` and `1` to `4`, and `BadHeader` where the line isn't the one spelling of a
 /// header for another reason. Source: project's own choice.
 pub fn read_header(line: &[u8]) -> Result<Header, Malformed>
     ensures header { result ≡ header_of line.now }

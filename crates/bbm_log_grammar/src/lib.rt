@@ -4,6 +4,8 @@
 mod events;
 mod fields;
 mod headers;
+mod machine;
+mod machine_writing;
 mod numbers;
 mod readers;
 pub mod spell;
@@ -11,10 +13,15 @@ mod values;
 mod words;
 pub mod write;
 
-pub use bbm_events::{Item, Malformed, law_one_line, law_written_is_read};
+pub use bbm_events::{
+    Item, MachineLine, Malformed, law_machine_one_line, law_machine_written_is_read, law_one_line,
+    law_written_is_read,
+};
 pub use events::read_event;
 pub use fields::field;
 pub use headers::read_header;
+pub use machine::read_machine;
+pub use machine_writing::write_machine;
 pub use numbers::{read_decimal, read_hex};
 pub use spell::{add, add_decimal, add_hex};
 pub use write::{write_event, write_header};

@@ -1,14 +1,16 @@
 //! The fields of event lines, each with the cause where it can't be read.
 
-ghost use Rattle.std.specs.Prelude.{◌≡◌};
+ghost use Rattle.std.specs.Prelude.{◌≡◌, ◌∷◌};
 ghost use Rattle.bbm_events.specs.Lines as lines;
 
 use crate::fields::Fields;
 use crate::numbers::read_hex;
-use crate::values::{count_of, lock_of, page_of, pe_of, place_of, root_lock_of, root_page_of};
+use crate::values::{
+    count_of, is_marked, label_of, lock_of, page_of, pe_of, place_of, root_lock_of, root_page_of,
+};
 use crate::words::{dsb_of, kind_of, op_of, reg_of};
 use bbm_barriers::Dsb;
-use bbm_events::{Header, Item, Malformed};
+use bbm_events::{Event, Header, Item, Label, Malformed, has_op};
 use bbm_regimes::{Kind, Page, Pe, Place, Reg};
 use bbm_tlbi_scope::TlbiOp;
 
@@ -112,12 +114,19 @@ pub(crate) fn dsb_field<'a>(fields: Fields<'a>) -> Result<(Dsb, Fields<'a>), Mal
 }
 
 /// The operation of a TLBI.
-pub(crate) fn op_field<'a>(fields: Fields<'a>) -> Result<(TlbiOp, Fields<'a>), Malformed>
-    ensures { result ≡ lines.op_field fields.entry }
+pub(crate) fn op_field<'a>(
+    header: &Header,
+    fields: Fields<'a>,
+) -> Result<(TlbiOp, Fields<'a>), Malformed>
+    ensures { result ≡ lines.op_field header.now.version fields.entry }
 {
     let (text, rest) = fields.next_or(Malformed::MissingField)?;
     let value = op_of(text).ok_or(Malformed::UnknownWord)?;
-    Ok((value, rest))
+    if has_op(header, value) {
+        Ok((value, rest))
+    } else {
+        Err(Malformed::UnknownWord)
+    }
 }
 
 /// A register.
@@ -143,12 +152,33 @@ pub(crate) fn operand_field<'a>(
     }
 }
 
-/// The item, where no field is left.
-pub(crate) fn whole(item: Item, fields: Fields) -> Result<Item, Malformed>
-    ensures { result ≡ lines.whole item fields.entry }
+/// The event with the label that its line's last field is, where no field is left.
+fn labelled(header: &Header, event: Event, text: &[u8], fields: Fields) -> Result<Item, Malformed>
+    ensures { result ≡ lines.event_item header.now event (text.now ∷ fields.entry) }
+{
+    if header.version < 3 || !is_marked(text) {
+        return Err(Malformed::ExtraField);
+    }
+    let label = label_of(text).ok_or(Malformed::BadLabel)?;
+    whole(Item::Event(event, Some(label)), fields)
+}
+
+/// The event, and the label where a field is left.
+pub(crate) fn event_item(header: &Header, event: Event, fields: Fields) -> Result<Item, Malformed>
+    ensures { result ≡ lines.event_item header.now event fields.entry }
 {
     match fields.next() {
-        None => Ok(item),
+        None => Ok(Item::Event(event, None)),
+        Some((text, rest)) => labelled(header, event, text, rest),
+    }
+}
+
+/// The value, where no field is left.
+pub(crate) fn whole<T: Copy>(value: T, fields: Fields) -> Result<T, Malformed>
+    ensures { result ≡ lines.whole value fields.entry }
+{
+    match fields.next() {
+        None => Ok(value),
         Some(_) => Err(Malformed::ExtraField),
     }
 }

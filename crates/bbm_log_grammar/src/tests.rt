@@ -5,7 +5,9 @@ use bbm_regimes::World;
 /// A header of the Hyp world with two PEs.
 fn two_pes() -> Header {
     Header {
+        version: 1,
         pes: 2,
+        cnp: false,
         world: World::Hyp {
             el2_start: 1,
             s2_start: 1,
@@ -64,7 +66,7 @@ const LINES: [(&[u8], Malformed); 44] = [
 const HEADERS: [(&[u8], Malformed); 16] = [
     (b"", Malformed::NoMagic),
     (b"bbmlog", Malformed::NoMagic),
-    (b"bbmlog 2 hyp 2 1 1 1", Malformed::NoMagic),
+    (b"bbmlog 5 hyp 2 1 1 1", Malformed::NoMagic),
     (b"bbmlog  1 hyp 2 1 1 1", Malformed::NoMagic),
     (b" bbmlog 1 hyp 2 1 1 1", Malformed::NoMagic),
     (b"bbmlog 1", Malformed::BadHeader),

@@ -1,16 +1,33 @@
 //! The values that one field spells.
 
-ghost use Rattle.std.specs.Prelude.{◌≡◌, Some, None};
+ghost use Rattle.std.specs.Prelude.{◌≡◌, true, Some, None};
 ghost use Rattle.bbm_events.specs.Spelling.{decimal_value, hex_value};
+ghost use Rattle.bbm_events.specs.Heading.{is_version};
 ghost use Rattle.bbm_events.specs.Fits as fits;
 ghost use Rattle.bbm_events.specs.Lines as lines;
+ghost use Rattle.bbm_events.specs.Machine as machine;
 
 use crate::numbers::{read_decimal, read_hex};
-use bbm_events::{Header, root_pages};
+use bbm_events::{Header, Label, page_count};
 use bbm_regimes::{Kind, Page, Pe, Place};
 
 /// Locks have numbers below 1,024.
 const LOCKS: u64 = 1024;
+
+/// VMIDs and ASIDs have 16 bits.
+const TAGS: u64 = 1 << 16;
+
+/// The version of a log.
+pub(crate) fn version_of(field: &[u8]) -> Option<u8>
+    ensures { result ≡ lines.passing is_version (decimal_value field.now) }
+{
+    let number = read_decimal(field)?;
+    if 1 <= number && number <= 4 {
+        Some(number as u8)
+    } else {
+        None
+    }
+}
 
 /// A PE of the log.
 pub(crate) fn pe_of(header: &Header, field: &[u8]) -> Option<Pe>
@@ -43,7 +60,7 @@ pub(crate) fn root_page_of(header: &Header, kind: Kind, field: &[u8]) -> Option<
     ensures { result ≡ lines.passing (fits.is_root_page header.now.world kind) (hex_value field.now) }
 {
     let page = page_of(field)?;
-    if page.get() % (4096 * root_pages(header.world, kind) as u64) == 0 {
+    if page.get() % (4096 * page_count(header.world, kind) as u64) == 0 {
         Some(page)
     } else {
         None
@@ -78,4 +95,51 @@ pub(crate) fn count_of(field: &[u8]) -> Option<u32>
     ensures { result ≡ lines.passing fits.is_count (decimal_value field.now) }
 {
     u32::try_from(read_decimal(field)?).ok()
+}
+
+/// Whether an entry of the kind can have the number as its VMID or ASID.
+fn is_tag(kind: Kind, number: u64) -> bool
+    ensures { result ≡ machine.is_tag kind number }
+{
+    match kind {
+        Kind::El2 => number == 0,
+        Kind::S2 => number < TAGS,
+        Kind::Ttbr0 => number < TAGS,
+        Kind::Ttbr1 => number < TAGS,
+    }
+}
+
+/// The VMID or ASID of an entry of the kind.
+pub(crate) fn tag_of(kind: Kind, field: &[u8]) -> Option<u16>
+    ensures { result ≡ lines.passing (machine.is_tag kind) (decimal_value field.now) }
+{
+    let number = read_decimal(field)?;
+    if is_tag(kind, number) {
+        Some(number as u16)
+    } else {
+        None
+    }
+}
+
+/// The number of an entry.
+pub(crate) fn entry_of(field: &[u8]) -> Option<u32>
+    ensures { result ≡ lines.passing machine.is_entry (decimal_value field.now) }
+{
+    u32::try_from(read_decimal(field)?).ok()
+}
+
+/// Whether the field is marked as a label.
+pub(crate) fn is_marked(field: &[u8]) -> bool
+    ensures { result ≡ lines.is_marked field.now }
+{
+    matches!(field, [b'@', ..])
+}
+
+/// The label behind the mark of the field.
+#[tactic(auto, using(crate::proofs::Marks::unmarked))]
+pub(crate) fn label_of(field: &[u8]) -> Option<Label>
+    requires { lines.is_marked field.now ≡ true }
+    ensures { result ≡ lines.label_value field.now }
+{
+    Label::new(&field[1..])
 }

@@ -1,10 +1,11 @@
 //! The words of a log.
 
 ghost use Rattle.std.specs.Prelude.{◌≡◌};
+ghost use Rattle.bbm_events.specs.Machine as machine;
 ghost use Rattle.bbm_events.specs.Words as words;
 
 use bbm_barriers::{Domain, Dsb, Types};
-use bbm_events::Keyword;
+use bbm_events::{Keyword, MachineWord};
 use bbm_regimes::{AsidFrom, Kind, Reg};
 use bbm_tlbi_scope::TlbiOp;
 
@@ -48,12 +49,64 @@ pub(crate) fn keyword_word(keyword: Keyword) -> &'static [u8]
 
 /// The keyword that the field is.
 pub(crate) fn keyword_of(field: &[u8]) -> Option<Keyword>
-    ensures { result ≡ words.value_of words.keyword_word words.keywords field.now }
+    ensures { result ≡ words.with_word words.keyword_word words.keywords field.now }
 {
     KEYWORDS
         .iter()
         .copied()
         .find(|keyword| keyword_word(*keyword) == field)
+}
+
+/// The second words of machine lines.
+const MACHINE_WORDS: [MachineWord; 5] = [
+    MachineWord::Start,
+    MachineWord::Extend,
+    MachineWord::Combine,
+    MachineWord::Share,
+    MachineWord::Drop,
+];
+
+/// The second word of a machine line.
+fn machine_word(word: MachineWord) -> &'static [u8]
+    ensures { result.now ≡ machine.machine_word word }
+{
+    match word {
+        MachineWord::Start => b"start",
+        MachineWord::Extend => b"extend",
+        MachineWord::Combine => b"combine",
+        MachineWord::Share => b"share",
+        MachineWord::Drop => b"drop",
+    }
+}
+
+/// The step whose word the field is.
+pub(crate) fn machine_word_of(field: &[u8]) -> Option<MachineWord>
+    ensures { result ≡ words.with_word machine.machine_word machine.machine_words field.now }
+{
+    MACHINE_WORDS
+        .iter()
+        .copied()
+        .find(|word| machine_word(*word) == field)
+}
+
+/// Whether TLBs are shared.
+const CNPS: [bool; 2] = [true, false];
+
+/// The word of whether TLBs are shared.
+pub(crate) fn cnp_word(cnp: bool) -> &'static [u8]
+    ensures { result.now ≡ words.cnp_word cnp }
+{
+    match cnp {
+        true => b"cnp",
+        false => b"-",
+    }
+}
+
+/// Whether TLBs are shared, by the field.
+pub(crate) fn cnp_of(field: &[u8]) -> Option<bool>
+    ensures { result ≡ words.with_word words.cnp_word words.cnps field.now }
+{
+    CNPS.iter().copied().find(|cnp| cnp_word(*cnp) == field)
 }
 
 /// The kinds of roots.
@@ -73,7 +126,7 @@ pub(crate) fn kind_word(kind: Kind) -> &'static [u8]
 
 /// The kind that the field is.
 pub(crate) fn kind_of(field: &[u8]) -> Option<Kind>
-    ensures { result ≡ words.value_of words.kind_word words.kinds field.now }
+    ensures { result ≡ words.with_word words.kind_word words.kinds field.now }
 {
     KINDS.iter().copied().find(|kind| kind_word(*kind) == field)
 }
@@ -95,7 +148,7 @@ pub(crate) fn reg_word(reg: Reg) -> &'static [u8]
 
 /// The register that the field is.
 pub(crate) fn reg_of(field: &[u8]) -> Option<Reg>
-    ensures { result ≡ words.value_of words.reg_word words.regs field.now }
+    ensures { result ≡ words.with_word words.reg_word words.regs field.now }
 {
     REGS.iter().copied().find(|reg| reg_word(*reg) == field)
 }
@@ -115,7 +168,7 @@ pub(crate) fn asid_from_word(asid_from: AsidFrom) -> &'static [u8]
 
 /// The register for the current ASID that the field is.
 pub(crate) fn asid_from_of(field: &[u8]) -> Option<AsidFrom>
-    ensures { result ≡ words.value_of words.asid_from_word words.asid_froms field.now }
+    ensures { result ≡ words.with_word words.asid_from_word words.asid_froms field.now }
 {
     ASID_FROMS
         .iter()
@@ -197,13 +250,13 @@ pub(crate) fn dsb_word(dsb: Dsb) -> &'static [u8]
 
 /// The barrier whose option the field is.
 pub(crate) fn dsb_of(field: &[u8]) -> Option<Dsb>
-    ensures { result ≡ words.value_of words.dsb_word words.dsbs field.now }
+    ensures { result ≡ words.with_word words.dsb_word words.dsbs field.now }
 {
     DSBS.iter().copied().find(|dsb| dsb_word(*dsb) == field)
 }
 
 /// The operations of TLBIs.
-const OPS: [TlbiOp; 26] = [
+const OPS: [TlbiOp; 42] = [
     TlbiOp::Alle2,
     TlbiOp::Alle2is,
     TlbiOp::Vae2,
@@ -230,6 +283,22 @@ const OPS: [TlbiOp; 26] = [
     TlbiOp::Vaale1is,
     TlbiOp::Aside1,
     TlbiOp::Aside1is,
+    TlbiOp::Rvae2,
+    TlbiOp::Rvae2is,
+    TlbiOp::Rvale2,
+    TlbiOp::Rvale2is,
+    TlbiOp::Ripas2e1,
+    TlbiOp::Ripas2e1is,
+    TlbiOp::Ripas2le1,
+    TlbiOp::Ripas2le1is,
+    TlbiOp::Rvae1,
+    TlbiOp::Rvae1is,
+    TlbiOp::Rvale1,
+    TlbiOp::Rvale1is,
+    TlbiOp::Rvaae1,
+    TlbiOp::Rvaae1is,
+    TlbiOp::Rvaale1,
+    TlbiOp::Rvaale1is,
 ];
 
 /// The word of an operation.
@@ -263,12 +332,28 @@ pub(crate) fn op_word(op: TlbiOp) -> &'static [u8]
         TlbiOp::Vaale1is => b"vaale1is",
         TlbiOp::Aside1 => b"aside1",
         TlbiOp::Aside1is => b"aside1is",
+        TlbiOp::Rvae2 => b"rvae2",
+        TlbiOp::Rvae2is => b"rvae2is",
+        TlbiOp::Rvale2 => b"rvale2",
+        TlbiOp::Rvale2is => b"rvale2is",
+        TlbiOp::Ripas2e1 => b"ripas2e1",
+        TlbiOp::Ripas2e1is => b"ripas2e1is",
+        TlbiOp::Ripas2le1 => b"ripas2le1",
+        TlbiOp::Ripas2le1is => b"ripas2le1is",
+        TlbiOp::Rvae1 => b"rvae1",
+        TlbiOp::Rvae1is => b"rvae1is",
+        TlbiOp::Rvale1 => b"rvale1",
+        TlbiOp::Rvale1is => b"rvale1is",
+        TlbiOp::Rvaae1 => b"rvaae1",
+        TlbiOp::Rvaae1is => b"rvaae1is",
+        TlbiOp::Rvaale1 => b"rvaale1",
+        TlbiOp::Rvaale1is => b"rvaale1is",
     }
 }
 
 /// The operation that the field is.
 pub(crate) fn op_of(field: &[u8]) -> Option<TlbiOp>
-    ensures { result ≡ words.value_of words.op_word words.ops field.now }
+    ensures { result ≡ words.with_word words.op_word words.ops field.now }
 {
     OPS.iter().copied().find(|op| op_word(*op) == field)
 }

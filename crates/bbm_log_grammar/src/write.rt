@@ -1,24 +1,25 @@
 //! The one line of a header, and of an item.
 
-ghost use Rattle.std.specs.Prelude.{◌≡◌, ◌+◌, ◌≤◌, true, Ok, ◌++◌, ◌∷◌, [], length, decimal};
+ghost use Rattle.std.specs.Prelude.{◌≡◌, ◌+◌, ◌≤◌, true, Ok, ◌++◌, ◌∷◌, [], length, codes, decimal};
 ghost use Rattle.arrayvec.specs.ArrayVec.{array_vec_len};
+ghost use Rattle.bbm_events.specs.declared.event.Event.{Event};
 ghost use Rattle.bbm_events.specs.declared.event.Event.TheVariants as event;
 ghost use Rattle.bbm_events.specs.Spelling.{hex, joined};
 ghost use Rattle.bbm_events.specs.Words as words;
 ghost use Rattle.bbm_events.specs.Fits.{item_fits};
-ghost use Rattle.bbm_events.specs.Lines.{header_of, item_of, header_line, item_line, lock_text, event_fields};
+ghost use Rattle.bbm_events.specs.Lines.{header_of, item_of, header_fields, cnp_fields, header_line, item_line, lock_text, event_fields, label_fields};
 ghost use Rattle.bbm_regimes.specs.declared.regime.World.TheVariants.{Hyp, Kernel};
 
 use crate::spell::{add, add_decimal, add_hex};
-use crate::words::{asid_from_word, dsb_word, kind_word, op_word, reg_word};
+use crate::words::{asid_from_word, cnp_word, dsb_word, kind_word, op_word, reg_word};
 use arrayvec::ArrayVec;
 use bbm_barriers::Dsb;
-use bbm_events::{Event, Header, Item, law_written_is_read};
+use bbm_events::{Event, Header, Item, Label, law_written_is_read};
 use bbm_regimes::{AsidFrom, Kind, Page, Pe, Place, Reg, World};
 use bbm_tlbi_scope::TlbiOp;
 
 /// A space and a word of at most 12 bytes.
-fn add_word_field(out: &mut ArrayVec<u8, 200>, word: &[u8])
+pub(crate) fn add_word_field(out: &mut ArrayVec<u8, 200>, word: &[u8])
     requires short { length word.now ≤ 12 }
     requires room { array_vec_len out.old + 13 ≤ 200 }
     ensures appended { out.new.items ≡ out.old.items ++ 32 ∷ word.now }
@@ -29,7 +30,7 @@ fn add_word_field(out: &mut ArrayVec<u8, 200>, word: &[u8])
 }
 
 /// A space and a number in decimal.
-fn add_decimal_field(out: &mut ArrayVec<u8, 200>, n: u64)
+pub(crate) fn add_decimal_field(out: &mut ArrayVec<u8, 200>, n: u64)
     requires room { array_vec_len out.old + 21 ≤ 200 }
     ensures appended { out.new.items ≡ out.old.items ++ 32 ∷ decimal n }
     ensures longer { array_vec_len out.new ≤ array_vec_len out.old + 21 }
@@ -39,7 +40,7 @@ fn add_decimal_field(out: &mut ArrayVec<u8, 200>, n: u64)
 }
 
 /// A space and a number in hex.
-fn add_hex_field(out: &mut ArrayVec<u8, 200>, n: u64)
+pub(crate) fn add_hex_field(out: &mut ArrayVec<u8, 200>, n: u64)
     requires room { array_vec_len out.old + 19 ≤ 200 }
     ensures appended { out.new.items ≡ out.old.items ++ 32 ∷ hex n }
     ensures longer { array_vec_len out.new ≤ array_vec_len out.old + 19 }
@@ -75,7 +76,8 @@ fn add_lock_field(out: &mut ArrayVec<u8, 200>, lock: Option<u16>)
 fn page_line(out: &mut ArrayVec<u8, 200>, word: &[u8], pe: Pe, page: Page)
     requires empty { out.old.items ≡ [] }
     requires short { length word.now ≤ 12 }
-    ensures { out.new.items ≡ joined (word.now ∷ decimal pe ∷ hex page ∷ []) }
+    ensures line { out.new.items ≡ joined (word.now ∷ decimal pe ∷ hex page ∷ []) }
+    ensures longer { array_vec_len out.new ≤ 100 }
 {
     begin(out, word, pe);
     add_hex_field(out, page.get());
@@ -85,7 +87,8 @@ fn page_line(out: &mut ArrayVec<u8, 200>, word: &[u8], pe: Pe, page: Page)
 #[tactic(auto, using(crate::proofs::Short::kind_word_short))]
 fn root_line(out: &mut ArrayVec<u8, 200>, pe: Pe, kind: Kind, lock: Option<u16>, page: Page)
     requires empty { out.old.items ≡ [] }
-    ensures { out.new.items ≡ joined (event_fields (event.Root pe kind lock page)) }
+    ensures line { out.new.items ≡ joined (event_fields (event.Root pe kind lock page)) }
+    ensures longer { array_vec_len out.new ≤ 100 }
 {
     begin(out, b"root", pe);
     add_word_field(out, kind_word(kind));
@@ -96,7 +99,8 @@ fn root_line(out: &mut ArrayVec<u8, 200>, pe: Pe, kind: Kind, lock: Option<u16>,
 /// `w PE PLACE VALUE`
 fn store_line(out: &mut ArrayVec<u8, 200>, pe: Pe, place: Place, value: u64)
     requires empty { out.old.items ≡ [] }
-    ensures { out.new.items ≡ joined (event_fields (event.Write pe place value)) }
+    ensures line { out.new.items ≡ joined (event_fields (event.Write pe place value)) }
+    ensures longer { array_vec_len out.new ≤ 100 }
 {
     begin(out, b"w", pe);
     add_hex_field(out, place.get());
@@ -108,7 +112,8 @@ fn store_line(out: &mut ArrayVec<u8, 200>, pe: Pe, place: Place, value: u64)
 fn barrier_line(out: &mut ArrayVec<u8, 200>, word: &[u8], pe: Pe, dsb: Dsb)
     requires empty { out.old.items ≡ [] }
     requires short { length word.now ≤ 12 }
-    ensures { out.new.items ≡ joined (word.now ∷ decimal pe ∷ words.dsb_word dsb ∷ []) }
+    ensures line { out.new.items ≡ joined (word.now ∷ decimal pe ∷ words.dsb_word dsb ∷ []) }
+    ensures longer { array_vec_len out.new ≤ 100 }
 {
     begin(out, word, pe);
     add_word_field(out, dsb_word(dsb));
@@ -118,7 +123,8 @@ fn barrier_line(out: &mut ArrayVec<u8, 200>, word: &[u8], pe: Pe, dsb: Dsb)
 #[tactic(auto, using(crate::proofs::Short::op_word_short))]
 fn tlbi_line(out: &mut ArrayVec<u8, 200>, pe: Pe, op: TlbiOp, xt: u64)
     requires empty { out.old.items ≡ [] }
-    ensures { out.new.items ≡ joined (event_fields (event.Tlbi pe op xt)) }
+    ensures line { out.new.items ≡ joined (event_fields (event.Tlbi pe op xt)) }
+    ensures longer { array_vec_len out.new ≤ 100 }
 {
     begin(out, b"tlbi", pe);
     add_word_field(out, op_word(op));
@@ -131,7 +137,8 @@ fn tlbi_line(out: &mut ArrayVec<u8, 200>, pe: Pe, op: TlbiOp, xt: u64)
 #[tactic(auto, using(crate::proofs::Short::reg_word_short))]
 fn register_line(out: &mut ArrayVec<u8, 200>, pe: Pe, reg: Reg, value: u64)
     requires empty { out.old.items ≡ [] }
-    ensures { out.new.items ≡ joined (event_fields (event.Msr pe reg value)) }
+    ensures line { out.new.items ≡ joined (event_fields (event.Msr pe reg value)) }
+    ensures longer { array_vec_len out.new ≤ 100 }
 {
     begin(out, b"msr", pe);
     add_word_field(out, reg_word(reg));
@@ -142,7 +149,8 @@ fn register_line(out: &mut ArrayVec<u8, 200>, pe: Pe, reg: Reg, value: u64)
 fn lock_line(out: &mut ArrayVec<u8, 200>, word: &[u8], pe: Pe, lock: u16)
     requires empty { out.old.items ≡ [] }
     requires short { length word.now ≤ 12 }
-    ensures { out.new.items ≡ joined (word.now ∷ decimal pe ∷ decimal lock ∷ []) }
+    ensures line { out.new.items ≡ joined (word.now ∷ decimal pe ∷ decimal lock ∷ []) }
+    ensures longer { array_vec_len out.new ≤ 100 }
 {
     begin(out, word, pe);
     add_decimal_field(out, lock as u64);
@@ -151,7 +159,8 @@ fn lock_line(out: &mut ArrayVec<u8, 200>, word: &[u8], pe: Pe, lock: u16)
 /// The line of an event.
 fn event_line(out: &mut ArrayVec<u8, 200>, event: Event)
     requires empty { out.old.items ≡ [] }
-    ensures { out.new.items ≡ joined (event_fields event) }
+    ensures line { out.new.items ≡ joined (event_fields event) }
+    ensures longer { array_vec_len out.new ≤ 100 }
 {
     match event {
         Event::Init { pe, page } => page_line(out, b"init", pe, page),
@@ -174,34 +183,59 @@ fn event_line(out: &mut ArrayVec<u8, 200>, event: Event)
     }
 }
 
-/// `bbmlog 1 hyp PES EL2START S2START S2PAGES`
-#[tactic(auto, unfolding(bbm_events::specs::Lines::header_line))]
-fn hyp_line(out: &mut ArrayVec<u8, 200>, pes: u8, el2_start: u8, s2_start: u8, s2_pages: u8)
+/// `bbmlog VERSION` and the word of the world.
+fn begin_header(out: &mut ArrayVec<u8, 200>, version: u8, world: &[u8])
     requires empty { out.old.items ≡ [] }
-    ensures { out.new.items ≡ header_line (record { pes = pes; world = Hyp el2_start s2_start s2_pages }) }
+    requires short { length world.now ≤ 12 }
+    ensures written { out.new.items ≡ joined (codes "bbmlog" ∷ decimal version ∷ world.now ∷ []) }
+    ensures longer { array_vec_len out.new ≤ 40 }
 {
-    add(out, b"bbmlog 1 hyp");
-    add_decimal_field(out, pes as u64);
+    add(out, b"bbmlog");
+    add_decimal_field(out, version as u64);
+    add_word_field(out, world);
+}
+
+/// `bbmlog VERSION hyp PES EL2START S2START S2PAGES`, and ` CNP` from version 2 on.
+#[tactic(auto, using(crate::proofs::Short::cnp_word_short))]
+fn hyp_line(out: &mut ArrayVec<u8, 200>, header: &Header, el2_start: u8, s2_start: u8, s2_pages: u8)
+    requires empty { out.old.items ≡ [] }
+    ensures { out.new.items ≡ joined (codes "bbmlog" ∷ decimal header.now.version ∷ header_fields header.now.pes (Hyp el2_start s2_start s2_pages) (cnp_fields header.now.version header.now.cnp)) }
+{
+    begin_header(out, header.version, b"hyp");
+    add_decimal_field(out, header.pes as u64);
     add_decimal_field(out, el2_start as u64);
     add_decimal_field(out, s2_start as u64);
     add_decimal_field(out, s2_pages as u64);
+    if header.version >= 2 {
+        add_word_field(out, cnp_word(header.cnp));
+    }
 }
 
-/// `bbmlog 1 kernel PES START0 START1 ASIDFROM`
-#[tactic(auto, unfolding(bbm_events::specs::Lines::header_line), using(crate::proofs::Short::asid_from_word_short))]
-fn kernel_line(out: &mut ArrayVec<u8, 200>, pes: u8, start0: u8, start1: u8, asid_from: AsidFrom)
+/// `bbmlog VERSION kernel PES START0 START1 ASIDFROM`, and ` CNP` from version 2 on.
+#[tactic(auto, using(crate::proofs::Short::asid_from_word_short, crate::proofs::Short::cnp_word_short))]
+fn kernel_line(
+    out: &mut ArrayVec<u8, 200>,
+    header: &Header,
+    start0: u8,
+    start1: u8,
+    asid_from: AsidFrom,
+)
     requires empty { out.old.items ≡ [] }
-    ensures { out.new.items ≡ header_line (record { pes = pes; world = Kernel start0 start1 asid_from }) }
+    ensures { out.new.items ≡ joined (codes "bbmlog" ∷ decimal header.now.version ∷ header_fields header.now.pes (Kernel start0 start1 asid_from) (cnp_fields header.now.version header.now.cnp)) }
 {
-    add(out, b"bbmlog 1 kernel");
-    add_decimal_field(out, pes as u64);
+    begin_header(out, header.version, b"kernel");
+    add_decimal_field(out, header.pes as u64);
     add_decimal_field(out, start0 as u64);
     add_decimal_field(out, start1 as u64);
     add_word_field(out, asid_from_word(asid_from));
+    if header.version >= 2 {
+        add_word_field(out, cnp_word(header.cnp));
+    }
 }
 
 /// Writes line 1 of a log with this header, without its newline, into an empty buffer. Reading the line
 /// gives the header again. Source: project's own choice.
+#[tactic(auto, unfolding(bbm_events::specs::Lines::header_line))]
 pub fn write_header(header: &Header, out: &mut ArrayVec<u8, 200>)
     requires empty { out.old.items ≡ [] }
     ensures line { out.new.items ≡ header_line header.now }
@@ -213,12 +247,24 @@ pub fn write_header(header: &Header, out: &mut ArrayVec<u8, 200>)
             el2_start,
             s2_start,
             s2_pages,
-        } => hyp_line(out, header.pes, el2_start, s2_start, s2_pages),
+        } => hyp_line(out, header, el2_start, s2_start, s2_pages),
         World::Kernel {
             start0,
             start1,
             asid_from,
-        } => kernel_line(out, header.pes, start0, start1, asid_from),
+        } => kernel_line(out, header, start0, start1, asid_from),
+    }
+}
+
+/// A space, the mark `@` and the label, where there is one.
+#[tactic(auto, using(crate::proofs::Parts::parts))]
+fn add_label_field(out: &mut ArrayVec<u8, 200>, label: Option<Label>)
+    requires room { array_vec_len out.old ≤ 100 }
+    ensures { (event : Event) → out.old.items ≡ joined (event_fields event) → out.new.items ≡ joined (event_fields event ++ label_fields label) }
+{
+    if let Some(label) = label {
+        add(out, b" @");
+        add(out, label.bytes());
     }
 }
 
@@ -229,7 +275,10 @@ fn any_line(item: Item, out: &mut ArrayVec<u8, 200>)
     ensures { out.new.items ≡ item_line item }
 {
     match item {
-        Item::Event(event) => event_line(out, event),
+        Item::Event(event, label) => {
+            event_line(out, event);
+            add_label_field(out, label);
+        }
         Item::End(count) => {
             add(out, b"end");
             add_decimal_field(out, count as u64);
@@ -238,8 +287,8 @@ fn any_line(item: Item, out: &mut ArrayVec<u8, 200>)
 }
 
 /// Writes the line of an event, or the last line with its count, without its newline, into an empty
-/// buffer. The item has to fit the header. Reading the line gives the item again. Source: project's own
-/// choice.
+/// buffer. The item has to fit the header, so that it has a label only under version 3 or 4. Reading the
+/// line gives the item again. Source: project's own choice.
 pub fn write_event(header: &Header, item: Item, out: &mut ArrayVec<u8, 200>)
     requires empty { out.old.items ≡ [] }
     requires fits { item_fits header.now item ≡ true }

@@ -68,7 +68,9 @@ fn lines(pe: Pe, page: Page, place: Place) -> [(Event, &'static [u8]); 14] {
 }
 
 const HYP: Header = Header {
+    version: 1,
     pes: 2,
+    cnp: false,
     world: World::Hyp {
         el2_start: 0,
         s2_start: 1,
@@ -84,7 +86,7 @@ fn writes_each_line(rt: HostRuntime) {
     for (event, line) in lines(pe, page, place).iter() {
         assert!(rt; fits(&HYP, *event));
         let mut out = ArrayVec::new();
-        write_event(&HYP, Item::Event(*event), &mut out);
+        write_event(&HYP, Item::Event(*event, None), &mut out);
         assert_eq!(rt; out.as_slice(), *line);
     }
     let mut out = ArrayVec::new();
@@ -98,7 +100,9 @@ fn writes_both_headers(rt: HostRuntime) {
     write_header(&HYP, &mut out);
     assert_eq!(rt; out.as_slice(), b"bbmlog 1 hyp 2 0 1 16".as_slice());
     let kernel = Header {
+        version: 1,
         pes: 64,
+        cnp: false,
         world: World::Kernel {
             start0: 2,
             start1: 0,

@@ -41,7 +41,9 @@ const IN_USE: Result<(), StepFault> = Err(StepFault::Broken(Rule::PageInUse, 0x4
 // The header `bbmlog 1 hyp 2 1 1 1`.
 fn header() -> Header {
     Header {
+        version: 1,
         pes: 2,
+        cnp: false,
         world: World::Hyp {
             el2_start: 1,
             s2_start: 1,

@@ -1,2 +1,5 @@
 pub mod Extent
 pub mod PeMask
+pub mod Same
+pub mod World
+pub mod EveryPe

@@ -27,7 +27,11 @@ impl Pe {
         ensures is_one { IsSome result ↔ (n < 128) }
         ensures value { IfSome result (λ pe. pe ≡ n) }
     {
-        if n < 128 { Some(Pe { number: n }) } else { None }
+        if n < 128 {
+            Some(Pe { number: n })
+        } else {
+            None
+        }
     }
 
     /// The number of the PE, 0 to 127.

@@ -7,7 +7,8 @@ use Rattle.bbm_events.specs.Heading.{Heading}
 use Rattle.bbm_events.specs.declared.event.Event.{Event}
 use Rattle.bbm_events.specs.declared.event.Event.TheVariants.{Init, Null, Write}
 use Rattle.bbm_rules.proofs.HeldLemmas.{Holding, Older, holding, last_is_valid, older, valid_is_odd}
-use Rattle.bbm_rules.proofs.RuleLemmas.{Kept, if_none}
+use Rattle.bbm_rules.proofs.RuleLemmas.{Unbroken, if_none}
+use Rattle.bbm_rules.specs.declared.rule.Rule.TheVariants.{RewrittenFresh}
 use Rattle.bbm_rules.specs.Claims.{Trust}
 use Rattle.bbm_rules.specs.Held.{ValidWrite, held, last_valid, last_valid_after, later}
 use Rattle.bbm_rules.specs.Notes.{Noted, events_of}
@@ -43,7 +44,7 @@ init_by n found w present false fresh f before e =
 module _ (heading : Heading) (trust : Trust) (h : List Noted) where
   -- an invalid write over a valid value of a fresh page breaks a rule
   no_rewrite : (kind : Kind) (level place pe at value : ℕ) (v : ValidWrite) → Settled heading trust h
-      → Kept heading trust h (Write pe at value) → is_fresh heading trust h (page_of place) ≡ true
+      → Unbroken heading trust h (Write pe at value) → is_fresh heading trust h (page_of place) ≡ true
       → (at == place) ≡ true → is_valid kind level value ≡ false → last_valid kind level place h ≡ Some v → ⊥
   no_rewrite kind level place pe at value v settled kept fresh there invalid last =
       let same : at ≡ place = eqb-true at place there in
@@ -54,7 +55,7 @@ module _ (heading : Heading) (trust : Trust) (h : List Noted) where
       = subst (λ (x : ℕ). (x % 2 == 1) ≡ true) (sym present) (valid_is_odd kind level v.value (last_is_valid kind level place h v last)) in
       let kept_value : (value_of (events_of h) at == value) ≡ true = unchanged at value fresh_at odd
       (if_none (is_fresh heading trust h (page_of at) && value_of (events_of h) at % 2 == 1
-      && not (value_of (events_of h) at == value)) at kept.rewritten) in
+      && not (value_of (events_of h) at == value)) at (kept RewrittenFresh)) in
       true≢false (sym (subst (λ (x : ℕ). is_valid kind level x ≡ true) (sym present ∙ eqb-true (value_of (events_of h) at) value kept_value)
       (last_is_valid kind level place h v last)) ∙ invalid)
     where
@@ -70,7 +71,7 @@ module _ (heading : Heading) (trust : Trust) (h : List Noted) where
       unchanged at value f o e = third (is_fresh heading trust h (page_of at)) (value_of (events_of h) at % 2 == 1)
           (value_of (events_of h) at == value) f o e
 
-  settle : (kind : Kind) (level place : ℕ) (e : Event) (n : Noted) (w : ValidWrite) → Settled heading trust h → Kept heading trust h e
+  settle : (kind : Kind) (level place : ℕ) (e : Event) (n : Noted) (w : ValidWrite) → Settled heading trust h → Unbroken heading trust h e
       → may_be_fresh e (page_of place) (is_fresh heading trust h (page_of place)) ≡ true
       → last_valid_after kind level place e n (last_valid kind level place h) ≡ Some w
       → value_of (e ∷ events_of h) place ≡ w.value
@@ -89,7 +90,7 @@ module _ (heading : Heading) (trust : Trust) (h : List Noted) where
       let o : Older n (last_valid kind level place h) w = older n (last_valid kind level place h) w k in
       settled kind level place o.before fresh o.is ∙ o.same
 
-  pub settled_on : (n : Noted) → Settled heading trust h → Kept heading trust h n.event → Settled heading trust (n ∷ h)
+  pub settled_on : (n : Noted) → Settled heading trust h → Unbroken heading trust h n.event → Settled heading trust (n ∷ h)
   settled_on n settled kept kind level place w fresh last =
       settle kind level place n.event n w settled kept
       (and_parts (may_be_fresh n.event (page_of place) (is_fresh heading trust h (page_of place)))

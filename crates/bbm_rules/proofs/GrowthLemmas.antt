@@ -1,6 +1,6 @@
 -- What one more event adds to the trees: nodes that begin paths, and what they reach through fresh pages. If no two paths
 -- end in one page, each page still has one node.
-use Rattle.std.proofs.Common.{◌≡◌, ℕ, zero, suc, ◌+◌, ◌-◌, ◌<◌, not, true, ◌⊎◌, List, [], ◌∷◌, ◌++◌, Some, is_some, refl, sym, ◌∙◌, ap, subst, inl, inr, arith, true≢false}
+use Rattle.std.proofs.Common.{◌≡◌, ℕ, zero, suc, ◌+◌, ◌-◌, ◌<◌, not, true, ◌⊎◌, List, [], ◌∷◌, ◌++◌, Some, is_some, flat_map, map, refl, sym, ◌∙◌, ap, subst, inl, inr, arith, true≢false}
 use Rattle.std.proofs.lemmas.Bool.{and_parts, eq-eqb, eqb-true, not-true}
 use Rattle.bbm_regimes.specs.declared.regime.Kind.{Kind}
 use Rattle.bbm_events.specs.Heading.{Heading}
@@ -9,7 +9,7 @@ use Rattle.bbm_rules.proofs.ListLemmas.{Apart, Parted, finds, found, from_pages,
 use Rattle.bbm_rules.proofs.OpenLaw.{In}
 use Rattle.bbm_rules.proofs.PathLemmas.{AllFresh, ends_from, in_ends, one_reached}
 use Rattle.bbm_rules.proofs.TreeLemmas.{Child, Reaches, Rooted, at_level, at_start, child_at_level, reaches_more, reaches_on, root_at_level}
-use Rattle.bbm_rules.specs.Attach.{End, deeper_ends, ends_below, first_ends, pages_of}
+use Rattle.bbm_rules.specs.Attach.{End, end_at, ends_below, pages_of}
 use Rattle.bbm_rules.specs.Claims.{Trust}
 use Rattle.bbm_rules.specs.Notes.{Noted}
 use Rattle.bbm_rules.specs.Pages.{is_fresh, may_be_fresh}
@@ -93,34 +93,34 @@ module _ (heading : Heading) (trust : Trust) where
 
   module _ (h : List Noted) (settled : Settled heading trust h) (kind : Kind) (level : ℕ) where
     abbrev first_of : List Node → List End
-    first_of bs = first_ends level (first_pages bs)
+    first_of bs = map (end_at level) (first_pages bs)
 
     abbrev deeper_of : List Node → List End
-    deeper_of bs = deeper_ends heading trust kind h level (first_pages bs)
+    deeper_of bs = flat_map (ends_below heading trust h kind (3 - level) level) (first_pages bs)
 
     -- nodes of this kind and level whose paths end in fresh pages
     pub record Begin (bs : List Node) : Type 0 where
       pub alike : (b : Node) → In bs b → (b.kind ≡ kind) × (b.level ≡ level)
-      pub first_fresh : AllFresh heading trust h (first_ends level (first_pages bs))
-      pub deeper_fresh : AllFresh heading trust h (deeper_ends heading trust kind h level (first_pages bs))
+      pub first_fresh : AllFresh heading trust h (map (end_at level) (first_pages bs))
+      pub deeper_fresh : AllFresh heading trust h (flat_map (ends_below heading trust h kind (3 - level) level) (first_pages bs))
 
     rest : (b : Node) (bs : List Node) → Begin (b ∷ bs) → Begin bs
     rest b bs k = record {
       alike = λ c i. k.alike c (inr i);
       first_fresh = λ e i. k.first_fresh e (inr i);
       deeper_fresh = λ e i. k.deeper_fresh e
-          (in_right (ends_below heading trust kind h (3 - level) level b.page) (deeper_of bs) e i);
+          (in_right (ends_below heading trust h kind (3 - level) level b.page) (deeper_of bs) e i);
     }
 
     fresh_from : (b : Node) (bs : List Node) → Begin (b ∷ bs) → AllFresh heading trust h (ends_from heading trust h kind (3 - level) level b.page)
     fresh_from b bs k e (inl same) = k.first_fresh e (inl same)
     fresh_from b bs k e (inr i) = k.deeper_fresh e
-        (in_left (ends_below heading trust kind h (3 - level) level b.page) (deeper_of bs) e i)
+        (in_left (ends_below heading trust h kind (3 - level) level b.page) (deeper_of bs) e i)
 
     -- a path ends in each page that is reached
     pub record EndOf (bs : List Node) (m : Node) : Type 0 where
       pub end : End
-      pub among : In (first_ends level (first_pages bs)) end ⊎ In (deeper_ends heading trust kind h level (first_pages bs)) end
+      pub among : In (map (end_at level) (first_pages bs)) end ⊎ In (flat_map (ends_below heading trust h kind (3 - level) level) (first_pages bs)) end
       pub same : end.page ≡ m.page
 
     from_head : (b : Node) (bs : List Node) (m : Node) (e : End) → In (ends_from heading trust h kind (3 - level) level b.page) e
@@ -128,7 +128,7 @@ module _ (heading : Heading) (trust : Trust) where
     from_head b bs m e (inl here) same = record { end = e; among = inl (inl here); same = same }
     from_head b bs m e (inr i) same = record {
       end = e;
-      among = inr (in_left (ends_below heading trust kind h (3 - level) level b.page) (deeper_of bs) e i);
+      among = inr (in_left (ends_below heading trust h kind (3 - level) level b.page) (deeper_of bs) e i);
       same = same;
     }
 
@@ -137,7 +137,7 @@ module _ (heading : Heading) (trust : Trust) where
       end = k.end;
       among = elim k.among [
         | inl i ↦ inl (inr i)
-        | inr i ↦ inr (in_right (ends_below heading trust kind h (3 - level) level b.page) (deeper_of bs) k.end i)
+        | inr i ↦ inr (in_right (ends_below heading trust h kind (3 - level) level b.page) (deeper_of bs) k.end i)
       ];
       same = k.same;
     }
@@ -164,15 +164,15 @@ module _ (heading : Heading) (trust : Trust) where
     rest_parted : (b : Node) (bs : List Node) → Parted (first_of (b ∷ bs)) (deeper_of (b ∷ bs)) → Parted (first_of bs) (deeper_of bs)
     rest_parted b bs k = record {
       first = k.first.1;
-      second = (parted (ends_below heading trust kind h (3 - level) level b.page) (deeper_of bs) k.second).second;
+      second = (parted (ends_below heading trust h kind (3 - level) level b.page) (deeper_of bs) k.second).second;
       between = λ x y i j e. k.between x y (inr i)
-          (in_right (ends_below heading trust kind h (3 - level) level b.page) (deeper_of bs) y j) e;
+          (in_right (ends_below heading trust h kind (3 - level) level b.page) (deeper_of bs) y j) e;
     }
 
     head_apart : (b : Node) (bs : List Node) → Parted (first_of (b ∷ bs)) (deeper_of (b ∷ bs))
         → Apart (pages_of (ends_from heading trust h kind (3 - level) level b.page))
     head_apart b bs k =
-        let ends : List End = ends_below heading trust kind h (3 - level) level b.page in
+        let ends : List End = ends_below heading trust h kind (3 - level) level b.page in
         let start : End = record { page = b.page; level = level } in (
           λ i. let e = from_pages ends b.page i in
               k.between start e.0 (inl refl) (in_left ends (deeper_of bs) e.0 e.1) (sym e.2),
@@ -186,11 +186,11 @@ module _ (heading : Heading) (trust : Trust) where
         k.first.0 (subst (λ (page : ℕ). In (pages_of (first_of bs)) page) (sym same ∙ ap (λ (x : End). x.page) (sym here))
         (in_pages (first_of bs) d i))
     clash b bs m o k e (inl here) d (inr i) same =
-        k.between e d (inl here) (in_right (ends_below heading trust kind h (3 - level) level b.page) (deeper_of bs) d i) same
+        k.between e d (inl here) (in_right (ends_below heading trust h kind (3 - level) level b.page) (deeper_of bs) d i) same
     clash b bs m o k e (inr j) d (inl i) same =
-        k.between d e (inr i) (in_left (ends_below heading trust kind h (3 - level) level b.page) (deeper_of bs) e j) (sym same)
+        k.between d e (inr i) (in_left (ends_below heading trust h kind (3 - level) level b.page) (deeper_of bs) e j) (sym same)
     clash b bs m o k e (inr j) d (inr i) same =
-        (parted (ends_below heading trust kind h (3 - level) level b.page) (deeper_of bs) k.second).between e d j i same
+        (parted (ends_below heading trust h kind (3 - level) level b.page) (deeper_of bs) k.second).between e d j i same
 
     pub one_of_paths : (bs : List Node) (b c m o : Node) → Begin bs → Parted (first_of bs) (deeper_of bs)
         → In bs b → In bs c → Reaches heading trust h (3 - level) b m → Reaches heading trust h (3 - level) c o
@@ -217,7 +217,7 @@ module _ (heading : Heading) (trust : Trust) where
     -- the nodes that the event n adds begin at these, and the paths from them end in pages of their own
     pub record Grows (n : Noted) (bs : List Node) : Type 0 where
       pub begin : Begin bs
-      pub apart : Parted (first_ends level (first_pages bs)) (deeper_ends heading trust kind h level (first_pages bs))
+      pub apart : Parted (map (end_at level) (first_pages bs)) (flat_map (ends_below heading trust h kind (3 - level) level) (first_pages bs))
       pub root : (l : ℕ) (m : Node) → Rooted heading (n ∷ h) l m → Rooted heading h l m ⊎ (In bs m × (level ≡ l))
       pub child : (l : ℕ) (p c : Node) → l < 4 → In (nodes_at heading trust h l) p → Child heading trust (n ∷ h) p c
           → Child heading trust h p c ⊎ (In bs c × (level ≡ suc l))

@@ -1,5 +1,5 @@
 -- What one more event does to what a place holds: nothing new, unless it is a valid write of the place.
-use Rattle.std.proofs.Common.{◌≡◌, ℕ, zero, suc, ◌%◌, ◌&&◌, Bool, true, false, cond, ◌⊎◌, ◌==◌, List, [], ◌∷◌, Option, Some, None, refl, sym, ◌∙◌, ap, subst, inl, inr, arith, true≢false}
+use Rattle.std.proofs.Common.{◌≡◌, ℕ, zero, suc, ◌%◌, ◌&&◌, Bool, true, false, cond, ◌⊎◌, ◌==◌, List, [], ◌∷◌, Option, Some, None, option_and_then, if◌then◌else◌, refl, sym, ◌∙◌, ap, subst, inl, inr, arith, true≢false}
 use Rattle.std.proofs.lemmas.Bool.{and_from, and_parts, eq-eqb, eqb-true, or_cases}
 use Rattle.bbm_regimes.specs.declared.regime.Kind.{Kind}
 use Rattle.bbm_descriptor.specs.Descriptor.{Form, form_01, form_11, is_valid, valid_form}
@@ -12,9 +12,10 @@ use Rattle.bbm_rules.proofs.OpenLaw.{In}
 use Rattle.bbm_rules.proofs.Patterns.{cleansed_stays}
 use Rattle.bbm_rules.specs.Claims.{Trust}
 use Rattle.bbm_rules.specs.Cleansing.{cleansed}
-use Rattle.bbm_rules.specs.Held.{ValidWrite, cleansed_everywhere, held, held_after, last_valid, last_valid_after, later}
+use Rattle.bbm_rules.specs.Held.{ValidWrite, cleansed_everywhere, held, last_valid, last_valid_after, later}
 use Rattle.bbm_rules.specs.Notes.{Noted, events_of}
-use Rattle.bbm_rules.specs.Places.{among, every_pe, page_of}
+use Rattle.bbm_rules.specs.Lists.{among, every_pe}
+use Rattle.bbm_rules.specs.Places.{page_of}
 use Rattle.bbm_rules.specs.Values.{written_places}
 
 -- ---- the last valid write
@@ -88,10 +89,10 @@ with_it : (n : ℕ) (ms : List ℕ) (b : Bool) → among n ms ≡ b → In (cond
 with_it n ms true e = among_from n ms e
 with_it n ms false e = inl refl
 
-written_here : (pe place value : ℕ) (es : List Event) → In (written_places (Write pe place value ∷ es)) place
+pub written_here : (pe place value : ℕ) (es : List Event) → In (written_places (Write pe place value ∷ es)) place
 written_here pe place value es = with_it place (written_places es) (among place (written_places es)) refl
 
-written_stays : (e : Event) (es : List Event) (place : ℕ) → In (written_places es) place → In (written_places (e ∷ es)) place
+pub written_stays : (e : Event) (es : List Event) (place : ℕ) → In (written_places es) place → In (written_places (e ∷ es)) place
 written_stays (Write pe at value) es place i = with_keeps at (written_places es) place i
 written_stays e es place i = i
 
@@ -128,32 +129,36 @@ every_more (suc n) test other more e =
     and_from (other n) (every_pe n other) (more n parts.0) (every_more n test other more parts.1)
 
 module _ (heading : Heading) (trust : Trust) (place : ℕ) where
+  -- what a valid write leaves held
+  abbrev pub uncleansed : ValidWrite → Option ℕ
+  uncleansed w = if cleansed_everywhere heading trust place w.since then None else Some w.value
+
   everywhere_stays : (n : Noted) (since : List Noted) → cleansed_everywhere heading trust place since ≡ true
       → cleansed_everywhere heading trust place (n ∷ since) ≡ true
   everywhere_stays n since e =
       every_more heading.pes (λ p. cleansed heading trust place p since) (λ p. cleansed heading trust place p (n ∷ since))
-      (λ p k. cleansed_stays heading trust place p n since k) e
+      (λ p k. cleansed_stays heading trust place p (n ∷ []) since k) e
 
   -- the valid write whose value a place holds
   pub record Holding (o : Option ValidWrite) (value : ℕ) : Type 0 where
     pub write : ValidWrite
     pub is : o ≡ Some write
     pub same : write.value ≡ value
-    pub uncleansed : cleansed_everywhere heading trust place write.since ≡ false
+    pub still : cleansed_everywhere heading trust place write.since ≡ false
 
   holding_by : (w : ValidWrite) (value : ℕ) (b : Bool) → cleansed_everywhere heading trust place w.since ≡ b
       → cond b None (Some w.value) ≡ Some value → Holding (Some w) value
   holding_by w value true k e = cc
-  holding_by w value false k e = record { write = w; is = refl; same = cc; uncleansed = k }
+  holding_by w value false k e = record { write = w; is = refl; same = cc; still = k }
 
-  pub holding : (o : Option ValidWrite) (value : ℕ) → held_after heading trust place o ≡ Some value → Holding o value
+  pub holding : (o : Option ValidWrite) (value : ℕ) → option_and_then uncleansed o ≡ Some value → Holding o value
   holding None value e = cc
   holding (Some w) value e = holding_by w value (cleansed_everywhere heading trust place w.since) refl e
 
   still_held : (w : ValidWrite) (o : Option ValidWrite) (value : ℕ) → o ≡ Some w → w.value ≡ value
-      → cleansed_everywhere heading trust place w.since ≡ false → held_after heading trust place o ≡ Some value
+      → cleansed_everywhere heading trust place w.since ≡ false → option_and_then uncleansed o ≡ Some value
   still_held w o value k same u =
-      ap (held_after heading trust place) k
+      ap (option_and_then uncleansed) k
       ∙ (ap (λ (b : Bool). cond b None (Some w.value)) u ∙ ap Some same)
 
   not_before : (n : Noted) (since longer : List Noted) (b : Bool) → cleansed_everywhere heading trust place since ≡ b
@@ -173,7 +178,7 @@ module _ (heading : Heading) (trust : Trust) (place : ℕ) where
             let o = older n (last_valid kind level place h) now.write k in
             inl (still_held o.before (last_valid kind level place h) value o.is (o.same ∙ now.same)
             (not_before n o.before.since now.write.since (cleansed_everywhere heading trust place o.before.since) refl
-            o.longer now.uncleansed))
+            o.longer now.still))
         | inr v ↦ inr (subst (λ (x : ℕ). ValidAt kind level place x n.event) now.same v)
       ]
 

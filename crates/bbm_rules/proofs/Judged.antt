@@ -1,36 +1,52 @@
--- The words in which the worked cases are written.
-use Rattle.std.specs.Prelude.{ℕ, List, reverse}
-use Rattle.bbm_regimes.specs.declared.regime.AsidFrom.{AsidFrom}
-use Rattle.bbm_regimes.specs.declared.regime.World.TheVariants.{Hyp, Kernel}
-use Rattle.bbm_barriers.specs.declared.Dsb.{Dsb as Barrier}
-use Rattle.bbm_barriers.specs.declared.Domain.TheVariants.{Inner, Non}
-use Rattle.bbm_barriers.specs.declared.Types.TheVariants.{All, Stores}
-use Rattle.bbm_events.specs.Heading.{Heading}
+-- The words in which the worked cases are written. A case is the text of a log, and the text of the verdict on it by the
+-- whole rules; or what one definition says after the events of a log.
+use Rattle.std.specs.Prelude.{ℕ, List, [], ◌∷◌, ◌++◌, Option, Some, None, codes}
+use Prim.Native.String.{String}
+use Rattle.std.specs.Fmt.{digits}
 use Rattle.bbm_events.specs.declared.event.Event.{Event}
-use Rattle.bbm_rules.specs.declared.verdict.Verdict.{Verdict}
-use Rattle.bbm_rules.specs.Broken.{verdict_of}
-use Rattle.bbm_rules.specs.Claims.Trust.{Patterns}
+use Rattle.bbm_events.specs.Heading.{Heading}
+use Rattle.bbm_events.specs.Lines.{header_of, item_of}
+use Rattle.bbm_events.specs.Spelling.{decimal_value, hex_value}
+use Rattle.bbm_rules.specs.declared.claim.Claim.{Claim}
+use Rattle.bbm_rules.specs.Broken.{broken}
+use Rattle.bbm_rules.specs.Claims.{Trust, Listed, Patterns}
+use Rattle.bbm_rules.specs.Outcome.{all_rules, check_limits, Progress, AtEvents, step_of, end_of, verdict_of_bytes, read_lines}
+use Rattle.bbm_rules.specs.Texts.{verdict_text}
+use Rattle.bbm_rules.specs.Tree.{tree}
 
--- the verdict on a log in the order in which it was written
-abbrev pub judged : Heading → List Event → Verdict
-judged heading log = verdict_of heading Patterns (reverse log)
+-- the bytes of these lines, each with its newline
+abbrev pub log : List String → List ℕ
+log [] = []
+log (line ∷ lines) = codes line ++ 10 ∷ log lines
 
--- the two forms of a header: the number of PEs, and the fields of the world
-abbrev pub hyp : ℕ → ℕ → ℕ → ℕ → Heading
-hyp pes el2_start s2_start s2_pages = record { pes = pes; world = Hyp el2_start s2_start s2_pages }
+-- the text of the verdict on these bytes
+unfoldable pub judged_under : Trust → List ℕ → List ℕ
+unfolding digits header_of item_of decimal_value hex_value broken tree step_of end_of verdict_text
+judged_under trust bytes = verdict_text (verdict_of_bytes (all_rules trust) check_limits bytes)
 
-abbrev pub kernel : ℕ → ℕ → ℕ → AsidFrom → Heading
-kernel pes start0 start1 asid_from = record { pes = pes; world = Kernel start0 start1 asid_from }
+unfoldable pub judged_bytes : List ℕ → List ℕ
+unfolding judged_under
+judged_bytes bytes = judged_under Patterns bytes
 
--- the options of a DSB
-abbrev pub ish : Barrier
-ish = record { domain = Inner; types = All }
+-- that on the log with these lines
+unfoldable pub judged : List String → List ℕ
+unfolding judged_bytes
+judged lines = judged_bytes (log lines)
 
-abbrev pub nsh : Barrier
-nsh = record { domain = Non; types = All }
+-- the same by a certificate, the list of the claims that may be used
+unfoldable pub judged_by : List Claim → List String → List ℕ
+unfolding judged_under
+judged_by claims lines = judged_under (Listed claims) (log lines)
 
-abbrev pub ishst : Barrier
-ishst = record { domain = Inner; types = Stores }
+-- what is said of the heading and the events of a log with these lines, where none of them decides
+abbrev pub bytes_of_each : List String → List (List ℕ)
+bytes_of_each [] = []
+bytes_of_each (line ∷ lines) = codes line ∷ bytes_of_each lines
 
-abbrev pub nshst : Barrier
-nshst = record { domain = Non; types = Stores }
+abbrev pub at_progress : {A : Type 0} → (Heading → List Event → A) → Option Progress → Option A
+at_progress f (Some (AtEvents heading h)) = Some (f heading h)
+at_progress f _ = None
+
+unfoldable pub after : {A : Type 0} → List String → (Heading → List Event → A) → Option A
+unfolding judged_under
+after lines f = at_progress f (read_lines (all_rules Patterns) check_limits (bytes_of_each lines))

@@ -4,7 +4,7 @@ use Rattle.std.proofs.lemmas.Bool.{eq-eqb, or_left, or_right}
 use Rattle.std.specs.List.{cons_option}
 use Rattle.bbm_rules.proofs.OpenLaw.{In}
 use Rattle.bbm_rules.specs.Attach.{End, pages_of}
-use Rattle.bbm_rules.specs.Places.{among, least, repeated, with_number}
+use Rattle.bbm_rules.specs.Lists.{among, least, repeated, with_number}
 
 -- ---- elements
 

@@ -1,9 +1,9 @@
 -- In a history that keeps the rules a page has at most one node in the trees.
-use Rattle.std.proofs.Common.{◌≡◌, ℕ, zero, suc, ◌+◌, ◌*◌, ◌&&◌, not, Bool, true, false, cond, ◌⊎◌, ◌==◌, List, [], ◌∷◌, ◌++◌, Option, Some, None, is_none, is_some, Contains, refl, sym, ◌∙◌, ap, subst, inl, inr, true≢false, eqb-true}
+use Rattle.std.proofs.Common.{◌≡◌, ℕ, zero, suc, ◌+◌, ◌-◌, ◌*◌, ◌&&◌, not, Bool, true, false, ◌⊎◌, ◌==◌, List, [], ◌∷◌, ◌++◌, Option, Some, None, option_and_then, is_none, is_some, flat_map, map, Contains, refl, sym, ◌∙◌, ap, subst, inl, inr, true≢false, eqb-true}
 use Rattle.std.proofs.lemmas.Bool.{and_parts, not-false, not_from_false}
 use Rattle.bbm_regimes.specs.declared.regime.Kind.{Kind}
 use Rattle.bbm_regimes.specs.declared.regime.Kind.TheVariants.{El2}
-use Rattle.bbm_descriptor.specs.Descriptor.{Form, core_in, desc_as, desc_of, differ, form_of, same_bool, valid_form}
+use Rattle.bbm_descriptor.specs.Descriptor.{Form, core_in, desc_as, desc_of, differ, form_of, needs, same_bool, valid_form}
 use Rattle.bbm_descriptor.specs.declared.desc.Desc.{Desc}
 use Rattle.bbm_descriptor.specs.declared.desc.Desc.TheVariants.{Invalid, Table, Leaf}
 use Rattle.bbm_events.specs.Heading.{Heading}
@@ -12,35 +12,30 @@ use Rattle.bbm_events.specs.declared.event.Event.TheVariants.{Root, Unroot, Writ
 use Rattle.bbm_rules.proofs.FreshLemmas.{Settled, settled_on}
 use Rattle.bbm_rules.proofs.GrowthLemmas.{InTree, OneNode, first_pages, fresh_has_none, from_tree, has_node, node_found, still_one}
 use Rattle.bbm_rules.proofs.HeldLemmas.{ValidAt, held_cases, held_is_valid}
-use Rattle.bbm_rules.proofs.ListLemmas.{Parted, append_none, apart, in_left, in_pages, in_right, least_none, none_in, parted, to_filter}
+use Rattle.bbm_rules.proofs.ListLemmas.{Parted, append_none, apart, from_filter, in_left, in_pages, in_right, least_none, none_in, parted, to_filter}
 use Rattle.bbm_rules.proofs.OpenLaw.{In, from_contains}
 use Rattle.bbm_rules.proofs.PathLemmas.{AllFresh}
-use Rattle.bbm_rules.proofs.RuleLemmas.{Kept, if_none, kept}
+use Rattle.bbm_rules.proofs.RuleLemmas.{Unbroken, if_none, throughout}
 use Rattle.bbm_rules.proofs.TreeLemmas.{Child, Rooted, at_level, at_start, level_is, level_of_page}
-use Rattle.bbm_rules.specs.Attach.{Attached, End, all_ends, attached_at, attached_by, attached_from, attached_next, deeper_ends, first_ends, pages_of}
+use Rattle.bbm_rules.specs.Attach.{Attached, End, all_ends, attached_by, attached_from, end_at, ends_below, pages_of}
 use Rattle.bbm_rules.specs.Broken.{broken, first_broken, keeps, rules}
+use Rattle.bbm_rules.specs.declared.rule.Rule.TheVariants.{BreakBeforeMake, NotFresh, PageInUse}
 use Rattle.bbm_rules.specs.Claims.{Trust}
 use Rattle.bbm_rules.specs.Covers.{note, noted}
 use Rattle.bbm_rules.specs.Notes.{Noted, events_of}
 use Rattle.bbm_rules.specs.Pages.{is_fresh}
-use Rattle.bbm_rules.specs.Places.{page_of, repeated}
-use Rattle.bbm_rules.specs.Roots.{Declared, first_input_page, input_pages, retired, root_pages, roots_of, start_of}
-use Rattle.bbm_rules.specs.Rules.{bad_ends, judged_ends, needs_over, breaks_make, not_fresh, not_fresh_in, untracked_page}
-use Rattle.bbm_rules.specs.Tree.{Node, held_in, next_in, next_of_value, node_below, node_of, nodes_at, nodes_of_pages, nodes_of_root, region_start, tree}
+use Rattle.bbm_rules.specs.Lists.{if_so, repeated}
+use Rattle.bbm_rules.specs.Places.{page_of}
+use Rattle.bbm_rules.specs.Roots.{Declared, first_input_page, input_pages, is_at, retired, root_pages, roots_of, start_of}
+use Rattle.bbm_rules.specs.Rules.{bad_ends, judged_ends, not_fresh, of_attached, unfresh, untracked_page}
+use Rattle.bbm_rules.specs.Tree.{Node, held_at, next_in, next_of, node_below, node_of, nodes_at, nodes_of_pages, nodes_of_root, region_start, tree}
 
 -- ---- the roots
 
-retired_by : (b : Bool) (r : Declared) (rs qs : List Declared) (s : Declared) → In (cond b rs (r ∷ rs)) s
-    → (In rs s → In qs s) → In (r ∷ qs) s
-retired_by true r rs qs s i rest = inr (rest i)
-retired_by false r rs qs s (inl e) rest = inl e
-retired_by false r rs qs s (inr i) rest = inr (rest i)
-
 in_retired : (page : ℕ) (rs : List Declared) (s : Declared) → In (retired page rs) s → In rs s
-in_retired page [] s i = i
-in_retired page (r ∷ rs) s i = retired_by (r.page == page) r (retired page rs) rs s i (in_retired page rs s)
+in_retired page rs s i = (from_filter (λ (r : Declared). not (is_at page r)) rs s i).0
 
-in_first : (level : ℕ) (pages : List ℕ) (e : End) → In (first_ends level pages) e → In pages e.page
+in_first : (level : ℕ) (pages : List ℕ) (e : End) → In (map (end_at level) pages) e → In pages e.page
 in_first level [] e i = absurd i
 in_first level (page ∷ pages) e (inl same) = inl (ap (λ (x : End). x.page) same)
 in_first level (page ∷ pages) e (inr i) = inr (in_first level pages e i)
@@ -90,35 +85,31 @@ not_invalid Form.leaf kind level value v e = cc
 
 -- ---- rules
 
-none_from : {X : Type 0} (o : Option X) → is_none o ≡ true → o ≡ None
-none_from None e = refl
-none_from (Some x) e = absurd (true≢false (sym e))
-
 module _ (heading : Heading) (trust : Trust) (h : List Noted) where
-  fresh_by : (pages : List ℕ) (page : ℕ) (b : Bool) → is_fresh heading trust h page ≡ b → not_fresh_in heading trust h pages ≡ []
+  fresh_by : (pages : List ℕ) (page : ℕ) (b : Bool) → is_fresh heading trust h page ≡ b → unfresh heading trust h pages ≡ []
       → In pages page → b ≡ true
   fresh_by pages page true e none i = refl
   fresh_by pages page false e none i =
-      absurd (none_in (not_fresh_in heading trust h pages) page none
+      absurd (none_in (unfresh heading trust h pages) page none
       (to_filter (λ p. not (is_fresh heading trust h p)) pages page i (not_from_false (is_fresh heading trust h page) e)))
 
-  all_fresh : (pages : List ℕ) (page : ℕ) → not_fresh_in heading trust h pages ≡ [] → In pages page
+  all_fresh : (pages : List ℕ) (page : ℕ) → unfresh heading trust h pages ≡ [] → In pages page
       → is_fresh heading trust h page ≡ true
   all_fresh pages page none i = fresh_by pages page (is_fresh heading trust h page) refl none i
 
   -- what the rules on fresh pages say of an event that attaches
   record Attaches (e : Event) (a : Attached) : Type 0 where
-    judged : not_fresh_in heading trust h (pages_of (judged_ends e a)) ≡ []
+    judged : unfresh heading trust h (pages_of (judged_ends e a)) ≡ []
     single : repeated (pages_of (all_ends a)) ≡ []
 
   attaches : (e : Event) (a : Attached) → attached_by heading trust h e ≡ Some a → not_fresh heading trust h e ≡ None
       → Attaches e a
   attaches e a is none =
-      let both = append_none (bad_ends heading trust h e (attached_by heading trust h e)) (untracked_page heading trust h e)
-      (least_none (bad_ends heading trust h e (attached_by heading trust h e) ++ untracked_page heading trust h e) none) in
-      let ends : bad_ends heading trust h e (Some a) ≡ []
-      = subst (λ (o : Option Attached). bad_ends heading trust h e o ≡ []) is both.0 in
-      let parts = append_none (not_fresh_in heading trust h (pages_of (judged_ends e a))) (repeated (pages_of (all_ends a))) ends in
+      let both = append_none (of_attached (bad_ends heading trust h e) (attached_by heading trust h e)) (untracked_page heading trust h e)
+      (least_none (of_attached (bad_ends heading trust h e) (attached_by heading trust h e) ++ untracked_page heading trust h e) none) in
+      let ends : bad_ends heading trust h e a ≡ []
+      = subst (λ (o : Option Attached). of_attached (bad_ends heading trust h e) o ≡ []) is both.0 in
+      let parts = append_none (unfresh heading trust h (pages_of (judged_ends e a))) (repeated (pages_of (all_ends a))) ends in
       record { judged = parts.0; single = parts.1 }
 
   -- ---- a place that holds something new was written
@@ -168,20 +159,20 @@ module _ (heading : Heading) (trust : Trust) (h : List Noted) where
     -- ---- a root
 
     after_root : (n : Noted) (pe : ℕ) (kind : Kind) (lock : Option ℕ) (page : ℕ) → n.event ≡ Root pe kind lock page
-        → Kept heading trust h (Root pe kind lock page) → OneNode heading trust (n ∷ h)
+        → Unbroken heading trust h (Root pe kind lock page) → OneNode heading trust (n ∷ h)
     after_root n pe kind lock page change kept =
         still_one heading trust h settled kind level n bs (record {
           begin = record {
             alike = λ b i. (kind_of_page kind level page base pages b i, level_of_page kind level page base pages b i);
-            first_fresh = subst (λ (ps : List ℕ). AllFresh heading trust h (first_ends level ps)) (sym firsts)
+            first_fresh = subst (λ (ps : List ℕ). AllFresh heading trust h (map (end_at level) ps)) (sym firsts)
                 (λ e i. all_fresh pages e.page used (in_first level pages e i));
-            deeper_fresh = subst (λ (ps : List ℕ). AllFresh heading trust h (deeper_ends heading trust kind h level ps)) (sym firsts)
-                (λ e i. all_fresh (pages_of (deeper_ends heading trust kind h level pages)) e.page rule.judged
-                (in_pages (deeper_ends heading trust kind h level pages) e i));
+            deeper_fresh = subst (λ (ps : List ℕ). AllFresh heading trust h (flat_map (ends_below heading trust h kind (3 - level) level) ps)) (sym firsts)
+                (λ e i. all_fresh (pages_of (flat_map (ends_below heading trust h kind (3 - level) level) pages)) e.page rule.judged
+                (in_pages (flat_map (ends_below heading trust h kind (3 - level) level) pages) e i));
           };
-          apart = subst (λ (ps : List ℕ). Parted (first_ends level ps) (deeper_ends heading trust kind h level ps)) (sym firsts)
-              (parted (first_ends level pages) (deeper_ends heading trust kind h level pages)
-              (apart (pages_of (first_ends level pages ++ deeper_ends heading trust kind h level pages)) rule.single));
+          apart = subst (λ (ps : List ℕ). Parted (map (end_at level) ps) (flat_map (ends_below heading trust h kind (3 - level) level) ps)) (sym firsts)
+              (parted (map (end_at level) pages) (flat_map (ends_below heading trust h kind (3 - level) level) pages)
+              (apart (pages_of (map (end_at level) pages ++ flat_map (ends_below heading trust h kind (3 - level) level) pages)) rule.single));
           root = λ l m r. old_or_new l m r
               (subst (λ (e : Event). In (roots_of (e ∷ events_of h)) r.root) change r.declared);
           child = λ l p c b i k. inl (unwritten n p c no_write k);
@@ -204,10 +195,10 @@ module _ (heading : Heading) (trust : Trust) (h : List Noted) where
         firsts = first_are kind level page base pages
 
         rule : Attaches (Root pe kind lock page) (attached_from heading trust h kind level pages)
-        rule = attaches (Root pe kind lock page) (attached_from heading trust h kind level pages) refl kept.fresh
+        rule = attaches (Root pe kind lock page) (attached_from heading trust h kind level pages) refl (kept NotFresh)
 
-        used : not_fresh_in heading trust h pages ≡ []
-        used = least_none (not_fresh_in heading trust h pages) kept.in_use
+        used : unfresh heading trust h pages ≡ []
+        used = least_none (unfresh heading trust h pages) (kept PageInUse)
 
         no_write : (q place value : ℕ) → n.event ≡ Write q place value → ⊥
         no_write q place value is = let k : Root pe kind lock page ≡ Write q place value = sym change ∙ is in cc
@@ -240,47 +231,53 @@ module _ (heading : Heading) (trust : Trust) (h : List Noted) where
 
     -- ---- a write
 
-    module _ (n : Noted) (pe at value : ℕ) (change : n.event ≡ Write pe at value) (rule : Kept heading trust h (Write pe at value)) where
+    module _ (n : Noted) (pe at value : ℕ) (change : n.event ≡ Write pe at value) (rule : Unbroken heading trust h (Write pe at value)) where
       -- the write links the page of c below its place
       record Links (p c : Node) : Type 0 where
         node : node_of heading trust h (page_of at) ≡ Some p
-        empty : held_in heading trust p at h ≡ None
-        next : next_of_value p.kind p.level (Some value) ≡ Some c.page
-        made : node_below p at (Some c.page) ≡ Some c
+        empty : held_at heading trust h p at ≡ None
+        next : next_of p.kind p.level value ≡ Some c.page
+        made : node_below p at c.page ≡ c
 
       same_write : (pe' place v : ℕ) → n.event ≡ Write pe' place v → (place ≡ at) × (v ≡ value)
       same_write pe' place v is = let k : Write pe at value ≡ Write pe' place v = sym change ∙ is in (cc, cc)
 
+      -- the steps of rule 4
+      abbrev over : Node → ℕ → Option ℕ
+      over p old = if_so (needs p.kind p.level old value) at
+
+      abbrev over_node : Node → Option ℕ
+      over_node p = option_and_then (over p) (held_at heading trust h p at)
+
       -- a value over one of the same core links the same page
       rewritten : (p c : Node) (old : ℕ) (k : Child heading trust (n ∷ h) p c) → node_of heading trust h (page_of at) ≡ Some p
-          → held_in heading trust p at h ≡ Some old → k.place ≡ at → k.value ≡ value → Child heading trust h p c
+          → held_at heading trust h p at ≡ Some old → k.place ≡ at → k.value ≡ value → Child heading trust h p c
       rewritten p c old k node holds there is =
-          let unneeded : breaks_make heading trust h at value (node_of heading trust h (page_of at)) ≡ false
-          = if_none (breaks_make heading trust h at value (node_of heading trust h (page_of at))) at rule.make in
-          let at_node : needs_over p value (held_in heading trust p at h) ≡ false
-          = subst (λ (o : Option Node). breaks_make heading trust h at value o ≡ false) node unneeded in
-          let over : differ (core_in (desc_of p.kind p.level old)) (core_in (desc_of p.kind p.level value)) ≡ false
-          = subst (λ (o : Option ℕ). needs_over p value o ≡ false) holds at_node in
+          let unneeded : option_and_then (over p) (held_at heading trust h p at) ≡ None
+          = subst (λ (o : Option Node). option_and_then over_node o ≡ None) node (rule BreakBeforeMake) in
+          let same : differ (core_in (desc_of p.kind p.level old)) (core_in (desc_of p.kind p.level value)) ≡ false
+          = if_none (needs p.kind p.level old value) at
+          (subst (λ (o : Option ℕ). option_and_then (over p) o ≡ None) holds unneeded) in
           record {
             place = k.place;
             value = old;
             inside = k.inside;
-            holds = ap (λ (x : ℕ). held_in heading trust p x h) there ∙ holds;
+            holds = ap (λ (x : ℕ). held_at heading trust h p x) there ∙ holds;
             next = same_next (desc_of p.kind p.level old) (desc_of p.kind p.level value) c.page
                 (not_invalid (form_of p.level old) p.kind p.level old (held_is_valid heading trust at p.kind p.level h old holds))
-                over (ap (λ (x : ℕ). next_of_value p.kind p.level (Some x)) (sym is) ∙ k.next);
+                same (ap (λ (x : ℕ). next_of p.kind p.level x) (sym is) ∙ k.next);
             made = k.made;
             kind = k.kind;
             level = k.level;
           }
 
-      linked_by : (p c : Node) (k : Child heading trust (n ∷ h) p c) (o : Option ℕ) → held_in heading trust p at h ≡ o
+      linked_by : (p c : Node) (k : Child heading trust (n ∷ h) p c) (o : Option ℕ) → held_at heading trust h p at ≡ o
           → node_of heading trust h (page_of at) ≡ Some p → k.place ≡ at → k.value ≡ value → Child heading trust h p c ⊎ Links p c
       linked_by p c k None e node there is = inr (record {
         node = node;
         empty = e;
-        next = ap (λ (x : ℕ). next_of_value p.kind p.level (Some x)) (sym is) ∙ k.next;
-        made = ap (λ (x : ℕ). node_below p x (Some c.page)) (sym there) ∙ k.made;
+        next = ap (λ (x : ℕ). next_of p.kind p.level x) (sym is) ∙ k.next;
+        made = ap (λ (x : ℕ). node_below p x c.page) (sym there) ∙ k.made;
       })
       linked_by p c k (Some old) e node there is = inl (rewritten p c old k node e there is)
 
@@ -290,7 +287,7 @@ module _ (heading : Heading) (trust : Trust) (h : List Noted) where
             | inl old ↦ inl old
             | inr v ↦
                 let w = same_write v.pe k.place k.value v.is in
-                linked_by p c k (held_in heading trust p at h) refl
+                linked_by p c k (held_at heading trust h p at) refl
                 (node_is (page_of at) p t (sym k.inside ∙ ap page_of w.0)) w.0 w.1
           ]
 
@@ -299,8 +296,8 @@ module _ (heading : Heading) (trust : Trust) (h : List Noted) where
           nothing n (λ r i. subst (λ (e : Event). In (roots_of (e ∷ events_of h)) r) change i)
           (λ p c t k. elim (old_or_linked p c t k) [ inl old ↦ old | inr l ↦ absurd (none p c l) ])
 
-      after_link : (q : Node) (next : ℕ) → node_of heading trust h (page_of at) ≡ Some q → held_in heading trust q at h ≡ None
-          → next_of_value q.kind q.level (Some value) ≡ Some next → OneNode heading trust (n ∷ h)
+      after_link : (q : Node) (next : ℕ) → node_of heading trust h (page_of at) ≡ Some q → held_at heading trust h q at ≡ None
+          → next_of q.kind q.level value ≡ Some next → OneNode heading trust (n ∷ h)
       after_link q next node empty link =
           still_one heading trust h settled q.kind (suc q.level) n (b ∷ []) (record {
             begin = record {
@@ -344,19 +341,17 @@ module _ (heading : Heading) (trust : Trust) (h : List Noted) where
           }
 
           firsts : List End
-          firsts = first_ends (suc q.level) (next ∷ [])
+          firsts = map (end_at (suc q.level)) (next ∷ [])
 
           deeper : List End
-          deeper = deeper_ends heading trust q.kind h (suc q.level) (next ∷ [])
+          deeper = flat_map (ends_below heading trust h q.kind (3 - suc q.level) (suc q.level)) (next ∷ [])
 
           attached : attached_by heading trust h (Write pe at value)
               ≡ Some (attached_from heading trust h q.kind (suc q.level) (next ∷ []))
-          attached = ap (attached_at heading trust h at value) node
-              ∙ (ap (λ (o : Option ℕ). cond (is_none o) (attached_next heading trust h q (next_of_value q.kind q.level (Some value))) None) empty
-              ∙ ap (attached_next heading trust h q) link)
+          attached = rw (node, empty, link) refl
 
           rules_say : Attaches (Write pe at value) (attached_from heading trust h q.kind (suc q.level) (next ∷ []))
-          rules_say = attaches (Write pe at value) (attached_from heading trust h q.kind (suc q.level) (next ∷ [])) attached rule.fresh
+          rules_say = attaches (Write pe at value) (attached_from heading trust h q.kind (suc q.level) (next ∷ [])) attached (rule NotFresh)
 
           is_q : (p c : Node) → Links p c → q ≡ p
           is_q p c x = let same : Some q ≡ Some p = sym node ∙ x.node in cc
@@ -365,29 +360,28 @@ module _ (heading : Heading) (trust : Trust) (h : List Noted) where
           is_b p c x =
               let same : q ≡ p = is_q p c x in
               let page : Some next ≡ Some c.page =
-              sym link ∙ (ap (λ (y : Node). next_of_value y.kind y.level (Some value)) same ∙ x.next) in
-              let made : Some b ≡ Some c =
-              ap (node_below q at) page ∙ (ap (λ (y : Node). node_below y at (Some c.page)) same ∙ x.made) in
-              cc
+              sym link ∙ (ap (λ (y : Node). next_of y.kind y.level value) same ∙ x.next) in
+              let first : next ≡ c.page = cc in
+              ap (node_below q at) first ∙ (ap (λ (y : Node). node_below y at c.page) same ∙ x.made)
 
-      by_next : (q : Node) (o : Option ℕ) → node_of heading trust h (page_of at) ≡ Some q → held_in heading trust q at h ≡ None
-          → next_of_value q.kind q.level (Some value) ≡ o → OneNode heading trust (n ∷ h)
+      by_next : (q : Node) (o : Option ℕ) → node_of heading trust h (page_of at) ≡ Some q → held_at heading trust h q at ≡ None
+          → next_of q.kind q.level value ≡ o → OneNode heading trust (n ∷ h)
       by_next q (Some next) node empty e = after_link q next node empty e
       by_next q None node empty e = unlinked (λ p c x.
           let same : Some q ≡ Some p = sym node ∙ x.node in
           let is : q ≡ p = cc in
-          let k : None ≡ Some c.page = sym e ∙ (ap (λ (y : Node). next_of_value y.kind y.level (Some value)) is ∙ x.next) in cc)
+          let k : None ≡ Some c.page = sym e ∙ (ap (λ (y : Node). next_of y.kind y.level value) is ∙ x.next) in cc)
 
-      by_held : (q : Node) (o : Option ℕ) → node_of heading trust h (page_of at) ≡ Some q → held_in heading trust q at h ≡ o
+      by_held : (q : Node) (o : Option ℕ) → node_of heading trust h (page_of at) ≡ Some q → held_at heading trust h q at ≡ o
           → OneNode heading trust (n ∷ h)
-      by_held q None node e = by_next q (next_of_value q.kind q.level (Some value)) node e refl
+      by_held q None node e = by_next q (next_of q.kind q.level value) node e refl
       by_held q (Some old) node e = unlinked (λ p c x.
           let same : Some q ≡ Some p = sym node ∙ x.node in
           let is : q ≡ p = cc in
-          let k : Some old ≡ None = sym e ∙ (ap (λ (y : Node). held_in heading trust y at h) is ∙ x.empty) in cc)
+          let k : Some old ≡ None = sym e ∙ (ap (λ (y : Node). held_at heading trust h y at) is ∙ x.empty) in cc)
 
       by_node : (o : Option Node) → node_of heading trust h (page_of at) ≡ o → OneNode heading trust (n ∷ h)
-      by_node (Some q) e = by_held q (held_in heading trust q at h) e refl
+      by_node (Some q) e = by_held q (held_at heading trust h q at) e refl
       by_node None e = unlinked (λ p c x. let k : None ≡ Some p = sym e ∙ x.node in cc)
 
       after_write : OneNode heading trust (n ∷ h)
@@ -395,7 +389,7 @@ module _ (heading : Heading) (trust : Trust) (h : List Noted) where
 
     -- ---- any event
 
-    by_event : (e : Event) (n : Noted) → n.event ≡ e → Kept heading trust h e → OneNode heading trust (n ∷ h)
+    by_event : (e : Event) (n : Noted) → n.event ≡ e → Unbroken heading trust h e → OneNode heading trust (n ∷ h)
     by_event (Root pe kind lock page) n change kept = after_root n pe kind lock page change kept
     by_event (Write pe at value) n change kept = after_write n pe at value change kept
     by_event e n change kept = after_quiet n (ap is_quiet change)
@@ -410,41 +404,41 @@ none_at_start heading trust (suc level) n i =
       | inr r ↦ none_at_start heading trust level r.0 r.1
     ]
 
-unbroken_rules : (heading : Heading) (trust : Trust) (h : List Event) (e : Event) → broken heading trust h e ≡ None
-    → first_broken heading trust (noted heading trust h) e rules ≡ None
-unfolding broken
-unbroken_rules heading trust h e k = k
+-- What holds throughout a history that keeps the rules. What a further proof needs is one field more here, and one line
+-- more in `invariants`.
+pub record Invariants (heading : Heading) (trust : Trust) (h : List Noted) : Type 0 where
+  pub settled : Settled heading trust h
+  pub one : OneNode heading trust h
 
-throughout : (heading : Heading) (trust : Trust) (h : List Event) → keeps heading trust h ≡ true
-    → Settled heading trust (noted heading trust h) × OneNode heading trust (noted heading trust h)
-throughout heading trust [] k = (
-  λ kind level place w fresh last. absurd (true≢false (sym fresh)),
-  λ n m t u same. absurd (none_at_start heading trust t.level n t.there),
-)
-throughout heading trust (e ∷ h) k =
-    let parts = and_parts (keeps heading trust h) (is_none (broken heading trust h e)) k in
-    let before = throughout heading trust h parts.0 in
-    let rule : Kept heading trust (noted heading trust h) e = kept heading trust (noted heading trust h) e
-    (unbroken_rules heading trust h e (none_from (broken heading trust h e) parts.1)) in
-    let n : Noted = note heading trust (noted heading trust h) e in (
-      settled_on heading trust (noted heading trust h) n before.0 rule,
-      by_event heading trust (noted heading trust h) before.0 before.1 e n refl rule,
-    )
+pub invariants : (heading : Heading) (trust : Trust) (h : List Event) → keeps heading trust h ≡ true
+    → Invariants heading trust (noted heading trust h)
+invariants heading trust h k =
+    throughout heading trust (Invariants heading trust)
+    (record {
+      settled = λ kind level place w fresh last. absurd (true≢false (sym fresh));
+      one = λ n m t u same. absurd (none_at_start heading trust t.level n t.there);
+    })
+    (λ older e kept rule before.
+    let n : Noted = note heading trust (noted heading trust older) e in
+    record {
+      settled = settled_on heading trust (noted heading trust older) n before.settled rule;
+      one = by_event heading trust (noted heading trust older) before.settled before.one e n refl rule;
+    }) h k
 
 -- A page has at most one node, and that is the one that the definitions take.
 pub at_most_one : (heading : Heading) (trust : Trust) (h : List Event) → keeps heading trust h ≡ true → (n m : Node)
     → Contains (tree heading trust (noted heading trust h)) n → Contains (tree heading trust (noted heading trust h)) m
     → n.page ≡ m.page → n ≡ m
 at_most_one heading trust h k n m c d same =
-    (throughout heading trust h k).1 n m
+    (invariants heading trust h k).one n m
     (from_tree heading trust (noted heading trust h) n (from_contains (tree heading trust (noted heading trust h)) n c))
     (from_tree heading trust (noted heading trust h) m (from_contains (tree heading trust (noted heading trust h)) m d)) same
 
 pub the_first : (heading : Heading) (trust : Trust) (h : List Event) → keeps heading trust h ≡ true → (n : Node)
     → Contains (tree heading trust (noted heading trust h)) n → node_of heading trust (noted heading trust h) n.page ≡ Some n
 the_first heading trust h k n c =
-    let both = throughout heading trust h k in
-    node_is heading trust (noted heading trust h) both.0 both.1 n.page n
+    let i : Invariants heading trust (noted heading trust h) = invariants heading trust h k in
+    node_is heading trust (noted heading trust h) i.settled i.one n.page n
     (from_tree heading trust (noted heading trust h) n (from_contains (tree heading trust (noted heading trust h)) n c)) refl
 
 pub ruleset laws = (the_first)

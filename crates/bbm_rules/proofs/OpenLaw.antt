@@ -1,8 +1,6 @@
 -- The unanswered TLBIs of a PE are those that no later DSB of it completes.
 use Rattle.std.proofs.Common.{◌≡◌, ℕ, zero, suc, ◌<◌, Bool, true, false, cond, ◌&&◌, ◌⊎◌, ◌==◌, List, [], ◌∷◌, ◌++◌, length, Contains, slice_index_or, refl, sym, ◌∙◌, ap, subst, inl, inr, true≢false, not-suc-le-zero, le_of_suc-le-suc, suc-le-suc, zero-le}
-use Rattle.bbm_barriers.specs.declared.Dsb.{Dsb as Barrier}
-use Rattle.bbm_events.specs.declared.event.Event.{Event}
-use Rattle.bbm_events.specs.declared.event.Event.TheVariants.{Dsb, Tlbi}
+use Rattle.bbm_rules.specs.Prelude.{Barrier, Event, Dsb, Tlbi}
 use Rattle.bbm_rules.specs.Notes.{Noted, event_of}
 use Rattle.bbm_rules.specs.Reach.{Issued, completes, left_open, still_open, unanswered}
 use Rattle.bbm_rules.specs.Sentences.{Open, issues, completes_for}

@@ -7,11 +7,11 @@ use Rattle.bbm_rules.proofs.FreshLemmas.{Settled, held_is_present}
 use Rattle.bbm_rules.proofs.ListLemmas.{Apart, in_pages, of_place, place_apart, same_place}
 use Rattle.bbm_rules.proofs.OpenLaw.{In}
 use Rattle.bbm_rules.proofs.TreeLemmas.{Child, Reaches, child_place, one_child}
-use Rattle.bbm_rules.specs.Attach.{End, ends_below, next_at, pages_of}
+use Rattle.bbm_rules.specs.Attach.{End, end_at, ends_below, next_at, pages_of}
 use Rattle.bbm_rules.specs.Claims.{Trust}
 use Rattle.bbm_rules.specs.Notes.{Noted, events_of}
 use Rattle.bbm_rules.specs.Pages.{is_fresh}
-use Rattle.bbm_rules.specs.Tree.{Node, next_of_value}
+use Rattle.bbm_rules.specs.Tree.{Node, next_of}
 use Rattle.bbm_rules.specs.Values.{places_in, value_of}
 
 module _ (heading : Heading) (trust : Trust) (h : List Noted) where
@@ -20,10 +20,10 @@ module _ (heading : Heading) (trust : Trust) (h : List Noted) where
 
   -- the end of the path of no places, and those of the longer ones
   abbrev pub ends_from : Kind → ℕ → ℕ → ℕ → List End
-  ends_from kind left level page = record { page = page; level = level } ∷ ends_below heading trust kind h left level page
+  ends_from kind left level page = end_at level page ∷ ends_below heading trust h kind left level page
 
-  below_fresh : (kind : Kind) (left level page : ℕ) → is_fresh heading trust h page ≡ true
-      → ends_below heading trust kind h (suc left) level page
+  pub below_fresh : (kind : Kind) (left level page : ℕ) → is_fresh heading trust h page ≡ true
+      → ends_below heading trust h kind (suc left) level page
       ≡ flat_map (ends_from kind left (suc level)) (filter_map (next_at kind level (events_of h)) (places_in (events_of h) page))
   below_fresh kind left level page fresh = rw (fresh, ends_below) refl
 
@@ -42,9 +42,9 @@ module _ (heading : Heading) (trust : Trust) (h : List Noted) where
       (subst (λ (page : ℕ). is_fresh heading trust h page ≡ true) (sym k.inside) fresh) k.holds in
       record {
         among = child_place heading trust h n c k;
-        next = ap (λ (x : Kind). next_of_value x level (Some (value_of (events_of h) k.place))) (sym same_kind)
-            ∙ (ap (λ (x : ℕ). next_of_value n.kind x (Some (value_of (events_of h) k.place))) (sym same_level)
-            ∙ (ap (λ (x : ℕ). next_of_value n.kind n.level (Some x)) present ∙ k.next));
+        next = ap (λ (x : Kind). next_of x level (value_of (events_of h) k.place)) (sym same_kind)
+            ∙ (ap (λ (x : ℕ). next_of n.kind x (value_of (events_of h) k.place)) (sym same_level)
+            ∙ (ap (λ (x : ℕ). next_of n.kind n.level x) present ∙ k.next));
         kind_is = k.kind ∙ same_kind;
         level_is = k.level ∙ ap suc same_level;
       }
@@ -52,7 +52,7 @@ module _ (heading : Heading) (trust : Trust) (h : List Noted) where
   -- the ends below the next page of a place are ends below its page
   ends_of_place : (kind : Kind) (left level : ℕ) (n c : Node) (place : ℕ) → is_fresh heading trust h n.page ≡ true
       → Below kind level n c place → (e : End) → In (ends_from kind left (suc level) c.page) e
-      → In (ends_below heading trust kind h (suc left) level n.page) e
+      → In (ends_below heading trust h kind (suc left) level n.page) e
   ends_of_place kind left level n c place fresh b e i =
       subst (λ (es : List End). In es e) (sym (below_fresh kind left level n.page fresh))
       (of_place (next_at kind level (events_of h)) (ends_from kind left (suc level)) (places_in (events_of h) n.page) place
@@ -76,14 +76,14 @@ module _ (heading : Heading) (trust : Trust) (h : List Noted) where
   -- the same for the node itself and those below it apart
   deeper_end : (left : ℕ) (kind : Kind) (level : ℕ) (n c m : Node) → Settled heading trust h → n.kind ≡ kind → n.level ≡ level
       → AllFresh (ends_from kind (suc left) level n.page) → Child heading trust h n c → Reaches heading trust h left c m
-      → In (pages_of (ends_below heading trust kind h (suc left) level n.page)) m.page
+      → In (pages_of (ends_below heading trust h kind (suc left) level n.page)) m.page
   deeper_end left kind level n c m settled k l fresh child r =
       let here : is_fresh heading trust h n.page ≡ true = fresh (record { page = n.page; level = level }) (inl refl) in
       let b : Below kind level n c child.place = below kind level n c settled k l here child in
       let found = in_ends left kind (suc level) c m settled b.kind_is b.level_is
       (λ e i. fresh e (inr (ends_of_place kind left level n c child.place here b e i))) r in
-      subst (λ (page : ℕ). In (pages_of (ends_below heading trust kind h (suc left) level n.page)) page) found.2
-      (in_pages (ends_below heading trust kind h (suc left) level n.page) found.0
+      subst (λ (page : ℕ). In (pages_of (ends_below heading trust h kind (suc left) level n.page)) page) found.2
+      (in_pages (ends_below heading trust h kind (suc left) level n.page) found.0
       (ends_of_place kind left level n c child.place here b found.0 found.1))
 
   -- two nodes that are reached and have one page are one
@@ -94,10 +94,10 @@ module _ (heading : Heading) (trust : Trust) (h : List Noted) where
   one_reached zero kind level n m o settled k l fresh apart e e' same = sym e ∙ e'
   one_reached (suc left) kind level n m o settled k l fresh apart (inl e) (inl e') same = sym e ∙ e'
   one_reached (suc left) kind level n m o settled k l fresh apart (inl e) (inr (c, child, r)) same =
-      absurd (apart.0 (subst (λ (page : ℕ). In (pages_of (ends_below heading trust kind h (suc left) level n.page)) page)
+      absurd (apart.0 (subst (λ (page : ℕ). In (pages_of (ends_below heading trust h kind (suc left) level n.page)) page)
       (sym same ∙ ap (λ (x : Node). x.page) (sym e)) (deeper_end left kind level n c o settled k l fresh child r)))
   one_reached (suc left) kind level n m o settled k l fresh apart (inr (c, child, r)) (inl e) same =
-      absurd (apart.0 (subst (λ (page : ℕ). In (pages_of (ends_below heading trust kind h (suc left) level n.page)) page)
+      absurd (apart.0 (subst (λ (page : ℕ). In (pages_of (ends_below heading trust h kind (suc left) level n.page)) page)
       (same ∙ ap (λ (x : Node). x.page) (sym e)) (deeper_end left kind level n c m settled k l fresh child r)))
   one_reached (suc left) kind level n m o settled k l fresh apart (inr (c, child, r)) (inr (d, other, s)) same =
       let here : is_fresh heading trust h n.page ≡ true = fresh (record { page = n.page; level = level }) (inl refl) in

@@ -1,12 +1,14 @@
 -- The readable values of a place are those that the sentence names.
 use Rattle.std.proofs.Common.{◌≡◌, ℕ, Bool, true, false, cond, ◌||◌, ◌==◌, List, [], ◌∷◌, ◌++◌, refl, sym, ◌∙◌, ap, subst, inl, inr, true≢false}
-use Rattle.std.proofs.lemmas.Bool.{eqb-true, eq-eqb, or_cases, or_left, or_right}
-use Rattle.bbm_events.specs.Heading.{Heading}
-use Rattle.bbm_events.specs.declared.event.Event.{Event}
-use Rattle.bbm_events.specs.declared.event.Event.TheVariants.{Init, Write}
-use Rattle.bbm_rules.specs.Places.{page_of, among}
-use Rattle.bbm_rules.specs.Values.{value_of, published, publishes_for, readable_before, is_readable}
-use Rattle.bbm_rules.specs.Sentences.{Readable}
+use Rattle.std.proofs.lemmas.Bool.{and_from, and_parts, eqb-true, or_cases, or_left, or_right}
+use Rattle.bbm_rules.specs.Prelude.{Barrier, Heading, Event, Init, Write, Dsb}
+use Rattle.bbm_rules.proofs.EqualityLaw.{same_number}
+use Rattle.bbm_rules.proofs.OpenLaw.{In, head_of, tail_of}
+use Rattle.bbm_rules.proofs.SearchLemmas.{any_finds, any_found, in_split, split_in}
+use Rattle.bbm_rules.specs.Lists.{among}
+use Rattle.bbm_rules.specs.Places.{page_of}
+use Rattle.bbm_rules.specs.Values.{value_of, published, publishes_for, publishes_to, readable_before, is_readable}
+use Rattle.bbm_rules.specs.Sentences.{Published, Readable}
 
 -- the event is an init of the page, or a write of the place
 abbrev inits : ℕ → Event → Bool
@@ -17,22 +19,11 @@ abbrev stores : ℕ → Event → Bool
 stores place (Write q at value) = at == place
 stores place _ = false
 
-abbrev head_of : Event → List Event → Event
-head_of d [] = d
-head_of d (e ∷ es) = e
-
-abbrev tail_of : List Event → List Event
-tail_of [] = []
-tail_of (e ∷ es) = es
-
 same_head : (e x : Event) (es xs : List Event) → e ∷ es ≡ x ∷ xs → e ≡ x
 same_head e x es xs k = ap (head_of e) k
 
 same_tail : (e x : Event) (es xs : List Event) → e ∷ es ≡ x ∷ xs → es ≡ xs
 same_tail e x es xs k = ap tail_of k
-
-self_eq : (n : ℕ) → (n == n) ≡ true
-self_eq n = eq-eqb n n refl
 
 false_true : {A : Type 0} (b : Bool) → b ≡ false → b ≡ true → A
 false_true b f t = absurd (true≢false (sym t ∙ f))
@@ -92,7 +83,7 @@ further heading later h place p value e not_init unpublished b = record {
   where
     kept : (q : ℕ) (after before : List Event) → e ∷ b.newer ≡ after ++ Init q (page_of place) ∷ before → ⊥
     kept q [] before k = false_true (inits (page_of place) e) not_init
-        (ap (inits (page_of place)) (same_head e (Init q (page_of place)) b.newer before k) ∙ self_eq (page_of place))
+        (ap (inits (page_of place)) (same_head e (Init q (page_of place)) b.newer before k) ∙ same_number (page_of place))
     kept q (x ∷ after) before k =
         b.no_init q after before (same_tail e x b.newer (after ++ Init q (page_of place) ∷ before) k)
 
@@ -110,7 +101,7 @@ further heading later h place p value e not_init unpublished b = record {
 not_stored : (heading : Heading) (p place : ℕ) (later : List Event) (e : Event) → stores place e ≡ false
     → (q w : ℕ) → e ≡ Write q place w → published heading q p later ≡ false
 not_stored heading p place later e none q w k =
-    false_true (stores place e) none (ap (stores place) k ∙ self_eq place)
+    false_true (stores place e) none (ap (stores place) k ∙ same_number place)
 
 abbrev writer_of : Event → ℕ
 writer_of (Write q at value) = q
@@ -172,7 +163,7 @@ current_write : (heading : Heading) (later h : List Event) (place p q at v : ℕ
     (cond b (v ∷ cond (published heading q p later) [] (readable_before heading (Write q at v ∷ later) h place p))
     (readable_before heading (Write q at v ∷ later) h place p)) ≡ true
 current_write heading later h place p q at v true k =
-    or_left (v == v) (among v (cond (published heading q p later) [] (readable_before heading (Write q at v ∷ later) h place p))) (self_eq v)
+    or_left (v == v) (among v (cond (published heading q p later) [] (readable_before heading (Write q at v ∷ later) h place p))) (same_number v)
 current_write heading later h place p q at v false k = k
 
 current_init : (value : ℕ) (values : List ℕ) (b : Bool) → among value values ≡ true
@@ -275,3 +266,35 @@ readable_complete heading h place p value r =
     })))
 
 pub ruleset laws = (readable_sound, readable_complete)
+
+-- Published, by a later DSB.
+is_publisher : (heading : Heading) (q p : ℕ) (e : Event) → publishes_for heading q p e ≡ true
+    → (dsb : Barrier) × (e ≡ Dsb q dsb) × (publishes_to heading dsb q p ≡ true)
+is_publisher heading q p (Dsb pe dsb) k =
+    let parts = and_parts (pe == q) (publishes_to heading dsb pe p) k in
+    let pe_is : pe ≡ q = eqb-true pe q parts.0 in
+    (dsb, ap (λ n. Dsb n dsb) pe_is, sym (ap (λ n. publishes_to heading dsb n p) pe_is) ∙ parts.1)
+is_publisher heading q p e k = absurd (true≢false (sym k))
+
+pub published_sound : (heading : Heading) (q p : ℕ) (later : List Event) → published heading q p later ≡ true
+    → Published heading q p later
+published_sound heading q p later k =
+    let r = any_found (publishes_for heading q p) later k in
+    let s = split_in later r.0 r.1 in
+    let d = is_publisher heading q p r.0 r.2 in
+    record {
+      dsb = d.0;
+      after = s.0;
+      before = s.1;
+      split = s.2 ∙ ap (λ e. s.0 ++ e ∷ s.1) d.1;
+      publishes = d.2;
+    }
+
+pub published_complete : (heading : Heading) (q p : ℕ) (later : List Event) → Published heading q p later
+    → published heading q p later ≡ true
+published_complete heading q p later s =
+    any_finds (publishes_for heading q p) later (Dsb q s.dsb)
+    (subst (λ (es : List Event). In es (Dsb q s.dsb)) (sym s.split) (in_split s.after s.before (Dsb q s.dsb)))
+    (and_from (q == q) (publishes_to heading s.dsb q p) (same_number q) s.publishes)
+
+pub ruleset published_laws = (published_sound, published_complete)

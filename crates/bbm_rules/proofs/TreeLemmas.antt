@@ -1,5 +1,6 @@
 -- The nodes of the trees by their parents, and the nodes that one reaches.
-use Rattle.std.proofs.Common.{◌≡◌, ℕ, zero, suc, ◌+◌, ◌*◌, ◌≤◌, Bool, true, false, cond, ◌⊎◌, ◌==◌, List, [], ◌∷◌, Option, Some, None, flat_map, refl, sym, ◌∙◌, ap, subst, inl, inr, not-suc-le-zero, le_of_suc-le-suc, eqb-true, eq-eqb}
+use Rattle.std.proofs.Common.{◌≡◌, ℕ, zero, suc, ◌+◌, ◌*◌, ◌≤◌, Bool, true, false, cond, ◌⊎◌, ◌==◌, List, [], ◌∷◌, Option, Some, option_and_then, flat_map, refl, sym, ◌∙◌, ap, subst, inl, inr, not-suc-le-zero, le_of_suc-le-suc, eqb-true, eq-eqb}
+use Rattle.std.proofs.lemmas.Option.{option_and_then_some}
 use Rattle.bbm_regimes.specs.declared.regime.Kind.{Kind}
 use Rattle.bbm_events.specs.Heading.{Heading}
 use Rattle.bbm_rules.proofs.HeldLemmas.{held_is_written}
@@ -9,7 +10,7 @@ use Rattle.bbm_rules.specs.Claims.{Trust}
 use Rattle.bbm_rules.specs.Notes.{Noted, events_of}
 use Rattle.bbm_rules.specs.Places.{page_of}
 use Rattle.bbm_rules.specs.Roots.{Declared, first_input_page, input_pages, root_pages, roots_of, start_of}
-use Rattle.bbm_rules.specs.Tree.{Node, child_at, children, held_in, next_of_value, node_below, nodes_at, nodes_of_pages, nodes_of_root, region_start, starts_at}
+use Rattle.bbm_rules.specs.Tree.{Node, child_at, children, held_at, next_of, node_below, nodes_at, nodes_of_pages, nodes_of_root, starts_at}
 use Rattle.bbm_rules.specs.Values.{is_in_page, places_in, written_places}
 
 -- ---- the pages of a root
@@ -59,43 +60,43 @@ module _ (heading : Heading) (trust : Trust) where
     pub place : ℕ
     pub value : ℕ
     pub inside : page_of place ≡ n.page
-    pub holds : held_in heading trust n place h ≡ Some value
-    pub next : next_of_value n.kind n.level (Some value) ≡ Some c.page
-    pub made : node_below n place (Some c.page) ≡ Some c
+    pub holds : held_at heading trust h n place ≡ Some value
+    pub next : next_of n.kind n.level value ≡ Some c.page
+    pub made : node_below n place c.page ≡ c
     pub kind : c.kind ≡ n.kind
     pub level : c.level ≡ suc n.level
 
-  child_by : (h : List Noted) (n c : Node) (place : ℕ) → page_of place ≡ n.page → (o q : Option ℕ)
-      → held_in heading trust n place h ≡ o → next_of_value n.kind n.level o ≡ q → node_below n place q ≡ Some c → Child h n c
-  child_by h n c place inside None q e k made = let k' : None ≡ q = k in cc
-  child_by h n c place inside (Some value) None e k made = cc
-  child_by h n c place inside (Some value) (Some next) e k made =
-      let same : record {
-        page = next;
-        kind = n.kind;
-        level = suc n.level;
-        root = n.root;
-        base = region_start n place;
-        above = record { place = place; level = n.level } ∷ n.above;
-      } ≡ c = cc in
+  -- the steps of child_at
+  abbrev link_at : Node → ℕ → ℕ → Option Node
+  link_at n place next = Some (node_below n place next)
+
+  abbrev below_value : Node → ℕ → ℕ → Option Node
+  below_value n place value = option_and_then (link_at n place) (next_of n.kind n.level value)
+
+  child_by : (h : List Noted) (n c : Node) (place : ℕ) → page_of place ≡ n.page → child_at heading trust h n place ≡ Some c
+      → Child h n c
+  child_by h n c place inside e =
+      option_and_then_some (below_value n place) (held_at heading trust h n place) c e
+      (λ value holds k. option_and_then_some (link_at n place) (next_of n.kind n.level value) c k
+      (λ next link made.
+      let same : node_below n place next ≡ c = cc in
       let page : next ≡ c.page = ap (λ (x : Node). x.page) same in
       record {
         place = place;
         value = value;
         inside = inside;
-        holds = e;
-        next = k ∙ ap Some page;
-        made = ap (λ (x : ℕ). node_below n place (Some x)) (sym page) ∙ made;
+        holds = holds;
+        next = link ∙ ap Some page;
+        made = ap (node_below n place) (sym page) ∙ same;
         kind = ap (λ (x : Node). x.kind) (sym same);
         level = ap (λ (x : Node). x.level) (sym same);
-      }
+      }))
 
   pub from_children : (h : List Noted) (n c : Node) → In (children heading trust h n) c → Child h n c
   from_children h n c i =
       let r = from_filter_map (child_at heading trust h n) (places_in (events_of h) n.page) c i in
       let k = from_filter (is_in_page n.page) (written_places (events_of h)) r.0 r.1 in
-      child_by h n c r.0 (eqb-true (page_of r.0) n.page k.1) (held_in heading trust n r.0 h)
-      (next_of_value n.kind n.level (held_in heading trust n r.0 h)) refl refl r.2
+      child_by h n c r.0 (eqb-true (page_of r.0) n.page k.1) r.2
 
   -- its place is among those of the page
   pub child_place : (h : List Noted) (n c : Node) (k : Child h n c) → In (places_in (events_of h) n.page) k.place
@@ -105,8 +106,7 @@ module _ (heading : Heading) (trust : Trust) where
 
   child_is : (h : List Noted) (n c : Node) (k : Child h n c) → child_at heading trust h n k.place ≡ Some c
   child_is h n c k =
-      ap (λ (o : Option ℕ). node_below n k.place (next_of_value n.kind n.level o)) k.holds
-      ∙ (ap (node_below n k.place) k.next ∙ k.made)
+      ap (option_and_then (below_value n k.place)) k.holds ∙ (ap (option_and_then (link_at n k.place)) k.next ∙ ap Some k.made)
 
   pub to_children : (h : List Noted) (n c : Node) → Child h n c → In (children heading trust h n) c
   to_children h n c k =

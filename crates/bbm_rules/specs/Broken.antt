@@ -1,4 +1,4 @@
--- The least rule that an event breaks, and the logs that keep the rules.
+-- The least rule that an event breaks, and the logs that keep the rules. Source: project's own choice.
 use Rattle.std.specs.Prelude.{ℕ, suc, Bool, true, ◌&&◌, List, [], ◌∷◌, length, Option, Some, None, is_none}
 use Rattle.bbm_events.specs.Heading.{Heading}
 use Rattle.bbm_events.specs.declared.event.Event.{Event}
@@ -16,26 +16,6 @@ pub record Breach : Type 0 where
   pub rule : Rule
   pub at : ℕ
 
--- whether the event breaks the rule, after an annotated history
-abbrev pub breaks : Heading → Trust → List Noted → Event → Rule → Option ℕ
-breaks heading trust h e WrongWorld = wrong_world heading e
-breaks heading trust h e NoLock = no_lock heading trust h e
-breaks heading trust h e NullWritten = null_written h e
-breaks heading trust h e BreakBeforeMake = break_before_make heading trust h e
-breaks heading trust h e LimboMake = limbo_make heading trust h e
-breaks heading trust h e NotFresh = not_fresh heading trust h e
-breaks heading trust h e RewrittenFresh = rewritten_fresh heading trust h e
-breaks heading trust h e BadKind = bad_kind heading trust h e
-breaks heading trust h e GlobalUser = global_user heading trust h e
-breaks heading trust h e PageInUse = page_in_use heading trust h e
-breaks heading trust h e NoRoot = no_root h e
-breaks heading trust h e TagConflict = tag_conflict heading trust h e
-breaks heading trust h e RootInUse = root_in_use heading trust h e
-breaks heading trust h e UnsyncedVmid = unsynced_vmid heading h e
-breaks heading trust h e BadOperand = bad_operand e
-breaks heading trust h e LockBusy = lock_busy h e
-breaks heading trust h e LockNotMine = lock_not_mine h e
-
 -- the rules in the order of their numbers
 abbrev pub rules : List Rule
 rules = WrongWorld ∷ NoLock ∷ NullWritten ∷ BreakBeforeMake ∷ LimboMake ∷ NotFresh ∷ RewrittenFresh ∷ BadKind ∷ GlobalUser
@@ -45,31 +25,51 @@ abbrev pub breach_or : Rule → Option ℕ → Option Breach → Option Breach
 breach_or rule None rest = rest
 breach_or rule (Some at) rest = Some (record { rule = rule; at = at })
 
-abbrev pub first_broken : Heading → Trust → List Noted → Event → List Rule → Option Breach
-first_broken heading trust h e [] = None
-first_broken heading trust h e (rule ∷ rest) =
-    breach_or rule (breaks heading trust h e rule) (first_broken heading trust h e rest)
-
--- The least rule that the event breaks after the history, or none. Source: project's own choice.
-unfoldable pub broken : Heading → Trust → List Event → Event → Option Breach
-broken heading trust h e = first_broken heading trust (noted heading trust h) e rules
-
--- A log keeps the rules where each event breaks none after those before it. Source: project's own choice.
-abbrev pub keeps : Heading → Trust → List Event → Bool
-keeps heading trust [] = true
-keeps heading trust (e ∷ h) = keeps heading trust h && is_none (broken heading trust h e)
-
--- The verdict on a log whose lines are well formed and reach no limit, newest event first: the first event that breaks
--- a rule decides. The header is line 1, so the event of position i stands on line i + 1.
--- Source: project's own choice.
+-- the verdict where the event before position n + 1 breaks this rule or none
 abbrev pub refused_at : ℕ → Option Breach → Verdict
 refused_at n None = Accepted n
-refused_at n (Some breach) = Refused (suc n) breach.rule breach.at
+refused_at n (Some breach) = Refused (suc n) breach.rule breach.at None
 
 abbrev pub verdict_after : ℕ → Option Breach → Verdict → Verdict
 verdict_after n breach (Accepted events) = refused_at n breach
 verdict_after n breach verdict = verdict
 
-abbrev pub verdict_of : Heading → Trust → List Event → Verdict
-verdict_of heading trust [] = Accepted 0
-verdict_of heading trust (e ∷ h) = verdict_after (suc (length h)) (broken heading trust h e) (verdict_of heading trust h)
+module _ (heading : Heading) (trust : Trust) where
+  -- whether the event breaks the rule, after an annotated history
+  abbrev pub breaks : List Noted → Event → Rule → Option ℕ
+  breaks h e WrongWorld = wrong_world heading trust h e
+  breaks h e NoLock = no_lock heading trust h e
+  breaks h e NullWritten = null_written heading trust h e
+  breaks h e BreakBeforeMake = break_before_make heading trust h e
+  breaks h e LimboMake = limbo_make heading trust h e
+  breaks h e NotFresh = not_fresh heading trust h e
+  breaks h e RewrittenFresh = rewritten_fresh heading trust h e
+  breaks h e BadKind = bad_kind heading trust h e
+  breaks h e GlobalUser = global_user heading trust h e
+  breaks h e PageInUse = page_in_use heading trust h e
+  breaks h e NoRoot = no_root heading trust h e
+  breaks h e TagConflict = tag_conflict heading trust h e
+  breaks h e RootInUse = root_in_use heading trust h e
+  breaks h e UnsyncedVmid = unsynced_vmid heading trust h e
+  breaks h e BadOperand = bad_operand heading trust h e
+  breaks h e LockBusy = lock_busy heading trust h e
+  breaks h e LockNotMine = lock_not_mine heading trust h e
+
+  abbrev pub first_broken : List Noted → Event → List Rule → Option Breach
+  first_broken h e [] = None
+  first_broken h e (rule ∷ rest) = breach_or rule (breaks h e rule) (first_broken h e rest)
+
+  -- The least rule that the event breaks after the history, or none.
+  unfoldable pub broken : List Event → Event → Option Breach
+  broken h e = first_broken (noted heading trust h) e rules
+
+  -- A log keeps the rules where each event breaks none after those before it.
+  abbrev pub keeps : List Event → Bool
+  keeps [] = true
+  keeps (e ∷ h) = keeps h && is_none (broken h e)
+
+  -- The verdict on a log whose lines are well formed and reach no limit, newest event first: the first event that breaks
+  -- a rule decides. The header is line 1, so the event of position i stands on line i + 1. Events have no labels here.
+  abbrev pub verdict_of : List Event → Verdict
+  verdict_of [] = Accepted 0
+  verdict_of (e ∷ h) = verdict_after (suc (length h)) (broken h e) (verdict_of h)

@@ -1,17 +1,10 @@
 -- What the rules trust: every pattern of events that is there, or the patterns that a certificate names.
-use Rattle.std.specs.Prelude.{Bool, true, false, ◌&&◌, ◌||◌, ◌==◌, List, [], ◌∷◌}
-use Rattle.bbm_regimes.specs.declared.regime.Tag.{Tag}
-use Rattle.bbm_regimes.specs.declared.regime.Tag.TheVariants.{El2, Vmid, Asid, Ttbr1}
+-- Source: project's own choice.
+use Rattle.std.specs.Prelude.{Bool, true, false, ◌&&◌, ◌==◌, List}
+pub use Rattle.bbm_regimes.specs.Same.{same_tag}
 use Rattle.bbm_rules.specs.declared.claim.Claim.{Claim}
 use Rattle.bbm_rules.specs.declared.claim.Claim.TheVariants.{Place, Two, Taken}
-
--- whether two tags are the same
-abbrev pub same_tag : Tag → Tag → Bool
-same_tag El2 El2 = true
-same_tag (Vmid v) (Vmid w) = v == w
-same_tag (Asid a) (Asid b) = a == b
-same_tag Ttbr1 Ttbr1 = true
-same_tag _ _ = false
+use Rattle.bbm_rules.specs.Lists.{any}
 
 -- whether two claims are the same
 abbrev pub same_claim : Claim → Claim → Bool
@@ -22,15 +15,11 @@ same_claim (Taken p g t d) (Taken p' g' t' d') = p == p' && same_tag g g' && t =
 same_claim _ _ = false
 
 -- Under `Patterns` a place is cleansed, and a tag taken away, by every pattern of events that the definitions ask
--- for. Under `Listed` only by a pattern that a claim of the list names. Source: project's own choice.
+-- for. Under `Listed` only by a pattern that a claim of the list names.
 pub data Trust : Type 0 where
   Patterns : Trust
   Listed : List Claim → Trust
 
-abbrev pub claimed : List Claim → Claim → Bool
-claimed [] claim = false
-claimed (c ∷ cs) claim = same_claim c claim || claimed cs claim
-
 abbrev pub allows : Trust → Claim → Bool
 allows Patterns claim = true
-allows (Listed cs) claim = claimed cs claim
+allows (Listed cs) claim = any (λ c. same_claim c claim) cs

@@ -18,13 +18,8 @@ use Rattle.bbm_descriptor.specs.Descriptor.{is_valid, needs}
 use Rattle.bbm_events.specs.declared.event.Event.{Event}
 use Rattle.bbm_events.specs.declared.event.Event.TheVariants.{Init, Root, Write, Dsb, Tlbi}
 use Rattle.bbm_events.specs.Heading.{Heading}
-use Rattle.bbm_rules.specs.declared.rule.Rule.{Rule}
 use Rattle.bbm_rules.specs.declared.rule.Rule.TheVariants.{BreakBeforeMake, PageInUse}
-
--- a broken rule, with the address or number that it names
-pub record Breach : Type 0 where
-  pub rule : Rule
-  pub at : ℕ
+pub use Rattle.bbm_rules.specs.Broken.{Breach}
 
 -- the page of a place
 abbrev pub page_of : ℕ → ℕ

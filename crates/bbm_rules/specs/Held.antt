@@ -1,4 +1,5 @@
 -- What a place holds: the value that some TLB may still keep, or that the place has.
+-- Source: Arm ARM (DDI 0487), "Using break-before-make when updating translation table entries".
 use Rattle.std.specs.Prelude.{ℕ, Bool, ◌&&◌, ◌==◌, List, [], ◌∷◌, Option, Some, None, if◌then◌else◌}
 use Rattle.bbm_regimes.specs.declared.regime.Kind.{Kind}
 use Rattle.bbm_descriptor.specs.Descriptor.{is_valid}
@@ -8,7 +9,8 @@ use Rattle.bbm_events.specs.declared.event.Event.TheVariants.{Init, Write}
 use Rattle.bbm_rules.specs.Claims.{Trust}
 use Rattle.bbm_rules.specs.Cleansing.{cleansed}
 use Rattle.bbm_rules.specs.Notes.{Noted}
-use Rattle.bbm_rules.specs.Places.{page_of, every_pe}
+use Rattle.bbm_rules.specs.Lists.{◌>>=◌, every_pe}
+use Rattle.bbm_rules.specs.Places.{page_of}
 
 -- a valid write: its value, and the part of the history after it
 pub record ValidWrite : Type 0 where
@@ -17,11 +19,12 @@ pub record ValidWrite : Type 0 where
 
 -- one more event after a valid write
 abbrev pub later : Noted → Option ValidWrite → Option ValidWrite
-later n None = None
-later n (Some w) = Some (record { value = w.value; since = n ∷ w.since })
+later n found = do
+  w ← found
+  Some (record { value = w.value; since = n ∷ w.since })
 
 -- The last valid write of a place since the last init of its page, where the place has this kind and level. Given is
--- that of the history before the event. Source: project's own choice.
+-- that of the history before the event.
 abbrev pub last_valid_after : Kind → ℕ → ℕ → Event → Noted → Option ValidWrite → Option ValidWrite
 last_valid_after kind level place (Write pe at value) n found =
     if at == place && is_valid kind level value then Some (record { value = value; since = [] }) else later n found
@@ -32,16 +35,13 @@ abbrev pub last_valid : Kind → ℕ → ℕ → List Noted → Option ValidWrit
 last_valid kind level place [] = None
 last_valid kind level place (n ∷ h) = last_valid_after kind level place n.event n (last_valid kind level place h)
 
--- whether a place is cleansed at every PE of the header
-abbrev pub cleansed_everywhere : Heading → Trust → ℕ → List Noted → Bool
-cleansed_everywhere heading trust place since = every_pe heading.pes (λ p. cleansed heading trust place p since)
+module _ (heading : Heading) (trust : Trust) where
+  -- whether a place is cleansed at every PE of the header
+  abbrev pub cleansed_everywhere : ℕ → List Noted → Bool
+  cleansed_everywhere place since = every_pe heading.pes (λ p. cleansed heading trust place p since)
 
--- Held: the last valid value of the place since the last init of its page, unless the place is cleansed at every PE.
--- Source: Arm ARM (DDI 0487), "Using break-before-make when updating translation table entries".
-abbrev pub held_after : Heading → Trust → ℕ → Option ValidWrite → Option ℕ
-held_after heading trust place None = None
-held_after heading trust place (Some w) =
-    if cleansed_everywhere heading trust place w.since then None else Some w.value
-
-abbrev pub held : Heading → Trust → Kind → ℕ → ℕ → List Noted → Option ℕ
-held heading trust kind level place h = held_after heading trust place (last_valid kind level place h)
+  -- Held: the last valid value of the place since the last init of its page, unless the place is cleansed at every PE.
+  abbrev pub held : Kind → ℕ → ℕ → List Noted → Option ℕ
+  held kind level place h = do
+    w ← last_valid kind level place h
+    if cleansed_everywhere place w.since then None else Some w.value

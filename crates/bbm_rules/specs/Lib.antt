@@ -1,6 +1,7 @@
 pub mod Answers
 pub mod Attach
 pub mod Broken
+pub mod Changes
 pub mod Claims
 pub mod Cleansing
 pub mod Covers
@@ -8,12 +9,15 @@ pub mod FirstPath
 pub mod FirstPathAnswers
 pub mod Held
 pub mod Limits
+pub mod Lists
 pub mod Locks
 pub mod Notes
 pub mod Outcome
 pub mod Pages
+pub mod PatternSentences
 pub mod Phases
 pub mod Places
+pub mod Prelude
 pub mod Reach
 pub mod Registers
 pub mod Roots
@@ -22,4 +26,6 @@ pub mod Sentences
 pub mod Tags
 pub mod Texts
 pub mod Tree
+pub mod TreeSentences
 pub mod Values
+pub mod Version

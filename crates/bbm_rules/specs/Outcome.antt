@@ -1,7 +1,8 @@
 -- The verdict on a list of bytes: a fold over its lines. It knows nothing of a reader or of a checker.
 -- Source: project's own choice.
-use Rattle.std.specs.Prelude.{ℕ, suc, Bool, false, ◌==◌, nat_lt, nat_le, List, [], ◌∷◌, ◌++◌, length, drop, Option, Some, None, Result, Ok, Err, if◌then◌else◌}
-use Rattle.bbm_regimes.specs.declared.regime.Which.TheVariants.{LineBytes, Events}
+use Rattle.std.specs.Prelude.{◌≡◌, ℕ, suc, Bool, true, false, ◌==◌, nat_lt, nat_le, List, [], ◌∷◌, ◌++◌, length, drop, Option, Some, None, Result, Ok, Err, if◌then◌else◌}
+use Rattle.bbm_regimes.specs.declared.regime.Which.{Which}
+use Rattle.bbm_regimes.specs.declared.regime.Which.TheVariants.{LineBytes, Events, Lines}
 use Rattle.bbm_events.specs.declared.event.Event.{Event}
 use Rattle.bbm_events.specs.declared.event.Item.{Item}
 use Rattle.bbm_events.specs.declared.event.Item.TheVariants as item
@@ -11,7 +12,10 @@ use Rattle.bbm_events.specs.Heading.{Heading}
 use Rattle.bbm_events.specs.Lines.{header_of, item_of}
 use Rattle.bbm_rules.specs.declared.verdict.Verdict.{Verdict}
 use Rattle.bbm_rules.specs.declared.verdict.Verdict.TheVariants.{Accepted, Refused, Malformed, Limit}
-use Rattle.bbm_rules.specs.FirstPath.{Breach, broken, is_built, is_built_heading}
+use Rattle.bbm_rules.specs.Broken.{Breach, broken}
+use Rattle.bbm_rules.specs.Claims.{Trust}
+use Rattle.bbm_rules.specs.FirstPath as first
+use Rattle.bbm_rules.specs.Limits.{limit_of}
 
 -- The lines of a text: the pieces that end in a newline, byte 10, without it; and what stands after the
 -- last newline.
@@ -39,19 +43,52 @@ bytes_of (line ∷ lines) rest = line ++ 10 ∷ bytes_of lines rest
 abbrev pub is_too_long : List ℕ → Bool
 is_too_long line = nat_lt 200 (length line)
 
--- The limits that hold for a command, beside that of a line's bytes, which always holds: at most so
--- many events, or any number of them.
+-- What a log is judged by: whether a header and an event are judged at all, the least rule that an event breaks after
+-- a history, and the limit that it reaches. `all_rules` are the rules; `first_path` is what this version judges, in whose
+-- logs no event reaches a limit of a history before that on events.
+pub record Judge : Type 0 where
+  pub judges_heading : Heading → Bool
+  pub judges : Heading → List Event → Event → Bool
+  pub breach : Heading → List Event → Event → Option Breach
+  pub limit : List Event → Event → Option Which
+
+abbrev pub all_rules : Trust → Judge
+all_rules trust = record {
+  judges_heading = λ heading. true;
+  judges = λ heading h event. true;
+  breach = λ heading h event. broken heading trust h event;
+  limit = limit_of;
+}
+
+abbrev pub first_path : Judge
+first_path = record {
+  judges_heading = first.is_built_heading;
+  judges = first.is_built;
+  breach = first.broken;
+  limit = λ h event. None;
+}
+
+-- The limits that hold for a command beside those of a line's bytes and of a history, which always hold: at most so
+-- many events, and fewer than so many lines, or any number of them.
 pub record Limits : Type 0 where
   pub events : Option ℕ
+  pub lines : Option ℕ
 
 -- the limits of `check`
 abbrev pub check_limits : Limits
-check_limits = record { events = Some 2000 }
+check_limits = record { events = Some 2000; lines = None }
 
--- whether so many events reach a limit, so that one more would pass it
+-- whether so many reach a limit, so that one more would pass it
 abbrev pub is_reached : Option ℕ → ℕ → Bool
 is_reached None count = false
 is_reached (Some limit) count = nat_le limit count
+
+-- the limit that an event of this line reaches after a history: that of the history first
+abbrev pub limit_at : Limits → ℕ → List Event → Option Which → Option Which
+limit_at limits number h (Some which) = Some which
+limit_at limits number h None =
+    if is_reached limits.events (length h) then Some Events
+    else (if is_reached limits.lines number then Some Lines else None)
 
 -- how far the lines were read: none; the header and these events, the newest first; the end after these
 -- events
@@ -65,39 +102,42 @@ pub data Step : Type 0 where
   Decides : Verdict → Step
   GoesOn : Progress → Step
 
--- The order within one line: a malformed line, one that isn't judged yet, a broken rule, a limit.
+-- The order within one line: a malformed line, one that isn't judged, a broken rule, a limit. A label of the event
+-- goes into the verdict that refuses it, and into no history.
 
--- an event that keeps the rules
-abbrev pub after_kept : Limits → ℕ → Heading → List Event → Event → Step
-after_kept limits number heading h event =
-    if is_reached limits.events (length h) then Decides (Limit number Events)
-    else GoesOn (AtEvents heading (event ∷ h))
+-- an event that keeps the rules, by the limit that it reaches
+abbrev pub after_kept : ℕ → Heading → List Event → Event → Option Which → Step
+after_kept number heading h event (Some which) = Decides (Limit number which)
+after_kept number heading h event None = GoesOn (AtEvents heading (event ∷ h))
 
-abbrev pub after_judged : Limits → ℕ → Heading → List Event → Event → Option Breach → Step
-after_judged limits number heading h event (Some breach) = Decides (Refused number breach.rule breach.at)
-after_judged limits number heading h event None = after_kept limits number heading h event
+abbrev pub after_judged : Judge → Limits → ℕ → Heading → List Event → Event → Option (List ℕ) → Option Breach → Step
+after_judged judge limits number heading h event label (Some breach) = Decides (Refused number breach.rule breach.at label)
+after_judged judge limits number heading h event label None =
+    after_kept number heading h event (limit_at limits number h (judge.limit h event))
 
-abbrev pub after_event : Limits → ℕ → Heading → List Event → Event → Step
-after_event limits number heading h event =
-    if is_built heading h event then after_judged limits number heading h event (broken heading h event)
+abbrev pub after_event : Judge → Limits → ℕ → Heading → List Event → Event → Option (List ℕ) → Step
+after_event judge limits number heading h event label =
+    if judge.judges heading h event
+    then after_judged judge limits number heading h event label (judge.breach heading h event)
     else Decides (Malformed number NotBuilt)
 
-abbrev pub after_item : Limits → ℕ → Heading → List Event → Result Item Cause → Step
-after_item limits number heading h (Ok (item.Event event)) = after_event limits number heading h event
-after_item limits number heading h (Ok (item.End count)) =
+abbrev pub after_item : Judge → Limits → ℕ → Heading → List Event → Result Item Cause → Step
+after_item judge limits number heading h (Ok (item.Event event label)) =
+    after_event judge limits number heading h event label
+after_item judge limits number heading h (Ok (item.End count)) =
     if count == length h then GoesOn (AtEnd h) else Decides (Malformed number WrongCount)
-after_item limits number heading h (Err cause) = Decides (Malformed number cause)
+after_item judge limits number heading h (Err cause) = Decides (Malformed number cause)
 
-abbrev pub after_header : ℕ → Result Heading Cause → Step
-after_header number (Ok heading) =
-    if is_built_heading heading then GoesOn (AtEvents heading []) else Decides (Malformed number NotBuilt)
-after_header number (Err cause) = Decides (Malformed number cause)
+abbrev pub after_header : Judge → ℕ → Result Heading Cause → Step
+after_header judge number (Ok heading) =
+    if judge.judges_heading heading then GoesOn (AtEvents heading []) else Decides (Malformed number NotBuilt)
+after_header judge number (Err cause) = Decides (Malformed number cause)
 
 -- A line of at most 200 bytes.
-abbrev pub after_line : Limits → ℕ → Progress → List ℕ → Step
-after_line limits number AtHeader line = after_header number (header_of line)
-after_line limits number (AtEvents heading h) line = after_item limits number heading h (item_of heading line)
-after_line limits number (AtEnd h) line = Decides (Malformed number AfterEnd)
+abbrev pub after_line : Judge → Limits → ℕ → Progress → List ℕ → Step
+after_line judge limits number AtHeader line = after_header judge number (header_of line)
+after_line judge limits number (AtEvents heading h) line = after_item judge limits number heading h (item_of heading line)
+after_line judge limits number (AtEnd h) line = Decides (Malformed number AfterEnd)
 
 -- A line that is too long, or the bytes after the last newline: more than 200 of them reach the limit of
 -- a line, unless an `end` line came before.
@@ -106,9 +146,9 @@ too_long_at number (AtEnd h) = Malformed number AfterEnd
 too_long_at number _ = Limit number LineBytes
 
 -- what line number n decides
-unfoldable pub step_of : Limits → ℕ → Progress → List ℕ → Step
-step_of limits number progress line =
-    if is_too_long line then Decides (too_long_at number progress) else after_line limits number progress line
+unfoldable pub step_of : Judge → Limits → ℕ → Progress → List ℕ → Step
+step_of judge limits number progress line =
+    if is_too_long line then Decides (too_long_at number progress) else after_line judge limits number progress line
 
 -- The end of the input, after these bytes since the last newline.
 abbrev pub cut_at : ℕ → Progress → List ℕ → Verdict
@@ -145,19 +185,58 @@ outcome_after progress line lines rest goes_on (Decides verdict) =
 outcome_after progress line lines rest goes_on (GoesOn next) = goes_on next
 
 -- from line number n on, where the lines before were read so far
-abbrev pub outcome_from : Limits → ℕ → Progress → List (List ℕ) → List ℕ → Outcome
-outcome_from limits number progress [] rest =
+abbrev pub outcome_from : Judge → Limits → ℕ → Progress → List (List ℕ) → List ℕ → Outcome
+outcome_from judge limits number progress [] rest =
     record { verdict = end_of number progress rest; unread = drop 201 rest; log = events_in progress }
-outcome_from limits number progress (line ∷ lines) rest =
-    outcome_after progress line lines rest (λ next. outcome_from limits (suc number) next lines rest) (step_of limits number progress line)
+outcome_from judge limits number progress (line ∷ lines) rest =
+    outcome_after progress line lines rest (λ next. outcome_from judge limits (suc number) next lines rest)
+    (step_of judge limits number progress line)
 
--- the outcome of a list of bytes, from its first line on
-abbrev pub outcome_of : Limits → List ℕ → Outcome
-outcome_of limits bytes = outcome_from limits 1 AtHeader (text_of bytes).lines (text_of bytes).rest
+-- the outcome of these lines, with these bytes after the last newline
+abbrev pub outcome_of_lines : Judge → Limits → List (List ℕ) → List ℕ → Outcome
+outcome_of_lines judge limits lines rest = outcome_from judge limits 1 AtHeader lines rest
 
-abbrev pub verdict_of : Limits → List ℕ → Verdict
-verdict_of limits bytes = (outcome_of limits bytes).verdict
+abbrev pub verdict_of_lines : Judge → Limits → List (List ℕ) → List ℕ → Verdict
+verdict_of_lines judge limits lines rest = (outcome_of_lines judge limits lines rest).verdict
 
--- the events of the log: those before the deciding line, or all of them, the newest first
-abbrev pub log_of : Limits → List ℕ → List Event
-log_of limits bytes = (outcome_of limits bytes).log
+-- the outcome of a list of bytes
+abbrev pub outcome_of : Judge → Limits → List ℕ → Outcome
+outcome_of judge limits bytes = outcome_of_lines judge limits (text_of bytes).lines (text_of bytes).rest
+
+abbrev pub verdict_of_bytes : Judge → Limits → List ℕ → Verdict
+verdict_of_bytes judge limits bytes = (outcome_of judge limits bytes).verdict
+
+-- the events of the log, without their labels: those before the deciding line, or all of them, the newest first
+abbrev pub log_of : Judge → Limits → List ℕ → List Event
+log_of judge limits bytes = (outcome_of judge limits bytes).log
+
+-- The same as a sentence: the verdict is that of the first line that decides, or else that of the end.
+
+-- how far these lines are read, from line number n on, where none of them decides
+abbrev pub goes_on_to : (Progress → Option Progress) → Step → Option Progress
+goes_on_to goes_on (Decides verdict) = None
+goes_on_to goes_on (GoesOn next) = goes_on next
+
+abbrev pub read_from : Judge → Limits → ℕ → Progress → List (List ℕ) → Option Progress
+read_from judge limits number progress [] = Some progress
+read_from judge limits number progress (line ∷ lines) =
+    goes_on_to (λ next. read_from judge limits (suc number) next lines) (step_of judge limits number progress line)
+
+abbrev pub read_lines : Judge → Limits → List (List ℕ) → Option Progress
+read_lines judge limits lines = read_from judge limits 1 AtHeader lines
+
+-- a line decides, and none before it
+pub record DecidedByLine (judge : Judge) (limits : Limits) (lines : List (List ℕ)) (verdict : Verdict) : Type 0 where
+  pub before : List (List ℕ)
+  pub line : List ℕ
+  pub behind : List (List ℕ)
+  pub progress : Progress
+  pub split : lines ≡ before ++ line ∷ behind
+  pub read : read_lines judge limits before ≡ Some progress
+  pub decides : step_of judge limits (suc (length before)) progress line ≡ Decides verdict
+
+-- no line decides, and so the end does
+pub record DecidedByEnd (judge : Judge) (limits : Limits) (lines : List (List ℕ)) (rest : List ℕ) (verdict : Verdict) : Type 0 where
+  pub progress : Progress
+  pub read : read_lines judge limits lines ≡ Some progress
+  pub decides : end_of (suc (length lines)) progress rest ≡ verdict

@@ -1,15 +1,14 @@
--- Fresh pages and null pages.
+-- Fresh pages and null pages. Source: project's own choice.
 use Rattle.std.specs.Prelude.{ℕ, Bool, false, ◌&&◌, ◌||◌, not, ◌==◌, List, [], ◌∷◌}
 use Rattle.bbm_events.specs.Heading.{Heading}
 use Rattle.bbm_events.specs.declared.event.Event.{Event}
 use Rattle.bbm_events.specs.declared.event.Event.TheVariants.{Init, Null}
 use Rattle.bbm_rules.specs.Claims.{Trust}
 use Rattle.bbm_rules.specs.Notes.{Noted}
-use Rattle.bbm_rules.specs.Places.{with_number}
+use Rattle.bbm_rules.specs.Lists.{with_number}
 use Rattle.bbm_rules.specs.Tree.{in_tree}
 
 -- Null page: a page that was declared by `null`. As the base of TTBR0 it means that no walk is made.
--- Source: project's own choice.
 abbrev pub is_null : List Event → ℕ → Bool
 is_null [] page = false
 is_null (Null pe at ∷ h) page = at == page || is_null h page
@@ -22,11 +21,10 @@ may_be_fresh (Null pe at) page before = not (at == page) && before
 may_be_fresh _ page before = before
 
 -- Fresh: the page was initialised, has been in no tree since its last init, and wasn't declared null since.
--- Source: project's own choice.
-abbrev pub is_fresh : Heading → Trust → List Noted → ℕ → Bool
-is_fresh heading trust [] page = false
-is_fresh heading trust (n ∷ h) page =
-    may_be_fresh n.event page (is_fresh heading trust h page) && not (in_tree heading trust (n ∷ h) page)
+module _ (heading : Heading) (trust : Trust) where
+  abbrev pub is_fresh : List Noted → ℕ → Bool
+  is_fresh [] page = false
+  is_fresh (n ∷ h) page = may_be_fresh n.event page (is_fresh h page) && not (in_tree heading trust (n ∷ h) page)
 
 -- the pages that were ever initialised, each once
 abbrev pub initialised : List Event → List ℕ

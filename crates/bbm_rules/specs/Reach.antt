@@ -1,16 +1,18 @@
 -- Which PEs a TLBI reaches, and which DSB answers it. A history is newest first.
-use Rattle.std.specs.Prelude.{ℕ, Bool, false, ◌||◌, ◌==◌, List, [], ◌∷◌, if◌then◌else◌}
+use Rattle.std.specs.Prelude.{ℕ, Bool, false, ◌&&◌, ◌||◌, not, ◌==◌, List, [], ◌∷◌, if◌then◌else◌}
 use Rattle.bbm_barriers.specs.declared.Dsb.{Dsb as Barrier}
 use Rattle.bbm_barriers.specs.Options.{answers}
 use Rattle.bbm_tlbi_scope.specs.Operations.{operation}
+use Rattle.bbm_events.specs.Heading.{Heading}
 use Rattle.bbm_events.specs.declared.event.Event.{Event}
 use Rattle.bbm_events.specs.declared.event.Event.TheVariants.{Dsb, Tlbi}
 
--- Reach: a broadcast TLBI reaches every PE, any other its issuer alone.
--- Source: Arm ARM (DDI 0487), "TLB maintenance instructions".
-abbrev pub reaches : Event → ℕ → Bool
-reaches (Tlbi pe op xt) p = (operation op).broadcast || pe == p
-reaches _ p = false
+-- Reach: a broadcast TLBI reaches every PE. Any other reaches its issuer alone, or no PE where the header has `cnp`,
+-- since what it takes may come back from the TLB of another PE.
+-- Source: Arm ARM (DDI 0487), "TLB maintenance instructions"; under `cnp` it is the project's own choice.
+abbrev pub reaches : Heading → Event → ℕ → Bool
+reaches heading (Tlbi pe op xt) p = (operation op).broadcast || (not heading.cnp && pe == p)
+reaches heading _ p = false
 
 -- whether a DSB completes the TLBIs of this kind that its issuer issued before
 abbrev pub completes : Barrier → Event → Bool

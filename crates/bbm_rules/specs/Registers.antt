@@ -1,34 +1,11 @@
 -- The root registers of a PE: which of their values may still be in use. A history is newest first.
-use Rattle.std.specs.Prelude.{ℕ, ◌*◌, ◌/◌, ◌%◌, ◌^◌, Bool, true, false, ◌&&◌, ◌==◌, List, [], ◌∷◌, Option, Some, None, map, if◌then◌else◌}
-use Rattle.bbm_regimes.specs.declared.regime.Kind.{Kind}
-use Rattle.bbm_regimes.specs.declared.regime.Kind.TheVariants.{El2, S2, Ttbr0, Ttbr1}
-use Rattle.bbm_regimes.specs.declared.regime.Reg.{Reg}
-use Rattle.bbm_regimes.specs.declared.regime.Reg.TheVariants.{Ttbr0El2, VttbrEl2, Ttbr0El1, Ttbr1El1}
-use Rattle.bbm_regimes.specs.declared.regime.World.{World}
-use Rattle.bbm_regimes.specs.declared.regime.World.TheVariants.{Hyp, Kernel}
-use Rattle.bbm_events.specs.Heading.{Heading}
-use Rattle.bbm_events.specs.declared.event.Event.{Event}
-use Rattle.bbm_events.specs.declared.event.Event.TheVariants.{Isb, Msr}
-
--- whether two registers are the same
-abbrev pub same_reg : Reg → Reg → Bool
-same_reg Ttbr0El2 Ttbr0El2 = true
-same_reg VttbrEl2 VttbrEl2 = true
-same_reg Ttbr0El1 Ttbr0El1 = true
-same_reg Ttbr1El1 Ttbr1El1 = true
-same_reg _ _ = false
-
--- the kind of the roots that a register names
-abbrev pub kind_of_reg : Reg → Kind
-kind_of_reg Ttbr0El2 = El2
-kind_of_reg VttbrEl2 = S2
-kind_of_reg Ttbr0El1 = Ttbr0
-kind_of_reg Ttbr1El1 = Ttbr1
-
--- the list with its first number alone
-abbrev pub newest : List ℕ → List ℕ
-newest [] = []
-newest (x ∷ xs) = x ∷ []
+-- Source: project's own choice, but where another is named.
+use Rattle.std.specs.Prelude.{ℕ, ◌*◌, ◌/◌, ◌%◌, ◌^◌, Bool, ◌&&◌, ◌==◌, List, [], ◌∷◌, Option, Some, None, is_none, map, if◌then◌else◌}
+use Rattle.std.specs.Result.{result_ok}
+pub use Rattle.bbm_regimes.specs.Same.{kind_of_reg, same_reg}
+use Rattle.bbm_tlbi_scope.specs.Operations.{scoped_by_vmid}
+use Rattle.bbm_rules.specs.Prelude.{Reg, VttbrEl2, World, Hyp, Kernel, TlbiOp, Scope, scope_of, Heading, Event, Isb, Msr}
+use Rattle.bbm_rules.specs.Lists.{newest, one_number}
 
 -- Readable values of a register of p, newest first: those that it had, the first 0 among them, and that no later
 -- write of the register by p replaced before an ISB of p. An ISB of p leaves the newest alone.
@@ -40,36 +17,32 @@ register_values (Msr pe r value ∷ h) p reg =
 register_values (Isb pe ∷ h) p reg = if pe == p then newest (register_values h p reg) else register_values h p reg
 register_values (_ ∷ h) p reg = register_values h p reg
 
--- The base that a register value names: bits [47:1], as an address. Value 0 names none, and bit 0 is ignored.
+-- The base that a register value names: bits [47:1], as an address. Bit 0 is ignored. Value 0 names none.
 -- Source: Arm ARM (DDI 0487), "AArch64 System register descriptions", TTBR0_EL2, VTTBR_EL2, TTBR0_EL1 and
--- TTBR1_EL1; that value 0 names no root is the project's own choice.
+-- TTBR1_EL1; of value 0 the project's own choice.
 abbrev pub base_of : ℕ → Option ℕ
 base_of value = if value == 0 then None else Some (value % 2 ^ 48 / 2 * 2)
 
 -- The VMID or the ASID of a register value: bits [63:48]; 0 of value 0.
 -- Source: Arm ARM (DDI 0487), "AArch64 System register descriptions", VTTBR_EL2, TTBR0_EL1 and TTBR1_EL1.
-abbrev pub number_of : ℕ → ℕ
-number_of value = value / 2 ^ 48
-
--- the VMIDs of the values of VTTBR_EL2 that p may still use
-abbrev pub vmids : List Event → ℕ → List ℕ
-vmids h p = map number_of (register_values h p VttbrEl2)
-
--- the one number of a list, None where it has several
-abbrev pub all_are : ℕ → List ℕ → Bool
-all_are n [] = true
-all_are n (m ∷ ms) = m == n && all_are n ms
-
-abbrev pub one_number : List ℕ → Option ℕ
-one_number [] = None
-one_number (n ∷ ms) = if all_are n ms then Some n else None
+abbrev pub tag_number : ℕ → ℕ
+tag_number value = value / 2 ^ 48
 
 -- The VMID under which a PE issues its TLBIs: the one VMID of the values of VTTBR_EL2 that it may still use, None
 -- where there are several. In the Kernel world 0 stands for the one VMID, which isn't logged.
--- Source: project's own choice.
 abbrev pub vmid_in : World → List Event → ℕ → Option ℕ
-vmid_in (Hyp el2_start s2_start s2_pages) h p = one_number (vmids h p)
+vmid_in (Hyp el2_start s2_start s2_pages) h p = one_number (map tag_number (register_values h p VttbrEl2))
 vmid_in (Kernel start0 start1 asid_from) h p = Some 0
 
-abbrev pub vmid_of : Heading → List Event → ℕ → Option ℕ
-vmid_of heading h p = vmid_in heading.world h p
+module _ (heading : Heading) where
+  abbrev pub vmid_of : List Event → ℕ → Option ℕ
+  vmid_of h p = vmid_in heading.world h p
+
+  -- whether the operation needs the VMID of its issuer, which may still use several
+  abbrev pub lacks_vmid : List Event → ℕ → TlbiOp → Bool
+  lacks_vmid h pe op = scoped_by_vmid op && is_none (vmid_of h pe)
+
+  -- What a TLBI names at its issue: its scope, or None where its operand can't be decoded, or where it needs a VMID
+  -- and there are several.
+  abbrev pub named_scope : List Event → ℕ → TlbiOp → ℕ → Option Scope
+  named_scope h pe op xt = if lacks_vmid h pe op then None else result_ok (scope_of op xt)

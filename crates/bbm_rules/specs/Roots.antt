@@ -1,12 +1,10 @@
--- Roots of translation tables. A history is the list of the events taken so far, the newest first.
-use Rattle.std.specs.Prelude.{ℕ, zero, suc, ◌+◌, ◌-◌, ◌*◌, ◌/◌, ◌^◌, Bool, true, false, ◌==◌, List, [], ◌∷◌, Option, Some, None, find, if◌then◌else◌}
-use Rattle.bbm_regimes.specs.Extent.{span_of}
-use Rattle.bbm_regimes.specs.declared.regime.Kind.{Kind}
-use Rattle.bbm_regimes.specs.declared.regime.Kind.TheVariants.{El2, S2, Ttbr0, Ttbr1}
-use Rattle.bbm_regimes.specs.declared.regime.World.{World}
-use Rattle.bbm_regimes.specs.declared.regime.World.TheVariants.{Hyp, Kernel}
-use Rattle.bbm_events.specs.declared.event.Event.{Event}
-use Rattle.bbm_events.specs.declared.event.Event.TheVariants.{Root, Unroot}
+-- Roots of translation tables. A history is newest first.
+-- Source: project's own choice, but where another is named.
+use Rattle.std.specs.Prelude.{ℕ, zero, suc, ◌+◌, Bool, not, ◌&&◌, ◌==◌, List, [], ◌∷◌, Option, filter, find, if◌then◌else◌}
+pub use Rattle.bbm_regimes.specs.Same.{same_kind}
+pub use Rattle.bbm_regimes.specs.World.{first_input_page, input_pages, kind_in_world, page_count, start_of}
+use Rattle.bbm_rules.specs.Prelude.{Kind, World, Event, Root, Unroot}
+use Rattle.bbm_rules.specs.Lists.{◌>>=◌, any}
 
 -- a declared root: its first page, its kind, and the lock that its writers hold, or none
 pub record Declared : Type 0 where
@@ -14,88 +12,40 @@ pub record Declared : Type 0 where
   pub kind : Kind
   pub lock : Option ℕ
 
--- the declared roots without the one of this page
-abbrev pub retired : ℕ → List Declared → List Declared
-retired page [] = []
-retired page (r ∷ rs) = if r.page == page then retired page rs else r ∷ retired page rs
+-- whether the first page of a root is this one
+abbrev pub is_at : ℕ → Declared → Bool
+is_at page r = r.page == page
 
--- Root: a page with a `root` event and no later `unroot` of it. Its kind and its lock are those of its last
--- `root`. Source: project's own choice.
+-- the roots without the one of this page
+abbrev pub retired : ℕ → List Declared → List Declared
+retired page rs = filter (λ r. not (is_at page r)) rs
+
+-- Root: a page with a `root` event and no later `unroot` of it. Its kind and its lock are those of its last `root`.
 abbrev pub roots_of : List Event → List Declared
 roots_of [] = []
 roots_of (Root pe kind lock page ∷ h) = record { page = page; kind = kind; lock = lock } ∷ retired page (roots_of h)
 roots_of (Unroot pe page ∷ h) = retired page (roots_of h)
 roots_of (_ ∷ h) = roots_of h
 
--- the root whose first page this is
-abbrev pub is_at : ℕ → Declared → Bool
-is_at page r = r.page == page
-
+-- the root of this page
 abbrev pub root_at : List Event → ℕ → Option Declared
 root_at h page = find (is_at page) (roots_of h)
 
--- whether two kinds are the same
-abbrev pub same_kind : Kind → Kind → Bool
-same_kind El2 El2 = true
-same_kind S2 S2 = true
-same_kind Ttbr0 Ttbr0 = true
-same_kind Ttbr1 Ttbr1 = true
-same_kind _ _ = false
-
--- whether the page is the first page of a declared root of the kind
-abbrev pub is_of_kind : Kind → Option Declared → Bool
-is_of_kind kind None = false
-is_of_kind kind (Some r) = same_kind r.kind kind
-
+-- whether the page is the first page of a root of the kind
 abbrev pub is_root : List Event → Kind → ℕ → Bool
-is_root h kind page = is_of_kind kind (root_at h page)
+is_root h kind page = any (λ r. is_at page r && same_kind r.kind kind) (roots_of h)
 
--- the lock that a root names, None where it names none or isn't declared
-abbrev pub lock_in : Option Declared → Option ℕ
-lock_in None = None
-lock_in (Some r) = r.lock
-
+-- the lock that a root names, None where it names none or the page is no root
 abbrev pub lock_of : List Event → ℕ → Option ℕ
-lock_of h page = lock_in (root_at h page)
+lock_of h page = do
+  r ← root_at h page
+  r.lock
 
--- Whether the kind is one of the world. Source: project's own choice.
-abbrev pub kind_in_world : World → Kind → Bool
-kind_in_world (Hyp el2_start s2_start s2_pages) El2 = true
-kind_in_world (Hyp el2_start s2_start s2_pages) S2 = true
-kind_in_world (Kernel start0 start1 asid_from) Ttbr0 = true
-kind_in_world (Kernel start0 start1 asid_from) Ttbr1 = true
-kind_in_world _ _ = false
-
--- The level at which walks of a kind start: the header's. A kind of the other world has no trees that count.
--- Source: Arm ARM (DDI 0487), "VMSAv8-64 translation table walks".
-abbrev pub start_of : World → Kind → ℕ
-start_of (Hyp el2_start s2_start s2_pages) El2 = el2_start
-start_of (Hyp el2_start s2_start s2_pages) S2 = s2_start
-start_of (Kernel start0 start1 asid_from) Ttbr0 = start0
-start_of (Kernel start0 start1 asid_from) Ttbr1 = start1
-start_of _ _ = 0
-
--- The number of pages of a root: one, or the header's number of joined pages at stage 2.
--- Source: Arm ARM (DDI 0487), "VMSAv8-64 translation table walks", concatenated tables.
-abbrev pub page_count : World → Kind → ℕ
-page_count (Hyp el2_start s2_start s2_pages) S2 = s2_pages
-page_count _ _ = 1
-
--- the pages of a root: so many consecutive pages from its first on
+-- so many consecutive pages from a first one on
 abbrev pub pages_from : ℕ → ℕ → List ℕ
 pages_from page zero = []
 pages_from page (suc n) = page ∷ pages_from (page + 4096) n
 
+-- the pages of a root; one of a kind of the other world has none, so it has no tree
 abbrev pub root_pages : World → Kind → ℕ → List ℕ
-root_pages world kind page = pages_from page (page_count world kind)
-
--- the number of input pages that one descriptor of a level translates
-abbrev pub input_pages : ℕ → ℕ
-input_pages level = span_of level / 4096
-
--- The first input page number of a kind's trees. Regions count from input address 0, but for the upper range,
--- which is the highest part of the addresses: its last page is 2^44 - 1.
--- Source: Arm ARM (DDI 0487), "VMSAv8-64 translation table walks".
-abbrev pub first_input_page : World → Kind → ℕ
-first_input_page world Ttbr1 = 2 ^ 44 - 512 * input_pages (start_of world Ttbr1)
-first_input_page world _ = 0
+root_pages world kind page = if kind_in_world world kind then pages_from page (page_count world kind) else []

@@ -1,17 +1,61 @@
--- Three of the definitions once more, as sentences over all ways to split a history. `laws.rt` says that they say the
--- same. A history is newest first, so in `newer ++ older` the events of `newer` came after those of `older`.
-use Rattle.std.specs.Prelude.{◌≡◌, ℕ, suc, ◌<◌, ◌≤◌, Bool, true, false, ◌&&◌, ◌==◌, List, ◌∷◌, ◌++◌, length}
-use Rattle.bbm_barriers.specs.declared.Dsb.{Dsb as Barrier}
-use Rattle.bbm_regimes.specs.declared.regime.Tag.{Tag}
-use Rattle.bbm_events.specs.Heading.{Heading}
-use Rattle.bbm_events.specs.declared.event.Event.{Event}
-use Rattle.bbm_events.specs.declared.event.Event.TheVariants.{Init, Write, Dsb, Tlbi}
+-- The definitions on plain events once more, as sentences over all ways to split a history. The laws say that they say
+-- the same. A history is newest first, so in `newer ++ older` the events of `newer` came after those of `older`.
+-- Source: project's own choice, but where another is named.
+use Rattle.std.specs.Prelude.{◌≡◌, ℕ, suc, ◌<◌, ◌≤◌, Bool, true, false, ◌&&◌, ◌==◌, List, [], ◌∷◌, ◌++◌, length, Option, if◌then◌else◌}
+use Rattle.bbm_rules.specs.Prelude.{Barrier, Kind, Reg, Tag, Heading, Event, Init, Root, Unroot, Write, Dsb, Isb, Tlbi, Msr, Lock, Unlock}
 use Rattle.bbm_rules.specs.declared.claim.Claim.TheVariants.{Taken}
 use Rattle.bbm_rules.specs.Claims.{Trust, allows}
 use Rattle.bbm_rules.specs.Places.{page_of}
 use Rattle.bbm_rules.specs.Reach.{Issued, completes, reaches}
+use Rattle.bbm_rules.specs.Registers.{same_reg}
+use Rattle.bbm_rules.specs.Roots.{Declared}
 use Rattle.bbm_rules.specs.Tags.{itself, reads, reads_for_some, takes_tag}
-use Rattle.bbm_rules.specs.Values.{published, value_of}
+use Rattle.bbm_rules.specs.Values.{published, publishes_to, value_of}
+
+-- A root: a `root` of its page, of this kind and with this lock, and since then neither another `root` nor an `unroot` of
+-- the page.
+pub record IsDeclared (h : List Event) (r : Declared) : Type 0 where
+  pub pe : ℕ
+  pub newer : List Event
+  pub older : List Event
+  pub split : h ≡ newer ++ Root pe r.kind r.lock r.page ∷ older
+  pub last : (q : ℕ) (kind : Kind) (lock : Option ℕ) (after before : List Event)
+      → newer ≡ after ++ Root q kind lock r.page ∷ before → ⊥
+  pub not_retired : (q : ℕ) (after before : List Event) → newer ≡ after ++ Unroot q r.page ∷ before → ⊥
+
+-- The PE p holds the lock: it took it, and since then nobody took it and p didn't give it back.
+pub record HoldsLock (h : List Event) (p lock : ℕ) : Type 0 where
+  pub newer : List Event
+  pub older : List Event
+  pub split : h ≡ newer ++ Lock p lock ∷ older
+  pub last : (q : ℕ) (after before : List Event) → newer ≡ after ++ Lock q lock ∷ before → ⊥
+  pub not_given : (after before : List Event) → newer ≡ after ++ Unlock p lock ∷ before → ⊥
+
+-- the value of a register of p: the last that p wrote, else 0
+abbrev pub register_value : List Event → ℕ → Reg → ℕ
+register_value [] p reg = 0
+register_value (Msr pe r value ∷ h) p reg = if pe == p && same_reg r reg then value else register_value h p reg
+register_value (_ ∷ h) p reg = register_value h p reg
+
+-- The value is a readable one of the register of p: at some moment the register had it, and after that moment no write of
+-- the register by p is followed by an `isb` of p.
+-- Source: Arm ARM (DDI 0487), "Context synchronization event".
+pub record ReadableRegister (h : List Event) (p : ℕ) (reg : Reg) (value : ℕ) : Type 0 where
+  pub newer : List Event
+  pub older : List Event
+  pub split : h ≡ newer ++ older
+  pub had : register_value older p reg ≡ value
+  pub unreplaced : (w : ℕ) (after between before : List Event)
+      → newer ≡ after ++ Isb p ∷ (between ++ Msr p reg w ∷ before) → ⊥
+
+-- A write of the PE q is published to p, by a DSB of q among the events after it, `later`.
+-- Source: Arm ARM (DDI 0487), "Memory barriers", "Data Synchronization Barrier".
+pub record Published (heading : Heading) (q p : ℕ) (later : List Event) : Type 0 where
+  pub dsb : Barrier
+  pub after : List Event
+  pub before : List Event
+  pub split : later ≡ after ++ Dsb q dsb ∷ before
+  pub publishes : publishes_to heading dsb q p ≡ true
 
 -- The value is readable at p: at some moment since the last init of its page the place had it, and no write of the
 -- place after that moment is published to p.
@@ -58,7 +102,7 @@ pub record TakenAway (heading : Heading) (trust : Trust) (p : ℕ) (tag : Tag) (
   pub split : h ≡ later ++ Dsb q dsb ∷ earlier
   pub is_open : Open itself q earlier t
   pub answered : completes dsb t.tlbi ≡ true
-  pub reached : reaches t.tlbi p ≡ true
+  pub reached : reaches heading t.tlbi p ≡ true
   pub whole : takes_tag heading t.tlbi t.before tag ≡ true
   pub unread : (after moment : List Event) → Dsb q dsb ∷ earlier ≡ after ++ moment → length t.before < length moment
       → reads_for_some heading moment p tag ≡ false

@@ -1,10 +1,10 @@
 -- The text of a verdict: one line, with its newline.
 -- Source: project's own choice.
-use Rattle.std.specs.Prelude.{ℕ, List, ◌++◌, codes, decimal}
+use Rattle.std.specs.Prelude.{ℕ, List, [], ◌++◌, Option, Some, None, codes, decimal}
 use Rattle.bbm_regimes.specs.declared.regime.Which.{Which}
 use Rattle.bbm_regimes.specs.declared.regime.Which.TheVariants.{LineBytes, Pages, Roots, Values, Events, Steps, Lines}
 use Rattle.bbm_events.specs.declared.malformed.Malformed.{Malformed as Cause}
-use Rattle.bbm_events.specs.declared.malformed.Malformed.TheVariants.{NoMagic, BadHeader, UnknownWord, BadNumber, BadPe, BadAddress, MissingField, ExtraField, NoEnd, WrongCount, AfterEnd, NotBuilt}
+use Rattle.bbm_events.specs.declared.malformed.Malformed.TheVariants.{NoMagic, BadHeader, UnknownWord, BadNumber, BadPe, BadAddress, MissingField, ExtraField, NoEnd, WrongCount, AfterEnd, NotBuilt, BadLabel}
 use Rattle.bbm_events.specs.Spelling.{hex}
 use Rattle.bbm_rules.specs.declared.rule.Rule.{Rule}
 use Rattle.bbm_rules.specs.declared.rule.Rule.TheVariants.{WrongWorld, NoLock, NullWritten, BreakBeforeMake, LimboMake, NotFresh, RewrittenFresh, BadKind, GlobalUser, PageInUse, NoRoot, TagConflict, RootInUse, UnsyncedVmid, BadOperand, LockBusy, LockNotMine}
@@ -45,6 +45,7 @@ cause_text NoEnd = codes "9 NoEnd"
 cause_text WrongCount = codes "10 WrongCount"
 cause_text AfterEnd = codes "11 AfterEnd"
 cause_text NotBuilt = codes "12 NotBuilt"
+cause_text BadLabel = codes "13 BadLabel"
 
 -- a limit's name
 abbrev pub limit_text : Which → List ℕ
@@ -56,11 +57,17 @@ limit_text Events = codes "events"
 limit_text Steps = codes "steps"
 limit_text Lines = codes "lines"
 
+-- a space and the label, behind its `@`, where there is one
+abbrev pub label_text : Option (List ℕ) → List ℕ
+label_text None = []
+label_text (Some label) = codes " @" ++ label
+
 -- the line that is printed for a verdict
 unfoldable pub verdict_text : Verdict → List ℕ
 verdict_text (Accepted events) = codes "accepted " ++ decimal events ++ codes " events\n"
-verdict_text (Refused line rule at) =
-    codes "refused line " ++ decimal line ++ codes " rule " ++ rule_text rule ++ codes " at " ++ hex at ++ codes "\n"
+verdict_text (Refused line rule at label) =
+    codes "refused line " ++ decimal line ++ codes " rule " ++ rule_text rule ++ codes " at " ++ hex at ++ label_text label
+    ++ codes "\n"
 verdict_text (Malformed line cause) =
     codes "malformed line " ++ decimal line ++ codes " cause " ++ cause_text cause ++ codes "\n"
 verdict_text (Limit line which) =

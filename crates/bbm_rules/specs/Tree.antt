@@ -1,6 +1,7 @@
 -- The trees of translation tables: the pages of the declared roots, and all pages that they reach through held
--- tables.
-use Rattle.std.specs.Prelude.{ℕ, zero, suc, ◌+◌, ◌*◌, ◌-◌, Bool, true, false, ◌||◌, not, ◌==◌, List, [], ◌∷◌, ◌++◌, Option, Some, None, is_some, find, flat_map, filter_map, if◌then◌else◌}
+-- tables. That held tables count, and not present ones alone, is the project's own choice.
+-- Source: Arm ARM (DDI 0487), "VMSAv8-64 translation table walks".
+use Rattle.std.specs.Prelude.{ℕ, zero, suc, ◌+◌, ◌*◌, ◌-◌, Bool, false, not, ◌==◌, List, [], ◌∷◌, ◌++◌, Option, Some, None, is_some, find, flat_map, filter_map, if◌then◌else◌}
 use Rattle.bbm_regimes.specs.Extent.{Extent}
 use Rattle.bbm_regimes.specs.declared.regime.Kind.{Kind}
 use Rattle.bbm_descriptor.specs.Descriptor.{desc_of, is_valid}
@@ -10,6 +11,7 @@ use Rattle.bbm_events.specs.Heading.{Heading}
 use Rattle.bbm_events.specs.declared.event.Event.{Event}
 use Rattle.bbm_rules.specs.Claims.{Trust}
 use Rattle.bbm_rules.specs.Held.{held}
+use Rattle.bbm_rules.specs.Lists.{◌>>=◌, any}
 use Rattle.bbm_rules.specs.Notes.{Noted, events_of}
 use Rattle.bbm_rules.specs.Places.{index_of}
 use Rattle.bbm_rules.specs.Roots.{Declared, first_input_page, input_pages, root_pages, roots_of, start_of}
@@ -32,7 +34,6 @@ pub record Node : Type 0 where
 
 -- Region: the input pages that a place translates. In a page that begins at an input page, the place of index x has the
 -- x-th part.
--- Source: Arm ARM (DDI 0487), "VMSAv8-64 translation table walks".
 abbrev pub region_start : Node → ℕ → ℕ
 region_start n place = n.base + index_of place * input_pages n.level
 
@@ -60,77 +61,69 @@ abbrev pub next_in : Desc → Option ℕ
 next_in (Table next ns) = Some next
 next_in _ = None
 
-abbrev pub next_of_value : Kind → ℕ → Option ℕ → Option ℕ
-next_of_value kind level None = None
-next_of_value kind level (Some value) = next_in (desc_of kind level value)
+abbrev pub next_of : Kind → ℕ → ℕ → Option ℕ
+next_of kind level value = next_in (desc_of kind level value)
 
 -- the page below a place, one level deeper
-abbrev pub node_below : Node → ℕ → Option ℕ → Option Node
-node_below n place None = None
-node_below n place (Some next) = Some (record {
+abbrev pub node_below : Node → ℕ → ℕ → Node
+node_below n place next = record {
   page = next;
   kind = n.kind;
   level = suc n.level;
   root = n.root;
   base = region_start n place;
   above = record { place = place; level = n.level } ∷ n.above;
-})
+}
 
--- what a place of a page of a tree holds
-abbrev pub held_in : Heading → Trust → Node → ℕ → List Noted → Option ℕ
-held_in heading trust n place h = held heading trust n.kind n.level place h
+-- Limbo: the present value of a place above is invalid. Source: project's own choice.
+abbrev pub is_broken : Kind → List Event → Above → Bool
+is_broken kind h a = not (is_valid kind a.level (value_of h a.place))
 
-abbrev pub child_at : Heading → Trust → List Noted → Node → ℕ → Option Node
-child_at heading trust h n place = node_below n place (next_of_value n.kind n.level (held_in heading trust n place h))
+abbrev pub in_limbo : List Noted → Node → Bool
+in_limbo h n = any (is_broken n.kind (events_of h)) n.above
 
--- the pages below a page: the next pages of the tables that its places hold
-abbrev pub children : Heading → Trust → List Noted → Node → List Node
-children heading trust h n = filter_map (child_at heading trust h n) (places_in (events_of h) n.page)
-
--- Tree: the pages of a root are in its tree at its start level; where a place of a page of a tree holds a table, the
--- next page is in that tree one level deeper. Level by level; at level 3 there are no tables.
--- Source: Arm ARM (DDI 0487), "VMSAv8-64 translation table walks"; that held tables count, and not present ones
--- alone, is the project's own choice.
-abbrev pub nodes_at : Heading → Trust → List Noted → ℕ → List Node
-nodes_at heading trust h zero = flat_map (starts_at heading 0) (roots_of (events_of h))
-nodes_at heading trust h (suc level) =
-    flat_map (starts_at heading (suc level)) (roots_of (events_of h))
-    ++ flat_map (children heading trust h) (nodes_at heading trust h level)
-
-unfoldable pub tree : Heading → Trust → List Noted → List Node
-tree heading trust h =
-    nodes_at heading trust h 0 ++ nodes_at heading trust h 1 ++ nodes_at heading trust h 2 ++ nodes_at heading trust h 3
-
--- the node of a page; in a history that keeps the rules a page has one at most
 abbrev pub is_for : ℕ → Node → Bool
 is_for page n = n.page == page
 
-abbrev pub node_of : Heading → Trust → List Noted → ℕ → Option Node
-node_of heading trust h page = find (is_for page) (tree heading trust h)
+module _ (heading : Heading) (trust : Trust) (h : List Noted) where
+  -- what a place of a page of a tree holds
+  abbrev pub held_at : Node → ℕ → Option ℕ
+  held_at n place = held heading trust n.kind n.level place h
 
-abbrev pub in_tree : Heading → Trust → List Noted → ℕ → Bool
-in_tree heading trust h page = is_some (node_of heading trust h page)
+  -- Tree: the pages of a root are in its tree at its start level; where a place of a page of a tree holds a table, the
+  -- next page is in that tree one level deeper. Level by level; at level 3 there are no tables.
+  abbrev pub child_at : Node → ℕ → Option Node
+  child_at n place = do
+    value ← held_at n place
+    next ← next_of n.kind n.level value
+    Some (node_below n place next)
 
--- Limbo: the present value of a place above is invalid.
--- Source: project's own choice.
-abbrev pub some_invalid : Kind → List Event → List Above → Bool
-some_invalid kind h [] = false
-some_invalid kind h (a ∷ above) = not (is_valid kind a.level (value_of h a.place)) || some_invalid kind h above
+  abbrev pub children : Node → List Node
+  children n = filter_map (child_at n) (places_in (events_of h) n.page)
 
-abbrev pub in_limbo : List Noted → Node → Bool
-in_limbo h n = some_invalid n.kind (events_of h) n.above
+  abbrev pub nodes_at : ℕ → List Node
+  nodes_at zero = flat_map (starts_at heading 0) (roots_of (events_of h))
+  nodes_at (suc level) =
+      flat_map (starts_at heading (suc level)) (roots_of (events_of h)) ++ flat_map children (nodes_at level)
 
--- Childless: no place of the next page of a held table holds anything. Source: project's own choice.
-abbrev pub holds_nothing : Heading → Trust → Kind → ℕ → List Noted → List ℕ → Bool
-holds_nothing heading trust kind level h [] = true
-holds_nothing heading trust kind level h (place ∷ places) =
-    elim (held heading trust kind level place h) [ None ↦ holds_nothing heading trust kind level h places | Some value ↦ false ]
+  unfoldable pub tree : List Node
+  tree = nodes_at 0 ++ nodes_at 1 ++ nodes_at 2 ++ nodes_at 3
 
-abbrev pub childless_below : Heading → Trust → Kind → ℕ → List Noted → Option ℕ → Bool
-childless_below heading trust kind level h None = false
-childless_below heading trust kind level h (Some next) =
-    holds_nothing heading trust kind (suc level) h (places_in (events_of h) next)
+  -- The node of a page. In a history that keeps the rules a page has one at most: `law_one_node` says so. So each
+  -- definition that speaks of a place of a tree goes by this one.
+  abbrev pub node_of : ℕ → Option Node
+  node_of page = find (is_for page) tree
 
-abbrev pub is_childless : Heading → Trust → List Noted → Node → ℕ → Bool
-is_childless heading trust h n value =
-    childless_below heading trust n.kind n.level h (next_of_value n.kind n.level (Some value))
+  abbrev pub in_tree : ℕ → Bool
+  in_tree page = is_some (node_of page)
+
+  -- Childless: no place of the next page of a held table holds anything. Source: project's own choice.
+  abbrev pub holds_some : Kind → ℕ → ℕ → Bool
+  holds_some kind level place = is_some (held heading trust kind level place h)
+
+  abbrev pub childless_below : Node → Option ℕ → Bool
+  childless_below n None = false
+  childless_below n (Some next) = not (any (holds_some n.kind (suc n.level)) (places_in (events_of h) next))
+
+  abbrev pub is_childless : Node → ℕ → Bool
+  is_childless n value = childless_below n (next_of n.kind n.level value)

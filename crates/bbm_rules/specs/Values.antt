@@ -1,14 +1,14 @@
 -- The values of a place, and which of them a PE may still read. A history is newest first.
-use Rattle.std.specs.Prelude.{ℕ, Bool, false, ◌&&◌, ◌||◌, ◌==◌, List, [], ◌∷◌, filter, if◌then◌else◌}
-use Rattle.bbm_barriers.specs.declared.Dsb.{Dsb as Barrier}
+-- Source: project's own choice, but where another is named.
+use Rattle.std.specs.Prelude.{ℕ, Bool, true, false, not, ◌&&◌, ◌==◌, List, [], ◌∷◌, filter, if◌then◌else◌}
+use Rattle.bbm_barriers.specs.declared.Domain.{Domain}
+use Rattle.bbm_barriers.specs.declared.Domain.TheVariants.{Non}
 use Rattle.bbm_barriers.specs.Options.{publishes}
-use Rattle.bbm_events.specs.Heading.{Heading}
-use Rattle.bbm_events.specs.declared.event.Event.{Event}
-use Rattle.bbm_events.specs.declared.event.Event.TheVariants.{Init, Write, Dsb}
-use Rattle.bbm_rules.specs.Places.{page_of, among, with_number}
+use Rattle.bbm_rules.specs.Prelude.{Barrier, Heading, Event, Init, Write, Dsb}
+use Rattle.bbm_rules.specs.Lists.{among, any, with_number}
+use Rattle.bbm_rules.specs.Places.{page_of}
 
 -- Value: the value of the last write of the place since the last init of its page, else 0.
--- Source: project's own choice.
 abbrev pub value_of : List Event → ℕ → ℕ
 value_of [] place = 0
 value_of (Write pe at value ∷ h) place = if at == place then value else value_of h place
@@ -28,38 +28,39 @@ is_in_page page place = page_of place == page
 abbrev pub places_in : List Event → ℕ → List ℕ
 places_in h page = filter (is_in_page page) (written_places h)
 
--- whether a DSB of q publishes its earlier writes to p
-abbrev pub publishes_to : Heading → Barrier → ℕ → ℕ → Bool
-publishes_to heading dsb q p = publishes dsb q heading.pes p
+abbrev pub is_non : Domain → Bool
+is_non Non = true
+is_non _ = false
 
--- Published: a write of the PE q is published to p where a later DSB of q publishes to p. Here `later` are the
--- events after the write, in any order.
--- Source: Arm ARM (DDI 0487), "Memory barriers", "Data Synchronization Barrier".
-abbrev pub publishes_for : Heading → ℕ → ℕ → Event → Bool
-publishes_for heading q p (Dsb pe dsb) = pe == q && publishes_to heading dsb pe p
-publishes_for heading q p _ = false
+module _ (heading : Heading) where
+  -- whether a DSB of q publishes its earlier writes to p; under `cnp` one of the non-shareable domain publishes nothing
+  abbrev pub publishes_to : Barrier → ℕ → ℕ → Bool
+  publishes_to dsb q p = publishes dsb q heading.pes p && not (heading.cnp && is_non dsb.domain)
 
-abbrev pub published : Heading → ℕ → ℕ → List Event → Bool
-published heading q p [] = false
-published heading q p (e ∷ later) = publishes_for heading q p e || published heading q p later
+  -- Published: a write of the PE q is published to p where a later DSB of q publishes to p. Here `later` are the
+  -- events after the write, in any order.
+  -- Source: Arm ARM (DDI 0487), "Memory barriers", "Data Synchronization Barrier".
+  abbrev pub publishes_for : ℕ → ℕ → Event → Bool
+  publishes_for q p (Dsb pe dsb) = pe == q && publishes_to dsb pe p
+  publishes_for q p _ = false
 
--- Readable values of a place at p: of the values that it had since the last init of its page, the first zero
--- among them, those over which no later value is published to p. Newest first: after a published one nothing
--- older is readable. `later` are the events after h.
--- Source: Arm ARM (DDI 0487), "Translation table walk coherency", read as: a walk may see any value that no
--- published later one replaced.
-abbrev pub readable_before : Heading → List Event → List Event → ℕ → ℕ → List ℕ
-readable_before heading later [] place p = 0 ∷ []
-readable_before heading later (Write q at value ∷ h) place p =
-    if at == place
-    then value ∷ (if published heading q p later then [] else readable_before heading (Write q at value ∷ later) h place p)
-    else readable_before heading (Write q at value ∷ later) h place p
-readable_before heading later (Init q page ∷ h) place p =
-    if page == page_of place then 0 ∷ [] else readable_before heading (Init q page ∷ later) h place p
-readable_before heading later (e ∷ h) place p = readable_before heading (e ∷ later) h place p
+  abbrev pub published : ℕ → ℕ → List Event → Bool
+  published q p later = any (publishes_for q p) later
 
-abbrev pub readable_values : Heading → List Event → ℕ → ℕ → List ℕ
-readable_values heading h place p = readable_before heading [] h place p
+  -- Readable values of a place at p: of the values that it had since the last init of its page, the first zero
+  -- among them, those over which no later value is published to p. Newest first: after a published one nothing
+  -- older is readable. `later` are the events after h.
+  -- Source: Arm ARM (DDI 0487), "Translation table walk coherency", read as: a walk may see any value that no
+  -- published later one replaced.
+  abbrev pub readable_before : List Event → List Event → ℕ → ℕ → List ℕ
+  readable_before later [] place p = 0 ∷ []
+  readable_before later (Write q at value ∷ h) place p =
+      if at == place
+      then value ∷ (if published q p later then [] else readable_before (Write q at value ∷ later) h place p)
+      else readable_before (Write q at value ∷ later) h place p
+  readable_before later (Init q page ∷ h) place p =
+      if page == page_of place then 0 ∷ [] else readable_before (Init q page ∷ later) h place p
+  readable_before later (e ∷ h) place p = readable_before (e ∷ later) h place p
 
-abbrev pub is_readable : Heading → List Event → ℕ → ℕ → ℕ → Bool
-is_readable heading h place p value = among value (readable_values heading h place p)
+  abbrev pub is_readable : List Event → ℕ → ℕ → ℕ → Bool
+  is_readable h place p value = among value (readable_before [] h place p)

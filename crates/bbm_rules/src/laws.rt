@@ -1,19 +1,21 @@
 //! Laws of the definitions: three of them say the same as a sentence over all ways to split a history, the annotated
 //! history keeps the events, and in a history that keeps the rules a page has at most one node.
 
-ghost use Rattle.std.specs.Prelude.{◌≡◌, ℕ, true, List, Some, Contains};
+ghost use Rattle.std.specs.Prelude.{◌≡◌, ℕ, true, false, List, Some, Contains};
 ghost use Rattle.bbm_regimes.specs.declared.regime.Tag.{Tag};
 ghost use Rattle.bbm_events.specs.Heading.{Heading};
 ghost use Rattle.bbm_events.specs.declared.event.Event.{Event};
-ghost use Rattle.bbm_rules.specs.Broken.{keeps};
+ghost use Rattle.bbm_rules.specs.Broken.{keeps, verdict_of};
 ghost use Rattle.bbm_rules.specs.Claims.{Trust};
 ghost use Rattle.bbm_rules.specs.Covers.{noted};
+ghost use Rattle.bbm_rules.specs.Lists.{any};
 ghost use Rattle.bbm_rules.specs.Notes.{Noted, event_of, events_of};
 ghost use Rattle.bbm_rules.specs.Reach.{Issued, unanswered};
 ghost use Rattle.bbm_rules.specs.Sentences.{HoldsTag, Open, Readable};
 ghost use Rattle.bbm_rules.specs.Tags.{holds_at, itself};
 ghost use Rattle.bbm_rules.specs.Tree.{Node, node_of, tree};
 ghost use Rattle.bbm_rules.specs.Values.{is_readable};
+ghost use Rattle.bbm_rules.specs.Version.{in_version, sets_bit_0};
 
 /// A value of a place is among the readable ones exactly where the place had it at some moment since the
 /// last init of its page, and no write of the place after that moment is published. The call does nothing;
@@ -66,4 +68,15 @@ pub fn law_one_node()
         n.page ≡ m.page → n ≡ m }
     ensures the_first { (heading : Heading) (trust : Trust) (h : List Event) → keeps heading trust h ≡ true → (n : Node) →
         Contains (tree heading trust (noted heading trust h)) n → node_of heading trust (noted heading trust h) n.page ≡ Some n }
+{}
+
+/// A log without bit 0 in any value that an `msr` gives to a register keeps the rules under a header of version 1
+/// exactly where it does under the same header of version 2 without `cnp`; its verdicts are the same. The call does
+/// nothing; the law is its contract.
+#[tactic(auto, using(crate::proofs::VersionLaw::laws))]
+pub fn law_version()
+    ensures keeps_alike { (heading : Heading) (trust : Trust) (h : List Event) → any sets_bit_0 h ≡ false →
+        keeps (in_version 1 heading) trust h ≡ keeps (in_version 2 heading) trust h }
+    ensures judges_alike { (heading : Heading) (trust : Trust) (h : List Event) → any sets_bit_0 h ≡ false →
+        verdict_of (in_version 1 heading) trust h ≡ verdict_of (in_version 2 heading) trust h }
 {}

@@ -3,7 +3,9 @@
 
 pub mod checker;
 pub mod claim;
+pub mod event_laws;
 pub mod first_path;
+pub mod history_laws;
 pub mod laws;
 pub mod phase;
 pub mod rule;
@@ -12,27 +14,68 @@ pub mod verdict;
 
 pub use checker::Checker;
 pub use claim::Claim;
+pub use event_laws::{
+    law_changes, law_equality_tests, law_limits, law_lock_held, law_published,
+    law_readable_register, law_root, law_tag_set, law_vmid,
+};
 pub use first_path::FirstPathChecker;
+pub use history_laws::{
+    law_childless, law_cleansed, law_each_rule, law_fresh, law_half, law_held, law_limbo,
+    law_notes, law_paths, law_seen, law_tree,
+};
 pub use laws::{
     law_answered, law_notes_keep_the_events, law_one_node, law_readable_value, law_tag_held,
+    law_version,
 };
 pub use phase::Phase;
 pub use rule::Rule;
 pub use step_fault::StepFault;
-pub use verdict::Verdict;
+pub use verdict::{Verdict, law_first_line_decides};
 
 #[cfg(test)]
 mod tests {
+    use crate::event_laws::{
+        law_changes, law_equality_tests, law_limits, law_lock_held, law_published,
+        law_readable_register, law_root, law_tag_set, law_vmid,
+    };
+    use crate::history_laws::{
+        law_childless, law_cleansed, law_each_rule, law_fresh, law_half, law_held, law_limbo,
+        law_notes, law_paths, law_seen, law_tree,
+    };
     use crate::laws::{
         law_answered, law_notes_keep_the_events, law_one_node, law_readable_value, law_tag_held,
+        law_version,
     };
+    use crate::verdict::law_first_line_decides;
 
     #[test]
     fn laws_hold() {
         law_answered();
+        law_childless();
+        law_cleansed();
+        law_each_rule();
+        law_fresh();
+        law_half();
+        law_held();
+        law_limbo();
+        law_notes();
+        law_paths();
+        law_seen();
+        law_tree();
+        law_changes();
+        law_equality_tests();
+        law_limits();
+        law_lock_held();
         law_notes_keep_the_events();
         law_one_node();
+        law_published();
+        law_readable_register();
         law_readable_value();
+        law_root();
+        law_tag_set();
         law_tag_held();
+        law_first_line_decides();
+        law_vmid();
+        law_version();
     }
 }

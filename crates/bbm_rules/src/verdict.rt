@@ -1,7 +1,11 @@
 //! The verdict on a log.
 
+ghost use Rattle.std.specs.Prelude.{◌≡◌, ◌⊎◌, ℕ, List};
+ghost use Rattle.bbm_rules.specs.Outcome.{DecidedByEnd, DecidedByLine, Judge, Limits, verdict_of_lines};
+ghost use Rattle.bbm_rules.specs.declared.verdict.Verdict.{Verdict as VerdictOf};
+
 use crate::rule::Rule;
-use bbm_events::Malformed;
+use bbm_events::{Label, Malformed};
 use bbm_regimes::Which;
 
 /// What a checker says of a log. A line's number counts from 1, and line 1 is the header. Source:
@@ -9,12 +13,39 @@ use bbm_regimes::Which;
 #[derive(Clone, Copy, Debug, PartialEq, Eq)]
 pub enum Verdict {
     /// Every line is well formed and every event keeps the rules; the number of events.
-    Accepted { events: u64 },
+    Accepted {
+        events: u64,
+    },
     /// The event of this line is the first that breaks a rule; the least rule that it breaks, and the
-    /// address or number that the rule names.
-    Refused { line: u64, rule: Rule, at: u64 },
+    /// address or number that the rule names; and the label of the event, where it has one.
+    Refused {
+        line: u64,
+        rule: Rule,
+        at: u64,
+        label: Option<Label>,
+    },
     /// This line is the first that is malformed, and why.
-    Malformed { line: u64, cause: Malformed },
+    Malformed {
+        line: u64,
+        cause: Malformed,
+    },
     /// This line reaches a limit of the program.
-    Limit { line: u64, which: Which },
+    Limit {
+        line: u64,
+        which: Which,
+    },
 }
+
+/// The verdict on the lines of an input, with the bytes after its last newline, is what the first line
+/// that decides says, and where none does, what the end says. The call does nothing; the law is its
+/// contract.
+#[tactic(auto, using(crate::proofs::FirstLineLaw::laws))]
+pub fn law_first_line_decides()
+    ensures by_line { (judge : Judge) (limits : Limits) (lines : List (List ℕ)) (rest : List ℕ) (verdict : VerdictOf) →
+        DecidedByLine judge limits lines verdict → verdict_of_lines judge limits lines rest ≡ verdict }
+    ensures by_end { (judge : Judge) (limits : Limits) (lines : List (List ℕ)) (rest : List ℕ) (verdict : VerdictOf) →
+        DecidedByEnd judge limits lines rest verdict → verdict_of_lines judge limits lines rest ≡ verdict }
+    ensures one_decides { (judge : Judge) (limits : Limits) (lines : List (List ℕ)) (rest : List ℕ) →
+        DecidedByLine judge limits lines (verdict_of_lines judge limits lines rest)
+        ⊎ DecidedByEnd judge limits lines rest (verdict_of_lines judge limits lines rest) }
+{}

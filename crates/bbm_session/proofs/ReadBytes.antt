@@ -12,16 +12,17 @@ use Rattle.bbm_events.specs.Heading.{Heading}
 use Rattle.bbm_events.specs.Lines.{header_of, item_of}
 use Rattle.bbm_rules.specs.declared.verdict.Verdict.{Verdict}
 use Rattle.bbm_rules.specs.declared.verdict.Verdict.TheVariants.{Accepted, Refused, Malformed, Limit}
-use Rattle.bbm_rules.specs.FirstPath.{Breach, broken, is_built, is_built_heading}
-use Rattle.bbm_rules.specs.Outcome.{Limits, check_limits, Text, before_text, text_of, bytes_of, is_too_long, is_reached, Progress, AtHeader, AtEvents, AtEnd, Step, Decides, GoesOn, after_header, after_item, after_judged, after_line, too_long_at, cut_at, end_of, Outcome, outcome_after, outcome_from, outcome_of, verdict_of, events_in}
+use Rattle.bbm_regimes.specs.declared.regime.Which.{Which}
+use Rattle.bbm_rules.specs.Broken.{Breach}
+use Rattle.bbm_rules.specs.Outcome.{Judge, Limits, first_path, check_limits, Text, before_text, text_of, bytes_of, is_too_long, limit_at, after_kept, Progress, AtHeader, AtEvents, AtEnd, Step, Decides, GoesOn, after_header, after_item, after_judged, after_line, too_long_at, cut_at, end_of, Outcome, outcome_after, outcome_from, outcome_of, verdict_of_bytes, events_in, read_lines}
 use Rattle.bbm_session.specs.declared.status.Status.{Status}
 use Rattle.bbm_session.specs.declared.status.Status.TheVariants as status
 use Rattle.bbm_session.specs.declared.stop.Stop.{Stop}
 use Rattle.bbm_session.specs.declared.stop.Stop.TheVariants.{Decided, ReadFault, NoMemory}
-use Rattle.bbm_session.specs.Run.{UpTo, ReadFor, ReadTo, status_of, tells_verdict}
-use Rattle.bbm_session.specs.Stages.{Concludes, Stops}
+use Rattle.bbm_session.specs.Run.{UpTo, ReadFor, ReadTo, ReadToFault, ReadToWant, status_of, tells_verdict}
+use Rattle.bbm_session.specs.Stages.{plain_lines, Broke, Starved, Concludes, Stops}
 use Rattle.bbm_session.specs.Writing.{Checks, Reports}
-use Rattle.bbm_session.proofs.Stages.{step_of-short, step_of-long, end_of-short, end_of-long, seam}
+use Rattle.bbm_session.proofs.Stages.{step_of-short, step_of-long, end_of-short, end_of-long, seam, bytes_of-append, plain_lines-append}
 use Rattle.bbm_session.proofs.Texts.{plain-head, text_of-line, text_of-plain, bytes_of-text_of}
 
 -- ---- the verdict that a line decides names the line
@@ -40,26 +41,30 @@ says_if : (b : Bool) (n : ℕ) (s t : Step) → Says n s → Says n t → Says n
 says_if true n s t first second = first
 says_if false n s t first second = second
 
-says_header : (n : ℕ) (r : Result Heading Cause) → Says n (after_header n r)
-says_header n (Ok heading) = says_if (is_built_heading heading) n _ _ tt refl
-says_header n (Err cause) = refl
+says_header : (judge : Judge) (n : ℕ) (r : Result Heading Cause) → Says n (after_header judge n r)
+says_header judge n (Ok heading) = says_if (judge.judges_heading heading) n _ _ tt refl
+says_header judge n (Err cause) = refl
 
-says_judged : (limits : Limits) (n : ℕ) (heading : Heading) (h : List EventOf) (e : EventOf) (breach : Option Breach)
-    → Says n (after_judged limits n heading h e breach)
-says_judged limits n heading h e (Some breach) = refl
-says_judged limits n heading h e None = says_if (is_reached limits.events (length h)) n _ _ refl tt
+says_kept : (n : ℕ) (heading : Heading) (h : List EventOf) (e : EventOf) (limit : Option Which) → Says n (after_kept n heading h e limit)
+says_kept n heading h e (Some which) = refl
+says_kept n heading h e None = tt
 
-says_item : (limits : Limits) (n : ℕ) (heading : Heading) (h : List EventOf) (r : Result Item Cause)
-    → Says n (after_item limits n heading h r)
-says_item limits n heading h (Ok (item.Event e)) =
-    says_if (is_built heading h e) n _ _ (says_judged limits n heading h e (broken heading h e)) refl
-says_item limits n heading h (Ok (item.End count)) = says_if (count == length h) n _ _ tt refl
-says_item limits n heading h (Err cause) = refl
+says_judged : (judge : Judge) (limits : Limits) (n : ℕ) (heading : Heading) (h : List EventOf) (e : EventOf) (breach : Option Breach)
+    → Says n (after_judged judge limits n heading h e breach)
+says_judged judge limits n heading h e (Some breach) = refl
+says_judged judge limits n heading h e None = says_kept n heading h e (limit_at limits n h (judge.limit h e))
 
-says_line : (limits : Limits) (n : ℕ) (p : Progress) (line : List ℕ) → Says n (after_line limits n p line)
-says_line limits n AtHeader line = says_header n (header_of line)
-says_line limits n (AtEvents heading h) line = says_item limits n heading h (item_of heading line)
-says_line limits n (AtEnd h) line = refl
+says_item : (judge : Judge) (limits : Limits) (n : ℕ) (heading : Heading) (h : List EventOf) (r : Result Item Cause)
+    → Says n (after_item judge limits n heading h r)
+says_item judge limits n heading h (Ok (item.Event e)) =
+    says_if (judge.judges heading h e) n _ _ (says_judged judge limits n heading h e (judge.breach heading h e)) refl
+says_item judge limits n heading h (Ok (item.End count)) = says_if (count == length h) n _ _ tt refl
+says_item judge limits n heading h (Err cause) = refl
+
+says_line : (judge : Judge) (limits : Limits) (n : ℕ) (p : Progress) (line : List ℕ) → Says n (after_line judge limits n p line)
+says_line judge limits n AtHeader line = says_header judge n (header_of line)
+says_line judge limits n (AtEvents heading h) line = says_item judge limits n heading h (item_of heading line)
+says_line judge limits n (AtEnd h) line = refl
 
 names_long : (n : ℕ) (p : Progress) → Names n (too_long_at n p)
 names_long n AtHeader = refl
@@ -105,10 +110,6 @@ record Read (n : ℕ) (o : Outcome) (bytes : List ℕ) : Type 0 where
   to : From n o.verdict (text_of taken) o.unread
 
 -- ---- lines have no newline
-
-abbrev plain_lines : List (List ℕ) → Bool
-plain_lines [] = true
-plain_lines (line ∷ lines) = plain line && plain_lines lines
 
 plain_before : (b : ℕ) (lines : List (List ℕ)) (rest : List ℕ) → nat_eq b 10 ≡ false → plain_lines lines ≡ true → plain rest ≡ true
     → (plain_lines (before_text b lines rest).lines ≡ true) × (plain (before_text b lines rest).rest ≡ true)
@@ -202,16 +203,16 @@ read_end n p rest false long clean =
 
 -- ---- the lines, one after another
 
-module _ (limits : Limits) (n : ℕ) (p : Progress) (line : List ℕ) (lines : List (List ℕ)) (rest : List ℕ) where
+module _ (judge : Judge) (limits : Limits) (n : ℕ) (p : Progress) (line : List ℕ) (lines : List (List ℕ)) (rest : List ℕ) where
   abbrev Behind : Type 0
-  Behind = (next : Progress) → Read (suc n) (outcome_from limits (suc n) next lines rest) (bytes_of lines rest)
+  Behind = (next : Progress) → Read (suc n) (outcome_from judge limits (suc n) next lines rest) (bytes_of lines rest)
 
   by_step : (s : Step) → Says n s → is_too_long line ≡ false → plain line ≡ true → Behind
-      → Read n (outcome_after p line lines rest (λ next. outcome_from limits (suc n) next lines rest) s) (line ++ 10 ∷ bytes_of lines rest)
+      → Read n (outcome_after p line lines rest (λ next. outcome_from judge limits (suc n) next lines rest) s) (line ++ 10 ∷ bytes_of lines rest)
   by_step (Decides v) says short clean behind = rw short (read_line n v (events_in p) line (bytes_of lines rest) clean says)
   by_step (GoesOn next) says short clean behind =
       let k = behind next in
-      let o = outcome_from limits (suc n) next lines rest in
+      let o = outcome_from judge limits (suc n) next lines rest in
       record {
         taken = line ++ 10 ∷ k.taken;
         is = ap (λ x. line ++ 10 ∷ x) k.is ∙ sym (append_assoc line (10 ∷ k.taken) o.unread);
@@ -220,21 +221,21 @@ module _ (limits : Limits) (n : ℕ) (p : Progress) (line : List ℕ) (lines : L
       }
 
   by_length : (b : Bool) → is_too_long line ≡ b → plain line ≡ true → Behind
-      → Read n (outcome_from limits n p (line ∷ lines) rest) (line ++ 10 ∷ bytes_of lines rest)
+      → Read n (outcome_from judge limits n p (line ∷ lines) rest) (line ++ 10 ∷ bytes_of lines rest)
   by_length true long clean behind =
       let h : 200 < length line = grind (arith, nat_tests) in
-      rw (step_of-long limits n p line h, long)
+      rw (step_of-long judge limits n p line h, long)
       (read_long n (too_long_at n p) (events_in p) line (10 ∷ bytes_of lines rest) h clean (names_long n p))
   by_length false short clean behind =
       let h : length line ≤ 200 = grind (arith, nat_tests) in
-      rw (step_of-short limits n p line h) (by_step (after_line limits n p line) (says_line limits n p line) short clean behind)
+      rw (step_of-short judge limits n p line h) (by_step (after_line judge limits n p line) (says_line judge limits n p line) short clean behind)
 
-reads : (limits : Limits) (n : ℕ) (p : Progress) (lines : List (List ℕ)) (rest : List ℕ) → plain_lines lines ≡ true → plain rest ≡ true
-    → Read n (outcome_from limits n p lines rest) (bytes_of lines rest)
-reads limits n p [] rest ls r = read_end n p rest (is_too_long rest) refl r
-reads limits n p (line ∷ lines) rest ls r =
+reads : (judge : Judge) (limits : Limits) (n : ℕ) (p : Progress) (lines : List (List ℕ)) (rest : List ℕ) → plain_lines lines ≡ true → plain rest ≡ true
+    → Read n (outcome_from judge limits n p lines rest) (bytes_of lines rest)
+reads judge limits n p [] rest ls r = read_end n p rest (is_too_long rest) refl r
+reads judge limits n p (line ∷ lines) rest ls r =
     let parts = and_parts (plain line) (plain_lines lines) ls in
-    by_length limits n p line lines rest (is_too_long line) refl parts.0 (λ next. reads limits (suc n) next lines rest parts.1 r)
+    by_length judge limits n p line lines rest (is_too_long line) refl parts.0 (λ next. reads judge limits (suc n) next lines rest parts.1 r)
 
 -- ---- from line 1 on
 
@@ -249,26 +250,26 @@ read_for (Malformed line cause) read unread f = up_to line read unread f
 read_for (Limit line which) read unread f = up_to line read unread f
 
 -- what is left unread, where the rest was read
-pub read-to : (bytes : List ℕ) (left : Option (List ℕ)) → left ≡ Some (outcome_of check_limits bytes).unread
-    → ReadTo bytes (verdict_of check_limits bytes) left
+pub read-to : (bytes : List ℕ) (left : Option (List ℕ)) → left ≡ Some (outcome_of first_path check_limits bytes).unread
+    → ReadTo bytes (verdict_of_bytes first_path check_limits bytes) left
 read-to bytes left is =
-    let o = outcome_of check_limits bytes in
+    let o = outcome_of first_path check_limits bytes in
     let clean = plain_text bytes in
-    let k = reads check_limits 1 AtHeader (text_of bytes).lines (text_of bytes).rest clean.0 clean.1 in
+    let k = reads first_path check_limits 1 AtHeader (text_of bytes).lines (text_of bytes).rest clean.0 clean.1 in
     (k.taken, o.unread, sym (bytes_of-text_of bytes) ∙ k.is, is, read_for o.verdict (text_of k.taken) o.unread k.to)
 
 -- ---- of a log that was judged
 
-unread_is : (bytes : List ℕ) (left : Option (List ℕ)) (v : Verdict) → Concludes check_limits 1 AtHeader (Some bytes) v left
-    → (verdict_of check_limits bytes ≡ v) × (left ≡ Some (outcome_of check_limits bytes).unread)
+unread_is : (bytes : List ℕ) (left : Option (List ℕ)) (v : Verdict) → Concludes first_path check_limits 1 AtHeader (Some bytes) v left
+    → (verdict_of_bytes first_path check_limits bytes ≡ v) × (left ≡ Some (outcome_of first_path check_limits bytes).unread)
 unread_is bytes None v concludes = absurd concludes
 unread_is bytes (Some rest) v concludes = (concludes.0, ap Some (sym concludes.1))
 
 told : (stop : Stop) (result : Status) (bytes : List ℕ) (left : Option (List ℕ)) (f f' : ℕ) (h h' : Option (List ℕ)) (w w' : ℕ)
-    → Stops check_limits 1 AtHeader (Some bytes) stop left f f' → Reports stop result h h' w w' → tells_verdict result ≡ true
-    → (result ≡ status_of (verdict_of check_limits bytes)) × (left ≡ Some (outcome_of check_limits bytes).unread)
+    → Stops first_path check_limits 1 AtHeader (Some bytes) stop left f f' → Reports stop result h h' w w' → tells_verdict result ≡ true
+    → (result ≡ status_of (verdict_of_bytes first_path check_limits bytes)) × (left ≡ Some (outcome_of first_path check_limits bytes).unread)
 told (Decided v) result bytes left f f' h h' w w' stops (inl wrote) tells =
-    let is = unread_is bytes left v stops in
+    let is = unread_is bytes left v stops.0 in
     (wrote.0 ∙ ap status_of (sym is.0), is.1)
 told (Decided v) result bytes left f f' h h' w w' stops (inr failed) tells = absurd (false≢true (sym (ap tells_verdict failed.0) ∙ tells))
 told ReadFault result bytes left f f' h h' w w' stops reports tells = absurd (false≢true (sym (ap tells_verdict reports.0) ∙ tells))
@@ -283,16 +284,124 @@ none_left (Limit line which) read unread accepted f = cc
 module _ (result : Status) (bytes : List ℕ) (old new : Option (List ℕ)) (f f' : ℕ) (h h' : Option (List ℕ)) (w w' : ℕ)
     (checks : Checks result old new f f' h h' w w') (is : old ≡ Some bytes) where
   tells-read : tells_verdict result ≡ true
-      → (result ≡ status_of (verdict_of check_limits bytes)) × (new ≡ Some (outcome_of check_limits bytes).unread)
+      → (result ≡ status_of (verdict_of_bytes first_path check_limits bytes)) × (new ≡ Some (outcome_of first_path check_limits bytes).unread)
   tells-read tells =
       let k : Checks result (Some bytes) new f f' h h' w w' = subst (λ (o : Option (List ℕ)). Checks result o new f f' h h' w w') is checks in
       told k.stop result bytes new f f' h h' w w' k.stops k.reports tells
 
-  pub checked-read : tells_verdict result ≡ true → ReadTo bytes (verdict_of check_limits bytes) new
+  pub checked-read : tells_verdict result ≡ true → ReadTo bytes (verdict_of_bytes first_path check_limits bytes) new
   checked-read tells = read-to bytes new (tells-read tells).1
 
   pub accepted-read : result ≡ status.Accepted → new ≡ Some []
   accepted-read accepted =
       let told_it = tells-read (ap tells_verdict accepted) in
       let r = read-to bytes new told_it.1 in
-      r.3 ∙ ap Some (none_left (verdict_of check_limits bytes) (text_of r.0) r.1 (sym told_it.0 ∙ accepted) r.4)
+      r.3 ∙ ap Some (none_left (verdict_of_bytes first_path check_limits bytes) (text_of r.0) r.1 (sym told_it.0 ∙ accepted) r.4)
+
+-- ---- of a log whose judging stopped before a verdict
+
+bytes_of-behind : (lines : List (List ℕ)) (piece rest : List ℕ) → bytes_of lines (piece ++ rest) ≡ bytes_of lines piece ++ rest
+bytes_of-behind [] piece rest = refl
+bytes_of-behind (line ∷ lines) piece rest =
+    ap (λ x. line ++ 10 ∷ x) (bytes_of-behind lines piece rest) ∙ sym (append_assoc line (10 ∷ bytes_of lines piece) rest)
+
+text_of-bytes_of : (lines : List (List ℕ)) (rest : List ℕ) → plain_lines lines ≡ true → plain rest ≡ true
+    → text_of (bytes_of lines rest) ≡ record { lines = lines; rest = rest }
+text_of-bytes_of [] rest clean r = text_of-plain rest r
+text_of-bytes_of (line ∷ lines) rest clean r =
+    let parts = and_parts (plain line) (plain_lines lines) clean in
+    rw (text_of-line line (bytes_of lines rest) parts.0, text_of-bytes_of lines rest parts.1 r) refl
+
+to_fault : (bytes rest : List ℕ) → Broke first_path check_limits 1 AtHeader bytes rest → ReadToFault bytes (Some rest)
+to_fault bytes rest broke =
+    let lines = broke.passed.lines in
+    let text = text_of-bytes_of lines broke.piece broke.passed.clean broke.clean in
+    record {
+      part = record {
+        read = bytes_of lines broke.piece;
+        unread = rest;
+        is = broke.passed.is ∙ bytes_of-behind lines broke.piece rest;
+        now = refl;
+      };
+      reached = broke.reached;
+      undecided = ap (λ (t : Text). read_lines first_path check_limits t.lines) text ∙ broke.passed.read;
+      short = subst (λ (t : Text). length t.rest ≤ 200) (sym text) broke.short;
+    }
+
+to_want : (bytes rest : List ℕ) → Starved first_path check_limits 1 AtHeader bytes rest → ReadToWant bytes (Some rest)
+to_want bytes rest starved =
+    let lines = starved.passed.lines in
+    let line = starved.line in
+    let whole : List (List ℕ) = lines ++ line ∷ [] in
+    let last : plain_lines (line ∷ []) ≡ true = rw starved.clean refl in
+    let text = text_of-bytes_of whole [] (plain_lines-append lines (line ∷ []) starved.passed.clean last) refl in
+    let behind : bytes_of lines (line ++ 10 ∷ rest) ≡ bytes_of whole [] ++ rest =
+    ap (bytes_of lines) (sym (append_assoc line (10 ∷ []) rest)) ∙ bytes_of-behind lines (line ++ 10 ∷ []) rest
+    ∙ ap (λ x. x ++ rest) (sym (bytes_of-append lines (line ∷ []) [])) in
+    record {
+      part = record { read = bytes_of whole []; unread = rest; is = starved.passed.is ∙ behind; now = refl };
+      before = lines;
+      line = line;
+      reached = starved.reached;
+      lines = text;
+      undecided = starved.passed.read;
+      short = starved.short;
+      needs = starved.needs;
+    }
+
+tells_of : (v : Verdict) → tells_verdict (status_of v) ≡ true
+tells_of (Accepted events) = refl
+tells_of (Refused line rule at) = refl
+tells_of (Malformed line cause) = refl
+tells_of (Limit line which) = refl
+
+told_fault : (stop : Stop) (result : Status) (bytes : List ℕ) (left : Option (List ℕ)) (f f' : ℕ) (h h' : Option (List ℕ)) (w w' : ℕ)
+    → Stops first_path check_limits 1 AtHeader (Some bytes) stop left f f' → Reports stop result h h' w w' → result ≡ status.ReadFault
+    → ReadToFault bytes left
+told_fault (Decided v) result bytes left f f' h h' w w' stops (inl wrote) is =
+    absurd (false≢true (ap tells_verdict (sym is ∙ wrote.0) ∙ tells_of v))
+told_fault (Decided v) result bytes left f f' h h' w w' stops (inr failed) is = cc
+told_fault ReadFault result bytes None f f' h h' w w' stops reports is = absurd stops.0
+told_fault ReadFault result bytes (Some rest) f f' h h' w w' stops reports is = to_fault bytes rest stops.0
+told_fault NoMemory result bytes left f f' h h' w w' stops reports is = cc
+
+told_want : (stop : Stop) (result : Status) (bytes : List ℕ) (left : Option (List ℕ)) (f f' : ℕ) (h h' : Option (List ℕ)) (w w' : ℕ)
+    → Stops first_path check_limits 1 AtHeader (Some bytes) stop left f f' → Reports stop result h h' w w' → result ≡ status.NoMemory
+    → ReadToWant bytes left
+told_want (Decided v) result bytes left f f' h h' w w' stops (inl wrote) is =
+    absurd (false≢true (ap tells_verdict (sym is ∙ wrote.0) ∙ tells_of v))
+told_want (Decided v) result bytes left f f' h h' w w' stops (inr failed) is = cc
+told_want ReadFault result bytes left f f' h h' w w' stops reports is = cc
+told_want NoMemory result bytes None f f' h h' w w' stops reports is = absurd stops.0
+told_want NoMemory result bytes (Some rest) f f' h h' w w' stops reports is = to_want bytes rest stops.0
+
+read_rose : (stop : Stop) (result : Status) (old new : Option (List ℕ)) (f f' : ℕ) (h h' : Option (List ℕ)) (w w' : ℕ)
+    → Stops first_path check_limits 1 AtHeader old stop new f f' → Reports stop result h h' w w' → f < f' → result ≡ status.ReadFault
+read_rose (Decided v) result old new f f' h h' w w' stops reports rose = absurd (omega (arith, rose, stops.1))
+read_rose ReadFault result old new f f' h h' w w' stops reports rose = reports.0
+read_rose NoMemory result old new f f' h h' w w' stops reports rose = absurd (omega (arith, rose, stops.1))
+
+write_rose : (stop : Stop) (result : Status) (h h' : Option (List ℕ)) (w w' : ℕ)
+    → Reports stop result h h' w w' → w < w' → result ≡ status.WriteFault
+write_rose (Decided v) result h h' w w' (inl wrote) rose = absurd (omega (arith, rose, wrote.2))
+write_rose (Decided v) result h h' w w' (inr failed) rose = failed.0
+write_rose ReadFault result h h' w w' reports rose = absurd (omega (arith, rose, reports.2))
+write_rose NoMemory result h h' w w' reports rose = absurd (omega (arith, rose, reports.2))
+
+module _ (result : Status) (old new : Option (List ℕ)) (f f' : ℕ) (h h' : Option (List ℕ)) (w w' : ℕ)
+    (checks : Checks result old new f f' h h' w w') where
+  pub checked-fault : (bytes : List ℕ) → old ≡ Some bytes → result ≡ status.ReadFault → ReadToFault bytes new
+  checked-fault bytes is fault =
+      told_fault checks.stop result bytes new f f' h h' w w'
+      (subst (λ (o : Option (List ℕ)). Stops first_path check_limits 1 AtHeader o checks.stop new f f') is checks.stops) checks.reports fault
+
+  pub checked-want : (bytes : List ℕ) → old ≡ Some bytes → result ≡ status.NoMemory → ReadToWant bytes new
+  checked-want bytes is want =
+      told_want checks.stop result bytes new f f' h h' w w'
+      (subst (λ (o : Option (List ℕ)). Stops first_path check_limits 1 AtHeader o checks.stop new f f') is checks.stops) checks.reports want
+
+  pub checked-read_rose : f < f' → result ≡ status.ReadFault
+  checked-read_rose rose = read_rose checks.stop result old new f f' h h' w w' checks.stops checks.reports rose
+
+  pub checked-write_rose : w < w' → result ≡ status.WriteFault
+  checked-write_rose rose = write_rose checks.stop result h h' w w' checks.reports rose

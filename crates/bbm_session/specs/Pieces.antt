@@ -1,5 +1,6 @@
 -- What one call takes from the source. No public contract cites these words.
 use Rattle.std.specs.Prelude.{◌≡◌, ◌≢◌, ℕ, ◌+◌, ◌≤◌, List, [], ◌∷◌, ◌++◌, length, Option, false}
+use Rattle.bbm_io.specs.Faults.{Rose}
 use Rattle.bbm_io.specs.Flow.{preceded, AtEnd}
 use Rattle.bbm_io.specs.Reading.{Reading}
 use Rattle.bbm_session.specs.declared.line.Piece.{Piece}
@@ -25,3 +26,10 @@ AddsUp Line was now = (now.failed ≡ false) × (now.taken ≤ was.taken + 201)
 AddsUp Rest was now = (now.failed ≡ false) × (now.taken ≤ was.taken + 201)
 AddsUp TooLong was now = Unit {0}
 AddsUp ReadFault was now = Unit {0}
+
+-- the count of faults rose where a read failed, and else it stays
+abbrev pub Counted : Piece → ℕ → ℕ → Type 0
+Counted Line faults faults' = faults' ≡ faults
+Counted Rest faults faults' = faults' ≡ faults
+Counted TooLong faults faults' = faults' ≡ faults
+Counted ReadFault faults faults' = Rose faults faults'

@@ -1,9 +1,15 @@
 -- What the program's words ask for, and what it says.
 -- Source: project's own choice.
-use Rattle.std.specs.Prelude.{◌≡◌, ◌⊎◌, ℕ, suc, List, [], ◌∷◌, ◌++◌, length, Option, Some, Bool, true, false, codes, bytes_eq}
+use Rattle.std.specs.Prelude.{◌≡◌, ◌⊎◌, ℕ, suc, ◌≤◌, List, [], ◌∷◌, ◌++◌, length, Option, Some, Result, Ok, Err, Bool, true, false, codes, bytes_eq}
 use Rattle.bbm_rules.specs.declared.verdict.Verdict.{Verdict}
 use Rattle.bbm_rules.specs.declared.verdict.Verdict.TheVariants.{Accepted, Refused, Malformed, Limit}
-use Rattle.bbm_rules.specs.Outcome.{Text, text_of}
+use Rattle.bbm_events.specs.declared.event.Event.{Event}
+use Rattle.bbm_events.specs.declared.event.Item.{Item}
+use Rattle.bbm_events.specs.declared.event.Item.TheVariants as item
+use Rattle.bbm_events.specs.declared.malformed.Malformed.{Malformed as Cause}
+use Rattle.bbm_events.specs.Heading.{Heading}
+use Rattle.bbm_events.specs.Lines.{header_of, item_of}
+use Rattle.bbm_rules.specs.Outcome.{Judge, first_path, check_limits, Progress, AtHeader, AtEvents, AtEnd, Text, text_of, read_lines}
 use Rattle.bbm_session.specs.declared.status.Status.{Status}
 use Rattle.bbm_session.specs.declared.status.Status.TheVariants as status
 
@@ -22,6 +28,17 @@ status_of (Accepted events) = status.Accepted
 status_of (Refused line rule at) = status.Refused
 status_of (Malformed line cause) = status.Malformed
 status_of (Limit line which) = status.Limit
+
+-- the number of a status, with which the program ends
+abbrev pub number_of : Status → ℕ
+number_of status.Accepted = 0
+number_of status.Refused = 1
+number_of status.Malformed = 2
+number_of status.Usage = 3
+number_of status.ReadFault = 4
+number_of status.WriteFault = 5
+number_of status.NoMemory = 6
+number_of status.Limit = 7
 
 -- whether a status says that the text of a verdict was written whole
 abbrev pub tells_verdict : Status → Bool
@@ -49,3 +66,42 @@ ReadFor (Limit line which) read unread = UpTo line read unread
 abbrev pub ReadTo : List ℕ → Verdict → Option (List ℕ) → Type 0
 ReadTo bytes verdict left =
     (read : List ℕ) × (unread : List ℕ) × (bytes ≡ read ++ unread) × (left ≡ Some unread) × ReadFor verdict (text_of read) unread
+
+-- Reading stopped before a verdict was known: these bytes were read of what was left.
+pub record ReadPart (bytes : List ℕ) (left : Option (List ℕ)) : Type 0 where
+  pub read : List ℕ
+  pub unread : List ℕ
+  pub is : bytes ≡ read ++ unread
+  pub now : left ≡ Some unread
+
+-- A read failed: no line that was read decides, and of the next one at most 200 bytes were read.
+pub record ReadToFault (bytes : List ℕ) (left : Option (List ℕ)) : Type 0 where
+  pub part : ReadPart bytes left
+  pub reached : Progress
+  pub undecided : read_lines first_path check_limits (text_of part.read).lines ≡ Some reached
+  pub short : length (text_of part.read).rest ≤ 200
+
+-- A line for which memory is needed: a header, or an event, which this version judges.
+abbrev pub Judged : Judge → Heading → List Event → Result Item Cause → Type 0
+Judged judge heading h (Ok (item.Event event)) = judge.judges heading h event ≡ true
+Judged judge heading h _ = ⊥
+
+abbrev pub JudgedHeading : Judge → Result Heading Cause → Type 0
+JudgedHeading judge (Ok heading) = judge.judges_heading heading ≡ true
+JudgedHeading judge (Err cause) = ⊥
+
+abbrev pub NeedsMemory : Judge → Progress → List ℕ → Type 0
+NeedsMemory judge AtHeader line = JudgedHeading judge (header_of line)
+NeedsMemory judge (AtEvents heading h) line = Judged judge heading h (item_of heading line)
+NeedsMemory judge (AtEnd h) line = ⊥
+
+-- There was no memory: what was read ends with a line that needs memory, and no line before it decides.
+pub record ReadToWant (bytes : List ℕ) (left : Option (List ℕ)) : Type 0 where
+  pub part : ReadPart bytes left
+  pub before : List (List ℕ)
+  pub line : List ℕ
+  pub reached : Progress
+  pub lines : text_of part.read ≡ record { lines = before ++ line ∷ []; rest = [] }
+  pub undecided : read_lines first_path check_limits before ≡ Some reached
+  pub short : length line ≤ 200
+  pub needs : NeedsMemory first_path reached line

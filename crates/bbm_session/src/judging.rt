@@ -1,11 +1,12 @@
 //! The lines of a log, judged one after another.
 
-ghost use Rattle.std.specs.Prelude.{◌≡◌, ◌+◌, ◌≤◌, ℕ, List, [], Option, OnOk, IfOk, Err, length};
+ghost use Rattle.std.specs.Prelude.{◌≡◌, ◌+◌, ◌≤◌, ℕ, List, [], true, Option, OnOk, IfOk, Err, length};
 ghost use Rattle.bbm_events.specs.declared.event.Event.{Event};
 ghost use Rattle.bbm_rules.specs.FirstPathAnswers.{Answers};
-ghost use Rattle.bbm_rules.specs.FirstPath.{Breach, is_built_heading};
-ghost use Rattle.bbm_rules.specs.Outcome.{check_limits, AtHeader, AtEvents, after_header, after_event, after_item};
+ghost use Rattle.bbm_rules.specs.FirstPath.{Breach, is_built, is_built_heading};
+ghost use Rattle.bbm_rules.specs.Outcome.{first_path, check_limits, AtHeader, AtEvents, after_header, after_event, after_item};
 ghost use Rattle.bbm_oracle.specs.Taken.{StandsFor};
+ghost use Rattle.bbm_session.specs.Run.{Judged};
 ghost use Rattle.bbm_session.specs.Stages.{Shrinks, Stops, StopsAt, Ready, JudgesHeader, JudgesLine, Starts, Advances, Reaches, Closes, Ends};
 
 use crate::line::{Piece, next_piece};
@@ -51,7 +52,7 @@ fn is_built(header: &Header) -> bool
 
 // What line 1 decides, by what was read of it.
 fn judge_header(read: Result<Header, Malformed>) -> Result<Header, Stop>
-    ensures { JudgesHeader result (after_header 1 read) }
+    ensures { JudgesHeader result (after_header first_path 1 read) }
 {
     match read {
         Ok(header) => {
@@ -84,8 +85,8 @@ fn refusal(number: u64, fault: StepFault) -> Stop
 // What an event on this line decides.
 fn judge_event(alloc: Global, number: u64, oracle: &mut Oracle, event: Event) -> Result<Turn, Stop>
     requires { length oracle.old.history ≤ 2000 }
-    ensures { JudgesLine result
-        (after_event check_limits number oracle.old.heading oracle.old.history event)
+    ensures { JudgesLine (is_built oracle.old.heading oracle.old.history event ≡ true) result
+        (after_event first_path check_limits number oracle.old.heading oracle.old.history event)
         oracle.old oracle.new }
 {
     if !oracle.judges(&event) {
@@ -108,8 +109,8 @@ fn judge_item(
     read: Result<Item, Malformed>,
 ) -> Result<Turn, Stop>
     requires { length oracle.old.history ≤ 2000 }
-    ensures { JudgesLine result
-        (after_item check_limits number oracle.old.heading oracle.old.history read)
+    ensures { JudgesLine (Judged first_path oracle.old.heading oracle.old.history read) result
+        (after_item first_path check_limits number oracle.old.heading oracle.old.history read)
         oracle.old oracle.new }
 {
     match read {
@@ -131,7 +132,6 @@ pub fn header_line<S: Source>(lines: &mut Lines, log: &mut S) -> Result<Header, 
     ensures ready { OnOk result (Ready lines.new 2) }
     ensures starts { Starts result (S.left log.old) (S.left log.new) (S.faults log.old) (S.faults log.new) }
     ensures shrinks { Shrinks (S.left log.old) (S.left log.new) }
-    ensures never_falls { S.faults log.old ≤ S.faults log.new }
 {
     match next_piece(lines, log) {
         Piece::Line => judge_header(read_header(lines.bytes())),
@@ -158,7 +158,6 @@ fn event_line<S: Source>(
     ensures advances { Advances result number oracle.old oracle.new (S.left log.old)
         (S.left log.new) (S.faults log.old) (S.faults log.new) }
     ensures shrinks { Shrinks (S.left log.old) (S.left log.new) }
-    ensures never_falls { S.faults log.old ≤ S.faults log.new }
 {
     match next_piece(lines, log) {
         Piece::Line => judge_item(alloc, number, oracle, read_event(header, lines.bytes())),
@@ -182,7 +181,6 @@ pub fn event_lines<S: Source>(
     ensures reaches { Reaches result header.now oracle.new.history (S.left log.old) (S.left log.new)
         (S.faults log.old) (S.faults log.new) }
     ensures shrinks { Shrinks (S.left log.old) (S.left log.new) }
-    ensures never_falls { S.faults log.old ≤ S.faults log.new }
 {
     let mut number = 2;
     'lines: loop {
@@ -201,7 +199,6 @@ pub fn nothing_follows<S: Source>(number: u64, lines: &mut Lines, log: &mut S) -
     ensures closes { (h : List Event) → Closes result number h (S.left log.old) (S.left log.new)
         (S.faults log.old) (S.faults log.new) }
     ensures shrinks { Shrinks (S.left log.old) (S.left log.new) }
-    ensures never_falls { S.faults log.old ≤ S.faults log.new }
 {
     match next_piece(lines, log) {
         Piece::Line => Err(malformed(number, Malformed::AfterEnd)),
@@ -221,19 +218,17 @@ pub fn nothing_follows<S: Source>(number: u64, lines: &mut Lines, log: &mut S) -
 fn judge_events<S: Source>(
     alloc: Global,
     header: &Header,
+    oracle: &mut Oracle,
     lines: &mut Lines,
     log: &mut S,
 ) -> Result<u64, Stop>
-    requires { Ready lines.old 2 }
+    requires fresh { StandsFor oracle.old header.now [] }
+    requires ready { Ready lines.old 2 }
     ensures ends { Ends 2 (AtEvents header.now []) result (S.left log.old) (S.left log.new)
         (S.faults log.old) (S.faults log.new) }
     ensures shrinks { Shrinks (S.left log.old) (S.left log.new) }
-    ensures never_falls { S.faults log.old ≤ S.faults log.new }
 {
-    let Ok(mut oracle) = Oracle::new(alloc, header) else {
-        return Err(Stop::NoMemory);
-    };
-    match event_lines(alloc, header, &mut oracle, lines, log) {
+    match event_lines(alloc, header, oracle, lines, log) {
         Ok(number) => match nothing_follows(number, lines, log) {
             Ok(()) => Ok(oracle.events()),
             Err(stop) => Err(stop),
@@ -246,21 +241,22 @@ fn judge_events<S: Source>(
 fn judge_lines<S: Source>(alloc: Global, log: &mut S) -> Result<u64, Stop>
     ensures ends { Ends 1 AtHeader result (S.left log.old) (S.left log.new) (S.faults log.old) (S.faults log.new) }
     ensures shrinks { Shrinks (S.left log.old) (S.left log.new) }
-    ensures never_falls { S.faults log.old ≤ S.faults log.new }
 {
     let mut lines = Lines::new();
     match header_line(&mut lines, log) {
-        Ok(header) => judge_events(alloc, &header, &mut lines, log),
+        Ok(header) => match Oracle::new(alloc, &header) {
+            Ok(mut oracle) => judge_events(alloc, &header, &mut oracle, &mut lines, log),
+            Err(_) => Err(Stop::NoMemory),
+        },
         Err(stop) => Err(stop),
     }
 }
 
 /// Reads the log up to the line that decides, and answers why reading stopped.
 pub fn judge<S: Source>(alloc: Global, log: &mut S) -> Stop
-    ensures stops { Stops check_limits 1 AtHeader (S.left log.old) result (S.left log.new)
+    ensures stops { Stops first_path check_limits 1 AtHeader (S.left log.old) result (S.left log.new)
         (S.faults log.old) (S.faults log.new) }
     ensures shrinks { Shrinks (S.left log.old) (S.left log.new) }
-    ensures never_falls { S.faults log.old ≤ S.faults log.new }
 {
     match judge_lines(alloc, log) {
         Ok(events) => Stop::Decided(Verdict::Accepted { events }),

@@ -7,9 +7,11 @@ pub mod status;
 mod stop;
 mod text;
 mod top;
+mod words;
 
-pub use status::Status;
+pub use status::{Status, number};
 pub use top::run;
+pub use words::run_words;
 
 #[cfg(test)]
 mod tests;

@@ -1,9 +1,8 @@
 //! One line of the log.
 
 ghost use Rattle.std.specs.Prelude.{◌≡◌, ◌+◌, ◌≤◌, ◌^◌, false, true, length};
-ghost use Rattle.bbm_io.specs.Faults.{Rose};
 ghost use Rattle.bbm_io.specs.Flow.{plain};
-ghost use Rattle.bbm_session.specs.Pieces.{Takes, AddsUp};
+ghost use Rattle.bbm_session.specs.Pieces.{Takes, AddsUp, Counted};
 
 use bbm_io::{LineFault, LineOrEnd, Lines, Source};
 
@@ -28,8 +27,7 @@ pub fn next_piece<S: Source>(lines: &mut Lines, log: &mut S) -> Piece
     ensures adds_up { AddsUp result lines.old lines.new }
     ensures within { length lines.new.bytes ≤ 200 }
     ensures plain { plain lines.new.bytes ≡ true }
-    ensures read_fault { result ≡ Piece.ReadFault → Rose (S.faults log.old) (S.faults log.new) }
-    ensures never_falls { S.faults log.old ≤ S.faults log.new }
+    ensures counted { Counted result (S.faults log.old) (S.faults log.new) }
 {
     match lines.next(log) {
         Ok(LineOrEnd::Line) => Piece::Line,

@@ -1,5 +1,8 @@
 //! How the program ends.
 
+ghost use Rattle.std.specs.Prelude.{◌≡◌};
+ghost use Rattle.bbm_session.specs.Run.{number_of};
+
 /// How the program ends, with the number of its exit status. Source: project's own choice.
 #[derive(Clone, Copy, Debug, PartialEq, Eq)]
 pub enum Status {
@@ -19,4 +22,20 @@ pub enum Status {
     NoMemory = 6,
     /// A line reaches a limit.
     Limit = 7,
+}
+
+/// The number with which the program ends: 0 to 7.
+pub fn number(status: Status) -> u8
+    ensures { result ≡ number_of status }
+{
+    match status {
+        Status::Accepted => 0,
+        Status::Refused => 1,
+        Status::Malformed => 2,
+        Status::Usage => 3,
+        Status::ReadFault => 4,
+        Status::WriteFault => 5,
+        Status::NoMemory => 6,
+        Status::Limit => 7,
+    }
 }

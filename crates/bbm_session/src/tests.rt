@@ -1,8 +1,10 @@
 //! Whole runs over sources and sinks in memory: the status and the bytes that are written.
 
 use super::*;
-use bbm_io::{MemSink, MemSource};
+use bbm_io::{CleanSource, MemSink, MemSource};
 use std::alloc::{AllocError, Global};
+use std::io;
+use std::io::ErrorKind;
 use std::test::Fail;
 
 /// The calls of the source and of the sink that fail, counted from 1 (0: none does), and the room of the
@@ -54,7 +56,7 @@ fn judged(
     let room = Vec::with_capacity(alloc, faults.room)?;
     let mut sink = MemSink::new(room, vec![in alloc; faults.write]?);
     let status = run(alloc, &words, &mut source, &mut sink);
-    Ok((status as u8, sink))
+    Ok((number(status), sink))
 }
 
 /// Checks the log without faults.
@@ -618,6 +620,31 @@ fn tells_the_usage(rt: HostRuntime) -> Result<(), Fail> {
         let (status, sink) = judged(rt.alloc(), command, bytes, faults)?;
         assert_eq!(rt; sink.bytes(), USAGE, "{command}");
         assert_eq!(rt; status, 3, "{command}");
+    }
+    Ok(())
+}
+
+#[test]
+fn ends_by_the_words(rt: HostRuntime) -> Result<(), Fail> {
+    let check = words(rt.alloc(), "check")?;
+    let none = words(rt.alloc(), "")?;
+    // What came of gathering the words, and the status and what is written.
+    for (gathered, status, text) in vec![in rt.alloc();
+        (Ok(check), 0, b"accepted 8 events\n".as_slice()),
+        (Ok(none), 3, USAGE),
+        (Err(io::Error::from(ErrorKind::InvalidData)), 3, USAGE),
+        (
+            Err(io::Error::from(ErrorKind::OutOfMemory)),
+            6,
+            b"".as_slice()
+        ),
+    ]? {
+        let mut source = CleanSource::new(log(rt.alloc(), b"", REMAP, 1, b"")?);
+        let room = Vec::with_capacity(rt.alloc(), 200)?;
+        let mut sink = MemSink::new(room, Vec::new(rt.alloc()));
+        let ended = number(run_words(rt.alloc(), gathered, &mut source, &mut sink));
+        assert_eq!(rt; ended, status);
+        assert_eq!(rt; sink.bytes(), text);
     }
     Ok(())
 }

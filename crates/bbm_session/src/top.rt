@@ -5,9 +5,9 @@ ghost use Rattle.std.specs.String.{string_bytes};
 ghost use Rattle.bbm_io.specs.Faults.{Rose};
 ghost use Rattle.bbm_io.specs.Flow.{preceded, extended};
 ghost use Rattle.bbm_rules.specs.declared.verdict.Verdict.{Verdict as VerdictOf};
-ghost use Rattle.bbm_rules.specs.Outcome.{check_limits, outcome_of, verdict_of};
+ghost use Rattle.bbm_rules.specs.Outcome.{first_path, check_limits, outcome_of, verdict_of_bytes};
 ghost use Rattle.bbm_rules.specs.Texts.{verdict_text};
-ghost use Rattle.bbm_session.specs.Run.{ReadTo, says_check, status_of, tells_verdict, usage_text};
+ghost use Rattle.bbm_session.specs.Run.{ReadTo, ReadToFault, ReadToWant, says_check, status_of, tells_verdict, usage_text};
 ghost use Rattle.bbm_session.specs.Stages.{Shrinks};
 ghost use Rattle.bbm_session.specs.Writing.{Wrote, Part, Checks};
 
@@ -49,7 +49,6 @@ fn status(verdict: Verdict) -> Status
 // Writes the text, and answers the wanted status where it was written whole.
 fn say<K: Sink>(text: &[u8], wanted: Status, out: &mut K) -> Status
     ensures wrote { Wrote wanted text.now result (K.held out.old) (K.held out.new) (K.faults out.old) (K.faults out.new) }
-    ensures never_falls { K.faults out.old ≤ K.faults out.new }
 {
     match put(out, text) {
         Ok(()) => wanted,
@@ -60,7 +59,6 @@ fn say<K: Sink>(text: &[u8], wanted: Status, out: &mut K) -> Status
 // Writes the line of a verdict.
 fn answer<K: Sink>(verdict: Verdict, out: &mut K) -> Status
     ensures wrote { Wrote (status_of verdict) (verdict_text verdict) result (K.held out.old) (K.held out.new) (K.faults out.old) (K.faults out.new) }
-    ensures never_falls { K.faults out.old ≤ K.faults out.new }
 {
     let mut text = ArrayVec::new();
     add_verdict(&mut text, verdict);
@@ -102,33 +100,42 @@ pub fn run<S: Source, K: Sink>(
     // A verdict: the status is that of the verdict of the bytes that were left, its whole text and
     // nothing else is written, and the bytes that it doesn't need stay unread, also where the write fails.
     ensures status { (bytes : List ℕ) → S.left log.old ≡ Some bytes → tells_verdict result ≡ true
-        → result ≡ status_of (verdict_of check_limits bytes) }
+        → result ≡ status_of (verdict_of_bytes first_path check_limits bytes) }
     ensures text { (bytes : List ℕ) → S.left log.old ≡ Some bytes → tells_verdict result ≡ true
-        → K.held out.new ≡ extended (K.held out.old) (verdict_text (verdict_of check_limits bytes)) }
+        → K.held out.new ≡ extended (K.held out.old) (verdict_text (verdict_of_bytes first_path check_limits bytes)) }
     ensures some_verdict { tells_verdict result ≡ true → (verdict : VerdictOf) × (result ≡ status_of verdict)
         × (K.held out.new ≡ extended (K.held out.old) (verdict_text verdict)) }
     ensures unread { (bytes : List ℕ) → S.left log.old ≡ Some bytes → tells_verdict result ≡ true
-        → S.left log.new ≡ Some (outcome_of check_limits bytes).unread }
+        → S.left log.new ≡ Some (outcome_of first_path check_limits bytes).unread }
     ensures read_to_the_line { (bytes : List ℕ) → S.left log.old ≡ Some bytes → tells_verdict result ≡ true
-        → ReadTo bytes (verdict_of check_limits bytes) (S.left log.new) }
+        → ReadTo bytes (verdict_of_bytes first_path check_limits bytes) (S.left log.new) }
     ensures accepted_reads_all { (bytes : List ℕ) → S.left log.old ≡ Some bytes → result ≡ Status.Accepted
         → S.left log.new ≡ Some [] }
     ensures unread_untold { (bytes : List ℕ) → S.left log.old ≡ Some bytes → result ≡ Status.WriteFault
         → says_check (map string_bytes words.now.items) ≡ true
-        → S.left log.new ≡ Some (outcome_of check_limits bytes).unread }
+        → S.left log.new ≡ Some (outcome_of first_path check_limits bytes).unread }
 
-    // The faults, by their causes.
+    // The faults, by their causes: a fault that happened is told, and so never both.
+    ensures read_rose { S.faults log.old < S.faults log.new → result ≡ Status.ReadFault }
+    ensures write_rose { K.faults out.old < K.faults out.new → result ≡ Status.WriteFault }
     ensures read_fault { result ≡ Status.ReadFault → Rose (S.faults log.old) (S.faults log.new) }
     ensures write_fault { result ≡ Status.WriteFault → Rose (K.faults out.old) (K.faults out.new) }
     ensures part_of_usage { result ≡ Status.WriteFault → says_check (map string_bytes words.now.items) ≡ false
         → Part usage_text (K.held out.old) (K.held out.new) }
     ensures part_of_text { (bytes : List ℕ) → S.left log.old ≡ Some bytes → result ≡ Status.WriteFault
         → says_check (map string_bytes words.now.items) ≡ true
-        → Part (verdict_text (verdict_of check_limits bytes)) (K.held out.old) (K.held out.new) }
+        → Part (verdict_text (verdict_of_bytes first_path check_limits bytes)) (K.held out.old) (K.held out.new) }
     ensures part_of_some { result ≡ Status.WriteFault → says_check (map string_bytes words.now.items) ≡ true
         → (verdict : VerdictOf) × Part (verdict_text verdict) (K.held out.old) (K.held out.new) }
     ensures unwritten { (result ≡ Status.ReadFault) ⊎ (result ≡ Status.NoMemory)
         → K.held out.new ≡ K.held out.old }
+
+    // Nothing is read that isn't needed: up to a fault or for want of memory only lines that decide nothing, and of the
+    // next one at most 200 bytes. There is want of memory only at a line that needs memory.
+    ensures read_to_fault { (bytes : List ℕ) → S.left log.old ≡ Some bytes → result ≡ Status.ReadFault
+        → ReadToFault bytes (S.left log.new) }
+    ensures read_to_want { (bytes : List ℕ) → S.left log.old ≡ Some bytes → result ≡ Status.NoMemory
+        → ReadToWant bytes (S.left log.new) }
 
     // What is read begins what was left, in every case.
     ensures read { (taken : List ℕ) × (S.left log.old ≡ preceded taken (S.left log.new)) }

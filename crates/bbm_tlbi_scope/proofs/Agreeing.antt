@@ -1,5 +1,6 @@
 -- What covers a place takes the entries that were read through it.
 use Rattle.std.proofs.Common.{◌≡◌, ℕ, Bool, true, false, Option, Some, None, is_none, ◌&&◌, ◌||◌, not, ◌≤◌, refl, ap, sym, ◌∙◌, arith, if◌then◌else◌}
+use Rattle.std.proofs.lemmas.Bool.{and_from, and_parts, or_left, or_right, not_from_false}
 use Rattle.std.proofs.lemmas.Bool.Decides.{nat_tests}
 use Rattle.bbm_regimes.specs.Extent.{Extent, meets, holds}
 use Rattle.bbm_regimes.specs.declared.regime.Kind.{Kind}
@@ -16,23 +17,11 @@ use Rattle.bbm_tlbi_scope.specs.declared.entry.TagSet.{TagSet}
 use Rattle.bbm_tlbi_scope.specs.declared.entry.TagSet.TheVariants.{None as NoTag, One, Many}
 use Rattle.bbm_tlbi_scope.specs.declared.entry.Cover.{Cover}
 use Rattle.bbm_tlbi_scope.specs.declared.entry.Cover.TheVariants.{None as NoCover, Half, Second, Full}
-use Rattle.bbm_tlbi_scope.specs.Numbers.{is_number, hint_allows, names_some, names_all}
+use Rattle.bbm_tlbi_scope.specs.Numbers.{is_number, lacks_vmid, hint_allows, names_some, names_all}
 use Rattle.bbm_tlbi_scope.specs.Takes.{fits_entry, is_global_leaf, taken_by, taken}
 use Rattle.bbm_tlbi_scope.specs.Covers.{fits_leaf, fits_place, vmid_matches, asid_matches, where_fits, cover_by, cover_of}
 use Rattle.bbm_tlbi_scope.specs.Tags.{whole_tag_by, takes_whole_tag}
 use Rattle.bbm_tlbi_scope.specs.Agreement.{read_through, tag_of, HasTag, EndsBy, Agrees}
-
-both_left : (a b : Bool) → (a && b) ≡ true → a ≡ true
-both_left true b h = refl
-both_left false b h = h
-
-both_right : (a b : Bool) → (a && b) ≡ true → b ≡ true
-both_right true b h = h
-both_right false b h = cc
-
-both : (a b : Bool) → a ≡ true → b ≡ true → (a && b) ≡ true
-both true b ha hb = hb
-both false b ha hb = ha
 
 -- an interval that holds a region meets each interval within the region
 meets_within : (i v e : Extent) → e.lo ≤ e.hi → holds i v ≡ true → holds v e ≡ true → meets i e ≡ true
@@ -78,13 +67,13 @@ fits_by : (table childless : Bool) (s : Scope) (e : EntryHead) (v : PlaceView) �
     → fits_entry s e ≡ true
 fits_by false childless s e v ending region fits = rw (ending.0, ending.1, ending.2) fits
 fits_by true true s e v ending region fits =
-    let free : (not s.last_only && is_none s.level) ≡ true = both_left (not s.last_only && is_none s.level) (names_some s.interval v.region) fits in
-    let some : names_some s.interval v.region ≡ true = both_right (not s.last_only && is_none s.level) (names_some s.interval v.region) fits in
-    rw (ending.0, ending.1) (both (names_some s.interval v.region) (not s.last_only && is_none s.level) some free)
+    let free : (not s.last_only && is_none s.level) ≡ true = (and_parts (not s.last_only && is_none s.level) (names_some s.interval v.region) fits).0 in
+    let some : names_some s.interval v.region ≡ true = (and_parts (not s.last_only && is_none s.level) (names_some s.interval v.region) fits).1 in
+    rw (ending.0, ending.1) (and_from (names_some s.interval v.region) (not s.last_only && is_none s.level) some free)
 fits_by true false s e v ending region fits =
-    let free : (not s.last_only && is_none s.level) ≡ true = both_left (not s.last_only && is_none s.level) (names_all s.interval v.region) fits in
-    let all : names_all s.interval v.region ≡ true = both_right (not s.last_only && is_none s.level) (names_all s.interval v.region) fits in
-    both (names_some s.interval e.region) (if e.last then hint_allows s.level e.level else (not s.last_only && is_none s.level))
+    let free : (not s.last_only && is_none s.level) ≡ true = (and_parts (not s.last_only && is_none s.level) (names_all s.interval v.region) fits).0 in
+    let all : names_all s.interval v.region ≡ true = (and_parts (not s.last_only && is_none s.level) (names_all s.interval v.region) fits).1 in
+    and_from (names_some s.interval e.region) (if e.last then hint_allows s.level e.level else (not s.last_only && is_none s.level))
     (names_within s.interval v.region e.region region all ending)
     (free_of_hint e.last s.last_only s.level e.level free)
 
@@ -103,6 +92,11 @@ half_where false h = cc
 second_where : (b : Bool) → where_fits Second b ≡ Second → b ≡ true
 second_where true h = refl
 second_where false h = cc
+
+-- a cover that is some cover is that of the table, and the TLBI has the VMID that it needs
+cover_has_vmid : (lacks : Bool) (given wanted : Cover) → (NoCover ≡ wanted → ⊥) → (if lacks then NoCover else given) ≡ wanted → (not lacks ≡ true) × (given ≡ wanted)
+cover_has_vmid true given wanted some h = absurd (some h)
+cover_has_vmid false given wanted some h = (refl, h)
 
 -- the grades of cover differ
 other_grade : (given wanted : Cover) (b : Bool) → (given ≡ wanted → ⊥) → (NoCover ≡ wanted → ⊥) → where_fits given b ≡ wanted → ⊥
@@ -134,91 +128,74 @@ record Fits (vk : Kind) (s : Scope) (e : EntryHead) (v : PlaceView) : Type 0 whe
   lower : vk ≡ Ttbr0 → is_global_leaf e ≡ false
   upper : vk ≡ Ttbr1 → v.table ≡ false → v.global ≡ true → is_global_leaf e ≡ true
 
--- an entry of an ASID is taken by its ASID, or is one for every ASID
-or_left : (a b : Bool) → a ≡ true → (a || b) ≡ true
-or_left true b h = refl
-or_left false b h = cc
-
-or_right : (a b : Bool) → b ≡ true → (a || b) ≡ true
-or_right true b h = refl
-or_right false b h = h
-
 not_true : (b : Bool) → not b ≡ true → b ≡ false
 not_true true h = cc
 not_true false h = refl
 
-not_false : (b : Bool) → b ≡ false → not b ≡ true
-not_false true h = cc
-not_false false h = refl
-
-el2_full : (f : Family) (s : Scope) (vmid : Option ℕ) (e : EntryHead) (v : PlaceView) → Fits El2 s e v → cover_by El2 f s vmid v ≡ Full → taken_by El2Entry f s vmid e ≡ true
+el2_full : (f : Family) (s : Scope) (vmid : Option ℕ) (e : EntryHead) (v : PlaceView) → Fits El2 s e v → cover_by El2 f (fits_place s v) s vmid v ≡ Full → taken_by El2Entry f (fits_entry s e) s vmid e ≡ true
 el2_full El2All s vmid e v a h = refl
 el2_full El2Va s vmid e v a h = a.fits (full_where (fits_place s v) h)
 el2_full _ s vmid e v a h = cc
 
-stage2_full : (f : Family) (s : Scope) (vmid : Option ℕ) (e : EntryHead) (v : PlaceView) → Fits S2 s e v → cover_by S2 f s vmid v ≡ Full → taken_by Stage2 f s vmid e ≡ true
-stage2_full E1All s vmid e v a h = refl
-stage2_full VmAll12 s vmid e v a h = vmid_of_tag vmid v.tags e.vmid a.tag (full_where (vmid_matches vmid v.tags) h)
-stage2_full Ipa s vmid e v a h = absurd (half_is_not_full (fits_place s v && vmid_matches vmid v.tags) h)
-stage2_full VmAll1 s vmid e v a h = absurd (second_is_not_full (vmid_matches vmid v.tags) h)
-stage2_full _ s vmid e v a h = cc
+-- the two kinds of entries that are read through trees of stage 2
+stage2_full : (ek : EntryKind) (f : Family) (s : Scope) (vmid : Option ℕ) (e : EntryHead) (v : PlaceView) → read_through ek S2 ≡ true → Fits S2 s e v
+    → cover_by S2 f (fits_place s v) s vmid v ≡ Full → taken_by ek f (fits_entry s e) s vmid e ≡ true
+stage2_full Stage2 E1All s vmid e v through a h = refl
+stage2_full Combined E1All s vmid e v through a h = refl
+stage2_full Stage2 VmAll12 s vmid e v through a h = vmid_of_tag vmid v.tags e.vmid a.tag (full_where (vmid_matches vmid v.tags) h)
+stage2_full Combined VmAll12 s vmid e v through a h = vmid_of_tag vmid v.tags e.vmid a.tag (full_where (vmid_matches vmid v.tags) h)
+stage2_full ek Ipa s vmid e v through a h = absurd (half_is_not_full (fits_place s v && vmid_matches vmid v.tags) h)
+stage2_full ek VmAll1 s vmid e v through a h = absurd (second_is_not_full (vmid_matches vmid v.tags) h)
+stage2_full _ _ s vmid e v through a h = cc
 
-combined_full : (f : Family) (s : Scope) (vmid : Option ℕ) (e : EntryHead) (v : PlaceView) → Fits S2 s e v → cover_by S2 f s vmid v ≡ Full → taken_by Combined f s vmid e ≡ true
-combined_full E1All s vmid e v a h = refl
-combined_full VmAll12 s vmid e v a h = vmid_of_tag vmid v.tags e.vmid a.tag (full_where (vmid_matches vmid v.tags) h)
-combined_full Ipa s vmid e v a h = absurd (half_is_not_full (fits_place s v && vmid_matches vmid v.tags) h)
-combined_full VmAll1 s vmid e v a h = absurd (second_is_not_full (vmid_matches vmid v.tags) h)
-combined_full _ s vmid e v a h = cc
-
-lower_full : (f : Family) (s : Scope) (vmid : Option ℕ) (e : EntryHead) (v : PlaceView) → Fits Ttbr0 s e v → cover_by Ttbr0 f s vmid v ≡ Full → taken_by El1 f s vmid e ≡ true
+lower_full : (f : Family) (s : Scope) (vmid : Option ℕ) (e : EntryHead) (v : PlaceView) → Fits Ttbr0 s e v → cover_by Ttbr0 f (fits_place s v) s vmid v ≡ Full → taken_by El1 f (fits_entry s e) s vmid e ≡ true
 lower_full VmAll1 s vmid e v a h = refl
 lower_full VaAll s vmid e v a h = a.fits (full_where (fits_place s v) h)
 lower_full Va s vmid e v a h =
     let fit : (fits_place s v && asid_matches s.asid v.tags) ≡ true = full_where (fits_place s v && asid_matches s.asid v.tags) h in
-    both (fits_entry s e) (is_number s.asid e.asid || is_global_leaf e)
-    (a.fits (both_left (fits_place s v) (asid_matches s.asid v.tags) fit))
-    (or_left (is_number s.asid e.asid) (is_global_leaf e) (asid_of_tag s.asid v.tags e.asid a.tag (both_right (fits_place s v) (asid_matches s.asid v.tags) fit)))
+    and_from (fits_entry s e) (is_number s.asid e.asid || is_global_leaf e)
+    (a.fits (and_parts (fits_place s v) (asid_matches s.asid v.tags) fit).0)
+    (or_left (is_number s.asid e.asid) (is_global_leaf e) (asid_of_tag s.asid v.tags e.asid a.tag (and_parts (fits_place s v) (asid_matches s.asid v.tags) fit).1))
 lower_full Asid s vmid e v a h =
-    both (is_number s.asid e.asid) (not (is_global_leaf e))
+    and_from (is_number s.asid e.asid) (not (is_global_leaf e))
     (asid_of_tag s.asid v.tags e.asid a.tag (full_where (asid_matches s.asid v.tags) h))
-    (not_false (is_global_leaf e) (a.lower refl))
+    (not_from_false (is_global_leaf e) (a.lower refl))
 lower_full _ s vmid e v a h = cc
 
-upper_full : (f : Family) (s : Scope) (vmid : Option ℕ) (e : EntryHead) (v : PlaceView) → Fits Ttbr1 s e v → cover_by Ttbr1 f s vmid v ≡ Full → taken_by El1 f s vmid e ≡ true
+upper_full : (f : Family) (s : Scope) (vmid : Option ℕ) (e : EntryHead) (v : PlaceView) → Fits Ttbr1 s e v → cover_by Ttbr1 f (fits_place s v) s vmid v ≡ Full → taken_by El1 f (fits_entry s e) s vmid e ≡ true
 upper_full VmAll1 s vmid e v a h = refl
 upper_full VaAll s vmid e v a h = a.fits (full_where (fits_place s v) h)
 upper_full Va s vmid e v a h =
     let fit : (fits_place s v && (not v.table && v.global)) ≡ true = full_where (fits_place s v && (not v.table && v.global)) h in
-    let leaf : (not v.table && v.global) ≡ true = both_right (fits_place s v) (not v.table && v.global) fit in
-    both (fits_entry s e) (is_number s.asid e.asid || is_global_leaf e)
-    (a.fits (both_left (fits_place s v) (not v.table && v.global) fit))
-    (or_right (is_number s.asid e.asid) (is_global_leaf e) (a.upper refl (not_true v.table (both_left (not v.table) v.global leaf)) (both_right (not v.table) v.global leaf)))
+    let leaf : (not v.table && v.global) ≡ true = (and_parts (fits_place s v) (not v.table && v.global) fit).1 in
+    and_from (fits_entry s e) (is_number s.asid e.asid || is_global_leaf e)
+    (a.fits (and_parts (fits_place s v) (not v.table && v.global) fit).0)
+    (or_right (is_number s.asid e.asid) (is_global_leaf e) (a.upper refl (not_true v.table (and_parts (not v.table) v.global leaf).0) (and_parts (not v.table) v.global leaf).1))
 upper_full _ s vmid e v a h = cc
 
 full_by : (ek : EntryKind) (vk : Kind) (s : Scope) (vmid : Option ℕ) (e : EntryHead) (v : PlaceView) → read_through ek vk ≡ true → Fits vk s e v
-    → cover_by vk s.family s vmid v ≡ Full → taken_by ek s.family s vmid e ≡ true
+    → cover_by vk s.family (fits_place s v) s vmid v ≡ Full → taken_by ek s.family (fits_entry s e) s vmid e ≡ true
 full_by El2Entry El2 s vmid e v through a h = el2_full s.family s vmid e v a h
-full_by Stage2 S2 s vmid e v through a h = stage2_full s.family s vmid e v a h
-full_by Combined S2 s vmid e v through a h = combined_full s.family s vmid e v a h
+full_by ek S2 s vmid e v through a h = stage2_full ek s.family s vmid e v through a h
 full_by El1 Ttbr0 s vmid e v through a h = lower_full s.family s vmid e v a h
 full_by El1 Ttbr1 s vmid e v through a h = upper_full s.family s vmid e v a h
 full_by _ _ s vmid e v through a h = cc
 
 -- only the first half is a half cover, and only the second half is a second one
 half_by : (ek : EntryKind) (vk : Kind) (f : Family) (s : Scope) (vmid : Option ℕ) (e : EntryHead) (v : PlaceView) → ek ≡ Stage2 → read_through ek vk ≡ true → Fits vk s e v
-    → cover_by vk f s vmid v ≡ Half → taken_by ek f s vmid e ≡ true
+    → cover_by vk f (fits_place s v) s vmid v ≡ Half → taken_by ek f (fits_entry s e) s vmid e ≡ true
 half_by Stage2 S2 E1All s vmid e v kind through a h = refl
 half_by Stage2 S2 VmAll12 s vmid e v kind through a h = absurd (full_is_not_half (vmid_matches vmid v.tags) h)
 half_by Stage2 S2 VmAll1 s vmid e v kind through a h = absurd (second_is_not_half (vmid_matches vmid v.tags) h)
 half_by Stage2 S2 Ipa s vmid e v kind through a h =
     let fit : (fits_place s v && vmid_matches vmid v.tags) ≡ true = half_where (fits_place s v && vmid_matches vmid v.tags) h in
-    both (is_number vmid e.vmid) (fits_entry s e)
-    (vmid_of_tag vmid v.tags e.vmid a.tag (both_right (fits_place s v) (vmid_matches vmid v.tags) fit))
-    (a.fits (both_left (fits_place s v) (vmid_matches vmid v.tags) fit))
+    and_from (is_number vmid e.vmid) (fits_entry s e)
+    (vmid_of_tag vmid v.tags e.vmid a.tag (and_parts (fits_place s v) (vmid_matches vmid v.tags) fit).1)
+    (a.fits (and_parts (fits_place s v) (vmid_matches vmid v.tags) fit).0)
 half_by _ _ _ s vmid e v kind through a h = cc
 
 second_by : (ek : EntryKind) (vk : Kind) (f : Family) (s : Scope) (vmid : Option ℕ) (e : EntryHead) (v : PlaceView) → ek ≡ Combined → read_through ek vk ≡ true → Fits vk s e v
-    → cover_by vk f s vmid v ≡ Second → taken_by ek f s vmid e ≡ true
+    → cover_by vk f (fits_place s v) s vmid v ≡ Second → taken_by ek f (fits_entry s e) s vmid e ≡ true
 second_by Combined S2 E1All s vmid e v kind through a h = refl
 second_by Combined S2 VmAll12 s vmid e v kind through a h = absurd (full_is_not_second (vmid_matches vmid v.tags) h)
 second_by Combined S2 VmAll1 s vmid e v kind through a h = vmid_of_tag vmid v.tags e.vmid a.tag (second_where (vmid_matches vmid v.tags) h)
@@ -235,33 +212,48 @@ fits_from_agrees s e v a = record {
   tag = a.tag;
   fits = fits_through s e v a;
   lower = a.lower;
-  upper = λ kind leaf global. both e.last e.global (ends_in_leaf v.table v.childless e v a.ending leaf) (a.upper kind leaf global);
+  upper = λ kind leaf global. and_from e.last e.global (ends_in_leaf v.table v.childless e v a.ending leaf) (a.upper kind leaf global);
 }
 
 pub full_takes : (s : Scope) (vmid : Option ℕ) (e : EntryHead) (v : PlaceView) → Agrees e v → cover_of s vmid v ≡ Full → taken s vmid e ≡ true
-full_takes s vmid e v a h = full_by e.kind v.kind s vmid e v a.kind (fits_from_agrees s e v a) h
+full_takes s vmid e v a h =
+    let known : (not (lacks_vmid s.vmid_scoped vmid) ≡ true) × (cover_by v.kind s.family (fits_place s v) s vmid v ≡ Full)
+    = cover_has_vmid (lacks_vmid s.vmid_scoped vmid) (cover_by v.kind s.family (fits_place s v) s vmid v) Full (λ e. cc) h in
+    and_from (not (lacks_vmid s.vmid_scoped vmid)) (taken_by e.kind s.family (fits_entry s e) s vmid e) known.0
+    (full_by e.kind v.kind s vmid e v a.kind (fits_from_agrees s e v a) known.1)
 
 pub half_takes : (s : Scope) (vmid : Option ℕ) (e : EntryHead) (v : PlaceView) → Agrees e v → e.kind ≡ Stage2 → cover_of s vmid v ≡ Half → taken s vmid e ≡ true
-half_takes s vmid e v a kind h = half_by e.kind v.kind s.family s vmid e v kind a.kind (fits_from_agrees s e v a) h
+half_takes s vmid e v a kind h =
+    let known : (not (lacks_vmid s.vmid_scoped vmid) ≡ true) × (cover_by v.kind s.family (fits_place s v) s vmid v ≡ Half)
+    = cover_has_vmid (lacks_vmid s.vmid_scoped vmid) (cover_by v.kind s.family (fits_place s v) s vmid v) Half (λ e. cc) h in
+    and_from (not (lacks_vmid s.vmid_scoped vmid)) (taken_by e.kind s.family (fits_entry s e) s vmid e) known.0
+    (half_by e.kind v.kind s.family s vmid e v kind a.kind (fits_from_agrees s e v a) known.1)
 
 pub second_takes : (s : Scope) (vmid : Option ℕ) (e : EntryHead) (v : PlaceView) → Agrees e v → e.kind ≡ Combined → cover_of s vmid v ≡ Second → taken s vmid e ≡ true
-second_takes s vmid e v a kind h = second_by e.kind v.kind s.family s vmid e v kind a.kind (fits_from_agrees s e v a) h
+second_takes s vmid e v a kind h =
+    let known : (not (lacks_vmid s.vmid_scoped vmid) ≡ true) × (cover_by v.kind s.family (fits_place s v) s vmid v ≡ Second)
+    = cover_has_vmid (lacks_vmid s.vmid_scoped vmid) (cover_by v.kind s.family (fits_place s v) s vmid v) Second (λ e. cc) h in
+    and_from (not (lacks_vmid s.vmid_scoped vmid)) (taken_by e.kind s.family (fits_entry s e) s vmid e) known.0
+    (second_by e.kind v.kind s.family s vmid e v kind a.kind (fits_from_agrees s e v a) known.1)
 
 -- a whole-tag TLBI takes the entries of the tag
 whole_by : (ek : EntryKind) (vk : Kind) (f : Family) (s : Scope) (vmid : Option ℕ) (e : EntryHead) → read_through ek vk ≡ true
-    → (vk ≡ Ttbr0 → is_global_leaf e ≡ false) → whole_tag_by (tag_of vk e) f s vmid ≡ true → taken_by ek f s vmid e ≡ true
+    → (vk ≡ Ttbr0 → is_global_leaf e ≡ false) → whole_tag_by (tag_of vk e) f s vmid ≡ true → taken_by ek f (fits_entry s e) s vmid e ≡ true
 whole_by El2Entry El2 El2All s vmid e through lower h = refl
 whole_by Stage2 S2 E1All s vmid e through lower h = refl
 whole_by Stage2 S2 VmAll12 s vmid e through lower h = h
 whole_by Combined S2 E1All s vmid e through lower h = refl
 whole_by Combined S2 VmAll12 s vmid e through lower h = h
 whole_by El1 Ttbr0 VmAll1 s vmid e through lower h = refl
-whole_by El1 Ttbr0 Asid s vmid e through lower h = both (is_number s.asid e.asid) (not (is_global_leaf e)) h (not_false (is_global_leaf e) (lower refl))
+whole_by El1 Ttbr0 Asid s vmid e through lower h = and_from (is_number s.asid e.asid) (not (is_global_leaf e)) h (not_from_false (is_global_leaf e) (lower refl))
 whole_by El1 Ttbr1 VmAll1 s vmid e through lower h = refl
 whole_by _ _ _ s vmid e through lower h = cc
 
 pub whole_takes : (s : Scope) (vmid : Option ℕ) (e : EntryHead) (kind : Kind) → read_through e.kind kind ≡ true → (kind ≡ Ttbr0 → is_global_leaf e ≡ false)
     → takes_whole_tag s vmid (tag_of kind e) ≡ true → taken s vmid e ≡ true
-whole_takes s vmid e kind through lower h = whole_by e.kind kind s.family s vmid e through lower h
+whole_takes s vmid e kind through lower h =
+    and_from (not (lacks_vmid s.vmid_scoped vmid)) (taken_by e.kind s.family (fits_entry s e) s vmid e)
+    (and_parts (not (lacks_vmid s.vmid_scoped vmid)) (whole_tag_by (tag_of kind e) s.family s vmid) h).0
+    (whole_by e.kind kind s.family s vmid e through lower (and_parts (not (lacks_vmid s.vmid_scoped vmid)) (whole_tag_by (tag_of kind e) s.family s vmid) h).1)
 
 pub ruleset laws = (full_takes, half_takes, second_takes, whole_takes)

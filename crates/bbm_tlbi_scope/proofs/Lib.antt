@@ -1,2 +1,2 @@
 pub mod Agreeing
-pub mod Decoded
+pub mod Ranging

@@ -11,7 +11,7 @@ use Rattle.bbm_tlbi_scope.specs.declared.entry.TagSet.{TagSet}
 use Rattle.bbm_tlbi_scope.specs.declared.entry.TagSet.TheVariants.{None as NoTag, One}
 use Rattle.bbm_tlbi_scope.specs.declared.entry.Cover.{Cover}
 use Rattle.bbm_tlbi_scope.specs.declared.entry.Cover.TheVariants.{None as NoCover, Half, Second, Full}
-use Rattle.bbm_tlbi_scope.specs.Numbers.{is_number, hint_allows, names_some, names_all}
+use Rattle.bbm_tlbi_scope.specs.Numbers.{is_number, lacks_vmid, hint_allows, names_some, names_all}
 
 -- whether a scope fits a held leaf
 abbrev pub fits_leaf : Scope → PlaceView → Bool
@@ -48,23 +48,24 @@ where_fits cover fits = if fits then cover else NoCover
 -- steps: a TLBI for an intermediate physical address takes no entry that combines the stages, and one for
 -- all stage 1 entries of the VMID takes those.
 -- Source: Arm ARM (DDI 0487), "TLB maintenance instructions", the entries to which each operation applies;
--- the grades of cover are the project's own choice.
-abbrev pub cover_by : Kind → Family → Scope → Option ℕ → PlaceView → Cover
-cover_by El2 El2All s vmid v = Full
-cover_by El2 El2Va s vmid v = where_fits Full (fits_place s v)
-cover_by S2 E1All s vmid v = Full
-cover_by S2 VmAll12 s vmid v = where_fits Full (vmid_matches vmid v.tags)
-cover_by S2 Ipa s vmid v = where_fits Half (fits_place s v && vmid_matches vmid v.tags)
-cover_by S2 VmAll1 s vmid v = where_fits Second (vmid_matches vmid v.tags)
-cover_by Ttbr0 VmAll1 s vmid v = Full
-cover_by Ttbr0 VaAll s vmid v = where_fits Full (fits_place s v)
-cover_by Ttbr0 Va s vmid v = where_fits Full (fits_place s v && asid_matches s.asid v.tags)
-cover_by Ttbr0 Asid s vmid v = where_fits Full (asid_matches s.asid v.tags)
-cover_by Ttbr1 VmAll1 s vmid v = Full
-cover_by Ttbr1 VaAll s vmid v = where_fits Full (fits_place s v)
-cover_by Ttbr1 Va s vmid v = where_fits Full (fits_place s v && (not v.table && v.global))
-cover_by _ _ s vmid v = NoCover
+-- the grades of cover are the project's own choice. Here `fits` tells whether the address of the scope fits.
+abbrev pub cover_by : Kind → Family → Bool → Scope → Option ℕ → PlaceView → Cover
+cover_by El2 El2All fits s vmid v = Full
+cover_by El2 El2Va fits s vmid v = where_fits Full fits
+cover_by S2 E1All fits s vmid v = Full
+cover_by S2 VmAll12 fits s vmid v = where_fits Full (vmid_matches vmid v.tags)
+cover_by S2 Ipa fits s vmid v = where_fits Half (fits && vmid_matches vmid v.tags)
+cover_by S2 VmAll1 fits s vmid v = where_fits Second (vmid_matches vmid v.tags)
+cover_by Ttbr0 VmAll1 fits s vmid v = Full
+cover_by Ttbr0 VaAll fits s vmid v = where_fits Full fits
+cover_by Ttbr0 Va fits s vmid v = where_fits Full (fits && asid_matches s.asid v.tags)
+cover_by Ttbr0 Asid fits s vmid v = where_fits Full (asid_matches s.asid v.tags)
+cover_by Ttbr1 VmAll1 fits s vmid v = Full
+cover_by Ttbr1 VaAll fits s vmid v = where_fits Full fits
+cover_by Ttbr1 Va fits s vmid v = where_fits Full (fits && (not v.table && v.global))
+cover_by _ _ fits s vmid v = NoCover
 
--- how far a TLBI of this scope, under this VMID, covers the place
+-- How far a TLBI of this scope, under this VMID, covers the place. Where it is for one VMID alone and none is
+-- defined, it covers nothing: which entries it takes isn't known. Source: project's own choice.
 abbrev pub cover_of : Scope → Option ℕ → PlaceView → Cover
-cover_of s vmid v = cover_by v.kind s.family s vmid v
+cover_of s vmid v = if lacks_vmid s.vmid_scoped vmid then NoCover else cover_by v.kind s.family (fits_place s v) s vmid v

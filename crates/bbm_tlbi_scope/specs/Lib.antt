@@ -6,3 +6,4 @@ pub mod Takes
 pub mod Covers
 pub mod Tags
 pub mod Agreement
+pub mod Ranges

@@ -7,6 +7,11 @@ abbrev pub is_number : Option ℕ → ℕ → Bool
 is_number None n = false
 is_number (Some m) n = m == n
 
+-- whether a TLBI for one VMID alone is issued where no VMID is defined
+abbrev pub lacks_vmid : Bool → Option ℕ → Bool
+lacks_vmid vmid_scoped None = vmid_scoped
+lacks_vmid vmid_scoped (Some vmid) = false
+
 -- whether the level hint is none or this level
 abbrev pub hint_allows : Option ℕ → ℕ → Bool
 hint_allows None level = true

@@ -1,10 +1,7 @@
--- The fields of the operand of a TLBI: the value of its register Xt.
+-- The fields of the operand of a TLBI for one page or an ASID: the value of its register Xt.
 -- Source: Arm ARM (DDI 0487), "TLB maintenance instructions", the argument of each operation.
-use Rattle.std.specs.Prelude.{ℕ, Option, Some, None, ◌+◌, ◌-◌, ◌/◌, ◌%◌, ◌^◌, ◌==◌, if◌then◌else◌}
-
--- the number in the bits from high down to low
-abbrev pub bits : ℕ → ℕ → ℕ → ℕ
-bits high low x = x / 2 ^ low % 2 ^ (high + 1 - low)
+use Rattle.std.specs.Prelude.{ℕ, Option, Some, None, ◌==◌, if◌then◌else◌}
+use Rattle.bbm_range.specs.Operand.{bits}
 
 -- the ASID
 abbrev pub asid_field : ℕ → ℕ
@@ -30,7 +27,11 @@ ipa_page xt = bits 35 0 xt
 abbrev pub top_bits : ℕ → ℕ
 top_bits xt = bits 43 36 xt
 
+-- the level hint of a level, of which 0 is none
+abbrev pub hint_of : ℕ → Option ℕ
+hint_of level = if level == 0 then None else Some level
+
 -- the level hint: TTL[3:2] = 01 is the 4 KiB granule, whose level 0 is read as no hint; the latter is the
 -- project's own choice
 abbrev pub level_hint : ℕ → Option ℕ
-level_hint xt = if ttl_granule xt == 1 then (if ttl_level xt == 0 then None else Some (ttl_level xt)) else None
+level_hint xt = if ttl_granule xt == 1 then hint_of (ttl_level xt) else None

@@ -1,11 +1,11 @@
 -- The TLBI operations: the family of each, whether it takes last-level entries alone, whether it is
--- broadcast, and the worlds that have it.
+-- broadcast, whether its operand gives a range of pages, and the worlds that have it.
 -- Source: Arm ARM (DDI 0487), "TLB maintenance instructions".
 use Rattle.std.specs.Prelude.{Bool, true, false, ◌||◌}
 use Rattle.bbm_regimes.specs.declared.regime.World.{World}
 use Rattle.bbm_regimes.specs.declared.regime.World.TheVariants.{Hyp, Kernel}
 use Rattle.bbm_tlbi_scope.specs.declared.op.TlbiOp.{TlbiOp}
-use Rattle.bbm_tlbi_scope.specs.declared.op.TlbiOp.TheVariants.{Alle2, Alle2is, Vae2, Vae2is, Vale2, Vale2is, Alle1, Alle1is, Vmalle1, Vmalle1is, Vmalls12e1, Vmalls12e1is, Ipas2e1, Ipas2e1is, Ipas2le1, Ipas2le1is, Vae1, Vae1is, Vale1, Vale1is, Vaae1, Vaae1is, Vaale1, Vaale1is, Aside1, Aside1is}
+use Rattle.bbm_tlbi_scope.specs.declared.op.TlbiOp.TheVariants.{Alle2, Alle2is, Vae2, Vae2is, Vale2, Vale2is, Alle1, Alle1is, Vmalle1, Vmalle1is, Vmalls12e1, Vmalls12e1is, Ipas2e1, Ipas2e1is, Ipas2le1, Ipas2le1is, Vae1, Vae1is, Vale1, Vale1is, Vaae1, Vaae1is, Vaale1, Vaale1is, Aside1, Aside1is, Rvae2, Rvae2is, Rvale2, Rvale2is, Ripas2e1, Ripas2e1is, Ripas2le1, Ripas2le1is, Rvae1, Rvae1is, Rvale1, Rvale1is, Rvaae1, Rvaae1is, Rvaale1, Rvaale1is}
 use Rattle.bbm_tlbi_scope.specs.declared.scope.Family.{Family}
 use Rattle.bbm_tlbi_scope.specs.declared.scope.Family.TheVariants.{El2All, El2Va, E1All, VmAll1, VmAll12, Ipa, Va, VaAll, Asid}
 
@@ -14,10 +14,16 @@ pub record Operation : Type 0 where
   pub family : Family
   pub last_only : Bool
   pub broadcast : Bool
+  -- whether the operand gives a range of pages, and not one page
+  pub range : Bool
 
 -- a row of the table: the family, whether it takes last-level entries alone, and whether it is broadcast
 abbrev pub row : Family → Bool → Bool → Operation
-row f last is = record { family = f; last_only = last; broadcast = is }
+row f last is = record { family = f; last_only = last; broadcast = is; range = false }
+
+-- such a row of an operation for a range of pages
+abbrev pub range_row : Family → Bool → Bool → Operation
+range_row f last is = record (row f last is) { range = true }
 
 -- the table of the operations
 abbrev pub operation : TlbiOp → Operation
@@ -47,6 +53,22 @@ operation Vaale1 = row VaAll true false
 operation Vaale1is = row VaAll true true
 operation Aside1 = row Asid false false
 operation Aside1is = row Asid false true
+operation Rvae2 = range_row El2Va false false
+operation Rvae2is = range_row El2Va false true
+operation Rvale2 = range_row El2Va true false
+operation Rvale2is = range_row El2Va true true
+operation Ripas2e1 = range_row Ipa false false
+operation Ripas2e1is = range_row Ipa false true
+operation Ripas2le1 = range_row Ipa true false
+operation Ripas2le1is = range_row Ipa true true
+operation Rvae1 = range_row Va false false
+operation Rvae1is = range_row Va false true
+operation Rvale1 = range_row Va true false
+operation Rvale1is = range_row Va true true
+operation Rvaae1 = range_row VaAll false false
+operation Rvaae1is = range_row VaAll false true
+operation Rvaale1 = range_row VaAll true false
+operation Rvaale1is = range_row VaAll true true
 
 abbrev pub family_of : TlbiOp → Family
 family_of op = (operation op).family

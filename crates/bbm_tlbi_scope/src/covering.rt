@@ -1,11 +1,10 @@
 //! Which places a TLBI covers, and how far.
 
-ghost use Rattle.std.specs.Prelude.{◌≡◌, IsTrue, IsSome};
-ghost use Rattle.bbm_tlbi_scope.specs.Decode.{needs_vmid};
+ghost use Rattle.std.specs.Prelude.{◌≡◌};
 ghost use Rattle.bbm_tlbi_scope.specs.Covers as covering;
 
 use crate::entry::{Cover, PlaceView, TagSet};
-use crate::scope::{Family, Scope, is_number};
+use crate::scope::{Family, Scope, is_number, lacks_vmid};
 use bbm_regimes::{Kind, Tag};
 
 /// Whether the address of the scope fits the place.
@@ -52,13 +51,16 @@ fn where_fits(cover: Cover, fits: bool) -> Cover
     if fits { cover } else { Cover::None }
 }
 
-/// How far a TLBI of this scope, under this VMID, covers the place. Source: Arm ARM (DDI 0487), "TLB
-/// maintenance instructions"; that a table with children is covered by address only where the scope names
-/// its whole region is the project's own choice.
+/// How far a TLBI of this scope, under this VMID, covers the place; `None` where the TLBI is for one VMID
+/// alone and there is none. Source: Arm ARM (DDI 0487), "TLB maintenance instructions"; that a table with
+/// children is covered by address only where the scope names its whole region, and that a TLBI without its
+/// VMID covers nothing, is the project's own choice.
 pub fn cover(scope: Scope, vmid: Option<u16>, view: PlaceView) -> Cover
-    requires { IsTrue (needs_vmid scope) → IsSome vmid }
     ensures { result ≡ covering.cover_of scope vmid view }
 {
+    if lacks_vmid(scope.vmid_scoped, vmid) {
+        return Cover::None;
+    }
     let fits = fits_place(scope, view);
     match view.kind {
         Kind::El2 => match scope.family {

@@ -13,7 +13,7 @@ pub mod taking;
 pub use covering::cover;
 pub use decoding::decode;
 pub use entry::{Cover, EntryHead, EntryKind, PlaceView, TagSet};
-pub use laws::{law_cover_takes, law_whole_tag_takes};
+pub use laws::{law_cover_takes, law_range, law_whole_tag_takes};
 pub use op::TlbiOp;
 pub use scope::{BadOperand, Family, Scope};
 pub use taking::{takes, whole_tag};

@@ -62,6 +62,38 @@ pub enum TlbiOp {
     Aside1,
     /// ASIDE1IS.
     Aside1is,
+    /// RVAE2: as VAE2, for a range of addresses.
+    Rvae2,
+    /// RVAE2IS.
+    Rvae2is,
+    /// RVALE2: as VALE2, for a range of addresses.
+    Rvale2,
+    /// RVALE2IS.
+    Rvale2is,
+    /// RIPAS2E1: as IPAS2E1, for a range of intermediate physical addresses.
+    Ripas2e1,
+    /// RIPAS2E1IS.
+    Ripas2e1is,
+    /// RIPAS2LE1: as IPAS2LE1, for a range of intermediate physical addresses.
+    Ripas2le1,
+    /// RIPAS2LE1IS.
+    Ripas2le1is,
+    /// RVAE1: as VAE1, for a range of addresses.
+    Rvae1,
+    /// RVAE1IS.
+    Rvae1is,
+    /// RVALE1: as VALE1, for a range of addresses.
+    Rvale1,
+    /// RVALE1IS.
+    Rvale1is,
+    /// RVAAE1: as VAAE1, for a range of addresses.
+    Rvaae1,
+    /// RVAAE1IS.
+    Rvaae1is,
+    /// RVAALE1: as VAALE1, for a range of addresses.
+    Rvaale1,
+    /// RVAALE1IS.
+    Rvaale1is,
 }
 
 impl TlbiOp {
@@ -72,14 +104,22 @@ impl TlbiOp {
         match self {
             TlbiOp::Alle2 | TlbiOp::Alle2is => Family::El2All,
             TlbiOp::Vae2 | TlbiOp::Vae2is | TlbiOp::Vale2 | TlbiOp::Vale2is => Family::El2Va,
+            TlbiOp::Rvae2 | TlbiOp::Rvae2is | TlbiOp::Rvale2 | TlbiOp::Rvale2is => Family::El2Va,
             TlbiOp::Alle1 | TlbiOp::Alle1is => Family::E1All,
             TlbiOp::Vmalle1 | TlbiOp::Vmalle1is => Family::VmAll1,
             TlbiOp::Vmalls12e1 | TlbiOp::Vmalls12e1is => Family::VmAll12,
             TlbiOp::Ipas2e1 | TlbiOp::Ipas2e1is | TlbiOp::Ipas2le1 | TlbiOp::Ipas2le1is => {
                 Family::Ipa
             }
+            TlbiOp::Ripas2e1 | TlbiOp::Ripas2e1is | TlbiOp::Ripas2le1 | TlbiOp::Ripas2le1is => {
+                Family::Ipa
+            }
             TlbiOp::Vae1 | TlbiOp::Vae1is | TlbiOp::Vale1 | TlbiOp::Vale1is => Family::Va,
+            TlbiOp::Rvae1 | TlbiOp::Rvae1is | TlbiOp::Rvale1 | TlbiOp::Rvale1is => Family::Va,
             TlbiOp::Vaae1 | TlbiOp::Vaae1is | TlbiOp::Vaale1 | TlbiOp::Vaale1is => Family::VaAll,
+            TlbiOp::Rvaae1 | TlbiOp::Rvaae1is | TlbiOp::Rvaale1 | TlbiOp::Rvaale1is => {
+                Family::VaAll
+            }
             TlbiOp::Aside1 | TlbiOp::Aside1is => Family::Asid,
         }
     }
@@ -99,6 +139,14 @@ impl TlbiOp {
                 | TlbiOp::Vale1is
                 | TlbiOp::Vaale1
                 | TlbiOp::Vaale1is
+                | TlbiOp::Rvale2
+                | TlbiOp::Rvale2is
+                | TlbiOp::Ripas2le1
+                | TlbiOp::Ripas2le1is
+                | TlbiOp::Rvale1
+                | TlbiOp::Rvale1is
+                | TlbiOp::Rvaale1
+                | TlbiOp::Rvaale1is
         )
     }
 
@@ -123,6 +171,40 @@ impl TlbiOp {
                 | TlbiOp::Vaae1is
                 | TlbiOp::Vaale1is
                 | TlbiOp::Aside1is
+                | TlbiOp::Rvae2is
+                | TlbiOp::Rvale2is
+                | TlbiOp::Ripas2e1is
+                | TlbiOp::Ripas2le1is
+                | TlbiOp::Rvae1is
+                | TlbiOp::Rvale1is
+                | TlbiOp::Rvaae1is
+                | TlbiOp::Rvaale1is
+        )
+    }
+
+    /// Whether the operand gives a range of pages, and not one page. Source: Arm ARM (DDI 0487), "TLB
+    /// maintenance instructions".
+    pub fn is_range(self) -> bool
+        ensures { result ≡ (words.operation self).range }
+    {
+        matches!(
+            self,
+            TlbiOp::Rvae2
+                | TlbiOp::Rvae2is
+                | TlbiOp::Rvale2
+                | TlbiOp::Rvale2is
+                | TlbiOp::Ripas2e1
+                | TlbiOp::Ripas2e1is
+                | TlbiOp::Ripas2le1
+                | TlbiOp::Ripas2le1is
+                | TlbiOp::Rvae1
+                | TlbiOp::Rvae1is
+                | TlbiOp::Rvale1
+                | TlbiOp::Rvale1is
+                | TlbiOp::Rvaae1
+                | TlbiOp::Rvaae1is
+                | TlbiOp::Rvaale1
+                | TlbiOp::Rvaale1is
         )
     }
 

@@ -1,4 +1,4 @@
-//! The fields of the operand of a TLBI, each in one place.
+//! The fields of the operand of a TLBI for one page or an ASID, each in one place.
 
 ghost use Rattle.std.specs.Prelude.{◌≡◌, ◌^◌, ◌<◌};
 ghost use Rattle.bbm_tlbi_scope.specs.Operand as fields;
@@ -50,13 +50,20 @@ pub fn top_bits(xt: u64) -> u8
     ((xt >> 36) % 256) as u8
 }
 
+/// The level hint of a level, 0 to 3, of which 0 is none. Source: project's own choice.
+pub fn hint_of(level: u8) -> Option<u8>
+    ensures { result ≡ fields.hint_of level }
+{
+    if level == 0 { None } else { Some(level) }
+}
+
 /// The level hint, 1 to 3; None where the operand gives none, or gives level 0. Source: Arm ARM (DDI
 /// 0487), "TLB maintenance instructions"; that level 0 is no hint is the project's own choice.
 pub fn level_hint(xt: u64) -> Option<u8>
     ensures { result ≡ fields.level_hint xt }
 {
-    if ttl_granule(xt) == 1 && ttl_level(xt) != 0 {
-        Some(ttl_level(xt))
+    if ttl_granule(xt) == 1 {
+        hint_of(ttl_level(xt))
     } else {
         None
     }

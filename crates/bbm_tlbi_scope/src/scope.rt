@@ -107,6 +107,10 @@ pub enum BadOperand {
     NonCanonical = 1,
     /// The level hint is for a granule of 16 or 64 KiB.
     TtlGranule = 2,
+    /// The granule of a range is another than 4 KiB.
+    RangeGranule = 3,
+    /// The first page of a range doesn't fit its level hint.
+    RangeUnaligned = 4,
 }
 
 impl Scope {
@@ -139,6 +143,13 @@ impl Scope {
             None => true,
         }
     }
+}
+
+/// Whether a TLBI for one VMID alone has none. Source: project's own choice.
+pub fn lacks_vmid(vmid_scoped: bool, vmid: Option<u16>) -> bool
+    ensures { result ≡ numbers.lacks_vmid vmid_scoped vmid }
+{
+    vmid_scoped && vmid.is_none()
 }
 
 /// Whether the VMID or ASID is there and is this number, 0 to 65535. Source: project's own choice.

@@ -1,12 +1,11 @@
 //! Which TLB entries a TLBI takes.
 
-ghost use Rattle.std.specs.Prelude.{◌≡◌, IsTrue, IsSome};
-ghost use Rattle.bbm_tlbi_scope.specs.Decode.{needs_vmid};
+ghost use Rattle.std.specs.Prelude.{◌≡◌};
 ghost use Rattle.bbm_tlbi_scope.specs.Takes as taking;
 ghost use Rattle.bbm_tlbi_scope.specs.Tags.{takes_whole_tag};
 
 use crate::entry::{EntryHead, EntryKind};
-use crate::scope::{Family, Scope, is_number};
+use crate::scope::{Family, Scope, is_number, lacks_vmid};
 use bbm_regimes::Tag;
 
 /// Whether the address of the scope fits the entry.
@@ -21,13 +20,16 @@ fn fits_entry(scope: Scope, head: EntryHead) -> bool
         }
 }
 
-/// Whether a TLBI of this scope, under this VMID, takes the entry. Source: Arm ARM (DDI 0487), "TLB
-/// maintenance instructions"; that a TLBI with a level hint takes no entry that ends in a table is the
+/// Whether a TLBI of this scope, under this VMID, takes the entry; false where the TLBI is for one VMID
+/// alone and there is none. Source: Arm ARM (DDI 0487), "TLB maintenance instructions"; that a TLBI with a
+/// level hint takes no entry that ends in a table, and that one without its VMID takes nothing, is the
 /// project's own choice.
 pub fn takes(scope: Scope, vmid: Option<u16>, head: EntryHead) -> bool
-    requires { IsTrue (needs_vmid scope) → IsSome vmid }
     ensures { result ≡ taking.taken scope vmid head }
 {
+    if lacks_vmid(scope.vmid_scoped, vmid) {
+        return false;
+    }
     match head.kind {
         EntryKind::El2 => match scope.family {
             Family::El2All => true,
@@ -58,12 +60,15 @@ pub fn takes(scope: Scope, vmid: Option<u16>, head: EntryHead) -> bool
     }
 }
 
-/// Whether a TLBI of this scope, under this VMID, takes everything that a TLB keeps under the tag.
-/// Source: Arm ARM (DDI 0487), "TLB maintenance instructions".
+/// Whether a TLBI of this scope, under this VMID, takes everything that a TLB keeps under the tag; false
+/// where the TLBI is for one VMID alone and there is none. Source: Arm ARM (DDI 0487), "TLB maintenance
+/// instructions"; that a TLBI without its VMID takes nothing is the project's own choice.
 pub fn whole_tag(scope: Scope, vmid: Option<u16>, tag: Tag) -> bool
-    requires { IsTrue (needs_vmid scope) → IsSome vmid }
     ensures { result ≡ takes_whole_tag scope vmid tag }
 {
+    if lacks_vmid(scope.vmid_scoped, vmid) {
+        return false;
+    }
     match (tag, scope.family) {
         (Tag::El2, Family::El2All) => true,
         (Tag::Vmid(_), Family::E1All) => true,

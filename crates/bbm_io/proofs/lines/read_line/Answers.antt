@@ -10,5 +10,5 @@ loop-taken-preserved g c = record {
   within = omega arith;
   short = search rules;
   plain = rw c.push.ensures.items (plain-append c.loop-taken.line.items c.in-Byte.byte c.loop-taken.invariant.plain c.if-byte-eq10.false);
-  never_falls = search rules;
+  sound = search rules;
 }

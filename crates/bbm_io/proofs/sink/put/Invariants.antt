@@ -4,7 +4,7 @@ use Rattle.bbm_io.proofs.sink.put.Given as goal
 
 abbrev pub invariant-loop-done : goal.invariant-loop-done
 invariant-loop-done g l =
-    record { within : l.done ≤ length l.piece; wrote : g.K.Sink.held l.out ≡ extended (g.K.Sink.held l.initial.out) (take l.done l.piece); never_falls : g.K.Sink.faults l.initial.out ≤ g.K.Sink.faults l.out }
+    record { within : l.done ≤ length l.piece; wrote : g.K.Sink.held l.out ≡ extended (g.K.Sink.held l.initial.out) (take l.done l.piece); sound : g.K.Sink.faults l.out ≡ g.K.Sink.faults l.initial.out }
 
 abbrev pub decreases-loop-done : goal.decreases-loop-done
 decreases-loop-done g l = length l.piece - l.done

@@ -1,5 +1,5 @@
 use Rattle.std.proofs.Common.{◌≡◌, ◌≤◌, ◌+◌, ◌-◌, [], length}
-use Rattle.bbm_rules.specs.Outcome.{check_limits, AtEvents}
+use Rattle.bbm_rules.specs.Outcome.{first_path, check_limits, AtEvents}
 use Rattle.bbm_session.specs.Stages.{Shrinks, Continues, Ready}
 use Rattle.bbm_session.proofs.judging.event_lines.Given as goal
 
@@ -9,9 +9,9 @@ invariant-lines g l = record {
   number : l.number ≡ length l.oracle.history + 2;
   events : length l.oracle.history ≤ 2000;
   ready : Ready l.lines l.number;
-  continues : Continues check_limits 2 (AtEvents l.header []) (g.S.Source.left l.initial.log) l.number (AtEvents l.oracle.heading l.oracle.history) (g.S.Source.left l.log);
+  continues : Continues first_path check_limits 2 (AtEvents l.header []) (g.S.Source.left l.initial.log) l.number (AtEvents l.oracle.heading l.oracle.history) (g.S.Source.left l.log);
   shrinks : Shrinks (g.S.Source.left l.initial.log) (g.S.Source.left l.log);
-  faults : g.S.Source.faults l.initial.log ≤ g.S.Source.faults l.log;
+  sound : g.S.Source.faults l.log ≡ g.S.Source.faults l.initial.log;
 }
 
 abbrev pub decreases-lines : goal.decreases-lines

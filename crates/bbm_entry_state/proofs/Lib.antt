@@ -1,0 +1,5 @@
+pub mod Every
+pub mod Searches
+pub mod Completing
+pub mod Taking
+pub mod Shown

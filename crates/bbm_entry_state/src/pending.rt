@@ -1,0 +1,105 @@
+//! What waits for the answers of TLBIs.
+
+ghost use Rattle.std.specs.Prelude.{◌≡◌, ℕ, Bool, false, ◌&&◌, ◌||◌, not, if◌then◌else◌};
+ghost use Rattle.bbm_regimes.specs.PeMask.{pe_in};
+ghost use Rattle.bbm_descriptor.specs.Descriptor.{same_bool};
+ghost use Rattle.bbm_barriers.specs.Options.{answers};
+ghost use Rattle.bbm_tlbi_scope.specs.declared.entry.Cover.{Cover};
+ghost use Rattle.bbm_entry_state.specs.Points.{waits, waits_in};
+ghost use Rattle.bbm_entry_state.specs.Answered.{answered_at};
+
+use bbm_barriers::{Dsb, completes_broadcast, completes_local};
+use bbm_regimes::PeMask;
+
+/// The PEs that wait for the answer of a TLBI, by how far it covers the place. Source: project's own choice.
+#[derive(Clone, Copy, Debug)]
+pub struct Pend {
+    /// Those for which it is the first of two steps.
+    pub half: PeMask,
+    /// Those for which it is the second of two steps.
+    pub second: PeMask,
+    /// Those for which it takes every entry of the place.
+    pub full: PeMask,
+}
+
+/// What waits for the answers of one issuer's TLBIs. Source: project's own choice.
+#[derive(Clone, Copy, Debug)]
+pub struct Pends {
+    /// Of the TLBIs that are broadcast.
+    pub broadcast: Pend,
+    /// Of those that aren't.
+    pub local: Pend,
+}
+
+impl Pend {
+    /// No PE waits.
+    pub fn none() -> Pend
+        ensures { (c : Cover) (p : ℕ) → waits_in result c p ≡ false }
+    {
+        Pend {
+            half: PeMask::none(),
+            second: PeMask::none(),
+            full: PeMask::none(),
+        }
+    }
+
+    /// The PEs that wait in one of the two.
+    pub fn or(self, other: Pend) -> Pend
+        ensures { (c : Cover) (p : ℕ) → waits_in result c p ≡ (waits_in self c p || waits_in other c p) }
+    {
+        Pend {
+            half: self.half.or(other.half),
+            second: self.second.or(other.second),
+            full: self.full.or(other.full),
+        }
+    }
+
+    /// The PEs that wait, where the flag is true, and else none.
+    pub fn only_if(self, flag: bool) -> Pend
+        ensures { (c : Cover) (p : ℕ) → waits_in result c p ≡ (flag && waits_in self c p) }
+    {
+        if flag { self } else { Pend::none() }
+    }
+}
+
+impl Pends {
+    /// No PE waits.
+    pub fn none() -> Pends
+        ensures { (b : Bool) (c : Cover) (p : ℕ) → waits result b c p ≡ false }
+    {
+        Pends {
+            broadcast: Pend::none(),
+            local: Pend::none(),
+        }
+    }
+
+    /// These PEs wait too, for a TLBI that is broadcast or not.
+    pub fn with(self, broadcast: bool, more: Pend) -> Pends
+        ensures { (b : Bool) (c : Cover) (p : ℕ) →
+            waits result b c p ≡ ((same_bool broadcast b && waits_in more c p) || waits self b c p) }
+    {
+        Pends {
+            broadcast: more.only_if(broadcast).or(self.broadcast),
+            local: more.only_if(!broadcast).or(self.local),
+        }
+    }
+
+    /// The PEs whose answer this DSB of the issuer is.
+    pub fn answered(self, dsb: Dsb) -> Pend
+        ensures { (c : Cover) (p : ℕ) → waits_in result c p ≡ answered_at self dsb c p }
+    {
+        self.broadcast
+            .only_if(completes_broadcast(dsb))
+            .or(self.local.only_if(completes_local(dsb)))
+    }
+
+    /// The PEs that wait on after this DSB of the issuer.
+    pub fn left_by(self, dsb: Dsb) -> Pends
+        ensures { (b : Bool) (c : Cover) (p : ℕ) → waits result b c p ≡ (not (answers dsb b) && waits self b c p) }
+    {
+        Pends {
+            broadcast: self.broadcast.only_if(!completes_broadcast(dsb)),
+            local: self.local.only_if(!completes_local(dsb)),
+        }
+    }
+}

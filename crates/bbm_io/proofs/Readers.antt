@@ -1,0 +1,67 @@
+-- Bytes of a reader of std, behind those that were read ahead.
+use Rattle.std.proofs.Common.{◌≡◌, ℕ, List, [], ◌++◌, length, take, drop, slice_range, ◌+◌, ◌-◌, ◌≤◌, arith, Option, None, Some, refl, ap, sym, ◌∙◌, subst, append_assoc, append-nil}
+use Rattle.std.proofs.lemmas.List.{drop-take, drop-drop, length-take}
+use Rattle.std.proofs.Math.Seq.{take-add}
+use Rattle.std.specs.Io.KnownBytes.{Keeps, Appends, Consumes, IsAtEnd, prepend_known}
+
+-- what was taken after calls that took nothing
+pub keeps-consumes : (a b c : Option (List ℕ)) (bs : List ℕ) → Keeps a b → Consumes b c bs → Consumes a c bs
+keeps-consumes None b c bs kept taken = tt
+keeps-consumes (Some xs) None c bs kept taken = absurd kept
+keeps-consumes (Some xs) (Some ys) None bs kept taken = absurd taken
+keeps-consumes (Some xs) (Some ys) (Some zs) bs kept taken = sym kept ∙ taken
+
+pub keeps-appends : (a b c : Option (List ℕ)) (bs : List ℕ) → Keeps a b → Appends b c bs → Appends a c bs
+keeps-appends None b c bs kept added = tt
+keeps-appends (Some xs) None c bs kept added = absurd kept
+keeps-appends (Some xs) (Some ys) None bs kept added = absurd added
+keeps-appends (Some xs) (Some ys) (Some zs) bs kept added = added ∙ ap (λ held. held ++ bs) kept
+
+-- a piece of which nothing was taken
+pub appends-nothing : (a b : Option (List ℕ)) (n : ℕ) (piece : List ℕ) → n ≡ 0 → Appends a b (take n piece) → Keeps a b
+appends-nothing None b n piece none added = tt
+appends-nothing (Some xs) None n piece none added = absurd added
+appends-nothing (Some xs) (Some ys) n piece none added = added ∙ ap (λ m. xs ++ take m piece) none ∙ append-nil xs
+
+-- what stands in a buffer, where more was read behind the bytes at hand
+pub behind-hand : (buffer before hand : List ℕ) (count end : ℕ) → take count buffer ≡ take count before → slice_range before 0 count ≡ hand → count ≤ end → slice_range buffer 0 end ≡ hand ++ slice_range buffer count end
+behind-hand buffer before hand count end front is within =
+    let whole : end - 0 ≡ count + (end - count) = omega (arith, within) in
+    let zero : count - 0 ≡ count = omega arith in
+    ap (λ n. take n buffer) whole ∙ take-add count (end - count) buffer ∙ ap (λ x. x ++ slice_range buffer count end) (front ∙ ap (λ n. take n before) (sym zero) ∙ is)
+
+-- what is left of a range, where its first bytes were taken
+range-rest : (buffer : List ℕ) (at count end : ℕ) → count ≤ length (slice_range buffer at end) → slice_range buffer (at + count) end ≡ drop count (slice_range buffer at end)
+range-rest buffer at count end within =
+    let parts : end - at ≡ count + (end - (at + count)) = omega (arith, within, length-take (end - at) (drop at buffer)) in
+    sym (ap (λ n. drop count (take n (drop at buffer))) parts ∙ drop-take count (end - (at + count)) (drop at buffer)
+    ∙ ap (take (end - (at + count))) (drop-drop count at buffer))
+
+pub hand-rest : (hand buffer : List ℕ) (at count end : ℕ) → slice_range buffer at end ≡ hand → count ≤ length hand → slice_range buffer (at + count) end ≡ drop count hand
+hand-rest hand buffer at count end is within =
+    range-rest buffer at count end (subst (λ xs. count ≤ length xs) (sym is) within) ∙ ap (drop count) is
+
+-- further bytes were read ahead, and all that was unread stays so
+pub further-kept : (a b : Option (List ℕ)) (hand hand' further : List ℕ) → hand' ≡ hand ++ further → Consumes a b further → Keeps (prepend_known hand a) (prepend_known hand' b)
+further-kept None b hand hand' further is taken = tt
+further-kept (Some xs) None hand hand' further is taken = absurd taken
+further-kept (Some xs) (Some ys) hand hand' further is taken =
+    ap (λ hs. hs ++ ys) is ∙ append_assoc hand further ys ∙ ap (λ rest. hand ++ rest) (sym taken)
+
+-- nothing was read ahead
+pub same-kept : (a b : Option (List ℕ)) (hand hand' : List ℕ) → hand' ≡ hand → Keeps a b → Keeps (prepend_known hand a) (prepend_known hand' b)
+same-kept None b hand hand' is kept = tt
+same-kept (Some xs) None hand hand' is kept = absurd kept
+same-kept (Some xs) (Some ys) hand hand' is kept = ap (λ hs. hs ++ ys) is ∙ ap (λ rest. hand ++ rest) kept
+
+-- bytes at hand were taken
+pub hand-consumed : (a : Option (List ℕ)) (hand hand' taken : List ℕ) → hand ≡ taken ++ hand' → Consumes (prepend_known hand a) (prepend_known hand' a) taken
+hand-consumed None hand hand' taken is = tt
+hand-consumed (Some xs) hand hand' taken is = ap (λ hs. hs ++ xs) is ∙ append_assoc taken hand' xs
+
+-- nothing is at hand, and the reader is at its end
+pub hand-ended : (a : Option (List ℕ)) (hand : List ℕ) → hand ≡ [] → IsAtEnd a → IsAtEnd (prepend_known hand a)
+hand-ended None hand none end = tt
+hand-ended (Some xs) hand none end = rw (none, end) refl
+
+pub ruleset readers = (keeps-consumes, keeps-appends, appends-nothing)

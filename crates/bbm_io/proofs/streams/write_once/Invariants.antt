@@ -1,0 +1,6 @@
+-- calls that a signal interrupted added nothing
+use Rattle.std.specs.Io.KnownBytes.{Keeps}
+use Rattle.bbm_io.proofs.streams.write_once.Given as goal
+
+abbrev pub invariant-loop : goal.invariant-loop
+invariant-loop g l = Keeps (g.W.Write.contents l.initial.writer) (g.W.Write.contents l.writer)

@@ -1,0 +1,32 @@
+-- A label is one part more of a line.
+use Rattle.std.proofs.Common.{◌≡◌, ℕ, List, [], ◌∷◌, ◌++◌, length, ◌≤◌, Bool, true, ◌&&◌, nat_le, refl, ap, sym, ◌∙◌, Option, Some, None, arith}
+use Rattle.std.proofs.lemmas.Bool.{and_parts, leb-true}
+use Rattle.std.proofs.lemmas.List.{append_assoc, append-nil}
+use Rattle.std.specs.List.{list_all}
+use Rattle.bbm_events.specs.declared.event.Event.{Event}
+use Rattle.bbm_events.specs.Spelling.{joined}
+use Rattle.bbm_events.specs.Label.{is_label, is_label_byte}
+use Rattle.bbm_events.specs.Lines.{Fields, event_fields, label_fields}
+use Rattle.bbm_events.proofs.Written.{event_fields_some}
+
+joined_more : (piece : List ℕ) (pieces : Fields) (last : List ℕ) → joined (piece ∷ pieces) ++ 32 ∷ last ≡ joined ((piece ∷ pieces) ++ (last ∷ []))
+joined_more piece [] last = refl
+joined_more piece (next ∷ pieces) last =
+    append_assoc piece (32 ∷ joined (next ∷ pieces)) (32 ∷ last)
+    ∙ ap (λ (x : List ℕ). piece ++ 32 ∷ x) (joined_more next pieces last)
+
+pub no_label : (line : List ℕ) (event : Event) → line ≡ joined (event_fields event) → line ≡ joined (event_fields event ++ label_fields None)
+no_label line event e = e ∙ ap joined (sym (append-nil (event_fields event)))
+
+pub one_label : (line : List ℕ) (event : Event) (label : List ℕ) → line ≡ joined (event_fields event) → (line ++ 32 ∷ 64 ∷ []) ++ label ≡ joined (event_fields event ++ label_fields (Some label))
+one_label line event label e =
+    let some = event_fields_some event in
+    append_assoc line (32 ∷ 64 ∷ []) label
+    ∙ ap (λ (x : List ℕ). x ++ 32 ∷ 64 ∷ label) (e ∙ ap joined some.2)
+    ∙ joined_more some.0 some.1 (64 ∷ label)
+    ∙ ap (λ (fs : Fields). joined (fs ++ ((64 ∷ label) ∷ []))) (sym some.2)
+
+pub label_length : (label : List ℕ) → is_label label ≡ true → length label ≤ 32
+label_length label e = leb-true (length label) 32 (and_parts (nat_le 1 (length label)) (nat_le (length label) 32) (and_parts (nat_le 1 (length label) && nat_le (length label) 32) (list_all is_label_byte label) e).0).1
+
+pub ruleset parts = (no_label, one_label, label_length)

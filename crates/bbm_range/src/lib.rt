@@ -1,0 +1,203 @@
+//! The operand of a TLBI for a range of pages: which pages it names, and its level hint.
+#![tactic(auto)]
+
+ghost use Rattle.std.specs.Prelude.{◌≡◌, ℕ, ◌^◌, ◌<◌, ◌≤◌, ◌↔◌, IfOk};
+ghost use Rattle.bbm_range.specs.Operand as fields;
+ghost use Rattle.bbm_range.specs.Pages as range;
+
+/// The pages that the operand of a range TLBI names, and its level hint. A page number is an address
+/// without its 12 lowest bits. Source: project's own choice.
+#[derive(Clone, Copy, Debug, PartialEq, Eq)]
+pub struct Range {
+    /// The first page number, 0 to 2^44 - 1.
+    pub lo: u64,
+    /// The last page number, `lo` to 2^44 - 1.
+    pub hi: u64,
+    /// The level of the hint, 1 to 3; 0 where the operand gives none.
+    pub level: u8,
+}
+
+/// Why the operand of a range TLBI can't be read. Source: project's own choice.
+#[derive(Clone, Copy, Debug, PartialEq, Eq)]
+pub enum BadRange {
+    /// The granule is another than 4 KiB.
+    Granule = 1,
+    /// The first page isn't a multiple of the pages that one entry of the hint's level has.
+    Unaligned = 2,
+}
+
+/// The number of page numbers.
+const PAGE_NUMBERS: u64 = 1 << 44;
+
+/// TG, the granule: bits [47:46].
+fn granule_field(xt: u64) -> u8
+    ensures { result ≡ fields.tg xt }
+{
+    ((xt >> 46) % 4) as u8
+}
+
+/// SCALE: bits [45:44].
+fn scale_field(xt: u64) -> u8
+    ensures { result ≡ fields.scale xt }
+{
+    ((xt >> 44) % 4) as u8
+}
+
+/// NUM: bits [43:39].
+fn num_field(xt: u64) -> u64
+    ensures { result ≡ fields.num xt }
+{
+    (xt >> 39) % 32
+}
+
+/// TTL, the level hint: bits [38:37].
+fn ttl_field(xt: u64) -> u8
+    ensures { result ≡ fields.ttl xt }
+{
+    ((xt >> 37) % 4) as u8
+}
+
+/// BASE, the first page number: bits [36:0].
+fn base_field(xt: u64) -> u64
+    ensures { result ≡ fields.base xt }
+{
+    xt % (1 << 37)
+}
+
+/// Whether the highest bit of BASE is set, so that the range is in the highest part of the page numbers.
+/// Source: Arm ARM (DDI 0487), "TLB maintenance instructions".
+pub fn is_upper(xt: u64) -> bool
+    ensures { result ≡ range.is_upper xt }
+{
+    (xt >> 36) % 2 == 1
+}
+
+/// How many pages the range has, where it doesn't pass the last page number.
+fn page_count(xt: u64) -> u64
+    ensures count { result ≡ range.page_count xt }
+    ensures some { 1 ≤ result }
+    ensures few { result ≤ 2 ^ 21 }
+{
+    let unit = match scale_field(xt) {
+        0 => 1 << 1,
+        1 => 1 << 6,
+        2 => 1 << 11,
+        _ => 1 << 16,
+    };
+    (num_field(xt) + 1) * unit
+}
+
+/// The first page number.
+fn first_page(xt: u64) -> u64
+    ensures first { result ≡ range.first_page xt }
+    ensures within { result < 2 ^ 44 }
+{
+    if is_upper(xt) {
+        base_field(xt) + ((1 << 44) - (1 << 37))
+    } else {
+        base_field(xt)
+    }
+}
+
+/// Whether the first page fits the level hint.
+fn is_aligned(xt: u64) -> bool
+    ensures { result ≡ range.is_aligned xt }
+{
+    match ttl_field(xt) {
+        1 => base_field(xt) % (1 << 18) == 0,
+        2 => base_field(xt) % (1 << 9) == 0,
+        _ => true,
+    }
+}
+
+/// The pages that the operand of a range TLBI names: (NUM + 1) * 2^(5*SCALE + 1) pages from BASE on, whose
+/// highest bit stands for the bits above it, or those up to the last page number where the range would
+/// pass it. `Granule` exactly where TG isn't 01, the granule of 4 KiB. Else `Unaligned` exactly where the
+/// hint's level is 1 and BASE isn't a multiple of 2^18, or it is 2 and BASE isn't a multiple of 2^9.
+/// Source: Arm ARM (DDI 0487), "TLB maintenance instructions"; that the range ends at the last page number
+/// and the two refusals are the project's own choice.
+pub fn pages(xt: u64) -> Result<Range, BadRange>
+    ensures range { result ≡ range.range_of xt }
+    ensures named { IfOk result (λ r. (n : ℕ) → range.Has r n ↔ range.Names xt n) }
+    ensures ordered { IfOk result (λ r. r.lo ≤ r.hi) }
+    ensures within { IfOk result (λ r. r.hi < 2 ^ 44) }
+    ensures level { IfOk result (λ r. r.level ≤ 3) }
+{
+    if granule_field(xt) != 1 {
+        return Err(BadRange::Granule);
+    }
+    if !is_aligned(xt) {
+        return Err(BadRange::Unaligned);
+    }
+    let lo = first_page(xt);
+    let end = lo + page_count(xt) - 1;
+    Ok(Range {
+        lo,
+        hi: if end < PAGE_NUMBERS - 1 {
+            end
+        } else {
+            PAGE_NUMBERS - 1
+        },
+        level: ttl_field(xt),
+    })
+}
+
+#[cfg(test)]
+mod tests {
+    use super::*;
+
+    /// The first page number, the last one and the level of the hint.
+    fn read(xt: u64) -> Result<(u64, u64, u8), BadRange> {
+        let range = pages(xt)?;
+        Ok((range.lo, range.hi, range.level))
+    }
+
+    #[test]
+    fn units(rt: HostRuntime) {
+        let rows = [
+            (0x400000040000, Ok((0x40000, 0x40001, 0))),
+            (0x500000040000, Ok((0x40000, 0x4003f, 0))),
+            (0x600000040000, Ok((0x40000, 0x407ff, 0))),
+            (0x700000040000, Ok((0x40000, 0x4ffff, 0))),
+            (0x710000040000, Ok((0x40000, 0x6ffff, 0))),
+            (0x718000040000, Ok((0x40000, 0x7ffff, 0))),
+            (0xffff718000040000, Ok((0x40000, 0x7ffff, 0))),
+        ];
+        for (xt, want) in rows {
+            assert_eq!(rt; read(xt), want, "{xt}");
+        }
+    }
+
+    #[test]
+    fn hints(rt: HostRuntime) {
+        let rows = [
+            (0x718000040001, Ok((0x40001, 0x80000, 0))),
+            (0x71a000040000, Ok((0x40000, 0x7ffff, 1))),
+            (0x71a000040001, Err(BadRange::Unaligned)),
+            (0x71a000020000, Err(BadRange::Unaligned)),
+            (0x71c000040200, Ok((0x40200, 0x801ff, 2))),
+            (0x71c000040100, Err(BadRange::Unaligned)),
+            (0x71e000040201, Ok((0x40201, 0x80200, 3))),
+            (0x318000040000, Err(BadRange::Granule)),
+            (0x81a000040001, Err(BadRange::Granule)),
+            (0xc18000040000, Err(BadRange::Granule)),
+        ];
+        for (xt, want) in rows {
+            assert_eq!(rt; read(xt), want, "{xt}");
+        }
+    }
+
+    #[test]
+    fn ends(rt: HostRuntime) {
+        let rows = [
+            (0x400fffffffff, Ok((0xfffffffff, 0x1000000000, 0))),
+            (0x401000000000, Ok((0xff000000000, 0xff000000001, 0))),
+            (0x401ffffffffe, Ok((0xffffffffffe, 0xfffffffffff, 0))),
+            (0x401fffffffff, Ok((0xfffffffffff, 0xfffffffffff, 0))),
+        ];
+        for (xt, want) in rows {
+            assert_eq!(rt; read(xt), want, "{xt}");
+        }
+        assert!(rt; is_upper(0x1000000000) && !is_upper(0x2fffffffff));
+    }
+}

@@ -1,0 +1,120 @@
+-- The tests for equality of tags, registers, kinds and claims decide equality.
+use Rattle.std.proofs.Common.{◌≡◌, ◌↔◌, ℕ, true, ◌&&◌, ◌==◌, refl, sym, ◌∙◌, ap, true≢false}
+use Rattle.std.proofs.lemmas.Bool.{and_parts, eqb-true, eq-eqb}
+use Rattle.bbm_regimes.specs.declared.regime.Kind.{Kind}
+use Rattle.bbm_regimes.specs.declared.regime.Kind.TheVariants.{El2 as El2Kind, S2, Ttbr0, Ttbr1 as Ttbr1Kind}
+use Rattle.bbm_regimes.specs.declared.regime.Reg.{Reg}
+use Rattle.bbm_regimes.specs.declared.regime.Reg.TheVariants.{Ttbr0El2, VttbrEl2, Ttbr0El1, Ttbr1El1}
+use Rattle.bbm_regimes.specs.declared.regime.Tag.{Tag}
+use Rattle.bbm_regimes.specs.declared.regime.Tag.TheVariants.{El2, Vmid, Asid, Ttbr1}
+use Rattle.bbm_rules.specs.declared.claim.Claim.{Claim}
+use Rattle.bbm_rules.specs.declared.claim.Claim.TheVariants.{Place, Two, Taken}
+use Rattle.bbm_rules.specs.Claims.{same_claim, same_tag}
+use Rattle.bbm_rules.specs.Registers.{same_reg}
+use Rattle.bbm_rules.specs.Roots.{same_kind}
+
+pub same_number : (n : ℕ) → (n == n) ≡ true
+same_number n = eq-eqb n n refl
+
+pub tag_self : (g : Tag) → same_tag g g ≡ true
+tag_self El2 = refl
+tag_self (Vmid v) = same_number v
+tag_self (Asid a) = same_number a
+tag_self Ttbr1 = refl
+
+pub tag_equal : (g k : Tag) → same_tag g k ≡ true → g ≡ k
+tag_equal El2 El2 e = refl
+tag_equal (Vmid v) (Vmid w) e = ap Vmid (eqb-true v w e)
+tag_equal (Asid a) (Asid b) e = ap Asid (eqb-true a b e)
+tag_equal Ttbr1 Ttbr1 e = refl
+tag_equal g k e = absurd (true≢false (sym e))
+
+pub reg_self : (r : Reg) → same_reg r r ≡ true
+reg_self Ttbr0El2 = refl
+reg_self VttbrEl2 = refl
+reg_self Ttbr0El1 = refl
+reg_self Ttbr1El1 = refl
+
+pub reg_equal : (r s : Reg) → same_reg r s ≡ true → r ≡ s
+reg_equal Ttbr0El2 Ttbr0El2 e = refl
+reg_equal VttbrEl2 VttbrEl2 e = refl
+reg_equal Ttbr0El1 Ttbr0El1 e = refl
+reg_equal Ttbr1El1 Ttbr1El1 e = refl
+reg_equal r s e = absurd (true≢false (sym e))
+
+pub kind_self : (k : Kind) → same_kind k k ≡ true
+kind_self El2Kind = refl
+kind_self S2 = refl
+kind_self Ttbr0 = refl
+kind_self Ttbr1Kind = refl
+
+pub kind_equal : (k l : Kind) → same_kind k l ≡ true → k ≡ l
+kind_equal El2Kind El2Kind e = refl
+kind_equal S2 S2 e = refl
+kind_equal Ttbr0 Ttbr0 e = refl
+kind_equal Ttbr1Kind Ttbr1Kind e = refl
+kind_equal k l e = absurd (true≢false (sym e))
+
+pub claim_self : (c : Claim) → same_claim c c ≡ true
+claim_self (Place p a b t d) = simp same_number
+claim_self (Two p a b t1 d1 t2 d2) = simp same_number
+claim_self (Taken p g t d) = simp (same_number, tag_self)
+
+-- the claims with equal parts
+place_equal : (p p' a a' b b' t t' d d' : ℕ) → (p == p' && a == a' && b == b' && t == t' && d == d') ≡ true
+    → Place p a b t d ≡ Place p' a' b' t' d'
+place_equal p p' a a' b b' t t' d d' e =
+    let e4 = and_parts (p == p' && a == a' && b == b' && t == t') (d == d') e in
+    let e3 = and_parts (p == p' && a == a' && b == b') (t == t') e4.0 in
+    let e2 = and_parts (p == p' && a == a') (b == b') e3.0 in
+    let e1 = and_parts (p == p') (a == a') e2.0 in
+    let f0 : p ≡ p' = eqb-true p p' e1.0 in
+    let f1 : a ≡ a' = eqb-true a a' e1.1 in
+    let f2 : b ≡ b' = eqb-true b b' e2.1 in
+    let f3 : t ≡ t' = eqb-true t t' e3.1 in
+    let f4 : d ≡ d' = eqb-true d d' e4.1 in
+    cc
+
+two_equal : (p p' a a' b b' t1 t1' d1 d1' t2 t2' d2 d2' : ℕ)
+    → (p == p' && a == a' && b == b' && t1 == t1' && d1 == d1' && t2 == t2' && d2 == d2') ≡ true
+    → Two p a b t1 d1 t2 d2 ≡ Two p' a' b' t1' d1' t2' d2'
+two_equal p p' a a' b b' t1 t1' d1 d1' t2 t2' d2 d2' e =
+    let e6 = and_parts (p == p' && a == a' && b == b' && t1 == t1' && d1 == d1' && t2 == t2') (d2 == d2') e in
+    let e5 = and_parts (p == p' && a == a' && b == b' && t1 == t1' && d1 == d1') (t2 == t2') e6.0 in
+    let first : Place p a b t1 d1 ≡ Place p' a' b' t1' d1' = place_equal p p' a a' b b' t1 t1' d1 d1' e5.0 in
+    let f5 : t2 ≡ t2' = eqb-true t2 t2' e5.1 in
+    let f6 : d2 ≡ d2' = eqb-true d2 d2' e6.1 in
+    cc
+
+taken_equal : (p p' : ℕ) (g g' : Tag) (t t' d d' : ℕ) → (p == p' && same_tag g g' && t == t' && d == d') ≡ true
+    → Taken p g t d ≡ Taken p' g' t' d'
+taken_equal p p' g g' t t' d d' e =
+    let e3 = and_parts (p == p' && same_tag g g' && t == t') (d == d') e in
+    let e2 = and_parts (p == p' && same_tag g g') (t == t') e3.0 in
+    let e1 = and_parts (p == p') (same_tag g g') e2.0 in
+    let f0 : p ≡ p' = eqb-true p p' e1.0 in
+    let f1 : g ≡ g' = tag_equal g g' e1.1 in
+    let f2 : t ≡ t' = eqb-true t t' e2.1 in
+    let f3 : d ≡ d' = eqb-true d d' e3.1 in
+    cc
+
+pub claim_equal : (c k : Claim) → same_claim c k ≡ true → c ≡ k
+claim_equal (Place p a b t d) (Place p' a' b' t' d') e = place_equal p p' a a' b b' t t' d d' e
+claim_equal (Two p a b t1 d1 t2 d2) (Two p' a' b' t1' d1' t2' d2') e =
+    two_equal p p' a a' b b' t1 t1' d1 d1' t2 t2' d2 d2' e
+claim_equal (Taken p g t d) (Taken p' g' t' d') e = taken_equal p p' g g' t t' d d' e
+claim_equal c k e = absurd (true≢false (sym e))
+
+pub tags : (g k : Tag) → (same_tag g k ≡ true) ↔ (g ≡ k)
+tags g k = (tag_equal g k, λ e. sym (ap (same_tag g) e) ∙ tag_self g)
+
+pub regs : (r s : Reg) → (same_reg r s ≡ true) ↔ (r ≡ s)
+regs r s = (reg_equal r s, λ e. sym (ap (same_reg r) e) ∙ reg_self r)
+
+pub kinds : (k l : Kind) → (same_kind k l ≡ true) ↔ (k ≡ l)
+kinds k l = (kind_equal k l, λ e. sym (ap (same_kind k) e) ∙ kind_self k)
+
+pub claims : (c k : Claim) → (same_claim c k ≡ true) ↔ (c ≡ k)
+claims c k = (claim_equal c k, λ e. sym (ap (same_claim c) e) ∙ claim_self c)
+
+pub ruleset laws = (tags, regs, kinds, claims)

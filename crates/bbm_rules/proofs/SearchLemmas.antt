@@ -1,0 +1,115 @@
+-- What a search finds, and that it finds what is there; later items keep what it found.
+use Rattle.std.proofs.Common.{◌≡◌, Bool, true, false, List, [], ◌∷◌, ◌++◌, refl, sym, ◌∙◌, ap, subst, inl, inr, true≢false}
+use Rattle.std.proofs.lemmas.Bool.{or_cases, or_left, or_right, or_parts, or_from}
+use Rattle.bbm_rules.proofs.OpenLaw.{In}
+use Rattle.bbm_rules.specs.Lists.{any, some}
+
+module _ {A : Type 0} (test : A → Bool) where
+  pub any_found : (xs : List A) → any test xs ≡ true → (x : A) × In xs x × (test x ≡ true)
+  any_found [] k = absurd (true≢false (sym k))
+  any_found (x ∷ xs) k =
+      elim (or_cases (test x) (any test xs) k) [
+        | inl here ↦ (x, inl refl, here)
+        | inr there ↦ let r = any_found xs there in (r.0, inr r.1, r.2)
+      ]
+
+  pub any_finds : (xs : List A) (x : A) → In xs x → test x ≡ true → any test xs ≡ true
+  any_finds [] x i k = absurd i
+  any_finds (y ∷ xs) x (inl same) k = or_left (test y) (any test xs) (ap test same ∙ k)
+  any_finds (y ∷ xs) x (inr i) k = or_right (test y) (any test xs) (any_finds xs x i k)
+
+  pub none_of : (xs : List A) → any test xs ≡ false → (x : A) → In xs x → test x ≡ false
+  none_of [] k x i = absurd i
+  none_of (y ∷ xs) k x (inl same) = ap test (sym same) ∙ (or_parts (test y) (any test xs) k).0
+  none_of (y ∷ xs) k x (inr i) = none_of xs (or_parts (test y) (any test xs) k).1 x i
+
+  pub is_none_of : (xs : List A) → ((x : A) → In xs x → test x ≡ false) → any test xs ≡ false
+  is_none_of [] all = refl
+  is_none_of (y ∷ xs) all =
+      or_from (test y) (any test xs) (all y (inl refl)) (is_none_of xs (λ x i. all x (inr i)))
+
+-- an item of a list stands in a split of it
+pub in_split : {A : Type 0} (newer older : List A) (x : A) → In (newer ++ x ∷ older) x
+in_split [] older x = inl refl
+in_split (y ∷ newer) older x = inr (in_split newer older x)
+
+pub split_in : {A : Type 0} (xs : List A) (x : A) → In xs x → (newer older : List A) × (xs ≡ newer ++ x ∷ older)
+split_in [] x i = absurd i
+split_in {A} (y ∷ xs) x (inl same) = ([], xs, ap (λ (z : A). z ∷ xs) same)
+split_in {A} (y ∷ xs) x (inr i) =
+    let r = split_in xs x i in (y ∷ r.0, r.1, ap (λ (zs : List A). y ∷ zs) r.2)
+
+-- where none of the newer items passes, in the words of a sentence
+pub none_at : {A : Type 0} (test : A → Bool) (xs : List A) → any test xs ≡ false
+    → (x : A) (after before : List A) → xs ≡ after ++ x ∷ before → test x ≡ false
+none_at {A} test xs k x after before e =
+    none_of test xs k x (subst (λ (zs : List A). In zs x) (sym e) (in_split after before x))
+
+pub is_none_at : {A : Type 0} (test : A → Bool) (xs : List A)
+    → ((x : A) (after before : List A) → xs ≡ after ++ x ∷ before → test x ≡ false) → any test xs ≡ false
+is_none_at test xs all =
+    is_none_of test xs (λ x i. let r = split_in xs x i in all x r.0 r.1 r.2)
+
+-- an item of a history that passes the test, with what came before it
+pub record Found {A : Type 0} (test : A → List A → Bool) (h : List A) : Type 0 where
+  pub newer : List A
+  pub item : A
+  pub older : List A
+  pub split : h ≡ newer ++ item ∷ older
+  pub passed : test item older ≡ true
+
+module _ {A : Type 0} (test : A → List A → Bool) where
+  -- later items keep what was found
+  pub some_later : (newer older : List A) → some test older ≡ true → some test (newer ++ older) ≡ true
+  some_later [] older s = s
+  some_later (x ∷ newer) older s =
+      or_right (test x (newer ++ older)) (some test (newer ++ older)) (some_later newer older s)
+
+  pub some_found : (h : List A) → some test h ≡ true → Found test h
+  some_found [] s = absurd (true≢false (sym s))
+  some_found (x ∷ h) s =
+      elim (or_cases (test x h) (some test h) s) [
+        | inl here ↦ record { newer = []; item = x; older = h; split = refl; passed = here }
+        | inr there ↦
+            let f : Found test h = some_found h there in
+            record { newer = x ∷ f.newer; item = f.item; older = f.older; split = ap (λ xs. x ∷ xs) f.split; passed = f.passed }
+      ]
+
+  pub some_finds : (h : List A) → Found test h → some test h ≡ true
+  some_finds h f =
+      subst (λ (xs : List A). some test xs ≡ true) (sym f.split)
+      (some_later f.newer (f.item ∷ f.older) (or_left (test f.item f.older) (some test f.older) f.passed))
+
+  pub none_before : (h : List A) → some test h ≡ false
+      → (newer : List A) (x : A) (older : List A) → h ≡ newer ++ x ∷ older → test x older ≡ false
+  none_before h k newer x older e = by (test x older) refl
+    where
+      by : (b : Bool) → test x older ≡ b → test x older ≡ false
+      by false t = t
+      by true t =
+          absurd (true≢false
+          (sym (some_finds h (record { newer = newer; item = x; older = older; split = e; passed = t })) ∙ k))
+
+  pub is_none_before : (h : List A)
+      → ((newer : List A) (x : A) (older : List A) → h ≡ newer ++ x ∷ older → test x older ≡ false) → some test h ≡ false
+  is_none_before [] all = refl
+  is_none_before (x ∷ h) all =
+      or_from (test x h) (some test h) (all [] x h refl)
+      (is_none_before h (λ newer y older e. all (x ∷ newer) y older (ap (λ (es : List A). x ∷ es) e)))
+
+pub some_weaker : {A : Type 0} (test other : A → List A → Bool) (h : List A)
+    → ((x : A) (older : List A) → test x older ≡ true → other x older ≡ true) → some test h ≡ true → some other h ≡ true
+some_weaker test other h weaker s =
+    let f : Found test h = some_found test h s in
+    some_finds other h (record {
+      newer = f.newer;
+      item = f.item;
+      older = f.older;
+      split = f.split;
+      passed = weaker f.item f.older f.passed;
+    })
+
+pub any_weaker : {A : Type 0} (test other : A → Bool) (xs : List A)
+    → ((x : A) → test x ≡ true → other x ≡ true) → any test xs ≡ true → any other xs ≡ true
+any_weaker test other xs weaker s =
+    let f = any_found test xs s in any_finds other xs f.0 f.1 (weaker f.0 f.2)

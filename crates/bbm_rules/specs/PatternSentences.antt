@@ -1,0 +1,107 @@
+-- Seen, half, cleansed and held once more, as sentences over all ways to split the annotated history. `law_seen`,
+-- `law_half`, `law_cleansed` and `law_held` say that they say the same. A history is newest first, so in
+-- `newer ++ older` the events of `newer` came after those of `older`; and `since` are those after the last valid write.
+-- Source: Arm ARM (DDI 0487), "Using break-before-make when updating translation table entries", and "TLB
+-- maintenance instructions".
+use Rattle.std.specs.Prelude.{◌≡◌, ℕ, ◌<◌, ◌⊎◌, true, false, List, ◌∷◌, ◌++◌}
+use Rattle.bbm_barriers.specs.declared.Dsb.{Dsb as Barrier}
+use Rattle.bbm_regimes.specs.declared.regime.Kind.{Kind}
+use Rattle.bbm_descriptor.specs.Descriptor.{is_valid}
+use Rattle.bbm_tlbi_scope.specs.declared.entry.Cover.{Cover}
+use Rattle.bbm_tlbi_scope.specs.declared.entry.Cover.TheVariants.{Half, Second, Full}
+use Rattle.bbm_events.specs.Heading.{Heading}
+use Rattle.bbm_events.specs.declared.event.Event.TheVariants.{Init, Write, Dsb}
+use Rattle.bbm_rules.specs.declared.claim.Claim.TheVariants.{Place, Two}
+use Rattle.bbm_rules.specs.Claims.{Trust, allows}
+use Rattle.bbm_rules.specs.Notes.{Noted, event_of}
+use Rattle.bbm_rules.specs.Places.{page_of}
+use Rattle.bbm_rules.specs.Reach.{Issued, completes, reaches}
+use Rattle.bbm_rules.specs.Sentences.{Open}
+use Rattle.bbm_rules.specs.Values.{publishes_to}
+
+-- b is a barrier of the PE q that publishes to p, and before it q wrote the place
+pub record Publication (heading : Heading) (place p : ℕ) (since : List Noted) (b : Noted) : Type 0 where
+  pub q : ℕ
+  pub dsb : Barrier
+  pub value : ℕ
+  pub write : Noted
+  pub newer : List Noted
+  pub between : List Noted
+  pub older : List Noted
+  pub split : since ≡ newer ++ b ∷ (between ++ write ∷ older)
+  pub wrote : write.event ≡ Write q place value
+  pub barrier : b.event ≡ Dsb q dsb
+  pub publishes : publishes_to heading dsb q p ≡ true
+
+-- Seen: some write of the place is published to p.
+abbrev pub Seen : Heading → ℕ → ℕ → List Noted → Type 0
+Seen heading place p since = (b : Noted) × Publication heading place p since b
+
+-- d is a barrier that answers the TLBI t: the first of its issuer q that completes it
+pub record Answer (since : List Noted) (t : Issued Noted) (d : Noted) : Type 0 where
+  pub q : ℕ
+  pub dsb : Barrier
+  pub newer : List Noted
+  pub older : List Noted
+  pub split : since ≡ newer ++ d ∷ older
+  pub barrier : d.event ≡ Dsb q dsb
+  pub is_open : Open event_of q older t
+  pub completed : completes dsb t.tlbi.event ≡ true
+
+-- t is a TLBI that reaches p and covers the place so far, and d answers it
+pub record Flush (heading : Heading) (cover : Cover) (place p : ℕ) (since : List Noted) (t : Issued Noted) (d : Noted) : Type 0 where
+  pub answer : Answer since t d
+  pub reached : reaches heading t.tlbi.event p ≡ true
+  pub covered : t.tlbi.covers place ≡ cover
+
+-- Half, by b, t and d: a write of the place is published to p at b, then at t a TLBI that covers it half is issued, and
+-- at d it is answered.
+pub record HalfBy (heading : Heading) (place p : ℕ) (since : List Noted) (b : Noted) (t : Issued Noted) (d : Noted) : Type 0 where
+  pub flush : Flush heading Half place p since t d
+  pub published : Publication heading place p t.before b
+
+abbrev pub IsHalf : Heading → ℕ → ℕ → List Noted → Type 0
+IsHalf heading place p since = (b : Noted) × (t : Issued Noted) × (d : Noted) × HalfBy heading place p since b t d
+
+-- Cleansed in one step: a write of the place is published to p at b, then at t a TLBI that covers it in full is issued,
+-- and at d it is answered.
+pub record OneStep (heading : Heading) (trust : Trust) (place p : ℕ) (since : List Noted) : Type 0 where
+  pub b : Noted
+  pub t : Issued Noted
+  pub d : Noted
+  pub published : Publication heading place p t.before b
+  pub flush : Flush heading Full place p since t d
+  pub allowed : allows trust (Place p place b.position t.tlbi.position d.position) ≡ true
+
+-- Cleansed in two steps: the place is half by b, t1 and d1, and then at t2 a TLBI that covers the rest is issued, and at
+-- d2 it is answered.
+pub record TwoSteps (heading : Heading) (trust : Trust) (place p : ℕ) (since : List Noted) : Type 0 where
+  pub b : Noted
+  pub t1 : Issued Noted
+  pub d1 : Noted
+  pub t2 : Issued Noted
+  pub d2 : Noted
+  pub first : HalfBy heading place p t2.before b t1 d1
+  pub second : Flush heading Second place p since t2 d2
+  pub allowed : allows trust (Two p place b.position t1.tlbi.position d1.position t2.tlbi.position d2.position) ≡ true
+
+abbrev pub Cleansed : Heading → Trust → ℕ → ℕ → List Noted → Type 0
+Cleansed heading trust place p since = OneStep heading trust place p since ⊎ TwoSteps heading trust place p since
+
+-- Held: the value was written, it is valid, since then there was no valid write of the place and no init of its page,
+-- and at some PE the place isn't cleansed since then.
+pub record Holds (heading : Heading) (trust : Trust) (kind : Kind) (level place : ℕ) (h : List Noted) (value : ℕ) : Type 0 where
+  pub pe : ℕ
+  pub write : Noted
+  pub newer : List Noted
+  pub older : List Noted
+  pub split : h ≡ newer ++ write ∷ older
+  pub wrote : write.event ≡ Write pe place value
+  pub valid : is_valid kind level value ≡ true
+  pub last : (q v : ℕ) (n : Noted) (after before : List Noted) → newer ≡ after ++ n ∷ before
+      → n.event ≡ Write q place v → is_valid kind level v ≡ false
+  pub no_init : (q : ℕ) (n : Noted) (after before : List Noted) → newer ≡ after ++ n ∷ before
+      → n.event ≡ Init q (page_of place) → ⊥
+  pub p : ℕ
+  pub is_pe : p < heading.pes
+  pub uncleansed : Cleansed heading trust place p newer → ⊥

@@ -1,0 +1,53 @@
+//! From the words that were gathered, or not, to the status with which the program ends.
+
+ghost use Rattle.std.specs.Prelude.{◌≡◌, ◌≢◌, ◌⊎◌, ◌<◌, ℕ, List, [], false, true, map, IfOk, IfErr, OnErr, Option, Some};
+ghost use Rattle.std.specs.IoError.{error_kind};
+ghost use Rattle.std.specs.String.{string_bytes};
+ghost use Rattle.bbm_io.specs.Flow.{extended};
+ghost use Rattle.bbm_rules.specs.Outcome.{first_path, check_limits, verdict_of_bytes};
+ghost use Rattle.bbm_rules.specs.Texts.{verdict_text};
+ghost use Rattle.bbm_session.specs.Run.{says_check, status_of, tells_verdict, usage_text};
+
+use crate::status::Status;
+use crate::top::run;
+use bbm_io::{Sink, Source};
+use std::alloc::Global;
+use std::io;
+use std::io::ErrorKind;
+
+/// Does what the words after the program's name ask for, as `run`. Words that couldn't be gathered, as where
+/// one isn't Unicode, are no command. Where there was no memory for them the status is NoMemory, and nothing
+/// is read or written. Source: project's own choice.
+pub fn run_words<S: Source, K: Sink>(
+    alloc: Global,
+    words: io::Result<Vec<String>>,
+    log: &mut S,
+    out: &mut K,
+) -> Status
+    ensures usage { IfOk words (λ all. says_check (map string_bytes all.items) ≡ false
+        → (result ≡ Status.Usage) ⊎ (result ≡ Status.WriteFault)) }
+    ensures no_command { IfErr words (λ error. error_kind error ≢ ErrorKind.OutOfMemory
+        → (result ≡ Status.Usage) ⊎ (result ≡ Status.WriteFault)) }
+    ensures want { IfErr words (λ error. error_kind error ≡ ErrorKind.OutOfMemory → result ≡ Status.NoMemory) }
+    ensures unread { OnErr words (S.left log.new ≡ S.left log.old) }
+    ensures usage_line { result ≡ Status.Usage → K.held out.new ≡ extended (K.held out.old) usage_text }
+    ensures status { (bytes : List ℕ) → S.left log.old ≡ Some bytes → tells_verdict result ≡ true
+        → result ≡ status_of (verdict_of_bytes first_path check_limits bytes) }
+    ensures text { (bytes : List ℕ) → S.left log.old ≡ Some bytes → tells_verdict result ≡ true
+        → K.held out.new ≡ extended (K.held out.old) (verdict_text (verdict_of_bytes first_path check_limits bytes)) }
+    ensures unwritten { (result ≡ Status.ReadFault) ⊎ (result ≡ Status.NoMemory)
+        → K.held out.new ≡ K.held out.old }
+    ensures read_rose { S.faults log.old < S.faults log.new → result ≡ Status.ReadFault }
+    ensures write_rose { K.faults out.old < K.faults out.new → result ≡ Status.WriteFault }
+{
+    match words {
+        Ok(all) => run(alloc, &all, log, out),
+        Err(error) => {
+            if error.kind() == ErrorKind::OutOfMemory {
+                Status::NoMemory
+            } else {
+                run(alloc, &Vec::new(alloc), log, out)
+            }
+        }
+    }
+}
