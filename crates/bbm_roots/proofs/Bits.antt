@@ -1,12 +1,14 @@
 -- Tests of tags and sets of PEs.
 use Rattle.std.proofs.Common.{◌≡◌, ℕ, zero, suc, ◌<◌, ◌≤◌, Bool, true, false, ◌&&◌, ◌||◌, not, nat_lt, nat_eq, ◌+◌, subst, refl, sym, ◌∙◌, ap, arith, IsTrue, ⊎_elim}
-use Rattle.std.proofs.lemmas.Bool.{true_from_ne_false, cases_lt, false≢true, lt-ltb, ltb-true, eqb-true}
+use Rattle.std.proofs.lemmas.Bool.{true_from_ne_false, cases_lt, false≢true, lt-ltb, ltb-true, eqb-true, eq-eqb}
 use Rattle.std.proofs.lemmas.Bool.Decides.{nat_tests}
 use Rattle.bbm_regimes.specs.declared.regime.Tag.{Tag}
 use Rattle.bbm_regimes.specs.declared.regime.Tag.TheVariants.{El2, Vmid, Asid, Ttbr1}
-use Rattle.bbm_roots.specs.Holds.{some_pe}
+use Rattle.bbm_roots.specs.Holds.{some_pe, is_hold}
 use Rattle.bbm_roots.specs.Pendings.{same_flag}
 use Rattle.bbm_roots.specs.Readings.{same_tag}
+use Rattle.bbm_roots.specs.declared.hold.Held.{Held}
+use Rattle.bbm_roots.specs.declared.reading.Reading.{Reading}
 
 or-left : (a b : Bool) → (a || b) ≡ false → a ≡ false
 or-left true b e = e
@@ -93,3 +95,23 @@ same_flag-comm true true = refl
 same_flag-comm true false = refl
 same_flag-comm false true = refl
 same_flag-comm false false = refl
+
+pub same_tag-self : (g : Tag) → same_tag g g ≡ true
+same_tag-self El2 = refl
+same_tag-self (Vmid v) = eq-eqb v v refl
+same_tag-self (Asid a) = eq-eqb a a refl
+same_tag-self Ttbr1 = refl
+
+-- the entry of a tag and a root is its own tag's and root's
+pub hold-tag : (g : Tag) (r : ℕ) (x : Held) → is_hold g r x ≡ true → x.tag ≡ g
+hold-tag g r x e = same_tag-true x.tag g (and_left (same_tag x.tag g) (nat_eq x.root r) e)
+
+pub hold-root : (g : Tag) (r : ℕ) (x : Held) → is_hold g r x ≡ true → x.root ≡ r
+hold-root g r x e = eqb-true x.root r (and_right (same_tag x.tag g) (nat_eq x.root r) e)
+
+pub hold-self : (x : Held) → is_hold x.tag x.root x ≡ true
+hold-self x = ap (λ (b : Bool). b && nat_eq x.root x.root) (same_tag-self x.tag) ∙ eq-eqb x.root x.root refl
+
+pub same_flag-self : (b : Bool) → same_flag b b ≡ true
+same_flag-self true = refl
+same_flag-self false = refl

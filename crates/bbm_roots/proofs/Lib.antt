@@ -7,3 +7,4 @@ pub mod Steps
 pub mod Written
 pub mod Made
 pub mod RootLists
+pub mod Leasts

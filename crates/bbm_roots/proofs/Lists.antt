@@ -96,3 +96,9 @@ any-weaker strong weak h (x ∷ xs) e =
     or_cases true a' b b' f g e = ap (λ (t : Bool). t || b') (f refl)
     or_cases false true b b' f g e = refl
     or_cases false false b b' f g e = g e
+
+-- what a loop has found with the item at its index
+pub any-next : {X : Type 0} (test : X → Bool) (xs : List X) (i : ℕ) (x : X) → i < length xs → x ≡ get_or xs i x →
+    list_any test (take (i + 1) xs) ≡ (list_any test (take i xs) || test x)
+any-next test xs i x lt is =
+    list_any_more test xs i x lt ∙ ap (λ y. list_any test (take i xs) || test y) (sym is)

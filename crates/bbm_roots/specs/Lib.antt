@@ -1,6 +1,7 @@
 pub mod Calls
 pub mod Columns
 pub mod Holds
+pub mod Least
 pub mod Pendings
 pub mod Readings
 pub mod Refusals

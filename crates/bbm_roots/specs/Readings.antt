@@ -1,6 +1,7 @@
 -- Readable tags: what the readable values of the registers of a PE name, each with its tag.
 use Rattle.std.specs.Prelude.{ℕ, Bool, true, false, ◌&&◌, not, ◌==◌, ◌+◌, ◌^◌, List, [], ◌∷◌, ◌++◌, Option, Some, None, is_some, flat_map}
 use Rattle.std.specs.List.{list_any}
+pub use Rattle.bbm_regimes.specs.Same.{same_tag}
 use Rattle.bbm_regimes.specs.declared.regime.AsidFrom.{AsidFrom}
 use Rattle.bbm_regimes.specs.declared.regime.AsidFrom.TheVariants.{Ttbr0 as FromTtbr0, Ttbr1 as FromTtbr1}
 use Rattle.bbm_regimes.specs.declared.regime.Kind.{Kind}
@@ -11,14 +12,6 @@ use Rattle.bbm_regimes.specs.declared.regime.World.{World}
 use Rattle.bbm_regimes.specs.declared.regime.World.TheVariants.{Hyp, Kernel}
 use Rattle.bbm_roots.specs.declared.load.Load.{Load}
 use Rattle.bbm_roots.specs.declared.reading.Reading.{Reading}
-
--- whether two tags are the same
-abbrev pub same_tag : Tag → Tag → Bool
-same_tag El2Tag El2Tag = true
-same_tag (Vmid v) (Vmid w) = v == w
-same_tag (Asid a) (Asid b) = a == b
-same_tag Ttbr1Tag Ttbr1Tag = true
-same_tag _ _ = false
 
 -- The place of a tag in the order `El2`, VMIDs, ASIDs, `Ttbr1`. Source: project's own choice.
 abbrev pub tag_rank : Tag → ℕ

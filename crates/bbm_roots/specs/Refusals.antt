@@ -1,14 +1,24 @@
--- Why a register write is refused. A list of calls is newest first.
-use Rattle.std.specs.Prelude.{ℕ, Bool, ◌&&◌, Option, Some, None, List, ◌∷◌, if◌then◌else◌}
+-- Why a call is refused, and when it is taken. A list of calls is newest first.
+use Rattle.std.specs.Prelude.{◌≡◌, ◌<◌, ◌≤◌, ℕ, Bool, true, false, not, ◌==◌, ◌&&◌, Option, Some, None, IsSome, Result, Ok, Err, List, ◌∷◌, if◌then◌else◌}
 use Rattle.bbm_regimes.specs.declared.regime.Kind.{Kind}
 use Rattle.bbm_regimes.specs.declared.regime.Reg.{Reg}
 use Rattle.bbm_regimes.specs.declared.regime.Tag.{Tag}
+use Rattle.bbm_regimes.specs.declared.regime.Which.TheVariants.{Values}
 use Rattle.bbm_regimes.specs.declared.regime.World.{World}
 use Rattle.bbm_roots.specs.Calls.{Call}
-use Rattle.bbm_roots.specs.Readings.{has_other}
-use Rattle.bbm_roots.specs.Registers.{kind_of_reg, root_of}
+use Rattle.bbm_roots.specs.Least.{IsLeast, UpTo, TagUpTo, ReadingUpTo}
+use Rattle.bbm_roots.specs.Readings.{has_other, has_number}
+use Rattle.bbm_roots.specs.Registers.{kind_of_reg, root_of, is_that}
 use Rattle.bbm_roots.specs.Roots.{is_root}
 use Rattle.bbm_roots.specs.Tags.{readings, holds_tag}
+use Rattle.bbm_roots.specs.declared.fault.InUse.{InUse}
+use Rattle.bbm_roots.specs.declared.fault.InUse.TheVariants.{Pe as ByPe, Tag as ByTag}
+use Rattle.bbm_roots.specs.declared.fault.RootFault.{RootFault}
+use Rattle.bbm_roots.specs.declared.fault.RootFault.TheVariants.{NoMemory, Limit, NoRoot, TagConflict, RootInUse}
+use Rattle.bbm_roots.specs.declared.fault.Unsynced.{Unsynced}
+use Rattle.bbm_roots.specs.declared.load.Load.{Load}
+use Rattle.bbm_roots.specs.declared.reading.Reading.{Reading}
+use Rattle.bbm_roots.specs.declared.root.Declared.{Declared}
 
 -- The base of a value, where it is neither that of a declared root of the kind, nor a null page, which counts in
 -- TTBR0_EL1 alone. Source: project's own choice.
@@ -21,5 +31,40 @@ missing_root cs reg value null = unless_root cs (kind_of_reg reg) (root_of reg v
 
 -- Tag conflict: the root holds the tag, which is readable at p for another root. The list of calls is the one with the
 -- register write. Source: project's own choice.
-abbrev pub conflicts : World → ℕ → List Call → ℕ → Tag → ℕ → Bool
-conflicts world pes cs p tag root = has_other tag root (readings world cs p) && holds_tag world pes cs tag root
+abbrev pub conflicts : World → ℕ → List Call → ℕ → Reading → Bool
+conflicts world pes cs p x = has_other x.tag x.root (readings world cs p) && holds_tag world pes cs x.tag x.root
+
+-- A register write is taken where its value misses no root, nothing conflicts, and the register has fewer than nine
+-- readable values. The first of these that fails refuses it: the root with the least first page, of those in conflict,
+-- and its first tag. Memory may be wanting once no root is missing. Source: project's own choice.
+module _ {A : Type 0} (missing : Option ℕ) (conflict : Reading → Bool) (values : ℕ) where
+  abbrev pub JudgesWrite : Result A RootFault → Type 0
+  JudgesWrite (Ok _) = (missing ≡ None) × IsLeast ReadingUpTo conflict None × (values < 9)
+  JudgesWrite (Err (NoRoot base)) = missing ≡ Some base
+  JudgesWrite (Err (TagConflict tag held)) =
+      (missing ≡ None) × IsLeast ReadingUpTo conflict (Some (record { tag = tag; root = held }))
+  JudgesWrite (Err (Limit Values)) = (missing ≡ None) × IsLeast ReadingUpTo conflict None × (9 ≤ values)
+  JudgesWrite (Err NoMemory) = missing ≡ None
+  JudgesWrite (Err _) = ⊥
+
+-- A root is retired where it is declared, is the base of no readable value, and holds no tag. Else the page, the least
+-- PE with such a value, or the first tag tells why not. Source: project's own choice.
+module _ (page : ℕ) (root : Option Declared) (uses_it : ℕ → Bool) (holds_it : Tag → Bool) where
+  abbrev pub JudgesRetire : {A : Type 0} → Result A RootFault → Type 0
+  JudgesRetire (Ok _) = IsSome root × IsLeast UpTo uses_it None × IsLeast TagUpTo holds_it None
+  JudgesRetire (Err (NoRoot n)) = (n ≡ page) × (root ≡ None)
+  JudgesRetire (Err (RootInUse (ByPe p))) = IsSome root × IsLeast UpTo uses_it (Some p)
+  JudgesRetire (Err (RootInUse (ByTag tag))) =
+      IsSome root × IsLeast UpTo uses_it None × IsLeast TagUpTo holds_it (Some tag)
+  JudgesRetire (Err _) = ⊥
+
+-- A PE's TLBIs have the one VMID of its readable values, or these two are the least of several.
+-- Source: project's own choice.
+abbrev pub other_number : List Load → Option ℕ → ℕ → Bool
+other_number loads than n = has_number n loads && not (is_that than n)
+
+module _ (vmid : Option ℕ) (loads : List Load) where
+  abbrev pub JudgesVmid : Result ℕ Unsynced → Type 0
+  JudgesVmid (Ok n) = vmid ≡ Some n
+  JudgesVmid (Err e) =
+      (vmid ≡ None) × IsLeast UpTo (other_number loads None) (Some e.0) × IsLeast UpTo (other_number loads (Some e.0)) (Some e.1)

@@ -1,28 +1,13 @@
 -- The root registers of a PE: what the values that may still be in use name. A list of calls is newest first.
 use Rattle.std.specs.Prelude.{ℕ, ◌*◌, ◌/◌, ◌%◌, ◌^◌, Bool, true, false, ◌&&◌, ◌||◌, not, ◌==◌, List, [], ◌∷◌, Option, Some, None, map, if◌then◌else◌}
-use Rattle.bbm_regimes.specs.declared.regime.Kind.{Kind}
-use Rattle.bbm_regimes.specs.declared.regime.Kind.TheVariants.{El2, S2, Ttbr0, Ttbr1}
+use Rattle.std.specs.List.{list_any}
+pub use Rattle.bbm_regimes.specs.Same.{kind_of_reg, same_reg}
 use Rattle.bbm_regimes.specs.declared.regime.Reg.{Reg}
 use Rattle.bbm_regimes.specs.declared.regime.Reg.TheVariants.{Ttbr0El2, VttbrEl2, Ttbr0El1, Ttbr1El1}
 use Rattle.bbm_regimes.specs.declared.regime.World.{World}
 use Rattle.bbm_regimes.specs.declared.regime.World.TheVariants.{Hyp, Kernel}
 use Rattle.bbm_roots.specs.Calls.{Call, Isb, WriteReg}
 use Rattle.bbm_roots.specs.declared.load.Load.{Load}
-
--- whether two registers are the same
-abbrev pub same_reg : Reg → Reg → Bool
-same_reg Ttbr0El2 Ttbr0El2 = true
-same_reg VttbrEl2 VttbrEl2 = true
-same_reg Ttbr0El1 Ttbr0El1 = true
-same_reg Ttbr1El1 Ttbr1El1 = true
-same_reg _ _ = false
-
--- the kind of the roots that a register names
-abbrev pub kind_of_reg : Reg → Kind
-kind_of_reg Ttbr0El2 = El2
-kind_of_reg VttbrEl2 = S2
-kind_of_reg Ttbr0El1 = Ttbr0
-kind_of_reg Ttbr1El1 = Ttbr1
 
 -- The two registers of a world. Source: project's own choice.
 abbrev pub first_reg : World → Reg
@@ -85,3 +70,20 @@ register_values (WriteReg pe r value null ∷ cs) p reg =
 register_values (Isb pe ∷ cs) p reg =
     if p == pe then newest (register_values cs p reg) else register_values cs p reg
 register_values (_ ∷ cs) p reg = register_values cs p reg
+
+-- whether a value names the root with this first page
+abbrev pub is_that : Option ℕ → ℕ → Bool
+is_that None page = false
+is_that (Some root) page = root == page
+
+abbrev pub names_page : ℕ → Load → Bool
+names_page page load = is_that load.root page
+
+-- whether one of the values does
+abbrev pub names_in : List Load → ℕ → Bool
+names_in loads page = list_any (names_page page) loads
+
+-- Whether a readable value of p has this base. Source: project's own choice.
+abbrev pub uses : World → List Call → ℕ → ℕ → Bool
+uses world cs page p =
+    names_in (register_values cs p (first_reg world)) page || names_in (register_values cs p (second_reg world)) page

@@ -1,7 +1,7 @@
 -- Roots of translation tables. A list of calls is newest first.
 use Rattle.std.specs.Prelude.{ℕ, Bool, true, false, ◌==◌, List, [], ◌∷◌, Option, Some, None, find, if◌then◌else◌}
+pub use Rattle.bbm_regimes.specs.Same.{same_kind}
 use Rattle.bbm_regimes.specs.declared.regime.Kind.{Kind}
-use Rattle.bbm_regimes.specs.declared.regime.Kind.TheVariants.{El2, S2, Ttbr0, Ttbr1}
 use Rattle.bbm_roots.specs.Calls.{Call, Declare, Retire}
 use Rattle.bbm_roots.specs.declared.root.Declared.{Declared}
 
@@ -24,14 +24,6 @@ is_at page r = r.page == page
 
 abbrev pub root_at : List Call → ℕ → Option Declared
 root_at cs page = find (is_at page) (roots_of cs)
-
--- whether two kinds are the same
-abbrev pub same_kind : Kind → Kind → Bool
-same_kind El2 El2 = true
-same_kind S2 S2 = true
-same_kind Ttbr0 Ttbr0 = true
-same_kind Ttbr1 Ttbr1 = true
-same_kind _ _ = false
 
 -- whether the page is the first page of a declared root of the kind
 abbrev pub is_of_kind : Kind → Option Declared → Bool

@@ -1,9 +1,8 @@
 //! What the issue of a whole-tag TLBI leaves to its answer.
 
-ghost use Rattle.std.specs.Prelude.{◌≡◌, ℕ, Bool, ◌&&◌, ◌||◌, not, nat_eq, nat_lt, true, IsTrue, IsSome, OnOk};
+ghost use Rattle.std.specs.Prelude.{◌≡◌, ℕ, Bool, ◌&&◌, ◌||◌, not, nat_eq, nat_lt, true, false, Option, OnOk};
 ghost use Rattle.bbm_regimes.specs.PeMask.{pe_in};
 ghost use Rattle.bbm_regimes.specs.declared.regime.Tag.{Tag as TheTag};
-ghost use Rattle.bbm_tlbi_scope.specs.Decode.{needs_vmid};
 ghost use Rattle.bbm_tlbi_scope.specs.Tags.{takes_whole_tag};
 ghost use Rattle.bbm_roots.specs.Columns.{loads_in};
 ghost use Rattle.bbm_roots.specs.Holds.{hold_in};
@@ -14,14 +13,24 @@ use crate::hold::Held;
 use crate::pending::{Pending, has_pending};
 use crate::registers::Registers;
 use bbm_regimes::{NoMemory, Pe, PeMask, Tag};
-use bbm_tlbi_scope::{Scope, whole_tag};
+use bbm_tlbi_scope::{Family, Scope, whole_tag};
 
 // Whether a TLBI of this scope, under this VMID, takes the whole tag.
 fn takes(scope: &Scope, vmid: Option<u16>, tag: Tag) -> bool
-    requires { IsTrue (needs_vmid scope.now) → IsSome vmid }
     ensures { result ≡ takes_whole_tag scope.now vmid tag }
 {
     whole_tag(*scope, vmid, tag)
+}
+
+/// Whether TLBIs of the scope's family take whole tags. Where they don't, this one takes none. Source: Arm ARM (DDI
+/// 0487), "TLB maintenance instructions".
+pub fn takes_tags(scope: &Scope) -> bool
+    ensures { result ≡ false → (vmid : Option ℕ) (tag : TheTag) → takes_whole_tag scope.now vmid tag ≡ false }
+{
+    matches!(
+        scope.family,
+        Family::El2All | Family::E1All | Family::VmAll1 | Family::VmAll12 | Family::Asid
+    )
 }
 
 // Makes an entry of the issuer and the tag, with no PE in it, where there is none.
@@ -60,7 +69,6 @@ pub fn make_room(
     scope: &Scope,
     vmid: Option<u16>,
 ) -> Result<(), NoMemory>
-    requires { IsTrue (needs_vmid scope.now) → IsSome vmid }
     ensures same { (q : ℕ) (b : Bool) (g : TheTag) (p : ℕ) → spec.pending_in pendings.new.items q b g p
         ≡ spec.pending_in pendings.old.items q b g p }
     ensures made { OnOk result ((g : TheTag) (r p : ℕ) → hold_in holds.now g r p ≡ true
@@ -92,7 +100,6 @@ fn added(
     scope: &Scope,
     vmid: Option<u16>,
 ) -> PeMask
-    requires { IsTrue (needs_vmid scope.now) → IsSome vmid }
     ensures { (p : ℕ) → pe_in result p
         ≡ ((nat_eq pending.now.issuer issuer && spec.same_flag pending.now.broadcast scope.now.broadcast
         && takes_whole_tag scope.now vmid pending.now.tag)
@@ -115,7 +122,6 @@ fn note_one(
     scope: &Scope,
     vmid: Option<u16>,
 )
-    requires { IsTrue (needs_vmid scope.now) → IsSome vmid }
     ensures { (q : ℕ) (b : Bool) (g : TheTag) (p : ℕ) → spec.pending_bit q b g p pending.new
         ≡ (spec.pending_bit q b g p pending.old || (spec.is_pending q b g pending.old
         && ((nat_eq q issuer && spec.same_flag scope.now.broadcast b && takes_whole_tag scope.now vmid g)
@@ -137,7 +143,6 @@ pub fn note(
     scope: &Scope,
     vmid: Option<u16>,
 )
-    requires { IsTrue (needs_vmid scope.now) → IsSome vmid }
     ensures { (q : ℕ) (b : Bool) (g : TheTag) (p : ℕ) → spec.pending_in pendings.new q b g p
         ≡ (spec.pending_in pendings.old q b g p || (spec.has_pending q b g pendings.old
         && ((nat_eq q issuer && spec.same_flag scope.now.broadcast b && takes_whole_tag scope.now vmid g)

@@ -11,6 +11,7 @@ mod reading;
 mod registers;
 mod root;
 mod roots;
+mod search;
 
 pub use fault::{InUse, RootFault, Unsynced};
 pub use roots::Roots;

@@ -30,7 +30,6 @@ pub struct Roots {
 
 impl Roots {
     ghost use Rattle.std.specs.Prelude.{◌≡◌, ◌≢◌, ◌||◌, ◌&&◌, not, true, false, Bool, if◌then◌else◌, Some, IfSome, nat_eq, ℕ, ◌<◌, ◌≤◌, ◌↔◌, List, [], ◌∷◌, Err, None, length, IsOk, IfOk, OnOk, OnErr, IfErr, IsTrue, IsSome};
-    ghost use Rattle.bbm_tlbi_scope.specs.Decode.{needs_vmid};
     ghost use Rattle.bbm_regimes.specs.PeMask.{pe_in};
     ghost use Rattle.bbm_roots.specs.Calls as call;
     ghost use Rattle.bbm_roots.specs.Calls.{Call};
@@ -162,8 +161,8 @@ impl Roots {
         pending::settle(&mut self.pendings, issuer, dsb);
     }
 
-    /// A TLBI of the PE, of this scope and under this VMID, which is there where the scope is that of a VMID.
-    /// `NoMemory` where there is none; then nothing changes.
+    /// A TLBI of the PE, of this scope and under this VMID, 0 to 65535; with None a TLBI for one VMID alone takes no
+    /// tag. `NoMemory` where there is none; then nothing changes. A TLBI for pages looks at nothing.
     pub fn issue(
         &mut self,
         _alloc: Global,
@@ -171,8 +170,7 @@ impl Roots {
         scope: Scope,
         vmid: Option<u16>,
     ) -> Result<(), RootFault>
-        requires known { issuer < pes_of self.old }
-        requires vmid { IsTrue (needs_vmid scope) → IsSome vmid }
+        requires { issuer < pes_of self.old }
         ensures taken { OnOk result ((calls : List Call) → Stands self.old calls
             → Stands self.new (call.Issue issuer scope vmid ∷ calls)) }
         ensures fault { IfErr result (λ fault. fault ≡ RootFault.NoMemory) }
@@ -181,6 +179,9 @@ impl Roots {
         ensures pes { pes_of self.new ≡ pes_of self.old }
         ensures world { world_of self.new ≡ world_of self.old }
     {
+        if !issue::takes_tags(&scope) {
+            return Ok(());
+        }
         match issue::make_room(&mut self.pendings, &self.holds, issuer, &scope, vmid) {
             Ok(()) => {
                 let reach = self.reach(issuer, scope.broadcast);

@@ -1,10 +1,18 @@
-use Rattle.std.proofs.Common.{◌≡◌, length, take, arith, ap, ◌∙◌, List}
+use Rattle.std.proofs.Common.{◌≡◌, ◌<◌, ℕ, length, take, arith, ap, sym, ◌∙◌, ◌||◌, ◌&&◌, nat_eq, Bool, true, false, refl, ◌+◌, List, Vec, Global}
+use Rattle.std.proofs.lemmas.Bool.{false≢true, eq-eqb}
 use Rattle.bbm_regimes.specs.PeMask.{pe_in}
+use Rattle.bbm_regimes.specs.declared.regime.Tag.{Tag}
+use Rattle.bbm_tlbi_scope.specs.Tags.{takes_whole_tag}
+use Rattle.bbm_roots.specs.Pendings.{has_pending, pending_in, same_flag}
+use Rattle.bbm_roots.specs.Readings.{same_tag}
+use Rattle.bbm_roots.specs.declared.pending.Pending.{Pending}
 use Rattle.bbm_roots.specs.Holds.{holds_bit, is_hold, has_hold}
 use Rattle.bbm_roots.specs.declared.hold.Held.{Held}
 use Rattle.std.proofs.lemmas.List.{take_all}
-use Rattle.bbm_roots.proofs.Lists.{any-weaker}
-use Rattle.bbm_roots.proofs.Bits.{and_left}
+use Rattle.bbm_roots.proofs.Lists.{any-weaker, any-next}
+use Rattle.bbm_roots.proofs.Bits.{and_left, hold-tag, same_tag-self, same_flag-self}
+use Rattle.bbm_roots.proofs.Leasts.{or-split, or-true, true-or}
+use Rattle.bbm_roots.proofs.issue.make_room.Goals.{then-takes+in_ok-make_entry, else-takes}
 use Rattle.bbm_roots.proofs.issue.make_room.Goals as goal
 
 pub returns-clause-made : goal.returns-clause-made
@@ -14,3 +22,43 @@ returns-clause-made c = λ g r p held takes.
     (ap (has_hold g r) whole
     ∙ any-weaker (holds_bit g r p) (is_hold g r) (λ (x : Held) e. and_left (is_hold g r x) (pe_in x.pes p) e) c.args.holds.now held)
     takes
+
+pub loop-held-preserved : goal.loop-held-preserved
+loop-held-preserved c =
+    let issuer = c.args.issuer in
+    let flag = c.args.scope.now.broadcast in
+    let held = c.held-item.result in
+    let before = c.loop-held.pendings.items in
+    let found = λ (g : Tag) (r : ℕ) (has : has_hold g r (take (c.loop-held.held-index + 1) c.args.holds.now) ≡ true).
+    sym (any-next (is_hold g r) c.args.holds.now c.loop-held.held-index held (omega arith) c.held-item.is) ∙ has in
+    elim c.if-takes.branch [
+      | then-takes+in_ok-make_entry w ↦ record {
+        same = λ q b g p.
+            ap (λ (v : Vec Pending Global). pending_in v.items q b g p) w.pendings-is
+            ∙ w.in_ok-make_entry.ensures.same q b g p ∙ c.loop-held.invariant.same q b g p;
+        made = λ g r has takes.
+            ap (λ (v : Vec Pending Global). has_pending issuer flag g v.items) w.pendings-is
+            ∙ w.in_ok-make_entry.ensures.made issuer flag g
+            ∙ or-split (has_hold g r (take c.loop-held.held-index c.args.holds.now)) (is_hold g r held)
+            ((has_pending issuer flag g before || (nat_eq issuer issuer && same_flag flag flag && same_tag held.tag g)) ≡ true)
+            (λ k. or-true (has_pending issuer flag g before) (nat_eq issuer issuer && same_flag flag flag && same_tag held.tag g)
+            (c.loop-held.invariant.made g r k takes))
+            (λ k. true-or (has_pending issuer flag g before) (nat_eq issuer issuer && same_flag flag flag && same_tag held.tag g)
+            (ap (λ (b : Bool). b && same_flag flag flag && same_tag held.tag g) (eq-eqb issuer issuer refl)
+            ∙ ap (λ (b : Bool). b && same_tag held.tag g) (same_flag-self flag)
+            ∙ ap (λ (t : Tag). same_tag t g) (hold-tag g r held k) ∙ same_tag-self g))
+            (found g r has);
+      }
+      | else-takes w ↦ record {
+        same = λ q b g p.
+            ap (λ (v : Vec Pending Global). pending_in v.items q b g p) w.pendings-is ∙ c.loop-held.invariant.same q b g p;
+        made = λ g r has takes.
+            ap (λ (v : Vec Pending Global). has_pending issuer flag g v.items) w.pendings-is
+            ∙ or-split (has_hold g r (take c.loop-held.held-index c.args.holds.now)) (is_hold g r held)
+            (has_pending issuer flag g before ≡ true)
+            (λ k. c.loop-held.invariant.made g r k takes)
+            (λ k. absurd (false≢true (sym w.if-takes.false ∙ c.takes.ensures
+            ∙ ap (takes_whole_tag c.args.scope.now c.args.vmid) (hold-tag g r held k) ∙ takes)))
+            (found g r has);
+      }
+    ]

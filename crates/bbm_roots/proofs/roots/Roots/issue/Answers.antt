@@ -11,12 +11,13 @@ use Rattle.bbm_roots.specs.Pendings.{pending_in, has_pending, same_flag}
 use Rattle.bbm_roots.specs.Readings.{reads_tag}
 use Rattle.bbm_roots.specs.Registers.{register_values, first_reg, second_reg}
 use Rattle.bbm_roots.specs.Stands.{Stands, world_of, pes_of}
-use Rattle.bbm_roots.specs.Tags.{reads, reads_for_some, holds_at, awaited}
+use Rattle.bbm_roots.specs.Tags.{reads, reads_for_some, reaches, holds_at, awaited}
 use Rattle.bbm_roots.specs.declared.hold.Held.{Held}
 use Rattle.bbm_roots.specs.declared.load.Load.{Load}
 use Rattle.bbm_roots.specs.declared.pending.Pending.{Pending}
+use Rattle.bbm_roots.proofs.Bits.{and-false}
 use Rattle.bbm_roots.proofs.Flat.{reads_tag-is}
-use Rattle.bbm_roots.proofs.Steps.{holds-stay, noted}
+use Rattle.bbm_roots.proofs.Steps.{holds-stay, awaited-stay, noted}
 use Rattle.bbm_roots.proofs.PendingBits.{entry-there}
 use Rattle.bbm_roots.proofs.roots.Roots.issue.Goals as goal
 
@@ -58,4 +59,26 @@ returns-in-Ok-clause-taken c = λ calls stands.
           (ap (λ (xs : List Load). reads_tag world xs (loads_in c.args.self.now.registers.second.items p) g) (stands.first p below)
           ∙ ap (λ (ys : List Load). reads_tag world (register_values calls p (first_reg world)) ys g) (stands.second p below)
           ∙ sym (reads_tag-is world (register_values calls p (first_reg world)) (register_values calls p (second_reg world)) g));
+    }
+
+pub returns-then-not-takes_tags-clause-taken : goal.returns-then-not-takes_tags-clause-taken
+returns-then-not-takes_tags-clause-taken c = λ calls stands.
+    let world = world_of c.args.self.now in
+    let call : Call = Issue c.args.issuer c.args.scope c.args.vmid in
+    let stay = λ (g : Tag) (r p : ℕ). holds-stay world call calls g r p (λ (e : reads world calls p g r ≡ true). e) refl in
+    record {
+      first = stands.first;
+      second = stands.second;
+      outside = stands.outside;
+      declared = stands.declared;
+      count = stands.count;
+      holds = λ g r p. stands.holds g r p ∙ sym (stay g r p);
+      inside = λ g r p past. stay g r p ∙ stands.inside g r p past;
+      pendings = λ q b g r p held.
+          stands.pendings q b g r p (sym (stay g r p) ∙ held)
+          ∙ sym (awaited-stay world call calls q b g p (λ (e : reads_for_some world calls p g ≡ true). e)
+          (ap (λ (t : Bool). (nat_eq q c.args.issuer && same_flag c.args.scope.broadcast b && t) && reaches c.args.scope c.args.issuer p)
+          (c.takes_tags.ensures c.if-not-takes_tags.true c.args.vmid g)
+          ∙ ap (λ (t : Bool). t && reaches c.args.scope c.args.issuer p) (and-false (nat_eq q c.args.issuer && same_flag c.args.scope.broadcast b)))
+          refl);
     }

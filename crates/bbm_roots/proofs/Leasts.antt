@@ -1,0 +1,86 @@
+-- The least of what passes a test, where one more thing passes.
+use Rattle.std.proofs.Common.{◌≡◌, ◌≤◌, ℕ, Bool, true, false, ◌&&◌, ◌||◌, List, Option, Some, None, refl, sym, ◌∙◌, ap, arith}
+use Rattle.std.proofs.lemmas.Bool.{false≢true, eqb-true}
+use Rattle.bbm_regimes.specs.declared.regime.Tag.{Tag}
+use Rattle.bbm_tlbi_scope.specs.declared.entry.TagSet.{TagSet}
+use Rattle.bbm_tlbi_scope.specs.declared.entry.TagSet.TheVariants.{None as NoTag, One, Many}
+use Rattle.bbm_roots.specs.Holds.{HasTags}
+use Rattle.bbm_roots.specs.Least.{IsLeast, ReadingUpTo}
+use Rattle.bbm_roots.specs.Readings.{same_tag, tag_rank}
+use Rattle.bbm_roots.specs.declared.reading.Reading.{Reading}
+
+pub or-split : (a b : Bool) → (P : Type 0) → (a ≡ true → P) → (b ≡ true → P) → (a || b) ≡ true → P
+or-split true b P f g e = f refl
+or-split false b P f g e = g e
+
+pub or-true : (a b : Bool) → a ≡ true → (a || b) ≡ true
+or-true true b e = refl
+or-true false b e = absurd (false≢true e)
+
+pub true-or : (a b : Bool) → b ≡ true → (a || b) ≡ true
+true-or true b e = refl
+true-or false b e = e
+
+module _ {X : Type 0} (before : X → X → Type 0) where
+  pub least-same : (test other : X → Bool) → ((x : X) → other x ≡ test x) → (o : Option X) →
+      IsLeast before test o → IsLeast before other o
+  least-same test other same None h = λ x. same x ∙ h x
+  least-same test other same (Some x) h = (same x ∙ h.0, λ y e. h.1 y (sym (same y) ∙ e))
+
+  module _ (test hit : X → Bool) where
+    pub least-miss : ((x : X) → hit x ≡ false) → (o : Option X) → IsLeast before test o →
+        IsLeast before (λ x. test x || hit x) o
+    least-miss none None h = λ x. ap (λ (b : Bool). b || hit x) (h x) ∙ none x
+    least-miss none (Some x) h =
+        (or-true (test x) (hit x) h.0, λ y e. or-split (test y) (hit y) (before x y) (h.1 y) (λ k. absurd (false≢true (sym (none y) ∙ k))) e)
+
+    pub least-keep : (x : X) → IsLeast before test (Some x) → ((y : X) → hit y ≡ true → before x y) →
+        IsLeast before (λ y. test y || hit y) (Some x)
+    least-keep x h past = (or-true (test x) (hit x) h.0, λ y e. or-split (test y) (hit y) (before x y) (h.1 y) (past y) e)
+
+    pub least-take : (x : X) → hit x ≡ true → ((y : X) → test y ≡ true → before x y) → ((y : X) → hit y ≡ true → before x y) →
+        IsLeast before (λ y. test y || hit y) (Some x)
+    least-take x at past other = (true-or (test x) (hit x) at, λ y e. or-split (test y) (hit y) (before x y) (past y) (other y) e)
+
+    pub least-first : (x : X) → hit x ≡ true → IsLeast before test None → ((y : X) → hit y ≡ true → before x y) →
+        IsLeast before (λ y. test y || hit y) (Some x)
+    least-first x at none other = least-take x at (λ y e. absurd (false≢true (sym (none y) ∙ e))) other
+
+pub up-to-trans : (x y z : Reading) → ReadingUpTo x y → ReadingUpTo y z → ReadingUpTo x z
+up-to-trans x y z f g = (
+  omega (arith, f.0, g.0),
+  λ e. let xy : x.root ≡ y.root = omega (arith, f.0, g.0, e) in let yz : y.root ≡ z.root = omega (arith, f.0, g.0, e) in
+      omega (arith, f.1 xy, g.1 yz),
+)
+
+-- sets of tags
+pub tags-same : (test other : Tag → Bool) → ((g : Tag) → other g ≡ test g) → (set : TagSet) → HasTags test set → HasTags other set
+tags-same test other same NoTag h = λ g. same g ∙ h g
+tags-same test other same (One g) h = (same g ∙ h.0, λ k e. h.1 k (sym (same k) ∙ e))
+tags-same test other same Many h = (h.0, h.1, same h.0 ∙ h.2, same h.1 ∙ h.3, h.4)
+
+module _ (test hit : Tag → Bool) where
+  pub tags-miss : ((g : Tag) → hit g ≡ false) → (set : TagSet) → HasTags test set → HasTags (λ g. test g || hit g) set
+  tags-miss none set h =
+      tags-same test (λ g. test g || hit g) (λ g. ap (λ (b : Bool). test g || b) (none g) ∙ or-false (test g)) set h
+    where
+      or-false : (b : Bool) → (b || false) ≡ b
+      or-false true = refl
+      or-false false = refl
+
+  pub tags-first : (g : Tag) → hit g ≡ true → ((k : Tag) → hit k ≡ true → k ≡ g) → HasTags test NoTag →
+      HasTags (λ k. test k || hit k) (One g)
+  tags-first g at one none =
+      (true-or (test g) (hit g) at, λ k e. or-split (test k) (hit k) (k ≡ g) (λ t. absurd (false≢true (sym (none k) ∙ t))) (one k) e)
+
+  pub tags-again : (g h : Tag) → ((k : Tag) → hit k ≡ true → k ≡ g) → h ≡ g → HasTags test (One h) →
+      HasTags (λ k. test k || hit k) (One h)
+  tags-again g h one same known =
+      (or-true (test h) (hit h) known.0, λ k e. or-split (test k) (hit k) (k ≡ h) (known.1 k) (λ t. one k t ∙ sym same) e)
+
+  pub tags-second : (g h : Tag) → hit g ≡ true → same_tag h g ≡ false → HasTags test (One h) →
+      HasTags (λ k. test k || hit k) Many
+  tags-second g h at other known = (h, g, or-true (test h) (hit h) known.0, true-or (test g) (hit g) at, other)
+
+  pub tags-many : HasTags test Many → HasTags (λ k. test k || hit k) Many
+  tags-many h = (h.0, h.1, or-true (test h.0) (hit h.0) h.2, or-true (test h.1) (hit h.1) h.3, h.4)
