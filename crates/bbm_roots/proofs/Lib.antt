@@ -8,3 +8,8 @@ pub mod Written
 pub mod Made
 pub mod RootLists
 pub mod Leasts
+pub mod Conflicts
+pub mod Rooted
+pub mod Judged
+pub mod Numbers
+pub mod Users

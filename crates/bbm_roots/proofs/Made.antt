@@ -1,5 +1,5 @@
 -- What roots stand for, with the number of PEs and the world named apart.
-use Rattle.std.proofs.Common.{◌≡◌, ◌<◌, ◌≤◌, ℕ, Bool, true, false, List, [], ◌∷◌, nat_eq, length, sym, subst}
+use Rattle.std.proofs.Common.{◌≡◌, ◌<◌, ◌≤◌, ℕ, Bool, true, false, List, [], ◌∷◌, nat_eq, length, sym, subst, IsSome}
 use Rattle.indexmap.specs.IndexMap.{get, index_map_len}
 use Rattle.bbm_regimes.specs.declared.regime.Reg.{Reg}
 use Rattle.bbm_regimes.specs.declared.regime.Tag.{Tag}
@@ -8,8 +8,8 @@ use Rattle.bbm_roots.specs.Calls.{Call}
 use Rattle.bbm_roots.specs.Columns.{loads_in}
 use Rattle.bbm_roots.specs.Holds.{hold_in}
 use Rattle.bbm_roots.specs.Pendings.{pending_in}
-use Rattle.bbm_roots.specs.Registers.{at_start, first_reg, second_reg, register_values}
-use Rattle.bbm_roots.specs.Roots.{root_at, roots_of}
+use Rattle.bbm_roots.specs.Registers.{at_start, first_reg, second_reg, register_values, is_of_world, kind_of_reg, names_in}
+use Rattle.bbm_roots.specs.Roots.{root_at, roots_of, is_root, are_apart}
 use Rattle.bbm_roots.specs.Stands.{Stands, pes_of, world_of}
 use Rattle.bbm_roots.specs.Tags.{holds_at, awaited}
 use Rattle.bbm_roots.specs.declared.roots.Roots.{Roots}
@@ -24,6 +24,10 @@ pub record Made (world : World) (pes : ℕ) (roots : Roots) (cs : List Call) : T
   pub inside : (tag : Tag) (root p : ℕ) → pes ≤ p → holds_at world cs tag root p ≡ false
   pub pendings : (q : ℕ) (broadcast : Bool) (tag : Tag) (root p : ℕ) → holds_at world cs tag root p ≡ true →
       pending_in roots.pendings.items q broadcast tag p ≡ awaited world cs q broadcast tag p
+  pub apart : are_apart (roots_of cs) ≡ true
+  pub named : (p : ℕ) (reg : Reg) (page : ℕ) → is_of_world world reg ≡ true →
+      names_in (register_values cs p reg) page ≡ true → is_root cs (kind_of_reg reg) page ≡ true
+  pub holders : (tag : Tag) (root p : ℕ) → holds_at world cs tag root p ≡ true → IsSome (root_at cs root)
 
 stands-from : (roots : Roots) (cs : List Call) → Made (world_of roots) (pes_of roots) roots cs → Stands roots cs
 stands-from roots cs m = record {
@@ -35,6 +39,9 @@ stands-from roots cs m = record {
   holds = m.holds;
   inside = m.inside;
   pendings = m.pendings;
+  apart = m.apart;
+  named = m.named;
+  holders = m.holders;
 }
 
 pub stands-made : (roots : Roots) (cs : List Call) (world : World) (pes : ℕ) → world_of roots ≡ world → pes_of roots ≡ pes →

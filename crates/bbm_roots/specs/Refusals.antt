@@ -1,5 +1,6 @@
 -- Why a call is refused, and when it is taken. A list of calls is newest first.
 use Rattle.std.specs.Prelude.{◌≡◌, ◌<◌, ◌≤◌, ℕ, Bool, true, false, not, ◌==◌, ◌&&◌, Option, Some, None, IsSome, Result, Ok, Err, List, ◌∷◌, if◌then◌else◌}
+use Rattle.std.specs.List.{list_any}
 use Rattle.bbm_regimes.specs.declared.regime.Kind.{Kind}
 use Rattle.bbm_regimes.specs.declared.regime.Reg.{Reg}
 use Rattle.bbm_regimes.specs.declared.regime.Tag.{Tag}
@@ -7,7 +8,7 @@ use Rattle.bbm_regimes.specs.declared.regime.Which.TheVariants.{Values}
 use Rattle.bbm_regimes.specs.declared.regime.World.{World}
 use Rattle.bbm_roots.specs.Calls.{Call}
 use Rattle.bbm_roots.specs.Least.{IsLeast, UpTo, TagUpTo, ReadingUpTo}
-use Rattle.bbm_roots.specs.Readings.{has_other, has_number}
+use Rattle.bbm_roots.specs.Readings.{has_other}
 use Rattle.bbm_roots.specs.Registers.{kind_of_reg, root_of, is_that}
 use Rattle.bbm_roots.specs.Roots.{is_root}
 use Rattle.bbm_roots.specs.Tags.{readings, holds_tag}
@@ -58,11 +59,15 @@ module _ (page : ℕ) (root : Option Declared) (uses_it : ℕ → Bool) (holds_i
       IsSome root × IsLeast UpTo uses_it None × IsLeast TagUpTo holds_it (Some tag)
   JudgesRetire (Err _) = ⊥
 
+-- whether one of the values has this VMID, which isn't that one
+abbrev pub is_other_number : Option ℕ → ℕ → Load → Bool
+is_other_number than n load = load.number == n && not (is_that than n)
+
+abbrev pub other_number : List Load → Option ℕ → ℕ → Bool
+other_number loads than n = list_any (is_other_number than n) loads
+
 -- A PE's TLBIs have the one VMID of its readable values, or these two are the least of several.
 -- Source: project's own choice.
-abbrev pub other_number : List Load → Option ℕ → ℕ → Bool
-other_number loads than n = has_number n loads && not (is_that than n)
-
 module _ (vmid : Option ℕ) (loads : List Load) where
   abbrev pub JudgesVmid : Result ℕ Unsynced → Type 0
   JudgesVmid (Ok n) = vmid ≡ Some n

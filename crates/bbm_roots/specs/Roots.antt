@@ -1,5 +1,6 @@
 -- Roots of translation tables. A list of calls is newest first.
-use Rattle.std.specs.Prelude.{ℕ, Bool, true, false, ◌==◌, List, [], ◌∷◌, Option, Some, None, find, if◌then◌else◌}
+use Rattle.std.specs.Prelude.{ℕ, Bool, true, false, not, ◌&&◌, ◌==◌, List, [], ◌∷◌, Option, Some, None, find, if◌then◌else◌}
+use Rattle.std.specs.List.{list_any}
 pub use Rattle.bbm_regimes.specs.Same.{same_kind}
 use Rattle.bbm_regimes.specs.declared.regime.Kind.{Kind}
 use Rattle.bbm_roots.specs.Calls.{Call, Declare, Retire}
@@ -21,6 +22,11 @@ roots_of (_ ∷ cs) = roots_of cs
 -- the root whose first page this is
 abbrev pub is_at : ℕ → Declared → Bool
 is_at page r = r.page == page
+
+-- whether each root of the list has a page of its own
+abbrev pub are_apart : List Declared → Bool
+are_apart [] = true
+are_apart (r ∷ rs) = not (list_any (is_at r.page) rs) && are_apart rs
 
 abbrev pub root_at : List Call → ℕ → Option Declared
 root_at cs page = find (is_at page) (roots_of cs)

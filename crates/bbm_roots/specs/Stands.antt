@@ -1,5 +1,5 @@
 -- What the roots stand for: a list of accepted calls, point by point.
-use Rattle.std.specs.Prelude.{◌≡◌, ◌<◌, ◌≤◌, ℕ, Bool, true, false, List, [], ◌∷◌, Option, Some, nat_eq, length}
+use Rattle.std.specs.Prelude.{◌≡◌, ◌<◌, ◌≤◌, ℕ, Bool, true, false, List, [], ◌∷◌, Option, Some, IsSome, nat_eq, length}
 use Rattle.indexmap.specs.IndexMap.{get, index_map_len, spare}
 use Rattle.bbm_regimes.specs.declared.regime.Reg.{Reg}
 use Rattle.bbm_regimes.specs.declared.regime.Tag.{Tag}
@@ -8,8 +8,8 @@ use Rattle.bbm_roots.specs.Calls.{Call}
 use Rattle.bbm_roots.specs.Columns.{loads_in}
 use Rattle.bbm_roots.specs.Holds.{hold_in}
 use Rattle.bbm_roots.specs.Pendings.{pending_in}
-use Rattle.bbm_roots.specs.Registers.{at_start, first_reg, second_reg, register_values, is_of_world, kind_of_reg}
-use Rattle.bbm_roots.specs.Roots.{root_at, roots_of, is_root}
+use Rattle.bbm_roots.specs.Registers.{at_start, first_reg, second_reg, register_values, is_of_world, kind_of_reg, names_in}
+use Rattle.bbm_roots.specs.Roots.{root_at, roots_of, is_root, are_apart}
 use Rattle.bbm_roots.specs.Tags.{holds_at, awaited}
 use Rattle.bbm_roots.specs.declared.load.Load.{Load}
 use Rattle.bbm_roots.specs.declared.roots.Roots.{Roots}
@@ -22,7 +22,9 @@ abbrev pub world_of : Roots → World
 world_of roots = roots.registers.world
 
 -- The roots stand for the calls: they keep what the readable values of each register name, the declared roots, which
--- PEs hold a tag for a root, and, where a tag is held, which unanswered TLBIs are about to take it away.
+-- PEs hold a tag for a root, and, where a tag is held, which unanswered TLBIs are about to take it away. Of the calls
+-- it says besides that a page is that of one declared root at most, that readable values name declared roots of their
+-- register's kind, and that a root which holds a tag is declared.
 pub record Stands (roots : Roots) (cs : List Call) : Type 0 where
   pub first : (p : ℕ) → p < pes_of roots → loads_in roots.registers.first.items p ≡ register_values cs p (first_reg (world_of roots))
   pub second : (p : ℕ) → p < pes_of roots → loads_in roots.registers.second.items p ≡ register_values cs p (second_reg (world_of roots))
@@ -33,6 +35,10 @@ pub record Stands (roots : Roots) (cs : List Call) : Type 0 where
   pub inside : (tag : Tag) (root p : ℕ) → pes_of roots ≤ p → holds_at (world_of roots) cs tag root p ≡ false
   pub pendings : (q : ℕ) (broadcast : Bool) (tag : Tag) (root p : ℕ) → holds_at (world_of roots) cs tag root p ≡ true →
       pending_in roots.pendings.items q broadcast tag p ≡ awaited (world_of roots) cs q broadcast tag p
+  pub apart : are_apart (roots_of cs) ≡ true
+  pub named : (p : ℕ) (reg : Reg) (page : ℕ) → is_of_world (world_of roots) reg ≡ true →
+      names_in (register_values cs p reg) page ≡ true → is_root cs (kind_of_reg reg) page ≡ true
+  pub holders : (tag : Tag) (root p : ℕ) → holds_at (world_of roots) cs tag root p ≡ true → IsSome (root_at cs root)
 
 -- room for one more root
 abbrev pub IsPrepared : Roots → Type 0

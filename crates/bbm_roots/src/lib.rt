@@ -12,6 +12,7 @@ mod registers;
 mod root;
 mod roots;
 mod search;
+mod vmid;
 
 pub use fault::{InUse, RootFault, Unsynced};
 pub use roots::Roots;

@@ -72,3 +72,20 @@ pub fn is_of_world(world: World, reg: Reg) -> bool
         World::Kernel { .. } => matches!(reg, Reg::Ttbr0El1 | Reg::Ttbr1El1),
     }
 }
+
+// Whether the root is there and is this page.
+fn is_that(root: Option<Page>, page: Page) -> bool
+    ensures { result ≡ spec.is_that root page }
+{
+    match root {
+        Some(root) => root == page,
+        None => false,
+    }
+}
+
+/// Whether one of the values names the root with this first page.
+pub fn names_in(loads: &[Load], page: Page) -> bool
+    ensures { result ≡ spec.names_in loads.now page }
+{
+    loads.iter().any(|load| is_that(load.root, page))
+}

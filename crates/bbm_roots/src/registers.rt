@@ -6,7 +6,7 @@ ghost use Rattle.bbm_regimes.specs.PeMask.{pe_in};
 ghost use Rattle.bbm_roots.specs.Columns.{Column, loads_in};
 ghost use Rattle.bbm_roots.specs.Registers.{at_start, newest};
 
-use crate::load::{Load, is_first};
+use crate::load::{self, Load, is_first};
 use crate::reading::{Reading, readings, reads_tag};
 use arrayvec::ArrayVec;
 use bbm_events::Header;
@@ -142,7 +142,8 @@ pub struct Registers {
 impl Registers {
     ghost use Rattle.std.specs.Prelude.{not, nat_lt};
     ghost use Rattle.bbm_roots.specs.Readings.{readings_of, reads_tag as spec_reads_tag};
-    ghost use Rattle.bbm_roots.specs.Registers.{is_first as spec_is_first};
+    ghost use Rattle.bbm_roots.specs.Least.{IsLeast, UpTo};
+    ghost use Rattle.bbm_roots.specs.Registers.{is_first as spec_is_first, names_in};
 
     /// The registers of the header's PEs, each with the value 0.
     pub fn new(alloc: Global, header: &Header) -> Result<Registers, NoMemory>
@@ -223,6 +224,30 @@ impl Registers {
             let second = with_front(alloc, load, second)?;
             readings(alloc, self.world, first, &second)
         }
+    }
+
+    // Whether a readable value of the PE names the root with this first page.
+    fn uses(&self, pe: Pe, page: Page) -> bool
+        requires { pe < self.now.pes }
+        ensures { result ≡ (names_in (loads_in self.now.first.items pe) page
+            || names_in (loads_in self.now.second.items pe) page) }
+    {
+        load::names_in(loads_at(&self.first, pe), page)
+            || load::names_in(loads_at(&self.second, pe), page)
+    }
+
+    /// The first PE with a readable value that names the root with this first page. None where there is none.
+    pub fn first_user(&self, page: Page) -> Option<Pe>
+        ensures { IsLeast UpTo (λ p. nat_lt p self.now.pes && (names_in (loads_in self.now.first.items p) page
+            || names_in (loads_in self.now.second.items p) page)) result }
+    {
+        for number in 0..self.pes {
+            let pe = Pe::new(number).unwrap();
+            if self.uses(pe, page) {
+                return Some(pe);
+            }
+        }
+        None
     }
 
     /// Puts the value in front of those of the register, which isn't full.

@@ -1,17 +1,17 @@
 //! The roots, their tags and the registers that name them.
 
-use crate::fault::{RootFault, Unsynced};
+use crate::fault::{InUse, RootFault, Unsynced};
 use crate::hold::Held;
 use crate::load::{Load, base_of, kind_of, names_null, number_of};
 use crate::pending::Pending;
 use crate::reading::Reading;
 use crate::registers::Registers;
 use crate::root::{Declared, same_kind};
-use crate::{hold, issue, pending, registers};
+use crate::{hold, issue, pending, registers, search, vmid};
 use bbm_barriers::Dsb;
 use bbm_events::Header;
 use bbm_regimes::{Kind, NoMemory, Page, Pe, PeMask, Reg, Which, World};
-use bbm_tlbi_scope::Scope;
+use bbm_tlbi_scope::{Scope, TagSet};
 use indexmap::IndexMap;
 use std::alloc::Global;
 
@@ -29,18 +29,19 @@ pub struct Roots {
 }
 
 impl Roots {
-    ghost use Rattle.std.specs.Prelude.{◌≡◌, ◌≢◌, ◌||◌, ◌&&◌, not, true, false, Bool, if◌then◌else◌, Some, IfSome, nat_eq, ℕ, ◌<◌, ◌≤◌, ◌↔◌, List, [], ◌∷◌, Err, None, length, IsOk, IfOk, OnOk, OnErr, IfErr, IsTrue, IsSome};
+    ghost use Rattle.std.specs.Prelude.{◌≡◌, ◌≢◌, ◌||◌, ◌&&◌, not, true, false, Bool, if◌then◌else◌, Some, IfSome, nat_eq, ℕ, ◌<◌, ◌≤◌, ◌↔◌, List, [], ◌∷◌, Err, None, length, IsOk, IfOk, OnOk, OnErr, IfErr, is_some};
     ghost use Rattle.bbm_regimes.specs.PeMask.{pe_in};
     ghost use Rattle.bbm_roots.specs.Calls as call;
     ghost use Rattle.bbm_roots.specs.Calls.{Call};
     ghost use Rattle.bbm_roots.specs.Roots as spec;
     ghost use Rattle.bbm_roots.specs.Columns.{loads_in};
-    ghost use Rattle.bbm_roots.specs.Holds.{hold_in, has_hold};
+    ghost use Rattle.bbm_roots.specs.Holds.{hold_in, has_hold, conflict_in, HasTags};
     ghost use Rattle.bbm_roots.specs.Pendings.{pending_in};
     ghost use Rattle.bbm_roots.specs.Readings.{has_reading, has_tag, readings_of};
-    ghost use Rattle.bbm_roots.specs.Refusals.{missing_root};
-    ghost use Rattle.bbm_roots.specs.Registers.{is_first as spec_is_first, is_of_world, register_values, root_of};
+    ghost use Rattle.bbm_roots.specs.Refusals.{missing_root, conflicts, JudgesWrite, JudgesRetire, JudgesVmid};
+    ghost use Rattle.bbm_roots.specs.Registers.{is_first as spec_is_first, is_of_world, register_values, root_of, second_reg, uses};
     ghost use Rattle.bbm_regimes.specs.declared.regime.Tag.{Tag as TheTag};
+    ghost use Rattle.bbm_roots.specs.Tags.{holds_tag, vmid_of};
     ghost use Rattle.bbm_roots.specs.Stands.{Stands, IsPrepared, pes_of, world_of};
 
     /// The roots of a log with this header before any call. `NoMemory` where there is none.
@@ -69,6 +70,13 @@ impl Roots {
             Some(root) => same_kind(root.kind, kind),
             None => false,
         }
+    }
+
+    /// Whether the page is the first page of a declared root.
+    pub fn is_declared(&self, page: Page) -> bool
+        ensures { (calls : List Call) → Stands self.now calls → result ≡ is_some (spec.root_at calls page) }
+    {
+        self.declared.get(&page.get()).is_some()
     }
 
     /// The lock of the declared root with this first page, 0 to 65535; None where it has none or isn't declared.
@@ -133,6 +141,72 @@ impl Roots {
             Ok(_) => Ok(()),
             Err(_) => Err(RootFault::NoMemory),
         }
+    }
+
+    /// Retires the declared root with this first page. `NoRoot` with the page exactly where none is declared. Else
+    /// `RootInUse` exactly where it is the base of a readable register value at some PE, or holds a tag: with the least
+    /// such PE, else with the first such tag in the order `El2`, VMIDs, ASIDs, `Ttbr1`. A refusal changes nothing. It
+    /// takes no memory.
+    pub fn retire(&mut self, page: Page) -> Result<(), RootFault>
+        ensures taken { OnOk result ((calls : List Call) → Stands self.old calls
+            → Stands self.new (call.Retire page ∷ calls)) }
+        ensures judged { (calls : List Call) → Stands self.old calls
+            → JudgesRetire page (spec.root_at calls page) (uses (world_of self.old) calls page)
+            (λ tag. holds_tag (world_of self.old) (pes_of self.old) calls tag page) result }
+        ensures same { OnErr result ((calls : List Call) → Stands self.old calls → Stands self.new calls) }
+        ensures prepared { IsPrepared self.old → IsPrepared self.new }
+        ensures pes { pes_of self.new ≡ pes_of self.old }
+        ensures world { world_of self.new ≡ world_of self.old }
+    {
+        match self.may_retire(page) {
+            Ok(()) => {
+                self.declared.swap_remove(&page.get());
+                Ok(())
+            }
+            Err(fault) => Err(fault),
+        }
+    }
+
+    // Whether the root can be retired, and else why not.
+    fn may_retire(&self, page: Page) -> Result<(), RootFault>
+        ensures { (calls : List Call) → Stands self.now calls
+            → JudgesRetire page (spec.root_at calls page) (uses (world_of self.now) calls page)
+            (λ tag. holds_tag (world_of self.now) (pes_of self.now) calls tag page) result }
+    {
+        if !self.is_declared(page) {
+            return Err(RootFault::NoRoot(page.get()));
+        }
+        match self.registers.first_user(page) {
+            Some(pe) => Err(RootFault::RootInUse(InUse::Pe(pe))),
+            None => match search::first_tag(&self.holds, self.registers.pes, page) {
+                Some(tag) => Err(RootFault::RootInUse(InUse::Tag(tag))),
+                None => Ok(()),
+            },
+        }
+    }
+
+    /// The VMID under which the PE issues its TLBIs, 0 to 65535: the one VMID of its readable values of VTTBR_EL2, 0 in
+    /// the Kernel world, where it isn't logged. `Unsynced` with the two least of them exactly where two differ.
+    pub fn vmid_of(&self, pe: Pe) -> Result<u16, Unsynced>
+        requires { pe < pes_of self.now }
+        ensures { (calls : List Call) → Stands self.now calls
+            → JudgesVmid (vmid_of (world_of self.now) calls pe)
+            (register_values calls pe (second_reg (world_of self.now))) result }
+    {
+        match self.registers.world {
+            World::Hyp { .. } => {
+                vmid::one_number(registers::loads_at(&self.registers.second, pe))
+            }
+            World::Kernel { .. } => Ok(0),
+        }
+    }
+
+    /// The tags that the root with this first page holds: none, one, or more than one.
+    pub fn tags_of(&self, page: Page) -> TagSet
+        ensures { (calls : List Call) → Stands self.now calls
+            → HasTags (λ tag. holds_tag (world_of self.now) (pes_of self.now) calls tag page) result }
+    {
+        search::tags_in(&self.holds, self.registers.pes, page)
     }
 
     /// An ISB of the PE: its newest register values alone stay in use.
@@ -277,10 +351,12 @@ impl Roots {
     }
 
     /// The PE writes the register, which is one of the world. `null` tells whether the base of the value is a null page,
-    /// which counts in TTBR0_EL1 alone: such a value names no root, as 0 does. `NoRoot` with the base where the
-    /// value names another base than that of a declared root of the register's kind; else `Limit(Values)`
-    /// where it is the ninth write without an ISB between. `NoMemory` may come in the place of the last and of Ok. A
-    /// refusal changes nothing. That a tag would be readable for one root while another holds it isn't judged here.
+    /// which counts in TTBR0_EL1 alone: such a value names no root, as 0 does. `NoRoot` with the base exactly where the
+    /// value names another base than that of a declared root of the register's kind. Else `TagConflict` exactly where
+    /// after the write a tag would be readable at the PE for one root while another holds it: with the least first page
+    /// of such another root, and its first such tag in the order `El2`, VMIDs, ASIDs, `Ttbr1`. Else `Limit(Values)`
+    /// exactly where it is the ninth write without an ISB between. `NoMemory` may come in the place of the last two
+    /// and of Ok. A refusal changes nothing.
     pub fn write_reg(
         &mut self,
         alloc: Global,
@@ -293,28 +369,25 @@ impl Roots {
         requires of_world { is_of_world (world_of self.old) reg ≡ true }
         ensures taken { OnOk result ((calls : List Call) → Stands self.old calls
             → Stands self.new (call.WriteReg pe reg value null ∷ calls)) }
+        ensures judged { (calls : List Call) → Stands self.old calls
+            → JudgesWrite (missing_root calls reg value null)
+            (conflicts (world_of self.old) (pes_of self.old) (call.WriteReg pe reg value null ∷ calls) pe)
+            (length (register_values calls pe reg)) result }
         ensures same { OnErr result ((calls : List Call) → Stands self.old calls → Stands self.new calls) }
-        ensures named { OnOk result ((calls : List Call) → Stands self.old calls
-            → missing_root calls reg value null ≡ None) }
-        ensures no_root { (base : ℕ) → result ≡ Err (RootFault.NoRoot base) → (calls : List Call)
-            → Stands self.old calls → missing_root calls reg value null ≡ Some base }
-        ensures room { OnOk result ((calls : List Call) → Stands self.old calls
-            → length (register_values calls pe reg) < 9) }
-        ensures limit { result ≡ Err (RootFault.Limit Which.Values) → (calls : List Call)
-            → Stands self.old calls → 9 ≤ length (register_values calls pe reg) }
         ensures prepared { IsPrepared self.old → IsPrepared self.new }
         ensures pes { pes_of self.new ≡ pes_of self.old }
         ensures world { world_of self.new ≡ world_of self.old }
     {
         let root = self.named_root(reg, value, null)?;
         let number = number_of(value);
-        let seen = self.judge(alloc, pe, reg, number, &root)?;
+        let seen = self.readings_after(alloc, pe, reg, number, &root)?;
+        self.judge(pe, reg, &seen)?;
         self.take(pe, reg, number, root, &seen);
         Ok(())
     }
 
-    // The readable tags of the PE after the write, each with an entry; the refusals that come after `NoRoot`.
-    fn judge(
+    // The readable tags of the PE after the write, each with an entry. Nobody holds more or less.
+    fn readings_after(
         &mut self,
         alloc: Global,
         pe: Pe,
@@ -330,35 +403,42 @@ impl Roots {
             else record { number = number; root = root.now } ∷ loads_in self.old.registers.second.items pe)) }
         ensures entries { IfOk result (λ seen. (g : TheTag) (r : ℕ) → has_reading g r seen.items ≡ true
             → has_hold g r self.new.holds.items ≡ true) }
-        ensures room { OnOk result (length (if spec_is_first reg then loads_in self.old.registers.first.items pe
-            else loads_in self.old.registers.second.items pe) < 9) }
-        ensures other { (base : ℕ) → result ≢ Err (RootFault.NoRoot base) }
-        ensures limit { result ≡ Err (RootFault.Limit Which.Values) → 9 ≤ length (if spec_is_first reg
-            then loads_in self.old.registers.first.items pe else loads_in self.old.registers.second.items pe) }
+        ensures fault { IfErr result (λ fault. fault ≡ RootFault.NoMemory) }
         ensures holds { (g : TheTag) (r p : ℕ) → hold_in self.new.holds.items g r p ≡ hold_in self.old.holds.items g r p }
         ensures registers { self.new.registers ≡ self.old.registers }
         ensures declared { self.new.declared ≡ self.old.declared }
         ensures pendings { self.new.pendings ≡ self.old.pendings }
     {
-        let seen = match self.registers.readings_with(
-            alloc,
-            pe,
-            reg,
-            Load {
-                number,
-                root: *root,
-            },
-        ) {
+        let load = Load {
+            number,
+            root: *root,
+        };
+        let seen = match self.registers.readings_with(alloc, pe, reg, load) {
             Ok(seen) => seen,
             Err(_) => return Err(RootFault::NoMemory),
         };
         match hold::make_room(&mut self.holds, &seen) {
-            Ok(()) => (),
-            Err(_) => return Err(RootFault::NoMemory),
+            Ok(()) => Ok(seen),
+            Err(_) => Err(RootFault::NoMemory),
         }
-        if self.registers.is_full(pe, reg) {
-            return Err(RootFault::Limit(Which::Values));
+    }
+
+    // Judges the write of a value whose root isn't missing and which makes these tags readable at the PE.
+    fn judge(&self, pe: Pe, reg: Reg, seen: &[Reading]) -> Result<(), RootFault>
+        requires { pe < pes_of self.now }
+        ensures { JudgesWrite None (conflict_in self.now.holds.items (pes_of self.now) seen.now)
+            (length (if spec_is_first reg then loads_in self.now.registers.first.items pe
+            else loads_in self.now.registers.second.items pe)) result }
+    {
+        match search::least_conflict(&self.holds, self.registers.pes, seen) {
+            Some(held) => Err(RootFault::TagConflict(held.tag, held.root)),
+            None => {
+                if self.registers.is_full(pe, reg) {
+                    Err(RootFault::Limit(Which::Values))
+                } else {
+                    Ok(())
+                }
+            }
         }
-        Ok(seen)
     }
 }

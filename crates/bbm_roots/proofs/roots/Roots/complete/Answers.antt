@@ -38,4 +38,7 @@ returns-clause-taken c = λ calls stands. record {
       ∙ ap (λ (x : Bool). x && not (nat_eq q c.args.issuer && answers c.args.dsb b))
       (stands.pendings q b g r p (held-before (world_of c.args.self.now) c.args.issuer c.args.dsb calls g r p held))
       ∙ sym (awaited-complete (world_of c.args.self.now) c.args.issuer c.args.dsb calls q b g p);
+  apart = stands.apart;
+  named = stands.named;
+  holders = λ g r p held. stands.holders g r p (held-before (world_of c.args.self.now) c.args.issuer c.args.dsb calls g r p held);
 }

@@ -1,12 +1,14 @@
-use Rattle.std.proofs.Common.{◌≡◌, ◌∙◌, ap, sym, refl, Bool, nat_eq, List, ◌∷◌, ◌+◌, true, cond, ℕ, Option, Some, None, is_some, length, find, subst, arith}
+use Rattle.std.proofs.Common.{◌≡◌, ◌∙◌, ap, sym, refl, Bool, nat_eq, List, ◌∷◌, ◌+◌, true, cond, ℕ, Option, Some, None, is_some, IsSome, length, find, subst, arith}
 use Rattle.indexmap.specs.IndexMap.{get, index_map_len}
 use Rattle.bbm_regimes.specs.declared.regime.Tag.{Tag}
 use Rattle.bbm_roots.specs.Calls.{Declare}
-use Rattle.bbm_roots.specs.Roots.{roots_of, root_at, is_at, retired}
+use Rattle.bbm_roots.specs.Registers.{kind_of_reg}
+use Rattle.bbm_roots.specs.Roots.{roots_of, root_at, is_at, is_root, is_of_kind, retired}
 use Rattle.bbm_roots.specs.Stands.{Stands, world_of}
 use Rattle.bbm_roots.specs.Tags.{reads, reads_for_some}
 use Rattle.bbm_roots.specs.declared.root.Declared.{Declared}
-use Rattle.bbm_roots.proofs.RootLists.{found-declared, absent-retired}
+use Rattle.bbm_roots.proofs.RootLists.{found-declared, absent-retired, apart-declared, kept-declared}
+use Rattle.bbm_roots.proofs.Rooted.{root-there}
 use Rattle.bbm_roots.proofs.Steps.{holds-stay, awaited-stay}
 use Rattle.bbm_roots.proofs.roots.Roots.declare.Goals as goal
 
@@ -33,6 +35,18 @@ returns-in-Ok-clause-taken c = λ calls stands.
           ∙ ap (λ (o : Option Declared). cond (nat_eq c.args.page q) (Some root) o) (stands.declared q)
           ∙ sym (found-declared root c.args.page q (roots_of calls) refl);
       count = omega (arith, stands.count);
+      apart = apart-declared root (roots_of calls) stands.apart;
+      named = λ p reg q of_world e.
+          let known : is_root calls (kind_of_reg reg) q ≡ true = stands.named p reg q of_world e in
+          ap (is_of_kind (kind_of_reg reg))
+          (kept-declared root c.args.page q (roots_of calls) refl (c.requires calls stands)
+          (root-there (kind_of_reg reg) (root_at calls q) known))
+          ∙ known;
+      holders = λ g r p held.
+          let known : IsSome (root_at calls r) =
+          stands.holders g r p (sym (holds-stay world (Declare c.args.kind c.args.page c.args.lock) calls g r p (same g r p) refl) ∙ held) in
+          subst (λ (o : Option Declared). IsSome o)
+          (sym (kept-declared root c.args.page r (roots_of calls) refl (c.requires calls stands) known)) known;
       holds = λ g r p. stands.holds g r p ∙ sym (holds-stay world (Declare c.args.kind c.args.page c.args.lock) calls g r p (same g r p) refl);
       inside = λ g r p past. holds-stay world (Declare c.args.kind c.args.page c.args.lock) calls g r p (same g r p) refl ∙ stands.inside g r p past;
       pendings = λ q b g r p held.

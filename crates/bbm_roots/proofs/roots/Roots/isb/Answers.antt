@@ -7,6 +7,7 @@ use Rattle.bbm_roots.specs.Stands.{Stands, world_of}
 use Rattle.bbm_roots.specs.Tags.{reads, reads_for_some}
 use Rattle.bbm_roots.specs.declared.load.Load.{Load}
 use Rattle.bbm_roots.proofs.Flat.{readings-isb, newest-same}
+use Rattle.bbm_roots.proofs.Rooted.{names-isb}
 use Rattle.bbm_roots.proofs.Steps.{holds-stay, awaited-stay}
 use Rattle.bbm_roots.proofs.roots.Roots.isb.Goals as goal
 
@@ -29,6 +30,11 @@ returns-clause-taken c = λ calls stands.
           ∙ newest-same (nat_eq p c.args.pe) at_start;
       declared = stands.declared;
       count = stands.count;
+      apart = stands.apart;
+      named = λ p reg q of_world e.
+          stands.named p reg q of_world (names-isb (nat_eq p c.args.pe) (register_values calls p reg) q e);
+      holders = λ g r p held.
+          stands.holders g r p (sym (holds-stay world (Isb c.args.pe) calls g r p (less g r p) refl) ∙ held);
       holds = λ g r p. stands.holds g r p ∙ sym (holds-stay world (Isb c.args.pe) calls g r p (less g r p) refl);
       inside = λ g r p past. holds-stay world (Isb c.args.pe) calls g r p (less g r p) refl ∙ stands.inside g r p past;
       pendings = λ q b g r p held.

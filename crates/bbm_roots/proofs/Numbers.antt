@@ -1,0 +1,108 @@
+-- The numbers of a list of values: one, or several.
+use Rattle.std.proofs.Common.{◌≡◌, ℕ, zero, suc, ◌<◌, ◌≤◌, ◌+◌, Bool, true, false, ◌&&◌, ◌||◌, not, ◌==◌, nat_eq, nat_lt, List, [], ◌∷◌, Option, Some, None, length, refl, sym, ◌∙◌, ap, cond, arith, ⊎_elim}
+use Rattle.std.specs.List.{list_any}
+use Rattle.std.proofs.lemmas.Bool.{false≢true, eqb-true, eq-eqb, lt-ltb, ltb-true, cases_lt}
+use Rattle.bbm_regimes.specs.declared.regime.Reg.{Reg}
+use Rattle.bbm_roots.specs.Calls.{Call, Declare, Retire, WriteReg, Isb, Issue, Complete}
+use Rattle.bbm_roots.specs.Least.{IsLeast, UpTo}
+use Rattle.bbm_roots.specs.Refusals.{is_other_number, other_number}
+use Rattle.bbm_roots.specs.Registers.{register_values, newest, is_that, same_reg, load_of}
+use Rattle.bbm_roots.specs.Tags.{one_number, all_are}
+use Rattle.bbm_roots.specs.declared.load.Load.{Load}
+use Rattle.bbm_roots.proofs.Bits.{or-left, or-right, and_left, and_right}
+use Rattle.bbm_roots.proofs.Leasts.{or-split, or-true}
+
+-- the first PE below a number at which a test holds
+pub first-found : (n pes : ℕ) (f : ℕ → Bool) → n < pes → f n ≡ true → ((p : ℕ) → p < n → f p ≡ false) →
+    IsLeast UpTo (λ p. nat_lt p pes && f p) (Some n)
+first-found n pes f lt at before = (
+  ap (λ (b : Bool). b && f n) (lt-ltb n pes lt) ∙ at,
+  λ y e. ⊎_elim (λ (less : y < n). absurd (false≢true (sym (before y less) ∙ and_right (nat_lt y pes) (f y) e)))
+      (λ (past : n ≤ y). past) (cases_lt y n),
+)
+
+pub none-found : (pes : ℕ) (f : ℕ → Bool) → ((p : ℕ) → p < pes → f p ≡ false) → IsLeast UpTo (λ p. nat_lt p pes && f p) None
+none-found pes f before p = by_case (nat_lt p pes) refl
+  where
+    by_case : (b : Bool) → nat_lt p pes ≡ b → (b && f p) ≡ false
+    by_case true lt = before p (ltb-true p pes lt)
+    by_case false e = refl
+
+not-same : (a b : ℕ) → (nat_eq b b && not (nat_eq a b)) ≡ false → a ≡ b
+not-same a b e = by_case (nat_eq a b) refl (sym (ap (λ (x : Bool). x && not (nat_eq a b)) (eq-eqb b b refl)) ∙ e)
+  where
+    by_case : (x : Bool) → nat_eq a b ≡ x → not x ≡ false → a ≡ b
+    by_case true at k = eqb-true a b at
+    by_case false at k = absurd (false≢true (sym k))
+
+module _ (a : ℕ) where
+  all-same : (loads : List Load) → ((n : ℕ) → other_number loads (Some a) n ≡ false) → all_are a loads ≡ true
+  all-same [] none = refl
+  all-same (l ∷ ls) none =
+      ap (λ (b : Bool). b && all_are a ls)
+      (eq-eqb l.number a (sym (not-same a l.number (or-left (is_other_number (Some a) l.number l) (other_number ls (Some a) l.number) (none l.number)))))
+      ∙ all-same ls (λ n. or-right (is_other_number (Some a) n l) (other_number ls (Some a) n) (none n))
+
+  pub numbers-one : (loads : List Load) → 0 < length loads → ((n : ℕ) → other_number loads (Some a) n ≡ false) → one_number loads ≡ Some a
+  numbers-one [] some none = absurd (omega arith)
+  numbers-one (l ∷ ls) some none =
+      let same : l.number ≡ a =
+      sym (not-same a l.number (or-left (is_other_number (Some a) l.number l) (other_number ls (Some a) l.number) (none l.number))) in
+      ap (λ (n : ℕ). cond (all_are n ls) (Some n) None) same
+      ∙ ap (λ (b : Bool). cond b (Some a) None)
+      (all-same ls (λ n. or-right (is_other_number (Some a) n l) (other_number ls (Some a) n) (none n)))
+
+the-number : (m : ℕ) (than : Option ℕ) (n : ℕ) (loads : List Load) → all_are m loads ≡ true → other_number loads than n ≡ true → n ≡ m
+the-number m than n [] all e = absurd (false≢true e)
+the-number m than n (l ∷ ls) all e =
+    or-split (is_other_number than n l) (other_number ls than n) (n ≡ m)
+    (λ k. sym (eqb-true l.number n (and_left (nat_eq l.number n) (not (is_that than n)) k))
+    ∙ eqb-true l.number m (and_left (nat_eq l.number m) (all_are m ls) all))
+    (the-number m than n ls (and_right (nat_eq l.number m) (all_are m ls) all)) e
+
+left-out : (than : Option ℕ) (n : ℕ) (loads : List Load) → other_number loads than n ≡ true → not (is_that than n) ≡ true
+left-out than n [] e = absurd (false≢true e)
+left-out than n (l ∷ ls) e =
+    or-split (is_other_number than n l) (other_number ls than n) (not (is_that than n) ≡ true)
+    (and_right (nat_eq l.number n) (not (is_that than n))) (left-out than n ls) e
+
+pub numbers-several : (a b : ℕ) (loads : List Load) → other_number loads None a ≡ true → other_number loads (Some a) b ≡ true →
+    one_number loads ≡ None
+numbers-several a b [] e f = refl
+numbers-several a b (l ∷ ls) e f = by_case (all_are l.number ls) refl
+  where
+    by_case : (x : Bool) → all_are l.number ls ≡ x → let o : Option ℕ = None in cond x (Some l.number) None ≡ o
+    by_case true all =
+        let whole : all_are l.number (l ∷ ls) ≡ true = ap (λ (t : Bool). t && all_are l.number ls) (eq-eqb l.number l.number refl) ∙ all in
+        let one : a ≡ l.number = the-number l.number None a (l ∷ ls) whole e in
+        let two : b ≡ l.number = the-number l.number (Some a) b (l ∷ ls) whole f in
+        absurd (false≢true (sym (ap not (eq-eqb a b (one ∙ sym two))) ∙ left-out (Some a) b (l ∷ ls) f))
+    by_case false all = refl
+
+-- a value has its own number
+pub some-number : (loads : List Load) → 0 < length loads → IsLeast UpTo (other_number loads None) None → ⊥
+some-number [] some none = absurd (omega arith)
+some-number (l ∷ ls) some none =
+    false≢true (sym (none l.number)
+    ∙ or-true (is_other_number None l.number l) (other_number ls None l.number)
+    (ap (λ (b : Bool). b && true) (eq-eqb l.number l.number refl)))
+
+-- a register has some readable value
+pub some-value : (cs : List Call) (p : ℕ) (reg : Reg) → 0 < length (register_values cs p reg)
+some-value [] p reg = omega arith
+some-value (Declare kind page lock ∷ cs) p reg = some-value cs p reg
+some-value (Retire page ∷ cs) p reg = some-value cs p reg
+some-value (Issue pe scope vmid ∷ cs) p reg = some-value cs p reg
+some-value (Complete pe dsb ∷ cs) p reg = some-value cs p reg
+some-value (WriteReg pe r value null ∷ cs) p reg = by_case (nat_eq p pe && same_reg r reg) (some-value cs p reg)
+  where
+    by_case : (b : Bool) → 0 < length (register_values cs p reg) →
+        0 < length (cond b (load_of r value null ∷ register_values cs p reg) (register_values cs p reg))
+    by_case true h = omega arith
+    by_case false h = h
+some-value (Isb pe ∷ cs) p reg = by_case (nat_eq p pe) (register_values cs p reg) (some-value cs p reg)
+  where
+    by_case : (b : Bool) (xs : List Load) → 0 < length xs → 0 < length (cond b (newest xs) xs)
+    by_case true [] h = h
+    by_case true (x ∷ xs) h = omega arith
+    by_case false xs h = h

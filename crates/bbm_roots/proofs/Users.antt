@@ -1,0 +1,31 @@
+-- Who uses a root, by the columns and by the calls.
+use Rattle.std.proofs.Common.{◌≡◌, ℕ, ◌<◌, ◌≤◌, Bool, true, false, ◌&&◌, ◌||◌, nat_lt, List, [], ◌∷◌, refl, sym, ◌∙◌, ap, arith, ⊎_elim}
+use Rattle.std.proofs.lemmas.Bool.{false≢true, lt-ltb, ltb-true, cases_lt}
+use Rattle.bbm_regimes.specs.declared.regime.Reg.{Reg}
+use Rattle.bbm_regimes.specs.declared.regime.World.{World}
+use Rattle.bbm_roots.specs.Calls.{Call}
+use Rattle.bbm_roots.specs.Registers.{register_values, first_reg, second_reg, names_in, at_start, uses}
+use Rattle.bbm_roots.specs.declared.load.Load.{Load}
+
+pub user-is : (world : World) (pes page : ℕ) (cs : List Call) (first second : ℕ → List Load) →
+    ((p : ℕ) → p < pes → first p ≡ register_values cs p (first_reg world)) →
+    ((p : ℕ) → p < pes → second p ≡ register_values cs p (second_reg world)) →
+    ((p : ℕ) (reg : Reg) → pes ≤ p → register_values cs p reg ≡ at_start ∷ []) →
+    (p : ℕ) → uses world cs page p ≡ (nat_lt p pes && (names_in (first p) page || names_in (second p) page))
+user-is world pes page cs first second is_first is_second outside p =
+    ⊎_elim (λ (lt : p < pes).
+    ap (λ (xs : List Load). names_in xs page || names_in (register_values cs p (second_reg world)) page) (sym (is_first p lt))
+    ∙ ap (λ (ys : List Load). names_in (first p) page || names_in ys page) (sym (is_second p lt))
+    ∙ ap (λ (b : Bool). b && (names_in (first p) page || names_in (second p) page)) (sym (lt-ltb p pes lt)))
+    (λ (past : pes ≤ p).
+    ap (λ (xs : List Load). names_in xs page || names_in (register_values cs p (second_reg world)) page) (outside p (first_reg world) past)
+    ∙ ap (λ (ys : List Load). names_in ys page) (outside p (second_reg world) past)
+    ∙ ap (λ (b : Bool). b && (names_in (first p) page || names_in (second p) page)) (sym (no p past)))
+    (cases_lt p pes)
+  where
+    no : (p : ℕ) → pes ≤ p → nat_lt p pes ≡ false
+    no p past = by_case (nat_lt p pes) refl
+      where
+        by_case : (b : Bool) → nat_lt p pes ≡ b → b ≡ false
+        by_case true e = absurd (omega (arith, ltb-true p pes e))
+        by_case false e = refl

@@ -1,0 +1,7 @@
+use Rattle.std.proofs.Common.{take}
+use Rattle.bbm_roots.specs.Least.{IsLeast, UpTo}
+use Rattle.bbm_roots.specs.Refusals.{other_number}
+use Rattle.bbm_roots.proofs.vmid.least_other.Given as goal
+
+abbrev pub invariant-loop-load : goal.invariant-loop-load
+invariant-loop-load l = IsLeast UpTo (other_number (take l.load-index l.loads) l.than) l.least
