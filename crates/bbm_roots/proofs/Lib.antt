@@ -13,3 +13,4 @@ pub mod Rooted
 pub mod Judged
 pub mod Numbers
 pub mod Users
+pub mod Callers

@@ -13,7 +13,7 @@ pub enum InUse {
 }
 
 /// Why a call of `Roots` is refused. Source: project's own choice.
-#[derive(Clone, Copy, Debug, Error)]
+#[derive(Clone, Copy, Debug, PartialEq, Eq, Error)]
 pub enum RootFault {
     /// There was no memory.
     #[error("no memory")]
