@@ -1,7 +1,6 @@
 -- The annotated history has the events of the history, ends in that of each older part, and has the notes that the
 -- definitions give.
-use Rattle.std.proofs.Common.{◌≡◌, ℕ, suc, List, [], ◌∷◌, ◌++◌, length, refl, sym, ◌∙◌, ap}
-use Rattle.bbm_tlbi_scope.specs.declared.entry.Cover.{Cover}
+use Rattle.std.proofs.Common.{◌≡◌, suc, List, [], ◌∷◌, ◌++◌, length, refl, sym, ◌∙◌, ap}
 use Rattle.bbm_events.specs.Heading.{Heading}
 use Rattle.bbm_events.specs.declared.event.Event.{Event}
 use Rattle.bbm_rules.proofs.OpenLaw.{head_of, tail_of}
@@ -33,7 +32,7 @@ module _ (heading : Heading) (trust : Trust) where
       let rest : noted heading trust h ≡ older = ap tail_of split in (
         sym rest ∙ ap (noted heading trust) (sym (events_noted h) ∙ ap events_of rest),
         sym first ∙ (ap (λ (x : List Noted). note heading trust x e) rest
-        ∙ ap (note heading trust older) (ap (λ (x : Noted). x.event) first)),
+            ∙ ap (note heading trust older) (ap (λ (x : Noted). x.event) first)),
       )
   older_is_noted (e ∷ h) (m ∷ newer) older n split = older_is_noted h newer older n (ap tail_of split)
 

@@ -19,7 +19,10 @@ pub use event_laws::{
     law_readable_register, law_root, law_tag_set, law_vmid,
 };
 pub use first_path::FirstPathChecker;
-pub use history_laws::{law_childless, law_cleansed, law_each_rule, law_fresh, law_half, law_held, law_limbo, law_notes, law_paths, law_seen, law_tree};
+pub use history_laws::{
+    law_childless, law_cleansed, law_each_rule, law_fresh, law_half, law_held, law_limbo,
+    law_notes, law_paths, law_seen, law_tree,
+};
 pub use laws::{
     law_answered, law_notes_keep_the_events, law_one_node, law_readable_value, law_tag_held,
     law_version,
@@ -35,7 +38,10 @@ mod tests {
         law_changes, law_equality_tests, law_limits, law_lock_held, law_published,
         law_readable_register, law_root, law_tag_set, law_vmid,
     };
-    use crate::history_laws::{law_childless, law_cleansed, law_each_rule, law_fresh, law_half, law_held, law_limbo, law_notes, law_paths, law_seen, law_tree};
+    use crate::history_laws::{
+        law_childless, law_cleansed, law_each_rule, law_fresh, law_half, law_held, law_limbo,
+        law_notes, law_paths, law_seen, law_tree,
+    };
     use crate::laws::{
         law_answered, law_notes_keep_the_events, law_one_node, law_readable_value, law_tag_held,
         law_version,
