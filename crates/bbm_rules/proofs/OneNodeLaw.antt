@@ -1,5 +1,5 @@
 -- In a history that keeps the rules a page has at most one node in the trees.
-use Rattle.std.proofs.Common.{◌≡◌, ℕ, zero, suc, ◌+◌, ◌-◌, ◌*◌, ◌&&◌, not, Bool, true, false, ◌⊎◌, ◌==◌, List, [], ◌∷◌, ◌++◌, Option, Some, None, option_and_then, is_none, is_some, flat_map, map, Contains, refl, sym, ◌∙◌, ap, subst, inl, inr, true≢false, eqb-true}
+use Rattle.std.proofs.Common.{◌≡◌, ℕ, zero, suc, ◌+◌, ◌-◌, ◌*◌, ◌&&◌, not, Bool, true, false, ◌⊎◌, ◌==◌, List, [], ◌∷◌, ◌++◌, Option, Some, None, option_and_then, is_some, flat_map, map, Contains, refl, sym, ◌∙◌, ap, subst, inl, inr, true≢false, eqb-true}
 use Rattle.std.proofs.lemmas.Bool.{and_parts, not-false, not_from_false}
 use Rattle.bbm_regimes.specs.declared.regime.Kind.{Kind}
 use Rattle.bbm_regimes.specs.declared.regime.Kind.TheVariants.{El2}
@@ -18,7 +18,7 @@ use Rattle.bbm_rules.proofs.PathLemmas.{AllFresh}
 use Rattle.bbm_rules.proofs.RuleLemmas.{Unbroken, if_none, throughout}
 use Rattle.bbm_rules.proofs.TreeLemmas.{Child, Rooted, at_level, at_start, level_is, level_of_page}
 use Rattle.bbm_rules.specs.Attach.{Attached, End, all_ends, attached_by, attached_from, end_at, ends_below, pages_of}
-use Rattle.bbm_rules.specs.Broken.{broken, first_broken, keeps, rules}
+use Rattle.bbm_rules.specs.Broken.{keeps}
 use Rattle.bbm_rules.specs.declared.rule.Rule.TheVariants.{BreakBeforeMake, NotFresh, PageInUse}
 use Rattle.bbm_rules.specs.Claims.{Trust}
 use Rattle.bbm_rules.specs.Covers.{note, noted}

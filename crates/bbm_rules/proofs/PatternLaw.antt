@@ -11,7 +11,7 @@ use Rattle.bbm_rules.proofs.OpenLaw.{from_contains, open_note_complete}
 use Rattle.bbm_rules.proofs.Patterns.{AnsweredOne, answered_one}
 use Rattle.bbm_rules.proofs.SearchLemmas.{Found, any_finds, some_found, some_finds}
 use Rattle.bbm_rules.specs.Claims.{Trust}
-use Rattle.bbm_rules.specs.Cleansing.{answered_where, answers_one, any_position, any_positions, cleansed, flushes, full_step, half, half_step, half_where, is_answer, is_completed, is_publication, is_write, one_allowed, publishes_write, same_cover, second_step, seen, seen_where, two_allowed, writes}
+use Rattle.bbm_rules.specs.Cleansing.{answered_where, answers_one, cleansed, flushes, full_step, half, half_step, half_where, is_answer, is_completed, is_publication, is_write, one_allowed, publishes_write, same_cover, second_step, seen, seen_where, two_allowed, writes}
 use Rattle.bbm_rules.specs.Lists.{some}
 use Rattle.bbm_rules.specs.Notes.{Noted, event_of}
 use Rattle.bbm_rules.specs.PatternSentences.{Answer, Cleansed, Flush, HalfBy, IsHalf, OneStep, Publication, Seen, TwoSteps}
@@ -200,16 +200,16 @@ module _ (heading : Heading) (place p : ℕ) where
       (publication_finds (λ x. test x t.tlbi.position d.position) t.before b k.published passed))
 
   pub seen_sound : (since : List Noted) → seen heading place p since ≡ true → Seen heading place p since
-  seen_sound since s = let b = publication_found any_position since s in (b.0, b.1)
+  seen_sound since s = let b = publication_found (λ (b : ℕ). true) since s in (b.0, b.1)
 
   pub seen_complete : (since : List Noted) → Seen heading place p since → seen heading place p since ≡ true
-  seen_complete since s = publication_finds any_position since s.0 s.1 refl
+  seen_complete since s = publication_finds (λ (b : ℕ). true) since s.0 s.1 refl
 
   pub half_sound : (since : List Noted) → half heading place p since ≡ true → IsHalf heading place p since
-  half_sound since s = let k : HalfAt any_positions since = half_found any_positions since s in (k.b, k.t, k.d, k.by)
+  half_sound since s = let k : HalfAt (λ (b t d : ℕ). true) since = half_found (λ (b t d : ℕ). true) since s in (k.b, k.t, k.d, k.by)
 
   pub half_complete : (since : List Noted) → IsHalf heading place p since → half heading place p since ≡ true
-  half_complete since s = half_finds any_positions since s.0 s.1 s.2 s.3 refl
+  half_complete since s = half_finds (λ (b t d : ℕ). true) since s.0 s.1 s.2 s.3 refl
 
 module _ (heading : Heading) (trust : Trust) (place p : ℕ) where
   one_found : (since : List Noted) → answered_where (full_step heading trust place p) since ≡ true

@@ -1,5 +1,5 @@
 -- Trees, limbo, childless, fresh and paths are what the sentences say.
-use Rattle.std.proofs.Common.{◌≡◌, ℕ, zero, suc, ◌<◌, ◌≤◌, ◌&&◌, ◌||◌, not, Bool, true, false, cond, ◌⊎◌, ◌==◌, List, [], ◌∷◌, ◌++◌, length, Option, Some, None, is_some, Contains, flat_map, filter_map, refl, sym, ◌∙◌, ap, subst, inl, inr, true≢false, arith}
+use Rattle.std.proofs.Common.{◌≡◌, ℕ, zero, suc, ◌<◌, ◌≤◌, not, Bool, true, false, cond, ◌==◌, List, [], ◌∷◌, ◌++◌, length, Option, Some, None, is_some, Contains, flat_map, filter_map, refl, sym, ◌∙◌, ap, subst, inl, inr, true≢false, arith}
 use Rattle.std.proofs.lemmas.Bool.{and_from, and_parts, eq-eqb, eqb-true, or_cases, or_left, or_right, not-true, not_from_false}
 use Rattle.bbm_regimes.specs.declared.regime.Kind.{Kind}
 use Rattle.bbm_descriptor.specs.Descriptor.{is_valid}
@@ -20,8 +20,8 @@ use Rattle.bbm_rules.specs.Lists.{any}
 use Rattle.bbm_rules.specs.Notes.{Noted, events_of}
 use Rattle.bbm_rules.specs.Pages.{is_fresh, may_be_fresh}
 use Rattle.bbm_rules.specs.Places.{page_of}
-use Rattle.bbm_rules.specs.Roots.{Declared, roots_of, start_of}
-use Rattle.bbm_rules.specs.Tree.{Above, Node, childless_below, held_at, holds_some, in_limbo, in_tree, is_broken, is_childless, next_of, node_below, nodes_at, nodes_of_root, tree}
+use Rattle.bbm_rules.specs.Roots.{roots_of, start_of}
+use Rattle.bbm_rules.specs.Tree.{Node, childless_below, holds_some, in_limbo, in_tree, is_broken, is_childless, next_of, node_below, nodes_at, nodes_of_root, tree}
 use Rattle.bbm_rules.specs.TreeSentences.{Childless, Down, InLimbo, IsFresh, IsNode, Leads}
 use Rattle.bbm_rules.specs.Values.{is_in_page, places_in, value_of, written_places}
 

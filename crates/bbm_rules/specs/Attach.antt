@@ -1,9 +1,6 @@
 -- Which pages an event attaches to a tree. Source: project's own choice.
 use Rattle.std.specs.Prelude.{ℕ, zero, suc, ◌-◌, true, false, List, [], ◌∷◌, ◌++◌, Option, Some, None, flat_map, filter_map, is_none, if◌then◌else◌, map}
-use Rattle.bbm_regimes.specs.declared.regime.Kind.{Kind}
-use Rattle.bbm_events.specs.Heading.{Heading}
-use Rattle.bbm_events.specs.declared.event.Event.{Event}
-use Rattle.bbm_events.specs.declared.event.Event.TheVariants.{Root, Write}
+use Rattle.bbm_rules.specs.Prelude.{Kind, Heading, Event, Root, Write}
 use Rattle.bbm_rules.specs.Claims.{Trust}
 use Rattle.bbm_rules.specs.Lists.{◌>>=◌}
 use Rattle.bbm_rules.specs.Notes.{Noted, events_of}
@@ -21,11 +18,8 @@ pub record End : Type 0 where
 abbrev pub end_at : ℕ → ℕ → End
 end_at level page = record { page = page; level = level }
 
-abbrev pub page_of_end : End → ℕ
-page_of_end end = end.page
-
 abbrev pub pages_of : List End → List ℕ
-pages_of ends = map page_of_end ends
+pages_of ends = map (λ end. end.page) ends
 
 -- The pages that an event attaches, each as often as paths end in it. `first` are the named pages, at which the paths
 -- of no places end; `deeper` are the ends of all longer paths.

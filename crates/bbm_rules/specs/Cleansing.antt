@@ -4,12 +4,9 @@
 -- Source: Arm ARM (DDI 0487), "Using break-before-make when updating translation table entries", and "TLB
 -- maintenance instructions".
 use Rattle.std.specs.Prelude.{ℕ, Bool, true, false, ◌&&◌, ◌||◌, ◌==◌, List}
-use Rattle.bbm_barriers.specs.declared.Dsb.{Dsb as Barrier}
 use Rattle.bbm_tlbi_scope.specs.declared.entry.Cover.{Cover}
 use Rattle.bbm_tlbi_scope.specs.declared.entry.Cover.TheVariants.{None as NoCover, Half, Second, Full}
-use Rattle.bbm_events.specs.Heading.{Heading}
-use Rattle.bbm_events.specs.declared.event.Event.{Event}
-use Rattle.bbm_events.specs.declared.event.Event.TheVariants.{Write, Dsb}
+use Rattle.bbm_rules.specs.Prelude.{Barrier, Heading, Event, Write, Dsb}
 use Rattle.bbm_rules.specs.declared.claim.Claim.TheVariants.{Place, Two}
 use Rattle.bbm_rules.specs.Claims.{Trust, allows}
 use Rattle.bbm_rules.specs.Lists.{any, some}
@@ -47,13 +44,6 @@ same_cover Second Second = true
 same_cover Full Full = true
 same_cover _ _ = false
 
--- Positions of events pass a test each: every position does for what is seen and half.
-abbrev pub any_position : ℕ → Bool
-any_position b = true
-
-abbrev pub any_positions : ℕ → ℕ → ℕ → Bool
-any_positions b t d = true
-
 module _ (heading : Heading) (place p : ℕ) where
   -- a barrier that publishes to p a write of the place that came before it
   abbrev pub publishes_write : Event → List Noted → Bool
@@ -66,9 +56,9 @@ module _ (heading : Heading) (place p : ℕ) where
   abbrev pub seen_where : (ℕ → Bool) → List Noted → Bool
   seen_where test since = some (is_publication test) since
 
-  -- Seen: some write of the place is published to p.
+  -- Seen: some write of the place is published to p, at whatever position.
   abbrev pub seen : List Noted → Bool
-  seen since = seen_where any_position since
+  seen since = seen_where (λ b. true) since
 
   -- a TLBI that reaches p and covers the place so far, issued when the test held of what came before it
   abbrev pub flushes : Cover → (List Noted → Bool) → Issued Noted → Bool
@@ -84,7 +74,7 @@ module _ (heading : Heading) (place p : ℕ) where
   half_where test since = answered_where (half_step test) since
 
   abbrev pub half : List Noted → Bool
-  half since = half_where any_positions since
+  half since = half_where (λ b t d. true) since
 
 -- Cleansed: one of two patterns stands after the last valid write. In the first a barrier publishes a write of the
 -- place to p at b, then at t a TLBI that reaches p and covers the place in full is issued, and at d it is answered. In

@@ -1,5 +1,5 @@
 -- How far a TLBI covers each place at its issue, and the history annotated with it. Source: project's own choice.
-use Rattle.std.specs.Prelude.{ℕ, suc, Bool, false, List, [], ◌∷◌, length, Option, Some, None, is_some, unwrap_or}
+use Rattle.std.specs.Prelude.{ℕ, suc, Bool, false, List, [], ◌∷◌, length, Option, Some, is_some, unwrap_or}
 use Rattle.bbm_descriptor.specs.Descriptor.{desc_of}
 use Rattle.bbm_descriptor.specs.declared.desc.Desc.{Desc}
 use Rattle.bbm_descriptor.specs.declared.desc.Desc.TheVariants.{Leaf}
@@ -7,9 +7,7 @@ use Rattle.bbm_tlbi_scope.specs.declared.entry.Cover.{Cover}
 use Rattle.bbm_tlbi_scope.specs.declared.entry.Cover.TheVariants.{None as NoCover}
 use Rattle.bbm_tlbi_scope.specs.declared.entry.PlaceView.{PlaceView}
 use Rattle.bbm_tlbi_scope.specs.Covers.{cover_of}
-use Rattle.bbm_events.specs.Heading.{Heading}
-use Rattle.bbm_events.specs.declared.event.Event.{Event}
-use Rattle.bbm_events.specs.declared.event.Event.TheVariants.{Tlbi}
+use Rattle.bbm_rules.specs.Prelude.{Heading, Event, Tlbi}
 use Rattle.bbm_rules.specs.Claims.{Trust}
 use Rattle.bbm_rules.specs.Lists.{◌>>=◌}
 use Rattle.bbm_rules.specs.Notes.{Noted, events_of}
@@ -49,15 +47,12 @@ module _ (heading : Heading) (trust : Trust) where
     -- issuer then has. It covers nothing where its operand can't be decoded, where it needs a VMID and there are
     -- several, and where the place is in no tree or holds nothing.
     -- Source: Arm ARM (DDI 0487), "TLB maintenance instructions".
-    abbrev pub covered : Event → ℕ → Option Cover
-    covered (Tlbi pe op xt) place = do
+    abbrev pub cover_at : Event → ℕ → Cover
+    cover_at (Tlbi pe op xt) place = unwrap_or (do
       scope ← named_scope heading (events_of h) pe op xt
       view ← view_at place
-      Some (cover_of scope (vmid_of heading (events_of h) pe) view)
-    covered _ place = None
-
-    abbrev pub cover_at : Event → ℕ → Cover
-    cover_at e place = unwrap_or (covered e place) NoCover
+      Some (cover_of scope (vmid_of heading (events_of h) pe) view)) NoCover
+    cover_at _ place = NoCover
 
     -- the event with its notes, by those of the events before it
     abbrev pub note : Event → Noted

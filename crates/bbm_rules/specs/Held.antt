@@ -1,11 +1,8 @@
 -- What a place holds: the value that some TLB may still keep, or that the place has.
 -- Source: Arm ARM (DDI 0487), "Using break-before-make when updating translation table entries".
 use Rattle.std.specs.Prelude.{ℕ, Bool, ◌&&◌, ◌==◌, List, [], ◌∷◌, Option, Some, None, if◌then◌else◌}
-use Rattle.bbm_regimes.specs.declared.regime.Kind.{Kind}
 use Rattle.bbm_descriptor.specs.Descriptor.{is_valid}
-use Rattle.bbm_events.specs.Heading.{Heading}
-use Rattle.bbm_events.specs.declared.event.Event.{Event}
-use Rattle.bbm_events.specs.declared.event.Event.TheVariants.{Init, Write}
+use Rattle.bbm_rules.specs.Prelude.{Kind, Heading, Event, Init, Write}
 use Rattle.bbm_rules.specs.Claims.{Trust}
 use Rattle.bbm_rules.specs.Cleansing.{cleansed}
 use Rattle.bbm_rules.specs.Notes.{Noted}

@@ -1,11 +1,8 @@
 -- Which PEs a TLBI reaches, and which DSB answers it. A history is newest first.
 use Rattle.std.specs.Prelude.{ℕ, Bool, false, ◌&&◌, ◌||◌, not, ◌==◌, List, [], ◌∷◌, if◌then◌else◌}
-use Rattle.bbm_barriers.specs.declared.Dsb.{Dsb as Barrier}
 use Rattle.bbm_barriers.specs.Options.{answers}
 use Rattle.bbm_tlbi_scope.specs.Operations.{operation}
-use Rattle.bbm_events.specs.Heading.{Heading}
-use Rattle.bbm_events.specs.declared.event.Event.{Event}
-use Rattle.bbm_events.specs.declared.event.Event.TheVariants.{Dsb, Tlbi}
+use Rattle.bbm_rules.specs.Prelude.{Barrier, Heading, Event, Dsb, Tlbi}
 
 -- Reach: a broadcast TLBI reaches every PE. Any other reaches its issuer alone, or no PE where the header has `cnp`,
 -- since what it takes may come back from the TLB of another PE.

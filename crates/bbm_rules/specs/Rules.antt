@@ -1,21 +1,13 @@
 -- The seventeen rules. Each says whether an event breaks it after h, the annotated history, newest first: None where
 -- it doesn't, else the number that is reported as `at`, an address, or the number of a PE or a lock. The sentences
 -- are those of docs/RULES.md. Source: project's own choice, but for rule 4.
-use Rattle.std.specs.Prelude.{ℕ, ◌%◌, Bool, true, false, ◌&&◌, ◌||◌, not, ◌==◌, nat_le, nat_lt, List, [], ◌∷◌, ◌++◌, length, Option, Some, None, is_none, Result, Ok, Err, filter, flat_map, map, option_to_list, if◌then◌else◌}
-use Rattle.bbm_regimes.specs.declared.regime.Kind.{Kind}
-use Rattle.bbm_regimes.specs.declared.regime.Kind.TheVariants.{S2, Ttbr0}
-use Rattle.bbm_regimes.specs.declared.regime.Reg.{Reg}
-use Rattle.bbm_regimes.specs.declared.regime.Reg.TheVariants.{Ttbr0El2, VttbrEl2, Ttbr0El1, Ttbr1El1}
+use Rattle.std.specs.Result.{result_ok}
+use Rattle.std.specs.Prelude.{ℕ, ◌%◌, Bool, false, ◌&&◌, ◌||◌, not, ◌==◌, nat_le, nat_lt, List, [], ◌∷◌, ◌++◌, length, Option, Some, None, is_none, filter, flat_map, map, option_to_list}
 use Rattle.bbm_descriptor.specs.Descriptor.{desc_of, is_valid, needs}
 use Rattle.bbm_descriptor.specs.declared.desc.Desc.{Desc}
 use Rattle.bbm_descriptor.specs.declared.desc.Desc.TheVariants.{Leaf}
-use Rattle.bbm_tlbi_scope.specs.declared.scope.BadOperand.{BadOperand}
-use Rattle.bbm_tlbi_scope.specs.declared.scope.Scope.{Scope}
-use Rattle.bbm_tlbi_scope.specs.Decode.{scope_of}
 use Rattle.bbm_tlbi_scope.specs.Operations.{of_world}
-use Rattle.bbm_events.specs.Heading.{Heading}
-use Rattle.bbm_events.specs.declared.event.Event.{Event}
-use Rattle.bbm_events.specs.declared.event.Event.TheVariants.{Init, Null, Root, Unroot, Write, Tlbi, Msr, Lock, Unlock}
+use Rattle.bbm_rules.specs.Prelude.{Kind, S2, Ttbr0, Reg, Ttbr0El2, VttbrEl2, Ttbr0El1, Ttbr1El1, scope_of, Heading, Event, Init, Null, Root, Unroot, Write, Tlbi, Msr, Lock, Unlock}
 use Rattle.bbm_rules.specs.Attach.{Attached, End, all_ends, attached_by, pages_of}
 use Rattle.bbm_rules.specs.Claims.{Trust}
 use Rattle.bbm_rules.specs.Covers.{is_global}
@@ -60,24 +52,14 @@ is_contiguous kind _ = false
 abbrev pub is_global_user : Kind → Desc → Bool
 is_global_user kind desc = same_kind kind Ttbr0 && is_global desc
 
-abbrev pub has_value : List Event → ℕ → Bool
-has_value h place = not (value_of h place == 0)
-
 abbrev pub takes_null : List Event → Reg → ℕ → Bool
 takes_null h Ttbr0El1 base = is_null h base
 takes_null h _ base = false
 
-abbrev pub names_base : ℕ → ℕ → Bool
-names_base page value = is_that (base_of value) page
-
 -- whether the page is the base of a value that p may still use in some register
 abbrev pub is_base_at : List Event → ℕ → ℕ → Bool
 is_base_at h page p =
-    any (names_base page) (flat_map (register_values h p) (Ttbr0El2 ∷ VttbrEl2 ∷ Ttbr0El1 ∷ Ttbr1El1 ∷ []))
-
-abbrev pub is_bad : Result Scope BadOperand → Bool
-is_bad (Ok scope) = false
-is_bad (Err why) = true
+    any (λ value. is_that (base_of value) page) (flat_map (register_values h p) (Ttbr0El2 ∷ VttbrEl2 ∷ Ttbr0El1 ∷ Ttbr1El1 ∷ []))
 
 module _ (heading : Heading) (trust : Trust) (h : List Noted) where
   -- 1, wrong-world: it has a root kind, a register or a TLBI operation that isn't of the header's world, or it is a
@@ -137,11 +119,10 @@ module _ (heading : Heading) (trust : Trust) (h : List Noted) where
   bad_ends e a = unfresh (pages_of (judged_ends e a)) ++ repeated (pages_of (all_ends a))
 
   abbrev pub is_untracked : ℕ → Bool
-  is_untracked page =
-      not (in_tree heading trust h page) && not (is_fresh heading trust h page) && not (is_null (events_of h) page)
+  is_untracked page = not (in_tree heading trust h page || is_fresh heading trust h page || is_null (events_of h) page)
 
   abbrev pub untracked_page : Event → List ℕ
-  untracked_page (Write pe place value) = if is_untracked (page_of place) then page_of place ∷ [] else []
+  untracked_page (Write pe place value) = filter is_untracked (page_of place ∷ [])
   untracked_page _ = []
 
   abbrev pub not_fresh : Event → Option ℕ
@@ -183,7 +164,7 @@ module _ (heading : Heading) (trust : Trust) (h : List Noted) where
   page_in_use (Init pe page) = if_so (in_tree heading trust h page || is_null (events_of h) page) page
   page_in_use (Root pe kind lock page) = least (unfresh (root_pages heading.world kind page))
   page_in_use (Null pe page) = if_so (not (is_fresh heading trust h page)
-      || any (has_value (events_of h)) (places_in (events_of h) page)) page
+      || any (λ place. not (value_of (events_of h) place == 0)) (places_in (events_of h) page)) page
   page_in_use _ = None
 
   -- 11, no-root: a register is given a value other than 0 whose base is neither the first page of a declared root of
@@ -204,11 +185,9 @@ module _ (heading : Heading) (trust : Trust) (h : List Noted) where
   abbrev pub other_holders : List Event → Reading → List ℕ
   other_holders after reading = map (λ r. r.page) (filter (is_other_holder after reading) (roots_of after))
 
-  abbrev pub conflicts : List Event → ℕ → List ℕ
-  conflicts after pe = flat_map (other_holders after) (readings heading after pe)
-
   abbrev pub tag_conflict : Event → Option ℕ
-  tag_conflict (Msr pe reg value) = least (conflicts (Msr pe reg value ∷ events_of h) pe)
+  tag_conflict (Msr pe reg value) =
+      let after : List Event = Msr pe reg value ∷ events_of h in least (flat_map (other_holders after) (readings heading after pe))
   tag_conflict _ = None
 
   -- 13, root-in-use: an `unroot` names a root that is the base of a readable register value at some PE, or that holds
@@ -229,7 +208,7 @@ module _ (heading : Heading) (trust : Trust) (h : List Noted) where
 
   -- 15, bad-operand: the operand of a TLBI can't be decoded. At: the operand.
   abbrev pub bad_operand : Event → Option ℕ
-  bad_operand (Tlbi pe op xt) = if_so (is_bad (scope_of op xt)) xt
+  bad_operand (Tlbi pe op xt) = if_so (is_none (result_ok (scope_of op xt))) xt
   bad_operand _ = None
 
   -- 16, lock-busy: a `lock` names a lock that is held, by this PE or another. At: the holder's number.
