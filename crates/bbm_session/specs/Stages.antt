@@ -111,11 +111,11 @@ Starts (Ok heading) was now faults faults' =
     Continues first_path check_limits 1 AtHeader was 2 (AtEvents heading []) now × (faults' ≡ faults)
 Starts (Err stop) was now faults faults' = Stops first_path check_limits 1 AtHeader was stop now faults faults'
 
--- why reading stops at an event that breaks this rule, or for which there was no memory
-abbrev pub StopsAt : Stop → ℕ → Option Breach → Type 0
-StopsAt (Decided verdict) n (Some breach) = verdict ≡ Refused n breach.rule breach.at
-StopsAt NoMemory n breach = Unit {0}
-StopsAt _ n breach = ⊥
+-- why reading stops at an event with this label that breaks this rule, or for which there was no memory
+abbrev pub StopsAt : Stop → ℕ → Option (List ℕ) → Option Breach → Type 0
+StopsAt (Decided verdict) n label (Some breach) = verdict ≡ Refused n breach.rule breach.at label
+StopsAt NoMemory n label breach = Unit {0}
+StopsAt _ n label breach = ⊥
 
 -- What a judged line says of it, and what the oracle stands for then: it took one event, or the end came, or
 -- reading stopped. There can be no memory only for an event, which is the first fact.
