@@ -14,7 +14,7 @@ use Rattle.bbm_rules.specs.Notes.{Noted, events_of}
 use Rattle.bbm_rules.specs.Places.{page_of}
 use Rattle.bbm_rules.specs.Registers.{named_scope, vmid_of}
 use Rattle.bbm_rules.specs.Tags.{tag_set, tags_of}
-use Rattle.bbm_rules.specs.Tree.{Node, held_at, is_childless, next_of, node_of, region_of}
+use Rattle.bbm_rules.specs.Tree.{held_at, is_childless, next_of, node_of, region_of}
 
 -- whether a descriptor is a leaf for every ASID
 abbrev pub is_global : Desc → Bool
@@ -23,25 +23,21 @@ is_global _ = false
 
 module _ (heading : Heading) (trust : Trust) where
   module _ (h : List Noted) where
-    -- How a TLBI sees a place of a tree that holds a value. The tags are those that the root of the place holds at any
-    -- PE.
-    abbrev pub view_of : Node → ℕ → ℕ → PlaceView
-    view_of n place value = record {
-      kind = n.kind;
-      region = region_of n place;
-      level = n.level;
-      table = is_some (next_of n.kind n.level value);
-      global = is_global (desc_of n.kind n.level value);
-      childless = is_childless heading trust h n value;
-      tags = tag_set (tags_of heading trust n.root (events_of h));
-    }
-
-    -- None where the place is in no tree or holds nothing
+    -- How a TLBI sees a place; None where it is in no tree or holds nothing. The tags are those that the root of the
+    -- place holds at any PE.
     abbrev pub view_at : ℕ → Option PlaceView
     view_at place = do
       n ← node_of heading trust h (page_of place)
       value ← held_at heading trust h n place
-      Some (view_of n place value)
+      Some (record {
+        kind = n.kind;
+        region = region_of n place;
+        level = n.level;
+        table = is_some (next_of n.kind n.level value);
+        global = is_global (desc_of n.kind n.level value);
+        childless = is_childless heading trust h n value;
+        tags = tag_set (tags_of heading trust n.root (events_of h));
+      })
 
     -- Cover: how far an event that comes after h covers a place: a TLBI as its scope says, under the VMID that its
     -- issuer then has. It covers nothing where its operand can't be decoded, where it needs a VMID and there are

@@ -6,7 +6,8 @@ use Rattle.bbm_rules.specs.Prelude.{Kind, Heading, Event, Init, Write}
 use Rattle.bbm_rules.specs.Claims.{Trust}
 use Rattle.bbm_rules.specs.Cleansing.{cleansed}
 use Rattle.bbm_rules.specs.Notes.{Noted}
-use Rattle.bbm_rules.specs.Lists.{◌>>=◌, every_pe}
+use Rattle.bbm_regimes.specs.EveryPe.{every_pe}
+use Rattle.bbm_rules.specs.Lists.{◌>>=◌}
 use Rattle.bbm_rules.specs.Places.{page_of}
 
 -- a valid write: its value, and the part of the history after it
@@ -16,9 +17,7 @@ pub record ValidWrite : Type 0 where
 
 -- one more event after a valid write
 abbrev pub later : Noted → Option ValidWrite → Option ValidWrite
-later n found = do
-  w ← found
-  Some (record { value = w.value; since = n ∷ w.since })
+later n found = found >>= (λ w. Some (record w { since = n ∷ w.since }))
 
 -- The last valid write of a place since the last init of its page, where the place has this kind and level. Given is
 -- that of the history before the event.
