@@ -36,7 +36,8 @@ fn limit(line: u64, which: Which) -> Stop
     Stop::Decided(Verdict::Limit { line, which })
 }
 
-// Whether this version judges logs of this header.
+// Whether this version judges logs of this header: by the world alone, since no event that it judges is judged
+// otherwise under a later version or under `cnp`.
 fn is_built(header: &Header) -> bool
     ensures { result ≡ is_built_heading header.now }
 {
