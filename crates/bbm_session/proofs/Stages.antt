@@ -1,5 +1,5 @@
 -- How the outcome goes on after one line, over what a source had left and has left.
-use Rattle.std.proofs.Common.{◌≡◌, ◌≢◌, ℕ, suc, ◌<◌, ◌≤◌, ◌+◌, Bool, true, false, if◌then◌else◌, nat_eq, List, [], ◌++◌, length, drop, Option, Some, None, refl, ap, sym, ◌∙◌, arith, append_assoc, append-nil, length-append, add-one, subst, nat_le, inl, inr, ◌∷◌, Result, Ok, Err}
+use Rattle.std.proofs.Common.{◌≡◌, ◌≢◌, ℕ, suc, ◌<◌, ◌≤◌, ◌+◌, Bool, true, false, if◌then◌else◌, nat_eq, List, [], ◌++◌, length, drop, Option, Some, None, refl, ap, sym, ◌∙◌, arith, append_assoc, append-nil, length-append, add-one, subst, nat_le, ◌∷◌, Result, Ok, Err}
 use Rattle.std.proofs.Math.ListN.{drop_of_length-le}
 use Rattle.std.proofs.Math.Seq.{drop-append_seam}
 use Rattle.std.proofs.lemmas.Bool.{and_parts}
@@ -24,7 +24,7 @@ use Rattle.bbm_session.specs.declared.stop.Turn.{Turn}
 use Rattle.bbm_session.specs.declared.stop.Turn.TheVariants.{Event, End}
 use Rattle.bbm_session.specs.Pieces.{Takes}
 use Rattle.bbm_session.specs.Run.{NeedsMemory, Judged, JudgedHeading}
-use Rattle.bbm_session.specs.Stages.{outcome_at, plain_lines, Passed, Broke, Starved, Breaks, Starves, Shrinks, Continues, Concludes, Stops, StopsAt, JudgesHeader, JudgesLine, Starts, Advances, Reaches, Ends}
+use Rattle.bbm_session.specs.Stages.{outcome_at, plain_lines, Passed, Breaks, Starves, Shrinks, Continues, Concludes, Stops, StopsAt, JudgesHeader, JudgesLine, Starts, Advances, Reaches, Ends}
 use Rattle.bbm_session.proofs.Texts.{plain-head, text_of-line, text_of-plain, text_of-prefix, bytes_of-text_of, prefixed}
 
 short : (line : List ℕ) → length line ≤ 200 → is_too_long line ≡ false

@@ -11,7 +11,7 @@ use Rattle.bbm_rules.specs.declared.verdict.Verdict.TheVariants.{Accepted, Refus
 use Rattle.bbm_rules.specs.FirstPath.{Breach}
 use Rattle.bbm_rules.specs.Outcome.{Judge, Limits, first_path, check_limits, Progress, AtHeader, AtEvents, AtEnd, Step, Decides, GoesOn, Outcome, outcome_from, text_of, bytes_of, read_from}
 use Rattle.bbm_oracle.specs.Taken.{Taken}
-use Rattle.bbm_session.specs.Run.{NeedsMemory, Judged}
+use Rattle.bbm_session.specs.Run.{NeedsMemory}
 use Rattle.bbm_session.specs.declared.stop.Stop.{Stop}
 use Rattle.bbm_session.specs.declared.stop.Stop.TheVariants.{Decided, ReadFault, NoMemory}
 use Rattle.bbm_session.specs.declared.stop.Turn.{Turn}
