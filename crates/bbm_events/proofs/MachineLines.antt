@@ -1,7 +1,7 @@
 -- Machine lines: what is read of one fits the header and has a cause of a line where it spells none, a step that
 -- is written is read again, and no other line is read as it.
-use Rattle.std.proofs.Common.{◌≡◌, ℕ, ◌^◌, ◌<◌, List, [], ◌∷◌, Bool, true, ◌&&◌, refl, ap, sym, ◌∙◌, Option, Some, Result, Ok, arith}
-use Rattle.std.specs.Prelude.{IfErr, codes, decimal, ◌==◌, nat_lt}
+use Rattle.std.proofs.Common.{◌≡◌, ℕ, ◌^◌, ◌<◌, List, [], ◌∷◌, true, ◌&&◌, refl, ap, sym, ◌∙◌, Result, Ok, arith}
+use Rattle.std.specs.Prelude.{IfErr, codes, decimal}
 use Rattle.std.proofs.lemmas.Bool.{and_parts, ltb-true, eqb-true}
 use Rattle.bbm_regimes.specs.declared.regime.Kind.{Kind}
 use Rattle.bbm_regimes.specs.declared.regime.Kind.TheVariants.{El2, S2, Ttbr0, Ttbr1}
@@ -13,13 +13,13 @@ use Rattle.bbm_events.specs.declared.malformed.Malformed.{Malformed}
 use Rattle.bbm_events.specs.declared.malformed.Malformed.TheVariants.{UnknownWord, BadNumber, BadPe, MissingField}
 use Rattle.bbm_events.specs.Causes.{IsLineCause}
 use Rattle.bbm_events.specs.Heading.{Heading, heading_ok, may_share}
-use Rattle.bbm_events.specs.Spelling.{fields, joined, hex, decimal_value}
+use Rattle.bbm_events.specs.Spelling.{fields, hex, decimal_value}
 use Rattle.bbm_events.specs.Words.{with_word, kind_word, kinds}
 use Rattle.bbm_events.specs.Fits.{is_pe, is_place, is_value}
-use Rattle.bbm_events.specs.Lines.{◌>>=◌, Fields, passing, exactly, line_field, pe_field, kind_field, place_field, value_field, whole}
+use Rattle.bbm_events.specs.Lines.{◌>>=◌, Fields, passing, exactly, pe_field, kind_field, place_field, value_field}
 use Rattle.bbm_events.specs.Machine.{machine_word, machine_words, has_machine_word, is_tag, is_entry, machine_fits, mark_field, machine_word_field, tag_field, entry_field, start_line, extend_line, entry_line, share_line, machine_after, machine_of, machine_fields, machine_line}
 use Rattle.bbm_events.proofs.Causes.{Ends, then_ends, field_ends, whole_ends, pe_ends, place_ends, value_ends, word_ends}
-use Rattle.bbm_events.proofs.Readings.{bind_ok, field_ok, passing_ok, passing_field_ok, whole_ok, both, place_kept, value_kept}
+use Rattle.bbm_events.proofs.Readings.{bind_ok, field_ok, passing_field_ok, both, place_kept, value_kept}
 use Rattle.bbm_events.proofs.Joining.{joined_fields, fields_joined, no_spaces}
 use Rattle.bbm_events.proofs.OneSpelling.{decimal_read, word_once}
 use Rattle.bbm_events.proofs.OneLine.{exactly_once, passing_from, whole_end, field_once, decimal_passing_once, pe_once, kind_once, place_once, value_once}

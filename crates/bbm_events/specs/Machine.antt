@@ -1,7 +1,7 @@
 -- The grammar of machine lines, those of a run that aren't lines of its log: which step a line spells, or the
 -- first cause for which it spells none, and the one line of a step.
 -- Source: project's own choice.
-use Rattle.std.specs.Prelude.{ℕ, ◌^◌, List, [], ◌∷◌, Bool, true, ◌&&◌, ◌||◌, nat_lt, ◌==◌, Result, codes, decimal}
+use Rattle.std.specs.Prelude.{ℕ, ◌^◌, List, [], ◌∷◌, Bool, true, ◌&&◌, nat_lt, ◌==◌, Result, codes, decimal}
 use Rattle.bbm_regimes.specs.declared.regime.Kind.{Kind}
 use Rattle.bbm_regimes.specs.declared.regime.Kind.TheVariants.{El2}
 use Rattle.bbm_events.specs.declared.machine.MachineLine.{MachineLine}

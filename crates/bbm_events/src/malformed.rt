@@ -9,7 +9,7 @@ pub enum Malformed {
     BadHeader = 2,
     /// The first field, or a field that takes one of a list of words, is none of them.
     UnknownWord = 3,
-    /// A value, an operand, a lock or a count can't be read.
+    /// A value, an operand, a lock or a count can't be read, or the tag or the entry of a machine line.
     BadNumber = 4,
     /// A PE can't be read, or isn't below the header's number.
     BadPe = 5,

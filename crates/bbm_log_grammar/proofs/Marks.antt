@@ -1,5 +1,5 @@
 -- What follows the first byte of a field.
-use Rattle.std.proofs.Common.{◌≡◌, ℕ, ◌-◌, List, [], ◌∷◌, length, take, drop, Bool, true, ◌<◌, arith}
+use Rattle.std.proofs.Common.{◌≡◌, ℕ, ◌-◌, List, [], ◌∷◌, length, take, drop, true, ◌<◌, arith}
 use Rattle.std.proofs.lemmas.List.{take_all}
 use Rattle.bbm_events.specs.Lines.{is_marked}
 

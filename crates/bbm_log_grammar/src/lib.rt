@@ -27,6 +27,10 @@ pub use spell::{add, add_decimal, add_hex};
 pub use write::{write_event, write_header};
 
 #[cfg(test)]
+mod machine_tests;
+#[cfg(test)]
 mod tests;
+#[cfg(test)]
+mod version_tests;
 #[cfg(test)]
 mod write_tests;

@@ -14,56 +14,44 @@ fn root(pe: Pe, lock: Option<u16>, page: Page) -> Event {
     }
 }
 
-/// Events of each kind, with their lines.
-fn lines(pe: Pe, page: Page, place: Place) -> [(Event, &'static [u8]); 14] {
-    let dsb = Dsb {
-        domain: Domain::Inner,
-        types: Types::Stores,
-    };
-    let xt = 0x40000;
+/// Events of pages, places and locks, with their lines.
+fn table_lines(pe: Pe, page: Page, place: Place) -> [(Event, &'static [u8]); 8] {
+    let value = u64::MAX;
+    let write = Event::Write { pe, place, value };
     [
         (Event::Init { pe, page }, b"init 1 0x40010000"),
         (Event::Null { pe, page }, b"null 1 0x40010000"),
         (root(pe, None, page), b"root 1 s2 - 0x40010000"),
         (root(pe, Some(1023), page), b"root 1 s2 1023 0x40010000"),
         (Event::Unroot { pe, page }, b"unroot 1 0x40010000"),
-        (
-            Event::Write {
-                pe,
-                place,
-                value: u64::MAX,
-            },
-            b"w 1 0x40001008 0xffffffffffffffff",
-        ),
+        (write, b"w 1 0x40001008 0xffffffffffffffff"),
+        (Event::Lock { pe, lock: 0 }, b"lock 1 0"),
+        (Event::Unlock { pe, lock: 10 }, b"unlock 1 10"),
+    ]
+}
+
+/// Events of barriers, TLBIs and registers, with their lines.
+fn instruction_lines(pe: Pe) -> [(Event, &'static [u8]); 6] {
+    let dsb = Dsb {
+        domain: Domain::Inner,
+        types: Types::Stores,
+    };
+    let (all, page) = (TlbiOp::Alle2is, TlbiOp::Vae2is);
+    let reg = Reg::VttbrEl2;
+    [
         (Event::Dsb { pe, dsb }, b"dsb 1 ishst"),
         (Event::Dmb { pe, dsb }, b"dmb 1 ishst"),
         (Event::Isb { pe }, b"isb 1"),
+        (Event::Tlbi { pe, op: all, xt: 0 }, b"tlbi 1 alle2is"),
         (
             Event::Tlbi {
                 pe,
-                op: TlbiOp::Alle2is,
-                xt: 0,
+                op: page,
+                xt: 64,
             },
-            b"tlbi 1 alle2is",
+            b"tlbi 1 vae2is 0x40",
         ),
-        (
-            Event::Tlbi {
-                pe,
-                op: TlbiOp::Vae2is,
-                xt,
-            },
-            b"tlbi 1 vae2is 0x40000",
-        ),
-        (
-            Event::Msr {
-                pe,
-                reg: Reg::VttbrEl2,
-                value: 0,
-            },
-            b"msr 1 vttbr_el2 0x0",
-        ),
-        (Event::Lock { pe, lock: 0 }, b"lock 1 0"),
-        (Event::Unlock { pe, lock: 10 }, b"unlock 1 10"),
+        (Event::Msr { pe, reg, value: 0 }, b"msr 1 vttbr_el2 0x0"),
     ]
 }
 
@@ -78,16 +66,25 @@ const HYP: Header = Header {
     },
 };
 
+/// The line of an event that fits the header.
+fn written(event: &Event) -> ArrayVec<u8, 200> {
+    let mut out = ArrayVec::new();
+    if fits(&HYP, *event) {
+        write_event(&HYP, Item::Event(*event, None), &mut out);
+    }
+    out
+}
+
 #[test]
 fn writes_each_line(rt: HostRuntime) {
     let pe = Pe::new(1).unwrap();
     let page = Page::new(0x40010000).unwrap();
     let place = Place::new(0x40001008).unwrap();
-    for (event, line) in lines(pe, page, place).iter() {
-        assert!(rt; fits(&HYP, *event));
-        let mut out = ArrayVec::new();
-        write_event(&HYP, Item::Event(*event, None), &mut out);
-        assert_eq!(rt; out.as_slice(), *line);
+    for (event, line) in table_lines(pe, page, place).iter() {
+        assert_eq!(rt; written(event).as_slice(), *line);
+    }
+    for (event, line) in instruction_lines(pe).iter() {
+        assert_eq!(rt; written(event).as_slice(), *line);
     }
     let mut out = ArrayVec::new();
     write_event(&HYP, Item::End(u32::MAX), &mut out);

@@ -40,6 +40,38 @@ pub cnp_local_flush_is_refused : judged (
 unfolding judged
 cnp_local_flush_is_refused = refl
 
+-- Where PEs may share TLB entries a DSB of the non-shareable domain publishes nothing, not even to its own PE.
+pub cnp_local_publication_is_refused : judged (
+    "bbmlog 2 hyp 1 1 1 1 cnp"
+    ∷ "init 0 0x40000000"
+    ∷ "root 0 el2 - 0x40000000"
+    ∷ "w 0 0x40000008 0x80000701"
+    ∷ "w 0 0x40000008 0x0"
+    ∷ "dsb 0 nshst"
+    ∷ "tlbi 0 alle2is"
+    ∷ "dsb 0 ish"
+    ∷ "w 0 0x40000008 0xc0000701"
+    ∷ "end 8"
+    ∷ []) ≡ codes "refused line 9 rule 4 break-before-make at 0x40000008\n"
+unfolding judged
+cnp_local_publication_is_refused = refl
+
+-- Where they share none it publishes to its own PE, the only one here.
+pub local_publication_without_cnp : judged (
+    "bbmlog 2 hyp 1 1 1 1 -"
+    ∷ "init 0 0x40000000"
+    ∷ "root 0 el2 - 0x40000000"
+    ∷ "w 0 0x40000008 0x80000701"
+    ∷ "w 0 0x40000008 0x0"
+    ∷ "dsb 0 nshst"
+    ∷ "tlbi 0 alle2is"
+    ∷ "dsb 0 ish"
+    ∷ "w 0 0x40000008 0xc0000701"
+    ∷ "end 8"
+    ∷ []) ≡ codes "accepted 8 events\n"
+unfolding judged
+local_publication_without_cnp = refl
+
 -- Where PEs may share TLB entries a register value may have the CnP bit.
 pub cnp_bit_with_cnp : judged (
     "bbmlog 2 hyp 2 1 1 1 cnp"

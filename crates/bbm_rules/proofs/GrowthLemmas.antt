@@ -1,6 +1,6 @@
 -- What one more event adds to the trees: nodes that begin paths, and what they reach through fresh pages. If no two paths
 -- end in one page, each page still has one node.
-use Rattle.std.proofs.Common.{◌≡◌, ℕ, zero, suc, ◌+◌, ◌-◌, ◌<◌, not, true, ◌⊎◌, List, [], ◌∷◌, ◌++◌, Some, is_some, flat_map, map, refl, sym, ◌∙◌, ap, subst, inl, inr, arith, true≢false}
+use Rattle.std.proofs.Common.{◌≡◌, ℕ, zero, suc, ◌+◌, ◌-◌, ◌<◌, not, true, ◌⊎◌, List, [], ◌∷◌, ◌++◌, Some, is_some, flat_map, map, refl, sym, ◌∙◌, ap, subst, inl, inr, arith, true≢false, ◌==◌}
 use Rattle.std.proofs.lemmas.Bool.{and_parts, eq-eqb, eqb-true, not-true}
 use Rattle.bbm_regimes.specs.declared.regime.Kind.{Kind}
 use Rattle.bbm_events.specs.Heading.{Heading}
@@ -13,7 +13,7 @@ use Rattle.bbm_rules.specs.Attach.{End, end_at, ends_below, pages_of}
 use Rattle.bbm_rules.specs.Claims.{Trust}
 use Rattle.bbm_rules.specs.Notes.{Noted}
 use Rattle.bbm_rules.specs.Pages.{is_fresh, may_be_fresh}
-use Rattle.bbm_rules.specs.Tree.{Node, in_tree, is_for, node_of, nodes_at, tree}
+use Rattle.bbm_rules.specs.Tree.{Node, in_tree, node_of, nodes_at, tree}
 
 -- the pages of nodes
 abbrev pub first_pages : List Node → List ℕ
@@ -75,11 +75,11 @@ module _ (heading : Heading) (trust : Trust) where
   OneNode h = (n m : Node) → InTree h n → InTree h m → n.page ≡ m.page → n ≡ m
 
   pub has_node : (h : List Noted) (n : Node) (page : ℕ) → InTree h n → n.page ≡ page → is_some (node_of heading trust h page) ≡ true
-  has_node h n page t e = finds (is_for page) (tree heading trust h) n (to_tree h n t) (eq-eqb n.page page e)
+  has_node h n page t e = finds (λ (n : Node). n.page == page) (tree heading trust h) n (to_tree h n t) (eq-eqb n.page page e)
 
   pub node_found : (h : List Noted) (n : Node) (page : ℕ) → node_of heading trust h page ≡ Some n → InTree h n × (n.page ≡ page)
   node_found h n page e =
-      let r = found (is_for page) (tree heading trust h) n e in (from_tree h n r.0, eqb-true n.page page r.1)
+      let r = found (λ (n : Node). n.page == page) (tree heading trust h) n e in (from_tree h n r.0, eqb-true n.page page r.1)
 
   -- a fresh page has none
   pub fresh_has_none : (h : List Noted) (n : Node) (page : ℕ) → is_fresh heading trust h page ≡ true → InTree h n → n.page ≡ page → ⊥

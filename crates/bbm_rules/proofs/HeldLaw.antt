@@ -1,21 +1,22 @@
 -- What a place holds is what the sentence says, and a valid value that a place has is held.
-use Rattle.std.proofs.Common.{◌≡◌, ℕ, zero, suc, ◌<◌, ◌%◌, ◌&&◌, Bool, true, false, cond, ◌==◌, List, [], ◌∷◌, ◌++◌, Option, Some, None, option_and_then, refl, sym, ◌∙◌, ap, subst, inl, inr, true≢false, arith}
+use Rattle.std.proofs.Common.{◌≡◌, ℕ, zero, suc, ◌<◌, ◌&&◌, Bool, true, false, cond, ◌==◌, List, [], ◌∷◌, ◌++◌, Option, Some, None, option_and_then, refl, sym, ◌∙◌, ap, subst, true≢false, arith}
 use Rattle.std.proofs.lemmas.Bool.{and_from, and_parts, eq-eqb, eqb-true, or_from}
+use Rattle.bbm_regimes.specs.EveryPe.{every_pe}
 use Rattle.bbm_regimes.specs.declared.regime.Kind.{Kind}
 use Rattle.bbm_descriptor.specs.Descriptor.{is_valid}
 use Rattle.bbm_events.specs.Heading.{Heading}
 use Rattle.bbm_events.specs.declared.event.Event.{Event}
 use Rattle.bbm_events.specs.declared.event.Event.TheVariants.{Init, Write}
-use Rattle.bbm_rules.proofs.HeldLemmas.{Holding, Older, holding, last_is_valid, older as older_of, valid_is_odd, uncleansed as left_held}
+use Rattle.bbm_rules.proofs.HeldLemmas.{Holding, Older, holding, older as older_of, valid_is_odd, uncleansed as left_held}
 use Rattle.bbm_rules.proofs.PatternLaw.{cleansed_complete, cleansed_sound, seen_sound}
-use Rattle.bbm_rules.proofs.Patterns.{cleansed_is_seen}
+use Rattle.bbm_rules.proofs.Patterns.{cleansed_is_seen, is_write}
 use Rattle.bbm_rules.proofs.SearchLemmas.{some_finds, some_later}
 use Rattle.bbm_rules.specs.Claims.{Trust}
-use Rattle.bbm_rules.specs.Cleansing.{cleansed, is_write, seen, writes}
-use Rattle.bbm_rules.specs.Held.{ValidWrite, cleansed_everywhere, held, last_valid, last_valid_after, later}
-use Rattle.bbm_rules.specs.Lists.{every_pe, some}
+use Rattle.bbm_rules.specs.Cleansing.{cleansed, writes}
+use Rattle.bbm_rules.specs.Held.{ValidWrite, held, last_valid, last_valid_after, later}
+use Rattle.bbm_rules.specs.Lists.{some}
 use Rattle.bbm_rules.specs.Notes.{Noted, events_of}
-use Rattle.bbm_rules.specs.PatternSentences.{Cleansed, Holds, Publication, Seen}
+use Rattle.bbm_rules.specs.PatternSentences.{Holds, Publication, Seen}
 use Rattle.bbm_rules.specs.Places.{page_of}
 use Rattle.bbm_rules.specs.Values.{value_of}
 

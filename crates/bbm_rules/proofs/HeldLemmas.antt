@@ -1,6 +1,7 @@
 -- What one more event does to what a place holds: nothing new, unless it is a valid write of the place.
 use Rattle.std.proofs.Common.{◌≡◌, ℕ, zero, suc, ◌%◌, ◌&&◌, Bool, true, false, cond, ◌⊎◌, ◌==◌, List, [], ◌∷◌, Option, Some, None, option_and_then, if◌then◌else◌, refl, sym, ◌∙◌, ap, subst, inl, inr, arith, true≢false}
 use Rattle.std.proofs.lemmas.Bool.{and_from, and_parts, eq-eqb, eqb-true, or_cases}
+use Rattle.bbm_regimes.specs.EveryPe.{every_pe}
 use Rattle.bbm_regimes.specs.declared.regime.Kind.{Kind}
 use Rattle.bbm_descriptor.specs.Descriptor.{Form, form_01, form_11, is_valid, valid_form}
 use Rattle.bbm_descriptor.specs.Fields.{type_bits}
@@ -14,7 +15,7 @@ use Rattle.bbm_rules.specs.Claims.{Trust}
 use Rattle.bbm_rules.specs.Cleansing.{cleansed}
 use Rattle.bbm_rules.specs.Held.{ValidWrite, cleansed_everywhere, held, last_valid, last_valid_after, later}
 use Rattle.bbm_rules.specs.Notes.{Noted, events_of}
-use Rattle.bbm_rules.specs.Lists.{among, every_pe}
+use Rattle.bbm_rules.specs.Lists.{among}
 use Rattle.bbm_rules.specs.Places.{page_of}
 use Rattle.bbm_rules.specs.Values.{written_places}
 

@@ -1,7 +1,6 @@
 -- The annotated history has the events of the history, ends in that of each older part, and has the notes that the
 -- definitions give.
-use Rattle.std.proofs.Common.{◌≡◌, ℕ, suc, List, [], ◌∷◌, ◌++◌, length, refl, sym, ◌∙◌, ap}
-use Rattle.bbm_tlbi_scope.specs.declared.entry.Cover.{Cover}
+use Rattle.std.proofs.Common.{◌≡◌, suc, List, [], ◌∷◌, ◌++◌, length, refl, sym, ◌∙◌, ap}
 use Rattle.bbm_events.specs.Heading.{Heading}
 use Rattle.bbm_events.specs.declared.event.Event.{Event}
 use Rattle.bbm_rules.proofs.OpenLaw.{head_of, tail_of}

@@ -1,5 +1,5 @@
 -- In a history that keeps the rules a page has at most one node in the trees.
-use Rattle.std.proofs.Common.{◌≡◌, ℕ, zero, suc, ◌+◌, ◌-◌, ◌*◌, ◌&&◌, not, Bool, true, false, ◌⊎◌, ◌==◌, List, [], ◌∷◌, ◌++◌, Option, Some, None, option_and_then, is_none, is_some, flat_map, map, Contains, refl, sym, ◌∙◌, ap, subst, inl, inr, true≢false, eqb-true}
+use Rattle.std.proofs.Common.{◌≡◌, ℕ, zero, suc, ◌+◌, ◌-◌, ◌*◌, ◌&&◌, not, Bool, true, false, ◌⊎◌, ◌==◌, List, [], ◌∷◌, ◌++◌, Option, Some, None, option_and_then, is_some, flat_map, map, Contains, refl, sym, ◌∙◌, ap, subst, inl, inr, true≢false, eqb-true, option_to_list}
 use Rattle.std.proofs.lemmas.Bool.{and_parts, not-false, not_from_false}
 use Rattle.bbm_regimes.specs.declared.regime.Kind.{Kind}
 use Rattle.bbm_regimes.specs.declared.regime.Kind.TheVariants.{El2}
@@ -18,7 +18,7 @@ use Rattle.bbm_rules.proofs.PathLemmas.{AllFresh}
 use Rattle.bbm_rules.proofs.RuleLemmas.{Unbroken, if_none, throughout}
 use Rattle.bbm_rules.proofs.TreeLemmas.{Child, Rooted, at_level, at_start, level_is, level_of_page}
 use Rattle.bbm_rules.specs.Attach.{Attached, End, all_ends, attached_by, attached_from, end_at, ends_below, pages_of}
-use Rattle.bbm_rules.specs.Broken.{broken, first_broken, keeps, rules}
+use Rattle.bbm_rules.specs.Broken.{keeps}
 use Rattle.bbm_rules.specs.declared.rule.Rule.TheVariants.{BreakBeforeMake, NotFresh, PageInUse}
 use Rattle.bbm_rules.specs.Claims.{Trust}
 use Rattle.bbm_rules.specs.Covers.{note, noted}
@@ -27,7 +27,7 @@ use Rattle.bbm_rules.specs.Pages.{is_fresh}
 use Rattle.bbm_rules.specs.Lists.{if_so, repeated}
 use Rattle.bbm_rules.specs.Places.{page_of}
 use Rattle.bbm_rules.specs.Roots.{Declared, first_input_page, input_pages, is_at, retired, root_pages, roots_of, start_of}
-use Rattle.bbm_rules.specs.Rules.{bad_ends, judged_ends, not_fresh, of_attached, unfresh, untracked_page}
+use Rattle.bbm_rules.specs.Rules.{bad_ends, judged_ends, not_fresh, unfresh, untracked_page}
 use Rattle.bbm_rules.specs.Tree.{Node, held_at, next_in, next_of, node_below, node_of, nodes_at, nodes_of_pages, nodes_of_root, region_start, tree}
 
 -- ---- the roots
@@ -105,10 +105,11 @@ module _ (heading : Heading) (trust : Trust) (h : List Noted) where
   attaches : (e : Event) (a : Attached) → attached_by heading trust h e ≡ Some a → not_fresh heading trust h e ≡ None
       → Attaches e a
   attaches e a is none =
-      let both = append_none (of_attached (bad_ends heading trust h e) (attached_by heading trust h e)) (untracked_page heading trust h e)
-      (least_none (of_attached (bad_ends heading trust h e) (attached_by heading trust h e) ++ untracked_page heading trust h e) none) in
+      let both = append_none (flat_map (bad_ends heading trust h e) (option_to_list (attached_by heading trust h e))) (untracked_page heading trust h e)
+      (least_none (flat_map (bad_ends heading trust h e) (option_to_list (attached_by heading trust h e)) ++ untracked_page heading trust h e) none) in
       let ends : bad_ends heading trust h e a ≡ []
-      = subst (λ (o : Option Attached). of_attached (bad_ends heading trust h e) o ≡ []) is both.0 in
+      = (append_none (bad_ends heading trust h e a) []
+      (subst (λ (o : Option Attached). flat_map (bad_ends heading trust h e) (option_to_list o) ≡ []) is both.0)).0 in
       let parts = append_none (unfresh heading trust h (pages_of (judged_ends e a))) (repeated (pages_of (all_ends a))) ends in
       record { judged = parts.0; single = parts.1 }
 

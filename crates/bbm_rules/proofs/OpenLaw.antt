@@ -1,5 +1,5 @@
 -- The unanswered TLBIs of a PE are those that no later DSB of it completes.
-use Rattle.std.proofs.Common.{◌≡◌, ℕ, zero, suc, ◌<◌, Bool, true, false, cond, ◌&&◌, ◌⊎◌, ◌==◌, List, [], ◌∷◌, ◌++◌, length, Contains, slice_index_or, refl, sym, ◌∙◌, ap, subst, inl, inr, true≢false, not-suc-le-zero, le_of_suc-le-suc, suc-le-suc, zero-le}
+use Rattle.std.proofs.Common.{◌≡◌, ℕ, zero, suc, ◌<◌, Bool, true, false, cond, ◌&&◌, ◌⊎◌, ◌==◌, List, [], ◌∷◌, ◌++◌, length, Contains, slice_index_or, refl, sym, ◌∙◌, ap, subst, inl, inr, true≢false, not-suc-le-zero, le_of_suc-le-suc, suc-le-suc, zero-le, not}
 use Rattle.bbm_rules.specs.Prelude.{Barrier, Event, Dsb, Tlbi}
 use Rattle.bbm_rules.specs.Notes.{Noted, event_of}
 use Rattle.bbm_rules.specs.Reach.{Issued, completes, left_open, still_open, unanswered}
@@ -66,7 +66,7 @@ module _ (A : Type 0) (event : A → Event) (q : ℕ) where
   -- what a DSB leaves open
   left_one : (dsb : Barrier) (u : Issued A) (ts : List (Issued A)) (t : Issued A) (b : Bool)
       → completes dsb (event u.tlbi) ≡ b
-      → In (cond b (left_open event dsb ts) (u ∷ left_open event dsb ts)) t
+      → In (cond (not b) (u ∷ left_open event dsb ts) (left_open event dsb ts)) t
       → (In (left_open event dsb ts) t → In ts t × (completes dsb (event t.tlbi) ≡ false))
       → In (u ∷ ts) t × (completes dsb (event t.tlbi) ≡ false)
   left_one dsb u ts t true e i rest = let r : In ts t × (completes dsb (event t.tlbi) ≡ false) = rest i in (inr r.0, r.1)
@@ -82,7 +82,7 @@ module _ (A : Type 0) (event : A → Event) (q : ℕ) where
 
   left_kept : (dsb : Barrier) (u : Issued A) (ts : List (Issued A)) (t : Issued A) (b : Bool)
       → completes dsb (event u.tlbi) ≡ b → (u ≡ t) ⊎ In (left_open event dsb ts) t
-      → completes dsb (event t.tlbi) ≡ false → In (cond b (left_open event dsb ts) (u ∷ left_open event dsb ts)) t
+      → completes dsb (event t.tlbi) ≡ false → In (cond (not b) (u ∷ left_open event dsb ts) (left_open event dsb ts)) t
   left_kept dsb u ts t false e i k = i
   left_kept dsb u ts t true e (inl same) k = absurd (true≢false (sym e
       ∙ (ap (λ (v : Issued A). completes dsb (event v.tlbi)) same ∙ k)))

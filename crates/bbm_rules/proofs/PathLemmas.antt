@@ -7,7 +7,7 @@ use Rattle.bbm_rules.proofs.FreshLemmas.{Settled, held_is_present}
 use Rattle.bbm_rules.proofs.ListLemmas.{Apart, in_pages, of_place, place_apart, same_place}
 use Rattle.bbm_rules.proofs.OpenLaw.{In}
 use Rattle.bbm_rules.proofs.TreeLemmas.{Child, Reaches, child_place, one_child}
-use Rattle.bbm_rules.specs.Attach.{End, end_at, ends_below, next_at, pages_of}
+use Rattle.bbm_rules.specs.Attach.{End, end_at, ends_below, pages_of}
 use Rattle.bbm_rules.specs.Claims.{Trust}
 use Rattle.bbm_rules.specs.Notes.{Noted, events_of}
 use Rattle.bbm_rules.specs.Pages.{is_fresh}
@@ -24,13 +24,13 @@ module _ (heading : Heading) (trust : Trust) (h : List Noted) where
 
   pub below_fresh : (kind : Kind) (left level page : ℕ) → is_fresh heading trust h page ≡ true
       → ends_below heading trust h kind (suc left) level page
-      ≡ flat_map (ends_from kind left (suc level)) (filter_map (next_at kind level (events_of h)) (places_in (events_of h) page))
+      ≡ flat_map (ends_from kind left (suc level)) (filter_map (λ (place : ℕ). next_of kind level (value_of (events_of h) place)) (places_in (events_of h) page))
   below_fresh kind left level page fresh = rw (fresh, ends_below) refl
 
   -- what a node of this kind and level has below it
   record Below (kind : Kind) (level : ℕ) (n c : Node) (place : ℕ) : Type 0 where
     among : In (places_in (events_of h) n.page) place
-    next : next_at kind level (events_of h) place ≡ Some c.page
+    next : next_of kind level (value_of (events_of h) place) ≡ Some c.page
     kind_is : c.kind ≡ kind
     level_is : c.level ≡ suc level
 
@@ -55,7 +55,7 @@ module _ (heading : Heading) (trust : Trust) (h : List Noted) where
       → In (ends_below heading trust h kind (suc left) level n.page) e
   ends_of_place kind left level n c place fresh b e i =
       subst (λ (es : List End). In es e) (sym (below_fresh kind left level n.page fresh))
-      (of_place (next_at kind level (events_of h)) (ends_from kind left (suc level)) (places_in (events_of h) n.page) place
+      (of_place (λ (place : ℕ). next_of kind level (value_of (events_of h) place)) (ends_from kind left (suc level)) (places_in (events_of h) n.page) place
       c.page e b.among b.next i)
 
   -- a path ends in the page of each node that is reached
@@ -110,13 +110,13 @@ module _ (heading : Heading) (trust : Trust) (h : List Noted) where
       let x = in_ends left kind (suc level) c m settled b.kind_is b.level_is fresh_c r in
       let y = in_ends left kind (suc level) d o settled b'.kind_is b'.level_is fresh_d s in
       let parts : Apart (pages_of (flat_map (ends_from kind left (suc level))
-      (filter_map (next_at kind level (events_of h)) (places_in (events_of h) n.page))))
+      (filter_map (λ (place : ℕ). next_of kind level (value_of (events_of h) place)) (places_in (events_of h) n.page))))
       = subst (λ (es : List End). Apart (pages_of es)) (below_fresh kind left level n.page here) apart.1 in
-      let at_one : child.place ≡ other.place = same_place (next_at kind level (events_of h)) (ends_from kind left (suc level))
+      let at_one : child.place ≡ other.place = same_place (λ (place : ℕ). next_of kind level (value_of (events_of h) place)) (ends_from kind left (suc level))
       (places_in (events_of h) n.page) child.place other.place c.page d.page x.0 y.0 parts b.among b'.among b.next b'.next
       x.1 y.1 (x.2 ∙ (same ∙ sym y.2)) in
       let one : c ≡ d = one_child heading trust h n c d child other at_one in
       one_reached left kind (suc level) c m o settled b.kind_is b.level_is fresh_c
-      (place_apart (next_at kind level (events_of h)) (ends_from kind left (suc level)) (places_in (events_of h) n.page)
+      (place_apart (λ (place : ℕ). next_of kind level (value_of (events_of h) place)) (ends_from kind left (suc level)) (places_in (events_of h) n.page)
       child.place c.page parts b.among b.next)
       r (subst (λ (x : Node). Reaches heading trust h left x o) (sym one) s) same

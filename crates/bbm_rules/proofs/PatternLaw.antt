@@ -8,10 +8,10 @@ use Rattle.bbm_events.specs.Heading.{Heading}
 use Rattle.bbm_events.specs.declared.event.Event.{Event}
 use Rattle.bbm_events.specs.declared.event.Event.TheVariants.{Write, Dsb}
 use Rattle.bbm_rules.proofs.OpenLaw.{from_contains, open_note_complete}
-use Rattle.bbm_rules.proofs.Patterns.{AnsweredOne, answered_one}
+use Rattle.bbm_rules.proofs.Patterns.{one_allowed, two_allowed, AnsweredOne, answered_one, half_step, is_answer, is_publication, is_write}
 use Rattle.bbm_rules.proofs.SearchLemmas.{Found, any_finds, some_found, some_finds}
 use Rattle.bbm_rules.specs.Claims.{Trust}
-use Rattle.bbm_rules.specs.Cleansing.{answered_where, answers_one, any_position, any_positions, cleansed, flushes, full_step, half, half_step, half_where, is_answer, is_completed, is_publication, is_write, one_allowed, publishes_write, same_cover, second_step, seen, seen_where, two_allowed, writes}
+use Rattle.bbm_rules.specs.Cleansing.{answered_where, answers_one, cleansed, flushes, full_step, half, half_where, is_completed, publishes_write, same_cover, second_step, seen, seen_where, writes}
 use Rattle.bbm_rules.specs.Lists.{some}
 use Rattle.bbm_rules.specs.Notes.{Noted, event_of}
 use Rattle.bbm_rules.specs.PatternSentences.{Answer, Cleansed, Flush, HalfBy, IsHalf, OneStep, Publication, Seen, TwoSteps}
@@ -200,16 +200,16 @@ module _ (heading : Heading) (place p : ℕ) where
       (publication_finds (λ x. test x t.tlbi.position d.position) t.before b k.published passed))
 
   pub seen_sound : (since : List Noted) → seen heading place p since ≡ true → Seen heading place p since
-  seen_sound since s = let b = publication_found any_position since s in (b.0, b.1)
+  seen_sound since s = let b = publication_found (λ (b : ℕ). true) since s in (b.0, b.1)
 
   pub seen_complete : (since : List Noted) → Seen heading place p since → seen heading place p since ≡ true
-  seen_complete since s = publication_finds any_position since s.0 s.1 refl
+  seen_complete since s = publication_finds (λ (b : ℕ). true) since s.0 s.1 refl
 
   pub half_sound : (since : List Noted) → half heading place p since ≡ true → IsHalf heading place p since
-  half_sound since s = let k : HalfAt any_positions since = half_found any_positions since s in (k.b, k.t, k.d, k.by)
+  half_sound since s = let k : HalfAt (λ (b t d : ℕ). true) since = half_found (λ (b t d : ℕ). true) since s in (k.b, k.t, k.d, k.by)
 
   pub half_complete : (since : List Noted) → IsHalf heading place p since → half heading place p since ≡ true
-  half_complete since s = half_finds any_positions since s.0 s.1 s.2 s.3 refl
+  half_complete since s = half_finds (λ (b t d : ℕ). true) since s.0 s.1 s.2 s.3 refl
 
 module _ (heading : Heading) (trust : Trust) (place p : ℕ) where
   one_found : (since : List Noted) → answered_where (full_step heading trust place p) since ≡ true
@@ -217,9 +217,9 @@ module _ (heading : Heading) (trust : Trust) (place p : ℕ) where
   one_found since s =
       let a : AnswerAt (full_step heading trust place p) since = answer_found (full_step heading trust place p) since s in
       let parts = flush_parts heading place p Full
-      (seen_where heading place p (one_allowed heading trust place p a.t.tlbi.position a.d.position)) since a.t a.d a.answer
+      (seen_where heading place p (one_allowed trust place p a.t.tlbi.position a.d.position)) since a.t a.d a.answer
       a.passed in
-      let b = publication_found heading place p (one_allowed heading trust place p a.t.tlbi.position a.d.position) a.t.before
+      let b = publication_found heading place p (one_allowed trust place p a.t.tlbi.position a.d.position) a.t.before
       parts.1 in
       record { b = b.0; t = a.t; d = a.d; published = b.1; flush = parts.0; allowed = b.2 }
 
@@ -228,8 +228,8 @@ module _ (heading : Heading) (trust : Trust) (place p : ℕ) where
   one_finds since k =
       answer_finds (full_step heading trust place p) since k.t k.d k.flush.answer
       (flush_from heading place p Full
-      (seen_where heading place p (one_allowed heading trust place p k.t.tlbi.position k.d.position)) since k.t k.d k.flush
-      (publication_finds heading place p (one_allowed heading trust place p k.t.tlbi.position k.d.position) k.t.before k.b
+      (seen_where heading place p (one_allowed trust place p k.t.tlbi.position k.d.position)) since k.t k.d k.flush
+      (publication_finds heading place p (one_allowed trust place p k.t.tlbi.position k.d.position) k.t.before k.b
       k.published k.allowed))
 
   two_found : (since : List Noted) → answered_where (second_step heading trust place p) since ≡ true
@@ -237,10 +237,10 @@ module _ (heading : Heading) (trust : Trust) (place p : ℕ) where
   two_found since s =
       let a : AnswerAt (second_step heading trust place p) since = answer_found (second_step heading trust place p) since s in
       let parts = flush_parts heading place p Second
-      (half_where heading place p (two_allowed heading trust place p a.t.tlbi.position a.d.position)) since a.t a.d a.answer
+      (half_where heading place p (two_allowed trust place p a.t.tlbi.position a.d.position)) since a.t a.d a.answer
       a.passed in
-      let k : HalfAt heading place p (two_allowed heading trust place p a.t.tlbi.position a.d.position) a.t.before
-      = half_found heading place p (two_allowed heading trust place p a.t.tlbi.position a.d.position) a.t.before parts.1 in
+      let k : HalfAt heading place p (two_allowed trust place p a.t.tlbi.position a.d.position) a.t.before
+      = half_found heading place p (two_allowed trust place p a.t.tlbi.position a.d.position) a.t.before parts.1 in
       record { b = k.b; t1 = k.t; d1 = k.d; t2 = a.t; d2 = a.d; first = k.by; second = parts.0; allowed = k.passed }
 
   two_finds : (since : List Noted) → TwoSteps heading trust place p since
@@ -248,8 +248,8 @@ module _ (heading : Heading) (trust : Trust) (place p : ℕ) where
   two_finds since k =
       answer_finds (second_step heading trust place p) since k.t2 k.d2 k.second.answer
       (flush_from heading place p Second
-      (half_where heading place p (two_allowed heading trust place p k.t2.tlbi.position k.d2.position)) since k.t2 k.d2 k.second
-      (half_finds heading place p (two_allowed heading trust place p k.t2.tlbi.position k.d2.position) k.t2.before k.b k.t1 k.d1
+      (half_where heading place p (two_allowed trust place p k.t2.tlbi.position k.d2.position)) since k.t2 k.d2 k.second
+      (half_finds heading place p (two_allowed trust place p k.t2.tlbi.position k.d2.position) k.t2.before k.b k.t1 k.d1
       k.first k.allowed))
 
   pub cleansed_sound : (since : List Noted) → cleansed heading trust place p since ≡ true → Cleansed heading trust place p since

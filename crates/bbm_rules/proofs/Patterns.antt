@@ -8,14 +8,36 @@ use Rattle.bbm_tlbi_scope.specs.declared.entry.Cover.TheVariants.{Half, Second, 
 use Rattle.bbm_events.specs.Heading.{Heading}
 use Rattle.bbm_events.specs.declared.event.Event.{Event}
 use Rattle.bbm_events.specs.declared.event.Event.TheVariants.{Dsb}
+use Rattle.bbm_rules.specs.declared.claim.Claim.TheVariants.{Place, Two}
 use Rattle.bbm_rules.proofs.OpenLaw.{to_contains, open_note_sound}
 use Rattle.bbm_rules.proofs.SearchLemmas.{Found, any_found, any_weaker, some_found, some_later, some_weaker}
-use Rattle.bbm_rules.specs.Claims.{Trust}
+use Rattle.bbm_rules.specs.Claims.{Trust, allows}
 use Rattle.bbm_rules.specs.Claims.Trust.{Patterns}
-use Rattle.bbm_rules.specs.Cleansing.{answered_where, answers_one, any_position, any_positions, cleansed, flushes, full_step, half, half_step, half_where, is_answer, is_completed, is_publication, one_allowed, publishes_write, same_cover, second_step, seen, seen_where, two_allowed}
+use Rattle.bbm_rules.specs.Cleansing.{answered_where, answers_one, cleansed, flushes, full_step, half, half_where, is_completed, publishes_write, same_cover, second_step, seen, seen_where, writes}
 use Rattle.bbm_rules.specs.Notes.{Noted, event_of}
 use Rattle.bbm_rules.specs.Reach.{Issued, completes, reaches, unanswered}
 use Rattle.bbm_rules.specs.Sentences.{Open}
+
+-- ---- the tests of the searches
+
+abbrev pub is_write : ℕ → ℕ → Noted → List Noted → Bool
+is_write q place n older = writes q place n.event
+
+abbrev pub is_answer : (ℕ → Issued Noted → Bool) → Noted → List Noted → Bool
+is_answer test n older = answers_one (test n.position) n.event older
+
+abbrev pub is_publication : Heading → ℕ → ℕ → (ℕ → Bool) → Noted → List Noted → Bool
+is_publication heading place p test n older = publishes_write heading place p n.event older && test n.position
+
+abbrev pub half_step : Heading → ℕ → ℕ → (ℕ → ℕ → ℕ → Bool) → ℕ → Issued Noted → Bool
+half_step heading place p test d t = flushes heading place p Half (seen_where heading place p (λ b. test b t.tlbi.position d)) t
+
+-- whether the positions of a pattern are trusted
+abbrev pub one_allowed : Trust → ℕ → ℕ → ℕ → ℕ → ℕ → Bool
+one_allowed trust place p t d b = allows trust (Place p place b t d)
+
+abbrev pub two_allowed : Trust → ℕ → ℕ → ℕ → ℕ → ℕ → ℕ → ℕ → Bool
+two_allowed trust place p t2 d2 b t1 d1 = allows trust (Two p place b t1 d1 t2 d2)
 
 -- ---- a weaker test
 
@@ -76,13 +98,13 @@ cleansed_by_claims heading trust place p since s =
       | inl one ↦ or_left (answered_where (full_step heading Patterns place p) since)
           (answered_where (second_step heading Patterns place p) since)
           (answered_weaker (full_step heading trust place p) (full_step heading Patterns place p) since
-          (λ d t k. flushes_weaker heading place p Full (seen_where heading place p (one_allowed heading trust place p t.tlbi.position d))
-          (seen heading place p) t (λ older y. seen_weaker heading place p (one_allowed heading trust place p t.tlbi.position d) any_position older (λ b z. refl) y) k) one)
+          (λ d t k. flushes_weaker heading place p Full (seen_where heading place p (one_allowed trust place p t.tlbi.position d))
+          (seen heading place p) t (λ older y. seen_weaker heading place p (one_allowed trust place p t.tlbi.position d) (λ (b : ℕ). true) older (λ b z. refl) y) k) one)
       | inr two ↦ or_right (answered_where (full_step heading Patterns place p) since)
           (answered_where (second_step heading Patterns place p) since)
           (answered_weaker (second_step heading trust place p) (second_step heading Patterns place p) since
-          (λ d t k. flushes_weaker heading place p Second (half_where heading place p (two_allowed heading trust place p t.tlbi.position d))
-          (half heading place p) t (λ older y. half_weaker heading place p (two_allowed heading trust place p t.tlbi.position d) any_positions older (λ b t1 d1 z. refl) y) k) two)
+          (λ d t k. flushes_weaker heading place p Second (half_where heading place p (two_allowed trust place p t.tlbi.position d))
+          (half heading place p) t (λ older y. half_weaker heading place p (two_allowed trust place p t.tlbi.position d) (λ (b t d : ℕ). true) older (λ b t1 d1 z. refl) y) k) two)
     ]
 
 -- ---- later events
@@ -90,11 +112,11 @@ cleansed_by_claims heading trust place p since s =
 -- Seen, half and cleansed stay while no valid write of the place comes.
 pub seen_stays : (heading : Heading) (place p : ℕ) (newer since : List Noted)
     → seen heading place p since ≡ true → seen heading place p (newer ++ since) ≡ true
-seen_stays heading place p newer since s = some_later (is_publication heading place p any_position) newer since s
+seen_stays heading place p newer since s = some_later (is_publication heading place p (λ (b : ℕ). true)) newer since s
 
 pub half_stays : (heading : Heading) (place p : ℕ) (newer since : List Noted)
     → half heading place p since ≡ true → half heading place p (newer ++ since) ≡ true
-half_stays heading place p newer since s = some_later (is_answer (half_step heading place p any_positions)) newer since s
+half_stays heading place p newer since s = some_later (is_answer (half_step heading place p (λ (b t d : ℕ). true))) newer since s
 
 pub cleansed_stays : (heading : Heading) (trust : Trust) (place p : ℕ) (newer since : List Noted)
     → cleansed heading trust place p since ≡ true → cleansed heading trust place p (newer ++ since) ≡ true
@@ -157,7 +179,7 @@ module _ (heading : Heading) (place p : ℕ) where
       → half_where heading place p test since ≡ true → seen heading place p since ≡ true
   half_is_seen test since s =
       seen_before (half_step heading place p test) since
-      (λ d t k. seen_weaker heading place p _ any_position t.before (λ b y. refl)
+      (λ d t k. seen_weaker heading place p _ (λ (b : ℕ). true) t.before (λ b y. refl)
       (ready heading place p Half (seen_where heading place p (λ b. test b t.tlbi.position d)) t k)) s
 
 -- A cleansed place is seen.
@@ -167,9 +189,9 @@ cleansed_is_seen heading trust place p since s =
     elim (or_cases (answered_where (full_step heading trust place p) since)
     (answered_where (second_step heading trust place p) since) s) [
       | inl one ↦ seen_before heading place p (full_step heading trust place p) since
-          (λ d t k. seen_weaker heading place p (one_allowed heading trust place p t.tlbi.position d) any_position t.before (λ b y. refl)
-          (ready heading place p Full (seen_where heading place p (one_allowed heading trust place p t.tlbi.position d)) t k)) one
+          (λ d t k. seen_weaker heading place p (one_allowed trust place p t.tlbi.position d) (λ (b : ℕ). true) t.before (λ b y. refl)
+          (ready heading place p Full (seen_where heading place p (one_allowed trust place p t.tlbi.position d)) t k)) one
       | inr two ↦ seen_before heading place p (second_step heading trust place p) since
-          (λ d t k. half_is_seen heading place p (two_allowed heading trust place p t.tlbi.position d) t.before
-          (ready heading place p Second (half_where heading place p (two_allowed heading trust place p t.tlbi.position d)) t k)) two
+          (λ d t k. half_is_seen heading place p (two_allowed trust place p t.tlbi.position d) t.before
+          (ready heading place p Second (half_where heading place p (two_allowed trust place p t.tlbi.position d)) t k)) two
     ]

@@ -1,10 +1,10 @@
 -- The readable values of a register are those that the sentence names.
-use Rattle.std.proofs.Common.{◌≡◌, ℕ, Bool, true, false, cond, ◌&&◌, ◌==◌, List, [], ◌∷◌, ◌++◌, refl, sym, ◌∙◌, ap, subst, inl, inr, true≢false}
+use Rattle.std.proofs.Common.{◌≡◌, ℕ, Bool, true, false, cond, ◌&&◌, ◌==◌, List, [], ◌∷◌, ◌++◌, refl, sym, ◌∙◌, ap, subst, inl, inr, true≢false, take}
 use Rattle.std.proofs.lemmas.Bool.{and_from, and_left, and_parts, eqb-true, false_from_ne_true, or_cases, or_from, or_left, or_parts, or_right}
 use Rattle.bbm_rules.specs.Prelude.{Reg, Event, Isb, Msr}
 use Rattle.bbm_rules.proofs.EqualityLaw.{reg_equal, reg_self, same_number}
 use Rattle.bbm_rules.proofs.SearchLemmas.{in_split, is_none_before, is_none_of, none_before, none_of, split_in}
-use Rattle.bbm_rules.specs.Lists.{among, any, newest, some}
+use Rattle.bbm_rules.specs.Lists.{among, any, some}
 use Rattle.bbm_rules.specs.Registers.{register_values, same_reg}
 use Rattle.bbm_rules.specs.Sentences.{ReadableRegister, register_value}
 
@@ -40,30 +40,30 @@ module _ (p : ℕ) (reg : Reg) where
   }
 
   -- the newest readable value is the one that the register has
-  first_write : (v : ℕ) (h : List Event) (b : Bool) → newest (register_values h p reg) ≡ register_value h p reg ∷ []
-      → newest (cond b (v ∷ register_values h p reg) (register_values h p reg)) ≡ cond b v (register_value h p reg) ∷ []
+  first_write : (v : ℕ) (h : List Event) (b : Bool) → take 1 (register_values h p reg) ≡ register_value h p reg ∷ []
+      → take 1 (cond b (v ∷ register_values h p reg) (register_values h p reg)) ≡ cond b v (register_value h p reg) ∷ []
   first_write v h true rest = refl
   first_write v h false rest = rest
 
-  first_isb : (values : List ℕ) (value : ℕ) (b : Bool) → newest values ≡ value ∷ []
-      → newest (cond b (newest values) values) ≡ value ∷ []
-  first_isb values value true rest = ap newest rest
+  first_isb : (values : List ℕ) (value : ℕ) (b : Bool) → take 1 values ≡ value ∷ []
+      → take 1 (cond b (take 1 values) values) ≡ value ∷ []
+  first_isb values value true rest = ap (take 1) rest
   first_isb values value false rest = rest
 
-  pub first : (h : List Event) → newest (register_values h p reg) ≡ register_value h p reg ∷ []
+  pub first : (h : List Event) → take 1 (register_values h p reg) ≡ register_value h p reg ∷ []
   first [] = refl
   first (Msr pe r v ∷ h) = first_write v h (pe == p && same_reg r reg) (first h)
   first (Isb pe ∷ h) = first_isb (register_values h p reg) (register_value h p reg) (pe == p) (first h)
   first (e ∷ h) = first h
 
-  among_first : (values : List ℕ) (value n : ℕ) → newest values ≡ value ∷ [] → among n (newest values) ≡ true → value ≡ n
+  among_first : (values : List ℕ) (value n : ℕ) → take 1 values ≡ value ∷ [] → among n (take 1 values) ≡ true → value ≡ n
   among_first values value n e k =
       elim (or_cases (value == n) false (subst (λ vs. among n vs ≡ true) e k)) [
         | inl same ↦ eqb-true value n same
         | inr none ↦ absurd (true≢false (sym none))
       ]
 
-  has_first : (values : List ℕ) (value : ℕ) → newest values ≡ value ∷ [] → among value values ≡ true
+  has_first : (values : List ℕ) (value : ℕ) → take 1 values ≡ value ∷ [] → among value values ≡ true
   has_first [] value e = cc
   has_first (v ∷ values) value e =
       let same : v ≡ value = cc in
@@ -81,7 +81,7 @@ module _ (p : ℕ) (reg : Reg) where
       ]
 
   at_isb : (pe : ℕ) (h : List Event) (value : ℕ) (b : Bool) → (pe == p) ≡ b
-      → among value (cond b (newest (register_values h p reg)) (register_values h p reg)) ≡ true
+      → among value (cond b (take 1 (register_values h p reg)) (register_values h p reg)) ≡ true
       → (among value (register_values h p reg) ≡ true → Readable h value) → Readable (Isb pe ∷ h) value
   at_isb pe h value true e k rest =
       here (Isb pe ∷ h) value (among_first (register_values h p reg) (register_value h p reg) value (first h) k)
@@ -109,7 +109,7 @@ module _ (p : ℕ) (reg : Reg) where
 
   past_isb : (newer older : List Event) (b : Bool) → (b && any writes newer) ≡ false
       → among (register_value older p reg) (register_values (newer ++ older) p reg) ≡ true
-      → among (register_value older p reg) (cond b (newest (register_values (newer ++ older) p reg)) (register_values (newer ++ older) p reg)) ≡ true
+      → among (register_value older p reg) (cond b (take 1 (register_values (newer ++ older) p reg)) (register_values (newer ++ older) p reg)) ≡ true
   past_isb newer older false none k = k
   past_isb newer older true none k =
       subst (λ vs. among (register_value older p reg) vs ≡ true)

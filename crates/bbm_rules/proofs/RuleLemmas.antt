@@ -1,4 +1,5 @@
 -- Each rule by itself, and the induction over a history that keeps the rules.
+use Rattle.std.specs.Option.{option_map_or}
 use Rattle.std.proofs.Common.{◌≡◌, ℕ, Bool, true, false, List, [], ◌∷◌, ◌++◌, Option, Some, None, is_none, refl, sym, ◌∙◌, ap, subst, inl, inr, true≢false}
 use Rattle.std.proofs.lemmas.Bool.{and_from, and_parts}
 use Rattle.bbm_events.specs.Heading.{Heading}
@@ -6,7 +7,7 @@ use Rattle.bbm_events.specs.declared.event.Event.{Event}
 use Rattle.bbm_rules.proofs.OpenLaw.{In, head_of, tail_of}
 use Rattle.bbm_rules.specs.declared.rule.Rule.{Rule}
 use Rattle.bbm_rules.specs.declared.rule.Rule.TheVariants.{WrongWorld, NoLock, NullWritten, BreakBeforeMake, LimboMake, NotFresh, RewrittenFresh, BadKind, GlobalUser, PageInUse, NoRoot, TagConflict, RootInUse, UnsyncedVmid, BadOperand, LockBusy, LockNotMine}
-use Rattle.bbm_rules.specs.Broken.{Breach, breach_or, breaks, broken, first_broken, keeps, rules}
+use Rattle.bbm_rules.specs.Broken.{Breach, breaks, broken, first_broken, keeps, rules}
 use Rattle.bbm_rules.specs.Claims.{Trust}
 use Rattle.bbm_rules.specs.Covers.{note, noted}
 use Rattle.bbm_rules.specs.Lists.{if_so}
@@ -34,6 +35,10 @@ listed UnsyncedVmid = inr (inr (inr (inr (inr (inr (inr (inr (inr (inr (inr (inr
 listed BadOperand = inr (inr (inr (inr (inr (inr (inr (inr (inr (inr (inr (inr (inr (inr (inl refl))))))))))))))
 listed LockBusy = inr (inr (inr (inr (inr (inr (inr (inr (inr (inr (inr (inr (inr (inr (inr (inl refl)))))))))))))))
 listed LockNotMine = inr (inr (inr (inr (inr (inr (inr (inr (inr (inr (inr (inr (inr (inr (inr (inr (inl refl))))))))))))))))
+
+-- a broken rule, or else the first that is broken of the others
+abbrev pub breach_or : Rule → Option ℕ → Option Breach → Option Breach
+breach_or rule at rest = option_map_or (λ n. Some (record { rule = rule; at = n })) at rest
 
 neither : (rule : Rule) (o : Option ℕ) (rest : Option Breach) → breach_or rule o rest ≡ None → (o ≡ None) × (rest ≡ None)
 neither rule None rest e = (refl, e)

@@ -1,5 +1,6 @@
 -- Trees, limbo, childless, fresh and paths are what the sentences say.
-use Rattle.std.proofs.Common.{◌≡◌, ℕ, zero, suc, ◌<◌, ◌≤◌, ◌&&◌, ◌||◌, not, Bool, true, false, cond, ◌⊎◌, ◌==◌, List, [], ◌∷◌, ◌++◌, length, Option, Some, None, is_some, Contains, flat_map, filter_map, refl, sym, ◌∙◌, ap, subst, inl, inr, true≢false, arith}
+use Rattle.std.specs.Option.{option_map_or}
+use Rattle.std.proofs.Common.{◌≡◌, ℕ, zero, suc, ◌<◌, ◌≤◌, not, Bool, true, false, cond, ◌==◌, List, [], ◌∷◌, ◌++◌, length, Option, Some, None, is_some, Contains, flat_map, filter_map, refl, sym, ◌∙◌, ap, subst, inl, inr, true≢false, arith}
 use Rattle.std.proofs.lemmas.Bool.{and_from, and_parts, eq-eqb, eqb-true, or_cases, or_left, or_right, not-true, not_from_false}
 use Rattle.bbm_regimes.specs.declared.regime.Kind.{Kind}
 use Rattle.bbm_descriptor.specs.Descriptor.{is_valid}
@@ -13,23 +14,23 @@ use Rattle.bbm_rules.proofs.OpenLaw.{In, from_contains, to_contains}
 use Rattle.bbm_rules.proofs.PathLemmas.{below_fresh, ends_from}
 use Rattle.bbm_rules.proofs.SearchLemmas.{any_finds, any_found, is_none_of, none_of}
 use Rattle.bbm_rules.proofs.TreeLemmas.{Child, Rooted, at_level, at_start, child_at_level, level_is, root_at_level}
-use Rattle.bbm_rules.specs.Attach.{End, end_at, ends_below, next_at}
+use Rattle.bbm_rules.specs.Attach.{End, end_at, ends_below}
 use Rattle.bbm_rules.specs.Claims.{Trust}
 use Rattle.bbm_rules.specs.Held.{held}
 use Rattle.bbm_rules.specs.Lists.{any}
 use Rattle.bbm_rules.specs.Notes.{Noted, events_of}
 use Rattle.bbm_rules.specs.Pages.{is_fresh, may_be_fresh}
 use Rattle.bbm_rules.specs.Places.{page_of}
-use Rattle.bbm_rules.specs.Roots.{Declared, roots_of, start_of}
-use Rattle.bbm_rules.specs.Tree.{Above, Node, childless_below, held_at, holds_some, in_limbo, in_tree, is_broken, is_childless, next_of, node_below, nodes_at, nodes_of_root, tree}
+use Rattle.bbm_rules.specs.Roots.{roots_of, start_of}
+use Rattle.bbm_rules.specs.Tree.{Node, holds_some, in_limbo, in_tree, is_childless, next_of, node_below, nodes_at, nodes_of_root, tree, Above}
 use Rattle.bbm_rules.specs.TreeSentences.{Childless, Down, InLimbo, IsFresh, IsNode, Leads}
-use Rattle.bbm_rules.specs.Values.{is_in_page, places_in, value_of, written_places}
+use Rattle.bbm_rules.specs.Values.{places_in, value_of, written_places}
 
 -- ---- limbo
 
 pub limbo_sound : (h : List Noted) (n : Node) → in_limbo h n ≡ true → InLimbo h n
 limbo_sound h n k =
-    let f = any_found (is_broken n.kind (events_of h)) n.above k in
+    let f = any_found (λ (a : Above). not (is_valid n.kind a.level (value_of (events_of h) a.place))) n.above k in
     record {
       above = f.0;
       is_above = to_contains n.above f.0 f.1;
@@ -38,7 +39,7 @@ limbo_sound h n k =
 
 pub limbo_complete : (h : List Noted) (n : Node) → InLimbo h n → in_limbo h n ≡ true
 limbo_complete h n k =
-    any_finds (is_broken n.kind (events_of h)) n.above k.above (from_contains n.above k.above k.is_above)
+    any_finds (λ (a : Above). not (is_valid n.kind a.level (value_of (events_of h) a.place))) n.above k.above (from_contains n.above k.above k.is_above)
     (not_from_false (is_valid n.kind k.above.level (value_of (events_of h) k.above.place)) k.invalid)
 
 module _ (heading : Heading) (trust : Trust) (h : List Noted) where
@@ -139,11 +140,16 @@ module _ (heading : Heading) (trust : Trust) (h : List Noted) where
   holds_by kind level next place (Some v) e none inside =
       absurd (true≢false (sym (ap is_some e)
       ∙ none_of (holds_some heading trust h kind level) (places_in (events_of h) next) none place
-      (to_filter (is_in_page next) (written_places (events_of h)) place (held_is_written heading trust place kind level h v e)
+      (to_filter (λ (place : ℕ). page_of place == next) (written_places (events_of h)) place (held_is_written heading trust place kind level h v e)
       (eq-eqb (page_of place) next inside))))
 
+  -- whether no place of the next page holds anything, where there is one
+  abbrev childless_below : Node → Option ℕ → Bool
+  childless_below n o =
+      option_map_or (λ next. not (any (holds_some heading trust h n.kind (suc n.level)) (places_in (events_of h) next))) o false
+
   childless_by : (n : Node) (value : ℕ) (o : Option ℕ) → next_of n.kind n.level value ≡ o
-      → childless_below heading trust h n o ≡ true → Childless heading trust h n value
+      → childless_below n o ≡ true → Childless heading trust h n value
   childless_by n value None e k = absurd (true≢false (sym k))
   childless_by n value (Some next) e k = record {
     next = next;
@@ -159,11 +165,11 @@ module _ (heading : Heading) (trust : Trust) (h : List Noted) where
   pub childless_complete : (n : Node) (value : ℕ) → Childless heading trust h n value
       → is_childless heading trust h n value ≡ true
   childless_complete n value k =
-      ap (childless_below heading trust h n) k.table
+      ap (childless_below n) k.table
       ∙ not_from_false (any (holds_some heading trust h n.kind (suc n.level)) (places_in (events_of h) k.next))
       (is_none_of (holds_some heading trust h n.kind (suc n.level)) (places_in (events_of h) k.next)
       (λ place i. ap is_some (k.holds_none place
-      (eqb-true (page_of place) k.next (from_filter (is_in_page k.next) (written_places (events_of h)) place i).1))))
+      (eqb-true (page_of place) k.next (from_filter (λ (place : ℕ). page_of place == k.next) (written_places (events_of h)) place i).1))))
 
   -- ---- paths of attached pages
 
@@ -174,7 +180,7 @@ module _ (heading : Heading) (trust : Trust) (h : List Noted) where
   below_by : (kind : Kind) (left level page : ℕ) (e : End) (b : Bool) → is_fresh heading trust h page ≡ b
       → In (ends_below heading trust h kind (suc left) level page) e
       → (is_fresh heading trust h page ≡ true) × In (flat_map (ends_from heading trust h kind left (suc level))
-      (filter_map (next_at kind level (events_of h)) (places_in (events_of h) page))) e
+      (filter_map (λ (place : ℕ). next_of kind level (value_of (events_of h) place)) (places_in (events_of h) page))) e
   below_by kind left level page e true fresh i =
       (fresh, subst (λ (es : List End). In es e) (below_fresh heading trust h kind left level page fresh) i)
   below_by kind left level page e false fresh i =
@@ -187,9 +193,9 @@ module _ (heading : Heading) (trust : Trust) (h : List Noted) where
   path_from (suc left) kind level page e (inr i) =
       let b = below_by kind left level page e (is_fresh heading trust h page) refl i in
       let next = from_flat (ends_from heading trust h kind left (suc level))
-      (filter_map (next_at kind level (events_of h)) (places_in (events_of h) page)) e b.1 in
-      let place = from_filter_map (next_at kind level (events_of h)) (places_in (events_of h) page) next.0 next.1 in
-      let inside = from_filter (is_in_page page) (written_places (events_of h)) place.0 place.1 in
+      (filter_map (λ (place : ℕ). next_of kind level (value_of (events_of h) place)) (places_in (events_of h) page)) e b.1 in
+      let place = from_filter_map (λ (place : ℕ). next_of kind level (value_of (events_of h) place)) (places_in (events_of h) page) next.0 next.1 in
+      let inside = from_filter (λ (place : ℕ). page_of place == page) (written_places (events_of h)) place.0 place.1 in
       let r = path_from left kind (suc level) next.0 e next.2 in
       let short = r.1 in
       (place.0 ∷ r.0, omega arith, (b.0, eqb-true (page_of place.0) page inside.1, next.0, place.2, r.2))
@@ -224,9 +230,9 @@ module _ (heading : Heading) (trust : Trust) (h : List Noted) where
   path_to_end (suc left) kind level page (place ∷ places) e short l =
       inr (subst (λ (es : List End). In es e) (sym (below_fresh heading trust h kind left level page l.0))
       (to_flat (ends_from heading trust h kind left (suc level))
-      (filter_map (next_at kind level (events_of h)) (places_in (events_of h) page)) l.2 e
-      (to_filter_map (next_at kind level (events_of h)) (places_in (events_of h) page) place l.2
-      (to_filter (is_in_page page) (written_places (events_of h)) place
+      (filter_map (λ (place : ℕ). next_of kind level (value_of (events_of h) place)) (places_in (events_of h) page)) l.2 e
+      (to_filter_map (λ (place : ℕ). next_of kind level (value_of (events_of h) place)) (places_in (events_of h) page) place l.2
+      (to_filter (λ (place : ℕ). page_of place == page) (written_places (events_of h)) place
       (written_by place (events_of h) (λ z. no_table kind level l.2
       (subst (λ (x : ℕ). next_of kind level x ≡ Some l.2) z l.3))) (eq-eqb (page_of place) page l.1)) l.3)
       (path_to_end left kind (suc level) l.2 places e (omega arith) l.4)))

@@ -11,7 +11,7 @@ use Rattle.bbm_rules.specs.Notes.{Noted, events_of}
 use Rattle.bbm_rules.specs.Places.{page_of}
 use Rattle.bbm_rules.specs.Roots.{Declared, first_input_page, input_pages, root_pages, roots_of, start_of}
 use Rattle.bbm_rules.specs.Tree.{Node, child_at, children, held_at, next_of, node_below, nodes_at, nodes_of_pages, nodes_of_root, starts_at}
-use Rattle.bbm_rules.specs.Values.{is_in_page, places_in, written_places}
+use Rattle.bbm_rules.specs.Values.{places_in, written_places}
 
 -- ---- the pages of a root
 
@@ -95,13 +95,13 @@ module _ (heading : Heading) (trust : Trust) where
   pub from_children : (h : List Noted) (n c : Node) → In (children heading trust h n) c → Child h n c
   from_children h n c i =
       let r = from_filter_map (child_at heading trust h n) (places_in (events_of h) n.page) c i in
-      let k = from_filter (is_in_page n.page) (written_places (events_of h)) r.0 r.1 in
+      let k = from_filter (λ (place : ℕ). page_of place == n.page) (written_places (events_of h)) r.0 r.1 in
       child_by h n c r.0 (eqb-true (page_of r.0) n.page k.1) r.2
 
   -- its place is among those of the page
   pub child_place : (h : List Noted) (n c : Node) (k : Child h n c) → In (places_in (events_of h) n.page) k.place
   child_place h n c k =
-      to_filter (is_in_page n.page) (written_places (events_of h)) k.place
+      to_filter (λ (place : ℕ). page_of place == n.page) (written_places (events_of h)) k.place
       (held_is_written heading trust k.place n.kind n.level h k.value k.holds) (eq-eqb (page_of k.place) n.page k.inside)
 
   child_is : (h : List Noted) (n c : Node) (k : Child h n c) → child_at heading trust h n k.place ≡ Some c

@@ -6,7 +6,7 @@ use Rattle.bbm_events.specs.declared.event.Event.{Event}
 use Rattle.bbm_events.specs.declared.event.Event.TheVariants.{Msr}
 use Rattle.bbm_rules.specs.declared.rule.Rule.{Rule}
 use Rattle.bbm_rules.specs.declared.rule.Rule.TheVariants.{WrongWorld}
-use Rattle.bbm_rules.specs.Broken.{Breach, breach_or, breaks, broken, first_broken, keeps, rules, verdict_after, verdict_of}
+use Rattle.bbm_rules.specs.Broken.{Breach, breaks, broken, first_broken, keeps, rules, verdict_after, verdict_of}
 use Rattle.bbm_rules.specs.Claims.{Trust}
 use Rattle.bbm_rules.specs.Covers.{noted}
 use Rattle.bbm_rules.specs.Lists.{any, if_so}
@@ -15,6 +15,7 @@ use Rattle.bbm_rules.specs.Registers.{kind_of_reg}
 use Rattle.bbm_rules.specs.Roots.{kind_in_world}
 use Rattle.bbm_rules.specs.Tree.{tree}
 use Rattle.bbm_rules.specs.Version.{in_version, sets_bit_0}
+use Rattle.bbm_rules.proofs.RuleLemmas.{breach_or}
 
 module _ (heading : Heading) (trust : Trust) where
   rule_alike : (h : List Noted) (e : Event) (r : Rule) → sets_bit_0 e ≡ false

@@ -1,9 +1,9 @@
 -- The VMID of a PE is the one of all its readable values, and there is none where two of them differ.
-use Rattle.std.proofs.Common.{◌≡◌, ℕ, Bool, true, false, cond, ◌==◌, List, [], ◌∷◌, Some, None, map, refl, sym, ◌∙◌, ap, inl, inr, true≢false}
+use Rattle.std.proofs.Common.{◌≡◌, ℕ, Bool, true, false, cond, ◌==◌, List, [], ◌∷◌, Some, None, map, refl, sym, ◌∙◌, ap, inl, inr, true≢false, take}
 use Rattle.std.proofs.lemmas.Bool.{and_cases, and_parts, eqb-true, or_cases, or_left, or_right}
 use Rattle.bbm_rules.proofs.EqualityLaw.{same_number}
 use Rattle.bbm_rules.proofs.RegisterLaw.{first}
-use Rattle.bbm_rules.specs.Lists.{among, every, newest, one_number}
+use Rattle.bbm_rules.specs.Lists.{among, every, one_number}
 use Rattle.bbm_rules.specs.Prelude.{Event, Heading, Hyp, VttbrEl2}
 use Rattle.bbm_rules.specs.Registers.{register_values, tag_number, vmid_in, vmid_of}
 use Rattle.bbm_rules.specs.Sentences.{register_value}
@@ -49,7 +49,7 @@ module _ (f : ℕ → ℕ) where
       let r = one_other (f n) vs k in
       (r.0, n, or_right (n == r.0) (among r.0 vs) r.1, or_left (n == n) (among n vs) (same_number n), r.2)
 
-  several : (vs : List ℕ) (x : ℕ) → newest vs ≡ x ∷ [] → one_number (map f vs) ≡ None
+  several : (vs : List ℕ) (x : ℕ) → take 1 vs ≡ x ∷ [] → one_number (map f vs) ≡ None
       → (a b : ℕ) × (among a vs ≡ true) × (among b vs ≡ true) × ((f a == f b) ≡ false)
   several [] x e k = cc
   several (n ∷ vs) x e k = several_by n vs (every (λ m. m == f n) (map f vs)) refl k

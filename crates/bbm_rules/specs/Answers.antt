@@ -1,9 +1,7 @@
 -- What a checker's answer to an event means, and where it takes no memory.
 use Rattle.std.specs.Prelude.{◌≡◌, ℕ, Bool, true, false, ◌&&◌, ◌||◌, ◌==◌, List, [], ◌∷◌, Option, Some, None, is_none, Result, Ok, Err, if◌then◌else◌}
 use Rattle.bbm_regimes.specs.declared.regime.Which.{Which}
-use Rattle.bbm_events.specs.Heading.{Heading}
-use Rattle.bbm_events.specs.declared.event.Event.{Event}
-use Rattle.bbm_events.specs.declared.event.Event.TheVariants.{Init, Write, Dsb, Dmb, Isb, Lock, Unlock}
+use Rattle.bbm_rules.specs.Prelude.{Heading, Event, Init, Write, Dsb, Dmb, Isb, Lock, Unlock}
 use Rattle.bbm_rules.specs.declared.step_fault.StepFault.{StepFault}
 use Rattle.bbm_rules.specs.declared.step_fault.StepFault.TheVariants.{Broken, Limit, NoMemory}
 use Rattle.bbm_rules.specs.Attach.{attached_by}

@@ -1,9 +1,6 @@
 -- Which pages an event attaches to a tree. Source: project's own choice.
-use Rattle.std.specs.Prelude.{ℕ, zero, suc, ◌-◌, true, false, List, [], ◌∷◌, ◌++◌, Option, Some, None, flat_map, filter_map, is_none, if◌then◌else◌, map}
-use Rattle.bbm_regimes.specs.declared.regime.Kind.{Kind}
-use Rattle.bbm_events.specs.Heading.{Heading}
-use Rattle.bbm_events.specs.declared.event.Event.{Event}
-use Rattle.bbm_events.specs.declared.event.Event.TheVariants.{Root, Write}
+use Rattle.std.specs.Prelude.{ℕ, zero, suc, ◌-◌, List, [], ◌∷◌, ◌++◌, Option, Some, None, flat_map, filter_map, is_none, if◌then◌else◌, map}
+use Rattle.bbm_rules.specs.Prelude.{Kind, Heading, Event, Root, Write}
 use Rattle.bbm_rules.specs.Claims.{Trust}
 use Rattle.bbm_rules.specs.Lists.{◌>>=◌}
 use Rattle.bbm_rules.specs.Notes.{Noted, events_of}
@@ -21,11 +18,8 @@ pub record End : Type 0 where
 abbrev pub end_at : ℕ → ℕ → End
 end_at level page = record { page = page; level = level }
 
-abbrev pub page_of_end : End → ℕ
-page_of_end end = end.page
-
 abbrev pub pages_of : List End → List ℕ
-pages_of ends = map page_of_end ends
+pages_of ends = map (λ end. end.page) ends
 
 -- The pages that an event attaches, each as often as paths end in it. `first` are the named pages, at which the paths
 -- of no places end; `deeper` are the ends of all longer paths.
@@ -37,10 +31,6 @@ pub record Attached : Type 0 where
 abbrev pub all_ends : Attached → List End
 all_ends a = a.first ++ a.deeper
 
--- the next page of a present table value of a place
-abbrev pub next_at : Kind → ℕ → List Event → ℕ → Option ℕ
-next_at kind level h place = next_of kind level (value_of h place)
-
 module _ (heading : Heading) (trust : Trust) (h : List Noted) where
   -- Paths: a path begins in a page that is named, and goes on through the table values of the places of fresh pages,
   -- level by level. This is the list of the ends of all paths of at least one place that begin in the page at the
@@ -49,18 +39,14 @@ module _ (heading : Heading) (trust : Trust) (h : List Noted) where
   abbrev pub ends_below : Kind → ℕ → ℕ → ℕ → List End
   ends_below kind zero level page = []
   ends_below kind (suc left) level page =
-      elim (is_fresh heading trust h page) [
-        | false ↦ []
-        | true ↦ flat_map (λ next. end_at (suc level) next ∷ ends_below kind left (suc level) next)
-            (filter_map (next_at kind level (events_of h)) (places_in (events_of h) page))
-      ]
+      if is_fresh heading trust h page
+      then flat_map (λ next. end_at (suc level) next ∷ ends_below kind left (suc level) next)
+      (filter_map (λ place. next_of kind level (value_of (events_of h) place)) (places_in (events_of h) page))
+      else []
 
   abbrev pub attached_from : Kind → ℕ → List ℕ → Attached
-  attached_from kind level pages = record {
-    kind = kind;
-    first = map (end_at level) pages;
-    deeper = flat_map (ends_below kind (3 - level) level) pages;
-  }
+  attached_from kind level pages =
+      record { kind = kind; first = map (end_at level) pages; deeper = flat_map (ends_below kind (3 - level) level) pages }
 
   -- Attach: a write of a valid table value at a place of a tree that holds nothing attaches its next page, and a `root`
   -- the pages that it names. No other event attaches anything.

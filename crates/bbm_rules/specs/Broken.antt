@@ -1,7 +1,7 @@
 -- The least rule that an event breaks, and the logs that keep the rules. Source: project's own choice.
+use Rattle.std.specs.Option.{option_map_or}
 use Rattle.std.specs.Prelude.{ℕ, suc, Bool, true, ◌&&◌, List, [], ◌∷◌, length, Option, Some, None, is_none}
-use Rattle.bbm_events.specs.Heading.{Heading}
-use Rattle.bbm_events.specs.declared.event.Event.{Event}
+use Rattle.bbm_rules.specs.Prelude.{Heading, Event}
 use Rattle.bbm_rules.specs.declared.rule.Rule.{Rule}
 use Rattle.bbm_rules.specs.declared.rule.Rule.TheVariants.{WrongWorld, NoLock, NullWritten, BreakBeforeMake, LimboMake, NotFresh, RewrittenFresh, BadKind, GlobalUser, PageInUse, NoRoot, TagConflict, RootInUse, UnsyncedVmid, BadOperand, LockBusy, LockNotMine}
 use Rattle.bbm_rules.specs.declared.verdict.Verdict.{Verdict}
@@ -21,17 +21,10 @@ abbrev pub rules : List Rule
 rules = WrongWorld ∷ NoLock ∷ NullWritten ∷ BreakBeforeMake ∷ LimboMake ∷ NotFresh ∷ RewrittenFresh ∷ BadKind ∷ GlobalUser
     ∷ PageInUse ∷ NoRoot ∷ TagConflict ∷ RootInUse ∷ UnsyncedVmid ∷ BadOperand ∷ LockBusy ∷ LockNotMine ∷ []
 
-abbrev pub breach_or : Rule → Option ℕ → Option Breach → Option Breach
-breach_or rule None rest = rest
-breach_or rule (Some at) rest = Some (record { rule = rule; at = at })
-
 -- the verdict where the event before position n + 1 breaks this rule or none
-abbrev pub refused_at : ℕ → Option Breach → Verdict
-refused_at n None = Accepted n
-refused_at n (Some breach) = Refused (suc n) breach.rule breach.at None
-
 abbrev pub verdict_after : ℕ → Option Breach → Verdict → Verdict
-verdict_after n breach (Accepted events) = refused_at n breach
+verdict_after n None (Accepted events) = Accepted n
+verdict_after n (Some breach) (Accepted events) = Refused (suc n) breach.rule breach.at None
 verdict_after n breach verdict = verdict
 
 module _ (heading : Heading) (trust : Trust) where
@@ -57,7 +50,8 @@ module _ (heading : Heading) (trust : Trust) where
 
   abbrev pub first_broken : List Noted → Event → List Rule → Option Breach
   first_broken h e [] = None
-  first_broken h e (rule ∷ rest) = breach_or rule (breaks h e rule) (first_broken h e rest)
+  first_broken h e (rule ∷ rest) =
+      option_map_or (λ at. Some (record { rule = rule; at = at })) (breaks h e rule) (first_broken h e rest)
 
   -- The least rule that the event breaks after the history, or none.
   unfoldable pub broken : List Event → Event → Option Breach

@@ -1,5 +1,5 @@
 -- How far a TLBI covers each place at its issue, and the history annotated with it. Source: project's own choice.
-use Rattle.std.specs.Prelude.{ℕ, suc, Bool, false, List, [], ◌∷◌, length, Option, Some, None, is_some, unwrap_or}
+use Rattle.std.specs.Prelude.{ℕ, suc, Bool, false, List, [], ◌∷◌, length, Option, Some, is_some, unwrap_or}
 use Rattle.bbm_descriptor.specs.Descriptor.{desc_of}
 use Rattle.bbm_descriptor.specs.declared.desc.Desc.{Desc}
 use Rattle.bbm_descriptor.specs.declared.desc.Desc.TheVariants.{Leaf}
@@ -7,16 +7,14 @@ use Rattle.bbm_tlbi_scope.specs.declared.entry.Cover.{Cover}
 use Rattle.bbm_tlbi_scope.specs.declared.entry.Cover.TheVariants.{None as NoCover}
 use Rattle.bbm_tlbi_scope.specs.declared.entry.PlaceView.{PlaceView}
 use Rattle.bbm_tlbi_scope.specs.Covers.{cover_of}
-use Rattle.bbm_events.specs.Heading.{Heading}
-use Rattle.bbm_events.specs.declared.event.Event.{Event}
-use Rattle.bbm_events.specs.declared.event.Event.TheVariants.{Tlbi}
+use Rattle.bbm_rules.specs.Prelude.{Heading, Event, Tlbi}
 use Rattle.bbm_rules.specs.Claims.{Trust}
 use Rattle.bbm_rules.specs.Lists.{◌>>=◌}
 use Rattle.bbm_rules.specs.Notes.{Noted, events_of}
 use Rattle.bbm_rules.specs.Places.{page_of}
 use Rattle.bbm_rules.specs.Registers.{named_scope, vmid_of}
 use Rattle.bbm_rules.specs.Tags.{tag_set, tags_of}
-use Rattle.bbm_rules.specs.Tree.{Node, held_at, is_childless, next_of, node_of, region_of}
+use Rattle.bbm_rules.specs.Tree.{held_at, is_childless, next_of, node_of, region_of}
 
 -- whether a descriptor is a leaf for every ASID
 abbrev pub is_global : Desc → Bool
@@ -25,39 +23,32 @@ is_global _ = false
 
 module _ (heading : Heading) (trust : Trust) where
   module _ (h : List Noted) where
-    -- How a TLBI sees a place of a tree that holds a value. The tags are those that the root of the place holds at any
-    -- PE.
-    abbrev pub view_of : Node → ℕ → ℕ → PlaceView
-    view_of n place value = record {
-      kind = n.kind;
-      region = region_of n place;
-      level = n.level;
-      table = is_some (next_of n.kind n.level value);
-      global = is_global (desc_of n.kind n.level value);
-      childless = is_childless heading trust h n value;
-      tags = tag_set (tags_of heading trust n.root (events_of h));
-    }
-
-    -- None where the place is in no tree or holds nothing
+    -- How a TLBI sees a place; None where it is in no tree or holds nothing. The tags are those that the root of the
+    -- place holds at any PE.
     abbrev pub view_at : ℕ → Option PlaceView
     view_at place = do
       n ← node_of heading trust h (page_of place)
       value ← held_at heading trust h n place
-      Some (view_of n place value)
+      Some (record {
+        kind = n.kind;
+        region = region_of n place;
+        level = n.level;
+        table = is_some (next_of n.kind n.level value);
+        global = is_global (desc_of n.kind n.level value);
+        childless = is_childless heading trust h n value;
+        tags = tag_set (tags_of heading trust n.root (events_of h));
+      })
 
     -- Cover: how far an event that comes after h covers a place: a TLBI as its scope says, under the VMID that its
     -- issuer then has. It covers nothing where its operand can't be decoded, where it needs a VMID and there are
     -- several, and where the place is in no tree or holds nothing.
     -- Source: Arm ARM (DDI 0487), "TLB maintenance instructions".
-    abbrev pub covered : Event → ℕ → Option Cover
-    covered (Tlbi pe op xt) place = do
+    abbrev pub cover_at : Event → ℕ → Cover
+    cover_at (Tlbi pe op xt) place = unwrap_or (do
       scope ← named_scope heading (events_of h) pe op xt
       view ← view_at place
-      Some (cover_of scope (vmid_of heading (events_of h) pe) view)
-    covered _ place = None
-
-    abbrev pub cover_at : Event → ℕ → Cover
-    cover_at e place = unwrap_or (covered e place) NoCover
+      Some (cover_of scope (vmid_of heading (events_of h) pe) view)) NoCover
+    cover_at _ place = NoCover
 
     -- the event with its notes, by those of the events before it
     abbrev pub note : Event → Noted

@@ -150,7 +150,10 @@ broken heading h (Root pe kind lock page) =
     if is_fresh h page then None else Some (record { rule = PageInUse; at = page })
 broken heading h _ = None
 
--- Which headers and events this version judges.
+-- Which headers and events this version judges: logs of every version, and under `cnp` too. What `cnp` changes is what
+-- barriers of the non-shareable domain publish, what TLBIs that aren't broadcast reach, and which values a register
+-- may be given. None of these is judged here, so the definitions above are the same under it. A label is no part of a
+-- history.
 abbrev pub is_built_world : World → Bool
 is_built_world (Hyp el2_start s2_start s2_pages) = el2_start == 1 && s2_start == 1 && s2_pages == 1
 is_built_world (Kernel start0 start1 asid_from) = false

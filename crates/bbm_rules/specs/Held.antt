@@ -1,15 +1,13 @@
 -- What a place holds: the value that some TLB may still keep, or that the place has.
 -- Source: Arm ARM (DDI 0487), "Using break-before-make when updating translation table entries".
 use Rattle.std.specs.Prelude.{ℕ, Bool, ◌&&◌, ◌==◌, List, [], ◌∷◌, Option, Some, None, if◌then◌else◌}
-use Rattle.bbm_regimes.specs.declared.regime.Kind.{Kind}
 use Rattle.bbm_descriptor.specs.Descriptor.{is_valid}
-use Rattle.bbm_events.specs.Heading.{Heading}
-use Rattle.bbm_events.specs.declared.event.Event.{Event}
-use Rattle.bbm_events.specs.declared.event.Event.TheVariants.{Init, Write}
+use Rattle.bbm_rules.specs.Prelude.{Kind, Heading, Event, Init, Write}
 use Rattle.bbm_rules.specs.Claims.{Trust}
 use Rattle.bbm_rules.specs.Cleansing.{cleansed}
 use Rattle.bbm_rules.specs.Notes.{Noted}
-use Rattle.bbm_rules.specs.Lists.{◌>>=◌, every_pe}
+use Rattle.bbm_regimes.specs.EveryPe.{every_pe}
+use Rattle.bbm_rules.specs.Lists.{◌>>=◌}
 use Rattle.bbm_rules.specs.Places.{page_of}
 
 -- a valid write: its value, and the part of the history after it
@@ -19,9 +17,7 @@ pub record ValidWrite : Type 0 where
 
 -- one more event after a valid write
 abbrev pub later : Noted → Option ValidWrite → Option ValidWrite
-later n found = do
-  w ← found
-  Some (record { value = w.value; since = n ∷ w.since })
+later n found = found >>= (λ w. Some (record w { since = n ∷ w.since }))
 
 -- The last valid write of a place since the last init of its page, where the place has this kind and level. Given is
 -- that of the history before the event.

@@ -1,5 +1,6 @@
 -- Words on lists, on options and on tests, of no subject of their own.
 -- Source: project's own choice.
+use Rattle.std.specs.Option.{option_map_or}
 use Rattle.std.specs.Prelude.{ℕ, zero, suc, min, Bool, true, false, ◌||◌, ◌==◌, List, [], ◌∷◌, Option, Some, None, option_and_then, unwrap_or, if◌then◌else◌}
 -- whether some item of a list passes the test, and whether every item does
 pub use Rattle.std.specs.List.{list_any as any, list_all as every}
@@ -16,18 +17,12 @@ if_so true x = Some x
 
 -- whether there is a number and it is this one
 abbrev pub is_that : Option ℕ → ℕ → Bool
-is_that None n = false
-is_that (Some m) n = m == n
+is_that o n = option_map_or (λ m. m == n) o false
 
 -- Search in a history: whether some item passes the test. The test has the item and what came before it.
 abbrev pub some : {A : Type 0} → (A → List A → Bool) → List A → Bool
 some test [] = false
 some test (x ∷ older) = test x older || some test older
-
--- the list with its first item alone
-abbrev pub newest : {A : Type 0} → List A → List A
-newest [] = []
-newest (x ∷ xs) = x ∷ []
 
 -- ---- numbers
 
@@ -59,9 +54,6 @@ abbrev pub below : ℕ → List ℕ
 below zero = []
 below (suc n) = n ∷ below n
 
--- whether a test holds of each PE of a log with n PEs, and of some PE
-abbrev pub every_pe : ℕ → (ℕ → Bool) → Bool
-every_pe n test = every test (below n)
-
+-- whether a test holds of some PE of a log with n PEs
 abbrev pub some_pe : ℕ → (ℕ → Bool) → Bool
 some_pe n test = any test (below n)

@@ -3,7 +3,7 @@
 -- definitions say of it from the older part of the list alone. Source: project's own choice.
 use Rattle.std.specs.Prelude.{ℕ, List, [], ◌∷◌}
 use Rattle.bbm_tlbi_scope.specs.declared.entry.Cover.{Cover}
-use Rattle.bbm_events.specs.declared.event.Event.{Event}
+use Rattle.bbm_rules.specs.Prelude.{Event}
 
 pub record Noted : Type 0 where
   pub event : Event

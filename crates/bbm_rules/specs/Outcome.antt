@@ -1,5 +1,6 @@
 -- The verdict on a list of bytes: a fold over its lines. It knows nothing of a reader or of a checker.
 -- Source: project's own choice.
+use Rattle.std.specs.Option.{option_map_or}
 use Rattle.std.specs.Prelude.{◌≡◌, ℕ, suc, Bool, true, false, ◌==◌, nat_lt, nat_le, List, [], ◌∷◌, ◌++◌, length, drop, Option, Some, None, Result, Ok, Err, if◌then◌else◌}
 use Rattle.bbm_regimes.specs.declared.regime.Which.{Which}
 use Rattle.bbm_regimes.specs.declared.regime.Which.TheVariants.{LineBytes, Events, Lines}
@@ -53,20 +54,12 @@ pub record Judge : Type 0 where
   pub limit : List Event → Event → Option Which
 
 abbrev pub all_rules : Trust → Judge
-all_rules trust = record {
-  judges_heading = λ heading. true;
-  judges = λ heading h event. true;
-  breach = λ heading h event. broken heading trust h event;
-  limit = limit_of;
-}
+all_rules trust =
+    record { judges_heading = λ g. true; judges = λ g h e. true; breach = λ g. broken g trust; limit = limit_of }
 
 abbrev pub first_path : Judge
-first_path = record {
-  judges_heading = first.is_built_heading;
-  judges = first.is_built;
-  breach = first.broken;
-  limit = λ h event. None;
-}
+first_path =
+    record { judges_heading = first.is_built_heading; judges = first.is_built; breach = first.broken; limit = λ h e. None }
 
 -- The limits that hold for a command beside those of a line's bytes and of a history, which always hold: at most so
 -- many events, and fewer than so many lines, or any number of them.
@@ -80,8 +73,7 @@ check_limits = record { events = Some 2000; lines = None }
 
 -- whether so many reach a limit, so that one more would pass it
 abbrev pub is_reached : Option ℕ → ℕ → Bool
-is_reached None count = false
-is_reached (Some limit) count = nat_le limit count
+is_reached limit count = option_map_or (λ n. nat_le n count) limit false
 
 -- the limit that an event of this line reaches after a history: that of the history first
 abbrev pub limit_at : Limits → ℕ → List Event → Option Which → Option Which
@@ -175,8 +167,7 @@ pub record Outcome : Type 0 where
 
 -- The bytes that stay unread behind a line that decides: of one that is too long 201 bytes are read.
 abbrev pub unread_after : List ℕ → List (List ℕ) → List ℕ → List ℕ
-unread_after line lines rest =
-    if is_too_long line then drop 201 (bytes_of (line ∷ lines) rest) else bytes_of lines rest
+unread_after line lines rest = if is_too_long line then drop 201 (bytes_of (line ∷ lines) rest) else bytes_of lines rest
 
 -- the outcome where a line decides, and else that of the lines behind it
 abbrev pub outcome_after : Progress → List ℕ → List (List ℕ) → List ℕ → (Progress → Outcome) → Step → Outcome
@@ -192,23 +183,16 @@ outcome_from judge limits number progress (line ∷ lines) rest =
     outcome_after progress line lines rest (λ next. outcome_from judge limits (suc number) next lines rest)
     (step_of judge limits number progress line)
 
--- the outcome of these lines, with these bytes after the last newline
-abbrev pub outcome_of_lines : Judge → Limits → List (List ℕ) → List ℕ → Outcome
-outcome_of_lines judge limits lines rest = outcome_from judge limits 1 AtHeader lines rest
-
+-- the verdict on these lines, with these bytes after the last newline
 abbrev pub verdict_of_lines : Judge → Limits → List (List ℕ) → List ℕ → Verdict
-verdict_of_lines judge limits lines rest = (outcome_of_lines judge limits lines rest).verdict
+verdict_of_lines judge limits lines rest = (outcome_from judge limits 1 AtHeader lines rest).verdict
 
 -- the outcome of a list of bytes
 abbrev pub outcome_of : Judge → Limits → List ℕ → Outcome
-outcome_of judge limits bytes = outcome_of_lines judge limits (text_of bytes).lines (text_of bytes).rest
+outcome_of judge limits bytes = outcome_from judge limits 1 AtHeader (text_of bytes).lines (text_of bytes).rest
 
 abbrev pub verdict_of_bytes : Judge → Limits → List ℕ → Verdict
 verdict_of_bytes judge limits bytes = (outcome_of judge limits bytes).verdict
-
--- the events of the log, without their labels: those before the deciding line, or all of them, the newest first
-abbrev pub log_of : Judge → Limits → List ℕ → List Event
-log_of judge limits bytes = (outcome_of judge limits bytes).log
 
 -- The same as a sentence: the verdict is that of the first line that decides, or else that of the end.
 

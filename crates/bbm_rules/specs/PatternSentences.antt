@@ -4,13 +4,10 @@
 -- Source: Arm ARM (DDI 0487), "Using break-before-make when updating translation table entries", and "TLB
 -- maintenance instructions".
 use Rattle.std.specs.Prelude.{◌≡◌, ℕ, ◌<◌, ◌⊎◌, true, false, List, ◌∷◌, ◌++◌}
-use Rattle.bbm_barriers.specs.declared.Dsb.{Dsb as Barrier}
-use Rattle.bbm_regimes.specs.declared.regime.Kind.{Kind}
 use Rattle.bbm_descriptor.specs.Descriptor.{is_valid}
 use Rattle.bbm_tlbi_scope.specs.declared.entry.Cover.{Cover}
 use Rattle.bbm_tlbi_scope.specs.declared.entry.Cover.TheVariants.{Half, Second, Full}
-use Rattle.bbm_events.specs.Heading.{Heading}
-use Rattle.bbm_events.specs.declared.event.Event.TheVariants.{Init, Write, Dsb}
+use Rattle.bbm_rules.specs.Prelude.{Barrier, Kind, Heading, Init, Write, Dsb}
 use Rattle.bbm_rules.specs.declared.claim.Claim.TheVariants.{Place, Two}
 use Rattle.bbm_rules.specs.Claims.{Trust, allows}
 use Rattle.bbm_rules.specs.Notes.{Noted, event_of}

@@ -1,8 +1,7 @@
 -- How far a place has been taken through break-before-make at a PE. Source: project's own choice.
-use Rattle.std.specs.Prelude.{ℕ, List, Option, Some, None, unwrap_or, if◌then◌else◌}
+use Rattle.std.specs.Prelude.{ℕ, List, Some, None, unwrap_or, if◌then◌else◌}
 use Rattle.bbm_descriptor.specs.Descriptor.{is_valid}
-use Rattle.bbm_events.specs.Heading.{Heading}
-use Rattle.bbm_events.specs.declared.event.Event.{Event}
+use Rattle.bbm_rules.specs.Prelude.{Heading, Event}
 use Rattle.bbm_rules.specs.declared.phase.Phase.{Phase}
 use Rattle.bbm_rules.specs.declared.phase.Phase.TheVariants.{Clean, Live, Broken, Seen, Half, Cleansed}
 use Rattle.bbm_rules.specs.Claims.{Trust}
@@ -10,7 +9,7 @@ use Rattle.bbm_rules.specs.Cleansing.{cleansed, half, seen}
 use Rattle.bbm_rules.specs.Covers.{noted}
 use Rattle.bbm_rules.specs.Held.{cleansed_everywhere, last_valid}
 use Rattle.bbm_rules.specs.Lists.{◌>>=◌}
-use Rattle.bbm_rules.specs.Notes.{Noted, events_of}
+use Rattle.bbm_rules.specs.Notes.{Noted}
 use Rattle.bbm_rules.specs.Places.{page_of}
 use Rattle.bbm_rules.specs.Tree.{node_of}
 use Rattle.bbm_rules.specs.Values.{value_of}
@@ -24,15 +23,11 @@ module _ (heading : Heading) (trust : Trust) where
       else (if seen heading place p since then Seen
       else Broken))
 
-  -- None where the place is in no tree or holds nothing
-  abbrev pub phase_held : List Noted → ℕ → ℕ → Option Phase
-  phase_held h place p = do
-    n ← node_of heading trust h (page_of place)
-    w ← last_valid n.kind n.level place h
-    if cleansed_everywhere heading trust place w.since then None
-        else Some (if is_valid n.kind n.level (value_of (events_of h) place) then Live else broken_phase place p w.since)
-
   -- Phase: clean where the place is in no tree or holds nothing; live where its value is valid; else the furthest of
   -- cleansed, half and seen, or broken where it is none of them.
   unfoldable pub phase_of : List Event → ℕ → ℕ → Phase
-  phase_of h place p = unwrap_or (phase_held (noted heading trust h) place p) Clean
+  phase_of h place p = unwrap_or (do
+    n ← node_of heading trust (noted heading trust h) (page_of place)
+    w ← last_valid n.kind n.level place (noted heading trust h)
+    if cleansed_everywhere heading trust place w.since then None
+        else Some (if is_valid n.kind n.level (value_of h place) then Live else broken_phase place p w.since)) Clean

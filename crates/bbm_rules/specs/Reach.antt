@@ -1,11 +1,8 @@
 -- Which PEs a TLBI reaches, and which DSB answers it. A history is newest first.
-use Rattle.std.specs.Prelude.{ℕ, Bool, false, ◌&&◌, ◌||◌, not, ◌==◌, List, [], ◌∷◌, if◌then◌else◌}
-use Rattle.bbm_barriers.specs.declared.Dsb.{Dsb as Barrier}
+use Rattle.std.specs.Prelude.{ℕ, Bool, false, ◌&&◌, ◌||◌, not, ◌==◌, List, [], ◌∷◌, filter, if◌then◌else◌}
 use Rattle.bbm_barriers.specs.Options.{answers}
 use Rattle.bbm_tlbi_scope.specs.Operations.{operation}
-use Rattle.bbm_events.specs.Heading.{Heading}
-use Rattle.bbm_events.specs.declared.event.Event.{Event}
-use Rattle.bbm_events.specs.declared.event.Event.TheVariants.{Dsb, Tlbi}
+use Rattle.bbm_rules.specs.Prelude.{Barrier, Heading, Event, Dsb, Tlbi}
 
 -- Reach: a broadcast TLBI reaches every PE. Any other reaches its issuer alone, or no PE where the header has `cnp`,
 -- since what it takes may come back from the TLB of another PE.
@@ -26,9 +23,7 @@ pub record Issued (A : Type 0) : Type 0 where
 
 -- the TLBIs that the DSB doesn't complete
 abbrev pub left_open : {A : Type 0} → (A → Event) → Barrier → List (Issued A) → List (Issued A)
-left_open event dsb [] = []
-left_open event dsb (t ∷ ts) =
-    if completes dsb (event t.tlbi) then left_open event dsb ts else t ∷ left_open event dsb ts
+left_open event dsb ts = filter (λ t. not (completes dsb (event t.tlbi))) ts
 
 -- the unanswered TLBIs of q after one more event
 abbrev pub still_open : {A : Type 0} → (A → Event) → ℕ → Event → Issued A → List (Issued A) → List (Issued A)

@@ -1,11 +1,11 @@
 -- The root registers of a PE: which of their values may still be in use. A history is newest first.
 -- Source: project's own choice, but where another is named.
-use Rattle.std.specs.Prelude.{ℕ, ◌*◌, ◌/◌, ◌%◌, ◌^◌, Bool, ◌&&◌, ◌==◌, List, [], ◌∷◌, Option, Some, None, is_none, map, if◌then◌else◌}
+use Rattle.std.specs.Prelude.{ℕ, ◌*◌, ◌/◌, ◌%◌, ◌^◌, Bool, ◌&&◌, ◌==◌, List, [], ◌∷◌, Option, Some, None, is_none, map, take, if◌then◌else◌}
 use Rattle.std.specs.Result.{result_ok}
 pub use Rattle.bbm_regimes.specs.Same.{kind_of_reg, same_reg}
 use Rattle.bbm_tlbi_scope.specs.Operations.{scoped_by_vmid}
 use Rattle.bbm_rules.specs.Prelude.{Reg, VttbrEl2, World, Hyp, Kernel, TlbiOp, Scope, scope_of, Heading, Event, Isb, Msr}
-use Rattle.bbm_rules.specs.Lists.{newest, one_number}
+use Rattle.bbm_rules.specs.Lists.{one_number}
 
 -- Readable values of a register of p, newest first: those that it had, the first 0 among them, and that no later
 -- write of the register by p replaced before an ISB of p. An ISB of p leaves the newest alone.
@@ -14,7 +14,7 @@ abbrev pub register_values : List Event → ℕ → Reg → List ℕ
 register_values [] p reg = 0 ∷ []
 register_values (Msr pe r value ∷ h) p reg =
     if pe == p && same_reg r reg then value ∷ register_values h p reg else register_values h p reg
-register_values (Isb pe ∷ h) p reg = if pe == p then newest (register_values h p reg) else register_values h p reg
+register_values (Isb pe ∷ h) p reg = if pe == p then take 1 (register_values h p reg) else register_values h p reg
 register_values (_ ∷ h) p reg = register_values h p reg
 
 -- The base that a register value names: bits [47:1], as an address. Bit 0 is ignored. Value 0 names none.

@@ -37,9 +37,7 @@ is_root h kind page = any (λ r. is_at page r && same_kind r.kind kind) (roots_o
 
 -- the lock that a root names, None where it names none or the page is no root
 abbrev pub lock_of : List Event → ℕ → Option ℕ
-lock_of h page = do
-  r ← root_at h page
-  r.lock
+lock_of h page = root_at h page >>= (λ r. r.lock)
 
 -- so many consecutive pages from a first one on
 abbrev pub pages_from : ℕ → ℕ → List ℕ

@@ -1,21 +1,13 @@
 -- The seventeen rules. Each says whether an event breaks it after h, the annotated history, newest first: None where
 -- it doesn't, else the number that is reported as `at`, an address, or the number of a PE or a lock. The sentences
 -- are those of docs/RULES.md. Source: project's own choice, but for rule 4.
-use Rattle.std.specs.Prelude.{ℕ, ◌%◌, Bool, true, false, ◌&&◌, ◌||◌, not, ◌==◌, nat_le, nat_lt, List, [], ◌∷◌, ◌++◌, length, Option, Some, None, is_none, Result, Ok, Err, filter, flat_map, map, option_to_list, if◌then◌else◌}
-use Rattle.bbm_regimes.specs.declared.regime.Kind.{Kind}
-use Rattle.bbm_regimes.specs.declared.regime.Kind.TheVariants.{S2, Ttbr0}
-use Rattle.bbm_regimes.specs.declared.regime.Reg.{Reg}
-use Rattle.bbm_regimes.specs.declared.regime.Reg.TheVariants.{Ttbr0El2, VttbrEl2, Ttbr0El1, Ttbr1El1}
+use Rattle.std.specs.Result.{result_ok}
+use Rattle.std.specs.Prelude.{ℕ, ◌%◌, Bool, false, ◌&&◌, ◌||◌, not, ◌==◌, nat_le, nat_lt, List, [], ◌∷◌, ◌++◌, length, Option, None, is_none, filter, flat_map, map, option_to_list}
 use Rattle.bbm_descriptor.specs.Descriptor.{desc_of, is_valid, needs}
 use Rattle.bbm_descriptor.specs.declared.desc.Desc.{Desc}
 use Rattle.bbm_descriptor.specs.declared.desc.Desc.TheVariants.{Leaf}
-use Rattle.bbm_tlbi_scope.specs.declared.scope.BadOperand.{BadOperand}
-use Rattle.bbm_tlbi_scope.specs.declared.scope.Scope.{Scope}
-use Rattle.bbm_tlbi_scope.specs.Decode.{scope_of}
 use Rattle.bbm_tlbi_scope.specs.Operations.{of_world}
-use Rattle.bbm_events.specs.Heading.{Heading}
-use Rattle.bbm_events.specs.declared.event.Event.{Event}
-use Rattle.bbm_events.specs.declared.event.Event.TheVariants.{Init, Null, Root, Unroot, Write, Tlbi, Msr, Lock, Unlock}
+use Rattle.bbm_rules.specs.Prelude.{Kind, S2, Ttbr0, Ttbr0El2, VttbrEl2, Ttbr0El1, Ttbr1El1, scope_of, Heading, Event, Init, Null, Root, Unroot, Write, Tlbi, Msr, Lock, Unlock}
 use Rattle.bbm_rules.specs.Attach.{Attached, End, all_ends, attached_by, pages_of}
 use Rattle.bbm_rules.specs.Claims.{Trust}
 use Rattle.bbm_rules.specs.Covers.{is_global}
@@ -24,8 +16,8 @@ use Rattle.bbm_rules.specs.Notes.{Noted, events_of}
 use Rattle.bbm_rules.specs.Pages.{is_fresh, is_null}
 use Rattle.bbm_rules.specs.Lists.{◌>>=◌, any, if_so, is_that, least, repeated, some_pe}
 use Rattle.bbm_rules.specs.Places.{page_of}
-use Rattle.bbm_rules.specs.Registers.{base_of, kind_of_reg, lacks_vmid, register_values}
-use Rattle.bbm_rules.specs.Roots.{Declared, is_root, kind_in_world, lock_of, root_at, root_pages, roots_of, same_kind}
+use Rattle.bbm_rules.specs.Registers.{base_of, kind_of_reg, lacks_vmid, register_values, same_reg}
+use Rattle.bbm_rules.specs.Roots.{is_root, kind_in_world, lock_of, root_at, root_pages, roots_of, same_kind}
 use Rattle.bbm_rules.specs.Tags.{Reading, holds_tag, readings, tags_of}
 use Rattle.bbm_rules.specs.Tree.{held_at, in_limbo, in_tree, node_of}
 use Rattle.bbm_rules.specs.Values.{places_in, value_of}
@@ -40,11 +32,6 @@ abbrev pub judged_ends : Event → Attached → List End
 judged_ends (Root pe kind lock page) a = a.deeper
 judged_ends _ a = all_ends a
 
--- what is found at attached pages, nothing where none are
-abbrev pub of_attached : {A : Type 0} → (Attached → List A) → Option Attached → List A
-of_attached find None = []
-of_attached find (Some a) = find a
-
 -- the places of a page, read at a level, with a descriptor that passes the test
 abbrev pub places_with : (Kind → Desc → Bool) → Kind → List Event → End → List ℕ
 places_with test kind h end =
@@ -57,27 +44,10 @@ abbrev pub is_contiguous : Kind → Desc → Bool
 is_contiguous kind (Leaf out attrs share global contiguous) = contiguous
 is_contiguous kind _ = false
 
-abbrev pub is_global_user : Kind → Desc → Bool
-is_global_user kind desc = same_kind kind Ttbr0 && is_global desc
-
-abbrev pub has_value : List Event → ℕ → Bool
-has_value h place = not (value_of h place == 0)
-
-abbrev pub takes_null : List Event → Reg → ℕ → Bool
-takes_null h Ttbr0El1 base = is_null h base
-takes_null h _ base = false
-
-abbrev pub names_base : ℕ → ℕ → Bool
-names_base page value = is_that (base_of value) page
-
 -- whether the page is the base of a value that p may still use in some register
 abbrev pub is_base_at : List Event → ℕ → ℕ → Bool
 is_base_at h page p =
-    any (names_base page) (flat_map (register_values h p) (Ttbr0El2 ∷ VttbrEl2 ∷ Ttbr0El1 ∷ Ttbr1El1 ∷ []))
-
-abbrev pub is_bad : Result Scope BadOperand → Bool
-is_bad (Ok scope) = false
-is_bad (Err why) = true
+    any (λ value. is_that (base_of value) page) (flat_map (register_values h p) (Ttbr0El2 ∷ VttbrEl2 ∷ Ttbr0El1 ∷ Ttbr1El1 ∷ []))
 
 module _ (heading : Heading) (trust : Trust) (h : List Noted) where
   -- 1, wrong-world: it has a root kind, a register or a TLBI operation that isn't of the header's world, or it is a
@@ -136,16 +106,14 @@ module _ (heading : Heading) (trust : Trust) (h : List Noted) where
   abbrev pub bad_ends : Event → Attached → List ℕ
   bad_ends e a = unfresh (pages_of (judged_ends e a)) ++ repeated (pages_of (all_ends a))
 
-  abbrev pub is_untracked : ℕ → Bool
-  is_untracked page =
-      not (in_tree heading trust h page) && not (is_fresh heading trust h page) && not (is_null (events_of h) page)
-
   abbrev pub untracked_page : Event → List ℕ
-  untracked_page (Write pe place value) = if is_untracked (page_of place) then page_of place ∷ [] else []
+  untracked_page (Write pe place value) =
+      filter (λ page. not (in_tree heading trust h page || is_fresh heading trust h page || is_null (events_of h) page))
+      (page_of place ∷ [])
   untracked_page _ = []
 
   abbrev pub not_fresh : Event → Option ℕ
-  not_fresh e = least (of_attached (bad_ends e) (attached_by heading trust h e) ++ untracked_page e)
+  not_fresh e = least (flat_map (bad_ends e) (option_to_list (attached_by heading trust h e)) ++ untracked_page e)
 
   -- 7, rewritten-fresh: it is a write at a place of a fresh page whose value has bit 0 set, with another value. At:
   -- the place.
@@ -165,7 +133,7 @@ module _ (heading : Heading) (trust : Trust) (h : List Noted) where
 
   abbrev pub made_with : (Kind → Desc → Bool) → Event → Option ℕ
   made_with test e = least (option_to_list (written_with test e)
-      ++ of_attached (attached_with test (events_of h)) (attached_by heading trust h e))
+      ++ flat_map (attached_with test (events_of h)) (option_to_list (attached_by heading trust h e)))
 
   -- 8, bad-kind: it is a write of a leaf with the Contiguous hint at a place of a tree, or attaches a page with such a
   -- place. At: the least such place.
@@ -175,7 +143,7 @@ module _ (heading : Heading) (trust : Trust) (h : List Noted) where
   -- 9, global-user: it is a write of a leaf for every ASID at a place of a tree of the lower range, or attaches a page
   -- with such a place to one. At: the least such place.
   abbrev pub global_user : Event → Option ℕ
-  global_user e = made_with is_global_user e
+  global_user e = made_with (λ kind desc. same_kind kind Ttbr0 && is_global desc) e
 
   -- 10, page-in-use: an `init` names a page of a tree or a null page; a `root` names a page that isn't fresh; a `null`
   -- names a page that isn't fresh or has a value other than 0. At: the least such page.
@@ -183,7 +151,7 @@ module _ (heading : Heading) (trust : Trust) (h : List Noted) where
   page_in_use (Init pe page) = if_so (in_tree heading trust h page || is_null (events_of h) page) page
   page_in_use (Root pe kind lock page) = least (unfresh (root_pages heading.world kind page))
   page_in_use (Null pe page) = if_so (not (is_fresh heading trust h page)
-      || any (has_value (events_of h)) (places_in (events_of h) page)) page
+      || any (λ place. not (value_of (events_of h) place == 0)) (places_in (events_of h) page)) page
   page_in_use _ = None
 
   -- 11, no-root: a register is given a value other than 0 whose base is neither the first page of a declared root of
@@ -192,23 +160,19 @@ module _ (heading : Heading) (trust : Trust) (h : List Noted) where
   abbrev pub no_root : Event → Option ℕ
   no_root (Msr pe reg value) = do
     base ← base_of value
-    if_so (not (is_root (events_of h) (kind_of_reg reg) base) && not (takes_null (events_of h) reg base)) base
+    if_so (not (is_root (events_of h) (kind_of_reg reg) base || (same_reg reg Ttbr0El1 && is_null (events_of h) base))) base
   no_root (Unroot pe page) = if_so (is_none (root_at (events_of h) page)) page
   no_root _ = None
 
   -- 12, tag-conflict: after the register write a tag is readable at this PE for one root, and another root holds it.
   -- At: the least first page of such another root. The first argument are the events with the register write.
-  abbrev pub is_other_holder : List Event → Reading → Declared → Bool
-  is_other_holder after reading r = not (r.page == reading.root) && holds_tag heading trust r.page reading.tag after
-
   abbrev pub other_holders : List Event → Reading → List ℕ
-  other_holders after reading = map (λ r. r.page) (filter (is_other_holder after reading) (roots_of after))
-
-  abbrev pub conflicts : List Event → ℕ → List ℕ
-  conflicts after pe = flat_map (other_holders after) (readings heading after pe)
+  other_holders after reading = map (λ r. r.page) (filter
+      (λ r. not (r.page == reading.root) && holds_tag heading trust r.page reading.tag after) (roots_of after))
 
   abbrev pub tag_conflict : Event → Option ℕ
-  tag_conflict (Msr pe reg value) = least (conflicts (Msr pe reg value ∷ events_of h) pe)
+  tag_conflict (Msr pe reg value) =
+      let after : List Event = Msr pe reg value ∷ events_of h in least (flat_map (other_holders after) (readings heading after pe))
   tag_conflict _ = None
 
   -- 13, root-in-use: an `unroot` names a root that is the base of a readable register value at some PE, or that holds
@@ -229,7 +193,7 @@ module _ (heading : Heading) (trust : Trust) (h : List Noted) where
 
   -- 15, bad-operand: the operand of a TLBI can't be decoded. At: the operand.
   abbrev pub bad_operand : Event → Option ℕ
-  bad_operand (Tlbi pe op xt) = if_so (is_bad (scope_of op xt)) xt
+  bad_operand (Tlbi pe op xt) = if_so (is_none (result_ok (scope_of op xt))) xt
   bad_operand _ = None
 
   -- 16, lock-busy: a `lock` names a lock that is held, by this PE or another. At: the holder's number.

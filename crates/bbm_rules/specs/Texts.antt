@@ -1,6 +1,7 @@
 -- The text of a verdict: one line, with its newline.
 -- Source: project's own choice.
-use Rattle.std.specs.Prelude.{ℕ, List, [], ◌++◌, Option, Some, None, codes, decimal}
+use Rattle.std.specs.Option.{option_map_or}
+use Rattle.std.specs.Prelude.{ℕ, List, [], ◌++◌, Option, codes, decimal}
 use Rattle.bbm_regimes.specs.declared.regime.Which.{Which}
 use Rattle.bbm_regimes.specs.declared.regime.Which.TheVariants.{LineBytes, Pages, Roots, Values, Events, Steps, Lines}
 use Rattle.bbm_events.specs.declared.malformed.Malformed.{Malformed as Cause}
@@ -59,8 +60,7 @@ limit_text Lines = codes "lines"
 
 -- a space and the label, behind its `@`, where there is one
 abbrev pub label_text : Option (List ℕ) → List ℕ
-label_text None = []
-label_text (Some label) = codes " @" ++ label
+label_text label = option_map_or (λ text. codes " @" ++ text) label []
 
 -- the line that is printed for a verdict
 unfoldable pub verdict_text : Verdict → List ℕ
@@ -70,5 +70,4 @@ verdict_text (Refused line rule at label) =
     ++ codes "\n"
 verdict_text (Malformed line cause) =
     codes "malformed line " ++ decimal line ++ codes " cause " ++ cause_text cause ++ codes "\n"
-verdict_text (Limit line which) =
-    codes "limit line " ++ decimal line ++ codes " " ++ limit_text which ++ codes "\n"
+verdict_text (Limit line which) = codes "limit line " ++ decimal line ++ codes " " ++ limit_text which ++ codes "\n"

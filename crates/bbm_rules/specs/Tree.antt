@@ -1,14 +1,13 @@
 -- The trees of translation tables: the pages of the declared roots, and all pages that they reach through held
 -- tables. That held tables count, and not present ones alone, is the project's own choice.
 -- Source: Arm ARM (DDI 0487), "VMSAv8-64 translation table walks".
+use Rattle.std.specs.Option.{option_map_or}
 use Rattle.std.specs.Prelude.{ℕ, zero, suc, ◌+◌, ◌*◌, ◌-◌, Bool, false, not, ◌==◌, List, [], ◌∷◌, ◌++◌, Option, Some, None, is_some, find, flat_map, filter_map, if◌then◌else◌}
 use Rattle.bbm_regimes.specs.Extent.{Extent}
-use Rattle.bbm_regimes.specs.declared.regime.Kind.{Kind}
 use Rattle.bbm_descriptor.specs.Descriptor.{desc_of, is_valid}
 use Rattle.bbm_descriptor.specs.declared.desc.Desc.{Desc}
 use Rattle.bbm_descriptor.specs.declared.desc.Desc.TheVariants.{Table}
-use Rattle.bbm_events.specs.Heading.{Heading}
-use Rattle.bbm_events.specs.declared.event.Event.{Event}
+use Rattle.bbm_rules.specs.Prelude.{Kind, Heading}
 use Rattle.bbm_rules.specs.Claims.{Trust}
 use Rattle.bbm_rules.specs.Held.{held}
 use Rattle.bbm_rules.specs.Lists.{◌>>=◌, any}
@@ -38,8 +37,7 @@ abbrev pub region_start : Node → ℕ → ℕ
 region_start n place = n.base + index_of place * input_pages n.level
 
 abbrev pub region_of : Node → ℕ → Extent
-region_of n place =
-    record { lo = region_start n place; hi = region_start n place + input_pages n.level - 1 }
+region_of n place = record { lo = region_start n place; hi = region_start n place + input_pages n.level - 1 }
 
 -- the pages of a root, at its start level, each with the input page at which it begins: page j has the j-th part
 abbrev pub nodes_of_pages : Kind → ℕ → ℕ → ℕ → List ℕ → List Node
@@ -64,26 +62,18 @@ next_in _ = None
 abbrev pub next_of : Kind → ℕ → ℕ → Option ℕ
 next_of kind level value = next_in (desc_of kind level value)
 
--- the page below a place, one level deeper
+-- the page below a place, one level deeper; kind and root are the same
 abbrev pub node_below : Node → ℕ → ℕ → Node
-node_below n place next = record {
+node_below n place next = record n {
   page = next;
-  kind = n.kind;
   level = suc n.level;
-  root = n.root;
   base = region_start n place;
   above = record { place = place; level = n.level } ∷ n.above;
 }
 
 -- Limbo: the present value of a place above is invalid. Source: project's own choice.
-abbrev pub is_broken : Kind → List Event → Above → Bool
-is_broken kind h a = not (is_valid kind a.level (value_of h a.place))
-
 abbrev pub in_limbo : List Noted → Node → Bool
-in_limbo h n = any (is_broken n.kind (events_of h)) n.above
-
-abbrev pub is_for : ℕ → Node → Bool
-is_for page n = n.page == page
+in_limbo h n = any (λ a. not (is_valid n.kind a.level (value_of (events_of h) a.place))) n.above
 
 module _ (heading : Heading) (trust : Trust) (h : List Noted) where
   -- what a place of a page of a tree holds
@@ -112,7 +102,7 @@ module _ (heading : Heading) (trust : Trust) (h : List Noted) where
   -- The node of a page. In a history that keeps the rules a page has one at most: `law_one_node` says so. So each
   -- definition that speaks of a place of a tree goes by this one.
   abbrev pub node_of : ℕ → Option Node
-  node_of page = find (is_for page) tree
+  node_of page = find (λ n. n.page == page) tree
 
   abbrev pub in_tree : ℕ → Bool
   in_tree page = is_some (node_of page)
@@ -121,9 +111,6 @@ module _ (heading : Heading) (trust : Trust) (h : List Noted) where
   abbrev pub holds_some : Kind → ℕ → ℕ → Bool
   holds_some kind level place = is_some (held heading trust kind level place h)
 
-  abbrev pub childless_below : Node → Option ℕ → Bool
-  childless_below n None = false
-  childless_below n (Some next) = not (any (holds_some n.kind (suc n.level)) (places_in (events_of h) next))
-
   abbrev pub is_childless : Node → ℕ → Bool
-  is_childless n value = childless_below n (next_of n.kind n.level value)
+  is_childless n value = option_map_or
+      (λ next. not (any (holds_some n.kind (suc n.level)) (places_in (events_of h) next))) (next_of n.kind n.level value) false

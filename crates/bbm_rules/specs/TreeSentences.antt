@@ -2,10 +2,8 @@
 -- `law_childless`, `law_fresh` and `law_paths` say that they say the same. Source: Arm ARM (DDI 0487), "VMSAv8-64
 -- translation table walks", of trees; else the project's own choice.
 use Rattle.std.specs.Prelude.{◌≡◌, ℕ, suc, ◌<◌, false, true, List, [], ◌∷◌, ◌++◌, Some, None, Contains}
-use Rattle.bbm_regimes.specs.declared.regime.Kind.{Kind}
 use Rattle.bbm_descriptor.specs.Descriptor.{is_valid}
-use Rattle.bbm_events.specs.Heading.{Heading}
-use Rattle.bbm_events.specs.declared.event.Event.TheVariants.{Init, Null}
+use Rattle.bbm_rules.specs.Prelude.{Kind, Heading, Init, Null}
 use Rattle.bbm_rules.specs.Attach.{End, end_at}
 use Rattle.bbm_rules.specs.Claims.{Trust}
 use Rattle.bbm_rules.specs.Held.{held}

@@ -22,11 +22,8 @@ written_places (Write pe at value ∷ h) = with_number at (written_places h)
 written_places (_ ∷ h) = written_places h
 
 -- those of one page
-abbrev pub is_in_page : ℕ → ℕ → Bool
-is_in_page page place = page_of place == page
-
 abbrev pub places_in : List Event → ℕ → List ℕ
-places_in h page = filter (is_in_page page) (written_places h)
+places_in h page = filter (λ place. page_of place == page) (written_places h)
 
 abbrev pub is_non : Domain → Bool
 is_non Non = true

@@ -1,8 +1,6 @@
 -- One header in two versions. Source: project's own choice.
 use Rattle.std.specs.Prelude.{ℕ, Bool, false, ◌%◌, ◌==◌}
-use Rattle.bbm_events.specs.Heading.{Heading}
-use Rattle.bbm_events.specs.declared.event.Event.{Event}
-use Rattle.bbm_events.specs.declared.event.Event.TheVariants.{Msr}
+use Rattle.bbm_rules.specs.Prelude.{Heading, Event, Msr}
 
 -- the header in this version, without `cnp`
 abbrev pub in_version : ℕ → Heading → Heading

@@ -1,42 +1,42 @@
 //! The seventeen rules.
 
 /// A rule of table maintenance, with the number that the program prints. Of several rules that one
-/// event breaks the least is reported. Source: the manner of judging is the project's own choice; each
-/// rule's reason stands in docs/RULES.md.
+/// event breaks the least is reported. Source: the manner of judging is the project's own choice; what
+/// each rule says, and why, stands in docs/RULES.md, and its sentence also at its definition.
 #[derive(Clone, Copy, Debug, PartialEq, Eq)]
 pub enum Rule {
-    /// A root kind, a register, a TLBI operation or a null page that isn't of the header's world.
+    /// 1, wrong-world.
     WrongWorld = 1,
-    /// A write at a place of a tree, or an unroot, without the lock that the root names.
+    /// 2, no-lock.
     NoLock = 2,
-    /// A write at a place of a null page.
+    /// 3, null-written.
     NullWritten = 3,
-    /// A write of a valid value at a place that holds a value of another core.
+    /// 4, break-before-make.
     BreakBeforeMake = 4,
-    /// A write of a valid value at a place below a table whose present value is invalid.
+    /// 5, limbo-make.
     LimboMake = 5,
-    /// A page that isn't fresh is attached or written, or one is attached twice.
+    /// 6, not-fresh.
     NotFresh = 6,
-    /// Another value is written over a value with bit 0 set, in a fresh page.
+    /// 7, rewritten-fresh.
     RewrittenFresh = 7,
-    /// A leaf with the Contiguous hint is written in a tree or attached to one.
+    /// 8, bad-kind.
     BadKind = 8,
-    /// A global leaf is written in a tree of the lower range or attached to one.
+    /// 9, global-user.
     GlobalUser = 9,
-    /// A page that is in use is initialised, or a page that isn't fresh becomes a root or a null page.
+    /// 10, page-in-use.
     PageInUse = 10,
-    /// A register is given a base that is no root, or a page that is no root is retired.
+    /// 11, no-root.
     NoRoot = 11,
-    /// A tag would be readable for one root while another holds it.
+    /// 12, tag-conflict.
     TagConflict = 12,
-    /// A root is retired that a readable register value names, or that holds a tag.
+    /// 13, root-in-use.
     RootInUse = 13,
-    /// A TLBI scoped by VMID comes from a PE whose VMID isn't synchronised.
+    /// 14, unsynced-vmid.
     UnsyncedVmid = 14,
-    /// The operand of a TLBI can't be decoded.
+    /// 15, bad-operand.
     BadOperand = 15,
-    /// A lock that is held is taken.
+    /// 16, lock-busy.
     LockBusy = 16,
-    /// A lock is given back by a PE that doesn't hold it.
+    /// 17, lock-not-mine.
     LockNotMine = 17,
 }

@@ -1,5 +1,5 @@
 -- Which bytes are read for a verdict: all of an accepted log, and else those up to the line that decides.
-use Rattle.std.proofs.Common.{◌≡◌, ◌⊎◌, ℕ, zero, suc, ◌+◌, ◌≤◌, ◌<◌, Bool, true, false, ◌&&◌, ◌==◌, nat_eq, if◌then◌else◌, List, [], ◌∷◌, ◌++◌, length, drop, Option, Some, None, Result, Ok, Err, refl, ap, sym, ◌∙◌, subst, inl, inr, arith, append_assoc, append-nil}
+use Rattle.std.proofs.Common.{◌≡◌, ◌⊎◌, ℕ, zero, suc, ◌+◌, ◌≤◌, ◌<◌, Bool, true, false, ◌==◌, nat_eq, if◌then◌else◌, List, [], ◌∷◌, ◌++◌, length, drop, Option, Some, None, Result, Ok, Err, refl, ap, sym, ◌∙◌, subst, inl, inr, arith, append_assoc, append-nil}
 use Rattle.std.proofs.Math.ListN.{drop_of_length-le}
 use Rattle.std.proofs.lemmas.Bool.{and_parts, false≢true}
 use Rattle.std.proofs.lemmas.Bool.Decides.{nat_tests}
@@ -29,7 +29,7 @@ use Rattle.bbm_session.proofs.Texts.{plain-head, text_of-line, text_of-plain, by
 
 abbrev Names : ℕ → Verdict → Type 0
 Names n (Accepted events) = ⊥
-Names n (Refused line rule at) = line ≡ n
+Names n (Refused line rule at label) = line ≡ n
 Names n (Malformed line cause) = line ≡ n
 Names n (Limit line which) = line ≡ n
 
@@ -49,15 +49,15 @@ says_kept : (n : ℕ) (heading : Heading) (h : List EventOf) (e : EventOf) (limi
 says_kept n heading h e (Some which) = refl
 says_kept n heading h e None = tt
 
-says_judged : (judge : Judge) (limits : Limits) (n : ℕ) (heading : Heading) (h : List EventOf) (e : EventOf) (breach : Option Breach)
-    → Says n (after_judged judge limits n heading h e breach)
-says_judged judge limits n heading h e (Some breach) = refl
-says_judged judge limits n heading h e None = says_kept n heading h e (limit_at limits n h (judge.limit h e))
+says_judged : (judge : Judge) (limits : Limits) (n : ℕ) (heading : Heading) (h : List EventOf) (e : EventOf) (label : Option (List ℕ)) (breach : Option Breach)
+    → Says n (after_judged judge limits n heading h e label breach)
+says_judged judge limits n heading h e label (Some breach) = refl
+says_judged judge limits n heading h e label None = says_kept n heading h e (limit_at limits n h (judge.limit h e))
 
 says_item : (judge : Judge) (limits : Limits) (n : ℕ) (heading : Heading) (h : List EventOf) (r : Result Item Cause)
     → Says n (after_item judge limits n heading h r)
-says_item judge limits n heading h (Ok (item.Event e)) =
-    says_if (judge.judges heading h e) n _ _ (says_judged judge limits n heading h e (judge.breach heading h e)) refl
+says_item judge limits n heading h (Ok (item.Event e label)) =
+    says_if (judge.judges heading h e) n _ _ (says_judged judge limits n heading h e label (judge.breach heading h e)) refl
 says_item judge limits n heading h (Ok (item.End count)) = says_if (count == length h) n _ _ tt refl
 says_item judge limits n heading h (Err cause) = refl
 
@@ -80,13 +80,13 @@ FromTo n line read unread =
 
 abbrev From : ℕ → Verdict → Text → List ℕ → Type 0
 From n (Accepted events) read unread = unread ≡ []
-From n (Refused line rule at) read unread = FromTo n line read unread
+From n (Refused line rule at label) read unread = FromTo n line read unread
 From n (Malformed line cause) read unread = FromTo n line read unread
 From n (Limit line which) read unread = FromTo n line read unread
 
 from_named : (n : ℕ) (v : Verdict) (read : Text) (unread : List ℕ) → Names n v → FromTo n n read unread → From n v read unread
 from_named n (Accepted events) read unread names f = absurd names
-from_named n (Refused line rule at) read unread names f = subst (λ l. FromTo n l read unread) (sym names) f
+from_named n (Refused line rule at label) read unread names f = subst (λ l. FromTo n l read unread) (sym names) f
 from_named n (Malformed line cause) read unread names f = subst (λ l. FromTo n l read unread) (sym names) f
 from_named n (Limit line which) read unread names f = subst (λ l. FromTo n l read unread) (sym names) f
 
@@ -100,7 +100,7 @@ longer : (n : ℕ) (v : Verdict) (line : List ℕ) (lines : List (List ℕ)) (re
     → From (suc n) v (record { lines = lines; rest = rest }) unread
     → From n v (record { lines = line ∷ lines; rest = rest }) unread
 longer n (Accepted events) line lines rest unread f = f
-longer n (Refused l rule at) line lines rest unread f = longer_to n l line lines rest unread f
+longer n (Refused l rule at label) line lines rest unread f = longer_to n l line lines rest unread f
 longer n (Malformed l cause) line lines rest unread f = longer_to n l line lines rest unread f
 longer n (Limit l which) line lines rest unread f = longer_to n l line lines rest unread f
 
@@ -245,7 +245,7 @@ up_to line read unread (inr (count, end)) = inr (omega (arith, count), end)
 
 read_for : (v : Verdict) (read : Text) (unread : List ℕ) → From 1 v read unread → ReadFor v read unread
 read_for (Accepted events) read unread f = f
-read_for (Refused line rule at) read unread f = up_to line read unread f
+read_for (Refused line rule at label) read unread f = up_to line read unread f
 read_for (Malformed line cause) read unread f = up_to line read unread f
 read_for (Limit line which) read unread f = up_to line read unread f
 
@@ -277,7 +277,7 @@ told NoMemory result bytes left f f' h h' w w' stops reports tells = absurd (fal
 
 none_left : (v : Verdict) (read : Text) (unread : List ℕ) → status_of v ≡ status.Accepted → ReadFor v read unread → unread ≡ []
 none_left (Accepted events) read unread accepted f = f
-none_left (Refused line rule at) read unread accepted f = cc
+none_left (Refused line rule at label) read unread accepted f = cc
 none_left (Malformed line cause) read unread accepted f = cc
 none_left (Limit line which) read unread accepted f = cc
 
@@ -351,7 +351,7 @@ to_want bytes rest starved =
 
 tells_of : (v : Verdict) → tells_verdict (status_of v) ≡ true
 tells_of (Accepted events) = refl
-tells_of (Refused line rule at) = refl
+tells_of (Refused line rule at label) = refl
 tells_of (Malformed line cause) = refl
 tells_of (Limit line which) = refl
 

@@ -1,5 +1,5 @@
 -- How the outcome goes on after one line, over what a source had left and has left.
-use Rattle.std.proofs.Common.{◌≡◌, ◌≢◌, ℕ, suc, ◌<◌, ◌≤◌, ◌+◌, Bool, true, false, if◌then◌else◌, nat_eq, List, [], ◌++◌, length, drop, Option, Some, None, refl, ap, sym, ◌∙◌, arith, append_assoc, append-nil, length-append, add-one, subst, nat_le, inl, inr, ◌∷◌, Result, Ok, Err}
+use Rattle.std.proofs.Common.{◌≡◌, ◌≢◌, ℕ, suc, ◌<◌, ◌≤◌, ◌+◌, Bool, true, false, if◌then◌else◌, nat_eq, List, [], ◌++◌, length, drop, Option, Some, None, refl, ap, sym, ◌∙◌, arith, append_assoc, append-nil, length-append, add-one, subst, nat_le, ◌∷◌, Result, Ok, Err}
 use Rattle.std.proofs.Math.ListN.{drop_of_length-le}
 use Rattle.std.proofs.Math.Seq.{drop-append_seam}
 use Rattle.std.proofs.lemmas.Bool.{and_parts}
@@ -24,7 +24,7 @@ use Rattle.bbm_session.specs.declared.stop.Turn.{Turn}
 use Rattle.bbm_session.specs.declared.stop.Turn.TheVariants.{Event, End}
 use Rattle.bbm_session.specs.Pieces.{Takes}
 use Rattle.bbm_session.specs.Run.{NeedsMemory, Judged, JudgedHeading}
-use Rattle.bbm_session.specs.Stages.{outcome_at, plain_lines, Passed, Broke, Starved, Breaks, Starves, Shrinks, Continues, Concludes, Stops, StopsAt, JudgesHeader, JudgesLine, Starts, Advances, Reaches, Ends}
+use Rattle.bbm_session.specs.Stages.{outcome_at, plain_lines, Passed, Breaks, Starves, Shrinks, Continues, Concludes, Stops, StopsAt, JudgesHeader, JudgesLine, Starts, Advances, Reaches, Ends}
 use Rattle.bbm_session.proofs.Texts.{plain-head, text_of-line, text_of-plain, text_of-prefix, bytes_of-text_of, prefixed}
 
 short : (line : List ℕ) → length line ≤ 200 → is_too_long line ≡ false
@@ -237,28 +237,28 @@ line-advances (Err NoMemory) n t t' line old new f f' is_plain is_short takes ju
 
 -- An event.
 
-refused-at : (s : Stop) (n : ℕ) (heading : Heading) (h : List EventOf) (e : EventOf) (breach : Option Breach) (t t' : Taken) (event : Type 0) → event → StopsAt s n breach → JudgesLine event (Err s) (after_judged first_path check_limits n heading h e breach) t t'
-refused-at (Decided v) n heading h e (Some breach) t t' event holds stops = ap Decides (sym stops)
-refused-at (Decided v) n heading h e None t t' event holds stops = absurd stops
-refused-at ReadFault n heading h e (Some breach) t t' event holds stops = absurd stops
-refused-at ReadFault n heading h e None t t' event holds stops = absurd stops
-refused-at NoMemory n heading h e breach t t' event holds stops = holds
+refused-at : (s : Stop) (n : ℕ) (heading : Heading) (h : List EventOf) (e : EventOf) (label : Option (List ℕ)) (breach : Option Breach) (t t' : Taken) (event : Type 0) → event → StopsAt s n label breach → JudgesLine event (Err s) (after_judged first_path check_limits n heading h e label breach) t t'
+refused-at (Decided v) n heading h e label (Some breach) t t' event holds stops = ap Decides (sym stops)
+refused-at (Decided v) n heading h e label None t t' event holds stops = absurd stops
+refused-at ReadFault n heading h e label (Some breach) t t' event holds stops = absurd stops
+refused-at ReadFault n heading h e label None t t' event holds stops = absurd stops
+refused-at NoMemory n heading h e label breach t t' event holds stops = holds
 
-built-event : (n : ℕ) (heading : Heading) (h : List EventOf) (e : EventOf) → is_built heading h e ≡ true → after_event first_path check_limits n heading h e ≡ after_judged first_path check_limits n heading h e (broken heading h e)
-built-event n heading h e built = rw built refl
+built-event : (n : ℕ) (heading : Heading) (h : List EventOf) (e : EventOf) (label : Option (List ℕ)) → is_built heading h e ≡ true → after_event first_path check_limits n heading h e label ≡ after_judged first_path check_limits n heading h e label (broken heading h e)
+built-event n heading h e label built = rw built refl
 
-pub event-refused : (s : Stop) (n : ℕ) (heading : Heading) (h : List EventOf) (e : EventOf) (t t' : Taken) → is_built heading h e ≡ true → StopsAt s n (broken heading h e) → JudgesLine (is_built heading h e ≡ true) (Err s) (after_event first_path check_limits n heading h e) t t'
-event-refused s n heading h e t t' built stops = rw (built-event n heading h e built) (refused-at s n heading h e (broken heading h e) t t' (is_built heading h e ≡ true) built stops)
+pub event-refused : (s : Stop) (n : ℕ) (heading : Heading) (h : List EventOf) (e : EventOf) (label : Option (List ℕ)) (t t' : Taken) → is_built heading h e ≡ true → StopsAt s n label (broken heading h e) → JudgesLine (is_built heading h e ≡ true) (Err s) (after_event first_path check_limits n heading h e label) t t'
+event-refused s n heading h e label t t' built stops = rw (built-event n heading h e label built) (refused-at s n heading h e label (broken heading h e) t t' (is_built heading h e ≡ true) built stops)
 
-pub event-limit : (n : ℕ) (heading : Heading) (h : List EventOf) (e : EventOf) → is_built heading h e ≡ true → broken heading h e ≡ None → 2000 ≤ length h → after_event first_path check_limits n heading h e ≡ Decides (Limit n Events)
-event-limit n heading h e built kept many =
+pub event-limit : (n : ℕ) (heading : Heading) (h : List EventOf) (e : EventOf) (label : Option (List ℕ)) → is_built heading h e ≡ true → broken heading h e ≡ None → 2000 ≤ length h → after_event first_path check_limits n heading h e label ≡ Decides (Limit n Events)
+event-limit n heading h e label built kept many =
     let reached : nat_le 2000 (length h) ≡ true = grind (arith, nat_tests) in
-    rw (built-event n heading h e built, kept, reached) refl
+    rw (built-event n heading h e label built, kept, reached) refl
 
-pub event-kept : (n : ℕ) (heading : Heading) (h : List EventOf) (e : EventOf) → is_built heading h e ≡ true → broken heading h e ≡ None → length h < 2000 → after_event first_path check_limits n heading h e ≡ GoesOn (AtEvents heading (e ∷ h))
-event-kept n heading h e built kept few =
+pub event-kept : (n : ℕ) (heading : Heading) (h : List EventOf) (e : EventOf) (label : Option (List ℕ)) → is_built heading h e ≡ true → broken heading h e ≡ None → length h < 2000 → after_event first_path check_limits n heading h e label ≡ GoesOn (AtEvents heading (e ∷ h))
+event-kept n heading h e label built kept few =
     let reached : nat_le 2000 (length h) ≡ false = grind (arith, nat_tests) in
-    rw (built-event n heading h e built, kept, reached) refl
+    rw (built-event n heading h e label built, kept, reached) refl
 
 -- Behind the end.
 

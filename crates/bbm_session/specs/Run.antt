@@ -25,7 +25,7 @@ usage_text = codes "usage: bbm check | slow | explain | walk KIND ROOT ADDR | ge
 -- the status of a verdict
 abbrev pub status_of : Verdict → Status
 status_of (Accepted events) = status.Accepted
-status_of (Refused line rule at) = status.Refused
+status_of (Refused line rule at label) = status.Refused
 status_of (Malformed line cause) = status.Malformed
 status_of (Limit line which) = status.Limit
 
@@ -58,7 +58,7 @@ UpTo line read unread =
 -- the same for any verdict: an accepted log is read to its end
 abbrev pub ReadFor : Verdict → Text → List ℕ → Type 0
 ReadFor (Accepted events) read unread = unread ≡ []
-ReadFor (Refused line rule at) read unread = UpTo line read unread
+ReadFor (Refused line rule at label) read unread = UpTo line read unread
 ReadFor (Malformed line cause) read unread = UpTo line read unread
 ReadFor (Limit line which) read unread = UpTo line read unread
 
@@ -83,7 +83,7 @@ pub record ReadToFault (bytes : List ℕ) (left : Option (List ℕ)) : Type 0 wh
 
 -- A line for which memory is needed: a header, or an event, which this version judges.
 abbrev pub Judged : Judge → Heading → List Event → Result Item Cause → Type 0
-Judged judge heading h (Ok (item.Event event)) = judge.judges heading h event ≡ true
+Judged judge heading h (Ok (item.Event event label)) = judge.judges heading h event ≡ true
 Judged judge heading h _ = ⊥
 
 abbrev pub JudgedHeading : Judge → Result Heading Cause → Type 0

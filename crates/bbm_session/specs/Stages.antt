@@ -11,7 +11,7 @@ use Rattle.bbm_rules.specs.declared.verdict.Verdict.TheVariants.{Accepted, Refus
 use Rattle.bbm_rules.specs.FirstPath.{Breach}
 use Rattle.bbm_rules.specs.Outcome.{Judge, Limits, first_path, check_limits, Progress, AtHeader, AtEvents, AtEnd, Step, Decides, GoesOn, Outcome, outcome_from, text_of, bytes_of, read_from}
 use Rattle.bbm_oracle.specs.Taken.{Taken}
-use Rattle.bbm_session.specs.Run.{NeedsMemory, Judged}
+use Rattle.bbm_session.specs.Run.{NeedsMemory}
 use Rattle.bbm_session.specs.declared.stop.Stop.{Stop}
 use Rattle.bbm_session.specs.declared.stop.Stop.TheVariants.{Decided, ReadFault, NoMemory}
 use Rattle.bbm_session.specs.declared.stop.Turn.{Turn}
@@ -111,11 +111,11 @@ Starts (Ok heading) was now faults faults' =
     Continues first_path check_limits 1 AtHeader was 2 (AtEvents heading []) now × (faults' ≡ faults)
 Starts (Err stop) was now faults faults' = Stops first_path check_limits 1 AtHeader was stop now faults faults'
 
--- why reading stops at an event that breaks this rule, or for which there was no memory
-abbrev pub StopsAt : Stop → ℕ → Option Breach → Type 0
-StopsAt (Decided verdict) n (Some breach) = verdict ≡ Refused n breach.rule breach.at
-StopsAt NoMemory n breach = Unit {0}
-StopsAt _ n breach = ⊥
+-- why reading stops at an event with this label that breaks this rule, or for which there was no memory
+abbrev pub StopsAt : Stop → ℕ → Option (List ℕ) → Option Breach → Type 0
+StopsAt (Decided verdict) n label (Some breach) = verdict ≡ Refused n breach.rule breach.at label
+StopsAt NoMemory n label breach = Unit {0}
+StopsAt _ n label breach = ⊥
 
 -- What a judged line says of it, and what the oracle stands for then: it took one event, or the end came, or
 -- reading stopped. There can be no memory only for an event, which is the first fact.

@@ -11,7 +11,7 @@ ghost use Rattle.bbm_session.specs.Stages.{Shrinks, Stops, StopsAt, Ready, Judge
 
 use crate::line::{Piece, next_piece};
 use crate::stop::{Stop, Turn};
-use bbm_events::{Event, Header, Item, Malformed};
+use bbm_events::{Event, Header, Item, Label, Malformed};
 use bbm_io::{Lines, Source};
 use bbm_log_grammar::{read_event, read_header};
 use bbm_oracle::Oracle;
@@ -36,7 +36,8 @@ fn limit(line: u64, which: Which) -> Stop
     Stop::Decided(Verdict::Limit { line, which })
 }
 
-// Whether this version judges logs of this header.
+// Whether this version judges logs of this header: by the world alone, since no event that it judges is judged
+// otherwise under a later version or under `cnp`.
 fn is_built(header: &Header) -> bool
     ensures { result ≡ is_built_heading header.now }
 {
@@ -66,34 +67,41 @@ fn judge_header(read: Result<Header, Malformed>) -> Result<Header, Stop>
     }
 }
 
-// Why reading stops at an event that the oracle didn't take.
-fn refusal(number: u64, fault: StepFault) -> Stop
+// Why reading stops at an event with this label that the oracle didn't take.
+fn refusal(number: u64, label: Option<Label>, fault: StepFault) -> Stop
     requires { (breach : Option Breach) × Answers (Err fault) breach }
-    ensures { (breach : Option Breach) → Answers (Err fault) breach → StopsAt result number breach }
+    ensures { (breach : Option Breach) → Answers (Err fault) breach → StopsAt result number label breach }
 {
     match fault {
         StepFault::Broken(rule, at) => Stop::Decided(Verdict::Refused {
             line: number,
             rule,
             at,
+            label,
         }),
         StepFault::Limit(_) => unreachable!(),
         StepFault::NoMemory => Stop::NoMemory,
     }
 }
 
-// What an event on this line decides.
-fn judge_event(alloc: Global, number: u64, oracle: &mut Oracle, event: Event) -> Result<Turn, Stop>
+// What an event with this label decides on this line.
+fn judge_event(
+    alloc: Global,
+    number: u64,
+    oracle: &mut Oracle,
+    event: Event,
+    label: Option<Label>,
+) -> Result<Turn, Stop>
     requires { length oracle.old.history ≤ 2000 }
     ensures { JudgesLine (is_built oracle.old.heading oracle.old.history event ≡ true) result
-        (after_event first_path check_limits number oracle.old.heading oracle.old.history event)
+        (after_event first_path check_limits number oracle.old.heading oracle.old.history event label)
         oracle.old oracle.new }
 {
     if !oracle.judges(&event) {
         return Err(malformed(number, Malformed::NotBuilt));
     }
     if let Err(fault) = oracle.step(alloc, event) {
-        return Err(refusal(number, fault));
+        return Err(refusal(number, label, fault));
     }
     if oracle.events() > EVENTS {
         return Err(limit(number, Which::Events));
@@ -114,7 +122,7 @@ fn judge_item(
         oracle.old oracle.new }
 {
     match read {
-        Ok(Item::Event(event)) => judge_event(alloc, number, oracle, event),
+        Ok(Item::Event(event, label)) => judge_event(alloc, number, oracle, event, label),
         Ok(Item::End(count)) => {
             if u64::from(count) == oracle.events() {
                 Ok(Turn::End)

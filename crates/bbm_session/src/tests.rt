@@ -365,10 +365,10 @@ const LINES: [(&[u8], &[u8]); 47] = [
 ];
 
 /// Line 1 without its newline, and the text where `end 0` follows it. Each is malformed.
-const HEADERS: [(&[u8], &[u8]); 13] = [
+const HEADERS: [(&[u8], &[u8]); 14] = [
     (b"", b"malformed line 1 cause 1 NoMagic\n"),
     (
-        b"bbmlog 2 hyp 2 1 1 1",
+        b"bbmlog 5 hyp 2 1 1 1 -",
         b"malformed line 1 cause 1 NoMagic\n",
     ),
     (
@@ -380,6 +380,11 @@ const HEADERS: [(&[u8], &[u8]); 13] = [
         b"malformed line 1 cause 1 NoMagic\n",
     ),
     (b"end 0", b"malformed line 1 cause 1 NoMagic\n"),
+    // Of version 2, without its last field.
+    (
+        b"bbmlog 2 hyp 2 1 1 1",
+        b"malformed line 1 cause 2 BadHeader\n",
+    ),
     (
         b"bbmlog 1 hyp 65 1 1 1",
         b"malformed line 1 cause 2 BadHeader\n",
@@ -412,6 +417,69 @@ const HEADERS: [(&[u8], &[u8]); 13] = [
     (
         b"bbmlog 1 hyp 2 1 1 16",
         b"malformed line 1 cause 12 NotBuilt\n",
+    ),
+];
+
+/// A log of a later version, the text and the status.
+const VERSIONS: [(&[u8], &[u8], u8); 6] = [
+    // The move of a block where TLBs may copy entries from one another.
+    (
+        b"bbmlog 2 hyp 2 1 1 1 cnp
+init 0 0x40000000
+root 0 el2 - 0x40000000
+w 0 0x40000008 0x80000701
+w 0 0x40000008 0x0
+dsb 0 ish
+tlbi 0 alle2is
+dsb 0 ish
+w 0 0x40000008 0xc0000701
+end 8
+",
+        b"accepted 8 events\n",
+        0,
+    ),
+    // A refusal tells the label of its own event; PE 127 of 128.
+    (
+        b"bbmlog 3 hyp 128 1 1 1 -
+init 0 0x40000000 @boot.c:10
+root 0 el2 - 0x40000000
+w 127 0x40000008 0x80000701
+w 127 0x40000008 0xc0000701 @mm/map.c:88
+",
+        b"refused line 5 rule 4 break-before-make at 0x40000008 @mm/map.c:88\n",
+        1,
+    ),
+    // An event without a label, after one that has one.
+    (
+        b"bbmlog 4 hyp 2 1 1 1 -
+init 0 0x40000000 @a
+root 0 el2 - 0x40001000
+",
+        b"refused line 3 rule 10 page-in-use at 0x40001000\n",
+        1,
+    ),
+    // The longest label.
+    (
+        b"bbmlog 4 hyp 2 1 1 1 cnp
+root 0 el2 - 0x40000000 @0123456789abcdef0123456789ABCDEF
+",
+        b"refused line 2 rule 10 page-in-use at 0x40000000 @0123456789abcdef0123456789ABCDEF\n",
+        1,
+    ),
+    (
+        b"bbmlog 3 hyp 2 1 1 1 -
+init 0 0x40000000 @
+",
+        b"malformed line 2 cause 13 BadLabel\n",
+        2,
+    ),
+    // A TLBI for a range of pages isn't judged yet.
+    (
+        b"bbmlog 4 hyp 2 1 1 1 -
+tlbi 0 rvae2is 0x718000040000
+",
+        b"malformed line 2 cause 12 NotBuilt\n",
+        2,
     ),
 ];
 
@@ -581,6 +649,16 @@ fn names_the_cause_of_a_header(rt: HostRuntime) -> Result<(), Fail> {
         let (status, sink) = checked(rt.alloc(), bytes)?;
         assert_eq!(rt; sink.bytes(), row.1);
         assert_eq!(rt; status, 2);
+    }
+    Ok(())
+}
+
+#[test]
+fn judges_later_versions(rt: HostRuntime) -> Result<(), Fail> {
+    for row in VERSIONS {
+        let (status, sink) = checked(rt.alloc(), log(rt.alloc(), b"", row.0, 1, b"")?)?;
+        assert_eq!(rt; sink.bytes(), row.1);
+        assert_eq!(rt; status, row.2);
     }
     Ok(())
 }

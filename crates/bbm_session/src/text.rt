@@ -2,10 +2,10 @@
 
 ghost use Rattle.std.specs.Prelude.{◌≡◌, ◌≤◌, ◌+◌, ◌++◌, [], length};
 ghost use Rattle.arrayvec.specs.ArrayVec.{array_vec_len};
-ghost use Rattle.bbm_rules.specs.Texts.{rule_text, cause_text, limit_text, verdict_text};
+ghost use Rattle.bbm_rules.specs.Texts.{rule_text, cause_text, label_text, limit_text, verdict_text};
 
 use arrayvec::ArrayVec;
-use bbm_events::Malformed;
+use bbm_events::{Label, Malformed};
 use bbm_log_grammar::{add, add_decimal, add_hex};
 use bbm_regimes::Which;
 use bbm_rules::{Rule, Verdict};
@@ -54,6 +54,7 @@ fn cause_words(cause: Malformed) -> &'static [u8]
         Malformed::WrongCount => b"10 WrongCount",
         Malformed::AfterEnd => b"11 AfterEnd",
         Malformed::NotBuilt => b"12 NotBuilt",
+        Malformed::BadLabel => b"13 BadLabel",
     }
 }
 
@@ -73,11 +74,24 @@ fn limit_words(which: Which) -> &'static [u8]
     }
 }
 
+// A space, the mark `@` and the label, where there is one.
+#[tactic(auto, using(bbm_log_grammar::proofs::Parts::label_length))]
+fn add_label(out: &mut ArrayVec<u8, 200>, label: Option<Label>)
+    requires room { array_vec_len out.old ≤ 100 }
+    ensures appended { out.new.items ≡ out.old.items ++ label_text label }
+    ensures longer { array_vec_len out.new ≤ array_vec_len out.old + 34 }
+{
+    if let Some(label) = label {
+        add(out, b" @");
+        add(out, label.bytes());
+    }
+}
+
 // The text of a refusal.
 #[tactic(auto, unfolding(bbm_rules::specs::Texts::verdict_text))]
-fn add_refused(out: &mut ArrayVec<u8, 200>, line: u64, rule: Rule, at: u64)
+fn add_refused(out: &mut ArrayVec<u8, 200>, line: u64, rule: Rule, at: u64, label: Option<Label>)
     requires { out.old.items ≡ [] }
-    ensures { out.new.items ≡ verdict_text (Verdict.Refused line rule at) }
+    ensures { out.new.items ≡ verdict_text (Verdict.Refused line rule at label) }
 {
     add(out, b"refused line ");
     add_decimal(out, line);
@@ -85,6 +99,7 @@ fn add_refused(out: &mut ArrayVec<u8, 200>, line: u64, rule: Rule, at: u64)
     add(out, rule_words(rule));
     add(out, b" at ");
     add_hex(out, at);
+    add_label(out, label);
     add(out, b"\n");
 }
 
@@ -132,7 +147,12 @@ pub fn add_verdict(out: &mut ArrayVec<u8, 200>, verdict: Verdict)
 {
     match verdict {
         Verdict::Accepted { events } => add_accepted(out, events),
-        Verdict::Refused { line, rule, at } => add_refused(out, line, rule, at),
+        Verdict::Refused {
+            line,
+            rule,
+            at,
+            label,
+        } => add_refused(out, line, rule, at, label),
         Verdict::Malformed { line, cause } => add_malformed(out, line, cause),
         Verdict::Limit { line, which } => add_limit(out, line, which),
     }

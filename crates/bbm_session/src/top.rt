@@ -35,10 +35,10 @@ fn is_check(words: &[String]) -> bool
 }
 
 // The status of a verdict.
-fn status(verdict: Verdict) -> Status
-    ensures { result ≡ status_of verdict }
+fn status(verdict: &Verdict) -> Status
+    ensures { result ≡ status_of verdict.now }
 {
-    match verdict {
+    match *verdict {
         Verdict::Accepted { .. } => Status::Accepted,
         Verdict::Refused { .. } => Status::Refused,
         Verdict::Malformed { .. } => Status::Malformed,
@@ -60,9 +60,10 @@ fn say<K: Sink>(text: &[u8], wanted: Status, out: &mut K) -> Status
 fn answer<K: Sink>(verdict: Verdict, out: &mut K) -> Status
     ensures wrote { Wrote (status_of verdict) (verdict_text verdict) result (K.held out.old) (K.held out.new) (K.faults out.old) (K.faults out.new) }
 {
+    let wanted = status(&verdict);
     let mut text = ArrayVec::new();
     add_verdict(&mut text, verdict);
-    say(&text, status(verdict), out)
+    say(&text, wanted, out)
 }
 
 // Judges the log and writes the line of its verdict.

@@ -16,7 +16,7 @@ returns-then-events-gt-EVENTS c =
     let kept : broken t.heading t.history c.args.event ≡ None = c.in_default.ensures.judged t.heading t.history (refl, refl) built in
     let counted = c.events.ensures t.heading (c.args.event ∷ t.history) (c.in_default.ensures.taken t.heading t.history (refl, refl)) in
     let many : 2000 ≤ length t.history = omega (arith, counted) in
-    rw c.limit.ensures (event-limit c.args.number t.heading t.history c.args.event built kept many)
+    rw c.limit.ensures (event-limit c.args.number t.heading t.history c.args.event c.args.label built kept many)
 
 pub returns : goal.returns
 returns c =
@@ -26,6 +26,6 @@ returns c =
     let taken = c.in_default.ensures.taken t.heading t.history (refl, refl) in
     let counted = c.events.ensures t.heading (c.args.event ∷ t.history) taken in
     let few : length t.history < 2000 = omega (arith, counted) in
-    let goes_on = event-kept c.args.number t.heading t.history c.args.event built kept few in
+    let goes_on = event-kept c.args.number t.heading t.history c.args.event c.args.label built kept few in
     let longer = ap length taken.1 in
     (cc, taken.0, omega (arith, longer), omega (arith, longer))
