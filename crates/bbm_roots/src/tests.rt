@@ -1,7 +1,7 @@
 //! Lists of calls, each with the answer of its last.
 #![tactic(auto)]
 
-ghost use Rattle.std.specs.Prelude.{◌≡◌};
+ghost use Rattle.std.specs.Prelude.{◌≡◌, ◌<◌};
 ghost use Rattle.bbm_roots.specs.Stands.{pes_of, world_of};
 
 use crate::load::is_of_world;
@@ -52,6 +52,28 @@ const ONE: u64 = 0x4000_0000;
 
 const OTHER: u64 = 0x4000_1000;
 
+// A TLBI of the PE, and a DSB ISH of the PE that answers it.
+fn flush(alloc: Global, roots: &mut Roots, pe: Pe, op: TlbiOp, xt: u64) -> Result<(), RootFault>
+    requires { pe < pes_of roots.old }
+    ensures pes { pes_of roots.new ≡ pes_of roots.old }
+    ensures world { world_of roots.new ≡ world_of roots.old }
+{
+    match decode(op, xt) {
+        Ok(scope) => {
+            let vmid = match roots.vmid_of(pe) {
+                Ok(vmid) => Some(vmid),
+                Err(_) => None,
+            };
+            roots.issue(alloc, pe, scope, vmid)?;
+            let domain = Domain::Inner;
+            let types = Types::All;
+            roots.complete(pe, Dsb { domain, types });
+            Ok(())
+        }
+        Err(_) => Err(RootFault::NoMemory),
+    }
+}
+
 // The call's answer. `NoMemory` stands for arguments that no log has.
 fn make(alloc: Global, roots: &mut Roots, header: &Header, step: Step) -> Result<(), RootFault>
     requires pes { pes_of roots.old ≡ header.now.pes }
@@ -88,15 +110,11 @@ fn make(alloc: Global, roots: &mut Roots, header: &Header, step: Step) -> Result
         }
         Tlbi(pe, op, xt) => {
             let pe = Pe::new(pe).ok_or(RootFault::NoMemory)?;
-            let scope = decode(op, xt).map_err(|_| RootFault::NoMemory)?;
             if pe.get() < header.pes {
-                let vmid = roots.vmid_of(pe).ok();
-                roots.issue(alloc, pe, scope, vmid)?;
-                let domain = Domain::Inner;
-                let types = Types::All;
-                roots.complete(pe, Dsb { domain, types });
+                flush(alloc, roots, pe, op, xt)
+            } else {
+                Err(RootFault::NoMemory)
             }
-            Ok(())
         }
     }
 }
