@@ -1,5 +1,5 @@
 -- What a caller who knows one list of calls knows of every other for which the roots stand.
-use Rattle.std.proofs.Common.{◌≡◌, ◌∙◌, sym, ℕ, List, Option, None}
+use Rattle.std.proofs.Common.{◌≡◌, ◌∙◌, sym, ℕ, List, None}
 use Rattle.bbm_roots.specs.Calls.{Call}
 use Rattle.bbm_roots.specs.Roots.{root_at}
 use Rattle.bbm_roots.specs.Stands.{Stands}

@@ -1,5 +1,5 @@
 -- A column of registers at one PE, read and written.
-use Rattle.std.proofs.Common.{◌≡◌, ℕ, ⊎_elim, ◌++◌, ◌+◌, zero, suc, ◌<◌, ◌≤◌, ◌∷◌, [], List, nat_eq, length, set, get_or, take, refl, arith, cond, nat_le, ◌==◌, true, false, Bool, sym, ◌∙◌, ap, subst}
+use Rattle.std.proofs.Common.{◌≡◌, ℕ, ⊎_elim, ◌++◌, ◌+◌, zero, suc, ◌<◌, ◌≤◌, ◌∷◌, [], List, nat_eq, length, set, get_or, take, refl, arith, cond, nat_le, ◌==◌, sym, ◌∙◌, ap, subst}
 use Rattle.std.proofs.lemmas.Bool.{cases_lt}
 use Rattle.std.proofs.lemmas.Bool.Decides.{nat_tests}
 use Rattle.std.proofs.Math.Dec.{eqb-suc-zero, eqb-zero-suc, eqb-suc-suc}

@@ -1,13 +1,12 @@
 -- What the entries say of the roots that hold tags is what the calls say.
-use Rattle.std.proofs.Common.{◌≡◌, ℕ, zero, suc, ◌<◌, Bool, true, false, ◌&&◌, ◌||◌, nat_eq, List, [], ◌∷◌, refl, sym, ◌∙◌, ap, arith}
+use Rattle.std.proofs.Common.{◌≡◌, ℕ, zero, suc, ◌<◌, Bool, true, false, ◌&&◌, ◌||◌, nat_eq, List, [], ◌∷◌, refl, sym, ◌∙◌, ap}
 use Rattle.std.proofs.Math.Path.{fun_ext}
 use Rattle.std.proofs.lemmas.Bool.{false≢true, eq-eqb, true_from_ne_false}
-use Rattle.std.specs.List.{list_any}
 use Rattle.bbm_regimes.specs.PeMask.{pe_in}
 use Rattle.bbm_regimes.specs.declared.regime.Tag.{Tag}
 use Rattle.bbm_regimes.specs.declared.regime.World.{World}
 use Rattle.bbm_roots.specs.Calls.{Call}
-use Rattle.bbm_roots.specs.Holds.{some_pe, is_hold, has_hold, hold_in, is_held_by, tag_in, is_conflict, conflict_in}
+use Rattle.bbm_roots.specs.Holds.{some_pe, is_hold, has_hold, hold_in, tag_in, is_conflict, conflict_in}
 use Rattle.bbm_roots.specs.Readings.{has_reading, has_other}
 use Rattle.bbm_roots.specs.Refusals.{conflicts}
 use Rattle.bbm_roots.specs.Tags.{readings, loses, holds_at, holds_tag}

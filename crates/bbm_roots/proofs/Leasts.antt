@@ -1,12 +1,12 @@
 -- The least of what passes a test, where one more thing passes.
-use Rattle.std.proofs.Common.{◌≡◌, ◌≤◌, ℕ, Bool, true, false, ◌&&◌, ◌||◌, List, Option, Some, None, refl, sym, ◌∙◌, ap, arith}
-use Rattle.std.proofs.lemmas.Bool.{false≢true, eqb-true}
+use Rattle.std.proofs.Common.{◌≡◌, Bool, true, false, ◌||◌, Option, Some, None, refl, sym, ◌∙◌, ap, arith}
+use Rattle.std.proofs.lemmas.Bool.{false≢true}
 use Rattle.bbm_regimes.specs.declared.regime.Tag.{Tag}
 use Rattle.bbm_tlbi_scope.specs.declared.entry.TagSet.{TagSet}
 use Rattle.bbm_tlbi_scope.specs.declared.entry.TagSet.TheVariants.{None as NoTag, One, Many}
 use Rattle.bbm_roots.specs.Holds.{HasTags}
 use Rattle.bbm_roots.specs.Least.{IsLeast, ReadingUpTo}
-use Rattle.bbm_roots.specs.Readings.{same_tag, tag_rank}
+use Rattle.bbm_roots.specs.Readings.{same_tag}
 use Rattle.bbm_roots.specs.declared.reading.Reading.{Reading}
 
 pub or-split : (a b : Bool) → (P : Type 0) → (a ≡ true → P) → (b ≡ true → P) → (a || b) ≡ true → P

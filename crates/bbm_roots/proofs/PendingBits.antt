@@ -1,12 +1,11 @@
 -- What the entries of unanswered TLBIs say after a filter.
-use Rattle.std.proofs.Common.{◌≡◌, ℕ, Bool, true, false, ◌&&◌, ◌||◌, not, ◌==◌, nat_eq, List, [], ◌∷◌, filter, refl, sym, ◌∙◌, ap, arith, cond}
-use Rattle.std.specs.List.{list_any}
+use Rattle.std.proofs.Common.{◌≡◌, ℕ, Bool, true, false, ◌&&◌, ◌||◌, not, nat_eq, List, [], ◌∷◌, filter, refl, sym, ◌∙◌, ap}
 use Rattle.std.proofs.lemmas.Bool.{eqb-true}
 use Rattle.bbm_barriers.specs.Options.{answers}
 use Rattle.bbm_barriers.specs.declared.Dsb.{Dsb}
 use Rattle.bbm_regimes.specs.PeMask.{pe_in}
 use Rattle.bbm_regimes.specs.declared.regime.Tag.{Tag}
-use Rattle.bbm_roots.specs.Pendings.{is_open, is_answered, is_pending, pending_bit, pending_in, answered_in, has_pending, same_flag}
+use Rattle.bbm_roots.specs.Pendings.{is_open, is_pending, pending_bit, pending_in, answered_in, has_pending, same_flag}
 use Rattle.bbm_roots.specs.Readings.{same_tag}
 use Rattle.std.proofs.lemmas.Map.Views.{any-filter_same}
 use Rattle.bbm_roots.proofs.Bits.{and_left, and_right, and_comm, same_flag-true, same_flag-comm, same_tag-true}

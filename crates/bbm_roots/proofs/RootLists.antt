@@ -1,7 +1,7 @@
 -- The list of the declared roots: found, put in front, and taken out.
-use Rattle.std.proofs.Common.{◌≡◌, ℕ, ◌+◌, ◌<◌, Bool, true, false, not, ◌&&◌, ◌||◌, nat_eq, List, [], ◌∷◌, Option, Some, None, find, length, cond, refl, sym, ◌∙◌, ap, subst, IsSome, arith}
+use Rattle.std.proofs.Common.{◌≡◌, ℕ, ◌+◌, Bool, true, false, not, ◌&&◌, ◌||◌, nat_eq, List, [], ◌∷◌, Option, Some, None, find, length, cond, refl, sym, ◌∙◌, ap, subst, IsSome, arith}
 use Rattle.std.specs.List.{list_any}
-use Rattle.std.proofs.lemmas.Bool.{eqb-true, ne_eqb, eq-eqb, false≢true}
+use Rattle.std.proofs.lemmas.Bool.{eqb-true, eq-eqb, false≢true}
 use Rattle.bbm_roots.specs.Roots.{retired, is_at, are_apart}
 use Rattle.bbm_roots.specs.declared.root.Declared.{Declared}
 use Rattle.bbm_roots.proofs.Bits.{or-left, or-right, and_left, and_right}

@@ -1,7 +1,7 @@
 -- Readable values name declared roots, and roots that hold tags are declared: what one more call leaves of it.
-use Rattle.std.proofs.Common.{◌≡◌, ℕ, ◌<◌, ◌≤◌, Bool, true, false, ◌&&◌, ◌||◌, not, nat_eq, List, [], ◌∷◌, ◌++◌, Option, Some, None, IsSome, refl, sym, ◌∙◌, ap, cond, subst, find, arith, ⊎_elim}
+use Rattle.std.proofs.Common.{◌≡◌, ℕ, ◌<◌, ◌≤◌, Bool, true, false, ◌&&◌, ◌||◌, not, nat_eq, List, [], ◌∷◌, ◌++◌, Option, Some, None, IsSome, refl, sym, ◌∙◌, ap, cond, subst, ⊎_elim}
 use Rattle.std.specs.List.{list_any, flat_map}
-use Rattle.std.proofs.lemmas.Bool.{false≢true, eqb-true, eq-eqb, cases_lt}
+use Rattle.std.proofs.lemmas.Bool.{false≢true, eqb-true, cases_lt}
 use Rattle.std.proofs.lemmas.List.Folds.{list_any-append}
 use Rattle.bbm_regimes.specs.declared.regime.AsidFrom.TheVariants.{Ttbr0 as FromTtbr0, Ttbr1 as FromTtbr1}
 use Rattle.bbm_regimes.specs.declared.regime.Kind.{Kind}
@@ -17,7 +17,7 @@ use Rattle.bbm_roots.specs.Readings.{readings_of, readings_with, own_reading, re
 use Rattle.bbm_roots.specs.Refusals.{unless_root, missing_root}
 use Rattle.bbm_roots.specs.Registers.{register_values, first_reg, second_reg, is_of_world, same_reg, names_in, names_page, is_that, newest, root_of, load_of, kind_of_reg, uses}
 use Rattle.bbm_roots.specs.Roots.{is_root, is_of_kind, root_at}
-use Rattle.bbm_roots.specs.Tags.{readings, reads, holds_at, holds_tag, loses}
+use Rattle.bbm_roots.specs.Tags.{reads, holds_at, holds_tag, loses}
 use Rattle.bbm_roots.specs.declared.load.Load.{Load}
 use Rattle.bbm_roots.specs.declared.reading.Reading.{Reading}
 use Rattle.bbm_roots.specs.declared.root.Declared.{Declared}

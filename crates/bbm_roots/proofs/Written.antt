@@ -1,5 +1,5 @@
 -- What a register write leaves readable.
-use Rattle.std.proofs.Common.{◌≡◌, ℕ, Bool, true, false, ◌&&◌, not, nat_eq, List, ◌∷◌, refl, sym, ◌∙◌, ap, subst, cond}
+use Rattle.std.proofs.Common.{◌≡◌, ℕ, Bool, true, false, ◌&&◌, not, nat_eq, List, ◌∷◌, refl, sym, ◌∙◌, ap, cond}
 use Rattle.std.proofs.lemmas.Bool.{false≢true, eqb-true}
 use Rattle.bbm_regimes.specs.declared.regime.Reg.{Reg}
 use Rattle.bbm_regimes.specs.declared.regime.Reg.TheVariants.{Ttbr0El2, VttbrEl2, Ttbr0El1, Ttbr1El1}
@@ -10,7 +10,6 @@ use Rattle.bbm_roots.specs.Readings.{readings_of}
 use Rattle.bbm_roots.specs.Registers.{register_values, first_reg, second_reg, is_first, is_of_world, same_reg, load_of}
 use Rattle.bbm_roots.specs.Tags.{readings}
 use Rattle.bbm_roots.specs.declared.load.Load.{Load}
-use Rattle.bbm_roots.specs.declared.reading.Reading.{Reading}
 
 -- a register of the world is its first or its second
 pub is_the_first : (world : World) (reg : Reg) → is_of_world world reg ≡ true → same_reg reg (first_reg world) ≡ is_first reg

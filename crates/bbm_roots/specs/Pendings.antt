@@ -1,6 +1,6 @@
 -- Whole-tag TLBIs that no DSB has answered yet: for each issuer and tag the PEs at which the tag is taken away by
 -- the answer.
-use Rattle.std.specs.Prelude.{ℕ, Bool, true, false, not, ◌&&◌, ◌||◌, ◌==◌, List}
+use Rattle.std.specs.Prelude.{ℕ, Bool, true, false, not, ◌&&◌, ◌==◌, List}
 use Rattle.std.specs.List.{list_any}
 use Rattle.bbm_barriers.specs.Options.{answers}
 use Rattle.bbm_barriers.specs.declared.Dsb.{Dsb}

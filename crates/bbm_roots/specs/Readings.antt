@@ -1,5 +1,5 @@
 -- Readable tags: what the readable values of the registers of a PE name, each with its tag.
-use Rattle.std.specs.Prelude.{ℕ, Bool, true, false, ◌&&◌, not, ◌==◌, ◌+◌, ◌^◌, List, [], ◌∷◌, ◌++◌, Option, Some, None, is_some, flat_map}
+use Rattle.std.specs.Prelude.{ℕ, Bool, false, ◌&&◌, not, ◌==◌, ◌+◌, List, [], ◌∷◌, ◌++◌, Option, Some, None, is_some, flat_map}
 use Rattle.std.specs.List.{list_any}
 pub use Rattle.bbm_regimes.specs.Same.{same_tag}
 use Rattle.bbm_regimes.specs.declared.regime.AsidFrom.{AsidFrom}

@@ -1,5 +1,5 @@
 -- Why a call is refused, and when it is taken. A list of calls is newest first.
-use Rattle.std.specs.Prelude.{◌≡◌, ◌<◌, ◌≤◌, ℕ, Bool, true, false, not, ◌==◌, ◌&&◌, Option, Some, None, IsSome, Result, Ok, Err, List, ◌∷◌, if◌then◌else◌}
+use Rattle.std.specs.Prelude.{◌≡◌, ◌<◌, ◌≤◌, ℕ, Bool, not, ◌==◌, ◌&&◌, Option, Some, None, IsSome, Result, Ok, Err, List, if◌then◌else◌}
 use Rattle.std.specs.List.{list_any}
 use Rattle.bbm_regimes.specs.declared.regime.Kind.{Kind}
 use Rattle.bbm_regimes.specs.declared.regime.Reg.{Reg}
@@ -12,7 +12,6 @@ use Rattle.bbm_roots.specs.Readings.{has_other}
 use Rattle.bbm_roots.specs.Registers.{kind_of_reg, root_of, is_that}
 use Rattle.bbm_roots.specs.Roots.{is_root}
 use Rattle.bbm_roots.specs.Tags.{readings, holds_tag}
-use Rattle.bbm_roots.specs.declared.fault.InUse.{InUse}
 use Rattle.bbm_roots.specs.declared.fault.InUse.TheVariants.{Pe as ByPe, Tag as ByTag}
 use Rattle.bbm_roots.specs.declared.fault.RootFault.{RootFault}
 use Rattle.bbm_roots.specs.declared.fault.RootFault.TheVariants.{NoMemory, Limit, NoRoot, TagConflict, RootInUse}

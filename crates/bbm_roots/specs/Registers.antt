@@ -1,5 +1,5 @@
 -- The root registers of a PE: what the values that may still be in use name. A list of calls is newest first.
-use Rattle.std.specs.Prelude.{ℕ, ◌*◌, ◌/◌, ◌%◌, ◌^◌, Bool, true, false, ◌&&◌, ◌||◌, not, ◌==◌, List, [], ◌∷◌, Option, Some, None, map, if◌then◌else◌}
+use Rattle.std.specs.Prelude.{ℕ, ◌*◌, ◌/◌, ◌%◌, ◌^◌, Bool, true, false, ◌&&◌, ◌||◌, ◌==◌, List, [], ◌∷◌, Option, Some, None, if◌then◌else◌}
 use Rattle.std.specs.List.{list_any}
 pub use Rattle.bbm_regimes.specs.Same.{kind_of_reg, same_reg}
 use Rattle.bbm_regimes.specs.declared.regime.Reg.{Reg}

@@ -1,5 +1,5 @@
 -- What the roots stand for: a list of accepted calls, point by point.
-use Rattle.std.specs.Prelude.{◌≡◌, ◌<◌, ◌≤◌, ℕ, Bool, true, false, List, [], ◌∷◌, Option, Some, IsSome, nat_eq, length}
+use Rattle.std.specs.Prelude.{◌≡◌, ◌<◌, ◌≤◌, ℕ, Bool, true, false, List, [], ◌∷◌, IsSome, nat_eq, length}
 use Rattle.indexmap.specs.IndexMap.{get, index_map_len, spare}
 use Rattle.bbm_regimes.specs.declared.regime.Reg.{Reg}
 use Rattle.bbm_regimes.specs.declared.regime.Tag.{Tag}
@@ -11,7 +11,6 @@ use Rattle.bbm_roots.specs.Pendings.{pending_in}
 use Rattle.bbm_roots.specs.Registers.{at_start, first_reg, second_reg, register_values, is_of_world, kind_of_reg, names_in}
 use Rattle.bbm_roots.specs.Roots.{root_at, roots_of, is_root, are_apart}
 use Rattle.bbm_roots.specs.Tags.{holds_at, awaited}
-use Rattle.bbm_roots.specs.declared.load.Load.{Load}
 use Rattle.bbm_roots.specs.declared.roots.Roots.{Roots}
 
 -- the number of PEs, and the world

@@ -1,5 +1,5 @@
 -- Tags: under which a PE may read through a root, and which a root holds. A list of calls is newest first.
-use Rattle.std.specs.Prelude.{ℕ, Bool, true, false, ◌&&◌, ◌||◌, not, nat_eq, ◌==◌, List, [], ◌∷◌, Option, Some, None, map, if◌then◌else◌}
+use Rattle.std.specs.Prelude.{ℕ, Bool, true, false, ◌&&◌, ◌||◌, not, nat_eq, ◌==◌, List, [], ◌∷◌, Option, Some, None, if◌then◌else◌}
 use Rattle.bbm_barriers.specs.Options.{answers}
 use Rattle.bbm_regimes.specs.declared.regime.Tag.{Tag}
 use Rattle.bbm_regimes.specs.declared.regime.World.{World}
@@ -9,7 +9,7 @@ use Rattle.bbm_tlbi_scope.specs.declared.scope.Scope.{Scope}
 use Rattle.bbm_roots.specs.Calls.{Call, Issue, Complete}
 use Rattle.bbm_roots.specs.Holds.{some_pe}
 use Rattle.bbm_roots.specs.Pendings.{same_flag}
-use Rattle.bbm_roots.specs.Readings.{readings_of, has_reading, has_tag, has_other}
+use Rattle.bbm_roots.specs.Readings.{readings_of, has_reading, has_tag}
 use Rattle.bbm_roots.specs.Registers.{first_reg, second_reg, register_values}
 use Rattle.bbm_roots.specs.declared.load.Load.{Load}
 use Rattle.bbm_roots.specs.declared.reading.Reading.{Reading}

@@ -1,4 +1,4 @@
-use Rattle.std.proofs.Common.{◌<◌, length, arith, ◌&&◌, nat_eq}
+use Rattle.std.proofs.Common.{arith, ◌&&◌, nat_eq}
 use Rattle.bbm_roots.specs.Holds.{holds_bit, is_hold}
 use Rattle.bbm_roots.specs.Readings.{has_reading}
 use Rattle.bbm_roots.proofs.Lists.{marked-more, back-more}

@@ -1,4 +1,4 @@
-use Rattle.std.proofs.Common.{◌<◌, length, arith, not}
+use Rattle.std.proofs.Common.{arith, not}
 use Rattle.bbm_roots.specs.Holds.{holds_bit}
 use Rattle.bbm_roots.specs.Pendings.{answered_in}
 use Rattle.bbm_roots.proofs.Lists.{cleared-more, back-more}

@@ -1,4 +1,4 @@
-use Rattle.std.proofs.Common.{◌≡◌, ◌<◌, ℕ, length, take, arith, ap, sym, ◌∙◌, ◌||◌, ◌&&◌, nat_eq, Bool, true, false, refl, ◌+◌, List, Vec, Global}
+use Rattle.std.proofs.Common.{◌≡◌, ℕ, take, arith, ap, sym, ◌∙◌, ◌||◌, ◌&&◌, nat_eq, Bool, true, refl, ◌+◌, Vec, Global}
 use Rattle.std.proofs.lemmas.Bool.{false≢true, eq-eqb}
 use Rattle.bbm_regimes.specs.PeMask.{pe_in}
 use Rattle.bbm_regimes.specs.declared.regime.Tag.{Tag}

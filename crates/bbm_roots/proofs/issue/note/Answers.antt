@@ -1,4 +1,4 @@
-use Rattle.std.proofs.Common.{◌<◌, length, arith, not, ◌&&◌, nat_eq, nat_lt}
+use Rattle.std.proofs.Common.{arith, not, ◌&&◌, nat_eq, nat_lt}
 use Rattle.bbm_regimes.specs.PeMask.{pe_in}
 use Rattle.bbm_tlbi_scope.specs.Tags.{takes_whole_tag}
 use Rattle.bbm_roots.specs.Columns.{loads_in}

@@ -1,4 +1,4 @@
-use Rattle.std.proofs.Common.{◌<◌, length, arith, not, ◌&&◌, nat_eq}
+use Rattle.std.proofs.Common.{arith, not, ◌&&◌, nat_eq}
 use Rattle.bbm_roots.specs.Pendings.{pending_bit}
 use Rattle.bbm_roots.specs.Readings.{has_tag}
 use Rattle.bbm_roots.proofs.Lists.{cleared-more, back-more}

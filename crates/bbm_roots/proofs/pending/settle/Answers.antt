@@ -1,5 +1,4 @@
 use Rattle.std.proofs.Common.{◌∙◌, ap, rules, List}
-use Rattle.std.specs.List.{list_any}
 use Rattle.std.proofs.lemmas.Fn.{filter_same}
 use Rattle.bbm_roots.specs.Pendings.{is_open, pending_in}
 use Rattle.bbm_roots.specs.declared.pending.Pending.{Pending}

@@ -1,4 +1,4 @@
-use Rattle.std.proofs.Common.{List, ◌∷◌, arith, ◌<◌, length, sym, ap, ◌≡◌}
+use Rattle.std.proofs.Common.{List, ◌∷◌, ◌≡◌}
 use Rattle.bbm_roots.specs.declared.load.Load.{Load}
 use Rattle.bbm_roots.specs.Columns.{loads_in}
 use Rattle.bbm_roots.proofs.Columns.{changed, read}

@@ -1,4 +1,4 @@
-use Rattle.std.proofs.Common.{◌≡◌, ◌∷◌, ◌++◌, take}
+use Rattle.std.proofs.Common.{◌≡◌, ◌∷◌, take}
 use Rattle.bbm_roots.proofs.registers.with_front.Given as goal
 
 abbrev pub invariant-loop-load : goal.invariant-loop-load

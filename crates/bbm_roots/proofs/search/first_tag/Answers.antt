@@ -1,4 +1,4 @@
-use Rattle.std.proofs.Common.{◌≡◌, ◌+◌, ◌<◌, length, take, arith, ap, sym, ◌||◌, List}
+use Rattle.std.proofs.Common.{◌≡◌, ◌+◌, take, arith, ap, sym, ◌||◌, List}
 use Rattle.std.proofs.lemmas.List.{take_all}
 use Rattle.bbm_roots.specs.Holds.{is_held_by, tag_in}
 use Rattle.bbm_roots.specs.Least.{TagUpTo}

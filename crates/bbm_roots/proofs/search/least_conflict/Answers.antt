@@ -1,11 +1,8 @@
-use Rattle.std.proofs.Common.{◌≡◌, ◌+◌, ◌<◌, length, take, arith, ap, ◌∙◌, sym, ◌||◌, Bool, List}
-use Rattle.std.specs.List.{list_any}
+use Rattle.std.proofs.Common.{◌≡◌, ◌+◌, take, arith, ap, sym, ◌||◌, List}
 use Rattle.std.proofs.lemmas.List.{take_all}
-use Rattle.std.proofs.lemmas.List.Folds.{list_any_more}
 use Rattle.bbm_roots.specs.Holds.{is_conflict, conflict_in}
-use Rattle.bbm_roots.specs.Least.{IsLeast, ReadingUpTo}
+use Rattle.bbm_roots.specs.Least.{ReadingUpTo}
 use Rattle.bbm_roots.specs.declared.hold.Held.{Held}
-use Rattle.bbm_roots.specs.declared.reading.Reading.{Reading}
 use Rattle.bbm_roots.proofs.Leasts.{least-same}
 use Rattle.bbm_roots.proofs.Lists.{any-next}
 use Rattle.bbm_roots.proofs.search.least_conflict.Goals as goal

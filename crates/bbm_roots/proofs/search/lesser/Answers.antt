@@ -1,4 +1,4 @@
-use Rattle.std.proofs.Common.{◌≡◌, ℕ, false, ◌&&◌, ap, ◌∙◌, Bool}
+use Rattle.std.proofs.Common.{◌&&◌, ap, ◌∙◌, Bool}
 use Rattle.bbm_roots.specs.Holds.{is_conflict, is_hold}
 use Rattle.bbm_roots.specs.Least.{ReadingUpTo}
 use Rattle.bbm_roots.proofs.Bits.{and-false}

@@ -1,7 +1,7 @@
-use Rattle.std.proofs.Common.{◌≡◌, ℕ, true, ◌&&◌, ap, ◌∙◌, sym, Bool}
+use Rattle.std.proofs.Common.{◌≡◌, ℕ, ◌&&◌, ap, ◌∙◌, sym, Bool}
 use Rattle.bbm_regimes.specs.declared.regime.Tag.{Tag}
 use Rattle.bbm_roots.specs.Holds.{is_held_by, is_hold}
-use Rattle.bbm_roots.proofs.Bits.{and_left, and-true, hold-tag, hold-self}
+use Rattle.bbm_roots.proofs.Bits.{and-true, hold-tag, hold-self}
 use Rattle.bbm_roots.proofs.search.with_entry.Goals as goal
 
 pub returns-then-is_held_by : goal.returns-then-is_held_by

@@ -1,9 +1,9 @@
-use Rattle.std.proofs.Common.{◌≡◌, ◌∙◌, ap, sym, Bool, ◌&&◌, not, nat_eq, List, true, false, arith}
+use Rattle.std.proofs.Common.{◌∙◌, ap, sym, Bool, ◌&&◌, not, nat_eq, List, true, false, arith}
 use Rattle.bbm_barriers.specs.Options.{answers}
 use Rattle.std.proofs.lemmas.List.{with_items_is}
 use Rattle.bbm_roots.specs.Holds.{hold_in}
-use Rattle.bbm_roots.specs.Pendings.{answered_in, pending_in}
-use Rattle.bbm_roots.specs.Stands.{Stands, world_of}
+use Rattle.bbm_roots.specs.Pendings.{pending_in}
+use Rattle.bbm_roots.specs.Stands.{world_of}
 use Rattle.bbm_roots.specs.declared.hold.Held.{Held}
 use Rattle.bbm_roots.specs.declared.pending.Pending.{Pending}
 use Rattle.bbm_roots.proofs.PendingBits.{answered-split}

@@ -1,9 +1,9 @@
-use Rattle.std.proofs.Common.{◌≡◌, ◌∙◌, ap, sym, refl, Bool, nat_eq, List, ◌∷◌, true, cond, ℕ}
+use Rattle.std.proofs.Common.{◌≡◌, ◌∙◌, ap, sym, refl, nat_eq, List, ◌∷◌, true, cond, ℕ}
 use Rattle.bbm_regimes.specs.declared.regime.Tag.{Tag}
 use Rattle.bbm_roots.specs.Calls.{Isb}
 use Rattle.bbm_roots.specs.Readings.{is_reading, is_of_tag}
 use Rattle.bbm_roots.specs.Registers.{newest, at_start, register_values, first_reg, second_reg}
-use Rattle.bbm_roots.specs.Stands.{Stands, world_of}
+use Rattle.bbm_roots.specs.Stands.{world_of}
 use Rattle.bbm_roots.specs.Tags.{reads, reads_for_some}
 use Rattle.bbm_roots.specs.declared.load.Load.{Load}
 use Rattle.bbm_roots.proofs.Flat.{readings-isb, newest-same}

@@ -1,5 +1,5 @@
-use Rattle.std.proofs.Common.{◌≡◌, ◌<◌, ◌≤◌, ◌∙◌, ap, sym, refl, Bool, ◌&&◌, ◌||◌, not, nat_eq, nat_lt, List, ◌∷◌, true, false, ℕ, arith, ⊎_elim}
-use Rattle.std.proofs.lemmas.Bool.{false≢true, cases_lt, lt-ltb, eqb-true}
+use Rattle.std.proofs.Common.{◌≡◌, ◌<◌, ◌≤◌, ◌∙◌, ap, sym, refl, Bool, ◌&&◌, nat_eq, nat_lt, List, true, ℕ, arith, ⊎_elim}
+use Rattle.std.proofs.lemmas.Bool.{false≢true, cases_lt, lt-ltb}
 use Rattle.std.proofs.lemmas.List.{with_items_is}
 use Rattle.bbm_regimes.specs.PeMask.{pe_in}
 use Rattle.bbm_regimes.specs.declared.regime.Tag.{Tag}
@@ -10,8 +10,8 @@ use Rattle.bbm_roots.specs.Holds.{hold_in}
 use Rattle.bbm_roots.specs.Pendings.{pending_in, has_pending, same_flag}
 use Rattle.bbm_roots.specs.Readings.{reads_tag}
 use Rattle.bbm_roots.specs.Registers.{register_values, first_reg, second_reg}
-use Rattle.bbm_roots.specs.Stands.{Stands, world_of, pes_of}
-use Rattle.bbm_roots.specs.Tags.{reads, reads_for_some, reaches, holds_at, awaited}
+use Rattle.bbm_roots.specs.Stands.{world_of, pes_of}
+use Rattle.bbm_roots.specs.Tags.{reads, reads_for_some, reaches, holds_at}
 use Rattle.bbm_roots.specs.declared.hold.Held.{Held}
 use Rattle.bbm_roots.specs.declared.load.Load.{Load}
 use Rattle.bbm_roots.specs.declared.pending.Pending.{Pending}

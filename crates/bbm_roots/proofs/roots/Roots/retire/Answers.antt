@@ -1,11 +1,11 @@
-use Rattle.std.proofs.Common.{◌≡◌, ◌≤◌, ◌∙◌, ap, sym, refl, Bool, nat_eq, List, ◌∷◌, ◌+◌, true, false, cond, ℕ, Option, Some, None, is_some, IsSome, length, find, subst, arith}
+use Rattle.std.proofs.Common.{◌≡◌, ◌∙◌, ap, sym, refl, Bool, nat_eq, ◌+◌, true, cond, ℕ, Option, None, is_some, IsSome, subst, arith}
 use Rattle.indexmap.specs.IndexMap.{get, index_map_len}
 use Rattle.bbm_regimes.specs.declared.regime.Tag.{Tag}
 use Rattle.bbm_roots.specs.Calls.{Call, Retire}
-use Rattle.bbm_roots.specs.Registers.{kind_of_reg, uses}
-use Rattle.bbm_roots.specs.Roots.{roots_of, root_at, is_at, is_root, is_of_kind, retired}
-use Rattle.bbm_roots.specs.Stands.{Stands, world_of, pes_of}
-use Rattle.bbm_roots.specs.Tags.{reads, reads_for_some, holds_tag}
+use Rattle.bbm_roots.specs.Registers.{kind_of_reg}
+use Rattle.bbm_roots.specs.Roots.{roots_of, root_at, is_of_kind}
+use Rattle.bbm_roots.specs.Stands.{world_of, pes_of}
+use Rattle.bbm_roots.specs.Tags.{reads, reads_for_some}
 use Rattle.bbm_roots.specs.declared.root.Declared.{Declared}
 use Rattle.bbm_roots.proofs.RootLists.{found-retired, kept-retired, apart-retired, retired-length}
 use Rattle.bbm_roots.proofs.Rooted.{retired-named, retired-holder}
