@@ -12,7 +12,6 @@ use Rattle.bbm_regimes.specs.declared.regime.KernelWorld.{KernelWorld}
 use Rattle.bbm_regimes.specs.declared.regime.World.TheVariants.{Hyp, Kernel}
 use Rattle.bbm_regimes.specs.World.{world_ok, page_count}
 use Rattle.bbm_regimes.specs.declared.regime.Kind.{Kind}
-use Rattle.bbm_regimes.specs.declared.regime.AsidFrom.{AsidFrom}
 use Rattle.bbm_regimes.specs.declared.regime.Reg.{Reg}
 use Rattle.bbm_barriers.specs.declared.Dsb.{Dsb}
 use Rattle.bbm_tlbi_scope.specs.declared.op.TlbiOp.{TlbiOp}

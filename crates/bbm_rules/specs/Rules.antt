@@ -163,8 +163,8 @@ module _ (heading : Heading) (trust : Trust) (h : List Noted) where
   abbrev pub no_root : Event → Option ℕ
   no_root (Msr pe reg value) = do
     base ← base_of value
-    if_so
-    (not (is_root (events_of h) (kind_of_reg reg) base || (same_reg reg Ttbr0El1 && is_null (events_of h) base))) base
+    if_so (not (is_root (events_of h) (kind_of_reg reg) base
+        || (same_reg reg Ttbr0El1 && is_null (events_of h) base))) base
   no_root (Unroot pe page) = if_so (is_none (root_at (events_of h) page)) page
   no_root _ = None
 
