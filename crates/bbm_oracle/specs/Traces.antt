@@ -15,7 +15,8 @@ pub record IsTraceOf (t : Trace) (w : ValidWrite) (place : ℕ) : Type 0 where
 
 -- the second trace is that of one more event
 abbrev pub Extends : Trace → Trace → Event → ℕ → Type 0
-Extends t t' e place = (w : ValidWrite) → IsTraceOf t w place → IsTraceOf t' (record { value = w.value; after = e ∷ w.after }) place
+Extends t t' e place =
+    (w : ValidWrite) → IsTraceOf t w place → IsTraceOf t' (record { value = w.value; after = e ∷ w.after }) place
 
 -- the trace is that of the valid write, where there is one
 abbrev pub Traces : Option Trace → Option ValidWrite → ℕ → Type 0

@@ -3,7 +3,7 @@
 use crate::Oracle;
 use bbm_barriers::{Domain, Dsb, Types};
 use bbm_events::{Event, Header};
-use bbm_regimes::{Kind, Page, Pe, Place, World};
+use bbm_regimes::{HypWorld, Kind, Page, Pe, Place, World};
 use bbm_rules::{FirstPathChecker, Rule, StepFault};
 use bbm_tlbi_scope::TlbiOp;
 use std::alloc::Global;
@@ -44,11 +44,11 @@ fn header() -> Header {
         version: 1,
         pes: 2,
         cnp: false,
-        world: World::Hyp {
+        world: World::Hyp(HypWorld {
             el2_start: 1,
             s2_start: 1,
             s2_pages: 1,
-        },
+        }),
     }
 }
 

@@ -1,5 +1,6 @@
 -- What a checker's answer to an event means, and where it takes no memory.
-use Rattle.std.specs.Prelude.{◌≡◌, ℕ, Bool, true, false, ◌&&◌, ◌||◌, ◌==◌, List, [], ◌∷◌, Option, Some, None, is_none, Result, Ok, Err, if◌then◌else◌}
+use Rattle.std.specs.Prelude.{◌≡◌, ℕ, Bool, true, false, ◌&&◌, ◌||◌, ◌==◌, List, [], ◌∷◌, Option, Some, None, is_none}
+use Rattle.std.specs.Prelude.{Result, Ok, Err, if◌then◌else◌}
 use Rattle.bbm_regimes.specs.declared.regime.Which.{Which}
 use Rattle.bbm_rules.specs.Prelude.{Heading, Event, Init, Write, Dsb, Dmb, Isb, Lock, Unlock}
 use Rattle.bbm_rules.specs.declared.step_fault.StepFault.{StepFault}

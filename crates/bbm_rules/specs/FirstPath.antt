@@ -3,7 +3,8 @@
 -- the events that the oracle judges so far, and they go when the oracle is written over the whole ones.
 --
 -- A history is the list of the events taken so far, the newest first.
-use Rattle.std.specs.Prelude.{ℕ, ◌*◌, ◌/◌, ◌%◌, ◌^◌, zero, suc, Bool, true, false, ◌&&◌, ◌||◌, not, ◌==◌, List, [], ◌∷◌, Option, Some, None, is_none, if◌then◌else◌}
+use Rattle.std.specs.Prelude.{ℕ, ◌*◌, ◌/◌, ◌%◌, ◌^◌, zero, suc, Bool, true, false, ◌&&◌, ◌||◌, not, ◌==◌, List, [], ◌∷◌}
+use Rattle.std.specs.Prelude.{Option, Some, None, is_none, if◌then◌else◌}
 use Rattle.bbm_regimes.specs.declared.regime.Kind.{Kind}
 use Rattle.bbm_regimes.specs.declared.regime.Kind.TheVariants.{El2}
 use Rattle.bbm_regimes.specs.declared.regime.World.{World}
@@ -155,8 +156,8 @@ broken heading h _ = None
 -- may be given. None of these is judged here, so the definitions above are the same under it. A label is no part of a
 -- history.
 abbrev pub is_built_world : World → Bool
-is_built_world (Hyp el2_start s2_start s2_pages) = el2_start == 1 && s2_start == 1 && s2_pages == 1
-is_built_world (Kernel start0 start1 asid_from) = false
+is_built_world (Hyp world) = world.el2_start == 1 && world.s2_start == 1 && world.s2_pages == 1
+is_built_world (Kernel world) = false
 
 abbrev pub is_built_heading : Heading → Bool
 is_built_heading heading = is_built_world heading.world

@@ -1,7 +1,8 @@
 -- The verdict on a list of bytes: a fold over its lines. It knows nothing of a reader or of a checker.
 -- Source: project's own choice.
 use Rattle.std.specs.Option.{option_map_or}
-use Rattle.std.specs.Prelude.{◌≡◌, ℕ, suc, Bool, true, false, ◌==◌, nat_lt, nat_le, List, [], ◌∷◌, ◌++◌, length, drop, Option, Some, None, Result, Ok, Err, if◌then◌else◌}
+use Rattle.std.specs.Prelude.{◌≡◌, ℕ, suc, Bool, true, false, ◌==◌, nat_lt, nat_le, List, [], ◌∷◌, ◌++◌, length, drop}
+use Rattle.std.specs.Prelude.{Option, Some, None, Result, Ok, Err, if◌then◌else◌}
 use Rattle.bbm_regimes.specs.declared.regime.Which.{Which}
 use Rattle.bbm_regimes.specs.declared.regime.Which.TheVariants.{LineBytes, Events, Lines}
 use Rattle.bbm_events.specs.declared.event.Event.{Event}
@@ -45,8 +46,8 @@ abbrev pub is_too_long : List ℕ → Bool
 is_too_long line = nat_lt 200 (length line)
 
 -- What a log is judged by: whether a header and an event are judged at all, the least rule that an event breaks after
--- a history, and the limit that it reaches. `all_rules` are the rules; `first_path` is what this version judges, in whose
--- logs no event reaches a limit of a history before that on events.
+-- a history, and the limit that it reaches. `all_rules` are the rules; `first_path` is what this version judges, in
+-- whose logs no event reaches a limit of a history before that on events.
 pub record Judge : Type 0 where
   pub judges_heading : Heading → Bool
   pub judges : Heading → List Event → Event → Bool
@@ -59,7 +60,12 @@ all_rules trust =
 
 abbrev pub first_path : Judge
 first_path =
-    record { judges_heading = first.is_built_heading; judges = first.is_built; breach = first.broken; limit = λ h e. None }
+    record {
+      judges_heading = first.is_built_heading;
+      judges = first.is_built;
+      breach = first.broken;
+      limit = λ h e. None;
+    }
 
 -- The limits that hold for a command beside those of a line's bytes and of a history, which always hold: at most so
 -- many events, and fewer than so many lines, or any number of them.
@@ -103,7 +109,8 @@ after_kept number heading h event (Some which) = Decides (Limit number which)
 after_kept number heading h event None = GoesOn (AtEvents heading (event ∷ h))
 
 abbrev pub after_judged : Judge → Limits → ℕ → Heading → List Event → Event → Option (List ℕ) → Option Breach → Step
-after_judged judge limits number heading h event label (Some breach) = Decides (Refused number breach.rule breach.at label)
+after_judged judge limits number heading h event label (Some breach) =
+    Decides (Refused number breach.rule breach.at label)
 after_judged judge limits number heading h event label None =
     after_kept number heading h event (limit_at limits number h (judge.limit h event))
 
@@ -128,7 +135,8 @@ after_header judge number (Err cause) = Decides (Malformed number cause)
 -- A line of at most 200 bytes.
 abbrev pub after_line : Judge → Limits → ℕ → Progress → List ℕ → Step
 after_line judge limits number AtHeader line = after_header judge number (header_of line)
-after_line judge limits number (AtEvents heading h) line = after_item judge limits number heading h (item_of heading line)
+after_line judge limits number (AtEvents heading h) line =
+    after_item judge limits number heading h (item_of heading line)
 after_line judge limits number (AtEnd h) line = Decides (Malformed number AfterEnd)
 
 -- A line that is too long, or the bytes after the last newline: more than 200 of them reach the limit of
@@ -220,7 +228,8 @@ pub record DecidedByLine (judge : Judge) (limits : Limits) (lines : List (List �
   pub decides : step_of judge limits (suc (length before)) progress line ≡ Decides verdict
 
 -- no line decides, and so the end does
-pub record DecidedByEnd (judge : Judge) (limits : Limits) (lines : List (List ℕ)) (rest : List ℕ) (verdict : Verdict) : Type 0 where
+pub record DecidedByEnd (judge : Judge) (limits : Limits) (lines : List (List ℕ)) (rest : List ℕ) (verdict : Verdict)
+    : Type 0 where
   pub progress : Progress
   pub read : read_lines judge limits lines ≡ Some progress
   pub decides : end_of (suc (length lines)) progress rest ≡ verdict
