@@ -11,6 +11,7 @@ use Rattle.bbm_events.specs.declared.malformed.Malformed.{Malformed as Cause}
 use Rattle.bbm_events.specs.declared.malformed.Malformed.TheVariants.{NoEnd, WrongCount, AfterEnd}
 use Rattle.bbm_events.specs.Heading.{Heading}
 use Rattle.bbm_events.specs.Lines.{header_of, item_of}
+pub use Rattle.bbm_rules.specs.declared.limits.Limits.{Limits}
 use Rattle.bbm_rules.specs.declared.verdict.Verdict.{Verdict}
 use Rattle.bbm_rules.specs.declared.verdict.Verdict.TheVariants.{Accepted, Refused, Malformed, Limit}
 use Rattle.bbm_rules.specs.Broken.{Breach, broken}
@@ -42,12 +43,6 @@ bytes_of (line ∷ lines) rest = line ++ 10 ∷ bytes_of lines rest
 -- A line is too long where 201 bytes come without a newline.
 abbrev pub is_too_long : List ℕ → Bool
 is_too_long line = nat_lt 200 (length line)
-
--- The limits of a command that judges a log, beside those of a line's bytes and of a history, which always hold: at most
--- so many events, or any number of them; and fewer than so many lines.
-pub record Limits : Type 0 where
-  pub events : Option ℕ
-  pub lines : ℕ
 
 -- the limits of `check`, as long as the oracle judges for it
 abbrev pub check_limits : Limits

@@ -6,6 +6,7 @@ pub mod claim;
 pub mod event_laws;
 pub mod history_laws;
 pub mod laws;
+pub mod limits;
 pub mod phase;
 pub mod rule;
 pub mod step_fault;
@@ -25,6 +26,7 @@ pub use laws::{
     law_answered, law_notes_keep_the_events, law_one_node, law_readable_value, law_tag_held,
     law_version,
 };
+pub use limits::Limits;
 pub use phase::Phase;
 pub use rule::Rule;
 pub use step_fault::StepFault;
