@@ -5,9 +5,7 @@ use Rattle.std.specs.Prelude.{ℕ, List, [], ◌++◌, Option, codes, decimal}
 use Rattle.bbm_regimes.specs.declared.regime.Which.{Which}
 use Rattle.bbm_regimes.specs.declared.regime.Which.TheVariants.{LineBytes, Pages, Roots, Values, Events, Steps, Lines}
 use Rattle.bbm_events.specs.declared.malformed.Malformed.{Malformed as Cause}
-use Rattle.bbm_events.specs.declared.malformed.Malformed.TheVariants.{NoMagic, BadHeader, UnknownWord, BadNumber, BadPe}
-use Rattle.bbm_events.specs.declared.malformed.Malformed.TheVariants.{BadAddress, MissingField, ExtraField, NoEnd}
-use Rattle.bbm_events.specs.declared.malformed.Malformed.TheVariants.{WrongCount, AfterEnd, NotBuilt, BadLabel}
+use Rattle.bbm_events.specs.declared.malformed.Malformed.TheVariants.{NoMagic, BadHeader, UnknownWord, BadNumber, BadPe, BadAddress, MissingField, ExtraField, NoEnd, WrongCount, AfterEnd, BadLabel}
 use Rattle.bbm_events.specs.Spelling.{hex}
 use Rattle.bbm_rules.specs.declared.rule.Rule.{Rule}
 use Rattle.bbm_rules.specs.declared.rule.Rule.TheVariants.{WrongWorld, NoLock, NullWritten, BreakBeforeMake, LimboMake}
@@ -50,7 +48,6 @@ cause_text ExtraField = codes "8 ExtraField"
 cause_text NoEnd = codes "9 NoEnd"
 cause_text WrongCount = codes "10 WrongCount"
 cause_text AfterEnd = codes "11 AfterEnd"
-cause_text NotBuilt = codes "12 NotBuilt"
 cause_text BadLabel = codes "13 BadLabel"
 
 -- a limit's name
