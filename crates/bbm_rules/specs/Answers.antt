@@ -1,5 +1,6 @@
 -- What a checker may be asked, what its answer to an event means, and where it takes no memory.
-use Rattle.std.specs.Prelude.{◌≡◌, ℕ, ◌<◌, ◌-◌, ◌^◌, Bool, true, false, ◌&&◌, ◌||◌, ◌==◌, List, [], ◌∷◌, length, Option, Some, None, is_none, Result, Ok, Err, if◌then◌else◌}
+use Rattle.std.specs.Prelude.{◌≡◌, ℕ, ◌<◌, ◌-◌, ◌^◌, Bool, true, false, ◌&&◌, ◌||◌, ◌==◌, List, [], ◌∷◌, length}
+use Rattle.std.specs.Prelude.{Option, Some, None, is_none, Result, Ok, Err, if◌then◌else◌}
 use Rattle.bbm_regimes.specs.declared.regime.Which.{Which}
 use Rattle.bbm_events.specs.Fits.{fits_heading}
 use Rattle.bbm_rules.specs.Prelude.{Heading, Event, Init, Write, Dsb, Dmb, Isb, Lock, Unlock}
@@ -15,7 +16,8 @@ use Rattle.bbm_rules.specs.Places.{page_of}
 -- taken.
 abbrev pub MayTake : (Heading → List Event → Type 0) → Event → Type 0
 MayTake stands event =
-    (heading : Heading) × (h : List Event) × stands heading h × (fits_heading heading event ≡ true) × (length h < 2 ^ 64 - 1)
+    (heading : Heading) × (h : List Event) × stands heading h × (fits_heading heading event ≡ true)
+    × (length h < 2 ^ 64 - 1)
 
 -- What stands for a history of a header may be asked of this PE, which is one of the header.
 abbrev pub MayAsk : (Heading → List Event → Type 0) → ℕ → Type 0

@@ -1,7 +1,8 @@
 -- The verdict on a list of bytes: a fold over its lines. It knows nothing of a reader or of a checker.
 -- Source: project's own choice.
 use Rattle.std.specs.Option.{option_map_or}
-use Rattle.std.specs.Prelude.{◌≡◌, ℕ, suc, Bool, false, ◌==◌, nat_lt, nat_le, List, [], ◌∷◌, ◌++◌, length, drop, Option, Some, None, Result, Ok, Err, if◌then◌else◌}
+use Rattle.std.specs.Prelude.{◌≡◌, ℕ, suc, Bool, false, ◌==◌, nat_lt, nat_le, List, [], ◌∷◌, ◌++◌, length, drop}
+use Rattle.std.specs.Prelude.{Option, Some, None, Result, Ok, Err, if◌then◌else◌}
 use Rattle.bbm_regimes.specs.declared.regime.Which.{Which}
 use Rattle.bbm_regimes.specs.declared.regime.Which.TheVariants.{LineBytes, Events, Lines}
 use Rattle.bbm_events.specs.declared.event.Event.{Event}
@@ -109,7 +110,8 @@ after_header number (Err cause) = Decides (Malformed number cause)
 -- A line of at most 200 bytes.
 abbrev pub after_line : Trust → Limits → ℕ → Progress → List ℕ → Step
 after_line trust limits number AtHeader line = after_header number (header_of line)
-after_line trust limits number (AtEvents heading h) line = after_item trust limits number heading h (item_of heading line)
+after_line trust limits number (AtEvents heading h) line =
+    after_item trust limits number heading h (item_of heading line)
 after_line trust limits number (AtEnd h) line = Decides (Malformed number AfterEnd)
 
 -- A line that is too long, or the bytes after the last newline: more than 200 of them reach the limit of
@@ -201,7 +203,8 @@ pub record DecidedByLine (trust : Trust) (limits : Limits) (lines : List (List �
   pub decides : step_of trust limits (suc (length before)) progress line ≡ Decides verdict
 
 -- no line decides, and so the end does
-pub record DecidedByEnd (trust : Trust) (limits : Limits) (lines : List (List ℕ)) (rest : List ℕ) (verdict : Verdict) : Type 0 where
+pub record DecidedByEnd (trust : Trust) (limits : Limits) (lines : List (List ℕ)) (rest : List ℕ) (verdict : Verdict)
+    : Type 0 where
   pub progress : Progress
   pub read : read_lines trust limits lines ≡ Some progress
   pub decides : end_of (suc (length lines)) progress rest ≡ verdict

@@ -5,7 +5,9 @@ use Rattle.std.specs.Prelude.{ℕ, List, [], ◌++◌, Option, codes, decimal}
 use Rattle.bbm_regimes.specs.declared.regime.Which.{Which}
 use Rattle.bbm_regimes.specs.declared.regime.Which.TheVariants.{LineBytes, Pages, Roots, Values, Events, Steps, Lines}
 use Rattle.bbm_events.specs.declared.malformed.Malformed.{Malformed as Cause}
-use Rattle.bbm_events.specs.declared.malformed.Malformed.TheVariants.{NoMagic, BadHeader, UnknownWord, BadNumber, BadPe, BadAddress, MissingField, ExtraField, NoEnd, WrongCount, AfterEnd, BadLabel}
+use Rattle.bbm_events.specs.declared.malformed.Malformed.TheVariants.{NoMagic, BadHeader, UnknownWord, BadNumber}
+use Rattle.bbm_events.specs.declared.malformed.Malformed.TheVariants.{BadPe, BadAddress, MissingField, ExtraField}
+use Rattle.bbm_events.specs.declared.malformed.Malformed.TheVariants.{NoEnd, WrongCount, AfterEnd, BadLabel}
 use Rattle.bbm_events.specs.Spelling.{hex}
 use Rattle.bbm_rules.specs.declared.rule.Rule.{Rule}
 use Rattle.bbm_rules.specs.declared.rule.Rule.TheVariants.{WrongWorld, NoLock, NullWritten, BreakBeforeMake, LimboMake}
