@@ -34,5 +34,5 @@ abbrev pub write_in : List Kept → Option Found → Option ValidWrite
 write_in log None = None
 write_in log (Some w) = Some (record {
   value = w.value;
-  since = notes_behind (suc w.index) (reverse (drop (suc w.index) log));
+  since = notes_behind (w.index + 1) (reverse (drop (w.index + 1) log));
 })

@@ -11,6 +11,7 @@
 pub mod kept;
 pub mod search;
 pub mod trace;
+mod open;
 mod relation;
 mod walk;
 

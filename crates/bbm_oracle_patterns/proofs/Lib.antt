@@ -1,0 +1,5 @@
+pub mod Bits
+pub mod Rows
+pub mod Lasts
+pub mod Opens
+pub mod Walks
