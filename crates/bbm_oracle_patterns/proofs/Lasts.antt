@@ -1,5 +1,5 @@
 -- The last valid write, searched from the newest event back.
-use Rattle.std.proofs.Common.{◌≡◌, ℕ, zero, suc, ◌+◌, ◌<◌, ◌≤◌, List, [], ◌∷◌, ◌++◌, length, take, drop, reverse, get_or, Option, Some, None, refl, sym, ◌∙◌, ap, subst, arith}
+use Rattle.std.proofs.Common.{◌≡◌, ℕ, zero, suc, ◌+◌, ◌-◌, ◌<◌, ◌≤◌, List, [], ◌∷◌, ◌++◌, length, take, drop, reverse, get_or, Option, Some, None, refl, sym, ◌∙◌, ap, subst, arith}
 use Rattle.std.proofs.lemmas.List.{append-nil, append_assoc, reverse-append, length-append, length-reverse, length-take-le, take-append-drop, take_more, drop_more, drop_all}
 use Rattle.bbm_rules.specs.Held.{ValidWrite, last_valid, last_valid_after, later}
 use Rattle.bbm_rules.specs.Notes.{Noted}
@@ -113,17 +113,25 @@ module _ (kind : Kind) (level place : ℕ) (log : List Kept) where
       ∙ ap (behind (notes_behind (i + 1) (reverse (drop (i + 1) log))))
       (tells (note_of (length (reverse (take i log))) (get_or log i d)) (last_valid kind level place (notes_of (reverse (take i log)))))
 
-  pub found_at : (i : ℕ) (d : Kept) (value : ℕ) → i < length log → TellsOf (ItIs value) kind level place (get_or log i d).event → Silent (i + 1) →
-      last_valid kind level place (notes_of (reverse log)) ≡ write_in log (Some (record { value = value; index = i }))
-  found_at i d value below tells s =
-      says_at i d (ItIs value) below tells s
-      ∙ ap (λ (ns : List Noted). Some (record { value = value; since = ns })) (append-nil (notes_behind (i + 1) (reverse (drop (i + 1) log))))
+  -- the same for the event before index j
+  module _ (j : ℕ) (k : Kept) (some : 0 < j) (within : j ≤ length log) (s : Silent j) where
+    silent_behind : Silent (j - 1 + 1)
+    silent_behind = let e : j ≡ j - 1 + 1 = omega arith in subst (λ (i : ℕ). Silent i) e s
 
-  pub none_at : (i : ℕ) (d : Kept) → i < length log → TellsOf NoWrite kind level place (get_or log i d).event → Silent (i + 1) →
-      last_valid kind level place (notes_of (reverse log)) ≡ None
-  none_at i d below tells s = says_at i d NoWrite below tells s
+    pub found_before : (value : ℕ) → TellsOf (ItIs value) kind level place (get_or log (j - 1) k).event →
+        last_valid kind level place (notes_of (reverse log)) ≡ write_in log (Some (record { value = value; index = j - 1 }))
+    found_before value tells =
+        says_at (j - 1) k (ItIs value) (omega arith) tells silent_behind
+        ∙ ap (λ (ns : List Noted). Some (record { value = value; since = ns })) (append-nil (notes_behind (j - 1 + 1) (reverse (drop (j - 1 + 1) log))))
 
-  pub none_left : Silent 0 → last_valid kind level place (notes_of (reverse log)) ≡ None
-  none_left s =
+    pub none_before : TellsOf NoWrite kind level place (get_or log (j - 1) k).event → last_valid kind level place (notes_of (reverse log)) ≡ None
+    none_before tells = says_at (j - 1) k NoWrite (omega arith) tells silent_behind
+
+    pub silent_before : TellsOf Older kind level place (get_or log (j - 1) k).event → Silent (j - 1)
+    silent_before tells = silent_more (j - 1) k (omega arith) tells silent_behind
+
+  pub none_left : (j : ℕ) → j ≤ 0 → Silent j → last_valid kind level place (notes_of (reverse log)) ≡ None
+  none_left zero none s =
       ap (last_valid kind level place) (notes_whole (reverse log) ∙ sym (append-nil (notes_behind 0 (reverse log))))
       ∙ s.at 0 []
+  none_left (suc j) none s = absurd (omega arith)

@@ -3,3 +3,4 @@ pub mod Rows
 pub mod Lasts
 pub mod Opens
 pub mod Walks
+pub mod Phases

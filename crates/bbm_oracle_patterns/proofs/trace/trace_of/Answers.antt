@@ -8,8 +8,8 @@ returns-else-is_written-clause-seen c = λ before p.
 
 pub returns-else-is_written-clause-half : goal.returns-else-is_written-clause-half
 returns-else-is_written-clause-half c = λ before p.
-    (trace_unwritten c.args.header.now c.args.place c.none-2.result c.none-2.ensures before c.args.later.now (sym c.is_written.ensures ∙ c.if-is_written.false)).half_at p
+    (trace_unwritten c.args.header.now c.args.place c.none-else-is_written.result c.none-else-is_written.ensures before c.args.later.now (sym c.is_written.ensures ∙ c.if-is_written.false)).half_at p
 
 pub returns-else-is_written-clause-cleansed : goal.returns-else-is_written-clause-cleansed
 returns-else-is_written-clause-cleansed c = λ before p.
-    (trace_unwritten c.args.header.now c.args.place c.none-3.result c.none-3.ensures before c.args.later.now (sym c.is_written.ensures ∙ c.if-is_written.false)).cleansed_at p
+    (trace_unwritten c.args.header.now c.args.place c.none-else-is_written-2.result c.none-else-is_written-2.ensures before c.args.later.now (sym c.is_written.ensures ∙ c.if-is_written.false)).cleansed_at p

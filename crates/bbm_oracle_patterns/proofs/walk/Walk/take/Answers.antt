@@ -1,5 +1,5 @@
 use Rattle.std.proofs.Common.{◌≡◌, suc, sym, ◌∙◌}
-use Rattle.std.proofs.lemmas.Bool.{eqb-true, not-false}
+use Rattle.std.proofs.lemmas.Bool.{eqb-true}
 use Rattle.bbm_rules.specs.Prelude.{Write, Dsb, Tlbi}
 use Rattle.bbm_oracle_patterns.specs.Kept.{cover_in}
 use Rattle.bbm_oracle_patterns.proofs.Walks.{event_is, walk_early}
@@ -25,5 +25,5 @@ pub returns-else-not-is_empty-2 : goal.returns-else-not-is_empty-2
 returns-else-not-is_empty-2 c = λ before since x.
     event_is c.args.self.now c.args.header.now c.args.place before c.args.kept.now since (Tlbi c.in-Tlbi.pe c.in-Tlbi.op c.in-Tlbi.xt) c.in-Tlbi.is
     (walk_early c.args.self.now c.args.header.now c.args.place since x (cover_in c.args.kept.now.covers.items) (suc before) c.in-Tlbi.pe c.in-Tlbi.op c.in-Tlbi.xt
-    (c.is_empty.ensures.0 (not-false _ c.if-not-is_empty.false))
-    (c.is_empty-else-not-is_empty.ensures.0 (not-false _ c.if-not-is_empty-2.false)))
+    (c.is_empty.ensures.0 c.if-not-is_empty.false)
+    (c.is_empty-else-not-is_empty.ensures.0 c.if-not-is_empty-2.false))
