@@ -66,21 +66,25 @@ module _ (kind : Kind) (level place : ℕ) (log : List Kept) where
         ≡ behind (notes_behind before (reverse (drop i log))) (last_valid kind level place h)
 
   pub silent_start : Silent (length log)
-  silent_start = record { at = λ before h.
-    rw (drop_all (length log) log (omega arith)) (sym (behind_nothing (last_valid kind level place h))) }
+  silent_start = record {
+    at = λ before h.
+        rw (drop_all (length log) log (omega arith)) (sym (behind_nothing (last_valid kind level place h)));
+  }
 
   pub silent_more : (i : ℕ) (d : Kept) → i < length log → TellsOf Older kind level place (get_or log i d).event → Silent (i + 1) → Silent i
-  silent_more i d below tells s = record { at = λ before h.
-    let k : Kept = get_or log i d in
-    let n : Noted = note_of before (get_or log i d) in
-    let ns : List Noted = notes_behind (before + 1) (reverse (drop (i + 1) log)) in
-    let split : notes_behind before (reverse (drop i log)) ≡ ns ++ n ∷ []
-    = ap (λ (ks : List Kept). notes_behind before (reverse ks)) (drop_more log i d below) ∙ notes_snoc before (get_or log i d) (drop (i + 1) log) in
-    subst (λ (xs : List Noted). last_valid kind level place (xs ++ h) ≡ behind xs (last_valid kind level place h)) (sym split)
-    (ap (last_valid kind level place) (append_assoc ns (n ∷ []) h)
-    ∙ s.at (before + 1) (n ∷ h)
-    ∙ ap (behind ns) (tells n (last_valid kind level place h))
-    ∙ behind_later ns n (last_valid kind level place h)) }
+  silent_more i d below tells s = record {
+    at = λ before h.
+        let k : Kept = get_or log i d in
+        let n : Noted = note_of before (get_or log i d) in
+        let ns : List Noted = notes_behind (before + 1) (reverse (drop (i + 1) log)) in
+        let split : notes_behind before (reverse (drop i log)) ≡ ns ++ n ∷ []
+        = ap (λ (ks : List Kept). notes_behind before (reverse ks)) (drop_more log i d below) ∙ notes_snoc before (get_or log i d) (drop (i + 1) log) in
+        subst (λ (xs : List Noted). last_valid kind level place (xs ++ h) ≡ behind xs (last_valid kind level place h)) (sym split)
+        (ap (last_valid kind level place) (append_assoc ns (n ∷ []) h)
+        ∙ s.at (before + 1) (n ∷ h)
+        ∙ ap (behind ns) (tells n (last_valid kind level place h))
+        ∙ behind_later ns n (last_valid kind level place h));
+  }
 
   -- the whole log, by its oldest i events
   whole : (i : ℕ) → i ≤ length log → notes_of (reverse log) ≡ notes_behind i (reverse (drop i log)) ++ notes_of (reverse (take i log))

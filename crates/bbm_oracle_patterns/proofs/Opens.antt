@@ -102,10 +102,12 @@ module _ (o : Open) (test : ℕ → Issued Noted → Bool) (since : List Noted) 
   pub after_dsb : (dsb : Barrier) (left : Open) →
       ((q : ℕ) (b : Bool) (p : ℕ) → is_open left q b p ≡ (is_open o q b p && not (nat_eq pe q && answers dsb b))) →
       IsOpen left test (record { event = Dsb pe dsb; covers = covers; position = position } ∷ since)
-  after_dsb dsb left e = record { by = λ q b p.
-    e q b p
-    ∙ ap (λ (x : Bool). x && not (nat_eq pe q && answers dsb b)) (is.by q b p)
-    ∙ at q b p (nat_eq pe q) }
+  after_dsb dsb left e = record {
+    by = λ q b p.
+        e q b p
+        ∙ ap (λ (x : Bool). x && not (nat_eq pe q && answers dsb b)) (is.by q b p)
+        ∙ at q b p (nat_eq pe q);
+  }
     where
       at : (q : ℕ) (b : Bool) (p : ℕ) (k : Bool) →
           (any (test_of b (test p)) (unanswered event_of q since) && not (k && answers dsb b))
@@ -118,11 +120,13 @@ module _ (o : Open) (test : ℕ → Issued Noted → Bool) (since : List Noted) 
       ((q : ℕ) (b : Bool) (p : ℕ) → is_open more q b p ≡ (is_open o q b p || (nat_eq pe q && (same_flag b (operation op).broadcast && counts p)))) →
       ((p : ℕ) → counts p ≡ test p (record { tlbi = record { event = Tlbi pe op xt; covers = covers; position = position }; before = since })) →
       IsOpen more test (record { event = Tlbi pe op xt; covers = covers; position = position } ∷ since)
-  after_tlbi op xt more counts e c = record { by = λ q b p.
-    e q b p
-    ∙ ap (λ (x : Bool). is_open o q b p || (nat_eq pe q && (same_flag b (operation op).broadcast && x))) (c p)
-    ∙ ap (λ (x : Bool). x || (nat_eq pe q && test_of b (test p) issued)) (is.by q b p)
-    ∙ at q b p (nat_eq pe q) }
+  after_tlbi op xt more counts e c = record {
+    by = λ q b p.
+        e q b p
+        ∙ ap (λ (x : Bool). is_open o q b p || (nat_eq pe q && (same_flag b (operation op).broadcast && x))) (c p)
+        ∙ ap (λ (x : Bool). x || (nat_eq pe q && test_of b (test p) issued)) (is.by q b p)
+        ∙ at q b p (nat_eq pe q);
+  }
     where
       issued : Issued Noted
       issued = record { tlbi = record { event = Tlbi pe op xt; covers = covers; position = position }; before = since }

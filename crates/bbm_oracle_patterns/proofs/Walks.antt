@@ -75,8 +75,10 @@ untouched q place (Tlbi pe op xt) issued ts k = absurd (false≢true k)
 untouched q place _ issued ts k = refl
 
 open_idle : (o : Open) (test : ℕ → Issued Noted → Bool) (place : ℕ) (n : Noted) (since : List Noted) → is_idle n.event place ≡ true → IsOpen o test since → IsOpen o test (n ∷ since)
-open_idle o test place n since k x = record { by = λ q b p.
-  rw (untouched q place n.event (record { tlbi = n; before = since }) (unanswered event_of q since) k) (x.by q b p) }
+open_idle o test place n since k x = record {
+  by = λ q b p.
+      rw (untouched q place n.event (record { tlbi = n; before = since }) (unanswered event_of q since) k) (x.by q b p);
+}
 
 pub walk_idle : (w : Walk) (heading : Heading) (place : ℕ) (n : Noted) (since : List Noted) → is_idle n.event place ≡ true → IsWalk w heading place since → IsWalk w heading place (n ∷ since)
 walk_idle w heading place n since k x = record {
@@ -96,10 +98,10 @@ module _ (w : Walk) (heading : Heading) (place : ℕ) (since : List Noted) (x : 
       IsWalk (record w { writers = m }) heading place (record { event = Write pe place value; covers = covers; position = position } ∷ since)
   walk_write value m e = record {
     writers = λ q.
-      e q
-      ∙ ap (λ (b : Bool). b || nat_eq q pe) (x.writers q)
-      ∙ or-comm (some (λ n before. writes q place n.event) since) (nat_eq q pe)
-      ∙ ap (λ (b : Bool). b || some (λ n before. writes q place n.event) since) (here q);
+        e q
+        ∙ ap (λ (b : Bool). b || nat_eq q pe) (x.writers q)
+        ∙ or-comm (some (λ n before. writes q place n.event) since) (nat_eq q pe)
+        ∙ ap (λ (b : Bool). b || some (λ n before. writes q place n.event) since) (here q);
     seen_at = x.seen_at;
     half_at = x.half_at;
     cleansed_at = x.cleansed_at;
@@ -124,14 +126,14 @@ module _ (w : Walk) (heading : Heading) (place : ℕ) (since : List Noted) (x : 
   walk_dsb dsb t full half second seen_is half_is cleansed_is full_is half_left second_is = record {
     writers = x.writers;
     seen_at = λ p.
-      seen_is p
-      ∙ ap (λ (b : Bool). (publishes_to heading dsb pe p && b) || pe_in w.trace.seen p) (x.writers pe)
-      ∙ ap (λ (b : Bool). (publishes_to heading dsb pe p && some (λ n before. writes pe place n.event) since) || b) (x.seen_at p)
-      ∙ ap (λ (b : Bool). b || spec.seen heading place p since) (sym (and-true (publishes_to heading dsb pe p && some (λ n before. writes pe place n.event) since)));
+        seen_is p
+        ∙ ap (λ (b : Bool). (publishes_to heading dsb pe p && b) || pe_in w.trace.seen p) (x.writers pe)
+        ∙ ap (λ (b : Bool). (publishes_to heading dsb pe p && some (λ n before. writes pe place n.event) since) || b) (x.seen_at p)
+        ∙ ap (λ (b : Bool). b || spec.seen heading place p since) (sym (and-true (publishes_to heading dsb pe p && some (λ n before. writes pe place n.event) since)));
     half_at = λ p.
-      half_is p
-      ∙ ap (λ (b : Bool). b || pe_in w.trace.half p) (answered_by w.half (half_test heading place) since x.half_open covers position pe dsb p)
-      ∙ ap (λ (b : Bool). answers_one (half_test heading place p) (Dsb pe dsb) since || b) (x.half_at p);
+        half_is p
+        ∙ ap (λ (b : Bool). b || pe_in w.trace.half p) (answered_by w.half (half_test heading place) since x.half_open covers position pe dsb p)
+        ∙ ap (λ (b : Bool). answers_one (half_test heading place p) (Dsb pe dsb) since || b) (x.half_at p);
     cleansed_at = λ p. cleansed_part p;
     full_open = after_dsb w.full (full_test heading place) since x.full_open covers position pe dsb full full_is;
     half_open = after_dsb w.half (half_test heading place) since x.half_open covers position pe dsb half half_left;

@@ -9,10 +9,10 @@
 #![tactic(auto)]
 
 pub mod kept;
-pub mod search;
-pub mod trace;
 mod open;
 mod relation;
+pub mod search;
+pub mod trace;
 mod walk;
 
 pub use kept::{Covered, Kept};

@@ -124,9 +124,9 @@ impl Walk {
     fn write(&mut self, pe: Pe)
         ensures { (heading : Heading) (place value position : ℕ) (covers : ℕ → Grade)
             → Steps self.old self.new heading place (record {
-                event = Event.Write pe place value;
-                covers = covers;
-                position = position
+              event = Event.Write pe place value;
+              covers = covers;
+              position = position;
             }) }
     {
         self.writers = self.writers.or(PeMask::one(pe));
@@ -136,9 +136,9 @@ impl Walk {
     fn complete(&mut self, header: &Header, pe: Pe, dsb: Dsb)
         ensures { (place position : ℕ) (covers : ℕ → Grade)
             → Steps self.old self.new header.now place (record {
-                event = Event.Dsb pe dsb;
-                covers = covers;
-                position = position
+              event = Event.Dsb pe dsb;
+              covers = covers;
+              position = position;
             }) }
     {
         let seen = newly_seen(header, dsb, pe, self.writers);
@@ -156,17 +156,20 @@ impl Walk {
     fn issue(&mut self, header: &Header, pe: Pe, op: TlbiOp, cover: Cover)
         ensures { (place xt position : ℕ) (covers : ℕ → Grade) → covers place ≡ cover
             → Steps self.old self.new header.now place (record {
-                event = Event.Tlbi pe op xt;
-                covers = covers;
-                position = position
+              event = Event.Tlbi pe op xt;
+              covers = covers;
+              position = position;
             }) }
     {
         let broadcast = op.is_broadcast();
         let seen = reached(header, pe, broadcast, self.trace.seen);
         let half = reached(header, pe, broadcast, self.trace.half);
-        self.full.issue(pe, broadcast, if_same(cover, Cover::Full, seen));
-        self.half.issue(pe, broadcast, if_same(cover, Cover::Half, seen));
-        self.second.issue(pe, broadcast, if_same(cover, Cover::Second, half));
+        self.full
+            .issue(pe, broadcast, if_same(cover, Cover::Full, seen));
+        self.half
+            .issue(pe, broadcast, if_same(cover, Cover::Half, seen));
+        self.second
+            .issue(pe, broadcast, if_same(cover, Cover::Second, half));
     }
 
     /// Takes one more event, for this place.
