@@ -4,3 +4,4 @@ pub mod Lasts
 pub mod Opens
 pub mod Walks
 pub mod Phases
+pub mod Stops

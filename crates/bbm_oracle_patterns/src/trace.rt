@@ -92,11 +92,30 @@ pub(crate) fn has_every_pe(header: &Header, pes: PeMask) -> bool
     every_pe_of(header).minus(pes).is_empty()
 }
 
+// Whether the place is cleansed at every PE, where it is written in these events. No event behind that changes it.
+fn walk_to_cleansed(header: &Header, later: &[Kept], place: Place) -> bool
+    ensures { (before : ℕ) → result
+        ≡ held.cleansed_everywhere header.now Patterns place (notes_behind before (reverse later.now)) }
+{
+    let mut walk = Walk::new();
+    for kept in later {
+        walk.take(header, place, kept);
+        if has_every_pe(header, walk.trace.cleansed) {
+            return true;
+        }
+    }
+    has_every_pe(header, walk.trace.cleansed)
+}
+
 /// Whether the place is cleansed at every PE of the header by these events, oldest first: those after its last valid
-/// write, wherever they stand in the log.
+/// write, wherever they stand in the log. It stops at the event that makes it so.
 pub fn cleansed_everywhere(header: &Header, later: &[Kept], place: Place) -> bool
     ensures { (before : ℕ) → result
         ≡ held.cleansed_everywhere header.now Patterns place (notes_behind before (reverse later.now)) }
 {
-    has_every_pe(header, trace_of(header, later, place).cleansed)
+    if is_written(later, place) {
+        walk_to_cleansed(header, later, place)
+    } else {
+        has_every_pe(header, PeMask::none())
+    }
 }
