@@ -4,13 +4,12 @@ use Rattle.bbm_descriptor.specs.Descriptor.{is_valid}
 use Rattle.bbm_regimes.specs.EveryPe.{every_pe}
 use Rattle.bbm_regimes.specs.PeMask.{pe_in}
 use Rattle.bbm_rules.specs.Claims.{Patterns}
-use Rattle.bbm_rules.specs.Cleansing.{cleansed, half, seen}
+use Rattle.bbm_rules.specs.Cleansing.{cleansed, half}
 use Rattle.bbm_rules.specs.Held.{ValidWrite, cleansed_everywhere, last_valid}
 use Rattle.bbm_rules.specs.Notes.{Noted}
 use Rattle.bbm_rules.specs.Phases.{broken_phase}
 use Rattle.bbm_rules.specs.Prelude.{Heading, Kind}
-use Rattle.bbm_rules.specs.declared.phase.Phase.{Phase}
-use Rattle.bbm_rules.specs.declared.phase.Phase.TheVariants.{Clean, Live, Broken, Seen, Half, Cleansed}
+use Rattle.bbm_rules.specs.declared.phase.Phase.TheVariants.{Clean, Live}
 use Rattle.bbm_oracle_patterns.specs.Phases.{furthest, phase_at}
 use Rattle.bbm_oracle_patterns.specs.Walk.{Traces}
 use Rattle.bbm_oracle_patterns.specs.declared.trace.Trace.{Trace}

@@ -1,5 +1,5 @@
 -- A place that is cleansed stays so.
-use Rattle.std.proofs.Common.{◌≡◌, ℕ, ◌+◌, ◌<◌, ◌≤◌, Bool, true, false, ◌||◌, List, [], ◌∷◌, ◌++◌, length, take, drop, reverse, refl, sym, ◌∙◌, ap, subst, inl, inr}
+use Rattle.std.proofs.Common.{◌≡◌, ℕ, ◌+◌, ◌<◌, ◌≤◌, Bool, true, false, List, [], ◌∷◌, ◌++◌, length, get_or, take, drop, reverse, sym, ◌∙◌, ap, subst, inl, inr}
 use Rattle.std.proofs.lemmas.Bool.{or_cases, or_left, or_right}
 use Rattle.std.proofs.lemmas.List.{reverse-append, take-append-drop, take_all}
 use Rattle.bbm_regimes.specs.EveryPe.{every_pe}
@@ -11,12 +11,12 @@ use Rattle.bbm_rules.specs.Held.{cleansed_everywhere}
 use Rattle.bbm_rules.specs.Lists.{some}
 use Rattle.bbm_rules.specs.Notes.{Noted}
 use Rattle.bbm_rules.specs.Prelude.{Heading}
-use Rattle.bbm_oracle_patterns.specs.Kept.{notes_behind}
-use Rattle.bbm_oracle_patterns.specs.Walk.{IsWalk, Traces, full_test, second_test, some_writes}
+use Rattle.bbm_oracle_patterns.specs.Kept.{note_of, notes_behind}
+use Rattle.bbm_oracle_patterns.specs.Walk.{IsWalk, Steps, Traces, full_test, second_test, some_writes}
 use Rattle.bbm_oracle_patterns.specs.declared.kept.Kept.{Kept}
 use Rattle.bbm_oracle_patterns.specs.declared.walk.Walk.{Walk}
 use Rattle.bbm_oracle_patterns.proofs.Bits.{every_at, every_from, every_same}
-use Rattle.bbm_oracle_patterns.proofs.Lasts.{notes_append}
+use Rattle.bbm_oracle_patterns.proofs.Lasts.{notes_append, notes_more}
 use Rattle.bbm_oracle_patterns.proofs.Walks.{trace_unwritten}
 
 some_more : (test : Noted → List Noted → Bool) (newer older : List Noted) → some test older ≡ true → some test (newer ++ older) ≡ true
@@ -24,6 +24,14 @@ some_more test [] older k = k
 some_more test (n ∷ newer) older k = or_right (test n (newer ++ older)) (some test (newer ++ older)) (some_more test newer older k)
 
 module _ (heading : Heading) (place : ℕ) where
+  -- a walk that took one event more
+  pub walk_more : (w more : Walk) (before : ℕ) (ks : List Kept) (i : ℕ) (k : Kept) → i < length ks → k ≡ get_or ks i k →
+      ((b : ℕ) → Steps w more heading place (note_of b k)) →
+      IsWalk w heading place (notes_behind before (reverse (take i ks))) → IsWalk more heading place (notes_behind before (reverse (take (i + 1) ks)))
+  walk_more w more before ks i k below is taken x =
+      subst (λ (ns : List Noted). IsWalk more heading place ns) (sym (notes_more before ks i k below is))
+      (taken (before + length (reverse (take i ks))) (notes_behind before (reverse (take i ks))) x)
+
   cleansed_more : (p : ℕ) (newer older : List Noted) → cleansed heading Patterns place p older ≡ true → cleansed heading Patterns place p (newer ++ older) ≡ true
   cleansed_more p newer older k =
       let full : Noted → List Noted → Bool = λ n before. answers_one (full_test heading place p) n.event before in

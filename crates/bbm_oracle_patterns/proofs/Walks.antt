@@ -1,5 +1,5 @@
 -- A walk after one more event.
-use Rattle.std.proofs.Common.{◌≡◌, ℕ, suc, subst, reverse, ◌++◌, ◌+◌, length, Bool, true, false, ◌&&◌, ◌||◌, not, nat_eq, ◌==◌, List, [], ◌∷◌, refl, sym, ◌∙◌, ap}
+use Rattle.std.proofs.Common.{◌≡◌, ℕ, suc, subst, reverse, ◌+◌, length, Bool, true, false, ◌&&◌, ◌||◌, not, nat_eq, ◌==◌, List, [], ◌∷◌, refl, sym, ◌∙◌, ap}
 use Rattle.std.proofs.lemmas.Bool.{false≢true, eq-eqb, or_parts}
 use Rattle.std.proofs.lemmas.List.{reverse-append}
 use Rattle.std.proofs.lemmas.List.Folds.{list_any-append}
@@ -13,7 +13,7 @@ use Rattle.bbm_tlbi_scope.specs.Operations.{operation}
 use Rattle.bbm_rules.specs.Cleansing.{answers_one, publishes_write, same_cover, writes}
 use Rattle.bbm_rules.specs.Cleansing as spec
 use Rattle.bbm_rules.specs.Claims.{Patterns}
-use Rattle.bbm_rules.specs.Lists.{any, some}
+use Rattle.bbm_rules.specs.Lists.{some}
 use Rattle.bbm_rules.specs.Notes.{Noted, event_of}
 use Rattle.bbm_rules.specs.Prelude.{Barrier, Event, Heading, Dsb, Tlbi, Write}
 use Rattle.bbm_rules.specs.Reach.{Issued, still_open, unanswered}

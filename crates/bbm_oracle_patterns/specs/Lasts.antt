@@ -1,5 +1,5 @@
 -- What one event says of the last valid write. No public contract cites these words.
-use Rattle.std.specs.Prelude.{◌≡◌, ℕ, List, [], Option, Some, None}
+use Rattle.std.specs.Prelude.{◌≡◌, ℕ, [], Option, Some, None}
 use Rattle.bbm_rules.specs.Held.{ValidWrite, later, last_valid_after}
 use Rattle.bbm_rules.specs.Notes.{Noted}
 use Rattle.bbm_rules.specs.Prelude.{Event, Kind}

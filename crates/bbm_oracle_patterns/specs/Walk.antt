@@ -58,7 +58,8 @@ pub record IsWalk (w : Walk) (heading : Heading) (place : ℕ) (since : List Not
 
 -- where the walk has come to these events, and the other one behind it
 abbrev pub Steps : Walk → Walk → Heading → ℕ → Noted → Type 0
-Steps old new heading place n = (since : List Noted) → IsWalk old heading place since → IsWalk new heading place (n ∷ since)
+Steps old new heading place n =
+    (since : List Noted) → IsWalk old heading place since → IsWalk new heading place (n ∷ since)
 
 -- a trace of these events
 pub record Traces (t : Trace) (heading : Heading) (place : ℕ) (since : List Noted) : Type 0 where

@@ -4,8 +4,8 @@
 //! issue. The calls answer what the definitions of break-before-make say of the notes of the log, over every
 //! pattern of events: the last valid write of a place, the PEs at which it is seen, half and cleansed since, the
 //! value that it holds, and its phase. None takes memory. `last_valid` goes back from the newest event to the write,
-//! and `trace_of` goes once through what comes after it; so a call costs about the number of events, and with each TLBI
-//! behind a publication the length of its list of places.
+//! and `trace_of` goes once through what comes after it; `held` stops at the event by which the place is cleansed. So
+//! a call costs about the number of events, and for each TLBI behind a publication the length of its list of places.
 #![tactic(auto)]
 
 pub mod kept;

@@ -1,8 +1,7 @@
-use Rattle.std.proofs.Common.{◌≡◌, ◌-◌, get_or, arith, subst, sym, ◌∙◌}
+use Rattle.std.proofs.Common.{◌-◌, get_or, arith, subst}
 use Rattle.bbm_oracle_patterns.specs.Lasts.{TellsOf}
 use Rattle.bbm_oracle_patterns.specs.declared.search.Says.{Says}
-use Rattle.bbm_oracle_patterns.specs.declared.search.Says.TheVariants.{ItIs, NoWrite, Older}
-use Rattle.bbm_oracle_patterns.proofs.Lasts.{found_before, none_before, silent_before, silent_start, none_left}
+use Rattle.bbm_oracle_patterns.proofs.Lasts.{found_before, none_before, silent_before, none_left}
 use Rattle.bbm_oracle_patterns.proofs.search.last_valid.Goals as goal
 
 pub returns-in-ItIs-clause-found : goal.returns-in-ItIs-clause-found

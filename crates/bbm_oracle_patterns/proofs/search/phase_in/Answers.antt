@@ -1,4 +1,4 @@
-use Rattle.std.proofs.Common.{ℕ, ◌+◌, List, subst, true, false, drop, reverse, refl, sym, ◌∙◌}
+use Rattle.std.proofs.Common.{◌+◌, List, subst, true, false, drop, reverse, refl, sym, ◌∙◌}
 use Rattle.bbm_descriptor.specs.Descriptor.{is_valid}
 use Rattle.bbm_oracle_patterns.specs.Kept.{notes_behind, notes_of}
 use Rattle.std.proofs.lemmas.List.{take_rest}

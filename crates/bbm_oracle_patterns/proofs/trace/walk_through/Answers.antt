@@ -1,8 +1,5 @@
-use Rattle.std.proofs.Common.{ℕ, ◌+◌, List, length, reverse, take, sym, subst, arith}
-use Rattle.bbm_rules.specs.Notes.{Noted}
-use Rattle.bbm_oracle_patterns.specs.Kept.{notes_behind}
-use Rattle.bbm_oracle_patterns.specs.Walk.{IsWalk}
-use Rattle.bbm_oracle_patterns.proofs.Lasts.{notes_more}
+use Rattle.std.proofs.Common.{arith}
+use Rattle.bbm_oracle_patterns.proofs.Stops.{walk_more}
 use Rattle.bbm_oracle_patterns.proofs.trace.walk_through.Goals as goal
 
 pub loop-kept-init : goal.loop-kept-init
@@ -10,7 +7,5 @@ loop-kept-init c = λ before. c.new-walk.ensures c.args.header.now c.args.place
 
 pub loop-kept-preserved : goal.loop-kept-preserved
 loop-kept-preserved c = λ before.
-    subst (λ (ns : List Noted). IsWalk c.take.new.self c.args.header.now c.args.place ns)
-    (sym (notes_more before c.args.later.now c.loop-kept.kept-index c.kept-item.result (omega arith) c.kept-item.is))
-    (c.take.ensures (before + length (reverse (take c.loop-kept.kept-index c.args.later.now)))
-    (notes_behind before (reverse (take c.loop-kept.kept-index c.args.later.now))) (c.loop-kept.invariant before))
+    walk_more c.args.header.now c.args.place c.loop-kept.walk c.take.new.self before c.args.later.now c.loop-kept.kept-index c.kept-item.result
+    (omega arith) c.kept-item.is c.take.ensures (c.loop-kept.invariant before)
