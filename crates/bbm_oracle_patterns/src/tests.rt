@@ -3,7 +3,7 @@
 use crate::{Covered, Kept, cleansed_everywhere, held, last_valid, phase_in, trace_of};
 use bbm_barriers::{Domain, Dsb, Types};
 use bbm_events::{Event, Header};
-use bbm_regimes::{Kind, Pe, Place, World};
+use bbm_regimes::{HypWorld, Kind, Pe, Place, World};
 use bbm_rules::Phase;
 use bbm_tlbi_scope::{Cover, TlbiOp};
 use std::alloc::Global;
@@ -39,11 +39,11 @@ const PES: Header = Header {
     version: 2,
     pes: 2,
     cnp: false,
-    world: World::Hyp {
+    world: World::Hyp(HypWorld {
         el2_start: 1,
         s2_start: 1,
         s2_pages: 1,
-    },
+    }),
 };
 
 const SHARED: Header = Header { cnp: true, ..PES };
