@@ -118,16 +118,14 @@ fn all_numbered(values: &[u64], number: u16) -> bool
 fn one_number(values: &[u64]) -> Option<u16>
     ensures { result ≡ only_number (map spec.tag_number values.now) }
 {
-    match values {
-        [] => None,
-        [first, rest @ ..] => {
-            let number = tag_number(*first);
-            if all_numbered(rest, number) {
-                Some(number)
-            } else {
-                None
-            }
-        }
+    if values.is_empty() {
+        return None;
+    }
+    let number = tag_number(values[0]);
+    if all_numbered(values, number) {
+        Some(number)
+    } else {
+        None
     }
 }
 

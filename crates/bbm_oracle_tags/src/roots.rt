@@ -144,14 +144,37 @@ pub fn root_at(events: &[Event], page: u64) -> Option<Declared>
     root
 }
 
+// Whether the page is the first of a root of the kind, after one more event.
+fn is_root_after(before: bool, event: &Event, kind: Kind, page: u64) -> bool
+    ensures { (h : List Event) → before ≡ spec.is_root h kind page → result ≡ spec.is_root (event.now ∷ h) kind page }
+{
+    match *event {
+        Event::Root {
+            pe: _,
+            kind: declared,
+            lock: _,
+            page: at,
+        } => {
+            if at.get() == page {
+                same_kind(declared, kind)
+            } else {
+                before
+            }
+        }
+        Event::Unroot { pe: _, page: at } => { if at.get() == page { false } else { before } }
+        _ => before,
+    }
+}
+
 /// Whether a root of the kind is declared whose first page has this address, in bytes. Source: project's own choice.
 pub fn is_root(events: &[Event], kind: Kind, page: u64) -> bool
     ensures { result ≡ spec.is_root (reverse events.now) kind page }
 {
-    match root_at(events, page) {
-        Some(root) => same_kind(root.kind, kind),
-        None => false,
+    let mut found = false;
+    for event in events {
+        found = is_root_after(found, event, kind, page);
     }
+    found
 }
 
 /// The lock that the root with this first page names, by its address in bytes; None where it names none or no root is

@@ -1,14 +1,14 @@
 //! The rules that need no tree. Each function says whether an event breaks its rule after the given events: None where it
 //! doesn't, else the number that is reported as `at`. Each contract speaks of every annotated history of these events.
 
-ghost use Rattle.std.specs.Prelude.{◌≡◌, not, ◌||◌, nat_lt, length, ◌∷◌, ◌++◌, [], List, reverse, IfOk, OnOk};
+ghost use Rattle.std.specs.Prelude.{◌≡◌, not, ◌&&◌, ◌||◌, nat_lt, length, option_and_then, ◌∷◌, ◌++◌, [], List, reverse, IfOk, OnOk};
 ghost use Rattle.bbm_regimes.specs.declared.regime.Reg.TheVariants.{Ttbr0El1};
 ghost use Rattle.bbm_regimes.specs.declared.regime.Tag.{Tag as TheTag};
 ghost use Rattle.bbm_events.specs.Heading.{Heading};
 ghost use Rattle.bbm_events.specs.declared.event.Event.{Event};
 ghost use Rattle.bbm_rules.specs.Claims.{Patterns};
 ghost use Rattle.bbm_rules.specs.Lists as lists;
-ghost use Rattle.bbm_rules.specs.Lists.{◌>>=◌, any, is_that, some_pe};
+ghost use Rattle.bbm_rules.specs.Lists.{any, is_that, some_pe};
 ghost use Rattle.bbm_rules.specs.Notes.{Noted, events_of};
 ghost use Rattle.bbm_rules.specs.Pages as pages;
 ghost use Rattle.bbm_rules.specs.Registers as registers;
@@ -43,6 +43,14 @@ fn asks_to_share(header: &Header, value: u64) -> bool
     header.version >= 2 && !header.cnp && value % 2 == 1
 }
 
+// Whether a write of the register is none of the world, or asks to share.
+fn is_wrong_write(header: &Header, reg: Reg, value: u64) -> bool
+    ensures { (h : List Noted) → result ≡ (not (roots.kind_in_world header.now.world (registers.kind_of_reg reg))
+        || spec.asks_to_share header.now Patterns h value) }
+{
+    !kind_in_world(header, kind_of(reg)) || asks_to_share(header, value)
+}
+
 /// 1, wrong-world: the event has a root kind, a register or a TLBI operation that isn't of the header's world, or is a
 /// `null` in the Hyp world, or an `msr` of a value with bit 0 set under a header of version 2 or later without `cnp`. At: 0.
 /// Source: project's own choice.
@@ -51,10 +59,7 @@ pub fn wrong_world(header: &Header, event: &Event) -> Option<u64>
 {
     match *event {
         Event::Root { kind, .. } => if_so(!kind_in_world(header, kind), 0),
-        Event::Msr { pe: _, reg, value } => if_so(
-            !kind_in_world(header, kind_of(reg)) || asks_to_share(header, value),
-            0,
-        ),
+        Event::Msr { pe: _, reg, value } => if_so(is_wrong_write(header, reg, value), 0),
         Event::Tlbi { op, .. } => if_so(!op.of_world(header.world), 0),
         Event::Null { .. } => if_so(kind_in_world(header, Kind::S2), 0),
         _ => None,
@@ -65,8 +70,8 @@ pub fn wrong_world(header: &Header, event: &Event) -> Option<u64>
 /// else the number `at`. Rule 2, no-lock, asks it of an `unroot` of the page, and of a write of a place in the root's tree.
 /// Source: project's own choice.
 pub fn without_lock(events: &[Event], pe: Pe, root: u64, at: u64) -> Option<u64>
-    ensures { result ≡ (roots.lock_of (reverse events.now) root
-        >>= (λ lock. lists.if_so (spec.lacks (reverse events.now) pe lock) at)) }
+    ensures { result ≡ option_and_then (λ lock. lists.if_so (spec.lacks (reverse events.now) pe lock) at)
+        (roots.lock_of (reverse events.now) root) }
 {
     match lock_of(events, root) {
         Some(lock) => if_so(locks::lacks(events, pe, lock), at),

@@ -1,7 +1,8 @@
 //! Which tags a root holds.
 
-ghost use Rattle.std.specs.Prelude.{◌≡◌, ◌==◌, ◌&&◌, ◌||◌, Bool, true, reverse, IfOk, OnOk};
+ghost use Rattle.std.specs.Prelude.{◌≡◌, ℕ, List, ◌∷◌, ◌==◌, ◌&&◌, ◌||◌, Bool, true, reverse, IfOk, OnOk};
 ghost use Rattle.bbm_regimes.specs.declared.regime.Tag.{Tag as TheTag};
+ghost use Rattle.bbm_events.specs.declared.event.Event.{Event as TheEvent};
 ghost use Rattle.bbm_rules.specs.Claims.{Patterns, same_tag as is_same_tag};
 ghost use Rattle.bbm_rules.specs.Tags as spec;
 ghost use Rattle.bbm_oracle_tags.specs.Moments as moments;
@@ -99,6 +100,28 @@ fn add_readings(tags: &mut Vec<Tag>, readings: &[Reading], root: u64) -> Result<
     Ok(())
 }
 
+// Adds the tags that are readable for the root after the event, unless they are those from before it.
+fn add_read_now(
+    alloc: Global,
+    tags: &mut Vec<Tag>,
+    moment: &Moment,
+    header: &Header,
+    event: &Event,
+    root: u64,
+) -> Result<(), NoMemory>
+    ensures kept { OnOk result ((g : TheTag) → sets.has_tag g tags.old.items ≡ true → sets.has_tag g tags.new.items ≡ true) }
+    ensures added { OnOk result ((p : ℕ) (h : List TheEvent) → moments.IsMoment header.now.world p (event.now ∷ h) moment.now
+        → ((g : TheTag) → sets.was_read header.now p root g h ≡ true → sets.has_tag g tags.old.items ≡ true)
+        → (g : TheTag) → sets.was_read header.now p root g (event.now ∷ h) ≡ true → sets.has_tag g tags.new.items ≡ true) }
+{
+    if changes_readings(event) {
+        let readings = moment.readings(alloc, header)?;
+        add_readings(tags, &readings, root)
+    } else {
+        Ok(())
+    }
+}
+
 // Adds the tags that were readable for the root at the PE at some moment.
 fn add_read_at(
     alloc: Global,
@@ -115,10 +138,7 @@ fn add_read_at(
     let mut moment = Moment::new(alloc)?;
     for event in events {
         moment.take(header, event, pe)?;
-        if changes_readings(event) {
-            let readings = moment.readings(alloc, header)?;
-            add_readings(tags, &readings, root)?;
-        }
+        add_read_now(alloc, tags, &moment, header, event, root)?;
     }
     Ok(())
 }

@@ -190,6 +190,13 @@ fn awaiting_after(pes: PeMask, event: &Event, cast: bool, takes: bool, reads_som
     }
 }
 
+// Whether the root holds the tag after an event.
+fn holds_after(reads: bool, holds: bool, lost: bool) -> bool
+    ensures { result ≡ (reads || (holds && not lost)) }
+{
+    reads || (holds && !lost)
+}
+
 impl Watch {
     ghost use Rattle.bbm_oracle_tags.specs.Watches.{IsWatch};
 
@@ -247,12 +254,12 @@ impl Watch {
         ensures { OnOk result (IsWatch header.now pe root tag (reverse before.now) self.old
             → IsWatch header.now pe root tag (event.now ∷ reverse before.now) self.new) }
     {
-        let takes = takes(alloc, header, before, event, pe, tag, self.reads_some)?;
+        let whole = takes(alloc, header, before, event, pe, tag, self.reads_some)?;
         let lost = loses(event, self.broadcast, self.local);
         self.look(alloc, header, event, pe, root, tag)?;
-        self.holds = self.reads || (self.holds && !lost);
-        self.local = awaiting_after(self.local, event, false, takes, self.reads_some);
-        self.broadcast = awaiting_after(self.broadcast, event, true, takes, self.reads_some);
+        self.holds = holds_after(self.reads, self.holds, lost);
+        self.local = awaiting_after(self.local, event, false, whole, self.reads_some);
+        self.broadcast = awaiting_after(self.broadcast, event, true, whole, self.reads_some);
         Ok(())
     }
 }

@@ -1,0 +1,8 @@
+mod BoolLemmas
+pub mod MomentLemmas
+pub mod NumberLemmas
+pub mod PlaceLemmas
+pub mod RootLemmas
+pub mod RuleLemmas
+pub mod TagLemmas
+pub mod WatchLemmas
