@@ -1,4 +1,5 @@
 mod BoolLemmas
+pub mod ListLemmas
 pub mod MomentLemmas
 pub mod NumberLemmas
 pub mod PlaceLemmas

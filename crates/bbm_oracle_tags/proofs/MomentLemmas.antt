@@ -82,3 +82,16 @@ readings-more {Y} f xs i now old start lt before here =
     ∙ ap (λ (ys : List Y). start ++ ys) (sym (ap (λ (zs : List ℕ). filter_map f zs) (take_more xs i 0 lt)
     ∙ filter_map-append f (take i xs) (get_or xs i 0 ∷ [])
     ∙ ap (λ (ys : List Y). filter_map f (take i xs) ++ ys) (cons-nothing (f (get_or xs i 0)))))
+
+-- the two tests of what is readable, by the lists that are kept
+pub reads-by : (heading : Heading) (h : List Event) (p : ℕ) (m : Moment) (rs : List Reading) (tag : Tag) (root : ℕ)
+    → IsMoment heading.world p h m → rs ≡ readings_by heading.world m.roots.items m.first.items m.second.items
+    → is_read rs tag root ≡ reads heading h p tag root
+reads-by heading h p m rs tag root k e =
+    ap (λ (rs : List Reading). is_read rs tag root) (e ∙ moment-readings heading.world h p m k)
+
+pub reads-some-by : (heading : Heading) (h : List Event) (p : ℕ) (m : Moment) (rs : List Reading) (tag : Tag)
+    → IsMoment heading.world p h m → rs ≡ readings_by heading.world m.roots.items m.first.items m.second.items
+    → is_read_for_some rs tag ≡ reads_for_some heading h p tag
+reads-some-by heading h p m rs tag k e =
+    ap (λ (rs : List Reading). is_read_for_some rs tag) (e ∙ moment-readings heading.world h p m k)

@@ -1,6 +1,7 @@
 -- What the rules add to the questions that they ask.
-use Rattle.std.proofs.Common.{◌≡◌, ℕ, Bool, true, false, not, ◌&&◌, ◌||◌, ◌==◌, nat_lt, List, [], ◌∷◌, ◌++◌, length, reverse, map, filter, Option, refl, sym, ap, ◌∙◌}
+use Rattle.std.proofs.Common.{◌≡◌, ℕ, Bool, true, false, not, ◌&&◌, ◌||◌, ◌==◌, nat_lt, List, [], ◌∷◌, ◌++◌, length, reverse, map, filter, Option, refl, sym, ap, ◌∙◌, arith}
 use Rattle.std.specs.List.{list_any, flat_map}
+use Rattle.std.proofs.lemmas.Bool.{lt-ltb}
 use Rattle.std.proofs.lemmas.List.{map-append, reverse-append}
 use Rattle.std.proofs.lemmas.List.Elements.{filter-append}
 use Rattle.std.proofs.lemmas.List.Folds.{list_any-append}
@@ -54,7 +55,7 @@ pub some-tag : (gs : List Tag) (set : TagSet) (some : Bool) → set ≡ tag_set 
     → ((t : Tag) → set ≡ One t → some ≡ true) → (set ≡ Many → some ≡ true) → some ≡ nat_lt 0 (length gs)
 some-tag [] set some e none one many = none e
 some-tag (g ∷ []) set some e none one many = one g e
-some-tag (g ∷ k ∷ gs) set some e none one many = many e
+some-tag (g ∷ k ∷ gs) set some e none one many = many e ∙ sym (lt-ltb 0 (length (g ∷ k ∷ gs)) (omega arith))
 
 -- one more root
 pub holders-push : (heading : Heading) (after : List Event) (reading : Reading) (rs : List Declared) (r : Declared)

@@ -1,9 +1,11 @@
 -- Which tags a root may hold, those that it holds, and the set of them.
-use Rattle.std.proofs.Common.{◌≡◌, ℕ, zero, suc, ◌<◌, Bool, true, false, not, ◌&&◌, ◌||◌, ◌==◌, eqb, cond, List, [], ◌∷◌, length, refl, sym, ap, ◌∙◌, arith, true≢false}
-use Rattle.std.proofs.lemmas.Bool.{eqb-true, eqb-false}
+use Rattle.std.proofs.Common.{◌≡◌, ℕ, zero, suc, ◌+◌, ◌<◌, take, get_or, Bool, true, false, not, ◌&&◌, ◌||◌, ◌==◌, eqb, cond, List, [], ◌∷◌, length, refl, sym, ap, ◌∙◌, arith, true≢false}
+use Rattle.std.proofs.lemmas.Bool.{eqb-true, eqb-false, and_from}
+use Rattle.std.proofs.lemmas.List.Folds.{list_any_more}
 use Rattle.bbm_tlbi_scope.specs.declared.entry.TagSet.{TagSet}
 use Rattle.bbm_tlbi_scope.specs.declared.entry.TagSet.TheVariants.{None as NoTag, One, Many}
 use Rattle.bbm_rules.specs.Prelude.{Heading, Event, Tag}
+use Rattle.bbm_rules.specs.Changes.{changes}
 use Rattle.bbm_rules.specs.Claims.{Patterns, same_tag}
 use Rattle.bbm_rules.specs.Lists.{any, below, some_pe}
 use Rattle.bbm_rules.specs.Tags.{holds_at, holds_tag, loses, reads, tag_set, tags_of}
@@ -19,23 +21,25 @@ no-pe (suc n) test all =
 
 pub one-pe : (n : ℕ) (test : ℕ → Bool) (p : ℕ) → p < n → test p ≡ true → some_pe n test ≡ true
 one-pe zero test p lt k = absurd (omega arith)
-one-pe (suc n) test p lt k = by_case (eqb p n) refl
+one-pe (suc n) test p lt k = by_case (eqb p n) refl (λ below. one-pe n test p below k)
   where
     or-true : (a : Bool) → (a || true) ≡ true
     or-true true = refl
     or-true false = refl
 
-    by_case : (b : Bool) → eqb p n ≡ b → (test n || some_pe n test) ≡ true
-    by_case true e = ap (λ (b : Bool). b || some_pe n test) (ap test (sym (eqb-true p n e)) ∙ k)
-    by_case false e = ap (λ (b : Bool). test n || b) (one-pe n test p (let apart : p ≡ n → ⊥ = eqb-false p n e in omega arith) k) ∙ or-true (test n)
+    by_case : (b : Bool) → eqb p n ≡ b → (p < n → some_pe n test ≡ true) → (test n || some_pe n test) ≡ true
+    by_case true e rest = ap (λ (b : Bool). b || some_pe n test) (ap test (sym (eqb-true p n e)) ∙ k)
+    by_case false e rest =
+        ap (λ (b : Bool). test n || b) (rest (let apart : p ≡ n → ⊥ = eqb-false p n e in omega arith)) ∙ or-true (test n)
 
 pub found-pe : (n : ℕ) (test : ℕ → Bool) → some_pe n test ≡ true → (p : ℕ) × (p < n) × (test p ≡ true)
 found-pe zero test k = absurd (true≢false (sym k))
-found-pe (suc n) test k = by_case (test n) refl k
+found-pe (suc n) test k = by_case (test n) refl k (λ l. found-pe n test l)
   where
-    by_case : (b : Bool) → test n ≡ b → (b || some_pe n test) ≡ true → (p : ℕ) × (p < suc n) × (test p ≡ true)
-    by_case true e k = (n, omega arith, e)
-    by_case false e k = let f = found-pe n test k in (f.0, (let lt : f.0 < n = f.1 in omega arith), f.2)
+    by_case : (b : Bool) → test n ≡ b → (b || some_pe n test) ≡ true
+        → (some_pe n test ≡ true → (p : ℕ) × (p < n) × (test p ≡ true)) → (p : ℕ) × (p < suc n) × (test p ≡ true)
+    by_case true e k rest = (n, omega arith, e)
+    by_case false e k rest = let f = rest k in (f.0, (let lt : f.0 < n = f.1 in omega arith), f.2)
 
 -- ---- tags that were read
 
@@ -48,19 +52,30 @@ pub held-was-read : (heading : Heading) (p root : ℕ) (tag : Tag) (h : List Eve
     → was_read heading p root tag h ≡ true
 held-was-read heading p root tag [] k = k
 held-was-read heading p root tag (e ∷ h) k =
-    by_case (reads heading (e ∷ h) p tag root) k
+    by_case (reads heading (e ∷ h) p tag root) k (λ l. held-was-read heading p root tag h l)
   where
     by_case : (b : Bool) → (b || (holds_at heading Patterns p root tag h && not (loses heading Patterns p tag e h))) ≡ true
+        → (holds_at heading Patterns p root tag h ≡ true → was_read heading p root tag h ≡ true)
         → (b || was_read heading p root tag h) ≡ true
-    by_case true k = refl
-    by_case false k = held-was-read heading p root tag h
-        (first-part (holds_at heading Patterns p root tag h) (not (loses heading Patterns p tag e h)) k)
+    by_case true k rest = refl
+    by_case false k rest = rest (first-part (holds_at heading Patterns p root tag h) (not (loses heading Patterns p tag e h)) k)
 
 -- what is read now was read
 pub reads-was-read : (heading : Heading) (p root : ℕ) (tag : Tag) (h : List Event) → reads heading h p tag root ≡ true
     → was_read heading p root tag h ≡ true
 reads-was-read heading p root tag [] k = absurd (true≢false (sym k ∙ reads-nothing heading p tag root))
 reads-was-read heading p root tag (e ∷ h) k = ap (λ (b : Bool). b || was_read heading p root tag h) k
+
+-- after an event that changes nothing of it
+pub was-read-before : (heading : Heading) (p root : ℕ) (tag : Tag) (e : Event) (h : List Event)
+    → ((changes e).roots || (changes e).registers) ≡ false → was_read heading p root tag (e ∷ h) ≡ true
+    → was_read heading p root tag h ≡ true
+was-read-before heading p root tag e h k read = by_case (reads heading (e ∷ h) p tag root) refl read
+  where
+    by_case : (b : Bool) → reads heading (e ∷ h) p tag root ≡ b → (b || was_read heading p root tag h) ≡ true
+        → was_read heading p root tag h ≡ true
+    by_case true r l = reads-was-read heading p root tag h (sym (same-reads heading e h p tag root k) ∙ r)
+    by_case false r l = l
 
 -- ---- lists of tags
 
@@ -94,3 +109,46 @@ pub set-same : (test other : Tag → Bool) (set : TagSet) → ((g : Tag) → tes
 set-same test other NoTag same has = λ g. sym (same g) ∙ has g
 set-same test other (One t) same has = λ g. sym (same g) ∙ has g
 set-same test other Many same has = (has.0, has.1, has.2, sym (same has.0) ∙ has.3, sym (same has.1) ∙ has.4)
+
+-- ---- the tags of a list that a root holds
+
+module _ (decides : (g k : Tag) → same_tag g k ≡ true → g ≡ k) where
+  -- the tag is held
+  pub hit-held : (holds : Tag → Bool) (tag : Tag) → same_tag tag tag ≡ true → holds tag ≡ true → (same_tag tag tag && holds tag) ≡ true
+  hit-held holds tag same held = and_from (same_tag tag tag) (holds tag) same held
+
+  pub hit-same : (holds : Tag → Bool) (tag g : Tag) → (same_tag tag g && holds g) ≡ true → g ≡ tag
+  hit-same holds tag g k = sym (decides tag g (first-part (same_tag tag g) (holds g) k))
+
+  -- it isn't
+  pub missed : (test holds : Tag → Bool) (tag : Tag) → holds tag ≡ false → (g : Tag) → test g ≡ (test g || (same_tag tag g && holds g))
+  missed test holds tag none g = by_case (same_tag tag g) refl
+    where
+      or-nothing : (b : Bool) → b ≡ (b || false)
+      or-nothing true = refl
+      or-nothing false = refl
+
+      by_case : (b : Bool) → same_tag tag g ≡ b → test g ≡ (test g || (b && holds g))
+      by_case true e = or-nothing (test g) ∙ ap (λ (b : Bool). test g || b) (sym (ap holds (sym (decides tag g e)) ∙ none))
+      by_case false e = or-nothing (test g)
+
+-- one more tag of the list
+pub one-more : (holds : Tag → Bool) (tags : List Tag) (i : ℕ) (tag g : Tag) → i < length tags → tag ≡ get_or tags i tag
+    → ((has_tag g (take i tags) && holds g) || (same_tag tag g && holds g)) ≡ (has_tag g (take (i + 1) tags) && holds g)
+one-more holds tags i tag g lt is =
+    both (has_tag g (take i tags)) (same_tag tag g) (holds g)
+    ∙ ap (λ (b : Bool). b && holds g) (ap (λ (t : Tag). has_tag g (take i tags) || same_tag t g) is
+    ∙ sym (list_any_more (λ t. same_tag t g) tags i tag lt))
+  where
+    both : (a b c : Bool) → ((a && c) || (b && c)) ≡ ((a || b) && c)
+    both true true true = refl
+    both true true false = refl
+    both true false true = refl
+    both true false false = refl
+    both false b c = refl
+
+-- a test that follows from the other
+pub implied : (a b : Bool) → (b ≡ true → a ≡ true) → (a && b) ≡ b
+implied true b k = refl
+implied false true k = k refl
+implied false false k = refl

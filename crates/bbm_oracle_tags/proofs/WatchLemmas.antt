@@ -2,6 +2,7 @@
 use Rattle.std.proofs.Common.{◌≡◌, ℕ, zero, suc, ◌<◌, ◌≤◌, Bool, true, false, not, ◌&&◌, ◌||◌, cond, ◌==◌, nat_le, List, [], ◌∷◌, length, filter, refl, sym, ap, ◌∙◌, arith, true≢false}
 use Rattle.std.proofs.lemmas.Bool.{le-leb, leb-true}
 use Rattle.std.proofs.lemmas.Map.Views.{any-filter_same}
+use Rattle.bbm_regimes.specs.PeMask.{pe_in}
 use Rattle.bbm_barriers.specs.Options.{answers}
 use Rattle.bbm_tlbi_scope.specs.Operations.{operation}
 use Rattle.bbm_rules.specs.Prelude.{Barrier, Heading, Event, Dsb, Tlbi, Tag}
@@ -9,12 +10,13 @@ use Rattle.bbm_rules.specs.Claims.{Patterns}
 use Rattle.bbm_rules.specs.Lists.{any}
 use Rattle.bbm_rules.specs.Reach.{Issued, completes, left_open, reaches, unanswered}
 use Rattle.bbm_rules.specs.Tags.{holds_at, is_taken_by, itself, loses, read_since, reads, reads_for_some, takes_tag}
-use Rattle.bbm_oracle_tags.specs.Watches.{awaits, awaits_after, is_cast, loses_by, would_take}
+use Rattle.bbm_oracle_tags.specs.Watches.{IsWatch, Looks, awaits, awaits_after, is_cast, loses_by, would_take}
+use Rattle.bbm_oracle_tags.specs.declared.watch.Watch.{Watch}
 use Rattle.bbm_oracle_tags.proofs.BoolLemmas.{and-false, and-true, read-later, read-now, and-or, and-swap, told-twice, taken-broadcast, taken-local, taken-never, taken-both}
 use Rattle.bbm_oracle_tags.proofs.MomentLemmas.{same-reads-some}
 
 -- each of the TLBIs was issued before so many events had come
-older : ℕ → List (Issued Event) → Type 0
+abbrev older : ℕ → List (Issued Event) → Type 0
 older n [] = Unit {0}
 older n (t ∷ ts) = (length t.before < n) × older n ts
 
@@ -24,30 +26,28 @@ older-more n m (t ∷ ts) le k = (let l : length t.before < n = k.0 in omega ari
 
 older-left : (n : ℕ) (dsb : Barrier) (ts : List (Issued Event)) → older n ts → older n (left_open itself dsb ts)
 older-left n dsb [] k = tt
-older-left n dsb (t ∷ ts) k = by_case (not (completes dsb t.tlbi))
+older-left n dsb (t ∷ ts) k = by_case (not (completes dsb t.tlbi)) (older-left n dsb ts k.1)
   where
-    by_case : (b : Bool) → older n (cond b (t ∷ left_open itself dsb ts) (left_open itself dsb ts))
-    by_case true = (k.0, older-left n dsb ts k.1)
-    by_case false = older-left n dsb ts k.1
+    by_case : (b : Bool) → older n (left_open itself dsb ts) → older n (cond b (t ∷ left_open itself dsb ts) (left_open itself dsb ts))
+    by_case true rest = (k.0, rest)
+    by_case false rest = rest
 
 open-older : (q : ℕ) (h : List Event) → older (length h) (unanswered itself q h)
 open-older q [] = tt
-open-older q (Tlbi pe op xt ∷ h) = by_case (pe == q)
+open-older q (Tlbi pe op xt ∷ h) =
+    by_case (pe == q) (older-more (length h) (suc (length h)) (unanswered itself q h) (omega arith) (open-older q h))
   where
-    rest : older (suc (length h)) (unanswered itself q h)
-    rest = older-more (length h) (suc (length h)) (unanswered itself q h) (omega arith) (open-older q h)
-
-    by_case : (b : Bool) → older (suc (length h)) (cond b (record { tlbi = Tlbi pe op xt; before = h } ∷ unanswered itself q h) (unanswered itself q h))
-    by_case true = (omega arith, rest)
-    by_case false = rest
-open-older q (Dsb pe dsb ∷ h) = by_case (pe == q)
+    by_case : (b : Bool) → older (suc (length h)) (unanswered itself q h)
+        → older (suc (length h)) (cond b (record { tlbi = Tlbi pe op xt; before = h } ∷ unanswered itself q h) (unanswered itself q h))
+    by_case true rest = (omega arith, rest)
+    by_case false rest = rest
+open-older q (Dsb pe dsb ∷ h) =
+    by_case (pe == q) (older-more (length h) (suc (length h)) (unanswered itself q h) (omega arith) (open-older q h))
   where
-    rest : older (suc (length h)) (unanswered itself q h)
-    rest = older-more (length h) (suc (length h)) (unanswered itself q h) (omega arith) (open-older q h)
-
-    by_case : (b : Bool) → older (suc (length h)) (cond b (left_open itself dsb (unanswered itself q h)) (unanswered itself q h))
-    by_case true = older-left (suc (length h)) dsb (unanswered itself q h) rest
-    by_case false = rest
+    by_case : (b : Bool) → older (suc (length h)) (unanswered itself q h)
+        → older (suc (length h)) (cond b (left_open itself dsb (unanswered itself q h)) (unanswered itself q h))
+    by_case true rest = older-left (suc (length h)) dsb (unanswered itself q h) rest
+    by_case false rest = rest
 open-older q (e ∷ h) = older-more (length h) (suc (length h)) (unanswered itself q h) (omega arith) (open-older q h)
 
 module _ (heading : Heading) (p : ℕ) (tag : Tag) where
@@ -202,3 +202,57 @@ module _ (heading : Heading) (p : ℕ) (tag : Tag) where
       ≡ loses_by e (awaits heading p tag h true) (awaits heading p tag h false)
   loses-next (Dsb q dsb) h = all-taken q dsb h (unanswered itself q h) (open-older q h)
   loses-next e h = refl
+
+  -- ---- what is kept, after one more event
+
+  loses-same : (e : Event) (f f' g g' : ℕ → Bool) → ((q : ℕ) → f q ≡ f' q) → ((q : ℕ) → g q ≡ g' q) → loses_by e f g ≡ loses_by e f' g'
+  loses-same (Dsb q dsb) f f' g g' i j =
+      ap (λ (b : Bool). (answers dsb true && b) || (answers dsb false && g q)) (i q)
+      ∙ ap (λ (b : Bool). (answers dsb true && f' q) || (answers dsb false && b)) (j q)
+  loses-same e f f' g g' i j = refl
+
+  -- where the tag is readable before the event, it doesn't matter what is told of a TLBI
+  same-whole : (e : Event) (h : List Event) (cast whole : Bool) (q : ℕ) (b : Bool)
+      → (reads_for_some heading h p tag ≡ false → whole ≡ (reaches heading e p && takes_tag heading e h tag))
+      → awaits_after cast whole (reads_for_some heading (e ∷ h) p tag) e q b
+      ≡ awaits_after cast (reaches heading e p && takes_tag heading e h tag) (reads_for_some heading (e ∷ h) p tag) e q b
+  same-whole (Tlbi pe op xt) h cast whole q b k = by_case (reads_for_some heading (Tlbi pe op xt ∷ h) p tag) refl
+    where
+      by_case : (s : Bool) → reads_for_some heading (Tlbi pe op xt ∷ h) p tag ≡ s → awaits_after cast whole s (Tlbi pe op xt) q b
+          ≡ awaits_after cast (reaches heading (Tlbi pe op xt) p && takes_tag heading (Tlbi pe op xt) h tag) s (Tlbi pe op xt) q b
+      by_case true e = refl
+      by_case false e = ap (λ (w : Bool). (pe == q && (is_cast cast (Tlbi pe op xt) && w)) || b)
+          (k (sym (same-reads-some heading (Tlbi pe op xt) h p tag refl) ∙ e))
+  same-whole e h cast whole q b k = refl
+
+  awaits-kept : (e : Event) (h : List Event) (cast whole some : Bool) (q : ℕ) (before after : Bool)
+      → (reads_for_some heading h p tag ≡ false → whole ≡ (reaches heading e p && takes_tag heading e h tag))
+      → some ≡ reads_for_some heading (e ∷ h) p tag → before ≡ awaits heading p tag h cast q
+      → after ≡ awaits_after cast whole some e q before → after ≡ awaits heading p tag (e ∷ h) cast q
+  awaits-kept e h cast whole some q before after k i j l =
+      l ∙ ap (λ (s : Bool). awaits_after cast whole s e q before) i
+      ∙ ap (λ (b : Bool). awaits_after cast whole (reads_for_some heading (e ∷ h) p tag) e q b) j
+      ∙ same-whole e h cast whole q (awaits heading p tag h cast q) k
+      ∙ sym (awaits-next e h cast q)
+
+  pub watch-next : (root : ℕ) (e : Event) (h : List Event) (old new : Watch) (whole lost : Bool)
+      → IsWatch heading p root tag h old → Looks heading p root tag (e ∷ h) new
+      → (old.reads_some ≡ false → whole ≡ (reaches heading e p && takes_tag heading e h tag))
+      → lost ≡ loses_by e (pe_in old.broadcast) (pe_in old.local)
+      → new.holds ≡ (new.reads || (old.holds && not lost))
+      → ((q : ℕ) → pe_in new.local q ≡ awaits_after false whole new.reads_some e q (pe_in old.local q))
+      → ((q : ℕ) → pe_in new.broadcast q ≡ awaits_after true whole new.reads_some e q (pe_in old.broadcast q))
+      → IsWatch heading p root tag (e ∷ h) new
+  watch-next root e h old new whole lost k looks taken losing holding local broadcast = record {
+    looks = looks;
+    holds = holding
+        ∙ ap (λ (b : Bool). b || (old.holds && not lost)) looks.reads
+        ∙ ap (λ (b : Bool). reads heading (e ∷ h) p tag root || (b && not lost)) k.holds
+        ∙ ap (λ (b : Bool). reads heading (e ∷ h) p tag root || (holds_at heading Patterns p root tag h && not b))
+        (losing ∙ loses-same e (pe_in old.broadcast) (awaits heading p tag h true) (pe_in old.local) (awaits heading p tag h false) k.broadcast k.local
+        ∙ sym (loses-next e h));
+    local = λ q. awaits-kept e h false whole new.reads_some q (pe_in old.local q) (pe_in new.local q)
+        (λ none. taken (k.looks.reads_some ∙ none)) looks.reads_some (k.local q) (local q);
+    broadcast = λ q. awaits-kept e h true whole new.reads_some q (pe_in old.broadcast q) (pe_in new.broadcast q)
+        (λ none. taken (k.looks.reads_some ∙ none)) looks.reads_some (k.broadcast q) (broadcast q);
+  }

@@ -1,7 +1,7 @@
 //! The rules that need no tree. Each function says whether an event breaks its rule after the given events: None where it
 //! doesn't, else the number that is reported as `at`. Each contract speaks of every annotated history of these events.
 
-ghost use Rattle.std.specs.Prelude.{◌≡◌, not, ◌&&◌, ◌||◌, nat_lt, length, option_and_then, ◌∷◌, ◌++◌, [], List, reverse, IfOk, OnOk};
+ghost use Rattle.std.specs.Prelude.{◌≡◌, not, ◌&&◌, ◌||◌, nat_le, nat_lt, ◌==◌, ◌%◌, length, flat_map, option_and_then, ◌∷◌, ◌++◌, [], List, reverse, IfOk, OnOk};
 ghost use Rattle.bbm_regimes.specs.declared.regime.Reg.TheVariants.{Ttbr0El1};
 ghost use Rattle.bbm_regimes.specs.declared.regime.Tag.{Tag as TheTag};
 ghost use Rattle.bbm_events.specs.Heading.{Heading};
@@ -38,17 +38,20 @@ fn if_so(test: bool, at: u64) -> Option<u64>
 
 // Whether an `msr` of the value asks to share TLB entries under a header that says they aren't shared.
 fn asks_to_share(header: &Header, value: u64) -> bool
-    ensures { (h : List Noted) → result ≡ spec.asks_to_share header.now Patterns h value }
+    ensures { result ≡ (nat_le 2 header.now.version && not header.now.cnp && value % 2 == 1) }
 {
     header.version >= 2 && !header.cnp && value % 2 == 1
 }
 
 // Whether a write of the register is none of the world, or asks to share.
 fn is_wrong_write(header: &Header, reg: Reg, value: u64) -> bool
-    ensures { (h : List Noted) → result ≡ (not (roots.kind_in_world header.now.world (registers.kind_of_reg reg))
-        || spec.asks_to_share header.now Patterns h value) }
+    ensures { result ≡ (not (roots.kind_in_world header.now.world (registers.kind_of_reg reg))
+        || (nat_le 2 header.now.version && not header.now.cnp && value % 2 == 1)) }
 {
-    !kind_in_world(header, kind_of(reg)) || asks_to_share(header, value)
+    if !kind_in_world(header, kind_of(reg)) {
+        return true;
+    }
+    asks_to_share(header, value)
 }
 
 /// 1, wrong-world: the event has a root kind, a register or a TLBI operation that isn't of the header's world, or is a
@@ -177,6 +180,24 @@ fn add_holders(
     Ok(())
 }
 
+// Adds the first pages of the roots that hold the tag of a reading for another root.
+fn add_conflicts(
+    alloc: Global,
+    pages: &mut Vec<u64>,
+    header: &Header,
+    after: &[Event],
+    readings: &[Reading],
+    roots: &[Declared],
+) -> Result<(), NoMemory>
+    ensures { OnOk result (pages.new.items ≡ pages.old.items
+        ++ flat_map (λ reading. clashes.holder_pages header.now (reverse after.now) reading roots.now) readings.now) }
+{
+    for reading in readings {
+        add_holders(alloc, pages, header, after, reading, roots)?;
+    }
+    Ok(())
+}
+
 // The first pages of roots that hold a tag which is readable at the PE for another root.
 fn conflicts(alloc: Global, header: &Header, after: &[Event], pe: Pe) -> Result<Vec<u64>, NoMemory>
     ensures { IfOk result (λ pages. pages.items ≡ clashes.conflict_pages header.now (reverse after.now) pe) }
@@ -184,9 +205,7 @@ fn conflicts(alloc: Global, header: &Header, after: &[Event], pe: Pe) -> Result<
     let roots = roots_of(alloc, after)?;
     let readings = readings_at(alloc, header, after, pe)?;
     let mut pages = Vec::new(alloc);
-    for reading in &readings {
-        add_holders(alloc, &mut pages, header, after, reading, &roots)?;
-    }
+    add_conflicts(alloc, &mut pages, header, after, &readings, &roots)?;
     Ok(pages)
 }
 

@@ -116,10 +116,9 @@ fn add_read_now(
 {
     if changes_readings(event) {
         let readings = moment.readings(alloc, header)?;
-        add_readings(tags, &readings, root)
-    } else {
-        Ok(())
+        add_readings(tags, &readings, root)?;
     }
+    Ok(())
 }
 
 // Adds the tags that were readable for the root at the PE at some moment.
@@ -179,6 +178,26 @@ fn with_tag(set: TagSet, tag: Tag) -> TagSet
     }
 }
 
+// The set with the tag, where the root holds it.
+fn with_held(
+    alloc: Global,
+    header: &Header,
+    events: &[Event],
+    root: u64,
+    set: TagSet,
+    tag: Tag,
+) -> Result<TagSet, NoMemory>
+    ensures { IfOk result (λ after. (test : TheTag → Bool) → sets.HasTags test set → sets.HasTags (λ g. test g
+        || (is_same_tag tag g && spec.holds_tag header.now Patterns root g (reverse events.now))) after) }
+{
+    law_equality_tests();
+    if holds_tag(alloc, header, events, root, tag)? {
+        Ok(with_tag(set, tag))
+    } else {
+        Ok(set)
+    }
+}
+
 // Those of the tags that the root holds.
 fn held_among(
     alloc: Global,
@@ -190,12 +209,9 @@ fn held_among(
     ensures { IfOk result (λ set. sets.HasTags (λ g. sets.has_tag g tags.now
         && spec.holds_tag header.now Patterns root g (reverse events.now)) set) }
 {
-    law_equality_tests();
     let mut set = TagSet::None;
     for tag in tags {
-        if holds_tag(alloc, header, events, root, *tag)? {
-            set = with_tag(set, *tag);
-        }
+        set = with_held(alloc, header, events, root, set, *tag)?;
     }
     Ok(set)
 }
