@@ -1,10 +1,10 @@
 -- What is readable at a moment: by the lists that are kept, at the start, and after an event that changes nothing of it.
-use Rattle.std.proofs.Common.{◌≡◌, ℕ, ◌+◌, ◌<◌, Bool, true, false, ◌||◌, List, [], ◌∷◌, ◌++◌, length, take, get_or, Option, Some, None, refl, sym, ap, ◌∙◌, true≢false, append_assoc}
+use Rattle.std.proofs.Common.{◌≡◌, ℕ, ◌+◌, ◌<◌, false, ◌||◌, List, [], ◌∷◌, ◌++◌, length, take, get_or, Option, Some, None, refl, sym, ap, ◌∙◌, true≢false, append_assoc}
 use Rattle.std.specs.List.{filter_map, cons_option}
 use Rattle.std.specs.Option.{option_to_list}
 use Rattle.std.proofs.lemmas.List.{take_more}
 use Rattle.std.proofs.lemmas.List.Elements.{filter_map-append}
-use Rattle.bbm_rules.specs.Prelude.{AsidFrom, FromTtbr0, FromTtbr1, World, Hyp, Kernel, Reg, Heading, Event, Root, Unroot, Isb, Msr, Tag}
+use Rattle.bbm_rules.specs.Prelude.{FromTtbr0, FromTtbr1, World, Hyp, Kernel, Reg, Heading, Event, Root, Unroot, Isb, Msr, Tag}
 use Rattle.bbm_rules.specs.Changes.{changes}
 use Rattle.bbm_rules.specs.Registers.{register_values}
 use Rattle.bbm_rules.specs.Roots.{Declared, roots_of}

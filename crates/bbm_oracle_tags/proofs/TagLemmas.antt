@@ -1,5 +1,5 @@
 -- Which tags a root may hold, those that it holds, and the set of them.
-use Rattle.std.proofs.Common.{◌≡◌, ℕ, zero, suc, ◌+◌, ◌<◌, take, get_or, Bool, true, false, not, ◌&&◌, ◌||◌, ◌==◌, eqb, cond, List, [], ◌∷◌, length, refl, sym, ap, ◌∙◌, arith, true≢false}
+use Rattle.std.proofs.Common.{◌≡◌, ℕ, zero, suc, ◌+◌, ◌<◌, take, get_or, Bool, true, false, not, ◌&&◌, ◌||◌, eqb, List, [], ◌∷◌, length, refl, sym, ap, ◌∙◌, arith, true≢false}
 use Rattle.std.proofs.lemmas.Bool.{eqb-true, eqb-false, and_from}
 use Rattle.std.proofs.lemmas.List.Folds.{list_any_more}
 use Rattle.bbm_tlbi_scope.specs.declared.entry.TagSet.{TagSet}
@@ -7,8 +7,8 @@ use Rattle.bbm_tlbi_scope.specs.declared.entry.TagSet.TheVariants.{None as NoTag
 use Rattle.bbm_rules.specs.Prelude.{Heading, Event, Tag}
 use Rattle.bbm_rules.specs.Changes.{changes}
 use Rattle.bbm_rules.specs.Claims.{Patterns, same_tag}
-use Rattle.bbm_rules.specs.Lists.{any, below, some_pe}
-use Rattle.bbm_rules.specs.Tags.{holds_at, holds_tag, loses, reads, tag_set, tags_of}
+use Rattle.bbm_rules.specs.Lists.{some_pe}
+use Rattle.bbm_rules.specs.Tags.{holds_at, loses, reads}
 use Rattle.bbm_oracle_tags.specs.TagSets.{HasTags, has_tag, was_read}
 use Rattle.bbm_oracle_tags.proofs.MomentLemmas.{same-reads, reads-nothing}
 

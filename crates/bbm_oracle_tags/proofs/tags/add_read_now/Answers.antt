@@ -1,4 +1,4 @@
-use Rattle.std.proofs.Common.{◌≡◌, true, ◌||◌, ◌∷◌, sym, ◌∙◌, inl, inr}
+use Rattle.std.proofs.Common.{◌∷◌, sym, ◌∙◌, inl, inr}
 use Rattle.std.proofs.lemmas.Bool.{or_cases}
 use Rattle.bbm_rules.specs.Tags.{reads}
 use Rattle.bbm_oracle_tags.specs.TagSets.{was_read}

@@ -1,7 +1,6 @@
-use Rattle.std.proofs.Common.{◌≡◌, true, ◌&&◌, reverse, refl, List}
+use Rattle.std.proofs.Common.{◌≡◌, ◌&&◌, reverse, refl}
 use Rattle.std.proofs.lemmas.Result.{IfOk-weaker}
-use Rattle.bbm_regimes.specs.declared.regime.Tag.{Tag}
-use Rattle.bbm_rules.specs.Claims.{Patterns, same_tag}
+use Rattle.bbm_rules.specs.Claims.{Patterns}
 use Rattle.bbm_rules.specs.Tags.{holds_tag, tag_set, tags_of}
 use Rattle.bbm_oracle_tags.specs.TagSets.{HasTags, has_tag}
 use Rattle.bbm_oracle_tags.proofs.TagLemmas.{implied, same-set, set-same}

@@ -1,5 +1,4 @@
-use Rattle.std.proofs.Common.{◌≡◌, true, ◌&&◌, ◌||◌, reverse, refl, sym, ◌∙◌}
-use Rattle.bbm_regimes.specs.declared.regime.Tag.{Tag}
+use Rattle.std.proofs.Common.{◌&&◌, ◌||◌, reverse, refl, sym, ◌∙◌}
 use Rattle.bbm_rules.specs.Claims.{Patterns, same_tag}
 use Rattle.bbm_rules.specs.Tags.{holds_tag}
 use Rattle.bbm_oracle_tags.proofs.TagLemmas.{hit-held, hit-same, missed, set-same}

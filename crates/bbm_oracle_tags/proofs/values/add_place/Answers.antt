@@ -1,4 +1,4 @@
-use Rattle.std.proofs.Common.{◌≡◌, true, eqb, ap, sym, ◌∙◌, List, ℕ}
+use Rattle.std.proofs.Common.{eqb, ap, sym, ◌∙◌, List, ℕ}
 use Rattle.std.proofs.lemmas.Result.{on_ok_weaker}
 use Rattle.bbm_rules.specs.Lists.{with_number}
 use Rattle.bbm_rules.specs.Places.{page_of}

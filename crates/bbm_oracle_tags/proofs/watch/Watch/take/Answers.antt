@@ -1,4 +1,4 @@
-use Rattle.std.proofs.Common.{ℕ, Bool, false, true, not, ◌&&◌, ◌||◌, reverse, ap, ◌∙◌}
+use Rattle.std.proofs.Common.{Bool, false, true, not, ◌&&◌, ◌||◌, reverse, ap, ◌∙◌}
 use Rattle.bbm_regimes.specs.PeMask.{pe_in}
 use Rattle.bbm_regimes.specs.declared.pe.PeMask.{PeMask}
 use Rattle.bbm_oracle_tags.specs.Watches.{awaits_after}
