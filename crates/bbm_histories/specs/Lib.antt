@@ -1,0 +1,4 @@
+pub mod Patterns
+pub mod Tags
+pub mod Tree
+pub mod Values
