@@ -1,3 +1,4 @@
+pub mod Below
 pub mod Patterns
 pub mod Tags
 pub mod Tree

@@ -1,6 +1,7 @@
 //! Laws of histories: what is known of every log that keeps the rules, over the definitions alone.
 #![tactic(auto)]
 
+mod below;
 pub mod patterns;
 pub mod tags;
 pub mod trees;

@@ -39,10 +39,7 @@ pub mod ListLemmas
 pub mod RuleLemmas
 pub mod HeldLemmas
 pub mod HeldLaw
-pub mod FreshLemmas
 pub mod TreeLemmas
-pub mod PathLemmas
-pub mod GrowthLemmas
 pub mod TreeLaw
-pub mod OneNodeLaw
+pub mod AttachLaw
 pub mod VersionLaw

@@ -20,12 +20,11 @@ pub use event_laws::{
 };
 pub use first_path::FirstPathChecker;
 pub use history_laws::{
-    law_childless, law_cleansed, law_each_rule, law_fresh, law_half, law_held, law_limbo,
+    law_attaching, law_childless, law_cleansed, law_each_rule, law_fresh, law_half, law_held, law_last_valid, law_limbo,
     law_notes, law_paths, law_seen, law_tree,
 };
 pub use laws::{
-    law_answered, law_notes_keep_the_events, law_one_node, law_readable_value, law_tag_held,
-    law_version,
+    law_answered, law_notes_keep_the_events, law_readable_value, law_tag_held, law_version,
 };
 pub use phase::Phase;
 pub use rule::Rule;
@@ -39,24 +38,25 @@ mod tests {
         law_readable_register, law_root, law_tag_set, law_vmid,
     };
     use crate::history_laws::{
-        law_childless, law_cleansed, law_each_rule, law_fresh, law_half, law_held, law_limbo,
+        law_attaching, law_childless, law_cleansed, law_each_rule, law_fresh, law_half, law_held, law_last_valid, law_limbo,
         law_notes, law_paths, law_seen, law_tree,
     };
     use crate::laws::{
-        law_answered, law_notes_keep_the_events, law_one_node, law_readable_value, law_tag_held,
-        law_version,
+        law_answered, law_notes_keep_the_events, law_readable_value, law_tag_held, law_version,
     };
     use crate::verdict::law_first_line_decides;
 
     #[test]
     fn laws_hold() {
         law_answered();
+        law_attaching();
         law_childless();
         law_cleansed();
         law_each_rule();
         law_fresh();
         law_half();
         law_held();
+        law_last_valid();
         law_limbo();
         law_notes();
         law_paths();
@@ -67,7 +67,6 @@ mod tests {
         law_limits();
         law_lock_held();
         law_notes_keep_the_events();
-        law_one_node();
         law_published();
         law_readable_register();
         law_readable_value();

@@ -1,0 +1,73 @@
+-- What the crate of the rules proves of its definitions, as one record, so that each proof here takes it as one hypothesis.
+use Rattle.std.specs.Prelude.{◌≡◌, ℕ, suc, ◌+◌, ◌%◌, ◌<◌, true, false, List, ◌∷◌, ◌++◌, length, Option, Some, None, Contains}
+use Rattle.bbm_descriptor.specs.Descriptor.{is_valid}
+use Rattle.bbm_rules.specs.Prelude.{Kind, Heading, Event, Root, Write}
+use Rattle.bbm_rules.specs.declared.rule.Rule.{Rule}
+use Rattle.bbm_rules.specs.Attach.{End, attached_by, attached_from}
+use Rattle.bbm_rules.specs.Broken.{breaks, keeps}
+use Rattle.bbm_rules.specs.Claims.{Trust}
+use Rattle.bbm_rules.specs.Cleansing.{cleansed, half, seen}
+use Rattle.bbm_rules.specs.Covers.{noted}
+use Rattle.bbm_rules.specs.Held.{ValidWrite, held, last_valid}
+use Rattle.bbm_rules.specs.Notes.{Noted, events_of}
+use Rattle.bbm_rules.specs.Pages.{is_fresh}
+use Rattle.bbm_rules.specs.PatternSentences.{Cleansed, Holds, IsLastValid, Seen}
+use Rattle.bbm_rules.specs.Places.{page_of}
+use Rattle.bbm_rules.specs.Roots.{root_pages}
+use Rattle.bbm_rules.specs.Rules.{not_fresh, page_in_use}
+use Rattle.bbm_rules.specs.Tree.{Node, held_at, in_limbo, in_tree, is_childless, next_of, node_below, node_of, tree}
+use Rattle.bbm_rules.specs.TreeSentences.{Childless, InLimbo, IsNode, Leads}
+use Rattle.bbm_rules.specs.Values.{value_of}
+
+pub record Below (heading : Heading) (trust : Trust) : Type 0 where
+  pub unbroken : (h newer older : List Event) (e : Event) → keeps heading trust h ≡ true → h ≡ newer ++ e ∷ older
+      → (rule : Rule) → breaks heading trust (noted heading trust older) e rule ≡ None
+  pub last_sound : (kind : Kind) (level place : ℕ) (h : List Noted) (w : ValidWrite)
+      → last_valid kind level place h ≡ Some w → IsLastValid kind level place h w
+  pub last_complete : (kind : Kind) (level place : ℕ) (h : List Noted) (w : ValidWrite)
+      → IsLastValid kind level place h w → last_valid kind level place h ≡ Some w
+  pub live_unseen : (kind : Kind) (level place : ℕ) (h : List Noted)
+      → is_valid kind level (value_of (events_of h) place) ≡ true → (w : ValidWrite) × (last_valid kind level place h ≡ Some w)
+      × (w.value ≡ value_of (events_of h) place) × ((p : ℕ) → seen heading place p w.since ≡ false)
+  pub valid_is_odd : (kind : Kind) (level value : ℕ) → is_valid kind level value ≡ true → value % 2 ≡ 1
+  pub held_sound : (kind : Kind) (level place : ℕ) (h : List Noted) (value : ℕ)
+      → held heading trust kind level place h ≡ Some value → Holds heading trust kind level place h value
+  pub held_complete : (kind : Kind) (level place : ℕ) (h : List Noted) (value : ℕ)
+      → Holds heading trust kind level place h value → held heading trust kind level place h ≡ Some value
+  pub held_live : (kind : Kind) (level place : ℕ) (h : List Noted) → 0 < heading.pes
+      → is_valid kind level (value_of (events_of h) place) ≡ true
+      → held heading trust kind level place h ≡ Some (value_of (events_of h) place)
+  pub tree_sound : (h : List Noted) (n : Node) → Contains (tree heading trust h) n → IsNode heading trust h n
+  pub tree_complete : (h : List Noted) (n : Node) → IsNode heading trust h n → Contains (tree heading trust h) n
+  pub tree_below : (h : List Noted) (n : Node) (place value next : ℕ) → Contains (tree heading trust h) n
+      → page_of place ≡ n.page → held_at heading trust h n place ≡ Some value → next_of n.kind n.level value ≡ Some next
+      → Contains (tree heading trust h) (node_below n place next)
+  pub node_taken : (h : List Noted) (page : ℕ) (n : Node) → node_of heading trust h page ≡ Some n
+      → Contains (tree heading trust h) n × (n.page ≡ page)
+  pub tree_has : (h : List Noted) (n : Node) → Contains (tree heading trust h) n → in_tree heading trust h n.page ≡ true
+  pub deeper_fresh : (h : List Noted) (e : Event) (kind : Kind) (level : ℕ) (pages : List ℕ)
+      → attached_by heading trust h e ≡ Some (attached_from heading trust h kind level pages)
+      → not_fresh heading trust h e ≡ None → (page place : ℕ) (places : List ℕ) (end : End) → Contains pages page
+      → level + length (place ∷ places) < 4 → Leads heading trust h kind level page (place ∷ places) end
+      → is_fresh heading trust h end.page ≡ true
+  pub single_paths : (h : List Noted) (e : Event) (kind : Kind) (level : ℕ) (pages : List ℕ)
+      → attached_by heading trust h e ≡ Some (attached_from heading trust h kind level pages)
+      → not_fresh heading trust h e ≡ None → (page page' : ℕ) (places places' : List ℕ) (end end' : End)
+      → Contains pages page → Contains pages page' → level + length places < 4 → level + length places' < 4
+      → Leads heading trust h kind level page places end → Leads heading trust h kind level page' places' end'
+      → end.page ≡ end'.page → (page ≡ page') × (places ≡ places')
+  pub written_fresh : (h : List Noted) (pe place value : ℕ) (kind : Kind) (level : ℕ) (pages : List ℕ)
+      → attached_by heading trust h (Write pe place value) ≡ Some (attached_from heading trust h kind level pages)
+      → not_fresh heading trust h (Write pe place value) ≡ None → (page : ℕ) → Contains pages page
+      → is_fresh heading trust h page ≡ true
+  pub rooted_fresh : (h : List Noted) (pe : ℕ) (kind : Kind) (lock : Option ℕ) (first page : ℕ)
+      → page_in_use heading trust h (Root pe kind lock first) ≡ None → Contains (root_pages heading.world kind first) page
+      → is_fresh heading trust h page ≡ true
+  pub childless_sound : (h : List Noted) (n : Node) (value : ℕ) → is_childless heading trust h n value ≡ true
+      → Childless heading trust h n value
+  pub childless_complete : (h : List Noted) (n : Node) (value : ℕ) → Childless heading trust h n value
+      → is_childless heading trust h n value ≡ true
+  pub limbo_complete : (h : List Noted) (n : Node) → InLimbo h n → in_limbo h n ≡ true
+  pub seen_sound : (place p : ℕ) (since : List Noted) → seen heading place p since ≡ true → Seen heading place p since
+  pub seen_complete : (place p : ℕ) (since : List Noted) → Seen heading place p since → seen heading place p since ≡ true
+  pub events_noted : (h : List Event) → events_of (noted heading trust h) ≡ h

@@ -1,0 +1,25 @@
+//! What the crate of the rules proves, gathered for the proofs here.
+
+use bbm_rules::{
+    law_attaching, law_childless, law_each_rule, law_held, law_last_valid, law_limbo,
+    law_notes_keep_the_events, law_seen, law_tree,
+};
+
+ghost use Rattle.bbm_events.specs.Heading.{Heading};
+ghost use Rattle.bbm_rules.specs.Claims.{Trust};
+ghost use Rattle.bbm_histories.specs.Below.{Below};
+
+/// The laws of the rules that the laws here stand on.
+pub(crate) fn below()
+    ensures { (heading : Heading) (trust : Trust) → Below heading trust }
+{
+    law_each_rule();
+    law_last_valid();
+    law_held();
+    law_tree();
+    law_attaching();
+    law_childless();
+    law_limbo();
+    law_seen();
+    law_notes_keep_the_events();
+}
