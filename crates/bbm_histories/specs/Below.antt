@@ -1,5 +1,5 @@
 -- What the crate of the rules proves of its definitions, as one record, so that each proof here takes it as one hypothesis.
-use Rattle.std.specs.Prelude.{◌≡◌, ℕ, suc, ◌+◌, ◌%◌, ◌<◌, true, false, List, ◌∷◌, ◌++◌, length, Option, Some, None, Contains}
+use Rattle.std.specs.Prelude.{◌≡◌, ℕ, suc, ◌+◌, ◌%◌, ◌<◌, true, false, List, [], ◌∷◌, ◌++◌, length, Option, Some, None, Contains}
 use Rattle.bbm_descriptor.specs.Descriptor.{is_valid}
 use Rattle.bbm_rules.specs.Prelude.{Kind, Heading, Event, Root, Write}
 use Rattle.bbm_rules.specs.declared.rule.Rule.{Rule}
@@ -13,9 +13,10 @@ use Rattle.bbm_rules.specs.Notes.{Noted, events_of}
 use Rattle.bbm_rules.specs.Pages.{is_fresh}
 use Rattle.bbm_rules.specs.PatternSentences.{Cleansed, Holds, IsLastValid, Seen}
 use Rattle.bbm_rules.specs.Places.{page_of}
-use Rattle.bbm_rules.specs.Roots.{root_pages}
+use Rattle.bbm_rules.specs.Roots.{Declared, root_pages, roots_of, start_of}
 use Rattle.bbm_rules.specs.Rules.{not_fresh, page_in_use}
-use Rattle.bbm_rules.specs.Tree.{Node, held_at, in_limbo, in_tree, is_childless, next_of, node_below, node_of, tree}
+use Rattle.bbm_rules.specs.Sentences.{IsDeclared}
+use Rattle.bbm_rules.specs.Tree.{Node, held_at, in_limbo, in_tree, is_childless, next_of, node_below, node_of, nodes_of_root, tree}
 use Rattle.bbm_rules.specs.TreeSentences.{Childless, InLimbo, IsNode, Leads}
 use Rattle.bbm_rules.specs.Values.{value_of}
 
@@ -70,4 +71,11 @@ pub record Below (heading : Heading) (trust : Trust) : Type 0 where
   pub limbo_complete : (h : List Noted) (n : Node) → InLimbo h n → in_limbo h n ≡ true
   pub seen_sound : (place p : ℕ) (since : List Noted) → seen heading place p since ≡ true → Seen heading place p since
   pub seen_complete : (place p : ℕ) (since : List Noted) → Seen heading place p since → seen heading place p since ≡ true
+  pub root_sound : (h : List Event) (r : Declared) → Contains (roots_of h) r → IsDeclared h r
+  pub root_complete : (h : List Event) (r : Declared) → IsDeclared h r → Contains (roots_of h) r
+  pub root_node : (r : Declared) (n : Node) → Contains (nodes_of_root heading r) n
+      → (n.kind ≡ r.kind) × (n.level ≡ start_of heading.world r.kind) × (n.root ≡ r.page) × (n.above ≡ [])
+      × Contains (root_pages heading.world r.kind r.page) n.page
+  pub one_root_node : (r : Declared) (n m : Node) → Contains (nodes_of_root heading r) n
+      → Contains (nodes_of_root heading r) m → n.page ≡ m.page → n ≡ m
   pub events_noted : (h : List Event) → events_of (noted heading trust h) ≡ h

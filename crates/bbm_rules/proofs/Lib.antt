@@ -31,6 +31,7 @@ pub mod TagSetLaw
 pub mod ChangesLaw
 pub mod RegisterLaw
 pub mod RootLaw
+pub mod RootPages
 pub mod TagLaw
 pub mod NotesLaw
 pub mod Patterns

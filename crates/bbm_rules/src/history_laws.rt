@@ -1,7 +1,7 @@
 //! Laws of the definitions on the annotated history: what computes says the same as a sentence over all ways to split
 //! a history, and what the next layers need of a history that keeps the rules.
 
-ghost use Rattle.std.specs.Prelude.{◌≡◌, ℕ, suc, ◌<◌, ◌≤◌, ◌+◌, ◌%◌, true, false, List, ◌∷◌, ◌++◌, length, Option, Some, None, Contains};
+ghost use Rattle.std.specs.Prelude.{◌≡◌, ℕ, suc, ◌<◌, ◌≤◌, ◌+◌, ◌%◌, true, false, List, [], ◌∷◌, ◌++◌, length, Option, Some, None, Contains};
 ghost use Rattle.bbm_regimes.specs.declared.regime.Kind.{Kind};
 ghost use Rattle.bbm_descriptor.specs.Descriptor.{is_valid};
 ghost use Rattle.bbm_events.specs.Heading.{Heading};
@@ -18,9 +18,9 @@ ghost use Rattle.bbm_rules.specs.Notes.{Noted, events_of};
 ghost use Rattle.bbm_rules.specs.Pages.{is_fresh};
 ghost use Rattle.bbm_rules.specs.PatternSentences.{Cleansed, Holds, IsHalf, IsLastValid, Seen};
 ghost use Rattle.bbm_rules.specs.Places.{page_of};
-ghost use Rattle.bbm_rules.specs.Roots.{root_pages};
+ghost use Rattle.bbm_rules.specs.Roots.{Declared, root_pages, start_of};
 ghost use Rattle.bbm_rules.specs.Rules.{not_fresh, page_in_use};
-ghost use Rattle.bbm_rules.specs.Tree.{Node, held_at, in_limbo, in_tree, is_childless, next_of, node_below, node_of, tree};
+ghost use Rattle.bbm_rules.specs.Tree.{Node, held_at, in_limbo, in_tree, is_childless, next_of, node_below, node_of, nodes_of_root, tree};
 ghost use Rattle.bbm_rules.specs.TreeSentences.{Childless, InLimbo, IsFresh, IsNode, Leads};
 ghost use Rattle.bbm_rules.specs.Values.{value_of};
 
@@ -140,6 +140,16 @@ pub fn law_paths()
     ensures complete { (heading : Heading) (trust : Trust) (h : List Noted) (left : ℕ) (kind : Kind) (level page : ℕ)
         (places : List ℕ) (end : End) → length places ≤ left → Leads heading trust h kind level page places end →
         Contains (end_at level page ∷ ends_below heading trust h kind left level page) end }
+{}
+
+/// Each page of a root has one node: of the kind of the root, at its start level, with no place above. The call does
+/// nothing; the law is its contract.
+pub fn law_root_pages()
+    ensures fields { (heading : Heading) (r : Declared) (n : Node) → Contains (nodes_of_root heading r) n →
+        (n.kind ≡ r.kind) × (n.level ≡ start_of heading.world r.kind) × (n.root ≡ r.page) × (n.above ≡ [])
+        × Contains (root_pages heading.world r.kind r.page) n.page }
+    ensures single { (heading : Heading) (r : Declared) (n m : Node) → Contains (nodes_of_root heading r) n →
+        Contains (nodes_of_root heading r) m → n.page ≡ m.page → n ≡ m }
 {}
 
 /// Where an event attaches pages and doesn't break the rule on fresh pages, each path of one place at least that begins in

@@ -21,7 +21,7 @@ pub use event_laws::{
 pub use first_path::FirstPathChecker;
 pub use history_laws::{
     law_attaching, law_childless, law_cleansed, law_each_rule, law_fresh, law_half, law_held, law_last_valid, law_limbo,
-    law_notes, law_paths, law_seen, law_tree,
+    law_notes, law_paths, law_root_pages, law_seen, law_tree,
 };
 pub use laws::{
     law_answered, law_notes_keep_the_events, law_readable_value, law_tag_held, law_version,
@@ -39,7 +39,7 @@ mod tests {
     };
     use crate::history_laws::{
         law_attaching, law_childless, law_cleansed, law_each_rule, law_fresh, law_half, law_held, law_last_valid, law_limbo,
-        law_notes, law_paths, law_seen, law_tree,
+        law_notes, law_paths, law_root_pages, law_seen, law_tree,
     };
     use crate::laws::{
         law_answered, law_notes_keep_the_events, law_readable_value, law_tag_held, law_version,
@@ -71,6 +71,7 @@ mod tests {
         law_readable_register();
         law_readable_value();
         law_root();
+        law_root_pages();
         law_tag_set();
         law_tag_held();
         law_first_line_decides();

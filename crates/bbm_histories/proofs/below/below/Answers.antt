@@ -24,5 +24,9 @@ returns c heading trust = record {
   limbo_complete = c.law_limbo.ensures.complete;
   seen_sound = c.law_seen.ensures.sound heading;
   seen_complete = c.law_seen.ensures.complete heading;
+  root_sound = c.law_root.ensures.sound;
+  root_complete = c.law_root.ensures.complete;
+  root_node = c.law_root_pages.ensures.fields heading;
+  one_root_node = c.law_root_pages.ensures.single heading;
   events_noted = c.law_notes_keep_the_events.ensures heading trust;
 }
