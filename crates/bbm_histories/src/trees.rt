@@ -1,5 +1,7 @@
 //! Laws of the trees, and of what their places hold.
 
+use crate::below::below;
+
 ghost use Rattle.std.specs.Prelude.{◌≡◌, ℕ, ◌<◌, ◌⊎◌, ◌↔◌, true, false, List, ◌∷◌, ◌++◌, Some, None, Contains};
 ghost use Rattle.bbm_barriers.specs.declared.Dsb.{Dsb as Barrier};
 ghost use Rattle.bbm_regimes.specs.declared.regime.Kind.{Kind};
@@ -20,18 +22,20 @@ ghost use Rattle.bbm_rules.specs.Values.{value_of};
 ghost use Rattle.bbm_histories.specs.Tree.{Attaches, HeldBy, HeldChange, InTreeAfter, InTreeAfterDsb, NoGlobalLeaf, StaysChildless, View};
 
 /// In a history that keeps the rules, a page has at most one node in the trees: so it has one root, one kind, one level,
-/// one region and one place above it. The node that the definitions take for a page, the first, is that one. The call
-/// does nothing; the law is its contract.
+/// one region and one place above it. The node that the definitions take for a page, the first, is that one. The
+/// law is the contract.
 pub fn law_one_node()
     ensures at_most_one { (heading : Heading) (trust : Trust) (h : List Event) → keeps heading trust h ≡ true → (n m : Node) →
         Contains (tree heading trust (noted heading trust h)) n → Contains (tree heading trust (noted heading trust h)) m →
         n.page ≡ m.page → n ≡ m }
     ensures the_first { (heading : Heading) (trust : Trust) (h : List Event) → keeps heading trust h ≡ true → (n : Node) →
         Contains (tree heading trust (noted heading trust h)) n → node_of heading trust (noted heading trust h) n.page ≡ Some n }
-{}
+{
+    below();
+}
 
 /// The tree after an event that breaks no rule is that before it, with what the event attaches, or without what it takes
-/// out. The call does nothing; the law is its contract.
+/// out. The law is the contract.
 pub fn law_tree_step()
     ensures step { (heading : Heading) (trust : Trust) (h : List Event) (e : Event) → 0 < heading.pes →
         keeps heading trust (e ∷ h) ≡ true → ((q : ℕ) (dsb : Barrier) → e ≡ Dsb q dsb → ⊥) → (n : Node) →
@@ -40,11 +44,13 @@ pub fn law_tree_step()
         keeps heading trust (Dsb q dsb ∷ h) ≡ true → (n : Node) →
         Contains (tree heading trust (noted heading trust (Dsb q dsb ∷ h))) n
         ↔ InTreeAfterDsb heading trust (noted heading trust h) (Dsb q dsb) n }
-{}
+{
+    below();
+}
 
 /// In a history that keeps the rules, a page that comes into a tree is attached by the event and was fresh just before;
 /// one of a tree keeps its node until it is in no tree, after a DSB or an `unroot` of its root; and no `init` names one.
-/// The call does nothing; the law is its contract.
+/// The law is the contract.
 pub fn law_one_position()
     ensures gained { (heading : Heading) (trust : Trust) (h : List Event) (e : Event) → keeps heading trust (e ∷ h) ≡ true →
         (n : Node) → Contains (tree heading trust (noted heading trust (e ∷ h))) n →
@@ -58,11 +64,13 @@ pub fn law_one_position()
     ensures no_init { (heading : Heading) (trust : Trust) (h : List Event) (q page : ℕ) →
         keeps heading trust (Init q page ∷ h) ≡ true → (in_tree heading trust (noted heading trust h) page ≡ false)
         × (is_null h page ≡ false) }
-{}
+{
+    below();
+}
 
 /// In a history that keeps the rules, what a place of a tree holds changes by a valid write of it, from nothing or from a
 /// value of the same core; by a DSB, to nothing; and by nothing else while its page stays in the tree. A page that comes
-/// into a tree holds the present values that are valid. The call does nothing; the law is its contract.
+/// into a tree holds the present values that are valid. The law is the contract.
 pub fn law_held_changes()
     ensures changes { (heading : Heading) (trust : Trust) (h : List Event) (e : Event) → 0 < heading.pes →
         keeps heading trust (e ∷ h) ≡ true →
@@ -74,7 +82,9 @@ pub fn law_held_changes()
         held heading trust kind level place (noted heading trust h) ≡ Some value → value_of h place ≡ value }
     ensures unheld { (heading : Heading) (trust : Trust) (kind : Kind) (level place : ℕ) (h : List Event) → 0 < heading.pes →
         held heading trust kind level place (noted heading trust h) ≡ None → is_valid kind level (value_of h place) ≡ false }
-{}
+{
+    below();
+}
 
 /// In a history that keeps the rules, before an event that came after the last valid write of a place of a tree, and
 /// after a PE had seen the place, the place was at the same node and held the same value. The call does nothing; the law
@@ -85,7 +95,9 @@ pub fn law_frozen_view()
         HeldBy heading trust (noted heading trust h) n place value w → w.since ≡ newer ++ t ∷ before →
         seen heading place p before ≡ true →
         View heading trust (noted heading trust h) n place value newer before t }
-{}
+{
+    below();
+}
 
 /// In a history that keeps the rules, where the table that a place of a tree holds was childless before an event that came
 /// after the last valid write of the place, and after a PE had seen the place, it is childless still. The call does
@@ -96,11 +108,15 @@ pub fn law_limbo_is_empty()
         HeldBy heading trust (noted heading trust h) n place value w → w.since ≡ newer ++ t ∷ before →
         noted heading trust h ≡ newer ++ t ∷ older → seen heading place p before ≡ true →
         StaysChildless heading trust (noted heading trust h) n value older }
-{}
+{
+    below();
+}
 
 /// In a history that keeps the rules, no place of a tree of the lower range holds a leaf for every ASID. The call does
 /// nothing; the law is its contract.
 pub fn law_lower_leaves()
     ensures { (heading : Heading) (trust : Trust) (h : List Event) → keeps heading trust h ≡ true →
         NoGlobalLeaf heading trust (noted heading trust h) }
-{}
+{
+    below();
+}

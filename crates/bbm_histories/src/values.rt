@@ -1,5 +1,7 @@
 //! Laws of the values of places.
 
+use crate::below::below;
+
 ghost use Rattle.std.specs.Prelude.{◌≡◌, ℕ, ◌<◌, true, List, ◌∷◌, ◌++◌, Contains};
 ghost use Rattle.bbm_descriptor.specs.Descriptor.{is_valid};
 ghost use Rattle.bbm_events.specs.Heading.{Heading};
@@ -36,13 +38,15 @@ pub fn law_frozen()
 
 /// In a fresh page of a history that keeps the rules, a value with bit 0 set stays from its write until the next init of
 /// the page. So the last valid value of a place, at whatever kind and level it is read, is the present one, and no PE has
-/// seen a write after it. The call does nothing; the law is its contract.
+/// seen a write after it. The law is the contract.
 pub fn law_fresh_content()
     ensures odd_stays { (heading : Heading) (trust : Trust) (h : List Event) → keeps heading trust h ≡ true →
         OddStays heading trust (noted heading trust h) }
     ensures content { (heading : Heading) (trust : Trust) (h : List Event) → keeps heading trust h ≡ true →
         FreshContent heading trust (noted heading trust h) }
-{}
+{
+    below();
+}
 
 /// In a history that keeps the rules, a value that is readable at a PE at a place of a tree, and valid at its level, has
 /// the core of what the place holds, and the place isn't seen at the PE. The call does nothing; the law is its contract.
