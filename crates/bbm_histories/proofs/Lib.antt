@@ -2,6 +2,7 @@ pub mod FreshLemmas
 pub mod Induction
 pub mod Invariants
 pub mod HeldSteps
+pub mod TreeAfter
 pub mod PatternLemmas
 pub mod TreeSteps
 pub mod UniformLemmas

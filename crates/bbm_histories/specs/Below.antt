@@ -13,7 +13,7 @@ use Rattle.bbm_rules.specs.Notes.{Noted, events_of}
 use Rattle.bbm_rules.specs.Pages.{is_fresh}
 use Rattle.bbm_rules.specs.PatternSentences.{Cleansed, Holds, IsLastValid, Seen}
 use Rattle.bbm_rules.specs.Places.{page_of}
-use Rattle.bbm_rules.specs.Roots.{Declared, root_pages, roots_of, start_of}
+use Rattle.bbm_rules.specs.Roots.{Declared, kind_in_world, page_count, root_pages, roots_of, start_of}
 use Rattle.bbm_rules.specs.Rules.{not_fresh, page_in_use}
 use Rattle.bbm_rules.specs.Sentences.{IsDeclared}
 use Rattle.bbm_rules.specs.Tree.{Node, held_at, in_limbo, in_tree, is_childless, next_of, node_below, node_of, nodes_of_root, tree}
@@ -78,4 +78,8 @@ pub record Below (heading : Heading) (trust : Trust) : Type 0 where
       × Contains (root_pages heading.world r.kind r.page) n.page
   pub one_root_node : (r : Declared) (n m : Node) → Contains (nodes_of_root heading r) n
       → Contains (nodes_of_root heading r) m → n.page ≡ m.page → n ≡ m
+  pub first_node : (r : Declared) (n : Node) → Contains (nodes_of_root heading r) n
+      → (m : Node) × Contains (nodes_of_root heading r) m × (m.page ≡ r.page)
+  pub first_page : (kind : Kind) (page : ℕ) → kind_in_world heading.world kind ≡ true
+      → 0 < page_count heading.world kind → Contains (root_pages heading.world kind page) page
   pub events_noted : (h : List Event) → events_of (noted heading trust h) ≡ h

@@ -1,5 +1,5 @@
 -- What one event does to the trees, and to what their places hold. Source: project's own choice.
-use Rattle.std.specs.Prelude.{◌≡◌, ℕ, ◌⊎◌, true, false, List, [], ◌∷◌, ◌++◌, Option, Some, None, is_some, Contains}
+use Rattle.std.specs.Prelude.{◌≡◌, ℕ, ◌<◌, ◌⊎◌, true, false, List, [], ◌∷◌, ◌++◌, Option, Some, None, is_some, Contains}
 use Rattle.bbm_descriptor.specs.Descriptor.{desc_of, is_valid, needs}
 use Rattle.bbm_rules.specs.Prelude.{Kind, Ttbr0, Heading, Event, Root, Unroot, Write, Dsb, Barrier}
 use Rattle.bbm_rules.specs.Claims.{Trust}
@@ -9,9 +9,16 @@ use Rattle.bbm_rules.specs.Held.{ValidWrite, held, last_valid}
 use Rattle.bbm_rules.specs.Notes.{Noted, events_of}
 use Rattle.bbm_rules.specs.Pages.{is_fresh}
 use Rattle.bbm_rules.specs.Places.{page_of}
-use Rattle.bbm_rules.specs.Roots.{Declared}
+use Rattle.bbm_rules.specs.Roots.{Declared, page_count, start_of}
 use Rattle.bbm_rules.specs.Tree.{Above, Node, held_at, is_childless, next_of, node_below, node_of, nodes_of_root, tree}
 use Rattle.bbm_rules.specs.Values.{value_of}
+
+-- A proper heading: there is a PE, each root has a page, and walks start at a level below 4. So is every heading that a
+-- header can say.
+pub record Proper (heading : Heading) : Type 0 where
+  pub some_pe : 0 < heading.pes
+  pub some_page : (kind : Kind) → 0 < page_count heading.world kind
+  pub start : (kind : Kind) → start_of heading.world kind < 4
 
 -- Held changes: what a place of a tree holds after an event, by what it held before. A valid write makes its value
 -- held, and there was nothing before, or a value of the same core; a DSB may end it; no other event changes it.

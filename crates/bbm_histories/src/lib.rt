@@ -11,6 +11,6 @@ pub use patterns::{law_patterns_stay, law_uniform};
 pub use tags::law_tags;
 pub use trees::{
     law_frozen_view, law_held_changes, law_limbo_is_empty, law_lower_leaves, law_one_node,
-    law_one_position, law_tree_step,
+    law_one_position, law_proper, law_tree_step,
 };
 pub use values::{law_fresh_content, law_frozen, law_window};

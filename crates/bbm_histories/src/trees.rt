@@ -6,7 +6,7 @@ ghost use Rattle.std.specs.Prelude.{◌≡◌, ℕ, ◌<◌, ◌⊎◌, ◌↔�
 ghost use Rattle.bbm_barriers.specs.declared.Dsb.{Dsb as Barrier};
 ghost use Rattle.bbm_regimes.specs.declared.regime.Kind.{Kind};
 ghost use Rattle.bbm_descriptor.specs.Descriptor.{is_valid};
-ghost use Rattle.bbm_events.specs.Heading.{Heading};
+ghost use Rattle.bbm_events.specs.Heading.{Heading, heading_ok};
 ghost use Rattle.bbm_events.specs.declared.event.Event.{Event};
 ghost use Rattle.bbm_events.specs.declared.event.Event.TheVariants.{Dsb, Init, Unroot};
 ghost use Rattle.bbm_rules.specs.Broken.{keeps};
@@ -19,7 +19,7 @@ ghost use Rattle.bbm_rules.specs.Pages.{is_fresh, is_null};
 ghost use Rattle.bbm_rules.specs.Places.{page_of};
 ghost use Rattle.bbm_rules.specs.Tree.{Node, held_at, in_tree, node_of, tree};
 ghost use Rattle.bbm_rules.specs.Values.{value_of};
-ghost use Rattle.bbm_histories.specs.Tree.{Attaches, HeldBy, HeldChange, InTreeAfter, InTreeAfterDsb, NoGlobalLeaf, StaysChildless, View};
+ghost use Rattle.bbm_histories.specs.Tree.{Attaches, HeldBy, HeldChange, InTreeAfter, InTreeAfterDsb, NoGlobalLeaf, Proper, StaysChildless, View};
 
 /// In a history that keeps the rules, a page has at most one node in the trees: so it has one root, one kind, one level,
 /// one region and one place above it. The node that the definitions take for a page, the first, is that one. The
@@ -34,10 +34,17 @@ pub fn law_one_node()
     below();
 }
 
+/// A heading that a header can say is proper. The law is the contract.
+pub fn law_proper()
+    ensures { (heading : Heading) → heading_ok heading ≡ true → Proper heading }
+{
+    below();
+}
+
 /// The tree after an event that breaks no rule is that before it, with what the event attaches, or without what it takes
 /// out. The law is the contract.
 pub fn law_tree_step()
-    ensures step { (heading : Heading) (trust : Trust) (h : List Event) (e : Event) → 0 < heading.pes →
+    ensures step { (heading : Heading) (trust : Trust) (h : List Event) (e : Event) → Proper heading →
         keeps heading trust (e ∷ h) ≡ true → ((q : ℕ) (dsb : Barrier) → e ≡ Dsb q dsb → ⊥) → (n : Node) →
         Contains (tree heading trust (noted heading trust (e ∷ h))) n ↔ InTreeAfter heading trust (noted heading trust h) e n }
     ensures dsb { (heading : Heading) (trust : Trust) (h : List Event) (q : ℕ) (dsb : Barrier) →
@@ -56,8 +63,8 @@ pub fn law_one_position()
         (n : Node) → Contains (tree heading trust (noted heading trust (e ∷ h))) n →
         Contains (tree heading trust (noted heading trust h)) n
         ⊎ (Attaches heading trust (noted heading trust h) e n × (is_fresh heading trust (noted heading trust h) n.page ≡ true)) }
-    ensures kept { (heading : Heading) (trust : Trust) (h : List Event) (e : Event) → keeps heading trust (e ∷ h) ≡ true →
-        (n : Node) → Contains (tree heading trust (noted heading trust h)) n →
+    ensures kept { (heading : Heading) (trust : Trust) (h : List Event) (e : Event) → Proper heading →
+        keeps heading trust (e ∷ h) ≡ true → (n : Node) → Contains (tree heading trust (noted heading trust h)) n →
         Contains (tree heading trust (noted heading trust (e ∷ h))) n
         ⊎ ((in_tree heading trust (noted heading trust (e ∷ h)) n.page ≡ false)
         × (((q : ℕ) × (dsb : Barrier) × (e ≡ Dsb q dsb)) ⊎ ((q : ℕ) × (e ≡ Unroot q n.root)))) }

@@ -1,5 +1,5 @@
 -- The pages of a root: their nodes, and that no page has two.
-use Rattle.std.proofs.Common.{◌≡◌, ℕ, zero, suc, ◌+◌, ◌*◌, ◌≤◌, Bool, true, false, cond, List, [], ◌∷◌, Contains, refl, sym, ◌∙◌, ap, subst, inl, inr, arith}
+use Rattle.std.proofs.Common.{◌≡◌, ℕ, zero, suc, ◌+◌, ◌*◌, ◌<◌, ◌≤◌, Bool, true, false, cond, List, [], ◌∷◌, Contains, refl, sym, ◌∙◌, ap, subst, inl, inr, arith}
 use Rattle.bbm_regimes.specs.declared.regime.Kind.{Kind}
 use Rattle.bbm_events.specs.Heading.{Heading}
 use Rattle.bbm_rules.proofs.OpenLaw.{In, from_contains, to_contains}
@@ -74,3 +74,28 @@ one_node heading r n m c d same = by (kind_in_world heading.world r.kind) (from_
         (page_count heading.world r.kind) n m i j same
     by false i j = absurd i
 
+-- a root that has pages has its first page
+head_node : (kind : Kind) (level root base page : ℕ) (b : Bool) (count : ℕ) (n : Node)
+    → In (nodes_of_pages kind level root base (cond b (pages_from page count) [])) n
+    → (m : Node) × In (nodes_of_pages kind level root base (cond b (pages_from page count) [])) m × (m.page ≡ page)
+head_node kind level root base page false count n i = absurd i
+head_node kind level root base page true zero n i = absurd i
+head_node kind level root base page true (suc count) n i =
+    (record { page = page; kind = kind; level = level; root = root; base = base; above = [] }, inl refl, refl)
+
+pub first_node : (heading : Heading) (r : Declared) (n : Node) → Contains (nodes_of_root heading r) n
+    → (m : Node) × Contains (nodes_of_root heading r) m × (m.page ≡ r.page)
+first_node heading r n c =
+    let k = head_node r.kind (start_of heading.world r.kind) r.page (first_input_page heading.world r.kind) r.page
+    (kind_in_world heading.world r.kind) (page_count heading.world r.kind) n (from_contains (nodes_of_root heading r) n c) in
+    (k.0, to_contains (nodes_of_root heading r) k.0 k.1, k.2)
+
+pub first_page : (heading : Heading) (kind : Kind) (page : ℕ) → kind_in_world heading.world kind ≡ true
+    → 0 < page_count heading.world kind → Contains (root_pages heading.world kind page) page
+first_page heading kind page known some =
+    subst (λ (b : Bool). Contains (cond b (pages_from page (page_count heading.world kind)) []) page) (sym known)
+    (by (page_count heading.world kind) some)
+  where
+    by : (count : ℕ) → 0 < count → Contains (pages_from page count) page
+    by zero some = absurd (omega arith)
+    by (suc count) some = to_contains (pages_from page (suc count)) page (inl refl)

@@ -18,7 +18,7 @@ ghost use Rattle.bbm_rules.specs.Notes.{Noted, events_of};
 ghost use Rattle.bbm_rules.specs.Pages.{is_fresh};
 ghost use Rattle.bbm_rules.specs.PatternSentences.{Cleansed, Holds, IsHalf, IsLastValid, Seen};
 ghost use Rattle.bbm_rules.specs.Places.{page_of};
-ghost use Rattle.bbm_rules.specs.Roots.{Declared, root_pages, start_of};
+ghost use Rattle.bbm_rules.specs.Roots.{Declared, kind_in_world, page_count, root_pages, start_of};
 ghost use Rattle.bbm_rules.specs.Rules.{not_fresh, page_in_use};
 ghost use Rattle.bbm_rules.specs.Tree.{Node, held_at, in_limbo, in_tree, is_childless, next_of, node_below, node_of, nodes_of_root, tree};
 ghost use Rattle.bbm_rules.specs.TreeSentences.{Childless, InLimbo, IsFresh, IsNode, Leads};
@@ -142,14 +142,18 @@ pub fn law_paths()
         Contains (end_at level page ∷ ends_below heading trust h kind left level page) end }
 {}
 
-/// Each page of a root has one node: of the kind of the root, at its start level, with no place above. The call does
-/// nothing; the law is its contract.
+/// Each page of a root has one node: of the kind of the root, at its start level, with no place above. A root that has
+/// pages has its first page, and one of a kind of the world names it. The call does nothing; the law is its contract.
 pub fn law_root_pages()
     ensures fields { (heading : Heading) (r : Declared) (n : Node) → Contains (nodes_of_root heading r) n →
         (n.kind ≡ r.kind) × (n.level ≡ start_of heading.world r.kind) × (n.root ≡ r.page) × (n.above ≡ [])
         × Contains (root_pages heading.world r.kind r.page) n.page }
     ensures single { (heading : Heading) (r : Declared) (n m : Node) → Contains (nodes_of_root heading r) n →
         Contains (nodes_of_root heading r) m → n.page ≡ m.page → n ≡ m }
+    ensures first { (heading : Heading) (r : Declared) (n : Node) → Contains (nodes_of_root heading r) n →
+        (m : Node) × Contains (nodes_of_root heading r) m × (m.page ≡ r.page) }
+    ensures named { (heading : Heading) (kind : Kind) (page : ℕ) → kind_in_world heading.world kind ≡ true →
+        0 < page_count heading.world kind → Contains (root_pages heading.world kind page) page }
 {}
 
 /// Where an event attaches pages and doesn't break the rule on fresh pages, each path of one place at least that begins in

@@ -28,5 +28,7 @@ returns c heading trust = record {
   root_complete = c.law_root.ensures.complete;
   root_node = c.law_root_pages.ensures.fields heading;
   one_root_node = c.law_root_pages.ensures.single heading;
+  first_node = c.law_root_pages.ensures.first heading;
+  first_page = c.law_root_pages.ensures.named heading;
   events_noted = c.law_notes_keep_the_events.ensures heading trust;
 }
