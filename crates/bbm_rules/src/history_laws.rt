@@ -1,7 +1,7 @@
 //! Laws of the definitions on the annotated history: what computes says the same as a sentence over all ways to split
 //! a history, and what the next layers need of a history that keeps the rules.
 
-ghost use Rattle.std.specs.Prelude.{◌≡◌, ℕ, suc, ◌<◌, ◌≤◌, ◌+◌, ◌%◌, true, false, List, [], ◌∷◌, ◌++◌, length, Option, Some, None, Contains};
+ghost use Rattle.std.specs.Prelude.{◌≡◌, ℕ, suc, ◌<◌, ◌≤◌, ◌+◌, ◌%◌, true, List, [], ◌∷◌, ◌++◌, length, Option, Some, None, Contains};
 ghost use Rattle.bbm_regimes.specs.declared.regime.Kind.{Kind};
 ghost use Rattle.bbm_descriptor.specs.Descriptor.{is_valid};
 ghost use Rattle.bbm_events.specs.Heading.{Heading};
@@ -55,16 +55,17 @@ pub fn law_cleansed()
 {}
 
 /// The last valid write of a place is what the sentence says. Where the present value is valid it is the value of that
-/// write, and no PE has seen a later write. A valid value has bit 0 set. The call does nothing; the law is its contract.
+/// write, and no write came after it. A valid value has bit 0 set. The call does nothing; the law is its contract.
 #[tactic(auto, using(crate::proofs::HeldLaw::last_laws))]
 pub fn law_last_valid()
     ensures sound { (kind : Kind) (level place : ℕ) (h : List Noted) (w : ValidWrite) →
         last_valid kind level place h ≡ Some w → IsLastValid kind level place h w }
     ensures complete { (kind : Kind) (level place : ℕ) (h : List Noted) (w : ValidWrite) →
         IsLastValid kind level place h w → last_valid kind level place h ≡ Some w }
-    ensures live { (heading : Heading) (kind : Kind) (level place : ℕ) (h : List Noted) →
+    ensures live { (kind : Kind) (level place : ℕ) (h : List Noted) →
         is_valid kind level (value_of (events_of h) place) ≡ true → (w : ValidWrite) × (last_valid kind level place h ≡ Some w)
-        × (w.value ≡ value_of (events_of h) place) × ((p : ℕ) → seen heading place p w.since ≡ false) }
+        × (w.value ≡ value_of (events_of h) place) × ((q v : ℕ) (n : Noted) (after before : List Noted) →
+        w.since ≡ after ++ n ∷ before → n.event ≡ Write q place v → ⊥) }
     ensures odd { (kind : Kind) (level value : ℕ) → is_valid kind level value ≡ true → value % 2 ≡ 1 }
 {}
 
