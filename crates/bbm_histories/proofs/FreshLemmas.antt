@@ -20,6 +20,7 @@ use Rattle.bbm_rules.specs.Values.{value_of}
 use Rattle.bbm_histories.specs.Below.{Below}
 use Rattle.bbm_histories.specs.Values.{FreshContent, NoInit, OddStays}
 use Rattle.bbm_histories.proofs.Induction.{At, Unbroken, event_at, events_append, if_none}
+use Rattle.bbm_histories.proofs.PatternLemmas.{unseen}
 
 -- a page that stays fresh was fresh before, unless the event is its init
 was_fresh : (e : Event) (page : ℕ) (before : Bool) → ((q : ℕ) → e ≡ Init q page → ⊥) → may_be_fresh e page before ≡ true
@@ -116,10 +117,11 @@ module _ (heading : Heading) (trust : Trust) where
         let present : value_of (events_of h) place ≡ w.value =
         odd l.pe place w.value (events_of w.since) (events_of l.older) fresh split
         (no_init_of w.since (page_of place) l.no_init) (b.valid_is_odd kind level w.value l.valid) in
-        let live = b.live_unseen kind level place h (subst (λ (x : ℕ). is_valid kind level x ≡ true) (sym present) l.valid) in
+        let live = b.live_is_last kind level place h (subst (λ (x : ℕ). is_valid kind level x ≡ true) (sym present) l.valid) in
         let both : Some live.0 ≡ Some w = sym live.1 ∙ last in
         let same : live.0 ≡ w = cc in
-        (present, λ p. subst (λ (x : ValidWrite). seen heading place p x.since ≡ false) same (live.3 p))
+        (present, λ p. subst (λ (x : ValidWrite). seen heading place p x.since ≡ false) same
+        (unseen heading trust b place p live.0.since live.3))
 
     -- what is held is the last valid write's
     pub holds_last : (kind : Kind) (level place : ℕ) (h : List Noted) (value : ℕ) → held heading trust kind level place h ≡ Some value

@@ -7,3 +7,4 @@ pub mod PatternLemmas
 pub mod TreeSteps
 pub mod UniformLemmas
 pub mod ValueLemmas
+pub mod ViewLemmas

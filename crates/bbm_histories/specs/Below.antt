@@ -15,10 +15,10 @@ use Rattle.bbm_rules.specs.PatternSentences.{Cleansed, Holds, IsLastValid, Seen}
 use Rattle.bbm_rules.specs.Places.{page_of}
 use Rattle.bbm_rules.specs.Roots.{Declared, kind_in_world, page_count, root_pages, roots_of, start_of}
 use Rattle.bbm_rules.specs.Rules.{not_fresh, page_in_use}
-use Rattle.bbm_rules.specs.Sentences.{IsDeclared}
+use Rattle.bbm_rules.specs.Sentences.{IsDeclared, Published, Readable}
 use Rattle.bbm_rules.specs.Tree.{Node, held_at, in_limbo, in_tree, is_childless, next_of, node_below, node_of, nodes_of_root, tree}
 use Rattle.bbm_rules.specs.TreeSentences.{Childless, InLimbo, IsNode, Leads}
-use Rattle.bbm_rules.specs.Values.{value_of}
+use Rattle.bbm_rules.specs.Values.{is_readable, published, value_of}
 
 pub record Below (heading : Heading) (trust : Trust) : Type 0 where
   pub unbroken : (h newer older : List Event) (e : Event) → keeps heading trust h ≡ true → h ≡ newer ++ e ∷ older
@@ -27,9 +27,10 @@ pub record Below (heading : Heading) (trust : Trust) : Type 0 where
       → last_valid kind level place h ≡ Some w → IsLastValid kind level place h w
   pub last_complete : (kind : Kind) (level place : ℕ) (h : List Noted) (w : ValidWrite)
       → IsLastValid kind level place h w → last_valid kind level place h ≡ Some w
-  pub live_unseen : (kind : Kind) (level place : ℕ) (h : List Noted)
+  pub live_is_last : (kind : Kind) (level place : ℕ) (h : List Noted)
       → is_valid kind level (value_of (events_of h) place) ≡ true → (w : ValidWrite) × (last_valid kind level place h ≡ Some w)
-      × (w.value ≡ value_of (events_of h) place) × ((p : ℕ) → seen heading place p w.since ≡ false)
+      × (w.value ≡ value_of (events_of h) place) × ((q v : ℕ) (n : Noted) (after before : List Noted)
+      → w.since ≡ after ++ n ∷ before → n.event ≡ Write q place v → ⊥)
   pub valid_is_odd : (kind : Kind) (level value : ℕ) → is_valid kind level value ≡ true → value % 2 ≡ 1
   pub held_sound : (kind : Kind) (level place : ℕ) (h : List Noted) (value : ℕ)
       → held heading trust kind level place h ≡ Some value → Holds heading trust kind level place h value
@@ -71,6 +72,12 @@ pub record Below (heading : Heading) (trust : Trust) : Type 0 where
   pub limbo_complete : (h : List Noted) (n : Node) → InLimbo h n → in_limbo h n ≡ true
   pub seen_sound : (place p : ℕ) (since : List Noted) → seen heading place p since ≡ true → Seen heading place p since
   pub seen_complete : (place p : ℕ) (since : List Noted) → Seen heading place p since → seen heading place p since ≡ true
+  pub readable_sound : (h : List Event) (place p value : ℕ) → is_readable heading h place p value ≡ true
+      → Readable heading h place p value
+  pub readable_complete : (h : List Event) (place p value : ℕ) → Readable heading h place p value
+      → is_readable heading h place p value ≡ true
+  pub published_sound : (q p : ℕ) (later : List Event) → published heading q p later ≡ true → Published heading q p later
+  pub published_complete : (q p : ℕ) (later : List Event) → Published heading q p later → published heading q p later ≡ true
   pub root_sound : (h : List Event) (r : Declared) → Contains (roots_of h) r → IsDeclared h r
   pub root_complete : (h : List Event) (r : Declared) → IsDeclared h r → Contains (roots_of h) r
   pub root_node : (r : Declared) (n : Node) → Contains (nodes_of_root heading r) n

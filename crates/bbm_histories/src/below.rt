@@ -2,7 +2,8 @@
 
 use bbm_rules::{
     law_attaching, law_childless, law_each_rule, law_held, law_last_valid, law_limbo,
-    law_notes_keep_the_events, law_root, law_root_pages, law_seen, law_tree,
+    law_notes_keep_the_events, law_published, law_readable_value, law_root, law_root_pages,
+    law_seen, law_tree,
 };
 
 ghost use Rattle.bbm_events.specs.Heading.{Heading};
@@ -20,6 +21,8 @@ pub(crate) fn below()
     law_attaching();
     law_childless();
     law_limbo();
+    law_published();
+    law_readable_value();
     law_root();
     law_root_pages();
     law_seen();

@@ -1,5 +1,9 @@
 //! Laws of publications, answers and the patterns that cleanse.
 
+use bbm_rules::law_last_valid;
+
+use crate::below::below;
+
 ghost use Rattle.std.specs.Prelude.{◌≡◌, ℕ, ◌<◌, true, List, ◌++◌, Some};
 ghost use Rattle.bbm_tlbi_scope.specs.declared.entry.Cover.{Cover};
 ghost use Rattle.bbm_events.specs.Heading.{Heading};
@@ -12,8 +16,7 @@ ghost use Rattle.bbm_rules.specs.Values.{published};
 ghost use Rattle.bbm_histories.specs.Patterns.{LastStays};
 
 /// While no event ends the last valid write of a place, it stays, and so does each pattern after it, with the positions
-/// of its events. The call does nothing; the law is its contract.
-#[tactic(auto, using(crate::proofs::PatternLemmas::laws))]
+/// of its events. The law is the contract.
 pub fn law_patterns_stay()
     ensures last { LastStays }
     ensures publication { (heading : Heading) (place p : ℕ) (newer since : List Noted) (b : Noted) →
@@ -22,7 +25,9 @@ pub fn law_patterns_stay()
         HalfBy heading place p since b t d → HalfBy heading place p (newer ++ since) b t d }
     ensures cleansed { (heading : Heading) (trust : Trust) (place p : ℕ) (newer since : List Noted) →
         Cleansed heading trust place p since → Cleansed heading trust place p (newer ++ since) }
-{}
+{
+    law_last_valid();
+}
 
 /// Under `cnp` all PEs are alike: what is published to one is published to each, by the same DSB; a TLBI that reaches one
 /// reaches each; so a place is seen and half at all PEs, by the same events, and what flushes it at one flushes it at
