@@ -8,3 +8,5 @@ pub mod TreeSteps
 pub mod UniformLemmas
 pub mod ValueLemmas
 pub mod ViewLemmas
+pub mod CoreLemmas
+pub mod WindowLemmas

@@ -89,4 +89,6 @@ pub record Below (heading : Heading) (trust : Trust) : Type 0 where
       → (m : Node) × Contains (nodes_of_root heading r) m × (m.page ≡ r.page)
   pub first_page : (kind : Kind) (page : ℕ) → kind_in_world heading.world kind ≡ true
       → 0 < page_count heading.world kind → Contains (root_pages heading.world kind page) page
+  pub ends_in_older : (newer older : List Event) → (marks : List Noted)
+      × (noted heading trust (newer ++ older) ≡ marks ++ noted heading trust older) × (events_of marks ≡ newer)
   pub events_noted : (h : List Event) → events_of (noted heading trust h) ≡ h

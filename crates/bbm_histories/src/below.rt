@@ -1,7 +1,7 @@
 //! What the crate of the rules proves, gathered for the proofs here.
 
 use bbm_rules::{
-    law_attaching, law_childless, law_each_rule, law_held, law_last_valid, law_limbo,
+    law_attaching, law_childless, law_each_rule, law_held, law_last_valid, law_limbo, law_notes,
     law_notes_keep_the_events, law_published, law_readable_value, law_root, law_root_pages,
     law_seen, law_tree,
 };
@@ -26,5 +26,6 @@ pub(crate) fn below()
     law_root();
     law_root_pages();
     law_seen();
+    law_notes();
     law_notes_keep_the_events();
 }

@@ -19,8 +19,7 @@ ghost use Rattle.bbm_histories.specs.Values.{FreshContent, MakesReadable, OddSta
 
 /// In every history: what is published stays published, and by the same DSB; a TLBI that is answered stays answered by the
 /// same DSB; what a TLBI covers is fixed at its issue; and a value that isn't readable stays so until an event makes it
-/// readable again. The call does nothing; the law is its contract.
-#[tactic(auto, using(crate::proofs::ValueLemmas::frozen))]
+/// readable again. The law is the contract.
 pub fn law_frozen()
     ensures published { (heading : Heading) (q p : ℕ) (newer later : List Event) →
         published heading q p later ≡ true → published heading q p (newer ++ later) ≡ true }
@@ -34,7 +33,9 @@ pub fn law_frozen()
     ensures unreadable { (heading : Heading) (e : Event) (h : List Event) (place p value : ℕ) →
         is_readable heading (e ∷ h) place p value ≡ true → (MakesReadable place value e → ⊥) →
         is_readable heading h place p value ≡ true }
-{}
+{
+    below();
+}
 
 /// In a fresh page of a history that keeps the rules, a value with bit 0 set stays from its write until the next init of
 /// the page. So the last valid value of a place, at whatever kind and level it is read, is the present one, and no PE has
@@ -49,10 +50,12 @@ pub fn law_fresh_content()
 }
 
 /// In a history that keeps the rules, a value that is readable at a PE at a place of a tree, and valid at its level, has
-/// the core of what the place holds, and the place isn't seen at the PE. The call does nothing; the law is its contract.
+/// the core of what the place holds, and the place isn't seen at the PE. The law is the contract.
 pub fn law_window()
     ensures { (heading : Heading) (trust : Trust) (h : List Event) → keeps heading trust h ≡ true →
         (n : Node) (place p value : ℕ) → p < heading.pes → Contains (tree heading trust (noted heading trust h)) n →
         page_of place ≡ n.page → is_readable heading h place p value ≡ true → is_valid n.kind n.level value ≡ true →
         Window heading trust (noted heading trust h) n place p value }
-{}
+{
+    below();
+}

@@ -34,5 +34,6 @@ returns c heading trust = record {
   one_root_node = c.law_root_pages.ensures.single heading;
   first_node = c.law_root_pages.ensures.first heading;
   first_page = c.law_root_pages.ensures.named heading;
+  ends_in_older = c.law_notes.ensures.ends_in_older heading trust;
   events_noted = c.law_notes_keep_the_events.ensures heading trust;
 }
