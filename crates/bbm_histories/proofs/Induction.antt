@@ -1,5 +1,5 @@
 -- The induction over a history that keeps the rules.
-use Rattle.std.proofs.Common.{◌≡◌, ℕ, Bool, true, false, List, [], ◌∷◌, ◌++◌, Option, Some, None, is_none, refl, ap}
+use Rattle.std.proofs.Common.{◌≡◌, ℕ, Bool, true, false, List, [], ◌∷◌, ◌++◌, Option, Some, None, is_none, refl, ◌∙◌, ap}
 use Rattle.std.proofs.lemmas.Bool.{and_parts}
 use Rattle.bbm_events.specs.Heading.{Heading}
 use Rattle.bbm_events.specs.declared.event.Event.{Event}
@@ -61,4 +61,27 @@ event_at (n ∷ ns) (x ∷ after) before e split =
       older = a.older;
       split = ap (λ (xs : List Noted). n ∷ xs) a.split;
       is = a.is;
+    }
+
+-- a split of the events is one of the notes
+pub record NotesSplit (ns : List Noted) (newer older : List Event) : Type 0 where
+  pub new : List Noted
+  pub old : List Noted
+  pub split : ns ≡ new ++ old
+  pub new_events : events_of new ≡ newer
+  pub old_events : events_of old ≡ older
+
+pub notes_split : (ns : List Noted) (newer older : List Event) → events_of ns ≡ newer ++ older → NotesSplit ns newer older
+notes_split ns [] older e = record { new = []; old = ns; split = refl; new_events = refl; old_events = e }
+notes_split [] (x ∷ newer) older e = cc
+notes_split (n ∷ ns) (x ∷ newer) older e =
+    let rest : events_of ns ≡ newer ++ older = cc in
+    let first : n.event ≡ x = cc in
+    let s : NotesSplit ns newer older = notes_split ns newer older rest in
+    record {
+      new = n ∷ s.new;
+      old = s.old;
+      split = ap (λ (xs : List Noted). n ∷ xs) s.split;
+      new_events = ap (λ (es : List Event). n.event ∷ es) s.new_events ∙ ap (λ (y : Event). y ∷ newer) first;
+      old_events = s.old_events;
     }

@@ -22,7 +22,7 @@ pub record Invariants (heading : Heading) (trust : Trust) (h : List Noted) : Typ
 
 module _ (heading : Heading) (trust : Trust) (b : Below heading trust) where
   -- no node before the first event
-  none_at_start : (n : Node) → InTree heading trust [] n → ⊥
+  pub none_at_start : (n : Node) → InTree heading trust [] n → ⊥
   none_at_start n t =
       let k : IsNode heading trust [] n = b.tree_sound [] n t in
       let below = k.declared.1 in omega arith

@@ -27,15 +27,15 @@ append_left (x ∷ xs) ys zs e = let rest : xs ++ ys ≡ xs ++ zs = cc in append
 
 -- an item of two lists together is one of the first or of the second
 pub split_cases : {A : Type 0} (xs ys after before : List A) (x : A) → xs ++ ys ≡ after ++ x ∷ before
-    → ((rest : List A) × (xs ≡ after ++ x ∷ rest)) ⊎ ((start : List A) × (ys ≡ start ++ x ∷ before))
-split_cases [] ys after before x e = inr (after, e)
+    → ((rest : List A) × (xs ≡ after ++ x ∷ rest)) ⊎ ((start : List A) × (ys ≡ start ++ x ∷ before) × (after ≡ xs ++ start))
+split_cases [] ys after before x e = inr (after, e, refl)
 split_cases (z ∷ xs) ys [] before x e = let first : z ≡ x = cc in inl (xs, ap (λ y. y ∷ xs) first)
 split_cases {A} (z ∷ xs) ys (y ∷ after) before x e =
     let first : z ≡ y = cc in
     let rest : xs ++ ys ≡ after ++ x ∷ before = cc in
     elim (split_cases xs ys after before x rest) [
       | inl a ↦ inl (a.0, ap (λ (w : A). w ∷ xs) first ∙ ap (λ (ws : List A). y ∷ ws) a.1)
-      | inr a ↦ inr a
+      | inr a ↦ inr (a.0, a.1, ap (λ (ws : List A). y ∷ ws) a.2 ∙ ap (λ (w : A). w ∷ (xs ++ a.0)) (sym first))
     ]
 
 pub publication_stays : (heading : Heading) (place p : ℕ) (newer since : List Noted) (b : Noted)

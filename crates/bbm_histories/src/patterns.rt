@@ -31,7 +31,7 @@ pub fn law_patterns_stay()
 
 /// Under `cnp` all PEs are alike: what is published to one is published to each, by the same DSB; a TLBI that reaches one
 /// reaches each; so a place is seen and half at all PEs, by the same events, and what flushes it at one flushes it at
-/// each. The call does nothing; the law is its contract.
+/// each. The law is the contract.
 pub fn law_uniform()
     ensures published { (heading : Heading) (q p r : ℕ) (later : List Event) → heading.cnp ≡ true → r < heading.pes →
         published heading q p later ≡ true → published heading q r later ≡ true }
@@ -42,4 +42,6 @@ pub fn law_uniform()
         heading.cnp ≡ true → r < heading.pes → HalfBy heading place p since b t d → HalfBy heading place r since b t d }
     ensures flush { (heading : Heading) (cover : Cover) (place p r : ℕ) (since : List Noted) (t : Issued Noted) (d : Noted) →
         heading.cnp ≡ true → Flush heading cover place p since t d → Flush heading cover place r since t d }
-{}
+{
+    below();
+}
