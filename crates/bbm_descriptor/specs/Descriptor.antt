@@ -1,10 +1,12 @@
 -- What a value of a place means at a kind and a level, and when a write over it needs
 -- break-before-make.
-use Rattle.std.specs.Prelude.{◌≡◌, ℕ, Bool, true, false, not, ◌&&◌, ◌==◌, ◌<◌, ◌%◌, ◌^◌, Option, Some, None, zero, suc, if◌then◌else◌}
+use Rattle.std.specs.Prelude.{◌≡◌, ℕ, Bool, true, false, not, ◌&&◌, ◌==◌, ◌<◌, ◌%◌, ◌^◌, Option, Some, None, zero, suc}
+use Rattle.std.specs.Prelude.{if◌then◌else◌}
 use Rattle.bbm_regimes.specs.declared.regime.Kind.{Kind}
 use Rattle.bbm_regimes.specs.declared.regime.Kind.TheVariants.{El2, S2, Ttbr0, Ttbr1}
 use Rattle.bbm_regimes.specs.Extent.{span_of}
-use Rattle.bbm_descriptor.specs.Fields.{type_bits, next_of, ns_table, out_of, attrs_of, share_of, not_global, contiguous_of}
+use Rattle.bbm_descriptor.specs.Fields.{type_bits, next_of, ns_table, out_of, attrs_of, share_of, not_global}
+use Rattle.bbm_descriptor.specs.Fields.{contiguous_of}
 use Rattle.bbm_descriptor.specs.declared.desc.Desc.{Desc}
 use Rattle.bbm_descriptor.specs.declared.desc.Desc.TheVariants.{Invalid, Table, Leaf}
 use Rattle.bbm_descriptor.specs.declared.desc.Core.{Core}

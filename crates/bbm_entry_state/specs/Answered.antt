@@ -10,4 +10,5 @@ use Rattle.bbm_entry_state.specs.Points.{waits}
 
 -- the DSB answers a TLBI that covers so far and for which the PE waits
 abbrev pub answered_at : Pends → Dsb → Cover → ℕ → Bool
-answered_at pends dsb cover p = (answers dsb true && waits pends true cover p) || (answers dsb false && waits pends false cover p)
+answered_at pends dsb cover p =
+    (answers dsb true && waits pends true cover p) || (answers dsb false && waits pends false cover p)

@@ -1,7 +1,8 @@
 -- What each call makes of a state and its pendings, PE by PE.
 -- Source: project's own choice; the order that it keeps is that of the Arm ARM (DDI 0487), "Using break-before-make
 -- when updating translation table entries".
-use Rattle.std.specs.Prelude.{◌≡◌, ℕ, Bool, false, Option, Some, None, is_none, is_some, nat_eq, not, ◌&&◌, ◌||◌, if◌then◌else◌}
+use Rattle.std.specs.Prelude.{◌≡◌, ℕ, Bool, false, Option, Some, None, is_none, is_some, nat_eq, not, ◌&&◌, ◌||◌}
+use Rattle.std.specs.Prelude.{if◌then◌else◌}
 use Rattle.bbm_regimes.specs.EveryPe.{every_pe}
 use Rattle.bbm_regimes.specs.PeMask.{pe_in}
 use Rattle.bbm_regimes.specs.declared.pe.PeMask.{PeMask}
@@ -65,11 +66,13 @@ clean_after state pends dsb p =
 
 -- A DSB, in a log with n PEs, answered TLBIs of its issuer. Where each PE is cleansed, the place is clean and nothing
 -- waits.
-pub record Completed (old : EntryState) (pends : Pends) (dsb : Dsb) (n : ℕ) (new : EntryState) (left : Pends) : Type 0 where
+pub record Completed (old : EntryState) (pends : Pends) (dsb : Dsb) (n : ℕ) (new : EntryState) (left : Pends)
+    : Type 0 where
   pub core : core_in new ≡ (if every_pe n (clean_after old pends dsb) then None else core_in old)
   pub broken : is_broken new ≡ (is_some (core_in new) && is_broken old)
   pub writers : (p : ℕ) → writer_at new p ≡ (is_some (core_in new) && writer_at old p)
   pub seen : (p : ℕ) → seen_at new p ≡ (is_some (core_in new) && seen_at old p)
   pub half : (p : ℕ) → half_at new p ≡ (is_some (core_in new) && half_after old pends dsb p)
   pub clean : (p : ℕ) → clean_at new p ≡ (is_some (core_in new) && clean_after old pends dsb p)
-  pub waiting : (b : Bool) (c : Cover) (p : ℕ) → waits left b c p ≡ (is_some (core_in new) && (not (answers dsb b) && waits pends b c p))
+  pub waiting : (b : Bool) (c : Cover) (p : ℕ)
+      → waits left b c p ≡ (is_some (core_in new) && (not (answers dsb b) && waits pends b c p))

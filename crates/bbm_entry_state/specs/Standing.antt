@@ -20,7 +20,8 @@ pub record Marked (n : ℕ) (state : EntryState) (pends : ℕ → Pends) (publis
   pub seen : (p : ℕ) → seen_at state p ≡ seen n p (since published)
   pub half : (p : ℕ) → half_at state p ≡ half n p (since steps)
   pub clean : (p : ℕ) → clean_at state p ≡ cleansed n p (since steps)
-  pub waiting : (q : ℕ) (b : Bool) (c : Cover) (p : ℕ) → waits (pends q) b c p ≡ still_waits (flushes (earned n c p) c p) q b (since steps)
+  pub waiting : (q : ℕ) (b : Bool) (c : Cover) (p : ℕ)
+      → waits (pends q) b c p ≡ still_waits (flushes (earned n c p) c p) q b (since steps)
 
 -- The state and the pendings of each issuer stand for these steps.
 pub record Between (n : ℕ) (state : EntryState) (pends : ℕ → Pends) (published steps : List Step) : Type 0 where
@@ -33,9 +34,11 @@ Stands n state pends steps = Between n state pends steps steps
 
 -- The new pendings of each issuer are the old ones where the place is broken, and else none.
 abbrev pub KeepsPends : EntryState → (ℕ → Pends) → (ℕ → Pends) → Type 0
-KeepsPends state old new = (q : ℕ) (b : Bool) (c : Cover) (p : ℕ) → waits (new q) b c p ≡ (is_broken state && waits (old q) b c p)
+KeepsPends state old new =
+    (q : ℕ) (b : Bool) (c : Cover) (p : ℕ) → waits (new q) b c p ≡ (is_broken state && waits (old q) b c p)
 
 -- The new pendings of one issuer are these, and those of each other issuer the old ones.
 abbrev pub SetsPends : ℕ → Pends → (ℕ → Pends) → (ℕ → Pends) → Type 0
 SetsPends issuer pends old new =
-    (q : ℕ) (b : Bool) (c : Cover) (p : ℕ) → waits (new q) b c p ≡ (if issuer == q then waits pends b c p else waits (old q) b c p)
+    (q : ℕ) (b : Bool) (c : Cover) (p : ℕ)
+    → waits (new q) b c p ≡ (if issuer == q then waits pends b c p else waits (old q) b c p)

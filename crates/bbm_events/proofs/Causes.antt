@@ -156,7 +156,7 @@ hyp_ends version left =
     then_ends IsHeaderCause (header_field decimal_value el2_start.1) _ (header_ends decimal_value el2_start.1) (λ s2_start.
     then_ends IsHeaderCause (header_field decimal_value s2_start.1) _ (header_ends decimal_value s2_start.1) (λ s2_pages.
     then_ends IsHeaderCause (cnp_field version s2_pages.1) _ (cnp_ends version s2_pages.1) (λ cnp.
-    checked_ends (record { version = version; pes = pes.0; cnp = cnp.0; world = Hyp el2_start.0 s2_start.0 s2_pages.0 }) cnp.1)))))
+    checked_ends (record { version = version; pes = pes.0; cnp = cnp.0; world = Hyp (record { el2_start = el2_start.0; s2_start = s2_start.0; s2_pages = s2_pages.0 }) }) cnp.1)))))
 
 kernel_ends : (version : ℕ) (left : Fields) → Ends IsHeaderCause (kernel_fields version left)
 kernel_ends version left =
@@ -165,7 +165,7 @@ kernel_ends version left =
     then_ends IsHeaderCause (header_field decimal_value start0.1) _ (header_ends decimal_value start0.1) (λ start1.
     then_ends IsHeaderCause (header_field (with_word asid_from_word asid_froms) start1.1) _ (header_ends (with_word asid_from_word asid_froms) start1.1) (λ asid_from.
     then_ends IsHeaderCause (cnp_field version asid_from.1) _ (cnp_ends version asid_from.1) (λ cnp.
-    checked_ends (record { version = version; pes = pes.0; cnp = cnp.0; world = Kernel start0.0 start1.0 asid_from.0 }) cnp.1)))))
+    checked_ends (record { version = version; pes = pes.0; cnp = cnp.0; world = Kernel (record { start0 = start0.0; start1 = start1.0; asid_from = asid_from.0 }) }) cnp.1)))))
 
 world_ends : (version : ℕ) (word : List ℕ) (left : Fields) → Ends IsHeaderCause (world_fields version word left)
 world_ends version word left = by (bytes_eq word (codes "hyp")) (bytes_eq word (codes "kernel"))

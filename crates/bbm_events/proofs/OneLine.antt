@@ -282,7 +282,7 @@ hyp_once version rest e =
     let s2_start = bind_ok (header_field decimal_value el2_start.0.1) _ el2_start.2 in
     let s2_pages = bind_ok (header_field decimal_value s2_start.0.1) _ s2_start.2 in
     let cnp = bind_ok (cnp_field version s2_pages.0.1) _ s2_pages.2 in
-    let end = checked_once (record { version = version; pes = pes.0.0; cnp = cnp.0.0; world = Hyp el2_start.0.0 s2_start.0.0 s2_pages.0.0 }) cnp.0.1 cnp.2 in (
+    let end = checked_once (record { version = version; pes = pes.0.0; cnp = cnp.0.0; world = Hyp (record { el2_start = el2_start.0.0; s2_start = s2_start.0.0; s2_pages = s2_pages.0.0 }) }) cnp.0.1 cnp.2 in (
       ap (λ (left : Fields). codes "hyp" ∷ left) (number_once rest pes.1
           ∙ ap (λ (left : Fields). decimal pes.0.0 ∷ left) (number_once pes.0.1 el2_start.1
           ∙ ap (λ (left : Fields). decimal el2_start.0.0 ∷ left) (number_once el2_start.0.1 s2_start.1
@@ -299,7 +299,7 @@ kernel_once version rest e =
     let start1 = bind_ok (header_field decimal_value start0.0.1) _ start0.2 in
     let asid_from = bind_ok (header_field (with_word asid_from_word asid_froms) start1.0.1) _ start1.2 in
     let cnp = bind_ok (cnp_field version asid_from.0.1) _ asid_from.2 in
-    let end = checked_once (record { version = version; pes = pes.0.0; cnp = cnp.0.0; world = Kernel start0.0.0 start1.0.0 asid_from.0.0 }) cnp.0.1 cnp.2 in (
+    let end = checked_once (record { version = version; pes = pes.0.0; cnp = cnp.0.0; world = Kernel (record { start0 = start0.0.0; start1 = start1.0.0; asid_from = asid_from.0.0 }) }) cnp.0.1 cnp.2 in (
       ap (λ (left : Fields). codes "kernel" ∷ left) (number_once rest pes.1
           ∙ ap (λ (left : Fields). decimal pes.0.0 ∷ left) (number_once pes.0.1 start0.1
           ∙ ap (λ (left : Fields). decimal start0.0.0 ∷ left) (number_once start0.0.1 start1.1

@@ -7,10 +7,11 @@ use Rattle.std.proofs.lemmas.Slice.Eq.{bytes_eq-Decides}
 use Rattle.std.proofs.lemmas.Bool.{and_parts, ltb-true, leb-true, eqb-true}
 use Rattle.std.proofs.lemmas.Bool.Decides.{nat_tests}
 use Rattle.bbm_regimes.specs.declared.regime.World.{World}
+use Rattle.bbm_regimes.specs.declared.regime.HypWorld.{HypWorld}
+use Rattle.bbm_regimes.specs.declared.regime.KernelWorld.{KernelWorld}
 use Rattle.bbm_regimes.specs.declared.regime.World.TheVariants.{Hyp, Kernel}
 use Rattle.bbm_regimes.specs.World.{world_ok, page_count}
 use Rattle.bbm_regimes.specs.declared.regime.Kind.{Kind}
-use Rattle.bbm_regimes.specs.declared.regime.AsidFrom.{AsidFrom}
 use Rattle.bbm_regimes.specs.declared.regime.Reg.{Reg}
 use Rattle.bbm_barriers.specs.declared.Dsb.{Dsb}
 use Rattle.bbm_tlbi_scope.specs.declared.op.TlbiOp.{TlbiOp}
@@ -328,11 +329,11 @@ item_written_is_read h x ok fits = ap (λ (all : Fields). read_fields h all) (it
 
 -- The header.
 
-hyp_below : (el2_start s2_start s2_pages : ℕ) → world_ok (Hyp el2_start s2_start s2_pages) ≡ true → (el2_start < 2 ^ 64) × (s2_start < 2 ^ 64) × (s2_pages < 2 ^ 64)
-hyp_below el2_start s2_start s2_pages ok = (grind (arith, nat_tests), grind (arith, nat_tests), grind (arith, nat_tests))
+hyp_below : (world : HypWorld) → world_ok (Hyp world) ≡ true → (world.el2_start < 2 ^ 64) × (world.s2_start < 2 ^ 64) × (world.s2_pages < 2 ^ 64)
+hyp_below world ok = (grind (arith, nat_tests), grind (arith, nat_tests), grind (arith, nat_tests))
 
-kernel_below : (start0 start1 : ℕ) (asid_from : AsidFrom) → world_ok (Kernel start0 start1 asid_from) ≡ true → (start0 < 2 ^ 64) × (start1 < 2 ^ 64)
-kernel_below start0 start1 asid_from ok = (grind (arith, nat_tests), grind (arith, nat_tests))
+kernel_below : (world : KernelWorld) → world_ok (Kernel world) ≡ true → (world.start0 < 2 ^ 64) × (world.start1 < 2 ^ 64)
+kernel_below world ok = (grind (arith, nat_tests), grind (arith, nat_tests))
 
 number_read : (n : ℕ) (rest : Fields) → n < 2 ^ 64 → header_field decimal_value (decimal n ∷ rest) ≡ Ok (n, rest)
 number_read n rest below = field_read BadHeader BadHeader decimal_value (decimal n) rest (decimal_read n below)
@@ -364,30 +365,30 @@ read_header_fields all =
 
 world_read : (version pes : ℕ) (cnp : Bool) (world : World) → heading_ok (record { version = version; pes = pes; cnp = cnp; world = world }) ≡ true
     → read_header_fields (codes "bbmlog" ∷ decimal version ∷ header_fields pes world (cnp_fields version cnp)) ≡ Ok (record { version = version; pes = pes; cnp = cnp; world = world })
-world_read version pes cnp (Hyp el2_start s2_start s2_pages) ok =
-    let here = ranges (record { version = version; pes = pes; cnp = cnp; world = Hyp el2_start s2_start s2_pages }) ok in
-    let small = hyp_below el2_start s2_start s2_pages here.world in
+world_read version pes cnp (Hyp world) ok =
+    let here = ranges (record { version = version; pes = pes; cnp = cnp; world = Hyp world }) ok in
+    let small = hyp_below world here.world in
     let after = cnp_fields version cnp in
-    on (version_field (decimal version ∷ codes "hyp" ∷ decimal pes ∷ decimal el2_start ∷ decimal s2_start ∷ decimal s2_pages ∷ after)) _
-    (version_read version (codes "hyp" ∷ decimal pes ∷ decimal el2_start ∷ decimal s2_start ∷ decimal s2_pages ∷ after) here.version)
-    ∙ on (header_field decimal_value (decimal pes ∷ decimal el2_start ∷ decimal s2_start ∷ decimal s2_pages ∷ after)) _ (number_read pes (decimal el2_start ∷ decimal s2_start ∷ decimal s2_pages ∷ after) (omega (arith, here.pes)))
-    ∙ on (header_field decimal_value (decimal el2_start ∷ decimal s2_start ∷ decimal s2_pages ∷ after)) _ (number_read el2_start (decimal s2_start ∷ decimal s2_pages ∷ after) small.0)
-    ∙ on (header_field decimal_value (decimal s2_start ∷ decimal s2_pages ∷ after)) _ (number_read s2_start (decimal s2_pages ∷ after) small.1)
-    ∙ on (header_field decimal_value (decimal s2_pages ∷ after)) _ (number_read s2_pages after small.2)
+    on (version_field (decimal version ∷ codes "hyp" ∷ decimal pes ∷ decimal world.el2_start ∷ decimal world.s2_start ∷ decimal world.s2_pages ∷ after)) _
+    (version_read version (codes "hyp" ∷ decimal pes ∷ decimal world.el2_start ∷ decimal world.s2_start ∷ decimal world.s2_pages ∷ after) here.version)
+    ∙ on (header_field decimal_value (decimal pes ∷ decimal world.el2_start ∷ decimal world.s2_start ∷ decimal world.s2_pages ∷ after)) _ (number_read pes (decimal world.el2_start ∷ decimal world.s2_start ∷ decimal world.s2_pages ∷ after) (omega (arith, here.pes)))
+    ∙ on (header_field decimal_value (decimal world.el2_start ∷ decimal world.s2_start ∷ decimal world.s2_pages ∷ after)) _ (number_read world.el2_start (decimal world.s2_start ∷ decimal world.s2_pages ∷ after) small.0)
+    ∙ on (header_field decimal_value (decimal world.s2_start ∷ decimal world.s2_pages ∷ after)) _ (number_read world.s2_start (decimal world.s2_pages ∷ after) small.1)
+    ∙ on (header_field decimal_value (decimal world.s2_pages ∷ after)) _ (number_read world.s2_pages after small.2)
     ∙ on (cnp_field version after) _ (cnp_read version cnp here.cnp)
-    ∙ in_range (record { version = version; pes = pes; cnp = cnp; world = Hyp el2_start s2_start s2_pages }) ok
-world_read version pes cnp (Kernel start0 start1 asid_from) ok =
-    let here = ranges (record { version = version; pes = pes; cnp = cnp; world = Kernel start0 start1 asid_from }) ok in
-    let small = kernel_below start0 start1 asid_from here.world in
+    ∙ in_range (record { version = version; pes = pes; cnp = cnp; world = Hyp world }) ok
+world_read version pes cnp (Kernel world) ok =
+    let here = ranges (record { version = version; pes = pes; cnp = cnp; world = Kernel world }) ok in
+    let small = kernel_below world here.world in
     let after = cnp_fields version cnp in
-    on (version_field (decimal version ∷ codes "kernel" ∷ decimal pes ∷ decimal start0 ∷ decimal start1 ∷ asid_from_word asid_from ∷ after)) _
-    (version_read version (codes "kernel" ∷ decimal pes ∷ decimal start0 ∷ decimal start1 ∷ asid_from_word asid_from ∷ after) here.version)
-    ∙ on (header_field decimal_value (decimal pes ∷ decimal start0 ∷ decimal start1 ∷ asid_from_word asid_from ∷ after)) _ (number_read pes (decimal start0 ∷ decimal start1 ∷ asid_from_word asid_from ∷ after) (omega (arith, here.pes)))
-    ∙ on (header_field decimal_value (decimal start0 ∷ decimal start1 ∷ asid_from_word asid_from ∷ after)) _ (number_read start0 (decimal start1 ∷ asid_from_word asid_from ∷ after) small.0)
-    ∙ on (header_field decimal_value (decimal start1 ∷ asid_from_word asid_from ∷ after)) _ (number_read start1 (asid_from_word asid_from ∷ after) small.1)
-    ∙ on (header_field (with_word asid_from_word asid_froms) (asid_from_word asid_from ∷ after)) _ (field_read BadHeader BadHeader (with_word asid_from_word asid_froms) (asid_from_word asid_from) after (asid_from_word_read asid_from))
+    on (version_field (decimal version ∷ codes "kernel" ∷ decimal pes ∷ decimal world.start0 ∷ decimal world.start1 ∷ asid_from_word world.asid_from ∷ after)) _
+    (version_read version (codes "kernel" ∷ decimal pes ∷ decimal world.start0 ∷ decimal world.start1 ∷ asid_from_word world.asid_from ∷ after) here.version)
+    ∙ on (header_field decimal_value (decimal pes ∷ decimal world.start0 ∷ decimal world.start1 ∷ asid_from_word world.asid_from ∷ after)) _ (number_read pes (decimal world.start0 ∷ decimal world.start1 ∷ asid_from_word world.asid_from ∷ after) (omega (arith, here.pes)))
+    ∙ on (header_field decimal_value (decimal world.start0 ∷ decimal world.start1 ∷ asid_from_word world.asid_from ∷ after)) _ (number_read world.start0 (decimal world.start1 ∷ asid_from_word world.asid_from ∷ after) small.0)
+    ∙ on (header_field decimal_value (decimal world.start1 ∷ asid_from_word world.asid_from ∷ after)) _ (number_read world.start1 (asid_from_word world.asid_from ∷ after) small.1)
+    ∙ on (header_field (with_word asid_from_word asid_froms) (asid_from_word world.asid_from ∷ after)) _ (field_read BadHeader BadHeader (with_word asid_from_word asid_froms) (asid_from_word world.asid_from) after (asid_from_word_read world.asid_from))
     ∙ on (cnp_field version after) _ (cnp_read version cnp here.cnp)
-    ∙ in_range (record { version = version; pes = pes; cnp = cnp; world = Kernel start0 start1 asid_from }) ok
+    ∙ in_range (record { version = version; pes = pes; cnp = cnp; world = Kernel world }) ok
 
 cnp_no_spaces : (version : ℕ) (cnp : Bool) → no_spaces (cnp_fields version cnp) ≡ true
 cnp_no_spaces version cnp = by (may_share version)
@@ -397,13 +398,13 @@ cnp_no_spaces version cnp = by (may_share version)
     by false = refl
 
 header_no_spaces : (pes : ℕ) (world : World) (after : Fields) → no_spaces after ≡ true → no_spaces (header_fields pes world after) ≡ true
-header_no_spaces pes (Hyp el2_start s2_start s2_pages) after clean =
-    dec pes (decimal el2_start ∷ decimal s2_start ∷ decimal s2_pages ∷ after)
-    (dec el2_start (decimal s2_start ∷ decimal s2_pages ∷ after) (dec s2_start (decimal s2_pages ∷ after) (dec s2_pages after clean)))
-header_no_spaces pes (Kernel start0 start1 asid_from) after clean =
-    dec pes (decimal start0 ∷ decimal start1 ∷ asid_from_word asid_from ∷ after)
-    (dec start0 (decimal start1 ∷ asid_from_word asid_from ∷ after) (dec start1 (asid_from_word asid_from ∷ after)
-    (one_more (asid_from_word asid_from) after (asid_from_word_no_space asid_from) clean)))
+header_no_spaces pes (Hyp world) after clean =
+    dec pes (decimal world.el2_start ∷ decimal world.s2_start ∷ decimal world.s2_pages ∷ after)
+    (dec world.el2_start (decimal world.s2_start ∷ decimal world.s2_pages ∷ after) (dec world.s2_start (decimal world.s2_pages ∷ after) (dec world.s2_pages after clean)))
+header_no_spaces pes (Kernel world) after clean =
+    dec pes (decimal world.start0 ∷ decimal world.start1 ∷ asid_from_word world.asid_from ∷ after)
+    (dec world.start0 (decimal world.start1 ∷ asid_from_word world.asid_from ∷ after) (dec world.start1 (asid_from_word world.asid_from ∷ after)
+    (one_more (asid_from_word world.asid_from) after (asid_from_word_no_space world.asid_from) clean)))
 
 pub header_written_is_read : (h : Heading) → heading_ok h ≡ true → header_of (header_line h) ≡ Ok h
 unfolding header_of header_line

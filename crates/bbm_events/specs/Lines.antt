@@ -1,8 +1,11 @@
 -- The grammar of a log: which header or item a line spells, or the first cause for which it spells none,
 -- and the one line of a header or an item. A line is its bytes without the newline.
 -- Source: project's own choice.
-use Rattle.std.specs.Prelude.{ℕ, List, [], ◌∷◌, ◌++◌, drop, Bool, false, ◌&&◌, ◌==◌, if◌then◌else◌, Option, Some, None, Result, Ok, Err, codes, decimal, bytes_eq}
+use Rattle.std.specs.Prelude.{ℕ, List, [], ◌∷◌, ◌++◌, drop, Bool, false, ◌&&◌, ◌==◌, if◌then◌else◌, Option, Some, None}
+use Rattle.std.specs.Prelude.{Result, Ok, Err, codes, decimal, bytes_eq}
 use Rattle.std.specs.Option.{option_map}
+use Rattle.bbm_regimes.specs.declared.regime.HypWorld.{HypWorld}
+use Rattle.bbm_regimes.specs.declared.regime.KernelWorld.{KernelWorld}
 use Rattle.bbm_regimes.specs.declared.regime.World.{World}
 use Rattle.bbm_regimes.specs.declared.regime.World.TheVariants.{Hyp, Kernel}
 use Rattle.bbm_regimes.specs.declared.regime.Kind.{Kind}
@@ -17,11 +20,13 @@ use Rattle.bbm_events.specs.declared.event.Item.TheVariants as item
 use Rattle.bbm_events.specs.declared.keyword.Keyword.{Keyword}
 use Rattle.bbm_events.specs.declared.keyword.Keyword.TheVariants as first
 use Rattle.bbm_events.specs.declared.malformed.Malformed.{Malformed}
-use Rattle.bbm_events.specs.declared.malformed.Malformed.TheVariants.{NoMagic, BadHeader, UnknownWord, BadNumber, BadPe, BadAddress, MissingField, ExtraField, BadLabel}
+use Rattle.bbm_events.specs.declared.malformed.Malformed.TheVariants.{NoMagic, BadHeader, UnknownWord, BadNumber, BadPe}
+use Rattle.bbm_events.specs.declared.malformed.Malformed.TheVariants.{BadAddress, MissingField, ExtraField, BadLabel}
 use Rattle.bbm_events.specs.Heading.{Heading, heading_ok, is_version, has_op, may_label, may_share}
 use Rattle.bbm_events.specs.Label.{is_label}
 use Rattle.bbm_events.specs.Spelling.{fields, joined, hex, decimal_value, hex_value}
-use Rattle.bbm_events.specs.Words.{with_word, keyword_word, keywords, cnp_word, cnps, kind_word, kinds, reg_word, regs, asid_from_word, asid_froms, dsb_word, dsbs, op_word, ops}
+use Rattle.bbm_events.specs.Words.{with_word, keyword_word, keywords, cnp_word, cnps, kind_word, kinds, reg_word, regs}
+use Rattle.bbm_events.specs.Words.{asid_from_word, asid_froms, dsb_word, dsbs, op_word, ops}
 use Rattle.bbm_events.specs.Fits.{is_pe, is_page, is_place, is_root_page, is_lock, is_count}
 
 -- The first cause ends the reading of a line.
@@ -85,7 +90,8 @@ hyp_fields version rest = do
   s2_start ← header_field decimal_value el2_start.1
   s2_pages ← header_field decimal_value s2_start.1
   cnp ← cnp_field version s2_pages.1
-  checked (record { version = version; pes = pes.0; cnp = cnp.0; world = Hyp el2_start.0 s2_start.0 s2_pages.0 }) cnp.1
+  let world : HypWorld = record { el2_start = el2_start.0; s2_start = s2_start.0; s2_pages = s2_pages.0 }
+  checked (record { version = version; pes = pes.0; cnp = cnp.0; world = Hyp world }) cnp.1
 
 -- `PES START0 START1 ASIDFROM`, and from version 2 on `CNP`
 abbrev pub kernel_fields : ℕ → Fields → Result Heading Malformed
@@ -95,7 +101,8 @@ kernel_fields version rest = do
   start1 ← header_field decimal_value start0.1
   asid_from ← header_field (with_word asid_from_word asid_froms) start1.1
   cnp ← cnp_field version asid_from.1
-  checked (record { version = version; pes = pes.0; cnp = cnp.0; world = Kernel start0.0 start1.0 asid_from.0 }) cnp.1
+  let world : KernelWorld = record { start0 = start0.0; start1 = start1.0; asid_from = asid_from.0 }
+  checked (record { version = version; pes = pes.0; cnp = cnp.0; world = Kernel world }) cnp.1
 
 -- the fields after the word of the world
 abbrev pub world_fields : ℕ → List ℕ → Fields → Result Heading Malformed
@@ -181,7 +188,9 @@ label_value text = if is_label (drop 1 text) then Some (drop 1 text) else None
 -- the label that follows the last field of an event line, where one stands there
 abbrev pub label_field : ℕ → Fields → FieldRead (Option (List ℕ))
 label_field version [] = Ok (None, [])
-label_field version (text ∷ rest) = if may_label version && is_marked text then found BadLabel (option_map Some (label_value text)) rest else Ok (None, text ∷ rest)
+label_field version (text ∷ rest) =
+    if may_label version && is_marked text then found BadLabel (option_map Some (label_value text)) rest
+    else Ok (None, text ∷ rest)
 
 -- the event with its label, where no field is left
 abbrev pub event_item : Heading → Event → Fields → Result Item Malformed
@@ -202,7 +211,8 @@ pe_and h second event rest = do
   x ← second pe.1
   event_item h (event pe.0 x.0) x.1
 
-abbrev pub pe_and_two : {A B : Type 0} → Heading → (Fields → FieldRead A) → (Fields → FieldRead B) → (ℕ → A → B → Event) → Fields → Result Item Malformed
+abbrev pub pe_and_two : {A B : Type 0} → Heading → (Fields → FieldRead A) → (Fields → FieldRead B) → (ℕ → A → B → Event)
+    → Fields → Result Item Malformed
 pe_and_two h second third event rest = do
   pe ← pe_field h rest
   x ← second pe.1
@@ -265,8 +275,10 @@ cnp_fields version cnp = if may_share version then cnp_word cnp ∷ [] else []
 
 -- the world's word, the number of PEs and the world's fields, with those that follow
 abbrev pub header_fields : ℕ → World → Fields → Fields
-header_fields pes (Hyp el2_start s2_start s2_pages) after = codes "hyp" ∷ decimal pes ∷ decimal el2_start ∷ decimal s2_start ∷ decimal s2_pages ∷ after
-header_fields pes (Kernel start0 start1 asid_from) after = codes "kernel" ∷ decimal pes ∷ decimal start0 ∷ decimal start1 ∷ asid_from_word asid_from ∷ after
+header_fields pes (Hyp world) after =
+    codes "hyp" ∷ decimal pes ∷ decimal world.el2_start ∷ decimal world.s2_start ∷ decimal world.s2_pages ∷ after
+header_fields pes (Kernel world) after =
+    codes "kernel" ∷ decimal pes ∷ decimal world.start0 ∷ decimal world.start1 ∷ asid_from_word world.asid_from ∷ after
 
 -- the one line of a header
 unfoldable pub header_line : Heading → List ℕ
@@ -282,7 +294,8 @@ operand_fields op xt = if has_operand op then hex xt ∷ [] else []
 abbrev pub event_fields : Event → Fields
 event_fields (event.Init pe page) = codes "init" ∷ decimal pe ∷ hex page ∷ []
 event_fields (event.Null pe page) = codes "null" ∷ decimal pe ∷ hex page ∷ []
-event_fields (event.Root pe kind lock page) = codes "root" ∷ decimal pe ∷ kind_word kind ∷ lock_text lock ∷ hex page ∷ []
+event_fields (event.Root pe kind lock page) =
+    codes "root" ∷ decimal pe ∷ kind_word kind ∷ lock_text lock ∷ hex page ∷ []
 event_fields (event.Unroot pe page) = codes "unroot" ∷ decimal pe ∷ hex page ∷ []
 event_fields (event.Write pe place value) = codes "w" ∷ decimal pe ∷ hex place ∷ hex value ∷ []
 event_fields (event.Dsb pe dsb) = codes "dsb" ∷ decimal pe ∷ dsb_word dsb ∷ []

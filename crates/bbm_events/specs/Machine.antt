@@ -14,7 +14,8 @@ use Rattle.bbm_events.specs.Heading.{Heading, may_share}
 use Rattle.bbm_events.specs.Spelling.{fields, joined, hex, decimal_value}
 use Rattle.bbm_events.specs.Words.{with_word, kind_word}
 use Rattle.bbm_events.specs.Fits.{is_pe, is_place, is_value}
-use Rattle.bbm_events.specs.Lines.{◌>>=◌, Fields, FieldRead, passing, exactly, line_field, pe_field, kind_field, place_field, value_field, whole}
+use Rattle.bbm_events.specs.Lines.{◌>>=◌, Fields, FieldRead, passing, exactly, line_field, pe_field, kind_field}
+use Rattle.bbm_events.specs.Lines.{place_field, value_field, whole}
 
 -- the word of a step
 abbrev pub machine_word : MachineWord → List ℕ
@@ -54,7 +55,8 @@ abbrev pub mark_field : Fields → FieldRead (List ℕ)
 mark_field = line_field UnknownWord (exactly (codes "m"))
 
 abbrev pub machine_word_field : ℕ → Fields → FieldRead MachineWord
-machine_word_field version = line_field UnknownWord (λ text. passing (has_machine_word version) (with_word machine_word machine_words text))
+machine_word_field version =
+    line_field UnknownWord (λ text. passing (has_machine_word version) (with_word machine_word machine_words text))
 
 abbrev pub tag_field : Kind → Fields → FieldRead ℕ
 tag_field kind = line_field BadNumber (λ text. passing (is_tag kind) (decimal_value text))
@@ -110,7 +112,8 @@ machine_of h line = do
 
 -- The other direction: the fields behind `m`.
 abbrev pub machine_fields : MachineLine → Fields
-machine_fields (Start pe kind tag place value) = codes "start" ∷ decimal pe ∷ kind_word kind ∷ decimal tag ∷ hex place ∷ hex value ∷ []
+machine_fields (Start pe kind tag place value) =
+    codes "start" ∷ decimal pe ∷ kind_word kind ∷ decimal tag ∷ hex place ∷ hex value ∷ []
 machine_fields (Extend entry place value) = codes "extend" ∷ decimal entry ∷ hex place ∷ hex value ∷ []
 machine_fields (Combine entry) = codes "combine" ∷ decimal entry ∷ []
 machine_fields (Share entry pe) = codes "share" ∷ decimal entry ∷ decimal pe ∷ []

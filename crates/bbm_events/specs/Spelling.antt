@@ -1,6 +1,7 @@
 -- How a line is cut into fields, and how a number is spelled.
 -- Source: project's own choice.
-use Rattle.std.specs.Prelude.{ℕ, ◌^◌, List, ◌++◌, drop, false, ◌&&◌, nat_lt, ◌==◌, if◌then◌else◌, Option, Some, None, codes, decimal, bytes_eq}
+use Rattle.std.specs.Prelude.{ℕ, ◌^◌, List, ◌++◌, drop, false, ◌&&◌, nat_lt, ◌==◌, if◌then◌else◌, Option, Some, None}
+use Rattle.std.specs.Prelude.{codes, decimal, bytes_eq}
 use Rattle.std.specs.List.{slice_split, join_with_byte}
 use Rattle.std.specs.Fmt.{digits}
 use Rattle.std.specs.Str.Parse.{digits_value}

@@ -13,7 +13,14 @@ use Rattle.bbm_barriers.specs.declared.Domain.TheVariants.{Full, Inner, Outer, N
 use Rattle.bbm_barriers.specs.declared.Types.{Types}
 use Rattle.bbm_barriers.specs.declared.Types.TheVariants.{All, Stores, Loads}
 use Rattle.bbm_tlbi_scope.specs.declared.op.TlbiOp.{TlbiOp}
-use Rattle.bbm_tlbi_scope.specs.declared.op.TlbiOp.TheVariants.{Alle2, Alle2is, Vae2, Vae2is, Vale2, Vale2is, Alle1, Alle1is, Vmalle1, Vmalle1is, Vmalls12e1, Vmalls12e1is, Ipas2e1, Ipas2e1is, Ipas2le1, Ipas2le1is, Vae1, Vae1is, Vale1, Vale1is, Vaae1, Vaae1is, Vaale1, Vaale1is, Aside1, Aside1is, Rvae2, Rvae2is, Rvale2, Rvale2is, Ripas2e1, Ripas2e1is, Ripas2le1, Ripas2le1is, Rvae1, Rvae1is, Rvale1, Rvale1is, Rvaae1, Rvaae1is, Rvaale1, Rvaale1is}
+use Rattle.bbm_tlbi_scope.specs.declared.op.TlbiOp.TheVariants.{Alle2, Alle2is, Vae2, Vae2is, Vale2, Vale2is, Alle1}
+use Rattle.bbm_tlbi_scope.specs.declared.op.TlbiOp.TheVariants.{Alle1is, Vmalle1, Vmalle1is, Vmalls12e1, Vmalls12e1is}
+use Rattle.bbm_tlbi_scope.specs.declared.op.TlbiOp.TheVariants.{Ipas2e1, Ipas2e1is, Ipas2le1, Ipas2le1is, Vae1, Vae1is}
+use Rattle.bbm_tlbi_scope.specs.declared.op.TlbiOp.TheVariants.{Vale1, Vale1is, Vaae1, Vaae1is, Vaale1, Vaale1is}
+use Rattle.bbm_tlbi_scope.specs.declared.op.TlbiOp.TheVariants.{Aside1, Aside1is, Rvae2, Rvae2is, Rvale2, Rvale2is}
+use Rattle.bbm_tlbi_scope.specs.declared.op.TlbiOp.TheVariants.{Ripas2e1, Ripas2e1is, Ripas2le1, Ripas2le1is, Rvae1}
+use Rattle.bbm_tlbi_scope.specs.declared.op.TlbiOp.TheVariants.{Rvae1is, Rvale1, Rvale1is, Rvaae1, Rvaae1is, Rvaale1}
+use Rattle.bbm_tlbi_scope.specs.declared.op.TlbiOp.TheVariants.{Rvaale1is}
 use Rattle.bbm_events.specs.declared.keyword.Keyword.{Keyword}
 use Rattle.bbm_events.specs.declared.keyword.Keyword.TheVariants as first
 
@@ -38,7 +45,9 @@ keyword_word first.Unlock = codes "unlock"
 keyword_word first.End = codes "end"
 
 abbrev pub keywords : List Keyword
-keywords = first.Init ∷ first.Null ∷ first.Root ∷ first.Unroot ∷ first.Write ∷ first.Dsb ∷ first.Dmb ∷ first.Isb ∷ first.Tlbi ∷ first.Msr ∷ first.Lock ∷ first.Unlock ∷ first.End ∷ []
+keywords =
+    first.Init ∷ first.Null ∷ first.Root ∷ first.Unroot ∷ first.Write ∷ first.Dsb ∷ first.Dmb ∷ first.Isb
+    ∷ first.Tlbi ∷ first.Msr ∷ first.Lock ∷ first.Unlock ∷ first.End ∷ []
 
 -- whether TLBs are shared. Source: project's own choice.
 abbrev pub cnp_word : Bool → List ℕ
@@ -96,7 +105,9 @@ dsb_word dsb = option_word dsb.domain dsb.types
 
 -- the options of a domain
 abbrev pub options_of : Domain → List Dsb → List Dsb
-options_of domain others = record { domain = domain; types = All } ∷ record { domain = domain; types = Stores } ∷ record { domain = domain; types = Loads } ∷ others
+options_of domain others =
+    record { domain = domain; types = All } ∷ record { domain = domain; types = Stores }
+    ∷ record { domain = domain; types = Loads } ∷ others
 
 abbrev pub dsbs : List Dsb
 dsbs = options_of Full (options_of Inner (options_of Outer (options_of Non [])))
@@ -148,8 +159,10 @@ op_word Rvaale1is = codes "rvaale1is"
 
 abbrev pub ops : List TlbiOp
 ops =
-    Alle2 ∷ Alle2is ∷ Vae2 ∷ Vae2is ∷ Vale2 ∷ Vale2is ∷ Alle1 ∷ Alle1is ∷ Vmalle1 ∷ Vmalle1is ∷ Vmalls12e1 ∷ Vmalls12e1is
-    ∷ Ipas2e1 ∷ Ipas2e1is ∷ Ipas2le1 ∷ Ipas2le1is ∷ Vae1 ∷ Vae1is ∷ Vale1 ∷ Vale1is ∷ Vaae1 ∷ Vaae1is ∷ Vaale1 ∷ Vaale1is
+    Alle2 ∷ Alle2is ∷ Vae2 ∷ Vae2is ∷ Vale2 ∷ Vale2is ∷ Alle1 ∷ Alle1is ∷ Vmalle1 ∷ Vmalle1is
+    ∷ Vmalls12e1 ∷ Vmalls12e1is
+    ∷ Ipas2e1 ∷ Ipas2e1is ∷ Ipas2le1 ∷ Ipas2le1is ∷ Vae1 ∷ Vae1is ∷ Vale1 ∷ Vale1is
+    ∷ Vaae1 ∷ Vaae1is ∷ Vaale1 ∷ Vaale1is
     ∷ Aside1 ∷ Aside1is
     ∷ Rvae2 ∷ Rvae2is ∷ Rvale2 ∷ Rvale2is ∷ Ripas2e1 ∷ Ripas2e1is ∷ Ripas2le1 ∷ Ripas2le1is
     ∷ Rvae1 ∷ Rvae1is ∷ Rvale1 ∷ Rvale1is ∷ Rvaae1 ∷ Rvaae1is ∷ Rvaale1 ∷ Rvaale1is ∷ []

@@ -20,7 +20,7 @@ pub fn page_count(world: World, kind: Kind) -> u8
     ensures { result ≡ page_count world kind }
 {
     match (world, kind) {
-        (World::Hyp { s2_pages, .. }, Kind::S2) => s2_pages,
+        (World::Hyp(world), Kind::S2) => world.s2_pages,
         _ => 1,
     }
 }

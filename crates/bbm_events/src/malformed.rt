@@ -25,8 +25,6 @@ pub enum Malformed {
     WrongCount = 10,
     /// A byte follows the `end` line.
     AfterEnd = 11,
-    /// The line is well formed, but this version doesn't judge it yet.
-    NotBuilt = 12,
     /// The field behind the last begins with `@` and isn't a label.
     BadLabel = 13,
 }

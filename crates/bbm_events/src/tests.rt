@@ -1,5 +1,5 @@
 use crate::{Event, Header, Label, fits};
-use bbm_regimes::{Kind, Page, Pe, World};
+use bbm_regimes::{HypWorld, Kind, Page, Pe, World};
 use bbm_tlbi_scope::TlbiOp;
 
 /// A header of version 3 of the Hyp world with two PEs and stage 2 roots of 16 pages.
@@ -8,11 +8,11 @@ fn header() -> Header {
         version: 3,
         pes: 2,
         cnp: false,
-        world: World::Hyp {
+        world: World::Hyp(HypWorld {
             el2_start: 1,
             s2_start: 1,
             s2_pages: 16,
-        },
+        }),
     }
 }
 
@@ -89,11 +89,11 @@ const NEWEST: Header = Header {
     version: 4,
     pes: 128,
     cnp: true,
-    world: World::Hyp {
+    world: World::Hyp(HypWorld {
         el2_start: 1,
         s2_start: 1,
         s2_pages: 1,
-    },
+    }),
 };
 
 #[test]

@@ -1,6 +1,7 @@
 -- Lines of a source, read one after another: a piece of at most 200 bytes up to each newline, out of
 -- at most 2^40 bytes. Source: project's own choice.
-use Rattle.std.specs.Prelude.{ℕ, ◌≡◌, ◌≢◌, ◌<◌, ◌≤◌, ◌+◌, ◌^◌, List, [], ◌∷◌, ◌++◌, length, Bool, Option, Result, Ok, Err}
+use Rattle.std.specs.Prelude.{ℕ, ◌≡◌, ◌≢◌, ◌<◌, ◌≤◌, ◌+◌, ◌^◌, List, [], ◌∷◌, ◌++◌, length, Bool, Option, Result, Ok}
+use Rattle.std.specs.Prelude.{Err}
 use Rattle.bbm_io.specs.declared.lines.LineOrEnd.{LineOrEnd}
 use Rattle.bbm_io.specs.declared.lines.LineOrEnd.TheVariants.{Line, Cut, End}
 use Rattle.bbm_io.specs.declared.lines.LineFault.{LineFault}
@@ -34,7 +35,8 @@ abbrev pub Counts : Result LineOrEnd LineFault → Reading → Reading → Type 
 Counts (Ok Line) was now =
     (length now.bytes ≤ 200) × (now.taken ≡ was.taken + length now.bytes + 1) × (now.taken ≤ 2 ^ 40)
 Counts (Ok Cut) was now =
-    (1 ≤ length now.bytes) × (length now.bytes ≤ 200) × (now.taken ≡ was.taken + length now.bytes) × (now.taken < 2 ^ 40)
+    (1 ≤ length now.bytes) × (length now.bytes ≤ 200) × (now.taken ≡ was.taken + length now.bytes)
+    × (now.taken < 2 ^ 40)
 Counts (Ok End) was now = (now.bytes ≡ []) × (now.taken ≡ was.taken) × (now.taken < 2 ^ 40)
 Counts (Err TooLong) was now = (length now.bytes ≡ 200) × (now.taken ≡ was.taken + 201) × (now.taken ≤ 2 ^ 40)
 Counts (Err ReadFault) was now =

@@ -195,7 +195,7 @@ impl<R: Read> Source for StdSource<R> {
         ensures sound { OnOk result (self.new.faults ≡ self.old.faults) }
         ensures never_falls { self.old.faults ≤ self.new.faults }
     {
-        self.refill()
+        StdSource::refill(self)
     }
 }
 

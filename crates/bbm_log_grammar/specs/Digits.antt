@@ -1,5 +1,6 @@
 -- A number, digit by digit.
-use Rattle.std.specs.Prelude.{ℕ, ◌+◌, ◌*◌, ◌^◌, List, [], ◌∷◌, Bool, false, ◌&&◌, nat_lt, ◌==◌, if◌then◌else◌, Option, Some, None}
+use Rattle.std.specs.Prelude.{ℕ, ◌+◌, ◌*◌, ◌^◌, List, [], ◌∷◌, Bool, false, ◌&&◌, nat_lt, ◌==◌, if◌then◌else◌, Option}
+use Rattle.std.specs.Prelude.{Some, None}
 use Rattle.std.specs.Char.{digit_value}
 use Rattle.std.specs.Fmt.{digit_glyph}
 use Rattle.std.specs.Option.{option_and_then}
@@ -10,7 +11,9 @@ is_lower_digit base byte = nat_lt (digit_value byte) base && byte == digit_glyph
 
 -- the number with one digit more, where the byte is one and the number is below 2 ^ 64
 abbrev pub next_number : ℕ → ℕ → ℕ → Option ℕ
-next_number base n byte = if is_lower_digit base byte && nat_lt (n * base + digit_value byte) (2 ^ 64) then Some (n * base + digit_value byte) else None
+next_number base n byte =
+    if is_lower_digit base byte && nat_lt (n * base + digit_value byte) (2 ^ 64)
+    then Some (n * base + digit_value byte) else None
 
 -- the number with all these digits more
 abbrev pub number_after : ℕ → ℕ → List ℕ → Option ℕ

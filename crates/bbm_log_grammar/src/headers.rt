@@ -15,7 +15,7 @@ use crate::numbers::read_decimal;
 use crate::values::version_of;
 use crate::words::{asid_from_of, cnp_of};
 use bbm_events::{Header, Malformed, law_header_causes};
-use bbm_regimes::{AsidFrom, World};
+use bbm_regimes::{AsidFrom, HypWorld, KernelWorld, World};
 
 /// A field that is this word.
 fn magic_field<'a>(word: &[u8], fields: Fields<'a>) -> Result<(&'a [u8], Fields<'a>), Malformed>
@@ -80,7 +80,7 @@ fn are_pes(version: u8, pes: u64) -> bool
 
 /// The Hyp world with these numbers, where they are in their ranges.
 fn hyp_world(el2_start: u64, s2_start: u64, s2_pages: u64) -> Option<World>
-    ensures { result ≡ (if world_ok (Hyp el2_start s2_start s2_pages) then Some (Hyp el2_start s2_start s2_pages) else None) }
+    ensures { result ≡ lines.passing world_ok (Some (Hyp (record { el2_start = el2_start; s2_start = s2_start; s2_pages = s2_pages }))) }
 {
     let pages_fit = match s2_pages {
         1 => true,
@@ -88,11 +88,11 @@ fn hyp_world(el2_start: u64, s2_start: u64, s2_pages: u64) -> Option<World>
         _ => false,
     };
     if el2_start <= 2 && s2_start <= 2 && pages_fit {
-        Some(World::Hyp {
+        Some(World::Hyp(HypWorld {
             el2_start: el2_start as u8,
             s2_start: s2_start as u8,
             s2_pages: s2_pages as u8,
-        })
+        }))
     } else {
         None
     }
@@ -100,14 +100,14 @@ fn hyp_world(el2_start: u64, s2_start: u64, s2_pages: u64) -> Option<World>
 
 /// The Kernel world with these numbers, where they are in their ranges.
 fn kernel_world(start0: u64, start1: u64, asid_from: AsidFrom) -> Option<World>
-    ensures { result ≡ (if world_ok (Kernel start0 start1 asid_from) then Some (Kernel start0 start1 asid_from) else None) }
+    ensures { result ≡ lines.passing world_ok (Some (Kernel (record { start0 = start0; start1 = start1; asid_from = asid_from }))) }
 {
     if start0 <= 2 && start1 <= 2 {
-        Some(World::Kernel {
+        Some(World::Kernel(KernelWorld {
             start0: start0 as u8,
             start1: start1 as u8,
             asid_from,
-        })
+        }))
     } else {
         None
     }

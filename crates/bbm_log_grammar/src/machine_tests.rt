@@ -4,7 +4,7 @@ ghost use Rattle.bbm_events.specs.Heading.{is_version};
 use crate::{read_machine, write_machine};
 use arrayvec::ArrayVec;
 use bbm_events::{Header, MachineLine, Malformed};
-use bbm_regimes::{Kind, Pe, Place, World};
+use bbm_regimes::{HypWorld, Kind, Pe, Place, World};
 
 /// A header of the Hyp world of this version, with two PEs.
 fn header(version: u8) -> Header
@@ -14,11 +14,11 @@ fn header(version: u8) -> Header
         version,
         pes: 2,
         cnp: false,
-        world: World::Hyp {
+        world: World::Hyp(HypWorld {
             el2_start: 1,
             s2_start: 1,
             s2_pages: 1,
-        },
+        }),
     }
 }
 

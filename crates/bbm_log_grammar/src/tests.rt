@@ -1,6 +1,6 @@
 use crate::{field, read_decimal, read_event, read_header, read_hex};
 use bbm_events::{Header, Item, Malformed};
-use bbm_regimes::World;
+use bbm_regimes::{HypWorld, World};
 
 /// A header of the Hyp world with two PEs.
 fn two_pes() -> Header {
@@ -8,11 +8,11 @@ fn two_pes() -> Header {
         version: 1,
         pes: 2,
         cnp: false,
-        world: World::Hyp {
+        world: World::Hyp(HypWorld {
             el2_start: 1,
             s2_start: 1,
             s2_pages: 16,
-        },
+        }),
     }
 }
 

@@ -4,7 +4,7 @@ ghost use Rattle.bbm_events.specs.Heading.{is_version};
 use crate::{read_event, read_header, write_event, write_header};
 use arrayvec::ArrayVec;
 use bbm_events::{Event, Header, Item, Label, Malformed, fits};
-use bbm_regimes::{Pe, World};
+use bbm_regimes::{HypWorld, Pe, World};
 use bbm_tlbi_scope::TlbiOp;
 
 /// A header of the Hyp world of this version, with as many PEs as it allows.
@@ -15,11 +15,11 @@ fn header(version: u8) -> Header
         version,
         pes: if version < 3 { 64 } else { 128 },
         cnp: version == 2,
-        world: World::Hyp {
+        world: World::Hyp(HypWorld {
             el2_start: 1,
             s2_start: 1,
             s2_pages: 1,
-        },
+        }),
     }
 }
 
@@ -124,11 +124,11 @@ fn reads_range_operations_under_version_4(rt: HostRuntime) {
     }
 }
 
-const HYP: World = World::Hyp {
+const HYP: World = World::Hyp(HypWorld {
     el2_start: 1,
     s2_start: 1,
     s2_pages: 1,
-};
+});
 
 const NEWEST: Header = Header {
     version: 4,

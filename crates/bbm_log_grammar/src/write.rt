@@ -15,7 +15,7 @@ use crate::words::{asid_from_word, cnp_word, dsb_word, kind_word, op_word, reg_w
 use arrayvec::ArrayVec;
 use bbm_barriers::Dsb;
 use bbm_events::{Event, Header, Item, Label, law_written_is_read};
-use bbm_regimes::{AsidFrom, Kind, Page, Pe, Place, Reg, World};
+use bbm_regimes::{HypWorld, KernelWorld, Kind, Page, Pe, Place, Reg, World};
 use bbm_tlbi_scope::TlbiOp;
 
 /// A space and a word of at most 12 bytes.
@@ -197,15 +197,15 @@ fn begin_header(out: &mut ArrayVec<u8, 200>, version: u8, world: &[u8])
 
 /// `bbmlog VERSION hyp PES EL2START S2START S2PAGES`, and ` CNP` from version 2 on.
 #[tactic(auto, using(crate::proofs::Short::cnp_word_short))]
-fn hyp_line(out: &mut ArrayVec<u8, 200>, header: &Header, el2_start: u8, s2_start: u8, s2_pages: u8)
+fn hyp_line(out: &mut ArrayVec<u8, 200>, header: &Header, world: HypWorld)
     requires empty { out.old.items ≡ [] }
-    ensures { out.new.items ≡ joined (codes "bbmlog" ∷ decimal header.now.version ∷ header_fields header.now.pes (Hyp el2_start s2_start s2_pages) (cnp_fields header.now.version header.now.cnp)) }
+    ensures { out.new.items ≡ joined (codes "bbmlog" ∷ decimal header.now.version ∷ header_fields header.now.pes (Hyp world) (cnp_fields header.now.version header.now.cnp)) }
 {
     begin_header(out, header.version, b"hyp");
     add_decimal_field(out, header.pes as u64);
-    add_decimal_field(out, el2_start as u64);
-    add_decimal_field(out, s2_start as u64);
-    add_decimal_field(out, s2_pages as u64);
+    add_decimal_field(out, world.el2_start as u64);
+    add_decimal_field(out, world.s2_start as u64);
+    add_decimal_field(out, world.s2_pages as u64);
     if header.version >= 2 {
         add_word_field(out, cnp_word(header.cnp));
     }
@@ -213,21 +213,15 @@ fn hyp_line(out: &mut ArrayVec<u8, 200>, header: &Header, el2_start: u8, s2_star
 
 /// `bbmlog VERSION kernel PES START0 START1 ASIDFROM`, and ` CNP` from version 2 on.
 #[tactic(auto, using(crate::proofs::Short::asid_from_word_short, crate::proofs::Short::cnp_word_short))]
-fn kernel_line(
-    out: &mut ArrayVec<u8, 200>,
-    header: &Header,
-    start0: u8,
-    start1: u8,
-    asid_from: AsidFrom,
-)
+fn kernel_line(out: &mut ArrayVec<u8, 200>, header: &Header, world: KernelWorld)
     requires empty { out.old.items ≡ [] }
-    ensures { out.new.items ≡ joined (codes "bbmlog" ∷ decimal header.now.version ∷ header_fields header.now.pes (Kernel start0 start1 asid_from) (cnp_fields header.now.version header.now.cnp)) }
+    ensures { out.new.items ≡ joined (codes "bbmlog" ∷ decimal header.now.version ∷ header_fields header.now.pes (Kernel world) (cnp_fields header.now.version header.now.cnp)) }
 {
     begin_header(out, header.version, b"kernel");
     add_decimal_field(out, header.pes as u64);
-    add_decimal_field(out, start0 as u64);
-    add_decimal_field(out, start1 as u64);
-    add_word_field(out, asid_from_word(asid_from));
+    add_decimal_field(out, world.start0 as u64);
+    add_decimal_field(out, world.start1 as u64);
+    add_word_field(out, asid_from_word(world.asid_from));
     if header.version >= 2 {
         add_word_field(out, cnp_word(header.cnp));
     }
@@ -243,16 +237,8 @@ pub fn write_header(header: &Header, out: &mut ArrayVec<u8, 200>)
 {
     law_written_is_read();
     match header.world {
-        World::Hyp {
-            el2_start,
-            s2_start,
-            s2_pages,
-        } => hyp_line(out, header, el2_start, s2_start, s2_pages),
-        World::Kernel {
-            start0,
-            start1,
-            asid_from,
-        } => kernel_line(out, header, start0, start1, asid_from),
+        World::Hyp(world) => hyp_line(out, header, world),
+        World::Kernel(world) => kernel_line(out, header, world),
     }
 }
 

@@ -2,7 +2,7 @@ use crate::{write_event, write_header};
 use arrayvec::ArrayVec;
 use bbm_barriers::{Domain, Dsb, Types};
 use bbm_events::{Event, Header, Item, fits};
-use bbm_regimes::{AsidFrom, Kind, Page, Pe, Place, Reg, World};
+use bbm_regimes::{AsidFrom, HypWorld, KernelWorld, Kind, Page, Pe, Place, Reg, World};
 use bbm_tlbi_scope::TlbiOp;
 
 fn root(pe: Pe, lock: Option<u16>, page: Page) -> Event {
@@ -59,11 +59,11 @@ const HYP: Header = Header {
     version: 1,
     pes: 2,
     cnp: false,
-    world: World::Hyp {
+    world: World::Hyp(HypWorld {
         el2_start: 0,
         s2_start: 1,
         s2_pages: 16,
-    },
+    }),
 };
 
 /// The line of an event that fits the header.
@@ -100,11 +100,11 @@ fn writes_both_headers(rt: HostRuntime) {
         version: 1,
         pes: 64,
         cnp: false,
-        world: World::Kernel {
+        world: World::Kernel(KernelWorld {
             start0: 2,
             start1: 0,
             asid_from: AsidFrom::Ttbr1,
-        },
+        }),
     };
     let mut other = ArrayVec::new();
     write_header(&kernel, &mut other);

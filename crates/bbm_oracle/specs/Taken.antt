@@ -1,21 +1,12 @@
--- What an oracle stands for.
-use Rattle.std.specs.Prelude.{◌≡◌, List, Option, Some, None, Result, Ok, Err}
+-- What the stand-in stands for: the empty history of its header.
+use Rattle.std.specs.Prelude.{◌≡◌, ℕ, List, []}
+use Rattle.std.proofs.Common.{sym, ap}
 use Rattle.bbm_events.specs.declared.event.Event.{Event}
 use Rattle.bbm_events.specs.Heading.{Heading}
-use Rattle.bbm_rules.specs.declared.step_fault.StepFault.{StepFault}
-use Rattle.bbm_rules.specs.declared.step_fault.StepFault.TheVariants.{Broken}
-use Rattle.bbm_rules.specs.FirstPath.{Breach}
+use Rattle.bbm_rules.specs.Values.{value_of}
 
--- a header, and the events taken, the newest first
-pub record Taken : Type 0 where
-  pub heading : Heading
-  pub history : List Event
+abbrev pub StandsFor : Heading → Heading → List Event → Type 0
+StandsFor own heading h = (own ≡ heading) × (h ≡ [])
 
--- it stands for this history of this header
-abbrev pub StandsFor : Taken → Heading → List Event → Type 0
-StandsFor t heading h = (t.heading ≡ heading) × (t.history ≡ h)
-
--- the answer where memory doesn't lack: Ok where no rule is broken, else the rule with what it names
-abbrev pub answer_to : Option Breach → Result (Unit {0}) StepFault
-answer_to None = Ok tt
-answer_to (Some breach) = Err (Broken breach.rule breach.at)
+pub value_is : (own heading : Heading) (h : List Event) → StandsFor own heading h → (place : ℕ) → 0 ≡ value_of h place
+value_is own heading h stands place = sym (ap (λ (x : List Event). value_of x place) stands.1)

@@ -1,10 +1,6 @@
-//! A checker that keeps the list of events and searches it.
+//! A stand-in for the oracle, which always lacks memory, until the oracle over the whole rules is there.
 #![tactic(auto)]
 
 pub mod oracle;
-mod search;
-#[cfg(test)]
-mod tests;
-mod trace;
 
 pub use oracle::Oracle;

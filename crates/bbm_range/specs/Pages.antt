@@ -1,7 +1,8 @@
 -- The pages that the operand of a TLBI for a range names.
 -- Source: Arm ARM (DDI 0487), "TLB maintenance instructions", the range operations; that the range ends at the
 -- last page number, and that an operand whose BASE doesn't fit its hint is refused, is the project's own choice.
-use Rattle.std.specs.Prelude.{ℕ, Bool, true, Result, Ok, Err, ◌+◌, ◌-◌, ◌*◌, ◌%◌, ◌^◌, ◌<◌, ◌≤◌, ◌==◌, nat_lt, if◌then◌else◌}
+use Rattle.std.specs.Prelude.{ℕ, Bool, true, Result, Ok, Err, ◌+◌, ◌-◌, ◌*◌, ◌%◌, ◌^◌, ◌<◌, ◌≤◌, ◌==◌, nat_lt}
+use Rattle.std.specs.Prelude.{if◌then◌else◌}
 use Rattle.bbm_range.specs.declared.Range.{Range}
 use Rattle.bbm_range.specs.declared.BadRange.{BadRange}
 use Rattle.bbm_range.specs.declared.BadRange.TheVariants.{Granule, Unaligned}

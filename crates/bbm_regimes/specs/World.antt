@@ -7,37 +7,40 @@ use Rattle.bbm_regimes.specs.declared.regime.Kind.TheVariants.{El2, S2, Ttbr0, T
 use Rattle.bbm_regimes.specs.declared.regime.World.{World}
 use Rattle.bbm_regimes.specs.declared.regime.World.TheVariants.{Hyp, Kernel}
 
+-- whether a stage 2 root can have so many joined pages, where its walks start at the level
+abbrev pub are_s2_pages : ℕ → ℕ → Bool
+are_s2_pages start pages =
+    if start == 0 then pages == 1 else (pages == 1 || pages == 2 || pages == 4 || pages == 8 || pages == 16)
+
 -- The ranges of a world's fields. A tree of one page that starts at level 0, 1 or 2 translates 48, 39 or
 -- 30 bits of input address; joined root pages add a bit for each doubling.
 -- Source: Arm ARM (DDI 0487), "VMSAv8-64 translation table walks"; that a stage 2 tree which starts at
 -- level 0 has one root page is the architecture's limit of 48 bits.
 abbrev pub world_ok : World → Bool
-world_ok (Hyp el2_start s2_start s2_pages) =
-    nat_le el2_start 2 && nat_le s2_start 2
-    && (if s2_start == 0 then s2_pages == 1 else (s2_pages == 1 || s2_pages == 2 || s2_pages == 4 || s2_pages == 8 || s2_pages == 16))
-world_ok (Kernel start0 start1 asid_from) = nat_le start0 2 && nat_le start1 2
+world_ok (Hyp world) = nat_le world.el2_start 2 && nat_le world.s2_start 2 && are_s2_pages world.s2_start world.s2_pages
+world_ok (Kernel world) = nat_le world.start0 2 && nat_le world.start1 2
 
 -- The number of consecutive pages of a root: one, or the world's number of joined pages at stage 2.
 -- Source: Arm ARM (DDI 0487), "VMSAv8-64 translation table walks", concatenated translation tables.
 abbrev pub page_count : World → Kind → ℕ
-page_count (Hyp el2_start s2_start s2_pages) S2 = s2_pages
+page_count (Hyp world) S2 = world.s2_pages
 page_count _ _ = 1
 
 -- whether the kind is one of the world
 abbrev pub kind_in_world : World → Kind → Bool
-kind_in_world (Hyp el2_start s2_start s2_pages) El2 = true
-kind_in_world (Hyp el2_start s2_start s2_pages) S2 = true
-kind_in_world (Kernel start0 start1 asid_from) Ttbr0 = true
-kind_in_world (Kernel start0 start1 asid_from) Ttbr1 = true
+kind_in_world (Hyp world) El2 = true
+kind_in_world (Hyp world) S2 = true
+kind_in_world (Kernel world) Ttbr0 = true
+kind_in_world (Kernel world) Ttbr1 = true
 kind_in_world _ _ = false
 
 -- The level at which walks of a kind of the world start.
 -- Source: Arm ARM (DDI 0487), "VMSAv8-64 translation table walks".
 abbrev pub start_of : World → Kind → ℕ
-start_of (Hyp el2_start s2_start s2_pages) El2 = el2_start
-start_of (Hyp el2_start s2_start s2_pages) S2 = s2_start
-start_of (Kernel start0 start1 asid_from) Ttbr0 = start0
-start_of (Kernel start0 start1 asid_from) Ttbr1 = start1
+start_of (Hyp world) El2 = world.el2_start
+start_of (Hyp world) S2 = world.s2_start
+start_of (Kernel world) Ttbr0 = world.start0
+start_of (Kernel world) Ttbr1 = world.start1
 start_of _ _ = 0
 
 -- the number of input pages that one descriptor of a level translates

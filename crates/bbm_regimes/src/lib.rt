@@ -10,7 +10,7 @@ pub mod regime;
 pub use address::{Page, Place};
 pub use interval::{Interval, span};
 pub use pe::{Pe, PeMask};
-pub use regime::{AsidFrom, Kind, NoMemory, Reg, Tag, Which, World};
+pub use regime::{AsidFrom, HypWorld, KernelWorld, Kind, NoMemory, Reg, Tag, Which, World};
 
 #[cfg(test)]
 mod tests {

@@ -58,30 +58,40 @@ pub enum Tag {
     Ttbr1,
 }
 
-/// The world that a log belongs to, with the levels at which its walks start. Each field's range is
-/// kept by the type that holds the world, a log's header. Source: the worlds are the project's own
-/// choice; the start levels are those of the Arm ARM (DDI 0487), "VMSAv8-64 translation table walks".
+/// What a log of a hypervisor says of its tables. Each field's range is kept by the type that holds the world, a
+/// log's header. Source: Arm ARM (DDI 0487), "VMSAv8-64 translation table walks", start levels and concatenated
+/// translation tables.
+#[derive(Clone, Copy, Debug, PartialEq, Eq)]
+pub struct HypWorld {
+    /// The level at which walks of EL2 tables start, 0 to 2.
+    pub el2_start: u8,
+    /// The level at which walks of stage 2 tables start, 0 to 2.
+    pub s2_start: u8,
+    /// The number of pages of a stage 2 root: 1, 2, 4, 8 or 16, and 1 where the walks start at
+    /// level 0.
+    pub s2_pages: u8,
+}
+
+/// What a log of a kernel says of its tables. Each field's range is kept by the type that holds the world, a log's
+/// header. Source: Arm ARM (DDI 0487), "VMSAv8-64 translation table walks", start levels, and TCR_EL1.A1 of
+/// "AArch64 System register descriptions".
+#[derive(Clone, Copy, Debug, PartialEq, Eq)]
+pub struct KernelWorld {
+    /// The level at which walks of TTBR0 tables start, 0 to 2.
+    pub start0: u8,
+    /// The level at which walks of TTBR1 tables start, 0 to 2.
+    pub start1: u8,
+    /// The register that names the current ASID.
+    pub asid_from: AsidFrom,
+}
+
+/// The world that a log belongs to, with what it says of its tables. Source: project's own choice.
 #[derive(Clone, Copy, Debug, PartialEq, Eq)]
 pub enum World {
     /// A hypervisor without VHE: its EL2 stage 1 tables and its stage 2 tables.
-    Hyp {
-        /// The level at which walks of EL2 tables start, 0 to 2.
-        el2_start: u8,
-        /// The level at which walks of stage 2 tables start, 0 to 2.
-        s2_start: u8,
-        /// The number of pages of a stage 2 root: 1, 2, 4, 8 or 16, and 1 where the walks start at
-        /// level 0.
-        s2_pages: u8,
-    },
+    Hyp(HypWorld),
     /// An EL1 kernel: its TTBR0 and TTBR1 tables.
-    Kernel {
-        /// The level at which walks of TTBR0 tables start, 0 to 2.
-        start0: u8,
-        /// The level at which walks of TTBR1 tables start, 0 to 2.
-        start1: u8,
-        /// The register that names the current ASID.
-        asid_from: AsidFrom,
-    },
+    Kernel(KernelWorld),
 }
 
 /// A limit of the program. Source: project's own choice.

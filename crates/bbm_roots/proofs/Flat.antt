@@ -2,6 +2,7 @@
 use Rattle.std.proofs.Common.{◌≡◌, ℕ, Bool, true, false, ◌&&◌, ◌||◌, ◌==◌, List, [], ◌∷◌, ◌++◌, refl, sym, ◌∙◌, ap, cond, Option, Some, None, is_some}
 use Rattle.std.specs.List.{list_any, flat_map}
 use Rattle.std.proofs.lemmas.List.Folds.{list_any-append}
+use Rattle.bbm_regimes.specs.declared.regime.AsidFrom.{AsidFrom}
 use Rattle.bbm_regimes.specs.declared.regime.AsidFrom.TheVariants.{Ttbr0 as FromTtbr0, Ttbr1 as FromTtbr1}
 use Rattle.bbm_regimes.specs.declared.regime.Kind.{Kind}
 use Rattle.bbm_regimes.specs.declared.regime.Kind.TheVariants.{El2, S2, Ttbr0, Ttbr1}
@@ -9,7 +10,7 @@ use Rattle.bbm_regimes.specs.declared.regime.Tag.{Tag}
 use Rattle.bbm_regimes.specs.declared.regime.Tag.TheVariants.{El2 as El2Tag, Vmid, Asid, Ttbr1 as Ttbr1Tag}
 use Rattle.bbm_regimes.specs.declared.regime.World.{World}
 use Rattle.bbm_regimes.specs.declared.regime.World.TheVariants.{Hyp, Kernel}
-use Rattle.bbm_roots.specs.Readings.{readings_of, readings_with, own_reading, reading_under, reading_at, tag_of, has_tag, is_of_tag, same_tag, reads_tag, names_root, names_root_with, numbered}
+use Rattle.bbm_roots.specs.Readings.{asid_readings, readings_of, readings_with, own_reading, reading_under, reading_at, tag_of, has_tag, is_of_tag, same_tag, reads_asid, reads_tag, names_some, names_root, names_root_with, numbered}
 use Rattle.bbm_roots.specs.Registers.{newest}
 use Rattle.bbm_roots.specs.declared.load.Load.{Load}
 use Rattle.bbm_roots.specs.declared.reading.Reading.{Reading}
@@ -58,20 +59,25 @@ module _ (t : Reading → Bool) where
       either false b true d f g e = refl
       either false b false d f g e = g e
 
-  pub readings-newest : (world : World) (xs ys : List Load) →
-      list_any t (readings_of world (newest xs) (newest ys)) ≡ true → list_any t (readings_of world xs ys) ≡ true
-  readings-newest (Hyp a b c) xs ys e =
-      both (flat_map (own_reading El2) (newest xs)) (flat_map (own_reading S2) (newest ys))
-      (flat_map (own_reading El2) xs) (flat_map (own_reading S2) ys)
-      (grows (own_reading El2) xs) (grows (own_reading S2) ys) e
-  readings-newest (Kernel a b FromTtbr0) xs ys e =
+  asids-newest : (from : AsidFrom) (xs ys : List Load) →
+      list_any t (asid_readings from (newest xs) (newest ys) ++ flat_map (own_reading Ttbr1) (newest ys)) ≡ true →
+      list_any t (asid_readings from xs ys ++ flat_map (own_reading Ttbr1) ys) ≡ true
+  asids-newest FromTtbr0 xs ys e =
       both (flat_map (own_reading Ttbr0) (newest xs)) (flat_map (own_reading Ttbr1) (newest ys))
       (flat_map (own_reading Ttbr0) xs) (flat_map (own_reading Ttbr1) ys)
       (grows (own_reading Ttbr0) xs) (grows (own_reading Ttbr1) ys) e
-  readings-newest (Kernel a b FromTtbr1) xs ys e =
+  asids-newest FromTtbr1 xs ys e =
       both (flat_map (readings_with (newest xs)) (newest ys)) (flat_map (own_reading Ttbr1) (newest ys))
       (flat_map (readings_with xs) ys) (flat_map (own_reading Ttbr1) ys)
       (crossed xs ys) (grows (own_reading Ttbr1) ys) e
+
+  pub readings-newest : (world : World) (xs ys : List Load) →
+      list_any t (readings_of world (newest xs) (newest ys)) ≡ true → list_any t (readings_of world xs ys) ≡ true
+  readings-newest (Hyp w) xs ys e =
+      both (flat_map (own_reading El2) (newest xs)) (flat_map (own_reading S2) (newest ys))
+      (flat_map (own_reading El2) xs) (flat_map (own_reading S2) ys)
+      (grows (own_reading El2) xs) (grows (own_reading S2) ys) e
+  readings-newest (Kernel w) xs ys e = asids-newest w.asid_from xs ys e
 
 -- the same where one PE alone had an ISB
 pub readings-isb : (t : Reading → Bool) (world : World) (b : Bool) (xs ys : List Load) →
@@ -167,43 +173,56 @@ crossed-none g h xs ys =
     ∙ any-none xs) ys
     ∙ any-none ys
 
-pub reads_tag-is : (world : World) (xs ys : List Load) (g : Tag) → has_tag g (readings_of world xs ys) ≡ reads_tag world xs ys g
-reads_tag-is (Hyp a b c) xs ys El2Tag =
-    join El2Tag (flat_map (own_reading El2) xs) (flat_map (own_reading S2) ys) (list_any names_root xs) false
-    (own-all El2Tag El2 (λ n. refl) xs) (own-none El2Tag S2 (λ n. refl) ys)
-    ∙ or-false (list_any names_root xs)
-reads_tag-is (Hyp a b c) xs ys (Vmid v) =
-    join (Vmid v) (flat_map (own_reading El2) xs) (flat_map (own_reading S2) ys) false (list_any (names_root_with v) ys)
-    (own-none (Vmid v) El2 (λ n. refl) xs) (own (Vmid v) S2 ys)
-reads_tag-is (Hyp a b c) xs ys (Asid v) =
-    join (Asid v) (flat_map (own_reading El2) xs) (flat_map (own_reading S2) ys) false false
-    (own-none (Asid v) El2 (λ n. refl) xs) (own-none (Asid v) S2 (λ n. refl) ys)
-reads_tag-is (Hyp a b c) xs ys Ttbr1Tag =
-    join Ttbr1Tag (flat_map (own_reading El2) xs) (flat_map (own_reading S2) ys) false false
-    (own-none Ttbr1Tag El2 (λ n. refl) xs) (own-none Ttbr1Tag S2 (λ n. refl) ys)
-reads_tag-is (Kernel a b FromTtbr0) xs ys El2Tag =
+-- in the Kernel world, by the register that names the ASID
+abbrev reads_of_kernel : AsidFrom → List Load → List Load → Tag → Bool
+reads_of_kernel from xs ys Ttbr1Tag = names_some ys
+reads_of_kernel from xs ys (Asid a) = reads_asid from xs ys a
+reads_of_kernel from xs ys _ = false
+
+reads_asids-is : (from : AsidFrom) (xs ys : List Load) (g : Tag) →
+    has_tag g (asid_readings from xs ys ++ flat_map (own_reading Ttbr1) ys) ≡ reads_of_kernel from xs ys g
+reads_asids-is FromTtbr0 xs ys El2Tag =
     join El2Tag (flat_map (own_reading Ttbr0) xs) (flat_map (own_reading Ttbr1) ys) false false
     (own-none El2Tag Ttbr0 (λ n. refl) xs) (own-none El2Tag Ttbr1 (λ n. refl) ys)
-reads_tag-is (Kernel a b FromTtbr0) xs ys (Vmid v) =
+reads_asids-is FromTtbr0 xs ys (Vmid v) =
     join (Vmid v) (flat_map (own_reading Ttbr0) xs) (flat_map (own_reading Ttbr1) ys) false false
     (own-none (Vmid v) Ttbr0 (λ n. refl) xs) (own-none (Vmid v) Ttbr1 (λ n. refl) ys)
-reads_tag-is (Kernel a b FromTtbr0) xs ys (Asid v) =
+reads_asids-is FromTtbr0 xs ys (Asid v) =
     join (Asid v) (flat_map (own_reading Ttbr0) xs) (flat_map (own_reading Ttbr1) ys) (list_any (names_root_with v) xs) false
     (own (Asid v) Ttbr0 xs) (own-none (Asid v) Ttbr1 (λ n. refl) ys)
     ∙ or-false (list_any (names_root_with v) xs)
-reads_tag-is (Kernel a b FromTtbr0) xs ys Ttbr1Tag =
+reads_asids-is FromTtbr0 xs ys Ttbr1Tag =
     join Ttbr1Tag (flat_map (own_reading Ttbr0) xs) (flat_map (own_reading Ttbr1) ys) false (list_any names_root ys)
     (own-none Ttbr1Tag Ttbr0 (λ n. refl) xs) (own-all Ttbr1Tag Ttbr1 (λ n. refl) ys)
-reads_tag-is (Kernel a b FromTtbr1) xs ys El2Tag =
+reads_asids-is FromTtbr1 xs ys El2Tag =
     join El2Tag (flat_map (readings_with xs) ys) (flat_map (own_reading Ttbr1) ys) false false
     (crossed-none El2Tag (λ n. refl) xs ys) (own-none El2Tag Ttbr1 (λ n. refl) ys)
-reads_tag-is (Kernel a b FromTtbr1) xs ys (Vmid v) =
+reads_asids-is FromTtbr1 xs ys (Vmid v) =
     join (Vmid v) (flat_map (readings_with xs) ys) (flat_map (own_reading Ttbr1) ys) false false
     (crossed-none (Vmid v) (λ n. refl) xs ys) (own-none (Vmid v) Ttbr1 (λ n. refl) ys)
-reads_tag-is (Kernel a b FromTtbr1) xs ys (Asid v) =
+reads_asids-is FromTtbr1 xs ys (Asid v) =
     join (Asid v) (flat_map (readings_with xs) ys) (flat_map (own_reading Ttbr1) ys) (list_any names_root xs && list_any (numbered v) ys) false
     (crossed-asid v xs ys) (own-none (Asid v) Ttbr1 (λ n. refl) ys)
     ∙ or-false (list_any names_root xs && list_any (numbered v) ys)
-reads_tag-is (Kernel a b FromTtbr1) xs ys Ttbr1Tag =
+reads_asids-is FromTtbr1 xs ys Ttbr1Tag =
     join Ttbr1Tag (flat_map (readings_with xs) ys) (flat_map (own_reading Ttbr1) ys) false (list_any names_root ys)
     (crossed-none Ttbr1Tag (λ n. refl) xs ys) (own-all Ttbr1Tag Ttbr1 (λ n. refl) ys)
+
+pub reads_tag-is : (world : World) (xs ys : List Load) (g : Tag) → has_tag g (readings_of world xs ys) ≡ reads_tag world xs ys g
+reads_tag-is (Hyp w) xs ys El2Tag =
+    join El2Tag (flat_map (own_reading El2) xs) (flat_map (own_reading S2) ys) (list_any names_root xs) false
+    (own-all El2Tag El2 (λ n. refl) xs) (own-none El2Tag S2 (λ n. refl) ys)
+    ∙ or-false (list_any names_root xs)
+reads_tag-is (Hyp w) xs ys (Vmid v) =
+    join (Vmid v) (flat_map (own_reading El2) xs) (flat_map (own_reading S2) ys) false (list_any (names_root_with v) ys)
+    (own-none (Vmid v) El2 (λ n. refl) xs) (own (Vmid v) S2 ys)
+reads_tag-is (Hyp w) xs ys (Asid v) =
+    join (Asid v) (flat_map (own_reading El2) xs) (flat_map (own_reading S2) ys) false false
+    (own-none (Asid v) El2 (λ n. refl) xs) (own-none (Asid v) S2 (λ n. refl) ys)
+reads_tag-is (Hyp w) xs ys Ttbr1Tag =
+    join Ttbr1Tag (flat_map (own_reading El2) xs) (flat_map (own_reading S2) ys) false false
+    (own-none Ttbr1Tag El2 (λ n. refl) xs) (own-none Ttbr1Tag S2 (λ n. refl) ys)
+reads_tag-is (Kernel w) xs ys El2Tag = reads_asids-is w.asid_from xs ys El2Tag
+reads_tag-is (Kernel w) xs ys (Vmid v) = reads_asids-is w.asid_from xs ys (Vmid v)
+reads_tag-is (Kernel w) xs ys (Asid v) = reads_asids-is w.asid_from xs ys (Asid v)
+reads_tag-is (Kernel w) xs ys Ttbr1Tag = reads_asids-is w.asid_from xs ys Ttbr1Tag

@@ -27,12 +27,12 @@ values-there world cs pe reg =
     (at_first world) (at_second world)
   where
     at_first : (w : World) → cond (is_first (first_reg w)) (register_values cs pe (first_reg w)) (register_values cs pe (second_reg w)) ≡ register_values cs pe (first_reg w)
-    at_first (Hyp a b c) = refl
-    at_first (Kernel a b c) = refl
+    at_first (Hyp w) = refl
+    at_first (Kernel w) = refl
 
     at_second : (w : World) → cond (is_first (second_reg w)) (register_values cs pe (first_reg w)) (register_values cs pe (second_reg w)) ≡ register_values cs pe (second_reg w)
-    at_second (Hyp a b c) = refl
-    at_second (Kernel a b c) = refl
+    at_second (Hyp w) = refl
+    at_second (Kernel w) = refl
 
 pub write-judged : (world : World) (pes pe : ℕ) (reg : Reg) (value : ℕ) (null : Bool) (cs : List Call) (load : Load)
     (first second : List Load) (seen : List Reading) (hs : List Held) → pe < pes → is_of_world world reg ≡ true →

@@ -3,6 +3,7 @@ use Rattle.std.proofs.Common.{◌≡◌, ℕ, ◌<◌, ◌≤◌, Bool, true, fa
 use Rattle.std.specs.List.{list_any, flat_map}
 use Rattle.std.proofs.lemmas.Bool.{false≢true, eqb-true, cases_lt}
 use Rattle.std.proofs.lemmas.List.Folds.{list_any-append}
+use Rattle.bbm_regimes.specs.declared.regime.AsidFrom.{AsidFrom}
 use Rattle.bbm_regimes.specs.declared.regime.AsidFrom.TheVariants.{Ttbr0 as FromTtbr0, Ttbr1 as FromTtbr1}
 use Rattle.bbm_regimes.specs.declared.regime.Kind.{Kind}
 use Rattle.bbm_regimes.specs.declared.regime.Kind.TheVariants.{El2, S2, Ttbr0, Ttbr1}
@@ -13,7 +14,7 @@ use Rattle.bbm_regimes.specs.declared.regime.Tag.TheVariants.{Asid}
 use Rattle.bbm_regimes.specs.declared.regime.World.{World}
 use Rattle.bbm_regimes.specs.declared.regime.World.TheVariants.{Hyp, Kernel}
 use Rattle.bbm_roots.specs.Calls.{Call, WriteReg}
-use Rattle.bbm_roots.specs.Readings.{readings_of, readings_with, own_reading, reading_under, reading_at, tag_of, has_reading, is_reading, same_tag}
+use Rattle.bbm_roots.specs.Readings.{asid_readings, readings_of, readings_with, own_reading, reading_under, reading_at, tag_of, has_reading, is_reading, same_tag}
 use Rattle.bbm_roots.specs.Refusals.{unless_root, missing_root}
 use Rattle.bbm_roots.specs.Registers.{register_values, first_reg, second_reg, is_of_world, same_reg, names_in, names_page, is_that, newest, root_of, load_of, kind_of_reg, uses}
 use Rattle.bbm_roots.specs.Roots.{is_root, is_of_kind, root_at}
@@ -29,22 +30,22 @@ use Rattle.bbm_roots.proofs.Lists.{any-weaker}
 -- a register of the world is its first or its second
 pub by_register : (world : World) (reg : Reg) (P : Reg → Type 0) → P (first_reg world) → P (second_reg world) →
     is_of_world world reg ≡ true → P reg
-by_register (Hyp a b c) Ttbr0El2 P f g e = f
-by_register (Hyp a b c) VttbrEl2 P f g e = g
-by_register (Hyp a b c) Ttbr0El1 P f g e = absurd (false≢true e)
-by_register (Hyp a b c) Ttbr1El1 P f g e = absurd (false≢true e)
-by_register (Kernel a b c) Ttbr0El2 P f g e = absurd (false≢true e)
-by_register (Kernel a b c) VttbrEl2 P f g e = absurd (false≢true e)
-by_register (Kernel a b c) Ttbr0El1 P f g e = f
-by_register (Kernel a b c) Ttbr1El1 P f g e = g
+by_register (Hyp w) Ttbr0El2 P f g e = f
+by_register (Hyp w) VttbrEl2 P f g e = g
+by_register (Hyp w) Ttbr0El1 P f g e = absurd (false≢true e)
+by_register (Hyp w) Ttbr1El1 P f g e = absurd (false≢true e)
+by_register (Kernel w) Ttbr0El2 P f g e = absurd (false≢true e)
+by_register (Kernel w) VttbrEl2 P f g e = absurd (false≢true e)
+by_register (Kernel w) Ttbr0El1 P f g e = f
+by_register (Kernel w) Ttbr1El1 P f g e = g
 
 pub first-of_world : (world : World) → is_of_world world (first_reg world) ≡ true
-first-of_world (Hyp a b c) = refl
-first-of_world (Kernel a b c) = refl
+first-of_world (Hyp w) = refl
+first-of_world (Kernel w) = refl
 
 pub second-of_world : (world : World) → is_of_world world (second_reg world) ≡ true
-second-of_world (Hyp a b c) = refl
-second-of_world (Kernel a b c) = refl
+second-of_world (Hyp w) = refl
+second-of_world (Kernel w) = refl
 
 -- an ISB leaves no other value
 pub names-isb : (b : Bool) (xs : List Load) (page : ℕ) → names_in (cond b (newest xs) xs) page ≡ true → names_in xs page ≡ true
@@ -88,12 +89,16 @@ both-named g r ls bs xs ys f h e =
 
 pub reading-named : (world : World) (g : Tag) (r : ℕ) (xs ys : List Load) → has_reading g r (readings_of world xs ys) ≡ true →
     (names_in xs r || names_in ys r) ≡ true
-reading-named (Hyp a b c) g r xs ys e =
+reading-named (Hyp w) g r xs ys e =
     both-named g r (flat_map (own_reading El2) xs) (flat_map (own_reading S2) ys) xs ys (own-named El2 g r xs) (own-named S2 g r ys) e
-reading-named (Kernel a b FromTtbr0) g r xs ys e =
-    both-named g r (flat_map (own_reading Ttbr0) xs) (flat_map (own_reading Ttbr1) ys) xs ys (own-named Ttbr0 g r xs) (own-named Ttbr1 g r ys) e
-reading-named (Kernel a b FromTtbr1) g r xs ys e =
-    both-named g r (flat_map (readings_with xs) ys) (flat_map (own_reading Ttbr1) ys) xs ys (each-named g r xs ys) (own-named Ttbr1 g r ys) e
+reading-named (Kernel w) g r xs ys e = by_asid w.asid_from e
+  where
+    by_asid : (from : AsidFrom) → has_reading g r (asid_readings from xs ys ++ flat_map (own_reading Ttbr1) ys) ≡ true →
+        (names_in xs r || names_in ys r) ≡ true
+    by_asid FromTtbr0 e =
+        both-named g r (flat_map (own_reading Ttbr0) xs) (flat_map (own_reading Ttbr1) ys) xs ys (own-named Ttbr0 g r xs) (own-named Ttbr1 g r ys) e
+    by_asid FromTtbr1 e =
+        both-named g r (flat_map (readings_with xs) ys) (flat_map (own_reading Ttbr1) ys) xs ys (each-named g r xs ys) (own-named Ttbr1 g r ys) e
 
 pub root-there : (kind : Kind) (o : Option Declared) → is_of_kind kind o ≡ true → IsSome o
 root-there kind None e = absurd (false≢true e)

@@ -1,8 +1,9 @@
 -- What one more call does to the tags that are held and to the TLBIs that are awaited.
-use Rattle.std.proofs.Common.{◌≡◌, ℕ, Bool, true, false, ◌&&◌, ◌||◌, not, nat_eq, List, [], ◌∷◌, refl, sym, ◌∙◌, ap, Option}
+use Rattle.std.proofs.Common.{◌≡◌, ℕ, Bool, true, false, ◌&&◌, ◌||◌, not, nat_eq, List, [], ◌∷◌, ◌++◌, refl, sym, ◌∙◌, ap, Option}
 use Rattle.std.proofs.lemmas.Bool.{false≢true}
 use Rattle.bbm_barriers.specs.Options.{answers}
 use Rattle.bbm_barriers.specs.declared.Dsb.{Dsb}
+use Rattle.bbm_regimes.specs.declared.regime.AsidFrom.{AsidFrom}
 use Rattle.bbm_regimes.specs.declared.regime.AsidFrom.TheVariants.{Ttbr0 as FromTtbr0, Ttbr1 as FromTtbr1}
 use Rattle.bbm_regimes.specs.declared.regime.Tag.{Tag}
 use Rattle.bbm_regimes.specs.declared.regime.World.{World}
@@ -11,7 +12,8 @@ use Rattle.bbm_tlbi_scope.specs.declared.scope.Scope.{Scope}
 use Rattle.bbm_tlbi_scope.specs.Tags.{takes_whole_tag}
 use Rattle.bbm_roots.specs.Calls.{Call, Complete, Issue}
 use Rattle.bbm_roots.specs.Pendings.{same_flag}
-use Rattle.bbm_roots.specs.Readings.{has_reading, has_tag, is_reading, is_of_tag, same_tag}
+use Rattle.bbm_roots.specs.Readings.{asid_readings, has_reading, has_tag, is_reading, is_of_tag, same_tag}
+use Rattle.bbm_roots.specs.Registers.{at_start}
 use Rattle.bbm_roots.specs.Tags.{readings, reads, reads_for_some, awaited, loses, holds_at, issues, answered_by}
 use Rattle.bbm_roots.specs.declared.reading.Reading.{Reading}
 use Rattle.bbm_roots.proofs.Lists.{any-weaker}
@@ -20,9 +22,12 @@ use Rattle.bbm_roots.proofs.Bits.{and_left, and_right, and-true, and-false}
 -- where a tag is readable for a root, the root holds it
 pub reads-holds : (world : World) (cs : List Call) (g : Tag) (r p : ℕ) → reads world cs p g r ≡ true →
     holds_at world cs g r p ≡ true
-reads-holds (Hyp a b c) [] g r p e = e
-reads-holds (Kernel a b FromTtbr0) [] g r p e = e
-reads-holds (Kernel a b FromTtbr1) [] g r p e = e
+reads-holds (Hyp w) [] g r p e = e
+reads-holds (Kernel w) [] g r p e = by_asid w.asid_from e
+  where
+    by_asid : (from : AsidFrom) → has_reading g r (asid_readings from (at_start ∷ []) (at_start ∷ []) ++ []) ≡ true → false ≡ true
+    by_asid FromTtbr0 k = k
+    by_asid FromTtbr1 k = k
 reads-holds world (c ∷ cs) g r p e = ap (λ (b : Bool). b || (holds_at world cs g r p && not (loses world c cs g p))) e
 
 pub reads-some : (world : World) (cs : List Call) (g : Tag) (r p : ℕ) → reads world cs p g r ≡ true →

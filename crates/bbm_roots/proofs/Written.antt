@@ -13,24 +13,24 @@ use Rattle.bbm_roots.specs.declared.load.Load.{Load}
 
 -- a register of the world is its first or its second
 pub is_the_first : (world : World) (reg : Reg) → is_of_world world reg ≡ true → same_reg reg (first_reg world) ≡ is_first reg
-is_the_first (Hyp a b c) Ttbr0El2 e = refl
-is_the_first (Hyp a b c) VttbrEl2 e = refl
-is_the_first (Hyp a b c) Ttbr0El1 e = absurd (false≢true e)
-is_the_first (Hyp a b c) Ttbr1El1 e = absurd (false≢true e)
-is_the_first (Kernel a b c) Ttbr0El2 e = absurd (false≢true e)
-is_the_first (Kernel a b c) VttbrEl2 e = absurd (false≢true e)
-is_the_first (Kernel a b c) Ttbr0El1 e = refl
-is_the_first (Kernel a b c) Ttbr1El1 e = refl
+is_the_first (Hyp w) Ttbr0El2 e = refl
+is_the_first (Hyp w) VttbrEl2 e = refl
+is_the_first (Hyp w) Ttbr0El1 e = absurd (false≢true e)
+is_the_first (Hyp w) Ttbr1El1 e = absurd (false≢true e)
+is_the_first (Kernel w) Ttbr0El2 e = absurd (false≢true e)
+is_the_first (Kernel w) VttbrEl2 e = absurd (false≢true e)
+is_the_first (Kernel w) Ttbr0El1 e = refl
+is_the_first (Kernel w) Ttbr1El1 e = refl
 
 pub is_the_second : (world : World) (reg : Reg) → is_of_world world reg ≡ true → same_reg reg (second_reg world) ≡ not (is_first reg)
-is_the_second (Hyp a b c) Ttbr0El2 e = refl
-is_the_second (Hyp a b c) VttbrEl2 e = refl
-is_the_second (Hyp a b c) Ttbr0El1 e = absurd (false≢true e)
-is_the_second (Hyp a b c) Ttbr1El1 e = absurd (false≢true e)
-is_the_second (Kernel a b c) Ttbr0El2 e = absurd (false≢true e)
-is_the_second (Kernel a b c) VttbrEl2 e = absurd (false≢true e)
-is_the_second (Kernel a b c) Ttbr0El1 e = refl
-is_the_second (Kernel a b c) Ttbr1El1 e = refl
+is_the_second (Hyp w) Ttbr0El2 e = refl
+is_the_second (Hyp w) VttbrEl2 e = refl
+is_the_second (Hyp w) Ttbr0El1 e = absurd (false≢true e)
+is_the_second (Hyp w) Ttbr1El1 e = absurd (false≢true e)
+is_the_second (Kernel w) Ttbr0El2 e = absurd (false≢true e)
+is_the_second (Kernel w) VttbrEl2 e = absurd (false≢true e)
+is_the_second (Kernel w) Ttbr0El1 e = refl
+is_the_second (Kernel w) Ttbr1El1 e = refl
 
 -- at another PE the same stays readable
 pub elsewhere : (world : World) (pe : ℕ) (reg : Reg) (value : ℕ) (null : Bool) (cs : List Call) (p : ℕ) → nat_eq p pe ≡ false →

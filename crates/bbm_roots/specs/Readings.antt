@@ -1,5 +1,6 @@
 -- Readable tags: what the readable values of the registers of a PE name, each with its tag.
-use Rattle.std.specs.Prelude.{ℕ, Bool, false, ◌&&◌, not, ◌==◌, ◌+◌, List, [], ◌∷◌, ◌++◌, Option, Some, None, is_some, flat_map}
+use Rattle.std.specs.Prelude.{ℕ, Bool, false, ◌&&◌, not, ◌==◌, ◌+◌, List, [], ◌∷◌, ◌++◌, Option, Some, None, is_some}
+use Rattle.std.specs.Prelude.{flat_map}
 use Rattle.std.specs.List.{list_any}
 pub use Rattle.bbm_regimes.specs.Same.{same_tag}
 use Rattle.bbm_regimes.specs.declared.regime.AsidFrom.{AsidFrom}
@@ -53,10 +54,10 @@ asid_readings FromTtbr1 first second = flat_map (readings_with first) second
 -- Source: Arm ARM (DDI 0487), "Translation Lookaside Buffers", and TCR_EL1.A1 of "AArch64 System register
 -- descriptions".
 abbrev pub readings_of : World → List Load → List Load → List Reading
-readings_of (Hyp el2_start s2_start s2_pages) first second =
+readings_of (Hyp world) first second =
     flat_map (own_reading El2) first ++ flat_map (own_reading S2) second
-readings_of (Kernel start0 start1 asid_from) first second =
-    asid_readings asid_from first second ++ flat_map (own_reading Ttbr1) second
+readings_of (Kernel world) first second =
+    asid_readings world.asid_from first second ++ flat_map (own_reading Ttbr1) second
 
 -- whether the tag is readable for the root, for some root, and for another root
 abbrev pub is_reading : Tag → ℕ → Reading → Bool
@@ -97,10 +98,13 @@ abbrev pub has_number : ℕ → List Load → Bool
 has_number number loads = list_any (numbered number) loads
 
 -- the same as `has_tag` of the readings, without a list of them
+abbrev pub reads_asid : AsidFrom → List Load → List Load → ℕ → Bool
+reads_asid FromTtbr0 first second a = names_with a first
+reads_asid FromTtbr1 first second a = names_some first && has_number a second
+
 abbrev pub reads_tag : World → List Load → List Load → Tag → Bool
-reads_tag (Hyp el2_start s2_start s2_pages) first second El2Tag = names_some first
-reads_tag (Hyp el2_start s2_start s2_pages) first second (Vmid v) = names_with v second
-reads_tag (Kernel start0 start1 asid_from) first second Ttbr1Tag = names_some second
-reads_tag (Kernel start0 start1 FromTtbr0) first second (Asid a) = names_with a first
-reads_tag (Kernel start0 start1 FromTtbr1) first second (Asid a) = names_some first && has_number a second
+reads_tag (Hyp world) first second El2Tag = names_some first
+reads_tag (Hyp world) first second (Vmid v) = names_with v second
+reads_tag (Kernel world) first second Ttbr1Tag = names_some second
+reads_tag (Kernel world) first second (Asid a) = reads_asid world.asid_from first second a
 reads_tag _ first second _ = false

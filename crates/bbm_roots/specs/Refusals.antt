@@ -1,5 +1,6 @@
 -- Why a call is refused, and when it is taken. A list of calls is newest first.
-use Rattle.std.specs.Prelude.{◌≡◌, ◌<◌, ◌≤◌, ℕ, Bool, not, ◌==◌, ◌&&◌, Option, Some, None, IsSome, Result, Ok, Err, List, if◌then◌else◌}
+use Rattle.std.specs.Prelude.{◌≡◌, ◌<◌, ◌≤◌, ℕ, Bool, not, ◌==◌, ◌&&◌, Option, Some, None, IsSome, Result, Ok, Err}
+use Rattle.std.specs.Prelude.{List, if◌then◌else◌}
 use Rattle.std.specs.List.{list_any}
 use Rattle.bbm_regimes.specs.declared.regime.Kind.{Kind}
 use Rattle.bbm_regimes.specs.declared.regime.Reg.{Reg}
@@ -71,4 +72,5 @@ module _ (vmid : Option ℕ) (loads : List Load) where
   abbrev pub JudgesVmid : Result ℕ Unsynced → Type 0
   JudgesVmid (Ok n) = vmid ≡ Some n
   JudgesVmid (Err e) =
-      (vmid ≡ None) × IsLeast UpTo (other_number loads None) (Some e.0) × IsLeast UpTo (other_number loads (Some e.0)) (Some e.1)
+      (vmid ≡ None) × IsLeast UpTo (other_number loads None) (Some e.0)
+      × IsLeast UpTo (other_number loads (Some e.0)) (Some e.1)

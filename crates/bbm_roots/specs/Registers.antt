@@ -1,5 +1,6 @@
 -- The root registers of a PE: what the values that may still be in use name. A list of calls is newest first.
-use Rattle.std.specs.Prelude.{ℕ, ◌*◌, ◌/◌, ◌%◌, ◌^◌, Bool, true, false, ◌&&◌, ◌||◌, ◌==◌, List, [], ◌∷◌, Option, Some, None, if◌then◌else◌}
+use Rattle.std.specs.Prelude.{ℕ, ◌*◌, ◌/◌, ◌%◌, ◌^◌, Bool, true, false, ◌&&◌, ◌||◌, ◌==◌, List, [], ◌∷◌, Option, Some}
+use Rattle.std.specs.Prelude.{None, if◌then◌else◌}
 use Rattle.std.specs.List.{list_any}
 pub use Rattle.bbm_regimes.specs.Same.{kind_of_reg, same_reg}
 use Rattle.bbm_regimes.specs.declared.regime.Reg.{Reg}
@@ -11,12 +12,12 @@ use Rattle.bbm_roots.specs.declared.load.Load.{Load}
 
 -- The two registers of a world. Source: project's own choice.
 abbrev pub first_reg : World → Reg
-first_reg (Hyp el2_start s2_start s2_pages) = Ttbr0El2
-first_reg (Kernel start0 start1 asid_from) = Ttbr0El1
+first_reg (Hyp world) = Ttbr0El2
+first_reg (Kernel world) = Ttbr0El1
 
 abbrev pub second_reg : World → Reg
-second_reg (Hyp el2_start s2_start s2_pages) = VttbrEl2
-second_reg (Kernel start0 start1 asid_from) = Ttbr1El1
+second_reg (Hyp world) = VttbrEl2
+second_reg (Kernel world) = Ttbr1El1
 
 abbrev pub is_first : Reg → Bool
 is_first Ttbr0El2 = true

@@ -1,5 +1,6 @@
 -- Roots of translation tables. A list of calls is newest first.
-use Rattle.std.specs.Prelude.{ℕ, Bool, true, false, not, ◌&&◌, ◌==◌, List, [], ◌∷◌, Option, Some, None, find, if◌then◌else◌}
+use Rattle.std.specs.Prelude.{ℕ, Bool, true, false, not, ◌&&◌, ◌==◌, List, [], ◌∷◌, Option, Some, None, find}
+use Rattle.std.specs.Prelude.{if◌then◌else◌}
 use Rattle.std.specs.List.{list_any}
 pub use Rattle.bbm_regimes.specs.Same.{same_kind}
 use Rattle.bbm_regimes.specs.declared.regime.Kind.{Kind}

@@ -8,7 +8,8 @@ use Rattle.bbm_roots.specs.Calls.{Call}
 use Rattle.bbm_roots.specs.Columns.{loads_in}
 use Rattle.bbm_roots.specs.Holds.{hold_in}
 use Rattle.bbm_roots.specs.Pendings.{pending_in}
-use Rattle.bbm_roots.specs.Registers.{at_start, first_reg, second_reg, register_values, is_of_world, kind_of_reg, names_in}
+use Rattle.bbm_roots.specs.Registers.{at_start, first_reg, second_reg, register_values, is_of_world, kind_of_reg}
+use Rattle.bbm_roots.specs.Registers.{names_in}
 use Rattle.bbm_roots.specs.Roots.{root_at, roots_of, is_root, are_apart}
 use Rattle.bbm_roots.specs.Tags.{holds_at, awaited}
 use Rattle.bbm_roots.specs.declared.roots.Roots.{Roots}
@@ -25,8 +26,10 @@ world_of roots = roots.registers.world
 -- it says besides that a page is that of one declared root at most, that readable values name declared roots of their
 -- register's kind, and that a root which holds a tag is declared.
 pub record Stands (roots : Roots) (cs : List Call) : Type 0 where
-  pub first : (p : ℕ) → p < pes_of roots → loads_in roots.registers.first.items p ≡ register_values cs p (first_reg (world_of roots))
-  pub second : (p : ℕ) → p < pes_of roots → loads_in roots.registers.second.items p ≡ register_values cs p (second_reg (world_of roots))
+  pub first : (p : ℕ) → p < pes_of roots
+      → loads_in roots.registers.first.items p ≡ register_values cs p (first_reg (world_of roots))
+  pub second : (p : ℕ) → p < pes_of roots
+      → loads_in roots.registers.second.items p ≡ register_values cs p (second_reg (world_of roots))
   pub outside : (p : ℕ) (reg : Reg) → pes_of roots ≤ p → register_values cs p reg ≡ at_start ∷ []
   pub declared : (page : ℕ) → get nat_eq roots.declared page ≡ root_at cs page
   pub count : index_map_len roots.declared ≡ length (roots_of cs)

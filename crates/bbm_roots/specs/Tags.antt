@@ -1,5 +1,6 @@
 -- Tags: under which a PE may read through a root, and which a root holds. A list of calls is newest first.
-use Rattle.std.specs.Prelude.{ℕ, Bool, true, false, ◌&&◌, ◌||◌, not, nat_eq, ◌==◌, List, [], ◌∷◌, Option, Some, None, if◌then◌else◌}
+use Rattle.std.specs.Prelude.{ℕ, Bool, true, false, ◌&&◌, ◌||◌, not, nat_eq, ◌==◌, List, [], ◌∷◌, Option, Some, None}
+use Rattle.std.specs.Prelude.{if◌then◌else◌}
 use Rattle.bbm_barriers.specs.Options.{answers}
 use Rattle.bbm_regimes.specs.declared.regime.Tag.{Tag}
 use Rattle.bbm_regimes.specs.declared.regime.World.{World}
@@ -80,6 +81,6 @@ one_number (load ∷ loads) = if all_are load.number loads then Some load.number
 -- where there are several. In the Kernel world 0 stands for the one VMID, which isn't logged.
 -- Source: project's own choice.
 abbrev pub vmid_of : World → List Call → ℕ → Option ℕ
-vmid_of (Hyp el2_start s2_start s2_pages) cs p =
-    one_number (register_values cs p (second_reg (Hyp el2_start s2_start s2_pages)))
-vmid_of (Kernel start0 start1 asid_from) cs p = Some 0
+vmid_of (Hyp world) cs p =
+    one_number (register_values cs p (second_reg (Hyp world)))
+vmid_of (Kernel world) cs p = Some 0

@@ -68,8 +68,8 @@ pub fn is_of_world(world: World, reg: Reg) -> bool
     ensures { result ≡ spec.is_of_world world reg }
 {
     match world {
-        World::Hyp { .. } => matches!(reg, Reg::Ttbr0El2 | Reg::VttbrEl2),
-        World::Kernel { .. } => matches!(reg, Reg::Ttbr0El1 | Reg::Ttbr1El1),
+        World::Hyp(_) => matches!(reg, Reg::Ttbr0El2 | Reg::VttbrEl2),
+        World::Kernel(_) => matches!(reg, Reg::Ttbr0El1 | Reg::Ttbr1El1),
     }
 }
 

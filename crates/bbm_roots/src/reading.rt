@@ -93,6 +93,21 @@ fn add_each(readings: &mut Vec<Reading>, first: &[Load], second: &[Load]) -> Res
     Ok(())
 }
 
+// Adds what the values of TTBR0_EL1 name, each under its own ASID or under those of the values of TTBR1_EL1.
+fn add_asids(
+    readings: &mut Vec<Reading>,
+    asid_from: AsidFrom,
+    first: &[Load],
+    second: &[Load],
+) -> Result<(), NoMemory>
+    ensures { OnOk result (readings.new.items ≡ readings.old.items ++ spec.asid_readings asid_from first.now second.now) }
+{
+    match asid_from {
+        AsidFrom::Ttbr0 => add_own(readings, Kind::Ttbr0, first),
+        AsidFrom::Ttbr1 => add_each(readings, first, second),
+    }
+}
+
 /// The readable tags of a PE, each with its root, of the readable values of the two registers of the world.
 /// `NoMemory` where there is none. Source: Arm ARM (DDI 0487), "Translation Lookaside Buffers", and TCR_EL1.A1
 /// of "AArch64 System register descriptions".
@@ -106,22 +121,12 @@ pub fn readings(
 {
     let mut readings = Vec::new(alloc);
     match world {
-        World::Hyp { .. } => {
+        World::Hyp(_) => {
             add_own(&mut readings, Kind::El2, first)?;
             add_own(&mut readings, Kind::S2, second)?;
         }
-        World::Kernel {
-            asid_from: AsidFrom::Ttbr0,
-            ..
-        } => {
-            add_own(&mut readings, Kind::Ttbr0, first)?;
-            add_own(&mut readings, Kind::Ttbr1, second)?;
-        }
-        World::Kernel {
-            asid_from: AsidFrom::Ttbr1,
-            ..
-        } => {
-            add_each(&mut readings, first, second)?;
+        World::Kernel(world) => {
+            add_asids(&mut readings, world.asid_from, first, second)?;
             add_own(&mut readings, Kind::Ttbr1, second)?;
         }
     }
@@ -172,29 +177,28 @@ fn has_number(loads: &[Load], number: u16) -> bool
     loads.iter().any(|load| load.number == number)
 }
 
+// Whether an ASID is readable for some root.
+fn reads_asid(asid_from: AsidFrom, first: &[Load], second: &[Load], number: u16) -> bool
+    ensures { result ≡ spec.reads_asid asid_from first.now second.now number }
+{
+    match asid_from {
+        AsidFrom::Ttbr0 => names_with(first, number),
+        AsidFrom::Ttbr1 => names_some(first) && has_number(second, number),
+    }
+}
+
 /// Whether the tag is readable for some root, by the readable values of the two registers of the world. Source:
 /// Arm ARM (DDI 0487), "Translation Lookaside Buffers".
 pub fn reads_tag(world: World, first: &[Load], second: &[Load], tag: Tag) -> bool
     ensures { result ≡ spec.reads_tag world first.now second.now tag }
 {
     match (world, tag) {
-        (World::Hyp { .. }, Tag::El2) => names_some(first),
-        (World::Hyp { .. }, Tag::Vmid(number)) => names_with(second, number),
-        (World::Kernel { .. }, Tag::Ttbr1) => names_some(second),
-        (
-            World::Kernel {
-                asid_from: AsidFrom::Ttbr0,
-                ..
-            },
-            Tag::Asid(number),
-        ) => names_with(first, number),
-        (
-            World::Kernel {
-                asid_from: AsidFrom::Ttbr1,
-                ..
-            },
-            Tag::Asid(number),
-        ) => { names_some(first) && has_number(second, number) }
+        (World::Hyp(_), Tag::El2) => names_some(first),
+        (World::Hyp(_), Tag::Vmid(number)) => names_with(second, number),
+        (World::Kernel(_), Tag::Ttbr1) => names_some(second),
+        (World::Kernel(world), Tag::Asid(number)) => {
+            reads_asid(world.asid_from, first, second, number)
+        }
         _ => false,
     }
 }

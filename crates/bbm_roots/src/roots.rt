@@ -194,10 +194,8 @@ impl Roots {
             (register_values calls pe (second_reg (world_of self.now))) result }
     {
         match self.registers.world {
-            World::Hyp { .. } => {
-                vmid::one_number(registers::loads_at(&self.registers.second, pe))
-            }
-            World::Kernel { .. } => Ok(0),
+            World::Hyp(_) => vmid::one_number(registers::loads_at(&self.registers.second, pe)),
+            World::Kernel(_) => Ok(0),
         }
     }
 

@@ -8,7 +8,7 @@ use crate::load::is_of_world;
 use crate::{InUse, RootFault, Roots, Unsynced};
 use bbm_barriers::{Domain, Dsb, Types};
 use bbm_events::Header;
-use bbm_regimes::{AsidFrom, Kind, Page, Pe, Reg, Tag, Which, World};
+use bbm_regimes::{AsidFrom, HypWorld, KernelWorld, Kind, Page, Pe, Reg, Tag, Which, World};
 use bbm_tlbi_scope::{TagSet, TlbiOp, decode};
 use std::alloc::Global;
 use std::test::Fail;
@@ -30,22 +30,22 @@ const HYP: Header = Header {
     version: 1,
     pes: 2,
     cnp: false,
-    world: World::Hyp {
+    world: World::Hyp(HypWorld {
         el2_start: 1,
         s2_start: 1,
         s2_pages: 1,
-    },
+    }),
 };
 
 const KERNEL: Header = Header {
     version: 1,
     pes: 2,
     cnp: false,
-    world: World::Kernel {
+    world: World::Kernel(KernelWorld {
         start0: 1,
         start1: 1,
         asid_from: AsidFrom::Ttbr0,
-    },
+    }),
 };
 
 const ONE: u64 = 0x4000_0000;

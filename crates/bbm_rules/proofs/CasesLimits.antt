@@ -82,7 +82,7 @@ module _ (h : List Event) (number : ℕ) where
   pub events_2000 : length h ≡ 2000 → limit_at check_limits number h None ≡ Some Events
   events_2000 e = rw e refl
 
-  pub events_1999 : length h ≡ 1999 → limit_at check_limits number h None ≡ None
+  pub events_1999 : length h ≡ 1999 → limit_at check_limits 2001 h None ≡ None
   events_1999 e = rw e refl
 
   -- A limit of the history comes before that of events, and that of events before that of lines.
@@ -90,12 +90,12 @@ module _ (h : List Event) (number : ℕ) where
   history_comes_before_events limits which = refl
 
   pub events_come_before_lines : length h ≡ 9
-      → limit_at (record { events = Some 9; lines = Some 10 }) 10 h None ≡ Some Events
+      → limit_at (record { events = Some 9; lines = 10 }) 10 h None ≡ Some Events
   events_come_before_lines e = rw e refl
 
   -- Line 2^32 - 1 reaches a limit of that number.
-  pub lines_reached : limit_at (record { events = None; lines = Some 4294967295 }) 4294967295 h None ≡ Some Lines
+  pub lines_reached : limit_at (record { events = None; lines = 4294967295 }) 4294967295 h None ≡ Some Lines
   lines_reached = refl
 
-  pub lines_not_reached : limit_at (record { events = None; lines = Some 4294967295 }) 4294967294 h None ≡ None
+  pub lines_not_reached : limit_at (record { events = None; lines = 4294967295 }) 4294967294 h None ≡ None
   lines_not_reached = refl

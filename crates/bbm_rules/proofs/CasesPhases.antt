@@ -1,10 +1,10 @@
--- Worked cases: how far a place has come, at each PE, after the events of a log.
+-- Worked cases: how far a place has come, at each PE, after the events of a log; and how many places are on the way.
 use Rattle.std.specs.Prelude.{◌≡◌, ℕ, List, [], ◌∷◌, Option, Some, refl}
 use Prim.Native.String.{String}
 use Rattle.bbm_rules.specs.declared.phase.Phase.{Phase}
 use Rattle.bbm_rules.specs.declared.phase.Phase.TheVariants.{Clean, Live, Broken, Seen, Half, Cleansed}
 use Rattle.bbm_rules.specs.Claims.{Patterns}
-use Rattle.bbm_rules.specs.Phases.{phase_of}
+use Rattle.bbm_rules.specs.Phases.{phase_of, restless_of}
 use Rattle.bbm_rules.proofs.Judged.{after}
 
 unfoldable pub phase_after : List String → ℕ → ℕ → Option Phase
@@ -127,3 +127,42 @@ pub phase_cleansed_by_two_steps :
     ("tlbi 0 ipas2e1is 0x40000" ∷ "dsb 0 ish" ∷ "tlbi 0 vmalle1" ∷ "dsb 0 nsh" ∷ [])) 0x40002008 0 ≡ Some Cleansed
 unfolding phase_after
 phase_cleansed_by_two_steps = refl
+
+unfoldable pub restless_after : List String → Option ℕ
+unfolding after restless_of
+restless_after lines = after lines (λ heading h. restless_of heading Patterns h)
+
+-- A place whose value is valid isn't restless.
+pub restless_live : restless_after (made []) ≡ Some 0
+unfolding restless_after
+restless_live = refl
+
+-- A cleared place is, also one that another PE cleared again.
+pub restless_cleared : restless_after (cleared ("w 1 0x40000008 0x0" ∷ "w 0 0x40000010 0x0" ∷ [])) ≡ Some 1
+unfolding restless_after
+restless_cleared = refl
+
+-- As long as it isn't cleansed at every PE.
+pub restless_at_the_other_pe :
+    restless_after (cleared ("dsb 0 ishst" ∷ "tlbi 0 alle2" ∷ "dsb 0 nsh" ∷ [])) ≡ Some 1
+unfolding restless_after
+restless_at_the_other_pe = refl
+
+pub restless_flushed :
+    restless_after (cleared ("dsb 0 ishst" ∷ "tlbi 0 vae2is 0x40000" ∷ "dsb 0 ish" ∷ [])) ≡ Some 0
+unfolding restless_after
+restless_flushed = refl
+
+-- A cleared place of a page that is in no tree isn't.
+pub restless_in_no_tree :
+    restless_after ("bbmlog 1 hyp 2 1 1 1" ∷ "init 0 0x40001000" ∷ "w 0 0x40001008 0x80000701" ∷ "init 0 0x40002000"
+    ∷ "w 0 0x40002010 0x0" ∷ []) ≡ Some 0
+unfolding restless_after
+restless_in_no_tree = refl
+
+-- A broken table and a broken block below it are two.
+pub restless_below_a_broken_table :
+    restless_after ("bbmlog 1 hyp 2 1 1 1" ∷ "init 0 0x40000000" ∷ "root 0 el2 - 0x40000000" ∷ "init 0 0x40001000"
+    ∷ "w 0 0x40000008 0x40001003" ∷ "w 0 0x40001000 0x80000701" ∷ "w 0 0x40000008 0x0" ∷ "w 0 0x40001000 0x0" ∷ []) ≡ Some 2
+unfolding restless_after
+restless_below_a_broken_table = refl

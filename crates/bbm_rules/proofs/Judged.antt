@@ -10,7 +10,7 @@ use Rattle.bbm_events.specs.Spelling.{decimal_value, hex_value}
 use Rattle.bbm_rules.specs.declared.claim.Claim.{Claim}
 use Rattle.bbm_rules.specs.Broken.{broken}
 use Rattle.bbm_rules.specs.Claims.{Trust, Listed, Patterns}
-use Rattle.bbm_rules.specs.Outcome.{all_rules, check_limits, Progress, AtEvents, step_of, end_of, verdict_of_bytes, read_lines}
+use Rattle.bbm_rules.specs.Outcome.{check_limits, Progress, AtEvents, step_of, end_of, verdict_of_bytes, read_lines}
 use Rattle.bbm_rules.specs.Texts.{verdict_text}
 use Rattle.bbm_rules.specs.Tree.{tree}
 
@@ -22,7 +22,7 @@ log (line ∷ lines) = codes line ++ 10 ∷ log lines
 -- the text of the verdict on these bytes
 unfoldable pub judged_under : Trust → List ℕ → List ℕ
 unfolding digits header_of item_of decimal_value hex_value broken tree step_of end_of verdict_text
-judged_under trust bytes = verdict_text (verdict_of_bytes (all_rules trust) check_limits bytes)
+judged_under trust bytes = verdict_text (verdict_of_bytes trust check_limits bytes)
 
 unfoldable pub judged_bytes : List ℕ → List ℕ
 unfolding judged_under
@@ -49,4 +49,4 @@ at_progress f _ = None
 
 unfoldable pub after : {A : Type 0} → List String → (Heading → List Event → A) → Option A
 unfolding judged_under
-after lines f = at_progress f (read_lines (all_rules Patterns) check_limits (bytes_of_each lines))
+after lines f = at_progress f (read_lines Patterns check_limits (bytes_of_each lines))

@@ -3,8 +3,11 @@
 use Rattle.std.proofs.Common.{◌≡◌, ℕ, suc, ◌+◌, ◌<◌, ◌≤◌, Bool, true, false, not, ◌&&◌, ◌==◌, nat_le, List, [], ◌∷◌, ◌++◌, length, refl, sym, ◌∙◌, ap, subst, inl, inr, arith, true≢false, length-append}
 use Rattle.std.proofs.lemmas.Bool.{or_cases, or_left, or_right, and_parts, and_from, leb-true, leb-false, le-leb, not-true, not_from_false}
 use Rattle.bbm_barriers.specs.declared.Dsb.{Dsb as Barrier}
+use Rattle.bbm_regimes.specs.declared.regime.AsidFrom.{AsidFrom}
 use Rattle.bbm_regimes.specs.declared.regime.AsidFrom.TheVariants.{Ttbr0 as FromTtbr0, Ttbr1 as FromTtbr1}
+use Rattle.bbm_regimes.specs.declared.regime.Reg.TheVariants.{Ttbr1El1}
 use Rattle.bbm_regimes.specs.declared.regime.Tag.{Tag}
+use Rattle.bbm_regimes.specs.declared.regime.Tag.TheVariants.{Ttbr1 as Ttbr1Tag}
 use Rattle.bbm_regimes.specs.declared.regime.World.{World}
 use Rattle.bbm_regimes.specs.declared.regime.World.TheVariants.{Hyp, Kernel}
 use Rattle.bbm_events.specs.Heading.{Heading}
@@ -16,7 +19,7 @@ use Rattle.bbm_rules.specs.declared.claim.Claim.TheVariants.{Taken}
 use Rattle.bbm_rules.specs.Claims.{Trust, allows, same_tag}
 use Rattle.bbm_rules.specs.Reach.{Issued, completes, reaches, unanswered}
 use Rattle.bbm_rules.specs.Sentences.{HoldsTag, Open, TakenAway}
-use Rattle.bbm_rules.specs.Tags.{Reading, holds_at, is_taken_by, itself, loses, read_since, readings, readings_in, reads, reads_for_some, takes_tag}
+use Rattle.bbm_rules.specs.Tags.{Reading, asid_readings, holds_at, is_taken_by, itself, loses, read_since, readings, readings_in, readings_of, reads, reads_for_some, takes_tag}
 
 -- a tag that is readable for a root is readable for some root
 pub some_reading : (heading : Heading) (h : List Event) (p : ℕ) (tag : Tag) (root : ℕ) → reads heading h p tag root ≡ true
@@ -27,9 +30,12 @@ some_reading heading h p tag root k =
 
 -- at the start no tag is readable
 no_reading : (world : World) (p : ℕ) → readings_in world [] p ≡ []
-no_reading (Hyp el2_start s2_start s2_pages) p = refl
-no_reading (Kernel start0 start1 FromTtbr0) p = refl
-no_reading (Kernel start0 start1 FromTtbr1) p = refl
+no_reading (Hyp hyp) p = refl
+no_reading (Kernel kernel) p = by_asid kernel.asid_from
+  where
+    by_asid : (from : AsidFrom) → asid_readings from [] p ++ readings_of [] p Ttbr1El1 (λ value. Ttbr1Tag) ≡ []
+    by_asid FromTtbr0 = refl
+    by_asid FromTtbr1 = refl
 
 not_at_start : (heading : Heading) (p root : ℕ) (tag : Tag) → reads heading [] p tag root ≡ true → ⊥
 not_at_start heading p root tag k =

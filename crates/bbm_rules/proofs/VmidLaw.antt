@@ -4,7 +4,7 @@ use Rattle.std.proofs.lemmas.Bool.{and_cases, and_parts, eqb-true, or_cases, or_
 use Rattle.bbm_rules.proofs.EqualityLaw.{same_number}
 use Rattle.bbm_rules.proofs.RegisterLaw.{first}
 use Rattle.bbm_rules.specs.Lists.{among, every, one_number}
-use Rattle.bbm_rules.specs.Prelude.{Event, Heading, Hyp, VttbrEl2}
+use Rattle.bbm_rules.specs.Prelude.{Event, Heading, Hyp, HypWorld, VttbrEl2}
 use Rattle.bbm_rules.specs.Registers.{register_values, tag_number, vmid_in, vmid_of}
 use Rattle.bbm_rules.specs.Sentences.{register_value}
 
@@ -54,17 +54,17 @@ module _ (f : ℕ → ℕ) where
   several [] x e k = cc
   several (n ∷ vs) x e k = several_by n vs (every (λ m. m == f n) (map f vs)) refl k
 
-pub one_vmid : (heading : Heading) (el2_start s2_start s2_pages : ℕ) (h : List Event) (p v value : ℕ)
-    → heading.world ≡ Hyp el2_start s2_start s2_pages → vmid_of heading h p ≡ Some v
+pub one_vmid : (heading : Heading) (hyp : HypWorld) (h : List Event) (p v value : ℕ)
+    → heading.world ≡ Hyp hyp → vmid_of heading h p ≡ Some v
     → among value (register_values h p VttbrEl2) ≡ true → tag_number value ≡ v
-one_vmid heading el2_start s2_start s2_pages h p v value world e i =
+one_vmid heading hyp h p v value world e i =
     one tag_number v (register_values h p VttbrEl2) (ap (λ w. vmid_in w h p) (sym world) ∙ e) value i
 
-pub several_vmids : (heading : Heading) (el2_start s2_start s2_pages : ℕ) (h : List Event) (p : ℕ)
-    → heading.world ≡ Hyp el2_start s2_start s2_pages → vmid_of heading h p ≡ None
+pub several_vmids : (heading : Heading) (hyp : HypWorld) (h : List Event) (p : ℕ)
+    → heading.world ≡ Hyp hyp → vmid_of heading h p ≡ None
     → (a b : ℕ) × (among a (register_values h p VttbrEl2) ≡ true) × (among b (register_values h p VttbrEl2) ≡ true)
     × ((tag_number a == tag_number b) ≡ false)
-several_vmids heading el2_start s2_start s2_pages h p world e =
+several_vmids heading hyp h p world e =
     several tag_number (register_values h p VttbrEl2) (register_value h p VttbrEl2) (first p VttbrEl2 h)
     (ap (λ w. vmid_in w h p) (sym world) ∙ e)
 

@@ -1,6 +1,8 @@
--- What a checker's answer to an event means, and where it takes no memory.
-use Rattle.std.specs.Prelude.{◌≡◌, ℕ, Bool, true, false, ◌&&◌, ◌||◌, ◌==◌, List, [], ◌∷◌, Option, Some, None, is_none, Result, Ok, Err, if◌then◌else◌}
+-- What a checker may be asked, what its answer to an event means, and where it takes no memory.
+use Rattle.std.specs.Prelude.{◌≡◌, ℕ, ◌<◌, ◌-◌, ◌^◌, Bool, true, false, ◌&&◌, ◌||◌, ◌==◌, List, [], ◌∷◌, length}
+use Rattle.std.specs.Prelude.{Option, Some, None, is_none, Result, Ok, Err, if◌then◌else◌}
 use Rattle.bbm_regimes.specs.declared.regime.Which.{Which}
+use Rattle.bbm_events.specs.Fits.{fits_heading}
 use Rattle.bbm_rules.specs.Prelude.{Heading, Event, Init, Write, Dsb, Dmb, Isb, Lock, Unlock}
 use Rattle.bbm_rules.specs.declared.step_fault.StepFault.{StepFault}
 use Rattle.bbm_rules.specs.declared.step_fault.StepFault.TheVariants.{Broken, Limit, NoMemory}
@@ -9,6 +11,17 @@ use Rattle.bbm_rules.specs.Broken.{Breach}
 use Rattle.bbm_rules.specs.Claims.{Patterns}
 use Rattle.bbm_rules.specs.Covers.{noted}
 use Rattle.bbm_rules.specs.Places.{page_of}
+
+-- What stands for a history of a header may take this event: it fits the header, and fewer than 2^64 - 1 events were
+-- taken.
+abbrev pub MayTake : (Heading → List Event → Type 0) → Event → Type 0
+MayTake stands event =
+    (heading : Heading) × (h : List Event) × stands heading h × (fits_heading heading event ≡ true)
+    × (length h < 2 ^ 64 - 1)
+
+-- What stands for a history of a header may be asked of this PE, which is one of the header.
+abbrev pub MayAsk : (Heading → List Event → Type 0) → ℕ → Type 0
+MayAsk stands pe = (heading : Heading) × (h : List Event) × stands heading h × (pe < heading.pes)
 
 -- Given the least broken rule with its number, or none, and the limit that the event reaches, or none: the event is
 -- taken where there is neither; a broken rule is named before a limit. Want of memory may come in the place of any.

@@ -1,5 +1,6 @@
 -- Which pages an event attaches to a tree. Source: project's own choice.
-use Rattle.std.specs.Prelude.{ℕ, zero, suc, ◌-◌, List, [], ◌∷◌, ◌++◌, Option, Some, None, flat_map, filter_map, is_none, if◌then◌else◌, map}
+use Rattle.std.specs.Prelude.{ℕ, zero, suc, ◌-◌, List, [], ◌∷◌, ◌++◌, Option, Some, None, flat_map, filter_map, is_none}
+use Rattle.std.specs.Prelude.{if◌then◌else◌, map}
 use Rattle.bbm_rules.specs.Prelude.{Kind, Heading, Event, Root, Write}
 use Rattle.bbm_rules.specs.Claims.{Trust}
 use Rattle.bbm_rules.specs.Lists.{◌>>=◌}
@@ -46,7 +47,11 @@ module _ (heading : Heading) (trust : Trust) (h : List Noted) where
 
   abbrev pub attached_from : Kind → ℕ → List ℕ → Attached
   attached_from kind level pages =
-      record { kind = kind; first = map (end_at level) pages; deeper = flat_map (ends_below kind (3 - level) level) pages }
+      record {
+        kind = kind;
+        first = map (end_at level) pages;
+        deeper = flat_map (ends_below kind (3 - level) level) pages;
+      }
 
   -- Attach: a write of a valid table value at a place of a tree that holds nothing attaches its next page, and a `root`
   -- the pages that it names. No other event attaches anything.

@@ -3,13 +3,18 @@ use Rattle.std.specs.Option.{option_map_or}
 use Rattle.std.specs.Prelude.{ℕ, suc, Bool, true, ◌&&◌, List, [], ◌∷◌, length, Option, Some, None, is_none}
 use Rattle.bbm_rules.specs.Prelude.{Heading, Event}
 use Rattle.bbm_rules.specs.declared.rule.Rule.{Rule}
-use Rattle.bbm_rules.specs.declared.rule.Rule.TheVariants.{WrongWorld, NoLock, NullWritten, BreakBeforeMake, LimboMake, NotFresh, RewrittenFresh, BadKind, GlobalUser, PageInUse, NoRoot, TagConflict, RootInUse, UnsyncedVmid, BadOperand, LockBusy, LockNotMine}
+use Rattle.bbm_rules.specs.declared.rule.Rule.TheVariants.{WrongWorld, NoLock, NullWritten, BreakBeforeMake, LimboMake}
+use Rattle.bbm_rules.specs.declared.rule.Rule.TheVariants.{NotFresh, RewrittenFresh, BadKind, GlobalUser, PageInUse}
+use Rattle.bbm_rules.specs.declared.rule.Rule.TheVariants.{NoRoot, TagConflict, RootInUse, UnsyncedVmid, BadOperand}
+use Rattle.bbm_rules.specs.declared.rule.Rule.TheVariants.{LockBusy, LockNotMine}
 use Rattle.bbm_rules.specs.declared.verdict.Verdict.{Verdict}
 use Rattle.bbm_rules.specs.declared.verdict.Verdict.TheVariants.{Accepted, Refused}
 use Rattle.bbm_rules.specs.Claims.{Trust}
 use Rattle.bbm_rules.specs.Covers.{noted}
 use Rattle.bbm_rules.specs.Notes.{Noted}
-use Rattle.bbm_rules.specs.Rules.{wrong_world, no_lock, null_written, break_before_make, limbo_make, not_fresh, rewritten_fresh, bad_kind, global_user, page_in_use, no_root, tag_conflict, root_in_use, unsynced_vmid, bad_operand, lock_busy, lock_not_mine}
+use Rattle.bbm_rules.specs.Rules.{wrong_world, no_lock, null_written, break_before_make, limbo_make, not_fresh}
+use Rattle.bbm_rules.specs.Rules.{rewritten_fresh, bad_kind, global_user, page_in_use, no_root, tag_conflict}
+use Rattle.bbm_rules.specs.Rules.{root_in_use, unsynced_vmid, bad_operand, lock_busy, lock_not_mine}
 
 -- a broken rule, with the number that is reported with it
 pub record Breach : Type 0 where
@@ -18,7 +23,8 @@ pub record Breach : Type 0 where
 
 -- the rules in the order of their numbers
 abbrev pub rules : List Rule
-rules = WrongWorld ∷ NoLock ∷ NullWritten ∷ BreakBeforeMake ∷ LimboMake ∷ NotFresh ∷ RewrittenFresh ∷ BadKind ∷ GlobalUser
+rules =
+    WrongWorld ∷ NoLock ∷ NullWritten ∷ BreakBeforeMake ∷ LimboMake ∷ NotFresh ∷ RewrittenFresh ∷ BadKind ∷ GlobalUser
     ∷ PageInUse ∷ NoRoot ∷ TagConflict ∷ RootInUse ∷ UnsyncedVmid ∷ BadOperand ∷ LockBusy ∷ LockNotMine ∷ []
 
 -- the verdict where the event before position n + 1 breaks this rule or none
@@ -62,8 +68,9 @@ module _ (heading : Heading) (trust : Trust) where
   keeps [] = true
   keeps (e ∷ h) = keeps h && is_none (broken h e)
 
-  -- The verdict on a log whose lines are well formed and reach no limit, newest event first: the first event that breaks
-  -- a rule decides. The header is line 1, so the event of position i stands on line i + 1. Events have no labels here.
+  -- The verdict on a log whose lines are well formed and reach no limit, newest event first: the first event that
+  -- breaks a rule decides. The header is line 1, so the event of position i stands on line i + 1. Events have no labels
+  -- here.
   abbrev pub verdict_of : List Event → Verdict
   verdict_of [] = Accepted 0
   verdict_of (e ∷ h) = verdict_after (suc (length h)) (broken h e) (verdict_of h)

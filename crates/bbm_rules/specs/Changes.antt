@@ -1,5 +1,5 @@
--- Which events can change the answer of which definition. There is a row for each event, and no other: a new event needs
--- one, and the laws say that a definition keeps its answer where its event's row doesn't name it.
+-- Which events can change the answer of which definition. There is a row for each event, and no other: a new event
+-- needs one, and the laws say that a definition keeps its answer where its event's row doesn't name it.
 -- Source: project's own choice.
 use Rattle.std.specs.Prelude.{Bool, true, false}
 use Rattle.bbm_rules.specs.Prelude.{Event, Init, Null, Root, Unroot, Write, Dsb, Dmb, Isb, Tlbi, Msr, Lock, Unlock}

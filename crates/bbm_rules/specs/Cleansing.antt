@@ -55,8 +55,8 @@ module _ (heading : Heading) (place p : ℕ) where
   abbrev pub flushes : Cover → (List Noted → Bool) → Issued Noted → Bool
   flushes cover test t = reaches heading t.tlbi.event p && same_cover (t.tlbi.covers place) cover && test t.before
 
-  -- Half: a barrier publishes a write of the place to p at b; then at t a TLBI that reaches p and covers the place half is
-  -- issued; and at d that TLBI is answered.
+  -- Half: a barrier publishes a write of the place to p at b; then at t a TLBI that reaches p and covers the place half
+  -- is issued; and at d that TLBI is answered.
   abbrev pub half_where : (ℕ → ℕ → ℕ → Bool) → List Noted → Bool
   half_where test since = answered_where (λ d t. flushes Half (seen_where (λ b. test b t.tlbi.position d)) t) since
 
@@ -70,7 +70,8 @@ module _ (heading : Heading) (place p : ℕ) where
 module _ (heading : Heading) (trust : Trust) (place p : ℕ) where
   abbrev pub full_step : ℕ → Issued Noted → Bool
   full_step d t =
-      flushes heading place p Full (seen_where heading place p (λ b. allows trust (Place p place b t.tlbi.position d))) t
+      flushes heading place p Full
+      (seen_where heading place p (λ b. allows trust (Place p place b t.tlbi.position d))) t
 
   abbrev pub second_step : ℕ → Issued Noted → Bool
   second_step d2 t2 = flushes heading place p Second

@@ -5,8 +5,6 @@ pub mod Changes
 pub mod Claims
 pub mod Cleansing
 pub mod Covers
-pub mod FirstPath
-pub mod FirstPathAnswers
 pub mod Held
 pub mod Limits
 pub mod Lists

@@ -1,7 +1,8 @@
 -- Words on lists, on options and on tests, of no subject of their own.
 -- Source: project's own choice.
 use Rattle.std.specs.Option.{option_map_or}
-use Rattle.std.specs.Prelude.{ℕ, zero, suc, min, Bool, true, false, ◌||◌, ◌==◌, List, [], ◌∷◌, Option, Some, None, option_and_then, unwrap_or, if◌then◌else◌}
+use Rattle.std.specs.Prelude.{ℕ, zero, suc, min, Bool, true, false, ◌||◌, ◌==◌, List, [], ◌∷◌, Option, Some, None}
+use Rattle.std.specs.Prelude.{option_and_then, unwrap_or, if◌then◌else◌}
 -- whether some item of a list passes the test, and whether every item does
 pub use Rattle.std.specs.List.{list_any as any, list_all as every}
 

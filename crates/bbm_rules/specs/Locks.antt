@@ -9,5 +9,6 @@ use Rattle.bbm_rules.specs.Lists.{is_that}
 abbrev pub holder_of : List Event → ℕ → Option ℕ
 holder_of [] lock = None
 holder_of (Lock pe number ∷ h) lock = if number == lock then Some pe else holder_of h lock
-holder_of (Unlock pe number ∷ h) lock = if number == lock && is_that (holder_of h lock) pe then None else holder_of h lock
+holder_of (Unlock pe number ∷ h) lock =
+    if number == lock && is_that (holder_of h lock) pe then None else holder_of h lock
 holder_of (_ ∷ h) lock = holder_of h lock

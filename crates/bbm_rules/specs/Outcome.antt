@@ -1,21 +1,22 @@
 -- The verdict on a list of bytes: a fold over its lines. It knows nothing of a reader or of a checker.
 -- Source: project's own choice.
 use Rattle.std.specs.Option.{option_map_or}
-use Rattle.std.specs.Prelude.{◌≡◌, ℕ, suc, Bool, true, false, ◌==◌, nat_lt, nat_le, List, [], ◌∷◌, ◌++◌, length, drop, Option, Some, None, Result, Ok, Err, if◌then◌else◌}
+use Rattle.std.specs.Prelude.{◌≡◌, ℕ, suc, Bool, false, ◌==◌, nat_lt, nat_le, List, [], ◌∷◌, ◌++◌, length, drop}
+use Rattle.std.specs.Prelude.{Option, Some, None, Result, Ok, Err, if◌then◌else◌}
 use Rattle.bbm_regimes.specs.declared.regime.Which.{Which}
 use Rattle.bbm_regimes.specs.declared.regime.Which.TheVariants.{LineBytes, Events, Lines}
 use Rattle.bbm_events.specs.declared.event.Event.{Event}
 use Rattle.bbm_events.specs.declared.event.Item.{Item}
 use Rattle.bbm_events.specs.declared.event.Item.TheVariants as item
 use Rattle.bbm_events.specs.declared.malformed.Malformed.{Malformed as Cause}
-use Rattle.bbm_events.specs.declared.malformed.Malformed.TheVariants.{NoEnd, WrongCount, AfterEnd, NotBuilt}
+use Rattle.bbm_events.specs.declared.malformed.Malformed.TheVariants.{NoEnd, WrongCount, AfterEnd}
 use Rattle.bbm_events.specs.Heading.{Heading}
 use Rattle.bbm_events.specs.Lines.{header_of, item_of}
+pub use Rattle.bbm_rules.specs.declared.limits.Limits.{Limits}
 use Rattle.bbm_rules.specs.declared.verdict.Verdict.{Verdict}
 use Rattle.bbm_rules.specs.declared.verdict.Verdict.TheVariants.{Accepted, Refused, Malformed, Limit}
 use Rattle.bbm_rules.specs.Broken.{Breach, broken}
 use Rattle.bbm_rules.specs.Claims.{Trust}
-use Rattle.bbm_rules.specs.FirstPath as first
 use Rattle.bbm_rules.specs.Limits.{limit_of}
 
 -- The lines of a text: the pieces that end in a newline, byte 10, without it; and what stands after the
@@ -44,43 +45,27 @@ bytes_of (line ∷ lines) rest = line ++ 10 ∷ bytes_of lines rest
 abbrev pub is_too_long : List ℕ → Bool
 is_too_long line = nat_lt 200 (length line)
 
--- What a log is judged by: whether a header and an event are judged at all, the least rule that an event breaks after
--- a history, and the limit that it reaches. `all_rules` are the rules; `first_path` is what this version judges, in whose
--- logs no event reaches a limit of a history before that on events.
-pub record Judge : Type 0 where
-  pub judges_heading : Heading → Bool
-  pub judges : Heading → List Event → Event → Bool
-  pub breach : Heading → List Event → Event → Option Breach
-  pub limit : List Event → Event → Option Which
-
-abbrev pub all_rules : Trust → Judge
-all_rules trust =
-    record { judges_heading = λ g. true; judges = λ g h e. true; breach = λ g. broken g trust; limit = limit_of }
-
-abbrev pub first_path : Judge
-first_path =
-    record { judges_heading = first.is_built_heading; judges = first.is_built; breach = first.broken; limit = λ h e. None }
-
--- The limits that hold for a command beside those of a line's bytes and of a history, which always hold: at most so
--- many events, and fewer than so many lines, or any number of them.
-pub record Limits : Type 0 where
-  pub events : Option ℕ
-  pub lines : Option ℕ
-
--- the limits of `check`
+-- the limits of `check`, as long as the oracle judges for it
 abbrev pub check_limits : Limits
-check_limits = record { events = Some 2000; lines = None }
+check_limits = record { events = Some 2000; lines = 4294967295 }
+
+-- the limits of `slow`
+abbrev pub slow_limits : Limits
+slow_limits = record { events = Some 2000; lines = 4294967295 }
 
 -- whether so many reach a limit, so that one more would pass it
 abbrev pub is_reached : Option ℕ → ℕ → Bool
 is_reached limit count = option_map_or (λ n. nat_le n count) limit false
 
+-- the limit of the command that one more event, on this line, reaches after so many
+abbrev pub limit_after : Limits → ℕ → ℕ → Option Which
+limit_after limits number count =
+    if is_reached limits.events count then Some Events else (if nat_le limits.lines number then Some Lines else None)
+
 -- the limit that an event of this line reaches after a history: that of the history first
 abbrev pub limit_at : Limits → ℕ → List Event → Option Which → Option Which
 limit_at limits number h (Some which) = Some which
-limit_at limits number h None =
-    if is_reached limits.events (length h) then Some Events
-    else (if is_reached limits.lines number then Some Lines else None)
+limit_at limits number h None = limit_after limits number (length h)
 
 -- how far the lines were read: none; the header and these events, the newest first; the end after these
 -- events
@@ -94,7 +79,7 @@ pub data Step : Type 0 where
   Decides : Verdict → Step
   GoesOn : Progress → Step
 
--- The order within one line: a malformed line, one that isn't judged, a broken rule, a limit. A label of the event
+-- The order within one line: a malformed line, a broken rule, a limit. A label of the event
 -- goes into the verdict that refuses it, and into no history.
 
 -- an event that keeps the rules, by the limit that it reaches
@@ -102,34 +87,32 @@ abbrev pub after_kept : ℕ → Heading → List Event → Event → Option Whic
 after_kept number heading h event (Some which) = Decides (Limit number which)
 after_kept number heading h event None = GoesOn (AtEvents heading (event ∷ h))
 
-abbrev pub after_judged : Judge → Limits → ℕ → Heading → List Event → Event → Option (List ℕ) → Option Breach → Step
-after_judged judge limits number heading h event label (Some breach) = Decides (Refused number breach.rule breach.at label)
-after_judged judge limits number heading h event label None =
-    after_kept number heading h event (limit_at limits number h (judge.limit h event))
+abbrev pub after_judged : Limits → ℕ → Heading → List Event → Event → Option (List ℕ) → Option Breach → Step
+after_judged limits number heading h event label (Some breach) = Decides (Refused number breach.rule breach.at label)
+after_judged limits number heading h event label None =
+    after_kept number heading h event (limit_at limits number h (limit_of h event))
 
-abbrev pub after_event : Judge → Limits → ℕ → Heading → List Event → Event → Option (List ℕ) → Step
-after_event judge limits number heading h event label =
-    if judge.judges heading h event
-    then after_judged judge limits number heading h event label (judge.breach heading h event)
-    else Decides (Malformed number NotBuilt)
+abbrev pub after_event : Trust → Limits → ℕ → Heading → List Event → Event → Option (List ℕ) → Step
+after_event trust limits number heading h event label =
+    after_judged limits number heading h event label (broken heading trust h event)
 
-abbrev pub after_item : Judge → Limits → ℕ → Heading → List Event → Result Item Cause → Step
-after_item judge limits number heading h (Ok (item.Event event label)) =
-    after_event judge limits number heading h event label
-after_item judge limits number heading h (Ok (item.End count)) =
+abbrev pub after_item : Trust → Limits → ℕ → Heading → List Event → Result Item Cause → Step
+after_item trust limits number heading h (Ok (item.Event event label)) =
+    after_event trust limits number heading h event label
+after_item trust limits number heading h (Ok (item.End count)) =
     if count == length h then GoesOn (AtEnd h) else Decides (Malformed number WrongCount)
-after_item judge limits number heading h (Err cause) = Decides (Malformed number cause)
+after_item trust limits number heading h (Err cause) = Decides (Malformed number cause)
 
-abbrev pub after_header : Judge → ℕ → Result Heading Cause → Step
-after_header judge number (Ok heading) =
-    if judge.judges_heading heading then GoesOn (AtEvents heading []) else Decides (Malformed number NotBuilt)
-after_header judge number (Err cause) = Decides (Malformed number cause)
+abbrev pub after_header : ℕ → Result Heading Cause → Step
+after_header number (Ok heading) = GoesOn (AtEvents heading [])
+after_header number (Err cause) = Decides (Malformed number cause)
 
 -- A line of at most 200 bytes.
-abbrev pub after_line : Judge → Limits → ℕ → Progress → List ℕ → Step
-after_line judge limits number AtHeader line = after_header judge number (header_of line)
-after_line judge limits number (AtEvents heading h) line = after_item judge limits number heading h (item_of heading line)
-after_line judge limits number (AtEnd h) line = Decides (Malformed number AfterEnd)
+abbrev pub after_line : Trust → Limits → ℕ → Progress → List ℕ → Step
+after_line trust limits number AtHeader line = after_header number (header_of line)
+after_line trust limits number (AtEvents heading h) line =
+    after_item trust limits number heading h (item_of heading line)
+after_line trust limits number (AtEnd h) line = Decides (Malformed number AfterEnd)
 
 -- A line that is too long, or the bytes after the last newline: more than 200 of them reach the limit of
 -- a line, unless an `end` line came before.
@@ -138,9 +121,9 @@ too_long_at number (AtEnd h) = Malformed number AfterEnd
 too_long_at number _ = Limit number LineBytes
 
 -- what line number n decides
-unfoldable pub step_of : Judge → Limits → ℕ → Progress → List ℕ → Step
-step_of judge limits number progress line =
-    if is_too_long line then Decides (too_long_at number progress) else after_line judge limits number progress line
+unfoldable pub step_of : Trust → Limits → ℕ → Progress → List ℕ → Step
+step_of trust limits number progress line =
+    if is_too_long line then Decides (too_long_at number progress) else after_line trust limits number progress line
 
 -- The end of the input, after these bytes since the last newline.
 abbrev pub cut_at : ℕ → Progress → List ℕ → Verdict
@@ -176,23 +159,23 @@ outcome_after progress line lines rest goes_on (Decides verdict) =
 outcome_after progress line lines rest goes_on (GoesOn next) = goes_on next
 
 -- from line number n on, where the lines before were read so far
-abbrev pub outcome_from : Judge → Limits → ℕ → Progress → List (List ℕ) → List ℕ → Outcome
-outcome_from judge limits number progress [] rest =
+abbrev pub outcome_from : Trust → Limits → ℕ → Progress → List (List ℕ) → List ℕ → Outcome
+outcome_from trust limits number progress [] rest =
     record { verdict = end_of number progress rest; unread = drop 201 rest; log = events_in progress }
-outcome_from judge limits number progress (line ∷ lines) rest =
-    outcome_after progress line lines rest (λ next. outcome_from judge limits (suc number) next lines rest)
-    (step_of judge limits number progress line)
+outcome_from trust limits number progress (line ∷ lines) rest =
+    outcome_after progress line lines rest (λ next. outcome_from trust limits (suc number) next lines rest)
+    (step_of trust limits number progress line)
 
 -- the verdict on these lines, with these bytes after the last newline
-abbrev pub verdict_of_lines : Judge → Limits → List (List ℕ) → List ℕ → Verdict
-verdict_of_lines judge limits lines rest = (outcome_from judge limits 1 AtHeader lines rest).verdict
+abbrev pub verdict_of_lines : Trust → Limits → List (List ℕ) → List ℕ → Verdict
+verdict_of_lines trust limits lines rest = (outcome_from trust limits 1 AtHeader lines rest).verdict
 
 -- the outcome of a list of bytes
-abbrev pub outcome_of : Judge → Limits → List ℕ → Outcome
-outcome_of judge limits bytes = outcome_from judge limits 1 AtHeader (text_of bytes).lines (text_of bytes).rest
+abbrev pub outcome_of : Trust → Limits → List ℕ → Outcome
+outcome_of trust limits bytes = outcome_from trust limits 1 AtHeader (text_of bytes).lines (text_of bytes).rest
 
-abbrev pub verdict_of_bytes : Judge → Limits → List ℕ → Verdict
-verdict_of_bytes judge limits bytes = (outcome_of judge limits bytes).verdict
+abbrev pub verdict_of_bytes : Trust → Limits → List ℕ → Verdict
+verdict_of_bytes trust limits bytes = (outcome_of trust limits bytes).verdict
 
 -- The same as a sentence: the verdict is that of the first line that decides, or else that of the end.
 
@@ -201,26 +184,27 @@ abbrev pub goes_on_to : (Progress → Option Progress) → Step → Option Progr
 goes_on_to goes_on (Decides verdict) = None
 goes_on_to goes_on (GoesOn next) = goes_on next
 
-abbrev pub read_from : Judge → Limits → ℕ → Progress → List (List ℕ) → Option Progress
-read_from judge limits number progress [] = Some progress
-read_from judge limits number progress (line ∷ lines) =
-    goes_on_to (λ next. read_from judge limits (suc number) next lines) (step_of judge limits number progress line)
+abbrev pub read_from : Trust → Limits → ℕ → Progress → List (List ℕ) → Option Progress
+read_from trust limits number progress [] = Some progress
+read_from trust limits number progress (line ∷ lines) =
+    goes_on_to (λ next. read_from trust limits (suc number) next lines) (step_of trust limits number progress line)
 
-abbrev pub read_lines : Judge → Limits → List (List ℕ) → Option Progress
-read_lines judge limits lines = read_from judge limits 1 AtHeader lines
+abbrev pub read_lines : Trust → Limits → List (List ℕ) → Option Progress
+read_lines trust limits lines = read_from trust limits 1 AtHeader lines
 
 -- a line decides, and none before it
-pub record DecidedByLine (judge : Judge) (limits : Limits) (lines : List (List ℕ)) (verdict : Verdict) : Type 0 where
+pub record DecidedByLine (trust : Trust) (limits : Limits) (lines : List (List ℕ)) (verdict : Verdict) : Type 0 where
   pub before : List (List ℕ)
   pub line : List ℕ
   pub behind : List (List ℕ)
   pub progress : Progress
   pub split : lines ≡ before ++ line ∷ behind
-  pub read : read_lines judge limits before ≡ Some progress
-  pub decides : step_of judge limits (suc (length before)) progress line ≡ Decides verdict
+  pub read : read_lines trust limits before ≡ Some progress
+  pub decides : step_of trust limits (suc (length before)) progress line ≡ Decides verdict
 
 -- no line decides, and so the end does
-pub record DecidedByEnd (judge : Judge) (limits : Limits) (lines : List (List ℕ)) (rest : List ℕ) (verdict : Verdict) : Type 0 where
+pub record DecidedByEnd (trust : Trust) (limits : Limits) (lines : List (List ℕ)) (rest : List ℕ) (verdict : Verdict)
+    : Type 0 where
   pub progress : Progress
-  pub read : read_lines judge limits lines ≡ Some progress
+  pub read : read_lines trust limits lines ≡ Some progress
   pub decides : end_of (suc (length lines)) progress rest ≡ verdict

@@ -47,14 +47,16 @@ pub record Answer (since : List Noted) (t : Issued Noted) (d : Noted) : Type 0 w
   pub completed : completes dsb t.tlbi.event ≡ true
 
 -- t is a TLBI that reaches p and covers the place so far, and d answers it
-pub record Flush (heading : Heading) (cover : Cover) (place p : ℕ) (since : List Noted) (t : Issued Noted) (d : Noted) : Type 0 where
+pub record Flush (heading : Heading) (cover : Cover) (place p : ℕ) (since : List Noted) (t : Issued Noted) (d : Noted)
+    : Type 0 where
   pub answer : Answer since t d
   pub reached : reaches heading t.tlbi.event p ≡ true
   pub covered : t.tlbi.covers place ≡ cover
 
 -- Half, by b, t and d: a write of the place is published to p at b, then at t a TLBI that covers it half is issued, and
 -- at d it is answered.
-pub record HalfBy (heading : Heading) (place p : ℕ) (since : List Noted) (b : Noted) (t : Issued Noted) (d : Noted) : Type 0 where
+pub record HalfBy (heading : Heading) (place p : ℕ) (since : List Noted) (b : Noted) (t : Issued Noted) (d : Noted)
+    : Type 0 where
   pub flush : Flush heading Half place p since t d
   pub published : Publication heading place p t.before b
 
@@ -71,8 +73,8 @@ pub record OneStep (heading : Heading) (trust : Trust) (place p : ℕ) (since : 
   pub flush : Flush heading Full place p since t d
   pub allowed : allows trust (Place p place b.position t.tlbi.position d.position) ≡ true
 
--- Cleansed in two steps: the place is half by b, t1 and d1, and then at t2 a TLBI that covers the rest is issued, and at
--- d2 it is answered.
+-- Cleansed in two steps: the place is half by b, t1 and d1, and then at t2 a TLBI that covers the rest is issued, and
+-- at d2 it is answered.
 pub record TwoSteps (heading : Heading) (trust : Trust) (place p : ℕ) (since : List Noted) : Type 0 where
   pub b : Noted
   pub t1 : Issued Noted
@@ -102,7 +104,8 @@ pub record IsLastValid (kind : Kind) (level place : ℕ) (h : List Noted) (w : V
 
 -- Held: the value was written, it is valid, since then there was no valid write of the place and no init of its page,
 -- and at some PE the place isn't cleansed since then.
-pub record Holds (heading : Heading) (trust : Trust) (kind : Kind) (level place : ℕ) (h : List Noted) (value : ℕ) : Type 0 where
+pub record Holds (heading : Heading) (trust : Trust) (kind : Kind) (level place : ℕ) (h : List Noted) (value : ℕ)
+    : Type 0 where
   pub pe : ℕ
   pub write : Noted
   pub newer : List Noted

@@ -1,5 +1,7 @@
--- How far a place has been taken through break-before-make at a PE. Source: project's own choice.
-use Rattle.std.specs.Prelude.{ℕ, List, Some, None, unwrap_or, if◌then◌else◌}
+-- How far a place has been taken through break-before-make at a PE, and which places are on the way. Source: project's
+-- own choice.
+use Rattle.std.specs.Option.{option_map_or}
+use Rattle.std.specs.Prelude.{ℕ, Bool, false, not, ◌&&◌, List, Some, None, count_by, is_some, unwrap_or, if◌then◌else◌}
 use Rattle.bbm_descriptor.specs.Descriptor.{is_valid}
 use Rattle.bbm_rules.specs.Prelude.{Heading, Event}
 use Rattle.bbm_rules.specs.declared.phase.Phase.{Phase}
@@ -9,10 +11,10 @@ use Rattle.bbm_rules.specs.Cleansing.{cleansed, half, seen}
 use Rattle.bbm_rules.specs.Covers.{noted}
 use Rattle.bbm_rules.specs.Held.{cleansed_everywhere, last_valid}
 use Rattle.bbm_rules.specs.Lists.{◌>>=◌}
-use Rattle.bbm_rules.specs.Notes.{Noted}
+use Rattle.bbm_rules.specs.Notes.{Noted, events_of}
 use Rattle.bbm_rules.specs.Places.{page_of}
-use Rattle.bbm_rules.specs.Tree.{node_of}
-use Rattle.bbm_rules.specs.Values.{value_of}
+use Rattle.bbm_rules.specs.Tree.{Node, held_at, node_of}
+use Rattle.bbm_rules.specs.Values.{value_of, written_places}
 
 module _ (heading : Heading) (trust : Trust) where
   -- the phase of a broken place: the furthest that it has come
@@ -31,3 +33,16 @@ module _ (heading : Heading) (trust : Trust) where
     w ← last_valid n.kind n.level place (noted heading trust h)
     if cleansed_everywhere heading trust place w.since then None
         else Some (if is_valid n.kind n.level (value_of h place) then Live else broken_phase place p w.since)) Clean
+
+  -- Restless: a place of a tree that holds a value and whose value is invalid. A place that was never written holds
+  -- nothing.
+  abbrev pub is_restless_in : List Noted → ℕ → Node → Bool
+  is_restless_in h place n =
+      is_some (held_at heading trust h n place) && not (is_valid n.kind n.level (value_of (events_of h) place))
+
+  abbrev pub is_restless : List Noted → ℕ → Bool
+  is_restless h place = option_map_or (is_restless_in h place) (node_of heading trust h (page_of place)) false
+
+  -- how many places are restless
+  unfoldable pub restless_of : List Event → ℕ
+  restless_of h = count_by (is_restless (noted heading trust h)) (written_places h)

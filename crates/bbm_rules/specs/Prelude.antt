@@ -8,6 +8,8 @@ pub use Rattle.bbm_regimes.specs.declared.regime.Reg.{Reg}
 pub use Rattle.bbm_regimes.specs.declared.regime.Reg.TheVariants.{Ttbr0El2, VttbrEl2, Ttbr0El1, Ttbr1El1}
 pub use Rattle.bbm_regimes.specs.declared.regime.Tag.{Tag}
 pub use Rattle.bbm_regimes.specs.declared.regime.Tag.TheVariants.{El2 as El2Tag, Vmid, Asid, Ttbr1 as Ttbr1Tag}
+pub use Rattle.bbm_regimes.specs.declared.regime.HypWorld.{HypWorld}
+pub use Rattle.bbm_regimes.specs.declared.regime.KernelWorld.{KernelWorld}
 pub use Rattle.bbm_regimes.specs.declared.regime.World.{World}
 pub use Rattle.bbm_regimes.specs.declared.regime.World.TheVariants.{Hyp, Kernel}
 pub use Rattle.bbm_regimes.specs.Same.{kind_of_reg, same_kind, same_reg, same_tag}
@@ -17,4 +19,5 @@ pub use Rattle.bbm_tlbi_scope.specs.declared.scope.Scope.{Scope}
 pub use Rattle.bbm_tlbi_scope.specs.Decode.{scope_of}
 pub use Rattle.bbm_events.specs.Heading.{Heading}
 pub use Rattle.bbm_events.specs.declared.event.Event.{Event}
-pub use Rattle.bbm_events.specs.declared.event.Event.TheVariants.{Init, Null, Root, Unroot, Write, Dsb, Dmb, Isb, Tlbi, Msr, Lock, Unlock}
+pub use Rattle.bbm_events.specs.declared.event.Event.TheVariants.{Init, Null, Root, Unroot, Write, Dsb, Dmb, Isb, Tlbi}
+pub use Rattle.bbm_events.specs.declared.event.Event.TheVariants.{Msr, Lock, Unlock}

@@ -1,10 +1,12 @@
 -- The root registers of a PE: which of their values may still be in use. A history is newest first.
 -- Source: project's own choice, but where another is named.
-use Rattle.std.specs.Prelude.{ℕ, ◌*◌, ◌/◌, ◌%◌, ◌^◌, Bool, ◌&&◌, ◌==◌, List, [], ◌∷◌, Option, Some, None, is_none, map, take, if◌then◌else◌}
+use Rattle.std.specs.Prelude.{ℕ, ◌*◌, ◌/◌, ◌%◌, ◌^◌, Bool, ◌&&◌, ◌==◌, List, [], ◌∷◌, Option, Some, None, is_none, map}
+use Rattle.std.specs.Prelude.{take, if◌then◌else◌}
 use Rattle.std.specs.Result.{result_ok}
 pub use Rattle.bbm_regimes.specs.Same.{kind_of_reg, same_reg}
 use Rattle.bbm_tlbi_scope.specs.Operations.{scoped_by_vmid}
-use Rattle.bbm_rules.specs.Prelude.{Reg, VttbrEl2, World, Hyp, Kernel, TlbiOp, Scope, scope_of, Heading, Event, Isb, Msr}
+use Rattle.bbm_rules.specs.Prelude.{Reg, VttbrEl2, World, Hyp, Kernel, TlbiOp, Scope, scope_of, Heading, Event, Isb}
+use Rattle.bbm_rules.specs.Prelude.{Msr}
 use Rattle.bbm_rules.specs.Lists.{one_number}
 
 -- Readable values of a register of p, newest first: those that it had, the first 0 among them, and that no later
@@ -31,8 +33,8 @@ tag_number value = value / 2 ^ 48
 -- The VMID under which a PE issues its TLBIs: the one VMID of the values of VTTBR_EL2 that it may still use, None
 -- where there are several. In the Kernel world 0 stands for the one VMID, which isn't logged.
 abbrev pub vmid_in : World → List Event → ℕ → Option ℕ
-vmid_in (Hyp el2_start s2_start s2_pages) h p = one_number (map tag_number (register_values h p VttbrEl2))
-vmid_in (Kernel start0 start1 asid_from) h p = Some 0
+vmid_in (Hyp world) h p = one_number (map tag_number (register_values h p VttbrEl2))
+vmid_in (Kernel world) h p = Some 0
 
 module _ (heading : Heading) where
   abbrev pub vmid_of : List Event → ℕ → Option ℕ

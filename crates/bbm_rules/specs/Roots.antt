@@ -1,6 +1,7 @@
 -- Roots of translation tables. A history is newest first.
 -- Source: project's own choice, but where another is named.
-use Rattle.std.specs.Prelude.{ℕ, zero, suc, ◌+◌, Bool, not, ◌&&◌, ◌==◌, List, [], ◌∷◌, Option, filter, find, if◌then◌else◌}
+use Rattle.std.specs.Prelude.{ℕ, zero, suc, ◌+◌, Bool, not, ◌&&◌, ◌==◌, List, [], ◌∷◌, Option, filter, find}
+use Rattle.std.specs.Prelude.{if◌then◌else◌}
 pub use Rattle.bbm_regimes.specs.Same.{same_kind}
 pub use Rattle.bbm_regimes.specs.World.{first_input_page, input_pages, kind_in_world, page_count, start_of}
 use Rattle.bbm_rules.specs.Prelude.{Kind, World, Event, Root, Unroot}

@@ -2,12 +2,14 @@
 -- it doesn't, else the number that is reported as `at`, an address, or the number of a PE or a lock. The sentences
 -- are those of docs/RULES.md. Source: project's own choice, but for rule 4.
 use Rattle.std.specs.Result.{result_ok}
-use Rattle.std.specs.Prelude.{ℕ, ◌%◌, Bool, false, ◌&&◌, ◌||◌, not, ◌==◌, nat_le, nat_lt, List, [], ◌∷◌, ◌++◌, length, Option, None, is_none, filter, flat_map, map, option_to_list}
+use Rattle.std.specs.Prelude.{ℕ, ◌%◌, Bool, false, ◌&&◌, ◌||◌, not, ◌==◌, nat_le, nat_lt, List, [], ◌∷◌, ◌++◌, length}
+use Rattle.std.specs.Prelude.{Option, None, is_none, filter, flat_map, map, option_to_list}
 use Rattle.bbm_descriptor.specs.Descriptor.{desc_of, is_valid, needs}
 use Rattle.bbm_descriptor.specs.declared.desc.Desc.{Desc}
 use Rattle.bbm_descriptor.specs.declared.desc.Desc.TheVariants.{Leaf}
 use Rattle.bbm_tlbi_scope.specs.Operations.{of_world}
-use Rattle.bbm_rules.specs.Prelude.{Kind, S2, Ttbr0, Ttbr0El2, VttbrEl2, Ttbr0El1, Ttbr1El1, scope_of, Heading, Event, Init, Null, Root, Unroot, Write, Tlbi, Msr, Lock, Unlock}
+use Rattle.bbm_rules.specs.Prelude.{Kind, S2, Ttbr0, Ttbr0El2, VttbrEl2, Ttbr0El1, Ttbr1El1, scope_of, Heading, Event}
+use Rattle.bbm_rules.specs.Prelude.{Init, Null, Root, Unroot, Write, Tlbi, Msr, Lock, Unlock}
 use Rattle.bbm_rules.specs.Attach.{Attached, End, all_ends, attached_by, pages_of}
 use Rattle.bbm_rules.specs.Claims.{Trust}
 use Rattle.bbm_rules.specs.Covers.{is_global}
@@ -47,7 +49,8 @@ is_contiguous kind _ = false
 -- whether the page is the base of a value that p may still use in some register
 abbrev pub is_base_at : List Event → ℕ → ℕ → Bool
 is_base_at h page p =
-    any (λ value. is_that (base_of value) page) (flat_map (register_values h p) (Ttbr0El2 ∷ VttbrEl2 ∷ Ttbr0El1 ∷ Ttbr1El1 ∷ []))
+    any (λ value. is_that (base_of value) page)
+    (flat_map (register_values h p) (Ttbr0El2 ∷ VttbrEl2 ∷ Ttbr0El1 ∷ Ttbr1El1 ∷ []))
 
 module _ (heading : Heading) (trust : Trust) (h : List Noted) where
   -- 1, wrong-world: it has a root kind, a register or a TLBI operation that isn't of the header's world, or it is a
@@ -160,7 +163,8 @@ module _ (heading : Heading) (trust : Trust) (h : List Noted) where
   abbrev pub no_root : Event → Option ℕ
   no_root (Msr pe reg value) = do
     base ← base_of value
-    if_so (not (is_root (events_of h) (kind_of_reg reg) base || (same_reg reg Ttbr0El1 && is_null (events_of h) base))) base
+    if_so (not (is_root (events_of h) (kind_of_reg reg) base
+        || (same_reg reg Ttbr0El1 && is_null (events_of h) base))) base
   no_root (Unroot pe page) = if_so (is_none (root_at (events_of h) page)) page
   no_root _ = None
 
@@ -172,7 +176,8 @@ module _ (heading : Heading) (trust : Trust) (h : List Noted) where
 
   abbrev pub tag_conflict : Event → Option ℕ
   tag_conflict (Msr pe reg value) =
-      let after : List Event = Msr pe reg value ∷ events_of h in least (flat_map (other_holders after) (readings heading after pe))
+      let after : List Event = Msr pe reg value ∷ events_of h in
+      least (flat_map (other_holders after) (readings heading after pe))
   tag_conflict _ = None
 
   -- 13, root-in-use: an `unroot` names a root that is the base of a readable register value at some PE, or that holds

@@ -1,8 +1,10 @@
 -- The definitions on plain events once more, as sentences over all ways to split a history. The laws say that they say
 -- the same. A history is newest first, so in `newer ++ older` the events of `newer` came after those of `older`.
 -- Source: project's own choice, but where another is named.
-use Rattle.std.specs.Prelude.{◌≡◌, ℕ, suc, ◌<◌, ◌≤◌, Bool, true, false, ◌&&◌, ◌==◌, List, [], ◌∷◌, ◌++◌, length, Option, if◌then◌else◌}
-use Rattle.bbm_rules.specs.Prelude.{Barrier, Kind, Reg, Tag, Heading, Event, Init, Root, Unroot, Write, Dsb, Isb, Tlbi, Msr, Lock, Unlock}
+use Rattle.std.specs.Prelude.{◌≡◌, ℕ, suc, ◌<◌, ◌≤◌, Bool, true, false, ◌&&◌, ◌==◌, List, [], ◌∷◌, ◌++◌, length, Option}
+use Rattle.std.specs.Prelude.{if◌then◌else◌}
+use Rattle.bbm_rules.specs.Prelude.{Barrier, Kind, Reg, Tag, Heading, Event, Init, Root, Unroot, Write, Dsb, Isb, Tlbi}
+use Rattle.bbm_rules.specs.Prelude.{Msr, Lock, Unlock}
 use Rattle.bbm_rules.specs.declared.claim.Claim.TheVariants.{Taken}
 use Rattle.bbm_rules.specs.Claims.{Trust, allows}
 use Rattle.bbm_rules.specs.Places.{page_of}
@@ -12,8 +14,8 @@ use Rattle.bbm_rules.specs.Roots.{Declared}
 use Rattle.bbm_rules.specs.Tags.{itself, reads, reads_for_some, takes_tag}
 use Rattle.bbm_rules.specs.Values.{published, publishes_to, value_of}
 
--- A root: a `root` of its page, of this kind and with this lock, and since then neither another `root` nor an `unroot` of
--- the page.
+-- A root: a `root` of its page, of this kind and with this lock, and since then neither another `root` nor an `unroot`
+-- of the page.
 pub record IsDeclared (h : List Event) (r : Declared) : Type 0 where
   pub pe : ℕ
   pub newer : List Event
@@ -37,8 +39,8 @@ register_value [] p reg = 0
 register_value (Msr pe r value ∷ h) p reg = if pe == p && same_reg r reg then value else register_value h p reg
 register_value (_ ∷ h) p reg = register_value h p reg
 
--- The value is a readable one of the register of p: at some moment the register had it, and after that moment no write of
--- the register by p is followed by an `isb` of p.
+-- The value is a readable one of the register of p: at some moment the register had it, and after that moment no write
+-- of the register by p is followed by an `isb` of p.
 -- Source: Arm ARM (DDI 0487), "Context synchronization event".
 pub record ReadableRegister (h : List Event) (p : ℕ) (reg : Reg) (value : ℕ) : Type 0 where
   pub newer : List Event
@@ -90,11 +92,13 @@ pub record Open {A : Type 0} (event : A → Event) (q : ℕ) (h : List A) (t : I
   pub uncompleted : (x : A) (after before : List A) → newer ≡ after ++ x ∷ before
       → completes_for q (event t.tlbi) (event x) ≡ false
 
--- The TLBI takes the tag away at p: it reaches p and takes the whole tag; a DSB of its issuer q answers it, the first that
--- completes it; and at no moment from its issue to its answer is the tag readable at p for any root. The history up to a
--- moment is the older part of a split; the moments from the issue on are those with more events than came before it.
+-- The TLBI takes the tag away at p: it reaches p and takes the whole tag; a DSB of its issuer q answers it, the first
+-- that completes it; and at no moment from its issue to its answer is the tag readable at p for any root. The history
+-- up to a moment is the older part of a split; the moments from the issue on are those with more events than came
+-- before it.
 -- Source: project's own choice, after Arm ARM (DDI 0487), "TLB maintenance instructions".
-pub record TakenAway (heading : Heading) (trust : Trust) (p : ℕ) (tag : Tag) (h : List Event) (t : Issued Event) : Type 0 where
+pub record TakenAway (heading : Heading) (trust : Trust) (p : ℕ) (tag : Tag) (h : List Event) (t : Issued Event)
+    : Type 0 where
   pub q : ℕ
   pub dsb : Barrier
   pub later : List Event

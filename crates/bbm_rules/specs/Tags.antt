@@ -1,10 +1,13 @@
 -- Tags: under which a PE may read through a root, and which a root holds. A history is newest first.
 -- Source: project's own choice, but where another is named.
-use Rattle.std.specs.Prelude.{ℕ, suc, Bool, false, ◌&&◌, ◌||◌, not, nat_le, ◌==◌, List, [], ◌∷◌, ◌++◌, length, Option, Some, None, filter, filter_map, flat_map, if◌then◌else◌}
+use Rattle.std.specs.Prelude.{ℕ, suc, Bool, false, ◌&&◌, ◌||◌, not, nat_le, ◌==◌, List, [], ◌∷◌, ◌++◌, length, Option}
+use Rattle.std.specs.Prelude.{Some, None, filter, filter_map, flat_map, if◌then◌else◌}
 use Rattle.bbm_tlbi_scope.specs.declared.entry.TagSet.{TagSet}
 use Rattle.bbm_tlbi_scope.specs.declared.entry.TagSet.TheVariants.{None as NoTag, One, Many}
 use Rattle.bbm_tlbi_scope.specs.Tags.{takes_whole_tag}
-use Rattle.bbm_rules.specs.Prelude.{Barrier, AsidFrom, FromTtbr0, FromTtbr1, Reg, Ttbr0El2, VttbrEl2, Ttbr0El1, Ttbr1El1, Tag, El2Tag, Vmid, Asid, Ttbr1Tag, World, Hyp, Kernel, Heading, Event, Dsb, Tlbi}
+use Rattle.bbm_rules.specs.Prelude.{Barrier, AsidFrom, FromTtbr0, FromTtbr1, Reg, Ttbr0El2, VttbrEl2, Ttbr0El1}
+use Rattle.bbm_rules.specs.Prelude.{Ttbr1El1, Tag, El2Tag, Vmid, Asid, Ttbr1Tag, World, Hyp, Kernel, Heading, Event}
+use Rattle.bbm_rules.specs.Prelude.{Dsb, Tlbi}
 use Rattle.bbm_rules.specs.declared.claim.Claim.TheVariants.{Taken}
 use Rattle.bbm_rules.specs.Claims.{Trust, allows, same_tag}
 use Rattle.bbm_rules.specs.Lists.{◌>>=◌, any, below, if_so, some, some_pe}
@@ -40,10 +43,10 @@ asid_readings FromTtbr1 h p =
 -- Source: Arm ARM (DDI 0487), "Translation Lookaside Buffers", and TCR_EL1.A1 of "AArch64 System register
 -- descriptions".
 abbrev pub readings_in : World → List Event → ℕ → List Reading
-readings_in (Hyp el2_start s2_start s2_pages) h p =
+readings_in (Hyp world) h p =
     readings_of h p Ttbr0El2 (λ value. El2Tag) ++ readings_of h p VttbrEl2 (λ value. Vmid (tag_number value))
-readings_in (Kernel start0 start1 asid_from) h p =
-    asid_readings asid_from h p ++ readings_of h p Ttbr1El1 (λ value. Ttbr1Tag)
+readings_in (Kernel world) h p =
+    asid_readings world.asid_from h p ++ readings_of h p Ttbr1El1 (λ value. Ttbr1Tag)
 
 -- an event of a history is its own event
 abbrev pub itself : Event → Event
@@ -71,7 +74,10 @@ module _ (heading : Heading) where
   -- issuer then has. Source: Arm ARM (DDI 0487), "TLB maintenance instructions"; the term is the project's own choice.
   abbrev pub takes_tag : Event → List Event → Tag → Bool
   takes_tag (Tlbi pe op xt) before tag =
-      elim (named_scope heading before pe op xt) [ None ↦ false | Some scope ↦ takes_whole_tag scope (vmid_of heading before pe) tag ]
+      elim (named_scope heading before pe op xt) [
+        | None ↦ false
+        | Some scope ↦ takes_whole_tag scope (vmid_of heading before pe) tag
+      ]
   takes_tag _ before tag = false
 
   module _ (trust : Trust) where
@@ -101,7 +107,8 @@ module _ (heading : Heading) where
   -- the tags that were ever readable for the root, at any PE
   abbrev pub ever_read : ℕ → List Event → List Tag
   ever_read root [] = []
-  ever_read root (e ∷ h) = flat_map (λ p. filter_map (tag_for root) (readings (e ∷ h) p)) (below heading.pes) ++ ever_read root h
+  ever_read root (e ∷ h) =
+      flat_map (λ p. filter_map (tag_for root) (readings (e ∷ h) p)) (below heading.pes) ++ ever_read root h
 
 -- each tag of the list once
 abbrev pub distinct : List Tag → List Tag

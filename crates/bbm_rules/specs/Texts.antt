@@ -5,10 +5,15 @@ use Rattle.std.specs.Prelude.{ℕ, List, [], ◌++◌, Option, codes, decimal}
 use Rattle.bbm_regimes.specs.declared.regime.Which.{Which}
 use Rattle.bbm_regimes.specs.declared.regime.Which.TheVariants.{LineBytes, Pages, Roots, Values, Events, Steps, Lines}
 use Rattle.bbm_events.specs.declared.malformed.Malformed.{Malformed as Cause}
-use Rattle.bbm_events.specs.declared.malformed.Malformed.TheVariants.{NoMagic, BadHeader, UnknownWord, BadNumber, BadPe, BadAddress, MissingField, ExtraField, NoEnd, WrongCount, AfterEnd, NotBuilt, BadLabel}
+use Rattle.bbm_events.specs.declared.malformed.Malformed.TheVariants.{NoMagic, BadHeader, UnknownWord, BadNumber}
+use Rattle.bbm_events.specs.declared.malformed.Malformed.TheVariants.{BadPe, BadAddress, MissingField, ExtraField}
+use Rattle.bbm_events.specs.declared.malformed.Malformed.TheVariants.{NoEnd, WrongCount, AfterEnd, BadLabel}
 use Rattle.bbm_events.specs.Spelling.{hex}
 use Rattle.bbm_rules.specs.declared.rule.Rule.{Rule}
-use Rattle.bbm_rules.specs.declared.rule.Rule.TheVariants.{WrongWorld, NoLock, NullWritten, BreakBeforeMake, LimboMake, NotFresh, RewrittenFresh, BadKind, GlobalUser, PageInUse, NoRoot, TagConflict, RootInUse, UnsyncedVmid, BadOperand, LockBusy, LockNotMine}
+use Rattle.bbm_rules.specs.declared.rule.Rule.TheVariants.{WrongWorld, NoLock, NullWritten, BreakBeforeMake, LimboMake}
+use Rattle.bbm_rules.specs.declared.rule.Rule.TheVariants.{NotFresh, RewrittenFresh, BadKind, GlobalUser, PageInUse}
+use Rattle.bbm_rules.specs.declared.rule.Rule.TheVariants.{NoRoot, TagConflict, RootInUse, UnsyncedVmid, BadOperand}
+use Rattle.bbm_rules.specs.declared.rule.Rule.TheVariants.{LockBusy, LockNotMine}
 use Rattle.bbm_rules.specs.declared.verdict.Verdict.{Verdict}
 use Rattle.bbm_rules.specs.declared.verdict.Verdict.TheVariants.{Accepted, Refused, Malformed, Limit}
 
@@ -45,7 +50,6 @@ cause_text ExtraField = codes "8 ExtraField"
 cause_text NoEnd = codes "9 NoEnd"
 cause_text WrongCount = codes "10 WrongCount"
 cause_text AfterEnd = codes "11 AfterEnd"
-cause_text NotBuilt = codes "12 NotBuilt"
 cause_text BadLabel = codes "13 BadLabel"
 
 -- a limit's name
@@ -66,7 +70,8 @@ label_text label = option_map_or (λ text. codes " @" ++ text) label []
 unfoldable pub verdict_text : Verdict → List ℕ
 verdict_text (Accepted events) = codes "accepted " ++ decimal events ++ codes " events\n"
 verdict_text (Refused line rule at label) =
-    codes "refused line " ++ decimal line ++ codes " rule " ++ rule_text rule ++ codes " at " ++ hex at ++ label_text label
+    codes "refused line " ++ decimal line ++ codes " rule " ++ rule_text rule ++ codes " at " ++ hex at
+    ++ label_text label
     ++ codes "\n"
 verdict_text (Malformed line cause) =
     codes "malformed line " ++ decimal line ++ codes " cause " ++ cause_text cause ++ codes "\n"

@@ -2,7 +2,8 @@
 -- tables. That held tables count, and not present ones alone, is the project's own choice.
 -- Source: Arm ARM (DDI 0487), "VMSAv8-64 translation table walks".
 use Rattle.std.specs.Option.{option_map_or}
-use Rattle.std.specs.Prelude.{ℕ, zero, suc, ◌+◌, ◌*◌, ◌-◌, Bool, false, not, ◌==◌, List, [], ◌∷◌, ◌++◌, Option, Some, None, is_some, find, flat_map, filter_map, if◌then◌else◌}
+use Rattle.std.specs.Prelude.{ℕ, zero, suc, ◌+◌, ◌*◌, ◌-◌, Bool, false, not, ◌==◌, List, [], ◌∷◌, ◌++◌, Option, Some}
+use Rattle.std.specs.Prelude.{None, is_some, find, flat_map, filter_map, if◌then◌else◌}
 use Rattle.bbm_regimes.specs.Extent.{Extent}
 use Rattle.bbm_descriptor.specs.Descriptor.{desc_of, is_valid}
 use Rattle.bbm_descriptor.specs.declared.desc.Desc.{Desc}
@@ -113,4 +114,5 @@ module _ (heading : Heading) (trust : Trust) (h : List Noted) where
 
   abbrev pub is_childless : Node → ℕ → Bool
   is_childless n value = option_map_or
-      (λ next. not (any (holds_some n.kind (suc n.level)) (places_in (events_of h) next))) (next_of n.kind n.level value) false
+      (λ next. not (any (holds_some n.kind (suc n.level)) (places_in (events_of h) next)))
+      (next_of n.kind n.level value) false

@@ -61,4 +61,5 @@ module _ (heading : Heading) (trust : Trust) (h : List Noted) where
   abbrev pub Leads : Kind → ℕ → ℕ → List ℕ → End → Type 0
   Leads kind level page [] end = end_at level page ≡ end
   Leads kind level page (place ∷ places) end = (is_fresh heading trust h page ≡ true) × (page_of place ≡ page)
-      × (next : ℕ) × (next_of kind level (value_of (events_of h) place) ≡ Some next) × Leads kind (suc level) next places end
+      × (next : ℕ) × (next_of kind level (value_of (events_of h) place) ≡ Some next)
+      × Leads kind (suc level) next places end

@@ -7,6 +7,7 @@ ghost use Rattle.bbm_regimes.specs.declared.regime.Reg.{Reg};
 ghost use Rattle.bbm_regimes.specs.declared.regime.Reg.TheVariants.{VttbrEl2};
 ghost use Rattle.bbm_regimes.specs.declared.regime.Tag.{Tag};
 ghost use Rattle.bbm_regimes.specs.declared.regime.Which.TheVariants.{Pages, Roots, Values};
+ghost use Rattle.bbm_regimes.specs.declared.regime.HypWorld.{HypWorld};
 ghost use Rattle.bbm_regimes.specs.declared.regime.World.TheVariants.{Hyp};
 ghost use Rattle.bbm_tlbi_scope.specs.declared.entry.TagSet.TheVariants.{None as NoTag, One, Many};
 ghost use Rattle.bbm_events.specs.Heading.{Heading};
@@ -129,11 +130,11 @@ pub fn law_limits()
 /// two of them differ. The call does nothing; the law is its contract.
 #[tactic(auto, using(crate::proofs::VmidLaw::laws))]
 pub fn law_vmid()
-    ensures one { (heading : Heading) (el2_start s2_start s2_pages : ℕ) (h : List Event) (p v value : ℕ) →
-        heading.world ≡ Hyp el2_start s2_start s2_pages → vmid_of heading h p ≡ Some v →
+    ensures one { (heading : Heading) (world : HypWorld) (h : List Event) (p v value : ℕ) →
+        heading.world ≡ Hyp world → vmid_of heading h p ≡ Some v →
         among value (register_values h p VttbrEl2) ≡ true → tag_number value ≡ v }
-    ensures several { (heading : Heading) (el2_start s2_start s2_pages : ℕ) (h : List Event) (p : ℕ) →
-        heading.world ≡ Hyp el2_start s2_start s2_pages → vmid_of heading h p ≡ None →
+    ensures several { (heading : Heading) (world : HypWorld) (h : List Event) (p : ℕ) →
+        heading.world ≡ Hyp world → vmid_of heading h p ≡ None →
         (a b : ℕ) × (among a (register_values h p VttbrEl2) ≡ true) × (among b (register_values h p VttbrEl2) ≡ true)
         × ((tag_number a == tag_number b) ≡ false) }
 {}

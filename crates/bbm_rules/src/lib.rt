@@ -4,21 +4,20 @@
 pub mod checker;
 pub mod claim;
 pub mod event_laws;
-pub mod first_path;
 pub mod history_laws;
 pub mod laws;
+pub mod limits;
 pub mod phase;
 pub mod rule;
 pub mod step_fault;
 pub mod verdict;
 
-pub use checker::Checker;
+pub use checker::{Checker, Fresh};
 pub use claim::Claim;
 pub use event_laws::{
     law_changes, law_equality_tests, law_limits, law_lock_held, law_published,
     law_readable_register, law_root, law_tag_set, law_vmid,
 };
-pub use first_path::FirstPathChecker;
 pub use history_laws::{
     law_attaching, law_childless, law_cleansed, law_each_rule, law_fresh, law_half, law_held, law_last_valid, law_limbo,
     law_notes, law_paths, law_root_pages, law_seen, law_tree,
@@ -26,6 +25,7 @@ pub use history_laws::{
 pub use laws::{
     law_answered, law_notes_keep_the_events, law_readable_value, law_tag_held, law_version,
 };
+pub use limits::Limits;
 pub use phase::Phase;
 pub use rule::Rule;
 pub use step_fault::StepFault;

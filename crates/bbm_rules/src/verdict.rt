@@ -1,7 +1,8 @@
 //! The verdict on a log.
 
 ghost use Rattle.std.specs.Prelude.{◌≡◌, ◌⊎◌, ℕ, List};
-ghost use Rattle.bbm_rules.specs.Outcome.{DecidedByEnd, DecidedByLine, Judge, Limits, verdict_of_lines};
+ghost use Rattle.bbm_rules.specs.Claims.{Trust};
+ghost use Rattle.bbm_rules.specs.Outcome.{DecidedByEnd, DecidedByLine, Limits, verdict_of_lines};
 ghost use Rattle.bbm_rules.specs.declared.verdict.Verdict.{Verdict as VerdictOf};
 
 use crate::rule::Rule;
@@ -41,11 +42,11 @@ pub enum Verdict {
 /// contract.
 #[tactic(auto, using(crate::proofs::FirstLineLaw::laws))]
 pub fn law_first_line_decides()
-    ensures by_line { (judge : Judge) (limits : Limits) (lines : List (List ℕ)) (rest : List ℕ) (verdict : VerdictOf) →
-        DecidedByLine judge limits lines verdict → verdict_of_lines judge limits lines rest ≡ verdict }
-    ensures by_end { (judge : Judge) (limits : Limits) (lines : List (List ℕ)) (rest : List ℕ) (verdict : VerdictOf) →
-        DecidedByEnd judge limits lines rest verdict → verdict_of_lines judge limits lines rest ≡ verdict }
-    ensures one_decides { (judge : Judge) (limits : Limits) (lines : List (List ℕ)) (rest : List ℕ) →
-        DecidedByLine judge limits lines (verdict_of_lines judge limits lines rest)
-        ⊎ DecidedByEnd judge limits lines rest (verdict_of_lines judge limits lines rest) }
+    ensures by_line { (trust : Trust) (limits : Limits) (lines : List (List ℕ)) (rest : List ℕ) (verdict : VerdictOf) →
+        DecidedByLine trust limits lines verdict → verdict_of_lines trust limits lines rest ≡ verdict }
+    ensures by_end { (trust : Trust) (limits : Limits) (lines : List (List ℕ)) (rest : List ℕ) (verdict : VerdictOf) →
+        DecidedByEnd trust limits lines rest verdict → verdict_of_lines trust limits lines rest ≡ verdict }
+    ensures one_decides { (trust : Trust) (limits : Limits) (lines : List (List ℕ)) (rest : List ℕ) →
+        DecidedByLine trust limits lines (verdict_of_lines trust limits lines rest)
+        ⊎ DecidedByEnd trust limits lines rest (verdict_of_lines trust limits lines rest) }
 {}

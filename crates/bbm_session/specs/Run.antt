@@ -1,6 +1,7 @@
 -- What the program's words ask for, and what it says.
 -- Source: project's own choice.
-use Rattle.std.specs.Prelude.{◌≡◌, ◌⊎◌, ℕ, suc, ◌≤◌, List, [], ◌∷◌, ◌++◌, length, Option, Some, Result, Ok, Err, Bool, true, false, codes, bytes_eq}
+use Rattle.std.specs.Prelude.{◌≡◌, ◌⊎◌, ℕ, suc, ◌≤◌, List, [], ◌∷◌, ◌++◌, length, Option, Some, Result, Ok, Err, Bool}
+use Rattle.std.specs.Prelude.{true, false, codes, bytes_eq}
 use Rattle.bbm_rules.specs.declared.verdict.Verdict.{Verdict}
 use Rattle.bbm_rules.specs.declared.verdict.Verdict.TheVariants.{Accepted, Refused, Malformed, Limit}
 use Rattle.bbm_events.specs.declared.event.Event.{Event}
@@ -9,7 +10,8 @@ use Rattle.bbm_events.specs.declared.event.Item.TheVariants as item
 use Rattle.bbm_events.specs.declared.malformed.Malformed.{Malformed as Cause}
 use Rattle.bbm_events.specs.Heading.{Heading}
 use Rattle.bbm_events.specs.Lines.{header_of, item_of}
-use Rattle.bbm_rules.specs.Outcome.{Judge, first_path, check_limits, Progress, AtHeader, AtEvents, AtEnd, Text, text_of, read_lines}
+use Rattle.bbm_rules.specs.Outcome.{Judge, first_path, check_limits, Progress, AtHeader, AtEvents, AtEnd, Text, text_of}
+use Rattle.bbm_rules.specs.Outcome.{read_lines}
 use Rattle.bbm_session.specs.declared.status.Status.{Status}
 use Rattle.bbm_session.specs.declared.status.Status.TheVariants as status
 
@@ -65,7 +67,8 @@ ReadFor (Limit line which) read unread = UpTo line read unread
 -- What is left of these bytes, where all before was read for this verdict.
 abbrev pub ReadTo : List ℕ → Verdict → Option (List ℕ) → Type 0
 ReadTo bytes verdict left =
-    (read : List ℕ) × (unread : List ℕ) × (bytes ≡ read ++ unread) × (left ≡ Some unread) × ReadFor verdict (text_of read) unread
+    (read : List ℕ) × (unread : List ℕ) × (bytes ≡ read ++ unread) × (left ≡ Some unread)
+    × ReadFor verdict (text_of read) unread
 
 -- Reading stopped before a verdict was known: these bytes were read of what was left.
 pub record ReadPart (bytes : List ℕ) (left : Option (List ℕ)) : Type 0 where

@@ -1,6 +1,7 @@
 -- What the contracts of the session's parts say: how the outcome of what a source has left goes on from part to
 -- part. No public contract cites these words.
-use Rattle.std.specs.Prelude.{◌≡◌, ℕ, ◌+◌, ◌*◌, ◌≤◌, false, true, Bool, ◌&&◌, List, [], ◌∷◌, ◌++◌, length, Option, Some, None, Result, Ok, Err}
+use Rattle.std.specs.Prelude.{◌≡◌, ℕ, ◌+◌, ◌*◌, ◌≤◌, false, true, Bool, ◌&&◌, List, [], ◌∷◌, ◌++◌, length, Option, Some}
+use Rattle.std.specs.Prelude.{None, Result, Ok, Err}
 use Rattle.bbm_io.specs.Faults.{Rose}
 use Rattle.bbm_io.specs.Flow.{preceded, plain}
 use Rattle.bbm_io.specs.Reading.{Reading}
@@ -9,7 +10,8 @@ use Rattle.bbm_events.specs.declared.event.Event.{Event as EventOf}
 use Rattle.bbm_rules.specs.declared.verdict.Verdict.{Verdict}
 use Rattle.bbm_rules.specs.declared.verdict.Verdict.TheVariants.{Accepted, Refused}
 use Rattle.bbm_rules.specs.FirstPath.{Breach}
-use Rattle.bbm_rules.specs.Outcome.{Judge, Limits, first_path, check_limits, Progress, AtHeader, AtEvents, AtEnd, Step, Decides, GoesOn, Outcome, outcome_from, text_of, bytes_of, read_from}
+use Rattle.bbm_rules.specs.Outcome.{Judge, Limits, first_path, check_limits, Progress, AtHeader, AtEvents, AtEnd, Step}
+use Rattle.bbm_rules.specs.Outcome.{Decides, GoesOn, Outcome, outcome_from, text_of, bytes_of, read_from}
 use Rattle.bbm_oracle.specs.Taken.{Taken}
 use Rattle.bbm_session.specs.Run.{NeedsMemory}
 use Rattle.bbm_session.specs.declared.stop.Stop.{Stop}
@@ -32,7 +34,8 @@ plain_lines [] = true
 plain_lines (line ∷ lines) = plain line && plain_lines lines
 
 -- Whole lines stand before the rest of some bytes, from one line number on to another, and none of them decides.
-pub record Passed (judge : Judge) (limits : Limits) (from : ℕ) (progress : Progress) (bytes : List ℕ) (to : ℕ) (progress' : Progress) (rest : List ℕ) : Type 0 where
+pub record Passed (judge : Judge) (limits : Limits) (from : ℕ) (progress : Progress) (bytes : List ℕ)
+    (to : ℕ) (progress' : Progress) (rest : List ℕ) : Type 0 where
   pub lines : List (List ℕ)
   pub clean : plain_lines lines ≡ true
   pub is : bytes ≡ bytes_of lines rest
@@ -48,7 +51,8 @@ Continues judge limits number progress (Some bytes) number' progress' (Some rest
 
 -- Some bytes were read up to a call that failed: whole lines, of which none decides, and of the next one at most 200
 -- bytes.
-pub record Broke (judge : Judge) (limits : Limits) (number : ℕ) (progress : Progress) (bytes rest : List ℕ) : Type 0 where
+pub record Broke (judge : Judge) (limits : Limits) (number : ℕ) (progress : Progress) (bytes rest : List ℕ)
+    : Type 0 where
   pub at : ℕ
   pub reached : Progress
   pub piece : List ℕ
@@ -58,7 +62,8 @@ pub record Broke (judge : Judge) (limits : Limits) (number : ℕ) (progress : Pr
 
 -- Some bytes were read up to a line for which there was no memory: whole lines before it, of which none decides, and
 -- that line.
-pub record Starved (judge : Judge) (limits : Limits) (number : ℕ) (progress : Progress) (bytes rest : List ℕ) : Type 0 where
+pub record Starved (judge : Judge) (limits : Limits) (number : ℕ) (progress : Progress) (bytes rest : List ℕ)
+    : Type 0 where
   pub at : ℕ
   pub reached : Progress
   pub line : List ℕ
@@ -83,7 +88,8 @@ abbrev pub Concludes : Judge → Limits → ℕ → Progress → Option (List �
 Concludes judge limits number progress None verdict now = Unit {0}
 Concludes judge limits number progress (Some bytes) verdict None = ⊥
 Concludes judge limits number progress (Some bytes) verdict (Some rest) =
-    ((outcome_at judge limits number progress bytes).verdict ≡ verdict) × ((outcome_at judge limits number progress bytes).unread ≡ rest)
+    ((outcome_at judge limits number progress bytes).verdict ≡ verdict)
+    × ((outcome_at judge limits number progress bytes).unread ≡ rest)
 
 -- Why reading stopped, and what was read then. A read fault comes only where the count of faults rose, and where it
 -- doesn't come the count stays.
@@ -131,11 +137,13 @@ JudgesLine event (Err NoMemory) step old new = event
 -- the same of the next line of what is left
 abbrev pub Advances : Result Turn Stop → ℕ → Taken → Taken → Option (List ℕ) → Option (List ℕ) → ℕ → ℕ → Type 0
 Advances (Ok Event) n old new was now faults faults' =
-    Continues first_path check_limits n (AtEvents old.heading old.history) was (n + 1) (AtEvents new.heading new.history) now
+    Continues first_path check_limits n (AtEvents old.heading old.history) was
+    (n + 1) (AtEvents new.heading new.history) now
     × (new.heading ≡ old.heading) × (length new.history ≡ length old.history + 1) × (length new.history ≤ 2000)
     × (faults' ≡ faults)
 Advances (Ok End) n old new was now faults faults' =
-    Continues first_path check_limits n (AtEvents old.heading old.history) was (n + 1) (AtEnd old.history) now × (new ≡ old)
+    Continues first_path check_limits n (AtEvents old.heading old.history) was (n + 1) (AtEnd old.history) now
+    × (new ≡ old)
     × (faults' ≡ faults)
 Advances (Err stop) n old new was now faults faults' =
     Stops first_path check_limits n (AtEvents old.heading old.history) was stop now faults faults'

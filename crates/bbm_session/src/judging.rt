@@ -42,12 +42,8 @@ fn is_built(header: &Header) -> bool
     ensures { result ≡ is_built_heading header.now }
 {
     match header.world {
-        World::Hyp {
-            el2_start,
-            s2_start,
-            s2_pages,
-        } => el2_start == 1 && s2_start == 1 && s2_pages == 1,
-        World::Kernel { .. } => false,
+        World::Hyp(world) => world.el2_start == 1 && world.s2_start == 1 && world.s2_pages == 1,
+        World::Kernel(_) => false,
     }
 }
 

@@ -4,7 +4,8 @@ use Rattle.bbm_regimes.specs.declared.regime.Kind.{Kind}
 use Rattle.bbm_regimes.specs.declared.regime.Kind.TheVariants.{El2, S2, Ttbr0, Ttbr1}
 use Rattle.bbm_regimes.specs.declared.regime.Tag.TheVariants.{Vmid, Asid as AsidTag}
 use Rattle.bbm_tlbi_scope.specs.declared.scope.Family.{Family}
-use Rattle.bbm_tlbi_scope.specs.declared.scope.Family.TheVariants.{El2All, El2Va, E1All, VmAll1, VmAll12, Ipa, Va, VaAll, Asid}
+use Rattle.bbm_tlbi_scope.specs.declared.scope.Family.TheVariants.{El2All, El2Va, E1All, VmAll1, VmAll12, Ipa, Va}
+use Rattle.bbm_tlbi_scope.specs.declared.scope.Family.TheVariants.{VaAll, Asid}
 use Rattle.bbm_tlbi_scope.specs.declared.scope.Scope.{Scope}
 use Rattle.bbm_tlbi_scope.specs.declared.entry.PlaceView.{PlaceView}
 use Rattle.bbm_tlbi_scope.specs.declared.entry.TagSet.{TagSet}
@@ -20,7 +21,9 @@ fits_leaf s v = names_some s.interval v.region && hint_allows s.level v.level
 -- Whether a scope fits a held table. Below a table that isn't childless the TLB may keep entries for each
 -- page of its region; so the scope has to name them all. Source: project's own choice.
 abbrev pub fits_table : Scope → PlaceView → Bool
-fits_table s v = not s.last_only && is_none s.level && (if v.childless then names_some s.interval v.region else names_all s.interval v.region)
+fits_table s v =
+    not s.last_only && is_none s.level
+    && (if v.childless then names_some s.interval v.region else names_all s.interval v.region)
 
 -- whether the address of a scope fits a place that holds a value
 abbrev pub fits_place : Scope → PlaceView → Bool
@@ -68,4 +71,5 @@ cover_by _ _ fits s vmid v = NoCover
 -- How far a TLBI of this scope, under this VMID, covers the place. Where it is for one VMID alone and none is
 -- defined, it covers nothing: which entries it takes isn't known. Source: project's own choice.
 abbrev pub cover_of : Scope → Option ℕ → PlaceView → Cover
-cover_of s vmid v = if lacks_vmid s.vmid_scoped vmid then NoCover else cover_by v.kind s.family (fits_place s v) s vmid v
+cover_of s vmid v =
+    if lacks_vmid s.vmid_scoped vmid then NoCover else cover_by v.kind s.family (fits_place s v) s vmid v

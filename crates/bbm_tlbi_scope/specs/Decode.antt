@@ -10,7 +10,8 @@ use Rattle.bbm_tlbi_scope.specs.declared.scope.Family.{Family}
 use Rattle.bbm_tlbi_scope.specs.declared.scope.Family.TheVariants.{El2Va, Ipa, Va, VaAll}
 use Rattle.bbm_tlbi_scope.specs.declared.scope.Scope.{Scope}
 use Rattle.bbm_tlbi_scope.specs.declared.scope.BadOperand.{BadOperand}
-use Rattle.bbm_tlbi_scope.specs.declared.scope.BadOperand.TheVariants.{NonCanonical, TtlGranule, RangeGranule, RangeUnaligned}
+use Rattle.bbm_tlbi_scope.specs.declared.scope.BadOperand.TheVariants.{NonCanonical, TtlGranule, RangeGranule}
+use Rattle.bbm_tlbi_scope.specs.declared.scope.BadOperand.TheVariants.{RangeUnaligned}
 use Rattle.bbm_tlbi_scope.specs.Operations.{Operation, operation, by_vmid, has_page, has_asid}
 use Rattle.bbm_tlbi_scope.specs.Operand.{asid_field, ttl_granule, va_page, ipa_page, top_bits, hint_of, level_hint}
 
@@ -62,7 +63,8 @@ decoded o xt interval level = record {
 abbrev pub page_scope : Operation → ℕ → Result Scope BadOperand
 page_scope o xt =
     if canonical o.family xt
-    then (if granule_known o.family xt then Ok (decoded o xt (interval_field o.family xt) (hint_field o.family xt)) else Err TtlGranule)
+    then (if granule_known o.family xt
+    then Ok (decoded o xt (interval_field o.family xt) (hint_field o.family xt)) else Err TtlGranule)
     else Err NonCanonical
 
 -- Whether the pages of a range begin in the address range of the regime: only stage 1 of EL1&0 has an upper

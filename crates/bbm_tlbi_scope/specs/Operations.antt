@@ -5,9 +5,17 @@ use Rattle.std.specs.Prelude.{Bool, true, false, ◌||◌}
 use Rattle.bbm_regimes.specs.declared.regime.World.{World}
 use Rattle.bbm_regimes.specs.declared.regime.World.TheVariants.{Hyp, Kernel}
 use Rattle.bbm_tlbi_scope.specs.declared.op.TlbiOp.{TlbiOp}
-use Rattle.bbm_tlbi_scope.specs.declared.op.TlbiOp.TheVariants.{Alle2, Alle2is, Vae2, Vae2is, Vale2, Vale2is, Alle1, Alle1is, Vmalle1, Vmalle1is, Vmalls12e1, Vmalls12e1is, Ipas2e1, Ipas2e1is, Ipas2le1, Ipas2le1is, Vae1, Vae1is, Vale1, Vale1is, Vaae1, Vaae1is, Vaale1, Vaale1is, Aside1, Aside1is, Rvae2, Rvae2is, Rvale2, Rvale2is, Ripas2e1, Ripas2e1is, Ripas2le1, Ripas2le1is, Rvae1, Rvae1is, Rvale1, Rvale1is, Rvaae1, Rvaae1is, Rvaale1, Rvaale1is}
+use Rattle.bbm_tlbi_scope.specs.declared.op.TlbiOp.TheVariants.{Alle2, Alle2is, Vae2, Vae2is, Vale2, Vale2is, Alle1}
+use Rattle.bbm_tlbi_scope.specs.declared.op.TlbiOp.TheVariants.{Alle1is, Vmalle1, Vmalle1is, Vmalls12e1, Vmalls12e1is}
+use Rattle.bbm_tlbi_scope.specs.declared.op.TlbiOp.TheVariants.{Ipas2e1, Ipas2e1is, Ipas2le1, Ipas2le1is, Vae1, Vae1is}
+use Rattle.bbm_tlbi_scope.specs.declared.op.TlbiOp.TheVariants.{Vale1, Vale1is, Vaae1, Vaae1is, Vaale1, Vaale1is}
+use Rattle.bbm_tlbi_scope.specs.declared.op.TlbiOp.TheVariants.{Aside1, Aside1is, Rvae2, Rvae2is, Rvale2, Rvale2is}
+use Rattle.bbm_tlbi_scope.specs.declared.op.TlbiOp.TheVariants.{Ripas2e1, Ripas2e1is, Ripas2le1, Ripas2le1is, Rvae1}
+use Rattle.bbm_tlbi_scope.specs.declared.op.TlbiOp.TheVariants.{Rvae1is, Rvale1, Rvale1is, Rvaae1, Rvaae1is, Rvaale1}
+use Rattle.bbm_tlbi_scope.specs.declared.op.TlbiOp.TheVariants.{Rvaale1is}
 use Rattle.bbm_tlbi_scope.specs.declared.scope.Family.{Family}
-use Rattle.bbm_tlbi_scope.specs.declared.scope.Family.TheVariants.{El2All, El2Va, E1All, VmAll1, VmAll12, Ipa, Va, VaAll, Asid}
+use Rattle.bbm_tlbi_scope.specs.declared.scope.Family.TheVariants.{El2All, El2Va, E1All, VmAll1, VmAll12, Ipa, Va}
+use Rattle.bbm_tlbi_scope.specs.declared.scope.Family.TheVariants.{VaAll, Asid}
 
 -- what the word of an operation says
 pub record Operation : Type 0 where
@@ -121,5 +129,5 @@ of_kernel _ = false
 
 -- whether the operation is one of the world
 abbrev pub of_world : World → TlbiOp → Bool
-of_world (Hyp el2_start s2_start s2_pages) op = of_hyp (family_of op)
-of_world (Kernel start0 start1 asid_from) op = of_kernel (family_of op)
+of_world (Hyp world) op = of_hyp (family_of op)
+of_world (Kernel world) op = of_kernel (family_of op)

@@ -1,7 +1,8 @@
 -- Which TLB entries a TLBI takes.
 use Rattle.std.specs.Prelude.{ℕ, Bool, true, false, Option, is_none, not, ◌&&◌, ◌||◌, if◌then◌else◌}
 use Rattle.bbm_tlbi_scope.specs.declared.scope.Family.{Family}
-use Rattle.bbm_tlbi_scope.specs.declared.scope.Family.TheVariants.{El2All, El2Va, E1All, VmAll1, VmAll12, Ipa, Va, VaAll, Asid}
+use Rattle.bbm_tlbi_scope.specs.declared.scope.Family.TheVariants.{El2All, El2Va, E1All, VmAll1, VmAll12, Ipa, Va}
+use Rattle.bbm_tlbi_scope.specs.declared.scope.Family.TheVariants.{VaAll, Asid}
 use Rattle.bbm_tlbi_scope.specs.declared.scope.Scope.{Scope}
 use Rattle.bbm_tlbi_scope.specs.declared.entry.EntryKind.{EntryKind}
 use Rattle.bbm_tlbi_scope.specs.declared.entry.EntryKind.TheVariants.{El2, Stage2, Combined, El1}
@@ -11,7 +12,9 @@ use Rattle.bbm_tlbi_scope.specs.Numbers.{is_number, lacks_vmid, hint_allows, nam
 -- Whether the address of a scope fits an entry. An entry that ends in a table is fitted by no scope for the
 -- last level alone, and by none with a level hint; the latter is the project's own choice.
 abbrev pub fits_entry : Scope → EntryHead → Bool
-fits_entry s e = names_some s.interval e.region && (if e.last then hint_allows s.level e.level else (not s.last_only && is_none s.level))
+fits_entry s e =
+    names_some s.interval e.region
+    && (if e.last then hint_allows s.level e.level else (not s.last_only && is_none s.level))
 
 -- whether the entry ends in a leaf for every ASID
 abbrev pub is_global_leaf : EntryHead → Bool

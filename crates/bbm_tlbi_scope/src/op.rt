@@ -229,8 +229,8 @@ impl TlbiOp {
         ensures { result ≡ words.of_world world self }
     {
         match world {
-            World::Hyp { .. } => self.family().of_hyp(),
-            World::Kernel { .. } => self.family().of_kernel(),
+            World::Hyp(_) => self.family().of_hyp(),
+            World::Kernel(_) => self.family().of_kernel(),
         }
     }
 }

@@ -1,20 +1,20 @@
 //! What the words of the operations say.
 
 use crate::TlbiOp;
-use bbm_regimes::World;
+use bbm_regimes::{AsidFrom, HypWorld, KernelWorld, World};
 
 #[test]
 fn words(rt: HostRuntime) {
-    let hyp = World::Hyp {
+    let hyp = World::Hyp(HypWorld {
         el2_start: 1,
         s2_start: 1,
         s2_pages: 1,
-    };
-    let kernel = World::Kernel {
+    });
+    let kernel = World::Kernel(KernelWorld {
         start0: 1,
         start1: 1,
-        asid_from: bbm_regimes::AsidFrom::Ttbr0,
-    };
+        asid_from: AsidFrom::Ttbr0,
+    });
     assert!(rt; TlbiOp::Aside1.has_operand() && !TlbiOp::Alle2.has_operand());
     assert!(rt; TlbiOp::Vmalle1.scoped_by_vmid() && !TlbiOp::Alle1.scoped_by_vmid());
     assert!(rt; TlbiOp::Vmalle1.of_world(kernel) && !TlbiOp::Alle1.of_world(kernel));

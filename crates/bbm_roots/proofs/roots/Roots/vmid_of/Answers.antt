@@ -1,6 +1,6 @@
 use Rattle.std.proofs.Common.{◌≡◌, ◌∙◌, sym, ap, subst, List, ◌<◌, length}
 use Rattle.bbm_regimes.specs.declared.regime.World.{World}
-use Rattle.bbm_regimes.specs.declared.regime.World.TheVariants.{Hyp}
+use Rattle.bbm_regimes.specs.declared.regime.Reg.TheVariants.{VttbrEl2}
 use Rattle.bbm_roots.specs.Refusals.{JudgesVmid}
 use Rattle.bbm_roots.specs.Registers.{register_values, second_reg}
 use Rattle.bbm_roots.specs.Tags.{vmid_of, one_number}
@@ -11,10 +11,9 @@ use Rattle.bbm_roots.proofs.roots.Roots.vmid_of.Goals as goal
 pub returns-in-Hyp : goal.returns-in-Hyp
 returns-in-Hyp c = λ calls stands.
     let pe = c.args.pe in
-    let world : World = Hyp c.in-Hyp.el2_start c.in-Hyp.s2_start c.in-Hyp.s2_pages in
-    let values : List Load = register_values calls pe (second_reg world) in
+    let values : List Load = register_values calls pe VttbrEl2 in
     let same : c.loads_at.result.now ≡ values =
     c.loads_at.ensures ∙ stands.second pe c.requires ∙ ap (λ (w : World). register_values calls pe (second_reg w)) c.in-Hyp.is in
     subst (λ (w : World). JudgesVmid (vmid_of w calls pe) (register_values calls pe (second_reg w)) c.one_number.result) (sym c.in-Hyp.is)
     (subst (λ (ls : List Load). JudgesVmid (one_number ls) ls c.one_number.result) same
-    (c.one_number.ensures (subst (λ (ls : List Load). 0 < length ls) (sym same) (some-value calls pe (second_reg world)))))
+    (c.one_number.ensures (subst (λ (ls : List Load). 0 < length ls) (sym same) (some-value calls pe VttbrEl2))))
