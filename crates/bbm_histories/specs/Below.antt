@@ -1,21 +1,25 @@
 -- What the crate of the rules proves of its definitions, as one record, so that each proof here takes it as one hypothesis.
-use Rattle.std.specs.Prelude.{◌≡◌, ℕ, suc, ◌+◌, ◌%◌, ◌<◌, true, false, List, [], ◌∷◌, ◌++◌, length, Option, Some, None, Contains}
-use Rattle.bbm_descriptor.specs.Descriptor.{is_valid}
-use Rattle.bbm_rules.specs.Prelude.{Kind, Heading, Event, Root, Write}
+use Rattle.std.specs.Prelude.{◌≡◌, ◌↔◌, ℕ, suc, ◌+◌, ◌%◌, ◌<◌, true, false, List, [], ◌∷◌, ◌++◌, length, Option, Some, None, Contains}
+use Rattle.bbm_descriptor.specs.Descriptor.{desc_of, is_valid}
+use Rattle.bbm_rules.specs.Prelude.{Kind, Ttbr0, Reg, Tag, Heading, Event, Root, Unroot, Write, Msr}
 use Rattle.bbm_rules.specs.declared.rule.Rule.{Rule}
 use Rattle.bbm_rules.specs.Attach.{End, attached_by, attached_from}
 use Rattle.bbm_rules.specs.Broken.{breaks, keeps}
 use Rattle.bbm_rules.specs.Claims.{Trust}
 use Rattle.bbm_rules.specs.Cleansing.{cleansed, half, seen}
-use Rattle.bbm_rules.specs.Covers.{noted}
+use Rattle.bbm_rules.specs.Covers.{is_global, noted}
+use Rattle.bbm_rules.specs.Lists.{among}
+use Rattle.bbm_rules.specs.Registers.{base_of, register_values, same_reg}
 use Rattle.bbm_rules.specs.Held.{ValidWrite, held, last_valid}
 use Rattle.bbm_rules.specs.Notes.{Noted, events_of}
 use Rattle.bbm_rules.specs.Pages.{is_fresh}
 use Rattle.bbm_rules.specs.PatternSentences.{Cleansed, Holds, IsLastValid, Seen}
 use Rattle.bbm_rules.specs.Places.{page_of}
-use Rattle.bbm_rules.specs.Roots.{Declared, kind_in_world, page_count, root_pages, roots_of, start_of}
-use Rattle.bbm_rules.specs.Rules.{not_fresh, page_in_use}
-use Rattle.bbm_rules.specs.Sentences.{IsDeclared, Published, Readable}
+use Rattle.bbm_rules.specs.Roots.{Declared, is_root, kind_in_world, page_count, root_pages, roots_of, start_of}
+use Rattle.bbm_rules.specs.Rules.{global_user, no_root, not_fresh, page_in_use, root_in_use, tag_conflict}
+use Rattle.bbm_rules.specs.Sentences.{HoldsTag, IsDeclared, Published, Readable}
+use Rattle.bbm_rules.specs.TagSentences.{ReadsTag}
+use Rattle.bbm_rules.specs.Tags.{holds_at, holds_tag, reads}
 use Rattle.bbm_rules.specs.Tree.{Node, held_at, in_limbo, in_tree, is_childless, next_of, node_below, node_of, nodes_of_root, tree}
 use Rattle.bbm_rules.specs.TreeSentences.{Childless, InLimbo, IsNode, Leads}
 use Rattle.bbm_rules.specs.Values.{is_readable, published, value_of}
@@ -85,6 +89,36 @@ pub record Below (heading : Heading) (trust : Trust) : Type 0 where
       × Contains (root_pages heading.world r.kind r.page) n.page
   pub one_root_node : (r : Declared) (n m : Node) → Contains (nodes_of_root heading r) n
       → Contains (nodes_of_root heading r) m → n.page ≡ m.page → n ≡ m
+  pub page_node : (r : Declared) (page : ℕ) → Contains (root_pages heading.world r.kind r.page) page
+      → (m : Node) × Contains (nodes_of_root heading r) m × (m.page ≡ page)
+  pub root_of_kind : (h : List Event) (kind : Kind) (page : ℕ) → is_root h kind page ≡ true
+      → (r : Declared) × IsDeclared h r × (r.page ≡ page) × (r.kind ≡ kind)
+  pub is_root_of_kind : (h : List Event) (r : Declared) → IsDeclared h r → is_root h r.kind r.page ≡ true
+  pub written_lower : (h : List Noted) (pe place value : ℕ) (n : Node) → global_user heading trust h (Write pe place value) ≡ None
+      → node_of heading trust h (page_of place) ≡ Some n → n.kind ≡ Ttbr0 → is_global (desc_of n.kind n.level value) ≡ false
+  pub attached_lower : (h : List Noted) (e : Event) (level : ℕ) (pages : List ℕ)
+      → attached_by heading trust h e ≡ Some (attached_from heading trust h Ttbr0 level pages)
+      → global_user heading trust h e ≡ None → (page place : ℕ) (places : List ℕ) (end : End) → Contains pages page
+      → level + length places < 4 → Leads heading trust h Ttbr0 level page places end → page_of place ≡ end.page
+      → is_global (desc_of Ttbr0 end.level (value_of (events_of h) place)) ≡ false
+  pub reads_sound : (h : List Event) (p : ℕ) (tag : Tag) (root : ℕ) → reads heading h p tag root ≡ true
+      → ReadsTag heading.world h p tag root
+  pub reads_complete : (h : List Event) (p : ℕ) (tag : Tag) (root : ℕ) → ReadsTag heading.world h p tag root
+      → reads heading h p tag root ≡ true
+  pub one_holder : (h : List Noted) (pe : ℕ) (reg : Reg) (value : ℕ) (tag : Tag) (root : ℕ) (r : Declared)
+      → tag_conflict heading trust h (Msr pe reg value) ≡ None → reads heading (Msr pe reg value ∷ events_of h) pe tag root ≡ true
+      → Contains (roots_of (Msr pe reg value ∷ events_of h)) r
+      → holds_tag heading trust r.page tag (Msr pe reg value ∷ events_of h) ≡ true → r.page ≡ root
+  pub no_base : (h : List Noted) (pe page p : ℕ) (reg : Reg) (value : ℕ) → root_in_use heading trust h (Unroot pe page) ≡ None
+      → no_root heading trust h (Unroot pe page) ≡ None → p < heading.pes
+      → among value (register_values (events_of h) p reg) ≡ true → base_of value ≡ Some page → ⊥
+  pub no_tag : (h : List Noted) (pe page : ℕ) (tag : Tag) → root_in_use heading trust h (Unroot pe page) ≡ None
+      → no_root heading trust h (Unroot pe page) ≡ None → holds_tag heading trust page tag (events_of h) ≡ false
+  pub tag_held_sound : (p root : ℕ) (tag : Tag) (h : List Event) → holds_at heading trust p root tag h ≡ true
+      → HoldsTag heading trust p root tag h
+  pub tag_held_complete : (p root : ℕ) (tag : Tag) (h : List Event) → HoldsTag heading trust p root tag h
+      → holds_at heading trust p root tag h ≡ true
+  pub reg_equal : (r s : Reg) → (same_reg r s ≡ true) ↔ (r ≡ s)
   pub first_node : (r : Declared) (n : Node) → Contains (nodes_of_root heading r) n
       → (m : Node) × Contains (nodes_of_root heading r) m × (m.page ≡ r.page)
   pub first_page : (kind : Kind) (page : ℕ) → kind_in_world heading.world kind ≡ true

@@ -1,9 +1,10 @@
 //! What the crate of the rules proves, gathered for the proofs here.
 
 use bbm_rules::{
-    law_attaching, law_childless, law_each_rule, law_held, law_last_valid, law_limbo, law_notes,
-    law_notes_keep_the_events, law_published, law_readable_value, law_root, law_root_pages,
-    law_seen, law_tree,
+    law_attaching, law_childless, law_each_rule, law_equality_tests, law_global_user, law_held,
+    law_last_valid, law_limbo, law_notes, law_notes_keep_the_events, law_published,
+    law_readable_tag, law_readable_value, law_root, law_root_pages, law_seen, law_tag_held,
+    law_tag_rules, law_tree,
 };
 
 ghost use Rattle.bbm_events.specs.Heading.{Heading};
@@ -14,18 +15,23 @@ ghost use Rattle.bbm_histories.specs.Below.{Below};
 pub(crate) fn below()
     ensures { (heading : Heading) (trust : Trust) → Below heading trust }
 {
-    law_each_rule();
-    law_last_valid();
-    law_held();
-    law_tree();
     law_attaching();
     law_childless();
+    law_each_rule();
+    law_equality_tests();
+    law_global_user();
+    law_held();
+    law_last_valid();
     law_limbo();
+    law_notes();
+    law_notes_keep_the_events();
     law_published();
+    law_readable_tag();
     law_readable_value();
     law_root();
     law_root_pages();
     law_seen();
-    law_notes();
-    law_notes_keep_the_events();
+    law_tag_held();
+    law_tag_rules();
+    law_tree();
 }

@@ -1,23 +1,28 @@
 -- What the rules on fresh pages say of an event that attaches pages, by paths.
-use Rattle.std.proofs.Common.{◌≡◌, ℕ, zero, suc, ◌+◌, ◌-◌, ◌<◌, ◌≤◌, Bool, true, false, not, List, [], ◌∷◌, ◌++◌, length, Option, Some, None, Contains, flat_map, filter_map, map, option_to_list, refl, sym, ◌∙◌, ap, subst, inl, inr, arith}
-use Rattle.std.proofs.lemmas.Bool.{not_from_false}
+use Rattle.std.proofs.Common.{◌≡◌, ℕ, zero, suc, ◌+◌, ◌-◌, ◌<◌, ◌≤◌, Bool, true, false, not, List, [], ◌∷◌, ◌++◌, length, Option, Some, None, Contains, flat_map, filter_map, map, option_and_then, option_to_list, true≢false, ◌&&◌, ◌==◌, refl, sym, ◌∙◌, ap, subst, inl, inr, arith}
+use Rattle.std.proofs.lemmas.Bool.{and_from, eq-eqb, not_from_false}
 use Rattle.bbm_regimes.specs.declared.regime.Kind.{Kind}
+use Rattle.bbm_regimes.specs.declared.regime.Kind.TheVariants.{Ttbr0}
+use Rattle.bbm_descriptor.specs.Descriptor.{desc_of}
+use Rattle.bbm_descriptor.specs.declared.desc.Desc.{Desc}
 use Rattle.bbm_events.specs.Heading.{Heading}
 use Rattle.bbm_events.specs.declared.event.Event.{Event}
 use Rattle.bbm_events.specs.declared.event.Event.TheVariants.{Root, Write}
 use Rattle.bbm_rules.proofs.ListLemmas.{Apart, Parted, append_none, apart, in_left, in_pages, in_right, least_none, none_in, parted, place_apart, same_place, to_filter, to_flat}
 use Rattle.bbm_rules.proofs.OpenLaw.{In, from_contains}
-use Rattle.bbm_rules.proofs.TreeLaw.{below_fresh, ends_from, one_more, path_to_end, place_of_table}
+use Rattle.bbm_rules.proofs.TreeLaw.{below_fresh, ends_from, one_more, path_to_end, place_of_table, written_by}
 use Rattle.bbm_rules.specs.Attach.{Attached, End, all_ends, attached_by, attached_from, end_at, ends_below, pages_of}
 use Rattle.bbm_rules.specs.Claims.{Trust}
-use Rattle.bbm_rules.specs.Lists.{repeated}
+use Rattle.bbm_rules.specs.Lists.{if_so, repeated}
+use Rattle.bbm_rules.specs.Covers.{is_global}
+use Rattle.bbm_rules.specs.Places.{page_of}
 use Rattle.bbm_rules.specs.Notes.{Noted, events_of}
 use Rattle.bbm_rules.specs.Pages.{is_fresh}
-use Rattle.bbm_rules.specs.Roots.{root_pages}
-use Rattle.bbm_rules.specs.Rules.{bad_ends, judged_ends, not_fresh, page_in_use, unfresh, untracked_page}
-use Rattle.bbm_rules.specs.Tree.{next_of}
+use Rattle.bbm_rules.specs.Roots.{root_pages, same_kind}
+use Rattle.bbm_rules.specs.Rules.{attached_with, bad_ends, global_user, judged_ends, not_fresh, page_in_use, places_with, unfresh, untracked_page, written_with}
+use Rattle.bbm_rules.specs.Tree.{Node, next_of, node_of}
 use Rattle.bbm_rules.specs.TreeSentences.{Leads}
-use Rattle.bbm_rules.specs.Values.{places_in, value_of}
+use Rattle.bbm_rules.specs.Values.{places_in, value_of, written_places}
 
 all_some : (ns : List ℕ) → filter_map (λ (n : ℕ). Some n) ns ≡ ns
 all_some [] = refl
@@ -213,5 +218,80 @@ module _ (heading : Heading) (trust : Trust) (h : List Noted) where
       single_of kind level pages page page' places places' end end'
       (parted (firsts level pages) (deepers kind level pages) (apart (pages_of (all_ends a)) k.single))
       (from_contains pages page c) (from_contains pages page' c') short short' l l' same
+
+  -- ---- leaves of the lower range
+
+  -- the ends of paths are those of the attached pages
+  in_all : (kind : Kind) (level : ℕ) (pages : List ℕ) (page : ℕ) (places : List ℕ) (e : End) → In pages page
+      → level + length places < 4 → Leads heading trust h kind level page places e
+      → In (all_ends (attached_from heading trust h kind level pages)) e
+  in_all kind level pages page [] e i short same =
+      in_left (firsts level pages) (deepers kind level pages) e
+      (subst (λ (x : End). In (firsts level pages) x) same (in_firsts level pages page i))
+  in_all kind level pages page (place ∷ places) e i short l =
+      in_right (firsts level pages) (deepers kind level pages) e (in_deepers kind level pages page place places e i short l)
+
+  -- the test of the rule
+  abbrev is_lower_global : Kind → Desc → Bool
+  is_lower_global kind desc = same_kind kind Ttbr0 && is_global desc
+
+  zero_is_no_leaf : (kind : Kind) (level : ℕ) → is_global (desc_of kind level 0) ≡ false
+  zero_is_no_leaf kind level = refl
+
+  pub written_lower : (pe place value : ℕ) (n : Node) → global_user heading trust h (Write pe place value) ≡ None
+      → node_of heading trust h (page_of place) ≡ Some n → n.kind ≡ Ttbr0 → is_global (desc_of n.kind n.level value) ≡ false
+  written_lower pe place value n none node lower =
+      let nothing : option_to_list (written_with heading trust h is_lower_global (Write pe place value)) ≡ []
+      = (append_none (option_to_list (written_with heading trust h is_lower_global (Write pe place value)))
+      (flat_map (attached_with is_lower_global (events_of h)) (option_to_list (attached_by heading trust h (Write pe place value))))
+      (least_none (option_to_list (written_with heading trust h is_lower_global (Write pe place value))
+      ++ flat_map (attached_with is_lower_global (events_of h)) (option_to_list (attached_by heading trust h (Write pe place value)))) none)).0 in
+      by (is_global (desc_of n.kind n.level value)) refl
+      (subst (λ (o : Option Node). option_to_list (option_and_then (λ m. if_so (is_lower_global m.kind (desc_of m.kind m.level value)) place) o) ≡ [])
+      node nothing)
+    where
+      by : (c : Bool) → is_global (desc_of n.kind n.level value) ≡ c
+          → option_to_list (if_so (same_kind n.kind Ttbr0 && is_global (desc_of n.kind n.level value)) place) ≡ [] → c ≡ false
+      by false g e = refl
+      by true g e =
+          let passes : (same_kind n.kind Ttbr0 && is_global (desc_of n.kind n.level value)) ≡ true
+          = and_from (same_kind n.kind Ttbr0) (is_global (desc_of n.kind n.level value)) (ap (λ (k : Kind). same_kind k Ttbr0) lower) g in
+          let one : option_to_list (if_so true place) ≡ [] = subst (λ (b : Bool). option_to_list (if_so b place) ≡ []) passes e in cc
+
+  pub attached_lower : (e : Event) (level : ℕ) (pages : List ℕ)
+      → attached_by heading trust h e ≡ Some (attached_from heading trust h Ttbr0 level pages)
+      → global_user heading trust h e ≡ None → (page place : ℕ) (places : List ℕ) (end : End) → Contains pages page
+      → level + length places < 4 → Leads heading trust h Ttbr0 level page places end → page_of place ≡ end.page
+      → is_global (desc_of Ttbr0 end.level (value_of (events_of h) place)) ≡ false
+  attached_lower e level pages is none page place places end c short l inside =
+      by (is_global (desc_of Ttbr0 end.level (value_of (events_of h) place))) refl
+    where
+      a : Attached
+      a = attached_from heading trust h Ttbr0 level pages
+
+      nothing : flat_map (attached_with is_lower_global (events_of h)) (option_to_list (attached_by heading trust h e)) ≡ []
+      nothing = (append_none (option_to_list (written_with heading trust h is_lower_global e))
+          (flat_map (attached_with is_lower_global (events_of h)) (option_to_list (attached_by heading trust h e)))
+          (least_none (option_to_list (written_with heading trust h is_lower_global e)
+          ++ flat_map (attached_with is_lower_global (events_of h)) (option_to_list (attached_by heading trust h e))) none)).1
+
+      none_there : attached_with is_lower_global (events_of h) (attached_from heading trust h Ttbr0 level pages) ≡ []
+      none_there = (append_none (attached_with is_lower_global (events_of h) (attached_from heading trust h Ttbr0 level pages)) []
+          (subst (λ (o : Option Attached). flat_map (attached_with is_lower_global (events_of h)) (option_to_list o) ≡ []) is nothing)).0
+
+      written : is_global (desc_of Ttbr0 end.level (value_of (events_of h) place)) ≡ true → In (places_in (events_of h) end.page) place
+      written g =
+          to_filter (λ (x : ℕ). page_of x == end.page) (written_places (events_of h)) place
+          (written_by heading trust h place (events_of h) (λ z. true≢false (sym g
+          ∙ (ap (λ (x : ℕ). is_global (desc_of Ttbr0 end.level x)) z ∙ zero_is_no_leaf Ttbr0 end.level))))
+          (eq-eqb (page_of place) end.page inside)
+
+      by : (c : Bool) → is_global (desc_of Ttbr0 end.level (value_of (events_of h) place)) ≡ c → c ≡ false
+      by false g = refl
+      by true g =
+          absurd (none_in (attached_with is_lower_global (events_of h) (attached_from heading trust h Ttbr0 level pages)) place none_there
+          (to_flat (places_with is_lower_global Ttbr0 (events_of h)) (all_ends (attached_from heading trust h Ttbr0 level pages)) end place
+          (in_all Ttbr0 level pages page places end (from_contains pages page c) short l)
+          (to_filter (λ (x : ℕ). is_lower_global Ttbr0 (desc_of Ttbr0 end.level (value_of (events_of h) x))) (places_in (events_of h) end.page) place (written g) g)))
 
 pub ruleset laws = (written_fresh, single_paths)

@@ -44,3 +44,4 @@ pub mod TreeLemmas
 pub mod TreeLaw
 pub mod AttachLaw
 pub mod VersionLaw
+pub mod ReadsLaw

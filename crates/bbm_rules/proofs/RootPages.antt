@@ -99,3 +99,19 @@ first_page heading kind page known some =
     by : (count : ℕ) → 0 < count → Contains (pages_from page count) page
     by zero some = absurd (omega arith)
     by (suc count) some = to_contains (pages_from page (suc count)) page (inl refl)
+
+-- each page of a root has a node
+node_of_page : (kind : Kind) (level root base : ℕ) (pages : List ℕ) (page : ℕ) → In pages page
+    → (m : Node) × In (nodes_of_pages kind level root base pages) m × (m.page ≡ page)
+node_of_page kind level root base [] page i = absurd i
+node_of_page kind level root base (first ∷ pages) page (inl e) =
+    (record { page = first; kind = kind; level = level; root = root; base = base; above = [] }, inl refl, e)
+node_of_page kind level root base (first ∷ pages) page (inr i) =
+    let k = node_of_page kind level root (base + 512 * input_pages level) pages page i in (k.0, inr k.1, k.2)
+
+pub page_node : (heading : Heading) (r : Declared) (page : ℕ) → Contains (root_pages heading.world r.kind r.page) page
+    → (m : Node) × Contains (nodes_of_root heading r) m × (m.page ≡ page)
+page_node heading r page c =
+    let k = node_of_page r.kind (start_of heading.world r.kind) r.page (first_input_page heading.world r.kind)
+    (root_pages heading.world r.kind r.page) page (from_contains (root_pages heading.world r.kind r.page) page c) in
+    (k.0, to_contains (nodes_of_root heading r) k.0 k.1, k.2)

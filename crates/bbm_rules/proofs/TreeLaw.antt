@@ -254,7 +254,7 @@ module _ (heading : Heading) (trust : Trust) (h : List Noted) where
       (place.0 ∷ r.0, omega arith, (b.0, eqb-true (page_of place.0) page inside.1, next.0, place.2, r.2))
 
   -- a place with a table value was written
-  written_by : (place : ℕ) (es : List Event) → (value_of es place ≡ 0 → ⊥) → In (written_places es) place
+  pub written_by : (place : ℕ) (es : List Event) → (value_of es place ≡ 0 → ⊥) → In (written_places es) place
   written_by place [] some = absurd (some refl)
   written_by place (Write pe at value ∷ es) some = by (at == place) refl (written_by place es)
     where

@@ -1,9 +1,10 @@
 //! Laws of the definitions on the annotated history: what computes says the same as a sentence over all ways to split
 //! a history, and what the next layers need of a history that keeps the rules.
 
-ghost use Rattle.std.specs.Prelude.{◌≡◌, ℕ, suc, ◌<◌, ◌≤◌, ◌+◌, ◌%◌, true, List, [], ◌∷◌, ◌++◌, length, Option, Some, None, Contains};
+ghost use Rattle.std.specs.Prelude.{◌≡◌, ℕ, suc, ◌<◌, ◌≤◌, ◌+◌, ◌%◌, true, false, List, [], ◌∷◌, ◌++◌, length, Option, Some, None, Contains};
 ghost use Rattle.bbm_regimes.specs.declared.regime.Kind.{Kind};
-ghost use Rattle.bbm_descriptor.specs.Descriptor.{is_valid};
+ghost use Rattle.bbm_regimes.specs.declared.regime.Kind.TheVariants.{Ttbr0};
+ghost use Rattle.bbm_descriptor.specs.Descriptor.{desc_of, is_valid};
 ghost use Rattle.bbm_events.specs.Heading.{Heading};
 ghost use Rattle.bbm_events.specs.declared.event.Event.{Event};
 ghost use Rattle.bbm_events.specs.declared.event.Event.TheVariants.{Root, Write};
@@ -12,14 +13,14 @@ ghost use Rattle.bbm_rules.specs.Attach.{End, attached_by, attached_from, end_at
 ghost use Rattle.bbm_rules.specs.Broken.{breaks, keeps};
 ghost use Rattle.bbm_rules.specs.Claims.{Trust};
 ghost use Rattle.bbm_rules.specs.Cleansing.{cleansed, half, seen};
-ghost use Rattle.bbm_rules.specs.Covers.{cover_at, noted};
+ghost use Rattle.bbm_rules.specs.Covers.{cover_at, is_global, noted};
 ghost use Rattle.bbm_rules.specs.Held.{ValidWrite, held, last_valid};
 ghost use Rattle.bbm_rules.specs.Notes.{Noted, events_of};
 ghost use Rattle.bbm_rules.specs.Pages.{is_fresh};
 ghost use Rattle.bbm_rules.specs.PatternSentences.{Cleansed, Holds, IsHalf, IsLastValid, Seen};
 ghost use Rattle.bbm_rules.specs.Places.{page_of};
 ghost use Rattle.bbm_rules.specs.Roots.{Declared, kind_in_world, page_count, root_pages, start_of};
-ghost use Rattle.bbm_rules.specs.Rules.{not_fresh, page_in_use};
+ghost use Rattle.bbm_rules.specs.Rules.{global_user, not_fresh, page_in_use};
 ghost use Rattle.bbm_rules.specs.Tree.{Node, held_at, in_limbo, in_tree, is_childless, next_of, node_below, node_of, nodes_of_root, tree};
 ghost use Rattle.bbm_rules.specs.TreeSentences.{Childless, InLimbo, IsFresh, IsNode, Leads};
 ghost use Rattle.bbm_rules.specs.Values.{value_of};
@@ -153,6 +154,8 @@ pub fn law_root_pages()
         Contains (nodes_of_root heading r) m → n.page ≡ m.page → n ≡ m }
     ensures first { (heading : Heading) (r : Declared) (n : Node) → Contains (nodes_of_root heading r) n →
         (m : Node) × Contains (nodes_of_root heading r) m × (m.page ≡ r.page) }
+    ensures each { (heading : Heading) (r : Declared) (page : ℕ) → Contains (root_pages heading.world r.kind r.page) page →
+        (m : Node) × Contains (nodes_of_root heading r) m × (m.page ≡ page) }
     ensures named { (heading : Heading) (kind : Kind) (page : ℕ) → kind_in_world heading.world kind ≡ true →
         0 < page_count heading.world kind → Contains (root_pages heading.world kind page) page }
 {}
@@ -180,6 +183,19 @@ pub fn law_attaching()
     ensures rooted { (heading : Heading) (trust : Trust) (h : List Noted) (pe : ℕ) (kind : Kind) (lock : Option ℕ) (first page : ℕ) →
         page_in_use heading trust h (Root pe kind lock first) ≡ None → Contains (root_pages heading.world kind first) page →
         is_fresh heading trust h page ≡ true }
+{}
+
+/// An event that doesn't break the rule on leaves of the lower range writes no leaf for every ASID at a place of a tree of
+/// that range, and attaches no page with one. The call does nothing; the law is its contract.
+pub fn law_global_user()
+    ensures written { (heading : Heading) (trust : Trust) (h : List Noted) (pe place value : ℕ) (n : Node) →
+        global_user heading trust h (Write pe place value) ≡ None → node_of heading trust h (page_of place) ≡ Some n →
+        n.kind ≡ Ttbr0 → is_global (desc_of n.kind n.level value) ≡ false }
+    ensures attached { (heading : Heading) (trust : Trust) (h : List Noted) (e : Event) (level : ℕ) (pages : List ℕ) →
+        attached_by heading trust h e ≡ Some (attached_from heading trust h Ttbr0 level pages) →
+        global_user heading trust h e ≡ None → (page place : ℕ) (places : List ℕ) (end : End) → Contains pages page →
+        level + length places < 4 → Leads heading trust h Ttbr0 level page places end → page_of place ≡ end.page →
+        is_global (desc_of Ttbr0 end.level (value_of (events_of h) place)) ≡ false }
 {}
 
 /// A log keeps the rules exactly where each event breaks none of the seventeen rules, each asked by itself, after the

@@ -1,4 +1,4 @@
-use Rattle.bbm_rules.proofs.RootPages.{first_node, first_page, node_fields, one_node}
+use Rattle.bbm_rules.proofs.RootPages.{first_node, first_page, node_fields, one_node, page_node}
 use Rattle.bbm_rules.proofs.history_laws.law_root_pages.Goals as goal
 
 pub returns-clause-fields : goal.returns-clause-fields
@@ -12,3 +12,6 @@ returns-clause-first c = first_node
 
 pub returns-clause-named : goal.returns-clause-named
 returns-clause-named c = first_page
+
+pub returns-clause-each : goal.returns-clause-each
+returns-clause-each c = page_node
