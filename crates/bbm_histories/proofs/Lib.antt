@@ -10,3 +10,6 @@ pub mod ValueLemmas
 pub mod ViewLemmas
 pub mod CoreLemmas
 pub mod WindowLemmas
+pub mod LeafLemmas
+pub mod RootLemmas
+pub mod TagLemmas

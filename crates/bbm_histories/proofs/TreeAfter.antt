@@ -23,6 +23,7 @@ use Rattle.bbm_histories.specs.Tree.{Attaches, HeldChange, InTree, InTreeAfter, 
 use Rattle.bbm_histories.proofs.HeldSteps.{IsDsb, held_after_dsb, held_change, table_on}
 use Rattle.bbm_histories.proofs.Induction.{Unbroken, if_none}
 use Rattle.bbm_histories.proofs.Invariants.{Invariants}
+use Rattle.bbm_histories.proofs.RootLemmas.{declared_on}
 use Rattle.bbm_histories.proofs.TreeSteps.{Link, OneNode, added, is_tracked, link_in_tree, node_is, not_fresh_there, roots_after_unroot, start_below, start_in_tree}
 
 -- ---- elements
@@ -209,32 +210,11 @@ module _ (heading : Heading) (trust : Trust) (b : Below heading trust) (h : List
             level = k.level;
           })
 
-  -- the declared root of a node stays declared, by a record of what the event isn't
   stays_declared : (e : Event) (r : Declared) → Contains (roots_of (events_of h)) r
       → ((q : ℕ) (kind : Kind) (lock : Option ℕ) → e ≡ Root q kind lock r.page → ⊥) → ((q : ℕ) → e ≡ Unroot q r.page → ⊥)
       → Contains (roots_of (e ∷ events_of h)) r
   stays_declared e r c no_root no_unroot =
-      let k : IsDeclared (events_of h) r = b.root_sound (events_of h) r c in
-      b.root_complete (e ∷ events_of h) r (record {
-        pe = k.pe;
-        newer = e ∷ k.newer;
-        older = k.older;
-        split = ap (λ (xs : List Event). e ∷ xs) k.split;
-        last = λ q kind lock after before s. last k q kind lock after before s;
-        not_retired = λ q after before s. retired k q after before s;
-      })
-    where
-      last : (k : IsDeclared (events_of h) r) (q : ℕ) (kind : Kind) (lock : Option ℕ) (after before : List Event)
-          → e ∷ k.newer ≡ after ++ Root q kind lock r.page ∷ before → ⊥
-      last k q kind lock [] before s = let first : e ≡ Root q kind lock r.page = cc in no_root q kind lock first
-      last k q kind lock (x ∷ after) before s =
-          let rest : k.newer ≡ after ++ Root q kind lock r.page ∷ before = cc in k.last q kind lock after before rest
-
-      retired : (k : IsDeclared (events_of h) r) (q : ℕ) (after before : List Event)
-          → e ∷ k.newer ≡ after ++ Unroot q r.page ∷ before → ⊥
-      retired k q [] before s = let first : e ≡ Unroot q r.page = cc in no_unroot q first
-      retired k q (x ∷ after) before s =
-          let rest : k.newer ≡ after ++ Unroot q r.page ∷ before = cc in k.not_retired q after before rest
+      b.root_complete (e ∷ events_of h) r (declared_on e (events_of h) r (b.root_sound (events_of h) r c) no_root no_unroot)
 
   -- the pages of the root of a node are in the trees, so no `root` names its first page again
   first_is_taken : Proper heading → (pe : ℕ) (kind : Kind) (lock : Option ℕ) (page : ℕ) → Unbroken heading trust h (Root pe kind lock page)

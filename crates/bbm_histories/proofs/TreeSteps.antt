@@ -23,6 +23,7 @@ use Rattle.bbm_histories.specs.Values.{FreshContent, OddStays}
 use Rattle.bbm_histories.proofs.FreshLemmas.{content, fresh_is_outside, held_is_present}
 use Rattle.bbm_histories.proofs.HeldSteps.{held_back, held_valid, same_core, table_back}
 use Rattle.bbm_histories.proofs.Induction.{Unbroken}
+use Rattle.bbm_histories.proofs.RootLemmas.{declared_back, not_retired}
 
 -- a place that holds a table, and the page below it
 pub record Link (heading : Heading) (trust : Trust) (h : List Noted) (n : Node) (place next : ℕ) : Type 0 where
@@ -54,6 +55,10 @@ module _ (heading : Heading) (trust : Trust) (h : List Noted) where
   through_level [] n m t = let same : m.level ≡ n.level = ap (λ (x : Node). x.level) (sym t.1) in omega arith
   through_level (place ∷ places) n m t =
       let rest : m.level ≡ suc n.level + length places = through_level places (node_below n place t.2) m t.4 in omega arith
+
+  pub through_kind : (places : List ℕ) (n m : Node) → Through heading trust h n places m → m.kind ≡ n.kind
+  through_kind [] n m t = ap (λ (x : Node). x.kind) (sym t.1)
+  through_kind (place ∷ places) n m t = through_kind places (node_below n place t.2) m t.4
 
   pub through_fresh : (places : List ℕ) (n m : Node) → Through heading trust h n places m → is_fresh heading trust h m.page ≡ true
   through_fresh [] n m t = subst (λ (x : Node). is_fresh heading trust h x.page ≡ true) t.1 t.0
@@ -214,7 +219,7 @@ module _ (heading : Heading) (trust : Trust) (b : Below heading trust) (h : List
 
   module _ (pe at value : ℕ) (kept : Unbroken heading trust h (Write pe at value)) (odd : OddStays heading trust h)
       (one : OneNode heading trust h) where
-    write_attaches : (n : Node) (next : ℕ) → node_of heading trust h (page_of at) ≡ Some n → held_at heading trust h n at ≡ None
+    pub write_attaches : (n : Node) (next : ℕ) → node_of heading trust h (page_of at) ≡ Some n → held_at heading trust h n at ≡ None
         → next_of n.kind n.level value ≡ Some next
         → attached_by heading trust h (Write pe at value) ≡ Some (attached_from heading trust h n.kind (suc n.level) (next ∷ []))
     write_attaches n next node empty table = rw (node, empty, table) refl
@@ -294,11 +299,11 @@ module _ (heading : Heading) (trust : Trust) (b : Below heading trust) (h : List
 
   module _ (pe : ℕ) (kind : Kind) (lock : Option ℕ) (page : ℕ) (kept : Unbroken heading trust h (Root pe kind lock page))
       (odd : OddStays heading trust h) (one : OneNode heading trust h) where
-    abbrev planted : Declared
+    abbrev pub planted : Declared
     planted = record { page = page; kind = kind; lock = lock }
 
     -- the start node's kind and level are the root's
-    start_leads : (start : Node) (places : List ℕ) (end : End) → Contains (nodes_of_root heading planted) start
+    pub start_leads : (start : Node) (places : List ℕ) (end : End) → Contains (nodes_of_root heading planted) start
         → Leads heading trust h start.kind start.level start.page places end
         → Leads heading trust h kind (start_of heading.world kind) start.page places end
     start_leads start places end c l =
@@ -319,30 +324,18 @@ module _ (heading : Heading) (trust : Trust) (b : Below heading trust) (h : List
 
     old_or_planted : (r : Declared) → Contains (roots_of (Root pe kind lock page ∷ events_of h)) r
         → Contains (roots_of (events_of h)) r ⊎ (planted ≡ r)
-    old_or_planted r c = by (b.root_sound (Root pe kind lock page ∷ events_of h) r c)
-      where
-        by : IsDeclared (Root pe kind lock page ∷ events_of h) r → Contains (roots_of (events_of h)) r ⊎ (planted ≡ r)
-        by k = go k.newer refl k.split
-          where
-            go : (newer : List Event) → k.newer ≡ newer
-                → Root pe kind lock page ∷ events_of h ≡ newer ++ Root k.pe r.kind r.lock r.page ∷ k.older
-                → Contains (roots_of (events_of h)) r ⊎ (planted ≡ r)
-            go [] is split =
-                let first : Root pe kind lock page ≡ Root k.pe r.kind r.lock r.page = cc in
-                let a : page ≡ r.page = cc in
-                let c : kind ≡ r.kind = cc in
-                let d : lock ≡ r.lock = cc in
-                inr (ap (λ (x : ℕ). record { page = x; kind = kind; lock = lock }) a
-                ∙ (ap (λ (x : Kind). record { page = r.page; kind = x; lock = lock }) c
-                ∙ ap (λ (x : Option ℕ). record { page = r.page; kind = r.kind; lock = x }) d))
-            go (y ∷ newer) is split = inl (b.root_complete (events_of h) r (record {
-              pe = k.pe;
-              newer = newer;
-              older = k.older;
-              split = cc;
-              last = λ q c l after before i. k.last q c l (y ∷ after) before (is ∙ ap (λ (xs : List Event). y ∷ xs) i);
-              not_retired = λ q after before i. k.not_retired q (y ∷ after) before (is ∙ ap (λ (xs : List Event). y ∷ xs) i);
-            }))
+    old_or_planted r c =
+        elim (declared_back (Root pe kind lock page) (events_of h) r (b.root_sound (Root pe kind lock page ∷ events_of h) r c)) [
+          | inl old ↦ inl (b.root_complete (events_of h) r old)
+          | inr new ↦
+              let first : Root pe kind lock page ≡ Root new.0 r.kind r.lock r.page = new.1 in
+              let a : page ≡ r.page = cc in
+              let c : kind ≡ r.kind = cc in
+              let d : lock ≡ r.lock = cc in
+              inr (ap (λ (x : ℕ). record { page = x; kind = kind; lock = lock }) a
+              ∙ (ap (λ (x : Kind). record { page = r.page; kind = x; lock = lock }) c
+              ∙ ap (λ (x : Option ℕ). record { page = r.page; kind = r.kind; lock = x }) d))
+        ]
 
     no_write : (q place value : ℕ) → Root pe kind lock page ≡ Write q place value → ⊥
     no_write q place value is = cc
@@ -398,27 +391,15 @@ module _ (heading : Heading) (trust : Trust) (b : Below heading trust) (h : List
   -- the roots after an `unroot` are those before it but the retired one
   pub roots_after_unroot : (pe page : ℕ) (r : Declared) → Contains (roots_of (Unroot pe page ∷ events_of h)) r
       → Contains (roots_of (events_of h)) r × (r.page ≡ page → ⊥)
-  roots_after_unroot pe page r c = by (b.root_sound (Unroot pe page ∷ events_of h) r c)
+  roots_after_unroot pe page r c =
+      let k : IsDeclared (Unroot pe page ∷ events_of h) r = b.root_sound (Unroot pe page ∷ events_of h) r c in (
+        old (declared_back (Unroot pe page) (events_of h) r k),
+        λ same. not_retired (Unroot pe page) (events_of h) r k pe (ap (Unroot pe) (sym same)),
+      )
     where
-      by : IsDeclared (Unroot pe page ∷ events_of h) r → Contains (roots_of (events_of h)) r × (r.page ≡ page → ⊥)
-      by k = go k.newer refl k.split
-        where
-          go : (newer : List Event) → k.newer ≡ newer → Unroot pe page ∷ events_of h ≡ newer ++ Root k.pe r.kind r.lock r.page ∷ k.older
-              → Contains (roots_of (events_of h)) r × (r.page ≡ page → ⊥)
-          go [] is split = cc
-          go (y ∷ newer) is split =
-              let first : Unroot pe page ≡ y = cc in (
-                b.root_complete (events_of h) r (record {
-                  pe = k.pe;
-                  newer = newer;
-                  older = k.older;
-                  split = cc;
-                  last = λ q c l after before i. k.last q c l (y ∷ after) before (is ∙ ap (λ (xs : List Event). y ∷ xs) i);
-                  not_retired = λ q after before i. k.not_retired q (y ∷ after) before (is ∙ ap (λ (xs : List Event). y ∷ xs) i);
-                }),
-                λ same. k.not_retired pe [] newer
-                    (is ∙ ap (λ (x : Event). x ∷ newer) (sym first ∙ ap (Unroot pe) (sym same))),
-              )
+      old : IsDeclared (events_of h) r ⊎ ((q : ℕ) × (Unroot pe page ≡ Root q r.kind r.lock r.page)) → Contains (roots_of (events_of h)) r
+      old (inl d) = b.root_complete (events_of h) r d
+      old (inr new) = let apart : Unroot pe page ≡ Root new.0 r.kind r.lock r.page = new.1 in cc
 
   module _ (odd : OddStays heading trust h) (one : OneNode heading trust h) where
     -- a node after an event was there before, or the event attaches it
