@@ -1,5 +1,5 @@
 -- Two valid values don't need break-before-make exactly where they have the same core.
-use Rattle.std.proofs.Common.{◌≡◌, ℕ, ◌&&◌, not, Bool, true, false, ◌==◌, Option, Some, None, refl, sym, ◌∙◌, ap, subst, true≢false}
+use Rattle.std.proofs.Common.{◌≡◌, ℕ, ◌&&◌, not, Bool, true, false, ◌==◌, Option, Some, None, refl, sym, ◌∙◌, ap, true≢false}
 use Rattle.std.proofs.lemmas.Bool.{and_from, and_parts, eq-eqb, eqb-true, not-false}
 use Rattle.bbm_regimes.specs.declared.regime.Kind.{Kind}
 use Rattle.bbm_descriptor.specs.Descriptor.{Form, core_in, core_of, desc_as, differ, form_of, is_valid, needs, same_bool, same_core, valid_form}

@@ -1,5 +1,5 @@
 -- In a fresh page a value with bit 0 set stays, so what a place holds there is its present value.
-use Rattle.std.proofs.Common.{◌≡◌, ℕ, ◌%◌, ◌&&◌, ◌||◌, not, Bool, true, false, cond, ◌==◌, List, [], ◌∷◌, ◌++◌, Option, Some, None, refl, sym, ◌∙◌, ap, subst, inl, inr, true≢false}
+use Rattle.std.proofs.Common.{◌≡◌, ℕ, ◌%◌, ◌&&◌, ◌||◌, not, Bool, true, false, cond, ◌==◌, List, [], ◌∷◌, ◌++◌, Some, refl, sym, ◌∙◌, ap, subst, true≢false}
 use Rattle.std.proofs.lemmas.Bool.{and_parts, eq-eqb, eqb-true, not-true}
 use Rattle.bbm_regimes.specs.declared.regime.Kind.{Kind}
 use Rattle.bbm_descriptor.specs.Descriptor.{is_valid}
@@ -119,9 +119,11 @@ module _ (heading : Heading) (trust : Trust) where
         (no_init_of w.since (page_of place) l.no_init) (b.valid_is_odd kind level w.value l.valid) in
         let live = b.live_is_last kind level place h (subst (λ (x : ℕ). is_valid kind level x ≡ true) (sym present) l.valid) in
         let both : Some live.0 ≡ Some w = sym live.1 ∙ last in
-        let same : live.0 ≡ w = cc in
-        (present, λ p. subst (λ (x : ValidWrite). seen heading place p x.since ≡ false) same
-        (unseen heading trust b place p live.0.since live.3))
+        let same : live.0 ≡ w = cc in (
+          present,
+          λ p. subst (λ (x : ValidWrite). seen heading place p x.since ≡ false) same
+              (unseen heading trust b place p live.0.since live.3),
+        )
 
     -- what is held is the last valid write's
     pub holds_last : (kind : Kind) (level place : ℕ) (h : List Noted) (value : ℕ) → held heading trust kind level place h ≡ Some value

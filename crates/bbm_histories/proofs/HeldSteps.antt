@@ -1,16 +1,14 @@
 -- What one more event does to what a place holds.
-use Rattle.std.proofs.Common.{◌≡◌, ℕ, ◌<◌, ◌⊎◌, ◌&&◌, ◌||◌, Bool, true, false, cond, ◌==◌, List, [], ◌∷◌, ◌++◌, Option, Some, None, option_and_then, is_some, Contains, refl, sym, ◌∙◌, ap, subst, inl, inr, true≢false}
+use Rattle.std.proofs.Common.{◌≡◌, ℕ, ◌<◌, ◌⊎◌, ◌&&◌, ◌||◌, Bool, true, false, cond, ◌==◌, List, [], ◌∷◌, ◌++◌, Option, Some, None, option_and_then, refl, sym, ◌∙◌, ap, subst, inl, inr, true≢false}
 use Rattle.std.proofs.lemmas.Bool.{and_parts, eq-eqb, eqb-true, not-false, or_parts}
 use Rattle.bbm_barriers.specs.declared.Dsb.{Dsb as Barrier}
 use Rattle.bbm_regimes.specs.declared.regime.Kind.{Kind}
-use Rattle.bbm_tlbi_scope.specs.declared.entry.Cover.{Cover}
-use Rattle.bbm_tlbi_scope.specs.declared.entry.Cover.TheVariants.{Second, Full}
 use Rattle.bbm_descriptor.specs.Descriptor.{Form, core_in, desc_as, desc_of, differ, form_of, is_valid, needs, same_bool, valid_form}
 use Rattle.bbm_descriptor.specs.declared.desc.Desc.{Desc}
 use Rattle.bbm_descriptor.specs.declared.desc.Desc.TheVariants.{Invalid, Table, Leaf}
 use Rattle.bbm_events.specs.Heading.{Heading}
 use Rattle.bbm_events.specs.declared.event.Event.{Event}
-use Rattle.bbm_events.specs.declared.event.Event.TheVariants.{Init, Null, Root, Unroot, Write, Dsb, Dmb, Isb, Tlbi, Msr, Lock, Unlock}
+use Rattle.bbm_events.specs.declared.event.Event.TheVariants.{Init, Write, Dsb}
 use Rattle.bbm_rules.specs.declared.rule.Rule.TheVariants.{BreakBeforeMake, PageInUse}
 use Rattle.bbm_rules.specs.Claims.{Trust}
 use Rattle.bbm_rules.specs.Covers.{note}
@@ -18,10 +16,10 @@ use Rattle.bbm_rules.specs.Held.{held}
 use Rattle.bbm_rules.specs.Lists.{if_so}
 use Rattle.bbm_rules.specs.Notes.{Noted, events_of}
 use Rattle.bbm_rules.specs.Pages.{is_null}
-use Rattle.bbm_rules.specs.PatternSentences.{Answer, Cleansed, Flush, Holds}
+use Rattle.bbm_rules.specs.PatternSentences.{Answer, Cleansed, Holds}
 use Rattle.bbm_rules.specs.Places.{page_of}
 use Rattle.bbm_rules.specs.Reach.{Issued}
-use Rattle.bbm_rules.specs.Tree.{Node, held_at, in_tree, next_in, next_of, node_of, tree}
+use Rattle.bbm_rules.specs.Tree.{Node, held_at, in_tree, next_in, next_of, node_of}
 use Rattle.bbm_rules.specs.Values.{value_of}
 use Rattle.bbm_histories.specs.Below.{Below}
 use Rattle.bbm_histories.specs.Tree.{HeldChange}
@@ -262,12 +260,17 @@ module _ (heading : Heading) (trust : Trust) (b : Below heading trust) (h : List
           let same : at ≡ place = eqb-true at place c in
           let present : value_of (Write pe at value ∷ events_of h) place ≡ value
           = ap (λ (t : Bool). cond t value (value_of (events_of h) place)) c in
-          inr (inl (pe, value, ap (λ (y : ℕ). Write pe y value) same, v,
-          b.held_live n.kind n.level place (x ∷ h) pes (subst (λ (y : ℕ). is_valid n.kind n.level y ≡ true) (sym present) v)
-          ∙ ap Some present,
-          λ old holds. same_core heading trust h n pe at value old kept
-              (ap (λ (y : ℕ). node_of heading trust h (page_of y)) same ∙ node)
-              (ap (λ (y : ℕ). held_at heading trust h n y) same ∙ holds)))
+          inr (inl (
+            pe,
+            value,
+            ap (λ (y : ℕ). Write pe y value) same,
+            v,
+            b.held_live n.kind n.level place (x ∷ h) pes (subst (λ (y : ℕ). is_valid n.kind n.level y ≡ true) (sym present) v)
+                ∙ ap Some present,
+            λ old holds. same_core heading trust h n pe at value old kept
+                (ap (λ (y : ℕ). node_of heading trust h (page_of y)) same ∙ node)
+                (ap (λ (y : ℕ). held_at heading trust h n y) same ∙ holds),
+          ))
       by true false c v = inl (held_same heading trust b n.kind n.level place x h (record {
         no_write = λ q u is. let both : value ≡ u = cc in subst (λ (y : ℕ). is_valid n.kind n.level y ≡ false) both v;
         no_init = no_init;

@@ -1,10 +1,10 @@
 -- What holds throughout a history that keeps the rules.
-use Rattle.std.proofs.Common.{◌≡◌, true, List, [], refl, sym, true≢false, arith}
+use Rattle.std.proofs.Common.{◌≡◌, true, List, [], sym, true≢false, arith}
 use Rattle.bbm_events.specs.Heading.{Heading}
 use Rattle.bbm_events.specs.declared.event.Event.{Event}
 use Rattle.bbm_rules.specs.Broken.{keeps}
 use Rattle.bbm_rules.specs.Claims.{Trust}
-use Rattle.bbm_rules.specs.Covers.{note, noted}
+use Rattle.bbm_rules.specs.Covers.{noted}
 use Rattle.bbm_rules.specs.Notes.{Noted}
 use Rattle.bbm_rules.specs.Tree.{Node}
 use Rattle.bbm_rules.specs.TreeSentences.{IsNode}

@@ -13,3 +13,4 @@ pub mod WindowLemmas
 pub mod LeafLemmas
 pub mod RootLemmas
 pub mod TagLemmas
+pub mod ProperLemmas

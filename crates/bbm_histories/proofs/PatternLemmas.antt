@@ -4,14 +4,14 @@ use Rattle.std.proofs.lemmas.List.{append_assoc}
 use Rattle.bbm_regimes.specs.declared.regime.Kind.{Kind}
 use Rattle.bbm_descriptor.specs.Descriptor.{is_valid}
 use Rattle.bbm_events.specs.Heading.{Heading}
-use Rattle.bbm_events.specs.declared.event.Event.TheVariants.{Init, Write}
+use Rattle.bbm_events.specs.declared.event.Event.TheVariants.{Write}
 use Rattle.bbm_tlbi_scope.specs.declared.entry.Cover.{Cover}
 use Rattle.bbm_tlbi_scope.specs.declared.entry.Cover.TheVariants.{Half, Second, Full}
 use Rattle.bbm_rules.specs.Claims.{Trust}
 use Rattle.bbm_rules.specs.Cleansing.{seen}
 use Rattle.bbm_rules.specs.Held.{ValidWrite, last_valid}
 use Rattle.bbm_rules.specs.Notes.{Noted}
-use Rattle.bbm_rules.specs.PatternSentences.{Answer, Cleansed, Flush, HalfBy, IsLastValid, OneStep, Publication, TwoSteps}
+use Rattle.bbm_rules.specs.PatternSentences.{Answer, Cleansed, Flush, HalfBy, IsLastValid, Publication}
 use Rattle.bbm_rules.specs.Reach.{Issued}
 use Rattle.bbm_histories.specs.Below.{Below}
 use Rattle.bbm_histories.specs.Patterns.{Quiet}
@@ -119,9 +119,11 @@ pub cleansed_is_seen : (heading : Heading) (trust : Trust) (place p : ℕ) (sinc
     → Cleansed heading trust place p since → (b : Noted) × Publication heading place p since b
 cleansed_is_seen heading trust place p since (inl k) =
     (k.b, before_answer heading place p since k.t k.d k.b k.flush.answer k.published)
-cleansed_is_seen heading trust place p since (inr k) =
-    (k.b, before_answer heading place p since k.t2 k.d2 k.b k.second.answer
-    (before_answer heading place p k.t2.before k.t1 k.d1 k.b k.first.flush.answer k.first.published))
+cleansed_is_seen heading trust place p since (inr k) = (
+  k.b,
+  before_answer heading place p since k.t2 k.d2 k.b k.second.answer
+      (before_answer heading place p k.t2.before k.t1 k.d1 k.b k.first.flush.answer k.first.published),
+)
 
 -- ---- the last valid write
 

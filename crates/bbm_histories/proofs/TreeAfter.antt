@@ -1,11 +1,11 @@
 -- The trees after an event, exactly.
-use Rattle.std.proofs.Common.{◌≡◌, ℕ, zero, suc, ◌+◌, ◌<◌, ◌⊎◌, not, Bool, true, false, cond, ◌==◌, List, [], ◌∷◌, ◌++◌, length, Option, Some, None, is_some, Contains, slice_index_or, refl, sym, ◌∙◌, ap, subst, inl, inr, arith, true≢false, not-suc-le-zero, le_of_suc-le-suc, suc-le-suc, zero-le}
+use Rattle.std.proofs.Common.{◌≡◌, ℕ, zero, suc, ◌<◌, ◌⊎◌, not, Bool, true, false, cond, ◌==◌, List, [], ◌∷◌, length, Option, Some, None, is_some, Contains, slice_index_or, refl, sym, ◌∙◌, ap, subst, inl, inr, arith, true≢false, not-suc-le-zero, le_of_suc-le-suc, suc-le-suc, zero-le}
 use Rattle.std.proofs.lemmas.Bool.{eq-eqb, eqb-true, not-false}
 use Rattle.bbm_regimes.specs.declared.regime.Kind.{Kind}
 use Rattle.bbm_descriptor.specs.Descriptor.{Form, desc_as, form_of, is_valid, valid_form}
 use Rattle.bbm_events.specs.Heading.{Heading}
 use Rattle.bbm_events.specs.declared.event.Event.{Event}
-use Rattle.bbm_events.specs.declared.event.Event.TheVariants.{Init, Null, Root, Unroot, Write, Dsb, Dmb, Isb, Tlbi, Msr, Lock, Unlock}
+use Rattle.bbm_events.specs.declared.event.Event.TheVariants.{Root, Unroot, Write, Dsb}
 use Rattle.bbm_rules.specs.declared.rule.Rule.TheVariants.{PageInUse, WrongWorld}
 use Rattle.bbm_rules.specs.Claims.{Trust}
 use Rattle.bbm_rules.specs.Covers.{note}
@@ -13,18 +13,17 @@ use Rattle.bbm_rules.specs.Held.{held}
 use Rattle.bbm_rules.specs.Notes.{Noted, events_of}
 use Rattle.bbm_rules.specs.Pages.{is_fresh}
 use Rattle.bbm_rules.specs.Places.{page_of}
-use Rattle.bbm_rules.specs.Roots.{Declared, kind_in_world, page_count, root_pages, roots_of, start_of}
-use Rattle.bbm_rules.specs.Sentences.{IsDeclared}
-use Rattle.bbm_rules.specs.Tree.{Above, Node, held_at, in_tree, next_in, next_of, node_below, node_of, nodes_of_root, tree}
+use Rattle.bbm_rules.specs.Roots.{Declared, kind_in_world, roots_of, start_of}
+use Rattle.bbm_rules.specs.Tree.{Above, Node, held_at, in_tree, next_in, next_of, node_below, node_of}
 use Rattle.bbm_rules.specs.TreeSentences.{Down, IsNode}
 use Rattle.bbm_rules.specs.Values.{value_of}
 use Rattle.bbm_histories.specs.Below.{Below}
-use Rattle.bbm_histories.specs.Tree.{Attaches, HeldChange, InTree, InTreeAfter, InTreeAfterDsb, Linked, Planted, Proper, StillHeld, Through}
+use Rattle.bbm_histories.specs.Tree.{Attaches, InTree, InTreeAfter, InTreeAfterDsb, Linked, Planted, Proper, StillHeld, Through}
 use Rattle.bbm_histories.proofs.HeldSteps.{IsDsb, held_after_dsb, held_change, table_on}
 use Rattle.bbm_histories.proofs.Induction.{Unbroken, if_none}
 use Rattle.bbm_histories.proofs.Invariants.{Invariants}
 use Rattle.bbm_histories.proofs.RootLemmas.{declared_on}
-use Rattle.bbm_histories.proofs.TreeSteps.{Link, OneNode, added, is_tracked, link_in_tree, node_is, not_fresh_there, roots_after_unroot, start_below, start_in_tree}
+use Rattle.bbm_histories.proofs.TreeSteps.{Link, added, is_tracked, link_in_tree, node_is, not_fresh_there, roots_after_unroot, start_below, start_in_tree}
 
 -- ---- elements
 
@@ -92,9 +91,14 @@ module _ (heading : Heading) (trust : Trust) (b : Below heading trust) (h : List
   down_on on [] n m t d = d
   down_on on (place ∷ places) n m t d =
       let old : Link heading trust h n place d.3 = record { inside = d.0; value = d.1; holds = d.2; table = d.4 } in
-      let new : Link heading trust now n place d.3 = on n place d.3 t old in
-      (d.0, new.value, new.holds, d.3, new.table,
-      down_on on places (node_below n place d.3) m (link_in_tree heading trust b h n place d.3 t old) d.5)
+      let new : Link heading trust now n place d.3 = on n place d.3 t old in (
+        d.0,
+        new.value,
+        new.holds,
+        d.3,
+        new.table,
+        down_on on places (node_below n place d.3) m (link_in_tree heading trust b h n place d.3 t old) d.5,
+      )
 
   -- without a DSB each link stays
   link_on : Proper heading → (IsDsb e → ⊥) → (n : Node) (place next : ℕ) → InTree heading trust h n

@@ -1,25 +1,24 @@
 -- What one more event adds to the trees.
-use Rattle.std.proofs.Common.{◌≡◌, ℕ, zero, suc, ◌+◌, ◌<◌, ◌⊎◌, Bool, true, false, List, [], ◌∷◌, ◌++◌, length, Option, Some, None, is_some, Contains, refl, sym, ◌∙◌, ap, subst, inl, inr, arith, true≢false, suc-le-suc, zero-le}
+use Rattle.std.proofs.Common.{◌≡◌, ℕ, suc, ◌+◌, ◌<◌, ◌⊎◌, true, List, [], ◌∷◌, length, Option, Some, None, is_some, Contains, refl, sym, ◌∙◌, ap, subst, inl, inr, arith, true≢false, suc-le-suc, zero-le}
 use Rattle.bbm_regimes.specs.declared.regime.Kind.{Kind}
 use Rattle.bbm_events.specs.Heading.{Heading}
 use Rattle.bbm_events.specs.declared.event.Event.{Event}
-use Rattle.bbm_events.specs.declared.event.Event.TheVariants.{Init, Null, Root, Unroot, Write, Dsb, Dmb, Isb, Tlbi, Msr, Lock, Unlock}
+use Rattle.bbm_events.specs.declared.event.Event.TheVariants.{Root, Unroot, Write}
 use Rattle.bbm_rules.specs.declared.rule.Rule.TheVariants.{NotFresh, PageInUse}
 use Rattle.bbm_rules.specs.Attach.{End, attached_by, attached_from, end_at}
 use Rattle.bbm_rules.specs.Claims.{Trust}
 use Rattle.bbm_rules.specs.Covers.{note}
-use Rattle.bbm_rules.specs.Held.{held}
 use Rattle.bbm_rules.specs.Notes.{Noted, events_of}
 use Rattle.bbm_rules.specs.Pages.{is_fresh}
 use Rattle.bbm_rules.specs.Places.{page_of}
 use Rattle.bbm_rules.specs.Roots.{Declared, root_pages, roots_of, start_of}
 use Rattle.bbm_rules.specs.Sentences.{IsDeclared}
-use Rattle.bbm_rules.specs.Tree.{Node, held_at, in_tree, next_of, node_below, node_of, nodes_of_root, tree}
+use Rattle.bbm_rules.specs.Tree.{Node, held_at, in_tree, next_of, node_below, node_of, nodes_of_root}
 use Rattle.bbm_rules.specs.TreeSentences.{Down, IsNode, Leads}
 use Rattle.bbm_rules.specs.Values.{value_of}
 use Rattle.bbm_histories.specs.Below.{Below}
 use Rattle.bbm_histories.specs.Tree.{Attaches, InTree, Linked, Planted, Through}
-use Rattle.bbm_histories.specs.Values.{FreshContent, OddStays}
+use Rattle.bbm_histories.specs.Values.{OddStays}
 use Rattle.bbm_histories.proofs.FreshLemmas.{content, fresh_is_outside, held_is_present}
 use Rattle.bbm_histories.proofs.HeldSteps.{held_back, held_valid, same_core, table_back}
 use Rattle.bbm_histories.proofs.Induction.{Unbroken}
@@ -264,7 +263,7 @@ module _ (heading : Heading) (trust : Trust) (b : Below heading trust) (h : List
               places = places;
               through = through_back (Write pe at value) kept odd one
                   (λ q a v is fresh. not_fresh_there n (page_of a) i
-                      (inside ∙ ap page_of (same ∙ (let k : Write pe at value ≡ Write q a v = is in cc))) fresh)
+                  (inside ∙ ap page_of (same ∙ (let k : Write pe at value ≡ Write q a v = is in cc))) fresh)
                   places (node_below n at next) x (paths_after_write n next node empty table)
                   (subst (λ (y : ℕ). Down heading trust (note heading trust h (Write pe at value) ∷ h) (node_below n y next) places x) same d)
                   lower;
@@ -348,9 +347,9 @@ module _ (heading : Heading) (trust : Trust) (b : Below heading trust) (h : List
               (λ n place next i inside l places x d lower. no_write l.q place l.value l.is) k.places k.start m
               (start_in_tree k.root k.start old k.is_start
               (start_below heading trust (note heading trust h (Root pe kind lock page) ∷ h) m k)) k.down k.level) [
-            | inl there ↦ inl there
-            | inr none ↦ absurd none
-          ]
+                | inl there ↦ inl there
+                | inr none ↦ absurd none
+              ]
           | inr same ↦
               let c : Contains (nodes_of_root heading planted) k.start
               = subst (λ (x : Declared). Contains (nodes_of_root heading x) k.start) (sym same) k.is_start in

@@ -1,5 +1,5 @@
 -- Under `cnp` all PEs are alike.
-use Rattle.std.proofs.Common.{◌≡◌, ℕ, ◌<◌, Bool, true, false, ◌&&◌, ◌||◌, not, ◌==◌, nat_lt, List, ◌∷◌, ◌++◌, refl, sym, ◌∙◌, ap, subst, true≢false}
+use Rattle.std.proofs.Common.{◌≡◌, ℕ, ◌<◌, Bool, true, ◌&&◌, ◌||◌, not, ◌==◌, nat_lt, List, refl, sym, ◌∙◌, ap, true≢false}
 use Rattle.std.proofs.lemmas.Bool.{and_from, and_parts, lt-ltb}
 use Rattle.bbm_barriers.specs.declared.Dsb.{Dsb as Barrier}
 use Rattle.bbm_barriers.specs.declared.Domain.{Domain}

@@ -1,12 +1,12 @@
 -- What a PE can still read at a place of a tree has the core of what the place holds.
-use Rattle.std.proofs.Common.{◌≡◌, ℕ, zero, suc, ◌<◌, ◌%◌, ◌⊎◌, Bool, true, false, cond, ◌==◌, List, [], ◌∷◌, ◌++◌, Option, Some, None, Contains, refl, sym, ◌∙◌, ap, subst, inl, inr, true≢false, arith}
+use Rattle.std.proofs.Common.{◌≡◌, ℕ, ◌<◌, ◌%◌, ◌⊎◌, Bool, true, false, cond, ◌==◌, List, [], ◌∷◌, ◌++◌, Some, refl, sym, ◌∙◌, ap, subst, inl, inr, true≢false}
 use Rattle.std.proofs.lemmas.List.{append_assoc}
 use Rattle.std.proofs.lemmas.Bool.{eq-eqb, eqb-true}
 use Rattle.bbm_regimes.specs.declared.regime.Kind.{Kind}
-use Rattle.bbm_descriptor.specs.Descriptor.{core_of, is_valid, needs}
+use Rattle.bbm_descriptor.specs.Descriptor.{core_of, is_valid}
 use Rattle.bbm_events.specs.Heading.{Heading}
 use Rattle.bbm_events.specs.declared.event.Event.{Event}
-use Rattle.bbm_events.specs.declared.event.Event.TheVariants.{Init, Null, Root, Unroot, Write, Dsb, Dmb, Isb, Tlbi, Msr, Lock, Unlock}
+use Rattle.bbm_events.specs.declared.event.Event.TheVariants.{Init, Write}
 use Rattle.bbm_rules.specs.Broken.{keeps}
 use Rattle.bbm_rules.specs.Claims.{Trust}
 use Rattle.bbm_rules.specs.Cleansing.{seen}
@@ -17,14 +17,13 @@ use Rattle.bbm_rules.specs.Pages.{is_fresh}
 use Rattle.bbm_rules.specs.PatternSentences.{IsLastValid, Publication}
 use Rattle.bbm_rules.specs.Places.{page_of}
 use Rattle.bbm_rules.specs.Sentences.{Readable}
-use Rattle.bbm_rules.specs.Tree.{Node, held_at, in_tree}
+use Rattle.bbm_rules.specs.Tree.{Node, held_at}
 use Rattle.bbm_rules.specs.Values.{is_readable, published, value_of}
 use Rattle.bbm_histories.specs.Below.{Below}
 use Rattle.bbm_histories.specs.Patterns.{Quiet}
 use Rattle.bbm_histories.specs.Tree.{Attaches, InTree}
 use Rattle.bbm_histories.specs.Values.{MakesReadable, NoInit, OddStays, Window}
 use Rattle.bbm_histories.proofs.CoreLemmas.{core_same, needs_not}
-use Rattle.bbm_histories.proofs.FreshLemmas.{content}
 use Rattle.bbm_histories.proofs.HeldSteps.{init_outside, same_core}
 use Rattle.bbm_histories.proofs.Induction.{NotesSplit, Unbroken, events_append, notes_split, throughout}
 use Rattle.bbm_histories.proofs.Invariants.{Invariants, invariants, none_at_start}

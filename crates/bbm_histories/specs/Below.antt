@@ -1,19 +1,19 @@
 -- What the crate of the rules proves of its definitions, as one record, so that each proof here takes it as one hypothesis.
-use Rattle.std.specs.Prelude.{◌≡◌, ◌↔◌, ℕ, suc, ◌+◌, ◌%◌, ◌<◌, true, false, List, [], ◌∷◌, ◌++◌, length, Option, Some, None, Contains}
+use Rattle.std.specs.Prelude.{◌≡◌, ◌↔◌, ℕ, ◌+◌, ◌%◌, ◌<◌, true, false, List, [], ◌∷◌, ◌++◌, length, Option, Some, None, Contains}
 use Rattle.bbm_descriptor.specs.Descriptor.{desc_of, is_valid}
 use Rattle.bbm_rules.specs.Prelude.{Kind, Ttbr0, Reg, Tag, Heading, Event, Root, Unroot, Write, Msr}
 use Rattle.bbm_rules.specs.declared.rule.Rule.{Rule}
 use Rattle.bbm_rules.specs.Attach.{End, attached_by, attached_from}
 use Rattle.bbm_rules.specs.Broken.{breaks, keeps}
 use Rattle.bbm_rules.specs.Claims.{Trust}
-use Rattle.bbm_rules.specs.Cleansing.{cleansed, half, seen}
+use Rattle.bbm_rules.specs.Cleansing.{seen}
 use Rattle.bbm_rules.specs.Covers.{is_global, noted}
 use Rattle.bbm_rules.specs.Lists.{among}
 use Rattle.bbm_rules.specs.Registers.{base_of, register_values, same_reg}
 use Rattle.bbm_rules.specs.Held.{ValidWrite, held, last_valid}
 use Rattle.bbm_rules.specs.Notes.{Noted, events_of}
 use Rattle.bbm_rules.specs.Pages.{is_fresh}
-use Rattle.bbm_rules.specs.PatternSentences.{Cleansed, Holds, IsLastValid, Seen}
+use Rattle.bbm_rules.specs.PatternSentences.{Holds, IsLastValid, Seen}
 use Rattle.bbm_rules.specs.Places.{page_of}
 use Rattle.bbm_rules.specs.Roots.{Declared, is_root, kind_in_world, page_count, root_pages, roots_of, start_of}
 use Rattle.bbm_rules.specs.Rules.{global_user, no_root, not_fresh, page_in_use, root_in_use, tag_conflict}

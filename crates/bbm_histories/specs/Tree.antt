@@ -3,7 +3,6 @@ use Rattle.std.specs.Prelude.{◌≡◌, ℕ, ◌<◌, ◌⊎◌, true, false, L
 use Rattle.bbm_descriptor.specs.Descriptor.{desc_of, is_valid, needs}
 use Rattle.bbm_rules.specs.Prelude.{Kind, Ttbr0, Heading, Event, Root, Unroot, Write, Dsb, Barrier}
 use Rattle.bbm_rules.specs.Claims.{Trust}
-use Rattle.bbm_rules.specs.Cleansing.{seen}
 use Rattle.bbm_rules.specs.Covers.{is_global, note}
 use Rattle.bbm_rules.specs.Held.{ValidWrite, held, last_valid}
 use Rattle.bbm_rules.specs.Notes.{Noted, events_of}

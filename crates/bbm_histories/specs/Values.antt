@@ -1,8 +1,8 @@
 -- What is known of the values of places. A history is newest first, so in `newer ++ older` the events of `newer` came
 -- after those of `older`; an annotated history is split the same way.
 -- Source: project's own choice.
-use Rattle.std.specs.Prelude.{◌≡◌, ℕ, ◌%◌, ◌⊎◌, Bool, true, false, List, ◌∷◌, ◌++◌, Some}
-use Rattle.bbm_descriptor.specs.Descriptor.{is_valid, needs}
+use Rattle.std.specs.Prelude.{◌≡◌, ℕ, ◌%◌, ◌⊎◌, true, false, List, ◌∷◌, ◌++◌, Some}
+use Rattle.bbm_descriptor.specs.Descriptor.{needs}
 use Rattle.bbm_rules.specs.Prelude.{Kind, Heading, Event, Init, Write}
 use Rattle.bbm_rules.specs.Claims.{Trust}
 use Rattle.bbm_rules.specs.Cleansing.{seen}
@@ -11,7 +11,7 @@ use Rattle.bbm_rules.specs.Notes.{Noted, events_of}
 use Rattle.bbm_rules.specs.Pages.{is_fresh}
 use Rattle.bbm_rules.specs.Places.{page_of}
 use Rattle.bbm_rules.specs.Tree.{Node, held_at}
-use Rattle.bbm_rules.specs.Values.{is_readable, value_of}
+use Rattle.bbm_rules.specs.Values.{value_of}
 
 -- no event among these is an init of the page
 abbrev pub NoInit : ℕ → List Event → Type 0

@@ -1,9 +1,5 @@
 //! Laws of publications, answers and the patterns that cleanse.
 
-use bbm_rules::law_last_valid;
-
-use crate::below::below;
-
 ghost use Rattle.std.specs.Prelude.{◌≡◌, ℕ, ◌<◌, true, List, ◌++◌, Some};
 ghost use Rattle.bbm_tlbi_scope.specs.declared.entry.Cover.{Cover};
 ghost use Rattle.bbm_events.specs.Heading.{Heading};
@@ -14,6 +10,9 @@ ghost use Rattle.bbm_rules.specs.PatternSentences.{Cleansed, Flush, HalfBy, Publ
 ghost use Rattle.bbm_rules.specs.Reach.{Issued, reaches};
 ghost use Rattle.bbm_rules.specs.Values.{published};
 ghost use Rattle.bbm_histories.specs.Patterns.{LastStays};
+
+use crate::below::below;
+use bbm_rules::law_last_valid;
 
 /// While no event ends the last valid write of a place, it stays, and so does each pattern after it, with the positions
 /// of its events. The law is the contract.

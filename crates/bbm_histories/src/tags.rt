@@ -1,7 +1,5 @@
 //! Laws of tags: when they are readable, and which root holds them.
 
-use crate::below::below;
-
 ghost use Rattle.std.specs.Prelude.{◌≡◌, ℕ, true, List, ◌∷◌};
 ghost use Rattle.bbm_regimes.specs.declared.regime.Tag.{Tag};
 ghost use Rattle.bbm_events.specs.Heading.{Heading};
@@ -12,6 +10,8 @@ ghost use Rattle.bbm_rules.specs.Roots.{is_root};
 ghost use Rattle.bbm_rules.specs.Tags.{holds_tag};
 ghost use Rattle.bbm_histories.specs.Tree.{Proper};
 ghost use Rattle.bbm_histories.specs.Tags.{BecomesReadable, HeldBetween, StopsToBeReadable, kind_of_tag};
+
+use crate::below::below;
 
 /// In a history that keeps the rules, a tag becomes readable at a PE by a register write of the PE, and stops to be so by
 /// an ISB of it; at most one root holds it, and that is a declared root of its kind. In every history a root that holds a

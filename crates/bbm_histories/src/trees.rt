@@ -1,7 +1,5 @@
 //! Laws of the trees, and of what their places hold.
 
-use crate::below::below;
-
 ghost use Rattle.std.specs.Prelude.{◌≡◌, ℕ, ◌<◌, ◌⊎◌, ◌↔◌, true, false, List, ◌∷◌, ◌++◌, Some, None, Contains};
 ghost use Rattle.bbm_barriers.specs.declared.Dsb.{Dsb as Barrier};
 ghost use Rattle.bbm_regimes.specs.declared.regime.Kind.{Kind};
@@ -20,6 +18,8 @@ ghost use Rattle.bbm_rules.specs.Places.{page_of};
 ghost use Rattle.bbm_rules.specs.Tree.{Node, held_at, in_tree, node_of, tree};
 ghost use Rattle.bbm_rules.specs.Values.{value_of};
 ghost use Rattle.bbm_histories.specs.Tree.{Attaches, HeldBy, HeldChange, InTreeAfter, InTreeAfterDsb, NoGlobalLeaf, Proper, StaysChildless, View};
+
+use crate::below::below;
 
 /// In a history that keeps the rules, a page has at most one node in the trees: so it has one root, one kind, one level,
 /// one region and one place above it. The node that the definitions take for a page, the first, is that one. The

@@ -1,7 +1,5 @@
 //! Laws of the values of places.
 
-use crate::below::below;
-
 ghost use Rattle.std.specs.Prelude.{◌≡◌, ℕ, ◌<◌, true, List, ◌∷◌, ◌++◌, Contains};
 ghost use Rattle.bbm_descriptor.specs.Descriptor.{is_valid};
 ghost use Rattle.bbm_events.specs.Heading.{Heading};
@@ -16,6 +14,8 @@ ghost use Rattle.bbm_rules.specs.Reach.{Issued};
 ghost use Rattle.bbm_rules.specs.Tree.{Node, tree};
 ghost use Rattle.bbm_rules.specs.Values.{is_readable, published};
 ghost use Rattle.bbm_histories.specs.Values.{FreshContent, MakesReadable, OddStays, Window};
+
+use crate::below::below;
 
 /// In every history: what is published stays published, and by the same DSB; a TLBI that is answered stays answered by the
 /// same DSB; what a TLBI covers is fixed at its issue; and a value that isn't readable stays so until an event makes it

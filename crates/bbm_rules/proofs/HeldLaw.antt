@@ -375,13 +375,18 @@ pub live_is_last : (kind : Kind) (level place : ℕ) (h : List Noted)
     × (w.value ≡ value_of (events_of h) place) × ((q v : ℕ) (n : Noted) (after before : List Noted)
     → w.since ≡ after ++ n ∷ before → n.event ≡ Write q place v → ⊥)
 live_is_last kind level place h v =
-    let l : Live kind level place h = live kind level place h v in
-    (l.w, l.is, l.same, λ q u n after before split is.
-        true≢false (sym (ap (writes q place) is ∙ and_from (q == q) (place == place) (eq-eqb q q refl) (eq-eqb place place refl))
-        ∙ none_before (is_write q place) l.w.since (l.unwritten q) after n before split))
+    let l : Live kind level place h = live kind level place h v in (
+      l.w,
+      l.is,
+      l.same,
+      λ q u n after before split is.
+          true≢false (sym (ap (writes q place) is ∙ and_from (q == q) (place == place) (eq-eqb q q refl) (eq-eqb place place refl))
+          ∙ none_before (is_write q place) l.w.since (l.unwritten q) after n before split),
+    )
 
 pub valid_has_bit_0 : (kind : Kind) (level value : ℕ) → is_valid kind level value ≡ true → value % 2 ≡ 1
 valid_has_bit_0 kind level value v = eqb-true (value % 2) 1 (valid_is_odd kind level value v)
 
 pub ruleset laws = (held_sound, held_complete, valid_if_held, live_is_held)
+
 pub ruleset last_laws = (last_sound, live_is_last, valid_has_bit_0)

@@ -1,11 +1,10 @@
 -- A tag is readable exactly where the sentence says so; and what the rules on tags and roots say of a register write and
 -- of an `unroot`.
-use Rattle.std.proofs.Common.{◌≡◌, ℕ, zero, suc, ◌<◌, ◌&&◌, ◌||◌, not, Bool, true, false, ◌==◌, nat_lt, List, [], ◌∷◌, ◌++◌, length, Option, Some, None, is_none, option_and_then, Contains, filter, flat_map, map, refl, sym, ◌∙◌, ap, subst, inl, inr, true≢false, arith}
+use Rattle.std.proofs.Common.{◌≡◌, ℕ, zero, suc, ◌<◌, ◌&&◌, not, Bool, true, false, ◌==◌, nat_lt, List, [], ◌∷◌, length, Option, Some, None, is_none, option_and_then, Contains, filter, flat_map, map, refl, sym, ◌∙◌, ap, subst, inl, inr, true≢false, arith}
 use Rattle.std.proofs.lemmas.Bool.{and_from, and_parts, eq-eqb, eqb-true, lt-ltb, not_from_false, or_parts}
 use Rattle.bbm_regimes.specs.declared.regime.Reg.TheVariants as reg
 use Rattle.bbm_events.specs.Heading.{Heading}
 use Rattle.bbm_events.specs.declared.event.Event.TheVariants.{Msr, Unroot}
-use Rattle.bbm_tlbi_scope.specs.declared.entry.TagSet.TheVariants.{None as NoTag}
 use Rattle.bbm_rules.specs.Prelude.{AsidFrom, FromTtbr0, FromTtbr1, Reg, Ttbr0El2, VttbrEl2, Ttbr0El1, Ttbr1El1, Tag, El2Tag, Vmid, Asid, Ttbr1Tag, World, Hyp, Kernel, Event}
 use Rattle.bbm_rules.proofs.EqualityLaw.{same_number, tag_equal, tag_self}
 use Rattle.bbm_rules.proofs.HeldLemmas.{among_from}
@@ -14,7 +13,7 @@ use Rattle.bbm_rules.proofs.OpenLaw.{In, from_contains}
 use Rattle.bbm_rules.proofs.SearchLemmas.{any_finds, any_found, none_of}
 use Rattle.bbm_rules.proofs.TagSetLaw.{no_tag}
 use Rattle.bbm_rules.specs.Claims.{Trust, same_tag}
-use Rattle.bbm_rules.specs.Lists.{among, any, below, if_so, is_that, least, some_pe}
+use Rattle.bbm_rules.specs.Lists.{among, below, if_so, is_that, some_pe}
 use Rattle.bbm_rules.specs.Notes.{Noted, events_of}
 use Rattle.bbm_rules.specs.Registers.{base_of, kind_of_reg, register_values, tag_number}
 use Rattle.bbm_rules.specs.Roots.{Declared, is_root, root_at, roots_of}

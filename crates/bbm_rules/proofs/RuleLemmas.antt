@@ -1,6 +1,6 @@
 -- Each rule by itself.
 use Rattle.std.specs.Option.{option_map_or}
-use Rattle.std.proofs.Common.{◌≡◌, ℕ, Bool, true, false, List, [], ◌∷◌, ◌++◌, Option, Some, None, is_none, refl, sym, ◌∙◌, ap, subst, inl, inr, true≢false}
+use Rattle.std.proofs.Common.{◌≡◌, ℕ, true, List, [], ◌∷◌, ◌++◌, Option, Some, None, is_none, refl, sym, ◌∙◌, ap, subst, inl, inr, true≢false}
 use Rattle.std.proofs.lemmas.Bool.{and_from, and_parts}
 use Rattle.bbm_events.specs.Heading.{Heading}
 use Rattle.bbm_events.specs.declared.event.Event.{Event}

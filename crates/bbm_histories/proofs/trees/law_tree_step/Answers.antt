@@ -1,4 +1,4 @@
-use Rattle.std.proofs.Common.{◌≡◌, refl}
+use Rattle.std.proofs.Common.{refl}
 use Rattle.bbm_rules.specs.Covers.{noted}
 use Rattle.bbm_rules.specs.Prelude.{Dsb}
 use Rattle.bbm_histories.proofs.Induction.{last_kept}
