@@ -1,5 +1,5 @@
 -- What a place holds is what the sentence says, and a valid value that a place has is held.
-use Rattle.std.proofs.Common.{◌≡◌, ℕ, zero, suc, ◌<◌, ◌&&◌, Bool, true, false, cond, ◌==◌, List, [], ◌∷◌, ◌++◌, Option, Some, None, option_and_then, refl, sym, ◌∙◌, ap, subst, true≢false, arith}
+use Rattle.std.proofs.Common.{◌≡◌, ℕ, zero, suc, ◌<◌, ◌%◌, ◌&&◌, Bool, true, false, cond, ◌==◌, List, [], ◌∷◌, ◌++◌, Option, Some, None, option_and_then, refl, sym, ◌∙◌, ap, subst, true≢false, arith}
 use Rattle.std.proofs.lemmas.Bool.{and_from, and_parts, eq-eqb, eqb-true, or_from}
 use Rattle.bbm_regimes.specs.EveryPe.{every_pe}
 use Rattle.bbm_regimes.specs.declared.regime.Kind.{Kind}
@@ -10,13 +10,13 @@ use Rattle.bbm_events.specs.declared.event.Event.TheVariants.{Init, Write}
 use Rattle.bbm_rules.proofs.HeldLemmas.{Holding, Older, holding, older as older_of, valid_is_odd, uncleansed as left_held}
 use Rattle.bbm_rules.proofs.PatternLaw.{cleansed_complete, cleansed_sound, seen_sound}
 use Rattle.bbm_rules.proofs.Patterns.{cleansed_is_seen, is_write}
-use Rattle.bbm_rules.proofs.SearchLemmas.{some_finds, some_later}
+use Rattle.bbm_rules.proofs.SearchLemmas.{none_before, some_finds, some_later}
 use Rattle.bbm_rules.specs.Claims.{Trust}
-use Rattle.bbm_rules.specs.Cleansing.{cleansed, writes}
+use Rattle.bbm_rules.specs.Cleansing.{cleansed, seen, writes}
 use Rattle.bbm_rules.specs.Held.{ValidWrite, held, last_valid, last_valid_after, later}
 use Rattle.bbm_rules.specs.Lists.{some}
 use Rattle.bbm_rules.specs.Notes.{Noted, events_of}
-use Rattle.bbm_rules.specs.PatternSentences.{Holds, Publication, Seen}
+use Rattle.bbm_rules.specs.PatternSentences.{Holds, IsLastValid, Publication, Seen}
 use Rattle.bbm_rules.specs.Places.{page_of}
 use Rattle.bbm_rules.specs.Values.{value_of}
 
@@ -169,53 +169,38 @@ module _ (kind : Kind) (level place : ℕ) where
           by_page false other = refl
       by e change = refl
 
--- ---- what is held
+-- the last valid write is what the sentence says
+pub last_sound : (kind : Kind) (level place : ℕ) (h : List Noted) (w : ValidWrite) → last_valid kind level place h ≡ Some w
+    → IsLastValid kind level place h w
+last_sound kind level place h w e =
+    let l : LastWrite kind level place h w = last_found kind level place h w e in
+    record {
+      pe = l.pe;
+      write = l.write;
+      older = l.older;
+      split = l.split;
+      wrote = l.wrote;
+      valid = l.valid;
+      last = λ q v n after before i is. not_valid v (is_valid kind level v) refl
+          (λ valid. true≢false (sym (ap (ends kind level place) is ∙ ends_write kind level place q v valid) ∙ l.quiet n after before i));
+      no_init = λ q n after before i is.
+          true≢false (sym (ap (ends kind level place) is ∙ ends_init kind level place q) ∙ l.quiet n after before i);
+    }
+  where
+    not_valid : (v : ℕ) (b : Bool) → is_valid kind level v ≡ b → (is_valid kind level v ≡ true → ⊥) → b ≡ false
+    not_valid v true is never = absurd (never is)
+    not_valid v false is never = refl
 
-module _ (heading : Heading) (trust : Trust) (kind : Kind) (level place : ℕ) where
-  pub held_sound : (h : List Noted) (value : ℕ) → held heading trust kind level place h ≡ Some value
-      → Holds heading trust kind level place h value
-  held_sound h value e =
-      let k : Holding heading trust place (last_valid kind level place h) value
-      = holding heading trust place (last_valid kind level place h) value e in
-      let l : LastWrite kind level place h k.write = last_found kind level place h k.write k.is in
-      let p = uncleansed_at heading.pes (λ (p : ℕ). cleansed heading trust place p k.write.since) k.still in
-      subst (λ (x : ℕ). Holds heading trust kind level place h x) k.same (record {
-        pe = l.pe;
-        write = l.write;
-        newer = k.write.since;
-        older = l.older;
-        split = l.split;
-        wrote = l.wrote;
-        valid = l.valid;
-        last = λ q v n after before i is. not_valid v (is_valid kind level v) refl
-            (λ valid. true≢false (sym (ap (ends kind level place) is ∙ ends_write kind level place q v valid) ∙ l.quiet n after before i));
-        no_init = λ q n after before i is.
-            true≢false (sym (ap (ends kind level place) is ∙ ends_init kind level place q) ∙ l.quiet n after before i);
-        p = p.0;
-        is_pe = p.1;
-        uncleansed = λ c. true≢false (sym (cleansed_complete heading trust place p.0 k.write.since c) ∙ p.2);
-      })
-    where
-      not_valid : (v : ℕ) (b : Bool) → is_valid kind level v ≡ b → (is_valid kind level v ≡ true → ⊥) → b ≡ false
-      not_valid v true is never = absurd (never is)
-      not_valid v false is never = refl
+pub last_complete : (kind : Kind) (level place : ℕ) (h : List Noted) (w : ValidWrite) → IsLastValid kind level place h w
+    → last_valid kind level place h ≡ Some w
+last_complete kind level place h w k =
+    ap (last_valid kind level place) k.split
+    ∙ last_finds kind level place w.since k.older k.write k.pe w.value k.wrote k.valid
+    (quiet_by kind level place w.since k.last k.no_init)
 
-  pub held_complete : (h : List Noted) (value : ℕ) → Holds heading trust kind level place h value
-      → held heading trust kind level place h ≡ Some value
-  held_complete h value k =
-      ap (held heading trust kind level place) k.split
-      ∙ (ap (option_and_then (left_held heading trust place)) (last_finds kind level place k.newer k.older k.write k.pe value k.wrote k.valid
-      (quiet_by kind level place k.newer k.last k.no_init))
-      ∙ ap (λ (b : Bool). cond b None (Some value))
-      (not_everywhere heading.pes k.p (λ (p : ℕ). cleansed heading trust place p k.newer) k.is_pe
-      (by (cleansed heading trust place k.p k.newer) refl)))
-    where
-      by : (b : Bool) → cleansed heading trust place k.p k.newer ≡ b → b ≡ false
-      by true c = absurd (k.uncleansed (cleansed_sound heading trust place k.p k.newer c))
-      by false c = refl
+-- ---- a live value
 
-  -- ---- a live value
-
+module _ (kind : Kind) (level place : ℕ) where
   record LiveAfter (e : Event) (n : Noted) (found : Option ValidWrite) (present : ℕ) : Type 0 where
     w : ValidWrite
     is : last_valid_after kind level place e n found ≡ Some w
@@ -293,34 +278,90 @@ module _ (heading : Heading) (trust : Trust) (kind : Kind) (level place : ℕ) w
       = live_after n.event n h refl (live h) v in
       record { w = l.w; is = l.is; same = l.same; unwritten = l.unwritten }
 
-  -- where there was no write, nothing is seen
-  unseen : (since : List Noted) (p : ℕ) → ((q : ℕ) → some (is_write q place) since ≡ false) → cleansed heading trust place p since ≡ false
-  unseen since p none = by (cleansed heading trust place p since) refl
+-- where there was no write, nothing is seen
+never_seen : (heading : Heading) (place p : ℕ) (since : List Noted) → ((q : ℕ) → some (is_write q place) since ≡ false)
+    → seen heading place p since ≡ false
+never_seen heading place p since none = by (seen heading place p since) refl
+  where
+    by : (b : Bool) → seen heading place p since ≡ b → b ≡ false
+    by false c = refl
+    by true c =
+        let s : Seen heading place p since = seen_sound heading place p since c in
+        let k : Publication heading place p since s.0 = s.1 in
+        absurd (true≢false (sym (subst (λ (xs : List Noted). some (is_write k.q place) xs ≡ true) (sym k.split)
+        (some_later (is_write k.q place) k.newer (s.0 ∷ (k.between ++ k.write ∷ k.older))
+        (some_later (is_write k.q place) (s.0 ∷ []) (k.between ++ k.write ∷ k.older)
+        (some_finds (is_write k.q place) (k.between ++ k.write ∷ k.older) (record {
+          newer = k.between;
+          item = k.write;
+          older = k.older;
+          split = refl;
+          passed = ap (writes k.q place) k.wrote
+              ∙ and_from (k.q == k.q) (place == place) (eq-eqb k.q k.q refl) (eq-eqb place place refl);
+        }))))) ∙ none k.q))
+
+-- ---- what is held
+
+module _ (heading : Heading) (trust : Trust) (kind : Kind) (level place : ℕ) where
+  pub held_sound : (h : List Noted) (value : ℕ) → held heading trust kind level place h ≡ Some value
+      → Holds heading trust kind level place h value
+  held_sound h value e =
+      let k : Holding heading trust place (last_valid kind level place h) value
+      = holding heading trust place (last_valid kind level place h) value e in
+      let l : IsLastValid kind level place h k.write = last_sound kind level place h k.write k.is in
+      let p = uncleansed_at heading.pes (λ (p : ℕ). cleansed heading trust place p k.write.since) k.still in
+      subst (λ (x : ℕ). Holds heading trust kind level place h x) k.same (record {
+        pe = l.pe;
+        write = l.write;
+        newer = k.write.since;
+        older = l.older;
+        split = l.split;
+        wrote = l.wrote;
+        valid = l.valid;
+        last = l.last;
+        no_init = l.no_init;
+        p = p.0;
+        is_pe = p.1;
+        uncleansed = λ c. true≢false (sym (cleansed_complete heading trust place p.0 k.write.since c) ∙ p.2);
+      })
+
+  pub held_complete : (h : List Noted) (value : ℕ) → Holds heading trust kind level place h value
+      → held heading trust kind level place h ≡ Some value
+  held_complete h value k =
+      ap (option_and_then (left_held heading trust place)) (last_complete kind level place h (record { value = value; since = k.newer })
+      (record {
+        pe = k.pe;
+        write = k.write;
+        older = k.older;
+        split = k.split;
+        wrote = k.wrote;
+        valid = k.valid;
+        last = k.last;
+        no_init = k.no_init;
+      }))
+      ∙ ap (λ (b : Bool). cond b None (Some value))
+      (not_everywhere heading.pes k.p (λ (p : ℕ). cleansed heading trust place p k.newer) k.is_pe
+      (by (cleansed heading trust place k.p k.newer) refl))
+    where
+      by : (b : Bool) → cleansed heading trust place k.p k.newer ≡ b → b ≡ false
+      by true c = absurd (k.uncleansed (cleansed_sound heading trust place k.p k.newer c))
+      by false c = refl
+
+  -- where there was no write, nothing is cleansed
+  uncleansed : (since : List Noted) (p : ℕ) → ((q : ℕ) → some (is_write q place) since ≡ false) → cleansed heading trust place p since ≡ false
+  uncleansed since p none = by (cleansed heading trust place p since) refl
     where
       by : (b : Bool) → cleansed heading trust place p since ≡ b → b ≡ false
       by false c = refl
-      by true c =
-          let s : Seen heading place p since = seen_sound heading place p since (cleansed_is_seen heading trust place p since c) in
-          let k : Publication heading place p since s.0 = s.1 in
-          absurd (true≢false (sym (subst (λ (xs : List Noted). some (is_write k.q place) xs ≡ true) (sym k.split)
-          (some_later (is_write k.q place) k.newer (s.0 ∷ (k.between ++ k.write ∷ k.older))
-          (some_later (is_write k.q place) (s.0 ∷ []) (k.between ++ k.write ∷ k.older)
-          (some_finds (is_write k.q place) (k.between ++ k.write ∷ k.older) (record {
-            newer = k.between;
-            item = k.write;
-            older = k.older;
-            split = refl;
-            passed = ap (writes k.q place) k.wrote
-                ∙ and_from (k.q == k.q) (place == place) (eq-eqb k.q k.q refl) (eq-eqb place place refl);
-          }))))) ∙ none k.q))
+      by true c = absurd (true≢false (sym (cleansed_is_seen heading trust place p since c) ∙ never_seen heading place p since none))
 
   pub live_is_held : (h : List Noted) → 0 < heading.pes → is_valid kind level (value_of (events_of h) place) ≡ true
       → held heading trust kind level place h ≡ Some (value_of (events_of h) place)
   live_is_held h some_pes v =
-      let l : Live h = live h v in
+      let l : Live kind level place h = live kind level place h v in
       ap (option_and_then (left_held heading trust place)) l.is
       ∙ (ap (λ (b : Bool). cond b None (Some l.w.value))
-      (not_everywhere heading.pes 0 (λ (p : ℕ). cleansed heading trust place p l.w.since) some_pes (unseen l.w.since 0 l.unwritten))
+      (not_everywhere heading.pes 0 (λ (p : ℕ). cleansed heading trust place p l.w.since) some_pes (uncleansed l.w.since 0 l.unwritten))
       ∙ ap Some l.same)
 
 pub valid_if_held : (heading : Heading) (trust : Trust) (kind : Kind) (level place : ℕ) (h : List Noted) (value : ℕ)
@@ -328,4 +369,24 @@ pub valid_if_held : (heading : Heading) (trust : Trust) (kind : Kind) (level pla
 valid_if_held heading trust kind level place h value e =
     let k : Holds heading trust kind level place h value = held_sound heading trust kind level place h value e in k.valid
 
+-- The last valid write of a live place is its last write.
+pub live_is_last : (kind : Kind) (level place : ℕ) (h : List Noted)
+    → is_valid kind level (value_of (events_of h) place) ≡ true → (w : ValidWrite) × (last_valid kind level place h ≡ Some w)
+    × (w.value ≡ value_of (events_of h) place) × ((q v : ℕ) (n : Noted) (after before : List Noted)
+    → w.since ≡ after ++ n ∷ before → n.event ≡ Write q place v → ⊥)
+live_is_last kind level place h v =
+    let l : Live kind level place h = live kind level place h v in (
+      l.w,
+      l.is,
+      l.same,
+      λ q u n after before split is.
+          true≢false (sym (ap (writes q place) is ∙ and_from (q == q) (place == place) (eq-eqb q q refl) (eq-eqb place place refl))
+          ∙ none_before (is_write q place) l.w.since (l.unwritten q) after n before split),
+    )
+
+pub valid_has_bit_0 : (kind : Kind) (level value : ℕ) → is_valid kind level value ≡ true → value % 2 ≡ 1
+valid_has_bit_0 kind level value v = eqb-true (value % 2) 1 (valid_is_odd kind level value v)
+
 pub ruleset laws = (held_sound, held_complete, valid_if_held, live_is_held)
+
+pub ruleset last_laws = (last_sound, live_is_last, valid_has_bit_0)

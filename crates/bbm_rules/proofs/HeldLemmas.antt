@@ -81,7 +81,7 @@ last_is_valid kind level place (n ∷ h) w e =
     ]
 
 -- its place was written
-among_from : (n : ℕ) (ms : List ℕ) → among n ms ≡ true → In ms n
+pub among_from : (n : ℕ) (ms : List ℕ) → among n ms ≡ true → In ms n
 among_from n [] e = absurd (true≢false (sym e))
 among_from n (m ∷ ms) e =
     elim (or_cases (m == n) (among n ms) e) [ inl same ↦ inl (eqb-true m n same) | inr there ↦ inr (among_from n ms there) ]

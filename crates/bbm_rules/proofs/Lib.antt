@@ -31,6 +31,7 @@ pub mod TagSetLaw
 pub mod ChangesLaw
 pub mod RegisterLaw
 pub mod RootLaw
+pub mod RootPages
 pub mod TagLaw
 pub mod NotesLaw
 pub mod Patterns
@@ -39,10 +40,8 @@ pub mod ListLemmas
 pub mod RuleLemmas
 pub mod HeldLemmas
 pub mod HeldLaw
-pub mod FreshLemmas
 pub mod TreeLemmas
-pub mod PathLemmas
-pub mod GrowthLemmas
 pub mod TreeLaw
-pub mod OneNodeLaw
+pub mod AttachLaw
 pub mod VersionLaw
+pub mod ReadsLaw

@@ -1,13 +1,13 @@
 -- The roots of a history are those that the sentence names, and a page has one at most.
-use Rattle.std.proofs.Common.{◌≡◌, ℕ, Bool, true, false, cond, not, ◌==◌, List, [], ◌∷◌, ◌++◌, Option, Some, Contains, find, refl, sym, ◌∙◌, ap, subst, inl, inr, true≢false}
-use Rattle.std.proofs.lemmas.Bool.{eqb-true, false_from_ne_true, not-true, not_from_false, or_from, or_parts}
+use Rattle.std.proofs.Common.{◌≡◌, ℕ, Bool, true, false, cond, not, ◌&&◌, ◌==◌, List, [], ◌∷◌, ◌++◌, Option, Some, Contains, find, refl, sym, ◌∙◌, ap, subst, inl, inr, true≢false}
+use Rattle.std.proofs.lemmas.Bool.{and_from, and_parts, eqb-true, false_from_ne_true, not-true, not_from_false, or_from, or_parts}
 use Rattle.bbm_rules.specs.Prelude.{Kind, Event, Root, Unroot}
-use Rattle.bbm_rules.proofs.EqualityLaw.{same_number}
+use Rattle.bbm_rules.proofs.EqualityLaw.{kind_equal, kind_self, same_number}
 use Rattle.bbm_rules.proofs.ListLemmas.{found, from_filter, to_filter}
 use Rattle.bbm_rules.proofs.OpenLaw.{In, from_contains, to_contains}
-use Rattle.bbm_rules.proofs.SearchLemmas.{is_none_at, none_at}
+use Rattle.bbm_rules.proofs.SearchLemmas.{any_finds, any_found, is_none_at, none_at}
 use Rattle.bbm_rules.specs.Lists.{any}
-use Rattle.bbm_rules.specs.Roots.{Declared, is_at, retired, root_at, roots_of}
+use Rattle.bbm_rules.specs.Roots.{Declared, is_at, is_root, retired, root_at, roots_of, same_kind}
 use Rattle.bbm_rules.specs.Sentences.{IsDeclared}
 
 pub kept_page : (page : ℕ) (rs : List Declared) (r : Declared) → In (retired page rs) r → In rs r × ((r.page == page) ≡ false)
@@ -157,5 +157,18 @@ pub root_of_page : (h : List Event) (page : ℕ) (r : Declared) → root_at h pa
 root_of_page h page r e =
     let f = found (is_at page) (roots_of h) r e in
     (root_sound h r (to_contains (roots_of h) r f.0), eqb-true r.page page f.1)
+
+pub root_of_kind : (h : List Event) (kind : Kind) (page : ℕ) → is_root h kind page ≡ true
+    → (r : Declared) × IsDeclared h r × (r.page ≡ page) × (r.kind ≡ kind)
+root_of_kind h kind page k =
+    let f = any_found (λ (r : Declared). is_at page r && same_kind r.kind kind) (roots_of h) k in
+    let parts = and_parts (is_at page f.0) (same_kind f.0.kind kind) f.2 in
+    (f.0, root_sound h f.0 (to_contains (roots_of h) f.0 f.1), eqb-true f.0.page page parts.0, kind_equal f.0.kind kind parts.1)
+
+pub is_root_of_kind : (h : List Event) (r : Declared) → IsDeclared h r → is_root h r.kind r.page ≡ true
+is_root_of_kind h r d =
+    any_finds (λ (s : Declared). is_at r.page s && same_kind s.kind r.kind) (roots_of h) r
+    (from_contains (roots_of h) r (root_complete h r d))
+    (and_from (is_at r.page r) (same_kind r.kind r.kind) (same_number r.page) (kind_self r.kind))
 
 pub ruleset laws = (root_sound, root_complete, root_found, root_of_page)

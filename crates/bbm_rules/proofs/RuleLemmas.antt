@@ -1,6 +1,6 @@
--- Each rule by itself, and the induction over a history that keeps the rules.
+-- Each rule by itself.
 use Rattle.std.specs.Option.{option_map_or}
-use Rattle.std.proofs.Common.{◌≡◌, ℕ, Bool, true, false, List, [], ◌∷◌, ◌++◌, Option, Some, None, is_none, refl, sym, ◌∙◌, ap, subst, inl, inr, true≢false}
+use Rattle.std.proofs.Common.{◌≡◌, ℕ, true, List, [], ◌∷◌, ◌++◌, Option, Some, None, is_none, refl, sym, ◌∙◌, ap, subst, inl, inr, true≢false}
 use Rattle.std.proofs.lemmas.Bool.{and_from, and_parts}
 use Rattle.bbm_events.specs.Heading.{Heading}
 use Rattle.bbm_events.specs.declared.event.Event.{Event}
@@ -9,13 +9,8 @@ use Rattle.bbm_rules.specs.declared.rule.Rule.{Rule}
 use Rattle.bbm_rules.specs.declared.rule.Rule.TheVariants.{WrongWorld, NoLock, NullWritten, BreakBeforeMake, LimboMake, NotFresh, RewrittenFresh, BadKind, GlobalUser, PageInUse, NoRoot, TagConflict, RootInUse, UnsyncedVmid, BadOperand, LockBusy, LockNotMine}
 use Rattle.bbm_rules.specs.Broken.{Breach, breaks, broken, first_broken, keeps, rules}
 use Rattle.bbm_rules.specs.Claims.{Trust}
-use Rattle.bbm_rules.specs.Covers.{note, noted}
-use Rattle.bbm_rules.specs.Lists.{if_so}
+use Rattle.bbm_rules.specs.Covers.{noted}
 use Rattle.bbm_rules.specs.Notes.{Noted}
-
-pub if_none : (b : Bool) (n : ℕ) → if_so b n ≡ None → b ≡ false
-if_none true n e = cc
-if_none false n e = refl
 
 listed : (r : Rule) → In rules r
 listed WrongWorld = inl refl
@@ -80,15 +75,6 @@ module _ (heading : Heading) (trust : Trust) where
   last_kept h e k =
       let parts = and_parts (keeps heading trust h) (is_none (broken heading trust h e)) k in
       (parts.0, unbroken_by h e (none_from (broken heading trust h e) parts.1))
-
-  -- What holds at the start, and after each event that breaks no rule, holds of a history that keeps the rules.
-  pub throughout : (P : List Noted → Type 0) → P []
-      → ((h : List Event) (e : Event) → keeps heading trust h ≡ true → Unbroken (noted heading trust h) e
-      → P (noted heading trust h) → P (note heading trust (noted heading trust h) e ∷ noted heading trust h))
-      → (h : List Event) → keeps heading trust h ≡ true → P (noted heading trust h)
-  throughout P start step [] k = start
-  throughout P start step (e ∷ h) k =
-      let parts = last_kept h e k in step h e parts.0 parts.1 (throughout P start step h parts.0)
 
   pub each_unbroken : (h newer older : List Event) (e : Event) → keeps heading trust h ≡ true → h ≡ newer ++ e ∷ older
       → Unbroken (noted heading trust older) e

@@ -3,17 +3,16 @@ use Rattle.std.specs.Option.{option_map_or}
 use Rattle.std.proofs.Common.{◌≡◌, ℕ, zero, suc, ◌<◌, ◌≤◌, not, Bool, true, false, cond, ◌==◌, List, [], ◌∷◌, ◌++◌, length, Option, Some, None, is_some, Contains, flat_map, filter_map, refl, sym, ◌∙◌, ap, subst, inl, inr, true≢false, arith}
 use Rattle.std.proofs.lemmas.Bool.{and_from, and_parts, eq-eqb, eqb-true, or_cases, or_left, or_right, not-true, not_from_false}
 use Rattle.bbm_regimes.specs.declared.regime.Kind.{Kind}
-use Rattle.bbm_descriptor.specs.Descriptor.{is_valid}
+use Rattle.bbm_descriptor.specs.Descriptor.{Form, desc_as, is_valid}
+use Rattle.bbm_descriptor.specs.Fields.{type_bits}
 use Rattle.bbm_events.specs.Heading.{Heading}
 use Rattle.bbm_events.specs.declared.event.Event.{Event}
 use Rattle.bbm_events.specs.declared.event.Event.TheVariants.{Init, Null, Write}
-use Rattle.bbm_rules.proofs.GrowthLemmas.{InTree, from_tree, to_tree}
 use Rattle.bbm_rules.proofs.HeldLemmas.{held_is_written, written_here, written_stays}
 use Rattle.bbm_rules.proofs.ListLemmas.{from_filter, from_filter_map, from_flat, to_filter, to_filter_map, to_flat}
 use Rattle.bbm_rules.proofs.OpenLaw.{In, from_contains, to_contains}
-use Rattle.bbm_rules.proofs.PathLemmas.{below_fresh, ends_from}
 use Rattle.bbm_rules.proofs.SearchLemmas.{any_finds, any_found, is_none_of, none_of}
-use Rattle.bbm_rules.proofs.TreeLemmas.{Child, Rooted, at_level, at_start, child_at_level, level_is, root_at_level}
+use Rattle.bbm_rules.proofs.TreeLemmas.{Child, InTree, Rooted, at_level, at_start, child_at_level, from_tree, has_node, level_is, node_found, root_at_level, to_tree}
 use Rattle.bbm_rules.specs.Attach.{End, end_at, ends_below}
 use Rattle.bbm_rules.specs.Claims.{Trust}
 use Rattle.bbm_rules.specs.Held.{held}
@@ -22,7 +21,7 @@ use Rattle.bbm_rules.specs.Notes.{Noted, events_of}
 use Rattle.bbm_rules.specs.Pages.{is_fresh, may_be_fresh}
 use Rattle.bbm_rules.specs.Places.{page_of}
 use Rattle.bbm_rules.specs.Roots.{roots_of, start_of}
-use Rattle.bbm_rules.specs.Tree.{Node, holds_some, in_limbo, in_tree, is_childless, next_of, node_below, nodes_at, nodes_of_root, tree, Above}
+use Rattle.bbm_rules.specs.Tree.{Node, held_at, holds_some, in_limbo, in_tree, is_childless, next_in, next_of, node_below, node_of, nodes_at, nodes_of_root, tree, Above}
 use Rattle.bbm_rules.specs.TreeSentences.{Childless, Down, InLimbo, IsFresh, IsNode, Leads}
 use Rattle.bbm_rules.specs.Values.{places_in, value_of, written_places}
 
@@ -126,6 +125,51 @@ module _ (heading : Heading) (trust : Trust) (h : List Noted) where
         there = r.1;
       }))
 
+  -- ---- the page below a place, and the node that is taken for a page
+
+  -- a table stands above level 3
+  table_level : (kind : Kind) (level value next : ℕ) → next_of kind level value ≡ Some next → level < 3
+  table_level kind zero value next e = omega arith
+  table_level kind (suc zero) value next e = omega arith
+  table_level kind (suc (suc zero)) value next e = omega arith
+  table_level kind (suc (suc (suc level))) value next e = absurd (by (type_bits value == 3) (type_bits value == 1) e)
+    where
+      by : (b c : Bool) → next_in (desc_as (cond b Form.leaf (cond c Form.invalid Form.invalid)) kind (suc (suc (suc level))) value) ≡ Some next → ⊥
+      by true c e = cc
+      by false true e = cc
+      by false false e = cc
+
+  pub tree_below : (n : Node) (place value next : ℕ) → Contains (tree heading trust h) n → page_of place ≡ n.page
+      → held_at heading trust h n place ≡ Some value → next_of n.kind n.level value ≡ Some next
+      → Contains (tree heading trust h) (node_below n place next)
+  tree_below n place value next c inside holds link =
+      let t : InTree heading trust h n = from_tree heading trust h n (from_contains (tree heading trust h) n c) in
+      let same : n.level ≡ t.level = level_is heading trust h t.level n t.there in
+      let above : n.level < 3 = table_level n.kind n.level value next link in
+      to_contains (tree heading trust h) (node_below n place next) (to_tree heading trust h (node_below n place next) (record {
+        level = suc t.level;
+        below = omega arith;
+        there = child_at_level heading trust h t.level n (node_below n place next) t.there (record {
+          place = place;
+          value = value;
+          inside = inside;
+          holds = holds;
+          next = link;
+          made = refl;
+          kind = refl;
+          level = refl;
+        });
+      }))
+
+  pub node_taken : (page : ℕ) (n : Node) → node_of heading trust h page ≡ Some n
+      → Contains (tree heading trust h) n × (n.page ≡ page)
+  node_taken page n e =
+      let r = node_found heading trust h n page e in
+      (to_contains (tree heading trust h) n (to_tree heading trust h n r.0), r.1)
+
+  pub tree_has : (n : Node) → Contains (tree heading trust h) n → in_tree heading trust h n.page ≡ true
+  tree_has n c = has_node heading trust h n n.page (from_tree heading trust h n (from_contains (tree heading trust h) n c)) refl
+
   -- ---- childless
 
   none_by : (kind : Kind) (level place : ℕ) (o : Option ℕ) → held heading trust kind level place h ≡ o
@@ -173,26 +217,35 @@ module _ (heading : Heading) (trust : Trust) (h : List Noted) where
 
   -- ---- paths of attached pages
 
+  -- the end of the path of no places, and those of the longer ones
+  abbrev pub ends_from : Kind → ℕ → ℕ → ℕ → List End
+  ends_from kind left level page = end_at level page ∷ ends_below heading trust h kind left level page
+
+  pub below_fresh : (kind : Kind) (left level page : ℕ) → is_fresh heading trust h page ≡ true
+      → ends_below heading trust h kind (suc left) level page
+      ≡ flat_map (ends_from kind left (suc level)) (filter_map (λ (place : ℕ). next_of kind level (value_of (events_of h) place)) (places_in (events_of h) page))
+  below_fresh kind left level page fresh = rw (fresh, ends_below) refl
+
   unreached : (kind : Kind) (left level page : ℕ) → is_fresh heading trust h page ≡ false
       → ends_below heading trust h kind (suc left) level page ≡ []
   unreached kind left level page fresh = rw (fresh, ends_below) refl
 
   below_by : (kind : Kind) (left level page : ℕ) (e : End) (b : Bool) → is_fresh heading trust h page ≡ b
       → In (ends_below heading trust h kind (suc left) level page) e
-      → (is_fresh heading trust h page ≡ true) × In (flat_map (ends_from heading trust h kind left (suc level))
+      → (is_fresh heading trust h page ≡ true) × In (flat_map (ends_from kind left (suc level))
       (filter_map (λ (place : ℕ). next_of kind level (value_of (events_of h) place)) (places_in (events_of h) page))) e
   below_by kind left level page e true fresh i =
-      (fresh, subst (λ (es : List End). In es e) (below_fresh heading trust h kind left level page fresh) i)
+      (fresh, subst (λ (es : List End). In es e) (below_fresh kind left level page fresh) i)
   below_by kind left level page e false fresh i =
       absurd (subst (λ (es : List End). In es e) (unreached kind left level page fresh) i)
 
-  pub path_from : (left : ℕ) (kind : Kind) (level page : ℕ) (e : End) → In (ends_from heading trust h kind left level page) e
+  pub path_from : (left : ℕ) (kind : Kind) (level page : ℕ) (e : End) → In (ends_from kind left level page) e
       → (places : List ℕ) × (length places ≤ left) × Leads heading trust h kind level page places e
   path_from left kind level page e (inl same) = ([], omega arith, same)
   path_from zero kind level page e (inr i) = absurd i
   path_from (suc left) kind level page e (inr i) =
       let b = below_by kind left level page e (is_fresh heading trust h page) refl i in
-      let next = from_flat (ends_from heading trust h kind left (suc level))
+      let next = from_flat (ends_from kind left (suc level))
       (filter_map (λ (place : ℕ). next_of kind level (value_of (events_of h) place)) (places_in (events_of h) page)) e b.1 in
       let place = from_filter_map (λ (place : ℕ). next_of kind level (value_of (events_of h) place)) (places_in (events_of h) page) next.0 next.1 in
       let inside = from_filter (λ (place : ℕ). page_of place == page) (written_places (events_of h)) place.0 place.1 in
@@ -201,7 +254,7 @@ module _ (heading : Heading) (trust : Trust) (h : List Noted) where
       (place.0 ∷ r.0, omega arith, (b.0, eqb-true (page_of place.0) page inside.1, next.0, place.2, r.2))
 
   -- a place with a table value was written
-  written_by : (place : ℕ) (es : List Event) → (value_of es place ≡ 0 → ⊥) → In (written_places es) place
+  pub written_by : (place : ℕ) (es : List Event) → (value_of es place ≡ 0 → ⊥) → In (written_places es) place
   written_by place [] some = absurd (some refl)
   written_by place (Write pe at value ∷ es) some = by (at == place) refl (written_by place es)
     where
@@ -223,30 +276,42 @@ module _ (heading : Heading) (trust : Trust) (h : List Noted) where
   no_table : (kind : Kind) (level next : ℕ) → next_of kind level 0 ≡ Some next → ⊥
   no_table kind level next e = cc
 
+  -- the place of a table value is one of those of its page
+  pub place_of_table : (kind : Kind) (level page place next : ℕ) → page_of place ≡ page
+      → next_of kind level (value_of (events_of h) place) ≡ Some next → In (places_in (events_of h) page) place
+  place_of_table kind level page place next inside table =
+      to_filter (λ (place : ℕ). page_of place == page) (written_places (events_of h)) place
+      (written_by place (events_of h) (λ z. no_table kind level next
+      (subst (λ (x : ℕ). next_of kind level x ≡ Some next) z table))) (eq-eqb (page_of place) page inside)
+
+  -- the end of a path of one place more
+  pub one_more : (left : ℕ) (kind : Kind) (level page place : ℕ) (places : List ℕ) (e : End)
+      → (l : Leads heading trust h kind level page (place ∷ places) e) → In (ends_from kind left (suc level) l.2) e
+      → In (ends_below heading trust h kind (suc left) level page) e
+  one_more left kind level page place places e l i =
+      subst (λ (es : List End). In es e) (sym (below_fresh kind left level page l.0))
+      (to_flat (ends_from kind left (suc level))
+      (filter_map (λ (place : ℕ). next_of kind level (value_of (events_of h) place)) (places_in (events_of h) page)) l.2 e
+      (to_filter_map (λ (place : ℕ). next_of kind level (value_of (events_of h) place)) (places_in (events_of h) page) place l.2
+      (place_of_table kind level page place l.2 l.1 l.3) l.3) i)
+
   pub path_to_end : (left : ℕ) (kind : Kind) (level page : ℕ) (places : List ℕ) (e : End) → length places ≤ left
-      → Leads heading trust h kind level page places e → In (ends_from heading trust h kind left level page) e
+      → Leads heading trust h kind level page places e → In (ends_from kind left level page) e
   path_to_end left kind level page [] e short same = inl same
   path_to_end zero kind level page (place ∷ places) e short l = absurd (omega arith)
   path_to_end (suc left) kind level page (place ∷ places) e short l =
-      inr (subst (λ (es : List End). In es e) (sym (below_fresh heading trust h kind left level page l.0))
-      (to_flat (ends_from heading trust h kind left (suc level))
-      (filter_map (λ (place : ℕ). next_of kind level (value_of (events_of h) place)) (places_in (events_of h) page)) l.2 e
-      (to_filter_map (λ (place : ℕ). next_of kind level (value_of (events_of h) place)) (places_in (events_of h) page) place l.2
-      (to_filter (λ (place : ℕ). page_of place == page) (written_places (events_of h)) place
-      (written_by place (events_of h) (λ z. no_table kind level l.2
-      (subst (λ (x : ℕ). next_of kind level x ≡ Some l.2) z l.3))) (eq-eqb (page_of place) page l.1)) l.3)
-      (path_to_end left kind (suc level) l.2 places e (omega arith) l.4)))
+      inr (one_more left kind level page place places e l (path_to_end left kind (suc level) l.2 places e (omega arith) l.4))
 
   pub paths_sound : (left : ℕ) (kind : Kind) (level page : ℕ) (e : End)
       → Contains (end_at level page ∷ ends_below heading trust h kind left level page) e
       → (places : List ℕ) × (length places ≤ left) × Leads heading trust h kind level page places e
-  paths_sound left kind level page e c = path_from left kind level page e (from_contains (ends_from heading trust h kind left level page) e c)
+  paths_sound left kind level page e c = path_from left kind level page e (from_contains (ends_from kind left level page) e c)
 
   pub paths_complete : (left : ℕ) (kind : Kind) (level page : ℕ) (places : List ℕ) (e : End) → length places ≤ left
       → Leads heading trust h kind level page places e
       → Contains (end_at level page ∷ ends_below heading trust h kind left level page) e
   paths_complete left kind level page places e short l =
-      to_contains (ends_from heading trust h kind left level page) e (path_to_end left kind level page places e short l)
+      to_contains (ends_from kind left level page) e (path_to_end left kind level page places e short l)
 
 -- ---- fresh
 
@@ -356,4 +421,4 @@ module _ (heading : Heading) (trust : Trust) where
       ap (λ (xs : List Noted). is_fresh heading trust xs page) f.split
       ∙ fresh_from f.newer f.older f.init page f.pe f.made f.in_none f.no_null
 
-pub ruleset laws = (limbo_sound, limbo_complete, tree_sound, tree_complete, childless_sound, childless_complete, paths_sound, paths_complete, fresh_sound, fresh_complete)
+pub ruleset laws = (limbo_sound, limbo_complete, tree_sound, tree_complete, tree_below, node_taken, tree_has, childless_sound, childless_complete, paths_sound, paths_complete, fresh_sound, fresh_complete)

@@ -1,16 +1,16 @@
--- The nodes of the trees by their parents, and the nodes that one reaches.
-use Rattle.std.proofs.Common.{◌≡◌, ℕ, zero, suc, ◌+◌, ◌*◌, ◌≤◌, Bool, true, false, cond, ◌⊎◌, ◌==◌, List, [], ◌∷◌, Option, Some, option_and_then, flat_map, refl, sym, ◌∙◌, ap, subst, inl, inr, not-suc-le-zero, le_of_suc-le-suc, eqb-true, eq-eqb}
+-- The nodes of the trees by their parents, and the node that is taken for a page.
+use Rattle.std.proofs.Common.{◌≡◌, ℕ, zero, suc, ◌+◌, ◌*◌, ◌<◌, Bool, true, false, cond, ◌⊎◌, ◌==◌, List, [], ◌∷◌, ◌++◌, Option, Some, is_some, option_and_then, flat_map, refl, sym, ◌∙◌, ap, subst, inl, inr, arith, eqb-true, eq-eqb}
 use Rattle.std.proofs.lemmas.Option.{option_and_then_some}
 use Rattle.bbm_regimes.specs.declared.regime.Kind.{Kind}
 use Rattle.bbm_events.specs.Heading.{Heading}
 use Rattle.bbm_rules.proofs.HeldLemmas.{held_is_written}
-use Rattle.bbm_rules.proofs.ListLemmas.{from_filter, from_filter_map, from_flat, in_append, in_left, in_right, to_filter, to_filter_map, to_flat}
+use Rattle.bbm_rules.proofs.ListLemmas.{finds, found, from_filter, from_filter_map, from_flat, in_append, in_left, in_right, to_filter, to_filter_map, to_flat}
 use Rattle.bbm_rules.proofs.OpenLaw.{In}
 use Rattle.bbm_rules.specs.Claims.{Trust}
 use Rattle.bbm_rules.specs.Notes.{Noted, events_of}
 use Rattle.bbm_rules.specs.Places.{page_of}
 use Rattle.bbm_rules.specs.Roots.{Declared, first_input_page, input_pages, root_pages, roots_of, start_of}
-use Rattle.bbm_rules.specs.Tree.{Node, child_at, children, held_at, next_of, node_below, nodes_at, nodes_of_pages, nodes_of_root, starts_at}
+use Rattle.bbm_rules.specs.Tree.{Node, child_at, children, held_at, next_of, node_below, node_of, nodes_at, nodes_of_pages, nodes_of_root, starts_at, tree}
 use Rattle.bbm_rules.specs.Values.{places_in, written_places}
 
 -- ---- the pages of a root
@@ -113,14 +113,6 @@ module _ (heading : Heading) (trust : Trust) where
       to_filter_map (child_at heading trust h n) (places_in (events_of h) n.page) k.place c
       (child_place h n c k) (child_is h n c k)
 
-  -- there is one below a place
-  pub one_child : (h : List Noted) (n c d : Node) (k : Child h n c) (l : Child h n d) → k.place ≡ l.place → c ≡ d
-  one_child h n c d k l e =
-      let a : child_at heading trust h n k.place ≡ Some c = child_is h n c k in
-      let b : child_at heading trust h n l.place ≡ Some d = child_is h n d l in
-      let m : child_at heading trust h n k.place ≡ child_at heading trust h n l.place = ap (child_at heading trust h n) e in
-      let s : Some c ≡ Some d = sym a ∙ (m ∙ b) in cc
-
   -- ---- the nodes level by level
 
   pub at_start : (h : List Noted) (n : Node) → In (nodes_at heading trust h zero) n → Rooted heading h zero n
@@ -163,25 +155,60 @@ module _ (heading : Heading) (trust : Trust) where
         | inr r ↦ r.2.level ∙ ap suc (level_is h level r.0 r.1)
       ]
 
-  -- ---- the nodes that one reaches in at most so many steps
+  -- ---- the nodes of the trees
 
-  abbrev pub Reaches : List Noted → ℕ → Node → Node → Type 0
-  Reaches h zero n m = n ≡ m
-  Reaches h (suc k) n m = (n ≡ m) ⊎ ((c : Node) × Child h n c × Reaches h k c m)
+  pub record InTree (h : List Noted) (n : Node) : Type 0 where
+    pub level : ℕ
+    pub below : level < 4
+    pub there : In (nodes_at heading trust h level) n
 
-  pub reaches_itself : (h : List Noted) (k : ℕ) (n m : Node) → n ≡ m → Reaches h k n m
-  reaches_itself h zero n m e = e
-  reaches_itself h (suc k) n m e = inl e
+  pub to_tree : (h : List Noted) (n : Node) → InTree h n → In (tree heading trust h) n
+  unfolding tree
+  to_tree h n t = by_level t.level t.below t.there
+    where
+      two : List Node
+      two = nodes_at heading trust h 0 ++ nodes_at heading trust h 1
 
-  pub reaches_on : (h : List Noted) (k : ℕ) (n m c : Node) → Reaches h k n m → Child h m c → Reaches h (suc k) n c
-  reaches_on h zero n m c e child = inr (c, subst (λ (x : Node). Child h x c) (sym e) child, refl)
-  reaches_on h (suc k) n m c (inl e) child =
-      inr (c, subst (λ (x : Node). Child h x c) (sym e) child, reaches_itself h (suc k) c c refl)
-  reaches_on h (suc k) n m c (inr r) child = inr (r.0, r.1, reaches_on h k r.0 m c r.2 child)
+      three : List Node
+      three = two ++ nodes_at heading trust h 2
 
-  pub reaches_more : (h : List Noted) (k j : ℕ) (n m : Node) → k ≤ j → Reaches h k n m → Reaches h j n m
-  reaches_more h zero j n m below e = reaches_itself h j n m e
-  reaches_more h (suc k) zero n m below r = absurd (not-suc-le-zero below)
-  reaches_more h (suc k) (suc j) n m below (inl e) = inl e
-  reaches_more h (suc k) (suc j) n m below (inr r) =
-      inr (r.0, r.1, reaches_more h k j r.0 m (le_of_suc-le-suc below) r.2)
+      by_level : (level : ℕ) → level < 4 → In (nodes_at heading trust h level) n → In (three ++ nodes_at heading trust h 3) n
+      by_level zero b i =
+          in_left three (nodes_at heading trust h 3) n (in_left two (nodes_at heading trust h 2) n
+          (in_left (nodes_at heading trust h 0) (nodes_at heading trust h 1) n i))
+      by_level (suc zero) b i =
+          in_left three (nodes_at heading trust h 3) n (in_left two (nodes_at heading trust h 2) n
+          (in_right (nodes_at heading trust h 0) (nodes_at heading trust h 1) n i))
+      by_level (suc (suc zero)) b i =
+          in_left three (nodes_at heading trust h 3) n (in_right two (nodes_at heading trust h 2) n i)
+      by_level (suc (suc (suc zero))) b i = in_right three (nodes_at heading trust h 3) n i
+      by_level (suc (suc (suc (suc level)))) b i = absurd (omega arith)
+
+  pub from_tree : (h : List Noted) (n : Node) → In (tree heading trust h) n → InTree h n
+  unfolding tree
+  from_tree h n i =
+      elim (in_append three (nodes_at heading trust h 3) n i) [
+        | inr k ↦ record { level = 3; below = omega arith; there = k }
+        | inl j ↦ elim (in_append two (nodes_at heading trust h 2) n j) [
+          | inr k ↦ record { level = 2; below = omega arith; there = k }
+          | inl k ↦ elim (in_append (nodes_at heading trust h 0) (nodes_at heading trust h 1) n k) [
+            | inl l ↦ record { level = 0; below = omega arith; there = l }
+            | inr l ↦ record { level = 1; below = omega arith; there = l }
+          ]
+        ]
+      ]
+    where
+      two : List Node
+      two = nodes_at heading trust h 0 ++ nodes_at heading trust h 1
+
+      three : List Node
+      three = two ++ nodes_at heading trust h 2
+
+  -- ---- the node that is taken for a page
+
+  pub has_node : (h : List Noted) (n : Node) (page : ℕ) → InTree h n → n.page ≡ page → is_some (node_of heading trust h page) ≡ true
+  has_node h n page t e = finds (λ (n : Node). n.page == page) (tree heading trust h) n (to_tree h n t) (eq-eqb n.page page e)
+
+  pub node_found : (h : List Noted) (n : Node) (page : ℕ) → node_of heading trust h page ≡ Some n → InTree h n × (n.page ≡ page)
+  node_found h n page e =
+      let r = found (λ (n : Node). n.page == page) (tree heading trust h) n e in (from_tree h n r.0, eqb-true n.page page r.1)

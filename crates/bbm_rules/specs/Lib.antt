@@ -21,6 +21,7 @@ pub mod Registers
 pub mod Roots
 pub mod Rules
 pub mod Sentences
+pub mod TagSentences
 pub mod Tags
 pub mod Texts
 pub mod Tree

@@ -10,6 +10,7 @@ use Rattle.bbm_tlbi_scope.specs.declared.entry.Cover.TheVariants.{Half, Second, 
 use Rattle.bbm_rules.specs.Prelude.{Barrier, Kind, Heading, Init, Write, Dsb}
 use Rattle.bbm_rules.specs.declared.claim.Claim.TheVariants.{Place, Two}
 use Rattle.bbm_rules.specs.Claims.{Trust, allows}
+use Rattle.bbm_rules.specs.Held.{ValidWrite}
 use Rattle.bbm_rules.specs.Notes.{Noted, event_of}
 use Rattle.bbm_rules.specs.Places.{page_of}
 use Rattle.bbm_rules.specs.Reach.{Issued, completes, reaches}
@@ -86,6 +87,20 @@ pub record TwoSteps (heading : Heading) (trust : Trust) (place p : ℕ) (since :
 
 abbrev pub Cleansed : Heading → Trust → ℕ → ℕ → List Noted → Type 0
 Cleansed heading trust place p since = OneStep heading trust place p since ⊎ TwoSteps heading trust place p since
+
+-- Last valid write: it gave the place this value, which is valid, and after it came these events, none of them a valid
+-- write of the place nor an init of its page.
+pub record IsLastValid (kind : Kind) (level place : ℕ) (h : List Noted) (w : ValidWrite) : Type 0 where
+  pub pe : ℕ
+  pub write : Noted
+  pub older : List Noted
+  pub split : h ≡ w.since ++ write ∷ older
+  pub wrote : write.event ≡ Write pe place w.value
+  pub valid : is_valid kind level w.value ≡ true
+  pub last : (q v : ℕ) (n : Noted) (after before : List Noted) → w.since ≡ after ++ n ∷ before
+      → n.event ≡ Write q place v → is_valid kind level v ≡ false
+  pub no_init : (q : ℕ) (n : Noted) (after before : List Noted) → w.since ≡ after ++ n ∷ before
+      → n.event ≡ Init q (page_of place) → ⊥
 
 -- Held: the value was written, it is valid, since then there was no valid write of the place and no init of its page,
 -- and at some PE the place isn't cleansed since then.

@@ -22,7 +22,7 @@ ghost use Rattle.bbm_rules.specs.Locks.{holder_of};
 ghost use Rattle.bbm_rules.specs.Pages.{initialised, is_null};
 ghost use Rattle.bbm_rules.specs.Reach.{unanswered};
 ghost use Rattle.bbm_rules.specs.Registers.{register_values, same_reg, tag_number, vmid_of};
-ghost use Rattle.bbm_rules.specs.Roots.{Declared, root_at, roots_of, same_kind};
+ghost use Rattle.bbm_rules.specs.Roots.{Declared, is_root, root_at, roots_of, same_kind};
 ghost use Rattle.bbm_rules.specs.Sentences.{HoldsLock, IsDeclared, Published, ReadableRegister};
 ghost use Rattle.bbm_rules.specs.Tags.{holds_tag, itself, tag_set, tags_of};
 ghost use Rattle.bbm_rules.specs.Values.{published, value_of, written_places};
@@ -54,6 +54,9 @@ pub fn law_root()
     ensures complete { (h : List Event) (r : Declared) → IsDeclared h r → Contains (roots_of h) r }
     ensures found { (h : List Event) (r : Declared) → IsDeclared h r → root_at h r.page ≡ Some r }
     ensures of_page { (h : List Event) (page : ℕ) (r : Declared) → root_at h page ≡ Some r → IsDeclared h r × (r.page ≡ page) }
+    ensures of_kind { (h : List Event) (kind : Kind) (page : ℕ) → is_root h kind page ≡ true →
+        (r : Declared) × IsDeclared h r × (r.page ≡ page) × (r.kind ≡ kind) }
+    ensures is_of_kind { (h : List Event) (r : Declared) → IsDeclared h r → is_root h r.kind r.page ≡ true }
 {}
 
 /// A value is among the readable ones of a register exactly where the register had it at some moment, and after that

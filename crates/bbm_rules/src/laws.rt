@@ -1,7 +1,7 @@
-//! Laws of the definitions: three of them say the same as a sentence over all ways to split a history, the annotated
-//! history keeps the events, and in a history that keeps the rules a page has at most one node.
+//! Laws of the definitions: three of them say the same as a sentence over all ways to split a history, and the annotated
+//! history keeps the events.
 
-ghost use Rattle.std.specs.Prelude.{◌≡◌, ℕ, true, false, List, Some, Contains};
+ghost use Rattle.std.specs.Prelude.{◌≡◌, ℕ, true, false, List, Contains};
 ghost use Rattle.bbm_regimes.specs.declared.regime.Tag.{Tag};
 ghost use Rattle.bbm_events.specs.Heading.{Heading};
 ghost use Rattle.bbm_events.specs.declared.event.Event.{Event};
@@ -13,7 +13,6 @@ ghost use Rattle.bbm_rules.specs.Notes.{Noted, event_of, events_of};
 ghost use Rattle.bbm_rules.specs.Reach.{Issued, unanswered};
 ghost use Rattle.bbm_rules.specs.Sentences.{HoldsTag, Open, Readable};
 ghost use Rattle.bbm_rules.specs.Tags.{holds_at, itself};
-ghost use Rattle.bbm_rules.specs.Tree.{Node, node_of, tree};
 ghost use Rattle.bbm_rules.specs.Values.{is_readable};
 ghost use Rattle.bbm_rules.specs.Version.{in_version, sets_bit_0};
 
@@ -56,18 +55,6 @@ pub fn law_tag_held()
 #[tactic(auto, using(crate::proofs::NotesLaw::events_noted))]
 pub fn law_notes_keep_the_events()
     ensures { (heading : Heading) (trust : Trust) (h : List Event) → events_of (noted heading trust h) ≡ h }
-{}
-
-/// In a history that keeps the rules, a page has at most one node in the trees: so it has one root, one kind, one level,
-/// one region and one place above it. The node that the definitions take for a page, the first, is that one. The call
-/// does nothing; the law is its contract.
-#[tactic(auto, using(crate::proofs::OneNodeLaw::laws))]
-pub fn law_one_node()
-    ensures at_most_one { (heading : Heading) (trust : Trust) (h : List Event) → keeps heading trust h ≡ true → (n m : Node) →
-        Contains (tree heading trust (noted heading trust h)) n → Contains (tree heading trust (noted heading trust h)) m →
-        n.page ≡ m.page → n ≡ m }
-    ensures the_first { (heading : Heading) (trust : Trust) (h : List Event) → keeps heading trust h ≡ true → (n : Node) →
-        Contains (tree heading trust (noted heading trust h)) n → node_of heading trust (noted heading trust h) n.page ≡ Some n }
 {}
 
 /// A log without bit 0 in any value that an `msr` gives to a register keeps the rules under a header of version 1

@@ -10,6 +10,7 @@ pub mod limits;
 pub mod phase;
 pub mod rule;
 pub mod step_fault;
+pub mod tag_laws;
 pub mod verdict;
 
 pub use checker::{Checker, Fresh};
@@ -19,17 +20,18 @@ pub use event_laws::{
     law_readable_register, law_root, law_tag_set, law_vmid,
 };
 pub use history_laws::{
-    law_childless, law_cleansed, law_each_rule, law_fresh, law_half, law_held, law_limbo,
-    law_notes, law_paths, law_seen, law_tree,
+    law_attaching, law_childless, law_cleansed, law_each_rule, law_fresh, law_global_user,
+    law_half, law_held, law_last_valid, law_limbo, law_notes, law_paths, law_root_pages, law_seen,
+    law_tree,
 };
 pub use laws::{
-    law_answered, law_notes_keep_the_events, law_one_node, law_readable_value, law_tag_held,
-    law_version,
+    law_answered, law_notes_keep_the_events, law_readable_value, law_tag_held, law_version,
 };
 pub use limits::Limits;
 pub use phase::Phase;
 pub use rule::Rule;
 pub use step_fault::StepFault;
+pub use tag_laws::{law_readable_tag, law_tag_rules};
 pub use verdict::{Verdict, law_first_line_decides};
 
 #[cfg(test)]
@@ -39,24 +41,28 @@ mod tests {
         law_readable_register, law_root, law_tag_set, law_vmid,
     };
     use crate::history_laws::{
-        law_childless, law_cleansed, law_each_rule, law_fresh, law_half, law_held, law_limbo,
-        law_notes, law_paths, law_seen, law_tree,
+        law_attaching, law_childless, law_cleansed, law_each_rule, law_fresh, law_global_user,
+        law_half, law_held, law_last_valid, law_limbo, law_notes, law_paths, law_root_pages,
+        law_seen, law_tree,
     };
     use crate::laws::{
-        law_answered, law_notes_keep_the_events, law_one_node, law_readable_value, law_tag_held,
-        law_version,
+        law_answered, law_notes_keep_the_events, law_readable_value, law_tag_held, law_version,
     };
+    use crate::tag_laws::{law_readable_tag, law_tag_rules};
     use crate::verdict::law_first_line_decides;
 
     #[test]
     fn laws_hold() {
         law_answered();
+        law_attaching();
         law_childless();
         law_cleansed();
         law_each_rule();
         law_fresh();
+        law_global_user();
         law_half();
         law_held();
+        law_last_valid();
         law_limbo();
         law_notes();
         law_paths();
@@ -67,11 +73,13 @@ mod tests {
         law_limits();
         law_lock_held();
         law_notes_keep_the_events();
-        law_one_node();
         law_published();
         law_readable_register();
+        law_readable_tag();
         law_readable_value();
+        law_tag_rules();
         law_root();
+        law_root_pages();
         law_tag_set();
         law_tag_held();
         law_first_line_decides();

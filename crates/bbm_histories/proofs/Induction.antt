@@ -1,0 +1,87 @@
+-- The induction over a history that keeps the rules.
+use Rattle.std.proofs.Common.{◌≡◌, ℕ, Bool, true, false, List, [], ◌∷◌, ◌++◌, None, is_none, refl, ◌∙◌, ap}
+use Rattle.std.proofs.lemmas.Bool.{and_parts}
+use Rattle.bbm_events.specs.Heading.{Heading}
+use Rattle.bbm_events.specs.declared.event.Event.{Event}
+use Rattle.bbm_rules.specs.declared.rule.Rule.{Rule}
+use Rattle.bbm_rules.specs.Broken.{breaks, broken, keeps}
+use Rattle.bbm_rules.specs.Claims.{Trust}
+use Rattle.bbm_rules.specs.Covers.{note, noted}
+use Rattle.bbm_rules.specs.Lists.{if_so}
+use Rattle.bbm_rules.specs.Notes.{Noted, events_of}
+use Rattle.bbm_histories.specs.Below.{Below}
+
+pub if_none : (b : Bool) (n : ℕ) → if_so b n ≡ None → b ≡ false
+if_none true n e = cc
+if_none false n e = refl
+
+module _ (heading : Heading) (trust : Trust) where
+  -- the event breaks none of the seventeen rules
+  abbrev pub Unbroken : List Noted → Event → Type 0
+  Unbroken h e = (r : Rule) → breaks heading trust h e r ≡ None
+
+  pub last_kept : Below heading trust → (h : List Event) (e : Event) → keeps heading trust (e ∷ h) ≡ true
+      → (keeps heading trust h ≡ true) × Unbroken (noted heading trust h) e
+  last_kept b h e k =
+      ((and_parts (keeps heading trust h) (is_none (broken heading trust h e)) k).0, b.unbroken (e ∷ h) [] h e k refl)
+
+  -- What holds at the start, and after each event that breaks no rule, holds of a history that keeps the rules.
+  pub throughout : Below heading trust → (P : List Noted → Type 0) → P []
+      → ((h : List Event) (e : Event) → keeps heading trust h ≡ true → Unbroken (noted heading trust h) e
+      → P (noted heading trust h) → P (note heading trust (noted heading trust h) e ∷ noted heading trust h))
+      → (h : List Event) → keeps heading trust h ≡ true → P (noted heading trust h)
+  throughout b P start step [] k = start
+  throughout b P start step (e ∷ h) k =
+      let parts = last_kept b h e k in step h e parts.0 parts.1 (throughout b P start step h parts.0)
+
+-- ---- splits of an annotated history and of its events
+
+pub events_append : (newer older : List Noted) → events_of (newer ++ older) ≡ events_of newer ++ events_of older
+events_append [] older = refl
+events_append (n ∷ newer) older = ap (λ (es : List Event). n.event ∷ es) (events_append newer older)
+
+-- an event of an annotated history, with its notes
+pub record At (ns : List Noted) (e : Event) : Type 0 where
+  pub newer : List Noted
+  pub item : Noted
+  pub older : List Noted
+  pub split : ns ≡ newer ++ item ∷ older
+  pub is : item.event ≡ e
+
+pub event_at : (ns : List Noted) (after before : List Event) (e : Event) → events_of ns ≡ after ++ e ∷ before → At ns e
+event_at [] [] before e split = cc
+event_at [] (x ∷ after) before e split = cc
+event_at (n ∷ ns) [] before e split = record { newer = []; item = n; older = ns; split = refl; is = cc }
+event_at (n ∷ ns) (x ∷ after) before e split =
+    let rest : events_of ns ≡ after ++ e ∷ before = cc in
+    let a : At ns e = event_at ns after before e rest in
+    record {
+      newer = n ∷ a.newer;
+      item = a.item;
+      older = a.older;
+      split = ap (λ (xs : List Noted). n ∷ xs) a.split;
+      is = a.is;
+    }
+
+-- a split of the events is one of the notes
+pub record NotesSplit (ns : List Noted) (newer older : List Event) : Type 0 where
+  pub new : List Noted
+  pub old : List Noted
+  pub split : ns ≡ new ++ old
+  pub new_events : events_of new ≡ newer
+  pub old_events : events_of old ≡ older
+
+pub notes_split : (ns : List Noted) (newer older : List Event) → events_of ns ≡ newer ++ older → NotesSplit ns newer older
+notes_split ns [] older e = record { new = []; old = ns; split = refl; new_events = refl; old_events = e }
+notes_split [] (x ∷ newer) older e = cc
+notes_split (n ∷ ns) (x ∷ newer) older e =
+    let rest : events_of ns ≡ newer ++ older = cc in
+    let first : n.event ≡ x = cc in
+    let s : NotesSplit ns newer older = notes_split ns newer older rest in
+    record {
+      new = n ∷ s.new;
+      old = s.old;
+      split = ap (λ (xs : List Noted). n ∷ xs) s.split;
+      new_events = ap (λ (es : List Event). n.event ∷ es) s.new_events ∙ ap (λ (y : Event). y ∷ newer) first;
+      old_events = s.old_events;
+    }

@@ -1,0 +1,16 @@
+pub mod FreshLemmas
+pub mod Induction
+pub mod Invariants
+pub mod HeldSteps
+pub mod TreeAfter
+pub mod PatternLemmas
+pub mod TreeSteps
+pub mod UniformLemmas
+pub mod ValueLemmas
+pub mod ViewLemmas
+pub mod CoreLemmas
+pub mod WindowLemmas
+pub mod LeafLemmas
+pub mod RootLemmas
+pub mod TagLemmas
+pub mod ProperLemmas

@@ -1,0 +1,205 @@
+-- Later events keep a pattern.
+use Rattle.std.proofs.Common.{◌≡◌, ℕ, ◌⊎◌, Bool, true, false, List, [], ◌∷◌, ◌++◌, Some, refl, sym, ◌∙◌, ap, subst, inl, inr}
+use Rattle.std.proofs.lemmas.List.{append_assoc}
+use Rattle.bbm_regimes.specs.declared.regime.Kind.{Kind}
+use Rattle.bbm_descriptor.specs.Descriptor.{is_valid}
+use Rattle.bbm_events.specs.Heading.{Heading}
+use Rattle.bbm_events.specs.declared.event.Event.TheVariants.{Write}
+use Rattle.bbm_tlbi_scope.specs.declared.entry.Cover.{Cover}
+use Rattle.bbm_tlbi_scope.specs.declared.entry.Cover.TheVariants.{Half, Second, Full}
+use Rattle.bbm_rules.specs.Claims.{Trust}
+use Rattle.bbm_rules.specs.Cleansing.{seen}
+use Rattle.bbm_rules.specs.Held.{ValidWrite, last_valid}
+use Rattle.bbm_rules.specs.Notes.{Noted}
+use Rattle.bbm_rules.specs.PatternSentences.{Answer, Cleansed, Flush, HalfBy, IsLastValid, Publication}
+use Rattle.bbm_rules.specs.Reach.{Issued}
+use Rattle.bbm_histories.specs.Below.{Below}
+use Rattle.bbm_histories.specs.Patterns.{Quiet}
+
+-- an event of the older part is one of the whole
+pub later_split : {A : Type 0} (newer xs before after : List A) (x : A) → xs ≡ before ++ x ∷ after
+    → newer ++ xs ≡ (newer ++ before) ++ x ∷ after
+later_split newer xs before after x e = ap (λ ys. newer ++ ys) e ∙ sym (append_assoc newer before (x ∷ after))
+
+pub append_left : {A : Type 0} (xs ys zs : List A) → xs ++ ys ≡ xs ++ zs → ys ≡ zs
+append_left [] ys zs e = e
+append_left (x ∷ xs) ys zs e = let rest : xs ++ ys ≡ xs ++ zs = cc in append_left xs ys zs rest
+
+-- an item of two lists together is one of the first or of the second
+pub split_cases : {A : Type 0} (xs ys after before : List A) (x : A) → xs ++ ys ≡ after ++ x ∷ before
+    → ((rest : List A) × (xs ≡ after ++ x ∷ rest)) ⊎ ((start : List A) × (ys ≡ start ++ x ∷ before) × (after ≡ xs ++ start))
+split_cases [] ys after before x e = inr (after, e, refl)
+split_cases (z ∷ xs) ys [] before x e = let first : z ≡ x = cc in inl (xs, ap (λ y. y ∷ xs) first)
+split_cases {A} (z ∷ xs) ys (y ∷ after) before x e =
+    let first : z ≡ y = cc in
+    let rest : xs ++ ys ≡ after ++ x ∷ before = cc in
+    elim (split_cases xs ys after before x rest) [
+      | inl a ↦ inl (a.0, ap (λ (w : A). w ∷ xs) first ∙ ap (λ (ws : List A). y ∷ ws) a.1)
+      | inr a ↦ inr (a.0, a.1, ap (λ (ws : List A). y ∷ ws) a.2 ∙ ap (λ (w : A). w ∷ (xs ++ a.0)) (sym first))
+    ]
+
+pub publication_stays : (heading : Heading) (place p : ℕ) (newer since : List Noted) (b : Noted)
+    → Publication heading place p since b → Publication heading place p (newer ++ since) b
+publication_stays heading place p newer since b k = record {
+  q = k.q;
+  dsb = k.dsb;
+  value = k.value;
+  write = k.write;
+  newer = newer ++ k.newer;
+  between = k.between;
+  older = k.older;
+  split = later_split newer since k.newer (k.between ++ k.write ∷ k.older) b k.split;
+  wrote = k.wrote;
+  barrier = k.barrier;
+  publishes = k.publishes;
+}
+
+pub answer_stays : (newer since : List Noted) (t : Issued Noted) (d : Noted) → Answer since t d → Answer (newer ++ since) t d
+answer_stays newer since t d k = record {
+  q = k.q;
+  dsb = k.dsb;
+  newer = newer ++ k.newer;
+  older = k.older;
+  split = later_split newer since k.newer k.older d k.split;
+  barrier = k.barrier;
+  is_open = k.is_open;
+  completed = k.completed;
+}
+
+pub flush_stays : (heading : Heading) (cover : Cover) (place p : ℕ) (newer since : List Noted) (t : Issued Noted) (d : Noted)
+    → Flush heading cover place p since t d → Flush heading cover place p (newer ++ since) t d
+flush_stays heading cover place p newer since t d k =
+    record { answer = answer_stays newer since t d k.answer; reached = k.reached; covered = k.covered }
+
+pub half_stays : (heading : Heading) (place p : ℕ) (newer since : List Noted) (b : Noted) (t : Issued Noted) (d : Noted)
+    → HalfBy heading place p since b t d → HalfBy heading place p (newer ++ since) b t d
+half_stays heading place p newer since b t d k =
+    record { flush = flush_stays heading Half place p newer since t d k.flush; published = k.published }
+
+pub cleansed_stays : (heading : Heading) (trust : Trust) (place p : ℕ) (newer since : List Noted)
+    → Cleansed heading trust place p since → Cleansed heading trust place p (newer ++ since)
+cleansed_stays heading trust place p newer since (inl k) = inl (record {
+  b = k.b;
+  t = k.t;
+  d = k.d;
+  published = k.published;
+  flush = flush_stays heading Full place p newer since k.t k.d k.flush;
+  allowed = k.allowed;
+})
+cleansed_stays heading trust place p newer since (inr k) = inr (record {
+  b = k.b;
+  t1 = k.t1;
+  d1 = k.d1;
+  t2 = k.t2;
+  d2 = k.d2;
+  first = k.first;
+  second = flush_stays heading Second place p newer since k.t2 k.d2 k.second;
+  allowed = k.allowed;
+})
+
+-- ---- what a pattern has in it
+
+-- the write of a publication stands among the events
+pub write_in : (heading : Heading) (place p : ℕ) (since : List Noted) (b : Noted) (k : Publication heading place p since b)
+    → since ≡ (k.newer ++ b ∷ k.between) ++ k.write ∷ k.older
+write_in heading place p since b k = k.split ∙ sym (append_assoc k.newer (b ∷ k.between) (k.write ∷ k.older))
+
+-- a cleansed place is seen
+before_answer : (heading : Heading) (place p : ℕ) (since : List Noted) (t : Issued Noted) (d : Noted) (b : Noted)
+    → Answer since t d → Publication heading place p t.before b → Publication heading place p since b
+before_answer heading place p since t d b a k =
+    subst (λ (xs : List Noted). Publication heading place p xs b) (sym a.split)
+    (publication_stays heading place p a.newer (d ∷ a.older) b
+    (publication_stays heading place p (d ∷ []) a.older b
+    (subst (λ (xs : List Noted). Publication heading place p xs b) (sym a.is_open.split)
+    (publication_stays heading place p a.is_open.newer (t.tlbi ∷ t.before) b
+    (publication_stays heading place p (t.tlbi ∷ []) t.before b k)))))
+
+pub cleansed_is_seen : (heading : Heading) (trust : Trust) (place p : ℕ) (since : List Noted)
+    → Cleansed heading trust place p since → (b : Noted) × Publication heading place p since b
+cleansed_is_seen heading trust place p since (inl k) =
+    (k.b, before_answer heading place p since k.t k.d k.b k.flush.answer k.published)
+cleansed_is_seen heading trust place p since (inr k) = (
+  k.b,
+  before_answer heading place p since k.t2 k.d2 k.b k.second.answer
+      (before_answer heading place p k.t2.before k.t1 k.d1 k.b k.first.flush.answer k.first.published),
+)
+
+-- ---- the last valid write
+
+module _ (heading : Heading) (trust : Trust) (b : Below heading trust) where
+  pub unseen : (place p : ℕ) (since : List Noted)
+      → ((q v : ℕ) (n : Noted) (after before : List Noted) → since ≡ after ++ n ∷ before → n.event ≡ Write q place v → ⊥)
+      → seen heading place p since ≡ false
+  unseen place p since none = by (seen heading place p since) refl
+    where
+      by : (c : Bool) → seen heading place p since ≡ c → c ≡ false
+      by false s = refl
+      by true s =
+          let k = b.seen_sound place p since s in
+          absurd (none k.1.q k.1.value k.1.write (k.1.newer ++ k.0 ∷ k.1.between) k.1.older
+          (write_in heading place p since k.0 k.1) k.1.wrote)
+
+  pub seen_stays : (place p : ℕ) (newer since : List Noted) → seen heading place p since ≡ true
+      → seen heading place p (newer ++ since) ≡ true
+  seen_stays place p newer since s =
+      let k = b.seen_sound place p since s in
+      b.seen_complete place p (newer ++ since) (k.0, publication_stays heading place p newer since k.0 k.1)
+
+  -- the part of the events after it that came before some of them
+  module _ (kind : Kind) (level place : ℕ) where
+    pub last_before : (newer h : List Noted) (value : ℕ) (since : List Noted) (w : ValidWrite) → w.value ≡ value
+        → w.since ≡ newer ++ since → IsLastValid kind level place (newer ++ h) w
+        → IsLastValid kind level place h (record { value = value; since = since })
+    last_before newer h value since w same longer k = record {
+      pe = k.pe;
+      write = k.write;
+      older = k.older;
+      split = append_left newer h (since ++ k.write ∷ k.older)
+          (k.split ∙ (ap (λ (xs : List Noted). xs ++ k.write ∷ k.older) longer ∙ append_assoc newer since (k.write ∷ k.older)));
+      wrote = k.wrote ∙ ap (Write k.pe place) same;
+      valid = subst (λ (x : ℕ). is_valid kind level x ≡ true) same k.valid;
+      last = λ q v n after before i. k.last q v n (newer ++ after) before (longer ∙ later_split newer since after before n i);
+      no_init = λ q n after before i. k.no_init q n (newer ++ after) before (longer ∙ later_split newer since after before n i);
+    }
+
+    pub last_one_before : (n : Noted) (h since : List Noted) (value : ℕ)
+        → last_valid kind level place (n ∷ h) ≡ Some (record { value = value; since = n ∷ since })
+        → last_valid kind level place h ≡ Some (record { value = value; since = since })
+    last_one_before n h since value e =
+        let w : ValidWrite = record { value = value; since = n ∷ since } in
+        b.last_complete kind level place h (record { value = value; since = since })
+        (last_before (n ∷ []) h value since w refl refl (b.last_sound kind level place (n ∷ h) w e))
+
+-- the last valid write as a sentence, and back
+pub record LastLaws : Type 0 where
+  pub sound : (kind : Kind) (level place : ℕ) (h : List Noted) (w : ValidWrite)
+      → last_valid kind level place h ≡ Some w → IsLastValid kind level place h w
+  pub complete : (kind : Kind) (level place : ℕ) (h : List Noted) (w : ValidWrite)
+      → IsLastValid kind level place h w → last_valid kind level place h ≡ Some w
+
+-- it stays where no event ends it
+pub last_on : LastLaws → (kind : Kind) (level place : ℕ) (newer h : List Noted) (w : ValidWrite) → Quiet kind level place newer
+    → last_valid kind level place h ≡ Some w
+    → last_valid kind level place (newer ++ h) ≡ Some (record { value = w.value; since = newer ++ w.since })
+last_on laws kind level place newer h w quiet e =
+    let k : IsLastValid kind level place h w = laws.sound kind level place h w e in
+    laws.complete kind level place (newer ++ h) (record { value = w.value; since = newer ++ w.since }) (record {
+      pe = k.pe;
+      write = k.write;
+      older = k.older;
+      split = ap (λ (xs : List Noted). newer ++ xs) k.split ∙ sym (append_assoc newer w.since (k.write ∷ k.older));
+      wrote = k.wrote;
+      valid = k.valid;
+      last = λ q v n after before i is. elim (split_cases newer w.since after before n i) [
+        | inl a ↦ quiet.no_write q v n after a.0 a.1 is
+        | inr a ↦ k.last q v n a.0 before a.1 is
+      ];
+      no_init = λ q n after before i is. elim (split_cases newer w.since after before n i) [
+        | inl a ↦ quiet.no_init q n after a.0 a.1 is
+        | inr a ↦ k.no_init q n a.0 before a.1 is
+      ];
+    })
+
+pub last_laws : (heading : Heading) (trust : Trust) → Below heading trust → LastLaws
+last_laws heading trust b = record { sound = b.last_sound; complete = b.last_complete }

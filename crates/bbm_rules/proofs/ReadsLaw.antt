@@ -1,0 +1,254 @@
+-- A tag is readable exactly where the sentence says so; and what the rules on tags and roots say of a register write and
+-- of an `unroot`.
+use Rattle.std.proofs.Common.{◌≡◌, ℕ, zero, suc, ◌<◌, ◌&&◌, not, Bool, true, false, ◌==◌, nat_lt, List, [], ◌∷◌, length, Option, Some, None, is_none, option_and_then, Contains, filter, flat_map, map, refl, sym, ◌∙◌, ap, subst, inl, inr, true≢false, arith}
+use Rattle.std.proofs.lemmas.Bool.{and_from, and_parts, eq-eqb, eqb-true, lt-ltb, not_from_false, or_parts}
+use Rattle.bbm_regimes.specs.declared.regime.Reg.TheVariants as reg
+use Rattle.bbm_events.specs.Heading.{Heading}
+use Rattle.bbm_events.specs.declared.event.Event.TheVariants.{Msr, Unroot}
+use Rattle.bbm_rules.specs.Prelude.{AsidFrom, FromTtbr0, FromTtbr1, Reg, Ttbr0El2, VttbrEl2, Ttbr0El1, Ttbr1El1, Tag, El2Tag, Vmid, Asid, Ttbr1Tag, World, Hyp, Kernel, Event}
+use Rattle.bbm_rules.proofs.EqualityLaw.{same_number, tag_equal, tag_self}
+use Rattle.bbm_rules.proofs.HeldLemmas.{among_from}
+use Rattle.bbm_rules.proofs.ListLemmas.{among_in, from_filter_map, from_flat, in_append, in_left, in_right, least_none, none_in, to_filter, to_filter_map, to_flat}
+use Rattle.bbm_rules.proofs.OpenLaw.{In, from_contains}
+use Rattle.bbm_rules.proofs.SearchLemmas.{any_finds, any_found, none_of}
+use Rattle.bbm_rules.proofs.TagSetLaw.{no_tag}
+use Rattle.bbm_rules.specs.Claims.{Trust, same_tag}
+use Rattle.bbm_rules.specs.Lists.{among, below, if_so, is_that, some_pe}
+use Rattle.bbm_rules.specs.Notes.{Noted, events_of}
+use Rattle.bbm_rules.specs.Registers.{base_of, kind_of_reg, register_values, tag_number}
+use Rattle.bbm_rules.specs.Roots.{Declared, is_root, root_at, roots_of}
+use Rattle.bbm_rules.specs.Rules.{is_base_at, is_used, no_root, other_holders, root_in_use, tag_conflict}
+use Rattle.bbm_rules.specs.TagSentences.{GivesAsid, Names, ReadsTag}
+use Rattle.bbm_rules.specs.Tags.{Reading, asid_readings, holds_tag, reading_of, readings, readings_in, readings_of, reads, tag_set, tags_of}
+
+module _ (h : List Event) (p : ℕ) where
+  -- a reading that a register gives
+  record Given (reg : Reg) (tag : ℕ → Tag) (r : Reading) : Type 0 where
+    value : ℕ
+    names : Names h p reg r.root value
+    same : r.tag ≡ tag value
+
+  given_by : (reg : Reg) (tag : ℕ → Tag) (value : ℕ) (r : Reading) → In (register_values h p reg) value
+      → reading_of h reg tag value ≡ Some r → Given reg tag r
+  given_by reg tag value r i e = by (base_of value) refl e
+    where
+      go : (base : ℕ) → base_of value ≡ Some base → (c : Bool) → is_root h (kind_of_reg reg) base ≡ c
+          → if_so c (record { tag = tag value; root = base }) ≡ Some r → Given reg tag r
+      go base b false c k = cc
+      go base b true c k =
+          let same : record { tag = tag value; root = base } ≡ r = cc in
+          let root : base ≡ r.root = ap (λ (x : Reading). x.root) same in
+          record {
+            value = value;
+            names = record {
+              readable = among_in value (register_values h p reg) i;
+              base = b ∙ ap Some root;
+              declared = subst (λ (x : ℕ). is_root h (kind_of_reg reg) x ≡ true) root c;
+            };
+            same = ap (λ (x : Reading). x.tag) (sym same);
+          }
+
+      by : (o : Option ℕ) → base_of value ≡ o
+          → option_and_then (λ base. if_so (is_root h (kind_of_reg reg) base) (record { tag = tag value; root = base })) o ≡ Some r
+          → Given reg tag r
+      by None b k = cc
+      by (Some base) b k = go base b (is_root h (kind_of_reg reg) base) refl k
+
+  given : (reg : Reg) (tag : ℕ → Tag) (r : Reading) → In (readings_of h p reg tag) r → Given reg tag r
+  given reg tag r i =
+      let k = from_filter_map (reading_of h reg tag) (register_values h p reg) r i in given_by reg tag k.0 r k.1 k.2
+
+  gives : (reg : Reg) (tag : ℕ → Tag) (root value : ℕ) → Names h p reg root value
+      → In (readings_of h p reg tag) (record { tag = tag value; root = root })
+  gives reg tag root value k =
+      to_filter_map (reading_of h reg tag) (register_values h p reg) value (record { tag = tag value; root = root })
+      (among_from value (register_values h p reg) k.readable)
+      (ap (option_and_then (λ base. if_so (is_root h (kind_of_reg reg) base) (record { tag = tag value; root = base }))) k.base
+      ∙ ap (λ (c : Bool). if_so c (record { tag = tag value; root = root })) k.declared)
+
+  -- a reading under an ASID
+  record AsidGiven (from : AsidFrom) (r : Reading) : Type 0 where
+    value : ℕ
+    number : ℕ
+    names : Names h p Ttbr0El1 r.root value
+    asid : GivesAsid from h p value number
+    same : r.tag ≡ Asid (tag_number number)
+
+  asid_given : (from : AsidFrom) (r : Reading) → In (asid_readings from h p) r → AsidGiven from r
+  asid_given FromTtbr0 r i =
+      let k : Given Ttbr0El1 (λ value. Asid (tag_number value)) r = given Ttbr0El1 (λ value. Asid (tag_number value)) r i in
+      record { value = k.value; number = k.value; names = k.names; asid = refl; same = k.same }
+  asid_given FromTtbr1 r i =
+      let f = from_flat (λ from. readings_of h p Ttbr0El1 (λ value. Asid (tag_number from))) (register_values h p Ttbr1El1) r i in
+      let k : Given Ttbr0El1 (λ value. Asid (tag_number f.0)) r = given Ttbr0El1 (λ value. Asid (tag_number f.0)) r f.2 in
+      record {
+        value = k.value;
+        number = f.0;
+        names = k.names;
+        asid = among_in f.0 (register_values h p Ttbr1El1) f.1;
+        same = k.same;
+      }
+
+  asid_gives : (from : AsidFrom) (root value number : ℕ) → Names h p Ttbr0El1 root value → GivesAsid from h p value number
+      → In (asid_readings from h p) (record { tag = Asid (tag_number number); root = root })
+  asid_gives FromTtbr0 root value number k e =
+      subst (λ (x : ℕ). In (asid_readings FromTtbr0 h p) (record { tag = Asid (tag_number x); root = root })) (sym e)
+      (gives Ttbr0El1 (λ value. Asid (tag_number value)) root value k)
+  asid_gives FromTtbr1 root value number k e =
+      to_flat (λ from. readings_of h p Ttbr0El1 (λ value. Asid (tag_number from))) (register_values h p Ttbr1El1) number
+      (record { tag = Asid (tag_number number); root = root }) (among_from number (register_values h p Ttbr1El1) e)
+      (gives Ttbr0El1 (λ value. Asid (tag_number number)) root value k)
+
+  sound_in : (world : World) (tag : Tag) (root : ℕ) (r : Reading) → In (readings_in world h p) r → r.tag ≡ tag → r.root ≡ root
+      → ReadsTag world h p tag root
+  sound_in (Hyp world) tag root r i same at =
+      elim (in_append (readings_of h p Ttbr0El2 (λ value. El2Tag)) (readings_of h p VttbrEl2 (λ value. Vmid (tag_number value))) r i) [
+        | inl a ↦
+            let k : Given Ttbr0El2 (λ value. El2Tag) r = given Ttbr0El2 (λ value. El2Tag) r a in
+            subst (λ (x : Tag). ReadsTag (Hyp world) h p x root) (sym k.same ∙ same)
+            (k.value, subst (λ (x : ℕ). Names h p Ttbr0El2 x k.value) at k.names)
+        | inr a ↦
+            let k : Given VttbrEl2 (λ value. Vmid (tag_number value)) r = given VttbrEl2 (λ value. Vmid (tag_number value)) r a in
+            subst (λ (x : Tag). ReadsTag (Hyp world) h p x root) (sym k.same ∙ same)
+            (k.value, subst (λ (x : ℕ). Names h p VttbrEl2 x k.value) at k.names, refl)
+      ]
+  sound_in (Kernel world) tag root r i same at =
+      elim (in_append (asid_readings world.asid_from h p) (readings_of h p Ttbr1El1 (λ value. Ttbr1Tag)) r i) [
+        | inl a ↦
+            let k : AsidGiven world.asid_from r = asid_given world.asid_from r a in
+            subst (λ (x : Tag). ReadsTag (Kernel world) h p x root) (sym k.same ∙ same)
+            (k.value, k.number, subst (λ (x : ℕ). Names h p Ttbr0El1 x k.value) at k.names, k.asid, refl)
+        | inr a ↦
+            let k : Given Ttbr1El1 (λ value. Ttbr1Tag) r = given Ttbr1El1 (λ value. Ttbr1Tag) r a in
+            subst (λ (x : Tag). ReadsTag (Kernel world) h p x root) (sym k.same ∙ same)
+            (k.value, subst (λ (x : ℕ). Names h p Ttbr1El1 x k.value) at k.names)
+      ]
+
+  complete_in : (world : World) (tag : Tag) (root : ℕ) → ReadsTag world h p tag root
+      → In (readings_in world h p) (record { tag = tag; root = root })
+  complete_in (Hyp world) El2Tag root k =
+      in_left (readings_of h p Ttbr0El2 (λ value. El2Tag)) (readings_of h p VttbrEl2 (λ value. Vmid (tag_number value)))
+      (record { tag = El2Tag; root = root }) (gives Ttbr0El2 (λ value. El2Tag) root k.0 k.1)
+  complete_in (Hyp world) (Vmid vmid) root k =
+      in_right (readings_of h p Ttbr0El2 (λ value. El2Tag)) (readings_of h p VttbrEl2 (λ value. Vmid (tag_number value)))
+      (record { tag = Vmid vmid; root = root })
+      (subst (λ (x : ℕ). In (readings_of h p VttbrEl2 (λ value. Vmid (tag_number value))) (record { tag = Vmid x; root = root })) k.2
+      (gives VttbrEl2 (λ value. Vmid (tag_number value)) root k.0 k.1))
+  complete_in (Kernel world) (Asid asid) root k =
+      in_left (asid_readings world.asid_from h p) (readings_of h p Ttbr1El1 (λ value. Ttbr1Tag))
+      (record { tag = Asid asid; root = root })
+      (subst (λ (x : ℕ). In (asid_readings world.asid_from h p) (record { tag = Asid x; root = root })) k.4
+      (asid_gives world.asid_from root k.0 k.1 k.2 k.3))
+  complete_in (Kernel world) Ttbr1Tag root k =
+      in_right (asid_readings world.asid_from h p) (readings_of h p Ttbr1El1 (λ value. Ttbr1Tag))
+      (record { tag = Ttbr1Tag; root = root }) (gives Ttbr1El1 (λ value. Ttbr1Tag) root k.0 k.1)
+  complete_in world tag root k = absurd k
+
+-- the test of the search
+abbrev is_reading : Tag → ℕ → Reading → Bool
+is_reading tag root r = same_tag r.tag tag && r.root == root
+
+-- the reading that the search finds
+found_reading : (heading : Heading) (h : List Event) (p : ℕ) (tag : Tag) (root : ℕ) → reads heading h p tag root ≡ true
+    → (r : Reading) × In (readings heading h p) r × (r.tag ≡ tag) × (r.root ≡ root)
+found_reading heading h p tag root k =
+    let f = any_found (λ (r : Reading). same_tag r.tag tag && r.root == root) (readings heading h p) k in
+    let parts = and_parts (same_tag f.0.tag tag) (f.0.root == root) f.2 in
+    (f.0, f.1, tag_equal f.0.tag tag parts.0, eqb-true f.0.root root parts.1)
+
+pub reads_sound : (heading : Heading) (h : List Event) (p : ℕ) (tag : Tag) (root : ℕ) → reads heading h p tag root ≡ true
+    → ReadsTag heading.world h p tag root
+reads_sound heading h p tag root k =
+    let f = found_reading heading h p tag root k in sound_in h p heading.world tag root f.0 f.1 f.2 f.3
+
+pub reads_complete : (heading : Heading) (h : List Event) (p : ℕ) (tag : Tag) (root : ℕ) → ReadsTag heading.world h p tag root
+    → reads heading h p tag root ≡ true
+reads_complete heading h p tag root k =
+    any_finds (λ (r : Reading). same_tag r.tag tag && r.root == root) (readings heading h p) (record { tag = tag; root = root })
+    (complete_in h p heading.world tag root k) (and_from (same_tag tag tag) (root == root) (tag_self tag) (same_number root))
+
+-- ---- the rules
+
+empty : (tags : List Tag) → nat_lt 0 (length tags) ≡ false → tags ≡ []
+empty [] e = refl
+empty (g ∷ tags) e = absurd (true≢false (sym (lt-ltb 0 (suc (length tags)) (omega arith)) ∙ e))
+
+in_map : {A B : Type 0} (f : A → B) (xs : List A) (x : A) → In xs x → In (map f xs) (f x)
+in_map f [] x i = absurd i
+in_map f (y ∷ xs) x (inl e) = inl (ap f e)
+in_map f (y ∷ xs) x (inr i) = inr (in_map f xs x i)
+
+module _ (heading : Heading) (trust : Trust) (h : List Noted) where
+  -- after a register write a tag that is readable for a root is held by no other declared root
+  pub no_other_holder : (pe : ℕ) (reg : Reg) (value : ℕ) (tag : Tag) (root : ℕ) (r : Declared)
+      → tag_conflict heading trust h (Msr pe reg value) ≡ None → reads heading (Msr pe reg value ∷ events_of h) pe tag root ≡ true
+      → Contains (roots_of (Msr pe reg value ∷ events_of h)) r → holds_tag heading trust r.page tag (Msr pe reg value ∷ events_of h) ≡ true
+      → r.page ≡ root
+  no_other_holder pe reg value tag root r none read declared holds = by (r.page == root) refl
+    where
+      after : List Event
+      after = Msr pe reg value ∷ events_of h
+
+      by : (c : Bool) → (r.page == root) ≡ c → r.page ≡ root
+      by true c = eqb-true r.page root c
+      by false c =
+          let f = found_reading heading (Msr pe reg value ∷ events_of h) pe tag root read in
+          let other : (not (r.page == f.0.root) && holds_tag heading trust r.page f.0.tag (Msr pe reg value ∷ events_of h)) ≡ true =
+          and_from (not (r.page == f.0.root)) (holds_tag heading trust r.page f.0.tag (Msr pe reg value ∷ events_of h))
+          (not_from_false (r.page == f.0.root) (ap (λ (x : ℕ). r.page == x) f.3 ∙ c))
+          (ap (λ (g : Tag). holds_tag heading trust r.page g (Msr pe reg value ∷ events_of h)) f.2 ∙ holds) in
+          absurd (none_in (flat_map (other_holders heading trust h (Msr pe reg value ∷ events_of h)) (readings heading (Msr pe reg value ∷ events_of h) pe)) r.page
+          (least_none (flat_map (other_holders heading trust h (Msr pe reg value ∷ events_of h)) (readings heading (Msr pe reg value ∷ events_of h) pe)) none)
+          (to_flat (other_holders heading trust h (Msr pe reg value ∷ events_of h)) (readings heading (Msr pe reg value ∷ events_of h) pe) f.0 r.page f.1
+          (in_map (λ (d : Declared). d.page)
+          (filter (λ (d : Declared). not (d.page == f.0.root) && holds_tag heading trust d.page f.0.tag (Msr pe reg value ∷ events_of h)) (roots_of (Msr pe reg value ∷ events_of h))) r
+          (to_filter (λ (d : Declared). not (d.page == f.0.root) && holds_tag heading trust d.page f.0.tag (Msr pe reg value ∷ events_of h))
+          (roots_of (Msr pe reg value ∷ events_of h)) r (from_contains (roots_of (Msr pe reg value ∷ events_of h)) r declared) other))))
+
+  unused : (pe page : ℕ) → root_in_use heading trust h (Unroot pe page) ≡ None → no_root heading trust h (Unroot pe page) ≡ None
+      → is_used heading trust h page ≡ false
+  unused pe page in_use none = by (is_none (root_at (events_of h) page)) (is_used heading trust h page) refl refl in_use none
+    where
+      by : (c u : Bool) → is_none (root_at (events_of h) page) ≡ c → is_used heading trust h page ≡ u
+          → if_so (not c && u) page ≡ None → if_so c page ≡ None → u ≡ false
+      by true u c e k l = cc
+      by false true c e k l = cc
+      by false false c e k l = refl
+
+  in_below : (n p : ℕ) → p < n → In (below n) p
+  in_below zero p less = absurd (omega arith)
+  in_below (suc n) p less = by (p == n) refl (λ lower. in_below n p lower)
+    where
+      by : (c : Bool) → (p == n) ≡ c → (p < n → In (below n) p) → In (n ∷ below n) p
+      by true c rest = inl (sym (eqb-true p n c))
+      by false c rest =
+          let apart : p ≡ n → ⊥ = λ e. true≢false (sym (eq-eqb p n e) ∙ c) in inr (rest (omega arith))
+
+  in_registers : (reg : Reg) → In (Ttbr0El2 ∷ VttbrEl2 ∷ Ttbr0El1 ∷ Ttbr1El1 ∷ []) reg
+  in_registers reg.Ttbr0El2 = inl refl
+  in_registers reg.VttbrEl2 = inr (inl refl)
+  in_registers reg.Ttbr0El1 = inr (inr (inl refl))
+  in_registers reg.Ttbr1El1 = inr (inr (inr (inl refl)))
+
+  -- an `unroot` names no base of a readable register value
+  pub no_base : (pe page p : ℕ) (reg : Reg) (value : ℕ) → root_in_use heading trust h (Unroot pe page) ≡ None
+      → no_root heading trust h (Unroot pe page) ≡ None → p < heading.pes
+      → among value (register_values (events_of h) p reg) ≡ true → base_of value ≡ Some page → ⊥
+  no_base pe page p reg value in_use none is_pe readable base =
+      let parts = or_parts (some_pe heading.pes (is_base_at (events_of h) page))
+      (nat_lt 0 (length (tags_of heading trust page (events_of h)))) (unused pe page in_use none) in
+      let here : is_base_at (events_of h) page p ≡ false
+      = none_of (is_base_at (events_of h) page) (below heading.pes) parts.0 p (in_below heading.pes p is_pe) in
+      let is_base : is_that (base_of value) page ≡ true = ap (λ (o : Option ℕ). is_that o page) base ∙ same_number page in
+      true≢false (sym is_base ∙ none_of (λ value. is_that (base_of value) page)
+      (flat_map (register_values (events_of h) p) (Ttbr0El2 ∷ VttbrEl2 ∷ Ttbr0El1 ∷ Ttbr1El1 ∷ [])) here value
+      (to_flat (register_values (events_of h) p) (Ttbr0El2 ∷ VttbrEl2 ∷ Ttbr0El1 ∷ Ttbr1El1 ∷ []) reg value (in_registers reg)
+      (among_from value (register_values (events_of h) p reg) readable)))
+
+  -- nor a root that holds a tag
+  pub no_tag_held : (pe page : ℕ) (tag : Tag) → root_in_use heading trust h (Unroot pe page) ≡ None
+      → no_root heading trust h (Unroot pe page) ≡ None → holds_tag heading trust page tag (events_of h) ≡ false
+  no_tag_held pe page tag in_use none =
+      let parts = or_parts (some_pe heading.pes (is_base_at (events_of h) page))
+      (nat_lt 0 (length (tags_of heading trust page (events_of h)))) (unused pe page in_use none) in
+      no_tag heading trust page (events_of h) (ap tag_set (empty (tags_of heading trust page (events_of h)) parts.1)) tag
