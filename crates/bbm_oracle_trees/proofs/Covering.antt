@@ -1,11 +1,11 @@
 -- What a TLBI covers, of the places of the trees page by page.
-use Rattle.std.proofs.Common.{◌≡◌, ℕ, Bool, true, false, ◌&&◌, ◌||◌, ◌==◌, cond, List, [], ◌∷◌, ◌++◌, map, filter, Option, Some, None, refl, sym, ◌∙◌, ap, subst}
+use Rattle.std.proofs.Common.{◌≡◌, ℕ, Bool, true, false, ◌&&◌, ◌||◌, ◌==◌, cond, List, [], ◌∷◌, ◌++◌, filter, Option, Some, None, refl, sym, ◌∙◌, ap, subst, append_assoc}
 use Rattle.std.proofs.lemmas.Bool.{eqb-true, eq-eqb}
 use Rattle.std.specs.List.{find, flat_map}
 use Rattle.std.specs.Option.{option_map_or}
 use Rattle.bbm_descriptor.specs.Descriptor.{is_valid}
 use Rattle.bbm_tlbi_scope.specs.declared.entry.Cover.{Cover}
-use Rattle.bbm_tlbi_scope.specs.declared.entry.Cover.TheVariants.{None as NoCover}
+use Rattle.bbm_tlbi_scope.specs.declared.entry.Cover.TheVariants.{None as NoCover, Half, Second, Full}
 use Rattle.bbm_tlbi_scope.specs.Covers.{cover_of}
 use Rattle.bbm_rules.specs.Prelude.{Kind, Scope, Heading, Event, Init, Null, Root, Unroot, Write, Dsb, Dmb, Isb, Tlbi, Msr, Lock, Unlock}
 use Rattle.bbm_rules.specs.Claims.{Patterns}
@@ -17,7 +17,7 @@ use Rattle.bbm_rules.specs.Tree.{Node, held_at, node_of, tree}
 use Rattle.bbm_rules.specs.Values.{places_in, written_places}
 use Rattle.bbm_oracle_patterns.specs.Kept.{cover_in}
 use Rattle.bbm_oracle_patterns.specs.declared.kept.Covered.{Covered}
-use Rattle.bbm_oracle_trees.specs.Views.{cover_under, covered_under, covers_of_page, view_of}
+use Rattle.bbm_oracle_trees.specs.Views.{cover_under, covers_of_page, entry_of, view_of}
 use Rattle.bbm_oracle_trees.proofs.Finds.{found_passes}
 
 -- ---- places that were never written hold nothing
@@ -100,30 +100,70 @@ module _ (kind : Kind) (level q : ℕ) where
 -- ---- the list of covers
 
 module _ (f : ℕ → Cover) where
-  abbrev entry : ℕ → Covered
-  entry p = record { place = p; cover = f p }
+  abbrev entry : ℕ → List Covered
+  entry p = entry_of p (f p)
+
+  -- the first of two that is a cover
+  abbrev or_cover : Cover → Cover → Cover
+  or_cover NoCover more = more
+  or_cover Half more = Half
+  or_cover Second more = Second
+  or_cover Full more = Full
+
+  entry_read : (p q : ℕ) (c : Cover) (more : List Covered) →
+      cover_in (entry_of p c ++ more) q ≡ cond (p == q) (or_cover c (cover_in more q)) (cover_in more q)
+  entry_read p q NoCover more = same (p == q)
+    where
+      same : (b : Bool) → cover_in more q ≡ cond b (cover_in more q) (cover_in more q)
+      same true = refl
+      same false = refl
+  entry_read p q Half more = refl
+  entry_read p q Second more = refl
+  entry_read p q Full more = refl
+
+  twice : (c d : Cover) → or_cover c (or_cover c d) ≡ or_cover c d
+  twice NoCover d = refl
+  twice Half d = refl
+  twice Second d = refl
+  twice Full d = refl
 
   in_places : (ps : List ℕ) (more : List Covered) (q : ℕ) →
-      cover_in (map entry ps ++ more) q ≡ cond (among q ps) (f q) (cover_in more q)
+      cover_in (flat_map entry ps ++ more) q ≡ cond (among q ps) (or_cover (f q) (cover_in more q)) (cover_in more q)
   in_places [] more q = refl
-  in_places (p ∷ ps) more q = by_same (p == q) refl (in_places ps more q)
+  in_places (p ∷ ps) more q =
+      ap (λ (cs : List Covered). cover_in cs q) (append_assoc (entry p) (flat_map entry ps) more)
+      ∙ entry_read p q (f p) (flat_map entry ps ++ more)
+      ∙ ap (λ (c : Cover). cond (p == q) (or_cover (f p) c) c) (in_places ps more q)
+      ∙ by_same (p == q) refl (among q ps)
     where
-      by_same : (b : Bool) → (p == q) ≡ b → cover_in (map entry ps ++ more) q ≡ cond (among q ps) (f q) (cover_in more q) →
-          cond b (f p) (cover_in (map entry ps ++ more) q) ≡ cond (b || among q ps) (f q) (cover_in more q)
-      by_same true e rest = ap f (eqb-true p q e)
-      by_same false e rest = rest
+      by_among : (b : Bool) → or_cover (f q) (cond b (or_cover (f q) (cover_in more q)) (cover_in more q))
+          ≡ or_cover (f q) (cover_in more q)
+      by_among true = twice (f q) (cover_in more q)
+      by_among false = refl
+      by_same : (b : Bool) → (p == q) ≡ b → (a : Bool) →
+          cond b (or_cover (f p) (cond a (or_cover (f q) (cover_in more q)) (cover_in more q)))
+          (cond a (or_cover (f q) (cover_in more q)) (cover_in more q))
+          ≡ cond (b || a) (or_cover (f q) (cover_in more q)) (cover_in more q)
+      by_same true e a =
+          ap (λ (m : ℕ). or_cover (f m) (cond a (or_cover (f q) (cover_in more q)) (cover_in more q))) (eqb-true p q e)
+          ∙ by_among a
+      by_same false e a = refl
 
   in_pages : (g : Node → List ℕ) (ns : List Node) (q : ℕ) →
-      cover_in (flat_map (λ n. map entry (g n)) ns) q ≡ cond (any (λ n. among q (g n)) ns) (f q) NoCover
+      cover_in (flat_map (λ n. flat_map entry (g n)) ns) q ≡ cond (any (λ n. among q (g n)) ns) (f q) NoCover
   in_pages g [] q = refl
   in_pages g (n ∷ ns) q =
-      in_places (g n) (flat_map (λ m. map entry (g m)) ns) q
-      ∙ ap (λ (c : Cover). cond (among q (g n)) (f q) c) (in_pages g ns q)
-      ∙ joined (among q (g n)) (any (λ m. among q (g m)) ns)
+      in_places (g n) (flat_map (λ m. flat_map entry (g m)) ns) q
+      ∙ ap (λ (c : Cover). cond (among q (g n)) (or_cover (f q) c) c) (in_pages g ns q)
+      ∙ joined (among q (g n)) (any (λ m. among q (g m)) ns) (f q)
     where
-      joined : (a b : Bool) → cond a (f q) (cond b (f q) NoCover) ≡ cond (a || b) (f q) NoCover
-      joined true b = refl
-      joined false b = refl
+      joined : (a b : Bool) (c : Cover) → cond a (or_cover c (cond b c NoCover)) (cond b c NoCover) ≡ cond (a || b) c NoCover
+      joined true true NoCover = refl
+      joined true false NoCover = refl
+      joined true b Half = refl
+      joined true b Second = refl
+      joined true b Full = refl
+      joined false b c = refl
 
 -- ---- what a TLBI covers
 

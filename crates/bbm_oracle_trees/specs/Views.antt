@@ -1,7 +1,7 @@
 -- The parts of what a TLBI sees and covers, as the definitions of the rules have them, over an annotated history. No
 -- public contract cites these words. Source: project's own choice.
 use Rattle.std.specs.Option.{option_map_or}
-use Rattle.std.specs.Prelude.{◌≡◌, ℕ, List, Option, is_some, map, All}
+use Rattle.std.specs.Prelude.{◌≡◌, ℕ, List, [], ◌∷◌, Option, is_some, flat_map, All}
 use Rattle.bbm_descriptor.specs.Descriptor.{desc_of}
 use Rattle.bbm_tlbi_scope.specs.declared.entry.Cover.{Cover}
 use Rattle.bbm_tlbi_scope.specs.declared.entry.Cover.TheVariants.{None as NoCover}
@@ -16,6 +16,11 @@ use Rattle.bbm_rules.specs.Tree.{Node, is_childless, next_of, region_of}
 use Rattle.bbm_rules.specs.Values.{places_in}
 use Rattle.bbm_oracle_patterns.specs.declared.kept.Covered.{Covered}
 use Rattle.bbm_oracle_trees.specs.declared.covers.RootTags.{RootTags}
+
+-- the entry of a place that is covered so far; none where it isn't covered
+abbrev pub entry_of : ℕ → Cover → List Covered
+entry_of place NoCover = []
+entry_of place cover = record { place = place; cover = cover } ∷ []
 
 module _ (heading : Heading) (h : List Noted) where
   -- how a TLBI sees a place of a node that holds this value
@@ -34,13 +39,13 @@ module _ (heading : Heading) (h : List Noted) where
   abbrev pub cover_under : Scope → Option ℕ → ℕ → Cover
   cover_under scope vmid place = option_map_or (cover_of scope vmid) (view_at heading Patterns h place) NoCover
 
-  -- the place with that
-  abbrev pub covered_under : Scope → Option ℕ → ℕ → Covered
-  covered_under scope vmid place = record { place = place; cover = cover_under scope vmid place }
+  -- its entry
+  abbrev pub covered_under : Scope → Option ℕ → ℕ → List Covered
+  covered_under scope vmid place = entry_of place (cover_under scope vmid place)
 
-  -- the places of the page of a node with that
+  -- the entries of the places of the page of a node
   abbrev pub covers_of_page : Scope → Option ℕ → Node → List Covered
-  covers_of_page scope vmid n = map (covered_under scope vmid) (places_in (events_of h) n.page)
+  covers_of_page scope vmid n = flat_map (covered_under scope vmid) (places_in (events_of h) n.page)
 
 -- each is the tag set of its root
 abbrev pub AreTags : Heading → List Event → List RootTags → Type 0

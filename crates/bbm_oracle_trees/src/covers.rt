@@ -1,6 +1,6 @@
 //! Which places an event covers, and how far.
 
-ghost use Rattle.std.specs.Prelude.{◌≡◌, ◌≤◌, ℕ, ◌++◌, ◌∷◌, [], map, flat_map, Option, IfOk, OnOk};
+ghost use Rattle.std.specs.Prelude.{◌≡◌, ◌≤◌, ℕ, ◌++◌, flat_map, Option, IfOk, OnOk};
 ghost use Rattle.std.specs.Option.{option_map_or};
 ghost use Rattle.bbm_descriptor.specs.Descriptor.{desc_of};
 ghost use Rattle.bbm_tlbi_scope.specs.declared.entry.Cover.TheVariants.{None as NoCover};
@@ -14,7 +14,7 @@ ghost use Rattle.bbm_rules.specs.Tree as trees;
 ghost use Rattle.bbm_rules.specs.Values.{places_in};
 ghost use Rattle.bbm_oracle_patterns.specs.Kept.{cover_in};
 ghost use Rattle.bbm_oracle_trees.specs.Past.{notes};
-ghost use Rattle.bbm_oracle_trees.specs.Views.{AreTags, cover_under, covered_under, view_of};
+ghost use Rattle.bbm_oracle_trees.specs.Views.{AreTags, cover_under, covered_under, entry_of, view_of};
 
 use crate::log::Log;
 use crate::node::Node;
@@ -147,6 +147,18 @@ fn cover_at(
     }
 }
 
+// Adds the place, where it is covered at all.
+fn add_cover(covers: &mut Vec<Covered>, place: Place, cover: Cover) -> Result<(), NoMemory>
+    ensures { OnOk result (covers.new.items ≡ covers.old.items ++ entry_of place cover) }
+{
+    match cover {
+        Cover::None => Ok(()),
+        Cover::Half | Cover::Second | Cover::Full => covers
+            .push(Covered { place, cover })
+            .map_err(|_| NoMemory),
+    }
+}
+
 // Adds how far a TLBI covers each place of the page.
 fn add_covers(
     alloc: Global,
@@ -161,16 +173,11 @@ fn add_covers(
     requires tree { tree.now ≡ trees.tree log.now.heading Patterns (notes log.now) }
     requires known { AreTags log.now.heading (events_of (notes log.now)) known.now }
     ensures { OnOk result (covers.new.items ≡ covers.old.items
-        ++ map (covered_under log.now.heading (notes log.now) scope.now vmid) (places_in (events_of (notes log.now)) page)) }
+        ++ flat_map (covered_under log.now.heading (notes log.now) scope.now vmid) (places_in (events_of (notes log.now)) page)) }
 {
     for place in &log.places_in(alloc, page)? {
         let cover = cover_at(alloc, log, tree, known, scope, vmid, *place)?;
-        covers
-            .push(Covered {
-                place: *place,
-                cover,
-            })
-            .map_err(|_| NoMemory)?;
+        add_cover(covers, *place, cover)?;
     }
     Ok(())
 }
