@@ -1,6 +1,7 @@
 //! The top call: a log is read from a source and judged, and the verdict is written to a sink.
 #![tactic(auto)]
 
+mod command;
 mod judging;
 mod line;
 pub mod status;
