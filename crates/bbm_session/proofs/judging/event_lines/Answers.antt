@@ -4,11 +4,6 @@ use Rattle.bbm_rules.specs.Outcome.{AtEvents}
 use Rattle.bbm_session.proofs.Stages.{shrinks-trans, continues-trans, continues-stops, reach-end}
 use Rattle.bbm_session.proofs.judging.event_lines.Goals as goal
 
-pub event_line-requires-stands : goal.event_line-requires-stands
-event_line-requires-stands g c =
-    let kept = c.lines.invariant in
-    (kept.h, kept.stands, kept.number)
-
 pub lines-preserved : goal.lines-preserved
 lines-preserved g c =
     let kept = c.lines.invariant in
@@ -35,7 +30,7 @@ pub returns-in-Ok-End-clause-reaches : goal.returns-in-Ok-End-clause-reaches
 returns-in-Ok-End-clause-reaches g c =
     let kept = c.lines.invariant in
     let advanced = rw c.in-Ok-End.field-0-is at c.in-Ok-End.ensures.advances kept.h kept.stands in
-    reach-end c.args.limits _ c.args.header.now c.lines.number kept.h _ _ _ _ _ _ kept.continues kept.within kept.sound advanced
+    reach-end c.args.limits (g.C.Checker.stands c.event_line.new.checker) c.args.header.now c.lines.number kept.h _ _ _ _ _ _ kept.continues kept.within kept.sound advanced
 
 pub returns-in-Err-clause-reaches : goal.returns-in-Err-clause-reaches
 returns-in-Err-clause-reaches g c =

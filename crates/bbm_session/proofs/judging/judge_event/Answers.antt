@@ -1,0 +1,18 @@
+use Rattle.std.proofs.Common.{◌≡◌, ◌∷◌, suc, length, None, sym, arith}
+use Rattle.bbm_rules.specs.Outcome.{limit_after}
+use Rattle.bbm_session.proofs.Stages.{event-refused, event-kept, before-lines}
+use Rattle.bbm_session.proofs.judging.judge_event.Goals as goal
+
+pub returns-in-Err : goal.returns-in-Err
+returns-in-Err g c = λ heading h stands.
+    event-refused (g.C.Checker.stands c.step.new.self) c.args.limits heading c.refusal.result c.args.number h c.args.event c.args.label (c.refusal.ensures _ _ (c.in-Err.ensures.judged heading h stands))
+
+pub returns-in-None : goal.returns-in-None
+returns-in-None g c = λ heading h stands.
+    let judged = c.in_default.ensures.judged heading h stands in
+    let taken = c.in_default.ensures.taken heading h stands in
+    let counted = c.events.ensures heading (c.args.event ∷ h) taken in
+    let count : c.events.result ≡ suc (length h) = omega (arith, counted) in
+    let free : limit_after c.args.limits c.args.number (length h) ≡ None = sym (c.in-None.ensures (length h) count) in
+    let after = g.C.Checker.stands c.step.new.self in
+    (c.args.event ∷ h, event-kept after c.args.limits heading c.args.number h c.args.event c.args.label judged.0 judged.1 free, taken, omega arith, before-lines c.args.limits c.args.number (length h) free)
