@@ -6,6 +6,9 @@ ghost use Rattle.bbm_session.specs.Run.{command_of, limits_of};
 
 use bbm_rules::Limits;
 
+/// The most events of a log that the oracle judges. Source: project's own choice.
+const ORACLE_EVENTS: u64 = 2000;
+
 /// A command that judges a log. Source: project's own choice.
 #[derive(Clone, Copy, Debug)]
 pub enum Command {
@@ -30,17 +33,13 @@ pub fn said(words: &[String]) -> Option<Command>
     }
 }
 
-/// The limits under which a command judges a log.
+/// The limits under which a command judges a log. As long as the oracle judges for both, they have the same.
 pub fn limits(command: Command) -> Limits
     ensures { result ≡ limits_of command }
 {
     match command {
-        Command::Check => Limits {
-            events: Some(2000),
-            lines: u32::MAX,
-        },
-        Command::Slow => Limits {
-            events: Some(2000),
+        Command::Check | Command::Slow => Limits {
+            events: Some(ORACLE_EVENTS),
             lines: u32::MAX,
         },
     }

@@ -170,7 +170,13 @@ fn event_line<C: Checker, S: Source>(
 {
     match next_piece(lines, log) {
         Piece::Line => {
-            judge_item(alloc, limits, number, checker, read_event(header, lines.bytes()))
+            judge_item(
+                alloc,
+                limits,
+                number,
+                checker,
+                read_event(header, lines.bytes()),
+            )
         }
         Piece::Rest => Err(malformed(number, Malformed::NoEnd)),
         Piece::TooLong => Err(limit(number, Which::LineBytes)),
@@ -251,7 +257,11 @@ fn judge_events<C: Checker, S: Source>(
 }
 
 // Reads the whole log and judges it; answers the number of its events.
-fn judge_lines<C: Fresh + Drop, S: Source>(alloc: Global, limits: Limits, log: &mut S) -> Result<u64, Stop>
+fn judge_lines<C: Fresh + Drop, S: Source>(
+    alloc: Global,
+    limits: Limits,
+    log: &mut S,
+) -> Result<u64, Stop>
     ensures ends { Ends limits 1 AtHeader result (S.left log.old) (S.left log.new) (S.faults log.old) (S.faults log.new) }
     ensures shrinks { Shrinks (S.left log.old) (S.left log.new) }
 {

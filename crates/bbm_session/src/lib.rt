@@ -10,6 +10,7 @@ mod text;
 mod top;
 mod words;
 
+pub use command::Command;
 pub use status::{Status, number};
 pub use top::run;
 pub use words::run_words;

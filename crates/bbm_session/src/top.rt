@@ -64,7 +64,12 @@ fn answer<K: Sink>(verdict: Verdict, out: &mut K) -> Status
 }
 
 // Judges the log by a new checker, under these limits, and writes the line of the verdict.
-fn check<C: Fresh + Drop, S: Source, K: Sink>(alloc: Global, limits: Limits, log: &mut S, out: &mut K) -> Status
+fn check<C: Fresh + Drop, S: Source, K: Sink>(
+    alloc: Global,
+    limits: Limits,
+    log: &mut S,
+    out: &mut K,
+) -> Status
     ensures checks { Checks limits result (S.left log.old) (S.left log.new) (S.faults log.old) (S.faults log.new)
         (K.held out.old) (K.held out.new) (K.faults out.old) (K.faults out.new) }
     ensures shrinks { Shrinks (S.left log.old) (S.left log.new) }
