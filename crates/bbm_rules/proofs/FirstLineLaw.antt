@@ -2,7 +2,8 @@
 use Rattle.std.proofs.Common.{◌≡◌, ◌⊎◌, ℕ, suc, ◌+◌, List, [], ◌∷◌, ◌++◌, length, Option, Some, refl, ap, sym, ◌∙◌, subst, inl, inr, arith}
 use Rattle.bbm_rules.specs.declared.verdict.Verdict.{Verdict}
 use Rattle.bbm_rules.specs.Claims.{Trust}
-use Rattle.bbm_rules.specs.Outcome.{Limits, Progress, AtHeader, Step, Decides, GoesOn, step_of, end_of, outcome_after, Outcome, outcome_from, verdict_of_lines, goes_on_to, read_from, DecidedByLine, DecidedByEnd}
+use Rattle.bbm_rules.specs.declared.limits.Limits.{Limits}
+use Rattle.bbm_rules.specs.Outcome.{Progress, AtHeader, Step, Decides, GoesOn, step_of, end_of, outcome_after, Outcome, outcome_from, verdict_of_lines, goes_on_to, read_from, DecidedByLine, DecidedByEnd}
 
 -- a line that decides
 decides_now : (p : Progress) (line : List ℕ) (lines : List (List ℕ)) (rest : List ℕ) (v : Verdict) (f : Progress → Outcome) (s : Step)

@@ -2,7 +2,8 @@
 
 ghost use Rattle.std.specs.Prelude.{◌≡◌, ◌⊎◌, ℕ, List};
 ghost use Rattle.bbm_rules.specs.Claims.{Trust};
-ghost use Rattle.bbm_rules.specs.Outcome.{DecidedByEnd, DecidedByLine, Limits, verdict_of_lines};
+ghost use Rattle.bbm_rules.specs.declared.limits.Limits.{Limits as LimitsOf};
+ghost use Rattle.bbm_rules.specs.Outcome.{DecidedByEnd, DecidedByLine, verdict_of_lines};
 ghost use Rattle.bbm_rules.specs.declared.verdict.Verdict.{Verdict as VerdictOf};
 
 use crate::rule::Rule;
@@ -42,11 +43,11 @@ pub enum Verdict {
 /// contract.
 #[tactic(auto, using(crate::proofs::FirstLineLaw::laws))]
 pub fn law_first_line_decides()
-    ensures by_line { (trust : Trust) (limits : Limits) (lines : List (List ℕ)) (rest : List ℕ) (verdict : VerdictOf) →
+    ensures by_line { (trust : Trust) (limits : LimitsOf) (lines : List (List ℕ)) (rest : List ℕ) (verdict : VerdictOf) →
         DecidedByLine trust limits lines verdict → verdict_of_lines trust limits lines rest ≡ verdict }
-    ensures by_end { (trust : Trust) (limits : Limits) (lines : List (List ℕ)) (rest : List ℕ) (verdict : VerdictOf) →
+    ensures by_end { (trust : Trust) (limits : LimitsOf) (lines : List (List ℕ)) (rest : List ℕ) (verdict : VerdictOf) →
         DecidedByEnd trust limits lines rest verdict → verdict_of_lines trust limits lines rest ≡ verdict }
-    ensures one_decides { (trust : Trust) (limits : Limits) (lines : List (List ℕ)) (rest : List ℕ) →
+    ensures one_decides { (trust : Trust) (limits : LimitsOf) (lines : List (List ℕ)) (rest : List ℕ) →
         DecidedByLine trust limits lines (verdict_of_lines trust limits lines rest)
         ⊎ DecidedByEnd trust limits lines rest (verdict_of_lines trust limits lines rest) }
 {}

@@ -13,8 +13,11 @@ use Rattle.bbm_events.specs.Lines.{header_of, item_of}
 use Rattle.bbm_rules.specs.declared.verdict.Verdict.{Verdict}
 use Rattle.bbm_rules.specs.declared.verdict.Verdict.TheVariants.{Accepted, Refused, Malformed, Limit}
 use Rattle.bbm_regimes.specs.declared.regime.Which.{Which}
-use Rattle.bbm_rules.specs.Broken.{Breach}
-use Rattle.bbm_rules.specs.Outcome.{Judge, Limits, first_path, check_limits, Text, before_text, text_of, bytes_of, is_too_long, limit_at, after_kept, Progress, AtHeader, AtEvents, AtEnd, Step, Decides, GoesOn, after_header, after_item, after_judged, after_line, too_long_at, cut_at, end_of, Outcome, outcome_after, outcome_from, outcome_of, verdict_of_bytes, events_in, read_lines}
+use Rattle.bbm_rules.specs.Broken.{Breach, broken}
+use Rattle.bbm_rules.specs.Claims.{Trust, Patterns}
+use Rattle.bbm_rules.specs.Limits.{limit_of}
+use Rattle.bbm_rules.specs.declared.limits.Limits.{Limits}
+use Rattle.bbm_rules.specs.Outcome.{Text, before_text, text_of, bytes_of, is_too_long, limit_at, after_kept, Progress, AtHeader, AtEvents, AtEnd, Step, Decides, GoesOn, after_header, after_item, after_judged, after_line, too_long_at, cut_at, end_of, Outcome, outcome_after, outcome_from, outcome_of, verdict_of_bytes, events_in, read_lines}
 use Rattle.bbm_session.specs.declared.status.Status.{Status}
 use Rattle.bbm_session.specs.declared.status.Status.TheVariants as status
 use Rattle.bbm_session.specs.declared.stop.Stop.{Stop}
@@ -41,30 +44,30 @@ says_if : (b : Bool) (n : ℕ) (s t : Step) → Says n s → Says n t → Says n
 says_if true n s t first second = first
 says_if false n s t first second = second
 
-says_header : (judge : Judge) (n : ℕ) (r : Result Heading Cause) → Says n (after_header judge n r)
-says_header judge n (Ok heading) = says_if (judge.judges_heading heading) n _ _ tt refl
-says_header judge n (Err cause) = refl
+says_header : (n : ℕ) (r : Result Heading Cause) → Says n (after_header n r)
+says_header n (Ok heading) = tt
+says_header n (Err cause) = refl
 
 says_kept : (n : ℕ) (heading : Heading) (h : List EventOf) (e : EventOf) (limit : Option Which) → Says n (after_kept n heading h e limit)
 says_kept n heading h e (Some which) = refl
 says_kept n heading h e None = tt
 
-says_judged : (judge : Judge) (limits : Limits) (n : ℕ) (heading : Heading) (h : List EventOf) (e : EventOf) (label : Option (List ℕ)) (breach : Option Breach)
-    → Says n (after_judged judge limits n heading h e label breach)
-says_judged judge limits n heading h e label (Some breach) = refl
-says_judged judge limits n heading h e label None = says_kept n heading h e (limit_at limits n h (judge.limit h e))
+says_judged : (limits : Limits) (n : ℕ) (heading : Heading) (h : List EventOf) (e : EventOf) (label : Option (List ℕ)) (breach : Option Breach)
+    → Says n (after_judged limits n heading h e label breach)
+says_judged limits n heading h e label (Some breach) = refl
+says_judged limits n heading h e label None = says_kept n heading h e (limit_at limits n h (limit_of h e))
 
-says_item : (judge : Judge) (limits : Limits) (n : ℕ) (heading : Heading) (h : List EventOf) (r : Result Item Cause)
-    → Says n (after_item judge limits n heading h r)
-says_item judge limits n heading h (Ok (item.Event e label)) =
-    says_if (judge.judges heading h e) n _ _ (says_judged judge limits n heading h e label (judge.breach heading h e)) refl
-says_item judge limits n heading h (Ok (item.End count)) = says_if (count == length h) n _ _ tt refl
-says_item judge limits n heading h (Err cause) = refl
+says_item : (trust : Trust) (limits : Limits) (n : ℕ) (heading : Heading) (h : List EventOf) (r : Result Item Cause)
+    → Says n (after_item trust limits n heading h r)
+says_item trust limits n heading h (Ok (item.Event e label)) =
+    says_judged limits n heading h e label (broken heading trust h e)
+says_item trust limits n heading h (Ok (item.End count)) = says_if (count == length h) n _ _ tt refl
+says_item trust limits n heading h (Err cause) = refl
 
-says_line : (judge : Judge) (limits : Limits) (n : ℕ) (p : Progress) (line : List ℕ) → Says n (after_line judge limits n p line)
-says_line judge limits n AtHeader line = says_header judge n (header_of line)
-says_line judge limits n (AtEvents heading h) line = says_item judge limits n heading h (item_of heading line)
-says_line judge limits n (AtEnd h) line = refl
+says_line : (trust : Trust) (limits : Limits) (n : ℕ) (p : Progress) (line : List ℕ) → Says n (after_line trust limits n p line)
+says_line trust limits n AtHeader line = says_header n (header_of line)
+says_line trust limits n (AtEvents heading h) line = says_item trust limits n heading h (item_of heading line)
+says_line trust limits n (AtEnd h) line = refl
 
 names_long : (n : ℕ) (p : Progress) → Names n (too_long_at n p)
 names_long n AtHeader = refl
@@ -203,16 +206,16 @@ read_end n p rest false long clean =
 
 -- ---- the lines, one after another
 
-module _ (judge : Judge) (limits : Limits) (n : ℕ) (p : Progress) (line : List ℕ) (lines : List (List ℕ)) (rest : List ℕ) where
+module _ (trust : Trust) (limits : Limits) (n : ℕ) (p : Progress) (line : List ℕ) (lines : List (List ℕ)) (rest : List ℕ) where
   abbrev Behind : Type 0
-  Behind = (next : Progress) → Read (suc n) (outcome_from judge limits (suc n) next lines rest) (bytes_of lines rest)
+  Behind = (next : Progress) → Read (suc n) (outcome_from trust limits (suc n) next lines rest) (bytes_of lines rest)
 
   by_step : (s : Step) → Says n s → is_too_long line ≡ false → plain line ≡ true → Behind
-      → Read n (outcome_after p line lines rest (λ next. outcome_from judge limits (suc n) next lines rest) s) (line ++ 10 ∷ bytes_of lines rest)
+      → Read n (outcome_after p line lines rest (λ next. outcome_from trust limits (suc n) next lines rest) s) (line ++ 10 ∷ bytes_of lines rest)
   by_step (Decides v) says short clean behind = rw short (read_line n v (events_in p) line (bytes_of lines rest) clean says)
   by_step (GoesOn next) says short clean behind =
       let k = behind next in
-      let o = outcome_from judge limits (suc n) next lines rest in
+      let o = outcome_from trust limits (suc n) next lines rest in
       record {
         taken = line ++ 10 ∷ k.taken;
         is = ap (λ x. line ++ 10 ∷ x) k.is ∙ sym (append_assoc line (10 ∷ k.taken) o.unread);
@@ -221,21 +224,21 @@ module _ (judge : Judge) (limits : Limits) (n : ℕ) (p : Progress) (line : List
       }
 
   by_length : (b : Bool) → is_too_long line ≡ b → plain line ≡ true → Behind
-      → Read n (outcome_from judge limits n p (line ∷ lines) rest) (line ++ 10 ∷ bytes_of lines rest)
+      → Read n (outcome_from trust limits n p (line ∷ lines) rest) (line ++ 10 ∷ bytes_of lines rest)
   by_length true long clean behind =
       let h : 200 < length line = grind (arith, nat_tests) in
-      rw (step_of-long judge limits n p line h, long)
+      rw (step_of-long trust limits n p line h, long)
       (read_long n (too_long_at n p) (events_in p) line (10 ∷ bytes_of lines rest) h clean (names_long n p))
   by_length false short clean behind =
       let h : length line ≤ 200 = grind (arith, nat_tests) in
-      rw (step_of-short judge limits n p line h) (by_step (after_line judge limits n p line) (says_line judge limits n p line) short clean behind)
+      rw (step_of-short trust limits n p line h) (by_step (after_line trust limits n p line) (says_line trust limits n p line) short clean behind)
 
-reads : (judge : Judge) (limits : Limits) (n : ℕ) (p : Progress) (lines : List (List ℕ)) (rest : List ℕ) → plain_lines lines ≡ true → plain rest ≡ true
-    → Read n (outcome_from judge limits n p lines rest) (bytes_of lines rest)
-reads judge limits n p [] rest ls r = read_end n p rest (is_too_long rest) refl r
-reads judge limits n p (line ∷ lines) rest ls r =
+reads : (trust : Trust) (limits : Limits) (n : ℕ) (p : Progress) (lines : List (List ℕ)) (rest : List ℕ) → plain_lines lines ≡ true → plain rest ≡ true
+    → Read n (outcome_from trust limits n p lines rest) (bytes_of lines rest)
+reads trust limits n p [] rest ls r = read_end n p rest (is_too_long rest) refl r
+reads trust limits n p (line ∷ lines) rest ls r =
     let parts = and_parts (plain line) (plain_lines lines) ls in
-    by_length judge limits n p line lines rest (is_too_long line) refl parts.0 (λ next. reads judge limits (suc n) next lines rest parts.1 r)
+    by_length trust limits n p line lines rest (is_too_long line) refl parts.0 (λ next. reads trust limits (suc n) next lines rest parts.1 r)
 
 -- ---- from line 1 on
 
@@ -250,30 +253,30 @@ read_for (Malformed line cause) read unread f = up_to line read unread f
 read_for (Limit line which) read unread f = up_to line read unread f
 
 -- what is left unread, where the rest was read
-pub read-to : (bytes : List ℕ) (left : Option (List ℕ)) → left ≡ Some (outcome_of first_path check_limits bytes).unread
-    → ReadTo bytes (verdict_of_bytes first_path check_limits bytes) left
-read-to bytes left is =
-    let o = outcome_of first_path check_limits bytes in
+pub read-to : (limits : Limits) (bytes : List ℕ) (left : Option (List ℕ)) → left ≡ Some (outcome_of Patterns limits bytes).unread
+    → ReadTo bytes (verdict_of_bytes Patterns limits bytes) left
+read-to limits bytes left is =
+    let o = outcome_of Patterns limits bytes in
     let clean = plain_text bytes in
-    let k = reads first_path check_limits 1 AtHeader (text_of bytes).lines (text_of bytes).rest clean.0 clean.1 in
+    let k = reads Patterns limits 1 AtHeader (text_of bytes).lines (text_of bytes).rest clean.0 clean.1 in
     (k.taken, o.unread, sym (bytes_of-text_of bytes) ∙ k.is, is, read_for o.verdict (text_of k.taken) o.unread k.to)
 
 -- ---- of a log that was judged
 
-unread_is : (bytes : List ℕ) (left : Option (List ℕ)) (v : Verdict) → Concludes first_path check_limits 1 AtHeader (Some bytes) v left
-    → (verdict_of_bytes first_path check_limits bytes ≡ v) × (left ≡ Some (outcome_of first_path check_limits bytes).unread)
-unread_is bytes None v concludes = absurd concludes
-unread_is bytes (Some rest) v concludes = (concludes.0, ap Some (sym concludes.1))
+unread_is : (limits : Limits) (bytes : List ℕ) (left : Option (List ℕ)) (v : Verdict) → Concludes Patterns limits 1 AtHeader (Some bytes) v left
+    → (verdict_of_bytes Patterns limits bytes ≡ v) × (left ≡ Some (outcome_of Patterns limits bytes).unread)
+unread_is limits bytes None v concludes = absurd concludes
+unread_is limits bytes (Some rest) v concludes = (concludes.0, ap Some (sym concludes.1))
 
-told : (stop : Stop) (result : Status) (bytes : List ℕ) (left : Option (List ℕ)) (f f' : ℕ) (h h' : Option (List ℕ)) (w w' : ℕ)
-    → Stops first_path check_limits 1 AtHeader (Some bytes) stop left f f' → Reports stop result h h' w w' → tells_verdict result ≡ true
-    → (result ≡ status_of (verdict_of_bytes first_path check_limits bytes)) × (left ≡ Some (outcome_of first_path check_limits bytes).unread)
-told (Decided v) result bytes left f f' h h' w w' stops (inl wrote) tells =
-    let is = unread_is bytes left v stops.0 in
+told : (limits : Limits) (stop : Stop) (result : Status) (bytes : List ℕ) (left : Option (List ℕ)) (f f' : ℕ) (h h' : Option (List ℕ)) (w w' : ℕ)
+    → Stops Patterns limits 1 AtHeader (Some bytes) stop left f f' → Reports stop result h h' w w' → tells_verdict result ≡ true
+    → (result ≡ status_of (verdict_of_bytes Patterns limits bytes)) × (left ≡ Some (outcome_of Patterns limits bytes).unread)
+told limits (Decided v) result bytes left f f' h h' w w' stops (inl wrote) tells =
+    let is = unread_is limits bytes left v stops.0 in
     (wrote.0 ∙ ap status_of (sym is.0), is.1)
-told (Decided v) result bytes left f f' h h' w w' stops (inr failed) tells = absurd (false≢true (sym (ap tells_verdict failed.0) ∙ tells))
-told ReadFault result bytes left f f' h h' w w' stops reports tells = absurd (false≢true (sym (ap tells_verdict reports.0) ∙ tells))
-told NoMemory result bytes left f f' h h' w w' stops reports tells = absurd (false≢true (sym (ap tells_verdict reports.0) ∙ tells))
+told limits (Decided v) result bytes left f f' h h' w w' stops (inr failed) tells = absurd (false≢true (sym (ap tells_verdict failed.0) ∙ tells))
+told limits ReadFault result bytes left f f' h h' w w' stops reports tells = absurd (false≢true (sym (ap tells_verdict reports.0) ∙ tells))
+told limits NoMemory result bytes left f f' h h' w w' stops reports tells = absurd (false≢true (sym (ap tells_verdict reports.0) ∙ tells))
 
 none_left : (v : Verdict) (read : Text) (unread : List ℕ) → status_of v ≡ status.Accepted → ReadFor v read unread → unread ≡ []
 none_left (Accepted events) read unread accepted f = f
@@ -281,22 +284,22 @@ none_left (Refused line rule at label) read unread accepted f = cc
 none_left (Malformed line cause) read unread accepted f = cc
 none_left (Limit line which) read unread accepted f = cc
 
-module _ (result : Status) (bytes : List ℕ) (old new : Option (List ℕ)) (f f' : ℕ) (h h' : Option (List ℕ)) (w w' : ℕ)
-    (checks : Checks result old new f f' h h' w w') (is : old ≡ Some bytes) where
+module _ (limits : Limits) (result : Status) (bytes : List ℕ) (old new : Option (List ℕ)) (f f' : ℕ) (h h' : Option (List ℕ)) (w w' : ℕ)
+    (checks : Checks limits result old new f f' h h' w w') (is : old ≡ Some bytes) where
   tells-read : tells_verdict result ≡ true
-      → (result ≡ status_of (verdict_of_bytes first_path check_limits bytes)) × (new ≡ Some (outcome_of first_path check_limits bytes).unread)
+      → (result ≡ status_of (verdict_of_bytes Patterns limits bytes)) × (new ≡ Some (outcome_of Patterns limits bytes).unread)
   tells-read tells =
-      let k : Checks result (Some bytes) new f f' h h' w w' = subst (λ (o : Option (List ℕ)). Checks result o new f f' h h' w w') is checks in
-      told k.stop result bytes new f f' h h' w w' k.stops k.reports tells
+      let k : Checks limits result (Some bytes) new f f' h h' w w' = subst (λ (o : Option (List ℕ)). Checks limits result o new f f' h h' w w') is checks in
+      told limits k.stop result bytes new f f' h h' w w' k.stops k.reports tells
 
-  pub checked-read : tells_verdict result ≡ true → ReadTo bytes (verdict_of_bytes first_path check_limits bytes) new
-  checked-read tells = read-to bytes new (tells-read tells).1
+  pub checked-read : tells_verdict result ≡ true → ReadTo bytes (verdict_of_bytes Patterns limits bytes) new
+  checked-read tells = read-to limits bytes new (tells-read tells).1
 
   pub accepted-read : result ≡ status.Accepted → new ≡ Some []
   accepted-read accepted =
       let told_it = tells-read (ap tells_verdict accepted) in
-      let r = read-to bytes new told_it.1 in
-      r.3 ∙ ap Some (none_left (verdict_of_bytes first_path check_limits bytes) (text_of r.0) r.1 (sym told_it.0 ∙ accepted) r.4)
+      let r = read-to limits bytes new told_it.1 in
+      r.3 ∙ ap Some (none_left (verdict_of_bytes Patterns limits bytes) (text_of r.0) r.1 (sym told_it.0 ∙ accepted) r.4)
 
 -- ---- of a log whose judging stopped before a verdict
 
@@ -312,8 +315,8 @@ text_of-bytes_of (line ∷ lines) rest clean r =
     let parts = and_parts (plain line) (plain_lines lines) clean in
     rw (text_of-line line (bytes_of lines rest) parts.0, text_of-bytes_of lines rest parts.1 r) refl
 
-to_fault : (bytes rest : List ℕ) → Broke first_path check_limits 1 AtHeader bytes rest → ReadToFault bytes (Some rest)
-to_fault bytes rest broke =
+to_fault : (limits : Limits) (bytes rest : List ℕ) → Broke Patterns limits 1 AtHeader bytes rest → ReadToFault limits bytes (Some rest)
+to_fault limits bytes rest broke =
     let lines = broke.passed.lines in
     let text = text_of-bytes_of lines broke.piece broke.passed.clean broke.clean in
     record {
@@ -324,12 +327,12 @@ to_fault bytes rest broke =
         now = refl;
       };
       reached = broke.reached;
-      undecided = ap (λ (t : Text). read_lines first_path check_limits t.lines) text ∙ broke.passed.read;
+      undecided = ap (λ (t : Text). read_lines Patterns limits t.lines) text ∙ broke.passed.read;
       short = subst (λ (t : Text). length t.rest ≤ 200) (sym text) broke.short;
     }
 
-to_want : (bytes rest : List ℕ) → Starved first_path check_limits 1 AtHeader bytes rest → ReadToWant bytes (Some rest)
-to_want bytes rest starved =
+to_want : (limits : Limits) (bytes rest : List ℕ) → Starved Patterns limits 1 AtHeader bytes rest → ReadToWant limits bytes (Some rest)
+to_want limits bytes rest starved =
     let lines = starved.passed.lines in
     let line = starved.line in
     let whole : List (List ℕ) = lines ++ line ∷ [] in
@@ -355,31 +358,31 @@ tells_of (Refused line rule at label) = refl
 tells_of (Malformed line cause) = refl
 tells_of (Limit line which) = refl
 
-told_fault : (stop : Stop) (result : Status) (bytes : List ℕ) (left : Option (List ℕ)) (f f' : ℕ) (h h' : Option (List ℕ)) (w w' : ℕ)
-    → Stops first_path check_limits 1 AtHeader (Some bytes) stop left f f' → Reports stop result h h' w w' → result ≡ status.ReadFault
-    → ReadToFault bytes left
-told_fault (Decided v) result bytes left f f' h h' w w' stops (inl wrote) is =
+told_fault : (limits : Limits) (stop : Stop) (result : Status) (bytes : List ℕ) (left : Option (List ℕ)) (f f' : ℕ) (h h' : Option (List ℕ)) (w w' : ℕ)
+    → Stops Patterns limits 1 AtHeader (Some bytes) stop left f f' → Reports stop result h h' w w' → result ≡ status.ReadFault
+    → ReadToFault limits bytes left
+told_fault limits (Decided v) result bytes left f f' h h' w w' stops (inl wrote) is =
     absurd (false≢true (ap tells_verdict (sym is ∙ wrote.0) ∙ tells_of v))
-told_fault (Decided v) result bytes left f f' h h' w w' stops (inr failed) is = cc
-told_fault ReadFault result bytes None f f' h h' w w' stops reports is = absurd stops.0
-told_fault ReadFault result bytes (Some rest) f f' h h' w w' stops reports is = to_fault bytes rest stops.0
-told_fault NoMemory result bytes left f f' h h' w w' stops reports is = cc
+told_fault limits (Decided v) result bytes left f f' h h' w w' stops (inr failed) is = cc
+told_fault limits ReadFault result bytes None f f' h h' w w' stops reports is = absurd stops.0
+told_fault limits ReadFault result bytes (Some rest) f f' h h' w w' stops reports is = to_fault limits bytes rest stops.0
+told_fault limits NoMemory result bytes left f f' h h' w w' stops reports is = cc
 
-told_want : (stop : Stop) (result : Status) (bytes : List ℕ) (left : Option (List ℕ)) (f f' : ℕ) (h h' : Option (List ℕ)) (w w' : ℕ)
-    → Stops first_path check_limits 1 AtHeader (Some bytes) stop left f f' → Reports stop result h h' w w' → result ≡ status.NoMemory
-    → ReadToWant bytes left
-told_want (Decided v) result bytes left f f' h h' w w' stops (inl wrote) is =
+told_want : (limits : Limits) (stop : Stop) (result : Status) (bytes : List ℕ) (left : Option (List ℕ)) (f f' : ℕ) (h h' : Option (List ℕ)) (w w' : ℕ)
+    → Stops Patterns limits 1 AtHeader (Some bytes) stop left f f' → Reports stop result h h' w w' → result ≡ status.NoMemory
+    → ReadToWant limits bytes left
+told_want limits (Decided v) result bytes left f f' h h' w w' stops (inl wrote) is =
     absurd (false≢true (ap tells_verdict (sym is ∙ wrote.0) ∙ tells_of v))
-told_want (Decided v) result bytes left f f' h h' w w' stops (inr failed) is = cc
-told_want ReadFault result bytes left f f' h h' w w' stops reports is = cc
-told_want NoMemory result bytes None f f' h h' w w' stops reports is = absurd stops.0
-told_want NoMemory result bytes (Some rest) f f' h h' w w' stops reports is = to_want bytes rest stops.0
+told_want limits (Decided v) result bytes left f f' h h' w w' stops (inr failed) is = cc
+told_want limits ReadFault result bytes left f f' h h' w w' stops reports is = cc
+told_want limits NoMemory result bytes None f f' h h' w w' stops reports is = absurd stops.0
+told_want limits NoMemory result bytes (Some rest) f f' h h' w w' stops reports is = to_want limits bytes rest stops.0
 
-read_rose : (stop : Stop) (result : Status) (old new : Option (List ℕ)) (f f' : ℕ) (h h' : Option (List ℕ)) (w w' : ℕ)
-    → Stops first_path check_limits 1 AtHeader old stop new f f' → Reports stop result h h' w w' → f < f' → result ≡ status.ReadFault
-read_rose (Decided v) result old new f f' h h' w w' stops reports rose = absurd (omega (arith, rose, stops.1))
-read_rose ReadFault result old new f f' h h' w w' stops reports rose = reports.0
-read_rose NoMemory result old new f f' h h' w w' stops reports rose = absurd (omega (arith, rose, stops.1))
+read_rose : (limits : Limits) (stop : Stop) (result : Status) (old new : Option (List ℕ)) (f f' : ℕ) (h h' : Option (List ℕ)) (w w' : ℕ)
+    → Stops Patterns limits 1 AtHeader old stop new f f' → Reports stop result h h' w w' → f < f' → result ≡ status.ReadFault
+read_rose limits (Decided v) result old new f f' h h' w w' stops reports rose = absurd (omega (arith, rose, stops.1))
+read_rose limits ReadFault result old new f f' h h' w w' stops reports rose = reports.0
+read_rose limits NoMemory result old new f f' h h' w w' stops reports rose = absurd (omega (arith, rose, stops.1))
 
 write_rose : (stop : Stop) (result : Status) (h h' : Option (List ℕ)) (w w' : ℕ)
     → Reports stop result h h' w w' → w < w' → result ≡ status.WriteFault
@@ -388,20 +391,20 @@ write_rose (Decided v) result h h' w w' (inr failed) rose = failed.0
 write_rose ReadFault result h h' w w' reports rose = absurd (omega (arith, rose, reports.2))
 write_rose NoMemory result h h' w w' reports rose = absurd (omega (arith, rose, reports.2))
 
-module _ (result : Status) (old new : Option (List ℕ)) (f f' : ℕ) (h h' : Option (List ℕ)) (w w' : ℕ)
-    (checks : Checks result old new f f' h h' w w') where
-  pub checked-fault : (bytes : List ℕ) → old ≡ Some bytes → result ≡ status.ReadFault → ReadToFault bytes new
+module _ (limits : Limits) (result : Status) (old new : Option (List ℕ)) (f f' : ℕ) (h h' : Option (List ℕ)) (w w' : ℕ)
+    (checks : Checks limits result old new f f' h h' w w') where
+  pub checked-fault : (bytes : List ℕ) → old ≡ Some bytes → result ≡ status.ReadFault → ReadToFault limits bytes new
   checked-fault bytes is fault =
-      told_fault checks.stop result bytes new f f' h h' w w'
-      (subst (λ (o : Option (List ℕ)). Stops first_path check_limits 1 AtHeader o checks.stop new f f') is checks.stops) checks.reports fault
+      told_fault limits checks.stop result bytes new f f' h h' w w'
+      (subst (λ (o : Option (List ℕ)). Stops Patterns limits 1 AtHeader o checks.stop new f f') is checks.stops) checks.reports fault
 
-  pub checked-want : (bytes : List ℕ) → old ≡ Some bytes → result ≡ status.NoMemory → ReadToWant bytes new
+  pub checked-want : (bytes : List ℕ) → old ≡ Some bytes → result ≡ status.NoMemory → ReadToWant limits bytes new
   checked-want bytes is want =
-      told_want checks.stop result bytes new f f' h h' w w'
-      (subst (λ (o : Option (List ℕ)). Stops first_path check_limits 1 AtHeader o checks.stop new f f') is checks.stops) checks.reports want
+      told_want limits checks.stop result bytes new f f' h h' w w'
+      (subst (λ (o : Option (List ℕ)). Stops Patterns limits 1 AtHeader o checks.stop new f f') is checks.stops) checks.reports want
 
   pub checked-read_rose : f < f' → result ≡ status.ReadFault
-  checked-read_rose rose = read_rose checks.stop result old new f f' h h' w w' checks.stops checks.reports rose
+  checked-read_rose rose = read_rose limits checks.stop result old new f f' h h' w w' checks.stops checks.reports rose
 
   pub checked-write_rose : w < w' → result ≡ status.WriteFault
   checked-write_rose rose = write_rose checks.stop result h h' w w' checks.reports rose

@@ -1,30 +1,36 @@
 -- How the outcome goes on after one line, over what a source had left and has left.
-use Rattle.std.proofs.Common.{◌≡◌, ◌≢◌, ℕ, suc, ◌<◌, ◌≤◌, ◌+◌, Bool, true, false, if◌then◌else◌, nat_eq, List, [], ◌++◌, length, drop, Option, Some, None, refl, ap, sym, ◌∙◌, arith, append_assoc, append-nil, length-append, add-one, subst, nat_le, ◌∷◌, Result, Ok, Err}
+use Rattle.std.proofs.Common.{◌≡◌, ◌≢◌, ℕ, suc, ◌<◌, ◌≤◌, ◌+◌, Bool, true, false, if◌then◌else◌, nat_eq, List, [], ◌++◌, length, drop, Option, Some, None, refl, ap, sym, ◌∙◌, arith, append_assoc, append-nil, length-append, add-one, subst, nat_le, ◌∷◌, ◌^◌, Result, Ok, Err, IfOk, IsOk}
 use Rattle.std.proofs.Math.ListN.{drop_of_length-le}
 use Rattle.std.proofs.Math.Seq.{drop-append_seam}
 use Rattle.std.proofs.lemmas.Bool.{and_parts}
 use Rattle.std.proofs.lemmas.Bool.Decides.{nat_tests}
 use Rattle.bbm_io.specs.Faults.{Rose}
 use Rattle.bbm_io.specs.Flow.{preceded, AtEnd as NothingLeft, plain}
-use Rattle.bbm_regimes.specs.declared.regime.Which.TheVariants.{Events}
+use Rattle.bbm_regimes.specs.declared.regime.Which.{Which}
+use Rattle.bbm_regimes.specs.declared.regime.Which.TheVariants.{Events, Lines}
 use Rattle.bbm_events.specs.declared.event.Event.{Event as EventOf}
+use Rattle.bbm_events.specs.declared.event.Item.{Item}
+use Rattle.bbm_events.specs.declared.event.Item.TheVariants as item
+use Rattle.bbm_events.specs.Fits.{fits_heading, item_fits, label_fits}
 use Rattle.bbm_events.specs.Heading.{Heading}
 use Rattle.bbm_events.specs.declared.malformed.Malformed.{Malformed as Cause}
 use Rattle.bbm_events.specs.declared.malformed.Malformed.TheVariants.{AfterEnd}
 use Rattle.bbm_events.specs.Lines.{header_of, item_of}
-use Rattle.bbm_oracle.specs.Taken.{Taken}
 use Rattle.bbm_rules.specs.declared.verdict.Verdict.{Verdict}
 use Rattle.bbm_rules.specs.declared.verdict.Verdict.TheVariants.{Accepted, Malformed, Limit}
-use Rattle.bbm_rules.specs.FirstPath.{Breach, broken, is_built}
-use Rattle.bbm_rules.specs.Outcome.{Judge, Limits, first_path, check_limits, AtHeader, AtEvents, AtEnd, after_header, after_item, after_event, after_judged, Progress, Step, Decides, GoesOn, Outcome, outcome_from, outcome_after, read_from, goes_on_to, text_of, bytes_of, is_too_long, step_of, end_of, after_line, cut_at, too_long_at, events_in}
+use Rattle.bbm_rules.specs.Broken.{Breach, broken}
+use Rattle.bbm_rules.specs.Claims.{Trust, Patterns}
+use Rattle.bbm_rules.specs.Limits.{limit_of}
+use Rattle.bbm_rules.specs.declared.limits.Limits.{Limits}
+use Rattle.bbm_rules.specs.Outcome.{is_reached, limit_after, limit_at, AtHeader, AtEvents, AtEnd, after_header, after_item, after_event, after_judged, after_kept, Progress, Step, Decides, GoesOn, Outcome, outcome_from, outcome_after, read_from, goes_on_to, text_of, bytes_of, is_too_long, step_of, end_of, after_line, cut_at, too_long_at, events_in}
 use Rattle.bbm_session.specs.declared.line.Piece.TheVariants as piece
 use Rattle.bbm_session.specs.declared.stop.Stop.{Stop}
 use Rattle.bbm_session.specs.declared.stop.Stop.TheVariants.{Decided, ReadFault, NoMemory}
 use Rattle.bbm_session.specs.declared.stop.Turn.{Turn}
 use Rattle.bbm_session.specs.declared.stop.Turn.TheVariants.{Event, End}
 use Rattle.bbm_session.specs.Pieces.{Takes}
-use Rattle.bbm_session.specs.Run.{NeedsMemory, Judged, JudgedHeading}
-use Rattle.bbm_session.specs.Stages.{outcome_at, plain_lines, Passed, Breaks, Starves, Shrinks, Continues, Concludes, Stops, StopsAt, JudgesHeader, JudgesLine, Starts, Advances, Reaches, Ends}
+use Rattle.bbm_session.specs.Run.{NeedsMemory, IsEvent}
+use Rattle.bbm_session.specs.Stages.{outcome_at, plain_lines, Passed, Breaks, Starves, Shrinks, Continues, Concludes, Stops, StopsAt, StandsAt, MayJudge, JudgesHeader, JudgesLine, Starts, Advances, Reaches, Ends}
 use Rattle.bbm_session.proofs.Texts.{plain-head, text_of-line, text_of-plain, text_of-prefix, bytes_of-text_of, prefixed}
 
 short : (line : List ℕ) → length line ≤ 200 → is_too_long line ≡ false
@@ -33,13 +39,13 @@ short line h = grind (arith, nat_tests)
 long : (line : List ℕ) → 200 < length line → is_too_long line ≡ true
 long line h = grind (arith, nat_tests)
 
-pub step_of-short : (judge : Judge) (limits : Limits) (n : ℕ) (p : Progress) (line : List ℕ) → length line ≤ 200 → step_of judge limits n p line ≡ after_line judge limits n p line
+pub step_of-short : (trust : Trust) (limits : Limits) (n : ℕ) (p : Progress) (line : List ℕ) → length line ≤ 200 → step_of trust limits n p line ≡ after_line trust limits n p line
 unfolding step_of
-step_of-short judge limits n p line h = rw (short line h) refl
+step_of-short trust limits n p line h = rw (short line h) refl
 
-pub step_of-long : (judge : Judge) (limits : Limits) (n : ℕ) (p : Progress) (line : List ℕ) → 200 < length line → step_of judge limits n p line ≡ Decides (too_long_at n p)
+pub step_of-long : (trust : Trust) (limits : Limits) (n : ℕ) (p : Progress) (line : List ℕ) → 200 < length line → step_of trust limits n p line ≡ Decides (too_long_at n p)
 unfolding step_of
-step_of-long judge limits n p line h = rw (long line h) refl
+step_of-long trust limits n p line h = rw (long line h) refl
 
 pub end_of-short : (n : ℕ) (p : Progress) (rest : List ℕ) → length rest ≤ 200 → end_of n p rest ≡ cut_at n p rest
 unfolding end_of
@@ -49,9 +55,9 @@ pub end_of-long : (n : ℕ) (p : Progress) (rest : List ℕ) → 200 < length re
 unfolding end_of
 end_of-long n p rest h = rw (long rest h) refl
 
-outcome_at-line : (judge : Judge) (limits : Limits) (n : ℕ) (p : Progress) (line rest : List ℕ) → plain line ≡ true → length line ≤ 200 → outcome_at judge limits n p (line ++ 10 ∷ rest) ≡ outcome_after p line (text_of rest).lines (text_of rest).rest (λ next. outcome_at judge limits (suc n) next rest) (after_line judge limits n p line)
-outcome_at-line judge limits n p line rest is_plain is_short =
-    rw (text_of-line line rest is_plain, step_of-short judge limits n p line is_short) refl
+outcome_at-line : (trust : Trust) (limits : Limits) (n : ℕ) (p : Progress) (line rest : List ℕ) → plain line ≡ true → length line ≤ 200 → outcome_at trust limits n p (line ++ 10 ∷ rest) ≡ outcome_after p line (text_of rest).lines (text_of rest).rest (λ next. outcome_at trust limits (suc n) next rest) (after_line trust limits n p line)
+outcome_at-line trust limits n p line rest is_plain is_short =
+    rw (text_of-line line rest is_plain, step_of-short trust limits n p line is_short) refl
 
 pub bytes_of-append : (lines more : List (List ℕ)) (rest : List ℕ) → bytes_of (lines ++ more) rest ≡ bytes_of lines (bytes_of more rest)
 bytes_of-append [] more rest = refl
@@ -69,52 +75,52 @@ some-preceded bytes taken rest h = cc
 
 -- Whole lines, of which none decides.
 
-module _ (judge : Judge) (limits : Limits) where
-  pub passed-none : (n : ℕ) (p : Progress) (bytes : List ℕ) → Passed judge limits n p bytes n p bytes
+module _ (trust : Trust) (limits : Limits) where
+  pub passed-none : (n : ℕ) (p : Progress) (bytes : List ℕ) → Passed trust limits n p bytes n p bytes
   passed-none n p bytes = record { lines = []; clean = refl; is = refl; count = omega arith; read = refl }
 
-  passed-line : (n : ℕ) (p p' : Progress) (line rest : List ℕ) → plain line ≡ true → length line ≤ 200 → after_line judge limits n p line ≡ GoesOn p' → Passed judge limits n p (line ++ 10 ∷ rest) (suc n) p' rest
+  passed-line : (n : ℕ) (p p' : Progress) (line rest : List ℕ) → plain line ≡ true → length line ≤ 200 → after_line trust limits n p line ≡ GoesOn p' → Passed trust limits n p (line ++ 10 ∷ rest) (suc n) p' rest
   passed-line n p p' line rest is_plain is_short step = record {
     lines = line ∷ [];
     clean = rw is_plain refl;
     is = refl;
     count = omega arith;
-    read = ap (goes_on_to (λ next. read_from judge limits (suc n) next [])) (step_of-short judge limits n p line is_short ∙ step);
+    read = ap (goes_on_to (λ next. read_from trust limits (suc n) next [])) (step_of-short trust limits n p line is_short ∙ step);
   }
 
-  outcome-step : (n : ℕ) (p p' : Progress) (line : List ℕ) (lines lines' : List (List ℕ)) (rest : List ℕ) (o : Outcome) (s : Step) → ((next : Progress) → read_from judge limits (suc n) next lines ≡ Some p' → outcome_from judge limits (suc n) next lines' rest ≡ o) → goes_on_to (λ next. read_from judge limits (suc n) next lines) s ≡ Some p' → outcome_after p line lines' rest (λ next. outcome_from judge limits (suc n) next lines' rest) s ≡ o
+  outcome-step : (n : ℕ) (p p' : Progress) (line : List ℕ) (lines lines' : List (List ℕ)) (rest : List ℕ) (o : Outcome) (s : Step) → ((next : Progress) → read_from trust limits (suc n) next lines ≡ Some p' → outcome_from trust limits (suc n) next lines' rest ≡ o) → goes_on_to (λ next. read_from trust limits (suc n) next lines) s ≡ Some p' → outcome_after p line lines' rest (λ next. outcome_from trust limits (suc n) next lines' rest) s ≡ o
   outcome-step n p p' line lines lines' rest o (Decides v) behind read = cc
   outcome-step n p p' line lines lines' rest o (GoesOn next) behind read = behind next read
 
-  outcome-passed : (n m : ℕ) (p p' : Progress) (lines : List (List ℕ)) (rest : List ℕ) → plain_lines lines ≡ true → m ≡ n + length lines → read_from judge limits n p lines ≡ Some p' → outcome_at judge limits n p (bytes_of lines rest) ≡ outcome_at judge limits m p' rest
+  outcome-passed : (n m : ℕ) (p p' : Progress) (lines : List (List ℕ)) (rest : List ℕ) → plain_lines lines ≡ true → m ≡ n + length lines → read_from trust limits n p lines ≡ Some p' → outcome_at trust limits n p (bytes_of lines rest) ≡ outcome_at trust limits m p' rest
   outcome-passed n m p p' [] rest clean count read =
       let same : p ≡ p' = cc in
       let here : m ≡ n = omega (arith, count) in
       rw (same, here) refl
   outcome-passed n m p p' (line ∷ lines) rest clean count read =
       let parts = and_parts (plain line) (plain_lines lines) clean in
-      let o = outcome_at judge limits m p' rest in
-      let behind : (next : Progress) → read_from judge limits (suc n) next lines ≡ Some p' → outcome_at judge limits (suc n) next (bytes_of lines rest) ≡ o =
+      let o = outcome_at trust limits m p' rest in
+      let behind : (next : Progress) → read_from trust limits (suc n) next lines ≡ Some p' → outcome_at trust limits (suc n) next (bytes_of lines rest) ≡ o =
       λ next further. outcome-passed (suc n) m next p' lines rest parts.1 (omega (arith, count)) further in
-      rw (text_of-line line (bytes_of lines rest) parts.0) (outcome-step n p p' line lines (text_of (bytes_of lines rest)).lines (text_of (bytes_of lines rest)).rest o (step_of judge limits n p line) behind read)
+      rw (text_of-line line (bytes_of lines rest) parts.0) (outcome-step n p p' line lines (text_of (bytes_of lines rest)).lines (text_of (bytes_of lines rest)).rest o (step_of trust limits n p line) behind read)
 
-  pub passed-outcome : (n m : ℕ) (p p' : Progress) (bytes rest : List ℕ) → Passed judge limits n p bytes m p' rest → outcome_at judge limits n p bytes ≡ outcome_at judge limits m p' rest
+  pub passed-outcome : (n m : ℕ) (p p' : Progress) (bytes rest : List ℕ) → Passed trust limits n p bytes m p' rest → outcome_at trust limits n p bytes ≡ outcome_at trust limits m p' rest
   passed-outcome n m p p' bytes rest passed =
-      ap (outcome_at judge limits n p) passed.is ∙ outcome-passed n m p p' passed.lines rest passed.clean passed.count passed.read
+      ap (outcome_at trust limits n p) passed.is ∙ outcome-passed n m p p' passed.lines rest passed.clean passed.count passed.read
 
-  read-step : (n : ℕ) (mid p' : Progress) (lines more : List (List ℕ)) (s : Step) → ((next : Progress) → read_from judge limits (suc n) next lines ≡ Some mid → read_from judge limits (suc n) next (lines ++ more) ≡ Some p') → goes_on_to (λ next. read_from judge limits (suc n) next lines) s ≡ Some mid → goes_on_to (λ next. read_from judge limits (suc n) next (lines ++ more)) s ≡ Some p'
+  read-step : (n : ℕ) (mid p' : Progress) (lines more : List (List ℕ)) (s : Step) → ((next : Progress) → read_from trust limits (suc n) next lines ≡ Some mid → read_from trust limits (suc n) next (lines ++ more) ≡ Some p') → goes_on_to (λ next. read_from trust limits (suc n) next lines) s ≡ Some mid → goes_on_to (λ next. read_from trust limits (suc n) next (lines ++ more)) s ≡ Some p'
   read-step n mid p' lines more (Decides v) behind read = cc
   read-step n mid p' lines more (GoesOn next) behind read = behind next read
 
-  read-append : (n m : ℕ) (p mid p' : Progress) (lines more : List (List ℕ)) → m ≡ n + length lines → read_from judge limits n p lines ≡ Some mid → read_from judge limits m mid more ≡ Some p' → read_from judge limits n p (lines ++ more) ≡ Some p'
+  read-append : (n m : ℕ) (p mid p' : Progress) (lines more : List (List ℕ)) → m ≡ n + length lines → read_from trust limits n p lines ≡ Some mid → read_from trust limits m mid more ≡ Some p' → read_from trust limits n p (lines ++ more) ≡ Some p'
   read-append n m p mid p' [] more count one two =
       let same : p ≡ mid = cc in
       let here : n ≡ m = omega (arith, count) in
       rw (same, here) two
   read-append n m p mid p' (line ∷ lines) more count one two =
-      read-step n mid p' lines more (step_of judge limits n p line) (λ next further. read-append (suc n) m next mid p' lines more (omega (arith, count)) further two) one
+      read-step n mid p' lines more (step_of trust limits n p line) (λ next further. read-append (suc n) m next mid p' lines more (omega (arith, count)) further two) one
 
-  pub passed-trans : (n1 n2 n3 : ℕ) (p1 p2 p3 : Progress) (a b c : List ℕ) → Passed judge limits n1 p1 a n2 p2 b → Passed judge limits n2 p2 b n3 p3 c → Passed judge limits n1 p1 a n3 p3 c
+  pub passed-trans : (n1 n2 n3 : ℕ) (p1 p2 p3 : Progress) (a b c : List ℕ) → Passed trust limits n1 p1 a n2 p2 b → Passed trust limits n2 p2 b n3 p3 c → Passed trust limits n1 p1 a n3 p3 c
   passed-trans n1 n2 n3 p1 p2 p3 a b c one two = record {
     lines = one.lines ++ two.lines;
     clean = plain_lines-append one.lines two.lines one.clean two.clean;
@@ -124,38 +130,38 @@ module _ (judge : Judge) (limits : Limits) where
   }
 
 -- a line with which reading goes on
-pub line-goes-on : (judge : Judge) (limits : Limits) (n : ℕ) (p p' : Progress) (line : List ℕ) (old new : Option (List ℕ)) → plain line ≡ true → length line ≤ 200 → old ≡ preceded (line ++ 10 ∷ []) new → after_line judge limits n p line ≡ GoesOn p' → Continues judge limits n p old (suc n) p' new
-line-goes-on judge limits n p p' line None new is_plain is_short taken step = tt
-line-goes-on judge limits n p p' line (Some bytes) None is_plain is_short taken step = cc
-line-goes-on judge limits n p p' line (Some bytes) (Some rest) is_plain is_short taken step =
+pub line-goes-on : (trust : Trust) (limits : Limits) (n : ℕ) (p p' : Progress) (line : List ℕ) (old new : Option (List ℕ)) → plain line ≡ true → length line ≤ 200 → old ≡ preceded (line ++ 10 ∷ []) new → after_line trust limits n p line ≡ GoesOn p' → Continues trust limits n p old (suc n) p' new
+line-goes-on trust limits n p p' line None new is_plain is_short taken step = tt
+line-goes-on trust limits n p p' line (Some bytes) None is_plain is_short taken step = cc
+line-goes-on trust limits n p p' line (Some bytes) (Some rest) is_plain is_short taken step =
     let bytes_are : bytes ≡ line ++ 10 ∷ rest = some-preceded bytes (line ++ 10 ∷ []) rest taken ∙ append_assoc line (10 ∷ []) rest in
-    subst (λ (b : List ℕ). Passed judge limits n p b (suc n) p' rest) (sym bytes_are) (passed-line judge limits n p p' line rest is_plain is_short step)
+    subst (λ (b : List ℕ). Passed trust limits n p b (suc n) p' rest) (sym bytes_are) (passed-line trust limits n p p' line rest is_plain is_short step)
 
-concludes-at : (judge : Judge) (limits : Limits) (n : ℕ) (p : Progress) (bytes rest : List ℕ) (v : Verdict) (outcome : Outcome) → outcome_at judge limits n p bytes ≡ outcome → outcome.verdict ≡ v → outcome.unread ≡ rest → Concludes judge limits n p (Some bytes) v (Some rest)
-concludes-at judge limits n p bytes rest v outcome is verdict unread = (ap (λ (o : Outcome). o.verdict) is ∙ verdict, ap (λ (o : Outcome). o.unread) is ∙ unread)
+concludes-at : (trust : Trust) (limits : Limits) (n : ℕ) (p : Progress) (bytes rest : List ℕ) (v : Verdict) (outcome : Outcome) → outcome_at trust limits n p bytes ≡ outcome → outcome.verdict ≡ v → outcome.unread ≡ rest → Concludes trust limits n p (Some bytes) v (Some rest)
+concludes-at trust limits n p bytes rest v outcome is verdict unread = (ap (λ (o : Outcome). o.verdict) is ∙ verdict, ap (λ (o : Outcome). o.unread) is ∙ unread)
 
 -- a line that decides
-pub line-decides : (judge : Judge) (limits : Limits) (n : ℕ) (p : Progress) (v : Verdict) (line : List ℕ) (old new : Option (List ℕ)) → plain line ≡ true → length line ≤ 200 → old ≡ preceded (line ++ 10 ∷ []) new → after_line judge limits n p line ≡ Decides v → Concludes judge limits n p old v new
-line-decides judge limits n p v line None new is_plain is_short taken step = tt
-line-decides judge limits n p v line (Some bytes) None is_plain is_short taken step = cc
-line-decides judge limits n p v line (Some bytes) (Some rest) is_plain is_short taken step =
+pub line-decides : (trust : Trust) (limits : Limits) (n : ℕ) (p : Progress) (v : Verdict) (line : List ℕ) (old new : Option (List ℕ)) → plain line ≡ true → length line ≤ 200 → old ≡ preceded (line ++ 10 ∷ []) new → after_line trust limits n p line ≡ Decides v → Concludes trust limits n p old v new
+line-decides trust limits n p v line None new is_plain is_short taken step = tt
+line-decides trust limits n p v line (Some bytes) None is_plain is_short taken step = cc
+line-decides trust limits n p v line (Some bytes) (Some rest) is_plain is_short taken step =
     let bytes_are : bytes ≡ line ++ 10 ∷ rest = some-preceded bytes (line ++ 10 ∷ []) rest taken ∙ append_assoc line (10 ∷ []) rest in
-    let outcome_is = outcome_at-line judge limits n p line rest is_plain is_short ∙ ap (outcome_after p line (text_of rest).lines (text_of rest).rest (λ next. outcome_at judge limits (suc n) next rest)) step in
-    rw bytes_are (concludes-at judge limits n p (line ++ 10 ∷ rest) rest v _ outcome_is refl (rw (short line is_short) (bytes_of-text_of rest)))
+    let outcome_is = outcome_at-line trust limits n p line rest is_plain is_short ∙ ap (outcome_after p line (text_of rest).lines (text_of rest).rest (λ next. outcome_at trust limits (suc n) next rest)) step in
+    rw bytes_are (concludes-at trust limits n p (line ++ 10 ∷ rest) rest v _ outcome_is refl (rw (short line is_short) (bytes_of-text_of rest)))
 
-outcome_at-end : (judge : Judge) (limits : Limits) (n : ℕ) (p : Progress) (line : List ℕ) → plain line ≡ true → length line ≤ 200 → outcome_at judge limits n p line ≡ record { verdict = cut_at n p line; unread = []; log = events_in p }
-outcome_at-end judge limits n p line is_plain is_short =
+outcome_at-end : (trust : Trust) (limits : Limits) (n : ℕ) (p : Progress) (line : List ℕ) → plain line ≡ true → length line ≤ 200 → outcome_at trust limits n p line ≡ record { verdict = cut_at n p line; unread = []; log = events_in p }
+outcome_at-end trust limits n p line is_plain is_short =
     let nothing : drop 201 line ≡ [] = drop_of_length-le line {i = 201} (omega arith) in
     rw (text_of-plain line is_plain, end_of-short n p line is_short, nothing) refl
 
 -- the end of the input, after at most 200 bytes
-pub end-decides : (judge : Judge) (limits : Limits) (n : ℕ) (p : Progress) (v : Verdict) (line : List ℕ) (old new : Option (List ℕ)) → plain line ≡ true → length line ≤ 200 → old ≡ preceded line new → NothingLeft new → cut_at n p line ≡ v → Concludes judge limits n p old v new
-end-decides judge limits n p v line None new is_plain is_short taken at_end cut = tt
-end-decides judge limits n p v line (Some bytes) None is_plain is_short taken at_end cut = cc
-end-decides judge limits n p v line (Some bytes) (Some rest) is_plain is_short taken at_end cut =
+pub end-decides : (trust : Trust) (limits : Limits) (n : ℕ) (p : Progress) (v : Verdict) (line : List ℕ) (old new : Option (List ℕ)) → plain line ≡ true → length line ≤ 200 → old ≡ preceded line new → NothingLeft new → cut_at n p line ≡ v → Concludes trust limits n p old v new
+end-decides trust limits n p v line None new is_plain is_short taken at_end cut = tt
+end-decides trust limits n p v line (Some bytes) None is_plain is_short taken at_end cut = cc
+end-decides trust limits n p v line (Some bytes) (Some rest) is_plain is_short taken at_end cut =
     let bytes_are : bytes ≡ line = some-preceded bytes line rest taken ∙ ap (λ x. line ++ x) at_end ∙ append-nil line in
-    let outcome_is = outcome_at-end judge limits n p line is_plain is_short in
-    rw (bytes_are, at_end) (concludes-at judge limits n p line [] v _ outcome_is cut refl)
+    let outcome_is = outcome_at-end trust limits n p line is_plain is_short in
+    rw (bytes_are, at_end) (concludes-at trust limits n p line [] v _ outcome_is cut refl)
 
 pub seam : (line rest : List ℕ) → length line ≡ 201 → drop 201 (line ++ rest) ≡ rest
 seam line rest is_long = ap (λ n. drop n (line ++ rest)) (sym is_long) ∙ drop-append_seam line rest
@@ -163,28 +169,28 @@ seam line rest is_long = ap (λ n. drop n (line ++ rest)) (sym is_long) ∙ drop
 longer : (line more : List ℕ) → length line ≡ 201 → 200 < length (line ++ more)
 longer line more is_long = omega (arith, length-append line more)
 
-long-at : (judge : Judge) (limits : Limits) (n : ℕ) (p : Progress) (line : List ℕ) (lines : List (List ℕ)) (rest : List ℕ) → length line ≡ 201 → ((outcome_from judge limits n p (prefixed line lines rest).lines (prefixed line lines rest).rest).verdict ≡ too_long_at n p) × ((outcome_from judge limits n p (prefixed line lines rest).lines (prefixed line lines rest).rest).unread ≡ bytes_of lines rest)
-long-at judge limits n p line [] rest is_long = (end_of-long n p (line ++ rest) (longer line rest is_long), seam line rest is_long)
-long-at judge limits n p line (first ∷ lines) rest is_long =
+long-at : (trust : Trust) (limits : Limits) (n : ℕ) (p : Progress) (line : List ℕ) (lines : List (List ℕ)) (rest : List ℕ) → length line ≡ 201 → ((outcome_from trust limits n p (prefixed line lines rest).lines (prefixed line lines rest).rest).verdict ≡ too_long_at n p) × ((outcome_from trust limits n p (prefixed line lines rest).lines (prefixed line lines rest).rest).unread ≡ bytes_of lines rest)
+long-at trust limits n p line [] rest is_long = (end_of-long n p (line ++ rest) (longer line rest is_long), seam line rest is_long)
+long-at trust limits n p line (first ∷ lines) rest is_long =
     let too_long = longer line first is_long in
     let unread : drop 201 ((line ++ first) ++ 10 ∷ bytes_of lines rest) ≡ first ++ 10 ∷ bytes_of lines rest =
     ap (λ x. drop 201 x) (append_assoc line first (10 ∷ bytes_of lines rest)) ∙ seam line (first ++ 10 ∷ bytes_of lines rest) is_long in
-    rw (step_of-long judge limits n p (line ++ first) too_long, long (line ++ first) too_long) (refl, unread)
+    rw (step_of-long trust limits n p (line ++ first) too_long, long (line ++ first) too_long) (refl, unread)
 
 -- 201 bytes without a newline
-pub long-decides : (judge : Judge) (limits : Limits) (n : ℕ) (p : Progress) (line : List ℕ) (old new : Option (List ℕ)) → plain line ≡ true → length line ≡ 201 → old ≡ preceded line new → Concludes judge limits n p old (too_long_at n p) new
-long-decides judge limits n p line None new is_plain is_long taken = tt
-long-decides judge limits n p line (Some bytes) None is_plain is_long taken = cc
-long-decides judge limits n p line (Some bytes) (Some rest) is_plain is_long taken =
+pub long-decides : (trust : Trust) (limits : Limits) (n : ℕ) (p : Progress) (line : List ℕ) (old new : Option (List ℕ)) → plain line ≡ true → length line ≡ 201 → old ≡ preceded line new → Concludes trust limits n p old (too_long_at n p) new
+long-decides trust limits n p line None new is_plain is_long taken = tt
+long-decides trust limits n p line (Some bytes) None is_plain is_long taken = cc
+long-decides trust limits n p line (Some bytes) (Some rest) is_plain is_long taken =
     let bytes_are : bytes ≡ line ++ rest = some-preceded bytes line rest taken in
-    let parts = long-at judge limits n p line (text_of rest).lines (text_of rest).rest is_long in
+    let parts = long-at trust limits n p line (text_of rest).lines (text_of rest).rest is_long in
     rw (bytes_are, text_of-prefix line rest is_plain) (parts.0, parts.1 ∙ bytes_of-text_of rest)
 
 -- One piece, by what stood there.
 
-pub rest-stops : (n : ℕ) (p : Progress) (v : Verdict) (line : List ℕ) (old new : Option (List ℕ)) (f f' : ℕ) → cut_at n p line ≡ v → plain line ≡ true → length line ≤ 200 → Takes piece.Rest line old new → f' ≡ f → Stops first_path check_limits n p old (Decided v) new f f'
-rest-stops n p v line old new f f' cut is_plain is_short takes sound =
-    (end-decides first_path check_limits n p v line old new is_plain is_short takes.0 takes.1 cut, sound)
+pub rest-stops : (limits : Limits) (n : ℕ) (p : Progress) (v : Verdict) (line : List ℕ) (old new : Option (List ℕ)) (f f' : ℕ) → cut_at n p line ≡ v → plain line ≡ true → length line ≤ 200 → Takes piece.Rest line old new → f' ≡ f → Stops Patterns limits n p old (Decided v) new f f'
+rest-stops limits n p v line old new f f' cut is_plain is_short takes sound =
+    (end-decides Patterns limits n p v line old new is_plain is_short takes.0 takes.1 cut, sound)
 
 plain-more : (line : List ℕ) (b : ℕ) → plain line ≡ true → b ≢ 10 → plain (line ++ b ∷ []) ≡ true
 plain-more [] b h other = grind (arith, nat_tests)
@@ -192,73 +198,90 @@ plain-more (x ∷ xs) b h other =
     let parts = plain-head x xs h in
     rw (parts.0, plain-more xs b parts.1 other) refl
 
-pub long-stops : (n : ℕ) (p : Progress) (v : Verdict) (line : List ℕ) (old new : Option (List ℕ)) (f f' : ℕ) → too_long_at n p ≡ v → plain line ≡ true → Takes piece.TooLong line old new → f' ≡ f → Stops first_path check_limits n p old (Decided v) new f f'
-long-stops n p v line old new f f' too_long is_plain takes sound =
-    let long_line = long-decides first_path check_limits n p (line ++ takes.0 ∷ []) old new (plain-more line takes.0 is_plain takes.1.no_newline) (omega (arith, length-append line (takes.0 ∷ []), takes.1.kept_bytes)) takes.1.taken in
-    (subst (λ (w : Verdict). Concludes first_path check_limits n p old w new) too_long long_line, sound)
+pub long-stops : (limits : Limits) (n : ℕ) (p : Progress) (v : Verdict) (line : List ℕ) (old new : Option (List ℕ)) (f f' : ℕ) → too_long_at n p ≡ v → plain line ≡ true → Takes piece.TooLong line old new → f' ≡ f → Stops Patterns limits n p old (Decided v) new f f'
+long-stops limits n p v line old new f f' too_long is_plain takes sound =
+    let long_line = long-decides Patterns limits n p (line ++ takes.0 ∷ []) old new (plain-more line takes.0 is_plain takes.1.no_newline) (omega (arith, length-append line (takes.0 ∷ []), takes.1.kept_bytes)) takes.1.taken in
+    (subst (λ (w : Verdict). Concludes Patterns limits n p old w new) too_long long_line, sound)
 
 -- a read failed
-pub fault-stops : (n : ℕ) (p : Progress) (kept : List ℕ) (old new : Option (List ℕ)) (f f' : ℕ) → plain kept ≡ true → length kept ≤ 200 → Takes piece.ReadFault kept old new → Rose f f' → Stops first_path check_limits n p old ReadFault new f f'
-fault-stops n p kept None new f f' is_plain is_short takes rose = (tt, rose)
-fault-stops n p kept (Some bytes) None f f' is_plain is_short takes rose = cc
-fault-stops n p kept (Some bytes) (Some rest) f f' is_plain is_short takes rose =
-    let passed = subst (λ (b : List ℕ). Passed first_path check_limits n p b n p (kept ++ rest)) (sym (some-preceded bytes kept rest takes)) (passed-none first_path check_limits n p (kept ++ rest)) in
+pub fault-stops : (limits : Limits) (n : ℕ) (p : Progress) (kept : List ℕ) (old new : Option (List ℕ)) (f f' : ℕ) → plain kept ≡ true → length kept ≤ 200 → Takes piece.ReadFault kept old new → Rose f f' → Stops Patterns limits n p old ReadFault new f f'
+fault-stops limits n p kept None new f f' is_plain is_short takes rose = (tt, rose)
+fault-stops limits n p kept (Some bytes) None f f' is_plain is_short takes rose = cc
+fault-stops limits n p kept (Some bytes) (Some rest) f f' is_plain is_short takes rose =
+    let passed = subst (λ (b : List ℕ). Passed Patterns limits n p b n p (kept ++ rest)) (sym (some-preceded bytes kept rest takes)) (passed-none Patterns limits n p (kept ++ rest)) in
     (record { at = n; reached = p; piece = kept; passed = passed; clean = is_plain; short = is_short }, rose)
 
 -- there was no memory for a line
-pub want-stops : (n : ℕ) (p : Progress) (line : List ℕ) (old new : Option (List ℕ)) (f f' : ℕ) → plain line ≡ true → length line ≤ 200 → Takes piece.Line line old new → NeedsMemory first_path p line → f' ≡ f → Stops first_path check_limits n p old NoMemory new f f'
-want-stops n p line None new f f' is_plain is_short takes needs sound = (tt, sound)
-want-stops n p line (Some bytes) None f f' is_plain is_short takes needs sound = cc
-want-stops n p line (Some bytes) (Some rest) f f' is_plain is_short takes needs sound =
+pub want-stops : (limits : Limits) (n : ℕ) (p : Progress) (line : List ℕ) (old new : Option (List ℕ)) (f f' : ℕ) → plain line ≡ true → length line ≤ 200 → Takes piece.Line line old new → NeedsMemory p line → f' ≡ f → Stops Patterns limits n p old NoMemory new f f'
+want-stops limits n p line None new f f' is_plain is_short takes needs sound = (tt, sound)
+want-stops limits n p line (Some bytes) None f f' is_plain is_short takes needs sound = cc
+want-stops limits n p line (Some bytes) (Some rest) f f' is_plain is_short takes needs sound =
     let bytes_are : bytes ≡ line ++ 10 ∷ rest = some-preceded bytes (line ++ 10 ∷ []) rest takes ∙ append_assoc line (10 ∷ []) rest in
-    let passed = subst (λ (b : List ℕ). Passed first_path check_limits n p b n p (line ++ 10 ∷ rest)) (sym bytes_are) (passed-none first_path check_limits n p (line ++ 10 ∷ rest)) in
+    let passed = subst (λ (b : List ℕ). Passed Patterns limits n p b n p (line ++ 10 ∷ rest)) (sym bytes_are) (passed-none Patterns limits n p (line ++ 10 ∷ rest)) in
     (record { at = n; reached = p; line = line; passed = passed; clean = is_plain; short = is_short; needs = needs }, sound)
 
-pub header-starts : (r : Result Heading Stop) (line : List ℕ) (old new : Option (List ℕ)) (f f' : ℕ) → plain line ≡ true → length line ≤ 200 → Takes piece.Line line old new → JudgesHeader r (after_header first_path 1 (header_of line)) → f' ≡ f → Starts r old new f f'
-header-starts (Ok heading) line old new f f' is_plain is_short takes judged sound =
-    (line-goes-on first_path check_limits 1 AtHeader (AtEvents heading []) line old new is_plain is_short takes judged, sound)
-header-starts (Err (Decided v)) line old new f f' is_plain is_short takes judged sound =
-    (line-decides first_path check_limits 1 AtHeader v line old new is_plain is_short takes judged, sound)
-header-starts (Err ReadFault) line old new f f' is_plain is_short takes judged sound = absurd judged
-header-starts (Err NoMemory) line old new f f' is_plain is_short takes judged sound = absurd judged
+pub header-starts : (limits : Limits) (r : Result Heading Stop) (line : List ℕ) (old new : Option (List ℕ)) (f f' : ℕ) → plain line ≡ true → length line ≤ 200 → Takes piece.Line line old new → JudgesHeader r (after_header 1 (header_of line)) → f' ≡ f → Starts limits r old new f f'
+header-starts limits (Ok heading) line old new f f' is_plain is_short takes judged sound =
+    (line-goes-on Patterns limits 1 AtHeader (AtEvents heading []) line old new is_plain is_short takes judged, sound)
+header-starts limits (Err (Decided v)) line old new f f' is_plain is_short takes judged sound =
+    (line-decides Patterns limits 1 AtHeader v line old new is_plain is_short takes judged, sound)
+header-starts limits (Err ReadFault) line old new f f' is_plain is_short takes judged sound = absurd judged
+header-starts limits (Err NoMemory) line old new f f' is_plain is_short takes judged sound = absurd judged
 
-pub line-advances : (r : Result Turn Stop) (n : ℕ) (t t' : Taken) (line : List ℕ) (old new : Option (List ℕ)) (f f' : ℕ) → plain line ≡ true → length line ≤ 200 → Takes piece.Line line old new → JudgesLine (Judged first_path t.heading t.history (item_of t.heading line)) r (after_item first_path check_limits n t.heading t.history (item_of t.heading line)) t t' → f' ≡ f → Advances r n t t' old new f f'
-line-advances (Ok Event) n t t' line old new f f' is_plain is_short takes judged sound =
-    let goes_on = line-goes-on first_path check_limits n (AtEvents t.heading t.history) (AtEvents t'.heading t'.history) line old new is_plain is_short takes judged.0 in
-    (subst (λ (m : ℕ). Continues first_path check_limits n (AtEvents t.heading t.history) old m (AtEvents t'.heading t'.history) new) (sym (add-one n)) goes_on, judged.1, judged.2, judged.3, sound)
-line-advances (Ok End) n t t' line old new f f' is_plain is_short takes judged sound =
-    let goes_on = line-goes-on first_path check_limits n (AtEvents t.heading t.history) (AtEnd t.history) line old new is_plain is_short takes judged.0 in
-    (subst (λ (m : ℕ). Continues first_path check_limits n (AtEvents t.heading t.history) old m (AtEnd t.history) new) (sym (add-one n)) goes_on, judged.1, sound)
-line-advances (Err (Decided v)) n t t' line old new f f' is_plain is_short takes judged sound =
-    (line-decides first_path check_limits n (AtEvents t.heading t.history) v line old new is_plain is_short takes judged, sound)
-line-advances (Err ReadFault) n t t' line old new f f' is_plain is_short takes judged sound = absurd judged
-line-advances (Err NoMemory) n t t' line old new f f' is_plain is_short takes judged sound =
-    want-stops n (AtEvents t.heading t.history) line old new f f' is_plain is_short takes judged sound
+module _ (stands : Heading → List EventOf → Type 0) (limits : Limits) (heading : Heading) where
+  pub line-advances : (n : ℕ) (h : List EventOf) (r : Result Turn Stop) (line : List ℕ) (old new : Option (List ℕ)) (f f' : ℕ) → plain line ≡ true → length line ≤ 200 → Takes piece.Line line old new → JudgesLine stands limits heading n h (IsEvent (item_of heading line)) r (after_item Patterns limits n heading h (item_of heading line)) → f' ≡ f → Advances stands limits heading n h r old new f f'
+  line-advances n h (Ok Event) line old new f f' is_plain is_short takes judged sound =
+      let goes_on = line-goes-on Patterns limits n (AtEvents heading h) (AtEvents heading judged.0) line old new is_plain is_short takes judged.1 in
+      (judged.0, subst (λ (m : ℕ). Continues Patterns limits n (AtEvents heading h) old m (AtEvents heading judged.0) new) (sym (add-one n)) goes_on, judged.2, judged.3, judged.4, sound)
+  line-advances n h (Ok End) line old new f f' is_plain is_short takes judged sound =
+      let goes_on = line-goes-on Patterns limits n (AtEvents heading h) (AtEnd h) line old new is_plain is_short takes judged.0 in
+      (subst (λ (m : ℕ). Continues Patterns limits n (AtEvents heading h) old m (AtEnd h) new) (sym (add-one n)) goes_on, judged.1, sound)
+  line-advances n h (Err (Decided v)) line old new f f' is_plain is_short takes judged sound =
+      (line-decides Patterns limits n (AtEvents heading h) v line old new is_plain is_short takes judged, sound)
+  line-advances n h (Err ReadFault) line old new f f' is_plain is_short takes judged sound = absurd judged
+  line-advances n h (Err NoMemory) line old new f f' is_plain is_short takes judged sound =
+      want-stops limits n (AtEvents heading h) line old new f f' is_plain is_short takes judged sound
 
--- An event.
+  -- An event.
 
-refused-at : (s : Stop) (n : ℕ) (heading : Heading) (h : List EventOf) (e : EventOf) (label : Option (List ℕ)) (breach : Option Breach) (t t' : Taken) (event : Type 0) → event → StopsAt s n label breach → JudgesLine event (Err s) (after_judged first_path check_limits n heading h e label breach) t t'
-refused-at (Decided v) n heading h e label (Some breach) t t' event holds stops = ap Decides (sym stops)
-refused-at (Decided v) n heading h e label None t t' event holds stops = absurd stops
-refused-at ReadFault n heading h e label (Some breach) t t' event holds stops = absurd stops
-refused-at ReadFault n heading h e label None t t' event holds stops = absurd stops
-refused-at NoMemory n heading h e label breach t t' event holds stops = holds
+  refused-at : (s : Stop) (n : ℕ) (h : List EventOf) (e : EventOf) (label : Option (List ℕ)) (breach : Option Breach) (which : Option Which) → which ≡ limit_of h e → StopsAt s n label breach which → JudgesLine stands limits heading n h (Unit {0}) (Err s) (after_judged limits n heading h e label breach)
+  refused-at (Decided v) n h e label (Some breach) which same stops = ap Decides (sym stops)
+  refused-at (Decided v) n h e label None (Some which) same stops =
+      ap (λ (l : Option Which). after_kept n heading h e (limit_at limits n h l)) (sym same) ∙ ap Decides (sym stops)
+  refused-at (Decided v) n h e label None None same stops = absurd stops
+  refused-at ReadFault n h e label (Some breach) which same stops = absurd stops
+  refused-at ReadFault n h e label None which same stops = absurd stops
+  refused-at NoMemory n h e label breach which same stops = tt
 
-built-event : (n : ℕ) (heading : Heading) (h : List EventOf) (e : EventOf) (label : Option (List ℕ)) → is_built heading h e ≡ true → after_event first_path check_limits n heading h e label ≡ after_judged first_path check_limits n heading h e label (broken heading h e)
-built-event n heading h e label built = rw built refl
+  pub event-refused : (s : Stop) (n : ℕ) (h : List EventOf) (e : EventOf) (label : Option (List ℕ)) → StopsAt s n label (broken heading Patterns h e) (limit_of h e) → JudgesLine stands limits heading n h (Unit {0}) (Err s) (after_event Patterns limits n heading h e label)
+  event-refused s n h e label stops = refused-at s n h e label (broken heading Patterns h e) (limit_of h e) refl stops
 
-pub event-refused : (s : Stop) (n : ℕ) (heading : Heading) (h : List EventOf) (e : EventOf) (label : Option (List ℕ)) (t t' : Taken) → is_built heading h e ≡ true → StopsAt s n label (broken heading h e) → JudgesLine (is_built heading h e ≡ true) (Err s) (after_event first_path check_limits n heading h e label) t t'
-event-refused s n heading h e label t t' built stops = rw (built-event n heading h e label built) (refused-at s n heading h e label (broken heading h e) t t' (is_built heading h e ≡ true) built stops)
+  kept-event : (n : ℕ) (h : List EventOf) (e : EventOf) (label : Option (List ℕ)) (which : Option Which) → broken heading Patterns h e ≡ None → limit_of h e ≡ None → limit_after limits n (length h) ≡ which → after_event Patterns limits n heading h e label ≡ after_kept n heading h e which
+  kept-event n h e label which kept free reached = rw (kept, free, reached) refl
 
-pub event-limit : (n : ℕ) (heading : Heading) (h : List EventOf) (e : EventOf) (label : Option (List ℕ)) → is_built heading h e ≡ true → broken heading h e ≡ None → 2000 ≤ length h → after_event first_path check_limits n heading h e label ≡ Decides (Limit n Events)
-event-limit n heading h e label built kept many =
-    let reached : nat_le 2000 (length h) ≡ true = grind (arith, nat_tests) in
-    rw (built-event n heading h e label built, kept, reached) refl
+  pub event-limit : (n : ℕ) (h : List EventOf) (e : EventOf) (label : Option (List ℕ)) (which : Which) → broken heading Patterns h e ≡ None → limit_of h e ≡ None → limit_after limits n (length h) ≡ Some which → after_event Patterns limits n heading h e label ≡ Decides (Limit n which)
+  event-limit n h e label which kept free reached = kept-event n h e label (Some which) kept free reached
 
-pub event-kept : (n : ℕ) (heading : Heading) (h : List EventOf) (e : EventOf) (label : Option (List ℕ)) → is_built heading h e ≡ true → broken heading h e ≡ None → length h < 2000 → after_event first_path check_limits n heading h e label ≡ GoesOn (AtEvents heading (e ∷ h))
-event-kept n heading h e label built kept few =
-    let reached : nat_le 2000 (length h) ≡ false = grind (arith, nat_tests) in
-    rw (built-event n heading h e label built, kept, reached) refl
+  pub event-kept : (n : ℕ) (h : List EventOf) (e : EventOf) (label : Option (List ℕ)) → broken heading Patterns h e ≡ None → limit_of h e ≡ None → limit_after limits n (length h) ≡ None → after_event Patterns limits n heading h e label ≡ GoesOn (AtEvents heading (e ∷ h))
+  event-kept n h e label kept free reached = kept-event n h e label None kept free reached
+
+-- no limit on lines is reached where there is none at all
+no-limit : (events lines : Bool) → (if events then Some Events else (if lines then Some Lines else None)) ≡ None → lines ≡ false
+no-limit true lines none = cc
+no-limit false true none = cc
+no-limit false false none = refl
+
+pub before-lines : (limits : Limits) (n count : ℕ) → limit_after limits n count ≡ None → n < limits.lines
+before-lines limits n count none =
+    let more : nat_le limits.lines n ≡ false = no-limit (is_reached limits.events count) (nat_le limits.lines n) none in
+    grind (arith, nat_tests)
+
+-- what was read of a line can be judged
+pub may-judge : (stands : Heading → List EventOf → Type 0) (heading : Heading) (n : ℕ) (read : Result Item Cause) → StandsAt stands heading n → n < 2 ^ 64 → IfOk read (λ item. item_fits heading item ≡ true) → MayJudge stands read
+may-judge stands heading n (Ok (item.Event event label)) at small fits =
+    (heading, at.0, at.1, (and_parts (fits_heading heading event) (label_fits heading.version label) fits).0, omega (arith, at.2, small))
+may-judge stands heading n (Ok (item.End count)) at small fits = tt
+may-judge stands heading n (Err cause) at small fits = tt
 
 -- Behind the end.
 
@@ -282,52 +305,52 @@ preceded-twice a b (Some rest) = ap Some (sym (append_assoc a b rest))
 pub shrinks-trans : (old mid new : Option (List ℕ)) → Shrinks old mid → Shrinks mid new → Shrinks old new
 shrinks-trans old mid new first second = (first.0 ++ second.0, first.1 ∙ ap (preceded first.0) second.1 ∙ preceded-twice first.0 second.0 new)
 
-pub continues-trans : (judge : Judge) (limits : Limits) (n1 n2 n3 : ℕ) (p1 p2 p3 : Progress) (old mid new : Option (List ℕ)) → Continues judge limits n1 p1 old n2 p2 mid → Continues judge limits n2 p2 mid n3 p3 new → Continues judge limits n1 p1 old n3 p3 new
-continues-trans judge limits n1 n2 n3 p1 p2 p3 None mid new first second = tt
-continues-trans judge limits n1 n2 n3 p1 p2 p3 (Some a) None new first second = absurd first
-continues-trans judge limits n1 n2 n3 p1 p2 p3 (Some a) (Some b) None first second = absurd second
-continues-trans judge limits n1 n2 n3 p1 p2 p3 (Some a) (Some b) (Some c) first second = passed-trans judge limits n1 n2 n3 p1 p2 p3 a b c first second
+pub continues-trans : (trust : Trust) (limits : Limits) (n1 n2 n3 : ℕ) (p1 p2 p3 : Progress) (old mid new : Option (List ℕ)) → Continues trust limits n1 p1 old n2 p2 mid → Continues trust limits n2 p2 mid n3 p3 new → Continues trust limits n1 p1 old n3 p3 new
+continues-trans trust limits n1 n2 n3 p1 p2 p3 None mid new first second = tt
+continues-trans trust limits n1 n2 n3 p1 p2 p3 (Some a) None new first second = absurd first
+continues-trans trust limits n1 n2 n3 p1 p2 p3 (Some a) (Some b) None first second = absurd second
+continues-trans trust limits n1 n2 n3 p1 p2 p3 (Some a) (Some b) (Some c) first second = passed-trans trust limits n1 n2 n3 p1 p2 p3 a b c first second
 
-pub continues-concludes : (judge : Judge) (limits : Limits) (n1 n2 : ℕ) (p1 p2 : Progress) (v : Verdict) (old mid new : Option (List ℕ)) → Continues judge limits n1 p1 old n2 p2 mid → Concludes judge limits n2 p2 mid v new → Concludes judge limits n1 p1 old v new
-continues-concludes judge limits n1 n2 p1 p2 v None mid new first second = tt
-continues-concludes judge limits n1 n2 p1 p2 v (Some a) None new first second = absurd first
-continues-concludes judge limits n1 n2 p1 p2 v (Some a) (Some b) None first second = absurd second
-continues-concludes judge limits n1 n2 p1 p2 v (Some a) (Some b) (Some c) first second = concludes-at judge limits n1 p1 a c v (outcome_at judge limits n2 p2 b) (passed-outcome judge limits n1 n2 p1 p2 a b first) second.0 second.1
+pub continues-concludes : (trust : Trust) (limits : Limits) (n1 n2 : ℕ) (p1 p2 : Progress) (v : Verdict) (old mid new : Option (List ℕ)) → Continues trust limits n1 p1 old n2 p2 mid → Concludes trust limits n2 p2 mid v new → Concludes trust limits n1 p1 old v new
+continues-concludes trust limits n1 n2 p1 p2 v None mid new first second = tt
+continues-concludes trust limits n1 n2 p1 p2 v (Some a) None new first second = absurd first
+continues-concludes trust limits n1 n2 p1 p2 v (Some a) (Some b) None first second = absurd second
+continues-concludes trust limits n1 n2 p1 p2 v (Some a) (Some b) (Some c) first second = concludes-at trust limits n1 p1 a c v (outcome_at trust limits n2 p2 b) (passed-outcome trust limits n1 n2 p1 p2 a b first) second.0 second.1
 
-continues-breaks : (judge : Judge) (limits : Limits) (n1 n2 : ℕ) (p1 p2 : Progress) (old mid new : Option (List ℕ)) → Continues judge limits n1 p1 old n2 p2 mid → Breaks judge limits n2 p2 mid new → Breaks judge limits n1 p1 old new
-continues-breaks judge limits n1 n2 p1 p2 None mid new first second = tt
-continues-breaks judge limits n1 n2 p1 p2 (Some a) None new first second = absurd first
-continues-breaks judge limits n1 n2 p1 p2 (Some a) (Some b) None first second = absurd second
-continues-breaks judge limits n1 n2 p1 p2 (Some a) (Some b) (Some c) first second = record {
+continues-breaks : (trust : Trust) (limits : Limits) (n1 n2 : ℕ) (p1 p2 : Progress) (old mid new : Option (List ℕ)) → Continues trust limits n1 p1 old n2 p2 mid → Breaks trust limits n2 p2 mid new → Breaks trust limits n1 p1 old new
+continues-breaks trust limits n1 n2 p1 p2 None mid new first second = tt
+continues-breaks trust limits n1 n2 p1 p2 (Some a) None new first second = absurd first
+continues-breaks trust limits n1 n2 p1 p2 (Some a) (Some b) None first second = absurd second
+continues-breaks trust limits n1 n2 p1 p2 (Some a) (Some b) (Some c) first second = record {
   at = second.at;
   reached = second.reached;
   piece = second.piece;
-  passed = passed-trans judge limits n1 n2 second.at p1 p2 second.reached a b (second.piece ++ c) first second.passed;
+  passed = passed-trans trust limits n1 n2 second.at p1 p2 second.reached a b (second.piece ++ c) first second.passed;
   clean = second.clean;
   short = second.short;
 }
 
-continues-starves : (judge : Judge) (limits : Limits) (n1 n2 : ℕ) (p1 p2 : Progress) (old mid new : Option (List ℕ)) → Continues judge limits n1 p1 old n2 p2 mid → Starves judge limits n2 p2 mid new → Starves judge limits n1 p1 old new
-continues-starves judge limits n1 n2 p1 p2 None mid new first second = tt
-continues-starves judge limits n1 n2 p1 p2 (Some a) None new first second = absurd first
-continues-starves judge limits n1 n2 p1 p2 (Some a) (Some b) None first second = absurd second
-continues-starves judge limits n1 n2 p1 p2 (Some a) (Some b) (Some c) first second = record {
+continues-starves : (trust : Trust) (limits : Limits) (n1 n2 : ℕ) (p1 p2 : Progress) (old mid new : Option (List ℕ)) → Continues trust limits n1 p1 old n2 p2 mid → Starves trust limits n2 p2 mid new → Starves trust limits n1 p1 old new
+continues-starves trust limits n1 n2 p1 p2 None mid new first second = tt
+continues-starves trust limits n1 n2 p1 p2 (Some a) None new first second = absurd first
+continues-starves trust limits n1 n2 p1 p2 (Some a) (Some b) None first second = absurd second
+continues-starves trust limits n1 n2 p1 p2 (Some a) (Some b) (Some c) first second = record {
   at = second.at;
   reached = second.reached;
   line = second.line;
-  passed = passed-trans judge limits n1 n2 second.at p1 p2 second.reached a b (second.line ++ 10 ∷ c) first second.passed;
+  passed = passed-trans trust limits n1 n2 second.at p1 p2 second.reached a b (second.line ++ 10 ∷ c) first second.passed;
   clean = second.clean;
   short = second.short;
   needs = second.needs;
 }
 
-pub continues-stops : (n1 n2 : ℕ) (p1 p2 : Progress) (s : Stop) (old mid new : Option (List ℕ)) (f f' f'' : ℕ) → Continues first_path check_limits n1 p1 old n2 p2 mid → f' ≡ f → Stops first_path check_limits n2 p2 mid s new f' f'' → Stops first_path check_limits n1 p1 old s new f f''
-continues-stops n1 n2 p1 p2 (Decided v) old mid new f f' f'' first same second =
-    (continues-concludes first_path check_limits n1 n2 p1 p2 v old mid new first second.0, second.1 ∙ same)
-continues-stops n1 n2 p1 p2 ReadFault old mid new f f' f'' first same second =
-    (continues-breaks first_path check_limits n1 n2 p1 p2 old mid new first second.0, subst (λ (x : ℕ). Rose x f'') same second.1)
-continues-stops n1 n2 p1 p2 NoMemory old mid new f f' f'' first same second =
-    (continues-starves first_path check_limits n1 n2 p1 p2 old mid new first second.0, second.1 ∙ same)
+pub continues-stops : (limits : Limits) (n1 n2 : ℕ) (p1 p2 : Progress) (s : Stop) (old mid new : Option (List ℕ)) (f f' f'' : ℕ) → Continues Patterns limits n1 p1 old n2 p2 mid → f' ≡ f → Stops Patterns limits n2 p2 mid s new f' f'' → Stops Patterns limits n1 p1 old s new f f''
+continues-stops limits n1 n2 p1 p2 (Decided v) old mid new f f' f'' first same second =
+    (continues-concludes Patterns limits n1 n2 p1 p2 v old mid new first second.0, second.1 ∙ same)
+continues-stops limits n1 n2 p1 p2 ReadFault old mid new f f' f'' first same second =
+    (continues-breaks Patterns limits n1 n2 p1 p2 old mid new first second.0, subst (λ (x : ℕ). Rose x f'') same second.1)
+continues-stops limits n1 n2 p1 p2 NoMemory old mid new f f' f'' first same second =
+    (continues-starves Patterns limits n1 n2 p1 p2 old mid new first second.0, second.1 ∙ same)
 
 -- Want of memory behind the header, where its line alone was read.
 
@@ -336,61 +359,58 @@ record HeaderRead (lines : List (List ℕ)) : Type 0 where
   is : lines ≡ line ∷ []
   clean : plain line ≡ true
   short : length line ≤ 200
-  needs : JudgedHeading first_path (header_of line)
+  needs : IsOk (header_of line)
 
-by-built : (b : Bool) (next p' : Progress) (v : Verdict) (k : Progress → Option Progress) → goes_on_to k (if b then GoesOn next else Decides v) ≡ Some p' → b ≡ true
-by-built true next p' v k read = refl
-by-built false next p' v k read = cc
+read-heading : (r : Result Heading Cause) (p' : Progress) (k : Progress → Option Progress) → goes_on_to k (after_header 1 r) ≡ Some p' → IsOk r
+read-heading (Ok heading) p' k read = refl
+read-heading (Err cause) p' k read = cc
 
-judged-heading : (r : Result Heading Cause) (p' : Progress) (k : Progress → Option Progress) → goes_on_to k (after_header first_path 1 r) ≡ Some p' → JudgedHeading first_path r
-judged-heading (Ok heading) p' k read = by-built (first_path.judges_heading heading) (AtEvents heading []) p' _ k read
-judged-heading (Err cause) p' k read = cc
+module _ (limits : Limits) where
+  header-short : (line : List ℕ) (b : Bool) (p' : Progress) (k : Progress → Option Progress) → is_too_long line ≡ b → goes_on_to k (step_of Patterns limits 1 AtHeader line) ≡ Some p' → length line ≤ 200
+  header-short line false p' k test read = grind (arith, nat_tests)
+  header-short line true p' k test read =
+      let is_long : 200 < length line = grind (arith, nat_tests) in
+      let decides = ap (goes_on_to k) (step_of-long Patterns limits 1 AtHeader line is_long) in
+      cc
 
-header-short : (line : List ℕ) (b : Bool) (p' : Progress) (k : Progress → Option Progress) → is_too_long line ≡ b → goes_on_to k (step_of first_path check_limits 1 AtHeader line) ≡ Some p' → length line ≤ 200
-header-short line false p' k test read = grind (arith, nat_tests)
-header-short line true p' k test read =
-    let is_long : 200 < length line = grind (arith, nat_tests) in
-    let decides = ap (goes_on_to k) (step_of-long first_path check_limits 1 AtHeader line is_long) in
-    cc
+  header-read : (lines : List (List ℕ)) (p' : Progress) → plain_lines lines ≡ true → 2 ≡ 1 + length lines → read_from Patterns limits 1 AtHeader lines ≡ Some p' → HeaderRead lines
+  header-read [] p' clean count read = absurd (omega (arith, count))
+  header-read (line ∷ other ∷ lines) p' clean count read = absurd (omega (arith, count))
+  header-read (line ∷ []) p' clean count read =
+      let k : Progress → Option Progress = λ next. read_from Patterns limits 2 next [] in
+      let is_short = header-short line (is_too_long line) p' k refl read in
+      let judged = ap (goes_on_to k) (sym (step_of-short Patterns limits 1 AtHeader line is_short)) ∙ read in
+      record {
+        line = line;
+        is = refl;
+        clean = (and_parts (plain line) true clean).0;
+        short = is_short;
+        needs = read-heading (header_of line) p' k judged;
+      }
 
-header-read : (lines : List (List ℕ)) (p' : Progress) → plain_lines lines ≡ true → 2 ≡ 1 + length lines → read_from first_path check_limits 1 AtHeader lines ≡ Some p' → HeaderRead lines
-header-read [] p' clean count read = absurd (omega (arith, count))
-header-read (line ∷ other ∷ lines) p' clean count read = absurd (omega (arith, count))
-header-read (line ∷ []) p' clean count read =
-    let k : Progress → Option Progress = λ next. read_from first_path check_limits 2 next [] in
-    let is_short = header-short line (is_too_long line) p' k refl read in
-    let judged = ap (goes_on_to k) (sym (step_of-short first_path check_limits 1 AtHeader line is_short)) ∙ read in
-    record {
-      line = line;
-      is = refl;
-      clean = (and_parts (plain line) true clean).0;
-      short = is_short;
-      needs = judged-heading (header_of line) p' k judged;
-    }
+  pub header-want : (heading : Heading) (old new : Option (List ℕ)) (f f' : ℕ) → Continues Patterns limits 1 AtHeader old 2 (AtEvents heading []) new → f' ≡ f → Stops Patterns limits 1 AtHeader old NoMemory new f f'
+  header-want heading None new f f' first same = (tt, same)
+  header-want heading (Some a) None f f' first same = absurd first
+  header-want heading (Some a) (Some c) f f' first same =
+      let header = header-read first.lines (AtEvents heading []) first.clean first.count first.read in
+      let bytes_are : a ≡ header.line ++ 10 ∷ c = first.is ∙ ap (λ lines. bytes_of lines c) header.is in
+      let takes : Some a ≡ preceded (header.line ++ 10 ∷ []) (Some c) = ap Some (bytes_are ∙ sym (append_assoc header.line (10 ∷ []) c)) in
+      want-stops limits 1 AtHeader header.line (Some a) (Some c) f f' header.clean header.short takes header.needs same
 
-pub header-want : (heading : Heading) (old new : Option (List ℕ)) (f f' : ℕ) → Continues first_path check_limits 1 AtHeader old 2 (AtEvents heading []) new → f' ≡ f → Stops first_path check_limits 1 AtHeader old NoMemory new f f'
-header-want heading None new f f' first same = (tt, same)
-header-want heading (Some a) None f f' first same = absurd first
-header-want heading (Some a) (Some c) f f' first same =
-    let header = header-read first.lines (AtEvents heading []) first.clean first.count first.read in
-    let bytes_are : a ≡ header.line ++ 10 ∷ c = first.is ∙ ap (λ lines. bytes_of lines c) header.is in
-    let takes : Some a ≡ preceded (header.line ++ 10 ∷ []) (Some c) = ap Some (bytes_are ∙ sym (append_assoc header.line (10 ∷ []) c)) in
-    want-stops 1 AtHeader header.line (Some a) (Some c) f f' header.clean header.short takes header.needs same
+  -- From the header to the end.
 
--- From the header to the end.
+  pub closes-ends : (heading : Heading) (h : List EventOf) (n events : ℕ) (old mid new : Option (List ℕ)) (f f' f'' : ℕ) → Continues Patterns limits 2 (AtEvents heading []) old n (AtEnd h) mid → f' ≡ f → Concludes Patterns limits n (AtEnd h) mid (Accepted (length h)) new × (f'' ≡ f') → events ≡ length h → Ends limits 2 (AtEvents heading []) (Ok events) old new f f''
+  closes-ends heading h n events old mid new f f' f'' first same second count =
+      let concludes = continues-concludes Patterns limits 2 n (AtEvents heading []) (AtEnd h) (Accepted (length h)) old mid new first second.0 in
+      (subst (λ (m : ℕ). Concludes Patterns limits 2 (AtEvents heading []) old (Accepted m) new) (sym count) concludes, second.1 ∙ same)
 
-pub reach-end : (heading : Heading) (n : ℕ) (t t' : Taken) (old mid new : Option (List ℕ)) (f f' f'' : ℕ) → Continues first_path check_limits 2 (AtEvents heading []) old n (AtEvents t.heading t.history) mid → n ≤ 2002 → f' ≡ f → Advances (Ok End) n t t' mid new f' f'' → Reaches (Ok (n + 1)) heading t'.history old new f f''
-reach-end heading n t t' old mid new f f' f'' first within same second =
-    let reached = continues-trans first_path check_limits 2 n (n + 1) (AtEvents heading []) (AtEvents t.heading t.history) (AtEnd t.history) old mid new first second.0 in
-    (subst (λ (x : Taken). Continues first_path check_limits 2 (AtEvents heading []) old (n + 1) (AtEnd x.history) new) (sym second.1) reached, omega (arith, within), second.2 ∙ same)
+  pub starts-ends : (heading : Heading) (r : Result ℕ Stop) (old mid new : Option (List ℕ)) (f f' f'' : ℕ) → Continues Patterns limits 1 AtHeader old 2 (AtEvents heading []) mid → f' ≡ f → Ends limits 2 (AtEvents heading []) r mid new f' f'' → Ends limits 1 AtHeader r old new f f''
+  starts-ends heading (Ok events) old mid new f f' f'' first same second =
+      (continues-concludes Patterns limits 1 2 AtHeader (AtEvents heading []) (Accepted events) old mid new first second.0, second.1 ∙ same)
+  starts-ends heading (Err stop) old mid new f f' f'' first same second =
+      continues-stops limits 1 2 AtHeader (AtEvents heading []) stop old mid new f f' f'' first same second
 
-pub closes-ends : (heading : Heading) (h : List EventOf) (n events : ℕ) (old mid new : Option (List ℕ)) (f f' f'' : ℕ) → Continues first_path check_limits 2 (AtEvents heading []) old n (AtEnd h) mid → f' ≡ f → Concludes first_path check_limits n (AtEnd h) mid (Accepted (length h)) new × (f'' ≡ f') → events ≡ length h → Ends 2 (AtEvents heading []) (Ok events) old new f f''
-closes-ends heading h n events old mid new f f' f'' first same second count =
-    let concludes = continues-concludes first_path check_limits 2 n (AtEvents heading []) (AtEnd h) (Accepted (length h)) old mid new first second.0 in
-    (subst (λ (m : ℕ). Concludes first_path check_limits 2 (AtEvents heading []) old (Accepted m) new) (sym count) concludes, second.1 ∙ same)
-
-pub starts-ends : (heading : Heading) (r : Result ℕ Stop) (old mid new : Option (List ℕ)) (f f' f'' : ℕ) → Continues first_path check_limits 1 AtHeader old 2 (AtEvents heading []) mid → f' ≡ f → Ends 2 (AtEvents heading []) r mid new f' f'' → Ends 1 AtHeader r old new f f''
-starts-ends heading (Ok events) old mid new f f' f'' first same second =
-    (continues-concludes first_path check_limits 1 2 AtHeader (AtEvents heading []) (Accepted events) old mid new first second.0, second.1 ∙ same)
-starts-ends heading (Err stop) old mid new f f' f'' first same second =
-    continues-stops 1 2 AtHeader (AtEvents heading []) stop old mid new f f' f'' first same second
+  pub reach-end : (stands : Heading → List EventOf → Type 0) (heading : Heading) (n : ℕ) (h : List EventOf) (old mid new : Option (List ℕ)) (f f' f'' : ℕ) → Continues Patterns limits 2 (AtEvents heading []) old n (AtEvents heading h) mid → n ≤ limits.lines + 2 → f' ≡ f → Advances stands limits heading n h (Ok End) mid new f' f'' → Reaches stands limits heading (Ok (n + 1)) old new f f''
+  reach-end stands heading n h old mid new f f' f'' first within same second =
+      let reached = continues-trans Patterns limits 2 n (n + 1) (AtEvents heading []) (AtEvents heading h) (AtEnd h) old mid new first second.0 in
+      (h, reached, second.1, omega (arith, within), second.2 ∙ same)

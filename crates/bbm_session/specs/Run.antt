@@ -1,24 +1,35 @@
 -- What the program's words ask for, and what it says.
 -- Source: project's own choice.
-use Rattle.std.specs.Prelude.{◌≡◌, ◌⊎◌, ℕ, suc, ◌≤◌, List, [], ◌∷◌, ◌++◌, length, Option, Some, Result, Ok, Err, Bool}
-use Rattle.std.specs.Prelude.{true, false, codes, bytes_eq}
+use Rattle.std.specs.Prelude.{◌≡◌, ◌⊎◌, ℕ, suc, ◌≤◌, List, [], ◌∷◌, ◌++◌, length, Option, Some, None, Result, Ok, IsOk, Bool, true, false, codes, bytes_eq, if◌then◌else◌}
 use Rattle.bbm_rules.specs.declared.verdict.Verdict.{Verdict}
 use Rattle.bbm_rules.specs.declared.verdict.Verdict.TheVariants.{Accepted, Refused, Malformed, Limit}
-use Rattle.bbm_events.specs.declared.event.Event.{Event}
 use Rattle.bbm_events.specs.declared.event.Item.{Item}
 use Rattle.bbm_events.specs.declared.event.Item.TheVariants as item
 use Rattle.bbm_events.specs.declared.malformed.Malformed.{Malformed as Cause}
-use Rattle.bbm_events.specs.Heading.{Heading}
 use Rattle.bbm_events.specs.Lines.{header_of, item_of}
-use Rattle.bbm_rules.specs.Outcome.{Judge, first_path, check_limits, Progress, AtHeader, AtEvents, AtEnd, Text, text_of}
-use Rattle.bbm_rules.specs.Outcome.{read_lines}
+use Rattle.bbm_rules.specs.Claims.{Patterns}
+use Rattle.bbm_rules.specs.declared.limits.Limits.{Limits}
+use Rattle.bbm_rules.specs.Outcome.{check_limits, slow_limits, Progress, AtHeader, AtEvents, AtEnd, Text, text_of, read_lines}
+use Rattle.bbm_session.specs.declared.command.Command.{Command}
+use Rattle.bbm_session.specs.declared.command.Command.TheVariants.{Check, Slow}
 use Rattle.bbm_session.specs.declared.status.Status.{Status}
 use Rattle.bbm_session.specs.declared.status.Status.TheVariants as status
 
--- whether the words are the one word `check`
-abbrev pub says_check : List (List ℕ) → Bool
-says_check (word ∷ []) = bytes_eq word (codes "check")
-says_check _ = false
+-- the command of one word
+abbrev pub command_at : List ℕ → Option Command
+command_at word =
+    if bytes_eq word (codes "check") then Some Check
+    else (if bytes_eq word (codes "slow") then Some Slow else None)
+
+-- the command that the words say, None where they say none
+abbrev pub command_of : List (List ℕ) → Option Command
+command_of (word ∷ []) = command_at word
+command_of _ = None
+
+-- the limits under which a command judges a log
+abbrev pub limits_of : Command → Limits
+limits_of Check = check_limits
+limits_of Slow = slow_limits
 
 -- the usage line, which names all commands, also those that aren't built yet
 abbrev pub usage_text : List ℕ
@@ -67,8 +78,7 @@ ReadFor (Limit line which) read unread = UpTo line read unread
 -- What is left of these bytes, where all before was read for this verdict.
 abbrev pub ReadTo : List ℕ → Verdict → Option (List ℕ) → Type 0
 ReadTo bytes verdict left =
-    (read : List ℕ) × (unread : List ℕ) × (bytes ≡ read ++ unread) × (left ≡ Some unread)
-    × ReadFor verdict (text_of read) unread
+    (read : List ℕ) × (unread : List ℕ) × (bytes ≡ read ++ unread) × (left ≡ Some unread) × ReadFor verdict (text_of read) unread
 
 -- Reading stopped before a verdict was known: these bytes were read of what was left.
 pub record ReadPart (bytes : List ℕ) (left : Option (List ℕ)) : Type 0 where
@@ -78,33 +88,29 @@ pub record ReadPart (bytes : List ℕ) (left : Option (List ℕ)) : Type 0 where
   pub now : left ≡ Some unread
 
 -- A read failed: no line that was read decides, and of the next one at most 200 bytes were read.
-pub record ReadToFault (bytes : List ℕ) (left : Option (List ℕ)) : Type 0 where
+pub record ReadToFault (limits : Limits) (bytes : List ℕ) (left : Option (List ℕ)) : Type 0 where
   pub part : ReadPart bytes left
   pub reached : Progress
-  pub undecided : read_lines first_path check_limits (text_of part.read).lines ≡ Some reached
+  pub undecided : read_lines Patterns limits (text_of part.read).lines ≡ Some reached
   pub short : length (text_of part.read).rest ≤ 200
 
--- A line for which memory is needed: a header, or an event, which this version judges.
-abbrev pub Judged : Judge → Heading → List Event → Result Item Cause → Type 0
-Judged judge heading h (Ok (item.Event event label)) = judge.judges heading h event ≡ true
-Judged judge heading h _ = ⊥
+-- A line for which memory is needed: a header, or an event.
+abbrev pub IsEvent : Result Item Cause → Type 0
+IsEvent (Ok (item.Event event label)) = Unit {0}
+IsEvent _ = ⊥
 
-abbrev pub JudgedHeading : Judge → Result Heading Cause → Type 0
-JudgedHeading judge (Ok heading) = judge.judges_heading heading ≡ true
-JudgedHeading judge (Err cause) = ⊥
-
-abbrev pub NeedsMemory : Judge → Progress → List ℕ → Type 0
-NeedsMemory judge AtHeader line = JudgedHeading judge (header_of line)
-NeedsMemory judge (AtEvents heading h) line = Judged judge heading h (item_of heading line)
-NeedsMemory judge (AtEnd h) line = ⊥
+abbrev pub NeedsMemory : Progress → List ℕ → Type 0
+NeedsMemory AtHeader line = IsOk (header_of line)
+NeedsMemory (AtEvents heading h) line = IsEvent (item_of heading line)
+NeedsMemory (AtEnd h) line = ⊥
 
 -- There was no memory: what was read ends with a line that needs memory, and no line before it decides.
-pub record ReadToWant (bytes : List ℕ) (left : Option (List ℕ)) : Type 0 where
+pub record ReadToWant (limits : Limits) (bytes : List ℕ) (left : Option (List ℕ)) : Type 0 where
   pub part : ReadPart bytes left
   pub before : List (List ℕ)
   pub line : List ℕ
   pub reached : Progress
   pub lines : text_of part.read ≡ record { lines = before ++ line ∷ []; rest = [] }
-  pub undecided : read_lines first_path check_limits before ≡ Some reached
+  pub undecided : read_lines Patterns limits before ≡ Some reached
   pub short : length line ≤ 200
-  pub needs : NeedsMemory first_path reached line
+  pub needs : NeedsMemory reached line

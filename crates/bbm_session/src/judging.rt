@@ -1,26 +1,25 @@
 //! The lines of a log, judged one after another.
 
-ghost use Rattle.std.specs.Prelude.{◌≡◌, ◌+◌, ◌≤◌, ℕ, List, [], true, Option, OnOk, IfOk, Err, length};
+ghost use Rattle.std.specs.Prelude.{◌≡◌, ◌+◌, ◌≤◌, ℕ, suc, List, [], Option, OnOk, IfOk, Err};
+ghost use Rattle.bbm_regimes.specs.declared.regime.Which.{Which as WhichOf};
 ghost use Rattle.bbm_events.specs.declared.event.Event.{Event};
-ghost use Rattle.bbm_rules.specs.FirstPathAnswers.{Answers};
-ghost use Rattle.bbm_rules.specs.FirstPath.{Breach, is_built, is_built_heading};
-ghost use Rattle.bbm_rules.specs.Outcome.{first_path, check_limits, AtHeader, AtEvents, after_header, after_event, after_item};
-ghost use Rattle.bbm_oracle.specs.Taken.{StandsFor};
-ghost use Rattle.bbm_session.specs.Run.{Judged};
-ghost use Rattle.bbm_session.specs.Stages.{Shrinks, Stops, StopsAt, Ready, JudgesHeader, JudgesLine, Starts, Advances, Reaches, Closes, Ends};
+ghost use Rattle.bbm_events.specs.Heading.{Heading};
+ghost use Rattle.bbm_rules.specs.declared.limits.Limits.{Limits as LimitsOf};
+ghost use Rattle.bbm_rules.specs.Answers.{Answers, MayTake};
+ghost use Rattle.bbm_rules.specs.Broken.{Breach};
+ghost use Rattle.bbm_rules.specs.Claims.{Patterns};
+ghost use Rattle.bbm_rules.specs.Outcome.{is_reached, limit_after, AtHeader, AtEvents, after_header, after_event, after_item};
+ghost use Rattle.bbm_session.specs.Run.{IsEvent};
+ghost use Rattle.bbm_session.specs.Stages.{Shrinks, Stops, StopsAt, StandsAt, MayJudge, Ready, JudgesHeader, JudgesLine, Starts, Advances, Reaches, Closes, Ends};
 
 use crate::line::{Piece, next_piece};
 use crate::stop::{Stop, Turn};
 use bbm_events::{Event, Header, Item, Label, Malformed};
 use bbm_io::{Lines, Source};
 use bbm_log_grammar::{read_event, read_header};
-use bbm_oracle::Oracle;
-use bbm_regimes::{Which, World};
-use bbm_rules::{FirstPathChecker, StepFault, Verdict};
+use bbm_regimes::Which;
+use bbm_rules::{Checker, Fresh, Limits, StepFault, Verdict};
 use std::alloc::Global;
-
-/// The most events of a log. Source: project's own choice.
-const EVENTS: u64 = 2000;
 
 // Why reading stops at a malformed line.
 fn malformed(line: u64, cause: Malformed) -> Stop
@@ -36,37 +35,20 @@ fn limit(line: u64, which: Which) -> Stop
     Stop::Decided(Verdict::Limit { line, which })
 }
 
-// Whether this version judges logs of this header: by the world alone, since no event that it judges is judged
-// otherwise under a later version or under `cnp`.
-fn is_built(header: &Header) -> bool
-    ensures { result ≡ is_built_heading header.now }
-{
-    match header.world {
-        World::Hyp(world) => world.el2_start == 1 && world.s2_start == 1 && world.s2_pages == 1,
-        World::Kernel(_) => false,
-    }
-}
-
 // What line 1 decides, by what was read of it.
 fn judge_header(read: Result<Header, Malformed>) -> Result<Header, Stop>
-    ensures { JudgesHeader result (after_header first_path 1 read) }
+    ensures { JudgesHeader result (after_header 1 read) }
 {
     match read {
-        Ok(header) => {
-            if is_built(&header) {
-                Ok(header)
-            } else {
-                Err(malformed(1, Malformed::NotBuilt))
-            }
-        }
+        Ok(header) => Ok(header),
         Err(cause) => Err(malformed(1, cause)),
     }
 }
 
-// Why reading stops at an event with this label that the oracle didn't take.
+// Why reading stops at an event with this label that the checker didn't take.
 fn refusal(number: u64, label: Option<Label>, fault: StepFault) -> Stop
-    requires { (breach : Option Breach) × Answers (Err fault) breach }
-    ensures { (breach : Option Breach) → Answers (Err fault) breach → StopsAt result number label breach }
+    ensures { (breach : Option Breach) (which : Option WhichOf) → Answers (Err fault) breach which
+        → StopsAt result number label breach which }
 {
     match fault {
         StepFault::Broken(rule, at) => Stop::Decided(Verdict::Refused {
@@ -75,52 +57,74 @@ fn refusal(number: u64, label: Option<Label>, fault: StepFault) -> Stop
             at,
             label,
         }),
-        StepFault::Limit(_) => unreachable!(),
+        StepFault::Limit(which) => limit(number, which),
         StepFault::NoMemory => Stop::NoMemory,
     }
 }
 
+// Whether the last of so many events is one too many.
+fn passes(most: Option<u64>, taken: u64) -> bool
+    ensures { (before : ℕ) → taken ≡ suc before → result ≡ is_reached most before }
+{
+    match most {
+        Some(most) => taken > most,
+        None => false,
+    }
+}
+
+// The limit that the last of so many events, on this line, reaches.
+fn limit_reached(limits: Limits, number: u64, taken: u64) -> Option<Which>
+    ensures { (before : ℕ) → taken ≡ suc before → result ≡ limit_after limits number before }
+{
+    if passes(limits.events, taken) {
+        Some(Which::Events)
+    } else if number >= u64::from(limits.lines) {
+        Some(Which::Lines)
+    } else {
+        None
+    }
+}
+
 // What an event with this label decides on this line.
-fn judge_event(
+fn judge_event<C: Checker>(
     alloc: Global,
+    limits: Limits,
     number: u64,
-    oracle: &mut Oracle,
+    checker: &mut C,
     event: Event,
     label: Option<Label>,
 ) -> Result<Turn, Stop>
-    requires { length oracle.old.history ≤ 2000 }
-    ensures { JudgesLine (is_built oracle.old.heading oracle.old.history event ≡ true) result
-        (after_event first_path check_limits number oracle.old.heading oracle.old.history event label)
-        oracle.old oracle.new }
+    requires { MayTake (C.stands checker.old) event }
+    ensures { (heading : Heading) (h : List Event) → C.stands checker.old heading h
+        → JudgesLine (C.stands checker.new) limits heading number h (Unit {0}) result
+        (after_event Patterns limits number heading h event label) }
 {
-    if !oracle.judges(&event) {
-        return Err(malformed(number, Malformed::NotBuilt));
-    }
-    if let Err(fault) = oracle.step(alloc, event) {
+    if let Err(fault) = checker.step(alloc, event) {
         return Err(refusal(number, label, fault));
     }
-    if oracle.events() > EVENTS {
-        return Err(limit(number, Which::Events));
+    match limit_reached(limits, number, checker.events()) {
+        Some(which) => Err(limit(number, which)),
+        None => Ok(Turn::Event),
     }
-    Ok(Turn::Event)
 }
 
 // What a line after the header decides, by what was read of it.
-fn judge_item(
+fn judge_item<C: Checker>(
     alloc: Global,
+    limits: Limits,
     number: u64,
-    oracle: &mut Oracle,
+    checker: &mut C,
     read: Result<Item, Malformed>,
 ) -> Result<Turn, Stop>
-    requires { length oracle.old.history ≤ 2000 }
-    ensures { JudgesLine (Judged first_path oracle.old.heading oracle.old.history read) result
-        (after_item first_path check_limits number oracle.old.heading oracle.old.history read)
-        oracle.old oracle.new }
+    requires { MayJudge (C.stands checker.old) read }
+    ensures { (heading : Heading) (h : List Event) → C.stands checker.old heading h
+        → JudgesLine (C.stands checker.new) limits heading number h (IsEvent read) result
+        (after_item Patterns limits number heading h read) }
 {
     match read {
-        Ok(Item::Event(event, label)) => judge_event(alloc, number, oracle, event, label),
+        Ok(Item::Event(event, label)) => judge_event(alloc, limits, number, checker, event, label),
         Ok(Item::End(count)) => {
-            if u64::from(count) == oracle.events() {
+            if u64::from(count) == checker.events() {
                 Ok(Turn::End)
             } else {
                 Err(malformed(number, Malformed::WrongCount))
@@ -134,7 +138,7 @@ fn judge_item(
 pub fn header_line<S: Source>(lines: &mut Lines, log: &mut S) -> Result<Header, Stop>
     requires { Ready lines.old 1 }
     ensures ready { OnOk result (Ready lines.new 2) }
-    ensures starts { Starts result (S.left log.old) (S.left log.new) (S.faults log.old) (S.faults log.new) }
+    ensures starts { (limits : LimitsOf) → Starts limits result (S.left log.old) (S.left log.new) (S.faults log.old) (S.faults log.new) }
     ensures shrinks { Shrinks (S.left log.old) (S.left log.new) }
 {
     match next_piece(lines, log) {
@@ -146,25 +150,34 @@ pub fn header_line<S: Source>(lines: &mut Lines, log: &mut S) -> Result<Header, 
 }
 
 // Reads line number `number`, after the header.
-fn event_line<S: Source>(
+fn event_line<C: Checker, S: Source>(
     alloc: Global,
+    limits: Limits,
     number: u64,
     header: &Header,
-    oracle: &mut Oracle,
+    checker: &mut C,
     lines: &mut Lines,
     log: &mut S,
 ) -> Result<Turn, Stop>
-    requires heading { oracle.old.heading ≡ header.now }
-    requires events { length oracle.old.history ≤ 2000 }
-    requires number { number ≤ 2002 }
+    requires stands { StandsAt (C.stands checker.old) header.now number }
+    requires number { number ≤ limits.lines + 2 }
     requires ready { Ready lines.old number }
     ensures ready { OnOk result (Ready lines.new (number + 1)) }
-    ensures advances { Advances result number oracle.old oracle.new (S.left log.old)
-        (S.left log.new) (S.faults log.old) (S.faults log.new) }
+    ensures advances { (h : List Event) → C.stands checker.old header.now h
+        → Advances (C.stands checker.new) limits header.now number h result (S.left log.old) (S.left log.new)
+        (S.faults log.old) (S.faults log.new) }
     ensures shrinks { Shrinks (S.left log.old) (S.left log.new) }
 {
     match next_piece(lines, log) {
-        Piece::Line => judge_item(alloc, number, oracle, read_event(header, lines.bytes())),
+        Piece::Line => {
+            judge_item(
+                alloc,
+                limits,
+                number,
+                checker,
+                read_event(header, lines.bytes()),
+            )
+        }
         Piece::Rest => Err(malformed(number, Malformed::NoEnd)),
         Piece::TooLong => Err(limit(number, Which::LineBytes)),
         Piece::ReadFault => Err(Stop::ReadFault),
@@ -172,23 +185,24 @@ fn event_line<S: Source>(
 }
 
 /// Reads the lines from line 2 to the `end` line and judges them; answers the number of the line behind it.
-pub fn event_lines<S: Source>(
+pub fn event_lines<C: Checker, S: Source>(
     alloc: Global,
+    limits: Limits,
     header: &Header,
-    oracle: &mut Oracle,
+    checker: &mut C,
     lines: &mut Lines,
     log: &mut S,
 ) -> Result<u64, Stop>
-    requires fresh { StandsFor oracle.old header.now [] }
+    requires fresh { C.stands checker.old header.now [] }
     requires ready { Ready lines.old 2 }
     ensures ready { IfOk result (λ number. Ready lines.new number) }
-    ensures reaches { Reaches result header.now oracle.new.history (S.left log.old) (S.left log.new)
+    ensures reaches { Reaches (C.stands checker.new) limits header.now result (S.left log.old) (S.left log.new)
         (S.faults log.old) (S.faults log.new) }
     ensures shrinks { Shrinks (S.left log.old) (S.left log.new) }
 {
     let mut number = 2;
     'lines: loop {
-        match event_line(alloc, number, header, oracle, lines, log) {
+        match event_line(alloc, limits, number, header, checker, lines, log) {
             Ok(Turn::Event) => number += 1,
             Ok(Turn::End) => return Ok(number + 1),
             Err(stop) => return Err(stop),
@@ -199,8 +213,8 @@ pub fn event_lines<S: Source>(
 /// Reads behind the `end` line, where nothing may follow.
 pub fn nothing_follows<S: Source>(number: u64, lines: &mut Lines, log: &mut S) -> Result<(), Stop>
     requires ready { Ready lines.old number }
-    requires number { number ≤ 2003 }
-    ensures closes { (h : List Event) → Closes result number h (S.left log.old) (S.left log.new)
+    requires number { number ≤ 4294967298 }
+    ensures closes { (limits : LimitsOf) (h : List Event) → Closes limits result number h (S.left log.old) (S.left log.new)
         (S.faults log.old) (S.faults log.new) }
     ensures shrinks { Shrinks (S.left log.old) (S.left log.new) }
 {
@@ -219,22 +233,23 @@ pub fn nothing_follows<S: Source>(number: u64, lines: &mut Lines, log: &mut S) -
 }
 
 // Reads the log behind its header and judges it; answers the number of its events.
-fn judge_events<S: Source>(
+fn judge_events<C: Checker, S: Source>(
     alloc: Global,
+    limits: Limits,
     header: &Header,
-    oracle: &mut Oracle,
+    checker: &mut C,
     lines: &mut Lines,
     log: &mut S,
 ) -> Result<u64, Stop>
-    requires fresh { StandsFor oracle.old header.now [] }
+    requires fresh { C.stands checker.old header.now [] }
     requires ready { Ready lines.old 2 }
-    ensures ends { Ends 2 (AtEvents header.now []) result (S.left log.old) (S.left log.new)
+    ensures ends { Ends limits 2 (AtEvents header.now []) result (S.left log.old) (S.left log.new)
         (S.faults log.old) (S.faults log.new) }
     ensures shrinks { Shrinks (S.left log.old) (S.left log.new) }
 {
-    match event_lines(alloc, header, oracle, lines, log) {
+    match event_lines(alloc, limits, header, checker, lines, log) {
         Ok(number) => match nothing_follows(number, lines, log) {
-            Ok(()) => Ok(oracle.events()),
+            Ok(()) => Ok(checker.events()),
             Err(stop) => Err(stop),
         },
         Err(stop) => Err(stop),
@@ -242,27 +257,31 @@ fn judge_events<S: Source>(
 }
 
 // Reads the whole log and judges it; answers the number of its events.
-fn judge_lines<S: Source>(alloc: Global, log: &mut S) -> Result<u64, Stop>
-    ensures ends { Ends 1 AtHeader result (S.left log.old) (S.left log.new) (S.faults log.old) (S.faults log.new) }
+fn judge_lines<C: Fresh + Drop, S: Source>(
+    alloc: Global,
+    limits: Limits,
+    log: &mut S,
+) -> Result<u64, Stop>
+    ensures ends { Ends limits 1 AtHeader result (S.left log.old) (S.left log.new) (S.faults log.old) (S.faults log.new) }
     ensures shrinks { Shrinks (S.left log.old) (S.left log.new) }
 {
     let mut lines = Lines::new();
     match header_line(&mut lines, log) {
-        Ok(header) => match Oracle::new(alloc, &header) {
-            Ok(mut oracle) => judge_events(alloc, &header, &mut oracle, &mut lines, log),
+        Ok(header) => match C::fresh(alloc, &header) {
+            Ok(mut checker) => judge_events(alloc, limits, &header, &mut checker, &mut lines, log),
             Err(_) => Err(Stop::NoMemory),
         },
         Err(stop) => Err(stop),
     }
 }
 
-/// Reads the log up to the line that decides, and answers why reading stopped.
-pub fn judge<S: Source>(alloc: Global, log: &mut S) -> Stop
-    ensures stops { Stops first_path check_limits 1 AtHeader (S.left log.old) result (S.left log.new)
+/// Reads the log up to the line that decides under these limits, and answers why reading stopped.
+pub fn judge<C: Fresh + Drop, S: Source>(alloc: Global, limits: Limits, log: &mut S) -> Stop
+    ensures stops { Stops Patterns limits 1 AtHeader (S.left log.old) result (S.left log.new)
         (S.faults log.old) (S.faults log.new) }
     ensures shrinks { Shrinks (S.left log.old) (S.left log.new) }
 {
-    match judge_lines(alloc, log) {
+    match judge_lines::<C, S>(alloc, limits, log) {
         Ok(events) => Stop::Decided(Verdict::Accepted { events }),
         Err(stop) => stop,
     }

@@ -1,6 +1,7 @@
 //! The top call: a log is read from a source and judged, and the verdict is written to a sink.
 #![tactic(auto)]
 
+mod command;
 mod judging;
 mod line;
 pub mod status;
@@ -9,6 +10,7 @@ mod text;
 mod top;
 mod words;
 
+pub use command::Command;
 pub use status::{Status, number};
 pub use top::run;
 pub use words::run_words;

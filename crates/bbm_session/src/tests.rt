@@ -1,6 +1,11 @@
 //! Whole runs over sources and sinks in memory: the status and the bytes that are written.
 
+mod el2_logs;
+mod other_logs;
+
 use super::*;
+use crate::tests::el2_logs::EL2;
+use crate::tests::other_logs::{KERNEL, STAGE2, VERSIONED};
 use bbm_io::{CleanSource, MemSink, MemSource};
 use std::alloc::{AllocError, Global};
 use std::io;
@@ -61,9 +66,14 @@ fn judged(
 
 /// Checks the log without faults.
 fn checked(alloc: Global, log: Vec<u8>) -> Result<(u8, MemSink), AllocError> {
+    judged_by(alloc, "check", log)
+}
+
+/// Runs the command over the log without faults.
+fn judged_by(alloc: Global, command: &str, log: Vec<u8>) -> Result<(u8, MemSink), AllocError> {
     judged(
         alloc,
-        "check",
+        command,
         log,
         Faults {
             read: 0,
@@ -157,27 +167,27 @@ const MOVES: [(&[u8], &[u8], u8); 13] = [
         b"refused line 6 rule 4 break-before-make at 0x40000008\n",
         1,
     ),
-    // A table, and a block with the Contiguous hint, aren't judged yet.
+    // A table, and a block with the Contiguous hint; the least rule is told.
     (
         b"w 0 0x40000008 0x40001003\nend 5\n",
-        b"malformed line 6 cause 12 NotBuilt\n",
-        2,
+        b"refused line 6 rule 4 break-before-make at 0x40000008\n",
+        1,
     ),
     (
         b"w 0 0x40000008 0x10000080000701\nend 5\n",
-        b"malformed line 6 cause 12 NotBuilt\n",
-        2,
+        b"refused line 6 rule 4 break-before-make at 0x40000008\n",
+        1,
     ),
-    // A place outside the root page isn't judged yet.
+    // A place of a page that was never initialised.
     (
         b"w 0 0x40001000 0x0\nend 5\n",
-        b"malformed line 6 cause 12 NotBuilt\n",
-        2,
+        b"refused line 6 rule 6 not-fresh at 0x40001000\n",
+        1,
     ),
 ];
 
 /// What follows the header, the text and the status.
-const LOGS: [(&[u8], &[u8], u8); 20] = [
+const LOGS: [(&[u8], &[u8], u8); 18] = [
     (b"end 0\n", b"accepted 0 events\n", 0),
     (
         b"root 0 el2 - 0x40000000\nend 1\n",
@@ -196,28 +206,19 @@ const LOGS: [(&[u8], &[u8], u8); 20] = [
     ),
     (
         b"init 0 0x40000000\nroot 0 el2 - 0x40000000\nroot 0 el2 - 0x40000000\nend 3\n",
-        b"malformed line 4 cause 12 NotBuilt\n",
-        2,
+        b"refused line 4 rule 10 page-in-use at 0x40000000\n",
+        1,
     ),
+    // Events that change nothing where nothing is held.
     (
-        b"dsb 0 sy\nend 1\n",
-        b"malformed line 2 cause 12 NotBuilt\n",
-        2,
-    ),
-    (
-        b"isb 0\nend 1\n",
-        b"malformed line 2 cause 12 NotBuilt\n",
-        2,
-    ),
-    (
-        b"tlbi 0 vae2is 0x40000\nend 1\n",
-        b"malformed line 2 cause 12 NotBuilt\n",
-        2,
+        b"dsb 0 sy\nisb 1\ntlbi 0 vae2is 0x40000\ndmb 0 ld\nend 4\n",
+        b"accepted 4 events\n",
+        0,
     ),
     (
         b"root 0 el2 0 0x40000000\nend 1\n",
-        b"malformed line 2 cause 12 NotBuilt\n",
-        2,
+        b"refused line 2 rule 10 page-in-use at 0x40000000\n",
+        1,
     ),
     // The input ends, or is cut inside a line, before an `end` line.
     (b"", b"malformed line 2 cause 9 NoEnd\n", 2),
@@ -365,7 +366,7 @@ const LINES: [(&[u8], &[u8]); 47] = [
 ];
 
 /// Line 1 without its newline, and the text where `end 0` follows it. Each is malformed.
-const HEADERS: [(&[u8], &[u8]); 14] = [
+const HEADERS: [(&[u8], &[u8]); 11] = [
     (b"", b"malformed line 1 cause 1 NoMagic\n"),
     (
         b"bbmlog 5 hyp 2 1 1 1 -",
@@ -401,27 +402,14 @@ const HEADERS: [(&[u8], &[u8]); 14] = [
         b"bbmlog 1 hyp 2 1 1 3",
         b"malformed line 1 cause 2 BadHeader\n",
     ),
-    // Well formed, and not judged yet.
     (
-        b"bbmlog 1 kernel 2 1 1 ttbr1",
-        b"malformed line 1 cause 12 NotBuilt\n",
-    ),
-    (
-        b"bbmlog 1 hyp 2 0 1 1",
-        b"malformed line 1 cause 12 NotBuilt\n",
-    ),
-    (
-        b"bbmlog 1 hyp 2 1 2 1",
-        b"malformed line 1 cause 12 NotBuilt\n",
-    ),
-    (
-        b"bbmlog 1 hyp 2 1 1 16",
-        b"malformed line 1 cause 12 NotBuilt\n",
+        b"bbmlog 3 hyp 129 1 1 1 -",
+        b"malformed line 1 cause 2 BadHeader\n",
     ),
 ];
 
 /// A log of a later version, the text and the status.
-const VERSIONS: [(&[u8], &[u8], u8); 6] = [
+const VERSIONS: [(&[u8], &[u8], u8); 5] = [
     // The move of a block where TLBs may copy entries from one another.
     (
         b"bbmlog 2 hyp 2 1 1 1 cnp
@@ -471,14 +459,6 @@ root 0 el2 - 0x40000000 @0123456789abcdef0123456789ABCDEF
 init 0 0x40000000 @
 ",
         b"malformed line 2 cause 13 BadLabel\n",
-        2,
-    ),
-    // A TLBI for a range of pages isn't judged yet.
-    (
-        b"bbmlog 4 hyp 2 1 1 1 -
-tlbi 0 rvae2is 0x718000040000
-",
-        b"malformed line 2 cause 12 NotBuilt\n",
         2,
     ),
 ];
@@ -595,8 +575,8 @@ const LONG: [(&[u8], &[u8], u32, &[u8], &[u8], u8); 18] = [
         HEADER,
         INIT,
         2000,
-        b"dsb 0 sy\n",
-        b"malformed line 2002 cause 12 NotBuilt\n",
+        b"dsb 0 full\n",
+        b"malformed line 2002 cause 3 UnknownWord\n",
         2,
     ),
     (
@@ -664,12 +644,77 @@ fn judges_later_versions(rt: HostRuntime) -> Result<(), Fail> {
 }
 
 #[test]
+fn judges_logs_of_el2(rt: HostRuntime) -> Result<(), Fail> {
+    for row in EL2 {
+        for command in ["check", "slow"] {
+            let bytes = log(rt.alloc(), b"", row.0, 1, b"")?;
+            let (status, sink) = judged_by(rt.alloc(), command, bytes)?;
+            assert_eq!(rt; sink.bytes(), row.1);
+            assert_eq!(rt; status, row.2);
+        }
+    }
+    Ok(())
+}
+
+#[test]
+fn judges_logs_of_stage_2(rt: HostRuntime) -> Result<(), Fail> {
+    for row in STAGE2 {
+        for command in ["check", "slow"] {
+            let bytes = log(rt.alloc(), b"", row.0, 1, b"")?;
+            let (status, sink) = judged_by(rt.alloc(), command, bytes)?;
+            assert_eq!(rt; sink.bytes(), row.1);
+            assert_eq!(rt; status, row.2);
+        }
+    }
+    Ok(())
+}
+
+#[test]
+fn judges_logs_of_the_kernel_world(rt: HostRuntime) -> Result<(), Fail> {
+    for row in KERNEL {
+        for command in ["check", "slow"] {
+            let bytes = log(rt.alloc(), b"", row.0, 1, b"")?;
+            let (status, sink) = judged_by(rt.alloc(), command, bytes)?;
+            assert_eq!(rt; sink.bytes(), row.1);
+            assert_eq!(rt; status, row.2);
+        }
+    }
+    Ok(())
+}
+
+#[test]
+fn judges_worked_logs_of_later_versions(rt: HostRuntime) -> Result<(), Fail> {
+    for row in VERSIONED {
+        for command in ["check", "slow"] {
+            let bytes = log(rt.alloc(), b"", row.0, 1, b"")?;
+            let (status, sink) = judged_by(rt.alloc(), command, bytes)?;
+            assert_eq!(rt; sink.bytes(), row.1);
+            assert_eq!(rt; status, row.2);
+        }
+    }
+    Ok(())
+}
+
+#[test]
 fn keeps_the_limits(rt: HostRuntime) -> Result<(), Fail> {
     for row in LONG {
         let bytes = log(rt.alloc(), row.0, row.1, row.2, row.3)?;
         let (status, sink) = checked(rt.alloc(), bytes)?;
         assert_eq!(rt; sink.bytes(), row.4);
         assert_eq!(rt; status, row.5);
+    }
+    Ok(())
+}
+
+#[test]
+fn keeps_the_limit_of_slow(rt: HostRuntime) -> Result<(), Fail> {
+    for (count, text) in [
+        (2000, b"malformed line 2002 cause 9 NoEnd\n".as_slice()),
+        (2001, b"limit line 2002 events\n".as_slice()),
+    ] {
+        let bytes = log(rt.alloc(), HEADER, b"isb 0\n", count, b"")?;
+        let (_, sink) = judged_by(rt.alloc(), "slow", bytes)?;
+        assert_eq!(rt; sink.bytes(), text);
     }
     Ok(())
 }
@@ -684,7 +729,8 @@ fn tells_the_usage(rt: HostRuntime) -> Result<(), Fail> {
         "",
         "check check",
         "check -",
-        "slow",
+        "slow slow",
+        "slo",
         "Check",
         "chec",
         "checks",

@@ -53,7 +53,6 @@ fn cause_words(cause: Malformed) -> &'static [u8]
         Malformed::NoEnd => b"9 NoEnd",
         Malformed::WrongCount => b"10 WrongCount",
         Malformed::AfterEnd => b"11 AfterEnd",
-        Malformed::NotBuilt => b"12 NotBuilt",
         Malformed::BadLabel => b"13 BadLabel",
     }
 }

@@ -1,0 +1,46 @@
+//! The commands of the program.
+
+ghost use Rattle.std.specs.Prelude.{◌≡◌, map};
+ghost use Rattle.std.specs.String.{string_bytes};
+ghost use Rattle.bbm_session.specs.Run.{command_of, limits_of};
+
+use bbm_rules::Limits;
+
+/// The most events of a log that the oracle judges. Source: project's own choice.
+const ORACLE_EVENTS: u64 = 2000;
+
+/// A command that judges a log. Source: project's own choice.
+#[derive(Clone, Copy, Debug)]
+pub enum Command {
+    /// Judges the log and writes the line of its verdict.
+    Check,
+    /// The same by a search of the whole history, to 2,000 events.
+    Slow,
+}
+
+/// The command that the words say, None where they say none.
+pub fn said(words: &[String]) -> Option<Command>
+    ensures { result ≡ command_of (map string_bytes words.now) }
+{
+    if words.len() != 1 {
+        None
+    } else if words[0].as_bytes() == b"check".as_slice() {
+        Some(Command::Check)
+    } else if words[0].as_bytes() == b"slow".as_slice() {
+        Some(Command::Slow)
+    } else {
+        None
+    }
+}
+
+/// The limits under which a command judges a log. As long as the oracle judges for both, they have the same.
+pub fn limits(command: Command) -> Limits
+    ensures { result ≡ limits_of command }
+{
+    match command {
+        Command::Check | Command::Slow => Limits {
+            events: Some(ORACLE_EVENTS),
+            lines: u32::MAX,
+        },
+    }
+}

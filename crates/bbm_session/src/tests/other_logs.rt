@@ -1,0 +1,400 @@
+//! Logs of stage 2 tables, of the Kernel world, and of later versions, with their verdicts, each worked by hand from the rules.
+
+/// Logs of stage 2 tables: the log, the text and the status.
+pub const STAGE2: [(&[u8], &[u8], u8); 7] = [
+    // Stage2 two step flush.
+    (
+        b"bbmlog 1 hyp 2 1 1 1
+init 0 0x40002000
+root 0 s2 - 0x40002000
+msr 0 vttbr_el2 0x5000040002000
+isb 0
+w 0 0x40002008 0x800007fd
+w 0 0x40002008 0x0
+dsb 0 ishst
+tlbi 0 ipas2e1is 0x40000
+dsb 0 ish
+tlbi 0 vmalle1is
+dsb 0 ish
+w 0 0x40002008 0xc00007fd
+end 12
+",
+        b"accepted 12 events\n",
+        0,
+    ),
+    // Stage2 two steps under one DSB.
+    (
+        b"bbmlog 1 hyp 2 1 1 1
+init 0 0x40002000
+root 0 s2 - 0x40002000
+msr 0 vttbr_el2 0x5000040002000
+isb 0
+w 0 0x40002008 0x800007fd
+w 0 0x40002008 0x0
+dsb 0 ishst
+tlbi 0 ipas2e1is 0x40000
+tlbi 0 vmalle1is
+dsb 0 ish
+w 0 0x40002008 0xc00007fd
+end 11
+",
+        b"refused line 12 rule 4 break-before-make at 0x40002008\n",
+        1,
+    ),
+    // Stage2 table flushed whole and linked elsewhere.
+    (
+        b"bbmlog 1 hyp 2 1 1 1
+init 0 0x40002000
+init 0 0x40003000
+root 0 s2 - 0x40002000
+msr 0 vttbr_el2 0x5000040002000
+isb 0
+w 0 0x40002000 0x40003003
+w 0 0x40003000 0x800007fd
+w 0 0x40002000 0x0
+dsb 0 ishst
+tlbi 0 vmalls12e1is
+dsb 0 ish
+init 0 0x40003000
+w 0 0x40002010 0x40003003
+end 13
+",
+        b"accepted 13 events\n",
+        0,
+    ),
+    // Table with children flushed by one page.
+    (
+        b"bbmlog 1 hyp 2 1 1 1
+init 0 0x40002000
+init 0 0x40003000
+root 0 s2 - 0x40002000
+msr 0 vttbr_el2 0x5000040002000
+isb 0
+w 0 0x40002000 0x40003003
+w 0 0x40003000 0x800007fd
+w 0 0x40002000 0x0
+dsb 0 ishst
+tlbi 0 ipas2e1is 0x0
+dsb 0 ish
+tlbi 0 vmalle1is
+dsb 0 ish
+w 0 0x40002010 0x40003003
+end 14
+",
+        b"refused line 15 rule 6 not-fresh at 0x40003000\n",
+        1,
+    ),
+    // Page still hanging is initialised.
+    (
+        b"bbmlog 1 hyp 2 1 1 1
+init 0 0x40002000
+init 0 0x40003000
+root 0 s2 - 0x40002000
+msr 0 vttbr_el2 0x5000040002000
+isb 0
+w 0 0x40002000 0x40003003
+w 0 0x40003000 0x800007fd
+w 0 0x40002000 0x0
+dsb 0 ishst
+tlbi 0 ipas2e1is 0x0
+dsb 0 ish
+tlbi 0 vmalle1is
+dsb 0 ish
+init 0 0x40003000
+end 14
+",
+        b"refused line 15 rule 10 page-in-use at 0x40003000\n",
+        1,
+    ),
+    // VMID of the TLBI not synchronised.
+    (
+        b"bbmlog 1 hyp 2 1 1 1
+init 0 0x40002000
+root 0 s2 - 0x40002000
+msr 1 vttbr_el2 0x5000040002000
+tlbi 1 vmalle1is
+end 4
+",
+        b"refused line 5 rule 14 unsynced-vmid at 0x1\n",
+        1,
+    ),
+    // Stage2 root not aligned slow.
+    (
+        b"bbmlog 1 hyp 1 1 1 16
+root 0 s2 - 0x40001000
+end 1
+",
+        b"malformed line 2 cause 6 BadAddress\n",
+        2,
+    ),
+];
+
+/// Logs of the Kernel world: the log, the text and the status.
+pub const KERNEL: [(&[u8], &[u8], u8); 6] = [
+    // Global TTBR1 leaf flushed under any ASID.
+    (
+        b"bbmlog 1 kernel 2 1 1 ttbr1
+init 0 0x40000000
+root 0 ttbr1 - 0x40000000
+msr 0 ttbr1_el1 0x1000040000000
+isb 0
+w 0 0x40000000 0x80000701
+w 0 0x40000000 0x0
+dsb 0 ishst
+tlbi 0 vae1is 0x70ffff8000000
+dsb 0 ish
+w 0 0x40000000 0xc0000701
+end 10
+",
+        b"accepted 10 events\n",
+        0,
+    ),
+    // Non global TTBR1 leaf flushed by address.
+    (
+        b"bbmlog 1 kernel 2 1 1 ttbr1
+init 0 0x40000000
+root 0 ttbr1 - 0x40000000
+msr 0 ttbr1_el1 0x1000040000000
+isb 0
+w 0 0x40000000 0x80000f01
+w 0 0x40000000 0x0
+dsb 0 ishst
+tlbi 0 vae1is 0x70ffff8000000
+dsb 0 ish
+w 0 0x40000000 0xc0000701
+end 10
+",
+        b"refused line 11 rule 4 break-before-make at 0x40000000\n",
+        1,
+    ),
+    // ASID reused before ISB.
+    (
+        b"bbmlog 1 kernel 2 1 1 ttbr0
+init 0 0x40000000
+init 0 0x40001000
+root 0 ttbr0 - 0x40000000
+root 0 ttbr0 - 0x40001000
+msr 0 ttbr0_el1 0x5000040000000
+isb 0
+msr 0 ttbr0_el1 0x0
+tlbi 0 aside1is 0x5000000000000
+dsb 0 ish
+isb 0
+msr 1 ttbr0_el1 0x5000040001000
+end 11
+",
+        b"refused line 12 rule 12 tag-conflict at 0x40000000\n",
+        1,
+    ),
+    // ASID reused after ISB and flush.
+    (
+        b"bbmlog 1 kernel 2 1 1 ttbr0
+init 0 0x40000000
+init 0 0x40001000
+root 0 ttbr0 - 0x40000000
+root 0 ttbr0 - 0x40001000
+msr 0 ttbr0_el1 0x5000040000000
+isb 0
+msr 0 ttbr0_el1 0x0
+isb 0
+tlbi 0 aside1is 0x5000000000000
+dsb 0 ish
+msr 1 ttbr0_el1 0x5000040001000
+end 11
+",
+        b"accepted 11 events\n",
+        0,
+    ),
+    // Write to a null page.
+    (
+        b"bbmlog 1 kernel 1 1 1 ttbr0
+init 0 0x40000000
+null 0 0x40000000
+w 0 0x40000000 0x0
+end 3
+",
+        b"refused line 4 rule 3 null-written at 0x40000000\n",
+        1,
+    ),
+    // Global leaf in TTBR0.
+    (
+        b"bbmlog 1 kernel 1 1 1 ttbr0
+init 0 0x40000000
+root 0 ttbr0 - 0x40000000
+w 0 0x40000000 0x80000701
+end 3
+",
+        b"refused line 4 rule 9 global-user at 0x40000000\n",
+        1,
+    ),
+];
+
+/// Logs of later versions: the log, the text and the status.
+pub const VERSIONED: [(&[u8], &[u8], u8); 11] = [
+    // Cnp local flush is refused.
+    (
+        b"bbmlog 2 hyp 2 1 1 1 cnp
+init 0 0x40000000
+root 0 el2 - 0x40000000
+w 0 0x40000008 0x80000701
+dsb 0 ish
+w 0 0x40000008 0x0
+dsb 0 ishst
+tlbi 0 alle2
+dsb 0 nsh
+tlbi 1 alle2
+dsb 1 nsh
+w 0 0x40000008 0xc0000701
+end 11
+",
+        b"refused line 12 rule 4 break-before-make at 0x40000008\n",
+        1,
+    ),
+    // Version 2 without cnp.
+    (
+        b"bbmlog 2 hyp 2 1 1 1 -
+init 0 0x40000000
+root 0 el2 - 0x40000000
+w 0 0x40000008 0x80000701
+dsb 0 ish
+w 0 0x40000008 0x0
+dsb 0 ishst
+tlbi 0 alle2
+dsb 0 nsh
+tlbi 1 alle2
+dsb 1 nsh
+w 0 0x40000008 0xc0000701
+end 11
+",
+        b"accepted 11 events\n",
+        0,
+    ),
+    // Cnp bit without cnp.
+    (
+        b"bbmlog 2 hyp 2 1 1 1 -
+init 0 0x40000000
+root 0 el2 - 0x40000000
+msr 0 ttbr0_el2 0x40000001
+end 3
+",
+        b"refused line 4 rule 1 wrong-world at 0x0\n",
+        1,
+    ),
+    // Cnp bit with cnp.
+    (
+        b"bbmlog 2 hyp 2 1 1 1 cnp
+init 0 0x40000000
+root 0 el2 - 0x40000000
+msr 0 ttbr0_el2 0x40000001
+end 3
+",
+        b"accepted 3 events\n",
+        0,
+    ),
+    // Field that is no label.
+    (
+        b"bbmlog 3 hyp 128 1 1 1 -
+isb 127 x
+end 1
+",
+        b"malformed line 2 cause 8 ExtraField\n",
+        2,
+    ),
+    // Header with 129 PEs.
+    (
+        b"bbmlog 3 hyp 129 1 1 1 -
+end 0
+",
+        b"malformed line 1 cause 2 BadHeader\n",
+        2,
+    ),
+    // Version 3 remap.
+    (
+        b"bbmlog 3 hyp 128 1 1 1 -
+init 0 0x40000000
+root 0 el2 - 0x40000000
+w 0 0x40000008 0x80000701
+dsb 0 ishst
+w 0 0x40000008 0x0
+dsb 0 ishst
+tlbi 0 vae2is 0x40000
+dsb 0 ish
+w 0 0x40000008 0xc0000701
+end 9
+",
+        b"accepted 9 events\n",
+        0,
+    ),
+    // Range TLBI over the whole table.
+    (
+        b"bbmlog 4 hyp 2 1 1 1 -
+init 0 0x40000000
+root 0 el2 - 0x40000000
+init 0 0x40001000
+w 0 0x40001000 0x80000701
+w 0 0x40000008 0x40001003
+w 0 0x40000008 0x0
+dsb 0 ishst
+tlbi 0 rvae2is 0x718000040000
+dsb 0 ish
+w 0 0x40000008 0xc0000701
+end 10
+",
+        b"accepted 10 events\n",
+        0,
+    ),
+    // Range TLBI over three quarters.
+    (
+        b"bbmlog 4 hyp 2 1 1 1 -
+init 0 0x40000000
+root 0 el2 - 0x40000000
+init 0 0x40001000
+w 0 0x40001000 0x80000701
+w 0 0x40000008 0x40001003
+w 0 0x40000008 0x0
+dsb 0 ishst
+tlbi 0 rvae2is 0x710000040000
+dsb 0 ish
+w 0 0x40000008 0xc0000701
+end 10
+",
+        b"refused line 11 rule 4 break-before-make at 0x40000008\n",
+        1,
+    ),
+    // Range TLBI of another granule.
+    (
+        b"bbmlog 4 hyp 2 1 1 1 -
+init 0 0x40000000
+root 0 el2 - 0x40000000
+init 0 0x40001000
+w 0 0x40001000 0x80000701
+w 0 0x40000008 0x40001003
+w 0 0x40000008 0x0
+dsb 0 ishst
+tlbi 0 rvae2is 0x318000040000
+dsb 0 ish
+w 0 0x40000008 0xc0000701
+end 10
+",
+        b"refused line 9 rule 15 bad-operand at 0x318000040000\n",
+        1,
+    ),
+    // Range TLBI not aligned.
+    (
+        b"bbmlog 4 hyp 2 1 1 1 -
+init 0 0x40000000
+root 0 el2 - 0x40000000
+init 0 0x40001000
+w 0 0x40001000 0x80000701
+w 0 0x40000008 0x40001003
+w 0 0x40000008 0x0
+dsb 0 ishst
+tlbi 0 rvae2is 0x71a000040001
+dsb 0 ish
+w 0 0x40000008 0xc0000701
+end 10
+",
+        b"refused line 9 rule 15 bad-operand at 0x71a000040001\n",
+        1,
+    ),
+];
