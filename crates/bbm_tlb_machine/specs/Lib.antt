@@ -1,0 +1,4 @@
+pub mod Entry
+pub mod Run
+pub mod Safe
+pub mod Step
