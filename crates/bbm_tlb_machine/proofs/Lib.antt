@@ -1,2 +1,5 @@
 mod Cases
 mod Followed
+mod ListWords
+mod RunLaw
+mod SafeLaw

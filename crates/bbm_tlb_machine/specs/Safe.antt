@@ -1,7 +1,7 @@
 -- Safe logs: no TLB keeps what a write, an init or a new root needs gone. Lists are newest first.
 -- Source: Arm ARM (DDI 0487), "Using break-before-make when updating translation table entries" and "Translation Lookaside
 -- Buffers"; what counts as a conflict is the project's own choice.
-use Rattle.std.specs.Prelude.{◌≡◌, ℕ, Bool, false, ◌&&◌, not, ◌==◌, List, [], ◌∷◌, ◌++◌, length, Option, Some, None, Result, Ok, Contains}
+use Rattle.std.specs.Prelude.{◌≡◌, ℕ, Bool, true, false, ◌&&◌, not, ◌==◌, List, [], ◌∷◌, ◌++◌, length, Option, Some, None, Result, Ok, Contains}
 use Rattle.bbm_descriptor.specs.Descriptor.{needs}
 use Rattle.bbm_rules.specs.Lists.{any, if_so}
 use Rattle.bbm_rules.specs.Places.{page_of}
@@ -68,3 +68,16 @@ abbrev pub first_conflict : Heading → List Step → Option ℕ
 first_conflict heading [] = None
 first_conflict heading (step ∷ steps) =
     earlier (first_conflict heading steps) (if_so (fails_at heading (follow_steps heading steps) step) (length steps))
+
+-- The step with this index is the first event at which a clause fails: the older steps are a run, the event conflicts after
+-- them, and at no earlier one a clause fails.
+pub record ConflictsAt (heading : Heading) (steps : List Step) (i : ℕ) : Type 0 where
+  pub newer : List Step
+  pub event : Event
+  pub older : List Step
+  pub before : State
+  pub split : steps ≡ newer ++ Taken event ∷ older
+  pub index : length older ≡ i
+  pub run : IsRun heading older before
+  pub conflict : in_conflict heading before event ≡ true
+  pub first : first_conflict heading older ≡ None
