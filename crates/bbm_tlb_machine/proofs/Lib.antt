@@ -1,5 +1,9 @@
 mod Cases
-mod Followed
 mod ListWords
+pub mod LookBack
+pub mod PartLemmas
+pub mod PendingSteps
+mod RootSizes
 mod RunLaw
+mod RunTexts
 mod SafeLaw

@@ -1,4 +1,7 @@
 pub mod Entry
+pub mod Followed
+pub mod Looking
+pub mod Pendings
 pub mod Run
 pub mod Safe
 pub mod Step

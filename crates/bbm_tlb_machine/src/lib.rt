@@ -1,7 +1,13 @@
 //! What the TLBs of the logged PEs may do while a log is taken, and the runs that lead to a conflict.
 #![tactic(auto)]
 
+pub mod entry;
+mod geometry;
 pub mod laws;
+pub mod living;
+pub mod looking;
+pub mod pending;
+mod reach;
 pub mod step;
 
 pub use laws::{law_conflict, law_run};
