@@ -1,6 +1,7 @@
 mod Cases
 mod ListWords
 pub mod LookBack
+pub mod MadeLemmas
 pub mod PartLemmas
 pub mod PendingSteps
 mod RootSizes

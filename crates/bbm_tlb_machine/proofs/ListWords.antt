@@ -1,9 +1,10 @@
 -- Tests of a list and options in the words of sentences.
-use Rattle.std.proofs.Common.{◌≡◌, Bool, true, false, List, Option, Some, None, Contains, refl, sym, ◌∙◌, ap, true≢false}
+use Rattle.std.proofs.Common.{◌≡◌, ℕ, Bool, true, false, ◌||◌, ◌==◌, List, [], ◌∷◌, map, Option, Some, None, Contains, refl, sym, ◌∙◌, ap, true≢false}
 use Rattle.std.proofs.lemmas.Bool.{false_from_ne_true}
 use Rattle.std.proofs.lemmas.List.Elements.{All-contains_itself, All-weaker}
 use Rattle.std.proofs.lemmas.List.Folds.{list_any_at, list_any_none}
-use Rattle.bbm_rules.specs.Lists.{◌>>=◌, any, if_so}
+use Rattle.bbm_rules.specs.Lists.{◌>>=◌, among, any, if_so}
+use Rattle.bbm_rules.specs.Registers.{tag_number}
 
 pub none_in : {X : Type 0} (p : X → Bool) (xs : List X) → any p xs ≡ false → (x : X) → Contains xs x → p x ≡ false
 none_in p xs k x c =
@@ -25,3 +26,13 @@ if_so_some false x y k = cc
 pub some_if_so : {A : Type 0} (b : Bool) (x y : A) → b ≡ true → y ≡ x → if_so b x ≡ Some y
 some_if_so true x y k e = ap Some (sym e)
 some_if_so false x y k e = absurd (true≢false (sym k))
+
+-- the numbers of register values
+pub among_numbers : (n : ℕ) (values : List ℕ) → any (λ v. tag_number v == n) values ≡ among n (map tag_number values)
+among_numbers n [] = refl
+among_numbers n (v ∷ values) = ap (λ b. (tag_number v == n) || b) (among_numbers n values)
+
+-- a test that never passes
+pub any_none : {X : Type 0} (xs : List X) → false ≡ any (λ (x : X). false) xs
+any_none [] = refl
+any_none (x ∷ xs) = any_none xs

@@ -5,9 +5,8 @@ use Rattle.bbm_rules.specs.Lists.{any}
 use Rattle.bbm_rules.specs.Prelude.{Barrier, TlbiOp, Heading, Event, Init, Null, Root, Unroot, Write, Dsb, Dmb, Isb, Tlbi, Msr, Lock, Unlock}
 use Rattle.bbm_rules.specs.Reach.{Issued, completes, left_open, reaches, unanswered}
 use Rattle.bbm_rules.specs.Tags.{itself}
-use Rattle.bbm_tlb_machine.specs.declared.pending.Pending.{Pending}
 use Rattle.bbm_tlb_machine.specs.Entry.{Entry, age_for}
-use Rattle.bbm_tlb_machine.specs.Pendings.{IsPending, is_answered, leaves_any, leaves_by, must_leave, pending_of}
+use Rattle.bbm_tlb_machine.specs.Pendings.{IsPending, Pending, is_answered, leaves_any, leaves_by, must_leave, pending_of}
 use Rattle.bbm_tlb_machine.specs.Run.{Living, State, leaves_some}
 use Rattle.bbm_tlb_machine.specs.Step.{must_go, takes_by}
 

@@ -3,7 +3,7 @@ use Rattle.std.proofs.Common.{◌≡◌, ℕ, Bool, true, false, ◌&&◌, not, 
 use Rattle.std.proofs.lemmas.Bool.{eq-eqb, eqb-true, false_from_ne_true}
 use Rattle.bbm_descriptor.specs.Descriptor.{needs}
 use Rattle.bbm_regimes.specs.Same.{same_tag}
-use Rattle.bbm_rules.specs.Lists.{if_so}
+use Rattle.bbm_rules.specs.Lists.{any, if_so}
 use Rattle.bbm_rules.specs.Places.{page_of}
 use Rattle.bbm_rules.specs.Prelude.{Reg, Tag, El2Tag, Vmid, Asid, Ttbr1Tag, Heading, Event, Init, Write, Msr}
 use Rattle.bbm_rules.specs.Tags.{Reading, readings}
@@ -12,7 +12,7 @@ use Rattle.bbm_tlb_machine.specs.declared.step.Step.TheVariants.{Machine, Event 
 use Rattle.bbm_tlb_machine.specs.Entry.{Entry, Part, parts_of, tag_of_entry}
 use Rattle.bbm_tlb_machine.specs.Run.{IsRun, Living, State, follow_steps}
 use Rattle.bbm_tlb_machine.specs.Safe.{ComesTo, ConflictsAt, Safe, conflicts_with, earlier, fails_at, first_conflict, has_other_root, in_conflict, is_stale}
-use Rattle.bbm_tlb_machine.proofs.ListWords.{is_none, none_in}
+use Rattle.bbm_tlb_machine.proofs.ListWords.{any_none, is_none, none_in}
 use Rattle.bbm_tlb_machine.proofs.RunLaw.{run_complete, run_sound}
 
 tag_equal : (g k : Tag) → same_tag g k ≡ true → g ≡ k
@@ -200,6 +200,16 @@ module _ (heading : Heading) where
   found_complete : (steps : List Step) (i : ℕ) → ConflictsAt heading steps i → first_conflict heading steps ≡ Some i
   found_complete steps i c =
       ap (first_conflict heading) c.split ∙ found_at c.newer c.event c.older c.before c.run c.conflict c.first ∙ ap Some c.index
+
+-- events that conflict with no entry
+pub quiet : (heading : Heading) (h : List Event) (e : Event) (living : List Living)
+    → ((pe page : ℕ) → e ≡ Init pe page → ⊥) → ((pe at v : ℕ) → e ≡ Write pe at v → ⊥)
+    → ((pe : ℕ) (reg : Reg) (v : ℕ) → e ≡ Msr pe reg v → ⊥)
+    → false ≡ any (λ (l : Living). conflicts_with heading h e l.entry) living
+quiet heading h (Init pe page) living a b d = absurd (a pe page refl)
+quiet heading h (Write pe at v) living a b d = absurd (b pe at v refl)
+quiet heading h (Msr pe reg v) living a b d = absurd (d pe reg v refl)
+quiet heading h _ living a b d = any_none living
 
 pub safe_law : (heading : Heading) (log : List Event)
     → Safe heading log ↔ ((s : State) (e : Event) → ComesTo heading log s e → in_conflict heading s e ≡ false)

@@ -1,14 +1,19 @@
 //! What the TLBs of the logged PEs may do while a log is taken, and the runs that lead to a conflict.
 #![tactic(auto)]
 
+mod conflict;
 pub mod entry;
 mod geometry;
 pub mod laws;
 pub mod living;
 pub mod looking;
+pub mod machine;
+mod making;
 pub mod pending;
 mod reach;
+pub mod starting;
 pub mod step;
+mod tags;
 
 pub use laws::{law_conflict, law_run};
 pub use step::Step;

@@ -1,6 +1,7 @@
 //! The entries that the TLBs keep, with their numbers.
 
 ghost use Rattle.std.specs.Prelude.{◌≡◌, ◌==◌, not, filter, find, option_map};
+ghost use Rattle.bbm_tlb_machine.specs.Followed.{found};
 
 use crate::entry::Entry;
 use std::marker::Model;
@@ -24,10 +25,20 @@ impl Model for Living {
 }
 
 /// The entry with this number, None where there is none or it was dropped.
-pub fn entry_at(living: &[Living], number: u64) -> Option<&Living>
+pub fn living_at(living: &[Living], number: u64) -> Option<&Living>
     ensures { option_map (λ l. l.now) result ≡ find (λ l. l.number == number) living.now }
 {
     living.iter().find(|living| living.number == number)
+}
+
+/// Its entry.
+pub fn entry_at(living: &[Living], number: u32) -> Option<&Entry>
+    ensures { option_map (λ x. x.now) result ≡ found living.now number }
+{
+    match living_at(living, u64::from(number)) {
+        Some(living) => Some(&living.entry),
+        None => None,
+    }
 }
 
 /// Drops the entry with this number.
