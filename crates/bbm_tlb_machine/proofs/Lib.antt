@@ -1,6 +1,7 @@
 mod Cases
 mod ListWords
 pub mod LookBack
+pub mod FollowSteps
 pub mod MadeLemmas
 pub mod PartLemmas
 pub mod PendingSteps
