@@ -1,6 +1,6 @@
 -- What a step does to what `follow` has.
 use Rattle.std.proofs.Common.{◌≡◌, ℕ, suc, ◌+◌, ◌<◌, ◌≤◌, Bool, true, false, ◌&&◌, not, ◌==◌, List, [], ◌∷◌, ◌++◌, length, take, drop, get_or, reverse, Option, Some, None, Result, Ok, Err, IfOk, find, option_map, refl, sym, ◌∙◌, ap, subst, arith, true≢false}
-use Rattle.std.proofs.lemmas.List.{reverse-append, take-append-drop, take_more}
+use Rattle.std.proofs.lemmas.List.{length-reverse, length-take-le, reverse-append, take-append-drop, take_more}
 use Rattle.bbm_events.specs.declared.machine.MachineLine.{MachineLine}
 use Rattle.bbm_events.specs.declared.machine.MachineLine.TheVariants.{Start, Extend, Combine, Share, Drop}
 use Rattle.bbm_rules.specs.Lists.{◌>>=◌, any, if_so}
@@ -116,7 +116,7 @@ bad_here heading steps n i step within at k =
     (subst (λ (xs : List Step). follow_steps heading xs ≡ Err i) (sym (one_more steps n step within at)) k)
 
 length_at : (steps : List Step) (n : ℕ) → n < length steps → length (reverse (take n steps)) ≡ n
-length_at steps n within = length-reverse (take n steps) ∙ length-take-le steps n (omega arith)
+length_at steps n within = length-reverse (take n steps) ∙ length-take-le n steps (omega arith)
 
 pub bad_there : (heading : Heading) (steps seen : List Step) (n taken i : ℕ) (step : Step) (old : Followed)
     → seen ≡ steps → n < length seen → step ≡ get_or seen n step → taken ≡ n
