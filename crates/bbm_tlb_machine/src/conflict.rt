@@ -9,8 +9,9 @@ ghost use Rattle.bbm_tlb_machine.specs.Safe as spec;
 
 use crate::entry::Entry;
 use crate::living::Living;
-use crate::tags::{Reading, readings_at, same_tag};
 use bbm_events::{Event, Header};
+use bbm_oracle_tags::readings::same_tag;
+use bbm_oracle_tags::{Reading, readings_at};
 use bbm_regimes::{NoMemory, Page, Place};
 use std::alloc::Global;
 

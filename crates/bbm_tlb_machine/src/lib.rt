@@ -10,10 +10,8 @@ pub mod looking;
 pub mod machine;
 mod making;
 pub mod pending;
-mod reach;
 pub mod starting;
 pub mod step;
-mod tags;
 
 pub use laws::{law_conflict, law_run};
 pub use step::Step;

@@ -5,8 +5,8 @@ ghost use Rattle.bbm_events.specs.declared.event.Event.{Event};
 ghost use Rattle.bbm_rules.specs.Values.{is_readable};
 ghost use Rattle.bbm_tlb_machine.specs.Looking.{Marks, Says};
 
-use crate::reach::publishes_for;
 use bbm_events::{Event, Header};
+use bbm_oracle_tags::publishes_for;
 use bbm_regimes::{Pe, PeMask, Place};
 
 /// What a look at one event tells, on the way back through the events.

@@ -6,10 +6,9 @@ ghost use Rattle.bbm_tlb_machine.specs.Pendings as spec;
 
 use crate::entry::Entry;
 use crate::living::Living;
-use crate::reach::{completes, reaches};
-use crate::tags::vmid_of;
 use bbm_barriers::Dsb;
 use bbm_events::{Event, Header};
+use bbm_oracle_tags::{completes, reaches, vmid_of};
 use bbm_regimes::{NoMemory, Pe};
 use bbm_tlbi_scope::{Scope, TlbiOp, decode, takes};
 use std::alloc::Global;
