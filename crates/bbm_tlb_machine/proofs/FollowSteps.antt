@@ -118,6 +118,9 @@ bad_here heading steps n i step within at k =
 length_at : (steps : List Step) (n : ℕ) → n < length steps → length (reverse (take n steps)) ≡ n
 length_at steps n within = length-reverse (take n steps) ∙ length-take-le n steps (omega arith)
 
+pub same_fault : {A B E : Type 0} (x y : E) → ◌≡◌ {A = Result A E} (Err x) (Err y) → ◌≡◌ {A = Result B E} (Err x) (Err y)
+same_fault {A} {B} {E} x y e = let same : x ≡ y = cc in ap (λ (z : E). Err z) same
+
 pub bad_there : (heading : Heading) (steps seen : List Step) (n taken i : ℕ) (step : Step) (old : Followed)
     → seen ≡ steps → n < length seen → step ≡ get_or seen n step → taken ≡ n
     → Follows heading (reverse (take n steps)) old
