@@ -1,0 +1,117 @@
+-- One look back at an event, by the event.
+use Rattle.std.proofs.Common.{◌≡◌, ℕ, zero, suc, ◌+◌, ◌-◌, ◌<◌, ◌≤◌, Bool, true, false, cond, ◌&&◌, ◌||◌, ◌==◌, List, [], ◌∷◌, ◌++◌, length, take, drop, get_or, reverse, refl, sym, ◌∙◌, ap, subst, arith, true≢false}
+use Rattle.std.proofs.lemmas.Bool.{eq-eqb, eqb-true, false_from_ne_true, or_left}
+use Rattle.std.proofs.Math.Bool.{or_comm}
+use Rattle.std.proofs.Common.{add-one, drop-cons}
+use Rattle.std.proofs.lemmas.List.{reverse-append, take_more}
+use Rattle.bbm_regimes.specs.declared.pe.PeMask.{PeMask}
+use Rattle.bbm_regimes.specs.PeMask.{pe_in}
+use Rattle.bbm_rules.specs.Lists.{among, any}
+use Rattle.bbm_rules.specs.Places.{page_of}
+use Rattle.bbm_rules.specs.Prelude.{Barrier, Heading, Event, Init, Null, Root, Unroot, Write, Dsb, Dmb, Isb, Tlbi, Msr, Lock, Unlock}
+use Rattle.bbm_rules.specs.Values.{published, publishes_for, publishes_to, readable_before}
+use Rattle.bbm_tlb_machine.specs.Looking.{Marks}
+
+-- a write at the place
+at_write : (v value : ℕ) (rest : List ℕ) (gone : Bool) → (v == value) ≡ false
+    → among value (v ∷ cond gone [] rest) ≡ (cond gone false (among value rest))
+at_write v value rest true e = ap (λ b. b || false) e
+at_write v value rest false e = ap (λ b. b || among value rest) e
+
+-- the look at a write
+pub write_elsewhere : (heading : Heading) (p place value : ℕ) (later older : List Event) (q at v : ℕ) → (at == place) ≡ false
+    → among value (readable_before heading later (Write q at v ∷ older) place p)
+    ≡ among value (readable_before heading (Write q at v ∷ later) older place p)
+write_elsewhere heading p place value later older q at v e =
+    ap (λ b. among value (cond b (v ∷ cond (published heading q p later) [] (readable_before heading (Write q at v ∷ later) older place p))
+    (readable_before heading (Write q at v ∷ later) older place p))) e
+
+pub write_found : (heading : Heading) (p place value : ℕ) (later older : List Event) (q at v : ℕ) → (at == place) ≡ true
+    → (v == value) ≡ true → among value (readable_before heading later (Write q at v ∷ older) place p) ≡ true
+write_found heading p place value later older q at v e k =
+    ap (λ b. among value (cond b (v ∷ cond (published heading q p later) [] (readable_before heading (Write q at v ∷ later) older place p))
+    (readable_before heading (Write q at v ∷ later) older place p))) e
+    ∙ or_left (v == value) _ k
+
+pub write_gone : (heading : Heading) (p place value : ℕ) (later older : List Event) (q at v : ℕ) → (at == place) ≡ true
+    → (v == value) ≡ false → published heading q p later ≡ true
+    → among value (readable_before heading later (Write q at v ∷ older) place p) ≡ false
+write_gone heading p place value later older q at v e k gone =
+    ap (λ b. among value (cond b (v ∷ cond (published heading q p later) [] (readable_before heading (Write q at v ∷ later) older place p))
+    (readable_before heading (Write q at v ∷ later) older place p))) e
+    ∙ (at_write v value _ (published heading q p later) k
+    ∙ ap (λ b. cond b false (among value (readable_before heading (Write q at v ∷ later) older place p))) gone)
+
+pub write_further : (heading : Heading) (p place value : ℕ) (later older : List Event) (q at v : ℕ) → (at == place) ≡ true
+    → (v == value) ≡ false → published heading q p later ≡ false
+    → among value (readable_before heading later (Write q at v ∷ older) place p)
+    ≡ among value (readable_before heading (Write q at v ∷ later) older place p)
+write_further heading p place value later older q at v e k gone =
+    ap (λ b. among value (cond b (v ∷ cond (published heading q p later) [] (readable_before heading (Write q at v ∷ later) older place p))
+    (readable_before heading (Write q at v ∷ later) older place p))) e
+    ∙ (at_write v value _ (published heading q p later) k
+    ∙ ap (λ b. cond b false (among value (readable_before heading (Write q at v ∷ later) older place p))) gone)
+
+-- at an init
+pub init_elsewhere : (heading : Heading) (p place value : ℕ) (later older : List Event) (q page : ℕ) → (page == page_of place) ≡ false
+    → among value (readable_before heading later (Init q page ∷ older) place p)
+    ≡ among value (readable_before heading (Init q page ∷ later) older place p)
+init_elsewhere heading p place value later older q page e =
+    ap (λ b. among value (cond b (0 ∷ []) (readable_before heading (Init q page ∷ later) older place p))) e
+
+pub init_here : (heading : Heading) (p place value : ℕ) (later older : List Event) (q page : ℕ) → (page == page_of place) ≡ true
+    → among value (readable_before heading later (Init q page ∷ older) place p) ≡ (0 == value)
+init_here heading p place value later older q page e =
+    ap (λ b. among value (cond b (0 ∷ []) (readable_before heading (Init q page ∷ later) older place p))) e
+    ∙ or_false (0 == value)
+  where
+    or_false : (b : Bool) → (b || false) ≡ b
+    or_false true = refl
+    or_false false = refl
+
+-- the marks after a DSB
+same_test : (a b : ℕ) → (a == b) ≡ (b == a)
+same_test a b = by (a == b) refl
+  where
+    by : (t : Bool) → (a == b) ≡ t → (a == b) ≡ (b == a)
+    by true e = e ∙ sym (eq-eqb b a (sym (eqb-true a b e)))
+    by false e = e ∙ sym (false_from_ne_true (b == a) (λ k. true≢false (sym (eq-eqb a b (sym (eqb-true b a k))) ∙ e)))
+
+and_one : (a b : Bool) → b ≡ true → (a && b) ≡ a
+and_one true b e = e
+and_one false b e = refl
+
+and_zero : (a b c : Bool) → b ≡ false → ((a && b) || c) ≡ c
+and_zero true b c e = ap (λ x. x || c) e
+and_zero false b c e = refl
+
+self_and : (by : ℕ) (b c : Bool) → (by == by && b) ≡ c → b ≡ c
+self_and by b c e = sym (ap (λ x. x && b) (eq-eqb by by refl)) ∙ e
+
+pub marks_more : (heading : Heading) (p by : ℕ) (dsb : Barrier) (later : List Event) (q : ℕ) (old now : Bool)
+    → old ≡ published heading q p later → now ≡ (old || q == by)
+    → publishes_for heading by p (Dsb by dsb) ≡ true → now ≡ published heading q p (Dsb by dsb ∷ later)
+marks_more heading p by dsb later q old now e g k =
+    g ∙ (ap (λ b. b || q == by) e
+    ∙ (or_comm (published heading q p later) (q == by)
+    ∙ ap (λ b. b || published heading q p later)
+      (same_test q by ∙ sym (and_one (by == q) (publishes_to heading dsb by p) (self_and by (publishes_to heading dsb by p) true k)))))
+
+pub marks_same : (heading : Heading) (p by : ℕ) (dsb : Barrier) (later : List Event) (q : ℕ) (old : Bool)
+    → old ≡ published heading q p later
+    → publishes_for heading by p (Dsb by dsb) ≡ false → old ≡ published heading q p (Dsb by dsb ∷ later)
+marks_same heading p by dsb later q old e k =
+    e ∙ sym (and_zero (by == q) (publishes_to heading dsb by p) (published heading q p later)
+    (self_and by (publishes_to heading dsb by p) false k))
+
+-- one step back in a list
+pub back : {A : Type 0} (es : List A) (m : ℕ) (e : A) → m < length es → e ≡ get_or es m e
+    → (reverse (take (m + 1) es) ≡ e ∷ reverse (take m es)) × (drop m es ≡ e ∷ drop (m + 1) es)
+back {A} es m e within at =
+    (ap (reverse {A = A}) (take_more es m e within) ∙ (reverse-append (take m es) (get_or es m e ∷ []) ∙ ap (λ (x : A). x ∷ reverse (take m es)) (sym at)),
+    drop_at es m e within at)
+  where
+    drop_at : (es : List A) (m : ℕ) (e : A) → m < length es → e ≡ get_or es m e → drop m es ≡ e ∷ drop (m + 1) es
+    drop_at es m e within at = rw (add-one) (drop-cons es m e within ∙ ap (λ (x : A). x ∷ drop (suc m) es) (sym at))
+
+pub ruleset looks = (write_elsewhere, write_found, write_gone, write_further, init_elsewhere, init_here, marks_more, marks_same)

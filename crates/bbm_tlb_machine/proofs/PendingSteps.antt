@@ -1,0 +1,161 @@
+-- What is kept of the unanswered TLBIs, and what it says of the entries that are left.
+use Rattle.std.proofs.Common.{◌≡◌, ℕ, Bool, true, false, cond, ◌&&◌, ◌||◌, not, ◌==◌, nat_le, List, [], ◌∷◌, length, map, filter, Option, Some, None, refl, sym, ◌∙◌, ap, subst, true≢false}
+use Rattle.std.proofs.lemmas.Bool.{eqb-true, eq-eqb, false_from_ne_true}
+use Rattle.bbm_rules.specs.Lists.{any}
+use Rattle.bbm_rules.specs.Prelude.{Barrier, TlbiOp, Heading, Event, Init, Null, Root, Unroot, Write, Dsb, Dmb, Isb, Tlbi, Msr, Lock, Unlock}
+use Rattle.bbm_rules.specs.Reach.{Issued, completes, left_open, reaches, unanswered}
+use Rattle.bbm_rules.specs.Tags.{itself}
+use Rattle.bbm_tlb_machine.specs.Entry.{Entry, age_for}
+use Rattle.bbm_tlb_machine.specs.Pendings.{IsPending, Pending, is_answered, leaves_any, leaves_by, must_leave, pending_of}
+use Rattle.bbm_tlb_machine.specs.Run.{Living, State, leaves_some}
+use Rattle.bbm_tlb_machine.specs.Step.{must_go, takes_by}
+
+-- a TLBI without a scope takes nothing
+pub never : (heading : Heading) (p : Pending) (x : Entry) → p.scope ≡ None → false ≡ must_leave heading p x
+never heading p x e =
+    let none : takes_by p.scope p.vmid x ≡ false = ap (λ o. takes_by o p.vmid x) e in
+    sym (by (reaches heading p.tlbi x.pe) (takes_by p.scope p.vmid x) (nat_le (age_for p.family x) p.before) none)
+  where
+    by : (a b c : Bool) → b ≡ false → (a && b && c) ≡ false
+    by true b c e = ap (λ b. b && c) e
+    by false b c e = refl
+
+-- tests of lists
+any_step : {X : Type 0} (i c m : X → Bool) (x : X) (xs ys : List X) (b : Bool) → i x ≡ b
+    → any (λ x. i x && c x && m x) xs ≡ any (λ x. c x && m x) ys
+    → ((i x && c x && m x) || any (λ x. i x && c x && m x) xs) ≡ any (λ x. c x && m x) (cond (i x) (x ∷ ys) ys)
+any_step i c m x xs ys true e k =
+    ap (λ b. (b && c x && m x) || any (λ x. i x && c x && m x) xs) e
+    ∙ (ap (λ b. (c x && m x) || b) k
+    ∙ sym (ap (λ b. any (λ x. c x && m x) (cond b (x ∷ ys) ys)) e))
+any_step i c m x xs ys false e k =
+    ap (λ b. (b && c x && m x) || any (λ x. i x && c x && m x) xs) e
+    ∙ (k ∙ sym (ap (λ b. any (λ x. c x && m x) (cond b (x ∷ ys) ys)) e))
+
+any_filter : {X : Type 0} (i c m : X → Bool) (xs : List X)
+    → any (λ x. i x && c x && m x) xs ≡ any (λ x. c x && m x) (filter i xs)
+any_filter i c m [] = refl
+any_filter i c m (x ∷ xs) = any_step i c m x xs (filter i xs) (i x) refl (any_filter i c m xs)
+
+pub any_map : {X Y : Type 0} (f : X → Y) (p : Y → Bool) (xs : List X) → any p (map f xs) ≡ any (λ x. p (f x)) xs
+any_map f p [] = refl
+any_map f p (x ∷ xs) = ap (λ b. p (f x) || b) (any_map f p xs)
+
+any_same : {X : Type 0} (p q : X → Bool) → ((x : X) → p x ≡ q x) → (xs : List X) → any p xs ≡ any q xs
+any_same p q same [] = refl
+any_same p q same (x ∷ xs) = ap (λ b. b || any p xs) (same x) ∙ ap (λ b. q x || b) (any_same p q same xs)
+
+module _ (heading : Heading) where
+  leave_is : (e : Event) (before : List Event) (x : Entry)
+      → must_leave heading (pending_of heading (record { tlbi = e; before = before })) x
+      ≡ must_go heading (record { tlbi = e; before = before }) x
+  leave_is (Tlbi pe op xt) before x = refl
+  leave_is _ before x = refl
+
+  -- the entries that a DSB leaves
+  pub left : (s : State) (q : ℕ) (dsb : Barrier) (pending : List Pending) → IsPending heading s.log pending
+      → leaves_any heading s.living q dsb pending ≡ leaves_some heading s (Dsb q dsb)
+  left s q dsb pending stands =
+      any_filter (λ (p : Pending). p.issuer == q) (λ (p : Pending). completes dsb p.tlbi) (leaves_by heading s.living) pending
+      ∙ (ap (any (λ (p : Pending). completes dsb p.tlbi && leaves_by heading s.living p)) (stands q)
+      ∙ (any_map (pending_of heading) (λ (p : Pending). completes dsb p.tlbi && leaves_by heading s.living p) (unanswered itself q s.log)
+      ∙ any_same _ (λ (t : Issued Event). completes dsb t.tlbi && any (λ (l : Living). must_go heading t l.entry) s.living)
+        (λ t. ap (λ b. completes dsb t.tlbi && b)
+        (any_same (λ (l : Living). must_leave heading (pending_of heading t) l.entry) (λ (l : Living). must_go heading t l.entry)
+        (λ l. leave_is t.tlbi t.before l.entry) s.living))
+        (unanswered itself q s.log)))
+
+  -- a TLBI more
+  add : (q pe : ℕ) (b : Bool) (new : Issued Event) (ps : List Pending) (ts : List (Issued Event))
+      → filter (λ (p : Pending). p.issuer == q) ps ≡ map (pending_of heading) ts
+      → cond b (pending_of heading new ∷ filter (λ (p : Pending). p.issuer == q) ps) (filter (λ (p : Pending). p.issuer == q) ps)
+      ≡ map (pending_of heading) (cond b (new ∷ ts) ts)
+  add q pe true new ps ts k = ap (λ (ps : List Pending). pending_of heading new ∷ ps) k
+  add q pe false new ps ts k = k
+
+  pub tlbi_step : (h : List Event) (pe : ℕ) (op : TlbiOp) (xt : ℕ) (pending : List Pending) → IsPending heading h pending
+      → IsPending heading (Tlbi pe op xt ∷ h) (pending_of heading (record { tlbi = Tlbi pe op xt; before = h }) ∷ pending)
+  tlbi_step h pe op xt pending stands q =
+      add q pe (pe == q) (record { tlbi = Tlbi pe op xt; before = h }) pending (unanswered itself q h) (stands q)
+
+-- filters of filters and of maps
+filter_step : {X : Type 0} (i k j : X → Bool) (x : X) (xs ys : List X) (a b : Bool) → i x ≡ a → k x ≡ b
+    → (i x ≡ true → k x ≡ j x) → filter i xs ≡ filter j ys
+    → filter i (cond (k x) (x ∷ xs) xs) ≡ filter j (cond (i x) (x ∷ ys) ys)
+filter_step {X} i k j x xs ys true true e f same rest =
+    let g : j x ≡ true = sym (same e) ∙ f in
+    ap (λ b. filter i (cond b (x ∷ xs) xs)) f
+    ∙ (ap (λ b. cond b (x ∷ filter i xs) (filter i xs)) e
+    ∙ (ap (λ (zs : List X). x ∷ zs) rest
+    ∙ (sym (ap (λ b. cond b (x ∷ filter j ys) (filter j ys)) g) ∙ sym (ap (λ b. filter j (cond b (x ∷ ys) ys)) e))))
+filter_step i k j x xs ys true false e f same rest =
+    let g : j x ≡ false = sym (same e) ∙ f in
+    ap (λ b. filter i (cond b (x ∷ xs) xs)) f
+    ∙ (rest
+    ∙ (sym (ap (λ b. cond b (x ∷ filter j ys) (filter j ys)) g) ∙ sym (ap (λ b. filter j (cond b (x ∷ ys) ys)) e)))
+filter_step i k j x xs ys false true e f same rest =
+    ap (λ b. filter i (cond b (x ∷ xs) xs)) f
+    ∙ (ap (λ b. cond b (x ∷ filter i xs) (filter i xs)) e
+    ∙ (rest ∙ sym (ap (λ b. filter j (cond b (x ∷ ys) ys)) e)))
+filter_step i k j x xs ys false false e f same rest =
+    ap (λ b. filter i (cond b (x ∷ xs) xs)) f
+    ∙ (rest ∙ sym (ap (λ b. filter j (cond b (x ∷ ys) ys)) e))
+
+filters : {X : Type 0} (i k j : X → Bool) → ((x : X) → i x ≡ true → k x ≡ j x) → (xs : List X)
+    → filter i (filter k xs) ≡ filter j (filter i xs)
+filters i k j same [] = refl
+filters i k j same (x ∷ xs) =
+    filter_step i k j x (filter k xs) (filter i xs) (i x) (k x) refl refl (same x) (filters i k j same xs)
+
+filter_all : {X : Type 0} (xs : List X) → filter (λ (x : X). true) xs ≡ xs
+filter_all [] = refl
+filter_all {X} (x ∷ xs) = ap (λ (zs : List X). x ∷ zs) (filter_all xs)
+
+map_cond : {X Y : Type 0} (f : X → Y) (b : Bool) (x : X) (xs : List X) (ys : List Y) → ys ≡ map f xs
+    → cond b (f x ∷ ys) ys ≡ map f (cond b (x ∷ xs) xs)
+map_cond {X} {Y} f true x xs ys e = ap (λ (zs : List Y). f x ∷ zs) e
+map_cond f false x xs ys e = e
+
+filter_of_map : {X Y : Type 0} (f : X → Y) (p : Y → Bool) (xs : List X) → filter p (map f xs) ≡ map f (filter (λ x. p (f x)) xs)
+filter_of_map f p [] = refl
+filter_of_map f p (x ∷ xs) = map_cond f (p (f x)) x (filter (λ x. p (f x)) xs) (filter p (map f xs)) (filter_of_map f p xs)
+
+module _ (heading : Heading) (pe : ℕ) (dsb : Barrier) where
+  own : (q : ℕ) (p : Pending) → (pe == q) ≡ true → (p.issuer == q) ≡ true
+      → not (is_answered pe dsb p) ≡ not (completes dsb p.tlbi)
+  own q p e k =
+      let same : p.issuer ≡ pe = eqb-true p.issuer q k ∙ sym (eqb-true pe q e) in
+      ap (λ b. not (b && completes dsb p.tlbi)) (eq-eqb p.issuer pe same)
+
+  other : (q : ℕ) (p : Pending) → (pe == q) ≡ false → (p.issuer == q) ≡ true → not (is_answered pe dsb p) ≡ true
+  other q p e k =
+      let differs : (p.issuer == pe) ≡ false = false_from_ne_true (p.issuer == pe) (λ f.
+          let same : pe ≡ q = sym (eqb-true p.issuer pe f) ∙ eqb-true p.issuer q k in
+          true≢false (sym (eq-eqb pe q same) ∙ e)) in
+      ap (λ b. not (b && completes dsb p.tlbi)) differs
+
+  answered : (h : List Event) (pending : List Pending) → IsPending heading h pending → (q : ℕ) (b : Bool) → (pe == q) ≡ b
+      → filter (λ (p : Pending). p.issuer == q) (filter (λ (p : Pending). not (is_answered pe dsb p)) pending)
+      ≡ map (pending_of heading) (cond b (left_open itself dsb (unanswered itself q h)) (unanswered itself q h))
+  answered h pending stands q true e =
+      filters (λ (p : Pending). p.issuer == q) (λ (p : Pending). not (is_answered pe dsb p))
+      (λ (p : Pending). not (completes dsb p.tlbi)) (λ p k. own q p e k) pending
+      ∙ (ap (filter (λ (p : Pending). not (completes dsb p.tlbi))) (stands q)
+      ∙ filter_of_map (pending_of heading) (λ (p : Pending). not (completes dsb p.tlbi)) (unanswered itself q h))
+  answered h pending stands q false e =
+      filters (λ (p : Pending). p.issuer == q) (λ (p : Pending). not (is_answered pe dsb p))
+      (λ (p : Pending). true) (λ p k. other q p e k) pending
+      ∙ (filter_all (filter (λ (p : Pending). p.issuer == q) pending) ∙ stands q)
+
+  pub dsb_step : (h : List Event) (pending : List Pending) → IsPending heading h pending
+      → IsPending heading (Dsb pe dsb ∷ h) (filter (λ p. not (is_answered pe dsb p)) pending)
+  dsb_step h pending stands q = at (pe == q) refl
+    where
+      at : (b : Bool) → (pe == q) ≡ b
+          → filter (λ (p : Pending). p.issuer == q) (filter (λ (p : Pending). not (is_answered pe dsb p)) pending)
+          ≡ map (pending_of heading) (unanswered itself q (Dsb pe dsb ∷ h))
+      at b e =
+          answered h pending stands q b e
+          ∙ ap (λ b. map (pending_of heading) (cond b (left_open itself dsb (unanswered itself q h)) (unanswered itself q h))) (sym e)
+
+pub ruleset steps = (tlbi_step, dsb_step)

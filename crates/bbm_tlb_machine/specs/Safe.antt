@@ -1,0 +1,83 @@
+-- Safe logs: no TLB keeps what a write, an init or a new root needs gone. Lists are newest first.
+-- Source: Arm ARM (DDI 0487), "Using break-before-make when updating translation table entries" and "Translation Lookaside
+-- Buffers"; what counts as a conflict is the project's own choice.
+use Rattle.std.specs.Prelude.{◌≡◌, ℕ, Bool, true, false, ◌&&◌, not, ◌==◌, List, [], ◌∷◌, ◌++◌, length, Option, Some, None, Result, Ok, Contains}
+use Rattle.bbm_descriptor.specs.Descriptor.{needs}
+use Rattle.bbm_rules.specs.Lists.{any, if_so}
+use Rattle.bbm_rules.specs.Places.{page_of}
+use Rattle.bbm_rules.specs.Prelude.{Reg, Heading, Event, Init, Write, Msr}
+use Rattle.bbm_rules.specs.Tags.{Reading, readings}
+use Rattle.bbm_regimes.specs.Same.{same_tag}
+use Rattle.bbm_tlb_machine.specs.declared.step.Step.{Step}
+use Rattle.bbm_tlb_machine.specs.declared.step.Step.TheVariants.{Event as Taken}
+use Rattle.bbm_tlb_machine.specs.Entry.{Entry, Part, parts_of, tag_of_entry}
+use Rattle.bbm_tlb_machine.specs.Run.{IsRun, Living, State, follow_steps}
+
+-- a run over the log comes to the state, and the event is the next one of the log
+pub record ComesTo (heading : Heading) (log : List Event) (s : State) (e : Event) : Type 0 where
+  pub steps : List Step
+  pub run : IsRun heading steps s
+  pub later : List Event
+  pub split : log ≡ later ++ e ∷ s.log
+
+-- Safe: in each run over the log, at each event before it is taken: where it writes a value at a place, no entry of any PE
+-- has a part at the place from which the value needs break-before-make; where it initialises a page, no entry has a part in
+-- it; and where it writes a register, no entry of any PE has a tag that is readable at the writing PE afterwards for
+-- another root than the entry's.
+pub record Safe (heading : Heading) (log : List Event) : Type 0 where
+  pub at_write : (s : State) (pe place value : ℕ) → ComesTo heading log s (Write pe place value)
+      → (l : Living) → Contains s.living l → (part : Part) → Contains (parts_of l.entry) part
+      → part.place ≡ place → needs part.kind part.level part.value value ≡ false
+  pub at_init : (s : State) (pe page : ℕ) → ComesTo heading log s (Init pe page)
+      → (l : Living) → Contains s.living l → (part : Part) → Contains (parts_of l.entry) part
+      → page_of part.place ≡ page → ⊥
+  pub at_msr : (s : State) (pe value : ℕ) (reg : Reg) → ComesTo heading log s (Msr pe reg value)
+      → (l : Living) → Contains s.living l → (r : Reading) → Contains (readings heading (Msr pe reg value ∷ s.log) pe) r
+      → r.tag ≡ tag_of_entry l.entry → r.root ≡ l.entry.root
+
+-- The same, computed. `law_safe_by_test` says so.
+
+abbrev pub is_stale : ℕ → ℕ → Part → Bool
+is_stale place value part = part.place == place && needs part.kind part.level part.value value
+
+abbrev pub has_other_root : Entry → Reading → Bool
+has_other_root x r = same_tag r.tag (tag_of_entry x) && not (r.root == x.root)
+
+-- whether an entry conflicts with an event that comes after h
+abbrev pub conflicts_with : Heading → List Event → Event → Entry → Bool
+conflicts_with heading h (Write pe place value) x = any (is_stale place value) (parts_of x)
+conflicts_with heading h (Init pe page) x = any (λ part. page_of part.place == page) (parts_of x)
+conflicts_with heading h (Msr pe reg value) x = any (has_other_root x) (readings heading (Msr pe reg value ∷ h) pe)
+conflicts_with heading h _ x = false
+
+abbrev pub in_conflict : Heading → State → Event → Bool
+in_conflict heading s e = any (λ l. conflicts_with heading s.log e l.entry) s.living
+
+-- whether a step is an event at which a clause fails, after these
+abbrev pub fails_at : Heading → Result State ℕ → Step → Bool
+fails_at heading (Ok s) (Taken e) = in_conflict heading s e
+fails_at heading _ step = false
+
+-- the first of two indices, of which the earlier comes first
+abbrev pub earlier : Option ℕ → Option ℕ → Option ℕ
+earlier (Some i) o = Some i
+earlier None o = o
+
+-- the index of the first step at which a clause fails, counted from 0
+abbrev pub first_conflict : Heading → List Step → Option ℕ
+first_conflict heading [] = None
+first_conflict heading (step ∷ steps) =
+    earlier (first_conflict heading steps) (if_so (fails_at heading (follow_steps heading steps) step) (length steps))
+
+-- The step with this index is the first event at which a clause fails: the older steps are a run, the event conflicts after
+-- them, and at no earlier one a clause fails.
+pub record ConflictsAt (heading : Heading) (steps : List Step) (i : ℕ) : Type 0 where
+  pub newer : List Step
+  pub event : Event
+  pub older : List Step
+  pub before : State
+  pub split : steps ≡ newer ++ Taken event ∷ older
+  pub index : length older ≡ i
+  pub run : IsRun heading older before
+  pub conflict : in_conflict heading before event ≡ true
+  pub first : first_conflict heading older ≡ None
