@@ -14,3 +14,4 @@ pub mod LeafLemmas
 pub mod RootLemmas
 pub mod TagLemmas
 pub mod ProperLemmas
+pub mod StepLemmas

@@ -3,11 +3,13 @@
 
 mod below;
 pub mod patterns;
+pub mod steps;
 pub mod tags;
 pub mod trees;
 pub mod values;
 
 pub use patterns::{law_patterns_stay, law_uniform};
+pub use steps::{law_held_step, law_pattern_steps, law_tag_steps};
 pub use tags::law_tags;
 pub use trees::{
     law_frozen_view, law_held_changes, law_limbo_is_empty, law_lower_leaves, law_one_node,
