@@ -15,3 +15,4 @@ pub mod RootLemmas
 pub mod TagLemmas
 pub mod ProperLemmas
 pub mod StepLemmas
+pub mod AttachedLemmas

@@ -6,14 +6,14 @@ use Rattle.bbm_rules.specs.declared.rule.Rule.{Rule}
 use Rattle.bbm_rules.specs.Attach.{End, attached_by, attached_from}
 use Rattle.bbm_rules.specs.Broken.{breaks, keeps}
 use Rattle.bbm_rules.specs.Claims.{Trust}
-use Rattle.bbm_rules.specs.Cleansing.{seen}
+use Rattle.bbm_rules.specs.Cleansing.{half, seen}
 use Rattle.bbm_rules.specs.Covers.{is_global, noted}
 use Rattle.bbm_rules.specs.Lists.{among}
 use Rattle.bbm_rules.specs.Registers.{base_of, register_values, same_reg}
 use Rattle.bbm_rules.specs.Held.{ValidWrite, held, last_valid}
 use Rattle.bbm_rules.specs.Notes.{Noted, events_of}
 use Rattle.bbm_rules.specs.Pages.{is_fresh}
-use Rattle.bbm_rules.specs.PatternSentences.{Holds, IsLastValid, Seen}
+use Rattle.bbm_rules.specs.PatternSentences.{Holds, IsHalf, IsLastValid, Seen}
 use Rattle.bbm_rules.specs.Places.{page_of}
 use Rattle.bbm_rules.specs.Roots.{Declared, is_root, kind_in_world, page_count, root_pages, roots_of, start_of}
 use Rattle.bbm_rules.specs.Rules.{global_user, no_root, not_fresh, page_in_use, root_in_use, tag_conflict}
@@ -76,6 +76,8 @@ pub record Below (heading : Heading) (trust : Trust) : Type 0 where
   pub limbo_complete : (h : List Noted) (n : Node) → InLimbo h n → in_limbo h n ≡ true
   pub seen_sound : (place p : ℕ) (since : List Noted) → seen heading place p since ≡ true → Seen heading place p since
   pub seen_complete : (place p : ℕ) (since : List Noted) → Seen heading place p since → seen heading place p since ≡ true
+  pub half_sound : (place p : ℕ) (since : List Noted) → half heading place p since ≡ true → IsHalf heading place p since
+  pub half_complete : (place p : ℕ) (since : List Noted) → IsHalf heading place p since → half heading place p since ≡ true
   pub readable_sound : (h : List Event) (place p value : ℕ) → is_readable heading h place p value ≡ true
       → Readable heading h place p value
   pub readable_complete : (h : List Event) (place p value : ℕ) → Readable heading h place p value

@@ -5,6 +5,7 @@ ghost use Rattle.bbm_tlbi_scope.specs.declared.entry.Cover.{Cover};
 ghost use Rattle.bbm_events.specs.Heading.{Heading};
 ghost use Rattle.bbm_events.specs.declared.event.Event.{Event};
 ghost use Rattle.bbm_rules.specs.Claims.{Trust};
+ghost use Rattle.bbm_rules.specs.Cleansing.{half, seen};
 ghost use Rattle.bbm_rules.specs.Notes.{Noted};
 ghost use Rattle.bbm_rules.specs.PatternSentences.{Cleansed, Flush, HalfBy, Publication};
 ghost use Rattle.bbm_rules.specs.Reach.{Issued, reaches};
@@ -37,6 +38,10 @@ pub fn law_uniform()
     ensures publication { (heading : Heading) (place p r : ℕ) (since : List Noted) (b : Noted) → heading.cnp ≡ true →
         r < heading.pes → Publication heading place p since b → Publication heading place r since b }
     ensures reached { (heading : Heading) (e : Event) (p r : ℕ) → heading.cnp ≡ true → reaches heading e p ≡ reaches heading e r }
+    ensures seen { (heading : Heading) (place p r : ℕ) (since : List Noted) → heading.cnp ≡ true → p < heading.pes →
+        r < heading.pes → seen heading place p since ≡ seen heading place r since }
+    ensures half_test { (heading : Heading) (place p r : ℕ) (since : List Noted) → heading.cnp ≡ true → p < heading.pes →
+        r < heading.pes → half heading place p since ≡ half heading place r since }
     ensures half { (heading : Heading) (place p r : ℕ) (since : List Noted) (b : Noted) (t : Issued Noted) (d : Noted) →
         heading.cnp ≡ true → r < heading.pes → HalfBy heading place p since b t d → HalfBy heading place r since b t d }
     ensures flush { (heading : Heading) (cover : Cover) (place p r : ℕ) (since : List Noted) (t : Issued Noted) (d : Noted) →

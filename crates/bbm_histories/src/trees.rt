@@ -17,6 +17,7 @@ ghost use Rattle.bbm_rules.specs.Pages.{is_fresh, is_null};
 ghost use Rattle.bbm_rules.specs.Places.{page_of};
 ghost use Rattle.bbm_rules.specs.Tree.{Node, held_at, in_tree, node_of, tree};
 ghost use Rattle.bbm_rules.specs.Values.{value_of};
+ghost use Rattle.bbm_histories.specs.Values.{NoInit};
 ghost use Rattle.bbm_histories.specs.Tree.{Attaches, HeldBy, HeldChange, InTreeAfter, InTreeAfterDsb, NoGlobalLeaf, Proper, StaysChildless, View};
 
 use crate::below::below;
@@ -56,7 +57,8 @@ pub fn law_tree_step()
 }
 
 /// In a history that keeps the rules, a page that comes into a tree is attached by the event and was fresh just before;
-/// one of a tree keeps its node until it is in no tree, after a DSB or an `unroot` of its root; and no `init` names one.
+/// one of a tree keeps its node until it is in no tree, after a DSB or an `unroot` of its root; it isn't fresh then, until
+/// its next `init`; and no `init` names a page of a tree.
 /// The law is the contract.
 pub fn law_one_position()
     ensures gained { (heading : Heading) (trust : Trust) (h : List Event) (e : Event) → keeps heading trust (e ∷ h) ≡ true →
@@ -68,6 +70,9 @@ pub fn law_one_position()
         Contains (tree heading trust (noted heading trust (e ∷ h))) n
         ⊎ ((in_tree heading trust (noted heading trust (e ∷ h)) n.page ≡ false)
         × (((q : ℕ) × (dsb : Barrier) × (e ≡ Dsb q dsb)) ⊎ ((q : ℕ) × (e ≡ Unroot q n.root)))) }
+    ensures unfresh { (heading : Heading) (trust : Trust) (newer h : List Event) (page : ℕ) →
+        in_tree heading trust (noted heading trust h) page ≡ true → NoInit page newer →
+        is_fresh heading trust (noted heading trust (newer ++ h)) page ≡ false }
     ensures no_init { (heading : Heading) (trust : Trust) (h : List Event) (q page : ℕ) →
         keeps heading trust (Init q page ∷ h) ≡ true → (in_tree heading trust (noted heading trust h) page ≡ false)
         × (is_null h page ≡ false) }

@@ -13,7 +13,8 @@ ghost use Rattle.bbm_rules.specs.Places.{page_of};
 ghost use Rattle.bbm_rules.specs.Reach.{Issued};
 ghost use Rattle.bbm_rules.specs.Tree.{Node, tree};
 ghost use Rattle.bbm_rules.specs.Values.{is_readable, published};
-ghost use Rattle.bbm_histories.specs.Values.{FreshContent, MakesReadable, OddStays, Window};
+ghost use Rattle.bbm_histories.specs.Tree.{Attaches};
+ghost use Rattle.bbm_histories.specs.Values.{FreshContent, HoldsPresent, MakesReadable, OddStays, Window};
 
 use crate::below::below;
 
@@ -39,12 +40,15 @@ pub fn law_frozen()
 
 /// In a fresh page of a history that keeps the rules, a value with bit 0 set stays from its write until the next init of
 /// the page. So the last valid value of a place, at whatever kind and level it is read, is the present one, and no PE has
-/// seen a write after it. The law is the contract.
+/// seen a write after it; and so it is in a page when an event attaches it. The law is the contract.
 pub fn law_fresh_content()
     ensures odd_stays { (heading : Heading) (trust : Trust) (h : List Event) → keeps heading trust h ≡ true →
         OddStays heading trust (noted heading trust h) }
     ensures content { (heading : Heading) (trust : Trust) (h : List Event) → keeps heading trust h ≡ true →
         FreshContent heading trust (noted heading trust h) }
+    ensures attached { (heading : Heading) (trust : Trust) (h : List Event) (e : Event) → 0 < heading.pes →
+        keeps heading trust (e ∷ h) ≡ true → (n : Node) (place : ℕ) → Attaches heading trust (noted heading trust h) e n →
+        page_of place ≡ n.page → HoldsPresent heading trust (noted heading trust (e ∷ h)) n place }
 {
     below();
 }
