@@ -50,8 +50,8 @@ module _ (heading : Heading) (place p : ℕ) where
   seen_after (Dsb q dsb) since = (publishes_to heading dsb q p && wrote q since) || seen heading place p since
   seen_after _ since = seen heading place p since
 
-  -- TLBIs of q that reach p and aren't answered yet: one that covered the place half, or in full, when it was seen, and one
-  -- that covered its rest when it was half
+  -- TLBIs of q that reach p and aren't answered yet: one that covered the place half, or in full, when it was seen, and
+  -- one that covered its rest when it was half
   abbrev pub half_waits : ℕ → Bool → List Noted → Bool
   half_waits q b since = waits event_of q b (flushes heading place p Half (seen heading place p)) since
 

@@ -16,10 +16,11 @@ ghost use Rattle.bbm_rules.specs.Held.{held};
 ghost use Rattle.bbm_rules.specs.Notes.{Noted, event_of};
 ghost use Rattle.bbm_rules.specs.Reach.{Issued};
 ghost use Rattle.bbm_rules.specs.Tags.{itself, loses, reads_for_some};
-ghost use Rattle.bbm_histories.specs.Steps.{answered_by, cleansed_after, half_after, held_after, seen_after, tag_waits, tag_waits_after, waits, waits_after};
+ghost use Rattle.bbm_histories.specs.Steps.{answered_by, cleansed_after, half_after, held_after, seen_after, tag_waits};
+ghost use Rattle.bbm_histories.specs.Steps.{tag_waits_after, waits, waits_after};
 
-/// What is seen, half and cleansed after an event, and which TLBIs wait for their answers, by the event and by what was so
-/// before it. The call does nothing; the law is its contract.
+/// What is seen, half and cleansed after an event, and which TLBIs wait for their answers, by the event and by what was
+/// so before it. The call does nothing; the law is its contract.
 pub fn law_pattern_steps()
     ensures waits { (q : ℕ) (b : Bool) (test : Issued Noted → Bool) (n : Noted) (since : List Noted) →
         waits event_of q b test (n ∷ since) ≡ waits_after event_of q b test n.event n since }
@@ -31,9 +32,9 @@ pub fn law_pattern_steps()
         cleansed heading Patterns place p (n ∷ since) ≡ cleansed_after heading place p n.event since }
 {}
 
-/// What a place holds after an event, by what it held before: a valid write makes it hold the value, an init of its page
-/// nothing; a DSB leaves it the last valid value unless the place is then cleansed at every PE; any other event leaves it
-/// as it was. The law is the contract.
+/// What a place holds after an event, by what it held before: a valid write makes it hold the value, an init of its
+/// page nothing; a DSB leaves it the last valid value unless the place is then cleansed at every PE; any other event
+/// leaves it as it was. The law is the contract.
 pub fn law_held_step()
     ensures { (heading : Heading) (trust : Trust) (kind : Kind) (level place : ℕ) (n : Noted) (h : List Noted) →
         0 < heading.pes → held heading trust kind level place (n ∷ h)
@@ -42,8 +43,8 @@ pub fn law_held_step()
     below();
 }
 
-/// Which tags wait to be taken away after an event, by the event and by what was so before it; and a DSB takes a tag away
-/// where it answers what waits and the tag isn't readable then. The call does nothing; the law is its contract.
+/// Which tags wait to be taken away after an event, by the event and by what was so before it; and a DSB takes a tag
+/// away where it answers what waits and the tag isn't readable then. The call does nothing; the law is its contract.
 pub fn law_tag_steps()
     ensures waits { (heading : Heading) (p : ℕ) (tag : Tag) (q : ℕ) (b : Bool) (e : Event) (h : List Event) →
         tag_waits heading p tag q b (e ∷ h)
