@@ -1,6 +1,6 @@
 -- The step equations of the definitions that search.
-use Rattle.std.proofs.Common.{◌≡◌, ℕ, suc, ◌<◌, ◌≤◌, ◌&&◌, ◌||◌, not, Bool, true, false, cond, ◌==◌, nat_le, List, [], ◌∷◌, ◌++◌, length, Option, Some, None, filter, option_and_then, refl, sym, ◌∙◌, ap, subst, true≢false, arith}
-use Rattle.std.proofs.lemmas.Bool.{and_parts, eq-eqb, eqb-true, le-leb, leb-true}
+use Rattle.std.proofs.Common.{◌≡◌, ℕ, ◌<◌, ◌≤◌, ◌&&◌, ◌||◌, not, Bool, true, false, cond, ◌==◌, nat_le, List, [], ◌∷◌, length, Option, Some, None, filter, option_and_then, refl, sym, ◌∙◌, ap, subst, true≢false, arith}
+use Rattle.std.proofs.lemmas.Bool.{eq-eqb, le-leb, leb-true}
 use Rattle.bbm_barriers.specs.Options.{answers}
 use Rattle.bbm_regimes.specs.declared.regime.Kind.{Kind}
 use Rattle.bbm_regimes.specs.declared.regime.Tag.{Tag}
@@ -8,12 +8,12 @@ use Rattle.bbm_descriptor.specs.Descriptor.{is_valid, same_bool}
 use Rattle.bbm_tlbi_scope.specs.Operations.{operation}
 use Rattle.bbm_tlbi_scope.specs.declared.entry.Cover.TheVariants.{Half, Second, Full}
 use Rattle.bbm_events.specs.Heading.{Heading}
-use Rattle.bbm_rules.specs.Prelude.{Barrier, Event, Init, Null, Root, Unroot, Write, Dsb, Dmb, Isb, Tlbi, Msr, Lock, Unlock}
+use Rattle.bbm_rules.specs.Prelude.{Barrier, Event, Init, Write, Dsb, Tlbi}
 use Rattle.bbm_rules.specs.Claims.{Trust}
 use Rattle.bbm_rules.specs.Claims.Trust.{Patterns}
-use Rattle.bbm_rules.specs.Cleansing.{answered_where, answers_one, cleansed, flushes, full_step, half, is_completed, publishes_write, second_step, seen}
+use Rattle.bbm_rules.specs.Cleansing.{answered_where, answers_one, cleansed, flushes, full_step, half, publishes_write, second_step, seen}
 use Rattle.bbm_rules.specs.Held.{ValidWrite, cleansed_everywhere, held, last_valid, last_valid_after, later}
-use Rattle.bbm_rules.specs.Lists.{any, some}
+use Rattle.bbm_rules.specs.Lists.{any}
 use Rattle.bbm_rules.specs.Notes.{Noted, event_of, events_of}
 use Rattle.bbm_rules.specs.Places.{page_of}
 use Rattle.bbm_rules.specs.Reach.{Issued, completes, left_open, reaches, still_open, unanswered}
@@ -21,7 +21,7 @@ use Rattle.bbm_rules.specs.Tags.{is_taken_by, itself, loses, read_since, reads_f
 use Rattle.bbm_rules.specs.Values.{publishes_to, value_of}
 use Rattle.bbm_histories.specs.Below.{Below}
 use Rattle.bbm_histories.specs.Steps.{answered_by, cleansed_after, half_after, held_after, is_tlbi, seen_after, tag_waits, tag_waits_after, takes, waits, waits_after, wrote}
-use Rattle.bbm_histories.proofs.HeldSteps.{IsDsb, held_same}
+use Rattle.bbm_histories.proofs.HeldSteps.{held_same}
 
 -- ---- tests
 
@@ -234,9 +234,6 @@ module _ (heading : Heading) (trust : Trust) (b : Below heading trust) (kind : K
       })
   held_by (Init pe page) n h change = by (page == page_of place) refl
     where
-      left : ValidWrite → Option ℕ
-      left w = cond (cleansed_everywhere heading trust place w.since) None (Some w.value)
-
       by : (c : Bool) → (page == page_of place) ≡ c
           → held heading trust kind level place (n ∷ h) ≡ cond c None (held heading trust kind level place h)
       by true c =

@@ -1,7 +1,7 @@
 -- Step equations: what a definition gives after an event, by the event and by what it gave before at the same place and
 -- PE, or for the same tag. Most definitions are such equations already; here are those that search. Trust is in all
 -- patterns. Source: project's own choice.
-use Rattle.std.specs.Prelude.{◌≡◌, ℕ, length, Bool, true, false, not, ◌&&◌, ◌||◌, ◌==◌, List, ◌∷◌, Option, Some, None}
+use Rattle.std.specs.Prelude.{ℕ, length, Bool, true, false, not, ◌&&◌, ◌||◌, ◌==◌, List, ◌∷◌, Option, Some, None}
 use Rattle.std.specs.Prelude.{if◌then◌else◌}
 use Rattle.bbm_barriers.specs.Options.{answers}
 use Rattle.bbm_descriptor.specs.Descriptor.{is_valid, same_bool}
@@ -11,12 +11,12 @@ use Rattle.bbm_rules.specs.Prelude.{Barrier, Kind, Tag, Heading, Event, Init, Wr
 use Rattle.bbm_rules.specs.Claims.{Trust}
 use Rattle.bbm_rules.specs.Claims.Trust.{Patterns}
 use Rattle.bbm_rules.specs.Cleansing.{cleansed, flushes, half, seen, writes}
-use Rattle.bbm_rules.specs.Held.{ValidWrite, cleansed_everywhere, held, last_valid}
+use Rattle.bbm_rules.specs.Held.{cleansed_everywhere, held, last_valid}
 use Rattle.bbm_rules.specs.Lists.{◌>>=◌, any, some}
 use Rattle.bbm_rules.specs.Notes.{Noted, event_of}
 use Rattle.bbm_rules.specs.Places.{page_of}
 use Rattle.bbm_rules.specs.Reach.{Issued, reaches, unanswered}
-use Rattle.bbm_rules.specs.Tags.{itself, read_since, reads_for_some, takes_tag}
+use Rattle.bbm_rules.specs.Tags.{itself, read_since, takes_tag}
 use Rattle.bbm_rules.specs.Values.{publishes_to}
 
 -- whether the event is a TLBI that is broadcast, or one that isn't, as told

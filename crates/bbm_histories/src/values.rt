@@ -18,10 +18,12 @@ ghost use Rattle.bbm_histories.specs.Values.{FreshContent, HoldsPresent, MakesRe
 
 use crate::below::below;
 
-/// In every history: what is published stays published, and by the same DSB; a TLBI that is answered stays answered by
-/// the same DSB; what a TLBI covers is fixed at its issue; and a value that isn't readable stays so until an event
-/// makes it readable again. The law is the contract.
+/// In every history: one that keeps the rules kept them before; what is published stays published, and by the same DSB;
+/// a TLBI that is answered stays answered by the same DSB; what a TLBI covers is fixed at its issue; and a value that
+/// isn't readable stays so until an event makes it readable again. The law is the contract.
 pub fn law_frozen()
+    ensures kept { (heading : Heading) (trust : Trust) (newer older : List Event) →
+        keeps heading trust (newer ++ older) ≡ true → keeps heading trust older ≡ true }
     ensures published { (heading : Heading) (q p : ℕ) (newer later : List Event) →
         published heading q p later ≡ true → published heading q p (newer ++ later) ≡ true }
     ensures publication { (heading : Heading) (place p : ℕ) (newer since : List Noted) (b : Noted) →
