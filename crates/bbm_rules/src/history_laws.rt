@@ -1,21 +1,26 @@
 //! Laws of the definitions on the annotated history: what computes says the same as a sentence over all ways to split
 //! a history, and what the next layers need of a history that keeps the rules.
 
-ghost use Rattle.std.specs.Prelude.{◌≡◌, ℕ, suc, ◌<◌, ◌≤◌, true, List, ◌∷◌, ◌++◌, length, Some, None, Contains};
+ghost use Rattle.std.specs.Prelude.{◌≡◌, ◌≢◌, ℕ, suc, ◌<◌, ◌≤◌, true, List, ◌∷◌, ◌++◌, length, Some, None, Contains};
 ghost use Rattle.bbm_regimes.specs.declared.regime.Kind.{Kind};
 ghost use Rattle.bbm_descriptor.specs.Descriptor.{is_valid};
 ghost use Rattle.bbm_events.specs.Heading.{Heading};
 ghost use Rattle.bbm_events.specs.declared.event.Event.{Event};
+ghost use Rattle.bbm_events.specs.declared.event.Event.TheVariants.{Write};
+ghost use Rattle.bbm_rules.specs.declared.phase.Phase.TheVariants.{Clean};
 ghost use Rattle.bbm_rules.specs.declared.rule.Rule.{Rule as RuleOf};
+ghost use Rattle.bbm_rules.specs.declared.rule.Rule.TheVariants.{BreakBeforeMake};
 ghost use Rattle.bbm_rules.specs.Attach.{End, end_at, ends_below};
 ghost use Rattle.bbm_rules.specs.Broken.{breaks, keeps};
 ghost use Rattle.bbm_rules.specs.Claims.{Trust};
 ghost use Rattle.bbm_rules.specs.Cleansing.{cleansed, half, seen};
 ghost use Rattle.bbm_rules.specs.Covers.{cover_at, noted};
 ghost use Rattle.bbm_rules.specs.Held.{held};
+ghost use Rattle.bbm_rules.specs.Locks.{HandsOver, lock_at};
 ghost use Rattle.bbm_rules.specs.Notes.{Noted, events_of};
 ghost use Rattle.bbm_rules.specs.Pages.{is_fresh};
 ghost use Rattle.bbm_rules.specs.PatternSentences.{Cleansed, Holds, IsHalf, Seen};
+ghost use Rattle.bbm_rules.specs.Phases.{phase_of};
 ghost use Rattle.bbm_rules.specs.Tree.{Node, in_limbo, is_childless, tree};
 ghost use Rattle.bbm_rules.specs.TreeSentences.{Childless, InLimbo, IsFresh, IsNode, Leads};
 ghost use Rattle.bbm_rules.specs.Values.{value_of};
@@ -126,6 +131,26 @@ pub fn law_each_rule()
     ensures complete { (heading : Heading) (trust : Trust) (h : List Event) →
         ((newer older : List Event) (e : Event) → h ≡ newer ++ e ∷ older →
         (rule : RuleOf) → breaks heading trust (noted heading trust older) e rule ≡ None) → keeps heading trust h ≡ true }
+{}
+
+/// A place at which an event breaks the rule of break-before-make is clean at no PE, since it holds a value. The call
+/// does nothing; the law is its contract.
+#[tactic(auto, using(crate::proofs::PhaseLaw::laws))]
+pub fn law_refused_place()
+    ensures { (heading : Heading) (trust : Trust) (h : List Event) (e : Event) (at p : ℕ) →
+        breaks heading trust (noted heading trust h) e BreakBeforeMake ≡ Some at → phase_of heading trust h at p ≢ Clean }
+{}
+
+/// Between two writes of different PEs at places of trees whose roots name the same lock, each at the time of its write,
+/// the first PE gives the lock back, and later the second takes it. It holds of every history that keeps the rules. The
+/// call does nothing; the law is its contract.
+#[tactic(auto, using(crate::proofs::LockOrderLaw::laws))]
+pub fn law_lock_order()
+    ensures { (heading : Heading) (trust : Trust) (h newer between older : List Event)
+        (p q place other value later lock : ℕ) → keeps heading trust h ≡ true → p ≢ q →
+        h ≡ newer ++ Write q other later ∷ (between ++ Write p place value ∷ older) →
+        lock_at heading trust older place ≡ Some lock →
+        lock_at heading trust (between ++ Write p place value ∷ older) other ≡ Some lock → HandsOver p q lock between }
 {}
 
 /// The annotated history of a history ends in that of its older part. Each event in it stands with what it covered by

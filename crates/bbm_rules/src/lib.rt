@@ -20,7 +20,7 @@ pub use event_laws::{
 };
 pub use history_laws::{
     law_childless, law_cleansed, law_each_rule, law_fresh, law_half, law_held, law_limbo,
-    law_notes, law_paths, law_seen, law_tree,
+    law_lock_order, law_notes, law_paths, law_refused_place, law_seen, law_tree,
 };
 pub use laws::{
     law_answered, law_notes_keep_the_events, law_one_node, law_readable_value, law_tag_held,
@@ -40,7 +40,7 @@ mod tests {
     };
     use crate::history_laws::{
         law_childless, law_cleansed, law_each_rule, law_fresh, law_half, law_held, law_limbo,
-        law_notes, law_paths, law_seen, law_tree,
+        law_lock_order, law_notes, law_paths, law_refused_place, law_seen, law_tree,
     };
     use crate::laws::{
         law_answered, law_notes_keep_the_events, law_one_node, law_readable_value, law_tag_held,
@@ -58,8 +58,10 @@ mod tests {
         law_half();
         law_held();
         law_limbo();
+        law_lock_order();
         law_notes();
         law_paths();
+        law_refused_place();
         law_seen();
         law_tree();
         law_changes();
