@@ -2,7 +2,7 @@
 //! a history, and what the next layers need of a history that keeps the rules.
 
 ghost use Rattle.std.specs.Prelude.{◌≡◌, ℕ, suc, ◌<◌, ◌≤◌, ◌+◌, ◌%◌, true, false, List, [], ◌∷◌, ◌++◌, length, Option};
-ghost use Rattle.std.specs.Prelude.{Some, None, Contains};
+ghost use Rattle.std.specs.Prelude.{Some, None, Contains, ◌≢◌};
 ghost use Rattle.bbm_regimes.specs.declared.regime.Kind.{Kind};
 ghost use Rattle.bbm_regimes.specs.declared.regime.Kind.TheVariants.{Ttbr0};
 ghost use Rattle.bbm_descriptor.specs.Descriptor.{desc_of, is_valid};
@@ -24,6 +24,10 @@ ghost use Rattle.bbm_rules.specs.Roots.{Declared, kind_in_world, page_count, roo
 ghost use Rattle.bbm_rules.specs.Rules.{global_user, not_fresh, page_in_use};
 ghost use Rattle.bbm_rules.specs.Tree.{Node, held_at, in_limbo, in_tree, is_childless, next_of, node_below, node_of};
 ghost use Rattle.bbm_rules.specs.Tree.{nodes_of_root, tree};
+ghost use Rattle.bbm_rules.specs.declared.phase.Phase.TheVariants.{Clean};
+ghost use Rattle.bbm_rules.specs.declared.rule.Rule.TheVariants.{BreakBeforeMake};
+ghost use Rattle.bbm_rules.specs.Locks.{HandsOver, lock_at};
+ghost use Rattle.bbm_rules.specs.Phases.{phase_of};
 ghost use Rattle.bbm_rules.specs.TreeSentences.{Childless, InLimbo, IsFresh, IsNode, Leads};
 ghost use Rattle.bbm_rules.specs.Values.{value_of};
 
@@ -222,6 +226,26 @@ pub fn law_each_rule()
         ((newer older : List Event) (e : Event) → h ≡ newer ++ e ∷ older →
         (rule : RuleOf) → breaks heading trust (noted heading trust older) e rule ≡ None) →
         keeps heading trust h ≡ true }
+{}
+
+/// A place at which an event breaks the rule of break-before-make is clean at no PE, since it holds a value. The call
+/// does nothing; the law is its contract.
+#[tactic(auto, using(crate::proofs::PhaseLaw::laws))]
+pub fn law_refused_place()
+    ensures { (heading : Heading) (trust : Trust) (h : List Event) (e : Event) (at p : ℕ) →
+        breaks heading trust (noted heading trust h) e BreakBeforeMake ≡ Some at → phase_of heading trust h at p ≢ Clean }
+{}
+
+/// Between two writes of different PEs at places of trees whose roots name the same lock, each at the time of its write,
+/// the first PE gives the lock back, and later the second takes it. It holds of every history that keeps the rules. The
+/// call does nothing; the law is its contract.
+#[tactic(auto, using(crate::proofs::LockOrderLaw::laws))]
+pub fn law_lock_order()
+    ensures { (heading : Heading) (trust : Trust) (h newer between older : List Event)
+        (p q place other value later lock : ℕ) → keeps heading trust h ≡ true → p ≢ q →
+        h ≡ newer ++ Write q other later ∷ (between ++ Write p place value ∷ older) →
+        lock_at heading trust older place ≡ Some lock →
+        lock_at heading trust (between ++ Write p place value ∷ older) other ≡ Some lock → HandsOver p q lock between }
 {}
 
 /// The annotated history of a history ends in that of its older part. Each event in it stands with what it covered by
