@@ -18,25 +18,23 @@ enum Outcome {
     Unread,
 }
 
-// The step of a line, None of the last line and of one that can't be read.
-fn step_of(header: &Header, line: &[u8]) -> Option<Step> {
+// Adds the step of a line; the last line is none. False where there is no memory.
+fn add_step(steps: &mut Vec<Step>, header: &Header, line: &[u8]) -> bool {
     match read_machine(header, line) {
-        Ok(machine) => Some(Step::Machine(machine)),
+        Ok(machine) => steps.push(Step::Machine(machine)).is_ok(),
         Err(_) => match read_event(header, line) {
-            Ok(Item::Event(event, _)) => Some(Step::Event(event)),
-            _ => None,
+            Ok(Item::Event(event, _)) => steps.push(Step::Event(event)).is_ok(),
+            _ => true,
         },
     }
 }
 
-// The steps of the lines.
+// The steps of the lines, None where there is no memory.
 fn steps_of(alloc: Global, header: &Header, lines: &[&[u8]]) -> Option<Vec<Step>> {
     let mut steps = Vec::new(alloc);
     for line in lines {
-        if let Some(step) = step_of(header, line) {
-            if steps.push(step).is_err() {
-                return None;
-            }
+        if !add_step(&mut steps, header, line) {
+            return None;
         }
     }
     Some(steps)
@@ -60,7 +58,7 @@ fn line_of(index: u64) -> usize {
 }
 
 // What comes of the run with these lines.
-fn outcome(alloc: Global, lines: &[&[u8]]) -> Outcome {
+fn outcome_in(alloc: Global, lines: &[&[u8]]) -> Outcome {
     match lines {
         [] => Outcome::Unread,
         [first, rest @ ..] => match read_header(first) {
@@ -317,59 +315,59 @@ const FLUSH_AFTER_PUBLICATION: [&[u8]; 14] = [
 #[test]
 fn runs_come_to_what_was_worked_out(rt: HostRuntime) {
     assert_eq!(rt;
-        outcome(rt.alloc(), &FOLLOW_TO_A_CONFLICT),
+        outcome_in(rt.alloc(), &FOLLOW_TO_A_CONFLICT),
         Outcome::Conflict(10)
     );
     assert_eq!(rt;
-        outcome(rt.alloc(), &FOLLOW_DSB_WITH_A_TAKEN_ENTRY),
+        outcome_in(rt.alloc(), &FOLLOW_DSB_WITH_A_TAKEN_ENTRY),
         Outcome::BadStep(9)
     );
     assert_eq!(rt;
-        outcome(rt.alloc(), &FOLLOW_COMBINED_ENTRY_IS_TAKEN),
+        outcome_in(rt.alloc(), &FOLLOW_COMBINED_ENTRY_IS_TAKEN),
         Outcome::BadStep(14)
     );
     assert_eq!(rt;
-        outcome(rt.alloc(), &FOLLOW_SHARED_ENTRY),
+        outcome_in(rt.alloc(), &FOLLOW_SHARED_ENTRY),
         Outcome::BadStep(12)
     );
     assert_eq!(rt;
-        outcome(rt.alloc(), &FOLLOW_SHARE_WITHOUT_CNP),
+        outcome_in(rt.alloc(), &FOLLOW_SHARE_WITHOUT_CNP),
         Outcome::BadStep(7)
     );
     assert_eq!(rt;
-        outcome(rt.alloc(), &TLBI_BEFORE_PUBLICATION),
+        outcome_in(rt.alloc(), &TLBI_BEFORE_PUBLICATION),
         Outcome::Conflict(12)
     );
     assert_eq!(rt;
-        outcome(rt.alloc(), &BLOCK_REPLACED_BY_TABLE_WITHOUT_BREAK),
+        outcome_in(rt.alloc(), &BLOCK_REPLACED_BY_TABLE_WITHOUT_BREAK),
         Outcome::Conflict(9)
     );
     assert_eq!(rt;
-        outcome(rt.alloc(), &STAGE2_TWO_STEPS_UNDER_ONE_DSB),
+        outcome_in(rt.alloc(), &STAGE2_TWO_STEPS_UNDER_ONE_DSB),
         Outcome::Conflict(15)
     );
     assert_eq!(rt;
-        outcome(rt.alloc(), &LOCAL_FLUSH_ON_EACH_PE_AFTER_LOCAL_PUBLICATION),
+        outcome_in(rt.alloc(), &LOCAL_FLUSH_ON_EACH_PE_AFTER_LOCAL_PUBLICATION),
         Outcome::Conflict(15)
     );
     assert_eq!(rt;
-        outcome(rt.alloc(), &NON_GLOBAL_TTBR1_LEAF_FLUSHED_BY_ADDRESS),
+        outcome_in(rt.alloc(), &NON_GLOBAL_TTBR1_LEAF_FLUSHED_BY_ADDRESS),
         Outcome::Conflict(12)
     );
     assert_eq!(rt;
-        outcome(rt.alloc(), &TLBI_WITH_WRONG_LEVEL_HINT),
+        outcome_in(rt.alloc(), &TLBI_WITH_WRONG_LEVEL_HINT),
         Outcome::Conflict(13)
     );
     assert_eq!(rt;
-        outcome(rt.alloc(), &TABLE_ABOVE_IS_REPLACED),
+        outcome_in(rt.alloc(), &TABLE_ABOVE_IS_REPLACED),
         Outcome::Conflict(12)
     );
     assert_eq!(rt;
-        outcome(rt.alloc(), &EXTEND_PAST_A_LEAF),
+        outcome_in(rt.alloc(), &EXTEND_PAST_A_LEAF),
         Outcome::BadStep(11)
     );
     assert_eq!(rt;
-        outcome(rt.alloc(), &FLUSH_AFTER_PUBLICATION),
+        outcome_in(rt.alloc(), &FLUSH_AFTER_PUBLICATION),
         Outcome::Runs
     );
 }
