@@ -1,2 +1,4 @@
-pub mod Taken
-pub mod Traces
+pub mod Flaws
+pub mod Judges
+pub mod Least
+pub mod StandsFor

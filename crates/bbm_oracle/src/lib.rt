@@ -1,10 +1,14 @@
 //! A checker that keeps the list of events and searches it.
 #![tactic(auto)]
 
+mod ends;
+mod flaws;
+mod least;
 pub mod oracle;
-mod search;
-#[cfg(test)]
-mod tests;
-mod trace;
+mod order;
+mod page_rules;
+mod restless;
+mod starts;
+mod tree_rules;
 
 pub use oracle::Oracle;
