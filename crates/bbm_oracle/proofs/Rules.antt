@@ -44,8 +44,9 @@ answers_broken (Broken rule at) breach limit e = e
 answers_broken (Limit which) breach limit e = absurd e
 answers_broken NoMemory breach limit e = tt
 
-pub answers_limit : (fault : StepFault) (breach : Option Breach) (limit : Option Which) → breach ≡ None
-    → Limits (Err fault) limit → Answers (Err fault) breach limit
-answers_limit (Broken rule at) breach limit none e = absurd e
-answers_limit (Limit which) breach limit none e = (none, e)
-answers_limit NoMemory breach limit none e = tt
+pub answers_limit : (result : Result (Unit {0}) StepFault) (breach : Option Breach) (limit : Option Which) → breach ≡ None
+    → Limits result limit → Answers result breach limit
+answers_limit (Ok done) breach limit none e = (none, e)
+answers_limit (Err (Broken rule at)) breach limit none e = absurd e
+answers_limit (Err (Limit which)) breach limit none e = (none, e)
+answers_limit (Err NoMemory) breach limit none e = tt

@@ -12,3 +12,6 @@ mod starts;
 mod tree_rules;
 
 pub use oracle::Oracle;
+
+#[cfg(test)]
+mod tests;

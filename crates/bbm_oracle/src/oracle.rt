@@ -2,7 +2,12 @@
 
 ghost use Rattle.std.specs.Prelude.{◌≡◌, ◌≢◌, ℕ, List, [], ◌∷◌, Bool, true, false, length, IsOk, IfOk, OnOk, OnErr, Err};
 ghost use Rattle.bbm_events.specs.declared.event.Event.{Event};
+ghost use Rattle.bbm_events.specs.Fits.{fits_heading};
 ghost use Rattle.bbm_events.specs.Heading.{Heading};
+ghost use Rattle.bbm_rules.specs.Answers.{Answers};
+ghost use Rattle.bbm_rules.specs.Broken.{broken};
+ghost use Rattle.bbm_rules.specs.Claims.{Patterns};
+ghost use Rattle.bbm_rules.specs.Limits.{limit_of};
 ghost use Rattle.bbm_rules.specs.Notes.{events_of};
 ghost use Rattle.bbm_rules.specs.Values as values;
 ghost use Rattle.bbm_oracle_trees.specs.Past.{Past, notes};
@@ -37,6 +42,16 @@ impl Oracle {
             history: History::new(alloc, header),
         })
     }
+
+    // Judges an event that fits the header: Ok where it breaks no rule and reaches no limit. A broken rule comes first.
+    fn judged(&self, alloc: Global, event: &Event) -> Result<(), StepFault>
+        requires { fits_heading self.now.history.heading event.now ≡ true }
+        ensures { (heading : Heading) (h : List Event) → StandsFor self.now.history heading h
+            → Answers result (broken heading Patterns h event.now) (limit_of h event.now) }
+    {
+        judge(alloc, &self.history, event)?;
+        check_limit(alloc, &self.history, event)
+    }
 }
 
 impl Memory for Oracle {
@@ -53,11 +68,12 @@ impl Checker for Oracle {
     ghost frugal = { λ oracle. false };
 
     fn step(&mut self, alloc: Global, event: Event) -> Result<(), StepFault> {
-        judge(alloc, &self.history, &event)?;
-        check_limit(alloc, &self.history, &event)?;
-        match self.history.take(alloc, event) {
-            Ok(()) => Ok(()),
-            Err(_) => Err(StepFault::NoMemory),
+        match self.judged(alloc, &event) {
+            Ok(()) => match self.history.take(alloc, event) {
+                Ok(()) => Ok(()),
+                Err(_) => Err(StepFault::NoMemory),
+            },
+            Err(fault) => Err(fault),
         }
     }
 
