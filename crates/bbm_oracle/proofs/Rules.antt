@@ -10,7 +10,7 @@ use Rattle.bbm_rules.specs.Answers.{Answers}
 use Rattle.bbm_rules.specs.Broken.{Breach, breaks, first_broken}
 use Rattle.bbm_rules.specs.Claims.{Patterns}
 use Rattle.bbm_rules.specs.Notes.{Noted}
-use Rattle.bbm_oracle.specs.Judges.{Judges, Limits}
+use Rattle.bbm_oracle.specs.Judges.{Judges, Reaches}
 use Rattle.bbm_oracle.proofs.Lists.{dropped_less}
 
 abbrev pub or_else : Option Breach → Option Breach → Option Breach
@@ -45,7 +45,7 @@ answers_broken (Limit which) breach limit e = absurd e
 answers_broken NoMemory breach limit e = tt
 
 pub answers_limit : (result : Result (Unit {0}) StepFault) (breach : Option Breach) (limit : Option Which) → breach ≡ None
-    → Limits result limit → Answers result breach limit
+    → Reaches result limit → Answers result breach limit
 answers_limit (Ok done) breach limit none e = (none, e)
 answers_limit (Err (Broken rule at)) breach limit none e = absurd e
 answers_limit (Err (Limit which)) breach limit none e = (none, e)

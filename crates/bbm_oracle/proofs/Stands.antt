@@ -8,7 +8,7 @@ use Rattle.bbm_rules.specs.Notes.{Noted, events_of}
 use Rattle.bbm_rules.specs.Phases.{is_restless, phase_of, restless_of}
 use Rattle.bbm_rules.specs.Values.{written_places}
 use Rattle.bbm_oracle_trees.specs.Past.{Past, notes}
-use Rattle.bbm_oracle_trees.specs.PhaseAt.{phase_at}
+use Rattle.bbm_oracle_trees.specs.Phases.{phase_among}
 use Rattle.bbm_oracle.specs.StandsFor.{StandsFor}
 
 events_noted : {past : Past} {heading : Heading} {h : List Event} → StandsFor past heading h
@@ -16,15 +16,15 @@ events_noted : {past : Past} {heading : Heading} {h : List Event} → StandsFor 
 events_noted s = ap (λ (n : List Noted). events_of n) (sym s.notes_are) ∙ s.events_are
 
 phase_noted : (heading : Heading) (h : List Event) (place p : ℕ) → events_of (noted heading Patterns h) ≡ h
-    → phase_at heading (noted heading Patterns h) place p ≡ phase_of heading Patterns h place p
+    → phase_among heading (noted heading Patterns h) place p ≡ phase_of heading Patterns h place p
 unfolding phase_of
 phase_noted heading h place p e = rw e refl
 
 pub phase_stands : {past : Past} {heading : Heading} {h : List Event} → StandsFor past heading h → (place p : ℕ)
-    → phase_at past.heading (notes past) place p ≡ phase_of heading Patterns h place p
+    → phase_among past.heading (notes past) place p ≡ phase_of heading Patterns h place p
 phase_stands {past = past} {heading = heading} {h = h} s place p =
-    ap (λ (g : Heading). phase_at g (notes past) place p) s.heading_is
-    ∙ ap (λ (n : List Noted). phase_at heading n place p) s.notes_are
+    ap (λ (g : Heading). phase_among g (notes past) place p) s.heading_is
+    ∙ ap (λ (n : List Noted). phase_among heading n place p) s.notes_are
     ∙ phase_noted heading h place p (events_noted s)
 
 abbrev count_at : Heading → List Noted → List Event → ℕ

@@ -13,8 +13,8 @@ Judges (Err (Limit which)) breach = ⊥
 Judges (Err NoMemory) breach = Unit {0}
 
 -- the answer where the event reaches this limit, or none
-abbrev pub Limits : Result (Unit {0}) StepFault → Option Which → Type 0
-Limits (Ok _) limit = limit ≡ None
-Limits (Err (Broken rule at)) limit = ⊥
-Limits (Err (Limit which)) limit = limit ≡ Some which
-Limits (Err NoMemory) limit = Unit {0}
+abbrev pub Reaches : Result (Unit {0}) StepFault → Option Which → Type 0
+Reaches (Ok _) limit = limit ≡ None
+Reaches (Err (Broken rule at)) limit = ⊥
+Reaches (Err (Limit which)) limit = limit ≡ Some which
+Reaches (Err NoMemory) limit = Unit {0}

@@ -1,6 +1,7 @@
 //! The oracle.
 
 ghost use Rattle.std.specs.Prelude.{◌≡◌, ◌≢◌, ℕ, List, [], ◌∷◌, Bool, true, false, length, IsOk, IfOk, OnOk, OnErr, Err};
+ghost use Rattle.std.proofs.Common.{ap};
 ghost use Rattle.bbm_events.specs.declared.event.Event.{Event};
 ghost use Rattle.bbm_events.specs.Fits.{fits_heading};
 ghost use Rattle.bbm_events.specs.Heading.{Heading};
@@ -11,7 +12,7 @@ ghost use Rattle.bbm_rules.specs.Limits.{limit_of};
 ghost use Rattle.bbm_rules.specs.Notes.{events_of};
 ghost use Rattle.bbm_rules.specs.Values as values;
 ghost use Rattle.bbm_oracle_trees.specs.Past.{Past, notes};
-ghost use Rattle.bbm_oracle.specs.StandsFor.{StandsFor, value_by_events};
+ghost use Rattle.bbm_oracle.specs.StandsFor.{StandsFor};
 
 use crate::order::{check_limit, judge};
 use crate::restless::count_restless;
@@ -97,7 +98,7 @@ impl Checker for Oracle {
         roots::is_root(self.history.events(), kind, page.get())
     }
 
-    ghost values = { λ oracle heading h stands place. value_by_events stands place };
+    ghost values = { λ oracle heading h stands place. ap (λ (events : List Event). values.value_of events place) stands.events_are };
 }
 
 impl Fresh for Oracle {

@@ -7,7 +7,7 @@ ghost use Rattle.bbm_rules.specs.Broken as spec;
 ghost use Rattle.bbm_rules.specs.Claims.{Patterns};
 ghost use Rattle.bbm_rules.specs.Limits as limits;
 ghost use Rattle.bbm_rules.specs.Notes.{events_of};
-ghost use Rattle.bbm_oracle.specs.Judges.{Judges, Limits};
+ghost use Rattle.bbm_oracle.specs.Judges.{Judges, Reaches};
 ghost use Rattle.bbm_oracle_trees.specs.Past.{notes};
 
 use crate::flaws::{Flaw, made_with};
@@ -128,7 +128,7 @@ pub fn judge(alloc: Global, history: &History, event: &Event) -> Result<(), Step
 /// Ok where the event reaches no limit, else `Limit` with the limit; `NoMemory` where there is none. Source: project's own
 /// choice.
 pub fn check_limit(alloc: Global, history: &History, event: &Event) -> Result<(), StepFault>
-    ensures { Limits result (limits.limit_of (events_of (notes history.now)) event.now) }
+    ensures { Reaches result (limits.limit_of (events_of (notes history.now)) event.now) }
 {
     match limit_of(alloc, history.events(), event) {
         Ok(Some(which)) => Err(StepFault::Limit(which)),
