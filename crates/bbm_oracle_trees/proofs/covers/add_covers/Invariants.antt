@@ -1,0 +1,9 @@
+use Rattle.std.proofs.Common.{◌≡◌, ◌++◌, take}
+use Rattle.std.specs.List.{flat_map}
+use Rattle.bbm_oracle_trees.specs.Past.{notes}
+use Rattle.bbm_oracle_trees.specs.Views.{covered_under}
+use Rattle.bbm_oracle_trees.proofs.covers.add_covers.Given as goal
+
+abbrev pub invariant-loop-place : goal.invariant-loop-place
+invariant-loop-place l = l.covers.items ≡ l.initial.covers.items
+    ++ flat_map (covered_under l.log.heading (notes l.log) l.scope l.vmid) (take l.place-index l.place-items)

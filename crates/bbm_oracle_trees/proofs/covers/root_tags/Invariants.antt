@@ -1,0 +1,7 @@
+use Rattle.bbm_rules.specs.Notes.{events_of}
+use Rattle.bbm_oracle_trees.specs.Past.{notes}
+use Rattle.bbm_oracle_trees.specs.Views.{AreTags}
+use Rattle.bbm_oracle_trees.proofs.covers.root_tags.Given as goal
+
+abbrev pub invariant-loop-root : goal.invariant-loop-root
+invariant-loop-root l = AreTags l.log.heading (events_of (notes l.log)) l.known.items

@@ -1,0 +1,6 @@
+use Rattle.std.proofs.Common.{◌≡◌, ℕ, ◌==◌, ◌&&◌, not, take}
+use Rattle.bbm_rules.specs.Lists.{among}
+use Rattle.bbm_oracle_trees.proofs.fresh.without.Given as goal
+
+abbrev pub invariant-loop-page : goal.invariant-loop-page
+invariant-loop-page l = (q : ℕ) → among q l.left.items ≡ (not (l.but == q) && among q (take l.page-index l.pages))

@@ -1,0 +1,13 @@
+use Rattle.std.proofs.Common.{◌≡◌, false, not, take}
+use Rattle.bbm_descriptor.specs.Descriptor.{is_valid}
+use Rattle.bbm_rules.specs.Lists.{any}
+use Rattle.bbm_rules.specs.Notes.{events_of}
+use Rattle.bbm_rules.specs.Tree.{Above}
+use Rattle.bbm_rules.specs.Values.{value_of}
+use Rattle.bbm_oracle_trees.specs.Past.{notes}
+use Rattle.bbm_oracle_trees.proofs.limbo.in_limbo.Given as goal
+
+abbrev pub invariant-loop-above : goal.invariant-loop-above
+invariant-loop-above l = any
+    (λ (a : Above). not (is_valid l.node-inside.kind a.level (value_of (events_of (notes l.log)) a.place)))
+    (take l.above-index l.above-items) ≡ false

@@ -1,0 +1,8 @@
+use Rattle.std.proofs.Common.{◌≡◌, ◌+◌, ◌*◌, ◌++◌, ◌∷◌, [], List, append_assoc, refl, sym, ◌∙◌, ap, arith}
+use Rattle.bbm_oracle_trees.proofs.Pages.{nodes_of_pages_more}
+use Rattle.bbm_oracle_trees.proofs.starts.add_pages.Goals as goal
+
+pub loop-index-preserved : goal.loop-index-preserved
+loop-index-preserved c =
+    let more = nodes_of_pages_more c.args.kind c.args.level c.args.root c.args.first c.args.root c.loop-index.index in
+    rw (c.in_ok-add.ensures, c.loop-index.invariant, more, c.page_behind.ensures, c.input_pages-size.ensures.value, c.new.ensures.items, append_assoc) refl

@@ -1,0 +1,8 @@
+use Rattle.std.proofs.Common.{◌≡◌, ◌++◌}
+use Rattle.bbm_rules.specs.Roots.{pages_from}
+use Rattle.bbm_rules.specs.Tree.{nodes_of_pages}
+use Rattle.bbm_oracle_trees.proofs.starts.add_pages.Given as goal
+
+abbrev pub invariant-loop-index : goal.invariant-loop-index
+invariant-loop-index l =
+    l.nodes.items ≡ l.initial.nodes.items ++ nodes_of_pages l.kind l.level l.root l.first (pages_from l.root l.index)

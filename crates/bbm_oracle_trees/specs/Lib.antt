@@ -1,0 +1,4 @@
+pub mod Fits
+pub mod Past
+pub mod Phases
+pub mod Views

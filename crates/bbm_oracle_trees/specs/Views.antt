@@ -1,0 +1,52 @@
+-- The parts of what a TLBI sees and covers, as the definitions of the rules have them, over an annotated history. No
+-- public contract cites these words. Source: project's own choice.
+use Rattle.std.specs.Option.{option_map_or}
+use Rattle.std.specs.Prelude.{◌≡◌, ℕ, List, [], ◌∷◌, Option, is_some, flat_map, All}
+use Rattle.bbm_descriptor.specs.Descriptor.{desc_of}
+use Rattle.bbm_tlbi_scope.specs.declared.entry.Cover.{Cover}
+use Rattle.bbm_tlbi_scope.specs.declared.entry.Cover.TheVariants.{None as NoCover}
+use Rattle.bbm_tlbi_scope.specs.declared.entry.PlaceView.{PlaceView}
+use Rattle.bbm_tlbi_scope.specs.Covers.{cover_of}
+use Rattle.bbm_rules.specs.Prelude.{Heading, Event, Scope}
+use Rattle.bbm_rules.specs.Claims.{Patterns}
+use Rattle.bbm_rules.specs.Covers.{is_global, view_at}
+use Rattle.bbm_rules.specs.Notes.{Noted, events_of}
+use Rattle.bbm_rules.specs.Tags.{tag_set, tags_of}
+use Rattle.bbm_rules.specs.Tree.{Node, is_childless, next_of, region_of}
+use Rattle.bbm_rules.specs.Values.{places_in}
+use Rattle.bbm_oracle_patterns.specs.declared.kept.Covered.{Covered}
+use Rattle.bbm_oracle_trees.specs.declared.covers.RootTags.{RootTags}
+
+-- the entry of a place that is covered so far; none where it isn't covered
+abbrev pub entry_of : ℕ → Cover → List Covered
+entry_of place NoCover = []
+entry_of place cover = record { place = place; cover = cover } ∷ []
+
+module _ (heading : Heading) (h : List Noted) where
+  -- how a TLBI sees a place of a node that holds this value
+  abbrev pub view_of : Node → ℕ → ℕ → PlaceView
+  view_of n place value = record {
+    kind = n.kind;
+    region = region_of n place;
+    level = n.level;
+    table = is_some (next_of n.kind n.level value);
+    global = is_global (desc_of n.kind n.level value);
+    childless = is_childless heading Patterns h n value;
+    tags = tag_set (tags_of heading Patterns n.root (events_of h));
+  }
+
+  -- how far a TLBI of this scope, under this VMID, covers a place
+  abbrev pub cover_under : Scope → Option ℕ → ℕ → Cover
+  cover_under scope vmid place = option_map_or (cover_of scope vmid) (view_at heading Patterns h place) NoCover
+
+  -- its entry
+  abbrev pub covered_under : Scope → Option ℕ → ℕ → List Covered
+  covered_under scope vmid place = entry_of place (cover_under scope vmid place)
+
+  -- the entries of the places of the page of a node
+  abbrev pub covers_of_page : Scope → Option ℕ → Node → List Covered
+  covers_of_page scope vmid n = flat_map (covered_under scope vmid) (places_in (events_of h) n.page)
+
+-- each is the tag set of its root
+abbrev pub AreTags : Heading → List Event → List RootTags → Type 0
+AreTags heading h known = All (λ k. k.tags ≡ tag_set (tags_of heading Patterns k.root h)) known

@@ -1,0 +1,252 @@
+//! Which places an event covers, and how far.
+
+ghost use Rattle.std.specs.Prelude.{◌≡◌, ◌≤◌, ℕ, ◌++◌, flat_map, Option, IfOk, OnOk};
+ghost use Rattle.std.specs.Option.{option_map_or};
+ghost use Rattle.bbm_descriptor.specs.Descriptor.{desc_of};
+ghost use Rattle.bbm_tlbi_scope.specs.declared.entry.Cover.TheVariants.{None as NoCover};
+ghost use Rattle.bbm_tlbi_scope.specs.Covers.{cover_of};
+ghost use Rattle.bbm_rules.specs.Claims.{Patterns};
+ghost use Rattle.bbm_rules.specs.Covers as covering;
+ghost use Rattle.bbm_rules.specs.Notes.{events_of};
+ghost use Rattle.bbm_rules.specs.Registers.{vmid_of};
+ghost use Rattle.bbm_rules.specs.Tags.{tag_set, tags_of};
+ghost use Rattle.bbm_rules.specs.Tree as trees;
+ghost use Rattle.bbm_rules.specs.Values.{places_in};
+ghost use Rattle.bbm_oracle_patterns.specs.Kept.{cover_in};
+ghost use Rattle.bbm_oracle_trees.specs.Past.{notes};
+ghost use Rattle.bbm_oracle_trees.specs.Views.{AreTags, cover_under, covered_under, entry_of, view_of};
+
+use crate::log::Log;
+use crate::node::Node;
+use crate::tree::{first_of, is_childless, next_page};
+use bbm_descriptor::{Desc, read};
+use bbm_events::Event;
+use bbm_oracle_patterns::Covered;
+use bbm_regimes::{Kind, NoMemory, Page, Pe, Place};
+use bbm_tlbi_scope::{Cover, PlaceView, Scope, TagSet, cover};
+use std::alloc::Global;
+
+/// The tags that a root holds. Source: project's own choice.
+#[derive(Clone, Copy, Debug)]
+pub struct RootTags {
+    /// The first page of the root.
+    pub root: Page,
+    /// The tags.
+    pub tags: TagSet,
+}
+
+// The tags of each declared root.
+fn root_tags(alloc: Global, log: &Log) -> Result<Vec<RootTags>, NoMemory>
+    ensures { IfOk result (λ known. AreTags log.now.heading (events_of (notes log.now)) known.items) }
+{
+    let mut known = Vec::new(alloc);
+    for root in &log.roots(alloc)? {
+        let tags = log.tag_set_of(alloc, root.page)?;
+        known
+            .push(RootTags { root: root.page, tags })
+            .map_err(|_| NoMemory)?;
+    }
+    Ok(known)
+}
+
+// The tags of the root, of those that are known where it is among them.
+fn tags_at(
+    alloc: Global,
+    log: &Log,
+    known: &[RootTags],
+    root: Page,
+) -> Result<TagSet, NoMemory>
+    requires { AreTags log.now.heading (events_of (notes log.now)) known.now }
+    ensures { IfOk result (λ tags. tags ≡ tag_set (tags_of log.now.heading Patterns root (events_of (notes log.now)))) }
+{
+    for held in known {
+        if held.root == root {
+            return Ok(held.tags);
+        }
+    }
+    log.tag_set_of(alloc, root)
+}
+
+// Whether the value, at this kind and level, is a leaf for every ASID.
+fn is_global(kind: Kind, level: u8, value: u64) -> bool
+    requires { level ≤ 3 }
+    ensures { result ≡ covering.is_global (desc_of kind level value) }
+{
+    match read(kind, level, value) {
+        Desc::Leaf { global, .. } => global,
+        _ => false,
+    }
+}
+
+// How a TLBI sees a place of the page that holds this value.
+fn view(
+    alloc: Global,
+    log: &Log,
+    known: &[RootTags],
+    node: &Node,
+    place: Place,
+    value: u64,
+) -> Result<PlaceView, NoMemory>
+    requires { AreTags log.now.heading (events_of (notes log.now)) known.now }
+    ensures { IfOk result (λ view. view ≡ view_of log.now.heading (notes log.now) node.now place value) }
+{
+    let childless = is_childless(alloc, log, node, value)?;
+    let tags = tags_at(alloc, log, known, node.root)?;
+    Ok(PlaceView {
+        kind: node.kind,
+        region: node.region(place),
+        level: node.level,
+        table: next_page(node.kind, node.level, value).is_some(),
+        global: is_global(node.kind, node.level, value),
+        childless,
+        tags,
+    })
+}
+
+// How far a TLBI of this scope, under this VMID, covers a place of the page.
+fn cover_in_node(
+    alloc: Global,
+    log: &Log,
+    known: &[RootTags],
+    scope: &Scope,
+    vmid: Option<u16>,
+    node: &Node,
+    place: Place,
+) -> Result<Cover, NoMemory>
+    requires { AreTags log.now.heading (events_of (notes log.now)) known.now }
+    ensures { IfOk result (λ cover. cover ≡ option_map_or
+        (λ value. cover_of scope.now vmid (view_of log.now.heading (notes log.now) node.now place value))
+        (trees.held_at log.now.heading Patterns (notes log.now) node.now place) NoCover) }
+{
+    match log.held(node.kind, node.level, place) {
+        Some(value) => match view(alloc, log, known, node, place, value) {
+            Ok(view) => Ok(cover(*scope, vmid, view)),
+            Err(_) => Err(NoMemory),
+        },
+        None => Ok(Cover::None),
+    }
+}
+
+// How far a TLBI of this scope, under this VMID, covers the place, where these are the trees.
+fn cover_at(
+    alloc: Global,
+    log: &Log,
+    tree: &[Node],
+    known: &[RootTags],
+    scope: &Scope,
+    vmid: Option<u16>,
+    place: Place,
+) -> Result<Cover, NoMemory>
+    requires tree { tree.now ≡ trees.tree log.now.heading Patterns (notes log.now) }
+    requires known { AreTags log.now.heading (events_of (notes log.now)) known.now }
+    ensures { IfOk result (λ cover. cover ≡ cover_under log.now.heading (notes log.now) scope.now vmid place) }
+{
+    match first_of(tree, place.page()) {
+        Some(node) => cover_in_node(alloc, log, known, scope, vmid, node, place),
+        None => Ok(Cover::None),
+    }
+}
+
+// Adds the place, where it is covered at all.
+fn add_cover(covers: &mut Vec<Covered>, place: Place, cover: Cover) -> Result<(), NoMemory>
+    ensures { OnOk result (covers.new.items ≡ covers.old.items ++ entry_of place cover) }
+{
+    match cover {
+        Cover::None => Ok(()),
+        Cover::Half | Cover::Second | Cover::Full => covers
+            .push(Covered { place, cover })
+            .map_err(|_| NoMemory),
+    }
+}
+
+// Adds how far a TLBI covers each place of the page.
+fn add_covers(
+    alloc: Global,
+    log: &Log,
+    tree: &[Node],
+    known: &[RootTags],
+    scope: &Scope,
+    vmid: Option<u16>,
+    page: Page,
+    covers: &mut Vec<Covered>,
+) -> Result<(), NoMemory>
+    requires tree { tree.now ≡ trees.tree log.now.heading Patterns (notes log.now) }
+    requires known { AreTags log.now.heading (events_of (notes log.now)) known.now }
+    ensures { OnOk result (covers.new.items ≡ covers.old.items
+        ++ flat_map (covered_under log.now.heading (notes log.now) scope.now vmid) (places_in (events_of (notes log.now)) page)) }
+{
+    for place in &log.places_in(alloc, page)? {
+        let cover = cover_at(alloc, log, tree, known, scope, vmid, *place)?;
+        add_cover(covers, *place, cover)?;
+    }
+    Ok(())
+}
+
+// How far a TLBI of this scope, under this VMID, covers each place of the trees, page by page.
+fn covers_under(
+    alloc: Global,
+    log: &Log,
+    tree: &[Node],
+    scope: &Scope,
+    vmid: Option<u16>,
+) -> Result<Vec<Covered>, NoMemory>
+    requires { tree.now ≡ trees.tree log.now.heading Patterns (notes log.now) }
+    ensures { IfOk result (λ covers. (place : ℕ) → cover_in covers.items place
+        ≡ cover_under log.now.heading (notes log.now) scope.now vmid place) }
+{
+    let known = root_tags(alloc, log)?;
+    let mut covers = Vec::new(alloc);
+    for node in tree {
+        add_covers(
+            alloc,
+            log,
+            tree,
+            &known,
+            scope,
+            vmid,
+            node.page,
+            &mut covers,
+        )?;
+    }
+    Ok(covers)
+}
+
+// How far a TLBI covers each place, where these are the trees.
+fn tlbi_covers(
+    alloc: Global,
+    log: &Log,
+    tree: &[Node],
+    pe: Pe,
+    scope: &Scope,
+) -> Result<Vec<Covered>, NoMemory>
+    requires { tree.now ≡ trees.tree log.now.heading Patterns (notes log.now) }
+    ensures { IfOk result (λ covers. (place : ℕ) → cover_in covers.items place
+        ≡ cover_under log.now.heading (notes log.now) scope.now (vmid_of log.now.heading (events_of (notes log.now)) pe) place) }
+{
+    match log.vmid_of(alloc, pe) {
+        Ok(vmid) => covers_under(alloc, log, tree, scope, vmid),
+        Err(_) => Err(NoMemory),
+    }
+}
+
+/// The places of the trees that the event, coming after those of the log, covers, and how far. `NoMemory` where there is
+/// none. Source: Arm ARM (DDI 0487), "TLB maintenance instructions"; the grades of cover are the project's own choice.
+pub fn covers_of(
+    alloc: Global,
+    log: &Log,
+    tree: &[Node],
+    event: &Event,
+) -> Result<Vec<Covered>, NoMemory>
+    requires { tree.now ≡ trees.tree log.now.heading Patterns (notes log.now) }
+    ensures { IfOk result (λ covers. (place : ℕ) → cover_in covers.items place
+        ≡ covering.cover_at log.now.heading Patterns (notes log.now) event.now place) }
+{
+    match *event {
+        Event::Tlbi { pe, op, xt } => match log.named_scope(alloc, pe, op, xt) {
+            Ok(Some(scope)) => tlbi_covers(alloc, log, tree, pe, &scope),
+            Ok(None) => Ok(Vec::new(alloc)),
+            Err(_) => Err(NoMemory),
+        },
+        _ => Ok(Vec::new(alloc)),
+    }
+}

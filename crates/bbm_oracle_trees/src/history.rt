@@ -1,0 +1,198 @@
+//! The history of a log: the events taken, the trees after them, and the fresh pages.
+
+ghost use Rattle.std.specs.Prelude.{◌≡◌, ◌∷◌, ◌&&◌, ℕ, [], true, not, reverse, IfOk, OnOk, OnErr, option_copied};
+ghost use Rattle.bbm_events.specs.Fits.{fits_heading};
+ghost use Rattle.bbm_rules.specs.Claims.{Patterns};
+ghost use Rattle.bbm_rules.specs.Covers.{note};
+ghost use Rattle.bbm_rules.specs.Lists.{among};
+ghost use Rattle.bbm_rules.specs.Notes.{events_of};
+ghost use Rattle.bbm_rules.specs.Pages as pages;
+ghost use Rattle.bbm_rules.specs.Tree as trees;
+ghost use Rattle.bbm_rules.specs.Values.{value_of};
+ghost use Rattle.bbm_oracle_patterns.specs.Phases.{phase_at};
+ghost use Rattle.bbm_oracle_trees.specs.Past.{notes};
+ghost use Rattle.bbm_oracle_trees.specs.Phases.{phase_among};
+
+use crate::covers::covers_of;
+use crate::fresh::{fresh_after, has};
+use crate::limbo::in_limbo;
+use crate::log::Log;
+use crate::node::Node;
+use crate::tree::{first_of, is_childless, tree_of};
+use bbm_events::{Event, Header};
+use bbm_oracle_patterns::Kept;
+use bbm_regimes::{NoMemory, Page, Pe, Place};
+use bbm_rules::Phase;
+use std::alloc::Global;
+use std::marker::Model;
+
+/// The trees after some events, and the fresh pages. Source: project's own choice.
+#[derive(Drop)]
+pub struct Trees {
+    /// The pages of the trees, level by level.
+    pub nodes: Vec<Node>,
+    /// The fresh pages.
+    pub fresh: Vec<Page>,
+}
+
+/// A header and the events taken, with the trees and the fresh pages after them. A clause sees the header and the
+/// events, the newest first, each with the places that it covered. Source: project's own choice.
+#[derive(Drop)]
+pub struct History {
+    log: Log,
+    trees: Trees,
+}
+
+impl Model for History {
+    ghost use Rattle.std.specs.Prelude.{◌≡◌, ℕ};
+    ghost use Rattle.bbm_rules.specs.Claims.{Patterns};
+    ghost use Rattle.bbm_rules.specs.Lists.{among};
+    ghost use Rattle.bbm_rules.specs.Pages.{is_fresh};
+    ghost use Rattle.bbm_rules.specs.Tree.{tree};
+    ghost use Rattle.bbm_oracle_trees.specs.Past.{Past, notes};
+
+    ghost Value = { Past };
+
+    ghost view = { λ h. h.log };
+
+    ghost invariant = { λ h. (h.trees.nodes.items ≡ tree h.log.heading Patterns (notes h.log))
+        × ((page : ℕ) → among page h.trees.fresh.items ≡ is_fresh h.log.heading Patterns (notes h.log) page) };
+}
+
+// The trees and the fresh pages after the newest event, where these pages were fresh before it.
+fn trees_after(
+    alloc: Global,
+    log: &Log,
+    fresh: &[Page],
+    event: &Event,
+) -> Result<Trees, NoMemory>
+    ensures nodes { IfOk result (λ made. made.nodes.items ≡ trees.tree log.now.heading Patterns (notes log.now)) }
+    ensures fresh { IfOk result (λ made. (page : ℕ) → among page made.fresh.items
+        ≡ (pages.may_be_fresh event.now page (among page fresh.now)
+        && not (trees.in_tree log.now.heading Patterns (notes log.now) page))) }
+{
+    let nodes = tree_of(alloc, log)?;
+    let fresh = fresh_after(alloc, fresh, event, &nodes)?;
+    Ok(Trees { nodes, fresh })
+}
+
+// The phase at the PE of a place of the page.
+fn phase_of(log: &Log, node: &Node, place: Place, pe: Pe) -> Phase
+    ensures { result ≡ phase_at log.now.heading node.now.kind node.now.level place
+        (value_of (events_of (notes log.now)) place) pe (notes log.now) }
+{
+    let value = log.value_of(place);
+    log.phase_in(node.kind, node.level, place, value, pe)
+}
+
+impl History {
+    /// The history of this header with no event. It takes no room yet.
+    pub fn new(alloc: Global, header: &Header) -> History
+        ensures { result ≡ record { heading = header.now; kept = [] } }
+    {
+        History {
+            log: Log::new(alloc, header),
+            trees: Trees {
+                nodes: Vec::new(alloc),
+                fresh: Vec::new(alloc),
+            },
+        }
+    }
+
+    /// The header.
+    pub fn header(&self) -> &Header
+        ensures { result.now ≡ self.now.heading }
+    {
+        self.log.header()
+    }
+
+    /// The events taken, oldest first.
+    pub fn events(&self) -> &[Event]
+        ensures { reverse result.now ≡ events_of (notes self.now) }
+    {
+        self.log.events()
+    }
+
+    /// The events taken with the places that each covered, oldest first.
+    pub fn log(&self) -> &[Kept]
+        ensures { reverse result.now ≡ self.now.kept }
+    {
+        self.log.kept()
+    }
+
+    /// The pages of the trees, level by level.
+    pub fn tree(&self) -> &[Node]
+        ensures { result.now ≡ trees.tree self.now.heading Patterns (notes self.now) }
+    {
+        &self.trees.nodes
+    }
+
+    /// The page in its tree, the first of them where it is in several; None where it is in no tree.
+    pub fn node_of(&self, page: Page) -> Option<&Node>
+        ensures { option_copied result ≡ trees.node_of self.now.heading Patterns (notes self.now) page }
+    {
+        first_of(self.tree(), page)
+    }
+
+    /// The value that the place holds as one of the page; None where it holds none.
+    pub fn held_at(&self, node: &Node, place: Place) -> Option<u64>
+        ensures { result ≡ trees.held_at self.now.heading Patterns (notes self.now) node.now place }
+    {
+        self.log.held(node.kind, node.level, place)
+    }
+
+    /// Whether the present value of a place above the page is invalid.
+    pub fn in_limbo(&self, node: &Node) -> bool
+        ensures { result ≡ trees.in_limbo (notes self.now) node.now }
+    {
+        in_limbo(&self.log, node)
+    }
+
+    /// Whether the value, at the kind and the level of the page, is a table no place of which holds anything. `NoMemory`
+    /// where there is none.
+    pub fn is_childless(&self, alloc: Global, node: &Node, value: u64) -> Result<bool, NoMemory>
+        ensures { IfOk result (λ childless. childless
+            ≡ trees.is_childless self.now.heading Patterns (notes self.now) node.now value) }
+    {
+        is_childless(alloc, &self.log, node, value)
+    }
+
+    /// Whether the page was initialised, has been in no tree since its last init, and wasn't declared null since.
+    pub fn is_fresh(&self, page: Page) -> bool
+        ensures { result ≡ pages.is_fresh self.now.heading Patterns (notes self.now) page }
+    {
+        has(&self.trees.fresh, page)
+    }
+
+    /// The phase of the place at the PE: clean where the place is in no tree or holds nothing.
+    pub fn phase(&self, place: Place, pe: Pe) -> Phase
+        ensures { result ≡ phase_among self.now.heading (notes self.now) place pe }
+    {
+        match self.node_of(place.page()) {
+            Some(node) => phase_of(&self.log, node, place, pe),
+            None => Phase::Clean,
+        }
+    }
+
+    /// Takes one more event, which fits the header. `NoMemory` where there is none; then the history is as before.
+    pub fn take(&mut self, alloc: Global, event: Event) -> Result<(), NoMemory>
+        requires { fits_heading self.old.heading event ≡ true }
+        ensures heading { self.new.heading ≡ self.old.heading }
+        ensures taken { OnOk result (notes self.new
+            ≡ note self.old.heading Patterns (notes self.old) event ∷ notes self.old) }
+        ensures unchanged { OnErr result (self.new ≡ self.old) }
+    {
+        let covers = covers_of(alloc, &self.log, &self.trees.nodes, &event)?;
+        self.log.take(&event, covers)?;
+        match trees_after(alloc, &self.log, &self.trees.fresh, &event) {
+            Ok(trees) => {
+                self.trees = trees;
+                Ok(())
+            }
+            Err(_) => {
+                self.log.forget();
+                Err(NoMemory)
+            }
+        }
+    }
+}

@@ -1,0 +1,18 @@
+//! The trees of translation tables that a list of events makes, and what is asked of them, by a search of the events.
+#![tactic(auto)]
+
+mod covers;
+mod fresh;
+mod history;
+mod limbo;
+mod log;
+mod node;
+mod starts;
+mod tree;
+mod world;
+
+pub use history::History;
+pub use node::{Above, Node};
+
+#[cfg(test)]
+mod tests;

@@ -1,0 +1,175 @@
+//! The events taken.
+
+ghost use Rattle.std.specs.Prelude.{◌≡◌, ◌∷◌, [], true, reverse, drop, All, IfOk, OnOk, OnErr};
+ghost use Rattle.bbm_events.specs.Fits.{fits_heading};
+ghost use Rattle.bbm_rules.specs.Claims.{Patterns};
+ghost use Rattle.bbm_rules.specs.Held as holding;
+ghost use Rattle.bbm_rules.specs.Notes.{events_of};
+ghost use Rattle.bbm_rules.specs.Registers as registers;
+ghost use Rattle.bbm_rules.specs.Roots as roots;
+ghost use Rattle.bbm_rules.specs.Tags as tags;
+ghost use Rattle.bbm_rules.specs.Values as values;
+ghost use Rattle.bbm_oracle_patterns.specs.Phases.{phase_at};
+ghost use Rattle.bbm_oracle_trees.specs.Fits.{fits_root};
+
+
+use bbm_events::{Event, Header};
+use bbm_oracle_patterns::{Covered, Kept, held, phase_in};
+use bbm_oracle_tags::{Declared, named_scope, places_in, roots_of, tag_set_of, value_of, vmid_of};
+use bbm_regimes::{Kind, NoMemory, Page, Pe, Place};
+use bbm_rules::Phase;
+use bbm_tlbi_scope::{Scope, TagSet, TlbiOp};
+use std::alloc::Global;
+use std::marker::Model;
+
+/// A header, and the events taken, each with the places that it covered. A clause sees the events newest first. Source:
+/// project's own choice.
+#[derive(Drop)]
+pub struct Log {
+    header: Header,
+    events: Vec<Event>,
+    kept: Vec<Kept>,
+}
+
+impl Model for Log {
+    ghost use Rattle.std.specs.Prelude.{◌≡◌, true, reverse};
+    ghost use Rattle.bbm_rules.specs.Notes.{events_of};
+    ghost use Rattle.bbm_oracle_patterns.specs.Kept.{notes_of};
+    ghost use Rattle.bbm_oracle_trees.specs.Fits.{all_fit};
+    ghost use Rattle.bbm_oracle_trees.specs.Past.{Past};
+
+    ghost Value = { Past };
+
+    ghost view = { λ l. record { heading = l.header; kept = reverse l.kept.items } };
+
+    ghost invariant = { λ l. (reverse l.events.items ≡ events_of (notes_of (reverse l.kept.items)))
+        × (all_fit l.header (reverse l.events.items) ≡ true) };
+}
+
+impl Log {
+    ghost use Rattle.bbm_oracle_trees.specs.Past.{notes};
+
+    /// The log of this header with no event.
+    pub fn new(alloc: Global, header: &Header) -> Log
+        ensures { result ≡ record { heading = header.now; kept = [] } }
+    {
+        Log {
+            header: *header,
+            events: Vec::new(alloc),
+            kept: Vec::new(alloc),
+        }
+    }
+
+    /// The header.
+    pub fn header(&self) -> &Header
+        ensures { result.now ≡ self.now.heading }
+    {
+        &self.header
+    }
+
+    /// The events, oldest first.
+    pub fn events(&self) -> &[Event]
+        ensures { reverse result.now ≡ events_of (notes self.now) }
+    {
+        &self.events
+    }
+
+    /// The events with the places that each covered, oldest first.
+    pub fn kept(&self) -> &[Kept]
+        ensures { reverse result.now ≡ self.now.kept }
+    {
+        &self.kept
+    }
+
+    /// The value of the place.
+    pub fn value_of(&self, place: Place) -> u64
+        ensures { result ≡ values.value_of (events_of (notes self.now)) place }
+    {
+        value_of(self.events(), place)
+    }
+
+    /// The places of the page that were ever written. `NoMemory` where there is none.
+    pub fn places_in(&self, alloc: Global, page: Page) -> Result<Vec<Place>, NoMemory>
+        ensures { IfOk result (λ places. places.items ≡ values.places_in (events_of (notes self.now)) page) }
+    {
+        places_in(alloc, self.events(), page)
+    }
+
+    /// The declared roots. `NoMemory` where there is none.
+    pub fn roots(&self, alloc: Global) -> Result<Vec<Declared>, NoMemory>
+        ensures roots { IfOk result (λ found. found.items ≡ roots.roots_of (events_of (notes self.now))) }
+        ensures fit { IfOk result (λ found. All (λ root. fits_root self.now.heading root ≡ true) found.items) }
+    {
+        roots_of(alloc, &self.events)
+    }
+
+    /// The value that the place holds, at this kind and level.
+    pub fn held(&self, kind: Kind, level: u8, place: Place) -> Option<u64>
+        ensures { result ≡ holding.held self.now.heading Patterns kind level place (notes self.now) }
+    {
+        held(self.header(), self.kept(), kind, level, place)
+    }
+
+    /// The phase at the PE of a place of a tree, at this kind and level, with this value.
+    pub fn phase_in(&self, kind: Kind, level: u8, place: Place, value: u64, pe: Pe) -> Phase
+        ensures { result ≡ phase_at self.now.heading kind level place value pe (notes self.now) }
+    {
+        phase_in(self.header(), self.kept(), kind, level, place, value, pe)
+    }
+
+    /// The VMID under which the PE issues its TLBIs. `NoMemory` where there is none.
+    pub fn vmid_of(&self, alloc: Global, pe: Pe) -> Result<Option<u16>, NoMemory>
+        ensures { IfOk result (λ vmid. vmid ≡ registers.vmid_of self.now.heading (events_of (notes self.now)) pe) }
+    {
+        vmid_of(alloc, self.header(), self.events(), pe)
+    }
+
+    /// What a TLBI names at its issue. `NoMemory` where there is none.
+    pub fn named_scope(
+        &self,
+        alloc: Global,
+        pe: Pe,
+        op: TlbiOp,
+        xt: u64,
+    ) -> Result<Option<Scope>, NoMemory>
+        ensures { IfOk result (λ scope. scope
+            ≡ registers.named_scope self.now.heading (events_of (notes self.now)) pe op xt) }
+    {
+        named_scope(alloc, self.header(), self.events(), pe, op, xt)
+    }
+
+    /// The tags that the root holds. `NoMemory` where there is none.
+    pub fn tag_set_of(&self, alloc: Global, root: Page) -> Result<TagSet, NoMemory>
+        ensures { IfOk result (λ found. found
+            ≡ tags.tag_set (tags.tags_of self.now.heading Patterns root (events_of (notes self.now)))) }
+    {
+        tag_set_of(alloc, self.header(), self.events(), root.get())
+    }
+
+    /// Takes one more event. `NoMemory` where there is none; then it is as before.
+    pub fn take(&mut self, event: &Event, covers: Vec<Covered>) -> Result<(), NoMemory>
+        requires { fits_heading self.old.heading event.now ≡ true }
+        ensures heading { self.new.heading ≡ self.old.heading }
+        ensures taken { OnOk result (self.new.kept ≡ record { event = event.now; covers = covers } ∷ self.old.kept) }
+        ensures unchanged { OnErr result (self.new ≡ self.old) }
+    {
+        let kept = Kept {
+            event: *event,
+            covers,
+        };
+        self.events.reserve(1).map_err(|_| NoMemory)?;
+        self.kept.reserve(1).map_err(|_| NoMemory)?;
+        self.events.push(*event).unwrap();
+        self.kept.push(kept).unwrap();
+        Ok(())
+    }
+
+    /// Forgets the newest event, where there is one.
+    pub fn forget(&mut self)
+        ensures heading { self.new.heading ≡ self.old.heading }
+        ensures kept { self.new.kept ≡ drop 1 self.old.kept }
+    {
+        self.events.pop();
+        self.kept.pop();
+    }
+}

@@ -1,0 +1,193 @@
+//! The trees of the declared roots.
+
+ghost use Rattle.std.specs.Prelude.{◌≡◌, ◌≤◌, ◌<◌, ◌==◌, ◌++◌, suc, true, All, find, flat_map, is_some, IfOk, OnOk, IfSome, option_copied, option_to_list};
+ghost use Rattle.bbm_rules.specs.Claims.{Patterns};
+ghost use Rattle.bbm_rules.specs.Lists.{any};
+ghost use Rattle.bbm_rules.specs.Tree as trees;
+ghost use Rattle.bbm_oracle_trees.specs.Fits.{fits_root};
+ghost use Rattle.bbm_oracle_trees.specs.Past.{notes};
+
+use crate::log::Log;
+use crate::node::Node;
+use crate::starts::{add, add_starts};
+use bbm_descriptor::{Desc, read};
+use bbm_oracle_tags::Declared;
+use bbm_regimes::{Kind, NoMemory, Page, Place};
+use std::alloc::Global;
+
+/// The next page of a value at this kind and level, 0 to 3; None where it is no table. Source: Arm ARM (DDI 0487),
+/// "VMSAv8-64 descriptor formats".
+pub fn next_page(kind: Kind, level: u8, value: u64) -> Option<Page>
+    requires { level ≤ 3 }
+    ensures value { result ≡ trees.next_of kind level value }
+    ensures low { IfSome result (λ next. level < 3) }
+{
+    match read(kind, level, value) {
+        Desc::Table { next, .. } => Some(next),
+        _ => None,
+    }
+}
+
+// The page to which a place of the page leads, None where it holds no table.
+fn child_at(
+    alloc: Global,
+    log: &Log,
+    node: &Node,
+    place: Place,
+) -> Result<Option<Node>, NoMemory>
+    ensures { IfOk result (λ child. child ≡ trees.child_at log.now.heading Patterns (notes log.now) node.now place) }
+{
+    match log.held(node.kind, node.level, place) {
+        Some(value) => match next_page(node.kind, node.level, value) {
+            Some(next) => match node.below(alloc, place, next) {
+                Ok(child) => Ok(Some(child)),
+                Err(_) => Err(NoMemory),
+            },
+            None => Ok(None),
+        },
+        None => Ok(None),
+    }
+}
+
+// Adds the page to which a place of the page leads, where there is one.
+fn add_child(
+    alloc: Global,
+    log: &Log,
+    node: &Node,
+    place: Place,
+    nodes: &mut Vec<Node>,
+) -> Result<(), NoMemory>
+    ensures { OnOk result (nodes.new.items ≡ nodes.old.items
+        ++ option_to_list (trees.child_at log.now.heading Patterns (notes log.now) node.now place)) }
+{
+    match child_at(alloc, log, node, place) {
+        Ok(Some(child)) => add(nodes, child),
+        Ok(None) => Ok(()),
+        Err(_) => Err(NoMemory),
+    }
+}
+
+// Adds the pages to which the places of the page lead.
+fn add_children(
+    alloc: Global,
+    log: &Log,
+    node: &Node,
+    nodes: &mut Vec<Node>,
+) -> Result<(), NoMemory>
+    ensures { OnOk result (nodes.new.items ≡ nodes.old.items
+        ++ trees.children log.now.heading Patterns (notes log.now) node.now) }
+{
+    let places = log.places_in(alloc, node.page)?;
+    for place in &places {
+        add_child(alloc, log, node, *place, nodes)?;
+    }
+    Ok(())
+}
+
+// Adds the pages to which the places of these pages lead.
+fn add_below(
+    alloc: Global,
+    log: &Log,
+    parents: &[Node],
+    nodes: &mut Vec<Node>,
+) -> Result<(), NoMemory>
+    ensures { OnOk result (nodes.new.items ≡ nodes.old.items
+        ++ flat_map (trees.children log.now.heading Patterns (notes log.now)) parents.now) }
+{
+    for node in parents {
+        add_children(alloc, log, node, nodes)?;
+    }
+    Ok(())
+}
+
+// The pages of a level: those of the roots whose walks start there, and those below the pages of the level above.
+fn level_nodes(
+    alloc: Global,
+    log: &Log,
+    roots: &[Declared],
+    level: u8,
+    parents: &[Node],
+) -> Result<Vec<Node>, NoMemory>
+    requires { All (λ root. fits_root log.now.heading root ≡ true) roots.now }
+    ensures { IfOk result (λ nodes. nodes.items ≡ flat_map (trees.starts_at log.now.heading level) roots.now
+        ++ flat_map (trees.children log.now.heading Patterns (notes log.now)) parents.now) }
+{
+    let mut nodes = Vec::new(alloc);
+    add_starts(alloc, log.header(), level, roots, &mut nodes)?;
+    add_below(alloc, log, parents, &mut nodes)?;
+    Ok(nodes)
+}
+
+// Adds nodes at the end.
+fn add_all(nodes: &mut Vec<Node>, mut more: Vec<Node>) -> Result<(), NoMemory>
+    ensures { OnOk result (nodes.new.items ≡ nodes.old.items ++ more.items) }
+{
+    nodes.append(&mut more).map_err(|_| NoMemory)
+}
+
+/// The pages of the trees, level by level. `NoMemory` where there is none.
+#[tactic(auto, unfolding(bbm_rules::specs::Tree::tree))]
+pub fn tree_of(alloc: Global, log: &Log) -> Result<Vec<Node>, NoMemory>
+    ensures { IfOk result (λ nodes. nodes.items ≡ trees.tree log.now.heading Patterns (notes log.now)) }
+{
+    let roots = log.roots(alloc)?;
+    let mut nodes = level_nodes(alloc, log, &roots, 0, &[])?;
+    let first = level_nodes(alloc, log, &roots, 1, &nodes)?;
+    let second = level_nodes(alloc, log, &roots, 2, &first)?;
+    let third = level_nodes(alloc, log, &roots, 3, &second)?;
+    add_all(&mut nodes, first)?;
+    add_all(&mut nodes, second)?;
+    add_all(&mut nodes, third)?;
+    Ok(nodes)
+}
+
+/// The first of the nodes that is of this page.
+pub fn first_of(nodes: &[Node], page: Page) -> Option<&Node>
+    ensures { option_copied result ≡ find (λ n. n.page == page) nodes.now }
+{
+    for node in nodes {
+        if node.page == page {
+            return Some(node);
+        }
+    }
+    None
+}
+
+/// Whether one of the nodes is of this page.
+pub fn has_page(nodes: &[Node], page: Page) -> bool
+    ensures { result ≡ is_some (find (λ n. n.page == page) nodes.now) }
+{
+    first_of(nodes, page).is_some()
+}
+
+// Whether one of the places holds something, at this kind and level.
+fn holds_some(log: &Log, kind: Kind, level: u8, places: &[Place]) -> bool
+    ensures { result ≡ any (trees.holds_some log.now.heading Patterns (notes log.now) kind level) places.now }
+{
+    for place in places {
+        if log.held(kind, level, *place).is_some() {
+            return true;
+        }
+    }
+    false
+}
+
+/// Whether the value, at the kind and the level of the page, is a table no place of which holds anything. `NoMemory`
+/// where there is none.
+pub fn is_childless(
+    alloc: Global,
+    log: &Log,
+    node: &Node,
+    value: u64,
+) -> Result<bool, NoMemory>
+    ensures { IfOk result (λ childless. childless
+        ≡ trees.is_childless log.now.heading Patterns (notes log.now) node.now value) }
+{
+    match next_page(node.kind, node.level, value) {
+        Some(next) => {
+            let places = log.places_in(alloc, next)?;
+            Ok(!holds_some(log, node.kind, node.level + 1, &places))
+        }
+        None => Ok(false),
+    }
+}
