@@ -46,7 +46,8 @@ pub record IsWatch (heading : Heading) (p root : ℕ) (tag : Tag) (h : List Even
 abbrev pub awaits_after : Bool → Bool → Bool → Event → ℕ → Bool → Bool
 awaits_after cast takes reads_some (Tlbi pe op xt) q before =
     not reads_some && ((pe == q && (is_cast cast (Tlbi pe op xt) && takes)) || before)
-awaits_after cast takes reads_some (Dsb pe dsb) q before = not reads_some && (before && not (pe == q && answers dsb cast))
+awaits_after cast takes reads_some (Dsb pe dsb) q before =
+    not reads_some && (before && not (pe == q && answers dsb cast))
 awaits_after cast takes reads_some _ q before = not reads_some && before
 
 -- whether the event answers one of the TLBIs that the PEs await

@@ -10,9 +10,9 @@ use bbm_events::Event;
 use bbm_regimes::{NoMemory, Which};
 use std::alloc::Global;
 
-/// The limit that the event reaches after these events, or none: an `init` of a page that was never initialised before,
-/// after 16,384 pages were; a `root` while 1,024 roots are declared; a ninth write of one register by a PE without an ISB
-/// of it between. `NoMemory` where there is none. Source: project's own choice.
+/// The limit that the event reaches after these events, or none: an `init` of a page that was never initialised
+/// before, after 16,384 pages were; a `root` while 1,024 roots are declared; a ninth write of one register by a PE
+/// without an ISB of it between. `NoMemory` where there is none. Source: project's own choice.
 pub fn limit_of(alloc: Global, events: &[Event], event: &Event) -> Result<Option<Which>, NoMemory>
     ensures { IfOk result (λ limit. limit ≡ spec.limit_of (reverse events.now) event.now) }
 {

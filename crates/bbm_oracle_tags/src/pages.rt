@@ -21,8 +21,8 @@ fn null_after(before: bool, event: &Event, page: u64) -> bool
     }
 }
 
-/// Whether the page at this address, in bytes, was declared a null page; false where no page is there. Source: project's
-/// own choice.
+/// Whether the page at this address, in bytes, was declared a null page; false where no page is there. Source:
+/// project's own choice.
 pub fn is_null(events: &[Event], page: u64) -> bool
     ensures { result ≡ spec.is_null (reverse events.now) page }
 {
@@ -58,7 +58,8 @@ pub fn is_initialised(events: &[Event], page: Page) -> bool
 // Whether the event initialises a page for the first time.
 fn is_first_init(before: &[Event], event: &Event) -> bool
     ensures { length (spec.initialised (event.now ∷ reverse before.now))
-        ≡ (if result then length (spec.initialised (reverse before.now)) + 1 else length (spec.initialised (reverse before.now))) }
+        ≡ (if result then length (spec.initialised (reverse before.now)) + 1
+        else length (spec.initialised (reverse before.now))) }
 {
     match *event {
         Event::Init { pe: _, page } => !is_initialised(before, page),
@@ -79,8 +80,8 @@ pub fn count_initialised(events: &[Event]) -> usize
     count
 }
 
-/// Whether a page may be fresh after the event, where it was fresh before it or wasn't, as `before` says: an `init` of it
-/// makes it so, and a `null` of it ends it. Source: project's own choice.
+/// Whether a page may be fresh after the event, where it was fresh before it or wasn't, as `before` says: an `init` of
+/// it makes it so, and a `null` of it ends it. Source: project's own choice.
 pub fn may_be_fresh(event: &Event, page: Page, before: bool) -> bool
     ensures { result ≡ spec.may_be_fresh event.now page before }
 {
@@ -98,7 +99,8 @@ fn has_other_than_0(events: &[Event], places: &[Place]) -> bool
     places.iter().any(|place| value_of(events, *place) != 0)
 }
 
-/// Whether some place of the page has another value than 0. `NoMemory` where there is none. Source: project's own choice.
+/// Whether some place of the page has another value than 0. `NoMemory` where there is none. Source: project's own
+/// choice.
 pub fn has_values(alloc: Global, events: &[Event], page: Page) -> Result<bool, NoMemory>
     ensures { IfOk result (λ found. found ≡ any (λ place. not (values.value_of (reverse events.now) place == 0))
         (values.places_in (reverse events.now) page)) }

@@ -9,8 +9,8 @@ use bbm_events::{Event, Header};
 use bbm_regimes::Pe;
 
 /// Whether the event is a TLBI that reaches the PE: a broadcast one, or one of the PE itself unless the TLBs share
-/// entries. Source: Arm ARM (DDI 0487), "TLB maintenance instructions"; where TLBs share entries it is the project's own
-/// choice.
+/// entries. Source: Arm ARM (DDI 0487), "TLB maintenance instructions"; where TLBs share entries it is the project's
+/// own choice.
 pub fn reaches(header: &Header, event: &Event, pe: Pe) -> bool
     ensures { result ≡ spec.reaches header.now event.now pe }
 {

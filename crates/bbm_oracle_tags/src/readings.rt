@@ -58,10 +58,11 @@ pub fn is_read_for_some(readings: &[Reading], tag: Tag) -> bool
 }
 
 /// The tags that are readable at the PE, each with its root: `El2` for the base of each readable value of TTBR0_EL2;
-/// `Vmid` of a readable value of VTTBR_EL2 for its base; `Ttbr1` for the base of each readable value of TTBR1_EL1; `Asid`
-/// for the base of a readable value of TTBR0_EL1, with the ASID of that value or of a readable value of TTBR1_EL1, as the
-/// header says. Only bases of declared roots of the register's kind count. `NoMemory` where there is none. Source: Arm ARM
-/// (DDI 0487), "Translation Lookaside Buffers", and TCR_EL1.A1 of "AArch64 System register descriptions".
+/// `Vmid` of a readable value of VTTBR_EL2 for its base; `Ttbr1` for the base of each readable value of TTBR1_EL1;
+/// `Asid` for the base of a readable value of TTBR0_EL1, with the ASID of that value or of a readable value of
+/// TTBR1_EL1, as the header says. Only bases of declared roots of the register's kind count. `NoMemory` where there is
+/// none. Source: Arm ARM (DDI 0487), "Translation Lookaside Buffers", and TCR_EL1.A1 of "AArch64 System register
+/// descriptions".
 pub fn readings_at(
     alloc: Global,
     header: &Header,

@@ -89,8 +89,8 @@ pub fn take_value(values: &mut Vec<u64>, event: &Event, pe: Pe, reg: Reg) -> Res
     }
 }
 
-/// The values of the PE's register that may still be in use, the newest first. `NoMemory` where there is none. Source: Arm
-/// ARM (DDI 0487), "Context synchronization event".
+/// The values of the PE's register that may still be in use, the newest first. `NoMemory` where there is none. Source:
+/// Arm ARM (DDI 0487), "Context synchronization event".
 pub fn register_values(
     alloc: Global,
     events: &[Event],
@@ -148,8 +148,8 @@ pub fn vmid_of(
     }
 }
 
-/// Whether the operation needs the VMID of its issuer, which may still use several. `NoMemory` where there is none. Source:
-/// project's own choice.
+/// Whether the operation needs the VMID of its issuer, which may still use several. `NoMemory` where there is none.
+/// Source: project's own choice.
 pub fn lacks_vmid(
     alloc: Global,
     header: &Header,

@@ -133,7 +133,8 @@ fn root_after(root: Option<Declared>, event: &Event, page: u64) -> Option<Declar
     }
 }
 
-/// The root whose first page has this address, in bytes; None where none is declared there. Source: project's own choice.
+/// The root whose first page has this address, in bytes; None where none is declared there. Source: project's own
+/// choice.
 pub fn root_at(events: &[Event], page: u64) -> Option<Declared>
     ensures { result ≡ spec.root_at (reverse events.now) page }
 {

@@ -1,5 +1,6 @@
-//! The rules that need no tree. Each function says whether an event breaks its rule after the given events: None where it
-//! doesn't, else the number that is reported as `at`. Each contract speaks of every annotated history of these events.
+//! The rules that need no tree. Each function says whether an event breaks its rule after the given events: None where
+//! it doesn't, else the number that is reported as `at`. Each contract speaks of every annotated history of these
+//! events.
 
 ghost use Rattle.std.specs.Prelude.{◌≡◌, not, ◌&&◌, ◌||◌, nat_le, nat_lt, ◌==◌, ◌%◌, length, flat_map, option_and_then, ◌∷◌, ◌++◌, [], List, reverse, IfOk, OnOk};
 ghost use Rattle.bbm_regimes.specs.declared.regime.Reg.TheVariants.{Ttbr0El1};
@@ -55,8 +56,8 @@ fn is_wrong_write(header: &Header, reg: Reg, value: u64) -> bool
 }
 
 /// 1, wrong-world: the event has a root kind, a register or a TLBI operation that isn't of the header's world, or is a
-/// `null` in the Hyp world, or an `msr` of a value with bit 0 set under a header of version 2 or later without `cnp`. At: 0.
-/// Source: project's own choice.
+/// `null` in the Hyp world, or an `msr` of a value with bit 0 set under a header of version 2 or later without `cnp`.
+/// At: 0. Source: project's own choice.
 pub fn wrong_world(header: &Header, event: &Event) -> Option<u64>
     ensures { (h : List Noted) → result ≡ spec.wrong_world header.now Patterns h event.now }
 {
@@ -69,9 +70,9 @@ pub fn wrong_world(header: &Header, event: &Event) -> Option<u64>
     }
 }
 
-/// Whether the root with this first page, by its address in bytes, names a lock that the PE doesn't hold: None where not,
-/// else the number `at`. Rule 2, no-lock, asks it of an `unroot` of the page, and of a write of a place in the root's tree.
-/// Source: project's own choice.
+/// Whether the root with this first page, by its address in bytes, names a lock that the PE doesn't hold: None where
+/// not, else the number `at`. Rule 2, no-lock, asks it of an `unroot` of the page, and of a write of a place in the
+/// root's tree. Source: project's own choice.
 pub fn without_lock(events: &[Event], pe: Pe, root: u64, at: u64) -> Option<u64>
     ensures { result ≡ option_and_then (λ lock. lists.if_so (spec.lacks (reverse events.now) pe lock) at)
         (roots.lock_of (reverse events.now) root) }
@@ -112,9 +113,9 @@ fn is_rootless(events: &[Event], reg: Reg, base: u64) -> bool
     }
 }
 
-/// 11, no-root: a register is given a value other than 0 whose base is neither the first page of a declared root of the
-/// register's kind nor, in TTBR0_EL1, a null page; or an `unroot` names no first page of a declared root. At: the base, or
-/// the page. Source: project's own choice.
+/// 11, no-root: a register is given a value other than 0 whose base is neither the first page of a declared root of
+/// the register's kind nor, in TTBR0_EL1, a null page; or an `unroot` names no first page of a declared root. At: the
+/// base, or the page. Source: project's own choice.
 pub fn no_root(events: &[Event], event: &Event) -> Option<u64>
     ensures { (h : List Noted) (header : Heading) → events_of h ≡ reverse events.now
         → result ≡ spec.no_root header Patterns h event.now }
@@ -209,8 +210,8 @@ fn conflicts(alloc: Global, header: &Header, after: &[Event], pe: Pe) -> Result<
     Ok(pages)
 }
 
-/// 12, tag-conflict: after the register write a tag is readable at its PE for one root, and another root holds it. At: the
-/// least first page of such another root. `NoMemory` where there is none. Source: project's own choice.
+/// 12, tag-conflict: after the register write a tag is readable at its PE for one root, and another root holds it. At:
+/// the least first page of such another root. `NoMemory` where there is none. Source: project's own choice.
 pub fn tag_conflict(
     alloc: Global,
     header: &Header,
@@ -300,8 +301,8 @@ fn is_used(alloc: Global, header: &Header, events: &[Event], page: u64) -> Resul
     Ok(has_some(set))
 }
 
-/// 13, root-in-use: an `unroot` names a root that is the base of a readable register value at some PE, or that holds a tag.
-/// At: the page. `NoMemory` where there is none. Source: project's own choice.
+/// 13, root-in-use: an `unroot` names a root that is the base of a readable register value at some PE, or that holds a
+/// tag. At: the page. `NoMemory` where there is none. Source: project's own choice.
 pub fn root_in_use(
     alloc: Global,
     header: &Header,
@@ -323,8 +324,8 @@ pub fn root_in_use(
     }
 }
 
-/// 14, unsynced-vmid: in the Hyp world, a TLBI scoped by VMID comes from a PE whose readable values of VTTBR_EL2 have more
-/// than one VMID. At: the PE's number. `NoMemory` where there is none. Source: project's own choice.
+/// 14, unsynced-vmid: in the Hyp world, a TLBI scoped by VMID comes from a PE whose readable values of VTTBR_EL2 have
+/// more than one VMID. At: the PE's number. `NoMemory` where there is none. Source: project's own choice.
 pub fn unsynced_vmid(
     alloc: Global,
     header: &Header,
@@ -356,8 +357,8 @@ pub fn bad_operand(event: &Event) -> Option<u64>
     }
 }
 
-/// 16, lock-busy: a `lock` names a lock that is held, by this PE or another. At: the holder's number. Source: project's own
-/// choice.
+/// 16, lock-busy: a `lock` names a lock that is held, by this PE or another. At: the holder's number. Source:
+/// project's own choice.
 pub fn lock_busy(events: &[Event], event: &Event) -> Option<u64>
     ensures { (h : List Noted) (header : Heading) → events_of h ≡ reverse events.now
         → result ≡ spec.lock_busy header Patterns h event.now }

@@ -65,7 +65,8 @@ fn has_tag(tags: &[Tag], tag: Tag) -> bool
 
 // Adds the tag, unless it is there already.
 fn add_tag(tags: &mut Vec<Tag>, tag: Tag) -> Result<(), NoMemory>
-    ensures kept { OnOk result ((g : TheTag) → sets.has_tag g tags.old.items ≡ true → sets.has_tag g tags.new.items ≡ true) }
+    ensures kept { OnOk result ((g : TheTag) → sets.has_tag g tags.old.items ≡ true
+        → sets.has_tag g tags.new.items ≡ true) }
     ensures added { OnOk result ((g : TheTag) → is_same_tag tag g ≡ true → sets.has_tag g tags.new.items ≡ true) }
 {
     if has_tag(tags, tag) {
@@ -77,7 +78,8 @@ fn add_tag(tags: &mut Vec<Tag>, tag: Tag) -> Result<(), NoMemory>
 
 // Adds the tag of the reading, where it is one of the root.
 fn add_reading(tags: &mut Vec<Tag>, reading: &Reading, root: u64) -> Result<(), NoMemory>
-    ensures kept { OnOk result ((g : TheTag) → sets.has_tag g tags.old.items ≡ true → sets.has_tag g tags.new.items ≡ true) }
+    ensures kept { OnOk result ((g : TheTag) → sets.has_tag g tags.old.items ≡ true
+        → sets.has_tag g tags.new.items ≡ true) }
     ensures added { OnOk result ((g : TheTag) → (is_same_tag reading.now.tag g && reading.now.root == root) ≡ true
         → sets.has_tag g tags.new.items ≡ true) }
 {
@@ -90,7 +92,8 @@ fn add_reading(tags: &mut Vec<Tag>, reading: &Reading, root: u64) -> Result<(), 
 
 // Adds the tags that are readable for the root.
 fn add_readings(tags: &mut Vec<Tag>, readings: &[Reading], root: u64) -> Result<(), NoMemory>
-    ensures kept { OnOk result ((g : TheTag) → sets.has_tag g tags.old.items ≡ true → sets.has_tag g tags.new.items ≡ true) }
+    ensures kept { OnOk result ((g : TheTag) → sets.has_tag g tags.old.items ≡ true
+        → sets.has_tag g tags.new.items ≡ true) }
     ensures added { OnOk result ((g : TheTag) → moments.is_read readings.now g root ≡ true
         → sets.has_tag g tags.new.items ≡ true) }
 {
@@ -109,10 +112,13 @@ fn add_read_now(
     event: &Event,
     root: u64,
 ) -> Result<(), NoMemory>
-    ensures kept { OnOk result ((g : TheTag) → sets.has_tag g tags.old.items ≡ true → sets.has_tag g tags.new.items ≡ true) }
-    ensures added { OnOk result ((p : ℕ) (h : List TheEvent) → moments.IsMoment header.now.world p (event.now ∷ h) moment.now
+    ensures kept { OnOk result ((g : TheTag) → sets.has_tag g tags.old.items ≡ true
+        → sets.has_tag g tags.new.items ≡ true) }
+    ensures added { OnOk result ((p : ℕ) (h : List TheEvent)
+        → moments.IsMoment header.now.world p (event.now ∷ h) moment.now
         → ((g : TheTag) → sets.was_read header.now p root g h ≡ true → sets.has_tag g tags.old.items ≡ true)
-        → (g : TheTag) → sets.was_read header.now p root g (event.now ∷ h) ≡ true → sets.has_tag g tags.new.items ≡ true) }
+        → (g : TheTag) → sets.was_read header.now p root g (event.now ∷ h) ≡ true
+        → sets.has_tag g tags.new.items ≡ true) }
 {
     if changes_readings(event) {
         let readings = moment.readings(alloc, header)?;
@@ -130,7 +136,8 @@ fn add_read_at(
     pe: Pe,
     root: u64,
 ) -> Result<(), NoMemory>
-    ensures kept { OnOk result ((g : TheTag) → sets.has_tag g tags.old.items ≡ true → sets.has_tag g tags.new.items ≡ true) }
+    ensures kept { OnOk result ((g : TheTag) → sets.has_tag g tags.old.items ≡ true
+        → sets.has_tag g tags.new.items ≡ true) }
     ensures added { OnOk result ((g : TheTag) → sets.was_read header.now pe root g (reverse events.now) ≡ true
         → sets.has_tag g tags.new.items ≡ true) }
 {
@@ -216,8 +223,8 @@ fn held_among(
     Ok(set)
 }
 
-/// The tags that the root with this first page, by its address in bytes, holds at any PE. `NoMemory` where there is none.
-/// Source: project's own choice, after Arm ARM (DDI 0487), "Translation Lookaside Buffers".
+/// The tags that the root with this first page, by its address in bytes, holds at any PE. `NoMemory` where there is
+/// none. Source: project's own choice, after Arm ARM (DDI 0487), "Translation Lookaside Buffers".
 pub fn tag_set_of(
     alloc: Global,
     header: &Header,

@@ -202,7 +202,8 @@ impl Watch {
 
     /// The watch before any event. `NoMemory` where there is none.
     pub fn new(alloc: Global) -> Result<Watch, NoMemory>
-        ensures { IfOk result (λ watch. (heading : Heading) (p root : ℕ) (tag : TheTag) → IsWatch heading p root tag [] watch) }
+        ensures { IfOk result (λ watch. (heading : Heading) (p root : ℕ) (tag : TheTag)
+            → IsWatch heading p root tag [] watch) }
     {
         let moment = Moment::new(alloc)?;
         Ok(Watch {
