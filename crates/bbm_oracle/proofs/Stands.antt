@@ -1,7 +1,7 @@
 -- What a kept history that stands for a history tells of it.
-use Rattle.std.proofs.Common.{◌≡◌, ℕ, List, Option, count_by, refl, sym, ◌∙◌, ap}
+use Rattle.std.proofs.Common.{◌≡◌, ℕ, List, count_by, refl, sym, ◌∙◌, ap}
 use Rattle.bbm_rules.specs.Prelude.{Heading, Event}
-use Rattle.bbm_rules.specs.Broken.{Breach, broken, first_broken, rules}
+use Rattle.bbm_rules.specs.Broken.{broken, first_broken, rules}
 use Rattle.bbm_rules.specs.Claims.{Patterns}
 use Rattle.bbm_rules.specs.Covers.{noted}
 use Rattle.bbm_rules.specs.Notes.{Noted, events_of}

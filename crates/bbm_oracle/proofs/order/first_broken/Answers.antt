@@ -1,4 +1,4 @@
-use Rattle.std.proofs.Common.{◌≡◌, Option, Err, sym, ◌∙◌, subst, arith}
+use Rattle.std.proofs.Common.{Option, Err, sym, ◌∙◌, subst, arith}
 use Rattle.std.proofs.lemmas.Result.{err_from_is_err_and}
 use Rattle.bbm_rules.specs.declared.rule.Rule.TheVariants.{WrongWorld}
 use Rattle.bbm_rules.specs.Broken.{Breach}
