@@ -1,6 +1,7 @@
 //! The pages that an event attaches to a tree.
 
-ghost use Rattle.std.specs.Prelude.{◌≡◌, ◌≤◌, ◌<◌, ◌+◌, ◌-◌, ◌++◌, ℕ, true, filter_map, flat_map, map, option_to_list, IfOk, IfSome, OnOk};
+ghost use Rattle.std.specs.Prelude.{◌≡◌, ◌≤◌, ◌<◌, ◌+◌, ◌-◌, ◌++◌, ℕ, true, IfOk, IfSome, OnOk};
+ghost use Rattle.std.specs.Prelude.{filter_map, flat_map, map, option_to_list};
 ghost use Rattle.bbm_events.specs.declared.event.Event.{Event};
 ghost use Rattle.bbm_events.specs.Fits.{fits_heading};
 ghost use Rattle.bbm_rules.specs.Attach as spec;
@@ -149,8 +150,8 @@ fn add_first(level: u8, pages: &[Page], ends: &mut Vec<End>) -> Result<(), NoMem
     Ok(())
 }
 
-// Adds the ends of all longer paths that begin in the pages, read at this kind and level, 0 to 3. `NoMemory` where there
-// is none.
+// Adds the ends of all longer paths that begin in the pages, read at this kind and level, 0 to 3. `NoMemory` where
+// there is none.
 fn add_deeper(
     alloc: Global,
     history: &History,
@@ -161,7 +162,8 @@ fn add_deeper(
 ) -> Result<(), NoMemory>
     requires { level ≤ 3 }
     ensures { OnOk result (ends.new.items ≡ ends.old.items
-        ++ flat_map (spec.ends_below history.now.heading Patterns (notes history.now) kind (3 - level) level) pages.now) }
+        ++ flat_map (spec.ends_below history.now.heading Patterns (notes history.now) kind (3 - level) level)
+        pages.now) }
 {
     for page in pages {
         add_ends(alloc, history, kind, 3 - level, level, *page, ends)?;
@@ -218,8 +220,8 @@ fn attached_by_write(
     }
 }
 
-/// The pages that an event which fits the header attaches, None where it attaches nothing. `NoMemory` where there is none.
-/// Source: project's own choice.
+/// The pages that an event which fits the header attaches, None where it attaches nothing. `NoMemory` where there is
+/// none. Source: project's own choice.
 pub fn attached_by(
     alloc: Global,
     history: &History,

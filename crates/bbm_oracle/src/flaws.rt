@@ -52,7 +52,8 @@ fn has_flaw(flaw: Flaw, kind: Kind, level: u8, value: u64) -> bool
 // The place, where its value has the flaw at this kind and level, 0 to 3.
 fn flawed(history: &History, flaw: Flaw, kind: Kind, level: u8, place: Place) -> Option<u64>
     requires { level ≤ 3 }
-    ensures { result ≡ if_so (spec.has_flaw flaw kind (desc_of kind level (value_at (events_of (notes history.now)) place))) place }
+    ensures { result
+        ≡ if_so (spec.has_flaw flaw kind (desc_of kind level (value_at (events_of (notes history.now)) place))) place }
 {
     if has_flaw(flaw, kind, level, value_of(history.events(), place)) {
         Some(place.get())
@@ -90,7 +91,8 @@ fn least_of_ends(
     ends: &[End],
 ) -> Result<Option<u64>, NoMemory>
     ensures { IfOk result (λ found. found
-        ≡ lists.least (flat_map (rules.places_with (spec.has_flaw flaw) kind (events_of (notes history.now))) ends.now)) }
+        ≡ lists.least (flat_map (rules.places_with (spec.has_flaw flaw) kind (events_of (notes history.now)))
+        ends.now)) }
 {
     let mut found = None;
     for end in ends {
@@ -143,8 +145,9 @@ fn written_with(history: &History, flaw: Flaw, event: &Event) -> Option<u64>
     }
 }
 
-/// The least place at which an event that fits the header puts a descriptor with the flaw into a tree: the place of a tree
-/// that it writes, or a place of a page that it attaches. `NoMemory` where there is none. Source: project's own choice.
+/// The least place at which an event that fits the header puts a descriptor with the flaw into a tree: the place of a
+/// tree that it writes, or a place of a page that it attaches. `NoMemory` where there is none. Source: project's own
+/// choice.
 pub fn made_with(
     alloc: Global,
     history: &History,

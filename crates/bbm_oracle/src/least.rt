@@ -78,8 +78,8 @@ fn with_repeated(found: Option<u64>, page: Page, behind: &[Page]) -> Option<u64>
     }
 }
 
-/// The least of the pages that stand in the list more than once, None where each stands there once. A page is looked for
-/// only where it is less than what was found.
+/// The least of the pages that stand in the list more than once, None where each stands there once. A page is looked
+/// for only where it is less than what was found.
 pub fn least_repeated(pages: &[Page]) -> Option<u64>
     ensures { result ≡ lists.least (lists.repeated pages.now) }
 {

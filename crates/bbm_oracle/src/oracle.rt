@@ -1,6 +1,6 @@
 //! The oracle.
 
-ghost use Rattle.std.specs.Prelude.{◌≡◌, ◌≢◌, ℕ, List, [], ◌∷◌, Bool, true, false, length, IsOk, IfOk, OnOk, OnErr, Err};
+ghost use Rattle.std.specs.Prelude.{◌≡◌, List, [], true, false, IsOk, IfOk};
 ghost use Rattle.std.proofs.Common.{ap};
 ghost use Rattle.bbm_events.specs.declared.event.Event.{Event};
 ghost use Rattle.bbm_events.specs.Fits.{fits_heading};
@@ -11,7 +11,7 @@ ghost use Rattle.bbm_rules.specs.Claims.{Patterns};
 ghost use Rattle.bbm_rules.specs.Limits.{limit_of};
 ghost use Rattle.bbm_rules.specs.Notes.{events_of};
 ghost use Rattle.bbm_rules.specs.Values as values;
-ghost use Rattle.bbm_oracle_trees.specs.Past.{Past, notes};
+ghost use Rattle.bbm_oracle_trees.specs.Past.{notes};
 ghost use Rattle.bbm_oracle.specs.StandsFor.{StandsFor};
 
 use crate::order::{check_limit, judge};
@@ -33,8 +33,8 @@ pub struct Oracle {
 }
 
 impl Oracle {
-    /// An oracle of this header that took no event: it stands for the empty history. It takes room for no event yet, so it
-    /// never answers `NoMemory`.
+    /// An oracle of this header that took no event: it stands for the empty history. It takes room for no event yet, so
+    /// it never answers `NoMemory`.
     pub fn new(alloc: Global, header: &Header) -> Result<Oracle, NoMemory>
         ensures made { IsOk result }
         ensures empty { IfOk result (λ oracle. StandsFor oracle.history header.now []) }
@@ -98,7 +98,8 @@ impl Checker for Oracle {
         roots::is_root(self.history.events(), kind, page.get())
     }
 
-    ghost values = { λ oracle heading h stands place. ap (λ (events : List Event). values.value_of events place) stands.events_are };
+    ghost values = { λ oracle heading h stands place.
+        ap (λ (events : List Event). values.value_of events place) stands.events_are };
 }
 
 impl Fresh for Oracle {

@@ -115,8 +115,8 @@ fn first_broken(
     Ok(())
 }
 
-/// Judges an event that fits the header: Ok where it breaks no rule, else `Broken` with the least rule that it breaks and
-/// the number that is reported with it; `NoMemory` where there is none. Source: project's own choice.
+/// Judges an event that fits the header: Ok where it breaks no rule, else `Broken` with the least rule that it breaks
+/// and the number that is reported with it; `NoMemory` where there is none. Source: project's own choice.
 pub fn judge(alloc: Global, history: &History, event: &Event) -> Result<(), StepFault>
     requires { fits_heading history.now.heading event.now ≡ true }
     ensures { Judges result
@@ -125,8 +125,8 @@ pub fn judge(alloc: Global, history: &History, event: &Event) -> Result<(), Step
     first_broken(alloc, history, event, &RULES)
 }
 
-/// Ok where the event reaches no limit, else `Limit` with the limit; `NoMemory` where there is none. Source: project's own
-/// choice.
+/// Ok where the event reaches no limit, else `Limit` with the limit; `NoMemory` where there is none. Source: project's
+/// own choice.
 pub fn check_limit(alloc: Global, history: &History, event: &Event) -> Result<(), StepFault>
     ensures { Reaches result (limits.limit_of (events_of (notes history.now)) event.now) }
 {

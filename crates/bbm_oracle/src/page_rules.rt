@@ -1,9 +1,8 @@
 //! The rules of pages: fresh pages and pages in use.
 
-ghost use Rattle.std.specs.Prelude.{◌≡◌, ◌++◌, ◌∷◌, [], ℕ, true, IfOk, OnOk};
+ghost use Rattle.std.specs.Prelude.{◌≡◌, ◌++◌, ℕ, true, IfOk, OnOk};
 ghost use Rattle.bbm_events.specs.declared.event.Event.{Event};
 ghost use Rattle.bbm_events.specs.Fits.{fits_heading};
-ghost use Rattle.bbm_regimes.specs.declared.regime.Kind.{Kind as TableKind};
 ghost use Rattle.bbm_rules.specs.Attach as attach;
 ghost use Rattle.bbm_rules.specs.Claims.{Patterns};
 ghost use Rattle.bbm_rules.specs.Lists.{least};
@@ -107,10 +106,10 @@ fn untracked_page(history: &History, event: &Event) -> Option<u64>
     }
 }
 
-/// Not-fresh: a path of the attached pages ends in a page that isn't fresh, where of a `root` the paths of no places don't
-/// count; or two different paths end in one page; or it is a write at a page that is in no tree, isn't fresh and isn't a
-/// null page. The answer is the least such page; `NoMemory` where there is none. The event fits the header. Source:
-/// project's own choice.
+/// Not-fresh: a path of the attached pages ends in a page that isn't fresh, where of a `root` the paths of no places
+/// don't count; or two different paths end in one page; or it is a write at a page that is in no tree, isn't fresh and
+/// isn't a null page. The answer is the least such page; `NoMemory` where there is none. The event fits the header.
+/// Source: project's own choice.
 pub fn not_fresh(alloc: Global, history: &History, event: &Event) -> Result<Option<u64>, NoMemory>
     requires { fits_heading history.now.heading event.now ≡ true }
     ensures { IfOk result (λ at. at ≡ rules.not_fresh history.now.heading Patterns (notes history.now) event.now) }
@@ -150,9 +149,9 @@ fn used_by_null(alloc: Global, history: &History, page: Page) -> Result<Option<u
     }
 }
 
-/// Page-in-use: an `init` names a page of a tree or a null page; a `root` names a page that isn't fresh; a `null` names a
-/// page that isn't fresh or has a value other than 0. The answer is the least such page; `NoMemory` where there is none.
-/// The event fits the header. Source: project's own choice.
+/// Page-in-use: an `init` names a page of a tree or a null page; a `root` names a page that isn't fresh; a `null` names
+/// a page that isn't fresh or has a value other than 0. The answer is the least such page; `NoMemory` where there is
+/// none. The event fits the header. Source: project's own choice.
 pub fn page_in_use(alloc: Global, history: &History, event: &Event) -> Result<Option<u64>, NoMemory>
     requires { fits_heading history.now.heading event.now ≡ true }
     ensures { IfOk result (λ at. at ≡ rules.page_in_use history.now.heading Patterns (notes history.now) event.now) }

@@ -68,8 +68,8 @@ fn root_page_count(header: &Header, kind: Kind, page: Page) -> u8
     page_count(header.world, kind)
 }
 
-/// The pages of a root with this first page; none where the kind isn't one of the header's world. `NoMemory` where there
-/// is none. Source: Arm ARM (DDI 0487), "VMSAv8-64 translation table walks", concatenated translation tables.
+/// The pages of a root with this first page; none where the kind isn't one of the header's world. `NoMemory` where
+/// there is none. Source: Arm ARM (DDI 0487), "VMSAv8-64 translation table walks", concatenated translation tables.
 pub fn root_pages(
     alloc: Global,
     header: &Header,

@@ -1,6 +1,6 @@
 //! Logs judged event by event, with what was worked out by hand.
 
-ghost use Rattle.std.specs.Prelude.{◌≡◌, ◌<◌, true, List, [], length, IfSome};
+ghost use Rattle.std.specs.Prelude.{◌≡◌, ◌<◌, true, List, [], IfSome};
 ghost use Rattle.bbm_events.specs.declared.event.Event.{Event as AnEvent};
 ghost use Rattle.bbm_events.specs.Fits.{fits_heading};
 ghost use Rattle.bbm_oracle.specs.StandsFor.{StandsFor};
@@ -262,8 +262,8 @@ fn accepts(rt: HostRuntime) {
 }
 
 #[test]
-fn names_broken_rules_of_trees(rt: HostRuntime) {
-    let table: [(&[Line], Result<(), StepFault>); 8] = [
+fn names_broken_rules_of_places(rt: HostRuntime) {
+    let table: [(&[Line], Result<(), StepFault>); 4] = [
         (
             &[
                 Init(ROOT),
@@ -284,6 +284,32 @@ fn names_broken_rules_of_trees(rt: HostRuntime) {
             ],
             broken(Rule::BreakBeforeMake, PLACE),
         ),
+        (
+            &[
+                Init(ROOT),
+                Root(El2, ROOT),
+                Write(0, PLACE, 0x0010_0000_8000_0701),
+            ],
+            broken(Rule::BadKind, PLACE),
+        ),
+        (
+            &[
+                Init(STAGE2),
+                Root(S2, STAGE2),
+                Msr(1, VttbrEl2, VTTBR),
+                Tlbi(1, Vmalle1is, 0),
+            ],
+            broken(Rule::UnsyncedVmid, 1),
+        ),
+    ];
+    for (lines, answer) in table {
+        assert!(rt; judged(rt.alloc(), &HYP, lines) == Some((answer, lines.len() as u64 - 1)));
+    }
+}
+
+#[test]
+fn names_broken_rules_of_pages(rt: HostRuntime) {
+    let table: [(&[Line], Result<(), StepFault>); 4] = [
         (
             &[
                 Init(ROOT),
@@ -310,25 +336,8 @@ fn names_broken_rules_of_trees(rt: HostRuntime) {
             broken(Rule::RewrittenFresh, NEXT),
         ),
         (
-            &[
-                Init(ROOT),
-                Root(El2, ROOT),
-                Write(0, PLACE, 0x0010_0000_8000_0701),
-            ],
-            broken(Rule::BadKind, PLACE),
-        ),
-        (
             &[Init(ROOT), Root(El2, ROOT), Init(ROOT)],
             broken(Rule::PageInUse, ROOT),
-        ),
-        (
-            &[
-                Init(STAGE2),
-                Root(S2, STAGE2),
-                Msr(1, VttbrEl2, VTTBR),
-                Tlbi(1, Vmalle1is, 0),
-            ],
-            broken(Rule::UnsyncedVmid, 1),
         ),
     ];
     for (lines, answer) in table {

@@ -61,9 +61,9 @@ fn unbroken_write(history: &History, place: Place, value: u64) -> Option<u64>
     }
 }
 
-/// Break-before-make: it is a write of a valid value at a place of a tree that holds a value of another core. The answer
-/// is the place. Source: Arm ARM (DDI 0487), "Using break-before-make when updating translation table entries"; which
-/// fields make the core is the project's own choice.
+/// Break-before-make: it is a write of a valid value at a place of a tree that holds a value of another core. The
+/// answer is the place. Source: Arm ARM (DDI 0487), "Using break-before-make when updating translation table entries";
+/// which fields make the core is the project's own choice.
 pub fn break_before_make(history: &History, event: &Event) -> Option<u64>
     ensures { result ≡ rules.break_before_make history.now.heading Patterns (notes history.now) event.now }
 {
@@ -90,7 +90,8 @@ fn write_in_limbo(history: &History, place: Place, value: u64) -> Option<u64>
     }
 }
 
-/// Limbo-make: it is a write of a valid value at a place in limbo. The answer is the place. Source: project's own choice.
+/// Limbo-make: it is a write of a valid value at a place in limbo. The answer is the place. Source: project's own
+/// choice.
 pub fn limbo_make(history: &History, event: &Event) -> Option<u64>
     ensures { result ≡ rules.limbo_make history.now.heading Patterns (notes history.now) event.now }
 {
@@ -117,8 +118,8 @@ fn rewrite(history: &History, place: Place, value: u64) -> Option<u64>
     }
 }
 
-/// Rewritten-fresh: it is a write at a place of a fresh page whose value has bit 0 set, with another value. The answer is
-/// the place. Source: project's own choice.
+/// Rewritten-fresh: it is a write at a place of a fresh page whose value has bit 0 set, with another value. The answer
+/// is the place. Source: project's own choice.
 pub fn rewritten_fresh(history: &History, event: &Event) -> Option<u64>
     ensures { result ≡ rules.rewritten_fresh history.now.heading Patterns (notes history.now) event.now }
 {
