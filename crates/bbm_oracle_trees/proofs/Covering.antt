@@ -1,7 +1,7 @@
 -- What a TLBI covers, of the places of the trees page by page.
 use Rattle.std.proofs.Common.{◌≡◌, ℕ, Bool, true, false, ◌&&◌, ◌||◌, ◌==◌, cond, List, [], ◌∷◌, ◌++◌, filter, Option, Some, None, refl, sym, ◌∙◌, ap, subst, append_assoc}
 use Rattle.std.proofs.lemmas.Bool.{eqb-true, eq-eqb}
-use Rattle.std.specs.List.{find, flat_map}
+use Rattle.std.specs.List.{flat_map}
 use Rattle.std.specs.Option.{option_map_or}
 use Rattle.bbm_descriptor.specs.Descriptor.{is_valid}
 use Rattle.bbm_tlbi_scope.specs.declared.entry.Cover.{Cover}
@@ -37,6 +37,7 @@ not_among_more q n ms none = by_among (among n ms) refl none
     by_same : (b : Bool) → (n == q) ≡ b → among n ms ≡ true → among q ms ≡ false → (n == q) ≡ false
     by_same true e there none = true_false (among q ms) (subst (λ (m : ℕ). among m ms ≡ true) (eqb-true n q e) there) none
     by_same false e there none = e
+
     by_among : (b : Bool) → among n ms ≡ b → among q (cond b ms (n ∷ ms)) ≡ false →
         ((n == q) ≡ false) × (among q ms ≡ false)
     by_among true there none = (by_same (n == q) refl there none, none)
@@ -49,6 +50,7 @@ among_filter test q (m ∷ ms) passes = by_test (test m) refl (among_filter test
     by_same : (b : Bool) → (m == q) ≡ b → test m ≡ false → among q ms ≡ (b || among q ms)
     by_same true e fails = true_false (test q) passes (subst (λ (n : ℕ). test n ≡ false) (eqb-true m q e) fails)
     by_same false e fails = refl
+
     by_test : (b : Bool) → test m ≡ b → among q (filter test ms) ≡ among q ms →
         among q (cond b (m ∷ filter test ms) (filter test ms)) ≡ ((m == q) || among q ms)
     by_test true e rest = ap (λ (b : Bool). (m == q) || b) rest
@@ -140,6 +142,7 @@ module _ (f : ℕ → Cover) where
           ≡ or_cover (f q) (cover_in more q)
       by_among true = twice (f q) (cover_in more q)
       by_among false = refl
+
       by_same : (b : Bool) → (p == q) ≡ b → (a : Bool) →
           cond b (or_cover (f p) (cond a (or_cover (f q) (cover_in more q)) (cover_in more q)))
           (cond a (or_cover (f q) (cover_in more q)) (cover_in more q))
@@ -201,8 +204,8 @@ module _ (heading : Heading) (h : List Noted) (scope : Scope) (vmid : Option ℕ
       by_node None e = sym (cover_under_none q e)
       by_node (Some n) e =
           let passes : ((n.page == page_of q) ≡ true) × (among q (places_in (events_of h) n.page) ≡ false) =
-              found_passes (λ (m : Node). m.page == page_of q) (λ (m : Node). among q (places_in (events_of h) m.page))
-              (tree heading Patterns h) n e none in
+          found_passes (λ (m : Node). m.page == page_of q) (λ (m : Node). among q (places_in (events_of h) m.page))
+          (tree heading Patterns h) n e none in
           sym (cover_under_node q (Some n) n e refl)
           ∙ ap (cover_at_node n q) (none_held n.kind n.level q heading h n.page (eqb-true n.page (page_of q) passes.0) passes.1)
 

@@ -47,6 +47,7 @@ found_passes {X} test other (y ∷ ys) x found none =
     or_parts : (a b : Bool) → (a || b) ≡ false → (a ≡ false) × (b ≡ false)
     or_parts true b e = cc
     or_parts false b e = (refl, e)
+
     by_test : (b : Bool) → test y ≡ b → cond b (Some y) (find test ys) ≡ Some x →
         (find test ys ≡ Some x → (test x ≡ true) × (other x ≡ false)) → (test x ≡ true) × (other x ≡ false)
     by_test true e found later =

@@ -2,11 +2,10 @@
 use Rattle.std.proofs.Common.{◌≡◌, ℕ, suc, List, [], ◌∷◌, length, refl, sym, ◌∙◌, ap}
 use Rattle.std.proofs.Math.Path.{fun_ext}
 use Rattle.bbm_tlbi_scope.specs.declared.entry.Cover.{Cover}
-use Rattle.bbm_rules.specs.Prelude.{Heading, Event}
+use Rattle.bbm_rules.specs.Prelude.{Heading}
 use Rattle.bbm_rules.specs.Claims.{Patterns}
 use Rattle.bbm_rules.specs.Covers.{cover_at, note}
-use Rattle.bbm_rules.specs.Notes.{Noted}
-use Rattle.bbm_oracle_patterns.specs.Kept.{cover_in, note_of, notes_of}
+use Rattle.bbm_oracle_patterns.specs.Kept.{cover_in, notes_of}
 use Rattle.bbm_oracle_patterns.specs.declared.kept.Kept.{Kept}
 
 length-notes_of : (kept : List Kept) → length (notes_of kept) ≡ length kept

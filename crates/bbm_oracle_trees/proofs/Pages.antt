@@ -1,5 +1,5 @@
 -- Pages of a root one after another, and the input pages of the page below a place.
-use Rattle.std.proofs.Common.{◌≡◌, ℕ, ◌+◌, ◌*◌, ◌/◌, ◌%◌, ◌<◌, ◌≤◌, ◌^◌, zero, suc, List, [], ◌∷◌, ◌++◌, refl, sym, ◌∙◌, ap, arith}
+use Rattle.std.proofs.Common.{◌≡◌, ℕ, ◌+◌, ◌*◌, ◌<◌, ◌≤◌, ◌^◌, zero, suc, List, [], ◌∷◌, ◌++◌, ◌∙◌, ap, arith}
 use Rattle.bbm_regimes.specs.declared.regime.Kind.{Kind}
 use Rattle.bbm_regimes.specs.World.{input_pages}
 use Rattle.bbm_rules.specs.Places.{index_of}
@@ -38,8 +38,8 @@ nodes_of_pages_more kind level root base page (suc i) =
     let at_base : base + size + i * size ≡ base + suc i * size = next_base base i size in
     let at_page : page + 4096 + 4096 * i ≡ page + 4096 * suc i = omega arith in
     let first : ℕ → ℕ → List Node = λ b p. page_node kind level root base page
-        ∷ (nodes_of_pages kind level root (base + size) (pages_from (page + 4096) i)
-        ++ page_node kind level root b p ∷ []) in
+    ∷ (nodes_of_pages kind level root (base + size) (pages_from (page + 4096) i)
+    ++ page_node kind level root b p ∷ []) in
     ap (λ (n : ℕ). nodes_of_pages kind level root base (pages_from page n)) number
     ∙ ap (λ (nodes : List Node). page_node kind level root base page ∷ nodes)
     (nodes_of_pages_more kind level root (base + size) (page + 4096) i)

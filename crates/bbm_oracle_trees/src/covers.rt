@@ -43,19 +43,17 @@ fn root_tags(alloc: Global, log: &Log) -> Result<Vec<RootTags>, NoMemory>
     for root in &log.roots(alloc)? {
         let tags = log.tag_set_of(alloc, root.page)?;
         known
-            .push(RootTags { root: root.page, tags })
+            .push(RootTags {
+                root: root.page,
+                tags,
+            })
             .map_err(|_| NoMemory)?;
     }
     Ok(known)
 }
 
 // The tags of the root, of those that are known where it is among them.
-fn tags_at(
-    alloc: Global,
-    log: &Log,
-    known: &[RootTags],
-    root: Page,
-) -> Result<TagSet, NoMemory>
+fn tags_at(alloc: Global, log: &Log, known: &[RootTags], root: Page) -> Result<TagSet, NoMemory>
     requires { AreTags log.now.heading (events_of (notes log.now)) known.now }
     ensures { IfOk result (λ tags. tags ≡ tag_set (tags_of log.now.heading Patterns root (events_of (notes log.now)))) }
 {

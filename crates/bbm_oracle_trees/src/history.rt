@@ -60,12 +60,7 @@ impl Model for History {
 }
 
 // The trees and the fresh pages after the newest event, where these pages were fresh before it.
-fn trees_after(
-    alloc: Global,
-    log: &Log,
-    fresh: &[Page],
-    event: &Event,
-) -> Result<Trees, NoMemory>
+fn trees_after(alloc: Global, log: &Log, fresh: &[Page], event: &Event) -> Result<Trees, NoMemory>
     ensures nodes { IfOk result (λ made. made.nodes.items ≡ trees.tree log.now.heading Patterns (notes log.now)) }
     ensures fresh { IfOk result (λ made. (page : ℕ) → among page made.fresh.items
         ≡ (pages.may_be_fresh event.now page (among page fresh.now)

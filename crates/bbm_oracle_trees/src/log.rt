@@ -12,7 +12,6 @@ ghost use Rattle.bbm_rules.specs.Values as values;
 ghost use Rattle.bbm_oracle_patterns.specs.Phases.{phase_at};
 ghost use Rattle.bbm_oracle_trees.specs.Fits.{fits_root};
 
-
 use bbm_events::{Event, Header};
 use bbm_oracle_patterns::{Covered, Kept, held, phase_in};
 use bbm_oracle_tags::{Declared, named_scope, places_in, roots_of, tag_set_of, value_of, vmid_of};

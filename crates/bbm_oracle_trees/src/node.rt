@@ -56,12 +56,12 @@ impl Model for Node {
     ghost Value = { trees.Node };
 
     ghost view = { λ n. record {
-        page = n.page;
-        kind = n.kind;
-        level = n.level;
-        root = n.root;
-        base = n.base;
-        above = n.above.items;
+      page = n.page;
+      kind = n.kind;
+      level = n.level;
+      root = n.root;
+      base = n.base;
+      above = n.above.items;
     } };
 
     ghost invariant = { λ n. (n.level ≤ 3) × (n.base + 512 * input_pages n.level ≤ 2 ^ 45) };
@@ -93,9 +93,7 @@ impl Node {
         let level = self.level;
         let mut above = Vec::new(alloc);
         above.push(Above { place, level }).map_err(|_| NoMemory)?;
-        above
-            .extend_from_slice(&self.above)
-            .map_err(|_| NoMemory)?;
+        above.extend_from_slice(&self.above).map_err(|_| NoMemory)?;
         Ok(above)
     }
 

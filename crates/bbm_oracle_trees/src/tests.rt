@@ -162,7 +162,12 @@ fn trees_and_fresh_pages(rt: HostRuntime) {
         ("no event", &[], &[], &[]),
         ("an init", &[Init(A)], &[], &[A]),
         ("a null page", &[Init(A), Init(B), Null(A)], &[], &[B]),
-        ("a root", &[Init(A), Init(B), Root(Kind::El2, A)], &[(A, 1, 0, false)], &[B]),
+        (
+            "a root",
+            &[Init(A), Init(B), Root(Kind::El2, A)],
+            &[(A, 1, 0, false)],
+            &[B],
+        ),
         (
             "a root of the other world",
             &[Init(A), Root(Kind::Ttbr0, A)],
@@ -175,7 +180,12 @@ fn trees_and_fresh_pages(rt: HostRuntime) {
             &[(A, 1, 0, false)],
             &[B],
         ),
-        ("a table", &BELOW, &[(A, 1, 0, false), (B, 2, 2 << 18, false)], &[]),
+        (
+            "a table",
+            &BELOW,
+            &[(A, 1, 0, false), (B, 2, 2 << 18, false)],
+            &[],
+        ),
         (
             "tables on two levels",
             &[
@@ -253,12 +263,47 @@ fn covers(rt: HostRuntime) {
     let leaf = [Root(Kind::S2, S), Write(S, BLOCK)];
     let table: [(&str, &[Line], TlbiOp, u64, u64, Cover); 9] = [
         ("by address", &leaf, TlbiOp::Ipas2e1is, 0, S, Cover::Half),
-        ("by another address", &leaf, TlbiOp::Ipas2e1is, 1 << 18, S, Cover::None),
-        ("the second step", &leaf, TlbiOp::Vmalle1is, 0, S, Cover::Second),
+        (
+            "by another address",
+            &leaf,
+            TlbiOp::Ipas2e1is,
+            1 << 18,
+            S,
+            Cover::None,
+        ),
+        (
+            "the second step",
+            &leaf,
+            TlbiOp::Vmalle1is,
+            0,
+            S,
+            Cover::Second,
+        ),
         ("all", &leaf, TlbiOp::Alle1is, 0, S, Cover::Full),
-        ("another place", &leaf, TlbiOp::Alle1is, 0, S + 8, Cover::None),
-        ("of another regime", &leaf, TlbiOp::Alle2is, 0, S, Cover::None),
-        ("a childless table", &BELOW, TlbiOp::Vae2is, 2 << 18, A + 16, Cover::Full),
+        (
+            "another place",
+            &leaf,
+            TlbiOp::Alle1is,
+            0,
+            S + 8,
+            Cover::None,
+        ),
+        (
+            "of another regime",
+            &leaf,
+            TlbiOp::Alle2is,
+            0,
+            S,
+            Cover::None,
+        ),
+        (
+            "a childless table",
+            &BELOW,
+            TlbiOp::Vae2is,
+            2 << 18,
+            A + 16,
+            Cover::Full,
+        ),
         (
             "a table with a child",
             &[

@@ -29,12 +29,7 @@ pub fn next_page(kind: Kind, level: u8, value: u64) -> Option<Page>
 }
 
 // The page to which a place of the page leads, None where it holds no table.
-fn child_at(
-    alloc: Global,
-    log: &Log,
-    node: &Node,
-    place: Place,
-) -> Result<Option<Node>, NoMemory>
+fn child_at(alloc: Global, log: &Log, node: &Node, place: Place) -> Result<Option<Node>, NoMemory>
     ensures { IfOk result (λ child. child ≡ trees.child_at log.now.heading Patterns (notes log.now) node.now place) }
 {
     match log.held(node.kind, node.level, place) {
@@ -174,12 +169,7 @@ fn holds_some(log: &Log, kind: Kind, level: u8, places: &[Place]) -> bool
 
 /// Whether the value, at the kind and the level of the page, is a table no place of which holds anything. `NoMemory`
 /// where there is none.
-pub fn is_childless(
-    alloc: Global,
-    log: &Log,
-    node: &Node,
-    value: u64,
-) -> Result<bool, NoMemory>
+pub fn is_childless(alloc: Global, log: &Log, node: &Node, value: u64) -> Result<bool, NoMemory>
     ensures { IfOk result (λ childless. childless
         ≡ trees.is_childless log.now.heading Patterns (notes log.now) node.now value) }
 {

@@ -1,4 +1,4 @@
-use Rattle.std.proofs.Common.{◌≡◌, Some, refl, sym, ◌∙◌, rules}
+use Rattle.std.proofs.Common.{◌≡◌, Some, refl, sym, ◌∙◌}
 use Rattle.std.proofs.lemmas.Result.{IfOk-weaker}
 use Rattle.bbm_tlbi_scope.specs.declared.entry.Cover.{Cover}
 use Rattle.bbm_rules.specs.Claims.{Patterns}
@@ -12,7 +12,7 @@ use Rattle.bbm_oracle_trees.proofs.covers.cover_at.Goals as goal
 pub returns-in-Some : goal.returns-in-Some
 returns-in-Some c =
     let at : node_of c.args.log.now.heading Patterns (notes c.args.log.now) (page_of c.args.place) ≡ Some c.in-Some.node.now =
-        sym (rw (c.requires.tree, c.page.ensures) at c.in-Some.ensures) in
+    sym (rw (c.requires.tree, c.page.ensures) at c.in-Some.ensures) in
     IfOk-weaker c.cover_in_node.result
     (λ (cover : Cover). cover ≡ cover_at_node c.args.log.now.heading (notes c.args.log.now) c.args.scope.now c.args.vmid
     c.in-Some.node.now c.args.place (held_at c.args.log.now.heading Patterns (notes c.args.log.now) c.in-Some.node.now c.args.place))

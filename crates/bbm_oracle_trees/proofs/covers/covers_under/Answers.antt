@@ -1,7 +1,6 @@
-use Rattle.std.proofs.Common.{◌≡◌, ◌≤◌, ℕ, List, length, take, ◌∙◌, ap, rules}
+use Rattle.std.proofs.Common.{List, ◌∙◌, ap}
 use Rattle.std.proofs.lemmas.List.{take_all}
 use Rattle.std.specs.List.{flat_map}
-use Rattle.bbm_rules.specs.Tree.{Node}
 use Rattle.bbm_oracle_patterns.specs.Kept.{cover_in}
 use Rattle.bbm_oracle_patterns.specs.declared.kept.Covered.{Covered}
 use Rattle.bbm_oracle_trees.specs.Past.{notes}

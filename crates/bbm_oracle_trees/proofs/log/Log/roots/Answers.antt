@@ -1,6 +1,4 @@
-use Rattle.std.proofs.Common.{◌≡◌, true, reverse, IfOk, rules}
-use Rattle.bbm_rules.specs.Roots.{roots_of}
-use Rattle.bbm_oracle_trees.specs.Fits.{all_fit}
+use Rattle.std.proofs.Common.{reverse}
 use Rattle.bbm_oracle_trees.proofs.Fitting.{found_fit}
 use Rattle.bbm_oracle_trees.proofs.log.Log.roots.Goals as goal
 
