@@ -43,7 +43,11 @@ fn next_hex(n: u64, byte: u8) -> Option<u64>
     ensures { result ≡ digits.next_number 16 n byte }
 {
     let value = hex_digit(byte)?;
-    n.checked_mul(16)?.checked_add(value)
+    if n < 1 << 60 {
+        Some(n * 16 + value)
+    } else {
+        None
+    }
 }
 
 /// The number that the bytes write as decimal digits, from the left.
