@@ -1,6 +1,7 @@
 -- Lines of a source, read one after another: a piece of at most 200 bytes up to each newline, out of
 -- at most 2^40 bytes. Source: project's own choice.
-use Rattle.std.specs.Prelude.{ℕ, ◌≡◌, ◌≢◌, ◌<◌, ◌≤◌, ◌+◌, ◌^◌, List, [], ◌∷◌, ◌++◌, length, take, Bool, true, Option, Result, Ok}
+use Rattle.std.specs.Prelude.{ℕ, ◌≡◌, ◌≢◌, ◌<◌, ◌≤◌, ◌+◌, ◌^◌, List, [], ◌∷◌, ◌++◌, length, take, Bool, true, Option}
+use Rattle.std.specs.Prelude.{Result, Ok}
 use Rattle.std.specs.Prelude.{Err, None, Some}
 use Rattle.bbm_io.specs.declared.lines.LineOrEnd.{LineOrEnd}
 use Rattle.bbm_io.specs.declared.lines.LineOrEnd.TheVariants.{Line, Cut, End}
