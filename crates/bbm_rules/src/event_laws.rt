@@ -1,7 +1,7 @@
 //! Laws of the definitions on plain events: the tests decide what they name, and what computes says the same as a
 //! sentence over all ways to split a history.
 
-ghost use Rattle.std.specs.Prelude.{◌≡◌, ◌↔◌, ℕ, ◌≤◌, true, false, length, Option, None, List, ◌==◌, ◌∷◌, Some, Contains};
+ghost use Rattle.std.specs.Prelude.{◌≡◌, ◌↔◌, ℕ, ◌≤◌, Bool, true, false, length, Option, None, List, ◌==◌, ◌∷◌, Some, Contains};
 ghost use Rattle.bbm_regimes.specs.declared.regime.Kind.{Kind};
 ghost use Rattle.bbm_regimes.specs.declared.regime.Reg.{Reg};
 ghost use Rattle.bbm_regimes.specs.declared.regime.Reg.TheVariants.{VttbrEl2};
@@ -16,10 +16,13 @@ ghost use Rattle.bbm_events.specs.declared.event.Event.TheVariants.{Init, Msr, R
 ghost use Rattle.bbm_rules.specs.declared.claim.Claim.{Claim};
 ghost use Rattle.bbm_rules.specs.Changes.{changes};
 ghost use Rattle.bbm_rules.specs.Claims.{Trust, same_claim, same_tag};
+ghost use Rattle.bbm_rules.specs.Cleansing.{cleansed, half, seen};
+ghost use Rattle.bbm_rules.specs.Held.{last_valid, later};
 ghost use Rattle.bbm_rules.specs.Limits.{limit_of};
 ghost use Rattle.bbm_rules.specs.Lists.{among};
 ghost use Rattle.bbm_rules.specs.Locks.{holder_of};
-ghost use Rattle.bbm_rules.specs.Pages.{initialised, is_null};
+ghost use Rattle.bbm_rules.specs.Notes.{Noted};
+ghost use Rattle.bbm_rules.specs.Pages.{initialised, is_null, may_be_fresh};
 ghost use Rattle.bbm_rules.specs.Reach.{unanswered};
 ghost use Rattle.bbm_rules.specs.Registers.{register_values, same_reg, tag_number, vmid_of};
 ghost use Rattle.bbm_rules.specs.Roots.{Declared, is_root, root_at, roots_of, same_kind};
@@ -99,6 +102,17 @@ pub fn law_changes()
         unanswered itself q (e ∷ h) ≡ unanswered itself q h }
     ensures locks { (e : Event) (h : List Event) (lock : ℕ) → (changes e).locks ≡ false →
         holder_of (e ∷ h) lock ≡ holder_of h lock }
+    ensures valid { (n : Noted) (h : List Noted) (kind : Kind) (level place : ℕ) → (changes n.event).values ≡ false →
+        last_valid kind level place (n ∷ h) ≡ later n (last_valid kind level place h) }
+    ensures fresh { (e : Event) (page : ℕ) (before : Bool) → (changes e).inits ≡ false → (changes e).nulls ≡ false →
+        may_be_fresh e page before ≡ before }
+    ensures seen { (heading : Heading) (place p : ℕ) (n : Noted) (since : List Noted) →
+        (changes n.event).publications ≡ false → seen heading place p (n ∷ since) ≡ seen heading place p since }
+    ensures half { (heading : Heading) (place p : ℕ) (n : Noted) (since : List Noted) →
+        (changes n.event).flushes ≡ false → half heading place p (n ∷ since) ≡ half heading place p since }
+    ensures cleansed { (heading : Heading) (trust : Trust) (place p : ℕ) (n : Noted) (since : List Noted) →
+        (changes n.event).flushes ≡ false →
+        cleansed heading trust place p (n ∷ since) ≡ cleansed heading trust place p since }
 {}
 
 /// The tag set of a root says which tags it holds: none; one and no other; or two different ones at least. The call
