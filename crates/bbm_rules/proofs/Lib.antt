@@ -45,3 +45,4 @@ pub mod TreeLaw
 pub mod AttachLaw
 pub mod VersionLaw
 pub mod ReadsLaw
+pub mod NullLaw
