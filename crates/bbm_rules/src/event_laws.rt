@@ -1,7 +1,8 @@
 //! Laws of the definitions on plain events: the tests decide what they name, and what computes says the same as a
 //! sentence over all ways to split a history.
 
-ghost use Rattle.std.specs.Prelude.{◌≡◌, ◌↔◌, ℕ, ◌≤◌, Bool, true, false, length, Option, None, List, ◌==◌, ◌∷◌, Some, Contains};
+ghost use Rattle.std.specs.Prelude.{◌≡◌, ◌↔◌, ℕ, ◌≤◌, Bool, true, false, length, Option, None, List, ◌==◌, ◌∷◌, Some};
+ghost use Rattle.std.specs.Prelude.{Contains, ◌++◌};
 ghost use Rattle.bbm_regimes.specs.declared.regime.Kind.{Kind};
 ghost use Rattle.bbm_regimes.specs.declared.regime.Reg.{Reg};
 ghost use Rattle.bbm_regimes.specs.declared.regime.Reg.TheVariants.{VttbrEl2};
@@ -12,7 +13,7 @@ ghost use Rattle.bbm_regimes.specs.declared.regime.World.TheVariants.{Hyp};
 ghost use Rattle.bbm_tlbi_scope.specs.declared.entry.TagSet.TheVariants.{None as NoTag, One, Many};
 ghost use Rattle.bbm_events.specs.Heading.{Heading};
 ghost use Rattle.bbm_events.specs.declared.event.Event.{Event};
-ghost use Rattle.bbm_events.specs.declared.event.Event.TheVariants.{Init, Msr, Root};
+ghost use Rattle.bbm_events.specs.declared.event.Event.TheVariants.{Init, Msr, Null, Root};
 ghost use Rattle.bbm_rules.specs.declared.claim.Claim.{Claim};
 ghost use Rattle.bbm_rules.specs.Changes.{changes};
 ghost use Rattle.bbm_rules.specs.Claims.{Trust, same_claim, same_tag};
@@ -60,6 +61,15 @@ pub fn law_root()
     ensures of_kind { (h : List Event) (kind : Kind) (page : ℕ) → is_root h kind page ≡ true →
         (r : Declared) × IsDeclared h r × (r.page ≡ page) × (r.kind ≡ kind) }
     ensures is_of_kind { (h : List Event) (r : Declared) → IsDeclared h r → is_root h r.kind r.page ≡ true }
+{}
+
+/// A page is a null page exactly where a `null` of it stands in the history. The call does nothing; the law is its
+/// contract.
+pub fn law_null()
+    ensures sound { (h : List Event) (page : ℕ) → is_null h page ≡ true →
+        (q : ℕ) × (newer older : List Event) × (h ≡ newer ++ Null q page ∷ older) }
+    ensures complete { (h : List Event) (q page : ℕ) (newer older : List Event) → h ≡ newer ++ Null q page ∷ older →
+        is_null h page ≡ true }
 {}
 
 /// A value is among the readable ones of a register exactly where the register had it at some moment, and after that
