@@ -16,15 +16,14 @@ use Rattle.bbm_rules.specs.Held.{held}
 use Rattle.bbm_rules.specs.Lists.{if_so}
 use Rattle.bbm_rules.specs.Notes.{Noted, events_of}
 use Rattle.bbm_rules.specs.Pages.{is_null}
-use Rattle.bbm_rules.specs.PatternSentences.{Answer, Cleansed, Holds}
+use Rattle.bbm_rules.specs.PatternSentences.{Cleansed, Holds}
 use Rattle.bbm_rules.specs.Places.{page_of}
-use Rattle.bbm_rules.specs.Reach.{Issued}
 use Rattle.bbm_rules.specs.Tree.{Node, held_at, in_tree, next_in, next_of, node_of}
 use Rattle.bbm_rules.specs.Values.{value_of}
 use Rattle.bbm_histories.specs.Below.{Below}
 use Rattle.bbm_histories.specs.Tree.{HeldChange}
 use Rattle.bbm_histories.proofs.Induction.{Unbroken, if_none}
-use Rattle.bbm_histories.proofs.PatternLemmas.{cleansed_stays}
+use Rattle.bbm_histories.proofs.PatternLemmas.{cleansed_stays, one_begins, two_begin}
 
 -- ---- a write over a value of the same core
 
@@ -72,45 +71,18 @@ table_on kind level old new next valid same e =
 abbrev pub IsDsb : Event → Type 0
 IsDsb e = (q : ℕ) × (dsb : Barrier) × (e ≡ Dsb q dsb)
 
-answer_before : (n : Noted) (since : List Noted) (t : Issued Noted) (d : Noted) → (IsDsb n.event → ⊥) → Answer (n ∷ since) t d
-    → Answer since t d
-answer_before n since t d other a = by a.newer a.split
-  where
-    by : (newer : List Noted) → n ∷ since ≡ newer ++ d ∷ a.older → Answer since t d
-    by [] split =
-        let first : n ≡ d = cc in
-        absurd (other (a.q, a.dsb, ap (λ (x : Noted). x.event) first ∙ a.barrier))
-    by (m ∷ newer) split = record {
-      q = a.q;
-      dsb = a.dsb;
-      newer = newer;
-      older = a.older;
-      split = cc;
-      barrier = a.barrier;
-      is_open = a.is_open;
-      completed = a.completed;
-    }
-
 cleansed_before : (heading : Heading) (trust : Trust) (place p : ℕ) (n : Noted) (since : List Noted) → (IsDsb n.event → ⊥)
     → Cleansed heading trust place p (n ∷ since) → Cleansed heading trust place p since
-cleansed_before heading trust place p n since other (inl k) = inl (record {
-  b = k.b;
-  t = k.t;
-  d = k.d;
-  published = k.published;
-  flush = record { answer = answer_before n since k.t k.d other k.flush.answer; reached = k.flush.reached; covered = k.flush.covered };
-  allowed = k.allowed;
-})
-cleansed_before heading trust place p n since other (inr k) = inr (record {
-  b = k.b;
-  t1 = k.t1;
-  d1 = k.d1;
-  t2 = k.t2;
-  d2 = k.d2;
-  first = k.first;
-  second = record { answer = answer_before n since k.t2 k.d2 other k.second.answer; reached = k.second.reached; covered = k.second.covered };
-  allowed = k.allowed;
-})
+cleansed_before heading trust place p n since other (inl k) =
+    elim (one_begins heading trust place p n since k) [
+      | inl old ↦ inl old
+      | inr same ↦ absurd (other (k.flush.answer.q, k.flush.answer.dsb, ap (λ (x : Noted). x.event) (sym same) ∙ k.flush.answer.barrier))
+    ]
+cleansed_before heading trust place p n since other (inr k) =
+    elim (two_begin heading trust place p n since k) [
+      | inl old ↦ inr old
+      | inr same ↦ absurd (other (k.second.answer.q, k.second.answer.dsb, ap (λ (x : Noted). x.event) (sym same) ∙ k.second.answer.barrier))
+    ]
 
 module _ (heading : Heading) (trust : Trust) (b : Below heading trust) (kind : Kind) (level place : ℕ) where
   -- ---- what is held after an event was held before, unless the event wrote it
