@@ -1,0 +1,146 @@
+-- Tests of flags, covers and barriers.
+use Rattle.std.proofs.Common.{◌≡◌, ℕ, zero, suc, ◌<◌, ◌≤◌, Bool, true, false, ◌&&◌, ◌||◌, not, nat_eq, nat_lt, refl, sym, ◌∙◌, ap, arith, IsTrue, inl, inr}
+use Rattle.std.proofs.lemmas.Bool.{cases_lt, lt-ltb, le-ltb, false≢true, true≢false, cases_Bool}
+use Rattle.std.proofs.lemmas.Bool.Decides.{nat_tests}
+use Rattle.bbm_barriers.specs.Options.{publishes}
+use Rattle.bbm_barriers.specs.declared.Dsb.{Dsb}
+use Rattle.bbm_barriers.specs.declared.Domain.{Domain}
+use Rattle.bbm_barriers.specs.declared.Domain.TheVariants.{Full, Inner, Outer, Non}
+use Rattle.bbm_barriers.specs.declared.Types.{Types}
+use Rattle.bbm_barriers.specs.declared.Types.TheVariants.{All, Stores, Loads}
+use Rattle.bbm_regimes.specs.EveryPe.{every_pe}
+use Rattle.bbm_rules.specs.Values.{is_non}
+use Rattle.bbm_oracle_patterns.specs.Relation.{same_flag}
+
+pub and-true : (a : Bool) → (a && true) ≡ a
+and-true true = refl
+and-true false = refl
+
+pub and-false : (a : Bool) → (a && false) ≡ false
+and-false true = refl
+and-false false = refl
+
+pub or-false : (a : Bool) → (a || false) ≡ a
+or-false true = refl
+or-false false = refl
+
+pub or-comm : (a b : Bool) → (a || b) ≡ (b || a)
+or-comm true true = refl
+or-comm true false = refl
+or-comm false true = refl
+or-comm false false = refl
+
+pub and-comm : (a b : Bool) → (a && b) ≡ (b && a)
+and-comm true true = refl
+and-comm true false = refl
+and-comm false true = refl
+and-comm false false = refl
+
+-- what is answered, and what was before
+pub or-pairs : (a b f s : Bool) → ((a || b) || (f || s)) ≡ ((a || f) || (b || s))
+or-pairs true b f s = refl
+or-pairs false true true s = refl
+or-pairs false true false s = refl
+or-pairs false false f s = refl
+
+pub same_flag-true : (a b : Bool) → same_flag a b ≡ true → b ≡ a
+same_flag-true true b e = e
+same_flag-true false false e = refl
+same_flag-true false true e = absurd (false≢true e)
+
+-- a barrier of a log with fewer PEs
+pub publishes_wide : (domain : Domain) (types : Types) (q n p : ℕ) → n ≤ 128 → is_non domain ≡ false →
+    (publishes (record { domain = domain; types = types }) q 128 p && nat_lt p n) ≡ publishes (record { domain = domain; types = types }) q n p
+publishes_wide Full All q n p h e = grind (arith, nat_tests)
+publishes_wide Full Stores q n p h e = grind (arith, nat_tests)
+publishes_wide Full Loads q n p h e = refl
+publishes_wide Inner All q n p h e = grind (arith, nat_tests)
+publishes_wide Inner Stores q n p h e = grind (arith, nat_tests)
+publishes_wide Inner Loads q n p h e = refl
+publishes_wide Outer All q n p h e = grind (arith, nat_tests)
+publishes_wide Outer Stores q n p h e = grind (arith, nat_tests)
+publishes_wide Outer Loads q n p h e = refl
+publishes_wide Non types q n p h e = absurd (true≢false e)
+
+pub publishes_near : (types : Types) (q n p : ℕ) →
+    publishes (record { domain = Non; types = types }) q 128 p ≡ publishes (record { domain = Non; types = types }) q n p
+publishes_near All q n p = refl
+publishes_near Stores q n p = refl
+publishes_near Loads q n p = refl
+
+pub wide : (dsb : Dsb) (q n p : ℕ) (cnp m a r : Bool) → n ≤ 128 → is_non dsb.domain ≡ false → m ≡ publishes dsb q 128 p → a ≡ nat_lt p n →
+    r ≡ (m && a) → r ≡ (publishes dsb q n p && not (cnp && is_non dsb.domain))
+wide dsb q n p cnp m a r h e m_is a_is r_is =
+    r_is ∙ ap (λ (b : Bool). b && a) m_is ∙ ap (λ (b : Bool). publishes dsb q 128 p && b) a_is
+    ∙ publishes_wide dsb.domain dsb.types q n p h e
+    ∙ sym (and-true (publishes dsb q n p))
+    ∙ ap (λ (b : Bool). publishes dsb q n p && not b) (sym (and-false cnp) ∙ ap (λ (b : Bool). cnp && b) (sym e))
+
+pub near : (dsb : Dsb) (q n p : ℕ) (cnp m : Bool) → is_non dsb.domain ≡ true → cnp ≡ false → m ≡ publishes dsb q 128 p →
+    m ≡ (publishes dsb q n p && not (cnp && is_non dsb.domain))
+near dsb q n p cnp m e c m_is =
+    m_is ∙ at dsb.domain e ∙ sym (and-true (publishes dsb q n p))
+    ∙ ap (λ (b : Bool). publishes dsb q n p && not (b && is_non dsb.domain)) (sym c)
+  where
+    at : (domain : Domain) → is_non domain ≡ true → publishes (record { domain = domain; types = dsb.types }) q 128 p ≡ publishes (record { domain = domain; types = dsb.types }) q n p
+    at Non e = publishes_near dsb.types q n p
+    at Full e = absurd (false≢true e)
+    at Inner e = absurd (false≢true e)
+    at Outer e = absurd (false≢true e)
+
+pub nowhere : (dsb : Dsb) (q n p : ℕ) (cnp m : Bool) → is_non dsb.domain ≡ true → cnp ≡ true → m ≡ false →
+    m ≡ (publishes dsb q n p && not (cnp && is_non dsb.domain))
+nowhere dsb q n p cnp m e c m_is =
+    m_is ∙ sym (and-false (publishes dsb q n p))
+    ∙ ap (λ (b : Bool). publishes dsb q n p && not b) (sym (ap (λ (b : Bool). b && is_non dsb.domain) c ∙ e))
+
+pub eq-comm : (m n : ℕ) → nat_eq m n ≡ nat_eq n m
+eq-comm m n = grind (arith, nat_tests)
+
+-- ---- every PE
+
+pub every_same : (n : ℕ) (f g : ℕ → Bool) → ((p : ℕ) → f p ≡ g p) → every_pe n f ≡ every_pe n g
+every_same zero f g e = refl
+every_same (suc n) f g e = rw (e n) (ap (λ (b : Bool). g n && b) (every_same n f g e))
+
+pub every_from : (n : ℕ) (f : ℕ → Bool) → ((p : ℕ) → p < n → f p ≡ true) → every_pe n f ≡ true
+every_from zero f h = refl
+every_from (suc n) f h = rw (h n (omega arith)) (every_from n f (λ p lt. h p (omega arith)))
+
+pub every_at : (n : ℕ) (f : ℕ → Bool) → every_pe n f ≡ true → (p : ℕ) → p < n → f p ≡ true
+every_at zero f e p lt = absurd (omega arith)
+every_at (suc n) f e p lt =
+    elim (cases_lt p n) [
+      | inl less ↦ every_at n f (and-right (f n) (every_pe n f) e) p less
+      | inr last ↦ let same : p ≡ n = omega arith in ap f same ∙ and-left (f n) (every_pe n f) e
+    ]
+  where
+    and-left : (a b : Bool) → (a && b) ≡ true → a ≡ true
+    and-left true b e = refl
+    and-left false b e = e
+
+    and-right : (a b : Bool) → (a && b) ≡ true → b ≡ true
+    and-right true b e = e
+    and-right false b e = absurd (false≢true e)
+
+-- no PE below n is missing
+pub none_missing : (n : ℕ) (f missing : ℕ → Bool) (r : Bool) → ((p : ℕ) → missing p ≡ (nat_lt p n && not (f p))) →
+    (IsTrue r → (p : ℕ) → missing p ≡ false) → (((p : ℕ) → missing p ≡ false) → IsTrue r) → r ≡ every_pe n f
+none_missing n f missing true is none all =
+    sym (every_from n f (λ p lt. there (f p) (ap (λ (b : Bool). b && not (f p)) (sym (lt-ltb p n lt)) ∙ sym (is p) ∙ none refl p)))
+  where
+    there : (b : Bool) → (true && not b) ≡ false → b ≡ true
+    there true e = refl
+    there false e = absurd (true≢false e)
+none_missing n f missing false is none all =
+    elim (cases_Bool (every_pe n f)) [
+      | inl e ↦ absurd (false≢true (all (λ p. is p ∙ here p (every_at n f e p))))
+      | inr e ↦ sym e
+    ]
+  where
+    here : (p : ℕ) → (p < n → f p ≡ true) → (nat_lt p n && not (f p)) ≡ false
+    here p h =
+        elim (cases_lt p n) [
+          | inl less ↦ rw (h less) (and-false (nat_lt p n))
+          | inr more ↦ rw (le-ltb p n more) refl
+        ]

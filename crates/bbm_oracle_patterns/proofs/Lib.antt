@@ -1,0 +1,7 @@
+pub mod Bits
+pub mod Rows
+pub mod Lasts
+pub mod Opens
+pub mod Walks
+pub mod Phases
+pub mod Stops

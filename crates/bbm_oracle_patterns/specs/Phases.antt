@@ -1,0 +1,25 @@
+-- The phase of a place of a tree.
+-- Source: project's own choice.
+use Rattle.std.specs.Prelude.{ℕ, Bool, List, Some, None, unwrap_or, if◌then◌else◌}
+use Rattle.bbm_descriptor.specs.Descriptor.{is_valid}
+use Rattle.bbm_rules.specs.Prelude.{Heading, Kind}
+use Rattle.bbm_rules.specs.declared.phase.Phase.{Phase}
+use Rattle.bbm_rules.specs.declared.phase.Phase.TheVariants.{Clean, Live, Broken, Seen, Half, Cleansed}
+use Rattle.bbm_rules.specs.Claims.{Patterns}
+use Rattle.bbm_rules.specs.Held.{cleansed_everywhere, last_valid}
+use Rattle.bbm_rules.specs.Lists.{◌>>=◌}
+use Rattle.bbm_rules.specs.Notes.{Noted}
+use Rattle.bbm_rules.specs.Phases.{broken_phase}
+
+-- The phase at p of a place that is in a tree, at this kind and level, with this value: as `phase_of` has it where it
+-- found the node of the place.
+abbrev pub phase_at : Heading → Kind → ℕ → ℕ → ℕ → ℕ → List Noted → Phase
+phase_at heading kind level place value p h = unwrap_or (do
+  w ← last_valid kind level place h
+  if cleansed_everywhere heading Patterns place w.since then None
+      else Some (if is_valid kind level value then Live else broken_phase heading Patterns place p w.since)) Clean
+
+-- the phase of a broken place that is cleansed, half and seen, or not
+abbrev pub furthest : Bool → Bool → Bool → Phase
+furthest cleansed half seen =
+    if cleansed then Cleansed else (if half then Half else (if seen then Seen else Broken))

@@ -1,0 +1,23 @@
+//! What a place of a kind and a level has been through, by search of the events that the oracle keeps.
+//!
+//! A log is a slice of kept events, oldest first: each event, and with a TLBI how far it covered each place at its
+//! issue. The calls answer what the definitions of break-before-make say of the notes of the log, over every
+//! pattern of events: the last valid write of a place, the PEs at which it is seen, half and cleansed since, the
+//! value that it holds, and its phase. None takes memory. `last_valid` goes back from the newest event to the write,
+//! and `trace_of` goes once through what comes after it; `held` stops at the event by which the place is cleansed. So
+//! a call costs about the number of events, and for each TLBI behind a publication the length of its list of places.
+#![tactic(auto)]
+
+pub mod kept;
+mod open;
+mod relation;
+pub mod search;
+pub mod trace;
+mod walk;
+
+pub use kept::{Covered, Kept};
+pub use search::{ValidWrite, held, last_valid, phase_in};
+pub use trace::{Trace, cleansed_everywhere, trace_of};
+
+#[cfg(test)]
+mod tests;

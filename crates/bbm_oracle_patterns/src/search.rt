@@ -1,0 +1,150 @@
+//! The last valid write of a place, and what the place holds.
+
+ghost use Rattle.std.specs.Prelude.{◌≡◌, ℕ, ◌<◌, length, reverse, IfSome};
+ghost use Rattle.bbm_descriptor.specs.Descriptor.{is_valid};
+ghost use Rattle.bbm_regimes.specs.PeMask.{pe_in};
+ghost use Rattle.bbm_rules.specs.Claims.{Patterns};
+ghost use Rattle.bbm_rules.specs.Held as spec;
+ghost use Rattle.bbm_oracle_patterns.specs.Kept.{notes_of, write_in};
+ghost use Rattle.bbm_oracle_patterns.specs.Lasts.{TellsOf};
+ghost use Rattle.bbm_oracle_patterns.specs.Phases.{phase_at, furthest};
+
+use crate::kept::Kept;
+use crate::trace::{Trace, cleansed_everywhere, has_every_pe, trace_of};
+use bbm_descriptor::core;
+use bbm_events::{Event, Header};
+use bbm_regimes::{Kind, Pe, Place};
+use bbm_rules::Phase;
+
+/// A valid write in a log. Source: project's own choice.
+#[derive(Clone, Copy, Debug, PartialEq, Eq)]
+pub struct ValidWrite {
+    /// The value that was written.
+    pub value: u64,
+    /// The index of the write in the log; the oldest event has index 0.
+    pub index: usize,
+}
+
+// What one event says of the last valid write of a place.
+enum Says {
+    // It is that write, of this value.
+    ItIs(u64),
+    // There is no such write.
+    NoWrite,
+    // It is that of the events before.
+    Older,
+}
+
+// Whether the value is valid at this kind and level; each level above 3 is as level 3.
+fn is_valid_at(kind: Kind, level: u8, value: u64) -> bool
+    ensures { result ≡ is_valid kind level value }
+{
+    let level = if level < 3 { level } else { 3 };
+    core(kind, level, value).is_some()
+}
+
+// What the event says of the last valid write of the place.
+fn told_by(event: &Event, kind: Kind, level: u8, place: Place) -> Says
+    ensures { TellsOf result kind level place event.now }
+{
+    match *event {
+        Event::Write {
+            pe: _,
+            place: at,
+            value,
+        } => {
+            if at == place && is_valid_at(kind, level, value) {
+                Says::ItIs(value)
+            } else {
+                Says::Older
+            }
+        }
+        Event::Init { pe: _, page } => {
+            if page == place.page() {
+                Says::NoWrite
+            } else {
+                Says::Older
+            }
+        }
+        _ => Says::Older,
+    }
+}
+
+/// The last valid write of the place since the last init of its page, where the place has this kind and this level,
+/// 0 to 3. The log is oldest first. None where there is no such write. It goes back from the newest event.
+pub fn last_valid(log: &[Kept], kind: Kind, level: u8, place: Place) -> Option<ValidWrite>
+    ensures found { spec.last_valid kind level place (notes_of (reverse log.now)) ≡ write_in log.now result }
+    ensures within { IfSome result (λ w. w.index < length log.now) }
+{
+    let mut index = log.len();
+    while index > 0 {
+        index -= 1;
+        match told_by(&log[index].event, kind, level, place) {
+            Says::ItIs(value) => return Some(ValidWrite { value, index }),
+            Says::NoWrite => return None,
+            Says::Older => {}
+        }
+    }
+    None
+}
+
+/// The value that the place holds, where it has this kind and this level, 0 to 3: that of its last valid write since
+/// the last init of its page, unless it is cleansed since at every PE of the header. The log is oldest first.
+pub fn held(header: &Header, log: &[Kept], kind: Kind, level: u8, place: Place) -> Option<u64>
+    ensures { result ≡ spec.held header.now Patterns kind level place (notes_of (reverse log.now)) }
+{
+    match last_valid(log, kind, level, place) {
+        Some(write) => {
+            if cleansed_everywhere(header, &log[write.index + 1..], place) {
+                None
+            } else {
+                Some(write.value)
+            }
+        }
+        None => None,
+    }
+}
+
+// The furthest that a broken place has come at the PE.
+fn broken_phase(trace: &Trace, pe: Pe) -> Phase
+    ensures { result ≡ furthest (pe_in trace.now.cleansed pe) (pe_in trace.now.half pe) (pe_in trace.now.seen pe) }
+{
+    if trace.cleansed.has(pe) {
+        Phase::Cleansed
+    } else if trace.half.has(pe) {
+        Phase::Half
+    } else if trace.seen.has(pe) {
+        Phase::Seen
+    } else {
+        Phase::Broken
+    }
+}
+
+/// The phase at the PE of a place that is in a tree, where it has this kind and this level, 0 to 3, and now has this
+/// value: clean where it holds nothing; live where its value is valid; else the furthest of cleansed, half and seen, or
+/// broken where it is none of them. The log is oldest first.
+pub fn phase_in(
+    header: &Header,
+    log: &[Kept],
+    kind: Kind,
+    level: u8,
+    place: Place,
+    value: u64,
+    pe: Pe,
+) -> Phase
+    ensures { result ≡ phase_at header.now kind level place value pe (notes_of (reverse log.now)) }
+{
+    match last_valid(log, kind, level, place) {
+        Some(write) => {
+            let trace = trace_of(header, &log[write.index + 1..], place);
+            if has_every_pe(header, trace.cleansed) {
+                Phase::Clean
+            } else if is_valid_at(kind, level, value) {
+                Phase::Live
+            } else {
+                broken_phase(&trace, pe)
+            }
+        }
+        None => Phase::Clean,
+    }
+}

@@ -1,0 +1,9 @@
+mod BoolLemmas
+pub mod ListLemmas
+pub mod MomentLemmas
+pub mod NumberLemmas
+pub mod PlaceLemmas
+pub mod RootLemmas
+pub mod RuleLemmas
+pub mod TagLemmas
+pub mod WatchLemmas

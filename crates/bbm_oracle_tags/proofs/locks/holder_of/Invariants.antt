@@ -1,0 +1,6 @@
+use Rattle.std.proofs.Common.{◌≡◌, take, reverse}
+use Rattle.bbm_rules.specs.Locks.{holder_of}
+use Rattle.bbm_oracle_tags.proofs.locks.holder_of.Given as goal
+
+abbrev pub invariant-loop-event : goal.invariant-loop-event
+invariant-loop-event l = l.holder ≡ holder_of (reverse (take l.event-index l.events)) l.lock

@@ -1,0 +1,7 @@
+use Rattle.std.proofs.Common.{arith}
+use Rattle.std.proofs.lemmas.Grind.{common_steps}
+use Rattle.bbm_oracle_tags.proofs.NumberLemmas.{least-push}
+use Rattle.bbm_oracle_tags.proofs.numbers.least.Goals as goal
+
+pub loop-number-preserved : goal.loop-number-preserved
+loop-number-preserved c = grind (arith, common_steps, least-push)

@@ -1,0 +1,6 @@
+use Rattle.std.proofs.Common.{◌≡◌, take, reverse}
+use Rattle.bbm_rules.specs.Roots.{root_at}
+use Rattle.bbm_oracle_tags.proofs.roots.root_at.Given as goal
+
+abbrev pub invariant-loop-event : goal.invariant-loop-event
+invariant-loop-event l = l.root ≡ root_at (reverse (take l.event-index l.events)) l.page

@@ -1,0 +1,7 @@
+use Rattle.std.proofs.Common.{◌≡◌, ◌++◌, take, reverse}
+use Rattle.bbm_oracle_tags.specs.Conflicts.{holder_pages}
+use Rattle.bbm_oracle_tags.proofs.rules.add_holders.Given as goal
+
+abbrev pub invariant-loop-root : goal.invariant-loop-root
+invariant-loop-root l = l.pages.items
+    ≡ l.initial.pages.items ++ holder_pages l.header (reverse l.after) l.reading (take l.root-index l.roots)

@@ -1,0 +1,6 @@
+use Rattle.std.proofs.Common.{◌≡◌, take, reverse}
+use Rattle.bbm_rules.specs.Values.{places_in}
+use Rattle.bbm_oracle_tags.proofs.values.places_in.Given as goal
+
+abbrev pub invariant-loop-event : goal.invariant-loop-event
+invariant-loop-event l = l.places.items ≡ places_in (reverse (take l.event-index l.events)) l.page

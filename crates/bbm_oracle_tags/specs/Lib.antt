@@ -1,0 +1,4 @@
+pub mod Conflicts
+pub mod Moments
+pub mod TagSets
+pub mod Watches

@@ -1,0 +1,67 @@
+-- What one PE may use at a moment: the declared roots, and the readable values of the root registers of its world.
+use Rattle.std.specs.Prelude.{◌≡◌, ℕ, ◌&&◌, ◌==◌, ◌++◌, Bool, List, Option, filter_map, flat_map}
+use Rattle.bbm_rules.specs.Prelude.{Kind, El2, S2, Ttbr0, Ttbr1, AsidFrom, FromTtbr0, FromTtbr1, Reg, Ttbr0El2, VttbrEl2, Ttbr0El1, Ttbr1El1, Tag, El2Tag, Vmid, Asid, Ttbr1Tag, World, Hyp, Kernel, Event}
+use Rattle.bbm_rules.specs.Claims.{same_tag}
+use Rattle.bbm_rules.specs.Lists.{◌>>=◌, if_so, any}
+use Rattle.bbm_rules.specs.Registers.{base_of, register_values, tag_number}
+use Rattle.bbm_rules.specs.Roots.{Declared, is_at, roots_of, same_kind}
+use Rattle.bbm_rules.specs.Tags.{Reading}
+use Rattle.bbm_oracle_tags.specs.declared.moment.Moment.{Moment}
+
+-- the two root registers of a world
+abbrev pub first_reg : World → Reg
+first_reg (Hyp world) = Ttbr0El2
+first_reg (Kernel world) = Ttbr0El1
+
+abbrev pub second_reg : World → Reg
+second_reg (Hyp world) = VttbrEl2
+second_reg (Kernel world) = Ttbr1El1
+
+-- the tag under which a root of the kind is read, with this VMID or ASID
+abbrev pub tag_of : Kind → ℕ → Tag
+tag_of El2 number = El2Tag
+tag_of S2 number = Vmid number
+tag_of Ttbr0 number = Asid number
+tag_of Ttbr1 number = Ttbr1Tag
+
+-- whether one of the roots has this kind and this first page
+abbrev pub has_root : List Declared → Kind → ℕ → Bool
+has_root roots kind page = any (λ r. is_at page r && same_kind r.kind kind) roots
+
+-- what a register value of a kind lets read under a tag, where these roots are declared
+abbrev pub reading_in : List Declared → Kind → Tag → ℕ → Option Reading
+reading_in roots kind tag value = do
+  base ← base_of value
+  if_so (has_root roots kind base) (record { tag = tag; root = base })
+
+-- under its own VMID or ASID
+abbrev pub own_reading : List Declared → Kind → ℕ → Option Reading
+own_reading roots kind value = reading_in roots kind (tag_of kind (tag_number value)) value
+
+-- the values of TTBR0_EL1 under the ASID of a value of TTBR1_EL1
+abbrev pub readings_under : List Declared → List ℕ → ℕ → List Reading
+readings_under roots first from = filter_map (reading_in roots Ttbr0 (Asid (tag_number from))) first
+
+abbrev pub asid_readings_by : AsidFrom → List Declared → List ℕ → List ℕ → List Reading
+asid_readings_by FromTtbr0 roots first second = filter_map (own_reading roots Ttbr0) first
+asid_readings_by FromTtbr1 roots first second = flat_map (readings_under roots first) second
+
+-- the readable tags, by the roots and the readable values of the two registers
+abbrev pub readings_by : World → List Declared → List ℕ → List ℕ → List Reading
+readings_by (Hyp world) roots first second =
+    filter_map (own_reading roots El2) first ++ filter_map (own_reading roots S2) second
+readings_by (Kernel world) roots first second =
+    asid_readings_by world.asid_from roots first second ++ filter_map (own_reading roots Ttbr1) second
+
+-- the roots and the values are those of a PE after a history
+pub record IsMoment (world : World) (p : ℕ) (h : List Event) (m : Moment) : Type 0 where
+  pub roots : m.roots.items ≡ roots_of h
+  pub first : m.first.items ≡ register_values h p (first_reg world)
+  pub second : m.second.items ≡ register_values h p (second_reg world)
+
+-- whether one of the readings is of this tag for this root, and for some root
+abbrev pub is_read : List Reading → Tag → ℕ → Bool
+is_read rs tag root = any (λ r. same_tag r.tag tag && r.root == root) rs
+
+abbrev pub is_read_for_some : List Reading → Tag → Bool
+is_read_for_some rs tag = any (λ r. same_tag r.tag tag) rs

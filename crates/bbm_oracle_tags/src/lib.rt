@@ -1,0 +1,38 @@
+//! The questions that the oracle asks of the events that it took, without their notes and without trees. Events are
+//! given oldest first, and each answer is what one definition of the rules says of them. A definition sees a history
+//! newest first, so the contracts speak of the events reversed. Whatever makes a list may want memory, and says so.
+#![tactic(auto)]
+
+pub mod limits;
+pub mod locks;
+mod moment;
+pub mod numbers;
+pub mod pages;
+pub mod reach;
+pub mod readings;
+pub mod registers;
+pub mod roots;
+pub mod rules;
+pub mod tags;
+pub mod values;
+mod watch;
+
+pub use limits::limit_of;
+pub use locks::{holder_of, lacks};
+pub use numbers::least;
+pub use pages::{count_initialised, has_values, is_initialised, is_null, may_be_fresh};
+pub use reach::{completes, publishes_for, reaches};
+pub use readings::{Reading, readings_at};
+pub use registers::{
+    base_of, kind_of, lacks_vmid, named_scope, register_values, tag_number, vmid_of,
+};
+pub use roots::{Declared, is_root, kind_in_world, lock_of, root_at, roots_of};
+pub use rules::{
+    bad_operand, lock_busy, lock_not_mine, no_root, null_written, root_in_use, tag_conflict,
+    unsynced_vmid, without_lock, wrong_world,
+};
+pub use tags::{holds_at, holds_tag, tag_set_of};
+pub use values::{places_in, value_of};
+
+#[cfg(test)]
+mod tests;

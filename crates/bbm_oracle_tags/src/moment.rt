@@ -1,0 +1,231 @@
+//! What one PE may use at a moment of a walk over the events.
+
+ghost use Rattle.std.specs.Prelude.{◌≡◌, ◌++◌, List, [], ◌∷◌, filter_map, flat_map, option_to_list, IfOk, OnOk};
+ghost use Rattle.bbm_regimes.specs.declared.regime.Kind.TheVariants.{Ttbr0};
+ghost use Rattle.bbm_events.specs.declared.event.Event.{Event};
+ghost use Rattle.bbm_rules.specs.Registers.{register_values};
+ghost use Rattle.bbm_rules.specs.Roots.{roots_of};
+ghost use Rattle.bbm_oracle_tags.specs.Moments as spec;
+
+use crate::readings::Reading;
+use crate::registers::{base_of, tag_number, take_value};
+use crate::roots::{Declared, same_kind, take_root};
+use bbm_events::{Event, Header};
+use bbm_regimes::{AsidFrom, Kind, NoMemory, Pe, Reg, Tag, World};
+use std::alloc::Global;
+
+/// What one PE may use at a moment: the declared roots, and the readable values of the root registers of its world.
+/// Source: project's own choice.
+#[derive(Drop)]
+pub struct Moment {
+    /// The declared roots, that of the last `root` first.
+    pub roots: Vec<Declared>,
+    /// The readable values of TTBR0_EL2 or TTBR0_EL1, the newest first.
+    pub first: Vec<u64>,
+    /// The readable values of VTTBR_EL2 or TTBR1_EL1, the newest first.
+    pub second: Vec<u64>,
+}
+
+// The first root register of the header's world.
+fn first_reg(header: &Header) -> Reg
+    ensures { result ≡ spec.first_reg header.now.world }
+{
+    match header.world {
+        World::Hyp(_) => Reg::Ttbr0El2,
+        World::Kernel(_) => Reg::Ttbr0El1,
+    }
+}
+
+// The second one.
+fn second_reg(header: &Header) -> Reg
+    ensures { result ≡ spec.second_reg header.now.world }
+{
+    match header.world {
+        World::Hyp(_) => Reg::VttbrEl2,
+        World::Kernel(_) => Reg::Ttbr1El1,
+    }
+}
+
+// The values of a register before any event.
+fn at_start(alloc: Global) -> Result<Vec<u64>, NoMemory>
+    ensures { IfOk result (λ values. values.items ≡ 0 ∷ []) }
+{
+    let mut values = Vec::new(alloc);
+    values.push(0).map_err(|_| NoMemory)?;
+    Ok(values)
+}
+
+// The tag under which a root of the kind is read.
+fn tag_of(kind: Kind, number: u16) -> Tag
+    ensures { result ≡ spec.tag_of kind number }
+{
+    match kind {
+        Kind::El2 => Tag::El2,
+        Kind::S2 => Tag::Vmid(number),
+        Kind::Ttbr0 => Tag::Asid(number),
+        Kind::Ttbr1 => Tag::Ttbr1,
+    }
+}
+
+// Whether one of the roots has this kind and this first page.
+fn has_root(roots: &[Declared], kind: Kind, page: u64) -> bool
+    ensures { result ≡ spec.has_root roots.now kind page }
+{
+    roots.iter().any(|root| root.page.get() == page && same_kind(root.kind, kind))
+}
+
+// What a register value lets read under the tag.
+fn reading_in(roots: &[Declared], kind: Kind, tag: Tag, value: u64) -> Option<Reading>
+    ensures { result ≡ spec.reading_in roots.now kind tag value }
+{
+    match base_of(value) {
+        Some(root) => {
+            if has_root(roots, kind, root) {
+                Some(Reading { tag, root })
+            } else {
+                None
+            }
+        }
+        None => None,
+    }
+}
+
+// Adds what the value lets read under the tag.
+fn add_reading(
+    readings: &mut Vec<Reading>,
+    roots: &[Declared],
+    kind: Kind,
+    tag: Tag,
+    value: u64,
+) -> Result<(), NoMemory>
+    ensures { OnOk result (readings.new.items
+        ≡ readings.old.items ++ option_to_list (spec.reading_in roots.now kind tag value)) }
+{
+    match reading_in(roots, kind, tag, value) {
+        Some(reading) => readings.push(reading).map_err(|_| NoMemory),
+        None => Ok(()),
+    }
+}
+
+// Adds what the values of the kind's register let read, each under its own VMID or ASID.
+fn add_own(
+    readings: &mut Vec<Reading>,
+    roots: &[Declared],
+    kind: Kind,
+    values: &[u64],
+) -> Result<(), NoMemory>
+    ensures { OnOk result (readings.new.items
+        ≡ readings.old.items ++ filter_map (spec.own_reading roots.now kind) values.now) }
+{
+    for value in values {
+        add_reading(
+            readings,
+            roots,
+            kind,
+            tag_of(kind, tag_number(*value)),
+            *value,
+        )?;
+    }
+    Ok(())
+}
+
+// Adds what the values of TTBR0_EL1 let read under the ASID of this value of TTBR1_EL1.
+fn add_under(
+    readings: &mut Vec<Reading>,
+    roots: &[Declared],
+    from: u64,
+    values: &[u64],
+) -> Result<(), NoMemory>
+    ensures { OnOk result (readings.new.items
+        ≡ readings.old.items ++ spec.readings_under roots.now values.now from) }
+{
+    for value in values {
+        add_reading(
+            readings,
+            roots,
+            Kind::Ttbr0,
+            Tag::Asid(tag_number(from)),
+            *value,
+        )?;
+    }
+    Ok(())
+}
+
+// Adds what the values of TTBR0_EL1 let read under each ASID of the values of TTBR1_EL1.
+fn add_each(
+    readings: &mut Vec<Reading>,
+    roots: &[Declared],
+    first: &[u64],
+    second: &[u64],
+) -> Result<(), NoMemory>
+    ensures { OnOk result (readings.new.items
+        ≡ readings.old.items ++ flat_map (spec.readings_under roots.now first.now) second.now) }
+{
+    for from in second {
+        add_under(readings, roots, *from, first)?;
+    }
+    Ok(())
+}
+
+impl Moment {
+    ghost use Rattle.std.specs.Prelude.{ℕ};
+    ghost use Rattle.bbm_events.specs.Heading.{Heading};
+
+    /// The moment before any event. `NoMemory` where there is none.
+    pub fn new(alloc: Global) -> Result<Moment, NoMemory>
+        ensures roots { IfOk result (λ moment. moment.roots.items ≡ []) }
+        ensures first { IfOk result (λ moment. moment.first.items ≡ 0 ∷ []) }
+        ensures second { IfOk result (λ moment. moment.second.items ≡ 0 ∷ []) }
+    {
+        let first = at_start(alloc)?;
+        let second = at_start(alloc)?;
+        Ok(Moment {
+            roots: Vec::new(alloc),
+            first,
+            second,
+        })
+    }
+
+    /// The moment after one more event. `NoMemory` where there is none.
+    pub fn take(&mut self, header: &Header, event: &Event, pe: Pe) -> Result<(), NoMemory>
+        ensures roots { OnOk result ((h : List Event) → self.old.roots.items ≡ roots_of h
+            → self.new.roots.items ≡ roots_of (event.now ∷ h)) }
+        ensures first { OnOk result ((h : List Event)
+            → self.old.first.items ≡ register_values h pe (spec.first_reg header.now.world)
+            → self.new.first.items ≡ register_values (event.now ∷ h) pe (spec.first_reg header.now.world)) }
+        ensures second { OnOk result ((h : List Event)
+            → self.old.second.items ≡ register_values h pe (spec.second_reg header.now.world)
+            → self.new.second.items ≡ register_values (event.now ∷ h) pe (spec.second_reg header.now.world)) }
+    {
+        take_root(&mut self.roots, event)?;
+        take_value(&mut self.first, event, pe, first_reg(header))?;
+        take_value(&mut self.second, event, pe, second_reg(header))
+    }
+
+    /// The readable tags, each with its root. `NoMemory` where there is none. Source: Arm ARM (DDI 0487), "Translation
+    /// Lookaside Buffers", and TCR_EL1.A1 of "AArch64 System register descriptions".
+    pub fn readings(&self, alloc: Global, header: &Header) -> Result<Vec<Reading>, NoMemory>
+        ensures { IfOk result (λ readings. readings.items ≡ spec.readings_by header.now.world
+            self.now.roots.items self.now.first.items self.now.second.items) }
+    {
+        let mut readings = Vec::new(alloc);
+        match header.world {
+            World::Hyp(_) => {
+                add_own(&mut readings, &self.roots, Kind::El2, &self.first)?;
+                add_own(&mut readings, &self.roots, Kind::S2, &self.second)?;
+            }
+            World::Kernel(world) => {
+                match world.asid_from {
+                    AsidFrom::Ttbr0 => {
+                        add_own(&mut readings, &self.roots, Kind::Ttbr0, &self.first)?
+                    }
+                    AsidFrom::Ttbr1 => {
+                        add_each(&mut readings, &self.roots, &self.first, &self.second)?
+                    }
+                }
+                add_own(&mut readings, &self.roots, Kind::Ttbr1, &self.second)?;
+            }
+        }
+        Ok(readings)
+    }
+}

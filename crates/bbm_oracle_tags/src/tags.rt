@@ -1,0 +1,240 @@
+//! Which tags a root holds.
+
+ghost use Rattle.std.specs.Prelude.{◌≡◌, ℕ, List, ◌∷◌, ◌==◌, ◌&&◌, ◌||◌, Bool, true, reverse, IfOk, OnOk};
+ghost use Rattle.bbm_regimes.specs.declared.regime.Tag.{Tag as TheTag};
+ghost use Rattle.bbm_events.specs.declared.event.Event.{Event as TheEvent};
+ghost use Rattle.bbm_rules.specs.Claims.{Patterns, same_tag as is_same_tag};
+ghost use Rattle.bbm_rules.specs.Tags as spec;
+ghost use Rattle.bbm_oracle_tags.specs.Moments as moments;
+ghost use Rattle.bbm_oracle_tags.specs.TagSets as sets;
+
+use crate::moment::Moment;
+use crate::readings::{Reading, same_tag};
+use crate::watch::{Watch, changes_readings};
+use bbm_events::{Event, Header};
+use bbm_regimes::{NoMemory, Pe, Tag};
+use bbm_rules::{law_equality_tests, law_tag_set};
+use bbm_tlbi_scope::TagSet;
+use std::alloc::Global;
+
+/// Whether the root with this first page, by its address in bytes, holds the tag at the PE. `NoMemory` where there is
+/// none. Source: project's own choice, after Arm ARM (DDI 0487), "Translation Lookaside Buffers".
+pub fn holds_at(
+    alloc: Global,
+    header: &Header,
+    events: &[Event],
+    pe: Pe,
+    root: u64,
+    tag: Tag,
+) -> Result<bool, NoMemory>
+    ensures { IfOk result (λ holds. holds ≡ spec.holds_at header.now Patterns pe root tag (reverse events.now)) }
+{
+    let mut watch = Watch::new(alloc)?;
+    for (i, event) in events.iter().enumerate() {
+        watch.take(alloc, header, &events[..i], event, pe, root, tag)?;
+    }
+    Ok(watch.holds)
+}
+
+/// Whether the root with this first page, by its address in bytes, holds the tag at some PE. `NoMemory` where there is
+/// none. Source: project's own choice, after Arm ARM (DDI 0487), "Translation Lookaside Buffers".
+pub fn holds_tag(
+    alloc: Global,
+    header: &Header,
+    events: &[Event],
+    root: u64,
+    tag: Tag,
+) -> Result<bool, NoMemory>
+    ensures { IfOk result (λ holds. holds ≡ spec.holds_tag header.now Patterns root tag (reverse events.now)) }
+{
+    for number in 0..header.pes {
+        let pe = Pe::new(number).unwrap();
+        if holds_at(alloc, header, events, pe, root, tag)? {
+            return Ok(true);
+        }
+    }
+    Ok(false)
+}
+
+// Whether the tag is in the list.
+fn has_tag(tags: &[Tag], tag: Tag) -> bool
+    ensures { result ≡ sets.has_tag tag tags.now }
+{
+    tags.iter().any(|other| same_tag(*other, tag))
+}
+
+// Adds the tag, unless it is there already.
+fn add_tag(tags: &mut Vec<Tag>, tag: Tag) -> Result<(), NoMemory>
+    ensures kept { OnOk result ((g : TheTag) → sets.has_tag g tags.old.items ≡ true
+        → sets.has_tag g tags.new.items ≡ true) }
+    ensures added { OnOk result ((g : TheTag) → is_same_tag tag g ≡ true → sets.has_tag g tags.new.items ≡ true) }
+{
+    if has_tag(tags, tag) {
+        Ok(())
+    } else {
+        tags.push(tag).map_err(|_| NoMemory)
+    }
+}
+
+// Adds the tag of the reading, where it is one of the root.
+fn add_reading(tags: &mut Vec<Tag>, reading: &Reading, root: u64) -> Result<(), NoMemory>
+    ensures kept { OnOk result ((g : TheTag) → sets.has_tag g tags.old.items ≡ true
+        → sets.has_tag g tags.new.items ≡ true) }
+    ensures added { OnOk result ((g : TheTag) → (is_same_tag reading.now.tag g && reading.now.root == root) ≡ true
+        → sets.has_tag g tags.new.items ≡ true) }
+{
+    if reading.root == root {
+        add_tag(tags, reading.tag)
+    } else {
+        Ok(())
+    }
+}
+
+// Adds the tags that are readable for the root.
+fn add_readings(tags: &mut Vec<Tag>, readings: &[Reading], root: u64) -> Result<(), NoMemory>
+    ensures kept { OnOk result ((g : TheTag) → sets.has_tag g tags.old.items ≡ true
+        → sets.has_tag g tags.new.items ≡ true) }
+    ensures added { OnOk result ((g : TheTag) → moments.is_read readings.now g root ≡ true
+        → sets.has_tag g tags.new.items ≡ true) }
+{
+    for reading in readings {
+        add_reading(tags, reading, root)?;
+    }
+    Ok(())
+}
+
+// Adds the tags that are readable for the root after the event, unless they are those from before it.
+fn add_read_now(
+    alloc: Global,
+    tags: &mut Vec<Tag>,
+    moment: &Moment,
+    header: &Header,
+    event: &Event,
+    root: u64,
+) -> Result<(), NoMemory>
+    ensures kept { OnOk result ((g : TheTag) → sets.has_tag g tags.old.items ≡ true
+        → sets.has_tag g tags.new.items ≡ true) }
+    ensures added { OnOk result ((p : ℕ) (h : List TheEvent)
+        → moments.IsMoment header.now.world p (event.now ∷ h) moment.now
+        → ((g : TheTag) → sets.was_read header.now p root g h ≡ true → sets.has_tag g tags.old.items ≡ true)
+        → (g : TheTag) → sets.was_read header.now p root g (event.now ∷ h) ≡ true
+        → sets.has_tag g tags.new.items ≡ true) }
+{
+    if changes_readings(event) {
+        let readings = moment.readings(alloc, header)?;
+        add_readings(tags, &readings, root)?;
+    }
+    Ok(())
+}
+
+// Adds the tags that were readable for the root at the PE at some moment.
+fn add_read_at(
+    alloc: Global,
+    tags: &mut Vec<Tag>,
+    header: &Header,
+    events: &[Event],
+    pe: Pe,
+    root: u64,
+) -> Result<(), NoMemory>
+    ensures kept { OnOk result ((g : TheTag) → sets.has_tag g tags.old.items ≡ true
+        → sets.has_tag g tags.new.items ≡ true) }
+    ensures added { OnOk result ((g : TheTag) → sets.was_read header.now pe root g (reverse events.now) ≡ true
+        → sets.has_tag g tags.new.items ≡ true) }
+{
+    let mut moment = Moment::new(alloc)?;
+    for event in events {
+        moment.take(header, event, pe)?;
+        add_read_now(alloc, tags, &moment, header, event, root)?;
+    }
+    Ok(())
+}
+
+// Every tag that the root may hold at some PE.
+fn candidates(
+    alloc: Global,
+    header: &Header,
+    events: &[Event],
+    root: u64,
+) -> Result<Vec<Tag>, NoMemory>
+    ensures { IfOk result (λ tags. (g : TheTag) → spec.holds_tag header.now Patterns root g (reverse events.now) ≡ true
+        → sets.has_tag g tags.items ≡ true) }
+{
+    let mut tags = Vec::new(alloc);
+    for number in 0..header.pes {
+        let pe = Pe::new(number).unwrap();
+        add_read_at(alloc, &mut tags, header, events, pe, root)?;
+    }
+    Ok(tags)
+}
+
+// The set with the tag.
+fn with_tag(set: TagSet, tag: Tag) -> TagSet
+    ensures { (test hit : TheTag → Bool) → sets.HasTags test set → hit tag ≡ true
+        → ((g : TheTag) → hit g ≡ true → g ≡ tag) → sets.HasTags (λ g. test g || hit g) result }
+{
+    match set {
+        TagSet::None => TagSet::One(tag),
+        TagSet::One(one) => {
+            if same_tag(one, tag) {
+                TagSet::One(one)
+            } else {
+                TagSet::Many
+            }
+        }
+        TagSet::Many => TagSet::Many,
+    }
+}
+
+// The set with the tag, where the root holds it.
+fn with_held(
+    alloc: Global,
+    header: &Header,
+    events: &[Event],
+    root: u64,
+    set: TagSet,
+    tag: Tag,
+) -> Result<TagSet, NoMemory>
+    ensures { IfOk result (λ after. (test : TheTag → Bool) → sets.HasTags test set → sets.HasTags (λ g. test g
+        || (is_same_tag tag g && spec.holds_tag header.now Patterns root g (reverse events.now))) after) }
+{
+    law_equality_tests();
+    if holds_tag(alloc, header, events, root, tag)? {
+        Ok(with_tag(set, tag))
+    } else {
+        Ok(set)
+    }
+}
+
+// Those of the tags that the root holds.
+fn held_among(
+    alloc: Global,
+    header: &Header,
+    events: &[Event],
+    root: u64,
+    tags: &[Tag],
+) -> Result<TagSet, NoMemory>
+    ensures { IfOk result (λ set. sets.HasTags (λ g. sets.has_tag g tags.now
+        && spec.holds_tag header.now Patterns root g (reverse events.now)) set) }
+{
+    let mut set = TagSet::None;
+    for tag in tags {
+        set = with_held(alloc, header, events, root, set, *tag)?;
+    }
+    Ok(set)
+}
+
+/// The tags that the root with this first page, by its address in bytes, holds at any PE. `NoMemory` where there is
+/// none. Source: project's own choice, after Arm ARM (DDI 0487), "Translation Lookaside Buffers".
+pub fn tag_set_of(
+    alloc: Global,
+    header: &Header,
+    events: &[Event],
+    root: u64,
+) -> Result<TagSet, NoMemory>
+    ensures { IfOk result (λ set. set ≡ spec.tag_set (spec.tags_of header.now Patterns root (reverse events.now))) }
+{
+    law_tag_set();
+    law_equality_tests();
+    let tags = candidates(alloc, header, events, root)?;
+    held_among(alloc, header, events, root, &tags)
+}

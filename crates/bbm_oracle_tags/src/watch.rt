@@ -1,0 +1,266 @@
+//! A walk over the events that watches one tag at one PE.
+
+ghost use Rattle.std.specs.Prelude.{◌≡◌, ℕ, not, ◌==◌, ◌&&◌, ◌||◌, false, Option, List, [], ◌∷◌, reverse, IfOk, OnOk};
+ghost use Rattle.bbm_regimes.specs.PeMask.{pe_in};
+ghost use Rattle.bbm_regimes.specs.declared.regime.Tag.{Tag as TheTag};
+ghost use Rattle.bbm_barriers.specs.Options as options;
+ghost use Rattle.bbm_tlbi_scope.specs.Tags.{takes_whole_tag};
+ghost use Rattle.bbm_tlbi_scope.specs.declared.scope.Scope.{Scope as TheScope};
+ghost use Rattle.bbm_events.specs.Heading.{Heading};
+ghost use Rattle.bbm_events.specs.declared.event.Event.{Event};
+ghost use Rattle.bbm_events.specs.declared.event.Event.TheVariants.{Tlbi};
+ghost use Rattle.bbm_rules.specs.Changes.{changes};
+ghost use Rattle.bbm_rules.specs.Reach as reach;
+ghost use Rattle.bbm_rules.specs.Registers as registers;
+ghost use Rattle.bbm_rules.specs.Tags as tags;
+ghost use Rattle.bbm_oracle_tags.specs.Watches as spec;
+
+use crate::moment::Moment;
+use crate::reach::reaches;
+use crate::readings::{is_read, is_read_for_some};
+use crate::registers::vmid_of;
+use bbm_barriers::{Dsb, completes_broadcast, completes_local};
+use bbm_events::{Event, Header};
+use bbm_regimes::{NoMemory, Pe, PeMask, Tag};
+use bbm_tlbi_scope::{Family, Scope, TlbiOp, decode, whole_tag};
+use std::alloc::Global;
+
+/// One tag of a root at one PE, at a moment of a walk over the events. Source: project's own choice.
+#[derive(Drop)]
+pub struct Watch {
+    /// What the PE may use.
+    pub moment: Moment,
+    /// Whether the tag is readable for the root.
+    pub reads: bool,
+    /// Whether it is readable for some root.
+    pub reads_some: bool,
+    /// Whether the root holds the tag.
+    pub holds: bool,
+    /// The PEs with an unanswered TLBI that isn't broadcast and takes the tag, which wasn't readable since.
+    pub local: PeMask,
+    /// The same of broadcast TLBIs.
+    pub broadcast: PeMask,
+}
+
+/// Whether the event may change what is readable.
+pub fn changes_readings(event: &Event) -> bool
+    ensures { result ≡ ((changes event.now).roots || (changes event.now).registers) }
+{
+    matches!(
+        *event,
+        Event::Root { .. } | Event::Unroot { .. } | Event::Isb { .. } | Event::Msr { .. }
+    )
+}
+
+// Whether some TLBI of the family takes the whole tag.
+fn suits(family: Family, tag: Tag) -> bool
+    ensures { result ≡ false → (scope : TheScope) (vmid : Option ℕ) → scope.family ≡ family
+        → takes_whole_tag scope vmid tag ≡ false }
+{
+    match tag {
+        Tag::El2 => matches!(family, Family::El2All),
+        Tag::Vmid(_) => matches!(family, Family::E1All | Family::VmAll12),
+        Tag::Asid(_) => matches!(family, Family::VmAll1 | Family::Asid),
+        Tag::Ttbr1 => matches!(family, Family::VmAll1),
+    }
+}
+
+// Whether a TLBI of this scope by the PE, after these events, takes the whole tag.
+fn takes_under(
+    alloc: Global,
+    header: &Header,
+    before: &[Event],
+    pe: Pe,
+    scope: Scope,
+    tag: Tag,
+) -> Result<bool, NoMemory>
+    ensures { IfOk result (λ takes. takes
+        ≡ takes_whole_tag scope (registers.vmid_of header.now (reverse before.now) pe) tag) }
+{
+    if !suits(scope.family, tag) {
+        return Ok(false);
+    }
+    let vmid = vmid_of(alloc, header, before, pe)?;
+    Ok(whole_tag(scope, vmid, tag))
+}
+
+// Whether the TLBI, after these events, takes the whole tag.
+fn takes_by(
+    alloc: Global,
+    header: &Header,
+    before: &[Event],
+    pe: Pe,
+    op: TlbiOp,
+    xt: u64,
+    tag: Tag,
+) -> Result<bool, NoMemory>
+    ensures { IfOk result (λ takes. takes ≡ tags.takes_tag header.now (Tlbi pe op xt) (reverse before.now) tag) }
+{
+    match decode(op, xt) {
+        Ok(scope) => takes_under(alloc, header, before, pe, scope, tag),
+        Err(_) => Ok(false),
+    }
+}
+
+// Whether the event, after these, is a TLBI that reaches the PE and takes the whole tag. Where the tag is readable, any
+// answer will do.
+fn takes(
+    alloc: Global,
+    header: &Header,
+    before: &[Event],
+    event: &Event,
+    pe: Pe,
+    tag: Tag,
+    reads_some: bool,
+) -> Result<bool, NoMemory>
+    ensures { reads_some ≡ false → IfOk result (λ takes. takes ≡ (reach.reaches header.now event.now pe
+        && tags.takes_tag header.now event.now (reverse before.now) tag)) }
+{
+    if reads_some || !reaches(header, event, pe) {
+        return Ok(false);
+    }
+    match *event {
+        Event::Tlbi { pe: issuer, op, xt } => {
+            takes_by(alloc, header, before, issuer, op, xt, tag)
+        }
+        _ => Ok(false),
+    }
+}
+
+// Whether the DSB completes TLBIs of this sort, broadcast or not.
+fn answers(dsb: Dsb, cast: bool) -> bool
+    ensures { result ≡ options.answers dsb cast }
+{
+    if cast {
+        completes_broadcast(dsb)
+    } else {
+        completes_local(dsb)
+    }
+}
+
+// Whether the event answers a TLBI that a PE awaits.
+fn loses(event: &Event, broadcast: PeMask, local: PeMask) -> bool
+    ensures { result ≡ spec.loses_by event.now (pe_in broadcast) (pe_in local) }
+{
+    match *event {
+        Event::Dsb { pe, dsb } => {
+            (answers(dsb, true) && broadcast.has(pe)) || (answers(dsb, false) && local.has(pe))
+        }
+        _ => false,
+    }
+}
+
+// The set with the PE.
+fn with_pe(pes: PeMask, pe: Pe, added: bool) -> PeMask
+    ensures { (q : ℕ) → pe_in result q ≡ ((pe == q && added) || pe_in pes q) }
+{
+    if added { pes.or(PeMask::one(pe)) } else { pes }
+}
+
+// The set without the PE.
+fn without_pe(pes: PeMask, pe: Pe, removed: bool) -> PeMask
+    ensures { (q : ℕ) → pe_in result q ≡ (pe_in pes q && not (pe == q && removed)) }
+{
+    if removed {
+        pes.minus(PeMask::one(pe))
+    } else {
+        pes
+    }
+}
+
+// The PEs that await a TLBI of this sort after the event, unless the tag is readable then.
+fn awaiting(pes: PeMask, event: &Event, cast: bool, takes: bool) -> PeMask
+    ensures { (q : ℕ) → pe_in result q ≡ spec.awaits_after cast takes false event.now q (pe_in pes q) }
+{
+    match *event {
+        Event::Tlbi { pe, op, .. } => with_pe(pes, pe, op.is_broadcast() == cast && takes),
+        Event::Dsb { pe, dsb } => without_pe(pes, pe, answers(dsb, cast)),
+        _ => pes,
+    }
+}
+
+// The PEs that await a TLBI of this sort after the event.
+fn awaiting_after(pes: PeMask, event: &Event, cast: bool, takes: bool, reads_some: bool) -> PeMask
+    ensures { (q : ℕ) → pe_in result q ≡ spec.awaits_after cast takes reads_some event.now q (pe_in pes q) }
+{
+    if reads_some {
+        PeMask::none()
+    } else {
+        awaiting(pes, event, cast, takes)
+    }
+}
+
+// Whether the root holds the tag after an event.
+fn holds_after(reads: bool, holds: bool, lost: bool) -> bool
+    ensures { result ≡ (reads || (holds && not lost)) }
+{
+    reads || (holds && !lost)
+}
+
+impl Watch {
+    ghost use Rattle.bbm_oracle_tags.specs.Watches.{IsWatch};
+
+    /// The watch before any event. `NoMemory` where there is none.
+    pub fn new(alloc: Global) -> Result<Watch, NoMemory>
+        ensures { IfOk result (λ watch. (heading : Heading) (p root : ℕ) (tag : TheTag)
+            → IsWatch heading p root tag [] watch) }
+    {
+        let moment = Moment::new(alloc)?;
+        Ok(Watch {
+            moment,
+            reads: false,
+            reads_some: false,
+            holds: false,
+            local: PeMask::none(),
+            broadcast: PeMask::none(),
+        })
+    }
+
+    // What the PE may use after the event, and what is readable then.
+    fn look(
+        &mut self,
+        alloc: Global,
+        header: &Header,
+        event: &Event,
+        pe: Pe,
+        root: u64,
+        tag: Tag,
+    ) -> Result<(), NoMemory>
+        ensures looks { OnOk result ((h : List Event) → spec.Looks header.now pe root tag h self.old
+            → spec.Looks header.now pe root tag (event.now ∷ h) self.new) }
+        ensures holds { self.new.holds ≡ self.old.holds }
+        ensures local { self.new.local ≡ self.old.local }
+        ensures broadcast { self.new.broadcast ≡ self.old.broadcast }
+    {
+        self.moment.take(header, event, pe)?;
+        if changes_readings(event) {
+            let readings = self.moment.readings(alloc, header)?;
+            self.reads = is_read(&readings, tag, root);
+            self.reads_some = is_read_for_some(&readings, tag);
+        }
+        Ok(())
+    }
+
+    /// The watch after one more event, where those before it are given. `NoMemory` where there is none.
+    pub fn take(
+        &mut self,
+        alloc: Global,
+        header: &Header,
+        before: &[Event],
+        event: &Event,
+        pe: Pe,
+        root: u64,
+        tag: Tag,
+    ) -> Result<(), NoMemory>
+        ensures { OnOk result (IsWatch header.now pe root tag (reverse before.now) self.old
+            → IsWatch header.now pe root tag (event.now ∷ reverse before.now) self.new) }
+    {
+        let whole = takes(alloc, header, before, event, pe, tag, self.reads_some)?;
+        let lost = loses(event, self.broadcast, self.local);
+        self.look(alloc, header, event, pe, root, tag)?;
+        self.holds = holds_after(self.reads, self.holds, lost);
+        self.local = awaiting_after(self.local, event, false, whole, self.reads_some);
+        self.broadcast = awaiting_after(self.broadcast, event, true, whole, self.reads_some);
+        Ok(())
+    }
+}
