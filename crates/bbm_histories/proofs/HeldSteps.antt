@@ -1,11 +1,9 @@
 -- What one more event does to what a place holds.
-use Rattle.std.proofs.Common.{◌≡◌, ℕ, ◌<◌, ◌⊎◌, ◌&&◌, ◌||◌, Bool, true, false, cond, ◌==◌, List, [], ◌∷◌, ◌++◌, Option, Some, None, option_and_then, refl, sym, ◌∙◌, ap, subst, inl, inr, true≢false}
-use Rattle.std.proofs.lemmas.Bool.{and_parts, eq-eqb, eqb-true, not-false, or_parts}
+use Rattle.std.proofs.Common.{◌≡◌, ℕ, ◌<◌, ◌⊎◌, ◌||◌, Bool, true, false, cond, ◌==◌, List, [], ◌∷◌, ◌++◌, Option, Some, None, option_and_then, refl, sym, ◌∙◌, ap, subst, inl, inr, true≢false}
+use Rattle.std.proofs.lemmas.Bool.{eq-eqb, eqb-true, or_parts}
 use Rattle.bbm_barriers.specs.declared.Dsb.{Dsb as Barrier}
 use Rattle.bbm_regimes.specs.declared.regime.Kind.{Kind}
-use Rattle.bbm_descriptor.specs.Descriptor.{Form, core_in, desc_as, desc_of, differ, form_of, is_valid, needs, same_bool, valid_form}
-use Rattle.bbm_descriptor.specs.declared.desc.Desc.{Desc}
-use Rattle.bbm_descriptor.specs.declared.desc.Desc.TheVariants.{Invalid, Table, Leaf}
+use Rattle.bbm_descriptor.specs.Descriptor.{is_valid, needs}
 use Rattle.bbm_events.specs.Heading.{Heading}
 use Rattle.bbm_events.specs.declared.event.Event.{Event}
 use Rattle.bbm_events.specs.declared.event.Event.TheVariants.{Init, Write, Dsb}
@@ -18,53 +16,12 @@ use Rattle.bbm_rules.specs.Notes.{Noted, events_of}
 use Rattle.bbm_rules.specs.Pages.{is_null}
 use Rattle.bbm_rules.specs.PatternSentences.{Cleansed, Holds}
 use Rattle.bbm_rules.specs.Places.{page_of}
-use Rattle.bbm_rules.specs.Tree.{Node, held_at, in_tree, next_in, next_of, node_of}
+use Rattle.bbm_rules.specs.Tree.{Node, held_at, in_tree, node_of}
 use Rattle.bbm_rules.specs.Values.{value_of}
 use Rattle.bbm_histories.specs.Below.{Below}
 use Rattle.bbm_histories.specs.Tree.{HeldChange}
 use Rattle.bbm_histories.proofs.Induction.{Unbroken, if_none}
 use Rattle.bbm_histories.proofs.PatternLemmas.{cleansed_stays, one_begins, two_begin}
-
--- ---- a write over a value of the same core
-
-next_back : (d d' : Desc) (next : ℕ) → (d ≡ Invalid → ⊥) → differ (core_in d) (core_in d') ≡ false
-    → next_in d' ≡ Some next → next_in d ≡ Some next
-next_back Invalid d' next valid same e = absurd (valid refl)
-next_back (Table q ns) Invalid next valid same e = cc
-next_back (Table q ns) (Leaf out attrs share global contiguous) next valid same e = cc
-next_back (Table q ns) (Table q' ns') next valid same e =
-    let k = and_parts (q == q') (same_bool ns ns') (not-false (q == q' && same_bool ns ns') same) in
-    ap Some (eqb-true q q' k.0) ∙ e
-next_back (Leaf out attrs share global contiguous) Invalid next valid same e = cc
-next_back (Leaf out attrs share global contiguous) (Leaf out' attrs' share' global' contiguous') next valid same e = cc
-next_back (Leaf out attrs share global contiguous) (Table q' ns') next valid same e = absurd (true≢false same)
-
-next_on : (d d' : Desc) (next : ℕ) → (d' ≡ Invalid → ⊥) → differ (core_in d) (core_in d') ≡ false
-    → next_in d ≡ Some next → next_in d' ≡ Some next
-next_on d Invalid next valid same e = absurd (valid refl)
-next_on Invalid (Table q' ns') next valid same e = cc
-next_on Invalid (Leaf out' attrs' share' global' contiguous') next valid same e = cc
-next_on (Table q ns) (Table q' ns') next valid same e =
-    let k = and_parts (q == q') (same_bool ns ns') (not-false (q == q' && same_bool ns ns') same) in
-    ap Some (sym (eqb-true q q' k.0)) ∙ e
-next_on (Table q ns) (Leaf out' attrs' share' global' contiguous') next valid same e = absurd (true≢false same)
-next_on (Leaf out attrs share global contiguous) (Table q' ns') next valid same e = cc
-next_on (Leaf out attrs share global contiguous) (Leaf out' attrs' share' global' contiguous') next valid same e = cc
-
-not_invalid : (form : Form) (kind : Kind) (level value : ℕ) → valid_form form ≡ true → desc_as form kind level value ≡ Invalid → ⊥
-not_invalid Form.invalid kind level value v e = true≢false (sym v)
-not_invalid Form.table kind level value v e = cc
-not_invalid Form.leaf kind level value v e = cc
-
-pub table_back : (kind : Kind) (level old new next : ℕ) → is_valid kind level old ≡ true → needs kind level old new ≡ false
-    → next_of kind level new ≡ Some next → next_of kind level old ≡ Some next
-table_back kind level old new next valid same e =
-    next_back (desc_of kind level old) (desc_of kind level new) next (not_invalid (form_of level old) kind level old valid) same e
-
-pub table_on : (kind : Kind) (level old new next : ℕ) → is_valid kind level new ≡ true → needs kind level old new ≡ false
-    → next_of kind level old ≡ Some next → next_of kind level new ≡ Some next
-table_on kind level old new next valid same e =
-    next_on (desc_of kind level old) (desc_of kind level new) next (not_invalid (form_of level new) kind level new valid) same e
 
 -- ---- a DSB alone cleanses
 
