@@ -10,8 +10,10 @@ pub mod looking;
 pub mod machine;
 mod making;
 pub mod pending;
+pub mod safety;
 pub mod starting;
 pub mod step;
 
 pub use laws::{law_conflict, law_run};
+pub use safety::law_safe;
 pub use step::Step;
