@@ -1,4 +1,9 @@
+mod AfterEvent
 mod Cases
+mod Covered
+mod Descs
+mod Elements
+mod Facts
 mod ListWords
 pub mod LookBack
 pub mod FollowSteps
@@ -9,3 +14,5 @@ mod RootSizes
 mod RunLaw
 mod RunTexts
 mod SafeLaw
+mod Regions
+mod Scopes

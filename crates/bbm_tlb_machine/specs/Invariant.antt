@@ -27,12 +27,12 @@ pub record IsLog (heading : Heading) (log : List Event) : Type 0 where
 
 -- ---- the shape of an entry
 
--- the part was read at a place of the node's page
-pub record IsAt (n : Node) (root : ℕ) (part : Part) : Type 0 where
+-- the part was read at a place of the node's page, in the tables of the root of this first page
+pub record IsAt (n : Node) (from : ℕ) (part : Part) : Type 0 where
   pub inside : page_of part.place ≡ n.page
   pub kind : n.kind ≡ part.kind
   pub level : n.level ≡ part.level
-  pub root : n.root ≡ root
+  pub root : n.root ≡ from
   pub region : region_start n part.place ≡ part.first
 
 -- the part was read in the next page of the one above it, one level deeper
@@ -73,19 +73,21 @@ module _ (heading : Heading) where
   abbrev pub IsNear : Entry → ℕ → Type 0
   IsNear x p = (p ≡ x.pe) ⊎ ((heading.cnp ≡ true) × (p < heading.pes))
 
-  module _ (trust : Trust) (h : List Event) (x : Entry) where
-    -- In the trees: each part was read at a place of a page of the trees, at the kind, level and region that it has there.
-    pub record Placed (part : Part) : Type 0 where
+  module _ (trust : Trust) (h : List Event) where
+    -- In the trees: the part was read at a place of a page of the trees, in those of the root of this first page, at the
+    -- kind, level and region that the place has there.
+    pub record Placed (from : ℕ) (part : Part) : Type 0 where
       pub node : Node
       pub in_tree : Contains (tree heading trust (noted heading trust h)) node
-      pub is_at : IsAt node x.root part
+      pub is_at : IsAt node from part
 
-    -- Held: what the place of a part holds has the core of the value that was read.
+    -- Held: what the place of the part holds has the core of the value that was read.
     pub record Holding (part : Part) : Type 0 where
       pub value : ℕ
       pub holds : held heading trust part.kind part.level part.place (noted heading trust h) ≡ Some value
       pub same_core : needs part.kind part.level value part.value ≡ false
 
+  module _ (trust : Trust) (h : List Event) (x : Entry) where
     -- this is said of each place of a part, at each PE near, and of what came after the last valid write of the place
     abbrev pub AtParts : (ℕ → ℕ → List Noted → Type 0) → Type 0
     AtParts Says = (part : Part) → Contains (parts_of x) part → (w : ValidWrite)
@@ -116,8 +118,8 @@ module _ (heading : Heading) where
 
     pub record Fine : Type 0 where
       pub shape : Shape (length h) x
-      pub placed : (part : Part) → Contains (parts_of x) part → Placed part
-      pub holding : (part : Part) → Contains (parts_of x) part → Holding part
+      pub placed : (part : Part) → Contains (parts_of x) part → Placed trust h x.root part
+      pub holding : (part : Part) → Contains (parts_of x) part → Holding trust h part
       pub uncleansed : Uncleansed
       pub tagged : Tagged
       pub made_before : MadeBefore
