@@ -86,7 +86,7 @@ named_family heading h pe op xt s e = by (lacks_vmid heading h pe op) e
 -- ---- covers by kind and family
 
 -- the test of the VMID aside
-cover_inside : (s : Scope) (vmid : Option ℕ) (v : PlaceView) (cover : Cover) → (cover ≡ NoCover → ⊥) → cover_of s vmid v ≡ cover
+pub cover_inside : (s : Scope) (vmid : Option ℕ) (v : PlaceView) (cover : Cover) → (cover ≡ NoCover → ⊥) → cover_of s vmid v ≡ cover
     → cover_by v.kind s.family (fits_place s v) s vmid v ≡ cover
 cover_inside s vmid v cover some e = by (scope_lacks_vmid s.vmid_scoped vmid) e
   where
@@ -94,10 +94,6 @@ cover_inside s vmid v cover some e = by (scope_lacks_vmid s.vmid_scoped vmid) e
         → cover_by v.kind s.family (fits_place s v) s vmid v ≡ cover
     by true k = absurd (some (sym k))
     by false k = k
-
-where_fits_is : (c d : Cover) (b : Bool) → where_fits c b ≡ d → (d ≡ c) ⊎ (d ≡ NoCover)
-where_fits_is c d true e = inl (sym e)
-where_fits_is c d false e = inr (sym e)
 
 -- the rank of a cover tells it from the others
 abbrev rank : Cover → ℕ

@@ -23,11 +23,11 @@ use Rattle.bbm_rules.specs.PatternSentences.{Holds, IsLastValid, Publication, Se
 use Rattle.bbm_rules.specs.Places.{page_of}
 use Rattle.bbm_rules.specs.Prelude.{Heading, Kind, Ttbr0, Tag, Event, Init}
 use Rattle.bbm_rules.specs.Reach.{Issued, reaches, unanswered}
-use Rattle.bbm_rules.specs.Roots.{Declared, is_root, roots_of}
+use Rattle.bbm_rules.specs.Roots.{Declared, is_root, roots_of, start_of}
 use Rattle.bbm_rules.specs.Sentences.{HoldsTag, IsDeclared, Open}
 use Rattle.bbm_rules.specs.Tags.{holds_at, holds_tag, itself, reads, tag_set, tags_of}
 use Rattle.bbm_rules.specs.TagSentences.{ReadsTag}
-use Rattle.bbm_rules.specs.Tree.{Node, held_at, in_tree, is_childless, next_of, node_below, node_of, tree}
+use Rattle.bbm_rules.specs.Tree.{Node, held_at, in_tree, is_childless, next_of, node_below, node_of, nodes_of_root, tree}
 use Rattle.bbm_rules.specs.TreeSentences.{Childless, IsNode}
 use Rattle.bbm_rules.specs.Values.{is_readable}
 use Rattle.bbm_histories.specs.Tags.{HeldBetween, kind_of_tag}
@@ -74,6 +74,7 @@ pub record Known (heading : Heading) (trust : Trust) : Type 0 where
   pub root_of_kind : (h : List Event) (kind : Kind) (page : ℕ) → is_root h kind page ≡ true
       → (r : Declared) × IsDeclared h r × (r.page ≡ page) × (r.kind ≡ kind)
   pub root_complete : (h : List Event) (r : Declared) → IsDeclared h r → Contains (roots_of h) r
+  pub start_level : (r : Declared) (n : Node) → Contains (nodes_of_root heading r) n → n.level ≡ start_of heading.world r.kind
   pub open_complete : (q : ℕ) (h : List Event) (t : Issued Event) → Open itself q h t → Contains (unanswered itself q h) t
   pub reads_sound : (h : List Event) (p : ℕ) (tag : Tag) (root : ℕ) → reads heading h p tag root ≡ true
       → ReadsTag heading.world h p tag root

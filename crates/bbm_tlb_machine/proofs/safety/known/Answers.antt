@@ -23,6 +23,7 @@ returns c heading trust ok = record {
   childless_sound = c.law_childless.ensures.sound heading trust;
   root_of_kind = c.law_root.ensures.of_kind;
   root_complete = c.law_root.ensures.complete;
+  start_level = λ r n there. (c.law_root_pages.ensures.fields heading r n there).1;
   open_complete = c.law_answered.ensures.complete;
   reads_sound = c.law_readable_tag.ensures.sound heading;
   tag_held_complete = c.law_tag_held.ensures.complete heading trust;

@@ -1,13 +1,10 @@
-use Rattle.bbm_tlb_machine.proofs.Covered.{covering}
-use Rattle.bbm_tlb_machine.proofs.Regions.{inside_of}
-use Rattle.bbm_tlb_machine.proofs.AfterEvent.{last_step}
-use Rattle.bbm_tlb_machine.proofs.Scopes.{must_go_by}
-use Rattle.bbm_tlb_machine.proofs.Elements.{event_at}
-use Rattle.bbm_tlb_machine.proofs.Descs.{no_need}
+use Rattle.bbm_tlb_machine.proofs.Runs.{run_fine, safe_log}
 use Rattle.bbm_tlb_machine.proofs.safety.law_safe.Goals as goal
 
 pub returns-clause-safe : goal.returns-clause-safe
-returns-clause-safe c = ?
+returns-clause-safe c heading trust log is_log kept =
+    safe_log heading trust (c.known.ensures heading trust is_log.header) log is_log kept
 
 pub returns-clause-fine : goal.returns-clause-fine
-returns-clause-fine c = ?
+returns-clause-fine c heading trust steps s is_log kept run l i =
+    run_fine heading trust (c.known.ensures heading trust is_log.header) steps s is_log kept run l i
