@@ -45,7 +45,6 @@ module _ (heading : Heading) (trust : Trust) (k : Known heading trust) (h : List
   pub below_placed : (part above : Part) → IsBelow part above → Placed heading trust h x.root above → Holding heading trust h above
       → is_valid above.kind above.level above.value ≡ true → Placed heading trust h x.root part
   below_placed part above c p q valid =
-      let n : Node = p.node in
       let next : next_of p.node.kind p.node.level q.value ≡ Some (page_of part.place)
       = ap next_in (means heading trust k h kept x above p.node p.is_at q valid) ∙ c.inside in
       record {

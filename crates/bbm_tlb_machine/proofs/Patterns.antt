@@ -71,7 +71,7 @@ module _ (heading : Heading) where
   takes_whole (Tlbi pe op xt) before tag e = by (named_scope heading before pe op xt) refl e
     where
       by : (o : Option Scope) → named_scope heading before pe op xt ≡ o
-          → (elim o [ | None ↦ false | Some scope ↦ takes_whole_tag scope (vmid_of heading before pe) tag ]) ≡ true
+          → (elim o [ None ↦ false | Some scope ↦ takes_whole_tag scope (vmid_of heading before pe) tag ]) ≡ true
           → TakesWhole (Tlbi pe op xt) before tag
       by None n e = absurd (true≢false (sym e))
       by (Some scope) n e = record { pe = pe; op = op; xt = xt; scope = scope; is = refl; named = n; whole = e }
@@ -197,7 +197,6 @@ module _ (heading : Heading) (trust : Trust) (k : Known heading trust) (h : List
     full_goes : t.tlbi.covers part.place ≡ Full → ⊥
     full_goes full =
         let c : Covering heading h x a.q t Full = covers Full full_some full in
-        let vmid : Option ℕ = vmid_of heading (events_of c.older) c.by_scope.pe in
         stays Full c x.since
         (k.full_takes c.by_scope.scope (vmid_of heading (events_of c.older) c.by_scope.pe) (head_of x) c.view c.agrees c.by_scope.covers)
         (full_age c.view.kind c.by_scope.scope.family (fits_place c.by_scope.scope c.view) c.by_scope.scope

@@ -70,15 +70,10 @@ module _ (heading : Heading) where
       → (n : Node) × Contains (start_nodes heading kind (root_of heading.world kind place)) n
       × IsAt n (root_of heading.world kind place) (first_part heading kind place value)
   start_node kind place value of_world some =
-      let c : ℕ = page_count heading.world kind in
-      let i : ℕ = input_pages (start_of heading.world kind) in
-      let first : ℕ = first_input_page heading.world kind in
-      let r : ℕ = root_of heading.world kind place in
       let p : PlaceIn place (page_count heading.world kind) = place_in place (page_count heading.world kind) some in
       let n : Node = node_at kind (start_of heading.world kind) (root_of heading.world kind place)
       (root_of heading.world kind place + 4096 * p.page)
-      (first_input_page heading.world kind + 512 * (p.page * input_pages (start_of heading.world kind))) in
-      (
+      (first_input_page heading.world kind + 512 * (p.page * input_pages (start_of heading.world kind))) in (
         n,
         subst (λ (pages : List ℕ). Contains (nodes_of_pages kind (start_of heading.world kind) (root_of heading.world kind place)
             (first_input_page heading.world kind) pages) n) (sym (pages_are kind place of_world))

@@ -182,7 +182,6 @@ module _ (heading : Heading) (trust : Trust) (k : Known heading trust) where
         → Contains (readings heading (Msr pe reg value ∷ s.log) pe) r → r.tag ≡ tag_of_entry x → r.root ≡ x.root
     no_other pe value reg is_pe kept r i e =
         let older : keeps heading trust s.log ≡ true = keeps_older heading trust (Msr pe reg value ∷ []) s.log kept in
-        let h : List Event = Msr pe reg value ∷ s.log in
         let none : LeavesIt heading s.log (Msr pe reg value) x = λ q dsb is. absurd (apart q dsb is) in
         let tagged = tagged_after heading trust k s.log (Msr pe reg value) older x f none in
         let made : x.since ≤ length (Msr pe reg value ∷ s.log) = omega (arith, f.shape.made) in

@@ -1,5 +1,5 @@
--- What is true of each entry that some TLB keeps, in each run over a log that keeps the rules, point by point. `h` are the
--- events taken so far, newest first. It is what shows that a log which keeps the rules is safe.
+-- What is true of each entry that some TLB keeps, in each run over a log that keeps the rules, point by point. Here `h`
+-- are the events taken so far, newest first. `law_fine` says that it is so, and `law_safe` stands on it.
 -- Source: project's own choice.
 use Rattle.std.specs.Prelude.{◌≡◌, ℕ, suc, ◌+◌, ◌*◌, ◌<◌, ◌≤◌, ◌⊎◌, true, false, List, [], ◌∷◌, length, Some, Contains}
 use Rattle.bbm_descriptor.specs.Descriptor.{is_valid, needs}
@@ -58,8 +58,9 @@ module _ (heading : Heading) where
   Begins root part [] = (n : Node) × Contains (start_nodes part.kind root) n × IsAt n root part
   Begins root part (above ∷ parts) = Begins root above parts
 
-  -- Shape: the entry is of a PE of the header, made and joined by now; its kind fits the tables that it was read through;
-  -- its first part was read in a page of its root, and each other in the next page of the one above it; each value is valid.
+  -- Shape: the entry is of a PE of the header, made and joined by now; its kind fits the tables that it was read
+  -- through; its first part was read in a page of its root, and each other in the next page of the one above it; each
+  -- value is valid.
   pub record Shape (now : ℕ) (x : Entry) : Type 0 where
     pub is_pe : x.pe < heading.pes
     pub made : x.since ≤ now
@@ -69,13 +70,14 @@ module _ (heading : Heading) where
     pub chained : Chained x.last x.above
     pub valid : (part : Part) → Contains (parts_of x) part → is_valid part.kind part.level part.value ≡ true
 
-  -- The PEs at which the entry was or may come to be: its own, and where TLBs may copy entries from one another each PE.
+  -- Near: a PE at which the entry was or may come to be. That is its own PE, and where TLBs may copy entries from one
+  -- another each PE of the header.
   abbrev pub IsNear : Entry → ℕ → Type 0
   IsNear x p = (p ≡ x.pe) ⊎ ((heading.cnp ≡ true) × (p < heading.pes))
 
   module _ (trust : Trust) (h : List Event) where
-    -- In the trees: the part was read at a place of a page of the trees, in those of the root of this first page, at the
-    -- kind, level and region that the place has there.
+    -- In the trees: the part was read at a place of a page of the trees, in the tree of the root of this first page, at
+    -- the kind, level and region that the place has there.
     pub record Placed (from : ℕ) (part : Part) : Type 0 where
       pub node : Node
       pub in_tree : Contains (tree heading trust (noted heading trust h)) node
@@ -88,7 +90,7 @@ module _ (heading : Heading) where
       pub same_core : needs part.kind part.level value part.value ≡ false
 
   module _ (trust : Trust) (h : List Event) (x : Entry) where
-    -- this is said of each place of a part, at each PE near, and of what came after the last valid write of the place
+    -- this holds of each place of a part, at each PE near, and of what came after the last valid write of the place
     abbrev pub AtParts : (ℕ → ℕ → List Noted → Type 0) → Type 0
     AtParts Says = (part : Part) → Contains (parts_of x) part → (w : ValidWrite)
         → last_valid part.kind part.level part.place (noted heading trust h) ≡ Some w → (p : ℕ) → IsNear x p
@@ -98,7 +100,8 @@ module _ (heading : Heading) where
     abbrev pub Uncleansed : Type 0
     Uncleansed = AtParts (λ place p since. Cleansed heading trust place p since → ⊥)
 
-    -- Made before: the entry was made before any barrier that publishes a write of a part's place.
+    -- Made before: the entry was made before any barrier that publishes a write of a part's place, after the last valid
+    -- one.
     abbrev pub MadeBefore : Type 0
     MadeBefore = AtParts (λ place p since. (b : Noted) → Publication heading place p since b → x.since < b.position)
 
@@ -108,7 +111,8 @@ module _ (heading : Heading) where
     JoinedBefore = AtParts (λ place p since. (b : Noted) (t : Issued Noted) (d : Noted)
         → HalfBy heading place p since b t d → (x.kind ≡ Combined) × (x.joined < d.position))
 
-    -- Tag: at a PE near, the entry's tag was readable for its root when the entry was made, and no TLBI since takes it away.
+    -- Tag: at a PE near, the entry's tag was readable for its root when the entry was made, and no TLBI since takes it
+    -- away.
     pub record Tagged : Type 0 where
       pub pe : ℕ
       pub near : IsNear x pe

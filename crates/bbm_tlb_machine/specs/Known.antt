@@ -41,14 +41,15 @@ pub record Known (heading : Heading) (trust : Trust) : Type 0 where
       × (is_valid kind level new ≡ true) × (core_of kind level old ≡ core_of kind level new → ⊥)
   pub same_cores : (one other : Core) → same_core one other ≡ true → one ≡ other
   -- scopes of TLBIs
-  pub full_takes : (s : Scope) (vmid : Option ℕ) (e : EntryHead) (v : PlaceView) → Agrees e v → cover_of s vmid v ≡ Full
-      → taken s vmid e ≡ true
+  pub full_takes : (s : Scope) (vmid : Option ℕ) (e : EntryHead) (v : PlaceView) → Agrees e v
+      → cover_of s vmid v ≡ Full → taken s vmid e ≡ true
   pub half_takes : (s : Scope) (vmid : Option ℕ) (e : EntryHead) (v : PlaceView) → Agrees e v → e.kind ≡ Stage2
       → cover_of s vmid v ≡ Half → taken s vmid e ≡ true
   pub second_takes : (s : Scope) (vmid : Option ℕ) (e : EntryHead) (v : PlaceView) → Agrees e v → e.kind ≡ Combined
       → cover_of s vmid v ≡ Second → taken s vmid e ≡ true
-  pub whole_tag_takes : (s : Scope) (vmid : Option ℕ) (e : EntryHead) (kind : Kind) → read_through e.kind kind ≡ true
-      → (kind ≡ Ttbr0 → is_global_leaf e ≡ false) → takes_whole_tag s vmid (tag_of kind e) ≡ true → taken s vmid e ≡ true
+  pub whole_tag_takes : (s : Scope) (vmid : Option ℕ) (e : EntryHead) (kind : Kind)
+      → read_through e.kind kind ≡ true → (kind ≡ Ttbr0 → is_global_leaf e ≡ false)
+      → takes_whole_tag s vmid (tag_of kind e) ≡ true → taken s vmid e ≡ true
   -- the rules
   pub unbroken : (h newer older : List Event) (e : Event) → keeps heading trust h ≡ true → h ≡ newer ++ e ∷ older
       → (rule : Rule) → breaks heading trust (noted heading trust older) e rule ≡ None
@@ -62,9 +63,9 @@ pub record Known (heading : Heading) (trust : Trust) : Type 0 where
       → held heading trust kind level place h ≡ Some value → Holds heading trust kind level place h value
   pub held_complete : (kind : Kind) (level place : ℕ) (h : List Noted) (value : ℕ)
       → Holds heading trust kind level place h value → held heading trust kind level place h ≡ Some value
-  pub seen_complete : (place p : ℕ) (since : List Noted) → Seen heading place p since → seen heading place p since ≡ true
+  pub seen_complete : (place p : ℕ) (since : List Noted) → Seen heading place p since
+      → seen heading place p since ≡ true
   pub tree_complete : (h : List Noted) (n : Node) → IsNode heading trust h n → Contains (tree heading trust h) n
-  pub tree_sound : (h : List Noted) (n : Node) → Contains (tree heading trust h) n → IsNode heading trust h n
   pub tree_below : (h : List Noted) (n : Node) (place value next : ℕ) → Contains (tree heading trust h) n
       → page_of place ≡ n.page → held_at heading trust h n place ≡ Some value → next_of n.kind n.level value ≡ Some next
       → Contains (tree heading trust h) (node_below n place next)
@@ -74,12 +75,12 @@ pub record Known (heading : Heading) (trust : Trust) : Type 0 where
   pub root_of_kind : (h : List Event) (kind : Kind) (page : ℕ) → is_root h kind page ≡ true
       → (r : Declared) × IsDeclared h r × (r.page ≡ page) × (r.kind ≡ kind)
   pub root_complete : (h : List Event) (r : Declared) → IsDeclared h r → Contains (roots_of h) r
-  pub start_level : (r : Declared) (n : Node) → Contains (nodes_of_root heading r) n → n.level ≡ start_of heading.world r.kind
-  pub open_complete : (q : ℕ) (h : List Event) (t : Issued Event) → Open itself q h t → Contains (unanswered itself q h) t
+  pub start_level : (r : Declared) (n : Node) → Contains (nodes_of_root heading r) n
+      → n.level ≡ start_of heading.world r.kind
+  pub open_complete : (q : ℕ) (h : List Event) (t : Issued Event) → Open itself q h t
+      → Contains (unanswered itself q h) t
   pub reads_sound : (h : List Event) (p : ℕ) (tag : Tag) (root : ℕ) → reads heading h p tag root ≡ true
       → ReadsTag heading.world h p tag root
-  pub tag_held_complete : (p root : ℕ) (tag : Tag) (h : List Event) → HoldsTag heading trust p root tag h
-      → holds_at heading trust p root tag h ≡ true
   pub no_tags : (root : ℕ) (h : List Event) → tag_set (tags_of heading trust root h) ≡ NoTag → (tag : Tag)
       → holds_tag heading trust root tag h ≡ false
   pub one_tag : (root : ℕ) (h : List Event) (g : Tag) → tag_set (tags_of heading trust root h) ≡ One g → (tag : Tag)
@@ -108,7 +109,8 @@ pub record Known (heading : Heading) (trust : Trust) : Type 0 where
       (newer before older : List Noted) (t : Noted) → HeldBy heading trust (noted heading trust h) n place value w
       → w.since ≡ newer ++ t ∷ before → noted heading trust h ≡ newer ++ t ∷ older → seen heading place p before ≡ true
       → StaysChildless heading trust (noted heading trust h) n value older
-  pub lower_leaves : (h : List Event) → keeps heading trust h ≡ true → NoGlobalLeaf heading trust (noted heading trust h)
+  pub lower_leaves : (h : List Event) → keeps heading trust h ≡ true
+      → NoGlobalLeaf heading trust (noted heading trust h)
   pub one_root : (h : List Event) → keeps heading trust h ≡ true → (r s : ℕ) (tag : Tag)
       → holds_tag heading trust r tag h ≡ true → holds_tag heading trust s tag h ≡ true → r ≡ s
   pub root_of_tag : (h : List Event) → keeps heading trust h ≡ true → (r : ℕ) (tag : Tag)

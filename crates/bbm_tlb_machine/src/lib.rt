@@ -2,18 +2,21 @@
 #![tactic(auto)]
 
 mod conflict;
-pub mod entry;
+mod entry;
 mod geometry;
 pub mod laws;
-pub mod living;
-pub mod looking;
+mod living;
+mod looking;
 pub mod machine;
 mod making;
-pub mod pending;
+mod pending;
 pub mod safety;
-pub mod starting;
+mod starting;
 pub mod step;
+#[cfg(test)]
+mod tests;
 
 pub use laws::{law_conflict, law_run};
-pub use safety::law_safe;
+pub use machine::{FollowFault, Machine, follow};
+pub use safety::{law_fine, law_safe};
 pub use step::Step;

@@ -19,7 +19,7 @@ use bbm_histories::{
 use bbm_rules::{
     law_answered, law_childless, law_each_rule, law_equality_tests, law_held, law_last_valid,
     law_notes, law_notes_keep_the_events, law_readable_tag, law_root, law_root_pages, law_seen,
-    law_tag_held, law_tag_set, law_tree,
+    law_tag_set, law_tree,
 };
 use bbm_tlbi_scope::{law_cover_takes, law_whole_tag_takes};
 
@@ -49,7 +49,6 @@ fn known()
     law_root_pages();
     law_same_core_is_equal();
     law_seen();
-    law_tag_held();
     law_tag_set();
     law_tags();
     law_tree();
@@ -58,15 +57,33 @@ fn known()
     law_window();
 }
 
-/// Every log that keeps the rules is safe: in each run over it no TLB keeps what a write, an init or a register write needs
-/// gone. And each entry that some TLB keeps in a run is fine, point by point; so it is for every trust. The call does
-/// nothing; the law is its contract.
-pub fn law_safe()
-    ensures safe { (heading : Heading) (trust : Trust) (log : List Event) → IsLog heading log → keeps heading trust log ≡ true →
-        Safe heading log }
-    ensures fine { (heading : Heading) (trust : Trust) (steps : List Step) (s : State) → IsLog heading s.log →
+/// In each run over a log that keeps the rules, each entry that some TLB keeps is fine, point by point, whatever the
+/// rules trust. A log has a header that can be said, and each event fits it. The law is the contract.
+pub fn law_fine()
+    ensures { (heading : Heading) (trust : Trust) (steps : List Step) (s : State) → IsLog heading s.log →
         keeps heading trust s.log ≡ true → IsRun heading steps s → (l : Living) → Contains s.living l →
         Fine heading trust s.log l.entry }
 {
     known();
+}
+
+/// Every log that keeps the rules is safe: in each run over it no TLB keeps what a write, an init or a register write
+/// needs gone. So it is where the rules trust every pattern, and where they trust those of a list of claims alone. A log
+/// has a header that can be said, and each event fits it. The law is the contract.
+pub fn law_safe()
+    ensures { (heading : Heading) (trust : Trust) (log : List Event) → IsLog heading log →
+        keeps heading trust log ≡ true → Safe heading log }
+{
+    known();
+}
+
+#[cfg(test)]
+mod tests {
+    use crate::safety::{law_fine, law_safe};
+
+    #[test]
+    fn laws_hold() {
+        law_fine();
+        law_safe();
+    }
 }
