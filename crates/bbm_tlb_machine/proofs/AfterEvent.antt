@@ -1,11 +1,10 @@
 -- What one more event does to the last valid write of a place and to the patterns after it.
-use Rattle.std.proofs.Common.{◌≡◌, ℕ, ◌⊎◌, ◌&&◌, Bool, true, false, cond, ◌==◌, List, [], ◌∷◌, ◌++◌, Option, Some, None, refl, sym, ◌∙◌, ap, subst, inl, inr}
+use Rattle.std.proofs.Common.{◌≡◌, ℕ, ◌⊎◌, ◌&&◌, Bool, true, false, cond, ◌==◌, List, [], ◌∷◌, ◌++◌, Some, None, sym, ◌∙◌, ap, subst, inl, inr}
 use Rattle.std.proofs.lemmas.List.{append_assoc}
 use Rattle.bbm_descriptor.specs.Descriptor.{is_valid}
-use Rattle.bbm_tlbi_scope.specs.declared.entry.Cover.{Cover}
 use Rattle.bbm_rules.specs.Held.{ValidWrite, last_valid, last_valid_after, later}
 use Rattle.bbm_rules.specs.Notes.{Noted, event_of}
-use Rattle.bbm_rules.specs.PatternSentences.{Answer, Flush, HalfBy, Publication}
+use Rattle.bbm_rules.specs.PatternSentences.{Answer, HalfBy, Publication}
 use Rattle.bbm_rules.specs.Places.{page_of}
 use Rattle.bbm_rules.specs.Prelude.{Barrier, Heading, Kind, Event, Init, Write, Dsb}
 use Rattle.bbm_rules.specs.Reach.{Issued, completes}

@@ -1,8 +1,8 @@
 -- What values of one core have in common, and what is known of tables and leaves.
-use Rattle.std.proofs.Common.{◌≡◌, ℕ, zero, suc, ◌+◌, ◌-◌, ◌*◌, ◌/◌, ◌^◌, ◌<◌, ◌≤◌, Bool, true, false, cond, ◌==◌, Option, Some, None, is_some, refl, sym, ◌∙◌, ap, subst, arith, true≢false}
+use Rattle.std.proofs.Common.{◌≡◌, ℕ, zero, suc, ◌+◌, ◌-◌, ◌*◌, ◌/◌, ◌^◌, ◌≤◌, Bool, true, false, cond, ◌==◌, Some, is_some, refl, sym, ◌∙◌, ap, subst, arith, true≢false}
 use Rattle.std.proofs.lemmas.Bool.{false_from_ne_true, not-false}
 use Rattle.bbm_regimes.specs.declared.regime.Kind.{Kind}
-use Rattle.bbm_descriptor.specs.Descriptor.{Form, core_in, desc_as, desc_of, desc_with, differ, form_01, form_11, form_of, is_valid, needs, same_core, valid_form}
+use Rattle.bbm_descriptor.specs.Descriptor.{Form, core_in, desc_as, desc_of, desc_with, differ, form_of, is_valid, needs, same_core, valid_form}
 use Rattle.bbm_descriptor.specs.Fields.{type_bits}
 use Rattle.bbm_descriptor.specs.declared.desc.Core.{Core}
 use Rattle.bbm_descriptor.specs.declared.desc.Core.TheVariants.{Table as CoreTable, Leaf as CoreLeaf}

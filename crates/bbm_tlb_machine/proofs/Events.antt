@@ -1,14 +1,13 @@
 -- An entry that is fine stays so after an event that breaks no rule and leaves it.
-use Rattle.std.proofs.Common.{◌≡◌, ℕ, suc, ◌<◌, ◌≤◌, ◌⊎◌, Bool, true, false, cond, List, [], ◌∷◌, length, Option, Some, None, Contains, refl, sym, ◌∙◌, ap, subst, inl, inr, arith}
+use Rattle.std.proofs.Common.{◌≡◌, ℕ, suc, ◌≤◌, true, false, cond, List, [], ◌∷◌, length, Option, Some, None, Contains, refl, sym, ◌∙◌, ap, subst, inl, inr, arith}
 use Rattle.bbm_regimes.specs.declared.regime.Kind.{Kind}
-use Rattle.bbm_descriptor.specs.Descriptor.{is_valid, needs}
+use Rattle.bbm_descriptor.specs.Descriptor.{needs}
 use Rattle.bbm_tlbi_scope.specs.Agreement.{tag_of}
 use Rattle.bbm_tlbi_scope.specs.declared.entry.EntryHead.{EntryHead}
 use Rattle.bbm_rules.specs.Broken.{keeps}
 use Rattle.bbm_rules.specs.Claims.{Trust}
 use Rattle.bbm_rules.specs.Covers.{note, noted}
 use Rattle.bbm_rules.specs.Held.{ValidWrite, cleansed_everywhere, held, last_valid, last_valid_after, later}
-use Rattle.bbm_rules.specs.Notes.{Noted}
 use Rattle.bbm_rules.specs.PatternSentences.{IsLastValid}
 use Rattle.bbm_rules.specs.Prelude.{Heading, El2, S2, Ttbr0, Ttbr1, Event, Dsb}
 use Rattle.bbm_rules.specs.Roots.{is_root}
@@ -16,7 +15,7 @@ use Rattle.bbm_rules.specs.Tree.{Node, held_at}
 use Rattle.bbm_histories.specs.Tags.{kind_of_tag}
 use Rattle.bbm_histories.specs.Tree.{HeldChange}
 use Rattle.bbm_tlb_machine.specs.Entry.{Entry, Part, head_of, parts_of, tag_of_entry}
-use Rattle.bbm_tlb_machine.specs.Invariant.{Fine, Holding, IsAt, Placed}
+use Rattle.bbm_tlb_machine.specs.Invariant.{Fine, Holding, IsAt}
 use Rattle.bbm_tlb_machine.specs.Known.{Known}
 use Rattle.bbm_tlb_machine.proofs.Descs.{no_need}
 use Rattle.bbm_tlb_machine.proofs.Facts.{held_there, held_valid, keeps_older, tag_now}

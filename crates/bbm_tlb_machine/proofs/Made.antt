@@ -1,5 +1,5 @@
 -- What a step of the machine makes of fine entries is fine: an entry that is started, extended, joined or copied.
-use Rattle.std.proofs.Common.{◌≡◌, ℕ, suc, ◌+◌, ◌-◌, ◌*◌, ◌<◌, ◌≤◌, ◌⊎◌, ◌&&◌, ◌==◌, nat_lt, Bool, true, false, List, [], ◌∷◌, ◌++◌, length, Option, Some, None, Contains, refl, sym, ◌∙◌, ap, subst, inl, inr, arith, true≢false, length-append}
+use Rattle.std.proofs.Common.{◌≡◌, ℕ, suc, ◌+◌, ◌<◌, ◌≤◌, nat_lt, true, false, List, [], ◌∷◌, length, Option, Some, None, Contains, refl, sym, ◌∙◌, ap, subst, inl, inr, arith, true≢false, length-append}
 use Rattle.std.proofs.lemmas.Bool.{and_parts, eqb-true, ltb-true}
 use Rattle.bbm_regimes.specs.declared.regime.Kind.{Kind}
 use Rattle.bbm_descriptor.specs.Descriptor.{is_valid, needs}
@@ -15,12 +15,12 @@ use Rattle.bbm_rules.specs.Lists.{is_that}
 use Rattle.bbm_rules.specs.Notes.{Noted}
 use Rattle.bbm_rules.specs.PatternSentences.{Cleansed, HalfBy, Publication}
 use Rattle.bbm_rules.specs.Places.{page_of}
-use Rattle.bbm_rules.specs.Prelude.{Heading, El2, S2, Ttbr0, Ttbr1, Tag, Vmid, Asid, Event, Dsb, kind_in_world, page_count}
+use Rattle.bbm_rules.specs.Prelude.{Heading, El2, S2, Ttbr0, Ttbr1, Tag, Vmid, Asid, Event, Dsb, kind_in_world}
 use Rattle.bbm_rules.specs.Reach.{Issued}
 use Rattle.bbm_rules.specs.Roots.{is_root}
 use Rattle.bbm_rules.specs.Sentences.{HoldsTag, TakenAway}
 use Rattle.bbm_rules.specs.Tags.{reads}
-use Rattle.bbm_rules.specs.Tree.{Node, held_at, next_of}
+use Rattle.bbm_rules.specs.Tree.{Node, next_of}
 use Rattle.bbm_rules.specs.Values.{is_readable}
 use Rattle.bbm_histories.specs.Values.{Window}
 use Rattle.bbm_tlb_machine.specs.Entry.{Entry, Part, head_of, parts_of, tag_of_entry}

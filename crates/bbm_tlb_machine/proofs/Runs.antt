@@ -1,9 +1,8 @@
 -- In each run over a log that keeps the rules each entry that is kept is fine; so the log is safe.
-use Rattle.std.proofs.Common.{◌≡◌, ℕ, suc, ◌<◌, ◌≤◌, arith, ◌⊎◌, not, ◌&&◌, ◌||◌, ◌==◌, nat_lt, Bool, true, false, cond, List, [], ◌∷◌, ◌++◌, length, Option, Some, None, option_map, find, filter, Contains, refl, sym, ◌∙◌, ap, subst, inl, inr, true≢false}
-use Rattle.std.proofs.lemmas.List.{append_assoc}
+use Rattle.std.proofs.Common.{◌≡◌, ℕ, suc, ◌<◌, ◌≤◌, arith, not, ◌&&◌, ◌==◌, nat_lt, Bool, true, false, cond, List, [], ◌∷◌, length, Option, Some, None, option_map, find, filter, Contains, refl, sym, ◌∙◌, ap, subst, inl, inr, true≢false}
 use Rattle.std.proofs.lemmas.Bool.{and_from, and_parts, eq-eqb, ltb-true, or_left, or_right}
 use Rattle.bbm_regimes.specs.declared.regime.Kind.{Kind}
-use Rattle.bbm_descriptor.specs.Descriptor.{is_valid, needs}
+use Rattle.bbm_descriptor.specs.Descriptor.{needs}
 use Rattle.bbm_events.specs.Fits.{fits_heading, is_value}
 use Rattle.bbm_events.specs.declared.machine.MachineLine.TheVariants.{Start, Extend, Combine, Share, Drop}
 use Rattle.bbm_rules.specs.declared.rule.Rule.TheVariants.{BreakBeforeMake}
@@ -11,10 +10,9 @@ use Rattle.bbm_rules.specs.Broken.{keeps}
 use Rattle.bbm_rules.specs.Claims.{Trust, same_tag}
 use Rattle.bbm_rules.specs.Covers.{noted}
 use Rattle.bbm_rules.specs.Lists.{◌>>=◌, any, if_so}
-use Rattle.bbm_rules.specs.Notes.{Noted}
 use Rattle.bbm_rules.specs.Places.{page_of}
 use Rattle.bbm_rules.specs.Prelude.{Barrier, Reg, Tag, Heading, Event, Init, Write, Dsb, Msr}
-use Rattle.bbm_rules.specs.Reach.{Issued, completes, unanswered}
+use Rattle.bbm_rules.specs.Reach.{completes, unanswered}
 use Rattle.bbm_rules.specs.Tags.{Reading, holds_at, holds_tag, itself, reads, readings}
 use Rattle.bbm_rules.specs.Tree.{Node, held_at, in_tree, node_of}
 use Rattle.bbm_tlb_machine.specs.declared.step.Step.{Step}
@@ -22,14 +20,12 @@ use Rattle.bbm_tlb_machine.specs.declared.step.Step.TheVariants.{Machine, Event 
 use Rattle.bbm_tlb_machine.specs.Entry.{Entry, Part, parts_of, tag_of_entry}
 use Rattle.bbm_tlb_machine.specs.Invariant.{Fine, Holding, IsLog, Placed}
 use Rattle.bbm_tlb_machine.specs.Known.{Known}
-use Rattle.bbm_tlb_machine.specs.Run.{IsRun, Leads, LeavesNone, Living, State, at_start, entry_at, with_entry, without}
+use Rattle.bbm_tlb_machine.specs.Run.{IsRun, Leads, LeavesNone, Living, State, entry_at, with_entry}
 use Rattle.bbm_tlb_machine.specs.Safe.{ComesTo, Safe}
-use Rattle.bbm_tlb_machine.specs.Step.{must_go}
 use Rattle.bbm_tlb_machine.proofs.Descs.{no_need}
 use Rattle.bbm_tlb_machine.proofs.Elements.{contains_after, contains_cases, contains_head, contains_more, contains_none, pe_finds}
 use Rattle.bbm_tlb_machine.proofs.Events.{fine_after}
 use Rattle.bbm_tlb_machine.proofs.Facts.{held_there, held_valid, keeps_older, tag_now}
-use Rattle.bbm_tlb_machine.proofs.ListWords.{if_so_some}
 use Rattle.bbm_tlb_machine.proofs.Made.{fine_combined, fine_extended, fine_shared, fine_start}
 use Rattle.bbm_tlb_machine.proofs.Patterns.{LeavesIt, tagged_after}
 

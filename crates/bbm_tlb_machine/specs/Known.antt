@@ -24,8 +24,8 @@ use Rattle.bbm_rules.specs.Places.{page_of}
 use Rattle.bbm_rules.specs.Prelude.{Heading, Kind, Ttbr0, Tag, Event, Init}
 use Rattle.bbm_rules.specs.Reach.{Issued, reaches, unanswered}
 use Rattle.bbm_rules.specs.Roots.{Declared, is_root, roots_of, start_of}
-use Rattle.bbm_rules.specs.Sentences.{HoldsTag, IsDeclared, Open}
-use Rattle.bbm_rules.specs.Tags.{holds_at, holds_tag, itself, reads, tag_set, tags_of}
+use Rattle.bbm_rules.specs.Sentences.{IsDeclared, Open}
+use Rattle.bbm_rules.specs.Tags.{holds_tag, itself, reads, tag_set, tags_of}
 use Rattle.bbm_rules.specs.TagSentences.{ReadsTag}
 use Rattle.bbm_rules.specs.Tree.{Node, held_at, in_tree, is_childless, next_of, node_below, node_of, nodes_of_root, tree}
 use Rattle.bbm_rules.specs.TreeSentences.{Childless, IsNode}
