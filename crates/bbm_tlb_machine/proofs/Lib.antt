@@ -5,20 +5,21 @@ mod Descs
 mod Elements
 mod Events
 mod Facts
+pub mod FollowSteps
 mod InTrees
-mod Made
-mod Patterns
 mod ListWords
 pub mod LookBack
-pub mod FollowSteps
+mod Made
 pub mod MadeLemmas
 pub mod PartLemmas
+mod Patterns
 pub mod PendingSteps
+mod ReadLogs
+mod Regions
 mod RootSizes
+mod Roots
 mod RunLaw
 mod RunTexts
 mod Runs
 mod SafeLaw
-mod Regions
-mod Roots
 mod Scopes

@@ -27,7 +27,8 @@ use Rattle.bbm_rules.specs.Roots.{Declared, is_root, roots_of, start_of}
 use Rattle.bbm_rules.specs.Sentences.{IsDeclared, Open}
 use Rattle.bbm_rules.specs.Tags.{holds_tag, itself, reads, tag_set, tags_of}
 use Rattle.bbm_rules.specs.TagSentences.{ReadsTag}
-use Rattle.bbm_rules.specs.Tree.{Node, held_at, in_tree, is_childless, next_of, node_below, node_of, nodes_of_root, tree}
+use Rattle.bbm_rules.specs.Tree.{Node, held_at, in_tree, is_childless, next_of, node_below, node_of, nodes_of_root}
+use Rattle.bbm_rules.specs.Tree.{tree}
 use Rattle.bbm_rules.specs.TreeSentences.{Childless, IsNode}
 use Rattle.bbm_rules.specs.Values.{is_readable}
 use Rattle.bbm_histories.specs.Tags.{HeldBetween, kind_of_tag}

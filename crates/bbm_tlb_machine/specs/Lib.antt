@@ -1,3 +1,4 @@
+pub mod Accepted
 pub mod Entry
 pub mod Followed
 pub mod Invariant

@@ -18,5 +18,5 @@ mod tests;
 
 pub use laws::{law_conflict, law_run};
 pub use machine::{FollowFault, Machine, follow};
-pub use safety::{law_fine, law_safe};
+pub use safety::{law_accepted_is_safe, law_fine, law_safe};
 pub use step::Step;

@@ -1,10 +1,14 @@
 //! The law of safe logs: no TLB keeps what a write, an init or a new root needs gone.
 
-ghost use Rattle.std.specs.Prelude.{◌≡◌, true, List, Contains};
+ghost use Rattle.std.specs.Prelude.{◌≡◌, ℕ, true, List, Contains};
 ghost use Rattle.bbm_events.specs.Heading.{Heading, heading_ok};
 ghost use Rattle.bbm_events.specs.declared.event.Event.{Event};
 ghost use Rattle.bbm_rules.specs.Broken.{keeps};
 ghost use Rattle.bbm_rules.specs.Claims.{Trust};
+ghost use Rattle.bbm_rules.specs.Outcome.{verdict_of_bytes};
+ghost use Rattle.bbm_rules.specs.declared.limits.Limits.{Limits};
+ghost use Rattle.bbm_rules.specs.declared.verdict.Verdict.TheVariants.{Accepted};
+ghost use Rattle.bbm_tlb_machine.specs.Accepted.{SafeBytes};
 ghost use Rattle.bbm_tlb_machine.specs.declared.step.Step.{Step};
 ghost use Rattle.bbm_tlb_machine.specs.Invariant.{Fine, IsLog};
 ghost use Rattle.bbm_tlb_machine.specs.Known.{Known};
@@ -12,6 +16,7 @@ ghost use Rattle.bbm_tlb_machine.specs.Run.{IsRun, Living, State};
 ghost use Rattle.bbm_tlb_machine.specs.Safe.{Safe};
 
 use bbm_descriptor::laws::{law_need, law_same_core_is_equal};
+use bbm_events::{law_header_in_range, law_item_fits};
 use bbm_histories::{
     law_frozen_view, law_held_changes, law_limbo_is_empty, law_lower_leaves, law_one_node,
     law_one_position, law_proper, law_tags, law_uniform, law_window,
@@ -68,8 +73,8 @@ pub fn law_fine()
 }
 
 /// Every log that keeps the rules is safe: in each run over it no TLB keeps what a write, an init or a register write
-/// needs gone. So it is where the rules trust every pattern, and where they trust those of a list of claims alone. A log
-/// has a header that can be said, and each event fits it. The law is the contract.
+/// needs gone. So it is where the rules trust every pattern, and where they trust those of a list of claims alone. A
+/// log has a header that can be said, and each event fits it. The law is the contract.
 pub fn law_safe()
     ensures { (heading : Heading) (trust : Trust) (log : List Event) → IsLog heading log →
         keeps heading trust log ≡ true → Safe heading log }
@@ -77,12 +82,24 @@ pub fn law_safe()
     known();
 }
 
+/// Where the verdict on bytes is that they are accepted, their first line is a header, and the log of all their events is
+/// safe under it. The law is the contract.
+pub fn law_accepted_is_safe()
+    ensures { (trust : Trust) (limits : Limits) (bytes : List ℕ) (count : ℕ) →
+        verdict_of_bytes trust limits bytes ≡ Accepted count → SafeBytes trust limits bytes }
+{
+    law_header_in_range();
+    law_item_fits();
+    law_safe();
+}
+
 #[cfg(test)]
 mod tests {
-    use crate::safety::{law_fine, law_safe};
+    use crate::safety::{law_accepted_is_safe, law_fine, law_safe};
 
     #[test]
     fn laws_hold() {
+        law_accepted_is_safe();
         law_fine();
         law_safe();
     }
