@@ -121,11 +121,7 @@ fn tell_explained<C: Checker, K: Sink>(
 }
 
 // Writes the line of a verdict, and behind it that of what was found.
-fn tell_found<K: Sink>(
-    verdict: &Verdict,
-    found: Option<Walk>,
-    out: &mut K,
-) -> Result<(), Failed>
+fn tell_found<K: Sink>(verdict: &Verdict, found: Option<Walk>, out: &mut K) -> Result<(), Failed>
     ensures puts { Puts (text_of_verdict verdict.now ++ text_of_found found) result
         (K.held out.old) (K.held out.new) (K.faults out.old) (K.faults out.new) }
 {

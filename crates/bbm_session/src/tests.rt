@@ -6,7 +6,7 @@ mod other_logs;
 mod told_logs;
 
 use super::*;
-use crate::tests::boot_log::BOOT;
+use crate::tests::boot_log::{BOOT_BEGIN, BOOT_REST};
 use crate::tests::el2_logs::EL2;
 use crate::tests::other_logs::{KERNEL, STAGE2, VERSIONED};
 use crate::tests::told_logs::TOLD;
@@ -712,12 +712,18 @@ fn tells_more_than_the_verdict(rt: HostRuntime) -> Result<(), Fail> {
 
 #[test]
 fn judges_the_log_of_a_boot(rt: HostRuntime) -> Result<(), Fail> {
-    let (status, sink) = checked(rt.alloc(), log(rt.alloc(), BOOT.0, BOOT.1, 1, b"")?)?;
-    assert_eq!(rt; sink.bytes(), b"accepted 596 events\n");
+    let (status, sink) = checked(rt.alloc(), log(rt.alloc(), BOOT_BEGIN, BOOT_REST, 1, b"")?)?;
+    assert_eq!(rt; sink.bytes(), b"accepted 596 events\n".as_slice());
     assert_eq!(rt; status, 0);
     // A PE that isn't one of the header, in place of line 128.
-    let (status, sink) = checked(rt.alloc(), log(rt.alloc(), BOOT.0, b"lock 4 1\n", 1, BOOT.1)?)?;
-    assert_eq!(rt; sink.bytes(), b"malformed line 128 cause 5 BadPe\n");
+    let (status, sink) = checked(
+        rt.alloc(),
+        log(rt.alloc(), BOOT_BEGIN, b"lock 4 1\n", 1, BOOT_REST)?,
+    )?;
+    assert_eq!(rt;
+        sink.bytes(),
+        b"malformed line 128 cause 5 BadPe\n".as_slice()
+    );
     assert_eq!(rt; status, 2);
     Ok(())
 }
@@ -852,7 +858,12 @@ fn tells_faults_in_mid_stream(rt: HostRuntime) -> Result<(), Fail> {
 /// PEs: the write that fails, the sink's room, what is written, and the status.
 const CUTS: [(u64, usize, &[u8], u8); 6] = [
     (1, 200, b"", 5),
-    (2, 200, b"refused line 6 rule 4 break-before-make at 0x40000008\n", 5),
+    (
+        2,
+        200,
+        b"refused line 6 rule 4 break-before-make at 0x40000008\n",
+        5,
+    ),
     (
         3,
         200,

@@ -1,8 +1,7 @@
 //! The log of a hypervisor that boots, makes and destroys two virtual machines, and moves its own pages.
 
-/// The log up to line 127, and from there on; the last line says how many events there are.
-pub const BOOT: (&[u8], &[u8]) = (
-    b"bbmlog 1 hyp 4 1 1 1
+/// Its first 127 lines.
+pub const BOOT_BEGIN: &[u8] = b"bbmlog 1 hyp 4 1 1 1
 init 0 0x40000000
 init 0 0x40001000
 init 0 0x40002000
@@ -129,8 +128,10 @@ w 0 0x400110f0 0x43c007fd
 w 0 0x400110f8 0x43e007fd
 dsb 0 ishst
 unlock 0 1
-",
-    b"lock 0 1
+";
+
+/// Its lines from 128 on. The last one says how many events there are.
+pub const BOOT_REST: &[u8] = b"lock 0 1
 w 0 0x40011000 0x0
 dsb 0 ishst
 tlbi 0 ipas2e1is 0x600000040000
@@ -601,5 +602,4 @@ w 3 0x40002038 0x60007703
 unlock 3 0
 isb 3
 end 596
-",
-);
+";

@@ -1,5 +1,3 @@
-use Rattle.std.proofs.Common.{[]}
-use Rattle.bbm_rules.specs.Outcome.{AtEvents, AtEnd}
 use Rattle.bbm_session.proofs.Stages.{shrinks-trans, closes-ends}
 use Rattle.bbm_session.proofs.judging.judge_events.Goals as goal
 

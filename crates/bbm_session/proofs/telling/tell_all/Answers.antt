@@ -1,4 +1,4 @@
-use Rattle.std.proofs.Common.{◌≡◌, ℕ, List, Some, ◌++◌, refl, sym, subst}
+use Rattle.std.proofs.Common.{Some, ◌++◌, refl, sym, subst}
 use Rattle.bbm_rules.specs.Texts.{verdict_text as text_of_verdict}
 use Rattle.bbm_report.specs.Further.{explained}
 use Rattle.bbm_session.specs.declared.command.Command.{Command}

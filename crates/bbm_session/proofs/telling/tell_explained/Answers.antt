@@ -1,6 +1,6 @@
-use Rattle.std.proofs.Common.{◌≡◌, ℕ, List, ◌++◌, Some, Ok, sym, ◌∙◌, subst}
+use Rattle.std.proofs.Common.{◌≡◌, ℕ, List, ◌++◌, Some, sym, subst}
 use Rattle.bbm_rules.specs.Texts.{verdict_text as text_of_verdict}
-use Rattle.bbm_report.specs.Further.{explained, phase_lines as lines_of_phases}
+use Rattle.bbm_report.specs.Further.{phase_lines as lines_of_phases}
 use Rattle.bbm_session.specs.Telling.{place_named}
 use Rattle.bbm_session.specs.Writing.{Puts}
 use Rattle.bbm_session.proofs.Puts.{puts-then, explained-at, knows-keeps}

@@ -1,4 +1,4 @@
-use Rattle.std.proofs.Common.{◌≡◌, ◌-◌, ◌≤◌, List, Ok}
+use Rattle.std.proofs.Common.{◌-◌, ◌≤◌, List, Ok}
 use Rattle.bbm_events.specs.declared.event.Event.{Event}
 use Rattle.bbm_report.specs.Further.{phase_lines as lines_of_phases}
 use Rattle.bbm_session.specs.Stages.{Keeps}

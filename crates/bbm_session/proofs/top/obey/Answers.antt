@@ -1,4 +1,4 @@
-use Rattle.std.proofs.Common.{◌≡◌, List, [], Some, refl, subst}
+use Rattle.std.proofs.Common.{[], Some, refl, subst}
 use Rattle.bbm_rules.specs.declared.limits.Limits.{Limits}
 use Rattle.bbm_rules.specs.Outcome.{AtHeader, AtEvents}
 use Rattle.bbm_session.specs.declared.stop.Stop.TheVariants.{NoMemory}

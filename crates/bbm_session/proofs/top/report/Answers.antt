@@ -1,7 +1,6 @@
-use Rattle.std.proofs.Common.{◌≡◌, Some, sym, ◌∙◌, subst}
+use Rattle.std.proofs.Common.{Some, sym, subst}
 use Rattle.bbm_session.specs.declared.status.Status.{Status}
 use Rattle.bbm_session.specs.declared.stop.Stop.{Stop}
-use Rattle.bbm_session.specs.Run.{status_of}
 use Rattle.bbm_session.specs.Stages.{KnowsAt}
 use Rattle.bbm_session.specs.Writing.{Wrote, Reports}
 use Rattle.bbm_session.proofs.top.report.Goals as goal
