@@ -9,7 +9,7 @@ use Rattle.bbm_events.specs.declared.event.Event.TheVariants.{Init, Null, Write}
 use Rattle.bbm_rules.specs.declared.rule.Rule.TheVariants.{RewrittenFresh}
 use Rattle.bbm_rules.specs.Claims.{Trust}
 use Rattle.bbm_rules.specs.Cleansing.{seen}
-use Rattle.bbm_rules.specs.Covers.{note}
+use Rattle.bbm_rules.specs.Covers.{note, noted}
 use Rattle.bbm_rules.specs.Held.{ValidWrite, held, last_valid}
 use Rattle.bbm_rules.specs.Notes.{Noted, events_of}
 use Rattle.bbm_rules.specs.Pages.{is_fresh, may_be_fresh}
@@ -40,6 +40,30 @@ fresh_is_outside heading trust [] page k = absurd (true≢false (sym k))
 fresh_is_outside heading trust (n ∷ h) page k =
     not-true (in_tree heading trust (n ∷ h) page)
     (and_parts (may_be_fresh n.event page (is_fresh heading trust h page)) (not (in_tree heading trust (n ∷ h) page)) k).1
+
+-- a page of a tree isn't fresh until its next init
+pub unfresh : (heading : Heading) (trust : Trust) (newer h : List Event) (page : ℕ)
+    → in_tree heading trust (noted heading trust h) page ≡ true → NoInit page newer
+    → is_fresh heading trust (noted heading trust (newer ++ h)) page ≡ false
+unfresh heading trust [] h page tracked none = by (is_fresh heading trust (noted heading trust h) page) refl
+  where
+    by : (c : Bool) → is_fresh heading trust (noted heading trust h) page ≡ c → c ≡ false
+    by false f = refl
+    by true f = absurd (true≢false (sym tracked ∙ fresh_is_outside heading trust (noted heading trust h) page f))
+unfresh heading trust (e ∷ newer) h page tracked none =
+    by (is_fresh heading trust (noted heading trust (e ∷ newer ++ h)) page) refl
+    (unfresh heading trust newer h page tracked (λ q after before s. none q (e ∷ after) before (ap (λ (xs : List Event). e ∷ xs) s)))
+  where
+    by : (c : Bool) → is_fresh heading trust (noted heading trust (e ∷ newer ++ h)) page ≡ c
+        → is_fresh heading trust (noted heading trust (newer ++ h)) page ≡ false → c ≡ false
+    by false f before = refl
+    by true f before =
+        let was : is_fresh heading trust (noted heading trust (newer ++ h)) page ≡ true
+        = was_fresh e page (is_fresh heading trust (noted heading trust (newer ++ h)) page)
+        (λ q is. none q [] newer (ap (λ (x : Event). x ∷ newer) is))
+        (and_parts (may_be_fresh e page (is_fresh heading trust (noted heading trust (newer ++ h)) page))
+        (not (in_tree heading trust (noted heading trust (e ∷ newer ++ h)) page)) f).0 in
+        absurd (true≢false (sym was ∙ before))
 
 module _ (heading : Heading) (trust : Trust) where
   -- the rule on fresh pages, for a write at a place with bit 0 set

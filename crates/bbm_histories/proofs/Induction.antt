@@ -25,6 +25,11 @@ module _ (heading : Heading) (trust : Trust) where
   last_kept b h e k =
       ((and_parts (keeps heading trust h) (is_none (broken heading trust h e)) k).0, b.unbroken (e ∷ h) [] h e k refl)
 
+  pub kept_before : (newer older : List Event) → keeps heading trust (newer ++ older) ≡ true → keeps heading trust older ≡ true
+  kept_before [] older k = k
+  kept_before (e ∷ newer) older k =
+      kept_before newer older (and_parts (keeps heading trust (newer ++ older)) (is_none (broken heading trust (newer ++ older) e)) k).0
+
   -- What holds at the start, and after each event that breaks no rule, holds of a history that keeps the rules.
   pub throughout : Below heading trust → (P : List Noted → Type 0) → P []
       → ((h : List Event) (e : Event) → keeps heading trust h ≡ true → Unbroken (noted heading trust h) e

@@ -14,3 +14,5 @@ pub mod LeafLemmas
 pub mod RootLemmas
 pub mod TagLemmas
 pub mod ProperLemmas
+pub mod StepLemmas
+pub mod AttachedLemmas

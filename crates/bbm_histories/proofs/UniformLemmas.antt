@@ -1,5 +1,5 @@
 -- Under `cnp` all PEs are alike.
-use Rattle.std.proofs.Common.{◌≡◌, ℕ, ◌<◌, Bool, true, ◌&&◌, ◌||◌, not, ◌==◌, nat_lt, List, refl, sym, ◌∙◌, ap, true≢false}
+use Rattle.std.proofs.Common.{◌≡◌, ℕ, ◌<◌, Bool, true, false, ◌&&◌, ◌||◌, not, ◌==◌, nat_lt, List, refl, sym, ◌∙◌, ap, true≢false}
 use Rattle.std.proofs.lemmas.Bool.{and_from, and_parts, lt-ltb}
 use Rattle.bbm_barriers.specs.declared.Dsb.{Dsb as Barrier}
 use Rattle.bbm_barriers.specs.declared.Domain.{Domain}
@@ -14,6 +14,7 @@ use Rattle.bbm_events.specs.Heading.{Heading}
 use Rattle.bbm_events.specs.declared.event.Event.{Event}
 use Rattle.bbm_events.specs.declared.event.Event.TheVariants.{Tlbi}
 use Rattle.bbm_rules.specs.Claims.{Trust}
+use Rattle.bbm_rules.specs.Cleansing.{half, seen}
 use Rattle.bbm_rules.specs.Notes.{Noted}
 use Rattle.bbm_rules.specs.PatternSentences.{Flush, HalfBy, Publication}
 use Rattle.bbm_rules.specs.Reach.{Issued, reaches}
@@ -89,3 +90,29 @@ module _ (heading : Heading) (cnp : heading.cnp ≡ true) where
         split = s.split;
         publishes = publishes_alike s.dsb q p r below s.publishes;
       })
+
+  -- two tests that follow from each other are the same
+  same_tests : (x y : Bool) → (x ≡ true → y ≡ true) → (y ≡ true → x ≡ true) → x ≡ y
+  same_tests true y there back = sym (there refl)
+  same_tests false true there back = back refl
+  same_tests false false there back = refl
+
+  pub seen_alike : (trust : Trust) → Below heading trust → (place p r : ℕ) (since : List Noted) → p < heading.pes → r < heading.pes
+      → seen heading place p since ≡ seen heading place r since
+  seen_alike trust b place p r since is_pe is_pe' =
+      same_tests (seen heading place p since) (seen heading place r since) (go p r is_pe') (go r p is_pe)
+    where
+      go : (p r : ℕ) → r < heading.pes → seen heading place p since ≡ true → seen heading place r since ≡ true
+      go p r below s =
+          let k = b.seen_sound place p since s in
+          b.seen_complete place r since (k.0, publication_alike place p r since k.0 below k.1)
+
+  pub half_test_alike : (trust : Trust) → Below heading trust → (place p r : ℕ) (since : List Noted) → p < heading.pes → r < heading.pes
+      → half heading place p since ≡ half heading place r since
+  half_test_alike trust b place p r since is_pe is_pe' =
+      same_tests (half heading place p since) (half heading place r since) (go p r is_pe') (go r p is_pe)
+    where
+      go : (p r : ℕ) → r < heading.pes → half heading place p since ≡ true → half heading place r since ≡ true
+      go p r below s =
+          let k = b.half_sound place p since s in
+          b.half_complete place r since (k.0, k.1, k.2, half_alike place p r since k.0 k.1 k.2 below k.3)

@@ -135,9 +135,6 @@ module _ (heading : Heading) (trust : Trust) (b : Below heading trust) where
                   ∙ limbo_rule c x below w.0 v (subst (λ (y : Event). Unbroken heading trust h y) w.1 kept)))
             ]
           where
-            child : Childless heading trust h n value → Node
-            child c = node_below n place c.next
-
             child_in_tree : (c : Childless heading trust h n value) → InTree heading trust h (node_below n place c.next)
             child_in_tree c = b.tree_below h n place value c.next k.in_tree inside k.holds c.table
 

@@ -1,26 +1,29 @@
--- What the crate of the rules proves of its definitions, as one record, so that each proof here takes it as one hypothesis.
-use Rattle.std.specs.Prelude.{◌≡◌, ◌↔◌, ℕ, ◌+◌, ◌%◌, ◌<◌, true, false, List, [], ◌∷◌, ◌++◌, length, Option, Some, None, Contains}
+-- What the crate of the rules proves of its definitions, as one record, so that each proof here takes it as one
+-- hypothesis.
+use Rattle.std.specs.Prelude.{◌≡◌, ◌↔◌, ℕ, ◌+◌, ◌%◌, ◌<◌, true, false, List, [], ◌∷◌, ◌++◌, length, Option, Some, None}
+use Rattle.std.specs.Prelude.{Contains}
 use Rattle.bbm_descriptor.specs.Descriptor.{desc_of, is_valid}
 use Rattle.bbm_rules.specs.Prelude.{Kind, Ttbr0, Reg, Tag, Heading, Event, Root, Unroot, Write, Msr}
 use Rattle.bbm_rules.specs.declared.rule.Rule.{Rule}
 use Rattle.bbm_rules.specs.Attach.{End, attached_by, attached_from}
 use Rattle.bbm_rules.specs.Broken.{breaks, keeps}
 use Rattle.bbm_rules.specs.Claims.{Trust}
-use Rattle.bbm_rules.specs.Cleansing.{seen}
+use Rattle.bbm_rules.specs.Cleansing.{half, seen}
 use Rattle.bbm_rules.specs.Covers.{is_global, noted}
 use Rattle.bbm_rules.specs.Lists.{among}
 use Rattle.bbm_rules.specs.Registers.{base_of, register_values, same_reg}
 use Rattle.bbm_rules.specs.Held.{ValidWrite, held, last_valid}
 use Rattle.bbm_rules.specs.Notes.{Noted, events_of}
 use Rattle.bbm_rules.specs.Pages.{is_fresh}
-use Rattle.bbm_rules.specs.PatternSentences.{Holds, IsLastValid, Seen}
+use Rattle.bbm_rules.specs.PatternSentences.{Holds, IsHalf, IsLastValid, Seen}
 use Rattle.bbm_rules.specs.Places.{page_of}
 use Rattle.bbm_rules.specs.Roots.{Declared, is_root, kind_in_world, page_count, root_pages, roots_of, start_of}
 use Rattle.bbm_rules.specs.Rules.{global_user, no_root, not_fresh, page_in_use, root_in_use, tag_conflict}
 use Rattle.bbm_rules.specs.Sentences.{HoldsTag, IsDeclared, Published, Readable}
 use Rattle.bbm_rules.specs.TagSentences.{ReadsTag}
 use Rattle.bbm_rules.specs.Tags.{holds_at, holds_tag, reads}
-use Rattle.bbm_rules.specs.Tree.{Node, held_at, in_limbo, in_tree, is_childless, next_of, node_below, node_of, nodes_of_root, tree}
+use Rattle.bbm_rules.specs.Tree.{Node, held_at, in_limbo, in_tree, is_childless, next_of, node_below, node_of}
+use Rattle.bbm_rules.specs.Tree.{nodes_of_root, tree}
 use Rattle.bbm_rules.specs.TreeSentences.{Childless, InLimbo, IsNode, Leads}
 use Rattle.bbm_rules.specs.Values.{is_readable, published, value_of}
 
@@ -32,7 +35,8 @@ pub record Below (heading : Heading) (trust : Trust) : Type 0 where
   pub last_complete : (kind : Kind) (level place : ℕ) (h : List Noted) (w : ValidWrite)
       → IsLastValid kind level place h w → last_valid kind level place h ≡ Some w
   pub live_is_last : (kind : Kind) (level place : ℕ) (h : List Noted)
-      → is_valid kind level (value_of (events_of h) place) ≡ true → (w : ValidWrite) × (last_valid kind level place h ≡ Some w)
+      → is_valid kind level (value_of (events_of h) place) ≡ true
+      → (w : ValidWrite) × (last_valid kind level place h ≡ Some w)
       × (w.value ≡ value_of (events_of h) place) × ((q v : ℕ) (n : Noted) (after before : List Noted)
       → w.since ≡ after ++ n ∷ before → n.event ≡ Write q place v → ⊥)
   pub valid_is_odd : (kind : Kind) (level value : ℕ) → is_valid kind level value ≡ true → value % 2 ≡ 1
@@ -67,7 +71,8 @@ pub record Below (heading : Heading) (trust : Trust) : Type 0 where
       → not_fresh heading trust h (Write pe place value) ≡ None → (page : ℕ) → Contains pages page
       → is_fresh heading trust h page ≡ true
   pub rooted_fresh : (h : List Noted) (pe : ℕ) (kind : Kind) (lock : Option ℕ) (first page : ℕ)
-      → page_in_use heading trust h (Root pe kind lock first) ≡ None → Contains (root_pages heading.world kind first) page
+      → page_in_use heading trust h (Root pe kind lock first) ≡ None
+      → Contains (root_pages heading.world kind first) page
       → is_fresh heading trust h page ≡ true
   pub childless_sound : (h : List Noted) (n : Node) (value : ℕ) → is_childless heading trust h n value ≡ true
       → Childless heading trust h n value
@@ -75,13 +80,19 @@ pub record Below (heading : Heading) (trust : Trust) : Type 0 where
       → is_childless heading trust h n value ≡ true
   pub limbo_complete : (h : List Noted) (n : Node) → InLimbo h n → in_limbo h n ≡ true
   pub seen_sound : (place p : ℕ) (since : List Noted) → seen heading place p since ≡ true → Seen heading place p since
-  pub seen_complete : (place p : ℕ) (since : List Noted) → Seen heading place p since → seen heading place p since ≡ true
+  pub seen_complete : (place p : ℕ) (since : List Noted) → Seen heading place p since
+      → seen heading place p since ≡ true
+  pub half_sound : (place p : ℕ) (since : List Noted) → half heading place p since ≡ true → IsHalf heading place p since
+  pub half_complete : (place p : ℕ) (since : List Noted) → IsHalf heading place p since
+      → half heading place p since ≡ true
   pub readable_sound : (h : List Event) (place p value : ℕ) → is_readable heading h place p value ≡ true
       → Readable heading h place p value
   pub readable_complete : (h : List Event) (place p value : ℕ) → Readable heading h place p value
       → is_readable heading h place p value ≡ true
-  pub published_sound : (q p : ℕ) (later : List Event) → published heading q p later ≡ true → Published heading q p later
-  pub published_complete : (q p : ℕ) (later : List Event) → Published heading q p later → published heading q p later ≡ true
+  pub published_sound : (q p : ℕ) (later : List Event) → published heading q p later ≡ true
+      → Published heading q p later
+  pub published_complete : (q p : ℕ) (later : List Event) → Published heading q p later
+      → published heading q p later ≡ true
   pub root_sound : (h : List Event) (r : Declared) → Contains (roots_of h) r → IsDeclared h r
   pub root_complete : (h : List Event) (r : Declared) → IsDeclared h r → Contains (roots_of h) r
   pub root_node : (r : Declared) (n : Node) → Contains (nodes_of_root heading r) n
@@ -94,8 +105,10 @@ pub record Below (heading : Heading) (trust : Trust) : Type 0 where
   pub root_of_kind : (h : List Event) (kind : Kind) (page : ℕ) → is_root h kind page ≡ true
       → (r : Declared) × IsDeclared h r × (r.page ≡ page) × (r.kind ≡ kind)
   pub is_root_of_kind : (h : List Event) (r : Declared) → IsDeclared h r → is_root h r.kind r.page ≡ true
-  pub written_lower : (h : List Noted) (pe place value : ℕ) (n : Node) → global_user heading trust h (Write pe place value) ≡ None
-      → node_of heading trust h (page_of place) ≡ Some n → n.kind ≡ Ttbr0 → is_global (desc_of n.kind n.level value) ≡ false
+  pub written_lower : (h : List Noted) (pe place value : ℕ) (n : Node)
+      → global_user heading trust h (Write pe place value) ≡ None
+      → node_of heading trust h (page_of place) ≡ Some n → n.kind ≡ Ttbr0
+      → is_global (desc_of n.kind n.level value) ≡ false
   pub attached_lower : (h : List Noted) (e : Event) (level : ℕ) (pages : List ℕ)
       → attached_by heading trust h e ≡ Some (attached_from heading trust h Ttbr0 level pages)
       → global_user heading trust h e ≡ None → (page place : ℕ) (places : List ℕ) (end : End) → Contains pages page
@@ -106,10 +119,12 @@ pub record Below (heading : Heading) (trust : Trust) : Type 0 where
   pub reads_complete : (h : List Event) (p : ℕ) (tag : Tag) (root : ℕ) → ReadsTag heading.world h p tag root
       → reads heading h p tag root ≡ true
   pub one_holder : (h : List Noted) (pe : ℕ) (reg : Reg) (value : ℕ) (tag : Tag) (root : ℕ) (r : Declared)
-      → tag_conflict heading trust h (Msr pe reg value) ≡ None → reads heading (Msr pe reg value ∷ events_of h) pe tag root ≡ true
+      → tag_conflict heading trust h (Msr pe reg value) ≡ None
+      → reads heading (Msr pe reg value ∷ events_of h) pe tag root ≡ true
       → Contains (roots_of (Msr pe reg value ∷ events_of h)) r
       → holds_tag heading trust r.page tag (Msr pe reg value ∷ events_of h) ≡ true → r.page ≡ root
-  pub no_base : (h : List Noted) (pe page p : ℕ) (reg : Reg) (value : ℕ) → root_in_use heading trust h (Unroot pe page) ≡ None
+  pub no_base : (h : List Noted) (pe page p : ℕ) (reg : Reg) (value : ℕ)
+      → root_in_use heading trust h (Unroot pe page) ≡ None
       → no_root heading trust h (Unroot pe page) ≡ None → p < heading.pes
       → among value (register_values (events_of h) p reg) ≡ true → base_of value ≡ Some page → ⊥
   pub no_tag : (h : List Noted) (pe page : ℕ) (tag : Tag) → root_in_use heading trust h (Unroot pe page) ≡ None

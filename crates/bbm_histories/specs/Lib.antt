@@ -1,5 +1,6 @@
 pub mod Below
 pub mod Patterns
+pub mod Steps
 pub mod Tags
 pub mod Tree
 pub mod Values

@@ -1,6 +1,7 @@
 -- What is known of tags. A history is newest first. Source: project's own choice.
 use Rattle.std.specs.Prelude.{◌≡◌, ℕ, ◌<◌, true, false, List, ◌∷◌, ◌++◌}
-use Rattle.bbm_rules.specs.Prelude.{Kind, El2, S2, Ttbr0, Ttbr1, Reg, Tag, El2Tag, Vmid, Asid, Ttbr1Tag, Heading, Event, Isb, Msr}
+use Rattle.bbm_rules.specs.Prelude.{Kind, El2, S2, Ttbr0, Ttbr1, Reg, Tag, El2Tag, Vmid, Asid, Ttbr1Tag, Heading, Event}
+use Rattle.bbm_rules.specs.Prelude.{Isb, Msr}
 use Rattle.bbm_rules.specs.Claims.{Trust}
 use Rattle.bbm_rules.specs.Sentences.{HoldsTag}
 use Rattle.bbm_rules.specs.Tags.{holds_at, reads}
@@ -26,4 +27,5 @@ module _ (heading : Heading) where
   -- A root that holds a tag by a moment at which it was readable held it at each moment since.
   abbrev pub HeldBetween : Trust → Type 0
   HeldBetween trust = (p root : ℕ) (tag : Tag) (h : List Event) (k : HoldsTag heading trust p root tag h)
-      → (after between : List Event) → k.newer ≡ after ++ between → holds_at heading trust p root tag (between ++ k.older) ≡ true
+      → (after between : List Event) → k.newer ≡ after ++ between
+      → holds_at heading trust p root tag (between ++ k.older) ≡ true

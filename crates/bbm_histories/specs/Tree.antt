@@ -71,7 +71,8 @@ module _ (heading : Heading) (trust : Trust) where
         → is_some (held heading trust m.kind above.level above.place h) ≡ true
 
     -- The tree after an event, by the tree before it. A write and a `root` add what they attach; an `unroot` takes what
-    -- lies below its root; a DSB takes what lies below a place that it ends to hold anything; no other event changes it.
+    -- lies below its root; a DSB takes what lies below a place that it ends to hold anything; no other event changes
+    -- it.
     abbrev pub InTreeAfter : Event → Node → Type 0
     InTreeAfter (Write pe place value) m = InTree m ⊎ Attaches (Write pe place value) m
     InTreeAfter (Root pe kind lock page) m = InTree m ⊎ Attaches (Root pe kind lock page) m
@@ -98,7 +99,8 @@ module _ (heading : Heading) (trust : Trust) where
 
   -- Limbo is empty: where the table was childless before t, it still is.
   abbrev pub StaysChildless : List Noted → Node → ℕ → List Noted → Type 0
-  StaysChildless h n value older = is_childless heading trust older n value ≡ true → is_childless heading trust h n value ≡ true
+  StaysChildless h n value older = is_childless heading trust older n value ≡ true
+      → is_childless heading trust h n value ≡ true
 
   -- Leaves of the lower range: what a place of a tree of it holds isn't a leaf for every ASID.
   abbrev pub NoGlobalLeaf : List Noted → Type 0

@@ -3,11 +3,13 @@
 
 mod below;
 pub mod patterns;
+pub mod steps;
 pub mod tags;
 pub mod trees;
 pub mod values;
 
 pub use patterns::{law_patterns_stay, law_uniform};
+pub use steps::{law_held_step, law_pattern_steps, law_tag_steps};
 pub use tags::law_tags;
 pub use trees::{
     law_frozen_view, law_held_changes, law_limbo_is_empty, law_lower_leaves, law_one_node,
@@ -18,6 +20,7 @@ pub use values::{law_fresh_content, law_frozen, law_window};
 #[cfg(test)]
 mod tests {
     use crate::patterns::{law_patterns_stay, law_uniform};
+    use crate::steps::{law_held_step, law_pattern_steps, law_tag_steps};
     use crate::tags::law_tags;
     use crate::trees::{
         law_frozen_view, law_held_changes, law_limbo_is_empty, law_lower_leaves, law_one_node,
@@ -31,12 +34,15 @@ mod tests {
         law_frozen();
         law_frozen_view();
         law_held_changes();
+        law_held_step();
         law_limbo_is_empty();
         law_lower_leaves();
         law_one_node();
         law_one_position();
+        law_pattern_steps();
         law_patterns_stay();
         law_proper();
+        law_tag_steps();
         law_tags();
         law_tree_step();
         law_uniform();

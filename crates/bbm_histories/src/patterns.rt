@@ -5,6 +5,7 @@ ghost use Rattle.bbm_tlbi_scope.specs.declared.entry.Cover.{Cover};
 ghost use Rattle.bbm_events.specs.Heading.{Heading};
 ghost use Rattle.bbm_events.specs.declared.event.Event.{Event};
 ghost use Rattle.bbm_rules.specs.Claims.{Trust};
+ghost use Rattle.bbm_rules.specs.Cleansing.{half, seen};
 ghost use Rattle.bbm_rules.specs.Notes.{Noted};
 ghost use Rattle.bbm_rules.specs.PatternSentences.{Cleansed, Flush, HalfBy, Publication};
 ghost use Rattle.bbm_rules.specs.Reach.{Issued, reaches};
@@ -20,7 +21,8 @@ pub fn law_patterns_stay()
     ensures last { LastStays }
     ensures publication { (heading : Heading) (place p : ℕ) (newer since : List Noted) (b : Noted) →
         Publication heading place p since b → Publication heading place p (newer ++ since) b }
-    ensures half { (heading : Heading) (place p : ℕ) (newer since : List Noted) (b : Noted) (t : Issued Noted) (d : Noted) →
+    ensures half { (heading : Heading) (place p : ℕ) (newer since : List Noted) (b : Noted) (t : Issued Noted)
+        (d : Noted) →
         HalfBy heading place p since b t d → HalfBy heading place p (newer ++ since) b t d }
     ensures cleansed { (heading : Heading) (trust : Trust) (place p : ℕ) (newer since : List Noted) →
         Cleansed heading trust place p since → Cleansed heading trust place p (newer ++ since) }
@@ -28,18 +30,25 @@ pub fn law_patterns_stay()
     law_last_valid();
 }
 
-/// Under `cnp` all PEs are alike: what is published to one is published to each, by the same DSB; a TLBI that reaches one
-/// reaches each; so a place is seen and half at all PEs, by the same events, and what flushes it at one flushes it at
-/// each. The law is the contract.
+/// Under `cnp` all PEs are alike: what is published to one is published to each, by the same DSB; a TLBI that reaches
+/// one reaches each; so a place is seen and half at all PEs, by the same events, and what flushes it at one flushes it
+/// at each. The law is the contract.
 pub fn law_uniform()
     ensures published { (heading : Heading) (q p r : ℕ) (later : List Event) → heading.cnp ≡ true → r < heading.pes →
         published heading q p later ≡ true → published heading q r later ≡ true }
     ensures publication { (heading : Heading) (place p r : ℕ) (since : List Noted) (b : Noted) → heading.cnp ≡ true →
         r < heading.pes → Publication heading place p since b → Publication heading place r since b }
-    ensures reached { (heading : Heading) (e : Event) (p r : ℕ) → heading.cnp ≡ true → reaches heading e p ≡ reaches heading e r }
+    ensures reached { (heading : Heading) (e : Event) (p r : ℕ) → heading.cnp ≡ true →
+        reaches heading e p ≡ reaches heading e r }
+    ensures seen { (heading : Heading) (place p r : ℕ) (since : List Noted) → heading.cnp ≡ true → p < heading.pes →
+        r < heading.pes → seen heading place p since ≡ seen heading place r since }
+    ensures half_test { (heading : Heading) (place p r : ℕ) (since : List Noted) → heading.cnp ≡ true →
+        p < heading.pes →
+        r < heading.pes → half heading place p since ≡ half heading place r since }
     ensures half { (heading : Heading) (place p r : ℕ) (since : List Noted) (b : Noted) (t : Issued Noted) (d : Noted) →
         heading.cnp ≡ true → r < heading.pes → HalfBy heading place p since b t d → HalfBy heading place r since b t d }
-    ensures flush { (heading : Heading) (cover : Cover) (place p r : ℕ) (since : List Noted) (t : Issued Noted) (d : Noted) →
+    ensures flush { (heading : Heading) (cover : Cover) (place p r : ℕ) (since : List Noted) (t : Issued Noted)
+        (d : Noted) →
         heading.cnp ≡ true → Flush heading cover place p since t d → Flush heading cover place r since t d }
 {
     below();

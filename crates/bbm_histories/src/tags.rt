@@ -13,17 +13,20 @@ ghost use Rattle.bbm_histories.specs.Tags.{BecomesReadable, HeldBetween, StopsTo
 
 use crate::below::below;
 
-/// In a history that keeps the rules, a tag becomes readable at a PE by a register write of the PE, and stops to be so by
-/// an ISB of it; at most one root holds it, and that is a declared root of its kind. In every history a root that holds a
-/// tag held it at each moment since it was readable. The law is the contract.
+/// In a history that keeps the rules, a tag becomes readable at a PE by a register write of the PE, and stops to be so
+/// by an ISB of it; at most one root holds it, and that is a declared root of its kind. In every history a root that
+/// holds a tag held it at each moment since it was readable. The law is the contract.
 pub fn law_tags()
     ensures becomes { (heading : Heading) (trust : Trust) (h : List Event) (e : Event) → Proper heading →
         keeps heading trust (e ∷ h) ≡ true → BecomesReadable heading h e }
     ensures stops { (heading : Heading) (trust : Trust) (h : List Event) (e : Event) → Proper heading →
         keeps heading trust (e ∷ h) ≡ true → StopsToBeReadable heading h e }
-    ensures one_root { (heading : Heading) (trust : Trust) (h : List Event) → Proper heading → keeps heading trust h ≡ true →
-        (r s : ℕ) (tag : Tag) → holds_tag heading trust r tag h ≡ true → holds_tag heading trust s tag h ≡ true → r ≡ s }
-    ensures root { (heading : Heading) (trust : Trust) (h : List Event) → Proper heading → keeps heading trust h ≡ true →
+    ensures one_root { (heading : Heading) (trust : Trust) (h : List Event) → Proper heading →
+        keeps heading trust h ≡ true →
+        (r s : ℕ) (tag : Tag) → holds_tag heading trust r tag h ≡ true → holds_tag heading trust s tag h ≡ true →
+        r ≡ s }
+    ensures root { (heading : Heading) (trust : Trust) (h : List Event) → Proper heading →
+        keeps heading trust h ≡ true →
         (r : ℕ) (tag : Tag) → holds_tag heading trust r tag h ≡ true → is_root h (kind_of_tag tag) r ≡ true }
     ensures between { (heading : Heading) (trust : Trust) → HeldBetween heading trust }
 {

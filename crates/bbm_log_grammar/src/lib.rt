@@ -24,6 +24,8 @@ pub use machine::read_machine;
 pub use machine_writing::write_machine;
 pub use numbers::{read_decimal, read_hex};
 pub use spell::{add, add_decimal, add_hex};
+pub use values::page_of;
+pub use words::kind_of;
 pub use write::{write_event, write_header};
 
 #[cfg(test)]

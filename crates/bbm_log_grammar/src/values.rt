@@ -41,8 +41,9 @@ pub(crate) fn pe_of(header: &Header, field: &[u8]) -> Option<Pe>
     }
 }
 
-/// A page.
-pub(crate) fn page_of(field: &[u8]) -> Option<Page>
+/// The page whose address the field spells in hex, a multiple of 4096 below 2^48. None where it spells none. Source:
+/// project's own choice of the spelling.
+pub fn page_of(field: &[u8]) -> Option<Page>
     ensures { result ≡ lines.passing fits.is_page (hex_value field.now) }
 {
     Page::new(read_hex(field)?)

@@ -1,7 +1,6 @@
--- What one more event does to what a place holds: nothing new, unless it is a valid write of the place.
-use Rattle.std.proofs.Common.{◌≡◌, ℕ, zero, suc, ◌%◌, ◌&&◌, Bool, true, false, cond, ◌⊎◌, ◌==◌, List, [], ◌∷◌, Option, Some, None, option_and_then, if◌then◌else◌, refl, sym, ◌∙◌, ap, subst, inl, inr, arith, true≢false}
-use Rattle.std.proofs.lemmas.Bool.{and_from, and_parts, eq-eqb, eqb-true, or_cases}
-use Rattle.bbm_regimes.specs.EveryPe.{every_pe}
+-- The last valid write of a place, and what it leaves held.
+use Rattle.std.proofs.Common.{◌≡◌, ℕ, ◌%◌, ◌&&◌, Bool, true, false, cond, ◌⊎◌, ◌==◌, List, [], ◌∷◌, Option, Some, None, option_and_then, if◌then◌else◌, refl, sym, ◌∙◌, ap, subst, inl, inr, arith, true≢false}
+use Rattle.std.proofs.lemmas.Bool.{and_parts, eq-eqb, eqb-true, or_cases}
 use Rattle.bbm_regimes.specs.declared.regime.Kind.{Kind}
 use Rattle.bbm_descriptor.specs.Descriptor.{Form, form_01, form_11, is_valid, valid_form}
 use Rattle.bbm_descriptor.specs.Fields.{type_bits}
@@ -10,9 +9,7 @@ use Rattle.bbm_events.specs.declared.event.Event.{Event}
 use Rattle.bbm_events.specs.declared.event.Event.TheVariants.{Init, Write}
 use Rattle.bbm_rules.proofs.ListLemmas.{with_keeps}
 use Rattle.bbm_rules.proofs.OpenLaw.{In}
-use Rattle.bbm_rules.proofs.Patterns.{cleansed_stays}
 use Rattle.bbm_rules.specs.Claims.{Trust}
-use Rattle.bbm_rules.specs.Cleansing.{cleansed}
 use Rattle.bbm_rules.specs.Held.{ValidWrite, cleansed_everywhere, held, last_valid, last_valid_after, later}
 use Rattle.bbm_rules.specs.Notes.{Noted, events_of}
 use Rattle.bbm_rules.specs.Lists.{among}
@@ -122,23 +119,10 @@ valid_is_odd kind level value v =
 
 -- ---- what the place holds
 
-every_more : (n : ℕ) (test other : ℕ → Bool) → ((p : ℕ) → test p ≡ true → other p ≡ true)
-    → every_pe n test ≡ true → every_pe n other ≡ true
-every_more zero test other more e = e
-every_more (suc n) test other more e =
-    let parts = and_parts (test n) (every_pe n test) e in
-    and_from (other n) (every_pe n other) (more n parts.0) (every_more n test other more parts.1)
-
 module _ (heading : Heading) (trust : Trust) (place : ℕ) where
   -- what a valid write leaves held
   abbrev pub uncleansed : ValidWrite → Option ℕ
   uncleansed w = if cleansed_everywhere heading trust place w.since then None else Some w.value
-
-  everywhere_stays : (n : Noted) (since : List Noted) → cleansed_everywhere heading trust place since ≡ true
-      → cleansed_everywhere heading trust place (n ∷ since) ≡ true
-  everywhere_stays n since e =
-      every_more heading.pes (λ p. cleansed heading trust place p since) (λ p. cleansed heading trust place p (n ∷ since))
-      (λ p k. cleansed_stays heading trust place p (n ∷ []) since k) e
 
   -- the valid write whose value a place holds
   pub record Holding (o : Option ValidWrite) (value : ℕ) : Type 0 where
@@ -155,39 +139,6 @@ module _ (heading : Heading) (trust : Trust) (place : ℕ) where
   pub holding : (o : Option ValidWrite) (value : ℕ) → option_and_then uncleansed o ≡ Some value → Holding o value
   holding None value e = cc
   holding (Some w) value e = holding_by w value (cleansed_everywhere heading trust place w.since) refl e
-
-  still_held : (w : ValidWrite) (o : Option ValidWrite) (value : ℕ) → o ≡ Some w → w.value ≡ value
-      → cleansed_everywhere heading trust place w.since ≡ false → option_and_then uncleansed o ≡ Some value
-  still_held w o value k same u =
-      ap (option_and_then uncleansed) k
-      ∙ (ap (λ (b : Bool). cond b None (Some w.value)) u ∙ ap Some same)
-
-  not_before : (n : Noted) (since longer : List Noted) (b : Bool) → cleansed_everywhere heading trust place since ≡ b
-      → n ∷ since ≡ longer → cleansed_everywhere heading trust place longer ≡ false → b ≡ false
-  not_before n since longer true k same u =
-      absurd (true≢false (sym (everywhere_stays n since k) ∙ (ap (cleansed_everywhere heading trust place) same ∙ u)))
-  not_before n since longer false k same u = refl
-
-  -- what one more event leaves held was held before, or the event is a valid write of it at the place
-  pub held_cases : (kind : Kind) (level : ℕ) (n : Noted) (h : List Noted) (value : ℕ)
-      → held heading trust kind level place (n ∷ h) ≡ Some value
-      → (held heading trust kind level place h ≡ Some value) ⊎ ValidAt kind level place value n.event
-  held_cases kind level n h value e =
-      let now : Holding (last_valid kind level place (n ∷ h)) value = holding (last_valid kind level place (n ∷ h)) value e in
-      elim (last_cases kind level place n.event n (last_valid kind level place h) now.write now.is) [
-        | inl k ↦
-            let o = older n (last_valid kind level place h) now.write k in
-            inl (still_held o.before (last_valid kind level place h) value o.is (o.same ∙ now.same)
-            (not_before n o.before.since now.write.since (cleansed_everywhere heading trust place o.before.since) refl
-            o.longer now.still))
-        | inr v ↦ inr (subst (λ (x : ℕ). ValidAt kind level place x n.event) now.same v)
-      ]
-
-  pub held_is_valid : (kind : Kind) (level : ℕ) (h : List Noted) (value : ℕ)
-      → held heading trust kind level place h ≡ Some value → is_valid kind level value ≡ true
-  held_is_valid kind level h value e =
-      let k : Holding (last_valid kind level place h) value = holding (last_valid kind level place h) value e in
-      subst (λ (x : ℕ). is_valid kind level x ≡ true) k.same (last_is_valid kind level place h k.write k.is)
 
   pub held_is_written : (kind : Kind) (level : ℕ) (h : List Noted) (value : ℕ)
       → held heading trust kind level place h ≡ Some value → In (written_places (events_of h)) place

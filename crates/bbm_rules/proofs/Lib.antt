@@ -38,6 +38,8 @@ pub mod Patterns
 pub mod PatternLaw
 pub mod ListLemmas
 pub mod RuleLemmas
+pub mod LockOrderLaw
+pub mod PhaseLaw
 pub mod HeldLemmas
 pub mod HeldLaw
 pub mod TreeLemmas

@@ -109,27 +109,10 @@ cleansed_by_claims heading trust place p since s =
 
 -- ---- later events
 
--- Seen, half and cleansed stay while no valid write of the place comes.
+-- Seen stays while no valid write of the place comes.
 pub seen_stays : (heading : Heading) (place p : ℕ) (newer since : List Noted)
     → seen heading place p since ≡ true → seen heading place p (newer ++ since) ≡ true
 seen_stays heading place p newer since s = some_later (is_publication heading place p (λ (b : ℕ). true)) newer since s
-
-pub half_stays : (heading : Heading) (place p : ℕ) (newer since : List Noted)
-    → half heading place p since ≡ true → half heading place p (newer ++ since) ≡ true
-half_stays heading place p newer since s = some_later (is_answer (half_step heading place p (λ (b t d : ℕ). true))) newer since s
-
-pub cleansed_stays : (heading : Heading) (trust : Trust) (place p : ℕ) (newer since : List Noted)
-    → cleansed heading trust place p since ≡ true → cleansed heading trust place p (newer ++ since) ≡ true
-cleansed_stays heading trust place p newer since s =
-    elim (or_cases (answered_where (full_step heading trust place p) since)
-    (answered_where (second_step heading trust place p) since) s) [
-      | inl one ↦ or_left (answered_where (full_step heading trust place p) (newer ++ since))
-          (answered_where (second_step heading trust place p) (newer ++ since))
-          (some_later (is_answer (full_step heading trust place p)) newer since one)
-      | inr two ↦ or_right (answered_where (full_step heading trust place p) (newer ++ since))
-          (answered_where (second_step heading trust place p) (newer ++ since))
-          (some_later (is_answer (second_step heading trust place p)) newer since two)
-    ]
 
 -- ---- an answered TLBI stands in the history
 

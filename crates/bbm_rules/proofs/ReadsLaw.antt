@@ -144,10 +144,6 @@ module _ (h : List Event) (p : ℕ) where
       (record { tag = Ttbr1Tag; root = root }) (gives Ttbr1El1 (λ value. Ttbr1Tag) root k.0 k.1)
   complete_in world tag root k = absurd k
 
--- the test of the search
-abbrev is_reading : Tag → ℕ → Reading → Bool
-is_reading tag root r = same_tag r.tag tag && r.root == root
-
 -- the reading that the search finds
 found_reading : (heading : Heading) (h : List Event) (p : ℕ) (tag : Tag) (root : ℕ) → reads heading h p tag root ≡ true
     → (r : Reading) × In (readings heading h p) r × (r.tag ≡ tag) × (r.root ≡ root)

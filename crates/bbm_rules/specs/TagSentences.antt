@@ -1,14 +1,15 @@
--- Readable tags once more, as sentences over the readable values of the root registers. `law_readable_tag` says that they
--- say the same. Source: Arm ARM (DDI 0487), "Translation Lookaside Buffers", and TCR_EL1.A1 of "AArch64 System register
--- descriptions"; that the base has to be a declared root is the project's own choice.
+-- Readable tags once more, as sentences over the readable values of the root registers. `law_readable_tag` says that
+-- they say the same. Source: Arm ARM (DDI 0487), "Translation Lookaside Buffers", and TCR_EL1.A1 of "AArch64 System
+-- register descriptions"; that the base has to be a declared root is the project's own choice.
 use Rattle.std.specs.Prelude.{◌≡◌, ℕ, true, List, Some}
-use Rattle.bbm_rules.specs.Prelude.{AsidFrom, FromTtbr0, FromTtbr1, Reg, Ttbr0El2, VttbrEl2, Ttbr0El1, Ttbr1El1, Tag, El2Tag, Vmid, Asid, Ttbr1Tag, World, Hyp, Kernel, Event}
+use Rattle.bbm_rules.specs.Prelude.{AsidFrom, FromTtbr0, FromTtbr1, Reg, Ttbr0El2, VttbrEl2, Ttbr0El1, Ttbr1El1, Tag}
+use Rattle.bbm_rules.specs.Prelude.{El2Tag, Vmid, Asid, Ttbr1Tag, World, Hyp, Kernel, Event}
 use Rattle.bbm_rules.specs.Lists.{among}
 use Rattle.bbm_rules.specs.Registers.{base_of, kind_of_reg, register_values, tag_number}
 use Rattle.bbm_rules.specs.Roots.{is_root}
 
--- A value of a register of p names a root: the value is a readable one, its base is the first page of the root, and that
--- is a declared root of the register's kind.
+-- A value of a register of p names a root: the value is a readable one, its base is the first page of the root, and
+-- that is a declared root of the register's kind.
 pub record Names (h : List Event) (p : ℕ) (reg : Reg) (root value : ℕ) : Type 0 where
   pub readable : among value (register_values h p reg) ≡ true
   pub base : base_of value ≡ Some root

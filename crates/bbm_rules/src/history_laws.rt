@@ -1,7 +1,8 @@
 //! Laws of the definitions on the annotated history: what computes says the same as a sentence over all ways to split
 //! a history, and what the next layers need of a history that keeps the rules.
 
-ghost use Rattle.std.specs.Prelude.{◌≡◌, ℕ, suc, ◌<◌, ◌≤◌, ◌+◌, ◌%◌, true, false, List, [], ◌∷◌, ◌++◌, length, Option, Some, None, Contains};
+ghost use Rattle.std.specs.Prelude.{◌≡◌, ℕ, suc, ◌<◌, ◌≤◌, ◌+◌, ◌%◌, true, false, List, [], ◌∷◌, ◌++◌, length, Option};
+ghost use Rattle.std.specs.Prelude.{Some, None, Contains, ◌≢◌};
 ghost use Rattle.bbm_regimes.specs.declared.regime.Kind.{Kind};
 ghost use Rattle.bbm_regimes.specs.declared.regime.Kind.TheVariants.{Ttbr0};
 ghost use Rattle.bbm_descriptor.specs.Descriptor.{desc_of, is_valid};
@@ -21,7 +22,12 @@ ghost use Rattle.bbm_rules.specs.PatternSentences.{Cleansed, Holds, IsHalf, IsLa
 ghost use Rattle.bbm_rules.specs.Places.{page_of};
 ghost use Rattle.bbm_rules.specs.Roots.{Declared, kind_in_world, page_count, root_pages, start_of};
 ghost use Rattle.bbm_rules.specs.Rules.{global_user, not_fresh, page_in_use};
-ghost use Rattle.bbm_rules.specs.Tree.{Node, held_at, in_limbo, in_tree, is_childless, next_of, node_below, node_of, nodes_of_root, tree};
+ghost use Rattle.bbm_rules.specs.Tree.{Node, held_at, in_limbo, in_tree, is_childless, next_of, node_below, node_of};
+ghost use Rattle.bbm_rules.specs.Tree.{nodes_of_root, tree};
+ghost use Rattle.bbm_rules.specs.declared.phase.Phase.TheVariants.{Clean};
+ghost use Rattle.bbm_rules.specs.declared.rule.Rule.TheVariants.{BreakBeforeMake};
+ghost use Rattle.bbm_rules.specs.Locks.{HandsOver, lock_at};
+ghost use Rattle.bbm_rules.specs.Phases.{phase_of};
 ghost use Rattle.bbm_rules.specs.TreeSentences.{Childless, InLimbo, IsFresh, IsNode, Leads};
 ghost use Rattle.bbm_rules.specs.Values.{value_of};
 
@@ -64,7 +70,8 @@ pub fn law_last_valid()
     ensures complete { (kind : Kind) (level place : ℕ) (h : List Noted) (w : ValidWrite) →
         IsLastValid kind level place h w → last_valid kind level place h ≡ Some w }
     ensures live { (kind : Kind) (level place : ℕ) (h : List Noted) →
-        is_valid kind level (value_of (events_of h) place) ≡ true → (w : ValidWrite) × (last_valid kind level place h ≡ Some w)
+        is_valid kind level (value_of (events_of h) place) ≡ true →
+        (w : ValidWrite) × (last_valid kind level place h ≡ Some w)
         × (w.value ≡ value_of (events_of h) place) × ((q v : ℕ) (n : Noted) (after before : List Noted) →
         w.since ≡ after ++ n ∷ before → n.event ≡ Write q place v → ⊥) }
     ensures odd { (kind : Kind) (level value : ℕ) → is_valid kind level value ≡ true → value % 2 ≡ 1 }
@@ -77,7 +84,8 @@ pub fn law_last_valid()
 pub fn law_held()
     ensures sound { (heading : Heading) (trust : Trust) (kind : Kind) (level place : ℕ) (h : List Noted) (value : ℕ) →
         held heading trust kind level place h ≡ Some value → Holds heading trust kind level place h value }
-    ensures complete { (heading : Heading) (trust : Trust) (kind : Kind) (level place : ℕ) (h : List Noted) (value : ℕ) →
+    ensures complete { (heading : Heading) (trust : Trust) (kind : Kind) (level place : ℕ) (h : List Noted)
+        (value : ℕ) →
         Holds heading trust kind level place h value → held heading trust kind level place h ≡ Some value }
     ensures valid { (heading : Heading) (trust : Trust) (kind : Kind) (level place : ℕ) (h : List Noted) (value : ℕ) →
         held heading trust kind level place h ≡ Some value → is_valid kind level value ≡ true }
@@ -86,9 +94,10 @@ pub fn law_held()
         held heading trust kind level place h ≡ Some (value_of (events_of h) place) }
 {}
 
-/// A node is one of the trees exactly where a path of held tables leads to it from a page of a declared root, at a level
-/// below 4; and so the page below a place of one that holds a table is in the trees. The node that is taken for a page is
-/// one of the trees, and a page that has a node has one that is taken. The call does nothing; the law is its contract.
+/// A node is one of the trees exactly where a path of held tables leads to it from a page of a declared root, at a
+/// level below 4; and so the page below a place of one that holds a table is in the trees. The node that is taken for a
+/// page is one of the trees, and a page that has a node has one that is taken. The call does nothing; the law is its
+/// contract.
 #[tactic(auto, using(crate::proofs::TreeLaw::laws))]
 pub fn law_tree()
     ensures sound { (heading : Heading) (trust : Trust) (h : List Noted) (n : Node) →
@@ -136,7 +145,8 @@ pub fn law_fresh()
 /// so many places through fresh pages. The call does nothing; the law is its contract.
 #[tactic(auto, using(crate::proofs::TreeLaw::laws))]
 pub fn law_paths()
-    ensures sound { (heading : Heading) (trust : Trust) (h : List Noted) (left : ℕ) (kind : Kind) (level page : ℕ) (end : End) →
+    ensures sound { (heading : Heading) (trust : Trust) (h : List Noted) (left : ℕ) (kind : Kind) (level page : ℕ)
+        (end : End) →
         Contains (end_at level page ∷ ends_below heading trust h kind left level page) end →
         (places : List ℕ) × (length places ≤ left) × Leads heading trust h kind level page places end }
     ensures complete { (heading : Heading) (trust : Trust) (h : List Noted) (left : ℕ) (kind : Kind) (level page : ℕ)
@@ -154,39 +164,46 @@ pub fn law_root_pages()
         Contains (nodes_of_root heading r) m → n.page ≡ m.page → n ≡ m }
     ensures first { (heading : Heading) (r : Declared) (n : Node) → Contains (nodes_of_root heading r) n →
         (m : Node) × Contains (nodes_of_root heading r) m × (m.page ≡ r.page) }
-    ensures each { (heading : Heading) (r : Declared) (page : ℕ) → Contains (root_pages heading.world r.kind r.page) page →
+    ensures each { (heading : Heading) (r : Declared) (page : ℕ) →
+        Contains (root_pages heading.world r.kind r.page) page →
         (m : Node) × Contains (nodes_of_root heading r) m × (m.page ≡ page) }
     ensures named { (heading : Heading) (kind : Kind) (page : ℕ) → kind_in_world heading.world kind ≡ true →
         0 < page_count heading.world kind → Contains (root_pages heading.world kind page) page }
 {}
 
-/// Where an event attaches pages and doesn't break the rule on fresh pages, each path of one place at least that begins in
-/// an attached page leads to a fresh page; and two paths that lead to one page are the same. A write attaches a fresh page.
-/// A `root` that doesn't break the rule on pages in use names fresh pages. The call does nothing; the law is its contract.
+/// Where an event attaches pages and doesn't break the rule on fresh pages, each path of one place at least that begins
+/// in an attached page leads to a fresh page; and two paths that lead to one page are the same. A write attaches a
+/// fresh page. A `root` that doesn't break the rule on pages in use names fresh pages. The call does nothing; the law
+/// is its contract.
 #[tactic(auto, using(crate::proofs::AttachLaw::laws))]
 pub fn law_attaching()
-    ensures deeper { (heading : Heading) (trust : Trust) (h : List Noted) (e : Event) (kind : Kind) (level : ℕ) (pages : List ℕ) →
+    ensures deeper { (heading : Heading) (trust : Trust) (h : List Noted) (e : Event) (kind : Kind) (level : ℕ)
+        (pages : List ℕ) →
         attached_by heading trust h e ≡ Some (attached_from heading trust h kind level pages) →
         not_fresh heading trust h e ≡ None → (page place : ℕ) (places : List ℕ) (end : End) → Contains pages page →
         level + length (place ∷ places) < 4 → Leads heading trust h kind level page (place ∷ places) end →
         is_fresh heading trust h end.page ≡ true }
-    ensures single { (heading : Heading) (trust : Trust) (h : List Noted) (e : Event) (kind : Kind) (level : ℕ) (pages : List ℕ) →
+    ensures single { (heading : Heading) (trust : Trust) (h : List Noted) (e : Event) (kind : Kind) (level : ℕ)
+        (pages : List ℕ) →
         attached_by heading trust h e ≡ Some (attached_from heading trust h kind level pages) →
         not_fresh heading trust h e ≡ None → (page page' : ℕ) (places places' : List ℕ) (end end' : End) →
         Contains pages page → Contains pages page' → level + length places < 4 → level + length places' < 4 →
         Leads heading trust h kind level page places end → Leads heading trust h kind level page' places' end' →
         end.page ≡ end'.page → (page ≡ page') × (places ≡ places') }
-    ensures written { (heading : Heading) (trust : Trust) (h : List Noted) (pe place value : ℕ) (kind : Kind) (level : ℕ) (pages : List ℕ) →
+    ensures written { (heading : Heading) (trust : Trust) (h : List Noted) (pe place value : ℕ) (kind : Kind)
+        (level : ℕ) (pages : List ℕ) →
         attached_by heading trust h (Write pe place value) ≡ Some (attached_from heading trust h kind level pages) →
         not_fresh heading trust h (Write pe place value) ≡ None → (page : ℕ) → Contains pages page →
         is_fresh heading trust h page ≡ true }
-    ensures rooted { (heading : Heading) (trust : Trust) (h : List Noted) (pe : ℕ) (kind : Kind) (lock : Option ℕ) (first page : ℕ) →
-        page_in_use heading trust h (Root pe kind lock first) ≡ None → Contains (root_pages heading.world kind first) page →
+    ensures rooted { (heading : Heading) (trust : Trust) (h : List Noted) (pe : ℕ) (kind : Kind) (lock : Option ℕ)
+        (first page : ℕ) →
+        page_in_use heading trust h (Root pe kind lock first) ≡ None →
+        Contains (root_pages heading.world kind first) page →
         is_fresh heading trust h page ≡ true }
 {}
 
-/// An event that doesn't break the rule on leaves of the lower range writes no leaf for every ASID at a place of a tree of
-/// that range, and attaches no page with one. The call does nothing; the law is its contract.
+/// An event that doesn't break the rule on leaves of the lower range writes no leaf for every ASID at a place of a tree
+/// of that range, and attaches no page with one. The call does nothing; the law is its contract.
 pub fn law_global_user()
     ensures written { (heading : Heading) (trust : Trust) (h : List Noted) (pe place value : ℕ) (n : Node) →
         global_user heading trust h (Write pe place value) ≡ None → node_of heading trust h (page_of place) ≡ Some n →
@@ -207,7 +224,28 @@ pub fn law_each_rule()
         (rule : RuleOf) → breaks heading trust (noted heading trust older) e rule ≡ None }
     ensures complete { (heading : Heading) (trust : Trust) (h : List Event) →
         ((newer older : List Event) (e : Event) → h ≡ newer ++ e ∷ older →
-        (rule : RuleOf) → breaks heading trust (noted heading trust older) e rule ≡ None) → keeps heading trust h ≡ true }
+        (rule : RuleOf) → breaks heading trust (noted heading trust older) e rule ≡ None) →
+        keeps heading trust h ≡ true }
+{}
+
+/// A place at which an event breaks the rule of break-before-make is clean at no PE, since it holds a value. The call
+/// does nothing; the law is its contract.
+#[tactic(auto, using(crate::proofs::PhaseLaw::laws))]
+pub fn law_refused_place()
+    ensures { (heading : Heading) (trust : Trust) (h : List Event) (e : Event) (at p : ℕ) →
+        breaks heading trust (noted heading trust h) e BreakBeforeMake ≡ Some at → phase_of heading trust h at p ≢ Clean }
+{}
+
+/// Between two writes of different PEs at places of trees whose roots name the same lock, each at the time of its write,
+/// the first PE gives the lock back, and later the second takes it. It holds of every history that keeps the rules. The
+/// call does nothing; the law is its contract.
+#[tactic(auto, using(crate::proofs::LockOrderLaw::laws))]
+pub fn law_lock_order()
+    ensures { (heading : Heading) (trust : Trust) (h newer between older : List Event)
+        (p q place other value later lock : ℕ) → keeps heading trust h ≡ true → p ≢ q →
+        h ≡ newer ++ Write q other later ∷ (between ++ Write p place value ∷ older) →
+        lock_at heading trust older place ≡ Some lock →
+        lock_at heading trust (between ++ Write p place value ∷ older) other ≡ Some lock → HandsOver p q lock between }
 {}
 
 /// The annotated history of a history ends in that of its older part. Each event in it stands with what it covered by

@@ -21,8 +21,8 @@ pub use event_laws::{
 };
 pub use history_laws::{
     law_attaching, law_childless, law_cleansed, law_each_rule, law_fresh, law_global_user,
-    law_half, law_held, law_last_valid, law_limbo, law_notes, law_paths, law_root_pages, law_seen,
-    law_tree,
+    law_half, law_held, law_last_valid, law_limbo, law_lock_order, law_notes, law_paths,
+    law_refused_place, law_root_pages, law_seen, law_tree,
 };
 pub use laws::{
     law_answered, law_notes_keep_the_events, law_readable_value, law_tag_held, law_version,
@@ -42,8 +42,8 @@ mod tests {
     };
     use crate::history_laws::{
         law_attaching, law_childless, law_cleansed, law_each_rule, law_fresh, law_global_user,
-        law_half, law_held, law_last_valid, law_limbo, law_notes, law_paths, law_root_pages,
-        law_seen, law_tree,
+        law_half, law_held, law_last_valid, law_limbo, law_lock_order, law_notes, law_paths,
+        law_refused_place, law_root_pages, law_seen, law_tree,
     };
     use crate::laws::{
         law_answered, law_notes_keep_the_events, law_readable_value, law_tag_held, law_version,
@@ -64,8 +64,10 @@ mod tests {
         law_held();
         law_last_valid();
         law_limbo();
+        law_lock_order();
         law_notes();
         law_paths();
+        law_refused_place();
         law_seen();
         law_tree();
         law_changes();

@@ -15,8 +15,8 @@ ghost use Rattle.bbm_rules.specs.Rules.{no_root, root_in_use, tag_conflict};
 ghost use Rattle.bbm_rules.specs.TagSentences.{ReadsTag};
 ghost use Rattle.bbm_rules.specs.Tags.{holds_tag, reads};
 
-/// A tag is readable for a root exactly where a readable value of its register names the root, and the number of the tag
-/// is that of the value, or of the value that has the ASID. The call does nothing; the law is its contract.
+/// A tag is readable for a root exactly where a readable value of its register names the root, and the number of the
+/// tag is that of the value, or of the value that has the ASID. The call does nothing; the law is its contract.
 pub fn law_readable_tag()
     ensures sound { (heading : Heading) (h : List Event) (p : ℕ) (tag : Tag) (root : ℕ) →
         reads heading h p tag root ≡ true → ReadsTag heading.world h p tag root }
@@ -24,11 +24,12 @@ pub fn law_readable_tag()
         ReadsTag heading.world h p tag root → reads heading h p tag root ≡ true }
 {}
 
-/// After a register write that doesn't break the rule on tags, a tag that is readable there for a root is held by no other
-/// declared root. An `unroot` that doesn't break the rules on roots names no base of a readable register value, and no root
-/// that holds a tag. The call does nothing; the law is its contract.
+/// After a register write that doesn't break the rule on tags, a tag that is readable there for a root is held by no
+/// other declared root. An `unroot` that doesn't break the rules on roots names no base of a readable register value,
+/// and no root that holds a tag. The call does nothing; the law is its contract.
 pub fn law_tag_rules()
-    ensures one_holder { (heading : Heading) (trust : Trust) (h : List Noted) (pe : ℕ) (reg : Reg) (value : ℕ) (tag : Tag) (root : ℕ)
+    ensures one_holder { (heading : Heading) (trust : Trust) (h : List Noted) (pe : ℕ) (reg : Reg) (value : ℕ)
+        (tag : Tag) (root : ℕ)
         (r : Declared) → tag_conflict heading trust h (Msr pe reg value) ≡ None →
         reads heading (Msr pe reg value ∷ events_of h) pe tag root ≡ true →
         Contains (roots_of (Msr pe reg value ∷ events_of h)) r →

@@ -1,5 +1,5 @@
 use Rattle.bbm_rules.specs.Claims.Trust.{Patterns}
-use Rattle.bbm_histories.proofs.UniformLemmas.{flush_alike, half_alike, publication_alike, published_alike, reached_alike}
+use Rattle.bbm_histories.proofs.UniformLemmas.{flush_alike, half_alike, half_test_alike, publication_alike, published_alike, reached_alike, seen_alike}
 use Rattle.bbm_histories.proofs.patterns.law_uniform.Goals as goal
 
 pub returns-clause-published : goal.returns-clause-published
@@ -16,3 +16,9 @@ returns-clause-half c heading place p r since b t d cnp = half_alike heading cnp
 
 pub returns-clause-flush : goal.returns-clause-flush
 returns-clause-flush c heading cover place p r since t d cnp = flush_alike heading cnp cover place p r since t d
+
+pub returns-clause-seen : goal.returns-clause-seen
+returns-clause-seen c heading place p r since cnp = seen_alike heading cnp Patterns (c.below.ensures heading Patterns) place p r since
+
+pub returns-clause-half_test : goal.returns-clause-half_test
+returns-clause-half_test c heading place p r since cnp = half_test_alike heading cnp Patterns (c.below.ensures heading Patterns) place p r since

@@ -2,6 +2,7 @@ use Rattle.std.proofs.Common.{List, sym, ◌∙◌, ap, inl, inr}
 use Rattle.bbm_rules.specs.Prelude.{Event, Init}
 use Rattle.bbm_rules.specs.Covers.{noted}
 use Rattle.bbm_rules.specs.Pages.{is_null}
+use Rattle.bbm_histories.proofs.FreshLemmas.{unfresh}
 use Rattle.bbm_histories.proofs.HeldSteps.{init_outside}
 use Rattle.bbm_histories.proofs.Induction.{last_kept}
 use Rattle.bbm_histories.proofs.Invariants.{invariants}
@@ -31,3 +32,6 @@ returns-clause-no_init c heading trust h q page kept =
     let parts = last_kept heading trust b h (Init q page) kept in
     let k = init_outside heading trust (noted heading trust h) q page parts.1 in
     (k.0, ap (λ (es : List Event). is_null es page) (sym (b.events_noted h)) ∙ k.1)
+
+pub returns-clause-unfresh : goal.returns-clause-unfresh
+returns-clause-unfresh c = unfresh

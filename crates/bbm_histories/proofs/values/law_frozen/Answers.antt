@@ -1,8 +1,12 @@
 use Rattle.std.proofs.Common.{◌∷◌}
 use Rattle.bbm_rules.specs.Claims.Trust.{Patterns}
+use Rattle.bbm_histories.proofs.Induction.{kept_before}
 use Rattle.bbm_histories.proofs.PatternLemmas.{answer_stays, publication_stays}
 use Rattle.bbm_histories.proofs.ValueLemmas.{published_stays, stays_unreadable}
 use Rattle.bbm_histories.proofs.values.law_frozen.Goals as goal
+
+pub returns-clause-kept : goal.returns-clause-kept
+returns-clause-kept c = kept_before
 
 pub returns-clause-published : goal.returns-clause-published
 returns-clause-published c heading = published_stays heading Patterns (c.below.ensures heading Patterns)

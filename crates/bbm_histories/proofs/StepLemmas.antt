@@ -1,0 +1,409 @@
+-- The step equations of the definitions that search.
+use Rattle.std.proofs.Common.{◌≡◌, ℕ, ◌<◌, ◌≤◌, ◌&&◌, ◌||◌, not, Bool, true, false, cond, ◌==◌, nat_le, List, [], ◌∷◌, length, Option, Some, None, filter, option_and_then, refl, sym, ◌∙◌, ap, subst, true≢false, arith}
+use Rattle.std.proofs.lemmas.Bool.{eq-eqb, le-leb, leb-true}
+use Rattle.bbm_barriers.specs.Options.{answers}
+use Rattle.bbm_regimes.specs.declared.regime.Kind.{Kind}
+use Rattle.bbm_regimes.specs.declared.regime.Tag.{Tag}
+use Rattle.bbm_descriptor.specs.Descriptor.{is_valid, same_bool}
+use Rattle.bbm_tlbi_scope.specs.Operations.{operation}
+use Rattle.bbm_tlbi_scope.specs.declared.entry.Cover.TheVariants.{Half, Second, Full}
+use Rattle.bbm_events.specs.Heading.{Heading}
+use Rattle.bbm_rules.specs.Prelude.{Barrier, Event, Init, Write, Dsb, Tlbi}
+use Rattle.bbm_rules.specs.Claims.{Trust}
+use Rattle.bbm_rules.specs.Claims.Trust.{Patterns}
+use Rattle.bbm_rules.specs.Cleansing.{answered_where, answers_one, cleansed, flushes, full_step, half, publishes_write, second_step, seen}
+use Rattle.bbm_rules.specs.Held.{ValidWrite, cleansed_everywhere, held, last_valid, last_valid_after, later}
+use Rattle.bbm_rules.specs.Lists.{any}
+use Rattle.bbm_rules.specs.Notes.{Noted, event_of, events_of}
+use Rattle.bbm_rules.specs.Places.{page_of}
+use Rattle.bbm_rules.specs.Reach.{Issued, completes, left_open, reaches, still_open, unanswered}
+use Rattle.bbm_rules.specs.Tags.{is_taken_by, itself, loses, read_since, reads_for_some, takes_tag}
+use Rattle.bbm_rules.specs.Values.{publishes_to, value_of}
+use Rattle.bbm_histories.specs.Below.{Below}
+use Rattle.bbm_histories.specs.Steps.{answered_by, cleansed_after, half_after, held_after, is_tlbi, seen_after, tag_waits, tag_waits_after, takes, waits, waits_after, wrote}
+use Rattle.bbm_histories.proofs.HeldSteps.{held_same}
+
+-- ---- tests
+
+and_true : (b : Bool) → (b && true) ≡ b
+and_true true = refl
+and_true false = refl
+
+and_false : (b : Bool) → (b && false) ≡ false
+and_false true = refl
+and_false false = refl
+
+or_false : (b : Bool) → (b || false) ≡ b
+or_false true = refl
+or_false false = refl
+
+same_test : {A : Type 0} (f g : A → Bool) (xs : List A) → ((x : A) → f x ≡ g x) → any f xs ≡ any g xs
+same_test f g [] same = refl
+same_test f g (x ∷ xs) same =
+    ap (λ (b : Bool). b || any f xs) (same x) ∙ ap (λ (b : Bool). g x || b) (same_test f g xs same)
+
+any_filter : {A : Type 0} (f r : A → Bool) (xs : List A) → any f (filter r xs) ≡ any (λ x. r x && f x) xs
+any_filter f r [] = refl
+any_filter f r (x ∷ xs) = by (r x) (any_filter f r xs)
+  where
+    by : (c : Bool) → any f (filter r xs) ≡ any (λ x. r x && f x) xs
+        → any f (cond c (x ∷ filter r xs) (filter r xs)) ≡ ((c && f x) || any (λ x. r x && f x) xs)
+    by true e = ap (λ (b : Bool). f x || b) e
+    by false e = e
+
+any_never : {A : Type 0} (xs : List A) → any (λ (x : A). false) xs ≡ false
+any_never [] = refl
+any_never (x ∷ xs) = any_never xs
+
+any_both : {A : Type 0} (f : A → Bool) (c : Bool) (xs : List A) → any (λ x. f x && c) xs ≡ (any f xs && c)
+any_both f true xs = same_test (λ x. f x && true) f xs (λ x. and_true (f x)) ∙ sym (and_true (any f xs))
+any_both f false xs = same_test (λ x. f x && false) (λ x. false) xs (λ x. and_false (f x)) ∙ (any_never xs ∙ sym (and_false (any f xs)))
+
+or_middle : (a b c d : Bool) → ((a || b) || (c || d)) ≡ ((a || c) || (b || d))
+or_middle true b c d = refl
+or_middle false true true d = refl
+or_middle false true false d = refl
+or_middle false false true d = refl
+or_middle false false false d = refl
+
+any_or : {A : Type 0} (f g : A → Bool) (xs : List A) → any (λ x. f x || g x) xs ≡ (any f xs || any g xs)
+any_or f g [] = refl
+any_or f g (x ∷ xs) = ap (λ (b : Bool). (f x || g x) || b) (any_or f g xs) ∙ or_middle (f x) (g x) (any f xs) (any g xs)
+
+any_and : {A : Type 0} (c : Bool) (f : A → Bool) (xs : List A) → any (λ x. c && f x) xs ≡ (c && any f xs)
+any_and true f xs = refl
+any_and false f xs = any_never xs
+
+-- ---- what waits
+
+-- the TLBIs of a kind that a DSB leaves
+left_kind : (dsb : Barrier) (b : Bool) (e : Event) (test : Bool)
+    → (not (completes dsb e) && (is_tlbi b e && test)) ≡ cond (answers dsb b) false (is_tlbi b e && test)
+left_kind dsb b (Tlbi pe op xt) test = by b (operation op).broadcast
+  where
+    one : (a : Bool) → (not a && test) ≡ cond a false test
+    one true = refl
+    one false = refl
+
+    other : (a c : Bool) → (not a && false) ≡ cond c false false
+    other a true = and_false (not a)
+    other a false = and_false (not a)
+
+    by : (b x : Bool) → (not (answers dsb x) && (same_bool x b && test)) ≡ cond (answers dsb b) false (same_bool x b && test)
+    by true true = one (answers dsb true)
+    by false false = one (answers dsb false)
+    by true false = other (answers dsb false) (answers dsb true)
+    by false true = other (answers dsb true) (answers dsb false)
+left_kind dsb b e test = by (answers dsb b)
+  where
+    by : (c : Bool) → false ≡ cond c false false
+    by true = refl
+    by false = refl
+
+-- those that it completes, by kind
+completed_kind : (dsb : Barrier) (e : Event) (test : Bool) → (completes dsb e && test)
+    ≡ ((answers dsb true && (is_tlbi true e && test)) || (answers dsb false && (is_tlbi false e && test)))
+completed_kind dsb (Tlbi pe op xt) test = by (operation op).broadcast
+  where
+    by : (x : Bool) → (answers dsb x && test)
+        ≡ ((answers dsb true && (same_bool x true && test)) || (answers dsb false && (same_bool x false && test)))
+    by true = sym (ap (λ (c : Bool). (answers dsb true && test) || c) (and_false (answers dsb false)) ∙ or_false (answers dsb true && test))
+    by false = sym (ap (λ (c : Bool). c || (answers dsb false && test)) (and_false (answers dsb true)))
+completed_kind dsb e test =
+    sym (ap (λ (c : Bool). c || (answers dsb false && false)) (and_false (answers dsb true)) ∙ and_false (answers dsb false))
+
+module _ (A : Type 0) (event : A → Event) (q : ℕ) where
+  -- what a DSB answers
+  answered_kinds : (dsb : Barrier) (test : Issued A → Bool) (h : List A)
+      → any (λ t. completes dsb (event t.tlbi) && test t) (unanswered event q h)
+      ≡ answered_by dsb (λ b. waits event q b test h)
+  answered_kinds dsb test h =
+      same_test (λ t. completes dsb (event t.tlbi) && test t)
+      (λ t. (answers dsb true && (is_tlbi true (event t.tlbi) && test t)) || (answers dsb false && (is_tlbi false (event t.tlbi) && test t)))
+      (unanswered event q h) (λ t. completed_kind dsb (event t.tlbi) (test t))
+      ∙ (any_or (λ t. answers dsb true && (is_tlbi true (event t.tlbi) && test t)) (λ t. answers dsb false && (is_tlbi false (event t.tlbi) && test t)) (unanswered event q h)
+      ∙ (ap (λ (c : Bool). c || any (λ (t : Issued A). answers dsb false && (is_tlbi false (event t.tlbi) && test t)) (unanswered event q h))
+      (any_and (answers dsb true) (λ t. is_tlbi true (event t.tlbi) && test t) (unanswered event q h))
+      ∙ ap (λ (c : Bool). (answers dsb true && waits event q true test h) || c)
+      (any_and (answers dsb false) (λ t. is_tlbi false (event t.tlbi) && test t) (unanswered event q h))))
+
+  left_waits : (b : Bool) (test : Issued A → Bool) (dsb : Barrier) (ts : List (Issued A))
+      → any (λ t. is_tlbi b (event t.tlbi) && test t) (left_open event dsb ts)
+      ≡ cond (answers dsb b) false (any (λ t. is_tlbi b (event t.tlbi) && test t) ts)
+  left_waits b test dsb ts =
+      any_filter (λ t. is_tlbi b (event t.tlbi) && test t) (λ t. not (completes dsb (event t.tlbi))) ts
+      ∙ (same_test (λ t. not (completes dsb (event t.tlbi)) && (is_tlbi b (event t.tlbi) && test t))
+      (λ t. cond (answers dsb b) false (is_tlbi b (event t.tlbi) && test t)) ts (λ t. left_kind dsb b (event t.tlbi) (test t))
+      ∙ by (answers dsb b))
+    where
+      by : (c : Bool) → any (λ t. cond c false (is_tlbi b (event t.tlbi) && test t)) ts
+          ≡ cond c false (any (λ t. is_tlbi b (event t.tlbi) && test t) ts)
+      by true = any_never ts
+      by false = refl
+
+  waits_by : (b : Bool) (test : Issued A → Bool) (e : Event) (x : A) (h : List A) → event x ≡ e
+      → any (λ t. is_tlbi b (event t.tlbi) && test t) (still_open event q e (record { tlbi = x; before = h }) (unanswered event q h))
+      ≡ waits_after event q b test e x h
+  waits_by b test (Tlbi pe op xt) x h same = by (pe == q)
+    where
+      by : (c : Bool) → any (λ t. is_tlbi b (event t.tlbi) && test t)
+          (cond c (record { tlbi = x; before = h } ∷ unanswered event q h) (unanswered event q h))
+          ≡ ((c && (is_tlbi b (Tlbi pe op xt) && test (record { tlbi = x; before = h }))) || waits event q b test h)
+      by true = ap (λ (e : Event). (is_tlbi b e && test (record { tlbi = x; before = h })) || waits event q b test h) same
+      by false = refl
+  waits_by b test (Dsb pe dsb) x h same = by (pe == q)
+    where
+      by : (c : Bool) → any (λ t. is_tlbi b (event t.tlbi) && test t)
+          (cond c (left_open event dsb (unanswered event q h)) (unanswered event q h))
+          ≡ cond (c && answers dsb b) false (waits event q b test h)
+      by true = left_waits b test dsb (unanswered event q h)
+      by false = refl
+  waits_by b test e x h same = refl
+
+  pub waits_step : (b : Bool) (test : Issued A → Bool) (x : A) (h : List A)
+      → waits event q b test (x ∷ h) ≡ waits_after event q b test (event x) x h
+  waits_step b test x h = waits_by b test (event x) x h refl
+
+-- ---- one place
+
+module _ (heading : Heading) (place p : ℕ) where
+  seen_by : (e : Event) (since : List Noted) → ((publishes_write heading place p e since && true) || seen heading place p since)
+      ≡ seen_after heading place p e since
+  seen_by (Dsb q dsb) since =
+      ap (λ (c : Bool). c || seen heading place p since) (and_true (publishes_to heading dsb q p && wrote heading place p q since))
+  seen_by e since = refl
+
+  pub seen_step : (n : Noted) (since : List Noted) → seen heading place p (n ∷ since) ≡ seen_after heading place p n.event since
+  seen_step n since = seen_by n.event since
+
+  half_by : (e : Event) (since : List Noted)
+      → (answers_one (flushes heading place p Half (seen heading place p)) e since || half heading place p since)
+      ≡ half_after heading place p e since
+  half_by (Dsb q dsb) since =
+      ap (λ (c : Bool). c || half heading place p since)
+      (answered_kinds Noted event_of q dsb (flushes heading place p Half (seen heading place p)) since)
+  half_by e since = refl
+
+  pub half_step : (n : Noted) (since : List Noted) → half heading place p (n ∷ since) ≡ half_after heading place p n.event since
+  half_step n since = half_by n.event since
+
+  cleansed_by : (e : Event) (since : List Noted) → ((answers_one (flushes heading place p Full (seen heading place p)) e since
+      || answered_where (full_step heading Patterns place p) since)
+      || (answers_one (flushes heading place p Second (half heading place p)) e since
+      || answered_where (second_step heading Patterns place p) since)) ≡ cleansed_after heading place p e since
+  cleansed_by (Dsb q dsb) since =
+      or_middle (answers_one (flushes heading place p Full (seen heading place p)) (Dsb q dsb) since)
+      (answered_where (full_step heading Patterns place p) since)
+      (answers_one (flushes heading place p Second (half heading place p)) (Dsb q dsb) since)
+      (answered_where (second_step heading Patterns place p) since)
+      ∙ (ap (λ (c : Bool). (c || answers_one (flushes heading place p Second (half heading place p)) (Dsb q dsb) since) || cleansed heading Patterns place p since)
+      (answered_kinds Noted event_of q dsb (flushes heading place p Full (seen heading place p)) since)
+      ∙ ap (λ (c : Bool). (answered_by dsb (λ b. waits event_of q b (flushes heading place p Full (seen heading place p)) since) || c)
+      || cleansed heading Patterns place p since)
+      (answered_kinds Noted event_of q dsb (flushes heading place p Second (half heading place p)) since))
+  cleansed_by e since = refl
+
+  pub cleansed_step : (n : Noted) (since : List Noted)
+      → cleansed heading Patterns place p (n ∷ since) ≡ cleansed_after heading place p n.event since
+  cleansed_step n since = cleansed_by n.event since
+
+-- ---- what a place holds
+
+module _ (heading : Heading) (trust : Trust) (b : Below heading trust) (kind : Kind) (level place : ℕ) (pes : 0 < heading.pes) where
+  held_by : (e : Event) (n : Noted) (h : List Noted) → n.event ≡ e
+      → held heading trust kind level place (n ∷ h) ≡ held_after heading trust kind level place e n h
+  held_by (Write pe at value) n h change = by (at == place) (is_valid kind level value) refl refl
+    where
+      by : (c v : Bool) → (at == place) ≡ c → is_valid kind level value ≡ v
+          → held heading trust kind level place (n ∷ h) ≡ cond (c && v) (Some value) (held heading trust kind level place h)
+      by true true c v =
+          let present : value_of (n.event ∷ events_of h) place ≡ value
+          = ap (λ (x : Event). value_of (x ∷ events_of h) place) change ∙ ap (λ (t : Bool). cond t value (value_of (events_of h) place)) c in
+          b.held_live kind level place (n ∷ h) pes (subst (λ (y : ℕ). is_valid kind level y ≡ true) (sym present) v) ∙ ap Some present
+      by true false c v = held_same heading trust b kind level place n h (record {
+        no_write = λ q u is. let both : Write pe at value ≡ Write q place u = sym change ∙ is in
+            let same : value ≡ u = cc in subst (λ (y : ℕ). is_valid kind level y ≡ false) same v;
+        no_init = λ q is. let apart : Write pe at value ≡ Init q (page_of place) = sym change ∙ is in cc;
+        no_dsb = λ k. let apart : Write pe at value ≡ Dsb k.0 k.1 = sym change ∙ k.2 in cc;
+      })
+      by false v c k = held_same heading trust b kind level place n h (record {
+        no_write = λ q u is. let both : Write pe at value ≡ Write q place u = sym change ∙ is in
+            let same : at ≡ place = cc in absurd (true≢false (sym (eq-eqb at place same) ∙ c));
+        no_init = λ q is. let apart : Write pe at value ≡ Init q (page_of place) = sym change ∙ is in cc;
+        no_dsb = λ k. let apart : Write pe at value ≡ Dsb k.0 k.1 = sym change ∙ k.2 in cc;
+      })
+  held_by (Init pe page) n h change = by (page == page_of place) refl
+    where
+      by : (c : Bool) → (page == page_of place) ≡ c
+          → held heading trust kind level place (n ∷ h) ≡ cond c None (held heading trust kind level place h)
+      by true c =
+          ap (option_and_then (λ w. cond (cleansed_everywhere heading trust place w.since) None (Some w.value)))
+          (ap (λ (x : Event). last_valid_after kind level place x n (last_valid kind level place h)) change
+          ∙ ap (λ (t : Bool). cond t None (later n (last_valid kind level place h))) c)
+      by false c = held_same heading trust b kind level place n h (record {
+        no_write = λ q u is. let apart : Init pe page ≡ Write q place u = sym change ∙ is in cc;
+        no_init = λ q is. let both : Init pe page ≡ Init q (page_of place) = sym change ∙ is in
+            let same : page ≡ page_of place = cc in true≢false (sym (eq-eqb page (page_of place) same) ∙ c);
+        no_dsb = λ k. let apart : Init pe page ≡ Dsb k.0 k.1 = sym change ∙ k.2 in cc;
+      })
+  held_by (Dsb pe dsb) n h change =
+      ap (option_and_then (λ w. cond (cleansed_everywhere heading trust place w.since) None (Some w.value)))
+      (ap (λ (x : Event). last_valid_after kind level place x n (last_valid kind level place h)) change)
+      ∙ one_more (last_valid kind level place h)
+    where
+      one_more : (o : Option ValidWrite)
+          → option_and_then (λ w. cond (cleansed_everywhere heading trust place w.since) None (Some w.value)) (later n o)
+          ≡ option_and_then (λ w. cond (cleansed_everywhere heading trust place (n ∷ w.since)) None (Some w.value)) o
+      one_more None = refl
+      one_more (Some w) = refl
+  held_by e n h change = held_same heading trust b kind level place n h (record {
+    no_write = λ q u is. let apart : e ≡ Write q place u = sym change ∙ is in cc;
+    no_init = λ q is. let apart : e ≡ Init q (page_of place) = sym change ∙ is in cc;
+    no_dsb = λ k. let apart : e ≡ Dsb k.0 k.1 = sym change ∙ k.2 in cc;
+  })
+
+  pub held_step : (n : Noted) (h : List Noted)
+      → held heading trust kind level place (n ∷ h) ≡ held_after heading trust kind level place n.event n h
+  held_step n h = held_by n.event n h refl
+
+-- ---- tags
+
+module _ (q : ℕ) where
+  -- tests that agree on TLBIs with so few events before them agree on the unanswered ones of a history
+  abbrev OlderAgree : ℕ → List Event → Type 0
+  OlderAgree n h = (f g : Issued Event → Bool) → ((t : Issued Event) → length t.before < n → f t ≡ g t)
+      → any f (unanswered itself q h) ≡ any g (unanswered itself q h)
+
+  -- tests that agree on what came before a history agree on its unanswered TLBIs
+  same_unanswered : (f g : Issued Event → Bool) (h : List Event)
+      → ((t : Issued Event) → length t.before < length h → f t ≡ g t) → any f (unanswered itself q h) ≡ any g (unanswered itself q h)
+  same_unanswered f g [] same = refl
+  same_unanswered f g (e ∷ h) same =
+      by (λ f g same. same_unanswered f g h (λ t less. same t (omega arith))) e
+    where
+      by : OlderAgree (length (e ∷ h)) h → (x : Event) → any f (still_open itself q x (record { tlbi = e; before = h }) (unanswered itself q h))
+          ≡ any g (still_open itself q x (record { tlbi = e; before = h }) (unanswered itself q h))
+      by older (Tlbi pe op xt) = go (pe == q)
+        where
+          go : (c : Bool) → any f (cond c (record { tlbi = e; before = h } ∷ unanswered itself q h) (unanswered itself q h))
+              ≡ any g (cond c (record { tlbi = e; before = h } ∷ unanswered itself q h) (unanswered itself q h))
+          go true =
+              ap (λ (b : Bool). b || any f (unanswered itself q h)) (same (record { tlbi = e; before = h }) (omega arith))
+              ∙ ap (λ (b : Bool). g (record { tlbi = e; before = h }) || b) (older f g same)
+          go false = older f g same
+      by older (Dsb pe dsb) = go (pe == q)
+        where
+          go : (c : Bool) → any f (cond c (left_open itself dsb (unanswered itself q h)) (unanswered itself q h))
+              ≡ any g (cond c (left_open itself dsb (unanswered itself q h)) (unanswered itself q h))
+          go true =
+              any_filter f (λ t. not (completes dsb (itself t.tlbi))) (unanswered itself q h)
+              ∙ (older (λ t. not (completes dsb (itself t.tlbi)) && f t) (λ t. not (completes dsb (itself t.tlbi)) && g t)
+              (λ t less. ap (λ (b : Bool). not (completes dsb (itself t.tlbi)) && b) (same t less))
+              ∙ sym (any_filter g (λ t. not (completes dsb (itself t.tlbi))) (unanswered itself q h)))
+          go false = older f g same
+      by older x = older f g same
+
+module _ (heading : Heading) (p : ℕ) (tag : Tag) where
+  -- nothing was readable after the last event
+  none_since : (n : ℕ) (h : List Event) → length h ≤ n → read_since heading n p tag h ≡ false
+  none_since n [] short = refl
+  none_since n (e ∷ h) short = by (nat_le n (length h)) refl (none_since n h (omega arith))
+    where
+      by : (c : Bool) → nat_le n (length h) ≡ c → read_since heading n p tag h ≡ false
+          → ((c && reads_for_some heading (e ∷ h) p tag) || read_since heading n p tag h) ≡ false
+      by true c rest = let less : n ≤ length h = leb-true n (length h) c in absurd (omega arith)
+      by false c rest = rest
+
+  -- a TLBI takes the tag after one more event where it did before, unless the tag is readable then
+  takes_on : (e : Event) (h : List Event) (t : Issued Event) → length t.before < length h
+      → takes heading p tag (e ∷ h) t ≡ (takes heading p tag h t && not (reads_for_some heading (e ∷ h) p tag))
+  takes_on e h t less =
+      ap (λ (c : Bool). (reaches heading t.tlbi p && takes_tag heading t.tlbi t.before tag)
+      && not ((c && reads_for_some heading (e ∷ h) p tag) || read_since heading (length t.before) p tag h))
+      (le-leb (length t.before) (length h) (omega arith))
+      ∙ by (reaches heading t.tlbi p && takes_tag heading t.tlbi t.before tag) (reads_for_some heading (e ∷ h) p tag)
+      (read_since heading (length t.before) p tag h)
+    where
+      by : (a r s : Bool) → (a && not ((true && r) || s)) ≡ ((a && not s) && not r)
+      by false r s = refl
+      by true true true = refl
+      by true true false = refl
+      by true false true = refl
+      by true false false = refl
+
+  -- the TLBI that the event is
+  takes_now : (e : Event) (h : List Event) → takes heading p tag (e ∷ h) (record { tlbi = e; before = h })
+      ≡ ((reaches heading e p && takes_tag heading e h tag) && not (reads_for_some heading (e ∷ h) p tag))
+  takes_now e h =
+      ap (λ (c : Bool). (reaches heading e p && takes_tag heading e h tag)
+      && not ((c && reads_for_some heading (e ∷ h) p tag) || read_since heading (length h) p tag h)) (le-leb (length h) (length h) (omega arith))
+      ∙ (ap (λ (c : Bool). (reaches heading e p && takes_tag heading e h tag) && not ((true && reads_for_some heading (e ∷ h) p tag) || c))
+      (none_since (length h) h (omega arith))
+      ∙ ap (λ (c : Bool). (reaches heading e p && takes_tag heading e h tag) && not c) (or_false (reads_for_some heading (e ∷ h) p tag)))
+
+  and_last : (a b c : Bool) → (a && (b && c)) ≡ ((a && b) && c)
+  and_last true b c = refl
+  and_last false b c = refl
+
+  -- what waited before the event
+  waited : (q : ℕ) (b : Bool) (e : Event) (h : List Event) → waits itself q b (takes heading p tag (e ∷ h)) h
+      ≡ (tag_waits heading p tag q b h && not (reads_for_some heading (e ∷ h) p tag))
+  waited q b e h =
+      same_unanswered q (λ t. is_tlbi b t.tlbi && takes heading p tag (e ∷ h) t)
+      (λ t. (is_tlbi b t.tlbi && takes heading p tag h t) && not (reads_for_some heading (e ∷ h) p tag)) h
+      (λ t less. ap (λ (c : Bool). is_tlbi b t.tlbi && c) (takes_on e h t less)
+      ∙ and_last (is_tlbi b t.tlbi) (takes heading p tag h t) (not (reads_for_some heading (e ∷ h) p tag)))
+      ∙ any_both (λ t. is_tlbi b t.tlbi && takes heading p tag h t) (not (reads_for_some heading (e ∷ h) p tag)) (unanswered itself q h)
+
+  tag_by : (q : ℕ) (b : Bool) (x e : Event) (h : List Event) → e ≡ x
+      → waits_after itself q b (takes heading p tag (e ∷ h)) x e h
+      ≡ (tag_waits_after heading p tag q b x h && not (reads_for_some heading (e ∷ h) p tag))
+  tag_by q b (Tlbi pe op xt) e h same =
+      ap (λ (c : Bool). (pe == q && (is_tlbi b (Tlbi pe op xt) && c)) || waits itself q b (takes heading p tag (e ∷ h)) h)
+      (takes_now e h ∙ ap (λ (y : Event). (reaches heading y p && takes_tag heading y h tag) && not (reads_for_some heading (e ∷ h) p tag)) same)
+      ∙ (ap (λ (c : Bool). (pe == q && (is_tlbi b (Tlbi pe op xt)
+      && ((reaches heading (Tlbi pe op xt) p && takes_tag heading (Tlbi pe op xt) h tag) && not (reads_for_some heading (e ∷ h) p tag)))) || c)
+      (waited q b e h)
+      ∙ by (pe == q) (is_tlbi b (Tlbi pe op xt)) (reaches heading (Tlbi pe op xt) p && takes_tag heading (Tlbi pe op xt) h tag)
+      (tag_waits heading p tag q b h) (not (reads_for_some heading (e ∷ h) p tag)))
+    where
+      by : (a k s w c : Bool) → ((a && (k && (s && c))) || (w && c)) ≡ (((a && (k && s)) || w) && c)
+      by a k s w true =
+          ap (λ (x : Bool). (a && (k && x)) || (w && true)) (and_true s)
+          ∙ (ap (λ (x : Bool). (a && (k && s)) || x) (and_true w) ∙ sym (and_true ((a && (k && s)) || w)))
+      by a k s w false =
+          ap (λ (x : Bool). (a && (k && x)) || (w && false)) (and_false s)
+          ∙ (ap (λ (x : Bool). (a && x) || (w && false)) (and_false k)
+          ∙ (ap (λ (x : Bool). x || (w && false)) (and_false a) ∙ (and_false w ∙ sym (and_false ((a && (k && s)) || w)))))
+  tag_by q b (Dsb pe dsb) e h same =
+      ap (λ (c : Bool). cond (pe == q && answers dsb b) false c) (waited q b e h)
+      ∙ by (pe == q && answers dsb b) (tag_waits heading p tag q b h) (not (reads_for_some heading (e ∷ h) p tag))
+    where
+      by : (c w r : Bool) → cond c false (w && r) ≡ (cond c false w && r)
+      by true w r = refl
+      by false w r = refl
+  tag_by q b x e h same = waited q b e h
+
+  pub tag_step : (q : ℕ) (b : Bool) (e : Event) (h : List Event) → tag_waits heading p tag q b (e ∷ h)
+      ≡ (tag_waits_after heading p tag q b e h && not (reads_for_some heading (e ∷ h) p tag))
+  tag_step q b e h =
+      waits_step Event itself q b (takes heading p tag (e ∷ h)) e h ∙ tag_by q b e e h refl
+
+  pub tag_lost : (q : ℕ) (dsb : Barrier) (h : List Event) → loses heading Patterns p tag (Dsb q dsb) h
+      ≡ (answered_by dsb (λ b. tag_waits heading p tag q b h) && not (reads_for_some heading (Dsb q dsb ∷ h) p tag))
+  tag_lost q dsb h =
+      same_unanswered q (is_taken_by heading Patterns p tag q dsb h)
+      (λ t. (completes dsb t.tlbi && takes heading p tag h t) && not (reads_for_some heading (Dsb q dsb ∷ h) p tag)) h
+      (λ t less. and_true (((completes dsb t.tlbi && reaches heading t.tlbi p) && takes_tag heading t.tlbi t.before tag)
+      && not (read_since heading (length t.before) p tag (Dsb q dsb ∷ h)))
+      ∙ (by (completes dsb t.tlbi) (reaches heading t.tlbi p) (takes_tag heading t.tlbi t.before tag)
+      (not (read_since heading (length t.before) p tag (Dsb q dsb ∷ h)))
+      ∙ (ap (λ (c : Bool). completes dsb t.tlbi && c) (takes_on (Dsb q dsb) h t less)
+      ∙ and_last (completes dsb t.tlbi) (takes heading p tag h t) (not (reads_for_some heading (Dsb q dsb ∷ h) p tag)))))
+      ∙ (any_both (λ t. completes dsb t.tlbi && takes heading p tag h t) (not (reads_for_some heading (Dsb q dsb ∷ h) p tag)) (unanswered itself q h)
+      ∙ ap (λ (c : Bool). c && not (reads_for_some heading (Dsb q dsb ∷ h) p tag))
+      (answered_kinds Event itself q dsb (takes heading p tag h) h))
+    where
+      by : (a b c d : Bool) → (((a && b) && c) && d) ≡ (a && ((b && c) && d))
+      by true b c d = refl
+      by false b c d = refl

@@ -1,0 +1,16 @@
+//! The texts that the program prints: the line of a verdict, of a phase and of a walk; and what `explain` and `walk`
+//! say behind the line of the verdict.
+#![tactic(auto)]
+
+mod names;
+pub mod phases;
+pub mod questions;
+#[cfg(test)]
+mod tests;
+pub mod verdicts;
+pub mod walks;
+
+pub use phases::phase_text;
+pub use questions::{Question, asked};
+pub use verdicts::verdict_text;
+pub use walks::{found_text, walk_text};
