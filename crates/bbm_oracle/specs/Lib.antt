@@ -1,1 +1,4 @@
-pub mod Taken
+pub mod Flaws
+pub mod Judges
+pub mod Least
+pub mod StandsFor

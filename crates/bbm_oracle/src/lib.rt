@@ -1,6 +1,17 @@
-//! A stand-in for the oracle, which always lacks memory, until the oracle over the whole rules is there.
+//! A checker that keeps the list of events and searches it.
 #![tactic(auto)]
 
+mod ends;
+mod flaws;
+mod least;
 pub mod oracle;
+mod order;
+mod page_rules;
+mod restless;
+mod starts;
+mod tree_rules;
 
 pub use oracle::Oracle;
+
+#[cfg(test)]
+mod tests;

@@ -132,4 +132,5 @@ bad_there heading steps seen n taken i step old same within at counted follows b
     (bad (reverse (take n steps)) (length_at steps n inside ∙ sym counted) follows)
 
 pub ruleset steps = (line_on, event_on)
+
 pub ruleset ends = (bad_at, one_more)

@@ -95,7 +95,7 @@ marks_more heading p by dsb later q old now e g k =
     g ∙ (ap (λ b. b || q == by) e
     ∙ (or_comm (published heading q p later) (q == by)
     ∙ ap (λ b. b || published heading q p later)
-      (same_test q by ∙ sym (and_one (by == q) (publishes_to heading dsb by p) (self_and by (publishes_to heading dsb by p) true k)))))
+    (same_test q by ∙ sym (and_one (by == q) (publishes_to heading dsb by p) (self_and by (publishes_to heading dsb by p) true k)))))
 
 pub marks_same : (heading : Heading) (p by : ℕ) (dsb : Barrier) (later : List Event) (q : ℕ) (old : Bool)
     → old ≡ published heading q p later
@@ -107,9 +107,10 @@ marks_same heading p by dsb later q old e k =
 -- one step back in a list
 pub back : {A : Type 0} (es : List A) (m : ℕ) (e : A) → m < length es → e ≡ get_or es m e
     → (reverse (take (m + 1) es) ≡ e ∷ reverse (take m es)) × (drop m es ≡ e ∷ drop (m + 1) es)
-back {A} es m e within at =
-    (ap (reverse {A = A}) (take_more es m e within) ∙ (reverse-append (take m es) (get_or es m e ∷ []) ∙ ap (λ (x : A). x ∷ reverse (take m es)) (sym at)),
-    drop_at es m e within at)
+back {A} es m e within at = (
+  ap (reverse {A = A}) (take_more es m e within) ∙ (reverse-append (take m es) (get_or es m e ∷ []) ∙ ap (λ (x : A). x ∷ reverse (take m es)) (sym at)),
+  drop_at es m e within at,
+)
   where
     drop_at : (es : List A) (m : ℕ) (e : A) → m < length es → e ≡ get_or es m e → drop m es ≡ e ∷ drop (m + 1) es
     drop_at es m e within at = rw (add-one) (drop-cons es m e within ∙ ap (λ (x : A). x ∷ drop (suc m) es) (sym at))

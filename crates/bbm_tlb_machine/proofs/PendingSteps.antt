@@ -60,10 +60,10 @@ module _ (heading : Heading) where
       ∙ (ap (any (λ (p : Pending). completes dsb p.tlbi && leaves_by heading s.living p)) (stands q)
       ∙ (any_map (pending_of heading) (λ (p : Pending). completes dsb p.tlbi && leaves_by heading s.living p) (unanswered itself q s.log)
       ∙ any_same _ (λ (t : Issued Event). completes dsb t.tlbi && any (λ (l : Living). must_go heading t l.entry) s.living)
-        (λ t. ap (λ b. completes dsb t.tlbi && b)
-        (any_same (λ (l : Living). must_leave heading (pending_of heading t) l.entry) (λ (l : Living). must_go heading t l.entry)
-        (λ l. leave_is t.tlbi t.before l.entry) s.living))
-        (unanswered itself q s.log)))
+      (λ t. ap (λ b. completes dsb t.tlbi && b)
+      (any_same (λ (l : Living). must_leave heading (pending_of heading t) l.entry) (λ (l : Living). must_go heading t l.entry)
+      (λ l. leave_is t.tlbi t.before l.entry) s.living))
+      (unanswered itself q s.log)))
 
   -- a TLBI more
   add : (q pe : ℕ) (b : Bool) (new : Issued Event) (ps : List Pending) (ts : List (Issued Event))
@@ -130,8 +130,8 @@ module _ (heading : Heading) (pe : ℕ) (dsb : Barrier) where
   other : (q : ℕ) (p : Pending) → (pe == q) ≡ false → (p.issuer == q) ≡ true → not (is_answered pe dsb p) ≡ true
   other q p e k =
       let differs : (p.issuer == pe) ≡ false = false_from_ne_true (p.issuer == pe) (λ f.
-          let same : pe ≡ q = sym (eqb-true p.issuer pe f) ∙ eqb-true p.issuer q k in
-          true≢false (sym (eq-eqb pe q same) ∙ e)) in
+      let same : pe ≡ q = sym (eqb-true p.issuer pe f) ∙ eqb-true p.issuer q k in
+      true≢false (sym (eq-eqb pe q same) ∙ e)) in
       ap (λ b. not (b && completes dsb p.tlbi)) differs
 
   answered : (h : List Event) (pending : List Pending) → IsPending heading h pending → (q : ℕ) (b : Bool) → (pe == q) ≡ b

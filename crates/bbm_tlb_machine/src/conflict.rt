@@ -37,9 +37,7 @@ fn has_other_root(readings: &[Reading], entry: &Entry) -> bool
 {
     let tag = entry.tag();
     let root = entry.root;
-    readings
-        .iter()
-        .any(|reading| same_tag(reading.tag, tag) && reading.root != root)
+    readings.iter().any(|reading| same_tag(reading.tag, tag) && reading.root != root)
 }
 
 // Whether an entry's tag is.

@@ -150,8 +150,16 @@ impl Model for Entry {
     ghost Value = { Entry };
 
     ghost view = { λ e. record {
-        pe = e.pe; kind = e.kind; vmid = e.vmid; asid = e.asid; root = e.root; last = e.last; above = e.above.items;
-        since = e.since; joined = e.joined } };
+      pe = e.pe;
+      kind = e.kind;
+      vmid = e.vmid;
+      asid = e.asid;
+      root = e.root;
+      last = e.last;
+      above = e.above.items;
+      since = e.since;
+      joined = e.joined;
+    } };
 }
 
 impl Entry {

@@ -2,16 +2,19 @@
 #![tactic(auto)]
 
 mod conflict;
-pub mod entry;
+mod entry;
 mod geometry;
 pub mod laws;
-pub mod living;
-pub mod looking;
+mod living;
+mod looking;
 pub mod machine;
 mod making;
-pub mod pending;
-pub mod starting;
+mod pending;
+mod starting;
 pub mod step;
+#[cfg(test)]
+mod tests;
 
 pub use laws::{law_conflict, law_run};
+pub use machine::{FollowFault, Machine, follow};
 pub use step::Step;

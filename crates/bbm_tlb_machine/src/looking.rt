@@ -22,14 +22,7 @@ pub enum Look {
 
 // A look at one event, where later ones publish writes of the marked PEs.
 #[tactic(auto, using(crate::proofs::LookBack::looks))]
-fn look_at(
-    header: &Header,
-    pe: Pe,
-    place: Place,
-    value: u64,
-    marks: PeMask,
-    event: &Event,
-) -> Look
+fn look_at(header: &Header, pe: Pe, place: Place, value: u64, marks: PeMask, event: &Event) -> Look
     ensures { (later older : List Event) → Marks header.now pe later marks
         → Says header.now pe place value later event.now older result }
 {

@@ -51,8 +51,10 @@ impl Model for Machine {
     ghost Value = { Followed };
 
     ghost view = { λ m. record {
-        state = record { log = reverse m.events.items; living = m.living.items; made = m.made };
-        pending = m.pendings.items; conflict = m.conflict } };
+      state = record { log = reverse m.events.items; living = m.living.items; made = m.made };
+      pending = m.pendings.items;
+      conflict = m.conflict;
+    } };
 }
 
 impl Machine {

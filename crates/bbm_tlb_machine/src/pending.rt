@@ -104,9 +104,8 @@ pub fn leaves_any(
 ) -> bool
     ensures { result ≡ spec.leaves_any header.now living.now pe dsb pendings.now }
 {
-    pendings
-        .iter()
-        .any(|pending| is_answered(pe, dsb, pending) && leaves_by(header, living, pending))
+    pendings.iter().any(|pending| is_answered(pe, dsb, pending)
+        && leaves_by(header, living, pending))
 }
 
 // Forgets what a DSB of the PE answers.

@@ -262,11 +262,7 @@ fn is_stage2(kind: EntryKind) -> bool
 
 /// The combined entry of a stage 2 entry, joined now; None of an entry of another kind. `NoMemory` where there is none.
 /// Source: project's own choice, after Arm ARM (DDI 0487), "Translation Lookaside Buffers".
-pub fn combine(
-    alloc: Global,
-    events: &[Event],
-    entry: &Entry,
-) -> Result<Option<Entry>, NoMemory>
+pub fn combine(alloc: Global, events: &[Event], entry: &Entry) -> Result<Option<Entry>, NoMemory>
     ensures { IfOk result (λ made. made ≡ if_so (spec.is_stage2 entry.now.kind)
         (spec.combined (length (reverse events.now)) entry.now)) }
 {

@@ -11,5 +11,5 @@ returns c =
     let log : reverse c.deref.result.now ≡ c.args.self.now.state.log = search rules in
     if_ok c.in_conflict.result _ _ c.in_conflict.ensures
     (λ b k h e.
-      k h (log ∙ e)
-      ∙ ap (λ (ls : List Living). any (λ l. conflicts_with c.args.header.now h c.args.event.now l.entry) ls) living)
+    k h (log ∙ e)
+    ∙ ap (λ (ls : List Living). any (λ l. conflicts_with c.args.header.now h c.args.event.now l.entry) ls) living)

@@ -1,0 +1,12 @@
+use Rattle.std.proofs.Common.{not, arith}
+use Rattle.bbm_rules.specs.Claims.{Patterns}
+use Rattle.bbm_rules.specs.Pages.{is_fresh}
+use Rattle.bbm_oracle_trees.specs.Past.{notes}
+use Rattle.bbm_oracle.proofs.Leasts.{least_filter_more}
+use Rattle.bbm_oracle.proofs.least.least_unfresh.Goals as goal
+
+pub loop-page-preserved : goal.loop-page-preserved
+loop-page-preserved c = rw c.lesser-found.ensures
+    (least_filter_more (λ page. not (is_fresh c.args.history.now.heading Patterns (notes c.args.history.now) page))
+    c.args.pages.now c.loop-page.page-index c.page-item.result c.loop-page.found c.unfresh.result
+    (omega arith) c.page-item.is c.loop-page.invariant c.unfresh.ensures)

@@ -1,0 +1,79 @@
+//! Where the trees of a root begin.
+
+ghost use Rattle.std.specs.Prelude.{◌≡◌, ◌≤◌, ◌<◌, ◌+◌, ◌*◌, ◌^◌, true, IfOk};
+ghost use Rattle.bbm_events.specs.Fits.{is_root_page};
+ghost use Rattle.bbm_regimes.specs.World.{start_of};
+ghost use Rattle.bbm_rules.specs.Roots as roots;
+
+use bbm_events::{Header, page_count};
+use bbm_oracle_tags::roots::kind_in_world;
+use bbm_regimes::{Kind, NoMemory, Page, World};
+use std::alloc::Global;
+
+/// The level at which walks of a kind start, 0 to 2; 0 where the kind isn't one of the header's world. Source: Arm ARM
+/// (DDI 0487), "VMSAv8-64 translation table walks".
+pub fn start_level(header: &Header, kind: Kind) -> u8
+    ensures value { result ≡ start_of header.now.world kind }
+    ensures low { result ≤ 2 }
+{
+    match header.world {
+        World::Hyp(world) => match kind {
+            Kind::El2 => world.el2_start,
+            Kind::S2 => world.s2_start,
+            Kind::Ttbr0 | Kind::Ttbr1 => 0,
+        },
+        World::Kernel(world) => match kind {
+            Kind::Ttbr0 => world.start0,
+            Kind::Ttbr1 => world.start1,
+            Kind::El2 | Kind::S2 => 0,
+        },
+    }
+}
+
+// The page so many pages behind the first.
+fn page_at(first: Page, index: u8) -> Page
+    requires { first + 4096 * index < 2 ^ 48 }
+    ensures { result ≡ first + 4096 * index }
+{
+    Page::new(first.get() + 4096 * index as u64).unwrap()
+}
+
+// So many consecutive pages. `NoMemory` where there is none.
+fn pages_from(alloc: Global, first: Page, count: u8) -> Result<Vec<Page>, NoMemory>
+    requires { first + 4096 * count ≤ 2 ^ 48 }
+    ensures { IfOk result (λ pages. pages.items ≡ roots.pages_from first count) }
+{
+    let mut pages = Vec::new(alloc);
+    for index in 0..count {
+        pages.push(page_at(first, index)).map_err(|_| NoMemory)?;
+    }
+    Ok(pages)
+}
+
+// The number of pages of a root of the header.
+fn root_page_count(header: &Header, kind: Kind, page: Page) -> u8
+    requires { is_root_page header.now.world kind page ≡ true }
+    ensures value { result ≡ roots.page_count header.now.world kind }
+    ensures fits { page + 4096 * result ≤ 2 ^ 48 }
+{
+    let _ = page.get();
+    page_count(header.world, kind)
+}
+
+/// The pages of a root with this first page; none where the kind isn't one of the header's world. `NoMemory` where
+/// there is none. Source: Arm ARM (DDI 0487), "VMSAv8-64 translation table walks", concatenated translation tables.
+pub fn root_pages(
+    alloc: Global,
+    header: &Header,
+    kind: Kind,
+    page: Page,
+) -> Result<Vec<Page>, NoMemory>
+    requires { is_root_page header.now.world kind page ≡ true }
+    ensures { IfOk result (λ pages. pages.items ≡ roots.root_pages header.now.world kind page) }
+{
+    if kind_in_world(header, kind) {
+        pages_from(alloc, page, root_page_count(header, kind, page))
+    } else {
+        Ok(Vec::new(alloc))
+    }
+}
