@@ -1,7 +1,5 @@
 //! Step equations of the definitions that search: what they give after an event, by what they gave before it.
 
-use crate::below::below;
-
 ghost use Rattle.std.specs.Prelude.{◌≡◌, ℕ, ◌<◌, Bool, not, ◌&&◌, List, ◌∷◌};
 ghost use Rattle.bbm_barriers.specs.declared.Dsb.{Dsb as Barrier};
 ghost use Rattle.bbm_regimes.specs.declared.regime.Kind.{Kind};
@@ -18,6 +16,8 @@ ghost use Rattle.bbm_rules.specs.Reach.{Issued};
 ghost use Rattle.bbm_rules.specs.Tags.{itself, loses, reads_for_some};
 ghost use Rattle.bbm_histories.specs.Steps.{answered_by, cleansed_after, half_after, held_after, seen_after, tag_waits};
 ghost use Rattle.bbm_histories.specs.Steps.{tag_waits_after, waits, waits_after};
+
+use crate::below::below;
 
 /// What is seen, half and cleansed after an event, and which TLBIs wait for their answers, by the event and by what was
 /// so before it. The call does nothing; the law is its contract.

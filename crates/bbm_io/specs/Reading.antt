@@ -1,12 +1,13 @@
 -- Lines of a source, read one after another: a piece of at most 200 bytes up to each newline, out of
 -- at most 2^40 bytes. Source: project's own choice.
-use Rattle.std.specs.Prelude.{ℕ, ◌≡◌, ◌≢◌, ◌<◌, ◌≤◌, ◌+◌, ◌^◌, List, [], ◌∷◌, ◌++◌, length, Bool, Option, Result, Ok}
-use Rattle.std.specs.Prelude.{Err}
+use Rattle.std.specs.Prelude.{ℕ, ◌≡◌, ◌≢◌, ◌<◌, ◌≤◌, ◌+◌, ◌^◌, List, [], ◌∷◌, ◌++◌, length, take, Bool, true, Option}
+use Rattle.std.specs.Prelude.{Result, Ok}
+use Rattle.std.specs.Prelude.{Err, None, Some}
 use Rattle.bbm_io.specs.declared.lines.LineOrEnd.{LineOrEnd}
 use Rattle.bbm_io.specs.declared.lines.LineOrEnd.TheVariants.{Line, Cut, End}
 use Rattle.bbm_io.specs.declared.lines.LineFault.{LineFault}
 use Rattle.bbm_io.specs.declared.lines.LineFault.TheVariants.{TooLong, ReadFault, LogTooLong}
-use Rattle.bbm_io.specs.Flow.{preceded, AtEnd}
+use Rattle.bbm_io.specs.Flow.{preceded, AtEnd, plain}
 
 -- a reader of lines
 pub record Reading : Type 0 where
@@ -43,3 +44,15 @@ Counts (Err ReadFault) was now =
     (length now.bytes ≤ 200) × (now.taken ≡ was.taken + length now.bytes) × (now.taken < 2 ^ 40)
 Counts (Err LogTooLong) was now =
     (length now.bytes ≤ 200) × (now.taken ≡ was.taken + length now.bytes) × (now.taken ≡ 2 ^ 40)
+
+-- The next line lies whole in the bytes at hand: it is so many of them, at most 200, and then a newline.
+pub record LiesWhole (count : ℕ) (hand : List ℕ) : Type 0 where
+  pub newline : take (count + 1) hand ≡ take count hand ++ 10 ∷ []
+  pub no_newline : plain (take count hand) ≡ true
+  pub short : count ≤ 200
+  pub within : count + 1 ≤ length hand
+
+-- a line: the first so many bytes at hand, or where none are counted the bytes kept
+abbrev pub shown : Option ℕ → List ℕ → List ℕ → List ℕ
+shown None hand kept = kept
+shown (Some count) hand kept = take count hand

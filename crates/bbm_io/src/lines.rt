@@ -1,9 +1,9 @@
 //! Lines of a source, one after another.
 
-ghost use Rattle.std.specs.Prelude.{◌≡◌, ◌+◌, ◌-◌, ◌<◌, ◌≤◌, ◌^◌, ◌≢◌, [], ◌∷◌, ◌++◌, take, IfSome, length, true, false, is_err, Ok, Err, OnErr};
+ghost use Rattle.std.specs.Prelude.{◌≡◌, ◌+◌, ◌-◌, ◌<◌, ◌≤◌, ◌^◌, ◌≢◌, [], ◌∷◌, ◌++◌, take, drop, IfSome, length, true, false, is_err, Ok, Err, OnErr};
 ghost use Rattle.bbm_io.specs.Faults.{Rose};
 ghost use Rattle.bbm_io.specs.Flow.{preceded, plain};
-ghost use Rattle.bbm_io.specs.Reading.{Reading, Took, Counts};
+ghost use Rattle.bbm_io.specs.Reading.{Reading, Took, Counts, LiesWhole, shown};
 ghost use Rattle.bbm_io.specs.Byte.{Gave};
 
 use crate::source::{Failed, Source};
@@ -92,6 +92,54 @@ impl Lines {
         let answer = next_line(&mut self.line, &mut self.taken, src);
         self.failed = answer.is_err();
         answer
+    }
+
+    /// How many bytes the next line has before its newline, where the source has the line whole at hand and
+    /// this reader can take it: at most 200. None says nothing; `next` then reads what there is. Nothing is
+    /// taken. Source: project's own choice.
+    #[inline]
+    pub fn at_hand<S: Source>(&self, src: &S) -> Option<usize>
+        ensures line { IfSome result (λ count. LiesWhole count (S.at_hand src.now)) }
+        ensures room { IfSome result (λ count. self.now.taken + count + 1 ≤ 2 ^ 40) }
+    {
+        let count = line_at_hand(src.ahead())?;
+        if count as u64 + 1 <= LOG_BYTES - self.taken {
+            Some(count)
+        } else {
+            None
+        }
+    }
+
+    /// The bytes of a line, without its newline: the first so many of those that the source has at hand, or,
+    /// where none are counted, those of the last line that was read.
+    #[inline]
+    pub fn shown<'a, S: Source>(&'a self, at_hand: Option<usize>, src: &'a S) -> &'a [u8]
+        requires { IfSome at_hand (λ count. count ≤ length (S.at_hand src.now)) }
+        ensures { result.now ≡ shown at_hand (S.at_hand src.now) self.now.bytes }
+    {
+        match at_hand {
+            Some(count) => &src.ahead()[..count],
+            None => &self.line,
+        }
+    }
+
+    /// Takes the next line, which lies whole at hand with so many bytes before its newline, and keeps nothing
+    /// of it.
+    #[inline]
+    pub fn take<S: Source>(&mut self, count: usize, src: &mut S)
+        requires line { LiesWhole count (S.at_hand src.old) }
+        requires room { self.old.taken + count + 1 ≤ 2 ^ 40 }
+        ensures took { Took (Ok LineOrEnd.Line) (take count (S.at_hand src.old)) (S.left src.old) (S.left src.new) }
+        ensures rest { S.at_hand src.new ≡ drop (count + 1) (S.at_hand src.old) }
+        ensures bytes { self.new.bytes ≡ [] }
+        ensures taken { self.new.taken ≡ self.old.taken + count + 1 }
+        ensures failed { self.new.failed ≡ self.old.failed }
+        ensures sound { S.faults src.new ≡ S.faults src.old }
+    {
+        self.line.clear();
+        let bytes = count + 1;
+        self.taken += bytes as u64;
+        src.consume(bytes);
     }
 
     /// The bytes of the last line or cut piece, without its newline; none at the start and at the end.

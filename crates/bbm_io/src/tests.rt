@@ -65,6 +65,21 @@ fn reads_lines_in_turn(rt: HostRuntime) -> Result<(), Fail> {
 }
 
 #[test]
+fn shows_lines_where_they_lie(rt: HostRuntime) -> Result<(), Fail> {
+    let mut source = CleanSource::new(letters(rt.alloc(), 2, "\n\nb")?);
+    let mut lines = Lines::new();
+    for line in ["aa", ""] {
+        let at_hand = lines.at_hand(&source);
+        assert_eq!(rt; lines.shown(at_hand, &source), line.as_bytes());
+        lines.take(at_hand.ok_or("no line at hand")?, &mut source);
+    }
+    assert_eq!(rt; lines.at_hand(&source), None);
+    assert_eq!(rt; lines.next(&mut source), Ok(LineOrEnd::Cut));
+    assert_eq!(rt; lines.shown(None, &source), b"b".as_slice());
+    Ok(())
+}
+
+#[test]
 fn puts_pieces(rt: HostRuntime) -> Result<(), Fail> {
     // The call that fails, whether the first and the second piece go out, and what the sink holds.
     for (fail, first, second, held) in [

@@ -1,12 +1,24 @@
 //! The two spellings of a number.
 
-ghost use Rattle.std.specs.Prelude.{◌≡◌, ◌≤◌, if◌then◌else◌, Some, None};
+ghost use Rattle.std.specs.Prelude.{◌≡◌, if◌then◌else◌, Some, None};
 ghost use Rattle.std.specs.Char.{digit_value};
 ghost use Rattle.bbm_events.specs.Spelling.{decimal_value, hex_value};
 ghost use Rattle.bbm_log_grammar.specs.Digits as digits;
 
-/// The value of a lower-case digit, 0 to 15.
-fn digit(byte: u8) -> Option<u64>
+/// The value of a decimal digit, 0 to 9.
+#[inline]
+fn decimal_digit(byte: u8) -> Option<u64>
+    ensures { result ≡ (if digits.is_lower_digit 10 byte then Some (digit_value byte) else None) }
+{
+    match byte {
+        b'0'..=b'9' => Some((byte - b'0') as u64),
+        _ => None,
+    }
+}
+
+/// The value of a lower-case hex digit, 0 to 15.
+#[inline]
+fn hex_digit(byte: u8) -> Option<u64>
     ensures { result ≡ (if digits.is_lower_digit 16 byte then Some (digit_value byte) else None) }
 {
     match byte {
@@ -16,60 +28,97 @@ fn digit(byte: u8) -> Option<u64>
     }
 }
 
-/// The number with one digit more in the base.
-fn next_number(base: u64, n: u64, byte: u8) -> Option<u64>
-    requires { base ≤ 16 }
-    ensures { result ≡ digits.next_number base n byte }
+/// The number with one decimal digit more.
+#[inline]
+fn next_decimal(n: u64, byte: u8) -> Option<u64>
+    ensures { result ≡ digits.next_number 10 n byte }
 {
-    let value = digit(byte)?;
-    if value < base {
-        n.checked_mul(base)?.checked_add(value)
+    let value = decimal_digit(byte)?;
+    n.checked_mul(10)?.checked_add(value)
+}
+
+/// The number with one hex digit more.
+#[inline]
+fn next_hex(n: u64, byte: u8) -> Option<u64>
+    ensures { result ≡ digits.next_number 16 n byte }
+{
+    let value = hex_digit(byte)?;
+    if n < 1 << 60 {
+        Some(n * 16 + value)
     } else {
         None
     }
 }
 
-/// The number that the bytes write in the base, from the left.
-fn number_after(base: u64, bytes: &[u8]) -> Option<u64>
-    requires { base ≤ 16 }
-    ensures { result ≡ digits.number_after base 0 bytes.now }
+/// The number that the bytes write as decimal digits, from the left.
+#[inline]
+fn decimal_digits(bytes: &[u8]) -> Option<u64>
+    ensures { result ≡ digits.number_after 10 0 bytes.now }
 {
     let mut n = 0;
     for byte in bytes {
-        n = next_number(base, n, *byte)?;
+        n = next_decimal(n, *byte)?;
     }
     Some(n)
 }
 
-/// The same, where the number has a digit or more and no leading zero.
-fn number(base: u64, bytes: &[u8]) -> Option<u64>
-    requires { base ≤ 16 }
-    ensures { result ≡ digits.number_of base bytes.now }
+/// The number that the bytes write as hex digits, from the left.
+#[inline]
+fn hex_digits(bytes: &[u8]) -> Option<u64>
+    ensures { result ≡ digits.number_after 16 0 bytes.now }
+{
+    let mut n = 0;
+    for byte in bytes {
+        n = next_hex(n, *byte)?;
+    }
+    Some(n)
+}
+
+/// The number of a decimal digit or more, without a leading zero.
+#[inline]
+fn decimal_number(bytes: &[u8]) -> Option<u64>
+    ensures { result ≡ digits.number_of 10 bytes.now }
 {
     match bytes {
         [] => None,
+        [byte] => next_decimal(0, *byte),
         [b'0', _, ..] => None,
-        _ => number_after(base, bytes),
+        _ => decimal_digits(bytes),
+    }
+}
+
+/// The number of a hex digit or more, without a leading zero.
+#[inline]
+fn hex_number(bytes: &[u8]) -> Option<u64>
+    ensures { result ≡ digits.number_of 16 bytes.now }
+{
+    match bytes {
+        [] => None,
+        [byte] => next_hex(0, *byte),
+        [b'0', _, ..] => None,
+        _ => hex_digits(bytes),
     }
 }
 
 /// The number below 2^64 whose decimal spelling the field is: digits without leading zeros, and `0`
 /// for zero. None where it is no such spelling. Source: project's own choice.
+#[inline]
 #[tactic(auto, using(crate::proofs::Numerals::decimal_is))]
 pub fn read_decimal(field: &[u8]) -> Option<u64>
     ensures { result ≡ decimal_value field.now }
 {
-    number(10, field)
+    decimal_number(field)
 }
 
 /// The number below 2^64 whose hex spelling the field is: `0x` and lower-case digits without leading
 /// zeros, and `0x0` for zero. None where it is no such spelling. Source: project's own choice.
+#[inline]
 #[tactic(auto, using(crate::proofs::Numerals::hex_is, crate::proofs::Numerals::hex_from_digits))]
 pub fn read_hex(field: &[u8]) -> Option<u64>
     ensures { result ≡ hex_value field.now }
 {
     match field {
-        [b'0', b'x', bytes @ ..] => number(16, bytes),
+        [b'0', b'x', bytes @ ..] => hex_number(bytes),
         _ => None,
     }
 }

@@ -58,6 +58,7 @@ pub(crate) fn root_page_field<'a>(
 }
 
 /// A value.
+#[inline(always)]
 pub(crate) fn value_field<'a>(fields: Fields<'a>) -> Result<(u64, Fields<'a>), Malformed>
     ensures { result ≡ lines.value_field fields.entry }
 {
@@ -105,6 +106,7 @@ pub(crate) fn kind_field<'a>(fields: Fields<'a>) -> Result<(Kind, Fields<'a>), M
 }
 
 /// The option of a barrier.
+#[inline(always)]
 pub(crate) fn dsb_field<'a>(fields: Fields<'a>) -> Result<(Dsb, Fields<'a>), Malformed>
     ensures { result ≡ lines.dsb_field fields.entry }
 {

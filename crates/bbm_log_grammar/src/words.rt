@@ -9,23 +9,6 @@ use bbm_events::{Keyword, MachineWord};
 use bbm_regimes::{AsidFrom, Kind, Reg};
 use bbm_tlbi_scope::TlbiOp;
 
-/// The first words of lines.
-const KEYWORDS: [Keyword; 13] = [
-    Keyword::Init,
-    Keyword::Null,
-    Keyword::Root,
-    Keyword::Unroot,
-    Keyword::Write,
-    Keyword::Dsb,
-    Keyword::Dmb,
-    Keyword::Isb,
-    Keyword::Tlbi,
-    Keyword::Msr,
-    Keyword::Lock,
-    Keyword::Unlock,
-    Keyword::End,
-];
-
 /// The word of a line's first field.
 pub(crate) fn keyword_word(keyword: Keyword) -> &'static [u8]
     ensures { result.now ≡ words.keyword_word keyword }
@@ -51,31 +34,21 @@ pub(crate) fn keyword_word(keyword: Keyword) -> &'static [u8]
 pub(crate) fn keyword_of(field: &[u8]) -> Option<Keyword>
     ensures { result ≡ words.with_word words.keyword_word words.keywords field.now }
 {
-    KEYWORDS
-        .iter()
-        .copied()
-        .find(|keyword| keyword_word(*keyword) == field)
-}
-
-/// The second words of machine lines.
-const MACHINE_WORDS: [MachineWord; 5] = [
-    MachineWord::Start,
-    MachineWord::Extend,
-    MachineWord::Combine,
-    MachineWord::Share,
-    MachineWord::Drop,
-];
-
-/// The second word of a machine line.
-fn machine_word(word: MachineWord) -> &'static [u8]
-    ensures { result.now ≡ machine.machine_word word }
-{
-    match word {
-        MachineWord::Start => b"start",
-        MachineWord::Extend => b"extend",
-        MachineWord::Combine => b"combine",
-        MachineWord::Share => b"share",
-        MachineWord::Drop => b"drop",
+    match field {
+        b"w" => Some(Keyword::Write),
+        b"dsb" => Some(Keyword::Dsb),
+        b"tlbi" => Some(Keyword::Tlbi),
+        b"isb" => Some(Keyword::Isb),
+        b"dmb" => Some(Keyword::Dmb),
+        b"msr" => Some(Keyword::Msr),
+        b"lock" => Some(Keyword::Lock),
+        b"unlock" => Some(Keyword::Unlock),
+        b"init" => Some(Keyword::Init),
+        b"null" => Some(Keyword::Null),
+        b"root" => Some(Keyword::Root),
+        b"unroot" => Some(Keyword::Unroot),
+        b"end" => Some(Keyword::End),
+        _ => None,
     }
 }
 
@@ -83,14 +56,15 @@ fn machine_word(word: MachineWord) -> &'static [u8]
 pub(crate) fn machine_word_of(field: &[u8]) -> Option<MachineWord>
     ensures { result ≡ words.with_word machine.machine_word machine.machine_words field.now }
 {
-    MACHINE_WORDS
-        .iter()
-        .copied()
-        .find(|word| machine_word(*word) == field)
+    match field {
+        b"start" => Some(MachineWord::Start),
+        b"extend" => Some(MachineWord::Extend),
+        b"combine" => Some(MachineWord::Combine),
+        b"share" => Some(MachineWord::Share),
+        b"drop" => Some(MachineWord::Drop),
+        _ => None,
+    }
 }
-
-/// Whether TLBs are shared.
-const CNPS: [bool; 2] = [true, false];
 
 /// The word of whether TLBs are shared.
 pub(crate) fn cnp_word(cnp: bool) -> &'static [u8]
@@ -106,11 +80,12 @@ pub(crate) fn cnp_word(cnp: bool) -> &'static [u8]
 pub(crate) fn cnp_of(field: &[u8]) -> Option<bool>
     ensures { result ≡ words.with_word words.cnp_word words.cnps field.now }
 {
-    CNPS.iter().copied().find(|cnp| cnp_word(*cnp) == field)
+    match field {
+        b"cnp" => Some(true),
+        b"-" => Some(false),
+        _ => None,
+    }
 }
-
-/// The kinds of roots.
-const KINDS: [Kind; 4] = [Kind::El2, Kind::S2, Kind::Ttbr0, Kind::Ttbr1];
 
 /// The word of a kind.
 pub(crate) fn kind_word(kind: Kind) -> &'static [u8]
@@ -128,11 +103,14 @@ pub(crate) fn kind_word(kind: Kind) -> &'static [u8]
 pub fn kind_of(field: &[u8]) -> Option<Kind>
     ensures { result ≡ words.with_word words.kind_word words.kinds field.now }
 {
-    KINDS.iter().copied().find(|kind| kind_word(*kind) == field)
+    match field {
+        b"el2" => Some(Kind::El2),
+        b"s2" => Some(Kind::S2),
+        b"ttbr0" => Some(Kind::Ttbr0),
+        b"ttbr1" => Some(Kind::Ttbr1),
+        _ => None,
+    }
 }
-
-/// The root registers.
-const REGS: [Reg; 4] = [Reg::Ttbr0El2, Reg::VttbrEl2, Reg::Ttbr0El1, Reg::Ttbr1El1];
 
 /// The word of a register.
 pub(crate) fn reg_word(reg: Reg) -> &'static [u8]
@@ -150,11 +128,14 @@ pub(crate) fn reg_word(reg: Reg) -> &'static [u8]
 pub(crate) fn reg_of(field: &[u8]) -> Option<Reg>
     ensures { result ≡ words.with_word words.reg_word words.regs field.now }
 {
-    REGS.iter().copied().find(|reg| reg_word(*reg) == field)
+    match field {
+        b"ttbr0_el2" => Some(Reg::Ttbr0El2),
+        b"vttbr_el2" => Some(Reg::VttbrEl2),
+        b"ttbr0_el1" => Some(Reg::Ttbr0El1),
+        b"ttbr1_el1" => Some(Reg::Ttbr1El1),
+        _ => None,
+    }
 }
-
-/// The registers that can name the current ASID.
-const ASID_FROMS: [AsidFrom; 2] = [AsidFrom::Ttbr0, AsidFrom::Ttbr1];
 
 /// The word of the register that names the current ASID.
 pub(crate) fn asid_from_word(asid_from: AsidFrom) -> &'static [u8]
@@ -170,63 +151,12 @@ pub(crate) fn asid_from_word(asid_from: AsidFrom) -> &'static [u8]
 pub(crate) fn asid_from_of(field: &[u8]) -> Option<AsidFrom>
     ensures { result ≡ words.with_word words.asid_from_word words.asid_froms field.now }
 {
-    ASID_FROMS
-        .iter()
-        .copied()
-        .find(|asid_from| asid_from_word(*asid_from) == field)
+    match field {
+        b"ttbr0" => Some(AsidFrom::Ttbr0),
+        b"ttbr1" => Some(AsidFrom::Ttbr1),
+        _ => None,
+    }
 }
-
-/// The options of barriers.
-const DSBS: [Dsb; 12] = [
-    Dsb {
-        domain: Domain::Full,
-        types: Types::All,
-    },
-    Dsb {
-        domain: Domain::Full,
-        types: Types::Stores,
-    },
-    Dsb {
-        domain: Domain::Full,
-        types: Types::Loads,
-    },
-    Dsb {
-        domain: Domain::Inner,
-        types: Types::All,
-    },
-    Dsb {
-        domain: Domain::Inner,
-        types: Types::Stores,
-    },
-    Dsb {
-        domain: Domain::Inner,
-        types: Types::Loads,
-    },
-    Dsb {
-        domain: Domain::Outer,
-        types: Types::All,
-    },
-    Dsb {
-        domain: Domain::Outer,
-        types: Types::Stores,
-    },
-    Dsb {
-        domain: Domain::Outer,
-        types: Types::Loads,
-    },
-    Dsb {
-        domain: Domain::Non,
-        types: Types::All,
-    },
-    Dsb {
-        domain: Domain::Non,
-        types: Types::Stores,
-    },
-    Dsb {
-        domain: Domain::Non,
-        types: Types::Loads,
-    },
-];
 
 /// The word of a barrier's option.
 pub(crate) fn dsb_word(dsb: Dsb) -> &'static [u8]
@@ -252,7 +182,22 @@ pub(crate) fn dsb_word(dsb: Dsb) -> &'static [u8]
 pub(crate) fn dsb_of(field: &[u8]) -> Option<Dsb>
     ensures { result ≡ words.with_word words.dsb_word words.dsbs field.now }
 {
-    DSBS.iter().copied().find(|dsb| dsb_word(*dsb) == field)
+    let (domain, types) = match field {
+        b"ish" => (Domain::Inner, Types::All),
+        b"ishst" => (Domain::Inner, Types::Stores),
+        b"ishld" => (Domain::Inner, Types::Loads),
+        b"sy" => (Domain::Full, Types::All),
+        b"st" => (Domain::Full, Types::Stores),
+        b"ld" => (Domain::Full, Types::Loads),
+        b"osh" => (Domain::Outer, Types::All),
+        b"oshst" => (Domain::Outer, Types::Stores),
+        b"oshld" => (Domain::Outer, Types::Loads),
+        b"nsh" => (Domain::Non, Types::All),
+        b"nshst" => (Domain::Non, Types::Stores),
+        b"nshld" => (Domain::Non, Types::Loads),
+        _ => return None,
+    };
+    Some(Dsb { domain, types })
 }
 
 /// The operations of TLBIs.
@@ -351,9 +296,28 @@ pub(crate) fn op_word(op: TlbiOp) -> &'static [u8]
     }
 }
 
-/// The operation that the field is.
-pub(crate) fn op_of(field: &[u8]) -> Option<TlbiOp>
+/// The operation that the field is, by a search through all.
+fn any_op(field: &[u8]) -> Option<TlbiOp>
     ensures { result ≡ words.with_word words.op_word words.ops field.now }
 {
     OPS.iter().copied().find(|op| op_word(*op) == field)
+}
+
+/// The operation that the field is; those that kernels and hypervisors mostly issue are found at once.
+pub(crate) fn op_of(field: &[u8]) -> Option<TlbiOp>
+    ensures { result ≡ words.with_word words.op_word words.ops field.now }
+{
+    match field {
+        b"alle2is" => Some(TlbiOp::Alle2is),
+        b"vae2is" => Some(TlbiOp::Vae2is),
+        b"vale2is" => Some(TlbiOp::Vale2is),
+        b"ipas2e1is" => Some(TlbiOp::Ipas2e1is),
+        b"vmalle1is" => Some(TlbiOp::Vmalle1is),
+        b"vmalls12e1is" => Some(TlbiOp::Vmalls12e1is),
+        b"alle1is" => Some(TlbiOp::Alle1is),
+        b"vae1is" => Some(TlbiOp::Vae1is),
+        b"vale1is" => Some(TlbiOp::Vale1is),
+        b"aside1is" => Some(TlbiOp::Aside1is),
+        _ => any_op(field),
+    }
 }

@@ -1,6 +1,8 @@
 -- What one PE may use at a moment: the declared roots, and the readable values of the root registers of its world.
 use Rattle.std.specs.Prelude.{◌≡◌, ℕ, ◌&&◌, ◌==◌, ◌++◌, Bool, List, Option, filter_map, flat_map}
-use Rattle.bbm_rules.specs.Prelude.{Kind, El2, S2, Ttbr0, Ttbr1, AsidFrom, FromTtbr0, FromTtbr1, Reg, Ttbr0El2, VttbrEl2, Ttbr0El1, Ttbr1El1, Tag, El2Tag, Vmid, Asid, Ttbr1Tag, World, Hyp, Kernel, Event}
+use Rattle.bbm_rules.specs.Prelude.{Kind, El2, S2, Ttbr0, Ttbr1, AsidFrom, FromTtbr0, FromTtbr1, Reg, Ttbr0El2}
+use Rattle.bbm_rules.specs.Prelude.{VttbrEl2, Ttbr0El1, Ttbr1El1, Tag, El2Tag, Vmid, Asid, Ttbr1Tag, World, Hyp}
+use Rattle.bbm_rules.specs.Prelude.{Kernel, Event}
 use Rattle.bbm_rules.specs.Claims.{same_tag}
 use Rattle.bbm_rules.specs.Lists.{◌>>=◌, if_so, any}
 use Rattle.bbm_rules.specs.Registers.{base_of, register_values, tag_number}

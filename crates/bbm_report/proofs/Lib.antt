@@ -1,1 +1,3 @@
 pub mod Words
+pub mod Starts
+pub mod Roots

@@ -2,6 +2,7 @@
 //! say behind the line of the verdict.
 #![tactic(auto)]
 
+pub mod finding;
 mod names;
 pub mod phases;
 pub mod questions;
@@ -10,6 +11,7 @@ mod tests;
 pub mod verdicts;
 pub mod walks;
 
+pub use finding::find;
 pub use phases::phase_text;
 pub use questions::{Question, asked};
 pub use verdicts::verdict_text;

@@ -1,10 +1,14 @@
 -- An event keeps the answer of each definition that its row of the table doesn't name.
-use Rattle.std.proofs.Common.{◌≡◌, ℕ, false, List, ◌∷◌, refl, true≢false}
-use Rattle.bbm_rules.specs.Prelude.{Reg, Heading, Event, Init, Null, Root, Unroot, Write, Dsb, Isb, Tlbi, Msr, Lock, Unlock}
+use Rattle.std.proofs.Common.{◌≡◌, ℕ, Bool, true, false, ◌&&◌, ◌||◌, List, ◌∷◌, Option, refl, ap, ◌∙◌, true≢false}
+use Rattle.bbm_rules.specs.Prelude.{Kind, Reg, Heading, Event, Init, Null, Root, Unroot, Write, Dsb, Isb, Tlbi, Msr, Lock, Unlock}
 use Rattle.bbm_rules.specs.Changes.{changes}
+use Rattle.bbm_rules.specs.Claims.{Trust}
+use Rattle.bbm_rules.specs.Cleansing.{answered_where, answers_one, cleansed, full_step, half, publishes_write, second_step, seen}
+use Rattle.bbm_rules.specs.Held.{ValidWrite, last_valid, last_valid_after, later}
 use Rattle.bbm_rules.specs.Locks.{holder_of}
-use Rattle.bbm_rules.specs.Pages.{initialised, is_null}
-use Rattle.bbm_rules.specs.Reach.{unanswered}
+use Rattle.bbm_rules.specs.Notes.{Noted}
+use Rattle.bbm_rules.specs.Pages.{initialised, is_null, may_be_fresh}
+use Rattle.bbm_rules.specs.Reach.{Issued, unanswered}
 use Rattle.bbm_rules.specs.Registers.{register_values}
 use Rattle.bbm_rules.specs.Roots.{roots_of}
 use Rattle.bbm_rules.specs.Tags.{itself}
@@ -54,4 +58,53 @@ locks_kept (Lock pe number) h lock k = absurd (true≢false k)
 locks_kept (Unlock pe number) h lock k = absurd (true≢false k)
 locks_kept e h lock k = refl
 
-pub ruleset laws = (values_kept, written_kept, published_kept, inits_kept, nulls_kept, roots_kept, registers_kept, flushes_kept, locks_kept)
+valid_after_kept : (kind : Kind) (level place : ℕ) (e : Event) (n : Noted) (found : Option ValidWrite)
+    → (changes e).values ≡ false → last_valid_after kind level place e n found ≡ later n found
+valid_after_kept kind level place (Init pe page) n found k = absurd (true≢false k)
+valid_after_kept kind level place (Write pe at value) n found k = absurd (true≢false k)
+valid_after_kept kind level place e n found k = refl
+
+pub valid_kept : (n : Noted) (h : List Noted) (kind : Kind) (level place : ℕ) → (changes n.event).values ≡ false
+    → last_valid kind level place (n ∷ h) ≡ later n (last_valid kind level place h)
+valid_kept n h kind level place k = valid_after_kept kind level place n.event n (last_valid kind level place h) k
+
+pub fresh_kept : (e : Event) (page : ℕ) (before : Bool) → (changes e).inits ≡ false → (changes e).nulls ≡ false
+    → may_be_fresh e page before ≡ before
+fresh_kept (Init pe at) page before k l = absurd (true≢false k)
+fresh_kept (Null pe at) page before k l = absurd (true≢false l)
+fresh_kept e page before k l = refl
+
+publishes_none : (heading : Heading) (place p : ℕ) (e : Event) (older : List Noted) → (changes e).publications ≡ false
+    → publishes_write heading place p e older ≡ false
+publishes_none heading place p (Dsb q dsb) older k = absurd (true≢false k)
+publishes_none heading place p e older k = refl
+
+pub seen_kept : (heading : Heading) (place p : ℕ) (n : Noted) (since : List Noted) → (changes n.event).publications ≡ false
+    → seen heading place p (n ∷ since) ≡ seen heading place p since
+seen_kept heading place p n since k =
+    ap (λ (b : Bool). (b && true) || seen heading place p since) (publishes_none heading place p n.event since k)
+
+answers_none : (test : Issued Noted → Bool) (e : Event) (older : List Noted) → (changes e).flushes ≡ false
+    → answers_one test e older ≡ false
+answers_none test (Dsb q dsb) older k = absurd (true≢false k)
+answers_none test e older k = refl
+
+answered_kept : (test : ℕ → Issued Noted → Bool) (n : Noted) (since : List Noted) → (changes n.event).flushes ≡ false
+    → answered_where test (n ∷ since) ≡ answered_where test since
+answered_kept test n since k =
+    ap (λ (b : Bool). b || answered_where test since) (answers_none (test n.position) n.event since k)
+
+pub half_kept : (heading : Heading) (place p : ℕ) (n : Noted) (since : List Noted) → (changes n.event).flushes ≡ false
+    → half heading place p (n ∷ since) ≡ half heading place p since
+half_kept heading place p n since k = answered_kept _ n since k
+
+pub cleansed_kept : (heading : Heading) (trust : Trust) (place p : ℕ) (n : Noted) (since : List Noted)
+    → (changes n.event).flushes ≡ false
+    → cleansed heading trust place p (n ∷ since) ≡ cleansed heading trust place p since
+cleansed_kept heading trust place p n since k =
+    ap (λ (b : Bool). b || answered_where (second_step heading trust place p) (n ∷ since))
+    (answered_kept (full_step heading trust place p) n since k)
+    ∙ ap (λ (b : Bool). answered_where (full_step heading trust place p) since || b)
+    (answered_kept (second_step heading trust place p) n since k)
+
+pub ruleset laws = (values_kept, written_kept, published_kept, inits_kept, nulls_kept, roots_kept, registers_kept, flushes_kept, locks_kept, valid_kept, fresh_kept, seen_kept, half_kept, cleansed_kept)

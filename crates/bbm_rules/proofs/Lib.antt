@@ -47,3 +47,4 @@ pub mod TreeLaw
 pub mod AttachLaw
 pub mod VersionLaw
 pub mod ReadsLaw
+pub mod NullLaw

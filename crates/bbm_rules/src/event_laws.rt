@@ -1,7 +1,8 @@
 //! Laws of the definitions on plain events: the tests decide what they name, and what computes says the same as a
 //! sentence over all ways to split a history.
 
-ghost use Rattle.std.specs.Prelude.{◌≡◌, ◌↔◌, ℕ, ◌≤◌, true, false, length, Option, None, List, ◌==◌, ◌∷◌, Some, Contains};
+ghost use Rattle.std.specs.Prelude.{◌≡◌, ◌↔◌, ℕ, ◌≤◌, Bool, true, false, length, Option, None, List, ◌==◌, ◌∷◌, Some};
+ghost use Rattle.std.specs.Prelude.{Contains, ◌++◌};
 ghost use Rattle.bbm_regimes.specs.declared.regime.Kind.{Kind};
 ghost use Rattle.bbm_regimes.specs.declared.regime.Reg.{Reg};
 ghost use Rattle.bbm_regimes.specs.declared.regime.Reg.TheVariants.{VttbrEl2};
@@ -12,14 +13,17 @@ ghost use Rattle.bbm_regimes.specs.declared.regime.World.TheVariants.{Hyp};
 ghost use Rattle.bbm_tlbi_scope.specs.declared.entry.TagSet.TheVariants.{None as NoTag, One, Many};
 ghost use Rattle.bbm_events.specs.Heading.{Heading};
 ghost use Rattle.bbm_events.specs.declared.event.Event.{Event};
-ghost use Rattle.bbm_events.specs.declared.event.Event.TheVariants.{Init, Msr, Root};
+ghost use Rattle.bbm_events.specs.declared.event.Event.TheVariants.{Init, Msr, Null, Root};
 ghost use Rattle.bbm_rules.specs.declared.claim.Claim.{Claim};
 ghost use Rattle.bbm_rules.specs.Changes.{changes};
 ghost use Rattle.bbm_rules.specs.Claims.{Trust, same_claim, same_tag};
+ghost use Rattle.bbm_rules.specs.Cleansing.{cleansed, half, seen};
+ghost use Rattle.bbm_rules.specs.Held.{last_valid, later};
 ghost use Rattle.bbm_rules.specs.Limits.{limit_of};
 ghost use Rattle.bbm_rules.specs.Lists.{among};
 ghost use Rattle.bbm_rules.specs.Locks.{holder_of};
-ghost use Rattle.bbm_rules.specs.Pages.{initialised, is_null};
+ghost use Rattle.bbm_rules.specs.Notes.{Noted};
+ghost use Rattle.bbm_rules.specs.Pages.{initialised, is_null, may_be_fresh};
 ghost use Rattle.bbm_rules.specs.Reach.{unanswered};
 ghost use Rattle.bbm_rules.specs.Registers.{register_values, same_reg, tag_number, vmid_of};
 ghost use Rattle.bbm_rules.specs.Roots.{Declared, is_root, root_at, roots_of, same_kind};
@@ -57,6 +61,15 @@ pub fn law_root()
     ensures of_kind { (h : List Event) (kind : Kind) (page : ℕ) → is_root h kind page ≡ true →
         (r : Declared) × IsDeclared h r × (r.page ≡ page) × (r.kind ≡ kind) }
     ensures is_of_kind { (h : List Event) (r : Declared) → IsDeclared h r → is_root h r.kind r.page ≡ true }
+{}
+
+/// A page is a null page exactly where a `null` of it stands in the history. The call does nothing; the law is its
+/// contract.
+pub fn law_null()
+    ensures sound { (h : List Event) (page : ℕ) → is_null h page ≡ true →
+        (q : ℕ) × (newer older : List Event) × (h ≡ newer ++ Null q page ∷ older) }
+    ensures complete { (h : List Event) (q page : ℕ) (newer older : List Event) → h ≡ newer ++ Null q page ∷ older →
+        is_null h page ≡ true }
 {}
 
 /// A value is among the readable ones of a register exactly where the register had it at some moment, and after that
@@ -99,6 +112,17 @@ pub fn law_changes()
         unanswered itself q (e ∷ h) ≡ unanswered itself q h }
     ensures locks { (e : Event) (h : List Event) (lock : ℕ) → (changes e).locks ≡ false →
         holder_of (e ∷ h) lock ≡ holder_of h lock }
+    ensures valid { (n : Noted) (h : List Noted) (kind : Kind) (level place : ℕ) → (changes n.event).values ≡ false →
+        last_valid kind level place (n ∷ h) ≡ later n (last_valid kind level place h) }
+    ensures fresh { (e : Event) (page : ℕ) (before : Bool) → (changes e).inits ≡ false → (changes e).nulls ≡ false →
+        may_be_fresh e page before ≡ before }
+    ensures seen { (heading : Heading) (place p : ℕ) (n : Noted) (since : List Noted) →
+        (changes n.event).publications ≡ false → seen heading place p (n ∷ since) ≡ seen heading place p since }
+    ensures half { (heading : Heading) (place p : ℕ) (n : Noted) (since : List Noted) →
+        (changes n.event).flushes ≡ false → half heading place p (n ∷ since) ≡ half heading place p since }
+    ensures cleansed { (heading : Heading) (trust : Trust) (place p : ℕ) (n : Noted) (since : List Noted) →
+        (changes n.event).flushes ≡ false →
+        cleansed heading trust place p (n ∷ since) ≡ cleansed heading trust place p since }
 {}
 
 /// The tag set of a root says which tags it holds: none; one and no other; or two different ones at least. The call

@@ -16,7 +16,7 @@ pub mod verdict;
 pub use checker::{Checker, Fresh};
 pub use claim::Claim;
 pub use event_laws::{
-    law_changes, law_equality_tests, law_limits, law_lock_held, law_published,
+    law_changes, law_equality_tests, law_limits, law_lock_held, law_null, law_published,
     law_readable_register, law_root, law_tag_set, law_vmid,
 };
 pub use history_laws::{
@@ -37,7 +37,7 @@ pub use verdict::{Verdict, law_first_line_decides};
 #[cfg(test)]
 mod tests {
     use crate::event_laws::{
-        law_changes, law_equality_tests, law_limits, law_lock_held, law_published,
+        law_changes, law_equality_tests, law_limits, law_lock_held, law_null, law_published,
         law_readable_register, law_root, law_tag_set, law_vmid,
     };
     use crate::history_laws::{
@@ -74,6 +74,7 @@ mod tests {
         law_equality_tests();
         law_limits();
         law_lock_held();
+        law_null();
         law_notes_keep_the_events();
         law_published();
         law_readable_register();

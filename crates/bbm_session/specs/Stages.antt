@@ -1,6 +1,7 @@
 -- What the contracts of the session's parts say: how the outcome of what a source has left goes on from part to
 -- part. No public contract cites these words.
-use Rattle.std.specs.Prelude.{◌≡◌, ℕ, ◌+◌, ◌*◌, ◌≤◌, ◌<◌, false, true, Bool, ◌&&◌, List, [], ◌∷◌, ◌++◌, length, Option, Some, None, Result, Ok, Err}
+use Rattle.std.specs.Prelude.{◌≡◌, ℕ, ◌+◌, ◌*◌, ◌≤◌, ◌<◌, false, true, Bool, ◌&&◌, List, [], ◌∷◌, ◌++◌, length}
+use Rattle.std.specs.Prelude.{Option, Some, None, Result, Ok, Err}
 use Rattle.bbm_io.specs.Faults.{Rose}
 use Rattle.bbm_io.specs.Flow.{preceded, plain}
 use Rattle.bbm_io.specs.Reading.{Reading}
@@ -16,7 +17,8 @@ use Rattle.bbm_rules.specs.Answers.{MayTake}
 use Rattle.bbm_rules.specs.Broken.{Breach}
 use Rattle.bbm_rules.specs.Claims.{Trust, Patterns}
 use Rattle.bbm_rules.specs.declared.limits.Limits.{Limits}
-use Rattle.bbm_rules.specs.Outcome.{Progress, AtHeader, AtEvents, AtEnd, Step, Decides, GoesOn, Outcome, outcome_from, text_of, bytes_of, read_from}
+use Rattle.bbm_rules.specs.Outcome.{Progress, AtHeader, AtEvents, AtEnd, Step, Decides, GoesOn, Outcome, outcome_from}
+use Rattle.bbm_rules.specs.Outcome.{text_of, bytes_of, read_from}
 use Rattle.bbm_session.specs.Run.{NeedsMemory}
 use Rattle.bbm_session.specs.declared.stop.Stop.{Stop}
 use Rattle.bbm_session.specs.declared.stop.Stop.TheVariants.{Decided, ReadFault, NoMemory}

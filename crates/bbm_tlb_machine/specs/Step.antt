@@ -2,7 +2,8 @@
 -- an entry of another PE, drop one. And what an event asks of the entries that they keep. A history is newest first.
 -- Source: Arm ARM (DDI 0487), "Translation Lookaside Buffers" and "TLB maintenance instructions", but where the project's
 -- own choice is named.
-use Rattle.std.specs.Prelude.{◌≡◌, ℕ, suc, ◌+◌, ◌-◌, ◌*◌, ◌/◌, Bool, true, false, ◌&&◌, ◌==◌, nat_le, nat_lt, List, [], length, map, Option, Some, None}
+use Rattle.std.specs.Prelude.{◌≡◌, ℕ, suc, ◌+◌, ◌-◌, ◌*◌, ◌/◌, Bool, true, false, ◌&&◌, ◌==◌, nat_le, nat_lt, List}
+use Rattle.std.specs.Prelude.{[], length, map, Option, Some, None}
 use Rattle.bbm_descriptor.specs.Descriptor.{is_valid}
 use Rattle.bbm_tlbi_scope.specs.declared.entry.EntryKind.{EntryKind}
 use Rattle.bbm_tlbi_scope.specs.declared.entry.EntryKind.TheVariants.{El2 as El2Entry, Stage2, Combined, El1}
@@ -10,7 +11,8 @@ use Rattle.bbm_tlbi_scope.specs.Operations.{family_of}
 use Rattle.bbm_tlbi_scope.specs.Takes.{taken}
 use Rattle.bbm_rules.specs.Lists.{among, is_that}
 use Rattle.bbm_rules.specs.Places.{index_of, page_of}
-use Rattle.bbm_rules.specs.Prelude.{AsidFrom, FromTtbr0, FromTtbr1, Kind, El2, S2, Ttbr0, Ttbr1, Reg, Ttbr0El1, Ttbr1El1, World, Hyp, Kernel, Scope, Heading, Event, Tlbi}
+use Rattle.bbm_rules.specs.Prelude.{AsidFrom, FromTtbr0, FromTtbr1, Kind, El2, S2, Ttbr0, Ttbr1, Reg, Ttbr0El1}
+use Rattle.bbm_rules.specs.Prelude.{Ttbr1El1, World, Hyp, Kernel, Scope, Heading, Event, Tlbi}
 use Rattle.bbm_rules.specs.Reach.{Issued, reaches}
 use Rattle.bbm_rules.specs.Registers.{named_scope, register_values, tag_number, vmid_of}
 use Rattle.bbm_rules.specs.Roots.{first_input_page, input_pages, page_count, start_of}

@@ -1,7 +1,7 @@
 -- The bytes that are left lead from the number so far to the number of all.
 use Rattle.std.proofs.Common.{◌≡◌, drop}
 use Rattle.bbm_log_grammar.specs.Digits as digits
-use Rattle.bbm_log_grammar.proofs.numbers.number_after.Given as goal
+use Rattle.bbm_log_grammar.proofs.numbers.decimal_digits.Given as goal
 
 abbrev pub invariant-loop-byte : goal.invariant-loop-byte
-invariant-loop-byte l = digits.number_after l.base l.n (drop l.byte-index l.bytes) ≡ digits.number_after l.base 0 l.bytes
+invariant-loop-byte l = digits.number_after 10 l.n (drop l.byte-index l.bytes) ≡ digits.number_after 10 0 l.bytes

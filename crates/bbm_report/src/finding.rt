@@ -1,0 +1,101 @@
+//! What `walk` finds.
+
+ghost use Rattle.std.specs.Prelude.{◌≡◌, ℕ, ◌≤◌, ◌*◌, ◌%◌, ◌↔◌, List, true, IsTrue, IsSome, IfSome};
+ghost use Rattle.std.specs.List.{list_all};
+ghost use Rattle.bbm_regimes.specs.declared.regime.Kind.TheVariants.{S2, Ttbr1};
+ghost use Rattle.bbm_regimes.specs.Same.{same_kind};
+ghost use Rattle.bbm_regimes.specs.World as worlds;
+ghost use Rattle.bbm_walk_s2.specs.Joined.{can_join};
+ghost use Rattle.bbm_events.specs.Fits.{fits_heading};
+ghost use Rattle.bbm_events.specs.declared.event.Event.{Event};
+ghost use Rattle.bbm_report.specs.Further.{Found};
+
+use crate::questions::Question;
+use bbm_descriptor::Walk;
+use bbm_events::{Header, page_count};
+use bbm_regimes::{Kind, Page, World};
+use bbm_rules::Checker;
+use bbm_walk_s1::S1Root;
+use bbm_walk_s2::S2Root;
+
+// The level at which walks of the kind start.
+#[tactic(auto, using(crate::proofs::Starts::start_small))]
+fn start(header: &Header, kind: Kind) -> u8
+    ensures level { result ≡ worlds.start_of header.now.world kind }
+    ensures range { result ≤ 2 }
+{
+    match header.world {
+        World::Hyp(world) => match kind {
+            Kind::El2 => world.el2_start,
+            Kind::S2 => world.s2_start,
+            _ => 0,
+        },
+        World::Kernel(world) => match kind {
+            Kind::Ttbr0 => world.start0,
+            Kind::Ttbr1 => world.start1,
+            _ => 0,
+        },
+    }
+}
+
+// Whether the input range of the kind is the high one.
+fn is_high(kind: Kind) -> bool
+    ensures { result ≡ same_kind kind Ttbr1 }
+{
+    match kind {
+        Kind::Ttbr1 => true,
+        _ => false,
+    }
+}
+
+// The number of joined pages of a stage 2 root.
+#[tactic(auto, using(crate::proofs::Starts::joined))]
+fn joined_pages(header: &Header) -> u8
+    ensures count { result ≡ worlds.page_count header.now.world S2 }
+    ensures joined { IsTrue (can_join (worlds.start_of header.now.world S2) result) }
+{
+    page_count(header.world, Kind::S2)
+}
+
+// The stage 2 root at the page, None where the page isn't aligned to all pages of a root.
+fn joined_root(header: &Header, page: Page) -> Option<S2Root>
+    ensures aligned { IsSome result ↔ (page % (4096 * worlds.page_count header.now.world S2) ≡ 0) }
+    ensures start { IfSome result (λ root. root.start ≡ worlds.start_of header.now.world S2) }
+    ensures pages { IfSome result (λ root. root.pages ≡ worlds.page_count header.now.world S2) }
+    ensures page { IfSome result (λ root. root.page ≡ page) }
+{
+    let start = start(header, Kind::S2);
+    let pages = joined_pages(header);
+    if page.get() % (4096 * pages as u64) == 0 {
+        Some(S2Root { start, pages, page })
+    } else {
+        None
+    }
+}
+
+/// What `walk` finds after the events that the checker took: None where the page isn't the first page of a declared root
+/// of the kind, else the answer of a walk of that root for the address, by the value that each place has. It holds for
+/// each history of the header that the checker stands for and whose events fit the header. It reads at most four
+/// values. Source: project's own choice.
+pub fn find<C: Checker>(checker: &C, header: &Header, question: Question) -> Option<Walk>
+    ensures { (h : List Event) → C.stands checker.now header.now h → list_all (fits_heading header.now) h ≡ true
+        → Found header.now h question result }
+{
+    if !checker.is_root(question.kind, question.root) {
+        return None;
+    }
+    match question.kind {
+        Kind::S2 => {
+            let root = joined_root(header, question.root)?;
+            Some(bbm_walk_s2::walk(checker, root, question.addr))
+        }
+        kind => {
+            let root = S1Root {
+                start: start(header, kind),
+                high: is_high(kind),
+                page: question.root,
+            };
+            Some(bbm_walk_s1::walk(checker, root, question.addr))
+        }
+    }
+}
