@@ -74,6 +74,7 @@ fn shows_lines_where_they_lie(rt: HostRuntime) -> Result<(), Fail> {
         lines.take(at_hand.ok_or("no line at hand")?, &mut source);
     }
     assert_eq!(rt; lines.at_hand(&source), None);
+    assert!(rt; !lines.failed());
     assert_eq!(rt; lines.next(&mut source), Ok(LineOrEnd::Cut));
     assert_eq!(rt; lines.shown(None, &source), b"b".as_slice());
     Ok(())

@@ -1,5 +1,5 @@
 -- What a step does to what `follow` has.
-use Rattle.std.proofs.Common.{◌≡◌, ℕ, suc, ◌+◌, ◌<◌, ◌≤◌, Bool, true, false, ◌&&◌, not, ◌==◌, List, [], ◌∷◌, ◌++◌, length, take, drop, get_or, reverse, Option, Some, None, Result, Ok, Err, IfOk, find, option_map, refl, sym, ◌∙◌, ap, subst, arith, true≢false}
+use Rattle.std.proofs.Common.{◌≡◌, ℕ, ◌+◌, ◌<◌, Bool, true, false, List, [], ◌∷◌, ◌++◌, length, take, drop, get_or, reverse, Option, Some, None, Result, Ok, Err, IfOk, refl, sym, ◌∙◌, ap, subst, arith}
 use Rattle.std.proofs.lemmas.List.{length-reverse, length-take-le, reverse-append, take-append-drop, take_more}
 use Rattle.bbm_events.specs.declared.machine.MachineLine.{MachineLine}
 use Rattle.bbm_events.specs.declared.machine.MachineLine.TheVariants.{Start, Extend, Combine, Share, Drop}
@@ -10,9 +10,9 @@ use Rattle.bbm_tlb_machine.specs.declared.step.Step.TheVariants.{Machine, Event 
 use Rattle.bbm_tlb_machine.specs.Entry.{Entry}
 use Rattle.bbm_tlb_machine.specs.Followed.{Followed, Follows, GoesOn, entry_made, found}
 use Rattle.bbm_tlb_machine.specs.Pendings.{IsPending, Pending}
-use Rattle.bbm_tlb_machine.specs.Run.{Living, State, after_event, entry_at, follow_steps, next_in, or_index, step_to, with_entry}
+use Rattle.bbm_tlb_machine.specs.Run.{Living, State, after_event, follow_steps, next_in, or_index, step_to, with_entry}
 use Rattle.bbm_tlb_machine.specs.Safe.{conflicts_with, earlier, fails_at, first_conflict, in_conflict}
-use Rattle.bbm_tlb_machine.specs.Step.{combined, extended, is_stage2, may_extend, may_share, may_start, shared, started}
+use Rattle.bbm_tlb_machine.specs.Step.{combined, extended, is_stage2, may_extend, may_share, shared}
 
 if_so_with : (s : State) (b : Bool) (y x : Entry) → Some x ≡ if_so b y → if_so b (with_entry s y) ≡ Some (with_entry s x)
 if_so_with s true y x e = let same : y ≡ x = cc in ap (λ (x : Entry). Some (with_entry s x)) same

@@ -1,4 +1,13 @@
+mod AfterEvent
 mod Cases
+mod Covered
+mod Descs
+mod Elements
+mod Events
+mod Facts
+mod InTrees
+mod Made
+mod Patterns
 mod ListWords
 pub mod LookBack
 pub mod FollowSteps
@@ -8,4 +17,8 @@ pub mod PendingSteps
 mod RootSizes
 mod RunLaw
 mod RunTexts
+mod Runs
 mod SafeLaw
+mod Regions
+mod Roots
+mod Scopes

@@ -1,16 +1,13 @@
 -- One look back at an event, by the event.
-use Rattle.std.proofs.Common.{◌≡◌, ℕ, zero, suc, ◌+◌, ◌-◌, ◌<◌, ◌≤◌, Bool, true, false, cond, ◌&&◌, ◌||◌, ◌==◌, List, [], ◌∷◌, ◌++◌, length, take, drop, get_or, reverse, refl, sym, ◌∙◌, ap, subst, arith, true≢false}
+use Rattle.std.proofs.Common.{◌≡◌, ℕ, suc, ◌+◌, ◌<◌, Bool, true, false, cond, ◌&&◌, ◌||◌, ◌==◌, List, [], ◌∷◌, length, take, drop, get_or, reverse, refl, sym, ◌∙◌, ap, true≢false}
 use Rattle.std.proofs.lemmas.Bool.{eq-eqb, eqb-true, false_from_ne_true, or_left}
 use Rattle.std.proofs.Math.Bool.{or_comm}
 use Rattle.std.proofs.Common.{add-one, drop-cons}
 use Rattle.std.proofs.lemmas.List.{reverse-append, take_more}
-use Rattle.bbm_regimes.specs.declared.pe.PeMask.{PeMask}
-use Rattle.bbm_regimes.specs.PeMask.{pe_in}
-use Rattle.bbm_rules.specs.Lists.{among, any}
+use Rattle.bbm_rules.specs.Lists.{among}
 use Rattle.bbm_rules.specs.Places.{page_of}
-use Rattle.bbm_rules.specs.Prelude.{Barrier, Heading, Event, Init, Null, Root, Unroot, Write, Dsb, Dmb, Isb, Tlbi, Msr, Lock, Unlock}
+use Rattle.bbm_rules.specs.Prelude.{Barrier, Heading, Event, Init, Write, Dsb}
 use Rattle.bbm_rules.specs.Values.{published, publishes_for, publishes_to, readable_before}
-use Rattle.bbm_tlb_machine.specs.Looking.{Marks}
 
 -- a write at the place
 at_write : (v value : ℕ) (rest : List ℕ) (gone : Bool) → (v == value) ≡ false

@@ -1,5 +1,7 @@
 pub mod Entry
 pub mod Followed
+pub mod Invariant
+pub mod Known
 pub mod Looking
 pub mod Pendings
 pub mod Registers

@@ -10,6 +10,7 @@ mod looking;
 pub mod machine;
 mod making;
 mod pending;
+pub mod safety;
 mod starting;
 pub mod step;
 #[cfg(test)]
@@ -17,4 +18,5 @@ mod tests;
 
 pub use laws::{law_conflict, law_run};
 pub use machine::{FollowFault, Machine, follow};
+pub use safety::{law_fine, law_safe};
 pub use step::Step;

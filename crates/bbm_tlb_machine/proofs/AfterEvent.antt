@@ -1,0 +1,181 @@
+-- What one more event does to the last valid write of a place and to the patterns after it.
+use Rattle.std.proofs.Common.{◌≡◌, ℕ, ◌⊎◌, ◌&&◌, Bool, true, false, cond, ◌==◌, List, [], ◌∷◌, ◌++◌, Some, None, sym, ◌∙◌, ap, subst, inl, inr}
+use Rattle.std.proofs.lemmas.List.{append_assoc}
+use Rattle.bbm_descriptor.specs.Descriptor.{is_valid}
+use Rattle.bbm_rules.specs.Held.{ValidWrite, last_valid, last_valid_after, later}
+use Rattle.bbm_rules.specs.Notes.{Noted, event_of}
+use Rattle.bbm_rules.specs.PatternSentences.{Answer, HalfBy, Publication}
+use Rattle.bbm_rules.specs.Places.{page_of}
+use Rattle.bbm_rules.specs.Prelude.{Barrier, Heading, Kind, Event, Init, Write, Dsb}
+use Rattle.bbm_rules.specs.Reach.{Issued, completes}
+use Rattle.bbm_rules.specs.Sentences.{Open}
+use Rattle.bbm_tlb_machine.proofs.ListWords.{bind_some}
+
+-- ---- the last valid write
+
+-- it is the event itself, or that of before with the event after it
+abbrev pub LastBefore : Kind → ℕ → ℕ → Noted → List Noted → ValidWrite → Type 0
+LastBefore kind level place n h w =
+    (w.since ≡ []) ⊎ ((v : ValidWrite) × (last_valid kind level place h ≡ Some v) × (w.since ≡ n ∷ v.since))
+
+pub last_step : (kind : Kind) (level place : ℕ) (n : Noted) (h : List Noted) (w : ValidWrite)
+    → last_valid kind level place (n ∷ h) ≡ Some w → LastBefore kind level place n h w
+last_step kind level place n h w e = by n.event e
+  where
+    goes_on : later n (last_valid kind level place h) ≡ Some w → LastBefore kind level place n h w
+    goes_on k =
+        let b = bind_some (λ (v : ValidWrite). Some (record v { since = n ∷ v.since })) (last_valid kind level place h) w k in
+        let same : record b.0 { since = n ∷ b.0.since } ≡ w = cc in
+        inr (b.0, b.1, ap (λ (v : ValidWrite). v.since) (sym same))
+
+    chosen : (value : ℕ) (b : Bool) → cond b (Some (record { value = value; since = [] })) (later n (last_valid kind level place h)) ≡ Some w
+        → LastBefore kind level place n h w
+    chosen value true k =
+        let made : ValidWrite = record { value = value; since = [] } in
+        let same : made ≡ w = cc in inl (ap (λ (v : ValidWrite). v.since) (sym same))
+    chosen value false k = goes_on k
+
+    kept : (b : Bool) → cond b None (later n (last_valid kind level place h)) ≡ Some w → LastBefore kind level place n h w
+    kept true k = cc
+    kept false k = goes_on k
+
+    by : (e : Event) → last_valid_after kind level place e n (last_valid kind level place h) ≡ Some w → LastBefore kind level place n h w
+    by (Write pe at value) k = chosen value (at == place && is_valid kind level value) k
+    by (Init pe page) k = kept (page == page_of place) k
+    by _ k = goes_on k
+
+-- ---- publications
+
+pub publication_after : (heading : Heading) (place p : ℕ) (n : Noted) (since : List Noted) (b : Noted)
+    → Publication heading place p (n ∷ since) b → (b ≡ n) ⊎ Publication heading place p since b
+publication_after heading place p n since b k = by k.newer k.split
+  where
+    by : (newer : List Noted) → n ∷ since ≡ newer ++ b ∷ (k.between ++ k.write ∷ k.older) → (b ≡ n) ⊎ Publication heading place p since b
+    by [] s = let first : n ≡ b = cc in inl (sym first)
+    by (y ∷ newer) s = let rest : since ≡ newer ++ b ∷ (k.between ++ k.write ∷ k.older) = cc in inr (record {
+      q = k.q;
+      dsb = k.dsb;
+      value = k.value;
+      write = k.write;
+      newer = newer;
+      between = k.between;
+      older = k.older;
+      split = rest;
+      wrote = k.wrote;
+      barrier = k.barrier;
+      publishes = k.publishes;
+    })
+
+pub no_publication : (heading : Heading) (place p : ℕ) (b : Noted) → Publication heading place p [] b → ⊥
+no_publication heading place p b k = by k.newer k.split
+  where
+    by : (newer : List Noted) → [] ≡ newer ++ b ∷ (k.between ++ k.write ∷ k.older) → ⊥
+    by [] s = cc
+    by (y ∷ newer) s = cc
+
+later_split : {X : Type 0} (newer xs before after : List X) (x : X) → xs ≡ before ++ x ∷ after
+    → newer ++ xs ≡ (newer ++ before) ++ x ∷ after
+later_split newer xs before after x e = ap (λ ys. newer ++ ys) e ∙ sym (append_assoc newer before (x ∷ after))
+
+pub publication_stays : (heading : Heading) (place p : ℕ) (newer since : List Noted) (b : Noted)
+    → Publication heading place p since b → Publication heading place p (newer ++ since) b
+publication_stays heading place p newer since b k = record {
+  q = k.q;
+  dsb = k.dsb;
+  value = k.value;
+  write = k.write;
+  newer = newer ++ k.newer;
+  between = k.between;
+  older = k.older;
+  split = later_split newer since k.newer (k.between ++ k.write ∷ k.older) b k.split;
+  wrote = k.wrote;
+  barrier = k.barrier;
+  publishes = k.publishes;
+}
+
+-- what is published before a TLBI is published after it
+pub publication_before : (heading : Heading) (place p q : ℕ) (since : List Noted) (t : Issued Noted) (b : Noted)
+    → Open event_of q since t → Publication heading place p t.before b → Publication heading place p since b
+publication_before heading place p q since t b o k =
+    subst (λ (xs : List Noted). Publication heading place p xs b) (sym o.split)
+    (publication_stays heading place p o.newer (t.tlbi ∷ t.before) b
+    (publication_stays heading place p (t.tlbi ∷ []) t.before b k))
+
+pub publication_answered : (heading : Heading) (place p : ℕ) (since : List Noted) (t : Issued Noted) (d b : Noted)
+    → Answer since t d → Publication heading place p t.before b → Publication heading place p since b
+publication_answered heading place p since t d b a k =
+    subst (λ (xs : List Noted). Publication heading place p xs b) (sym a.split)
+    (publication_stays heading place p a.newer (d ∷ a.older) b
+    (publication_stays heading place p (d ∷ []) a.older b (publication_before heading place p a.q a.older t b a.is_open k)))
+
+-- ---- answers
+
+-- the event is the barrier that answers the TLBI
+pub record AnswersNow (n : Noted) (since : List Noted) (t : Issued Noted) (d : Noted) : Type 0 where
+  pub q : ℕ
+  pub dsb : Barrier
+  pub is : d ≡ n
+  pub barrier : n.event ≡ Dsb q dsb
+  pub is_open : Open event_of q since t
+  pub completed : completes dsb t.tlbi.event ≡ true
+
+pub answer_after : (n : Noted) (since : List Noted) (t : Issued Noted) (d : Noted) → Answer (n ∷ since) t d
+    → AnswersNow n since t d ⊎ Answer since t d
+answer_after n since t d k = by k.newer k.split
+  where
+    by : (newer : List Noted) → n ∷ since ≡ newer ++ d ∷ k.older → AnswersNow n since t d ⊎ Answer since t d
+    by [] s =
+        let first : n ≡ d = cc in
+        let rest : since ≡ k.older = cc in
+        inl (record {
+          q = k.q;
+          dsb = k.dsb;
+          is = sym first;
+          barrier = ap event_of first ∙ k.barrier;
+          is_open = subst (λ (xs : List Noted). Open event_of k.q xs t) (sym rest) k.is_open;
+          completed = k.completed;
+        })
+    by (y ∷ newer) s =
+        let rest : since ≡ newer ++ d ∷ k.older = cc in
+        inr (record {
+          q = k.q;
+          dsb = k.dsb;
+          newer = newer;
+          older = k.older;
+          split = rest;
+          barrier = k.barrier;
+          is_open = k.is_open;
+          completed = k.completed;
+        })
+
+pub no_answer : (t : Issued Noted) (d : Noted) → Answer [] t d → ⊥
+no_answer t d k = by k.newer k.split
+  where
+    by : (newer : List Noted) → [] ≡ newer ++ d ∷ k.older → ⊥
+    by [] s = cc
+    by (y ∷ newer) s = cc
+
+-- a TLBI that is half covered and answered before another is answered stays so
+pub answer_stays : (newer since : List Noted) (t : Issued Noted) (d : Noted) → Answer since t d → Answer (newer ++ since) t d
+answer_stays newer since t d k = record {
+  q = k.q;
+  dsb = k.dsb;
+  newer = newer ++ k.newer;
+  older = k.older;
+  split = later_split newer since k.newer k.older d k.split;
+  barrier = k.barrier;
+  is_open = k.is_open;
+  completed = k.completed;
+}
+
+pub half_before : (heading : Heading) (place p q : ℕ) (since : List Noted) (t2 : Issued Noted) (b : Noted) (t : Issued Noted) (d : Noted)
+    → Open event_of q since t2 → HalfBy heading place p t2.before b t d → HalfBy heading place p since b t d
+half_before heading place p q since t2 b t d o k = record {
+  flush = record {
+    answer = subst (λ (xs : List Noted). Answer xs t d) (sym o.split)
+        (answer_stays o.newer (t2.tlbi ∷ t2.before) t d (answer_stays (t2.tlbi ∷ []) t2.before t d k.flush.answer));
+    reached = k.flush.reached;
+    covered = k.flush.covered;
+  };
+  published = k.published;
+}

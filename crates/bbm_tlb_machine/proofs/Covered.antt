@@ -1,0 +1,268 @@
+-- A TLBI that covers a place of a part, and that was issued after the entry was made, takes the entry.
+use Rattle.std.proofs.Common.{◌≡◌, ℕ, suc, ◌+◌, ◌-◌, ◌<◌, ◌≤◌, ◌⊎◌, Bool, true, false, List, [], ◌∷◌, ◌++◌, length, Option, Some, None, is_some, Contains, refl, sym, ◌∙◌, ap, subst, inl, inr, arith, true≢false, length-append}
+use Rattle.std.proofs.lemmas.List.{append_assoc}
+use Rattle.bbm_regimes.specs.declared.regime.Kind.{Kind}
+use Rattle.bbm_regimes.specs.Extent.{Extent, holds}
+use Rattle.bbm_descriptor.specs.Descriptor.{desc_of}
+use Rattle.bbm_descriptor.specs.declared.desc.Desc.{Desc}
+use Rattle.bbm_tlbi_scope.specs.Agreement.{Agrees, EndsBy, HasTag, read_through, tag_of}
+use Rattle.bbm_tlbi_scope.specs.declared.entry.Cover.{Cover}
+use Rattle.bbm_tlbi_scope.specs.declared.entry.Cover.TheVariants.{None as NoCover}
+use Rattle.bbm_tlbi_scope.specs.declared.entry.PlaceView.{PlaceView}
+use Rattle.bbm_rules.specs.Broken.{keeps}
+use Rattle.bbm_rules.specs.Claims.{Trust}
+use Rattle.bbm_rules.specs.Cleansing.{seen}
+use Rattle.bbm_rules.specs.Covers.{is_global, noted, view_at}
+use Rattle.bbm_rules.specs.Held.{ValidWrite, held, last_valid}
+use Rattle.bbm_rules.specs.Lists.{◌>>=◌}
+use Rattle.bbm_rules.specs.Notes.{Noted, event_of, events_of}
+use Rattle.bbm_rules.specs.PatternSentences.{IsLastValid, Publication}
+use Rattle.bbm_rules.specs.Places.{page_of}
+use Rattle.bbm_rules.specs.Prelude.{Heading, Ttbr0, Ttbr1, Event, input_pages}
+use Rattle.bbm_rules.specs.Reach.{Issued}
+use Rattle.bbm_rules.specs.Sentences.{Open, completes_for}
+use Rattle.bbm_rules.specs.Tags.{itself, tag_set, tags_of}
+use Rattle.bbm_rules.specs.Tree.{Node, held_at, is_childless, next_in, next_of, node_of, region_of, region_start, tree}
+use Rattle.bbm_rules.specs.TreeSentences.{Childless}
+use Rattle.bbm_histories.specs.Tree.{HeldBy, View}
+use Rattle.bbm_tlb_machine.specs.Entry.{Entry, Part, desc_in, head_of, is_leaf, parts_of, region_in, tag_of_entry}
+use Rattle.bbm_tlb_machine.specs.Invariant.{Fine, Holding, IsAt, IsBelow, IsNear}
+use Rattle.bbm_tlb_machine.specs.Known.{Known}
+use Rattle.bbm_tlb_machine.proofs.Descs.{leaf_if_no_table, no_leaf_if_table, some_pages}
+use Rattle.bbm_tlb_machine.proofs.Elements.{At, event_at, events_append, events_length}
+use Rattle.bbm_tlb_machine.proofs.Facts.{has_tag, held_there, keeps_older, means, no_global, tag_then}
+use Rattle.bbm_tlb_machine.proofs.Regions.{chain_kind, inside_of, last_or_above, region_holds}
+use Rattle.bbm_tlb_machine.proofs.Scopes.{CoversBy, covers_by}
+
+-- a place of a page of the trees that holds a value, as a TLBI sees it that comes after these events
+abbrev pub view_of : Heading → Trust → List Noted → Node → ℕ → ℕ → PlaceView
+view_of heading trust older n place value = record {
+  kind = n.kind;
+  region = region_of n place;
+  level = n.level;
+  table = is_some (next_of n.kind n.level value);
+  global = is_global (desc_of n.kind n.level value);
+  childless = is_childless heading trust older n value;
+  tags = tag_set (tags_of heading trust n.root (events_of older));
+}
+
+-- A TLBI that covers a place of a part so far, among the events alone: its scope, what it saw there, and that the entry was
+-- made before it. What came before it among the events after the last valid write has earlier positions.
+pub record Covering (heading : Heading) (h : List Event) (x : Entry) (q : ℕ) (t : Issued Noted) (cover : Cover) : Type 0 where
+  pub older : List Noted
+  pub view : PlaceView
+  pub is_open : Open itself q h (record { tlbi = t.tlbi.event; before = events_of older })
+  pub by_scope : CoversBy heading older t.tlbi.event view cover
+  pub agrees : Agrees (head_of x) view
+  pub since : x.since ≤ length (events_of older)
+  pub earlier : (a c : List Noted) (d : Noted) → t.before ≡ a ++ d ∷ c → d.position ≤ length (events_of older)
+
+module _ (heading : Heading) (trust : Trust) (k : Known heading trust) (h : List Event) (kept : keeps heading trust h ≡ true)
+    (x : Entry) (f : Fine heading trust h x) where
+  abbrev notes : List Noted
+  notes = noted heading trust h
+
+  module _ (part : Part) (i : Contains (parts_of x) part) where
+    abbrev n : Node
+    n = (f.placed part i).node
+
+    abbrev at : IsAt (f.placed part i).node x.root part
+    at = (f.placed part i).is_at
+
+    abbrev value : ℕ
+    value = (f.holding part i).value
+
+    means_it : desc_of (f.placed part i).node.kind (f.placed part i).node.level (f.holding part i).value ≡ desc_in part
+    means_it = means heading trust k h kept x part n at (f.holding part i) (f.shape.valid part i)
+
+    kind_of_last : (f.placed part i).node.kind ≡ x.last.kind
+    kind_of_last = at.kind ∙ chain_kind x.last x.above f.shape.chained part i
+
+    same_region : region_in part ≡ region_of (f.placed part i).node part.place
+    same_region = by part.first part.level (region_start n part.place) n.level (sym at.region) (sym at.level)
+      where
+        by : (a l b m : ℕ) → a ≡ b → l ≡ m
+            → (let e : Extent = record { lo = a; hi = a + input_pages l - 1 } in e) ≡ (let e : Extent = record { lo = b; hi = b + input_pages m - 1 } in e)
+        by a l b m e g =
+            ap (λ (c : ℕ). let e : Extent = record { lo = c; hi = c + input_pages l - 1 } in e) e
+            ∙ ap (λ (c : ℕ). let e : Extent = record { lo = b; hi = b + input_pages c - 1 } in e) g
+
+    -- a place that holds no table is that of the last part
+    is_last : is_some (next_in (desc_in part)) ≡ false → x.last ≡ part
+    is_last e =
+        elim (last_or_above x.last x.above f.shape.chained part i) [
+          | inl s ↦ s
+          | inr r ↦ absurd (true≢false (ap is_some (sym r.2.inside) ∙ e))
+        ]
+
+    leaf_ends : is_some (next_in (desc_in part)) ≡ false → EndsBy false true (head_of x) (view_of heading trust [] n part.place value)
+    leaf_ends e =
+        let s = is_last e in (
+          ap (λ (p : Part). is_leaf (desc_in p)) s ∙ leaf_if_no_table part.kind part.level part.value (f.shape.valid part i) e,
+          ap region_in s ∙ same_region,
+          ap (λ (p : Part). p.level) s ∙ sym at.level,
+        )
+
+    -- a childless table is the last part: the place of one below it would hold something
+    table_ends : is_some (next_in (desc_in part)) ≡ true → is_childless heading trust notes n value ≡ true
+        → EndsBy true true (head_of x) (view_of heading trust [] n part.place value)
+    table_ends e none = by (last_or_above x.last x.above f.shape.chained part i)
+      where
+        c : Childless heading trust (noted heading trust h) (f.placed part i).node (f.holding part i).value
+        c = k.childless_sound notes n value none
+
+        by : (x.last ≡ part) ⊎ ((lower : Part) × Contains (parts_of x) lower × IsBelow lower part)
+            → EndsBy true true (head_of x) (view_of heading trust [] (f.placed part i).node part.place (f.holding part i).value)
+        by (inl s) = (
+          ap (λ (p : Part). is_leaf (desc_in p)) s ∙ no_leaf_if_table (desc_in part) e,
+          ap region_in s ∙ same_region,
+        )
+        by (inr r) =
+            let q : Holding heading trust h r.0 = f.holding r.0 r.1 in
+            let nexts : Some c.next ≡ Some (page_of r.0.place) = sym c.table ∙ (ap next_in means_it ∙ r.2.inside) in
+            let page : c.next ≡ page_of r.0.place = cc in
+            let holds : held heading trust n.kind (suc n.level) r.0.place notes ≡ Some q.value
+            = ap (λ (l : Kind). held heading trust l (suc n.level) r.0.place notes) (at.kind ∙ sym r.2.kind)
+            ∙ (ap (λ (l : ℕ). held heading trust r.0.kind l r.0.place notes) (ap suc at.level ∙ sym r.2.level) ∙ q.holds) in
+            let apart : None ≡ Some q.value = sym (c.holds_none r.0.place (sym page)) ∙ holds in
+            cc
+
+    ends : (older : List Noted)
+        → (is_childless heading trust older n value ≡ true → is_childless heading trust notes n value ≡ true)
+        → EndsBy (is_some (next_of n.kind n.level value)) (is_childless heading trust older n value) (head_of x)
+        (view_of heading trust older n part.place value)
+    ends older still = by (is_some (next_of n.kind n.level value)) (is_childless heading trust older n value) refl refl
+      where
+        table : is_some (next_in (desc_of (f.placed part i).node.kind (f.placed part i).node.level (f.holding part i).value)) ≡ is_some (next_in (desc_in part))
+        table = ap (λ (d : Desc). is_some (next_in d)) means_it
+
+        by : (t c : Bool) → is_some (next_of (f.placed part i).node.kind (f.placed part i).node.level (f.holding part i).value) ≡ t
+            → is_childless heading trust older (f.placed part i).node (f.holding part i).value ≡ c
+            → EndsBy t c (head_of x) (view_of heading trust older (f.placed part i).node part.place (f.holding part i).value)
+        by false c e g = leaf_ends (sym table ∙ e)
+        by true true e g = table_ends (sym table ∙ e) (still g)
+        by true false e g =
+            subst (λ (r : Extent). holds r (region_in x.last) ≡ true) same_region
+            (region_holds part x.last (inside_of x.last x.above f.shape.chained part i))
+
+    agrees : (older : List Noted) (newer : List Event) → h ≡ newer ++ events_of older → x.since ≤ length (events_of older)
+        → (is_childless heading trust older n value ≡ true → is_childless heading trust notes n value ≡ true)
+        → Agrees (head_of x) (view_of heading trust older n part.place value)
+    agrees older newer split since still = record {
+      kind = ap (read_through x.kind) kind_of_last ∙ f.shape.fits;
+      tag = subst (λ (c : Kind). HasTag (tag_set (tags_of heading trust n.root (events_of older))) (tag_of c (head_of x))) (sym kind_of_last)
+          (subst (λ (r : ℕ). HasTag (tag_set (tags_of heading trust r (events_of older))) (tag_of_entry x)) (sym at.root)
+          (has_tag heading trust k h kept x (events_of older)
+          (tag_then heading trust k h kept x f.tagged newer (events_of older) split since)));
+      ending = ends older still;
+      region = nonempty x.last.first (input_pages x.last.level) (some_pages x.last.level);
+      lower = λ (e : n.kind ≡ Ttbr0). no_global heading trust k h kept x f (sym kind_of_last ∙ e);
+      upper = λ (e : n.kind ≡ Ttbr1) (no_table : is_some (next_of n.kind n.level value) ≡ false) (g : is_global (desc_of n.kind n.level value) ≡ true).
+          ap (λ (p : Part). is_global (desc_in p)) (is_last (ap (λ (d : Desc). is_some (next_in d)) (sym means_it) ∙ no_table))
+          ∙ (ap is_global (sym means_it) ∙ g);
+    }
+      where
+        nonempty : (a m : ℕ) → 1 ≤ m → a ≤ a + m - 1
+        nonempty a m e = omega (arith, e)
+
+    -- ---- the moment of a TLBI
+
+    module _ (w : ValidWrite) (last : last_valid part.kind part.level part.place notes ≡ Some w) (p q : ℕ) (near : IsNear heading x p)
+        (t : Issued Noted) (o : Open event_of q w.since t) (b : Noted) (published : Publication heading part.place p t.before b)
+        (made : x.since < b.position) (cover : Cover) (some : cover ≡ NoCover → ⊥) (covered : t.tlbi.covers part.place ≡ cover) where
+      was_seen : seen heading part.place p t.before ≡ true
+      was_seen = k.seen_complete part.place p t.before (b, published)
+
+      holds_it : HeldBy heading trust (noted heading trust h) (f.placed part i).node part.place (f.holding part i).value w
+      holds_it = record {
+        in_tree = (f.placed part i).in_tree;
+        inside = at.inside;
+        holds = held_there heading trust k h kept x part n at value (f.holding part i).holds;
+        is_last = ap (λ (c : Kind). last_valid c n.level part.place notes) at.kind
+            ∙ (ap (λ (l : ℕ). last_valid part.kind l part.place notes) at.level ∙ last);
+      }
+
+      view : View heading trust (noted heading trust h) (f.placed part i).node part.place (f.holding part i).value o.newer t.before t.tlbi
+      view = k.frozen_view h kept n part.place value p w o.newer t.before t.tlbi holds_it o.split was_seen
+
+      is_split : h ≡ events_of o.newer ++ t.tlbi.event ∷ events_of view.older
+      is_split = sym (k.events_noted h) ∙ (ap events_of view.split ∙ events_append o.newer (t.tlbi ∷ view.older))
+
+      is_noted : view.older ≡ noted heading trust (events_of view.older)
+      is_noted = (k.each_noted h o.newer view.older t.tlbi view.split).0
+
+      kept_then : keeps heading trust (events_of view.older) ≡ true
+      kept_then =
+          keeps_older heading trust (events_of o.newer ++ t.tlbi.event ∷ []) (events_of view.older)
+          (subst (λ (es : List Event). keeps heading trust es ≡ true)
+          (is_split ∙ sym (append_assoc (events_of o.newer) (t.tlbi.event ∷ []) (events_of view.older))) kept)
+
+      node_then : node_of heading trust view.older (page_of part.place) ≡ Some (f.placed part i).node
+      node_then =
+          ap (node_of heading trust view.older) at.inside
+          ∙ subst (λ (xs : List Noted). node_of heading trust xs n.page ≡ Some n) (sym is_noted)
+          (k.first_node (events_of view.older) kept_then n
+          (subst (λ (xs : List Noted). Contains (tree heading trust xs) n) is_noted view.was.in_tree))
+
+      view_then : view_at heading trust view.older part.place ≡ Some (view_of heading trust view.older (f.placed part i).node part.place (f.holding part i).value)
+      view_then =
+          ap (λ (m : Option Node). m >>= (λ (n : Node). held_at heading trust view.older n part.place
+          >>= (λ (value : ℕ). Some (view_of heading trust view.older n part.place value)))) node_then
+          ∙ ap (λ (v : Option ℕ). v >>= (λ (value : ℕ). Some (view_of heading trust view.older (f.placed part i).node part.place value))) view.was.holds
+
+      covers : CoversBy heading view.older t.tlbi.event (view_of heading trust view.older (f.placed part i).node part.place (f.holding part i).value) cover
+      covers =
+          covers_by heading trust view.older t.tlbi.event part.place (view_of heading trust view.older n part.place value) cover
+          view_then some
+          (ap (λ (c : ℕ → Cover). c part.place) (sym (k.each_noted h o.newer view.older t.tlbi view.split).1) ∙ covered)
+
+      -- the events before the TLBI
+      write : IsLastValid (f.placed part i).node.kind (f.placed part i).node.level part.place view.older (record { value = (f.holding part i).value; since = t.before })
+      write = k.last_sound n.kind n.level part.place view.older (record { value = value; since = t.before }) view.was.is_last
+
+      earlier : (a c : List Noted) (d : Noted) → t.before ≡ a ++ d ∷ c → d.position ≤ length (events_of view.older)
+      earlier a c d split =
+          let rest : List Noted = c ++ write.write ∷ write.older in
+          let older : view.older ≡ a ++ d ∷ rest
+          = write.split ∙ (ap (λ (xs : List Noted). xs ++ write.write ∷ write.older) split ∙ append_assoc a (d ∷ c) (write.write ∷ write.older)) in
+          let whole : notes ≡ (o.newer ++ t.tlbi ∷ a) ++ d ∷ rest
+          = view.split ∙ (ap (λ (xs : List Noted). o.newer ++ t.tlbi ∷ xs) older ∙ sym (append_assoc o.newer (t.tlbi ∷ a) (d ∷ rest))) in
+          let position : d.position ≡ suc (length rest) = (k.each_noted h (o.newer ++ t.tlbi ∷ a) rest d whole).2 in
+          let long : length (a ++ d ∷ rest) ≡ length a + suc (length rest) = length-append a (d ∷ rest) in
+          let count : length (events_of view.older) ≡ length a + suc (length rest) = events_length view.older ∙ (ap length older ∙ long) in
+          omega (arith, position, count)
+
+      since_then : x.since ≤ length (events_of view.older)
+      since_then =
+          let le = earlier published.newer (published.between ++ published.write ∷ published.older) b published.split in omega (arith, le, made)
+
+      agrees_then : Agrees (head_of x) (view_of heading trust view.older (f.placed part i).node part.place (f.holding part i).value)
+      agrees_then =
+          agrees view.older (events_of o.newer ++ t.tlbi.event ∷ [])
+          (is_split ∙ sym (append_assoc (events_of o.newer) (t.tlbi.event ∷ []) (events_of view.older))) since_then
+          (k.limbo_is_empty h kept n part.place value p w o.newer t.before view.older t.tlbi holds_it o.split view.split was_seen)
+
+      -- the TLBI among the events alone
+      plain : Issued Event
+      plain = record { tlbi = t.tlbi.event; before = events_of view.older }
+
+      is_open : Open itself q h (record { tlbi = t.tlbi.event; before = events_of view.older })
+      is_open = record {
+        newer = events_of o.newer;
+        split = is_split;
+        issued = o.issued;
+        uncompleted = λ y after before s.
+            let a : At o.newer y = event_at o.newer after before y s in
+            subst (λ (z : Event). completes_for q t.tlbi.event z ≡ false) a.is (o.uncompleted a.item a.newer a.older a.split);
+      }
+
+      pub covering : Covering heading h x q t cover
+      covering = record {
+        older = view.older;
+        view = view_of heading trust view.older n part.place value;
+        is_open = is_open;
+        by_scope = covers;
+        agrees = agrees_then;
+        since = since_then;
+        earlier = earlier;
+      }

@@ -1,0 +1,93 @@
+-- Elements of lists, splits, and PEs of a header.
+use Rattle.std.proofs.Common.{◌≡◌, ℕ, zero, suc, ◌+◌, ◌<◌, ◌≤◌, ◌⊎◌, ◌||◌, Bool, true, false, ◌==◌, List, [], ◌∷◌, ◌++◌, length, Contains, slice_index_or, refl, sym, ◌∙◌, ap, inl, inr, arith, true≢false, not-suc-le-zero, le_of_suc-le-suc, suc-le-suc, zero-le, length-append}
+use Rattle.std.proofs.lemmas.Bool.{eq-eqb, eqb-true, or_left, or_right}
+use Rattle.bbm_rules.specs.Lists.{some_pe}
+use Rattle.bbm_rules.specs.Notes.{Noted, events_of}
+use Rattle.bbm_rules.specs.Prelude.{Event}
+
+pub contains_head : {X : Type 0} (xs : List X) (x : X) → Contains (x ∷ xs) x
+contains_head xs x = (0, suc-le-suc zero-le, refl)
+
+pub contains_more : {X : Type 0} (xs : List X) (y x : X) → Contains xs x → Contains (y ∷ xs) x
+contains_more xs y x c = (suc c.0, suc-le-suc c.1, c.2)
+
+pub contains_cases : {X : Type 0} (xs : List X) (y x : X) → Contains (y ∷ xs) x → (y ≡ x) ⊎ Contains xs x
+contains_cases {X} xs y x c = by c.0 c.1 c.2
+  where
+    by : (k : ℕ) → k < length (y ∷ xs) → slice_index_or (y ∷ xs) k x ≡ x → (y ≡ x) ⊎ Contains xs x
+    by zero below e = inl e
+    by (suc k) below e = inr (k, le_of_suc-le-suc below, e)
+
+pub contains_none : {X : Type 0} (x : X) → Contains [] x → ⊥
+contains_none x c = not-suc-le-zero c.1
+
+pub contains_after : {X : Type 0} (xs ys : List X) (x : X) → Contains ys x → Contains (xs ++ ys) x
+contains_after [] ys x c = c
+contains_after (y ∷ xs) ys x c = contains_more (xs ++ ys) y x (contains_after xs ys x c)
+
+-- of two splits of one list, that with the longer second part lies before the other
+pub record Between {X : Type 0} (newer older first rest : List X) : Type 0 where
+  pub between : List X
+  pub start : first ≡ newer ++ between
+  pub end : older ≡ between ++ rest
+
+pub between_splits : {X : Type 0} (newer older first rest : List X) → newer ++ older ≡ first ++ rest → length rest ≤ length older
+    → Between newer older first rest
+between_splits [] older first rest e le = record { between = first; start = refl; end = e }
+between_splits (n ∷ newer) older [] rest e le =
+    let long : length (newer ++ older) ≡ length newer + length older = length-append newer older in
+    let same : suc (length (newer ++ older)) ≡ length rest = ap length e in
+    absurd (omega (arith, long, same, le))
+between_splits {X} (n ∷ newer) older (y ∷ first) rest e le =
+    let head : n ≡ y = cc in
+    let tail : newer ++ older ≡ first ++ rest = cc in
+    let b : Between newer older first rest = between_splits newer older first rest tail le in
+    record {
+      between = b.between;
+      start = ap (λ (z : X). z ∷ first) (sym head) ∙ ap (λ (zs : List X). n ∷ zs) b.start;
+      end = b.end;
+    }
+
+-- ---- PEs
+
+pub pe_finds : (n : ℕ) (test : ℕ → Bool) (p : ℕ) → p < n → test p ≡ true → some_pe n test ≡ true
+pe_finds zero test p less e = absurd (omega arith)
+pe_finds (suc n) test p less e = by (p == n) refl (λ lower. pe_finds n test p lower e)
+  where
+    by : (c : Bool) → (p == n) ≡ c → (p < n → some_pe n test ≡ true) → (test n || some_pe n test) ≡ true
+    by true c rest = or_left (test n) (some_pe n test) (ap test (sym (eqb-true p n c)) ∙ e)
+    by false c rest =
+        let apart : p ≡ n → ⊥ = λ k. true≢false (sym (eq-eqb p n k) ∙ c) in or_right (test n) (some_pe n test) (rest (omega arith))
+
+-- ---- annotated histories
+
+pub events_append : (newer older : List Noted) → events_of (newer ++ older) ≡ events_of newer ++ events_of older
+events_append [] older = refl
+events_append (n ∷ newer) older = ap (λ (es : List Event). n.event ∷ es) (events_append newer older)
+
+pub events_length : (ns : List Noted) → length (events_of ns) ≡ length ns
+events_length [] = refl
+events_length (n ∷ ns) = ap suc (events_length ns)
+
+-- an event of an annotated history, with its notes
+pub record At (ns : List Noted) (e : Event) : Type 0 where
+  pub newer : List Noted
+  pub item : Noted
+  pub older : List Noted
+  pub split : ns ≡ newer ++ item ∷ older
+  pub is : item.event ≡ e
+
+pub event_at : (ns : List Noted) (after before : List Event) (e : Event) → events_of ns ≡ after ++ e ∷ before → At ns e
+event_at [] [] before e split = cc
+event_at [] (x ∷ after) before e split = cc
+event_at (n ∷ ns) [] before e split = record { newer = []; item = n; older = ns; split = refl; is = cc }
+event_at (n ∷ ns) (x ∷ after) before e split =
+    let rest : events_of ns ≡ after ++ e ∷ before = cc in
+    let a : At ns e = event_at ns after before e rest in
+    record {
+      newer = n ∷ a.newer;
+      item = a.item;
+      older = a.older;
+      split = ap (λ (xs : List Noted). n ∷ xs) a.split;
+      is = a.is;
+    }

@@ -1,0 +1,139 @@
+-- An entry that is fine stays so after an event that breaks no rule and leaves it.
+use Rattle.std.proofs.Common.{◌≡◌, ℕ, suc, ◌≤◌, true, false, cond, List, [], ◌∷◌, length, Option, Some, None, Contains, refl, sym, ◌∙◌, ap, subst, inl, inr, arith}
+use Rattle.bbm_regimes.specs.declared.regime.Kind.{Kind}
+use Rattle.bbm_descriptor.specs.Descriptor.{needs}
+use Rattle.bbm_tlbi_scope.specs.Agreement.{tag_of}
+use Rattle.bbm_tlbi_scope.specs.declared.entry.EntryHead.{EntryHead}
+use Rattle.bbm_rules.specs.Broken.{keeps}
+use Rattle.bbm_rules.specs.Claims.{Trust}
+use Rattle.bbm_rules.specs.Covers.{note, noted}
+use Rattle.bbm_rules.specs.Held.{ValidWrite, cleansed_everywhere, held, last_valid, last_valid_after, later}
+use Rattle.bbm_rules.specs.PatternSentences.{IsLastValid}
+use Rattle.bbm_rules.specs.Prelude.{Heading, El2, S2, Ttbr0, Ttbr1, Event, Dsb}
+use Rattle.bbm_rules.specs.Roots.{is_root}
+use Rattle.bbm_rules.specs.Tree.{Node, held_at}
+use Rattle.bbm_histories.specs.Tags.{kind_of_tag}
+use Rattle.bbm_histories.specs.Tree.{HeldChange}
+use Rattle.bbm_tlb_machine.specs.Entry.{Entry, Part, head_of, parts_of, tag_of_entry}
+use Rattle.bbm_tlb_machine.specs.Invariant.{Fine, Holding, IsAt}
+use Rattle.bbm_tlb_machine.specs.Known.{Known}
+use Rattle.bbm_tlb_machine.proofs.Descs.{no_need}
+use Rattle.bbm_tlb_machine.proofs.Facts.{held_there, held_valid, keeps_older, tag_now}
+use Rattle.bbm_tlb_machine.proofs.InTrees.{all_placed}
+use Rattle.bbm_tlb_machine.proofs.ListWords.{bind_some}
+use Rattle.bbm_tlb_machine.proofs.Patterns.{LeavesIt, joined_before_after, made_before_after, tagged_after, uncleansed_after}
+
+pub tag_kind : (kind : Kind) (e : EntryHead) → kind_of_tag (tag_of kind e) ≡ kind
+tag_kind El2 e = refl
+tag_kind S2 e = refl
+tag_kind Ttbr0 e = refl
+tag_kind Ttbr1 e = refl
+
+module _ (heading : Heading) (trust : Trust) (k : Known heading trust) (h : List Event) (e : Event)
+    (kept : keeps heading trust (e ∷ h) ≡ true) (x : Entry) (f : Fine heading trust h x) (none : LeavesIt heading h e x) where
+  kept_before : keeps heading trust h ≡ true
+  kept_before = keeps_older heading trust (e ∷ []) h kept
+
+  module _ (part : Part) (i : Contains (parts_of x) part) where
+    -- after a DSB the place still holds something, since it isn't cleansed at the entry's PE
+    still_held : (dsb : Event) → e ≡ dsb → (later_is : (found : Option ValidWrite)
+        → last_valid_after part.kind part.level part.place dsb (note heading trust (noted heading trust h) e) found
+        ≡ later (note heading trust (noted heading trust h) e) found)
+        → held heading trust part.kind part.level part.place (noted heading trust (e ∷ h)) ≡ None → ⊥
+    still_held dsb is later_is gone =
+        let b = bind_some (λ (w : ValidWrite). cond (cleansed_everywhere heading trust part.place w.since) None (Some w.value))
+        (last_valid part.kind part.level part.place (noted heading trust h)) (f.holding part i).value (f.holding part i).holds in
+        let w : ValidWrite = record { value = b.0.value; since = note heading trust (noted heading trust h) e ∷ b.0.since } in
+        let last : last_valid part.kind part.level part.place (noted heading trust (e ∷ h))
+        ≡ Some (record { value = b.0.value; since = note heading trust (noted heading trust h) e ∷ b.0.since })
+        = ap (λ (y : Event). last_valid_after part.kind part.level part.place y (note heading trust (noted heading trust h) e)
+        (last_valid part.kind part.level part.place (noted heading trust h))) is
+        ∙ (later_is (last_valid part.kind part.level part.place (noted heading trust h))
+        ∙ ap (λ (o : Option ValidWrite). later (note heading trust (noted heading trust h) e) o) b.1) in
+        let l : IsLastValid part.kind part.level part.place (noted heading trust (e ∷ h)) w
+        = k.last_sound part.kind part.level part.place (noted heading trust (e ∷ h)) w last in
+        let holds : held heading trust part.kind part.level part.place (noted heading trust (e ∷ h)) ≡ Some b.0.value
+        = k.held_complete part.kind part.level part.place (noted heading trust (e ∷ h)) b.0.value (record {
+          pe = l.pe;
+          write = l.write;
+          newer = w.since;
+          older = l.older;
+          split = l.split;
+          wrote = l.wrote;
+          valid = l.valid;
+          last = l.last;
+          no_init = l.no_init;
+          p = x.pe;
+          is_pe = f.shape.is_pe;
+          uncleansed = uncleansed_after heading trust k h e kept_before x f none part i w last x.pe (inl refl);
+        }) in
+        let apart : None ≡ Some b.0.value = sym gone ∙ holds in
+        cc
+
+    holding_after : Holding heading trust (e ∷ h) part
+    holding_after = by (k.held_changes h e kept (f.placed part i).node part.place (f.placed part i).in_tree (f.placed part i).is_at.inside)
+      where
+        n : Node
+        n = (f.placed part i).node
+
+        at : IsAt (f.placed part i).node x.root part
+        at = (f.placed part i).is_at
+
+        q : Holding heading trust h part
+        q = f.holding part i
+
+        was : held_at heading trust (noted heading trust h) (f.placed part i).node part.place ≡ Some (f.holding part i).value
+        was = held_there heading trust k h kept_before x part (f.placed part i).node at (f.holding part i).value (f.holding part i).holds
+
+        there : held heading trust part.kind part.level part.place (noted heading trust (e ∷ h))
+            ≡ held_at heading trust (noted heading trust (e ∷ h)) (f.placed part i).node part.place
+        there =
+            ap (λ (c : Kind). held heading trust c part.level part.place (noted heading trust (e ∷ h))) (sym at.kind)
+            ∙ ap (λ (l : ℕ). held heading trust (f.placed part i).node.kind l part.place (noted heading trust (e ∷ h))) (sym at.level)
+
+        by : HeldChange (f.placed part i).node.kind (f.placed part i).node.level part.place e
+            (held_at heading trust (noted heading trust h) (f.placed part i).node part.place)
+            (held_at heading trust (noted heading trust (e ∷ h)) (f.placed part i).node part.place)
+            → Holding heading trust (e ∷ h) part
+        by (inl same) =
+            record { value = (f.holding part i).value; holds = there ∙ (same ∙ was); same_core = (f.holding part i).same_core }
+        by (inr (inl w)) =
+            let no : needs (f.placed part i).node.kind (f.placed part i).node.level (f.holding part i).value w.1 ≡ false
+            = w.5 (f.holding part i).value was in
+            record {
+              value = w.1;
+              holds = there ∙ w.4;
+              same_core = no_need heading trust k part.kind part.level (f.holding part i).value w.1 part.value
+                  (held_valid heading trust k h kept_before x part (f.holding part i))
+                  (subst (λ (c : Kind). needs c part.level (f.holding part i).value w.1 ≡ false) at.kind
+                  (subst (λ (l : ℕ). needs (f.placed part i).node.kind l (f.holding part i).value w.1 ≡ false) at.level no))
+                  (f.holding part i).same_core;
+            }
+        by (inr (inr d)) = absurd (still_held (Dsb d.0 d.1) d.2 (λ found. refl) (there ∙ d.3))
+
+  pub fine_after : Fine heading trust (e ∷ h) x
+  fine_after =
+      let tagged = tagged_after heading trust k h e kept_before x f none in
+      let made : x.since ≤ suc (length h) = omega (arith, f.shape.made) in
+      let joined : x.joined ≤ suc (length h) = omega (arith, f.shape.joined) in
+      let declared : is_root (e ∷ h) x.last.kind x.root ≡ true
+      = subst (λ (c : Kind). is_root (e ∷ h) c x.root ≡ true) (tag_kind x.last.kind (head_of x))
+      (k.root_of_tag (e ∷ h) kept x.root (tag_of_entry x) (tag_now heading trust k (e ∷ h) kept x tagged made)) in
+      record {
+        shape = record {
+          is_pe = f.shape.is_pe;
+          made = made;
+          joined = joined;
+          fits = f.shape.fits;
+          begins = f.shape.begins;
+          chained = f.shape.chained;
+          valid = f.shape.valid;
+        };
+        placed = all_placed heading trust k (e ∷ h) kept x x.last.kind declared x.last x.above refl f.shape.begins f.shape.chained
+            holding_after f.shape.valid;
+        holding = holding_after;
+        uncleansed = uncleansed_after heading trust k h e kept_before x f none;
+        tagged = tagged;
+        made_before = made_before_after heading trust k h e kept_before x f none;
+        joined_before = joined_before_after heading trust k h e kept_before x f none;
+      }

@@ -1,0 +1,89 @@
+-- What a fine entry gives at once: the node, the value and the tag of its parts, in one place.
+use Rattle.std.proofs.Common.{◌≡◌, ℕ, ◌≤◌, ◌&&◌, Bool, true, false, List, [], ◌∷◌, ◌++◌, length, Some, is_none, refl, sym, ◌∙◌, ap, arith, true≢false}
+use Rattle.std.proofs.lemmas.Bool.{and_parts}
+use Rattle.bbm_regimes.specs.declared.regime.Kind.{Kind}
+use Rattle.bbm_descriptor.specs.Descriptor.{desc_of, is_valid}
+use Rattle.bbm_tlbi_scope.specs.Agreement.{HasTag}
+use Rattle.bbm_tlbi_scope.specs.declared.entry.TagSet.{TagSet}
+use Rattle.bbm_tlbi_scope.specs.declared.entry.TagSet.TheVariants.{None as NoTag, One, Many}
+use Rattle.bbm_tlbi_scope.specs.Takes.{is_global_leaf}
+use Rattle.bbm_rules.specs.Broken.{broken, keeps}
+use Rattle.bbm_rules.specs.Claims.{Trust}
+use Rattle.bbm_rules.specs.Covers.{is_global, noted}
+use Rattle.bbm_rules.specs.Held.{held}
+use Rattle.bbm_rules.specs.Notes.{Noted}
+use Rattle.bbm_rules.specs.Prelude.{Heading, Ttbr0, Event}
+use Rattle.bbm_rules.specs.Tags.{holds_at, holds_tag, tag_set, tags_of}
+use Rattle.bbm_rules.specs.Tree.{Node, held_at}
+use Rattle.bbm_tlb_machine.specs.Entry.{Entry, Part, desc_in, head_of, is_leaf, tag_of_entry}
+use Rattle.bbm_tlb_machine.specs.Invariant.{Fine, Holding, IsAt, Placed, Tagged}
+use Rattle.bbm_tlb_machine.specs.Known.{Known}
+use Rattle.bbm_tlb_machine.proofs.Descs.{same_desc}
+use Rattle.bbm_tlb_machine.proofs.Elements.{Between, between_splits, contains_head, pe_finds}
+
+and_not_right : (a b : Bool) → b ≡ false → (a && b) ≡ false
+and_not_right true b e = e
+and_not_right false b e = refl
+
+module _ (heading : Heading) (trust : Trust) where
+  pub keeps_older : (newer older : List Event) → keeps heading trust (newer ++ older) ≡ true → keeps heading trust older ≡ true
+  keeps_older [] older e = e
+  keeps_older (n ∷ newer) older e =
+      keeps_older newer older (and_parts (keeps heading trust (newer ++ older)) (is_none (broken heading trust (newer ++ older) n)) e).0
+
+module _ (heading : Heading) (trust : Trust) (k : Known heading trust) (h : List Event) (kept : keeps heading trust h ≡ true) (x : Entry) where
+  abbrev notes : List Noted
+  notes = noted heading trust h
+
+  -- what the place of a part holds, in the words of its node
+  pub held_there : (part : Part) (n : Node) → IsAt n x.root part → (value : ℕ)
+      → held heading trust part.kind part.level part.place notes ≡ Some value
+      → held_at heading trust notes n part.place ≡ Some value
+  held_there part n a value e =
+      ap (λ (c : Kind). held heading trust c n.level part.place notes) a.kind
+      ∙ (ap (λ (l : ℕ). held heading trust part.kind l part.place notes) a.level ∙ e)
+
+  pub held_valid : (part : Part) (q : Holding heading trust h part) → is_valid part.kind part.level q.value ≡ true
+  held_valid part q = (k.held_sound part.kind part.level part.place notes q.value q.holds).valid
+
+  -- what the place holds means what was read
+  pub means : (part : Part) (n : Node) → IsAt n x.root part → (q : Holding heading trust h part)
+      → is_valid part.kind part.level part.value ≡ true → desc_of n.kind n.level q.value ≡ desc_in part
+  means part n a q valid =
+      ap (λ (c : Kind). desc_of c n.level q.value) a.kind
+      ∙ (ap (λ (l : ℕ). desc_of part.kind l q.value) a.level
+      ∙ same_desc heading trust k part.kind part.level q.value part.value (held_valid part q) valid q.same_core)
+
+  -- the root holds the entry's tag at each moment since the entry was made
+  pub tag_then : Tagged heading trust h x → (newer older : List Event) → h ≡ newer ++ older → x.since ≤ length older
+      → holds_tag heading trust x.root (tag_of_entry x) older ≡ true
+  tag_then t newer older split le =
+      let since : length t.held.older ≤ length older = omega (arith, t.moment, le) in
+      let b : Between newer older t.held.newer t.held.older
+      = between_splits newer older t.held.newer t.held.older (sym split ∙ t.held.split) since in
+      pe_finds heading.pes (λ (p : ℕ). holds_at heading trust p x.root (tag_of_entry x) older) t.pe t.is_pe
+      (ap (holds_at heading trust t.pe x.root (tag_of_entry x)) b.end
+      ∙ k.held_between t.pe x.root (tag_of_entry x) h t.held newer b.between b.start)
+
+  pub tag_now : Tagged heading trust h x → x.since ≤ length h → holds_tag heading trust x.root (tag_of_entry x) h ≡ true
+  tag_now t le = tag_then t [] h refl le
+
+  pub has_tag : (older : List Event) → holds_tag heading trust x.root (tag_of_entry x) older ≡ true
+      → HasTag (tag_set (tags_of heading trust x.root older)) (tag_of_entry x)
+  has_tag older e = by (tag_set (tags_of heading trust x.root older)) refl
+    where
+      by : (s : TagSet) → tag_set (tags_of heading trust x.root older) ≡ s → HasTag s (tag_of_entry x)
+      by NoTag s = true≢false (sym e ∙ k.no_tags x.root older s (tag_of_entry x))
+      by (One g) s = k.tags_equal g (tag_of_entry x) (sym (k.one_tag x.root older g s (tag_of_entry x)) ∙ e)
+      by Many s = tt
+
+  -- no entry of the lower range ends in a leaf for every ASID
+  pub no_global : Fine heading trust h x → x.last.kind ≡ Ttbr0 → is_global_leaf (head_of x) ≡ false
+  no_global f lower =
+      let i = contains_head x.above x.last in
+      let p : Placed heading trust h x.root x.last = f.placed x.last i in
+      let q : Holding heading trust h x.last = f.holding x.last i in
+      and_not_right (is_leaf (desc_in x.last)) (is_global (desc_in x.last))
+      (ap is_global (sym (means x.last p.node p.is_at q (f.shape.valid x.last i)))
+      ∙ k.lower_leaves h kept p.node x.last.place q.value p.in_tree (p.is_at.kind ∙ lower) p.is_at.inside
+      (held_there x.last p.node p.is_at q.value q.holds))

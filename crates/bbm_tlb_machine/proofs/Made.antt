@@ -1,0 +1,352 @@
+-- What a step of the machine makes of fine entries is fine: an entry that is started, extended, joined or copied.
+use Rattle.std.proofs.Common.{◌≡◌, ℕ, suc, ◌+◌, ◌<◌, ◌≤◌, nat_lt, true, false, List, [], ◌∷◌, length, Option, Some, None, Contains, refl, sym, ◌∙◌, ap, subst, inl, inr, arith, true≢false, length-append}
+use Rattle.std.proofs.lemmas.Bool.{and_parts, eqb-true, ltb-true}
+use Rattle.bbm_regimes.specs.declared.regime.Kind.{Kind}
+use Rattle.bbm_descriptor.specs.Descriptor.{is_valid, needs}
+use Rattle.bbm_tlbi_scope.specs.Agreement.{read_through, tag_of}
+use Rattle.bbm_tlbi_scope.specs.declared.entry.EntryKind.{EntryKind}
+use Rattle.bbm_tlbi_scope.specs.declared.entry.EntryKind.TheVariants.{El2 as El2Entry, Stage2, Combined, El1}
+use Rattle.bbm_rules.specs.Broken.{keeps}
+use Rattle.bbm_rules.specs.Claims.{Trust}
+use Rattle.bbm_rules.specs.Cleansing.{seen}
+use Rattle.bbm_rules.specs.Covers.{noted}
+use Rattle.bbm_rules.specs.Held.{ValidWrite, held, last_valid}
+use Rattle.bbm_rules.specs.Lists.{is_that}
+use Rattle.bbm_rules.specs.Notes.{Noted}
+use Rattle.bbm_rules.specs.PatternSentences.{Cleansed, HalfBy, Publication}
+use Rattle.bbm_rules.specs.Places.{page_of}
+use Rattle.bbm_rules.specs.Prelude.{Heading, El2, S2, Ttbr0, Ttbr1, Tag, Vmid, Asid, Event, Dsb, kind_in_world}
+use Rattle.bbm_rules.specs.Reach.{Issued}
+use Rattle.bbm_rules.specs.Roots.{is_root}
+use Rattle.bbm_rules.specs.Sentences.{HoldsTag, TakenAway}
+use Rattle.bbm_rules.specs.Tags.{reads}
+use Rattle.bbm_rules.specs.Tree.{Node, next_of}
+use Rattle.bbm_rules.specs.Values.{is_readable}
+use Rattle.bbm_histories.specs.Values.{Window}
+use Rattle.bbm_tlb_machine.specs.Entry.{Entry, Part, head_of, parts_of, tag_of_entry}
+use Rattle.bbm_tlb_machine.specs.Invariant.{Fine, Holding, IsAt, IsBelow, IsLog, IsNear, Placed, Tagged, start_nodes}
+use Rattle.bbm_tlb_machine.specs.Known.{Known}
+use Rattle.bbm_tlb_machine.specs.Step.{Extends, Starts, combined, entry_kind, extended, first_part, is_stage2, may_share, next_part, root_of, shared, started}
+use Rattle.bbm_tlb_machine.proofs.AfterEvent.{publication_answered}
+use Rattle.bbm_tlb_machine.proofs.Elements.{contains_cases, contains_head, contains_none}
+use Rattle.bbm_tlb_machine.proofs.Events.{tag_kind}
+use Rattle.bbm_tlb_machine.proofs.Facts.{tag_now}
+use Rattle.bbm_tlb_machine.proofs.InTrees.{below_placed, start_placed}
+use Rattle.bbm_tlb_machine.proofs.Roots.{reads_at, start_node}
+
+-- the tag goes by the VMID and the ASID alone
+same_tag_of : (kind : Kind) (x y : Entry) → x.vmid ≡ y.vmid → x.asid ≡ y.asid → tag_of kind (head_of x) ≡ tag_of kind (head_of y)
+same_tag_of El2 x y v a = refl
+same_tag_of S2 x y v a = ap Vmid v
+same_tag_of Ttbr0 x y v a = ap Asid a
+same_tag_of Ttbr1 x y v a = refl
+
+kind_fits : (kind : Kind) → read_through (entry_kind kind) kind ≡ true
+kind_fits El2 = refl
+kind_fits S2 = refl
+kind_fits Ttbr0 = refl
+kind_fits Ttbr1 = refl
+
+stage2_is : (kind : EntryKind) → is_stage2 kind ≡ true → kind ≡ Stage2
+stage2_is Stage2 e = refl
+stage2_is El2Entry e = absurd (true≢false (sym e))
+stage2_is Combined e = absurd (true≢false (sym e))
+stage2_is El1 e = absurd (true≢false (sym e))
+
+combined_fits : (kind : Kind) → read_through Stage2 kind ≡ true → read_through Combined kind ≡ true
+combined_fits S2 e = refl
+combined_fits El2 e = absurd (true≢false (sym e))
+combined_fits Ttbr0 e = absurd (true≢false (sym e))
+combined_fits Ttbr1 e = absurd (true≢false (sym e))
+
+stage2_apart : Stage2 ≡ Combined → ⊥
+stage2_apart e = cc
+
+that_is : (o : Option ℕ) (n : ℕ) → is_that o n ≡ true → o ≡ Some n
+that_is (Some m) n e = ap Some (eqb-true m n e)
+that_is None n e = absurd (true≢false (sym e))
+
+module _ (heading : Heading) (trust : Trust) (k : Known heading trust) (h : List Event) (kept : keeps heading trust h ≡ true) where
+  abbrev notes : List Noted
+  notes = noted heading trust h
+
+  -- ---- a part just read
+
+  -- its place holds the core of what was read, and no PE near has seen a write since the last valid one
+  record IsNew (x : Entry) (part : Part) : Type 0 where
+    holding : Holding heading trust h part
+    unseen : (w : ValidWrite) → last_valid part.kind part.level part.place (noted heading trust h) ≡ Some w → (p : ℕ)
+        → IsNear heading x p → (b : Noted) → Publication heading part.place p w.since b → ⊥
+
+  just_read : (x : Entry) → x.pe < heading.pes → (part : Part) → Placed heading trust h x.root part
+      → is_readable heading h part.place x.pe part.value ≡ true → is_valid part.kind part.level part.value ≡ true → IsNew x part
+  just_read x is_pe part p readable valid = record {
+    holding = record {
+      value = win.kept;
+      holds = ap (λ (c : Kind). held heading trust c part.level part.place notes) (sym p.is_at.kind)
+          ∙ (ap (λ (l : ℕ). held heading trust p.node.kind l part.place notes) (sym p.is_at.level) ∙ win.holds);
+      same_core = subst (λ (c : Kind). needs c part.level win.kept part.value ≡ false) p.is_at.kind
+          (subst (λ (l : ℕ). needs p.node.kind l win.kept part.value ≡ false) p.is_at.level win.same_core);
+    };
+    unseen = λ w last q near b published.
+        let is_last : last_valid p.node.kind p.node.level part.place notes ≡ Some w
+        = ap (λ (c : Kind). last_valid c p.node.level part.place notes) p.is_at.kind
+        ∙ (ap (λ (l : ℕ). last_valid part.kind l part.place notes) p.is_at.level ∙ last) in
+        let both : Some win.last ≡ Some w = sym win.is_last ∙ is_last in
+        let same : win.last ≡ w = cc in
+        let here : Publication heading part.place x.pe w.since b = at_pe q near part.place w.since b published in
+        true≢false (sym (k.seen_complete part.place x.pe w.since (b, here))
+        ∙ (ap (λ (v : ValidWrite). seen heading part.place x.pe v.since) (sym same) ∙ win.unseen));
+  }
+    where
+      valid_there : is_valid p.node.kind p.node.level part.value ≡ true
+      valid_there =
+          subst (λ (c : Kind). is_valid c p.node.level part.value ≡ true) (sym p.is_at.kind)
+          (subst (λ (l : ℕ). is_valid part.kind l part.value ≡ true) (sym p.is_at.level) valid)
+
+      win : Window heading trust (noted heading trust h) p.node part.place x.pe part.value
+      win = k.window h kept p.node part.place x.pe part.value is_pe p.in_tree p.is_at.inside readable valid_there
+
+      at_pe : (q : ℕ) → IsNear heading x q → (place : ℕ) (since : List Noted) (b : Noted) → Publication heading place q since b
+          → Publication heading place x.pe since b
+      at_pe q (inl e) place since b published = subst (λ (r : ℕ). Publication heading place r since b) e published
+      at_pe q (inr c) place since b published = k.publication_alike place q x.pe since b c.0 is_pe published
+
+  new_uncleansed : (x : Entry) (part : Part) → IsNew x part → (w : ValidWrite)
+      → last_valid part.kind part.level part.place (noted heading trust h) ≡ Some w → (p : ℕ) → IsNear heading x p
+      → Cleansed heading trust part.place p w.since → ⊥
+  new_uncleansed x part new w last p near (inl one) =
+      new.unseen w last p near one.b (publication_answered heading part.place p w.since one.t one.d one.b one.flush.answer one.published)
+  new_uncleansed x part new w last p near (inr two) =
+      new.unseen w last p near two.b (publication_answered heading part.place p w.since two.t2 two.d2 two.b two.second.answer
+      (publication_answered heading part.place p two.t2.before two.t1 two.d1 two.b two.first.flush.answer two.first.published))
+
+  new_half : (x : Entry) (part : Part) → IsNew x part → (w : ValidWrite)
+      → last_valid part.kind part.level part.place (noted heading trust h) ≡ Some w → (p : ℕ) → IsNear heading x p
+      → (b : Noted) (t : Issued Noted) (d : Noted) → HalfBy heading part.place p w.since b t d → ⊥
+  new_half x part new w last p near b t d half =
+      new.unseen w last p near b (publication_answered heading part.place p w.since t d b half.flush.answer half.published)
+
+  -- what is held under a tag is held under an equal one
+  held_as : (x : Entry) (t : Tagged heading trust h x) (tag : Tag) → tag_of_entry x ≡ tag
+      → (r : HoldsTag heading trust t.pe x.root tag h) × (length r.older ≡ x.since)
+  held_as x t tag e = (
+    record {
+      newer = t.held.newer;
+      older = t.held.older;
+      split = t.held.split;
+      read = subst (λ (g : Tag). reads heading t.held.older t.pe g x.root ≡ true) e t.held.read;
+      not_taken = subst (λ (g : Tag). (u : Issued Event) → TakenAway heading trust t.pe g h u → length t.held.older ≤ length u.before → ⊥)
+          e t.held.not_taken;
+    },
+    t.moment,
+  )
+
+  -- ---- Start
+
+  module _ (log : IsLog heading h) (p : ℕ) (kind : Kind) (number place value : ℕ)
+      (s : Starts heading h (started heading (length h) p kind number place value) number) where
+    abbrev x : Entry
+    x = started heading (length h) p kind number place value
+
+    abbrev first : Part
+    first = first_part heading kind place value
+
+    where_read : (p < heading.pes) × (kind_in_world heading.world kind ≡ true)
+    where_read =
+        reads_at heading h log.events p (root_of heading.world kind place) kind
+        (head_of (started heading (length h) p kind number place value)) heading.world
+        (k.reads_sound h p (tag_of_entry x) (root_of heading.world kind place) s.tag)
+
+    start_tagged : Tagged heading trust h (started heading (length h) p kind number place value)
+    start_tagged = record {
+      pe = p;
+      near = inl refl;
+      is_pe = where_read.0;
+      held = record {
+        newer = [];
+        older = h;
+        split = refl;
+        read = s.tag;
+        not_taken = λ t a le. too_late t a le;
+      };
+      moment = refl;
+    }
+      where
+        too_late : (t : Issued Event) → TakenAway heading trust p (tag_of_entry (started heading (length h) p kind number place value)) h t
+            → length h ≤ length t.before → ⊥
+        too_late t a le =
+            let whole : length h ≡ length a.later + suc (length a.earlier) = ap length a.split ∙ length-append a.later (Dsb a.q a.dsb ∷ a.earlier) in
+            let part : length a.earlier ≡ length a.is_open.newer + suc (length t.before)
+            = ap length a.is_open.split ∙ length-append a.is_open.newer (t.tlbi ∷ t.before) in
+            omega (arith, whole, part, le)
+
+    start_is : (n : Node) × Contains (start_nodes heading kind (root_of heading.world kind place)) n
+        × IsAt n (root_of heading.world kind place) (first_part heading kind place value)
+    start_is = start_node heading kind place value where_read.1 (k.proper.some_page kind)
+
+    first_placed : Placed heading trust h (root_of heading.world kind place) (first_part heading kind place value)
+    first_placed =
+        start_placed heading trust k h kept x kind
+        (subst (λ (c : Kind). is_root h c (root_of heading.world kind place) ≡ true) (tag_kind kind (head_of x))
+        (k.root_of_tag h kept (root_of heading.world kind place) (tag_of_entry x)
+        (tag_now heading trust k h kept x start_tagged (omega arith))))
+        first refl start_is.0 start_is.1 start_is.2
+
+    first_new : IsNew (started heading (length h) p kind number place value) (first_part heading kind place value)
+    first_new = just_read x where_read.0 first first_placed s.readable s.valid
+
+    only : (P : Part → Type 0) → P (first_part heading kind place value) → (q : Part)
+        → Contains (parts_of (started heading (length h) p kind number place value)) q → P q
+    only P here q i =
+        elim (contains_cases [] first q i) [
+          | inl e ↦ subst P e here
+          | inr j ↦ absurd (contains_none q j)
+        ]
+
+    pub fine_start : Fine heading trust h (started heading (length h) p kind number place value)
+    fine_start = record {
+      shape = record {
+        is_pe = where_read.0;
+        made = omega arith;
+        joined = omega arith;
+        fits = kind_fits kind;
+        begins = start_is;
+        chained = tt;
+        valid = only (λ (q : Part). is_valid q.kind q.level q.value ≡ true) s.valid;
+      };
+      placed = only (λ (q : Part). Placed heading trust h (root_of heading.world kind place) q) first_placed;
+      holding = only (λ (q : Part). Holding heading trust h q) first_new.holding;
+      uncleansed = λ q i w last r near c. new_uncleansed x q (only (λ (q : Part). IsNew x q) first_new q i) w last r near c;
+      tagged = start_tagged;
+      made_before = λ q i w last r near b published. absurd ((only (λ (q : Part). IsNew x q) first_new q i).unseen w last r near b published);
+      joined_before = λ q i w last r near b t d half. absurd (new_half x q (only (λ (q : Part). IsNew x q) first_new q i) w last r near b t d half);
+    }
+
+  -- ---- Extend
+
+  module _ (x : Entry) (f : Fine heading trust h x) (place value : ℕ) (s : Extends heading h x place value) where
+    abbrev part : Part
+    part = next_part x.last place value
+
+    here : Contains (parts_of x) x.last
+    here = contains_head x.above x.last
+
+    is_below : IsBelow (next_part x.last place value) x.last
+    is_below = record {
+      kind = refl;
+      level = refl;
+      inside = that_is (next_of x.last.kind x.last.level x.last.value) (page_of place) s.below;
+      region = refl;
+    }
+
+    next_placed : Placed heading trust h x.root (next_part x.last place value)
+    next_placed = below_placed heading trust k h kept x part x.last is_below (f.placed x.last here) (f.holding x.last here) (f.shape.valid x.last here)
+
+    next_new : IsNew x (next_part x.last place value)
+    next_new = just_read x f.shape.is_pe part next_placed s.readable s.valid
+
+    more : (P : Part → Type 0) → P (next_part x.last place value) → ((q : Part) → Contains (parts_of x) q → P q) → (q : Part)
+        → Contains (parts_of (extended x place value)) q → P q
+    more P new old q i =
+        elim (contains_cases (parts_of x) part q i) [
+          | inl e ↦ subst P e new
+          | inr j ↦ old q j
+        ]
+
+    pub fine_extended : Fine heading trust h (extended x place value)
+    fine_extended = record {
+      shape = record {
+        is_pe = f.shape.is_pe;
+        made = f.shape.made;
+        joined = f.shape.joined;
+        fits = f.shape.fits;
+        begins = f.shape.begins;
+        chained = (is_below, f.shape.chained);
+        valid = more (λ (q : Part). is_valid q.kind q.level q.value ≡ true) s.valid f.shape.valid;
+      };
+      placed = more (λ (q : Part). Placed heading trust h x.root q) next_placed f.placed;
+      holding = more (λ (q : Part). Holding heading trust h q) next_new.holding f.holding;
+      uncleansed = more (λ (q : Part). (w : ValidWrite) → last_valid q.kind q.level q.place (noted heading trust h) ≡ Some w → (p : ℕ)
+          → IsNear heading x p → Cleansed heading trust q.place p w.since → ⊥)
+          (λ w last p near c. new_uncleansed x part next_new w last p near c) f.uncleansed;
+      tagged = record {
+        pe = f.tagged.pe;
+        near = f.tagged.near;
+        is_pe = f.tagged.is_pe;
+        held = (held_as x f.tagged (tag_of_entry (extended x place value)) (same_tag_of x.last.kind x (extended x place value) refl refl)).0;
+        moment = (held_as x f.tagged (tag_of_entry (extended x place value)) (same_tag_of x.last.kind x (extended x place value) refl refl)).1;
+      };
+      made_before = more (λ (q : Part). (w : ValidWrite) → last_valid q.kind q.level q.place (noted heading trust h) ≡ Some w → (p : ℕ)
+          → IsNear heading x p → (b : Noted) → Publication heading q.place p w.since b → x.since < b.position)
+          (λ w last p near b published. absurd (next_new.unseen w last p near b published)) f.made_before;
+      joined_before = more (λ (q : Part). (w : ValidWrite) → last_valid q.kind q.level q.place (noted heading trust h) ≡ Some w → (p : ℕ)
+          → IsNear heading x p → (b : Noted) (t : Issued Noted) (d : Noted) → HalfBy heading q.place p w.since b t d
+          → (x.kind ≡ Combined) × (x.joined < d.position))
+          (λ w last p near b t d half. absurd (new_half x part next_new w last p near b t d half)) f.joined_before;
+    }
+
+  -- ---- Combine, Share
+
+  module _ (x : Entry) (f : Fine heading trust h x) where
+    pub fine_combined : is_stage2 x.kind ≡ true → Fine heading trust h (combined (length h) x)
+    fine_combined stage2 =
+        let kind : x.kind ≡ Stage2 = stage2_is x.kind stage2 in
+        record {
+          shape = record {
+            is_pe = f.shape.is_pe;
+            made = f.shape.made;
+            joined = omega arith;
+            fits = combined_fits x.last.kind (ap (λ (y : EntryKind). read_through y x.last.kind) (sym kind) ∙ f.shape.fits);
+            begins = f.shape.begins;
+            chained = f.shape.chained;
+            valid = f.shape.valid;
+          };
+          placed = f.placed;
+          holding = f.holding;
+          uncleansed = f.uncleansed;
+          tagged = record {
+            pe = f.tagged.pe;
+            near = f.tagged.near;
+            is_pe = f.tagged.is_pe;
+            held = (held_as x f.tagged (tag_of_entry (combined (length h) x)) (same_tag_of x.last.kind x (combined (length h) x) refl refl)).0;
+            moment = (held_as x f.tagged (tag_of_entry (combined (length h) x)) (same_tag_of x.last.kind x (combined (length h) x) refl refl)).1;
+          };
+          made_before = f.made_before;
+          joined_before = λ q i w last p near b t d half.
+              absurd (stage2_apart (sym kind ∙ (f.joined_before q i w last p near b t d half).0));
+        }
+
+    -- an entry at another PE is near where this one is
+    pub fine_shared : (p : ℕ) → may_share heading p ≡ true → Fine heading trust h (shared x p)
+    fine_shared p may =
+        let both = and_parts heading.cnp (nat_lt p heading.pes) may in
+        let less : p < heading.pes = ltb-true p heading.pes both.1 in
+        let near : (q : ℕ) → IsNear heading (shared x p) q → IsNear heading x q = λ q n. back p both.0 less q n in
+        record {
+          shape = record {
+            is_pe = less;
+            made = f.shape.made;
+            joined = f.shape.joined;
+            fits = f.shape.fits;
+            begins = f.shape.begins;
+            chained = f.shape.chained;
+            valid = f.shape.valid;
+          };
+          placed = f.placed;
+          holding = f.holding;
+          uncleansed = λ q i w last r n. f.uncleansed q i w last r (near r n);
+          tagged = record {
+            pe = f.tagged.pe;
+            near = inr (both.0, f.tagged.is_pe);
+            is_pe = f.tagged.is_pe;
+            held = (held_as x f.tagged (tag_of_entry (shared x p)) (same_tag_of x.last.kind x (shared x p) refl refl)).0;
+            moment = (held_as x f.tagged (tag_of_entry (shared x p)) (same_tag_of x.last.kind x (shared x p) refl refl)).1;
+          };
+          made_before = λ q i w last r n. f.made_before q i w last r (near r n);
+          joined_before = λ q i w last r n. f.joined_before q i w last r (near r n);
+        }
+      where
+        back : (p : ℕ) → heading.cnp ≡ true → p < heading.pes → (q : ℕ) → IsNear heading (shared x p) q → IsNear heading x q
+        back p cnp less q (inl e) = inr (cnp, subst (λ (r : ℕ). r < heading.pes) (sym e) less)
+        back p cnp less q (inr c) = inr c

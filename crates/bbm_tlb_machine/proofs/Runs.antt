@@ -1,0 +1,235 @@
+-- In each run over a log that keeps the rules each entry that is kept is fine; so the log is safe.
+use Rattle.std.proofs.Common.{◌≡◌, ℕ, suc, ◌<◌, ◌≤◌, arith, not, ◌&&◌, ◌==◌, nat_lt, Bool, true, false, cond, List, [], ◌∷◌, length, Option, Some, None, option_map, find, filter, Contains, refl, sym, ◌∙◌, ap, subst, inl, inr, true≢false}
+use Rattle.std.proofs.lemmas.Bool.{and_from, and_parts, eq-eqb, ltb-true, or_left, or_right}
+use Rattle.bbm_regimes.specs.declared.regime.Kind.{Kind}
+use Rattle.bbm_descriptor.specs.Descriptor.{needs}
+use Rattle.bbm_events.specs.Fits.{fits_heading, is_value}
+use Rattle.bbm_events.specs.declared.machine.MachineLine.TheVariants.{Start, Extend, Combine, Share, Drop}
+use Rattle.bbm_rules.specs.declared.rule.Rule.TheVariants.{BreakBeforeMake}
+use Rattle.bbm_rules.specs.Broken.{keeps}
+use Rattle.bbm_rules.specs.Claims.{Trust, same_tag}
+use Rattle.bbm_rules.specs.Covers.{noted}
+use Rattle.bbm_rules.specs.Lists.{◌>>=◌, any, if_so}
+use Rattle.bbm_rules.specs.Places.{page_of}
+use Rattle.bbm_rules.specs.Prelude.{Barrier, Reg, Tag, Heading, Event, Init, Write, Dsb, Msr}
+use Rattle.bbm_rules.specs.Reach.{completes, unanswered}
+use Rattle.bbm_rules.specs.Tags.{Reading, holds_at, holds_tag, itself, reads, readings}
+use Rattle.bbm_rules.specs.Tree.{Node, held_at, in_tree, node_of}
+use Rattle.bbm_tlb_machine.specs.declared.step.Step.{Step}
+use Rattle.bbm_tlb_machine.specs.declared.step.Step.TheVariants.{Machine, Event as Taken}
+use Rattle.bbm_tlb_machine.specs.Entry.{Entry, Part, parts_of, tag_of_entry}
+use Rattle.bbm_tlb_machine.specs.Invariant.{Fine, Holding, IsLog, Placed}
+use Rattle.bbm_tlb_machine.specs.Known.{Known}
+use Rattle.bbm_tlb_machine.specs.Run.{IsRun, Leads, LeavesNone, Living, State, entry_at, with_entry}
+use Rattle.bbm_tlb_machine.specs.Safe.{ComesTo, Safe}
+use Rattle.bbm_tlb_machine.proofs.Descs.{no_need}
+use Rattle.bbm_tlb_machine.proofs.Elements.{contains_after, contains_cases, contains_head, contains_more, contains_none, pe_finds}
+use Rattle.bbm_tlb_machine.proofs.Events.{fine_after}
+use Rattle.bbm_tlb_machine.proofs.Facts.{held_there, held_valid, keeps_older, tag_now}
+use Rattle.bbm_tlb_machine.proofs.Made.{fine_combined, fine_extended, fine_shared, fine_start}
+use Rattle.bbm_tlb_machine.proofs.Patterns.{LeavesIt, tagged_after}
+
+-- ---- entries by number
+
+found_in : {X : Type 0} (test : X → Bool) (xs : List X) (x : X) → find test xs ≡ Some x → Contains xs x
+found_in {X} test [] x e = cc
+found_in {X} test (y ∷ xs) x e = by (test y) e (λ k. contains_more xs y x (found_in test xs x k))
+  where
+    by : (b : Bool) → cond b (Some y) (find test xs) ≡ Some x → (find test xs ≡ Some x → Contains (y ∷ xs) x) → Contains (y ∷ xs) x
+    by true k rest = let same : y ≡ x = cc in subst (λ (z : X). Contains (y ∷ xs) z) same (contains_head xs y)
+    by false k rest = rest k
+
+filtered_in : {X : Type 0} (test : X → Bool) (xs : List X) (x : X) → Contains (filter test xs) x → Contains xs x
+filtered_in {X} test [] x c = c
+filtered_in {X} test (y ∷ xs) x c = by (test y) c (λ k. contains_more xs y x (filtered_in test xs x k))
+  where
+    by : (b : Bool) → Contains (cond b (y ∷ filter test xs) (filter test xs)) x → (Contains (filter test xs) x → Contains (y ∷ xs) x)
+        → Contains (y ∷ xs) x
+    by true k rest =
+        elim (contains_cases (filter test xs) y x k) [
+          | inl e ↦ subst (λ (z : X). Contains (y ∷ xs) z) e (contains_head xs y)
+          | inr j ↦ rest j
+        ]
+    by false k rest = rest k
+
+-- the entry of a number is one of those that are kept
+kept_entry : (s : State) (number : ℕ) (x : Entry) → entry_at s number ≡ Some x → (l : Living) × Contains s.living l × (l.entry ≡ x)
+kept_entry s number x e = by (find (λ (l : Living). l.number == number) s.living) refl e
+  where
+    by : (o : Option Living) → find (λ (l : Living). l.number == number) s.living ≡ o → option_map (λ (l : Living). l.entry) o ≡ Some x
+        → (l : Living) × Contains s.living l × (l.entry ≡ x)
+    by None f k = cc
+    by (Some l) f k = let same : l.entry ≡ x = cc in (l, found_in (λ (l : Living). l.number == number) s.living l f, same)
+
+module _ (heading : Heading) (trust : Trust) (k : Known heading trust) where
+  abbrev AllFine : State → Type 0
+  AllFine s = (l : Living) → Contains s.living l → Fine heading trust s.log l.entry
+
+  with_fine : (s : State) (x : Entry) → AllFine s → Fine heading trust s.log x → AllFine (with_entry s x)
+  with_fine s x all f l i =
+      elim (contains_cases s.living (record { number = suc s.made; entry = x }) l i) [
+        | inl e ↦ subst (λ (m : Living). Fine heading trust s.log m.entry) e f
+        | inr j ↦ all l j
+      ]
+
+  fine_at : (s : State) (number : ℕ) (x : Entry) → AllFine s → entry_at s number ≡ Some x → Fine heading trust s.log x
+  fine_at s number x all e =
+      let l = kept_entry s number x e in subst (λ (y : Entry). Fine heading trust s.log y) l.2 (all l.0 l.1)
+
+  leaves_it : (s : State) (e : Event) → LeavesNone heading s e → (l : Living) → Contains s.living l → LeavesIt heading s.log e l.entry
+  leaves_it s (Dsb q dsb) none l i r d is t j completed =
+      let same : (q ≡ r) × (dsb ≡ d) = dsb_parts q r dsb d is in
+      none t (subst (λ (p : ℕ). Contains (unanswered itself p s.log) t) (sym same.0) j)
+      (ap (λ (b : Barrier). completes b t.tlbi) same.1 ∙ completed) l i
+    where
+      dsb_parts : (q r : ℕ) (dsb d : Barrier) → Dsb q dsb ≡ Dsb r d → (q ≡ r) × (dsb ≡ d)
+      dsb_parts q r dsb d e =
+          let first : q ≡ r = cc in
+          let second : dsb ≡ d = cc in
+          (first, second)
+  leaves_it s e none l i r d is t j completed = let apart : e ≡ Dsb r d = is in cc
+
+  step_fine : (s : State) (step : Step) (next : State) → IsLog heading next.log → keeps heading trust next.log ≡ true
+      → Leads heading s step next → (IsLog heading s.log → keeps heading trust s.log ≡ true → AllFine s) → AllFine next
+  step_fine s (Machine (Start p kind number place value)) next log kept leads before =
+      subst AllFine (sym leads.1)
+      (let log' : IsLog heading s.log = subst (λ (n : State). IsLog heading n.log) leads.1 log in
+      let kept' : keeps heading trust s.log ≡ true = subst (λ (n : State). keeps heading trust n.log ≡ true) leads.1 kept in
+      with_fine s _ (before log' kept') (fine_start heading trust k s.log kept' log' p kind number place value leads.0))
+  step_fine s (Machine (Extend number place value)) next log kept leads before =
+      subst AllFine (sym leads.3)
+      (let log' : IsLog heading s.log = subst (λ (n : State). IsLog heading n.log) leads.3 log in
+      let kept' : keeps heading trust s.log ≡ true = subst (λ (n : State). keeps heading trust n.log ≡ true) leads.3 kept in
+      with_fine s _ (before log' kept')
+      (fine_extended heading trust k s.log kept' leads.0 (fine_at s number leads.0 (before log' kept') leads.1) place value leads.2))
+  step_fine s (Machine (Combine number)) next log kept leads before =
+      subst AllFine (sym leads.3)
+      (let log' : IsLog heading s.log = subst (λ (n : State). IsLog heading n.log) leads.3 log in
+      let kept' : keeps heading trust s.log ≡ true = subst (λ (n : State). keeps heading trust n.log ≡ true) leads.3 kept in
+      with_fine s _ (before log' kept')
+      (fine_combined heading trust k s.log kept' leads.0 (fine_at s number leads.0 (before log' kept') leads.1) leads.2))
+  step_fine s (Machine (Share number p)) next log kept leads before =
+      subst AllFine (sym leads.3)
+      (let log' : IsLog heading s.log = subst (λ (n : State). IsLog heading n.log) leads.3 log in
+      let kept' : keeps heading trust s.log ≡ true = subst (λ (n : State). keeps heading trust n.log ≡ true) leads.3 kept in
+      with_fine s _ (before log' kept')
+      (fine_shared heading trust k s.log kept' leads.0 (fine_at s number leads.0 (before log' kept') leads.1) p leads.2))
+  step_fine s (Machine (Drop number)) next log kept leads before =
+      subst AllFine (sym leads.2)
+      (let log' : IsLog heading s.log = subst (λ (n : State). IsLog heading n.log) leads.2 log in
+      let kept' : keeps heading trust s.log ≡ true = subst (λ (n : State). keeps heading trust n.log ≡ true) leads.2 kept in
+      λ l i. before log' kept' l (filtered_in (λ (m : Living). not (m.number == number)) s.living l i))
+  step_fine s (Taken e) next log kept leads before =
+      subst AllFine (sym leads.1)
+      (let log' : IsLog heading (e ∷ s.log) = subst (λ (n : State). IsLog heading n.log) leads.1 log in
+      let kept' : keeps heading trust (e ∷ s.log) ≡ true = subst (λ (n : State). keeps heading trust n.log ≡ true) leads.1 kept in
+      let older : IsLog heading s.log
+      = record { header = log'.header; events = λ y i. log'.events y (contains_more s.log e y i) } in
+      λ l i. fine_after heading trust k s.log e kept' l.entry
+      (before older (keeps_older heading trust (e ∷ []) s.log kept') l i) (leaves_it s e leads.0 l i))
+
+  pub run_fine : (steps : List Step) (s : State) → IsLog heading s.log → keeps heading trust s.log ≡ true
+      → IsRun heading steps s → AllFine s
+  run_fine [] s log kept run =
+      λ (l : Living) i. absurd (contains_none l (subst (λ (n : State). Contains n.living l) run i))
+  run_fine (step ∷ steps) s log kept run =
+      step_fine run.0 step s log kept run.2 (λ log' kept'. run_fine steps run.0 log' kept' run.1)
+
+  -- ---- the clauses of a safe log
+
+  module _ (s : State) (x : Entry) (f : Fine heading trust s.log x) where
+    no_stale : (pe place value : ℕ) → keeps heading trust (Write pe place value ∷ s.log) ≡ true → (part : Part)
+        → Contains (parts_of x) part → part.place ≡ place → needs part.kind part.level part.value value ≡ false
+    no_stale pe place value kept part i e =
+        let older : keeps heading trust s.log ≡ true = keeps_older heading trust (Write pe place value ∷ []) s.log kept in
+        let p : Placed heading trust s.log x.root part = f.placed part i in
+        let q : Holding heading trust s.log part = f.holding part i in
+        let node : node_of heading trust (noted heading trust s.log) (page_of place) ≡ Some p.node
+        = ap (λ (a : ℕ). node_of heading trust (noted heading trust s.log) (page_of a)) (sym e)
+        ∙ (ap (node_of heading trust (noted heading trust s.log)) p.is_at.inside ∙ k.first_node s.log older p.node p.in_tree) in
+        let held : held_at heading trust (noted heading trust s.log) p.node place ≡ Some q.value
+        = ap (held_at heading trust (noted heading trust s.log) p.node) (sym e)
+        ∙ held_there heading trust k s.log older x part p.node p.is_at q.value q.holds in
+        let rule : (node_of heading trust (noted heading trust s.log) (page_of place)
+        >>= (λ (n : Node). held_at heading trust (noted heading trust s.log) n place
+        >>= (λ (old : ℕ). if_so (needs n.kind n.level old value) place))) ≡ None
+        = k.unbroken (Write pe place value ∷ s.log) [] s.log (Write pe place value) kept refl BreakBeforeMake in
+        let one : if_so (needs p.node.kind p.node.level q.value value) place ≡ None
+        = sym (ap (λ (o : Option Node). o >>= (λ (n : Node). held_at heading trust (noted heading trust s.log) n place
+        >>= (λ (old : ℕ). if_so (needs n.kind n.level old value) place))) node
+        ∙ ap (λ (o : Option ℕ). o >>= (λ (old : ℕ). if_so (needs p.node.kind p.node.level old value) place)) held) ∙ rule in
+        let there : needs p.node.kind p.node.level q.value value ≡ false = if_none (needs p.node.kind p.node.level q.value value) place one in
+        no_need heading trust k part.kind part.level q.value part.value value (held_valid heading trust k s.log older x part q) q.same_core
+        (subst (λ (c : Kind). needs c part.level q.value value ≡ false) p.is_at.kind
+        (subst (λ (l : ℕ). needs p.node.kind l q.value value ≡ false) p.is_at.level there))
+      where
+        if_none : (b : Bool) (n : ℕ) → if_so b n ≡ None → b ≡ false
+        if_none true n e = cc
+        if_none false n e = refl
+
+    no_page : (pe page : ℕ) → keeps heading trust (Init pe page ∷ s.log) ≡ true → (part : Part) → Contains (parts_of x) part
+        → page_of part.place ≡ page → ⊥
+    no_page pe page kept part i e =
+        let p : Placed heading trust s.log x.root part = f.placed part i in
+        true≢false (sym (k.tree_has (noted heading trust s.log) p.node p.in_tree)
+        ∙ (ap (in_tree heading trust (noted heading trust s.log)) (sym p.is_at.inside ∙ e) ∙ k.no_init s.log pe page kept))
+
+    no_other : (pe value : ℕ) (reg : Reg) → pe < heading.pes → keeps heading trust (Msr pe reg value ∷ s.log) ≡ true → (r : Reading)
+        → Contains (readings heading (Msr pe reg value ∷ s.log) pe) r → r.tag ≡ tag_of_entry x → r.root ≡ x.root
+    no_other pe value reg is_pe kept r i e =
+        let older : keeps heading trust s.log ≡ true = keeps_older heading trust (Msr pe reg value ∷ []) s.log kept in
+        let none : LeavesIt heading s.log (Msr pe reg value) x = λ q dsb is. absurd (apart q dsb is) in
+        let tagged = tagged_after heading trust k s.log (Msr pe reg value) older x f none in
+        let made : x.since ≤ length (Msr pe reg value ∷ s.log) = omega (arith, f.shape.made) in
+        let mine : holds_tag heading trust x.root (tag_of_entry x) (Msr pe reg value ∷ s.log) ≡ true
+        = tag_now heading trust k (Msr pe reg value ∷ s.log) kept x tagged made in
+        let read : reads heading (Msr pe reg value ∷ s.log) pe (tag_of_entry x) r.root ≡ true
+        = read_by (readings heading (Msr pe reg value ∷ s.log) pe) (tag_of_entry x) r i e in
+        let its : holds_tag heading trust r.root (tag_of_entry x) (Msr pe reg value ∷ s.log) ≡ true
+        = pe_finds heading.pes (λ (p : ℕ). holds_at heading trust p r.root (tag_of_entry x) (Msr pe reg value ∷ s.log)) pe is_pe
+        (or_left (reads heading (Msr pe reg value ∷ s.log) pe (tag_of_entry x) r.root) _ read) in
+        k.one_root (Msr pe reg value ∷ s.log) kept r.root x.root (tag_of_entry x) its mine
+      where
+        apart : (q : ℕ) (dsb : Barrier) → Msr pe reg value ≡ Dsb q dsb → ⊥
+        apart q dsb is = cc
+
+        read_by : (rs : List Reading) (tag : Tag) (r : Reading) → Contains rs r → r.tag ≡ tag
+            → any (λ (y : Reading). same_tag y.tag tag && y.root == r.root) rs ≡ true
+        read_by [] tag r i e = absurd (contains_none r i)
+        read_by (y ∷ rs) tag r i e =
+            let rest : Contains rs r → any (λ (y : Reading). same_tag y.tag tag && y.root == r.root) rs ≡ true
+            = λ j. read_by rs tag r j e in
+            elim (contains_cases rs y r i) [
+              | inl same ↦ or_left (same_tag y.tag tag && y.root == r.root) (any (λ (y : Reading). same_tag y.tag tag && y.root == r.root) rs)
+                  (and_from (same_tag y.tag tag) (y.root == r.root) (k.same_tags y.tag tag (ap (λ (z : Reading). z.tag) same ∙ e))
+                  (eq-eqb y.root r.root (ap (λ (z : Reading). z.root) same)))
+              | inr j ↦ or_right (same_tag y.tag tag && y.root == r.root) (any (λ (y : Reading). same_tag y.tag tag && y.root == r.root) rs) (rest j)
+            ]
+
+  -- the log up to an event of a run is a log that keeps the rules
+  module _ (log : List Event) (is_log : IsLog heading log) (kept : keeps heading trust log ≡ true) (s : State) (e : Event)
+      (c : ComesTo heading log s e) where
+    kept_to : keeps heading trust (e ∷ s.log) ≡ true
+    kept_to = keeps_older heading trust c.later (e ∷ s.log) (subst (λ (es : List Event). keeps heading trust es ≡ true) c.split kept)
+
+    log_to : (y : Event) → Contains (e ∷ s.log) y → fits_heading heading y ≡ true
+    log_to y i = is_log.events y (subst (λ (es : List Event). Contains es y) (sym c.split) (contains_after c.later (e ∷ s.log) y i))
+
+    fine_to : AllFine s
+    fine_to =
+        run_fine c.steps s (record { header = is_log.header; events = λ y i. log_to y (contains_more s.log e y i) })
+        (keeps_older heading trust (e ∷ []) s.log kept_to) c.run
+
+  pub safe_log : (log : List Event) → IsLog heading log → keeps heading trust log ≡ true → Safe heading log
+  safe_log log is_log kept = record {
+    at_write = λ s pe place value c l i part j e.
+        no_stale s l.entry (fine_to log is_log kept s (Write pe place value) c l i) pe place value
+        (kept_to log is_log kept s (Write pe place value) c) part j e;
+    at_init = λ s pe page c l i part j e.
+        no_page s l.entry (fine_to log is_log kept s (Init pe page) c l i) pe page (kept_to log is_log kept s (Init pe page) c) part j e;
+    at_msr = λ s pe value reg c l i r j e.
+        no_other s l.entry (fine_to log is_log kept s (Msr pe reg value) c l i) pe value reg
+        (ltb-true pe heading.pes (and_parts (nat_lt pe heading.pes) (is_value value)
+        (log_to log is_log kept s (Msr pe reg value) c (Msr pe reg value) (contains_head s.log (Msr pe reg value)))).0)
+        (kept_to log is_log kept s (Msr pe reg value) c) r j e;
+  }

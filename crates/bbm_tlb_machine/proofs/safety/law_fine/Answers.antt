@@ -1,0 +1,6 @@
+use Rattle.bbm_tlb_machine.proofs.Runs.{run_fine}
+use Rattle.bbm_tlb_machine.proofs.safety.law_fine.Goals as goal
+
+pub returns : goal.returns
+returns c heading trust steps s is_log kept =
+    run_fine heading trust (c.known.ensures heading trust is_log.header) steps s is_log kept

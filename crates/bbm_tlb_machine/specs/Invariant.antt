@@ -1,0 +1,130 @@
+-- What is true of each entry that some TLB keeps, in each run over a log that keeps the rules, point by point. Here `h`
+-- are the events taken so far, newest first. `law_fine` says that it is so, and `law_safe` stands on it.
+-- Source: project's own choice.
+use Rattle.std.specs.Prelude.{◌≡◌, ℕ, suc, ◌+◌, ◌*◌, ◌<◌, ◌≤◌, ◌⊎◌, true, false, List, [], ◌∷◌, length, Some, Contains}
+use Rattle.bbm_descriptor.specs.Descriptor.{is_valid, needs}
+use Rattle.bbm_events.specs.Fits.{fits_heading}
+use Rattle.bbm_events.specs.Heading.{heading_ok}
+use Rattle.bbm_tlbi_scope.specs.Agreement.{read_through}
+use Rattle.bbm_tlbi_scope.specs.declared.entry.EntryKind.TheVariants.{Combined}
+use Rattle.bbm_rules.specs.Claims.{Trust}
+use Rattle.bbm_rules.specs.Covers.{noted}
+use Rattle.bbm_rules.specs.Held.{ValidWrite, held, last_valid}
+use Rattle.bbm_rules.specs.Notes.{Noted}
+use Rattle.bbm_rules.specs.PatternSentences.{Cleansed, HalfBy, Publication}
+use Rattle.bbm_rules.specs.Places.{index_of, page_of}
+use Rattle.bbm_rules.specs.Prelude.{Heading, Kind, Event, first_input_page, input_pages, start_of}
+use Rattle.bbm_rules.specs.Reach.{Issued}
+use Rattle.bbm_rules.specs.Roots.{root_pages}
+use Rattle.bbm_rules.specs.Sentences.{HoldsTag}
+use Rattle.bbm_rules.specs.Tree.{Node, next_of, nodes_of_pages, region_start, tree}
+use Rattle.bbm_tlb_machine.specs.Entry.{Entry, Part, parts_of, tag_of_entry}
+
+-- A log of a header: the header is one that can be said, and each event fits it.
+pub record IsLog (heading : Heading) (log : List Event) : Type 0 where
+  pub header : heading_ok heading ≡ true
+  pub events : (e : Event) → Contains log e → fits_heading heading e ≡ true
+
+-- ---- the shape of an entry
+
+-- the part was read at a place of the node's page, in the tables of the root of this first page
+pub record IsAt (n : Node) (from : ℕ) (part : Part) : Type 0 where
+  pub inside : page_of part.place ≡ n.page
+  pub kind : n.kind ≡ part.kind
+  pub level : n.level ≡ part.level
+  pub root : n.root ≡ from
+  pub region : region_start n part.place ≡ part.first
+
+-- the part was read in the next page of the one above it, one level deeper
+pub record IsBelow (part above : Part) : Type 0 where
+  pub kind : part.kind ≡ above.kind
+  pub level : part.level ≡ suc above.level
+  pub inside : next_of above.kind above.level above.value ≡ Some (page_of part.place)
+  pub region : part.first ≡ above.first + index_of part.place * input_pages part.level
+
+abbrev pub Chained : Part → List Part → Type 0
+Chained part [] = Unit {0}
+Chained part (above ∷ parts) = IsBelow part above × Chained above parts
+
+module _ (heading : Heading) where
+  -- the nodes of the pages of a root
+  abbrev pub start_nodes : Kind → ℕ → List Node
+  start_nodes kind root =
+      nodes_of_pages kind (start_of heading.world kind) root (first_input_page heading.world kind)
+      (root_pages heading.world kind root)
+
+  -- the first part was read in a page of the root
+  abbrev pub Begins : ℕ → Part → List Part → Type 0
+  Begins root part [] = (n : Node) × Contains (start_nodes part.kind root) n × IsAt n root part
+  Begins root part (above ∷ parts) = Begins root above parts
+
+  -- Shape: the entry is of a PE of the header, made and joined by now; its kind fits the tables that it was read
+  -- through; its first part was read in a page of its root, and each other in the next page of the one above it; each
+  -- value is valid.
+  pub record Shape (now : ℕ) (x : Entry) : Type 0 where
+    pub is_pe : x.pe < heading.pes
+    pub made : x.since ≤ now
+    pub joined : x.joined ≤ now
+    pub fits : read_through x.kind x.last.kind ≡ true
+    pub begins : Begins x.root x.last x.above
+    pub chained : Chained x.last x.above
+    pub valid : (part : Part) → Contains (parts_of x) part → is_valid part.kind part.level part.value ≡ true
+
+  -- Near: a PE at which the entry was or may come to be. That is its own PE, and where TLBs may copy entries from one
+  -- another each PE of the header.
+  abbrev pub IsNear : Entry → ℕ → Type 0
+  IsNear x p = (p ≡ x.pe) ⊎ ((heading.cnp ≡ true) × (p < heading.pes))
+
+  module _ (trust : Trust) (h : List Event) where
+    -- In the trees: the part was read at a place of a page of the trees, in the tree of the root of this first page, at
+    -- the kind, level and region that the place has there.
+    pub record Placed (from : ℕ) (part : Part) : Type 0 where
+      pub node : Node
+      pub in_tree : Contains (tree heading trust (noted heading trust h)) node
+      pub is_at : IsAt node from part
+
+    -- Held: what the place of the part holds has the core of the value that was read.
+    pub record Holding (part : Part) : Type 0 where
+      pub value : ℕ
+      pub holds : held heading trust part.kind part.level part.place (noted heading trust h) ≡ Some value
+      pub same_core : needs part.kind part.level value part.value ≡ false
+
+  module _ (trust : Trust) (h : List Event) (x : Entry) where
+    -- this holds of each place of a part, at each PE near, and of what came after the last valid write of the place
+    abbrev pub AtParts : (ℕ → ℕ → List Noted → Type 0) → Type 0
+    AtParts Says = (part : Part) → Contains (parts_of x) part → (w : ValidWrite)
+        → last_valid part.kind part.level part.place (noted heading trust h) ≡ Some w → (p : ℕ) → IsNear x p
+        → Says part.place p w.since
+
+    -- Not cleansed: no place of a part is cleansed.
+    abbrev pub Uncleansed : Type 0
+    Uncleansed = AtParts (λ place p since. Cleansed heading trust place p since → ⊥)
+
+    -- Made before: the entry was made before any barrier that publishes a write of a part's place, after the last valid
+    -- one.
+    abbrev pub MadeBefore : Type 0
+    MadeBefore = AtParts (λ place p since. (b : Noted) → Publication heading place p since b → x.since < b.position)
+
+    -- Half: where the place of a part is half, the entry combines the stages, and was joined before the first step was
+    -- answered.
+    abbrev pub JoinedBefore : Type 0
+    JoinedBefore = AtParts (λ place p since. (b : Noted) (t : Issued Noted) (d : Noted)
+        → HalfBy heading place p since b t d → (x.kind ≡ Combined) × (x.joined < d.position))
+
+    -- Tag: at a PE near, the entry's tag was readable for its root when the entry was made, and no TLBI since takes it
+    -- away.
+    pub record Tagged : Type 0 where
+      pub pe : ℕ
+      pub near : IsNear x pe
+      pub is_pe : pe < heading.pes
+      pub held : HoldsTag heading trust pe x.root (tag_of_entry x) h
+      pub moment : length held.older ≡ x.since
+
+    pub record Fine : Type 0 where
+      pub shape : Shape (length h) x
+      pub placed : (part : Part) → Contains (parts_of x) part → Placed trust h x.root part
+      pub holding : (part : Part) → Contains (parts_of x) part → Holding trust h part
+      pub uncleansed : Uncleansed
+      pub tagged : Tagged
+      pub made_before : MadeBefore
+      pub joined_before : JoinedBefore

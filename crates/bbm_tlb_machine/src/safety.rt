@@ -1,0 +1,89 @@
+//! The law of safe logs: no TLB keeps what a write, an init or a new root needs gone.
+
+ghost use Rattle.std.specs.Prelude.{◌≡◌, true, List, Contains};
+ghost use Rattle.bbm_events.specs.Heading.{Heading, heading_ok};
+ghost use Rattle.bbm_events.specs.declared.event.Event.{Event};
+ghost use Rattle.bbm_rules.specs.Broken.{keeps};
+ghost use Rattle.bbm_rules.specs.Claims.{Trust};
+ghost use Rattle.bbm_tlb_machine.specs.declared.step.Step.{Step};
+ghost use Rattle.bbm_tlb_machine.specs.Invariant.{Fine, IsLog};
+ghost use Rattle.bbm_tlb_machine.specs.Known.{Known};
+ghost use Rattle.bbm_tlb_machine.specs.Run.{IsRun, Living, State};
+ghost use Rattle.bbm_tlb_machine.specs.Safe.{Safe};
+
+use bbm_descriptor::laws::{law_need, law_same_core_is_equal};
+use bbm_histories::{
+    law_frozen_view, law_held_changes, law_limbo_is_empty, law_lower_leaves, law_one_node,
+    law_one_position, law_proper, law_tags, law_uniform, law_window,
+};
+use bbm_rules::{
+    law_answered, law_childless, law_each_rule, law_equality_tests, law_held, law_last_valid,
+    law_notes, law_notes_keep_the_events, law_readable_tag, law_root, law_root_pages, law_seen,
+    law_tag_set, law_tree,
+};
+use bbm_tlbi_scope::{law_cover_takes, law_whole_tag_takes};
+
+/// The laws of the crates below that the law of safe logs stands on.
+fn known()
+    ensures { (heading : Heading) (trust : Trust) → heading_ok heading ≡ true → Known heading trust }
+{
+    law_answered();
+    law_childless();
+    law_cover_takes();
+    law_each_rule();
+    law_equality_tests();
+    law_frozen_view();
+    law_held();
+    law_held_changes();
+    law_last_valid();
+    law_limbo_is_empty();
+    law_lower_leaves();
+    law_need();
+    law_notes();
+    law_notes_keep_the_events();
+    law_one_node();
+    law_one_position();
+    law_proper();
+    law_readable_tag();
+    law_root();
+    law_root_pages();
+    law_same_core_is_equal();
+    law_seen();
+    law_tag_set();
+    law_tags();
+    law_tree();
+    law_uniform();
+    law_whole_tag_takes();
+    law_window();
+}
+
+/// In each run over a log that keeps the rules, each entry that some TLB keeps is fine, point by point, whatever the
+/// rules trust. A log has a header that can be said, and each event fits it. The law is the contract.
+pub fn law_fine()
+    ensures { (heading : Heading) (trust : Trust) (steps : List Step) (s : State) → IsLog heading s.log →
+        keeps heading trust s.log ≡ true → IsRun heading steps s → (l : Living) → Contains s.living l →
+        Fine heading trust s.log l.entry }
+{
+    known();
+}
+
+/// Every log that keeps the rules is safe: in each run over it no TLB keeps what a write, an init or a register write
+/// needs gone. So it is where the rules trust every pattern, and where they trust those of a list of claims alone. A log
+/// has a header that can be said, and each event fits it. The law is the contract.
+pub fn law_safe()
+    ensures { (heading : Heading) (trust : Trust) (log : List Event) → IsLog heading log →
+        keeps heading trust log ≡ true → Safe heading log }
+{
+    known();
+}
+
+#[cfg(test)]
+mod tests {
+    use crate::safety::{law_fine, law_safe};
+
+    #[test]
+    fn laws_hold() {
+        law_fine();
+        law_safe();
+    }
+}
