@@ -143,6 +143,12 @@ none_left (Refused line rule at label) read unread accepted f = cc
 none_left (Malformed line cause) read unread accepted f = cc
 none_left (Limit line which) read unread accepted f = cc
 
+accepted_is : (v : Verdict) → status_of v ≡ status.Accepted → (count : ℕ) × (v ≡ Accepted count)
+accepted_is (Accepted events) accepted = (events, refl)
+accepted_is (Refused line rule at label) accepted = cc
+accepted_is (Malformed line cause) accepted = cc
+accepted_is (Limit line which) accepted = cc
+
 module _ (command : Command) (result : Status) (old new : Option (List ℕ)) (f f' : ℕ) (h h' : Option (List ℕ)) (w w' : ℕ)
     (obeys : Obeys command result old new f f' h h' w w') where
   told_it : tells_verdict result ≡ true → Told command obeys.heading obeys.log result old new f f' h h' w w'
@@ -212,6 +218,12 @@ module _ (command : Command) (result : Status) (old new : Option (List ℕ)) (f 
         let tells = ap tells_verdict accepted in
         let r = obeyed-read tells in
         r.3 ∙ ap Some (none_left (verdict_of_bytes Patterns (limits_of command) bytes) (text_of r.0) r.1 (sym (obeyed-status tells) ∙ accepted) r.4)
+
+    pub obeyed-accepts : result ≡ status.Accepted
+        → (count : ℕ) × (verdict_of_bytes Patterns (limits_of command) bytes ≡ Accepted count)
+    obeyed-accepts accepted =
+        accepted_is (verdict_of_bytes Patterns (limits_of command) bytes)
+        (sym (obeyed-status (ap tells_verdict accepted)) ∙ accepted)
 
     pub obeyed-untold : result ≡ status.WriteFault → new ≡ Some (outcome_of Patterns (limits_of command) bytes).unread
     obeyed-untold cuts =

@@ -10,6 +10,7 @@ ghost use Rattle.bbm_events.specs.Heading.{Heading as HeadingOf};
 ghost use Rattle.bbm_rules.specs.declared.verdict.Verdict.{Verdict as VerdictOf};
 ghost use Rattle.bbm_rules.specs.Claims.{Patterns};
 ghost use Rattle.bbm_rules.specs.Outcome.{outcome_of, verdict_of_bytes};
+ghost use Rattle.bbm_tlb_machine.specs.Accepted.{SafeBytes};
 ghost use Rattle.bbm_session.specs.declared.command.Command.{Command as CommandOf};
 ghost use Rattle.bbm_session.specs.Run.{IsTextOf, IsSomeText, ReadTo, ReadToFault, ReadToWant, command_of, limits_of};
 ghost use Rattle.bbm_session.specs.Run.{status_of, tells_verdict, usage_text};
@@ -25,6 +26,7 @@ use bbm_events::Header;
 use bbm_io::{Failed, Lines, Sink, Source};
 use bbm_oracle::Oracle;
 use bbm_rules::{Checker, Fresh, Verdict};
+use bbm_tlb_machine::law_accepted_is_safe;
 use std::alloc::Global;
 
 /// The usage line, which names all commands, also those that aren't built yet.
@@ -167,6 +169,11 @@ pub fn run<S: Source, K: Sink>(
         → ReadTo bytes (verdict_of_bytes Patterns (limits_of command) bytes) (S.left log.new) }
     ensures accepted_reads_all { (bytes : List ℕ) → S.left log.old ≡ Some bytes → result ≡ Status.Accepted
         → S.left log.new ≡ Some [] }
+    // The headline: where a log is accepted, no TLB keeps what a write, an init or a register write needs gone, in any run
+    // of the machine of TLBs over the log of its events.
+    ensures no_stale_entry { (command : CommandOf) → command_of (map string_bytes words.now.items) ≡ Some command
+        → (bytes : List ℕ) → S.left log.old ≡ Some bytes → result ≡ Status.Accepted
+        → SafeBytes Patterns (limits_of command) bytes }
     ensures unread_untold { (command : CommandOf) → command_of (map string_bytes words.now.items) ≡ Some command
         → (bytes : List ℕ) → S.left log.old ≡ Some bytes → result ≡ Status.WriteFault
         → S.left log.new ≡ Some (outcome_of Patterns (limits_of command) bytes).unread }
@@ -205,7 +212,10 @@ pub fn run<S: Source, K: Sink>(
         → (tells_verdict result ≡ true) ⊎ (result ≡ Status.NoMemory) }
 {
     match said(words) {
-        Some(command) => obey::<Oracle, S, K>(alloc, &command, log, out),
+        Some(command) => {
+            law_accepted_is_safe();
+            obey::<Oracle, S, K>(alloc, &command, log, out)
+        }
         None => say_usage(out),
     }
 }

@@ -3,10 +3,11 @@ use Rattle.bbm_io.specs.Flow.{extended}
 use Rattle.bbm_rules.specs.Claims.{Patterns}
 use Rattle.bbm_rules.specs.declared.verdict.Verdict.{Verdict}
 use Rattle.bbm_rules.specs.Outcome.{verdict_of_bytes}
+use Rattle.bbm_tlb_machine.specs.Accepted.{SafeBytes}
 use Rattle.bbm_session.specs.declared.command.Command.{Command}
 use Rattle.bbm_session.specs.Run.{IsTextOf, IsSomeText, ReadTo, ReadToFault, ReadToWant, limits_of, status_of}
 use Rattle.bbm_session.specs.Writing.{Part}
-use Rattle.bbm_session.proofs.Obeying.{obeyed-text, obeyed-some, obeyed-part, obeyed-part_of_some, obeyed-read, obeyed-accepted, obeyed-fault, obeyed-want}
+use Rattle.bbm_session.proofs.Obeying.{obeyed-text, obeyed-some, obeyed-part, obeyed-part_of_some, obeyed-read, obeyed-accepted, obeyed-accepts, obeyed-fault, obeyed-want}
 use Rattle.bbm_session.proofs.top.run.Goals as goal
 
 pub returns-in-Some-clause-text : goal.returns-in-Some-clause-text
@@ -41,6 +42,13 @@ returns-in-Some-clause-read_to_the_line g c = λ command says bytes left tells.
 
 pub returns-in-Some-clause-accepted_reads_all : goal.returns-in-Some-clause-accepted_reads_all
 returns-in-Some-clause-accepted_reads_all g c = λ bytes left accepted. obeyed-accepted _ _ _ _ _ _ _ _ _ _ c.obey.ensures.obeys bytes left accepted
+
+pub returns-in-Some-clause-no_stale_entry : goal.returns-in-Some-clause-no_stale_entry
+returns-in-Some-clause-no_stale_entry g c = λ command says bytes left accepted.
+    let same : c.in-Some.command ≡ command = cc in
+    let accepts = obeyed-accepts _ _ _ _ _ _ _ _ _ _ c.obey.ensures.obeys bytes left accepted in
+    subst (λ (k : Command). SafeBytes Patterns (limits_of k) bytes) same
+    (c.law_accepted_is_safe.ensures Patterns _ bytes accepts.0 accepts.1)
 
 pub returns-in-Some-clause-read_to_fault : goal.returns-in-Some-clause-read_to_fault
 returns-in-Some-clause-read_to_fault g c = λ command says bytes left fault.
