@@ -1,65 +1,58 @@
--- Two valid values don't need break-before-make exactly where they have the same core.
-use Rattle.std.proofs.Common.{◌≡◌, ℕ, ◌&&◌, not, Bool, true, false, ◌==◌, Option, Some, None, refl, sym, ◌∙◌, ap, true≢false}
-use Rattle.std.proofs.lemmas.Bool.{and_from, and_parts, eq-eqb, eqb-true, not-false}
+-- A write over a value of the same core: it links the same next table.
+use Rattle.std.proofs.Common.{◌≡◌, ℕ, true, false, Option, Some, None, is_some, refl, sym, ◌∙◌, ap, true≢false}
+use Rattle.std.proofs.lemmas.Bool.{not-false}
 use Rattle.bbm_regimes.specs.declared.regime.Kind.{Kind}
-use Rattle.bbm_descriptor.specs.Descriptor.{Form, core_in, core_of, desc_as, differ, form_of, is_valid, needs, same_bool, same_core, valid_form}
+use Rattle.bbm_descriptor.specs.Descriptor.{Form, core_in, core_of, desc_as, desc_of, differ, form_of, is_valid, needs, same_core, valid_form}
 use Rattle.bbm_descriptor.specs.declared.desc.Core.{Core}
-use Rattle.bbm_descriptor.specs.declared.desc.Core.TheVariants.{Table, Leaf}
+use Rattle.bbm_descriptor.specs.declared.desc.Desc.{Desc}
+use Rattle.bbm_descriptor.specs.declared.desc.Desc.TheVariants.{Invalid, Table, Leaf}
+use Rattle.bbm_events.specs.Heading.{Heading}
+use Rattle.bbm_rules.specs.Claims.{Trust}
+use Rattle.bbm_rules.specs.Tree.{next_in, next_of}
+use Rattle.bbm_histories.specs.Below.{Below}
 
-same_bool_is : (a c : Bool) → same_bool a c ≡ true → a ≡ c
-same_bool_is true c e = sym e
-same_bool_is false true e = absurd (true≢false (sym e))
-same_bool_is false false e = refl
+-- a table is valid
+pub table_is_valid : (kind : Kind) (level value next : ℕ) → next_of kind level value ≡ Some next → is_valid kind level value ≡ true
+table_is_valid kind level value next e = by (form_of level value) e
+  where
+    by : (form : Form) → next_in (desc_as form kind level value) ≡ Some next → valid_form form ≡ true
+    by Form.invalid e = cc
+    by Form.table e = refl
+    by Form.leaf e = refl
 
-same_bool_self : (a : Bool) → same_bool a a ≡ true
-same_bool_self true = refl
-same_bool_self false = refl
+-- descriptors of one core have one next table
+next_by_core : (d d' : Desc) → core_in d ≡ core_in d' → next_in d ≡ next_in d'
+next_by_core Invalid Invalid e = refl
+next_by_core Invalid (Table next ns) e = cc
+next_by_core Invalid (Leaf out attrs share global contiguous) e = refl
+next_by_core (Table next ns) Invalid e = cc
+next_by_core (Table next ns) (Table next' ns') e = cc
+next_by_core (Table next ns) (Leaf out attrs share global contiguous) e = cc
+next_by_core (Leaf out attrs share global contiguous) Invalid e = refl
+next_by_core (Leaf out attrs share global contiguous) (Table next ns) e = cc
+next_by_core (Leaf out attrs share global contiguous) (Leaf out' attrs' share' global' contiguous') e = refl
 
-same_core_is : (c d : Core) → same_core c d ≡ true → c ≡ d
-same_core_is (Table next ns) (Table next' ns') e =
-    let k = and_parts (next == next') (same_bool ns ns') e in
-    ap (λ (x : ℕ). Table x ns) (eqb-true next next' k.0) ∙ ap (Table next') (same_bool_is ns ns' k.1)
-same_core_is (Table next ns) (Leaf out attrs share global contiguous) e = absurd (true≢false (sym e))
-same_core_is (Leaf out attrs share global contiguous) (Table next' ns') e = absurd (true≢false (sym e))
-same_core_is (Leaf out attrs share global contiguous) (Leaf out' attrs' share' global' contiguous') e =
-    let k = and_parts (out == out' && attrs == attrs' && share == share' && same_bool global global') (same_bool contiguous contiguous') e in
-    let l = and_parts (out == out' && attrs == attrs' && share == share') (same_bool global global') k.0 in
-    let m = and_parts (out == out' && attrs == attrs') (share == share') l.0 in
-    let n = and_parts (out == out') (attrs == attrs') m.0 in
-    ap (λ (x : ℕ). Leaf x attrs share global contiguous) (eqb-true out out' n.0)
-    ∙ (ap (λ (x : ℕ). Leaf out' x share global contiguous) (eqb-true attrs attrs' n.1)
-    ∙ (ap (λ (x : ℕ). Leaf out' attrs' x global contiguous) (eqb-true share share' m.1)
-    ∙ (ap (λ (x : Bool). Leaf out' attrs' share' x contiguous) (same_bool_is global global' l.1)
-    ∙ ap (Leaf out' attrs' share' global') (same_bool_is contiguous contiguous' k.1))))
+module _ (heading : Heading) (trust : Trust) (b : Below heading trust) (kind : Kind) (level : ℕ) where
+  -- valid values between which there is no need have the same core
+  pub core_same : (old new : ℕ) → is_valid kind level old ≡ true → is_valid kind level new ≡ true
+      → needs kind level old new ≡ false → core_of kind level old ≡ core_of kind level new
+  core_same old new vo vn e =
+      by (core_of kind level old) (core_of kind level new) (b.core_where_valid kind level old ∙ vo) (b.core_where_valid kind level new ∙ vn) e
+    where
+      by : (c d : Option Core) → is_some c ≡ true → is_some d ≡ true → differ c d ≡ false → c ≡ d
+      by None d s t k = absurd (true≢false (sym s))
+      by (Some x) None s t k = absurd (true≢false (sym t))
+      by (Some x) (Some y) s t k = ap Some ((b.same_core_is_equal x y).0 (not-false (same_core x y) k))
 
-same_core_self : (c : Core) → same_core c c ≡ true
-same_core_self (Table next ns) = and_from (next == next) (same_bool ns ns) (eq-eqb next next refl) (same_bool_self ns)
-same_core_self (Leaf out attrs share global contiguous) =
-    and_from (out == out && attrs == attrs && share == share && same_bool global global) (same_bool contiguous contiguous)
-    (and_from (out == out && attrs == attrs && share == share) (same_bool global global)
-    (and_from (out == out && attrs == attrs) (share == share)
-    (and_from (out == out) (attrs == attrs) (eq-eqb out out refl) (eq-eqb attrs attrs refl)) (eq-eqb share share refl))
-    (same_bool_self global)) (same_bool_self contiguous)
+  next_same : (old new : ℕ) → is_valid kind level old ≡ true → is_valid kind level new ≡ true → needs kind level old new ≡ false
+      → next_of kind level old ≡ next_of kind level new
+  next_same old new vo vn e =
+      next_by_core (desc_of kind level old) (desc_of kind level new) (core_same old new vo vn e)
 
-differ_self : (o : Option Core) → differ o o ≡ false
-differ_self None = refl
-differ_self (Some c) = ap not (same_core_self c)
+  pub table_back : (old new next : ℕ) → is_valid kind level old ≡ true → needs kind level old new ≡ false
+      → next_of kind level new ≡ Some next → next_of kind level old ≡ Some next
+  table_back old new next valid same e = next_same old new valid (table_is_valid kind level new next e) same ∙ e
 
-pub needs_not : (kind : Kind) (level a c : ℕ) → core_of kind level a ≡ core_of kind level c → needs kind level a c ≡ false
-needs_not kind level a c e = ap (λ (o : Option Core). differ o (core_of kind level c)) e ∙ differ_self (core_of kind level c)
-
--- the core of a valid value
-some_core : (form : Form) (kind : Kind) (level value : ℕ) → valid_form form ≡ true
-    → (c : Core) × (core_in (desc_as form kind level value) ≡ Some c)
-some_core Form.invalid kind level value v = absurd (true≢false (sym v))
-some_core Form.table kind level value v = (_, refl)
-some_core Form.leaf kind level value v = (_, refl)
-
-pub core_same : (kind : Kind) (level a c : ℕ) → is_valid kind level a ≡ true → is_valid kind level c ≡ true
-    → needs kind level a c ≡ false → core_of kind level a ≡ core_of kind level c
-core_same kind level a c va vc e =
-    let x = some_core (form_of level a) kind level a va in
-    let y = some_core (form_of level c) kind level c vc in
-    let k : not (same_core x.0 y.0) ≡ false = sym (ap (λ (o : Option Core). differ o (Some y.0)) x.1)
-    ∙ (sym (ap (λ (o : Option Core). differ (core_of kind level a) o) y.1) ∙ e) in
-    x.1 ∙ (ap Some (same_core_is x.0 y.0 (not-false (same_core x.0 y.0) k)) ∙ sym y.1)
+  pub table_on : (old new next : ℕ) → is_valid kind level new ≡ true → needs kind level old new ≡ false
+      → next_of kind level old ≡ Some next → next_of kind level new ≡ Some next
+  table_on old new next valid same e = sym (next_same old new (table_is_valid kind level old next e) valid same) ∙ e

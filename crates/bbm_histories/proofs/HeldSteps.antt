@@ -1,11 +1,9 @@
 -- What one more event does to what a place holds.
-use Rattle.std.proofs.Common.{◌≡◌, ℕ, ◌<◌, ◌⊎◌, ◌&&◌, ◌||◌, Bool, true, false, cond, ◌==◌, List, [], ◌∷◌, ◌++◌, Option, Some, None, option_and_then, refl, sym, ◌∙◌, ap, subst, inl, inr, true≢false}
-use Rattle.std.proofs.lemmas.Bool.{and_parts, eq-eqb, eqb-true, not-false, or_parts}
+use Rattle.std.proofs.Common.{◌≡◌, ℕ, ◌<◌, ◌⊎◌, ◌||◌, Bool, true, false, cond, ◌==◌, List, [], ◌∷◌, ◌++◌, Option, Some, None, option_and_then, refl, sym, ◌∙◌, ap, subst, inl, inr, true≢false}
+use Rattle.std.proofs.lemmas.Bool.{eq-eqb, eqb-true, or_parts}
 use Rattle.bbm_barriers.specs.declared.Dsb.{Dsb as Barrier}
 use Rattle.bbm_regimes.specs.declared.regime.Kind.{Kind}
-use Rattle.bbm_descriptor.specs.Descriptor.{Form, core_in, desc_as, desc_of, differ, form_of, is_valid, needs, same_bool, valid_form}
-use Rattle.bbm_descriptor.specs.declared.desc.Desc.{Desc}
-use Rattle.bbm_descriptor.specs.declared.desc.Desc.TheVariants.{Invalid, Table, Leaf}
+use Rattle.bbm_descriptor.specs.Descriptor.{is_valid, needs}
 use Rattle.bbm_events.specs.Heading.{Heading}
 use Rattle.bbm_events.specs.declared.event.Event.{Event}
 use Rattle.bbm_events.specs.declared.event.Event.TheVariants.{Init, Write, Dsb}
@@ -16,101 +14,32 @@ use Rattle.bbm_rules.specs.Held.{held}
 use Rattle.bbm_rules.specs.Lists.{if_so}
 use Rattle.bbm_rules.specs.Notes.{Noted, events_of}
 use Rattle.bbm_rules.specs.Pages.{is_null}
-use Rattle.bbm_rules.specs.PatternSentences.{Answer, Cleansed, Holds}
+use Rattle.bbm_rules.specs.PatternSentences.{Cleansed, Holds}
 use Rattle.bbm_rules.specs.Places.{page_of}
-use Rattle.bbm_rules.specs.Reach.{Issued}
-use Rattle.bbm_rules.specs.Tree.{Node, held_at, in_tree, next_in, next_of, node_of}
+use Rattle.bbm_rules.specs.Tree.{Node, held_at, in_tree, node_of}
 use Rattle.bbm_rules.specs.Values.{value_of}
 use Rattle.bbm_histories.specs.Below.{Below}
 use Rattle.bbm_histories.specs.Tree.{HeldChange}
 use Rattle.bbm_histories.proofs.Induction.{Unbroken, if_none}
-use Rattle.bbm_histories.proofs.PatternLemmas.{cleansed_stays}
-
--- ---- a write over a value of the same core
-
-next_back : (d d' : Desc) (next : ℕ) → (d ≡ Invalid → ⊥) → differ (core_in d) (core_in d') ≡ false
-    → next_in d' ≡ Some next → next_in d ≡ Some next
-next_back Invalid d' next valid same e = absurd (valid refl)
-next_back (Table q ns) Invalid next valid same e = cc
-next_back (Table q ns) (Leaf out attrs share global contiguous) next valid same e = cc
-next_back (Table q ns) (Table q' ns') next valid same e =
-    let k = and_parts (q == q') (same_bool ns ns') (not-false (q == q' && same_bool ns ns') same) in
-    ap Some (eqb-true q q' k.0) ∙ e
-next_back (Leaf out attrs share global contiguous) Invalid next valid same e = cc
-next_back (Leaf out attrs share global contiguous) (Leaf out' attrs' share' global' contiguous') next valid same e = cc
-next_back (Leaf out attrs share global contiguous) (Table q' ns') next valid same e = absurd (true≢false same)
-
-next_on : (d d' : Desc) (next : ℕ) → (d' ≡ Invalid → ⊥) → differ (core_in d) (core_in d') ≡ false
-    → next_in d ≡ Some next → next_in d' ≡ Some next
-next_on d Invalid next valid same e = absurd (valid refl)
-next_on Invalid (Table q' ns') next valid same e = cc
-next_on Invalid (Leaf out' attrs' share' global' contiguous') next valid same e = cc
-next_on (Table q ns) (Table q' ns') next valid same e =
-    let k = and_parts (q == q') (same_bool ns ns') (not-false (q == q' && same_bool ns ns') same) in
-    ap Some (sym (eqb-true q q' k.0)) ∙ e
-next_on (Table q ns) (Leaf out' attrs' share' global' contiguous') next valid same e = absurd (true≢false same)
-next_on (Leaf out attrs share global contiguous) (Table q' ns') next valid same e = cc
-next_on (Leaf out attrs share global contiguous) (Leaf out' attrs' share' global' contiguous') next valid same e = cc
-
-not_invalid : (form : Form) (kind : Kind) (level value : ℕ) → valid_form form ≡ true → desc_as form kind level value ≡ Invalid → ⊥
-not_invalid Form.invalid kind level value v e = true≢false (sym v)
-not_invalid Form.table kind level value v e = cc
-not_invalid Form.leaf kind level value v e = cc
-
-pub table_back : (kind : Kind) (level old new next : ℕ) → is_valid kind level old ≡ true → needs kind level old new ≡ false
-    → next_of kind level new ≡ Some next → next_of kind level old ≡ Some next
-table_back kind level old new next valid same e =
-    next_back (desc_of kind level old) (desc_of kind level new) next (not_invalid (form_of level old) kind level old valid) same e
-
-pub table_on : (kind : Kind) (level old new next : ℕ) → is_valid kind level new ≡ true → needs kind level old new ≡ false
-    → next_of kind level old ≡ Some next → next_of kind level new ≡ Some next
-table_on kind level old new next valid same e =
-    next_on (desc_of kind level old) (desc_of kind level new) next (not_invalid (form_of level new) kind level new valid) same e
+use Rattle.bbm_histories.proofs.PatternLemmas.{cleansed_stays, one_begins, two_begin}
 
 -- ---- a DSB alone cleanses
 
 abbrev pub IsDsb : Event → Type 0
 IsDsb e = (q : ℕ) × (dsb : Barrier) × (e ≡ Dsb q dsb)
 
-answer_before : (n : Noted) (since : List Noted) (t : Issued Noted) (d : Noted) → (IsDsb n.event → ⊥) → Answer (n ∷ since) t d
-    → Answer since t d
-answer_before n since t d other a = by a.newer a.split
-  where
-    by : (newer : List Noted) → n ∷ since ≡ newer ++ d ∷ a.older → Answer since t d
-    by [] split =
-        let first : n ≡ d = cc in
-        absurd (other (a.q, a.dsb, ap (λ (x : Noted). x.event) first ∙ a.barrier))
-    by (m ∷ newer) split = record {
-      q = a.q;
-      dsb = a.dsb;
-      newer = newer;
-      older = a.older;
-      split = cc;
-      barrier = a.barrier;
-      is_open = a.is_open;
-      completed = a.completed;
-    }
-
 cleansed_before : (heading : Heading) (trust : Trust) (place p : ℕ) (n : Noted) (since : List Noted) → (IsDsb n.event → ⊥)
     → Cleansed heading trust place p (n ∷ since) → Cleansed heading trust place p since
-cleansed_before heading trust place p n since other (inl k) = inl (record {
-  b = k.b;
-  t = k.t;
-  d = k.d;
-  published = k.published;
-  flush = record { answer = answer_before n since k.t k.d other k.flush.answer; reached = k.flush.reached; covered = k.flush.covered };
-  allowed = k.allowed;
-})
-cleansed_before heading trust place p n since other (inr k) = inr (record {
-  b = k.b;
-  t1 = k.t1;
-  d1 = k.d1;
-  t2 = k.t2;
-  d2 = k.d2;
-  first = k.first;
-  second = record { answer = answer_before n since k.t2 k.d2 other k.second.answer; reached = k.second.reached; covered = k.second.covered };
-  allowed = k.allowed;
-})
+cleansed_before heading trust place p n since other (inl k) =
+    elim (one_begins heading trust place p n since k) [
+      | inl old ↦ inl old
+      | inr same ↦ absurd (other (k.flush.answer.q, k.flush.answer.dsb, ap (λ (x : Noted). x.event) (sym same) ∙ k.flush.answer.barrier))
+    ]
+cleansed_before heading trust place p n since other (inr k) =
+    elim (two_begin heading trust place p n since k) [
+      | inl old ↦ inr old
+      | inr same ↦ absurd (other (k.second.answer.q, k.second.answer.dsb, ap (λ (x : Noted). x.event) (sym same) ∙ k.second.answer.barrier))
+    ]
 
 module _ (heading : Heading) (trust : Trust) (b : Below heading trust) (kind : Kind) (level place : ℕ) where
   -- ---- what is held after an event was held before, unless the event wrote it

@@ -11,7 +11,7 @@ use Rattle.bbm_rules.specs.Claims.{Trust}
 use Rattle.bbm_rules.specs.Cleansing.{seen}
 use Rattle.bbm_rules.specs.Held.{ValidWrite, last_valid}
 use Rattle.bbm_rules.specs.Notes.{Noted}
-use Rattle.bbm_rules.specs.PatternSentences.{Answer, Cleansed, Flush, HalfBy, IsLastValid, Publication}
+use Rattle.bbm_rules.specs.PatternSentences.{Answer, Cleansed, Flush, HalfBy, IsLastValid, OneStep, Publication, TwoSteps}
 use Rattle.bbm_rules.specs.Reach.{Issued}
 use Rattle.bbm_histories.specs.Below.{Below}
 use Rattle.bbm_histories.specs.Patterns.{Quiet}
@@ -96,6 +96,95 @@ cleansed_stays heading trust place p newer since (inr k) = inr (record {
   second = flush_stays heading Second place p newer since k.t2 k.d2 k.second;
   allowed = k.allowed;
 })
+
+-- ---- a pattern that wasn't there before an event ends with it
+
+-- what a publication, or a pattern, is at the event itself
+begins : {A : Type 0} (n : A) (since newer older : List A) (d : A) → n ∷ since ≡ newer ++ d ∷ older
+    → ((rest : List A) × (newer ≡ n ∷ rest) × (since ≡ rest ++ d ∷ older)) ⊎ (d ≡ n)
+begins n since [] older d split = let first : n ≡ d = cc in inr (sym first)
+begins {A} n since (m ∷ newer) older d split =
+    let first : n ≡ m = cc in
+    let rest : since ≡ newer ++ d ∷ older = cc in
+    inl (newer, ap (λ (x : A). x ∷ newer) (sym first), rest)
+
+pub publication_begins : (heading : Heading) (place p : ℕ) (n : Noted) (since : List Noted) (b : Noted)
+    → Publication heading place p (n ∷ since) b → Publication heading place p since b ⊎ (b ≡ n)
+publication_begins heading place p n since b k =
+    elim (begins n since k.newer (k.between ++ k.write ∷ k.older) b k.split) [
+      | inl older ↦ inl (record {
+        q = k.q;
+        dsb = k.dsb;
+        value = k.value;
+        write = k.write;
+        newer = older.0;
+        between = k.between;
+        older = k.older;
+        split = older.2;
+        wrote = k.wrote;
+        barrier = k.barrier;
+        publishes = k.publishes;
+      })
+      | inr same ↦ inr same
+    ]
+
+pub answer_begins : (n : Noted) (since : List Noted) (t : Issued Noted) (d : Noted) → Answer (n ∷ since) t d
+    → Answer since t d ⊎ (d ≡ n)
+answer_begins n since t d k =
+    elim (begins n since k.newer k.older d k.split) [
+      | inl older ↦ inl (record {
+        q = k.q;
+        dsb = k.dsb;
+        newer = older.0;
+        older = k.older;
+        split = older.2;
+        barrier = k.barrier;
+        is_open = k.is_open;
+        completed = k.completed;
+      })
+      | inr same ↦ inr same
+    ]
+
+pub flush_begins : (heading : Heading) (cover : Cover) (place p : ℕ) (n : Noted) (since : List Noted) (t : Issued Noted) (d : Noted)
+    → Flush heading cover place p (n ∷ since) t d → Flush heading cover place p since t d ⊎ (d ≡ n)
+flush_begins heading cover place p n since t d k =
+    elim (answer_begins n since t d k.answer) [
+      | inl a ↦ inl (record { answer = a; reached = k.reached; covered = k.covered })
+      | inr same ↦ inr same
+    ]
+
+pub half_begins : (heading : Heading) (place p : ℕ) (n : Noted) (since : List Noted) (b : Noted) (t : Issued Noted) (d : Noted)
+    → HalfBy heading place p (n ∷ since) b t d → HalfBy heading place p since b t d ⊎ (d ≡ n)
+half_begins heading place p n since b t d k =
+    elim (flush_begins heading Half place p n since t d k.flush) [
+      | inl f ↦ inl (record { flush = f; published = k.published })
+      | inr same ↦ inr same
+    ]
+
+pub one_begins : (heading : Heading) (trust : Trust) (place p : ℕ) (n : Noted) (since : List Noted)
+    → (k : OneStep heading trust place p (n ∷ since)) → OneStep heading trust place p since ⊎ (k.d ≡ n)
+one_begins heading trust place p n since k =
+    elim (flush_begins heading Full place p n since k.t k.d k.flush) [
+      | inl f ↦ inl (record { b = k.b; t = k.t; d = k.d; published = k.published; flush = f; allowed = k.allowed })
+      | inr same ↦ inr same
+    ]
+
+pub two_begin : (heading : Heading) (trust : Trust) (place p : ℕ) (n : Noted) (since : List Noted)
+    → (k : TwoSteps heading trust place p (n ∷ since)) → TwoSteps heading trust place p since ⊎ (k.d2 ≡ n)
+two_begin heading trust place p n since k =
+    elim (flush_begins heading Second place p n since k.t2 k.d2 k.second) [
+      | inl f ↦ inl (record {
+        b = k.b;
+        t1 = k.t1;
+        d1 = k.d1;
+        t2 = k.t2;
+        d2 = k.d2;
+        first = k.first;
+        second = f;
+        allowed = k.allowed;
+      })
+      | inr same ↦ inr same
+    ]
 
 -- ---- what a pattern has in it
 

@@ -1,5 +1,6 @@
 -- The step equations of the definitions that search.
 use Rattle.std.proofs.Common.{◌≡◌, ℕ, ◌<◌, ◌≤◌, ◌&&◌, ◌||◌, not, Bool, true, false, cond, ◌==◌, nat_le, List, [], ◌∷◌, length, Option, Some, None, filter, option_and_then, refl, sym, ◌∙◌, ap, subst, true≢false, arith}
+use Rattle.std.proofs.Math.Bool.{and-false, and-true, and_assoc, or-false}
 use Rattle.std.proofs.lemmas.Bool.{eq-eqb, le-leb, leb-true}
 use Rattle.bbm_barriers.specs.Options.{answers}
 use Rattle.bbm_regimes.specs.declared.regime.Kind.{Kind}
@@ -25,18 +26,6 @@ use Rattle.bbm_histories.proofs.HeldSteps.{held_same}
 
 -- ---- tests
 
-and_true : (b : Bool) → (b && true) ≡ b
-and_true true = refl
-and_true false = refl
-
-and_false : (b : Bool) → (b && false) ≡ false
-and_false true = refl
-and_false false = refl
-
-or_false : (b : Bool) → (b || false) ≡ b
-or_false true = refl
-or_false false = refl
-
 same_test : {A : Type 0} (f g : A → Bool) (xs : List A) → ((x : A) → f x ≡ g x) → any f xs ≡ any g xs
 same_test f g [] same = refl
 same_test f g (x ∷ xs) same =
@@ -56,8 +45,8 @@ any_never [] = refl
 any_never (x ∷ xs) = any_never xs
 
 any_both : {A : Type 0} (f : A → Bool) (c : Bool) (xs : List A) → any (λ x. f x && c) xs ≡ (any f xs && c)
-any_both f true xs = same_test (λ x. f x && true) f xs (λ x. and_true (f x)) ∙ sym (and_true (any f xs))
-any_both f false xs = same_test (λ x. f x && false) (λ x. false) xs (λ x. and_false (f x)) ∙ (any_never xs ∙ sym (and_false (any f xs)))
+any_both f true xs = same_test (λ x. f x && true) f xs (λ x. and-true (f x)) ∙ sym (and-true (any f xs))
+any_both f false xs = same_test (λ x. f x && false) (λ x. false) xs (λ x. and-false (f x)) ∙ (any_never xs ∙ sym (and-false (any f xs)))
 
 or_middle : (a b c d : Bool) → ((a || b) || (c || d)) ≡ ((a || c) || (b || d))
 or_middle true b c d = refl
@@ -86,8 +75,8 @@ left_kind dsb b (Tlbi pe op xt) test = by b (operation op).broadcast
     one false = refl
 
     other : (a c : Bool) → (not a && false) ≡ cond c false false
-    other a true = and_false (not a)
-    other a false = and_false (not a)
+    other a true = and-false (not a)
+    other a false = and-false (not a)
 
     by : (b x : Bool) → (not (answers dsb x) && (same_bool x b && test)) ≡ cond (answers dsb b) false (same_bool x b && test)
     by true true = one (answers dsb true)
@@ -107,10 +96,10 @@ completed_kind dsb (Tlbi pe op xt) test = by (operation op).broadcast
   where
     by : (x : Bool) → (answers dsb x && test)
         ≡ ((answers dsb true && (same_bool x true && test)) || (answers dsb false && (same_bool x false && test)))
-    by true = sym (ap (λ (c : Bool). (answers dsb true && test) || c) (and_false (answers dsb false)) ∙ or_false (answers dsb true && test))
-    by false = sym (ap (λ (c : Bool). c || (answers dsb false && test)) (and_false (answers dsb true)))
+    by true = sym (ap (λ (c : Bool). (answers dsb true && test) || c) (and-false (answers dsb false)) ∙ or-false (answers dsb true && test))
+    by false = sym (ap (λ (c : Bool). c || (answers dsb false && test)) (and-false (answers dsb true)))
 completed_kind dsb e test =
-    sym (ap (λ (c : Bool). c || (answers dsb false && false)) (and_false (answers dsb true)) ∙ and_false (answers dsb false))
+    sym (ap (λ (c : Bool). c || (answers dsb false && false)) (and-false (answers dsb true)) ∙ and-false (answers dsb false))
 
 module _ (A : Type 0) (event : A → Event) (q : ℕ) where
   -- what a DSB answers
@@ -170,7 +159,7 @@ module _ (heading : Heading) (place p : ℕ) where
   seen_by : (e : Event) (since : List Noted) → ((publishes_write heading place p e since && true) || seen heading place p since)
       ≡ seen_after heading place p e since
   seen_by (Dsb q dsb) since =
-      ap (λ (c : Bool). c || seen heading place p since) (and_true (publishes_to heading dsb q p && wrote heading place p q since))
+      ap (λ (c : Bool). c || seen heading place p since) (and-true (publishes_to heading dsb q p && wrote heading place p q since))
   seen_by e since = refl
 
   pub seen_step : (n : Noted) (since : List Noted) → seen heading place p (n ∷ since) ≡ seen_after heading place p n.event since
@@ -339,11 +328,7 @@ module _ (heading : Heading) (p : ℕ) (tag : Tag) where
       && not ((c && reads_for_some heading (e ∷ h) p tag) || read_since heading (length h) p tag h)) (le-leb (length h) (length h) (omega arith))
       ∙ (ap (λ (c : Bool). (reaches heading e p && takes_tag heading e h tag) && not ((true && reads_for_some heading (e ∷ h) p tag) || c))
       (none_since (length h) h (omega arith))
-      ∙ ap (λ (c : Bool). (reaches heading e p && takes_tag heading e h tag) && not c) (or_false (reads_for_some heading (e ∷ h) p tag)))
-
-  and_last : (a b c : Bool) → (a && (b && c)) ≡ ((a && b) && c)
-  and_last true b c = refl
-  and_last false b c = refl
+      ∙ ap (λ (c : Bool). (reaches heading e p && takes_tag heading e h tag) && not c) (or-false (reads_for_some heading (e ∷ h) p tag)))
 
   -- what waited before the event
   waited : (q : ℕ) (b : Bool) (e : Event) (h : List Event) → waits itself q b (takes heading p tag (e ∷ h)) h
@@ -352,7 +337,7 @@ module _ (heading : Heading) (p : ℕ) (tag : Tag) where
       same_unanswered q (λ t. is_tlbi b t.tlbi && takes heading p tag (e ∷ h) t)
       (λ t. (is_tlbi b t.tlbi && takes heading p tag h t) && not (reads_for_some heading (e ∷ h) p tag)) h
       (λ t less. ap (λ (c : Bool). is_tlbi b t.tlbi && c) (takes_on e h t less)
-      ∙ and_last (is_tlbi b t.tlbi) (takes heading p tag h t) (not (reads_for_some heading (e ∷ h) p tag)))
+      ∙ sym (and_assoc (is_tlbi b t.tlbi) (takes heading p tag h t) (not (reads_for_some heading (e ∷ h) p tag))))
       ∙ any_both (λ t. is_tlbi b t.tlbi && takes heading p tag h t) (not (reads_for_some heading (e ∷ h) p tag)) (unanswered itself q h)
 
   tag_by : (q : ℕ) (b : Bool) (x e : Event) (h : List Event) → e ≡ x
@@ -369,12 +354,12 @@ module _ (heading : Heading) (p : ℕ) (tag : Tag) where
     where
       by : (a k s w c : Bool) → ((a && (k && (s && c))) || (w && c)) ≡ (((a && (k && s)) || w) && c)
       by a k s w true =
-          ap (λ (x : Bool). (a && (k && x)) || (w && true)) (and_true s)
-          ∙ (ap (λ (x : Bool). (a && (k && s)) || x) (and_true w) ∙ sym (and_true ((a && (k && s)) || w)))
+          ap (λ (x : Bool). (a && (k && x)) || (w && true)) (and-true s)
+          ∙ (ap (λ (x : Bool). (a && (k && s)) || x) (and-true w) ∙ sym (and-true ((a && (k && s)) || w)))
       by a k s w false =
-          ap (λ (x : Bool). (a && (k && x)) || (w && false)) (and_false s)
-          ∙ (ap (λ (x : Bool). (a && x) || (w && false)) (and_false k)
-          ∙ (ap (λ (x : Bool). x || (w && false)) (and_false a) ∙ (and_false w ∙ sym (and_false ((a && (k && s)) || w)))))
+          ap (λ (x : Bool). (a && (k && x)) || (w && false)) (and-false s)
+          ∙ (ap (λ (x : Bool). (a && x) || (w && false)) (and-false k)
+          ∙ (ap (λ (x : Bool). x || (w && false)) (and-false a) ∙ (and-false w ∙ sym (and-false ((a && (k && s)) || w)))))
   tag_by q b (Dsb pe dsb) e h same =
       ap (λ (c : Bool). cond (pe == q && answers dsb b) false c) (waited q b e h)
       ∙ by (pe == q && answers dsb b) (tag_waits heading p tag q b h) (not (reads_for_some heading (e ∷ h) p tag))
@@ -394,12 +379,12 @@ module _ (heading : Heading) (p : ℕ) (tag : Tag) where
   tag_lost q dsb h =
       same_unanswered q (is_taken_by heading Patterns p tag q dsb h)
       (λ t. (completes dsb t.tlbi && takes heading p tag h t) && not (reads_for_some heading (Dsb q dsb ∷ h) p tag)) h
-      (λ t less. and_true (((completes dsb t.tlbi && reaches heading t.tlbi p) && takes_tag heading t.tlbi t.before tag)
+      (λ t less. and-true (((completes dsb t.tlbi && reaches heading t.tlbi p) && takes_tag heading t.tlbi t.before tag)
       && not (read_since heading (length t.before) p tag (Dsb q dsb ∷ h)))
       ∙ (by (completes dsb t.tlbi) (reaches heading t.tlbi p) (takes_tag heading t.tlbi t.before tag)
       (not (read_since heading (length t.before) p tag (Dsb q dsb ∷ h)))
       ∙ (ap (λ (c : Bool). completes dsb t.tlbi && c) (takes_on (Dsb q dsb) h t less)
-      ∙ and_last (completes dsb t.tlbi) (takes heading p tag h t) (not (reads_for_some heading (Dsb q dsb ∷ h) p tag)))))
+      ∙ sym (and_assoc (completes dsb t.tlbi) (takes heading p tag h t) (not (reads_for_some heading (Dsb q dsb ∷ h) p tag))))))
       ∙ (any_both (λ t. completes dsb t.tlbi && takes heading p tag h t) (not (reads_for_some heading (Dsb q dsb ∷ h) p tag)) (unanswered itself q h)
       ∙ ap (λ (c : Bool). c && not (reads_for_some heading (Dsb q dsb ∷ h) p tag))
       (answered_kinds Event itself q dsb (takes heading p tag h) h))

@@ -520,6 +520,31 @@ module _ (heading : Heading) (trust : Trust) (b : Below heading trust) where
     allowed = k.allowed;
   }
 
+  -- a TLBI that hadn't taken the tag before the event takes it by the event
+  pub taken_begins : (p : ℕ) (tag : Tag) (e : Event) (h : List Event) (t : Issued Event)
+      → (k : TakenAway heading trust p tag (e ∷ h) t)
+      → TakenAway heading trust p tag h t ⊎ ((e ≡ Dsb k.q k.dsb) × (k.earlier ≡ h))
+  taken_begins p tag e h t k = by k.later k.split
+    where
+      by : (later : List Event) → e ∷ h ≡ later ++ Dsb k.q k.dsb ∷ k.earlier
+          → TakenAway heading trust p tag h t ⊎ ((e ≡ Dsb k.q k.dsb) × (k.earlier ≡ h))
+      by [] split =
+          let first : e ≡ Dsb k.q k.dsb = cc in
+          let rest : h ≡ k.earlier = cc in inr (first, sym rest)
+      by (x ∷ later) split = inl (record {
+        q = k.q;
+        dsb = k.dsb;
+        later = later;
+        earlier = k.earlier;
+        split = cc;
+        is_open = k.is_open;
+        answered = k.answered;
+        reached = k.reached;
+        whole = k.whole;
+        unread = k.unread;
+        allowed = k.allowed;
+      })
+
   pub between : HeldBetween heading trust
   between p root tag h k after middle split =
       b.tag_held_complete p root tag (middle ++ k.older) (record {

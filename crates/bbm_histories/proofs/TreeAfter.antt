@@ -2,7 +2,7 @@
 use Rattle.std.proofs.Common.{◌≡◌, ℕ, zero, suc, ◌<◌, ◌⊎◌, not, Bool, true, false, cond, ◌==◌, List, [], ◌∷◌, length, Option, Some, None, is_some, Contains, slice_index_or, refl, sym, ◌∙◌, ap, subst, inl, inr, arith, true≢false, not-suc-le-zero, le_of_suc-le-suc, suc-le-suc, zero-le}
 use Rattle.std.proofs.lemmas.Bool.{eq-eqb, eqb-true, not-false}
 use Rattle.bbm_regimes.specs.declared.regime.Kind.{Kind}
-use Rattle.bbm_descriptor.specs.Descriptor.{Form, desc_as, form_of, is_valid, valid_form}
+use Rattle.bbm_descriptor.specs.Descriptor.{is_valid}
 use Rattle.bbm_events.specs.Heading.{Heading}
 use Rattle.bbm_events.specs.declared.event.Event.{Event}
 use Rattle.bbm_events.specs.declared.event.Event.TheVariants.{Root, Unroot, Write, Dsb}
@@ -14,12 +14,13 @@ use Rattle.bbm_rules.specs.Notes.{Noted, events_of}
 use Rattle.bbm_rules.specs.Pages.{is_fresh}
 use Rattle.bbm_rules.specs.Places.{page_of}
 use Rattle.bbm_rules.specs.Roots.{Declared, kind_in_world, roots_of, start_of}
-use Rattle.bbm_rules.specs.Tree.{Above, Node, held_at, in_tree, next_in, next_of, node_below, node_of}
+use Rattle.bbm_rules.specs.Tree.{Above, Node, held_at, in_tree, next_of, node_below, node_of}
 use Rattle.bbm_rules.specs.TreeSentences.{Down, IsNode}
 use Rattle.bbm_rules.specs.Values.{value_of}
 use Rattle.bbm_histories.specs.Below.{Below}
 use Rattle.bbm_histories.specs.Tree.{Attaches, InTree, InTreeAfter, InTreeAfterDsb, Linked, Planted, Proper, StillHeld, Through}
-use Rattle.bbm_histories.proofs.HeldSteps.{IsDsb, held_after_dsb, held_change, table_on}
+use Rattle.bbm_histories.proofs.CoreLemmas.{table_is_valid, table_on}
+use Rattle.bbm_histories.proofs.HeldSteps.{IsDsb, held_after_dsb, held_change}
 use Rattle.bbm_histories.proofs.Induction.{Unbroken, if_none}
 use Rattle.bbm_histories.proofs.Invariants.{Invariants}
 use Rattle.bbm_histories.proofs.RootLemmas.{declared_on}
@@ -39,15 +40,6 @@ contains_cases {X} xs y x c = by c.0 c.1 c.2
     by : (k : ℕ) → k < length (y ∷ xs) → slice_index_or (y ∷ xs) k x ≡ x → (y ≡ x) ⊎ Contains xs x
     by zero below e = inl e
     by (suc k) below e = inr (k, le_of_suc-le-suc below, e)
-
--- a table is valid
-table_is_valid : (kind : Kind) (level value next : ℕ) → next_of kind level value ≡ Some next → is_valid kind level value ≡ true
-table_is_valid kind level value next e = by (form_of level value) e
-  where
-    by : (form : Form) → next_in (desc_as form kind level value) ≡ Some next → valid_form form ≡ true
-    by Form.invalid e = cc
-    by Form.table e = refl
-    by Form.leaf e = refl
 
 -- ---- what a path keeps
 
@@ -113,7 +105,7 @@ module _ (heading : Heading) (trust : Trust) (b : Below heading trust) (h : List
             inside = l.inside;
             value = w.1;
             holds = w.4;
-            table = table_on n.kind n.level l.value w.1 next w.3 (w.5 l.value l.holds) l.table;
+            table = table_on heading trust b n.kind n.level l.value w.1 next w.3 (w.5 l.value l.holds) l.table;
           }
           | inr d ↦ absurd (other (d.0, d.1, d.2))
         ]

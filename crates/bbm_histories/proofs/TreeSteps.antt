@@ -19,8 +19,9 @@ use Rattle.bbm_rules.specs.Values.{value_of}
 use Rattle.bbm_histories.specs.Below.{Below}
 use Rattle.bbm_histories.specs.Tree.{Attaches, InTree, Linked, Planted, Through}
 use Rattle.bbm_histories.specs.Values.{OddStays}
+use Rattle.bbm_histories.proofs.CoreLemmas.{table_back}
 use Rattle.bbm_histories.proofs.FreshLemmas.{content, fresh_is_outside, held_is_present}
-use Rattle.bbm_histories.proofs.HeldSteps.{held_back, held_valid, same_core, table_back}
+use Rattle.bbm_histories.proofs.HeldSteps.{held_back, held_valid, same_core}
 use Rattle.bbm_histories.proofs.Induction.{Unbroken}
 use Rattle.bbm_histories.proofs.RootLemmas.{declared_back, not_retired}
 
@@ -151,7 +152,7 @@ module _ (heading : Heading) (trust : Trust) (b : Below heading trust) (h : List
           inside = l.inside;
           value = old;
           holds = k;
-          table = table_back n.kind n.level old l.value next (held_valid heading trust b n.kind n.level place h old k)
+          table = table_back heading trust b n.kind n.level old l.value next (held_valid heading trust b n.kind n.level place h old k)
               (same_core heading trust h n q place l.value old (subst (λ (x : Event). Unbroken heading trust h x) is kept)
               (node_is one n (page_of place) t (sym l.inside)) k) l.table;
         })

@@ -23,7 +23,7 @@ use Rattle.bbm_histories.specs.Below.{Below}
 use Rattle.bbm_histories.specs.Patterns.{Quiet}
 use Rattle.bbm_histories.specs.Tree.{Attaches, InTree}
 use Rattle.bbm_histories.specs.Values.{MakesReadable, NoInit, OddStays, Window}
-use Rattle.bbm_histories.proofs.CoreLemmas.{core_same, needs_not}
+use Rattle.bbm_histories.proofs.CoreLemmas.{core_same}
 use Rattle.bbm_histories.proofs.HeldSteps.{init_outside, same_core}
 use Rattle.bbm_histories.proofs.Induction.{NotesSplit, Unbroken, events_append, notes_split, throughout}
 use Rattle.bbm_histories.proofs.Invariants.{Invariants, invariants, none_at_start}
@@ -314,7 +314,7 @@ module _ (heading : Heading) (trust : Trust) (b : Below heading trust) where
             = held_if_unseen n.kind n.level place p h l.w is_pe l.is unseen in
             let last : IsLastValid n.kind n.level place h l.w = b.last_sound n.kind n.level place h l.w l.is in
             let same : core_of n.kind n.level l.w.value ≡ core_of n.kind n.level u
-            = core_same n.kind n.level l.w.value u last.valid valid_u
+            = core_same heading trust b n.kind n.level l.w.value u last.valid valid_u
             (same_core heading trust h n q place u l.w.value (subst (λ (x : Event). Unbroken heading trust h x) is kept)
             (node_is heading trust b h i.one n (page_of place) t (sym inside)) holds) in
             record { w = record { value = u; since = [] }; is = just_written q u is valid_u; core = sym same ∙ l.core }
@@ -361,7 +361,7 @@ module _ (heading : Heading) (trust : Trust) (b : Below heading trust) where
       record {
         kept = l.w.value;
         holds = held_if_unseen n.kind n.level place p (noted heading trust h) l.w is_pe l.is unseen;
-        same_core = needs_not n.kind n.level l.w.value value l.core;
+        same_core = b.no_need n.kind n.level l.w.value value l.core;
         last = l.w;
         is_last = l.is;
         unseen = unseen;

@@ -1,8 +1,8 @@
--- What the crate of the rules proves of its definitions, as one record, so that each proof here takes it as one
--- hypothesis.
+-- What the crates below prove of their definitions, as one record, so that each proof here takes it as one hypothesis.
 use Rattle.std.specs.Prelude.{◌≡◌, ◌↔◌, ℕ, ◌+◌, ◌%◌, ◌<◌, true, false, List, [], ◌∷◌, ◌++◌, length, Option, Some, None}
-use Rattle.std.specs.Prelude.{Contains}
-use Rattle.bbm_descriptor.specs.Descriptor.{desc_of, is_valid}
+use Rattle.std.specs.Prelude.{is_some, Contains}
+use Rattle.bbm_descriptor.specs.Descriptor.{core_of, desc_of, is_valid, needs, same_core}
+use Rattle.bbm_descriptor.specs.declared.desc.Core.{Core}
 use Rattle.bbm_rules.specs.Prelude.{Kind, Ttbr0, Reg, Tag, Heading, Event, Root, Unroot, Write, Msr}
 use Rattle.bbm_rules.specs.declared.rule.Rule.{Rule}
 use Rattle.bbm_rules.specs.Attach.{End, attached_by, attached_from}
@@ -39,6 +39,11 @@ pub record Below (heading : Heading) (trust : Trust) : Type 0 where
       → (w : ValidWrite) × (last_valid kind level place h ≡ Some w)
       × (w.value ≡ value_of (events_of h) place) × ((q v : ℕ) (n : Noted) (after before : List Noted)
       → w.since ≡ after ++ n ∷ before → n.event ≡ Write q place v → ⊥)
+  pub core_where_valid : (kind : Kind) (level value : ℕ) → is_some (core_of kind level value)
+      ≡ is_valid kind level value
+  pub same_core_is_equal : (one other : Core) → (same_core one other ≡ true) ↔ (one ≡ other)
+  pub no_need : (kind : Kind) (level old new : ℕ) → core_of kind level old ≡ core_of kind level new
+      → needs kind level old new ≡ false
   pub valid_is_odd : (kind : Kind) (level value : ℕ) → is_valid kind level value ≡ true → value % 2 ≡ 1
   pub held_sound : (kind : Kind) (level place : ℕ) (h : List Noted) (value : ℕ)
       → held heading trust kind level place h ≡ Some value → Holds heading trust kind level place h value

@@ -1,9 +1,12 @@
-//! What the crate of the rules proves, gathered for the proofs here.
+//! What the crates below prove, gathered for the proofs here.
 
 ghost use Rattle.bbm_events.specs.Heading.{Heading};
 ghost use Rattle.bbm_rules.specs.Claims.{Trust};
 ghost use Rattle.bbm_histories.specs.Below.{Below};
 
+use bbm_descriptor::laws::{
+    law_core_where_valid, law_no_need_of_equal_cores, law_same_core_is_equal,
+};
 use bbm_rules::{
     law_attaching, law_childless, law_each_rule, law_equality_tests, law_global_user, law_half,
     law_held, law_last_valid, law_limbo, law_notes, law_notes_keep_the_events, law_published,
@@ -11,12 +14,13 @@ use bbm_rules::{
     law_tag_rules, law_tree,
 };
 
-/// The laws of the rules that the laws here stand on.
+/// The laws that the laws here stand on.
 pub(crate) fn below()
     ensures { (heading : Heading) (trust : Trust) → Below heading trust }
 {
     law_attaching();
     law_childless();
+    law_core_where_valid();
     law_each_rule();
     law_equality_tests();
     law_global_user();
@@ -24,6 +28,7 @@ pub(crate) fn below()
     law_held();
     law_last_valid();
     law_limbo();
+    law_no_need_of_equal_cores();
     law_notes();
     law_notes_keep_the_events();
     law_published();
@@ -31,6 +36,7 @@ pub(crate) fn below()
     law_readable_value();
     law_root();
     law_root_pages();
+    law_same_core_is_equal();
     law_seen();
     law_tag_held();
     law_tag_rules();

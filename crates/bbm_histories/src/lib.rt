@@ -8,7 +8,7 @@ pub mod tags;
 pub mod trees;
 pub mod values;
 
-pub use patterns::{law_patterns_stay, law_uniform};
+pub use patterns::{law_patterns_begin, law_patterns_stay, law_uniform};
 pub use steps::{law_held_step, law_pattern_steps, law_tag_steps};
 pub use tags::law_tags;
 pub use trees::{
@@ -19,7 +19,7 @@ pub use values::{law_fresh_content, law_frozen, law_window};
 
 #[cfg(test)]
 mod tests {
-    use crate::patterns::{law_patterns_stay, law_uniform};
+    use crate::patterns::{law_patterns_begin, law_patterns_stay, law_uniform};
     use crate::steps::{law_held_step, law_pattern_steps, law_tag_steps};
     use crate::tags::law_tags;
     use crate::trees::{
@@ -40,6 +40,7 @@ mod tests {
         law_one_node();
         law_one_position();
         law_pattern_steps();
+        law_patterns_begin();
         law_patterns_stay();
         law_proper();
         law_tag_steps();

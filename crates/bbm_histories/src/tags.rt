@@ -1,12 +1,15 @@
 //! Laws of tags: when they are readable, and which root holds them.
 
-ghost use Rattle.std.specs.Prelude.{◌≡◌, ℕ, true, List, ◌∷◌};
+ghost use Rattle.std.specs.Prelude.{◌≡◌, ℕ, ◌⊎◌, true, List, ◌∷◌};
 ghost use Rattle.bbm_regimes.specs.declared.regime.Tag.{Tag};
 ghost use Rattle.bbm_events.specs.Heading.{Heading};
 ghost use Rattle.bbm_events.specs.declared.event.Event.{Event};
+ghost use Rattle.bbm_events.specs.declared.event.Event.TheVariants.{Dsb};
 ghost use Rattle.bbm_rules.specs.Broken.{keeps};
 ghost use Rattle.bbm_rules.specs.Claims.{Trust};
 ghost use Rattle.bbm_rules.specs.Roots.{is_root};
+ghost use Rattle.bbm_rules.specs.Reach.{Issued};
+ghost use Rattle.bbm_rules.specs.Sentences.{TakenAway};
 ghost use Rattle.bbm_rules.specs.Tags.{holds_tag};
 ghost use Rattle.bbm_histories.specs.Tree.{Proper};
 ghost use Rattle.bbm_histories.specs.Tags.{BecomesReadable, HeldBetween, StopsToBeReadable, kind_of_tag};
@@ -14,8 +17,9 @@ ghost use Rattle.bbm_histories.specs.Tags.{BecomesReadable, HeldBetween, StopsTo
 use crate::below::below;
 
 /// In a history that keeps the rules, a tag becomes readable at a PE by a register write of the PE, and stops to be so
-/// by an ISB of it; at most one root holds it, and that is a declared root of its kind. In every history a root that
-/// holds a tag held it at each moment since it was readable. The law is the contract.
+/// by an ISB of it; at most one root holds it, and that is a declared root of its kind. In every history a TLBI takes a
+/// tag away by the event that answers it, and a root that holds a tag held it at each moment since it was readable. The
+/// law is the contract.
 pub fn law_tags()
     ensures becomes { (heading : Heading) (trust : Trust) (h : List Event) (e : Event) → Proper heading →
         keeps heading trust (e ∷ h) ≡ true → BecomesReadable heading h e }
@@ -28,6 +32,9 @@ pub fn law_tags()
     ensures root { (heading : Heading) (trust : Trust) (h : List Event) → Proper heading →
         keeps heading trust h ≡ true →
         (r : ℕ) (tag : Tag) → holds_tag heading trust r tag h ≡ true → is_root h (kind_of_tag tag) r ≡ true }
+    ensures taken_begins { (heading : Heading) (trust : Trust) (p : ℕ) (tag : Tag) (e : Event) (h : List Event)
+        (t : Issued Event) → (k : TakenAway heading trust p tag (e ∷ h) t) →
+        TakenAway heading trust p tag h t ⊎ ((e ≡ Dsb k.q k.dsb) × (k.earlier ≡ h)) }
     ensures between { (heading : Heading) (trust : Trust) → HeldBetween heading trust }
 {
     below();

@@ -1,3 +1,6 @@
 pub mod Texts
+pub mod Refusals
+pub mod Puts
 pub mod Stages
 pub mod ReadBytes
+pub mod Obeying

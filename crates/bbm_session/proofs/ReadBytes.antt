@@ -1,7 +1,7 @@
 -- Which bytes are read for a verdict: all of an accepted log, and else those up to the line that decides.
 use Rattle.std.proofs.Common.{◌≡◌, ◌⊎◌, ℕ, zero, suc, ◌+◌, ◌≤◌, ◌<◌, Bool, true, false, ◌==◌, nat_eq, if◌then◌else◌, List, [], ◌∷◌, ◌++◌, length, drop, Option, Some, None, Result, Ok, Err, refl, ap, sym, ◌∙◌, subst, inl, inr, arith, append_assoc, append-nil}
 use Rattle.std.proofs.Math.ListN.{drop_of_length-le}
-use Rattle.std.proofs.lemmas.Bool.{and_parts, false≢true}
+use Rattle.std.proofs.lemmas.Bool.{and_parts}
 use Rattle.std.proofs.lemmas.Bool.Decides.{nat_tests}
 use Rattle.bbm_io.specs.Flow.{plain}
 use Rattle.bbm_events.specs.declared.event.Event.{Event as EventOf}
@@ -18,13 +18,8 @@ use Rattle.bbm_rules.specs.Claims.{Trust, Patterns}
 use Rattle.bbm_rules.specs.Limits.{limit_of}
 use Rattle.bbm_rules.specs.declared.limits.Limits.{Limits}
 use Rattle.bbm_rules.specs.Outcome.{Text, before_text, text_of, bytes_of, is_too_long, limit_at, after_kept, Progress, AtHeader, AtEvents, AtEnd, Step, Decides, GoesOn, after_header, after_item, after_judged, after_line, too_long_at, cut_at, end_of, Outcome, outcome_after, outcome_from, outcome_of, verdict_of_bytes, events_in, read_lines}
-use Rattle.bbm_session.specs.declared.status.Status.{Status}
-use Rattle.bbm_session.specs.declared.status.Status.TheVariants as status
-use Rattle.bbm_session.specs.declared.stop.Stop.{Stop}
-use Rattle.bbm_session.specs.declared.stop.Stop.TheVariants.{Decided, ReadFault, NoMemory}
-use Rattle.bbm_session.specs.Run.{UpTo, ReadFor, ReadTo, ReadToFault, ReadToWant, status_of, tells_verdict}
-use Rattle.bbm_session.specs.Stages.{plain_lines, Broke, Starved, Concludes, Stops}
-use Rattle.bbm_session.specs.Writing.{Checks, Reports}
+use Rattle.bbm_session.specs.Run.{UpTo, ReadFor, ReadTo, ReadToFault, ReadToWant}
+use Rattle.bbm_session.specs.Stages.{plain_lines, Broke, Breaks, Starved, Starves}
 use Rattle.bbm_session.proofs.Stages.{step_of-short, step_of-long, end_of-short, end_of-long, seam, bytes_of-append, plain_lines-append}
 use Rattle.bbm_session.proofs.Texts.{plain-head, text_of-line, text_of-plain, bytes_of-text_of}
 
@@ -261,46 +256,6 @@ read-to limits bytes left is =
     let k = reads Patterns limits 1 AtHeader (text_of bytes).lines (text_of bytes).rest clean.0 clean.1 in
     (k.taken, o.unread, sym (bytes_of-text_of bytes) ∙ k.is, is, read_for o.verdict (text_of k.taken) o.unread k.to)
 
--- ---- of a log that was judged
-
-unread_is : (limits : Limits) (bytes : List ℕ) (left : Option (List ℕ)) (v : Verdict) → Concludes Patterns limits 1 AtHeader (Some bytes) v left
-    → (verdict_of_bytes Patterns limits bytes ≡ v) × (left ≡ Some (outcome_of Patterns limits bytes).unread)
-unread_is limits bytes None v concludes = absurd concludes
-unread_is limits bytes (Some rest) v concludes = (concludes.0, ap Some (sym concludes.1))
-
-told : (limits : Limits) (stop : Stop) (result : Status) (bytes : List ℕ) (left : Option (List ℕ)) (f f' : ℕ) (h h' : Option (List ℕ)) (w w' : ℕ)
-    → Stops Patterns limits 1 AtHeader (Some bytes) stop left f f' → Reports stop result h h' w w' → tells_verdict result ≡ true
-    → (result ≡ status_of (verdict_of_bytes Patterns limits bytes)) × (left ≡ Some (outcome_of Patterns limits bytes).unread)
-told limits (Decided v) result bytes left f f' h h' w w' stops (inl wrote) tells =
-    let is = unread_is limits bytes left v stops.0 in
-    (wrote.0 ∙ ap status_of (sym is.0), is.1)
-told limits (Decided v) result bytes left f f' h h' w w' stops (inr failed) tells = absurd (false≢true (sym (ap tells_verdict failed.0) ∙ tells))
-told limits ReadFault result bytes left f f' h h' w w' stops reports tells = absurd (false≢true (sym (ap tells_verdict reports.0) ∙ tells))
-told limits NoMemory result bytes left f f' h h' w w' stops reports tells = absurd (false≢true (sym (ap tells_verdict reports.0) ∙ tells))
-
-none_left : (v : Verdict) (read : Text) (unread : List ℕ) → status_of v ≡ status.Accepted → ReadFor v read unread → unread ≡ []
-none_left (Accepted events) read unread accepted f = f
-none_left (Refused line rule at label) read unread accepted f = cc
-none_left (Malformed line cause) read unread accepted f = cc
-none_left (Limit line which) read unread accepted f = cc
-
-module _ (limits : Limits) (result : Status) (bytes : List ℕ) (old new : Option (List ℕ)) (f f' : ℕ) (h h' : Option (List ℕ)) (w w' : ℕ)
-    (checks : Checks limits result old new f f' h h' w w') (is : old ≡ Some bytes) where
-  tells-read : tells_verdict result ≡ true
-      → (result ≡ status_of (verdict_of_bytes Patterns limits bytes)) × (new ≡ Some (outcome_of Patterns limits bytes).unread)
-  tells-read tells =
-      let k : Checks limits result (Some bytes) new f f' h h' w w' = subst (λ (o : Option (List ℕ)). Checks limits result o new f f' h h' w w') is checks in
-      told limits k.stop result bytes new f f' h h' w w' k.stops k.reports tells
-
-  pub checked-read : tells_verdict result ≡ true → ReadTo bytes (verdict_of_bytes Patterns limits bytes) new
-  checked-read tells = read-to limits bytes new (tells-read tells).1
-
-  pub accepted-read : result ≡ status.Accepted → new ≡ Some []
-  accepted-read accepted =
-      let told_it = tells-read (ap tells_verdict accepted) in
-      let r = read-to limits bytes new told_it.1 in
-      r.3 ∙ ap Some (none_left (verdict_of_bytes Patterns limits bytes) (text_of r.0) r.1 (sym told_it.0 ∙ accepted) r.4)
-
 -- ---- of a log whose judging stopped before a verdict
 
 bytes_of-behind : (lines : List (List ℕ)) (piece rest : List ℕ) → bytes_of lines (piece ++ rest) ≡ bytes_of lines piece ++ rest
@@ -315,8 +270,8 @@ text_of-bytes_of (line ∷ lines) rest clean r =
     let parts = and_parts (plain line) (plain_lines lines) clean in
     rw (text_of-line line (bytes_of lines rest) parts.0, text_of-bytes_of lines rest parts.1 r) refl
 
-to_fault : (limits : Limits) (bytes rest : List ℕ) → Broke Patterns limits 1 AtHeader bytes rest → ReadToFault limits bytes (Some rest)
-to_fault limits bytes rest broke =
+fault_at : (limits : Limits) (bytes rest : List ℕ) → Broke Patterns limits 1 AtHeader bytes rest → ReadToFault limits bytes (Some rest)
+fault_at limits bytes rest broke =
     let lines = broke.passed.lines in
     let text = text_of-bytes_of lines broke.piece broke.passed.clean broke.clean in
     record {
@@ -331,8 +286,12 @@ to_fault limits bytes rest broke =
       short = subst (λ (t : Text). length t.rest ≤ 200) (sym text) broke.short;
     }
 
-to_want : (limits : Limits) (bytes rest : List ℕ) → Starved Patterns limits 1 AtHeader bytes rest → ReadToWant limits bytes (Some rest)
-to_want limits bytes rest starved =
+pub to_fault : (limits : Limits) (bytes : List ℕ) (left : Option (List ℕ)) → Breaks Patterns limits 1 AtHeader (Some bytes) left → ReadToFault limits bytes left
+to_fault limits bytes None breaks = absurd breaks
+to_fault limits bytes (Some rest) breaks = fault_at limits bytes rest breaks
+
+want_at : (limits : Limits) (bytes rest : List ℕ) → Starved Patterns limits 1 AtHeader bytes rest → ReadToWant limits bytes (Some rest)
+want_at limits bytes rest starved =
     let lines = starved.passed.lines in
     let line = starved.line in
     let whole : List (List ℕ) = lines ++ line ∷ [] in
@@ -352,59 +311,6 @@ to_want limits bytes rest starved =
       needs = starved.needs;
     }
 
-tells_of : (v : Verdict) → tells_verdict (status_of v) ≡ true
-tells_of (Accepted events) = refl
-tells_of (Refused line rule at label) = refl
-tells_of (Malformed line cause) = refl
-tells_of (Limit line which) = refl
-
-told_fault : (limits : Limits) (stop : Stop) (result : Status) (bytes : List ℕ) (left : Option (List ℕ)) (f f' : ℕ) (h h' : Option (List ℕ)) (w w' : ℕ)
-    → Stops Patterns limits 1 AtHeader (Some bytes) stop left f f' → Reports stop result h h' w w' → result ≡ status.ReadFault
-    → ReadToFault limits bytes left
-told_fault limits (Decided v) result bytes left f f' h h' w w' stops (inl wrote) is =
-    absurd (false≢true (ap tells_verdict (sym is ∙ wrote.0) ∙ tells_of v))
-told_fault limits (Decided v) result bytes left f f' h h' w w' stops (inr failed) is = cc
-told_fault limits ReadFault result bytes None f f' h h' w w' stops reports is = absurd stops.0
-told_fault limits ReadFault result bytes (Some rest) f f' h h' w w' stops reports is = to_fault limits bytes rest stops.0
-told_fault limits NoMemory result bytes left f f' h h' w w' stops reports is = cc
-
-told_want : (limits : Limits) (stop : Stop) (result : Status) (bytes : List ℕ) (left : Option (List ℕ)) (f f' : ℕ) (h h' : Option (List ℕ)) (w w' : ℕ)
-    → Stops Patterns limits 1 AtHeader (Some bytes) stop left f f' → Reports stop result h h' w w' → result ≡ status.NoMemory
-    → ReadToWant limits bytes left
-told_want limits (Decided v) result bytes left f f' h h' w w' stops (inl wrote) is =
-    absurd (false≢true (ap tells_verdict (sym is ∙ wrote.0) ∙ tells_of v))
-told_want limits (Decided v) result bytes left f f' h h' w w' stops (inr failed) is = cc
-told_want limits ReadFault result bytes left f f' h h' w w' stops reports is = cc
-told_want limits NoMemory result bytes None f f' h h' w w' stops reports is = absurd stops.0
-told_want limits NoMemory result bytes (Some rest) f f' h h' w w' stops reports is = to_want limits bytes rest stops.0
-
-read_rose : (limits : Limits) (stop : Stop) (result : Status) (old new : Option (List ℕ)) (f f' : ℕ) (h h' : Option (List ℕ)) (w w' : ℕ)
-    → Stops Patterns limits 1 AtHeader old stop new f f' → Reports stop result h h' w w' → f < f' → result ≡ status.ReadFault
-read_rose limits (Decided v) result old new f f' h h' w w' stops reports rose = absurd (omega (arith, rose, stops.1))
-read_rose limits ReadFault result old new f f' h h' w w' stops reports rose = reports.0
-read_rose limits NoMemory result old new f f' h h' w w' stops reports rose = absurd (omega (arith, rose, stops.1))
-
-write_rose : (stop : Stop) (result : Status) (h h' : Option (List ℕ)) (w w' : ℕ)
-    → Reports stop result h h' w w' → w < w' → result ≡ status.WriteFault
-write_rose (Decided v) result h h' w w' (inl wrote) rose = absurd (omega (arith, rose, wrote.2))
-write_rose (Decided v) result h h' w w' (inr failed) rose = failed.0
-write_rose ReadFault result h h' w w' reports rose = absurd (omega (arith, rose, reports.2))
-write_rose NoMemory result h h' w w' reports rose = absurd (omega (arith, rose, reports.2))
-
-module _ (limits : Limits) (result : Status) (old new : Option (List ℕ)) (f f' : ℕ) (h h' : Option (List ℕ)) (w w' : ℕ)
-    (checks : Checks limits result old new f f' h h' w w') where
-  pub checked-fault : (bytes : List ℕ) → old ≡ Some bytes → result ≡ status.ReadFault → ReadToFault limits bytes new
-  checked-fault bytes is fault =
-      told_fault limits checks.stop result bytes new f f' h h' w w'
-      (subst (λ (o : Option (List ℕ)). Stops Patterns limits 1 AtHeader o checks.stop new f f') is checks.stops) checks.reports fault
-
-  pub checked-want : (bytes : List ℕ) → old ≡ Some bytes → result ≡ status.NoMemory → ReadToWant limits bytes new
-  checked-want bytes is want =
-      told_want limits checks.stop result bytes new f f' h h' w w'
-      (subst (λ (o : Option (List ℕ)). Stops Patterns limits 1 AtHeader o checks.stop new f f') is checks.stops) checks.reports want
-
-  pub checked-read_rose : f < f' → result ≡ status.ReadFault
-  checked-read_rose rose = read_rose limits checks.stop result old new f f' h h' w w' checks.stops checks.reports rose
-
-  pub checked-write_rose : w < w' → result ≡ status.WriteFault
-  checked-write_rose rose = write_rose checks.stop result h h' w w' checks.reports rose
+pub to_want : (limits : Limits) (bytes : List ℕ) (left : Option (List ℕ)) → Starves Patterns limits 1 AtHeader (Some bytes) left → ReadToWant limits bytes left
+to_want limits bytes None starves = absurd starves
+to_want limits bytes (Some rest) starves = want_at limits bytes rest starves

@@ -1,4 +1,5 @@
 pub mod Pieces
 pub mod Run
 pub mod Stages
+pub mod Telling
 pub mod Writing

@@ -1,19 +1,24 @@
 -- What the program's words ask for, and what it says.
 -- Source: project's own choice.
-use Rattle.std.specs.Prelude.{◌≡◌, ◌⊎◌, ℕ, suc, ◌≤◌, List, [], ◌∷◌, ◌++◌, length, Option, Some, None, Result, Ok}
-use Rattle.std.specs.Prelude.{IsOk, Bool, true, false, codes, bytes_eq, if◌then◌else◌}
+use Rattle.std.specs.Prelude.{◌≡◌, ◌⊎◌, ℕ, suc, ◌≤◌, List, [], ◌∷◌, ◌++◌, length, Option, Some, None, option_map}
+use Rattle.std.specs.Prelude.{Result, Ok, IsOk, Bool, true, false, codes, bytes_eq, if◌then◌else◌}
 use Rattle.bbm_rules.specs.declared.verdict.Verdict.{Verdict}
 use Rattle.bbm_rules.specs.declared.verdict.Verdict.TheVariants.{Accepted, Refused, Malformed, Limit}
 use Rattle.bbm_events.specs.declared.event.Item.{Item}
 use Rattle.bbm_events.specs.declared.event.Item.TheVariants as item
 use Rattle.bbm_events.specs.declared.malformed.Malformed.{Malformed as Cause}
+use Rattle.bbm_events.specs.declared.event.Event.{Event}
+use Rattle.bbm_events.specs.Heading.{Heading}
 use Rattle.bbm_events.specs.Lines.{header_of, item_of}
 use Rattle.bbm_rules.specs.Claims.{Patterns}
 use Rattle.bbm_rules.specs.declared.limits.Limits.{Limits}
-use Rattle.bbm_rules.specs.Outcome.{check_limits, slow_limits, Progress, AtHeader, AtEvents, AtEnd, Text, text_of}
-use Rattle.bbm_rules.specs.Outcome.{read_lines}
+use Rattle.bbm_rules.specs.Outcome.{check_limits, slow_limits, Outcome, outcome_of, Progress, AtHeader, AtEvents}
+use Rattle.bbm_rules.specs.Outcome.{AtEnd, Text, text_of, read_lines}
+use Rattle.bbm_rules.specs.Texts.{verdict_text}
+use Rattle.bbm_report.specs.Further.{Walked, explained, heading_in}
+use Rattle.bbm_report.specs.Questions.{walk_asked}
 use Rattle.bbm_session.specs.declared.command.Command.{Command}
-use Rattle.bbm_session.specs.declared.command.Command.TheVariants.{Check, Slow}
+use Rattle.bbm_session.specs.declared.command.Command.TheVariants.{Check, Slow, Explain, Walk}
 use Rattle.bbm_session.specs.declared.status.Status.{Status}
 use Rattle.bbm_session.specs.declared.status.Status.TheVariants as status
 
@@ -21,17 +26,55 @@ use Rattle.bbm_session.specs.declared.status.Status.TheVariants as status
 abbrev pub command_at : List ℕ → Option Command
 command_at word =
     if bytes_eq word (codes "check") then Some Check
-    else (if bytes_eq word (codes "slow") then Some Slow else None)
+    else (if bytes_eq word (codes "slow") then Some Slow
+    else (if bytes_eq word (codes "explain") then Some Explain else None))
 
--- the command that the words say, None where they say none
+abbrev pub command_alone : List (List ℕ) → Option Command
+command_alone (word ∷ []) = command_at word
+command_alone _ = None
+
+-- the first of two commands
+abbrev pub or_else : Option Command → Option Command → Option Command
+or_else (Some command) other = Some command
+or_else None other = other
+
+-- The command that the words say, None where they say none: a command of one word, or a walk.
 abbrev pub command_of : List (List ℕ) → Option Command
-command_of (word ∷ []) = command_at word
-command_of _ = None
+command_of words = or_else (command_alone words) (option_map Walk (walk_asked words))
 
 -- the limits under which a command judges a log
 abbrev pub limits_of : Command → Limits
 limits_of Check = check_limits
 limits_of Slow = slow_limits
+limits_of Explain = check_limits
+limits_of (Walk question) = check_limits
+
+-- What a command says behind the line of a verdict, after these events of a log with this heading. Nothing is said
+-- where the log has no heading.
+abbrev pub Further : Command → Heading → List Event → Verdict → List ℕ → Type 0
+Further Check heading h verdict further = further ≡ []
+Further Slow heading h verdict further = further ≡ []
+Further Explain heading h verdict further = further ≡ explained heading h verdict
+Further (Walk question) heading h verdict further = Walked heading h question verdict further
+
+abbrev pub FurtherIn : Command → Option Heading → List Event → Verdict → List ℕ → Type 0
+FurtherIn command None h verdict further = further ≡ []
+FurtherIn command (Some heading) h verdict further = Further command heading h verdict further
+
+-- the text of a command: the line of a verdict, and what is said behind it
+abbrev pub Says : Command → Option Heading → List Event → Verdict → List ℕ → Type 0
+Says command heading h verdict text =
+    (further : List ℕ) × (text ≡ verdict_text verdict ++ further) × FurtherIn command heading h verdict further
+
+-- The text of a command for these bytes: their verdict, and what is said of the events before the line that decides.
+abbrev pub IsTextOf : Command → List ℕ → List ℕ → Type 0
+IsTextOf command bytes text =
+    let outcome : Outcome = outcome_of Patterns (limits_of command) bytes in
+    Says command (heading_in (text_of bytes).lines) outcome.log outcome.verdict text
+
+-- the text of a command for a verdict, where it isn't told what was read
+abbrev pub IsSomeText : Command → Verdict → List ℕ → Type 0
+IsSomeText command verdict text = (heading : Option Heading) × (h : List Event) × Says command heading h verdict text
 
 -- the usage line, which names all commands, also those that aren't built yet
 abbrev pub usage_text : List ℕ
@@ -80,7 +123,8 @@ ReadFor (Limit line which) read unread = UpTo line read unread
 -- What is left of these bytes, where all before was read for this verdict.
 abbrev pub ReadTo : List ℕ → Verdict → Option (List ℕ) → Type 0
 ReadTo bytes verdict left =
-    (read : List ℕ) × (unread : List ℕ) × (bytes ≡ read ++ unread) × (left ≡ Some unread) × ReadFor verdict (text_of read) unread
+    (read : List ℕ) × (unread : List ℕ) × (bytes ≡ read ++ unread) × (left ≡ Some unread)
+    × ReadFor verdict (text_of read) unread
 
 -- Reading stopped before a verdict was known: these bytes were read of what was left.
 pub record ReadPart (bytes : List ℕ) (left : Option (List ℕ)) : Type 0 where

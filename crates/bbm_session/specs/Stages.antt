@@ -11,12 +11,16 @@ use Rattle.bbm_events.specs.declared.event.Event.{Event as EventOf}
 use Rattle.bbm_events.specs.declared.event.Item.{Item}
 use Rattle.bbm_events.specs.declared.event.Item.TheVariants as item
 use Rattle.bbm_events.specs.declared.malformed.Malformed.{Malformed as Cause}
+use Rattle.bbm_events.specs.Fits.{fits_heading, is_place}
+use Rattle.bbm_rules.specs.declared.rule.Rule.{Rule}
+use Rattle.bbm_rules.specs.declared.rule.Rule.TheVariants.{BreakBeforeMake}
 use Rattle.bbm_rules.specs.declared.verdict.Verdict.{Verdict}
 use Rattle.bbm_rules.specs.declared.verdict.Verdict.TheVariants.{Accepted, Refused, Limit}
 use Rattle.bbm_rules.specs.Answers.{MayTake}
 use Rattle.bbm_rules.specs.Broken.{Breach}
 use Rattle.bbm_rules.specs.Claims.{Trust, Patterns}
 use Rattle.bbm_rules.specs.declared.limits.Limits.{Limits}
+use Rattle.bbm_rules.specs.Lists.{every}
 use Rattle.bbm_rules.specs.Outcome.{Progress, AtHeader, AtEvents, AtEnd, Step, Decides, GoesOn, Outcome, outcome_from}
 use Rattle.bbm_rules.specs.Outcome.{text_of, bytes_of, read_from}
 use Rattle.bbm_session.specs.Run.{NeedsMemory}
@@ -40,7 +44,8 @@ plain_lines [] = true
 plain_lines (line ∷ lines) = plain line && plain_lines lines
 
 -- Whole lines stand before the rest of some bytes, from one line number on to another, and none of them decides.
-pub record Passed (trust : Trust) (limits : Limits) (from : ℕ) (progress : Progress) (bytes : List ℕ) (to : ℕ) (progress' : Progress) (rest : List ℕ) : Type 0 where
+pub record Passed (trust : Trust) (limits : Limits) (from : ℕ) (progress : Progress) (bytes : List ℕ) (to : ℕ)
+    (progress' : Progress) (rest : List ℕ) : Type 0 where
   pub lines : List (List ℕ)
   pub clean : plain_lines lines ≡ true
   pub is : bytes ≡ bytes_of lines rest
@@ -56,7 +61,8 @@ Continues trust limits number progress (Some bytes) number' progress' (Some rest
 
 -- Some bytes were read up to a call that failed: whole lines, of which none decides, and of the next one at most 200
 -- bytes.
-pub record Broke (trust : Trust) (limits : Limits) (number : ℕ) (progress : Progress) (bytes rest : List ℕ) : Type 0 where
+pub record Broke (trust : Trust) (limits : Limits) (number : ℕ) (progress : Progress) (bytes rest : List ℕ)
+    : Type 0 where
   pub at : ℕ
   pub reached : Progress
   pub piece : List ℕ
@@ -66,7 +72,8 @@ pub record Broke (trust : Trust) (limits : Limits) (number : ℕ) (progress : Pr
 
 -- Some bytes were read up to a line for which there was no memory: whole lines before it, of which none decides, and
 -- that line.
-pub record Starved (trust : Trust) (limits : Limits) (number : ℕ) (progress : Progress) (bytes rest : List ℕ) : Type 0 where
+pub record Starved (trust : Trust) (limits : Limits) (number : ℕ) (progress : Progress) (bytes rest : List ℕ)
+    : Type 0 where
   pub at : ℕ
   pub reached : Progress
   pub line : List ℕ
@@ -86,22 +93,54 @@ Starves trust limits number progress None now = Unit {0}
 Starves trust limits number progress (Some bytes) None = ⊥
 Starves trust limits number progress (Some bytes) (Some rest) = Starved trust limits number progress bytes rest
 
--- The outcome of what was left is this verdict, and what is left now stays unread.
-abbrev pub Concludes : Trust → Limits → ℕ → Progress → Option (List ℕ) → Verdict → Option (List ℕ) → Type 0
-Concludes trust limits number progress None verdict now = Unit {0}
-Concludes trust limits number progress (Some bytes) verdict None = ⊥
-Concludes trust limits number progress (Some bytes) verdict (Some rest) =
-    ((outcome_at trust limits number progress bytes).verdict ≡ verdict) × ((outcome_at trust limits number progress bytes).unread ≡ rest)
+-- The outcome of what was left is this verdict after these events, and what is left now stays unread.
+abbrev pub Concludes : Trust → Limits → ℕ → Progress → Option (List ℕ) → Verdict → List EventOf → Option (List ℕ)
+    → Type 0
+Concludes trust limits number progress None verdict h now = Unit {0}
+Concludes trust limits number progress (Some bytes) verdict h None = ⊥
+Concludes trust limits number progress (Some bytes) verdict h (Some rest) =
+    let outcome : Outcome = outcome_at trust limits number progress bytes in
+    (outcome.verdict ≡ verdict) × (outcome.unread ≡ rest) × (outcome.log ≡ h)
 
--- Why reading stopped, and what was read then. A read fault comes only where the count of faults rose, and where it
--- doesn't come the count stays.
-abbrev pub Stops : Trust → Limits → ℕ → Progress → Option (List ℕ) → Stop → Option (List ℕ) → ℕ → ℕ → Type 0
-Stops trust limits number progress old (Decided verdict) new faults faults' =
-    Concludes trust limits number progress old verdict new × (faults' ≡ faults)
-Stops trust limits number progress old ReadFault new faults faults' =
+-- Why reading stopped, after which events where a verdict is known, and what was read then. A read fault comes only
+-- where the count of faults rose, and where it doesn't come the count stays.
+abbrev pub Stops : Trust → Limits → ℕ → Progress → Option (List ℕ) → Stop → List EventOf → Option (List ℕ) → ℕ → ℕ
+    → Type 0
+Stops trust limits number progress old (Decided verdict) h new faults faults' =
+    Concludes trust limits number progress old verdict h new × (faults' ≡ faults)
+Stops trust limits number progress old ReadFault h new faults faults' =
     Breaks trust limits number progress old new × Rose faults faults'
-Stops trust limits number progress old NoMemory new faults faults' =
+Stops trust limits number progress old NoMemory h new faults faults' =
     Starves trust limits number progress old new × (faults' ≡ faults)
+
+-- whether each event of a history fits its header
+abbrev pub all_fit : Heading → List EventOf → Bool
+all_fit heading h = every (fits_heading heading) h
+
+-- A checker stands for a history whose events fit its header.
+abbrev pub Keeps : (Heading → List EventOf → Type 0) → Heading → List EventOf → Type 0
+Keeps stands heading h = stands heading h × (all_fit heading h ≡ true)
+
+-- break-before-make names a place
+abbrev pub NamesPlace : Rule → ℕ → Type 0
+NamesPlace BreakBeforeMake at = is_place at ≡ true
+NamesPlace _ at = Unit {0}
+
+-- Where a log is accepted, or an event of it refused, the checker stands for the events before the line that decides.
+abbrev pub Knows : (Heading → List EventOf → Type 0) → Heading → List EventOf → Verdict → Type 0
+Knows stands heading h (Accepted events) = Keeps stands heading h
+Knows stands heading h (Refused line rule at label) = Keeps stands heading h × NamesPlace rule at
+Knows stands heading h _ = Unit {0}
+
+abbrev pub KnowsAt : (Heading → List EventOf → Type 0) → Heading → List EventOf → Stop → Type 0
+KnowsAt stands heading h (Decided verdict) = Knows stands heading h verdict
+KnowsAt stands heading h _ = Unit {0}
+
+-- a cause for which nothing is said behind the line of the verdict, if there is one
+abbrev pub IsBrief : Stop → Type 0
+IsBrief (Decided (Accepted events)) = ⊥
+IsBrief (Decided (Refused line rule at label)) = ⊥
+IsBrief _ = Unit {0}
 
 -- The reader of lines can read line number n: each line before took at most 201 bytes.
 abbrev pub Ready : Reading → ℕ → Type 0
@@ -117,7 +156,7 @@ JudgesHeader (Err _) step = ⊥
 abbrev pub Starts : Limits → Result Heading Stop → Option (List ℕ) → Option (List ℕ) → ℕ → ℕ → Type 0
 Starts limits (Ok heading) was now faults faults' =
     Continues Patterns limits 1 AtHeader was 2 (AtEvents heading []) now × (faults' ≡ faults)
-Starts limits (Err stop) was now faults faults' = Stops Patterns limits 1 AtHeader was stop now faults faults'
+Starts limits (Err stop) was now faults faults' = Stops Patterns limits 1 AtHeader was stop [] now faults faults'
 
 -- why reading stops at an event with this label that breaks this rule, or else reaches this limit of a history, or for
 -- which there was no memory
@@ -138,40 +177,47 @@ StandsAt stands heading n = (h : List EventOf) × stands heading h × (n ≡ len
 
 module _ (stands : Heading → List EventOf → Type 0) (limits : Limits) (heading : Heading) where
   -- What line n says, judged after a history, and what the checker stands for then: it took one event, or the end came,
-  -- or reading stopped. There can be no memory only for an event, which is the first fact.
+  -- or reading stopped. There can be no memory only for an event, which is the first fact. No line after the header
+  -- accepts a log.
   abbrev pub JudgesLine : ℕ → List EventOf → Type 0 → Result Turn Stop → Step → Type 0
   JudgesLine n h event (Ok Event) step =
-      (longer : List EventOf) × (step ≡ GoesOn (AtEvents heading longer)) × stands heading longer
+      (longer : List EventOf) × (step ≡ GoesOn (AtEvents heading longer)) × Keeps stands heading longer
       × (length longer ≡ length h + 1) × (n < limits.lines)
-  JudgesLine n h event (Ok End) step = (step ≡ GoesOn (AtEnd h)) × stands heading h
-  JudgesLine n h event (Err (Decided verdict)) step = step ≡ Decides verdict
+  JudgesLine n h event (Ok End) step = (step ≡ GoesOn (AtEnd h)) × Keeps stands heading h
+  JudgesLine n h event (Err (Decided verdict)) step = (step ≡ Decides verdict) × Knows stands heading h verdict
   JudgesLine n h event (Err ReadFault) step = ⊥
   JudgesLine n h event (Err NoMemory) step = event
 
   -- the same of the next line of what is left
   abbrev pub Advances : ℕ → List EventOf → Result Turn Stop → Option (List ℕ) → Option (List ℕ) → ℕ → ℕ → Type 0
   Advances n h (Ok Event) was now faults faults' =
-      (longer : List EventOf) × Continues Patterns limits n (AtEvents heading h) was (n + 1) (AtEvents heading longer) now
-      × stands heading longer × (length longer ≡ length h + 1) × (n < limits.lines) × (faults' ≡ faults)
+      (longer : List EventOf)
+      × Continues Patterns limits n (AtEvents heading h) was (n + 1) (AtEvents heading longer) now
+      × Keeps stands heading longer × (length longer ≡ length h + 1) × (n < limits.lines) × (faults' ≡ faults)
   Advances n h (Ok End) was now faults faults' =
-      Continues Patterns limits n (AtEvents heading h) was (n + 1) (AtEnd h) now × stands heading h × (faults' ≡ faults)
-  Advances n h (Err stop) was now faults faults' = Stops Patterns limits n (AtEvents heading h) was stop now faults faults'
+      Continues Patterns limits n (AtEvents heading h) was (n + 1) (AtEnd h) now × Keeps stands heading h
+      × (faults' ≡ faults)
+  Advances n h (Err stop) was now faults faults' =
+      Stops Patterns limits n (AtEvents heading h) was stop h now faults faults' × KnowsAt stands heading h stop
 
   -- what reading all lines up to the end says, of what was left from line 2 on
   abbrev pub Reaches : Result ℕ Stop → Option (List ℕ) → Option (List ℕ) → ℕ → ℕ → Type 0
   Reaches (Ok n) was now faults faults' =
-      (h : List EventOf) × Continues Patterns limits 2 (AtEvents heading []) was n (AtEnd h) now × stands heading h
-      × (n ≤ limits.lines + 3) × (faults' ≡ faults)
-  Reaches (Err stop) was now faults faults' = Stops Patterns limits 2 (AtEvents heading []) was stop now faults faults'
+      (h : List EventOf) × Continues Patterns limits 2 (AtEvents heading []) was n (AtEnd h) now
+      × Keeps stands heading h × (n ≤ limits.lines + 3) × (faults' ≡ faults)
+  Reaches (Err stop) was now faults faults' =
+      (h : List EventOf) × Stops Patterns limits 2 (AtEvents heading []) was stop h now faults faults'
+      × KnowsAt stands heading h stop
 
--- what reading behind the end says, of any history before it, under any limits
-abbrev pub Closes : Limits → Result (Unit {0}) Stop → ℕ → List EventOf → Option (List ℕ) → Option (List ℕ) → ℕ → ℕ → Type 0
+  -- what reading to the end of the log says
+  abbrev pub Ends : Stop → Option (List ℕ) → Option (List ℕ) → ℕ → ℕ → Type 0
+  Ends stop was now faults faults' =
+      (h : List EventOf) × Stops Patterns limits 2 (AtEvents heading []) was stop h now faults faults'
+      × KnowsAt stands heading h stop
+
+-- What reading behind the end says, of any history before it, under any limits: nothing follows, or why not.
+abbrev pub Closes : Limits → Result (Unit {0}) Stop → ℕ → List EventOf → Option (List ℕ) → Option (List ℕ) → ℕ → ℕ
+    → Type 0
 Closes limits (Ok _) n h was now faults faults' =
-    Concludes Patterns limits n (AtEnd h) was (Accepted (length h)) now × (faults' ≡ faults)
-Closes limits (Err stop) n h was now faults faults' = Stops Patterns limits n (AtEnd h) was stop now faults faults'
-
--- what reading to the end of the log says, from one line on: the number of its events, or why reading stopped
-abbrev pub Ends : Limits → ℕ → Progress → Result ℕ Stop → Option (List ℕ) → Option (List ℕ) → ℕ → ℕ → Type 0
-Ends limits n progress (Ok events) was now faults faults' =
-    Concludes Patterns limits n progress was (Accepted events) now × (faults' ≡ faults)
-Ends limits n progress (Err stop) was now faults faults' = Stops Patterns limits n progress was stop now faults faults'
+    Concludes Patterns limits n (AtEnd h) was (Accepted (length h)) h now × (faults' ≡ faults)
+Closes limits (Err stop) n h was now faults faults' = Stops Patterns limits n (AtEnd h) was stop h now faults faults'

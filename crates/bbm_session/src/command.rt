@@ -2,8 +2,9 @@
 
 ghost use Rattle.std.specs.Prelude.{◌≡◌, map};
 ghost use Rattle.std.specs.String.{string_bytes};
-ghost use Rattle.bbm_session.specs.Run.{command_of, limits_of};
+ghost use Rattle.bbm_session.specs.Run.{command_alone, command_of, limits_of};
 
+use bbm_report::{Question, asked};
 use bbm_rules::Limits;
 
 /// The most events of a log that the oracle judges. Source: project's own choice.
@@ -16,11 +17,16 @@ pub enum Command {
     Check,
     /// The same by a search of the whole history, to 2,000 events.
     Slow,
+    /// The same as `Check`; where break-before-make is broken, behind it a line for each PE, how far the place has come
+    /// there.
+    Explain,
+    /// The same as `Check`; where the log is accepted, behind it the line of a walk over the values at its end.
+    Walk(Question),
 }
 
-/// The command that the words say, None where they say none.
-pub fn said(words: &[String]) -> Option<Command>
-    ensures { result ≡ command_of (map string_bytes words.now) }
+// The command that one word says, None where there is another number of words.
+fn said_alone(words: &[String]) -> Option<Command>
+    ensures { result ≡ command_alone (map string_bytes words.now) }
 {
     if words.len() != 1 {
         None
@@ -28,17 +34,32 @@ pub fn said(words: &[String]) -> Option<Command>
         Some(Command::Check)
     } else if words[0].as_bytes() == b"slow".as_slice() {
         Some(Command::Slow)
+    } else if words[0].as_bytes() == b"explain".as_slice() {
+        Some(Command::Explain)
     } else {
         None
     }
 }
 
-/// The limits under which a command judges a log. As long as the oracle judges for both, they have the same.
-pub fn limits(command: Command) -> Limits
-    ensures { result ≡ limits_of command }
+/// The command that the words say, None where they say none.
+pub fn said(words: &[String]) -> Option<Command>
+    ensures { result ≡ command_of (map string_bytes words.now) }
+{
+    match said_alone(words) {
+        Some(command) => Some(command),
+        None => match asked(words) {
+            Some(question) => Some(Command::Walk(question)),
+            None => None,
+        },
+    }
+}
+
+/// The limits under which a command judges a log. As long as the oracle judges for all, they have the same.
+pub fn limits(command: &Command) -> Limits
+    ensures { result ≡ limits_of command.now }
 {
     match command {
-        Command::Check | Command::Slow => Limits {
+        Command::Check | Command::Slow | Command::Explain | Command::Walk(_) => Limits {
             events: Some(ORACLE_EVENTS),
             lines: u32::MAX,
         },

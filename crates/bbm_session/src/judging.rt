@@ -1,16 +1,18 @@
 //! The lines of a log, judged one after another.
 
-ghost use Rattle.std.specs.Prelude.{◌≡◌, ◌+◌, ◌≤◌, ℕ, suc, List, [], Option, OnOk, IfOk, Err};
+ghost use Rattle.std.specs.Prelude.{◌≡◌, ◌+◌, ◌≤◌, ℕ, suc, List, [], length, Option, OnOk, IfOk, IfErr, Err, true};
 ghost use Rattle.bbm_regimes.specs.declared.regime.Which.{Which as WhichOf};
 ghost use Rattle.bbm_events.specs.declared.event.Event.{Event};
+ghost use Rattle.bbm_events.specs.Fits.{fits_heading, item_fits};
 ghost use Rattle.bbm_events.specs.Heading.{Heading};
 ghost use Rattle.bbm_rules.specs.declared.limits.Limits.{Limits as LimitsOf};
 ghost use Rattle.bbm_rules.specs.Answers.{Answers, MayTake};
 ghost use Rattle.bbm_rules.specs.Broken.{Breach};
 ghost use Rattle.bbm_rules.specs.Claims.{Patterns};
-ghost use Rattle.bbm_rules.specs.Outcome.{is_reached, limit_after, AtHeader, AtEvents, after_header, after_event, after_item};
+ghost use Rattle.bbm_rules.specs.Outcome.{is_reached, limit_after, after_header, after_event, after_item};
 ghost use Rattle.bbm_session.specs.Run.{IsEvent};
-ghost use Rattle.bbm_session.specs.Stages.{Shrinks, Stops, StopsAt, StandsAt, MayJudge, Ready, JudgesHeader, JudgesLine, Starts, Advances, Reaches, Closes, Ends};
+ghost use Rattle.bbm_session.specs.Stages.{Shrinks, StopsAt, StandsAt, MayJudge, Ready, IsBrief, Keeps, JudgesHeader};
+ghost use Rattle.bbm_session.specs.Stages.{JudgesLine, Starts, Advances, Reaches, Closes, Ends};
 
 use crate::line::{Piece, next_piece};
 use crate::stop::{Stop, Turn};
@@ -18,7 +20,7 @@ use bbm_events::{Event, Header, Item, Label, Malformed};
 use bbm_io::{Lines, Source};
 use bbm_log_grammar::{read_event, read_header};
 use bbm_regimes::Which;
-use bbm_rules::{Checker, Fresh, Limits, StepFault, Verdict};
+use bbm_rules::{Checker, Limits, StepFault, Verdict};
 use std::alloc::Global;
 
 // Why reading stops at a malformed line.
@@ -37,7 +39,8 @@ fn limit(line: u64, which: Which) -> Stop
 
 // What line 1 decides, by what was read of it.
 fn judge_header(read: Result<Header, Malformed>) -> Result<Header, Stop>
-    ensures { JudgesHeader result (after_header 1 read) }
+    ensures judges { JudgesHeader result (after_header 1 read) }
+    ensures brief { IfErr result (λ stop. IsBrief stop) }
 {
     match read {
         Ok(header) => Ok(header),
@@ -95,7 +98,8 @@ fn judge_event<C: Checker>(
     label: Option<Label>,
 ) -> Result<Turn, Stop>
     requires { MayTake (C.stands checker.old) event }
-    ensures { (heading : Heading) (h : List Event) → C.stands checker.old heading h
+    ensures { (heading : Heading) (h : List Event) → Keeps (C.stands checker.old) heading h
+        → fits_heading heading event ≡ true
         → JudgesLine (C.stands checker.new) limits heading number h (Unit {0}) result
         (after_event Patterns limits number heading h event label) }
 {
@@ -117,7 +121,8 @@ fn judge_item<C: Checker>(
     read: Result<Item, Malformed>,
 ) -> Result<Turn, Stop>
     requires { MayJudge (C.stands checker.old) read }
-    ensures { (heading : Heading) (h : List Event) → C.stands checker.old heading h
+    ensures { (heading : Heading) (h : List Event) → Keeps (C.stands checker.old) heading h
+        → IfOk read (λ item. item_fits heading item ≡ true)
         → JudgesLine (C.stands checker.new) limits heading number h (IsEvent read) result
         (after_item Patterns limits number heading h read) }
 {
@@ -138,7 +143,9 @@ fn judge_item<C: Checker>(
 pub fn header_line<S: Source>(lines: &mut Lines, log: &mut S) -> Result<Header, Stop>
     requires { Ready lines.old 1 }
     ensures ready { OnOk result (Ready lines.new 2) }
-    ensures starts { (limits : LimitsOf) → Starts limits result (S.left log.old) (S.left log.new) (S.faults log.old) (S.faults log.new) }
+    ensures starts { (limits : LimitsOf) → Starts limits result (S.left log.old) (S.left log.new)
+        (S.faults log.old) (S.faults log.new) }
+    ensures brief { IfErr result (λ stop. IsBrief stop) }
     ensures shrinks { Shrinks (S.left log.old) (S.left log.new) }
 {
     match next_piece(lines, log) {
@@ -163,7 +170,7 @@ fn event_line<C: Checker, S: Source>(
     requires number { number ≤ limits.lines + 2 }
     requires ready { Ready lines.old number }
     ensures ready { OnOk result (Ready lines.new (number + 1)) }
-    ensures advances { (h : List Event) → C.stands checker.old header.now h
+    ensures advances { (h : List Event) → Keeps (C.stands checker.old) header.now h
         → Advances (C.stands checker.new) limits header.now number h result (S.left log.old) (S.left log.new)
         (S.faults log.old) (S.faults log.new) }
     ensures shrinks { Shrinks (S.left log.old) (S.left log.new) }
@@ -214,8 +221,9 @@ pub fn event_lines<C: Checker, S: Source>(
 pub fn nothing_follows<S: Source>(number: u64, lines: &mut Lines, log: &mut S) -> Result<(), Stop>
     requires ready { Ready lines.old number }
     requires number { number ≤ 4294967298 }
-    ensures closes { (limits : LimitsOf) (h : List Event) → Closes limits result number h (S.left log.old) (S.left log.new)
-        (S.faults log.old) (S.faults log.new) }
+    ensures closes { (limits : LimitsOf) (h : List Event) → Closes limits result number h
+        (S.left log.old) (S.left log.new) (S.faults log.old) (S.faults log.new) }
+    ensures brief { IfErr result (λ stop. IsBrief stop) }
     ensures shrinks { Shrinks (S.left log.old) (S.left log.new) }
 {
     match next_piece(lines, log) {
@@ -232,57 +240,38 @@ pub fn nothing_follows<S: Source>(number: u64, lines: &mut Lines, log: &mut S) -
     }
 }
 
-// Reads the log behind its header and judges it; answers the number of its events.
-fn judge_events<C: Checker, S: Source>(
+// What stands behind the lines up to the end decides an accepted log.
+fn judge_end<C: Checker>(checker: &C, behind: Result<(), Stop>) -> Stop
+    ensures accepted { (heading : Heading) (h : List Event) → C.stands checker.now heading h
+        → OnOk behind (result ≡ Stop.Decided (Verdict.Accepted (length h))) }
+    ensures stopped { IfErr behind (λ stop. result ≡ stop) }
+{
+    match behind {
+        Ok(()) => Stop::Decided(Verdict::Accepted {
+            events: checker.events(),
+        }),
+        Err(stop) => stop,
+    }
+}
+
+/// Reads the log behind its header up to the line that decides under these limits, and answers why reading stopped. The
+/// checker has taken the events before that line, and it may have taken the one on it where this reaches a limit.
+pub fn judge_events<C: Checker, S: Source>(
     alloc: Global,
     limits: Limits,
     header: &Header,
     checker: &mut C,
     lines: &mut Lines,
     log: &mut S,
-) -> Result<u64, Stop>
+) -> Stop
     requires fresh { C.stands checker.old header.now [] }
     requires ready { Ready lines.old 2 }
-    ensures ends { Ends limits 2 (AtEvents header.now []) result (S.left log.old) (S.left log.new)
+    ensures ends { Ends (C.stands checker.new) limits header.now result (S.left log.old) (S.left log.new)
         (S.faults log.old) (S.faults log.new) }
     ensures shrinks { Shrinks (S.left log.old) (S.left log.new) }
 {
     match event_lines(alloc, limits, header, checker, lines, log) {
-        Ok(number) => match nothing_follows(number, lines, log) {
-            Ok(()) => Ok(checker.events()),
-            Err(stop) => Err(stop),
-        },
-        Err(stop) => Err(stop),
-    }
-}
-
-// Reads the whole log and judges it; answers the number of its events.
-fn judge_lines<C: Fresh + Drop, S: Source>(
-    alloc: Global,
-    limits: Limits,
-    log: &mut S,
-) -> Result<u64, Stop>
-    ensures ends { Ends limits 1 AtHeader result (S.left log.old) (S.left log.new) (S.faults log.old) (S.faults log.new) }
-    ensures shrinks { Shrinks (S.left log.old) (S.left log.new) }
-{
-    let mut lines = Lines::new();
-    match header_line(&mut lines, log) {
-        Ok(header) => match C::fresh(alloc, &header) {
-            Ok(mut checker) => judge_events(alloc, limits, &header, &mut checker, &mut lines, log),
-            Err(_) => Err(Stop::NoMemory),
-        },
-        Err(stop) => Err(stop),
-    }
-}
-
-/// Reads the log up to the line that decides under these limits, and answers why reading stopped.
-pub fn judge<C: Fresh + Drop, S: Source>(alloc: Global, limits: Limits, log: &mut S) -> Stop
-    ensures stops { Stops Patterns limits 1 AtHeader (S.left log.old) result (S.left log.new)
-        (S.faults log.old) (S.faults log.new) }
-    ensures shrinks { Shrinks (S.left log.old) (S.left log.new) }
-{
-    match judge_lines::<C, S>(alloc, limits, log) {
-        Ok(events) => Stop::Decided(Verdict::Accepted { events }),
+        Ok(number) => judge_end(checker, nothing_follows(number, lines, log)),
         Err(stop) => stop,
     }
 }

@@ -1,4 +1,5 @@
-//! The top call: a log is read from a source and judged, and the verdict is written to a sink.
+//! The top call: a log is read from a source and judged, and the verdict is written to a sink, with what a command says
+//! behind it.
 #![tactic(auto)]
 
 mod command;
@@ -6,7 +7,7 @@ mod judging;
 mod line;
 pub mod status;
 mod stop;
-mod text;
+mod telling;
 mod top;
 mod words;
 

@@ -1,11 +1,15 @@
 //! Whole runs over sources and sinks in memory: the status and the bytes that are written.
 
+mod boot_log;
 mod el2_logs;
 mod other_logs;
+mod told_logs;
 
 use super::*;
+use crate::tests::boot_log::{BOOT_BEGIN, BOOT_REST};
 use crate::tests::el2_logs::EL2;
 use crate::tests::other_logs::{KERNEL, STAGE2, VERSIONED};
+use crate::tests::told_logs::TOLD;
 use bbm_io::{CleanSource, MemSink, MemSource};
 use std::alloc::{AllocError, Global};
 use std::io;
@@ -696,6 +700,35 @@ fn judges_worked_logs_of_later_versions(rt: HostRuntime) -> Result<(), Fail> {
 }
 
 #[test]
+fn tells_more_than_the_verdict(rt: HostRuntime) -> Result<(), Fail> {
+    for row in TOLD {
+        let bytes = log(rt.alloc(), b"", row.1, 1, b"")?;
+        let (status, sink) = judged_by(rt.alloc(), row.0, bytes)?;
+        assert_eq!(rt; sink.bytes(), row.2, "{}", row.0);
+        assert_eq!(rt; status, row.3);
+    }
+    Ok(())
+}
+
+#[test]
+fn judges_the_log_of_a_boot(rt: HostRuntime) -> Result<(), Fail> {
+    let (status, sink) = checked(rt.alloc(), log(rt.alloc(), BOOT_BEGIN, BOOT_REST, 1, b"")?)?;
+    assert_eq!(rt; sink.bytes(), b"accepted 596 events\n".as_slice());
+    assert_eq!(rt; status, 0);
+    // A PE that isn't one of the header, in place of line 128.
+    let (status, sink) = checked(
+        rt.alloc(),
+        log(rt.alloc(), BOOT_BEGIN, b"lock 4 1\n", 1, BOOT_REST)?,
+    )?;
+    assert_eq!(rt;
+        sink.bytes(),
+        b"malformed line 128 cause 5 BadPe\n".as_slice()
+    );
+    assert_eq!(rt; status, 2);
+    Ok(())
+}
+
+#[test]
 fn keeps_the_limits(rt: HostRuntime) -> Result<(), Fail> {
     for row in LONG {
         let bytes = log(rt.alloc(), row.0, row.1, row.2, row.3)?;
@@ -734,6 +767,22 @@ fn tells_the_usage(rt: HostRuntime) -> Result<(), Fail> {
         "Check",
         "chec",
         "checks",
+        "explain explain",
+        "Explain",
+        "walk",
+        "walk el2 0x40000000",
+        "walk el2 0x40000000 0x0 0x0",
+        "Walk el2 0x40000000 0x0",
+        "walk EL2 0x40000000 0x0",
+        "walk el3 0x40000000 0x0",
+        "walk el2 0x40000008 0x0",
+        "walk el2 0x1000000000000 0x0",
+        "walk el2 0x040000000 0x0",
+        "walk el2 40000000 0x0",
+        "walk el2 0x40000000 0",
+        "walk el2 0x40000000 0x00",
+        "walk el2 0x40000000 0xA",
+        "walk el2 0x40000000 0x10000000000000000",
     ] {
         let bytes = log(rt.alloc(), b"", REMAP, 1, b"")?;
         let faults = Faults {
@@ -801,6 +850,64 @@ fn tells_faults_in_mid_stream(rt: HostRuntime) -> Result<(), Fail> {
         let (status, sink) = judged(rt.alloc(), "check", bytes, faults)?;
         assert_eq!(rt; sink.bytes(), row.3);
         assert_eq!(rt; status, row.4);
+    }
+    Ok(())
+}
+
+/// Faults while a log of break-before-make is explained, whose text has a line for the verdict and one for each of two
+/// PEs: the write that fails, the sink's room, what is written, and the status.
+const CUTS: [(u64, usize, &[u8], u8); 6] = [
+    (1, 200, b"", 5),
+    (
+        2,
+        200,
+        b"refused line 6 rule 4 break-before-make at 0x40000008\n",
+        5,
+    ),
+    (
+        3,
+        200,
+        b"refused line 6 rule 4 break-before-make at 0x40000008\npe 0 broken\n",
+        5,
+    ),
+    (
+        0,
+        60,
+        b"refused line 6 rule 4 break-before-make at 0x40000008\npe 0 b",
+        5,
+    ),
+    (
+        0,
+        77,
+        b"refused line 6 rule 4 break-before-make at 0x40000008\npe 0 broken\npe 1 broken",
+        5,
+    ),
+    (
+        4,
+        200,
+        b"refused line 6 rule 4 break-before-make at 0x40000008\npe 0 broken\npe 1 broken\n",
+        1,
+    ),
+];
+
+#[test]
+fn tells_faults_between_lines(rt: HostRuntime) -> Result<(), Fail> {
+    for row in CUTS {
+        let bytes = log(
+            rt.alloc(),
+            CLEARED,
+            b"w 1 0x40000008 0xc0000701\n",
+            1,
+            b"end 5\n",
+        )?;
+        let faults = Faults {
+            read: 0,
+            write: row.0,
+            room: row.1,
+        };
+        let (status, sink) = judged(rt.alloc(), "explain", bytes, faults)?;
+        assert_eq!(rt; sink.bytes(), row.2);
+        assert_eq!(rt; status, row.3);
     }
     Ok(())
 }

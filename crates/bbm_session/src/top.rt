@@ -1,27 +1,30 @@
 //! The top call.
 
-ghost use Rattle.std.specs.Prelude.{◌≡◌, ◌≢◌, ◌≤◌, ◌<◌, ◌⊎◌, ℕ, List, [], Option, Some, None, IsSome, true, length, take, map};
+ghost use Rattle.std.specs.Prelude.{◌≡◌, ◌≢◌, ◌≤◌, ◌<◌, ◌⊎◌, ℕ, List, [], Option, Some, None, IsSome, true, length};
+ghost use Rattle.std.specs.Prelude.{take, map};
 ghost use Rattle.std.specs.String.{string_bytes};
 ghost use Rattle.bbm_io.specs.Faults.{Rose};
 ghost use Rattle.bbm_io.specs.Flow.{preceded, extended};
+ghost use Rattle.bbm_events.specs.declared.event.Event.{Event};
+ghost use Rattle.bbm_events.specs.Heading.{Heading as HeadingOf};
 ghost use Rattle.bbm_rules.specs.declared.verdict.Verdict.{Verdict as VerdictOf};
 ghost use Rattle.bbm_rules.specs.Claims.{Patterns};
 ghost use Rattle.bbm_rules.specs.Outcome.{outcome_of, verdict_of_bytes};
-ghost use Rattle.bbm_rules.specs.Texts.{verdict_text};
 ghost use Rattle.bbm_session.specs.declared.command.Command.{Command as CommandOf};
-ghost use Rattle.bbm_session.specs.Run.{ReadTo, ReadToFault, ReadToWant, command_of, limits_of, status_of, tells_verdict, usage_text};
-ghost use Rattle.bbm_session.specs.Stages.{Shrinks};
-ghost use Rattle.bbm_session.specs.Writing.{Wrote, Part, Checks};
+ghost use Rattle.bbm_session.specs.Run.{IsTextOf, IsSomeText, ReadTo, ReadToFault, ReadToWant, command_of, limits_of};
+ghost use Rattle.bbm_session.specs.Run.{status_of, tells_verdict, usage_text};
+ghost use Rattle.bbm_session.specs.Stages.{KnowsAt, IsBrief, Shrinks};
+ghost use Rattle.bbm_session.specs.Writing.{Wrote, Part, Puts, Reports, Obeys};
 
-use crate::command::{limits, said};
-use crate::judging::judge;
+use crate::command::{Command, limits, said};
+use crate::judging::{header_line, judge_events};
 use crate::status::Status;
 use crate::stop::Stop;
-use crate::text::add_verdict;
-use arrayvec::ArrayVec;
-use bbm_io::{Failed, Sink, Source, put};
+use crate::telling::{tell, tell_all, tell_verdict};
+use bbm_events::Header;
+use bbm_io::{Failed, Lines, Sink, Source};
 use bbm_oracle::Oracle;
-use bbm_rules::{Fresh, Limits, Verdict};
+use bbm_rules::{Checker, Fresh, Verdict};
 use std::alloc::Global;
 
 /// The usage line, which names all commands, also those that aren't built yet.
@@ -43,49 +46,94 @@ fn status(verdict: &Verdict) -> Status
     }
 }
 
-// Writes the text, and answers the wanted status where it was written whole.
-fn say<K: Sink>(text: &[u8], wanted: Status, out: &mut K) -> Status
-    ensures wrote { Wrote wanted text.now result (K.held out.old) (K.held out.new) (K.faults out.old) (K.faults out.new) }
+// The wanted status where a text was written whole.
+fn settled(written: Result<(), Failed>, wanted: Status) -> Status
+    ensures { (text : List ℕ) (old : Option (List ℕ)) (new : Option (List ℕ)) (faults : ℕ) (faults' : ℕ) →
+        Puts text written old new faults faults' → Wrote wanted text result old new faults faults' }
 {
-    match put(out, text) {
+    match written {
         Ok(()) => wanted,
         Err(Failed) => Status::WriteFault,
     }
 }
 
-// Writes the line of a verdict.
-fn answer<K: Sink>(verdict: Verdict, out: &mut K) -> Status
-    ensures wrote { Wrote (status_of verdict) (verdict_text verdict) result (K.held out.old) (K.held out.new) (K.faults out.old) (K.faults out.new) }
+// Writes the usage line.
+fn say_usage<K: Sink>(out: &mut K) -> Status
+    ensures wrote { Wrote Status.Usage usage_text result (K.held out.old) (K.held out.new)
+        (K.faults out.old) (K.faults out.new) }
 {
-    let wanted = status(&verdict);
-    let mut text = ArrayVec::new();
-    add_verdict(&mut text, verdict);
-    say(&text, wanted, out)
+    settled(tell(usage(), out), Status::Usage)
 }
 
-// Judges the log by a new checker, under these limits, and writes the line of the verdict.
-fn check<C: Fresh + Drop, S: Source, K: Sink>(
-    alloc: Global,
-    limits: Limits,
-    log: &mut S,
-    out: &mut K,
-) -> Status
-    ensures checks { Checks limits result (S.left log.old) (S.left log.new) (S.faults log.old) (S.faults log.new)
-        (K.held out.old) (K.held out.new) (K.faults out.old) (K.faults out.new) }
-    ensures shrinks { Shrinks (S.left log.old) (S.left log.new) }
+// Says why reading stopped at the header, where nothing is said behind the line of the verdict.
+fn report_header<K: Sink>(stop: Stop, out: &mut K) -> Status
+    requires { IsBrief stop }
+    ensures { (command : CommandOf) (heading : Option HeadingOf) (h : List Event)
+        → Reports command heading h stop result (K.held out.old) (K.held out.new)
+        (K.faults out.old) (K.faults out.new) }
 {
-    match judge::<C, S>(alloc, limits, log) {
-        Stop::Decided(verdict) => answer(verdict, out),
+    match stop {
+        Stop::Decided(verdict) => settled(tell_verdict(&verdict, out), status(&verdict)),
         Stop::ReadFault => Status::ReadFault,
         Stop::NoMemory => Status::NoMemory,
     }
 }
 
-/// Does what the words after the program's name ask for: with the one word `check`, or `slow`, it judges the log
-/// under the limits of that command and writes the line of its verdict; any other words are answered with the
-/// usage line. Nothing else is written. `log` is read byte by byte up to the line that decides, and an accepted log to its end.
-/// Where the source tells what it has left and the sink what it holds, the clauses say which bytes are
-/// read and written. Source: project's own choice.
+// Says why reading stopped behind the header.
+fn report<C: Checker, K: Sink>(
+    command: &Command,
+    header: &Header,
+    checker: &C,
+    stop: Stop,
+    out: &mut K,
+) -> Status
+    requires { (h : List Event) × KnowsAt (C.stands checker.now) header.now h stop }
+    ensures { (h : List Event) → KnowsAt (C.stands checker.now) header.now h stop
+        → Reports command.now (Some header.now) h stop result (K.held out.old) (K.held out.new)
+        (K.faults out.old) (K.faults out.new) }
+{
+    match stop {
+        Stop::Decided(verdict) => settled(
+            tell_all(command, header, checker, &verdict, out),
+            status(&verdict),
+        ),
+        Stop::ReadFault => Status::ReadFault,
+        Stop::NoMemory => Status::NoMemory,
+    }
+}
+
+// Judges the log by a new checker, under the limits of the command, and writes its text.
+fn obey<C: Fresh + Drop, S: Source, K: Sink>(
+    alloc: Global,
+    command: &Command,
+    log: &mut S,
+    out: &mut K,
+) -> Status
+    ensures obeys { Obeys command.now result (S.left log.old) (S.left log.new) (S.faults log.old) (S.faults log.new)
+        (K.held out.old) (K.held out.new) (K.faults out.old) (K.faults out.new) }
+    ensures shrinks { Shrinks (S.left log.old) (S.left log.new) }
+{
+    let mut lines = Lines::new();
+    match header_line(&mut lines, log) {
+        Ok(header) => match C::fresh(alloc, &header) {
+            Ok(mut checker) => {
+                let limits = limits(command);
+                let stop = judge_events(alloc, limits, &header, &mut checker, &mut lines, log);
+                report(command, &header, &checker, stop, out)
+            }
+            Err(_) => Status::NoMemory,
+        },
+        Err(stop) => report_header(stop, out),
+    }
+}
+
+/// Does what the words after the program's name ask for. With `check`, `slow`, `explain` or `walk KIND ROOT ADDR` it
+/// judges the log under the limits of that command and writes the line of its verdict. Behind it `explain` writes a
+/// line for each PE where break-before-make is broken, how far the place has come there; and `walk` writes where an
+/// accepted log maps the address ADDR at its end, by the tables of the root of KIND whose first page is ROOT. Any other
+/// words are answered with the usage line. Nothing else is written. `log` is read up to the line that decides, and an
+/// accepted log to its end. Where the source tells what it has left and the sink what it holds, the clauses say which
+/// bytes are read and written. Source: project's own choice.
 pub fn run<S: Source, K: Sink>(
     alloc: Global,
     words: &Vec<String>,
@@ -100,16 +148,17 @@ pub fn run<S: Source, K: Sink>(
     ensures usage_reads_nothing { command_of (map string_bytes words.now.items) ≡ None
         → S.left log.new ≡ S.left log.old }
 
-    // A verdict: the status is that of the verdict of the bytes that were left, its whole text and
+    // A verdict: the status is that of the verdict of the bytes that were left, the whole text of the command and
     // nothing else is written, and the bytes that it doesn't need stay unread, also where the write fails.
     ensures status { (command : CommandOf) → command_of (map string_bytes words.now.items) ≡ Some command
         → (bytes : List ℕ) → S.left log.old ≡ Some bytes → tells_verdict result ≡ true
         → result ≡ status_of (verdict_of_bytes Patterns (limits_of command) bytes) }
     ensures text { (command : CommandOf) → command_of (map string_bytes words.now.items) ≡ Some command
         → (bytes : List ℕ) → S.left log.old ≡ Some bytes → tells_verdict result ≡ true
-        → K.held out.new ≡ extended (K.held out.old) (verdict_text (verdict_of_bytes Patterns (limits_of command) bytes)) }
-    ensures some_verdict { tells_verdict result ≡ true → (verdict : VerdictOf) × (result ≡ status_of verdict)
-        × (K.held out.new ≡ extended (K.held out.old) (verdict_text verdict)) }
+        → (text : List ℕ) × IsTextOf command bytes text × (K.held out.new ≡ extended (K.held out.old) text) }
+    ensures some_verdict { (command : CommandOf) → command_of (map string_bytes words.now.items) ≡ Some command
+        → tells_verdict result ≡ true → (verdict : VerdictOf) × (result ≡ status_of verdict)
+        × (text : List ℕ) × IsSomeText command verdict text × (K.held out.new ≡ extended (K.held out.old) text) }
     ensures unread { (command : CommandOf) → command_of (map string_bytes words.now.items) ≡ Some command
         → (bytes : List ℕ) → S.left log.old ≡ Some bytes → tells_verdict result ≡ true
         → S.left log.new ≡ Some (outcome_of Patterns (limits_of command) bytes).unread }
@@ -131,9 +180,10 @@ pub fn run<S: Source, K: Sink>(
         → Part usage_text (K.held out.old) (K.held out.new) }
     ensures part_of_text { (command : CommandOf) → command_of (map string_bytes words.now.items) ≡ Some command
         → (bytes : List ℕ) → S.left log.old ≡ Some bytes → result ≡ Status.WriteFault
-        → Part (verdict_text (verdict_of_bytes Patterns (limits_of command) bytes)) (K.held out.old) (K.held out.new) }
-    ensures part_of_some { result ≡ Status.WriteFault → IsSome (command_of (map string_bytes words.now.items))
-        → (verdict : VerdictOf) × Part (verdict_text verdict) (K.held out.old) (K.held out.new) }
+        → (text : List ℕ) × IsTextOf command bytes text × Part text (K.held out.old) (K.held out.new) }
+    ensures part_of_some { (command : CommandOf) → command_of (map string_bytes words.now.items) ≡ Some command
+        → result ≡ Status.WriteFault → (verdict : VerdictOf) × (text : List ℕ)
+        × IsSomeText command verdict text × Part text (K.held out.old) (K.held out.new) }
     ensures unwritten { (result ≡ Status.ReadFault) ⊎ (result ≡ Status.NoMemory)
         → K.held out.new ≡ K.held out.old }
 
@@ -155,7 +205,7 @@ pub fn run<S: Source, K: Sink>(
         → (tells_verdict result ≡ true) ⊎ (result ≡ Status.NoMemory) }
 {
     match said(words) {
-        Some(command) => check::<Oracle, S, K>(alloc, limits(command), log, out),
-        None => say(usage(), Status::Usage, out),
+        Some(command) => obey::<Oracle, S, K>(alloc, &command, log, out),
+        None => say_usage(out),
     }
 }

@@ -1,15 +1,16 @@
 //! From the words that were gathered, or not, to the status with which the program ends.
 
-ghost use Rattle.std.specs.Prelude.{◌≡◌, ◌≢◌, ◌⊎◌, ◌<◌, ℕ, List, [], true, map, IfOk, IfErr, OnErr, Option, Some, None, IsSome};
+ghost use Rattle.std.specs.Prelude.{◌≡◌, ◌≢◌, ◌⊎◌, ◌<◌, ℕ, List, [], true, map, IfOk, IfErr, OnErr, Option, Some};
+ghost use Rattle.std.specs.Prelude.{None, IsSome};
 ghost use Rattle.std.specs.IoError.{error_kind};
 ghost use Rattle.std.specs.String.{string_bytes};
 ghost use Rattle.bbm_io.specs.Faults.{Rose};
 ghost use Rattle.bbm_io.specs.Flow.{extended};
 ghost use Rattle.bbm_rules.specs.Claims.{Patterns};
 ghost use Rattle.bbm_rules.specs.Outcome.{outcome_of, verdict_of_bytes};
-ghost use Rattle.bbm_rules.specs.Texts.{verdict_text};
 ghost use Rattle.bbm_session.specs.declared.command.Command.{Command as CommandOf};
-ghost use Rattle.bbm_session.specs.Run.{ReadToWant, command_of, limits_of, status_of, tells_verdict, usage_text};
+ghost use Rattle.bbm_session.specs.Run.{IsTextOf, ReadToWant, command_of, limits_of, status_of, tells_verdict};
+ghost use Rattle.bbm_session.specs.Run.{usage_text};
 
 use crate::status::Status;
 use crate::top::run;
@@ -41,9 +42,10 @@ pub fn run_words<S: Source, K: Sink>(
         → result ≡ status_of (verdict_of_bytes Patterns (limits_of command) bytes)) }
     ensures text { IfOk words (λ all. (command : CommandOf) → command_of (map string_bytes all.items) ≡ Some command
         → (bytes : List ℕ) → S.left log.old ≡ Some bytes → tells_verdict result ≡ true
-        → K.held out.new ≡ extended (K.held out.old) (verdict_text (verdict_of_bytes Patterns (limits_of command) bytes))) }
-    ensures verdict_unread { IfOk words (λ all. (command : CommandOf) → command_of (map string_bytes all.items) ≡ Some command
-        → (bytes : List ℕ) → S.left log.old ≡ Some bytes → tells_verdict result ≡ true
+        → (text : List ℕ) × IsTextOf command bytes text × (K.held out.new ≡ extended (K.held out.old) text)) }
+    ensures verdict_unread { IfOk words (λ all. (command : CommandOf)
+        → command_of (map string_bytes all.items) ≡ Some command → (bytes : List ℕ)
+        → S.left log.old ≡ Some bytes → tells_verdict result ≡ true
         → S.left log.new ≡ Some (outcome_of Patterns (limits_of command) bytes).unread) }
     ensures unwritten { (result ≡ Status.ReadFault) ⊎ (result ≡ Status.NoMemory)
         → K.held out.new ≡ K.held out.old }
@@ -54,8 +56,9 @@ pub fn run_words<S: Source, K: Sink>(
     ensures complete { IfOk words (λ all. IsSome (command_of (map string_bytes all.items))
         → ¬ (Rose (S.faults log.old) (S.faults log.new)) → ¬ (Rose (K.faults out.old) (K.faults out.new))
         → (tells_verdict result ≡ true) ⊎ (result ≡ Status.NoMemory)) }
-    ensures read_to_want { IfOk words (λ all. (command : CommandOf) → command_of (map string_bytes all.items) ≡ Some command
-        → (bytes : List ℕ) → S.left log.old ≡ Some bytes → result ≡ Status.NoMemory → ReadToWant (limits_of command) bytes (S.left log.new)) }
+    ensures read_to_want { IfOk words (λ all. (command : CommandOf)
+        → command_of (map string_bytes all.items) ≡ Some command → (bytes : List ℕ)
+        → S.left log.old ≡ Some bytes → result ≡ Status.NoMemory → ReadToWant (limits_of command) bytes (S.left log.new)) }
 {
     match words {
         Ok(all) => run(alloc, &all, log, out),

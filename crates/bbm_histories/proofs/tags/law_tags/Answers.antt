@@ -1,4 +1,4 @@
-use Rattle.bbm_histories.proofs.TagLemmas.{becomes, between, holder_is_root, one_root, stops}
+use Rattle.bbm_histories.proofs.TagLemmas.{becomes, between, holder_is_root, one_root, stops, taken_begins}
 use Rattle.bbm_histories.proofs.tags.law_tags.Goals as goal
 
 pub returns-clause-becomes : goal.returns-clause-becomes
@@ -15,3 +15,6 @@ returns-clause-root c heading trust h proper kept = holder_is_root heading trust
 
 pub returns-clause-between : goal.returns-clause-between
 returns-clause-between c heading trust = between heading trust (c.below.ensures heading trust)
+
+pub returns-clause-taken_begins : goal.returns-clause-taken_begins
+returns-clause-taken_begins c heading trust = taken_begins heading trust (c.below.ensures heading trust)

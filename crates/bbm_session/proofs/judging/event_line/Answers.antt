@@ -21,19 +21,19 @@ returns-in-Line-clause-advances g c = λ h stands.
     let line = c.next_piece.new.lines.bytes in
     let read : c.read_event.result ≡ item_of header line = c.read_event.ensures.item ∙ ap (item_of header) c.bytes.ensures.bytes in
     let after = g.C.Checker.stands c.judge_item.new.checker in
-    let judged = subst (λ r. JudgesLine after limits header n h (IsEvent r) c.judge_item.result (after_item Patterns limits n header h r)) read (c.judge_item.ensures header h stands) in
+    let judged = subst (λ r. JudgesLine after limits header n h (IsEvent r) c.judge_item.result (after_item Patterns limits n header h r)) read (c.judge_item.ensures header h stands c.read_event.ensures.fits) in
     line-advances after limits header n h c.judge_item.result line _ _ _ _ c.in-Line.ensures.plain c.in-Line.ensures.within c.in-Line.ensures.takes judged c.in-Line.ensures.counted
 
 pub returns-in-Rest-clause-advances : goal.returns-in-Rest-clause-advances
 returns-in-Rest-clause-advances g c = λ h stands.
     let n = c.args.number in
-    rw c.malformed.ensures (rest-stops c.args.limits n (AtEvents c.args.header.now h) (Malformed n NoEnd) c.next_piece.new.lines.bytes _ _ _ _ refl c.in-Rest.ensures.plain c.in-Rest.ensures.within c.in-Rest.ensures.takes c.in-Rest.ensures.counted)
+    rw c.malformed.ensures (rest-stops c.args.limits n (AtEvents c.args.header.now h) (Malformed n NoEnd) c.next_piece.new.lines.bytes _ _ _ _ refl c.in-Rest.ensures.plain c.in-Rest.ensures.within c.in-Rest.ensures.takes c.in-Rest.ensures.counted, tt)
 
 pub returns-in-TooLong-clause-advances : goal.returns-in-TooLong-clause-advances
 returns-in-TooLong-clause-advances g c = λ h stands.
     let n = c.args.number in
-    rw c.limit.ensures (long-stops c.args.limits n (AtEvents c.args.header.now h) (Limit n LineBytes) c.next_piece.new.lines.bytes _ _ _ _ refl c.in-TooLong.ensures.plain c.in-TooLong.ensures.takes c.in-TooLong.ensures.counted)
+    rw c.limit.ensures (long-stops c.args.limits n (AtEvents c.args.header.now h) (Limit n LineBytes) c.next_piece.new.lines.bytes _ _ _ _ refl c.in-TooLong.ensures.plain c.in-TooLong.ensures.takes c.in-TooLong.ensures.counted, tt)
 
 pub returns-in-ReadFault-clause-advances : goal.returns-in-ReadFault-clause-advances
 returns-in-ReadFault-clause-advances g c = λ h stands.
-    fault-stops c.args.limits c.args.number (AtEvents c.args.header.now h) c.next_piece.new.lines.bytes _ _ _ _ c.in-ReadFault.ensures.plain c.in-ReadFault.ensures.within c.in-ReadFault.ensures.takes c.in-ReadFault.ensures.counted
+    (fault-stops c.args.limits c.args.number (AtEvents c.args.header.now h) h c.next_piece.new.lines.bytes _ _ _ _ c.in-ReadFault.ensures.plain c.in-ReadFault.ensures.within c.in-ReadFault.ensures.takes c.in-ReadFault.ensures.counted, tt)

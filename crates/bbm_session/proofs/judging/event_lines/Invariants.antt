@@ -2,13 +2,13 @@ use Rattle.std.proofs.Common.{◌≡◌, ◌≤◌, ◌+◌, ◌-◌, List, [], 
 use Rattle.bbm_events.specs.declared.event.Event.{Event as EventOf}
 use Rattle.bbm_rules.specs.Claims.{Patterns}
 use Rattle.bbm_rules.specs.Outcome.{AtEvents}
-use Rattle.bbm_session.specs.Stages.{Shrinks, Continues, Ready}
+use Rattle.bbm_session.specs.Stages.{Shrinks, Keeps, Continues, Ready}
 use Rattle.bbm_session.proofs.judging.event_lines.Given as goal
 
 abbrev pub invariant-lines : goal.invariant-lines
 invariant-lines g l = record {
   h : List EventOf;
-  stands : g.C.Checker.stands l.checker l.header h;
+  keeps : Keeps (g.C.Checker.stands l.checker) l.header h;
   number : l.number ≡ length h + 2;
   within : l.number ≤ l.limits.lines + 2;
   ready : Ready l.lines l.number;

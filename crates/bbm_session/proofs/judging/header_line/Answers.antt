@@ -1,4 +1,4 @@
-use Rattle.std.proofs.Common.{◌≡◌, refl, ap, ◌∙◌, subst}
+use Rattle.std.proofs.Common.{◌≡◌, [], refl, ap, ◌∙◌, subst}
 use Rattle.bbm_regimes.specs.declared.regime.Which.TheVariants.{LineBytes}
 use Rattle.bbm_events.specs.declared.malformed.Malformed.TheVariants.{NoEnd}
 use Rattle.bbm_events.specs.Lines.{header_of}
@@ -12,7 +12,7 @@ pub returns-in-Line-clause-starts : goal.returns-in-Line-clause-starts
 returns-in-Line-clause-starts g c = λ limits.
     let line = c.next_piece.new.lines.bytes in
     let read : c.read_header.result ≡ header_of line = c.read_header.ensures.header ∙ ap header_of c.bytes.ensures.bytes in
-    let judged = subst (λ r. JudgesHeader c.judge_header.result (after_header 1 r)) read c.judge_header.ensures in
+    let judged = subst (λ r. JudgesHeader c.judge_header.result (after_header 1 r)) read c.judge_header.ensures.judges in
     header-starts limits c.judge_header.result line _ _ _ _ c.in-Line.ensures.plain c.in-Line.ensures.within c.in-Line.ensures.takes judged c.in-Line.ensures.counted
 
 pub returns-in-Rest-clause-starts : goal.returns-in-Rest-clause-starts
@@ -25,4 +25,4 @@ returns-in-TooLong-clause-starts g c = λ limits.
 
 pub returns-in-ReadFault-clause-starts : goal.returns-in-ReadFault-clause-starts
 returns-in-ReadFault-clause-starts g c = λ limits.
-    fault-stops limits 1 AtHeader c.next_piece.new.lines.bytes _ _ _ _ c.in-ReadFault.ensures.plain c.in-ReadFault.ensures.within c.in-ReadFault.ensures.takes c.in-ReadFault.ensures.counted
+    fault-stops limits 1 AtHeader [] c.next_piece.new.lines.bytes _ _ _ _ c.in-ReadFault.ensures.plain c.in-ReadFault.ensures.within c.in-ReadFault.ensures.takes c.in-ReadFault.ensures.counted

@@ -32,4 +32,4 @@ returns-in-TooLong-clause-closes g c = λ limits h.
 
 pub returns-in-ReadFault-clause-closes : goal.returns-in-ReadFault-clause-closes
 returns-in-ReadFault-clause-closes g c = λ limits h.
-    fault-stops limits c.args.number (AtEnd h) c.next_piece.new.lines.bytes _ _ _ _ c.in-ReadFault.ensures.plain c.in-ReadFault.ensures.within c.in-ReadFault.ensures.takes c.in-ReadFault.ensures.counted
+    fault-stops limits c.args.number (AtEnd h) h c.next_piece.new.lines.bytes _ _ _ _ c.in-ReadFault.ensures.plain c.in-ReadFault.ensures.within c.in-ReadFault.ensures.takes c.in-ReadFault.ensures.counted
