@@ -83,8 +83,8 @@ pub fn law_safe()
     known();
 }
 
-/// Where the verdict on bytes is that they are accepted, their first line is a header, and the log of all their events is
-/// safe under it. The law is the contract.
+/// Where the verdict on bytes is that they are accepted, their first line is a header, and the log of all their events
+/// is safe under it. The law is the contract.
 pub fn law_accepted_is_safe()
     ensures { (trust : Trust) (limits : Limits) (bytes : List ℕ) (count : ℕ) →
         verdict_of_bytes trust limits bytes ≡ Accepted count → SafeBytes trust limits bytes }
