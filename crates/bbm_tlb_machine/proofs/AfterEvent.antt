@@ -1,7 +1,7 @@
 -- What one more event does to the last valid write of a place and to the patterns after it.
 use Rattle.std.proofs.Common.{◌≡◌, ℕ, ◌⊎◌, ◌&&◌, Bool, true, false, cond, ◌==◌, List, [], ◌∷◌, ◌++◌, Some, None, sym, ◌∙◌, ap, subst, inl, inr}
-use Rattle.std.proofs.lemmas.List.{append_assoc}
 use Rattle.bbm_descriptor.specs.Descriptor.{is_valid}
+use Rattle.bbm_rules.specs.Claims.{Trust}
 use Rattle.bbm_rules.specs.Held.{ValidWrite, last_valid, last_valid_after, later}
 use Rattle.bbm_rules.specs.Notes.{Noted, event_of}
 use Rattle.bbm_rules.specs.PatternSentences.{Answer, HalfBy, Publication}
@@ -9,6 +9,7 @@ use Rattle.bbm_rules.specs.Places.{page_of}
 use Rattle.bbm_rules.specs.Prelude.{Barrier, Heading, Kind, Event, Init, Write, Dsb}
 use Rattle.bbm_rules.specs.Reach.{Issued, completes}
 use Rattle.bbm_rules.specs.Sentences.{Open}
+use Rattle.bbm_tlb_machine.specs.Known.{Known}
 use Rattle.bbm_tlb_machine.proofs.ListWords.{bind_some}
 
 -- ---- the last valid write
@@ -73,40 +74,27 @@ no_publication heading place p b k = by k.newer k.split
     by [] s = cc
     by (y ∷ newer) s = cc
 
-later_split : {X : Type 0} (newer xs before after : List X) (x : X) → xs ≡ before ++ x ∷ after
-    → newer ++ xs ≡ (newer ++ before) ++ x ∷ after
-later_split newer xs before after x e = ap (λ ys. newer ++ ys) e ∙ sym (append_assoc newer before (x ∷ after))
+module _ (heading : Heading) (trust : Trust) (k : Known heading trust) (place p : ℕ) where
+  -- what is published before a TLBI is published after it, and after its answer
+  pub publication_before : (q : ℕ) (since : List Noted) (t : Issued Noted) (b : Noted) → Open event_of q since t
+      → Publication heading place p t.before b → Publication heading place p since b
+  publication_before q since t b o published =
+      subst (λ (xs : List Noted). Publication heading place p xs b) (sym o.split)
+      (k.publication_stays place p o.newer (t.tlbi ∷ t.before) b (k.publication_stays place p (t.tlbi ∷ []) t.before b published))
 
-pub publication_stays : (heading : Heading) (place p : ℕ) (newer since : List Noted) (b : Noted)
-    → Publication heading place p since b → Publication heading place p (newer ++ since) b
-publication_stays heading place p newer since b k = record {
-  q = k.q;
-  dsb = k.dsb;
-  value = k.value;
-  write = k.write;
-  newer = newer ++ k.newer;
-  between = k.between;
-  older = k.older;
-  split = later_split newer since k.newer (k.between ++ k.write ∷ k.older) b k.split;
-  wrote = k.wrote;
-  barrier = k.barrier;
-  publishes = k.publishes;
-}
+  pub publication_answered : (since : List Noted) (t : Issued Noted) (d b : Noted) → Answer since t d
+      → Publication heading place p t.before b → Publication heading place p since b
+  publication_answered since t d b a published =
+      subst (λ (xs : List Noted). Publication heading place p xs b) (sym a.split)
+      (k.publication_stays place p a.newer (d ∷ a.older) b
+      (k.publication_stays place p (d ∷ []) a.older b (publication_before a.q a.older t b a.is_open published)))
 
--- what is published before a TLBI is published after it
-pub publication_before : (heading : Heading) (place p q : ℕ) (since : List Noted) (t : Issued Noted) (b : Noted)
-    → Open event_of q since t → Publication heading place p t.before b → Publication heading place p since b
-publication_before heading place p q since t b o k =
-    subst (λ (xs : List Noted). Publication heading place p xs b) (sym o.split)
-    (publication_stays heading place p o.newer (t.tlbi ∷ t.before) b
-    (publication_stays heading place p (t.tlbi ∷ []) t.before b k))
-
-pub publication_answered : (heading : Heading) (place p : ℕ) (since : List Noted) (t : Issued Noted) (d b : Noted)
-    → Answer since t d → Publication heading place p t.before b → Publication heading place p since b
-publication_answered heading place p since t d b a k =
-    subst (λ (xs : List Noted). Publication heading place p xs b) (sym a.split)
-    (publication_stays heading place p a.newer (d ∷ a.older) b
-    (publication_stays heading place p (d ∷ []) a.older b (publication_before heading place p a.q a.older t b a.is_open k)))
+  -- what is half before a TLBI is half after it
+  pub half_before : (q : ℕ) (since : List Noted) (t2 : Issued Noted) (b : Noted) (t : Issued Noted) (d : Noted)
+      → Open event_of q since t2 → HalfBy heading place p t2.before b t d → HalfBy heading place p since b t d
+  half_before q since t2 b t d o half =
+      subst (λ (xs : List Noted). HalfBy heading place p xs b t d) (sym o.split)
+      (k.half_stays place p o.newer (t2.tlbi ∷ t2.before) b t d (k.half_stays place p (t2.tlbi ∷ []) t2.before b t d half))
 
 -- ---- answers
 
@@ -154,28 +142,3 @@ no_answer t d k = by k.newer k.split
     by : (newer : List Noted) → [] ≡ newer ++ d ∷ k.older → ⊥
     by [] s = cc
     by (y ∷ newer) s = cc
-
--- a TLBI that is half covered and answered before another is answered stays so
-pub answer_stays : (newer since : List Noted) (t : Issued Noted) (d : Noted) → Answer since t d → Answer (newer ++ since) t d
-answer_stays newer since t d k = record {
-  q = k.q;
-  dsb = k.dsb;
-  newer = newer ++ k.newer;
-  older = k.older;
-  split = later_split newer since k.newer k.older d k.split;
-  barrier = k.barrier;
-  is_open = k.is_open;
-  completed = k.completed;
-}
-
-pub half_before : (heading : Heading) (place p q : ℕ) (since : List Noted) (t2 : Issued Noted) (b : Noted) (t : Issued Noted) (d : Noted)
-    → Open event_of q since t2 → HalfBy heading place p t2.before b t d → HalfBy heading place p since b t d
-half_before heading place p q since t2 b t d o k = record {
-  flush = record {
-    answer = subst (λ (xs : List Noted). Answer xs t d) (sym o.split)
-        (answer_stays o.newer (t2.tlbi ∷ t2.before) t d (answer_stays (t2.tlbi ∷ []) t2.before t d k.flush.answer));
-    reached = k.flush.reached;
-    covered = k.flush.covered;
-  };
-  published = k.published;
-}

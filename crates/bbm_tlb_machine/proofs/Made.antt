@@ -24,7 +24,8 @@ use Rattle.bbm_rules.specs.Tree.{Node, next_of}
 use Rattle.bbm_rules.specs.Values.{is_readable}
 use Rattle.bbm_histories.specs.Values.{Window}
 use Rattle.bbm_tlb_machine.specs.Entry.{Entry, Part, head_of, parts_of, tag_of_entry}
-use Rattle.bbm_tlb_machine.specs.Invariant.{Fine, Holding, IsAt, IsBelow, IsLog, IsNear, Placed, Tagged, start_nodes}
+use Rattle.bbm_tlb_machine.specs.Invariant.{Fine, Holding, IsAt, IsBelow, IsNear, Placed, Tagged, start_nodes}
+use Rattle.bbm_tlb_machine.specs.Safe.{IsLog}
 use Rattle.bbm_tlb_machine.specs.Known.{Known}
 use Rattle.bbm_tlb_machine.specs.Step.{Extends, Starts, combined, entry_kind, extended, first_part, is_stage2, may_share, next_part, root_of, shared, started}
 use Rattle.bbm_tlb_machine.proofs.AfterEvent.{publication_answered}
@@ -116,16 +117,16 @@ module _ (heading : Heading) (trust : Trust) (k : Known heading trust) (h : List
       → last_valid part.kind part.level part.place (noted heading trust h) ≡ Some w → (p : ℕ) → IsNear heading x p
       → Cleansed heading trust part.place p w.since → ⊥
   new_uncleansed x part new w last p near (inl one) =
-      new.unseen w last p near one.b (publication_answered heading part.place p w.since one.t one.d one.b one.flush.answer one.published)
+      new.unseen w last p near one.b (publication_answered heading trust k part.place p w.since one.t one.d one.b one.flush.answer one.published)
   new_uncleansed x part new w last p near (inr two) =
-      new.unseen w last p near two.b (publication_answered heading part.place p w.since two.t2 two.d2 two.b two.second.answer
-      (publication_answered heading part.place p two.t2.before two.t1 two.d1 two.b two.first.flush.answer two.first.published))
+      new.unseen w last p near two.b (publication_answered heading trust k part.place p w.since two.t2 two.d2 two.b two.second.answer
+      (publication_answered heading trust k part.place p two.t2.before two.t1 two.d1 two.b two.first.flush.answer two.first.published))
 
   new_half : (x : Entry) (part : Part) → IsNew x part → (w : ValidWrite)
       → last_valid part.kind part.level part.place (noted heading trust h) ≡ Some w → (p : ℕ) → IsNear heading x p
       → (b : Noted) (t : Issued Noted) (d : Noted) → HalfBy heading part.place p w.since b t d → ⊥
   new_half x part new w last p near b t d half =
-      new.unseen w last p near b (publication_answered heading part.place p w.since t d b half.flush.answer half.published)
+      new.unseen w last p near b (publication_answered heading trust k part.place p w.since t d b half.flush.answer half.published)
 
   -- what is held under a tag is held under an equal one
   held_as : (x : Entry) (t : Tagged heading trust h x) (tag : Tag) → tag_of_entry x ≡ tag

@@ -175,7 +175,7 @@ module _ (heading : Heading) (trust : Trust) (k : Known heading trust) (h : List
     covers : (cover : Cover) → (cover ≡ NoCover → ⊥) → t.tlbi.covers part.place ≡ cover → Covering heading h x a.q t cover
     covers cover some c =
         covering heading trust k h kept x f part i v last p a.q near t a.is_open b published
-        (f.made_before part i v last p near b (publication_before heading part.place p a.q v.since t b a.is_open published))
+        (f.made_before part i v last p near b (publication_before heading trust k part.place p a.q v.since t b a.is_open published))
         cover some c
 
     stays : (cover : Cover) (c : Covering heading h x a.q t cover) (age : ℕ)
@@ -270,7 +270,7 @@ module _ (heading : Heading) (trust : Trust) (k : Known heading trust) (h : List
     where
       published_then : Publication heading part.place p two.t2.before two.b
       published_then =
-          publication_answered heading part.place p two.t2.before two.t1 two.d1 two.b two.first.flush.answer two.first.published
+          publication_answered heading trust k part.place p two.t2.before two.t1 two.d1 two.b two.first.flush.answer two.first.published
 
       by : LastBefore part.kind part.level part.place (note heading trust (noted heading trust h) e) (noted heading trust h) w → ⊥
       by (inl s) = no_answer two.t2 two.d2 (subst (λ (xs : List Noted). Answer xs two.t2 two.d2) s two.second.answer)
@@ -278,7 +278,7 @@ module _ (heading : Heading) (trust : Trust) (k : Known heading trust) (h : List
           elim (answer_after now v.0.since two.t2 two.d2 (subst (λ (xs : List Noted). Answer xs two.t2 two.d2) v.2 two.second.answer)) [
             | inl a ↦
                 let joined = f.joined_before part i v.0 v.1 p near two.b two.t1 two.d1
-                (half_before heading part.place p a.q v.0.since two.t2 two.b two.t1 two.d1 a.is_open two.first) in
+                (half_before heading trust k part.place p a.q v.0.since two.t2 two.b two.t1 two.d1 a.is_open two.first) in
                 second_goes part i v.0 v.1 p near two.t2 two.d2 a two.b published_then two.second.reached two.second.covered joined.0
                 two.first.flush.answer.newer two.first.flush.answer.older two.d1 two.first.flush.answer.split joined.1
             | inr old ↦ f.uncleansed part i v.0 v.1 p near (inr (record {

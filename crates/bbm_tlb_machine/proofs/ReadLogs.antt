@@ -18,8 +18,7 @@ use Rattle.bbm_rules.specs.declared.limits.Limits.{Limits}
 use Rattle.bbm_rules.specs.declared.verdict.Verdict.{Verdict}
 use Rattle.bbm_rules.specs.declared.verdict.Verdict.TheVariants.{Accepted, Malformed}
 use Rattle.bbm_tlb_machine.specs.Accepted.{SafeBytes}
-use Rattle.bbm_tlb_machine.specs.Invariant.{IsLog}
-use Rattle.bbm_tlb_machine.specs.Safe.{Safe}
+use Rattle.bbm_tlb_machine.specs.Safe.{IsLog, Safe}
 use Rattle.bbm_tlb_machine.proofs.Elements.{contains_cases, contains_none}
 
 -- what is known of the lines of a log

@@ -18,10 +18,10 @@ use Rattle.bbm_rules.specs.Tree.{Node, held_at, in_tree, node_of}
 use Rattle.bbm_tlb_machine.specs.declared.step.Step.{Step}
 use Rattle.bbm_tlb_machine.specs.declared.step.Step.TheVariants.{Machine, Event as Taken}
 use Rattle.bbm_tlb_machine.specs.Entry.{Entry, Part, parts_of, tag_of_entry}
-use Rattle.bbm_tlb_machine.specs.Invariant.{Fine, Holding, IsLog, Placed}
+use Rattle.bbm_tlb_machine.specs.Invariant.{Fine, Holding, Placed}
 use Rattle.bbm_tlb_machine.specs.Known.{Known}
 use Rattle.bbm_tlb_machine.specs.Run.{IsRun, Leads, LeavesNone, Living, State, entry_at, with_entry}
-use Rattle.bbm_tlb_machine.specs.Safe.{ComesTo, Safe}
+use Rattle.bbm_tlb_machine.specs.Safe.{ComesTo, IsLog, Safe}
 use Rattle.bbm_tlb_machine.proofs.Descs.{no_need}
 use Rattle.bbm_tlb_machine.proofs.Elements.{contains_after, contains_cases, contains_head, contains_more, contains_none, pe_finds}
 use Rattle.bbm_tlb_machine.proofs.Events.{fine_after}

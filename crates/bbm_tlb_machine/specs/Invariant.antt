@@ -3,8 +3,6 @@
 -- Source: project's own choice.
 use Rattle.std.specs.Prelude.{◌≡◌, ℕ, suc, ◌+◌, ◌*◌, ◌<◌, ◌≤◌, ◌⊎◌, true, false, List, [], ◌∷◌, length, Some, Contains}
 use Rattle.bbm_descriptor.specs.Descriptor.{is_valid, needs}
-use Rattle.bbm_events.specs.Fits.{fits_heading}
-use Rattle.bbm_events.specs.Heading.{heading_ok}
 use Rattle.bbm_tlbi_scope.specs.Agreement.{read_through}
 use Rattle.bbm_tlbi_scope.specs.declared.entry.EntryKind.TheVariants.{Combined}
 use Rattle.bbm_rules.specs.Claims.{Trust}
@@ -19,11 +17,6 @@ use Rattle.bbm_rules.specs.Roots.{root_pages}
 use Rattle.bbm_rules.specs.Sentences.{HoldsTag}
 use Rattle.bbm_rules.specs.Tree.{Node, next_of, nodes_of_pages, region_start, tree}
 use Rattle.bbm_tlb_machine.specs.Entry.{Entry, Part, parts_of, tag_of_entry}
-
--- A log of a header: the header is one that can be said, and each event fits it.
-pub record IsLog (heading : Heading) (log : List Event) : Type 0 where
-  pub header : heading_ok heading ≡ true
-  pub events : (e : Event) → Contains log e → fits_heading heading e ≡ true
 
 -- ---- the shape of an entry
 

@@ -19,7 +19,7 @@ use Rattle.bbm_rules.specs.Cleansing.{seen}
 use Rattle.bbm_rules.specs.Covers.{cover_at, noted}
 use Rattle.bbm_rules.specs.Held.{ValidWrite, held, last_valid}
 use Rattle.bbm_rules.specs.Notes.{Noted, events_of}
-use Rattle.bbm_rules.specs.PatternSentences.{Holds, IsLastValid, Publication, Seen}
+use Rattle.bbm_rules.specs.PatternSentences.{HalfBy, Holds, IsLastValid, Publication, Seen}
 use Rattle.bbm_rules.specs.Places.{page_of}
 use Rattle.bbm_rules.specs.Prelude.{Heading, Kind, Ttbr0, Tag, Event, Init}
 use Rattle.bbm_rules.specs.Reach.{Issued, reaches, unanswered}
@@ -117,6 +117,10 @@ pub record Known (heading : Heading) (trust : Trust) : Type 0 where
   pub root_of_tag : (h : List Event) → keeps heading trust h ≡ true → (r : ℕ) (tag : Tag)
       → holds_tag heading trust r tag h ≡ true → is_root h (kind_of_tag tag) r ≡ true
   pub held_between : HeldBetween heading trust
+  pub publication_stays : (place p : ℕ) (newer since : List Noted) (b : Noted) → Publication heading place p since b
+      → Publication heading place p (newer ++ since) b
+  pub half_stays : (place p : ℕ) (newer since : List Noted) (b : Noted) (t : Issued Noted) (d : Noted)
+      → HalfBy heading place p since b t d → HalfBy heading place p (newer ++ since) b t d
   pub publication_alike : (place p r : ℕ) (since : List Noted) (b : Noted) → heading.cnp ≡ true → r < heading.pes
       → Publication heading place p since b → Publication heading place r since b
   pub reached_alike : (e : Event) (p r : ℕ) → heading.cnp ≡ true → reaches heading e p ≡ reaches heading e r

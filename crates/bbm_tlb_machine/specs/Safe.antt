@@ -4,6 +4,8 @@
 use Rattle.std.specs.Prelude.{◌≡◌, ℕ, Bool, true, false, ◌&&◌, not, ◌==◌, List, [], ◌∷◌, ◌++◌, length, Option, Some}
 use Rattle.std.specs.Prelude.{None, Result, Ok, Contains}
 use Rattle.bbm_descriptor.specs.Descriptor.{needs}
+use Rattle.bbm_events.specs.Fits.{fits_heading}
+use Rattle.bbm_events.specs.Heading.{heading_ok}
 use Rattle.bbm_rules.specs.Lists.{any, if_so}
 use Rattle.bbm_rules.specs.Places.{page_of}
 use Rattle.bbm_rules.specs.Prelude.{Reg, Heading, Event, Init, Write, Msr}
@@ -20,6 +22,11 @@ pub record ComesTo (heading : Heading) (log : List Event) (s : State) (e : Event
   pub run : IsRun heading steps s
   pub later : List Event
   pub split : log ≡ later ++ e ∷ s.log
+
+-- A log of a header: the header is one that can be said, and each event fits it.
+pub record IsLog (heading : Heading) (log : List Event) : Type 0 where
+  pub header : heading_ok heading ≡ true
+  pub events : (e : Event) → Contains log e → fits_heading heading e ≡ true
 
 -- Safe: in each run over the log, at each event before it is taken: where it writes a value at a place, no entry of any PE
 -- has a part at the place from which the value needs break-before-make; where it initialises a page, no entry has a part in

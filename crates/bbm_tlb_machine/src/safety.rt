@@ -10,16 +10,16 @@ ghost use Rattle.bbm_rules.specs.declared.limits.Limits.{Limits};
 ghost use Rattle.bbm_rules.specs.declared.verdict.Verdict.TheVariants.{Accepted};
 ghost use Rattle.bbm_tlb_machine.specs.Accepted.{SafeBytes};
 ghost use Rattle.bbm_tlb_machine.specs.declared.step.Step.{Step};
-ghost use Rattle.bbm_tlb_machine.specs.Invariant.{Fine, IsLog};
+ghost use Rattle.bbm_tlb_machine.specs.Invariant.{Fine};
 ghost use Rattle.bbm_tlb_machine.specs.Known.{Known};
 ghost use Rattle.bbm_tlb_machine.specs.Run.{IsRun, Living, State};
-ghost use Rattle.bbm_tlb_machine.specs.Safe.{Safe};
+ghost use Rattle.bbm_tlb_machine.specs.Safe.{IsLog, Safe};
 
 use bbm_descriptor::laws::{law_need, law_same_core_is_equal};
 use bbm_events::{law_header_in_range, law_item_fits};
 use bbm_histories::{
     law_frozen_view, law_held_changes, law_limbo_is_empty, law_lower_leaves, law_one_node,
-    law_one_position, law_proper, law_tags, law_uniform, law_window,
+    law_one_position, law_patterns_stay, law_proper, law_tags, law_uniform, law_window,
 };
 use bbm_rules::{
     law_answered, law_childless, law_each_rule, law_equality_tests, law_held, law_last_valid,
@@ -48,6 +48,7 @@ fn known()
     law_notes_keep_the_events();
     law_one_node();
     law_one_position();
+    law_patterns_stay();
     law_proper();
     law_readable_tag();
     law_root();
@@ -82,8 +83,8 @@ pub fn law_safe()
     known();
 }
 
-/// Where the verdict on bytes is that they are accepted, their first line is a header, and the log of all their events is
-/// safe under it. The law is the contract.
+/// Where the verdict on bytes is that they are accepted, their first line is a header, and the log of all their events
+/// is safe under it. The law is the contract.
 pub fn law_accepted_is_safe()
     ensures { (trust : Trust) (limits : Limits) (bytes : List ℕ) (count : ℕ) →
         verdict_of_bytes trust limits bytes ≡ Accepted count → SafeBytes trust limits bytes }

@@ -39,6 +39,8 @@ returns c heading trust ok = record {
   one_root = λ h. c.law_tags.ensures.one_root heading trust h (c.law_proper.ensures heading ok);
   root_of_tag = λ h. c.law_tags.ensures.root heading trust h (c.law_proper.ensures heading ok);
   held_between = c.law_tags.ensures.between heading trust;
+  publication_stays = c.law_patterns_stay.ensures.publication heading;
+  half_stays = c.law_patterns_stay.ensures.half heading;
   publication_alike = c.law_uniform.ensures.publication heading;
   reached_alike = c.law_uniform.ensures.reached heading;
 }
