@@ -12,6 +12,7 @@ import argparse
 import os
 import resource
 import shlex
+import shutil
 import subprocess
 import sys
 import tempfile
@@ -46,7 +47,39 @@ def plain(count):
     yield b"end %d\n" % count
 
 
-LOGS = {"moves": moves, "plain": plain}
+def rounds(count, seed=3):
+    """A log of so many events, which keeps the rules: blocks of an EL2 root and of a stage 2 root in turn are made,
+    broken and flushed, at stage 2 in two steps."""
+    yield b"bbmlog 1 hyp 4 1 1 1\n"
+    first = b"""init 0 0x40000000
+root 0 el2 - 0x40000000
+init 0 0x40001000
+root 0 s2 - 0x40001000
+msr 0 ttbr0_el2 0x40000000
+msr 0 vttbr_el2 0x1000040001000
+isb 0
+"""
+    yield from first.splitlines(keepends=True)[:count]
+    for event in range(7, count):
+        turn, step = divmod(event - 7, 8)
+        index, value = (seed + turn) % 512, turn % 512 * 2**30 + 0x701
+        second = turn % 2 == 1
+        pe, place = (0 if second else turn // 2 % 4), (0x40001000 if second else 0x40000000) + 8 * index
+        flush = (b"tlbi 0 ipas2e1is 0x%x\n" if second else b"tlbi %d vae2is 0x%%x\n" % pe) % (index * 0x40000)
+        yield (
+            b"w %d 0x%x 0x%x\n" % (pe, place, value),
+            b"dsb %d ishst\n" % pe,
+            b"w %d 0x%x 0x0\n" % (pe, place),
+            b"dsb %d ishst\n" % pe,
+            flush,
+            b"dsb %d ish\n" % pe,
+            b"tlbi 0 vmalle1is\n" if second else b"isb %d\n" % pe,
+            b"dsb 0 ish\n" if second else b"dmb %d ish\n" % pe,
+        )[step]
+    yield b"end %d\n" % count
+
+
+LOGS = {"moves": moves, "plain": plain, "rounds": rounds}
 
 
 def run(words, log):
@@ -62,24 +95,29 @@ def main():
     words = argparse.ArgumentParser(description=__doc__, formatter_class=argparse.RawDescriptionHelpFormatter)
     words.add_argument("--events", type=int, default=1900, help="the events of the log")
     words.add_argument("--log", choices=sorted(LOGS), default="moves", help="the kind of its lines")
+    words.add_argument("--file", help="a log that is there, in place of one of that kind; with it give --events, and --answer")
     words.add_argument("--rounds", type=int, default=7, help="the runs of which the best counts")
     words.add_argument("--program", action="append", default=[], help="NAME=COMMAND, beside bbm check")
-    words.add_argument("--answer", help="what those programs write; else that of bbm check")
+    words.add_argument("--answer", help="what the programs write; else that the log is accepted")
     words.add_argument("--no-bbm", action="store_true", help="without bbm check")
     asked = words.parse_args()
     accepted = f"accepted {asked.events} events"
     programs = [("wc -l", ["wc", "-l"], str(asked.events + 2))]
+    expected = asked.answer or accepted
     if not asked.no_bbm:
         # The script builds the program, where that is needed, before the time is taken.
         subprocess.run([os.path.join(TOP, "bbm")], stdin=subprocess.DEVNULL, stdout=subprocess.DEVNULL)
-        programs.append(("bbm check", [os.path.join(TOP, "crates/bbm_cli/out/bbm_cli"), "check"], accepted))
+        programs.append(("bbm check", [os.path.join(TOP, "crates/bbm_cli/out/bbm_cli"), "check"], expected))
     for program in asked.program:
         name, _, command = program.partition("=")
-        programs.append((name, shlex.split(command), asked.answer or accepted))
+        programs.append((name, shlex.split(command), expected))
     with tempfile.TemporaryDirectory() as folder:
         log = os.path.join(folder, "log")
-        with open(log, "wb") as out:
-            out.writelines(LOGS[asked.log](asked.events))
+        if asked.file:
+            shutil.copy(asked.file, log)
+        else:
+            with open(log, "wb") as out:
+                out.writelines(LOGS[asked.log](asked.events))
         size = os.path.getsize(log) / 1e6
         best = {}
         for _ in range(asked.rounds):
