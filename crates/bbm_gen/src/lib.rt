@@ -1,0 +1,9 @@
+//! Generated logs of any length, event by event, without memory.
+#![tactic(auto)]
+
+pub mod generator;
+
+pub use generator::{gen_event, gen_header};
+
+#[cfg(test)]
+mod tests;
