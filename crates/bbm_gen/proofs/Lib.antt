@@ -1,2 +1,5 @@
 pub mod Numbers
 pub mod Flushed
+pub mod Unbroken
+pub mod Standing
+pub mod Rounds
