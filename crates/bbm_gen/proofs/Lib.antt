@@ -3,3 +3,4 @@ pub mod Flushed
 pub mod Unbroken
 pub mod Standing
 pub mod Rounds
+pub mod Logs

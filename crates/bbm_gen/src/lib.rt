@@ -3,8 +3,10 @@
 
 mod below;
 pub mod generator;
+pub mod law;
 
 pub use generator::{gen_event, gen_header};
+pub use law::law_gen;
 
 #[cfg(test)]
 mod tests;
