@@ -1,15 +1,16 @@
 -- The generated logs keep the rules: after each whole round all stands as before it.
-use Rattle.std.proofs.Common.{◌≡◌, ℕ, zero, suc, ◌+◌, ◌-◌, ◌*◌, ◌/◌, ◌%◌, ◌^◌, ◌<◌, ◌≤◌, Bool, true, false, ◌==◌, ◌&&◌, nat_lt, List, [], ◌∷◌, Option, None, is_none, refl, sym, ap, ◌∙◌, subst, arith, if◌then◌else◌, true≢false}
+use Rattle.std.proofs.Common.{◌≡◌, ℕ, zero, suc, ◌+◌, ◌-◌, ◌*◌, ◌/◌, ◌%◌, ◌<◌, ◌≤◌, Bool, true, false, ◌==◌, nat_lt, List, ◌∷◌, None, is_none, refl, sym, ◌∙◌, subst, arith, if◌then◌else◌, true≢false}
 use Rattle.std.proofs.lemmas.Bool.{and_parts, eq-eqb, eqb-true}
 use Rattle.bbm_regimes.specs.declared.regime.Kind.{Kind}
 use Rattle.bbm_regimes.specs.declared.regime.Kind.TheVariants.{El2, S2}
+use Rattle.bbm_events.specs.Fits.{fits_heading, is_place, is_value}
 use Rattle.bbm_rules.specs.Prelude.{Event, Init, Null, Root, Unroot, Write, Dsb, Dmb, Isb, Tlbi, Msr, Lock, Unlock}
 use Rattle.bbm_rules.specs.Broken.{broken, keeps}
 use Rattle.bbm_rules.specs.Claims.{Patterns}
 use Rattle.bbm_rules.specs.Limits.{limit_of}
 use Rattle.bbm_gen.specs.Below.{Below}
 use Rattle.bbm_gen.specs.Generated.{heading, el2_root, s2_root, slot, place_in, first_page, block, el2_step, s2_step, round_step, event_at, log_of}
-use Rattle.bbm_gen.proofs.Numbers.{inside_el2, inside_s2, decoded_el2, decoded_s2, meets_el2, meets_s2, block_is_leaf, block_is_alone}
+use Rattle.bbm_gen.proofs.Numbers.{inside_el2, inside_s2, decoded_el2, decoded_s2, meets_el2, meets_s2, block_is_leaf, block_is_alone, el2_is_place, s2_is_place, page_is_value, block_is_value, is_writer}
 use Rattle.bbm_gen.proofs.Standing.{of_round, opened, opened_clear}
 use Rattle.bbm_gen.proofs.Rounds.{Made, Whole, el2_round, el2_whole, s2_round, s2_whole}
 
@@ -164,3 +165,38 @@ no_limit n i = by (nat_lt i 7) refl
     by true e = early n i (grind (arith, e))
     by false e = rw e (unlimited (log_of n i) (round_step n ((i - 7) / 8) ((i - 7) % 8))
         (step_of_round n ((i - 7) / 8) ((i - 7) % 8)))
+
+-- ---- each event fits the header
+
+either_fits : (c : Bool) (d e : Event) → fits_heading heading d ≡ true → fits_heading heading e ≡ true
+    → fits_heading heading (if c then d else e) ≡ true
+either_fits true d e one other = one
+either_fits false d e one other = other
+
+el2_fits : (p place block page k : ℕ) → nat_lt p 4 ≡ true → is_place place ≡ true → is_value block ≡ true
+    → is_value page ≡ true → fits_heading heading (el2_step p place block page k) ≡ true
+el2_fits p place block page k pe at value operand =
+    either_fits (k == 0) _ _ (rw (pe, at, value) refl) (either_fits (k == 1) _ _ pe
+    (either_fits (k == 2) _ _ (rw (pe, at) refl) (either_fits (k == 3) _ _ pe
+    (either_fits (k == 4) _ _ (rw (pe, operand) refl) (either_fits (k == 5) _ _ pe (either_fits (k == 6) _ _ pe pe))))))
+
+s2_fits : (place block page k : ℕ) → is_place place ≡ true → is_value block ≡ true → is_value page ≡ true
+    → fits_heading heading (s2_step place block page k) ≡ true
+s2_fits place block page k at value operand =
+    either_fits (k == 0) _ _ (rw (at, value) refl) (either_fits (k == 1) _ _ refl
+    (either_fits (k == 2) _ _ (rw at refl) (either_fits (k == 3) _ _ refl
+    (either_fits (k == 4) _ _ (rw operand refl) (either_fits (k == 5) _ _ refl (either_fits (k == 6) _ _ refl refl))))))
+
+round_fits : (n r k : ℕ) → fits_heading heading (round_step n r k) ≡ true
+round_fits n r k = either_fits (r % 2 == 0) _ _
+    (el2_fits (r / 2 % 4) (place_in el2_root (slot n r)) (block r) (first_page (slot n r)) k
+    (is_writer (r / 2 % 4) (omega arith)) (el2_is_place (slot n r) (slot_below n r))
+    (block_is_value (r % 512) (omega arith)) (page_is_value (slot n r) (slot_below n r)))
+    (s2_fits (place_in s2_root (slot n r)) (block r) (first_page (slot n r)) k (s2_is_place (slot n r) (slot_below n r))
+    (block_is_value (r % 512) (omega arith)) (page_is_value (slot n r) (slot_below n r)))
+
+pub event_fits : (n i : ℕ) → fits_heading heading (event_at n i) ≡ true
+event_fits n i = either_fits (nat_lt i 7) _ _
+    (either_fits (i == 0) _ _ refl (either_fits (i == 1) _ _ refl (either_fits (i == 2) _ _ refl
+    (either_fits (i == 3) _ _ refl (either_fits (i == 4) _ _ refl (either_fits (i == 5) _ _ refl refl))))))
+    (round_fits n ((i - 7) / 8) ((i - 7) % 8))

@@ -1,15 +1,16 @@
 -- What holds of each of the 512 descriptors of a root, and of each block, by looking at them all.
-use Rattle.std.proofs.Common.{◌≡◌, ℕ, zero, suc, ◌+◌, ◌*◌, ◌^◌, ◌<◌, Bool, true, false, ◌==◌, List, [], ◌∷◌, Option, Some, None, map, refl, sym, ◌∙◌, subst, true≢false, arith}
+use Rattle.std.proofs.Common.{◌≡◌, ℕ, zero, suc, ◌+◌, ◌*◌, ◌^◌, ◌<◌, Bool, true, false, ◌==◌, [], Some, None, map, refl, sym, ◌∙◌, subst, true≢false, nat_lt, arith}
 use Rattle.std.proofs.lemmas.Bool.{eq-eqb, eqb-true}
 use Rattle.std.specs.Result.{result_ok}
 use Rattle.bbm_regimes.specs.declared.regime.Kind.TheVariants.{El2, S2}
-use Rattle.bbm_regimes.specs.Extent.{Extent, meets}
+use Rattle.bbm_regimes.specs.Extent.{meets}
 use Rattle.bbm_descriptor.specs.Descriptor.{Form, form_of}
 use Rattle.bbm_descriptor.specs.Fields.{contiguous_of}
 use Rattle.bbm_tlbi_scope.specs.Decode.{scope_of, one_page}
 use Rattle.bbm_tlbi_scope.specs.declared.op.TlbiOp.TheVariants.{Vae2is, Ipas2e1is}
 use Rattle.bbm_tlbi_scope.specs.declared.scope.Family.TheVariants.{El2Va, Ipa}
 use Rattle.bbm_tlbi_scope.specs.declared.scope.Scope.{Scope}
+use Rattle.bbm_events.specs.Fits.{is_place, is_value}
 use Rattle.bbm_rules.specs.Lists.{below}
 use Rattle.bbm_rules.specs.Places.{page_of}
 use Rattle.bbm_rules.specs.Tree.{Node, region_of}
@@ -84,3 +85,18 @@ block_is_leaf m lt = agree (λ m. form_of 1 (m * 2 ^ 30 + 0x701)) (λ m. Form.le
 
 pub block_is_alone : (m : ℕ) → m < 512 → contiguous_of (m * 2 ^ 30 + 0x701) ≡ false
 block_is_alone m lt = agree (λ m. contiguous_of (m * 2 ^ 30 + 0x701)) (λ m. false) 512 m refl lt
+
+pub el2_is_place : (s : ℕ) → s < 512 → is_place (place_in el2_root s) ≡ true
+el2_is_place s lt = agree (λ s. is_place (place_in el2_root s)) (λ s. true) 512 s refl lt
+
+pub s2_is_place : (s : ℕ) → s < 512 → is_place (place_in s2_root s) ≡ true
+s2_is_place s lt = agree (λ s. is_place (place_in s2_root s)) (λ s. true) 512 s refl lt
+
+pub page_is_value : (s : ℕ) → s < 512 → is_value (first_page s) ≡ true
+page_is_value s lt = agree (λ s. is_value (first_page s)) (λ s. true) 512 s refl lt
+
+pub block_is_value : (m : ℕ) → m < 512 → is_value (m * 2 ^ 30 + 0x701) ≡ true
+block_is_value m lt = agree (λ m. is_value (m * 2 ^ 30 + 0x701)) (λ m. true) 512 m refl lt
+
+pub is_writer : (p : ℕ) → p < 4 → nat_lt p 4 ≡ true
+is_writer p lt = agree (λ p. nat_lt p 4) (λ p. true) 4 p refl lt

@@ -1,24 +1,19 @@
 -- What stands after the opening, and after each event of a round.
-use Rattle.std.proofs.Common.{◌≡◌, ℕ, zero, suc, ◌+◌, ◌*◌, ◌<◌, Bool, true, false, ◌==◌, not, ◌&&◌, ◌⊎◌, inl, inr, List, [], ◌∷◌, ◌++◌, Option, Some, None, is_none, take, flat_map, filter_map, refl, sym, ap, ◌∙◌, subst, Contains, arith, if◌then◌else◌}
+use Rattle.std.proofs.Common.{◌≡◌, ℕ, zero, suc, ◌<◌, Bool, true, false, ◌==◌, ◌&&◌, inl, inr, List, [], ◌∷◌, ◌++◌, Option, Some, None, take, flat_map, filter_map, refl, ap, ◌∙◌, subst, Contains, arith, if◌then◌else◌}
 use Rattle.bbm_regimes.specs.declared.regime.Kind.{Kind}
 use Rattle.bbm_regimes.specs.declared.regime.Kind.TheVariants.{El2, S2}
-use Rattle.bbm_tlbi_scope.specs.declared.entry.TagSet.TheVariants.{None as NoTag, One, Many}
 use Rattle.bbm_tlbi_scope.specs.Covers.{vmid_matches}
-use Rattle.bbm_rules.specs.Prelude.{Barrier, Event, Init, Null, Root, Unroot, Write, Dsb, Dmb, Isb, Tlbi, Msr, Lock, Unlock, Reg, Ttbr0El2, VttbrEl2, Ttbr0El1, Ttbr1El1, Tag, Vmid, same_tag}
+use Rattle.bbm_rules.specs.Prelude.{Event, Init, Null, Root, Unroot, Write, Dsb, Dmb, Isb, Tlbi, Msr, Lock, Unlock, Reg, Ttbr0El2, VttbrEl2, Ttbr0El1, Ttbr1El1, Tag, Vmid, same_tag}
 use Rattle.bbm_rules.specs.Broken.{broken, keeps}
 use Rattle.bbm_rules.specs.Claims.{Patterns}
-use Rattle.bbm_rules.specs.Held.{held}
-use Rattle.bbm_rules.specs.Limits.{limit_of}
 use Rattle.bbm_rules.specs.Lists.{any, below}
-use Rattle.bbm_rules.specs.Notes.{Noted, events_of}
 use Rattle.bbm_rules.specs.Pages.{is_fresh, is_null, may_be_fresh}
 use Rattle.bbm_rules.specs.Places.{page_of}
-use Rattle.bbm_rules.specs.Registers.{register_values, vmid_of}
+use Rattle.bbm_rules.specs.Registers.{register_values}
 use Rattle.bbm_rules.specs.Roots.{Declared, roots_of}
 use Rattle.bbm_rules.specs.Tags.{distinct, ever_read, readings, tag_for, tag_set, tags_of, holds_tag}
-use Rattle.bbm_rules.specs.Tree.{Above, Node, held_at, in_tree, node_of, tree}
+use Rattle.bbm_rules.specs.Tree.{Above, Node, held_at, node_of, tree}
 use Rattle.bbm_histories.specs.Tree.{HeldChange}
-use Rattle.bbm_descriptor.specs.Descriptor.{needs}
 use Rattle.bbm_gen.specs.Below.{Below, notes}
 use Rattle.bbm_gen.specs.Generated.{heading, el2_root, s2_root, vttbr, log_of}
 use Rattle.bbm_gen.proofs.Numbers.{el2_node, s2_node}
@@ -146,9 +141,17 @@ read_now : (h : List Event) → roots_of h ≡ declared
     → ((p : ℕ) (reg : Reg) → p < 4 → register_values h p reg ≡ loaded p reg ∷ [])
     → flat_map (λ p. filter_map (tag_for s2_root) (readings heading h p)) (below heading.pes) ≡ Vmid 1 ∷ []
 read_now h roots registers =
-    rw (registers 0 Ttbr0El2 (omega arith), registers 0 VttbrEl2 (omega arith), registers 1 Ttbr0El2 (omega arith),
-        registers 1 VttbrEl2 (omega arith), registers 2 Ttbr0El2 (omega arith), registers 2 VttbrEl2 (omega arith),
-        registers 3 Ttbr0El2 (omega arith), registers 3 VttbrEl2 (omega arith), roots) refl
+    rw (
+      registers 0 Ttbr0El2 (omega arith),
+      registers 0 VttbrEl2 (omega arith),
+      registers 1 Ttbr0El2 (omega arith),
+      registers 1 VttbrEl2 (omega arith),
+      registers 2 Ttbr0El2 (omega arith),
+      registers 2 VttbrEl2 (omega arith),
+      registers 3 Ttbr0El2 (omega arith),
+      registers 3 VttbrEl2 (omega arith),
+      roots,
+    ) refl
 
 ever_after : (h : List Event) (e : Event) → roots_of (e ∷ h) ≡ declared
     → ((p : ℕ) (reg : Reg) → p < 4 → register_values (e ∷ h) p reg ≡ loaded p reg ∷ [])

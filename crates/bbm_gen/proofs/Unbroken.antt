@@ -4,7 +4,7 @@ use Rattle.std.specs.Option.{option_map_or}
 use Rattle.std.specs.Result.{result_ok}
 use Rattle.bbm_regimes.specs.declared.regime.Kind.{Kind}
 use Rattle.bbm_regimes.specs.declared.regime.Kind.TheVariants.{Ttbr0}
-use Rattle.bbm_descriptor.specs.Descriptor.{core_of, desc_of, differ, needs}
+use Rattle.bbm_descriptor.specs.Descriptor.{desc_of, differ, needs}
 use Rattle.bbm_descriptor.specs.declared.desc.Core.{Core}
 use Rattle.bbm_tlbi_scope.specs.Decode.{scope_of}
 use Rattle.bbm_tlbi_scope.specs.Operations.{of_world}
@@ -13,10 +13,9 @@ use Rattle.bbm_tlbi_scope.specs.declared.scope.Scope.{Scope}
 use Rattle.bbm_rules.specs.Prelude.{Barrier, Event, Write, Dsb, Dmb, Isb, Tlbi, same_kind}
 use Rattle.bbm_rules.specs.declared.rule.Rule.{Rule}
 use Rattle.bbm_rules.specs.declared.rule.Rule.TheVariants.{WrongWorld, NoLock, NullWritten, BreakBeforeMake, LimboMake, NotFresh, RewrittenFresh, BadKind, GlobalUser, PageInUse, NoRoot, TagConflict, RootInUse, UnsyncedVmid, BadOperand, LockBusy, LockNotMine}
-use Rattle.bbm_rules.specs.Attach.{attached_by, attached_from, Attached}
+use Rattle.bbm_rules.specs.Attach.{attached_by, attached_from}
 use Rattle.bbm_rules.specs.Broken.{Breach, breaks, broken, first_broken, rules}
 use Rattle.bbm_rules.specs.Claims.{Patterns}
-use Rattle.bbm_rules.specs.Covers.{noted}
 use Rattle.bbm_rules.specs.Lists.{if_so}
 use Rattle.bbm_rules.specs.Notes.{Noted, events_of}
 use Rattle.bbm_rules.specs.Pages.{is_fresh, is_null}
