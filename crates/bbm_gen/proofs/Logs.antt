@@ -1,11 +1,11 @@
 -- The generated logs keep the rules: after each whole round all stands as before it.
-use Rattle.std.proofs.Common.{◌≡◌, ℕ, zero, suc, ◌+◌, ◌-◌, ◌*◌, ◌/◌, ◌%◌, ◌<◌, ◌≤◌, Bool, true, false, ◌==◌, nat_lt, List, ◌∷◌, None, is_none, refl, sym, ◌∙◌, subst, arith, if◌then◌else◌, true≢false}
+use Rattle.std.proofs.Common.{◌≡◌, ℕ, zero, suc, ◌+◌, ◌-◌, ◌*◌, ◌/◌, ◌%◌, ◌<◌, ◌≤◌, Bool, true, false, ◌==◌, nat_lt, List, ◌∷◌, None, is_none, refl, sym, ◌∙◌, subst, arith, if◌then◌else◌, true≢false, Option, Some}
 use Rattle.std.proofs.lemmas.Bool.{and_parts, eq-eqb, eqb-true}
 use Rattle.bbm_regimes.specs.declared.regime.Kind.{Kind}
 use Rattle.bbm_regimes.specs.declared.regime.Kind.TheVariants.{El2, S2}
 use Rattle.bbm_events.specs.Fits.{fits_heading, is_place, is_value}
 use Rattle.bbm_rules.specs.Prelude.{Event, Init, Null, Root, Unroot, Write, Dsb, Dmb, Isb, Tlbi, Msr, Lock, Unlock}
-use Rattle.bbm_rules.specs.Broken.{broken, keeps}
+use Rattle.bbm_rules.specs.Broken.{Breach, broken, keeps}
 use Rattle.bbm_rules.specs.Claims.{Patterns}
 use Rattle.bbm_rules.specs.Limits.{limit_of}
 use Rattle.bbm_gen.specs.Below.{Below}
@@ -120,6 +120,15 @@ down n (suc m) i le k = by (down n m i) (i == suc m) refl
 
 pub keeps_rules : Below → (n count : ℕ) → keeps heading Patterns (log_of n count) ≡ true
 keeps_rules b n count = down n (before_round count) count (omega (arith, before_is count)) (whole_at b n count).stands.kept
+
+none_is : (o : Option Breach) → is_none o ≡ true → o ≡ None
+none_is None e = refl
+none_is (Some breach) e = cc
+
+pub each_unbroken : Below → (n i : ℕ) → broken heading Patterns (log_of n i) (event_at n i) ≡ None
+each_unbroken b n i = none_is (broken heading Patterns (log_of n i) (event_at n i))
+    (and_parts (keeps heading Patterns (log_of n i)) (is_none (broken heading Patterns (log_of n i) (event_at n i)))
+    (keeps_rules b n (suc i))).1
 
 -- ---- no event reaches a limit
 
