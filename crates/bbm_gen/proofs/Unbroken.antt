@@ -1,0 +1,135 @@
+-- Which events break no rule.
+use Rattle.std.proofs.Common.{◌≡◌, ℕ, Bool, true, false, ◌&&◌, List, [], ◌∷◌, Option, Some, None, option_and_then, is_none, refl, ap, ◌∙◌, if◌then◌else◌}
+use Rattle.std.specs.Option.{option_map_or}
+use Rattle.std.specs.Result.{result_ok}
+use Rattle.bbm_regimes.specs.declared.regime.Kind.{Kind}
+use Rattle.bbm_regimes.specs.declared.regime.Kind.TheVariants.{Ttbr0}
+use Rattle.bbm_descriptor.specs.Descriptor.{desc_of, differ, needs}
+use Rattle.bbm_descriptor.specs.declared.desc.Core.{Core}
+use Rattle.bbm_tlbi_scope.specs.Decode.{scope_of}
+use Rattle.bbm_tlbi_scope.specs.Operations.{of_world}
+use Rattle.bbm_tlbi_scope.specs.declared.op.TlbiOp.{TlbiOp}
+use Rattle.bbm_tlbi_scope.specs.declared.scope.Scope.{Scope}
+use Rattle.bbm_rules.specs.Prelude.{Barrier, Event, Write, Dsb, Dmb, Isb, Tlbi, same_kind}
+use Rattle.bbm_rules.specs.declared.rule.Rule.{Rule}
+use Rattle.bbm_rules.specs.declared.rule.Rule.TheVariants.{WrongWorld, NoLock, NullWritten, BreakBeforeMake, LimboMake, NotFresh, RewrittenFresh, BadKind, GlobalUser, PageInUse, NoRoot, TagConflict, RootInUse, UnsyncedVmid, BadOperand, LockBusy, LockNotMine}
+use Rattle.bbm_rules.specs.Attach.{attached_by, attached_from}
+use Rattle.bbm_rules.specs.Broken.{Breach, breaks, broken, first_broken, rules}
+use Rattle.bbm_rules.specs.Claims.{Patterns}
+use Rattle.bbm_rules.specs.Lists.{if_so}
+use Rattle.bbm_rules.specs.Notes.{Noted, events_of}
+use Rattle.bbm_rules.specs.Pages.{is_fresh, is_null}
+use Rattle.bbm_rules.specs.Places.{page_of}
+use Rattle.bbm_rules.specs.Registers.{lacks_vmid}
+use Rattle.bbm_rules.specs.Roots.{lock_of}
+use Rattle.bbm_rules.specs.Rules.{is_contiguous}
+use Rattle.bbm_rules.specs.Tree.{Node, held_at, next_of, node_of}
+use Rattle.bbm_gen.specs.Generated.{heading}
+use Rattle.bbm_gen.specs.Below.{notes}
+
+abbrev pub Free : List Noted → Event → Type 0
+Free h e = (r : Rule) → breaks heading Patterns h e r ≡ None
+
+abbrev breach : Rule → ℕ → Breach
+breach r at = record { rule = r; at = at }
+
+none_of_them : (h : List Noted) (e : Event) → Free h e → (rs : List Rule) → first_broken heading Patterns h e rs ≡ None
+none_of_them h e free [] = refl
+none_of_them h e free (rule ∷ rs) =
+    ap (λ (o : Option ℕ). option_map_or (λ at. Some (breach rule at)) o (first_broken heading Patterns h e rs)) (free rule)
+    ∙ none_of_them h e free rs
+
+pub unbroken : (h : List Event) (e : Event) → Free (notes h) e → broken heading Patterns h e ≡ None
+unfolding broken
+unbroken h e free = none_of_them (notes h) e free rules
+
+pub dsb_unbroken : (h : List Event) (p : ℕ) (dsb : Barrier) → broken heading Patterns h (Dsb p dsb) ≡ None
+unfolding broken
+dsb_unbroken h p dsb = refl
+
+pub dmb_unbroken : (h : List Event) (p : ℕ) (dsb : Barrier) → broken heading Patterns h (Dmb p dsb) ≡ None
+unfolding broken
+dmb_unbroken h p dsb = refl
+
+pub isb_unbroken : (h : List Event) (p : ℕ) → broken heading Patterns h (Isb p) ≡ None
+unfolding broken
+isb_unbroken h p = refl
+
+pub tlbi_free : (h : List Noted) (p xt : ℕ) (op : TlbiOp) (scope : Scope) → of_world heading.world op ≡ true
+    → lacks_vmid heading (events_of h) p op ≡ false → result_ok (scope_of op xt) ≡ Some scope → Free h (Tlbi p op xt)
+tlbi_free h p xt op scope world vmid decoded WrongWorld = rw world refl
+tlbi_free h p xt op scope world vmid decoded NoLock = refl
+tlbi_free h p xt op scope world vmid decoded NullWritten = refl
+tlbi_free h p xt op scope world vmid decoded BreakBeforeMake = refl
+tlbi_free h p xt op scope world vmid decoded LimboMake = refl
+tlbi_free h p xt op scope world vmid decoded NotFresh = refl
+tlbi_free h p xt op scope world vmid decoded RewrittenFresh = refl
+tlbi_free h p xt op scope world vmid decoded BadKind = refl
+tlbi_free h p xt op scope world vmid decoded GlobalUser = refl
+tlbi_free h p xt op scope world vmid decoded PageInUse = refl
+tlbi_free h p xt op scope world vmid decoded NoRoot = refl
+tlbi_free h p xt op scope world vmid decoded TagConflict = refl
+tlbi_free h p xt op scope world vmid decoded RootInUse = refl
+tlbi_free h p xt op scope world vmid decoded UnsyncedVmid = rw vmid refl
+tlbi_free h p xt op scope world vmid decoded BadOperand = rw decoded refl
+tlbi_free h p xt op scope world vmid decoded LockBusy = refl
+tlbi_free h p xt op scope world vmid decoded LockNotMine = refl
+
+-- ---- writes at a root
+
+abbrev pub root_node : Kind → ℕ → Node
+root_node kind root = record { page = root; kind = kind; level = 1; root = root; base = 0; above = [] }
+
+and_false : (b : Bool) → (b && false) ≡ false
+and_false true = refl
+and_false false = refl
+
+pub no_core : (c : Option Core) → differ c None ≡ false
+no_core None = refl
+no_core (Some c) = refl
+
+-- What is known of a write at a place of a root: its page is in the tree under no lock, and isn't null or fresh; the
+-- value is no table and has no Contiguous hint; and where the place holds a value, it needs no break.
+pub record Plain (h : List Noted) (kind : Kind) (root place value : ℕ) : Type 0 where
+  pub node : node_of heading Patterns h (page_of place) ≡ Some (root_node kind root)
+  pub lock : lock_of (events_of h) root ≡ None
+  pub null : is_null (events_of h) (page_of place) ≡ false
+  pub old : is_fresh heading Patterns h (page_of place) ≡ false
+  pub lower : same_kind kind Ttbr0 ≡ false
+  pub leaf : next_of kind 1 value ≡ None
+  pub alone : is_contiguous kind (desc_of kind 1 value) ≡ false
+  pub core : (before : ℕ) → held_at heading Patterns h (root_node kind root) place ≡ Some before
+      → needs kind 1 before value ≡ false
+
+module _ (h : List Noted) (kind : Kind) (root pe place value : ℕ) (k : Plain h kind root place value) where
+  attaches : attached_by heading Patterns h (Write pe place value) ≡ None
+  attaches = rw k.node (by (is_none (held_at heading Patterns h (root_node kind root) place)))
+    where
+      by : (b : Bool) → option_and_then (λ next. Some (attached_from heading Patterns h kind 2 (next ∷ [])))
+          (if b then next_of kind 1 value else None) ≡ None
+      by true = rw k.leaf refl
+      by false = refl
+
+  core_kept : (o : Option ℕ) → held_at heading Patterns h (root_node kind root) place ≡ o
+      → option_and_then (λ before. if_so (needs kind 1 before value) place) o ≡ None
+  core_kept None e = refl
+  core_kept (Some before) e = rw (k.core before e) refl
+
+  pub write_free : Free h (Write pe place value)
+  write_free WrongWorld = refl
+  write_free NoLock = rw (k.node, k.lock) refl
+  write_free NullWritten = rw k.null refl
+  write_free BreakBeforeMake = rw k.node (core_kept (held_at heading Patterns h (root_node kind root) place) refl)
+  write_free LimboMake = rw (k.node, and_false) refl
+  write_free NotFresh = rw (attaches, k.node) refl
+  write_free RewrittenFresh = rw k.old refl
+  write_free BadKind = rw (attaches, k.node, k.alone) refl
+  write_free GlobalUser = rw (attaches, k.node, k.lower) refl
+  write_free PageInUse = refl
+  write_free NoRoot = refl
+  write_free TagConflict = refl
+  write_free RootInUse = refl
+  write_free UnsyncedVmid = refl
+  write_free BadOperand = refl
+  write_free LockBusy = refl
+  write_free LockNotMine = refl
