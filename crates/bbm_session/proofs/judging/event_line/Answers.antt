@@ -1,4 +1,5 @@
-use Rattle.std.proofs.Common.{◌≡◌, [], ◌∷◌, ◌++◌, refl, ap, ◌∙◌, subst}
+use Rattle.std.proofs.Common.{◌≡◌, [], ◌∷◌, ◌++◌, refl, ◌∙◌, subst}
+use Rattle.bbm_io.specs.Reading.{shown}
 use Rattle.bbm_regimes.specs.declared.regime.Which.TheVariants.{LineBytes}
 use Rattle.bbm_events.specs.declared.malformed.Malformed.TheVariants.{NoEnd}
 use Rattle.bbm_events.specs.Lines.{item_of}
@@ -7,7 +8,6 @@ use Rattle.bbm_rules.specs.Claims.{Patterns}
 use Rattle.bbm_rules.specs.Outcome.{AtEvents, after_item}
 use Rattle.bbm_session.specs.Run.{IsEvent}
 use Rattle.bbm_session.specs.Stages.{JudgesLine}
-use Rattle.bbm_io.specs.Reading.{shown}
 use Rattle.bbm_session.proofs.Stages.{found-takes, may-judge, line-advances, rest-stops, long-stops, fault-stops}
 use Rattle.bbm_session.proofs.judging.event_line.Goals as goal
 
@@ -21,7 +21,7 @@ returns-in-Line-clause-advances g c = λ h stands.
     let header = c.args.header.now in
     let whole = c.at_hand-whole.result in
     let line = shown whole (g.S.Source.at_hand c.find_piece.new.log) c.find_piece.new.lines.bytes in
-    let read : c.read_event-read.result ≡ item_of header line = c.read_event-read.ensures.item ∙ ap (item_of header) c.shown.ensures in
+    let read : c.read_event-read.result ≡ item_of header line = rw (← c.shown.ensures) c.read_event-read.ensures.item in
     let after = g.C.Checker.stands c.judge_item.new.checker in
     let judged = subst (λ r. JudgesLine after limits header n h (IsEvent r) c.judge_item.result (after_item Patterns limits n header h r)) read (c.judge_item.ensures header h stands c.read_event-read.ensures.fits) in
     let takes = found-takes whole line _ _ _ c.in-Line.ensures.finds c.take_found.ensures.takes in
