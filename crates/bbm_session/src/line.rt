@@ -47,7 +47,8 @@ pub fn find_piece<S: Source>(whole: Option<usize>, lines: &mut Lines, log: &mut 
     requires whole { IfSome whole (λ count. LiesWhole count (S.at_hand log.old)) }
     requires sound { lines.old.failed ≡ false }
     requires room { lines.old.taken + 201 ≤ 2 ^ 40 }
-    ensures finds { Finds result whole (shown whole (S.at_hand log.new) lines.new.bytes) (S.left log.old) (S.left log.new) }
+    ensures finds { Finds result whole (shown whole (S.at_hand log.new) lines.new.bytes)
+        (S.left log.old) (S.left log.new) }
     ensures whole { IfSome whole (λ count. LiesWhole count (S.at_hand log.new)) }
     ensures at_hand { IfSome whole (λ count. count ≤ length (S.at_hand log.new)) }
     ensures sound { result ≡ Line → lines.new.failed ≡ false }
@@ -66,7 +67,8 @@ pub fn find_piece<S: Source>(whole: Option<usize>, lines: &mut Lines, log: &mut 
 pub fn take_found<S: Source>(whole: Option<usize>, lines: &mut Lines, log: &mut S)
     requires whole { IfSome whole (λ count. LiesWhole count (S.at_hand log.old)) }
     requires room { lines.old.taken + awaited whole ≤ 2 ^ 40 }
-    ensures takes { TakesFound whole (shown whole (S.at_hand log.old) lines.old.bytes) (S.left log.old) (S.left log.new) }
+    ensures takes { TakesFound whole (shown whole (S.at_hand log.old) lines.old.bytes)
+        (S.left log.old) (S.left log.new) }
     ensures taken { lines.new.taken ≡ lines.old.taken + awaited whole }
     ensures failed { lines.new.failed ≡ lines.old.failed }
     ensures sound { S.faults log.new ≡ S.faults log.old }
