@@ -30,7 +30,7 @@ use Rattle.bbm_session.specs.declared.stop.Stop.{Stop}
 use Rattle.bbm_session.specs.declared.stop.Stop.TheVariants.{Decided, ReadFault, NoMemory}
 use Rattle.bbm_session.specs.declared.stop.Turn.{Turn}
 use Rattle.bbm_session.specs.declared.stop.Turn.TheVariants.{Event, End}
-use Rattle.bbm_session.specs.Pieces.{Takes}
+use Rattle.bbm_session.specs.Pieces.{Takes, Finds, TakesFound}
 use Rattle.bbm_session.specs.Run.{NeedsMemory, IsEvent}
 use Rattle.bbm_session.specs.Stages.{outcome_at, plain_lines, all_fit, Passed, Breaks, Starves, Shrinks, Continues, Concludes, Stops, StopsAt, StandsAt, MayJudge, IsBrief, Keeps, Knows, KnowsAt, JudgesHeader, JudgesLine, Starts, Advances, Reaches, Closes, Ends}
 use Rattle.bbm_session.specs.Writing.{Heads}
@@ -191,6 +191,11 @@ long-decides trust limits n p line (Some bytes) (Some rest) is_plain is_long tak
     rw (bytes_are, text_of-prefix line rest is_plain) (parts.0, parts.1 ∙ bytes_of-text_of rest, parts.2)
 
 -- One piece, by what stood there.
+
+-- a line that was found and then taken
+pub found-takes : (whole : Option ℕ) (line : List ℕ) (old mid new : Option (List ℕ)) → Finds piece.Line whole line old mid → TakesFound whole line mid new → Takes piece.Line line old new
+found-takes None line old mid new found taken = found ∙ ap (preceded (line ++ 10 ∷ [])) (sym taken)
+found-takes (Some count) line old mid new found taken = sym found ∙ taken
 
 pub rest-stops : (limits : Limits) (n : ℕ) (p : Progress) (v : Verdict) (line : List ℕ) (old new : Option (List ℕ)) (f f' : ℕ) → cut_at n p line ≡ v → plain line ≡ true → length line ≤ 200 → Takes piece.Rest line old new → f' ≡ f → Stops Patterns limits n p old (Decided v) (events_in p) new f f'
 rest-stops limits n p v line old new f f' cut is_plain is_short takes sound =

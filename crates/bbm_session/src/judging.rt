@@ -14,7 +14,7 @@ ghost use Rattle.bbm_session.specs.Run.{IsEvent};
 ghost use Rattle.bbm_session.specs.Stages.{Shrinks, StopsAt, StandsAt, MayJudge, Ready, IsBrief, Keeps, JudgesHeader};
 ghost use Rattle.bbm_session.specs.Stages.{JudgesLine, Starts, Advances, Reaches, Closes, Ends};
 
-use crate::line::{Piece, next_piece};
+use crate::line::{Piece, find_piece, next_piece, take_found};
 use crate::stop::{Stop, Turn};
 use bbm_events::{Event, Header, Item, Label, Malformed};
 use bbm_io::{Lines, Source};
@@ -175,15 +175,12 @@ fn event_line<C: Checker, S: Source>(
         (S.faults log.old) (S.faults log.new) }
     ensures shrinks { Shrinks (S.left log.old) (S.left log.new) }
 {
-    match next_piece(lines, log) {
+    let whole = lines.at_hand(log);
+    match find_piece(whole, lines, log) {
         Piece::Line => {
-            judge_item(
-                alloc,
-                limits,
-                number,
-                checker,
-                read_event(header, lines.bytes()),
-            )
+            let read = read_event(header, lines.shown(whole, log));
+            take_found(whole, lines, log);
+            judge_item(alloc, limits, number, checker, read)
         }
         Piece::Rest => Err(malformed(number, Malformed::NoEnd)),
         Piece::TooLong => Err(limit(number, Which::LineBytes)),
