@@ -1,14 +1,11 @@
-//! Each line, the words that ask for a walk, and what it finds.
+//! Each line, and the words that ask for a walk. What a walk finds is shown by the session's tests.
 
-ghost use Rattle.std.specs.Prelude.{false};
-ghost use Rattle.bbm_descriptor.specs.Pairs.{value_among};
-
-use crate::{Question, asked, find, found_text, phase_text, verdict_text, walk_text};
+use crate::{Question, asked, found_text, phase_text, verdict_text, walk_text};
 use arrayvec::ArrayVec;
-use bbm_descriptor::{Memory, Pairs, Walk};
-use bbm_events::{Event, Header, Label, Malformed};
-use bbm_regimes::{HypWorld, Kind, Page, Pe, Place, Which, World};
-use bbm_rules::{Checker, Phase, Rule, StepFault, Verdict};
+use bbm_descriptor::Walk;
+use bbm_events::{Label, Malformed};
+use bbm_regimes::{Kind, Page, Pe, Which};
+use bbm_rules::{Phase, Rule, Verdict};
 use std::alloc::{AllocError, Global};
 use std::test::Fail;
 
@@ -164,89 +161,6 @@ fn reads_the_words_of_a_walk(rt: HostRuntime) -> Result<(), Fail> {
     ] {
         let words = words(rt.alloc(), command)?;
         assert_eq!(rt; asked(&words), want, "{command}");
-    }
-    Ok(())
-}
-
-/// A checker that tells of one stage 2 root and of these values, and stands for no history.
-#[derive(Drop)]
-struct Told<'a> {
-    root: Page,
-    pairs: Pairs<'a>,
-}
-
-impl Memory for Told<'_> {
-    ghost value_at = { λ told place. value_among told.pairs.pairs.now place };
-
-    fn value(&self, place: Place) -> u64 {
-        self.pairs.value(place)
-    }
-}
-
-impl Checker for Told<'_> {
-    ghost stands = { λ _ _ _. ⊥ };
-
-    ghost frugal = { λ _. false };
-
-    fn step(&mut self, _alloc: Global, _event: Event) -> Result<(), StepFault> {
-        Err(StepFault::NoMemory)
-    }
-
-    fn phase(&self, _place: Place, _pe: Pe) -> Phase {
-        Phase::Clean
-    }
-
-    fn events(&self) -> u64 {
-        0
-    }
-
-    fn pages(&self) -> u64 {
-        0
-    }
-
-    fn restless(&self) -> u64 {
-        0
-    }
-
-    fn is_root(&self, kind: Kind, page: Page) -> bool {
-        kind == Kind::S2 && page == self.root
-    }
-
-    ghost values = { λ told heading h stands place. absurd stands };
-}
-
-#[test]
-fn finds_through_joined_pages(rt: HostRuntime) -> Result<(), Fail> {
-    let header = Header {
-        version: 1,
-        pes: 1,
-        cnp: false,
-        world: World::Hyp(HypWorld {
-            el2_start: 1,
-            s2_start: 1,
-            s2_pages: 16,
-        }),
-    };
-    let root = Page::new(0x4001_0000).ok_or("no page")?;
-    let other = Page::new(0x4001_1000).ok_or("no page")?;
-    let pairs = [(Place::new(0x4001_fff8).ok_or("no place")?, 0xc000_07fd)];
-    let told = Told {
-        root,
-        pairs: Pairs { pairs: &pairs },
-    };
-    let out = Walk::Out {
-        addr: 0xffff_f000,
-        level: 1,
-    };
-    let fault = Walk::Fault { level: 1 };
-    for (kind, root, addr, want) in [
-        (Kind::S2, root, 0x7ff_ffff_f000, Some(out)),
-        (Kind::S2, root, 0x800_0000_0000, Some(fault)),
-        (Kind::S2, other, 0x7ff_ffff_f000, None),
-        (Kind::El2, root, 0x7ff_ffff_f000, None),
-    ] {
-        let question = Question { kind, root, addr };
-        assert_eq!(rt; find(&told, &header, question), want, "{addr}");
     }
     Ok(())
 }
