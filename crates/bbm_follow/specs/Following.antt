@@ -1,8 +1,8 @@
 -- What a run says: a log in which lines of machine steps stand between the header and the end. A fold over its lines, which
 -- knows nothing of a reader. The whole text is read before a step that is none is named. Steps are listed newest first.
 -- Source: project's own choice.
-use Rattle.std.specs.Prelude.{◌≡◌, ◌⊎◌, ℕ, zero, suc, ◌+◌, Bool, true, false, ◌&&◌, ◌==◌, nat_le, List, [], ◌∷◌, ◌++◌, length, drop}
-use Rattle.std.specs.Prelude.{Option, Some, None, Result, Ok, Err, codes, decimal, if◌then◌else◌}
+use Rattle.std.specs.Prelude.{◌≡◌, ℕ, zero, suc, ◌+◌, Bool, true, false, ◌&&◌, ◌==◌, nat_le, List, [], ◌∷◌, ◌++◌, length, drop}
+use Rattle.std.specs.Prelude.{Option, Some, None, Result, Ok, Err, codes, decimal, if◌then◌else◌, option_map}
 use Rattle.bbm_regimes.specs.declared.regime.Which.TheVariants.{LineBytes, Steps}
 use Rattle.bbm_events.specs.declared.event.Item.{Item}
 use Rattle.bbm_events.specs.declared.event.Item.TheVariants as item
@@ -14,12 +14,14 @@ use Rattle.bbm_events.specs.Lines.{header_of, item_of}
 use Rattle.bbm_events.specs.Machine.{machine_of}
 use Rattle.bbm_rules.specs.declared.verdict.Verdict.{Verdict}
 use Rattle.bbm_rules.specs.declared.verdict.Verdict.TheVariants.{Malformed, Limit}
-use Rattle.bbm_rules.specs.Outcome.{Text, text_of, bytes_of, is_too_long, unread_after}
+use Rattle.bbm_rules.specs.Outcome.{text_of, is_too_long, unread_after}
 use Rattle.bbm_rules.specs.Texts.{verdict_text}
 use Rattle.bbm_tlb_machine.specs.declared.step.Step.{Step}
 use Rattle.bbm_tlb_machine.specs.declared.step.Step.TheVariants as step
 use Rattle.bbm_tlb_machine.specs.Run.{State, follow_steps}
 use Rattle.bbm_tlb_machine.specs.Safe.{first_conflict}
+use Rattle.bbm_follow.specs.declared.followed.Followed.{Followed}
+use Rattle.bbm_follow.specs.declared.followed.Followed.TheVariants.{Run, BadStep}
 use Rattle.bbm_follow.specs.declared.turn.LineFault.{LineFault}
 use Rattle.bbm_follow.specs.declared.turn.LineFault.TheVariants.{Decided, NoMemory}
 use Rattle.bbm_follow.specs.declared.turn.Turn.{Turn}
@@ -131,22 +133,31 @@ abbrev pub run_of : List ℕ → RunOutcome
 run_of bytes = run_from 1 AtHeader (text_of bytes).lines (text_of bytes).rest
 
 -- Step i, counted from 0, stands on line i + 2.
+abbrev pub line_of : ℕ → ℕ
+line_of i = i + 2
+
+-- what comes of a run of so many steps: the line of the first step that is none; or that of its first conflict, if it has
+-- one
+abbrev pub followed_by : ℕ → Result State ℕ → Option ℕ → Followed
+followed_by count (Err i) conflict = BadStep (line_of i)
+followed_by count (Ok state) conflict = Run count (option_map line_of conflict)
+
+abbrev pub followed : Heading → List Step → Followed
+followed heading steps = followed_by (length steps) (follow_steps heading steps) (first_conflict heading steps)
+
+-- the line that says what comes of a run
 abbrev pub conflict_text : Option ℕ → List ℕ
 conflict_text None = []
-conflict_text (Some i) = codes " conflict line " ++ decimal (i + 2)
+conflict_text (Some line) = codes " conflict line " ++ decimal line
 
--- the line of a run that was followed, so many steps long: the first step that is none; or its first conflict, if it has
--- one
-unfoldable pub followed_text : ℕ → Result State ℕ → Option ℕ → List ℕ
-followed_text count (Err i) conflict = codes "bad step line " ++ decimal (i + 2) ++ codes "\n"
-followed_text count (Ok state) conflict =
-    codes "run " ++ decimal count ++ codes " steps" ++ conflict_text conflict ++ codes "\n"
+unfoldable pub followed_text : Followed → List ℕ
+followed_text (BadStep line) = codes "bad step line " ++ decimal line ++ codes "\n"
+followed_text (Run count conflict) = codes "run " ++ decimal count ++ codes " steps" ++ conflict_text conflict ++ codes "\n"
 
 -- the text of a run
 abbrev pub run_text : RunSays → List ℕ
 run_text (Stopped verdict) = verdict_text verdict
-run_text (Whole heading steps) =
-    followed_text (length steps) (follow_steps heading steps) (first_conflict heading steps)
+run_text (Whole heading steps) = followed_text (followed heading steps)
 
 -- What a line of a run says, by the steps before it and after it: it was taken as a step, or is the end, or reading stops.
 -- There may be no memory for a step.

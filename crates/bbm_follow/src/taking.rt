@@ -1,6 +1,6 @@
 //! A line of a run, taken.
 
-ghost use Rattle.std.specs.Prelude.{◌≡◌, ◌+◌, reverse};
+ghost use Rattle.std.specs.Prelude.{◌≡◌, ◌≤◌, reverse, length};
 ghost use Rattle.bbm_events.specs.Heading.{Heading};
 ghost use Rattle.bbm_follow.specs.Following.{TakesLine, after_item, after_line, after_machine, after_step, event_count};
 ghost use Rattle.bbm_follow.specs.Following as following;
@@ -56,8 +56,9 @@ fn count_events(steps: &[Step]) -> u64
 
 // One more step.
 fn take_step(number: u64, steps: &mut Vec<Step>, step: &Step) -> Result<Turn, LineFault>
-    ensures { (heading : Heading) → TakesLine heading (reverse steps.old.items) (reverse steps.new.items) result
+    ensures says { (heading : Heading) → TakesLine heading (reverse steps.old.items) (reverse steps.new.items) result
         (after_step number heading (reverse steps.old.items) step.now) }
+    ensures short { length steps.old.items ≤ 2000 → length steps.new.items ≤ 2000 }
 {
     if steps.len() >= STEPS {
         return Err(too_many(number));
@@ -78,8 +79,9 @@ fn take_item(
     steps: &mut Vec<Step>,
     read: Result<Item, Malformed>,
 ) -> Result<Turn, LineFault>
-    ensures { (heading : Heading) → TakesLine heading (reverse steps.old.items) (reverse steps.new.items) result
+    ensures says { (heading : Heading) → TakesLine heading (reverse steps.old.items) (reverse steps.new.items) result
         (after_item number heading (reverse steps.old.items) read) }
+    ensures short { length steps.old.items ≤ 2000 → length steps.new.items ≤ 2000 }
 {
     match read {
         Ok(Item::Event(event, _)) => take_step(number, steps, &Step::Event(event)),
@@ -100,8 +102,9 @@ fn take_machine(
     steps: &mut Vec<Step>,
     read: Result<MachineLine, Malformed>,
 ) -> Result<Turn, LineFault>
-    ensures { (heading : Heading) → TakesLine heading (reverse steps.old.items) (reverse steps.new.items) result
+    ensures says { (heading : Heading) → TakesLine heading (reverse steps.old.items) (reverse steps.new.items) result
         (after_machine number heading (reverse steps.old.items) read) }
+    ensures short { length steps.old.items ≤ 2000 → length steps.new.items ≤ 2000 }
 {
     match read {
         Ok(line) => take_step(number, steps, &Step::Machine(line)),
@@ -115,8 +118,9 @@ fn take_machine(
 /// end, with the right count of the events; no step was added. `Decided`: it is malformed, by the first cause, or it is a
 /// step behind 2,000 others. Labels say nothing here, and no event is judged. Source: project's own choice.
 pub fn take_line(number: u64, header: &Header, steps: &mut Vec<Step>, line: &[u8]) -> Result<Turn, LineFault>
-    ensures { TakesLine header.now (reverse steps.old.items) (reverse steps.new.items) result
+    ensures says { TakesLine header.now (reverse steps.old.items) (reverse steps.new.items) result
         (after_line number (following.AtSteps header.now (reverse steps.old.items)) line.now) }
+    ensures short { length steps.old.items ≤ 2000 → length steps.new.items ≤ 2000 }
 {
     if is_machine(line) {
         take_machine(number, steps, read_machine(header, line))
