@@ -69,11 +69,7 @@ fn whole_run(_header: &Header, steps: &Vec<Step>, machine: &Machine) -> Followed
 
 /// Follows the steps of a run, at most 2,000, under its header: what comes of them, or `NoMemory`. Source: project's own
 /// choice.
-pub fn follow_run(
-    alloc: Global,
-    header: &Header,
-    steps: &Vec<Step>,
-) -> Result<Followed, NoMemory>
+pub fn follow_run(alloc: Global, header: &Header, steps: &Vec<Step>) -> Result<Followed, NoMemory>
     requires few { length steps.now.items ≤ 2000 }
     ensures followed { IfOk result (λ told. told ≡ followed header.now (reverse steps.now.items)) }
 {

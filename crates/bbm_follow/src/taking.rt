@@ -117,7 +117,12 @@ fn take_machine(
 /// machine, and any other is an event or the end. `Step`: the line's step was added to `steps`. `End`: the line is the
 /// end, with the right count of the events; no step was added. `Decided`: it is malformed, by the first cause, or it is a
 /// step behind 2,000 others. Labels say nothing here, and no event is judged. Source: project's own choice.
-pub fn take_line(number: u64, header: &Header, steps: &mut Vec<Step>, line: &[u8]) -> Result<Turn, LineFault>
+pub fn take_line(
+    number: u64,
+    header: &Header,
+    steps: &mut Vec<Step>,
+    line: &[u8],
+) -> Result<Turn, LineFault>
     ensures says { TakesLine header.now (reverse steps.old.items) (reverse steps.new.items) result
         (after_line number (following.AtSteps header.now (reverse steps.old.items)) line.now) }
     ensures short { length steps.old.items ≤ 2000 → length steps.new.items ≤ 2000 }

@@ -36,8 +36,8 @@ fn said_by_lines() -> [(&'static [u8], Result<Turn, LineFault>); 12] {
 fn lines_say_what_was_worked_out(rt: HostRuntime) -> Result<(), Fail> {
     let header = read_header(b"bbmlog 1 hyp 2 1 1 1")?;
     let mut steps = Vec::new(rt.alloc());
-    for row in said_by_lines() {
-        assert_eq!(rt; take_line(7, &header, &mut steps, row.0), row.1);
+    for (line, said) in said_by_lines() {
+        assert_eq!(rt; take_line(7, &header, &mut steps, line), said);
     }
     Ok(())
 }
@@ -215,5 +215,5 @@ fn says_a_run_without_a_conflict(rt: HostRuntime) {
         conflict: None,
     };
     followed_text(told, &mut out);
-    assert_eq!(rt; out.as_slice(), b"run 2 steps\n");
+    assert_eq!(rt; out.as_slice(), b"run 2 steps\n".as_slice());
 }
