@@ -1,7 +1,7 @@
 -- What a run says: a log in which lines of machine steps stand between the header and the end. A fold over its lines, which
 -- knows nothing of a reader. The whole text is read before a step that is none is named. Steps are listed newest first.
 -- Source: project's own choice.
-use Rattle.std.specs.Prelude.{◌≡◌, ℕ, zero, suc, ◌+◌, Bool, true, false, ◌&&◌, ◌==◌, nat_le, List, [], ◌∷◌, ◌++◌, length, drop}
+use Rattle.std.specs.Prelude.{◌≡◌, ℕ, zero, suc, ◌+◌, Bool, false, ◌&&◌, ◌==◌, nat_le, List, [], ◌∷◌, ◌++◌, length, drop}
 use Rattle.std.specs.Prelude.{Option, Some, None, Result, Ok, Err, codes, decimal, if◌then◌else◌, option_map}
 use Rattle.bbm_regimes.specs.declared.regime.Which.TheVariants.{LineBytes, Steps}
 use Rattle.bbm_events.specs.declared.event.Item.{Item}
