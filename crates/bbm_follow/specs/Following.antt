@@ -1,8 +1,8 @@
--- What a run says: a log in which lines of machine steps stand between the header and the end. A fold over its lines, which
--- knows nothing of a reader. The whole text is read before a step that is none is named. Steps are listed newest first.
--- Source: project's own choice.
-use Rattle.std.specs.Prelude.{◌≡◌, ℕ, zero, suc, ◌+◌, Bool, false, ◌&&◌, ◌==◌, nat_le, List, [], ◌∷◌, ◌++◌, length, drop}
-use Rattle.std.specs.Prelude.{Option, Some, None, Result, Ok, Err, codes, decimal, if◌then◌else◌, option_map}
+-- What a run says: a log in which lines of machine steps stand between the header and the end. A fold over its lines,
+-- which knows nothing of a reader. The whole text is read before a step that is none is named. Steps are listed newest
+-- first. Source: project's own choice.
+use Rattle.std.specs.Prelude.{◌≡◌, ℕ, zero, suc, ◌+◌, Bool, false, ◌&&◌, ◌==◌, nat_le, List, [], ◌∷◌, ◌++◌, length}
+use Rattle.std.specs.Prelude.{drop, Option, Some, None, Result, Ok, Err, codes, decimal, if◌then◌else◌, option_map}
 use Rattle.bbm_regimes.specs.declared.regime.Which.TheVariants.{LineBytes, Steps}
 use Rattle.bbm_events.specs.declared.event.Item.{Item}
 use Rattle.bbm_events.specs.declared.event.Item.TheVariants as item
@@ -136,8 +136,8 @@ run_of bytes = run_from 1 AtHeader (text_of bytes).lines (text_of bytes).rest
 abbrev pub line_of : ℕ → ℕ
 line_of i = i + 2
 
--- what comes of a run of so many steps: the line of the first step that is none; or that of its first conflict, if it has
--- one
+-- what comes of a run of so many steps: the line of the first step that is none; or that of its first conflict, if it
+-- has one
 abbrev pub followed_by : ℕ → Result State ℕ → Option ℕ → Followed
 followed_by count (Err i) conflict = BadStep (line_of i)
 followed_by count (Ok state) conflict = Run count (option_map line_of conflict)
@@ -152,15 +152,16 @@ conflict_text (Some line) = codes " conflict line " ++ decimal line
 
 unfoldable pub followed_text : Followed → List ℕ
 followed_text (BadStep line) = codes "bad step line " ++ decimal line ++ codes "\n"
-followed_text (Run count conflict) = codes "run " ++ decimal count ++ codes " steps" ++ conflict_text conflict ++ codes "\n"
+followed_text (Run count conflict) =
+    codes "run " ++ decimal count ++ codes " steps" ++ conflict_text conflict ++ codes "\n"
 
 -- the text of a run
 abbrev pub run_text : RunSays → List ℕ
 run_text (Stopped verdict) = verdict_text verdict
 run_text (Whole heading steps) = followed_text (followed heading steps)
 
--- What a line of a run says, by the steps before it and after it: it was taken as a step, or is the end, or reading stops.
--- There may be no memory for a step.
+-- What a line of a run says, by the steps before it and after it: it was taken as a step, or is the end, or reading
+-- stops. There may be no memory for a step.
 abbrev pub TakesLine : Heading → List Step → List Step → Result Turn LineFault → Turned → Type 0
 TakesLine heading old new (Ok turn.Step) turned = turned ≡ GoesOn (AtSteps heading new)
 TakesLine heading old new (Ok turn.End) turned = (turned ≡ GoesOn (AtEnd heading old)) × (new ≡ old)

@@ -1,23 +1,22 @@
 //! What comes of a run.
 
-ghost use Rattle.std.specs.Prelude.{◌≡◌, ◌≤◌, ◌+◌, ◌++◌, [], Err, IfOk, IfSome, length, option_map, reverse};
+ghost use Rattle.std.specs.Prelude.{◌≡◌, ◌≤◌, ◌+◌, ◌++◌, [], IfOk, IfSome, length, option_map, reverse};
 ghost use Rattle.arrayvec.specs.ArrayVec.{array_vec_len};
-ghost use Rattle.bbm_tlb_machine.specs.Followed.{Follows};
-ghost use Rattle.bbm_tlb_machine.specs.Run.{follow_steps};
-ghost use Rattle.bbm_follow.specs.Following.{conflict_text, line_of as spec_line, followed, followed_text as text_of_followed};
+ghost use Rattle.bbm_follow.specs.Following.{conflict_text, line_of as spec_line, followed};
+ghost use Rattle.bbm_follow.specs.Following.{followed_text as text_of_followed};
 
 use arrayvec::ArrayVec;
 use bbm_events::Header;
 use bbm_log_grammar::{add, add_decimal};
 use bbm_regimes::NoMemory;
-use bbm_tlb_machine::{FollowFault, Machine, Step, follow};
+use bbm_tlb_machine::{FollowFault, Step, follow};
 use std::alloc::Global;
 
 /// What comes of a run that was read whole. Lines are numbered from 1.
 #[derive(Clone, Copy, Debug, PartialEq, Eq)]
 pub enum Followed {
-    /// Each step is one of the machine's: the number of steps, and the line of the first at which a clause of a safe log
-    /// fails.
+    /// Each step is one of the machine's: the number of steps, and the line of the first at which a clause of a safe
+    /// log fails.
     Run { steps: u64, conflict: Option<u64> },
     /// The line of the first step that is none of the machine's.
     BadStep { line: u64 },
@@ -42,40 +41,21 @@ fn conflict_line(conflict: Option<u64>) -> Option<u64>
     }
 }
 
-// What comes of a run with a step that is none, by its index.
-#[tactic(auto, using(crate::proofs::Runs::bad_index))]
-fn bad_step(_header: &Header, _steps: &Vec<Step>, index: u64) -> Followed
-    requires few { length _steps.now.items ≤ 2000 }
-    requires bad { follow_steps _header.now (reverse _steps.now.items) ≡ Err index }
-    ensures { result ≡ followed _header.now (reverse _steps.now.items) }
-{
-    Followed::BadStep {
-        line: line_of(index),
-    }
-}
-
-// What comes of a run that was followed.
-#[tactic(auto, using(crate::proofs::Runs::conflict_index))]
-fn whole_run(_header: &Header, steps: &Vec<Step>, machine: &Machine) -> Followed
-    requires few { length steps.now.items ≤ 2000 }
-    requires follows { Follows _header.now (reverse steps.now.items) machine.now }
-    ensures { result ≡ followed _header.now (reverse steps.now.items) }
-{
-    Followed::Run {
-        steps: steps.len() as u64,
-        conflict: conflict_line(machine.conflict()),
-    }
-}
-
-/// Follows the steps of a run, at most 2,000, under its header: what comes of them, or `NoMemory`. Source: project's own
-/// choice.
+/// Follows the steps of a run, at most 2,000, the oldest first, under its header: what comes of them, or `NoMemory`. Step
+/// i, counted from 0, stands on line i + 2. Source: project's own choice.
+#[tactic(auto, using(crate::proofs::Runs::bad_index, crate::proofs::Runs::conflict_index))]
 pub fn follow_run(alloc: Global, header: &Header, steps: &Vec<Step>) -> Result<Followed, NoMemory>
     requires few { length steps.now.items ≤ 2000 }
     ensures followed { IfOk result (λ told. told ≡ followed header.now (reverse steps.now.items)) }
 {
     match follow(alloc, header, steps) {
-        Ok(machine) => Ok(whole_run(header, steps, &machine)),
-        Err(FollowFault::BadStep(index)) => Ok(bad_step(header, steps, index)),
+        Ok(machine) => Ok(Followed::Run {
+            steps: steps.len() as u64,
+            conflict: conflict_line(machine.conflict()),
+        }),
+        Err(FollowFault::BadStep(index)) => Ok(Followed::BadStep {
+            line: line_of(index),
+        }),
         Err(FollowFault::NoMemory) => Err(NoMemory),
     }
 }

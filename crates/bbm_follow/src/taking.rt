@@ -112,11 +112,12 @@ fn take_machine(
     }
 }
 
-/// Takes line `number`, of at most 200 bytes and without its newline, that stands between the header and the end; `steps`
-/// are those of the lines before it, the oldest first, of at most 2,000. A line whose first field is `m` is a step of a
-/// machine, and any other is an event or the end. `Step`: the line's step was added to `steps`. `End`: the line is the
-/// end, with the right count of the events; no step was added. `Decided`: it is malformed, by the first cause, or it is a
-/// step behind 2,000 others. Labels say nothing here, and no event is judged. Source: project's own choice.
+/// Takes line `number`, of at most 200 bytes and without its newline, that stands between the header and the end.
+/// `steps` are those of the lines before it, the oldest first, of at most 2,000. A line whose first field is `m` is a
+/// step of a machine, and any other is an event or the end. `Step`: the line's step was added to `steps`. `End`: the
+/// line is the end, with the right count of the events; no step was added. `Decided`: the line is malformed, by the
+/// first cause, or is a step behind 2,000 others. Labels say nothing here, and no event is judged. Source: project's own
+/// choice.
 pub fn take_line(
     number: u64,
     header: &Header,
