@@ -1,0 +1,169 @@
+-- What a run says: a log in which lines of machine steps stand between the header and the end. A fold over its lines,
+-- which knows nothing of a reader. The whole text is read before a step that is none is named. Steps are listed newest
+-- first. Source: project's own choice.
+use Rattle.std.specs.Prelude.{◌≡◌, ℕ, zero, suc, ◌+◌, Bool, false, ◌&&◌, ◌==◌, nat_le, List, [], ◌∷◌, ◌++◌, length}
+use Rattle.std.specs.Prelude.{drop, Option, Some, None, Result, Ok, Err, codes, decimal, if◌then◌else◌, option_map}
+use Rattle.bbm_regimes.specs.declared.regime.Which.TheVariants.{LineBytes, Steps}
+use Rattle.bbm_events.specs.declared.event.Item.{Item}
+use Rattle.bbm_events.specs.declared.event.Item.TheVariants as item
+use Rattle.bbm_events.specs.declared.machine.MachineLine.{MachineLine}
+use Rattle.bbm_events.specs.declared.malformed.Malformed.{Malformed as Cause}
+use Rattle.bbm_events.specs.declared.malformed.Malformed.TheVariants.{NoEnd, WrongCount, AfterEnd}
+use Rattle.bbm_events.specs.Heading.{Heading}
+use Rattle.bbm_events.specs.Lines.{header_of, item_of}
+use Rattle.bbm_events.specs.Machine.{machine_of}
+use Rattle.bbm_rules.specs.declared.verdict.Verdict.{Verdict}
+use Rattle.bbm_rules.specs.declared.verdict.Verdict.TheVariants.{Malformed, Limit}
+use Rattle.bbm_rules.specs.Outcome.{text_of, is_too_long, unread_after}
+use Rattle.bbm_rules.specs.Texts.{verdict_text}
+use Rattle.bbm_tlb_machine.specs.declared.step.Step.{Step}
+use Rattle.bbm_tlb_machine.specs.declared.step.Step.TheVariants as step
+use Rattle.bbm_tlb_machine.specs.Run.{State, follow_steps}
+use Rattle.bbm_tlb_machine.specs.Safe.{first_conflict}
+use Rattle.bbm_follow.specs.declared.followed.Followed.{Followed}
+use Rattle.bbm_follow.specs.declared.followed.Followed.TheVariants.{Run, BadStep}
+use Rattle.bbm_follow.specs.declared.turn.LineFault.{LineFault}
+use Rattle.bbm_follow.specs.declared.turn.LineFault.TheVariants.{Decided, NoMemory}
+use Rattle.bbm_follow.specs.declared.turn.Turn.{Turn}
+use Rattle.bbm_follow.specs.declared.turn.Turn.TheVariants as turn
+
+-- the most events and machine steps of a run
+abbrev pub step_limit : ℕ
+step_limit = 2000
+
+-- how far the lines of a run were read: none; the header and these steps; the end after these steps
+pub data Reached : Type 0 where
+  AtHeader : Reached
+  AtSteps : Heading → List Step → Reached
+  AtEnd : Heading → List Step → Reached
+
+-- What one line decides: reading stops there, or how far the lines are read with it. A line that stops reading is
+-- malformed or reaches a limit.
+pub data Turned : Type 0 where
+  Stops : Verdict → Turned
+  GoesOn : Reached → Turned
+
+-- the number of events among steps
+abbrev pub event_count : List Step → ℕ
+event_count [] = zero
+event_count (step.Event e ∷ steps) = suc (event_count steps)
+event_count (step.Machine line ∷ steps) = event_count steps
+
+-- one more step: a malformed line comes before the limit of steps
+abbrev pub after_step : ℕ → Heading → List Step → Step → Turned
+after_step number heading steps s =
+    if nat_le step_limit (length steps) then Stops (Limit number Steps) else GoesOn (AtSteps heading (s ∷ steps))
+
+abbrev pub after_end : ℕ → Heading → List Step → ℕ → Turned
+after_end number heading steps count =
+    if count == event_count steps then GoesOn (AtEnd heading steps) else Stops (Malformed number WrongCount)
+
+-- a line of the log; a label says nothing here
+abbrev pub after_item : ℕ → Heading → List Step → Result Item Cause → Turned
+after_item number heading steps (Ok (item.Event event label)) = after_step number heading steps (step.Event event)
+after_item number heading steps (Ok (item.End count)) = after_end number heading steps count
+after_item number heading steps (Err cause) = Stops (Malformed number cause)
+
+-- a machine line
+abbrev pub after_machine : ℕ → Heading → List Step → Result MachineLine Cause → Turned
+after_machine number heading steps (Ok line) = after_step number heading steps (step.Machine line)
+after_machine number heading steps (Err cause) = Stops (Malformed number cause)
+
+-- a line is a machine line where its first field is `m`: where it is `m`, or begins with `m` and a space
+abbrev pub is_machine : List ℕ → Bool
+is_machine [] = false
+is_machine (first ∷ []) = first == 109
+is_machine (first ∷ second ∷ rest) = first == 109 && second == 32
+
+abbrev pub after_header : ℕ → Result Heading Cause → Turned
+after_header number (Ok heading) = GoesOn (AtSteps heading [])
+after_header number (Err cause) = Stops (Malformed number cause)
+
+-- a line of at most 200 bytes
+abbrev pub after_line : ℕ → Reached → List ℕ → Turned
+after_line number AtHeader line = after_header number (header_of line)
+after_line number (AtSteps heading steps) line =
+    if is_machine line then after_machine number heading steps (machine_of heading line)
+    else after_item number heading steps (item_of heading line)
+after_line number (AtEnd heading steps) line = Stops (Malformed number AfterEnd)
+
+-- a line that is too long
+abbrev pub too_long_at : ℕ → Reached → Verdict
+too_long_at number (AtEnd heading steps) = Malformed number AfterEnd
+too_long_at number _ = Limit number LineBytes
+
+abbrev pub turned_by : ℕ → Reached → List ℕ → Turned
+turned_by number reached line =
+    if is_too_long line then Stops (too_long_at number reached) else after_line number reached line
+
+-- What a run says: reading stopped, or it was read whole: the heading and the steps.
+pub data RunSays : Type 0 where
+  Stopped : Verdict → RunSays
+  Whole : Heading → List Step → RunSays
+
+-- the end of the input, after these bytes since the last newline
+abbrev pub cut_at : ℕ → Reached → List ℕ → RunSays
+cut_at number (AtEnd heading steps) [] = Whole heading steps
+cut_at number (AtEnd heading steps) (byte ∷ rest) = Stopped (Malformed number AfterEnd)
+cut_at number AtHeader rest = Stopped (Malformed number NoEnd)
+cut_at number (AtSteps heading steps) rest = Stopped (Malformed number NoEnd)
+
+abbrev pub end_of : ℕ → Reached → List ℕ → RunSays
+end_of number reached rest =
+    if is_too_long rest then Stopped (too_long_at number reached) else cut_at number reached rest
+
+-- what comes of a run, and the bytes that need not be read for it
+pub record RunOutcome : Type 0 where
+  pub says : RunSays
+  pub unread : List ℕ
+
+abbrev pub outcome_after : List ℕ → List (List ℕ) → List ℕ → (Reached → RunOutcome) → Turned → RunOutcome
+outcome_after line lines rest goes_on (Stops verdict) =
+    record { says = Stopped verdict; unread = unread_after line lines rest }
+outcome_after line lines rest goes_on (GoesOn next) = goes_on next
+
+-- from line number n on, where the lines before were read so far
+abbrev pub run_from : ℕ → Reached → List (List ℕ) → List ℕ → RunOutcome
+run_from number reached [] rest = record { says = end_of number reached rest; unread = drop 201 rest }
+run_from number reached (line ∷ lines) rest =
+    outcome_after line lines rest (λ next. run_from (suc number) next lines rest) (turned_by number reached line)
+
+-- the outcome of a list of bytes
+abbrev pub run_of : List ℕ → RunOutcome
+run_of bytes = run_from 1 AtHeader (text_of bytes).lines (text_of bytes).rest
+
+-- Step i, counted from 0, stands on line i + 2.
+abbrev pub line_of : ℕ → ℕ
+line_of i = i + 2
+
+-- what comes of a run of so many steps: the line of the first step that is none; or that of its first conflict, if it
+-- has one
+abbrev pub followed_by : ℕ → Result State ℕ → Option ℕ → Followed
+followed_by count (Err i) conflict = BadStep (line_of i)
+followed_by count (Ok state) conflict = Run count (option_map line_of conflict)
+
+abbrev pub followed : Heading → List Step → Followed
+followed heading steps = followed_by (length steps) (follow_steps heading steps) (first_conflict heading steps)
+
+-- the line that says what comes of a run
+abbrev pub conflict_text : Option ℕ → List ℕ
+conflict_text None = []
+conflict_text (Some line) = codes " conflict line " ++ decimal line
+
+unfoldable pub followed_text : Followed → List ℕ
+followed_text (BadStep line) = codes "bad step line " ++ decimal line ++ codes "\n"
+followed_text (Run count conflict) =
+    codes "run " ++ decimal count ++ codes " steps" ++ conflict_text conflict ++ codes "\n"
+
+-- the text of a run
+abbrev pub run_text : RunSays → List ℕ
+run_text (Stopped verdict) = verdict_text verdict
+run_text (Whole heading steps) = followed_text (followed heading steps)
+
+-- What a line of a run says, by the steps before it and after it: it was taken as a step, or is the end, or reading
+-- stops. There may be no memory for a step.
+abbrev pub TakesLine : Heading → List Step → List Step → Result Turn LineFault → Turned → Type 0
+TakesLine heading old new (Ok turn.Step) turned = turned ≡ GoesOn (AtSteps heading new)
+TakesLine heading old new (Ok turn.End) turned = (turned ≡ GoesOn (AtEnd heading old)) × (new ≡ old)
+TakesLine heading old new (Err (Decided verdict)) turned = turned ≡ Stops verdict
+TakesLine heading old new (Err NoMemory) turned = Unit {0}

@@ -1,0 +1,13 @@
+//! What a run says, line by line: a log in which lines of machine steps stand between the header and the end; and what
+//! comes of its steps.
+#![tactic(auto)]
+
+pub mod followed;
+mod taking;
+#[cfg(test)]
+mod tests;
+pub mod turn;
+
+pub use followed::{Followed, follow_run, followed_text};
+pub use taking::take_line;
+pub use turn::{LineFault, Turn};

@@ -1,0 +1,136 @@
+//! A line of a run, taken.
+
+ghost use Rattle.std.specs.Prelude.{◌≡◌, ◌≤◌, reverse, length};
+ghost use Rattle.bbm_events.specs.Heading.{Heading};
+ghost use Rattle.bbm_follow.specs.Following.{TakesLine, after_item, after_line, after_machine, after_step, event_count};
+ghost use Rattle.bbm_follow.specs.Following as following;
+
+use crate::turn::{LineFault, Turn};
+use bbm_events::{Header, Item, MachineLine, Malformed};
+use bbm_log_grammar::{read_event, read_machine};
+use bbm_regimes::Which;
+use bbm_rules::Verdict;
+use bbm_tlb_machine::Step;
+
+/// The most events and machine steps of a run. Source: project's own choice.
+const STEPS: usize = 2000;
+
+// That a line is malformed.
+fn malformed(line: u64, cause: Malformed) -> LineFault
+    ensures { result ≡ LineFault.Decided (Verdict.Malformed line cause) }
+{
+    LineFault::Decided(Verdict::Malformed { line, cause })
+}
+
+// That a line reaches the limit of steps.
+fn too_many(line: u64) -> LineFault
+    ensures { result ≡ LineFault.Decided (Verdict.Limit line Which.Steps) }
+{
+    let which = Which::Steps;
+    LineFault::Decided(Verdict::Limit { line, which })
+}
+
+// Whether a line is a machine line: its first field is `m`.
+fn is_machine(line: &[u8]) -> bool
+    ensures { result ≡ following.is_machine line.now }
+{
+    if line.len() == 1 {
+        line[0] == b'm'
+    } else {
+        line.len() >= 2 && line[0] == b'm' && line[1] == b' '
+    }
+}
+
+// The number of events among steps.
+fn count_events(steps: &[Step]) -> u64
+    ensures { result ≡ event_count (reverse steps.now) }
+{
+    let mut count = 0;
+    for step in steps {
+        if let Step::Event(_) = step {
+            count += 1;
+        }
+    }
+    count
+}
+
+// One more step.
+fn take_step(number: u64, steps: &mut Vec<Step>, step: &Step) -> Result<Turn, LineFault>
+    ensures says { (heading : Heading) → TakesLine heading (reverse steps.old.items) (reverse steps.new.items) result
+        (after_step number heading (reverse steps.old.items) step.now) }
+    ensures short { length steps.old.items ≤ 2000 → length steps.new.items ≤ 2000 }
+{
+    if steps.len() >= STEPS {
+        return Err(too_many(number));
+    }
+    let pushed = match step {
+        Step::Machine(line) => steps.push(Step::Machine(*line)),
+        Step::Event(event) => steps.push(Step::Event(*event)),
+    };
+    match pushed {
+        Ok(()) => Ok(Turn::Step),
+        Err(_) => Err(LineFault::NoMemory),
+    }
+}
+
+// What a line that is no machine line decides, by what was read of it. A label says nothing here.
+fn take_item(
+    number: u64,
+    steps: &mut Vec<Step>,
+    read: Result<Item, Malformed>,
+) -> Result<Turn, LineFault>
+    ensures says { (heading : Heading) → TakesLine heading (reverse steps.old.items) (reverse steps.new.items) result
+        (after_item number heading (reverse steps.old.items) read) }
+    ensures short { length steps.old.items ≤ 2000 → length steps.new.items ≤ 2000 }
+{
+    match read {
+        Ok(Item::Event(event, _)) => take_step(number, steps, &Step::Event(event)),
+        Ok(Item::End(count)) => {
+            if u64::from(count) == count_events(steps) {
+                Ok(Turn::End)
+            } else {
+                Err(malformed(number, Malformed::WrongCount))
+            }
+        }
+        Err(cause) => Err(malformed(number, cause)),
+    }
+}
+
+// What a machine line decides, by what was read of it.
+fn take_machine(
+    number: u64,
+    steps: &mut Vec<Step>,
+    read: Result<MachineLine, Malformed>,
+) -> Result<Turn, LineFault>
+    ensures says { (heading : Heading) → TakesLine heading (reverse steps.old.items) (reverse steps.new.items) result
+        (after_machine number heading (reverse steps.old.items) read) }
+    ensures short { length steps.old.items ≤ 2000 → length steps.new.items ≤ 2000 }
+{
+    match read {
+        Ok(line) => take_step(number, steps, &Step::Machine(line)),
+        Err(cause) => Err(malformed(number, cause)),
+    }
+}
+
+/// Takes line `number`, of at most 200 bytes and without its newline, that stands between the header and the end.
+/// `steps` are those of the lines before it, the oldest first, of at most 2,000. A line whose first field is `m` is a
+/// step of a machine, and any other is an event or the end. `Step`: the line's step was added to `steps`. `End`: the
+/// line is the end, with the right count of the events; no step was added. `Decided`: the line is malformed, by the
+/// first cause, or is a step behind 2,000 others. Labels say nothing here, and no event is judged. Source: project's own
+/// choice.
+pub fn take_line(
+    number: u64,
+    header: &Header,
+    steps: &mut Vec<Step>,
+    line: &[u8],
+) -> Result<Turn, LineFault>
+    ensures says { TakesLine header.now (reverse steps.old.items) (reverse steps.new.items) result
+        (after_line number (following.AtSteps header.now (reverse steps.old.items)) line.now) }
+    ensures short { length steps.old.items ≤ 2000 → length steps.new.items ≤ 2000 }
+{
+    if is_machine(line) {
+        take_machine(number, steps, read_machine(header, line))
+    } else {
+        take_item(number, steps, read_event(header, line))
+    }
+}
