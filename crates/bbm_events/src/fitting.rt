@@ -8,22 +8,12 @@ ghost use Rattle.bbm_events.specs.Fits.{fits_heading, is_pe};
 
 use crate::event::Event;
 use crate::header::Header;
+use crate::roots::page_count;
 use bbm_regimes::{Kind, Page, Pe, Place, World};
 use bbm_tlbi_scope::TlbiOp;
 
 /// Locks have numbers below 1,024. Source: project's own choice.
 const LOCKS: u16 = 1024;
-
-/// The number of consecutive pages of a root of this kind, 1 to 16. Source: Arm ARM (DDI 0487), "VMSAv8-64
-/// translation table walks", concatenated translation tables.
-pub fn page_count(world: World, kind: Kind) -> u8
-    ensures { result ≡ page_count world kind }
-{
-    match (world, kind) {
-        (World::Hyp(world), Kind::S2) => world.s2_pages,
-        _ => 1,
-    }
-}
 
 fn has_pe(header: &Header, pe: Pe) -> bool
     ensures { result ≡ is_pe header.now pe }

@@ -9,9 +9,10 @@ pub mod label;
 pub mod laws;
 pub mod machine;
 pub mod malformed;
+pub mod roots;
 
 pub use event::{Event, Item};
-pub use fitting::{fits, has_op, page_count};
+pub use fitting::{fits, has_op};
 pub use header::Header;
 pub use keyword::Keyword;
 pub use label::Label;
@@ -22,6 +23,7 @@ pub use laws::{
 };
 pub use machine::{MachineLine, MachineWord};
 pub use malformed::Malformed;
+pub use roots::{first_input_page, has_kind, input_pages, page_count, start_level};
 
 #[cfg(test)]
 mod tests;

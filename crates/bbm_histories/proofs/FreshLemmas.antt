@@ -154,18 +154,9 @@ module _ (heading : Heading) (trust : Trust) where
         → (w : ValidWrite) × (last_valid kind level place h ≡ Some w) × (w.value ≡ value)
     holds_last kind level place h value e =
         let k : Holds heading trust kind level place h value = b.held_sound kind level place h value e in
-        let w : ValidWrite = record { value = value; since = k.newer } in (
+        let w : ValidWrite = record { value = value; since = k.since } in (
           w,
-          b.last_complete kind level place h w (record {
-            pe = k.pe;
-            write = k.write;
-            older = k.older;
-            split = k.split;
-            wrote = k.wrote;
-            valid = k.valid;
-            last = k.last;
-            no_init = k.no_init;
-          }),
+          b.last_complete kind level place h w k.last_write,
           refl,
         )
 

@@ -46,24 +46,28 @@ module _ (heading : Heading) (trust : Trust) (b : Below heading trust) (kind : K
 
   pub held_back : (n : Noted) (h : List Noted) (value : ℕ) → held heading trust kind level place (n ∷ h) ≡ Some value
       → (held heading trust kind level place h ≡ Some value) ⊎ ((q : ℕ) × (n.event ≡ Write q place value))
-  held_back n h value e = by k.newer refl k.split
+  held_back n h value e = by k.since refl k.last_write.split
     where
       k : Holds heading trust kind level place (n ∷ h) value
       k = b.held_sound kind level place (n ∷ h) value e
 
-      by : (newer : List Noted) → k.newer ≡ newer → n ∷ h ≡ newer ++ k.write ∷ k.older
+      by : (newer : List Noted) → k.since ≡ newer → n ∷ h ≡ newer ++ k.last_write.write ∷ k.last_write.older
           → (held heading trust kind level place h ≡ Some value) ⊎ ((q : ℕ) × (n.event ≡ Write q place value))
-      by [] is split = let first : n ≡ k.write = cc in inr (k.pe, ap (λ (x : Noted). x.event) first ∙ k.wrote)
+      by [] is split =
+          let first : n ≡ k.last_write.write = cc in
+          inr (k.last_write.pe, ap (λ (x : Noted). x.event) first ∙ k.last_write.wrote)
       by (m ∷ newer) is split = inl (b.held_complete kind level place h value (record {
-        pe = k.pe;
-        write = k.write;
-        newer = newer;
-        older = k.older;
-        split = cc;
-        wrote = k.wrote;
-        valid = k.valid;
-        last = λ q v x after before i. k.last q v x (m ∷ after) before (is ∙ ap (λ (xs : List Noted). m ∷ xs) i);
-        no_init = λ q x after before i. k.no_init q x (m ∷ after) before (is ∙ ap (λ (xs : List Noted). m ∷ xs) i);
+        since = newer;
+        last_write = record {
+          pe = k.last_write.pe;
+          write = k.last_write.write;
+          older = k.last_write.older;
+          split = cc;
+          wrote = k.last_write.wrote;
+          valid = k.last_write.valid;
+          last = λ q v x after before i. k.last_write.last q v x (m ∷ after) before (is ∙ ap (λ (xs : List Noted). m ∷ xs) i);
+          no_init = λ q x after before i. k.last_write.no_init q x (m ∷ after) before (is ∙ ap (λ (xs : List Noted). m ∷ xs) i);
+        };
         p = k.p;
         is_pe = k.is_pe;
         uncleansed = λ c. k.uncleansed (subst (λ (xs : List Noted). Cleansed heading trust place k.p xs) (sym is)
@@ -73,7 +77,7 @@ module _ (heading : Heading) (trust : Trust) (b : Below heading trust) (kind : K
   pub held_valid : (h : List Noted) (value : ℕ) → held heading trust kind level place h ≡ Some value
       → is_valid kind level value ≡ true
   held_valid h value e =
-      let k : Holds heading trust kind level place h value = b.held_sound kind level place h value e in k.valid
+      let k : Holds heading trust kind level place h value = b.held_sound kind level place h value e in k.last_write.valid
 
   -- the event is no valid write of the place, no init of its page, and no DSB
   pub record Leaves (e : Event) : Type 0 where
@@ -86,29 +90,31 @@ module _ (heading : Heading) (trust : Trust) (b : Below heading trust) (kind : K
   held_on n h value leaves e =
       let k : Holds heading trust kind level place h value = b.held_sound kind level place h value e in
       b.held_complete kind level place (n ∷ h) value (record {
-        pe = k.pe;
-        write = k.write;
-        newer = n ∷ k.newer;
-        older = k.older;
-        split = ap (λ (xs : List Noted). n ∷ xs) k.split;
-        wrote = k.wrote;
-        valid = k.valid;
-        last = λ q v x after before i is. last k q v x after before i is;
-        no_init = λ q x after before i is. no_init k q x after before i is;
+        since = n ∷ k.since;
+        last_write = record {
+          pe = k.last_write.pe;
+          write = k.last_write.write;
+          older = k.last_write.older;
+          split = ap (λ (xs : List Noted). n ∷ xs) k.last_write.split;
+          wrote = k.last_write.wrote;
+          valid = k.last_write.valid;
+          last = λ q v x after before i is. last k q v x after before i is;
+          no_init = λ q x after before i is. no_init k q x after before i is;
+        };
         p = k.p;
         is_pe = k.is_pe;
-        uncleansed = λ c. k.uncleansed (cleansed_before heading trust place k.p n k.newer leaves.no_dsb c);
+        uncleansed = λ c. k.uncleansed (cleansed_before heading trust place k.p n k.since leaves.no_dsb c);
       })
     where
       last : (k : Holds heading trust kind level place h value) (q v : ℕ) (x : Noted) (after before : List Noted)
-          → n ∷ k.newer ≡ after ++ x ∷ before → x.event ≡ Write q place v → is_valid kind level v ≡ false
+          → n ∷ k.since ≡ after ++ x ∷ before → x.event ≡ Write q place v → is_valid kind level v ≡ false
       last k q v x [] before i is = let first : n ≡ x = cc in leaves.no_write q v (ap (λ (y : Noted). y.event) first ∙ is)
-      last k q v x (y ∷ after) before i is = let rest : k.newer ≡ after ++ x ∷ before = cc in k.last q v x after before rest is
+      last k q v x (y ∷ after) before i is = let rest : k.since ≡ after ++ x ∷ before = cc in k.last_write.last q v x after before rest is
 
       no_init : (k : Holds heading trust kind level place h value) (q : ℕ) (x : Noted) (after before : List Noted)
-          → n ∷ k.newer ≡ after ++ x ∷ before → x.event ≡ Init q (page_of place) → ⊥
+          → n ∷ k.since ≡ after ++ x ∷ before → x.event ≡ Init q (page_of place) → ⊥
       no_init k q x [] before i is = let first : n ≡ x = cc in leaves.no_init q (ap (λ (y : Noted). y.event) first ∙ is)
-      no_init k q x (y ∷ after) before i is = let rest : k.newer ≡ after ++ x ∷ before = cc in k.no_init q x after before rest is
+      no_init k q x (y ∷ after) before i is = let rest : k.since ≡ after ++ x ∷ before = cc in k.last_write.no_init q x after before rest is
 
   pub held_same : (n : Noted) (h : List Noted) → Leaves n.event
       → held heading trust kind level place (n ∷ h) ≡ held heading trust kind level place h

@@ -16,3 +16,5 @@ pub mod TagLemmas
 pub mod ProperLemmas
 pub mod StepLemmas
 pub mod AttachedLemmas
+pub mod LockOrder
+pub mod VersionLaw

@@ -171,15 +171,8 @@ module _ (heading : Heading) (trust : Trust) (b : Below heading trust) where
   held_if_unseen kind level place p h w is_pe last unseen =
       let l : IsLastValid kind level place h w = b.last_sound kind level place h w last in
       b.held_complete kind level place h w.value (record {
-        pe = l.pe;
-        write = l.write;
-        newer = w.since;
-        older = l.older;
-        split = l.split;
-        wrote = l.wrote;
-        valid = l.valid;
-        last = l.last;
-        no_init = l.no_init;
+        since = w.since;
+        last_write = l;
         p = p;
         is_pe = is_pe;
         uncleansed = λ c. true≢false

@@ -2,12 +2,15 @@
 #![tactic(auto)]
 
 mod below;
+pub mod locks;
 pub mod patterns;
 pub mod steps;
 pub mod tags;
 pub mod trees;
 pub mod values;
+pub mod versions;
 
+pub use locks::law_lock_order;
 pub use patterns::{law_patterns_begin, law_patterns_stay, law_uniform};
 pub use steps::{law_held_step, law_pattern_steps, law_tag_steps};
 pub use tags::law_tags;
@@ -16,9 +19,11 @@ pub use trees::{
     law_one_position, law_proper, law_tree_step,
 };
 pub use values::{law_fresh_content, law_frozen, law_window};
+pub use versions::law_version;
 
 #[cfg(test)]
 mod tests {
+    use crate::locks::law_lock_order;
     use crate::patterns::{law_patterns_begin, law_patterns_stay, law_uniform};
     use crate::steps::{law_held_step, law_pattern_steps, law_tag_steps};
     use crate::tags::law_tags;
@@ -27,6 +32,7 @@ mod tests {
         law_one_position, law_proper, law_tree_step,
     };
     use crate::values::{law_fresh_content, law_frozen, law_window};
+    use crate::versions::law_version;
 
     #[test]
     fn laws_hold() {
@@ -36,6 +42,7 @@ mod tests {
         law_held_changes();
         law_held_step();
         law_limbo_is_empty();
+        law_lock_order();
         law_lower_leaves();
         law_one_node();
         law_one_position();
@@ -47,6 +54,7 @@ mod tests {
         law_tags();
         law_tree_step();
         law_uniform();
+        law_version();
         law_window();
     }
 }

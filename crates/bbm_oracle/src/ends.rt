@@ -11,9 +11,9 @@ ghost use Rattle.bbm_rules.specs.Tree as trees;
 ghost use Rattle.bbm_rules.specs.Values.{value_of as value_at, places_in as places_at};
 ghost use Rattle.bbm_oracle_trees.specs.Past.{notes};
 
-use crate::starts::{root_pages, start_level};
+use crate::starts::root_pages;
 use bbm_descriptor::{Desc, read};
-use bbm_events::Event;
+use bbm_events::{Event, start_level};
 use bbm_oracle_tags::values::{places_in, value_of};
 use bbm_oracle_trees::History;
 use bbm_regimes::{Kind, NoMemory, Page, Place};

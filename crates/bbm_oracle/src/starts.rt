@@ -1,34 +1,12 @@
-//! Where the trees of a root begin.
+//! The pages of a root.
 
 ghost use Rattle.std.specs.Prelude.{◌≡◌, ◌≤◌, ◌<◌, ◌+◌, ◌*◌, ◌^◌, true, IfOk};
 ghost use Rattle.bbm_events.specs.Fits.{is_root_page};
-ghost use Rattle.bbm_regimes.specs.World.{start_of};
 ghost use Rattle.bbm_rules.specs.Roots as roots;
 
-use bbm_events::{Header, page_count};
-use bbm_oracle_tags::roots::kind_in_world;
-use bbm_regimes::{Kind, NoMemory, Page, World};
+use bbm_events::{Header, has_kind, page_count};
+use bbm_regimes::{Kind, NoMemory, Page};
 use std::alloc::Global;
-
-/// The level at which walks of a kind start, 0 to 2; 0 where the kind isn't one of the header's world. Source: Arm ARM
-/// (DDI 0487), "VMSAv8-64 translation table walks".
-pub fn start_level(header: &Header, kind: Kind) -> u8
-    ensures value { result ≡ start_of header.now.world kind }
-    ensures low { result ≤ 2 }
-{
-    match header.world {
-        World::Hyp(world) => match kind {
-            Kind::El2 => world.el2_start,
-            Kind::S2 => world.s2_start,
-            Kind::Ttbr0 | Kind::Ttbr1 => 0,
-        },
-        World::Kernel(world) => match kind {
-            Kind::Ttbr0 => world.start0,
-            Kind::Ttbr1 => world.start1,
-            Kind::El2 | Kind::S2 => 0,
-        },
-    }
-}
 
 // The page so many pages behind the first.
 fn page_at(first: Page, index: u8) -> Page
@@ -71,7 +49,7 @@ pub fn root_pages(
     requires { is_root_page header.now.world kind page ≡ true }
     ensures { IfOk result (λ pages. pages.items ≡ roots.root_pages header.now.world kind page) }
 {
-    if kind_in_world(header, kind) {
+    if has_kind(header.world, kind) {
         pages_from(alloc, page, root_page_count(header, kind, page))
     } else {
         Ok(Vec::new(alloc))

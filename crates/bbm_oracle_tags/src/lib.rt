@@ -26,7 +26,7 @@ pub use readings::{Reading, readings_at};
 pub use registers::{
     base_of, kind_of, lacks_vmid, named_scope, register_values, tag_number, vmid_of,
 };
-pub use roots::{Declared, is_root, kind_in_world, lock_of, root_at, roots_of};
+pub use roots::{Declared, is_root, lock_of, root_at, roots_of};
 pub use rules::{
     bad_operand, lock_busy, lock_not_mine, no_root, null_written, root_in_use, tag_conflict,
     unsynced_vmid, without_lock, wrong_world,

@@ -4,8 +4,8 @@ ghost use Rattle.std.specs.Prelude.{◌≡◌, List, ◌∷◌, reverse, IfOk, O
 ghost use Rattle.bbm_events.specs.declared.event.Event.{Event};
 ghost use Rattle.bbm_rules.specs.Roots as spec;
 
-use bbm_events::{Event, Header};
-use bbm_regimes::{Kind, NoMemory, Page, World};
+use bbm_events::Event;
+use bbm_regimes::{Kind, NoMemory, Page};
 use std::alloc::Global;
 use std::marker::Model;
 
@@ -40,22 +40,6 @@ pub fn same_kind(kind: Kind, other: Kind) -> bool
         (Kind::Ttbr0, Kind::Ttbr0) => true,
         (Kind::Ttbr1, Kind::Ttbr1) => true,
         _ => false,
-    }
-}
-
-/// Whether the kind is one of the header's world. Source: project's own choice.
-pub fn kind_in_world(header: &Header, kind: Kind) -> bool
-    ensures { result ≡ spec.kind_in_world header.now.world kind }
-{
-    match header.world {
-        World::Hyp(_) => match kind {
-            Kind::El2 | Kind::S2 => true,
-            Kind::Ttbr0 | Kind::Ttbr1 => false,
-        },
-        World::Kernel(_) => match kind {
-            Kind::Ttbr0 | Kind::Ttbr1 => true,
-            Kind::El2 | Kind::S2 => false,
-        },
     }
 }
 

@@ -9,7 +9,6 @@ mod log;
 mod node;
 mod starts;
 mod tree;
-mod world;
 
 pub use history::History;
 pub use node::{Above, Node};

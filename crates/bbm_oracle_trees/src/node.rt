@@ -3,7 +3,7 @@
 ghost use Rattle.std.specs.Prelude.{◌≡◌, ◌<◌, ◌∷◌, IfOk};
 ghost use Rattle.bbm_rules.specs.Tree as trees;
 
-use crate::world::input_pages;
+use bbm_events::input_pages;
 use bbm_regimes::{Interval, Kind, NoMemory, Page, Place};
 use std::alloc::Global;
 use std::marker::Model;

@@ -1,16 +1,28 @@
 //! The pages of the roots.
 
 ghost use Rattle.std.specs.Prelude.{◌≡◌, ◌∷◌, [], ◌++◌, ◌≤◌, ◌+◌, ◌*◌, ◌^◌, ◌<◌, OnOk, All, true, flat_map};
+ghost use Rattle.std.specs.Prelude.{if◌then◌else◌};
+ghost use Rattle.bbm_regimes.specs.World as worlds;
 ghost use Rattle.bbm_rules.specs.Tree.{nodes_of_pages, nodes_of_root, starts_at};
 ghost use Rattle.bbm_rules.specs.Roots.{pages_from};
 ghost use Rattle.bbm_oracle_trees.specs.Fits.{fits_root};
 
 use crate::node::Node;
-use crate::world::{first_input_page, input_pages, root_page_count, start_level};
-use bbm_events::Header;
+use bbm_events::{Header, first_input_page, has_kind, input_pages, page_count, start_level};
 use bbm_oracle_tags::Declared;
-use bbm_regimes::{Kind, NoMemory, Page};
+use bbm_regimes::{Kind, NoMemory, Page, World};
 use std::alloc::Global;
+
+// The number of pages of a root of the kind, none where the kind isn't one of the world.
+fn root_page_count(world: World, kind: Kind) -> u8
+    ensures { result ≡ (if worlds.kind_in_world world kind then worlds.page_count world kind else 0) }
+{
+    if has_kind(world, kind) {
+        page_count(world, kind)
+    } else {
+        0
+    }
+}
 
 // The page that is so many pages behind this one.
 fn page_behind(page: Page, count: u8) -> Page
@@ -69,11 +81,10 @@ fn add_root(
     requires { fits_root header.now root.now ≡ true }
     ensures { OnOk result (nodes.new.items ≡ nodes.old.items ++ nodes_of_root header.now root.now) }
 {
-    let world = header.world;
     let kind = root.kind;
-    let level = start_level(world, kind);
-    let first = first_input_page(world, kind);
-    let count = root_page_count(world, kind);
+    let level = start_level(header, kind);
+    let first = first_input_page(header, kind);
+    let count = root_page_count(header.world, kind);
     add_pages(alloc, kind, level, root.page, first, count, nodes)
 }
 
@@ -89,7 +100,7 @@ pub fn add_starts(
     ensures { OnOk result (nodes.new.items ≡ nodes.old.items ++ flat_map (starts_at header.now level) roots.now) }
 {
     for root in roots {
-        if start_level(header.world, root.kind) == level {
+        if start_level(header, root.kind) == level {
             add_root(alloc, header, root, nodes)?;
         }
     }

@@ -1,6 +1,5 @@
 -- What `explain` and `walk` say behind the line of the verdict. A history is newest first.
 -- Source: project's own choice.
-use Rattle.std.specs.Option.{option_map_or}
 use Rattle.std.specs.Prelude.{◌≡◌, ℕ, zero, suc, true, false, List, [], ◌∷◌, ◌++◌, Option, Some, None}
 use Rattle.std.specs.Result.{result_ok}
 use Rattle.bbm_regimes.specs.declared.regime.World.{World}
@@ -14,16 +13,13 @@ use Rattle.bbm_walk_s2.specs.Joined.{stage2_root}
 use Rattle.bbm_events.specs.Heading.{Heading}
 use Rattle.bbm_events.specs.Lines.{header_of}
 use Rattle.bbm_events.specs.declared.event.Event.{Event}
-use Rattle.bbm_rules.specs.declared.limits.Limits.{Limits}
 use Rattle.bbm_rules.specs.declared.rule.Rule.{Rule}
 use Rattle.bbm_rules.specs.declared.rule.Rule.TheVariants.{BreakBeforeMake}
 use Rattle.bbm_rules.specs.declared.verdict.Verdict.{Verdict}
 use Rattle.bbm_rules.specs.declared.verdict.Verdict.TheVariants.{Accepted, Refused}
 use Rattle.bbm_rules.specs.Claims.{Patterns}
-use Rattle.bbm_rules.specs.Outcome.{Outcome, outcome_of, text_of}
 use Rattle.bbm_rules.specs.Phases.{phase_of}
 use Rattle.bbm_rules.specs.Roots.{is_root}
-use Rattle.bbm_rules.specs.Texts.{verdict_text}
 use Rattle.bbm_rules.specs.Values.{value_of}
 use Rattle.bbm_report.specs.Lines.{found_text, phase_text}
 use Rattle.bbm_report.specs.declared.questions.Question.{Question}
@@ -69,20 +65,3 @@ module _ (heading : Heading) (h : List Event) where
 abbrev pub heading_in : List (List ℕ) → Option Heading
 heading_in [] = None
 heading_in (line ∷ lines) = result_ok (header_of line)
-
--- the whole text of `explain`: the line of the verdict, and behind it what is explained by the events before the line
--- that decides
-abbrev pub explain_text : Limits → List ℕ → List ℕ
-explain_text limits bytes =
-    let outcome : Outcome = outcome_of Patterns limits bytes in
-    verdict_text outcome.verdict
-    ++ option_map_or (λ heading. explained heading outcome.log outcome.verdict) (heading_in (text_of bytes).lines) []
-
--- The same of `walk`: the line of the verdict, and behind it the line of what is found after all events of an accepted
--- log.
-abbrev pub IsWalkText : Limits → Question → List ℕ → List ℕ → Type 0
-IsWalkText limits q bytes text =
-    let outcome : Outcome = outcome_of Patterns limits bytes in
-    (further : List ℕ) × (text ≡ verdict_text outcome.verdict ++ further)
-    × ((heading : Heading) → heading_in (text_of bytes).lines ≡ Some heading
-    → Walked heading outcome.log q outcome.verdict further)

@@ -311,15 +311,8 @@ module _ (heading : Heading) (trust : Trust) (kind : Kind) (level place : ℕ) w
       let l : IsLastValid kind level place h k.write = last_sound kind level place h k.write k.is in
       let p = uncleansed_at heading.pes (λ (p : ℕ). cleansed heading trust place p k.write.since) k.still in
       subst (λ (x : ℕ). Holds heading trust kind level place h x) k.same (record {
-        pe = l.pe;
-        write = l.write;
-        newer = k.write.since;
-        older = l.older;
-        split = l.split;
-        wrote = l.wrote;
-        valid = l.valid;
-        last = l.last;
-        no_init = l.no_init;
+        since = k.write.since;
+        last_write = l;
         p = p.0;
         is_pe = p.1;
         uncleansed = λ c. true≢false (sym (cleansed_complete heading trust place p.0 k.write.since c) ∙ p.2);
@@ -328,23 +321,14 @@ module _ (heading : Heading) (trust : Trust) (kind : Kind) (level place : ℕ) w
   pub held_complete : (h : List Noted) (value : ℕ) → Holds heading trust kind level place h value
       → held heading trust kind level place h ≡ Some value
   held_complete h value k =
-      ap (option_and_then (left_held heading trust place)) (last_complete kind level place h (record { value = value; since = k.newer })
-      (record {
-        pe = k.pe;
-        write = k.write;
-        older = k.older;
-        split = k.split;
-        wrote = k.wrote;
-        valid = k.valid;
-        last = k.last;
-        no_init = k.no_init;
-      }))
+      ap (option_and_then (left_held heading trust place)) (last_complete kind level place h (record { value = value; since = k.since })
+      k.last_write)
       ∙ ap (λ (b : Bool). cond b None (Some value))
-      (not_everywhere heading.pes k.p (λ (p : ℕ). cleansed heading trust place p k.newer) k.is_pe
-      (by (cleansed heading trust place k.p k.newer) refl))
+      (not_everywhere heading.pes k.p (λ (p : ℕ). cleansed heading trust place p k.since) k.is_pe
+      (by (cleansed heading trust place k.p k.since) refl))
     where
-      by : (b : Bool) → cleansed heading trust place k.p k.newer ≡ b → b ≡ false
-      by true c = absurd (k.uncleansed (cleansed_sound heading trust place k.p k.newer c))
+      by : (b : Bool) → cleansed heading trust place k.p k.since ≡ b → b ≡ false
+      by true c = absurd (k.uncleansed (cleansed_sound heading trust place k.p k.since c))
       by false c = refl
 
   -- where there was no write, nothing is cleansed
@@ -367,7 +351,7 @@ module _ (heading : Heading) (trust : Trust) (kind : Kind) (level place : ℕ) w
 pub valid_if_held : (heading : Heading) (trust : Trust) (kind : Kind) (level place : ℕ) (h : List Noted) (value : ℕ)
     → held heading trust kind level place h ≡ Some value → is_valid kind level value ≡ true
 valid_if_held heading trust kind level place h value e =
-    let k : Holds heading trust kind level place h value = held_sound heading trust kind level place h value e in k.valid
+    let k : Holds heading trust kind level place h value = held_sound heading trust kind level place h value e in k.last_write.valid
 
 -- The last valid write of a live place is its last write.
 pub live_is_last : (kind : Kind) (level place : ℕ) (h : List Noted)

@@ -38,13 +38,11 @@ pub mod Patterns
 pub mod PatternLaw
 pub mod ListLemmas
 pub mod RuleLemmas
-pub mod LockOrderLaw
 pub mod PhaseLaw
 pub mod HeldLemmas
 pub mod HeldLaw
 pub mod TreeLemmas
 pub mod TreeLaw
 pub mod AttachLaw
-pub mod VersionLaw
 pub mod ReadsLaw
 pub mod NullLaw

@@ -1,6 +1,6 @@
 -- Each rule by itself.
 use Rattle.std.specs.Option.{option_map_or}
-use Rattle.std.proofs.Common.{◌≡◌, ℕ, Bool, true, false, List, [], ◌∷◌, ◌++◌, Option, Some, None, is_none, refl, sym, ◌∙◌, ap, subst, inl, inr, true≢false}
+use Rattle.std.proofs.Common.{◌≡◌, ℕ, true, List, [], ◌∷◌, ◌++◌, Option, Some, None, is_none, refl, sym, ◌∙◌, ap, subst, inl, inr, true≢false}
 use Rattle.std.proofs.lemmas.Bool.{and_from, and_parts}
 use Rattle.bbm_events.specs.Heading.{Heading}
 use Rattle.bbm_events.specs.declared.event.Event.{Event}
@@ -10,12 +10,7 @@ use Rattle.bbm_rules.specs.declared.rule.Rule.TheVariants.{WrongWorld, NoLock, N
 use Rattle.bbm_rules.specs.Broken.{Breach, breaks, broken, first_broken, keeps, rules}
 use Rattle.bbm_rules.specs.Claims.{Trust}
 use Rattle.bbm_rules.specs.Covers.{noted}
-use Rattle.bbm_rules.specs.Lists.{if_so}
 use Rattle.bbm_rules.specs.Notes.{Noted}
-
-pub if_none : (b : Bool) (n : ℕ) → if_so b n ≡ None → b ≡ false
-if_none true n e = cc
-if_none false n e = refl
 
 listed : (r : Rule) → In rules r
 listed WrongWorld = inl refl
@@ -37,7 +32,7 @@ listed LockBusy = inr (inr (inr (inr (inr (inr (inr (inr (inr (inr (inr (inr (in
 listed LockNotMine = inr (inr (inr (inr (inr (inr (inr (inr (inr (inr (inr (inr (inr (inr (inr (inr (inl refl))))))))))))))))
 
 -- a broken rule, or else the first that is broken of the others
-abbrev pub breach_or : Rule → Option ℕ → Option Breach → Option Breach
+abbrev breach_or : Rule → Option ℕ → Option Breach → Option Breach
 breach_or rule at rest = option_map_or (λ n. Some (record { rule = rule; at = n })) at rest
 
 neither : (rule : Rule) (o : Option ℕ) (rest : Option Breach) → breach_or rule o rest ≡ None → (o ≡ None) × (rest ≡ None)
@@ -75,7 +70,7 @@ module _ (heading : Heading) (trust : Trust) where
   unfolding broken
   broken_by_none h e k = none_of_them (noted heading trust h) e rules k
 
-  pub last_kept : (h : List Event) (e : Event) → keeps heading trust (e ∷ h) ≡ true
+  last_kept : (h : List Event) (e : Event) → keeps heading trust (e ∷ h) ≡ true
       → (keeps heading trust h ≡ true) × Unbroken (noted heading trust h) e
   last_kept h e k =
       let parts = and_parts (keeps heading trust h) (is_none (broken heading trust h e)) k in

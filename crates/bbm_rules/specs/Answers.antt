@@ -15,8 +15,7 @@ use Rattle.bbm_rules.specs.Places.{page_of}
 -- What stands for a history of a header may take this event: it fits the header, and fewer than 2^64 - 1 events were
 -- taken.
 abbrev pub MayTake : (Heading → List Event → Type 0) → Event → Type 0
-MayTake stands event =
-    (heading : Heading) × (h : List Event) × stands heading h × (fits_heading heading event ≡ true)
+MayTake stands event = (heading : Heading) × (h : List Event) × stands heading h × (fits_heading heading event ≡ true)
     × (length h < 2 ^ 64 - 1)
 
 -- What stands for a history of a header may be asked of this PE, which is one of the header.

@@ -1,14 +1,12 @@
 -- The least rule that an event breaks, and the logs that keep the rules. Source: project's own choice.
 use Rattle.std.specs.Option.{option_map_or}
-use Rattle.std.specs.Prelude.{ℕ, suc, Bool, true, ◌&&◌, List, [], ◌∷◌, length, Option, Some, None, is_none}
+use Rattle.std.specs.Prelude.{ℕ, Bool, true, ◌&&◌, List, [], ◌∷◌, Option, Some, None, is_none}
 use Rattle.bbm_rules.specs.Prelude.{Heading, Event}
 use Rattle.bbm_rules.specs.declared.rule.Rule.{Rule}
 use Rattle.bbm_rules.specs.declared.rule.Rule.TheVariants.{WrongWorld, NoLock, NullWritten, BreakBeforeMake, LimboMake}
 use Rattle.bbm_rules.specs.declared.rule.Rule.TheVariants.{NotFresh, RewrittenFresh, BadKind, GlobalUser, PageInUse}
 use Rattle.bbm_rules.specs.declared.rule.Rule.TheVariants.{NoRoot, TagConflict, RootInUse, UnsyncedVmid, BadOperand}
 use Rattle.bbm_rules.specs.declared.rule.Rule.TheVariants.{LockBusy, LockNotMine}
-use Rattle.bbm_rules.specs.declared.verdict.Verdict.{Verdict}
-use Rattle.bbm_rules.specs.declared.verdict.Verdict.TheVariants.{Accepted, Refused}
 use Rattle.bbm_rules.specs.Claims.{Trust}
 use Rattle.bbm_rules.specs.Covers.{noted}
 use Rattle.bbm_rules.specs.Notes.{Noted}
@@ -26,12 +24,6 @@ abbrev pub rules : List Rule
 rules =
     WrongWorld ∷ NoLock ∷ NullWritten ∷ BreakBeforeMake ∷ LimboMake ∷ NotFresh ∷ RewrittenFresh ∷ BadKind ∷ GlobalUser
     ∷ PageInUse ∷ NoRoot ∷ TagConflict ∷ RootInUse ∷ UnsyncedVmid ∷ BadOperand ∷ LockBusy ∷ LockNotMine ∷ []
-
--- the verdict where the event before position n + 1 breaks this rule or none
-abbrev pub verdict_after : ℕ → Option Breach → Verdict → Verdict
-verdict_after n None (Accepted events) = Accepted n
-verdict_after n (Some breach) (Accepted events) = Refused (suc n) breach.rule breach.at None
-verdict_after n breach verdict = verdict
 
 module _ (heading : Heading) (trust : Trust) where
   -- whether the event breaks the rule, after an annotated history
@@ -67,10 +59,3 @@ module _ (heading : Heading) (trust : Trust) where
   abbrev pub keeps : List Event → Bool
   keeps [] = true
   keeps (e ∷ h) = keeps h && is_none (broken h e)
-
-  -- The verdict on a log whose lines are well formed and reach no limit, newest event first: the first event that
-  -- breaks a rule decides. The header is line 1, so the event of position i stands on line i + 1. Events have no labels
-  -- here.
-  abbrev pub verdict_of : List Event → Verdict
-  verdict_of [] = Accepted 0
-  verdict_of (e ∷ h) = verdict_after (suc (length h)) (broken h e) (verdict_of h)

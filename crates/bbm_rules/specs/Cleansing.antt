@@ -69,8 +69,7 @@ module _ (heading : Heading) (place p : ℕ) where
 -- rest is issued, and at d2 it is answered.
 module _ (heading : Heading) (trust : Trust) (place p : ℕ) where
   abbrev pub full_step : ℕ → Issued Noted → Bool
-  full_step d t =
-      flushes heading place p Full
+  full_step d t = flushes heading place p Full
       (seen_where heading place p (λ b. allows trust (Place p place b t.tlbi.position d))) t
 
   abbrev pub second_step : ℕ → Issued Noted → Bool

@@ -27,4 +27,3 @@ pub mod Texts
 pub mod Tree
 pub mod TreeSentences
 pub mod Values
-pub mod Version

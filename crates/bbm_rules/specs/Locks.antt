@@ -1,13 +1,8 @@
--- Who holds a lock, and which lock a place is written under. A history is newest first.
+-- Who holds a lock. A history is newest first.
 -- Source: project's own choice.
-use Rattle.std.specs.Prelude.{◌≡◌, ℕ, ◌&&◌, ◌==◌, List, [], ◌∷◌, ◌++◌, Option, Some, None, if◌then◌else◌}
-use Rattle.bbm_rules.specs.Prelude.{Heading, Event, Lock, Unlock}
-use Rattle.bbm_rules.specs.Claims.{Trust}
-use Rattle.bbm_rules.specs.Covers.{noted}
-use Rattle.bbm_rules.specs.Lists.{◌>>=◌, is_that}
-use Rattle.bbm_rules.specs.Places.{page_of}
-use Rattle.bbm_rules.specs.Roots.{lock_of}
-use Rattle.bbm_rules.specs.Tree.{node_of}
+use Rattle.std.specs.Prelude.{ℕ, ◌&&◌, ◌==◌, List, [], ◌∷◌, Option, Some, None, if◌then◌else◌}
+use Rattle.bbm_rules.specs.Prelude.{Event, Lock, Unlock}
+use Rattle.bbm_rules.specs.Lists.{is_that}
 
 -- The PE that took the lock last and hasn't given it back; None where the lock is free, as each is at the start. An
 -- `unlock` by another PE doesn't free it.
@@ -17,16 +12,3 @@ holder_of (Lock pe number ∷ h) lock = if number == lock then Some pe else hold
 holder_of (Unlock pe number ∷ h) lock =
     if number == lock && is_that (holder_of h lock) pe then None else holder_of h lock
 holder_of (_ ∷ h) lock = holder_of h lock
-
--- The lock of a place: the one that the root of its tree names. None where the place is in no tree, and where the root
--- names none.
-abbrev pub lock_at : Heading → Trust → List Event → ℕ → Option ℕ
-lock_at heading trust h place =
-    node_of heading trust (noted heading trust h) (page_of place) >>= (λ n. lock_of h n.root)
-
--- the PE p gives the lock back, and later q takes it
-pub record HandsOver (p q lock : ℕ) (between : List Event) : Type 0 where
-  pub newer : List Event
-  pub middle : List Event
-  pub older : List Event
-  pub split : between ≡ newer ++ Lock q lock ∷ (middle ++ Unlock p lock ∷ older)

@@ -32,8 +32,7 @@ before_text byte (line ∷ lines) rest = record { lines = (byte ∷ line) ∷ li
 
 abbrev pub text_of : List ℕ → Text
 text_of [] = record { lines = []; rest = [] }
-text_of (byte ∷ bytes) =
-    if byte == 10 then record { lines = [] ∷ (text_of bytes).lines; rest = (text_of bytes).rest }
+text_of (byte ∷ bytes) = if byte == 10 then record { lines = [] ∷ (text_of bytes).lines; rest = (text_of bytes).rest }
     else before_text byte (text_of bytes).lines (text_of bytes).rest
 
 -- the bytes of a text

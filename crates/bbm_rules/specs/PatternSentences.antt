@@ -102,21 +102,11 @@ pub record IsLastValid (kind : Kind) (level place : ℕ) (h : List Noted) (w : V
   pub no_init : (q : ℕ) (n : Noted) (after before : List Noted) → w.since ≡ after ++ n ∷ before
       → n.event ≡ Init q (page_of place) → ⊥
 
--- Held: the value was written, it is valid, since then there was no valid write of the place and no init of its page,
--- and at some PE the place isn't cleansed since then.
+-- Held: the last valid write gave the place this value, and at some PE the place isn't cleansed since then.
 pub record Holds (heading : Heading) (trust : Trust) (kind : Kind) (level place : ℕ) (h : List Noted) (value : ℕ)
     : Type 0 where
-  pub pe : ℕ
-  pub write : Noted
-  pub newer : List Noted
-  pub older : List Noted
-  pub split : h ≡ newer ++ write ∷ older
-  pub wrote : write.event ≡ Write pe place value
-  pub valid : is_valid kind level value ≡ true
-  pub last : (q v : ℕ) (n : Noted) (after before : List Noted) → newer ≡ after ++ n ∷ before
-      → n.event ≡ Write q place v → is_valid kind level v ≡ false
-  pub no_init : (q : ℕ) (n : Noted) (after before : List Noted) → newer ≡ after ++ n ∷ before
-      → n.event ≡ Init q (page_of place) → ⊥
+  pub since : List Noted
+  pub last_write : IsLastValid kind level place h (record { value = value; since = since })
   pub p : ℕ
   pub is_pe : p < heading.pes
-  pub uncleansed : Cleansed heading trust place p newer → ⊥
+  pub uncleansed : Cleansed heading trust place p since → ⊥

@@ -13,17 +13,14 @@ use Rattle.bbm_rules.specs.Held.{cleansed_everywhere, last_valid}
 use Rattle.bbm_rules.specs.Lists.{◌>>=◌}
 use Rattle.bbm_rules.specs.Notes.{Noted, events_of}
 use Rattle.bbm_rules.specs.Places.{page_of}
-use Rattle.bbm_rules.specs.Tree.{Node, held_at, node_of}
+use Rattle.bbm_rules.specs.Tree.{held_at, node_of}
 use Rattle.bbm_rules.specs.Values.{value_of, written_places}
 
 module _ (heading : Heading) (trust : Trust) where
   -- the phase of a broken place: the furthest that it has come
   abbrev pub broken_phase : ℕ → ℕ → List Noted → Phase
-  broken_phase place p since =
-      if cleansed heading trust place p since then Cleansed
-      else (if half heading place p since then Half
-      else (if seen heading place p since then Seen
-      else Broken))
+  broken_phase place p since = if cleansed heading trust place p since then Cleansed
+      else (if half heading place p since then Half else (if seen heading place p since then Seen else Broken))
 
   -- Phase: clean where the place is in no tree or holds nothing; live where its value is valid; else the furthest of
   -- cleansed, half and seen, or broken where it is none of them.
@@ -36,12 +33,9 @@ module _ (heading : Heading) (trust : Trust) where
 
   -- Restless: a place of a tree that holds a value and whose value is invalid. A place that was never written holds
   -- nothing.
-  abbrev pub is_restless_in : List Noted → ℕ → Node → Bool
-  is_restless_in h place n =
-      is_some (held_at heading trust h n place) && not (is_valid n.kind n.level (value_of (events_of h) place))
-
   abbrev pub is_restless : List Noted → ℕ → Bool
-  is_restless h place = option_map_or (is_restless_in h place) (node_of heading trust h (page_of place)) false
+  is_restless h place = option_map_or (λ n. is_some (held_at heading trust h n place)
+      && not (is_valid n.kind n.level (value_of (events_of h) place))) (node_of heading trust h (page_of place)) false
 
   -- how many places are restless
   unfoldable pub restless_of : List Event → ℕ

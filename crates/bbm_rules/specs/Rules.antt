@@ -175,8 +175,7 @@ module _ (heading : Heading) (trust : Trust) (h : List Noted) where
       (λ r. not (r.page == reading.root) && holds_tag heading trust r.page reading.tag after) (roots_of after))
 
   abbrev pub tag_conflict : Event → Option ℕ
-  tag_conflict (Msr pe reg value) =
-      let after : List Event = Msr pe reg value ∷ events_of h in
+  tag_conflict (Msr pe reg value) = let after : List Event = Msr pe reg value ∷ events_of h in
       least (flat_map (other_holders after) (readings heading after pe))
   tag_conflict _ = None
 

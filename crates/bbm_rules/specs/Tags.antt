@@ -45,8 +45,7 @@ asid_readings FromTtbr1 h p =
 abbrev pub readings_in : World → List Event → ℕ → List Reading
 readings_in (Hyp world) h p =
     readings_of h p Ttbr0El2 (λ value. El2Tag) ++ readings_of h p VttbrEl2 (λ value. Vmid (tag_number value))
-readings_in (Kernel world) h p =
-    asid_readings world.asid_from h p ++ readings_of h p Ttbr1El1 (λ value. Ttbr1Tag)
+readings_in (Kernel world) h p = asid_readings world.asid_from h p ++ readings_of h p Ttbr1El1 (λ value. Ttbr1Tag)
 
 -- an event of a history is its own event
 abbrev pub itself : Event → Event
@@ -73,8 +72,7 @@ module _ (heading : Heading) where
   -- Whole-tag TLBI: one that takes everything that a TLB keeps under the tag. It is issued under the VMID that its
   -- issuer then has. Source: Arm ARM (DDI 0487), "TLB maintenance instructions"; the term is the project's own choice.
   abbrev pub takes_tag : Event → List Event → Tag → Bool
-  takes_tag (Tlbi pe op xt) before tag =
-      elim (named_scope heading before pe op xt) [
+  takes_tag (Tlbi pe op xt) before tag = elim (named_scope heading before pe op xt) [
         | None ↦ false
         | Some scope ↦ takes_whole_tag scope (vmid_of heading before pe) tag
       ]
@@ -85,8 +83,7 @@ module _ (heading : Heading) where
     -- root at any moment from its issue to its answer. This says whether the event, which comes after h, is that
     -- answer. Source: project's own choice, after Arm ARM (DDI 0487), "TLB maintenance instructions".
     abbrev pub is_taken_by : ℕ → Tag → ℕ → Barrier → List Event → Issued Event → Bool
-    is_taken_by p tag q dsb h t =
-        completes dsb t.tlbi && reaches heading t.tlbi p && takes_tag t.tlbi t.before tag
+    is_taken_by p tag q dsb h t = completes dsb t.tlbi && reaches heading t.tlbi p && takes_tag t.tlbi t.before tag
         && not (read_since (length t.before) p tag (Dsb q dsb ∷ h))
         && allows trust (Taken p tag (suc (length t.before)) (suc (length h)))
 

@@ -66,9 +66,7 @@ next_of kind level value = next_in (desc_of kind level value)
 -- the page below a place, one level deeper; kind and root are the same
 abbrev pub node_below : Node → ℕ → ℕ → Node
 node_below n place next = record n {
-  page = next;
-  level = suc n.level;
-  base = region_start n place;
+  page = next; level = suc n.level; base = region_start n place;
   above = record { place = place; level = n.level } ∷ n.above;
 }
 

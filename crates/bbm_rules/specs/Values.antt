@@ -51,8 +51,7 @@ module _ (heading : Heading) where
   -- published later one replaced.
   abbrev pub readable_before : List Event → List Event → ℕ → ℕ → List ℕ
   readable_before later [] place p = 0 ∷ []
-  readable_before later (Write q at value ∷ h) place p =
-      if at == place
+  readable_before later (Write q at value ∷ h) place p = if at == place
       then value ∷ (if published q p later then [] else readable_before (Write q at value ∷ later) h place p)
       else readable_before (Write q at value ∷ later) h place p
   readable_before later (Init q page ∷ h) place p =

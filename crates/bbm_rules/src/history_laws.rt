@@ -26,7 +26,6 @@ ghost use Rattle.bbm_rules.specs.Tree.{Node, held_at, in_limbo, in_tree, is_chil
 ghost use Rattle.bbm_rules.specs.Tree.{nodes_of_root, tree};
 ghost use Rattle.bbm_rules.specs.declared.phase.Phase.TheVariants.{Clean};
 ghost use Rattle.bbm_rules.specs.declared.rule.Rule.TheVariants.{BreakBeforeMake};
-ghost use Rattle.bbm_rules.specs.Locks.{HandsOver, lock_at};
 ghost use Rattle.bbm_rules.specs.Phases.{phase_of};
 ghost use Rattle.bbm_rules.specs.TreeSentences.{Childless, InLimbo, IsFresh, IsNode, Leads};
 ghost use Rattle.bbm_rules.specs.Values.{value_of};
@@ -234,18 +233,6 @@ pub fn law_each_rule()
 pub fn law_refused_place()
     ensures { (heading : Heading) (trust : Trust) (h : List Event) (e : Event) (at p : ℕ) →
         breaks heading trust (noted heading trust h) e BreakBeforeMake ≡ Some at → phase_of heading trust h at p ≢ Clean }
-{}
-
-/// Between two writes of different PEs at places of trees whose roots name the same lock, each at the time of its write,
-/// the first PE gives the lock back, and later the second takes it. It holds of every history that keeps the rules. The
-/// call does nothing; the law is its contract.
-#[tactic(auto, using(crate::proofs::LockOrderLaw::laws))]
-pub fn law_lock_order()
-    ensures { (heading : Heading) (trust : Trust) (h newer between older : List Event)
-        (p q place other value later lock : ℕ) → keeps heading trust h ≡ true → p ≢ q →
-        h ≡ newer ++ Write q other later ∷ (between ++ Write p place value ∷ older) →
-        lock_at heading trust older place ≡ Some lock →
-        lock_at heading trust (between ++ Write p place value ∷ older) other ≡ Some lock → HandsOver p q lock between }
 {}
 
 /// The annotated history of a history ends in that of its older part. Each event in it stands with what it covered by

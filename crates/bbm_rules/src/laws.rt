@@ -1,20 +1,18 @@
 //! Laws of the definitions: three of them say the same as a sentence over all ways to split a history, and the annotated
 //! history keeps the events.
 
-ghost use Rattle.std.specs.Prelude.{◌≡◌, ℕ, true, false, List, Contains};
+ghost use Rattle.std.specs.Prelude.{◌≡◌, ℕ, true, List, Contains};
 ghost use Rattle.bbm_regimes.specs.declared.regime.Tag.{Tag};
 ghost use Rattle.bbm_events.specs.Heading.{Heading};
 ghost use Rattle.bbm_events.specs.declared.event.Event.{Event};
-ghost use Rattle.bbm_rules.specs.Broken.{keeps, verdict_of};
+ghost use Rattle.bbm_rules.specs.Broken.{keeps};
 ghost use Rattle.bbm_rules.specs.Claims.{Trust};
 ghost use Rattle.bbm_rules.specs.Covers.{noted};
-ghost use Rattle.bbm_rules.specs.Lists.{any};
 ghost use Rattle.bbm_rules.specs.Notes.{Noted, event_of, events_of};
 ghost use Rattle.bbm_rules.specs.Reach.{Issued, unanswered};
 ghost use Rattle.bbm_rules.specs.Sentences.{HoldsTag, Open, Readable};
 ghost use Rattle.bbm_rules.specs.Tags.{holds_at, itself};
 ghost use Rattle.bbm_rules.specs.Values.{is_readable};
-ghost use Rattle.bbm_rules.specs.Version.{in_version, sets_bit_0};
 
 /// A value of a place is among the readable ones exactly where the place had it at some moment since the
 /// last init of its page, and no write of the place after that moment is published. The call does nothing;
@@ -55,15 +53,4 @@ pub fn law_tag_held()
 #[tactic(auto, using(crate::proofs::NotesLaw::events_noted))]
 pub fn law_notes_keep_the_events()
     ensures { (heading : Heading) (trust : Trust) (h : List Event) → events_of (noted heading trust h) ≡ h }
-{}
-
-/// A log without bit 0 in any value that an `msr` gives to a register keeps the rules under a header of version 1
-/// exactly where it does under the same header of version 2 without `cnp`; its verdicts are the same. The call does
-/// nothing; the law is its contract.
-#[tactic(auto, using(crate::proofs::VersionLaw::laws))]
-pub fn law_version()
-    ensures keeps_alike { (heading : Heading) (trust : Trust) (h : List Event) → any sets_bit_0 h ≡ false →
-        keeps (in_version 1 heading) trust h ≡ keeps (in_version 2 heading) trust h }
-    ensures judges_alike { (heading : Heading) (trust : Trust) (h : List Event) → any sets_bit_0 h ≡ false →
-        verdict_of (in_version 1 heading) trust h ≡ verdict_of (in_version 2 heading) trust h }
 {}

@@ -54,15 +54,8 @@ module _ (heading : Heading) (trust : Trust) (k : Known heading trust) (h : List
         = k.last_sound part.kind part.level part.place (noted heading trust (e ∷ h)) w last in
         let holds : held heading trust part.kind part.level part.place (noted heading trust (e ∷ h)) ≡ Some b.0.value
         = k.held_complete part.kind part.level part.place (noted heading trust (e ∷ h)) b.0.value (record {
-          pe = l.pe;
-          write = l.write;
-          newer = w.since;
-          older = l.older;
-          split = l.split;
-          wrote = l.wrote;
-          valid = l.valid;
-          last = l.last;
-          no_init = l.no_init;
+          since = w.since;
+          last_write = l;
           p = x.pe;
           is_pe = f.shape.is_pe;
           uncleansed = uncleansed_after heading trust k h e kept_before x f none part i w last x.pe (inl refl);

@@ -44,7 +44,7 @@ module _ (heading : Heading) (trust : Trust) (k : Known heading trust) (h : List
       ∙ (ap (λ (l : ℕ). held heading trust part.kind l part.place notes) a.level ∙ e)
 
   pub held_valid : (part : Part) (q : Holding heading trust h part) → is_valid part.kind part.level q.value ≡ true
-  held_valid part q = (k.held_sound part.kind part.level part.place notes q.value q.holds).valid
+  held_valid part q = (k.held_sound part.kind part.level part.place notes q.value q.holds).last_write.valid
 
   -- what the place holds means what was read
   pub means : (part : Part) (n : Node) → IsAt n x.root part → (q : Holding heading trust h part)

@@ -1,12 +1,12 @@
--- The first page of a root and what is left of a place behind it; the ranges of a header's world.
-use Rattle.std.proofs.Common.{◌≡◌, ℕ, ◌-◌, ◌*◌, ◌/◌, ◌%◌, ◌≤◌, Bool, true, false, cond, ◌||◌, ◌==◌, nat_le, IsTrue, sym, arith, inl, inr, true≢false}
-use Rattle.std.proofs.lemmas.Bool.{and_parts, eqb-true, leb-true, or_cases}
+-- The first page of a root and what is left of a place behind it; the number of its pages.
+use Rattle.std.proofs.Common.{◌≡◌, ℕ, ◌-◌, ◌*◌, ◌/◌, ◌%◌, ◌≤◌, Bool, true, false, cond, ◌||◌, ◌==◌, IsTrue, sym, arith, inl, inr, true≢false}
+use Rattle.std.proofs.lemmas.Bool.{and_parts, eqb-true, or_cases}
 use Rattle.std.proofs.Math.Nat.{mod-eq-sub-div-mul, mod-add-div'}
 use Rattle.bbm_regimes.specs.declared.regime.Kind.{Kind}
 use Rattle.bbm_regimes.specs.declared.regime.Kind.TheVariants.{El2, S2, Ttbr0, Ttbr1}
 use Rattle.bbm_regimes.specs.declared.regime.World.{World}
 use Rattle.bbm_regimes.specs.declared.regime.World.TheVariants.{Hyp, Kernel}
-use Rattle.bbm_regimes.specs.World.{page_count, start_of, world_ok}
+use Rattle.bbm_regimes.specs.World.{page_count, world_ok}
 use Rattle.bbm_events.specs.Heading.{Heading, heading_ok}
 
 pub root_is : (x n : ℕ) → x - x % n ≡ x / n * n
@@ -14,19 +14,6 @@ root_is x n = omega (arith, mod-add-div' x n)
 
 pub rest_is : (x n : ℕ) → x % n ≡ x - x / n * n
 rest_is x n = mod-eq-sub-div-mul x n
-
-le_of : (a b : ℕ) → nat_le a b ≡ true → a ≤ b
-le_of a b k = leb-true a b k
-
-starts : (w : World) → world_ok w ≡ true → (kind : Kind) → start_of w kind ≤ 2
-starts (Hyp w) k El2 = le_of w.el2_start 2 (and_parts _ _ (and_parts _ _ k).0).0
-starts (Hyp w) k S2 = le_of w.s2_start 2 (and_parts _ _ (and_parts _ _ k).0).1
-starts (Hyp w) k Ttbr0 = omega arith
-starts (Hyp w) k Ttbr1 = omega arith
-starts (Kernel w) k Ttbr0 = le_of w.start0 2 (and_parts _ _ k).0
-starts (Kernel w) k Ttbr1 = le_of w.start1 2 (and_parts _ _ k).1
-starts (Kernel w) k El2 = omega arith
-starts (Kernel w) k S2 = omega arith
 
 one_or : (n m : ℕ) (rest : Bool) → (rest ≡ true → (1 ≤ n) × (n ≤ 16)) → 1 ≤ m → m ≤ 16 → (rest || n == m) ≡ true → (1 ≤ n) × (n ≤ 16)
 one_or n m rest by low high k =
@@ -49,9 +36,6 @@ counts (Hyp w) k El2 = (omega arith, omega arith)
 counts (Hyp w) k Ttbr0 = (omega arith, omega arith)
 counts (Hyp w) k Ttbr1 = (omega arith, omega arith)
 counts (Kernel w) k _ = (omega arith, omega arith)
-
-pub start_small : (h : Heading) → IsTrue (heading_ok h) → (kind : Kind) → start_of h.world kind ≤ 2
-start_small h k kind = starts h.world (and_parts _ _ k).1 kind
 
 pub count_small : (h : Heading) → IsTrue (heading_ok h) → (kind : Kind) → (1 ≤ page_count h.world kind) × (page_count h.world kind ≤ 16)
 count_small h k kind = counts h.world (and_parts _ _ k).1 kind

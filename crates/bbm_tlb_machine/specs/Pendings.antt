@@ -69,7 +69,8 @@ IsPending heading h pending =
 
 -- whether it must have taken the entry by the time that it is answered
 abbrev pub must_leave : Heading → Pending → Entry → Bool
-must_leave heading p x = reaches heading p.tlbi x.pe && takes_by p.scope p.vmid x && nat_le (age_for p.family x) p.before
+must_leave heading p x =
+    reaches heading p.tlbi x.pe && takes_by p.scope p.vmid x && nat_le (age_for p.family x) p.before
 
 abbrev pub leaves_by : Heading → List Living → Pending → Bool
 leaves_by heading living p = any (λ l. must_leave heading p l.entry) living

@@ -75,8 +75,8 @@ module _ (heading : Heading) where
   IsRun [] s = s ≡ at_start
   IsRun (step ∷ steps) s = (before : State) × IsRun steps before × Leads before step s
 
-  -- The step with this index, counted from 0, is the first that is none: the older ones are a run, and it leads nowhere from
-  -- there.
+  -- The step with this index, counted from 0, is the first that is none: the older ones are a run, and it leads nowhere
+  -- from there.
   pub record StopsAt (steps : List Step) (i : ℕ) : Type 0 where
     pub newer : List Step
     pub step : Step

@@ -8,8 +8,8 @@ ghost use Rattle.bbm_rules.specs.Places.{page_of};
 ghost use Rattle.bbm_tlb_machine.specs.Entry as spec;
 ghost use Rattle.bbm_tlb_machine.specs.Safe.{is_stale as is_stale_part};
 
-use crate::geometry::input_pages;
 use bbm_descriptor::{Desc, core, needs_bbm, read};
+use bbm_events::input_pages;
 use bbm_regimes::{Interval, Kind, NoMemory, Page, Pe, Place, Tag};
 use bbm_tlbi_scope::{EntryHead, EntryKind, Family};
 use std::alloc::Global;

@@ -12,9 +12,9 @@ ghost use Rattle.bbm_tlb_machine.specs.Step as spec;
 ghost use Rattle.bbm_tlb_machine.specs.Registers.{asids_by};
 
 use crate::entry::{Entry, Part, is_valid};
-use crate::geometry::{first_of, input_pages, root_of, start_level};
+use crate::geometry::{first_of, root_of};
 use crate::looking::can_read;
-use bbm_events::{Event, Header};
+use bbm_events::{Event, Header, input_pages, start_level};
 use bbm_oracle_tags::readings::is_read;
 use bbm_oracle_tags::{readings_at, register_values, tag_number};
 use bbm_regimes::{AsidFrom, Kind, NoMemory, Pe, Place, Reg, World};

@@ -4,17 +4,18 @@ use Rattle.std.proofs.lemmas.Bool.{and_parts, eqb-true}
 use Rattle.bbm_events.specs.Heading.{Heading}
 use Rattle.bbm_rules.specs.Prelude.{Event, Lock, Unlock, Write}
 use Rattle.bbm_rules.specs.declared.rule.Rule.TheVariants.{NoLock, LockBusy}
-use Rattle.bbm_rules.proofs.NotesLaw.{events_noted}
-use Rattle.bbm_rules.proofs.RuleLemmas.{Unbroken, if_none, last_kept}
 use Rattle.bbm_rules.specs.Broken.{keeps}
 use Rattle.bbm_rules.specs.Claims.{Trust}
 use Rattle.bbm_rules.specs.Covers.{noted}
 use Rattle.bbm_rules.specs.Lists.{◌>>=◌, if_so, is_that}
-use Rattle.bbm_rules.specs.Locks.{HandsOver, holder_of, lock_at}
+use Rattle.bbm_rules.specs.Locks.{holder_of}
 use Rattle.bbm_rules.specs.Places.{page_of}
 use Rattle.bbm_rules.specs.Roots.{lock_of}
 use Rattle.bbm_rules.specs.Rules.{lacks}
 use Rattle.bbm_rules.specs.Tree.{Node, node_of}
+use Rattle.bbm_histories.specs.Below.{Below}
+use Rattle.bbm_histories.specs.Locks.{HandsOver, lock_at}
+use Rattle.bbm_histories.proofs.Induction.{Unbroken, if_none, kept_before, last_kept}
 
 is_that_pe : (o : Option ℕ) (p : ℕ) → not (is_that o p) ≡ false → o ≡ Some p
 is_that_pe None p k = absurd (true≢false k)
@@ -33,11 +34,7 @@ locked (Some n) lock_in lock lacking place named unbroken =
     if_none (lacking lock) place
     (subst (λ (o : Option ℕ). (o >>= (λ l. if_so (lacking l) place)) ≡ None) named unbroken)
 
-module _ (heading : Heading) (trust : Trust) where
-  keeps_older : (newer older : List Event) → keeps heading trust (newer ++ older) ≡ true → keeps heading trust older ≡ true
-  keeps_older [] older k = k
-  keeps_older (e ∷ newer) older k = keeps_older newer older (last_kept heading trust (newer ++ older) e k).0
-
+module _ (heading : Heading) (trust : Trust) (known : Below heading trust) where
   writer_holds : (h : List Event) (p place value lock : ℕ) → Unbroken heading trust (noted heading trust h) (Write p place value)
       → lock_at heading trust h place ≡ Some lock → holder_of h lock ≡ Some p
   writer_holds h p place value lock unbroken named =
@@ -45,13 +42,13 @@ module _ (heading : Heading) (trust : Trust) where
       (locked (node_of heading trust (noted heading trust h) (page_of place)) (λ n. lock_of h n.root) lock (lacks h p) place named
       (subst (λ (es : List Event). (node_of heading trust (noted heading trust h) (page_of place)
       >>= (λ n. lock_of es n.root >>= (λ l. if_so (lacks es p l) place))) ≡ None)
-      (events_noted heading trust h) (unbroken NoLock)))
+      (known.events_noted h) (unbroken NoLock)))
 
   -- a lock that is taken was free
   was_free : (h : List Event) (r lock : ℕ) → Unbroken heading trust (noted heading trust h) (Lock r lock)
       → holder_of h lock ≡ None
   was_free h r lock unbroken =
-      subst (λ (es : List Event). holder_of es lock ≡ None) (events_noted heading trust h) (unbroken LockBusy)
+      subst (λ (es : List Event). holder_of es lock ≡ None) (known.events_noted h) (unbroken LockBusy)
 
   module _ (p lock : ℕ) (start : List Event) (held : holder_of start lock ≡ Some p) where
     abbrev Given : List Event → Type 0
@@ -87,7 +84,7 @@ module _ (heading : Heading) (trust : Trust) where
         → (holder_of (es ++ start) lock ≡ Some p) ⊎ Given es
     holds_or_gave [] k = inl held
     holds_or_gave (e ∷ es) k =
-        let parts = last_kept heading trust (es ++ start) e k in
+        let parts = last_kept heading trust known (es ++ start) e k in
         elim (holds_or_gave es parts.0) [
           | inl mine ↦ step e es parts.1 mine
           | inr gave ↦ inr (given_later e es gave)
@@ -140,27 +137,25 @@ module _ (heading : Heading) (trust : Trust) where
       hands_over [] k now =
           let same : p ≡ q = cc in absurd (other same)
       hands_over (Lock r number ∷ es) k now =
-          let parts = last_kept heading trust (es ++ start) (Lock r number) k in
+          let parts = last_kept heading trust known (es ++ start) (Lock r number) k in
           at_lock r number es (number == lock) refl parts.0 parts.1 now (hands_over es parts.0)
       hands_over (Unlock r number ∷ es) k now =
-          let parts = last_kept heading trust (es ++ start) (Unlock r number) k in
+          let parts = last_kept heading trust known (es ++ start) (Unlock r number) k in
           at_unlock r number es (number == lock && is_that (holder_of (es ++ start) lock) r) now (hands_over es parts.0)
       hands_over (e ∷ es) k now =
-          over_later e es (hands_over es (last_kept heading trust (es ++ start) e k).0 now)
+          over_later e es (hands_over es (last_kept heading trust known (es ++ start) e k).0 now)
 
-pub lock_order : (heading : Heading) (trust : Trust) (h newer between older : List Event)
+pub lock_order : (heading : Heading) (trust : Trust) → Below heading trust → (h newer between older : List Event)
     (p q place other value later lock : ℕ) → keeps heading trust h ≡ true → p ≢ q
     → h ≡ newer ++ Write q other later ∷ (between ++ Write p place value ∷ older)
     → lock_at heading trust older place ≡ Some lock
     → lock_at heading trust (between ++ Write p place value ∷ older) other ≡ Some lock → HandsOver p q lock between
-lock_order heading trust h newer between older p q place other value later lock k differ split first second =
+lock_order heading trust b h newer between older p q place other value later lock k differ split first second =
     let first_write : List Event = Write p place value ∷ older in
     let kept : keeps heading trust (Write q other later ∷ (between ++ first_write)) ≡ true
-    = keeps_older heading trust newer (Write q other later ∷ (between ++ first_write))
+    = kept_before heading trust newer (Write q other later ∷ (between ++ first_write))
     (subst (λ (es : List Event). keeps heading trust es ≡ true) split k) in
-    let last = last_kept heading trust (between ++ first_write) (Write q other later) kept in
-    let begin = last_kept heading trust older (Write p place value) (keeps_older heading trust between first_write last.0) in
-    hands_over heading trust p lock first_write (writer_holds heading trust older p place value lock begin.1 first) q differ
-    between last.0 (writer_holds heading trust (between ++ first_write) q other later lock last.1 second)
-
-pub ruleset laws = (lock_order)
+    let last = last_kept heading trust b (between ++ first_write) (Write q other later) kept in
+    let begin = last_kept heading trust b older (Write p place value) (kept_before heading trust between first_write last.0) in
+    hands_over heading trust b p lock first_write (writer_holds heading trust b older p place value lock begin.1 first) q differ
+    between last.0 (writer_holds heading trust b (between ++ first_write) q other later lock last.1 second)

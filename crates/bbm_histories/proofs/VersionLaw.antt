@@ -1,12 +1,13 @@
 -- Versions 1 and 2 judge alike, where the header has no `cnp` and no register is given a value with bit 0 set.
-use Rattle.std.proofs.Common.{◌≡◌, ℕ, suc, ◌&&◌, ◌||◌, not, Bool, false, List, [], ◌∷◌, length, Option, is_none, refl, sym, ◌∙◌, ap}
+use Rattle.std.specs.Option.{option_map_or}
+use Rattle.std.proofs.Common.{◌≡◌, ℕ, suc, ◌&&◌, ◌||◌, not, Bool, false, List, [], ◌∷◌, length, Option, Some, is_none, refl, sym, ◌∙◌, ap}
 use Rattle.std.proofs.lemmas.Bool.{or_parts}
 use Rattle.bbm_events.specs.Heading.{Heading}
 use Rattle.bbm_events.specs.declared.event.Event.{Event}
 use Rattle.bbm_events.specs.declared.event.Event.TheVariants.{Msr}
 use Rattle.bbm_rules.specs.declared.rule.Rule.{Rule}
 use Rattle.bbm_rules.specs.declared.rule.Rule.TheVariants.{WrongWorld}
-use Rattle.bbm_rules.specs.Broken.{Breach, breaks, broken, first_broken, keeps, rules, verdict_after, verdict_of}
+use Rattle.bbm_rules.specs.Broken.{Breach, breaks, broken, first_broken, keeps, rules}
 use Rattle.bbm_rules.specs.Claims.{Trust}
 use Rattle.bbm_rules.specs.Covers.{noted}
 use Rattle.bbm_rules.specs.Lists.{any, if_so}
@@ -14,8 +15,10 @@ use Rattle.bbm_rules.specs.Notes.{Noted}
 use Rattle.bbm_rules.specs.Registers.{kind_of_reg}
 use Rattle.bbm_rules.specs.Roots.{kind_in_world}
 use Rattle.bbm_rules.specs.Tree.{tree}
-use Rattle.bbm_rules.specs.Version.{in_version, sets_bit_0}
-use Rattle.bbm_rules.proofs.RuleLemmas.{breach_or}
+use Rattle.bbm_histories.specs.Versions.{in_version, sets_bit_0, verdict_after, verdict_of}
+
+abbrev breach_of : Rule → ℕ → Option Breach
+breach_of rule at = Some (record { rule = rule; at = at })
 
 module _ (heading : Heading) (trust : Trust) where
   rule_alike : (h : List Noted) (e : Event) (r : Rule) → sets_bit_0 e ≡ false
@@ -29,8 +32,8 @@ module _ (heading : Heading) (trust : Trust) where
       → first_broken (in_version 1 heading) trust h e rs ≡ first_broken (in_version 2 heading) trust h e rs
   first_alike h e [] k = refl
   first_alike h e (r ∷ rs) k =
-      ap (λ (o : Option ℕ). breach_or r o (first_broken (in_version 1 heading) trust h e rs)) (rule_alike h e r k)
-      ∙ ap (breach_or r (breaks (in_version 2 heading) trust h e r)) (first_alike h e rs k)
+      ap (λ (o : Option ℕ). option_map_or (breach_of r) o (first_broken (in_version 1 heading) trust h e rs)) (rule_alike h e r k)
+      ∙ ap (option_map_or (breach_of r) (breaks (in_version 2 heading) trust h e r)) (first_alike h e rs k)
 
   broken_alike : (h : List Event) (e : Event) → sets_bit_0 e ≡ false
       → broken (in_version 1 heading) trust h e ≡ broken (in_version 2 heading) trust h e
