@@ -41,12 +41,13 @@ module _ (heading : Heading) (trust : Trust) (h : List Noted) where
   ends_below kind zero level page = []
   ends_below kind (suc left) level page = if is_fresh heading trust h page
       then flat_map (λ next. end_at (suc level) next ∷ ends_below kind left (suc level) next)
-      (filter_map (λ place. next_of kind level (value_of (events_of h) place)) (places_in (events_of h) page))
-      else []
+      (filter_map (λ place. next_of kind level (value_of (events_of h) place)) (places_in (events_of h) page)) else []
 
   abbrev pub attached_from : Kind → ℕ → List ℕ → Attached
   attached_from kind level pages = record {
-    kind = kind; first = map (end_at level) pages; deeper = flat_map (ends_below kind (3 - level) level) pages;
+    kind = kind;
+    first = map (end_at level) pages;
+    deeper = flat_map (ends_below kind (3 - level) level) pages;
   }
 
   -- Attach: a write of a valid table value at a place of a tree that holds nothing attaches its next page, and a `root`

@@ -21,7 +21,13 @@ pub record Changes : Type 0 where
 
 abbrev pub nothing : Changes
 nothing = record {
-  values = false; publications = false; inits = false; nulls = false; roots = false; registers = false; flushes = false;
+  values = false;
+  publications = false;
+  inits = false;
+  nulls = false;
+  roots = false;
+  registers = false;
+  flushes = false;
   locks = false;
 }
 

@@ -30,8 +30,12 @@ module _ (heading : Heading) (trust : Trust) where
       n ← node_of heading trust h (page_of place)
       value ← held_at heading trust h n place
       Some (record {
-        kind = n.kind; region = region_of n place; level = n.level; table = is_some (next_of n.kind n.level value);
-        global = is_global (desc_of n.kind n.level value); childless = is_childless heading trust h n value;
+        kind = n.kind;
+        region = region_of n place;
+        level = n.level;
+        table = is_some (next_of n.kind n.level value);
+        global = is_global (desc_of n.kind n.level value);
+        childless = is_childless heading trust h n value;
         tags = tag_set (tags_of heading trust n.root (events_of h));
       })
 

@@ -38,6 +38,5 @@ module _ (heading : Heading) (trust : Trust) where
 
   -- Held: the last valid value of the place since the last init of its page, unless the place is cleansed at every PE.
   abbrev pub held : Kind → ℕ → ℕ → List Noted → Option ℕ
-  held kind level place h = do
-    w ← last_valid kind level place h
-    if cleansed_everywhere place w.since then None else Some w.value
+  held kind level place h =
+      last_valid kind level place h >>= (λ w. if cleansed_everywhere place w.since then None else Some w.value)

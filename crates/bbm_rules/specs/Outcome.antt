@@ -161,9 +161,8 @@ outcome_after progress line lines rest goes_on (GoesOn next) = goes_on next
 abbrev pub outcome_from : Trust → Limits → ℕ → Progress → List (List ℕ) → List ℕ → Outcome
 outcome_from trust limits number progress [] rest =
     record { verdict = end_of number progress rest; unread = drop 201 rest; log = events_in progress }
-outcome_from trust limits number progress (line ∷ lines) rest =
-    outcome_after progress line lines rest (λ next. outcome_from trust limits (suc number) next lines rest)
-    (step_of trust limits number progress line)
+outcome_from trust limits number progress (line ∷ lines) rest = outcome_after progress line lines rest
+    (λ next. outcome_from trust limits (suc number) next lines rest) (step_of trust limits number progress line)
 
 -- the verdict on these lines, with these bytes after the last newline
 abbrev pub verdict_of_lines : Trust → Limits → List (List ℕ) → List ℕ → Verdict

@@ -36,15 +36,14 @@ abbrev pub vmid_in : World → List Event → ℕ → Option ℕ
 vmid_in (Hyp world) h p = one_number (map tag_number (register_values h p VttbrEl2))
 vmid_in (Kernel world) h p = Some 0
 
-module _ (heading : Heading) where
-  abbrev pub vmid_of : List Event → ℕ → Option ℕ
-  vmid_of h p = vmid_in heading.world h p
+abbrev pub vmid_of : Heading → List Event → ℕ → Option ℕ
+vmid_of heading h p = vmid_in heading.world h p
 
-  -- whether the operation needs the VMID of its issuer, which may still use several
-  abbrev pub lacks_vmid : List Event → ℕ → TlbiOp → Bool
-  lacks_vmid h pe op = scoped_by_vmid op && is_none (vmid_of h pe)
+-- whether the operation needs the VMID of its issuer, which may still use several
+abbrev pub lacks_vmid : Heading → List Event → ℕ → TlbiOp → Bool
+lacks_vmid heading h pe op = scoped_by_vmid op && is_none (vmid_of heading h pe)
 
-  -- What a TLBI names at its issue: its scope, or None where its operand can't be decoded, or where it needs a VMID
-  -- and there are several.
-  abbrev pub named_scope : List Event → ℕ → TlbiOp → ℕ → Option Scope
-  named_scope h pe op xt = if lacks_vmid h pe op then None else result_ok (scope_of op xt)
+-- What a TLBI names at its issue: its scope, or None where its operand can't be decoded, or where it needs a VMID and
+-- there are several.
+abbrev pub named_scope : Heading → List Event → ℕ → TlbiOp → ℕ → Option Scope
+named_scope heading h pe op xt = if lacks_vmid heading h pe op then None else result_ok (scope_of op xt)

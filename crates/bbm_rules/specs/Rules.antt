@@ -48,8 +48,7 @@ is_contiguous kind _ = false
 
 -- whether the page is the base of a value that p may still use in some register
 abbrev pub is_base_at : List Event → ℕ → ℕ → Bool
-is_base_at h page p =
-    any (λ value. is_that (base_of value) page)
+is_base_at h page p = any (λ value. is_that (base_of value) page)
     (flat_map (register_values h p) (Ttbr0El2 ∷ VttbrEl2 ∷ Ttbr0El1 ∷ Ttbr1El1 ∷ []))
 
 module _ (heading : Heading) (trust : Trust) (h : List Noted) where
@@ -73,9 +72,7 @@ module _ (heading : Heading) (trust : Trust) (h : List Noted) where
     n ← node_of heading trust h (page_of place)
     lock ← lock_of (events_of h) n.root
     if_so (lacks (events_of h) pe lock) place
-  no_lock (Unroot pe page) = do
-    lock ← lock_of (events_of h) page
-    if_so (lacks (events_of h) pe lock) page
+  no_lock (Unroot pe page) = lock_of (events_of h) page >>= (λ lock. if_so (lacks (events_of h) pe lock) page)
   no_lock _ = None
 
   -- 3, null-written: it is a write at a place of a null page. At: the place.
@@ -95,9 +92,8 @@ module _ (heading : Heading) (trust : Trust) (h : List Noted) where
 
   -- 5, limbo-make: it is a write of a valid value at a place in limbo. At: the place.
   abbrev pub limbo_make : Event → Option ℕ
-  limbo_make (Write pe place value) = do
-    n ← node_of heading trust h (page_of place)
-    if_so (is_valid n.kind n.level value && in_limbo h n) place
+  limbo_make (Write pe place value) =
+      node_of heading trust h (page_of place) >>= (λ n. if_so (is_valid n.kind n.level value && in_limbo h n) place)
   limbo_make _ = None
 
   -- 6, not-fresh: a path of the attached pages ends in a page that isn't fresh, where of a `root` the paths of no
@@ -121,17 +117,15 @@ module _ (heading : Heading) (trust : Trust) (h : List Noted) where
   -- 7, rewritten-fresh: it is a write at a place of a fresh page whose value has bit 0 set, with another value. At:
   -- the place.
   abbrev pub rewritten_fresh : Event → Option ℕ
-  rewritten_fresh (Write pe place value) =
-      if_so (is_fresh heading trust h (page_of place) && value_of (events_of h) place % 2 == 1
-      && not (value_of (events_of h) place == value)) place
+  rewritten_fresh (Write pe place value) = if_so (is_fresh heading trust h (page_of place)
+      && value_of (events_of h) place % 2 == 1 && not (value_of (events_of h) place == value)) place
   rewritten_fresh _ = None
 
   -- the least place at which the event puts a descriptor of the test into a tree: the place of a tree that it writes,
   -- or a place of a page that it attaches
   abbrev pub written_with : (Kind → Desc → Bool) → Event → Option ℕ
-  written_with test (Write pe place value) = do
-    n ← node_of heading trust h (page_of place)
-    if_so (test n.kind (desc_of n.kind n.level value)) place
+  written_with test (Write pe place value) =
+      node_of heading trust h (page_of place) >>= (λ n. if_so (test n.kind (desc_of n.kind n.level value)) place)
   written_with test _ = None
 
   abbrev pub made_with : (Kind → Desc → Bool) → Event → Option ℕ
@@ -161,10 +155,8 @@ module _ (heading : Heading) (trust : Trust) (h : List Noted) where
   -- the register's kind nor, in TTBR0_EL1, a null page; or an `unroot` names no first page of a declared root. At: the
   -- base, or the page.
   abbrev pub no_root : Event → Option ℕ
-  no_root (Msr pe reg value) = do
-    base ← base_of value
-    if_so (not (is_root (events_of h) (kind_of_reg reg) base
-        || (same_reg reg Ttbr0El1 && is_null (events_of h) base))) base
+  no_root (Msr pe reg value) = base_of value >>= (λ base. if_so (not (is_root (events_of h) (kind_of_reg reg) base
+      || (same_reg reg Ttbr0El1 && is_null (events_of h) base))) base)
   no_root (Unroot pe page) = if_so (is_none (root_at (events_of h) page)) page
   no_root _ = None
 

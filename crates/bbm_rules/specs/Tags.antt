@@ -23,9 +23,8 @@ pub record Reading : Type 0 where
 -- The readings that the readable values of a register give: the base of each, where it is a declared root of the
 -- register's kind, under the tag of the value.
 abbrev pub reading_of : List Event → Reg → (ℕ → Tag) → ℕ → Option Reading
-reading_of h reg tag value = do
-  base ← base_of value
-  if_so (is_root h (kind_of_reg reg) base) (record { tag = tag value; root = base })
+reading_of h reg tag value =
+    base_of value >>= (λ base. if_so (is_root h (kind_of_reg reg) base) (record { tag = tag value; root = base }))
 
 abbrev pub readings_of : List Event → ℕ → Reg → (ℕ → Tag) → List Reading
 readings_of h p reg tag = filter_map (reading_of h reg tag) (register_values h p reg)
@@ -73,9 +72,9 @@ module _ (heading : Heading) where
   -- issuer then has. Source: Arm ARM (DDI 0487), "TLB maintenance instructions"; the term is the project's own choice.
   abbrev pub takes_tag : Event → List Event → Tag → Bool
   takes_tag (Tlbi pe op xt) before tag = elim (named_scope heading before pe op xt) [
-        | None ↦ false
-        | Some scope ↦ takes_whole_tag scope (vmid_of heading before pe) tag
-      ]
+    | None ↦ false
+    | Some scope ↦ takes_whole_tag scope (vmid_of heading before pe) tag
+  ]
   takes_tag _ before tag = false
 
   module _ (trust : Trust) where

@@ -69,9 +69,8 @@ label_text label = option_map_or (λ text. codes " @" ++ text) label []
 -- the line that is printed for a verdict
 unfoldable pub verdict_text : Verdict → List ℕ
 verdict_text (Accepted events) = codes "accepted " ++ decimal events ++ codes " events\n"
-verdict_text (Refused line rule at label) =
-    codes "refused line " ++ decimal line ++ codes " rule " ++ rule_text rule ++ codes " at " ++ hex at
-    ++ label_text label ++ codes "\n"
+verdict_text (Refused line rule at label) = codes "refused line " ++ decimal line ++ codes " rule " ++ rule_text rule
+    ++ codes " at " ++ hex at ++ label_text label ++ codes "\n"
 verdict_text (Malformed line cause) =
     codes "malformed line " ++ decimal line ++ codes " cause " ++ cause_text cause ++ codes "\n"
 verdict_text (Limit line which) = codes "limit line " ++ decimal line ++ codes " " ++ limit_text which ++ codes "\n"

@@ -48,9 +48,8 @@ nodes_of_pages kind level root base (page ∷ pages) =
     ∷ nodes_of_pages kind level root (base + 512 * input_pages level) pages
 
 abbrev pub nodes_of_root : Heading → Declared → List Node
-nodes_of_root heading r =
-    nodes_of_pages r.kind (start_of heading.world r.kind) r.page (first_input_page heading.world r.kind)
-    (root_pages heading.world r.kind r.page)
+nodes_of_root heading r = nodes_of_pages r.kind (start_of heading.world r.kind) r.page
+    (first_input_page heading.world r.kind) (root_pages heading.world r.kind r.page)
 
 abbrev pub starts_at : Heading → ℕ → Declared → List Node
 starts_at heading level r = if start_of heading.world r.kind == level then nodes_of_root heading r else []
@@ -66,7 +65,9 @@ next_of kind level value = next_in (desc_of kind level value)
 -- the page below a place, one level deeper; kind and root are the same
 abbrev pub node_below : Node → ℕ → ℕ → Node
 node_below n place next = record n {
-  page = next; level = suc n.level; base = region_start n place;
+  page = next;
+  level = suc n.level;
+  base = region_start n place;
   above = record { place = place; level = n.level } ∷ n.above;
 }
 

@@ -21,12 +21,10 @@ pub use event_laws::{
 };
 pub use history_laws::{
     law_attaching, law_childless, law_cleansed, law_each_rule, law_fresh, law_global_user,
-    law_half, law_held, law_last_valid, law_limbo, law_notes, law_paths,
-    law_refused_place, law_root_pages, law_seen, law_tree,
+    law_half, law_held, law_last_valid, law_limbo, law_notes, law_paths, law_refused_place,
+    law_root_pages, law_seen, law_tree,
 };
-pub use laws::{
-    law_answered, law_notes_keep_the_events, law_readable_value, law_tag_held,
-};
+pub use laws::{law_answered, law_notes_keep_the_events, law_readable_value, law_tag_held};
 pub use limits::Limits;
 pub use phase::Phase;
 pub use rule::Rule;
@@ -42,12 +40,10 @@ mod tests {
     };
     use crate::history_laws::{
         law_attaching, law_childless, law_cleansed, law_each_rule, law_fresh, law_global_user,
-        law_half, law_held, law_last_valid, law_limbo, law_notes, law_paths,
-        law_refused_place, law_root_pages, law_seen, law_tree,
+        law_half, law_held, law_last_valid, law_limbo, law_notes, law_paths, law_refused_place,
+        law_root_pages, law_seen, law_tree,
     };
-    use crate::laws::{
-        law_answered, law_notes_keep_the_events, law_readable_value, law_tag_held,
-    };
+    use crate::laws::{law_answered, law_notes_keep_the_events, law_readable_value, law_tag_held};
     use crate::tag_laws::{law_readable_tag, law_tag_rules};
     use crate::verdict::law_first_line_decides;
 
