@@ -1,8 +1,7 @@
--- Where walks start in a world that a header has, and how many pages a stage 2 root joins there.
-use Rattle.std.proofs.Common.{◌≡◌, ◌≤◌, Bool, true, false, cond, not, ◌&&◌, ◌||◌, ◌==◌, nat_le, IsTrue, refl, arith, sym, true≢false}
-use Rattle.std.proofs.lemmas.Bool.{and_parts, leb-true}
-use Rattle.bbm_regimes.specs.declared.regime.Kind.{Kind}
-use Rattle.bbm_regimes.specs.declared.regime.Kind.TheVariants.{El2, S2, Ttbr0, Ttbr1}
+-- How many pages a stage 2 root joins in a world that a header has.
+use Rattle.std.proofs.Common.{◌≡◌, Bool, true, false, cond, not, ◌&&◌, ◌||◌, ◌==◌, nat_le, IsTrue, refl, sym, true≢false}
+use Rattle.std.proofs.lemmas.Bool.{and_parts}
+use Rattle.bbm_regimes.specs.declared.regime.Kind.TheVariants.{S2}
 use Rattle.bbm_regimes.specs.declared.regime.World.{World}
 use Rattle.bbm_regimes.specs.declared.regime.World.TheVariants.{Hyp, Kernel}
 use Rattle.bbm_regimes.specs.World.{are_s2_pages, page_count, start_of, world_ok}
@@ -13,28 +12,6 @@ world_is_ok : (heading : Heading) → IsTrue (heading_ok heading) → world_ok h
 world_is_ok heading ok =
     (and_parts (is_version heading.version && are_pes heading.version heading.pes && (may_share heading.version || not heading.cnp))
     (world_ok heading.world) ok).1
-
-small_in : (world : World) (kind : Kind) → world_ok world ≡ true → start_of world kind ≤ 2
-small_in (Hyp w) kind k = by kind
-  where
-    front : (nat_le w.el2_start 2 && nat_le w.s2_start 2) ≡ true
-    front = (and_parts (nat_le w.el2_start 2 && nat_le w.s2_start 2) (are_s2_pages w.s2_start w.s2_pages) k).0
-
-    by : (kind : Kind) → start_of (Hyp w) kind ≤ 2
-    by El2 = leb-true w.el2_start 2 (and_parts (nat_le w.el2_start 2) (nat_le w.s2_start 2) front).0
-    by S2 = leb-true w.s2_start 2 (and_parts (nat_le w.el2_start 2) (nat_le w.s2_start 2) front).1
-    by Ttbr0 = omega arith
-    by Ttbr1 = omega arith
-small_in (Kernel w) kind k = by kind
-  where
-    by : (kind : Kind) → start_of (Kernel w) kind ≤ 2
-    by El2 = omega arith
-    by S2 = omega arith
-    by Ttbr0 = leb-true w.start0 2 (and_parts (nat_le w.start0 2) (nat_le w.start1 2) k).0
-    by Ttbr1 = leb-true w.start1 2 (and_parts (nat_le w.start0 2) (nat_le w.start1 2) k).1
-
-pub start_small : (heading : Heading) (kind : Kind) → IsTrue (heading_ok heading) → start_of heading.world kind ≤ 2
-start_small heading kind ok = small_in heading.world kind (world_is_ok heading ok)
 
 either : (zero one two four eight sixteen : Bool) → cond zero one (one || two || four || eight || sixteen) ≡ true
     → (one || not zero && (two || four || eight || sixteen)) ≡ true

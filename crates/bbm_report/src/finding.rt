@@ -1,6 +1,6 @@
 //! What `walk` finds.
 
-ghost use Rattle.std.specs.Prelude.{◌≡◌, ℕ, ◌≤◌, ◌*◌, ◌%◌, ◌↔◌, List, true, IsTrue, IsSome, IfSome};
+ghost use Rattle.std.specs.Prelude.{◌≡◌, ℕ, ◌*◌, ◌%◌, ◌↔◌, List, true, IsTrue, IsSome, IfSome};
 ghost use Rattle.std.specs.List.{list_all};
 ghost use Rattle.bbm_regimes.specs.declared.regime.Kind.TheVariants.{S2, Ttbr1};
 ghost use Rattle.bbm_regimes.specs.Same.{same_kind};
@@ -12,31 +12,11 @@ ghost use Rattle.bbm_report.specs.Further.{Found};
 
 use crate::questions::Question;
 use bbm_descriptor::Walk;
-use bbm_events::{Header, page_count};
-use bbm_regimes::{Kind, Page, World};
+use bbm_events::{Header, page_count, start_level};
+use bbm_regimes::{Kind, Page};
 use bbm_rules::Checker;
 use bbm_walk_s1::S1Root;
 use bbm_walk_s2::S2Root;
-
-// The level at which walks of the kind start.
-#[tactic(auto, using(crate::proofs::Starts::start_small))]
-fn start(header: &Header, kind: Kind) -> u8
-    ensures level { result ≡ worlds.start_of header.now.world kind }
-    ensures range { result ≤ 2 }
-{
-    match header.world {
-        World::Hyp(world) => match kind {
-            Kind::El2 => world.el2_start,
-            Kind::S2 => world.s2_start,
-            _ => 0,
-        },
-        World::Kernel(world) => match kind {
-            Kind::Ttbr0 => world.start0,
-            Kind::Ttbr1 => world.start1,
-            _ => 0,
-        },
-    }
-}
 
 // Whether the input range of the kind is the high one.
 fn is_high(kind: Kind) -> bool
@@ -64,7 +44,7 @@ fn joined_root(header: &Header, page: Page) -> Option<S2Root>
     ensures pages { IfSome result (λ root. root.pages ≡ worlds.page_count header.now.world S2) }
     ensures page { IfSome result (λ root. root.page ≡ page) }
 {
-    let start = start(header, Kind::S2);
+    let start = start_level(header, Kind::S2);
     let pages = joined_pages(header);
     if page.get() % (4096 * pages as u64) == 0 {
         Some(S2Root { start, pages, page })
@@ -91,7 +71,7 @@ pub fn find<C: Checker>(checker: &C, header: &Header, question: Question) -> Opt
         }
         kind => {
             let root = S1Root {
-                start: start(header, kind),
+                start: start_level(header, kind),
                 high: is_high(kind),
                 page: question.root,
             };

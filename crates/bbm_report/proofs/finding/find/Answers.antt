@@ -31,6 +31,6 @@ pub returns-in_default : goal.returns-in_default
 returns-in_default g c h stands fits =
     let told = c.is_root.ensures c.args.header.now h stands in
     let is_one : is_root h c.args.question.kind c.args.question.root ≡ true = cc in
-    found_single c.args.header.now h c.args.question (g.C.Memory.value_at c.args.checker.now) c.start.result c.is_high.result
-    c.walk-in_default.result c.in_default.not-S2 is_one c.start.ensures.level c.is_high.ensures
+    found_single c.args.header.now h c.args.question (g.C.Memory.value_at c.args.checker.now) c.start_level.result c.is_high.result
+    c.walk-in_default.result c.in_default.not-S2 is_one c.start_level.ensures.value c.is_high.ensures
     (g.met.C.Checker.values c.args.checker.now c.args.header.now h stands) c.walk-in_default.ensures.answer
