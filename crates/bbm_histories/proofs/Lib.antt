@@ -16,3 +16,6 @@ pub mod TagLemmas
 pub mod ProperLemmas
 pub mod StepLemmas
 pub mod AttachedLemmas
+pub mod ChildlessSteps
+pub mod LimboSteps
+pub mod NodeSteps

@@ -26,7 +26,7 @@ use Rattle.bbm_histories.proofs.HeldSteps.{held_same}
 
 -- ---- tests
 
-same_test : {A : Type 0} (f g : A → Bool) (xs : List A) → ((x : A) → f x ≡ g x) → any f xs ≡ any g xs
+pub same_test : {A : Type 0} (f g : A → Bool) (xs : List A) → ((x : A) → f x ≡ g x) → any f xs ≡ any g xs
 same_test f g [] same = refl
 same_test f g (x ∷ xs) same =
     ap (λ (b : Bool). b || any f xs) (same x) ∙ ap (λ (b : Bool). g x || b) (same_test f g xs same)

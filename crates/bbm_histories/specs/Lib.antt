@@ -3,4 +3,5 @@ pub mod Patterns
 pub mod Steps
 pub mod Tags
 pub mod Tree
+pub mod TreeSteps
 pub mod Values

@@ -5,12 +5,14 @@ mod below;
 pub mod patterns;
 pub mod steps;
 pub mod tags;
+pub mod tree_steps;
 pub mod trees;
 pub mod values;
 
 pub use patterns::{law_patterns_begin, law_patterns_stay, law_uniform};
 pub use steps::{law_held_step, law_pattern_steps, law_tag_steps};
 pub use tags::law_tags;
+pub use tree_steps::{law_childless_step, law_limbo_step, law_node_step};
 pub use trees::{
     law_frozen_view, law_held_changes, law_limbo_is_empty, law_lower_leaves, law_one_node,
     law_one_position, law_proper, law_tree_step,
@@ -22,6 +24,7 @@ mod tests {
     use crate::patterns::{law_patterns_begin, law_patterns_stay, law_uniform};
     use crate::steps::{law_held_step, law_pattern_steps, law_tag_steps};
     use crate::tags::law_tags;
+    use crate::tree_steps::{law_childless_step, law_limbo_step, law_node_step};
     use crate::trees::{
         law_frozen_view, law_held_changes, law_limbo_is_empty, law_lower_leaves, law_one_node,
         law_one_position, law_proper, law_tree_step,
@@ -30,13 +33,16 @@ mod tests {
 
     #[test]
     fn laws_hold() {
+        law_childless_step();
         law_fresh_content();
         law_frozen();
         law_frozen_view();
         law_held_changes();
         law_held_step();
         law_limbo_is_empty();
+        law_limbo_step();
         law_lower_leaves();
+        law_node_step();
         law_one_node();
         law_one_position();
         law_pattern_steps();
