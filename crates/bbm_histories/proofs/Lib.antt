@@ -19,3 +19,4 @@ pub mod AttachedLemmas
 pub mod ChildlessSteps
 pub mod LimboSteps
 pub mod NodeSteps
+pub mod ClaimLemmas

@@ -21,6 +21,7 @@ use Rattle.bbm_rules.specs.Reach.{Issued, completes, left_open, reaches, still_o
 use Rattle.bbm_rules.specs.Tags.{is_taken_by, itself, loses, read_since, reads_for_some, takes_tag}
 use Rattle.bbm_rules.specs.Values.{publishes_to, value_of}
 use Rattle.bbm_histories.specs.Below.{Below}
+use Rattle.bbm_histories.specs.ClaimSteps.{cleansed_under}
 use Rattle.bbm_histories.specs.Steps.{answered_by, cleansed_after, half_after, held_after, is_tlbi, seen_after, tag_waits, tag_waits_after, takes, waits, waits_after, wrote}
 use Rattle.bbm_histories.proofs.HeldSteps.{held_same}
 
@@ -40,7 +41,7 @@ any_filter f r (x ∷ xs) = by (r x) (any_filter f r xs)
     by true e = ap (λ (b : Bool). f x || b) e
     by false e = e
 
-any_never : {A : Type 0} (xs : List A) → any (λ (x : A). false) xs ≡ false
+pub any_never : {A : Type 0} (xs : List A) → any (λ (x : A). false) xs ≡ false
 any_never [] = refl
 any_never (x ∷ xs) = any_never xs
 
@@ -48,18 +49,18 @@ any_both : {A : Type 0} (f : A → Bool) (c : Bool) (xs : List A) → any (λ x.
 any_both f true xs = same_test (λ x. f x && true) f xs (λ x. and-true (f x)) ∙ sym (and-true (any f xs))
 any_both f false xs = same_test (λ x. f x && false) (λ x. false) xs (λ x. and-false (f x)) ∙ (any_never xs ∙ sym (and-false (any f xs)))
 
-or_middle : (a b c d : Bool) → ((a || b) || (c || d)) ≡ ((a || c) || (b || d))
+pub or_middle : (a b c d : Bool) → ((a || b) || (c || d)) ≡ ((a || c) || (b || d))
 or_middle true b c d = refl
 or_middle false true true d = refl
 or_middle false true false d = refl
 or_middle false false true d = refl
 or_middle false false false d = refl
 
-any_or : {A : Type 0} (f g : A → Bool) (xs : List A) → any (λ x. f x || g x) xs ≡ (any f xs || any g xs)
+pub any_or : {A : Type 0} (f g : A → Bool) (xs : List A) → any (λ x. f x || g x) xs ≡ (any f xs || any g xs)
 any_or f g [] = refl
 any_or f g (x ∷ xs) = ap (λ (b : Bool). (f x || g x) || b) (any_or f g xs) ∙ or_middle (f x) (g x) (any f xs) (any g xs)
 
-any_and : {A : Type 0} (c : Bool) (f : A → Bool) (xs : List A) → any (λ x. c && f x) xs ≡ (c && any f xs)
+pub any_and : {A : Type 0} (c : Bool) (f : A → Bool) (xs : List A) → any (λ x. c && f x) xs ≡ (c && any f xs)
 any_and true f xs = refl
 any_and false f xs = any_never xs
 
@@ -103,7 +104,7 @@ completed_kind dsb e test =
 
 module _ (A : Type 0) (event : A → Event) (q : ℕ) where
   -- what a DSB answers
-  answered_kinds : (dsb : Barrier) (test : Issued A → Bool) (h : List A)
+  pub answered_kinds : (dsb : Barrier) (test : Issued A → Bool) (h : List A)
       → any (λ t. completes dsb (event t.tlbi) && test t) (unanswered event q h)
       ≡ answered_by dsb (λ b. waits event q b test h)
   answered_kinds dsb test h =
@@ -176,25 +177,35 @@ module _ (heading : Heading) (place p : ℕ) where
   pub half_step : (n : Noted) (since : List Noted) → half heading place p (n ∷ since) ≡ half_after heading place p n.event since
   half_step n since = half_by n.event since
 
-  cleansed_by : (e : Event) (since : List Noted) → ((answers_one (flushes heading place p Full (seen heading place p)) e since
-      || answered_where (full_step heading Patterns place p) since)
-      || (answers_one (flushes heading place p Second (half heading place p)) e since
-      || answered_where (second_step heading Patterns place p) since)) ≡ cleansed_after heading place p e since
-  cleansed_by (Dsb q dsb) since =
-      or_middle (answers_one (flushes heading place p Full (seen heading place p)) (Dsb q dsb) since)
-      (answered_where (full_step heading Patterns place p) since)
-      (answers_one (flushes heading place p Second (half heading place p)) (Dsb q dsb) since)
-      (answered_where (second_step heading Patterns place p) since)
-      ∙ (ap (λ (c : Bool). (c || answers_one (flushes heading place p Second (half heading place p)) (Dsb q dsb) since) || cleansed heading Patterns place p since)
-      (answered_kinds Noted event_of q dsb (flushes heading place p Full (seen heading place p)) since)
-      ∙ ap (λ (c : Bool). (answered_by dsb (λ b. waits event_of q b (flushes heading place p Full (seen heading place p)) since) || c)
-      || cleansed heading Patterns place p since)
-      (answered_kinds Noted event_of q dsb (flushes heading place p Second (half heading place p)) since))
-  cleansed_by e since = refl
+  -- under every trust; the event has position d
+  cleansed_then : (trust : Trust) (d : ℕ) (e : Event) (since : List Noted) → ((answers_one (full_step heading trust place p d) e since
+      || answered_where (full_step heading trust place p) since)
+      || (answers_one (second_step heading trust place p d) e since
+      || answered_where (second_step heading trust place p) since)) ≡ cleansed_under heading place p trust d e since
+  cleansed_then trust d (Dsb q dsb) since =
+      or_middle (answers_one (full_step heading trust place p d) (Dsb q dsb) since)
+      (answered_where (full_step heading trust place p) since)
+      (answers_one (second_step heading trust place p d) (Dsb q dsb) since)
+      (answered_where (second_step heading trust place p) since)
+      ∙ (ap (λ (c : Bool). (c || answers_one (second_step heading trust place p d) (Dsb q dsb) since) || cleansed heading trust place p since)
+      (answered_kinds Noted event_of q dsb (full_step heading trust place p d) since)
+      ∙ ap (λ (c : Bool). (answered_by dsb (λ b. waits event_of q b (full_step heading trust place p d) since) || c)
+      || cleansed heading trust place p since)
+      (answered_kinds Noted event_of q dsb (second_step heading trust place p d) since))
+  cleansed_then trust d e since = refl
+
+  pub cleansed_under_step : (trust : Trust) (n : Noted) (since : List Noted)
+      → cleansed heading trust place p (n ∷ since) ≡ cleansed_under heading place p trust n.position n.event since
+  cleansed_under_step trust n since = cleansed_then trust n.position n.event since
+
+  in_all_patterns : (d : ℕ) (e : Event) (since : List Noted)
+      → cleansed_under heading place p Patterns d e since ≡ cleansed_after heading place p e since
+  in_all_patterns d (Dsb q dsb) since = refl
+  in_all_patterns d e since = refl
 
   pub cleansed_step : (n : Noted) (since : List Noted)
       → cleansed heading Patterns place p (n ∷ since) ≡ cleansed_after heading place p n.event since
-  cleansed_step n since = cleansed_by n.event since
+  cleansed_step n since = cleansed_under_step Patterns n since ∙ in_all_patterns n.position n.event since
 
 -- ---- what a place holds
 

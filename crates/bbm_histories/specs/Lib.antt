@@ -1,4 +1,5 @@
 pub mod Below
+pub mod ClaimSteps
 pub mod Patterns
 pub mod Steps
 pub mod Tags

@@ -2,6 +2,7 @@
 #![tactic(auto)]
 
 mod below;
+pub mod claim_steps;
 pub mod patterns;
 pub mod steps;
 pub mod tags;
@@ -9,6 +10,7 @@ pub mod tree_steps;
 pub mod trees;
 pub mod values;
 
+pub use claim_steps::law_claim_steps;
 pub use patterns::{law_patterns_begin, law_patterns_stay, law_uniform};
 pub use steps::{law_held_step, law_pattern_steps, law_tag_steps};
 pub use tags::law_tags;
@@ -21,6 +23,7 @@ pub use values::{law_fresh_content, law_frozen, law_window};
 
 #[cfg(test)]
 mod tests {
+    use crate::claim_steps::law_claim_steps;
     use crate::patterns::{law_patterns_begin, law_patterns_stay, law_uniform};
     use crate::steps::{law_held_step, law_pattern_steps, law_tag_steps};
     use crate::tags::law_tags;
@@ -34,6 +37,7 @@ mod tests {
     #[test]
     fn laws_hold() {
         law_childless_step();
+        law_claim_steps();
         law_fresh_content();
         law_frozen();
         law_frozen_view();
