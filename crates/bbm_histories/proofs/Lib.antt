@@ -20,3 +20,5 @@ pub mod ChildlessSteps
 pub mod LimboSteps
 pub mod NodeSteps
 pub mod ClaimLemmas
+pub mod ValueSteps
+pub mod FreshSteps

@@ -8,6 +8,7 @@ pub mod steps;
 pub mod tags;
 pub mod tree_steps;
 pub mod trees;
+pub mod value_steps;
 pub mod values;
 
 pub use claim_steps::law_claim_steps;
@@ -19,6 +20,7 @@ pub use trees::{
     law_frozen_view, law_held_changes, law_limbo_is_empty, law_lower_leaves, law_one_node,
     law_one_position, law_proper, law_tree_step,
 };
+pub use value_steps::{law_fresh_step, law_readable_step, law_root_step};
 pub use values::{law_fresh_content, law_frozen, law_window};
 
 #[cfg(test)]
@@ -32,6 +34,7 @@ mod tests {
         law_frozen_view, law_held_changes, law_limbo_is_empty, law_lower_leaves, law_one_node,
         law_one_position, law_proper, law_tree_step,
     };
+    use crate::value_steps::{law_fresh_step, law_readable_step, law_root_step};
     use crate::values::{law_fresh_content, law_frozen, law_window};
 
     #[test]
@@ -39,6 +42,7 @@ mod tests {
         law_childless_step();
         law_claim_steps();
         law_fresh_content();
+        law_fresh_step();
         law_frozen();
         law_frozen_view();
         law_held_changes();
@@ -53,6 +57,8 @@ mod tests {
         law_patterns_begin();
         law_patterns_stay();
         law_proper();
+        law_readable_step();
+        law_root_step();
         law_tag_steps();
         law_tags();
         law_tree_step();
