@@ -11,7 +11,7 @@ pub mod trees;
 pub mod value_steps;
 pub mod values;
 
-pub use claim_steps::law_claim_steps;
+pub use claim_steps::{law_claim_steps, law_tag_claim_steps};
 pub use patterns::{law_patterns_begin, law_patterns_stay, law_uniform};
 pub use steps::{law_held_step, law_pattern_steps, law_tag_steps};
 pub use tags::law_tags;
@@ -25,7 +25,7 @@ pub use values::{law_fresh_content, law_frozen, law_window};
 
 #[cfg(test)]
 mod tests {
-    use crate::claim_steps::law_claim_steps;
+    use crate::claim_steps::{law_claim_steps, law_tag_claim_steps};
     use crate::patterns::{law_patterns_begin, law_patterns_stay, law_uniform};
     use crate::steps::{law_held_step, law_pattern_steps, law_tag_steps};
     use crate::tags::law_tags;
@@ -59,6 +59,7 @@ mod tests {
         law_proper();
         law_readable_step();
         law_root_step();
+        law_tag_claim_steps();
         law_tag_steps();
         law_tags();
         law_tree_step();
