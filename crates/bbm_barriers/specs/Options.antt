@@ -51,6 +51,11 @@ completed Inner Loads = NoTlbi  -- ishld
 completed Outer Loads = NoTlbi  -- oshld
 completed Non Loads = NoTlbi  -- nshld
 
+-- whether a domain is the non-shareable one
+abbrev pub is_non : Domain → Bool
+is_non Non = true
+is_non _ = false
+
 -- whether an audience takes in the PE p, of a log with n PEs
 abbrev pub hears : Audience → ℕ → ℕ → ℕ → Bool
 hears EveryPe issuer n p = nat_lt p n

@@ -4,6 +4,7 @@
 ghost use Rattle.std.specs.Prelude.{◌≡◌, ℕ, ◌<◌, ◌≤◌};
 ghost use Rattle.bbm_regimes.specs.PeMask.{pe_in};
 ghost use Rattle.bbm_barriers.specs.Options.{publishes, answers_broadcast, answers_local};
+ghost use Rattle.bbm_barriers.specs.Options as options;
 
 use bbm_regimes::{Pe, PeMask};
 
@@ -19,6 +20,13 @@ pub enum Domain {
     Outer,
     /// Non-shareable.
     Non,
+}
+
+/// Whether the domain is the non-shareable one.
+pub fn is_non(domain: Domain) -> bool
+    ensures { result ≡ options.is_non domain }
+{
+    matches!(domain, Domain::Non)
 }
 
 /// The accesses that a barrier waits for. Source: Arm ARM (DDI 0487), "Memory barriers".

@@ -7,7 +7,7 @@ use Rattle.bbm_barriers.specs.declared.Dsb.{Dsb}
 use Rattle.bbm_barriers.specs.Options.{publishes, answers}
 use Rattle.bbm_tlbi_scope.specs.declared.entry.Cover.{Cover}
 use Rattle.bbm_tlbi_scope.specs.declared.entry.Cover.TheVariants.{None as NoCover, Half, Second, Full}
-use Rattle.bbm_entry_state.specs.Covers.{same_cover}
+use Rattle.bbm_tlbi_scope.specs.Same.{same_cover}
 use Rattle.bbm_entry_state.specs.Steps.{Step, Wrote, Barrier, Flush, some, is_write, writes, issues, answers_one, answered, still_waits}
 use Rattle.bbm_entry_state.specs.Patterns.{publishes_write, seen, flushes, half, earned}
 

@@ -14,7 +14,7 @@ use Rattle.bbm_tlbi_scope.specs.declared.entry.Cover.TheVariants.{None as NoCove
 use Rattle.bbm_entry_state.specs.declared.pending.Pends.{Pends}
 use Rattle.bbm_entry_state.specs.declared.state.EntryState.{EntryState}
 use Rattle.bbm_entry_state.specs.declared.state.EntryState.TheVariants.{Clean, Live, Broken}
-use Rattle.bbm_entry_state.specs.Covers.{same_cover}
+use Rattle.bbm_tlbi_scope.specs.Same.{same_cover}
 use Rattle.bbm_entry_state.specs.Points.{core_in, is_broken, writer_at, seen_at, half_at, waits}
 use Rattle.bbm_entry_state.specs.Answered.{answered_at}
 use Rattle.bbm_entry_state.specs.Calls.{counts_at, half_after, clean_after, Written, Published, Noted, Completed}

@@ -13,7 +13,7 @@ use Rattle.bbm_barriers.specs.Options.{publishes, answers}
 use Rattle.bbm_tlbi_scope.specs.declared.entry.Cover.{Cover}
 use Rattle.bbm_tlbi_scope.specs.declared.entry.Cover.TheVariants.{Half, Second, Full}
 use Rattle.bbm_entry_state.specs.Answered.{answered_at}
-use Rattle.bbm_entry_state.specs.Covers.{same_cover}
+use Rattle.bbm_tlbi_scope.specs.Same.{same_cover}
 use Rattle.bbm_entry_state.specs.declared.pending.Pends.{Pends}
 use Rattle.bbm_entry_state.specs.declared.state.EntryState.{EntryState}
 use Rattle.bbm_entry_state.specs.declared.state.EntryState.TheVariants.{Clean, Live, Broken}

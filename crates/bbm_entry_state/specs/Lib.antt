@@ -1,4 +1,3 @@
-pub mod Covers
 pub mod Marking
 pub mod Points
 pub mod Answered

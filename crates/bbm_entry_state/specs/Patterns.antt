@@ -7,7 +7,7 @@ use Rattle.bbm_descriptor.specs.declared.desc.Core.{Core}
 use Rattle.bbm_barriers.specs.Options.{publishes}
 use Rattle.bbm_tlbi_scope.specs.declared.entry.Cover.{Cover}
 use Rattle.bbm_tlbi_scope.specs.declared.entry.Cover.TheVariants.{None as NoCover, Half, Second, Full}
-use Rattle.bbm_entry_state.specs.Covers.{same_cover}
+use Rattle.bbm_tlbi_scope.specs.Same.{same_cover}
 use Rattle.bbm_entry_state.specs.Steps.{Step, Barrier, Flush, since, last_core, some, writes, answered}
 
 -- whether the step is a DSB that publishes to p a write that came before it

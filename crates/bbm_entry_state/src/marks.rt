@@ -31,7 +31,7 @@ impl Marks {
     ghost use Rattle.bbm_tlbi_scope.specs.declared.entry.Cover.{Cover};
     ghost use Rattle.bbm_entry_state.specs.Points.{waits_in};
     ghost use Rattle.bbm_entry_state.specs.Marking.{counts_for};
-    ghost use Rattle.bbm_entry_state.specs.Covers.{same_cover};
+    ghost use Rattle.bbm_tlbi_scope.specs.Same.{same_cover};
 
     /// The masks of a place whose core this PE just broke.
     pub fn broken_by(core: Core, pe: Pe) -> Marks

@@ -18,3 +18,11 @@ pub mod StepLemmas
 pub mod AttachedLemmas
 pub mod LockOrder
 pub mod VersionLaw
+pub mod ChildlessSteps
+pub mod LimboSteps
+pub mod NodeSteps
+pub mod Searches
+pub mod ClaimLemmas
+pub mod TagClaims
+pub mod ValueSteps
+pub mod FreshSteps

@@ -19,7 +19,8 @@ use Rattle.bbm_rules.specs.Notes.{Noted}
 use Rattle.bbm_rules.specs.PatternSentences.{Flush, HalfBy, Publication}
 use Rattle.bbm_rules.specs.Reach.{Issued, reaches}
 use Rattle.bbm_rules.specs.Sentences.{Published}
-use Rattle.bbm_rules.specs.Values.{is_non, published, publishes_to}
+use Rattle.bbm_barriers.specs.Options.{is_non}
+use Rattle.bbm_rules.specs.Values.{published, publishes_to}
 use Rattle.bbm_histories.specs.Below.{Below}
 
 -- a barrier of another domain than the non-shareable one is heard by each PE where it is by one

@@ -1,8 +1,11 @@
 pub mod Below
 pub mod Locks
+pub mod ClaimSteps
 pub mod Patterns
 pub mod Steps
 pub mod Tags
 pub mod Tree
+pub mod TreeSteps
 pub mod Values
 pub mod Versions
+pub mod ValueSteps

@@ -3,53 +3,70 @@
 
 mod below;
 pub mod locks;
+pub mod claim_steps;
 pub mod patterns;
 pub mod steps;
 pub mod tags;
+pub mod tree_steps;
 pub mod trees;
+pub mod value_steps;
 pub mod values;
 pub mod versions;
 
 pub use locks::law_lock_order;
+pub use claim_steps::{law_claim_steps, law_tag_claim_steps};
 pub use patterns::{law_patterns_begin, law_patterns_stay, law_uniform};
 pub use steps::{law_held_step, law_pattern_steps, law_tag_steps};
 pub use tags::law_tags;
+pub use tree_steps::{law_childless_step, law_limbo_step, law_node_step};
 pub use trees::{
     law_frozen_view, law_held_changes, law_limbo_is_empty, law_lower_leaves, law_one_node,
     law_one_position, law_proper, law_tree_step,
 };
+pub use value_steps::{law_fresh_step, law_readable_step, law_root_step};
 pub use values::{law_fresh_content, law_frozen, law_window};
 pub use versions::law_version;
 
 #[cfg(test)]
 mod tests {
     use crate::locks::law_lock_order;
+    use crate::claim_steps::{law_claim_steps, law_tag_claim_steps};
     use crate::patterns::{law_patterns_begin, law_patterns_stay, law_uniform};
     use crate::steps::{law_held_step, law_pattern_steps, law_tag_steps};
     use crate::tags::law_tags;
+    use crate::tree_steps::{law_childless_step, law_limbo_step, law_node_step};
     use crate::trees::{
         law_frozen_view, law_held_changes, law_limbo_is_empty, law_lower_leaves, law_one_node,
         law_one_position, law_proper, law_tree_step,
     };
+    use crate::value_steps::{law_fresh_step, law_readable_step, law_root_step};
     use crate::values::{law_fresh_content, law_frozen, law_window};
     use crate::versions::law_version;
 
     #[test]
     fn laws_hold() {
+        law_childless_step();
+        law_claim_steps();
         law_fresh_content();
+        law_fresh_step();
         law_frozen();
         law_frozen_view();
         law_held_changes();
         law_held_step();
         law_limbo_is_empty();
         law_lock_order();
+        law_limbo_step();
         law_lower_leaves();
+        law_node_step();
         law_one_node();
         law_one_position();
         law_pattern_steps();
         law_patterns_begin();
         law_patterns_stay();
         law_proper();
+        law_readable_step();
+        law_root_step();
+        law_tag_claim_steps();
         law_tag_steps();
         law_tags();
         law_tree_step();

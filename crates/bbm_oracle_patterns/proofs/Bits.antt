@@ -9,7 +9,7 @@ use Rattle.bbm_barriers.specs.declared.Domain.TheVariants.{Full, Inner, Outer, N
 use Rattle.bbm_barriers.specs.declared.Types.{Types}
 use Rattle.bbm_barriers.specs.declared.Types.TheVariants.{All, Stores, Loads}
 use Rattle.bbm_regimes.specs.EveryPe.{every_pe}
-use Rattle.bbm_rules.specs.Values.{is_non}
+use Rattle.bbm_barriers.specs.Options.{is_non}
 use Rattle.bbm_oracle_patterns.specs.Relation.{same_flag}
 
 pub and-true : (a : Bool) → (a && true) ≡ a

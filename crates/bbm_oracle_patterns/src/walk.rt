@@ -13,7 +13,7 @@ ghost use Rattle.bbm_oracle_patterns.specs.Walk.{IsWalk, Steps};
 use crate::kept::Kept;
 use crate::open::Open;
 use crate::trace::Trace;
-use bbm_barriers::{Domain, Dsb, publishes_to};
+use bbm_barriers::{Dsb, is_non, publishes_to};
 use bbm_events::{Event, Header};
 use bbm_regimes::{Pe, PeMask, Place};
 use bbm_tlbi_scope::{Cover, TlbiOp};
@@ -39,13 +39,6 @@ pub fn every_pe_of(header: &Header) -> PeMask
     ensures count { header.now.pes ≤ 128 }
 {
     PeMask::all(header.pes)
-}
-
-// Whether the domain is the non-shareable one.
-fn is_non(domain: Domain) -> bool
-    ensures { result ≡ values.is_non domain }
-{
-    matches!(domain, Domain::Non)
 }
 
 // The PEs to which a DSB of the issuer publishes its earlier writes. Under `cnp` one of the non-shareable domain

@@ -4,7 +4,7 @@ ghost use Rattle.std.specs.Prelude.{◌≡◌};
 ghost use Rattle.bbm_rules.specs.Reach as spec;
 ghost use Rattle.bbm_rules.specs.Values as values;
 
-use bbm_barriers::{Domain, Dsb, Types, completes_broadcast, completes_local};
+use bbm_barriers::{Domain, Dsb, Types, completes_broadcast, completes_local, is_non};
 use bbm_events::{Event, Header};
 use bbm_regimes::Pe;
 
@@ -35,13 +35,6 @@ pub fn completes(dsb: Dsb, event: &Event) -> bool
         }
         _ => false,
     }
-}
-
-// Whether the domain of a barrier is the non-shareable one.
-fn is_non(domain: Domain) -> bool
-    ensures { result ≡ values.is_non domain }
-{
-    matches!(domain, Domain::Non)
 }
 
 // Whether a DSB of the issuer publishes its earlier writes to the PE.

@@ -46,3 +46,5 @@ pub mod TreeLaw
 pub mod AttachLaw
 pub mod ReadsLaw
 pub mod NullLaw
+mod Twice
+mod RepeatedLaw

@@ -5,7 +5,8 @@
 -- maintenance instructions".
 use Rattle.std.specs.Prelude.{ℕ, Bool, true, false, ◌&&◌, ◌||◌, ◌==◌, List}
 use Rattle.bbm_tlbi_scope.specs.declared.entry.Cover.{Cover}
-use Rattle.bbm_tlbi_scope.specs.declared.entry.Cover.TheVariants.{None as NoCover, Half, Second, Full}
+use Rattle.bbm_tlbi_scope.specs.declared.entry.Cover.TheVariants.{Half, Second, Full}
+pub use Rattle.bbm_tlbi_scope.specs.Same.{same_cover}
 use Rattle.bbm_rules.specs.Prelude.{Barrier, Heading, Event, Write, Dsb}
 use Rattle.bbm_rules.specs.declared.claim.Claim.TheVariants.{Place, Two}
 use Rattle.bbm_rules.specs.Claims.{Trust, allows}
@@ -29,14 +30,6 @@ answers_one test _ older = false
 
 abbrev pub answered_where : (ℕ → Issued Noted → Bool) → List Noted → Bool
 answered_where test since = some (λ n older. answers_one (test n.position) n.event older) since
-
--- whether two grades of cover are the same
-abbrev pub same_cover : Cover → Cover → Bool
-same_cover NoCover NoCover = true
-same_cover Half Half = true
-same_cover Second Second = true
-same_cover Full Full = true
-same_cover _ _ = false
 
 module _ (heading : Heading) (place p : ℕ) where
   -- a barrier that publishes to p a write of the place that came before it

@@ -1,9 +1,7 @@
 -- The values of a place, and which of them a PE may still read. A history is newest first.
 -- Source: project's own choice, but where another is named.
 use Rattle.std.specs.Prelude.{ℕ, Bool, true, false, not, ◌&&◌, ◌==◌, List, [], ◌∷◌, filter, if◌then◌else◌}
-use Rattle.bbm_barriers.specs.declared.Domain.{Domain}
-use Rattle.bbm_barriers.specs.declared.Domain.TheVariants.{Non}
-use Rattle.bbm_barriers.specs.Options.{publishes}
+use Rattle.bbm_barriers.specs.Options.{is_non, publishes}
 use Rattle.bbm_rules.specs.Prelude.{Barrier, Heading, Event, Init, Write, Dsb}
 use Rattle.bbm_rules.specs.Lists.{among, any, with_number}
 use Rattle.bbm_rules.specs.Places.{page_of}
@@ -24,10 +22,6 @@ written_places (_ ∷ h) = written_places h
 -- those of one page
 abbrev pub places_in : List Event → ℕ → List ℕ
 places_in h page = filter (λ place. page_of place == page) (written_places h)
-
-abbrev pub is_non : Domain → Bool
-is_non Non = true
-is_non _ = false
 
 module _ (heading : Heading) where
   -- whether a DSB of q publishes its earlier writes to p; under `cnp` one of the non-shareable domain publishes nothing

@@ -7,3 +7,4 @@ pub mod Covers
 pub mod Tags
 pub mod Agreement
 pub mod Ranges
+pub mod Same
