@@ -294,7 +294,7 @@ module _ (heading : Heading) (trust : Trust) (h : List Noted) (kind : Kind) wher
   abbrev Two : ℕ → List ℕ → ℕ → Type 0
   Two level pages page = TwoPaths heading trust h kind level pages page
 
-  path_into : (level : ℕ) (pages : List ℕ) (page start : ℕ) (places : List ℕ) → In pages start
+  abbrev path_into : (level : ℕ) (pages : List ℕ) (page start : ℕ) (places : List ℕ) → In pages start
       → Path (3 - level) level start page places → PathInto heading trust h kind level pages page
   path_into level pages page start places i k = record {
     start = start;
@@ -310,7 +310,7 @@ module _ (heading : Heading) (trust : Trust) (h : List Noted) (kind : Kind) wher
       → Path (3 - level) level start page places → Path (3 - level) level other page others
       → ((start ≡ other) × (places ≡ others) → ⊥) → Two level pages page
   two_paths level pages page start other places others i j k l apart =
-      path_into level pages page start places i k, path_into level pages page other others j l, apart
+      (path_into level pages page start places i k, path_into level pages page other others j l, apart)
 
   pub twice_two : (level : ℕ) (pages : List ℕ) (page : ℕ) → Apart pages
       → Twice page (all_ends (attached_from heading trust h kind level pages)) → Two level pages page
