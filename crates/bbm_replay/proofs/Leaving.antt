@@ -1,0 +1,50 @@
+-- Pages that leave the trees with their root.
+use Rattle.std.proofs.Common.{◌≡◌, ℕ, Bool, true, false, cond, not, ◌==◌, List, ◌∷◌, Option, Some, None, refl, sym, ◌∙◌, ap}
+use Rattle.bbm_events.specs.Fits.{fits_heading}
+use Rattle.bbm_rules.specs.Broken.{broken, keeps}
+use Rattle.bbm_rules.specs.Claims.Trust.{Patterns}
+use Rattle.bbm_rules.specs.Places.{page_of}
+use Rattle.bbm_rules.specs.Prelude.{Heading, Event, Unroot}
+use Rattle.bbm_rules.specs.Tree.{Node}
+use Rattle.bbm_replay_trees.specs.Told.{kept}
+use Rattle.bbm_replay.specs.Laws.{Laws}
+use Rattle.bbm_replay.specs.Moves.{Leaves}
+use Rattle.bbm_replay.specs.Told.{Told}
+use Rattle.bbm_replay.specs.View.{View}
+use Rattle.bbm_replay.proofs.Entries.{carried, fit_more, keeps_more}
+use Rattle.bbm_replay.proofs.Quiet.{tracked_stay}
+
+-- what is kept was there
+pub was_there : (keeps : Node → Bool) (o : Option Node) (n : Node) → kept keeps o ≡ Some n → (o ≡ Some n) × (keeps n ≡ true)
+was_there keeps None n k = let e : None ≡ Some n = k in absurd cc
+was_there keeps (Some m) n k = by (keeps m) refl k
+  where
+    by : (b : Bool) → keeps m ≡ b → cond b (Some m) None ≡ Some n → (Some m ≡ Some n) × (keeps n ≡ true)
+    by true is e = (e, let same : m ≡ n = cc in ap keeps (sym same) ∙ is)
+    by false is e = let bad : None ≡ Some n = e in absurd cc
+
+module _ (heading : Heading) (laws : Laws heading) (h : List Event) (old new : View) (t : Told heading h old)
+    (pe page : ℕ) where
+  pub after_unroot : fits_heading heading (Unroot pe page) ≡ true → broken heading Patterns h (Unroot pe page) ≡ None
+      → Leaves old new (λ m. not (m.root == page)) → Told heading (Unroot pe page ∷ h) new
+  after_unroot fits unbroken move =
+      let e = Unroot pe page in
+      let sound = keeps_more heading h e t.kept unbroken in
+      let proper = laws.nodes.proper t.proper in
+      let rest = tracked_stay heading laws h old new t e refl move.tracking in
+      record {
+        proper = t.proper;
+        kept = sound;
+        fit = fit_more heading h e t.fit fits;
+        values = λ a. move.value a ∙ laws.pages.same_values h old.value e refl t.values a;
+        nodes = laws.nodes.unroot h old.node new.node pe page proper sound t.nodes move.node;
+        fresh = λ p. move.roles.fresh p ∙ laws.pages.fresh_others h old.fresh e proper sound refl refl refl t.fresh p;
+        null = λ p. move.roles.null p ∙ laws.pages.same_null h old.null e refl t.null p;
+        known = rest.0;
+        pages = rest.1;
+        tracked = rest.2;
+        entries = λ n a is.
+            let was = was_there (λ m. not (m.root == page)) (old.node (page_of a)) n (sym (move.node _) ∙ is) in
+            carried heading laws h old new t e n a was.0 refl (move.value a) ((move.marks a).1 n is) (λ q. move.pends q a n is);
+        outside = λ a is. (move.marks a).0 is;
+      }

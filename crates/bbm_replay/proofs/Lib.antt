@@ -1,0 +1,6 @@
+pub mod Entries
+pub mod Quiet
+pub mod Pages
+pub mod Leaving
+pub mod Growing
+pub mod Writing

@@ -1,0 +1,100 @@
+-- Events that change nothing in a view.
+use Rattle.std.proofs.Common.{◌≡◌, ℕ, Bool, true, false, List, ◌∷◌, length, Some, None, refl, sym, ◌∙◌, ap, true≢false}
+use Rattle.bbm_events.specs.Fits.{fits_heading}
+use Rattle.bbm_rules.specs.Attach.{attached_by}
+use Rattle.bbm_rules.specs.Broken.{broken, keeps}
+use Rattle.bbm_rules.specs.Changes.{changes}
+use Rattle.bbm_rules.specs.Claims.Trust.{Patterns}
+use Rattle.bbm_rules.specs.Notes.{Noted}
+use Rattle.bbm_rules.specs.Pages.{initialised}
+use Rattle.bbm_rules.specs.Prelude.{Heading, Event, Init, Null, Root, Unroot, Write, Dsb, Dmb, Isb, Tlbi, Msr, Lock, Unlock}
+use Rattle.bbm_replay_entries.specs.Events.{touches}
+use Rattle.bbm_replay_trees.specs.Events.{leaves_trees}
+use Rattle.bbm_replay_trees.specs.Told.{SameKnown, SameNull, SameValues}
+use Rattle.bbm_replay_trees.specs.Told as told
+use Rattle.bbm_replay.specs.Laws.{Laws}
+use Rattle.bbm_replay.specs.Moves.{Same, SameTracked, is_quiet}
+use Rattle.bbm_replay.specs.Told.{Told}
+use Rattle.bbm_replay.specs.View.{View}
+use Rattle.bbm_replay.proofs.Entries.{carried, fit_more, keeps_more}
+
+-- what an event that changes no value, page or tree is to the definitions
+pub record Plain (e : Event) : Type 0 where
+  pub values : (changes e).values ≡ false
+  pub inits : (changes e).inits ≡ false
+  pub nulls : (changes e).nulls ≡ false
+  pub trees : leaves_trees e ≡ true
+  pub unattached : (heading : Heading) (ns : List Noted) → attached_by heading Patterns ns e ≡ None
+
+pub plain_tlbi : (pe : ℕ) → (op : _) (xt : ℕ) → Plain (Tlbi pe op xt)
+plain_tlbi pe op xt = record { values = refl; inits = refl; nulls = refl; trees = refl; unattached = λ heading ns. refl }
+
+plain_of : (e : Event) → is_quiet e ≡ true → Plain e
+plain_of (Dmb pe dsb) k = record { values = refl; inits = refl; nulls = refl; trees = refl; unattached = λ heading ns. refl }
+plain_of (Isb pe) k = record { values = refl; inits = refl; nulls = refl; trees = refl; unattached = λ heading ns. refl }
+plain_of (Msr pe reg value) k = record { values = refl; inits = refl; nulls = refl; trees = refl; unattached = λ heading ns. refl }
+plain_of (Lock pe lock) k = record { values = refl; inits = refl; nulls = refl; trees = refl; unattached = λ heading ns. refl }
+plain_of (Unlock pe lock) k = record { values = refl; inits = refl; nulls = refl; trees = refl; unattached = λ heading ns. refl }
+plain_of (Init pe page) k = absurd (true≢false (sym k))
+plain_of (Null pe page) k = absurd (true≢false (sym k))
+plain_of (Root pe kind lock page) k = absurd (true≢false (sym k))
+plain_of (Unroot pe page) k = absurd (true≢false (sym k))
+plain_of (Write pe place value) k = absurd (true≢false (sym k))
+plain_of (Dsb pe dsb) k = absurd (true≢false (sym k))
+plain_of (Tlbi pe op xt) k = absurd (true≢false (sym k))
+
+untouched : (e : Event) (a : ℕ) → is_quiet e ≡ true → touches a e ≡ false
+untouched (Dmb pe dsb) a k = refl
+untouched (Isb pe) a k = refl
+untouched (Msr pe reg value) a k = refl
+untouched (Lock pe lock) a k = refl
+untouched (Unlock pe lock) a k = refl
+untouched (Init pe page) a k = absurd (true≢false (sym k))
+untouched (Null pe page) a k = absurd (true≢false (sym k))
+untouched (Root pe kind lock page) a k = absurd (true≢false (sym k))
+untouched (Unroot pe page) a k = absurd (true≢false (sym k))
+untouched (Write pe place value) a k = absurd (true≢false (sym k))
+untouched (Dsb pe dsb) a k = absurd (true≢false (sym k))
+untouched (Tlbi pe op xt) a k = absurd (true≢false (sym k))
+
+module _ (heading : Heading) (laws : Laws heading) where
+  -- the tracked pages, where no page was initialised
+  pub tracked_stay : (h : List Event) (old new : View) → Told heading h old → (e : Event) → (changes e).inits ≡ false
+      → SameTracked old new
+      → SameKnown (e ∷ h) new.known × (new.pages ≡ length (initialised (e ∷ h))) × ((p : ℕ) → new.tracked p ≡ new.known p)
+  tracked_stay h old new t e k s = (
+    (λ p. s.known p ∙ laws.pages.same_known h old.known e k t.known p),
+    s.pages ∙ t.pages ∙ sym (laws.pages.same_count h e k),
+    (λ p. s.tracked p ∙ t.tracked p ∙ sym (s.known p)),
+  )
+
+  -- the nodes of an event that leaves every tree
+  pub nodes_stay : (h : List Event) (old new : View) → Told heading h old → (e : Event)
+      → keeps heading Patterns (e ∷ h) ≡ true → leaves_trees e ≡ true → ((p : ℕ) → new.node p ≡ old.node p)
+      → told.SameNodes heading (e ∷ h) new.node
+  nodes_stay h old new t e kept trees same p =
+      same p ∙ laws.nodes.others h old.node e (laws.nodes.proper t.proper) kept trees t.nodes p
+
+  pub after_quiet : (h : List Event) (old new : View) → Told heading h old → (e : Event) → is_quiet e ≡ true
+      → fits_heading heading e ≡ true → broken heading Patterns h e ≡ None → Same old new → Told heading (e ∷ h) new
+  after_quiet h old new t e quiet fits unbroken same =
+      let kept = keeps_more heading h e t.kept unbroken in
+      let plain = plain_of e quiet in
+      let rest = tracked_stay h old new t e plain.inits same.tracking in
+      record {
+        proper = t.proper;
+        kept = kept;
+        fit = fit_more heading h e t.fit fits;
+        values = λ a. same.map.value a ∙ laws.pages.same_values h old.value e plain.values t.values a;
+        nodes = nodes_stay h old new t e kept plain.trees same.nodes;
+        fresh = λ p. same.roles.fresh p
+            ∙ laws.pages.fresh_others h old.fresh e (laws.nodes.proper t.proper) kept plain.inits plain.nulls
+            (plain.unattached heading (told.notes heading h)) t.fresh p;
+        null = λ p. same.roles.null p ∙ laws.pages.same_null h old.null e plain.nulls t.null p;
+        known = rest.0;
+        pages = rest.1;
+        tracked = rest.2;
+        entries = λ n a is. carried heading laws h old new t e n a (sym (same.nodes _) ∙ is) (untouched e a quiet)
+            (same.map.value a) (same.map.marks a) (λ q. same.map.pends q a);
+        outside = λ a is. same.map.marks a ∙ t.outside a (sym (same.nodes _) ∙ is);
+      }

@@ -1,0 +1,4 @@
+pub mod View
+pub mod Told
+pub mod Laws
+pub mod Moves

@@ -1,0 +1,107 @@
+-- What the calls of an event change in a view. Source: project's own choice.
+use Rattle.std.specs.Prelude.{◌≡◌, ℕ, ◌+◌, ◌⊎◌, ◌↔◌, Bool, true, false, not, ◌&&◌, ◌||◌, ◌==◌, List, Option, Some, None}
+use Rattle.std.specs.Prelude.{is_none, if◌then◌else◌}
+use Rattle.bbm_descriptor.specs.Descriptor.{core_of}
+use Rattle.bbm_entry_state.specs.Calls.{Completed, Noted, Written}
+use Rattle.bbm_entry_state.specs.Points.{is_broken, waits}
+use Rattle.bbm_entry_state.specs.Standing.{IsIdle}
+use Rattle.bbm_entry_state.specs.declared.pending.Pends.{Pends}
+use Rattle.bbm_entry_state.specs.declared.state.EntryState.{EntryState}
+use Rattle.bbm_place_map.specs.States.{marks_of_state}
+use Rattle.bbm_tlbi_scope.specs.declared.entry.Cover.{Cover}
+use Rattle.bbm_rules.specs.Places.{page_of}
+use Rattle.bbm_rules.specs.Prelude.{Kind, Event, Dmb, Isb, Msr, Lock, Unlock}
+use Rattle.bbm_rules.specs.Tree.{Node}
+use Rattle.bbm_replay_trees.specs.Paths.{Attached}
+use Rattle.bbm_replay_trees.specs.Told.{kept}
+use Rattle.bbm_replay.specs.View.{View, state_of}
+
+-- the same waits
+abbrev pub Alike : Pends → Pends → Type 0
+Alike old new = (b : Bool) (c : Cover) (p : ℕ) → waits new b c p ≡ waits old b c p
+
+module _ (old new : View) where
+  pub record SameMap : Type 0 where
+    pub value : (a : ℕ) → new.value a ≡ old.value a
+    pub marks : (a : ℕ) → new.marks a ≡ old.marks a
+    pub pends : (q a : ℕ) → Alike (old.pends q a) (new.pends q a)
+
+  pub record SamePages : Type 0 where
+    pub fresh : (p : ℕ) → new.fresh p ≡ old.fresh p
+    pub null : (p : ℕ) → new.null p ≡ old.null p
+
+  pub record SameTracked : Type 0 where
+    pub tracked : (p : ℕ) → new.tracked p ≡ old.tracked p
+    pub known : (p : ℕ) → new.known p ≡ old.known p
+    pub pages : new.pages ≡ old.pages
+
+  abbrev pub SameNodes : Type 0
+  SameNodes = (p : ℕ) → new.node p ≡ old.node p
+
+  -- nothing changed
+  pub record Same : Type 0 where
+    pub map : SameMap
+    pub nodes : SameNodes
+    pub roles : SamePages
+    pub tracking : SameTracked
+
+  -- a page that is in no tree was initialised
+  pub record Begins (page : ℕ) : Type 0 where
+    pub outside : old.node page ≡ None
+    pub nodes : SameNodes
+    pub value : (a : ℕ) → new.value a ≡ (if page_of a == page then 0 else old.value a)
+    pub marks : (a : ℕ) → new.marks a ≡ (if page_of a == page then None else old.marks a)
+    pub pends : (q a : ℕ) → (page_of a == page) ≡ false → Alike (old.pends q a) (new.pends q a)
+    pub fresh : (p : ℕ) → new.fresh p ≡ (p == page || old.fresh p)
+    pub null : (p : ℕ) → new.null p ≡ old.null p
+    pub tracked : (p : ℕ) → new.tracked p ≡ (p == page || old.tracked p)
+    pub known : (p : ℕ) → new.known p ≡ (p == page || old.known p)
+    pub pages : new.pages ≡ old.pages + (if old.known page then 0 else 1)
+
+  -- a page became a null page
+  pub record Nullifies (page : ℕ) : Type 0 where
+    pub map : SameMap
+    pub nodes : SameNodes
+    pub tracking : SameTracked
+    pub fresh : (p : ℕ) → new.fresh p ≡ (old.fresh p && not (p == page))
+    pub null : (p : ℕ) → new.null p ≡ (p == page || old.null p)
+
+  -- pages were attached, from these nodes on
+  pub record Attaches (starts : List Node) : Type 0 where
+    pub node : (p : ℕ) (m : Node) → (new.node p ≡ Some m)
+        ↔ ((old.node p ≡ Some m) ⊎ ((m.page ≡ p) × Attached old.fresh old.value starts m))
+    pub fresh : (p : ℕ) → new.fresh p ≡ (old.fresh p && is_none (new.node p))
+    pub null : (p : ℕ) → new.null p ≡ old.null p
+    pub tracking : SameTracked
+
+  -- pages left the trees, but for those that the test keeps; their places aren't broken any more
+  pub record Leaves (keeps : Node → Bool) : Type 0 where
+    pub node : (p : ℕ) → new.node p ≡ kept keeps (old.node p)
+    pub value : (a : ℕ) → new.value a ≡ old.value a
+    pub marks : (a : ℕ) → (new.node (page_of a) ≡ None → new.marks a ≡ None)
+        × ((n : Node) → new.node (page_of a) ≡ Some n → new.marks a ≡ old.marks a)
+    pub pends : (q a : ℕ) (n : Node) → new.node (page_of a) ≡ Some n → Alike (old.pends q a) (new.pends q a)
+    pub roles : SamePages
+    pub tracking : SameTracked
+
+  -- a value was written at a place, which leaves this state there
+  pub record Writes (place v : ℕ) (state : EntryState) : Type 0 where
+    pub value : (a : ℕ) → new.value a ≡ (if a == place then v else old.value a)
+    pub marks : (a : ℕ) → new.marks a ≡ (if a == place then marks_of_state state else old.marks a)
+    pub pends : (q a : ℕ) → (a == place && not (is_broken state)) ≡ false → Alike (old.pends q a) (new.pends q a)
+    pub dropped : (q : ℕ) → is_broken state ≡ false → IsIdle (new.pends q place)
+
+-- whether an event changes no value, no tree, no page and no pending, whatever came before it
+abbrev pub is_quiet : Event → Bool
+is_quiet (Dmb pe dsb) = true
+is_quiet (Isb pe) = true
+is_quiet (Msr pe reg value) = true
+is_quiet (Lock pe lock) = true
+is_quiet (Unlock pe lock) = true
+is_quiet _ = false
+
+-- The trees grew: a page of a tree was one before, at the same node, or it was fresh and in no tree.
+pub record Grown (old new : View) : Type 0 where
+  pub stays : (p : ℕ) (n : Node) → old.node p ≡ Some n → new.node p ≡ Some n
+  pub comes : (p : ℕ) (n : Node) → new.node p ≡ Some n → (old.node p ≡ Some n)
+      ⊎ ((old.node p ≡ None) × (old.fresh p ≡ true))

@@ -1,0 +1,2 @@
+//! A checker.
+#![tactic(auto)]
