@@ -4,3 +4,4 @@ pub mod Pages
 pub mod Leaving
 pub mod Growing
 pub mod Writing
+pub mod Barriers

@@ -2,7 +2,7 @@
 -- hypothesis.
 use Rattle.std.specs.Prelude.{◌≡◌, ℕ, ◌+◌, ◌<◌, ◌⊎◌, ◌↔◌, Bool, true, false, not, ◌&&◌, ◌||◌, ◌==◌, List, [], ◌∷◌}
 use Rattle.std.specs.Prelude.{length, Contains, Option, Some, None, is_none, is_some, if◌then◌else◌}
-use Rattle.bbm_descriptor.specs.Descriptor.{core_of}
+use Rattle.bbm_descriptor.specs.Descriptor.{core_of, is_valid}
 use Rattle.bbm_descriptor.specs.declared.desc.Core.{Core}
 use Rattle.bbm_entry_state.specs.Calls.{Completed, Noted, Written}
 use Rattle.bbm_entry_state.specs.Points.{is_broken, waits}
@@ -33,7 +33,7 @@ use Rattle.bbm_replay_entries.specs.Stands.{ByValue, EntryStands, held_now}
 use Rattle.bbm_replay_trees.specs.Events.{leaves_trees}
 use Rattle.bbm_replay_trees.specs.Paths.{Attached}
 use Rattle.bbm_replay_trees.specs.Told.{AllFit, SameCores, SameFresh, SameKnown, SameNodes, SameNull, SameValues, is_held_by}
-use Rattle.bbm_replay_trees.specs.Told.{kept, notes}
+use Rattle.bbm_replay_trees.specs.Told.{Hangs, kept, notes}
 use Rattle.bbm_entry_state.specs.Points.{core_in}
 
 -- the nodes of the trees after an event
@@ -76,6 +76,9 @@ pub record NodeLaws (heading : Heading) : Type 0 where
       → keeps heading Patterns h ≡ true → SameNodes heading h node → SameCores heading h core → node p ≡ Some m
       → Contains m.above a → (n : Node) × (node (page_of a.place) ≡ Some n) × (n.kind ≡ m.kind) × (n.level ≡ a.level)
       × (is_some (core n.kind n.level a.place) ≡ true)
+  pub up : (h : List Event) (node : ℕ → Option Node) (core : Kind → ℕ → ℕ → Option Core) (p : ℕ) (m : Node) (a : Above)
+      (rest : List Above) → keeps heading Patterns h ≡ true → AllFit heading h → SameNodes heading h node
+      → SameCores heading h core → node p ≡ Some m → m.above ≡ a ∷ rest → Hangs node core a.place m
 
 -- the pages and values after an event
 pub record PageLaws (heading : Heading) : Type 0 where
@@ -158,6 +161,7 @@ pub record EntryLaws (heading : Heading) : Type 0 where
   pub holds : (h : List Event) (kind : Kind) (level place : ℕ) (state : EntryState) (pends : ℕ → Pends)
       → EntryStands heading h kind level place state pends
       → is_some (held_now heading h kind level place) ≡ is_some (core_in state)
+  pub core_where_valid : (kind : Kind) (level value : ℕ) → is_some (core_of kind level value) ≡ is_valid kind level value
 
 pub record Laws (heading : Heading) : Type 0 where
   pub nodes : NodeLaws heading

@@ -1,20 +1,20 @@
 -- What the calls of an event change in a view. Source: project's own choice.
 use Rattle.std.specs.Prelude.{◌≡◌, ℕ, ◌+◌, ◌⊎◌, ◌↔◌, Bool, true, false, not, ◌&&◌, ◌||◌, ◌==◌, List, Option, Some, None}
-use Rattle.std.specs.Prelude.{is_none, if◌then◌else◌}
-use Rattle.bbm_descriptor.specs.Descriptor.{core_of}
-use Rattle.bbm_entry_state.specs.Calls.{Completed, Noted, Written}
+use Rattle.std.specs.Prelude.{is_none, is_some, nat_eq, if◌then◌else◌}
+use Rattle.bbm_descriptor.specs.declared.desc.Core.{Core}
+use Rattle.bbm_entry_state.specs.Calls.{Completed, Published}
 use Rattle.bbm_entry_state.specs.Points.{is_broken, waits}
 use Rattle.bbm_entry_state.specs.Standing.{IsIdle}
 use Rattle.bbm_entry_state.specs.declared.pending.Pends.{Pends}
 use Rattle.bbm_entry_state.specs.declared.state.EntryState.{EntryState}
-use Rattle.bbm_place_map.specs.States.{marks_of_state}
+use Rattle.bbm_place_map.specs.States.{marks_of_state, state_from}
 use Rattle.bbm_tlbi_scope.specs.declared.entry.Cover.{Cover}
 use Rattle.bbm_rules.specs.Places.{page_of}
-use Rattle.bbm_rules.specs.Prelude.{Kind, Event, Dmb, Isb, Msr, Lock, Unlock}
+use Rattle.bbm_rules.specs.Prelude.{Barrier, Event, Dmb, Isb, Msr, Lock, Unlock}
 use Rattle.bbm_rules.specs.Tree.{Node}
 use Rattle.bbm_replay_trees.specs.Paths.{Attached}
 use Rattle.bbm_replay_trees.specs.Told.{kept}
-use Rattle.bbm_replay.specs.View.{View, state_of}
+use Rattle.bbm_replay.specs.View.{View}
 
 -- the same waits
 abbrev pub Alike : Pends → Pends → Type 0
@@ -90,6 +90,22 @@ module _ (old new : View) where
     pub marks : (a : ℕ) → new.marks a ≡ (if a == place then marks_of_state state else old.marks a)
     pub pends : (q a : ℕ) → (a == place && not (is_broken state)) ≡ false → Alike (old.pends q a) (new.pends q a)
     pub dropped : (q : ℕ) → is_broken state ≡ false → IsIdle (new.pends q place)
+
+  -- a DSB of q published, in a log with n PEs, unless it publishes nothing
+  pub record Hears (silent : Bool) (q : ℕ) (dsb : Barrier) (n : ℕ) : Type 0 where
+    pub published : silent ≡ false → (live : Option Core) (a : ℕ)
+        → Published (state_from live (old.marks a)) q dsb n (state_from live (new.marks a))
+    pub unheard : silent ≡ true → (a : ℕ) → new.marks a ≡ old.marks a
+    pub value : (a : ℕ) → new.value a ≡ old.value a
+    pub pends : (p a : ℕ) → Alike (old.pends p a) (new.pends p a)
+
+  -- it answered the TLBIs of q
+  pub record Completes (q : ℕ) (dsb : Barrier) (n : ℕ) : Type 0 where
+    pub completed : (a : ℕ) → Completed (state_from None (old.marks a)) (old.pends q a) dsb n
+        (state_from None (new.marks a)) (new.pends q a)
+    pub others : (p a : ℕ) → nat_eq p q ≡ false → (b : Bool) (c : Cover) (i : ℕ)
+        → waits (new.pends p a) b c i ≡ (is_some (new.marks a) && waits (old.pends p a) b c i)
+    pub value : (a : ℕ) → new.value a ≡ old.value a
 
 -- whether an event changes no value, no tree, no page and no pending, whatever came before it
 abbrev pub is_quiet : Event → Bool

@@ -1,0 +1,266 @@
+-- DSBs.
+use Rattle.std.proofs.Common.{◌≡◌, ℕ, ◌<◌, Bool, true, false, cond, ◌&&◌, not, ◌⊎◌, nat_eq, List, [], ◌∷◌, Contains, Option, Some, None, is_none, is_some, refl, sym, ◌∙◌, ap, subst, inl, inr, true≢false}
+use Rattle.std.proofs.lemmas.Bool.{and_parts, eqb-true, not-true}
+use Rattle.bbm_barriers.specs.Options.{is_non}
+use Rattle.bbm_descriptor.specs.Descriptor.{core_of, is_valid}
+use Rattle.bbm_descriptor.specs.declared.desc.Core.{Core}
+use Rattle.bbm_entry_state.specs.Calls.{Completed, Published}
+use Rattle.bbm_entry_state.specs.Points.{core_in, is_broken, waits}
+use Rattle.bbm_entry_state.specs.declared.marks.Marks.{Marks}
+use Rattle.bbm_entry_state.specs.declared.pending.Pends.{Pends}
+use Rattle.bbm_entry_state.specs.declared.state.EntryState.{EntryState}
+use Rattle.bbm_entry_state.specs.declared.state.EntryState.TheVariants.{Clean, Live, Broken}
+use Rattle.bbm_place_map.specs.States.{state_from}
+use Rattle.bbm_tlbi_scope.specs.declared.entry.Cover.{Cover}
+use Rattle.bbm_events.specs.Fits.{fits_heading}
+use Rattle.bbm_rules.specs.Broken.{broken, keeps}
+use Rattle.bbm_rules.specs.Claims.Trust.{Patterns}
+use Rattle.bbm_rules.specs.Held.{held}
+use Rattle.bbm_rules.specs.Lists.{every}
+use Rattle.bbm_rules.specs.Places.{page_of}
+use Rattle.bbm_rules.specs.Prelude.{Barrier, Kind, Heading, Event, Dsb}
+use Rattle.bbm_rules.specs.Tree.{Above, Node, node_below}
+use Rattle.bbm_replay_entries.specs.Events.{Heard, OthersStay}
+use Rattle.bbm_replay_entries.specs.Stands.{EntryStands}
+use Rattle.bbm_replay_trees.specs.Told.{Hangs, is_held_by, kept, next_in, notes}
+use Rattle.bbm_replay.specs.Laws.{Laws}
+use Rattle.bbm_replay.specs.Moves.{Alike, Completes, Hears, Leaves}
+use Rattle.bbm_replay.specs.Told.{Told}
+use Rattle.bbm_replay.specs.View.{View, core_at, state_of, waiting}
+use Rattle.bbm_replay.proofs.Entries.{entry_same, fit_more, keeps_more, some_pe, state_same}
+use Rattle.bbm_replay.proofs.Leaving.{was_there}
+use Rattle.bbm_replay.proofs.Quiet.{tracked_stay}
+use Rattle.bbm_replay.proofs.Writing.{cores}
+
+broken_marks : (live : Option Core) (m : Option Marks) → is_broken (state_from live m) ≡ is_some m
+broken_marks None None = refl
+broken_marks (Some core) None = refl
+broken_marks None (Some m) = refl
+broken_marks (Some core) (Some m) = refl
+
+no_marks : (m : Option Marks) → is_some m ≡ false → m ≡ None
+no_marks None k = refl
+no_marks (Some m) k = absurd (true≢false k)
+
+core_some : (m : Option Marks) → is_some (core_in (state_from None m)) ≡ is_some m
+core_some None = refl
+core_some (Some m) = refl
+
+no_core : (o : Option Core) → is_some o ≡ false → o ≡ None
+no_core None k = refl
+no_core (Some core) k = absurd (true≢false k)
+
+-- of a broken place the state is one whatever its live core
+same_state : (live live' : Option Core) (m : Option Marks) → is_some m ≡ true → state_from live m ≡ state_from live' m
+same_state live live' None k = absurd (true≢false (sym k))
+same_state None None (Some m) k = refl
+same_state None (Some c) (Some m) k = refl
+same_state (Some c) None (Some m) k = refl
+same_state (Some c) (Some c') (Some m) k = refl
+
+and_false : (x y : Bool) → y ≡ false → (x && y) ≡ false
+and_false true y k = k
+and_false false y k = refl
+
+module _ (heading : Heading) (laws : Laws heading) (h : List Event) (old mid new : View) (t : Told heading h old)
+    (q : ℕ) (dsb : Barrier) (hears : Hears old mid (heading.cnp && is_non dsb.domain) q dsb heading.pes)
+    (completes : Completes mid new q dsb heading.pes) where
+  abbrev e : Event
+  e = Dsb q dsb
+
+  value_same : (a : ℕ) → new.value a ≡ old.value a
+  value_same a = completes.value a ∙ hears.value a
+
+  heard_marks : (a : ℕ) → is_some (mid.marks a) ≡ is_some (old.marks a)
+  heard_marks a = by (heading.cnp && is_non dsb.domain) refl
+    where
+      by : (b : Bool) → (heading.cnp && is_non dsb.domain) ≡ b → is_some (mid.marks a) ≡ is_some (old.marks a)
+      by true k = ap (λ (m : Option Marks). is_some m) (hears.unheard k a)
+      by false k = sym (broken_marks None (mid.marks a)) ∙ (hears.published k None a).broken ∙ broken_marks None (old.marks a)
+
+  completed_marks : (a : ℕ) → is_some (new.marks a) ≡ (is_some (core_in (state_from None (new.marks a))) && is_some (mid.marks a))
+  completed_marks a = sym (broken_marks None (new.marks a)) ∙ (completes.completed a).broken
+      ∙ ap (λ b. is_some (core_in (state_from None (new.marks a))) && b) (broken_marks None (mid.marks a))
+
+  whole_stays : (a : ℕ) → old.marks a ≡ None → new.marks a ≡ None
+  whole_stays a k = no_marks (new.marks a) (completed_marks a
+      ∙ and_false (is_some (core_in (state_from None (new.marks a)))) (is_some (mid.marks a))
+      (heard_marks a ∙ ap (λ (m : Option Marks). is_some m) k))
+
+  -- what waits where nothing is broken any more
+  none_waits : (a : ℕ) → new.marks a ≡ None → (p : ℕ) (b : Bool) (c : Cover) (i : ℕ) → waits (new.pends p a) b c i ≡ false
+  none_waits a k p b c i = by (nat_eq p q) refl
+    where
+      by : (x : Bool) → nat_eq p q ≡ x → waits (new.pends p a) b c i ≡ false
+      by true same =
+          let one : p ≡ q = eqb-true p q same in
+          subst (λ (x : ℕ). waits (new.pends x a) b c i ≡ false) (sym one)
+          ((completes.completed a).waiting b c i ∙ gone (new.marks a) k _)
+        where
+          gone : (m : Option Marks) → m ≡ None → (x : Bool) → (is_some (core_in (state_from None m)) && x) ≡ false
+          gone None e x = refl
+          gone (Some m) e x = let bad : Some m ≡ None = e in absurd cc
+      by false other = completes.others p a other b c i ∙ ap (λ (m : Option Marks). is_some m && waits (mid.pends p a) b c i) k
+
+  -- each place of a tree
+  module _ (n : Node) (a : ℕ) (is : old.node (page_of a) ≡ Some n) where
+    abbrev live : Option Core
+    live = core_of n.kind n.level (old.value a)
+
+    whole_entry : old.marks a ≡ None
+        → EntryStands heading (e ∷ h) n.kind n.level a (state_of new n.kind n.level a) (waiting new a)
+    whole_entry k =
+        let s = t.entries n a is in
+        let unbroken : is_broken (state_of old n.kind n.level a) ≡ false
+            = broken_marks live (old.marks a) ∙ ap (λ (m : Option Marks). is_some m) k in
+        entry_same heading laws (e ∷ h) n.kind n.level a (state_of old n.kind n.level a) (state_of new n.kind n.level a)
+        (waiting old a) (waiting new a)
+        (laws.entries.dsb_whole h n.kind n.level a q dsb (state_of old n.kind n.level a) (waiting old a) (some_pe heading laws h old t) unbroken s)
+        (state_same n.kind n.level (old.value a) (new.value a) (old.marks a) (new.marks a) (value_same a) (whole_stays a k ∙ sym k))
+        (λ p b c i. none_waits a (whole_stays a k) p b c i ∙ sym (s.idle unbroken p b c i))
+
+    broken_entry : is_some (old.marks a) ≡ true
+        → EntryStands heading (e ∷ h) n.kind n.level a (state_of new n.kind n.level a) (waiting new a)
+    broken_entry k =
+        let s = t.entries n a is in
+        let now_broken : is_broken (state_of old n.kind n.level a) ≡ true = broken_marks live (old.marks a) ∙ k in
+        let dead : live ≡ None = no_core live (laws.entries.core_where_valid n.kind n.level (old.value a)
+            ∙ ap (λ (x : ℕ). is_valid n.kind n.level x) (t.values a)
+            ∙ not-true _ (and_parts _ _ (sym s.broken ∙ now_broken)).1) in
+        let mid_broken : is_some (mid.marks a) ≡ true = heard_marks a ∙ k in
+        let same_mid : state_from live (mid.marks a) ≡ state_from None (mid.marks a)
+            = same_state live None (mid.marks a) mid_broken in
+        let same_new : state_from None (new.marks a) ≡ state_of new n.kind n.level a
+            = ap (λ (o : Option Core). state_from o (new.marks a)) (sym dead ∙ ap (λ (x : ℕ). core_of n.kind n.level x) (sym (value_same a))) in
+        let heard : Heard heading (state_of old n.kind n.level a) q dsb (state_from None (mid.marks a)) = record {
+          published = λ loud. subst (λ (x : EntryState). Published (state_of old n.kind n.level a) q dsb heading.pes x) same_mid
+              (hears.published loud live a);
+          unheard = λ quiet. sym same_mid ∙ ap (λ (m : Option Marks). state_from live m) (hears.unheard quiet a);
+        } in
+        subst (λ (x : EntryState). EntryStands heading (e ∷ h) n.kind n.level a x (waiting new a)) same_new
+        (laws.entries.dsb h n.kind n.level a q dsb (state_of old n.kind n.level a) (state_from None (mid.marks a))
+        (state_from None (new.marks a)) (waiting mid a) (waiting new a) (some_pe heading laws h old t) heard
+        (completes.completed a)
+        (λ p other b c i. completes.others p a other b c i
+            ∙ ap (λ x. x && waits (mid.pends p a) b c i) (sym (broken_marks None (new.marks a))))
+        (entry_same heading laws h n.kind n.level a (state_of old n.kind n.level a) (state_of old n.kind n.level a)
+        (waiting old a) (waiting mid a) s refl (λ p. hears.pends p a)))
+
+    pub dsb_entry : EntryStands heading (e ∷ h) n.kind n.level a (state_of new n.kind n.level a) (waiting new a)
+    dsb_entry = by (old.marks a) refl
+      where
+        by : (m : Option Marks) → old.marks a ≡ m
+            → EntryStands heading (e ∷ h) n.kind n.level a (state_of new n.kind n.level a) (waiting new a)
+        by None k = whole_entry k
+        by (Some m) k = broken_entry (ap (λ (m : Option Marks). is_some m) k)
+
+  abbrev holds : Kind → ℕ → ℕ → Bool
+  holds kind level a = is_some (core_at new kind level a)
+
+  holds_is : (m : Node) (a : Above) → old.node m.page ≡ Some m → Contains m.above a
+      → holds m.kind a.level a.place ≡ is_some (held heading Patterns m.kind a.level a.place (notes heading (e ∷ h)))
+  holds_is m a is inside =
+      let up = laws.nodes.above h old.node (core_at old) m.page m a t.kept t.nodes (cores heading h old t) is inside in
+      let n = up.0 in
+      let stands = dsb_entry n a.place up.1 in
+      let here : holds n.kind n.level a.place ≡ is_some (held heading Patterns n.kind n.level a.place (notes heading (e ∷ h)))
+          = sym (laws.entries.holds (e ∷ h) n.kind n.level a.place (state_of new n.kind n.level a.place) (waiting new a.place) stands) in
+      subst (λ (k : Kind). holds k a.level a.place ≡ is_some (held heading Patterns k a.level a.place (notes heading (e ∷ h)))) up.2
+      (subst (λ (l : ℕ). holds n.kind l a.place ≡ is_some (held heading Patterns n.kind l a.place (notes heading (e ∷ h)))) up.3 here)
+
+  -- where no place lost a table, every page of a tree stays in it
+  module _ (no_loss : (a next : ℕ) → next_in (core_in (state_from None (mid.marks a))) ≡ Some next
+      → is_some (new.marks a) ≡ true) where
+    heard_core : (a : ℕ) → core_in (state_from None (mid.marks a)) ≡ core_in (state_from None (old.marks a))
+    heard_core a = by (heading.cnp && is_non dsb.domain) refl
+      where
+        by : (b : Bool) → (heading.cnp && is_non dsb.domain) ≡ b
+            → core_in (state_from None (mid.marks a)) ≡ core_in (state_from None (old.marks a))
+        by true k = ap (λ (m : Option Marks). core_in (state_from None m)) (hears.unheard k a)
+        by false k = (hears.published k None a).core
+
+    some_next : (o : Option Core) (next : ℕ) → next_in o ≡ Some next → is_some o ≡ true
+    some_next None next k = let bad : None ≡ Some next = k in absurd cc
+    some_next (Some core) next k = refl
+
+    broken_core : (o : Option Core) (m : Option Marks) → is_some m ≡ true → core_in (state_from o m) ≡ core_in (state_from None m)
+    broken_core o m k = ap (λ (s : EntryState). core_in s) (same_state o None m k)
+
+    marked : (o : Option Core) (m : Option Marks) → is_some m ≡ true → is_some (core_in (state_from o m)) ≡ true
+    marked o m k = ap (λ (x : Option Core). is_some x) (broken_core o m k) ∙ core_some m ∙ k
+
+    still_holds : (kind : Kind) (level a next : ℕ) → next_in (core_at old kind level a) ≡ Some next → holds kind level a ≡ true
+    still_holds kind level a next table = by (old.marks a) refl
+      where
+        by : (m : Option Marks) → old.marks a ≡ m → holds kind level a ≡ true
+        by None k = ap (λ (s : EntryState). is_some (core_in s))
+            (sym (state_same kind level (old.value a) (new.value a) (old.marks a) (new.marks a) (value_same a) (whole_stays a k ∙ sym k)))
+            ∙ some_next (core_at old kind level a) next table
+        by (Some m) k =
+            let is_marked : is_some (old.marks a) ≡ true = ap (λ (m : Option Marks). is_some m) k in
+            marked (core_of kind level (new.value a)) (new.marks a) (no_loss a next
+                (ap (λ (o : Option Core). next_in o)
+                (heard_core a ∙ sym (broken_core (core_of kind level (old.value a)) (old.marks a) is_marked)) ∙ table))
+
+    all_above : (xs : List Above) (p : ℕ) (m : Node) → old.node p ≡ Some m → m.above ≡ xs
+        → every (λ a. holds m.kind a.level a.place) xs ≡ true
+    all_above [] p m is e = refl
+    all_above (a ∷ rest) p m is e =
+        let up = laws.nodes.up h old.node (core_at old) p m a rest t.kept t.fit t.nodes (cores heading h old t) is e in
+        let n = up.parent in
+        let lists : a ∷ rest ≡ record { place = a.place; level = n.level } ∷ n.above
+            = sym e ∙ ap (λ (x : Node). x.above) up.is_below in
+        let first : a ≡ record { place = a.place; level = n.level } = cc in
+        let others : n.above ≡ rest = cc in
+        let level : a.level ≡ n.level = ap (λ (x : Above). x.level) first in
+        let kind : m.kind ≡ n.kind = ap (λ (x : Node). x.kind) up.is_below in
+        let here : holds m.kind a.level a.place ≡ true
+            = ap (λ (k : Kind). holds k a.level a.place) kind ∙ ap (λ (l : ℕ). holds n.kind l a.place) level
+              ∙ still_holds n.kind n.level a.place m.page up.table in
+        let older : every (λ a. holds n.kind a.level a.place) rest ≡ true
+            = all_above rest (page_of a.place) n up.is_parent others in
+        let there : every (λ a. holds m.kind a.level a.place) rest ≡ true
+            = ap (λ (k : Kind). every (λ a. holds k a.level a.place) rest) kind ∙ older in
+        rw (here, there) refl
+
+    pub all_held : (p : ℕ) → kept (is_held_by holds) (old.node p) ≡ old.node p
+    all_held p = by (old.node p) refl
+      where
+        by : (o : Option Node) → old.node p ≡ o → kept (is_held_by holds) o ≡ o
+        by None k = refl
+        by (Some m) k = ap (λ b. cond b (Some m) None) (all_above m.above p m k refl)
+
+  pub after_dsb : (last : View) → fits_heading heading e ≡ true → broken heading Patterns h e ≡ None
+      → ((p : ℕ) → new.node p ≡ old.node p)
+      → Leaves new last (is_held_by holds)
+      → ((p : ℕ) → new.fresh p ≡ old.fresh p) → ((p : ℕ) → new.null p ≡ old.null p)
+      → ((p : ℕ) → new.tracked p ≡ old.tracked p) → ((p : ℕ) → new.known p ≡ old.known p) → new.pages ≡ old.pages
+      → Told heading (e ∷ h) last
+  after_dsb last fits unbroken nodes move fresh null tracked known pages =
+      let sound = keeps_more heading h e t.kept unbroken in
+      let proper = laws.nodes.proper t.proper in
+      let rest = tracked_stay heading laws h old last t e refl (record {
+        tracked = λ p. move.tracking.tracked p ∙ tracked p;
+        known = λ p. move.tracking.known p ∙ known p;
+        pages = move.tracking.pages ∙ pages;
+      }) in
+      record {
+        proper = t.proper;
+        kept = sound;
+        fit = fit_more heading h e t.fit fits;
+        values = λ a. move.value a ∙ value_same a ∙ laws.pages.same_values h old.value e refl t.values a;
+        nodes = laws.nodes.dsb h old.node last.node holds q dsb sound t.nodes holds_is
+            (λ p. move.node p ∙ ap (λ (o : Option Node). kept (is_held_by holds) o) (nodes p));
+        fresh = λ p. move.roles.fresh p ∙ fresh p ∙ laws.pages.fresh_others h old.fresh e proper sound refl refl refl t.fresh p;
+        null = λ p. move.roles.null p ∙ null p ∙ laws.pages.same_null h old.null e refl t.null p;
+        known = rest.0;
+        pages = rest.1;
+        tracked = rest.2;
+        entries = λ n a is.
+            let was = was_there (is_held_by holds) (new.node (page_of a)) n (sym (move.node _) ∙ is) in
+            entry_same heading laws (e ∷ h) n.kind n.level a (state_of new n.kind n.level a) (state_of last n.kind n.level a)
+            (waiting new a) (waiting last a) (dsb_entry n a (sym (nodes _) ∙ was.0))
+            (state_same n.kind n.level (new.value a) (last.value a) (new.marks a) (last.marks a) (move.value a) ((move.marks a).1 n is))
+            (λ p. move.pends p a n is);
+        outside = λ a is. (move.marks a).0 is;
+      }
