@@ -32,7 +32,7 @@ use Rattle.bbm_replay.proofs.Leaving.{was_there}
 use Rattle.bbm_replay.proofs.Quiet.{tracked_stay}
 use Rattle.bbm_replay.proofs.Writing.{cores}
 
-broken_marks : (live : Option Core) (m : Option Marks) → is_broken (state_from live m) ≡ is_some m
+pub broken_marks : (live : Option Core) (m : Option Marks) → is_broken (state_from live m) ≡ is_some m
 broken_marks None None = refl
 broken_marks (Some core) None = refl
 broken_marks None (Some m) = refl
@@ -51,7 +51,7 @@ no_core None k = refl
 no_core (Some core) k = absurd (true≢false k)
 
 -- of a broken place the state is one whatever its live core
-same_state : (live live' : Option Core) (m : Option Marks) → is_some m ≡ true → state_from live m ≡ state_from live' m
+pub same_state : (live live' : Option Core) (m : Option Marks) → is_some m ≡ true → state_from live m ≡ state_from live' m
 same_state live live' None k = absurd (true≢false (sym k))
 same_state None None (Some m) k = refl
 same_state None (Some c) (Some m) k = refl

@@ -5,3 +5,4 @@ pub mod Leaving
 pub mod Growing
 pub mod Writing
 pub mod Barriers
+pub mod Tlbis

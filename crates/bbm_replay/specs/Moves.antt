@@ -2,12 +2,13 @@
 use Rattle.std.specs.Prelude.{◌≡◌, ℕ, ◌+◌, ◌⊎◌, ◌↔◌, Bool, true, false, not, ◌&&◌, ◌||◌, ◌==◌, List, Option, Some, None}
 use Rattle.std.specs.Prelude.{is_none, is_some, nat_eq, if◌then◌else◌}
 use Rattle.bbm_descriptor.specs.declared.desc.Core.{Core}
-use Rattle.bbm_entry_state.specs.Calls.{Completed, Published}
+use Rattle.bbm_entry_state.specs.Calls.{Completed, Noted, Published}
 use Rattle.bbm_entry_state.specs.Points.{is_broken, waits}
 use Rattle.bbm_entry_state.specs.Standing.{IsIdle}
 use Rattle.bbm_entry_state.specs.declared.pending.Pends.{Pends}
 use Rattle.bbm_entry_state.specs.declared.state.EntryState.{EntryState}
 use Rattle.bbm_place_map.specs.States.{marks_of_state, state_from}
+use Rattle.bbm_regimes.specs.declared.pe.PeMask.{PeMask}
 use Rattle.bbm_tlbi_scope.specs.declared.entry.Cover.{Cover}
 use Rattle.bbm_rules.specs.Places.{page_of}
 use Rattle.bbm_rules.specs.Prelude.{Barrier, Event, Dmb, Isb, Msr, Lock, Unlock}
@@ -106,6 +107,17 @@ module _ (old new : View) where
     pub others : (p a : ℕ) → nat_eq p q ≡ false → (b : Bool) (c : Cover) (i : ℕ)
         → waits (new.pends p a) b c i ≡ (is_some (new.marks a) && waits (old.pends p a) b c i)
     pub value : (a : ℕ) → new.value a ≡ old.value a
+
+  -- a TLBI of q was issued that reaches these PEs, is broadcast or not, and covers each place so far
+  pub record Issues (q : ℕ) (reach : PeMask) (broadcast : Bool) (cover : ℕ → Cover) : Type 0 where
+    pub value : (a : ℕ) → new.value a ≡ old.value a
+    pub marks : (a : ℕ) → new.marks a ≡ old.marks a
+    pub noted : (n : Node) (a : ℕ) → old.node (page_of a) ≡ Some n → is_some (old.marks a) ≡ true
+        → Noted (state_from None (old.marks a)) (old.pends q a) reach broadcast (cover a) (new.pends q a)
+    pub others : (p a : ℕ) → (nat_eq p q && is_some (old.marks a)) ≡ false → Alike (old.pends p a) (new.pends p a)
+    pub nodes : SameNodes
+    pub roles : SamePages
+    pub tracking : SameTracked
 
 -- whether an event changes no value, no tree, no page and no pending, whatever came before it
 abbrev pub is_quiet : Event → Bool
