@@ -1,7 +1,6 @@
 -- The step equations of cleansed, claim by claim.
-use Rattle.std.proofs.Common.{◌≡◌, ℕ, ◌&&◌, ◌||◌, Bool, true, false, ◌==◌, List, [], ◌∷◌, refl, sym, ◌∙◌, ap}
+use Rattle.std.proofs.Common.{◌≡◌, ℕ, ◌&&◌, ◌||◌, Bool, true, false, ◌==◌, List, ◌∷◌, refl, sym, ◌∙◌, ap}
 use Rattle.std.proofs.Math.Bool.{and-false, and_comm, or-false}
-use Rattle.bbm_tlbi_scope.specs.declared.entry.Cover.{Cover}
 use Rattle.bbm_tlbi_scope.specs.declared.entry.Cover.TheVariants.{Half, Second, Full}
 use Rattle.bbm_events.specs.Heading.{Heading}
 use Rattle.bbm_rules.specs.Prelude.{Barrier, Event, Dsb}
@@ -9,8 +8,8 @@ use Rattle.bbm_rules.specs.declared.claim.Claim.{Claim}
 use Rattle.bbm_rules.specs.declared.claim.Claim.TheVariants.{Place, Two, Taken}
 use Rattle.bbm_rules.specs.Claims.{same_claim}
 use Rattle.bbm_rules.specs.Claims.Trust.{Listed}
-use Rattle.bbm_rules.specs.Cleansing.{answers_one, cleansed, flushes, full_step, half_where, is_completed, publishes_write, same_cover, second_step, seen_where}
-use Rattle.bbm_rules.specs.Lists.{any, some}
+use Rattle.bbm_rules.specs.Cleansing.{answers_one, cleansed, flushes, full_step, half_where, publishes_write, same_cover, second_step, seen_where}
+use Rattle.bbm_rules.specs.Lists.{any}
 use Rattle.bbm_rules.specs.Notes.{Noted, event_of}
 use Rattle.bbm_rules.specs.Reach.{Issued, completes, reaches, unanswered}
 use Rattle.bbm_histories.specs.ClaimSteps.{cleansed_listed, cleansed_under, completes_claim, full_at, half_at, half_by, half_by_after, second_at, seen_by}

@@ -11,10 +11,9 @@ use Rattle.bbm_rules.specs.Covers.{note}
 use Rattle.bbm_rules.specs.Held.{held}
 use Rattle.bbm_rules.specs.Lists.{every}
 use Rattle.bbm_rules.specs.Notes.{Noted}
-use Rattle.bbm_rules.specs.Places.{page_of}
 use Rattle.bbm_rules.specs.Tree.{Above, Node, node_of}
 use Rattle.bbm_histories.specs.Below.{Below}
-use Rattle.bbm_histories.specs.Tree.{Attaches, InTree, InTreeAfter, Linked, Proper, StillHeld}
+use Rattle.bbm_histories.specs.Tree.{Attaches, InTree, InTreeAfter, Proper, StillHeld}
 use Rattle.bbm_histories.specs.TreeSteps.{holds_above, is_under, node_where}
 use Rattle.bbm_histories.proofs.HeldSteps.{IsDsb}
 use Rattle.bbm_histories.proofs.Induction.{Unbroken}

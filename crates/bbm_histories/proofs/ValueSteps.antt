@@ -8,7 +8,7 @@ use Rattle.bbm_rules.specs.Prelude.{Barrier, Event, Init, Root, Unroot, Write, D
 use Rattle.bbm_rules.specs.Places.{page_of}
 use Rattle.bbm_rules.specs.Roots.{Declared, is_at, retired, root_at, roots_of}
 use Rattle.bbm_rules.specs.Values.{published, publishes_to, readable_before}
-use Rattle.bbm_histories.specs.ValueSteps.{Written, first_zero, is_by, readable_after, readable_writes, root_after, up_to}
+use Rattle.bbm_histories.specs.ValueSteps.{Written, first_zero, is_by, readable_writes, root_after, up_to}
 
 -- ---- roots
 

@@ -4,6 +4,7 @@
 mod below;
 pub mod claim_steps;
 pub mod patterns;
+pub mod phases;
 pub mod steps;
 pub mod tags;
 pub mod tree_steps;
@@ -13,6 +14,7 @@ pub mod values;
 
 pub use claim_steps::{law_claim_steps, law_tag_claim_steps};
 pub use patterns::{law_patterns_begin, law_patterns_stay, law_uniform};
+pub use phases::law_phase_parts;
 pub use steps::{law_held_step, law_pattern_steps, law_tag_steps};
 pub use tags::law_tags;
 pub use tree_steps::{law_childless_step, law_limbo_step, law_node_step};
@@ -27,6 +29,7 @@ pub use values::{law_fresh_content, law_frozen, law_window};
 mod tests {
     use crate::claim_steps::{law_claim_steps, law_tag_claim_steps};
     use crate::patterns::{law_patterns_begin, law_patterns_stay, law_uniform};
+    use crate::phases::law_phase_parts;
     use crate::steps::{law_held_step, law_pattern_steps, law_tag_steps};
     use crate::tags::law_tags;
     use crate::tree_steps::{law_childless_step, law_limbo_step, law_node_step};
@@ -56,6 +59,7 @@ mod tests {
         law_pattern_steps();
         law_patterns_begin();
         law_patterns_stay();
+        law_phase_parts();
         law_proper();
         law_readable_step();
         law_root_step();
