@@ -134,7 +134,7 @@ pub unattached : (heading : Heading) (trust : Trust) (h : List Noted) (e : Event
     → (m : Node) → Attaches heading trust h e m → ⊥
 unattached heading trust h (Write pe at value) none m l =
     let some : attached_by heading trust h (Write pe at value)
-        ≡ Some (attached_from heading trust h l.parent.kind (suc l.parent.level) (l.next ∷ []))
+    ≡ Some (attached_from heading trust h l.parent.kind (suc l.parent.level) (l.next ∷ []))
     = rw (l.is_parent, l.empty, l.table) refl in
     let apart : None ≡ Some (attached_from heading trust h l.parent.kind (suc l.parent.level) (l.next ∷ [])) = sym none ∙ some in cc
 unattached heading trust h (Root pe kind lock page) none m l = cc

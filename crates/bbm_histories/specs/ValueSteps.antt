@@ -1,5 +1,5 @@
--- Step equations of the root of a page and of the readable values of a place: what they are after an event, by the event
--- and by what they were before. Source: project's own choice.
+-- Step equations of the root of a page and of the readable values of a place: what they are after an event, by the
+-- event and by what they were before. Source: project's own choice.
 use Rattle.std.specs.Option.{option_map_or}
 use Rattle.std.specs.Prelude.{ℕ, Bool, false, ◌==◌, List, [], ◌∷◌, Option, Some, None, if◌then◌else◌}
 use Rattle.bbm_rules.specs.Prelude.{Heading, Event, Init, Root, Unroot, Write, Dsb}

@@ -21,8 +21,8 @@ pub fn law_root_step()
     ensures { (e : Event) (h : List Event) (page : ℕ) → root_at (e ∷ h) page ≡ root_after page e (root_at h page) }
 {}
 
-/// Which pages are fresh after an event that breaks no rule: a page in which it attaches a node isn't; of any other page
-/// an init makes it so, a `null` ends it, and other events leave it. The law is the contract.
+/// Which pages are fresh after an event that breaks no rule: a page in which it attaches a node isn't; of any other
+/// page an init makes it so, a `null` ends it, and other events leave it. The law is the contract.
 pub fn law_fresh_step()
     ensures attached { (heading : Heading) (trust : Trust) (h : List Event) (e : Event) → Proper heading →
         keeps heading trust (e ∷ h) ≡ true → (m : Node) → Attaches heading trust (noted heading trust h) e m →
