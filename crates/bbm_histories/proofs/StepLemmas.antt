@@ -32,7 +32,7 @@ same_test f g [] same = refl
 same_test f g (x ∷ xs) same =
     ap (λ (b : Bool). b || any f xs) (same x) ∙ ap (λ (b : Bool). g x || b) (same_test f g xs same)
 
-any_filter : {A : Type 0} (f r : A → Bool) (xs : List A) → any f (filter r xs) ≡ any (λ x. r x && f x) xs
+pub any_filter : {A : Type 0} (f r : A → Bool) (xs : List A) → any f (filter r xs) ≡ any (λ x. r x && f x) xs
 any_filter f r [] = refl
 any_filter f r (x ∷ xs) = by (r x) (any_filter f r xs)
   where
