@@ -25,8 +25,9 @@ pub record Part : Type 0 where
   pub first : ℕ
 
 -- Entry: the PE whose TLB keeps it; its kind; the VMID and the ASID under which it was made, 0 where its kind has none;
--- the first page of its root; its parts, the last read apart, and those above it, the nearest first. `since` is how many
--- events were taken before its first part was read, and `joined` how many before a combined entry was joined, else 0.
+-- the first page of its root; its parts, the last read apart, and those above it, the nearest first. `since` is how
+-- many events were taken before its first part was read, and `joined` how many before a combined entry was joined, else
+-- 0.
 pub record Entry : Type 0 where
   pub pe : ℕ
   pub kind : EntryKind

@@ -11,7 +11,8 @@ use Rattle.bbm_tlb_machine.specs.Run.{Living, State, follow_steps}
 use Rattle.bbm_tlb_machine.specs.Safe.{first_conflict}
 use Rattle.bbm_tlb_machine.specs.Step.{combined, extended, is_stage2, may_extend, may_share, may_start, shared, started}
 
--- the state, the TLBIs that are unanswered in it, and the index of the first step at which a clause of a safe log failed
+-- the state, the TLBIs that are unanswered in it, and the index of the first step at which a clause of a safe log
+-- failed
 pub record Followed : Type 0 where
   pub state : State
   pub pending : List Pending

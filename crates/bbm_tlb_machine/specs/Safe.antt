@@ -1,6 +1,6 @@
 -- Safe logs: no TLB keeps what a write, an init or a new root needs gone. Lists are newest first.
--- Source: Arm ARM (DDI 0487), "Using break-before-make when updating translation table entries" and "Translation Lookaside
--- Buffers"; what counts as a conflict is the project's own choice.
+-- Source: Arm ARM (DDI 0487), "Using break-before-make when updating translation table entries" and "Translation
+-- Lookaside Buffers"; what counts as a conflict is the project's own choice.
 use Rattle.std.specs.Prelude.{◌≡◌, ℕ, Bool, true, false, ◌&&◌, not, ◌==◌, List, [], ◌∷◌, ◌++◌, length, Option, Some}
 use Rattle.std.specs.Prelude.{None, Result, Ok, Contains}
 use Rattle.bbm_descriptor.specs.Descriptor.{needs}
@@ -28,10 +28,10 @@ pub record IsLog (heading : Heading) (log : List Event) : Type 0 where
   pub header : heading_ok heading ≡ true
   pub events : (e : Event) → Contains log e → fits_heading heading e ≡ true
 
--- Safe: in each run over the log, at each event before it is taken: where it writes a value at a place, no entry of any PE
--- has a part at the place from which the value needs break-before-make; where it initialises a page, no entry has a part in
--- it; and where it writes a register, no entry of any PE has a tag that is readable at the writing PE afterwards for
--- another root than the entry's.
+-- Safe: in each run over the log, at each event before it is taken: where it writes a value at a place, no entry of any
+-- PE has a part at the place from which the value needs break-before-make; where it initialises a page, no entry has a
+-- part in it; and where it writes a register, no entry of any PE has a tag that is readable at the writing PE
+-- afterwards for another root than the entry's.
 pub record Safe (heading : Heading) (log : List Event) : Type 0 where
   pub at_write : (s : State) (pe place value : ℕ) → ComesTo heading log s (Write pe place value)
       → (l : Living) → Contains s.living l → (part : Part) → Contains (parts_of l.entry) part
@@ -76,16 +76,3 @@ abbrev pub first_conflict : Heading → List Step → Option ℕ
 first_conflict heading [] = None
 first_conflict heading (step ∷ steps) =
     earlier (first_conflict heading steps) (if_so (fails_at heading (follow_steps heading steps) step) (length steps))
-
--- The step with this index is the first event at which a clause fails: the older steps are a run, the event conflicts after
--- them, and at no earlier one a clause fails.
-pub record ConflictsAt (heading : Heading) (steps : List Step) (i : ℕ) : Type 0 where
-  pub newer : List Step
-  pub event : Event
-  pub older : List Step
-  pub before : State
-  pub split : steps ≡ newer ++ Taken event ∷ older
-  pub index : length older ≡ i
-  pub run : IsRun heading older before
-  pub conflict : in_conflict heading before event ≡ true
-  pub first : first_conflict heading older ≡ None

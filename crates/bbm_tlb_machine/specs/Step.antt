@@ -1,7 +1,8 @@
--- What the TLBs of the PEs may do between any two events: start an entry, read one descriptor more, join the stages, copy
--- an entry of another PE, drop one. And what an event asks of the entries that they keep. A history is newest first.
--- Source: Arm ARM (DDI 0487), "Translation Lookaside Buffers" and "TLB maintenance instructions", but where the project's
--- own choice is named.
+-- What the TLBs of the PEs may do between any two events: start an entry, read one descriptor more, join the stages,
+-- copy an entry of another PE, drop one. And what an event asks of the entries that they keep. A history is newest
+-- first.
+-- Source: Arm ARM (DDI 0487), "Translation Lookaside Buffers" and "TLB maintenance instructions", but where the
+-- project's own choice is named.
 use Rattle.std.specs.Prelude.{◌≡◌, ℕ, suc, ◌+◌, ◌-◌, ◌*◌, ◌/◌, Bool, true, false, ◌&&◌, ◌==◌, nat_le, nat_lt, List}
 use Rattle.std.specs.Prelude.{[], length, map, Option, Some, None}
 use Rattle.bbm_descriptor.specs.Descriptor.{is_valid}
@@ -72,8 +73,8 @@ next_part part place value = record {
 abbrev pub extended : Entry → ℕ → ℕ → Entry
 extended x place value = record x { last = next_part x.last place value; above = parts_of x }
 
--- Combine: a combined entry of a stage 2 entry, joined now. Its stage 1 part isn't logged and may be anything. What a TLB
--- joins from several stage 2 walks stands as one entry for each walk; that is the project's own choice.
+-- Combine: a combined entry of a stage 2 entry, joined now. Its stage 1 part isn't logged and may be anything. What a
+-- TLB joins from several stage 2 walks stands as one entry for each walk; that is the project's own choice.
 abbrev pub is_stage2 : EntryKind → Bool
 is_stage2 Stage2 = true
 is_stage2 _ = false
@@ -121,8 +122,9 @@ module _ (heading : Heading) where
     joined = 0;
   }
 
-  -- Start: the entry's tag is readable at its PE for its root, which so is a declared root of the kind, and the kind one
-  -- of the world; it may have the number; the value is readable at the PE, and valid at the level at which walks start.
+  -- Start: the entry's tag is readable at its PE for its root, which so is a declared root of the kind, and the kind
+  -- one of the world; it may have the number; the value is readable at the PE, and valid at the level at which walks
+  -- start.
   pub record Starts (h : List Event) (x : Entry) (number : ℕ) : Type 0 where
     pub tag : reads heading h x.pe (tag_of_entry x) x.root ≡ true
     pub numbered : has_number heading.world h x.pe x.last.kind number ≡ true
@@ -134,8 +136,8 @@ module _ (heading : Heading) where
       reads heading h x.pe (tag_of_entry x) x.root && has_number heading.world h x.pe x.last.kind number
       && is_readable heading h x.last.place x.pe x.last.value && is_valid x.last.kind x.last.level x.last.value
 
-  -- Extend: the last part is a table, and the place in its next page; the value is readable at the entry's PE, and valid
-  -- one level deeper.
+  -- Extend: the last part is a table, and the place in its next page; the value is readable at the entry's PE, and
+  -- valid one level deeper.
   pub record Extends (h : List Event) (x : Entry) (place value : ℕ) : Type 0 where
     pub below : is_that (next_of x.last.kind x.last.level x.last.value) (page_of place) ≡ true
     pub readable : is_readable heading h place x.pe value ≡ true
@@ -150,9 +152,10 @@ module _ (heading : Heading) where
   abbrev pub may_share : ℕ → Bool
   may_share p = heading.cnp && nat_lt p heading.pes
 
-  -- Event: whether a TLBI must have taken the entry by the time that it is answered: it reaches the entry's PE, its scope
-  -- takes the entry under the VMID that its issuer has at the issue, and the entry is older than the TLBI. A TLBI whose
-  -- operand can't be decoded, or which needs a VMID where there are several, takes nothing; that is the project's choice.
+  -- Event: whether a TLBI must have taken the entry by the time that it is answered: it reaches the entry's PE, its
+  -- scope takes the entry under the VMID that its issuer has at the issue, and the entry is older than the TLBI. A TLBI
+  -- whose operand can't be decoded, or which needs a VMID where there are several, takes nothing; that is the project's
+  -- choice.
   abbrev pub takes : Event → List Event → Entry → Bool
   takes (Tlbi pe op xt) before x = takes_by (named_scope heading before pe op xt) (vmid_of heading before pe) x
   takes _ before x = false
