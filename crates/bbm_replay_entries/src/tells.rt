@@ -11,13 +11,12 @@ ghost use Rattle.bbm_events.specs.Heading.{Heading};
 ghost use Rattle.bbm_events.specs.declared.event.Event.{Event};
 ghost use Rattle.bbm_rules.specs.Claims.Trust.{Patterns};
 ghost use Rattle.bbm_rules.specs.Covers.{noted};
-ghost use Rattle.bbm_rules.specs.Lists.{◌>>=◌};
 ghost use Rattle.bbm_rules.specs.Phases.{is_restless, phase_of};
 ghost use Rattle.bbm_rules.specs.Places.{page_of};
-ghost use Rattle.bbm_rules.specs.Tree.{Node, next_of, node_of};
+ghost use Rattle.bbm_rules.specs.Tree.{Node, node_of};
 ghost use Rattle.bbm_rules.specs.declared.phase.Phase.{Phase};
 ghost use Rattle.bbm_replay_entries.specs.Phases.{phase_in};
-ghost use Rattle.bbm_replay_entries.specs.Stands.{EntryStands, held_now, next_of_core};
+ghost use Rattle.bbm_replay_entries.specs.Stands.{EntryStands, held_now, next_now, next_of_core};
 
 use crate::known::known;
 
@@ -40,7 +39,7 @@ pub fn law_entry_holds()
         is_some (held_now heading h kind level place) ≡ is_some (core_in state) }
     ensures next { (heading : Heading) (h : List Event) (kind : Kind) (level place : ℕ)
         (state : EntryState) (pends : ℕ → Pends) → EntryStands heading h kind level place state pends →
-        held_now heading h kind level place >>= next_of kind level ≡ next_of_core (core_in state) }
+        next_now heading h kind level place ≡ next_of_core (core_in state) }
 {
     known();
 }
