@@ -130,6 +130,27 @@ pub both_written : (p pe place : ℕ) (w : Bool) → (nat_eq p pe || w) ≡ ((pe
 both_written p pe place w =
     ap (λ (b : Bool). b || w) (same_number p pe ∙ sym (ap (λ (b : Bool). (pe == p) && b) (eq-eqb place place refl) ∙ and-true (pe == p)))
 
+-- nothing waits where the place isn't broken
+counts_nowhere : (state : EntryState) (c : Cover) (p : ℕ) → is_broken state ≡ false → counts_at state c p ≡ false
+counts_nowhere Clean c p t = refl
+counts_nowhere (Live core) c p t = refl
+counts_nowhere (Broken marks) c p t = absurd (true≢false t)
+
+pub issued_idle : (state : EntryState) (q : ℕ) (reach : PeMask) (broadcast : Bool) (cover : Cover) (pends pends' : ℕ → Pends) → is_broken state ≡ false
+    → Issues state (pends q) reach broadcast cover (pends' q) → OthersWait q pends pends' → ((i : ℕ) → IsIdle (pends i)) → (i : ℕ) → IsIdle (pends' i)
+issued_idle state q reach broadcast cover pends pends' unbroken issues others idle i b c p = by (nat_eq i q) refl
+  where
+    by : (t : Bool) → nat_eq i q ≡ t → waits_at (pends' i) b c p ≡ false
+    by false t = others i t b c p ∙ idle i b c p
+    by true t =
+        ap (λ (j : ℕ). waits_at (pends' j) b c p) (eqb-true i q t)
+        ∙ (issues b c p
+        ∙ (ap (λ (x : Bool). (same_bool broadcast b && (pe_in reach p && (same_grade c cover && x))) || waits_at (pends q) b c p)
+        (counts_nowhere state c p unbroken)
+        ∙ (ap (λ (x : Bool). (same_bool broadcast b && (pe_in reach p && x)) || waits_at (pends q) b c p) (and-false (same_grade c cover))
+        ∙ (ap (λ (x : Bool). (same_bool broadcast b && x) || waits_at (pends q) b c p) (and-false (pe_in reach p))
+        ∙ (ap (λ (x : Bool). x || waits_at (pends q) b c p) (and-false (same_bool broadcast b)) ∙ idle q b c p)))))
+
 module _ (heading : Heading) (k : Known heading) (place : ℕ) where
   -- ---- an unbroken state and nothing that waits, where nothing was written
 
