@@ -54,18 +54,15 @@ module _ (heading : Heading) (k : Known heading) (h : List Event) (place p : ℕ
       ∙ ap (λ (x : Bool). cond (cleansed heading Patterns place p since) Cleansed (cond (half heading place p since) Half (cond x Seen Broken))) (m.seen p)))
 
   -- the phase by the last valid write
-  phase_from : (n : Node) → ValidWrite → Option Phase
+  abbrev phase_from : (n : Node) → ValidWrite → Option Phase
   phase_from n w = cond (cleansed_everywhere heading Patterns place w.since) None
       (Some (cond (is_valid n.kind n.level (value_of h place)) Live (broken_phase heading Patterns place p w.since)))
 
-  phase_at : (n : Node) → Phase
-  phase_at n = unwrap_or (option_and_then (λ w. phase_from n w) (last_valid n.kind n.level place (noted heading Patterns h))) Clean
-
-  by_node : Option Node → Phase
+  abbrev by_node : Option Node → Phase
   by_node o = unwrap_or (option_and_then (λ n. option_and_then (λ w. phase_from n w) (last_valid n.kind n.level place (noted heading Patterns h))) o) Clean
 
   phase_is : phase_of heading Patterns h place p ≡ by_node (node_of heading Patterns (noted heading Patterns h) (page_of place))
-  unfolding (phase_of, by_node, phase_from)
+  unfolding phase_of
   phase_is = refl
 
   module _ (n : Node) (s : EntryState) (pends : ℕ → Pends) (e : EntryStands heading h n.kind n.level place s pends) (below : p < heading.pes) where
@@ -73,7 +70,6 @@ module _ (heading : Heading) (k : Known heading) (h : List Event) (place p : ℕ
     holds = holds_core heading k n.kind n.level place h s pends e
 
     phase_found : (o : Option ValidWrite) → last_valid n.kind n.level place (noted heading Patterns h) ≡ o → unwrap_or (option_and_then (λ w. phase_from n w) o) Clean ≡ phase_in s p
-    unfolding phase_from
     phase_found None is =
         sym (coreless s p (sym holds ∙ ap (λ (o : Option ValidWrite). is_some (option_and_then
         (λ w. cond (cleansed_everywhere heading Patterns place w.since) None (Some w.value)) o)) is))
@@ -103,11 +99,9 @@ module _ (heading : Heading) (k : Known heading) (h : List Event) (place p : ℕ
             ∙ valid (is_valid n.kind n.level (value_of h place)) refl (held_is ∙ ap (λ (x : Bool). is_some (cond x None (Some w.value))) t)
 
     pub phase_tells : node_of heading Patterns (noted heading Patterns h) (page_of place) ≡ Some n → phase_of heading Patterns h place p ≡ phase_in s p
-    unfolding by_node
     phase_tells is = phase_is ∙ (ap by_node is ∙ phase_found (last_valid n.kind n.level place (noted heading Patterns h)) refl)
 
   pub phase_outside : node_of heading Patterns (noted heading Patterns h) (page_of place) ≡ None → phase_of heading Patterns h place p ≡ Clean
-  unfolding by_node
   phase_outside is = phase_is ∙ ap by_node is
 
 pub restless_tells : (heading : Heading) (k : Known heading) (h : List Event) (n : Node) (place : ℕ) (s : EntryState) (pends : ℕ → Pends)
