@@ -331,6 +331,19 @@ module _ (heading : Heading) (k : Known heading) (kind : Kind) (level place : �
             idle = idle;
           }
 
+  -- the core of an unbroken place is that of its value
+  pub present_core : (h : List Event) (state : EntryState) (pends : ℕ → Pends) → 0 < heading.pes
+      → EntryStands heading h kind level place state pends → is_broken state ≡ false → core_in state ≡ core_of kind level (value_of h place)
+  present_core h state pends pes s unbroken = s.core ∙ by (is_some (held_now heading h kind level place)) refl
+    where
+      by : (t : Bool) → is_some (held_now heading h kind level place) ≡ t → core_now heading h kind level place ≡ core_of kind level (value_of h place)
+      by true t = ap (option_and_then (core_of kind level)) (valid_held h pes (unbroken_held h state pends s unbroken t))
+      by false t =
+          let none : held_now heading h kind level place ≡ None = none_is (held_now heading h kind level place) t in
+          ap (option_and_then (core_of kind level)) none
+          ∙ sym (core_invalid (value_of h place) (false_from_ne_true (is_valid kind level (value_of h place)) (λ v.
+          let apart : None ≡ Some (value_of h place) = sym none ∙ valid_held h pes v in cc)))
+
   -- ---- a DSB
 
   -- nothing is held after it where nothing was held before
