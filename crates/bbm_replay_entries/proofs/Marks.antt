@@ -1,7 +1,7 @@
 -- What one more event does to the masks and the pendings of a broken place.
-use Rattle.std.proofs.Common.{◌≡◌, ℕ, ◌<◌, Bool, true, false, cond, not, ◌&&◌, ◌||◌, ◌==◌, nat_eq, List, [], ◌∷◌, None, is_some, refl, sym, ◌∙◌, ap, subst, inl, inr, true≢false}
+use Rattle.std.proofs.Common.{◌≡◌, ℕ, ◌<◌, Bool, true, false, cond, not, ◌&&◌, ◌||◌, ◌==◌, nat_eq, List, ◌∷◌, is_some, refl, sym, ◌∙◌, ap, inl, inr, true≢false}
 use Rattle.std.proofs.Math.Bool.{and-false, and-true, and_assoc, or-false, or-true}
-use Rattle.std.proofs.lemmas.Bool.{and_parts, eq-eqb, eqb-true, false_from_ne_true, or_cases}
+use Rattle.std.proofs.lemmas.Bool.{and_parts, eq-eqb, eqb-true, or_cases}
 use Rattle.bbm_barriers.specs.Options.{answers, publishes}
 use Rattle.bbm_barriers.specs.declared.Dsb.{Dsb as Barrier}
 use Rattle.bbm_descriptor.specs.Descriptor.{same_bool}
@@ -23,13 +23,13 @@ use Rattle.bbm_entry_state.specs.declared.state.EntryState.{EntryState}
 use Rattle.bbm_entry_state.specs.declared.state.EntryState.TheVariants.{Clean, Live, Broken}
 use Rattle.bbm_events.specs.Heading.{Heading}
 use Rattle.bbm_events.specs.declared.event.Event.{Event}
-use Rattle.bbm_events.specs.declared.event.Event.TheVariants.{Write, Dsb, Tlbi}
+use Rattle.bbm_events.specs.declared.event.Event.TheVariants.{Dsb, Tlbi}
 use Rattle.bbm_rules.specs.Claims.Trust.{Patterns}
 use Rattle.bbm_rules.specs.Cleansing.{cleansed, flushes, half, same_cover, seen, writes}
 use Rattle.bbm_rules.specs.Notes.{Noted, event_of}
-use Rattle.bbm_rules.specs.Reach.{Issued, reaches}
+use Rattle.bbm_rules.specs.Reach.{reaches}
 use Rattle.bbm_rules.specs.Values.{is_non, publishes_to}
-use Rattle.bbm_histories.specs.Steps.{answered_by, cleansed_after, full_waits, half_after, half_waits, is_tlbi, second_waits, seen_after, waits, waits_after, wrote}
+use Rattle.bbm_histories.specs.Steps.{answered_by, cleansed_after, full_waits, half_after, half_waits, second_waits, seen_after, waits_after, wrote}
 use Rattle.bbm_replay_entries.specs.Events.{Heard, OthersStay, OthersWait}
 use Rattle.bbm_replay_entries.specs.Known.{Known}
 use Rattle.bbm_replay_entries.specs.Marked.{Marked, cover_waits}

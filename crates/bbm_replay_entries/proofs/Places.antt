@@ -1,5 +1,5 @@
 -- What one more event does to a state that stands for a history.
-use Rattle.std.proofs.Common.{◌≡◌, ℕ, ◌<◌, ◌⊎◌, zero, suc, Bool, true, false, cond, not, ◌&&◌, ◌||◌, ◌==◌, nat_eq, List, [], ◌∷◌, ◌++◌, Option, Some, None, is_some, is_none, option_and_then, refl, sym, ◌∙◌, ap, subst, inl, inr, true≢false, arith}
+use Rattle.std.proofs.Common.{◌≡◌, ℕ, ◌<◌, zero, suc, Bool, true, false, cond, not, ◌&&◌, ◌||◌, ◌==◌, nat_eq, List, [], ◌∷◌, ◌++◌, Option, Some, None, is_some, is_none, option_and_then, refl, sym, ◌∙◌, ap, subst, true≢false, arith}
 use Rattle.std.proofs.Math.Bool.{and-false, and-true}
 use Rattle.std.proofs.lemmas.Bool.{and_from, and_parts, eq-eqb, eqb-true, false_from_ne_true}
 use Rattle.std.proofs.lemmas.Option.{option_and_then_some}
@@ -24,14 +24,13 @@ use Rattle.bbm_rules.specs.Cleansing.{cleansed, writes}
 use Rattle.bbm_rules.specs.Covers.{note, noted}
 use Rattle.bbm_rules.specs.Held.{ValidWrite, cleansed_everywhere, held, last_valid, last_valid_after, later}
 use Rattle.bbm_rules.specs.Notes.{Noted, events_of}
-use Rattle.bbm_rules.specs.Places.{page_of}
 use Rattle.bbm_rules.specs.Values.{value_of}
 use Rattle.bbm_histories.specs.Steps.{held_after, wrote}
 use Rattle.bbm_replay_entries.specs.Events.{Heard, OthersStay, touches}
 use Rattle.bbm_replay_entries.specs.Known.{Known}
 use Rattle.bbm_replay_entries.specs.Marked.{Marked}
 use Rattle.bbm_replay_entries.specs.Stands.{ByValue, EntryStands, core_now, held_now}
-use Rattle.bbm_replay_entries.proofs.Marks.{Blank, Middle, blank, both_written, clean_now, is_still, marked_blank, marked_dsb, marked_still, middle}
+use Rattle.bbm_replay_entries.proofs.Marks.{Middle, both_written, clean_now, is_still, marked_blank, marked_dsb, marked_still, middle}
 use Rattle.bbm_replay_entries.proofs.Since.{cleansed_on, unwritten}
 
 -- ---- tests of every PE
@@ -77,8 +76,8 @@ module _ (heading : Heading) (k : Known heading) (kind : Kind) (level place : �
   valid_unwritten h w v last p q =
       let same : events_of (noted heading Patterns h) ≡ h = k.events_noted h in
       let live : (w : ValidWrite) × (last_valid kind level place (noted heading Patterns h) ≡ Some w)
-          × (w.value ≡ value_of (events_of (noted heading Patterns h)) place) × ((q v : ℕ) (n : Noted) (after before : List Noted)
-          → w.since ≡ after ++ n ∷ before → n.event ≡ Write q place v → ⊥)
+      × (w.value ≡ value_of (events_of (noted heading Patterns h)) place) × ((q v : ℕ) (n : Noted) (after before : List Noted)
+      → w.since ≡ after ++ n ∷ before → n.event ≡ Write q place v → ⊥)
       = k.last_live kind level place (noted heading Patterns h) (ap (λ (x : List Event). is_valid kind level (value_of x place)) same ∙ v) in
       let one : live.0 ≡ w = cc in
       ap (λ (x : ValidWrite). wrote heading place p q x.since) (sym one) ∙ unwritten heading place p live.0.since live.3 q

@@ -1,7 +1,7 @@
 -- What is known of the events since the last valid write of a place.
-use Rattle.std.proofs.Common.{◌≡◌, ℕ, ◌<◌, Bool, true, false, cond, ◌&&◌, ◌||◌, ◌==◌, List, [], ◌∷◌, ◌++◌, refl, sym, ◌∙◌, ap, inl, inr, true≢false}
-use Rattle.std.proofs.Math.Bool.{and-false, or-false, or-true}
-use Rattle.std.proofs.lemmas.Bool.{and_from, and_parts, eqb-true, false_from_ne_true, or_cases, or_left, or_right}
+use Rattle.std.proofs.Common.{◌≡◌, ℕ, Bool, true, false, cond, ◌&&◌, ◌||◌, ◌==◌, List, [], ◌∷◌, ◌++◌, refl, sym, ◌∙◌, ap, inl, inr, true≢false}
+use Rattle.std.proofs.Math.Bool.{and-false}
+use Rattle.std.proofs.lemmas.Bool.{and_parts, eqb-true, false_from_ne_true, or_cases, or_right}
 use Rattle.bbm_barriers.specs.Options.{answers}
 use Rattle.bbm_barriers.specs.declared.Dsb.{Dsb as Barrier}
 use Rattle.bbm_tlbi_scope.specs.declared.entry.Cover.{Cover}
@@ -124,9 +124,9 @@ module _ (heading : Heading) (k : Known heading) (place p : ℕ) where
           elim (or_cases (answered_by dsb (λ b. full_waits heading place p q b since) || answered_by dsb (λ b. second_waits heading place p q b since))
           (cleansed heading Patterns place p since) t) [
             | inl a ↦ elim (or_cases (answered_by dsb (λ b. full_waits heading place p q b since)) (answered_by dsb (λ b. second_waits heading place p q b since)) a) [
-                | inl full ↦ answered_seen q dsb Full since full
-                | inr second ↦ answered_seen q dsb Second since second
-              ]
+              | inl full ↦ answered_seen q dsb Full since full
+              | inr second ↦ answered_seen q dsb Second since second
+            ]
             | inr older ↦ on older
           ]
       by on e t = on t

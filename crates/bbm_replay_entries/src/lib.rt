@@ -2,8 +2,8 @@
 //! A checker that keeps no history cites them at each event. No code but empty bodies.
 #![tactic(auto)]
 
-mod known;
 pub mod begins;
+mod known;
 pub mod steps;
 pub mod tells;
 

@@ -65,9 +65,9 @@ pub fn law_entry_dsb()
     known();
 }
 
-/// After a TLBI of a PE the state of a place is as it was, and what waits for the PE is that of the call, with the cover
-/// of the place before the TLBI. Where the place isn't broken, or the TLBI reaches no PE or doesn't cover the place,
-/// what waits is as it was, too. The law is the contract.
+/// After a TLBI of a PE the state of a place is as it was, and what waits for the PE is that of the call, with the
+/// cover of the place before the TLBI. Where the place isn't broken, or the TLBI reaches no PE or doesn't cover the
+/// place, what waits is as it was, too. The law is the contract.
 pub fn law_entry_tlbi()
     ensures call { (heading : Heading) (h : List Event) (kind : Kind) (level place q : ℕ) (op : TlbiOp) (xt : ℕ)
         (reach : PeMask) (cover : Cover) (state : EntryState) (pends pends' : ℕ → Pends) → 0 < heading.pes →

@@ -1,13 +1,11 @@
-use Rattle.std.proofs.Common.{◌≡◌, ℕ, ◌⊎◌, Bool, true, false, ◌&&◌, ◌||◌, List, refl, sym, ◌∙◌, ap, subst, inl, inr, true≢false}
+use Rattle.std.proofs.Common.{refl, sym, ◌∙◌, subst, inl, inr, true≢false}
 use Rattle.bbm_tlbi_scope.specs.Operations.{operation}
 use Rattle.bbm_tlbi_scope.specs.declared.entry.Cover.{Cover}
 use Rattle.bbm_entry_state.specs.Calls.{Noted as Issues}
-use Rattle.bbm_entry_state.specs.declared.pending.Pends.{Pends}
 use Rattle.bbm_events.specs.declared.event.Event.TheVariants.{Tlbi}
 use Rattle.bbm_rules.specs.Claims.Trust.{Patterns}
 use Rattle.bbm_rules.specs.Covers.{note, noted}
 use Rattle.bbm_rules.specs.Notes.{Noted}
-use Rattle.bbm_replay_entries.specs.Marked.{Marked}
 use Rattle.bbm_replay_entries.proofs.Marks.{issued_idle, marked_tlbi, marked_uncovered, marked_unreached}
 use Rattle.bbm_replay_entries.proofs.Places.{tlbi_stands}
 use Rattle.bbm_replay_entries.proofs.steps.law_entry_tlbi.Goals as goal
@@ -28,9 +26,9 @@ returns-clause-idle c heading h kind level place q op xt state pends pes why s =
     (λ broken since m. elim why [
       | inl unbroken ↦ absurd (true≢false (sym broken ∙ unbroken))
       | inr other ↦ elim other [
-          | inl unreached ↦ marked_unreached heading (c.known.ensures heading) place n since q op xt refl state pends unreached m
-          | inr none ↦ marked_uncovered heading (c.known.ensures heading) place n since q op xt refl state pends none m
-        ]
+        | inl unreached ↦ marked_unreached heading (c.known.ensures heading) place n since q op xt refl state pends unreached m
+        | inr none ↦ marked_uncovered heading (c.known.ensures heading) place n since q op xt refl state pends none m
+      ]
     ])
     s.idle
   where
