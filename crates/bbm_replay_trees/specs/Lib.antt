@@ -1,0 +1,4 @@
+pub mod Told
+pub mod Events
+pub mod Paths
+pub mod Judged
