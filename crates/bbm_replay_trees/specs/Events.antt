@@ -38,3 +38,18 @@ may_reach_limit (Tlbi pe op xt) = false
 may_reach_limit (Msr pe reg value) = true
 may_reach_limit (Lock pe lock) = false
 may_reach_limit (Unlock pe lock) = false
+
+-- whether an event leaves every tree as it is, whatever came before it
+abbrev pub leaves_trees : Event → Bool
+leaves_trees (Init pe page) = true
+leaves_trees (Null pe page) = true
+leaves_trees (Root pe kind lock page) = false
+leaves_trees (Unroot pe page) = false
+leaves_trees (Write pe place value) = false
+leaves_trees (Dsb pe dsb) = false
+leaves_trees (Dmb pe dsb) = true
+leaves_trees (Isb pe) = true
+leaves_trees (Tlbi pe op xt) = true
+leaves_trees (Msr pe reg value) = true
+leaves_trees (Lock pe lock) = true
+leaves_trees (Unlock pe lock) = true

@@ -1,18 +1,19 @@
 -- What a checker that keeps no history says of each page and place, by plain functions, and when that is what the
 -- definitions say after a history. A history is newest first. Source: project's own choice.
-use Rattle.std.specs.Prelude.{◌≡◌, ℕ, Bool, true, false, not, ◌&&◌, ◌==◌, ◌%◌, List, Option, Some, None, option_and_then}
-use Rattle.std.specs.Prelude.{if◌then◌else◌}
+use Rattle.std.specs.Prelude.{◌≡◌, ℕ, suc, ◌%◌, Bool, true, not, ◌&&◌, ◌==◌, List, Option, Some, None}
+use Rattle.std.specs.Prelude.{option_and_then, if◌then◌else◌}
 use Rattle.bbm_descriptor.specs.Descriptor.{core_of, is_valid}
 use Rattle.bbm_descriptor.specs.declared.desc.Core.{Core}
+use Rattle.bbm_descriptor.specs.declared.desc.Core.TheVariants.{Table, Leaf}
 use Rattle.bbm_events.specs.Fits.{fits_heading}
 use Rattle.bbm_rules.specs.Prelude.{Kind, Heading, Event}
 use Rattle.bbm_rules.specs.Claims.Trust.{Patterns}
 use Rattle.bbm_rules.specs.Covers.{noted}
-use Rattle.bbm_rules.specs.Lists.{any, every}
+use Rattle.bbm_rules.specs.Lists.{among, any, every}
 use Rattle.bbm_rules.specs.Notes.{Noted}
-use Rattle.bbm_rules.specs.Pages.{is_fresh, is_null}
+use Rattle.bbm_rules.specs.Pages.{initialised, is_fresh, is_null}
 use Rattle.bbm_rules.specs.Places.{page_of}
-use Rattle.bbm_rules.specs.Tree.{Node, held_at, node_of}
+use Rattle.bbm_rules.specs.Tree.{Node, held_at, node_below, node_of}
 use Rattle.bbm_rules.specs.Values.{value_of}
 
 -- whether the address is that of a descriptor of the page
@@ -26,6 +27,10 @@ SameNull h null = (p : ℕ) → null p ≡ is_null h p
 -- the value of each place
 abbrev pub SameValues : List Event → (ℕ → ℕ) → Type 0
 SameValues h value = (a : ℕ) → value a ≡ value_of h a
+
+-- whether each page was ever initialised
+abbrev pub SameKnown : List Event → (ℕ → Bool) → Type 0
+SameKnown h known = (p : ℕ) → known p ≡ among p (initialised h)
 
 module _ (heading : Heading) (h : List Event) where
   -- the annotated history, where every pattern of events counts
@@ -61,3 +66,22 @@ is_held_by holds m = every (λ a. holds m.kind a.level a.place) m.above
 abbrev pub kept : (Node → Bool) → Option Node → Option Node
 kept keeps None = None
 kept keeps (Some m) = if keeps m then Some m else None
+
+-- the next page of a core that is a table
+abbrev pub next_in : Option Core → Option ℕ
+next_in (Some (Table next ns)) = Some next
+next_in _ = None
+
+-- Childless: the place of a node holds a table, and no place of its next page holds anything.
+pub record Childless (core : Kind → ℕ → ℕ → Option Core) (n : Node) (place : ℕ) : Type 0 where
+  pub next : ℕ
+  pub table : next_in (core n.kind n.level place) ≡ Some next
+  pub holds_none : (a : ℕ) → is_at next a ≡ true → core n.kind (suc n.level) a ≡ None
+
+-- The node m hangs at a place of the node n.
+pub record Hangs (node : ℕ → Option Node) (core : Kind → ℕ → ℕ → Option Core) (place : ℕ) (m : Node) : Type 0 where
+  pub parent : Node
+  pub is_parent : node (page_of place) ≡ Some parent
+  pub at : is_at parent.page place ≡ true
+  pub table : next_in (core parent.kind parent.level place) ≡ Some m.page
+  pub is_below : m ≡ node_below parent place m.page

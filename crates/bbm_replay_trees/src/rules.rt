@@ -28,7 +28,7 @@ ghost use Rattle.bbm_replay_trees.specs.Events.{may_reach_limit, rules_of};
 ghost use Rattle.bbm_replay_trees.specs.Told.{AllFit, SameCores, SameFresh, SameNodes, SameNull, SameValues};
 ghost use Rattle.bbm_replay_trees.specs.Told.{is_at, limbo_by, notes};
 
-use bbm_rules::law_notes_keep_the_events;
+use crate::below::below;
 
 /// The least rule that an event breaks is the first that is broken of the few that its kind can break. The law is the
 /// contract.
@@ -81,7 +81,7 @@ pub fn law_write_rules()
         no_lock heading Patterns (notes heading h) (Unroot pe page)
         ≡ option_and_then (λ lock. if_so (lacks h pe lock) page) (lock_of h page) }
 {
-    law_notes_keep_the_events();
+    below();
 }
 
 /// What the rule on pages in use says: of an `init`, by whether the page is in a tree or a null page; of a `root`, by
@@ -106,5 +106,5 @@ pub fn law_page_rules()
         is_at page a ≡ true → (value a ≡ 0 → ⊥) →
         page_in_use heading Patterns (notes heading h) (Null pe page) ≡ Some page }
 {
-    law_notes_keep_the_events();
+    below();
 }
