@@ -1,7 +1,6 @@
--- The step equations of cleansed, claim by claim. A search answers for each claim of a list by itself.
-use Rattle.std.proofs.Common.{◌≡◌, ℕ, ◌&&◌, ◌||◌, Bool, true, false, ◌==◌, List, [], ◌∷◌, refl, sym, ◌∙◌, ap}
+-- The step equations of cleansed, claim by claim.
+use Rattle.std.proofs.Common.{◌≡◌, ℕ, ◌&&◌, ◌||◌, Bool, true, false, ◌==◌, List, ◌∷◌, refl, sym, ◌∙◌, ap}
 use Rattle.std.proofs.Math.Bool.{and-false, and_comm, or-false}
-use Rattle.bbm_tlbi_scope.specs.declared.entry.Cover.{Cover}
 use Rattle.bbm_tlbi_scope.specs.declared.entry.Cover.TheVariants.{Half, Second, Full}
 use Rattle.bbm_events.specs.Heading.{Heading}
 use Rattle.bbm_rules.specs.Prelude.{Barrier, Event, Dsb}
@@ -9,91 +8,14 @@ use Rattle.bbm_rules.specs.declared.claim.Claim.{Claim}
 use Rattle.bbm_rules.specs.declared.claim.Claim.TheVariants.{Place, Two, Taken}
 use Rattle.bbm_rules.specs.Claims.{same_claim}
 use Rattle.bbm_rules.specs.Claims.Trust.{Listed}
-use Rattle.bbm_rules.specs.Cleansing.{answers_one, cleansed, flushes, full_step, half_where, is_completed, publishes_write, same_cover, second_step, seen_where}
-use Rattle.bbm_rules.specs.Lists.{any, some}
+use Rattle.bbm_rules.specs.Cleansing.{answers_one, cleansed, flushes, full_step, half_where, publishes_write, same_cover, second_step, seen_where}
+use Rattle.bbm_rules.specs.Lists.{any}
 use Rattle.bbm_rules.specs.Notes.{Noted, event_of}
 use Rattle.bbm_rules.specs.Reach.{Issued, completes, reaches, unanswered}
-use Rattle.bbm_histories.specs.ClaimSteps.{cleansed_listed, cleansed_under, completes_claim, full_at, half_at, half_by, half_by_after, second_at, seen_by}
+use Rattle.bbm_histories.specs.ClaimSteps.{cleansed_listed, cleansed_under, completes_claim, full_at, half_at, half_by, half_by_after, second_at, seen_by, seen_by_after}
 use Rattle.bbm_histories.specs.Steps.{answered_by, waits}
-use Rattle.bbm_histories.proofs.StepLemmas.{answered_kinds, any_and, any_never, any_or, cleansed_under_step, or_middle, same_test}
-
--- ---- searches
-
--- A search asks whether something passes a test.
-record Search (T : Type 0) (find : (T → Bool) → Bool) : Type 0 where
-  none : find (λ x. false) ≡ false
-  either : (f g : T → Bool) → find (λ x. f x || g x) ≡ (find f || find g)
-  same : (f g : T → Bool) → ((x : T) → f x ≡ g x) → find f ≡ find g
-
-search_at : {T : Type 0} (x : T) → Search T (λ f. f x)
-search_at x = record { none = refl; either = λ f g. refl; same = λ f g s. s x }
-
-search_never : {T : Type 0} → Search T (λ f. false)
-search_never {T} = record { none = refl; either = λ f g. refl; same = λ f g s. refl }
-
-search_where : {T : Type 0} (c : Bool) (find : (T → Bool) → Bool) → Search T find → Search T (λ f. c && find f)
-search_where true find k = k
-search_where false find k = record { none = refl; either = λ f g. refl; same = λ f g s. refl }
-
-search_by : {T U : Type 0} (i : U → T) (find : (U → Bool) → Bool) → Search U find → Search T (λ f. find (λ y. f (i y)))
-search_by i find k = record {
-  none = k.none;
-  either = λ f g. k.either (λ y. f (i y)) (λ y. g (i y));
-  same = λ f g s. k.same (λ y. f (i y)) (λ y. g (i y)) (λ y. s (i y));
-}
-
-search_any : {T A : Type 0} (find : A → (T → Bool) → Bool) → ((x : A) → Search T (find x)) → (xs : List A)
-    → Search T (λ f. any (λ x. find x f) xs)
-search_any {T} {A} find k xs = record {
-  none = same_test (λ (x : A). find x (λ y. false)) (λ (x : A). false) xs (λ x. let s : Search T (find x) = k x in s.none) ∙ any_never xs;
-  either = λ f g. same_test (λ (x : A). find x (λ y. f y || g y)) (λ (x : A). find x f || find x g) xs
-      (λ x. let s : Search T (find x) = k x in s.either f g)
-      ∙ any_or (λ (x : A). find x f) (λ (x : A). find x g) xs;
-  same = λ f g e. same_test (λ (x : A). find x f) (λ (x : A). find x g) xs (λ x. let s : Search T (find x) = k x in s.same f g e);
-}
-
-module _ (T A : Type 0) (find : A → List A → (T → Bool) → Bool) (k : (x : A) (older : List A) → Search T (find x older)) where
-  some_none : (xs : List A) → some (λ x older. find x older (λ y. false)) xs ≡ false
-  some_none [] = refl
-  some_none (x ∷ older) =
-      let s : Search T (find x older) = k x older in
-      ap (λ (c : Bool). c || some (λ x older. find x older (λ y. false)) older) s.none ∙ some_none older
-
-  some_either : (f g : T → Bool) (xs : List A) → some (λ x older. find x older (λ y. f y || g y)) xs
-      ≡ (some (λ x older. find x older f) xs || some (λ x older. find x older g) xs)
-  some_either f g [] = refl
-  some_either f g (x ∷ older) =
-      let s : Search T (find x older) = k x older in
-      ap (λ (c : Bool). c || some (λ x older. find x older (λ y. f y || g y)) older) (s.either f g)
-      ∙ (ap (λ (c : Bool). (find x older f || find x older g) || c) (some_either f g older)
-      ∙ or_middle (find x older f) (find x older g) (some (λ x older. find x older f) older) (some (λ x older. find x older g) older))
-
-  some_same : (f g : T → Bool) → ((y : T) → f y ≡ g y) → (xs : List A)
-      → some (λ x older. find x older f) xs ≡ some (λ x older. find x older g) xs
-  some_same f g e [] = refl
-  some_same f g e (x ∷ older) =
-      let s : Search T (find x older) = k x older in
-      ap (λ (c : Bool). c || some (λ x older. find x older f) older) (s.same f g e)
-      ∙ ap (λ (c : Bool). find x older g || c) (some_same f g e older)
-
-  search_some : (xs : List A) → Search T (λ f. some (λ x older. find x older f) xs)
-  search_some xs = record {
-    none = some_none xs;
-    either = λ f g. some_either f g xs;
-    same = λ f g e. some_same f g e xs;
-  }
-
-module _ (T : Type 0) (find : (T → Bool) → Bool) (k : Search T find) where
-  -- a search for any of several tests
-  each_test : {C : Type 0} (f : C → T → Bool) (cs : List C) → find (λ x. any (λ c. f c x) cs) ≡ any (λ c. find (f c)) cs
-  each_test f [] = k.none
-  each_test {C} f (c ∷ cs) =
-      k.either (f c) (λ x. any (λ (d : C). f d x) cs) ∙ ap (λ (b : Bool). find (f c) || b) (each_test f cs)
-
-  -- what doesn't depend on what is searched
-  apart_from : (c : Bool) (f : T → Bool) → find (λ x. c && f x) ≡ (c && find f)
-  apart_from true f = refl
-  apart_from false f = k.none
+use Rattle.bbm_histories.proofs.Searches.{Search, apart_from, each_test, search_any, search_at, search_by, search_never, search_some, search_where}
+use Rattle.bbm_histories.proofs.StepLemmas.{answered_kinds, any_and, any_or, cleansed_under_step, same_test}
 
 -- the tests of a claim, those that don't depend on what is searched first
 place_order : (r a b t e : Bool) → ((((r && a) && b) && t) && e) ≡ ((r && (a && e)) && (t && b))
@@ -321,3 +243,15 @@ module _ (heading : Heading) (place p : ℕ) where
   pub listed_step : (cs : List Claim) (n : Noted) (since : List Noted)
       → cleansed heading (Listed cs) place p (n ∷ since) ≡ cleansed_listed heading place p cs n.position n.event since
   listed_step cs n since = cleansed_under_step heading place p (Listed cs) n since ∙ listed_then cs n.position n.event since
+
+  -- ---- what a DSB publishes
+
+  seen_then : (b d : ℕ) (e : Event) (since : List Noted)
+      → ((publishes_write heading place p e since && b == d) || seen_by heading place p b since)
+      ≡ seen_by_after heading place p b d e since
+  seen_then b d (Dsb q dsb) since = refl
+  seen_then b d e since = refl
+
+  pub seen_by_step : (b : ℕ) (n : Noted) (since : List Noted)
+      → seen_by heading place p b (n ∷ since) ≡ seen_by_after heading place p b n.position n.event since
+  seen_by_step b n since = seen_then b n.position n.event since

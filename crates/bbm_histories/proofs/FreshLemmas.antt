@@ -23,7 +23,7 @@ use Rattle.bbm_histories.proofs.Induction.{At, Unbroken, event_at, events_append
 use Rattle.bbm_histories.proofs.PatternLemmas.{unseen}
 
 -- a page that stays fresh was fresh before, unless the event is its init
-was_fresh : (e : Event) (page : ℕ) (before : Bool) → ((q : ℕ) → e ≡ Init q page → ⊥) → may_be_fresh e page before ≡ true
+pub was_fresh : (e : Event) (page : ℕ) (before : Bool) → ((q : ℕ) → e ≡ Init q page → ⊥) → may_be_fresh e page before ≡ true
     → before ≡ true
 was_fresh (Init pe at) page before other k = by (at == page) refl k
   where

@@ -19,4 +19,9 @@ pub mod AttachedLemmas
 pub mod ChildlessSteps
 pub mod LimboSteps
 pub mod NodeSteps
+pub mod Searches
 pub mod ClaimLemmas
+pub mod TagClaims
+pub mod ValueSteps
+pub mod FreshSteps
+pub mod PhaseLemmas

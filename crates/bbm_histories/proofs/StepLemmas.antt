@@ -1,13 +1,13 @@
 -- The step equations of the definitions that search.
 use Rattle.std.proofs.Common.{◌≡◌, ℕ, ◌<◌, ◌≤◌, ◌&&◌, ◌||◌, not, Bool, true, false, cond, ◌==◌, nat_le, List, [], ◌∷◌, length, Option, Some, None, filter, option_and_then, refl, sym, ◌∙◌, ap, subst, true≢false, arith}
-use Rattle.std.proofs.Math.Bool.{and-false, and-true, and_assoc, or-false}
+use Rattle.std.proofs.Math.Bool.{and-false, and-true, and_assoc, and_comm, or-false}
 use Rattle.std.proofs.lemmas.Bool.{eq-eqb, le-leb, leb-true}
 use Rattle.bbm_barriers.specs.Options.{answers}
 use Rattle.bbm_regimes.specs.declared.regime.Kind.{Kind}
 use Rattle.bbm_regimes.specs.declared.regime.Tag.{Tag}
 use Rattle.bbm_descriptor.specs.Descriptor.{is_valid, same_bool}
 use Rattle.bbm_tlbi_scope.specs.Operations.{operation}
-use Rattle.bbm_tlbi_scope.specs.declared.entry.Cover.TheVariants.{Half, Second, Full}
+use Rattle.bbm_tlbi_scope.specs.declared.entry.Cover.TheVariants.{Half}
 use Rattle.bbm_events.specs.Heading.{Heading}
 use Rattle.bbm_rules.specs.Prelude.{Barrier, Event, Init, Write, Dsb, Tlbi}
 use Rattle.bbm_rules.specs.Claims.{Trust}
@@ -18,7 +18,7 @@ use Rattle.bbm_rules.specs.Lists.{any}
 use Rattle.bbm_rules.specs.Notes.{Noted, event_of, events_of}
 use Rattle.bbm_rules.specs.Places.{page_of}
 use Rattle.bbm_rules.specs.Reach.{Issued, completes, left_open, reaches, still_open, unanswered}
-use Rattle.bbm_rules.specs.Tags.{is_taken_by, itself, loses, read_since, reads_for_some, takes_tag}
+use Rattle.bbm_rules.specs.Tags.{itself, loses, read_since, reads_for_some, takes_tag}
 use Rattle.bbm_rules.specs.Values.{publishes_to, value_of}
 use Rattle.bbm_histories.specs.Below.{Below}
 use Rattle.bbm_histories.specs.ClaimSteps.{cleansed_under}
@@ -32,7 +32,7 @@ same_test f g [] same = refl
 same_test f g (x ∷ xs) same =
     ap (λ (b : Bool). b || any f xs) (same x) ∙ ap (λ (b : Bool). g x || b) (same_test f g xs same)
 
-any_filter : {A : Type 0} (f r : A → Bool) (xs : List A) → any f (filter r xs) ≡ any (λ x. r x && f x) xs
+pub any_filter : {A : Type 0} (f r : A → Bool) (xs : List A) → any f (filter r xs) ≡ any (λ x. r x && f x) xs
 any_filter f r [] = refl
 any_filter f r (x ∷ xs) = by (r x) (any_filter f r xs)
   where
@@ -45,7 +45,7 @@ pub any_never : {A : Type 0} (xs : List A) → any (λ (x : A). false) xs ≡ fa
 any_never [] = refl
 any_never (x ∷ xs) = any_never xs
 
-any_both : {A : Type 0} (f : A → Bool) (c : Bool) (xs : List A) → any (λ x. f x && c) xs ≡ (any f xs && c)
+pub any_both : {A : Type 0} (f : A → Bool) (c : Bool) (xs : List A) → any (λ x. f x && c) xs ≡ (any f xs && c)
 any_both f true xs = same_test (λ x. f x && true) f xs (λ x. and-true (f x)) ∙ sym (and-true (any f xs))
 any_both f false xs = same_test (λ x. f x && false) (λ x. false) xs (λ x. and-false (f x)) ∙ (any_never xs ∙ sym (and-false (any f xs)))
 
@@ -341,65 +341,101 @@ module _ (heading : Heading) (p : ℕ) (tag : Tag) where
       (none_since (length h) h (omega arith))
       ∙ ap (λ (c : Bool). (reaches heading e p && takes_tag heading e h tag) && not c) (or-false (reads_for_some heading (e ∷ h) p tag)))
 
-  -- what waited before the event
-  waited : (q : ℕ) (b : Bool) (e : Event) (h : List Event) → waits itself q b (takes heading p tag (e ∷ h)) h
-      ≡ (tag_waits heading p tag q b h && not (reads_for_some heading (e ∷ h) p tag))
-  waited q b e h =
-      same_unanswered q (λ t. is_tlbi b t.tlbi && takes heading p tag (e ∷ h) t)
-      (λ t. (is_tlbi b t.tlbi && takes heading p tag h t) && not (reads_for_some heading (e ∷ h) p tag)) h
-      (λ t less. ap (λ (c : Bool). is_tlbi b t.tlbi && c) (takes_on e h t less)
-      ∙ sym (and_assoc (is_tlbi b t.tlbi) (takes heading p tag h t) (not (reads_for_some heading (e ∷ h) p tag))))
-      ∙ any_both (λ t. is_tlbi b t.tlbi && takes heading p tag h t) (not (reads_for_some heading (e ∷ h) p tag)) (unanswered itself q h)
+  -- those with so many events before them that a test holds
+  abbrev pub takes_of : (ℕ → Bool) → List Event → Issued Event → Bool
+  takes_of pos h t = pos (length t.before) && takes heading p tag h t
 
-  tag_by : (q : ℕ) (b : Bool) (x e : Event) (h : List Event) → e ≡ x
-      → waits_after itself q b (takes heading p tag (e ∷ h)) x e h
-      ≡ (tag_waits_after heading p tag q b x h && not (reads_for_some heading (e ∷ h) p tag))
-  tag_by q b (Tlbi pe op xt) e h same =
-      ap (λ (c : Bool). (pe == q && (is_tlbi b (Tlbi pe op xt) && c)) || waits itself q b (takes heading p tag (e ∷ h)) h)
+  abbrev pub waits_of : (ℕ → Bool) → ℕ → Bool → List Event → Bool
+  waits_of pos q b h = waits itself q b (takes_of pos h) h
+
+  abbrev pub waits_of_after : (ℕ → Bool) → ℕ → Bool → Event → List Event → Bool
+  waits_of_after pos q b (Tlbi pe op xt) h = (pe == q && (is_tlbi b (Tlbi pe op xt) && (pos (length h)
+      && (reaches heading (Tlbi pe op xt) p && takes_tag heading (Tlbi pe op xt) h tag)))) || waits_of pos q b h
+  waits_of_after pos q b (Dsb pe dsb) h = cond (pe == q && answers dsb b) false (waits_of pos q b h)
+  waits_of_after pos q b _ h = waits_of pos q b h
+
+  outwards : (k a t r : Bool) → (k && (a && (t && r))) ≡ ((k && (a && t)) && r)
+  outwards true a t r = sym (and_assoc a t r)
+  outwards false a t r = refl
+
+  -- what waited before the event
+  waited : (pos : ℕ → Bool) (q : ℕ) (b : Bool) (e : Event) (h : List Event) → waits itself q b (takes_of pos (e ∷ h)) h
+      ≡ (waits_of pos q b h && not (reads_for_some heading (e ∷ h) p tag))
+  waited pos q b e h =
+      same_unanswered q (λ t. is_tlbi b t.tlbi && takes_of pos (e ∷ h) t)
+      (λ t. (is_tlbi b t.tlbi && takes_of pos h t) && not (reads_for_some heading (e ∷ h) p tag)) h
+      (λ t less. ap (λ (c : Bool). is_tlbi b t.tlbi && (pos (length t.before) && c)) (takes_on e h t less)
+      ∙ outwards (is_tlbi b t.tlbi) (pos (length t.before)) (takes heading p tag h t) (not (reads_for_some heading (e ∷ h) p tag)))
+      ∙ any_both (λ t. is_tlbi b t.tlbi && takes_of pos h t) (not (reads_for_some heading (e ∷ h) p tag)) (unanswered itself q h)
+
+  tag_by : (pos : ℕ → Bool) (q : ℕ) (b : Bool) (x e : Event) (h : List Event) → e ≡ x
+      → waits_after itself q b (takes_of pos (e ∷ h)) x e h
+      ≡ (waits_of_after pos q b x h && not (reads_for_some heading (e ∷ h) p tag))
+  tag_by pos q b (Tlbi pe op xt) e h same =
+      ap (λ (c : Bool). (pe == q && (is_tlbi b (Tlbi pe op xt) && (pos (length h) && c))) || waits itself q b (takes_of pos (e ∷ h)) h)
       (takes_now e h ∙ ap (λ (y : Event). (reaches heading y p && takes_tag heading y h tag) && not (reads_for_some heading (e ∷ h) p tag)) same)
-      ∙ (ap (λ (c : Bool). (pe == q && (is_tlbi b (Tlbi pe op xt)
-      && ((reaches heading (Tlbi pe op xt) p && takes_tag heading (Tlbi pe op xt) h tag) && not (reads_for_some heading (e ∷ h) p tag)))) || c)
-      (waited q b e h)
-      ∙ by (pe == q) (is_tlbi b (Tlbi pe op xt)) (reaches heading (Tlbi pe op xt) p && takes_tag heading (Tlbi pe op xt) h tag)
-      (tag_waits heading p tag q b h) (not (reads_for_some heading (e ∷ h) p tag)))
+      ∙ (ap (λ (c : Bool). (pe == q && (is_tlbi b (Tlbi pe op xt) && (pos (length h)
+      && ((reaches heading (Tlbi pe op xt) p && takes_tag heading (Tlbi pe op xt) h tag) && not (reads_for_some heading (e ∷ h) p tag))))) || c)
+      (waited pos q b e h)
+      ∙ by (pe == q) (is_tlbi b (Tlbi pe op xt)) (pos (length h)) (reaches heading (Tlbi pe op xt) p && takes_tag heading (Tlbi pe op xt) h tag)
+      (waits_of pos q b h) (not (reads_for_some heading (e ∷ h) p tag)))
     where
-      by : (a k s w c : Bool) → ((a && (k && (s && c))) || (w && c)) ≡ (((a && (k && s)) || w) && c)
-      by a k s w true =
-          ap (λ (x : Bool). (a && (k && x)) || (w && true)) (and-true s)
-          ∙ (ap (λ (x : Bool). (a && (k && s)) || x) (and-true w) ∙ sym (and-true ((a && (k && s)) || w)))
-      by a k s w false =
-          ap (λ (x : Bool). (a && (k && x)) || (w && false)) (and-false s)
-          ∙ (ap (λ (x : Bool). (a && x) || (w && false)) (and-false k)
-          ∙ (ap (λ (x : Bool). x || (w && false)) (and-false a) ∙ (and-false w ∙ sym (and-false ((a && (k && s)) || w)))))
-  tag_by q b (Dsb pe dsb) e h same =
-      ap (λ (c : Bool). cond (pe == q && answers dsb b) false c) (waited q b e h)
-      ∙ by (pe == q && answers dsb b) (tag_waits heading p tag q b h) (not (reads_for_some heading (e ∷ h) p tag))
+      by : (a k o s w c : Bool) → ((a && (k && (o && (s && c)))) || (w && c)) ≡ (((a && (k && (o && s))) || w) && c)
+      by a k o s w true =
+          ap (λ (x : Bool). (a && (k && (o && x))) || (w && true)) (and-true s)
+          ∙ (ap (λ (x : Bool). (a && (k && (o && s))) || x) (and-true w) ∙ sym (and-true ((a && (k && (o && s))) || w)))
+      by a k o s w false =
+          ap (λ (x : Bool). (a && x) || (w && false)) (outwards k o s false ∙ and-false (k && (o && s)))
+          ∙ (ap (λ (x : Bool). x || (w && false)) (and-false a) ∙ (and-false w ∙ sym (and-false ((a && (k && (o && s))) || w))))
+  tag_by pos q b (Dsb pe dsb) e h same =
+      ap (λ (c : Bool). cond (pe == q && answers dsb b) false c) (waited pos q b e h)
+      ∙ by (pe == q && answers dsb b) (waits_of pos q b h) (not (reads_for_some heading (e ∷ h) p tag))
     where
       by : (c w r : Bool) → cond c false (w && r) ≡ (cond c false w && r)
       by true w r = refl
       by false w r = refl
-  tag_by q b x e h same = waited q b e h
+  tag_by pos q b x e h same = waited pos q b e h
+
+  pub waits_of_step : (pos : ℕ → Bool) (q : ℕ) (b : Bool) (e : Event) (h : List Event) → waits_of pos q b (e ∷ h)
+      ≡ (waits_of_after pos q b e h && not (reads_for_some heading (e ∷ h) p tag))
+  waits_of_step pos q b e h =
+      waits_step Event itself q b (takes_of pos (e ∷ h)) e h ∙ tag_by pos q b e e h refl
+
+  -- every such TLBI
+  of_all : (q : ℕ) (b : Bool) (e : Event) (h : List Event) → waits_of_after (λ n. true) q b e h ≡ tag_waits_after heading p tag q b e h
+  of_all q b (Tlbi pe op xt) h = refl
+  of_all q b (Dsb pe dsb) h = refl
+  of_all q b e h = refl
 
   pub tag_step : (q : ℕ) (b : Bool) (e : Event) (h : List Event) → tag_waits heading p tag q b (e ∷ h)
       ≡ (tag_waits_after heading p tag q b e h && not (reads_for_some heading (e ∷ h) p tag))
   tag_step q b e h =
-      waits_step Event itself q b (takes heading p tag (e ∷ h)) e h ∙ tag_by q b e e h refl
+      waits_of_step (λ n. true) q b e h
+      ∙ ap (λ (c : Bool). c && not (reads_for_some heading (e ∷ h) p tag)) (of_all q b e h)
+
+  -- a TLBI that takes the tag, at the DSB that comes after h
+  abbrev pub is_taken : ℕ → Barrier → List Event → Issued Event → Bool
+  is_taken q dsb h t = ((completes dsb t.tlbi && reaches heading t.tlbi p) && takes_tag heading t.tlbi t.before tag)
+      && not (read_since heading (length t.before) p tag (Dsb q dsb ∷ h))
+
+  pub lost_of : (pos : ℕ → Bool) (q : ℕ) (dsb : Barrier) (h : List Event)
+      → any (λ t. is_taken q dsb h t && pos (length t.before)) (unanswered itself q h)
+      ≡ (answered_by dsb (λ b. waits_of pos q b h) && not (reads_for_some heading (Dsb q dsb ∷ h) p tag))
+  lost_of pos q dsb h =
+      same_unanswered q (λ t. is_taken q dsb h t && pos (length t.before))
+      (λ t. (completes dsb t.tlbi && takes_of pos h t) && not (reads_for_some heading (Dsb q dsb ∷ h) p tag)) h
+      (λ t less. by (completes dsb t.tlbi) (reaches heading t.tlbi p) (takes_tag heading t.tlbi t.before tag)
+      (not (read_since heading (length t.before) p tag (Dsb q dsb ∷ h))) (pos (length t.before))
+      ∙ (ap (λ (c : Bool). completes dsb t.tlbi && (pos (length t.before) && c)) (takes_on (Dsb q dsb) h t less)
+      ∙ outwards (completes dsb t.tlbi) (pos (length t.before)) (takes heading p tag h t) (not (reads_for_some heading (Dsb q dsb ∷ h) p tag))))
+      ∙ (any_both (λ t. completes dsb t.tlbi && takes_of pos h t) (not (reads_for_some heading (Dsb q dsb ∷ h) p tag)) (unanswered itself q h)
+      ∙ ap (λ (c : Bool). c && not (reads_for_some heading (Dsb q dsb ∷ h) p tag))
+      (answered_kinds Event itself q dsb (takes_of pos h) h))
+    where
+      by : (a b c d o : Bool) → ((((a && b) && c) && d) && o) ≡ (a && (o && ((b && c) && d)))
+      by true b c d o = and_comm ((b && c) && d) o
+      by false b c d o = refl
 
   pub tag_lost : (q : ℕ) (dsb : Barrier) (h : List Event) → loses heading Patterns p tag (Dsb q dsb) h
       ≡ (answered_by dsb (λ b. tag_waits heading p tag q b h) && not (reads_for_some heading (Dsb q dsb ∷ h) p tag))
-  tag_lost q dsb h =
-      same_unanswered q (is_taken_by heading Patterns p tag q dsb h)
-      (λ t. (completes dsb t.tlbi && takes heading p tag h t) && not (reads_for_some heading (Dsb q dsb ∷ h) p tag)) h
-      (λ t less. and-true (((completes dsb t.tlbi && reaches heading t.tlbi p) && takes_tag heading t.tlbi t.before tag)
-      && not (read_since heading (length t.before) p tag (Dsb q dsb ∷ h)))
-      ∙ (by (completes dsb t.tlbi) (reaches heading t.tlbi p) (takes_tag heading t.tlbi t.before tag)
-      (not (read_since heading (length t.before) p tag (Dsb q dsb ∷ h)))
-      ∙ (ap (λ (c : Bool). completes dsb t.tlbi && c) (takes_on (Dsb q dsb) h t less)
-      ∙ sym (and_assoc (completes dsb t.tlbi) (takes heading p tag h t) (not (reads_for_some heading (Dsb q dsb ∷ h) p tag))))))
-      ∙ (any_both (λ t. completes dsb t.tlbi && takes heading p tag h t) (not (reads_for_some heading (Dsb q dsb ∷ h) p tag)) (unanswered itself q h)
-      ∙ ap (λ (c : Bool). c && not (reads_for_some heading (Dsb q dsb ∷ h) p tag))
-      (answered_kinds Event itself q dsb (takes heading p tag h) h))
-    where
-      by : (a b c d : Bool) → (((a && b) && c) && d) ≡ (a && ((b && c) && d))
-      by true b c d = refl
-      by false b c d = refl
+  tag_lost q dsb h = lost_of (λ n. true) q dsb h

@@ -6,3 +6,4 @@ pub mod Tags
 pub mod Tree
 pub mod TreeSteps
 pub mod Values
+pub mod ValueSteps

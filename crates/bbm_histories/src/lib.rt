@@ -4,14 +4,17 @@
 mod below;
 pub mod claim_steps;
 pub mod patterns;
+pub mod phases;
 pub mod steps;
 pub mod tags;
 pub mod tree_steps;
 pub mod trees;
+pub mod value_steps;
 pub mod values;
 
-pub use claim_steps::law_claim_steps;
+pub use claim_steps::{law_claim_steps, law_tag_claim_steps};
 pub use patterns::{law_patterns_begin, law_patterns_stay, law_uniform};
+pub use phases::law_phase_parts;
 pub use steps::{law_held_step, law_pattern_steps, law_tag_steps};
 pub use tags::law_tags;
 pub use tree_steps::{law_childless_step, law_limbo_step, law_node_step};
@@ -19,12 +22,14 @@ pub use trees::{
     law_frozen_view, law_held_changes, law_limbo_is_empty, law_lower_leaves, law_one_node,
     law_one_position, law_proper, law_tree_step,
 };
+pub use value_steps::{law_fresh_step, law_readable_step, law_root_step};
 pub use values::{law_fresh_content, law_frozen, law_window};
 
 #[cfg(test)]
 mod tests {
-    use crate::claim_steps::law_claim_steps;
+    use crate::claim_steps::{law_claim_steps, law_tag_claim_steps};
     use crate::patterns::{law_patterns_begin, law_patterns_stay, law_uniform};
+    use crate::phases::law_phase_parts;
     use crate::steps::{law_held_step, law_pattern_steps, law_tag_steps};
     use crate::tags::law_tags;
     use crate::tree_steps::{law_childless_step, law_limbo_step, law_node_step};
@@ -32,6 +37,7 @@ mod tests {
         law_frozen_view, law_held_changes, law_limbo_is_empty, law_lower_leaves, law_one_node,
         law_one_position, law_proper, law_tree_step,
     };
+    use crate::value_steps::{law_fresh_step, law_readable_step, law_root_step};
     use crate::values::{law_fresh_content, law_frozen, law_window};
 
     #[test]
@@ -39,6 +45,7 @@ mod tests {
         law_childless_step();
         law_claim_steps();
         law_fresh_content();
+        law_fresh_step();
         law_frozen();
         law_frozen_view();
         law_held_changes();
@@ -52,7 +59,11 @@ mod tests {
         law_pattern_steps();
         law_patterns_begin();
         law_patterns_stay();
+        law_phase_parts();
         law_proper();
+        law_readable_step();
+        law_root_step();
+        law_tag_claim_steps();
         law_tag_steps();
         law_tags();
         law_tree_step();

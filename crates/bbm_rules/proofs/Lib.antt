@@ -48,3 +48,5 @@ pub mod AttachLaw
 pub mod VersionLaw
 pub mod ReadsLaw
 pub mod NullLaw
+mod Twice
+mod RepeatedLaw

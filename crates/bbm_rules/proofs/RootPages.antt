@@ -2,6 +2,7 @@
 use Rattle.std.proofs.Common.{◌≡◌, ℕ, zero, suc, ◌+◌, ◌*◌, ◌<◌, ◌≤◌, Bool, true, false, cond, List, [], ◌∷◌, Contains, refl, sym, ◌∙◌, ap, subst, inl, inr, arith}
 use Rattle.bbm_regimes.specs.declared.regime.Kind.{Kind}
 use Rattle.bbm_events.specs.Heading.{Heading}
+use Rattle.bbm_rules.proofs.ListLemmas.{Apart}
 use Rattle.bbm_rules.proofs.OpenLaw.{In, from_contains, to_contains}
 use Rattle.bbm_rules.specs.Roots.{Declared, first_input_page, input_pages, kind_in_world, page_count, pages_from, root_pages, start_of}
 use Rattle.bbm_rules.specs.Tree.{Node, nodes_of_pages, nodes_of_root}
@@ -115,3 +116,18 @@ page_node heading r page c =
     let k = node_of_page r.kind (start_of heading.world r.kind) r.page (first_input_page heading.world r.kind)
     (root_pages heading.world r.kind r.page) page (from_contains (root_pages heading.world r.kind r.page) page c) in
     (k.0, to_contains (nodes_of_root heading r) k.0 k.1, k.2)
+
+-- the pages of a root are different ones
+apart_from_page : (page count : ℕ) → Apart (pages_from page count)
+apart_from_page page zero = tt
+apart_from_page page (suc count) = (
+  λ i. let above : page + 4096 ≤ page = from_on (page + 4096) count page i in absurd (omega arith),
+  apart_from_page (page + 4096) count,
+)
+
+pub apart_pages : (heading : Heading) (kind : Kind) (page : ℕ) → Apart (root_pages heading.world kind page)
+apart_pages heading kind page = by (kind_in_world heading.world kind)
+  where
+    by : (c : Bool) → Apart (cond c (pages_from page (page_count heading.world kind)) [])
+    by true = apart_from_page page (page_count heading.world kind)
+    by false = tt

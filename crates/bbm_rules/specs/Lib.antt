@@ -12,6 +12,7 @@ pub mod Locks
 pub mod Notes
 pub mod Outcome
 pub mod Pages
+pub mod PathSentences
 pub mod PatternSentences
 pub mod Phases
 pub mod Places

@@ -7,6 +7,7 @@ pub mod event_laws;
 pub mod history_laws;
 pub mod laws;
 pub mod limits;
+pub mod path_laws;
 pub mod phase;
 pub mod rule;
 pub mod step_fault;
@@ -28,6 +29,7 @@ pub use laws::{
     law_answered, law_notes_keep_the_events, law_readable_value, law_tag_held, law_version,
 };
 pub use limits::Limits;
+pub use path_laws::law_repeated;
 pub use phase::Phase;
 pub use rule::Rule;
 pub use step_fault::StepFault;
@@ -48,6 +50,7 @@ mod tests {
     use crate::laws::{
         law_answered, law_notes_keep_the_events, law_readable_value, law_tag_held, law_version,
     };
+    use crate::path_laws::law_repeated;
     use crate::tag_laws::{law_readable_tag, law_tag_rules};
     use crate::verdict::law_first_line_decides;
 
@@ -80,6 +83,7 @@ mod tests {
         law_readable_register();
         law_readable_tag();
         law_readable_value();
+        law_repeated();
         law_tag_rules();
         law_root();
         law_root_pages();
