@@ -4,15 +4,17 @@ use Rattle.std.specs.Prelude.{is_some}
 use Rattle.bbm_descriptor.specs.Descriptor.{core_of, is_valid}
 use Rattle.bbm_rules.specs.Prelude.{Barrier, Kind, Heading, Event, Init, Unroot, Dsb}
 use Rattle.bbm_rules.specs.declared.rule.Rule.{Rule}
-use Rattle.bbm_rules.specs.Attach.{End, attached_by, end_at, ends_below}
+use Rattle.bbm_rules.specs.Attach.{End, all_ends, attached_by, attached_from, end_at, ends_below, pages_of}
 use Rattle.bbm_rules.specs.Broken.{breaks, keeps}
 use Rattle.bbm_rules.specs.Claims.Trust.{Patterns}
 use Rattle.bbm_rules.specs.Covers.{noted}
 use Rattle.bbm_rules.specs.Held.{held}
+use Rattle.bbm_rules.specs.Lists.{among, repeated}
 use Rattle.bbm_rules.specs.Notes.{Noted, events_of}
 use Rattle.bbm_rules.specs.Pages.{is_fresh, is_null}
 use Rattle.bbm_rules.specs.Places.{page_of}
 use Rattle.bbm_rules.specs.Roots.{Declared, root_pages, start_of}
+use Rattle.bbm_rules.specs.PathSentences.{TwoPaths}
 use Rattle.bbm_rules.specs.PatternSentences.{Holds}
 use Rattle.bbm_rules.specs.Tree.{Node, held_at, in_tree, is_childless, next_of, node_below, node_of, nodes_of_root, tree}
 use Rattle.bbm_rules.specs.TreeSentences.{Childless, IsNode, Leads}
@@ -50,6 +52,13 @@ pub record Below (heading : Heading) : Type 0 where
   pub path_complete : (h : List Noted) (left : ℕ) (kind : Kind) (level page : ℕ) (places : List ℕ) (end : End)
       → length places ≤ left → Leads heading Patterns h kind level page places end
       → Contains (end_at level page ∷ ends_below heading Patterns h kind left level page) end
+  pub repeated_sound : (h : List Noted) (e : Event) (kind : Kind) (level : ℕ) (pages : List ℕ)
+      → attached_by heading Patterns h e ≡ Some (attached_from heading Patterns h kind level pages) → (page : ℕ)
+      → among page (repeated (pages_of (all_ends (attached_from heading Patterns h kind level pages)))) ≡ true
+      → TwoPaths heading Patterns h kind level pages page
+  pub repeated_complete : (h : List Noted) (kind : Kind) (level : ℕ) (pages : List ℕ) (page : ℕ)
+      → TwoPaths heading Patterns h kind level pages page
+      → among page (repeated (pages_of (all_ends (attached_from heading Patterns h kind level pages)))) ≡ true
   pub childless_table : (h : List Noted) (m : Node) (value next : ℕ) → next_of m.kind m.level value ≡ Some next
       → (is_childless heading Patterns h m value ≡ true) ↔ HoldsNone heading Patterns m.kind (suc m.level) next h
   pub childless_none : (h : List Noted) (m : Node) (value : ℕ) → next_of m.kind m.level value ≡ None

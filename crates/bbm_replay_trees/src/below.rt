@@ -5,7 +5,10 @@ ghost use Rattle.bbm_replay_trees.specs.Below.{Below};
 
 use bbm_descriptor::laws::law_core_where_valid;
 use bbm_histories::{law_childless_step, law_node_step, law_one_node, law_one_position};
-use bbm_rules::{law_each_rule, law_held, law_notes_keep_the_events, law_paths, law_root_pages, law_tree};
+use bbm_rules::{
+    law_each_rule, law_held, law_notes_keep_the_events, law_paths, law_repeated, law_root_pages,
+    law_tree,
+};
 
 /// The laws that the laws here stand on.
 pub(crate) fn below()
@@ -20,6 +23,7 @@ pub(crate) fn below()
     law_one_node();
     law_one_position();
     law_paths();
+    law_repeated();
     law_root_pages();
     law_tree();
 }
