@@ -5,3 +5,7 @@ pub mod LeastLemmas
 pub mod PathLemmas
 pub mod JudgeLemmas
 pub mod AttachLemmas
+pub mod NodeLemmas
+pub mod HangLemmas
+pub mod PageLemmas
+pub mod PlaceLemmas

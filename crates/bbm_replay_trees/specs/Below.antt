@@ -15,7 +15,6 @@ use Rattle.bbm_rules.specs.Pages.{is_fresh, is_null}
 use Rattle.bbm_rules.specs.Places.{page_of}
 use Rattle.bbm_rules.specs.Roots.{Declared, root_pages, start_of}
 use Rattle.bbm_rules.specs.PathSentences.{TwoPaths}
-use Rattle.bbm_rules.specs.PatternSentences.{Holds}
 use Rattle.bbm_rules.specs.Tree.{Node, held_at, in_tree, is_childless, next_of, node_below, node_of, nodes_of_root, tree}
 use Rattle.bbm_rules.specs.TreeSentences.{Childless, IsNode, Leads}
 use Rattle.bbm_histories.specs.Tree.{Attaches, Proper}
@@ -29,8 +28,6 @@ pub record Below (heading : Heading) : Type 0 where
       ≡ is_valid kind level value
   pub held_valid : (kind : Kind) (level place : ℕ) (h : List Noted) (value : ℕ)
       → held heading Patterns kind level place h ≡ Some value → is_valid kind level value ≡ true
-  pub held_sound : (kind : Kind) (level place : ℕ) (h : List Noted) (value : ℕ)
-      → held heading Patterns kind level place h ≡ Some value → Holds heading Patterns kind level place h value
   pub tree_sound : (h : List Noted) (n : Node) → Contains (tree heading Patterns h) n → IsNode heading Patterns h n
   pub tree_complete : (h : List Noted) (n : Node) → IsNode heading Patterns h n → Contains (tree heading Patterns h) n
   pub tree_below : (h : List Noted) (n : Node) (place value next : ℕ) → Contains (tree heading Patterns h) n

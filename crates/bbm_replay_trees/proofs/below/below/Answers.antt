@@ -7,7 +7,6 @@ returns c heading = record {
   unbroken = c.law_each_rule.ensures.sound heading Patterns;
   core_where_valid = c.law_core_where_valid.ensures;
   held_valid = c.law_held.ensures.valid heading Patterns;
-  held_sound = c.law_held.ensures.sound heading Patterns;
   tree_sound = c.law_tree.ensures.sound heading Patterns;
   tree_complete = c.law_tree.ensures.complete heading Patterns;
   tree_below = c.law_tree.ensures.below heading Patterns;
