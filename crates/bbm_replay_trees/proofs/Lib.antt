@@ -9,3 +9,4 @@ pub mod NodeLemmas
 pub mod HangLemmas
 pub mod PageLemmas
 pub mod PlaceLemmas
+pub mod CountLemmas

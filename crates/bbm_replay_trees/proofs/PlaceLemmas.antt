@@ -79,9 +79,3 @@ module _ (heading : Heading) (b : Below heading) (h : List Event) (kept_rules : 
           let no_core : option_and_then (core_of n.kind (suc n.level)) (held heading Patterns n.kind (suc n.level) a (notes heading h)) ≡ None
           = sym (core_below c.next a c.table inside) ∙ c.holds_none a at_next in
           sym k ∙ core_none heading b h (node_below n place c.next) a no_core
-
--- ---- lists without repeats
-
-pub data Distinct : List ℕ → Type 0 where
-  nothing : Distinct []
-  one_more : {n : ℕ} {ns : List ℕ} → (In ns n → ⊥) → Distinct ns → Distinct (n ∷ ns)
