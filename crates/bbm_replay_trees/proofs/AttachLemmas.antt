@@ -1,9 +1,8 @@
 -- The events that attach pages, and the writes that attach none.
-use Rattle.std.proofs.Common.{◌≡◌, ℕ, zero, suc, ◌+◌, ◌<◌, ◌⊎◌, min, not, Bool, true, false, cond, ◌&&◌, ◌||◌, ◌==◌, List, [], ◌∷◌, ◌++◌, Option, Some, None, is_some, is_none, Contains, filter, flat_map, option_and_then, option_to_list, unwrap_or, refl, sym, ◌∙◌, ap, subst, inl, inr, true≢false, append-nil, arith}
+use Rattle.std.proofs.Common.{◌≡◌, ℕ, zero, suc, ◌<◌, ◌⊎◌, not, Bool, true, false, cond, ◌||◌, ◌==◌, List, [], ◌∷◌, ◌++◌, Option, Some, None, is_some, is_none, Contains, flat_map, option_and_then, option_to_list, refl, sym, ◌∙◌, ap, inl, inr, true≢false, arith}
 use Rattle.bbm_regimes.specs.declared.regime.Kind.{Kind}
 use Rattle.bbm_descriptor.specs.Descriptor.{core_of, desc_of, form_of, form_11, form_01, desc_as}
 use Rattle.bbm_descriptor.specs.Fields.{type_bits}
-use Rattle.bbm_descriptor.specs.declared.desc.Core.{Core}
 use Rattle.bbm_descriptor.specs.declared.desc.Desc.{Desc}
 use Rattle.bbm_events.specs.Heading.{Heading}
 use Rattle.bbm_histories.specs.Tree.{Proper}
@@ -14,14 +13,14 @@ use Rattle.bbm_rules.specs.Lists.{if_so, least}
 use Rattle.bbm_rules.specs.Notes.{Noted, events_of}
 use Rattle.bbm_rules.specs.Pages.{is_fresh, is_null}
 use Rattle.bbm_rules.specs.Places.{page_of}
-use Rattle.bbm_rules.specs.Roots.{Declared, root_pages, start_of}
-use Rattle.bbm_rules.specs.Rules.{attached_with, bad_ends, bad_kind, global_user, made_with, not_fresh, untracked_page, written_with}
+use Rattle.bbm_rules.specs.Roots.{root_pages, start_of}
+use Rattle.bbm_rules.specs.Rules.{attached_with, bad_ends, made_with, not_fresh, untracked_page, written_with}
 use Rattle.bbm_rules.specs.Tree.{Node, held_at, in_tree, next_in, next_of, node_below, node_of, nodes_of_root}
 use Rattle.bbm_replay_trees.specs.Below.{Below}
-use Rattle.bbm_replay_trees.specs.Judged.{Judging, is_bad, is_user_global}
-use Rattle.bbm_replay_trees.specs.Told.{AllFit, SameCores, SameFresh, SameNodes, SameNull, SameValues, notes}
+use Rattle.bbm_replay_trees.specs.Judged.{Judging}
+use Rattle.bbm_replay_trees.specs.Told.{AllFit, SameFresh, SameNull, SameValues, notes}
 use Rattle.bbm_replay_trees.proofs.Elements.{In, from_contains, to_contains}
-use Rattle.bbm_replay_trees.proofs.JudgeLemmas.{OfLeaves, judging, no_leaf}
+use Rattle.bbm_replay_trees.proofs.JudgeLemmas.{judging, no_leaf}
 use Rattle.bbm_replay_trees.proofs.PathLemmas.{Starts}
 
 -- a table stands above level 3

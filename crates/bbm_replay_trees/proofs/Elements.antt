@@ -1,5 +1,5 @@
 -- Elements of lists that are made from others.
-use Rattle.std.proofs.Common.{◌≡◌, ℕ, zero, suc, ◌<◌, Bool, true, false, cond, ◌⊎◌, ◌||◌, ◌==◌, List, [], ◌∷◌, ◌++◌, length, Option, Some, None, Contains, slice_index_or, filter, flat_map, filter_map, map, refl, sym, ◌∙◌, ap, subst, inl, inr, true≢false, not-suc-le-zero, le_of_suc-le-suc, suc-le-suc, zero-le}
+use Rattle.std.proofs.Common.{◌≡◌, ℕ, zero, suc, ◌<◌, Bool, true, false, cond, ◌⊎◌, List, [], ◌∷◌, ◌++◌, length, Option, Some, None, Contains, slice_index_or, filter, flat_map, filter_map, map, refl, sym, ◌∙◌, ap, subst, inl, inr, true≢false, not-suc-le-zero, le_of_suc-le-suc, suc-le-suc, zero-le}
 use Rattle.std.proofs.lemmas.Bool.{or_cases, or_left, or_right}
 use Rattle.std.specs.List.{cons_option}
 use Rattle.bbm_rules.specs.Lists.{any}

@@ -1,6 +1,6 @@
 -- Where the pages of trees hang.
-use Rattle.std.proofs.Common.{◌≡◌, ℕ, zero, suc, ◌+◌, ◌<◌, ◌⊎◌, ◌%◌, Bool, true, false, cond, ◌&&◌, ◌==◌, List, [], ◌∷◌, length, Option, Some, None, is_some, Contains, option_and_then, refl, sym, ◌∙◌, ap, subst, inl, inr, true≢false, arith}
-use Rattle.std.proofs.lemmas.Bool.{and_parts, eqb-true}
+use Rattle.std.proofs.Common.{◌≡◌, ℕ, suc, ◌+◌, ◌<◌, ◌⊎◌, Bool, true, false, cond, ◌&&◌, ◌==◌, List, [], ◌∷◌, length, Option, Some, None, is_some, Contains, option_and_then, refl, sym, ◌∙◌, ap, subst, inl, inr, true≢false, arith}
+use Rattle.std.proofs.lemmas.Bool.{eqb-true}
 use Rattle.bbm_regimes.specs.declared.regime.Kind.{Kind}
 use Rattle.bbm_descriptor.specs.Descriptor.{core_in, core_of, desc_of, is_valid}
 use Rattle.bbm_descriptor.specs.declared.desc.Core.{Core}
@@ -13,14 +13,12 @@ use Rattle.bbm_rules.specs.Claims.Trust.{Patterns}
 use Rattle.bbm_rules.specs.Held.{ValidWrite, cleansed_everywhere, held, last_valid, last_valid_after, later}
 use Rattle.bbm_rules.specs.Notes.{Noted, events_of}
 use Rattle.bbm_rules.specs.Places.{page_of}
-use Rattle.bbm_rules.specs.Roots.{Declared}
-use Rattle.bbm_rules.specs.Tree.{Above, Node, held_at, next_in as next_in_desc, next_of, node_below, node_of, nodes_of_root, tree}
+use Rattle.bbm_rules.specs.Tree.{Above, Node, held_at, next_in as next_in_desc, next_of, node_below, node_of, tree}
 use Rattle.bbm_rules.specs.TreeSentences.{Down, IsNode}
 use Rattle.bbm_rules.specs.Values.{written_places}
 use Rattle.bbm_replay_trees.specs.Below.{Below}
-use Rattle.bbm_replay_trees.specs.Told.{AllFit, Hangs, SameCores, SameNodes, is_at, next_in, notes}
-use Rattle.bbm_replay_trees.proofs.AttachLemmas.{core_some}
-use Rattle.bbm_replay_trees.proofs.Elements.{In, from_contains, to_contains}
+use Rattle.bbm_replay_trees.specs.Told.{AllFit, Hangs, SameCores, SameNodes, next_in, notes}
+use Rattle.bbm_replay_trees.proofs.Elements.{In, from_contains}
 use Rattle.bbm_replay_trees.proofs.FitLemmas.{is_at_page, with_has, with_keeps}
 
 -- ---- the core of a table

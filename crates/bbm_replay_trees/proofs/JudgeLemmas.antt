@@ -1,5 +1,5 @@
 -- What the three rules on attached pages say, by paths through fresh pages and present values.
-use Rattle.std.proofs.Common.{◌≡◌, ℕ, zero, suc, ◌+◌, ◌-◌, ◌<◌, ◌≤◌, ◌⊎◌, not, Bool, true, false, cond, ◌&&◌, ◌||◌, ◌==◌, List, [], ◌∷◌, ◌++◌, length, Option, Some, None, is_some, is_none, Contains, filter, flat_map, filter_map, map, option_and_then, option_to_list, refl, sym, ◌∙◌, ap, subst, inl, inr, true≢false, append-nil, arith}
+use Rattle.std.proofs.Common.{◌≡◌, ℕ, ◌+◌, ◌<◌, not, Bool, true, false, ◌&&◌, List, [], ◌∷◌, ◌++◌, length, Option, Some, None, flat_map, option_to_list, refl, sym, ◌∙◌, ap, subst, inl, inr, true≢false, append-nil, arith}
 use Rattle.std.proofs.lemmas.Bool.{not-true, not_from_false}
 use Rattle.bbm_regimes.specs.declared.regime.Kind.{Kind}
 use Rattle.bbm_descriptor.specs.Descriptor.{desc_of}
@@ -9,18 +9,17 @@ use Rattle.bbm_events.specs.Heading.{Heading}
 use Rattle.bbm_rules.specs.Prelude.{Event}
 use Rattle.bbm_rules.specs.Attach.{Attached, End, all_ends, attached_by, attached_from, pages_of}
 use Rattle.bbm_rules.specs.Claims.Trust.{Patterns}
-use Rattle.bbm_rules.specs.Covers.{is_global}
 use Rattle.bbm_rules.specs.Lists.{least, repeated}
 use Rattle.bbm_rules.specs.Notes.{Noted, events_of}
 use Rattle.bbm_rules.specs.Pages.{is_fresh}
 use Rattle.bbm_rules.specs.PathSentences.{TwoPaths}
-use Rattle.bbm_rules.specs.Rules.{attached_with, bad_ends, bad_kind, global_user, is_contiguous, judged_ends, made_with, not_fresh, places_with, unfresh, untracked_page, written_with}
+use Rattle.bbm_rules.specs.Rules.{attached_with, bad_ends, judged_ends, made_with, not_fresh, places_with, unfresh, untracked_page, written_with}
 use Rattle.bbm_rules.specs.Tree.{Node, next_in}
-use Rattle.bbm_rules.specs.Values.{places_in, value_of, written_places}
+use Rattle.bbm_rules.specs.Values.{places_in, value_of}
 use Rattle.bbm_replay_trees.specs.Below.{Below}
 use Rattle.bbm_replay_trees.specs.Judged.{EndsTwice, Finds, HasPlace, IsPath, IsUnfresh, Judging, UnfreshEnd, is_bad, is_user_global}
-use Rattle.bbm_replay_trees.specs.Told.{AllFit, SameFresh, SameValues, is_at, notes}
-use Rattle.bbm_replay_trees.proofs.Elements.{In, from_contains, from_filter, from_flat, from_map, in_append, in_left, in_map, in_right, to_contains, to_filter, to_flat}
+use Rattle.bbm_replay_trees.specs.Told.{AllFit, SameFresh, SameValues, notes}
+use Rattle.bbm_replay_trees.proofs.Elements.{In, from_filter, from_flat, from_map, in_append, in_left, in_map, in_right, to_filter, to_flat}
 use Rattle.bbm_replay_trees.proofs.FitLemmas.{at_page, in_page, is_at_page, to_page, written}
 use Rattle.bbm_replay_trees.proofs.LeastLemmas.{among_in, in_among, least_is}
 use Rattle.bbm_replay_trees.proofs.PathLemmas.{Longer, Some_path, Starts, from_all, from_deeper, in_all, in_deeper, leads_at, path_from, to_mine, to_theirs, value_is, within_at}

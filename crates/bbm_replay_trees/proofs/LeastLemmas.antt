@@ -1,8 +1,8 @@
 -- The least number of a list, by what is in it.
-use Rattle.std.proofs.Common.{◌≡◌, ℕ, ◌<◌, ◌≤◌, min, Bool, true, false, cond, ◌⊎◌, ◌==◌, List, [], ◌∷◌, Option, Some, None, unwrap_or, refl, sym, ◌∙◌, ap, subst, inl, inr, arith}
+use Rattle.std.proofs.Common.{◌≡◌, ℕ, ◌<◌, ◌≤◌, min, true, ◌⊎◌, ◌==◌, List, [], ◌∷◌, Option, Some, None, unwrap_or, refl, ap, subst, inl, inr, arith}
 use Rattle.std.proofs.lemmas.Bool.{cases_lt, eq-eqb, eqb-true}
-use Rattle.bbm_rules.specs.Lists.{among, any, least}
-use Rattle.bbm_replay_trees.specs.Judged.{Finds, IsLeast}
+use Rattle.bbm_rules.specs.Lists.{among, least}
+use Rattle.bbm_replay_trees.specs.Judged.{Finds}
 use Rattle.bbm_replay_trees.proofs.Elements.{In, any_finds, any_found}
 
 pub in_among : (n : ℕ) (ms : List ℕ) → among n ms ≡ true → In ms n

@@ -1,10 +1,10 @@
 -- The fresh pages after an event.
-use Rattle.std.proofs.Common.{◌≡◌, ℕ, ◌⊎◌, not, Bool, true, false, cond, ◌&&◌, ◌||◌, ◌==◌, List, [], ◌∷◌, Option, Some, None, is_some, is_none, refl, sym, ◌∙◌, ap, subst, inl, inr, true≢false}
+use Rattle.std.proofs.Common.{◌≡◌, ℕ, not, Bool, true, false, ◌&&◌, ◌||◌, ◌==◌, List, ◌∷◌, Option, Some, None, is_some, refl, sym, ◌∙◌, ap, true≢false}
 use Rattle.std.proofs.lemmas.Bool.{eq-eqb, eqb-true}
 use Rattle.bbm_events.specs.Heading.{Heading}
 use Rattle.bbm_histories.specs.Tree.{Proper}
 use Rattle.bbm_histories.specs.TreeSteps.{holds_above, is_under, node_where}
-use Rattle.bbm_rules.specs.Prelude.{Event, Init, Null, Root, Unroot, Write, Dsb, Dmb, Isb, Tlbi, Msr, Lock, Unlock, Barrier}
+use Rattle.bbm_rules.specs.Prelude.{Event, Init, Null, Root, Unroot, Write, Dsb, Dmb, Isb, Tlbi, Msr, Lock, Unlock}
 use Rattle.bbm_rules.specs.Attach.{attached_by}
 use Rattle.bbm_rules.specs.Broken.{keeps}
 use Rattle.bbm_rules.specs.Changes.{changes}
@@ -58,36 +58,9 @@ module _ (heading : Heading) (b : Below heading) (h : List Event) where
       b.node_dsb h pe dsb kept page ∙ filtered_none (holds_above heading Patterns (after (Dsb pe dsb))) (node_of heading Patterns (notes heading h) page) gone
   none_stays proper (Unroot pe first) kept none page gone =
       b.node_unroot h pe first proper kept page ∙ filtered_none (λ m. not (is_under first m)) (node_of heading Patterns (notes heading h) page) gone
-  none_stays proper (Init pe at) kept none page gone =
-      b.node_others h (Init pe at) proper kept (λ q d k. let x : Init pe at ≡ Dsb q d = k in cc) (λ q f k. let x : Init pe at ≡ Unroot q f = k in cc) page
-      (λ m a i. b.unattached (notes heading h) (Init pe at) none m a) ∙ gone
-  none_stays proper (Null pe at) kept none page gone =
-      b.node_others h (Null pe at) proper kept (λ q d k. let x : Null pe at ≡ Dsb q d = k in cc) (λ q f k. let x : Null pe at ≡ Unroot q f = k in cc) page
-      (λ m a i. b.unattached (notes heading h) (Null pe at) none m a) ∙ gone
-  none_stays proper (Root pe kind lock at) kept none page gone =
-      b.node_others h (Root pe kind lock at) proper kept (λ q d k. let x : Root pe kind lock at ≡ Dsb q d = k in cc) (λ q f k. let x : Root pe kind lock at ≡ Unroot q f = k in cc) page
-      (λ m a i. b.unattached (notes heading h) (Root pe kind lock at) none m a) ∙ gone
-  none_stays proper (Write pe at value) kept none page gone =
-      b.node_others h (Write pe at value) proper kept (λ q d k. let x : Write pe at value ≡ Dsb q d = k in cc) (λ q f k. let x : Write pe at value ≡ Unroot q f = k in cc) page
-      (λ m a i. b.unattached (notes heading h) (Write pe at value) none m a) ∙ gone
-  none_stays proper (Dmb pe dsb) kept none page gone =
-      b.node_others h (Dmb pe dsb) proper kept (λ q d k. let x : Dmb pe dsb ≡ Dsb q d = k in cc) (λ q f k. let x : Dmb pe dsb ≡ Unroot q f = k in cc) page
-      (λ m a i. b.unattached (notes heading h) (Dmb pe dsb) none m a) ∙ gone
-  none_stays proper (Isb pe) kept none page gone =
-      b.node_others h (Isb pe) proper kept (λ q d k. let x : Isb pe ≡ Dsb q d = k in cc) (λ q f k. let x : Isb pe ≡ Unroot q f = k in cc) page
-      (λ m a i. b.unattached (notes heading h) (Isb pe) none m a) ∙ gone
-  none_stays proper (Tlbi pe op xt) kept none page gone =
-      b.node_others h (Tlbi pe op xt) proper kept (λ q d k. let x : Tlbi pe op xt ≡ Dsb q d = k in cc) (λ q f k. let x : Tlbi pe op xt ≡ Unroot q f = k in cc) page
-      (λ m a i. b.unattached (notes heading h) (Tlbi pe op xt) none m a) ∙ gone
-  none_stays proper (Msr pe reg value) kept none page gone =
-      b.node_others h (Msr pe reg value) proper kept (λ q d k. let x : Msr pe reg value ≡ Dsb q d = k in cc) (λ q f k. let x : Msr pe reg value ≡ Unroot q f = k in cc) page
-      (λ m a i. b.unattached (notes heading h) (Msr pe reg value) none m a) ∙ gone
-  none_stays proper (Lock pe lock) kept none page gone =
-      b.node_others h (Lock pe lock) proper kept (λ q d k. let x : Lock pe lock ≡ Dsb q d = k in cc) (λ q f k. let x : Lock pe lock ≡ Unroot q f = k in cc) page
-      (λ m a i. b.unattached (notes heading h) (Lock pe lock) none m a) ∙ gone
-  none_stays proper (Unlock pe lock) kept none page gone =
-      b.node_others h (Unlock pe lock) proper kept (λ q d k. let x : Unlock pe lock ≡ Dsb q d = k in cc) (λ q f k. let x : Unlock pe lock ≡ Unroot q f = k in cc) page
-      (λ m a i. b.unattached (notes heading h) (Unlock pe lock) none m a) ∙ gone
+  none_stays proper e kept none page gone =
+      b.node_others h e proper kept (λ q d k. let x : e ≡ Dsb q d = k in cc) (λ q f k. let x : e ≡ Unroot q f = k in cc) page
+      (λ m a i. b.unattached (notes heading h) e none m a) ∙ gone
 
   module _ (fresh : ℕ → Bool) (same : SameFresh heading h fresh) where
     -- after an event that attaches nothing, what may be fresh is

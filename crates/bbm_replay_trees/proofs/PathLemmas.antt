@@ -1,5 +1,5 @@
 -- The paths of attached pages, by fresh pages and present values, are those of the definitions.
-use Rattle.std.proofs.Common.{◌≡◌, ℕ, zero, suc, ◌+◌, ◌-◌, ◌<◌, ◌≤◌, ◌⊎◌, Bool, true, false, cond, List, [], ◌∷◌, ◌++◌, length, Option, Some, None, Contains, flat_map, filter_map, map, refl, sym, ◌∙◌, ap, subst, inl, inr, arith}
+use Rattle.std.proofs.Common.{◌≡◌, ℕ, zero, suc, ◌+◌, ◌-◌, ◌<◌, ◌≤◌, Bool, true, false, cond, List, [], ◌∷◌, length, Some, None, Contains, flat_map, filter_map, refl, sym, ◌∙◌, ap, subst, inl, inr, arith}
 use Rattle.bbm_regimes.specs.declared.regime.Kind.{Kind}
 use Rattle.bbm_events.specs.Heading.{Heading}
 use Rattle.bbm_rules.specs.Prelude.{Event}
@@ -15,7 +15,7 @@ use Rattle.bbm_replay_trees.specs.Below.{Below}
 use Rattle.bbm_replay_trees.specs.Judged.{IsPath}
 use Rattle.bbm_replay_trees.specs.Paths.{Leads}
 use Rattle.bbm_replay_trees.specs.Told.{AllFit, SameFresh, SameValues, is_at, notes}
-use Rattle.bbm_replay_trees.proofs.Elements.{In, from_contains, from_filter_map, from_flat, from_map, in_left, in_map, in_right, to_contains, to_flat, in_append}
+use Rattle.bbm_replay_trees.proofs.Elements.{In, from_contains, from_flat, from_map, in_left, in_map, in_right, to_contains, to_flat, in_append}
 use Rattle.bbm_replay_trees.proofs.FitLemmas.{at_page, is_at_page, written}
 
 -- the nodes at which paths begin are those of these pages, of the kind and at the level
@@ -134,8 +134,7 @@ module _ (heading : Heading) (b : Below heading) (h : List Event) (fit : AllFit 
         → (s : Node) × IsPath fresh value starts s places end × (s.page ≡ page)
     path_from page c places end short l =
         let s = st.to_start page c in
-        let k = st.of_start s.0 s.1 in
-        (
+        let k = st.of_start s.0 s.1 in (
           s.0,
           record {
             is_start = s.1;

@@ -1,31 +1,22 @@
 -- Childless tables, and the number of restless places.
-use Rattle.std.proofs.Common.{◌≡◌, ℕ, zero, suc, ◌+◌, ◌<◌, ◌≤◌, ◌⊎◌, ◌↔◌, not, Bool, true, false, cond, ◌&&◌, ◌==◌, List, [], ◌∷◌, ◌++◌, length, Option, Some, None, is_some, Contains, count_by, filter, map, option_and_then, refl, sym, ◌∙◌, ap, subst, inl, inr, true≢false, arith}
-use Rattle.std.proofs.lemmas.Bool.{and_parts, eq-eqb, eqb-true}
-use Rattle.std.proofs.lemmas.List.Sums.{length-filter}
-use Rattle.std.specs.Option.{option_map_or}
+use Rattle.std.proofs.Common.{◌≡◌, ℕ, suc, true, List, Option, Some, None, is_some, option_and_then, refl, sym, ◌∙◌, ap, subst, true≢false}
 use Rattle.bbm_regimes.specs.declared.regime.Kind.{Kind}
-use Rattle.bbm_descriptor.specs.Descriptor.{core_of, desc_of, is_valid}
+use Rattle.bbm_descriptor.specs.Descriptor.{core_of, desc_of}
 use Rattle.bbm_descriptor.specs.declared.desc.Core.{Core}
 use Rattle.bbm_events.specs.Heading.{Heading}
-use Rattle.bbm_histories.specs.TreeSteps.{HoldsNone}
-use Rattle.bbm_rules.specs.Prelude.{Event, Init, Null, Root, Unroot, Write, Dsb, Dmb, Isb, Tlbi, Msr, Lock, Unlock}
+use Rattle.bbm_rules.specs.Prelude.{Event}
 use Rattle.bbm_rules.specs.Broken.{keeps}
 use Rattle.bbm_rules.specs.Claims.Trust.{Patterns}
 use Rattle.bbm_rules.specs.Held.{held}
-use Rattle.bbm_rules.specs.Lists.{among, repeated, with_number}
-use Rattle.bbm_rules.specs.Notes.{Noted, events_of}
-use Rattle.bbm_rules.specs.Phases.{is_restless, restless_of}
 use Rattle.bbm_rules.specs.Places.{page_of}
 use Rattle.bbm_rules.specs.Tree.{Node, held_at, is_childless, next_of, node_below, node_of}
-use Rattle.bbm_rules.specs.Values.{value_of, written_places}
+use Rattle.bbm_rules.specs.Values.{written_places}
 use Rattle.bbm_replay_trees.specs.Below.{Below}
-use Rattle.bbm_replay_trees.specs.Restless.{Numbers}
 use Rattle.bbm_replay_trees.specs.Told.{AllFit, Childless, SameCores, SameNodes, is_at, next_in, notes}
 use Rattle.bbm_replay_trees.proofs.AttachLemmas.{core_none}
-use Rattle.bbm_replay_trees.proofs.Elements.{In, from_contains, from_filter, from_map, in_map, to_contains, to_filter}
-use Rattle.bbm_replay_trees.proofs.FitLemmas.{at_page, in_with, is_at_page}
-use Rattle.bbm_replay_trees.proofs.HangLemmas.{down, held_written, table_core, table_held}
-use Rattle.bbm_replay_trees.proofs.LeastLemmas.{among_in, in_among}
+use Rattle.bbm_replay_trees.proofs.Elements.{In}
+use Rattle.bbm_replay_trees.proofs.FitLemmas.{at_page, is_at_page}
+use Rattle.bbm_replay_trees.proofs.HangLemmas.{down, held_written, table_core}
 
 -- ---- childless
 

@@ -1,5 +1,5 @@
 -- What the rules say of an event by its kind.
-use Rattle.std.proofs.Common.{◌≡◌, ℕ, ◌%◌, not, Bool, true, false, cond, ◌&&◌, ◌||◌, ◌==◌, List, [], ◌∷◌, Option, Some, None, is_some, filter, option_and_then, refl, sym, ◌∙◌, ap, subst, inl, inr, true≢false}
+use Rattle.std.proofs.Common.{◌≡◌, ℕ, ◌%◌, not, Bool, true, false, ◌&&◌, ◌||◌, ◌==◌, List, [], ◌∷◌, Option, Some, None, is_some, filter, option_and_then, refl, sym, ◌∙◌, ap, subst, true≢false}
 use Rattle.std.proofs.lemmas.Bool.{eqb-true, or_right}
 use Rattle.std.proofs.lemmas.List.Elements.{filter_agree}
 use Rattle.bbm_regimes.specs.declared.regime.Kind.{Kind}
@@ -13,7 +13,7 @@ use Rattle.bbm_rules.specs.Claims.Trust.{Patterns}
 use Rattle.bbm_rules.specs.Covers.{noted}
 use Rattle.bbm_rules.specs.Limits.{limit_of}
 use Rattle.bbm_rules.specs.Lists.{any, if_so, least}
-use Rattle.bbm_rules.specs.Notes.{Noted, events_of}
+use Rattle.bbm_rules.specs.Notes.{events_of}
 use Rattle.bbm_rules.specs.Pages.{is_fresh, is_null}
 use Rattle.bbm_rules.specs.Places.{page_of}
 use Rattle.bbm_rules.specs.Roots.{lock_of, root_pages}
@@ -22,7 +22,7 @@ use Rattle.bbm_rules.specs.Tree.{Above, Node, held_at, in_limbo, node_of}
 use Rattle.bbm_rules.specs.Values.{places_in, value_of}
 use Rattle.bbm_replay_trees.specs.Events.{may_reach_limit, rules_of}
 use Rattle.bbm_replay_trees.specs.Told.{AllFit, SameCores, SameFresh, SameNodes, SameNull, SameValues, is_at, limbo_by, notes}
-use Rattle.bbm_replay_trees.proofs.Elements.{In, any_finds, any_none}
+use Rattle.bbm_replay_trees.proofs.Elements.{In, any_finds, any_none, to_filter}
 use Rattle.bbm_replay_trees.proofs.FitLemmas.{at_page, in_page, is_at_page, to_page, written}
 
 pub few : (heading : Heading) (trust : Trust) (h : List Event) (e : Event)
@@ -59,6 +59,11 @@ no_limit h (Unlock pe lock) k = refl
 pub any_same : {X : Type 0} (f g : X → Bool) (xs : List X) → ((x : X) → f x ≡ g x) → any f xs ≡ any g xs
 any_same f g [] same = refl
 any_same f g (x ∷ xs) same = ap (λ b. b || any f xs) (same x) ∙ ap (λ b. g x || b) (any_same f g xs same)
+
+-- where there is no least number there is none
+nothing : (ms : List ℕ) → least ms ≡ None → ms ≡ []
+nothing [] e = refl
+nothing (m ∷ ms) e = cc
 
 module _ (heading : Heading) (h : List Event) (events : events_of (notes heading h) ≡ h) where
   -- ---- the values and null pages of the annotated history
@@ -133,10 +138,10 @@ module _ (heading : Heading) (h : List Event) (events : events_of (notes heading
         × (limbo_make heading Patterns (notes heading h) (Write pe place v) ≡ None)
     outside_rules k = (
       ap (λ (o : Option Node). option_and_then (λ m. option_and_then (λ lock. if_so (lacks (events_of (notes heading h)) pe lock) place)
-      (lock_of (events_of (notes heading h)) m.root)) o) (node_at None k),
+          (lock_of (events_of (notes heading h)) m.root)) o) (node_at None k),
       ap core_by (node_at None k),
       ap (λ (o : Option Node). option_and_then (λ m. if_so (is_valid m.kind m.level v && in_limbo (notes heading h) m) place) o)
-      (node_at None k),
+          (node_at None k),
     )
 
   pub unroot_rule : (pe page : ℕ) → no_lock heading Patterns (notes heading h) (Unroot pe page)
@@ -157,6 +162,35 @@ module _ (heading : Heading) (h : List Event) (events : events_of (notes heading
   root_rule fresh pe page kind lock same =
       ap least (filter_agree (λ p. not (is_fresh heading Patterns (notes heading h) p)) (λ p. not (fresh p))
       (λ p. ap not (sym (same p))) (root_pages heading.world kind page))
+
+  pub init_free : (node : ℕ → Option Node) (null : ℕ → Bool) (pe page : ℕ) → SameNodes heading h node → SameNull h null
+      → page_in_use heading Patterns (notes heading h) (Init pe page) ≡ None → (node page ≡ None) × (null page ≡ false)
+  init_free node null pe page same_node same none =
+      by (node page) (null page) refl refl (sym (init_rule node null pe page same_node same) ∙ none)
+    where
+      by : (o : Option Node) (c : Bool) → node page ≡ o → null page ≡ c → if_so (is_some (node page) || null page) page ≡ None
+          → (o ≡ None) × (c ≡ false)
+      by None false k l e = (refl, refl)
+      by None true k l e =
+          let some : if_so true page ≡ None
+          = sym (ap (λ b. if_so (is_some (node page) || b) page) l ∙ ap (λ (o : Option Node). if_so (is_some o || true) page) k) ∙ e in cc
+      by (Some m) c k l e =
+          let some : if_so true page ≡ None = sym (ap (λ (o : Option Node). if_so (is_some o || null page) page) k) ∙ e in cc
+
+  pub root_fresh : (fresh : ℕ → Bool) (pe page : ℕ) (kind : Kind) (lock : Option ℕ) (p : ℕ) → SameFresh heading h fresh
+      → page_in_use heading Patterns (notes heading h) (Root pe kind lock page) ≡ None
+      → In (root_pages heading.world kind page) p → fresh p ≡ true
+  root_fresh fresh pe page kind lock p same none i = by (fresh p) refl
+    where
+      unfresh_none : filter (λ q. not (fresh q)) (root_pages heading.world kind page) ≡ []
+      unfresh_none = nothing (filter (λ q. not (fresh q)) (root_pages heading.world kind page))
+          (sym (root_rule fresh pe page kind lock same) ∙ none)
+
+      by : (c : Bool) → fresh p ≡ c → c ≡ true
+      by true k = refl
+      by false k =
+          absurd (subst (λ (xs : List ℕ). In xs p) unfresh_none
+          (to_filter (λ q. not (fresh q)) (root_pages heading.world kind page) p i (ap not k)))
 
   -- whether some place of the page has a value other than 0
   abbrev is_used : ℕ → Bool

@@ -11,12 +11,12 @@ use Rattle.bbm_rules.specs.Covers.{noted}
 use Rattle.bbm_rules.specs.Held.{held}
 use Rattle.bbm_rules.specs.Lists.{among, repeated}
 use Rattle.bbm_rules.specs.Notes.{Noted, events_of}
-use Rattle.bbm_rules.specs.Pages.{is_fresh, is_null}
+use Rattle.bbm_rules.specs.Pages.{is_null}
 use Rattle.bbm_rules.specs.Places.{page_of}
 use Rattle.bbm_rules.specs.Roots.{Declared, root_pages, start_of}
 use Rattle.bbm_rules.specs.PathSentences.{TwoPaths}
 use Rattle.bbm_rules.specs.Tree.{Node, held_at, in_tree, is_childless, next_of, node_below, node_of, nodes_of_root, tree}
-use Rattle.bbm_rules.specs.TreeSentences.{Childless, IsNode, Leads}
+use Rattle.bbm_rules.specs.TreeSentences.{IsNode, Leads}
 use Rattle.bbm_histories.specs.Tree.{Attaches, Proper}
 use Rattle.bbm_histories.specs.TreeSteps.{HoldsNone, holds_above, is_under, node_where}
 

@@ -4,7 +4,7 @@ use Rattle.std.specs.Prelude.{◌≡◌, ℕ, suc, ◌%◌, Bool, true, not, ◌
 use Rattle.std.specs.Prelude.{option_and_then, if◌then◌else◌}
 use Rattle.bbm_descriptor.specs.Descriptor.{core_of, is_valid}
 use Rattle.bbm_descriptor.specs.declared.desc.Core.{Core}
-use Rattle.bbm_descriptor.specs.declared.desc.Core.TheVariants.{Table, Leaf}
+use Rattle.bbm_descriptor.specs.declared.desc.Core.TheVariants.{Table}
 use Rattle.bbm_events.specs.Fits.{fits_heading}
 use Rattle.bbm_rules.specs.Prelude.{Kind, Heading, Event}
 use Rattle.bbm_rules.specs.Claims.Trust.{Patterns}

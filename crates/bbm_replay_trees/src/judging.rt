@@ -1,6 +1,6 @@
 //! Laws of the three rules on attached pages.
 
-ghost use Rattle.std.specs.Prelude.{◌≡◌, ℕ, ◌⊎◌, Bool, true, false, not, ◌||◌, List, [], ◌∷◌, Option, Some, None, is_some};
+ghost use Rattle.std.specs.Prelude.{◌≡◌, ℕ, ◌<◌, ◌⊎◌, Bool, true, false, not, ◌||◌, List, [], ◌∷◌, Option, Some, None, is_some};
 ghost use Rattle.bbm_regimes.specs.declared.regime.Kind.{Kind};
 ghost use Rattle.bbm_descriptor.specs.Descriptor.{desc_of};
 ghost use Rattle.bbm_descriptor.specs.declared.desc.Core.{Core};
@@ -21,7 +21,7 @@ use crate::below::below;
 
 /// What a judge of the paths from the pages of a root, or from the page below the place of a write that attaches, finds
 /// by fresh pages and present values is what the rules on fresh pages, on leaves with the Contiguous hint and on leaves
-/// for every ASID say of the event. The law is the contract.
+/// for every ASID say of the event. A table stands above level 3. The law is the contract.
 pub fn law_judging()
     ensures root { (heading : Heading) (h : List Event) (fresh : ℕ → Bool) (value : ℕ → ℕ) (pe page : ℕ) (kind : Kind)
         (lock : Option ℕ) → Proper heading → AllFit heading h → SameFresh heading h fresh → SameValues h value →
@@ -32,6 +32,7 @@ pub fn law_judging()
         SameNodes heading h node → SameFresh heading h fresh → SameValues h value → SameCores heading h core →
         node (page_of place) ≡ Some n → core n.kind n.level place ≡ None → next_of n.kind n.level v ≡ Some next →
         Judging fresh value (node_below n place next ∷ []) heading h false (Write pe place v) }
+    ensures level { (kind : Kind) (level v next : ℕ) → next_of kind level v ≡ Some next → level < 3 }
 {
     below();
 }

@@ -2,7 +2,7 @@
 //! history.
 
 ghost use Rattle.std.specs.Prelude.{◌≡◌, ℕ, Bool, true, false, not, ◌&&◌, ◌||◌, ◌==◌, ◌%◌, nat_le, List, length, Option};
-ghost use Rattle.std.specs.Prelude.{Some, None, is_some, filter, option_and_then};
+ghost use Rattle.std.specs.Prelude.{Some, None, Contains, is_some, filter, option_and_then};
 ghost use Rattle.bbm_regimes.specs.declared.regime.Kind.{Kind};
 ghost use Rattle.bbm_regimes.specs.declared.regime.Reg.{Reg};
 ghost use Rattle.bbm_regimes.specs.declared.regime.Which.TheVariants.{Pages, Roots, Values};
@@ -23,7 +23,7 @@ ghost use Rattle.bbm_rules.specs.Registers.{register_values};
 ghost use Rattle.bbm_rules.specs.Roots.{lock_of, root_pages, roots_of};
 ghost use Rattle.bbm_rules.specs.Rules.{break_before_make, lacks, limbo_make, no_lock, null_written, page_in_use};
 ghost use Rattle.bbm_rules.specs.Rules.{rewritten_fresh};
-ghost use Rattle.bbm_rules.specs.Tree.{Node};
+ghost use Rattle.bbm_rules.specs.Tree.{Node, nodes_of_root};
 ghost use Rattle.bbm_replay_trees.specs.Events.{may_reach_limit, rules_of};
 ghost use Rattle.bbm_replay_trees.specs.Told.{AllFit, SameCores, SameFresh, SameNodes, SameNull, SameValues};
 ghost use Rattle.bbm_replay_trees.specs.Told.{is_at, limbo_by, notes};
@@ -85,7 +85,8 @@ pub fn law_write_rules()
 }
 
 /// What the rule on pages in use says: of an `init`, by whether the page is in a tree or a null page; of a `root`, by
-/// which of its pages aren't fresh; of a `null`, by whether the page is fresh and all its values are 0. The law is the
+/// which of its pages aren't fresh; of a `null`, by whether the page is fresh and all its values are 0. So where it isn't
+/// broken, the page of an `init` is in no tree and no null page, and the pages of a `root` are fresh. The law is the
 /// contract.
 pub fn law_page_rules()
     ensures init { (heading : Heading) (h : List Event) (node : ℕ → Option Node) (null : ℕ → Bool) (pe page : ℕ) →
@@ -95,6 +96,14 @@ pub fn law_page_rules()
         (lock : Option ℕ) → SameFresh heading h fresh →
         page_in_use heading Patterns (notes heading h) (Root pe kind lock page)
         ≡ least (filter (λ p. not (fresh p)) (root_pages heading.world kind page)) }
+    ensures init_free { (heading : Heading) (h : List Event) (node : ℕ → Option Node) (null : ℕ → Bool) (pe page : ℕ) →
+        SameNodes heading h node → SameNull h null →
+        page_in_use heading Patterns (notes heading h) (Init pe page) ≡ None →
+        (node page ≡ None) × (null page ≡ false) }
+    ensures root_fresh { (heading : Heading) (h : List Event) (fresh : ℕ → Bool) (pe page : ℕ) (kind : Kind)
+        (lock : Option ℕ) (n : Node) → SameFresh heading h fresh →
+        page_in_use heading Patterns (notes heading h) (Root pe kind lock page) ≡ None →
+        Contains (nodes_of_root heading (record { page = page; kind = kind; lock = None })) n → fresh n.page ≡ true }
     ensures null_unused { (heading : Heading) (h : List Event) (fresh : ℕ → Bool) (value : ℕ → ℕ) (pe page : ℕ) →
         AllFit heading h → SameFresh heading h fresh → SameValues h value → fresh page ≡ true →
         ((a : ℕ) → is_at page a ≡ true → value a ≡ 0) →

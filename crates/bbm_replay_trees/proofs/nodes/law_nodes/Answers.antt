@@ -1,5 +1,4 @@
-use Rattle.std.proofs.Common.{◌≡◌, ℕ, List, [], ◌∷◌, None, sym, ◌∙◌}
-use Rattle.bbm_barriers.specs.declared.Dsb.{Dsb as Barrier}
+use Rattle.std.proofs.Common.{◌≡◌, [], ◌∷◌, None, sym, ◌∙◌}
 use Rattle.bbm_rules.specs.Prelude.{Dsb, Root, Unroot, Write}
 use Rattle.bbm_rules.specs.Places.{page_of}
 use Rattle.bbm_rules.specs.Tree.{node_below, nodes_of_root}

@@ -1,4 +1,3 @@
-use Rattle.std.proofs.Common.{refl}
 use Rattle.bbm_replay_trees.proofs.RuleLemmas.{no_limit}
 use Rattle.bbm_replay_trees.proofs.rules.law_limits_of_events.Goals as goal
 
