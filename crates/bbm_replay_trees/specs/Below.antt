@@ -1,29 +1,26 @@
 -- What the crates below prove of their definitions, as one record, so that each proof here takes it as one hypothesis.
-use Rattle.std.specs.Prelude.{◌≡◌, ℕ, suc, ◌≤◌, ◌↔◌, true, false, not, List, [], ◌∷◌, ◌++◌, length, Some, None, Contains}
+use Rattle.std.specs.Prelude.{◌≡◌, ℕ, suc, ◌≤◌, ◌↔◌, true, false, not, List, [], ◌∷◌, length, Some, None, Contains}
 use Rattle.std.specs.Prelude.{is_some}
 use Rattle.bbm_descriptor.specs.Descriptor.{core_of, is_valid}
-use Rattle.bbm_rules.specs.Prelude.{Barrier, Kind, Heading, Event, Init, Unroot, Dsb}
-use Rattle.bbm_rules.specs.declared.rule.Rule.{Rule}
+use Rattle.bbm_rules.specs.Prelude.{Barrier, Kind, Heading, Event, Unroot, Dsb}
 use Rattle.bbm_rules.specs.Attach.{End, all_ends, attached_by, attached_from, end_at, ends_below, pages_of}
-use Rattle.bbm_rules.specs.Broken.{breaks, keeps}
+use Rattle.bbm_rules.specs.Broken.{keeps}
 use Rattle.bbm_rules.specs.Claims.Trust.{Patterns}
 use Rattle.bbm_rules.specs.Covers.{noted}
 use Rattle.bbm_rules.specs.Held.{held}
 use Rattle.bbm_rules.specs.Lists.{among, repeated}
 use Rattle.bbm_rules.specs.Notes.{Noted, events_of}
-use Rattle.bbm_rules.specs.Pages.{is_null}
+use Rattle.bbm_rules.specs.Pages.{is_fresh, may_be_fresh}
 use Rattle.bbm_rules.specs.Places.{page_of}
 use Rattle.bbm_rules.specs.Roots.{Declared, root_pages, start_of}
 use Rattle.bbm_rules.specs.PathSentences.{TwoPaths}
-use Rattle.bbm_rules.specs.Tree.{Node, held_at, in_tree, is_childless, next_of, node_below, node_of, nodes_of_root, tree}
+use Rattle.bbm_rules.specs.Tree.{Node, held_at, is_childless, next_of, node_below, node_of, nodes_of_root, tree}
 use Rattle.bbm_rules.specs.TreeSentences.{IsNode, Leads}
 use Rattle.bbm_histories.specs.Tree.{Attaches, Proper}
 use Rattle.bbm_histories.specs.TreeSteps.{HoldsNone, holds_above, is_under, node_where}
 
 pub record Below (heading : Heading) : Type 0 where
   pub events_noted : (h : List Event) → events_of (noted heading Patterns h) ≡ h
-  pub unbroken : (h newer older : List Event) (e : Event) → keeps heading Patterns h ≡ true → h ≡ newer ++ e ∷ older
-      → (rule : Rule) → breaks heading Patterns (noted heading Patterns older) e rule ≡ None
   pub core_where_valid : (kind : Kind) (level value : ℕ) → is_some (core_of kind level value)
       ≡ is_valid kind level value
   pub held_valid : (kind : Kind) (level place : ℕ) (h : List Noted) (value : ℕ)
@@ -77,5 +74,7 @@ pub record Below (heading : Heading) : Type 0 where
       (node_of heading Patterns (noted heading Patterns h) page)
   pub unattached : (h : List Noted) (e : Event) → attached_by heading Patterns h e ≡ None → (m : Node)
       → Attaches heading Patterns h e m → ⊥
-  pub no_init : (h : List Event) (q page : ℕ) → keeps heading Patterns (Init q page ∷ h) ≡ true
-      → (in_tree heading Patterns (noted heading Patterns h) page ≡ false) × (is_null h page ≡ false)
+  pub fresh_others : (h : List Event) (e : Event) → keeps heading Patterns (e ∷ h) ≡ true → (page : ℕ)
+      → ((m : Node) → Attaches heading Patterns (noted heading Patterns h) e m → m.page ≡ page → ⊥)
+      → is_fresh heading Patterns (noted heading Patterns (e ∷ h)) page
+      ≡ may_be_fresh e page (is_fresh heading Patterns (noted heading Patterns h) page)

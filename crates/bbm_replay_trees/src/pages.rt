@@ -5,7 +5,6 @@ ghost use Rattle.std.specs.Prelude.{is_none, if◌then◌else◌};
 ghost use Rattle.bbm_events.specs.Heading.{Heading};
 ghost use Rattle.bbm_events.specs.declared.event.Event.{Event};
 ghost use Rattle.bbm_events.specs.declared.event.Event.TheVariants.{Init, Null, Write};
-ghost use Rattle.bbm_histories.specs.Tree.{Proper};
 ghost use Rattle.bbm_rules.specs.Attach.{attached_by};
 ghost use Rattle.bbm_rules.specs.Broken.{keeps};
 ghost use Rattle.bbm_rules.specs.Changes.{changes};
@@ -20,17 +19,17 @@ use crate::below::below;
 /// The fresh pages after an event that breaks no rule: an `init` adds its page, and a `null` takes its page out; any
 /// other event leaves those that have no node after it, and so all where it attaches nothing. The law is the contract.
 pub fn law_fresh_pages()
-    ensures init { (heading : Heading) (h : List Event) (fresh next_fresh : ℕ → Bool) (pe page : ℕ) → Proper heading →
+    ensures init { (heading : Heading) (h : List Event) (fresh next_fresh : ℕ → Bool) (pe page : ℕ) →
         keeps heading Patterns (Init pe page ∷ h) ≡ true → SameFresh heading h fresh →
         ((p : ℕ) → next_fresh p ≡ (p == page || fresh p)) → SameFresh heading (Init pe page ∷ h) next_fresh }
-    ensures null { (heading : Heading) (h : List Event) (fresh next_fresh : ℕ → Bool) (pe page : ℕ) → Proper heading →
+    ensures null { (heading : Heading) (h : List Event) (fresh next_fresh : ℕ → Bool) (pe page : ℕ) →
         keeps heading Patterns (Null pe page ∷ h) ≡ true → SameFresh heading h fresh →
         ((p : ℕ) → next_fresh p ≡ (fresh p && not (p == page))) → SameFresh heading (Null pe page ∷ h) next_fresh }
     ensures attached { (heading : Heading) (h : List Event) (fresh next_fresh : ℕ → Bool)
         (next_node : ℕ → Option Node) (e : Event) → (changes e).inits ≡ false → (changes e).nulls ≡ false →
         SameFresh heading h fresh → SameNodes heading (e ∷ h) next_node →
         ((p : ℕ) → next_fresh p ≡ (fresh p && is_none (next_node p))) → SameFresh heading (e ∷ h) next_fresh }
-    ensures others { (heading : Heading) (h : List Event) (fresh : ℕ → Bool) (e : Event) → Proper heading →
+    ensures others { (heading : Heading) (h : List Event) (fresh : ℕ → Bool) (e : Event) →
         keeps heading Patterns (e ∷ h) ≡ true → (changes e).inits ≡ false → (changes e).nulls ≡ false →
         attached_by heading Patterns (notes heading h) e ≡ None → SameFresh heading h fresh →
         SameFresh heading (e ∷ h) fresh }

@@ -4,7 +4,6 @@ use Rattle.bbm_replay_trees.proofs.below.below.Goals as goal
 pub returns : goal.returns
 returns c heading = record {
   events_noted = c.law_notes_keep_the_events.ensures heading Patterns;
-  unbroken = c.law_each_rule.ensures.sound heading Patterns;
   core_where_valid = c.law_core_where_valid.ensures;
   held_valid = c.law_held.ensures.valid heading Patterns;
   tree_sound = c.law_tree.ensures.sound heading Patterns;
@@ -25,5 +24,5 @@ returns c heading = record {
   node_unroot = c.law_node_step.ensures.unroot heading Patterns;
   node_dsb = c.law_node_step.ensures.dsb heading Patterns;
   unattached = c.law_node_step.ensures.unattached heading Patterns;
-  no_init = c.law_one_position.ensures.no_init heading Patterns;
+  fresh_others = c.law_fresh_step.ensures.others heading Patterns;
 }
