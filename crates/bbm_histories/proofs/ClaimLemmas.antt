@@ -1,7 +1,6 @@
 -- The step equations of cleansed, claim by claim.
-use Rattle.std.proofs.Common.{◌≡◌, ℕ, ◌&&◌, ◌||◌, Bool, true, false, ◌==◌, List, [], ◌∷◌, refl, sym, ◌∙◌, ap}
+use Rattle.std.proofs.Common.{◌≡◌, ℕ, ◌&&◌, ◌||◌, Bool, true, false, ◌==◌, List, ◌∷◌, refl, sym, ◌∙◌, ap}
 use Rattle.std.proofs.Math.Bool.{and-false, and_comm, or-false}
-use Rattle.bbm_tlbi_scope.specs.declared.entry.Cover.{Cover}
 use Rattle.bbm_tlbi_scope.specs.declared.entry.Cover.TheVariants.{Half, Second, Full}
 use Rattle.bbm_events.specs.Heading.{Heading}
 use Rattle.bbm_rules.specs.Prelude.{Barrier, Event, Dsb}
@@ -9,11 +8,11 @@ use Rattle.bbm_rules.specs.declared.claim.Claim.{Claim}
 use Rattle.bbm_rules.specs.declared.claim.Claim.TheVariants.{Place, Two, Taken}
 use Rattle.bbm_rules.specs.Claims.{same_claim}
 use Rattle.bbm_rules.specs.Claims.Trust.{Listed}
-use Rattle.bbm_rules.specs.Cleansing.{answers_one, cleansed, flushes, full_step, half_where, is_completed, publishes_write, same_cover, second_step, seen_where}
-use Rattle.bbm_rules.specs.Lists.{any, some}
+use Rattle.bbm_rules.specs.Cleansing.{answers_one, cleansed, flushes, full_step, half_where, publishes_write, same_cover, second_step, seen_where}
+use Rattle.bbm_rules.specs.Lists.{any}
 use Rattle.bbm_rules.specs.Notes.{Noted, event_of}
 use Rattle.bbm_rules.specs.Reach.{Issued, completes, reaches, unanswered}
-use Rattle.bbm_histories.specs.ClaimSteps.{cleansed_listed, cleansed_under, completes_claim, full_at, half_at, half_by, half_by_after, second_at, seen_by}
+use Rattle.bbm_histories.specs.ClaimSteps.{cleansed_listed, cleansed_under, completes_claim, full_at, half_at, half_by, half_by_after, second_at, seen_by, seen_by_after}
 use Rattle.bbm_histories.specs.Steps.{answered_by, waits}
 use Rattle.bbm_histories.proofs.Searches.{Search, apart_from, each_test, search_any, search_at, search_by, search_never, search_some, search_where}
 use Rattle.bbm_histories.proofs.StepLemmas.{answered_kinds, any_and, any_or, cleansed_under_step, same_test}
@@ -244,3 +243,15 @@ module _ (heading : Heading) (place p : ℕ) where
   pub listed_step : (cs : List Claim) (n : Noted) (since : List Noted)
       → cleansed heading (Listed cs) place p (n ∷ since) ≡ cleansed_listed heading place p cs n.position n.event since
   listed_step cs n since = cleansed_under_step heading place p (Listed cs) n since ∙ listed_then cs n.position n.event since
+
+  -- ---- what a DSB publishes
+
+  seen_then : (b d : ℕ) (e : Event) (since : List Noted)
+      → ((publishes_write heading place p e since && b == d) || seen_by heading place p b since)
+      ≡ seen_by_after heading place p b d e since
+  seen_then b d (Dsb q dsb) since = refl
+  seen_then b d e since = refl
+
+  pub seen_by_step : (b : ℕ) (n : Noted) (since : List Noted)
+      → seen_by heading place p b (n ∷ since) ≡ seen_by_after heading place p b n.position n.event since
+  seen_by_step b n since = seen_then b n.position n.event since

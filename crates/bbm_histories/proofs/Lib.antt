@@ -26,3 +26,4 @@ pub mod ClaimLemmas
 pub mod TagClaims
 pub mod ValueSteps
 pub mod FreshSteps
+pub mod PhaseLemmas

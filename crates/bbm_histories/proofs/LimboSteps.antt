@@ -1,5 +1,5 @@
 -- Whether a node is in limbo after an event.
-use Rattle.std.proofs.Common.{◌≡◌, ℕ, zero, suc, not, Bool, true, false, cond, ◌==◌, List, ◌∷◌, refl, ap}
+use Rattle.std.proofs.Common.{◌≡◌, not, Bool, true, false, cond, ◌==◌, List, ◌∷◌, refl}
 use Rattle.bbm_regimes.specs.declared.regime.Kind.{Kind}
 use Rattle.bbm_descriptor.specs.Descriptor.{is_valid}
 use Rattle.bbm_rules.specs.Prelude.{Event, Init, Write}

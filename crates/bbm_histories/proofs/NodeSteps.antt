@@ -11,10 +11,9 @@ use Rattle.bbm_rules.specs.Covers.{note}
 use Rattle.bbm_rules.specs.Held.{held}
 use Rattle.bbm_rules.specs.Lists.{every}
 use Rattle.bbm_rules.specs.Notes.{Noted}
-use Rattle.bbm_rules.specs.Places.{page_of}
 use Rattle.bbm_rules.specs.Tree.{Above, Node, node_of}
 use Rattle.bbm_histories.specs.Below.{Below}
-use Rattle.bbm_histories.specs.Tree.{Attaches, InTree, InTreeAfter, Linked, Proper, StillHeld}
+use Rattle.bbm_histories.specs.Tree.{Attaches, InTree, InTreeAfter, Proper, StillHeld}
 use Rattle.bbm_histories.specs.TreeSteps.{holds_above, is_under, node_where}
 use Rattle.bbm_histories.proofs.HeldSteps.{IsDsb}
 use Rattle.bbm_histories.proofs.Induction.{Unbroken}
@@ -135,7 +134,7 @@ pub unattached : (heading : Heading) (trust : Trust) (h : List Noted) (e : Event
     → (m : Node) → Attaches heading trust h e m → ⊥
 unattached heading trust h (Write pe at value) none m l =
     let some : attached_by heading trust h (Write pe at value)
-        ≡ Some (attached_from heading trust h l.parent.kind (suc l.parent.level) (l.next ∷ []))
+    ≡ Some (attached_from heading trust h l.parent.kind (suc l.parent.level) (l.next ∷ []))
     = rw (l.is_parent, l.empty, l.table) refl in
     let apart : None ≡ Some (attached_from heading trust h l.parent.kind (suc l.parent.level) (l.next ∷ [])) = sym none ∙ some in cc
 unattached heading trust h (Root pe kind lock page) none m l = cc

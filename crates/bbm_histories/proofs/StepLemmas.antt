@@ -7,7 +7,7 @@ use Rattle.bbm_regimes.specs.declared.regime.Kind.{Kind}
 use Rattle.bbm_regimes.specs.declared.regime.Tag.{Tag}
 use Rattle.bbm_descriptor.specs.Descriptor.{is_valid, same_bool}
 use Rattle.bbm_tlbi_scope.specs.Operations.{operation}
-use Rattle.bbm_tlbi_scope.specs.declared.entry.Cover.TheVariants.{Half, Second, Full}
+use Rattle.bbm_tlbi_scope.specs.declared.entry.Cover.TheVariants.{Half}
 use Rattle.bbm_events.specs.Heading.{Heading}
 use Rattle.bbm_rules.specs.Prelude.{Barrier, Event, Init, Write, Dsb, Tlbi}
 use Rattle.bbm_rules.specs.Claims.{Trust}
@@ -18,7 +18,7 @@ use Rattle.bbm_rules.specs.Lists.{any}
 use Rattle.bbm_rules.specs.Notes.{Noted, event_of, events_of}
 use Rattle.bbm_rules.specs.Places.{page_of}
 use Rattle.bbm_rules.specs.Reach.{Issued, completes, left_open, reaches, still_open, unanswered}
-use Rattle.bbm_rules.specs.Tags.{is_taken_by, itself, loses, read_since, reads_for_some, takes_tag}
+use Rattle.bbm_rules.specs.Tags.{itself, loses, read_since, reads_for_some, takes_tag}
 use Rattle.bbm_rules.specs.Values.{publishes_to, value_of}
 use Rattle.bbm_histories.specs.Below.{Below}
 use Rattle.bbm_histories.specs.ClaimSteps.{cleansed_under}
@@ -32,7 +32,7 @@ same_test f g [] same = refl
 same_test f g (x ∷ xs) same =
     ap (λ (b : Bool). b || any f xs) (same x) ∙ ap (λ (b : Bool). g x || b) (same_test f g xs same)
 
-any_filter : {A : Type 0} (f r : A → Bool) (xs : List A) → any f (filter r xs) ≡ any (λ x. r x && f x) xs
+pub any_filter : {A : Type 0} (f r : A → Bool) (xs : List A) → any f (filter r xs) ≡ any (λ x. r x && f x) xs
 any_filter f r [] = refl
 any_filter f r (x ∷ xs) = by (r x) (any_filter f r xs)
   where

@@ -1,14 +1,16 @@
 -- The root of a page, and the readable values of a place, after an event.
 use Rattle.std.specs.Option.{option_map_or}
 use Rattle.std.proofs.Common.{◌≡◌, ℕ, ◌&&◌, ◌||◌, not, Bool, true, false, cond, ◌==◌, List, [], ◌∷◌, Option, Some, None, find, map, refl, sym, ◌∙◌, ap, true≢false}
-use Rattle.std.proofs.Math.Bool.{and-false, and-true}
+use Rattle.std.proofs.Math.Bool.{and-false, and-true, or-false}
 use Rattle.std.proofs.lemmas.Bool.{eq-eqb, eqb-true}
 use Rattle.bbm_events.specs.Heading.{Heading}
-use Rattle.bbm_rules.specs.Prelude.{Barrier, Event, Init, Root, Unroot, Write, Dsb}
+use Rattle.bbm_rules.specs.Prelude.{Barrier, Kind, Event, Init, Root, Unroot, Write, Dsb}
+use Rattle.bbm_rules.specs.Lists.{any}
 use Rattle.bbm_rules.specs.Places.{page_of}
-use Rattle.bbm_rules.specs.Roots.{Declared, is_at, retired, root_at, roots_of}
+use Rattle.bbm_rules.specs.Roots.{Declared, is_at, is_root, retired, root_at, roots_of, same_kind}
 use Rattle.bbm_rules.specs.Values.{published, publishes_to, readable_before}
-use Rattle.bbm_histories.specs.ValueSteps.{Written, first_zero, is_by, readable_after, readable_writes, root_after, up_to}
+use Rattle.bbm_histories.specs.ValueSteps.{Written, first_zero, is_by, is_root_after, readable_writes, root_after, up_to}
+use Rattle.bbm_histories.proofs.StepLemmas.{any_filter, any_never, same_test}
 
 -- ---- roots
 
@@ -48,6 +50,45 @@ root_step (Root pe kind lock at) h page =
     by false k = find_retired page at (roots_of h) ∙ ap (λ (x : Bool). cond x None (root_at h page)) k
 root_step (Unroot pe at) h page = find_retired page at (roots_of h)
 root_step e h page = refl
+
+module _ (kind : Kind) (page : ℕ) where
+  abbrev is_one : Declared → Bool
+  is_one r = is_at page r && same_kind r.kind kind
+
+  any_retired : (at : ℕ) (rs : List Declared) → any is_one (retired at rs) ≡ cond (at == page) false (any is_one rs)
+  any_retired at rs =
+      any_filter is_one (λ (r : Declared). not (is_at at r)) rs ∙ by (at == page) refl
+    where
+      by : (c : Bool) → (at == page) ≡ c → any (λ (r : Declared). not (is_at at r) && is_one r) rs ≡ cond c false (any is_one rs)
+      by true k = same_test (λ (r : Declared). not (is_at at r) && is_one r) (λ r. false) rs
+          (λ r. go r (r.page == at) (r.page == page) refl refl) ∙ any_never rs
+        where
+          go : (r : Declared) (a b : Bool) → (r.page == at) ≡ a → (r.page == page) ≡ b → (not a && (b && same_kind r.kind kind)) ≡ false
+          go r true b l m = refl
+          go r false false l m = refl
+          go r false true l m =
+              absurd (true≢false (sym (eq-eqb r.page at (eqb-true r.page page m ∙ sym (eqb-true at page k))) ∙ l))
+      by false k = same_test (λ (r : Declared). not (is_at at r) && is_one r) is_one rs
+          (λ r. go r (r.page == at) (r.page == page) refl refl)
+        where
+          go : (r : Declared) (a b : Bool) → (r.page == at) ≡ a → (r.page == page) ≡ b
+              → (not a && (b && same_kind r.kind kind)) ≡ (b && same_kind r.kind kind)
+          go r false b l m = refl
+          go r true false l m = refl
+          go r true true l m =
+              absurd (true≢false (sym (eq-eqb at page (sym (eqb-true r.page at l) ∙ eqb-true r.page page m)) ∙ k))
+
+  pub is_root_step : (e : Event) (h : List Event) → is_root (e ∷ h) kind page ≡ is_root_after kind page e (is_root h kind page)
+  is_root_step (Root pe other lock at) h = by (at == page) refl
+    where
+      by : (c : Bool) → (at == page) ≡ c → ((c && same_kind other kind) || any is_one (retired at (roots_of h)))
+          ≡ cond c (same_kind other kind) (is_root h kind page)
+      by true k =
+          ap (λ (b : Bool). same_kind other kind || b)
+          (any_retired at (roots_of h) ∙ ap (λ (b : Bool). cond b false (is_root h kind page)) k) ∙ or-false (same_kind other kind)
+      by false k = any_retired at (roots_of h) ∙ ap (λ (b : Bool). cond b false (is_root h kind page)) k
+  is_root_step (Unroot pe at) h = any_retired at (roots_of h)
+  is_root_step e h = refl
 
 -- ---- readable values
 

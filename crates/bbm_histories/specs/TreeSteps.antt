@@ -1,5 +1,5 @@
--- Step equations of the trees: whether a table is childless, whether a node is in limbo, and the node of a page after an
--- event, by what was so before it at the same places. Source: project's own choice.
+-- Step equations of the trees: whether a table is childless, whether a node is in limbo, and the node of a page after
+-- an event, by what was so before it at the same places. Source: project's own choice.
 use Rattle.std.specs.Prelude.{◌≡◌, ℕ, Bool, true, false, not, ◌&&◌, ◌==◌, List, ◌∷◌, Option, Some, None, is_some}
 use Rattle.std.specs.Prelude.{if◌then◌else◌}
 use Rattle.bbm_descriptor.specs.Descriptor.{is_valid}

@@ -1,10 +1,10 @@
--- Step equations of the root of a page and of the readable values of a place: what they are after an event, by the event
--- and by what they were before. Source: project's own choice.
+-- Step equations of the root of a page and of the readable values of a place: what they are after an event, by the
+-- event and by what they were before. Source: project's own choice.
 use Rattle.std.specs.Option.{option_map_or}
 use Rattle.std.specs.Prelude.{ℕ, Bool, false, ◌==◌, List, [], ◌∷◌, Option, Some, None, if◌then◌else◌}
-use Rattle.bbm_rules.specs.Prelude.{Heading, Event, Init, Root, Unroot, Write, Dsb}
+use Rattle.bbm_rules.specs.Prelude.{Kind, Heading, Event, Init, Root, Unroot, Write, Dsb}
 use Rattle.bbm_rules.specs.Places.{page_of}
-use Rattle.bbm_rules.specs.Roots.{Declared}
+use Rattle.bbm_rules.specs.Roots.{Declared, same_kind}
 use Rattle.bbm_rules.specs.Values.{publishes_to}
 
 -- the root of a page after an event
@@ -13,6 +13,12 @@ root_after page (Root pe kind lock at) before =
     if at == page then Some (record { page = at; kind = kind; lock = lock }) else before
 root_after page (Unroot pe at) before = if at == page then None else before
 root_after page _ before = before
+
+-- whether the page is the first page of a root of the kind, after an event
+abbrev pub is_root_after : Kind → ℕ → Event → Bool → Bool
+is_root_after kind page (Root pe other lock at) before = if at == page then same_kind other kind else before
+is_root_after kind page (Unroot pe at) before = if at == page then false else before
+is_root_after kind page _ before = before
 
 -- a value that is still readable, and the PE that wrote it; None wrote the zero of the start and of an init
 pub record Written : Type 0 where

@@ -33,8 +33,8 @@ pub fn law_claim_steps()
 {}
 
 /// Under a list of claims a DSB takes a tag away where it completes a claim of the list that ends at its position, and
-/// the tag isn't readable then. For that it is enough to know whether the TLBI at the position that a claim names waits,
-/// and that has a step equation too. The call does nothing; the law is its contract.
+/// the tag isn't readable then. For that it is enough to know whether the TLBI at the position that a claim names
+/// waits, and that has a step equation too. The call does nothing; the law is its contract.
 pub fn law_tag_claim_steps()
     ensures waits { (heading : Heading) (p : ℕ) (tag : Tag) (t q : ℕ) (b : Bool) (e : Event) (h : List Event) →
         tag_waits_at heading p tag t q b (e ∷ h)

@@ -1,28 +1,31 @@
 //! Step equations of roots, fresh pages and readable values.
 
 ghost use Rattle.std.specs.Prelude.{◌≡◌, ℕ, false, true, List, [], ◌∷◌, map};
+ghost use Rattle.bbm_regimes.specs.declared.regime.Kind.{Kind};
 ghost use Rattle.bbm_events.specs.Heading.{Heading};
 ghost use Rattle.bbm_events.specs.declared.event.Event.{Event};
 ghost use Rattle.bbm_rules.specs.Broken.{keeps};
 ghost use Rattle.bbm_rules.specs.Claims.{Trust};
 ghost use Rattle.bbm_rules.specs.Covers.{noted};
 ghost use Rattle.bbm_rules.specs.Pages.{is_fresh, may_be_fresh};
-ghost use Rattle.bbm_rules.specs.Roots.{root_at};
+ghost use Rattle.bbm_rules.specs.Roots.{is_root, root_at};
 ghost use Rattle.bbm_rules.specs.Tree.{Node};
 ghost use Rattle.bbm_rules.specs.Values.{readable_before};
 ghost use Rattle.bbm_histories.specs.Tree.{Attaches, Proper};
-ghost use Rattle.bbm_histories.specs.ValueSteps.{Written, readable_writes, root_after};
+ghost use Rattle.bbm_histories.specs.ValueSteps.{Written, is_root_after, readable_writes, root_after};
 
 use crate::below::below;
 
-/// The root of a page after an event, in every history: a `root` of the page is it, an `unroot` of the page takes it
-/// away, and any other event leaves it. The call does nothing; the law is its contract.
+/// The root of a page after an event, and whether it is one of a kind, in every history: a `root` of the page is it, an
+/// `unroot` of the page takes it away, and any other event leaves it. The call does nothing; the law is its contract.
 pub fn law_root_step()
-    ensures { (e : Event) (h : List Event) (page : ℕ) → root_at (e ∷ h) page ≡ root_after page e (root_at h page) }
+    ensures root { (e : Event) (h : List Event) (page : ℕ) → root_at (e ∷ h) page ≡ root_after page e (root_at h page) }
+    ensures of_kind { (e : Event) (h : List Event) (kind : Kind) (page : ℕ) →
+        is_root (e ∷ h) kind page ≡ is_root_after kind page e (is_root h kind page) }
 {}
 
-/// Which pages are fresh after an event that breaks no rule: a page in which it attaches a node isn't; of any other page
-/// an init makes it so, a `null` ends it, and other events leave it. The law is the contract.
+/// Which pages are fresh after an event that breaks no rule: a page in which it attaches a node isn't; of any other
+/// page an init makes it so, a `null` ends it, and other events leave it. The law is the contract.
 pub fn law_fresh_step()
     ensures attached { (heading : Heading) (trust : Trust) (h : List Event) (e : Event) → Proper heading →
         keeps heading trust (e ∷ h) ≡ true → (m : Node) → Attaches heading trust (noted heading trust h) e m →

@@ -39,8 +39,11 @@ module _ (heading : Heading) (trust : Trust) (h : List Noted) (kind : Kind) wher
     where
       by : (c : Bool) → is_fresh heading trust h start ≡ c
           → (is_fresh heading trust h start ≡ true) × P (flat_map (by_place left level) (places_in (events_of h) start))
-      by true f = (f, subst P (below_fresh heading trust h kind left level start f
-          ∙ flat_via (next_at level) (ends_from heading trust h kind left (suc level)) (places_in (events_of h) start)) k)
+      by true f = (
+        f,
+        subst P (below_fresh heading trust h kind left level start f
+            ∙ flat_via (next_at level) (ends_from heading trust h kind left (suc level)) (places_in (events_of h) start)) k,
+      )
       by false f =
           let empty : below (suc left) level start ≡ [] = rw (f, ends_below) refl in
           absurd (none (subst P empty k))

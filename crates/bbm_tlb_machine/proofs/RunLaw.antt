@@ -9,7 +9,8 @@ use Rattle.bbm_rules.specs.Tags.{itself}
 use Rattle.bbm_tlb_machine.specs.declared.step.Step.{Step}
 use Rattle.bbm_tlb_machine.specs.declared.step.Step.TheVariants.{Machine, Event as Taken}
 use Rattle.bbm_tlb_machine.specs.Entry.{Entry}
-use Rattle.bbm_tlb_machine.specs.Run.{IsRun, Leads, LeavesNone, Living, State, StopsAt, entry_at, next_in, follow_steps, leaves_some, or_index, step_to, with_entry, without}
+use Rattle.bbm_tlb_machine.specs.Run.{IsRun, Leads, LeavesNone, Living, State, entry_at, next_in, follow_steps, leaves_some, or_index, step_to, with_entry, without}
+use Rattle.bbm_tlb_machine.specs.First.{IsFirstBad}
 use Rattle.bbm_tlb_machine.specs.Step.{Extends, Starts, combined, extended, is_stage2, may_extend, may_share, may_start, must_go, shared}
 use Rattle.bbm_tlb_machine.proofs.ListWords.{bind_some, if_so_some, is_none, none_in, some_if_so}
 
@@ -125,7 +126,7 @@ module _ (heading : Heading) where
   or_err (Some s) i j k = cc
 
   stops_here : (step : Step) (steps : List Step) (s : State) (j : ℕ) → follow_steps heading steps ≡ Ok s
-      → or_index (step_to heading s step) (length steps) ≡ Err j → StopsAt heading (step ∷ steps) j
+      → or_index (step_to heading s step) (length steps) ≡ Err j → IsFirstBad heading (step ∷ steps) j
   stops_here step steps s j r k =
       let e = or_err (step_to heading s step) (length steps) j k in
       record {
@@ -142,7 +143,7 @@ module _ (heading : Heading) where
       absurd_some : (o : Option State) (next : State) → o ≡ None → o ≡ Some next → ⊥
       absurd_some o next e k = cc
 
-  stops_later : (step : Step) (steps : List Step) (j : ℕ) → StopsAt heading steps j → StopsAt heading (step ∷ steps) j
+  stops_later : (step : Step) (steps : List Step) (j : ℕ) → IsFirstBad heading steps j → IsFirstBad heading (step ∷ steps) j
   stops_later step steps j s = record {
     newer = step ∷ s.newer;
     step = s.step;
@@ -155,13 +156,13 @@ module _ (heading : Heading) where
   }
 
   stops_after : (step : Step) (steps : List Step) (j : ℕ) (r : Result State ℕ) → follow_steps heading steps ≡ r
-      → (follow_steps heading steps ≡ Err j → StopsAt heading steps j)
-      → next_in heading r step (length steps) ≡ Err j → StopsAt heading (step ∷ steps) j
+      → (follow_steps heading steps ≡ Err j → IsFirstBad heading steps j)
+      → next_in heading r step (length steps) ≡ Err j → IsFirstBad heading (step ∷ steps) j
   stops_after step steps j (Ok s) e rest k = stops_here step steps s j e k
   stops_after step steps j (Err i) e rest k =
       let same : follow_steps heading steps ≡ Err j = cc in stops_later step steps j (rest same)
 
-  stop_sound : (steps : List Step) (j : ℕ) → follow_steps heading steps ≡ Err j → StopsAt heading steps j
+  stop_sound : (steps : List Step) (j : ℕ) → follow_steps heading steps ≡ Err j → IsFirstBad heading steps j
   stop_sound [] j k = cc
   stop_sound (step ∷ steps) j k = stops_after step steps j (follow_steps heading steps) refl (stop_sound steps j) k
 
@@ -177,7 +178,7 @@ module _ (heading : Heading) where
   stop_at (x ∷ newer) step older s r k =
       ap (λ (r : Result State ℕ). next_in heading r x (length (newer ++ step ∷ older))) (stop_at newer step older s r k)
 
-  stop_complete : (steps : List Step) (j : ℕ) → StopsAt heading steps j → follow_steps heading steps ≡ Err j
+  stop_complete : (steps : List Step) (j : ℕ) → IsFirstBad heading steps j → follow_steps heading steps ≡ Err j
   stop_complete steps j s =
       ap (follow_steps heading) s.split
       ∙ stop_at s.newer s.step s.older s.before (run_complete s.older s.before s.run)
@@ -191,7 +192,7 @@ leads_law heading s step next = (complete heading s step next, sound heading s s
 pub run_law : (heading : Heading) (steps : List Step) (s : State) → IsRun heading steps s ↔ (follow_steps heading steps ≡ Ok s)
 run_law heading steps s = (run_complete heading steps s, run_sound heading steps s)
 
-pub stop_law : (heading : Heading) (steps : List Step) (i : ℕ) → StopsAt heading steps i ↔ (follow_steps heading steps ≡ Err i)
+pub stop_law : (heading : Heading) (steps : List Step) (i : ℕ) → IsFirstBad heading steps i ↔ (follow_steps heading steps ≡ Err i)
 stop_law heading steps i = (stop_complete heading steps i, stop_sound heading steps i)
 
 pub ruleset laws = (leads_law, run_law, stop_law)

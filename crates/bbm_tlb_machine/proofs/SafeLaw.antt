@@ -11,7 +11,8 @@ use Rattle.bbm_tlb_machine.specs.declared.step.Step.{Step}
 use Rattle.bbm_tlb_machine.specs.declared.step.Step.TheVariants.{Machine, Event as Taken}
 use Rattle.bbm_tlb_machine.specs.Entry.{Entry, Part, parts_of, tag_of_entry}
 use Rattle.bbm_tlb_machine.specs.Run.{IsRun, Living, State, follow_steps}
-use Rattle.bbm_tlb_machine.specs.Safe.{ComesTo, ConflictsAt, Safe, conflicts_with, earlier, fails_at, first_conflict, has_other_root, in_conflict, is_stale}
+use Rattle.bbm_tlb_machine.specs.Safe.{ComesTo, Safe, conflicts_with, earlier, fails_at, first_conflict, has_other_root, in_conflict, is_stale}
+use Rattle.bbm_tlb_machine.specs.First.{IsFirstConflict}
 use Rattle.bbm_tlb_machine.proofs.ListWords.{any_none, is_none, none_in}
 use Rattle.bbm_tlb_machine.proofs.RunLaw.{run_complete, run_sound}
 
@@ -146,7 +147,7 @@ module _ (heading : Heading) where
 
   conflicts_here : (steps : List Step) (step : Step) (i : ℕ) → first_conflict heading steps ≡ None
       → (b : Bool) → fails_at heading (follow_steps heading steps) step ≡ b → if_so b (length steps) ≡ Some i
-      → ConflictsAt heading (step ∷ steps) i
+      → IsFirstConflict heading (step ∷ steps) i
   conflicts_here steps step i none true f k =
       let r = failed steps step (follow_steps heading steps) refl f in
       record {
@@ -162,7 +163,7 @@ module _ (heading : Heading) where
       }
   conflicts_here steps step i none false f k = cc
 
-  conflicts_later : (step : Step) (steps : List Step) (i : ℕ) → ConflictsAt heading steps i → ConflictsAt heading (step ∷ steps) i
+  conflicts_later : (step : Step) (steps : List Step) (i : ℕ) → IsFirstConflict heading steps i → IsFirstConflict heading (step ∷ steps) i
   conflicts_later step steps i c = record {
     newer = step ∷ c.newer;
     event = c.event;
@@ -176,14 +177,14 @@ module _ (heading : Heading) where
   }
 
   found_after : (steps : List Step) (step : Step) (i : ℕ) (o : Option ℕ) → first_conflict heading steps ≡ o
-      → (first_conflict heading steps ≡ Some i → ConflictsAt heading steps i)
+      → (first_conflict heading steps ≡ Some i → IsFirstConflict heading steps i)
       → earlier o (if_so (fails_at heading (follow_steps heading steps) step) (length steps)) ≡ Some i
-      → ConflictsAt heading (step ∷ steps) i
+      → IsFirstConflict heading (step ∷ steps) i
   found_after steps step i None e rest k =
       conflicts_here steps step i e (fails_at heading (follow_steps heading steps) step) refl k
   found_after steps step i (Some j) e rest k = conflicts_later step steps i (rest (e ∙ k))
 
-  found_sound : (steps : List Step) (i : ℕ) → first_conflict heading steps ≡ Some i → ConflictsAt heading steps i
+  found_sound : (steps : List Step) (i : ℕ) → first_conflict heading steps ≡ Some i → IsFirstConflict heading steps i
   found_sound [] i k = cc
   found_sound (step ∷ steps) i k = found_after steps step i (first_conflict heading steps) refl (found_sound steps i) k
 
@@ -197,7 +198,7 @@ module _ (heading : Heading) where
       ap (λ (o : Option ℕ). earlier o (if_so (fails_at heading (follow_steps heading (newer ++ Taken e ∷ older)) x) (length (newer ++ Taken e ∷ older))))
       (found_at newer e older s run k none)
 
-  found_complete : (steps : List Step) (i : ℕ) → ConflictsAt heading steps i → first_conflict heading steps ≡ Some i
+  found_complete : (steps : List Step) (i : ℕ) → IsFirstConflict heading steps i → first_conflict heading steps ≡ Some i
   found_complete steps i c =
       ap (first_conflict heading) c.split ∙ found_at c.newer c.event c.older c.before c.run c.conflict c.first ∙ ap Some c.index
 
@@ -220,7 +221,7 @@ pub none_law : (heading : Heading) (steps : List Step) → first_conflict headin
     → steps ≡ newer ++ Taken e ∷ older → IsRun heading older s → in_conflict heading s e ≡ false
 none_law heading steps = none_sound heading steps
 
-pub found_law : (heading : Heading) (steps : List Step) (i : ℕ) → ConflictsAt heading steps i ↔ (first_conflict heading steps ≡ Some i)
+pub found_law : (heading : Heading) (steps : List Step) (i : ℕ) → IsFirstConflict heading steps i ↔ (first_conflict heading steps ≡ Some i)
 found_law heading steps i = (found_complete heading steps i, found_sound heading steps i)
 
 pub ruleset laws = (safe_law, none_law, found_law)

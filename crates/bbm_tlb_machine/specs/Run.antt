@@ -1,6 +1,6 @@
 -- Runs of the machine: the events of a log in their order, and between them what the TLBs do. Lists are newest first.
 -- Source: project's own choice.
-use Rattle.std.specs.Prelude.{◌≡◌, ℕ, suc, Bool, true, false, ◌&&◌, not, ◌==◌, List, [], ◌∷◌, ◌++◌, length, Option}
+use Rattle.std.specs.Prelude.{◌≡◌, ℕ, suc, Bool, true, false, ◌&&◌, not, ◌==◌, List, [], ◌∷◌, length, Option}
 use Rattle.std.specs.Prelude.{Some, None, Result, Ok, Err, filter, find, option_map, Contains}
 use Rattle.bbm_events.specs.declared.machine.MachineLine.TheVariants.{Start, Extend, Combine, Share, Drop}
 use Rattle.bbm_rules.specs.Lists.{◌>>=◌, any, if_so}
@@ -74,18 +74,6 @@ module _ (heading : Heading) where
   abbrev pub IsRun : List Step → State → Type 0
   IsRun [] s = s ≡ at_start
   IsRun (step ∷ steps) s = (before : State) × IsRun steps before × Leads before step s
-
-  -- The step with this index, counted from 0, is the first that is none: the older ones are a run, and it leads nowhere
-  -- from there.
-  pub record StopsAt (steps : List Step) (i : ℕ) : Type 0 where
-    pub newer : List Step
-    pub step : Step
-    pub older : List Step
-    pub before : State
-    pub split : steps ≡ newer ++ step ∷ older
-    pub index : length older ≡ i
-    pub run : IsRun older before
-    pub none : (next : State) → Leads before step next → ⊥
 
   -- The same, computed. `law_run` says so.
 

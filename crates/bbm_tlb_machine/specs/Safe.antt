@@ -76,16 +76,3 @@ abbrev pub first_conflict : Heading → List Step → Option ℕ
 first_conflict heading [] = None
 first_conflict heading (step ∷ steps) =
     earlier (first_conflict heading steps) (if_so (fails_at heading (follow_steps heading steps) step) (length steps))
-
--- The step with this index is the first event at which a clause fails: the older steps are a run, the event conflicts
--- after them, and at no earlier one a clause fails.
-pub record ConflictsAt (heading : Heading) (steps : List Step) (i : ℕ) : Type 0 where
-  pub newer : List Step
-  pub event : Event
-  pub older : List Step
-  pub before : State
-  pub split : steps ≡ newer ++ Taken event ∷ older
-  pub index : length older ≡ i
-  pub run : IsRun heading older before
-  pub conflict : in_conflict heading before event ≡ true
-  pub first : first_conflict heading older ≡ None

@@ -5,8 +5,9 @@ ghost use Rattle.bbm_events.specs.Heading.{Heading};
 ghost use Rattle.bbm_events.specs.declared.event.Event.{Event};
 ghost use Rattle.bbm_tlb_machine.specs.declared.step.Step.{Step};
 ghost use Rattle.bbm_tlb_machine.specs.declared.step.Step.TheVariants.{Event as Taken};
-ghost use Rattle.bbm_tlb_machine.specs.Safe.{ComesTo, ConflictsAt, Safe, first_conflict, in_conflict};
-ghost use Rattle.bbm_tlb_machine.specs.Run.{IsRun, Leads, State, StopsAt, follow_steps, step_to};
+ghost use Rattle.bbm_tlb_machine.specs.First.{IsFirstConflict, IsFirstBad};
+ghost use Rattle.bbm_tlb_machine.specs.Safe.{ComesTo, Safe, first_conflict, in_conflict};
+ghost use Rattle.bbm_tlb_machine.specs.Run.{IsRun, Leads, State, follow_steps, step_to};
 
 /// A list of steps is a run to a state exactly where following it comes to that state, one step after the
 /// other; and following it stops exactly at the first step that leads nowhere. The call does nothing; the law
@@ -18,7 +19,7 @@ pub fn law_run()
     ensures run { (heading : Heading) (steps : List Step) (s : State) →
         IsRun heading steps s ↔ (follow_steps heading steps ≡ Ok s) }
     ensures stop { (heading : Heading) (steps : List Step) (i : ℕ) →
-        StopsAt heading steps i ↔ (follow_steps heading steps ≡ Err i) }
+        IsFirstBad heading steps i ↔ (follow_steps heading steps ≡ Err i) }
 {}
 
 /// A log is safe exactly where in no run over it the test for a conflict finds one at the next event. A step is the first
@@ -31,5 +32,5 @@ pub fn law_conflict()
         (newer : List Step) (e : Event) (older : List Step) (s : State) →
         steps ≡ newer ++ Taken e ∷ older → IsRun heading older s → in_conflict heading s e ≡ false }
     ensures first { (heading : Heading) (steps : List Step) (i : ℕ) →
-        ConflictsAt heading steps i ↔ (first_conflict heading steps ≡ Some i) }
+        IsFirstConflict heading steps i ↔ (first_conflict heading steps ≡ Some i) }
 {}

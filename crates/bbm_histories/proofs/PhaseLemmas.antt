@@ -1,0 +1,62 @@
+-- The phase of a place by its node, what it holds, its value, and what is cleansed, half and seen.
+use Rattle.std.proofs.Common.{◌≡◌, ℕ, Bool, true, false, cond, List, Option, Some, None, option_and_then, unwrap_or, refl, sym, ◌∙◌, ap}
+use Rattle.bbm_descriptor.specs.Descriptor.{is_valid}
+use Rattle.bbm_events.specs.Heading.{Heading}
+use Rattle.bbm_rules.specs.Prelude.{Event}
+use Rattle.bbm_rules.specs.declared.phase.Phase.{Phase}
+use Rattle.bbm_rules.specs.declared.phase.Phase.TheVariants.{Clean, Live}
+use Rattle.bbm_rules.specs.Claims.{Trust}
+use Rattle.bbm_rules.specs.Covers.{noted}
+use Rattle.bbm_rules.specs.Held.{ValidWrite, cleansed_everywhere, last_valid}
+use Rattle.bbm_rules.specs.Phases.{broken_phase, phase_of}
+use Rattle.bbm_rules.specs.Places.{page_of}
+use Rattle.bbm_rules.specs.Tree.{Node, held_at, node_of}
+use Rattle.bbm_rules.specs.Values.{value_of}
+
+module _ (heading : Heading) (trust : Trust) (h : List Event) (place p : ℕ) where
+  -- by the last valid write
+  abbrev of_write : Node → ValidWrite → Option Phase
+  of_write n w = cond (cleansed_everywhere heading trust place w.since) None
+      (Some (cond (is_valid n.kind n.level (value_of h place)) Live (broken_phase heading trust place p w.since)))
+
+  abbrev of_last : Node → Option ValidWrite → Phase
+  of_last n o = unwrap_or (option_and_then (of_write n) o) Clean
+
+  phase_at : (o : Option Node) → node_of heading trust (noted heading trust h) (page_of place) ≡ o → phase_of heading trust h place p
+      ≡ unwrap_or (option_and_then (λ n. option_and_then (of_write n) (last_valid n.kind n.level place (noted heading trust h))) o) Clean
+  unfolding phase_of
+  phase_at o k =
+      ap (λ (x : Option Node). unwrap_or (option_and_then (λ n. option_and_then (of_write n) (last_valid n.kind n.level place (noted heading trust h))) x) Clean) k
+
+  pub outside : node_of heading trust (noted heading trust h) (page_of place) ≡ None → phase_of heading trust h place p ≡ Clean
+  outside k = phase_at None k
+
+  pub empty : (n : Node) → node_of heading trust (noted heading trust h) (page_of place) ≡ Some n
+      → held_at heading trust (noted heading trust h) n place ≡ None → phase_of heading trust h place p ≡ Clean
+  empty n k none = phase_at (Some n) k ∙ by (last_valid n.kind n.level place (noted heading trust h)) none
+    where
+      go : (w : ValidWrite) (c : Bool) → cond c None (Some w.value) ≡ None
+          → unwrap_or (cond c None (Some (cond (is_valid n.kind n.level (value_of h place)) Live (broken_phase heading trust place p w.since)))) Clean ≡ Clean
+      go w true e = refl
+      go w false e = cc
+
+      by : (o : Option ValidWrite)
+          → option_and_then (λ w. cond (cleansed_everywhere heading trust place w.since) None (Some w.value)) o ≡ None
+          → of_last n o ≡ Clean
+      by None e = refl
+      by (Some w) e = go w (cleansed_everywhere heading trust place w.since) e
+
+  pub holding : (value : ℕ) (n : Node) (w : ValidWrite) → node_of heading trust (noted heading trust h) (page_of place) ≡ Some n
+      → held_at heading trust (noted heading trust h) n place ≡ Some value
+      → last_valid n.kind n.level place (noted heading trust h) ≡ Some w → phase_of heading trust h place p
+      ≡ cond (is_valid n.kind n.level (value_of h place)) Live (broken_phase heading trust place p w.since)
+  holding value n w k some last =
+      phase_at (Some n) k ∙ (ap (of_last n) last
+      ∙ go (cleansed_everywhere heading trust place w.since)
+      (sym (ap (option_and_then (λ (x : ValidWrite). cond (cleansed_everywhere heading trust place x.since) None (Some x.value))) last) ∙ some))
+    where
+      go : (c : Bool) → cond c None (Some w.value) ≡ Some value
+          → unwrap_or (cond c None (Some (cond (is_valid n.kind n.level (value_of h place)) Live (broken_phase heading trust place p w.since)))) Clean
+          ≡ cond (is_valid n.kind n.level (value_of h place)) Live (broken_phase heading trust place p w.since)
+      go true e = cc
+      go false e = refl

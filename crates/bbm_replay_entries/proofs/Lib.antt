@@ -1,0 +1,4 @@
+pub mod Since
+pub mod Marks
+pub mod Places
+pub mod Phases

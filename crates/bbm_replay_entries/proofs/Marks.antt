@@ -1,0 +1,396 @@
+-- What one more event does to the masks and the pendings of a broken place.
+use Rattle.std.proofs.Common.{◌≡◌, ℕ, ◌<◌, Bool, true, false, cond, not, ◌&&◌, ◌||◌, ◌==◌, nat_eq, List, ◌∷◌, is_some, refl, sym, ◌∙◌, ap, inl, inr, true≢false}
+use Rattle.std.proofs.Math.Bool.{and-false, and-true, and_assoc, or-false, or-true}
+use Rattle.std.proofs.lemmas.Bool.{and_parts, eq-eqb, eqb-true, or_cases}
+use Rattle.bbm_barriers.specs.Options.{answers, publishes}
+use Rattle.bbm_barriers.specs.declared.Dsb.{Dsb as Barrier}
+use Rattle.bbm_descriptor.specs.Descriptor.{same_bool}
+use Rattle.bbm_regimes.specs.PeMask.{pe_in}
+use Rattle.bbm_regimes.specs.declared.pe.PeMask.{PeMask}
+use Rattle.bbm_tlbi_scope.specs.Operations.{operation}
+use Rattle.bbm_tlbi_scope.specs.declared.entry.Cover.{Cover}
+use Rattle.bbm_tlbi_scope.specs.declared.entry.Cover.TheVariants.{None as NoCover, Half, Second, Full}
+use Rattle.bbm_tlbi_scope.specs.declared.op.TlbiOp.{TlbiOp}
+use Rattle.bbm_entry_state.specs.Answered.{answered_at}
+use Rattle.bbm_entry_state.specs.Calls.{Completed, Noted as Issues, clean_after, counts_at}
+use Rattle.bbm_entry_state.specs.Covers.{same_cover as same_grade}
+use Rattle.bbm_entry_state.specs.Marking.{counts_for}
+use Rattle.bbm_entry_state.specs.Points.{clean_at, core_in, half_at, is_broken, seen_at, waits as waits_at, writer_at}
+use Rattle.bbm_entry_state.specs.Standing.{IsIdle}
+use Rattle.bbm_entry_state.specs.declared.marks.Marks.{Marks}
+use Rattle.bbm_entry_state.specs.declared.pending.Pends.{Pends}
+use Rattle.bbm_entry_state.specs.declared.state.EntryState.{EntryState}
+use Rattle.bbm_entry_state.specs.declared.state.EntryState.TheVariants.{Clean, Live, Broken}
+use Rattle.bbm_events.specs.Heading.{Heading}
+use Rattle.bbm_events.specs.declared.event.Event.{Event}
+use Rattle.bbm_events.specs.declared.event.Event.TheVariants.{Dsb, Tlbi}
+use Rattle.bbm_rules.specs.Claims.Trust.{Patterns}
+use Rattle.bbm_rules.specs.Cleansing.{cleansed, flushes, half, same_cover, seen, writes}
+use Rattle.bbm_rules.specs.Notes.{Noted, event_of}
+use Rattle.bbm_rules.specs.Reach.{reaches}
+use Rattle.bbm_rules.specs.Values.{is_non, publishes_to}
+use Rattle.bbm_histories.specs.Steps.{answered_by, cleansed_after, full_waits, half_after, half_waits, second_waits, seen_after, waits_after, wrote}
+use Rattle.bbm_replay_entries.specs.Events.{Heard, OthersStay, OthersWait}
+use Rattle.bbm_replay_entries.specs.Known.{Known}
+use Rattle.bbm_replay_entries.specs.Marked.{Marked, cover_waits}
+use Rattle.bbm_replay_entries.proofs.Since.{Untouched, answered_seen, counted, counts, cover_counted, seen_on, untouched}
+
+-- ---- the points of a state that isn't broken
+
+pub record Blank (state : EntryState) : Type 0 where
+  pub writers : (p : ℕ) → writer_at state p ≡ false
+  pub seen : (p : ℕ) → seen_at state p ≡ false
+  pub half : (p : ℕ) → half_at state p ≡ false
+  pub clean : (p : ℕ) → clean_at state p ≡ false
+
+pub blank : (state : EntryState) → is_broken state ≡ false → Blank state
+blank Clean b = record { writers = λ p. refl; seen = λ p. refl; half = λ p. refl; clean = λ p. refl }
+blank (Live core) b = record { writers = λ p. refl; seen = λ p. refl; half = λ p. refl; clean = λ p. refl }
+blank (Broken marks) b = absurd (true≢false b)
+
+-- ---- a DSB published
+
+-- the state between the two calls that take in a DSB
+pub record Middle (heading : Heading) (old : EntryState) (q : ℕ) (dsb : Barrier) (mid : EntryState) : Type 0 where
+  pub core : core_in mid ≡ core_in old
+  pub broken : is_broken mid ≡ is_broken old
+  pub writers : (p : ℕ) → writer_at mid p ≡ writer_at old p
+  pub seen : (p : ℕ) → seen_at mid p ≡ ((publishes_to heading dsb q p && writer_at old q) || seen_at old p)
+  pub half : (p : ℕ) → half_at mid p ≡ half_at old p
+  pub clean : (p : ℕ) → clean_at mid p ≡ clean_at old p
+
+pub middle : (heading : Heading) (old : EntryState) (q : ℕ) (dsb : Barrier) (mid : EntryState) → Heard heading old q dsb mid → Middle heading old q dsb mid
+middle heading old q dsb mid heard = by (heading.cnp && is_non dsb.domain) refl
+  where
+    by : (t : Bool) → (heading.cnp && is_non dsb.domain) ≡ t → Middle heading old q dsb mid
+    by false t = record {
+      core = (heard.published t).core;
+      broken = (heard.published t).broken;
+      writers = (heard.published t).writers;
+      seen = λ p. (heard.published t).seen p ∙ ap (λ (b : Bool). (b && writer_at old q) || seen_at old p)
+          (sym (ap (λ (b : Bool). publishes dsb q heading.pes p && not b) t ∙ and-true (publishes dsb q heading.pes p)));
+      half = (heard.published t).half;
+      clean = (heard.published t).clean;
+    }
+    by true t = record {
+      core = ap core_in (heard.unheard t);
+      broken = ap is_broken (heard.unheard t);
+      writers = λ p. ap (λ (s : EntryState). writer_at s p) (heard.unheard t);
+      seen = λ p. ap (λ (s : EntryState). seen_at s p) (heard.unheard t) ∙ ap (λ (b : Bool). (b && writer_at old q) || seen_at old p)
+          (sym (ap (λ (b : Bool). publishes dsb q heading.pes p && not b) t ∙ and-false (publishes dsb q heading.pes p)));
+      half = λ p. ap (λ (s : EntryState). half_at s p) (heard.unheard t);
+      clean = λ p. ap (λ (s : EntryState). clean_at s p) (heard.unheard t);
+    }
+
+-- ---- tests
+
+-- whether the event is neither a DSB nor a TLBI
+abbrev pub is_still : Event → Bool
+is_still (Dsb q dsb) = false
+is_still (Tlbi q op xt) = false
+is_still e = true
+
+same_grades : (c d : Cover) → same_grade c d ≡ same_cover d c
+same_grades NoCover NoCover = refl
+same_grades NoCover Half = refl
+same_grades NoCover Second = refl
+same_grades NoCover Full = refl
+same_grades Half NoCover = refl
+same_grades Half Half = refl
+same_grades Half Second = refl
+same_grades Half Full = refl
+same_grades Second NoCover = refl
+same_grades Second Half = refl
+same_grades Second Second = refl
+same_grades Second Full = refl
+same_grades Full NoCover = refl
+same_grades Full Half = refl
+same_grades Full Second = refl
+same_grades Full Full = refl
+
+-- what was so before, and what is so now where the PE has seen it
+add_seen : (x s a : Bool) → (a ≡ true → s ≡ true) → (x || (s && a)) ≡ (a || x)
+add_seen x s true h = ap (λ (t : Bool). x || (t && true)) (h refl) ∙ or-true x
+add_seen x s false h = ap (λ (t : Bool). x || t) (and-false s) ∙ or-false x
+
+left_bits : (ends w : Bool) → (true && (not ends && w)) ≡ cond (true && ends) false w
+left_bits true w = refl
+left_bits false w = refl
+
+-- numbers as PEs
+same_number : (i q : ℕ) → nat_eq i q ≡ nat_eq q i
+same_number i q = by (nat_eq i q) (nat_eq q i) refl refl
+  where
+    by : (a b : Bool) → nat_eq i q ≡ a → nat_eq q i ≡ b → nat_eq i q ≡ nat_eq q i
+    by true b e f = e ∙ sym (eq-eqb q i (sym (eqb-true i q e)))
+    by false true e f = eq-eqb i q (sym (eqb-true q i f)) ∙ sym f
+    by false false e f = e ∙ sym f
+
+pub both_written : (p pe place : ℕ) (w : Bool) → (nat_eq p pe || w) ≡ ((pe == p && place == place) || w)
+both_written p pe place w =
+    ap (λ (b : Bool). b || w) (same_number p pe ∙ sym (ap (λ (b : Bool). (pe == p) && b) (eq-eqb place place refl) ∙ and-true (pe == p)))
+
+-- nothing waits where the place isn't broken
+counts_nowhere : (state : EntryState) (c : Cover) (p : ℕ) → is_broken state ≡ false → counts_at state c p ≡ false
+counts_nowhere Clean c p t = refl
+counts_nowhere (Live core) c p t = refl
+counts_nowhere (Broken marks) c p t = absurd (true≢false t)
+
+pub issued_idle : (state : EntryState) (q : ℕ) (reach : PeMask) (broadcast : Bool) (cover : Cover) (pends pends' : ℕ → Pends) → is_broken state ≡ false
+    → Issues state (pends q) reach broadcast cover (pends' q) → OthersWait q pends pends' → ((i : ℕ) → IsIdle (pends i)) → (i : ℕ) → IsIdle (pends' i)
+issued_idle state q reach broadcast cover pends pends' unbroken issues others idle i b c p = by (nat_eq i q) refl
+  where
+    by : (t : Bool) → nat_eq i q ≡ t → waits_at (pends' i) b c p ≡ false
+    by false t = others i t b c p ∙ idle i b c p
+    by true t =
+        ap (λ (j : ℕ). waits_at (pends' j) b c p) (eqb-true i q t)
+        ∙ (issues b c p
+        ∙ (ap (λ (x : Bool). (same_bool broadcast b && (pe_in reach p && (same_grade c cover && x))) || waits_at (pends q) b c p)
+        (counts_nowhere state c p unbroken)
+        ∙ (ap (λ (x : Bool). (same_bool broadcast b && (pe_in reach p && x)) || waits_at (pends q) b c p) (and-false (same_grade c cover))
+        ∙ (ap (λ (x : Bool). (same_bool broadcast b && x) || waits_at (pends q) b c p) (and-false (pe_in reach p))
+        ∙ (ap (λ (x : Bool). x || waits_at (pends q) b c p) (and-false (same_bool broadcast b)) ∙ idle q b c p)))))
+
+module _ (heading : Heading) (k : Known heading) (place : ℕ) where
+  -- ---- an unbroken state and nothing that waits, where nothing was written
+
+  pub marked_blank : (since : List Noted) (state : EntryState) (pends : ℕ → Pends) → is_broken state ≡ false
+      → ((q : ℕ) → IsIdle (pends q)) → ((p q : ℕ) → wrote heading place p q since ≡ false) → Marked heading place since state pends
+  marked_blank since state pends unbroken idle none =
+      let u : (p : ℕ) → Untouched heading k place p since = λ p. untouched heading k place p since (none p) in
+      let points : Blank state = blank state unbroken in
+      record {
+        writers = λ p. points.writers p ∙ sym (none p p);
+        seen = λ p. points.seen p ∙ sym (u p).unseen;
+        half = λ p below. points.half p ∙ sym (u p).unhalf;
+        clean = λ p below. points.clean p ∙ sym (u p).uncleansed;
+        waiting = λ p below q b c. idle q b c p ∙ sym ((u p).idle q b c);
+      }
+
+  -- ---- what waits after an event
+
+  counted_step : (p q : ℕ) (b : Bool) (c : Cover) (n : Noted) (since : List Noted) → cover_waits heading place p q b c (n ∷ since)
+      ≡ waits_after event_of q b (flushes heading place p c (counts heading place p c)) n.event n since
+  counted_step p q b c n since =
+      cover_counted heading place p q b c (n ∷ since) ∙ k.waits_step q b (flushes heading place p c (counts heading place p c)) n since
+
+  -- ---- an event that is neither a DSB nor a TLBI
+
+  pub marked_still : (n : Noted) (since : List Noted) (old new : EntryState) (pends pends' : ℕ → Pends) → is_still n.event ≡ true
+      → Marked heading place since old pends
+      → ((p : ℕ) → writer_at new p ≡ (writes p place n.event || writer_at old p))
+      → ((p : ℕ) → seen_at new p ≡ seen_at old p) → ((p : ℕ) → half_at new p ≡ half_at old p) → ((p : ℕ) → clean_at new p ≡ clean_at old p)
+      → ((q : ℕ) (b : Bool) (c : Cover) (p : ℕ) → waits_at (pends' q) b c p ≡ waits_at (pends q) b c p)
+      → Marked heading place (n ∷ since) new pends'
+  marked_still n since old new pends pends' still m writers seen_same half_same clean_same waits_same = record {
+    writers = λ p. writers p ∙ ap (λ (b : Bool). writes p place n.event || b) (m.writers p);
+    seen = λ p. seen_same p ∙ m.seen p ∙ sym (k.seen_step place p n since ∙ seen_by p n.event still);
+    half = λ p below. half_same p ∙ m.half p below ∙ sym (k.half_step place p n since ∙ half_by p n.event still);
+    clean = λ p below. clean_same p ∙ m.clean p below ∙ sym (k.cleansed_step place p n since ∙ cleansed_by p n.event still);
+    waiting = λ p below q b c. waits_same q b c p ∙ m.waiting p below q b c
+        ∙ (cover_counted heading place p q b c since ∙ sym (counted_step p q b c n since ∙ waits_by p q b c n.event still));
+  }
+    where
+      seen_by : (p : ℕ) (e : Event) → is_still e ≡ true → seen_after heading place p e since ≡ seen heading place p since
+      seen_by p (Dsb q dsb) t = absurd (true≢false (sym t))
+      seen_by p e t = refl
+
+      half_by : (p : ℕ) (e : Event) → is_still e ≡ true → half_after heading place p e since ≡ half heading place p since
+      half_by p (Dsb q dsb) t = absurd (true≢false (sym t))
+      half_by p e t = refl
+
+      cleansed_by : (p : ℕ) (e : Event) → is_still e ≡ true → cleansed_after heading place p e since ≡ cleansed heading Patterns place p since
+      cleansed_by p (Dsb q dsb) t = absurd (true≢false (sym t))
+      cleansed_by p e t = refl
+
+      waits_by : (p q : ℕ) (b : Bool) (c : Cover) (e : Event) → is_still e ≡ true
+          → waits_after event_of q b (flushes heading place p c (counts heading place p c)) e n since ≡ counted heading place p q b c since
+      waits_by p q b c (Dsb pe dsb) t = absurd (true≢false (sym t))
+      waits_by p q b c (Tlbi pe op xt) t = absurd (true≢false (sym t))
+      waits_by p q b c e t = refl
+
+  -- ---- a TLBI
+
+  counts_is : (marks : Marks) (p : ℕ) (c : Cover) (since : List Noted) → pe_in marks.seen p ≡ seen heading place p since
+      → pe_in marks.half p ≡ half heading place p since → counts_for marks c p ≡ counts heading place p c since
+  counts_is marks p NoCover since s h = refl
+  counts_is marks p Half since s h = s
+  counts_is marks p Second since s h = h
+  counts_is marks p Full since s h = s
+
+  counts_now : (state : EntryState) (p : ℕ) (c : Cover) (since : List Noted) → is_broken state ≡ true → seen_at state p ≡ seen heading place p since
+      → half_at state p ≡ half heading place p since → counts_at state c p ≡ counts heading place p c since
+  counts_now Clean p c since b s h = absurd (true≢false (sym b))
+  counts_now (Live core) p c since b s h = absurd (true≢false (sym b))
+  counts_now (Broken marks) p c since b s h = counts_is marks p c since s h
+
+  module _ (n : Noted) (since : List Noted) (q : ℕ) (op : TlbiOp) (xt : ℕ) (is : n.event ≡ Tlbi q op xt) where
+    -- what waits after the TLBI
+    tlbi_waits : (p i : ℕ) (b : Bool) (c : Cover) → cover_waits heading place p i b c (n ∷ since)
+        ≡ ((q == i && (same_bool (operation op).broadcast b
+        && (reaches heading (Tlbi q op xt) p && (same_cover (n.covers place) c && counts heading place p c since)))) || cover_waits heading place p i b c since)
+    tlbi_waits p i b c =
+        counted_step p i b c n since
+        ∙ (ap (λ (e : Event). waits_after event_of i b (flushes heading place p c (counts heading place p c)) e n since) is
+        ∙ (ap (λ (e : Event). (q == i && (same_bool (operation op).broadcast b
+        && ((reaches heading e p && same_cover (n.covers place) c) && counts heading place p c since))) || counted heading place p i b c since) is
+        ∙ (ap (λ (x : Bool). (q == i && (same_bool (operation op).broadcast b && x)) || counted heading place p i b c since)
+        (and_assoc (reaches heading (Tlbi q op xt) p) (same_cover (n.covers place) c) (counts heading place p c since))
+        ∙ ap (λ (x : Bool). (q == i && (same_bool (operation op).broadcast b
+        && (reaches heading (Tlbi q op xt) p && (same_cover (n.covers place) c && counts heading place p c since)))) || x)
+        (sym (cover_counted heading place p i b c since)))))
+
+    tlbi_marks : (state : EntryState) (pends pends' : ℕ → Pends) → Marked heading place since state pends
+        → ((p : ℕ) → p < heading.pes → (i : ℕ) (b : Bool) (c : Cover) → waits_at (pends' i) b c p
+        ≡ ((q == i && (same_bool (operation op).broadcast b
+        && (reaches heading (Tlbi q op xt) p && (same_cover (n.covers place) c && counts heading place p c since)))) || waits_at (pends i) b c p))
+        → Marked heading place (n ∷ since) state pends'
+    tlbi_marks state pends pends' m now = record {
+      writers = λ p. m.writers p ∙ ap (λ (e : Event). writes p place e || wrote heading place p p since) (sym is);
+      seen = λ p. m.seen p ∙ sym (k.seen_step place p n since ∙ ap (λ (e : Event). seen_after heading place p e since) is);
+      half = λ p below. m.half p below ∙ sym (k.half_step place p n since ∙ ap (λ (e : Event). half_after heading place p e since) is);
+      clean = λ p below. m.clean p below ∙ sym (k.cleansed_step place p n since ∙ ap (λ (e : Event). cleansed_after heading place p e since) is);
+      waiting = λ p below i b c. now p below i b c
+          ∙ (ap (λ (x : Bool). (q == i && (same_bool (operation op).broadcast b
+          && (reaches heading (Tlbi q op xt) p && (same_cover (n.covers place) c && counts heading place p c since)))) || x) (m.waiting p below i b c)
+          ∙ sym (tlbi_waits p i b c));
+    }
+
+    pub marked_tlbi : (reach : PeMask) (state : EntryState) (pends pends' : ℕ → Pends) → is_broken state ≡ true
+        → ((p : ℕ) → p < heading.pes → pe_in reach p ≡ reaches heading (Tlbi q op xt) p)
+        → Issues state (pends q) reach (operation op).broadcast (n.covers place) (pends' q) → OthersWait q pends pends'
+        → Marked heading place since state pends → Marked heading place (n ∷ since) state pends'
+    marked_tlbi reach state pends pends' broken reached issues others m =
+        tlbi_marks state pends pends' m (λ p below i b c. by p below b c i (nat_eq i q) refl)
+      where
+        by : (p : ℕ) → p < heading.pes → (b : Bool) (c : Cover) (i : ℕ) (t : Bool) → nat_eq i q ≡ t → waits_at (pends' i) b c p
+            ≡ ((q == i && (same_bool (operation op).broadcast b
+            && (reaches heading (Tlbi q op xt) p && (same_cover (n.covers place) c && counts heading place p c since)))) || waits_at (pends i) b c p)
+        by p below b c i false t =
+            others i t b c p ∙ ap (λ (x : Bool). (x && (same_bool (operation op).broadcast b
+            && (reaches heading (Tlbi q op xt) p && (same_cover (n.covers place) c && counts heading place p c since)))) || waits_at (pends i) b c p)
+            (sym (same_number q i ∙ t))
+        by p below b c i true t =
+            let here : (q == i) ≡ true = same_number q i ∙ t in
+            let same : q ≡ i = eqb-true q i here in
+            ap (λ (j : ℕ). waits_at (pends' j) b c p) (sym same)
+            ∙ (issues b c p
+            ∙ (ap (λ (x : Bool). (same_bool (operation op).broadcast b && (x && (same_grade c (n.covers place) && counts_at state c p))) || waits_at (pends q) b c p)
+            (reached p below)
+            ∙ (ap (λ (x : Bool). (same_bool (operation op).broadcast b && (reaches heading (Tlbi q op xt) p && (x && counts_at state c p))) || waits_at (pends q) b c p)
+            (same_grades c (n.covers place))
+            ∙ (ap (λ (x : Bool). (same_bool (operation op).broadcast b && (reaches heading (Tlbi q op xt) p && (same_cover (n.covers place) c && x)))
+            || waits_at (pends q) b c p) (counts_now state p c since broken (m.seen p) (m.half p below))
+            ∙ (ap (λ (j : ℕ). (same_bool (operation op).broadcast b
+            && (reaches heading (Tlbi q op xt) p && (same_cover (n.covers place) c && counts heading place p c since))) || waits_at (pends j) b c p) same
+            ∙ ap (λ (x : Bool). (x && (same_bool (operation op).broadcast b
+            && (reaches heading (Tlbi q op xt) p && (same_cover (n.covers place) c && counts heading place p c since)))) || waits_at (pends i) b c p) (sym here))))))
+
+    -- a TLBI that reaches no PE, or doesn't cover the place
+    pub marked_unreached : (state : EntryState) (pends : ℕ → Pends) → ((p : ℕ) → p < heading.pes → reaches heading (Tlbi q op xt) p ≡ false)
+        → Marked heading place since state pends → Marked heading place (n ∷ since) state pends
+    marked_unreached state pends unreached m = tlbi_marks state pends pends m (λ p below i b c.
+        sym (ap (λ (x : Bool). (q == i && (same_bool (operation op).broadcast b && (x && (same_cover (n.covers place) c && counts heading place p c since))))
+        || waits_at (pends i) b c p) (unreached p below)
+        ∙ (ap (λ (x : Bool). (q == i && x) || waits_at (pends i) b c p) (and-false (same_bool (operation op).broadcast b))
+        ∙ ap (λ (x : Bool). x || waits_at (pends i) b c p) (and-false (q == i)))))
+
+    uncovered : (c : Cover) (p : ℕ) → (same_cover NoCover c && counts heading place p c since) ≡ false
+    uncovered NoCover p = refl
+    uncovered Half p = refl
+    uncovered Second p = refl
+    uncovered Full p = refl
+
+    pub marked_uncovered : (state : EntryState) (pends : ℕ → Pends) → n.covers place ≡ NoCover
+        → Marked heading place since state pends → Marked heading place (n ∷ since) state pends
+    marked_uncovered state pends none m = tlbi_marks state pends pends m (λ p below i b c.
+        sym (ap (λ (x : Bool). (q == i && (same_bool (operation op).broadcast b && (reaches heading (Tlbi q op xt) p && x))) || waits_at (pends i) b c p)
+        (ap (λ (x : Cover). same_cover x c && counts heading place p c since) none ∙ uncovered c p)
+        ∙ (ap (λ (x : Bool). (q == i && (same_bool (operation op).broadcast b && x)) || waits_at (pends i) b c p) (and-false (reaches heading (Tlbi q op xt) p))
+        ∙ (ap (λ (x : Bool). (q == i && x) || waits_at (pends i) b c p) (and-false (same_bool (operation op).broadcast b))
+        ∙ ap (λ (x : Bool). x || waits_at (pends i) b c p) (and-false (q == i))))))
+
+  -- ---- a DSB
+
+  module _ (n : Noted) (since : List Noted) (q : ℕ) (dsb : Barrier) (is : n.event ≡ Dsb q dsb) (old mid : EntryState) (pends : ℕ → Pends)
+      (mids : Middle heading old q dsb mid) (m : Marked heading place since old pends) where
+    seen_now : (p : ℕ) → seen_at mid p ≡ seen heading place p (n ∷ since)
+    seen_now p =
+        mids.seen p
+        ∙ (ap (λ (x : Bool). (publishes_to heading dsb q p && x) || seen_at old p) (m.writers q)
+        ∙ (ap (λ (x : Bool). (publishes_to heading dsb q p && wrote heading place p q since) || x) (m.seen p)
+        ∙ sym (k.seen_step place p n since ∙ ap (λ (e : Event). seen_after heading place p e since) is)))
+
+    answered_now : (p : ℕ) → p < heading.pes → (c : Cover) → answered_at (pends q) dsb c p ≡ answered_by dsb (λ b. cover_waits heading place p q b c since)
+    answered_now p below c =
+        ap (λ (x : Bool). (answers dsb true && x) || (answers dsb false && waits_at (pends q) false c p)) (m.waiting p below q true c)
+        ∙ ap (λ (x : Bool). (answers dsb true && cover_waits heading place p q true c since) || (answers dsb false && x)) (m.waiting p below q false c)
+
+    half_now : (p : ℕ) → p < heading.pes → (half_at mid p || (seen_at mid p && answered_at (pends q) dsb Half p)) ≡ half heading place p (n ∷ since)
+    half_now p below =
+        ap (λ (x : Bool). x || (seen_at mid p && answered_at (pends q) dsb Half p)) (mids.half p ∙ m.half p below)
+        ∙ (ap (λ (x : Bool). half heading place p since || (x && answered_at (pends q) dsb Half p)) (seen_now p)
+        ∙ (ap (λ (x : Bool). half heading place p since || (seen heading place p (n ∷ since) && x)) (answered_now p below Half)
+        ∙ (add_seen (half heading place p since) (seen heading place p (n ∷ since)) (answered_by dsb (λ b. half_waits heading place p q b since))
+        (λ a. seen_on heading k place p n since (answered_seen heading k place p q dsb Half since a))
+        ∙ sym (k.half_step place p n since ∙ ap (λ (e : Event). half_after heading place p e since) is))))
+
+    pub clean_now : (p : ℕ) → p < heading.pes → clean_after mid (pends q) dsb p ≡ cleansed heading Patterns place p (n ∷ since)
+    clean_now p below =
+        ap (λ (x : Bool). x || (seen_at mid p && (answered_at (pends q) dsb Full p || answered_at (pends q) dsb Second p))) (mids.clean p ∙ m.clean p below)
+        ∙ (ap (λ (x : Bool). cleansed heading Patterns place p since || (x && (answered_at (pends q) dsb Full p || answered_at (pends q) dsb Second p))) (seen_now p)
+        ∙ (ap (λ (x : Bool). cleansed heading Patterns place p since || (seen heading place p (n ∷ since) && (x || answered_at (pends q) dsb Second p)))
+        (answered_now p below Full)
+        ∙ (ap (λ (x : Bool). cleansed heading Patterns place p since
+        || (seen heading place p (n ∷ since) && (answered_by dsb (λ b. full_waits heading place p q b since) || x))) (answered_now p below Second)
+        ∙ (add_seen (cleansed heading Patterns place p since) (seen heading place p (n ∷ since))
+        (answered_by dsb (λ b. full_waits heading place p q b since) || answered_by dsb (λ b. second_waits heading place p q b since))
+        (λ a. seen_on heading k place p n since (either p a))
+        ∙ sym (k.cleansed_step place p n since ∙ ap (λ (e : Event). cleansed_after heading place p e since) is)))))
+      where
+        either : (p : ℕ) → (answered_by dsb (λ b. full_waits heading place p q b since) || answered_by dsb (λ b. second_waits heading place p q b since)) ≡ true
+            → seen heading place p since ≡ true
+        either p a = elim (or_cases (answered_by dsb (λ b. full_waits heading place p q b since)) (answered_by dsb (λ b. second_waits heading place p q b since)) a) [
+          | inl full ↦ answered_seen heading k place p q dsb Full since full
+          | inr second ↦ answered_seen heading k place p q dsb Second since second
+        ]
+
+    -- what waits after the DSB
+    dsb_waits : (p i : ℕ) (b : Bool) (c : Cover) → cover_waits heading place p i b c (n ∷ since)
+        ≡ cond (q == i && answers dsb b) false (cover_waits heading place p i b c since)
+    dsb_waits p i b c =
+        counted_step p i b c n since
+        ∙ (ap (λ (e : Event). waits_after event_of i b (flushes heading place p c (counts heading place p c)) e n since) is
+        ∙ ap (λ (x : Bool). cond (q == i && answers dsb b) false x) (sym (cover_counted heading place p i b c since)))
+
+    pub marked_dsb : (new : EntryState) (pends' : ℕ → Pends) → is_broken new ≡ true → Completed mid (pends q) dsb heading.pes new (pends' q)
+        → OthersStay new q pends pends' → Marked heading place (n ∷ since) new pends'
+    marked_dsb new pends' broken d others =
+        let some : is_some (core_in new) ≡ true = (and_parts (is_some (core_in new)) (is_broken mid) (sym d.broken ∙ broken)).0 in
+        record {
+          writers = λ p. d.writers p ∙ (ap (λ (x : Bool). x && writer_at mid p) some ∙ (mids.writers p ∙ (m.writers p
+              ∙ ap (λ (e : Event). writes p place e || wrote heading place p p since) (sym is))));
+          seen = λ p. d.seen p ∙ (ap (λ (x : Bool). x && seen_at mid p) some ∙ seen_now p);
+          half = λ p below. d.half p
+              ∙ (ap (λ (x : Bool). x && (half_at mid p || (seen_at mid p && answered_at (pends q) dsb Half p))) some ∙ half_now p below);
+          clean = λ p below. d.clean p ∙ (ap (λ (x : Bool). x && clean_after mid (pends q) dsb p) some ∙ clean_now p below);
+          waiting = λ p below i b c. by some p below b c i (nat_eq i q) refl ∙ sym (dsb_waits p i b c);
+        }
+      where
+        by : is_some (core_in new) ≡ true → (p : ℕ) → p < heading.pes → (b : Bool) (c : Cover) (i : ℕ) (t : Bool) → nat_eq i q ≡ t
+            → waits_at (pends' i) b c p ≡ cond (q == i && answers dsb b) false (cover_waits heading place p i b c since)
+        by some p below b c i false t =
+            others i t b c p
+            ∙ (ap (λ (x : Bool). x && waits_at (pends i) b c p) broken
+            ∙ (m.waiting p below i b c
+            ∙ ap (λ (x : Bool). cond (x && answers dsb b) false (cover_waits heading place p i b c since)) (sym (same_number q i ∙ t))))
+        by some p below b c i true t =
+            let here : (q == i) ≡ true = same_number q i ∙ t in
+            let same : q ≡ i = eqb-true q i here in
+            ap (λ (j : ℕ). waits_at (pends' j) b c p) (sym same)
+            ∙ (d.waiting b c p
+            ∙ (ap (λ (x : Bool). x && (not (answers dsb b) && waits_at (pends q) b c p)) some
+            ∙ (left_bits (answers dsb b) (waits_at (pends q) b c p)
+            ∙ (ap (λ (x : Bool). cond (true && answers dsb b) false x) (m.waiting p below q b c)
+            ∙ (ap (λ (j : ℕ). cond (true && answers dsb b) false (cover_waits heading place p j b c since)) same
+            ∙ ap (λ (x : Bool). cond (x && answers dsb b) false (cover_waits heading place p i b c since)) (sym here))))))

@@ -1,0 +1,110 @@
+-- The phase that a state tells.
+use Rattle.std.proofs.Common.{◌≡◌, ℕ, ◌<◌, Bool, true, false, cond, not, ◌&&◌, List, Option, Some, None, is_some, option_and_then, refl, sym, ◌∙◌, ap, true≢false}
+use Rattle.std.specs.Option.{option_map_or}
+use Rattle.std.specs.Prelude.{unwrap_or}
+use Rattle.bbm_descriptor.specs.Descriptor.{is_valid}
+use Rattle.bbm_regimes.specs.PeMask.{pe_in}
+use Rattle.bbm_entry_state.specs.Points.{core_in, is_broken}
+use Rattle.bbm_entry_state.specs.declared.pending.Pends.{Pends}
+use Rattle.bbm_entry_state.specs.declared.state.EntryState.{EntryState}
+use Rattle.bbm_entry_state.specs.declared.state.EntryState.TheVariants as state
+use Rattle.bbm_events.specs.Heading.{Heading}
+use Rattle.bbm_events.specs.declared.event.Event.{Event}
+use Rattle.bbm_rules.specs.declared.phase.Phase.{Phase}
+use Rattle.bbm_rules.specs.declared.phase.Phase.TheVariants.{Clean, Live, Broken, Seen, Half, Cleansed}
+use Rattle.bbm_rules.specs.Claims.Trust.{Patterns}
+use Rattle.bbm_rules.specs.Cleansing.{cleansed, half}
+use Rattle.bbm_rules.specs.Covers.{noted}
+use Rattle.bbm_rules.specs.Held.{ValidWrite, cleansed_everywhere, last_valid}
+use Rattle.bbm_rules.specs.Notes.{Noted}
+use Rattle.bbm_rules.specs.Phases.{broken_phase, is_restless, is_restless_in, phase_of}
+use Rattle.bbm_rules.specs.Places.{page_of}
+use Rattle.bbm_rules.specs.Tree.{Node, node_of}
+use Rattle.bbm_rules.specs.Values.{value_of}
+use Rattle.bbm_replay_entries.specs.Known.{Known}
+use Rattle.bbm_replay_entries.specs.Marked.{Marked}
+use Rattle.bbm_replay_entries.specs.Phases.{phase_in}
+use Rattle.bbm_replay_entries.specs.Stands.{EntryStands, held_now}
+use Rattle.bbm_replay_entries.proofs.Places.{holds_core}
+
+-- a state without a core
+coreless : (s : EntryState) (p : ℕ) → is_some (core_in s) ≡ false → phase_in s p ≡ Clean
+coreless state.Clean p t = refl
+coreless (state.Live core) p t = absurd (true≢false t)
+coreless (state.Broken marks) p t = absurd (true≢false t)
+
+-- one with a core that isn't broken
+living : (s : EntryState) (p : ℕ) → is_some (core_in s) ≡ true → is_broken s ≡ false → phase_in s p ≡ Live
+living state.Clean p t b = absurd (true≢false (sym t))
+living (state.Live core) p t b = refl
+living (state.Broken marks) p t b = absurd (true≢false b)
+
+module _ (heading : Heading) (k : Known heading) (h : List Event) (place p : ℕ) where
+  -- a broken one
+  breaking : (s : EntryState) (pends : ℕ → Pends) (since : List Noted) → p < heading.pes → is_broken s ≡ true → Marked heading place since s pends
+      → broken_phase heading Patterns place p since ≡ phase_in s p
+  breaking state.Clean pends since below b m = absurd (true≢false (sym b))
+  breaking (state.Live core) pends since below b m = absurd (true≢false (sym b))
+  breaking (state.Broken marks) pends since below b m =
+      sym (ap (λ (x : Bool). cond x Cleansed (cond (pe_in marks.half p) Half (cond (pe_in marks.seen p) Seen Broken))) (m.clean p below)
+      ∙ (ap (λ (x : Bool). cond (cleansed heading Patterns place p since) Cleansed (cond x Half (cond (pe_in marks.seen p) Seen Broken))) (m.half p below)
+      ∙ ap (λ (x : Bool). cond (cleansed heading Patterns place p since) Cleansed (cond (half heading place p since) Half (cond x Seen Broken))) (m.seen p)))
+
+  -- the phase by the last valid write
+  abbrev phase_from : (n : Node) → ValidWrite → Option Phase
+  phase_from n w = cond (cleansed_everywhere heading Patterns place w.since) None
+      (Some (cond (is_valid n.kind n.level (value_of h place)) Live (broken_phase heading Patterns place p w.since)))
+
+  abbrev by_node : Option Node → Phase
+  by_node o = unwrap_or (option_and_then (λ n. option_and_then (λ w. phase_from n w) (last_valid n.kind n.level place (noted heading Patterns h))) o) Clean
+
+  phase_is : phase_of heading Patterns h place p ≡ by_node (node_of heading Patterns (noted heading Patterns h) (page_of place))
+  unfolding phase_of
+  phase_is = refl
+
+  module _ (n : Node) (s : EntryState) (pends : ℕ → Pends) (e : EntryStands heading h n.kind n.level place s pends) (below : p < heading.pes) where
+    holds : is_some (held_now heading h n.kind n.level place) ≡ is_some (core_in s)
+    holds = holds_core heading k n.kind n.level place h s pends e
+
+    phase_found : (o : Option ValidWrite) → last_valid n.kind n.level place (noted heading Patterns h) ≡ o → unwrap_or (option_and_then (λ w. phase_from n w) o) Clean ≡ phase_in s p
+    phase_found None is =
+        sym (coreless s p (sym holds ∙ ap (λ (o : Option ValidWrite). is_some (option_and_then
+        (λ w. cond (cleansed_everywhere heading Patterns place w.since) None (Some w.value)) o)) is))
+    phase_found (Some w) is = by (cleansed_everywhere heading Patterns place w.since) refl
+      where
+        held_is : is_some (held_now heading h n.kind n.level place) ≡ is_some (cond (cleansed_everywhere heading Patterns place w.since) None (Some w.value))
+        held_is = ap (λ (o : Option ValidWrite). is_some (option_and_then
+            (λ w. cond (cleansed_everywhere heading Patterns place w.since) None (Some w.value)) o)) is
+
+        valid : (t : Bool) → is_valid n.kind n.level (value_of h place) ≡ t → is_some (held_now heading h n.kind n.level place) ≡ true
+            → cond (is_valid n.kind n.level (value_of h place)) Live (broken_phase heading Patterns place p w.since) ≡ phase_in s p
+        valid true v some =
+            ap (λ (x : Bool). cond x Live (broken_phase heading Patterns place p w.since)) v
+            ∙ sym (living s p (sym holds ∙ some) (e.broken ∙ (ap (λ (x : Bool). x && not (is_valid n.kind n.level (value_of h place))) some ∙ ap not v)))
+        valid false v some =
+            let broken : is_broken s ≡ true = e.broken ∙ (ap (λ (x : Bool). x && not (is_valid n.kind n.level (value_of h place))) some ∙ ap not v) in
+            ap (λ (x : Bool). cond x Live (broken_phase heading Patterns place p w.since)) v
+            ∙ breaking s pends w.since below broken (e.marks broken w is)
+
+        by : (t : Bool) → cleansed_everywhere heading Patterns place w.since ≡ t → unwrap_or (cond (cleansed_everywhere heading Patterns place w.since) None
+            (Some (cond (is_valid n.kind n.level (value_of h place)) Live (broken_phase heading Patterns place p w.since)))) Clean ≡ phase_in s p
+        by true t =
+            ap (λ (x : Bool). unwrap_or (cond x None (Some (cond (is_valid n.kind n.level (value_of h place)) Live (broken_phase heading Patterns place p w.since)))) Clean) t
+            ∙ sym (coreless s p (sym holds ∙ (held_is ∙ ap (λ (x : Bool). is_some (cond x None (Some w.value))) t)))
+        by false t =
+            ap (λ (x : Bool). unwrap_or (cond x None (Some (cond (is_valid n.kind n.level (value_of h place)) Live (broken_phase heading Patterns place p w.since)))) Clean) t
+            ∙ valid (is_valid n.kind n.level (value_of h place)) refl (held_is ∙ ap (λ (x : Bool). is_some (cond x None (Some w.value))) t)
+
+    pub phase_tells : node_of heading Patterns (noted heading Patterns h) (page_of place) ≡ Some n → phase_of heading Patterns h place p ≡ phase_in s p
+    phase_tells is = phase_is ∙ (ap by_node is ∙ phase_found (last_valid n.kind n.level place (noted heading Patterns h)) refl)
+
+  pub phase_outside : node_of heading Patterns (noted heading Patterns h) (page_of place) ≡ None → phase_of heading Patterns h place p ≡ Clean
+  phase_outside is = phase_is ∙ ap by_node is
+
+pub restless_tells : (heading : Heading) (k : Known heading) (h : List Event) (n : Node) (place : ℕ) (s : EntryState) (pends : ℕ → Pends)
+    → node_of heading Patterns (noted heading Patterns h) (page_of place) ≡ Some n → EntryStands heading h n.kind n.level place s pends
+    → is_restless heading Patterns (noted heading Patterns h) place ≡ is_broken s
+restless_tells heading k h n place s pends is e =
+    ap (λ (o : Option Node). option_map_or (is_restless_in heading Patterns (noted heading Patterns h) place) o false) is
+    ∙ (ap (λ (x : List Event). is_some (held_now heading h n.kind n.level place) && not (is_valid n.kind n.level (value_of x place))) (k.events_noted h)
+    ∙ sym e.broken)

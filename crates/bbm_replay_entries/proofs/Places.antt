@@ -1,0 +1,476 @@
+-- What one more event does to a state that stands for a history.
+use Rattle.std.proofs.Common.{◌≡◌, ℕ, ◌<◌, zero, suc, Bool, true, false, cond, not, ◌&&◌, ◌||◌, ◌==◌, nat_eq, List, [], ◌∷◌, ◌++◌, Option, Some, None, is_some, is_none, option_and_then, refl, sym, ◌∙◌, ap, subst, true≢false, arith}
+use Rattle.std.proofs.Math.Bool.{and-false, and-true}
+use Rattle.std.proofs.lemmas.Bool.{and_from, and_parts, eq-eqb, eqb-true, false_from_ne_true}
+use Rattle.std.proofs.lemmas.Option.{option_and_then_some}
+use Rattle.bbm_barriers.specs.Options.{answers}
+use Rattle.bbm_barriers.specs.declared.Dsb.{Dsb as Barrier}
+use Rattle.bbm_descriptor.specs.Descriptor.{core_of, is_valid}
+use Rattle.bbm_descriptor.specs.declared.desc.Core.{Core}
+use Rattle.bbm_regimes.specs.EveryPe.{every_pe}
+use Rattle.bbm_regimes.specs.declared.regime.Kind.{Kind}
+use Rattle.bbm_tlbi_scope.specs.declared.entry.Cover.{Cover}
+use Rattle.bbm_entry_state.specs.Calls.{Completed, Written, clean_after, core_after}
+use Rattle.bbm_entry_state.specs.Points.{clean_at, core_in, half_at, is_broken, seen_at, waits as waits_at, writer_at}
+use Rattle.bbm_entry_state.specs.Standing.{IsIdle, KeepsPends}
+use Rattle.bbm_entry_state.specs.declared.pending.Pends.{Pends}
+use Rattle.bbm_entry_state.specs.declared.state.EntryState.{EntryState}
+use Rattle.bbm_entry_state.specs.declared.state.EntryState.TheVariants.{Clean, Live, Broken}
+use Rattle.bbm_events.specs.Heading.{Heading}
+use Rattle.bbm_events.specs.declared.event.Event.{Event}
+use Rattle.bbm_events.specs.declared.event.Event.TheVariants.{Init, Write, Dsb, Tlbi}
+use Rattle.bbm_rules.specs.Claims.Trust.{Patterns}
+use Rattle.bbm_rules.specs.Cleansing.{cleansed, writes}
+use Rattle.bbm_rules.specs.Covers.{note, noted}
+use Rattle.bbm_rules.specs.Held.{ValidWrite, cleansed_everywhere, held, last_valid, last_valid_after, later}
+use Rattle.bbm_rules.specs.Notes.{Noted, events_of}
+use Rattle.bbm_rules.specs.Values.{value_of}
+use Rattle.bbm_histories.specs.Steps.{held_after, wrote}
+use Rattle.bbm_replay_entries.specs.Events.{Heard, OthersStay, touches}
+use Rattle.bbm_replay_entries.specs.Known.{Known}
+use Rattle.bbm_replay_entries.specs.Marked.{Marked}
+use Rattle.bbm_replay_entries.specs.Stands.{ByValue, EntryStands, core_now, held_now}
+use Rattle.bbm_replay_entries.proofs.Marks.{Middle, both_written, clean_now, is_still, marked_blank, marked_dsb, marked_still, middle}
+use Rattle.bbm_replay_entries.proofs.Since.{cleansed_on, unwritten}
+
+-- ---- tests of every PE
+
+every_alike : (n : ℕ) (f g : ℕ → Bool) → ((p : ℕ) → p < n → f p ≡ g p) → every_pe n f ≡ every_pe n g
+every_alike zero f g same = refl
+every_alike (suc n) f g same =
+    ap (λ (b : Bool). b && every_pe n f) (same n (omega arith))
+    ∙ ap (λ (b : Bool). g n && b) (every_alike n f g (λ p below. same p (omega arith)))
+
+every_wider : (n : ℕ) (f g : ℕ → Bool) → ((p : ℕ) → f p ≡ true → g p ≡ true) → every_pe n f ≡ true → every_pe n g ≡ true
+every_wider zero f g wider h = refl
+every_wider (suc n) f g wider h =
+    and_from (g n) (every_pe n g) (wider n (and_parts (f n) (every_pe n f) h).0)
+    (every_wider n f g wider (and_parts (f n) (every_pe n f) h).1)
+
+every_none : (n : ℕ) (f : ℕ → Bool) → 0 < n → ((p : ℕ) → f p ≡ false) → every_pe n f ≡ false
+every_none zero f some none = absurd (omega arith)
+every_none (suc n) f some none = ap (λ (b : Bool). b && every_pe n f) (none n)
+
+-- ---- options
+
+none_is : {A : Type 0} (o : Option A) → is_some o ≡ false → o ≡ None
+none_is None e = refl
+none_is (Some x) e = absurd (true≢false e)
+
+some_is : {A : Type 0} (o : Option A) → is_some o ≡ true → (x : A) × (o ≡ Some x)
+some_is None e = absurd (true≢false (sym e))
+some_is (Some x) e = (x, refl)
+
+module _ (heading : Heading) (k : Known heading) (kind : Kind) (level place : ℕ) where
+  -- ---- what is held, by the value
+
+  valid_held : (h : List Event) → 0 < heading.pes → is_valid kind level (value_of h place) ≡ true → held_now heading h kind level place ≡ Some (value_of h place)
+  valid_held h pes v =
+      let same : events_of (noted heading Patterns h) ≡ h = k.events_noted h in
+      k.held_live kind level place (noted heading Patterns h) pes (ap (λ (x : List Event). is_valid kind level (value_of x place)) same ∙ v)
+      ∙ ap (λ (x : List Event). Some (value_of x place)) same
+
+  -- a valid value was written last
+  valid_unwritten : (h : List Event) (w : ValidWrite) → is_valid kind level (value_of h place) ≡ true
+      → last_valid kind level place (noted heading Patterns h) ≡ Some w → (p q : ℕ) → wrote heading place p q w.since ≡ false
+  valid_unwritten h w v last p q =
+      let same : events_of (noted heading Patterns h) ≡ h = k.events_noted h in
+      let live : (w : ValidWrite) × (last_valid kind level place (noted heading Patterns h) ≡ Some w)
+      × (w.value ≡ value_of (events_of (noted heading Patterns h)) place) × ((q v : ℕ) (n : Noted) (after before : List Noted)
+      → w.since ≡ after ++ n ∷ before → n.event ≡ Write q place v → ⊥)
+      = k.last_live kind level place (noted heading Patterns h) (ap (λ (x : List Event). is_valid kind level (value_of x place)) same ∙ v) in
+      let one : live.0 ≡ w = cc in
+      ap (λ (x : ValidWrite). wrote heading place p q x.since) (sym one) ∙ unwritten heading place p live.0.since live.3 q
+
+  core_valid : (value : ℕ) → is_valid kind level value ≡ true → is_some (core_of kind level value) ≡ true
+  core_valid value v = k.core_where_valid kind level value ∙ v
+
+  core_invalid : (value : ℕ) → is_valid kind level value ≡ false → core_of kind level value ≡ None
+  core_invalid value v = none_is (core_of kind level value) (k.core_where_valid kind level value ∙ v)
+
+  core_held : (h : List Event) → is_some (held_now heading h kind level place) ≡ is_some (core_now heading h kind level place)
+  core_held h = by (held_now heading h kind level place) refl
+    where
+      by : (o : Option ℕ) → held_now heading h kind level place ≡ o
+          → is_some (held_now heading h kind level place) ≡ is_some (core_now heading h kind level place)
+      by None e = ap (λ (x : Option ℕ). is_some x) e ∙ sym (ap (λ (x : Option ℕ). is_some (option_and_then (core_of kind level) x)) e)
+      by (Some x) e = ap (λ (x : Option ℕ). is_some x) e
+          ∙ sym (ap (λ (x : Option ℕ). is_some (option_and_then (core_of kind level) x)) e
+          ∙ core_valid x (k.held_valid kind level place (noted heading Patterns h) x e))
+
+  -- the state has a core where something is held
+  pub holds_core : (h : List Event) (state : EntryState) (pends : ℕ → Pends) → EntryStands heading h kind level place state pends
+      → is_some (held_now heading h kind level place) ≡ is_some (core_in state)
+  holds_core h state pends s = core_held h ∙ ap (λ (o : Option Core). is_some o) (sym s.core)
+
+  -- ---- a place that comes into a tree
+
+  pub value_stands : (h : List Event) (state : EntryState) (pends : ℕ → Pends)
+      → held_now heading h kind level place ≡ cond (is_valid kind level (value_of h place)) (Some (value_of h place)) None
+      → ByValue kind level (value_of h place) state pends → EntryStands heading h kind level place state pends
+  value_stands h state pends holds b = record {
+    core = b.core ∙ by_core (is_valid kind level (value_of h place)) refl;
+    broken = b.unbroken ∙ by_broken (is_valid kind level (value_of h place)) refl;
+    marks = λ broken. absurd (true≢false (sym broken ∙ b.unbroken));
+    idle = λ unbroken. b.idle;
+  }
+    where
+      by_core : (t : Bool) → is_valid kind level (value_of h place) ≡ t → core_of kind level (value_of h place) ≡ core_now heading h kind level place
+      by_core true t = sym (ap (option_and_then (core_of kind level)) (holds ∙ ap (λ (x : Bool). cond x (Some (value_of h place)) None) t))
+      by_core false t = core_invalid (value_of h place) t
+          ∙ sym (ap (option_and_then (core_of kind level)) (holds ∙ ap (λ (x : Bool). cond x (Some (value_of h place)) None) t))
+
+      by_broken : (t : Bool) → is_valid kind level (value_of h place) ≡ t
+          → false ≡ (is_some (held_now heading h kind level place) && not (is_valid kind level (value_of h place)))
+      by_broken true t = sym (ap (λ (x : Bool). is_some (held_now heading h kind level place) && not x) t ∙ and-false (is_some (held_now heading h kind level place)))
+      by_broken false t = sym (ap (λ (x : Option ℕ). is_some x && not (is_valid kind level (value_of h place)))
+          (holds ∙ ap (λ (x : Bool). cond x (Some (value_of h place)) None) t))
+
+  pub fresh_holds : (h : List Event) → 0 < heading.pes
+      → ((value : ℕ) → held_now heading h kind level place ≡ Some value → value_of h place ≡ value)
+      → held_now heading h kind level place ≡ cond (is_valid kind level (value_of h place)) (Some (value_of h place)) None
+  fresh_holds h pes present = by (is_valid kind level (value_of h place)) refl
+    where
+      by : (t : Bool) → is_valid kind level (value_of h place) ≡ t
+          → held_now heading h kind level place ≡ cond (is_valid kind level (value_of h place)) (Some (value_of h place)) None
+      by true t = valid_held h pes t ∙ sym (ap (λ (x : Bool). cond x (Some (value_of h place)) None) t)
+      by false t =
+          none_is (held_now heading h kind level place) (false_from_ne_true (is_some (held_now heading h kind level place)) (λ some.
+          let x : (value : ℕ) × (held_now heading h kind level place ≡ Some value) = some_is (held_now heading h kind level place) some in
+          true≢false (sym (k.held_valid kind level place (noted heading Patterns h) x.0 x.1)
+          ∙ (ap (is_valid kind level) (sym (present x.0 x.1)) ∙ t))))
+          ∙ sym (ap (λ (x : Bool). cond x (Some (value_of h place)) None) t)
+
+  -- ---- the last valid write after an event that isn't one
+
+  last_later : (h : List Event) (e : Event) (w : ValidWrite) (P : List Noted → Type 0)
+      → last_valid kind level place (noted heading Patterns (e ∷ h)) ≡ later (note heading Patterns (noted heading Patterns h) e) (last_valid kind level place (noted heading Patterns h))
+      → ((old : ValidWrite) → last_valid kind level place (noted heading Patterns h) ≡ Some old
+      → P (note heading Patterns (noted heading Patterns h) e ∷ old.since))
+      → last_valid kind level place (noted heading Patterns (e ∷ h)) ≡ Some w → P w.since
+  last_later h e w P on each last =
+      option_and_then_some (λ (x : ValidWrite). Some (record { value = x.value; since = n ∷ x.since })) (last_valid kind level place (noted heading Patterns h)) w
+      (sym on ∙ last)
+      (λ old is same. let one : record { value = old.value; since = n ∷ old.since } ≡ w = cc in
+      subst (λ (x : ValidWrite). P x.since) one (each old is))
+    where
+      n : Noted
+      n = note heading Patterns (noted heading Patterns h) e
+
+  -- ---- an event that doesn't touch the place
+
+  last_on : (e : Event) (n : Noted) (found : Option ValidWrite) → touches place e ≡ false → last_valid_after kind level place e n found ≡ later n found
+  last_on (Write pe at value) n found t = ap (λ (b : Bool). cond (b && is_valid kind level value) (Some (record { value = value; since = [] })) (later n found)) t
+  last_on (Init pe page) n found t = ap (λ (b : Bool). cond b None (later n found)) t
+  last_on e n found t = refl
+
+  value_on : (e : Event) (h : List Event) → touches place e ≡ false → value_of (e ∷ h) place ≡ value_of h place
+  value_on (Write pe at value) h t = ap (λ (b : Bool). cond b value (value_of h place)) t
+  value_on (Init pe page) h t = ap (λ (b : Bool). cond b 0 (value_of h place)) t
+  value_on e h t = refl
+
+  held_on : (e : Event) (n : Noted) (h : List Noted) → touches place e ≡ false
+      → held_after heading Patterns kind level place e n h ≡ held heading Patterns kind level place h
+  held_on (Write pe at value) n h t =
+      ap (λ (b : Bool). cond (b && is_valid kind level value) (Some value) (held heading Patterns kind level place h)) t
+  held_on (Init pe page) n h t = ap (λ (b : Bool). cond b None (held heading Patterns kind level place h)) t
+  held_on (Dsb q dsb) n h t = absurd (true≢false t)
+  held_on e n h t = refl
+
+  still_on : (e : Event) → touches place e ≡ false → is_still e ≡ true
+  still_on (Dsb q dsb) t = absurd (true≢false t)
+  still_on (Tlbi q op xt) t = absurd (true≢false t)
+  still_on e t = refl
+
+  unwritten_on : (p : ℕ) (e : Event) → touches place e ≡ false → writes p place e ≡ false
+  unwritten_on p (Write pe at value) t = ap (λ (b : Bool). (pe == p) && b) t ∙ and-false (pe == p)
+  unwritten_on p e t = refl
+
+  -- what a place holds and its value are as they were
+  record Alike (h : List Event) (e : Event) : Type 0 where
+    pub held : held_now heading (e ∷ h) kind level place ≡ held_now heading h kind level place
+    pub value : value_of (e ∷ h) place ≡ value_of h place
+    pub last : last_valid kind level place (noted heading Patterns (e ∷ h))
+        ≡ later (note heading Patterns (noted heading Patterns h) e) (last_valid kind level place (noted heading Patterns h))
+
+  alike_stands : (h : List Event) (e : Event) (state : EntryState) (pends pends' : ℕ → Pends) → Alike h e
+      → EntryStands heading h kind level place state pends
+      → (is_broken state ≡ true → (w : ValidWrite) → last_valid kind level place (noted heading Patterns h) ≡ Some w
+      → Marked heading place (note heading Patterns (noted heading Patterns h) e ∷ w.since) state pends')
+      → (is_broken state ≡ false → (q : ℕ) → IsIdle (pends' q))
+      → EntryStands heading (e ∷ h) kind level place state pends'
+  alike_stands h e state pends pends' a s marks idle = record {
+    core = s.core ∙ ap (option_and_then (core_of kind level)) (sym a.held);
+    broken = s.broken ∙ (ap (λ (o : Option ℕ). is_some o && not (is_valid kind level (value_of h place))) (sym a.held)
+        ∙ ap (λ (v : ℕ). is_some (held_now heading (e ∷ h) kind level place) && not (is_valid kind level v)) (sym a.value));
+    marks = λ broken w last. last_later h e w (λ since. Marked heading place since state pends') a.last (marks broken) last;
+    idle = idle;
+  }
+
+  pub stays : (h : List Event) (e : Event) (state : EntryState) (pends : ℕ → Pends) → 0 < heading.pes → touches place e ≡ false
+      → EntryStands heading h kind level place state pends → EntryStands heading (e ∷ h) kind level place state pends
+  stays h e state pends pes t s =
+      alike_stands h e state pends pends (record {
+        held = k.held_step kind level place n (noted heading Patterns h) pes ∙ held_on e n (noted heading Patterns h) t;
+        value = value_on e h t;
+        last = last_on e n (last_valid kind level place (noted heading Patterns h)) t;
+      }) s
+      (λ broken w last. marked_still heading k place n w.since state state pends pends (still_on e t) (s.marks broken w last)
+      (λ p. sym (ap (λ (b : Bool). b || writer_at state p) (unwritten_on p e t))) (λ p. refl) (λ p. refl) (λ p. refl) (λ q b c p. refl))
+      s.idle
+    where
+      n : Noted
+      n = note heading Patterns (noted heading Patterns h) e
+
+  -- ---- a TLBI
+
+  pub tlbi_stands : (h : List Event) (e : Event) (state : EntryState) (pends pends' : ℕ → Pends) → 0 < heading.pes
+      → held_after heading Patterns kind level place e (note heading Patterns (noted heading Patterns h) e) (noted heading Patterns h) ≡ held_now heading h kind level place
+      → value_of (e ∷ h) place ≡ value_of h place
+      → last_valid_after kind level place e (note heading Patterns (noted heading Patterns h) e) (last_valid kind level place (noted heading Patterns h))
+      ≡ later (note heading Patterns (noted heading Patterns h) e) (last_valid kind level place (noted heading Patterns h))
+      → EntryStands heading h kind level place state pends
+      → (is_broken state ≡ true → (since : List Noted) → Marked heading place since state pends
+      → Marked heading place (note heading Patterns (noted heading Patterns h) e ∷ since) state pends')
+      → (is_broken state ≡ false → (q : ℕ) → IsIdle (pends' q))
+      → EntryStands heading (e ∷ h) kind level place state pends'
+  tlbi_stands h e state pends pends' pes holds value last s marks idle =
+      alike_stands h e state pends pends' (record {
+        held = k.held_step kind level place (note heading Patterns (noted heading Patterns h) e) (noted heading Patterns h) pes ∙ holds;
+        value = value;
+        last = last;
+      }) s (λ broken w is. marks broken w.since (s.marks broken w is)) idle
+
+  -- ---- a write
+
+  unbroken_held : (h : List Event) (state : EntryState) (pends : ℕ → Pends) → EntryStands heading h kind level place state pends → is_broken state ≡ false
+      → is_some (held_now heading h kind level place) ≡ true → is_valid kind level (value_of h place) ≡ true
+  unbroken_held h state pends s unbroken some = by (is_valid kind level (value_of h place)) refl
+    where
+      by : (t : Bool) → is_valid kind level (value_of h place) ≡ t → is_valid kind level (value_of h place) ≡ true
+      by true t = t
+      by false t = absurd (true≢false (sym (s.broken ∙ (ap (λ (b : Bool). b && not (is_valid kind level (value_of h place))) some ∙ ap not t)) ∙ unbroken))
+
+  -- the masks of a place that holds something, broken or not
+  held_marks : (h : List Event) (state : EntryState) (pends : ℕ → Pends) (w : ValidWrite) → EntryStands heading h kind level place state pends
+      → is_some (held_now heading h kind level place) ≡ true → last_valid kind level place (noted heading Patterns h) ≡ Some w
+      → Marked heading place w.since state pends
+  held_marks h state pends w s some last = by (is_broken state) refl
+    where
+      by : (t : Bool) → is_broken state ≡ t → Marked heading place w.since state pends
+      by true t = s.marks t w last
+      by false t = marked_blank heading k place w.since state pends t (s.idle t) (valid_unwritten h w (unbroken_held h state pends s t some) last)
+
+  here : (place == place) ≡ true
+  here = eq-eqb place place refl
+
+  pub write_stands : (h : List Event) (pe value : ℕ) (old new : EntryState) (pends pends' : ℕ → Pends) → 0 < heading.pes
+      → Written old pe (core_of kind level value) new → KeepsPends new pends pends'
+      → EntryStands heading h kind level place old pends → EntryStands heading (Write pe place value ∷ h) kind level place new pends'
+  write_stands h pe value old new pends pends' pes w keeps s = by (is_valid kind level value) refl
+    where
+      e : Event
+      e = Write pe place value
+
+      n : Noted
+      n = note heading Patterns (noted heading Patterns h) e
+
+      holds : (t : Bool) → is_valid kind level value ≡ t → held_now heading (e ∷ h) kind level place
+          ≡ cond t (Some value) (held_now heading h kind level place)
+      holds t v =
+          k.held_step kind level place n (noted heading Patterns h) pes
+          ∙ (ap (λ (b : Bool). cond (b && is_valid kind level value) (Some value) (held_now heading h kind level place)) here
+          ∙ ap (λ (b : Bool). cond b (Some value) (held_now heading h kind level place)) v)
+
+      present : value_of (e ∷ h) place ≡ value
+      present = ap (λ (b : Bool). cond b value (value_of h place)) here
+
+      idle : is_broken new ≡ false → (q : ℕ) → IsIdle (pends' q)
+      idle t q b c p = keeps q b c p ∙ ap (λ (x : Bool). x && waits_at (pends q) b c p) t
+
+      last : is_valid kind level value ≡ false → last_valid kind level place (noted heading Patterns (e ∷ h))
+          ≡ later n (last_valid kind level place (noted heading Patterns h))
+      last v = ap (λ (b : Bool). cond b (Some (record { value = value; since = [] })) (later n (last_valid kind level place (noted heading Patterns h))))
+          (ap (λ (b : Bool). (place == place) && b) v ∙ and-false (place == place))
+
+      after_valid : (core : Core) (o : Option Core) → o ≡ Some core → core_after o (core_in old) ≡ o
+      after_valid core o is = ap (λ (x : Option Core). core_after x (core_in old)) is ∙ sym is
+
+      by : (t : Bool) → is_valid kind level value ≡ t → EntryStands heading (e ∷ h) kind level place new pends'
+      by true v =
+          let has : (core : Core) × (core_of kind level value ≡ Some core) = some_is (core_of kind level value) (core_valid value v) in
+          let unbroken : is_broken new ≡ false = w.broken ∙ ap (λ (o : Option Core). is_none o && is_some (core_in old)) has.1 in
+          record {
+            core = w.core ∙ (after_valid has.0 (core_of kind level value) has.1 ∙ sym (ap (option_and_then (core_of kind level)) (holds true v)));
+            broken = unbroken ∙ sym (ap (λ (x : ℕ). is_some (held_now heading (e ∷ h) kind level place) && not (is_valid kind level x)) present
+                ∙ (ap (λ (b : Bool). is_some (held_now heading (e ∷ h) kind level place) && not b) v
+                ∙ and-false (is_some (held_now heading (e ∷ h) kind level place))));
+            marks = λ broken. absurd (true≢false (sym broken ∙ unbroken));
+            idle = idle;
+          }
+      by false v =
+          let none : core_of kind level value ≡ None = core_invalid value v in
+          let same : core_in new ≡ core_in old = w.core ∙ ap (λ (o : Option Core). core_after o (core_in old)) none in
+          let breaks : is_broken new ≡ is_some (core_in old) = w.broken ∙ ap (λ (o : Option Core). is_none o && is_some (core_in old)) none in
+          let some : is_some (held_now heading h kind level place) ≡ is_some (core_in old) = holds_core h old pends s in
+          record {
+            core = same ∙ (s.core ∙ sym (ap (option_and_then (core_of kind level)) (holds false v)));
+            broken = breaks ∙ (sym some ∙ sym (ap (λ (o : Option ℕ). is_some o && not (is_valid kind level (value_of (e ∷ h) place))) (holds false v)
+                ∙ (ap (λ (x : ℕ). is_some (held_now heading h kind level place) && not (is_valid kind level x)) present
+                ∙ (ap (λ (b : Bool). is_some (held_now heading h kind level place) && not b) v
+                ∙ and-true (is_some (held_now heading h kind level place))))));
+            marks = λ broken x is. last_later h e x (λ since. Marked heading place since new pends') (last v)
+                (λ y was. marked_still heading k place n y.since old new pends pends' refl
+                (held_marks h old pends y s (some ∙ (sym breaks ∙ broken)) was)
+                (λ p. w.writers p ∙ (ap (λ (b : Bool). b && (p == pe || writer_at old p)) broken ∙ both_written p pe place (writer_at old p)))
+                (λ p. w.seen p ∙ ap (λ (o : Option Core). is_none o && seen_at old p) none)
+                (λ p. w.half p ∙ ap (λ (o : Option Core). is_none o && half_at old p) none)
+                (λ p. w.clean p ∙ ap (λ (o : Option Core). is_none o && clean_at old p) none)
+                (λ q b c p. keeps q b c p ∙ ap (λ (t : Bool). t && waits_at (pends q) b c p) broken)) is;
+            idle = idle;
+          }
+
+  -- the core of an unbroken place is that of its value
+  pub present_core : (h : List Event) (state : EntryState) (pends : ℕ → Pends) → 0 < heading.pes
+      → EntryStands heading h kind level place state pends → is_broken state ≡ false → core_in state ≡ core_of kind level (value_of h place)
+  present_core h state pends pes s unbroken = s.core ∙ by (is_some (held_now heading h kind level place)) refl
+    where
+      by : (t : Bool) → is_some (held_now heading h kind level place) ≡ t → core_now heading h kind level place ≡ core_of kind level (value_of h place)
+      by true t = ap (option_and_then (core_of kind level)) (valid_held h pes (unbroken_held h state pends s unbroken t))
+      by false t =
+          let none : held_now heading h kind level place ≡ None = none_is (held_now heading h kind level place) t in
+          ap (option_and_then (core_of kind level)) none
+          ∙ sym (core_invalid (value_of h place) (false_from_ne_true (is_valid kind level (value_of h place)) (λ v.
+          let apart : None ≡ Some (value_of h place) = sym none ∙ valid_held h pes v in cc)))
+
+  -- ---- a DSB
+
+  -- nothing is held after it where nothing was held before
+  none_after : (n : Noted) (o : Option ValidWrite)
+      → option_and_then (λ (w : ValidWrite). cond (cleansed_everywhere heading Patterns place w.since) None (Some w.value)) o ≡ None
+      → option_and_then (λ (w : ValidWrite). cond (cleansed_everywhere heading Patterns place (n ∷ w.since)) None (Some w.value)) o ≡ None
+  none_after n None e = refl
+  none_after n (Some w) e = by (cleansed_everywhere heading Patterns place w.since) refl
+    where
+      by : (t : Bool) → cleansed_everywhere heading Patterns place w.since ≡ t
+          → cond (cleansed_everywhere heading Patterns place (n ∷ w.since)) None (Some w.value) ≡ None
+      by true t = ap (λ (b : Bool). cond b None (Some w.value))
+          (every_wider heading.pes (λ p. cleansed heading Patterns place p w.since) (λ p. cleansed heading Patterns place p (n ∷ w.since))
+          (λ p c. cleansed_on heading k place p n w.since c) t)
+      by false t = let apart : Some w.value ≡ None = sym (ap (λ (b : Bool). cond b None (Some w.value)) t) ∙ e in cc
+
+  whole_held : (h : List Event) (q : ℕ) (dsb : Barrier) (state : EntryState) (pends : ℕ → Pends) → 0 < heading.pes → is_broken state ≡ false
+      → EntryStands heading h kind level place state pends → held_now heading (Dsb q dsb ∷ h) kind level place ≡ held_now heading h kind level place
+  whole_held h q dsb state pends pes unbroken s = by (is_some (held_now heading h kind level place)) refl
+    where
+      by : (t : Bool) → is_some (held_now heading h kind level place) ≡ t
+          → held_now heading (Dsb q dsb ∷ h) kind level place ≡ held_now heading h kind level place
+      by true t =
+          let v : is_valid kind level (value_of h place) ≡ true = unbroken_held h state pends s unbroken t in
+          valid_held (Dsb q dsb ∷ h) pes v ∙ sym (valid_held h pes v)
+      by false t =
+          let none : held_now heading h kind level place ≡ None = none_is (held_now heading h kind level place) t in
+          k.held_step kind level place (note heading Patterns (noted heading Patterns h) (Dsb q dsb)) (noted heading Patterns h) pes
+          ∙ (none_after (note heading Patterns (noted heading Patterns h) (Dsb q dsb)) (last_valid kind level place (noted heading Patterns h)) none ∙ sym none)
+
+  pub whole_stands : (h : List Event) (q : ℕ) (dsb : Barrier) (old new : EntryState) (pends pends' : ℕ → Pends) → 0 < heading.pes → is_broken old ≡ false
+      → core_in new ≡ core_in old → is_broken new ≡ false → ((i : ℕ) → IsIdle (pends' i))
+      → EntryStands heading h kind level place old pends → EntryStands heading (Dsb q dsb ∷ h) kind level place new pends'
+  whole_stands h q dsb old new pends pends' pes whole core unbroken idle s =
+      let same : held_now heading (Dsb q dsb ∷ h) kind level place ≡ held_now heading h kind level place
+      = whole_held h q dsb old pends pes whole s in
+      record {
+        core = core ∙ (s.core ∙ ap (option_and_then (core_of kind level)) (sym same));
+        broken = unbroken ∙ (sym whole ∙ (s.broken ∙ ap (λ (o : Option ℕ). is_some o && not (is_valid kind level (value_of h place))) (sym same)));
+        marks = λ broken. absurd (true≢false (sym broken ∙ unbroken));
+        idle = λ t. idle;
+      }
+
+  unfinished : (dsb : Barrier) (mid : EntryState) (pends : Pends) → 0 < heading.pes → is_broken mid ≡ false
+      → every_pe heading.pes (clean_after mid pends dsb) ≡ false
+  unfinished dsb mid pends pes unbroken = every_none heading.pes (clean_after mid pends dsb) pes (both mid unbroken)
+    where
+      both : (mid : EntryState) → is_broken mid ≡ false → (p : ℕ) → clean_after mid pends dsb p ≡ false
+      both Clean t p = refl
+      both (Live core) t p = refl
+      both (Broken marks) t p = absurd (true≢false t)
+
+  -- what a broken place holds
+  broken_held : (h : List Event) (state : EntryState) (pends : ℕ → Pends) → EntryStands heading h kind level place state pends → is_broken state ≡ true
+      → (w : ValidWrite) × (last_valid kind level place (noted heading Patterns h) ≡ Some w) × (held_now heading h kind level place ≡ Some w.value)
+  broken_held h state pends s broken =
+      let some : is_some (held_now heading h kind level place) ≡ true
+      = (and_parts (is_some (held_now heading h kind level place)) (not (is_valid kind level (value_of h place))) (sym s.broken ∙ broken)).0 in
+      let x : (value : ℕ) × (held_now heading h kind level place ≡ Some value) = some_is (held_now heading h kind level place) some in
+      option_and_then_some (λ (w : ValidWrite). cond (cleansed_everywhere heading Patterns place w.since) None (Some w.value))
+      (last_valid kind level place (noted heading Patterns h)) x.0 x.1
+      (λ w last is. (w, last, x.1 ∙ by w.value x.0 (cleansed_everywhere heading Patterns place w.since) is))
+    where
+      by : (v x : ℕ) (t : Bool) → cond t None (Some v) ≡ Some x → Some x ≡ Some v
+      by v x true e = cc
+      by v x false e = sym e
+
+  cond_core : (t : Bool) (v : ℕ) → option_and_then (core_of kind level) (cond t None (Some v)) ≡ cond t None (core_of kind level v)
+  cond_core true v = refl
+  cond_core false v = refl
+
+  pub dsb_stands : (h : List Event) (q : ℕ) (dsb : Barrier) (old mid new : EntryState) (pends pends' : ℕ → Pends) → 0 < heading.pes
+      → Heard heading old q dsb mid → Completed mid (pends q) dsb heading.pes new (pends' q) → OthersStay new q pends pends'
+      → EntryStands heading h kind level place old pends → EntryStands heading (Dsb q dsb ∷ h) kind level place new pends'
+  dsb_stands h q dsb old mid new pends pends' pes heard d others s = by (is_broken old) refl
+    where
+      e : Event
+      e = Dsb q dsb
+
+      n : Noted
+      n = note heading Patterns (noted heading Patterns h) e
+
+      mids : Middle heading old q dsb mid
+      mids = middle heading old q dsb mid heard
+
+      quiet : is_broken new ≡ false → ((b : Bool) (c : Cover) (p : ℕ) → waits_at (pends' q) b c p ≡ false) → (i : ℕ) → IsIdle (pends' i)
+      quiet unbroken own i b c p = one (nat_eq i q) refl
+        where
+          one : (t : Bool) → nat_eq i q ≡ t → waits_at (pends' i) b c p ≡ false
+          one true t = ap (λ (j : ℕ). waits_at (pends' j) b c p) (eqb-true i q t) ∙ own b c p
+          one false t = others i t b c p ∙ ap (λ (x : Bool). x && waits_at (pends i) b c p) unbroken
+
+      by : (t : Bool) → is_broken old ≡ t → EntryStands heading (e ∷ h) kind level place new pends'
+      by false t =
+          let mid_whole : is_broken mid ≡ false = mids.broken ∙ t in
+          let unbroken : is_broken new ≡ false
+          = d.broken ∙ (ap (λ (x : Bool). is_some (core_in new) && x) mid_whole ∙ and-false (is_some (core_in new))) in
+          whole_stands h q dsb old new pends pends' pes t
+          (d.core ∙ (ap (λ (x : Bool). cond x None (core_in mid)) (unfinished dsb mid (pends q) pes mid_whole) ∙ mids.core)) unbroken
+          (quiet unbroken (λ b c p. d.waiting b c p
+          ∙ (ap (λ (x : Bool). is_some (core_in new) && (not (answers dsb b) && x)) (s.idle t q b c p)
+          ∙ (ap (λ (x : Bool). is_some (core_in new) && x) (and-false (not (answers dsb b))) ∙ and-false (is_some (core_in new)))))) s
+      by true t =
+          let has : (w : ValidWrite) × (last_valid kind level place (noted heading Patterns h) ≡ Some w) × (held_now heading h kind level place ≡ Some w.value)
+          = broken_held h old pends s t in
+          let w : ValidWrite = has.0 in
+          let all : every_pe heading.pes (clean_after mid (pends q) dsb) ≡ cleansed_everywhere heading Patterns place (n ∷ w.since)
+          = every_alike heading.pes (clean_after mid (pends q) dsb) (λ p. cleansed heading Patterns place p (n ∷ w.since))
+          (clean_now heading k place n w.since q dsb refl old mid pends mids (s.marks t w has.1)) in
+          let holds : held_now heading (e ∷ h) kind level place ≡ cond (cleansed_everywhere heading Patterns place (n ∷ w.since)) None (Some w.value)
+          = k.held_step kind level place n (noted heading Patterns h) pes
+          ∙ ap (option_and_then (λ (x : ValidWrite). cond (cleansed_everywhere heading Patterns place (n ∷ x.since)) None (Some x.value))) has.1 in
+          let core : core_in new ≡ core_now heading (e ∷ h) kind level place
+          = d.core ∙ (ap (λ (x : Bool). cond x None (core_in mid)) all
+          ∙ (ap (λ (x : Option Core). cond (cleansed_everywhere heading Patterns place (n ∷ w.since)) None x)
+          (mids.core ∙ (s.core ∙ ap (option_and_then (core_of kind level)) has.2))
+          ∙ (sym (cond_core (cleansed_everywhere heading Patterns place (n ∷ w.since)) w.value) ∙ ap (option_and_then (core_of kind level)) (sym holds)))) in
+          let invalid : not (is_valid kind level (value_of h place)) ≡ true
+          = (and_parts (is_some (held_now heading h kind level place)) (not (is_valid kind level (value_of h place))) (sym s.broken ∙ t)).1 in
+          let breaks : is_broken new ≡ is_some (core_in new)
+          = d.broken ∙ (ap (λ (x : Bool). is_some (core_in new) && x) (mids.broken ∙ t) ∙ and-true (is_some (core_in new))) in
+          record {
+            core = core;
+            broken = breaks ∙ (ap (λ (o : Option Core). is_some o) core ∙ (sym (core_held (e ∷ h))
+                ∙ (sym (and-true (is_some (held_now heading (e ∷ h) kind level place)))
+                ∙ ap (λ (x : Bool). is_some (held_now heading (e ∷ h) kind level place) && x) (sym invalid))));
+            marks = λ broken x is. last_later h e x (λ since. Marked heading place since new pends') refl
+                (λ y was. marked_dsb heading k place n y.since q dsb refl old mid pends mids (s.marks t y was) new pends' broken d others) is;
+            idle = λ unbroken. quiet unbroken (λ b c p. d.waiting b c p
+                ∙ ap (λ (x : Bool). x && (not (answers dsb b) && waits_at (pends q) b c p)) (sym breaks ∙ unbroken));
+          }

@@ -1,0 +1,42 @@
+use Rattle.std.proofs.Common.{◌≡◌, ℕ, refl, ap, ◌∙◌, sym, option_and_then, Option, Some, None}
+use Rattle.bbm_descriptor.specs.Descriptor.{core_in as core_of_desc, core_of, desc_of, desc_with}
+use Rattle.bbm_descriptor.specs.declared.desc.Core.{Core}
+use Rattle.bbm_descriptor.specs.declared.desc.Core.TheVariants.{Table as CoreTable, Leaf as CoreLeaf}
+use Rattle.bbm_descriptor.specs.declared.desc.Desc.{Desc}
+use Rattle.bbm_descriptor.specs.declared.desc.Desc.TheVariants.{Invalid, Table, Leaf}
+use Rattle.bbm_regimes.specs.declared.regime.Kind.{Kind}
+use Rattle.bbm_rules.specs.Tree.{next_in, next_of}
+use Rattle.bbm_replay_entries.specs.Stands.{held_now, next_of_core}
+use Rattle.bbm_replay_entries.proofs.Places.{holds_core, present_core}
+use Rattle.bbm_replay_entries.proofs.tells.law_entry_holds.Goals as goal
+
+fields : (desc : Desc) (core : Core) → core_of_desc desc ≡ Some core → desc ≡ desc_with core
+fields Invalid core e = cc
+fields (Table next ns) core e = let same : CoreTable next ns ≡ core = cc in ap desc_with same
+fields (Leaf out attrs share global contiguous) core e =
+    let same : CoreLeaf out attrs share global contiguous ≡ core = cc in ap desc_with same
+
+next_fields : (desc : Desc) → next_in desc ≡ next_of_core (core_of_desc desc)
+next_fields Invalid = refl
+next_fields (Table next ns) = refl
+next_fields (Leaf out attrs share global contiguous) = refl
+
+next_held : (kind : Kind) (level : ℕ) (o : Option ℕ) → option_and_then (next_of kind level) o ≡ next_of_core (option_and_then (core_of kind level) o)
+next_held kind level None = refl
+next_held kind level (Some value) = next_fields (desc_of kind level value)
+
+pub returns-clause-holds : goal.returns-clause-holds
+returns-clause-holds c heading h kind level place state pends s =
+    holds_core heading (c.known.ensures heading) kind level place h state pends s
+
+pub returns-clause-descriptor : goal.returns-clause-descriptor
+returns-clause-descriptor c heading h kind level place value core state pends s holds is =
+    fields (desc_of kind level value) core (sym (ap (option_and_then (core_of kind level)) holds) ∙ (sym s.core ∙ is))
+
+pub returns-clause-present : goal.returns-clause-present
+returns-clause-present c heading h kind level place state pends pes s unbroken =
+    present_core heading (c.known.ensures heading) kind level place h state pends pes s unbroken
+
+pub returns-clause-next : goal.returns-clause-next
+returns-clause-next c heading h kind level place state pends s =
+    next_held kind level (held_now heading h kind level place) ∙ sym (ap next_of_core s.core)

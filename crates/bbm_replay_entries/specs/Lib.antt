@@ -1,0 +1,5 @@
+pub mod Known
+pub mod Events
+pub mod Marked
+pub mod Phases
+pub mod Stands

@@ -1,0 +1,12 @@
+pub mod Elements
+pub mod FitLemmas
+pub mod RuleLemmas
+pub mod LeastLemmas
+pub mod PathLemmas
+pub mod JudgeLemmas
+pub mod AttachLemmas
+pub mod NodeLemmas
+pub mod HangLemmas
+pub mod PageLemmas
+pub mod PlaceLemmas
+pub mod CountLemmas

@@ -1,0 +1,72 @@
+-- Childless tables, and the number of restless places.
+use Rattle.std.proofs.Common.{◌≡◌, ℕ, suc, true, List, Option, Some, None, is_some, option_and_then, refl, sym, ◌∙◌, ap, subst, true≢false}
+use Rattle.bbm_regimes.specs.declared.regime.Kind.{Kind}
+use Rattle.bbm_descriptor.specs.Descriptor.{core_of, desc_of}
+use Rattle.bbm_descriptor.specs.declared.desc.Core.{Core}
+use Rattle.bbm_events.specs.Heading.{Heading}
+use Rattle.bbm_rules.specs.Prelude.{Event}
+use Rattle.bbm_rules.specs.Broken.{keeps}
+use Rattle.bbm_rules.specs.Claims.Trust.{Patterns}
+use Rattle.bbm_rules.specs.Held.{held}
+use Rattle.bbm_rules.specs.Places.{page_of}
+use Rattle.bbm_rules.specs.Tree.{Node, held_at, is_childless, next_of, node_below, node_of}
+use Rattle.bbm_rules.specs.Values.{written_places}
+use Rattle.bbm_replay_trees.specs.Below.{Below}
+use Rattle.bbm_replay_trees.specs.Told.{AllFit, Childless, SameCores, SameNodes, is_at, next_in, notes}
+use Rattle.bbm_replay_trees.proofs.AttachLemmas.{core_none}
+use Rattle.bbm_replay_trees.proofs.Elements.{In}
+use Rattle.bbm_replay_trees.proofs.FitLemmas.{at_page, is_at_page}
+use Rattle.bbm_replay_trees.proofs.HangLemmas.{down, held_written, table_core}
+
+-- ---- childless
+
+module _ (heading : Heading) (b : Below heading) (h : List Event) (kept_rules : keeps heading Patterns h ≡ true)
+    (fit : AllFit heading h) (node : ℕ → Option Node) (core : Kind → ℕ → ℕ → Option Core) (same : SameNodes heading h node)
+    (same_core : SameCores heading h core) (n : Node) (place value : ℕ) (is : node (page_of place) ≡ Some n)
+    (holds : held_at heading Patterns (notes heading h) n place ≡ Some value) where
+  at : node_of heading Patterns (notes heading h) (page_of place) ≡ Some n
+  at = sym (same (page_of place)) ∙ is
+
+  core_is : core n.kind n.level place ≡ core_of n.kind n.level value
+  core_is = same_core n place at ∙ ap (option_and_then (core_of n.kind n.level)) holds
+
+  -- the core of a place of the next page
+  core_below : (next a : ℕ) → next_in (core n.kind n.level place) ≡ Some next → page_of a ≡ next
+      → core n.kind (suc n.level) a ≡ option_and_then (core_of n.kind (suc n.level)) (held heading Patterns n.kind (suc n.level) a (notes heading h))
+  core_below next a table inside =
+      same_core (node_below n place next) a
+      (ap (node_of heading Patterns (notes heading h)) inside
+      ∙ (sym (same next) ∙ down heading b h node same core same_core kept_rules n place next is table))
+
+  pub childless_from : is_childless heading Patterns (notes heading h) n value ≡ true → Childless core n place
+  childless_from k = by (next_of n.kind n.level value) refl
+    where
+      by : (o : Option ℕ) → next_of n.kind n.level value ≡ o → Childless core n place
+      by None e = absurd (true≢false (sym k ∙ b.childless_none (notes heading h) n value e))
+      by (Some next) e =
+          let table : next_in (core n.kind n.level place) ≡ Some next
+          = ap next_in core_is ∙ (table_core (desc_of n.kind n.level value) ∙ e) in
+          record {
+            next = next;
+            table = table;
+            holds_none = λ a inside. core_below next a table (at_page next a inside)
+                ∙ ap (option_and_then (core_of n.kind (suc n.level)))
+                ((b.childless_table (notes heading h) n value next e).0 k a (at_page next a inside));
+          }
+
+  pub childless_to : Childless core n place → is_childless heading Patterns (notes heading h) n value ≡ true
+  childless_to c =
+      let table : next_of n.kind n.level value ≡ Some c.next
+      = sym (table_core (desc_of n.kind n.level value)) ∙ (ap next_in (sym core_is) ∙ c.table) in
+      (b.childless_table (notes heading h) n value c.next table).1
+      (λ a inside. none a inside (held heading Patterns n.kind (suc n.level) a (notes heading h)) refl)
+    where
+      none : (a : ℕ) → page_of a ≡ c.next → (o : Option ℕ) → held heading Patterns n.kind (suc n.level) a (notes heading h) ≡ o → o ≡ None
+      none a inside None k = refl
+      none a inside (Some v) k =
+          let at_next : is_at c.next a ≡ true = is_at_page heading h fit c.next a
+          (subst (λ es. In (written_places es) a) (b.events_noted h)
+          (held_written heading n.kind (suc n.level) a (notes heading h) (ap is_some k))) inside in
+          let no_core : option_and_then (core_of n.kind (suc n.level)) (held heading Patterns n.kind (suc n.level) a (notes heading h)) ≡ None
+          = sym (core_below c.next a c.table inside) ∙ c.holds_none a at_next in
+          sym k ∙ core_none heading b h (node_below n place c.next) a no_core

@@ -1,0 +1,6 @@
+pub mod Told
+pub mod Below
+pub mod Events
+pub mod Paths
+pub mod Judged
+pub mod Restless

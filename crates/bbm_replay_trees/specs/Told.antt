@@ -1,0 +1,87 @@
+-- What a checker that keeps no history says of each page and place, by plain functions, and when that is what the
+-- definitions say after a history. A history is newest first. Source: project's own choice.
+use Rattle.std.specs.Prelude.{◌≡◌, ℕ, suc, ◌%◌, Bool, true, not, ◌&&◌, ◌==◌, List, Option, Some, None}
+use Rattle.std.specs.Prelude.{option_and_then, if◌then◌else◌}
+use Rattle.bbm_descriptor.specs.Descriptor.{core_of, is_valid}
+use Rattle.bbm_descriptor.specs.declared.desc.Core.{Core}
+use Rattle.bbm_descriptor.specs.declared.desc.Core.TheVariants.{Table}
+use Rattle.bbm_events.specs.Fits.{fits_heading}
+use Rattle.bbm_rules.specs.Prelude.{Kind, Heading, Event}
+use Rattle.bbm_rules.specs.Claims.Trust.{Patterns}
+use Rattle.bbm_rules.specs.Covers.{noted}
+use Rattle.bbm_rules.specs.Lists.{among, any, every}
+use Rattle.bbm_rules.specs.Notes.{Noted}
+use Rattle.bbm_rules.specs.Pages.{initialised, is_fresh, is_null}
+use Rattle.bbm_rules.specs.Places.{page_of}
+use Rattle.bbm_rules.specs.Tree.{Node, held_at, node_below, node_of}
+use Rattle.bbm_rules.specs.Values.{value_of}
+
+-- whether the address is that of a descriptor of the page
+abbrev pub is_at : ℕ → ℕ → Bool
+is_at page place = page_of place == page && place % 8 == 0
+
+-- whether each page is a null page
+abbrev pub SameNull : List Event → (ℕ → Bool) → Type 0
+SameNull h null = (p : ℕ) → null p ≡ is_null h p
+
+-- the value of each place
+abbrev pub SameValues : List Event → (ℕ → ℕ) → Type 0
+SameValues h value = (a : ℕ) → value a ≡ value_of h a
+
+-- whether each page was ever initialised
+abbrev pub SameKnown : List Event → (ℕ → Bool) → Type 0
+SameKnown h known = (p : ℕ) → known p ≡ among p (initialised h)
+
+module _ (heading : Heading) (h : List Event) where
+  -- the annotated history, where every pattern of events counts
+  abbrev pub notes : List Noted
+  notes = noted heading Patterns h
+
+  -- each event of the history fits the header
+  abbrev pub AllFit : Type 0
+  AllFit = every (fits_heading heading) h ≡ true
+
+  -- the node of each page
+  abbrev pub SameNodes : (ℕ → Option Node) → Type 0
+  SameNodes node = (p : ℕ) → node p ≡ node_of heading Patterns notes p
+
+  -- whether each page is fresh
+  abbrev pub SameFresh : (ℕ → Bool) → Type 0
+  SameFresh fresh = (p : ℕ) → fresh p ≡ is_fresh heading Patterns notes p
+
+  -- the core of what each place of a tree holds, given its kind, level and address
+  abbrev pub SameCores : (Kind → ℕ → ℕ → Option Core) → Type 0
+  SameCores core = (n : Node) (a : ℕ) → node_of heading Patterns notes (page_of a) ≡ Some n
+      → core n.kind n.level a ≡ option_and_then (core_of n.kind n.level) (held_at heading Patterns notes n a)
+
+-- whether the present value of some place above the node is invalid
+abbrev pub limbo_by : (ℕ → ℕ) → Node → Bool
+limbo_by value n = any (λ a. not (is_valid n.kind a.level (value a.place))) n.above
+
+-- whether each place above the node holds something
+abbrev pub is_held_by : (Kind → ℕ → ℕ → Bool) → Node → Bool
+is_held_by holds m = every (λ a. holds m.kind a.level a.place) m.above
+
+-- the node where the test keeps it
+abbrev pub kept : (Node → Bool) → Option Node → Option Node
+kept keeps None = None
+kept keeps (Some m) = if keeps m then Some m else None
+
+-- the next page of a core that is a table
+abbrev pub next_in : Option Core → Option ℕ
+next_in (Some (Table next ns)) = Some next
+next_in _ = None
+
+-- Childless: the place of a node holds a table, and no place of its next page holds anything.
+pub record Childless (core : Kind → ℕ → ℕ → Option Core) (n : Node) (place : ℕ) : Type 0 where
+  pub next : ℕ
+  pub table : next_in (core n.kind n.level place) ≡ Some next
+  pub holds_none : (a : ℕ) → is_at next a ≡ true → core n.kind (suc n.level) a ≡ None
+
+-- The node m hangs at a place of the node n.
+pub record Hangs (node : ℕ → Option Node) (core : Kind → ℕ → ℕ → Option Core) (place : ℕ) (m : Node) : Type 0 where
+  pub parent : Node
+  pub is_parent : node (page_of place) ≡ Some parent
+  pub at : is_at parent.page place ≡ true
+  pub table : next_in (core parent.kind parent.level place) ≡ Some m.page
+  pub is_below : m ≡ node_below parent place m.page

@@ -1,0 +1,44 @@
+//! Laws that tie what a checker without a history knows of trees to the definitions over a history.
+#![tactic(auto)]
+
+mod below;
+pub mod judging;
+pub mod nodes;
+pub mod pages;
+pub mod places;
+pub mod rules;
+
+pub use judging::{law_judging, law_unattached};
+pub use nodes::{law_neighbours, law_nodes};
+pub use pages::{law_fresh_pages, law_pages, law_values};
+pub use places::{law_childless_by_cores, law_limbo_by_values, law_restless_places};
+pub use rules::{law_limits_of_events, law_page_rules, law_rules_of_events, law_write_rules};
+
+#[cfg(test)]
+mod tests {
+    use crate::judging::{law_judging, law_unattached};
+    use crate::nodes::{law_neighbours, law_nodes};
+    use crate::pages::{law_fresh_pages, law_pages, law_values};
+    use crate::places::{law_childless_by_cores, law_limbo_by_values, law_restless_places};
+    use crate::rules::{
+        law_limits_of_events, law_page_rules, law_rules_of_events, law_write_rules,
+    };
+
+    #[test]
+    fn laws_hold() {
+        law_childless_by_cores();
+        law_fresh_pages();
+        law_judging();
+        law_limbo_by_values();
+        law_limits_of_events();
+        law_neighbours();
+        law_nodes();
+        law_page_rules();
+        law_pages();
+        law_restless_places();
+        law_rules_of_events();
+        law_unattached();
+        law_values();
+        law_write_rules();
+    }
+}
