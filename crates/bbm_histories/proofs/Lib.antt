@@ -16,3 +16,4 @@ pub mod TagLemmas
 pub mod ProperLemmas
 pub mod StepLemmas
 pub mod AttachedLemmas
+pub mod BaseLemmas

@@ -10,7 +10,7 @@ pub mod values;
 
 pub use patterns::{law_patterns_begin, law_patterns_stay, law_uniform};
 pub use steps::{law_held_step, law_pattern_steps, law_tag_steps};
-pub use tags::law_tags;
+pub use tags::{law_bases, law_tags};
 pub use trees::{
     law_frozen_view, law_held_changes, law_limbo_is_empty, law_lower_leaves, law_one_node,
     law_one_position, law_proper, law_tree_step,
@@ -21,7 +21,7 @@ pub use values::{law_fresh_content, law_frozen, law_window};
 mod tests {
     use crate::patterns::{law_patterns_begin, law_patterns_stay, law_uniform};
     use crate::steps::{law_held_step, law_pattern_steps, law_tag_steps};
-    use crate::tags::law_tags;
+    use crate::tags::{law_bases, law_tags};
     use crate::trees::{
         law_frozen_view, law_held_changes, law_limbo_is_empty, law_lower_leaves, law_one_node,
         law_one_position, law_proper, law_tree_step,
@@ -30,6 +30,7 @@ mod tests {
 
     #[test]
     fn laws_hold() {
+        law_bases();
         law_fresh_content();
         law_frozen();
         law_frozen_view();
