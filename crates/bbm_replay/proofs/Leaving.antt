@@ -38,7 +38,7 @@ module _ (heading : Heading) (laws : Laws heading) (h : List Event) (old new : V
         fit = fit_more heading h e t.fit fits;
         values = λ a. move.value a ∙ laws.pages.same_values h old.value e refl t.values a;
         nodes = laws.nodes.unroot h old.node new.node pe page proper sound t.nodes move.node;
-        fresh = λ p. move.roles.fresh p ∙ laws.pages.fresh_others h old.fresh e proper sound refl refl refl t.fresh p;
+        fresh = λ p. move.roles.fresh p ∙ laws.pages.fresh_others h old.fresh e sound refl refl refl t.fresh p;
         null = λ p. move.roles.null p ∙ laws.pages.same_null h old.null e refl t.null p;
         known = rest.0;
         pages = rest.1;

@@ -1,8 +1,11 @@
 pub mod Entries
 pub mod Quiet
-pub mod Pages
+pub mod PageMoves
 pub mod Leaving
 pub mod Growing
 pub mod Writing
-pub mod Barriers
-pub mod Tlbis
+pub mod DsbMoves
+pub mod TlbiMoves
+pub mod Judging
+pub mod Meeting
+pub mod Framing

@@ -15,8 +15,8 @@ use Rattle.bbm_replay_trees.specs.Told as told
 use Rattle.bbm_replay.specs.Laws.{Laws}
 use Rattle.bbm_replay.specs.Moves.{Same, SameTracked, is_quiet}
 use Rattle.bbm_replay.specs.Told.{Told}
-use Rattle.bbm_replay.specs.View.{View}
-use Rattle.bbm_replay.proofs.Entries.{carried, fit_more, keeps_more}
+use Rattle.bbm_replay.specs.View.{View, state_of, waiting}
+use Rattle.bbm_replay.proofs.Entries.{carried, entry_same, fit_more, keeps_more, state_same}
 
 -- what an event that changes no value, page or tree is to the definitions
 pub record Plain (e : Event) : Type 0 where
@@ -88,7 +88,7 @@ module _ (heading : Heading) (laws : Laws heading) where
         values = λ a. same.map.value a ∙ laws.pages.same_values h old.value e plain.values t.values a;
         nodes = nodes_stay h old new t e kept plain.trees same.nodes;
         fresh = λ p. same.roles.fresh p
-            ∙ laws.pages.fresh_others h old.fresh e (laws.nodes.proper t.proper) kept plain.inits plain.nulls
+            ∙ laws.pages.fresh_others h old.fresh e kept plain.inits plain.nulls
             (plain.unattached heading (told.notes heading h)) t.fresh p;
         null = λ p. same.roles.null p ∙ laws.pages.same_null h old.null e plain.nulls t.null p;
         known = rest.0;
@@ -98,3 +98,23 @@ module _ (heading : Heading) (laws : Laws heading) where
             (same.map.value a) (same.map.marks a) (λ q. same.map.pends q a);
         outside = λ a is. same.map.marks a ∙ t.outside a (sym (same.nodes _) ∙ is);
       }
+
+  -- where nothing changed
+  pub told_same : (h : List Event) (old new : View) → Told heading h old → Same old new → Told heading h new
+  told_same h old new t same = record {
+    proper = t.proper;
+    kept = t.kept;
+    fit = t.fit;
+    values = λ a. same.map.value a ∙ t.values a;
+    nodes = λ p. same.nodes p ∙ t.nodes p;
+    fresh = λ p. same.roles.fresh p ∙ t.fresh p;
+    null = λ p. same.roles.null p ∙ t.null p;
+    known = λ p. same.tracking.known p ∙ t.known p;
+    pages = same.tracking.pages ∙ t.pages;
+    tracked = λ p. same.tracking.tracked p ∙ t.tracked p ∙ sym (same.tracking.known p);
+    entries = λ n a is. entry_same heading laws h n.kind n.level a (state_of old n.kind n.level a)
+        (state_of new n.kind n.level a) (waiting old a) (waiting new a) (t.entries n a (sym (same.nodes _) ∙ is))
+        (state_same n.kind n.level (old.value a) (new.value a) (old.marks a) (new.marks a) (same.map.value a) (same.map.marks a))
+        (λ q. same.map.pends q a);
+    outside = λ a is. same.map.marks a ∙ t.outside a (sym (same.nodes _) ∙ is);
+  }

@@ -27,7 +27,7 @@ use Rattle.bbm_replay.specs.Told.{Told}
 use Rattle.bbm_replay.specs.View.{View, core_at, state_of, waiting}
 use Rattle.bbm_replay.proofs.Entries.{carried, fit_more, keeps_more, some_pe}
 use Rattle.bbm_replay.proofs.Growing.{grown, grown_entry, grown_outside}
-use Rattle.bbm_replay.proofs.Pages.{apart}
+use Rattle.bbm_replay.proofs.PageMoves.{apart}
 use Rattle.bbm_replay.proofs.Quiet.{tracked_stay}
 
 -- the state that a write leaves is the one that is read back
@@ -153,7 +153,7 @@ module _ (heading : Heading) (laws : Laws heading) (h : List Event) (old new : V
         } in
         after_write n is written g
         (λ p. nodes p ∙ laws.nodes.plain_write h old.node pe place v proper sound unattached t.nodes p)
-        (λ p. fresh p ∙ laws.pages.fresh_others h old.fresh e proper sound refl refl unattached t.fresh p) idle
+        (λ p. fresh p ∙ laws.pages.fresh_others h old.fresh e sound refl refl unattached t.fresh p) idle
 
     -- one that attaches the next page
     pub after_attaching_write : (n : Node) (next : ℕ) → old.node (page_of place) ≡ Some n
@@ -183,7 +183,7 @@ module _ (heading : Heading) (laws : Laws heading) (h : List Event) (old new : V
           fit = fit_more heading h e t.fit fits;
           values = laws.pages.value_write h old.value new.value pe place v t.values move.value;
           nodes = λ p. nodes p ∙ laws.nodes.plain_write h old.node pe place v proper sound unattached t.nodes p;
-          fresh = λ p. fresh p ∙ laws.pages.fresh_others h old.fresh e proper sound refl refl unattached t.fresh p;
+          fresh = λ p. fresh p ∙ laws.pages.fresh_others h old.fresh e sound refl refl unattached t.fresh p;
           null = λ p. null p ∙ laws.pages.same_null h old.null e refl t.null p;
           known = rest.0;
           pages = rest.1;

@@ -82,17 +82,17 @@ pub record NodeLaws (heading : Heading) : Type 0 where
 
 -- the pages and values after an event
 pub record PageLaws (heading : Heading) : Type 0 where
-  pub fresh_init : (h : List Event) (fresh next_fresh : ℕ → Bool) (pe page : ℕ) → Proper heading
+  pub fresh_init : (h : List Event) (fresh next_fresh : ℕ → Bool) (pe page : ℕ)
       → keeps heading Patterns (Init pe page ∷ h) ≡ true → SameFresh heading h fresh
       → ((p : ℕ) → next_fresh p ≡ (p == page || fresh p)) → SameFresh heading (Init pe page ∷ h) next_fresh
-  pub fresh_null : (h : List Event) (fresh next_fresh : ℕ → Bool) (pe page : ℕ) → Proper heading
+  pub fresh_null : (h : List Event) (fresh next_fresh : ℕ → Bool) (pe page : ℕ)
       → keeps heading Patterns (Null pe page ∷ h) ≡ true → SameFresh heading h fresh
       → ((p : ℕ) → next_fresh p ≡ (fresh p && not (p == page))) → SameFresh heading (Null pe page ∷ h) next_fresh
   pub fresh_attached : (h : List Event) (fresh next_fresh : ℕ → Bool) (next_node : ℕ → Option Node) (e : Event)
       → (changes e).inits ≡ false → (changes e).nulls ≡ false → SameFresh heading h fresh
       → SameNodes heading (e ∷ h) next_node → ((p : ℕ) → next_fresh p ≡ (fresh p && is_none (next_node p)))
       → SameFresh heading (e ∷ h) next_fresh
-  pub fresh_others : (h : List Event) (fresh : ℕ → Bool) (e : Event) → Proper heading
+  pub fresh_others : (h : List Event) (fresh : ℕ → Bool) (e : Event)
       → keeps heading Patterns (e ∷ h) ≡ true → (changes e).inits ≡ false → (changes e).nulls ≡ false
       → attached_by heading Patterns (notes heading h) e ≡ None → SameFresh heading h fresh
       → SameFresh heading (e ∷ h) fresh

@@ -1,2 +1,12 @@
-//! A checker.
+//! A checker of events that keeps no history: it keeps the values and marks of places, the trees, the roots with their
+//! registers and tags, and the locks, and judges each event by them.
 #![tactic(auto)]
+
+mod faults;
+mod laws;
+mod pages;
+mod parts;
+mod registers;
+pub mod replay;
+
+pub use replay::Replay;

@@ -40,7 +40,7 @@ module _ (heading : Heading) (laws : Laws heading) (h : List Event) (old new : V
         fit = fit_more heading h e t.fit fits;
         values = laws.pages.value_init h old.value new.value pe page t.values move.value;
         nodes = nodes_stay heading laws h old new t e kept refl move.nodes;
-        fresh = laws.pages.fresh_init h old.fresh new.fresh pe page proper kept t.fresh move.fresh;
+        fresh = laws.pages.fresh_init h old.fresh new.fresh pe page kept t.fresh move.fresh;
         null = λ p. move.null p ∙ laws.pages.same_null h old.null e refl t.null p;
         known = laws.pages.known h old.known new.known pe page t.known move.known;
         pages = move.pages ∙ sym (laws.pages.count h old.known old.pages pe page t.known t.pages);
@@ -68,7 +68,7 @@ module _ (heading : Heading) (laws : Laws heading) (h : List Event) (old new : V
         fit = fit_more heading h e t.fit fits;
         values = λ a. move.map.value a ∙ laws.pages.same_values h old.value e refl t.values a;
         nodes = nodes_stay heading laws h old new t e kept refl move.nodes;
-        fresh = laws.pages.fresh_null h old.fresh new.fresh pe page proper kept t.fresh move.fresh;
+        fresh = laws.pages.fresh_null h old.fresh new.fresh pe page kept t.fresh move.fresh;
         null = laws.pages.null h old.null new.null pe page t.null move.null;
         known = rest.0;
         pages = rest.1;

@@ -23,7 +23,7 @@ use Rattle.bbm_replay.specs.Laws.{Laws}
 use Rattle.bbm_replay.specs.Moves.{Issues}
 use Rattle.bbm_replay.specs.Told.{Told}
 use Rattle.bbm_replay.specs.View.{View, state_of, waiting}
-use Rattle.bbm_replay.proofs.Barriers.{broken_marks, same_state}
+use Rattle.bbm_replay.proofs.DsbMoves.{broken_marks, same_state}
 use Rattle.bbm_replay.proofs.Entries.{entry_same, fit_more, keeps_more, some_pe, state_same}
 use Rattle.bbm_replay.proofs.Quiet.{nodes_stay, tracked_stay}
 
@@ -74,7 +74,7 @@ module _ (heading : Heading) (laws : Laws heading) (h : List Event) (old new : V
         fit = fit_more heading h e t.fit fits;
         values = λ a. move.value a ∙ laws.pages.same_values h old.value e refl t.values a;
         nodes = nodes_stay heading laws h old new t e sound refl move.nodes;
-        fresh = λ p. move.roles.fresh p ∙ laws.pages.fresh_others h old.fresh e proper sound refl refl refl t.fresh p;
+        fresh = λ p. move.roles.fresh p ∙ laws.pages.fresh_others h old.fresh e sound refl refl refl t.fresh p;
         null = λ p. move.roles.null p ∙ laws.pages.same_null h old.null e refl t.null p;
         known = rest.0;
         pages = rest.1;

@@ -251,7 +251,7 @@ module _ (heading : Heading) (laws : Laws heading) (h : List Event) (old mid new
         values = λ a. move.value a ∙ value_same a ∙ laws.pages.same_values h old.value e refl t.values a;
         nodes = laws.nodes.dsb h old.node last.node holds q dsb sound t.nodes holds_is
             (λ p. move.node p ∙ ap (λ (o : Option Node). kept (is_held_by holds) o) (nodes p));
-        fresh = λ p. move.roles.fresh p ∙ fresh p ∙ laws.pages.fresh_others h old.fresh e proper sound refl refl refl t.fresh p;
+        fresh = λ p. move.roles.fresh p ∙ fresh p ∙ laws.pages.fresh_others h old.fresh e sound refl refl refl t.fresh p;
         null = λ p. move.roles.null p ∙ null p ∙ laws.pages.same_null h old.null e refl t.null p;
         known = rest.0;
         pages = rest.1;

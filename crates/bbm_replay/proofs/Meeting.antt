@@ -1,0 +1,149 @@
+-- Events that concern the roots, registers and locks alone.
+use Rattle.std.proofs.Common.{◌≡◌, ℕ, ◌<◌, Bool, true, false, ◌&&◌, ◌||◌, ◌==◌, ◌%◌, nat_lt, List, [], ◌∷◌, Option, Some, None, Result, Ok, Err, OnOk, OnErr, refl, sym, ◌∙◌, ap, subst}
+use Rattle.std.proofs.lemmas.Bool.{and_parts, eqb-true}
+use Rattle.bbm_regimes.specs.declared.regime.Reg.{Reg}
+use Rattle.bbm_regimes.specs.declared.regime.Which.{Which}
+use Rattle.bbm_events.specs.Fits.{fits_heading, is_page}
+use Rattle.bbm_rules.specs.Answers.{Answers, MayAsk}
+use Rattle.bbm_rules.specs.Broken.{Breach, broken}
+use Rattle.bbm_rules.specs.Claims.Trust.{Patterns}
+use Rattle.bbm_rules.specs.Limits.{limit_of}
+use Rattle.bbm_rules.specs.Pages.{is_null}
+use Rattle.bbm_rules.specs.Prelude.{Heading, Event, Init, Null, Root, Unroot, Write, Dsb, Dmb, Isb, Tlbi, Msr, Lock, Unlock}
+use Rattle.bbm_rules.specs.declared.step_fault.StepFault.{StepFault}
+use Rattle.bbm_rules.specs.declared.step_fault.StepFault.TheVariants.{Broken, Limit, NoMemory}
+use Rattle.bbm_replay_roots.specs.Bridge.{has_null_base}
+use Rattle.bbm_replay_roots.specs.Stands as roots
+use Rattle.bbm_replay_roots.specs.declared.state.RootState.{RootState}
+use Rattle.bbm_replay_trees.specs.Told.{AllFit}
+use Rattle.bbm_replay.specs.Laws.{Laws}
+use Rattle.bbm_replay.specs.Moves.{is_quiet}
+use Rattle.bbm_replay.specs.Standing.{MayMeet, Meets, Stands, view_of}
+use Rattle.bbm_replay.specs.declared.parts.Parts.{Parts}
+use Rattle.bbm_replay.proofs.Quiet.{after_quiet}
+
+-- the event fits the header of every history that the parts stand for
+pub fits_all : (p : Parts) (e : Event) → MayMeet p e → (heading : Heading) (h : List Event) → Stands p heading h
+    → fits_heading heading e ≡ true
+fits_all p e m heading h s =
+    subst (λ (x : Heading). fits_heading x e ≡ true) (sym m.2.header ∙ s.header) m.3
+
+-- what the roots are asked
+pub may_ask : (p : Parts) (e : Event) (pe : ℕ) → MayMeet p e
+    → ((heading : Heading) → fits_heading heading e ≡ true → pe < heading.pes) → MayAsk (roots.Stands p.roots) pe
+may_ask p e pe m below = (m.0, m.1, m.2.roots, below m.0 m.3)
+
+-- the parts with other roots
+abbrev pub with_roots : Parts → RootState → Parts
+with_roots p r = record p { roots = r }
+
+pub stands_quiet : ((heading : Heading) → Laws heading) → (p : Parts) (r : RootState) (e : Event) → is_quiet e ≡ true
+    → (heading : Heading) (h : List Event) → Stands p heading h → fits_heading heading e ≡ true
+    → broken heading Patterns h e ≡ None → roots.Stands r heading (e ∷ h) → Stands (with_roots p r) heading (e ∷ h)
+stands_quiet laws p r e quiet heading h s fits unbroken taken = record {
+  header = s.header;
+  index_header = s.index_header;
+  sound = s.sound;
+  told = after_quiet heading (laws heading) h (view_of p.map p.index) (view_of p.map p.index) s.told e quiet fits unbroken (record {
+    map = record { value = λ a. refl; marks = λ a. refl; pends = λ q a b c i. refl };
+    nodes = λ x. refl;
+    roles = record { fresh = λ x. refl; null = λ x. refl };
+    tracking = record { tracked = λ x. refl; known = λ x. refl; pages = refl };
+  });
+  roots = taken;
+}
+
+pub stands_same : (p : Parts) (r : RootState) (heading : Heading) (h : List Event) → Stands p heading h
+    → roots.Stands r heading h → Stands (with_roots p r) heading h
+stands_same p r heading h s same = record {
+  header = s.header;
+  index_header = s.index_header;
+  sound = s.sound;
+  told = s.told;
+  roots = same;
+}
+
+answers : (r : Result (Unit {0}) StepFault) (breach : Option Breach) (limit : Option Which) → roots.Judges r breach
+    → limit ≡ None → Answers r breach limit
+answers (Ok u) breach limit j k = (j, k)
+answers (Err (Broken rule at)) breach limit j k = j
+answers (Err (Limit which)) breach limit j k = absurd j
+answers (Err NoMemory) breach limit j k = absurd j
+
+-- a call of the roots that judges the event and takes it
+pub meets_judged : ((heading : Heading) → Laws heading) → (p : Parts) (r : RootState) (e : Event) → MayMeet p e
+    → is_quiet e ≡ true → (result : Result (Unit {0}) StepFault)
+    → ((heading : Heading) (h : List Event) → roots.Stands p.roots heading h → roots.Judges result (broken heading Patterns h e))
+    → ((h : List Event) → limit_of h e ≡ None)
+    → OnOk result ((heading : Heading) (h : List Event) → roots.Stands p.roots heading h → roots.Stands r heading (e ∷ h))
+    → OnErr result ((heading : Heading) (h : List Event) → roots.Stands p.roots heading h → roots.Stands r heading h)
+    → Meets p (with_roots p r) e result
+meets_judged laws p r e m quiet (Ok u) judged limit taken same = record {
+  judged = λ heading h s. (judged heading h s.roots, limit h);
+  taken = λ heading h s. stands_quiet laws p r e quiet heading h s (fits_all p e m heading h s) (judged heading h s.roots)
+      (taken heading h s.roots);
+  unchanged = tt;
+}
+meets_judged laws p r e m quiet (Err fault) judged limit taken same = record {
+  judged = λ heading h s. answers (Err fault) (broken heading Patterns h e) (limit_of h e) (judged heading h s.roots) (limit h);
+  taken = tt;
+  unchanged = λ heading h s. stands_same p r heading h s (same heading h s.roots);
+}
+
+-- the same of a register write
+pub meets_answered : ((heading : Heading) → Laws heading) → (p : Parts) (r : RootState) (e : Event) → MayMeet p e
+    → is_quiet e ≡ true → (result : Result (Unit {0}) StepFault)
+    → ((heading : Heading) (h : List Event) → Stands p heading h → Answers result (broken heading Patterns h e) (limit_of h e))
+    → OnOk result ((heading : Heading) (h : List Event) → Stands p heading h → roots.Stands r heading (e ∷ h))
+    → OnErr result ((heading : Heading) (h : List Event) → roots.Stands p.roots heading h → roots.Stands r heading h)
+    → Meets p (with_roots p r) e result
+meets_answered laws p r e m quiet (Ok u) judged taken same = record {
+  judged = judged;
+  taken = λ heading h s. stands_quiet laws p r e quiet heading h s (fits_all p e m heading h s) (judged heading h s).0
+      (taken heading h s);
+  unchanged = tt;
+}
+meets_answered laws p r e m quiet (Err fault) judged taken same = record {
+  judged = judged;
+  taken = tt;
+  unchanged = λ heading h s. stands_same p r heading h s (same heading h s.roots);
+}
+
+-- a null page is the address of a page
+pub null_page : (heading : Heading) (h : List Event) (page : ℕ) → AllFit heading h → is_null h page ≡ true
+    → is_page page ≡ true
+null_page heading [] page fit k = let bad : false ≡ true = k in absurd cc
+null_page heading (Null pe at ∷ h) page fit k =
+    by (λ older. null_page heading h page (and_parts (fits_heading heading (Null pe at)) _ fit).1 older) (at == page) refl
+  where
+    by : (is_null h page ≡ true → is_page page ≡ true) → (b : Bool) → (at == page) ≡ b → is_page page ≡ true
+    by before true e = subst (λ (x : ℕ). is_page x ≡ true) (eqb-true at page e)
+        (and_parts (nat_lt pe heading.pes) (is_page at) (and_parts (fits_heading heading (Null pe at)) _ fit).0).1
+    by before false e = before (ap (λ b. b || is_null h page) (sym e) ∙ k)
+null_page heading (Init pe at ∷ h) page fit k = null_page heading h page (and_parts (fits_heading heading (Init pe at)) _ fit).1 k
+null_page heading (Root pe kind lock at ∷ h) page fit k = null_page heading h page (and_parts (fits_heading heading (Root pe kind lock at)) _ fit).1 k
+null_page heading (Unroot pe at ∷ h) page fit k = null_page heading h page (and_parts (fits_heading heading (Unroot pe at)) _ fit).1 k
+null_page heading (Write pe at v ∷ h) page fit k = null_page heading h page (and_parts (fits_heading heading (Write pe at v)) _ fit).1 k
+null_page heading (Dsb pe dsb ∷ h) page fit k = null_page heading h page (and_parts (fits_heading heading (Dsb pe dsb)) _ fit).1 k
+null_page heading (Dmb pe dsb ∷ h) page fit k = null_page heading h page (and_parts (fits_heading heading (Dmb pe dsb)) _ fit).1 k
+null_page heading (Isb pe ∷ h) page fit k = null_page heading h page (and_parts (fits_heading heading (Isb pe)) _ fit).1 k
+null_page heading (Tlbi pe op xt ∷ h) page fit k = null_page heading h page (and_parts (fits_heading heading (Tlbi pe op xt)) _ fit).1 k
+null_page heading (Msr pe reg v ∷ h) page fit k = null_page heading h page (and_parts (fits_heading heading (Msr pe reg v)) _ fit).1 k
+null_page heading (Lock pe lock ∷ h) page fit k = null_page heading h page (and_parts (fits_heading heading (Lock pe lock)) _ fit).1 k
+null_page heading (Unlock pe lock ∷ h) page fit k = null_page heading h page (and_parts (fits_heading heading (Unlock pe lock)) _ fit).1 k
+
+pub meets_msr : ((heading : Heading) → Laws heading) → (p : Parts) (r : RootState) (pe : ℕ) (reg : Reg) (value : ℕ)
+    → MayMeet p (Msr pe reg value) → (result : Result (Unit {0}) StepFault) (null : Bool)
+    → ((heading : Heading) (h : List Event) → Stands p heading h → null ≡ has_null_base h value)
+    → ((heading : Heading) (h : List Event) → roots.Stands p.roots heading h → null ≡ has_null_base h value
+    → Answers result (broken heading Patterns h (Msr pe reg value)) (limit_of h (Msr pe reg value)))
+    → OnOk result ((heading : Heading) (h : List Event) → roots.Stands p.roots heading h → null ≡ has_null_base h value
+    → roots.Stands r heading (Msr pe reg value ∷ h))
+    → OnErr result ((heading : Heading) (h : List Event) → roots.Stands p.roots heading h → roots.Stands r heading h)
+    → Meets p (with_roots p r) (Msr pe reg value) result
+meets_msr laws p r pe reg value m (Ok u) null names judged taken same =
+    meets_answered laws p r (Msr pe reg value) m refl (Ok u) (λ heading h s. judged heading h s.roots (names heading h s))
+    (λ heading h s. taken heading h s.roots (names heading h s)) same
+meets_msr laws p r pe reg value m (Err fault) null names judged taken same =
+    meets_answered laws p r (Msr pe reg value) m refl (Err fault) (λ heading h s. judged heading h s.roots (names heading h s))
+    tt same

@@ -1,0 +1,70 @@
+//! Pages that are made zero, or declared null.
+
+ghost use Rattle.std.specs.Prelude.{◌≡◌, ℕ, true, false};
+ghost use Rattle.bbm_events.specs.declared.event.Event.TheVariants.{Init, Null};
+ghost use Rattle.bbm_place_map.specs.Map.{value_at};
+ghost use Rattle.bbm_replay_trees.specs.Told.{is_at};
+ghost use Rattle.bbm_replay.specs.Standing.{MayMeet, Meets};
+
+use crate::faults::step_fault;
+use crate::laws::{laws, rules};
+use crate::parts::Parts;
+use bbm_descriptor::Memory;
+use bbm_events::has_kind;
+use bbm_place_map::PlaceMap;
+use bbm_regimes::{Kind, Page, Pe, Place};
+use bbm_replay_roots::law_others;
+use bbm_rules::{Rule, StepFault};
+use std::alloc::Global;
+
+// Whether each place of the page has the value 0.
+fn is_zero(map: &PlaceMap, page: Page) -> bool
+    ensures zero { result ≡ true → (a : ℕ) → is_at page a ≡ true → value_at map.now a ≡ 0 }
+    ensures other { result ≡ false → (a : ℕ) × (is_at page a ≡ true) × (value_at map.now a ≡ 0 → ⊥) }
+{
+    for index in 0..512 {
+        if let Some(place) = Place::new(page.get() + 8 * index) {
+            if map.value(place) != 0 {
+                return false;
+            }
+        }
+    }
+    true
+}
+
+impl Parts {
+    /// A page is made zero.
+    pub(crate) fn init(&mut self, alloc: Global, pe: Pe, page: Page) -> Result<(), StepFault>
+        requires { MayMeet self.old (Init pe page) }
+        ensures { Meets self.old self.new (Init pe page) result }
+    {
+        laws();
+        rules();
+        law_others();
+        if self.index.is_in_tree(page) || self.index.is_null(page) {
+            return Err(StepFault::Broken(Rule::PageInUse, page.get()));
+        }
+        match self.index.track(alloc, &mut self.map, page) {
+            Ok(()) => Ok(()),
+            Err(fault) => Err(step_fault(fault)),
+        }
+    }
+
+    /// A page is declared a null page.
+    pub(crate) fn null(&mut self, pe: Pe, page: Page) -> Result<(), StepFault>
+        requires { MayMeet self.old (Null pe page) }
+        ensures { Meets self.old self.new (Null pe page) result }
+    {
+        laws();
+        rules();
+        law_others();
+        if has_kind(self.header.world, Kind::S2) {
+            return Err(StepFault::Broken(Rule::WrongWorld, 0));
+        }
+        if !self.index.is_fresh(page) || !is_zero(&self.map, page) {
+            return Err(StepFault::Broken(Rule::PageInUse, page.get()));
+        }
+        self.index.nullify(page);
+        Ok(())
+    }
+}

@@ -1,0 +1,78 @@
+//! Register writes, ISBs, DMBs and locks.
+
+ghost use Rattle.std.specs.Prelude.{◌≡◌, ℕ, List, true};
+ghost use Rattle.bbm_events.specs.Heading.{Heading};
+ghost use Rattle.bbm_events.specs.declared.event.Event.{Event};
+ghost use Rattle.bbm_events.specs.declared.event.Event.TheVariants.{Dmb, Isb, Lock, Msr, Unlock};
+ghost use Rattle.std.specs.Prelude.{Ok};
+ghost use Rattle.bbm_replay_roots.specs.Bridge.{has_null_base};
+ghost use Rattle.bbm_replay.specs.Standing.{MayMeet, Meets, Stands};
+ghost use Rattle.bbm_barriers.specs.declared.Dsb.{Dsb as Barrier};
+
+use crate::laws::laws;
+use crate::parts::Parts;
+use bbm_barriers::Dsb;
+use bbm_oracle_tags::base_of;
+use bbm_regimes::{Page, Pe, Reg};
+use bbm_replay_roots::law_barriers;
+use bbm_rules::StepFault;
+use std::alloc::Global;
+
+impl Parts {
+    // Whether the base of a register value is a null page.
+    fn names_null(&self, value: u64) -> bool
+        ensures { (heading : Heading) (h : List Event) → Stands self.now heading h → result ≡ has_null_base h value }
+    {
+        match base_of(value) {
+            Some(base) => match Page::new(base) {
+                Some(page) => self.index.is_null(page),
+                None => false,
+            },
+            None => false,
+        }
+    }
+
+    /// A register write.
+    pub(crate) fn msr(
+        &mut self,
+        alloc: Global,
+        pe: Pe,
+        reg: Reg,
+        value: u64,
+    ) -> Result<(), StepFault>
+        requires { MayMeet self.old (Msr pe reg value) }
+        ensures { Meets self.old self.new (Msr pe reg value) result }
+    {
+        laws();
+        let null = self.names_null(value);
+        self.roots.write_reg(alloc, pe, reg, value, null)
+    }
+
+    /// An ISB.
+    pub(crate) fn isb(&mut self, pe: Pe)
+        requires { MayMeet self.old (Isb pe) }
+        ensures { Meets self.old self.new (Isb pe) (Ok tt) }
+    {
+        laws();
+        law_barriers();
+        self.roots.isb(pe);
+    }
+
+    /// The PE takes the lock.
+    pub(crate) fn lock(&mut self, pe: Pe, lock: u16) -> Result<(), StepFault>
+        requires { MayMeet self.old (Lock pe lock) }
+        ensures { Meets self.old self.new (Lock pe lock) result }
+    {
+        laws();
+        self.roots.lock(pe, lock)
+    }
+
+    /// The PE gives the lock back.
+    pub(crate) fn unlock(&mut self, pe: Pe, lock: u16) -> Result<(), StepFault>
+        requires { MayMeet self.old (Unlock pe lock) }
+        ensures { Meets self.old self.new (Unlock pe lock) result }
+    {
+        laws();
+        self.roots.unlock(pe, lock)
+    }
+}
