@@ -1,6 +1,12 @@
 -- The parts after an event, by what their objects say.
 use Rattle.std.proofs.Common.{◌≡◌, ℕ, List, ◌∷◌, refl, sym, ◌∙◌, ap, subst}
 use Rattle.bbm_rules.specs.Prelude.{Heading, Event}
+use Rattle.bbm_entry_state.specs.Points.{waits}
+use Rattle.bbm_entry_state.specs.declared.pending.Pends.{Pends}
+use Rattle.bbm_place_map.specs.Calls.{IsSame}
+use Rattle.bbm_place_map.specs.declared.map.PlaceMap.{PlaceMap}
+use Rattle.bbm_tree_index.specs.Index.{SamePages, SameTracked}
+use Rattle.bbm_tree_index.specs.declared.index.TreeIndex.{TreeIndex}
 use Rattle.bbm_replay_roots.specs.Stands as roots
 use Rattle.bbm_replay.specs.Laws.{Laws}
 use Rattle.bbm_replay.specs.Moves.{Same}
@@ -24,3 +30,13 @@ pub stands_still : ((heading : Heading) → Laws heading) → (old new : Parts) 
     → (heading : Heading) (h : List Event) → Stands old heading h → roots.Stands new.roots heading h → Stands new heading h
 stands_still laws old new f same heading h s roots = stands_next old new f heading h h s
     (told_same heading (laws heading) h (view_of old.map old.index) (view_of new.map new.index) s.told same) roots
+
+-- nothing changed, by the records of the map and of the index
+pub same_of : (m m' : PlaceMap) (i i' : TreeIndex) → IsSame m m' → SamePages i i' → SameTracked i i'
+    → Same (view_of m i) (view_of m' i')
+same_of m m' i i' map pages tracked = record {
+  map = record { value = map.values; marks = map.marks; pends = λ q a b c p. ap (λ (x : Pends). waits x b c p) (map.pends q a) };
+  nodes = pages.node;
+  roles = record { fresh = pages.fresh; null = pages.null };
+  tracking = record { tracked = map.pages; known = tracked.known; pages = tracked.pages };
+}

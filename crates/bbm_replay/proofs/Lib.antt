@@ -9,3 +9,4 @@ pub mod TlbiMoves
 pub mod Judging
 pub mod Meeting
 pub mod Framing
+pub mod Starting

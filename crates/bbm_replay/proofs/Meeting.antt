@@ -147,3 +147,12 @@ meets_msr laws p r pe reg value m (Ok u) null names judged taken same =
 meets_msr laws p r pe reg value m (Err fault) null names judged taken same =
     meets_answered laws p r (Msr pe reg value) m refl (Err fault) (λ heading h s. judged heading h s.roots (names heading h s))
     tt same
+
+-- an address that is no page's is no null page
+pub never_null : (heading : Heading) (h : List Event) (base : ℕ) → AllFit heading h → (is_page base ≡ true → ⊥)
+    → false ≡ is_null h base
+never_null heading h base fit k = by (is_null h base) refl
+  where
+    by : (b : Bool) → is_null h base ≡ b → false ≡ b
+    by false e = refl
+    by true e = absurd (k (null_page heading h base fit e))

@@ -8,5 +8,6 @@ mod pages;
 mod parts;
 mod registers;
 pub mod replay;
+mod world;
 
 pub use replay::Replay;

@@ -1,6 +1,7 @@
 //! Pages that are made zero, or declared null.
 
-ghost use Rattle.std.specs.Prelude.{◌≡◌, ℕ, true, false};
+ghost use Rattle.std.specs.Prelude.{◌≡◌, ℕ, ◌||◌, true, false, is_some};
+ghost use Rattle.bbm_tree_index.specs.Index.{node_in, null_in};
 ghost use Rattle.bbm_events.specs.declared.event.Event.TheVariants.{Init, Null};
 ghost use Rattle.bbm_place_map.specs.Map.{value_at};
 ghost use Rattle.bbm_replay_trees.specs.Told.{is_at};
@@ -9,8 +10,9 @@ ghost use Rattle.bbm_replay.specs.Standing.{MayMeet, Meets};
 use crate::faults::step_fault;
 use crate::laws::{laws, rules};
 use crate::parts::Parts;
+use crate::world::has_kind;
 use bbm_descriptor::Memory;
-use bbm_events::has_kind;
+
 use bbm_place_map::PlaceMap;
 use bbm_regimes::{Kind, Page, Pe, Place};
 use bbm_replay_roots::law_others;
@@ -33,6 +35,13 @@ fn is_zero(map: &PlaceMap, page: Page) -> bool
 }
 
 impl Parts {
+    // Whether the page is in a tree or a null page.
+    fn is_used(&self, page: Page) -> bool
+        ensures { result ≡ (is_some (node_in self.now.index page) || null_in self.now.index page) }
+    {
+        self.index.is_in_tree(page) || self.index.is_null(page)
+    }
+
     /// A page is made zero.
     pub(crate) fn init(&mut self, alloc: Global, pe: Pe, page: Page) -> Result<(), StepFault>
         requires { MayMeet self.old (Init pe page) }
@@ -41,7 +50,7 @@ impl Parts {
         laws();
         rules();
         law_others();
-        if self.index.is_in_tree(page) || self.index.is_null(page) {
+        if self.is_used(page) {
             return Err(StepFault::Broken(Rule::PageInUse, page.get()));
         }
         match self.index.track(alloc, &mut self.map, page) {
@@ -58,10 +67,13 @@ impl Parts {
         laws();
         rules();
         law_others();
-        if has_kind(self.header.world, Kind::S2) {
+        if has_kind(&self.header, Kind::S2) {
             return Err(StepFault::Broken(Rule::WrongWorld, 0));
         }
-        if !self.index.is_fresh(page) || !is_zero(&self.map, page) {
+        if !self.index.is_fresh(page) {
+            return Err(StepFault::Broken(Rule::PageInUse, page.get()));
+        }
+        if !is_zero(&self.map, page) {
             return Err(StepFault::Broken(Rule::PageInUse, page.get()));
         }
         self.index.nullify(page);

@@ -1,0 +1,152 @@
+-- A page that is made zero, or declared null, at the parts.
+use Rattle.std.proofs.Common.{◌≡◌, ℕ, ◌≤◌, Bool, true, false, ◌||◌, List, ◌∷◌, Option, Some, None, Result, Ok, Err, is_some, refl, sym, ◌∙◌, ap, subst, true≢false}
+use Rattle.bbm_regimes.specs.declared.regime.Which.{Which}
+use Rattle.bbm_regimes.specs.declared.regime.Which.TheVariants.{Pages}
+use Rattle.bbm_rules.specs.Answers.{Answers}
+use Rattle.bbm_rules.specs.Broken.{Breach, broken}
+use Rattle.bbm_rules.specs.Claims.Trust.{Patterns}
+use Rattle.bbm_rules.specs.Limits.{limit_of}
+use Rattle.bbm_rules.specs.Prelude.{S2, kind_in_world, Heading, Event, Init, Null}
+use Rattle.bbm_rules.specs.Rules.{page_in_use}
+use Rattle.bbm_rules.specs.declared.rule.Rule.{Rule}
+use Rattle.bbm_rules.specs.declared.rule.Rule.TheVariants.{BadKind, GlobalUser, NotFresh, PageInUse, WrongWorld}
+use Rattle.bbm_rules.specs.declared.step_fault.StepFault.{StepFault}
+use Rattle.bbm_rules.specs.declared.step_fault.StepFault.TheVariants.{Broken, Limit, NoMemory}
+use Rattle.bbm_place_map.specs.Map.{value_at}
+use Rattle.bbm_tree_index.specs.Index.{fresh_in, known_in, node_in, null_in, pages_in}
+use Rattle.bbm_replay_roots.specs.Stands as roots
+use Rattle.bbm_replay_roots.specs.Stands.{concerns_roots}
+use Rattle.bbm_replay_roots.specs.declared.state.RootState.{RootState}
+use Rattle.bbm_replay_trees.specs.Told.{is_at, notes}
+use Rattle.bbm_rules.specs.Tree.{Node}
+use Rattle.bbm_tree_index.specs.declared.fault.TreeFault.{TreeFault}
+use Rattle.bbm_tree_index.specs.declared.fault.TreeFault.TheVariants as tree
+use Rattle.bbm_replay.specs.Faults.{step_fault}
+use Rattle.bbm_replay.specs.Laws.{Laws}
+use Rattle.bbm_replay.specs.Moves.{Begins, Nullifies, Same}
+use Rattle.bbm_replay.specs.Rules.{Rules}
+use Rattle.bbm_replay.specs.Standing.{MayMeet, Meets, SameFrame, Stands, view_of}
+use Rattle.bbm_replay.specs.declared.parts.Parts.{Parts}
+use Rattle.bbm_replay.proofs.Framing.{stands_next, stands_still}
+use Rattle.bbm_replay.proofs.Judging.{init_free, init_limit, init_no_limit, init_used, null_free, null_used, null_wrong}
+use Rattle.bbm_replay.proofs.Meeting.{fits_all}
+use Rattle.bbm_replay.proofs.PageMoves.{after_init, after_null}
+
+-- the law of the roots for an event that doesn't concern them
+abbrev pub Others : Type 0
+Others = (state : RootState) (heading : Heading) (h : List Event) (e : Event) → roots.Stands state heading h
+    → concerns_roots e ≡ false → broken heading Patterns h e ≡ None → roots.Stands state heading (e ∷ h)
+
+-- an event that breaks a rule
+pub meets_broken : (p : Parts) (e : Event) (rule : Rule) (at : ℕ)
+    → ((heading : Heading) (h : List Event) → Stands p heading h
+    → broken heading Patterns h e ≡ Some (record { rule = rule; at = at })) → Meets p p e (Err (Broken rule at))
+meets_broken p e rule at k = record { judged = k; taken = tt; unchanged = λ heading h s. s }
+
+module _ (laws : (heading : Heading) → Laws heading) (rules : (heading : Heading) → Rules heading) (others : Others)
+    (old new : Parts) (pe page : ℕ) where
+  module _ (m : MayMeet old (Init pe page)) where
+    pub init_refused : (is_some (node_in old.index page) || null_in old.index page) ≡ true
+        → Meets old old (Init pe page) (Err (Broken PageInUse page))
+    init_refused used = meets_broken old (Init pe page) PageInUse page
+        (λ heading h s. init_used heading (rules heading) h (view_of old.map old.index) s.told pe page used)
+
+    module _ (free : (is_some (node_in old.index page) || null_in old.index page) ≡ false) (frame : SameFrame old new)
+        (same_roots : new.roots ≡ old.roots) where
+      pub init_ok : ((known_in old.index page ≡ false) × (16384 ≤ pages_in old.index) → ⊥)
+          → Begins (view_of old.map old.index) (view_of new.map new.index) page → Meets old new (Init pe page) (Ok tt)
+      init_ok room begins = record {
+        judged = λ heading h s. (
+          init_free heading (rules heading) h (view_of old.map old.index) s.told pe page free,
+          init_no_limit heading (rules heading) h (view_of old.map old.index) s.told pe page room,
+        );
+        taken = λ heading h s.
+            let unbroken = init_free heading (rules heading) h (view_of old.map old.index) s.told pe page free in
+            stands_next old new frame heading h (Init pe page ∷ h) s
+            (after_init heading (laws heading) h (view_of old.map old.index) (view_of new.map new.index) s.told pe page
+            (fits_all old (Init pe page) m heading h s) unbroken begins)
+            (subst (λ (r : RootState). roots.Stands r heading (Init pe page ∷ h)) (sym same_roots)
+            (others old.roots heading h (Init pe page) s.roots refl unbroken));
+        unchanged = tt;
+      }
+
+      pub init_err : (fault : StepFault) → ((fault ≡ Limit Pages) → (known_in old.index page ≡ false) × (16384 ≤ pages_in old.index))
+          → ((fault ≡ Limit Pages → ⊥) → fault ≡ NoMemory)
+          → Same (view_of old.map old.index) (view_of new.map new.index) → Meets old new (Init pe page) (Err fault)
+      init_err fault full else_none same = record {
+        judged = λ heading h s. by fault full else_none heading h s;
+        taken = tt;
+        unchanged = λ heading h s. stands_still laws old new frame same heading h s
+            (subst (λ (r : RootState). roots.Stands r heading h) (sym same_roots) s.roots);
+      }
+        where
+          other : Which → Bool
+          other Pages = true
+          other _ = false
+          by : (f : StepFault) → ((f ≡ Limit Pages) → (known_in old.index page ≡ false) × (16384 ≤ pages_in old.index))
+              → ((f ≡ Limit Pages → ⊥) → f ≡ NoMemory) → (heading : Heading) (h : List Event) → Stands old heading h
+              → Answers (Err f) (broken heading Patterns h (Init pe page)) (limit_of h (Init pe page))
+          by NoMemory full none heading h s = tt
+          by (Broken rule at) full none heading h s =
+              let bad : Broken rule at ≡ NoMemory = none (λ e. absurd cc) in absurd cc
+          by (Limit Pages) full none heading h s = (
+            init_free heading (rules heading) h (view_of old.map old.index) s.told pe page free,
+            init_limit heading (rules heading) h (view_of old.map old.index) s.told pe page (full refl).0 (full refl).1,
+          )
+          by (Limit which) full none heading h s =
+              let bad : Limit which ≡ NoMemory = none (λ e. absurd cc) in absurd cc
+
+  module _ (m : MayMeet old (Null pe page)) where
+    pub null_world : ((heading : Heading) → old.header ≡ heading → kind_in_world heading.world S2 ≡ true)
+        → Meets old old (Null pe page) (Err (Broken WrongWorld 0))
+    null_world wrong = meets_broken old (Null pe page) WrongWorld 0
+        (λ heading h s. null_wrong heading (rules heading) h (view_of old.map old.index) s.told pe page (wrong heading s.header))
+
+    module _ (right : (heading : Heading) → old.header ≡ heading → kind_in_world heading.world S2 ≡ false) where
+      pub null_unfresh : fresh_in old.index page ≡ false → Meets old old (Null pe page) (Err (Broken PageInUse page))
+      null_unfresh k = meets_broken old (Null pe page) PageInUse page
+          (λ heading h s. null_used heading (rules heading) h (view_of old.map old.index) s.told pe page (right heading s.header)
+          ((rules heading).null_unfresh h (fresh_in old.index) pe page s.told.fresh k))
+
+      pub null_nonzero : ((a : ℕ) × (is_at page a ≡ true) × (value_at old.map a ≡ 0 → ⊥))
+          → Meets old old (Null pe page) (Err (Broken PageInUse page))
+      null_nonzero k = meets_broken old (Null pe page) PageInUse page
+          (λ heading h s. null_used heading (rules heading) h (view_of old.map old.index) s.told pe page (right heading s.header)
+          ((rules heading).null_used h (value_at old.map) pe page k.0 s.told.values k.1 k.2))
+
+      pub null_ok : fresh_in old.index page ≡ true → ((a : ℕ) → is_at page a ≡ true → value_at old.map a ≡ 0)
+          → SameFrame old new → new.roots ≡ old.roots
+          → Nullifies (view_of old.map old.index) (view_of new.map new.index) page → Meets old new (Null pe page) (Ok tt)
+      null_ok fresh zero frame same_roots move = record {
+        judged = λ heading h s. (unbroken heading h s, (rules heading).no_limit h (Null pe page) refl);
+        taken = λ heading h s. stands_next old new frame heading h (Null pe page ∷ h) s
+            (after_null heading (laws heading) h (view_of old.map old.index) (view_of new.map new.index) s.told pe page
+            (fits_all old (Null pe page) m heading h s) (unbroken heading h s) move)
+            (subst (λ (r : RootState). roots.Stands r heading (Null pe page ∷ h)) (sym same_roots)
+            (others old.roots heading h (Null pe page) s.roots refl (unbroken heading h s)));
+        unchanged = tt;
+      }
+        where
+          unbroken : (heading : Heading) (h : List Event) → Stands old heading h → broken heading Patterns h (Null pe page) ≡ None
+          unbroken heading h s = null_free heading (rules heading) h (view_of old.map old.index) s.told pe page
+              (right heading s.header)
+              ((rules heading).null_unused h (fresh_in old.index) (value_at old.map) pe page s.told.fit s.told.fresh s.told.values fresh zero)
+
+pub free_parts : (o : Option Node) (b : Bool) → (is_some o || b) ≡ false → (o ≡ None) × (b ≡ false)
+free_parts None b k = (refl, k)
+free_parts (Some n) b k = absurd (true≢false k)
+
+limit_back : (f : TreeFault) → step_fault f ≡ Limit Pages → f ≡ tree.Limit Pages
+limit_back tree.NoMemory k = let bad : NoMemory ≡ Limit Pages = k in absurd cc
+limit_back (tree.Limit which) k = let same : Limit which ≡ Limit Pages = k in let one : which ≡ Pages = cc in ap (λ (w : Which). tree.Limit w) one
+limit_back (tree.NotFresh page) k = let bad : Broken NotFresh page ≡ Limit Pages = k in absurd cc
+limit_back (tree.BadKind place) k = let bad : Broken BadKind place ≡ Limit Pages = k in absurd cc
+limit_back (tree.GlobalUser place) k = let bad : Broken GlobalUser place ≡ Limit Pages = k in absurd cc
+
+-- a page that the index doesn't track
+pub full_by : (f : TreeFault) (r : StepFault) (A : Type 0) → r ≡ step_fault f → (f ≡ tree.Limit Pages → A) → r ≡ Limit Pages → A
+full_by f r A is k e = k (limit_back f (sym is ∙ e))
+
+pub else_by : (f : TreeFault) (r : StepFault) → r ≡ step_fault f → ((f ≡ tree.Limit Pages → ⊥) → f ≡ tree.NoMemory)
+    → (r ≡ Limit Pages → ⊥) → r ≡ NoMemory
+else_by f r is k other = is ∙ ap (λ (x : TreeFault). step_fault x) (k (λ e. other (is ∙ ap (λ (x : TreeFault). step_fault x) e)))

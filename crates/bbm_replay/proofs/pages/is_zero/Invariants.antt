@@ -1,0 +1,6 @@
+use Rattle.std.proofs.Common.{◌≡◌, ℕ, ◌+◌, ◌*◌, ◌<◌}
+use Rattle.bbm_place_map.specs.Map.{value_at}
+use Rattle.bbm_replay.proofs.pages.is_zero.Given as goal
+
+abbrev pub invariant-loop-index : goal.invariant-loop-index
+invariant-loop-index l = (k : ℕ) → k < l.index → value_at l.map (l.page + 8 * k) ≡ 0
