@@ -27,6 +27,7 @@ use Rattle.bbm_replay.specs.Laws.{Laws}
 use Rattle.bbm_replay.specs.Moves.{Alike, Completes, Hears, Leaves}
 use Rattle.bbm_replay.specs.Told.{Told}
 use Rattle.bbm_replay.specs.View.{View, core_at, state_of, waiting}
+use Rattle.bbm_replay.proofs.Aparts.{apart_leaves, apart_same}
 use Rattle.bbm_replay.proofs.Entries.{entry_same, fit_more, keeps_more, some_pe, state_same}
 use Rattle.bbm_replay.proofs.Leaving.{was_there}
 use Rattle.bbm_replay.proofs.Quiet.{tracked_stay}
@@ -256,6 +257,8 @@ module _ (heading : Heading) (laws : Laws heading) (h : List Event) (old mid new
         known = rest.0;
         pages = rest.1;
         tracked = rest.2;
+        apart = apart_leaves new last (is_held_by holds)
+            (apart_same old new t.apart nodes (record { fresh = fresh; null = null }) tracked) move;
         entries = λ n a is.
             let was = was_there (is_held_by holds) (new.node (page_of a)) n (sym (move.node _) ∙ is) in
             entry_same heading laws (e ∷ h) n.kind n.level a (state_of new n.kind n.level a) (state_of last n.kind n.level a)

@@ -20,6 +20,7 @@ use Rattle.bbm_replay.specs.Laws.{Laws}
 use Rattle.bbm_replay.specs.Moves.{Alike, Attaches, Grown, SameMap}
 use Rattle.bbm_replay.specs.Told.{Told}
 use Rattle.bbm_replay.specs.View.{View, state_of, waiting}
+use Rattle.bbm_replay.proofs.Aparts.{apart_grown}
 use Rattle.bbm_replay.proofs.Entries.{carried, fit_more, keeps_more, some_pe}
 use Rattle.bbm_replay.proofs.Quiet.{tracked_stay}
 
@@ -118,6 +119,7 @@ module _ (heading : Heading) (laws : Laws heading) where
         known = rest.0;
         pages = rest.1;
         tracked = rest.2;
+        apart = apart_grown old new t.apart g move.fresh move.null move.tracking.tracked;
         entries = λ n a is. grown_entry h old new t e g idle n a is refl (map.value a) (map.marks a) (λ q. map.pends q a);
         outside = λ a is. map.marks a ∙ t.outside a (grown_outside old new g (page_of a) is);
       }

@@ -11,6 +11,7 @@ use Rattle.bbm_replay.specs.Laws.{Laws}
 use Rattle.bbm_replay.specs.Moves.{Leaves}
 use Rattle.bbm_replay.specs.Told.{Told}
 use Rattle.bbm_replay.specs.View.{View}
+use Rattle.bbm_replay.proofs.Aparts.{apart_leaves}
 use Rattle.bbm_replay.proofs.Entries.{carried, fit_more, keeps_more}
 use Rattle.bbm_replay.proofs.Quiet.{tracked_stay}
 
@@ -43,6 +44,7 @@ module _ (heading : Heading) (laws : Laws heading) (h : List Event) (old new : V
         known = rest.0;
         pages = rest.1;
         tracked = rest.2;
+        apart = apart_leaves old new (λ m. not (m.root == page)) t.apart move;
         entries = λ n a is.
             let was = was_there (λ m. not (m.root == page)) (old.node (page_of a)) n (sym (move.node _) ∙ is) in
             carried heading laws h old new t e n a was.0 refl (move.value a) ((move.marks a).1 n is) (λ q. move.pends q a n is);

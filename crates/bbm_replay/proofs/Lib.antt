@@ -1,3 +1,4 @@
+pub mod Aparts
 pub mod Entries
 pub mod Quiet
 pub mod PageMoves

@@ -12,6 +12,7 @@ use Rattle.bbm_replay.specs.Laws.{Laws}
 use Rattle.bbm_replay.specs.Moves.{Begins, Nullifies}
 use Rattle.bbm_replay.specs.Told.{Told}
 use Rattle.bbm_replay.specs.View.{View}
+use Rattle.bbm_replay.proofs.Aparts.{apart_begins, apart_nullifies}
 use Rattle.bbm_replay.proofs.Entries.{carried, fit_more, keeps_more}
 use Rattle.bbm_replay.proofs.Quiet.{nodes_stay, tracked_stay}
 
@@ -45,6 +46,7 @@ module _ (heading : Heading) (laws : Laws heading) (h : List Event) (old new : V
         known = laws.pages.known h old.known new.known pe page t.known move.known;
         pages = move.pages ∙ sym (laws.pages.count h old.known old.pages pe page t.known t.pages);
         tracked = λ p. move.tracked p ∙ ap (λ b. p == page || b) (t.tracked p) ∙ sym (move.known p);
+        apart = apart_begins old new page t.apart move;
         entries = λ n a is.
             let was : old.node (page_of a) ≡ Some n = sym (move.nodes _) ∙ is in
             let off : (page_of a == page) ≡ false = apart old.node (page_of a) page n was move.outside in
@@ -73,6 +75,7 @@ module _ (heading : Heading) (laws : Laws heading) (h : List Event) (old new : V
         known = rest.0;
         pages = rest.1;
         tracked = rest.2;
+        apart = apart_nullifies old new page t.apart move;
         entries = λ n a is. carried heading laws h old new t e n a (sym (move.nodes _) ∙ is) refl
             (move.map.value a) (move.map.marks a) (λ q. move.map.pends q a);
         outside = λ a is. move.map.marks a ∙ t.outside a (sym (move.nodes _) ∙ is);

@@ -16,6 +16,7 @@ use Rattle.bbm_replay.specs.Laws.{Laws}
 use Rattle.bbm_replay.specs.Moves.{Same, SameTracked, is_quiet}
 use Rattle.bbm_replay.specs.Told.{Told}
 use Rattle.bbm_replay.specs.View.{View, state_of, waiting}
+use Rattle.bbm_replay.proofs.Aparts.{apart_same}
 use Rattle.bbm_replay.proofs.Entries.{carried, entry_same, fit_more, keeps_more, state_same}
 
 -- what an event that changes no value, page or tree is to the definitions
@@ -94,6 +95,7 @@ module _ (heading : Heading) (laws : Laws heading) where
         known = rest.0;
         pages = rest.1;
         tracked = rest.2;
+        apart = apart_same old new t.apart same.nodes same.roles same.tracking.tracked;
         entries = λ n a is. carried heading laws h old new t e n a (sym (same.nodes _) ∙ is) (untouched e a quiet)
             (same.map.value a) (same.map.marks a) (λ q. same.map.pends q a);
         outside = λ a is. same.map.marks a ∙ t.outside a (sym (same.nodes _) ∙ is);
@@ -112,6 +114,7 @@ module _ (heading : Heading) (laws : Laws heading) where
     known = λ p. same.tracking.known p ∙ t.known p;
     pages = same.tracking.pages ∙ t.pages;
     tracked = λ p. same.tracking.tracked p ∙ t.tracked p ∙ sym (same.tracking.known p);
+    apart = apart_same old new t.apart same.nodes same.roles same.tracking.tracked;
     entries = λ n a is. entry_same heading laws h n.kind n.level a (state_of old n.kind n.level a)
         (state_of new n.kind n.level a) (waiting old a) (waiting new a) (t.entries n a (sym (same.nodes _) ∙ is))
         (state_same n.kind n.level (old.value a) (new.value a) (old.marks a) (new.marks a) (same.map.value a) (same.map.marks a))

@@ -24,6 +24,7 @@ use Rattle.bbm_replay.specs.Moves.{Issues}
 use Rattle.bbm_replay.specs.Told.{Told}
 use Rattle.bbm_replay.specs.View.{View, state_of, waiting}
 use Rattle.bbm_replay.proofs.DsbMoves.{broken_marks, same_state}
+use Rattle.bbm_replay.proofs.Aparts.{apart_same}
 use Rattle.bbm_replay.proofs.Entries.{entry_same, fit_more, keeps_more, some_pe, state_same}
 use Rattle.bbm_replay.proofs.Quiet.{nodes_stay, tracked_stay}
 
@@ -79,6 +80,7 @@ module _ (heading : Heading) (laws : Laws heading) (h : List Event) (old new : V
         known = rest.0;
         pages = rest.1;
         tracked = rest.2;
+        apart = apart_same old new t.apart move.nodes move.roles move.tracking.tracked;
         entries = λ n a is. let was = sym (move.nodes _) ∙ is in entry n a was (old.marks a) refl;
         outside = λ a is. move.marks a ∙ t.outside a (sym (move.nodes _) ∙ is);
       }

@@ -23,7 +23,8 @@ use Rattle.bbm_replay_trees.specs.Told.{SameCores, notes}
 use Rattle.bbm_replay_trees.specs.Told as told
 use Rattle.bbm_replay.specs.Laws.{Laws}
 use Rattle.bbm_replay.specs.Moves.{Attaches, Grown, SameMap, SameNodes, SamePages, SameTracked, Writes}
-use Rattle.bbm_replay.specs.Told.{Told}
+use Rattle.bbm_replay.specs.Told.{Apart, Told}
+use Rattle.bbm_replay.proofs.Aparts.{apart_grown, apart_same}
 use Rattle.bbm_replay.specs.View.{View, core_at, state_of, waiting}
 use Rattle.bbm_replay.proofs.Entries.{carried, fit_more, keeps_more, some_pe}
 use Rattle.bbm_replay.proofs.Growing.{grown, grown_entry, grown_outside}
@@ -96,8 +97,8 @@ module _ (heading : Heading) (laws : Laws heading) (h : List Event) (old new : V
     pub after_write : (n : Node) → old.node (page_of place) ≡ Some n
         → Written (state_of old n.kind n.level place) pe (core_of n.kind n.level v) state
         → Grown old new → told.SameNodes heading (e ∷ h) new.node → told.SameFresh heading (e ∷ h) new.fresh
-        → ((q a : ℕ) → new.marks a ≡ None → IsIdle (new.pends q a)) → Told heading (e ∷ h) new
-    after_write n is written g nodes fresh idle =
+        → Apart new → ((q a : ℕ) → new.marks a ≡ None → IsIdle (new.pends q a)) → Told heading (e ∷ h) new
+    after_write n is written g nodes fresh apart idle =
         let rest = tracked_stay heading laws h old new t e refl tracking in
         record {
           proper = t.proper;
@@ -110,6 +111,7 @@ module _ (heading : Heading) (laws : Laws heading) (h : List Event) (old new : V
           known = rest.0;
           pages = rest.1;
           tracked = rest.2;
+          apart = apart;
           entries = λ m a here. entry m a here (a == place) refl;
           outside = λ a here. outside a here (a == place) refl;
         }
@@ -153,7 +155,8 @@ module _ (heading : Heading) (laws : Laws heading) (h : List Event) (old new : V
         } in
         after_write n is written g
         (λ p. nodes p ∙ laws.nodes.plain_write h old.node pe place v proper sound unattached t.nodes p)
-        (λ p. fresh p ∙ laws.pages.fresh_others h old.fresh e sound refl refl unattached t.fresh p) idle
+        (λ p. fresh p ∙ laws.pages.fresh_others h old.fresh e sound refl refl unattached t.fresh p)
+        (apart_same old new t.apart nodes (record { fresh = fresh; null = null }) tracking.tracked) idle
 
     -- one that attaches the next page
     pub after_attaching_write : (n : Node) (next : ℕ) → old.node (page_of place) ≡ Some n
@@ -167,7 +170,8 @@ module _ (heading : Heading) (laws : Laws heading) (h : List Event) (old new : V
         let nodes = laws.nodes.write h old.node new.node old.fresh old.value (core_at old) n pe place v next proper
             t.fit sound t.nodes t.fresh t.values (cores heading h old t) is empty table attached.node in
         after_write n is written (grown old new (node_below n place next ∷ []) attached) nodes
-        (laws.pages.fresh_attached h old.fresh new.fresh new.node e refl refl t.fresh nodes attached.fresh) idle
+        (laws.pages.fresh_attached h old.fresh new.fresh new.node e refl refl t.fresh nodes attached.fresh)
+        (apart_grown old new t.apart (grown old new (node_below n place next ∷ []) attached) attached.fresh null tracking.tracked) idle
 
     -- one outside the trees
     pub after_write_outside : old.node (page_of place) ≡ None → state ≡ Clean
@@ -188,6 +192,7 @@ module _ (heading : Heading) (laws : Laws heading) (h : List Event) (old new : V
           known = rest.0;
           pages = rest.1;
           tracked = rest.2;
+          apart = apart_same old new t.apart nodes (record { fresh = fresh; null = null }) tracking.tracked;
           entries = λ m a here. entry m a (sym (nodes (page_of a)) ∙ here);
           outside = λ a here. outside a (sym (nodes (page_of a)) ∙ here) (a == place) refl;
         }

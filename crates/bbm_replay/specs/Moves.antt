@@ -49,6 +49,7 @@ module _ (old new : View) where
   -- a page that is in no tree was initialised
   pub record Begins (page : ℕ) : Type 0 where
     pub outside : old.node page ≡ None
+    pub not_null : old.null page ≡ false
     pub nodes : SameNodes
     pub value : (a : ℕ) → new.value a ≡ (if page_of a == page then 0 else old.value a)
     pub marks : (a : ℕ) → new.marks a ≡ (if page_of a == page then None else old.marks a)
@@ -61,6 +62,7 @@ module _ (old new : View) where
 
   -- a page became a null page
   pub record Nullifies (page : ℕ) : Type 0 where
+    pub was_fresh : old.fresh page ≡ true
     pub map : SameMap
     pub nodes : SameNodes
     pub tracking : SameTracked

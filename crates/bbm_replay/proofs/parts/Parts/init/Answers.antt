@@ -23,6 +23,7 @@ returns-in-Ok c =
     (λ full. let bad = e.limit.1 full in absurd cc)
     (record {
       outside = (free_parts (node_in old.index c.args.page) (null_in old.index c.args.page) free).0;
+      not_null = (free_parts (node_in old.index c.args.page) (null_in old.index c.args.page) free).1;
       nodes = e.node;
       value = e.values;
       marks = e.marks;

@@ -31,6 +31,7 @@ returns c =
     (sym c.is_fresh.ensures ∙ c.if-not-is_fresh.false) (c.is_zero.ensures.zero c.if-not-is_zero.false)
     (record { header = refl; index_header = e.tracked.heading; sound = e.sound }) refl
     (record {
+      was_fresh = sym c.is_fresh.ensures ∙ c.if-not-is_fresh.false;
       map = record { value = λ a. refl; marks = λ a. refl; pends = λ q a b i p. refl };
       nodes = e.node;
       tracking = record { tracked = λ p. refl; known = e.tracked.known; pages = e.tracked.pages };
