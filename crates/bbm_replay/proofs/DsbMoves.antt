@@ -43,7 +43,7 @@ no_marks : (m : Option Marks) → is_some m ≡ false → m ≡ None
 no_marks None k = refl
 no_marks (Some m) k = absurd (true≢false k)
 
-core_some : (m : Option Marks) → is_some (core_in (state_from None m)) ≡ is_some m
+pub core_some : (m : Option Marks) → is_some (core_in (state_from None m)) ≡ is_some m
 core_some None = refl
 core_some (Some m) = refl
 
@@ -83,7 +83,7 @@ module _ (heading : Heading) (laws : Laws heading) (h : List Event) (old mid new
   completed_marks a = sym (broken_marks None (new.marks a)) ∙ (completes.completed a).broken
       ∙ ap (λ b. is_some (core_in (state_from None (new.marks a))) && b) (broken_marks None (mid.marks a))
 
-  whole_stays : (a : ℕ) → old.marks a ≡ None → new.marks a ≡ None
+  pub whole_stays : (a : ℕ) → old.marks a ≡ None → new.marks a ≡ None
   whole_stays a k = no_marks (new.marks a) (completed_marks a
       ∙ and_false (is_some (core_in (state_from None (new.marks a)))) (is_some (mid.marks a))
       (heard_marks a ∙ ap (λ (m : Option Marks). is_some m) k))

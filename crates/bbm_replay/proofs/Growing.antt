@@ -47,7 +47,7 @@ grown old new starts move = record {
         let same : Some m ≡ Some n = sym here ∙ there in
         inl (e ∙ same)
 
-core_whole : (o : Option Core) → core_in (state_from o None) ≡ o
+pub core_whole : (o : Option Core) → core_in (state_from o None) ≡ o
 core_whole None = refl
 core_whole (Some core) = refl
 

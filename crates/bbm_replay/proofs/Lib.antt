@@ -11,3 +11,7 @@ pub mod Judging
 pub mod Meeting
 pub mod Framing
 pub mod Starting
+pub mod Gone
+pub mod Counting
+pub mod Outside
+pub mod Settling

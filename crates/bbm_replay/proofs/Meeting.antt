@@ -63,7 +63,7 @@ stands_same p r heading h s same = record {
   roots = same;
 }
 
-answers : (r : Result (Unit {0}) StepFault) (breach : Option Breach) (limit : Option Which) → roots.Judges r breach
+pub answers : (r : Result (Unit {0}) StepFault) (breach : Option Breach) (limit : Option Which) → roots.Judges r breach
     → limit ≡ None → Answers r breach limit
 answers (Ok u) breach limit j k = (j, k)
 answers (Err (Broken rule at)) breach limit j k = j

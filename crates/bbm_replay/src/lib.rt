@@ -2,12 +2,15 @@
 //! registers and tags, and the locks, and judges each event by them.
 #![tactic(auto)]
 
+mod barriers;
 mod faults;
 mod laws;
 mod pages;
 mod parts;
 mod registers;
 pub mod replay;
+mod trees;
 mod world;
+mod writes;
 
 pub use replay::Replay;

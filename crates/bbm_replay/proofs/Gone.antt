@@ -1,0 +1,90 @@
+-- Pages that leave, as the index tells it; and a retired root at the parts.
+use Rattle.std.proofs.Common.{◌≡◌, ℕ, Bool, true, false, cond, not, ◌==◌, List, ◌∷◌, Option, Some, None, Result, Ok, Err, refl, sym, ◌∙◌, ap}
+use Rattle.bbm_entry_state.specs.Points.{waits}
+use Rattle.bbm_entry_state.specs.declared.marks.Marks.{Marks}
+use Rattle.bbm_entry_state.specs.declared.pending.Pends.{Pends}
+use Rattle.bbm_rules.specs.Broken.{broken}
+use Rattle.bbm_rules.specs.Claims.Trust.{Patterns}
+use Rattle.bbm_rules.specs.Places.{page_of}
+use Rattle.bbm_rules.specs.Prelude.{Heading, Event, Unroot}
+use Rattle.bbm_rules.specs.Tree.{Node}
+use Rattle.bbm_rules.specs.declared.step_fault.StepFault.{StepFault}
+use Rattle.bbm_tree_index.specs.Held.{leaves}
+use Rattle.bbm_replay_roots.specs.Stands as roots
+use Rattle.bbm_replay_roots.specs.declared.state.RootState.{RootState}
+use Rattle.bbm_replay_trees.specs.Told.{kept}
+use Rattle.bbm_replay.specs.Laws.{Laws}
+use Rattle.bbm_replay.specs.Moves.{Leaves, SamePages, SameTracked}
+use Rattle.bbm_replay.specs.Rules.{Rules}
+use Rattle.bbm_replay.specs.Standing.{MayMeet, Meets, SameFrame, Stands, view_of}
+use Rattle.bbm_replay.specs.View.{View}
+use Rattle.bbm_replay.specs.declared.parts.Parts.{Parts}
+use Rattle.bbm_replay.proofs.Framing.{stands_next}
+use Rattle.bbm_replay.proofs.Leaving.{after_unroot}
+use Rattle.bbm_replay.proofs.Meeting.{answers, fits_all, stands_same}
+
+-- what leaves and stays, of one page
+stays_there : (keeps : Node → Bool) (o : Option Node) (n : Node) → kept keeps o ≡ Some n → leaves keeps o ≡ false
+stays_there keeps None n k = refl
+stays_there keeps (Some m) n k = by (keeps m) refl k
+  where
+    by : (b : Bool) → keeps m ≡ b → cond b (Some m) None ≡ Some n → not (keeps m) ≡ false
+    by true e k = ap not e
+    by false e k = let bad : None ≡ Some n = k in absurd cc
+
+goes : (keeps : Node → Bool) (o : Option Node) (m : Option Marks) → kept keeps o ≡ None → (o ≡ None → m ≡ None)
+    → cond (leaves keeps o) None m ≡ None
+goes keeps None m k whole = whole refl
+goes keeps (Some n) m k whole = by (keeps n) refl k
+  where
+    by : (b : Bool) → keeps n ≡ b → cond b (Some n) None ≡ None → cond (not (keeps n)) None m ≡ None
+    by true e k = let bad : Some n ≡ None = k in absurd cc
+    by false e k = ap (λ b. cond (not b) None m) e
+
+pub leaves_of : (old new : View) (keeps : Node → Bool) → ((a : ℕ) → old.node (page_of a) ≡ None → old.marks a ≡ None)
+    → ((p : ℕ) → new.node p ≡ kept keeps (old.node p)) → ((a : ℕ) → new.value a ≡ old.value a)
+    → ((a : ℕ) → new.marks a ≡ cond (leaves keeps (old.node (page_of a))) None (old.marks a))
+    → ((q a : ℕ) → leaves keeps (old.node (page_of a)) ≡ false → new.pends q a ≡ old.pends q a)
+    → SamePages old new → SameTracked old new → Leaves old new keeps
+leaves_of old new keeps outside node value marks pends roles tracking = record {
+  node = node;
+  value = value;
+  marks = λ a. (
+    (λ none. marks a ∙ goes keeps (old.node (page_of a)) (old.marks a) (sym (node _) ∙ none) (outside a)),
+    (λ n is. marks a ∙ ap (λ b. cond b None (old.marks a)) (stays_there keeps (old.node (page_of a)) n (sym (node _) ∙ is))),
+  );
+  pends = λ q a n is b c p. ap (λ (x : Pends). waits x b c p)
+      (pends q a (stays_there keeps (old.node (page_of a)) n (sym (node _) ∙ is)));
+  roles = roles;
+  tracking = tracking;
+}
+
+module _ (laws : (heading : Heading) → Laws heading) (rules : (heading : Heading) → Rules heading) (old : Parts)
+    (pe page : ℕ) (m : MayMeet old (Unroot pe page)) where
+  pub unroot_err : (fault : StepFault)
+      → ((heading : Heading) (h : List Event) → roots.Stands old.roots heading h
+      → roots.Judges (Err fault) (broken heading Patterns h (Unroot pe page))) → Meets old old (Unroot pe page) (Err fault)
+  unroot_err fault judged = record {
+    judged = λ heading h s. answers (Err fault) _ _ (judged heading h s.roots) ((rules heading).no_limit h (Unroot pe page) refl);
+    taken = tt;
+    unchanged = λ heading h s. s;
+  }
+
+  pub unroot_ok : (new : Parts)
+      → ((heading : Heading) (h : List Event) → roots.Stands old.roots heading h
+      → broken heading Patterns h (Unroot pe page) ≡ None)
+      → SameFrame old new
+      → ((heading : Heading) (h : List Event) → Stands old heading h
+      → Leaves (view_of old.map old.index) (view_of new.map new.index) (λ n. not (n.root == page)))
+      → ((heading : Heading) (h : List Event) → roots.Stands old.roots heading h
+      → broken heading Patterns h (Unroot pe page) ≡ None → roots.Stands new.roots heading (Unroot pe page ∷ h))
+      → Meets old new (Unroot pe page) (Ok tt)
+  unroot_ok new unbroken frame move taken = record {
+    judged = λ heading h s. (unbroken heading h s.roots, (rules heading).no_limit h (Unroot pe page) refl);
+    taken = λ heading h s.
+        let free = unbroken heading h s.roots in
+        stands_next old new frame heading h (Unroot pe page ∷ h) s
+        (after_unroot heading (laws heading) h (view_of old.map old.index) (view_of new.map new.index) s.told pe page
+        (fits_all old (Unroot pe page) m heading h s) free (move heading h s)) (taken heading h s.roots free);
+    unchanged = tt;
+  }

@@ -1,0 +1,128 @@
+-- A DSB at the parts.
+use Rattle.std.proofs.Common.{◌≡◌, ℕ, ◌<◌, Bool, true, false, cond, not, ◌&&◌, List, [], ◌∷◌, Option, Some, None, is_none, is_some, Result, Ok, Err, refl, sym, ◌∙◌, ap, subst, true≢false}
+use Rattle.bbm_barriers.specs.Options.{is_non}
+use Rattle.bbm_descriptor.specs.Descriptor.{core_of}
+use Rattle.bbm_descriptor.specs.declared.desc.Core.{Core}
+use Rattle.bbm_descriptor.specs.declared.desc.Core.TheVariants.{Table, Leaf}
+use Rattle.bbm_entry_state.specs.Points.{core_in}
+use Rattle.bbm_entry_state.specs.declared.marks.Marks.{Marks}
+use Rattle.bbm_place_map.specs.Calls.{is_table, loses_table, lost_table}
+use Rattle.bbm_place_map.specs.Map.{is_tracked, marks_at, value_at}
+use Rattle.bbm_place_map.specs.States.{state_from}
+use Rattle.bbm_place_map.specs.declared.map.PlaceMap.{PlaceMap}
+use Rattle.bbm_rules.specs.Broken.{broken}
+use Rattle.bbm_rules.specs.Claims.Trust.{Patterns}
+use Rattle.bbm_rules.specs.Limits.{limit_of}
+use Rattle.bbm_rules.specs.Lists.{every}
+use Rattle.bbm_rules.specs.Places.{page_of}
+use Rattle.bbm_rules.specs.Prelude.{Barrier, Kind, Heading, Event, Dsb}
+use Rattle.bbm_rules.specs.Tree.{Above, Node}
+use Rattle.bbm_tree_index.specs.Held.{core_with, is_held}
+use Rattle.bbm_replay_roots.specs.Stands as roots
+use Rattle.bbm_replay_trees.specs.Told.{is_held_by, kept, next_in}
+use Rattle.bbm_replay.specs.Laws.{Laws}
+use Rattle.bbm_replay.specs.Moves.{Completes, Hears, Leaves}
+use Rattle.bbm_replay.specs.Standing.{MayMeet, Meets, SameFrame, Stands, view_of}
+use Rattle.bbm_replay.specs.View.{View, core_at}
+use Rattle.bbm_replay.specs.declared.parts.Parts.{Parts}
+use Rattle.bbm_replay.proofs.DsbMoves.{after_dsb, all_held, whole_stays}
+use Rattle.bbm_replay.proofs.Framing.{stands_next}
+use Rattle.bbm_replay.proofs.Growing.{core_whole}
+use Rattle.bbm_replay.proofs.Meeting.{fits_all}
+
+-- the core of a place, as the index reads it
+pub core_with_is : (m : Option Marks) (kind : Kind) (level v : ℕ)
+    → core_with m kind level v ≡ core_in (state_from (core_of kind level v) m)
+core_with_is None kind level v = sym (core_whole (core_of kind level v))
+core_with_is (Some marks) kind level v = by (core_of kind level v)
+  where
+    by : (o : Option Core) → Some marks.core ≡ core_in (state_from o (Some marks))
+    by None = refl
+    by (Some core) = refl
+
+every_alike : (f g : Above → Bool) (xs : List Above) → ((a : Above) → f a ≡ g a) → every f xs ≡ every g xs
+every_alike f g [] same = refl
+every_alike f g (x ∷ xs) same = ap (λ b. b && every f xs) (same x) ∙ ap (λ b. g x && b) (every_alike f g xs same)
+
+-- what still holds something in a map
+abbrev pub holding : View → Kind → ℕ → ℕ → Bool
+holding v kind level a = is_some (core_at v kind level a)
+
+pub held_is : (p : Parts) (map : PlaceMap) (m : Node) → is_held map m ≡ is_held_by (holding (view_of map p.index)) m
+held_is p map m = every_alike (λ a. is_some (core_with (marks_at map a.place) m.kind a.level (value_at map a.place)))
+    (λ a. holding (view_of map p.index) m.kind a.level a.place) m.above
+    (λ a. ap (λ (o : Option Core). is_some o) (core_with_is (marks_at map a.place) m.kind a.level (value_at map a.place)))
+
+pub leaves_alike : (old new : View) (k k' : Node → Bool) → ((n : Node) → k n ≡ k' n) → Leaves old new k → Leaves old new k'
+leaves_alike old new k k' same move = record {
+  node = λ p. move.node p ∙ by (old.node p);
+  value = move.value;
+  marks = move.marks;
+  pends = move.pends;
+  roles = move.roles;
+  tracking = move.tracking;
+}
+  where
+    by : (o : Option Node) → kept k o ≡ kept k' o
+    by None = refl
+    by (Some n) = ap (λ b. cond b (Some n) None) (same n)
+
+-- a place that has lost no table still is broken
+pub not_lost : (m m' : Option Marks) (next : ℕ) → loses_table m m' ≡ false → next_in (core_in (state_from None m)) ≡ Some next
+    → is_some m' ≡ true
+not_lost None m' next k table = let bad : None ≡ Some next = table in absurd cc
+not_lost (Some marks) (Some m) next k table = refl
+not_lost (Some marks) None next k table = by marks.core refl
+  where
+    by : (core : Core) → marks.core ≡ core → false ≡ true
+    by (Table n ns) e = sym k ∙ ap (λ (x : Core). is_table x && true) e
+    by (Leaf out attrs share global contiguous) e =
+        let bad : None ≡ Some next = sym (ap (λ (x : Core). next_in (Some x)) e) ∙ table in absurd cc
+
+module _ (laws : (heading : Heading) → Laws heading) (old new : Parts) (m1 m2 : PlaceMap) (pe : ℕ) (dsb : Barrier)
+    (may : MayMeet old (Dsb pe dsb))
+    (hears : Hears (view_of old.map old.index) (view_of m1 old.index) (old.header.cnp && is_non dsb.domain) pe dsb old.header.pes)
+    (completes : Completes (view_of m1 old.index) (view_of m2 old.index) pe dsb old.header.pes)
+    (tracked : (p : ℕ) → is_tracked m2 p ≡ is_tracked old.map p) (frame : SameFrame old new)
+    (unbroken : (heading : Heading) (h : List Event) → broken heading Patterns h (Dsb pe dsb) ≡ None)
+    (no_limit : (h : List Event) → limit_of h (Dsb pe dsb) ≡ None)
+    (taken : (heading : Heading) (h : List Event) → roots.Stands old.roots heading h
+    → roots.Stands new.roots heading (Dsb pe dsb ∷ h)) where
+  module _ (heading : Heading) (h : List Event) (s : Stands old heading h) where
+    hears_here : Hears (view_of old.map old.index) (view_of m1 old.index) (heading.cnp && is_non dsb.domain) pe dsb heading.pes
+    hears_here = subst (λ (x : Heading). Hears (view_of old.map old.index) (view_of m1 old.index) (x.cnp && is_non dsb.domain) pe dsb x.pes) s.header hears
+
+    completes_here : Completes (view_of m1 old.index) (view_of m2 old.index) pe dsb heading.pes
+    completes_here = subst (λ (x : Heading). Completes (view_of m1 old.index) (view_of m2 old.index) pe dsb x.pes) s.header completes
+
+    pub still_outside : (a : ℕ) → (view_of m2 old.index).node (page_of a) ≡ None → marks_at m2 a ≡ None
+    still_outside a none = whole_stays heading (laws heading) h (view_of old.map old.index) (view_of m1 old.index) (view_of m2 old.index)
+        s.told pe dsb hears_here completes_here a (s.told.outside a none)
+
+    -- nothing leaves where no place lost a table
+    pub nothing_leaves : ((a : ℕ) → lost_table m1 m2 a ≡ false)
+        → Leaves (view_of m2 old.index) (view_of m2 old.index) (is_held_by (holding (view_of m2 old.index)))
+    nothing_leaves kept_all = record {
+      node = λ p. sym (all_held heading (laws heading) h (view_of old.map old.index) (view_of m1 old.index) (view_of m2 old.index)
+          s.told pe dsb hears_here completes_here
+          (λ a next table. not_lost (marks_at m1 a) (marks_at m2 a) next (kept_all a) table) p);
+      value = λ a. refl;
+      marks = λ a. (still_outside a, λ n is. refl);
+      pends = λ q a n is b c p. refl;
+      roles = record { fresh = λ p. refl; null = λ p. refl };
+      tracking = record { tracked = λ p. refl; known = λ p. refl; pages = refl };
+    }
+
+  pub dsb_meets : ((heading : Heading) (h : List Event) → Stands old heading h
+      → Leaves (view_of m2 old.index) (view_of new.map new.index) (is_held_by (holding (view_of m2 old.index))))
+      → Meets old new (Dsb pe dsb) (Ok tt)
+  dsb_meets move = record {
+    judged = λ heading h s. (unbroken heading h, no_limit h);
+    taken = λ heading h s. stands_next old new frame heading h (Dsb pe dsb ∷ h) s
+        (after_dsb heading (laws heading) h (view_of old.map old.index) (view_of m1 old.index) (view_of m2 old.index) s.told pe dsb
+        (hears_here heading h s) (completes_here heading h s) (view_of new.map new.index)
+        (fits_all old (Dsb pe dsb) may heading h s) (unbroken heading h) (λ p. refl) (move heading h s)
+        (λ p. refl) (λ p. refl) tracked (λ p. refl) refl)
+        (taken heading h s.roots);
+    unchanged = tt;
+  }

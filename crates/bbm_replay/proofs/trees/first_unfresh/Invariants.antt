@@ -1,0 +1,6 @@
+use Rattle.std.proofs.Common.{◌≡◌, ℕ, ◌+◌, ◌*◌, ◌<◌, true}
+use Rattle.bbm_tree_index.specs.Index.{fresh_in}
+use Rattle.bbm_replay.proofs.trees.first_unfresh.Given as goal
+
+abbrev pub invariant-loop-i : goal.invariant-loop-i
+invariant-loop-i l = (k : ℕ) → k < l.i → fresh_in l.index (l.page + 4096 * k) ≡ true

@@ -1,0 +1,108 @@
+//! Roots that are declared and retired.
+
+ghost use Rattle.std.specs.Prelude.{◌≡◌, ◌+◌, ◌*◌, ◌≤◌, ◌<◌, ◌%◌, ◌^◌, ℕ, not, filter};
+ghost use Rattle.bbm_events.specs.declared.event.Event.TheVariants.{Root, Unroot};
+ghost use Rattle.bbm_rules.specs.Lists.{least};
+ghost use Rattle.bbm_rules.specs.Roots.{pages_from};
+ghost use Rattle.bbm_tree_index.specs.Index.{fresh_in};
+ghost use Rattle.bbm_replay.specs.Standing.{MayMeet, Meets};
+
+use crate::faults::step_fault;
+use crate::laws::{laws, rules};
+use crate::parts::Parts;
+use crate::world::{has_kind, page_count};
+use bbm_regimes::{Kind, Page, Pe};
+use bbm_rules::{Rule, StepFault};
+use bbm_tree_index::{Attach, TreeIndex};
+use std::alloc::Global;
+
+// Whether the page at the address, in bytes, is fresh.
+fn is_fresh_at(index: &TreeIndex, at: u64) -> bool
+    requires below { at < 2 ^ 48 }
+    requires aligned { at % 4096 ≡ 0 }
+    ensures { result ≡ fresh_in index.now at }
+{
+    match Page::new(at) {
+        Some(page) => index.is_fresh(page),
+        None => false,
+    }
+}
+
+// The first of so many consecutive pages that isn't fresh.
+fn first_unfresh(index: &TreeIndex, page: Page, count: u8) -> Option<u64>
+    requires { page + 4096 * count ≤ 2 ^ 48 }
+    ensures { result ≡ least (filter (λ p. not (fresh_in index.now p)) (pages_from page count)) }
+{
+    for i in 0..count {
+        let at = page.get() + 4096 * u64::from(i);
+        if !is_fresh_at(index, at) {
+            return Some(at);
+        }
+    }
+    None
+}
+
+impl Parts {
+    /// A root is declared.
+    pub(crate) fn root(
+        &mut self,
+        alloc: Global,
+        pe: Pe,
+        kind: Kind,
+        lock: Option<u16>,
+        page: Page,
+    ) -> Result<(), StepFault>
+        requires { MayMeet self.old (Root pe kind lock page) }
+        ensures { Meets self.old self.new (Root pe kind lock page) result }
+    {
+        laws();
+        rules();
+        if !has_kind(&self.header, kind) {
+            return Err(StepFault::Broken(Rule::WrongWorld, 0));
+        }
+        match self.index.judge(alloc, &self.map, Attach::Root { kind, first: page }) {
+            Ok(()) => {}
+            Err(fault) => return Err(step_fault(fault)),
+        }
+        match first_unfresh(&self.index, page, page_count(&self.header, kind)) {
+            Some(at) => return Err(StepFault::Broken(Rule::PageInUse, at)),
+            None => {}
+        }
+        match self.roots.prepare(alloc) {
+            Ok(()) => {}
+            Err(fault) => return Err(fault),
+        }
+        let _ = self.map.restless();
+        match self.index.attach(alloc, &self.map, Attach::Root { kind, first: page }) {
+            Ok(()) => {}
+            Err(_) => return Err(StepFault::NoMemory),
+        }
+        match self.roots.declare(alloc, kind, page, lock) {
+            Ok(()) => Ok(()),
+            Err(_) => Err(StepFault::NoMemory),
+        }
+    }
+
+    /// A root is retired.
+    pub(crate) fn unroot(&mut self, pe: Pe, page: Page) -> Result<(), StepFault>
+        requires { MayMeet self.old (Unroot pe page) }
+        ensures { Meets self.old self.new (Unroot pe page) result }
+    {
+        laws();
+        rules();
+        match self.roots.judge_unroot(pe, page) {
+            Ok(()) => {
+                self.index.detach(
+                    &mut self.map,
+                    Attach::Root {
+                        kind: Kind::El2,
+                        first: page,
+                    },
+                );
+                self.roots.retire(page);
+                Ok(())
+            }
+            Err(fault) => Err(fault),
+        }
+    }
+}
