@@ -1,13 +1,17 @@
 -- A DSB at the parts.
-use Rattle.std.proofs.Common.{◌≡◌, ℕ, ◌<◌, Bool, true, false, cond, not, ◌&&◌, List, [], ◌∷◌, Option, Some, None, is_none, is_some, Result, Ok, Err, refl, sym, ◌∙◌, ap, subst, true≢false}
+use Rattle.std.proofs.Common.{◌≡◌, ℕ, ◌<◌, Bool, true, false, cond, not, ◌&&◌, List, [], ◌∷◌, Option, Some, None, is_none, is_some, nat_eq, Result, Ok, Err, refl, sym, ◌∙◌, ap, subst, true≢false}
 use Rattle.bbm_barriers.specs.Options.{is_non}
 use Rattle.bbm_descriptor.specs.Descriptor.{core_of}
 use Rattle.bbm_descriptor.specs.declared.desc.Core.{Core}
 use Rattle.bbm_descriptor.specs.declared.desc.Core.TheVariants.{Table, Leaf}
-use Rattle.bbm_entry_state.specs.Points.{core_in}
+use Rattle.bbm_entry_state.specs.Calls.{Completed, Published}
+use Rattle.bbm_entry_state.specs.Points.{core_in, waits}
+use Rattle.bbm_entry_state.specs.declared.pending.Pends.{Pends}
+use Rattle.bbm_tlbi_scope.specs.declared.entry.Cover.{Cover}
 use Rattle.bbm_entry_state.specs.declared.marks.Marks.{Marks}
-use Rattle.bbm_place_map.specs.Calls.{is_table, loses_table, lost_table}
-use Rattle.bbm_place_map.specs.Map.{is_tracked, marks_at, value_at}
+use Rattle.bbm_place_map.specs.Calls.{lost_table}
+use Rattle.bbm_place_map.specs.Each.{is_table, loses_table}
+use Rattle.bbm_place_map.specs.Map.{is_tracked, marks_at, pends_at, value_at}
 use Rattle.bbm_place_map.specs.States.{state_from}
 use Rattle.bbm_place_map.specs.declared.map.PlaceMap.{PlaceMap}
 use Rattle.bbm_rules.specs.Broken.{broken}
@@ -126,3 +130,30 @@ module _ (laws : (heading : Heading) → Laws heading) (old new : Parts) (m1 m2 
         (taken heading h s.roots);
     unchanged = tt;
   }
+
+pub hears_of : (old : Parts) (m1 : PlaceMap) (pe : ℕ) (dsb : Barrier) (s : Bool) (n : ℕ)
+    → s ≡ (old.header.cnp && is_non dsb.domain) → n ≡ old.header.pes
+    → (s ≡ false → (live : Option Core) (a : ℕ) → Published (state_from live (marks_at old.map a)) pe dsb n (state_from live (marks_at m1 a)))
+    → (s ≡ true → (a : ℕ) → marks_at m1 a ≡ marks_at old.map a) → ((a : ℕ) → value_at m1 a ≡ value_at old.map a)
+    → ((q a : ℕ) → pends_at m1 q a ≡ pends_at old.map q a)
+    → Hears (view_of old.map old.index) (view_of m1 old.index) (old.header.cnp && is_non dsb.domain) pe dsb old.header.pes
+hears_of old m1 pe dsb s n silent count published unheard values pends = record {
+  published = λ loud live a. subst (λ (x : ℕ). Published (state_from live (marks_at old.map a)) pe dsb x (state_from live (marks_at m1 a)))
+      count (published (silent ∙ loud) live a);
+  unheard = λ quiet. unheard (silent ∙ quiet);
+  value = values;
+  pends = λ q a b i x. ap (λ (w : Pends). waits w b i x) (pends q a);
+}
+
+pub completes_of : (old : Parts) (m1 m2 : PlaceMap) (pe : ℕ) (dsb : Barrier) (n : ℕ) → n ≡ old.header.pes
+    → ((a : ℕ) → Completed (state_from None (marks_at m1 a)) (pends_at m1 pe a) dsb n (state_from None (marks_at m2 a)) (pends_at m2 pe a))
+    → ((q a : ℕ) (b : Bool) (c : Cover) (i : ℕ) → nat_eq q pe ≡ false
+    → waits (pends_at m2 q a) b c i ≡ (is_some (marks_at m2 a) && waits (pends_at m1 q a) b c i))
+    → ((a : ℕ) → value_at m2 a ≡ value_at m1 a)
+    → Completes (view_of m1 old.index) (view_of m2 old.index) pe dsb old.header.pes
+completes_of old m1 m2 pe dsb n count completed others values = record {
+  completed = λ a. subst (λ (x : ℕ). Completed (state_from None (marks_at m1 a)) (pends_at m1 pe a) dsb x
+      (state_from None (marks_at m2 a)) (pends_at m2 pe a)) count (completed a);
+  others = λ q a other b c i. others q a b c i other;
+  value = values;
+}
