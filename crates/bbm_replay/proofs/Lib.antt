@@ -15,3 +15,6 @@ pub mod Gone
 pub mod Counting
 pub mod Outside
 pub mod Settling
+pub mod Verdicts
+pub mod Rooting
+pub mod RootPages

@@ -1,0 +1,102 @@
+-- The pages of a root: they lie below 2 ^ 48, and where none is found that isn't fresh, each is fresh.
+use Rattle.std.proofs.Common.{◌≡◌, ℕ, zero, suc, ◌+◌, ◌*◌, ◌%◌, ◌^◌, ◌<◌, ◌≤◌, ◌⊎◌, Bool, true, false, cond, not, ◌&&◌, ◌||◌, ◌==◌, nat_lt, List, [], ◌∷◌, length, Contains, slice_index_or, Option, Some, None, filter, refl, sym, ◌∙◌, ap, subst, inl, inr, true≢false, arith, not-suc-le-zero, le_of_suc-le-suc}
+use Rattle.std.proofs.lemmas.Bool.{and_parts, eqb-true, ltb-true, or_cases}
+use Rattle.bbm_regimes.specs.World.{are_s2_pages, page_count, world_ok}
+use Rattle.bbm_regimes.specs.declared.regime.Kind.{Kind}
+use Rattle.bbm_regimes.specs.declared.regime.Kind.TheVariants.{El2, S2, Ttbr0, Ttbr1}
+use Rattle.bbm_regimes.specs.declared.regime.World.{World}
+use Rattle.bbm_regimes.specs.declared.regime.World.TheVariants.{Hyp, Kernel}
+use Rattle.bbm_events.specs.Fits.{is_page, is_root_page}
+use Rattle.bbm_events.specs.Heading.{Heading, are_pes, heading_ok, is_version, may_share}
+use Rattle.bbm_rules.specs.Lists.{least}
+use Rattle.bbm_rules.specs.Tree.{Node, nodes_of_pages}
+
+last4 : (a b c d : Bool) → (a && b && c && d) ≡ true → d ≡ true
+last4 true true true d k = k
+last4 true true false d k = let bad : false ≡ true = k in absurd cc
+last4 true false c d k = let bad : false ≡ true = k in absurd cc
+last4 false b c d k = let bad : false ≡ true = k in absurd cc
+
+last3 : (a b c : Bool) → (a && b && c) ≡ true → c ≡ true
+last3 true true c k = k
+last3 true false c k = let bad : false ≡ true = k in absurd cc
+last3 false b c k = let bad : false ≡ true = k in absurd cc
+
+-- a stage 2 root has 1, 2, 4, 8 or 16 pages
+few : (start pages : ℕ) → are_s2_pages start pages ≡ true
+    → (pages ≡ 1) ⊎ ((pages ≡ 2) ⊎ ((pages ≡ 4) ⊎ ((pages ≡ 8) ⊎ (pages ≡ 16))))
+few start pages k = by (start == 0) (pages == 1) (pages == 2) (pages == 4) (pages == 8) (pages == 16) refl refl refl refl refl k
+  where
+    by : (s a b c d e : Bool) → (pages == 1) ≡ a → (pages == 2) ≡ b → (pages == 4) ≡ c → (pages == 8) ≡ d
+        → (pages == 16) ≡ e → cond s a (a || b || c || d || e) ≡ true
+        → (pages ≡ 1) ⊎ ((pages ≡ 2) ⊎ ((pages ≡ 4) ⊎ ((pages ≡ 8) ⊎ (pages ≡ 16))))
+    by s true b c d e p q r t u k = inl (eqb-true pages 1 p)
+    by true false b c d e p q r t u k = let bad : false ≡ true = k in absurd cc
+    by false false true c d e p q r t u k = inr (inl (eqb-true pages 2 q))
+    by false false false true d e p q r t u k = inr (inr (inl (eqb-true pages 4 r)))
+    by false false false false true e p q r t u k = inr (inr (inr (inl (eqb-true pages 8 t))))
+    by false false false false false true p q r t u k = inr (inr (inr (inr (eqb-true pages 16 u))))
+    by false false false false false false p q r t u k = let bad : false ≡ true = k in absurd cc
+
+one : (page : ℕ) → page < 2 ^ 48 → page % 4096 ≡ 0 → page + 4096 ≤ 2 ^ 48
+one page a b = omega arith
+
+many : (page n : ℕ) → page < 2 ^ 48 → page % (4096 * n) ≡ 0
+    → (n ≡ 1) ⊎ ((n ≡ 2) ⊎ ((n ≡ 4) ⊎ ((n ≡ 8) ⊎ (n ≡ 16)))) → page + 4096 * n ≤ 2 ^ 48
+many page n a b c = elim c [
+    | inl e ↦ let r : page % 4096 ≡ 0 = subst (λ (x : ℕ). page % (4096 * x) ≡ 0) e b in omega arith
+    | inr c1 ↦ elim c1 [
+    | inl e ↦ let r : page % 8192 ≡ 0 = subst (λ (x : ℕ). page % (4096 * x) ≡ 0) e b in omega arith
+    | inr c2 ↦ elim c2 [
+    | inl e ↦ let r : page % 16384 ≡ 0 = subst (λ (x : ℕ). page % (4096 * x) ≡ 0) e b in omega arith
+    | inr c3 ↦ elim c3 [
+    | inl e ↦ let r : page % 32768 ≡ 0 = subst (λ (x : ℕ). page % (4096 * x) ≡ 0) e b in omega arith
+    | inr e ↦ let r : page % 65536 ≡ 0 = subst (λ (x : ℕ). page % (4096 * x) ≡ 0) e b in omega arith
+    ] ] ] ]
+
+counted : (world : World) (kind : Kind) → world_ok world ≡ true → (page_count world kind ≡ 1) ⊎ ((page_count world kind ≡ 2)
+    ⊎ ((page_count world kind ≡ 4) ⊎ ((page_count world kind ≡ 8) ⊎ (page_count world kind ≡ 16))))
+counted (Hyp w) S2 k = few w.s2_start w.s2_pages (last3 _ _ (are_s2_pages w.s2_start w.s2_pages) k)
+counted (Hyp w) El2 k = inl refl
+counted (Hyp w) Ttbr0 k = inl refl
+counted (Hyp w) Ttbr1 k = inl refl
+counted (Kernel w) kind k = inl refl
+
+pub room_for : (heading : Heading) (kind : Kind) (page : ℕ) → heading_ok heading ≡ true
+    → is_root_page heading.world kind page ≡ true → page + 4096 * page_count heading.world kind ≤ 2 ^ 48
+room_for heading kind page ok fits =
+    let both = and_parts (is_page page) (page % (4096 * page_count heading.world kind) == 0) fits in
+    let inside = and_parts (nat_lt page (2 ^ 48)) (page % 4096 == 0) both.0 in
+    many page (page_count heading.world kind) (ltb-true page (2 ^ 48) inside.0)
+    (eqb-true (page % (4096 * page_count heading.world kind)) 0 both.1)
+    (counted heading.world kind (last4 _ _ _ (world_ok heading.world) ok))
+
+module _ (fresh : ℕ → Bool) where
+  abbrev AllFresh : List ℕ → Type 0
+  AllFresh [] = Unit {0}
+  AllFresh (p ∷ ps) = (fresh p ≡ true) × AllFresh ps
+
+  all_of : (ps : List ℕ) → least (filter (λ p. not (fresh p)) ps) ≡ None → AllFresh ps
+  all_of [] k = tt
+  all_of (p ∷ ps) k = by (all_of ps) (fresh p) refl
+    where
+      rest : List ℕ
+      rest = filter (λ p. not (fresh p)) ps
+      by : (least rest ≡ None → AllFresh ps) → (b : Bool) → fresh p ≡ b → (fresh p ≡ true) × AllFresh ps
+      by older true e = (e, older (ap (λ (xs : List ℕ). least xs) (sym (ap (λ b. cond (not b) (p ∷ rest) rest) e)) ∙ k))
+      by older false e =
+          let bad : least (p ∷ rest) ≡ None = ap (λ (xs : List ℕ). least xs) (sym (ap (λ b. cond (not b) (p ∷ rest) rest) e)) ∙ k in
+          absurd cc
+
+  node_fresh : (kind : Kind) (level root base : ℕ) (ps : List ℕ) → AllFresh ps → (m : Node) (k : ℕ)
+      → k < length (nodes_of_pages kind level root base ps) → slice_index_or (nodes_of_pages kind level root base ps) k m ≡ m
+      → fresh m.page ≡ true
+  node_fresh kind level root base [] all m k below at = absurd (not-suc-le-zero below)
+  node_fresh kind level root base (p ∷ ps) all m zero below at =
+      subst (λ (x : Node). fresh x.page ≡ true) at all.0
+  node_fresh kind level root base (p ∷ ps) all m (suc k) below at =
+      node_fresh kind level root _ ps all.1 m k (le_of_suc-le-suc below) at
+
+  pub named_fresh : (kind : Kind) (level root base : ℕ) (ps : List ℕ) → least (filter (λ p. not (fresh p)) ps) ≡ None
+      → (m : Node) → Contains (nodes_of_pages kind level root base ps) m → fresh m.page ≡ true
+  named_fresh kind level root base ps none m c = node_fresh kind level root base ps (all_of ps none) m c.0 c.1 c.2

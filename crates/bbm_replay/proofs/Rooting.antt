@@ -1,0 +1,167 @@
+-- A root that is declared, at the parts.
+use Rattle.std.proofs.Common.{◌≡◌, ◌≢◌, ℕ, ◌<◌, ◌≤◌, ◌⊎◌, ◌↔◌, Bool, true, false, not, ◌&&◌, List, [], ◌∷◌, length, Contains, Option, Some, None, is_none, filter, Result, Ok, Err, refl, sym, ◌∙◌, ap, subst, inl, inr, nat_le, true≢false}
+use Rattle.bbm_entry_state.specs.Standing.{IsIdle}
+use Rattle.bbm_regimes.specs.declared.regime.Which.{Which}
+use Rattle.bbm_regimes.specs.declared.regime.Which.TheVariants.{Pages, Roots, Values}
+use Rattle.bbm_rules.specs.Answers.{Answers}
+use Rattle.bbm_rules.specs.Broken.{Breach, broken}
+use Rattle.bbm_rules.specs.Claims.Trust.{Patterns}
+use Rattle.bbm_rules.specs.Limits.{limit_of}
+use Rattle.bbm_rules.specs.Lists.{if_so, least}
+use Rattle.bbm_rules.specs.Prelude.{Kind, kind_in_world, Heading, Event, Root}
+use Rattle.bbm_rules.specs.Roots.{root_pages, roots_of}
+use Rattle.bbm_rules.specs.Rules.{bad_kind, global_user, not_fresh}
+use Rattle.bbm_rules.specs.Tree.{Node, nodes_of_root}
+use Rattle.bbm_rules.specs.declared.rule.Rule.TheVariants.{WrongWorld, NotFresh, BadKind, GlobalUser, PageInUse}
+use Rattle.bbm_rules.specs.declared.step_fault.StepFault.{StepFault}
+use Rattle.bbm_rules.specs.declared.step_fault.StepFault.TheVariants.{Broken, Limit, NoMemory}
+use Rattle.bbm_place_map.specs.Map.{marks_at, pends_at, value_at}
+use Rattle.bbm_tree_index.specs.Index.{fresh_in, heading_of, node_in}
+use Rattle.bbm_tree_index.specs.Judged as index
+use Rattle.bbm_tree_index.specs.Paths as index_paths
+use Rattle.bbm_tree_index.specs.declared.fault.TreeFault.{TreeFault}
+use Rattle.bbm_tree_index.specs.declared.fault.TreeFault.TheVariants as tree
+use Rattle.bbm_replay_roots.specs.Stands as roots
+use Rattle.bbm_replay_roots.specs.declared.state.RootState.{RootState}
+use Rattle.bbm_replay_trees.specs.Told.{notes}
+use Rattle.bbm_replay.specs.Faults.{step_fault}
+use Rattle.bbm_replay.specs.Laws.{Laws}
+use Rattle.bbm_replay.specs.Moves.{Attaches, SameMap, SameTracked}
+use Rattle.bbm_replay.specs.Rules.{Rules}
+use Rattle.bbm_replay.specs.Standing.{MayMeet, Meets, SameFrame, Stands, view_of}
+use Rattle.bbm_replay.specs.declared.parts.Parts.{Parts}
+use Rattle.bbm_replay.proofs.Framing.{stands_next}
+use Rattle.bbm_replay.proofs.Growing.{after_root}
+use Rattle.bbm_replay.proofs.Judging.{passes, root_is, stops, where_false, where_true}
+use Rattle.bbm_replay.proofs.Meeting.{fits_all, stands_same, with_roots}
+use Rattle.bbm_replay.proofs.Starting.{meets_broken}
+use Rattle.bbm_replay.proofs.Verdicts.{Verdict, attached_from, attached_to, verdict}
+
+-- the nodes of the pages of a root
+abbrev pub starts : Heading → Kind → ℕ → List Node
+starts heading kind page = nodes_of_root heading (record { page = page; kind = kind; lock = None })
+
+module _ (laws : (heading : Heading) → Laws heading) (rules : (heading : Heading) → Rules heading) (old : Parts)
+    (pe page : ℕ) (kind : Kind) (lock : Option ℕ) (m : MayMeet old (Root pe kind lock page)) where
+  abbrev e : Event
+  e = Root pe kind lock page
+
+  pub root_world : ((heading : Heading) → old.header ≡ heading → kind_in_world heading.world kind ≡ false)
+      → Meets old old e (Err (Broken WrongWorld 0))
+  root_world wrong = meets_broken old e WrongWorld 0
+      (λ heading h s. root_is heading (rules heading) h (view_of old.map old.index) s.told pe page kind lock
+      ∙ stops WrongWorld _ _ 0 (where_true (not (kind_in_world heading.world kind)) 0 (ap not (wrong heading s.header))))
+
+  module _ (right : (heading : Heading) → old.header ≡ heading → kind_in_world heading.world kind ≡ true) where
+    module _ (heading : Heading) (h : List Event) (s : Stands old heading h) where
+      world_is : if_so {A = ℕ} (not (kind_in_world heading.world kind)) 0 ≡ None
+      world_is = where_false (not (kind_in_world heading.world kind)) 0 (ap not (right heading s.header))
+
+      verdict_here : (r : Result (Unit {0}) TreeFault)
+          → index.Judges {A = Unit {0}} (fresh_in old.index) (value_at old.map) (starts (heading_of old.index) kind page) true r
+          → Verdict r (not_fresh heading Patterns (notes heading h) e) (bad_kind heading Patterns (notes heading h) e)
+          (global_user heading Patterns (notes heading h) e)
+      verdict_here r k = verdict (fresh_in old.index) (value_at old.map) (starts heading kind page) heading h true e
+          ((rules heading).judging_root h (fresh_in old.index) (value_at old.map) pe page kind lock
+          ((laws heading).nodes.proper s.told.proper) s.told.fit s.told.fresh s.told.values) r
+          (subst (λ (x : Heading). index.Judges {A = Unit {0}} (fresh_in old.index) (value_at old.map) (starts x kind page) true r) s.index_header k)
+
+    pub root_fault : (fault : TreeFault)
+        → index.Judges {A = Unit {0}} (fresh_in old.index) (value_at old.map) (starts (heading_of old.index) kind page) true (Err fault)
+        → Meets old old e (Err (step_fault fault))
+    root_fault tree.NoMemory k = record { judged = λ heading h s. tt; taken = tt; unchanged = λ heading h s. s }
+    root_fault (tree.Limit which) k = absurd k
+    root_fault (tree.NotFresh at) k = meets_broken old e NotFresh at (λ heading h s.
+        root_is heading (rules heading) h (view_of old.map old.index) s.told pe page kind lock
+        ∙ passes WrongWorld _ _ (world_is heading h s) ∙ stops NotFresh _ _ at (verdict_here heading h s (Err (tree.NotFresh at)) k))
+    root_fault (tree.BadKind at) k = meets_broken old e BadKind at (λ heading h s.
+        let v = verdict_here heading h s (Err (tree.BadKind at)) k in
+        root_is heading (rules heading) h (view_of old.map old.index) s.told pe page kind lock
+        ∙ passes WrongWorld _ _ (world_is heading h s) ∙ passes NotFresh _ _ v.0 ∙ stops BadKind _ _ at v.1)
+    root_fault (tree.GlobalUser at) k = meets_broken old e GlobalUser at (λ heading h s.
+        let v = verdict_here heading h s (Err (tree.GlobalUser at)) k in
+        root_is heading (rules heading) h (view_of old.map old.index) s.told pe page kind lock
+        ∙ passes WrongWorld _ _ (world_is heading h s) ∙ passes NotFresh _ _ v.0 ∙ passes BadKind _ _ v.1 ∙ stops GlobalUser _ _ at v.2)
+
+    module _ (fine : index.Judges {A = Unit {0}} (fresh_in old.index) (value_at old.map) (starts (heading_of old.index) kind page) true (Ok tt)) where
+      used : (heading : Heading) (h : List Event) → Stands old heading h → (at : ℕ)
+          → least (filter (λ p. not (fresh_in old.index p)) (root_pages heading.world kind page)) ≡ Some at
+          → broken heading Patterns h e ≡ Some (record { rule = PageInUse; at = at })
+      used heading h s at k =
+          let v = verdict_here heading h s (Ok tt) fine in
+          root_is heading (rules heading) h (view_of old.map old.index) s.told pe page kind lock
+          ∙ passes WrongWorld _ _ (world_is heading h s) ∙ passes NotFresh _ _ v.0 ∙ passes BadKind _ _ v.1
+          ∙ passes GlobalUser _ _ v.2 ∙ stops PageInUse _ None at k
+
+      pub unbroken : ((heading : Heading) → old.header ≡ heading
+          → least (filter (λ p. not (fresh_in old.index p)) (root_pages heading.world kind page)) ≡ None)
+          → (heading : Heading) (h : List Event) → Stands old heading h → broken heading Patterns h e ≡ None
+      unbroken k heading h s =
+          let v = verdict_here heading h s (Ok tt) fine in
+          root_is heading (rules heading) h (view_of old.map old.index) s.told pe page kind lock
+          ∙ passes WrongWorld _ _ (world_is heading h s) ∙ passes NotFresh _ _ v.0 ∙ passes BadKind _ _ v.1
+          ∙ passes GlobalUser _ _ v.2 ∙ passes PageInUse _ None (k heading s.header)
+
+      pub root_used : (at : ℕ) → ((heading : Heading) → old.header ≡ heading
+          → least (filter (λ p. not (fresh_in old.index p)) (root_pages heading.world kind page)) ≡ Some at)
+          → Meets old old e (Err (Broken PageInUse at))
+      root_used at k = meets_broken old e PageInUse at (λ heading h s. used heading h s at (k heading s.header))
+
+      module _ (free : (heading : Heading) (h : List Event) → Stands old heading h → broken heading Patterns h e ≡ None)
+          (ready : RootState) (same : (heading : Heading) (h : List Event) → roots.Stands old.roots heading h
+          → roots.Stands ready heading h) where
+        -- there is no room for the root
+        pub root_full : (fault : StepFault)
+            → ((heading : Heading) (h : List Event) → roots.Stands old.roots heading h
+            → (fault ≡ Limit Roots) → limit_of h e ≡ Some Roots)
+            → ((fault ≡ Limit Roots → ⊥) → fault ≡ NoMemory) → Meets old (with_roots old ready) e (Err fault)
+        root_full fault full none = record {
+          judged = λ heading h s. by fault heading h (full heading h s.roots) none s;
+          taken = tt;
+          unchanged = λ heading h s. stands_same old ready heading h s (same heading h s.roots);
+        }
+          where
+            by : (f : StepFault) → (heading : Heading) (h : List Event) → ((f ≡ Limit Roots) → limit_of h e ≡ Some Roots)
+                → ((f ≡ Limit Roots → ⊥) → f ≡ NoMemory) → Stands old heading h
+                → Answers (Err f) (broken heading Patterns h e) (limit_of h e)
+            by NoMemory heading h full none s = tt
+            by (Broken rule at) heading h full none s =
+                let bad : Broken rule at ≡ NoMemory = none (λ k. absurd cc) in absurd cc
+            by (Limit Roots) heading h full none s = (free heading h s, full refl)
+            by (Limit which) heading h full none s =
+                let bad : Limit which ≡ NoMemory = none (λ k. absurd cc) in absurd cc
+
+        -- there is, and the pages are attached
+        pub root_ok : (new : Parts) → SameFrame old new
+            → ((heading : Heading) (h : List Event) → roots.Stands old.roots heading h → limit_of h e ≡ Some Roots → ⊥)
+            → SameMap (view_of old.map old.index) (view_of new.map new.index)
+            → Attaches (view_of old.map old.index) (view_of new.map new.index) (starts (heading_of old.index) kind page)
+            → ((q a : ℕ) → marks_at new.map a ≡ None → IsIdle (pends_at new.map q a))
+            → ((heading : Heading) (h : List Event) → roots.Stands ready heading h → broken heading Patterns h e ≡ None
+            → roots.Stands new.roots heading (e ∷ h))
+            → Meets old new e (Ok tt)
+        root_ok new frame room map attached idle taken = record {
+          judged = λ heading h s. (free heading h s, no_limit heading h s);
+          taken = λ heading h s. stands_next old new frame heading h (e ∷ h) s
+              (after_root heading (laws heading) h (view_of old.map old.index) (view_of new.map new.index) s.told pe page kind lock
+              (fits_all old e m heading h s) (free heading h s) map
+              (subst (λ (x : Heading). Attaches (view_of old.map old.index) (view_of new.map new.index) (starts x kind page)) s.index_header attached)
+              idle)
+              (taken heading h (same heading h s.roots) (free heading h s));
+          unchanged = tt;
+        }
+          where
+            no_limit : (heading : Heading) (h : List Event) → Stands old heading h → limit_of h e ≡ None
+            no_limit heading h s = by (nat_le 1024 (length (roots_of h))) refl
+              where
+                by : (b : Bool) → nat_le 1024 (length (roots_of h)) ≡ b → limit_of h e ≡ None
+                by false k = ap (λ b. if_so b Roots) k
+                by true k = absurd (room heading h s.roots (ap (λ b. if_so b Roots) k))
+
+  pub stays_after : (fault : StepFault) → fault ≡ NoMemory → (new : Parts)
+      → ((heading : Heading) (h : List Event) → Stands old heading h → Stands new heading h) → Meets old new e (Err fault)
+  stays_after fault k new same = record {
+    judged = λ heading h s. subst (λ (f : StepFault). Answers (Err f) (broken heading Patterns h e) (limit_of h e)) (sym k) tt;
+    taken = tt;
+    unchanged = same;
+  }
