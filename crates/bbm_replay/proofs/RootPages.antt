@@ -1,7 +1,7 @@
 -- The pages of a root: they lie below 2 ^ 48, and where none is found that isn't fresh, each is fresh.
-use Rattle.std.proofs.Common.{◌≡◌, ℕ, zero, suc, ◌+◌, ◌*◌, ◌%◌, ◌^◌, ◌<◌, ◌≤◌, ◌⊎◌, Bool, true, false, cond, not, ◌&&◌, ◌||◌, ◌==◌, nat_lt, List, [], ◌∷◌, length, Contains, slice_index_or, Option, Some, None, filter, refl, sym, ◌∙◌, ap, subst, inl, inr, true≢false, arith, not-suc-le-zero, le_of_suc-le-suc}
+use Rattle.std.proofs.Common.{◌≡◌, ℕ, zero, suc, ◌+◌, ◌*◌, ◌%◌, ◌^◌, ◌<◌, ◌≤◌, ◌⊎◌, Bool, true, false, cond, not, ◌&&◌, ◌||◌, ◌==◌, nat_le, nat_lt, List, [], ◌∷◌, length, Contains, slice_index_or, Option, Some, None, filter, refl, sym, ◌∙◌, ap, subst, inl, inr, true≢false, arith, not-suc-le-zero, le_of_suc-le-suc}
 use Rattle.std.proofs.lemmas.Bool.{and_parts, eqb-true, ltb-true, or_cases}
-use Rattle.bbm_regimes.specs.World.{are_s2_pages, page_count, world_ok}
+use Rattle.bbm_regimes.specs.World.{are_s2_pages, input_pages, page_count, world_ok}
 use Rattle.bbm_regimes.specs.declared.regime.Kind.{Kind}
 use Rattle.bbm_regimes.specs.declared.regime.Kind.TheVariants.{El2, S2, Ttbr0, Ttbr1}
 use Rattle.bbm_regimes.specs.declared.regime.World.{World}
@@ -56,7 +56,7 @@ many page n a b c = elim c [
 
 counted : (world : World) (kind : Kind) → world_ok world ≡ true → (page_count world kind ≡ 1) ⊎ ((page_count world kind ≡ 2)
     ⊎ ((page_count world kind ≡ 4) ⊎ ((page_count world kind ≡ 8) ⊎ (page_count world kind ≡ 16))))
-counted (Hyp w) S2 k = few w.s2_start w.s2_pages (last3 _ _ (are_s2_pages w.s2_start w.s2_pages) k)
+counted (Hyp w) S2 k = few w.s2_start w.s2_pages (last3 (nat_le w.el2_start 2) (nat_le w.s2_start 2) (are_s2_pages w.s2_start w.s2_pages) k)
 counted (Hyp w) El2 k = inl refl
 counted (Hyp w) Ttbr0 k = inl refl
 counted (Hyp w) Ttbr1 k = inl refl
@@ -69,7 +69,7 @@ room_for heading kind page ok fits =
     let inside = and_parts (nat_lt page (2 ^ 48)) (page % 4096 == 0) both.0 in
     many page (page_count heading.world kind) (ltb-true page (2 ^ 48) inside.0)
     (eqb-true (page % (4096 * page_count heading.world kind)) 0 both.1)
-    (counted heading.world kind (last4 _ _ _ (world_ok heading.world) ok))
+    (counted heading.world kind (last4 (is_version heading.version) (are_pes heading.version heading.pes) (may_share heading.version || not heading.cnp) (world_ok heading.world) ok))
 
 module _ (fresh : ℕ → Bool) where
   abbrev AllFresh : List ℕ → Type 0
@@ -95,7 +95,7 @@ module _ (fresh : ℕ → Bool) where
   node_fresh kind level root base (p ∷ ps) all m zero below at =
       subst (λ (x : Node). fresh x.page ≡ true) at all.0
   node_fresh kind level root base (p ∷ ps) all m (suc k) below at =
-      node_fresh kind level root _ ps all.1 m k (le_of_suc-le-suc below) at
+      node_fresh kind level root (base + 512 * input_pages level) ps all.1 m k (le_of_suc-le-suc below) at
 
   pub named_fresh : (kind : Kind) (level root base : ℕ) (ps : List ℕ) → least (filter (λ p. not (fresh p)) ps) ≡ None
       → (m : Node) → Contains (nodes_of_pages kind level root base ps) m → fresh m.page ≡ true

@@ -1,5 +1,5 @@
 -- A root that is declared, at the parts.
-use Rattle.std.proofs.Common.{◌≡◌, ◌≢◌, ℕ, ◌<◌, ◌≤◌, ◌⊎◌, ◌↔◌, Bool, true, false, not, ◌&&◌, List, [], ◌∷◌, length, Contains, Option, Some, None, is_none, filter, Result, Ok, Err, refl, sym, ◌∙◌, ap, subst, inl, inr, nat_le, true≢false}
+use Rattle.std.proofs.Common.{◌≡◌, ◌≢◌, ℕ, ◌<◌, ◌≤◌, ◌⊎◌, ◌↔◌, Bool, true, false, cond, not, ◌&&◌, List, [], ◌∷◌, length, Contains, Option, Some, None, is_none, filter, Result, Ok, Err, refl, sym, ◌∙◌, ap, subst, inl, inr, nat_le, true≢false}
 use Rattle.bbm_entry_state.specs.Standing.{IsIdle}
 use Rattle.bbm_regimes.specs.declared.regime.Which.{Which}
 use Rattle.bbm_regimes.specs.declared.regime.Which.TheVariants.{Pages, Roots, Values}
@@ -9,7 +9,9 @@ use Rattle.bbm_rules.specs.Claims.Trust.{Patterns}
 use Rattle.bbm_rules.specs.Limits.{limit_of}
 use Rattle.bbm_rules.specs.Lists.{if_so, least}
 use Rattle.bbm_rules.specs.Prelude.{Kind, kind_in_world, Heading, Event, Root}
-use Rattle.bbm_rules.specs.Roots.{root_pages, roots_of}
+use Rattle.bbm_events.specs.Fits.{fits_heading, is_pe, is_root_lock, is_root_page}
+use Rattle.bbm_rules.specs.Roots.{page_count, pages_from, root_pages, roots_of}
+use Rattle.bbm_replay.specs.View.{View}
 use Rattle.bbm_rules.specs.Rules.{bad_kind, global_user, not_fresh}
 use Rattle.bbm_rules.specs.Tree.{Node, nodes_of_root}
 use Rattle.bbm_rules.specs.declared.rule.Rule.TheVariants.{WrongWorld, NotFresh, BadKind, GlobalUser, PageInUse}
@@ -58,16 +60,16 @@ module _ (laws : (heading : Heading) → Laws heading) (rules : (heading : Headi
       world_is = where_false (not (kind_in_world heading.world kind)) 0 (ap not (right heading s.header))
 
       verdict_here : (r : Result (Unit {0}) TreeFault)
-          → index.Judges {A = Unit {0}} (fresh_in old.index) (value_at old.map) (starts (heading_of old.index) kind page) true r
+          → index.Judges (fresh_in old.index) (value_at old.map) (starts (heading_of old.index) kind page) {A = Unit {0}} true r
           → Verdict r (not_fresh heading Patterns (notes heading h) e) (bad_kind heading Patterns (notes heading h) e)
           (global_user heading Patterns (notes heading h) e)
       verdict_here r k = verdict (fresh_in old.index) (value_at old.map) (starts heading kind page) heading h true e
           ((rules heading).judging_root h (fresh_in old.index) (value_at old.map) pe page kind lock
           ((laws heading).nodes.proper s.told.proper) s.told.fit s.told.fresh s.told.values) r
-          (subst (λ (x : Heading). index.Judges {A = Unit {0}} (fresh_in old.index) (value_at old.map) (starts x kind page) true r) s.index_header k)
+          (subst (λ (x : Heading). index.Judges (fresh_in old.index) (value_at old.map) (starts x kind page) {A = Unit {0}} true r) s.index_header k)
 
     pub root_fault : (fault : TreeFault)
-        → index.Judges {A = Unit {0}} (fresh_in old.index) (value_at old.map) (starts (heading_of old.index) kind page) true (Err fault)
+        → index.Judges (fresh_in old.index) (value_at old.map) (starts (heading_of old.index) kind page) {A = Unit {0}} true (Err fault)
         → Meets old old e (Err (step_fault fault))
     root_fault tree.NoMemory k = record { judged = λ heading h s. tt; taken = tt; unchanged = λ heading h s. s }
     root_fault (tree.Limit which) k = absurd k
@@ -83,7 +85,7 @@ module _ (laws : (heading : Heading) → Laws heading) (rules : (heading : Headi
         root_is heading (rules heading) h (view_of old.map old.index) s.told pe page kind lock
         ∙ passes WrongWorld _ _ (world_is heading h s) ∙ passes NotFresh _ _ v.0 ∙ passes BadKind _ _ v.1 ∙ stops GlobalUser _ _ at v.2)
 
-    module _ (fine : index.Judges {A = Unit {0}} (fresh_in old.index) (value_at old.map) (starts (heading_of old.index) kind page) true (Ok tt)) where
+    module _ (fine : index.Judges (fresh_in old.index) (value_at old.map) (starts (heading_of old.index) kind page) {A = Unit {0}} true (Ok tt)) where
       used : (heading : Heading) (h : List Event) → Stands old heading h → (at : ℕ)
           → least (filter (λ p. not (fresh_in old.index p)) (root_pages heading.world kind page)) ≡ Some at
           → broken heading Patterns h e ≡ Some (record { rule = PageInUse; at = at })
@@ -165,3 +167,45 @@ module _ (laws : (heading : Heading) → Laws heading) (rules : (heading : Headi
     taken = tt;
     unchanged = same;
   }
+
+-- the page of a root fits
+pub root_page : (heading : Heading) (pe : ℕ) (lock : Option ℕ) (kind : Kind) (page : ℕ)
+    → fits_heading heading (Root pe kind lock page) ≡ true → is_root_page heading.world kind page ≡ true
+root_page heading pe lock kind page fits = last (is_pe heading pe) (is_root_lock lock) (is_root_page heading.world kind page) fits
+  where
+    last : (a b c : Bool) → (a && b && c) ≡ true → c ≡ true
+    last true true c k = k
+    last true false c k = let bad : false ≡ true = k in absurd cc
+    last false b c k = let bad : false ≡ true = k in absurd cc
+
+-- the pages of a root are consecutive ones
+pub unfresh_is : (p : Parts) (kind : Kind) (page count : ℕ) (heading : Heading) → p.header ≡ heading
+    → kind_in_world p.header.world kind ≡ true → count ≡ page_count p.header.world kind
+    → least (filter (λ x. not (fresh_in p.index x)) (root_pages heading.world kind page))
+    ≡ least (filter (λ x. not (fresh_in p.index x)) (pages_from page count))
+unfresh_is p kind page count heading e right is =
+    ap (λ (x : Heading). least (filter (λ x. not (fresh_in p.index x)) (root_pages x.world kind page))) (sym e)
+    ∙ ap (λ b. least (filter (λ x. not (fresh_in p.index x)) (cond b (pages_from page (page_count p.header.world kind)) []))) right
+    ∙ ap (λ (n : ℕ). least (filter (λ x. not (fresh_in p.index x)) (pages_from page n))) (sym is)
+
+-- what was attached, in the words of the laws
+pub attaches_of : (old new : View) (from : List Node)
+    → ((p : ℕ) (n : Node) → (new.node p ≡ Some n) ↔ ((old.node p ≡ Some n)
+    ⊎ ((n.page ≡ p) × index_paths.Attached old.fresh old.value from n)))
+    → ((p : ℕ) → new.fresh p ≡ (old.fresh p && is_none (new.node p))) → ((p : ℕ) → new.null p ≡ old.null p)
+    → SameTracked old new → Attaches old new from
+attaches_of old new from node fresh null tracking = record {
+  node = λ p n. (
+    (λ is. elim ((node p n).0 is) [
+      | inl was ↦ inl was
+      | inr came ↦ inr (came.0, attached_from old.fresh old.value from n came.1)
+    ]),
+    (λ is. elim is [
+      | inl was ↦ (node p n).1 (inl was)
+      | inr came ↦ (node p n).1 (inr (came.0, attached_to old.fresh old.value from n came.1))
+    ]),
+  );
+  fresh = fresh;
+  null = null;
+  tracking = tracking;
+}

@@ -5,3 +5,4 @@ pub mod Moves
 pub mod Rules
 pub mod Standing
 pub mod Faults
+pub mod Leaves

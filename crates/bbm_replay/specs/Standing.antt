@@ -1,5 +1,5 @@
 -- What a checker without a history stands for. A history is newest first. Source: project's own choice.
-use Rattle.std.specs.Prelude.{◌≡◌, ℕ, true, List, ◌∷◌, length, Result, OnErr, OnOk}
+use Rattle.std.specs.Prelude.{◌≡◌, ℕ, true, List, ◌∷◌, length, Option, Some, None, Result, OnErr, OnOk}
 use Rattle.bbm_place_map.specs.Map.{is_tracked, marks_at, pends_at, value_at}
 use Rattle.bbm_place_map.specs.declared.map.PlaceMap.{PlaceMap}
 use Rattle.bbm_tree_index.specs.Agreement.{IsSound}
@@ -10,11 +10,18 @@ use Rattle.bbm_events.specs.Fits.{fits_heading}
 use Rattle.bbm_rules.specs.Answers.{Answers}
 use Rattle.bbm_rules.specs.Broken.{broken}
 use Rattle.bbm_rules.specs.Claims.Trust.{Patterns}
+use Rattle.bbm_descriptor.specs.declared.desc.Core.{Core}
 use Rattle.bbm_rules.specs.Limits.{limit_of}
+use Rattle.bbm_rules.specs.Places.{page_of}
+use Rattle.bbm_rules.specs.Rules.{break_before_make, limbo_make, no_lock, null_written}
+use Rattle.bbm_rules.specs.Tree.{Node}
+use Rattle.bbm_tree_index.specs.Nodes.{path_at}
+use Rattle.bbm_tree_index.specs.declared.role.Path.{Path}
+use Rattle.bbm_replay_trees.specs.Told.{notes}
 use Rattle.bbm_rules.specs.Prelude.{Heading, Event}
 use Rattle.bbm_rules.specs.declared.step_fault.StepFault.{StepFault}
 use Rattle.bbm_replay.specs.Told.{Told}
-use Rattle.bbm_replay.specs.View.{View}
+use Rattle.bbm_replay.specs.View.{View, core_at}
 use Rattle.bbm_replay.specs.declared.parts.Parts.{Parts}
 use Rattle.bbm_replay.specs.declared.replay.Replay.{Replay}
 
@@ -62,3 +69,20 @@ pub record SameFrame (old new : Parts) : Type 0 where
   pub header : new.header ≡ old.header
   pub index_header : heading_of new.index ≡ heading_of old.index
   pub sound : IsSound old.index → IsSound new.index
+
+-- Of a write in a tree: the rules on locks, on null pages, on break-before-make and on limbo, which come first, are kept;
+-- or the event breaks one of them, and this is the answer.
+pub record Clears (parts : Parts) (e : Event) (result : Result (Unit {0}) StepFault) : Type 0 where
+  pub passed : OnOk result ((heading : Heading) (h : List Event) → Stands parts heading h
+      → (no_lock heading Patterns (notes heading h) e ≡ None) × (null_written heading Patterns (notes heading h) e ≡ None)
+      × (break_before_make heading Patterns (notes heading h) e ≡ None)
+      × (limbo_make heading Patterns (notes heading h) e ≡ None))
+  pub refused : OnErr result (Meets parts parts e result)
+
+-- the place is one of a tree, at this path
+abbrev pub IsAt : Parts → ℕ → Path → Type 0
+IsAt parts place path = (n : Node) × (node_in parts.index (page_of place) ≡ Some n) × (path ≡ path_at n place)
+
+-- what a place of a tree holds
+abbrev pub Holds : Parts → ℕ → Path → Option Core → Type 0
+Holds parts place path held = held ≡ core_at (view_of parts.map parts.index) path.kind path.level place
