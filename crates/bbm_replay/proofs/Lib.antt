@@ -18,3 +18,4 @@ pub mod Settling
 pub mod Verdicts
 pub mod Rooting
 pub mod RootPages
+pub mod Inside

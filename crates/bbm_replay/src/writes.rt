@@ -1,10 +1,16 @@
 //! Writes of places.
 
-ghost use Rattle.std.specs.Prelude.{◌≡◌, ◌≤◌, ◌%◌, ◌==◌, ◌&&◌, not, ℕ, Some, None};
-ghost use Rattle.std.specs.Option.{option_map};
+ghost use Rattle.std.specs.Prelude.{◌≡◌, ◌≤◌, ◌%◌, ◌==◌, ◌&&◌, not, ℕ, false, Some, None, is_some};
+ghost use Rattle.std.specs.Option.{option_map, option_map_or};
+ghost use Rattle.bbm_tree_index.specs.Agreement.{IsSound};
+ghost use Rattle.bbm_tree_index.specs.Held.{limbo_at};
 ghost use Rattle.bbm_descriptor.specs.Descriptor as spec;
 ghost use Rattle.bbm_entry_state.specs.Points as points;
 ghost use Rattle.bbm_replay.specs.Leaves as leaves;
+ghost use Rattle.bbm_replay.specs.Standing.{view_of};
+ghost use Rattle.bbm_replay.specs.View.{state_of};
+ghost use Rattle.bbm_regimes.specs.Same.{same_kind};
+ghost use Rattle.std.specs.Prelude.{Ok};
 ghost use Rattle.bbm_replay.specs.Standing.{Clears, Holds, IsAt};
 ghost use Rattle.bbm_events.specs.declared.event.Event.TheVariants.{Write};
 ghost use Rattle.bbm_rules.specs.Places.{page_of};
@@ -25,8 +31,8 @@ use bbm_tree_index::Path;
 use std::alloc::Global;
 
 // Whether both are cores, and they differ.
-fn differ(old: Option<Core>, new: Option<Core>) -> bool
-    ensures { result ≡ spec.differ old new }
+fn differ(old: &Option<Core>, new: &Option<Core>) -> bool
+    ensures { result ≡ spec.differ old.now new.now }
 {
     match (old, new) {
         (Some(old), Some(new)) => old != new,
@@ -53,22 +59,39 @@ fn core_of_state(state: &EntryState) -> Option<Core>
 }
 
 // Whether it is a leaf with the Contiguous hint.
-fn is_contiguous(new: Option<Core>) -> bool
-    ensures { result ≡ leaves.is_contiguous_core new }
+fn is_contiguous(new: &Option<Core>) -> bool
+    ensures { result ≡ leaves.is_contiguous_core new.now }
 {
     match new {
-        Some(Core::Leaf { contiguous, .. }) => contiguous,
+        Some(Core::Leaf { contiguous, .. }) => *contiguous,
         _ => false,
     }
 }
 
 // Whether it is a leaf for every ASID.
-fn is_global(new: Option<Core>) -> bool
-    ensures { result ≡ leaves.is_global_core new }
+fn is_global(new: &Option<Core>) -> bool
+    ensures { result ≡ leaves.is_global_core new.now }
 {
     match new {
-        Some(Core::Leaf { global, .. }) => global,
+        Some(Core::Leaf { global, .. }) => *global,
         _ => false,
+    }
+}
+
+// Whether it is such a leaf in a tree of the lower range.
+fn is_user_global(kind: Kind, new: &Option<Core>) -> bool
+    ensures { result ≡ (same_kind kind Kind.Ttbr0 && leaves.is_global_core new.now) }
+{
+    kind == Kind::Ttbr0 && is_global(new)
+}
+
+// The next page of a core that is a table.
+fn next_of(core: Core) -> Option<Page>
+    ensures { result ≡ leaves.attached_next None (Some core) }
+{
+    match core {
+        Core::Table { next, ns: _ } => Some(next),
+        Core::Leaf { .. } => None,
     }
 }
 
@@ -76,9 +99,12 @@ fn is_global(new: Option<Core>) -> bool
 fn attached_next(old: Option<Core>, new: Option<Core>) -> Option<Page>
     ensures { result ≡ leaves.attached_next old new }
 {
-    match (old, new) {
-        (None, Some(Core::Table { next, .. })) => Some(next),
-        _ => None,
+    match old {
+        Some(_) => None,
+        None => match new {
+            Some(core) => next_of(core),
+            None => None,
+        },
     }
 }
 
@@ -105,20 +131,29 @@ impl Parts {
         Ok(())
     }
 
+    // Whether the write makes a valid value at a place in limbo.
+    fn makes_in_limbo(&self, place: Place, valid: bool) -> bool
+        requires { IsSound self.now.index }
+        ensures { result ≡ (valid
+            && option_map_or (limbo_at self.now.map) (node_in self.now.index (page_of place)) false) }
+    {
+        valid && self.index.in_limbo(&self.map, place)
+    }
+
     // The rules that come first of a write in a tree.
     fn judge_entry(
         &self,
         pe: Pe,
         place: Place,
         value: u64,
-        path: Path,
-        old: Option<Core>,
-        new: Option<Core>,
+        path: &Path,
+        old: &Option<Core>,
+        new: &Option<Core>,
     ) -> Result<(), StepFault>
         requires may { MayMeet self.now (Write pe place value) }
-        requires at { IsAt self.now place path }
-        requires old { Holds self.now place path old }
-        requires new { new ≡ spec.core_of path.kind path.level value }
+        requires at { IsAt self.now place path.now }
+        requires old { Holds self.now place path.now old.now }
+        requires new { new.now ≡ spec.core_of path.now.kind path.now.level value }
         ensures { Clears self.now (Write pe place value) result }
     {
         laws();
@@ -129,9 +164,41 @@ impl Parts {
         if differ(old, new) {
             return Err(StepFault::Broken(Rule::BreakBeforeMake, place.get()));
         }
-        if new.is_some() && self.index.in_limbo(&self.map, place) {
+        if self.makes_in_limbo(place, new.is_some()) {
             return Err(StepFault::Broken(Rule::LimboMake, place.get()));
         }
+        Ok(())
+    }
+
+    // A write in a tree that attaches nothing, after the rules that come first.
+    fn write_plain(
+        &mut self,
+        pe: Pe,
+        place: Place,
+        value: u64,
+        path: &Path,
+        state: EntryState,
+        new: Option<Core>,
+    ) -> Result<(), StepFault>
+        requires may { MayMeet self.old (Write pe place value) }
+        requires at { IsAt self.old place path.now }
+        requires state { state ≡ state_of (view_of self.old.map self.old.index) path.now.kind path.now.level place }
+        requires new { new ≡ spec.core_of path.now.kind path.now.level value }
+        requires clear { Clears self.old (Write pe place value) (Ok tt) }
+        requires plain { leaves.attached_next (points.core_in state) new ≡ None }
+        ensures { Meets self.old self.new (Write pe place value) result }
+    {
+        laws();
+        rules();
+        law_others();
+        if is_contiguous(&new) {
+            return Err(StepFault::Broken(Rule::BadKind, place.get()));
+        }
+        if is_user_global(path.kind, &new) {
+            return Err(StepFault::Broken(Rule::GlobalUser, place.get()));
+        }
+        self.map.set(place, value, state.write(pe, new));
+        let _ = self.map.restless();
         Ok(())
     }
 }
