@@ -1,7 +1,8 @@
 -- A write at a place of a tree, at the parts.
-use Rattle.std.proofs.Common.{◌≡◌, ℕ, ◌%◌, Bool, true, false, cond, not, ◌&&◌, ◌||◌, ◌⊎◌, ◌==◌, List, [], ◌∷◌, Option, Some, None, is_some, option_and_then, Result, Ok, Err, refl, sym, ◌∙◌, ap, subst, inl, inr, true≢false}
+use Rattle.std.proofs.Common.{◌≡◌, ℕ, zero, suc, ◌<◌, arith, ◌%◌, Bool, true, false, cond, not, ◌&&◌, ◌||◌, ◌⊎◌, ◌==◌, List, [], ◌∷◌, Option, Some, None, is_some, option_and_then, Result, Ok, Err, refl, sym, ◌∙◌, ap, subst, inl, inr, true≢false}
 use Rattle.std.specs.Option.{option_map_or}
-use Rattle.bbm_descriptor.specs.Descriptor.{core_of, desc_of, differ, is_valid}
+use Rattle.bbm_descriptor.specs.Fields.{type_bits}
+use Rattle.bbm_descriptor.specs.Descriptor.{core_of, desc_as, desc_of, differ, invalid, is_valid, leaf}
 use Rattle.bbm_descriptor.specs.Descriptor as descriptor
 use Rattle.bbm_descriptor.specs.declared.desc.Core.{Core}
 use Rattle.bbm_descriptor.specs.declared.desc.Desc.{Desc}
@@ -34,7 +35,14 @@ use Rattle.bbm_replay_roots.specs.declared.state.RootState.{RootState}
 use Rattle.bbm_replay_trees.specs.Told.{notes}
 use Rattle.bbm_replay.specs.Laws.{Laws}
 use Rattle.bbm_replay.specs.Leaves.{attached_next, is_contiguous_core, is_global_core}
-use Rattle.bbm_replay.specs.Moves.{Writes}
+use Rattle.bbm_replay.specs.Faults.{step_fault}
+use Rattle.bbm_replay.specs.Moves.{Attaches, Writes}
+use Rattle.bbm_tree_index.specs.Judged as index
+use Rattle.bbm_tree_index.specs.Paths as index_paths
+use Rattle.bbm_tree_index.specs.declared.role.Attach.TheVariants as attach
+use Rattle.bbm_tree_index.specs.declared.fault.TreeFault.{TreeFault}
+use Rattle.bbm_tree_index.specs.declared.fault.TreeFault.TheVariants as tree
+use Rattle.bbm_replay.proofs.Verdicts.{Verdict, verdict}
 use Rattle.bbm_replay.specs.Rules.{Rules}
 use Rattle.bbm_replay.specs.Standing.{Clears, Holds, IsAt, MayMeet, Meets, SameFrame, Stands, view_of}
 use Rattle.bbm_replay.specs.Told.{Told}
@@ -44,7 +52,7 @@ use Rattle.bbm_replay.proofs.Framing.{stands_next}
 use Rattle.bbm_replay.proofs.Judging.{passes, stops, where_false, where_true, write_is}
 use Rattle.bbm_replay.proofs.Meeting.{fits_all}
 use Rattle.bbm_replay.proofs.Starting.{Others, meets_broken}
-use Rattle.bbm_replay.proofs.Writing.{after_plain_write, cores}
+use Rattle.bbm_replay.proofs.Writing.{after_attaching_write, after_plain_write, cores}
 
 -- ---- what the core of a descriptor says
 
@@ -71,6 +79,23 @@ attached_is (Some core) d next k = let bad : None ≡ Some next = k in absurd cc
 attached_is None Invalid next k = let bad : None ≡ Some next = k in absurd cc
 attached_is None (Table at ns) next k = (refl, k)
 attached_is None (Leaf out attrs share global contiguous) next k = let bad : None ≡ Some next = k in absurd cc
+
+-- tables stand above level 3
+table_level : (kind : Kind) (level v next : ℕ) → level < 4 → next_of kind level v ≡ Some next → level < 3
+table_level kind zero v next below k = omega arith
+table_level kind (suc zero) v next below k = omega arith
+table_level kind (suc (suc zero)) v next below k = omega arith
+table_level kind (suc (suc (suc zero))) v next below k = by (type_bits v == 3) (type_bits v == 1) refl refl
+  where
+    at3 : Bool → Bool → Option ℕ
+    at3 a b = next_in (desc_as (cond a leaf (cond b invalid invalid)) kind 3 v)
+    none : (a b : Bool) → at3 a b ≡ None
+    none true b = refl
+    none false true = refl
+    none false false = refl
+    by : (a b : Bool) → (type_bits v == 3) ≡ a → (type_bits v == 1) ≡ b → 3 < 3
+    by a b e f = let bad : Some next ≡ None = sym k ∙ none (type_bits v == 3) (type_bits v == 1) in absurd cc
+table_level kind (suc (suc (suc (suc level)))) v next below k = absurd (omega arith)
 
 module _ (laws : (heading : Heading) → Laws heading) (rules : (heading : Heading) → Rules heading)
     (old : Parts) (pe place v : ℕ) (m : MayMeet old (Write pe place v)) (path : Path) (at : IsAt old place path)
@@ -243,3 +268,93 @@ module _ (laws : (heading : Heading) → Laws heading) (rules : (heading : Headi
             written_n : Written (state_of v_old n.kind n.level place) pe (core_of n.kind n.level v) state
             written_n = subst (λ (x : Option Core). Written (state_of v_old n.kind n.level place) pe x state) new_n
                 (subst (λ (x : Path). Written (state_of v_old x.kind x.level place) pe new state) at.2 written)
+
+  -- ---- a write that attaches the next page
+
+  module _ (clear : Clears old e (Ok tt)) (next : ℕ) (attached : attached_next held new ≡ Some next) where
+    both : (held ≡ None) × (next_of n.kind n.level v ≡ Some next)
+    both = attached_is held (desc_of n.kind n.level v) next (ap (λ (x : Option Core). attached_next held x) (sym new_n) ∙ attached)
+
+    pub below_three : n.level < 3
+    below_three = table_level n.kind n.level v next
+        ((laws m.0).nodes.own m.1 (node_in old.index) (page_of place) n m.2.told.nodes at.1).1 both.1
+
+    abbrev from : List Node
+    from = node_below n place next ∷ []
+
+    module _ (heading : Heading) (h : List Event) (s : Stands old heading h) where
+      judged_here : (r : Result (Unit {0}) TreeFault)
+          → index.Judges (fresh_in old.index) (value_at old.map) (index_paths.starts_of old.index (attach.Below place next)) {A = Unit {0}} false r
+          → Verdict r (not_fresh heading Patterns (notes heading h) e) (bad_kind heading Patterns (notes heading h) e)
+          (global_user heading Patterns (notes heading h) e)
+      judged_here r k = verdict (fresh_in old.index) (value_at old.map) from heading h false e
+          ((rules heading).judging_write h (node_in old.index) (fresh_in old.index) (value_at old.map) (core_at v_old) n pe place v next
+          s.told.fit s.told.nodes s.told.fresh s.told.values (cores heading h v_old s.told) at.1 (sym held_n ∙ both.0) both.1) r
+          (subst (λ (o : Option Node). index.Judges (fresh_in old.index) (value_at old.map) (index_paths.below_all o place next) {A = Unit {0}} false r) at.1 k)
+
+    pub attach_fault : (last : Parts) → ((heading : Heading) (h : List Event) → Stands old heading h → Stands last heading h)
+        → (fault : TreeFault)
+        → index.Judges (fresh_in old.index) (value_at old.map) (index_paths.starts_of old.index (attach.Below place next)) {A = Unit {0}} false (Err fault)
+        → Meets old last e (Err (step_fault fault))
+    attach_fault last same tree.NoMemory k = record { judged = λ heading h s. tt; taken = tt; unchanged = same }
+    attach_fault last same (tree.Limit which) k = absurd k
+    attach_fault last same (tree.NotFresh x) k = record {
+      judged = λ heading h s.
+          let first = clear.passed heading h s in
+          write_is heading (rules heading) h v_old s.told pe place v ∙ passes NoLock _ _ first.0 ∙ passes NullWritten _ _ first.1
+          ∙ passes BreakBeforeMake _ _ first.2 ∙ passes LimboMake _ _ first.3
+          ∙ stops NotFresh _ _ x (judged_here heading h s (Err (tree.NotFresh x)) k);
+      taken = tt;
+      unchanged = same;
+    }
+    attach_fault last same (tree.BadKind x) k = record {
+      judged = λ heading h s.
+          let first = clear.passed heading h s in
+          let w = judged_here heading h s (Err (tree.BadKind x)) k in
+          write_is heading (rules heading) h v_old s.told pe place v ∙ passes NoLock _ _ first.0 ∙ passes NullWritten _ _ first.1
+          ∙ passes BreakBeforeMake _ _ first.2 ∙ passes LimboMake _ _ first.3 ∙ passes NotFresh _ _ w.0
+          ∙ passes RewrittenFresh _ _ (rewritten_none heading h s) ∙ stops BadKind _ _ x w.1;
+      taken = tt;
+      unchanged = same;
+    }
+    attach_fault last same (tree.GlobalUser x) k = record {
+      judged = λ heading h s.
+          let first = clear.passed heading h s in
+          let w = judged_here heading h s (Err (tree.GlobalUser x)) k in
+          write_is heading (rules heading) h v_old s.told pe place v ∙ passes NoLock _ _ first.0 ∙ passes NullWritten _ _ first.1
+          ∙ passes BreakBeforeMake _ _ first.2 ∙ passes LimboMake _ _ first.3 ∙ passes NotFresh _ _ w.0
+          ∙ passes RewrittenFresh _ _ (rewritten_none heading h s) ∙ passes BadKind _ _ w.1 ∙ stops GlobalUser _ _ x w.2;
+      taken = tt;
+      unchanged = same;
+    }
+
+    module _ (fine : index.Judges (fresh_in old.index) (value_at old.map) (index_paths.starts_of old.index (attach.Below place next)) {A = Unit {0}} false (Ok tt)) where
+      attach_free : (heading : Heading) (h : List Event) → Stands old heading h → broken heading Patterns h e ≡ None
+      attach_free heading h s =
+          let first = clear.passed heading h s in
+          let w = judged_here heading h s (Ok tt) fine in
+          write_is heading (rules heading) h v_old s.told pe place v ∙ passes NoLock _ _ first.0 ∙ passes NullWritten _ _ first.1
+          ∙ passes BreakBeforeMake _ _ first.2 ∙ passes LimboMake _ _ first.3 ∙ passes NotFresh _ _ w.0
+          ∙ passes RewrittenFresh _ _ (rewritten_none heading h s) ∙ passes BadKind _ _ w.1 ∙ passes GlobalUser _ _ w.2
+
+      pub attach_ok : Others → (last : Parts) → SameFrame old last → last.roots ≡ old.roots
+          → (state : EntryState) → Written (state_of v_old path.kind path.level place) pe new state
+          → Writes v_old (view_of last.map last.index) place v state
+          → Attaches v_old (view_of last.map last.index) (index_paths.starts_of old.index (attach.Below place next))
+          → ((q a : ℕ) → marks_at last.map a ≡ None → IsIdle (pends_at last.map q a))
+          → Meets old last e (Ok tt)
+      attach_ok others last frame same_roots state written move attached idle = record {
+        judged = λ heading h s. (attach_free heading h s, (rules heading).no_limit h e refl);
+        taken = λ heading h s. stands_next old last frame heading h (e ∷ h) s
+            (after_attaching_write heading (laws heading) h v_old (view_of last.map last.index) s.told pe place v state move
+            (fits_all old e m heading h s) (attach_free heading h s) attached.null attached.tracking n next at.1 written_n
+            (sym held_n ∙ both.0) both.1
+            (subst (λ (o : Option Node). Attaches v_old (view_of last.map last.index) (index_paths.below_all o place next)) at.1 attached) idle)
+            (subst (λ (r : RootState). roots.Stands r heading (e ∷ h)) (sym same_roots)
+            (others old.roots heading h e s.roots refl (attach_free heading h s)));
+        unchanged = tt;
+      }
+        where
+          written_n : Written (state_of v_old n.kind n.level place) pe (core_of n.kind n.level v) state
+          written_n = subst (λ (x : Option Core). Written (state_of v_old n.kind n.level place) pe x state) new_n
+              (subst (λ (x : Path). Written (state_of v_old x.kind x.level place) pe new state) at.2 written)

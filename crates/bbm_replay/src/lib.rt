@@ -9,6 +9,7 @@ mod pages;
 mod parts;
 mod registers;
 pub mod replay;
+mod tells;
 mod trees;
 mod world;
 mod writes;

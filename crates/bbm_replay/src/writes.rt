@@ -27,7 +27,7 @@ use bbm_entry_state::EntryState;
 use bbm_regimes::{Kind, Page, Pe, Place};
 use bbm_replay_roots::law_others;
 use bbm_rules::{Rule, StepFault};
-use bbm_tree_index::Path;
+use bbm_tree_index::{Attach, Path};
 use std::alloc::Global;
 
 // Whether both are cores, and they differ.
@@ -86,18 +86,18 @@ fn is_user_global(kind: Kind, new: &Option<Core>) -> bool
 }
 
 // The next page of a core that is a table.
-fn next_of(core: Core) -> Option<Page>
-    ensures { result ≡ leaves.attached_next None (Some core) }
+fn next_of(core: &Core) -> Option<Page>
+    ensures { result ≡ leaves.attached_next None (Some core.now) }
 {
-    match core {
+    match *core {
         Core::Table { next, ns: _ } => Some(next),
         Core::Leaf { .. } => None,
     }
 }
 
 // The next page that the write attaches, if any.
-fn attached_next(old: Option<Core>, new: Option<Core>) -> Option<Page>
-    ensures { result ≡ leaves.attached_next old new }
+fn attached_next(old: &Option<Core>, new: &Option<Core>) -> Option<Page>
+    ensures { result ≡ leaves.attached_next old.now new.now }
 {
     match old {
         Some(_) => None,
@@ -200,5 +200,83 @@ impl Parts {
         self.map.set(place, value, state.write(pe, new));
         let _ = self.map.restless();
         Ok(())
+    }
+
+    // A write in a tree that attaches the next page, after the rules that come first.
+    fn write_attaching(
+        &mut self,
+        alloc: Global,
+        pe: Pe,
+        place: Place,
+        value: u64,
+        path: &Path,
+        state: EntryState,
+        new: Option<Core>,
+        next: Page,
+    ) -> Result<(), StepFault>
+        requires may { MayMeet self.old (Write pe place value) }
+        requires at { IsAt self.old place path.now }
+        requires state { state ≡ state_of (view_of self.old.map self.old.index) path.now.kind path.now.level place }
+        requires new { new ≡ spec.core_of path.now.kind path.now.level value }
+        requires clear { Clears self.old (Write pe place value) (Ok tt) }
+        requires attaches { leaves.attached_next (points.core_in state) new ≡ Some next }
+        ensures { Meets self.old self.new (Write pe place value) result }
+    {
+        laws();
+        rules();
+        law_others();
+        match self.index.attach(alloc, &self.map, Attach::Below { place, next }) {
+            Ok(()) => {
+                self.map.set(place, value, state.write(pe, new));
+                let _ = self.map.restless();
+                Ok(())
+            }
+            Err(fault) => Err(step_fault(fault)),
+        }
+    }
+
+    // A write at a place of a tree.
+    fn write_inside(
+        &mut self,
+        alloc: Global,
+        pe: Pe,
+        place: Place,
+        value: u64,
+        path: Path,
+    ) -> Result<(), StepFault>
+        requires may { MayMeet self.old (Write pe place value) }
+        requires at { IsAt self.old place path }
+        ensures { Meets self.old self.new (Write pe place value) result }
+    {
+        laws();
+        let state = self.state_at(place, &path);
+        let old = core_of_state(&state);
+        let new = core(path.kind, path.level, value);
+        match self.judge_entry(pe, place, value, &path, &old, &new) {
+            Ok(()) => match attached_next(&old, &new) {
+                Some(next) => {
+                    self.write_attaching(alloc, pe, place, value, &path, state, new, next)
+                }
+                None => self.write_plain(pe, place, value, &path, state, new),
+            },
+            Err(fault) => Err(fault),
+        }
+    }
+
+    /// A write.
+    pub(crate) fn write(
+        &mut self,
+        alloc: Global,
+        pe: Pe,
+        place: Place,
+        value: u64,
+    ) -> Result<(), StepFault>
+        requires { MayMeet self.old (Write pe place value) }
+        ensures { Meets self.old self.new (Write pe place value) result }
+    {
+        match self.index.path(place) {
+            Some(path) => self.write_inside(alloc, pe, place, value, path),
+            None => self.write_outside(pe, place, value),
+        }
     }
 }

@@ -1,4 +1,5 @@
-use Rattle.std.proofs.Common.{◌≡◌, ℕ, Some, None, Option, refl, sym, ◌∙◌, ap}
+use Rattle.std.proofs.Common.{◌≡◌, ℕ, Some, None, Option, refl, sym, ◌∙◌, ap, subst}
+use Rattle.bbm_entry_state.specs.Calls.{Written}
 use Rattle.bbm_descriptor.specs.declared.desc.Core.{Core}
 use Rattle.bbm_entry_state.specs.Points.{core_in, waits}
 use Rattle.bbm_entry_state.specs.declared.pending.Pends.{Pends}
@@ -15,10 +16,30 @@ returns-then-is_contiguous c = rw c.get.ensures.value
     c.requires.clear c.requires.plain (sym c.is_contiguous.ensures ∙ c.if-is_contiguous.true))
 
 pub returns-then-is_user_global : goal.returns-then-is_user_global
-returns-then-is_user_global c = ?
+returns-then-is_user_global c = rw c.get-then-is_user_global.ensures.value
+    (plain_global c.laws.ensures c.rules.ensures c.args.self.now c.args.pe c.args.place c.args.value c.requires.may
+    c.args.path.now c.requires.at (core_in c.args.state) c.args.new (ap (λ (s : EntryState). core_in s) c.requires.state) c.requires.new
+    c.requires.clear c.requires.plain (sym c.is_contiguous.ensures ∙ c.if-is_contiguous.false)
+    (sym c.is_user_global.ensures ∙ c.if-is_user_global.true))
 
 pub returns : goal.returns
-returns c = ?
+returns c =
+    let old = c.args.self.now in
+    let e = c.set.ensures in
+    let next : Parts = record old { map = c.set.new.self } in
+    plain_ok c.laws.ensures c.rules.ensures old c.args.pe c.args.place c.args.value c.requires.may
+    c.args.path.now c.requires.at (core_in c.args.state) c.args.new (ap (λ (s : EntryState). core_in s) c.requires.state) c.requires.new
+    c.requires.clear c.requires.plain (sym c.is_contiguous.ensures ∙ c.if-is_contiguous.false)
+    (sym c.is_user_global.ensures ∙ c.if-is_user_global.false)
+    c.law_others.ensures next (record { header = refl; index_header = refl; sound = λ s. s }) refl refl c.write.result
+    (subst (λ (s : EntryState). Written s c.args.pe c.args.new c.write.result) c.requires.state c.write.ensures)
+    (record {
+      value = e.values;
+      marks = e.marks;
+      pends = λ q a k b i p. ap (λ (x : Pends). waits x b i p) (e.pends q a k);
+      dropped = e.dropped;
+    })
+    e.pages c.restless.ensures.idle
 
 pub set-requires : goal.set-requires
 set-requires c =

@@ -1,0 +1,65 @@
+use Rattle.std.proofs.Common.{◌≡◌, ℕ, Some, None, Option, refl, sym, ◌∙◌, ap, subst}
+use Rattle.bbm_entry_state.specs.Calls.{Written}
+use Rattle.bbm_entry_state.specs.Points.{core_in, waits}
+use Rattle.bbm_entry_state.specs.declared.pending.Pends.{Pends}
+use Rattle.bbm_entry_state.specs.declared.state.EntryState.{EntryState}
+use Rattle.bbm_tree_index.specs.Paths.{starts_of}
+use Rattle.bbm_tree_index.specs.declared.role.Attach.TheVariants as attach
+use Rattle.bbm_replay.specs.Standing.{view_of}
+use Rattle.bbm_replay.specs.declared.parts.Parts.{Parts}
+use Rattle.bbm_replay.proofs.Framing.{stands_still}
+use Rattle.bbm_replay.proofs.Inside.{attach_fault, attach_ok, below_three}
+use Rattle.bbm_replay.proofs.Rooting.{attaches_of}
+use Rattle.bbm_replay.proofs.parts.Parts.write_attaching.Goals as goal
+
+pub returns-in-Ok : goal.returns-in-Ok
+returns-in-Ok c =
+    let old = c.args.self.now in
+    let e = c.set.ensures in
+    let a = c.in-Ok.ensures in
+    let last : Parts = record old { map = c.set.new.self; index = c.attach.new.self } in
+    attach_ok c.laws.ensures c.rules.ensures old c.args.pe c.args.place c.args.value c.requires.may
+    c.args.path.now c.requires.at (core_in c.args.state) c.args.new (ap (λ (s : EntryState). core_in s) c.requires.state) c.requires.new
+    c.requires.clear c.args.next c.requires.attaches a.judged c.law_others.ensures last
+    (record { header = refl; index_header = c.attach.ensures.tracked.heading; sound = λ s. c.attach.ensures.sound }) refl c.write.result
+    (subst (λ (s : EntryState). Written s c.args.pe c.args.new c.write.result) c.requires.state c.write.ensures)
+    (record {
+      value = e.values;
+      marks = e.marks;
+      pends = λ q a k b i p. ap (λ (x : Pends). waits x b i p) (e.pends q a k);
+      dropped = e.dropped;
+    })
+    (attaches_of (view_of old.map old.index) (view_of last.map last.index) (starts_of old.index (attach.Below c.args.place c.args.next))
+        a.node a.fresh c.attach.ensures.null
+        (record { tracked = e.pages; known = c.attach.ensures.tracked.known; pages = c.attach.ensures.tracked.pages }))
+    c.restless.ensures.idle
+
+pub returns-in-Err : goal.returns-in-Err
+returns-in-Err c =
+    let old = c.args.self.now in
+    let a = c.in-Err.ensures in
+    let last : Parts = record old { index = c.attach.new.self } in
+    rw c.step_fault.ensures
+    (attach_fault c.laws.ensures c.rules.ensures old c.args.pe c.args.place c.args.value c.requires.may
+    c.args.path.now c.requires.at (core_in c.args.state) c.args.new (ap (λ (s : EntryState). core_in s) c.requires.state) c.requires.new
+    c.requires.clear c.args.next c.requires.attaches last
+    (λ heading h s. stands_still c.laws.ensures old last
+        (record { header = refl; index_header = c.attach.ensures.tracked.heading; sound = λ s. c.attach.ensures.sound })
+        (record {
+          map = record { value = λ a. refl; marks = λ a. refl; pends = λ q a b i p. refl };
+          nodes = a.same.node;
+          roles = record { fresh = a.same.fresh; null = a.same.null };
+          tracking = record { tracked = λ p. refl; known = c.attach.ensures.tracked.known; pages = c.attach.ensures.tracked.pages };
+        }) heading h s s.roots)
+    c.in-Err.fault a.judged)
+
+pub set-requires : goal.set-requires
+set-requires c =
+    let m = c.requires.may in
+    m.2.told.apart.node_tracked _ c.requires.at.0 c.requires.at.1
+
+pub attach-requires-clause-may : goal.attach-requires-clause-may
+attach-requires-clause-may c = (c.requires.at.0, c.requires.at.1,
+    below_three c.laws.ensures c.rules.ensures c.args.self.now c.args.pe c.args.place c.args.value c.requires.may
+    c.args.path.now c.requires.at (core_in c.args.state) c.args.new (ap (λ (s : EntryState). core_in s) c.requires.state) c.requires.new
+    c.requires.clear c.args.next c.requires.attaches)
