@@ -19,3 +19,4 @@ pub mod Verdicts
 pub mod Rooting
 pub mod RootPages
 pub mod Inside
+pub mod Found

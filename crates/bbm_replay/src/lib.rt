@@ -10,6 +10,7 @@ mod parts;
 mod registers;
 pub mod replay;
 mod tells;
+mod tlbis;
 mod trees;
 mod world;
 mod writes;

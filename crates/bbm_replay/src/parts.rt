@@ -1,12 +1,14 @@
 //! The parts of the checker.
 
-ghost use Rattle.std.specs.Prelude.{IfOk, []};
-ghost use Rattle.bbm_replay.specs.Standing.{Stands};
+ghost use Rattle.std.specs.Prelude.{◌≡◌, IfOk, [], true};
+ghost use Rattle.bbm_events.specs.Heading.{heading_ok};
+ghost use Rattle.bbm_replay.specs.Standing.{MayMeet, Meets, Stands};
 
-use bbm_events::Header;
+use bbm_events::{Event, Header};
 use bbm_place_map::PlaceMap;
 use bbm_regimes::NoMemory;
 use bbm_replay_roots::RootState;
+use bbm_rules::StepFault;
 use bbm_tree_index::TreeIndex;
 use std::alloc::Global;
 
@@ -22,4 +24,67 @@ pub struct Parts {
     pub(crate) index: TreeIndex,
     /// The roots, registers, tags and locks.
     pub(crate) roots: RootState,
+}
+
+// The numbers of a header are in their ranges.
+fn in_ranges(header: &Header)
+    ensures { heading_ok header.now ≡ true }
+{
+    let _pes = header.pes;
+}
+
+impl Parts {
+    /// What stands for the empty history of the header.
+    pub(crate) fn new(alloc: Global, header: &Header) -> Result<Parts, NoMemory>
+        ensures { IfOk result (λ parts. Stands parts header.now []) }
+    {
+        in_ranges(header);
+        match TreeIndex::new(alloc, header) {
+            Ok(index) => match RootState::new(alloc, header) {
+                Ok(roots) => Ok(Parts {
+                    header: *header,
+                    map: PlaceMap::new(alloc),
+                    index,
+                    roots,
+                }),
+                Err(_) => Err(NoMemory),
+            },
+            Err(_) => Err(NoMemory),
+        }
+    }
+
+    /// Judges and takes an event.
+    pub(crate) fn take(&mut self, alloc: Global, event: Event) -> Result<(), StepFault>
+        requires { MayMeet self.old event }
+        ensures { Meets self.old self.new event result }
+    {
+        match event {
+            Event::Init { pe, page } => self.init(alloc, pe, page),
+            Event::Null { pe, page } => self.null(pe, page),
+            Event::Root {
+                pe,
+                kind,
+                lock,
+                page,
+            } => self.root(alloc, pe, kind, lock, page),
+            Event::Unroot { pe, page } => self.unroot(pe, page),
+            Event::Write { pe, place, value } => self.write(alloc, pe, place, value),
+            Event::Dsb { pe, dsb } => {
+                self.dsb(pe, dsb);
+                Ok(())
+            }
+            Event::Dmb { pe, dsb } => {
+                self.dmb(pe, dsb);
+                Ok(())
+            }
+            Event::Isb { pe } => {
+                self.isb(pe);
+                Ok(())
+            }
+            Event::Tlbi { pe, op, xt } => self.tlbi(alloc, pe, op, xt),
+            Event::Msr { pe, reg, value } => self.msr(alloc, pe, reg, value),
+            Event::Lock { pe, lock } => self.lock(pe, lock),
+            Event::Unlock { pe, lock } => self.unlock(pe, lock),
+        }
+    }
 }

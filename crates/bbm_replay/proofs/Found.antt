@@ -1,0 +1,41 @@
+-- The path of a place, by the node of its page.
+use Rattle.std.proofs.Common.{◌≡◌, ℕ, ◌≤◌, ◌<◌, List, Option, Some, None, refl, sym, ◌∙◌, ap, arith}
+use Rattle.std.specs.Option.{option_map}
+use Rattle.bbm_rules.specs.Places.{page_of}
+use Rattle.bbm_rules.specs.Prelude.{Heading, Event}
+use Rattle.bbm_rules.specs.Tree.{Node}
+use Rattle.bbm_tree_index.specs.Index.{node_in}
+use Rattle.bbm_tree_index.specs.Nodes.{path_at}
+use Rattle.bbm_tree_index.specs.declared.role.Path.{Path}
+use Rattle.bbm_replay.specs.Laws.{Laws}
+use Rattle.bbm_replay.specs.Standing.{IsAt, Stands}
+use Rattle.bbm_replay.specs.declared.parts.Parts.{Parts}
+
+pub at_path : (p : Parts) (place : ℕ) (r : Option Path) (path : Path) → r ≡ Some path
+    → r ≡ option_map (λ n. path_at n place) (node_in p.index (page_of place)) → IsAt p place path
+at_path p place r path e k = by (node_in p.index (page_of place)) refl
+  where
+    by : (o : Option Node) → node_in p.index (page_of place) ≡ o → IsAt p place path
+    by None is =
+        let bad : Some path ≡ None = sym e ∙ k ∙ ap (λ (o : Option Node). option_map (λ n. path_at n place) o) is in absurd cc
+    by (Some n) is =
+        let both : Some path ≡ Some (path_at n place) = sym e ∙ k ∙ ap (λ (o : Option Node). option_map (λ n. path_at n place) o) is in
+        let same : path ≡ path_at n place = cc in
+        (n, is, same)
+
+pub no_path : (p : Parts) (place : ℕ) (r : Option Path) → r ≡ None
+    → r ≡ option_map (λ n. path_at n place) (node_in p.index (page_of place)) → node_in p.index (page_of place) ≡ None
+no_path p place r e k = by (node_in p.index (page_of place)) refl
+  where
+    by : (o : Option Node) → node_in p.index (page_of place) ≡ o → node_in p.index (page_of place) ≡ None
+    by None is = is
+    by (Some n) is =
+        let bad : None ≡ Some (path_at n place) = sym e ∙ k ∙ ap (λ (o : Option Node). option_map (λ n. path_at n place) o) is in absurd cc
+
+pub shallow : (heading : Heading) → Laws heading → (h : List Event) (p : Parts) → Stands p heading h → (place : ℕ) (path : Path)
+    → IsAt p place path → path.level ≤ 3
+shallow heading laws h p s place path at =
+    let own = laws.nodes.own h (node_in p.index) (page_of place) at.0 s.told.nodes at.1 in
+    let deep : at.0.level < 4 = own.1 in
+    let same : path.level ≡ at.0.level = ap (λ (x : Path). x.level) at.2 in
+    omega arith
