@@ -20,3 +20,4 @@ pub mod Rooting
 pub mod RootPages
 pub mod Inside
 pub mod Found
+pub mod Empty
