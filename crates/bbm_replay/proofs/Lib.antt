@@ -21,3 +21,4 @@ pub mod RootPages
 pub mod Inside
 pub mod Found
 pub mod Empty
+pub mod Covered

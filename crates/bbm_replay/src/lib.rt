@@ -3,6 +3,7 @@
 #![tactic(auto)]
 
 mod barriers;
+mod covers;
 mod faults;
 mod laws;
 mod pages;

@@ -1,0 +1,123 @@
+-- How far a TLBI covers a broken place.
+use Rattle.std.proofs.Common.{◌≡◌, ℕ, suc, ◌↔◌, Bool, true, false, List, Option, Some, None, is_some, option_and_then, refl, sym, ◌∙◌, ap, subst, true≢false}
+use Rattle.std.specs.Prelude.{unwrap_or}
+use Rattle.bbm_descriptor.specs.Descriptor.{core_of, desc_of}
+use Rattle.bbm_descriptor.specs.Descriptor as descriptor
+use Rattle.bbm_descriptor.specs.declared.desc.Core.{Core}
+use Rattle.bbm_descriptor.specs.declared.desc.Core.TheVariants as core
+use Rattle.bbm_descriptor.specs.declared.desc.Desc.{Desc}
+use Rattle.bbm_descriptor.specs.declared.desc.Desc.TheVariants.{Invalid, Table, Leaf}
+use Rattle.bbm_entry_state.specs.Points.{core_in}
+use Rattle.bbm_entry_state.specs.declared.marks.Marks.{Marks}
+use Rattle.bbm_place_map.specs.Each.{is_table}
+use Rattle.bbm_place_map.specs.Map.{marks_at, value_at}
+use Rattle.bbm_place_map.specs.States.{state_from}
+use Rattle.bbm_place_map.specs.declared.map.PlaceMap.{PlaceMap}
+use Rattle.bbm_tlbi_scope.specs.Covers as scopes
+use Rattle.bbm_tlbi_scope.specs.declared.entry.Cover.{Cover}
+use Rattle.bbm_tlbi_scope.specs.declared.entry.Cover.TheVariants.{None as NoCover}
+use Rattle.bbm_tlbi_scope.specs.declared.entry.PlaceView.{PlaceView}
+use Rattle.bbm_tlbi_scope.specs.declared.entry.TagSet.{TagSet}
+use Rattle.bbm_rules.specs.Claims.Trust.{Patterns}
+use Rattle.bbm_rules.specs.Covers.{cover_at, is_global, view_at}
+use Rattle.bbm_rules.specs.Notes.{events_of}
+use Rattle.bbm_rules.specs.Places.{page_of}
+use Rattle.bbm_rules.specs.Prelude.{Kind, Heading, Event, Scope, TlbiOp, Tlbi}
+use Rattle.bbm_rules.specs.Registers.{named_scope, vmid_of}
+use Rattle.bbm_rules.specs.Tags.{tag_set, tags_of}
+use Rattle.bbm_rules.specs.Tree.{Node, held_at, is_childless, next_in, next_of, node_of, region_of}
+use Rattle.bbm_tree_index.specs.Held as index
+use Rattle.bbm_replay_trees.specs.Told.{Childless, notes}
+use Rattle.bbm_replay.specs.Leaves.{is_global_core}
+use Rattle.bbm_replay.specs.Standing.{view_of}
+use Rattle.bbm_replay.specs.View.{View, core_at}
+use Rattle.bbm_replay.proofs.Settling.{core_with_is}
+
+pub table_is : (d : Desc) (c : Core) → descriptor.core_in d ≡ Some c → is_table c ≡ is_some (next_in d)
+table_is Invalid c k = let bad : None ≡ Some c = k in absurd cc
+table_is (Table next ns) c k =
+    let same : core.Table next ns ≡ c = cc in ap (λ (x : Core). is_table x) (sym same)
+table_is (Leaf out attrs share global contiguous) c k =
+    let same : core.Leaf out attrs share global contiguous ≡ c = cc in ap (λ (x : Core). is_table x) (sym same)
+
+pub global_is : (d : Desc) (c : Core) → descriptor.core_in d ≡ Some c → is_global_core (Some c) ≡ is_global d
+global_is Invalid c k = let bad : None ≡ Some c = k in absurd cc
+global_is (Table next ns) c k =
+    let same : core.Table next ns ≡ c = cc in ap (λ (x : Core). is_global_core (Some x)) (sym same)
+global_is (Leaf out attrs share global contiguous) c k =
+    let same : core.Leaf out attrs share global contiguous ≡ c = cc in ap (λ (x : Core). is_global_core (Some x)) (sym same)
+
+pub same_by_truth : (a b : Bool) → ((a ≡ true) → b ≡ true) → ((b ≡ true) → a ≡ true) → a ≡ b
+same_by_truth true b f g = sym (f refl)
+same_by_truth false true f g = g refl
+same_by_truth false false f g = refl
+
+none_held : (o : Option Core) → is_some o ≡ false → o ≡ None
+none_held None k = refl
+none_held (Some c) k = absurd (true≢false k)
+
+-- childless, as the index reads the map and as the law reads it
+module _ (map : PlaceMap) (core : Kind → ℕ → ℕ → Option Core) (is : (kind : Kind) (level a : ℕ)
+    → index.core_with (marks_at map a) kind level (value_at map a) ≡ core kind level a) (n : Node) (place : ℕ) where
+  pub childless_to : index.Childless map n place → Childless core n place
+  childless_to c = record {
+    next = c.next;
+    table = ap (λ (o : Option Core). index.next_in o) (sym (is n.kind n.level place)) ∙ c.table;
+    holds_none = λ a inside. none_held (core n.kind (suc n.level) a)
+        (ap (λ (o : Option Core). is_some o) (sym (is n.kind (suc n.level) a)) ∙ c.holds_none a inside);
+  }
+
+  pub childless_from : Childless core n place → index.Childless map n place
+  childless_from c = record {
+    next = c.next;
+    table = ap (λ (o : Option Core). index.next_in o) (is n.kind n.level place) ∙ c.table;
+    holds_none = λ a inside. ap (λ (o : Option Core). is_some o) (is n.kind (suc n.level) a ∙ c.holds_none a inside);
+  }
+
+module _ (heading : Heading) (h : List Event) (pe : ℕ) (op : TlbiOp) (xt : ℕ) (scope : Scope) (vmid : Option ℕ) (place : ℕ)
+    (n : Node) (value : ℕ) (table global childless : Bool) (tags : TagSet)
+    (ev : events_of (notes heading h) ≡ h) where
+  abbrev seen : Bool → Bool → Bool → TagSet → PlaceView
+  seen t g c s = record {
+    kind = n.kind; region = region_of n place; level = n.level; table = t; global = g; childless = c; tags = s }
+
+  abbrev told : Node → ℕ → PlaceView
+  told m v = record {
+    kind = m.kind;
+    region = region_of m place;
+    level = m.level;
+    table = is_some (next_of m.kind m.level v);
+    global = is_global (desc_of m.kind m.level v);
+    childless = is_childless heading Patterns (notes heading h) m v;
+    tags = tag_set (tags_of heading Patterns m.root (events_of (notes heading h)));
+  }
+
+  pub covered : named_scope heading h pe op xt ≡ Some scope → vmid ≡ vmid_of heading h pe
+      → node_of heading Patterns (notes heading h) (page_of place) ≡ Some n
+      → held_at heading Patterns (notes heading h) n place ≡ Some value
+      → table ≡ is_some (next_of n.kind n.level value) → global ≡ is_global (desc_of n.kind n.level value)
+      → childless ≡ is_childless heading Patterns (notes heading h) n value
+      → tags ≡ tag_set (tags_of heading Patterns n.root h)
+      → scopes.cover_of scope vmid (seen table global childless tags)
+      ≡ cover_at heading Patterns (notes heading h) (Tlbi pe op xt) place
+  covered named vmid_is node held t g c s = sym (
+      ap (λ (o : Option Scope). unwrap_or (option_and_then (λ (x : Scope). option_and_then (λ (w : PlaceView).
+          Some (scopes.cover_of x (vmid_of heading (events_of (notes heading h)) pe) w))
+          (view_at heading Patterns (notes heading h) place)) o) NoCover)
+          (ap (λ (es : List Event). named_scope heading es pe op xt) ev ∙ named)
+      ∙ ap (λ (o : Option PlaceView). unwrap_or (option_and_then (λ (w : PlaceView).
+          Some (scopes.cover_of scope (vmid_of heading (events_of (notes heading h)) pe) w)) o) NoCover) view_is
+      ∙ ap (λ (x : Option ℕ). scopes.cover_of scope x (seen table global childless tags))
+          (ap (λ (es : List Event). vmid_of heading es pe) ev ∙ sym vmid_is))
+    where
+      view_is : view_at heading Patterns (notes heading h) place ≡ Some (seen table global childless tags)
+      view_is = ap (λ (o : Option Node). option_and_then (λ (m : Node). option_and_then (λ (v : ℕ). Some (told m v))
+          (held_at heading Patterns (notes heading h) m place)) o) node
+          ∙ ap (λ (o : Option ℕ). option_and_then (λ (v : ℕ). Some (told n v)) o) held
+          ∙ ap (λ b. Some (seen b (is_global (desc_of n.kind n.level value)) (is_childless heading Patterns (notes heading h) n value)
+              (tag_set (tags_of heading Patterns n.root (events_of (notes heading h)))))) (sym t)
+          ∙ ap (λ b. Some (seen table b (is_childless heading Patterns (notes heading h) n value)
+              (tag_set (tags_of heading Patterns n.root (events_of (notes heading h)))))) (sym g)
+          ∙ ap (λ b. Some (seen table global b (tag_set (tags_of heading Patterns n.root (events_of (notes heading h)))))) (sym c)
+          ∙ ap (λ (x : TagSet). Some (seen table global childless x))
+              (ap (λ (es : List Event). tag_set (tags_of heading Patterns n.root es)) ev ∙ sym s)
