@@ -9,6 +9,7 @@ use Rattle.bbm_descriptor.specs.declared.desc.Desc.{Desc}
 use Rattle.bbm_descriptor.specs.declared.desc.Desc.TheVariants.{Invalid, Table, Leaf}
 use Rattle.bbm_entry_state.specs.Points.{core_in}
 use Rattle.bbm_entry_state.specs.declared.marks.Marks.{Marks}
+use Rattle.bbm_entry_state.specs.declared.state.EntryState.TheVariants.{Broken, Clean}
 use Rattle.bbm_place_map.specs.Each.{is_table}
 use Rattle.bbm_place_map.specs.Map.{marks_at, value_at}
 use Rattle.bbm_place_map.specs.States.{state_from}
@@ -121,3 +122,19 @@ module _ (heading : Heading) (h : List Event) (pe : ℕ) (op : TlbiOp) (xt : ℕ
           ∙ ap (λ b. Some (seen table global b (tag_set (tags_of heading Patterns n.root (events_of (notes heading h)))))) (sym c)
           ∙ ap (λ (x : TagSet). Some (seen table global childless x))
               (ap (λ (es : List Event). tag_set (tags_of heading Patterns n.root es)) ev ∙ sym s)
+
+pub marks_of : (m : Option Marks) (x : Marks) → state_from None m ≡ Broken x → m ≡ Some x
+marks_of None x k = let bad : Clean ≡ Broken x = k in absurd cc
+marks_of (Some y) x k = let same : Broken y ≡ Broken x = k in let one : y ≡ x = cc in ap (λ (z : Marks). Some z) one
+
+pub core_of_marks : (o : Option Core) (m : Option Marks) (x : Marks) → m ≡ Some x → core_in (state_from o m) ≡ Some x.core
+core_of_marks o m x k = ap (λ (z : Option Marks). core_in (state_from o z)) k ∙ by o
+  where
+    by : (o : Option Core) → core_in (state_from o (Some x)) ≡ Some x.core
+    by None = refl
+    by (Some c) = refl
+
+pub held_of : (o : Option ℕ) (f : ℕ → Option Core) (c : Core) → option_and_then f o ≡ Some c
+    → (v : ℕ) × (o ≡ Some v) × (f v ≡ Some c)
+held_of None f c k = let bad : None ≡ Some c = k in absurd cc
+held_of (Some v) f c k = (v, refl, k)
