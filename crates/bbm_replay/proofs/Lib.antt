@@ -22,3 +22,4 @@ pub mod Inside
 pub mod Found
 pub mod Empty
 pub mod Covered
+pub mod Issuing

@@ -1,14 +1,35 @@
 //! TLBIs.
 
+ghost use Rattle.std.specs.Prelude.{◌≡◌, ◌<◌, ◌&&◌, ◌||◌, not, nat_eq, ℕ};
 ghost use Rattle.bbm_events.specs.declared.event.Event.TheVariants.{Tlbi};
+ghost use Rattle.bbm_regimes.specs.PeMask.{pe_in};
+ghost use Rattle.bbm_tlbi_scope.specs.Operations as operations;
+ghost use Rattle.bbm_tree_index.specs.Agreement.{IsSound};
 ghost use Rattle.bbm_replay.specs.Standing.{MayMeet, Meets};
 
+use crate::covers::cover_of;
 use crate::laws::{laws, rules};
 use crate::parts::Parts;
-use bbm_regimes::Pe;
+use crate::world::{cnp, pes};
+use bbm_events::Header;
+use bbm_regimes::{Pe, PeMask};
 use bbm_rules::StepFault;
 use bbm_tlbi_scope::TlbiOp;
 use std::alloc::Global;
+
+// The PEs that the TLBI reaches.
+fn reach_of(header: &Header, pe: Pe, op: TlbiOp) -> PeMask
+    ensures { (p : ℕ) → p < header.now.pes
+        → pe_in result p ≡ ((operations.operation op).broadcast || (not header.now.cnp && nat_eq pe p)) }
+{
+    if op.is_broadcast() {
+        PeMask::all(pes(header))
+    } else if cnp(header) {
+        PeMask::none()
+    } else {
+        PeMask::one(pe)
+    }
+}
 
 impl Parts {
     /// A TLBI.
@@ -22,12 +43,35 @@ impl Parts {
         requires { MayMeet self.old (Tlbi pe op xt) }
         ensures { Meets self.old self.new (Tlbi pe op xt) result }
     {
-        let _ = alloc;
         laws();
         rules();
         match self.roots.judge_tlbi(pe, op, xt) {
-            Ok(()) => Err(StepFault::NoMemory),
-            Err(fault) => Err(fault),
+            Ok(()) => {}
+            Err(fault) => return Err(fault),
+        }
+        match self.roots.prepare_issue(alloc, pe, op, xt) {
+            Ok(()) => {}
+            Err(_) => return Err(StepFault::NoMemory),
+        }
+        let vmid = self.roots.vmid_of(pe);
+        match self.roots.named_scope(pe, op, xt) {
+            Some(scope) => {
+                let reach = reach_of(&self.header, pe, op);
+                let _ = self.map.restless();
+                let index = &self.index;
+                let roots = &self.roots;
+                match self.map.issue(alloc, pe, reach, op.is_broadcast(), |map, place| {
+                    cover_of(map, index, roots, scope, vmid, place)
+                }) {
+                    Ok(()) => {
+                        let _ = self.map.restless();
+                        self.roots.issue_ready(pe, op, xt);
+                        Ok(())
+                    }
+                    Err(_) => Err(StepFault::NoMemory),
+                }
+            }
+            None => Err(StepFault::NoMemory),
         }
     }
 }

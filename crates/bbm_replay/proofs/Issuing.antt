@@ -1,0 +1,73 @@
+-- A TLBI at the parts.
+use Rattle.std.proofs.Common.{◌≡◌, ℕ, ◌<◌, Bool, true, false, not, ◌&&◌, ◌||◌, nat_eq, List, ◌∷◌, Option, Some, None, is_some, Ok, refl, sym, ◌∙◌, ap, subst}
+use Rattle.bbm_entry_state.specs.Calls.{Noted}
+use Rattle.bbm_entry_state.specs.Points.{waits}
+use Rattle.bbm_entry_state.specs.Standing.{IsIdle}
+use Rattle.bbm_entry_state.specs.declared.marks.Marks.{Marks}
+use Rattle.bbm_entry_state.specs.declared.pending.Pends.{Pends}
+use Rattle.std.proofs.lemmas.Bool.{eqb-true}
+use Rattle.bbm_place_map.specs.Map.{is_tracked, marks_at, pends_at, value_at}
+use Rattle.bbm_place_map.specs.States.{state_from}
+use Rattle.bbm_place_map.specs.declared.map.PlaceMap.{PlaceMap}
+use Rattle.bbm_regimes.specs.PeMask.{pe_in}
+use Rattle.bbm_regimes.specs.declared.pe.PeMask.{PeMask}
+use Rattle.bbm_tlbi_scope.specs.Operations.{operation}
+use Rattle.bbm_tlbi_scope.specs.declared.entry.Cover.{Cover}
+use Rattle.bbm_rules.specs.Broken.{broken}
+use Rattle.bbm_rules.specs.Claims.Trust.{Patterns}
+use Rattle.bbm_rules.specs.Covers.{cover_at}
+use Rattle.bbm_rules.specs.Prelude.{Heading, Event, Tlbi, TlbiOp}
+use Rattle.bbm_rules.specs.Tree.{Node}
+use Rattle.bbm_replay_roots.specs.Stands as roots
+use Rattle.bbm_replay_roots.specs.declared.state.RootState.{RootState}
+use Rattle.bbm_replay_trees.specs.Told.{notes}
+use Rattle.bbm_replay.specs.Laws.{Laws}
+use Rattle.bbm_replay.specs.Moves.{Alike, Issues}
+use Rattle.bbm_replay.specs.Rules.{Rules}
+use Rattle.bbm_replay.specs.Standing.{MayMeet, Meets, Stands, view_of}
+use Rattle.bbm_replay.specs.declared.parts.Parts.{Parts}
+use Rattle.bbm_replay.proofs.Framing.{stands_next}
+use Rattle.bbm_replay.proofs.Meeting.{fits_all}
+use Rattle.bbm_replay.proofs.TlbiMoves.{after_tlbi}
+
+pub tlbi_meets : ((heading : Heading) → Laws heading) → ((heading : Heading) → Rules heading) → (old : Parts) (map : PlaceMap)
+    (r : RootState) (pe : ℕ) (op : TlbiOp) (xt : ℕ) → MayMeet old (Tlbi pe op xt)
+    → ((heading : Heading) (h : List Event) → roots.Stands old.roots heading h → broken heading Patterns h (Tlbi pe op xt) ≡ None)
+    → (reach : PeMask) → ((p : ℕ) → p < old.header.pes
+    → pe_in reach p ≡ ((operation op).broadcast || (not old.header.cnp && nat_eq pe p)))
+    → ((heading : Heading) (h : List Event) → Stands old heading h → (a : ℕ) → is_some (marks_at old.map a) ≡ true
+    → Noted (state_from None (marks_at old.map a)) (pends_at old.map pe a) reach (operation op).broadcast
+    (cover_at heading Patterns (notes heading h) (Tlbi pe op xt) a) (pends_at map pe a))
+    → ((q a : ℕ) → nat_eq q pe ≡ false → pends_at map q a ≡ pends_at old.map q a)
+    → ((q a : ℕ) → marks_at old.map a ≡ None → IsIdle (pends_at old.map q a))
+    → ((q a : ℕ) → marks_at map a ≡ None → IsIdle (pends_at map q a))
+    → ((a : ℕ) → value_at map a ≡ value_at old.map a) → ((a : ℕ) → marks_at map a ≡ marks_at old.map a)
+    → ((p : ℕ) → is_tracked map p ≡ is_tracked old.map p)
+    → ((heading : Heading) (h : List Event) → Stands old heading h → roots.Stands r heading (Tlbi pe op xt ∷ h))
+    → Meets old (record old { map = map; roots = r }) (Tlbi pe op xt) (Ok tt)
+tlbi_meets laws rules old map r pe op xt m unbroken reach reached noted others idle idle' values marks pages taken = record {
+  judged = λ heading h s. (unbroken heading h s.roots, (rules heading).no_limit h (Tlbi pe op xt) refl);
+  taken = λ heading h s. stands_next old (record old { map = map; roots = r })
+      (record { header = refl; index_header = refl; sound = λ k. k }) heading h (Tlbi pe op xt ∷ h) s
+      (after_tlbi heading (laws heading) h (view_of old.map old.index) (view_of map old.index) s.told pe op xt reach
+      (subst (λ (x : Heading). (p : ℕ) → p < x.pes → pe_in reach p ≡ ((operation op).broadcast || (not x.cnp && nat_eq pe p))) s.header reached)
+      (record {
+        value = values;
+        marks = marks;
+        noted = λ n a is broken. noted heading h s a broken;
+        others = λ q a k. other q a (nat_eq q pe) refl (marks_at old.map a) refl k;
+        nodes = λ p. refl;
+        roles = record { fresh = λ p. refl; null = λ p. refl };
+        tracking = record { tracked = pages; known = λ p. refl; pages = refl };
+      })
+      (fits_all old (Tlbi pe op xt) m heading h s) (unbroken heading h s.roots))
+      (taken heading h s);
+  unchanged = tt;
+}
+  where
+    other : (q a : ℕ) (b : Bool) → nat_eq q pe ≡ b → (o : Option Marks) → marks_at old.map a ≡ o
+        → (nat_eq q pe && is_some (marks_at old.map a)) ≡ false → Alike (pends_at old.map q a) (pends_at map q a)
+    other q a false e o k both = λ b c p. ap (λ (w : Pends). waits w b c p) (others q a e)
+    other q a true e None k both = λ b c p. idle' q a (marks a ∙ k) b c p ∙ sym (idle q a k b c p)
+    other q a true e (Some x) k both =
+        let bad : true ≡ false = sym (ap (λ y. y && is_some (marks_at old.map a)) e ∙ ap (λ (z : Option Marks). is_some z) k) ∙ both in absurd cc

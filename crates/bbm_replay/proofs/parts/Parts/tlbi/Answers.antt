@@ -1,0 +1,51 @@
+use Rattle.std.proofs.Common.{◌≡◌, ℕ, true, List, Some, None, Option, is_some, refl, sym, ◌∙◌, ap, subst, rules}
+use Rattle.bbm_entry_state.specs.Calls.{Noted}
+use Rattle.bbm_place_map.specs.Map.{marks_at, pends_at}
+use Rattle.bbm_place_map.specs.Calls.{MayCover}
+use Rattle.bbm_place_map.specs.States.{state_from}
+use Rattle.bbm_tlbi_scope.specs.Operations.{operation}
+use Rattle.bbm_tlbi_scope.specs.declared.entry.Cover.{Cover}
+use Rattle.bbm_rules.specs.Claims.Trust.{Patterns}
+use Rattle.bbm_rules.specs.Covers.{cover_at}
+use Rattle.bbm_rules.specs.Prelude.{Heading, Event, Tlbi}
+use Rattle.bbm_replay_trees.specs.Told.{notes}
+use Rattle.bbm_replay.specs.Covering.{MayBeCovered}
+use Rattle.bbm_replay.specs.Standing.{Stands}
+use Rattle.bbm_replay.specs.declared.parts.Parts.{Parts}
+use Rattle.bbm_replay.proofs.Framing.{same_of, stands_still}
+use Rattle.bbm_replay.proofs.Issuing.{tlbi_meets}
+use Rattle.bbm_replay.proofs.parts.Parts.tlbi.Goals as goal
+
+pub returns-in-Err-issue : goal.returns-in-Err-issue
+returns-in-Err-issue c =
+    let old = c.args.self.now in
+    let new : Parts = record old { map = c.issue.new.self; roots = c.prepare_issue.new.self } in
+    record {
+      judged = λ heading h s. tt;
+      taken = tt;
+      unchanged = λ heading h s. stands_still c.laws.ensures old new (record { header = refl; index_header = refl; sound = λ k. k })
+          (same_of old.map new.map old.index old.index c.in-Err-issue.ensures.kept
+          (record { node = λ p. refl; fresh = λ p. refl; null = λ p. refl })
+          (record { known = λ p. refl; pages = refl; heading = refl })) heading h s (c.prepare_issue.ensures.same heading h s.roots);
+    }
+
+pub returns-in-Ok-issue : goal.returns-in-Ok-issue
+returns-in-Ok-issue c =
+    let old = c.args.self.now in
+    let e = c.in-Ok-issue.ensures in
+    tlbi_meets c.laws.ensures c.rules.ensures old c.issue.new.self c.issue_ready.new.self c.args.pe c.args.op c.args.xt c.requires
+    c.in-Ok.ensures c.reach_of-reach.result c.reach_of-reach.ensures
+    (λ heading h s a broken.
+        let n = e.noted a broken in
+        let m : MayBeCovered heading h old.map old.index c.prepare_issue.new.self c.args.pe c.args.op c.args.xt c.in-Some.scope c.vmid_of-vmid.result a
+            = record {
+              told = s.told;
+              stands = c.prepare_issue.ensures.same heading h s.roots;
+              named = sym (c.named_scope.ensures heading h (c.prepare_issue.ensures.same heading h s.roots)) ∙ c.in-Some.is;
+              vmid_is = c.vmid_of-vmid.ensures heading h (c.prepare_issue.ensures.same heading h s.roots);
+              broken = broken;
+            } in
+        let says = n.1.says in
+        ?)
+    e.others c.restless.ensures.idle c.restless-in-Ok-issue.ensures.idle e.values e.marks e.pages
+    (λ heading h s. c.issue_ready.ensures.taken heading h (c.prepare_issue.ensures.same heading h s.roots) (c.in-Ok.ensures heading h s.roots))
