@@ -10,6 +10,8 @@ use Rattle.bbm_rules.specs.Prelude.{Heading, Event, Root, Unroot, Dsb, Isb, Tlbi
 use Rattle.bbm_rules.specs.Broken.{Breach, broken, keeps}
 use Rattle.bbm_rules.specs.Claims.{Patterns}
 use Rattle.bbm_rules.specs.Locks.{holder_of}
+use Rattle.bbm_rules.specs.Prelude.{Scope, TlbiOp}
+use Rattle.bbm_rules.specs.Registers.{named_scope, vmid_of}
 use Rattle.bbm_rules.specs.declared.step_fault.StepFault.{StepFault}
 use Rattle.bbm_rules.specs.declared.step_fault.StepFault.TheVariants.{Broken, Limit, NoMemory}
 use Rattle.bbm_replay_roots.specs.Bridge.{calls_of}
@@ -54,3 +56,14 @@ Judges (Ok _) breach = breach ≡ None
 Judges (Err (Broken rule at)) breach = breach ≡ Some (record { rule = rule; at = at })
 Judges (Err (Limit which)) breach = ⊥
 Judges (Err NoMemory) breach = ⊥
+
+-- there is room for what a TLBI after the history leaves to its answer
+abbrev pub IsReady : RootState → Heading → List Event → ℕ → TlbiOp → ℕ → Type 0
+IsReady state heading h pe op xt = (scope : Scope) → named_scope heading h pe op xt ≡ Some scope
+    → lower.IsReady state.roots pe scope (vmid_of heading h pe)
+
+-- it stands for a history of the event's header after which the TLBI breaks no rule, and there is room for it
+abbrev pub MayIssue : RootState → ℕ → TlbiOp → ℕ → Type 0
+MayIssue state pe op xt = (heading : Heading) × (h : List Event) × Stands state heading h
+    × (fits_heading heading (Tlbi pe op xt) ≡ true) × (broken heading Patterns h (Tlbi pe op xt) ≡ None)
+    × IsReady state heading h pe op xt

@@ -85,7 +85,7 @@ impl RootState {
     ghost use Rattle.bbm_rules.specs.Rules as rules;
     ghost use Rattle.bbm_rules.specs.Tags as tags;
     ghost use Rattle.bbm_replay_roots.specs.Bridge.{has_null_base};
-    ghost use Rattle.bbm_replay_roots.specs.Stands.{Stands, MayFollow, HasRoom, Judges};
+    ghost use Rattle.bbm_replay_roots.specs.Stands.{Stands, MayFollow, MayIssue, HasRoom, IsReady, Judges};
 
     /// What stands for the empty history of the header. `NoMemory` where there is none.
     pub fn new(alloc: Global, header: &Header) -> Result<RootState, NoMemory>
@@ -367,6 +367,51 @@ impl RootState {
                 }
             }
             None => Ok(()),
+        }
+    }
+
+    /// Makes room for a TLBI of the PE. `NoMemory` where there is none. It stands for what it stood for. After Ok
+    /// `issue_ready` takes that TLBI without memory.
+    pub fn prepare_issue(
+        &mut self,
+        alloc: Global,
+        pe: Pe,
+        op: TlbiOp,
+        xt: u64,
+    ) -> Result<(), NoMemory>
+        requires { MayAsk (Stands self.old) pe }
+        ensures ready { OnOk result ((heading : Heading) (h : List TheEvent) → Stands self.old heading h
+            → IsReady self.new heading h pe op xt) }
+        ensures same { (heading : Heading) (h : List TheEvent) → Stands self.old heading h → Stands self.new heading h }
+        ensures room { HasRoom self.old → HasRoom self.new }
+    {
+        let vmid = self.vmid_of(pe);
+        match self.named_scope(pe, op, xt) {
+            Some(scope) => match self.roots.prepare_issue(alloc, pe, scope, vmid) {
+                Ok(()) => Ok(()),
+                Err(_) => Err(NoMemory),
+            },
+            None => Ok(()),
+        }
+    }
+
+    /// A TLBI of the PE that breaks no rule and for which there is room. It takes no memory.
+    pub fn issue_ready(&mut self, pe: Pe, op: TlbiOp, xt: u64)
+        requires { MayIssue self.old pe op xt }
+        ensures taken { (heading : Heading) (h : List TheEvent) → Stands self.old heading h
+            → broken heading Patterns h (TheEvent.Tlbi pe op xt) ≡ None
+            → Stands self.new heading (TheEvent.Tlbi pe op xt ∷ h) }
+        ensures room { HasRoom self.old → HasRoom self.new }
+    {
+        bridge();
+        let vmid = self.vmid_of(pe);
+        match self.named_scope(pe, op, xt) {
+            Some(named) => {
+                if named.broadcast || !self.header.cnp {
+                    self.roots.issue_ready(pe, named, vmid);
+                }
+            }
+            None => {}
         }
     }
 

@@ -1,13 +1,15 @@
 -- What the roots stand for: a list of accepted calls, point by point.
-use Rattle.std.specs.Prelude.{◌≡◌, ◌<◌, ◌≤◌, ℕ, Bool, true, false, List, [], ◌∷◌, IsSome, nat_eq, length}
+use Rattle.std.specs.Prelude.{◌≡◌, ◌<◌, ◌≤◌, ℕ, Bool, true, false, List, [], ◌∷◌, IsSome, nat_eq, length, Option}
 use Rattle.indexmap.specs.IndexMap.{get, index_map_len, spare}
 use Rattle.bbm_regimes.specs.declared.regime.Reg.{Reg}
 use Rattle.bbm_regimes.specs.declared.regime.Tag.{Tag}
 use Rattle.bbm_regimes.specs.declared.regime.World.{World}
+use Rattle.bbm_tlbi_scope.specs.Tags.{takes_whole_tag}
+use Rattle.bbm_tlbi_scope.specs.declared.scope.Scope.{Scope}
 use Rattle.bbm_roots.specs.Calls.{Call}
 use Rattle.bbm_roots.specs.Columns.{loads_in}
 use Rattle.bbm_roots.specs.Holds.{hold_in}
-use Rattle.bbm_roots.specs.Pendings.{pending_in}
+use Rattle.bbm_roots.specs.Pendings.{has_pending, pending_in}
 use Rattle.bbm_roots.specs.Registers.{at_start, first_reg, second_reg, register_values, is_of_world, kind_of_reg}
 use Rattle.bbm_roots.specs.Registers.{names_in}
 use Rattle.bbm_roots.specs.Roots.{root_at, roots_of, is_root, are_apart}
@@ -45,3 +47,8 @@ pub record Stands (roots : Roots) (cs : List Call) : Type 0 where
 -- room for one more root
 abbrev pub IsPrepared : Roots → Type 0
 IsPrepared roots = (0 < spare roots.declared) × (index_map_len roots.declared < 1024)
+
+-- there is an entry for each tag that a TLBI of the issuer, of this scope and under this VMID, takes and that is held
+abbrev pub IsReady : Roots → ℕ → Scope → Option ℕ → Type 0
+IsReady roots issuer scope vmid = (tag : Tag) (root p : ℕ) → hold_in roots.holds.items tag root p ≡ true
+    → takes_whole_tag scope vmid tag ≡ true → has_pending issuer scope.broadcast tag roots.pendings.items ≡ true

@@ -42,7 +42,7 @@ impl Roots {
     ghost use Rattle.bbm_roots.specs.Registers.{is_first as spec_is_first, is_of_world, register_values, root_of, second_reg, uses};
     ghost use Rattle.bbm_regimes.specs.declared.regime.Tag.{Tag as TheTag};
     ghost use Rattle.bbm_roots.specs.Tags.{holds_tag, vmid_of};
-    ghost use Rattle.bbm_roots.specs.Stands.{Stands, IsPrepared, pes_of, world_of};
+    ghost use Rattle.bbm_roots.specs.Stands.{IsReady, Stands, IsPrepared, pes_of, world_of};
 
     /// The roots of a log with this header before any call. `NoMemory` where there is none.
     pub fn new(alloc: Global, header: &Header) -> Result<Roots, RootFault>
@@ -269,6 +269,55 @@ impl Roots {
             }
             Err(_) => Err(RootFault::NoMemory),
         }
+    }
+
+    /// Makes room for a TLBI of the PE, of this scope and under this VMID, 0 to 65535. `NoMemory` where there is none.
+    /// They stand for what they stood for. After Ok `issue_ready` takes that TLBI without memory.
+    pub fn prepare_issue(
+        &mut self,
+        _alloc: Global,
+        issuer: Pe,
+        scope: Scope,
+        vmid: Option<u16>,
+    ) -> Result<(), RootFault>
+        ensures ready { OnOk result (IsReady self.new issuer scope vmid) }
+        ensures fault { IfErr result (λ fault. fault ≡ RootFault.NoMemory) }
+        ensures same { (calls : List Call) → Stands self.old calls → Stands self.new calls }
+        ensures prepared { IsPrepared self.old → IsPrepared self.new }
+        ensures pes { pes_of self.new ≡ pes_of self.old }
+        ensures world { world_of self.new ≡ world_of self.old }
+    {
+        if !issue::takes_tags(&scope) {
+            return Ok(());
+        }
+        match issue::make_room(&mut self.pendings, &self.holds, issuer, &scope, vmid) {
+            Ok(()) => Ok(()),
+            Err(_) => Err(RootFault::NoMemory),
+        }
+    }
+
+    /// A TLBI of the PE, of this scope and under this VMID, 0 to 65535, for which there is room. It takes no memory.
+    pub fn issue_ready(&mut self, issuer: Pe, scope: Scope, vmid: Option<u16>)
+        requires pe { issuer < pes_of self.old }
+        requires ready { IsReady self.old issuer scope vmid }
+        ensures taken { (calls : List Call) → Stands self.old calls
+            → Stands self.new (call.Issue issuer scope vmid ∷ calls) }
+        ensures prepared { IsPrepared self.old → IsPrepared self.new }
+        ensures pes { pes_of self.new ≡ pes_of self.old }
+        ensures world { world_of self.new ≡ world_of self.old }
+    {
+        if !issue::takes_tags(&scope) {
+            return;
+        }
+        let reach = self.reach(issuer, scope.broadcast);
+        issue::note(
+            &mut self.pendings,
+            &self.registers,
+            reach,
+            issuer,
+            &scope,
+            vmid,
+        );
     }
 
     // The PEs that a TLBI of the issuer reaches.

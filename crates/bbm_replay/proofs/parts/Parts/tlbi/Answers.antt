@@ -2,6 +2,7 @@ use Rattle.std.proofs.Common.{◌≡◌, ℕ, true, List, Some, None, Option, is
 use Rattle.bbm_entry_state.specs.Calls.{Noted}
 use Rattle.bbm_place_map.specs.Map.{marks_at, pends_at}
 use Rattle.bbm_place_map.specs.Calls.{MayCover}
+use Rattle.bbm_place_map.specs.declared.map.PlaceMap.{PlaceMap}
 use Rattle.bbm_place_map.specs.States.{state_from}
 use Rattle.bbm_tlbi_scope.specs.Operations.{operation}
 use Rattle.bbm_tlbi_scope.specs.declared.entry.Cover.{Cover}
@@ -45,7 +46,19 @@ returns-in-Ok-issue c =
               vmid_is = c.vmid_of-vmid.ensures heading h (c.prepare_issue.ensures.same heading h s.roots);
               broken = broken;
             } in
+        let shown = n.1.shown in
+        let shows = n.1.shows in
         let says = n.1.says in
-        ?)
+        let same : n.0 ≡ cover_at heading Patterns (notes heading h) (Tlbi c.args.pe c.args.op c.args.xt) a
+            = (let told = says.met.1 in
+            let may : MayBeCovered heading h shown.now old.index c.prepare_issue.new.self c.args.pe c.args.op c.args.xt c.in-Some.scope c.vmid_of-vmid.result a
+                = subst (λ (x : PlaceMap). MayBeCovered heading h x old.index c.prepare_issue.new.self c.args.pe c.args.op c.args.xt c.in-Some.scope c.vmid_of-vmid.result a) (sym shows) m in
+            search rules) in
+        let at : Noted (state_from None (marks_at old.map a)) (pends_at old.map c.args.pe a) c.reach_of-reach.result c.is_broadcast.result n.0
+            (pends_at c.issue.new.self c.args.pe a) = n.2 in
+        subst (λ (x : Cover). Noted (state_from None (marks_at old.map a)) (pends_at old.map c.args.pe a) c.reach_of-reach.result
+            (operation c.args.op).broadcast x (pends_at c.issue.new.self c.args.pe a)) same
+        (subst (λ b. Noted (state_from None (marks_at old.map a)) (pends_at old.map c.args.pe a) c.reach_of-reach.result b n.0
+            (pends_at c.issue.new.self c.args.pe a)) c.is_broadcast.ensures at))
     e.others c.restless.ensures.idle c.restless-in-Ok-issue.ensures.idle e.values e.marks e.pages
     (λ heading h s. c.issue_ready.ensures.taken heading h (c.prepare_issue.ensures.same heading h s.roots) (c.in-Ok.ensures heading h s.roots))
