@@ -89,23 +89,23 @@ module _ (heading : Heading) (b : Below heading) (h : List Event) (fit : AllFit 
 
   twice_from : (page : ℕ) → TwoPaths heading Patterns marks kind level pages page → EndsTwice fresh value starts page
   twice_from page t =
-      let one = path_from heading b h fit fresh value same_fresh same_value kind level pages starts st t.start t.is_start t.places t.end
-      (omega (arith, t.short, st.shallow)) (to_mine heading b h fit fresh value same_fresh same_value kind level t.start t.places t.end t.leads) in
-      let two = path_from heading b h fit fresh value same_fresh same_value kind level pages starts st t.other_start t.is_other_start t.other_places t.other_end
-      (omega (arith, t.other_short, st.shallow))
-      (to_mine heading b h fit fresh value same_fresh same_value kind level t.other_start t.other_places t.other_end t.other_leads) in
+      let one = path_from heading b h fit fresh value same_fresh same_value kind level pages starts st t.0.start t.0.is_start t.0.places t.0.end
+      (omega (arith, t.0.short, st.shallow)) (to_mine heading b h fit fresh value same_fresh same_value kind level t.0.start t.0.places t.0.end t.0.leads) in
+      let two = path_from heading b h fit fresh value same_fresh same_value kind level pages starts st t.1.start t.1.is_start t.1.places t.1.end
+      (omega (arith, t.1.short, st.shallow))
+      (to_mine heading b h fit fresh value same_fresh same_value kind level t.1.start t.1.places t.1.end t.1.leads) in
       record {
         start = one.0;
-        places = t.places;
-        end = t.end;
+        places = t.0.places;
+        end = t.0.end;
         path = one.1;
-        ends = t.ends;
+        ends = t.0.ends;
         other_start = two.0;
-        other_places = t.other_places;
-        other_end = t.other_end;
+        other_places = t.1.places;
+        other_end = t.1.end;
         other_path = two.1;
-        other_ends = t.other_ends;
-        differ = λ k l. t.different (sym one.2 ∙ (k ∙ two.2), l);
+        other_ends = t.1.ends;
+        differ = λ k l. t.2 (sym one.2 ∙ (k ∙ two.2), l);
       }
 
   twice_to : (page : ℕ) → EndsTwice fresh value starts page → TwoPaths heading Patterns marks kind level pages page
@@ -114,7 +114,7 @@ module _ (heading : Heading) (b : Below heading) (h : List Event) (fit : AllFit 
       = within_at heading b h fit fresh value same_fresh same_value kind level pages starts st t.start t.places t.end t.path in
       let other : level + length t.other_places < 4
       = within_at heading b h fit fresh value same_fresh same_value kind level pages starts st t.other_start t.other_places t.other_end t.other_path in
-      record {
+      (record {
         start = t.start.page;
         places = t.places;
         end = t.end;
@@ -123,16 +123,16 @@ module _ (heading : Heading) (b : Below heading) (h : List Event) (fit : AllFit 
         leads = to_theirs heading b h fit fresh value same_fresh same_value kind level t.start.page t.places t.end
             (leads_at heading b h fit fresh value same_fresh same_value kind level pages starts st t.start t.places t.end t.path);
         ends = t.ends;
-        other_start = t.other_start.page;
-        other_places = t.other_places;
-        other_end = t.other_end;
-        is_other_start = (st.of_start t.other_start t.other_path.is_start).2;
-        other_short = omega (arith, other);
-        other_leads = to_theirs heading b h fit fresh value same_fresh same_value kind level t.other_start.page t.other_places t.other_end
+      }, record {
+        start = t.other_start.page;
+        places = t.other_places;
+        end = t.other_end;
+        is_start = (st.of_start t.other_start t.other_path.is_start).2;
+        short = omega (arith, other);
+        leads = to_theirs heading b h fit fresh value same_fresh same_value kind level t.other_start.page t.other_places t.other_end
             (leads_at heading b h fit fresh value same_fresh same_value kind level pages starts st t.other_start t.other_places t.other_end t.other_path);
-        other_ends = t.other_ends;
-        different = λ k. t.differ k.0 k.1;
-      }
+        ends = t.other_ends;
+      }, λ k. t.differ k.0 k.1)
 
   module _ (e : Event) (is : attached_by heading Patterns marks e ≡ Some whole) where
     listed : (named : Bool) (page : ℕ) → In (page_list named) page → IsUnfresh fresh value starts named page
