@@ -27,3 +27,4 @@ pub mod TagClaims
 pub mod ValueSteps
 pub mod FreshSteps
 pub mod PhaseLemmas
+pub mod BaseLemmas

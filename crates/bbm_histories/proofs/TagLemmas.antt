@@ -138,7 +138,7 @@ module _ (heading : Heading) (trust : Trust) (b : Below heading trust) where
       by false c = before page n
   null_step h e kept before page n = before page n
 
-  null_not_fresh : (h : List Event) → keeps heading trust h ≡ true
+  pub null_not_fresh : (h : List Event) → keeps heading trust h ≡ true
       → (page : ℕ) → is_null (events_of (noted heading trust h)) page ≡ true → is_fresh heading trust (noted heading trust h) page ≡ false
   null_not_fresh h kept =
       throughout heading trust b (λ ns. (page : ℕ) → is_null (events_of ns) page ≡ true → is_fresh heading trust ns page ≡ false)
@@ -150,7 +150,7 @@ module _ (heading : Heading) (trust : Trust) (b : Below heading trust) where
   -- ---- declared roots
 
   -- a property of a history is one of the events of its notes
-  noted_too : (P : List Event → Type 0) (h : List Event) → P h → P (events_of (noted heading trust h))
+  pub noted_too : (P : List Event → Type 0) (h : List Event) → P h → P (events_of (noted heading trust h))
   noted_too P h k = subst P (sym (b.events_noted h)) k
 
   of_world : (h : List Event) (r : Declared) → keeps heading trust h ≡ true → IsDeclared h r → kind_in_world heading.world r.kind ≡ true
@@ -160,7 +160,7 @@ module _ (heading : Heading) (trust : Trust) (b : Below heading trust) where
       (b.unbroken h d.newer d.older (Root d.pe r.kind r.lock r.page) kept d.split WrongWorld))
 
   -- the first page of a declared root is in a tree, so it isn't fresh
-  root_not_fresh : Proper heading → (h : List Event) (r : Declared) → keeps heading trust h ≡ true → IsDeclared h r
+  pub root_not_fresh : Proper heading → (h : List Event) (r : Declared) → keeps heading trust h ≡ true → IsDeclared h r
       → is_fresh heading trust (noted heading trust h) r.page ≡ true → ⊥
   root_not_fresh proper h r kept d fresh =
       let m = b.page_node r r.page (b.first_page r.kind r.page (of_world h r kept d) (proper.some_page r.kind)) in
@@ -171,7 +171,7 @@ module _ (heading : Heading) (trust : Trust) (b : Below heading trust) where
       (subst (λ (x : ℕ). x < 4) (sym fields.1) (proper.start r.kind))) m.2 fresh
 
   -- the first page that a `root` names is fresh
-  planted_fresh : Proper heading → (h : List Event) (pe : ℕ) (kind : Kind) (lock : Option ℕ) (page : ℕ)
+  pub planted_fresh : Proper heading → (h : List Event) (pe : ℕ) (kind : Kind) (lock : Option ℕ) (page : ℕ)
       → Unbroken heading trust (noted heading trust h) (Root pe kind lock page) → is_fresh heading trust (noted heading trust h) page ≡ true
   planted_fresh proper h pe kind lock page kept =
       b.rooted_fresh (noted heading trust h) pe kind lock page page (kept PageInUse)
@@ -179,7 +179,7 @@ module _ (heading : Heading) (trust : Trust) (b : Below heading trust) where
       (proper.some_page kind))
 
   -- a declared root stays, unless the event retires it
-  root_on : Proper heading → (h : List Event) (e : Event) (kind : Kind) (root : ℕ) → keeps heading trust h ≡ true
+  pub root_on : Proper heading → (h : List Event) (e : Event) (kind : Kind) (root : ℕ) → keeps heading trust h ≡ true
       → Unbroken heading trust (noted heading trust h) e → ((q : ℕ) → e ≡ Unroot q root → ⊥) → is_root h kind root ≡ true
       → is_root (e ∷ h) kind root ≡ true
   root_on proper h e kind root kept rule no_unroot k =
@@ -192,7 +192,7 @@ module _ (heading : Heading) (trust : Trust) (b : Below heading trust) where
       (subst (λ (x : Kind). is_root (e ∷ h) x r.0.page ≡ true) r.3 (b.is_root_of_kind (e ∷ h) r.0 d))
 
   -- a root that is no new one was there before
-  root_back : (h : List Event) (e : Event) (kind : Kind) (root : ℕ) → is_root (e ∷ h) kind root ≡ true
+  pub root_back : (h : List Event) (e : Event) (kind : Kind) (root : ℕ) → is_root (e ∷ h) kind root ≡ true
       → (is_root h kind root ≡ true) ⊎ ((q : ℕ) × (lock : Option ℕ) × (e ≡ Root q kind lock root))
   root_back h e kind root k =
       let r = b.root_of_kind (e ∷ h) kind root k in
@@ -208,7 +208,7 @@ module _ (heading : Heading) (trust : Trust) (b : Below heading trust) where
       ]
 
   -- an `unroot` names no root that a register of a PE names
-  unroot_misses : (h : List Event) (e : Event) (p : ℕ) (reg : Reg) (value base : ℕ) → Unbroken heading trust (noted heading trust h) e → p < heading.pes
+  pub unroot_misses : (h : List Event) (e : Event) (p : ℕ) (reg : Reg) (value base : ℕ) → Unbroken heading trust (noted heading trust h) e → p < heading.pes
       → among value (register_values h p reg) ≡ true → base_of value ≡ Some base → (q : ℕ) → e ≡ Unroot q base → ⊥
   unroot_misses h e p reg value base rule is_pe readable names q is =
       let kept : Unbroken heading trust (noted heading trust h) (Unroot q base)
@@ -219,7 +219,7 @@ module _ (heading : Heading) (trust : Trust) (b : Below heading trust) where
   -- ---- what registers name
 
   -- the base of a readable value is a declared root of the register's kind, or a null page
-  abbrev Named : List Event → ℕ → Reg → ℕ → Type 0
+  abbrev pub Named : List Event → ℕ → Reg → ℕ → Type 0
   Named h p reg base = (is_root h (kind_of_reg reg) base ≡ true) ⊎ (is_null h base ≡ true)
 
   named_by_write : (h : List Event) (pe : ℕ) (reg : Reg) (value base : ℕ) → Unbroken heading trust (noted heading trust h) (Msr pe reg value)
@@ -282,7 +282,7 @@ module _ (heading : Heading) (trust : Trust) (b : Below heading trust) where
       ]
   named_step proper h e kept rule p is_pe before reg value base readable names = before reg value base readable names
 
-  named : Proper heading → (h : List Event) → keeps heading trust h ≡ true → (p : ℕ) → p < heading.pes
+  pub named : Proper heading → (h : List Event) → keeps heading trust h ≡ true → (p : ℕ) → p < heading.pes
       → (reg : Reg) (value base : ℕ) → among value (register_values h p reg) ≡ true → base_of value ≡ Some base → Named h p reg base
   named proper [] kept p is_pe reg value base readable names =
       elim (or_cases (0 == value) false readable) [

@@ -21,6 +21,7 @@ pub use phases::law_phase_parts;
 pub use steps::{law_held_step, law_pattern_steps, law_tag_steps};
 pub use tags::law_tags;
 pub use tree_steps::{law_childless_step, law_limbo_step, law_node_step};
+pub use tags::{law_bases, law_tags};
 pub use trees::{
     law_frozen_view, law_held_changes, law_limbo_is_empty, law_lower_leaves, law_one_node,
     law_one_position, law_proper, law_tree_step,
@@ -38,6 +39,7 @@ mod tests {
     use crate::steps::{law_held_step, law_pattern_steps, law_tag_steps};
     use crate::tags::law_tags;
     use crate::tree_steps::{law_childless_step, law_limbo_step, law_node_step};
+    use crate::tags::{law_bases, law_tags};
     use crate::trees::{
         law_frozen_view, law_held_changes, law_limbo_is_empty, law_lower_leaves, law_one_node,
         law_one_position, law_proper, law_tree_step,
@@ -50,6 +52,7 @@ mod tests {
     fn laws_hold() {
         law_childless_step();
         law_claim_steps();
+        law_bases();
         law_fresh_content();
         law_fresh_step();
         law_frozen();

@@ -33,14 +33,16 @@ impl Locks {
         }
     }
 
-    /// The PE that holds this lock, 0 to 1,023: the last that took it and hasn't given it back. None where it is
-    /// free.
+    /// The PE that holds this lock: the last that took it and hasn't given it back. None where it is free, as each lock
+    /// above 1,023 is.
     pub fn holder(&self, lock: u16) -> Option<Pe>
-        requires { lock < 1024 }
         ensures point { result ≡ holder_at self.now lock }
         ensures calls { (calls : List Call) → AreAfter self.now calls → result ≡ holder_after calls lock }
     {
-        self.holders[lock as usize]
+        match self.holders.get(lock as usize) {
+            Some(holder) => *holder,
+            None => None,
+        }
     }
 
     /// The PE takes this lock, 0 to 1,023. `Busy` with the holder exactly where it is held, by this PE or another;

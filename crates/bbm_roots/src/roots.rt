@@ -167,8 +167,8 @@ impl Roots {
         }
     }
 
-    // Whether the root can be retired, and else why not.
-    fn may_retire(&self, page: Page) -> Result<(), RootFault>
+    /// Judges the retirement of the declared root with this first page, as `retire` does. Nothing changes.
+    pub fn may_retire(&self, page: Page) -> Result<(), RootFault>
         ensures { (calls : List Call) → Stands self.now calls
             → JudgesRetire page (spec.root_at calls page) (uses (world_of self.now) calls page)
             (λ tag. holds_tag (world_of self.now) (pes_of self.now) calls tag page) result }

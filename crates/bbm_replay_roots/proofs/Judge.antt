@@ -1,0 +1,264 @@
+-- The least rule that an event breaks, and what stands after one that breaks none.
+use Rattle.std.proofs.Common.{◌≡◌, ℕ, ◌<◌, Bool, true, false, not, ◌&&◌, ◌==◌, cond, nat_le, length, ◌≤◌, ◌↔◌, Result, List, ◌∷◌, Option, Some, None, refl, sym, ap, ◌∙◌, arith, true≢false}
+use Rattle.std.specs.Option.{is_none, option_map, option_map_or}
+use Rattle.std.proofs.lemmas.Bool.{and_from, eq-eqb, eqb-true, le-leb, leb-true, ne_eqb}
+use Rattle.std.specs.Result.{result_ok}
+use Rattle.bbm_barriers.specs.declared.Dsb.{Dsb as Barrier}
+use Rattle.bbm_locks.specs.Holders.{holder_at}
+use Rattle.bbm_regimes.specs.declared.regime.Which.{Which}
+use Rattle.bbm_rules.specs.declared.step_fault.StepFault.TheVariants.{Limit}
+use Rattle.bbm_roots.specs.declared.fault.RootFault.{RootFault}
+use Rattle.bbm_roots.specs.declared.fault.RootFault.TheVariants as roots
+use Rattle.bbm_replay_roots.specs.Faults.{room_fault}
+use Rattle.bbm_regimes.specs.declared.regime.Which.TheVariants.{Roots as Roots'}
+use Rattle.bbm_tlbi_scope.specs.Decode.{scope_of}
+use Rattle.bbm_tlbi_scope.specs.Operations.{of_world}
+use Rattle.bbm_tlbi_scope.specs.declared.scope.BadOperand.{BadOperand as BadOperandOf}
+use Rattle.bbm_rules.specs.Registers.{lacks_vmid}
+use Rattle.bbm_rules.specs.Prelude.{World, Scope, Init, Null, Root, Write, Kind, Reg, TlbiOp, Heading, Event, Dsb, Dmb, Isb, Tlbi, Msr, Lock, Unlock, Unroot}
+use Rattle.bbm_rules.specs.Broken.{Breach, broken, keeps}
+use Rattle.bbm_rules.specs.Claims.{Patterns}
+use Rattle.bbm_rules.specs.Covers.{noted}
+use Rattle.bbm_rules.specs.Locks.{holder_of}
+use Rattle.bbm_rules.specs.Lists.{if_so, is_that}
+use Rattle.bbm_rules.specs.Roots.{Declared, is_root, root_at, roots_of}
+use Rattle.bbm_rules.specs.Rules as rules
+use Rattle.bbm_rules.specs.declared.rule.Rule.{Rule}
+use Rattle.bbm_rules.specs.declared.rule.Rule.TheVariants.{WrongWorld, NoLock, NoRoot, TagConflict, RootInUse, UnsyncedVmid, BadOperand, LockBusy, LockNotMine}
+use Rattle.bbm_roots.specs.Stands.{pes_of, world_of}
+use Rattle.bbm_roots.specs.Stands as lower
+use Rattle.bbm_roots.specs.Calls.{Call}
+use Rattle.bbm_roots.specs.Roots as called
+use Rattle.bbm_replay_roots.proofs.RootMaps.{as_root, root_same}
+use Rattle.bbm_replay_roots.specs.Bridge.{calls_of}
+use Rattle.bbm_replay_roots.specs.Laws.{Laws}
+use Rattle.bbm_replay_roots.specs.Stands.{Stands, concerns_roots}
+use Rattle.bbm_replay_roots.specs.declared.state.RootState.{RootState}
+use Rattle.bbm_replay_roots.proofs.TagMaps.{Agrees, agrees}
+
+-- the breach of the rule, or else the other
+abbrev pub or_rule : Rule → Option ℕ → Option Breach → Option Breach
+or_rule rule at rest = option_map_or (λ n. Some (record { rule = rule; at = n })) at rest
+
+module _ (heading : Heading) (h : List Event) where
+  pub broken_msr : (pe : ℕ) (reg : Reg) (value : ℕ) → broken heading Patterns h (Msr pe reg value)
+      ≡ or_rule WrongWorld (rules.wrong_world heading Patterns (noted heading Patterns h) (Msr pe reg value))
+      (or_rule NoRoot (rules.no_root heading Patterns (noted heading Patterns h) (Msr pe reg value))
+      (or_rule TagConflict (rules.tag_conflict heading Patterns (noted heading Patterns h) (Msr pe reg value)) None))
+  unfolding broken
+  broken_msr pe reg value = refl
+
+  pub broken_unroot : (pe page : ℕ) → broken heading Patterns h (Unroot pe page)
+      ≡ or_rule NoLock (rules.no_lock heading Patterns (noted heading Patterns h) (Unroot pe page))
+      (or_rule NoRoot (rules.no_root heading Patterns (noted heading Patterns h) (Unroot pe page))
+      (or_rule RootInUse (rules.root_in_use heading Patterns (noted heading Patterns h) (Unroot pe page)) None))
+  unfolding broken
+  broken_unroot pe page = refl
+
+  pub broken_tlbi : (pe : ℕ) (op : TlbiOp) (xt : ℕ) → broken heading Patterns h (Tlbi pe op xt)
+      ≡ or_rule WrongWorld (rules.wrong_world heading Patterns (noted heading Patterns h) (Tlbi pe op xt))
+      (or_rule UnsyncedVmid (rules.unsynced_vmid heading Patterns (noted heading Patterns h) (Tlbi pe op xt))
+      (or_rule BadOperand (rules.bad_operand heading Patterns (noted heading Patterns h) (Tlbi pe op xt)) None))
+  unfolding broken
+  broken_tlbi pe op xt = refl
+
+  pub broken_lock : (pe lock : ℕ) → broken heading Patterns h (Lock pe lock)
+      ≡ or_rule LockBusy (rules.lock_busy heading Patterns (noted heading Patterns h) (Lock pe lock)) None
+  unfolding broken
+  broken_lock pe lock = refl
+
+  pub broken_unlock : (pe lock : ℕ) → broken heading Patterns h (Unlock pe lock)
+      ≡ or_rule LockNotMine (rules.lock_not_mine heading Patterns (noted heading Patterns h) (Unlock pe lock)) None
+  unfolding broken
+  broken_unlock pe lock = refl
+
+  pub broken_dsb : (pe : ℕ) (dsb : Barrier) → broken heading Patterns h (Dsb pe dsb) ≡ None
+  unfolding broken
+  broken_dsb pe dsb = refl
+
+  pub broken_dmb : (pe : ℕ) (dsb : Barrier) → broken heading Patterns h (Dmb pe dsb) ≡ None
+  unfolding broken
+  broken_dmb pe dsb = refl
+
+  pub broken_isb : (pe : ℕ) → broken heading Patterns h (Isb pe) ≡ None
+  unfolding broken
+  broken_isb pe = refl
+
+-- ---- what stands
+
+pub kept_next : (heading : Heading) (h : List Event) (e : Event) → keeps heading Patterns h ≡ true → broken heading Patterns h e ≡ None
+    → keeps heading Patterns (e ∷ h) ≡ true
+kept_next heading h e kept none =
+    and_from (keeps heading Patterns h) (is_none (broken heading Patterns h e)) kept (ap (λ (o : Option Breach). is_none o) none)
+
+pub stood : {old : RootState} {heading : Heading} {h : List Event} (new : RootState) (e : Event) → Stands old heading h
+    → broken heading Patterns h e ≡ None → new.header ≡ old.header → pes_of new.roots ≡ pes_of old.roots
+    → world_of new.roots ≡ world_of old.roots → lower.Stands new.roots (calls_of heading (e ∷ h))
+    → ((lock : ℕ) → holder_at new.locks lock ≡ holder_of (e ∷ h) lock) → Stands new heading (e ∷ h)
+stood {heading = heading} {h = h} new e s none header pes world roots locks = record {
+  heading_is = header ∙ s.heading_is;
+  proper = s.proper;
+  kept = kept_next heading h e s.kept none;
+  pes = pes ∙ s.pes;
+  world = world ∙ s.world;
+  roots = roots;
+  locks = locks;
+}
+
+-- the same history after a change of room alone
+pub stays : {old : RootState} {heading : Heading} {h : List Event} (new : RootState) → Stands old heading h
+    → new.header ≡ old.header → pes_of new.roots ≡ pes_of old.roots → world_of new.roots ≡ world_of old.roots
+    → lower.Stands new.roots (calls_of heading h) → ((lock : ℕ) → holder_at new.locks lock ≡ holder_at old.locks lock) → Stands new heading h
+stays new s header pes world roots locks = record {
+  heading_is = header ∙ s.heading_is;
+  proper = s.proper;
+  kept = s.kept;
+  pes = pes ∙ s.pes;
+  world = world ∙ s.world;
+  roots = roots;
+  locks = λ lock. locks lock ∙ s.locks lock;
+}
+
+pub agrees_by : {state : RootState} {heading : Heading} {h : List Event} → Laws heading → Stands state heading h → Agrees heading h
+agrees_by {heading = heading} {h = h} laws s = agrees heading laws (laws.proper s.proper) h s.kept
+
+-- a PE of one history's header is one of each header's
+pub in_range : {state : RootState} {heading other : Heading} {h g : List Event} {p : ℕ} → Stands state other g → Stands state heading h
+    → p < other.pes → p < heading.pes
+in_range s t less = let a = s.pes in let b = t.pes in omega arith
+
+pub of_state : {state : RootState} {heading : Heading} {h : List Event} {p : ℕ} → Stands state heading h → p < heading.pes → p < pes_of state.roots
+of_state s less = let a = s.pes in omega arith
+
+-- the events of other kinds
+pub others : (state : RootState) (heading : Heading) (h : List Event) (e : Event) → Stands state heading h → concerns_roots e ≡ false
+    → broken heading Patterns h e ≡ None → Stands state heading (e ∷ h)
+others state heading h (Init pe page) s none kept = stood state (Init pe page) s kept refl refl refl s.roots s.locks
+others state heading h (Null pe page) s none kept = stood state (Null pe page) s kept refl refl refl s.roots s.locks
+others state heading h (Write pe place value) s none kept = stood state (Write pe place value) s kept refl refl refl s.roots s.locks
+others state heading h (Dmb pe dsb) s none kept = stood state (Dmb pe dsb) s kept refl refl refl s.roots s.locks
+others state heading h e s none kept = absurd (true≢false none)
+
+pub state_header : {state : RootState} {heading : Heading} {h : List Event} → Stands state heading h → state.header ≡ heading
+state_header s = s.heading_is
+
+-- ---- locks
+
+lock_is : (heading : Heading) (h : List Event) (pe lock : ℕ) → Laws heading → (o : Option ℕ) → holder_of h lock ≡ o
+    → broken heading Patterns h (Lock pe lock) ≡ or_rule LockBusy o None
+lock_is heading h pe lock laws o e =
+    broken_lock heading h pe lock
+    ∙ (ap (λ (es : List Event). or_rule LockBusy (holder_of es lock) None) (laws.events_noted h)
+    ∙ ap (λ (x : Option ℕ). or_rule LockBusy x None) e)
+
+pub lock_free : (heading : Heading) (h : List Event) (pe lock : ℕ) → Laws heading → ((q : ℕ) → holder_of h lock ≡ Some q → ⊥)
+    → broken heading Patterns h (Lock pe lock) ≡ None
+lock_free heading h pe lock laws free = by (holder_of h lock) refl
+  where
+    by : (o : Option ℕ) → holder_of h lock ≡ o → broken heading Patterns h (Lock pe lock) ≡ None
+    by None e = lock_is heading h pe lock laws None e
+    by (Some q) e = absurd (free q e)
+
+pub lock_held : (heading : Heading) (h : List Event) (pe lock q : ℕ) → Laws heading → holder_of h lock ≡ Some q
+    → broken heading Patterns h (Lock pe lock) ≡ Some (record { rule = LockBusy; at = q })
+lock_held heading h pe lock q laws e = lock_is heading h pe lock laws (Some q) e
+
+unlock_is : (heading : Heading) (h : List Event) (pe lock : ℕ) → Laws heading → (b : Bool) → is_that (holder_of h lock) pe ≡ b
+    → broken heading Patterns h (Unlock pe lock) ≡ or_rule LockNotMine (if_so (not b) lock) None
+unlock_is heading h pe lock laws b e =
+    broken_unlock heading h pe lock
+    ∙ (ap (λ (es : List Event). or_rule LockNotMine (if_so (not (is_that (holder_of es lock) pe)) lock) None) (laws.events_noted h)
+    ∙ ap (λ (x : Bool). or_rule LockNotMine (if_so (not x) lock) None) e)
+
+pub is_mine : (o : Option ℕ) (pe : ℕ) → o ≡ Some pe → is_that o pe ≡ true
+is_mine o pe e = ap (λ (x : Option ℕ). is_that x pe) e ∙ eq-eqb pe pe refl
+
+pub unlock_mine : (heading : Heading) (h : List Event) (pe lock : ℕ) → Laws heading → holder_of h lock ≡ Some pe
+    → broken heading Patterns h (Unlock pe lock) ≡ None
+unlock_mine heading h pe lock laws e = unlock_is heading h pe lock laws true (is_mine (holder_of h lock) pe e)
+
+not_mine : (o : Option ℕ) (pe : ℕ) → (o ≡ Some pe → ⊥) → is_that o pe ≡ false
+not_mine None pe other = refl
+not_mine (Some q) pe other = ne_eqb q pe (λ e. other (ap (λ (x : ℕ). Some x) e))
+
+pub unlock_other : (heading : Heading) (h : List Event) (pe lock : ℕ) → Laws heading → (holder_of h lock ≡ Some pe → ⊥)
+    → broken heading Patterns h (Unlock pe lock) ≡ Some (record { rule = LockNotMine; at = lock })
+unlock_other heading h pe lock laws other = unlock_is heading h pe lock laws false (not_mine (holder_of h lock) pe other)
+
+pub given_back : (h : List Event) (pe lock l : ℕ) (o : Option ℕ) → holder_of h lock ≡ Some pe → o ≡ holder_of h l
+    → cond (lock == l) None o ≡ holder_of (Unlock pe lock ∷ h) l
+given_back h pe lock l o mine is = ap (λ (x : Option ℕ). cond (lock == l) None x) is ∙ by (lock == l) refl
+  where
+    by : (b : Bool) → (lock == l) ≡ b → cond b None (holder_of h l) ≡ cond (b && is_that (holder_of h l) pe) None (holder_of h l)
+    by false e = refl
+    by true e =
+        ap (λ (x : Bool). cond x None (holder_of h l))
+        (sym (is_mine (holder_of h l) pe (ap (λ (n : ℕ). holder_of h n) (sym (eqb-true lock l e)) ∙ mine)))
+
+-- ---- a new root
+
+pub free_page : {state : RootState} {heading : Heading} {h : List Event} (pe page : ℕ) (kind : Kind) (lock : Option ℕ) → Laws heading
+    → Stands state heading h → broken heading Patterns h (Root pe kind lock page) ≡ None → root_at h page ≡ None
+free_page {heading = heading} {h = h} pe page kind lock laws s none = by (root_at h page) refl
+  where
+    by : (o : Option Declared) → root_at h page ≡ o → o ≡ None
+    by None e = refl
+    by (Some r) e =
+        let d = laws.root_of_page h page r e in
+        let there : is_root h r.kind page ≡ true = ap (is_root h r.kind) (sym d.1) ∙ laws.is_root_of_kind h r d.0 in
+        let apart : is_root h r.kind page ≡ false = laws.new_root h pe page kind r.kind lock (laws.proper s.proper)
+        (kept_next heading h (Root pe kind lock page) s.kept none) in
+        absurd (true≢false (sym there ∙ apart))
+
+pub undeclared : {state : RootState} {heading : Heading} {h : List Event} (page : ℕ) → Stands state heading h → root_at h page ≡ None
+    → (calls : List Call) → lower.Stands state.roots calls → called.root_at calls page ≡ None
+undeclared {heading = heading} {h = h} page s none calls stands =
+    sym (stands.declared page) ∙ (s.roots.declared page ∙ (root_same heading h page
+    ∙ ap (λ (o : Option Declared). option_map as_root o) none))
+
+-- ---- TLBIs
+
+pub tlbi_is : (heading : Heading) (h : List Event) (pe : ℕ) (op : TlbiOp) (xt : ℕ) → Laws heading → (w l : Bool) (d : Result Scope BadOperandOf)
+    → of_world heading.world op ≡ w → lacks_vmid heading h pe op ≡ l → scope_of op xt ≡ d
+    → broken heading Patterns h (Tlbi pe op xt)
+    ≡ or_rule WrongWorld (if_so (not w) 0) (or_rule UnsyncedVmid (if_so l pe) (or_rule BadOperand (if_so (is_none (result_ok d)) xt) None))
+tlbi_is heading h pe op xt laws w l d world lacks scope =
+    broken_tlbi heading h pe op xt
+    ∙ (ap (λ (es : List Event). or_rule WrongWorld (if_so (not (of_world heading.world op)) 0)
+    (or_rule UnsyncedVmid (if_so (lacks_vmid heading es pe op) pe) (or_rule BadOperand (if_so (is_none (result_ok (scope_of op xt))) xt) None))) (laws.events_noted h)
+    ∙ (ap (λ (b : Bool). or_rule WrongWorld (if_so (not b) 0)
+    (or_rule UnsyncedVmid (if_so (lacks_vmid heading h pe op) pe) (or_rule BadOperand (if_so (is_none (result_ok (scope_of op xt))) xt) None))) world
+    ∙ (ap (λ (b : Bool). or_rule WrongWorld (if_so (not w) 0)
+    (or_rule UnsyncedVmid (if_so b pe) (or_rule BadOperand (if_so (is_none (result_ok (scope_of op xt))) xt) None))) lacks
+    ∙ ap (λ (r : Result Scope BadOperandOf). or_rule WrongWorld (if_so (not w) 0)
+    (or_rule UnsyncedVmid (if_so l pe) (or_rule BadOperand (if_so (is_none (result_ok r)) xt) None))) scope)))
+
+-- a TLBI of another world
+pub tlbi_elsewhere : (heading : Heading) (h : List Event) (pe : ℕ) (op : TlbiOp) (xt : ℕ) → Laws heading
+    → of_world heading.world op ≡ false → broken heading Patterns h (Tlbi pe op xt) ≡ Some (record { rule = WrongWorld; at = 0 })
+tlbi_elsewhere heading h pe op xt laws world =
+    tlbi_is heading h pe op xt laws false (lacks_vmid heading h pe op) (scope_of op xt) world refl refl
+
+-- ---- limits
+
+pub full : (h : List Event) (n : ℕ) → n ≡ length (roots_of h)
+    → (if_so (nat_le 1024 (length (roots_of h))) Roots' ≡ Some Roots') ↔ (1024 ≤ n)
+full h n e = (λ k. up (nat_le 1024 (length (roots_of h))) refl k, λ k. ap (λ (b : Bool). if_so b Roots') (le-leb 1024 (length (roots_of h)) (omega arith)))
+  where
+    up : (b : Bool) → nat_le 1024 (length (roots_of h)) ≡ b → if_so b Roots' ≡ Some Roots' → 1024 ≤ n
+    up true k l = let m = leb-true 1024 (length (roots_of h)) k in omega arith
+    up false k l = let never : None ≡ Some Roots' = l in cc
+
+pub room_up : (fault : RootFault) → room_fault fault ≡ Limit Roots' → fault ≡ roots.Limit Roots'
+room_up (roots.Limit which) e =
+    let same : which ≡ Roots' = cc in ap (λ (w : Which). roots.Limit w) same
+room_up roots.NoMemory e = cc
+room_up (roots.NoRoot base) e = cc
+room_up (roots.TagConflict tag page) e = cc
+room_up (roots.RootInUse use_of) e = cc
+
+-- ---- the world of a state's header
+
+pub world_by : {state : RootState} {heading : Heading} {h : List Event} (s : Stands state heading h) (world : World) (op : TlbiOp) (b : Bool)
+    → state.header.world ≡ world → of_world world op ≡ b → of_world heading.world op ≡ b
+world_by s world op b e k = ap (λ (g : Heading). of_world g.world op) (sym s.heading_is) ∙ (ap (λ (w : World). of_world w op) e ∙ k)

@@ -1,0 +1,383 @@
+-- Whether a register write may be taken, by the history and by its calls.
+use Rattle.std.proofs.Common.{◌≡◌, ℕ, zero, suc, ◌<◌, ◌≤◌, Bool, true, false, not, ◌&&◌, ◌||◌, ◌==◌, cond, nat_le, List, [], ◌∷◌, map, length, min, Option, Some, None, Result, Ok, Err, refl, sym, ap, ◌∙◌, subst, true≢false, inl, inr, arith}
+use Rattle.std.specs.List.{filter, flat_map, list_any}
+use Rattle.std.specs.Option.{option_and_then, option_map_or, unwrap_or}
+use Rattle.std.proofs.lemmas.Bool.{and_from, and_parts, eqb-true, eq-eqb, le-leb, lt-leb, or_cases}
+use Rattle.bbm_regimes.specs.declared.regime.Which.{Which}
+use Rattle.bbm_regimes.specs.declared.regime.Which.TheVariants.{Values as ValuesLimit}
+use Rattle.bbm_rules.specs.Prelude.{Kind, Reg, Ttbr0El2, VttbrEl2, Ttbr0El1, Ttbr1El1, Tag, El2Tag, Vmid, Asid, Ttbr1Tag, World, Hyp, Kernel, Heading, Event, Msr}
+use Rattle.bbm_rules.specs.Answers.{Answers}
+use Rattle.bbm_rules.specs.Broken.{broken, keeps}
+use Rattle.bbm_rules.specs.Claims.{Patterns, same_tag}
+use Rattle.bbm_rules.specs.Covers.{noted}
+use Rattle.bbm_rules.specs.Lists.{among, if_so, least, some_pe}
+use Rattle.bbm_rules.specs.Notes.{Noted}
+use Rattle.bbm_rules.specs.Pages.{is_null}
+use Rattle.bbm_rules.specs.Registers.{base_of, kind_of_reg, same_reg}
+use Rattle.bbm_rules.specs.Registers as rules
+use Rattle.bbm_rules.specs.Roots.{Declared, is_at, is_root, kind_in_world, roots_of, same_kind}
+use Rattle.bbm_rules.specs.Rules.{no_root, tag_conflict, wrong_world}
+use Rattle.bbm_rules.specs.TagSentences.{ReadsTag}
+use Rattle.bbm_rules.specs.Tags.{Reading, holds_at, holds_tag, loses, readings, reads}
+use Rattle.bbm_rules.specs.declared.rule.Rule.TheVariants.{NoRoot, TagConflict, WrongWorld}
+use Rattle.bbm_roots.specs.Calls.{WriteReg}
+use Rattle.bbm_roots.specs.Least.{IsLeast, ReadingUpTo}
+use Rattle.bbm_roots.specs.Readings.{has_other}
+use Rattle.bbm_roots.specs.Refusals.{JudgesWrite, conflicts, missing_root, unless_root}
+use Rattle.bbm_roots.specs.Registers.{is_of_world, names_null, register_values}
+use Rattle.bbm_roots.specs.Stands.{pes_of, world_of}
+use Rattle.bbm_roots.specs.Tags as held
+use Rattle.bbm_replay_roots.specs.Stands.{Stands}
+use Rattle.bbm_replay_roots.specs.declared.state.RootState.{RootState}
+use Rattle.bbm_roots.specs.declared.fault.RootFault.{RootFault}
+use Rattle.bbm_roots.specs.declared.fault.RootFault.TheVariants as faults
+use Rattle.bbm_roots.specs.declared.load.Load.{Load}
+use Rattle.bbm_roots.specs.declared.reading.Reading.{Reading as CallReading}
+use Rattle.bbm_histories.specs.Tree.{Proper}
+use Rattle.bbm_histories.specs.Tags.{kind_of_tag}
+use Rattle.bbm_replay_roots.specs.Bridge.{calls_of, has_null_base}
+use Rattle.bbm_replay_roots.specs.Faults.{write_fault}
+use Rattle.bbm_replay_roots.specs.Laws.{Laws}
+use Rattle.bbm_replay_roots.proofs.Judge.{broken_msr, or_rule}
+use Rattle.bbm_replay_roots.proofs.RootMaps.{is_root_same}
+use Rattle.bbm_replay_roots.proofs.TagMaps.{Agrees, agrees_next, tag_same}
+use Rattle.bbm_replay_roots.proofs.Unroots.{any_append, or_left, or_right, pe_finds}
+use Rattle.bbm_replay_roots.proofs.ValueMaps.{any_map, load_in, null_test, readings_same, swap, values_written}
+
+-- ---- the least number of a list
+
+least_none : (ns : List ℕ) → ((n : ℕ) → among n ns ≡ true → ⊥) → least ns ≡ None
+least_none [] k = refl
+least_none (n ∷ ns) k = absurd (k n (or_left (n == n) (among n ns) (eq-eqb n n refl)))
+
+least_some : (ns : List ℕ) (n : ℕ) → among n ns ≡ true → ((m : ℕ) → among m ns ≡ true → n ≤ m) → least ns ≡ Some n
+least_some [] n e k = absurd (true≢false (sym e))
+least_some (m ∷ ns) n e k =
+    let first : n ≤ m = k m (or_left (m == m) (among m ns) (eq-eqb m m refl)) in
+    ap (λ (x : ℕ). Some x) (elim (or_cases (m == n) (among n ns) e) [
+      | inl here ↦ let same : m ≡ n = eqb-true m n here in by_first m n same (least ns) (rest_least ns n (λ x f. k x (or_right (m == x) (among x ns) f)))
+      | inr there ↦
+          ap (λ (o : Option ℕ). min m (unwrap_or o m)) (least_some ns n there (λ x f. k x (or_right (m == x) (among x ns) f)))
+          ∙ (let same : min m n ≡ n = omega arith in same)
+    ])
+  where
+    AtLeast : ℕ → Option ℕ → Type 0
+    AtLeast n o = (x : ℕ) → o ≡ Some x → n ≤ x
+
+    rest_least : (ns : List ℕ) (n : ℕ) → ((x : ℕ) → among x ns ≡ true → n ≤ x) → (x : ℕ) → least ns ≡ Some x → n ≤ x
+    rest_least [] n k x e = let never : None ≡ Some x = e in cc
+    rest_least (y ∷ ys) n k x e =
+        let a : n ≤ y = k y (or_left (y == y) (among y ys) (eq-eqb y y refl)) in
+        let is : min y (unwrap_or (least ys) y) ≡ x = cc in
+        by (least ys) refl is a (rest_least ys n (λ z f. k z (or_right (y == z) (among z ys) f)))
+      where
+        by : (o : Option ℕ) → least ys ≡ o → min y (unwrap_or (least ys) y) ≡ x → n ≤ y → ((z : ℕ) → least ys ≡ Some z → n ≤ z) → n ≤ x
+        by None f is a rest = let g : min y y ≡ x = ap (λ (o : Option ℕ). min y (unwrap_or o y)) (sym f) ∙ is in omega arith
+        by (Some z) f is a rest =
+            let b : n ≤ z = rest z f in
+            let g : min y z ≡ x = ap (λ (o : Option ℕ). min y (unwrap_or o y)) (sym f) ∙ is in omega arith
+
+    by_first : (m n : ℕ) → m ≡ n → (o : Option ℕ) → ((x : ℕ) → o ≡ Some x → n ≤ x) → min m (unwrap_or o m) ≡ n
+    by_first m n same None k = omega arith
+    by_first m n same (Some x) k = let b : n ≤ x = k x refl in omega arith
+
+-- ---- the pages of the roots that pass a test
+
+abbrev pages_with : (Declared → Bool) → List Declared → List ℕ
+pages_with test rs = map (λ r. r.page) (filter test rs)
+
+one_found : (test : Declared → Bool) (rs : List Declared) (m : ℕ) → among m (pages_with test rs) ≡ true
+    → (s : Declared) × (s.page ≡ m) × (test s ≡ true)
+one_found test [] m e = absurd (true≢false (sym e))
+one_found test (r ∷ rs) m e = by (test r) refl e (λ k. one_found test rs m k)
+  where
+    by : (b : Bool) → test r ≡ b → among m (map (λ (x : Declared). x.page) (cond b (r ∷ filter test rs) (filter test rs))) ≡ true
+        → (among m (pages_with test rs) ≡ true → (s : Declared) × (s.page ≡ m) × (test s ≡ true))
+        → (s : Declared) × (s.page ≡ m) × (test s ≡ true)
+    by false is e rest = rest e
+    by true is e rest =
+        elim (or_cases (r.page == m) (among m (pages_with test rs)) e) [
+          | inl here ↦ (r, eqb-true r.page m here, is)
+          | inr there ↦ rest there
+        ]
+
+one_finds : (test : Declared → Bool) (n : ℕ) → ((s : Declared) → s.page ≡ n → test s ≡ true) → (rs : List Declared) → list_any (is_at n) rs ≡ true
+    → among n (pages_with test rs) ≡ true
+one_finds test n k [] e = e
+one_finds test n k (r ∷ rs) e =
+    elim (or_cases (r.page == n) (list_any (is_at n) rs) e) [
+      | inl here ↦ ap (λ (b : Bool). among n (map (λ (x : Declared). x.page) (cond b (r ∷ filter test rs) (filter test rs)))) (k r (eqb-true r.page n here))
+          ∙ or_left (r.page == n) (among n (pages_with test rs)) here
+      | inr there ↦ by (test r) (one_finds test n k rs there)
+    ]
+  where
+    by : (b : Bool) → among n (pages_with test rs) ≡ true
+        → among n (map (λ (x : Declared). x.page) (cond b (r ∷ filter test rs) (filter test rs))) ≡ true
+    by true f = or_right (r.page == n) (among n (pages_with test rs)) f
+    by false f = f
+
+-- ---- the roots that hold a tag which is readable for another
+
+abbrev test_of : (ℕ → Tag → Bool) → Reading → Declared → Bool
+test_of holds r s = not (s.page == r.root) && holds s.page r.tag
+
+abbrev clash_in : List Reading → ℕ → Tag → Bool
+clash_in rs n tag = list_any (λ r. same_tag r.tag tag && not (r.root == n)) rs
+
+clash_found : (own : (g : Tag) → same_tag g g ≡ true) (holds : ℕ → Tag → Bool) (roots : List Declared) (rs : List Reading) (m : ℕ)
+    → among m (flat_map (λ r. pages_with (test_of holds r) roots) rs) ≡ true
+    → (tag : Tag) × (clash_in rs m tag ≡ true) × (holds m tag ≡ true)
+clash_found own holds roots [] m e = absurd (true≢false (sym e))
+clash_found own holds roots (r ∷ rs) m e =
+    elim (or_cases (among m (pages_with (test_of holds r) roots)) (among m (flat_map (λ r. pages_with (test_of holds r) roots) rs))
+    (sym (any_append (λ x. x == m) (pages_with (test_of holds r) roots) (flat_map (λ r. pages_with (test_of holds r) roots) rs)) ∙ e)) [
+      | inl here ↦
+          let f = one_found (test_of holds r) roots m here in
+          let parts = and_parts (not (f.0.page == r.root)) (holds f.0.page r.tag) f.2 in (
+            r.tag,
+            or_left (same_tag r.tag r.tag && not (r.root == m)) (clash_in rs m r.tag)
+                (and_from (same_tag r.tag r.tag) (not (r.root == m)) (own r.tag)
+                (ap (λ (b : Bool). not b) (swap r.root m ∙ ap (λ (n : ℕ). n == r.root) (sym f.1)) ∙ parts.0)),
+            ap (λ (n : ℕ). holds n r.tag) (sym f.1) ∙ parts.1,
+          )
+      | inr there ↦ let f = clash_found own holds roots rs m there in
+          (f.0, or_right (same_tag r.tag f.0 && not (r.root == m)) (clash_in rs m f.0) f.1, f.2)
+    ]
+
+clash_finds : (same : (g k : Tag) → same_tag g k ≡ true → g ≡ k) (holds : ℕ → Tag → Bool) (roots : List Declared) (rs : List Reading) (n : ℕ) (tag : Tag)
+    → clash_in rs n tag ≡ true → holds n tag ≡ true → list_any (is_at n) roots ≡ true
+    → among n (flat_map (λ r. pages_with (test_of holds r) roots) rs) ≡ true
+clash_finds same holds roots [] n tag e k root = absurd (true≢false (sym e))
+clash_finds same holds roots (r ∷ rs) n tag e k root =
+    any_append (λ x. x == n) (pages_with (test_of holds r) roots) (flat_map (λ r. pages_with (test_of holds r) roots) rs)
+    ∙ elim (or_cases (same_tag r.tag tag && not (r.root == n)) (clash_in rs n tag) e) [
+      | inl here ↦
+          let parts = and_parts (same_tag r.tag tag) (not (r.root == n)) here in
+          or_left (among n (pages_with (test_of holds r) roots)) (among n (flat_map (λ r. pages_with (test_of holds r) roots) rs))
+          (one_finds (test_of holds r) n (λ s at. and_from (not (s.page == r.root)) (holds s.page r.tag)
+          (ap (λ (x : ℕ). not (x == r.root)) at ∙ (ap (λ (b : Bool). not b) (swap n r.root) ∙ parts.1))
+          (ap (λ (x : ℕ). holds x r.tag) at ∙ (ap (holds n) (same r.tag tag parts.0) ∙ k))) roots root)
+      | inr there ↦ or_right (among n (pages_with (test_of holds r) roots)) (among n (flat_map (λ r. pages_with (test_of holds r) roots) rs))
+          (clash_finds same holds roots rs n tag there k root)
+    ]
+
+-- ---- a declared root
+
+any_at : (kind : Kind) (n : ℕ) (rs : List Declared) → list_any (λ r. is_at n r && same_kind r.kind kind) rs ≡ true → list_any (is_at n) rs ≡ true
+any_at kind n [] e = e
+any_at kind n (r ∷ rs) e =
+    elim (or_cases (is_at n r && same_kind r.kind kind) (list_any (λ r. is_at n r && same_kind r.kind kind) rs) e) [
+      | inl here ↦ or_left (is_at n r) (list_any (is_at n) rs) (and_parts (is_at n r) (same_kind r.kind kind) here).0
+      | inr there ↦ or_right (is_at n r) (list_any (is_at n) rs) (any_at kind n rs there)
+    ]
+
+reads_root : (world : World) (h : List Event) (p root : ℕ) (tag : Tag) → ReadsTag world h p tag root → (kind : Kind) × (is_root h kind root ≡ true)
+reads_root (Hyp world) h p root El2Tag k = (_, k.1.declared)
+reads_root (Hyp world) h p root (Vmid vmid) k = (_, k.1.declared)
+reads_root (Kernel world) h p root (Asid asid) k = (_, k.2.declared)
+reads_root (Kernel world) h p root Ttbr1Tag k = (_, k.1.declared)
+reads_root world h p root tag k = absurd k
+
+pe_found : (n : ℕ) (test : ℕ → Bool) → some_pe n test ≡ true → (p : ℕ) × (p < n) × (test p ≡ true)
+pe_found zero test e = absurd (true≢false (sym e))
+pe_found (suc n) test e =
+    elim (or_cases (test n) (some_pe n test) e) [
+      | inl here ↦ (n, omega arith, here)
+      | inr there ↦ let k = pe_found n test there in let below = k.1 in (k.0, omega arith, k.2)
+    ]
+
+-- ---- the world
+
+pub reg_of_world : (world : World) (reg : Reg) → kind_in_world world (kind_of_reg reg) ≡ true → is_of_world world reg ≡ true
+reg_of_world (Hyp w) Ttbr0El2 k = refl
+reg_of_world (Hyp w) VttbrEl2 k = refl
+reg_of_world (Hyp w) Ttbr0El1 k = absurd (true≢false (sym k))
+reg_of_world (Hyp w) Ttbr1El1 k = absurd (true≢false (sym k))
+reg_of_world (Kernel w) Ttbr0El2 k = absurd (true≢false (sym k))
+reg_of_world (Kernel w) VttbrEl2 k = absurd (true≢false (sym k))
+reg_of_world (Kernel w) Ttbr0El1 k = refl
+reg_of_world (Kernel w) Ttbr1El1 k = refl
+
+pub right_world : (heading : Heading) (n : List Noted) (pe : ℕ) (reg : Reg) (value : ℕ) → wrong_world heading Patterns n (Msr pe reg value) ≡ None
+    → kind_in_world heading.world (kind_of_reg reg) ≡ true
+right_world heading n pe reg value e = by (kind_in_world heading.world (kind_of_reg reg)) _ e
+  where
+    by : (k a : Bool) → if_so {A = ℕ} (not k || a) 0 ≡ None → k ≡ true
+    by true a e = refl
+    by false a e = cc
+
+-- ---- the write
+
+abbrev pub Judged : (heading : Heading) (h : List Event) (pe : ℕ) (reg : Reg) (value : ℕ) → Result (Unit {0}) RootFault → Type 0
+Judged heading h pe reg value r =
+    JudgesWrite (missing_root (calls_of heading h) reg value (has_null_base h value))
+    (conflicts heading.world heading.pes (calls_of heading (Msr pe reg value ∷ h)) pe)
+    (length (register_values (calls_of heading h) pe reg)) r
+
+module _ (heading : Heading) (laws : Laws heading) (proper : Proper heading) (h : List Event) (kept : keeps heading Patterns h ≡ true)
+    (agree : Agrees heading h) (pe : ℕ) (reg : Reg) (value : ℕ) (known : pe < heading.pes) where
+  abbrev notes : List Noted
+  notes = noted heading Patterns h
+
+  missing_same : missing_root (calls_of heading h) reg value (has_null_base h value) ≡ no_root heading Patterns notes (Msr pe reg value)
+  missing_same = by (base_of value)
+      ∙ ap (λ (es : List Event). option_and_then (λ b. if_so (not (is_root es (kind_of_reg reg) b || (same_reg reg Ttbr0El1 && is_null es b))) b) (base_of value))
+      (sym (laws.events_noted h))
+    where
+      by : (base : Option ℕ)
+          → unless_root (calls_of heading h) (kind_of_reg reg) (cond (names_null reg (option_map_or (λ b. is_null h b) base false)) None base)
+          ≡ option_and_then (λ b. if_so (not (is_root h (kind_of_reg reg) b || (same_reg reg Ttbr0El1 && is_null h b))) b) base
+      by None = none (names_null reg false)
+        where
+          none : (x : Bool) → unless_root (calls_of heading h) (kind_of_reg reg) (cond x None None) ≡ None
+          none true = refl
+          none false = refl
+      by (Some b) =
+          ap (λ (x : Bool). unless_root (calls_of heading h) (kind_of_reg reg) (cond x None (Some b))) (null_test reg (is_null h b))
+          ∙ one (same_reg reg Ttbr0El1 && is_null h b)
+        where
+          one : (x : Bool) → unless_root (calls_of heading h) (kind_of_reg reg) (cond x None (Some b))
+              ≡ if_so (not (is_root h (kind_of_reg reg) b || x)) b
+          one true = two (is_root h (kind_of_reg reg) b)
+            where
+              two : (r : Bool) → None ≡ if_so (not (r || true)) b
+              two true = refl
+              two false = refl
+          one false = ap (λ (r : Bool). cond r None (Some b)) (is_root_same heading laws h (kind_of_reg reg) b) ∙ two (is_root h (kind_of_reg reg) b)
+            where
+              two : (r : Bool) → cond r None (Some b) ≡ if_so (not (r || false)) b
+              two true = refl
+              two false = refl
+
+  abbrev after : List Event
+  after = Msr pe reg value ∷ h
+
+  abbrev holds_after : ℕ → Tag → Bool
+  holds_after n tag = holds_tag heading Patterns n tag after
+
+  module _ (rule : no_root heading Patterns notes (Msr pe reg value) ≡ None) where
+    agree_after : Agrees heading after
+    agree_after = agrees_next heading laws h agree (Msr pe reg value)
+        (values_written heading h pe reg value laws (laws.null h proper kept) rule agree.values)
+
+    conflict_same : (x : CallReading) → conflicts heading.world heading.pes (calls_of heading after) pe x
+        ≡ (clash_in (readings heading after pe) x.root x.tag && holds_after x.root x.tag)
+    conflict_same x =
+        ap (λ (rs : List CallReading). has_other x.tag x.root rs && held.holds_tag heading.world heading.pes (calls_of heading after) x.tag x.root) (readings_same heading after agree_after.values pe known)
+        ∙ (ap (λ (b : Bool). b && held.holds_tag heading.world heading.pes (calls_of heading after) x.tag x.root) (any_map (λ r. same_tag r.tag x.tag && not (r.root == x.root)) (readings heading after pe))
+        ∙ ap (λ (b : Bool). clash_in (readings heading after pe) x.root x.tag && b) (tag_same heading after agree_after x.tag x.root))
+
+    held_root : (n : ℕ) (tag : Tag) → holds_after n tag ≡ true → list_any (is_at n) (roots_of after) ≡ true
+    held_root n tag e =
+        let f = pe_found heading.pes (λ p. holds_at heading Patterns p n tag after) e in
+        elim (or_cases (reads heading after f.0 tag n) _ f.2) [
+          | inl read ↦ let r = reads_root heading.world after f.0 n tag (laws.reads_sound after f.0 tag n read) in any_at r.0 n (roots_of after) r.1
+          | inr before ↦
+              any_at (kind_of_tag tag) n (roots_of h) (laws.holder h proper kept n tag
+              (pe_finds heading.pes (λ p. holds_at heading Patterns p n tag h) f.0 f.1
+              (and_parts (holds_at heading Patterns f.0 n tag h) (not (loses heading Patterns f.0 tag (Msr pe reg value) h)) before).0))
+        ]
+
+    abbrev clashing : List ℕ
+    clashing = flat_map (λ r. pages_with (test_of holds_after r) (roots_of after)) (readings heading after pe)
+
+    conflict_is : tag_conflict heading Patterns notes (Msr pe reg value) ≡ least clashing
+    conflict_is = ap (λ (es : List Event). least (flat_map (λ r. pages_with (test_of (λ n tag. holds_tag heading Patterns n tag (Msr pe reg value ∷ es)) r)
+        (roots_of (Msr pe reg value ∷ es))) (readings heading (Msr pe reg value ∷ es) pe))) (laws.events_noted h)
+
+    found : (m : ℕ) → among m clashing ≡ true
+        → (tag : Tag) × (conflicts heading.world heading.pes (calls_of heading after) pe (record { tag = tag; root = m }) ≡ true)
+    found m e =
+        let f = clash_found (λ g. (laws.tag_equal g g).1 refl) holds_after (roots_of after) (readings heading after pe) m e in
+        (f.0, conflict_same (record { tag = f.0; root = m }) ∙ and_from (clash_in (readings heading after pe) m f.0) (holds_after m f.0) f.1 f.2)
+
+    no_conflict : IsLeast ReadingUpTo (conflicts heading.world heading.pes (calls_of heading after) pe) None
+        → tag_conflict heading Patterns notes (Msr pe reg value) ≡ None
+    no_conflict none = conflict_is ∙ least_none clashing (λ m e. let f = found m e in true≢false (sym f.1 ∙ none (record { tag = f.0; root = m })))
+
+    one_conflict : (tag : Tag) (n : ℕ)
+        → IsLeast ReadingUpTo (conflicts heading.world heading.pes (calls_of heading after) pe) (Some (record { tag = tag; root = n }))
+        → tag_conflict heading Patterns notes (Msr pe reg value) ≡ Some n
+    one_conflict tag n k =
+        let both = and_parts (clash_in (readings heading after pe) n tag) (holds_after n tag)
+        (sym (conflict_same (record { tag = tag; root = n })) ∙ k.0) in
+        conflict_is ∙ least_some clashing n
+        (clash_finds (λ g l. (laws.tag_equal g l).0) holds_after (roots_of after) (readings heading after pe) n tag both.0 both.1
+        (held_root n tag both.1))
+        (λ m e. let f = found m e in (k.1 (record { tag = f.0; root = m }) f.1).0)
+
+  count : length (register_values (calls_of heading h) pe reg) ≡ length (rules.register_values h pe reg)
+  count = ap (λ (xs : List Load). length xs) (agree.values pe reg known) ∙ length_map (rules.register_values h pe reg)
+    where
+      length_map : (vs : List ℕ) → length (map (load_in h reg) vs) ≡ length vs
+      length_map [] = refl
+      length_map (v ∷ vs) = ap (λ (n : ℕ). suc n) (length_map vs)
+
+  abbrev at_limit : Option Which
+  at_limit = if_so (nat_le 9 (length (rules.register_values h pe reg))) ValuesLimit
+
+  below_limit : length (register_values (calls_of heading h) pe reg) < 9 → at_limit ≡ None
+  below_limit less = ap (λ (b : Bool). if_so b ValuesLimit) (lt-leb 9 (length (rules.register_values h pe reg)) (let c = count in omega arith))
+
+  reached_limit : 9 ≤ length (register_values (calls_of heading h) pe reg) → at_limit ≡ Some ValuesLimit
+  reached_limit le = ap (λ (b : Bool). if_so b ValuesLimit) (le-leb 9 (length (rules.register_values h pe reg)) (let c = count in omega arith))
+
+  broken_is : (o p : Option ℕ) → wrong_world heading Patterns notes (Msr pe reg value) ≡ None → no_root heading Patterns notes (Msr pe reg value) ≡ o
+      → tag_conflict heading Patterns notes (Msr pe reg value) ≡ p
+      → broken heading Patterns h (Msr pe reg value) ≡ or_rule NoRoot o (or_rule TagConflict p None)
+  broken_is o p w e f =
+      broken_msr heading h pe reg value
+      ∙ (ap (λ (x : Option ℕ). or_rule WrongWorld x (or_rule NoRoot (no_root heading Patterns notes (Msr pe reg value))
+      (or_rule TagConflict (tag_conflict heading Patterns notes (Msr pe reg value)) None))) w
+      ∙ (ap (λ (x : Option ℕ). or_rule NoRoot x (or_rule TagConflict (tag_conflict heading Patterns notes (Msr pe reg value)) None)) e
+      ∙ ap (λ (x : Option ℕ). or_rule NoRoot o (or_rule TagConflict x None)) f))
+
+  module _ (world : wrong_world heading Patterns notes (Msr pe reg value) ≡ None) where
+    pub write_ok : (done : Unit {0}) → Judged heading h pe reg value (Ok done) → (broken heading Patterns h (Msr pe reg value) ≡ None) × (at_limit ≡ None)
+    write_ok done k =
+        let rule = sym missing_same ∙ k.0 in
+        (broken_is None None world rule (no_conflict rule k.1), below_limit k.2)
+
+    pub write_err : (fault : RootFault) → Judged heading h pe reg value (Err fault)
+        → Answers (Err (write_fault fault)) (broken heading Patterns h (Msr pe reg value)) at_limit
+    write_err (faults.NoRoot base) k = broken_is (Some base) _ world (sym missing_same ∙ k) refl
+    write_err (faults.TagConflict tag page) k =
+        let rule = sym missing_same ∙ k.0 in broken_is None (Some page) world rule (one_conflict rule tag page k.1)
+    write_err (faults.Limit ValuesLimit) k =
+        let rule = sym missing_same ∙ k.0 in
+        (broken_is None None world rule (no_conflict rule k.1), reached_limit k.2)
+    write_err (faults.Limit which) k = absurd k
+    write_err faults.NoMemory k = tt
+    write_err (faults.RootInUse use_of) k = absurd k
+
+-- ---- by a state that stands for the history
+
+pub write_by : {state : RootState} {heading : Heading} {h : List Event} → Stands state heading h → (pe : ℕ) (reg : Reg) (value : ℕ) (null : Bool)
+    → null ≡ has_null_base h value → (result : Result (Unit {0}) RootFault)
+    → JudgesWrite (missing_root (calls_of heading h) reg value null)
+    (conflicts (world_of state.roots) (pes_of state.roots) (WriteReg pe reg value null ∷ calls_of heading h) pe)
+    (length (register_values (calls_of heading h) pe reg)) result
+    → Judged heading h pe reg value result
+write_by {state = state} {heading = heading} {h = h} s pe reg value null e result judged =
+    subst (λ (b : Bool). JudgesWrite (missing_root (calls_of heading h) reg value b)
+    (conflicts heading.world heading.pes (WriteReg pe reg value b ∷ calls_of heading h) pe)
+    (length (register_values (calls_of heading h) pe reg)) result) e
+    (subst (λ (n : ℕ). JudgesWrite (missing_root (calls_of heading h) reg value null)
+    (conflicts heading.world n (WriteReg pe reg value null ∷ calls_of heading h) pe)
+    (length (register_values (calls_of heading h) pe reg)) result) s.pes
+    (subst (λ (w : World). JudgesWrite (missing_root (calls_of heading h) reg value null)
+    (conflicts w (pes_of state.roots) (WriteReg pe reg value null ∷ calls_of heading h) pe)
+    (length (register_values (calls_of heading h) pe reg)) result) s.world judged))
+
+pub msr_elsewhere : {state : RootState} {heading : Heading} {h : List Event} → Stands state heading h → (pe : ℕ) (reg : Reg) (value at : ℕ)
+    → Some at ≡ wrong_world state.header Patterns (noted heading Patterns h) (Msr pe reg value)
+    → broken heading Patterns h (Msr pe reg value) ≡ Some (record { rule = WrongWorld; at = at })
+msr_elsewhere {heading = heading} {h = h} s pe reg value at e =
+    broken_msr heading h pe reg value
+    ∙ ap (λ (o : Option ℕ). or_rule WrongWorld o (or_rule NoRoot (no_root heading Patterns (noted heading Patterns h) (Msr pe reg value))
+    (or_rule TagConflict (tag_conflict heading Patterns (noted heading Patterns h) (Msr pe reg value)) None)))
+    (ap (λ (g : Heading). wrong_world g Patterns (noted heading Patterns h) (Msr pe reg value)) (sym s.heading_is) ∙ sym e)
+
+pub world_here : {state : RootState} {heading : Heading} {h : List Event} → Stands state heading h → (n : List Noted) (pe : ℕ) (reg : Reg) (value : ℕ)
+    → None ≡ wrong_world state.header Patterns n (Msr pe reg value) → wrong_world heading Patterns n (Msr pe reg value) ≡ None
+world_here s n pe reg value e = ap (λ (g : Heading). wrong_world g Patterns n (Msr pe reg value)) (sym s.heading_is) ∙ sym e

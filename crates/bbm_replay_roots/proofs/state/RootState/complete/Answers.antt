@@ -1,0 +1,13 @@
+use Rattle.std.proofs.Common.{refl}
+use Rattle.bbm_rules.specs.Prelude.{Dsb}
+use Rattle.bbm_replay_roots.specs.Bridge.{calls_of}
+use Rattle.bbm_replay_roots.proofs.Judge.{broken_dsb, of_state, stood}
+use Rattle.bbm_replay_roots.proofs.state.RootState.complete.Goals as goal
+
+pub complete-requires : goal.complete-requires
+complete-requires c = of_state c.requires.2 c.requires.3
+
+pub returns-clause-taken : goal.returns-clause-taken
+returns-clause-taken c heading h s =
+    stood _ (Dsb c.args.pe c.args.dsb) s (broken_dsb heading h c.args.pe c.args.dsb) refl c.complete.ensures.pes c.complete.ensures.world
+    (c.complete.ensures.taken (calls_of heading h) s.roots) s.locks

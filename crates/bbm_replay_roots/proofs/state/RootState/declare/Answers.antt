@@ -1,0 +1,19 @@
+use Rattle.std.proofs.Common.{refl}
+use Rattle.bbm_rules.specs.Prelude.{Root}
+use Rattle.bbm_replay_roots.specs.Bridge.{calls_of}
+use Rattle.bbm_replay_roots.proofs.Judge.{free_page, stays, stood, undeclared}
+use Rattle.bbm_replay_roots.proofs.state.RootState.declare.Goals as goal
+
+pub declare-requires : goal.declare-requires
+declare-requires c =
+    let m = c.requires.1 in
+    undeclared c.args.page m.2 (free_page c.requires.0 c.args.page c.args.kind c.args.lock (c.bridge.ensures m.0) m.2 m.4)
+
+pub returns-in-Ok-clause-taken : goal.returns-in-Ok-clause-taken
+returns-in-Ok-clause-taken c heading h pe s none =
+    stood _ (Root pe c.args.kind c.args.lock c.args.page) s none refl c.declare.ensures.pes c.declare.ensures.world
+    (c.in-Ok.ensures.taken (calls_of heading h) s.roots) s.locks
+
+pub returns-in-Err-clause-same : goal.returns-in-Err-clause-same
+returns-in-Err-clause-same c heading h s =
+    stays _ s refl c.declare.ensures.pes c.declare.ensures.world (c.in-Err.ensures.same (calls_of heading h) s.roots) (λ l. refl)

@@ -1,0 +1,13 @@
+use Rattle.std.proofs.Common.{refl}
+use Rattle.bbm_rules.specs.Prelude.{Isb}
+use Rattle.bbm_replay_roots.specs.Bridge.{calls_of}
+use Rattle.bbm_replay_roots.proofs.Judge.{broken_isb, of_state, stood}
+use Rattle.bbm_replay_roots.proofs.state.RootState.isb.Goals as goal
+
+pub isb-requires : goal.isb-requires
+isb-requires c = of_state c.requires.2 c.requires.3
+
+pub returns-clause-taken : goal.returns-clause-taken
+returns-clause-taken c heading h s =
+    stood _ (Isb c.args.pe) s (broken_isb heading h c.args.pe) refl c.isb.ensures.pes c.isb.ensures.world
+    (c.isb.ensures.taken (calls_of heading h) s.roots) s.locks

@@ -1,0 +1,24 @@
+use Rattle.std.proofs.Common.{ℕ, ◌==◌, cond, Option, Some, refl, sym, ap, ◌∙◌}
+use Rattle.bbm_rules.specs.Prelude.{Lock}
+use Rattle.bbm_rules.specs.declared.rule.Rule.TheVariants.{LockBusy}
+use Rattle.bbm_replay_roots.proofs.Judge.{lock_free, lock_held, stays, stood}
+use Rattle.bbm_replay_roots.proofs.state.RootState.lock.Goals as goal
+
+pub returns-in-Ok-clause-judged : goal.returns-in-Ok-clause-judged
+returns-in-Ok-clause-judged c heading h s =
+    lock_free heading h c.args.pe c.args.lock (c.bridge.ensures heading) (λ q e.
+    let k = (c.in-Ok.ensures.busy q).1 (s.locks c.args.lock ∙ e) in cc)
+
+pub returns-in-Ok-clause-taken : goal.returns-in-Ok-clause-taken
+returns-in-Ok-clause-taken c heading h s =
+    stood _ (Lock c.args.pe c.args.lock) s (returns-in-Ok-clause-judged c heading h s) refl refl refl s.roots
+    (λ l. c.in-Ok.ensures.taken l ∙ ap (λ (o : Option ℕ). cond (c.args.lock == l) (Some c.args.pe) o) (s.locks l))
+
+pub returns-in-Err-clause-judged : goal.returns-in-Err-clause-judged
+returns-in-Err-clause-judged c heading h s =
+    lock_held heading h c.args.pe c.args.lock c.in-Err.busy.0 (c.bridge.ensures heading)
+    (sym (s.locks c.args.lock) ∙ (c.in-Err.ensures.busy c.in-Err.busy.0).0 refl)
+    ∙ ap (λ (n : ℕ). Some (record { rule = LockBusy; at = n })) (sym c.get.ensures.value)
+
+pub returns-in-Err-clause-same : goal.returns-in-Err-clause-same
+returns-in-Err-clause-same c heading h s = stays _ s refl refl refl s.roots (c.in-Err.ensures.refused)

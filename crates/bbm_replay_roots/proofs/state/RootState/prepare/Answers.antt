@@ -1,0 +1,32 @@
+use Rattle.std.proofs.Common.{◌≡◌, Err, refl, sym, ap, ◌∙◌}
+use Rattle.bbm_replay_roots.specs.Bridge.{calls_of}
+use Rattle.bbm_rules.specs.declared.step_fault.StepFault.{StepFault}
+use Rattle.bbm_regimes.specs.declared.regime.Which.TheVariants.{Roots}
+use Rattle.bbm_rules.specs.declared.step_fault.StepFault.TheVariants.{Limit}
+use Rattle.bbm_roots.specs.declared.fault.RootFault.{RootFault}
+use Rattle.bbm_roots.specs.declared.fault.RootFault.TheVariants as faults
+use Rattle.bbm_replay_roots.specs.Faults.{room_fault}
+use Rattle.bbm_replay_roots.proofs.Judge.{full, room_up, stays}
+use Rattle.bbm_replay_roots.proofs.RootMaps.{count_same}
+use Rattle.bbm_replay_roots.proofs.state.RootState.prepare.Goals as goal
+
+pub returns-in-Ok-clause-limit : goal.returns-in-Ok-clause-limit
+returns-in-Ok-clause-limit c heading h pe kind lock page s =
+    let k = c.in-Ok.ensures.limit (calls_of heading h) s.roots in
+    let f = full h _ (count_same heading h) in
+    (λ e. cc, λ e. let never = k.1 (f.0 e) in cc)
+
+pub returns-in-Err-clause-limit : goal.returns-in-Err-clause-limit
+returns-in-Err-clause-limit c heading h pe kind lock page s =
+    let k = c.in-Err.ensures.limit (calls_of heading h) s.roots in
+    let f = full h _ (count_same heading h) in
+    let ensured = c.room_fault.ensures in (
+      λ e. let r : c.room_fault.result ≡ Limit Roots = cc in
+          f.1 (k.0 (ap (λ (x : RootFault). Err x) (room_up c.in-Err.fault (sym ensured ∙ r)))),
+      λ e. let m = k.1 (f.0 e) in let n : c.in-Err.fault ≡ faults.Limit Roots = cc in
+          ap (λ (x : StepFault). Err x) (ensured ∙ ap room_fault n),
+    )
+
+pub returns-in-Err-clause-same : goal.returns-in-Err-clause-same
+returns-in-Err-clause-same c heading h s =
+    stays _ s refl c.prepare.ensures.pes c.prepare.ensures.world (c.prepare.ensures.same (calls_of heading h) s.roots) (λ l. refl)

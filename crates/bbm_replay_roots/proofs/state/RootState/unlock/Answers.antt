@@ -1,0 +1,22 @@
+use Rattle.std.proofs.Common.{refl, sym, ◌∙◌, rules, true≢false}
+use Rattle.bbm_rules.specs.Prelude.{Unlock}
+use Rattle.bbm_replay_roots.proofs.Judge.{given_back, stays, stood, unlock_mine, unlock_other}
+use Rattle.bbm_replay_roots.proofs.state.RootState.unlock.Goals as goal
+
+pub returns-in-Ok-clause-judged : goal.returns-in-Ok-clause-judged
+returns-in-Ok-clause-judged c heading h s =
+    unlock_mine heading h c.args.pe c.args.lock (c.bridge.ensures heading)
+    (sym (s.locks c.args.lock) ∙ c.in-Ok.ensures.held.0 (search rules))
+
+pub returns-in-Ok-clause-taken : goal.returns-in-Ok-clause-taken
+returns-in-Ok-clause-taken c heading h s =
+    stood _ (Unlock c.args.pe c.args.lock) s (returns-in-Ok-clause-judged c heading h s) refl refl refl s.roots
+    (λ l. c.in-Ok.ensures.given l ∙ given_back h c.args.pe c.args.lock l _ (sym (s.locks c.args.lock) ∙ c.in-Ok.ensures.held.0 (search rules)) (s.locks l))
+
+pub returns-in-Err-clause-judged : goal.returns-in-Err-clause-judged
+returns-in-Err-clause-judged c heading h s =
+    unlock_other heading h c.args.pe c.args.lock (c.bridge.ensures heading) (λ e.
+    true≢false (sym (c.in-Err.ensures.held.1 (s.locks c.args.lock ∙ e))))
+
+pub returns-in-Err-clause-same : goal.returns-in-Err-clause-same
+returns-in-Err-clause-same c heading h s = stays _ s refl refl refl s.roots (c.in-Err.ensures.refused)

@@ -1,0 +1,52 @@
+use Rattle.std.proofs.Common.{Bool, [], ◌∷◌, Ok, Err, refl, sym, ap, ◌∙◌, subst}
+use Rattle.bbm_rules.specs.Prelude.{Msr, World}
+use Rattle.bbm_rules.specs.Answers.{Answers}
+use Rattle.bbm_rules.specs.Broken.{broken}
+use Rattle.bbm_rules.specs.Claims.{Patterns}
+use Rattle.bbm_rules.specs.Covers.{noted}
+use Rattle.bbm_rules.specs.Limits.{limit_of}
+use Rattle.bbm_rules.specs.declared.step_fault.StepFault.{StepFault}
+use Rattle.bbm_roots.specs.Calls.{WriteReg}
+use Rattle.bbm_roots.specs.Registers.{is_of_world}
+use Rattle.bbm_roots.specs.Stands as lower
+use Rattle.bbm_replay_roots.specs.Bridge.{calls_of}
+use Rattle.bbm_replay_roots.proofs.Judge.{agrees_by, in_range, stood}
+use Rattle.bbm_replay_roots.proofs.Writes.{msr_elsewhere, reg_of_world, right_world, world_here, write_by, write_err, write_ok}
+use Rattle.bbm_replay_roots.proofs.state.RootState.write_reg.Goals as goal
+
+pub returns-in-Some-clause-judged : goal.returns-in-Some-clause-judged
+returns-in-Some-clause-judged c heading h s e =
+    msr_elsewhere s c.args.pe c.args.reg c.args.value c.in-Some.at (c.in-Some.ensures (noted heading Patterns h))
+
+pub write_reg-requires-clause-of_world : goal.write_reg-requires-clause-of_world
+write_reg-requires-clause-of_world c =
+    let s = c.requires.2 in
+    ap (λ (w : World). is_of_world w c.args.reg) s.world
+    ∙ reg_of_world c.requires.0.world c.args.reg
+    (right_world c.requires.0 [] c.args.pe c.args.reg c.args.value (world_here s [] c.args.pe c.args.reg c.args.value (c.in_default.ensures [])))
+
+pub returns-in-Ok-clause-judged : goal.returns-in-Ok-clause-judged
+returns-in-Ok-clause-judged c heading h s e =
+    let laws = c.bridge.ensures heading in
+    write_ok heading laws (laws.proper s.proper) h s.kept (agrees_by laws s) c.args.pe c.args.reg c.args.value
+    (in_range c.requires.2 s c.requires.3)
+    (world_here s (noted heading Patterns h) c.args.pe c.args.reg c.args.value (c.in_default.ensures (noted heading Patterns h)))
+    c.in-Ok.field-0
+    (write_by s c.args.pe c.args.reg c.args.value c.args.null e (Ok c.in-Ok.field-0) (c.in-Ok.ensures.judged (calls_of heading h) s.roots))
+
+pub returns-in-Ok-clause-taken : goal.returns-in-Ok-clause-taken
+returns-in-Ok-clause-taken c heading h s e =
+    stood _ (Msr c.args.pe c.args.reg c.args.value) s (returns-in-Ok-clause-judged c heading h s e).0 refl c.write_reg.ensures.pes c.write_reg.ensures.world
+    (subst (λ (b : Bool). lower.Stands c.write_reg.new.self (WriteReg c.args.pe c.args.reg c.args.value b ∷ calls_of heading h)) e
+    (c.in-Ok.ensures.taken (calls_of heading h) s.roots)) s.locks
+
+pub returns-in-Err-clause-judged : goal.returns-in-Err-clause-judged
+returns-in-Err-clause-judged c heading h s e =
+    let laws = c.bridge.ensures heading in
+    subst (λ (f : StepFault). Answers (Err f) (broken heading Patterns h (Msr c.args.pe c.args.reg c.args.value)) (limit_of h (Msr c.args.pe c.args.reg c.args.value)))
+    (sym c.write_fault.ensures)
+    (write_err heading laws (laws.proper s.proper) h s.kept (agrees_by laws s) c.args.pe c.args.reg c.args.value
+    (in_range c.requires.2 s c.requires.3)
+    (world_here s (noted heading Patterns h) c.args.pe c.args.reg c.args.value (c.in_default.ensures (noted heading Patterns h)))
+    c.in-Err.fault
+    (write_by s c.args.pe c.args.reg c.args.value c.args.null e (Err c.in-Err.fault) (c.in-Err.ensures.judged (calls_of heading h) s.roots)))

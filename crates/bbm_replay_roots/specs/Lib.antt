@@ -1,0 +1,4 @@
+pub mod Bridge
+pub mod Faults
+pub mod Laws
+pub mod Stands
