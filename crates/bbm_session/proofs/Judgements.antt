@@ -95,16 +95,23 @@ knows-more a b (Malformed line cause) more known = tt
 knows-more a b (Limit line which) more known = tt
 
 judged-at : (stands : Heading → List EventOf → Type 0) (limits : Limits) (heading : Heading) (h : List EventOf) (n : ℕ) (line : List ℕ) (r : Result Turn Stop) → n ≡ length h + 2 → JudgesLine stands heading h (IsEvent (item_of heading line)) r (after_item Patterns limits n heading h (item_of heading line)) → TakesLine (judging limits) (Judges stands limits (judging limits) heading) n (AtEvents heading h) line r
-judged-at stands limits heading h n line (Ok Taken) number judged =
-    (AtEvents heading judged.0, ap (judged_by (AtEvents heading h)) judged.1, judging-inside limits heading judged.0,
-    record { h = judged.0; fold_is = refl; is = refl; keeps = judged.2; number = omega (arith, judged.3, number) })
-judged-at stands limits heading h n line (Ok End) number judged =
-    (AtEnd h, ap (judged_by (AtEvents heading h)) judged.0, judging-end limits heading h,
-    record { h = h; fold_is = refl; is = refl; keeps = judged.1; number = number })
-judged-at stands limits heading h n line (Err (Decided v)) number judged =
-    (ap (judged_by (AtEvents heading h)) judged.0,
-    knows-more (Keeps stands heading h) (Judges stands limits (judging limits) heading (AtEvents heading h) n) v
-    (λ keeps. record { h = h; fold_is = refl; is = refl; keeps = keeps; number = number }) judged.1)
+judged-at stands limits heading h n line (Ok Taken) number judged = (
+  AtEvents heading judged.0,
+  ap (judged_by (AtEvents heading h)) judged.1,
+  judging-inside limits heading judged.0,
+  record { h = judged.0; fold_is = refl; is = refl; keeps = judged.2; number = omega (arith, judged.3, number) },
+)
+judged-at stands limits heading h n line (Ok End) number judged = (
+  AtEnd h,
+  ap (judged_by (AtEvents heading h)) judged.0,
+  judging-end limits heading h,
+  record { h = h; fold_is = refl; is = refl; keeps = judged.1; number = number },
+)
+judged-at stands limits heading h n line (Err (Decided v)) number judged = (
+  ap (judged_by (AtEvents heading h)) judged.0,
+  knows-more (Keeps stands heading h) (Judges stands limits (judging limits) heading (AtEvents heading h) n) v
+      (λ keeps. record { h = h; fold_is = refl; is = refl; keeps = keeps; number = number }) judged.1,
+)
 judged-at stands limits heading h n line (Err ReadFault) number judged = absurd judged
 judged-at stands limits heading h n line (Err NoMemory) number judged = event-needs (item_of heading line) judged
 

@@ -97,14 +97,20 @@ module _ (heading : Heading) (kept kept' : List Step) (n : ℕ) (line : List ℕ
       → length kept' ≤ 2000 → (t ≡ Ok turn.Step → length kept' ≡ length kept + 1)
       → run.TakesLine heading (reverse kept) (reverse kept') t (after_line n (AtSteps heading (reverse kept)) line) → At r
   followed-at (Ok turn.Step) r turns number few few' more says =
-      subst At (sym turns)
-      (AtSteps heading (reverse kept'), ap kept_by says, following-inside heading (reverse kept'),
-      record { fold_is = refl; is = refl; number = omega (arith, more refl, number); few = few' })
+      subst At (sym turns) (
+        AtSteps heading (reverse kept'),
+        ap kept_by says,
+        following-inside heading (reverse kept'),
+        record { fold_is = refl; is = refl; number = omega (arith, more refl, number); few = few' },
+      )
   followed-at (Ok turn.End) r turns number few few' more says =
       let same : length kept' ≡ length kept = sym (length-reverse kept') ∙ ap length says.1 ∙ length-reverse kept in
-      subst At (sym turns)
-      (AtEnd heading (reverse kept), ap kept_by says.0, following-end heading (reverse kept),
-      record { fold_is = refl; is = ap (AtSteps heading) (sym says.1); number = omega (arith, same, number); few = few' })
+      subst At (sym turns) (
+        AtEnd heading (reverse kept),
+        ap kept_by says.0,
+        following-end heading (reverse kept),
+        record { fold_is = refl; is = ap (AtSteps heading) (sym says.1); number = omega (arith, same, number); few = few' },
+      )
   followed-at (Err (line_fault.Decided v)) r turns number few few' more says =
       let brief = subst (λ (t : RunTurned). Brief n t) says (brief_line n (AtSteps heading (reverse kept)) line) in
       subst At (sym turns)

@@ -133,11 +133,7 @@ const LINES: [(&[u8], &[u8], u8); 10] = [
         b"malformed line 3 cause 3 UnknownWord\n",
         2,
     ),
-    (
-        b"m drop 1\n",
-        b"malformed line 3 cause 9 NoEnd\n",
-        2,
-    ),
+    (b"m drop 1\n", b"malformed line 3 cause 9 NoEnd\n", 2),
     (
         b"m drop 1\nend 0\n\n",
         b"malformed line 4 cause 11 AfterEnd\n",
@@ -160,7 +156,13 @@ const LINES: [(&[u8], &[u8], u8); 10] = [
 /// The line of a step, how often it comes, what stands after it, the text and the status.
 const LONG: [(&[u8], u32, &[u8], &[u8], u8); 5] = [
     (b"isb 0\n", 2000, b"end 2000\n", b"run 2000 steps\n", 0),
-    (b"isb 0\n", 2001, b"end 2001\n", b"limit line 2002 steps\n", 7),
+    (
+        b"isb 0\n",
+        2001,
+        b"end 2001\n",
+        b"limit line 2002 steps\n",
+        7,
+    ),
     // Machine lines are steps, too, and what is malformed comes first.
     (b"m drop 1\n", 2001, b"", b"limit line 2002 steps\n", 7),
     (

@@ -7,9 +7,12 @@ use Rattle.bbm_session.proofs.obeying.judge_log.Goals as goal
 pub read_log-read-requires-clause-begun : goal.read_log-read-requires-clause-begun
 read_log-read-requires-clause-begun g c =
     let header = c.args.header.now in
-    let limits = c.args.judging.now.limits in
-    (judging_of limits, AtEvents header [], judging-inside limits header [],
-    record { h = []; fold_is = refl; is = refl; keeps = (c.requires.fresh, refl); number = refl })
+    let limits = c.args.judging.now.limits in (
+      judging_of limits,
+      AtEvents header [],
+      judging-inside limits header [],
+      record { h = []; fold_is = refl; is = refl; keeps = (c.requires.fresh, refl); number = refl },
+    )
 
 pub returns-clause-known : goal.returns-clause-known
 returns-clause-known g c =
