@@ -3,4 +3,6 @@ pub mod Refusals
 pub mod Puts
 pub mod Stages
 pub mod ReadBytes
-pub mod Obeying
+pub mod Judgements
+pub mod RunLines
+pub mod Served

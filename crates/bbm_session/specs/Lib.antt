@@ -1,5 +1,9 @@
+pub mod Fold
+pub mod Folds
 pub mod Pieces
+pub mod Requests
 pub mod Run
+pub mod Runs
 pub mod Stages
 pub mod Telling
 pub mod Writing

@@ -2,6 +2,7 @@
 
 ghost use Rattle.std.specs.Prelude.{◌≡◌, map};
 ghost use Rattle.std.specs.String.{string_bytes};
+ghost use Rattle.bbm_session.specs.Requests.{follow_of, request_of};
 ghost use Rattle.bbm_session.specs.Run.{command_alone, command_of, limits_of};
 
 use bbm_report::{Question, asked};
@@ -24,6 +25,15 @@ pub enum Command {
     Walk(Question),
 }
 
+/// What the program is asked for. Source: project's own choice.
+#[derive(Clone, Copy, Debug)]
+pub enum Request {
+    /// A log is judged.
+    Judge(Command),
+    /// A log with lines of machine steps between its events is read, and the run of the machine of TLBs is followed.
+    Follow,
+}
+
 // The command that one word says, None where there is another number of words.
 fn said_alone(words: &[String]) -> Option<Command>
     ensures { result ≡ command_alone (map string_bytes words.now) }
@@ -41,8 +51,8 @@ fn said_alone(words: &[String]) -> Option<Command>
     }
 }
 
-/// The command that the words say, None where they say none.
-pub fn said(words: &[String]) -> Option<Command>
+// The command that the words say, None where they say none.
+fn said_command(words: &[String]) -> Option<Command>
     ensures { result ≡ command_of (map string_bytes words.now) }
 {
     match said_alone(words) {
@@ -51,6 +61,29 @@ pub fn said(words: &[String]) -> Option<Command>
             Some(question) => Some(Command::Walk(question)),
             None => None,
         },
+    }
+}
+
+// The request of one word that isn't a command.
+fn said_follow(words: &[String]) -> Option<Request>
+    ensures { result ≡ follow_of (map string_bytes words.now) }
+{
+    if words.len() != 1 {
+        None
+    } else if words[0].as_bytes() == b"follow".as_slice() {
+        Some(Request::Follow)
+    } else {
+        None
+    }
+}
+
+/// What the words ask for, None where they ask for nothing.
+pub fn said(words: &[String]) -> Option<Request>
+    ensures { result ≡ request_of (map string_bytes words.now) }
+{
+    match said_command(words) {
+        Some(command) => Some(Request::Judge(command)),
+        None => said_follow(words),
     }
 }
 
