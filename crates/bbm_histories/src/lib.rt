@@ -19,7 +19,6 @@ pub use claim_steps::{law_claim_steps, law_tag_claim_steps};
 pub use patterns::{law_patterns_begin, law_patterns_stay, law_uniform};
 pub use phases::law_phase_parts;
 pub use steps::{law_held_step, law_pattern_steps, law_tag_steps};
-pub use tags::law_tags;
 pub use tree_steps::{law_childless_step, law_limbo_step, law_node_step};
 pub use tags::{law_bases, law_tags};
 pub use trees::{
@@ -37,7 +36,6 @@ mod tests {
     use crate::patterns::{law_patterns_begin, law_patterns_stay, law_uniform};
     use crate::phases::law_phase_parts;
     use crate::steps::{law_held_step, law_pattern_steps, law_tag_steps};
-    use crate::tags::law_tags;
     use crate::tree_steps::{law_childless_step, law_limbo_step, law_node_step};
     use crate::tags::{law_bases, law_tags};
     use crate::trees::{
