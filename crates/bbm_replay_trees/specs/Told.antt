@@ -6,7 +6,7 @@ use Rattle.bbm_descriptor.specs.Descriptor.{core_of, is_valid}
 use Rattle.bbm_descriptor.specs.declared.desc.Core.{Core}
 use Rattle.bbm_descriptor.specs.declared.desc.Core.TheVariants.{Table}
 use Rattle.bbm_events.specs.Fits.{fits_heading}
-use Rattle.bbm_rules.specs.Prelude.{Kind, Heading, Event}
+use Rattle.bbm_rules.specs.Prelude.{Kind, Heading, Event, Write}
 use Rattle.bbm_rules.specs.Claims.Trust.{Patterns}
 use Rattle.bbm_rules.specs.Covers.{noted}
 use Rattle.bbm_rules.specs.Lists.{among, any, every}
@@ -71,6 +71,13 @@ kept keeps (Some m) = if keeps m then Some m else None
 abbrev pub next_in : Option Core → Option ℕ
 next_in (Some (Table next ns)) = Some next
 next_in _ = None
+
+-- the core of what a place of a node holds after an event that leaves the node and is no DSB, by that before it: a valid
+-- write of the place makes it that of its value
+abbrev pub core_after : Node → Event → ℕ → Option Core → Option Core
+core_after n (Write pe place v) a before =
+    if a == place && is_valid n.kind n.level v then core_of n.kind n.level v else before
+core_after n _ a before = before
 
 -- Childless: the place of a node holds a table, and no place of its next page holds anything.
 pub record Childless (core : Kind → ℕ → ℕ → Option Core) (n : Node) (place : ℕ) : Type 0 where
