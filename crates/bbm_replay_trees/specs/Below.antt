@@ -14,7 +14,8 @@ use Rattle.bbm_rules.specs.Pages.{is_fresh, is_null, may_be_fresh}
 use Rattle.bbm_rules.specs.Places.{page_of}
 use Rattle.bbm_rules.specs.Roots.{Declared, root_pages, start_of}
 use Rattle.bbm_rules.specs.PathSentences.{TwoPaths}
-use Rattle.bbm_rules.specs.Tree.{Node, held_at, in_tree, is_childless, next_of, node_below, node_of, nodes_of_root, tree}
+use Rattle.bbm_rules.specs.Tree.{Node, held_at, in_tree, is_childless, next_of, node_below, node_of, nodes_of_root}
+use Rattle.bbm_rules.specs.Tree.{tree}
 use Rattle.bbm_rules.specs.TreeSentences.{IsNode, Leads}
 use Rattle.bbm_histories.specs.Steps.{held_after}
 use Rattle.bbm_histories.specs.Tree.{Attaches, HeldChange, Proper}
@@ -89,8 +90,8 @@ pub record Below (heading : Heading) : Type 0 where
       (place : ℕ) → Contains (tree heading Patterns (noted heading Patterns h)) n → page_of place ≡ n.page
       → HeldChange n.kind n.level place e (held_at heading Patterns (noted heading Patterns h) n place)
       (held_at heading Patterns (noted heading Patterns (e ∷ h)) n place)
-  pub holds_present : (h : List Event) (e : Event) → 0 < heading.pes → keeps heading Patterns (e ∷ h) ≡ true → (n : Node)
-      (place : ℕ) → Attaches heading Patterns (noted heading Patterns h) e n → page_of place ≡ n.page
+  pub holds_present : (h : List Event) (e : Event) → 0 < heading.pes → keeps heading Patterns (e ∷ h) ≡ true
+      → (n : Node) (place : ℕ) → Attaches heading Patterns (noted heading Patterns h) e n → page_of place ≡ n.page
       → HoldsPresent heading Patterns (noted heading Patterns (e ∷ h)) n place
   pub fresh_others : (h : List Event) (e : Event) → keeps heading Patterns (e ∷ h) ≡ true → (page : ℕ)
       → ((m : Node) → Attaches heading Patterns (noted heading Patterns h) e m → m.page ≡ page → ⊥)
