@@ -17,12 +17,13 @@ use Rattle.bbm_rules.specs.Rules.{attached_with, bad_ends, judged_ends, made_wit
 use Rattle.bbm_rules.specs.Tree.{Node, next_in}
 use Rattle.bbm_rules.specs.Values.{places_in, value_of}
 use Rattle.bbm_replay_trees.specs.Below.{Below}
-use Rattle.bbm_replay_trees.specs.Judged.{EndsTwice, Finds, HasPlace, IsPath, IsUnfresh, Judging, UnfreshEnd, is_bad, is_user_global}
+use Rattle.bbm_replay_trees.specs.Judged.{EndsTwice, HasPlace, IsPath, IsUnfresh, UnfreshEnd, is_bad, is_user_global}
+use Rattle.bbm_replay_trees.specs.Judging.{Finds, Judging}
 use Rattle.bbm_replay_trees.specs.Told.{AllFit, SameFresh, SameValues, notes}
 use Rattle.bbm_replay_trees.proofs.Elements.{In, from_filter, from_flat, from_map, in_append, in_left, in_map, in_right, to_filter, to_flat}
 use Rattle.bbm_replay_trees.proofs.FitLemmas.{at_page, in_page, is_at_page, to_page, written}
 use Rattle.bbm_replay_trees.proofs.LeastLemmas.{among_in, in_among, least_is}
-use Rattle.bbm_replay_trees.proofs.PathLemmas.{Longer, Some_path, Starts, from_all, from_deeper, in_all, in_deeper, leads_at, path_from, to_mine, to_theirs, value_is, within_at}
+use Rattle.bbm_replay_trees.proofs.PathLemmas.{Longer, AnyPath, Starts, from_all, from_deeper, in_all, in_deeper, leads_at, path_from, to_mine, to_theirs, value_is, within_at}
 
 -- a test that passes leaves alone
 pub record OfLeaves (test : Kind → Desc → Bool) : Type 0 where
@@ -63,7 +64,7 @@ module _ (heading : Heading) (b : Below heading) (h : List Event) (fit : AllFit 
         judged = λ k none. cc;
       }
   unfresh_from false page end i e f =
-      let r : Some_path fresh value starts end = from_all heading b h fit fresh value same_fresh same_value kind level pages starts st end i in
+      let r : AnyPath fresh value starts end = from_all heading b h fit fresh value same_fresh same_value kind level pages starts st end i in
       record {
         start = r.start;
         places = r.places;
@@ -178,7 +179,7 @@ module _ (heading : Heading) (b : Below heading) (h : List Event) (fit : AllFit 
       place_from : (place : ℕ) → In (attached_with test (events_of marks) whole) place → HasPlace fresh value starts test place
       place_from place i =
           let f = from_flat (places_with test kind (events_of marks)) (all_ends whole) place i in
-          let r : Some_path fresh value starts f.0 = from_all heading b h fit fresh value same_fresh same_value kind level pages starts st f.0 f.1 in
+          let r : AnyPath fresh value starts f.0 = from_all heading b h fit fresh value same_fresh same_value kind level pages starts st f.0 f.1 in
           let g = from_filter (λ p. test kind (desc_of kind f.0.level (value_of (events_of marks) p))) (places_in (events_of marks) f.0.page) place f.2 in
           let there = in_page h f.0.page place (subst (λ es. In (places_in es f.0.page) place) (b.events_noted h) g.0) in
           record {
