@@ -1,0 +1,5 @@
+pub mod Cells
+pub mod Entries
+pub mod Sound
+pub mod Map
+pub mod Calls

@@ -1,0 +1,26 @@
+//! What is kept of a broken place.
+
+use bbm_entry_state::{Marks, Pends};
+use bbm_regimes::{Pe, Place};
+
+/// What waits at a place for the answers of one issuer's TLBIs. Source: project's own choice.
+#[derive(Clone, Copy, Debug)]
+pub struct Pending {
+    /// The PE that issued them.
+    pub issuer: Pe,
+    /// What waits.
+    pub pends: Pends,
+}
+
+/// A broken place. Source: project's own choice.
+#[derive(Drop)]
+pub struct Entry {
+    /// The place.
+    pub place: Place,
+    /// The number of its cell.
+    pub cell: u32,
+    /// How far each PE is cleansed of its core.
+    pub marks: Marks,
+    /// What waits there, for each issuer of TLBIs that cover the place.
+    pub pends: Vec<Pending>,
+}
