@@ -1,7 +1,7 @@
 -- What the calls that concern all broken places say of each.
 -- Source: project's own choice.
 use Rattle.std.specs.Prelude.{◌≡◌, ℕ, Bool, true, false, Option, Some, None, is_none, ◌&&◌}
-use Rattle.core.specs.Fn.{FnReturns, Shared}
+use Rattle.std.specs.Fn.{FnReturns, Shared}
 use denote.Ref.{Bor}
 use Rattle.bbm_descriptor.specs.declared.desc.Core.{Core}
 use Rattle.bbm_descriptor.specs.declared.desc.Core.TheVariants.{Table, Leaf}
