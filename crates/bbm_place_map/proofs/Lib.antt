@@ -1,2 +1,4 @@
 pub mod Lists
-pub mod Links
+pub mod Edits
+pub mod Linking
+pub mod Leaving

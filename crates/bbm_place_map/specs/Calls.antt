@@ -6,17 +6,9 @@ use denote.Ref.{Bor}
 use Rattle.bbm_descriptor.specs.declared.desc.Core.{Core}
 use Rattle.bbm_descriptor.specs.declared.desc.Core.TheVariants.{Table, Leaf}
 use Rattle.bbm_entry_state.specs.declared.marks.Marks.{Marks}
-use Rattle.bbm_entry_state.specs.declared.state.EntryState.{EntryState}
-use Rattle.bbm_entry_state.specs.declared.state.EntryState.TheVariants.{Clean, Live, Broken}
 use Rattle.bbm_tlbi_scope.specs.declared.entry.Cover.{Cover}
 use Rattle.bbm_place_map.specs.Map.{marks_at}
 use Rattle.bbm_place_map.specs.declared.map.PlaceMap.{PlaceMap}
-
--- the marks of a state that is broken
-abbrev pub marks_of_state : EntryState → Option Marks
-marks_of_state Clean = None
-marks_of_state (Live core) = None
-marks_of_state (Broken marks) = Some marks
 
 -- The closure may answer, of this map and the place, that a TLBI covers the place so far.
 pub record MayCover {F : Type 0} (calls : Shared F (Bor PlaceMap × (ℕ × Unit {0})) Cover) (f : F) (map : PlaceMap)

@@ -1,5 +1,7 @@
 pub mod Cells
 pub mod Entries
+pub mod Parts
 pub mod Sound
+pub mod States
 pub mod Map
 pub mod Calls

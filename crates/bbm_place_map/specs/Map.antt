@@ -8,23 +8,17 @@ use Rattle.bbm_descriptor.specs.declared.desc.Core.{Core}
 use Rattle.bbm_entry_state.specs.declared.marks.Marks.{Marks}
 use Rattle.bbm_entry_state.specs.declared.pending.Pends.{Pends}
 use Rattle.bbm_entry_state.specs.declared.state.EntryState.{EntryState}
-use Rattle.bbm_entry_state.specs.declared.state.EntryState.TheVariants.{Clean, Live, Broken}
 use Rattle.bbm_place_map.specs.Cells.{value_in}
-use Rattle.bbm_place_map.specs.Entries.{entry_in, marks_of, pends_of, no_pends}
+use Rattle.bbm_place_map.specs.Entries.{no_pends}
+use Rattle.bbm_place_map.specs.Parts.{marks_in, pends_for}
 use Rattle.bbm_place_map.specs.Sound.{index_of, at_index}
-use Rattle.bbm_place_map.specs.declared.cell.Cell.{Cell}
+use Rattle.bbm_place_map.specs.States.{state_from}
 use Rattle.bbm_place_map.specs.declared.entry.Entry.{Entry}
 use Rattle.bbm_place_map.specs.declared.map.PlaceMap.{PlaceMap}
 
 -- the page of an address
 abbrev pub page_of : ℕ → ℕ
 page_of a = a / 4096 * 4096
-
-abbrev pub marks_in : List Cell → List Entry → ℕ → Option Marks
-marks_in cells entries j = marks_of (entry_in cells entries j)
-
-abbrev pub pends_for : List Cell → List Entry → ℕ → ℕ → Pends
-pends_for cells entries q j = pends_of q (entry_in cells entries j)
 
 -- the value of a place
 unfoldable pub value_at : PlaceMap → ℕ → ℕ
@@ -49,11 +43,6 @@ restless_in map = length map.broken.items
 unfoldable pub restless_place : PlaceMap → ℕ → ℕ
 restless_place map i = unwrap_or (option_map (λ (e : Entry). e.place) (slice_get map.broken.items i)) 0
 
--- the state of a place, where a place that isn't broken is live with this core, or clean without one
-abbrev pub state_from : Option Core → Option Marks → EntryState
-state_from live (Some marks) = Broken marks
-state_from (Some core) None = Live core
-state_from None None = Clean
-
+-- the state of a place, where one that isn't broken is live with this core, or clean without one
 abbrev pub state_at : PlaceMap → Option Core → ℕ → EntryState
 state_at map live a = state_from live (marks_at map a)

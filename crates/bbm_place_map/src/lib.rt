@@ -3,6 +3,7 @@
 
 mod cell;
 mod entry;
+mod links;
 mod map;
 
 pub use map::PlaceMap;

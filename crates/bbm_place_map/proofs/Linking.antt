@@ -1,14 +1,19 @@
 -- Cells and entries that name each other, after an entry comes or goes.
-use Rattle.std.proofs.Common.{◌≡◌, ◌≢◌, ℕ, ◌+◌, ◌-◌, ◌<◌, ◌≤◌, Bool, true, false, nat_eq, nat_le, List, [], ◌∷◌, ◌++◌, length, Option, Some, None, refl, ap, sym, ◌∙◌, arith, inl, inr, if◌then◌else◌, slice_get, count_by, length-append}
+use Rattle.std.proofs.Common.{◌≡◌, ◌≢◌, ℕ, ◌+◌, ◌-◌, ◌<◌, ◌≤◌, Bool, true, false, nat_eq, nat_le, List, [], ◌∷◌, ◌++◌, length, Option, Some, None, refl, ap, sym, ◌∙◌, arith, inl, inr, if◌then◌else◌, slice_get, count_by, length-append, cond, is_some}
+use Rattle.std.specs.List.{swap_remove}
 use Rattle.std.specs.Option.{option_map}
+use Rattle.std.proofs.lemmas.List.{length-take, length-set}
 use Rattle.std.proofs.lemmas.Bool.{cases_eq, cases_lt, cases_Bool, eq-eqb, ne_eqb, le-leb, lt-leb, cond-true, cond-false}
 use Rattle.std.proofs.lemmas.Option.{slice_get_past, same_Some, none-some}
 use Rattle.bbm_place_map.specs.Cells.{slot_in, is_listed}
-use Rattle.bbm_place_map.specs.Entries.{cell_at, entry_of, entry_in}
-use Rattle.bbm_place_map.specs.Sound.{Linked}
+use Rattle.bbm_place_map.specs.Entries.{cell_at, entry_of, entry_in, marks_of, pends_of, pends_in}
+use Rattle.bbm_place_map.specs.Parts.{marks_in, pends_for}
+use Rattle.bbm_place_map.specs.Sound.{Linked, Placed, index_of}
 use Rattle.bbm_place_map.specs.declared.cell.Cell.{Cell}
 use Rattle.bbm_place_map.specs.declared.entry.Entry.{Entry}
+use Rattle.bbm_place_map.specs.declared.entry.Pending.{Pending}
 use Rattle.bbm_place_map.proofs.Lists.{push_get}
+use Rattle.bbm_place_map.proofs.Edits.{one_if}
 
 abbrev the_cell : Entry → ℕ
 the_cell e = e.cell
@@ -30,11 +35,18 @@ choose_two true c o r = refl
 choose_two false true o r = refl
 choose_two false false o r = refl
 
+choose_marks : (b : Bool) (x : Entry) (o : Option Entry) → marks_of (if b then Some x else o) ≡ (if b then Some x.marks else marks_of o)
+choose_marks true x o = refl
+choose_marks false x o = refl
+
 -- an entry for a cell that had none
-module _ (cells cells' : List Cell) (entries : List Entry) (e : Entry) (j : ℕ) (linked : Linked cells entries)
-    (free : slot_in cells j ≡ None) (at : e.cell ≡ j)
-    (slots : (i : ℕ) → slot_in cells' i ≡ (if nat_eq i j then Some (length entries) else slot_in cells i))
-    (count : count_by is_listed cells' ≡ count_by is_listed cells + 1) where
+module _ (cells cells' : List Cell) (entries : List Entry) (e : Entry) (j n : ℕ) (linked : Linked cells entries)
+    (free : slot_in cells j ≡ None) (at : e.cell ≡ j) (number : n ≡ length entries)
+    (slot_is : (i : ℕ) → slot_in cells' i ≡ (if nat_eq i j then Some n else slot_in cells i))
+    (count : count_by is_listed cells' + one_if (is_some (slot_in cells j)) ≡ count_by is_listed cells + 1) where
+  slots : (i : ℕ) → slot_in cells' i ≡ (if nat_eq i j then Some (length entries) else slot_in cells i)
+  slots i = slot_is i ∙ ap (λ (m : ℕ). if nat_eq i j then Some m else slot_in cells i) number
+
   slot_new : (i : ℕ) → i ≡ j → slot_in cells' i ≡ Some (length entries)
   slot_new i same = slots i ∙ cond-true (nat_eq i j) (Some (length entries)) (slot_in cells i) (eq-eqb i j same)
 
@@ -74,7 +86,10 @@ module _ (cells cells' : List Cell) (entries : List Entry) (e : Entry) (j : ℕ)
   linked_more = record {
     forth = forth;
     back = back;
-    count = count ∙ ap (λ (n : ℕ). n + 1) linked.count ∙ (omega (arith, length-append entries (e ∷ [])));
+    count =
+        let none : one_if (is_some (slot_in cells j)) ≡ 0 = ap (λ (o : Option ℕ). one_if (is_some o)) free in
+        let old : count_by is_listed cells ≡ length entries = linked.count in
+        omega (arith, length-append entries (e ∷ []));
   }
 
   old_same : (i : ℕ) (o : Option ℕ) → slot_in cells i ≡ o → entry_of (entries ++ e ∷ []) o ≡ entry_of entries o
@@ -93,6 +108,35 @@ module _ (cells cells' : List Cell) (entries : List Entry) (e : Entry) (j : ℕ)
             ap (entry_of (entries ++ e ∷ [])) (slot_old i other) ∙ old_same i (slot_in cells i) refl
             ∙ sym (cond-false (nat_eq i j) (Some e) (entry_in cells entries i) (ne_eqb i j other))
       ]
+
+  pub marks_more : (i : ℕ) → marks_in cells' (entries ++ e ∷ []) i ≡ (if nat_eq i j then Some e.marks else marks_in cells entries i)
+  marks_more i = ap marks_of (entries_more i) ∙ choose_marks (nat_eq i j) e (entry_in cells entries i)
+
+  pub pends_more : e.pends.items ≡ [] → (q i : ℕ) → pends_for cells' (entries ++ e ∷ []) q i ≡ pends_for cells entries q i
+  pends_more empty q i =
+      elim (cases_eq i j) [
+        | inl same ↦
+            ap (pends_of q) (entries_more i ∙ cond-true (nat_eq i j) (Some e) (entry_in cells entries i) (eq-eqb i j same))
+            ∙ ap (λ (ps : List Pending). pends_in ps q) empty
+            ∙ sym (ap (λ (o : Option ℕ). pends_of q (entry_of entries o)) (ap (slot_in cells) same ∙ free))
+        | inr other ↦ ap (pends_of q) (entries_more i ∙ cond-false (nat_eq i j) (Some e) (entry_in cells entries i) (ne_eqb i j other))
+      ]
+
+  pub placed_more : (base : ℕ → Option ℕ) → index_of base e.place ≡ Some j → Placed base entries → Placed base (entries ++ e ∷ [])
+  placed_more base here placed k x h =
+      elim (cases_eq k (length entries)) [
+        | inl same ↦
+            let is : x ≡ e = same_Some x e (sym h ∙ get_new k same) in
+            ap (λ (y : Entry). index_of base y.place) is ∙ here ∙ ap (λ (m : ℕ). Some m) (sym (ap the_cell is ∙ at))
+        | inr other ↦ placed k x (sym (get_old k other) ∙ h)
+      ]
+
+pub length_swap : (entries : List Entry) (k : ℕ) (r : Entry) → k < length entries → length (swap_remove entries k r) + 1 ≡ length entries
+length_swap entries k r within =
+    simp (length-take, length-set) (omega arith)
+
+pub not_past : (n k m : ℕ) → k < n → m < k → nat_le (n - 1) m ≡ false
+not_past n k m within below = lt-leb (n - 1) m (omega arith)
 
 -- an entry leaves, and the last one takes its number
 module _ (cells cells' : List Cell) (entries entries' : List Entry) (j k l : ℕ) (linked : Linked cells entries)
@@ -119,7 +163,7 @@ module _ (cells cells' : List Cell) (entries entries' : List Entry) (j k l : ℕ
       gets m ∙ cond-false (nat_le (length entries - 1) m) None
       (if nat_eq m k then slice_get entries (length entries - 1) else slice_get entries m) (lt-leb (length entries - 1) m below)
 
-  get_moved : (m : ℕ) → m < length entries - 1 → m ≡ k → slice_get entries' m ≡ slice_get entries (length entries - 1)
+  pub get_moved : (m : ℕ) → m < length entries - 1 → m ≡ k → slice_get entries' m ≡ slice_get entries (length entries - 1)
   get_moved m below same =
       get_below m below ∙ cond-true (nat_eq m k) (slice_get entries (length entries - 1)) (slice_get entries m) (eq-eqb m k same)
 
