@@ -1,9 +1,9 @@
 -- Numbers of entries within the cells.
-use Rattle.std.proofs.Common.{◌≡◌, ℕ, ◌+◌, ◌<◌, ◌≤◌, List, length, Bool, Option, Some, None, is_some, refl, ap, sym, ◌∙◌, arith, inl, inr, cond, count_by, set}
+use Rattle.std.proofs.Common.{◌≡◌, ℕ, ◌+◌, ◌<◌, ◌≤◌, List, length, Bool, Option, Some, None, is_some, refl, ap, sym, ◌∙◌, arith, inl, inr, cond, count_by, set, get_or}
 use Rattle.std.proofs.lemmas.Bool.{cases_lt}
 use Rattle.std.proofs.lemmas.List.{length-set, get_or_past}
 use Rattle.std.proofs.lemmas.List.Sums.{sum_by-set, count_by-le-length}
-use Rattle.std.proofs.lemmas.Option.{none-some}
+use Rattle.std.proofs.lemmas.Option.{none-some, slice_get_read, get_or_from_slice_get}
 use Rattle.bbm_place_map.specs.Cells.{no_cell, slot_in, is_listed}
 use Rattle.bbm_place_map.specs.Sound.{Linked}
 use Rattle.bbm_place_map.specs.declared.cell.Cell.{Cell}
@@ -41,3 +41,9 @@ few_entries cells entries linked =
     let most : count_by is_listed cells ≤ length cells = count_by-le-length is_listed cells in
     let as_many : count_by is_listed cells ≡ length entries = linked.count in
     omega arith
+
+-- the number in a cell that was read
+pub slot_read : (cells : List Cell) (j : ℕ) (x : Cell) → j < length cells → x ≡ get_or cells j x → (o : Option ℕ) → x.slot ≡ o
+    → slot_in cells j ≡ o
+slot_read cells j x within is o h =
+    ap (λ (y : Cell). y.slot) (get_or_from_slice_get cells j x no_cell (slice_get_read cells (length cells) j x refl within is)) ∙ h

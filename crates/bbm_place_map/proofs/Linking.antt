@@ -35,7 +35,7 @@ choose_two true c o r = refl
 choose_two false true o r = refl
 choose_two false false o r = refl
 
-choose_marks : (b : Bool) (x : Entry) (o : Option Entry) → marks_of (if b then Some x else o) ≡ (if b then Some x.marks else marks_of o)
+pub choose_marks : (b : Bool) (x : Entry) (o : Option Entry) → marks_of (if b then Some x else o) ≡ (if b then Some x.marks else marks_of o)
 choose_marks true x o = refl
 choose_marks false x o = refl
 

@@ -42,3 +42,10 @@ marks_of (Some e) = Some e.marks
 abbrev pub pends_of : ℕ → Option Entry → Pends
 pends_of q None = no_pends
 pends_of q (Some e) = pends_in e.pends.items q
+
+-- the place and the cell of the entry with this number
+abbrev pub seat : Entry → ℕ × ℕ
+seat e = (e.place, e.cell)
+
+abbrev pub seat_at : List Entry → ℕ → Option (ℕ × ℕ)
+seat_at entries k = option_map seat (slice_get entries k)

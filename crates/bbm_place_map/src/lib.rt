@@ -5,5 +5,6 @@ mod cell;
 mod entry;
 mod links;
 mod map;
+mod write;
 
 pub use map::PlaceMap;
