@@ -4,3 +4,4 @@ pub mod Linking
 pub mod Leaving
 pub mod Seats
 pub mod Pages
+pub mod Places
