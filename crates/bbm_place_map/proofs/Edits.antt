@@ -4,7 +4,7 @@ use Rattle.std.proofs.lemmas.Bool.{cases_lt}
 use Rattle.std.proofs.lemmas.List.{length-set, get_or_past}
 use Rattle.std.proofs.lemmas.List.Sums.{sum_by-set, count_by-le-length}
 use Rattle.std.proofs.lemmas.Option.{none-some, slice_get_read, get_or_from_slice_get}
-use Rattle.bbm_place_map.specs.Cells.{no_cell, slot_in, is_listed}
+use Rattle.bbm_place_map.specs.Cells.{no_cell, value_in, slot_in, is_listed}
 use Rattle.bbm_place_map.specs.Sound.{Linked}
 use Rattle.bbm_place_map.specs.declared.cell.Cell.{Cell}
 use Rattle.bbm_place_map.specs.declared.entry.Entry.{Entry}
@@ -47,3 +47,7 @@ pub slot_read : (cells : List Cell) (j : ℕ) (x : Cell) → j < length cells �
     → slot_in cells j ≡ o
 slot_read cells j x within is o h =
     ap (λ (y : Cell). y.slot) (get_or_from_slice_get cells j x no_cell (slice_get_read cells (length cells) j x refl within is)) ∙ h
+
+pub value_read : (cells : List Cell) (j : ℕ) (x : Cell) → j < length cells → x ≡ get_or cells j x → value_in cells j ≡ x.value
+value_read cells j x within is =
+    ap (λ (y : Cell). y.value) (get_or_from_slice_get cells j x no_cell (slice_get_read cells (length cells) j x refl within is))

@@ -5,3 +5,5 @@ pub mod Leaving
 pub mod Seats
 pub mod Pages
 pub mod Places
+pub mod Idle
+pub mod Restless

@@ -1,7 +1,9 @@
 -- Cells of a page, one more at a time.
-use Rattle.std.proofs.Common.{◌≡◌, ◌≢◌, ℕ, ◌+◌, ◌<◌, ◌≤◌, Bool, true, false, nat_eq, nat_le, nat_lt, ◌&&◌, refl, ap, sym, ◌∙◌, arith, inl, inr, if◌then◌else◌}
+use Rattle.std.proofs.Common.{◌≡◌, ◌≢◌, ℕ, ◌+◌, ◌<◌, ◌≤◌, Bool, true, false, nat_eq, nat_le, nat_lt, ◌&&◌, Option, None, refl, ap, sym, ◌∙◌, arith, inl, inr, if◌then◌else◌}
 use Rattle.std.proofs.lemmas.Bool.{cases_eq, cases_lt, cases_Bool, eq-eqb, ne_eqb, cond-true, cond-false, and_from, and_left, and_right, le-leb, lt-leb, lt-ltb, le-ltb}
 use Rattle.bbm_place_map.specs.Cells.{in_page}
+use Rattle.bbm_place_map.specs.Entries.{no_pends, pends_of}
+use Rattle.bbm_place_map.specs.declared.entry.Entry.{Entry}
 
 pub inside : (b n j : ℕ) → b ≤ j → j < b + n → in_page b n j ≡ true
 inside b n j low high = and_from (nat_le b j) (nat_lt j (b + n)) (le-leb b j low) (lt-ltb j (b + n) high)
@@ -34,3 +36,11 @@ one_more b n d f g h old new i =
           new i ∙ cond-false (nat_eq i (b + n)) d (g i) (ne_eqb i (b + n) other) ∙ old i
           ∙ ap (λ (t : Bool). if t then d else f i) (sym (page_more b n i other))
     ]
+
+choose_pends : (q : ℕ) (b : Bool) (o : Option Entry) → pends_of q (if b then None else o) ≡ (if b then no_pends else pends_of q o)
+choose_pends q true o = refl
+choose_pends q false o = refl
+
+pub drop_pends : (q b : ℕ) (f g : ℕ → Option Entry) → ((i : ℕ) → g i ≡ (if in_page b 512 i then None else f i))
+    → (i : ℕ) → pends_of q (g i) ≡ (if in_page b 512 i then no_pends else pends_of q (f i))
+drop_pends q b f g new i = ap (pends_of q) (new i) ∙ choose_pends q (in_page b 512 i) (f i)

@@ -1,8 +1,10 @@
 -- Entries: what is kept of the broken places, and of each the TLBIs that wait for their answers.
 -- Source: project's own choice.
-use Rattle.std.specs.Prelude.{ℕ, Bool, false, Option, Some, None, List, [], ◌∷◌, nat_eq, slice_get, if◌then◌else◌}
+use Rattle.std.specs.Prelude.{◌≡◌, ℕ, Bool, false, Option, Some, None, List, [], ◌∷◌, nat_eq, slice_get, if◌then◌else◌}
 use Rattle.std.specs.Option.{option_map}
 use Rattle.bbm_regimes.specs.declared.pe.PeMask.{PeMask}
+use Rattle.bbm_tlbi_scope.specs.declared.entry.Cover.{Cover}
+use Rattle.bbm_entry_state.specs.Points.{waits}
 use Rattle.bbm_entry_state.specs.declared.marks.Marks.{Marks}
 use Rattle.bbm_entry_state.specs.declared.pending.Pend.{Pend}
 use Rattle.bbm_entry_state.specs.declared.pending.Pends.{Pends}
@@ -49,3 +51,7 @@ seat e = (e.place, e.cell)
 
 abbrev pub seat_at : List Entry → ℕ → Option (ℕ × ℕ)
 seat_at entries k = option_map seat (slice_get entries k)
+
+-- the same waits
+abbrev pub WaitsAlike : Pends → Pends → Type 0
+WaitsAlike old new = (b : Bool) (c : Cover) (p : ℕ) → waits new b c p ≡ waits old b c p

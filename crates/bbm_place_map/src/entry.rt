@@ -1,5 +1,8 @@
 //! What is kept of a broken place.
 
+ghost use Rattle.std.specs.Prelude.{◌≡◌};
+ghost use Rattle.bbm_place_map.specs.Entries.{pends_in, WaitsAlike};
+
 use bbm_entry_state::{Marks, Pends};
 use bbm_regimes::{Pe, Place};
 
@@ -23,4 +26,16 @@ pub struct Entry {
     pub marks: Marks,
     /// What waits there, for each issuer of TLBIs that cover the place.
     pub pends: Vec<Pending>,
+}
+
+/// What waits for the answers of the issuer's TLBIs.
+pub fn pends_of(pendings: &[Pending], issuer: Pe) -> Pends
+    ensures { WaitsAlike (pends_in pendings.now issuer) result }
+{
+    for pending in pendings {
+        if pending.issuer == issuer {
+            return pending.pends;
+        }
+    }
+    Pends::none()
 }

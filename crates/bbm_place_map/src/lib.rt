@@ -5,6 +5,8 @@ mod cell;
 mod entry;
 mod links;
 mod map;
+mod publish;
+mod read;
 mod write;
 
 pub use map::PlaceMap;

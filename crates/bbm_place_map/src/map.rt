@@ -7,9 +7,10 @@ ghost use Rattle.bbm_place_map.specs.Sound.{Linked, Numbered, Placed};
 
 use crate::cell::Cell;
 use crate::entry::Entry;
+use crate::{read, write};
 use bbm_barriers::Dsb;
 use bbm_descriptor::{Core, Memory};
-use bbm_entry_state::EntryState;
+use bbm_entry_state::{EntryState, Pends};
 use bbm_regimes::{NoMemory, Page, Pe, PeMask, Place};
 use bbm_tlbi_scope::Cover;
 use indexmap::IndexMap;
@@ -32,9 +33,13 @@ pub struct PlaceMap {
 
 #[tactic(auto, unfolding(crate::specs::Map::value_at, crate::specs::Map::marks_at, crate::specs::Map::pends_at, crate::specs::Map::is_tracked, crate::specs::Map::restless_in, crate::specs::Map::restless_place))]
 impl PlaceMap {
-    ghost use Rattle.std.specs.Prelude.{ℕ, Some, None, false};
+    ghost use Rattle.std.specs.Prelude.{ℕ, Some, None, true, false, IsSome, IfSome, is_some, not, ◌&&◌, ◌+◌, if◌then◌else◌};
+    ghost use Rattle.bbm_entry_state.specs.Points.{is_broken};
     ghost use Rattle.bbm_entry_state.specs.Standing.{IsIdle};
-    ghost use Rattle.bbm_place_map.specs.Map.{value_at, marks_at, pends_at, is_tracked, restless_in, restless_place, state_at};
+    ghost use Rattle.bbm_place_map.specs.Map.{value_at, marks_at, pends_at, is_tracked, page_of, restless_in, restless_place, state_at};
+    ghost use Rattle.bbm_place_map.specs.Entries.{WaitsAlike};
+    ghost use Rattle.bbm_place_map.specs.Sound.{index_of};
+    ghost use Rattle.bbm_place_map.specs.States.{marks_of_state};
 
     /// A map that tracks no page. It takes no memory yet.
     pub fn new(alloc: Global) -> PlaceMap
@@ -49,6 +54,120 @@ impl PlaceMap {
             pages: IndexMap::new(alloc),
             cells: Vec::new(alloc),
             broken: Vec::new(alloc),
+        }
+    }
+
+
+    /// Whether the page is tracked.
+    pub fn is_tracked(&self, page: Page) -> bool
+        ensures { result ≡ is_tracked self.now page }
+    {
+        self.pages.contains_key(&page.get())
+    }
+
+    // The number of the place's cell; None where its page isn't tracked.
+    fn index(&self, place: Place) -> Option<usize>
+        ensures index { result ≡ index_of (get nat_eq self.now.pages) place }
+        ensures within { IfSome result (λ j. j < vec_len self.now.cells) }
+        ensures tracked { is_tracked self.now (page_of place) ≡ true → IsSome result }
+    {
+        let _ = place.get();
+        let base = self.base(place.page())?;
+        Some(base + place.index() as usize)
+    }
+
+    /// The state of a place, where a place that isn't broken is live with this core, or clean without one.
+    pub fn state(&self, place: Place, live: Option<Core>) -> EntryState
+        ensures { result ≡ state_at self.now live place }
+    {
+        match self.index(place) {
+            Some(j) => read::state(&self.cells, &self.broken, j, live),
+            None => read::whole(live),
+        }
+    }
+
+    /// What waits at a place for the answers of the issuer's TLBIs. Nothing waits at a place that isn't broken.
+    pub fn pends(&self, issuer: Pe, place: Place) -> Pends
+        ensures pends { WaitsAlike (pends_at self.now issuer place) result }
+        ensures idle { marks_at self.now place ≡ None → IsIdle (pends_at self.now issuer place) }
+    {
+        match self.index(place) {
+            Some(j) => read::pends(&self.cells, &self.broken, j, issuer),
+            None => Pends::none(),
+        }
+    }
+
+    /// How many places are broken.
+    pub fn restless(&self) -> u64
+        ensures count { result ≡ restless_in self.now }
+        ensures broken { (i : ℕ) → i < restless_in self.now → is_some (marks_at self.now (restless_place self.now i)) ≡ true }
+        ensures each { (a : ℕ) → is_some (marks_at self.now a) ≡ true
+            → (i : ℕ) × (i < restless_in self.now) × (restless_place self.now i ≡ a) }
+        ensures once { (i j : ℕ) → i < restless_in self.now → j < restless_in self.now
+            → restless_place self.now i ≡ restless_place self.now j → i ≡ j }
+        ensures idle { (q a : ℕ) → marks_at self.now a ≡ None → IsIdle (pends_at self.now q a) }
+    {
+        self.broken.len() as u64
+    }
+
+    /// One of the broken places, by a number below `restless`. A call that changes the map may number them anew.
+    pub fn restless_at(&self, i: u64) -> Place
+        requires { i < restless_in self.now }
+        ensures place { result ≡ restless_place self.now i }
+        ensures broken { is_some (marks_at self.now result) ≡ true }
+    {
+        self.broken[i as usize].place
+    }
+
+    /// Writes a value at a place of a tracked page, and the state that the write leaves. What waits there stays where
+    /// the place is broken, and else is dropped. Nothing else changes.
+    pub fn set(&mut self, place: Place, value: u64, state: EntryState)
+        requires { is_tracked self.old (page_of place) ≡ true }
+        ensures values { (a : ℕ) → value_at self.new a ≡ (if nat_eq a place then value else value_at self.old a) }
+        ensures marks { (a : ℕ) → marks_at self.new a
+            ≡ (if nat_eq a place then marks_of_state state else marks_at self.old a) }
+        ensures pends { (q a : ℕ) → (nat_eq a place && not (is_broken state)) ≡ false
+            → pends_at self.new q a ≡ pends_at self.old q a }
+        ensures dropped { (q : ℕ) → is_broken state ≡ false → IsIdle (pends_at self.new q place) }
+        ensures pages { (page : ℕ) → is_tracked self.new page ≡ is_tracked self.old page }
+    {
+        let j = self.index(place).unwrap();
+        write::put(&mut self.cells, &mut self.broken, j, place, value, state, self.alloc);
+    }
+
+    /// No place of the page is broken any more, and nothing waits there. Nothing else changes.
+    pub fn release(&mut self, page: Page)
+        ensures values { (a : ℕ) → value_at self.new a ≡ value_at self.old a }
+        ensures marks { (a : ℕ) → marks_at self.new a
+            ≡ (if nat_eq (page_of a) page then None else marks_at self.old a) }
+        ensures pends { (q a : ℕ) → nat_eq (page_of a) page ≡ false → pends_at self.new q a ≡ pends_at self.old q a }
+        ensures dropped { (q a : ℕ) → nat_eq (page_of a) page ≡ true → IsIdle (pends_at self.new q a) }
+        ensures pages { (p : ℕ) → is_tracked self.new p ≡ is_tracked self.old p }
+    {
+        match self.base(page) {
+            Some(base) => write::clear_page(&mut self.cells, &mut self.broken, base),
+            None => {}
+        }
+    }
+
+    // The number of the first cell of a page; None where the page isn't tracked.
+    fn base(&self, page: Page) -> Option<usize>
+        ensures base { result ≡ get nat_eq self.now.pages page }
+        ensures within { IfSome result (λ b. b + 512 ≤ vec_len self.now.cells) }
+    {
+        self.pages.get(&page.get()).copied()
+    }
+}
+
+impl Memory for PlaceMap {
+    ghost use Rattle.bbm_place_map.specs.Map.{value_at};
+
+    ghost value_at = { value_at };
+
+    fn value(&self, place: Place) -> u64 {
+        match self.index(place) {
+            Some(j) => self.cells[j].value,
+            None => 0,
         }
     }
 }

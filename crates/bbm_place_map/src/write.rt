@@ -16,8 +16,8 @@ use bbm_entry_state::{EntryState, Marks};
 use bbm_regimes::Place;
 use std::alloc::Global;
 
-// Changes the marks of an entry.
-fn remark(broken: &mut Vec<Entry>, k: usize, marks: Marks)
+/// Changes the marks of an entry.
+pub fn remark(broken: &mut Vec<Entry>, k: usize, marks: Marks)
     requires { k < vec_len broken.old }
     ensures entry { (e : TheEntry) → slice_get broken.old.items k ≡ Some e → (i : ℕ) → slice_get broken.new.items i
         ≡ (if nat_eq i k then Some (record e { marks = marks }) else slice_get broken.old.items i) }
