@@ -7,3 +7,6 @@ pub mod Pages
 pub mod Places
 pub mod Idle
 pub mod Restless
+pub mod Pendings
+pub mod Advancing
+pub mod Published

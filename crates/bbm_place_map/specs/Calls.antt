@@ -1,12 +1,10 @@
 -- What the calls that concern all broken places say of each.
 -- Source: project's own choice.
-use Rattle.std.specs.Prelude.{◌≡◌, ℕ, Bool, true, false, Option, Some, None, is_none, ◌&&◌}
+use Rattle.std.specs.Prelude.{◌≡◌, ℕ, Bool}
 use Rattle.std.specs.Fn.{FnReturns, Shared}
 use denote.Ref.{Bor}
-use Rattle.bbm_descriptor.specs.declared.desc.Core.{Core}
-use Rattle.bbm_descriptor.specs.declared.desc.Core.TheVariants.{Table, Leaf}
-use Rattle.bbm_entry_state.specs.declared.marks.Marks.{Marks}
 use Rattle.bbm_tlbi_scope.specs.declared.entry.Cover.{Cover}
+use Rattle.bbm_place_map.specs.Each.{loses_table}
 use Rattle.bbm_place_map.specs.Map.{marks_at}
 use Rattle.bbm_place_map.specs.declared.map.PlaceMap.{PlaceMap}
 
@@ -18,16 +16,5 @@ pub record MayCover {F : Type 0} (calls : Shared F (Bor PlaceMap × (ℕ × Unit
   pub says : FnReturns calls f (shown, (place, tt)) cover
 
 -- whether a place was broken over a table, and isn't broken any more
-abbrev pub is_table : Core → Bool
-is_table (Table next ns) = true
-is_table (Leaf out attrs share global contiguous) = false
-
-abbrev pub has_table : Option Marks → Bool
-has_table None = false
-has_table (Some marks) = is_table marks.core
-
-abbrev pub loses_table : Option Marks → Option Marks → Bool
-loses_table old new = has_table old && is_none new
-
 abbrev pub lost_table : PlaceMap → PlaceMap → ℕ → Bool
 lost_table old new a = loses_table (marks_at old a) (marks_at new a)

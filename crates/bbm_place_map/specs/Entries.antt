@@ -1,6 +1,6 @@
 -- Entries: what is kept of the broken places, and of each the TLBIs that wait for their answers.
 -- Source: project's own choice.
-use Rattle.std.specs.Prelude.{◌≡◌, ℕ, Bool, false, Option, Some, None, List, [], ◌∷◌, nat_eq, slice_get, if◌then◌else◌}
+use Rattle.std.specs.Prelude.{◌≡◌, ℕ, Bool, false, Option, Some, None, List, [], ◌∷◌, nat_eq, ◌<◌, length, slice_index_or, slice_get, if◌then◌else◌}
 use Rattle.std.specs.Option.{option_map}
 use Rattle.bbm_regimes.specs.declared.pe.PeMask.{PeMask}
 use Rattle.bbm_tlbi_scope.specs.declared.entry.Cover.{Cover}
@@ -55,3 +55,7 @@ seat_at entries k = option_map seat (slice_get entries k)
 -- the same waits
 abbrev pub WaitsAlike : Pends → Pends → Type 0
 WaitsAlike old new = (b : Bool) (c : Cover) (p : ℕ) → waits new b c p ≡ waits old b c p
+
+-- none of the first n is of this issuer
+abbrev pub Lacks : List Pending → ℕ → ℕ → Type 0
+Lacks ps n q = (k : ℕ) (d : Pending) → k < n → k < length ps → nat_eq (slice_index_or ps k d).issuer q ≡ false

@@ -1,8 +1,8 @@
 pub mod Cells
 pub mod Entries
 pub mod Parts
-pub mod Each
 pub mod Sound
 pub mod States
+pub mod Each
 pub mod Map
 pub mod Calls

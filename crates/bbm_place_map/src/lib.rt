@@ -2,6 +2,7 @@
 #![tactic(auto)]
 
 mod cell;
+mod complete;
 mod entry;
 mod links;
 mod map;

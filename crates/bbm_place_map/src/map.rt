@@ -7,7 +7,7 @@ ghost use Rattle.bbm_place_map.specs.Sound.{Linked, Numbered, Placed};
 
 use crate::cell::Cell;
 use crate::entry::Entry;
-use crate::{read, write};
+use crate::{publish, read, write};
 use bbm_barriers::Dsb;
 use bbm_descriptor::{Core, Memory};
 use bbm_entry_state::{EntryState, Pends};
@@ -33,8 +33,10 @@ pub struct PlaceMap {
 
 #[tactic(auto, unfolding(crate::specs::Map::value_at, crate::specs::Map::marks_at, crate::specs::Map::pends_at, crate::specs::Map::is_tracked, crate::specs::Map::restless_in, crate::specs::Map::restless_place))]
 impl PlaceMap {
-    ghost use Rattle.std.specs.Prelude.{ℕ, Some, None, true, false, IsSome, IfSome, is_some, not, ◌&&◌, ◌+◌, if◌then◌else◌};
+    ghost use Rattle.std.specs.Prelude.{ℕ, Some, None, true, false, Option, IsSome, IfSome, is_some, not, ◌&&◌, ◌+◌, if◌then◌else◌};
     ghost use Rattle.bbm_entry_state.specs.Points.{is_broken};
+    ghost use Rattle.bbm_entry_state.specs.Calls.{Published};
+    ghost use Rattle.bbm_descriptor.specs.declared.desc.Core.{Core as TheCore};
     ghost use Rattle.bbm_entry_state.specs.Standing.{IsIdle};
     ghost use Rattle.bbm_place_map.specs.Map.{value_at, marks_at, pends_at, is_tracked, page_of, restless_in, restless_place, state_at};
     ghost use Rattle.bbm_place_map.specs.Entries.{WaitsAlike};
@@ -148,6 +150,22 @@ impl PlaceMap {
             Some(base) => write::clear_page(&mut self.cells, &mut self.broken, base),
             None => {}
         }
+    }
+
+    /// A DSB of the issuer, in a log with `n` PEs, 1 to 128, published its writes. Only the marks change.
+    pub fn publish(&mut self, issuer: Pe, dsb: Dsb, n: u8)
+        requires some { 1 ≤ n }
+        requires within { n ≤ 128 }
+        requires issuer_below { issuer < n }
+        ensures published { (live : Option TheCore) (a : ℕ)
+            → Published (state_at self.old live a) issuer dsb n (state_at self.new live a) }
+        ensures values { (a : ℕ) → value_at self.new a ≡ value_at self.old a }
+        ensures pends { (q a : ℕ) → pends_at self.new q a ≡ pends_at self.old q a }
+        ensures pages { (page : ℕ) → is_tracked self.new page ≡ is_tracked self.old page }
+        ensures restless { restless_in self.new ≡ restless_in self.old }
+        ensures places { (i : ℕ) → restless_place self.new i ≡ restless_place self.old i }
+    {
+        publish::publish(&mut self.broken, issuer, dsb, n);
     }
 
     // The number of the first cell of a page; None where the page isn't tracked.

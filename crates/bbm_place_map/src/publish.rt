@@ -5,6 +5,7 @@ ghost use Rattle.bbm_entry_state.specs.Calls.{Published};
 ghost use Rattle.bbm_place_map.specs.Each.{Advances, Publishes};
 
 use crate::entry::Entry;
+use crate::read::broken_marks;
 use crate::write::remark;
 use bbm_barriers::Dsb;
 use bbm_entry_state::{EntryState, Marks};
@@ -17,11 +18,7 @@ fn published(marks: Marks, issuer: Pe, dsb: Dsb, n: u8) -> Marks
     requires issuer_below { issuer < n }
     ensures { Published (EntryState.Broken marks) issuer dsb n (EntryState.Broken result) }
 {
-    match (EntryState::Broken { marks }).dsb(issuer, dsb, n) {
-        EntryState::Broken { marks } => marks,
-        EntryState::Clean => marks,
-        EntryState::Live { .. } => marks,
-    }
+    broken_marks((EntryState::Broken { marks }).dsb(issuer, dsb, n))
 }
 
 /// A DSB of the issuer published its writes.

@@ -1,6 +1,7 @@
 //! What is kept of a cell.
 
-ghost use Rattle.std.specs.Prelude.{◌≡◌, ◌<◌, length, None};
+ghost use Rattle.std.specs.Prelude.{◌≡◌, ◌<◌, length, None, true};
+ghost use Rattle.bbm_entry_state.specs.Points.{is_broken};
 ghost use Rattle.bbm_place_map.specs.Entries.{WaitsAlike};
 ghost use Rattle.bbm_place_map.specs.Parts.{marks_in, pends_for};
 ghost use Rattle.bbm_place_map.specs.Sound.{Linked};
@@ -9,7 +10,7 @@ ghost use Rattle.bbm_place_map.specs.States.{state_from};
 use crate::cell::Cell;
 use crate::entry::{Entry, pends_of};
 use bbm_descriptor::Core;
-use bbm_entry_state::{EntryState, Pends};
+use bbm_entry_state::{EntryState, Marks, Pends};
 use bbm_regimes::Pe;
 
 /// The state of a place that isn't broken: live with this core, or clean without one.
@@ -19,6 +20,18 @@ pub fn whole(live: Option<Core>) -> EntryState
     match live {
         Some(core) => EntryState::Live { core },
         None => EntryState::Clean,
+    }
+}
+
+/// The marks of a state that is broken.
+pub fn broken_marks(state: EntryState) -> Marks
+    requires { is_broken state ≡ true }
+    ensures { state ≡ EntryState.Broken result }
+{
+    match state {
+        EntryState::Broken { marks } => marks,
+        EntryState::Clean => unreachable!(),
+        EntryState::Live { .. } => unreachable!(),
     }
 }
 
