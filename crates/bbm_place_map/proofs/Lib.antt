@@ -10,3 +10,6 @@ pub mod Restless
 pub mod Pendings
 pub mod Advancing
 pub mod Published
+pub mod Completing
+pub mod Answering
+pub mod Looking

@@ -1,6 +1,6 @@
 //! What a DSB answers.
 
-ghost use Rattle.std.specs.Prelude.{◌≡◌, ◌≢◌, ◌≤◌, ◌<◌, ◌^◌, ℕ, Some, Option, vec_len, vec_capacity, length, slice_get, nat_eq, if◌then◌else◌};
+ghost use Rattle.std.specs.Prelude.{◌≡◌, ◌≢◌, ◌≤◌, ◌<◌, ◌^◌, ℕ, Some, Option, vec_len, vec_capacity, length, slice_get, nat_eq, true, false, if◌then◌else◌};
 ghost use Rattle.bbm_entry_state.specs.Standing.{IsIdle};
 ghost use Rattle.bbm_place_map.specs.Cells.{value_in, slot_in};
 ghost use Rattle.bbm_place_map.specs.Each.{Completes, loses_table, is_table as spec_is_table};
@@ -65,6 +65,7 @@ fn complete_at(cells: &mut Vec<Cell>, broken: &mut Vec<Entry>, k: usize, issuer:
     ensures placed { (base : ℕ → Option ℕ) → Placed base broken.old.items → Placed base broken.new.items }
 {
     let marks = broken[k].marks;
+    let core = marks.core;
     let pends = pends_of(&broken[k].pends, issuer);
     let (state, left) = (EntryState::Broken { marks }).complete(pends, dsb, n);
     match state {
@@ -74,8 +75,38 @@ fn complete_at(cells: &mut Vec<Cell>, broken: &mut Vec<Entry>, k: usize, issuer:
         }
         EntryState::Clean => {
             unlink(cells, broken, k);
-            is_table(marks.core)
+            is_table(core)
         }
         EntryState::Live { .. } => unreachable!(),
     }
+}
+
+/// A DSB of the issuer answered its TLBIs. An entry whose place is cleansed at every PE leaves. Whether one over a table
+/// left.
+pub fn complete(cells: &mut Vec<Cell>, broken: &mut Vec<Entry>, issuer: Pe, dsb: Dsb, n: u8) -> bool
+    requires some { 1 ≤ n }
+    requires most { n ≤ 128 }
+    requires linked { Linked cells.old.items broken.old.items }
+    requires few { vec_len cells.old < 2 ^ 32 }
+    ensures linked { Linked cells.new.items broken.new.items }
+    ensures len { vec_len cells.new ≡ vec_len cells.old }
+    ensures room { vec_capacity broken.new ≡ vec_capacity broken.old }
+    ensures values { (i : ℕ) → value_in cells.new.items i ≡ value_in cells.old.items i }
+    ensures each { (j : ℕ) → Completes issuer dsb n (entry_in cells.old.items broken.old.items j)
+        (entry_in cells.new.items broken.new.items j) }
+    ensures lost { result ≡ true → (j : ℕ) × (loses_table (marks_in cells.old.items broken.old.items j)
+        (marks_in cells.new.items broken.new.items j) ≡ true) }
+    ensures kept { result ≡ false → (j : ℕ) → loses_table (marks_in cells.old.items broken.old.items j)
+        (marks_in cells.new.items broken.new.items j) ≡ false }
+    ensures placed { (base : ℕ → Option ℕ) → Placed base broken.old.items → Placed base broken.new.items }
+{
+    let mut lost = false;
+    let mut k = broken.len();
+    while k > 0 {
+        k -= 1;
+        if complete_at(cells, broken, k, issuer, dsb, n) {
+            lost = true;
+        }
+    }
+    lost
 }
