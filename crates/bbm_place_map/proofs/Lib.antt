@@ -13,3 +13,4 @@ pub mod Published
 pub mod Completing
 pub mod Answering
 pub mod Looking
+pub mod Completed

@@ -139,15 +139,15 @@ module _ (issuer n : ℕ) (dsb : Dsb) where
         (below_some k m (slot_in cells' i) (ap (slot_in cells') same ∙ slot_j) (omega arith))
 
     pub looked_answer : answer ≡ true → Looked issuer dsb n m true cells new entries after
-    looked_answer yes = record {
+    looked_answer h = record {
       untouched = untouched;
       done = done;
-      found = λ _. (j, behind_j, loss_j ∙ yes);
-      none = λ h. cc;
+      found = λ _. (j, behind_j, loss_j ∙ h);
+      none = λ t. cc;
     }
 
     pub looked_on : answer ≡ false → Looked issuer dsb n m lost cells new entries after
-    looked_on no = record {
+    looked_on not-here = record {
       untouched = untouched;
       done = done;
       found = λ h.
@@ -155,7 +155,7 @@ module _ (issuer n : ℕ) (dsb : Dsb) where
           (w.0, stays w.0 w.1, same_loss w.0 (apart_j w.0 w.1) ∙ w.2);
       none = λ h i behind.
           elim (cases_eq i j) [
-            | inl same ↦ ap (λ (x : ℕ). loses_table (marks_in cells entries x) (marks_in new after x)) same ∙ loss_j ∙ no
+            | inl same ↦ ap (λ (x : ℕ). loses_table (marks_in cells entries x) (marks_in new after x)) same ∙ loss_j ∙ not-here
             | inr other ↦ same_loss i other ∙ looked.none h i (no_more i other behind)
           ];
     }

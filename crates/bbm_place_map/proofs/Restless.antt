@@ -13,6 +13,13 @@ use Rattle.bbm_place_map.specs.declared.cell.Cell.{Cell}
 use Rattle.bbm_place_map.specs.declared.entry.Entry.{Entry}
 use Rattle.bbm_place_map.proofs.Places.{index_once}
 
+pub entry_there : (entries : List Entry) (i : ℕ) → i < length entries → (e : Entry) × (slice_get entries i ≡ Some e)
+entry_there entries i within =
+    elim ((slice_get_cases entries i).1) [
+      | inl is ↦ (is.0, is.2)
+      | inr past ↦ absurd (omega (arith, past.0))
+    ]
+
 module _ (base : ℕ → Option ℕ) (cells : List Cell) (entries : List Entry) (linked : Linked cells entries)
     (placed : Placed base entries) where
   abbrev pub marks_here : ℕ → Option Marks
@@ -20,13 +27,6 @@ module _ (base : ℕ → Option ℕ) (cells : List Cell) (entries : List Entry) 
 
   abbrev pub place_of : ℕ → ℕ
   place_of i = unwrap_or (option_map (λ (e : Entry). e.place) (slice_get entries i)) 0
-
-  pub entry_at : (i : ℕ) → i < length entries → (e : Entry) × (slice_get entries i ≡ Some e)
-  entry_at i within =
-      elim ((slice_get_cases entries i).1) [
-        | inl is ↦ (is.0, is.2)
-        | inr past ↦ absurd (omega (arith, past.0))
-      ]
 
   place_is : (i : ℕ) (e : Entry) → slice_get entries i ≡ Some e → place_of i ≡ e.place
   place_is i e h = ap (λ (o : Option Entry). unwrap_or (option_map (λ (x : Entry). x.place) o) 0) h
@@ -41,14 +41,14 @@ module _ (base : ℕ → Option ℕ) (cells : List Cell) (entries : List Entry) 
 
   pub place_broken : (i : ℕ) → i < length entries → is_some (marks_here (place_of i)) ≡ true
   place_broken i within =
-      let e = entry_at i within in
+      let e = entry_there entries i within in
       ap (λ (a : ℕ). is_some (marks_here a)) (place_is i e.0 e.1)
       ∙ ap (λ (o : Option Marks). is_some o) (marks_are i e.0 e.1)
 
   pub place_once : (i j : ℕ) → i < length entries → j < length entries → place_of i ≡ place_of j → i ≡ j
   place_once i j within within' same =
-      let e = entry_at i within in
-      let f = entry_at j within' in
+      let e = entry_there entries i within in
+      let f = entry_there entries j within' in
       let place : e.0.place ≡ f.0.place = sym (place_is i e.0 e.1) ∙ same ∙ place_is j f.0 f.1 in
       let cell : e.0.cell ≡ f.0.cell
       = same_Some e.0.cell f.0.cell (sym (placed i e.0 e.1) ∙ ap (index_of base) place ∙ placed j f.0 f.1) in

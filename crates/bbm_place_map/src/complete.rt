@@ -1,6 +1,6 @@
 //! What a DSB answers.
 
-ghost use Rattle.std.specs.Prelude.{◌≡◌, ◌≢◌, ◌≤◌, ◌<◌, ◌^◌, ℕ, Some, Option, vec_len, vec_capacity, length, slice_get, nat_eq, true, false, if◌then◌else◌};
+ghost use Rattle.std.specs.Prelude.{◌≡◌, ◌≢◌, ◌≤◌, ◌<◌, ◌+◌, ◌^◌, ℕ, Some, Option, vec_len, vec_capacity, length, slice_get, nat_eq, true, false, if◌then◌else◌};
 ghost use Rattle.bbm_entry_state.specs.Standing.{IsIdle};
 ghost use Rattle.bbm_place_map.specs.Cells.{value_in, slot_in};
 ghost use Rattle.bbm_place_map.specs.Each.{Completes, loses_table, is_table as spec_is_table};
@@ -54,6 +54,7 @@ fn complete_at(cells: &mut Vec<Cell>, broken: &mut Vec<Entry>, k: usize, issuer:
     ensures len { vec_len cells.new ≡ vec_len cells.old }
     ensures room { vec_capacity broken.new ≡ vec_capacity broken.old }
     ensures values { (i : ℕ) → value_in cells.new.items i ≡ value_in cells.old.items i }
+    ensures short { length broken.old.items ≤ length broken.new.items + 1 }
     ensures here { (j : ℕ) → cell_at broken.old.items k ≡ Some j → Completes issuer dsb n
         (entry_in cells.old.items broken.old.items j) (entry_in cells.new.items broken.new.items j) }
     ensures answer { (j : ℕ) → cell_at broken.old.items k ≡ Some j → result

@@ -7,7 +7,7 @@ ghost use Rattle.bbm_place_map.specs.Sound.{Linked, Numbered, Placed};
 
 use crate::cell::Cell;
 use crate::entry::Entry;
-use crate::{publish, read, write};
+use crate::{complete, publish, read, write};
 use bbm_barriers::Dsb;
 use bbm_descriptor::{Core, Memory};
 use bbm_entry_state::{EntryState, Pends};
@@ -33,9 +33,11 @@ pub struct PlaceMap {
 
 #[tactic(auto, unfolding(crate::specs::Map::value_at, crate::specs::Map::marks_at, crate::specs::Map::pends_at, crate::specs::Map::is_tracked, crate::specs::Map::restless_in, crate::specs::Map::restless_place))]
 impl PlaceMap {
-    ghost use Rattle.std.specs.Prelude.{ℕ, Some, None, true, false, Option, IsSome, IfSome, is_some, not, ◌&&◌, ◌+◌, if◌then◌else◌};
-    ghost use Rattle.bbm_entry_state.specs.Points.{is_broken};
-    ghost use Rattle.bbm_entry_state.specs.Calls.{Published};
+    ghost use Rattle.std.specs.Prelude.{ℕ, Bool, Some, None, true, false, Option, IsSome, IfSome, is_some, not, ◌&&◌, ◌+◌, if◌then◌else◌};
+    ghost use Rattle.bbm_entry_state.specs.Points.{is_broken, waits};
+    ghost use Rattle.bbm_tlbi_scope.specs.declared.entry.Cover.{Cover as TheCover};
+    ghost use Rattle.bbm_place_map.specs.Calls.{lost_table};
+    ghost use Rattle.bbm_entry_state.specs.Calls.{Published, Completed};
     ghost use Rattle.bbm_descriptor.specs.declared.desc.Core.{Core as TheCore};
     ghost use Rattle.bbm_entry_state.specs.Standing.{IsIdle};
     ghost use Rattle.bbm_place_map.specs.Map.{value_at, marks_at, pends_at, is_tracked, page_of, restless_in, restless_place, state_at};
@@ -166,6 +168,24 @@ impl PlaceMap {
         ensures places { (i : ℕ) → restless_place self.new i ≡ restless_place self.old i }
     {
         publish::publish(&mut self.broken, issuer, dsb, n);
+    }
+
+    /// A DSB of the issuer, in a log with `n` PEs, 1 to 128, answered its TLBIs. A place that is cleansed at every PE
+    /// isn't broken any more, and nothing waits there. Whether such a place was broken over a table.
+    pub fn complete(&mut self, issuer: Pe, dsb: Dsb, n: u8) -> bool
+        requires some { 1 ≤ n }
+        requires within { n ≤ 128 }
+        ensures completed { (a : ℕ) → Completed (state_at self.old None a) (pends_at self.old issuer a) dsb n
+            (state_at self.new None a) (pends_at self.new issuer a) }
+        ensures others { (q a : ℕ) (b : Bool) (c : TheCover) (p : ℕ) → nat_eq q issuer ≡ false
+            → waits (pends_at self.new q a) b c p
+            ≡ (is_some (marks_at self.new a) && waits (pends_at self.old q a) b c p) }
+        ensures lost { result ≡ true → (a : ℕ) × (lost_table self.old self.new a ≡ true) }
+        ensures kept { result ≡ false → (a : ℕ) → lost_table self.old self.new a ≡ false }
+        ensures values { (a : ℕ) → value_at self.new a ≡ value_at self.old a }
+        ensures pages { (page : ℕ) → is_tracked self.new page ≡ is_tracked self.old page }
+    {
+        complete::complete(&mut self.cells, &mut self.broken, issuer, dsb, n)
     }
 
     // The number of the first cell of a page; None where the page isn't tracked.
