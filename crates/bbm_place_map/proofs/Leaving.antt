@@ -4,7 +4,7 @@ use Rattle.std.specs.List.{swap_remove}
 use Rattle.std.specs.Option.{option_map}
 use Rattle.std.proofs.lemmas.Bool.{cases_eq, cases_lt, eq-eqb, ne_eqb, cond-true, cond-false}
 use Rattle.std.proofs.lemmas.List.Sums.{sum_by-swap_remove}
-use Rattle.std.proofs.lemmas.Option.{slice_get_read, slice_get_past, none-some}
+use Rattle.std.proofs.lemmas.Option.{slice_get_read, slice_get_past, none-some, same_Some}
 use Rattle.bbm_place_map.specs.Cells.{slot_in, is_listed}
 use Rattle.bbm_place_map.specs.Entries.{cell_at, entry_in}
 use Rattle.bbm_place_map.specs.Sound.{Linked, Placed, index_of}
@@ -17,6 +17,10 @@ use Rattle.bbm_place_map.proofs.Linking as with
 -- the entry with this number, read
 pub entry_read : (entries : List Entry) (k : ℕ) (x : Entry) → k < length entries → x ≡ get_or entries k x → slice_get entries k ≡ Some x
 entry_read entries k x within is = slice_get_read entries (length entries) k x refl within is
+
+pub entry_same : (entries : List Entry) (k : ℕ) (x e : Entry) → k < length entries → x ≡ get_or entries k x → slice_get entries k ≡ Some e
+    → x ≡ e
+entry_same entries k x e within is h = same_Some x e (sym (entry_read entries k x within is) ∙ h)
 
 pub cell_read : (entries : List Entry) (k : ℕ) (x : Entry) → k < length entries → x ≡ get_or entries k x → cell_at entries k ≡ Some x.cell
 cell_read entries k x within is = ap (option_map (λ (e : Entry). e.cell)) (entry_read entries k x within is)

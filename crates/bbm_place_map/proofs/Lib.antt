@@ -14,3 +14,5 @@ pub mod Completing
 pub mod Answering
 pub mod Looking
 pub mod Completed
+pub mod Growing
+pub mod Noting

@@ -4,5 +4,6 @@ pub mod Parts
 pub mod Sound
 pub mod States
 pub mod Each
+pub mod Notes
 pub mod Map
 pub mod Calls

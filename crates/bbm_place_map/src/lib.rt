@@ -4,6 +4,7 @@
 mod cell;
 mod complete;
 mod entry;
+mod issue;
 mod links;
 mod map;
 mod publish;

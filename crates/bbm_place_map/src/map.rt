@@ -16,6 +16,9 @@ use bbm_tlbi_scope::Cover;
 use indexmap::IndexMap;
 use std::alloc::Global;
 
+/// The number of cells that may be kept. Source: project's own choice.
+const MAX_CELLS: usize = 1 << 31;
+
 /// The values of the places of the tracked pages, and of the broken ones among them the marks and the pendings.
 /// Source: project's own choice.
 #[derive(Drop)]
@@ -33,10 +36,10 @@ pub struct PlaceMap {
 
 #[tactic(auto, unfolding(crate::specs::Map::value_at, crate::specs::Map::marks_at, crate::specs::Map::pends_at, crate::specs::Map::is_tracked, crate::specs::Map::restless_in, crate::specs::Map::restless_place))]
 impl PlaceMap {
-    ghost use Rattle.std.specs.Prelude.{ℕ, Bool, Some, None, true, false, Option, IsSome, IfSome, is_some, not, ◌&&◌, ◌+◌, if◌then◌else◌};
+    ghost use Rattle.std.specs.Prelude.{ℕ, Bool, Some, None, true, false, Option, IsSome, IfSome, is_some, OnOk, OnErr, ◌||◌, not, ◌&&◌, ◌+◌, if◌then◌else◌};
     ghost use Rattle.bbm_entry_state.specs.Points.{is_broken, waits};
     ghost use Rattle.bbm_tlbi_scope.specs.declared.entry.Cover.{Cover as TheCover};
-    ghost use Rattle.bbm_place_map.specs.Calls.{lost_table};
+    ghost use Rattle.bbm_place_map.specs.Calls.{lost_table, IsSame};
     ghost use Rattle.bbm_entry_state.specs.Calls.{Published, Completed};
     ghost use Rattle.bbm_descriptor.specs.declared.desc.Core.{Core as TheCore};
     ghost use Rattle.bbm_entry_state.specs.Standing.{IsIdle};
@@ -186,6 +189,63 @@ impl PlaceMap {
         ensures pages { (page : ℕ) → is_tracked self.new page ≡ is_tracked self.old page }
     {
         complete::complete(&mut self.cells, &mut self.broken, issuer, dsb, n)
+    }
+
+    /// Tracks the page: its values are 0, none of its places is broken, and nothing waits there. `NoMemory` where there
+    /// is none, and nothing changes then. It takes all the room that `set` needs later.
+    pub fn track(&mut self, _alloc: Global, page: Page) -> Result<(), NoMemory>
+        ensures pages { OnOk result ((p : ℕ) → is_tracked self.new p ≡ (nat_eq p page || is_tracked self.old p)) }
+        ensures values { OnOk result ((a : ℕ) → value_at self.new a
+            ≡ (if nat_eq (page_of a) page then 0 else value_at self.old a)) }
+        ensures marks { OnOk result ((a : ℕ) → marks_at self.new a
+            ≡ (if nat_eq (page_of a) page then None else marks_at self.old a)) }
+        ensures pends { OnOk result ((q a : ℕ) → nat_eq (page_of a) page ≡ false
+            → pends_at self.new q a ≡ pends_at self.old q a) }
+        ensures kept { OnErr result (IsSame self.old self.new) }
+    {
+        match self.base(page) {
+            Some(base) => {
+                write::clear_page(&mut self.cells, &mut self.broken, base);
+                write::zero_page(&mut self.cells, base);
+                Ok(())
+            }
+            None => self.add_page(page),
+        }
+    }
+
+    // Tracks a page that isn't tracked. `NoMemory` where there is none, and nothing changes then.
+    fn add_page(&mut self, page: Page) -> Result<(), NoMemory>
+        requires { is_tracked self.old page ≡ false }
+        ensures pages { OnOk result ((p : ℕ) → is_tracked self.new p ≡ (nat_eq p page || is_tracked self.old p)) }
+        ensures values { OnOk result ((a : ℕ) → value_at self.new a ≡ value_at self.old a) }
+        ensures marks { OnOk result ((a : ℕ) → marks_at self.new a ≡ marks_at self.old a) }
+        ensures pends { OnOk result ((q a : ℕ) → pends_at self.new q a ≡ pends_at self.old q a) }
+        ensures kept { OnErr result (IsSame self.old self.new) }
+    {
+        let base = self.cells.len();
+        if base >= MAX_CELLS || !self.has_room() {
+            return Err(NoMemory);
+        }
+        match self.pages.insert(page.get(), base) {
+            Ok(_) => {
+                write::add_cells(&mut self.cells);
+                Ok(())
+            }
+            Err(_) => Err(NoMemory),
+        }
+    }
+
+    // Makes room for the cells of one more page, and for an entry of each cell. Whether there is.
+    fn has_room(&mut self) -> bool
+        ensures cells { result ≡ true → vec_len self.new.cells + 512 ≤ vec_capacity self.new.cells }
+        ensures broken { result ≡ true → vec_len self.new.cells + 512 ≤ vec_capacity self.new.broken }
+        ensures pages { self.new.pages ≡ self.old.pages }
+        ensures items { self.new.cells.items ≡ self.old.cells.items }
+        ensures len { vec_len self.new.cells ≡ vec_len self.old.cells }
+        ensures entries { self.new.broken.items ≡ self.old.broken.items }
+    {
+        let wanted = self.cells.len() + 512 - self.broken.len();
+        self.broken.reserve(wanted).is_ok() && self.cells.reserve(512).is_ok()
     }
 
     // The number of the first cell of a page; None where the page isn't tracked.

@@ -139,3 +139,20 @@ pub fn zero_page(cells: &mut Vec<Cell>, base: usize)
         put_value(cells, base + i, 0);
     }
 }
+
+/// Adds 512 cells that hold 0 and have no entry, where there is room for them.
+pub fn add_cells(cells: &mut Vec<Cell>)
+    requires { vec_len cells.old + 512 ≤ vec_capacity cells.old }
+    ensures len { vec_len cells.new ≡ vec_len cells.old + 512 }
+    ensures values { (i : ℕ) → value_in cells.new.items i ≡ value_in cells.old.items i }
+    ensures slots { (i : ℕ) → slot_in cells.new.items i ≡ slot_in cells.old.items i }
+    ensures linked { (entries : List TheEntry) → Linked cells.old.items entries → Linked cells.new.items entries }
+{
+    for i in 0..512usize {
+        let _ = i;
+        cells.push_reserved(Cell {
+            value: 0,
+            slot: None,
+        });
+    }
+}
