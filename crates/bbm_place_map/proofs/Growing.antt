@@ -1,5 +1,5 @@
 -- One more page.
-use Rattle.std.proofs.Common.{◌≡◌, ◌≢◌, ℕ, ◌+◌, ◌*◌, ◌/◌, ◌%◌, ◌<◌, ◌≤◌, Bool, true, false, nat_eq, ◌==◌, List, length, Option, Some, None, refl, ap, sym, ◌∙◌, arith, inl, inr, ◌⊎◌, if◌then◌else◌, slice_get}
+use Rattle.std.proofs.Common.{◌≡◌, ◌≢◌, ℕ, ◌+◌, ◌*◌, ◌/◌, ◌%◌, ◌<◌, ◌≤◌, Bool, true, false, nat_eq, ◌==◌, List, length, Option, Some, None, refl, ap, sym, ◌∙◌, arith, inl, inr, ◌⊎◌, if◌then◌else◌, slice_get, is_some}
 use Rattle.std.specs.Option.{option_map}
 use Rattle.std.proofs.lemmas.Bool.{cases_eq, cases_lt, cases_Bool, eq-eqb, ne_eqb, cond-true, cond-false}
 use Rattle.std.proofs.lemmas.List.{get_or_past}
@@ -95,3 +95,15 @@ past_marks cells entries i past = ap (λ (o : Option ℕ). marks_of (entry_of en
 
 pub past_pends : (cells : List Cell) (entries : List Entry) (q i : ℕ) → length cells ≤ i → pends_for cells entries q i ≡ no_pends
 past_pends cells entries q i past = ap (λ (o : Option ℕ). pends_of q (entry_of entries o)) (past_slot cells i past)
+
+-- a test with its sides exchanged
+pub flip : (key page p : ℕ) → key ≡ page → nat_eq key p ≡ nat_eq p page
+flip key page p is =
+    elim (cases_eq p page) [
+      | inl same ↦ eq-eqb key p (is ∙ sym same) ∙ sym (eq-eqb p page same)
+      | inr other ↦ ne_eqb key p (λ h. other (sym h ∙ is)) ∙ sym (ne_eqb p page other)
+    ]
+
+pub not_some : (o : Option ℕ) → is_some o ≡ false → o ≡ None
+not_some None h = refl
+not_some (Some x) h = cc
