@@ -6,7 +6,7 @@ use Rattle.bbm_regimes.specs.declared.pe.PeMask.{PeMask}
 use Rattle.bbm_tlbi_scope.specs.declared.entry.Cover.{Cover}
 use Rattle.bbm_tlbi_scope.specs.declared.entry.Cover.TheVariants.{None as NoCover, Half, Second, Full}
 use Rattle.bbm_entry_state.specs.Calls.{Noted, counts_at}
-use Rattle.bbm_entry_state.specs.Covers.{same_cover}
+use Rattle.bbm_tlbi_scope.specs.Same.{same_cover}
 use Rattle.bbm_entry_state.specs.Points.{waits}
 use Rattle.bbm_entry_state.specs.declared.marks.Marks.{Marks}
 use Rattle.bbm_entry_state.specs.declared.pending.Pends.{Pends}
