@@ -9,7 +9,7 @@ mod follow;
 mod other_logs;
 mod slow;
 mod told_logs;
-mod words;
+mod usage;
 
 use super::*;
 use bbm_io::{MemSink, MemSource};
@@ -25,7 +25,7 @@ struct Faults {
 }
 
 /// The words of a command with one space between them; no words for an empty text.
-fn words(alloc: Global, command: &str) -> Result<Vec<String>, AllocError> {
+fn words_of(alloc: Global, command: &str) -> Result<Vec<String>, AllocError> {
     let mut words = Vec::new(alloc);
     for word in command.split(' ') {
         if !word.is_empty() {
@@ -59,7 +59,7 @@ fn judged(
     log: Vec<u8>,
     faults: Faults,
 ) -> Result<(u8, MemSink), AllocError> {
-    let words = words(alloc, command)?;
+    let words = words_of(alloc, command)?;
     let mut source = MemSource::new(log, vec![in alloc; faults.read]?);
     let room = Vec::with_capacity(alloc, faults.room)?;
     let mut sink = MemSink::new(room, vec![in alloc; faults.write]?);

@@ -1,6 +1,6 @@
 //! What the words say.
 
-use super::{Faults, REMAP, judged, log, words};
+use super::{Faults, REMAP, judged, log, words_of};
 use crate::{number, run_words};
 use bbm_io::{CleanSource, MemSink};
 use std::io;
@@ -57,8 +57,8 @@ fn tells_the_usage(rt: HostRuntime) -> Result<(), Fail> {
 
 #[test]
 fn ends_by_the_words(rt: HostRuntime) -> Result<(), Fail> {
-    let check = words(rt.alloc(), "check")?;
-    let none = words(rt.alloc(), "")?;
+    let check = words_of(rt.alloc(), "check")?;
+    let none = words_of(rt.alloc(), "")?;
     // What came of gathering the words, and the status and what is written.
     for (gathered, status, text) in vec![in rt.alloc();
         (Ok(check), 0, b"accepted 8 events\n".as_slice()),
