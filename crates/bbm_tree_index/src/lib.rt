@@ -30,3 +30,6 @@ pub use example::null_page;
 pub use fault::TreeFault;
 pub use index::TreeIndex;
 pub use role::{Attach, Path, Role};
+
+#[cfg(test)]
+mod tests;
