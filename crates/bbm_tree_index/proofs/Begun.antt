@@ -1,5 +1,5 @@
 -- The table of one start.
-use Rattle.std.proofs.Common.{◌≡◌, ℕ, zero, suc, ◌<◌, ◌+◌, ◌*◌, ◌%◌, ◌^◌, ◌==◌, Bool, true, false, List, [], ◌∷◌, Option, Some, None, Contains, length, get_or, nat_eq, refl, sym, ap, ◌∙◌, subst, true≢false, if◌then◌else◌, arith}
+use Rattle.std.proofs.Common.{◌≡◌, ℕ, zero, suc, ◌<◌, ◌+◌, ◌*◌, ◌%◌, ◌^◌, ◌==◌, Bool, true, false, [], ◌∷◌, Option, Some, None, Contains, refl, sym, ap, ◌∙◌, subst, true≢false, if◌then◌else◌, arith}
 use Rattle.std.proofs.lemmas.Bool.{eqb-true, eq-eqb}
 use Rattle.std.proofs.lemmas.Option.{same_Some}
 use Rattle.bbm_events.specs.Heading.{Heading}
@@ -7,9 +7,8 @@ use Rattle.bbm_rules.specs.Places.{index_of}
 use Rattle.bbm_rules.specs.Roots.{input_pages}
 use Rattle.bbm_rules.specs.Tree.{Node, node_below}
 use Rattle.bbm_tree_index.specs.Spots.{Fits, RoleFits, StandsAt, spot_with}
-use Rattle.bbm_tree_index.specs.Survey.{Counts, Found, Starting, Well, joined, role_as, spot_as}
+use Rattle.bbm_tree_index.specs.Survey.{Counts, Starting, Well, role_as, spot_as}
 use Rattle.bbm_tree_index.specs.declared.mark.Mark.{Mark}
-use Rattle.bbm_tree_index.specs.declared.role.Role.{Role}
 use Rattle.bbm_tree_index.specs.declared.role.Role.TheVariants.{Hangs}
 use Rattle.bbm_tree_index.specs.declared.spot.Spot.{Spot}
 use Rattle.bbm_tree_index.proofs.Growing.{hang_fits, well_grown, well_none}
@@ -34,6 +33,7 @@ module _ (s : Spot) (place next : ℕ) (mark : Mark) (is : mark.role ≡ Hangs p
     where
       ap' : (p : ℕ) → Some next ≡ Some p → next < 2 ^ 48 → p < 2 ^ 48
       ap' p e h = subst (λ q. q < 2 ^ 48) (same_Some next p e) h
+
       ap'' : (p : ℕ) → Some next ≡ Some p → next % 4096 ≡ 0 → p % 4096 ≡ 0
       ap'' p e h = subst (λ q. q % 4096 ≡ 0) (same_Some next p e) h
 

@@ -1,15 +1,14 @@
 -- A table of marks after one more place.
-use Rattle.std.proofs.Common.{◌≡◌, ℕ, suc, ◌+◌, ◌*◌, Bool, true, false, ◌||◌, ◌==◌, List, [], ◌∷◌, Option, Some, None, refl, sym, ap, ◌∙◌, subst, true≢false, if◌then◌else◌}
+use Rattle.std.proofs.Common.{◌≡◌, ℕ, suc, ◌+◌, ◌*◌, Bool, true, false, ◌||◌, ◌==◌, List, Option, Some, None, refl, sym, ap, ◌∙◌, subst, true≢false, if◌then◌else◌}
 use Rattle.std.proofs.lemmas.Bool.{eqb-true, eq-eqb}
 use Rattle.std.proofs.lemmas.Option.{none-some, same_Some}
 use Rattle.bbm_rules.specs.Places.{index_of, page_of}
 use Rattle.bbm_rules.specs.Roots.{input_pages}
-use Rattle.bbm_rules.specs.Tree.{Above, Node, next_of, node_below}
+use Rattle.bbm_rules.specs.Tree.{Node, next_of, node_below}
 use Rattle.bbm_tree_index.specs.Held.{is_at}
 use Rattle.bbm_tree_index.specs.Spots.{StandsAt}
 use Rattle.bbm_tree_index.specs.Survey.{Counts, Found, Partly, Reached, Step, grown, joined, role_as}
 use Rattle.bbm_tree_index.specs.declared.mark.Mark.{Mark}
-use Rattle.bbm_tree_index.specs.declared.role.Role.{Role}
 use Rattle.bbm_tree_index.specs.declared.role.Role.TheVariants.{Hangs}
 use Rattle.bbm_tree_index.specs.declared.spot.Spot.{Spot}
 use Rattle.bbm_tree_index.proofs.Injective.{above_same, place_same}
@@ -115,9 +114,12 @@ module _ (fresh : ℕ → Bool) (value : ℕ → ℕ) (starts : List Node) (k : 
       one = λ few m r at. split m (m ≡ node_below found.node place q) r (λ o. absurd (none m o at))
           (λ f. f.step.below ∙ ap (node_below f.above place) at
           ∙ ap (λ n. node_below n place q) (found.one few f.above f.is_above f.at));
-      two = λ many. let t = found.two many in
-          (node_below t.0 place q, make t.0 t.1 t.2 q e, refl,
-          λ same. t.3 (above_same t.0 found.node place place q q (t.2 ∙ sym found.at) same));
+      two = λ many. let t = found.two many in (
+        node_below t.0 place q,
+        make t.0 t.1 t.2 q e,
+        refl,
+        λ same. t.3 (above_same t.0 found.node place place q q (t.2 ∙ sym found.at) same),
+      );
     }
 
     once_more : (q : ℕ) (old : Mark) → next ≡ Some q → Found Old q old → Found New q (record { role = old.role; many = true })
@@ -127,9 +129,13 @@ module _ (fresh : ℕ → Bool) (value : ℕ → ℕ) (starts : List Node) (k : 
       at = f.at;
       role = f.role;
       one = λ few. absurd (true≢false few);
-      two = λ many. (node_below found.node place q, make found.node found.is_there found.at q e, refl,
-          λ same. true≢false (sym f.is_there.is_done ∙ ap done (sym (place_same found.node f.is_there.above place f.is_there.place q f.node.page
-          (same ∙ f.is_there.step.below))) ∙ undone));
+      two = λ many. (
+        node_below found.node place q,
+        make found.node found.is_there found.at q e,
+        refl,
+        λ same. true≢false (sym f.is_there.is_done ∙ ap done (sym (place_same found.node f.is_there.above place f.is_there.place q f.node.page
+            (same ∙ f.is_there.step.below))) ∙ undone),
+      );
     }
 
     at_next : (q : ℕ) (o : Option Mark) → next ≡ Some q → Counts Old q o → Found New q (joined o made)

@@ -1,12 +1,12 @@
 -- What is asked of the places above a page, by its role and by its node.
-use Rattle.std.proofs.Common.{◌≡◌, ℕ, zero, suc, Bool, true, false, ◌||◌, List, [], ◌∷◌, Option, Some, None, IfSome, refl, sym, ap, ◌∙◌, subst}
+use Rattle.std.proofs.Common.{◌≡◌, ℕ, zero, suc, Bool, ◌||◌, [], Some, None, refl, sym, ap, ◌∙◌, subst}
 use Rattle.std.proofs.lemmas.Option.{none-some, same_Some}
 use Rattle.bbm_events.specs.Heading.{Heading}
 use Rattle.bbm_regimes.specs.declared.regime.Kind.{Kind}
 use Rattle.bbm_rules.specs.Lists.{any}
 use Rattle.bbm_rules.specs.Places.{page_of}
-use Rattle.bbm_rules.specs.Tree.{Above, Node}
-use Rattle.bbm_tree_index.specs.Agreement.{Below, Sound}
+use Rattle.bbm_rules.specs.Tree.{Node}
+use Rattle.bbm_tree_index.specs.Agreement.{Sound}
 use Rattle.bbm_tree_index.specs.Climbs.{cut_by}
 use Rattle.bbm_tree_index.specs.Nodes.{above_by, node_by, node_with}
 use Rattle.bbm_tree_index.specs.Spots.{StandsAt, spot_with}
@@ -71,7 +71,7 @@ module _ (test : Kind → ℕ → ℕ → Bool) (roles : ℕ → Role) (heading 
   cut_suc left page (Hangs parent kind level base first) n r e ih =
       let found = sound.hangs page parent level base first kind r in
       let above : Cut left kind (roles (page_of parent)) = subst (λ k. Cut left k (roles (page_of parent)))
-          (sym found.2.same_kind) (ih (page_of parent) found.0 found.1) in
+      (sym found.2.same_kind) (ih (page_of parent) found.0 found.1) in
       subst (λ k. Cut (suc left) k (Hangs parent kind level base first)) (ap (λ m. m.kind) (same_Some _ n e))
       (ap (λ b. test kind left parent || b) above)
   cut_suc left page Gone n r e ih = absurd (none-some n e)

@@ -1,5 +1,5 @@
 -- Well formed tables of marks, and the order of their keys.
-use Rattle.std.proofs.Common.{◌≡◌, ℕ, zero, suc, ◌<◌, ◌≤◌, ◌+◌, ◌*◌, ◌/◌, ◌%◌, ◌^◌, Bool, true, false, ◌||◌, ◌==◌, List, [], ◌∷◌, ◌++◌, Option, Some, None, is_some, nat_eq, take, get_or, slice_get, length, refl, sym, ap, ◌∙◌, subst, true≢false, if◌then◌else◌, arith}
+use Rattle.std.proofs.Common.{◌≡◌, ℕ, zero, suc, ◌<◌, ◌≤◌, ◌+◌, ◌*◌, ◌%◌, ◌^◌, Bool, true, false, ◌||◌, ◌==◌, List, [], ◌∷◌, ◌++◌, Option, Some, None, is_some, nat_eq, take, get_or, slice_get, refl, sym, ap, ◌∙◌, subst, true≢false, if◌then◌else◌, arith}
 use Rattle.std.specs.List.{IsDistinct, list_any}
 use Rattle.std.proofs.lemmas.Bool.{eqb-true, eq-eqb}
 use Rattle.std.proofs.lemmas.Option.{get_or_from_slice_get, none-some, same_Some, slice_get_within}
@@ -49,9 +49,11 @@ well_grown heading (Some next) mark g g' is new w = record {
     page : (p : ℕ) (b : Bool) → (p == next) ≡ b → is_some (if b then Some (joined (g next) mark) else g p) ≡ true → (p < 2 ^ 48) × (p % 4096 ≡ 0)
     page p true t e = subst (λ q. (q < 2 ^ 48) × (q % 4096 ≡ 0)) (sym (eqb-true p next t)) ((new next refl).0, (new next refl).1)
     page p false t e = w.pages p e
+
     joined_fit : (o : Option Mark) → g next ≡ o → RoleFits heading (joined o mark).role
     joined_fit None e = (new next refl).2
     joined_fit (Some old) e = w.fit next old e
+
     fit : (p : ℕ) (m : Mark) (b : Bool) → (p == next) ≡ b → (if b then Some (joined (g next) mark) else g p) ≡ Some m → RoleFits heading m.role
     fit p m true t e = subst (λ x. RoleFits heading x.role) (same_Some _ m e) (joined_fit (g next) refl)
     fit p m false t e = w.fit p m e

@@ -2,9 +2,7 @@
 use Rattle.std.proofs.Common.{◌≡◌, ℕ, ◌<◌, ◌%◌, ◌^◌, Bool, true, false, Option, Some, None, refl, sym, ap, subst, ◌∙◌, unwrap_or, ◌==◌, if◌then◌else◌}
 use Rattle.std.proofs.Common.{nat_eq, is_some}
 use Rattle.indexmap.specs.IndexMap.{get}
-use Rattle.bbm_events.specs.Heading.{Heading}
 use Rattle.bbm_place_map.specs.declared.map.PlaceMap.{PlaceMap}
-use Rattle.bbm_rules.specs.Places.{page_of}
 use Rattle.bbm_rules.specs.Lists.{any}
 use Rattle.bbm_rules.specs.Tree.{Node}
 use Rattle.bbm_regimes.specs.declared.regime.Kind.{Kind}

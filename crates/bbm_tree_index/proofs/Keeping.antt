@@ -1,6 +1,5 @@
 -- Whether a page leaves, by its role and by its node, and while other pages leave.
 use Rattle.std.proofs.Common.{◌≡◌, ℕ, zero, suc, Bool, true, false, not, ◌&&◌, ◌||◌, ◌==◌, List, [], ◌∷◌, Option, Some, None, is_some, refl, sym, ap, ◌∙◌, subst, true≢false, if◌then◌else◌}
-use Rattle.std.specs.Option.{option_map_or}
 use Rattle.std.proofs.lemmas.Option.{none-some, same_Some}
 use Rattle.std.proofs.Math.Nat.{suc_inj}
 use Rattle.bbm_entry_state.specs.declared.marks.Marks.{Marks}
@@ -10,12 +9,12 @@ use Rattle.bbm_place_map.specs.declared.map.PlaceMap.{PlaceMap}
 use Rattle.bbm_regimes.specs.declared.regime.Kind.{Kind}
 use Rattle.bbm_rules.specs.Lists.{any, every}
 use Rattle.bbm_rules.specs.Places.{page_of}
-use Rattle.bbm_rules.specs.Tree.{Above, Node, node_below}
-use Rattle.bbm_tree_index.specs.Agreement.{Below, Sound}
+use Rattle.bbm_rules.specs.Tree.{Node, node_below}
+use Rattle.bbm_tree_index.specs.Agreement.{Sound}
 use Rattle.bbm_tree_index.specs.Climbs.{cut_by, passes_at}
-use Rattle.bbm_tree_index.specs.Held.{core_with, holds_at, is_held, kept}
+use Rattle.bbm_tree_index.specs.Held.{core_with, holds_at, is_held}
 use Rattle.bbm_tree_index.specs.Held.{leaves as leaves_node}
-use Rattle.bbm_tree_index.specs.Leaving.{leaves_below, leaves_role, stays}
+use Rattle.bbm_tree_index.specs.Leaving.{leaves_role, stays}
 use Rattle.bbm_tree_index.specs.Nodes.{node_by, node_with}
 use Rattle.bbm_tree_index.specs.declared.climb.Asked.TheVariants as asked
 use Rattle.bbm_tree_index.specs.declared.leaving.Leaving.{Leaving}

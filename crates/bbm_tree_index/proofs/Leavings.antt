@@ -1,16 +1,14 @@
 -- One more page is judged while others have left.
-use Rattle.std.proofs.Common.{◌≡◌, ℕ, zero, suc, Bool, true, false, not, ◌&&◌, ◌||◌, ◌==◌, List, [], ◌∷◌, Option, Some, None, is_some, refl, sym, ap, ◌∙◌, subst, true≢false, if◌then◌else◌}
-use Rattle.std.proofs.lemmas.Option.{none-some, same_Some}
+use Rattle.std.proofs.Common.{◌≡◌, ℕ, Bool, true, false, not, refl, sym, ap, ◌∙◌, subst, if◌then◌else◌}
 use Rattle.bbm_events.specs.Heading.{Heading}
 use Rattle.bbm_place_map.specs.Map.{marks_at, value_at}
 use Rattle.bbm_place_map.specs.declared.map.PlaceMap.{PlaceMap}
 use Rattle.bbm_regimes.specs.declared.regime.Kind.{Kind}
 use Rattle.bbm_rules.specs.Places.{page_of}
-use Rattle.bbm_rules.specs.Tree.{Node}
 use Rattle.bbm_tree_index.specs.Agreement.{Sound}
 use Rattle.bbm_tree_index.specs.Climbs.{cut_by, passes_at}
 use Rattle.bbm_tree_index.specs.Leaving.{leaves_role}
-use Rattle.bbm_tree_index.specs.Nodes.{node_by, node_with}
+use Rattle.bbm_tree_index.specs.Nodes.{node_with}
 use Rattle.bbm_tree_index.specs.declared.climb.Asked.TheVariants as asked
 use Rattle.bbm_tree_index.specs.declared.leaving.Leaving.{Leaving}
 use Rattle.bbm_tree_index.specs.declared.leaving.Leaving.TheVariants.{Unheld, Root, Below as Under}

@@ -1,6 +1,5 @@
 -- The words of an index after pages left.
-use Rattle.std.proofs.Common.{◌≡◌, ℕ, Bool, true, false, not, Option, Some, None, is_some, nat_eq, refl, sym, ap, ◌∙◌, subst, if◌then◌else◌, ◌<◌, ◌%◌, ◌^◌}
-use Rattle.bbm_events.specs.Heading.{Heading}
+use Rattle.std.proofs.Common.{◌≡◌, ℕ, Bool, true, false, not, Option, Some, None, refl, sym, ap, ◌∙◌, subst, if◌then◌else◌}
 use Rattle.bbm_place_map.specs.declared.map.PlaceMap.{PlaceMap}
 use Rattle.bbm_rules.specs.Tree.{Node}
 use Rattle.bbm_tree_index.specs.Agreement.{IsSound, Sound}

@@ -1,6 +1,6 @@
 -- The places of a page, one after the other.
-use Rattle.std.proofs.Common.{◌≡◌, ℕ, suc, ◌<◌, ◌≤◌, ◌+◌, ◌*◌, ◌/◌, ◌%◌, Bool, true, false, ◌&&◌, ◌||◌, ◌==◌, nat_lt, List, Option, refl, sym, ap, ◌∙◌, subst, true≢false, arith}
-use Rattle.std.proofs.lemmas.Bool.{and_parts, eqb-true, eq-eqb, eqb-false, ltb-true, ltb-false, lt-ltb}
+use Rattle.std.proofs.Common.{◌≡◌, ℕ, ◌<◌, ◌≤◌, ◌+◌, ◌*◌, ◌/◌, ◌%◌, Bool, true, false, ◌&&◌, ◌||◌, ◌==◌, nat_lt, List, refl, sym, ap, ◌∙◌, true≢false, arith}
+use Rattle.std.proofs.lemmas.Bool.{eqb-true, eqb-false, ltb-true, lt-ltb}
 use Rattle.bbm_rules.specs.Places.{index_of, page_of}
 use Rattle.bbm_rules.specs.Tree.{Node}
 use Rattle.bbm_tree_index.specs.Held.{is_at}
@@ -36,6 +36,7 @@ module _ (p j : ℕ) (inside : is_at p (p + 8 * j) ≡ true) where
       and_false : (b : Bool) → (b && false) ≡ false
       and_false true = refl
       and_false false = refl
+
       by : (b : Bool) → nat_lt (index_of (p + 8 * j)) j ≡ b → (page_of (p + 8 * j) == p && b) ≡ false
       by true e = absurd (less (index_of (p + 8 * j)) (ltb-true (index_of (p + 8 * j)) j e) number)
         where
@@ -61,10 +62,13 @@ lt_more i j = by (nat_lt i (j + 1)) (nat_lt i j) (i == j) refl refl refl
   where
     more : i < j → i < j + 1
     more l = omega (arith, l)
+
     same : i ≡ j → i < j + 1
     same e = omega (arith, e)
+
     less : (i < j → ⊥) → (i ≡ j → ⊥) → i < j + 1 → ⊥
     less f g l = omega (arith, f, g, l)
+
     by : (x y z : Bool) → nat_lt i (j + 1) ≡ x → nat_lt i j ≡ y → (i == j) ≡ z → x ≡ (y || z)
     by true true z ex ey ez = refl
     by true false true ex ey ez = refl
@@ -89,6 +93,7 @@ scan_none p done a = by (done a) (page_of a == p) (nat_lt (index_of a) 0) refl
   where
     below : index_of a < 0 → ⊥
     below l = omega (arith, l)
+
     by : (d b x : Bool) → nat_lt (index_of a) 0 ≡ x → (d || (b && x)) ≡ d
     by true b x e = refl
     by false true true e = absurd (below (ltb-true (index_of a) 0 e))
@@ -100,6 +105,7 @@ scan_all p n end done a = ap (λ b. done a || b) (by (page_of a == p) (nat_lt (i
   where
     below : index_of a < n
     below = omega (arith, end)
+
     by : (b x : Bool) → nat_lt (index_of a) n ≡ x → b ≡ (b && x)
     by true true e = refl
     by true false e = absurd (true≢false (sym (lt-ltb (index_of a) n below) ∙ e))

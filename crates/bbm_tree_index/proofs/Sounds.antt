@@ -1,13 +1,12 @@
 -- Which changes keep an index sound.
-use Rattle.std.proofs.Common.{◌≡◌, ℕ, suc, ◌<◌, ◌≤◌, ◌+◌, ◌*◌, ◌^◌, Option, Some, None, refl, sym, ap, ◌∙◌, subst}
+use Rattle.std.proofs.Common.{◌≡◌, ℕ, ◌<◌, ◌≤◌, ◌+◌, ◌*◌, ◌^◌, Some, refl, sym, ap, ◌∙◌, subst}
 use Rattle.std.proofs.lemmas.Option.{none-some, same_Some}
 use Rattle.bbm_events.specs.Heading.{Heading}
-use Rattle.bbm_regimes.specs.declared.regime.Kind.{Kind}
 use Rattle.bbm_rules.specs.Places.{page_of}
 use Rattle.bbm_rules.specs.Roots.{input_pages}
 use Rattle.bbm_rules.specs.Tree.{Node}
-use Rattle.bbm_tree_index.specs.Agreement.{Below, Sound}
-use Rattle.bbm_tree_index.specs.Nodes.{node_by, node_with}
+use Rattle.bbm_tree_index.specs.Agreement.{Sound}
+use Rattle.bbm_tree_index.specs.Nodes.{node_with}
 use Rattle.bbm_tree_index.specs.Spots.{Fits, RoleFits, spot_with}
 use Rattle.bbm_tree_index.specs.declared.role.Role.{Role}
 use Rattle.bbm_tree_index.specs.declared.role.Role.TheVariants.{Untracked, Fresh, RootPage, Hangs, Gone, Null}
@@ -19,7 +18,7 @@ pub sound_same : (roles roles' : ℕ → Role) (heading : Heading) → SameTrees
 sound_same roles roles' heading same s = record {
   hangs = λ page parent level base first kind e.
       let found = s.hangs page parent level base first kind
-          (hangs_part (roles page) parent level base first kind (sym (same page) ∙ ap tree_part e)) in
+      (hangs_part (roles page) parent level base first kind (sym (same page) ∙ ap tree_part e)) in
       (found.0, node_same roles roles' same heading (page_of parent) ∙ found.1, found.2);
   shallow = λ page n e. s.shallow page n (sym (node_same roles roles' same heading page) ∙ e);
   within = λ page n e. s.within page n (sym (node_same roles roles' same heading page) ∙ e);

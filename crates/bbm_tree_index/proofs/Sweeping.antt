@@ -1,10 +1,10 @@
 -- Nodes and soundness after pages left, where with a page each page that hangs on it leaves.
 use Rattle.std.proofs.Common.{◌≡◌, ℕ, zero, suc, Bool, true, false, List, [], ◌∷◌, Option, Some, None, refl, sym, ap, ◌∙◌, subst, true≢false, if◌then◌else◌}
-use Rattle.std.proofs.lemmas.Option.{none-some, same_Some}
+use Rattle.std.proofs.lemmas.Option.{none-some}
 use Rattle.bbm_events.specs.Heading.{Heading}
 use Rattle.bbm_regimes.specs.declared.regime.Kind.{Kind}
 use Rattle.bbm_rules.specs.Places.{page_of}
-use Rattle.bbm_rules.specs.Tree.{Above, Node, node_below, region_start}
+use Rattle.bbm_rules.specs.Tree.{Above, Node, node_below}
 use Rattle.bbm_tree_index.specs.Agreement.{Below, Sound}
 use Rattle.bbm_tree_index.specs.Nodes.{above_by, node_by, node_with}
 use Rattle.bbm_tree_index.specs.declared.role.Role.{Role}
@@ -105,6 +105,7 @@ module _ (roles roles' : ℕ → Role) (heading : Heading) (sound : Sound roles 
     where
       gone : Gone ≡ Hangs parent kind level base first → ⊥
       gone h = cc
+
       by : (b : Bool) → leaves p ≡ b → (leaves p ≡ false) × (roles p ≡ Hangs parent kind level base first)
       by true t = absurd (gone (sym (swept p ∙ ap (λ b. if b then Gone else roles p) t) ∙ e))
       by false t = (t, sym (stay p t) ∙ e)

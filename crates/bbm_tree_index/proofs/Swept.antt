@@ -1,5 +1,5 @@
 -- How far pages have left, over the table of roles.
-use Rattle.std.proofs.Common.{◌≡◌, ℕ, suc, ◌<◌, ◌≤◌, ◌+◌, Bool, true, false, ◌&&◌, ◌||◌, ◌==◌, List, [], ◌∷◌, ◌++◌, Option, Some, None, is_some, nat_eq, take, length, get_or, slice_get, refl, sym, ap, ◌∙◌, subst, true≢false, if◌then◌else◌, arith}
+use Rattle.std.proofs.Common.{◌≡◌, ℕ, ◌≤◌, ◌+◌, Bool, true, false, ◌&&◌, ◌||◌, ◌==◌, [], ◌∷◌, ◌++◌, Option, Some, None, is_some, nat_eq, take, length, slice_get, refl, sym, ap, ◌∙◌, subst, true≢false, if◌then◌else◌, arith}
 use Rattle.std.specs.List.{list_any}
 use Rattle.indexmap.specs.IndexMap.{IndexMap, get, keys}
 use Rattle.bbm_events.specs.Heading.{Heading}
@@ -22,7 +22,6 @@ use Rattle.std.proofs.lemmas.Option.{get_or_from_slice_get, slice_get_within}
 use Rattle.bbm_regimes.specs.declared.regime.Kind.{Kind}
 use Rattle.bbm_tree_index.specs.Nodes.{node_with}
 use Rattle.bbm_tree_index.specs.declared.role.Role.TheVariants.{Hangs}
-
 use Rattle.indexmap.specs.IndexMap.{index_map_len}
 
 module _ {S : Type 0} (table table' : IndexMap ℕ Role S) (map map' : PlaceMap) (leaving : Leaving) where
@@ -169,9 +168,11 @@ module _ {S : Type 0} (table : IndexMap ℕ Role S) (map : PlaceMap) (leaving : 
         all : list_any (nat_eq p) (take index (keys table)) ≡ is_some (get nat_eq table p)
         all = ap (list_any (nat_eq p)) (take_all index (keys table) (subst (λ n. n ≤ index) (sym (length-map table.entries (λ e. e.0))) end))
             ∙ sym (is_some-lookup (nat_eq p) table.entries)
+
         and_false : (b : Bool) → (b && false) ≡ false
         and_false true = refl
         and_false false = refl
+
         by : (b : Bool) → leaves_role map (roles_of table) leaving (roles_of table p) ≡ b
             → (list_any (nat_eq p) (take index (keys table)) && b) ≡ b
         by true e = ap (λ a. a && true) (all ∙ known_leaves (get nat_eq table p) e)
@@ -190,6 +191,7 @@ module _ {S : Type 0} (table table' : IndexMap ℕ Role S) (map map' : PlaceMap)
     where
       gone : Gone ≡ Hangs parent kind level base first → ⊥
       gone h = cc
+
       by : (b : Bool) → hidden table table' map map' leaving index p ≡ b → level ≤ 4
       by true h = absurd (gone (sym (swept.roles p ∙ ap (λ b. if b then Gone else roles_of table p) h) ∙ e))
       by false h = level_low (roles_of table) heading sound p parent level base first kind

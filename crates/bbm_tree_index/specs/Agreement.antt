@@ -1,5 +1,5 @@
 -- Which tree indexes are sound, and when one agrees with a map. Source: project's own choice.
-use Rattle.std.specs.Prelude.{◌≡◌, ℕ, suc, ◌+◌, ◌*◌, ◌<◌, ◌≤◌, ◌%◌, ◌^◌, true, List, ◌∷◌, Option, Some, None}
+use Rattle.std.specs.Prelude.{◌≡◌, ℕ, suc, ◌+◌, ◌*◌, ◌<◌, ◌≤◌, ◌%◌, ◌^◌, true, List, ◌∷◌, Some, None}
 use Rattle.bbm_events.specs.Heading.{Heading}
 use Rattle.bbm_place_map.specs.Map.{marks_at}
 use Rattle.bbm_place_map.specs.declared.map.PlaceMap.{PlaceMap}

@@ -1,5 +1,5 @@
 -- Whether pages can be attached. Source: project's own choice.
-use Rattle.std.specs.Prelude.{◌≡◌, ℕ, suc, ◌+◌, ◌<◌, ◌≤◌, ◌⊎◌, Bool, true, false, ◌&&◌, List, [], ◌∷◌, length, Some}
+use Rattle.std.specs.Prelude.{◌≡◌, ℕ, ◌+◌, ◌<◌, ◌≤◌, ◌⊎◌, Bool, true, false, ◌&&◌, List, [], length, Some}
 use Rattle.std.specs.Prelude.{Contains, Result, Ok, Err}
 use Rattle.bbm_descriptor.specs.Descriptor.{desc_of}
 use Rattle.bbm_descriptor.specs.declared.desc.Desc.{Desc}

@@ -1,5 +1,5 @@
 -- Which pages leave the trees. Source: project's own choice.
-use Rattle.std.specs.Prelude.{ℕ, Bool, true, false, not, ◌==◌, unwrap_or, nat_eq}
+use Rattle.std.specs.Prelude.{ℕ, Bool, false, not, ◌==◌, unwrap_or, nat_eq}
 use Rattle.indexmap.specs.IndexMap.{IndexMap, get}
 use Rattle.bbm_place_map.specs.declared.map.PlaceMap.{PlaceMap}
 use Rattle.bbm_rules.specs.Lists.{any}
@@ -10,7 +10,7 @@ use Rattle.bbm_tree_index.specs.declared.climb.Asked.TheVariants as asked
 use Rattle.bbm_tree_index.specs.declared.leaving.Leaving.{Leaving}
 use Rattle.bbm_tree_index.specs.declared.leaving.Leaving.TheVariants.{Unheld, Root, Below}
 use Rattle.bbm_tree_index.specs.declared.role.Role.{Role}
-use Rattle.bbm_tree_index.specs.declared.role.Role.TheVariants.{Untracked, Fresh, RootPage, Hangs, Gone, Null}
+use Rattle.bbm_tree_index.specs.declared.role.Role.TheVariants.{Untracked, RootPage, Hangs}
 
 -- a table of roles as a function
 abbrev pub roles_of : {S : Type 0} → IndexMap ℕ Role S → ℕ → Role

@@ -1,13 +1,13 @@
 -- What the roles of all pages say of the trees. A role stands for a page, and a table of roles is read as a function of
 -- the page. Source: project's own choice.
-use Rattle.std.specs.Prelude.{ℕ, zero, suc, ◌+◌, ◌*◌, Bool, true, false, List, [], ◌∷◌, Option, Some, None}
+use Rattle.std.specs.Prelude.{ℕ, suc, ◌+◌, ◌*◌, Bool, true, false, List, [], ◌∷◌, Option, Some, None}
 use Rattle.bbm_events.specs.Heading.{Heading}
 use Rattle.bbm_rules.specs.Places.{page_of}
 use Rattle.bbm_rules.specs.Roots.{first_input_page, input_pages, start_of}
 use Rattle.bbm_rules.specs.Tree.{Above, Node, region_of}
 use Rattle.bbm_tree_index.specs.declared.role.Path.{Path}
 use Rattle.bbm_tree_index.specs.declared.role.Role.{Role}
-use Rattle.bbm_tree_index.specs.declared.role.Role.TheVariants.{Untracked, Fresh, RootPage, Hangs, Gone, Null}
+use Rattle.bbm_tree_index.specs.declared.role.Role.TheVariants.{Fresh, RootPage, Hangs, Null}
 
 abbrev pub is_fresh_role : Role → Bool
 is_fresh_role Fresh = true

@@ -1,10 +1,10 @@
 -- Where a page of a tree stands, by its role alone. Source: project's own choice.
-use Rattle.std.specs.Prelude.{◌≡◌, ℕ, ◌+◌, ◌*◌, ◌<◌, ◌≤◌, ◌^◌, Option, Some, None}
+use Rattle.std.specs.Prelude.{◌≡◌, ◌+◌, ◌*◌, ◌<◌, ◌≤◌, ◌^◌, Option, Some, None}
 use Rattle.bbm_events.specs.Heading.{Heading}
 use Rattle.bbm_rules.specs.Roots.{first_input_page, input_pages, start_of}
 use Rattle.bbm_rules.specs.Tree.{Node}
 use Rattle.bbm_tree_index.specs.declared.role.Role.{Role}
-use Rattle.bbm_tree_index.specs.declared.role.Role.TheVariants.{Untracked, Fresh, RootPage, Hangs, Gone, Null}
+use Rattle.bbm_tree_index.specs.declared.role.Role.TheVariants.{RootPage, Hangs}
 use Rattle.bbm_tree_index.specs.declared.spot.Spot.{Spot}
 
 abbrev pub spot_with : Heading → Role → Option Spot

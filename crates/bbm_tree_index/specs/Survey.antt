@@ -1,5 +1,5 @@
 -- Which nodes the paths through fresh pages reach, and how a table of marks tells it. Source: project's own choice.
-use Rattle.std.specs.Prelude.{◌≡◌, ℕ, suc, ◌-◌, ◌/◌, Bool, true, false, ◌||◌, ◌==◌, List, [], ◌∷◌, length, Option, Some, None, Contains}
+use Rattle.std.specs.Prelude.{◌≡◌, ℕ, ◌-◌, ◌/◌, Bool, true, false, ◌==◌, List, [], ◌∷◌, length, Option, Some, None, Contains}
 use Rattle.std.specs.Prelude.{if◌then◌else◌}
 use Rattle.std.specs.Prelude.{◌<◌, ◌%◌, ◌^◌, is_some, nat_eq, slice_get}
 use Rattle.indexmap.specs.IndexMap.{IndexMap, get}

@@ -54,7 +54,8 @@ pub fn is_cut(
                 return false;
             }
             let above = role_of(roles, parent.page());
-            passes(map, asked, kind, left - 1, parent) || is_cut(roles, map, asked, left - 1, &above)
+            passes(map, asked, kind, left - 1, parent)
+                || is_cut(roles, map, asked, left - 1, &above)
         }
         _ => true,
     }

@@ -85,10 +85,7 @@ impl TreeIndex {
     pub fn is_in_tree(&self, page: Page) -> bool
         ensures { result ≡ is_some (node_in self.now page) }
     {
-        matches!(
-            self.role(page),
-            Role::RootPage { .. } | Role::Hangs { .. }
-        )
+        matches!(self.role(page), Role::RootPage { .. } | Role::Hangs { .. })
     }
 
     /// The number of pages that were ever tracked, 0 to 16,384.
@@ -127,7 +124,13 @@ impl TreeIndex {
     {
         let page = place.page();
         match self.spot(page) {
-            Some(spot) => is_cut(&self.roles, map, &Asked::Invalid, spot.level, &self.role(page)),
+            Some(spot) => is_cut(
+                &self.roles,
+                map,
+                &Asked::Invalid,
+                spot.level,
+                &self.role(page),
+            ),
             None => false,
         }
     }
@@ -226,12 +229,7 @@ impl TreeIndex {
     /// The page is tracked, anew where it was before; it is in no tree and isn't a null page. It becomes fresh, and the
     /// values of its places 0. `Limit(Pages)` exactly where it was never tracked and 16,384 pages were; else `NoMemory`
     /// where there is none. A refusal changes nothing.
-    pub fn track(
-        &mut self,
-        alloc: Global,
-        map: &mut PlaceMap,
-        page: Page,
-    ) -> Result<(), TreeFault>
+    pub fn track(&mut self, alloc: Global, map: &mut PlaceMap, page: Page) -> Result<(), TreeFault>
         requires no_tree { node_in self.old page ≡ None }
         requires not_null { null_in self.old page ≡ false }
         ensures node { (p : ℕ) → node_in self.new p ≡ node_in self.old p }

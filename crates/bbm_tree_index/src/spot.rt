@@ -39,7 +39,8 @@ pub fn spot_of(header: &Header, role: &Role) -> Option<Spot>
             Some(Spot {
                 kind,
                 level,
-                base: first_input_page(header.world, kind) + part as u64 * (512 * input_pages(level)),
+                base: first_input_page(header.world, kind)
+                    + part as u64 * (512 * input_pages(level)),
                 first,
             })
         }

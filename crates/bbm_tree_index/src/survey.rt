@@ -47,8 +47,11 @@ fn expand_place(
     requires { Fits spot.now }
     ensures well { OnOk result ((heading : Heading) → Well heading (get nat_eq below.old) → Well heading (get nat_eq below.new)) }
     ensures grown { OnOk result ((q : ℕ) → get nat_eq below.new q ≡ grown (next_of spot.now.kind spot.now.level (value_at map.now place))
-        (record { role = Role.Hangs place spot.now.kind (suc spot.now.level)
-        (spot.now.base + index_of place * input_pages spot.now.level) spot.now.first; many = many }) (get nat_eq below.old) q) }
+        (record {
+          role = Role.Hangs place spot.now.kind (suc spot.now.level)
+              (spot.now.base + index_of place * input_pages spot.now.level) spot.now.first;
+          many = many;
+        }) (get nat_eq below.old) q) }
 {
     match next_page(spot.kind, spot.level, map.value(place)) {
         Some(next) => {

@@ -2,7 +2,6 @@
 
 ghost use Rattle.std.specs.Prelude.{◌≡◌, ◌==◌, ℕ, Some, is_some, nat_eq, unwrap_or, true, if◌then◌else◌};
 ghost use Rattle.indexmap.specs.IndexMap.{get, index_map_len, keys};
-
 ghost use Rattle.bbm_tree_index.specs.Survey.{fresh_of};
 
 use crate::role::Role;

@@ -1,4 +1,4 @@
-use Rattle.std.proofs.Common.{◌≡◌, ℕ, ◌<◌, ◌≤◌, refl, sym, ap, ◌∙◌, subst, arith, if◌then◌else◌, None, Bool}
+use Rattle.std.proofs.Common.{◌<◌, sym, ap, ◌∙◌, subst, arith, if◌then◌else◌, None}
 use Rattle.bbm_place_map.specs.Map.{marks_at}
 use Rattle.bbm_rules.specs.Places.{page_of}
 use Rattle.bbm_tree_index.specs.Leaving.{roles_of}
@@ -28,7 +28,7 @@ loop-index-preserved c = more c.args.roles.now c.args.map.now c.args.leaving.now
 pub returns : goal.returns
 returns c = let v = c.loop-index.invariant in
     let all = all_hidden c.args.roles.now c.args.map.now c.args.leaving.now c.loop-index.roles c.loop-index.map c.loop-index.index
-        (omega (arith, c.loop-index-test.false, c.len-index-end.ensures.len)) in
+    (omega (arith, c.loop-index-test.false, c.len-index-end.ensures.len)) in
     record {
       roles = λ p. v.roles p ∙ ap (λ b. if b then Gone else roles_of c.args.roles.now p) (all p);
       known = v.known;

@@ -1,11 +1,10 @@
-use Rattle.std.proofs.Common.{◌≡◌, ℕ, Bool, true, false, ◌||◌, ◌==◌, ◌+◌, List, Option, Some, None, is_some, nat_eq, take, refl, sym, ap, ◌∙◌, subst, arith}
+use Rattle.std.proofs.Common.{ℕ, Bool, false, ◌||◌, ◌==◌, ◌+◌, nat_eq, take, sym, ap, ◌∙◌, subst, arith}
 use Rattle.std.specs.List.{list_any}
 use Rattle.std.specs.Map.{lookup}
 use Rattle.indexmap.specs.IndexMap.{get, keys}
 use Rattle.bbm_place_map.specs.Map.{value_at}
 use Rattle.bbm_rules.specs.Places.{page_of}
-use Rattle.bbm_rules.specs.Tree.{Node}
-use Rattle.bbm_tree_index.specs.Survey.{Counts, Found, Partly, Reached, Well, fresh_of}
+use Rattle.bbm_tree_index.specs.Survey.{Counts, Partly, Reached, fresh_of}
 use Rattle.bbm_tree_index.proofs.Counting.{counts_same}
 use Rattle.bbm_tree_index.proofs.Growing.{all_keys, first_more_keys, not_before, well_none}
 use Rattle.bbm_tree_index.proofs.Levels.{all_done, more_done, none_done}

@@ -1,4 +1,4 @@
-use Rattle.std.proofs.Common.{◌≡◌, ℕ, Bool, List, nat_eq, take}
+use Rattle.std.proofs.Common.{ℕ, List, nat_eq, take}
 use Rattle.std.specs.List.{list_any}
 use Rattle.indexmap.specs.IndexMap.{get, keys}
 use Rattle.bbm_place_map.specs.Map.{value_at}

@@ -1,12 +1,12 @@
-use Rattle.std.proofs.Common.{◌≡◌, ℕ, Some, None, OnOk, refl, sym, ap, ◌∙◌, subst, nat_eq, Bool, true, false, ◌||◌, ◌==◌}
+use Rattle.std.proofs.Common.{◌≡◌, refl, sym, ap, ◌∙◌, nat_eq, ◌||◌, ◌==◌}
 use Rattle.std.proofs.lemmas.Result.{on_ok_weaker}
-use Rattle.std.proofs.lemmas.Option.{none-some, same_Some}
+use Rattle.std.proofs.lemmas.Option.{same_Some}
 use Rattle.indexmap.specs.IndexMap.{get}
 use Rattle.bbm_place_map.specs.Map.{value_at}
 use Rattle.bbm_rules.specs.Places.{page_of}
 use Rattle.bbm_rules.specs.Tree.{Node}
 use Rattle.bbm_tree_index.specs.Spots.{StandsAt, spot_with}
-use Rattle.bbm_tree_index.specs.Survey.{Partly, fresh_of, role_as, spot_as}
+use Rattle.bbm_tree_index.specs.Survey.{Partly, fresh_of, spot_as}
 use Rattle.bbm_tree_index.specs.declared.spot.Spot.{Spot}
 use Rattle.bbm_tree_index.proofs.Counting.{counts_same}
 use Rattle.bbm_tree_index.proofs.Levels.{more_done, unfresh_more}

@@ -1,10 +1,9 @@
-use Rattle.std.proofs.Common.{◌≡◌, ℕ, suc, length, Some, slice_get, nat_eq, List, [], ◌∷◌, ◌++◌, refl, sym, ap, ◌∙◌, subst, arith}
+use Rattle.std.proofs.Common.{◌≡◌, ℕ, suc, length, Some, slice_get, List, refl, sym, subst, arith}
 use Rattle.std.proofs.lemmas.Result.{on_ok_weaker}
 use Rattle.std.proofs.Common.{get_or}
 use Rattle.std.proofs.lemmas.Option.{slice_get_read}
-use Rattle.indexmap.specs.IndexMap.{get}
 use Rattle.bbm_place_map.specs.Map.{value_at}
-use Rattle.bbm_tree_index.specs.Survey.{Surveyed, Well, fresh_of}
+use Rattle.bbm_tree_index.specs.Survey.{Surveyed, fresh_of}
 use Rattle.bbm_tree_index.proofs.Starts.{more_tables}
 use Rattle.bbm_tree_index.proofs.survey.push_level.Goals as goal
 

@@ -1,15 +1,10 @@
-use Rattle.std.proofs.Common.{◌≡◌, ℕ, Some, None, false, refl, sym, ap, ◌∙◌}
+use Rattle.std.proofs.Common.{false, sym, ap, ◌∙◌}
 use Rattle.std.specs.Option.{option_map_or}
-use Rattle.bbm_place_map.specs.declared.map.PlaceMap.{PlaceMap}
-use Rattle.bbm_rules.specs.Places.{page_of}
-use Rattle.bbm_rules.specs.Tree.{Node}
 use Rattle.bbm_tree_index.proofs.Indexes.{cut_in}
-use Rattle.bbm_tree_index.specs.Agreement.{IsSound}
 use Rattle.bbm_tree_index.specs.Climbs.{cut_by, passes_at}
 use Rattle.bbm_tree_index.specs.Held.{limbo_at}
-use Rattle.bbm_tree_index.specs.Index.{heading_of, node_in, role_in}
+use Rattle.bbm_tree_index.specs.Index.{node_in, role_in}
 use Rattle.bbm_tree_index.specs.declared.climb.Asked.TheVariants.{Invalid}
-use Rattle.bbm_tree_index.specs.declared.index.TreeIndex.{TreeIndex}
 use Rattle.bbm_tree_index.proofs.index.TreeIndex.in_limbo.Goals as goal
 
 pub returns-in-Some : goal.returns-in-Some

@@ -1,6 +1,5 @@
-use Rattle.std.proofs.Common.{◌≡◌, ℕ, refl, sym, ap, ◌∙◌, is_some, nat_eq, length, if◌then◌else◌, None, subst, ◌<◌, ◌%◌, ◌^◌, true, false}
+use Rattle.std.proofs.Common.{◌≡◌, ℕ, refl, sym, ap, ◌∙◌, length, if◌then◌else◌, None, true, false}
 use Rattle.std.proofs.lemmas.List.{length-map}
-use Rattle.indexmap.specs.IndexMap.{get}
 use Rattle.bbm_place_map.specs.Map.{marks_at, pends_at}
 use Rattle.bbm_entry_state.specs.Standing.{IsIdle}
 use Rattle.bbm_rules.specs.Places.{page_of}

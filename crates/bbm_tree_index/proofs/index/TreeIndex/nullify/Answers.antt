@@ -1,4 +1,4 @@
-use Rattle.std.proofs.Common.{◌≡◌, ℕ, Some, refl, ap, sym, ◌∙◌, subst, nat_eq, unwrap_or, is_some, true}
+use Rattle.std.proofs.Common.{◌≡◌, ℕ, refl, sym, ◌∙◌, nat_eq}
 use Rattle.indexmap.specs.IndexMap.{get}
 use Rattle.bbm_tree_index.proofs.Climbing.{SameTrees, put_trees}
 use Rattle.bbm_tree_index.proofs.Indexes.{fresh_out, node_kept, put_role, sound_kept}

@@ -1,10 +1,8 @@
-use Rattle.std.proofs.Common.{◌≡◌, ℕ, refl, sym, ap, ◌∙◌, nat_eq, Some, None, unwrap_or, is_some, Bool, true, false, ◌==◌, ◌||◌, if◌then◌else◌, ◌<◌, ◌%◌, ◌^◌, subst, arith}
+use Rattle.std.proofs.Common.{◌≡◌, ℕ, refl, sym, ap, ◌∙◌, nat_eq, Some, None, is_some, Bool, true, false, ◌==◌, ◌||◌, if◌then◌else◌, ◌<◌, ◌%◌, ◌^◌, subst, arith}
 use Rattle.std.proofs.lemmas.Bool.{eqb-true}
 use Rattle.std.proofs.lemmas.Grind.{common_steps}
 use Rattle.indexmap.specs.IndexMap.{get}
-use Rattle.bbm_place_map.specs.Calls.{IsSame}
 use Rattle.bbm_place_map.specs.Map.{marks_at, value_at}
-use Rattle.bbm_place_map.specs.declared.map.PlaceMap.{PlaceMap}
 use Rattle.bbm_rules.specs.Places.{page_of}
 use Rattle.bbm_rules.specs.Tree.{Node}
 use Rattle.bbm_tree_index.proofs.Agreeing.{SamePlace, agrees_same}
