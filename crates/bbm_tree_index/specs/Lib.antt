@@ -1,0 +1,10 @@
+pub mod Nodes
+pub mod Spots
+pub mod Index
+pub mod Held
+pub mod Climbs
+pub mod Leaving
+pub mod Paths
+pub mod Judged
+pub mod Agreement
+pub mod Survey

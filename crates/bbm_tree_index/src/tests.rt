@@ -1,0 +1,29 @@
+//! What no clause says: the calls answer Ok where there is memory.
+#![tactic(auto)]
+
+use crate::{TreeFault, null_page};
+use bbm_events::Header;
+use bbm_place_map::PlaceMap;
+use bbm_regimes::{HypWorld, Page, World};
+
+const HYP: Header = Header {
+    version: 1,
+    pes: 1,
+    cnp: false,
+    world: World::Hyp(HypWorld {
+        el2_start: 1,
+        s2_start: 1,
+        s2_pages: 2,
+    }),
+};
+
+#[test]
+fn tracks(rt: HostRuntime) -> Result<(), TreeFault> {
+    let mut map = PlaceMap::new(rt.alloc());
+    if let Some(page) = Page::new(0x4000_0000) {
+        let index = null_page(rt.alloc(), &HYP, &mut map, page)?;
+        assert!(rt; index.is_null(page) && !index.is_fresh(page) && !index.is_in_tree(page));
+        assert_eq!(rt; index.pages(), 1);
+    }
+    Ok(())
+}
