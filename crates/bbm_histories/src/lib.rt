@@ -2,8 +2,8 @@
 #![tactic(auto)]
 
 mod below;
-pub mod locks;
 pub mod claim_steps;
+pub mod locks;
 pub mod patterns;
 pub mod phases;
 pub mod steps;
@@ -14,13 +14,13 @@ pub mod value_steps;
 pub mod values;
 pub mod versions;
 
-pub use locks::law_lock_order;
 pub use claim_steps::{law_claim_steps, law_tag_claim_steps};
+pub use locks::law_lock_order;
 pub use patterns::{law_patterns_begin, law_patterns_stay, law_uniform};
 pub use phases::law_phase_parts;
 pub use steps::{law_held_step, law_pattern_steps, law_tag_steps};
-pub use tree_steps::{law_childless_step, law_limbo_step, law_node_step};
 pub use tags::{law_bases, law_tags};
+pub use tree_steps::{law_childless_step, law_limbo_step, law_node_step};
 pub use trees::{
     law_frozen_view, law_held_changes, law_limbo_is_empty, law_lower_leaves, law_one_node,
     law_one_position, law_proper, law_tree_step,
@@ -31,13 +31,13 @@ pub use versions::law_version;
 
 #[cfg(test)]
 mod tests {
-    use crate::locks::law_lock_order;
     use crate::claim_steps::{law_claim_steps, law_tag_claim_steps};
+    use crate::locks::law_lock_order;
     use crate::patterns::{law_patterns_begin, law_patterns_stay, law_uniform};
     use crate::phases::law_phase_parts;
     use crate::steps::{law_held_step, law_pattern_steps, law_tag_steps};
-    use crate::tree_steps::{law_childless_step, law_limbo_step, law_node_step};
     use crate::tags::{law_bases, law_tags};
+    use crate::tree_steps::{law_childless_step, law_limbo_step, law_node_step};
     use crate::trees::{
         law_frozen_view, law_held_changes, law_limbo_is_empty, law_lower_leaves, law_one_node,
         law_one_position, law_proper, law_tree_step,

@@ -114,26 +114,29 @@ module _ (heading : Heading) (b : Below heading) (h : List Event) (fit : AllFit 
       let short : level + length t.places < 4
       = within_at heading b h fit fresh value same_fresh same_value kind level pages starts st t.start t.places t.end t.path in
       let other : level + length t.other_places < 4
-      = within_at heading b h fit fresh value same_fresh same_value kind level pages starts st t.other_start t.other_places t.other_end t.other_path in
-      (record {
-        start = t.start.page;
-        places = t.places;
-        end = t.end;
-        is_start = (st.of_start t.start t.path.is_start).2;
-        short = omega (arith, short);
-        leads = to_theirs heading b h fit fresh value same_fresh same_value kind level t.start.page t.places t.end
-            (leads_at heading b h fit fresh value same_fresh same_value kind level pages starts st t.start t.places t.end t.path);
-        ends = t.ends;
-      }, record {
-        start = t.other_start.page;
-        places = t.other_places;
-        end = t.other_end;
-        is_start = (st.of_start t.other_start t.other_path.is_start).2;
-        short = omega (arith, other);
-        leads = to_theirs heading b h fit fresh value same_fresh same_value kind level t.other_start.page t.other_places t.other_end
-            (leads_at heading b h fit fresh value same_fresh same_value kind level pages starts st t.other_start t.other_places t.other_end t.other_path);
-        ends = t.other_ends;
-      }, λ k. t.differ k.0 k.1)
+      = within_at heading b h fit fresh value same_fresh same_value kind level pages starts st t.other_start t.other_places t.other_end t.other_path in (
+        record {
+          start = t.start.page;
+          places = t.places;
+          end = t.end;
+          is_start = (st.of_start t.start t.path.is_start).2;
+          short = omega (arith, short);
+          leads = to_theirs heading b h fit fresh value same_fresh same_value kind level t.start.page t.places t.end
+              (leads_at heading b h fit fresh value same_fresh same_value kind level pages starts st t.start t.places t.end t.path);
+          ends = t.ends;
+        },
+        record {
+          start = t.other_start.page;
+          places = t.other_places;
+          end = t.other_end;
+          is_start = (st.of_start t.other_start t.other_path.is_start).2;
+          short = omega (arith, other);
+          leads = to_theirs heading b h fit fresh value same_fresh same_value kind level t.other_start.page t.other_places t.other_end
+              (leads_at heading b h fit fresh value same_fresh same_value kind level pages starts st t.other_start t.other_places t.other_end t.other_path);
+          ends = t.other_ends;
+        },
+        λ k. t.differ k.0 k.1,
+      )
 
   module _ (e : Event) (is : attached_by heading Patterns marks e ≡ Some whole) where
     listed : (named : Bool) (page : ℕ) → In (page_list named) page → IsUnfresh fresh value starts named page
