@@ -18,6 +18,7 @@ import shutil
 import subprocess
 import sys
 import tempfile
+import threading
 
 from logs import LOGS, lines, verdict
 
@@ -25,14 +26,18 @@ TOP = os.path.dirname(os.path.dirname(os.path.realpath(__file__)))
 BUILT = os.path.join(TOP, "crates/bbm_cli/out/bbm_cli")
 
 
-def run(words, log):
-    """The user seconds, system seconds and peak MB of one run, and what it wrote."""
+def run(words, log, seconds):
+    """The user seconds, system seconds and peak MB of one run, and what it wrote, or None where it took too long."""
     with open(log, "rb") as bytes_in:
         process = subprocess.Popen(words, stdin=bytes_in, stdout=subprocess.PIPE)
+        late = threading.Timer(seconds, process.kill)
+        late.start()
         wrote = process.stdout.read().decode()
         _, status, spent = os.wait4(process.pid, 0)
+        in_time = late.is_alive()
+        late.cancel()
         process.returncode = os.waitstatus_to_exitcode(status)
-    return (spent.ru_utime, spent.ru_stime, spent.ru_maxrss / 1024), wrote.strip()
+    return (spent.ru_utime, spent.ru_stime, spent.ru_maxrss / 1024), wrote.strip() if in_time else None
 
 
 def programs_of(asked, expected):
@@ -47,11 +52,17 @@ def programs_of(asked, expected):
 
 
 def best_of(asked, log, programs):
-    """The run of least time of each program, by name."""
-    best = {}
+    """The run of least time of each program, by name; without those that ran too long."""
+    best, late = {}, set()
     for _ in range(asked.rounds):
         for name, command, answer in programs:
-            spent, wrote = run(command, log)
+            if name in late:
+                continue
+            spent, wrote = run(command, log, asked.seconds)
+            if wrote is None:
+                print(f"{name}: no answer in {asked.seconds:g} seconds")
+                late.add(name)
+                continue
             if wrote != answer:
                 sys.exit(f"bench: {name} wrote {wrote!r}, and not {answer!r}")
             best[name] = min(best.get(name, spent), spent, key=lambda run: run[0] + run[1])
@@ -88,6 +99,7 @@ def main():
     words.add_argument("--file", help="a log that is there, in place of one of those; with it give --events, and --answer")
     words.add_argument("--rounds", type=int, default=7, help="the runs of which the best counts")
     words.add_argument("--program", action="append", default=[], help="NAME=COMMAND, beside bbm check")
+    words.add_argument("--seconds", type=float, default=600, help="how long a run may take")
     words.add_argument("--answer", help="what the programs write; else the verdict of the log")
     words.add_argument("--slow", action="store_true", help="bbm slow too")
     words.add_argument("--no-bbm", action="store_true", help="without bbm check")

@@ -85,12 +85,14 @@ def fault_of(words, answer):
 
 
 def phases_fault(log, answer):
-    """What is wrong with the lines of `explain` behind its first: one for each PE, behind rule 4 alone."""
+    """What is wrong with the lines of `explain` behind its first: one for each PE, behind rule 4 alone, and not all cleansed."""
     lines = answer.text.split("\n")[1:-1]
     if " rule 4 " not in answer.first:
         return "phases behind another answer" if lines else None
     pes = int(log.split(b"\n")[0].split(b" ")[3])
-    return None if [line.split()[1] for line in lines] == [str(pe) for pe in range(pes)] else "not a line for each PE"
+    if [line.split()[1] for line in lines] != [str(pe) for pe in range(pes)]:
+        return "not a line for each PE"
+    return "refused though all are cleansed" if all(line.endswith(" cleansed") for line in lines) else None
 
 
 def by_events(answer):
@@ -110,6 +112,20 @@ def reached(answer):
         if found:
             return re.sub(r" line \d+", "", found.group(0))
     return answer.first[:20] or "nothing"
+
+
+# ---- logs that follow from a log
+
+def cut_before(log, answer):
+    """The log up to the line that is refused, without it and with it, each with an `end` line of its own."""
+    line = int(answer.first.split()[2])
+    header, *events = log.split(b"\n")[:line]
+    return joined(header, events[:-1], True), joined(header, events, True)
+
+
+def without_steps(log):
+    """A run without its machine lines."""
+    return b"\n".join(line for line in log.split(b"\n") if not line.startswith(b"m "))
 
 
 # ---- shrinking

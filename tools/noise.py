@@ -126,20 +126,46 @@ def numbered(line, count):
     return "".join(line(number) + "\n" for number in range(count)).encode()
 
 
+EVENTS = "limit line 2002 events"
+
+
 def at_a_limit(chance):
-    """A log that reaches a limit, where the command has it."""
-    way = chance.randrange(6)
+    """A log that reaches a limit, where the command has it, or comes near; and the first lines that a judge can say of it:
+    one without a limit of events, and one with it."""
     header = stories.text_of(stories.Header(chance.choice([1, 3]), True, 2, (1, 1), 1, "ttbr0", False)).encode() + b"\n"
-    if way == 0:
-        return header + b"isb 0\n" * 3 + b"q" * chance.choice([200, 201, 300, 5000]) + b"\nend 3\n"
-    if way == 1:
-        count = chance.choice([1999, 2000, 2001, 2400])
-        return header + numbered(lambda number: f"dmb {number % 2} ish", count) + b"end %d\n" % count
-    if way == 2:
-        return header + numbered(lambda number: f"init 0 {number * 4096:#x}", 16385) + b"end 16385\n"
-    if way == 3:
-        pair = lambda number: f"init 0 {number * 4096:#x}\nroot 1 el2 - {number * 4096:#x}"
-        return header + numbered(pair, 1025) + b"end 2050\n"
-    if way == 4:
-        return header + b"init 0 0x0\nroot 0 el2 - 0x0\n" + b"msr 1 ttbr0_el2 0x0\n" * 9 + b"end 11\n"
-    return header + b"m drop 1\n" * chance.choice([1, 1999]) + b"isb 0\n" * 3 + b"end 3\n"
+    body, told = chance.choice([long_line, many_events, many_pages, many_roots, many_values, many_steps])(chance)
+    count = sum(not line.startswith(b"m ") for line in body.split(b"\n")[:-1])
+    return header + body + b"end %d\n" % count, told
+
+
+def long_line(chance):
+    size = chance.choice([200, 201, 300, 5000])
+    told = "malformed line 5 cause 3 UnknownWord" if size == 200 else "limit line 5 line-bytes"
+    return b"isb 0\n" * 3 + b"q" * size + b"\n", {told}
+
+
+def many_events(chance):
+    count = chance.choice([1999, 2000, 2001, 2400])
+    return numbered(lambda number: f"dmb {number % 2} ish", count), {f"accepted {count} events"} | ({EVENTS} if count > 2000 else set())
+
+
+def many_pages(chance):
+    """One page more than can be initialised."""
+    return numbered(lambda number: f"init 0 {number * 4096:#x}", 16385), {"limit line 16386 pages", EVENTS}
+
+
+def many_roots(chance):
+    """One root more than can be declared."""
+    pair = lambda number: f"init 0 {number * 4096:#x}\nroot 1 el2 - {number * 4096:#x}"
+    return numbered(pair, 1025), {"limit line 2051 roots", EVENTS}
+
+
+def many_values(chance):
+    count = chance.choice([8, 9])
+    told = "accepted 10 events" if count == 8 else "limit line 12 values"
+    return b"init 0 0x0\nroot 0 el2 - 0x0\n" + b"msr 1 ttbr0_el2 0x0\n" * count, {told}
+
+
+def many_steps(chance):
+    """A run, as `follow` reads it: for a judge `m` is no word."""
+    return b"m drop 1\n" * chance.choice([1, 1999]) + b"isb 0\n" * 3, {"malformed line 2 cause 3 UnknownWord"}
