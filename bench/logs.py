@@ -96,7 +96,7 @@ MOST_LAST_PAGES = MOST_PAGES - 1 - 32
 
 
 def pages_in_order(count):
-    """16,384 pages are made, linked and filled one after another. At 8,400,000 events all are full of live places."""
+    """16,384 pages are made, linked and filled one after another. At 8,405,000 events all are full of live places."""
     def events():
         for page, made in last_pages(MOST_LAST_PAGES):
             yield from made
@@ -107,7 +107,8 @@ def pages_in_order(count):
 
 
 def pages_in_random_order(count):
-    """The same places, where each page of level 3 is linked first, and then the places are written in mixed order."""
+    """The same, but all pages are linked first, and then the places of level 3 are written in mixed order. At 8,421,000
+    events there are 16,384 pages."""
     pages = min(MOST_LAST_PAGES, max(1, (count - 4) // 515))
 
     def events():
@@ -178,10 +179,12 @@ def guests(count):
     def turn(guest, number):
         page = page_at(guest)
         place = page + 8 * (number % 512)
-        return (b"lock %d %d @vm:lock\n" % (guest, guest), b"w %d 0x%x 0x0 @vm:break\n" % (guest, place), b"dsb %d ishst @vm:break\n" % guest,
+        return (b"lock %d %d @vm:lock\n" % (guest, guest),
+                b"w %d 0x%x 0x0 @vm:break\n" % (guest, place), b"dsb %d ishst @vm:break\n" % guest,
                 b"tlbi %d ipas2e1is 0x%x @vm:flush\n" % (guest, number % 512 << 18), b"dsb %d ish @vm:flush\n" % guest,
                 b"tlbi %d vmalle1is @vm:flush\n" % guest, b"dsb %d ish @vm:flush\n" % guest,
-                b"w %d 0x%x 0x%x @vm:make\n" % (guest, place, number % 511 + 1 << 30 | 0x7fd), b"unlock %d %d @vm:lock\n" % (guest, guest))
+                b"w %d 0x%x 0x%x @vm:make\n" % (guest, place, number % 511 + 1 << 30 | 0x7fd),
+                b"unlock %d %d @vm:lock\n" % (guest, guest))
 
     def events():
         for guest in range(4):
@@ -218,7 +221,8 @@ def linked_by_all(count):
     one, pages = BASE, max(2, min(MOST_PAGES - 1, (count - 3) // 2))
     fresh = ((new_page(page_at(number)), write(page_at(number), one | 3)) for number in range(1, pages + 1))
     last = [b"root 0 el2 - 0x%x\n" % page_at(number) for number in (1, 2)]
-    return Log(b"bbmlog 1 hyp 2 1 1 1", chain([new_page(one)], chain.from_iterable(fresh)), last, "refused line {line} rule 6 not-fresh at 0x40000000")
+    return Log(b"bbmlog 1 hyp 2 1 1 1", chain([new_page(one)], chain.from_iterable(fresh)), last,
+               "refused line {line} rule 6 not-fresh at 0x40000000")
 
 
 def fan_of_512(count):
@@ -233,7 +237,8 @@ def fan_of_512(count):
             yield from (new_page(page), write(page, BASE | 3), write(page_at(1) + 8 * number, page | 3))
         for index in range(1, 512):
             yield from (write(page_at(2 + number) + 8 * index, BASE | 3) for number in range(pages))
-    return Log(b"bbmlog 1 hyp 2 0 1 1", events(), [b"root 0 el2 - 0x%x\n" % page_at(1)], "refused line {line} rule 6 not-fresh at 0x40000000")
+    return Log(b"bbmlog 1 hyp 2 0 1 1", events(), [b"root 0 el2 - 0x%x\n" % page_at(1)],
+               "refused line {line} rule 6 not-fresh at 0x40000000")
 
 
 def roots_and_flushes(count):
@@ -285,8 +290,9 @@ def crowd(count):
 
 
 LOGS = {
-    "moves": moves, "plain": plain, "rounds": rounds, "pages_in_order": pages_in_order, "pages_in_random_order": pages_in_random_order,
-    "broken_at_once": broken_at_once, "cleared_512": cleared_one_by_one(512), "cleared_4096": cleared_one_by_one(4096), "guests": guests,
-    "asids": asids, "linked_by_all": linked_by_all, "fan_of_512": fan_of_512, "roots_and_flushes": roots_and_flushes,
+    "moves": moves, "plain": plain, "rounds": rounds,
+    "pages_in_order": pages_in_order, "pages_in_random_order": pages_in_random_order, "broken_at_once": broken_at_once,
+    "cleared_512": cleared_one_by_one(512), "cleared_4096": cleared_one_by_one(4096), "guests": guests, "asids": asids,
+    "linked_by_all": linked_by_all, "fan_of_512": fan_of_512, "roots_and_flushes": roots_and_flushes,
     "unanswered": unanswered, "registers": registers, "long_lines": long_lines, "crowd": crowd,
 }

@@ -107,7 +107,7 @@ def differ(one, other):
 
 def reached(answer):
     """The rule, cause or limit that an answer names, or what else it says, in short."""
-    for form in (r"rule \d+ [\w-]+", r"cause \d+ \w+", r"^limit line \d+ [\w-]+", r"conflict", r"^bad step", r"^run", r"^accepted"):
+    for form in (r"rule \d+ [\w-]+", r"cause \d+ \w+", r"^limit line \d+ [\w-]+", "conflict", "^bad step", "^run", "^accepted"):
         found = re.search(form, answer.first)
         if found:
             return re.sub(r" line \d+", "", found.group(0))

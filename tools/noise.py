@@ -146,7 +146,8 @@ def long_line(chance):
 
 def many_events(chance):
     count = chance.choice([1999, 2000, 2001, 2400])
-    return numbered(lambda number: f"dmb {number % 2} ish", count), {f"accepted {count} events"} | ({EVENTS} if count > 2000 else set())
+    told = {f"accepted {count} events"} | ({EVENTS} if count > 2000 else set())
+    return numbered(lambda number: f"dmb {number % 2} ish", count), told
 
 
 def many_pages(chance):

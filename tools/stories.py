@@ -13,9 +13,15 @@ REGISTERS = {"el2": "ttbr0_el2", "s2": "vttbr_el2", "ttbr0": "ttbr0_el1", "ttbr1
 PUBLISHING = ["ish", "ishst", "sy", "st", "osh", "oshst"]
 ANSWERING = ["ish", "ish", "sy", "osh"]
 OPTIONS = "sy st ld ish ishst ishld osh oshst oshld nsh nshst nshld".split()
-PLAIN = "alle2 alle1 vmalle1 vmalls12e1".split()
-WITH_OPERAND = "vae2 vale2 ipas2e1 ipas2le1 vae1 vale1 vaae1 vaale1 aside1".split()
-RANGES = "rvae2 rvale2 ripas2e1 ripas2le1 rvae1 rvale1 rvaae1 rvaale1".split()
+# Operations of a world, with an operand where they have one; RANGES from version 4 on.
+FLUSHES = {
+    True: ["alle2", "alle1", "vmalle1", "vmalls12e1", "vae2 0x40000", "vale2 0x40001", "ipas2e1 0x0", "ipas2le1 0x40000"],
+    False: ["vmalle1", "vae1 0x1000000040001", "vale1 0x40000", "vaae1 0xfffff8000000", "vaale1 0x0", "aside1 0x1000000000000"],
+}
+RANGES = {
+    True: ["rvae2 0x718000040000", "rvale2 0x400000000000", "ripas2e1 0x718000040000", "ripas2le1 0x400000000000"],
+    False: ["rvae1 0x1718000040000", "rvale1 0x400000000000", "rvaae1 0x718000040000", "rvaale1 0x401000000000"],
+}
 LABELS = ["@map", "@mm/map.c:88", "@boot-1_a", "@" + "x" * 32]
 # Bits of a descriptor that are in no core.
 FREE_BITS = [1 << 7, 1 << 10, 1 << 53, 1 << 54, 1 << 55]
@@ -284,7 +290,8 @@ class Story:
         page, table = self.table(1)
         if page is None:
             return
-        places = [place for place in self.held if place & ~0xfff == page and self.held[place] & 0xfffffffff000 not in self.tables]
+        places = [place for place, value in self.held.items()
+                  if place & ~0xfff == page and value & 0xfffffffff000 not in self.tables]
 
         def write(pe):
             for place in places:
@@ -324,15 +331,13 @@ class Story:
         self.load(new)
 
     def barrier(self):
-        pe = self.pe()
-        self.say(self.chance.choice([f"dsb {pe} {self.chance.choice(OPTIONS)}", f"dmb {pe} {self.chance.choice(OPTIONS)}", f"isb {pe}"]))
+        option = self.chance.choice(OPTIONS)
+        self.say(self.chance.choice([f"dsb {self.pe()} {option}", f"dmb {self.pe()} {option}", f"isb {self.pe()}"]))
 
     def flush_for_nothing(self):
-        names = [name for name in PLAIN + WITH_OPERAND if (name[-1] == "2" or name in ("alle1", "vmalls12e1", "vmalle1", "ipas2e1", "ipas2le1"))
-                 == self.header.hyp or name == "vmalle1"]
-        name = self.chance.choice(names)
-        operand = "" if name in PLAIN else f" {self.chance.choice([0x40000, 0x0, 1 << 48 | 0x40001]) & (~0 if '1' == name[-1] else 0xfffff):#x}"
-        self.say(f"tlbi {self.pe()} {name}{self.chance.choice(['', 'is'])}{operand}")
+        ways = FLUSHES[self.header.hyp] + (RANGES[self.header.hyp] if self.header.version == 4 else [])
+        operation, _, operand = self.chance.choice(ways).partition(" ")
+        self.say(f"tlbi {self.pe()} {operation}{self.chance.choice(['', 'is'])} {operand}".rstrip())
 
     def reserve(self):
         """An empty page stands for no walk, in TTBR0_EL1."""
@@ -350,8 +355,8 @@ class Story:
         self.barrier()
         self.say(f"unlock {pe} {lock}")
 
-    GOOD = [map_a_leaf] * 5 + [link_a_table] * 5 + [replace] * 5 + [several, load, load, give_up, hand_over, new_root, barrier,
-                                                             flush_for_nothing, reserve, lock_and_unlock]
+    GOOD = [map_a_leaf] * 5 + [link_a_table] * 5 + [replace] * 5
+    GOOD += [several, load, load, give_up, hand_over, new_root, barrier, flush_for_nothing, reserve, lock_and_unlock]
 
     # ---- slips: each is meant to break the rule of its number, where the world has it
 
@@ -359,7 +364,8 @@ class Story:
         other = ["ttbr0", "ttbr1"] if self.header.hyp else ["el2", "s2"]
         page = self.fresh_page()
         self.say(self.chance.choice([
-            f"root 0 {self.chance.choice(other)} - {page & ~0xffff:#x}", f"msr 0 {REGISTERS[self.chance.choice(other)]} {page:#x}",
+            f"root 0 {self.chance.choice(other)} - {page & ~0xffff:#x}",
+            f"msr 0 {REGISTERS[self.chance.choice(other)]} {page:#x}",
             "tlbi 0 aside1is 0x1000000000000" if self.header.hyp else "tlbi 0 alle2is",
             f"null 0 {page:#x}", f"msr 0 {REGISTERS[self.kinds()[0]]} {page | 1:#x}"]))
 
@@ -456,7 +462,8 @@ class Story:
     def slip_10(self):
         page, table = self.table()
         page = page or self.root().page
-        self.say(self.chance.choice([f"init 0 {page:#x}", f"root 0 {self.kinds()[0]} - {page:#x}", f"root 0 {self.kinds()[0]} - 0x7ffe0000",
+        kind = self.kinds()[0]
+        self.say(self.chance.choice([f"init 0 {page:#x}", f"root 0 {kind} - {page:#x}", f"root 0 {kind} - 0x7ffe0000",
                                      f"null 0 {page:#x}"]))
 
     def slip_11(self):
@@ -481,7 +488,8 @@ class Story:
         if self.header.hyp:
             root, pe = self.root("s2"), self.pe()
             self.load(root, pe, False)
-            self.say(f"tlbi {pe} {self.chance.choice(['vmalle1is', 'vmalls12e1', 'ipas2e1is 0x40000', 'ipas2le1is 0x800000000000'])}")
+            operation = self.chance.choice(["vmalle1is", "vmalls12e1", "ipas2e1is 0x40000", "ipas2le1is 0x800000000000"])
+            self.say(f"tlbi {pe} {operation}")
 
     def slip_15(self):
         name = self.chance.choice(["vae2", "ipas2e1"] if self.header.hyp else ["vae1", "vaae1", "vale1"])
