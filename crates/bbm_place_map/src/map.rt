@@ -259,7 +259,10 @@ impl PlaceMap {
         let mut covers = Vec::new(alloc);
         for k in 0..self.broken.len() {
             let found = cover(self, self.broken[k].place);
-            covers.push(found).map_err(|_| NoMemory)?;
+            match covers.push(found) {
+                Ok(()) => {}
+                Err(_) => return Err(NoMemory),
+            }
         }
         Ok(covers)
     }
