@@ -16,3 +16,4 @@ pub mod Looking
 pub mod Completed
 pub mod Growing
 pub mod Noting
+pub mod Issued
