@@ -10,7 +10,7 @@ use Rattle.bbm_entry_state.specs.declared.marks.Marks.{Marks}
 use Rattle.bbm_entry_state.specs.declared.state.EntryState.TheVariants.{Broken}
 use Rattle.bbm_place_map.specs.Cells.{slot_in}
 use Rattle.bbm_place_map.specs.Each.{Advances}
-use Rattle.bbm_place_map.specs.Entries.{no_pends, entry_of, entry_in, pends_in, pends_of}
+use Rattle.bbm_place_map.specs.Entries.{no_pends, entry_of, pends_in, pends_of}
 use Rattle.bbm_place_map.specs.Notes.{Keeps, NotesAt}
 use Rattle.bbm_place_map.specs.Parts.{marks_in, pends_for}
 use Rattle.bbm_place_map.specs.Sound.{Linked, Numbered, Placed, index_of, at_index}

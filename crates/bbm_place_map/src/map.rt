@@ -65,7 +65,6 @@ impl PlaceMap {
         }
     }
 
-
     /// Whether the page is tracked.
     pub fn is_tracked(&self, page: Page) -> bool
         ensures { result ≡ is_tracked self.now page }
@@ -140,7 +139,15 @@ impl PlaceMap {
         ensures pages { (page : ℕ) → is_tracked self.new page ≡ is_tracked self.old page }
     {
         let j = self.index(place).unwrap();
-        write::put(&mut self.cells, &mut self.broken, j, place, value, state, self.alloc);
+        write::put(
+            &mut self.cells,
+            &mut self.broken,
+            j,
+            place,
+            value,
+            state,
+            self.alloc,
+        );
     }
 
     /// No place of the page is broken any more, and nothing waits there. Nothing else changes.
@@ -250,7 +257,11 @@ impl PlaceMap {
     }
 
     // How far the closure says that a TLBI covers each broken place. `NoMemory` where there is none.
-    fn covers<F: Fn(&PlaceMap, Place) -> Cover>(&self, alloc: Global, cover: &F) -> Result<Vec<Cover>, NoMemory>
+    fn covers<F: Fn(&PlaceMap, Place) -> Cover>(
+        &self,
+        alloc: Global,
+        cover: &F,
+    ) -> Result<Vec<Cover>, NoMemory>
         requires { F.IsAlwaysCallable cover.now }
         ensures len { IfOk result (λ covers. length covers.items ≡ length self.now.broken.items) }
         ensures each { IfOk result (λ covers. (m : ℕ) (e : TheEntry) (c : TheCover) → slice_get self.now.broken.items m ≡ Some e

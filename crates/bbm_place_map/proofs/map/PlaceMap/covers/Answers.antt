@@ -1,4 +1,4 @@
-use Rattle.std.proofs.Common.{◌≡◌, ℕ, ◌+◌, ◌∷◌, [], ◌++◌, List, Option, Some, arith, refl, ap, sym, subst, ◌∙◌, slice_get, nat_eq, inl, inr, length}
+use Rattle.std.proofs.Common.{◌≡◌, ◌∷◌, [], ◌++◌, List, Some, arith, refl, ap, sym, subst, ◌∙◌, slice_get, nat_eq, inl, inr, length}
 use Rattle.std.proofs.lemmas.Bool.{cases_eq, eq-eqb, ne_eqb, cond-true, cond-false}
 use Rattle.std.proofs.lemmas.Option.{same_Some}
 use Rattle.bbm_tlbi_scope.specs.declared.entry.Cover.{Cover}
