@@ -17,3 +17,4 @@ pub mod Completed
 pub mod Growing
 pub mod Noting
 pub mod Issued
+pub mod Shown

@@ -14,6 +14,7 @@
 mod cell;
 mod complete;
 mod entry;
+pub mod example;
 mod issue;
 mod links;
 mod map;
@@ -21,4 +22,8 @@ mod publish;
 mod read;
 mod write;
 
+pub use example::break_before_make;
 pub use map::PlaceMap;
+
+#[cfg(test)]
+mod tests;
