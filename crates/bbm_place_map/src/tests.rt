@@ -117,7 +117,7 @@ fn step(alloc: Global, map: &mut PlaceMap, page: Page, zero: Pe, act: Act) -> Re
     Ok(())
 }
 
-fn at(map: &PlaceMap, zero: Pe, one: Pe, place: Place) -> At {
+fn standing(map: &PlaceMap, zero: Pe, one: Pe, place: Place) -> At {
     match state(map, place) {
         EntryState::Clean => At::Clean,
         EntryState::Live { .. } => At::Live,
@@ -135,7 +135,7 @@ fn at(map: &PlaceMap, zero: Pe, one: Pe, place: Place) -> At {
     }
 }
 
-fn view(map: &PlaceMap, zero: Pe) -> Option<View> {
+fn view_of(map: &PlaceMap, zero: Pe) -> Option<View> {
     let one = Pe::new(1)?;
     let first = Place::new(FIRST)?;
     let second = Place::new(SECOND)?;
@@ -147,8 +147,8 @@ fn view(map: &PlaceMap, zero: Pe) -> Option<View> {
     };
     Some(View {
         value: map.value(first),
-        first: at(map, zero, one, first),
-        second: at(map, zero, one, second),
+        first: standing(map, zero, one, first),
+        second: standing(map, zero, one, second),
         restless,
         listed,
     })
@@ -165,7 +165,7 @@ fn after(alloc: Global, acts: &[Act]) -> Option<View> {
             Err(_) => return None,
         }
     }
-    view(&map, zero)
+    view_of(&map, zero)
 }
 
 fn says(value: u64, first: At, second: At, restless: u64, listed: Option<u64>) -> Option<View> {
@@ -275,7 +275,7 @@ fn example(alloc: Global) -> Option<View> {
         return None;
     }
     match break_before_make(&mut map, alloc, place, core(), zero, 2) {
-        Ok(()) => view(&map, zero),
+        Ok(()) => view_of(&map, zero),
         Err(_) => None,
     }
 }
