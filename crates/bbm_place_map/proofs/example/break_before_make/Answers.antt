@@ -1,14 +1,10 @@
-use Rattle.std.proofs.Common.{◌≡◌, rules, true, Some, None, refl, ap, sym, subst, ◌∙◌, if◌then◌else◌}
+use Rattle.std.proofs.Common.{◌≡◌, rules, true, Some, None, refl, ap, subst, ◌∙◌, if◌then◌else◌}
 use Rattle.std.proofs.lemmas.Bool.{eq-eqb}
-use Rattle.bbm_regimes.specs.PeMask.{pe_in}
 use Rattle.bbm_barriers.specs.declared.Dsb.{Dsb}
 use Rattle.bbm_barriers.specs.declared.Domain.TheVariants.{Inner}
 use Rattle.bbm_barriers.specs.declared.Types.TheVariants.{All, Stores}
 use Rattle.bbm_tlbi_scope.specs.declared.entry.Cover.TheVariants.{Full}
-use Rattle.bbm_entry_state.specs.declared.marks.Marks.{Marks}
-use Rattle.bbm_entry_state.specs.declared.pending.Pends.{Pends}
 use Rattle.bbm_entry_state.specs.Calls.{Written, Noted, Published, Completed}
-use Rattle.bbm_place_map.specs.Calls.{MayCover}
 use Rattle.bbm_place_map.specs.Map.{marks_at, pends_at}
 use Rattle.bbm_place_map.specs.States.{state_from, marks_of_state}
 use Rattle.bbm_place_map.proofs.Shown.{broken_still, seen_everywhere, cleansed_by}
