@@ -1,5 +1,5 @@
 -- One entry that a DSB answered, among the others.
-use Rattle.std.proofs.Common.{◌≡◌, ◌≢◌, ℕ, ◌<◌, Bool, true, false, ◌&&◌, nat_eq, List, length, Option, Some, None, refl, ap, sym, subst, ◌∙◌, arith, if◌then◌else◌, slice_get, get_or}
+use Rattle.std.proofs.Common.{◌≡◌, ◌≢◌, ℕ, ◌<◌, Bool, true, false, ◌&&◌, nat_eq, List, length, Option, Some, None, refl, ap, sym, subst, ◌∙◌, if◌then◌else◌, slice_get, get_or}
 use Rattle.std.proofs.lemmas.Bool.{eq-eqb, ne_eqb, cond-true, cond-false}
 use Rattle.std.proofs.lemmas.Option.{same_Some}
 use Rattle.bbm_barriers.specs.declared.Dsb.{Dsb}
@@ -9,9 +9,8 @@ use Rattle.bbm_entry_state.specs.declared.marks.Marks.{Marks}
 use Rattle.bbm_entry_state.specs.declared.pending.Pends.{Pends}
 use Rattle.bbm_entry_state.specs.declared.state.EntryState.{EntryState}
 use Rattle.bbm_entry_state.specs.declared.state.EntryState.TheVariants.{Clean, Broken}
-use Rattle.bbm_place_map.specs.Cells.{slot_in}
 use Rattle.bbm_place_map.specs.Each.{Completes, loses_table, is_table}
-use Rattle.bbm_place_map.specs.Entries.{WaitsAlike, seat, pends_in, cell_at, entry_of, entry_in, marks_of}
+use Rattle.bbm_place_map.specs.Entries.{WaitsAlike, pends_in, cell_at, entry_of, entry_in, marks_of}
 use Rattle.bbm_place_map.specs.Parts.{marks_in}
 use Rattle.bbm_place_map.specs.Sound.{Linked}
 use Rattle.bbm_place_map.specs.declared.cell.Cell.{Cell}

@@ -1,5 +1,5 @@
 -- What a DSB answers, of one entry.
-use Rattle.std.proofs.Common.{◌≡◌, ◌≢◌, ℕ, Bool, true, false, not, ◌&&◌, ◌||◌, Option, Some, None, is_some, refl, ap, sym, ◌∙◌, if◌then◌else◌, slice_get, nat_eq, List, subst}
+use Rattle.std.proofs.Common.{◌≡◌, ◌≢◌, ℕ, Bool, true, false, not, ◌&&◌, ◌||◌, Option, Some, None, is_some, refl, ap, sym, ◌∙◌, if◌then◌else◌, subst}
 use mathlib.Core.Path.{fun_ext}
 use Rattle.bbm_descriptor.specs.declared.desc.Core.{Core}
 use Rattle.bbm_barriers.specs.declared.Dsb.{Dsb}
@@ -15,7 +15,7 @@ use Rattle.bbm_entry_state.specs.declared.marks.Marks.{Marks}
 use Rattle.bbm_entry_state.specs.declared.pending.Pends.{Pends}
 use Rattle.bbm_entry_state.specs.declared.state.EntryState.{EntryState}
 use Rattle.bbm_entry_state.specs.declared.state.EntryState.TheVariants.{Clean, Broken}
-use Rattle.bbm_place_map.specs.Entries.{WaitsAlike, no_pends, pends_in, marks_of, pends_of}
+use Rattle.bbm_place_map.specs.Entries.{WaitsAlike, no_pends, pends_in}
 use Rattle.bbm_place_map.specs.Each.{Completes}
 use Rattle.bbm_place_map.specs.declared.entry.Entry.{Entry}
 use Rattle.bbm_place_map.proofs.Idle.{nothing_waits}

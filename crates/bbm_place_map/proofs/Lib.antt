@@ -16,3 +16,5 @@ pub mod Looking
 pub mod Completed
 pub mod Growing
 pub mod Noting
+pub mod Issued
+pub mod Shown

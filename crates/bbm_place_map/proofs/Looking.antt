@@ -1,7 +1,7 @@
 -- Entries that a DSB answers, from the end of the list down.
-use Rattle.std.proofs.Common.{◌≡◌, ◌≢◌, ℕ, ◌+◌, ◌<◌, ◌≤◌, Bool, true, false, nat_lt, List, length, Option, Some, None, refl, ap, sym, subst, ◌∙◌, arith, inl, inr, slice_get}
+use Rattle.std.proofs.Common.{◌≡◌, ◌≢◌, ℕ, ◌+◌, ◌<◌, ◌≤◌, Bool, true, false, nat_lt, List, length, Option, Some, None, refl, ap, sym, ◌∙◌, arith, inl, inr, slice_get}
 use Rattle.std.specs.Option.{option_map}
-use Rattle.std.proofs.lemmas.Bool.{cases_eq, cases_Bool, lt-ltb, le-ltb, ltb-true, both_ways, false_from_ne_true}
+use Rattle.std.proofs.lemmas.Bool.{cases_eq, lt-ltb, ltb-true, both_ways, false_from_ne_true}
 use Rattle.std.proofs.lemmas.Option.{same_Some}
 use Rattle.bbm_barriers.specs.declared.Dsb.{Dsb}
 use Rattle.bbm_place_map.specs.Cells.{slot_in}
@@ -14,7 +14,6 @@ use Rattle.bbm_place_map.specs.declared.entry.Entry.{Entry}
 use Rattle.bbm_place_map.proofs.Answering.{completes_at}
 use Rattle.bbm_place_map.proofs.Completing.{completes_none}
 use Rattle.bbm_place_map.proofs.Linking.{cell_within}
-use Rattle.bbm_place_map.proofs.Seats.{found}
 
 -- whether an entry's number is still to be looked at
 abbrev pub is_below : ℕ → Option ℕ → Bool

@@ -1,12 +1,12 @@
 -- What a DSB publishes, of a place.
-use Rattle.std.proofs.Common.{◌≡◌, ℕ, Bool, true, false, ◌&&◌, ◌||◌, List, Option, Some, None, refl, ap, sym, ◌∙◌, slice_get, Vec, Global}
+use Rattle.std.proofs.Common.{◌≡◌, ℕ, Bool, true, false, ◌&&◌, ◌||◌, List, Option, Some, None, refl, ap, slice_get, Vec, Global}
 use Rattle.bbm_barriers.specs.declared.Dsb.{Dsb}
 use Rattle.bbm_barriers.specs.Options.{publishes}
 use Rattle.bbm_descriptor.specs.declared.desc.Core.{Core}
 use Rattle.bbm_entry_state.specs.Calls.{Published}
 use Rattle.bbm_place_map.specs.Cells.{slot_in}
 use Rattle.bbm_place_map.specs.Each.{Advances, Publishes}
-use Rattle.bbm_place_map.specs.Entries.{entry_of, entry_in, marks_of, pends_of, pends_in, no_pends}
+use Rattle.bbm_place_map.specs.Entries.{entry_in, marks_of, pends_of, pends_in, no_pends}
 use Rattle.bbm_place_map.specs.Parts.{marks_in, pends_for}
 use Rattle.bbm_place_map.specs.Sound.{at_index}
 use Rattle.bbm_place_map.specs.States.{state_from}
@@ -22,9 +22,21 @@ none_seen false = refl
 module _ (issuer : ℕ) (dsb : Dsb) (n : ℕ) where
   whole : (live : Option Core) → Published (state_from live None) issuer dsb n (state_from live None)
   whole None = record {
-    core = refl; broken = refl; writers = λ p. refl; seen = λ p. none_seen (publishes dsb issuer n p); half = λ p. refl; clean = λ p. refl; }
+    core = refl;
+    broken = refl;
+    writers = λ p. refl;
+    seen = λ p. none_seen (publishes dsb issuer n p);
+    half = λ p. refl;
+    clean = λ p. refl;
+  }
   whole (Some core) = record {
-    core = refl; broken = refl; writers = λ p. refl; seen = λ p. none_seen (publishes dsb issuer n p); half = λ p. refl; clean = λ p. refl; }
+    core = refl;
+    broken = refl;
+    writers = λ p. refl;
+    seen = λ p. none_seen (publishes dsb issuer n p);
+    half = λ p. refl;
+    clean = λ p. refl;
+  }
 
   of_entry : (live : Option Core) (o p : Option Entry) → Advances (Publishes issuer dsb n) o p
       → Published (state_from live (marks_of o)) issuer dsb n (state_from live (marks_of p))

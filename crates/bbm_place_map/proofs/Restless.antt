@@ -1,12 +1,11 @@
 -- The entries are those of the broken places.
-use Rattle.std.proofs.Common.{◌≡◌, ◌≢◌, ℕ, ◌+◌, ◌<◌, ◌≤◌, Bool, true, false, List, length, Option, Some, None, is_some, refl, ap, sym, ◌∙◌, arith, inl, inr, slice_get, unwrap_or}
+use Rattle.std.proofs.Common.{◌≡◌, ℕ, ◌<◌, true, List, length, Option, Some, None, is_some, refl, ap, sym, ◌∙◌, arith, inl, inr, slice_get, unwrap_or}
 use Rattle.std.specs.Option.{option_map}
 use Rattle.std.proofs.lemmas.Bool.{false≢true}
 use Rattle.std.proofs.lemmas.Option.{same_Some, none-some, slice_get_within, slice_get_cases}
 use Rattle.bbm_entry_state.specs.declared.marks.Marks.{Marks}
-use Rattle.bbm_entry_state.specs.declared.pending.Pends.{Pends}
 use Rattle.bbm_place_map.specs.Cells.{slot_in}
-use Rattle.bbm_place_map.specs.Entries.{cell_at, entry_of, entry_in, marks_of, pends_of, no_pends}
+use Rattle.bbm_place_map.specs.Entries.{entry_of, entry_in, marks_of, pends_of, no_pends}
 use Rattle.bbm_place_map.specs.Parts.{marks_in, pends_for}
 use Rattle.bbm_place_map.specs.Sound.{Linked, Numbered, Placed, index_of, at_index}
 use Rattle.bbm_place_map.specs.declared.cell.Cell.{Cell}

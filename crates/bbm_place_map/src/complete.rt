@@ -44,7 +44,14 @@ fn keep(broken: &mut Vec<Entry>, k: usize, marks: Marks, issuer: Pe, left: Pends
 
 // A DSB of the issuer answered its TLBIs at one entry, which leaves where its place is cleansed at every PE. Whether it
 // left, and its core is a table.
-fn complete_at(cells: &mut Vec<Cell>, broken: &mut Vec<Entry>, k: usize, issuer: Pe, dsb: Dsb, n: u8) -> bool
+fn complete_at(
+    cells: &mut Vec<Cell>,
+    broken: &mut Vec<Entry>,
+    k: usize,
+    issuer: Pe,
+    dsb: Dsb,
+    n: u8,
+) -> bool
     requires some { 1 ≤ n }
     requires most { n ≤ 128 }
     requires linked { Linked cells.old.items broken.old.items }

@@ -43,7 +43,14 @@ fn make_room_at(broken: &mut Vec<Entry>, k: usize) -> Result<(), NoMemory>
 }
 
 // Notes the TLBI at an entry with room for one more issuer.
-fn note_at(broken: &mut Vec<Entry>, k: usize, issuer: Pe, reach: PeMask, broadcast: bool, cover: Cover)
+fn note_at(
+    broken: &mut Vec<Entry>,
+    k: usize,
+    issuer: Pe,
+    reach: PeMask,
+    broadcast: bool,
+    cover: Cover,
+)
     requires within { k < vec_len broken.old }
     requires ready { (e : TheEntry) → slice_get broken.old.items k ≡ Some e → vec_len e.pends < vec_capacity e.pends }
     ensures entry { (e : TheEntry) → slice_get broken.old.items k ≡ Some e → (f : TheEntry) × (seat f ≡ seat e)

@@ -7,7 +7,7 @@ ghost use Rattle.bbm_place_map.specs.Sound.{Linked, Numbered, Placed};
 
 use crate::cell::Cell;
 use crate::entry::Entry;
-use crate::{complete, publish, read, write};
+use crate::{complete, issue, publish, read, write};
 use bbm_barriers::Dsb;
 use bbm_descriptor::{Core, Memory};
 use bbm_entry_state::{EntryState, Pends};
@@ -36,11 +36,12 @@ pub struct PlaceMap {
 
 #[tactic(auto, unfolding(crate::specs::Map::value_at, crate::specs::Map::marks_at, crate::specs::Map::pends_at, crate::specs::Map::is_tracked, crate::specs::Map::restless_in, crate::specs::Map::restless_place))]
 impl PlaceMap {
-    ghost use Rattle.std.specs.Prelude.{ℕ, Bool, Some, None, true, false, Option, IsSome, IfSome, is_some, OnOk, OnErr, ◌||◌, not, ◌&&◌, ◌+◌, if◌then◌else◌};
+    ghost use Rattle.std.specs.Prelude.{ℕ, Bool, Some, None, true, false, Option, IsSome, IfSome, IfOk, length, slice_get, is_some, OnOk, OnErr, ◌||◌, not, ◌&&◌, ◌+◌, if◌then◌else◌};
     ghost use Rattle.bbm_entry_state.specs.Points.{is_broken, waits};
     ghost use Rattle.bbm_tlbi_scope.specs.declared.entry.Cover.{Cover as TheCover};
-    ghost use Rattle.bbm_place_map.specs.Calls.{lost_table, IsSame};
-    ghost use Rattle.bbm_entry_state.specs.Calls.{Published, Completed};
+    ghost use Rattle.bbm_place_map.specs.Calls.{lost_table, IsSame, MayCover};
+    ghost use Rattle.bbm_place_map.specs.declared.entry.Entry.{Entry as TheEntry};
+    ghost use Rattle.bbm_entry_state.specs.Calls.{Published, Noted, Completed};
     ghost use Rattle.bbm_descriptor.specs.declared.desc.Core.{Core as TheCore};
     ghost use Rattle.bbm_entry_state.specs.Standing.{IsIdle};
     ghost use Rattle.bbm_place_map.specs.Map.{value_at, marks_at, pends_at, is_tracked, page_of, restless_in, restless_place, state_at};
@@ -63,7 +64,6 @@ impl PlaceMap {
             broken: Vec::new(alloc),
         }
     }
-
 
     /// Whether the page is tracked.
     pub fn is_tracked(&self, page: Page) -> bool
@@ -139,7 +139,15 @@ impl PlaceMap {
         ensures pages { (page : ℕ) → is_tracked self.new page ≡ is_tracked self.old page }
     {
         let j = self.index(place).unwrap();
-        write::put(&mut self.cells, &mut self.broken, j, place, value, state, self.alloc);
+        write::put(
+            &mut self.cells,
+            &mut self.broken,
+            j,
+            place,
+            value,
+            state,
+            self.alloc,
+        );
     }
 
     /// No place of the page is broken any more, and nothing waits there. Nothing else changes.
@@ -246,6 +254,57 @@ impl PlaceMap {
     {
         let wanted = self.cells.len() + 512 - self.broken.len();
         self.broken.reserve(wanted).is_ok() && self.cells.reserve(512).is_ok()
+    }
+
+    // How far the closure says that a TLBI covers each broken place. `NoMemory` where there is none.
+    fn covers<F: Fn(&PlaceMap, Place) -> Cover>(
+        &self,
+        alloc: Global,
+        cover: &F,
+    ) -> Result<Vec<Cover>, NoMemory>
+        requires { F.IsAlwaysCallable cover.now }
+        ensures len { IfOk result (λ covers. length covers.items ≡ length self.now.broken.items) }
+        ensures each { IfOk result (λ covers. (m : ℕ) (e : TheEntry) (c : TheCover) → slice_get self.now.broken.items m ≡ Some e
+            → slice_get covers.items m ≡ Some c → MayCover F.Fn cover.now self.now e.place c) }
+    {
+        let mut covers = Vec::new(alloc);
+        for k in 0..self.broken.len() {
+            let found = cover(self, self.broken[k].place);
+            match covers.push(found) {
+                Ok(()) => {}
+                Err(_) => return Err(NoMemory),
+            }
+        }
+        Ok(covers)
+    }
+
+    /// The issuer issued a TLBI that reaches these PEs, is broadcast or not, and covers each broken place as far as the
+    /// closure says of the map before the call. `NoMemory` where there is none, and nothing changes then. Only the
+    /// pendings of the issuer change.
+    pub fn issue<F: Fn(&PlaceMap, Place) -> Cover>(
+        &mut self,
+        alloc: Global,
+        issuer: Pe,
+        reach: PeMask,
+        broadcast: bool,
+        cover: F,
+    ) -> Result<(), NoMemory>
+        requires { F.IsAlwaysCallable cover }
+        ensures noted { OnOk result ((a : ℕ) → is_some (marks_at self.old a) ≡ true → (c : TheCover)
+            × MayCover F.Fn cover self.old a c
+            × Noted (state_at self.old None a) (pends_at self.old issuer a) reach broadcast c (pends_at self.new issuer a)) }
+        ensures others { (q a : ℕ) → nat_eq q issuer ≡ false → pends_at self.new q a ≡ pends_at self.old q a }
+        ensures kept { OnErr result (IsSame self.old self.new) }
+        ensures values { (a : ℕ) → value_at self.new a ≡ value_at self.old a }
+        ensures marks { (a : ℕ) → marks_at self.new a ≡ marks_at self.old a }
+        ensures pages { (page : ℕ) → is_tracked self.new page ≡ is_tracked self.old page }
+        ensures restless { restless_in self.new ≡ restless_in self.old }
+        ensures places { (i : ℕ) → restless_place self.new i ≡ restless_place self.old i }
+    {
+        let covers = self.covers(alloc, &cover)?;
+        issue::make_room(&mut self.broken, &covers)?;
+        issue::note(&mut self.broken, &covers, issuer, reach, broadcast);
+        Ok(())
     }
 
     // The number of the first cell of a page; None where the page isn't tracked.

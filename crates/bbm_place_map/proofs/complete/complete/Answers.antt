@@ -1,4 +1,4 @@
-use Rattle.std.proofs.Common.{◌≡◌, ◌≤◌, ◌-◌, ◌+◌, ℕ, length, arith, refl, ap, ◌∙◌, Option, None}
+use Rattle.std.proofs.Common.{◌≤◌, ◌-◌, length, arith, refl, ap, ◌∙◌}
 use Rattle.std.specs.Option.{option_map}
 use Rattle.bbm_place_map.specs.declared.entry.Entry.{Entry}
 use Rattle.bbm_place_map.proofs.Looking.{looked_none, looked_answer, looked_on}
@@ -28,9 +28,9 @@ loop-k-preserved-then-complete_at c =
       values = λ i. c.complete_at.ensures.values i ∙ c.loop-k.invariant.values i;
       short = omega (arith, c.complete_at.ensures.short);
       looked = looked_answer c.args.issuer c.args.n c.args.dsb c.loop-k.k (c.loop-k.k - 1) c.loop-k.lost c.complete_at.result c.args.cells.now.items c.loop-k.cells.items c.complete_at.new.cells.items c.args.broken.now.items c.loop-k.broken.items c.complete_at.new.broken.items
-      (omega arith) (omega arith) c.loop-k.invariant.looked c.loop-k.invariant.linked c.complete_at.ensures.linked
-      c.complete_at.ensures.here c.complete_at.ensures.answer c.complete_at.ensures.others c.complete_at.ensures.below c.complete_at.ensures.front e.0.cell
-      (ap (option_map (λ (x : Entry). x.cell)) e.1) c.if-complete_at.true;
+          (omega arith) (omega arith) c.loop-k.invariant.looked c.loop-k.invariant.linked c.complete_at.ensures.linked
+          c.complete_at.ensures.here c.complete_at.ensures.answer c.complete_at.ensures.others c.complete_at.ensures.below c.complete_at.ensures.front e.0.cell
+          (ap (option_map (λ (x : Entry). x.cell)) e.1) c.if-complete_at.true;
       placed = λ base placed. c.complete_at.ensures.placed base (c.loop-k.invariant.placed base placed);
     }
 
@@ -46,8 +46,8 @@ loop-k-preserved c =
       values = λ i. c.complete_at.ensures.values i ∙ c.loop-k.invariant.values i;
       short = omega (arith, c.complete_at.ensures.short);
       looked = looked_on c.args.issuer c.args.n c.args.dsb c.loop-k.k (c.loop-k.k - 1) c.loop-k.lost c.complete_at.result c.args.cells.now.items c.loop-k.cells.items c.complete_at.new.cells.items c.args.broken.now.items c.loop-k.broken.items c.complete_at.new.broken.items
-      (omega arith) (omega arith) c.loop-k.invariant.looked c.loop-k.invariant.linked c.complete_at.ensures.linked
-      c.complete_at.ensures.here c.complete_at.ensures.answer c.complete_at.ensures.others c.complete_at.ensures.below c.complete_at.ensures.front e.0.cell
-      (ap (option_map (λ (x : Entry). x.cell)) e.1) c.if-complete_at.false;
+          (omega arith) (omega arith) c.loop-k.invariant.looked c.loop-k.invariant.linked c.complete_at.ensures.linked
+          c.complete_at.ensures.here c.complete_at.ensures.answer c.complete_at.ensures.others c.complete_at.ensures.below c.complete_at.ensures.front e.0.cell
+          (ap (option_map (λ (x : Entry). x.cell)) e.1) c.if-complete_at.false;
       placed = λ base placed. c.complete_at.ensures.placed base (c.loop-k.invariant.placed base placed);
     }

@@ -1,7 +1,7 @@
-use Rattle.std.proofs.Common.{◌≡◌, ◌≢◌, ℕ, ◌<◌, ap, sym, ◌∙◌, arith, refl, Some, None, nat_eq, slice_get, Option}
+use Rattle.std.proofs.Common.{◌≡◌, ℕ, ◌∙◌, arith, Some, nat_eq, slice_get}
 use Rattle.std.proofs.lemmas.Bool.{ne_eqb, cond-false}
 use Rattle.bbm_place_map.specs.Entries.{seat_at}
-use Rattle.bbm_place_map.proofs.Answering.{was, idle_left, here_kept, here_gone, answer_gone, others_gone}
+use Rattle.bbm_place_map.proofs.Answering.{idle_left, here_kept, here_gone, answer_gone, others_gone}
 use Rattle.bbm_place_map.proofs.Leaving.{entry_read, cell_read}
 use Rattle.bbm_place_map.proofs.Seats.{linked_seated, placed_seated, seats_changed}
 use Rattle.bbm_place_map.proofs.complete.complete_at.Goals as goal

@@ -1,4 +1,4 @@
-use Rattle.std.proofs.Common.{◌≡◌, ℕ, ap, sym, ◌∙◌, arith, refl, List, inl, inr, vec_len}
+use Rattle.std.proofs.Common.{◌≡◌, ap, sym, ◌∙◌, arith, List, inl, inr, vec_len}
 use Rattle.std.proofs.lemmas.Bool.{cases_Bool}
 use Rattle.bbm_entry_state.specs.Points.{waits}
 use Rattle.bbm_entry_state.specs.declared.pending.Pends.{Pends}

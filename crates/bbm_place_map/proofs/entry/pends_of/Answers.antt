@@ -1,4 +1,4 @@
-use Rattle.std.proofs.Common.{Bool, ◌∙◌, ap, sym, arith, nat_eq, drop, ◌+◌, List}
+use Rattle.std.proofs.Common.{◌∙◌, ap, sym, arith, nat_eq, drop, ◌+◌, List}
 use Rattle.std.proofs.lemmas.List.{drop_all}
 use Rattle.bbm_place_map.specs.declared.entry.Pending.{Pending}
 use Rattle.std.proofs.lemmas.Bool.{cond-true, cond-false}

@@ -1,4 +1,4 @@
-use Rattle.std.proofs.Common.{◌≡◌, ℕ, ap, sym, ◌∙◌, arith, refl, Vec, Global, nat_eq, Bool}
+use Rattle.std.proofs.Common.{◌≡◌, ap, sym, ◌∙◌, arith, refl, Vec, Global}
 use Rattle.std.proofs.lemmas.Bool.{eq-eqb, ne_eqb, eqb-true}
 use Rattle.bbm_place_map.specs.Entries.{pends_in}
 use Rattle.bbm_place_map.specs.declared.entry.Pending.{Pending}

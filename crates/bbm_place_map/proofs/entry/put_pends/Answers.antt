@@ -1,4 +1,4 @@
-use Rattle.std.proofs.Common.{◌≡◌, ℕ, ap, sym, ◌∙◌, arith, refl, List, ◌∷◌, [], ◌++◌, false, vec_len}
+use Rattle.std.proofs.Common.{◌≡◌, ap, sym, ◌∙◌, arith, refl, List, ◌∷◌, [], ◌++◌, false, vec_len}
 use Rattle.std.proofs.lemmas.Bool.{eq-eqb, ne_eqb}
 use Rattle.bbm_place_map.specs.Entries.{pends_in}
 use Rattle.bbm_place_map.specs.declared.entry.Pending.{Pending}

@@ -1,6 +1,5 @@
-use Rattle.std.proofs.Common.{ℕ, arith, length, ap, sym, ◌∙◌, refl, ◌<◌, ◌≡◌, ◌++◌, [], ◌∷◌, List}
+use Rattle.std.proofs.Common.{arith, ap, ◌∙◌, refl, List}
 use Rattle.bbm_place_map.specs.Parts.{marks_in, pends_for}
-use Rattle.bbm_place_map.specs.Sound.{Linked, Placed}
 use Rattle.bbm_place_map.specs.declared.entry.Entry.{Entry}
 use Rattle.bbm_place_map.proofs.Edits.{room_for}
 use Rattle.bbm_place_map.proofs.Linking.{linked_more, marks_more, pends_more, placed_more}

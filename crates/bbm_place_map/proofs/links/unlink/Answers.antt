@@ -1,4 +1,4 @@
-use Rattle.std.proofs.Common.{ℕ, arith, length, ap, sym, ◌∙◌, refl, ◌<◌, ◌≡◌, ◌-◌, Some, None, nat_eq, if◌then◌else◌}
+use Rattle.std.proofs.Common.{ℕ, arith, ap, sym, ◌∙◌, ◌-◌, None, nat_eq, if◌then◌else◌}
 use Rattle.std.proofs.lemmas.Option.{same_Some}
 use Rattle.bbm_place_map.specs.Entries.{entry_in}
 use Rattle.bbm_place_map.proofs.Leaving.{Left, left, cell_inside, cell_read}

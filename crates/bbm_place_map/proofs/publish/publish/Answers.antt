@@ -1,4 +1,4 @@
-use Rattle.std.proofs.Common.{ℕ, arith, refl, slice_get, ◌∙◌, ap, sym}
+use Rattle.std.proofs.Common.{ℕ, arith, refl, ◌∙◌}
 use Rattle.bbm_place_map.specs.Each.{Publishes}
 use Rattle.bbm_place_map.specs.declared.entry.Entry.{Entry}
 use Rattle.bbm_place_map.proofs.Advancing.{done_more, rest_more, all_done}

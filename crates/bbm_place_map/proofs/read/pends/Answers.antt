@@ -1,4 +1,4 @@
-use Rattle.std.proofs.Common.{arith, ap, sym, ◌∙◌, refl, Some, Option, ℕ, length, List}
+use Rattle.std.proofs.Common.{ap, sym, ◌∙◌, refl, Option, ℕ, length, List}
 use Rattle.std.proofs.lemmas.Option.{slice_get_read}
 use Rattle.bbm_entry_state.specs.Points.{waits}
 use Rattle.bbm_place_map.specs.Entries.{pends_of, pends_in, entry_of}

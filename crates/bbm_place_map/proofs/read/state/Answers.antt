@@ -1,6 +1,5 @@
-use Rattle.std.proofs.Common.{arith, ap, sym, ◌∙◌, refl, Some, Option, slice_get, ℕ, length}
+use Rattle.std.proofs.Common.{ap, sym, ◌∙◌, refl, Some, Option, ℕ, length}
 use Rattle.std.proofs.lemmas.Option.{slice_get_read}
-use Rattle.bbm_entry_state.specs.declared.marks.Marks.{Marks}
 use Rattle.bbm_place_map.specs.Entries.{marks_of, entry_of}
 use Rattle.bbm_place_map.specs.States.{state_from}
 use Rattle.bbm_place_map.specs.declared.entry.Entry.{Entry}

@@ -1,4 +1,4 @@
-use Rattle.std.proofs.Common.{ℕ, Option, None, ◌+◌, ◌∙◌}
+use Rattle.std.proofs.Common.{None, ◌∙◌}
 use Rattle.bbm_place_map.specs.Entries.{entry_in}
 use Rattle.bbm_place_map.proofs.Pages.{one_more}
 use Rattle.bbm_place_map.proofs.write.clear_page.Goals as goal

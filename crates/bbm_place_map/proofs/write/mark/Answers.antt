@@ -1,5 +1,4 @@
-use Rattle.std.proofs.Common.{◌≡◌, ℕ, Some, arith, refl, length, slice_get, get_or}
-use Rattle.std.proofs.lemmas.Option.{slice_get-get_or}
+use Rattle.std.proofs.Common.{◌≡◌, ℕ, Some, arith, refl, slice_get}
 use Rattle.bbm_place_map.specs.Cells.{slot_in}
 use Rattle.bbm_place_map.specs.Entries.{seat_at}
 use Rattle.bbm_place_map.specs.declared.entry.Entry.{Entry}
@@ -10,8 +9,11 @@ use Rattle.bbm_place_map.proofs.write.mark.Goals as goal
 
 pub remark-requires : goal.remark-requires
 remark-requires c =
-    omega (arith, cell_within c.args.broken.now.items c.in-Some.k c.args.j (c.requires.linked.forth c.args.j c.in-Some.k
-    (slot_read c.args.cells.now.items c.args.j c.index.result.now (omega arith) c.index.ensures (Some c.in-Some.k) c.in-Some.is)))
+    omega (
+      arith,
+      cell_within c.args.broken.now.items c.in-Some.k c.args.j (c.requires.linked.forth c.args.j c.in-Some.k
+          (slot_read c.args.cells.now.items c.args.j c.index.result.now (omega arith) c.index.ensures (Some c.in-Some.k) c.in-Some.is)),
+    )
 
 here : (c : goal.After-remark) → slot_in c.args.cells.now.items c.args.j ≡ Some c.in-Some.k
 here c = slot_read c.args.cells.now.items c.args.j c.index.result.now (omega arith) c.index.ensures (Some c.in-Some.k) c.in-Some.is

@@ -1,11 +1,8 @@
-use Rattle.std.proofs.Common.{◌≡◌, ◌+◌, ◌≤◌, ℕ, Bool, Some, Option, nat_eq, ap, sym, arith, subst, ◌∙◌, vec_len, if◌then◌else◌, None, is_some, false, List, length, refl}
+use Rattle.std.proofs.Common.{◌≡◌, ℕ, Bool, Some, nat_eq, ap, sym, arith, subst, ◌∙◌, vec_len, if◌then◌else◌, None}
 use Rattle.indexmap.specs.IndexMap.{get}
-use Rattle.bbm_place_map.specs.Cells.{value_in}
-use Rattle.bbm_place_map.specs.Entries.{no_pends}
-use Rattle.bbm_place_map.specs.Map.{is_tracked, value_at, marks_at, pends_at}
-use Rattle.bbm_place_map.specs.Parts.{marks_in, pends_for}
+use Rattle.bbm_place_map.specs.Map.{is_tracked}
 use Rattle.bbm_place_map.specs.Sound.{Numbered}
-use Rattle.bbm_place_map.proofs.Growing.{numbered_more, placed_more, at_grown, past_value, past_marks, past_pends, flip, not_some}
+use Rattle.bbm_place_map.proofs.Growing.{numbered_more, placed_more, flip, not_some}
 use Rattle.bbm_place_map.proofs.map.PlaceMap.add_page.Goals as goal
 
 free : (c : goal.After-add_cells) → get nat_eq c.has_room.new.self.pages c.args.page ≡ None

@@ -1,4 +1,4 @@
-use Rattle.std.proofs.Common.{ℕ, nat_eq, ap, sym, arith, subst, ◌∙◌, refl, vec_len, ◌≡◌}
+use Rattle.std.proofs.Common.{ℕ, nat_eq, sym, arith, subst}
 use Rattle.std.proofs.lemmas.Bool.{eqb-false}
 use Rattle.indexmap.specs.IndexMap.{get}
 use Rattle.bbm_place_map.specs.Map.{marks_at, pends_at}

@@ -1,4 +1,4 @@
-use Rattle.std.proofs.Common.{nat_eq, [], None, Option, ℕ, Bool}
+use Rattle.std.proofs.Common.{nat_eq}
 use Rattle.indexmap.specs.IndexMap.{get}
 use Rattle.bbm_place_map.specs.Map.{pends_at}
 use Rattle.bbm_place_map.specs.Sound.{index_of}

@@ -1,4 +1,4 @@
-use Rattle.std.proofs.Common.{ℕ, nat_eq, ap, sym, arith, subst, ◌∙◌, refl, vec_len, slice_get, ◌≡◌}
+use Rattle.std.proofs.Common.{ℕ, nat_eq, arith, slice_get, ◌≡◌}
 use Rattle.indexmap.specs.IndexMap.{get}
 use Rattle.bbm_place_map.specs.Each.{Publishes}
 use Rattle.bbm_place_map.specs.Map.{marks_at, pends_at, restless_in, restless_place}

@@ -1,12 +1,10 @@
-use Rattle.std.proofs.Common.{ℕ, Bool, true, false, Option, None, nat_eq, ap, sym, arith, subst, ◌∙◌, refl, vec_len, ◌≡◌, ◌*◌, ◌/◌, if◌then◌else◌}
+use Rattle.std.proofs.Common.{ℕ, nat_eq, ap, sym, arith, subst, ◌∙◌, vec_len}
 use Rattle.std.proofs.lemmas.Bool.{cond-true, eqb-true}
 use Rattle.indexmap.specs.IndexMap.{get}
-use Rattle.bbm_entry_state.specs.declared.pending.Pends.{Pends}
-use Rattle.bbm_place_map.specs.Cells.{in_page}
-use Rattle.bbm_place_map.specs.Entries.{no_pends, entry_in, pends_of}
+use Rattle.bbm_place_map.specs.Entries.{no_pends, entry_in}
 use Rattle.bbm_place_map.specs.Map.{pends_at, page_of}
 use Rattle.bbm_place_map.specs.Parts.{pends_for}
-use Rattle.bbm_place_map.specs.Sound.{Numbered, index_of, at_index}
+use Rattle.bbm_place_map.specs.Sound.{Numbered, at_index}
 use Rattle.bbm_place_map.proofs.Idle.{idle_from}
 use Rattle.bbm_place_map.proofs.Places.{at_page, index_none}
 use Rattle.bbm_place_map.proofs.Pages.{drop_pends}

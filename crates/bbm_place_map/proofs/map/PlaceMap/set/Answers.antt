@@ -1,12 +1,12 @@
-use Rattle.std.proofs.Common.{ℕ, nat_eq, ap, sym, arith, subst, not, ◌&&◌, ◌∙◌, refl, vec_len}
+use Rattle.std.proofs.Common.{ℕ, nat_eq, ap, sym, arith, subst, not, ◌&&◌, ◌∙◌, refl}
 use Rattle.std.proofs.lemmas.Bool.{cond-true, and_from, eq-eqb, not_from_false}
 use Rattle.indexmap.specs.IndexMap.{get}
 use Rattle.bbm_entry_state.specs.Points.{is_broken}
 use Rattle.bbm_place_map.specs.Entries.{no_pends}
 use Rattle.bbm_place_map.specs.Map.{pends_at}
 use Rattle.bbm_place_map.specs.Parts.{pends_for}
-use Rattle.bbm_place_map.specs.Sound.{Numbered, index_of, at_index}
-use Rattle.bbm_place_map.proofs.Idle.{nothing_waits, idle_from}
+use Rattle.bbm_place_map.specs.Sound.{Numbered, at_index}
+use Rattle.bbm_place_map.proofs.Idle.{idle_from}
 use Rattle.bbm_place_map.proofs.map.PlaceMap.set.Goals as goal
 
 pub invariant_of-self : goal.invariant_of-self

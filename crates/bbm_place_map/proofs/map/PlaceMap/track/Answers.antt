@@ -1,4 +1,4 @@
-use Rattle.std.proofs.Common.{ℕ, nat_eq, sym, arith, subst, ◌∙◌, vec_len}
+use Rattle.std.proofs.Common.{ℕ, nat_eq, sym, arith, subst, ◌∙◌}
 use Rattle.indexmap.specs.IndexMap.{get}
 use Rattle.bbm_place_map.specs.Sound.{Numbered}
 use Rattle.bbm_place_map.proofs.map.PlaceMap.track.Goals as goal
