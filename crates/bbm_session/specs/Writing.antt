@@ -1,5 +1,5 @@
 -- What became of a text that was to be written.
-use Rattle.std.specs.Prelude.{◌≡◌, ℕ, ◌<◌, List, length, take, Option, Some, None, Result, Ok, Err, ◌⊎◌}
+use Rattle.std.specs.Prelude.{◌≡◌, ℕ, ◌<◌, List, ◌++◌, length, take, Option, Some, None, Result, Ok, Err, ◌⊎◌}
 use Rattle.bbm_io.specs.Faults.{Rose}
 use Rattle.bbm_io.specs.Flow.{extended}
 use Rattle.bbm_io.specs.declared.source.Failed.{Failed}
@@ -134,3 +134,13 @@ Serves (Judge command) result left left' reads reads' held held' writes writes' 
     Obeys command result left left' reads reads' held held' writes writes'
 Serves Follow result left left' reads reads' held held' writes writes' =
     FollowsRun result left left' reads reads' held held' writes writes'
+
+-- This much of a text was written, whole and without a fault, and the rest of it is buffered.
+abbrev pub Buffered : List ℕ → List ℕ → Option (List ℕ) → Option (List ℕ) → ℕ → ℕ → Type 0
+Buffered text buffer old new faults faults' =
+    (done : List ℕ) × (text ≡ done ++ buffer) × (new ≡ extended old done) × (faults' ≡ faults)
+
+-- the same, or a write failed
+abbrev pub Pours : List ℕ → Result (Unit {0}) Failed → List ℕ → Option (List ℕ) → Option (List ℕ) → ℕ → ℕ → Type 0
+Pours text (Ok _) buffer old new faults faults' = Buffered text buffer old new faults faults'
+Pours text (Err _) buffer old new faults faults' = Part text old new × Rose faults faults'
