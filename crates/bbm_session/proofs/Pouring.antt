@@ -3,10 +3,10 @@ use Rattle.std.proofs.Common.{◌≡◌, ℕ, zero, suc, ◌+◌, ◌-◌, ◌�
 use Rattle.bbm_io.specs.Faults.{Rose}
 use Rattle.bbm_io.specs.Flow.{extended}
 use Rattle.bbm_io.specs.declared.source.Failed.{Failed}
-use Rattle.bbm_events.specs.declared.event.Item.TheVariants.{Event, End}
+use Rattle.bbm_events.specs.declared.event.Item.TheVariants.{Event}
 use Rattle.bbm_events.specs.Lines.{item_line}
 use Rattle.bbm_gen.specs.Generated.{event_at}
-use Rattle.bbm_session.specs.Generating.{ended, gen_first, gen_begin, gen_text}
+use Rattle.bbm_session.specs.Generating.{ended, gen_first, gen_begin}
 use Rattle.bbm_session.specs.Writing.{Buffered, Part, Pours, Puts}
 use Rattle.bbm_session.proofs.Puts.{part-longer, puts-none, puts-then}
 
@@ -57,12 +57,11 @@ rest-from n i (suc d) =
     let count : suc d + i ≡ suc (d + i) = omega arith in
     (rest.0 ++ line, ap (gen_begin n) count ∙ begin-more n (d + i) ∙ ap (λ (t : List ℕ). t ++ line) rest.1 ∙ append_assoc (gen_begin n i) rest.0 line)
 
+-- a write failed at a line of the first events, of which more follow
 pub cut-short : (n i count : ℕ) (e : Failed) (buffer : List ℕ) (old new : Option (List ℕ)) (f f' : ℕ) → i ≤ count
-    → Pours (gen_begin n i) (Err e) buffer old new f f' → Pours (gen_text n count) (Err e) buffer old new f f'
+    → Pours (gen_begin n i) (Err e) buffer old new f f' → Pours (gen_begin n count) (Err e) buffer old new f f'
 cut-short n i count e buffer old new f f' within pours =
     let rest = rest-from n i (count - i) in
     let whole : (count - i) + i ≡ count = omega (arith, within) in
-    let end = ended (item_line (End count)) in
     let is : gen_begin n count ≡ gen_begin n i ++ rest.0 = ap (gen_begin n) (sym whole) ∙ rest.1 in
-    pours-longer (gen_begin n count) end e buffer old new f f'
-    (subst (λ (t : List ℕ). Pours t (Err e) buffer old new f f') (sym is) (pours-longer (gen_begin n i) rest.0 e buffer old new f f' pours))
+    subst (λ (t : List ℕ). Pours t (Err e) buffer old new f f') (sym is) (pours-longer (gen_begin n i) rest.0 e buffer old new f f' pours)

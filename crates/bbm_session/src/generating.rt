@@ -5,7 +5,7 @@ ghost use Rattle.arrayvec.specs.ArrayVec.{array_vec_len};
 ghost use Rattle.bbm_events.specs.Fits.{item_fits};
 ghost use Rattle.bbm_events.specs.Lines.{item_line};
 ghost use Rattle.bbm_gen.specs.Generated.{heading};
-ghost use Rattle.bbm_session.specs.Generating.{ended, gen_first, gen_text};
+ghost use Rattle.bbm_session.specs.Generating.{ended, gen_begin, gen_first, gen_text};
 ghost use Rattle.bbm_session.specs.Writing.{Buffered, Pours, Puts, Wrote};
 
 use crate::answering::settled;
@@ -107,6 +107,29 @@ fn add_header<K: Sink>(
     add_line(buffer, &line, out)
 }
 
+// Adds the lines of the first events of the log of the number n, so many, behind the line of the header.
+fn add_events<K: Sink>(
+    header: &Header,
+    n: u64,
+    count: u32,
+    buffer: &mut ArrayVec<u8, BUFFER_BYTES>,
+    out: &mut K,
+) -> Result<(), Failed>
+    requires header { header.now ≡ heading }
+    ensures poured { (start : Option (List ℕ)) (faults : ℕ)
+        → Buffered gen_first buffer.old.items start (K.held out.old) faults (K.faults out.old)
+        → Pours (gen_begin n count) result buffer.new.items start (K.held out.new) faults (K.faults out.new) }
+{
+    let mut i = 0;
+    'events: while i < count {
+        match add_item(header, Item::Event(gen_event(n, i), None), buffer, out) {
+            Ok(()) => i += 1,
+            Err(failed) => return Err(failed),
+        }
+    }
+    Ok(())
+}
+
 // Adds the lines of the log of the number n with so many events to an empty buffer.
 fn pour_log<K: Sink>(
     n: u64,
@@ -119,16 +142,8 @@ fn pour_log<K: Sink>(
         (K.faults out.old) (K.faults out.new) }
 {
     let header = gen_header();
-    if let Err(failed) = add_header(&header, buffer, out) {
-        return Err(failed);
-    }
-    let mut i = 0;
-    'events: while i < count {
-        match add_item(&header, Item::Event(gen_event(n, i), None), buffer, out) {
-            Ok(()) => i += 1,
-            Err(failed) => return Err(failed),
-        }
-    }
+    add_header(&header, buffer, out)?;
+    add_events(&header, n, count, buffer, out)?;
     add_item(&header, Item::End(count), buffer, out)
 }
 
