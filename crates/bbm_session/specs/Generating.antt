@@ -1,12 +1,8 @@
 -- The text of a generated log: its header, its first events, and the end.
 -- Source: project's own choice.
-use Rattle.std.specs.Prelude.{◌≡◌, ℕ, zero, suc, nat_le, List, [], ◌∷◌, ◌++◌, Option, Some, None, codes, bytes_eq}
-use Rattle.std.specs.Prelude.{Result, Ok, if◌then◌else◌}
-use Rattle.bbm_io.specs.declared.source.Failed.{Failed}
-use Rattle.bbm_events.specs.declared.event.Item.{Item}
+use Rattle.std.specs.Prelude.{ℕ, zero, suc, List, [], ◌∷◌, ◌++◌, None}
 use Rattle.bbm_events.specs.declared.event.Item.TheVariants.{Event, End}
-use Rattle.bbm_events.specs.Lines.{header_line, item_line, passing}
-use Rattle.bbm_events.specs.Spelling.{decimal_value}
+use Rattle.bbm_events.specs.Lines.{header_line, item_line}
 use Rattle.bbm_gen.specs.Generated.{heading, event_at}
 
 -- a line with its newline
@@ -25,7 +21,3 @@ gen_begin n (suc i) = gen_begin n i ++ ended (item_line (Event (event_at n i) No
 -- the whole text of the log of the number n with so many events
 abbrev pub gen_text : ℕ → ℕ → List ℕ
 gen_text n count = gen_begin n count ++ ended (item_line (End count))
-
--- COUNT is a decimal of at most 4,294,967,293: a log has fewer lines than 2^32 - 1
-abbrev pub gen_count : List ℕ → Option ℕ
-gen_count text = passing (λ count. nat_le count 4294967293) (decimal_value text)

@@ -13,13 +13,14 @@ use Rattle.bbm_report.specs.Further.{heading_in}
 use Rattle.bbm_tlb_machine.specs.declared.step.Step.{Step}
 use Rattle.bbm_session.specs.declared.command.Command.{Command}
 use Rattle.bbm_session.specs.declared.command.Request.{Request}
-use Rattle.bbm_session.specs.declared.command.Request.TheVariants.{Judge, Follow}
+use Rattle.bbm_session.specs.declared.command.Request.TheVariants.{Judge, Follow, Generate}
 use Rattle.bbm_session.specs.declared.status.Status.{Status}
 use Rattle.bbm_session.specs.declared.status.Status.TheVariants as status
 use Rattle.bbm_session.specs.declared.stop.Stop.{Stop}
 use Rattle.bbm_session.specs.declared.stop.Stop.TheVariants.{Decided, ReadFault, NoMemory}
 use Rattle.bbm_session.specs.Fold.{Fold}
 use Rattle.bbm_session.specs.Folds.{judging, following}
+use Rattle.bbm_session.specs.Generating.{gen_text}
 use Rattle.bbm_session.specs.Run.{Says, limits_of, status_of}
 use Rattle.bbm_session.specs.Runs.{followed_status, run_status}
 use Rattle.bbm_session.specs.Stages.{Breaks, Concludes, Starves}
@@ -127,6 +128,12 @@ FollowsRun result left left' reads reads' held held' writes writes' =
     Answered following run.AtHeader (λ says text. text ≡ run.run_text says) run_status WantsRun result left left'
     reads reads' held held' writes writes'
 
+-- a generated log was written, and the source is as before
+abbrev pub Generates : ℕ → ℕ → Status → Option (List ℕ) → Option (List ℕ) → ℕ → ℕ → Option (List ℕ) → Option (List ℕ)
+    → ℕ → ℕ → Type 0
+Generates n count result left left' reads reads' held held' writes writes' =
+    (left' ≡ left) × (reads' ≡ reads) × Wrote status.Accepted (gen_text n count) result held held' writes writes'
+
 -- what was asked for was done
 abbrev pub Serves : Request → Status → Option (List ℕ) → Option (List ℕ) → ℕ → ℕ → Option (List ℕ) → Option (List ℕ)
     → ℕ → ℕ → Type 0
@@ -134,6 +141,8 @@ Serves (Judge command) result left left' reads reads' held held' writes writes' 
     Obeys command result left left' reads reads' held held' writes writes'
 Serves Follow result left left' reads reads' held held' writes writes' =
     FollowsRun result left left' reads reads' held held' writes writes'
+Serves (Generate n count) result left left' reads reads' held held' writes writes' =
+    Generates n count result left left' reads reads' held held' writes writes'
 
 -- This much of a text was written, whole and without a fault, and the rest of it is buffered.
 abbrev pub Buffered : List ℕ → List ℕ → Option (List ℕ) → Option (List ℕ) → ℕ → ℕ → Type 0
