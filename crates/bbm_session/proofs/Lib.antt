@@ -1,6 +1,7 @@
 pub mod Texts
 pub mod Refusals
 pub mod Puts
+pub mod Pouring
 pub mod Stages
 pub mod ReadBytes
 pub mod Judgements

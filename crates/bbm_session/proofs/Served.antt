@@ -16,18 +16,19 @@ use Rattle.bbm_report.specs.Further.{heading_in}
 use Rattle.bbm_tlb_machine.specs.declared.step.Step.{Step}
 use Rattle.bbm_session.specs.declared.command.Command.{Command}
 use Rattle.bbm_session.specs.declared.command.Request.{Request}
-use Rattle.bbm_session.specs.declared.command.Request.TheVariants.{Judge, Follow}
+use Rattle.bbm_session.specs.declared.command.Request.TheVariants.{Judge, Follow, Generate}
 use Rattle.bbm_session.specs.declared.status.Status.{Status}
 use Rattle.bbm_session.specs.declared.status.Status.TheVariants as status
 use Rattle.bbm_session.specs.declared.stop.Stop.{Stop}
 use Rattle.bbm_session.specs.declared.stop.Stop.TheVariants.{Decided, ReadFault, NoMemory}
 use Rattle.bbm_session.specs.Fold.{Fold, Ending, ending_at}
 use Rattle.bbm_session.specs.Folds.{Follows, Judged, judging, following, whole_run}
-use Rattle.bbm_session.specs.Requests.{status_for, IsTextFor, IsSomeTextFor, unread_for, ReadForAll, FaultAt, WantAt}
+use Rattle.bbm_session.specs.Requests.{status_for, IsTextFor, IsSomeTextFor, unread_for, ReadForAll, FaultAt, WantAt, reads_input}
+use Rattle.bbm_session.specs.Generating.{gen_text}
 use Rattle.bbm_session.specs.Run.{IsTextOf, Says, ReadFor, limits_of, status_of, tells_verdict}
 use Rattle.bbm_session.specs.Runs.{RunReadFor, followed_status, run_status}
 use Rattle.bbm_session.specs.Stages.{Breaks, Concludes, Continues, Ends, HeaderLine, Starts, Starves, Stops}
-use Rattle.bbm_session.specs.Writing.{Answered, Heads, IsLine, Obeys, FollowsRun, ReportsRun, Part, ReadFailed, ReadWhole, Reports, Serves, Told, Wanted, WantsRun}
+use Rattle.bbm_session.specs.Writing.{Answered, Heads, IsLine, Obeys, FollowsRun, ReportsRun, Generates, Part, ReadFailed, ReadWhole, Reports, Serves, Told, Wanted, WantsRun, Wrote}
 use Rattle.bbm_session.proofs.RunLines.{following-start, run-said, run-read-to, run-fault, run-want}
 use Rattle.bbm_session.proofs.Judgements.{outcome-said, read-to, fault-is, want-is}
 use Rattle.bbm_session.proofs.ReadBytes.{to_fault, to_want}
@@ -317,6 +318,36 @@ module _ (result : Status) (old new : Option (List ℕ)) (f f' : ℕ) (held held
       → Cut following run.AtHeader RunText run_status tells_run WantsRun result old new f f' held held' w w'
   run_cut o is = cut following run.AtHeader RunText run_status tells_run WantsRun result old new f f' held held' w w' o is
 
+  -- a text that is told by Accepted was written, or a write failed
+  module _ (text : List ℕ) where
+    wrote_heard : Wrote status.Accepted text result held held' w w' → tells_verdict result ≡ true → (result ≡ status.Accepted) × (held' ≡ extended held text)
+    wrote_heard (inl wrote) tell = (wrote.0, wrote.1)
+    wrote_heard (inr failed) tell = absurd (quiet result status.WriteFault refl failed.0 tell)
+
+    wrote_cut : Wrote status.Accepted text result held held' w w' → result ≡ status.WriteFault → Rose w w' × Part text held held'
+    wrote_cut (inl wrote) is = let other = wrote.0 in cc
+    wrote_cut (inr failed) is = (failed.1, failed.2)
+
+    wrote_either : Wrote status.Accepted text result held held' w w' → (result ≡ status.Accepted) ⊎ (result ≡ status.WriteFault)
+    wrote_either (inl wrote) = inl wrote.0
+    wrote_either (inr failed) = inr failed.0
+
+    wrote_only : Wrote status.Accepted text result held held' w w' → (other : Status) → (status.Accepted ≡ other → ⊥) → (status.WriteFault ≡ other → ⊥) → result ≡ other → ⊥
+    wrote_only (inl wrote) other accepted cuts is = accepted (sym wrote.0 ∙ is)
+    wrote_only (inr failed) other accepted cuts is = cuts (sym failed.0 ∙ is)
+
+    wrote_rose : Wrote status.Accepted text result held held' w w' → w < w' → result ≡ status.WriteFault
+    wrote_rose (inl wrote) rose = let same = wrote.2 in absurd (omega (arith, rose, same))
+    wrote_rose (inr failed) rose = failed.0
+
+    wrote_whole : Wrote status.Accepted text result held held' w w' → ¬ Rose w w' → tells_verdict result ≡ true
+    wrote_whole (inl wrote) writes = ap tells_verdict wrote.0
+    wrote_whole (inr failed) writes = absurd (writes failed.1)
+
+    wrote_sound : Wrote status.Accepted text result held held' w w' → (result ≡ status.ReadFault) ⊎ (result ≡ status.NoMemory) → ⊥
+    wrote_sound o (inl is) = wrote_only o status.ReadFault (λ same. cc) (λ same. cc) is
+    wrote_sound o (inr is) = wrote_only o status.NoMemory (λ same. cc) (λ same. cc) is
+
   abbrev ServesIt : Request → Type 0
   ServesIt request = Serves request result old new f f' held held' w w'
 
@@ -327,6 +358,9 @@ module _ (result : Status) (old new : Option (List ℕ)) (f f' : ℕ) (held held
   served-some Follow o tell =
       let k = run_heard o tell in
       (k.text, (k.says, k.is, k.has), k.written)
+  served-some (Generate n count) o tell =
+      let k = wrote_heard (gen_text n count) o.2 tell in
+      (gen_text n count, (k.0, refl), k.1)
 
   pub served-part_of_some : (request : Request) → ServesIt request → result ≡ status.WriteFault → (wanted : Status) × (text : List ℕ) × IsSomeTextFor request wanted text × Part text held held'
   served-part_of_some (Judge command) o is =
@@ -335,34 +369,53 @@ module _ (result : Status) (old new : Option (List ℕ)) (f f' : ℕ) (held held
   served-part_of_some Follow o is =
       let k = run_cut o is in
       (run_status k.says, k.text, (k.says, refl, k.has), k.part)
+  served-part_of_some (Generate n count) o is = (status.Accepted, gen_text n count, (refl, refl), (wrote_cut (gen_text n count) o.2 is).1)
 
   pub served-read_fault : (request : Request) → ServesIt request → result ≡ status.ReadFault → Rose f f'
   served-read_fault (Judge command) o is = (broke _ _ _ _ (λ (v : Judged). tells_of v.verdict) _ _ _ _ _ _ _ _ _ _ o.answered is).1
   served-read_fault Follow o is = (broke following run.AtHeader RunText run_status tells_run WantsRun result old new f f' held held' w w' o is).1
+  served-read_fault (Generate n count) o is = absurd (wrote_sound (gen_text n count) o.2 (inl is))
 
   pub served-write_fault : (request : Request) → ServesIt request → result ≡ status.WriteFault → Rose w w'
   served-write_fault (Judge command) o is = (judged_cut command o is).rose
   served-write_fault Follow o is = (run_cut o is).rose
+  served-write_fault (Generate n count) o is = (wrote_cut (gen_text n count) o.2 is).0
 
   pub served-unwritten : (request : Request) → ServesIt request → (result ≡ status.ReadFault) ⊎ (result ≡ status.NoMemory) → held' ≡ held
   served-unwritten (Judge command) o is = unwritten _ _ _ _ (λ (v : Judged). tells_of v.verdict) _ _ _ _ _ _ _ _ _ _ o.answered is
   served-unwritten Follow o is = unwritten following run.AtHeader RunText run_status tells_run WantsRun result old new f f' held held' w w' o is
+  served-unwritten (Generate n count) o is = absurd (wrote_sound (gen_text n count) o.2 is)
 
   pub served-read_rose : (request : Request) → ServesIt request → f < f' → result ≡ status.ReadFault
   served-read_rose (Judge command) o rose = read_rose _ _ _ _ (λ (v : Judged). tells_of v.verdict) _ _ _ _ _ _ _ _ _ _ o.answered rose
   served-read_rose Follow o rose = read_rose following run.AtHeader RunText run_status tells_run WantsRun result old new f f' held held' w w' o rose
+  served-read_rose (Generate n count) o rose = let same = o.1 in absurd (omega (arith, rose, same))
 
   pub served-write_rose : (request : Request) → ServesIt request → w < w' → result ≡ status.WriteFault
   served-write_rose (Judge command) o rose = write_rose _ _ _ _ (λ (v : Judged). tells_of v.verdict) _ _ _ _ _ _ _ _ _ _ o.answered rose
   served-write_rose Follow o rose = write_rose following run.AtHeader RunText run_status tells_run WantsRun result old new f f' held held' w w' o rose
+  served-write_rose (Generate n count) o rose = wrote_rose (gen_text n count) o.2 rose
 
   pub served-complete : (request : Request) → ServesIt request → ¬ Rose f f' → ¬ Rose w w' → (tells_verdict result ≡ true) ⊎ (result ≡ status.NoMemory)
   served-complete (Judge command) o reads writes = complete _ _ _ _ (λ (v : Judged). tells_of v.verdict) _ _ _ _ _ _ _ _ _ _ o.answered reads writes
   served-complete Follow o reads writes = complete following run.AtHeader RunText run_status tells_run WantsRun result old new f f' held held' w w' o reads writes
+  served-complete (Generate n count) o reads writes = inl (wrote_whole (gen_text n count) o.2 writes)
 
   pub served-usage : (request : Request) → ServesIt request → result ≡ status.Usage → ⊥
   served-usage (Judge command) o is = usage_not _ _ _ _ (λ (v : Judged). tells_of v.verdict) _ _ _ _ _ _ _ _ _ _ o.answered is
   served-usage Follow o is = usage_not following run.AtHeader RunText run_status tells_run WantsRun result old new f f' held held' w w' o is
+  served-usage (Generate n count) o is = wrote_only (gen_text n count) o.2 status.Usage (λ same. cc) (λ same. cc) is
+
+  -- a request that reads nothing
+  pub served-untouched : (request : Request) → ServesIt request → reads_input request ≡ false → new ≡ old
+  served-untouched (Judge command) o is = cc
+  served-untouched Follow o is = cc
+  served-untouched (Generate n count) o is = o.0
+
+  pub served-generated : (request : Request) → ServesIt request → reads_input request ≡ false → (result ≡ status.Accepted) ⊎ (result ≡ status.WriteFault)
+  served-generated (Judge command) o is = cc
+  served-generated Follow o is = cc
+  served-generated (Generate n count) o is = wrote_either (gen_text n count) o.2
 
   module _ (bytes : List ℕ) (is : old ≡ Some bytes) where
     concluded : {P V : Type 0} (fold : Fold P V) (start : P) (v : V) → Concludes fold 1 start old v new
@@ -393,6 +446,7 @@ module _ (result : Status) (old new : Option (List ℕ)) (f f' : ℕ) (held held
     served-status Follow o tell =
         let k = run_heard o tell in
         k.is ∙ ap run_status (sym (run_concluded k.says k.concludes).0)
+    served-status (Generate n count) o tell = (wrote_heard (gen_text n count) o.2 tell).0
 
     pub served-text : (request : Request) → ServesIt request → tells_verdict result ≡ true → (text : List ℕ) × IsTextFor request bytes text × (held' ≡ extended held text)
     served-text (Judge command) o tell =
@@ -402,6 +456,7 @@ module _ (result : Status) (old new : Option (List ℕ)) (f f' : ℕ) (held held
     served-text Follow o tell =
         let k = run_heard o tell in
         (k.text, k.has ∙ ap run.run_text (sym (run_concluded k.says k.concludes).0), k.written)
+    served-text (Generate n count) o tell = (gen_text n count, refl, (wrote_heard (gen_text n count) o.2 tell).1)
 
     pub served-part : (request : Request) → ServesIt request → result ≡ status.WriteFault → (text : List ℕ) × IsTextFor request bytes text × Part text held held'
     served-part (Judge command) o cuts =
@@ -411,28 +466,33 @@ module _ (result : Status) (old new : Option (List ℕ)) (f f' : ℕ) (held held
     served-part Follow o cuts =
         let k = run_cut o cuts in
         (k.text, k.has ∙ ap run.run_text (sym (run_concluded k.says k.concludes).0), k.part)
+    served-part (Generate n count) o cuts = (gen_text n count, refl, (wrote_cut (gen_text n count) o.2 cuts).1)
 
     pub served-unread : (request : Request) → ServesIt request → tells_verdict result ≡ true → new ≡ Some (unread_for request bytes)
     served-unread (Judge command) o tell = let k = judged_heard command o tell in (judged_concluded command k.says k.concludes).1
     served-unread Follow o tell = let k = run_heard o tell in (run_concluded k.says k.concludes).1
+    served-unread (Generate n count) o tell = o.0 ∙ is
 
     pub served-untold : (request : Request) → ServesIt request → result ≡ status.WriteFault → new ≡ Some (unread_for request bytes)
     served-untold (Judge command) o cuts = let k = judged_cut command o cuts in (judged_concluded command k.says k.concludes).1
     served-untold Follow o cuts = let k = run_cut o cuts in (run_concluded k.says k.concludes).1
+    served-untold (Generate n count) o cuts = o.0 ∙ is
 
     pub served-read : (request : Request) → ServesIt request → tells_verdict result ≡ true → ReadForAll request bytes new
     served-read (Judge command) o tell = read-to (limits_of command) bytes new (served-unread (Judge command) o tell)
     served-read Follow o tell = run-read-to bytes new (served-unread Follow o tell)
+    served-read (Generate n count) o tell = o.0 ∙ is
 
-    pub served-accepted : (request : Request) → ServesIt request → result ≡ status.Accepted → new ≡ Some []
-    served-accepted (Judge command) o accepted =
+    pub served-accepted : (request : Request) → ServesIt request → reads_input request ≡ true → result ≡ status.Accepted → new ≡ Some []
+    served-accepted (Judge command) o reads accepted =
         let tell = ap tells_verdict accepted in
         let r = served-read (Judge command) o tell in
         r.3 ∙ ap Some (none_left (verdict_of_bytes Patterns (limits_of command) bytes) (text_of r.0) r.1 (sym (served-status (Judge command) o tell) ∙ accepted) r.4)
-    served-accepted Follow o accepted =
+    served-accepted Follow o reads accepted =
         let tell = ap tells_verdict accepted in
         let r = served-read Follow o tell in
         r.3 ∙ ap Some (none_left_run (run.run_of bytes).says (text_of r.0) r.1 (sym (served-status Follow o tell) ∙ accepted) r.4)
+    served-accepted (Generate n count) o reads accepted = cc
 
     pub served-accepts : (command : Command) → ServesIt (Judge command) → result ≡ status.Accepted → (count : ℕ) × (verdict_of_bytes Patterns (limits_of command) bytes ≡ Accepted count)
     served-accepts command o accepted =
@@ -446,6 +506,7 @@ module _ (result : Status) (old new : Option (List ℕ)) (f f' : ℕ) (held held
     served-fault Follow o fault =
         let breaks = (broke following run.AtHeader RunText run_status tells_run WantsRun result old new f f' held held' w w' o fault).0 in
         run-fault bytes new (to_fault following run.AtHeader bytes new (subst (λ (x : Option (List ℕ)). Breaks following 1 run.AtHeader x new) is breaks))
+    served-fault (Generate n count) o fault = wrote_sound (gen_text n count) o.2 (inl fault)
 
     pub served-want : (request : Request) → ServesIt request → result ≡ status.NoMemory → WantAt request bytes new
     served-want (Judge command) o want =
@@ -455,3 +516,4 @@ module _ (result : Status) (old new : Option (List ℕ)) (f f' : ℕ) (held held
     served-want Follow o want =
         let wants = starved following run.AtHeader RunText run_status tells_run WantsRun result old new f f' held held' w w' o want in
         run_wants bytes new (subst (λ (x : Option (List ℕ)). WantsRun x new) is wants)
+    served-want (Generate n count) o want = wrote_sound (gen_text n count) o.2 (inr want)

@@ -1,5 +1,6 @@
 pub mod Fold
 pub mod Folds
+pub mod Generating
 pub mod Pieces
 pub mod Requests
 pub mod Run

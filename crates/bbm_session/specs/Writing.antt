@@ -1,5 +1,5 @@
 -- What became of a text that was to be written.
-use Rattle.std.specs.Prelude.{◌≡◌, ℕ, ◌<◌, List, length, take, Option, Some, None, Result, Ok, Err, ◌⊎◌}
+use Rattle.std.specs.Prelude.{◌≡◌, ℕ, ◌<◌, List, ◌++◌, length, take, Option, Some, None, Result, Ok, Err, ◌⊎◌}
 use Rattle.bbm_io.specs.Faults.{Rose}
 use Rattle.bbm_io.specs.Flow.{extended}
 use Rattle.bbm_io.specs.declared.source.Failed.{Failed}
@@ -13,13 +13,14 @@ use Rattle.bbm_report.specs.Further.{heading_in}
 use Rattle.bbm_tlb_machine.specs.declared.step.Step.{Step}
 use Rattle.bbm_session.specs.declared.command.Command.{Command}
 use Rattle.bbm_session.specs.declared.command.Request.{Request}
-use Rattle.bbm_session.specs.declared.command.Request.TheVariants.{Judge, Follow}
+use Rattle.bbm_session.specs.declared.command.Request.TheVariants.{Judge, Follow, Generate}
 use Rattle.bbm_session.specs.declared.status.Status.{Status}
 use Rattle.bbm_session.specs.declared.status.Status.TheVariants as status
 use Rattle.bbm_session.specs.declared.stop.Stop.{Stop}
 use Rattle.bbm_session.specs.declared.stop.Stop.TheVariants.{Decided, ReadFault, NoMemory}
 use Rattle.bbm_session.specs.Fold.{Fold}
 use Rattle.bbm_session.specs.Folds.{judging, following}
+use Rattle.bbm_session.specs.Generating.{gen_text}
 use Rattle.bbm_session.specs.Run.{Says, limits_of, status_of}
 use Rattle.bbm_session.specs.Runs.{followed_status, run_status}
 use Rattle.bbm_session.specs.Stages.{Breaks, Concludes, Starves}
@@ -127,6 +128,12 @@ FollowsRun result left left' reads reads' held held' writes writes' =
     Answered following run.AtHeader (λ says text. text ≡ run.run_text says) run_status WantsRun result left left'
     reads reads' held held' writes writes'
 
+-- a generated log was written, and the source is as before
+abbrev pub Generates : ℕ → ℕ → Status → Option (List ℕ) → Option (List ℕ) → ℕ → ℕ → Option (List ℕ) → Option (List ℕ)
+    → ℕ → ℕ → Type 0
+Generates n count result left left' reads reads' held held' writes writes' =
+    (left' ≡ left) × (reads' ≡ reads) × Wrote status.Accepted (gen_text n count) result held held' writes writes'
+
 -- what was asked for was done
 abbrev pub Serves : Request → Status → Option (List ℕ) → Option (List ℕ) → ℕ → ℕ → Option (List ℕ) → Option (List ℕ)
     → ℕ → ℕ → Type 0
@@ -134,3 +141,15 @@ Serves (Judge command) result left left' reads reads' held held' writes writes' 
     Obeys command result left left' reads reads' held held' writes writes'
 Serves Follow result left left' reads reads' held held' writes writes' =
     FollowsRun result left left' reads reads' held held' writes writes'
+Serves (Generate n count) result left left' reads reads' held held' writes writes' =
+    Generates n count result left left' reads reads' held held' writes writes'
+
+-- This much of a text was written, whole and without a fault, and the rest of it is buffered.
+abbrev pub Buffered : List ℕ → List ℕ → Option (List ℕ) → Option (List ℕ) → ℕ → ℕ → Type 0
+Buffered text buffer old new faults faults' =
+    (done : List ℕ) × (text ≡ done ++ buffer) × (new ≡ extended old done) × (faults' ≡ faults)
+
+-- the same, or a write failed
+abbrev pub Pours : List ℕ → Result (Unit {0}) Failed → List ℕ → Option (List ℕ) → Option (List ℕ) → ℕ → ℕ → Type 0
+Pours text (Ok _) buffer old new faults faults' = Buffered text buffer old new faults faults'
+Pours text (Err _) buffer old new faults faults' = Part text old new × Rose faults faults'

@@ -2,14 +2,19 @@
 
 ghost use Rattle.std.specs.Prelude.{◌≡◌, map};
 ghost use Rattle.std.specs.String.{string_bytes};
-ghost use Rattle.bbm_session.specs.Requests.{follow_of, request_of};
-ghost use Rattle.bbm_session.specs.Run.{command_alone, command_of, limits_of};
+ghost use Rattle.bbm_session.specs.Requests.{event_count, follow_of, gen_asked, gen_of, request_of};
+ghost use Rattle.bbm_session.specs.Run.{command_alone, command_of, limits_of, or_else};
 
+use bbm_log_grammar::read_decimal;
 use bbm_report::{Question, asked};
 use bbm_rules::Limits;
 
 /// The most events of a log that the oracle judges. Source: project's own choice.
 const ORACLE_EVENTS: u64 = 2000;
+
+/// The most events of a generated log, which has at most 2^32 - 1 lines with its header and its end. Source: project's
+/// own choice.
+const GENERATED_EVENTS: u64 = 4_294_967_293;
 
 /// A command that judges a log. Source: project's own choice.
 #[derive(Clone, Copy, Debug)]
@@ -32,6 +37,13 @@ pub enum Request {
     Judge(Command),
     /// A log with lines of machine steps between its events is read, and the run of the machine of TLBs is followed.
     Follow,
+    /// A generated log is written, and nothing is read.
+    Generate {
+        /// The number of the log.
+        number: u64,
+        /// How many events it has, at most 4,294,967,293.
+        events: u32,
+    },
 }
 
 // The command that one word says, None where there is another number of words.
@@ -77,13 +89,60 @@ fn said_follow(words: &[String]) -> Option<Request>
     }
 }
 
+// The number of events of a generated log.
+fn read_count(text: &[u8]) -> Option<u32>
+    ensures { result ≡ event_count text.now }
+{
+    let count = read_decimal(text)?;
+    if count <= GENERATED_EVENTS {
+        Some(count as u32)
+    } else {
+        None
+    }
+}
+
+// The generated log of two words.
+fn read_gen(n: &[u8], count: &[u8]) -> Option<Request>
+    ensures { result ≡ gen_asked n.now count.now }
+{
+    let number = read_decimal(n)?;
+    let events = read_count(count)?;
+    Some(Request::Generate { number, events })
+}
+
+// The request of the words `gen N COUNT`.
+fn said_gen(words: &[String]) -> Option<Request>
+    ensures { result ≡ gen_of (map string_bytes words.now) }
+{
+    match words {
+        [word, n, count] => {
+            if word.as_bytes() == b"gen".as_slice() {
+                read_gen(n.as_bytes(), count.as_bytes())
+            } else {
+                None
+            }
+        }
+        _ => None,
+    }
+}
+
+// The request of words that are no command.
+fn said_other(words: &[String]) -> Option<Request>
+    ensures { result ≡ or_else (follow_of (map string_bytes words.now)) (gen_of (map string_bytes words.now)) }
+{
+    match said_follow(words) {
+        Some(request) => Some(request),
+        None => said_gen(words),
+    }
+}
+
 /// What the words ask for, None where they ask for nothing.
 pub fn said(words: &[String]) -> Option<Request>
     ensures { result ≡ request_of (map string_bytes words.now) }
 {
     match said_command(words) {
         Some(command) => Some(Request::Judge(command)),
-        None => said_follow(words),
+        None => said_other(words),
     }
 }
 

@@ -5,6 +5,7 @@
 mod answering;
 mod command;
 mod following;
+mod generating;
 mod judging;
 mod line;
 mod obeying;

@@ -6,6 +6,7 @@ mod check;
 mod el2_logs;
 mod explain;
 mod follow;
+mod generated;
 mod other_logs;
 mod slow;
 mod told_logs;

@@ -1,6 +1,6 @@
 //! The top call.
 
-ghost use Rattle.std.specs.Prelude.{◌≡◌, ◌<◌, ◌⊎◌, ℕ, List, [], Option, Some, None, IsSome, true, map};
+ghost use Rattle.std.specs.Prelude.{◌≡◌, ◌<◌, ◌⊎◌, ℕ, List, [], Option, Some, None, IsSome, true, false, map};
 ghost use Rattle.std.specs.String.{string_bytes};
 ghost use Rattle.bbm_io.specs.Faults.{Rose};
 ghost use Rattle.bbm_io.specs.Flow.{preceded, extended};
@@ -9,8 +9,8 @@ ghost use Rattle.bbm_tlb_machine.specs.Accepted.{SafeBytes};
 ghost use Rattle.bbm_session.specs.declared.command.Command.{Command as CommandOf};
 ghost use Rattle.bbm_session.specs.declared.command.Request.{Request as RequestOf};
 ghost use Rattle.bbm_session.specs.declared.status.Status.{Status as StatusOf};
-ghost use Rattle.bbm_session.specs.Requests.{FaultAt, IsSomeTextFor, IsTextFor, ReadForAll, WantAt, request_of};
-ghost use Rattle.bbm_session.specs.Requests.{status_for, unread_for};
+ghost use Rattle.bbm_session.specs.Requests.{FaultAt, IsSomeTextFor, IsTextFor, ReadForAll, WantAt, reads_input};
+ghost use Rattle.bbm_session.specs.Requests.{request_of, status_for, unread_for};
 ghost use Rattle.bbm_session.specs.Run.{command_of, limits_of, tells_verdict, usage_text};
 ghost use Rattle.bbm_session.specs.Stages.{Shrinks};
 ghost use Rattle.bbm_session.specs.Writing.{Wrote, Part, Serves};
@@ -18,6 +18,7 @@ ghost use Rattle.bbm_session.specs.Writing.{Wrote, Part, Serves};
 use crate::answering::settled;
 use crate::command::{Request, said};
 use crate::following::follow;
+use crate::generating::generate;
 use crate::obeying::obey;
 use crate::status::Status;
 use crate::telling::tell;
@@ -50,6 +51,7 @@ fn serve<S: Source, K: Sink>(alloc: Global, request: &Request, log: &mut S, out:
     match request {
         Request::Judge(command) => obey::<Oracle, S, K>(alloc, command, log, out),
         Request::Follow => follow(alloc, log, out),
+        Request::Generate { number, events } => generate(*number, *events, out),
     }
 }
 
@@ -58,9 +60,11 @@ fn serve<S: Source, K: Sink>(alloc: Global, request: &Request, log: &mut S, out:
 /// line for each PE where break-before-make is broken, how far the place has come there; and `walk` writes where an
 /// accepted log maps the address ADDR at its end, by the tables of the root of KIND whose first page is ROOT. With
 /// `follow` it reads a log with lines of machine steps between its events, judges no event, and writes the line of what
-/// comes of that run. Any other words are answered with the usage line. Nothing else is written. `log` is read up to the
-/// line that decides, and an accepted log and a run without such a line to its end. Where the source tells what it has
-/// left and the sink what it holds, the clauses say which bytes are read and written. Source: project's own choice.
+/// comes of that run. With `gen N COUNT` it writes the generated log of the number N with COUNT events, at most
+/// 4,294,967,293, and reads nothing. Any other words are answered with the usage line. Nothing else is written. `log` is
+/// read up to the line that decides, and an accepted log and a run without such a line to its end. Where the source tells
+/// what it has left and the sink what it holds, the clauses say which bytes are read and written. Source: project's own
+/// choice.
 pub fn run<S: Source, K: Sink>(
     alloc: Global,
     words: &Vec<String>,
@@ -92,8 +96,14 @@ pub fn run<S: Source, K: Sink>(
     ensures read_to_the_line { (request : RequestOf) → request_of (map string_bytes words.now.items) ≡ Some request
         → (bytes : List ℕ) → S.left log.old ≡ Some bytes → tells_verdict result ≡ true
         → ReadForAll request bytes (S.left log.new) }
-    ensures accepted_reads_all { (bytes : List ℕ) → S.left log.old ≡ Some bytes → result ≡ Status.Accepted
+    ensures accepted_reads_all { (request : RequestOf) → request_of (map string_bytes words.now.items) ≡ Some request
+        → reads_input request ≡ true → (bytes : List ℕ) → S.left log.old ≡ Some bytes → result ≡ Status.Accepted
         → S.left log.new ≡ Some [] }
+    // A generated log: nothing is read, and there is no want of memory.
+    ensures generated_reads_nothing { (request : RequestOf) → request_of (map string_bytes words.now.items) ≡ Some request
+        → reads_input request ≡ false → S.left log.new ≡ S.left log.old }
+    ensures generated { (request : RequestOf) → request_of (map string_bytes words.now.items) ≡ Some request
+        → reads_input request ≡ false → (result ≡ Status.Accepted) ⊎ (result ≡ Status.WriteFault) }
     // The headline: where a log is accepted, no TLB keeps what a write, an init or a register write needs gone, in any run
     // of the machine of TLBs over the log of its events.
     ensures no_stale_entry { (command : CommandOf) → command_of (map string_bytes words.now.items) ≡ Some command

@@ -1,13 +1,13 @@
 //! From the words that were gathered, or not, to the status with which the program ends.
 
-ghost use Rattle.std.specs.Prelude.{◌≡◌, ◌≢◌, ◌⊎◌, ◌<◌, ℕ, List, [], true, map, IfOk, IfErr, OnErr, Option, Some};
+ghost use Rattle.std.specs.Prelude.{◌≡◌, ◌≢◌, ◌⊎◌, ◌<◌, ℕ, List, [], true, false, map, IfOk, IfErr, OnErr, Option, Some};
 ghost use Rattle.std.specs.Prelude.{None, IsSome};
 ghost use Rattle.std.specs.IoError.{error_kind};
 ghost use Rattle.std.specs.String.{string_bytes};
 ghost use Rattle.bbm_io.specs.Faults.{Rose};
 ghost use Rattle.bbm_io.specs.Flow.{extended};
 ghost use Rattle.bbm_session.specs.declared.command.Request.{Request as RequestOf};
-ghost use Rattle.bbm_session.specs.Requests.{IsTextFor, WantAt, request_of, status_for, unread_for};
+ghost use Rattle.bbm_session.specs.Requests.{IsTextFor, WantAt, reads_input, request_of, status_for, unread_for};
 ghost use Rattle.bbm_session.specs.Run.{tells_verdict, usage_text};
 
 use crate::status::Status;
@@ -45,6 +45,12 @@ pub fn run_words<S: Source, K: Sink>(
         → request_of (map string_bytes all.items) ≡ Some request → (bytes : List ℕ)
         → S.left log.old ≡ Some bytes → tells_verdict result ≡ true
         → S.left log.new ≡ Some (unread_for request bytes)) }
+    ensures generated { IfOk words (λ all. (request : RequestOf)
+        → request_of (map string_bytes all.items) ≡ Some request → reads_input request ≡ false
+        → (result ≡ Status.Accepted) ⊎ (result ≡ Status.WriteFault)) }
+    ensures generated_reads_nothing { IfOk words (λ all. (request : RequestOf)
+        → request_of (map string_bytes all.items) ≡ Some request → reads_input request ≡ false
+        → S.left log.new ≡ S.left log.old) }
     ensures unwritten { (result ≡ Status.ReadFault) ⊎ (result ≡ Status.NoMemory)
         → K.held out.new ≡ K.held out.old }
     ensures read_rose { S.faults log.old < S.faults log.new → result ≡ Status.ReadFault }

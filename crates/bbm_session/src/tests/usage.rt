@@ -41,6 +41,20 @@ fn tells_the_usage(rt: HostRuntime) -> Result<(), Fail> {
         "walk el2 0x40000000 0x00",
         "walk el2 0x40000000 0xA",
         "walk el2 0x40000000 0x10000000000000000",
+        "gen",
+        "gen 7",
+        "gen 7 1 1",
+        "Gen 7 1",
+        "gens 7 1",
+        "gen 07 1",
+        "gen 7 01",
+        "gen 0x7 1",
+        "gen +7 1",
+        "gen 7 -1",
+        "gen 18446744073709551616 1",
+        "gen 7 4294967294",
+        "gen 7 18446744073709551616",
+        "selftest 7 1",
     ] {
         let bytes = log(rt.alloc(), b"", REMAP, 1, b"")?;
         let faults = Faults {
