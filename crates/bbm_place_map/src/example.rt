@@ -1,6 +1,6 @@
 //! The calls for one place, in their order.
 
-ghost use Rattle.std.specs.Prelude.{◌≡◌, ◌≤◌, ◌<◌, ℕ, Bool, None, OnOk, true, nat_eq, if◌then◌else◌};
+ghost use Rattle.std.specs.Prelude.{◌≡◌, ◌≤◌, ◌<◌, ℕ, None, OnOk, true, nat_eq, if◌then◌else◌};
 ghost use Rattle.bbm_place_map.specs.Map.{value_at, marks_at, is_tracked, page_of};
 
 use crate::map::PlaceMap;
