@@ -13,6 +13,10 @@ pub mod Growing
 pub mod Levels
 pub mod Starts
 pub mod Begun
+pub mod Leasts
+pub mod Wrongs
+pub mod Ways
+pub mod Judging
 pub mod Agreeing
 pub mod Indexes
 pub mod Left

@@ -17,6 +17,7 @@ pub mod example;
 mod fault;
 mod held;
 mod index;
+mod judge;
 mod leaving;
 mod mark;
 mod role;
