@@ -17,6 +17,8 @@ pub mod Leasts
 pub mod Wrongs
 pub mod Ways
 pub mod Judging
+pub mod Rooted
+pub mod RootFits
 pub mod Agreeing
 pub mod Indexes
 pub mod Left
