@@ -19,6 +19,7 @@ pub mod Ways
 pub mod Judging
 pub mod Rooted
 pub mod RootFits
+pub mod Begins
 pub mod Agreeing
 pub mod Indexes
 pub mod Left

@@ -72,6 +72,9 @@ module _ (heading : Heading) (ok : heading_ok heading ≡ true) (kind : Kind) (f
   count_low : page_count heading.world kind ≤ 16
   count_low = counts (λ n. n ≤ 16) (omega arith) (omega arith) (omega arith) (omega arith) (omega arith) heading.world world_is kind
 
+  pub count_some : 1 ≤ page_count heading.world kind
+  count_some = counts (λ n. 1 ≤ n) (omega arith) (omega arith) (omega arith) (omega arith) (omega arith) heading.world world_is kind
+
   pub root_fits : (i : ℕ) → i < page_count heading.world kind → RoleFits heading (RootPage kind first i)
   root_fits i l s e = subst Fits (same_Some _ s e) (record {
     shallow = omega (arith, kind_low);

@@ -146,6 +146,21 @@ module _ (kind : Kind) (first : ℕ) where
     abbrev pub Pages : ℕ → List Node
     Pages n = nodes_of_pages kind (start_of heading.world kind) first (first_input_page heading.world kind) (pages_from first n)
 
+    pub root_nodes : kind_in_world heading.world kind ≡ true
+        → nodes_of_root heading (record { page = first; kind = kind; lock = None }) ≡ Pages (page_count heading.world kind)
+    root_nodes e = λ i. nodes_of_pages kind (start_of heading.world kind) first (first_input_page heading.world kind)
+        (if e i then pages_from first (page_count heading.world kind) else [])
+
+    pub root_same : (n : ℕ) (m : Node) → Contains (Pages n) m → (m.kind ≡ kind) × (m.level ≡ start_of heading.world kind)
+    root_same n = same_start (start_of heading.world kind) (first_input_page heading.world kind) n
+
+    pub root_apart : (n : ℕ) (m m' : Node) → Contains (Pages n) m → Contains (Pages n) m' → m.page ≡ m'.page → m ≡ m'
+    root_apart n = starts_apart (start_of heading.world kind) (first_input_page heading.world kind) n
+
+    pub root_some : (n : ℕ) → 1 ≤ n → (m : Node) × Contains (Pages n) m
+    root_some n l = (node_at (start_of heading.world kind) first (first_input_page heading.world kind) 0,
+        has_node (start_of heading.world kind) first (first_input_page heading.world kind) n 0 (omega (arith, l)))
+
     pub root_starting : (n : ℕ) (g : ℕ → Option Mark) → ((q : ℕ) → g q ≡ root_marks kind first n q) → Starting heading g (Pages n)
     root_starting n g is = let level = start_of heading.world kind in let base = first_input_page heading.world kind in record {
       plain = λ m c. let r = in_nodes level first base n m c in

@@ -7,9 +7,15 @@ use Rattle.bbm_descriptor.specs.Descriptor.{desc_of}
 use Rattle.bbm_descriptor.specs.declared.desc.Desc.{Desc}
 use Rattle.bbm_regimes.specs.declared.regime.Kind.{Kind}
 use Rattle.bbm_rules.specs.Tree.{Node}
+use Rattle.bbm_place_map.specs.Map.{value_at}
+use Rattle.bbm_place_map.specs.declared.map.PlaceMap.{PlaceMap}
+use Rattle.bbm_tree_index.specs.Index.{fresh_in, heading_of}
+use Rattle.bbm_tree_index.specs.declared.role.Attach.{Attach}
 use Rattle.bbm_tree_index.specs.Held.{is_at}
 use Rattle.bbm_tree_index.specs.Judged.{IsLeast, Never, is_bad, is_user_global}
-use Rattle.bbm_tree_index.specs.Survey.{Counts, Reached}
+use Rattle.bbm_tree_index.specs.Paths.{starts_of}
+use Rattle.bbm_tree_index.specs.Survey.{Counts, Reached, Starting, Surveyed}
+use Rattle.bbm_tree_index.specs.declared.index.TreeIndex.{TreeIndex}
 use Rattle.bbm_tree_index.specs.declared.judge.Leaf.{Leaf}
 use Rattle.bbm_tree_index.specs.declared.judge.Leaf.TheVariants.{Contiguous, UserGlobal}
 use Rattle.bbm_tree_index.specs.declared.mark.Mark.{Mark}
@@ -96,3 +102,11 @@ module _ {S : Type 0} where
       pub apart : (s s' : Node) → Contains starts s → Contains starts s' → s.page ≡ s'.page → s ≡ s'
       pub levels : (k : ℕ) (table : IndexMap ℕ Mark S) → slice_get tables k ≡ Some table
           → (q : ℕ) → Counts (Reached fresh value starts k) q (get nat_eq table q)
+
+    -- The tables tell what paths reach from the starts of what is attached, up to level 3.
+    pub record IsSurvey (index : TreeIndex) (map : PlaceMap) (at : Attach) : Type 0 where
+      pub first : ℕ → Option Mark
+      pub starting : Starting (heading_of index) first (starts_of index at)
+      pub surveyed : Surveyed (heading_of index) (fresh_in index) (value_at map) first tables
+      pub filled : 0 < length tables
+      pub count : (s : Node) → Contains (starts_of index at) s → s.level + length tables ≡ 4

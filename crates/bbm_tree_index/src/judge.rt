@@ -5,14 +5,14 @@ ghost use Rattle.indexmap.specs.IndexMap.{get, index_map_len, keys};
 ghost use Rattle.bbm_descriptor.specs.Descriptor.{desc_of};
 ghost use Rattle.bbm_place_map.specs.Map.{value_at};
 ghost use Rattle.bbm_rules.specs.Tree.{Node};
-ghost use Rattle.bbm_tree_index.specs.Judged.{Judges};
+ghost use Rattle.bbm_tree_index.specs.Judged.{Judges, names_pages};
 ghost use Rattle.bbm_tree_index.specs.Least.{Elsewhere, HasPages, HavePages, LeafIn, LeafOf, LeafPlace, LeastOf, Told, Wrong, WrongIn, WrongPage, asks, lesser};
 ghost use Rattle.bbm_tree_index.specs.Survey.{fresh_of};
 
 use crate::fault::TreeFault;
 use crate::held::place_of;
 use crate::mark::Mark;
-use crate::role::Role;
+use crate::role::{Attach, Role};
 use crate::survey::entry_at;
 use crate::table::is_fresh;
 use bbm_descriptor::{Desc, Memory, read};
@@ -27,6 +27,13 @@ pub enum Leaf {
     Contiguous,
     /// Those for every ASID, in a tree of the lower range.
     UserGlobal,
+}
+
+/// Whether the named pages are judged by another rule: those of a root.
+pub fn is_named(at: &Attach) -> bool
+    ensures { result ≡ names_pages at.now }
+{
+    matches!(at, Attach::Root { .. })
 }
 
 // Whether the page is in a table of another level than this one.
