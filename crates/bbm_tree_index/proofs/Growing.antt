@@ -59,7 +59,7 @@ well_grown heading (Some next) mark g g' is new w = record {
     fit p m false t e = w.fit p m e
 
 -- a key stands at no earlier index
-any_at : (k : ℕ) (ks : List ℕ) (j : ℕ) → list_any (nat_eq k) (take j ks) ≡ true → (i : ℕ) × (i < j) × (nat_eq k (get_or ks i 0) ≡ true)
+pub any_at : (k : ℕ) (ks : List ℕ) (j : ℕ) → list_any (nat_eq k) (take j ks) ≡ true → (i : ℕ) × (i < j) × (nat_eq k (get_or ks i 0) ≡ true)
 any_at k [] zero e = absurd (true≢false (sym e))
 any_at k [] (suc j) e = absurd (true≢false (sym e))
 any_at k (x ∷ xs) zero e = absurd (true≢false (sym e))

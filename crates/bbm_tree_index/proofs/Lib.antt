@@ -13,6 +13,13 @@ pub mod Growing
 pub mod Levels
 pub mod Starts
 pub mod Begun
+pub mod Leasts
+pub mod Wrongs
+pub mod Ways
+pub mod Judging
+pub mod Rooted
+pub mod RootFits
+pub mod Begins
 pub mod Agreeing
 pub mod Indexes
 pub mod Left

@@ -8,3 +8,4 @@ pub mod Paths
 pub mod Judged
 pub mod Agreement
 pub mod Survey
+pub mod Least

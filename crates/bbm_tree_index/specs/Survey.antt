@@ -1,7 +1,8 @@
 -- Which nodes the paths through fresh pages reach, and how a table of marks tells it. Source: project's own choice.
 use Rattle.std.specs.Prelude.{◌≡◌, ℕ, ◌-◌, ◌/◌, Bool, true, false, ◌==◌, List, [], ◌∷◌, length, Option, Some, None, Contains}
 use Rattle.std.specs.Prelude.{if◌then◌else◌}
-use Rattle.std.specs.Prelude.{◌<◌, ◌%◌, ◌^◌, is_some, nat_eq, slice_get}
+use Rattle.std.specs.Prelude.{zero, suc, ◌+◌, ◌*◌, ◌<◌, ◌%◌, ◌^◌, is_some, nat_eq, slice_get}
+use Rattle.bbm_regimes.specs.declared.regime.Kind.{Kind}
 use Rattle.indexmap.specs.IndexMap.{IndexMap, get}
 use Rattle.bbm_events.specs.Heading.{Heading}
 use Rattle.bbm_rules.specs.Tree.{Above, Node, next_of, node_below}
@@ -74,6 +75,13 @@ joined (Some old) mark = record { role = old.role; many = true }
 abbrev pub grown : Option ℕ → Mark → (ℕ → Option Mark) → ℕ → Option Mark
 grown None mark g q = g q
 grown (Some next) mark g q = if q == next then Some (joined (g next) mark) else g q
+
+-- the marks of so many pages of a root, from the first one on
+abbrev pub root_marks : Kind → ℕ → ℕ → ℕ → Option Mark
+root_marks kind first zero q = None
+root_marks kind first (suc n) q =
+    if q == first + 4096 * n then Some (record { role = RootPage kind first n; many = false })
+    else root_marks kind first n q
 
 -- a table of marks is well formed: its pages are pages, and its roles fit
 pub record Well (heading : Heading) (g : ℕ → Option Mark) : Type 0 where

@@ -2,13 +2,17 @@
 
 use crate::climb::{Asked, is_cut};
 use crate::fault::TreeFault;
+use crate::judge::{is_named, judge_tables};
 use crate::leaving::{Leaving, sweep};
+use crate::mark::Mark;
 use crate::role::{Attach, Path, Role};
 use crate::spot::{Spot, spot_of};
+use crate::start::{count_at, in_ranges, start_at, start_below, start_root};
+use crate::survey::survey;
 use crate::table::put;
 use bbm_events::Header;
 use bbm_place_map::PlaceMap;
-use bbm_regimes::{Page, Place, Which};
+use bbm_regimes::{Kind, NoMemory, Page, Place, Which};
 use indexmap::IndexMap;
 use std::alloc::Global;
 
@@ -39,6 +43,12 @@ impl TreeIndex {
     ghost use Rattle.bbm_rules.specs.Tree.{Node};
     ghost use Rattle.bbm_tree_index.specs.Held.{Childless, is_held, kept, leaves, limbo_at, stays_without};
     ghost use Rattle.bbm_tree_index.specs.Leaving.{stays};
+    ghost use Rattle.bbm_tree_index.specs.Judged.{Judges, MayJudge, names_pages};
+    ghost use Rattle.bbm_tree_index.specs.Least.{IsSurvey};
+    ghost use Rattle.bbm_tree_index.specs.Paths.{starts_of};
+    ghost use Rattle.bbm_tree_index.specs.Survey.{Starting, Well};
+    ghost use Rattle.std.specs.Prelude.{Contains};
+    ghost use Rattle.indexmap.specs.IndexMap.{get};
 
     /// The index before any call. `NoMemory` where there is none.
     pub fn new(alloc: Global, header: &Header) -> Result<TreeIndex, TreeFault>
@@ -266,6 +276,83 @@ impl TreeIndex {
         match self.roles.insert(key, Role::Fresh) {
             Ok(_) => Ok(()),
             Err(_) => Err(TreeFault::NoMemory),
+        }
+    }
+
+    // The kind and the level at which the paths of what is attached begin.
+    fn begin(&self, at: &Attach) -> (Kind, u8)
+        requires sound { IsSound self.now }
+        requires may { MayJudge self.now at.now }
+        ensures low { result.1 ≤ 3 }
+        ensures same { (s : Node) → Contains (starts_of self.now at.now) s → (s.kind ≡ result.0) × (s.level ≡ result.1) }
+        ensures some { (s : Node) × Contains (starts_of self.now at.now) s }
+    {
+        in_ranges(&self.header);
+        match *at {
+            Attach::Root { kind, first: _ } => (kind, start_at(&self.header, kind)),
+            Attach::Below { place, next: _ } => match self.spot(place.page()) {
+                Some(spot) => (spot.kind, spot.level + 1),
+                None => (Kind::El2, 3),
+            },
+        }
+    }
+
+    // The table of the pages at which the paths of what is attached begin.
+    fn start(&self, alloc: Global, at: &Attach) -> Result<IndexMap<u64, Mark>, NoMemory>
+        requires sound { IsSound self.now }
+        requires may { MayJudge self.now at.now }
+        ensures well { IfOk result (λ table. Well (heading_of self.now) (get nat_eq table)) }
+        ensures start { IfOk result (λ table. Starting (heading_of self.now) (get nat_eq table) (starts_of self.now at.now)) }
+    {
+        in_ranges(&self.header);
+        match *at {
+            Attach::Root { kind, first } => {
+                start_root(alloc, kind, first, count_at(&self.header, kind))
+            }
+            Attach::Below { place, next } => match self.spot(place.page()) {
+                Some(spot) => start_below(alloc, &spot, place, next),
+                None => Ok(IndexMap::new(alloc)),
+            },
+        }
+    }
+
+    // The pages that would be attached, a table for each level from the one at which the paths begin.
+    fn survey(
+        &self,
+        alloc: Global,
+        map: &PlaceMap,
+        at: &Attach,
+    ) -> Result<Vec<IndexMap<u64, Mark>>, TreeFault>
+        requires sound { IsSound self.now }
+        requires may { MayJudge self.now at.now }
+        ensures tables { IfOk result (λ tables. IsSurvey tables.items self.now map.now at.now) }
+        ensures fault { IfErr result (λ fault. fault ≡ TreeFault.NoMemory) }
+    {
+        let (_, level) = self.begin(at);
+        let first = match self.start(alloc, at) {
+            Ok(first) => first,
+            Err(NoMemory) => return Err(TreeFault::NoMemory),
+        };
+        match survey(alloc, &self.header, &self.roles, map, first, 3 - level) {
+            Ok(tables) => Ok(tables),
+            Err(NoMemory) => Err(TreeFault::NoMemory),
+        }
+    }
+
+    /// Whether these pages can be attached: `NotFresh` with the least page exactly where a path of the attached pages
+    /// ends in a page that isn't fresh, where the named pages of a root don't count, or two different paths end in one
+    /// page; else `BadKind` with the least place exactly where an attached page has a leaf with the Contiguous hint;
+    /// else `GlobalUser` with the least place exactly where, in a tree of the lower range, it has a leaf for every ASID.
+    /// Or `NoMemory` where there is none. It takes time by the number of pages, not of paths.
+    pub fn judge(&self, alloc: Global, map: &PlaceMap, at: Attach) -> Result<(), TreeFault>
+        requires sound { IsSound self.now }
+        requires may { MayJudge self.now at }
+        ensures { Judges (fresh_in self.now) (value_at map.now) (starts_of self.now at) (names_pages at) result }
+    {
+        let (kind, level) = self.begin(&at);
+        match self.survey(alloc, map, &at) {
+            Ok(tables) => judge_tables(&self.roles, map, &tables, is_named(&at), kind, level),
+            Err(fault) => Err(fault),
         }
     }
 }
