@@ -15,6 +15,7 @@
 mod climb;
 pub mod example;
 mod fault;
+mod hang;
 mod held;
 mod index;
 mod judge;
