@@ -1,9 +1,8 @@
 -- Where the paths of what is attached begin.
-use Rattle.std.proofs.Common.{◌≡◌, ℕ, suc, ◌≤◌, ◌<◌, ◌+◌, ◌*◌, ◌%◌, ◌^◌, Bool, true, List, [], ◌∷◌, Option, Some, None, Contains, nat_eq, length, refl, sym, ap, ◌∙◌, subst, arith}
+use Rattle.std.proofs.Common.{◌≡◌, ℕ, suc, ◌≤◌, ◌<◌, ◌+◌, ◌*◌, ◌^◌, true, List, [], ◌∷◌, Option, Some, None, Contains, length, sym, ap, ◌∙◌, subst, arith}
 use Rattle.std.proofs.lemmas.Option.{none-some, same_Some}
-use Rattle.indexmap.specs.IndexMap.{IndexMap, get}
-use Rattle.bbm_events.specs.Fits.{is_root_page}
-use Rattle.bbm_events.specs.Heading.{Heading, heading_ok}
+use Rattle.indexmap.specs.IndexMap.{IndexMap}
+use Rattle.bbm_events.specs.Heading.{heading_ok}
 use Rattle.bbm_place_map.specs.Map.{value_at}
 use Rattle.bbm_place_map.specs.declared.map.PlaceMap.{PlaceMap}
 use Rattle.bbm_regimes.specs.declared.regime.Kind.{Kind}

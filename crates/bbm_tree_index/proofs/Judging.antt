@@ -1,5 +1,5 @@
 -- What the tables of a survey say of the paths.
-use Rattle.std.proofs.Common.{◌≡◌, ℕ, zero, suc, ◌<◌, ◌+◌, ◌⊎◌, ◌==◌, Bool, true, false, List, [], ◌∷◌, Option, Some, None, Contains, is_some, length, nat_eq, slice_get, inl, inr, refl, sym, ap, ◌∙◌, subst, arith}
+use Rattle.std.proofs.Common.{◌≡◌, ℕ, zero, suc, ◌<◌, ◌+◌, ◌==◌, Bool, true, false, List, [], ◌∷◌, Option, Some, None, is_some, length, nat_eq, slice_get, inl, inr, refl, sym, ap, ◌∙◌, subst, arith}
 use Rattle.std.proofs.lemmas.Bool.{eqb-true, eq-eqb}
 use Rattle.std.proofs.Common.{true≢false}
 use Rattle.std.proofs.lemmas.Option.{slice_get_within}
@@ -11,7 +11,7 @@ use Rattle.bbm_rules.specs.Attach.{End, end_at}
 use Rattle.bbm_rules.specs.Tree.{Node}
 use Rattle.bbm_tree_index.specs.Held.{is_at}
 use Rattle.bbm_tree_index.specs.Judged.{EndsTwice, HasPlace, IsPath, IsUnfresh, UnfreshEnd}
-use Rattle.bbm_tree_index.specs.Least.{LeafPlace, Told, Wrong, WrongIn, WrongPage, elsewhere, many, unfresh}
+use Rattle.bbm_tree_index.specs.Least.{LeafPlace, Told, Wrong, WrongPage, elsewhere, many, unfresh}
 use Rattle.bbm_tree_index.specs.Survey.{Counts, Found, Goes, Reached}
 use Rattle.bbm_tree_index.specs.declared.mark.Mark.{Mark}
 use Rattle.bbm_tree_index.proofs.Starts.{goes_kind}
@@ -110,7 +110,7 @@ module _ {S : Type 0} (tables : List (IndexMap ℕ Mark S)) (fresh : ℕ → Boo
       let one = found.one t m.node (reach u.start u.places u.end u.path m) (m.page ∙ u.ends) in
       let other = found.one t m'.node (subst (λ k. Has k m'.node) e (reach u.other_start u.other_places u.other_end u.other_path m')) (m'.page ∙ u.other_ends) in
       let back = goes_back fresh value u.start u.other_start m'.node u.places u.other_places (sym e)
-          (subst (Goes fresh value u.start u.places) (one ∙ sym other) m.goes) m'.goes in
+      (subst (Goes fresh value u.start u.places) (one ∙ sym other) m.goes) m'.goes in
       absurd (u.differ (ap (λ x. x.page) back.0) back.1)
 
   twice_wrong : (named : Bool) (q : ℕ) → EndsTwice fresh value starts q → WrongPage tables fresh named q
@@ -174,8 +174,8 @@ module _ {S : Type 0} (tables : List (IndexMap ℕ Mark S)) (fresh : ℕ → Boo
   wrong_back named q k table mark at found (many e) = let t = found.two e in let l = slice_get_within tables k table at in
       inr (two_paths q k k found.node t.0 found.is_there t.1 l l found.at t.2
       (λ p e. t.3 (sym (goes_same fresh value t.1.start found.node t.0 t.1.places
-          (subst (λ x. Goes fresh value x t.1.places found.node) (told.apart found.is_there.start t.1.start found.is_there.is_start t.1.is_start p)
-          (subst (λ x. Goes fresh value found.is_there.start x found.node) e found.is_there.goes)) t.1.goes))))
+      (subst (λ x. Goes fresh value x t.1.places found.node) (told.apart found.is_there.start t.1.start found.is_there.is_start t.1.is_start p)
+      (subst (λ x. Goes fresh value found.is_there.start x found.node) e found.is_there.goes)) t.1.goes))))
   wrong_back named q k table mark at found (elsewhere o) =
       let s = some_at o.other q o.table (get nat_eq o.table q) o.at refl o.has in let f = s.1 in
       inr (two_paths q k o.other found.node f.node found.is_there f.is_there (slice_get_within tables k table at)

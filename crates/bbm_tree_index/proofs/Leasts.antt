@@ -1,9 +1,7 @@
 -- The least number that passes by one of the first indices.
-use Rattle.std.proofs.Common.{◌≡◌, ℕ, zero, suc, ◌<◌, ◌≤◌, ◌+◌, ◌==◌, Bool, true, false, List, Option, Some, None, is_some, nat_eq, nat_lt, take, get_or, slice_get, refl, sym, ap, ◌∙◌, subst, true≢false, if◌then◌else◌, arith}
+use Rattle.std.proofs.Common.{◌≡◌, ℕ, ◌<◌, ◌≤◌, ◌+◌, ◌==◌, Bool, true, false, Option, Some, None, nat_lt, refl, sym, ◌∙◌, subst, true≢false, if◌then◌else◌, arith}
 use Rattle.std.proofs.lemmas.Bool.{eqb-true, eq-eqb, ltb-true, ltb-false}
-use Rattle.std.proofs.lemmas.Option.{none-some, same_Some}
-use Rattle.indexmap.specs.IndexMap.{IndexMap, get, index_map_len, keys}
-use Rattle.bbm_tree_index.specs.Judged.{IsLeast, Never}
+use Rattle.bbm_tree_index.specs.Judged.{IsLeast}
 use Rattle.bbm_tree_index.specs.Least.{Before, LeastOf, lesser}
 
 pub least_same : (P Q : ℕ → Type 0) (o : Option ℕ) → ((m : ℕ) → P m → Q m) → ((m : ℕ) → Q m → P m) → LeastOf P o → LeastOf Q o

@@ -1,5 +1,5 @@
 -- The pages of a root fit below the end of the addresses.
-use Rattle.std.proofs.Common.{◌≡◌, ℕ, zero, suc, ◌<◌, ◌≤◌, ◌+◌, ◌-◌, ◌*◌, ◌%◌, ◌^◌, Bool, true, false, cond, ◌||◌, ◌==◌, arith, inl, inr, subst, sym, true≢false}
+use Rattle.std.proofs.Common.{◌≡◌, ℕ, zero, suc, ◌<◌, ◌≤◌, ◌+◌, ◌-◌, ◌*◌, ◌%◌, ◌^◌, Bool, true, false, cond, ◌||◌, ◌==◌, arith, inl, inr, subst, sym}
 use Rattle.std.proofs.lemmas.Bool.{and_parts, eqb-true, leb-true, ltb-true, or_cases}
 use Rattle.std.proofs.lemmas.Option.{same_Some}
 use Rattle.bbm_events.specs.Fits.{is_root_page}
@@ -83,11 +83,12 @@ module _ (heading : Heading) (ok : heading_ok heading ≡ true) (kind : Kind) (f
   })
 
   pub root_end : is_root_page heading.world kind first ≡ true → (first + 4096 * page_count heading.world kind ≤ 2 ^ 48) × (first % 4096 ≡ 0)
-  root_end e = let p = and_parts _ _ e in let q = and_parts _ _ p.0 in let b = ltb-true first (2 ^ 48) q.0 in
-      (counts (λ n. (first % (4096 * n) == 0) ≡ true → first + 4096 * n ≤ 2 ^ 48)
-      (λ t. by1 b (eqb-true (first % 4096) 0 t)) (λ t. by2 b (eqb-true (first % 8192) 0 t)) (λ t. by4 b (eqb-true (first % 16384) 0 t))
-      (λ t. by8 b (eqb-true (first % 32768) 0 t)) (λ t. by16 b (eqb-true (first % 65536) 0 t)) heading.world world_is kind p.1,
-      eqb-true (first % 4096) 0 q.1)
+  root_end e = let p = and_parts _ _ e in let q = and_parts _ _ p.0 in let b = ltb-true first (2 ^ 48) q.0 in (
+    counts (λ n. (first % (4096 * n) == 0) ≡ true → first + 4096 * n ≤ 2 ^ 48)
+        (λ t. by1 b (eqb-true (first % 4096) 0 t)) (λ t. by2 b (eqb-true (first % 8192) 0 t)) (λ t. by4 b (eqb-true (first % 16384) 0 t))
+        (λ t. by8 b (eqb-true (first % 32768) 0 t)) (λ t. by16 b (eqb-true (first % 65536) 0 t)) heading.world world_is kind p.1,
+    eqb-true (first % 4096) 0 q.1,
+  )
     where
       by1 : first < 2 ^ 48 → first % 4096 ≡ 0 → first + 4096 ≤ 2 ^ 48
       by1 b t = omega (arith, b, t)

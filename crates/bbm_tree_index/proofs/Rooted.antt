@@ -1,5 +1,5 @@
 -- The table of the pages of a root.
-use Rattle.std.proofs.Common.{◌≡◌, ℕ, zero, suc, ◌<◌, ◌≤◌, ◌+◌, ◌-◌, ◌*◌, ◌/◌, ◌%◌, ◌^◌, ◌==◌, Bool, true, false, List, [], ◌∷◌, Option, Some, None, Contains, is_some, length, refl, sym, ap, ◌∙◌, subst, true≢false, if◌then◌else◌, arith, add-one}
+use Rattle.std.proofs.Common.{◌≡◌, ℕ, zero, suc, ◌<◌, ◌≤◌, ◌+◌, ◌-◌, ◌*◌, ◌/◌, ◌%◌, ◌^◌, ◌==◌, Bool, true, false, List, [], Option, Some, None, Contains, is_some, refl, sym, ap, ◌∙◌, subst, true≢false, if◌then◌else◌, arith, add-one}
 use Rattle.std.proofs.lemmas.Bool.{eqb-true, eq-eqb}
 use Rattle.std.proofs.lemmas.Option.{none-some, same_Some}
 use Rattle.bbm_events.specs.Heading.{Heading}
@@ -7,7 +7,7 @@ use Rattle.bbm_regimes.specs.declared.regime.Kind.{Kind}
 use Rattle.bbm_rules.specs.Roots.{first_input_page, input_pages, kind_in_world, page_count, pages_from, start_of}
 use Rattle.bbm_rules.specs.Tree.{Node, nodes_of_pages, nodes_of_root}
 use Rattle.bbm_tree_index.specs.Spots.{RoleFits, spot_with}
-use Rattle.bbm_tree_index.specs.Survey.{Counts, Found, Starting, Well, joined, role_as, root_marks, spot_as}
+use Rattle.bbm_tree_index.specs.Survey.{Counts, Starting, Well, joined, role_as, root_marks, spot_as}
 use Rattle.bbm_tree_index.specs.declared.mark.Mark.{Mark}
 use Rattle.bbm_tree_index.specs.declared.role.Role.TheVariants.{RootPage}
 
@@ -113,7 +113,7 @@ module _ (kind : Kind) (first : ℕ) where
     has_node p base (suc n) zero l = (0, omega arith, sym (zeroth p base))
     has_node p base (suc n) (suc i) l =
         let r = subst (Contains (nodes_of_pages kind level first (base + 512 * input_pages level) (pages_from (p + 4096) n))) (shift p base i)
-            (has_node (p + 4096) (base + 512 * input_pages level) n i (omega (arith, l))) in
+        (has_node (p + 4096) (base + 512 * input_pages level) n i (omega (arith, l))) in
         (suc r.0, omega (arith, r.1), r.2)
 
     module _ (base n : ℕ) where
@@ -158,8 +158,10 @@ module _ (kind : Kind) (first : ℕ) where
     root_apart n = starts_apart (start_of heading.world kind) (first_input_page heading.world kind) n
 
     pub root_some : (n : ℕ) → 1 ≤ n → (m : Node) × Contains (Pages n) m
-    root_some n l = (node_at (start_of heading.world kind) first (first_input_page heading.world kind) 0,
-        has_node (start_of heading.world kind) first (first_input_page heading.world kind) n 0 (omega (arith, l)))
+    root_some n l = (
+      node_at (start_of heading.world kind) first (first_input_page heading.world kind) 0,
+      has_node (start_of heading.world kind) first (first_input_page heading.world kind) n 0 (omega (arith, l)),
+    )
 
     pub root_starting : (n : ℕ) (g : ℕ → Option Mark) → ((q : ℕ) → g q ≡ root_marks kind first n q) → Starting heading g (Pages n)
     root_starting n g is = let level = start_of heading.world kind in let base = first_input_page heading.world kind in record {

@@ -1,8 +1,8 @@
 -- What is wrong with a page, by the tables.
-use Rattle.std.proofs.Common.{◌≡◌, ℕ, ◌<◌, ◌≤◌, ◌+◌, ◌*◌, ◌/◌, ◌%◌, ◌==◌, Bool, true, false, List, Option, Some, None, is_some, nat_eq, get_or, slice_get, length, refl, sym, ap, ◌∙◌, subst, true≢false, arith}
+use Rattle.std.proofs.Common.{◌≡◌, ℕ, ◌<◌, ◌≤◌, ◌+◌, ◌*◌, ◌/◌, ◌%◌, ◌==◌, Bool, true, false, List, Option, Some, is_some, nat_eq, get_or, slice_get, length, refl, sym, ap, ◌∙◌, subst, true≢false, arith}
 use Rattle.std.proofs.lemmas.List.{length-map}
 use Rattle.std.proofs.lemmas.Bool.{eqb-true, eq-eqb}
-use Rattle.std.proofs.lemmas.Option.{none-some, same_Some, slice_get-get_or, slice_get_within}
+use Rattle.std.proofs.lemmas.Option.{same_Some, slice_get-get_or, slice_get_within}
 use Rattle.indexmap.specs.IndexMap.{IndexMap, get, index_map_len, keys}
 use Rattle.bbm_descriptor.specs.declared.desc.Desc.{Desc}
 use Rattle.bbm_regimes.specs.declared.regime.Kind.{Kind}
@@ -42,9 +42,12 @@ pub key_at : {V S : Type 0} (table : IndexMap ℕ V S) (p : ℕ) → is_some (ge
     → (i : ℕ) × (i < index_map_len table) × (slice_get (keys table) i ≡ Some p)
 key_at {V} {S} table p e =
     let size : length (keys table) ≡ index_map_len table = length-map table.entries (λ x. x.0) in
-    let found = any_at p (keys table) (index_map_len table) (all_keys table (index_map_len table) (same_le (index_map_len table)) p ∙ e) in
-    (found.0, found.1, slice_get-get_or (keys table) found.0 0 (subst (λ n. found.0 < n) (sym size) found.1)
-        ∙ ap Some (sym (eqb-true p (get_or (keys table) found.0 0) found.2)))
+    let found = any_at p (keys table) (index_map_len table) (all_keys table (index_map_len table) (same_le (index_map_len table)) p ∙ e) in (
+      found.0,
+      found.1,
+      slice_get-get_or (keys table) found.0 0 (subst (λ n. found.0 < n) (sym size) found.1)
+          ∙ ap Some (sym (eqb-true p (get_or (keys table) found.0 0) found.2)),
+    )
   where
     same_le : (n : ℕ) → n ≤ n
     same_le n = omega arith
@@ -104,7 +107,7 @@ module _ (value : ℕ → ℕ) (test : Kind → Desc → Bool) (kind : Kind) whe
     all_keyed level table n o end = least_same (Before (LeafKey level table) n) (LeafIn value test kind level table) o
         (λ a b. record { page = b.that.0; has = b.that.2; leaf = b.that.3 })
         (λ a l. let k = key_at table l.page l.has in
-            record { index = k.0; below = omega (arith, k.1, end); that = (l.page, k.2, l.has, l.leaf) })
+        record { index = k.0; below = omega (arith, k.1, end); that = (l.page, k.2, l.has, l.leaf) })
 
     module _ (tables : List (IndexMap ℕ Mark S)) (start : ℕ) where
       abbrev pub LeafTable : ℕ → ℕ → Type 0

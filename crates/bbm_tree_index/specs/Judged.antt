@@ -56,7 +56,7 @@ module _ (fresh : ℕ → Bool) (value : ℕ → ℕ) (starts : List Node) where
     pub within : start.level + length places < 4
     pub leads : Leads fresh value start.kind start.level start.page places end
 
-  -- a path ends in the page, which isn't fresh; where the named pages are judged elsewhere, a path of one place at least
+  -- a path ends in the page, which isn't fresh; where the named pages are judged elsewhere, one of at least one place
   pub record UnfreshEnd (named : Bool) (page : ℕ) : Type 0 where
     pub start : Node
     pub places : List ℕ

@@ -1,5 +1,5 @@
--- The least page that keeps pages from being attached, and the least place, by the tables of a survey. Source: project's
--- own choice.
+-- The least page that keeps pages from being attached, and the least place, by the tables of a survey.
+-- Source: project's own choice.
 use Rattle.std.specs.Prelude.{◌≡◌, ℕ, ◌+◌, ◌<◌, ◌%◌, ◌^◌, Bool, true, false, List, Option, Some, None, Contains, length}
 use Rattle.std.specs.Prelude.{is_some, nat_eq, nat_lt, slice_get, if◌then◌else◌}
 use Rattle.indexmap.specs.IndexMap.{IndexMap, get}

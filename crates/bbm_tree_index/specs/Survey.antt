@@ -80,7 +80,8 @@ grown (Some next) mark g q = if q == next then Some (joined (g next) mark) else 
 abbrev pub root_marks : Kind → ℕ → ℕ → ℕ → Option Mark
 root_marks kind first zero q = None
 root_marks kind first (suc n) q =
-    if q == first + 4096 * n then Some (record { role = RootPage kind first n; many = false }) else root_marks kind first n q
+    if q == first + 4096 * n then Some (record { role = RootPage kind first n; many = false })
+    else root_marks kind first n q
 
 -- a table of marks is well formed: its pages are pages, and its roles fit
 pub record Well (heading : Heading) (g : ℕ → Option Mark) : Type 0 where

@@ -151,7 +151,9 @@ fn is_leaf(leaf: &Leaf, kind: Kind, level: u8, value: u64) -> bool
 {
     match read(kind, level, value) {
         Desc::Leaf {
-            global, contiguous, ..
+            global,
+            contiguous,
+            ..
         } => match *leaf {
             Leaf::Contiguous => contiguous,
             Leaf::UserGlobal => match kind {

@@ -29,6 +29,20 @@ fn tracks(rt: HostRuntime) -> Result<(), TreeFault> {
 }
 
 #[test]
+fn judges(rt: HostRuntime) -> Result<(), TreeFault> {
+    let map = PlaceMap::new(rt.alloc());
+    let index = TreeIndex::new(rt.alloc(), &HYP)?;
+    if let Some(first) = Page::new(0x4000_0000) {
+        let root = Attach::Root {
+            kind: Kind::El2,
+            first,
+        };
+        index.judge(rt.alloc(), &map, root)?;
+    }
+    Ok(())
+}
+
+#[test]
 fn attaches(rt: HostRuntime) -> Result<(), TreeFault> {
     let mut map = PlaceMap::new(rt.alloc());
     if let Some(first) = Page::new(0x4000_0000) {

@@ -1,4 +1,4 @@
-use Rattle.std.proofs.Common.{◌≤◌, arith}
+use Rattle.std.proofs.Common.{arith}
 use Rattle.bbm_tree_index.specs.Survey.{fresh_of}
 use Rattle.bbm_tree_index.proofs.Leasts.{least_step}
 use Rattle.bbm_tree_index.proofs.Wrongs.{WrongKey, all_wrong}

@@ -1,8 +1,7 @@
-use Rattle.std.proofs.Common.{◌≡◌, ◌==◌, ◌∙◌, Some, false, if◌then◌else◌}
+use Rattle.std.proofs.Common.{◌==◌, ◌∙◌, Some, false, if◌then◌else◌}
 use Rattle.bbm_tree_index.specs.Survey.{joined}
 use Rattle.bbm_tree_index.specs.declared.role.Role.TheVariants.{RootPage}
 use Rattle.bbm_tree_index.proofs.Rooted.{marks_more}
-use Rattle.bbm_tree_index.proofs.RootFits.{root_end}
 use Rattle.bbm_tree_index.proofs.start.start_root.Goals as goal
 
 pub loop-part-preserved : goal.loop-part-preserved

@@ -1,4 +1,4 @@
-use Rattle.std.proofs.Common.{◌≡◌, suc, length, nat_eq, ◌∙◌, arith, ap}
+use Rattle.std.proofs.Common.{nat_eq, arith}
 use Rattle.indexmap.specs.IndexMap.{get}
 use Rattle.bbm_tree_index.specs.Index.{fresh_in, heading_of, role_in}
 use Rattle.bbm_tree_index.proofs.index.TreeIndex.survey.Goals as goal
