@@ -23,3 +23,8 @@ pub mod Begins
 pub mod Agreeing
 pub mod Indexes
 pub mod Left
+pub mod Hung
+pub mod Reaching
+pub mod Hanging
+pub mod Surveying
+pub mod Attaching

@@ -66,7 +66,7 @@ module _ (kind : Kind) (first : ℕ) where
           later i l at = omega (arith, l, page_same first i n (sym at ∙ e))
 
   module _ (level : ℕ) where
-    abbrev node_at : ℕ → ℕ → ℕ → Node
+    abbrev pub node_at : ℕ → ℕ → ℕ → Node
     node_at p base i = record {
       page = p + 4096 * i;
       kind = kind;
@@ -94,7 +94,7 @@ module _ (kind : Kind) (first : ℕ) where
         start : (b i x : ℕ) → b + x + i * x ≡ b + suc i * x
         start b i x = omega arith
 
-    in_nodes : (p base n : ℕ) (m : Node) → Contains (nodes_of_pages kind level first base (pages_from p n)) m
+    pub in_nodes : (p base n : ℕ) (m : Node) → Contains (nodes_of_pages kind level first base (pages_from p n)) m
         → (i : ℕ) × (i < n) × (m ≡ node_at p base i)
     in_nodes p base zero m (k, below, at) = absurd (none k below)
       where

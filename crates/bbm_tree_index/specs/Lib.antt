@@ -8,4 +8,5 @@ pub mod Paths
 pub mod Judged
 pub mod Agreement
 pub mod Survey
+pub mod Hanging
 pub mod Least

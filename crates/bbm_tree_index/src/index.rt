@@ -2,6 +2,7 @@
 
 use crate::climb::{Asked, is_cut};
 use crate::fault::TreeFault;
+use crate::hang::hang_all;
 use crate::judge::{is_named, judge_tables};
 use crate::leaving::{Leaving, sweep};
 use crate::mark::Mark;
@@ -45,9 +46,9 @@ impl TreeIndex {
     ghost use Rattle.bbm_tree_index.specs.Leaving.{stays};
     ghost use Rattle.bbm_tree_index.specs.Judged.{Judges, MayJudge, names_pages};
     ghost use Rattle.bbm_tree_index.specs.Least.{IsSurvey};
-    ghost use Rattle.bbm_tree_index.specs.Paths.{starts_of};
+    ghost use Rattle.bbm_tree_index.specs.Paths.{Attached, starts_of};
     ghost use Rattle.bbm_tree_index.specs.Survey.{Starting, Well};
-    ghost use Rattle.std.specs.Prelude.{Contains};
+    ghost use Rattle.std.specs.Prelude.{◌⊎◌, Contains, is_none};
     ghost use Rattle.indexmap.specs.IndexMap.{get};
 
     /// The index before any call. `NoMemory` where there is none.
@@ -339,6 +340,22 @@ impl TreeIndex {
         }
     }
 
+    // Judges what is attached by its survey.
+    fn judge_survey(
+        &self,
+        map: &PlaceMap,
+        at: &Attach,
+        tables: &[IndexMap<u64, Mark>],
+    ) -> Result<(), TreeFault>
+        requires sound { IsSound self.now }
+        requires may { MayJudge self.now at.now }
+        requires survey { IsSurvey tables.now self.now map.now at.now }
+        ensures { Judges (fresh_in self.now) (value_at map.now) (starts_of self.now at.now) (names_pages at.now) result }
+    {
+        let (kind, level) = self.begin(at);
+        judge_tables(&self.roles, map, tables, is_named(at), kind, level)
+    }
+
     /// Whether these pages can be attached: `NotFresh` with the least page exactly where a path of the attached pages
     /// ends in a page that isn't fresh, where the named pages of a root don't count, or two different paths end in one
     /// page; else `BadKind` with the least place exactly where an attached page has a leaf with the Contiguous hint;
@@ -349,10 +366,30 @@ impl TreeIndex {
         requires may { MayJudge self.now at }
         ensures { Judges (fresh_in self.now) (value_at map.now) (starts_of self.now at) (names_pages at) result }
     {
-        let (kind, level) = self.begin(&at);
-        match self.survey(alloc, map, &at) {
-            Ok(tables) => judge_tables(&self.roles, map, &tables, is_named(&at), kind, level),
-            Err(fault) => Err(fault),
-        }
+        let tables = self.survey(alloc, map, &at)?;
+        self.judge_survey(map, &at, &tables)
+    }
+
+    /// Attaches pages that can be: those named, and all that paths through fresh pages reach from them. It answers as
+    /// `judge` does, and a refusal changes nothing. Named pages of a root are fresh.
+    pub fn attach(&mut self, alloc: Global, map: &PlaceMap, at: Attach) -> Result<(), TreeFault>
+        requires sound { IsSound self.old }
+        requires may { MayJudge self.old at }
+        requires named { names_pages at ≡ true → (n : Node) → Contains (starts_of self.old at) n
+            → fresh_in self.old n.page ≡ true }
+        ensures judged { Judges (fresh_in self.old) (value_at map.now) (starts_of self.old at) (names_pages at) result }
+        ensures node { OnOk result ((p : ℕ) (m : Node) → (node_in self.new p ≡ Some m) ↔ ((node_in self.old p ≡ Some m)
+            ⊎ ((m.page ≡ p) × Attached (fresh_in self.old) (value_at map.now) (starts_of self.old at) m))) }
+        ensures fresh { OnOk result ((p : ℕ) → fresh_in self.new p
+            ≡ (fresh_in self.old p && is_none (node_in self.new p))) }
+        ensures null { (p : ℕ) → null_in self.new p ≡ null_in self.old p }
+        ensures tracked { SameTracked self.old self.new }
+        ensures same { OnErr result (SamePages self.old self.new) }
+        ensures sound { IsSound self.new }
+    {
+        let tables = self.survey(alloc, map, &at)?;
+        self.judge_survey(map, &at, &tables)?;
+        hang_all(&mut self.roles, &tables);
+        Ok(())
     }
 }

@@ -6,7 +6,7 @@
 //! - Keep one `TreeIndex`, at first `TreeIndex::new` of the header, and one `PlaceMap`.
 //! - Call `track` at each page that is initialised, `nullify` at each that is declared null, `prune` after a DSB by which
 //!   a table's place came to hold nothing, and `detach` where a root goes.
-//! - `judge` tells whether pages can be attached, and which page or place is in the way.
+//! - `judge` tells whether pages can be attached, and which page or place is in the way; `attach` attaches them.
 //! - `role`, `is_fresh`, `is_null`, `is_in_tree`, `pages`, `path`, `in_limbo` and `childless` tell what the calls come to.
 //!
 //! Each contract speaks of the node of each page, by the words of `specs/Index.antt`. `null_page` is an example of the
@@ -16,6 +16,7 @@
 mod climb;
 pub mod example;
 mod fault;
+mod hang;
 mod held;
 mod index;
 mod judge;

@@ -41,3 +41,19 @@ fn judges(rt: HostRuntime) -> Result<(), TreeFault> {
     }
     Ok(())
 }
+
+#[test]
+fn attaches(rt: HostRuntime) -> Result<(), TreeFault> {
+    let mut map = PlaceMap::new(rt.alloc());
+    if let Some(first) = Page::new(0x4000_0000) {
+        let mut index = TreeIndex::new(rt.alloc(), &HYP)?;
+        index.track(rt.alloc(), &mut map, first)?;
+        let root = Attach::Root {
+            kind: Kind::El2,
+            first,
+        };
+        index.attach(rt.alloc(), &map, root)?;
+        assert!(rt; index.is_in_tree(first) && !index.is_fresh(first));
+    }
+    Ok(())
+}
