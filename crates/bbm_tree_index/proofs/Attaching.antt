@@ -128,8 +128,11 @@ module _ {S : Type 0} (old : TreeIndex) (map : PlaceMap) (at : Attach) (tables :
         by : (node_by (role_in old) (heading_of old) p ≡ Some m) ⊎ ((m.page ≡ p) × Reached m)
             → (node_in old p ≡ Some m) ⊎ ((m.page ≡ p) × Attached (fresh_in old) (value_at map) (starts_of old at) m)
         by (inl h) = inl (node_is old p ∙ h)
-        by (inr h) = inr (h.0, reach_attached (fresh_in old) (value_at map) (starts_of old at) (names_pages at) never shallow
-            (apart_of old at may) named m h.1)
+        by (inr h) = inr (
+          h.0,
+          reach_attached (fresh_in old) (value_at map) (starts_of old at) (names_pages at) never shallow
+              (apart_of old at may) named m h.1,
+        )
 
     pub node_to : (p : ℕ) (m : Node)
         → (node_in old p ≡ Some m) ⊎ ((m.page ≡ p) × Attached (fresh_in old) (value_at map) (starts_of old at) m)
