@@ -25,10 +25,7 @@ const BUFFER_BYTES: usize = 16384;
 const LINE_ROOM: usize = 256;
 
 // Writes what is buffered where there may be no room for another line.
-fn make_room<K: Sink>(
-    buffer: &mut ArrayVec<u8, BUFFER_BYTES>,
-    out: &mut K,
-) -> Result<(), Failed>
+fn make_room<K: Sink>(buffer: &mut ArrayVec<u8, BUFFER_BYTES>, out: &mut K) -> Result<(), Failed>
     ensures room { OnOk result (array_vec_len buffer.new + 256 ≤ 16384) }
     ensures poured { (text : List ℕ) (start : Option (List ℕ)) (faults : ℕ)
         → Buffered text buffer.old.items start (K.held out.old) faults (K.faults out.old)
