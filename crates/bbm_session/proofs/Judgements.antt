@@ -1,9 +1,7 @@
 -- The fold that judges events: its parts, its lines, and that what it says is the outcome of the bytes.
-use Rattle.std.proofs.Common.{◌≡◌, ℕ, suc, ◌<◌, ◌≤◌, ◌+◌, Bool, true, false, if◌then◌else◌, List, [], ◌∷◌, ◌++◌, length, Option, Some, None, refl, ap, sym, ◌∙◌, arith, subst, nat_le, ◌^◌, Result, Ok, Err, IfOk, IfErr, OnOk, is_ok, ◌==◌, ◌⊎◌, inl, inr, drop}
+use Rattle.std.proofs.Common.{◌≡◌, ℕ, suc, ◌<◌, ◌+◌, Bool, true, false, if◌then◌else◌, List, [], ◌∷◌, length, Option, Some, None, refl, ap, sym, ◌∙◌, arith, subst, ◌^◌, Result, Ok, Err, IfOk, IfErr, OnOk, ◌==◌, ◌⊎◌, inl, inr}
 use Rattle.std.proofs.lemmas.Bool.{and_parts}
-use Rattle.std.proofs.lemmas.Bool.Decides.{nat_tests}
 use Rattle.bbm_regimes.specs.declared.regime.Which.{Which}
-use Rattle.bbm_regimes.specs.declared.regime.Which.TheVariants.{Events, Lines}
 use Rattle.bbm_events.specs.declared.event.Event.{Event as EventOf}
 use Rattle.bbm_events.specs.declared.event.Item.{Item}
 use Rattle.bbm_events.specs.declared.event.Item.TheVariants as item
@@ -17,15 +15,15 @@ use Rattle.bbm_rules.specs.Broken.{Breach, broken}
 use Rattle.bbm_rules.specs.Claims.{Patterns}
 use Rattle.bbm_rules.specs.Limits.{limit_of}
 use Rattle.bbm_rules.specs.declared.limits.Limits.{Limits}
-use Rattle.bbm_rules.specs.Outcome.{Text, is_reached, is_too_long, limit_after, limit_at, AtHeader, AtEvents, AtEnd, after_header, after_item, after_event, after_judged, after_kept, after_line, too_long_at, cut_at, Progress, Step, Decides, GoesOn, Outcome, outcome_from, outcome_of, outcome_after, verdict_of_bytes, read_from, read_lines, goes_on_to, step_of, end_of, events_in, text_of, unread_after}
+use Rattle.bbm_rules.specs.Outcome.{Text, is_too_long, limit_after, limit_at, AtHeader, AtEvents, AtEnd, after_header, after_item, after_event, after_judged, after_kept, after_line, too_long_at, cut_at, Progress, Step, Decides, GoesOn, Outcome, outcome_from, outcome_of, outcome_after, verdict_of_bytes, read_from, read_lines, goes_on_to, step_of, end_of, events_in, text_of}
 use Rattle.bbm_session.specs.declared.stop.Stop.{Stop}
 use Rattle.bbm_session.specs.declared.stop.Stop.TheVariants.{Decided, ReadFault, NoMemory}
 use Rattle.bbm_session.specs.declared.stop.Turn.{Turn}
 use Rattle.bbm_session.specs.declared.stop.Turn.TheVariants.{Taken, End}
-use Rattle.bbm_session.specs.Fold.{Fold, Turned, Halts, Passes, Ending, turned_by, end_by, ending_after, ending_from, ending_at, passes_to, lines_from, header_by, IsStart, IsInside, IsEnd}
+use Rattle.bbm_session.specs.Fold.{Fold, Halts, Ending, turned_by, end_by, ending_after, ending_from, ending_at, passes_to, lines_from, header_by, IsStart, IsInside, IsEnd}
 use Rattle.bbm_session.specs.Folds.{Judged, Judges, StopsKnown, judged_at, judged_by, is_event, line_needs, judging}
 use Rattle.bbm_session.specs.Run.{IsEvent, NeedsMemory, ReadFor, ReadTo, ReadToFault, ReadToWant, UpTo}
-use Rattle.bbm_session.specs.Stages.{all_fit, Stops, StopsAt, StandsAt, MayJudge, MayTakeLine, Keeps, Knows, KnowsAt, KnowsThat, KnowsWhy, JudgesLine, TakesLine, Ends}
+use Rattle.bbm_session.specs.Stages.{all_fit, StopsAt, MayJudge, MayTakeLine, Keeps, Knows, KnowsAt, KnowsThat, KnowsWhy, JudgesLine, TakesLine, Ends}
 use Rattle.bbm_session.proofs.ReadBytes.{ByName, Named, ToFault, ToWant, read-by}
 use Rattle.bbm_session.proofs.Refusals.{names-place}
 

@@ -5,9 +5,9 @@ use Rattle.std.proofs.lemmas.Bool.{and_parts}
 use Rattle.std.proofs.lemmas.Bool.Decides.{nat_tests}
 use Rattle.bbm_io.specs.Flow.{plain}
 use Rattle.bbm_rules.specs.Outcome.{Text, before_text, text_of, bytes_of, is_too_long}
-use Rattle.bbm_session.specs.Fold.{Fold, Turned, Halts, Passes, Ending, turned_by, end_by, ending_after, ending_from, ending_at, lines_from}
+use Rattle.bbm_session.specs.Fold.{Fold, Turned, Halts, Passes, Ending, end_by, ending_after, ending_from, ending_at, lines_from}
 use Rattle.bbm_session.specs.Run.{ReadPart}
-use Rattle.bbm_session.specs.Stages.{plain_lines, Passed, Broke, Breaks, Starved, Starves}
+use Rattle.bbm_session.specs.Stages.{plain_lines, Broke, Breaks, Starved, Starves}
 use Rattle.bbm_session.proofs.Stages.{turned-short, turned-long, end-short, end-long, seam, bytes_of-append, plain_lines-append}
 use Rattle.bbm_session.proofs.Texts.{plain-head, text_of-line, text_of-plain, bytes_of-text_of}
 

@@ -1,7 +1,6 @@
 -- The fold that keeps the steps of a run: its parts, its lines, and that what it says is what comes of the run.
-use Rattle.std.proofs.Common.{◌≡◌, ℕ, suc, ◌<◌, ◌≤◌, ◌+◌, Bool, true, false, if◌then◌else◌, List, [], ◌∷◌, ◌++◌, length, reverse, Option, Some, None, refl, ap, sym, ◌∙◌, arith, subst, nat_le, Result, Ok, Err, ◌==◌, ◌&&◌, ◌⊎◌, inl, inr, drop}
+use Rattle.std.proofs.Common.{◌≡◌, ℕ, suc, ◌<◌, ◌≤◌, ◌+◌, Bool, true, false, if◌then◌else◌, List, [], ◌∷◌, length, reverse, Option, Some, None, refl, ap, sym, ◌∙◌, arith, subst, nat_le, Result, Ok, Err, ◌==◌, ◌⊎◌, inl, inr}
 use Rattle.std.proofs.lemmas.List.{length-reverse}
-use Rattle.bbm_regimes.specs.declared.regime.Which.TheVariants.{Steps}
 use Rattle.bbm_events.specs.declared.event.Item.{Item}
 use Rattle.bbm_events.specs.declared.event.Item.TheVariants as item
 use Rattle.bbm_events.specs.declared.machine.MachineLine.{MachineLine}
@@ -11,7 +10,7 @@ use Rattle.bbm_events.specs.Lines.{header_of, item_of}
 use Rattle.bbm_events.specs.Machine.{machine_of}
 use Rattle.bbm_rules.specs.declared.verdict.Verdict.{Verdict}
 use Rattle.bbm_rules.specs.declared.verdict.Verdict.TheVariants.{Accepted, Refused, Malformed, Limit}
-use Rattle.bbm_rules.specs.Outcome.{Text, is_too_long, text_of, unread_after}
+use Rattle.bbm_rules.specs.Outcome.{Text, is_too_long, text_of}
 use Rattle.bbm_tlb_machine.specs.declared.step.Step.{Step}
 use Rattle.bbm_follow.specs.declared.turn.LineFault.{LineFault}
 use Rattle.bbm_follow.specs.declared.turn.LineFault.TheVariants as line_fault
@@ -20,13 +19,11 @@ use Rattle.bbm_follow.specs.declared.turn.Turn.TheVariants as turn
 use Rattle.bbm_follow.specs.Following.{Reached, AtHeader, AtSteps, AtEnd, Turned as RunTurned, Stops as RunStops, GoesOn, after_step, after_end, after_item, after_machine, is_machine, after_header, after_line, too_long_at, turned_by as run_turned_by, RunSays, Stopped, Whole, cut_at, end_of, RunOutcome, outcome_after, run_from, run_of, step_limit, is_step, event_count}
 use Rattle.bbm_follow.specs.Following as run
 use Rattle.bbm_session.specs.declared.stop.Stop.{Stop}
-use Rattle.bbm_session.specs.declared.stop.Stop.TheVariants.{Decided, ReadFault, NoMemory}
 use Rattle.bbm_session.specs.declared.stop.Turn.{Turn}
-use Rattle.bbm_session.specs.declared.stop.Turn.TheVariants.{Taken, End}
-use Rattle.bbm_session.specs.Fold.{Fold, Turned, Halts, Passes, Ending, turned_by, end_by, ending_after, ending_from, ending_at, passes_to, lines_from, header_by, IsStart, IsInside, IsEnd}
-use Rattle.bbm_session.specs.Folds.{Follows, Turns, following, kept_by, whole_run}
+use Rattle.bbm_session.specs.Fold.{Fold, Halts, Ending, turned_by, end_by, ending_after, ending_from, ending_at, passes_to, lines_from, header_by, IsStart, IsInside, IsEnd}
+use Rattle.bbm_session.specs.Folds.{Follows, Turns, following, kept_by}
 use Rattle.bbm_session.specs.Run.{ReadAs}
-use Rattle.bbm_session.specs.Runs.{RunReadFor, RunToFault, RunToWant, run_goes_on, run_lines_from, run_lines, step_needs}
+use Rattle.bbm_session.specs.Runs.{RunReadFor, RunToFault, RunToWant, run_goes_on, run_lines_from, run_lines}
 use Rattle.bbm_session.specs.Stages.{KnowsThat, MayTakeLine, TakesLine}
 use Rattle.bbm_session.proofs.Judgements.{named_line, read_for}
 use Rattle.bbm_session.proofs.ReadBytes.{ByName, Named, ToFault, ToWant, read-by}

@@ -1,9 +1,8 @@
 -- What a text that was read says of a call of the program: the bytes that were read and written, and the status.
-use Rattle.std.proofs.Common.{◌≡◌, ◌⊎◌, ℕ, ◌<◌, Bool, true, false, List, [], Option, Some, None, Result, Ok, Err, refl, ap, sym, ◌∙◌, subst, inl, inr, arith, reverse, IfOk}
+use Rattle.std.proofs.Common.{◌≡◌, ◌⊎◌, ℕ, ◌<◌, true, false, List, [], Option, Some, None, Result, Ok, Err, refl, ap, sym, ◌∙◌, subst, inl, inr, arith, reverse, IfOk}
 use Rattle.std.proofs.lemmas.Bool.{false≢true}
 use Rattle.bbm_io.specs.Faults.{Rose}
 use Rattle.bbm_io.specs.Flow.{extended}
-use Rattle.bbm_events.specs.declared.event.Event.{Event as EventOf}
 use Rattle.bbm_events.specs.Heading.{Heading}
 use Rattle.bbm_follow.specs.declared.followed.Followed.{Followed}
 use Rattle.bbm_follow.specs.declared.followed.Followed.TheVariants.{Run, BadStep}
@@ -21,14 +20,14 @@ use Rattle.bbm_session.specs.declared.status.Status.{Status}
 use Rattle.bbm_session.specs.declared.status.Status.TheVariants as status
 use Rattle.bbm_session.specs.declared.stop.Stop.{Stop}
 use Rattle.bbm_session.specs.declared.stop.Stop.TheVariants.{Decided, ReadFault, NoMemory}
-use Rattle.bbm_session.specs.Fold.{Fold, Ending, ending_at}
+use Rattle.bbm_session.specs.Fold.{Fold, ending_at}
 use Rattle.bbm_session.specs.Folds.{Follows, Judged, judging, following, whole_run}
 use Rattle.bbm_session.specs.Requests.{status_for, IsTextFor, IsSomeTextFor, unread_for, ReadForAll, FaultAt, WantAt, reads_input}
 use Rattle.bbm_session.specs.Generating.{gen_text}
 use Rattle.bbm_session.specs.Run.{IsTextOf, Says, ReadFor, limits_of, status_of, tells_verdict}
 use Rattle.bbm_session.specs.Runs.{RunReadFor, followed_status, run_status}
 use Rattle.bbm_session.specs.Stages.{Breaks, Concludes, Continues, Ends, HeaderLine, Starts, Starves, Stops}
-use Rattle.bbm_session.specs.Writing.{Answered, Heads, IsLine, Obeys, FollowsRun, ReportsRun, Generates, Part, ReadFailed, ReadWhole, Reports, Serves, Told, Wanted, WantsRun, Wrote}
+use Rattle.bbm_session.specs.Writing.{Answered, Heads, IsLine, Obeys, FollowsRun, ReportsRun, Part, Reports, Serves, Told, WantsRun, Wrote}
 use Rattle.bbm_session.proofs.RunLines.{following-start, run-said, run-read-to, run-fault, run-want}
 use Rattle.bbm_session.proofs.Judgements.{outcome-said, read-to, fault-is, want-is}
 use Rattle.bbm_session.proofs.ReadBytes.{to_fault, to_want}

@@ -1,13 +1,13 @@
 -- How what is said of a text goes on after one line, over what a source had left and has left, for any fold over the
 -- lines of a log.
-use Rattle.std.proofs.Common.{◌≡◌, ◌≢◌, ℕ, suc, ◌<◌, ◌≤◌, ◌+◌, Bool, true, false, if◌then◌else◌, nat_eq, List, [], ◌++◌, length, drop, Option, Some, None, refl, ap, sym, ◌∙◌, arith, append_assoc, append-nil, length-append, add-one, subst, ◌∷◌, Result, Ok, Err, IfErr, is_ok}
+use Rattle.std.proofs.Common.{◌≡◌, ◌≢◌, ℕ, suc, ◌<◌, ◌≤◌, ◌+◌, true, false, nat_eq, List, [], ◌++◌, length, drop, Option, Some, None, refl, ap, sym, ◌∙◌, arith, append_assoc, append-nil, length-append, add-one, subst, ◌∷◌, Result, Ok, Err, IfErr}
 use Rattle.std.specs.Result.{result_ok}
 use Rattle.std.proofs.Math.ListN.{drop_of_length-le}
 use Rattle.std.proofs.Math.Seq.{drop-append_seam}
 use Rattle.std.proofs.lemmas.Bool.{and_parts}
 use Rattle.std.proofs.lemmas.Bool.Decides.{nat_tests}
 use Rattle.bbm_io.specs.Faults.{Rose}
-use Rattle.bbm_io.specs.Flow.{preceded, AtEnd as NothingLeft, plain}
+use Rattle.bbm_io.specs.Flow.{preceded, plain}
 use Rattle.bbm_regimes.specs.declared.regime.Which.TheVariants.{LineBytes}
 use Rattle.bbm_events.specs.Heading.{Heading}
 use Rattle.bbm_events.specs.declared.malformed.Malformed.{Malformed as Cause}
@@ -24,7 +24,7 @@ use Rattle.bbm_session.specs.declared.stop.Turn.{Turn}
 use Rattle.bbm_session.specs.declared.stop.Turn.TheVariants.{Taken, End}
 use Rattle.bbm_session.specs.Fold.{Fold, Turned, Halts, Passes, Ending, turned_by, end_by, ending_after, ending_from, ending_at, passes_to, lines_from, header_by, IsStart, IsInside, IsEnd}
 use Rattle.bbm_session.specs.Pieces.{Takes, Finds, TakesFound}
-use Rattle.bbm_session.specs.Stages.{plain_lines, Passed, Breaks, Starves, Shrinks, Continues, Concludes, Stops, IsBrief, KnowsThat, KnowsWhy, ReadsHeader, HeaderLine, Starts, TakesLine, Advances, Going, Reaches, Closes, Ends}
+use Rattle.bbm_session.specs.Stages.{plain_lines, Passed, Breaks, Starves, Shrinks, Continues, Concludes, Stops, IsBrief, KnowsWhy, ReadsHeader, HeaderLine, Starts, TakesLine, Advances, Going, Reaches, Closes, Ends}
 use Rattle.bbm_session.specs.Writing.{Heads}
 use Rattle.bbm_session.proofs.Texts.{plain-head, text_of-line, text_of-plain, text_of-prefix, bytes_of-text_of, prefixed}
 

@@ -2,8 +2,6 @@
 -- Source: project's own choice.
 use Rattle.std.specs.Prelude.{◌≡◌, ℕ, nat_le, Bool, true, false, List, [], ◌∷◌, Option, Some, None, option_map, codes}
 use Rattle.std.specs.Prelude.{bytes_eq, if◌then◌else◌}
-use Rattle.bbm_events.specs.declared.event.Event.{Event}
-use Rattle.bbm_events.specs.Heading.{Heading}
 use Rattle.bbm_events.specs.Lines.{passing}
 use Rattle.bbm_events.specs.Spelling.{decimal_value}
 use Rattle.bbm_follow.specs.Following.{RunSays, run_of, run_text}

@@ -1,17 +1,16 @@
 -- What the program says of a run, and which bytes it reads for it.
 -- Source: project's own choice.
 use Rattle.std.specs.Prelude.{◌≡◌, ◌⊎◌, ℕ, suc, ◌≤◌, Bool, true, false, List, [], ◌∷◌, ◌++◌, length, Option, Some, None}
-use Rattle.std.specs.Prelude.{if◌then◌else◌}
 use Rattle.bbm_events.specs.Heading.{Heading}
-use Rattle.bbm_rules.specs.Outcome.{Text, text_of, is_too_long}
+use Rattle.bbm_rules.specs.Outcome.{Text, text_of}
 use Rattle.bbm_tlb_machine.specs.declared.step.Step.{Step}
 use Rattle.bbm_follow.specs.declared.followed.Followed.{Followed}
 use Rattle.bbm_follow.specs.declared.followed.Followed.TheVariants.{Run, BadStep}
-use Rattle.bbm_follow.specs.Following.{Reached, AtHeader, AtSteps, AtEnd, Turned, Stops, GoesOn, turned_by, after_line}
+use Rattle.bbm_follow.specs.Following.{Reached, AtHeader, AtSteps, Turned, Stops, GoesOn, turned_by, after_line}
 use Rattle.bbm_follow.specs.Following.{is_step, RunSays, Stopped, Whole, followed, run_of}
 use Rattle.bbm_session.specs.declared.status.Status.{Status}
 use Rattle.bbm_session.specs.declared.status.Status.TheVariants as status
-use Rattle.bbm_session.specs.Run.{ReadAs, ReadFor, ReadPart, status_of}
+use Rattle.bbm_session.specs.Run.{ReadFor, ReadPart, status_of}
 
 -- the status of a run that was read whole: a step that is none is told as a refusal
 abbrev pub followed_status : Followed → Status

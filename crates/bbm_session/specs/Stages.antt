@@ -1,6 +1,6 @@
 -- What the contracts of the session's parts say: how what is said of the text that a source has left goes on from part
 -- to part, for any fold over its lines. No public contract cites these words.
-use Rattle.std.specs.Prelude.{◌≡◌, ℕ, ◌+◌, ◌*◌, ◌≤◌, ◌<◌, false, true, Bool, ◌&&◌, List, [], ◌∷◌, ◌++◌, length}
+use Rattle.std.specs.Prelude.{◌≡◌, ℕ, ◌+◌, ◌*◌, ◌≤◌, false, true, Bool, ◌&&◌, List, [], ◌∷◌, ◌++◌, length}
 use Rattle.std.specs.Prelude.{Option, Some, None, Result, Ok, Err}
 use Rattle.bbm_io.specs.Faults.{Rose}
 use Rattle.bbm_io.specs.Flow.{preceded, plain}
@@ -21,7 +21,7 @@ use Rattle.bbm_rules.specs.Answers.{MayTake}
 use Rattle.bbm_rules.specs.Broken.{Breach}
 use Rattle.bbm_rules.specs.Lists.{every}
 use Rattle.bbm_rules.specs.Outcome.{AtEvents, AtEnd, Step, Decides, GoesOn, bytes_of}
-use Rattle.bbm_session.specs.Fold.{Fold, Turned, Halts, Passes, Ending, ending_at, lines_from, IsInside, IsEnd}
+use Rattle.bbm_session.specs.Fold.{Fold, Halts, Passes, ending_at, lines_from, IsInside, IsEnd}
 use Rattle.bbm_session.specs.declared.stop.Stop.{Stop}
 use Rattle.bbm_session.specs.declared.stop.Stop.TheVariants.{Decided, ReadFault, NoMemory}
 use Rattle.bbm_session.specs.declared.stop.Turn.{Turn}

@@ -60,7 +60,8 @@ fn add_line<K: Sink>(
 ) -> Result<(), Failed>
     ensures poured { (text : List ℕ) (start : Option (List ℕ)) (faults : ℕ)
         → Buffered text buffer.old.items start (K.held out.old) faults (K.faults out.old)
-        → Pours (text ++ ended line.now.items) result buffer.new.items start (K.held out.new) faults (K.faults out.new) }
+        → Pours (text ++ ended line.now.items) result buffer.new.items start (K.held out.new)
+        faults (K.faults out.new) }
 {
     match make_room(buffer, out) {
         Ok(()) => {
@@ -81,7 +82,8 @@ fn add_item<K: Sink>(
     requires fits { item_fits header.now item ≡ true }
     ensures poured { (text : List ℕ) (start : Option (List ℕ)) (faults : ℕ)
         → Buffered text buffer.old.items start (K.held out.old) faults (K.faults out.old)
-        → Pours (text ++ ended (item_line item)) result buffer.new.items start (K.held out.new) faults (K.faults out.new) }
+        → Pours (text ++ ended (item_line item)) result buffer.new.items start (K.held out.new)
+        faults (K.faults out.new) }
 {
     let mut line = ArrayVec::new();
     write_event(header, item, &mut line);

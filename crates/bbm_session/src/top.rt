@@ -61,10 +61,10 @@ fn serve<S: Source, K: Sink>(alloc: Global, request: &Request, log: &mut S, out:
 /// accepted log maps the address ADDR at its end, by the tables of the root of KIND whose first page is ROOT. With
 /// `follow` it reads a log with lines of machine steps between its events, judges no event, and writes the line of what
 /// comes of that run. With `gen N COUNT` it writes the generated log of the number N with COUNT events, at most
-/// 4,294,967,293, and reads nothing. Any other words are answered with the usage line. Nothing else is written. `log` is
-/// read up to the line that decides, and an accepted log and a run without such a line to its end. Where the source tells
-/// what it has left and the sink what it holds, the clauses say which bytes are read and written. Source: project's own
-/// choice.
+/// 4,294,967,293, and reads nothing. Any other words are answered with the usage line. Nothing else is written. `log`
+/// is read up to the line that decides, and an accepted log and a run without such a line to its end. Where the source
+/// tells what it has left and the sink what it holds, the clauses say which bytes are read and written. Source:
+/// project's own choice.
 pub fn run<S: Source, K: Sink>(
     alloc: Global,
     words: &Vec<String>,
@@ -100,8 +100,9 @@ pub fn run<S: Source, K: Sink>(
         → reads_input request ≡ true → (bytes : List ℕ) → S.left log.old ≡ Some bytes → result ≡ Status.Accepted
         → S.left log.new ≡ Some [] }
     // A generated log: nothing is read, and there is no want of memory.
-    ensures generated_reads_nothing { (request : RequestOf) → request_of (map string_bytes words.now.items) ≡ Some request
-        → reads_input request ≡ false → S.left log.new ≡ S.left log.old }
+    ensures generated_reads_nothing { (request : RequestOf)
+        → request_of (map string_bytes words.now.items) ≡ Some request → reads_input request ≡ false
+        → S.left log.new ≡ S.left log.old }
     ensures generated { (request : RequestOf) → request_of (map string_bytes words.now.items) ≡ Some request
         → reads_input request ≡ false → (result ≡ Status.Accepted) ⊎ (result ≡ Status.WriteFault) }
     // The headline: where a log is accepted, no TLB keeps what a write, an init or a register write needs gone, in any run

@@ -1,4 +1,4 @@
-use Rattle.std.proofs.Common.{◌≡◌, ◌≤◌, ◌-◌, ℕ, List, Option}
+use Rattle.std.proofs.Common.{◌≤◌, ◌-◌, ℕ, List, Option}
 use Rattle.bbm_session.specs.Generating.{gen_begin, gen_first}
 use Rattle.bbm_session.specs.Writing.{Buffered}
 use Rattle.bbm_session.proofs.generating.add_events.Given as goal

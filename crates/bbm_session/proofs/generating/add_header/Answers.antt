@@ -1,4 +1,4 @@
-use Rattle.std.proofs.Common.{◌≡◌, [], List, ℕ, ap, subst, ◌∙◌}
+use Rattle.std.proofs.Common.{[], List, ℕ, ap, subst, ◌∙◌}
 use Rattle.bbm_events.specs.Lines.{header_line}
 use Rattle.bbm_session.specs.Generating.{ended}
 use Rattle.bbm_session.specs.Writing.{Pours}

@@ -1,5 +1,5 @@
 use Rattle.std.proofs.Common.{◌≡◌, ℕ, List, subst}
-use Rattle.bbm_session.specs.Writing.{Pours, Puts}
+use Rattle.bbm_session.specs.Writing.{Puts}
 use Rattle.bbm_session.proofs.Pouring.{poured}
 use Rattle.bbm_session.proofs.generating.finish.Goals as goal
 

@@ -1,4 +1,4 @@
-use Rattle.std.proofs.Common.{◌≡◌, ℕ, List, [], Ok, Err, subst}
+use Rattle.std.proofs.Common.{◌≡◌, ℕ, List, Ok, Err, subst}
 use Rattle.bbm_session.specs.Writing.{Puts}
 use Rattle.bbm_session.proofs.Pouring.{poured, emptied}
 use Rattle.bbm_session.proofs.generating.make_room.Goals as goal

@@ -1,4 +1,3 @@
-use Rattle.std.proofs.Common.{◌≡◌}
 use Rattle.bbm_session.proofs.Judgements.{may-judge, judged-takes}
 use Rattle.bbm_session.proofs.judging.judge_line.Goals as goal
 

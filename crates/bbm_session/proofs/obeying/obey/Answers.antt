@@ -1,7 +1,6 @@
-use Rattle.std.proofs.Common.{ℕ, List, [], Some, refl, subst, inl, inr, ap, sym, is_ok, ◌≡◌, true}
+use Rattle.std.proofs.Common.{[], Some, refl, subst, inr, ap, is_ok}
 use Rattle.bbm_rules.specs.declared.limits.Limits.{Limits}
 use Rattle.bbm_rules.specs.Outcome.{AtHeader, AtEvents, events_in}
-use Rattle.bbm_session.specs.declared.stop.Stop.TheVariants.{NoMemory}
 use Rattle.bbm_session.specs.Folds.{StopsKnown, judging as judging_of}
 use Rattle.bbm_session.specs.Run.{Says, limits_of, status_of}
 use Rattle.bbm_session.specs.Stages.{Starves}

@@ -1,4 +1,4 @@
-use Rattle.std.proofs.Common.{◌≡◌, [], ◌∷◌, ◌++◌, ◌∙◌, subst, ℕ, List}
+use Rattle.std.proofs.Common.{[], ◌∷◌, ◌++◌, ◌∙◌, subst, ℕ, List}
 use Rattle.bbm_io.specs.Reading.{shown}
 use Rattle.bbm_session.specs.Stages.{TakesLine}
 use Rattle.bbm_session.proofs.Stages.{found-takes, line-advances, rest-advances, long-advances, fault-advances}

@@ -1,5 +1,5 @@
-use Rattle.std.proofs.Common.{◌+◌, arith, ◌∙◌}
-use Rattle.bbm_session.proofs.Stages.{shrinks-trans, continues-none, going-on, going-end, going-stops}
+use Rattle.std.proofs.Common.{arith, ◌∙◌}
+use Rattle.bbm_session.proofs.Stages.{shrinks-trans, going-on, going-end, going-stops}
 use Rattle.bbm_session.proofs.reading.log_lines.Goals as goal
 
 pub log_line-requires-clause-stands : goal.log_line-requires-clause-stands
