@@ -1,15 +1,15 @@
 -- Paths through fresh pages, by steps, and what it means that pages can be attached.
-use Rattle.std.proofs.Common.{◌≡◌, ℕ, zero, suc, ◌<◌, ◌≤◌, ◌+◌, ◌==◌, Bool, true, false, List, [], ◌∷◌, Option, Some, None, Contains, length, inl, inr, refl, sym, ap, ◌∙◌, subst, true≢false, arith}
+use Rattle.std.proofs.Common.{◌≡◌, ℕ, zero, suc, ◌<◌, ◌+◌, ◌==◌, Bool, true, false, List, [], ◌∷◌, Some, None, Contains, length, inl, inr, refl, sym, ap, ◌∙◌, subst, true≢false, arith}
 use Rattle.std.proofs.lemmas.Bool.{eqb-true, eq-eqb}
-use Rattle.std.proofs.lemmas.Option.{none-some, same_Some}
+use Rattle.std.proofs.lemmas.Option.{none-some}
 use Rattle.bbm_descriptor.specs.Descriptor.{desc_as, invalid, leaf}
 use Rattle.bbm_descriptor.specs.Fields.{type_bits}
 use Rattle.bbm_regimes.specs.declared.regime.Kind.{Kind}
 use Rattle.bbm_rules.specs.Attach.{end_at}
 use Rattle.bbm_rules.specs.Tree.{Node, next_in, next_of, node_below}
 use Rattle.bbm_tree_index.specs.Judged.{IsUnfresh, Never}
-use Rattle.bbm_tree_index.specs.Paths.{Attached, Leads, Through}
-use Rattle.bbm_tree_index.specs.Survey.{Goes, Step}
+use Rattle.bbm_tree_index.specs.Paths.{Attached, Through}
+use Rattle.bbm_tree_index.specs.Survey.{Goes}
 use Rattle.bbm_tree_index.proofs.Hung.{Reach}
 use Rattle.bbm_tree_index.proofs.Starts.{goes_kind}
 use Rattle.bbm_tree_index.proofs.Ways.{goes_leads, goes_same}
@@ -65,13 +65,21 @@ same_or_not (x ∷ xs) (y ∷ ys) P f g = by (x == y) refl
 module _ (fresh : ℕ → Bool) (value : ℕ → ℕ) where
   through_of : (s m : Node) (places : List ℕ) → Goes fresh value s places m → fresh m.page ≡ true → Through fresh value s places m
   through_of s m [] g f = (subst (λ (x : Node). fresh x.page ≡ true) (sym g) f, g)
-  through_of s m (place ∷ places) g f = (g.1.is_fresh, g.1.inside, g.0.page, g.1.table,
-      subst (λ (x : Node). Through fresh value x places m) g.1.below (through_of g.0 m places g.2 f))
+  through_of s m (place ∷ places) g f = (
+    g.1.is_fresh,
+    g.1.inside,
+    g.0.page,
+    g.1.table,
+    subst (λ (x : Node). Through fresh value x places m) g.1.below (through_of g.0 m places g.2 f),
+  )
 
   goes_of : (s m : Node) (places : List ℕ) → Through fresh value s places m → Goes fresh value s places m
   goes_of s m [] t = t.1
-  goes_of s m (place ∷ places) t = (node_below s place t.2, record { is_fresh = t.0; inside = t.1; table = t.3; below = refl },
-      goes_of (node_below s place t.2) m places t.4)
+  goes_of s m (place ∷ places) t = (
+    node_below s place t.2,
+    record { is_fresh = t.0; inside = t.1; table = t.3; below = refl },
+    goes_of (node_below s place t.2) m places t.4,
+  )
 
   -- a path stays above level 4
   pub goes_shallow : (s m : Node) (places : List ℕ) → s.level < 4 → Goes fresh value s places m → m.level < 4
@@ -95,8 +103,11 @@ module _ (fresh : ℕ → Bool) (value : ℕ → ℕ) where
         (apart : (s s' : Node) → Contains starts s → Contains starts s' → s.page ≡ s'.page → s ≡ s')
         (named_fresh : named ≡ true → (s : Node) → Contains starts s → fresh s.page ≡ true) where
       within : (m : Node) (r : Reach fresh value starts m) → r.start.level + length r.places < 4
-      within m r = omega (arith, (goes_kind fresh value r.start m r.places r.goes).1,
-          goes_shallow r.start m r.places (shallow r.start r.is_start) r.goes)
+      within m r = omega (
+        arith,
+        (goes_kind fresh value r.start m r.places r.goes).1,
+        goes_shallow r.start m r.places (shallow r.start r.is_start) r.goes,
+      )
 
       pub reach_fresh : (m : Node) → Reach fresh value starts m → fresh m.page ≡ true
       reach_fresh m r = by (fresh m.page) refl

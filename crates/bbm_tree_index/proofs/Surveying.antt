@@ -1,10 +1,10 @@
 -- What a survey tells, where pages can be attached.
-use Rattle.std.proofs.Common.{◌≡◌, ℕ, zero, suc, ◌<◌, ◌≤◌, ◌+◌, ◌*◌, ◌⊎◌, Bool, true, false, List, [], ◌∷◌, Option, Some, None, Contains, is_some, get_or, length, nat_eq, slice_get, unwrap_or, inl, inr, refl, sym, ap, ◌∙◌, subst, true≢false, arith}
+use Rattle.std.proofs.Common.{◌≡◌, ℕ, ◌<◌, ◌≤◌, ◌+◌, ◌⊎◌, Bool, true, List, Option, Some, None, Contains, is_some, get_or, length, nat_eq, slice_get, unwrap_or, inl, inr, refl, sym, ap, ◌∙◌, true≢false, arith}
 use Rattle.std.proofs.lemmas.Option.{none-some, same_Some, slice_get_cases}
 use Rattle.indexmap.specs.IndexMap.{IndexMap, get}
 use Rattle.bbm_events.specs.Heading.{Heading}
 use Rattle.bbm_rules.specs.Tree.{Node}
-use Rattle.bbm_tree_index.specs.Hanging.{Given, Hung, Passed}
+use Rattle.bbm_tree_index.specs.Hanging.{Given, Hung}
 use Rattle.bbm_tree_index.specs.Spots.{Fits, spot_with}
 use Rattle.bbm_tree_index.specs.Survey.{Counts, Found, Reached, Starting, Surveyed, role_as, spot_as}
 use Rattle.bbm_tree_index.specs.declared.mark.Mark.{Mark}
@@ -39,8 +39,12 @@ module _ {S : Type 0} (heading : Heading) (fresh : ℕ → Bool) (value : ℕ �
     found : Found (Reached fresh value starts depth) m.page mark
 
   deep : (m : Node) (r : Reach fresh value starts m) → length r.places < length tables
-  deep m r = omega (arith, (goes_kind fresh value r.start m r.places r.goes).1,
-      goes_shallow fresh value r.start m r.places (shallow r.start r.is_start) r.goes, count r.start r.is_start)
+  deep m r = omega (
+    arith,
+    (goes_kind fresh value r.start m r.places r.goes).1,
+    goes_shallow fresh value r.start m r.places (shallow r.start r.is_start) r.goes,
+    count r.start r.is_start,
+  )
 
   in_table : (m : Node) → Reach fresh value starts m → InTable m
   in_table m r = by (slice_get_cases tables (length r.places)).1
@@ -94,12 +98,19 @@ module _ {S : Type 0} (heading : Heading) (fresh : ℕ → Bool) (value : ℕ �
             → Counts (Reached fresh value starts g.level) p o
             → (m : Node) × Reach fresh value starts m × (m.page ≡ p) × (unwrap_or (new p) Untracked ≡ role_as m m.above)
         given g None e f c = absurd (none-some g.mark f)
-        given g (Some mark) e f c = (c.node, reach_of fresh value starts g.level c.node c.is_there, c.at,
-            ap (λ o. unwrap_or o Untracked) g.is ∙ ap (λ (x : Mark). x.role) (sym (same_Some mark g.mark f)) ∙ c.role)
+        given g (Some mark) e f c = (
+          c.node,
+          reach_of fresh value starts g.level c.node c.is_there,
+          c.at,
+          ap (λ o. unwrap_or o Untracked) g.is ∙ ap (λ (x : Mark). x.role) (sym (same_Some mark g.mark f)) ∙ c.role,
+        )
 
         by : Hung tables (length tables) p (old p) (new p)
             → ((m : Node) × Reach fresh value starts m × (m.page ≡ p) × (unwrap_or (new p) Untracked ≡ role_as m m.above))
             ⊎ ((unwrap_or (new p) Untracked ≡ unwrap_or (old p) Untracked) × ((m : Node) → Reach fresh value starts m → m.page ≡ p → ⊥))
         by (inl g) = inl (given g (get nat_eq g.table p) refl g.has (surveyed.levels starts starting g.level g.table g.at p))
-        by (inr g) = inr (ap (λ o. unwrap_or o Untracked) g.1, λ m r at. let t = in_table m r in
-            none-some t.mark (sym (ap (get nat_eq t.table) at ∙ g.0 t.depth t.table t.below t.at) ∙ t.has))
+        by (inr g) = inr (
+          ap (λ o. unwrap_or o Untracked) g.1,
+          λ m r at. let t = in_table m r in
+              none-some t.mark (sym (ap (get nat_eq t.table) at ∙ g.0 t.depth t.table t.below t.at) ∙ t.has),
+        )
