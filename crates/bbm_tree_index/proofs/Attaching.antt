@@ -1,20 +1,19 @@
 -- The words of an index after pages were attached.
-use Rattle.std.proofs.Common.{◌≡◌, ℕ, zero, suc, ◌<◌, ◌≤◌, ◌+◌, ◌*◌, ◌%◌, ◌^◌, ◌⊎◌, ◌&&◌, Bool, true, false, List, [], ◌∷◌, Option, Some, None, Contains, is_none, is_some, length, nat_eq, slice_get, unwrap_or, inl, inr, refl, sym, ap, ◌∙◌, subst, true≢false, arith, if◌then◌else◌}
-use Rattle.std.proofs.lemmas.Option.{none-some, same_Some}
+use Rattle.std.proofs.Common.{◌≡◌, ℕ, ◌<◌, ◌⊎◌, ◌&&◌, Bool, true, false, List, [], Option, Some, None, Contains, is_none, is_some, length, nat_eq, slice_get, unwrap_or, inl, inr, refl, sym, ap, ◌∙◌, subst, arith, if◌then◌else◌}
 use Rattle.indexmap.specs.IndexMap.{IndexMap, get}
 use Rattle.bbm_place_map.specs.Map.{value_at}
 use Rattle.bbm_place_map.specs.declared.map.PlaceMap.{PlaceMap}
 use Rattle.bbm_regimes.specs.World.{first_input_page, kind_in_world, page_count, start_of}
 use Rattle.bbm_regimes.specs.declared.regime.Kind.{Kind}
 use Rattle.bbm_rules.specs.Places.{page_of}
-use Rattle.bbm_rules.specs.Roots.{input_pages, pages_from}
+use Rattle.bbm_rules.specs.Roots.{pages_from}
 use Rattle.bbm_rules.specs.Tree.{Node, node_below, nodes_of_pages}
 use Rattle.bbm_tree_index.specs.Agreement.{IsSound, Sound}
 use Rattle.bbm_tree_index.specs.Hanging.{Hung}
 use Rattle.bbm_tree_index.specs.Index.{fresh_in, heading_of, known_in, node_in, null_in, role_in}
 use Rattle.bbm_tree_index.specs.Judged.{IsUnfresh, MayJudge, Never, names_pages}
 use Rattle.bbm_tree_index.specs.Least.{IsSurvey}
-use Rattle.bbm_tree_index.specs.Nodes.{is_fresh_role, is_null_role, node_by}
+use Rattle.bbm_tree_index.specs.Nodes.{is_fresh_role, node_by}
 use Rattle.bbm_tree_index.specs.Paths.{Attached, below_all, starts_of}
 use Rattle.bbm_tree_index.specs.Spots.{Fits, spot_with}
 use Rattle.bbm_tree_index.specs.Survey.{role_as, spot_as}

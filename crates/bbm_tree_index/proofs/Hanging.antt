@@ -1,9 +1,9 @@
 -- Tables of marks give pages their roles.
-use Rattle.std.proofs.Common.{◌≡◌, ℕ, suc, ◌<◌, ◌+◌, ◌==◌, ◌||◌, Bool, true, false, List, Option, Some, None, is_some, nat_eq, slice_get, inl, inr, refl, sym, ap, ◌∙◌, subst, true≢false, if◌then◌else◌, arith}
+use Rattle.std.proofs.Common.{◌≡◌, ℕ, ◌<◌, ◌+◌, ◌==◌, ◌||◌, Bool, true, false, List, Option, Some, None, is_some, nat_eq, slice_get, inl, inr, refl, sym, ap, ◌∙◌, true≢false, if◌then◌else◌, arith}
 use Rattle.std.proofs.lemmas.Bool.{eqb-true, eq-eqb}
-use Rattle.std.proofs.lemmas.Option.{none-some, same_Some}
+use Rattle.std.proofs.lemmas.Option.{same_Some}
 use Rattle.indexmap.specs.IndexMap.{IndexMap, get}
-use Rattle.bbm_tree_index.specs.Hanging.{Given, Hung, Passed, hung}
+use Rattle.bbm_tree_index.specs.Hanging.{Hung, Passed, hung}
 use Rattle.bbm_tree_index.specs.declared.mark.Mark.{Mark}
 use Rattle.bbm_tree_index.specs.declared.role.Role.{Role}
 

@@ -1,5 +1,5 @@
 -- Nodes and soundness after pages were hung: each page that is reached got the role of its node, the others kept theirs.
-use Rattle.std.proofs.Common.{◌≡◌, ℕ, zero, suc, ◌⊎◌, ◌&&◌, ◌/◌, ◌-◌, Bool, true, false, List, [], ◌∷◌, ◌++◌, Option, Some, None, is_none, Contains, inl, inr, refl, sym, ap, ◌∙◌, subst, true≢false}
+use Rattle.std.proofs.Common.{◌≡◌, ℕ, zero, suc, ◌⊎◌, ◌&&◌, Bool, true, false, List, [], ◌∷◌, ◌++◌, Option, Some, None, is_none, Contains, inl, inr, refl, sym, ap, ◌∙◌, subst}
 use Rattle.std.proofs.lemmas.Option.{none-some, same_Some}
 use Rattle.bbm_events.specs.Heading.{Heading}
 use Rattle.bbm_regimes.specs.declared.regime.Kind.{Kind}
@@ -8,10 +8,9 @@ use Rattle.bbm_rules.specs.Tree.{Above, Node, node_below, region_start}
 use Rattle.bbm_tree_index.specs.Agreement.{Below, Sound}
 use Rattle.bbm_tree_index.specs.Nodes.{above_by, is_fresh_role, is_null_role, node_by, node_with}
 use Rattle.bbm_tree_index.specs.Spots.{Fits, spot_with}
-use Rattle.bbm_tree_index.specs.Survey.{Goes, Step, role_as, spot_as}
+use Rattle.bbm_tree_index.specs.Survey.{Goes, role_as, spot_as}
 use Rattle.bbm_tree_index.specs.declared.role.Role.{Role}
 use Rattle.bbm_tree_index.specs.declared.role.Role.TheVariants.{Untracked, Fresh, RootPage, Hangs, Gone, Null}
-use Rattle.bbm_tree_index.specs.declared.spot.Spot.{Spot}
 use Rattle.bbm_tree_index.proofs.Climbing.{fresh_part, out_part, tree_part}
 use Rattle.bbm_tree_index.proofs.Levels.{goes_on}
 use Rattle.bbm_tree_index.proofs.Places.{at_page}

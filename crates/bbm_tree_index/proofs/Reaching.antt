@@ -1,15 +1,15 @@
 -- Paths through fresh pages, by steps, and what it means that pages can be attached.
-use Rattle.std.proofs.Common.{◌≡◌, ℕ, zero, suc, ◌<◌, ◌≤◌, ◌+◌, ◌==◌, Bool, true, false, List, [], ◌∷◌, Option, Some, None, Contains, length, inl, inr, refl, sym, ap, ◌∙◌, subst, true≢false, arith}
+use Rattle.std.proofs.Common.{◌≡◌, ℕ, zero, suc, ◌<◌, ◌+◌, ◌==◌, Bool, true, false, List, [], ◌∷◌, Some, None, Contains, length, inl, inr, refl, sym, ap, ◌∙◌, subst, true≢false, arith}
 use Rattle.std.proofs.lemmas.Bool.{eqb-true, eq-eqb}
-use Rattle.std.proofs.lemmas.Option.{none-some, same_Some}
+use Rattle.std.proofs.lemmas.Option.{none-some}
 use Rattle.bbm_descriptor.specs.Descriptor.{desc_as, invalid, leaf}
 use Rattle.bbm_descriptor.specs.Fields.{type_bits}
 use Rattle.bbm_regimes.specs.declared.regime.Kind.{Kind}
 use Rattle.bbm_rules.specs.Attach.{end_at}
 use Rattle.bbm_rules.specs.Tree.{Node, next_in, next_of, node_below}
 use Rattle.bbm_tree_index.specs.Judged.{IsUnfresh, Never}
-use Rattle.bbm_tree_index.specs.Paths.{Attached, Leads, Through}
-use Rattle.bbm_tree_index.specs.Survey.{Goes, Step}
+use Rattle.bbm_tree_index.specs.Paths.{Attached, Through}
+use Rattle.bbm_tree_index.specs.Survey.{Goes}
 use Rattle.bbm_tree_index.proofs.Hung.{Reach}
 use Rattle.bbm_tree_index.proofs.Starts.{goes_kind}
 use Rattle.bbm_tree_index.proofs.Ways.{goes_leads, goes_same}

@@ -1,4 +1,4 @@
-use Rattle.std.proofs.Common.{◌≡◌, ◌∙◌, ap, sym, refl, nat_eq, is_some, arith, if◌then◌else◌}
+use Rattle.std.proofs.Common.{◌∙◌, ap, sym, nat_eq, is_some, arith, if◌then◌else◌}
 use Rattle.indexmap.specs.IndexMap.{get, keys}
 use Rattle.bbm_tree_index.specs.Hanging.{hung}
 use Rattle.bbm_tree_index.proofs.Growing.{all_keys, first_more_keys}

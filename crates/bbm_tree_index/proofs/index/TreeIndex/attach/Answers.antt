@@ -1,6 +1,4 @@
-use Rattle.std.proofs.Common.{◌≡◌, ◌∙◌, ℕ, refl, sym, subst, length, nat_eq}
-use Rattle.indexmap.specs.IndexMap.{get}
-use Rattle.bbm_place_map.specs.Map.{value_at}
+use Rattle.std.proofs.Common.{◌≡◌, ℕ, refl, sym, subst}
 use Rattle.bbm_tree_index.specs.Least.{IsSurvey}
 use Rattle.bbm_tree_index.specs.Index.{heading_of, known_in}
 use Rattle.bbm_tree_index.specs.declared.index.TreeIndex.{TreeIndex}
