@@ -1,7 +1,7 @@
 -- What a run says: a log in which lines of machine steps stand between the header and the end. A fold over its lines,
 -- which knows nothing of a reader. The whole text is read before a step that is none is named. Steps are listed newest
 -- first. Source: project's own choice.
-use Rattle.std.specs.Prelude.{◌≡◌, ℕ, zero, suc, ◌+◌, Bool, false, ◌&&◌, ◌==◌, nat_le, List, [], ◌∷◌, ◌++◌, length}
+use Rattle.std.specs.Prelude.{◌≡◌, ℕ, zero, suc, ◌+◌, Bool, true, false, ◌&&◌, ◌==◌, nat_le, List, [], ◌∷◌, ◌++◌, length}
 use Rattle.std.specs.Prelude.{drop, Option, Some, None, Result, Ok, Err, codes, decimal, if◌then◌else◌, option_map}
 use Rattle.bbm_regimes.specs.declared.regime.Which.TheVariants.{LineBytes, Steps}
 use Rattle.bbm_events.specs.declared.event.Item.{Item}
@@ -160,10 +160,15 @@ abbrev pub run_text : RunSays → List ℕ
 run_text (Stopped verdict) = verdict_text verdict
 run_text (Whole heading steps) = followed_text (followed heading steps)
 
+-- whether a line between the header and the end is one more step
+abbrev pub is_step : Turned → Bool
+is_step (GoesOn (AtSteps heading steps)) = true
+is_step _ = false
+
 -- What a line of a run says, by the steps before it and after it: it was taken as a step, or is the end, or reading
--- stops. There may be no memory for a step.
+-- stops. There may be no memory for a step alone.
 abbrev pub TakesLine : Heading → List Step → List Step → Result Turn LineFault → Turned → Type 0
 TakesLine heading old new (Ok turn.Step) turned = turned ≡ GoesOn (AtSteps heading new)
 TakesLine heading old new (Ok turn.End) turned = (turned ≡ GoesOn (AtEnd heading old)) × (new ≡ old)
 TakesLine heading old new (Err (Decided verdict)) turned = turned ≡ Stops verdict
-TakesLine heading old new (Err NoMemory) turned = Unit {0}
+TakesLine heading old new (Err NoMemory) turned = is_step turned ≡ true

@@ -1,6 +1,6 @@
 //! A line of a run, taken.
 
-ghost use Rattle.std.specs.Prelude.{◌≡◌, ◌≤◌, reverse, length};
+ghost use Rattle.std.specs.Prelude.{◌≡◌, ◌≤◌, ◌+◌, Ok, reverse, length};
 ghost use Rattle.bbm_events.specs.Heading.{Heading};
 ghost use Rattle.bbm_follow.specs.Following.{TakesLine, after_item, after_line, after_machine, after_step, event_count};
 ghost use Rattle.bbm_follow.specs.Following as following;
@@ -59,6 +59,7 @@ fn take_step(number: u64, steps: &mut Vec<Step>, step: &Step) -> Result<Turn, Li
     ensures says { (heading : Heading) → TakesLine heading (reverse steps.old.items) (reverse steps.new.items) result
         (after_step number heading (reverse steps.old.items) step.now) }
     ensures short { length steps.old.items ≤ 2000 → length steps.new.items ≤ 2000 }
+    ensures counted { result ≡ Ok Turn.Step → length steps.new.items ≡ length steps.old.items + 1 }
 {
     if steps.len() >= STEPS {
         return Err(too_many(number));
@@ -82,6 +83,7 @@ fn take_item(
     ensures says { (heading : Heading) → TakesLine heading (reverse steps.old.items) (reverse steps.new.items) result
         (after_item number heading (reverse steps.old.items) read) }
     ensures short { length steps.old.items ≤ 2000 → length steps.new.items ≤ 2000 }
+    ensures counted { result ≡ Ok Turn.Step → length steps.new.items ≡ length steps.old.items + 1 }
 {
     match read {
         Ok(Item::Event(event, _)) => take_step(number, steps, &Step::Event(event)),
@@ -105,6 +107,7 @@ fn take_machine(
     ensures says { (heading : Heading) → TakesLine heading (reverse steps.old.items) (reverse steps.new.items) result
         (after_machine number heading (reverse steps.old.items) read) }
     ensures short { length steps.old.items ≤ 2000 → length steps.new.items ≤ 2000 }
+    ensures counted { result ≡ Ok Turn.Step → length steps.new.items ≡ length steps.old.items + 1 }
 {
     match read {
         Ok(line) => take_step(number, steps, &Step::Machine(line)),
@@ -116,8 +119,8 @@ fn take_machine(
 /// `steps` are those of the lines before it, the oldest first, of at most 2,000. A line whose first field is `m` is a
 /// step of a machine, and any other is an event or the end. `Step`: the line's step was added to `steps`. `End`: the
 /// line is the end, with the right count of the events; no step was added. `Decided`: the line is malformed, by the
-/// first cause, or is a step behind 2,000 others. Labels say nothing here, and no event is judged. Source: project's own
-/// choice.
+/// first cause, or is a step behind 2,000 others. `NoMemory`: the line is a step, for which there was none. Labels say
+/// nothing here, and no event is judged. Source: project's own choice.
 pub fn take_line(
     number: u64,
     header: &Header,
@@ -127,6 +130,7 @@ pub fn take_line(
     ensures says { TakesLine header.now (reverse steps.old.items) (reverse steps.new.items) result
         (after_line number (following.AtSteps header.now (reverse steps.old.items)) line.now) }
     ensures short { length steps.old.items ≤ 2000 → length steps.new.items ≤ 2000 }
+    ensures counted { result ≡ Ok Turn.Step → length steps.new.items ≡ length steps.old.items + 1 }
 {
     if is_machine(line) {
         take_machine(number, steps, read_machine(header, line))

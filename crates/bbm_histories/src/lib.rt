@@ -2,8 +2,8 @@
 #![tactic(auto)]
 
 mod below;
-pub mod locks;
 pub mod claim_steps;
+pub mod locks;
 pub mod patterns;
 pub mod phases;
 pub mod steps;
@@ -14,8 +14,8 @@ pub mod value_steps;
 pub mod values;
 pub mod versions;
 
-pub use locks::law_lock_order;
 pub use claim_steps::{law_claim_steps, law_tag_claim_steps};
+pub use locks::law_lock_order;
 pub use patterns::{law_patterns_begin, law_patterns_stay, law_uniform};
 pub use phases::law_phase_parts;
 pub use steps::{law_held_step, law_pattern_steps, law_tag_steps};
@@ -31,8 +31,8 @@ pub use versions::law_version;
 
 #[cfg(test)]
 mod tests {
-    use crate::locks::law_lock_order;
     use crate::claim_steps::{law_claim_steps, law_tag_claim_steps};
+    use crate::locks::law_lock_order;
     use crate::patterns::{law_patterns_begin, law_patterns_stay, law_uniform};
     use crate::phases::law_phase_parts;
     use crate::steps::{law_held_step, law_pattern_steps, law_tag_steps};

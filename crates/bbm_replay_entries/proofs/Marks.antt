@@ -2,7 +2,7 @@
 use Rattle.std.proofs.Common.{◌≡◌, ℕ, ◌<◌, Bool, true, false, cond, not, ◌&&◌, ◌||◌, ◌==◌, nat_eq, List, ◌∷◌, is_some, refl, sym, ◌∙◌, ap, inl, inr, true≢false}
 use Rattle.std.proofs.Math.Bool.{and-false, and-true, and_assoc, or-false, or-true}
 use Rattle.std.proofs.lemmas.Bool.{and_parts, eq-eqb, eqb-true, or_cases}
-use Rattle.bbm_barriers.specs.Options.{answers, publishes}
+use Rattle.bbm_barriers.specs.Options.{answers, is_non, publishes}
 use Rattle.bbm_barriers.specs.declared.Dsb.{Dsb as Barrier}
 use Rattle.bbm_descriptor.specs.Descriptor.{same_bool}
 use Rattle.bbm_regimes.specs.PeMask.{pe_in}
@@ -13,7 +13,6 @@ use Rattle.bbm_tlbi_scope.specs.declared.entry.Cover.TheVariants.{None as NoCove
 use Rattle.bbm_tlbi_scope.specs.declared.op.TlbiOp.{TlbiOp}
 use Rattle.bbm_entry_state.specs.Answered.{answered_at}
 use Rattle.bbm_entry_state.specs.Calls.{Completed, Noted as Issues, clean_after, counts_at}
-use Rattle.bbm_entry_state.specs.Covers.{same_cover as same_grade}
 use Rattle.bbm_entry_state.specs.Marking.{counts_for}
 use Rattle.bbm_entry_state.specs.Points.{clean_at, core_in, half_at, is_broken, seen_at, waits as waits_at, writer_at}
 use Rattle.bbm_entry_state.specs.Standing.{IsIdle}
@@ -28,7 +27,7 @@ use Rattle.bbm_rules.specs.Claims.Trust.{Patterns}
 use Rattle.bbm_rules.specs.Cleansing.{cleansed, flushes, half, same_cover, seen, writes}
 use Rattle.bbm_rules.specs.Notes.{Noted, event_of}
 use Rattle.bbm_rules.specs.Reach.{reaches}
-use Rattle.bbm_rules.specs.Values.{is_non, publishes_to}
+use Rattle.bbm_rules.specs.Values.{publishes_to}
 use Rattle.bbm_histories.specs.Steps.{answered_by, cleansed_after, full_waits, half_after, half_waits, second_waits, seen_after, waits_after, wrote}
 use Rattle.bbm_replay_entries.specs.Events.{Heard, OthersStay, OthersWait}
 use Rattle.bbm_replay_entries.specs.Known.{Known}
@@ -90,23 +89,23 @@ is_still (Dsb q dsb) = false
 is_still (Tlbi q op xt) = false
 is_still e = true
 
-same_grades : (c d : Cover) → same_grade c d ≡ same_cover d c
-same_grades NoCover NoCover = refl
-same_grades NoCover Half = refl
-same_grades NoCover Second = refl
-same_grades NoCover Full = refl
-same_grades Half NoCover = refl
-same_grades Half Half = refl
-same_grades Half Second = refl
-same_grades Half Full = refl
-same_grades Second NoCover = refl
-same_grades Second Half = refl
-same_grades Second Second = refl
-same_grades Second Full = refl
-same_grades Full NoCover = refl
-same_grades Full Half = refl
-same_grades Full Second = refl
-same_grades Full Full = refl
+same_cover_back : (c d : Cover) → same_cover c d ≡ same_cover d c
+same_cover_back NoCover NoCover = refl
+same_cover_back NoCover Half = refl
+same_cover_back NoCover Second = refl
+same_cover_back NoCover Full = refl
+same_cover_back Half NoCover = refl
+same_cover_back Half Half = refl
+same_cover_back Half Second = refl
+same_cover_back Half Full = refl
+same_cover_back Second NoCover = refl
+same_cover_back Second Half = refl
+same_cover_back Second Second = refl
+same_cover_back Second Full = refl
+same_cover_back Full NoCover = refl
+same_cover_back Full Half = refl
+same_cover_back Full Second = refl
+same_cover_back Full Full = refl
 
 -- what was so before, and what is so now where the PE has seen it
 add_seen : (x s a : Bool) → (a ≡ true → s ≡ true) → (x || (s && a)) ≡ (a || x)
@@ -145,9 +144,9 @@ issued_idle state q reach broadcast cover pends pends' unbroken issues others id
     by true t =
         ap (λ (j : ℕ). waits_at (pends' j) b c p) (eqb-true i q t)
         ∙ (issues b c p
-        ∙ (ap (λ (x : Bool). (same_bool broadcast b && (pe_in reach p && (same_grade c cover && x))) || waits_at (pends q) b c p)
+        ∙ (ap (λ (x : Bool). (same_bool broadcast b && (pe_in reach p && (same_cover c cover && x))) || waits_at (pends q) b c p)
         (counts_nowhere state c p unbroken)
-        ∙ (ap (λ (x : Bool). (same_bool broadcast b && (pe_in reach p && x)) || waits_at (pends q) b c p) (and-false (same_grade c cover))
+        ∙ (ap (λ (x : Bool). (same_bool broadcast b && (pe_in reach p && x)) || waits_at (pends q) b c p) (and-false (same_cover c cover))
         ∙ (ap (λ (x : Bool). (same_bool broadcast b && x) || waits_at (pends q) b c p) (and-false (pe_in reach p))
         ∙ (ap (λ (x : Bool). x || waits_at (pends q) b c p) (and-false (same_bool broadcast b)) ∙ idle q b c p)))))
 
@@ -275,10 +274,10 @@ module _ (heading : Heading) (k : Known heading) (place : ℕ) where
             let same : q ≡ i = eqb-true q i here in
             ap (λ (j : ℕ). waits_at (pends' j) b c p) (sym same)
             ∙ (issues b c p
-            ∙ (ap (λ (x : Bool). (same_bool (operation op).broadcast b && (x && (same_grade c (n.covers place) && counts_at state c p))) || waits_at (pends q) b c p)
+            ∙ (ap (λ (x : Bool). (same_bool (operation op).broadcast b && (x && (same_cover c (n.covers place) && counts_at state c p))) || waits_at (pends q) b c p)
             (reached p below)
             ∙ (ap (λ (x : Bool). (same_bool (operation op).broadcast b && (reaches heading (Tlbi q op xt) p && (x && counts_at state c p))) || waits_at (pends q) b c p)
-            (same_grades c (n.covers place))
+            (same_cover_back c (n.covers place))
             ∙ (ap (λ (x : Bool). (same_bool (operation op).broadcast b && (reaches heading (Tlbi q op xt) p && (same_cover (n.covers place) c && x)))
             || waits_at (pends q) b c p) (counts_now state p c since broken (m.seen p) (m.half p below))
             ∙ (ap (λ (j : ℕ). (same_bool (operation op).broadcast b

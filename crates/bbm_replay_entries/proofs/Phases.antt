@@ -17,9 +17,10 @@ use Rattle.bbm_rules.specs.Cleansing.{cleansed, half}
 use Rattle.bbm_rules.specs.Covers.{noted}
 use Rattle.bbm_rules.specs.Held.{ValidWrite, cleansed_everywhere, last_valid}
 use Rattle.bbm_rules.specs.Notes.{Noted}
-use Rattle.bbm_rules.specs.Phases.{broken_phase, is_restless, is_restless_in, phase_of}
+use Rattle.bbm_rules.specs.Phases.{broken_phase, is_restless, phase_of}
 use Rattle.bbm_rules.specs.Places.{page_of}
-use Rattle.bbm_rules.specs.Tree.{Node, node_of}
+use Rattle.bbm_rules.specs.Notes.{events_of}
+use Rattle.bbm_rules.specs.Tree.{Node, held_at, node_of}
 use Rattle.bbm_rules.specs.Values.{value_of}
 use Rattle.bbm_replay_entries.specs.Known.{Known}
 use Rattle.bbm_replay_entries.specs.Marked.{Marked}
@@ -105,6 +106,7 @@ pub restless_tells : (heading : Heading) (k : Known heading) (h : List Event) (n
     → node_of heading Patterns (noted heading Patterns h) (page_of place) ≡ Some n → EntryStands heading h n.kind n.level place s pends
     → is_restless heading Patterns (noted heading Patterns h) place ≡ is_broken s
 restless_tells heading k h n place s pends is e =
-    ap (λ (o : Option Node). option_map_or (is_restless_in heading Patterns (noted heading Patterns h) place) o false) is
+    ap (λ (o : Option Node). option_map_or (λ n. is_some (held_at heading Patterns (noted heading Patterns h) n place)
+    && not (is_valid n.kind n.level (value_of (events_of (noted heading Patterns h)) place))) o false) is
     ∙ (ap (λ (x : List Event). is_some (held_now heading h n.kind n.level place) && not (is_valid n.kind n.level (value_of x place))) (k.events_noted h)
     ∙ sym e.broken)

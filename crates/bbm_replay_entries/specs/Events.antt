@@ -8,7 +8,7 @@ use Rattle.bbm_entry_state.specs.declared.state.EntryState.{EntryState}
 use Rattle.bbm_tlbi_scope.specs.declared.entry.Cover.{Cover}
 use Rattle.bbm_rules.specs.Prelude.{Heading, Event, Init, Write, Dsb, Tlbi}
 use Rattle.bbm_rules.specs.Places.{page_of}
-use Rattle.bbm_rules.specs.Values.{is_non}
+use Rattle.bbm_barriers.specs.Options.{is_non}
 
 -- Whether the event may change the state of the place, or what waits there: it is a write of the place, an init of its
 -- page, a DSB or a TLBI.

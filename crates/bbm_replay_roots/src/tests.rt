@@ -1,11 +1,11 @@
 //! Each call on a log of the Hyp world, with answers worked out by hand.
 
 use crate::RootState;
-use bbm_barriers::{Domain, Dsb, Types};
 use bbm_events::Header;
 use bbm_regimes::{HypWorld, Kind, Page, Pe, Reg, World};
 use bbm_rules::{Rule, StepFault};
 use bbm_tlbi_scope::{TagSet, TlbiOp};
+use std::alloc::Global;
 use std::test::Fail;
 
 // `bbmlog 1 hyp 2 1 1 1`
@@ -40,27 +40,60 @@ fn locks(rt: HostRuntime) -> Result<(), Fail> {
     Ok(())
 }
 
+// The judgement of a TLBI of PE 0 with operand 0 before any event.
+fn tlbi(alloc: Global, op: TlbiOp) -> Result<Result<(), StepFault>, Fail> {
+    let state = RootState::new(alloc, &HYP).map_err(|_| "memory")?;
+    let pe = Pe::new(0).ok_or("pe")?;
+    Ok(state.judge_tlbi(pe, op, 0))
+}
+
+// Whether a TLBI of PE 0 with operand 0 before any event names a scope.
+fn has_scope(alloc: Global, op: TlbiOp) -> Result<bool, Fail> {
+    let state = RootState::new(alloc, &HYP).map_err(|_| "memory")?;
+    let pe = Pe::new(0).ok_or("pe")?;
+    Ok(state.named_scope(pe, op, 0).is_some())
+}
+
+// The answer to a write of VTTBR_EL2 by PE 0 before any event.
+fn write(alloc: Global, value: u64) -> Result<Result<(), StepFault>, Fail> {
+    let mut state = RootState::new(alloc, &HYP).map_err(|_| "memory")?;
+    let pe = Pe::new(0).ok_or("pe")?;
+    Ok(state.write_reg(alloc, pe, Reg::VttbrEl2, value, false))
+}
+
+// Room for a root after an ISB of PE 0.
+fn room_after_isb(alloc: Global) -> Result<Result<(), StepFault>, Fail> {
+    let mut state = RootState::new(alloc, &HYP).map_err(|_| "memory")?;
+    let pe = Pe::new(0).ok_or("pe")?;
+    state.isb(pe);
+    Ok(state.prepare(alloc))
+}
+
+#[test]
+fn first_events(rt: HostRuntime) -> Result<(), Fail> {
+    let alloc = rt.alloc();
+    let wrong_world = Err(StepFault::Broken(Rule::WrongWorld, 0));
+    let no_root = Err(StepFault::Broken(Rule::NoRoot, ROOT));
+    assert_eq!(rt; tlbi(alloc, TlbiOp::Vmalls12e1is)?, Ok(()));
+    assert_eq!(rt; tlbi(alloc, TlbiOp::Aside1is)?, wrong_world);
+    assert!(rt; has_scope(alloc, TlbiOp::Vmalls12e1is)?);
+    assert_eq!(rt; write(alloc, ROOT)?, no_root);
+    assert_eq!(rt; write(alloc, 0)?, Ok(()));
+    assert_eq!(rt; room_after_isb(alloc)?, Ok(()));
+    Ok(())
+}
+
 #[test]
 fn nothing_is_declared(rt: HostRuntime) -> Result<(), Fail> {
-    let mut state = RootState::new(rt.alloc(), &HYP).map_err(|_| "memory")?;
+    let state = RootState::new(rt.alloc(), &HYP).map_err(|_| "memory")?;
     let pe = Pe::new(0).ok_or("pe")?;
     let page = Page::new(ROOT).ok_or("page")?;
     let no_root = Err(StepFault::Broken(Rule::NoRoot, ROOT));
     assert_eq!(rt; state.vmid_of(pe), Some(0));
-    assert_eq!(rt; state.judge_tlbi(pe, TlbiOp::Vmalls12e1is, 0), Ok(()));
-    assert!(rt; state.named_scope(pe, TlbiOp::Vmalls12e1is, 0).is_some());
-    assert_eq!(rt;
-        state.judge_tlbi(pe, TlbiOp::Aside1is, 0),
-        Err(StepFault::Broken(Rule::WrongWorld, 0))
-    );
     assert_eq!(rt; state.judge_unroot(pe, page), no_root);
     assert!(rt; !state.is_root(Kind::S2, page) && !state.is_declared(page));
     assert_eq!(rt; state.lock_of(page), None);
     assert_eq!(rt; state.without_lock(pe, page, 9), None);
     assert_eq!(rt; state.tags_of(page), TagSet::None);
-    assert_eq!(rt;
-        state.write_reg(rt.alloc(), pe, Reg::VttbrEl2, ROOT, false),
-        no_root
-    );
     Ok(())
 }

@@ -17,7 +17,7 @@ use Rattle.bbm_rules.specs.Roots.{root_pages, start_of}
 use Rattle.bbm_rules.specs.Rules.{attached_with, bad_ends, made_with, not_fresh, untracked_page, written_with}
 use Rattle.bbm_rules.specs.Tree.{Node, held_at, in_tree, next_in, next_of, node_below, node_of, nodes_of_root}
 use Rattle.bbm_replay_trees.specs.Below.{Below}
-use Rattle.bbm_replay_trees.specs.Judged.{Judging}
+use Rattle.bbm_replay_trees.specs.Judging.{Judging}
 use Rattle.bbm_replay_trees.specs.Told.{AllFit, SameFresh, SameNull, SameValues, notes}
 use Rattle.bbm_replay_trees.proofs.Elements.{In, from_contains, to_contains}
 use Rattle.bbm_replay_trees.proofs.JudgeLemmas.{judging, no_leaf}

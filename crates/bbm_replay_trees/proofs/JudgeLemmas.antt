@@ -17,12 +17,13 @@ use Rattle.bbm_rules.specs.Rules.{attached_with, bad_ends, judged_ends, made_wit
 use Rattle.bbm_rules.specs.Tree.{Node, next_in}
 use Rattle.bbm_rules.specs.Values.{places_in, value_of}
 use Rattle.bbm_replay_trees.specs.Below.{Below}
-use Rattle.bbm_replay_trees.specs.Judged.{EndsTwice, Finds, HasPlace, IsPath, IsUnfresh, Judging, UnfreshEnd, is_bad, is_user_global}
+use Rattle.bbm_replay_trees.specs.Judged.{EndsTwice, HasPlace, IsPath, IsUnfresh, UnfreshEnd, is_bad, is_user_global}
+use Rattle.bbm_replay_trees.specs.Judging.{Finds, Judging}
 use Rattle.bbm_replay_trees.specs.Told.{AllFit, SameFresh, SameValues, notes}
 use Rattle.bbm_replay_trees.proofs.Elements.{In, from_filter, from_flat, from_map, in_append, in_left, in_map, in_right, to_filter, to_flat}
 use Rattle.bbm_replay_trees.proofs.FitLemmas.{at_page, in_page, is_at_page, to_page, written}
 use Rattle.bbm_replay_trees.proofs.LeastLemmas.{among_in, in_among, least_is}
-use Rattle.bbm_replay_trees.proofs.PathLemmas.{Longer, Some_path, Starts, from_all, from_deeper, in_all, in_deeper, leads_at, path_from, to_mine, to_theirs, value_is, within_at}
+use Rattle.bbm_replay_trees.proofs.PathLemmas.{Longer, AnyPath, Starts, from_all, from_deeper, in_all, in_deeper, leads_at, path_from, to_mine, to_theirs, value_is, within_at}
 
 -- a test that passes leaves alone
 pub record OfLeaves (test : Kind → Desc → Bool) : Type 0 where
@@ -63,7 +64,7 @@ module _ (heading : Heading) (b : Below heading) (h : List Event) (fit : AllFit 
         judged = λ k none. cc;
       }
   unfresh_from false page end i e f =
-      let r : Some_path fresh value starts end = from_all heading b h fit fresh value same_fresh same_value kind level pages starts st end i in
+      let r : AnyPath fresh value starts end = from_all heading b h fit fresh value same_fresh same_value kind level pages starts st end i in
       record {
         start = r.start;
         places = r.places;
@@ -89,23 +90,23 @@ module _ (heading : Heading) (b : Below heading) (h : List Event) (fit : AllFit 
 
   twice_from : (page : ℕ) → TwoPaths heading Patterns marks kind level pages page → EndsTwice fresh value starts page
   twice_from page t =
-      let one = path_from heading b h fit fresh value same_fresh same_value kind level pages starts st t.start t.is_start t.places t.end
-      (omega (arith, t.short, st.shallow)) (to_mine heading b h fit fresh value same_fresh same_value kind level t.start t.places t.end t.leads) in
-      let two = path_from heading b h fit fresh value same_fresh same_value kind level pages starts st t.other_start t.is_other_start t.other_places t.other_end
-      (omega (arith, t.other_short, st.shallow))
-      (to_mine heading b h fit fresh value same_fresh same_value kind level t.other_start t.other_places t.other_end t.other_leads) in
+      let one = path_from heading b h fit fresh value same_fresh same_value kind level pages starts st t.0.start t.0.is_start t.0.places t.0.end
+      (omega (arith, t.0.short, st.shallow)) (to_mine heading b h fit fresh value same_fresh same_value kind level t.0.start t.0.places t.0.end t.0.leads) in
+      let two = path_from heading b h fit fresh value same_fresh same_value kind level pages starts st t.1.start t.1.is_start t.1.places t.1.end
+      (omega (arith, t.1.short, st.shallow))
+      (to_mine heading b h fit fresh value same_fresh same_value kind level t.1.start t.1.places t.1.end t.1.leads) in
       record {
         start = one.0;
-        places = t.places;
-        end = t.end;
+        places = t.0.places;
+        end = t.0.end;
         path = one.1;
-        ends = t.ends;
+        ends = t.0.ends;
         other_start = two.0;
-        other_places = t.other_places;
-        other_end = t.other_end;
+        other_places = t.1.places;
+        other_end = t.1.end;
         other_path = two.1;
-        other_ends = t.other_ends;
-        differ = λ k l. t.different (sym one.2 ∙ (k ∙ two.2), l);
+        other_ends = t.1.ends;
+        differ = λ k l. t.2 (sym one.2 ∙ (k ∙ two.2), l);
       }
 
   twice_to : (page : ℕ) → EndsTwice fresh value starts page → TwoPaths heading Patterns marks kind level pages page
@@ -113,26 +114,29 @@ module _ (heading : Heading) (b : Below heading) (h : List Event) (fit : AllFit 
       let short : level + length t.places < 4
       = within_at heading b h fit fresh value same_fresh same_value kind level pages starts st t.start t.places t.end t.path in
       let other : level + length t.other_places < 4
-      = within_at heading b h fit fresh value same_fresh same_value kind level pages starts st t.other_start t.other_places t.other_end t.other_path in
-      record {
-        start = t.start.page;
-        places = t.places;
-        end = t.end;
-        is_start = (st.of_start t.start t.path.is_start).2;
-        short = omega (arith, short);
-        leads = to_theirs heading b h fit fresh value same_fresh same_value kind level t.start.page t.places t.end
-            (leads_at heading b h fit fresh value same_fresh same_value kind level pages starts st t.start t.places t.end t.path);
-        ends = t.ends;
-        other_start = t.other_start.page;
-        other_places = t.other_places;
-        other_end = t.other_end;
-        is_other_start = (st.of_start t.other_start t.other_path.is_start).2;
-        other_short = omega (arith, other);
-        other_leads = to_theirs heading b h fit fresh value same_fresh same_value kind level t.other_start.page t.other_places t.other_end
-            (leads_at heading b h fit fresh value same_fresh same_value kind level pages starts st t.other_start t.other_places t.other_end t.other_path);
-        other_ends = t.other_ends;
-        different = λ k. t.differ k.0 k.1;
-      }
+      = within_at heading b h fit fresh value same_fresh same_value kind level pages starts st t.other_start t.other_places t.other_end t.other_path in (
+        record {
+          start = t.start.page;
+          places = t.places;
+          end = t.end;
+          is_start = (st.of_start t.start t.path.is_start).2;
+          short = omega (arith, short);
+          leads = to_theirs heading b h fit fresh value same_fresh same_value kind level t.start.page t.places t.end
+              (leads_at heading b h fit fresh value same_fresh same_value kind level pages starts st t.start t.places t.end t.path);
+          ends = t.ends;
+        },
+        record {
+          start = t.other_start.page;
+          places = t.other_places;
+          end = t.other_end;
+          is_start = (st.of_start t.other_start t.other_path.is_start).2;
+          short = omega (arith, other);
+          leads = to_theirs heading b h fit fresh value same_fresh same_value kind level t.other_start.page t.other_places t.other_end
+              (leads_at heading b h fit fresh value same_fresh same_value kind level pages starts st t.other_start t.other_places t.other_end t.other_path);
+          ends = t.other_ends;
+        },
+        λ k. t.differ k.0 k.1,
+      )
 
   module _ (e : Event) (is : attached_by heading Patterns marks e ≡ Some whole) where
     listed : (named : Bool) (page : ℕ) → In (page_list named) page → IsUnfresh fresh value starts named page
@@ -178,7 +182,7 @@ module _ (heading : Heading) (b : Below heading) (h : List Event) (fit : AllFit 
       place_from : (place : ℕ) → In (attached_with test (events_of marks) whole) place → HasPlace fresh value starts test place
       place_from place i =
           let f = from_flat (places_with test kind (events_of marks)) (all_ends whole) place i in
-          let r : Some_path fresh value starts f.0 = from_all heading b h fit fresh value same_fresh same_value kind level pages starts st f.0 f.1 in
+          let r : AnyPath fresh value starts f.0 = from_all heading b h fit fresh value same_fresh same_value kind level pages starts st f.0 f.1 in
           let g = from_filter (λ p. test kind (desc_of kind f.0.level (value_of (events_of marks) p))) (places_in (events_of marks) f.0.page) place f.2 in
           let there = in_page h f.0.page place (subst (λ es. In (places_in es f.0.page) place) (b.events_noted h) g.0) in
           record {

@@ -2,7 +2,7 @@
 use Rattle.std.proofs.Common.{◌≡◌, ℕ, ◌<◌, ◌≤◌, min, true, ◌⊎◌, ◌==◌, List, [], ◌∷◌, Option, Some, None, unwrap_or, refl, ap, subst, inl, inr, arith}
 use Rattle.std.proofs.lemmas.Bool.{cases_lt, eq-eqb, eqb-true}
 use Rattle.bbm_rules.specs.Lists.{among, least}
-use Rattle.bbm_replay_trees.specs.Judged.{Finds}
+use Rattle.bbm_replay_trees.specs.Judging.{Finds}
 use Rattle.bbm_replay_trees.proofs.Elements.{In, any_finds, any_found}
 
 pub in_among : (n : ℕ) (ms : List ℕ) → among n ms ≡ true → In ms n

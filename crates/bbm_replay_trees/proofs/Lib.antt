@@ -10,3 +10,4 @@ pub mod HangLemmas
 pub mod PageLemmas
 pub mod PlaceLemmas
 pub mod CountLemmas
+pub mod CoreLemmas

@@ -31,7 +31,7 @@ pub record Longer (fresh : ℕ → Bool) (value : ℕ → ℕ) (starts : List No
   pub places : List ℕ
   pub path : IsPath fresh value starts start (place ∷ places) end
 
-pub record Some_path (fresh : ℕ → Bool) (value : ℕ → ℕ) (starts : List Node) (end : End) : Type 0 where
+pub record AnyPath (fresh : ℕ → Bool) (value : ℕ → ℕ) (starts : List Node) (end : End) : Type 0 where
   pub start : Node
   pub places : List ℕ
   pub path : IsPath fresh value starts start places end
@@ -190,14 +190,14 @@ module _ (heading : Heading) (b : Below heading) (h : List Event) (fit : AllFit 
             let r = path_from page c (place ∷ places) end within l in
             record { start = r.0; place = place; places = places; path = r.1 }
 
-    pub from_all : (end : End) → In (all_ends whole) end → Some_path fresh value starts end
+    pub from_all : (end : End) → In (all_ends whole) end → AnyPath fresh value starts end
     from_all end i = elim (in_append whole.first whole.deeper end i) [
       | inl first ↦ by_first first
       | inr deeper ↦ (let r : Longer fresh value starts end = from_deeper end deeper in
           record { start = r.start; places = r.place ∷ r.places; path = r.path })
     ]
       where
-        by_first : In whole.first end → Some_path fresh value starts end
+        by_first : In whole.first end → AnyPath fresh value starts end
         by_first j =
             let f = from_map (end_at level) pages end j in
             let within : level + 0 < 4 = omega (arith, st.shallow) in

@@ -1,5 +1,5 @@
 -- Childless tables, and the number of restless places.
-use Rattle.std.proofs.Common.{◌≡◌, ℕ, suc, true, List, Option, Some, None, is_some, option_and_then, refl, sym, ◌∙◌, ap, subst, true≢false}
+use Rattle.std.proofs.Common.{◌≡◌, ℕ, suc, true, false, List, Option, Some, None, is_some, option_and_then, refl, sym, ◌∙◌, ap, subst, true≢false}
 use Rattle.bbm_regimes.specs.declared.regime.Kind.{Kind}
 use Rattle.bbm_descriptor.specs.Descriptor.{core_of, desc_of}
 use Rattle.bbm_descriptor.specs.declared.desc.Core.{Core}
@@ -13,7 +13,7 @@ use Rattle.bbm_rules.specs.Tree.{Node, held_at, is_childless, next_of, node_belo
 use Rattle.bbm_rules.specs.Values.{written_places}
 use Rattle.bbm_replay_trees.specs.Below.{Below}
 use Rattle.bbm_replay_trees.specs.Told.{AllFit, Childless, SameCores, SameNodes, is_at, next_in, notes}
-use Rattle.bbm_replay_trees.proofs.AttachLemmas.{core_none}
+use Rattle.bbm_replay_trees.proofs.AttachLemmas.{core_some}
 use Rattle.bbm_replay_trees.proofs.Elements.{In}
 use Rattle.bbm_replay_trees.proofs.FitLemmas.{at_page, is_at_page}
 use Rattle.bbm_replay_trees.proofs.HangLemmas.{down, held_written, table_core}
@@ -49,9 +49,9 @@ module _ (heading : Heading) (b : Below heading) (h : List Event) (kept_rules : 
           record {
             next = next;
             table = table;
-            holds_none = λ a inside. core_below next a table (at_page next a inside)
+            holds_none = λ a inside. ap is_some (core_below next a table (at_page next a inside)
                 ∙ ap (option_and_then (core_of n.kind (suc n.level)))
-                ((b.childless_table (notes heading h) n value next e).0 k a (at_page next a inside));
+                ((b.childless_table (notes heading h) n value next e).0 k a (at_page next a inside)));
           }
 
   pub childless_to : Childless core n place → is_childless heading Patterns (notes heading h) n value ≡ true
@@ -67,6 +67,7 @@ module _ (heading : Heading) (b : Below heading) (h : List Event) (kept_rules : 
           let at_next : is_at c.next a ≡ true = is_at_page heading h fit c.next a
           (subst (λ es. In (written_places es) a) (b.events_noted h)
           (held_written heading n.kind (suc n.level) a (notes heading h) (ap is_some k))) inside in
-          let no_core : option_and_then (core_of n.kind (suc n.level)) (held heading Patterns n.kind (suc n.level) a (notes heading h)) ≡ None
-          = sym (core_below c.next a c.table inside) ∙ c.holds_none a at_next in
-          sym k ∙ core_none heading b h (node_below n place c.next) a no_core
+          let held_none : is_some (held heading Patterns n.kind (suc n.level) a (notes heading h)) ≡ false
+          = sym (core_some heading b h (node_below n place c.next) a)
+          ∙ (ap is_some (sym (core_below c.next a c.table inside)) ∙ c.holds_none a at_next) in
+          absurd (true≢false (sym (ap is_some k) ∙ held_none))

@@ -1,8 +1,8 @@
 -- What the crates below prove of their definitions, as one record, so that each proof here takes it as one hypothesis.
-use Rattle.std.specs.Prelude.{◌≡◌, ℕ, suc, ◌≤◌, ◌↔◌, true, false, not, List, [], ◌∷◌, length, Some, None, Contains}
-use Rattle.std.specs.Prelude.{is_some}
+use Rattle.std.specs.Prelude.{◌≡◌, ℕ, suc, ◌<◌, ◌≤◌, ◌⊎◌, ◌↔◌, true, false, not, List, ◌∷◌, [], length, Some, None}
+use Rattle.std.specs.Prelude.{Contains, is_some}
 use Rattle.bbm_descriptor.specs.Descriptor.{core_of, is_valid}
-use Rattle.bbm_rules.specs.Prelude.{Barrier, Kind, Heading, Event, Unroot, Dsb}
+use Rattle.bbm_rules.specs.Prelude.{Barrier, Kind, Heading, Event, Init, Unroot, Dsb}
 use Rattle.bbm_rules.specs.Attach.{End, all_ends, attached_by, attached_from, end_at, ends_below, pages_of}
 use Rattle.bbm_rules.specs.Broken.{keeps}
 use Rattle.bbm_rules.specs.Claims.Trust.{Patterns}
@@ -10,14 +10,17 @@ use Rattle.bbm_rules.specs.Covers.{noted}
 use Rattle.bbm_rules.specs.Held.{held}
 use Rattle.bbm_rules.specs.Lists.{among, repeated}
 use Rattle.bbm_rules.specs.Notes.{Noted, events_of}
-use Rattle.bbm_rules.specs.Pages.{is_fresh, may_be_fresh}
+use Rattle.bbm_rules.specs.Pages.{is_fresh, is_null, may_be_fresh}
 use Rattle.bbm_rules.specs.Places.{page_of}
 use Rattle.bbm_rules.specs.Roots.{Declared, root_pages, start_of}
 use Rattle.bbm_rules.specs.PathSentences.{TwoPaths}
-use Rattle.bbm_rules.specs.Tree.{Node, held_at, is_childless, next_of, node_below, node_of, nodes_of_root, tree}
+use Rattle.bbm_rules.specs.Tree.{Node, held_at, in_tree, is_childless, next_of, node_below, node_of, nodes_of_root}
+use Rattle.bbm_rules.specs.Tree.{tree}
 use Rattle.bbm_rules.specs.TreeSentences.{IsNode, Leads}
-use Rattle.bbm_histories.specs.Tree.{Attaches, Proper}
+use Rattle.bbm_histories.specs.Steps.{held_after}
+use Rattle.bbm_histories.specs.Tree.{Attaches, HeldChange, Proper}
 use Rattle.bbm_histories.specs.TreeSteps.{HoldsNone, holds_above, is_under, node_where}
+use Rattle.bbm_histories.specs.Values.{HoldsPresent}
 
 pub record Below (heading : Heading) : Type 0 where
   pub events_noted : (h : List Event) → events_of (noted heading Patterns h) ≡ h
@@ -28,8 +31,8 @@ pub record Below (heading : Heading) : Type 0 where
   pub tree_sound : (h : List Noted) (n : Node) → Contains (tree heading Patterns h) n → IsNode heading Patterns h n
   pub tree_complete : (h : List Noted) (n : Node) → IsNode heading Patterns h n → Contains (tree heading Patterns h) n
   pub tree_below : (h : List Noted) (n : Node) (place value next : ℕ) → Contains (tree heading Patterns h) n
-      → page_of place ≡ n.page → held_at heading Patterns h n place ≡ Some value → next_of n.kind n.level value ≡ Some next
-      → Contains (tree heading Patterns h) (node_below n place next)
+      → page_of place ≡ n.page → held_at heading Patterns h n place ≡ Some value
+      → next_of n.kind n.level value ≡ Some next → Contains (tree heading Patterns h) (node_below n place next)
   pub node_taken : (h : List Noted) (page : ℕ) (n : Node) → node_of heading Patterns h page ≡ Some n
       → Contains (tree heading Patterns h) n × (n.page ≡ page)
   pub the_first : (h : List Event) → keeps heading Patterns h ≡ true → (n : Node)
@@ -74,6 +77,22 @@ pub record Below (heading : Heading) : Type 0 where
       (node_of heading Patterns (noted heading Patterns h) page)
   pub unattached : (h : List Noted) (e : Event) → attached_by heading Patterns h e ≡ None → (m : Node)
       → Attaches heading Patterns h e m → ⊥
+  pub gained : (h : List Event) (e : Event) → keeps heading Patterns (e ∷ h) ≡ true → (n : Node)
+      → Contains (tree heading Patterns (noted heading Patterns (e ∷ h))) n
+      → Contains (tree heading Patterns (noted heading Patterns h)) n
+      ⊎ (Attaches heading Patterns (noted heading Patterns h) e n
+      × (is_fresh heading Patterns (noted heading Patterns h) n.page ≡ true))
+  pub no_init : (h : List Event) (q page : ℕ) → keeps heading Patterns (Init q page ∷ h) ≡ true
+      → (in_tree heading Patterns (noted heading Patterns h) page ≡ false) × (is_null h page ≡ false)
+  pub held_step : (kind : Kind) (level place : ℕ) (n : Noted) (h : List Noted) → 0 < heading.pes
+      → held heading Patterns kind level place (n ∷ h) ≡ held_after heading Patterns kind level place n.event n h
+  pub held_changes : (h : List Event) (e : Event) → 0 < heading.pes → keeps heading Patterns (e ∷ h) ≡ true → (n : Node)
+      (place : ℕ) → Contains (tree heading Patterns (noted heading Patterns h)) n → page_of place ≡ n.page
+      → HeldChange n.kind n.level place e (held_at heading Patterns (noted heading Patterns h) n place)
+      (held_at heading Patterns (noted heading Patterns (e ∷ h)) n place)
+  pub holds_present : (h : List Event) (e : Event) → 0 < heading.pes → keeps heading Patterns (e ∷ h) ≡ true
+      → (n : Node) (place : ℕ) → Attaches heading Patterns (noted heading Patterns h) e n → page_of place ≡ n.page
+      → HoldsPresent heading Patterns (noted heading Patterns (e ∷ h)) n place
   pub fresh_others : (h : List Event) (e : Event) → keeps heading Patterns (e ∷ h) ≡ true → (page : ℕ)
       → ((m : Node) → Attaches heading Patterns (noted heading Patterns h) e m → m.page ≡ page → ⊥)
       → is_fresh heading Patterns (noted heading Patterns (e ∷ h)) page

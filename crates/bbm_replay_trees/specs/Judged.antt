@@ -1,19 +1,16 @@
 -- Whether pages can be attached. Source: project's own choice.
-use Rattle.std.specs.Prelude.{◌≡◌, ℕ, ◌+◌, ◌<◌, ◌≤◌, ◌⊎◌, Bool, true, false, ◌&&◌, List, [], length, Contains, Option}
-use Rattle.std.specs.Prelude.{Some, None}
+use Rattle.std.specs.Prelude.{◌≡◌, ℕ, ◌+◌, ◌<◌, ◌≤◌, ◌⊎◌, Bool, true, false, ◌&&◌, List, [], length, Contains}
 use Rattle.bbm_descriptor.specs.Descriptor.{desc_of}
 use Rattle.bbm_descriptor.specs.declared.desc.Desc.{Desc}
 use Rattle.bbm_regimes.specs.Same.{same_kind}
 use Rattle.bbm_regimes.specs.declared.regime.Kind.{Kind}
 use Rattle.bbm_regimes.specs.declared.regime.Kind.TheVariants.{Ttbr0}
-use Rattle.bbm_rules.specs.Prelude.{Heading, Event}
 use Rattle.bbm_rules.specs.Attach.{End}
-use Rattle.bbm_rules.specs.Claims.Trust.{Patterns}
 use Rattle.bbm_rules.specs.Covers.{is_global}
-use Rattle.bbm_rules.specs.Rules.{bad_kind, global_user, is_contiguous, not_fresh}
+use Rattle.bbm_rules.specs.Rules.{is_contiguous}
 use Rattle.bbm_rules.specs.Tree.{Node}
 use Rattle.bbm_replay_trees.specs.Paths.{Leads}
-use Rattle.bbm_replay_trees.specs.Told.{is_at, notes}
+use Rattle.bbm_replay_trees.specs.Told.{is_at}
 
 -- it passes, and no lesser number does
 pub record IsLeast (passes : ℕ → Type 0) (n : ℕ) : Type 0 where
@@ -22,11 +19,6 @@ pub record IsLeast (passes : ℕ → Type 0) (n : ℕ) : Type 0 where
 
 abbrev pub Never : (ℕ → Type 0) → Type 0
 Never passes = (m : ℕ) → passes m → ⊥
-
--- the least number that passes, or none where none does
-abbrev pub Finds : (ℕ → Type 0) → Option ℕ → Type 0
-Finds passes None = Never passes
-Finds passes (Some n) = IsLeast passes n
 
 -- a leaf with the Contiguous hint, and a leaf for every ASID in a tree of the lower range
 abbrev pub is_bad : Kind → Desc → Bool
@@ -42,7 +34,8 @@ module _ (fresh : ℕ → Bool) (value : ℕ → ℕ) (starts : List Node) where
     pub within : start.level + length places < 4
     pub leads : Leads fresh value start.kind start.level start.page places end
 
-  -- a path ends in the page, which isn't fresh; where the named pages are judged elsewhere, a path of one place at least
+  -- A path ends in the page, which isn't fresh; where the named pages are judged elsewhere, a path of at least one
+  -- place.
   pub record UnfreshEnd (named : Bool) (page : ℕ) : Type 0 where
     pub start : Node
     pub places : List ℕ
@@ -77,11 +70,3 @@ module _ (fresh : ℕ → Bool) (value : ℕ → ℕ) (starts : List Node) where
     pub path : IsPath start places end
     pub inside : is_at end.page place ≡ true
     pub passes : test start.kind (desc_of start.kind end.level (value place)) ≡ true
-
-  -- What a judge of these starts finds is what the rules say of the event: the least page that breaks the rule on fresh
-  -- pages, or none, and the least places that break the two rules on leaves, or none.
-  pub record Judging (heading : Heading) (h : List Event) (named : Bool) (e : Event) : Type 0 where
-    pub pages : (o : Option ℕ) → Finds (IsUnfresh named) o → not_fresh heading Patterns (notes heading h) e ≡ o
-    pub contiguous : (o : Option ℕ) → Finds (HasPlace is_bad) o → bad_kind heading Patterns (notes heading h) e ≡ o
-    pub global : (o : Option ℕ) → Finds (HasPlace is_user_global) o
-        → global_user heading Patterns (notes heading h) e ≡ o

@@ -1,12 +1,12 @@
 -- What a checker that keeps no history says of each page and place, by plain functions, and when that is what the
 -- definitions say after a history. A history is newest first. Source: project's own choice.
-use Rattle.std.specs.Prelude.{◌≡◌, ℕ, suc, ◌%◌, Bool, true, not, ◌&&◌, ◌==◌, List, Option, Some, None}
-use Rattle.std.specs.Prelude.{option_and_then, if◌then◌else◌}
+use Rattle.std.specs.Prelude.{◌≡◌, ℕ, suc, ◌%◌, Bool, true, false, not, ◌&&◌, ◌==◌, List, Option, Some, None}
+use Rattle.std.specs.Prelude.{is_some, option_and_then, if◌then◌else◌}
 use Rattle.bbm_descriptor.specs.Descriptor.{core_of, is_valid}
 use Rattle.bbm_descriptor.specs.declared.desc.Core.{Core}
 use Rattle.bbm_descriptor.specs.declared.desc.Core.TheVariants.{Table}
 use Rattle.bbm_events.specs.Fits.{fits_heading}
-use Rattle.bbm_rules.specs.Prelude.{Kind, Heading, Event}
+use Rattle.bbm_rules.specs.Prelude.{Kind, Heading, Event, Write}
 use Rattle.bbm_rules.specs.Claims.Trust.{Patterns}
 use Rattle.bbm_rules.specs.Covers.{noted}
 use Rattle.bbm_rules.specs.Lists.{among, any, every}
@@ -72,11 +72,18 @@ abbrev pub next_in : Option Core → Option ℕ
 next_in (Some (Table next ns)) = Some next
 next_in _ = None
 
+-- the core of what a place of a node holds after an event that leaves the node and is no DSB, by that before it: a
+-- valid write of the place makes it that of its value
+abbrev pub core_after : Node → Event → ℕ → Option Core → Option Core
+core_after n (Write pe place v) a before =
+    if a == place && is_valid n.kind n.level v then core_of n.kind n.level v else before
+core_after n _ a before = before
+
 -- Childless: the place of a node holds a table, and no place of its next page holds anything.
 pub record Childless (core : Kind → ℕ → ℕ → Option Core) (n : Node) (place : ℕ) : Type 0 where
   pub next : ℕ
   pub table : next_in (core n.kind n.level place) ≡ Some next
-  pub holds_none : (a : ℕ) → is_at next a ≡ true → core n.kind (suc n.level) a ≡ None
+  pub holds_none : (a : ℕ) → is_at next a ≡ true → is_some (core n.kind (suc n.level) a) ≡ false
 
 -- The node m hangs at a place of the node n.
 pub record Hangs (node : ℕ → Option Node) (core : Kind → ℕ → ℕ → Option Core) (place : ℕ) (m : Node) : Type 0 where

@@ -4,7 +4,10 @@ ghost use Rattle.bbm_events.specs.Heading.{Heading};
 ghost use Rattle.bbm_replay_trees.specs.Below.{Below};
 
 use bbm_descriptor::laws::law_core_where_valid;
-use bbm_histories::{law_childless_step, law_fresh_step, law_node_step, law_one_node};
+use bbm_histories::{
+    law_childless_step, law_fresh_content, law_fresh_step, law_held_changes, law_held_step,
+    law_node_step, law_one_node, law_one_position,
+};
 use bbm_rules::{
     law_held, law_notes_keep_the_events, law_paths, law_repeated, law_root_pages, law_tree,
 };
@@ -15,11 +18,15 @@ pub(crate) fn below()
 {
     law_childless_step();
     law_core_where_valid();
+    law_fresh_content();
     law_fresh_step();
     law_held();
+    law_held_changes();
+    law_held_step();
     law_node_step();
     law_notes_keep_the_events();
     law_one_node();
+    law_one_position();
     law_paths();
     law_repeated();
     law_root_pages();

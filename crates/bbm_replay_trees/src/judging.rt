@@ -1,6 +1,7 @@
 //! Laws of the three rules on attached pages.
 
-ghost use Rattle.std.specs.Prelude.{◌≡◌, ℕ, ◌<◌, ◌⊎◌, Bool, true, false, not, ◌||◌, List, [], ◌∷◌, Option, Some, None, is_some};
+ghost use Rattle.std.specs.Prelude.{◌≡◌, ℕ, ◌<◌, ◌⊎◌, Bool, true, false, not, ◌||◌, List, [], ◌∷◌, Option, Some, None};
+ghost use Rattle.std.specs.Prelude.{is_some};
 ghost use Rattle.bbm_regimes.specs.declared.regime.Kind.{Kind};
 ghost use Rattle.bbm_descriptor.specs.Descriptor.{desc_of};
 ghost use Rattle.bbm_descriptor.specs.declared.desc.Core.{Core};
@@ -14,7 +15,8 @@ ghost use Rattle.bbm_rules.specs.Lists.{if_so};
 ghost use Rattle.bbm_rules.specs.Places.{page_of};
 ghost use Rattle.bbm_rules.specs.Rules.{bad_kind, global_user, not_fresh};
 ghost use Rattle.bbm_rules.specs.Tree.{Node, next_of, node_below, nodes_of_root};
-ghost use Rattle.bbm_replay_trees.specs.Judged.{Judging, is_bad, is_user_global};
+ghost use Rattle.bbm_replay_trees.specs.Judged.{is_bad, is_user_global};
+ghost use Rattle.bbm_replay_trees.specs.Judging.{Judging};
 ghost use Rattle.bbm_replay_trees.specs.Told.{AllFit, SameCores, SameFresh, SameNodes, SameNull, SameValues, notes};
 
 use crate::below::below;

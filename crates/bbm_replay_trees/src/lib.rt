@@ -2,12 +2,14 @@
 #![tactic(auto)]
 
 mod below;
+pub mod cores;
 pub mod judging;
 pub mod nodes;
 pub mod pages;
 pub mod places;
 pub mod rules;
 
+pub use cores::law_cores;
 pub use judging::{law_judging, law_unattached};
 pub use nodes::{law_neighbours, law_nodes};
 pub use pages::{law_fresh_pages, law_pages, law_values};
@@ -16,6 +18,7 @@ pub use rules::{law_limits_of_events, law_page_rules, law_rules_of_events, law_w
 
 #[cfg(test)]
 mod tests {
+    use crate::cores::law_cores;
     use crate::judging::{law_judging, law_unattached};
     use crate::nodes::{law_neighbours, law_nodes};
     use crate::pages::{law_fresh_pages, law_pages, law_values};
@@ -27,6 +30,7 @@ mod tests {
     #[test]
     fn laws_hold() {
         law_childless_by_cores();
+        law_cores();
         law_fresh_pages();
         law_judging();
         law_limbo_by_values();

@@ -22,10 +22,10 @@ ghost use Rattle.bbm_replay_trees.specs.Told.{is_held_by, kept, next_in, notes};
 
 use crate::below::below;
 
-/// The node of each page after an event that breaks no rule, by that before it: a `root`, and a write that attaches, add
-/// the nodes that their paths through fresh pages reach; an `unroot` leaves the nodes of other roots; a DSB leaves those
-/// of which each place above still holds something; a write that attaches nothing, and every other event, leave all.
-/// The law is the contract.
+/// The node of each page after an event that breaks no rule, by that before it: a `root`, and a write that attaches,
+/// add the nodes that their paths through fresh pages reach; an `unroot` leaves the nodes of other roots; a DSB leaves
+/// those of which each place above still holds something; a write that attaches nothing, and every other event, leave
+/// all. The law is the contract.
 pub fn law_nodes()
     ensures root { (heading : Heading) (h : List Event) (node next_node : ℕ → Option Node) (fresh : ℕ → Bool)
         (value : ℕ → ℕ) (pe page : ℕ) (kind : Kind) (lock : Option ℕ) → Proper heading → AllFit heading h →

@@ -1,8 +1,8 @@
 //! Laws of the rules by the kind of event: which of them an event can break, and what they say by words that need no
 //! history.
 
-ghost use Rattle.std.specs.Prelude.{◌≡◌, ℕ, Bool, true, false, not, ◌&&◌, ◌||◌, ◌==◌, ◌%◌, nat_le, List, length, Option};
-ghost use Rattle.std.specs.Prelude.{Some, None, Contains, is_some, filter, option_and_then};
+ghost use Rattle.std.specs.Prelude.{◌≡◌, ℕ, Bool, true, false, not, ◌&&◌, ◌||◌, ◌==◌, ◌%◌, nat_le, List, length};
+ghost use Rattle.std.specs.Prelude.{Option, Some, None, Contains, is_some, filter, option_and_then};
 ghost use Rattle.bbm_regimes.specs.declared.regime.Kind.{Kind};
 ghost use Rattle.bbm_regimes.specs.declared.regime.Reg.{Reg};
 ghost use Rattle.bbm_regimes.specs.declared.regime.Which.TheVariants.{Pages, Roots, Values};
@@ -85,9 +85,9 @@ pub fn law_write_rules()
 }
 
 /// What the rule on pages in use says: of an `init`, by whether the page is in a tree or a null page; of a `root`, by
-/// which of its pages aren't fresh; of a `null`, by whether the page is fresh and all its values are 0. So where it isn't
-/// broken, the page of an `init` is in no tree and no null page, and the pages of a `root` are fresh. The law is the
-/// contract.
+/// which of its pages aren't fresh; of a `null`, by whether the page is fresh and all its values are 0. So where it
+/// isn't broken, the page of an `init` is in no tree and no null page, and the pages of a `root` are fresh. The law is
+/// the contract.
 pub fn law_page_rules()
     ensures init { (heading : Heading) (h : List Event) (node : ℕ → Option Node) (null : ℕ → Bool) (pe page : ℕ) →
         SameNodes heading h node → SameNull h null →

@@ -1,6 +1,9 @@
 pub mod Texts
 pub mod Refusals
 pub mod Puts
+pub mod Pouring
 pub mod Stages
 pub mod ReadBytes
-pub mod Obeying
+pub mod Judgements
+pub mod RunLines
+pub mod Served

@@ -1,92 +1,29 @@
--- Which bytes are read for a verdict: all of an accepted log, and else those up to the line that decides.
-use Rattle.std.proofs.Common.{◌≡◌, ◌⊎◌, ℕ, zero, suc, ◌+◌, ◌≤◌, ◌<◌, Bool, true, false, ◌==◌, nat_eq, if◌then◌else◌, List, [], ◌∷◌, ◌++◌, length, drop, Option, Some, None, Result, Ok, Err, refl, ap, sym, ◌∙◌, subst, inl, inr, arith, append_assoc, append-nil}
+-- Which bytes are read for what is said of a text: all of them where no line is named, and else those up to the line.
+use Rattle.std.proofs.Common.{◌≡◌, ◌⊎◌, ℕ, zero, suc, ◌+◌, ◌≤◌, ◌<◌, Bool, true, false, nat_eq, if◌then◌else◌, List, [], ◌∷◌, ◌++◌, length, drop, Option, Some, None, refl, ap, sym, ◌∙◌, subst, inl, inr, arith, append_assoc, append-nil}
 use Rattle.std.proofs.Math.ListN.{drop_of_length-le}
 use Rattle.std.proofs.lemmas.Bool.{and_parts}
 use Rattle.std.proofs.lemmas.Bool.Decides.{nat_tests}
 use Rattle.bbm_io.specs.Flow.{plain}
-use Rattle.bbm_events.specs.declared.event.Event.{Event as EventOf}
-use Rattle.bbm_events.specs.declared.event.Item.{Item}
-use Rattle.bbm_events.specs.declared.event.Item.TheVariants as item
-use Rattle.bbm_events.specs.declared.malformed.Malformed.{Malformed as Cause}
-use Rattle.bbm_events.specs.Heading.{Heading}
-use Rattle.bbm_events.specs.Lines.{header_of, item_of}
-use Rattle.bbm_rules.specs.declared.verdict.Verdict.{Verdict}
-use Rattle.bbm_rules.specs.declared.verdict.Verdict.TheVariants.{Accepted, Refused, Malformed, Limit}
-use Rattle.bbm_regimes.specs.declared.regime.Which.{Which}
-use Rattle.bbm_rules.specs.Broken.{Breach, broken}
-use Rattle.bbm_rules.specs.Claims.{Trust, Patterns}
-use Rattle.bbm_rules.specs.Limits.{limit_of}
-use Rattle.bbm_rules.specs.declared.limits.Limits.{Limits}
-use Rattle.bbm_rules.specs.Outcome.{Text, before_text, text_of, bytes_of, is_too_long, limit_at, after_kept, Progress, AtHeader, AtEvents, AtEnd, Step, Decides, GoesOn, after_header, after_item, after_judged, after_line, too_long_at, cut_at, end_of, Outcome, outcome_after, outcome_from, outcome_of, verdict_of_bytes, events_in, read_lines}
-use Rattle.bbm_session.specs.Run.{UpTo, ReadFor, ReadTo, ReadToFault, ReadToWant}
+use Rattle.bbm_rules.specs.Outcome.{Text, before_text, text_of, bytes_of, is_too_long}
+use Rattle.bbm_session.specs.Fold.{Fold, Turned, Halts, Passes, Ending, end_by, ending_after, ending_from, ending_at, lines_from}
+use Rattle.bbm_session.specs.Run.{ReadPart}
 use Rattle.bbm_session.specs.Stages.{plain_lines, Broke, Breaks, Starved, Starves}
-use Rattle.bbm_session.proofs.Stages.{step_of-short, step_of-long, end_of-short, end_of-long, seam, bytes_of-append, plain_lines-append}
+use Rattle.bbm_session.proofs.Stages.{turned-short, turned-long, end-short, end-long, seam, bytes_of-append, plain_lines-append}
 use Rattle.bbm_session.proofs.Texts.{plain-head, text_of-line, text_of-plain, bytes_of-text_of}
 
--- ---- the verdict that a line decides names the line
-
-abbrev Names : ℕ → Verdict → Type 0
-Names n (Accepted events) = ⊥
-Names n (Refused line rule at label) = line ≡ n
-Names n (Malformed line cause) = line ≡ n
-Names n (Limit line which) = line ≡ n
-
-abbrev Says : ℕ → Step → Type 0
-Says n (Decides verdict) = Names n verdict
-Says n (GoesOn progress) = Unit {0}
-
-says_if : (b : Bool) (n : ℕ) (s t : Step) → Says n s → Says n t → Says n (if b then s else t)
-says_if true n s t first second = first
-says_if false n s t first second = second
-
-says_header : (n : ℕ) (r : Result Heading Cause) → Says n (after_header n r)
-says_header n (Ok heading) = tt
-says_header n (Err cause) = refl
-
-says_kept : (n : ℕ) (heading : Heading) (h : List EventOf) (e : EventOf) (limit : Option Which) → Says n (after_kept n heading h e limit)
-says_kept n heading h e (Some which) = refl
-says_kept n heading h e None = tt
-
-says_judged : (limits : Limits) (n : ℕ) (heading : Heading) (h : List EventOf) (e : EventOf) (label : Option (List ℕ)) (breach : Option Breach)
-    → Says n (after_judged limits n heading h e label breach)
-says_judged limits n heading h e label (Some breach) = refl
-says_judged limits n heading h e label None = says_kept n heading h e (limit_at limits n h (limit_of h e))
-
-says_item : (trust : Trust) (limits : Limits) (n : ℕ) (heading : Heading) (h : List EventOf) (r : Result Item Cause)
-    → Says n (after_item trust limits n heading h r)
-says_item trust limits n heading h (Ok (item.Event e label)) =
-    says_judged limits n heading h e label (broken heading trust h e)
-says_item trust limits n heading h (Ok (item.End count)) = says_if (count == length h) n _ _ tt refl
-says_item trust limits n heading h (Err cause) = refl
-
-says_line : (trust : Trust) (limits : Limits) (n : ℕ) (p : Progress) (line : List ℕ) → Says n (after_line trust limits n p line)
-says_line trust limits n AtHeader line = says_header n (header_of line)
-says_line trust limits n (AtEvents heading h) line = says_item trust limits n heading h (item_of heading line)
-says_line trust limits n (AtEnd h) line = refl
-
-names_long : (n : ℕ) (p : Progress) → Names n (too_long_at n p)
-names_long n AtHeader = refl
-names_long n (AtEvents heading h) = refl
-names_long n (AtEnd h) = refl
-
--- ---- what was read, from line number n on
+-- ---- what was read, from line number n on, by the line that is named
 
 abbrev FromTo : ℕ → ℕ → Text → List ℕ → Type 0
 FromTo n line read unread =
     ((n + length read.lines ≡ suc line) × (read.rest ≡ []))
     ⊎ ((n + length read.lines ≡ line) × ((length read.rest ≡ 201) ⊎ (unread ≡ [])))
 
-abbrev From : ℕ → Verdict → Text → List ℕ → Type 0
-From n (Accepted events) read unread = unread ≡ []
-From n (Refused line rule at label) read unread = FromTo n line read unread
-From n (Malformed line cause) read unread = FromTo n line read unread
-From n (Limit line which) read unread = FromTo n line read unread
+abbrev pub ByName : ℕ → Option ℕ → Text → List ℕ → Type 0
+ByName n None read unread = unread ≡ []
+ByName n (Some line) read unread = FromTo n line read unread
 
-from_named : (n : ℕ) (v : Verdict) (read : Text) (unread : List ℕ) → Names n v → FromTo n n read unread → From n v read unread
-from_named n (Accepted events) read unread names f = absurd names
-from_named n (Refused line rule at label) read unread names f = subst (λ l. FromTo n l read unread) (sym names) f
-from_named n (Malformed line cause) read unread names f = subst (λ l. FromTo n l read unread) (sym names) f
-from_named n (Limit line which) read unread names f = subst (λ l. FromTo n l read unread) (sym names) f
+by_named : (n : ℕ) (name : Option ℕ) (read : Text) (unread : List ℕ) → name ≡ Some n → FromTo n n read unread → ByName n name read unread
+by_named n name read unread is f = subst (λ (o : Option ℕ). ByName n o read unread) (sym is) f
 
 longer_to : (n l : ℕ) (line : List ℕ) (lines : List (List ℕ)) (rest unread : List ℕ)
     → FromTo (suc n) l (record { lines = lines; rest = rest }) unread
@@ -94,18 +31,17 @@ longer_to : (n l : ℕ) (line : List ℕ) (lines : List (List ℕ)) (rest unread
 longer_to n l line lines rest unread (inl (count, none)) = inl (omega (arith, count), none)
 longer_to n l line lines rest unread (inr (count, end)) = inr (omega (arith, count), end)
 
-longer : (n : ℕ) (v : Verdict) (line : List ℕ) (lines : List (List ℕ)) (rest unread : List ℕ)
-    → From (suc n) v (record { lines = lines; rest = rest }) unread
-    → From n v (record { lines = line ∷ lines; rest = rest }) unread
-longer n (Accepted events) line lines rest unread f = f
-longer n (Refused l rule at label) line lines rest unread f = longer_to n l line lines rest unread f
-longer n (Malformed l cause) line lines rest unread f = longer_to n l line lines rest unread f
-longer n (Limit l which) line lines rest unread f = longer_to n l line lines rest unread f
+longer : (n : ℕ) (name : Option ℕ) (line : List ℕ) (lines : List (List ℕ)) (rest unread : List ℕ)
+    → ByName (suc n) name (record { lines = lines; rest = rest }) unread
+    → ByName n name (record { lines = line ∷ lines; rest = rest }) unread
+longer n None line lines rest unread f = f
+longer n (Some l) line lines rest unread f = longer_to n l line lines rest unread f
 
-record Read (n : ℕ) (o : Outcome) (bytes : List ℕ) : Type 0 where
+-- the bytes that were read for what is said, if it names this line
+record Read (n : ℕ) (name : Option ℕ) (unread bytes : List ℕ) : Type 0 where
   taken : List ℕ
-  is : bytes ≡ taken ++ o.unread
-  to : From n o.verdict (text_of taken) o.unread
+  is : bytes ≡ taken ++ unread
+  to : ByName n name (text_of taken) unread
 
 -- ---- lines have no newline
 
@@ -151,112 +87,107 @@ split (suc n) (b ∷ bytes) h p =
       clean = rw (parts.0, s.clean) refl;
     }
 
--- a long line decides: 201 bytes of it are read
-read_long : (n : ℕ) (v : Verdict) (log : List EventOf) (line more : List ℕ) → 200 < length line → plain line ≡ true → Names n v
-    → Read n (record { verdict = v; unread = drop 201 (line ++ more); log = log }) (line ++ more)
-read_long n v log line more h p names =
+-- a long line is named: 201 bytes of it are read
+read_long : (n : ℕ) (name : Option ℕ) (line more : List ℕ) → 200 < length line → plain line ≡ true → name ≡ Some n
+    → Read n name (drop 201 (line ++ more)) (line ++ more)
+read_long n name line more h p named =
     let s = split 201 line (omega (arith, h)) p in
     let whole : line ++ more ≡ s.piece ++ (s.more ++ more) = ap (λ x. x ++ more) s.is ∙ append_assoc s.piece s.more more in
     let unread : drop 201 (line ++ more) ≡ s.more ++ more = ap (λ x. drop 201 x) whole ∙ seam s.piece (s.more ++ more) s.long in
     record {
       taken = s.piece;
       is = whole ∙ ap (λ x. s.piece ++ x) (sym unread);
-      to = from_named n v (text_of s.piece) (drop 201 (line ++ more)) names
+      to = by_named n name (text_of s.piece) (drop 201 (line ++ more)) named
           (rw (text_of-plain s.piece s.clean) (inr (omega arith, inl s.long)));
     }
 
--- a line decides
-read_line : (n : ℕ) (v : Verdict) (log : List EventOf) (line more : List ℕ) → plain line ≡ true → Names n v
-    → Read n (record { verdict = v; unread = more; log = log }) (line ++ 10 ∷ more)
-read_line n v log line more p names = record {
+-- a line is named
+read_line : (n : ℕ) (name : Option ℕ) (line more : List ℕ) → plain line ≡ true → name ≡ Some n → Read n name more (line ++ 10 ∷ more)
+read_line n name line more p named = record {
   taken = line ++ 10 ∷ [];
   is = sym (append_assoc line (10 ∷ []) more);
-  to = from_named n v (text_of (line ++ 10 ∷ [])) more names (rw (text_of-line line [] p) (inl (omega arith, refl)));
+  to = by_named n name (text_of (line ++ 10 ∷ [])) more named (rw (text_of-line line [] p) (inl (omega arith, refl)));
 }
 
 -- the input ends
-from_cut : (n : ℕ) (p : Progress) (rest unread : List ℕ) → plain rest ≡ true → unread ≡ []
-    → From n (cut_at n p rest) (text_of rest) unread
-from_cut n (AtEnd h) [] unread clean none = none
-from_cut n (AtEnd h) (b ∷ rest) unread clean none = rw (text_of-plain (b ∷ rest) clean) (inr (omega arith, inr none))
-from_cut n AtHeader rest unread clean none = rw (text_of-plain rest clean) (inr (omega arith, inr none))
-from_cut n (AtEvents heading h) rest unread clean none = rw (text_of-plain rest clean) (inr (omega arith, inr none))
+by_cut : (n : ℕ) (name : Option ℕ) (rest unread : List ℕ) → plain rest ≡ true → unread ≡ [] → (name ≡ Some n) ⊎ (name ≡ None) → ByName n name (text_of rest) unread
+by_cut n name rest unread clean none (inl is) =
+    by_named n name (text_of rest) unread is (rw (text_of-plain rest clean) (inr (omega arith, inr none)))
+by_cut n name rest unread clean none (inr is) = subst (λ (o : Option ℕ). ByName n o (text_of rest) unread) (sym is) none
 
-read_end : (n : ℕ) (p : Progress) (rest : List ℕ) (b : Bool) → is_too_long rest ≡ b → plain rest ≡ true
-    → Read n (record { verdict = end_of n p rest; unread = drop 201 rest; log = events_in p }) rest
-read_end n p rest true long clean =
-    let h : 200 < length rest = grind (arith, nat_tests) in
-    let whole : rest ++ [] ≡ rest = append-nil rest in
-    rw (end_of-long n p rest h)
-    (subst (λ x. Read n (record { verdict = too_long_at n p; unread = drop 201 x; log = events_in p }) x) whole
-    (read_long n (too_long_at n p) (events_in p) rest [] h clean (names_long n p)))
-read_end n p rest false long clean =
-    let h : length rest ≤ 200 = grind (arith, nat_tests) in
-    let none : drop 201 rest ≡ [] = drop_of_length-le rest {i = 201} (omega (arith, h)) in
-    rw (end_of-short n p rest h) (record {
-      taken = rest;
-      is = sym (append-nil rest) ∙ ap (λ x. rest ++ x) (sym none);
-      to = from_cut n p rest (drop 201 rest) clean none;
-    })
+-- What is said by a fold names the line at which it is said, or none at the end.
+pub record Named {P V : Type 0} (fold : Fold P V) (names : V → Option ℕ) : Type 0 where
+  pub line : (n : ℕ) (p : P) (l : List ℕ) (v : V) → fold.line n p l ≡ Halts v → names v ≡ Some n
+  pub long : (n : ℕ) (p : P) → names (fold.long n p) ≡ Some n
+  pub cut : (n : ℕ) (p : P) (rest : List ℕ) → (names (fold.cut n p rest) ≡ Some n) ⊎ (names (fold.cut n p rest) ≡ None)
 
--- ---- the lines, one after another
+module _ {P V : Type 0} (fold : Fold P V) where
+  module _ (names : V → Option ℕ) (named : Named fold names) where
+    abbrev ReadBy : ℕ → Ending V → List ℕ → Type 0
+    ReadBy n o bytes = Read n (names o.says) o.unread bytes
 
-module _ (trust : Trust) (limits : Limits) (n : ℕ) (p : Progress) (line : List ℕ) (lines : List (List ℕ)) (rest : List ℕ) where
-  abbrev Behind : Type 0
-  Behind = (next : Progress) → Read (suc n) (outcome_from trust limits (suc n) next lines rest) (bytes_of lines rest)
+    read_end : (n : ℕ) (p : P) (rest : List ℕ) (b : Bool) → is_too_long rest ≡ b → plain rest ≡ true
+        → ReadBy n (record { says = end_by fold n p rest; unread = drop 201 rest }) rest
+    read_end n p rest true long clean =
+        let h : 200 < length rest = grind (arith, nat_tests) in
+        let whole : rest ++ [] ≡ rest = append-nil rest in
+        let name : names (end_by fold n p rest) ≡ Some n = ap names (end-long fold n p rest h) ∙ named.long n p in
+        subst (λ x. Read n (names (end_by fold n p rest)) (drop 201 x) x) whole
+        (read_long n (names (end_by fold n p rest)) rest [] h clean name)
+    read_end n p rest false long clean =
+        let h : length rest ≤ 200 = grind (arith, nat_tests) in
+        let none : drop 201 rest ≡ [] = drop_of_length-le rest {i = 201} (omega (arith, h)) in
+        rw (end-short fold n p rest h) (record {
+          taken = rest;
+          is = sym (append-nil rest) ∙ ap (λ x. rest ++ x) (sym none);
+          to = by_cut n (names (fold.cut n p rest)) rest (drop 201 rest) clean none (named.cut n p rest);
+        })
 
-  by_step : (s : Step) → Says n s → is_too_long line ≡ false → plain line ≡ true → Behind
-      → Read n (outcome_after p line lines rest (λ next. outcome_from trust limits (suc n) next lines rest) s) (line ++ 10 ∷ bytes_of lines rest)
-  by_step (Decides v) says short clean behind = rw short (read_line n v (events_in p) line (bytes_of lines rest) clean says)
-  by_step (GoesOn next) says short clean behind =
-      let k = behind next in
-      let o = outcome_from trust limits (suc n) next lines rest in
-      record {
-        taken = line ++ 10 ∷ k.taken;
-        is = ap (λ x. line ++ 10 ∷ x) k.is ∙ sym (append_assoc line (10 ∷ k.taken) o.unread);
-        to = rw (text_of-line line k.taken clean)
-            (longer n o.verdict line (text_of k.taken).lines (text_of k.taken).rest o.unread k.to);
-      }
+    -- ---- the lines, one after another
 
-  by_length : (b : Bool) → is_too_long line ≡ b → plain line ≡ true → Behind
-      → Read n (outcome_from trust limits n p (line ∷ lines) rest) (line ++ 10 ∷ bytes_of lines rest)
-  by_length true long clean behind =
-      let h : 200 < length line = grind (arith, nat_tests) in
-      rw (step_of-long trust limits n p line h, long)
-      (read_long n (too_long_at n p) (events_in p) line (10 ∷ bytes_of lines rest) h clean (names_long n p))
-  by_length false short clean behind =
-      let h : length line ≤ 200 = grind (arith, nat_tests) in
-      rw (step_of-short trust limits n p line h) (by_step (after_line trust limits n p line) (says_line trust limits n p line) short clean behind)
+    module _ (n : ℕ) (p : P) (line : List ℕ) (lines : List (List ℕ)) (rest : List ℕ) where
+      abbrev Behind : Type 0
+      Behind = (next : P) → ReadBy (suc n) (ending_from fold (suc n) next lines rest) (bytes_of lines rest)
 
-reads : (trust : Trust) (limits : Limits) (n : ℕ) (p : Progress) (lines : List (List ℕ)) (rest : List ℕ) → plain_lines lines ≡ true → plain rest ≡ true
-    → Read n (outcome_from trust limits n p lines rest) (bytes_of lines rest)
-reads trust limits n p [] rest ls r = read_end n p rest (is_too_long rest) refl r
-reads trust limits n p (line ∷ lines) rest ls r =
-    let parts = and_parts (plain line) (plain_lines lines) ls in
-    by_length trust limits n p line lines rest (is_too_long line) refl parts.0 (λ next. reads trust limits (suc n) next lines rest parts.1 r)
+      by_turn : (t : Turned P V) → ((v : V) → t ≡ Halts v → names v ≡ Some n) → is_too_long line ≡ false → plain line ≡ true → Behind
+          → ReadBy n (ending_after line lines rest (λ next. ending_from fold (suc n) next lines rest) t) (line ++ 10 ∷ bytes_of lines rest)
+      by_turn (Halts v) says short clean behind = rw short (read_line n (names v) line (bytes_of lines rest) clean (says v refl))
+      by_turn (Passes next) says short clean behind =
+          let k = behind next in
+          let o = ending_from fold (suc n) next lines rest in
+          record {
+            taken = line ++ 10 ∷ k.taken;
+            is = ap (λ x. line ++ 10 ∷ x) k.is ∙ sym (append_assoc line (10 ∷ k.taken) o.unread);
+            to = rw (text_of-line line k.taken clean)
+                (longer n (names o.says) line (text_of k.taken).lines (text_of k.taken).rest o.unread k.to);
+          }
 
--- ---- from line 1 on
+      by_length : (b : Bool) → is_too_long line ≡ b → plain line ≡ true → Behind
+          → ReadBy n (ending_from fold n p (line ∷ lines) rest) (line ++ 10 ∷ bytes_of lines rest)
+      by_length true long clean behind =
+          let h : 200 < length line = grind (arith, nat_tests) in
+          rw (turned-long fold n p line h, long)
+          (read_long n (names (fold.long n p)) line (10 ∷ bytes_of lines rest) h clean (named.long n p))
+      by_length false short clean behind =
+          let h : length line ≤ 200 = grind (arith, nat_tests) in
+          rw (turned-short fold n p line h) (by_turn (fold.line n p line) (λ v is. named.line n p line v is) short clean behind)
 
-up_to : (line : ℕ) (read : Text) (unread : List ℕ) → FromTo 1 line read unread → UpTo line read unread
-up_to line read unread (inl (count, none)) = inl (omega (arith, count), none)
-up_to line read unread (inr (count, end)) = inr (omega (arith, count), end)
+    reads : (n : ℕ) (p : P) (lines : List (List ℕ)) (rest : List ℕ) → plain_lines lines ≡ true → plain rest ≡ true
+        → ReadBy n (ending_from fold n p lines rest) (bytes_of lines rest)
+    reads n p [] rest ls r = read_end n p rest (is_too_long rest) refl r
+    reads n p (line ∷ lines) rest ls r =
+        let parts = and_parts (plain line) (plain_lines lines) ls in
+        by_length n p line lines rest (is_too_long line) refl parts.0 (λ next. reads (suc n) next lines rest parts.1 r)
 
-read_for : (v : Verdict) (read : Text) (unread : List ℕ) → From 1 v read unread → ReadFor v read unread
-read_for (Accepted events) read unread f = f
-read_for (Refused line rule at label) read unread f = up_to line read unread f
-read_for (Malformed line cause) read unread f = up_to line read unread f
-read_for (Limit line which) read unread f = up_to line read unread f
+    -- what was read of these bytes, from line 1 on
+    pub read-by : (start : P) (bytes : List ℕ) → (taken : List ℕ) × (bytes ≡ taken ++ (ending_at fold 1 start bytes).unread)
+        × ByName 1 (names (ending_at fold 1 start bytes).says) (text_of taken) (ending_at fold 1 start bytes).unread
+    read-by start bytes =
+        let clean = plain_text bytes in
+        let k = reads 1 start (text_of bytes).lines (text_of bytes).rest clean.0 clean.1 in
+        (k.taken, sym (bytes_of-text_of bytes) ∙ k.is, k.to)
 
--- what is left unread, where the rest was read
-pub read-to : (limits : Limits) (bytes : List ℕ) (left : Option (List ℕ)) → left ≡ Some (outcome_of Patterns limits bytes).unread
-    → ReadTo bytes (verdict_of_bytes Patterns limits bytes) left
-read-to limits bytes left is =
-    let o = outcome_of Patterns limits bytes in
-    let clean = plain_text bytes in
-    let k = reads Patterns limits 1 AtHeader (text_of bytes).lines (text_of bytes).rest clean.0 clean.1 in
-    (k.taken, o.unread, sym (bytes_of-text_of bytes) ∙ k.is, is, read_for o.verdict (text_of k.taken) o.unread k.to)
-
--- ---- of a log whose judging stopped before a verdict
+-- ---- of a text whose reading stopped before anything was said
 
 bytes_of-behind : (lines : List (List ℕ)) (piece rest : List ℕ) → bytes_of lines (piece ++ rest) ≡ bytes_of lines piece ++ rest
 bytes_of-behind [] piece rest = refl
@@ -270,47 +201,71 @@ text_of-bytes_of (line ∷ lines) rest clean r =
     let parts = and_parts (plain line) (plain_lines lines) clean in
     rw (text_of-line line (bytes_of lines rest) parts.0, text_of-bytes_of lines rest parts.1 r) refl
 
-fault_at : (limits : Limits) (bytes rest : List ℕ) → Broke Patterns limits 1 AtHeader bytes rest → ReadToFault limits bytes (Some rest)
-fault_at limits bytes rest broke =
-    let lines = broke.passed.lines in
-    let text = text_of-bytes_of lines broke.piece broke.passed.clean broke.clean in
-    record {
-      part = record {
-        read = bytes_of lines broke.piece;
-        unread = rest;
-        is = broke.passed.is ∙ bytes_of-behind lines broke.piece rest;
-        now = refl;
-      };
-      reached = broke.reached;
-      undecided = ap (λ (t : Text). read_lines Patterns limits t.lines) text ∙ broke.passed.read;
-      short = subst (λ (t : Text). length t.rest ≤ 200) (sym text) broke.short;
-    }
+-- a read failed: what was read, of which no line halts
+pub record ToFault {P V : Type 0} (fold : Fold P V) (start : P) (bytes : List ℕ) (left : Option (List ℕ)) : Type 0 where
+  pub part : ReadPart bytes left
+  pub reached : P
+  pub lines : List (List ℕ)
+  pub are : (text_of part.read).lines ≡ lines
+  pub undecided : lines_from fold 1 start lines ≡ Some reached
+  pub short : length (text_of part.read).rest ≤ 200
 
-pub to_fault : (limits : Limits) (bytes : List ℕ) (left : Option (List ℕ)) → Breaks Patterns limits 1 AtHeader (Some bytes) left → ReadToFault limits bytes left
-to_fault limits bytes None breaks = absurd breaks
-to_fault limits bytes (Some rest) breaks = fault_at limits bytes rest breaks
+-- there was no memory for a line: what was read ends with it
+pub record ToWant {P V : Type 0} (fold : Fold P V) (start : P) (bytes : List ℕ) (left : Option (List ℕ)) : Type 0 where
+  pub part : ReadPart bytes left
+  pub before : List (List ℕ)
+  pub line : List ℕ
+  pub reached : P
+  pub lines : text_of part.read ≡ record { lines = before ++ line ∷ []; rest = [] }
+  pub undecided : lines_from fold 1 start before ≡ Some reached
+  pub short : length line ≤ 200
+  pub needs : fold.needs (suc (length before)) reached line ≡ true
 
-want_at : (limits : Limits) (bytes rest : List ℕ) → Starved Patterns limits 1 AtHeader bytes rest → ReadToWant limits bytes (Some rest)
-want_at limits bytes rest starved =
-    let lines = starved.passed.lines in
-    let line = starved.line in
-    let whole : List (List ℕ) = lines ++ line ∷ [] in
-    let last : plain_lines (line ∷ []) ≡ true = rw starved.clean refl in
-    let text = text_of-bytes_of whole [] (plain_lines-append lines (line ∷ []) starved.passed.clean last) refl in
-    let behind : bytes_of lines (line ++ 10 ∷ rest) ≡ bytes_of whole [] ++ rest =
-    ap (bytes_of lines) (sym (append_assoc line (10 ∷ []) rest)) ∙ bytes_of-behind lines (line ++ 10 ∷ []) rest
-    ∙ ap (λ x. x ++ rest) (sym (bytes_of-append lines (line ∷ []) [])) in
-    record {
-      part = record { read = bytes_of whole []; unread = rest; is = starved.passed.is ∙ behind; now = refl };
-      before = lines;
-      line = line;
-      reached = starved.reached;
-      lines = text;
-      undecided = starved.passed.read;
-      short = starved.short;
-      needs = starved.needs;
-    }
+module _ {P V : Type 0} (fold : Fold P V) (start : P) where
+  fault_at : (bytes rest : List ℕ) → Broke fold 1 start bytes rest → ToFault fold start bytes (Some rest)
+  fault_at bytes rest broke =
+      let lines = broke.passed.lines in
+      let text = text_of-bytes_of lines broke.piece broke.passed.clean broke.clean in
+      record {
+        part = record {
+          read = bytes_of lines broke.piece;
+          unread = rest;
+          is = broke.passed.is ∙ bytes_of-behind lines broke.piece rest;
+          now = refl;
+        };
+        reached = broke.reached;
+        lines = lines;
+        are = ap (λ (t : Text). t.lines) text;
+        undecided = broke.passed.read;
+        short = subst (λ (t : Text). length t.rest ≤ 200) (sym text) broke.short;
+      }
 
-pub to_want : (limits : Limits) (bytes : List ℕ) (left : Option (List ℕ)) → Starves Patterns limits 1 AtHeader (Some bytes) left → ReadToWant limits bytes left
-to_want limits bytes None starves = absurd starves
-to_want limits bytes (Some rest) starves = want_at limits bytes rest starves
+  pub to_fault : (bytes : List ℕ) (left : Option (List ℕ)) → Breaks fold 1 start (Some bytes) left → ToFault fold start bytes left
+  to_fault bytes None breaks = absurd breaks
+  to_fault bytes (Some rest) breaks = fault_at bytes rest breaks
+
+  want_at : (bytes rest : List ℕ) → Starved fold 1 start bytes rest → ToWant fold start bytes (Some rest)
+  want_at bytes rest starved =
+      let lines = starved.passed.lines in
+      let line = starved.line in
+      let whole : List (List ℕ) = lines ++ line ∷ [] in
+      let last : plain_lines (line ∷ []) ≡ true = rw starved.clean refl in
+      let text = text_of-bytes_of whole [] (plain_lines-append lines (line ∷ []) starved.passed.clean last) refl in
+      let behind : bytes_of lines (line ++ 10 ∷ rest) ≡ bytes_of whole [] ++ rest =
+      ap (bytes_of lines) (sym (append_assoc line (10 ∷ []) rest)) ∙ bytes_of-behind lines (line ++ 10 ∷ []) rest
+      ∙ ap (λ x. x ++ rest) (sym (bytes_of-append lines (line ∷ []) [])) in
+      let at : starved.at ≡ suc (length lines) = omega (arith, starved.passed.count) in
+      record {
+        part = record { read = bytes_of whole []; unread = rest; is = starved.passed.is ∙ behind; now = refl };
+        before = lines;
+        line = line;
+        reached = starved.reached;
+        lines = text;
+        undecided = starved.passed.read;
+        short = starved.short;
+        needs = subst (λ (n : ℕ). fold.needs n starved.reached line ≡ true) at starved.needs;
+      }
+
+  pub to_want : (bytes : List ℕ) (left : Option (List ℕ)) → Starves fold 1 start (Some bytes) left → ToWant fold start bytes left
+  to_want bytes None starves = absurd starves
+  to_want bytes (Some rest) starves = want_at bytes rest starves

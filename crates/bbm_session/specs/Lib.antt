@@ -1,5 +1,10 @@
+pub mod Fold
+pub mod Folds
+pub mod Generating
 pub mod Pieces
+pub mod Requests
 pub mod Run
+pub mod Runs
 pub mod Stages
 pub mod Telling
 pub mod Writing

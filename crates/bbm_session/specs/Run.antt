@@ -33,9 +33,9 @@ abbrev pub command_alone : List (List ℕ) → Option Command
 command_alone (word ∷ []) = command_at word
 command_alone _ = None
 
--- the first of two commands
-abbrev pub or_else : Option Command → Option Command → Option Command
-or_else (Some command) other = Some command
+-- the first of two
+abbrev pub or_else : {A : Type 0} → Option A → Option A → Option A
+or_else (Some first) other = Some first
 or_else None other = other
 
 -- The command that the words say, None where they say none: a command of one word, or a walk.
@@ -120,11 +120,14 @@ ReadFor (Refused line rule at label) read unread = UpTo line read unread
 ReadFor (Malformed line cause) read unread = UpTo line read unread
 ReadFor (Limit line which) read unread = UpTo line read unread
 
+-- What is left of these bytes, where what was read of them and what wasn't are as wanted.
+abbrev pub ReadAs : (Text → List ℕ → Type 0) → List ℕ → Option (List ℕ) → Type 0
+ReadAs wanted bytes left =
+    (read : List ℕ) × (unread : List ℕ) × (bytes ≡ read ++ unread) × (left ≡ Some unread) × wanted (text_of read) unread
+
 -- What is left of these bytes, where all before was read for this verdict.
 abbrev pub ReadTo : List ℕ → Verdict → Option (List ℕ) → Type 0
-ReadTo bytes verdict left =
-    (read : List ℕ) × (unread : List ℕ) × (bytes ≡ read ++ unread) × (left ≡ Some unread)
-    × ReadFor verdict (text_of read) unread
+ReadTo bytes verdict left = ReadAs (ReadFor verdict) bytes left
 
 -- Reading stopped before a verdict was known: these bytes were read of what was left.
 pub record ReadPart (bytes : List ℕ) (left : Option (List ℕ)) : Type 0 where

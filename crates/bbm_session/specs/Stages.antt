@@ -1,12 +1,13 @@
--- What the contracts of the session's parts say: how the outcome of what a source has left goes on from part to
--- part. No public contract cites these words.
-use Rattle.std.specs.Prelude.{◌≡◌, ℕ, ◌+◌, ◌*◌, ◌≤◌, ◌<◌, false, true, Bool, ◌&&◌, List, [], ◌∷◌, ◌++◌, length}
+-- What the contracts of the session's parts say: how what is said of the text that a source has left goes on from part
+-- to part, for any fold over its lines. No public contract cites these words.
+use Rattle.std.specs.Prelude.{◌≡◌, ℕ, ◌+◌, ◌*◌, ◌≤◌, false, true, Bool, ◌&&◌, List, [], ◌∷◌, ◌++◌, length}
 use Rattle.std.specs.Prelude.{Option, Some, None, Result, Ok, Err}
 use Rattle.bbm_io.specs.Faults.{Rose}
 use Rattle.bbm_io.specs.Flow.{preceded, plain}
 use Rattle.bbm_io.specs.Reading.{Reading}
 use Rattle.bbm_regimes.specs.declared.regime.Which.{Which}
 use Rattle.bbm_events.specs.Heading.{Heading}
+use Rattle.bbm_events.specs.Lines.{header_of}
 use Rattle.bbm_events.specs.declared.event.Event.{Event as EventOf}
 use Rattle.bbm_events.specs.declared.event.Item.{Item}
 use Rattle.bbm_events.specs.declared.event.Item.TheVariants as item
@@ -15,24 +16,16 @@ use Rattle.bbm_events.specs.Fits.{fits_heading, is_place}
 use Rattle.bbm_rules.specs.declared.rule.Rule.{Rule}
 use Rattle.bbm_rules.specs.declared.rule.Rule.TheVariants.{BreakBeforeMake}
 use Rattle.bbm_rules.specs.declared.verdict.Verdict.{Verdict}
-use Rattle.bbm_rules.specs.declared.verdict.Verdict.TheVariants.{Accepted, Refused, Limit}
+use Rattle.bbm_rules.specs.declared.verdict.Verdict.TheVariants.{Accepted, Refused, Malformed, Limit}
 use Rattle.bbm_rules.specs.Answers.{MayTake}
 use Rattle.bbm_rules.specs.Broken.{Breach}
-use Rattle.bbm_rules.specs.Claims.{Trust, Patterns}
-use Rattle.bbm_rules.specs.declared.limits.Limits.{Limits}
 use Rattle.bbm_rules.specs.Lists.{every}
-use Rattle.bbm_rules.specs.Outcome.{Progress, AtHeader, AtEvents, AtEnd, Step, Decides, GoesOn, Outcome, outcome_from}
-use Rattle.bbm_rules.specs.Outcome.{text_of, bytes_of, read_from}
-use Rattle.bbm_session.specs.Run.{NeedsMemory}
+use Rattle.bbm_rules.specs.Outcome.{AtEvents, AtEnd, Step, Decides, GoesOn, bytes_of}
+use Rattle.bbm_session.specs.Fold.{Fold, Halts, Passes, ending_at, lines_from, IsInside, IsEnd}
 use Rattle.bbm_session.specs.declared.stop.Stop.{Stop}
 use Rattle.bbm_session.specs.declared.stop.Stop.TheVariants.{Decided, ReadFault, NoMemory}
 use Rattle.bbm_session.specs.declared.stop.Turn.{Turn}
-use Rattle.bbm_session.specs.declared.stop.Turn.TheVariants.{Event, End}
-
--- the outcome of these bytes from line number n on, where the lines before were read so far
-abbrev pub outcome_at : Trust → Limits → ℕ → Progress → List ℕ → Outcome
-outcome_at trust limits number progress bytes =
-    outcome_from trust limits number progress (text_of bytes).lines (text_of bytes).rest
+use Rattle.bbm_session.specs.declared.stop.Turn.TheVariants.{Taken, End}
 
 -- What a source had left begins with what was taken of it, and the rest is left now.
 abbrev pub Shrinks : Option (List ℕ) → Option (List ℕ) → Type 0
@@ -43,98 +36,82 @@ abbrev pub plain_lines : List (List ℕ) → Bool
 plain_lines [] = true
 plain_lines (line ∷ lines) = plain line && plain_lines lines
 
--- Whole lines stand before the rest of some bytes, from one line number on to another, and none of them decides.
-pub record Passed (trust : Trust) (limits : Limits) (from : ℕ) (progress : Progress) (bytes : List ℕ) (to : ℕ)
-    (progress' : Progress) (rest : List ℕ) : Type 0 where
+-- Whole lines stand before the rest of some bytes, from one line number on to another, and none of them halts.
+pub record Passed {P V : Type 0} (fold : Fold P V) (from : ℕ) (p : P) (bytes : List ℕ) (to : ℕ) (p' : P) (rest : List ℕ)
+    : Type 0 where
   pub lines : List (List ℕ)
   pub clean : plain_lines lines ≡ true
   pub is : bytes ≡ bytes_of lines rest
   pub count : to ≡ from + length lines
-  pub read : read_from trust limits from progress lines ≡ Some progress'
+  pub read : lines_from fold from p lines ≡ Some p'
 
--- Whole lines were read of what was left, from one line number on to another, and none of them decides.
-abbrev pub Continues : Trust → Limits → ℕ → Progress → Option (List ℕ) → ℕ → Progress → Option (List ℕ) → Type 0
-Continues trust limits number progress None number' progress' now = Unit {0}
-Continues trust limits number progress (Some bytes) number' progress' None = ⊥
-Continues trust limits number progress (Some bytes) number' progress' (Some rest) =
-    Passed trust limits number progress bytes number' progress' rest
+-- Whole lines were read of what was left, from one line number on to another, and none of them halts.
+abbrev pub Continues : {P V : Type 0} → Fold P V → ℕ → P → Option (List ℕ) → ℕ → P → Option (List ℕ) → Type 0
+Continues fold n p None n' p' now = Unit {0}
+Continues fold n p (Some bytes) n' p' None = ⊥
+Continues fold n p (Some bytes) n' p' (Some rest) = Passed fold n p bytes n' p' rest
 
--- Some bytes were read up to a call that failed: whole lines, of which none decides, and of the next one at most 200
+-- Some bytes were read up to a call that failed: whole lines, of which none halts, and of the next one at most 200
 -- bytes.
-pub record Broke (trust : Trust) (limits : Limits) (number : ℕ) (progress : Progress) (bytes rest : List ℕ)
-    : Type 0 where
+pub record Broke {P V : Type 0} (fold : Fold P V) (n : ℕ) (p : P) (bytes rest : List ℕ) : Type 0 where
   pub at : ℕ
-  pub reached : Progress
+  pub reached : P
   pub piece : List ℕ
-  pub passed : Passed trust limits number progress bytes at reached (piece ++ rest)
+  pub passed : Passed fold n p bytes at reached (piece ++ rest)
   pub clean : plain piece ≡ true
   pub short : length piece ≤ 200
 
--- Some bytes were read up to a line for which there was no memory: whole lines before it, of which none decides, and
--- that line.
-pub record Starved (trust : Trust) (limits : Limits) (number : ℕ) (progress : Progress) (bytes rest : List ℕ)
-    : Type 0 where
+-- Some bytes were read up to a line for which there was no memory: whole lines before it, of which none halts, and that
+-- line.
+pub record Starved {P V : Type 0} (fold : Fold P V) (n : ℕ) (p : P) (bytes rest : List ℕ) : Type 0 where
   pub at : ℕ
-  pub reached : Progress
+  pub reached : P
   pub line : List ℕ
-  pub passed : Passed trust limits number progress bytes at reached (line ++ 10 ∷ rest)
+  pub passed : Passed fold n p bytes at reached (line ++ 10 ∷ rest)
   pub clean : plain line ≡ true
   pub short : length line ≤ 200
-  pub needs : NeedsMemory reached line
+  pub needs : fold.needs at reached line ≡ true
 
 -- the same of what a source had left, where it tells that
-abbrev pub Breaks : Trust → Limits → ℕ → Progress → Option (List ℕ) → Option (List ℕ) → Type 0
-Breaks trust limits number progress None now = Unit {0}
-Breaks trust limits number progress (Some bytes) None = ⊥
-Breaks trust limits number progress (Some bytes) (Some rest) = Broke trust limits number progress bytes rest
+abbrev pub Breaks : {P V : Type 0} → Fold P V → ℕ → P → Option (List ℕ) → Option (List ℕ) → Type 0
+Breaks fold n p None now = Unit {0}
+Breaks fold n p (Some bytes) None = ⊥
+Breaks fold n p (Some bytes) (Some rest) = Broke fold n p bytes rest
 
-abbrev pub Starves : Trust → Limits → ℕ → Progress → Option (List ℕ) → Option (List ℕ) → Type 0
-Starves trust limits number progress None now = Unit {0}
-Starves trust limits number progress (Some bytes) None = ⊥
-Starves trust limits number progress (Some bytes) (Some rest) = Starved trust limits number progress bytes rest
+abbrev pub Starves : {P V : Type 0} → Fold P V → ℕ → P → Option (List ℕ) → Option (List ℕ) → Type 0
+Starves fold n p None now = Unit {0}
+Starves fold n p (Some bytes) None = ⊥
+Starves fold n p (Some bytes) (Some rest) = Starved fold n p bytes rest
 
--- The outcome of what was left is this verdict after these events, and what is left now stays unread.
-abbrev pub Concludes : Trust → Limits → ℕ → Progress → Option (List ℕ) → Verdict → List EventOf → Option (List ℕ)
-    → Type 0
-Concludes trust limits number progress None verdict h now = Unit {0}
-Concludes trust limits number progress (Some bytes) verdict h None = ⊥
-Concludes trust limits number progress (Some bytes) verdict h (Some rest) =
-    let outcome : Outcome = outcome_at trust limits number progress bytes in
-    (outcome.verdict ≡ verdict) × (outcome.unread ≡ rest) × (outcome.log ≡ h)
+-- This is said of what was left, and what is left now stays unread.
+abbrev pub Concludes : {P V : Type 0} → Fold P V → ℕ → P → Option (List ℕ) → V → Option (List ℕ) → Type 0
+Concludes fold n p None v now = Unit {0}
+Concludes fold n p (Some bytes) v None = ⊥
+Concludes fold n p (Some bytes) v (Some rest) =
+    ((ending_at fold n p bytes).says ≡ v) × ((ending_at fold n p bytes).unread ≡ rest)
 
--- Why reading stopped, after which events where a verdict is known, and what was read then. A read fault comes only
--- where the count of faults rose, and where it doesn't come the count stays.
-abbrev pub Stops : Trust → Limits → ℕ → Progress → Option (List ℕ) → Stop → List EventOf → Option (List ℕ) → ℕ → ℕ
-    → Type 0
-Stops trust limits number progress old (Decided verdict) h new faults faults' =
-    Concludes trust limits number progress old verdict h new × (faults' ≡ faults)
-Stops trust limits number progress old ReadFault h new faults faults' =
-    Breaks trust limits number progress old new × Rose faults faults'
-Stops trust limits number progress old NoMemory h new faults faults' =
-    Starves trust limits number progress old new × (faults' ≡ faults)
-
--- whether each event of a history fits its header
-abbrev pub all_fit : Heading → List EventOf → Bool
-all_fit heading h = every (fits_heading heading) h
-
--- A checker stands for a history whose events fit its header.
-abbrev pub Keeps : (Heading → List EventOf → Type 0) → Heading → List EventOf → Type 0
-Keeps stands heading h = stands heading h × (all_fit heading h ≡ true)
+-- Why reading stopped, after lines that were read up to q where a verdict is known, and what was read then. A read fault
+-- comes only where the count of faults rose, and where it doesn't come the count stays.
+abbrev pub Stops : {P V : Type 0} → Fold P V → ℕ → P → Option (List ℕ) → Stop → P → Option (List ℕ) → ℕ → ℕ → Type 0
+Stops fold n p old (Decided verdict) q new faults faults' =
+    Concludes fold n p old (fold.stopped q verdict) new × (faults' ≡ faults)
+Stops fold n p old ReadFault q new faults faults' = Breaks fold n p old new × Rose faults faults'
+Stops fold n p old NoMemory q new faults faults' = Starves fold n p old new × (faults' ≡ faults)
 
 -- break-before-make names a place
 abbrev pub NamesPlace : Rule → ℕ → Type 0
 NamesPlace BreakBeforeMake at = is_place at ≡ true
 NamesPlace _ at = Unit {0}
 
--- Where a log is accepted, or an event of it refused, the checker stands for the events before the line that decides.
-abbrev pub Knows : (Heading → List EventOf → Type 0) → Heading → List EventOf → Verdict → Type 0
-Knows stands heading h (Accepted events) = Keeps stands heading h
-Knows stands heading h (Refused line rule at label) = Keeps stands heading h × NamesPlace rule at
-Knows stands heading h _ = Unit {0}
+-- Where a log is accepted, or an event of it refused, this holds of the lines before the line that decides.
+abbrev pub KnowsThat : Type 0 → Verdict → Type 0
+KnowsThat stands (Accepted events) = stands
+KnowsThat stands (Refused line rule at label) = stands × NamesPlace rule at
+KnowsThat stands _ = Unit {0}
 
-abbrev pub KnowsAt : (Heading → List EventOf → Type 0) → Heading → List EventOf → Stop → Type 0
-KnowsAt stands heading h (Decided verdict) = Knows stands heading h verdict
-KnowsAt stands heading h _ = Unit {0}
+abbrev pub KnowsWhy : Type 0 → Stop → Type 0
+KnowsWhy stands (Decided verdict) = KnowsThat stands verdict
+KnowsWhy stands _ = Unit {0}
 
 -- a cause for which nothing is said behind the line of the verdict, if there is one
 abbrev pub IsBrief : Stop → Type 0
@@ -146,17 +123,95 @@ IsBrief _ = Unit {0}
 abbrev pub Ready : Reading → ℕ → Type 0
 Ready lines n = (lines.failed ≡ false) × (lines.taken + 201 ≤ 201 * n)
 
--- what a judged header says of line 1
-abbrev pub JudgesHeader : Result Heading Stop → Step → Type 0
-JudgesHeader (Ok heading) step = step ≡ GoesOn (AtEvents heading [])
-JudgesHeader (Err (Decided verdict)) step = step ≡ Decides verdict
-JudgesHeader (Err _) step = ⊥
+-- What was made of a header: it is that of its line, or why that is none.
+abbrev pub ReadsHeader : Result Heading Stop → Result Heading Cause → Type 0
+ReadsHeader (Ok heading) read = read ≡ Ok heading
+ReadsHeader (Err (Decided verdict)) read = (cause : Cause) × (read ≡ Err cause) × (verdict ≡ Malformed 1 cause)
+ReadsHeader (Err _) read = ⊥
 
--- the same of line 1 of what is left, under any limits
-abbrev pub Starts : Limits → Result Heading Stop → Option (List ℕ) → Option (List ℕ) → ℕ → ℕ → Type 0
-Starts limits (Ok heading) was now faults faults' =
-    Continues Patterns limits 1 AtHeader was 2 (AtEvents heading []) now × (faults' ≡ faults)
-Starts limits (Err stop) was now faults faults' = Stops Patterns limits 1 AtHeader was stop [] now faults faults'
+-- Line 1 was read of what was left, and it has this heading.
+pub record HeaderLine (heading : Heading) (was now : Option (List ℕ)) : Type 0 where
+  pub line : List ℕ
+  pub header : header_of line ≡ Ok heading
+  pub clean : plain line ≡ true
+  pub short : length line ≤ 200
+  pub taken : was ≡ preceded (line ++ 10 ∷ []) now
+
+-- What reading line 1 says.
+abbrev pub Starts : {P V : Type 0} → Fold P V → P → Result Heading Stop → Option (List ℕ) → Option (List ℕ) → ℕ → ℕ
+    → Type 0
+Starts fold start (Ok heading) was now faults faults' = HeaderLine heading was now × (faults' ≡ faults)
+Starts fold start (Err stop) was now faults faults' = Stops fold 1 start was stop start now faults faults'
+
+-- Some lines were taken, up to line number n.
+abbrev pub MayTakeLine : {P V : Type 0} → (Fold P V → Heading → P → ℕ → Type 0) → Heading → ℕ → Type 0
+MayTakeLine {P} {V} stands heading n = (fold : Fold P V) × (p : P) × stands fold heading p n
+
+-- the same, between the header and the end
+abbrev pub MayGoOn : {P V : Type 0} → (Fold P V → Heading → P → ℕ → Type 0) → Heading → ℕ → Type 0
+MayGoOn {P} {V} stands heading n = (fold : Fold P V) × (p : P) × IsInside fold p × stands fold heading p n
+
+module _ {P V : Type 0} (fold : Fold P V) (stands : P → ℕ → Type 0) where
+  -- What line n says, where the lines before it were taken up to p, and what was taken then: the line too, or the end
+  -- came, or reading stops. There can be no memory only for a line that needs it.
+  abbrev pub TakesLine : ℕ → P → List ℕ → Result Turn Stop → Type 0
+  TakesLine n p line (Ok Taken) = (q : P) × (fold.line n p line ≡ Passes q) × IsInside fold q × stands q (n + 1)
+  TakesLine n p line (Ok End) = (q : P) × (fold.line n p line ≡ Passes q) × IsEnd fold p q × stands p n
+  TakesLine n p line (Err (Decided verdict)) =
+      (fold.line n p line ≡ Halts (fold.stopped p verdict)) × KnowsThat (stands p n) verdict
+  TakesLine n p line (Err ReadFault) = ⊥
+  TakesLine n p line (Err NoMemory) = fold.needs n p line ≡ true
+
+  -- the same of the next line of what is left
+  abbrev pub Advances : ℕ → P → Result Turn Stop → Option (List ℕ) → Option (List ℕ) → ℕ → ℕ → Type 0
+  Advances n p (Ok Taken) was now faults faults' =
+      (q : P) × Continues fold n p was (n + 1) q now × IsInside fold q × stands q (n + 1) × (faults' ≡ faults)
+  Advances n p (Ok End) was now faults faults' =
+      (q : P) × Continues fold n p was (n + 1) q now × IsEnd fold p q × stands p n × (faults' ≡ faults)
+  Advances n p (Err stop) was now faults faults' =
+      Stops fold n p was stop p now faults faults' × KnowsWhy (stands p n) stop
+
+  -- the lines from line 2 on were taken up to line number n, and none of them halts
+  abbrev pub Going : P → Option (List ℕ) → ℕ → Option (List ℕ) → Type 0
+  Going p was n now = (q : P) × Continues fold 2 p was n q now × IsInside fold q × stands q n
+
+  -- what reading all lines up to the end says, of what was left from line 2 on
+  abbrev pub Reaches : P → Result ℕ Stop → Option (List ℕ) → Option (List ℕ) → ℕ → ℕ → Type 0
+  Reaches p (Ok n) was now faults faults' =
+      (q : P) × (end : P) × (m : ℕ) × Continues fold 2 p was n end now × IsEnd fold q end × stands q m
+      × (faults' ≡ faults)
+  Reaches p (Err stop) was now faults faults' =
+      (q : P) × (m : ℕ) × Stops fold 2 p was stop q now faults faults' × KnowsWhy (stands q m) stop
+
+  -- what reading to the end of the log says
+  abbrev pub Ends : P → Result (Unit {0}) Stop → Option (List ℕ) → Option (List ℕ) → ℕ → ℕ → Type 0
+  Ends p (Ok _) was now faults faults' =
+      (q : P) × (m : ℕ) × Concludes fold 2 p was (fold.whole q) now × stands q m × (faults' ≡ faults)
+  Ends p (Err stop) was now faults faults' =
+      (q : P) × (m : ℕ) × Stops fold 2 p was stop q now faults faults' × KnowsWhy (stands q m) stop
+
+-- What reading behind the end says, where the lines before the end were read up to p: nothing follows, or why not.
+abbrev pub Closes : {P V : Type 0} → Fold P V → P → P → Result (Unit {0}) Stop → ℕ → Option (List ℕ) → Option (List ℕ)
+    → ℕ → ℕ → Type 0
+Closes fold p end (Ok _) n was now faults faults' = Concludes fold n end was (fold.whole p) now × (faults' ≡ faults)
+Closes fold p end (Err stop) n was now faults faults' = Stops fold n end was stop p now faults faults'
+
+-- The judging of events.
+
+-- whether each event of a history fits its header
+abbrev pub all_fit : Heading → List EventOf → Bool
+all_fit heading h = every (fits_heading heading) h
+
+-- A checker stands for a history whose events fit its header.
+abbrev pub Keeps : (Heading → List EventOf → Type 0) → Heading → List EventOf → Type 0
+Keeps stands heading h = stands heading h × (all_fit heading h ≡ true)
+
+-- Where a log is accepted, or an event of it refused, the checker stands for the events before the line that decides.
+abbrev pub Knows : (Heading → List EventOf → Type 0) → Heading → List EventOf → Verdict → Type 0
+Knows stands heading h verdict = KnowsThat (Keeps stands heading h) verdict
+
+abbrev pub KnowsAt : (Heading → List EventOf → Type 0) → Heading → List EventOf → Stop → Type 0
+KnowsAt stands heading h stop = KnowsWhy (Keeps stands heading h) stop
 
 -- why reading stops at an event with this label that breaks this rule, or else reaches this limit of a history, or for
 -- which there was no memory
@@ -175,49 +230,15 @@ MayJudge stands _ = Unit {0}
 abbrev pub StandsAt : (Heading → List EventOf → Type 0) → Heading → ℕ → Type 0
 StandsAt stands heading n = (h : List EventOf) × stands heading h × (n ≡ length h + 2)
 
-module _ (stands : Heading → List EventOf → Type 0) (limits : Limits) (heading : Heading) where
-  -- What line n says, judged after a history, and what the checker stands for then: it took one event, or the end came,
+module _ (stands : Heading → List EventOf → Type 0) (heading : Heading) where
+  -- What a line says, judged after a history, and what the checker stands for then: it took one event, or the end came,
   -- or reading stopped. There can be no memory only for an event, which is the first fact. No line after the header
   -- accepts a log.
-  abbrev pub JudgesLine : ℕ → List EventOf → Type 0 → Result Turn Stop → Step → Type 0
-  JudgesLine n h event (Ok Event) step =
+  abbrev pub JudgesLine : List EventOf → Type 0 → Result Turn Stop → Step → Type 0
+  JudgesLine h event (Ok Taken) step =
       (longer : List EventOf) × (step ≡ GoesOn (AtEvents heading longer)) × Keeps stands heading longer
-      × (length longer ≡ length h + 1) × (n < limits.lines)
-  JudgesLine n h event (Ok End) step = (step ≡ GoesOn (AtEnd h)) × Keeps stands heading h
-  JudgesLine n h event (Err (Decided verdict)) step = (step ≡ Decides verdict) × Knows stands heading h verdict
-  JudgesLine n h event (Err ReadFault) step = ⊥
-  JudgesLine n h event (Err NoMemory) step = event
-
-  -- the same of the next line of what is left
-  abbrev pub Advances : ℕ → List EventOf → Result Turn Stop → Option (List ℕ) → Option (List ℕ) → ℕ → ℕ → Type 0
-  Advances n h (Ok Event) was now faults faults' =
-      (longer : List EventOf)
-      × Continues Patterns limits n (AtEvents heading h) was (n + 1) (AtEvents heading longer) now
-      × Keeps stands heading longer × (length longer ≡ length h + 1) × (n < limits.lines) × (faults' ≡ faults)
-  Advances n h (Ok End) was now faults faults' =
-      Continues Patterns limits n (AtEvents heading h) was (n + 1) (AtEnd h) now × Keeps stands heading h
-      × (faults' ≡ faults)
-  Advances n h (Err stop) was now faults faults' =
-      Stops Patterns limits n (AtEvents heading h) was stop h now faults faults' × KnowsAt stands heading h stop
-
-  -- what reading all lines up to the end says, of what was left from line 2 on
-  abbrev pub Reaches : Result ℕ Stop → Option (List ℕ) → Option (List ℕ) → ℕ → ℕ → Type 0
-  Reaches (Ok n) was now faults faults' =
-      (h : List EventOf) × Continues Patterns limits 2 (AtEvents heading []) was n (AtEnd h) now
-      × Keeps stands heading h × (n ≤ limits.lines + 3) × (faults' ≡ faults)
-  Reaches (Err stop) was now faults faults' =
-      (h : List EventOf) × Stops Patterns limits 2 (AtEvents heading []) was stop h now faults faults'
-      × KnowsAt stands heading h stop
-
-  -- what reading to the end of the log says
-  abbrev pub Ends : Stop → Option (List ℕ) → Option (List ℕ) → ℕ → ℕ → Type 0
-  Ends stop was now faults faults' =
-      (h : List EventOf) × Stops Patterns limits 2 (AtEvents heading []) was stop h now faults faults'
-      × KnowsAt stands heading h stop
-
--- What reading behind the end says, of any history before it, under any limits: nothing follows, or why not.
-abbrev pub Closes : Limits → Result (Unit {0}) Stop → ℕ → List EventOf → Option (List ℕ) → Option (List ℕ) → ℕ → ℕ
-    → Type 0
-Closes limits (Ok _) n h was now faults faults' =
-    Concludes Patterns limits n (AtEnd h) was (Accepted (length h)) h now × (faults' ≡ faults)
-Closes limits (Err stop) n h was now faults faults' = Stops Patterns limits n (AtEnd h) was stop h now faults faults'
+      × (length longer ≡ length h + 1)
+  JudgesLine h event (Ok End) step = (step ≡ GoesOn (AtEnd h)) × Keeps stands heading h
+  JudgesLine h event (Err (Decided verdict)) step = (step ≡ Decides verdict) × Knows stands heading h verdict
+  JudgesLine h event (Err ReadFault) step = ⊥
+  JudgesLine h event (Err NoMemory) step = event

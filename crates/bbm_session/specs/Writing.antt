@@ -1,21 +1,29 @@
 -- What became of a text that was to be written.
-use Rattle.std.specs.Prelude.{◌≡◌, ℕ, ◌<◌, List, length, take, Option, Some, None, Result, Ok, Err, ◌⊎◌}
+use Rattle.std.specs.Prelude.{◌≡◌, ℕ, ◌<◌, List, ◌++◌, length, take, Option, Some, None, Result, Ok, Err, ◌⊎◌}
 use Rattle.bbm_io.specs.Faults.{Rose}
 use Rattle.bbm_io.specs.Flow.{extended}
 use Rattle.bbm_io.specs.declared.source.Failed.{Failed}
-use Rattle.bbm_events.specs.declared.event.Event.{Event}
 use Rattle.bbm_events.specs.Heading.{Heading}
+use Rattle.bbm_follow.specs.Following as run
+use Rattle.bbm_follow.specs.declared.followed.Followed.{Followed}
 use Rattle.bbm_rules.specs.declared.verdict.Verdict.{Verdict}
-use Rattle.bbm_rules.specs.Claims.{Patterns}
 use Rattle.bbm_rules.specs.Outcome.{AtHeader, text_of}
+use Rattle.bbm_rules.specs.Texts.{verdict_text}
 use Rattle.bbm_report.specs.Further.{heading_in}
+use Rattle.bbm_tlb_machine.specs.declared.step.Step.{Step}
 use Rattle.bbm_session.specs.declared.command.Command.{Command}
+use Rattle.bbm_session.specs.declared.command.Request.{Request}
+use Rattle.bbm_session.specs.declared.command.Request.TheVariants.{Judge, Follow, Generate}
 use Rattle.bbm_session.specs.declared.status.Status.{Status}
 use Rattle.bbm_session.specs.declared.status.Status.TheVariants as status
 use Rattle.bbm_session.specs.declared.stop.Stop.{Stop}
 use Rattle.bbm_session.specs.declared.stop.Stop.TheVariants.{Decided, ReadFault, NoMemory}
+use Rattle.bbm_session.specs.Fold.{Fold}
+use Rattle.bbm_session.specs.Folds.{judging, following}
+use Rattle.bbm_session.specs.Generating.{gen_text}
 use Rattle.bbm_session.specs.Run.{Says, limits_of, status_of}
-use Rattle.bbm_session.specs.Stages.{Stops}
+use Rattle.bbm_session.specs.Runs.{followed_status, run_status}
+use Rattle.bbm_session.specs.Stages.{Breaks, Concludes, Starves}
 
 -- a proper prefix of the text was added to what the sink holds
 pub record Part (text : List ℕ) (old new : Option (List ℕ)) : Type 0 where
@@ -35,33 +43,113 @@ Wrote wanted text result old new faults faults' =
     ((result ≡ wanted) × (new ≡ extended old text) × (faults' ≡ faults))
     ⊎ ((result ≡ status.WriteFault) × Rose faults faults' × Part text old new)
 
--- The text of the command for a verdict, under a heading and after some events, and what became of it.
-abbrev pub Tells : Command → Option Heading → List Event → Verdict → Status → Option (List ℕ) → Option (List ℕ) → ℕ → ℕ
-    → Type 0
-Tells command heading h verdict result old new faults faults' =
-    (text : List ℕ) × Says command heading h verdict text × Wrote (status_of verdict) text result old new faults faults'
+-- nothing was written, and this is the status
+abbrev pub Silent : Status → Status → Option (List ℕ) → Option (List ℕ) → ℕ → ℕ → Type 0
+Silent wanted result old new faults faults' = (result ≡ wanted) × (new ≡ old) × (faults' ≡ faults)
 
--- what became of the log and of the text where reading stopped for this cause
-abbrev pub Reports : Command → Option Heading → List Event → Stop → Status → Option (List ℕ) → Option (List ℕ) → ℕ → ℕ
-    → Type 0
-Reports command heading h (Decided verdict) result old new faults faults' =
-    Tells command heading h verdict result old new faults faults'
-Reports command heading h ReadFault result old new faults faults' =
-    (result ≡ status.ReadFault) × (new ≡ old) × (faults' ≡ faults)
-Reports command heading h NoMemory result old new faults faults' =
-    (result ≡ status.NoMemory) × (new ≡ old) × (faults' ≡ faults)
+-- What became of the answer where reading stopped for this cause; a verdict has some text.
+abbrev pub Reports : (Verdict → List ℕ → Type 0) → Stop → Status → Option (List ℕ) → Option (List ℕ) → ℕ → ℕ → Type 0
+Reports Text (Decided verdict) result old new faults faults' =
+    (text : List ℕ) × Text verdict text × Wrote (status_of verdict) text result old new faults faults'
+Reports Text ReadFault result old new faults faults' = Silent status.ReadFault result old new faults faults'
+Reports Text NoMemory result old new faults faults' = Silent status.NoMemory result old new faults faults'
+
+-- the same of a run that was read whole, if there was memory to follow it
+abbrev pub ReportsRun : {E : Type 0} → Result Followed E → Status → Option (List ℕ) → Option (List ℕ) → ℕ → ℕ → Type 0
+ReportsRun (Ok told) result old new faults faults' =
+    Wrote (followed_status told) (run.followed_text told) result old new faults faults'
+ReportsRun (Err _) result old new faults faults' = Silent status.NoMemory result old new faults faults'
+
+-- the line of a verdict alone
+abbrev pub IsLine : Verdict → List ℕ → Type 0
+IsLine verdict text = text ≡ verdict_text verdict
 
 -- the heading of what is left, where that is told
 abbrev pub Heads : Option (List ℕ) → Option Heading → Type 0
 Heads None heading = Unit {0}
 Heads (Some bytes) heading = heading_in (text_of bytes).lines ≡ heading
 
--- a log was judged for a command, of which this was left and is left, and the answer was written
+-- something was said of a text, of which this was left and is left, and its line was written
+pub record Told {P V : Type 0} (fold : Fold P V) (start : P) (Text : V → List ℕ → Type 0) (tells : V → Status)
+    (result : Status) (left left' : Option (List ℕ)) (reads reads' : ℕ) (held held' : Option (List ℕ))
+    (writes writes' : ℕ) : Type 0 where
+  pub says : V
+  pub concludes : Concludes fold 1 start left says left'
+  pub sound : reads' ≡ reads
+  pub text : List ℕ
+  pub is : Text says text
+  pub wrote : Wrote (tells says) text result held held' writes writes'
+
+-- nothing was said: a read failed, or there was no memory
+pub record ReadFailed {P V : Type 0} (fold : Fold P V) (start : P) (result : Status) (left left' : Option (List ℕ))
+    (reads reads' : ℕ) (held held' : Option (List ℕ)) (writes writes' : ℕ) : Type 0 where
+  pub breaks : Breaks fold 1 start left left'
+  pub rose : Rose reads reads'
+  pub silent : Silent status.ReadFault result held held' writes writes'
+
+pub record Wanted (Wants : Option (List ℕ) → Option (List ℕ) → Type 0) (result : Status) (left left' : Option (List ℕ))
+    (reads reads' : ℕ) (held held' : Option (List ℕ)) (writes writes' : ℕ) : Type 0 where
+  pub wants : Wants left left'
+  pub sound : reads' ≡ reads
+  pub silent : Silent status.NoMemory result held held' writes writes'
+
+-- a text was read, and the answer was written
+abbrev pub Answered : {P V : Type 0} → Fold P V → P → (V → List ℕ → Type 0) → (V → Status)
+    → (Option (List ℕ) → Option (List ℕ) → Type 0) → Status → Option (List ℕ) → Option (List ℕ) → ℕ → ℕ
+    → Option (List ℕ) → Option (List ℕ) → ℕ → ℕ → Type 0
+Answered fold start Text tells Wants result left left' reads reads' held held' writes writes' =
+    Told fold start Text tells result left left' reads reads' held held' writes writes'
+    ⊎ (ReadFailed fold start result left left' reads reads' held held' writes writes'
+    ⊎ Wanted Wants result left left' reads reads' held held' writes writes')
+
+-- a run was read whole
+pub record ReadWhole (left left' : Option (List ℕ)) : Type 0 where
+  pub heading : Heading
+  pub steps : List Step
+  pub concludes : Concludes following 1 run.AtHeader left (run.Whole heading steps) left'
+
+-- what was left and is left where there was no memory for a run
+abbrev pub WantsRun : Option (List ℕ) → Option (List ℕ) → Type 0
+WantsRun left left' = Starves following 1 run.AtHeader left left' ⊎ ReadWhole left left'
+
+-- a log was judged for a command
 pub record Obeys (command : Command) (result : Status) (left left' : Option (List ℕ)) (reads reads' : ℕ)
     (held held' : Option (List ℕ)) (writes writes' : ℕ) : Type 0 where
   pub heading : Option Heading
-  pub log : List Event
-  pub stop : Stop
   pub heads : Heads left heading
-  pub stops : Stops Patterns (limits_of command) 1 AtHeader left stop log left' reads reads'
-  pub reports : Reports command heading log stop result held held' writes writes'
+  pub answered : Answered (judging (limits_of command)) AtHeader
+      (λ said text. Says command heading said.log said.verdict text) (λ said. status_of said.verdict)
+      (Starves (judging (limits_of command)) 1 AtHeader) result left left' reads reads' held held' writes writes'
+
+-- a run was followed
+abbrev pub FollowsRun : Status → Option (List ℕ) → Option (List ℕ) → ℕ → ℕ → Option (List ℕ) → Option (List ℕ) → ℕ → ℕ
+    → Type 0
+FollowsRun result left left' reads reads' held held' writes writes' =
+    Answered following run.AtHeader (λ says text. text ≡ run.run_text says) run_status WantsRun result left left'
+    reads reads' held held' writes writes'
+
+-- a generated log was written, and the source is as before
+abbrev pub Generates : ℕ → ℕ → Status → Option (List ℕ) → Option (List ℕ) → ℕ → ℕ → Option (List ℕ) → Option (List ℕ)
+    → ℕ → ℕ → Type 0
+Generates n count result left left' reads reads' held held' writes writes' =
+    (left' ≡ left) × (reads' ≡ reads) × Wrote status.Accepted (gen_text n count) result held held' writes writes'
+
+-- what was asked for was done
+abbrev pub Serves : Request → Status → Option (List ℕ) → Option (List ℕ) → ℕ → ℕ → Option (List ℕ) → Option (List ℕ)
+    → ℕ → ℕ → Type 0
+Serves (Judge command) result left left' reads reads' held held' writes writes' =
+    Obeys command result left left' reads reads' held held' writes writes'
+Serves Follow result left left' reads reads' held held' writes writes' =
+    FollowsRun result left left' reads reads' held held' writes writes'
+Serves (Generate n count) result left left' reads reads' held held' writes writes' =
+    Generates n count result left left' reads reads' held held' writes writes'
+
+-- This much of a text was written, whole and without a fault, and the rest of it is buffered.
+abbrev pub Buffered : List ℕ → List ℕ → Option (List ℕ) → Option (List ℕ) → ℕ → ℕ → Type 0
+Buffered text buffer old new faults faults' =
+    (done : List ℕ) × (text ≡ done ++ buffer) × (new ≡ extended old done) × (faults' ≡ faults)
+
+-- the same, or a write failed
+abbrev pub Pours : List ℕ → Result (Unit {0}) Failed → List ℕ → Option (List ℕ) → Option (List ℕ) → ℕ → ℕ → Type 0
+Pours text (Ok _) buffer old new faults faults' = Buffered text buffer old new faults faults'
+Pours text (Err _) buffer old new faults faults' = Part text old new × Rose faults faults'

@@ -2,13 +2,19 @@
 
 ghost use Rattle.std.specs.Prelude.{◌≡◌, map};
 ghost use Rattle.std.specs.String.{string_bytes};
-ghost use Rattle.bbm_session.specs.Run.{command_alone, command_of, limits_of};
+ghost use Rattle.bbm_session.specs.Requests.{event_count, follow_of, gen_asked, gen_of, request_of};
+ghost use Rattle.bbm_session.specs.Run.{command_alone, command_of, limits_of, or_else};
 
+use bbm_log_grammar::read_decimal;
 use bbm_report::{Question, asked};
 use bbm_rules::Limits;
 
 /// The most events of a log that the oracle judges. Source: project's own choice.
 const ORACLE_EVENTS: u64 = 2000;
+
+/// The most events of a generated log, which has at most 2^32 - 1 lines with its header and its end. Source: project's
+/// own choice.
+const GENERATED_EVENTS: u64 = 4_294_967_293;
 
 /// A command that judges a log. Source: project's own choice.
 #[derive(Clone, Copy, Debug)]
@@ -22,6 +28,22 @@ pub enum Command {
     Explain,
     /// The same as `Check`; where the log is accepted, behind it the line of a walk over the values at its end.
     Walk(Question),
+}
+
+/// What the program is asked for. Source: project's own choice.
+#[derive(Clone, Copy, Debug)]
+pub enum Request {
+    /// A log is judged.
+    Judge(Command),
+    /// A log with lines of machine steps between its events is read, and the run of the machine of TLBs is followed.
+    Follow,
+    /// A generated log is written, and nothing is read.
+    Generate {
+        /// The number of the log.
+        number: u64,
+        /// How many events it has, at most 4,294,967,293.
+        events: u32,
+    },
 }
 
 // The command that one word says, None where there is another number of words.
@@ -41,8 +63,8 @@ fn said_alone(words: &[String]) -> Option<Command>
     }
 }
 
-/// The command that the words say, None where they say none.
-pub fn said(words: &[String]) -> Option<Command>
+// The command that the words say, None where they say none.
+fn said_command(words: &[String]) -> Option<Command>
     ensures { result ≡ command_of (map string_bytes words.now) }
 {
     match said_alone(words) {
@@ -51,6 +73,76 @@ pub fn said(words: &[String]) -> Option<Command>
             Some(question) => Some(Command::Walk(question)),
             None => None,
         },
+    }
+}
+
+// The request of one word that isn't a command.
+fn said_follow(words: &[String]) -> Option<Request>
+    ensures { result ≡ follow_of (map string_bytes words.now) }
+{
+    if words.len() != 1 {
+        None
+    } else if words[0].as_bytes() == b"follow".as_slice() {
+        Some(Request::Follow)
+    } else {
+        None
+    }
+}
+
+// The number of events of a generated log.
+fn read_count(text: &[u8]) -> Option<u32>
+    ensures { result ≡ event_count text.now }
+{
+    let count = read_decimal(text)?;
+    if count <= GENERATED_EVENTS {
+        Some(count as u32)
+    } else {
+        None
+    }
+}
+
+// The generated log of two words.
+fn read_gen(n: &[u8], count: &[u8]) -> Option<Request>
+    ensures { result ≡ gen_asked n.now count.now }
+{
+    let number = read_decimal(n)?;
+    let events = read_count(count)?;
+    Some(Request::Generate { number, events })
+}
+
+// The request of the words `gen N COUNT`.
+fn said_gen(words: &[String]) -> Option<Request>
+    ensures { result ≡ gen_of (map string_bytes words.now) }
+{
+    match words {
+        [word, n, count] => {
+            if word.as_bytes() == b"gen".as_slice() {
+                read_gen(n.as_bytes(), count.as_bytes())
+            } else {
+                None
+            }
+        }
+        _ => None,
+    }
+}
+
+// The request of words that are no command.
+fn said_other(words: &[String]) -> Option<Request>
+    ensures { result ≡ or_else (follow_of (map string_bytes words.now)) (gen_of (map string_bytes words.now)) }
+{
+    match said_follow(words) {
+        Some(request) => Some(request),
+        None => said_gen(words),
+    }
+}
+
+/// What the words ask for, None where they ask for nothing.
+pub fn said(words: &[String]) -> Option<Request>
+    ensures { result ≡ request_of (map string_bytes words.now) }
+{
+    match said_command(words) {
+        Some(command) => Some(Request::Judge(command)),
+        None => said_other(words),
     }
 }
 

@@ -1,52 +1,27 @@
-//! The lines of a log, judged one after another.
+//! The events of a log, judged one after another.
 
-ghost use Rattle.std.specs.Prelude.{◌≡◌, ◌+◌, ◌≤◌, ℕ, suc, List, [], length, Option, OnOk, IfOk, IfErr, Err, true};
+ghost use Rattle.std.specs.Prelude.{◌≡◌, ◌<◌, ℕ, suc, List, length, Option, Ok, IfOk, Err, true};
 ghost use Rattle.bbm_regimes.specs.declared.regime.Which.{Which as WhichOf};
 ghost use Rattle.bbm_events.specs.declared.event.Event.{Event};
 ghost use Rattle.bbm_events.specs.Fits.{fits_heading, item_fits};
 ghost use Rattle.bbm_events.specs.Heading.{Heading};
-ghost use Rattle.bbm_rules.specs.declared.limits.Limits.{Limits as LimitsOf};
 ghost use Rattle.bbm_rules.specs.Answers.{Answers, MayTake};
 ghost use Rattle.bbm_rules.specs.Broken.{Breach};
 ghost use Rattle.bbm_rules.specs.Claims.{Patterns};
-ghost use Rattle.bbm_rules.specs.Outcome.{is_reached, limit_after, after_header, after_event, after_item};
+ghost use Rattle.bbm_rules.specs.Outcome.{Progress, is_reached, limit_after, after_event, after_item};
 ghost use Rattle.bbm_session.specs.Run.{IsEvent};
-ghost use Rattle.bbm_session.specs.Stages.{Shrinks, StopsAt, StandsAt, MayJudge, Ready, IsBrief, Keeps, JudgesHeader};
-ghost use Rattle.bbm_session.specs.Stages.{JudgesLine, Starts, Advances, Reaches, Closes, Ends};
+ghost use Rattle.bbm_session.specs.Fold.{Fold};
+ghost use Rattle.bbm_session.specs.Folds.{Judged, Judges};
+ghost use Rattle.bbm_session.specs.Stages.{StopsAt, MayJudge, Keeps, JudgesLine, MayTakeLine, TakesLine};
 
-use crate::line::{Piece, find_piece, next_piece, take_found};
+use crate::reading::{limit, malformed};
 use crate::stop::{Stop, Turn};
+use crate::taker::Taker;
 use bbm_events::{Event, Header, Item, Label, Malformed};
-use bbm_io::{Lines, Source};
-use bbm_log_grammar::{read_event, read_header};
+use bbm_log_grammar::read_event;
 use bbm_regimes::Which;
 use bbm_rules::{Checker, Limits, StepFault, Verdict};
 use std::alloc::Global;
-
-// Why reading stops at a malformed line.
-fn malformed(line: u64, cause: Malformed) -> Stop
-    ensures { result ≡ Stop.Decided (Verdict.Malformed line cause) }
-{
-    Stop::Decided(Verdict::Malformed { line, cause })
-}
-
-// Why reading stops at a line that reaches a limit.
-fn limit(line: u64, which: Which) -> Stop
-    ensures { result ≡ Stop.Decided (Verdict.Limit line which) }
-{
-    Stop::Decided(Verdict::Limit { line, which })
-}
-
-// What line 1 decides, by what was read of it.
-fn judge_header(read: Result<Header, Malformed>) -> Result<Header, Stop>
-    ensures judges { JudgesHeader result (after_header 1 read) }
-    ensures brief { IfErr result (λ stop. IsBrief stop) }
-{
-    match read {
-        Ok(header) => Ok(header),
-        Err(cause) => Err(malformed(1, cause)),
-    }
-}
 
 // Why reading stops at an event with this label that the checker didn't take.
 fn refusal(number: u64, label: Option<Label>, fault: StepFault) -> Stop
@@ -77,7 +52,8 @@ fn passes(most: Option<u64>, taken: u64) -> bool
 
 // The limit that the last of so many events, on this line, reaches.
 fn limit_reached(limits: Limits, number: u64, taken: u64) -> Option<Which>
-    ensures { (before : ℕ) → taken ≡ suc before → result ≡ limit_after limits number before }
+    ensures reached { (before : ℕ) → taken ≡ suc before → result ≡ limit_after limits number before }
+    ensures few { result ≡ None → number < 4294967295 }
 {
     if passes(limits.events, taken) {
         Some(Which::Events)
@@ -98,17 +74,18 @@ fn judge_event<C: Checker>(
     label: Option<Label>,
 ) -> Result<Turn, Stop>
     requires { MayTake (C.stands checker.old) event }
-    ensures { (heading : Heading) (h : List Event) → Keeps (C.stands checker.old) heading h
+    ensures judges { (heading : Heading) (h : List Event) → Keeps (C.stands checker.old) heading h
         → fits_heading heading event ≡ true
-        → JudgesLine (C.stands checker.new) limits heading number h (Unit {0}) result
+        → JudgesLine (C.stands checker.new) heading h (Unit {0}) result
         (after_event Patterns limits number heading h event label) }
+    ensures few { result ≡ Ok Turn.Taken → number < 4294967295 }
 {
     if let Err(fault) = checker.step(alloc, event) {
         return Err(refusal(number, label, fault));
     }
     match limit_reached(limits, number, checker.events()) {
         Some(which) => Err(limit(number, which)),
-        None => Ok(Turn::Event),
+        None => Ok(Turn::Taken),
     }
 }
 
@@ -121,10 +98,11 @@ fn judge_item<C: Checker>(
     read: Result<Item, Malformed>,
 ) -> Result<Turn, Stop>
     requires { MayJudge (C.stands checker.old) read }
-    ensures { (heading : Heading) (h : List Event) → Keeps (C.stands checker.old) heading h
+    ensures judges { (heading : Heading) (h : List Event) → Keeps (C.stands checker.old) heading h
         → IfOk read (λ item. item_fits heading item ≡ true)
-        → JudgesLine (C.stands checker.new) limits heading number h (IsEvent read) result
+        → JudgesLine (C.stands checker.new) heading h (IsEvent read) result
         (after_item Patterns limits number heading h read) }
+    ensures few { result ≡ Ok Turn.Taken → number < 4294967295 }
 {
     match read {
         Ok(Item::Event(event, label)) => judge_event(alloc, limits, number, checker, event, label),
@@ -139,136 +117,51 @@ fn judge_item<C: Checker>(
     }
 }
 
-/// Reads line 1 and answers its header.
-pub fn header_line<S: Source>(lines: &mut Lines, log: &mut S) -> Result<Header, Stop>
-    requires { Ready lines.old 1 }
-    ensures ready { OnOk result (Ready lines.new 2) }
-    ensures starts { (limits : LimitsOf) → Starts limits result (S.left log.old) (S.left log.new)
-        (S.faults log.old) (S.faults log.new) }
-    ensures brief { IfErr result (λ stop. IsBrief stop) }
-    ensures shrinks { Shrinks (S.left log.old) (S.left log.new) }
-{
-    match next_piece(lines, log) {
-        Piece::Line => judge_header(read_header(lines.bytes())),
-        Piece::Rest => Err(malformed(1, Malformed::NoEnd)),
-        Piece::TooLong => Err(limit(1, Which::LineBytes)),
-        Piece::ReadFault => Err(Stop::ReadFault),
-    }
-}
-
-// Reads line number `number`, after the header.
-fn event_line<C: Checker, S: Source>(
+// What a line after the header decides.
+fn judge_line<C: Checker>(
     alloc: Global,
     limits: Limits,
     number: u64,
-    header: &Header,
     checker: &mut C,
-    lines: &mut Lines,
-    log: &mut S,
+    header: &Header,
+    line: &[u8],
 ) -> Result<Turn, Stop>
-    requires stands { StandsAt (C.stands checker.old) header.now number }
-    requires number { number ≤ limits.lines + 2 }
-    requires ready { Ready lines.old number }
-    ensures ready { OnOk result (Ready lines.new (number + 1)) }
-    ensures advances { (h : List Event) → Keeps (C.stands checker.old) header.now h
-        → Advances (C.stands checker.new) limits header.now number h result (S.left log.old) (S.left log.new)
-        (S.faults log.old) (S.faults log.new) }
-    ensures shrinks { Shrinks (S.left log.old) (S.left log.new) }
+    requires { MayTakeLine (Judges (C.stands checker.old) limits) header.now number }
+    ensures takes { (fold : Fold Progress Judged) (p : Progress)
+        → Judges (C.stands checker.old) limits fold header.now p number
+        → TakesLine fold (Judges (C.stands checker.new) limits fold header.now) number p line.now result }
+    ensures few { result ≡ Ok Turn.Taken → number < 4294967295 }
 {
-    let whole = lines.at_hand(log);
-    match find_piece(whole, lines, log) {
-        Piece::Line => {
-            let read = read_event(header, lines.shown(whole, log));
-            take_found(whole, lines, log);
-            judge_item(alloc, limits, number, checker, read)
-        }
-        Piece::Rest => Err(malformed(number, Malformed::NoEnd)),
-        Piece::TooLong => Err(limit(number, Which::LineBytes)),
-        Piece::ReadFault => Err(Stop::ReadFault),
-    }
+    judge_item(alloc, limits, number, checker, read_event(header, line))
 }
 
-/// Reads the lines from line 2 to the `end` line and judges them; answers the number of the line behind it.
-pub fn event_lines<C: Checker, S: Source>(
-    alloc: Global,
-    limits: Limits,
-    header: &Header,
-    checker: &mut C,
-    lines: &mut Lines,
-    log: &mut S,
-) -> Result<u64, Stop>
-    requires fresh { C.stands checker.old header.now [] }
-    requires ready { Ready lines.old 2 }
-    ensures ready { IfOk result (λ number. Ready lines.new number) }
-    ensures reaches { Reaches (C.stands checker.new) limits header.now result (S.left log.old) (S.left log.new)
-        (S.faults log.old) (S.faults log.new) }
-    ensures shrinks { Shrinks (S.left log.old) (S.left log.new) }
-{
-    let mut number = 2;
-    'lines: loop {
-        match event_line(alloc, limits, number, header, checker, lines, log) {
-            Ok(Turn::Event) => number += 1,
-            Ok(Turn::End) => return Ok(number + 1),
-            Err(stop) => return Err(stop),
-        }
-    }
+/// Events that are judged by a checker, under these limits.
+#[derive(Drop)]
+pub struct Judging<C> {
+    /// The limits.
+    pub limits: Limits,
+    /// The checker, which has taken the events of the lines so far, and maybe the one on the line that decides where it
+    /// reaches a limit.
+    pub checker: C,
 }
 
-/// Reads behind the `end` line, where nothing may follow.
-pub fn nothing_follows<S: Source>(number: u64, lines: &mut Lines, log: &mut S) -> Result<(), Stop>
-    requires ready { Ready lines.old number }
-    requires number { number ≤ 4294967298 }
-    ensures closes { (limits : LimitsOf) (h : List Event) → Closes limits result number h
-        (S.left log.old) (S.left log.new) (S.faults log.old) (S.faults log.new) }
-    ensures brief { IfErr result (λ stop. IsBrief stop) }
-    ensures shrinks { Shrinks (S.left log.old) (S.left log.new) }
-{
-    match next_piece(lines, log) {
-        Piece::Line => Err(malformed(number, Malformed::AfterEnd)),
-        Piece::Rest => {
-            if lines.bytes().is_empty() {
-                Ok(())
-            } else {
-                Err(malformed(number, Malformed::AfterEnd))
-            }
-        }
-        Piece::TooLong => Err(malformed(number, Malformed::AfterEnd)),
-        Piece::ReadFault => Err(Stop::ReadFault),
-    }
-}
+impl<C: Checker> Taker for Judging<C> {
+    ghost use Rattle.bbm_rules.specs.Outcome.{Progress};
+    ghost use Rattle.bbm_session.specs.Folds.{Judged, Judges};
 
-// What stands behind the lines up to the end decides an accepted log.
-fn judge_end<C: Checker>(checker: &C, behind: Result<(), Stop>) -> Stop
-    ensures accepted { (heading : Heading) (h : List Event) → C.stands checker.now heading h
-        → OnOk behind (result ≡ Stop.Decided (Verdict.Accepted (length h))) }
-    ensures stopped { IfErr behind (λ stop. result ≡ stop) }
-{
-    match behind {
-        Ok(()) => Stop::Decided(Verdict::Accepted {
-            events: checker.events(),
-        }),
-        Err(stop) => stop,
-    }
-}
+    ghost Reached = { Progress };
 
-/// Reads the log behind its header up to the line that decides under these limits, and answers why reading stopped. The
-/// checker has taken the events before that line, and it may have taken the one on it where this reaches a limit.
-pub fn judge_events<C: Checker, S: Source>(
-    alloc: Global,
-    limits: Limits,
-    header: &Header,
-    checker: &mut C,
-    lines: &mut Lines,
-    log: &mut S,
-) -> Stop
-    requires fresh { C.stands checker.old header.now [] }
-    requires ready { Ready lines.old 2 }
-    ensures ends { Ends (C.stands checker.new) limits header.now result (S.left log.old) (S.left log.new)
-        (S.faults log.old) (S.faults log.new) }
-    ensures shrinks { Shrinks (S.left log.old) (S.left log.new) }
-{
-    match event_lines(alloc, limits, header, checker, lines, log) {
-        Ok(number) => judge_end(checker, nothing_follows(number, lines, log)),
-        Err(stop) => stop,
+    ghost Said = { Judged };
+
+    ghost stands = { λ judging. Judges (C.stands judging.checker) judging.limits };
+
+    fn take(
+        &mut self,
+        alloc: Global,
+        number: u64,
+        header: &Header,
+        line: &[u8],
+    ) -> Result<Turn, Stop> {
+        judge_line(alloc, self.limits, number, &mut self.checker, header, line)
     }
 }

@@ -1,17 +1,23 @@
 //! The top call: a log is read from a source and judged, and the verdict is written to a sink, with what a command says
-//! behind it.
+//! behind it; or a run is read and followed.
 #![tactic(auto)]
 
+mod answering;
 mod command;
+mod following;
+mod generating;
 mod judging;
 mod line;
+mod obeying;
+mod reading;
 pub mod status;
 mod stop;
+mod taker;
 mod telling;
 mod top;
 mod words;
 
-pub use command::Command;
+pub use command::{Command, Request};
 pub use status::{Status, number};
 pub use top::run;
 pub use words::run_words;

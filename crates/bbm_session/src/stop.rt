@@ -16,8 +16,8 @@ pub enum Stop {
 /// What a line was that decides nothing.
 #[derive(Clone, Copy, Debug)]
 pub enum Turn {
-    /// An event, which was taken.
-    Event,
+    /// A line between the header and the end, which was taken.
+    Taken,
     /// The end.
     End,
 }

@@ -1,16 +1,14 @@
 //! From the words that were gathered, or not, to the status with which the program ends.
 
-ghost use Rattle.std.specs.Prelude.{◌≡◌, ◌≢◌, ◌⊎◌, ◌<◌, ℕ, List, [], true, map, IfOk, IfErr, OnErr, Option, Some};
+ghost use Rattle.std.specs.Prelude.{◌≡◌, ◌≢◌, ◌⊎◌, ◌<◌, ℕ, List, [], true, false, map, IfOk, IfErr, OnErr, Option, Some};
 ghost use Rattle.std.specs.Prelude.{None, IsSome};
 ghost use Rattle.std.specs.IoError.{error_kind};
 ghost use Rattle.std.specs.String.{string_bytes};
 ghost use Rattle.bbm_io.specs.Faults.{Rose};
 ghost use Rattle.bbm_io.specs.Flow.{extended};
-ghost use Rattle.bbm_rules.specs.Claims.{Patterns};
-ghost use Rattle.bbm_rules.specs.Outcome.{outcome_of, verdict_of_bytes};
-ghost use Rattle.bbm_session.specs.declared.command.Command.{Command as CommandOf};
-ghost use Rattle.bbm_session.specs.Run.{IsTextOf, ReadToWant, command_of, limits_of, status_of, tells_verdict};
-ghost use Rattle.bbm_session.specs.Run.{usage_text};
+ghost use Rattle.bbm_session.specs.declared.command.Request.{Request as RequestOf};
+ghost use Rattle.bbm_session.specs.Requests.{IsTextFor, WantAt, reads_input, request_of, status_for, unread_for};
+ghost use Rattle.bbm_session.specs.Run.{tells_verdict, usage_text};
 
 use crate::status::Status;
 use crate::top::run;
@@ -28,37 +26,43 @@ pub fn run_words<S: Source, K: Sink>(
     log: &mut S,
     out: &mut K,
 ) -> Status
-    ensures usage { IfOk words (λ all. command_of (map string_bytes all.items) ≡ None
+    ensures usage { IfOk words (λ all. request_of (map string_bytes all.items) ≡ None
         → (result ≡ Status.Usage) ⊎ (result ≡ Status.WriteFault)) }
     ensures no_command { IfErr words (λ error. error_kind error ≢ ErrorKind.OutOfMemory
         → (result ≡ Status.Usage) ⊎ (result ≡ Status.WriteFault)) }
     ensures want { IfErr words (λ error. error_kind error ≡ ErrorKind.OutOfMemory → result ≡ Status.NoMemory) }
     ensures unread { OnErr words (S.left log.new ≡ S.left log.old) }
-    ensures usage_reads_nothing { IfOk words (λ all. command_of (map string_bytes all.items) ≡ None
+    ensures usage_reads_nothing { IfOk words (λ all. request_of (map string_bytes all.items) ≡ None
         → S.left log.new ≡ S.left log.old) }
     ensures usage_line { result ≡ Status.Usage → K.held out.new ≡ extended (K.held out.old) usage_text }
-    ensures status { IfOk words (λ all. (command : CommandOf) → command_of (map string_bytes all.items) ≡ Some command
+    ensures status { IfOk words (λ all. (request : RequestOf) → request_of (map string_bytes all.items) ≡ Some request
         → (bytes : List ℕ) → S.left log.old ≡ Some bytes → tells_verdict result ≡ true
-        → result ≡ status_of (verdict_of_bytes Patterns (limits_of command) bytes)) }
-    ensures text { IfOk words (λ all. (command : CommandOf) → command_of (map string_bytes all.items) ≡ Some command
+        → result ≡ status_for request bytes) }
+    ensures text { IfOk words (λ all. (request : RequestOf) → request_of (map string_bytes all.items) ≡ Some request
         → (bytes : List ℕ) → S.left log.old ≡ Some bytes → tells_verdict result ≡ true
-        → (text : List ℕ) × IsTextOf command bytes text × (K.held out.new ≡ extended (K.held out.old) text)) }
-    ensures verdict_unread { IfOk words (λ all. (command : CommandOf)
-        → command_of (map string_bytes all.items) ≡ Some command → (bytes : List ℕ)
+        → (text : List ℕ) × IsTextFor request bytes text × (K.held out.new ≡ extended (K.held out.old) text)) }
+    ensures verdict_unread { IfOk words (λ all. (request : RequestOf)
+        → request_of (map string_bytes all.items) ≡ Some request → (bytes : List ℕ)
         → S.left log.old ≡ Some bytes → tells_verdict result ≡ true
-        → S.left log.new ≡ Some (outcome_of Patterns (limits_of command) bytes).unread) }
+        → S.left log.new ≡ Some (unread_for request bytes)) }
+    ensures generated { IfOk words (λ all. (request : RequestOf)
+        → request_of (map string_bytes all.items) ≡ Some request → reads_input request ≡ false
+        → (result ≡ Status.Accepted) ⊎ (result ≡ Status.WriteFault)) }
+    ensures generated_reads_nothing { IfOk words (λ all. (request : RequestOf)
+        → request_of (map string_bytes all.items) ≡ Some request → reads_input request ≡ false
+        → S.left log.new ≡ S.left log.old) }
     ensures unwritten { (result ≡ Status.ReadFault) ⊎ (result ≡ Status.NoMemory)
         → K.held out.new ≡ K.held out.old }
     ensures read_rose { S.faults log.old < S.faults log.new → result ≡ Status.ReadFault }
     ensures write_rose { K.faults out.old < K.faults out.new → result ≡ Status.WriteFault }
     ensures read_fault { result ≡ Status.ReadFault → Rose (S.faults log.old) (S.faults log.new) }
     ensures write_fault { result ≡ Status.WriteFault → Rose (K.faults out.old) (K.faults out.new) }
-    ensures complete { IfOk words (λ all. IsSome (command_of (map string_bytes all.items))
+    ensures complete { IfOk words (λ all. IsSome (request_of (map string_bytes all.items))
         → ¬ (Rose (S.faults log.old) (S.faults log.new)) → ¬ (Rose (K.faults out.old) (K.faults out.new))
         → (tells_verdict result ≡ true) ⊎ (result ≡ Status.NoMemory)) }
-    ensures read_to_want { IfOk words (λ all. (command : CommandOf)
-        → command_of (map string_bytes all.items) ≡ Some command → (bytes : List ℕ)
-        → S.left log.old ≡ Some bytes → result ≡ Status.NoMemory → ReadToWant (limits_of command) bytes (S.left log.new)) }
+    ensures read_to_want { IfOk words (λ all. (request : RequestOf)
+        → request_of (map string_bytes all.items) ≡ Some request → (bytes : List ℕ)
+        → S.left log.old ≡ Some bytes → result ≡ Status.NoMemory → WantAt request bytes (S.left log.new)) }
 {
     match words {
         Ok(all) => run(alloc, &all, log, out),

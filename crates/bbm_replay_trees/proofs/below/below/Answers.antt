@@ -24,5 +24,10 @@ returns c heading = record {
   node_unroot = c.law_node_step.ensures.unroot heading Patterns;
   node_dsb = c.law_node_step.ensures.dsb heading Patterns;
   unattached = c.law_node_step.ensures.unattached heading Patterns;
+  gained = c.law_one_position.ensures.gained heading Patterns;
+  no_init = c.law_one_position.ensures.no_init heading Patterns;
+  held_step = c.law_held_step.ensures heading Patterns;
+  held_changes = c.law_held_changes.ensures.changes heading Patterns;
+  holds_present = c.law_fresh_content.ensures.attached heading Patterns;
   fresh_others = c.law_fresh_step.ensures.others heading Patterns;
 }

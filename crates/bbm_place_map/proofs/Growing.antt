@@ -1,0 +1,108 @@
+-- One more page.
+use Rattle.std.proofs.Common.{◌≡◌, ◌≢◌, ℕ, ◌+◌, ◌*◌, ◌/◌, ◌%◌, ◌≤◌, Bool, true, false, nat_eq, ◌==◌, List, length, Option, Some, None, refl, ap, sym, ◌∙◌, arith, inl, inr, ◌⊎◌, if◌then◌else◌, is_some}
+use Rattle.std.specs.Option.{option_map}
+use Rattle.std.proofs.lemmas.Bool.{cases_eq, eq-eqb, ne_eqb, cond-true, cond-false}
+use Rattle.std.proofs.lemmas.List.{get_or_past}
+use Rattle.std.proofs.lemmas.Option.{same_Some, none-some}
+use Rattle.bbm_place_map.specs.Cells.{no_cell, value_in, slot_in}
+use Rattle.bbm_place_map.specs.Entries.{no_pends, entry_of, marks_of, pends_of}
+use Rattle.bbm_place_map.specs.Parts.{marks_in, pends_for}
+use Rattle.bbm_place_map.specs.Sound.{Numbered, Placed, index_of, at_index}
+use Rattle.bbm_place_map.specs.declared.cell.Cell.{Cell}
+use Rattle.bbm_place_map.proofs.Places.{at_same}
+use Rattle.bbm_place_map.specs.declared.entry.Entry.{Entry}
+
+module _ (old new : ℕ → Option ℕ) (page count : ℕ) (updates : (p : ℕ) → new p ≡ (if nat_eq p page then Some count else old p))
+    (free : old page ≡ None) (numbered : Numbered old count) where
+  at_new : (p : ℕ) → p ≡ page → new p ≡ Some count
+  at_new p same = updates p ∙ cond-true (nat_eq p page) (Some count) (old p) (eq-eqb p page same)
+
+  at_old : (p : ℕ) → p ≢ page → new p ≡ old p
+  at_old p other = updates p ∙ cond-false (nat_eq p page) (Some count) (old p) (ne_eqb p page other)
+
+  -- a page with a base is the new one, or was there
+  which : (p b : ℕ) → new p ≡ Some b → ((p ≡ page) × (b ≡ count)) ⊎ ((old p ≡ Some b) × (b + 512 ≤ count))
+  which p b h =
+      elim (cases_eq p page) [
+        | inl same ↦ inl (same, same_Some b count (sym h ∙ at_new p same))
+        | inr other ↦
+            let is : old p ≡ Some b = sym (at_old p other) ∙ h in inr (is, numbered.within p b is)
+      ]
+
+  pub numbered_more : (more : ℕ) → count + 512 ≤ more → Numbered new more
+  numbered_more more room = record {
+    within = λ p b h. elim (which p b h) [ inl same ↦ let is = same.1 in omega arith | inr was ↦ let is = was.1 in omega arith ];
+    apart = λ p q b c hp hq low high.
+        elim (which p b hp) [
+          | inl same ↦
+              elim (which q c hq) [
+                | inl same' ↦ same.0 ∙ sym same'.0
+                | inr was' ↦ let is = same.1 in let in' = was'.1 in absurd (omega arith)
+              ]
+          | inr was ↦
+              elim (which q c hq) [
+                | inl same' ↦ let is = same'.1 in let in' = was.1 in absurd (omega arith)
+                | inr was' ↦ numbered.apart p q b c was.0 was'.0 low high
+              ]
+        ];
+  }
+
+  index_at : (a : ℕ) (p : Option ℕ) → new (a / 4096 * 4096) ≡ p → index_of new a ≡ (if a % 8 == 0 then option_map (λ b. b + a % 4096 / 8) p else None)
+  index_at a p is = ap (λ (o : Option ℕ). if a % 8 == 0 then option_map (λ b. b + a % 4096 / 8) o else None) is
+
+  -- the index of an address of another page stays
+  index_old : (a : ℕ) → a / 4096 * 4096 ≢ page → index_of new a ≡ index_of old a
+  index_old a other = index_at a (old (a / 4096 * 4096)) (at_old (a / 4096 * 4096) other)
+
+  index_none : (a : ℕ) → a / 4096 * 4096 ≡ page → (t : Bool) → (if t then option_map (λ b. b + a % 4096 / 8) (old (a / 4096 * 4096)) else None) ≡ None
+  index_none a same true = ap (option_map (λ b. b + a % 4096 / 8)) (ap old same ∙ free)
+  index_none a same false = refl
+
+  none_old : (a : ℕ) → a / 4096 * 4096 ≡ page → index_of old a ≡ None
+  none_old a same = index_none a same (a % 8 == 0)
+
+  pub placed_more : (entries : List Entry) → Placed old entries → Placed new entries
+  placed_more entries placed k e h =
+      elim (cases_eq (e.place / 4096 * 4096) page) [
+        | inl same ↦ absurd (none-some e.cell (sym (none_old e.place same) ∙ placed k e h))
+        | inr other ↦ index_old e.place other ∙ placed k e h
+      ]
+
+  past_new : {X : Type 0} (d : X) (f g : ℕ → X) → ((i : ℕ) → g i ≡ f i) → ((i : ℕ) → count ≤ i → f i ≡ d)
+      → (a : ℕ) → a / 4096 * 4096 ≡ page → (t : Bool) → at_index d g (if t then option_map (λ b. b + a % 4096 / 8) (Some count) else None) ≡ d
+  past_new d f g same past a is true = same (count + a % 4096 / 8) ∙ past (count + a % 4096 / 8) (omega arith)
+  past_new d f g same past a is false = refl
+
+  pub at_grown : {X : Type 0} (d : X) (f g : ℕ → X) → ((i : ℕ) → g i ≡ f i) → ((i : ℕ) → count ≤ i → f i ≡ d)
+      → (a : ℕ) → at_index d g (index_of new a) ≡ at_index d f (index_of old a)
+  at_grown d f g same past a =
+      elim (cases_eq (a / 4096 * 4096) page) [
+        | inl is ↦
+            ap (at_index d g) (index_at a (Some count) (at_new (a / 4096 * 4096) is)) ∙ past_new d f g same past a is (a % 8 == 0)
+            ∙ sym (ap (at_index d f) (none_old a is))
+        | inr other ↦ ap (at_index d g) (index_old a other) ∙ at_same d f g same (index_of old a)
+      ]
+
+pub past_value : (cells : List Cell) (i : ℕ) → length cells ≤ i → value_in cells i ≡ 0
+past_value cells i past = ap (λ (c : Cell). c.value) (get_or_past cells i no_cell past)
+
+pub past_slot : (cells : List Cell) (i : ℕ) → length cells ≤ i → slot_in cells i ≡ None
+past_slot cells i past = ap (λ (c : Cell). c.slot) (get_or_past cells i no_cell past)
+
+pub past_marks : (cells : List Cell) (entries : List Entry) (i : ℕ) → length cells ≤ i → marks_in cells entries i ≡ None
+past_marks cells entries i past = ap (λ (o : Option ℕ). marks_of (entry_of entries o)) (past_slot cells i past)
+
+pub past_pends : (cells : List Cell) (entries : List Entry) (q i : ℕ) → length cells ≤ i → pends_for cells entries q i ≡ no_pends
+past_pends cells entries q i past = ap (λ (o : Option ℕ). pends_of q (entry_of entries o)) (past_slot cells i past)
+
+-- a test with its sides exchanged
+pub flip : (key page p : ℕ) → key ≡ page → nat_eq key p ≡ nat_eq p page
+flip key page p is =
+    elim (cases_eq p page) [
+      | inl same ↦ eq-eqb key p (is ∙ sym same) ∙ sym (eq-eqb p page same)
+      | inr other ↦ ne_eqb key p (λ h. other (sym h ∙ is)) ∙ sym (ne_eqb p page other)
+    ]
+
+pub not_some : (o : Option ℕ) → is_some o ≡ false → o ≡ None
+not_some None h = refl
+not_some (Some x) h = cc

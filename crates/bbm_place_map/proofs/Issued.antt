@@ -1,0 +1,84 @@
+-- What the issue of a TLBI notes, of a place.
+use Rattle.std.proofs.Common.{◌≡◌, ℕ, Bool, true, ◌<◌, List, length, Option, Some, None, is_some, refl, ap, sym, subst, ◌∙◌, arith, inl, inr, slice_get, unwrap_or}
+use Rattle.std.specs.Option.{option_map}
+use Rattle.std.proofs.lemmas.Option.{slice_get_cases}
+use Rattle.bbm_regimes.specs.declared.pe.PeMask.{PeMask}
+use Rattle.bbm_tlbi_scope.specs.declared.entry.Cover.{Cover}
+use Rattle.bbm_entry_state.specs.Calls.{Noted}
+use Rattle.bbm_entry_state.specs.Points.{waits}
+use Rattle.bbm_entry_state.specs.declared.marks.Marks.{Marks}
+use Rattle.bbm_entry_state.specs.declared.state.EntryState.TheVariants.{Broken}
+use Rattle.bbm_place_map.specs.Cells.{slot_in}
+use Rattle.bbm_place_map.specs.Each.{Advances}
+use Rattle.bbm_place_map.specs.Entries.{no_pends, entry_of, pends_in, pends_of}
+use Rattle.bbm_place_map.specs.Notes.{Keeps, NotesAt}
+use Rattle.bbm_place_map.specs.Parts.{marks_in, pends_for}
+use Rattle.bbm_place_map.specs.Sound.{Linked, Numbered, Placed, index_of, at_index}
+use Rattle.bbm_place_map.specs.States.{state_from}
+use Rattle.bbm_place_map.specs.declared.cell.Cell.{Cell}
+use Rattle.bbm_place_map.specs.declared.entry.Entry.{Entry}
+use Rattle.bbm_place_map.specs.declared.entry.Pending.{Pending}
+use Rattle.bbm_place_map.proofs.Advancing.{at_both}
+use Rattle.bbm_place_map.proofs.Noting.{noted_alike}
+use Rattle.bbm_place_map.proofs.Restless.{entry_there, marks_are, place_each}
+
+cover_there : (covers : List Cover) (i : ℕ) → i < length covers → (c : Cover) × (slice_get covers i ≡ Some c)
+cover_there covers i within =
+    elim ((slice_get_cases covers i).1) [
+      | inl is ↦ (is.0, is.2)
+      | inr past ↦ absurd (omega (arith, past.0))
+    ]
+
+module _ (base : ℕ → Option ℕ) (cells : List Cell) (entries mid new : List Entry) (covers : List Cover) (issuer : ℕ) (reach : PeMask)
+    (broadcast : Bool) (linked : Linked cells entries) (placed : Placed base entries)
+    (kept : (m : ℕ) → Advances Keeps (slice_get entries m) (slice_get mid m))
+    (noted : (m : ℕ) → Advances (NotesAt covers issuer reach broadcast m) (slice_get mid m) (slice_get new m))
+    (len : length covers ≡ length entries) where
+  step : (m : ℕ) (e : Entry) (c : Cover) (o p : Option Entry) → Advances Keeps (Some e) o → Advances (NotesAt covers issuer reach broadcast m) o p
+      → slice_get covers m ≡ Some c → Noted (Broken e.marks) (pends_in e.pends.items issuer) reach broadcast c (pends_of issuer p)
+  step m e c None p h h' is = absurd h
+  step m e c (Some f) None h h' is = absurd h'
+  step m e c (Some f) (Some g) h h' is =
+      noted_alike f.marks e.marks (pends_in f.pends.items issuer) (pends_in e.pends.items issuer) (pends_in g.pends.items issuer)
+      (pends_in g.pends.items issuer) reach broadcast c h.1.0
+      (λ b c' p. ap (λ (ps : List Pending). waits (pends_in ps issuer) b c' p) h.1.1) refl (h'.1.2 c is)
+
+  at_place : (i : ℕ) (e : Entry) (c : Cover) → slice_get entries i ≡ Some e → slice_get covers i ≡ Some c
+      → Noted (state_from None (at_index None (marks_in cells entries) (index_of base e.place)))
+      (at_index no_pends (pends_for cells entries issuer) (index_of base e.place)) reach broadcast c
+      (at_index no_pends (pends_for cells new issuer) (index_of base e.place))
+  at_place i e c is cover =
+      let slot : slot_in cells e.cell ≡ Some i = linked.back e.cell i (ap (option_map (λ (x : Entry). x.cell)) is) in
+      let was : at_index no_pends (pends_for cells entries issuer) (index_of base e.place) ≡ pends_in e.pends.items issuer
+      = ap (at_index no_pends (pends_for cells entries issuer)) (placed i e is)
+      ∙ ap (λ (s : Option ℕ). pends_of issuer (entry_of entries s)) slot ∙ ap (pends_of issuer) is in
+      let now : at_index no_pends (pends_for cells new issuer) (index_of base e.place) ≡ pends_of issuer (slice_get new i)
+      = ap (at_index no_pends (pends_for cells new issuer)) (placed i e is)
+      ∙ ap (λ (s : Option ℕ). pends_of issuer (entry_of new s)) slot in
+      let made = step i e c (slice_get mid i) (slice_get new i)
+      (at_both Keeps (Some e) (slice_get entries i) (slice_get mid i) (slice_get mid i) (sym is) refl (kept i)) (noted i) cover in
+      let P : Option Marks → Type 0 = λ o. Noted (state_from None o) (at_index no_pends (pends_for cells entries issuer) (index_of base e.place))
+      reach broadcast c (at_index no_pends (pends_for cells new issuer) (index_of base e.place)) in
+      subst P (sym (marks_are base cells entries linked placed i e is))
+      (noted_alike e.marks e.marks (pends_in e.pends.items issuer) (at_index no_pends (pends_for cells entries issuer) (index_of base e.place))
+      (pends_of issuer (slice_get new i)) (at_index no_pends (pends_for cells new issuer) (index_of base e.place)) reach broadcast c refl
+      (λ b c' p. ap (λ x. waits x b c' p) (sym was)) now made)
+
+  pub noted_at : (May : ℕ → Cover → Type 0)
+      → ((m : ℕ) (e : Entry) (c : Cover) → slice_get entries m ≡ Some e → slice_get covers m ≡ Some c → May e.place c)
+      → (count : ℕ) → Numbered base count → (a : ℕ) → is_some (at_index None (marks_in cells entries) (index_of base a)) ≡ true
+      → (c : Cover) × May a c × Noted (state_from None (at_index None (marks_in cells entries) (index_of base a)))
+      (at_index no_pends (pends_for cells entries issuer) (index_of base a)) reach broadcast c
+      (at_index no_pends (pends_for cells new issuer) (index_of base a))
+  noted_at May may count numbered a broken =
+      let i = place_each base cells entries linked placed count numbered a broken in
+      let within : i.0 < length entries = i.1 in
+      let e = entry_there entries i.0 within in
+      let c = cover_there covers i.0 (omega arith) in
+      let place : e.0.place ≡ a
+      = sym (ap (λ (o : Option Entry). unwrap_or (option_map (λ (x : Entry). x.place) o) 0) e.1) ∙ i.2 in
+      let M : ℕ → Type 0 = λ x. May x c.0 in
+      let N : ℕ → Type 0 = λ x. Noted (state_from None (at_index None (marks_in cells entries) (index_of base x)))
+      (at_index no_pends (pends_for cells entries issuer) (index_of base x)) reach broadcast c.0
+      (at_index no_pends (pends_for cells new issuer) (index_of base x)) in
+      (c.0, subst M place (may i.0 e.0 c.0 e.1 c.1), subst N place (at_place i.0 e.0 c.0 e.1 c.1))

@@ -1,0 +1,46 @@
+-- Cells of a page, one more at a time.
+use Rattle.std.proofs.Common.{◌≡◌, ◌≢◌, ℕ, ◌+◌, ◌<◌, ◌≤◌, Bool, true, false, nat_eq, nat_le, nat_lt, Option, None, refl, ap, sym, ◌∙◌, arith, inl, inr, if◌then◌else◌}
+use Rattle.std.proofs.lemmas.Bool.{cases_eq, cases_lt, eq-eqb, ne_eqb, cond-true, cond-false, and_from, and_left, and_right, le-leb, lt-leb, lt-ltb, le-ltb}
+use Rattle.bbm_place_map.specs.Cells.{in_page}
+use Rattle.bbm_place_map.specs.Entries.{no_pends, pends_of}
+use Rattle.bbm_place_map.specs.declared.entry.Entry.{Entry}
+
+pub inside : (b n j : ℕ) → b ≤ j → j < b + n → in_page b n j ≡ true
+inside b n j low high = and_from (nat_le b j) (nat_lt j (b + n)) (le-leb b j low) (lt-ltb j (b + n) high)
+
+pub before : (b n j : ℕ) → j < b → in_page b n j ≡ false
+before b n j low = and_left (nat_le b j) (nat_lt j (b + n)) (lt-leb b j low)
+
+pub behind : (b n j : ℕ) → b + n ≤ j → in_page b n j ≡ false
+behind b n j high = and_right (nat_le b j) (nat_lt j (b + n)) (le-ltb j (b + n) high)
+
+page_more : (b n j : ℕ) → j ≢ b + n → in_page b (n + 1) j ≡ in_page b n j
+page_more b n j other =
+    elim (cases_lt j b) [
+      | inl low ↦ before b (n + 1) j low ∙ sym (before b n j low)
+      | inr at ↦
+          elim (cases_lt j (b + n)) [
+            | inl in' ↦ inside b (n + 1) j at (omega arith) ∙ sym (inside b n j at in')
+            | inr past ↦ behind b (n + 1) j (omega arith) ∙ sym (behind b n j past)
+          ]
+    ]
+
+pub one_more : {X : Type 0} (b n : ℕ) (d : X) (f g h : ℕ → X) → ((i : ℕ) → g i ≡ (if in_page b n i then d else f i))
+    → ((i : ℕ) → h i ≡ (if nat_eq i (b + n) then d else g i)) → (i : ℕ) → h i ≡ (if in_page b (n + 1) i then d else f i)
+one_more b n d f g h old new i =
+    elim (cases_eq i (b + n)) [
+      | inl same ↦
+          new i ∙ cond-true (nat_eq i (b + n)) d (g i) (eq-eqb i (b + n) same)
+          ∙ sym (cond-true (in_page b (n + 1) i) d (f i) (inside b (n + 1) i (omega arith) (omega arith)))
+      | inr other ↦
+          new i ∙ cond-false (nat_eq i (b + n)) d (g i) (ne_eqb i (b + n) other) ∙ old i
+          ∙ ap (λ (t : Bool). if t then d else f i) (sym (page_more b n i other))
+    ]
+
+choose_pends : (q : ℕ) (b : Bool) (o : Option Entry) → pends_of q (if b then None else o) ≡ (if b then no_pends else pends_of q o)
+choose_pends q true o = refl
+choose_pends q false o = refl
+
+pub drop_pends : (q b : ℕ) (f g : ℕ → Option Entry) → ((i : ℕ) → g i ≡ (if in_page b 512 i then None else f i))
+    → (i : ℕ) → pends_of q (g i) ≡ (if in_page b 512 i then no_pends else pends_of q (f i))
+drop_pends q b f g new i = ap (pends_of q) (new i) ∙ choose_pends q (in_page b 512 i) (f i)

@@ -1,0 +1,60 @@
+-- What waits, by issuer, after an edit.
+use Rattle.std.proofs.Common.{◌≡◌, ℕ, ◌+◌, ◌<◌, ◌≤◌, true, false, nat_eq, zero, suc, List, [], ◌∷◌, ◌++◌, length, get_or, set, refl, ap, sym, ◌∙◌, arith, inl, inr, if◌then◌else◌}
+use Rattle.std.proofs.lemmas.Bool.{cases_eq, cond-true, cond-false}
+use Rattle.std.proofs.lemmas.List.{get_or_default}
+use Rattle.bbm_entry_state.specs.declared.pending.Pends.{Pends}
+use Rattle.bbm_place_map.specs.Entries.{no_pends, pends_in, Lacks}
+use Rattle.bbm_place_map.specs.declared.entry.Pending.{Pending}
+
+pub lacks_none : (ps : List Pending) (q : ℕ) → Lacks ps 0 q
+lacks_none ps q k d below within = absurd (omega arith)
+
+pub lacks_more : (ps : List Pending) (n : ℕ) (x : Pending) (q : ℕ) → n < length ps → x ≡ get_or ps n x → nat_eq x.issuer q ≡ false
+    → Lacks ps n q → Lacks ps (n + 1) q
+lacks_more ps n x q within is other lacks k d below in' =
+    elim (cases_eq k n) [
+      | inl same ↦
+          ap (λ (y : Pending). nat_eq y.issuer q)
+          (ap (λ (m : ℕ). get_or ps m d) same ∙ sym (is ∙ get_or_default ps n x d within)) ∙ other
+      | inr apart ↦ lacks k d (omega arith) in'
+    ]
+
+tail_lacks : (p : Pending) (ps : List Pending) (n q : ℕ) → Lacks (p ∷ ps) (suc n) q → Lacks ps n q
+tail_lacks p ps n q lacks k d below in' = lacks (suc k) d (omega arith) (omega arith)
+
+pub lacks_all : (ps : List Pending) (n q : ℕ) → length ps ≤ n → Lacks ps n q → pends_in ps q ≡ no_pends
+lacks_all [] n q whole lacks = refl
+lacks_all (p ∷ ps) zero q whole lacks = absurd (omega arith)
+lacks_all (p ∷ ps) (suc n) q whole lacks =
+    cond-false (nat_eq p.issuer q) p.pends (pends_in ps q) (lacks 0 p (omega arith) (omega arith))
+    ∙ lacks_all ps n q (omega arith) (tail_lacks p ps n q lacks)
+
+pub set_there : (ps : List Pending) (n : ℕ) (y : Pending) (q : ℕ) → n < length ps → Lacks ps n q → nat_eq y.issuer q ≡ true
+    → pends_in (set ps n y) q ≡ y.pends
+set_there [] n y q within lacks is = absurd (omega arith)
+set_there (p ∷ ps) zero y q within lacks is = cond-true (nat_eq y.issuer q) y.pends (pends_in ps q) is
+set_there (p ∷ ps) (suc n) y q within lacks is =
+    cond-false (nat_eq p.issuer q) p.pends (pends_in (set ps n y) q) (lacks 0 p (omega arith) (omega arith))
+    ∙ set_there ps n y q (omega arith) (tail_lacks p ps n q lacks) is
+
+-- an entry of another issuer in place of an entry of the same one
+pub set_others : (ps : List Pending) (n : ℕ) (x y : Pending) (q : ℕ) → n < length ps → x ≡ get_or ps n x
+    → nat_eq x.issuer q ≡ false → nat_eq y.issuer q ≡ false → pends_in (set ps n y) q ≡ pends_in ps q
+set_others [] n x y q within is not-x not-y = absurd (omega arith)
+set_others (p ∷ ps) zero x y q within is not-x not-y =
+    cond-false (nat_eq y.issuer q) y.pends (pends_in ps q) not-y
+    ∙ sym (cond-false (nat_eq p.issuer q) p.pends (pends_in ps q) (ap (λ (z : Pending). nat_eq z.issuer q) (sym is) ∙ not-x))
+set_others (p ∷ ps) (suc n) x y q within is not-x not-y =
+    ap (λ (r : Pends). if nat_eq p.issuer q then p.pends else r) (set_others ps n x y q (omega arith) is not-x not-y)
+
+pub more_there : (ps : List Pending) (y : Pending) (q : ℕ) → (n : ℕ) → length ps ≤ n → Lacks ps n q → nat_eq y.issuer q ≡ true
+    → pends_in (ps ++ y ∷ []) q ≡ y.pends
+more_there [] y q n whole lacks is = cond-true (nat_eq y.issuer q) y.pends no_pends is
+more_there (p ∷ ps) y q zero whole lacks is = absurd (omega arith)
+more_there (p ∷ ps) y q (suc n) whole lacks is =
+    cond-false (nat_eq p.issuer q) p.pends (pends_in (ps ++ y ∷ []) q) (lacks 0 p (omega arith) (omega arith))
+    ∙ more_there ps y q n (omega arith) (tail_lacks p ps n q lacks) is
+
+pub more_others : (ps : List Pending) (y : Pending) (q : ℕ) → nat_eq y.issuer q ≡ false → pends_in (ps ++ y ∷ []) q ≡ pends_in ps q
+more_others [] y q other = cond-false (nat_eq y.issuer q) y.pends no_pends other
+more_others (p ∷ ps) y q other = ap (λ (r : Pends). if nat_eq p.issuer q then p.pends else r) (more_others ps y q other)

@@ -1,0 +1,144 @@
+-- Places and their cells.
+use Rattle.std.proofs.Common.{◌≡◌, ◌≢◌, ℕ, ◌+◌, ◌-◌, ◌*◌, ◌/◌, ◌%◌, ◌<◌, ◌≤◌, Bool, true, false, nat_eq, ◌==◌, Option, Some, None, refl, ap, sym, ◌∙◌, arith, inl, inr, if◌then◌else◌}
+use Rattle.std.specs.Option.{option_map}
+use Rattle.std.proofs.lemmas.Bool.{cases_eq, cases_lt, cases_Bool, eq-eqb, ne_eqb, eqb-true, cond-true, cond-false}
+use Rattle.std.proofs.lemmas.Option.{same_Some, none-some}
+use Rattle.bbm_place_map.specs.Cells.{in_page}
+use Rattle.bbm_place_map.specs.Sound.{Numbered, index_of, at_index}
+use Rattle.bbm_place_map.proofs.Pages.{inside, before, behind}
+
+-- the page's base of a place that has a cell
+record Found (base : ℕ → Option ℕ) (a j : ℕ) : Type 0 where
+  aligned : a % 8 ≡ 0
+  start : ℕ
+  is : base (a / 4096 * 4096) ≡ Some start
+  sum : start + a % 4096 / 8 ≡ j
+
+found_at : (base : ℕ → Option ℕ) (a j : ℕ) (t : Bool) (o : Option ℕ) → (a % 8 == 0) ≡ t → base (a / 4096 * 4096) ≡ o
+    → (if t then option_map (λ b. b + a % 4096 / 8) o else None) ≡ Some j → Found base a j
+found_at base a j true (Some b) is at h = record { aligned = eqb-true (a % 8) 0 is; start = b; is = at; sum = same_Some (b + a % 4096 / 8) j h }
+found_at base a j true None is at h = absurd (none-some j h)
+found_at base a j false o is at h = absurd (none-some j h)
+
+found : (base : ℕ → Option ℕ) (a j : ℕ) → index_of base a ≡ Some j → Found base a j
+found base a j h = found_at base a j (a % 8 == 0) (base (a / 4096 * 4096)) refl refl h
+
+pub index_from : (base : ℕ → Option ℕ) (a b : ℕ) → a % 8 ≡ 0 → base (a / 4096 * 4096) ≡ Some b → index_of base a ≡ Some (b + a % 4096 / 8)
+index_from base a b aligned is =
+    cond-true (a % 8 == 0) (option_map (λ n. n + a % 4096 / 8) (base (a / 4096 * 4096))) None (eq-eqb (a % 8) 0 aligned)
+    ∙ ap (option_map (λ n. n + a % 4096 / 8)) is
+
+pub index_none : (base : ℕ → Option ℕ) (a : ℕ) → base (a / 4096 * 4096) ≡ None → index_of base a ≡ None
+index_none base a is =
+    elim (cases_Bool (a % 8 == 0)) [
+      | inl t ↦
+          cond-true (a % 8 == 0) (option_map (λ n. n + a % 4096 / 8) (base (a / 4096 * 4096))) None t
+          ∙ ap (option_map (λ n. n + a % 4096 / 8)) is
+      | inr f ↦ cond-false (a % 8 == 0) (option_map (λ n. n + a % 4096 / 8) (base (a / 4096 * 4096))) None f
+    ]
+
+pub number_below : (a : ℕ) → a % 4096 / 8 < 512
+number_below a = omega arith
+
+same_address : (a a' : ℕ) → a / 4096 * 4096 ≡ a' / 4096 * 4096 → a % 8 ≡ 0 → a' % 8 ≡ 0 → a % 4096 / 8 ≡ a' % 4096 / 8 → a ≡ a'
+same_address a a' page aligned aligned' same = omega arith
+
+module _ (base : ℕ → Option ℕ) (count : ℕ) (numbered : Numbered base count) where
+  pub index_inside : (a j : ℕ) → index_of base a ≡ Some j → j < count
+  index_inside a j h =
+      let f = found base a j h in
+      let below : a % 4096 / 8 < 512 = number_below a in
+      let in' : f.start + 512 ≤ count = numbered.within (a / 4096 * 4096) f.start f.is in
+      let sum : f.start + a % 4096 / 8 ≡ j = f.sum in
+      omega arith
+
+  -- two bases with a cell in common are one, and of one page
+  pub one_page : (p q b c m n : ℕ) → base p ≡ Some b → base q ≡ Some c → m < 512 → n < 512 → b + m ≡ c + n → p ≡ q
+  one_page p q b c m n is is' low low' same =
+      elim (cases_lt c b) [
+        | inl more ↦ sym (numbered.apart q p c b is' is (omega arith) (omega arith))
+        | inr less ↦ numbered.apart p q b c is is' less (omega arith)
+      ]
+
+  pub index_once : (a a' j : ℕ) → index_of base a ≡ Some j → index_of base a' ≡ Some j → a ≡ a'
+  index_once a a' j h h' =
+      let f = found base a j h in
+      let g = found base a' j h' in
+      let page : a / 4096 * 4096 ≡ a' / 4096 * 4096
+      = one_page (a / 4096 * 4096) (a' / 4096 * 4096) f.start g.start (a % 4096 / 8) (a' % 4096 / 8) f.is g.is
+      (number_below a) (number_below a') (f.sum ∙ sym g.sum) in
+      let start : f.start ≡ g.start = same_Some f.start g.start (sym f.is ∙ ap base page ∙ g.is) in
+      same_address a a' page f.aligned g.aligned (let sum : f.start + a % 4096 / 8 ≡ j = f.sum in let sum' : g.start + a' % 4096 / 8 ≡ j = g.sum in omega arith)
+
+  elsewhere : {X : Type 0} (d v : X) (f g : ℕ → X) (place j : ℕ) → index_of base place ≡ Some j
+      → ((i : ℕ) → g i ≡ (if nat_eq i j then v else f i)) → (a : ℕ) → a ≢ place
+      → (o : Option ℕ) → index_of base a ≡ o → at_index d g o ≡ at_index d f o
+  elsewhere d v f g place j here new a other None h = refl
+  elsewhere d v f g place j here new a other (Some i) h =
+      new i ∙ cond-false (nat_eq i j) v (f i)
+      (ne_eqb i j (λ same. other (index_once a place j (h ∙ ap (λ (n : ℕ). Some n) same) here)))
+
+  within_page : {X : Type 0} (d : X) (f g : ℕ → X) (page b : ℕ) → base page ≡ Some b
+      → ((i : ℕ) → g i ≡ (if in_page b 512 i then d else f i)) → (a : ℕ) → a / 4096 * 4096 ≡ page
+      → (o : Option ℕ) → index_of base a ≡ o → at_index d g o ≡ d
+  within_page d f g page b is new a same None h = refl
+  within_page d f g page b is new a same (Some i) h =
+      let w = found base a i h in
+      let start : w.start ≡ b = same_Some w.start b (sym w.is ∙ ap base same ∙ is) in
+      let sum : w.start + a % 4096 / 8 ≡ i = w.sum in
+      let below : a % 4096 / 8 < 512 = number_below a in
+      new i ∙ cond-true (in_page b 512 i) d (f i) (inside b 512 i (omega arith) (omega arith))
+
+  not_in_page : (page b a i : ℕ) → base page ≡ Some b → a / 4096 * 4096 ≢ page → index_of base a ≡ Some i → in_page b 512 i ≡ false
+  not_in_page page b a i is other h =
+      let w = found base a i h in
+      let sum : w.start + a % 4096 / 8 ≡ i = w.sum in
+      let below : a % 4096 / 8 < 512 = number_below a in
+      elim (cases_lt i b) [
+        | inl low ↦ before b 512 i low
+        | inr at ↦
+            elim (cases_lt i (b + 512)) [
+              | inr past ↦ behind b 512 i past
+              | inl in' ↦
+                  absurd (other (one_page (a / 4096 * 4096) page w.start b (a % 4096 / 8) (i - b) w.is is below (omega arith) (omega arith)))
+            ]
+      ]
+
+  out_of_page : {X : Type 0} (d : X) (f g : ℕ → X) (page b : ℕ) → base page ≡ Some b
+      → ((i : ℕ) → g i ≡ (if in_page b 512 i then d else f i)) → (a : ℕ) → a / 4096 * 4096 ≢ page
+      → (o : Option ℕ) → index_of base a ≡ o → at_index d g o ≡ at_index d f o
+  out_of_page d f g page b is new a other None h = refl
+  out_of_page d f g page b is new a other (Some i) h =
+      new i ∙ cond-false (in_page b 512 i) d (f i) (not_in_page page b a i is other h)
+
+  -- one cell changes: so does one place
+  pub at_set : {X : Type 0} (d v : X) (f g : ℕ → X) (place j : ℕ) → index_of base place ≡ Some j
+      → ((i : ℕ) → g i ≡ (if nat_eq i j then v else f i))
+      → (a : ℕ) → at_index d g (index_of base a) ≡ (if nat_eq a place then v else at_index d f (index_of base a))
+  at_set d v f g place j here new a =
+      elim (cases_eq a place) [
+        | inl same ↦
+            ap (at_index d g) (ap (index_of base) same ∙ here) ∙ new j ∙ cond-true (nat_eq j j) v (f j) (eq-eqb j j refl)
+            ∙ sym (cond-true (nat_eq a place) v (at_index d f (index_of base a)) (eq-eqb a place same))
+        | inr other ↦
+            elsewhere d v f g place j here new a other (index_of base a) refl
+            ∙ sym (cond-false (nat_eq a place) v (at_index d f (index_of base a)) (ne_eqb a place other))
+      ]
+
+  -- the cells of a page change: so do its places
+  pub at_page : {X : Type 0} (d : X) (f g : ℕ → X) (page b : ℕ) → base page ≡ Some b
+      → ((i : ℕ) → g i ≡ (if in_page b 512 i then d else f i))
+      → (a : ℕ) → at_index d g (index_of base a) ≡ (if nat_eq (a / 4096 * 4096) page then d else at_index d f (index_of base a))
+  at_page d f g page b is new a =
+      elim (cases_eq (a / 4096 * 4096) page) [
+        | inl same ↦
+            within_page d f g page b is new a same (index_of base a) refl
+            ∙ sym (cond-true (nat_eq (a / 4096 * 4096) page) d (at_index d f (index_of base a)) (eq-eqb (a / 4096 * 4096) page same))
+        | inr other ↦
+            out_of_page d f g page b is new a other (index_of base a) refl
+            ∙ sym (cond-false (nat_eq (a / 4096 * 4096) page) d (at_index d f (index_of base a)) (ne_eqb (a / 4096 * 4096) page other))
+      ]
+
+pub at_same : {X : Type 0} (d : X) (f g : ℕ → X) → ((i : ℕ) → g i ≡ f i) → (o : Option ℕ) → at_index d g o ≡ at_index d f o
+at_same d f g same None = refl
+at_same d f g same (Some j) = same j

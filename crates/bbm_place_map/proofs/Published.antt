@@ -1,0 +1,65 @@
+-- What a DSB publishes, of a place.
+use Rattle.std.proofs.Common.{◌≡◌, ℕ, Bool, true, false, ◌&&◌, ◌||◌, List, Option, Some, None, refl, ap, slice_get, Vec, Global}
+use Rattle.bbm_barriers.specs.declared.Dsb.{Dsb}
+use Rattle.bbm_barriers.specs.Options.{publishes}
+use Rattle.bbm_descriptor.specs.declared.desc.Core.{Core}
+use Rattle.bbm_entry_state.specs.Calls.{Published}
+use Rattle.bbm_place_map.specs.Cells.{slot_in}
+use Rattle.bbm_place_map.specs.Each.{Advances, Publishes}
+use Rattle.bbm_place_map.specs.Entries.{entry_in, marks_of, pends_of, pends_in, no_pends}
+use Rattle.bbm_place_map.specs.Parts.{marks_in, pends_for}
+use Rattle.bbm_place_map.specs.Sound.{at_index}
+use Rattle.bbm_place_map.specs.States.{state_from}
+use Rattle.bbm_place_map.specs.declared.cell.Cell.{Cell}
+use Rattle.bbm_place_map.specs.declared.entry.Entry.{Entry}
+use Rattle.bbm_place_map.specs.declared.entry.Pending.{Pending}
+use Rattle.bbm_place_map.proofs.Advancing.{of_cell}
+
+none_seen : (b : Bool) → false ≡ ((b && false) || false)
+none_seen true = refl
+none_seen false = refl
+
+module _ (issuer : ℕ) (dsb : Dsb) (n : ℕ) where
+  whole : (live : Option Core) → Published (state_from live None) issuer dsb n (state_from live None)
+  whole None = record {
+    core = refl;
+    broken = refl;
+    writers = λ p. refl;
+    seen = λ p. none_seen (publishes dsb issuer n p);
+    half = λ p. refl;
+    clean = λ p. refl;
+  }
+  whole (Some core) = record {
+    core = refl;
+    broken = refl;
+    writers = λ p. refl;
+    seen = λ p. none_seen (publishes dsb issuer n p);
+    half = λ p. refl;
+    clean = λ p. refl;
+  }
+
+  of_entry : (live : Option Core) (o p : Option Entry) → Advances (Publishes issuer dsb n) o p
+      → Published (state_from live (marks_of o)) issuer dsb n (state_from live (marks_of p))
+  of_entry live None None h = whole live
+  of_entry live None (Some f) h = absurd h
+  of_entry live (Some e) None h = absurd h
+  of_entry live (Some e) (Some f) h = h.1.1
+
+  same_pends : (q : ℕ) (o p : Option Entry) → Advances (Publishes issuer dsb n) o p → pends_of q p ≡ pends_of q o
+  same_pends q None None h = refl
+  same_pends q None (Some f) h = absurd h
+  same_pends q (Some e) None h = absurd h
+  same_pends q (Some e) (Some f) h = ap (λ (v : Vec Pending Global). pends_in v.items q) h.1.0
+
+  module _ (cells : List Cell) (old new : List Entry)
+      (each : (k : ℕ) → Advances (Publishes issuer dsb n) (slice_get old k) (slice_get new k)) where
+    pub published_at : (live : Option Core) (o : Option ℕ)
+        → Published (state_from live (at_index None (marks_in cells old) o)) issuer dsb n (state_from live (at_index None (marks_in cells new) o))
+    published_at live None = whole live
+    published_at live (Some j) =
+        of_entry live (entry_in cells old j) (entry_in cells new j) (of_cell (Publishes issuer dsb n) old new each (slot_in cells j))
+
+    pub pends_at_same : (q : ℕ) (o : Option ℕ) → at_index no_pends (pends_for cells new q) o ≡ at_index no_pends (pends_for cells old q) o
+    pends_at_same q None = refl
+    pends_at_same q (Some j) =
+        same_pends q (entry_in cells old j) (entry_in cells new j) (of_cell (Publishes issuer dsb n) old new each (slot_in cells j))

@@ -1,0 +1,101 @@
+-- Entries that change, each in its place.
+use Rattle.std.proofs.Common.{◌≡◌, ◌≢◌, ℕ, nat_eq, List, length, Option, Some, None, refl, ap, sym, ◌∙◌, inl, inr, if◌then◌else◌, slice_get, Vec, Global}
+use Rattle.std.specs.Option.{option_map}
+use Rattle.std.proofs.lemmas.Bool.{cases_eq, eq-eqb, ne_eqb, cond-true, cond-false}
+use Rattle.std.proofs.lemmas.Option.{same_Some, none-some}
+use Rattle.bbm_place_map.specs.Cells.{slot_in}
+use Rattle.bbm_place_map.specs.Entries.{seat, seat_at, cell_at, entry_of, entry_in, marks_of, pends_of, pends_in}
+use Rattle.bbm_place_map.specs.Parts.{marks_in, pends_for}
+use Rattle.bbm_place_map.specs.Sound.{Linked, Placed, index_of}
+use Rattle.bbm_place_map.specs.declared.cell.Cell.{Cell}
+use Rattle.bbm_place_map.specs.declared.entry.Entry.{Entry}
+use Rattle.bbm_place_map.specs.declared.entry.Pending.{Pending}
+use Rattle.bbm_place_map.proofs.Linking.{choose_marks}
+
+seat_cell : (o : Option Entry) → option_map (λ (e : Entry). e.cell) o ≡ option_map (λ (p : ℕ × ℕ). p.1) (option_map seat o)
+seat_cell None = refl
+seat_cell (Some e) = refl
+
+seat_of : (o : Option Entry) (e : Entry) → option_map seat o ≡ Some (seat e)
+    → (f : Entry) × (o ≡ Some f) × (f.place ≡ e.place) × (f.cell ≡ e.cell)
+seat_of None e h = cc
+seat_of (Some f) e h =
+    let same : seat f ≡ seat e = same_Some (seat f) (seat e) h in
+    (f, refl, ap (λ (p : ℕ × ℕ). p.0) same, ap (λ (p : ℕ × ℕ). p.1) same)
+
+module _ (entries entries' : List Entry) (seats : (m : ℕ) → seat_at entries' m ≡ seat_at entries m) where
+  cells_same : (m : ℕ) → cell_at entries' m ≡ cell_at entries m
+  cells_same m =
+      seat_cell (slice_get entries' m) ∙ ap (option_map (λ (p : ℕ × ℕ). p.1)) (seats m) ∙ sym (seat_cell (slice_get entries m))
+
+  pub linked_seated : (cells : List Cell) → length entries' ≡ length entries → Linked cells entries → Linked cells entries'
+  linked_seated cells len linked = record {
+    forth = λ j k h. cells_same k ∙ linked.forth j k h;
+    back = λ j k h. linked.back j k (sym (cells_same k) ∙ h);
+    count = linked.count ∙ sym len;
+  }
+
+  pub placed_seated : (base : ℕ → Option ℕ) → Placed base entries → Placed base entries'
+  placed_seated base placed k e h =
+      let old = seat_of (slice_get entries k) e (sym (seats k) ∙ ap (option_map seat) h) in
+      ap (index_of base) (sym old.2) ∙ placed k old.0 old.1 ∙ ap (λ (n : ℕ). Some n) old.3
+
+-- one entry changes
+module _ (cells : List Cell) (entries entries' : List Entry) (e e' : Entry) (j k : ℕ) (linked : Linked cells entries)
+    (here : slot_in cells j ≡ Some k) (was : slice_get entries k ≡ Some e) (seated : seat e' ≡ seat e)
+    (gets : (i : ℕ) → slice_get entries' i ≡ (if nat_eq i k then Some e' else slice_get entries i)) where
+  at_k : (i : ℕ) → i ≡ k → slice_get entries' i ≡ Some e'
+  at_k i same = gets i ∙ cond-true (nat_eq i k) (Some e') (slice_get entries i) (eq-eqb i k same)
+
+  off_k : (i : ℕ) → i ≢ k → slice_get entries' i ≡ slice_get entries i
+  off_k i other = gets i ∙ cond-false (nat_eq i k) (Some e') (slice_get entries i) (ne_eqb i k other)
+
+  pub seats_changed : (m : ℕ) → seat_at entries' m ≡ seat_at entries m
+  seats_changed m =
+      elim (cases_eq m k) [
+        | inl same ↦
+            ap (option_map seat) (at_k m same) ∙ ap (λ (p : ℕ × ℕ). Some p) seated
+            ∙ sym (ap (option_map seat) (ap (slice_get entries) same ∙ was))
+        | inr other ↦ ap (option_map seat) (off_k m other)
+      ]
+
+  kept : (i : ℕ) → i ≢ j → (o : Option ℕ) → slot_in cells i ≡ o → entry_of entries' o ≡ entry_of entries o
+  kept i other None h = refl
+  kept i other (Some m) h =
+      off_k m (λ same. other (same_Some i j
+      (sym (linked.forth i m h) ∙ ap (cell_at entries) same ∙ linked.forth j k here)))
+
+  pub entries_changed : (i : ℕ) → entry_in cells entries' i ≡ (if nat_eq i j then Some e' else entry_in cells entries i)
+  entries_changed i =
+      elim (cases_eq i j) [
+        | inl same ↦
+            ap (entry_of entries') (ap (slot_in cells) same ∙ here) ∙ at_k k refl
+            ∙ sym (cond-true (nat_eq i j) (Some e') (entry_in cells entries i) (eq-eqb i j same))
+        | inr other ↦
+            kept i other (slot_in cells i) refl
+            ∙ sym (cond-false (nat_eq i j) (Some e') (entry_in cells entries i) (ne_eqb i j other))
+      ]
+
+  pub entry_was : entry_in cells entries j ≡ Some e
+  entry_was = ap (entry_of entries) here ∙ was
+
+  pub marks_changed : (i : ℕ) → marks_in cells entries' i ≡ (if nat_eq i j then Some e'.marks else marks_in cells entries i)
+  marks_changed i = ap marks_of (entries_changed i) ∙ choose_marks (nat_eq i j) e' (entry_in cells entries i)
+
+  pub pends_changed : e'.pends ≡ e.pends → (q i : ℕ) → pends_for cells entries' q i ≡ pends_for cells entries q i
+  pends_changed same q i =
+      elim (cases_eq i j) [
+        | inl here' ↦
+            ap (pends_of q) (entries_changed i ∙ cond-true (nat_eq i j) (Some e') (entry_in cells entries i) (eq-eqb i j here'))
+            ∙ ap (λ (ps : List Pending). pends_in ps q) (ap (λ (v : Vec Pending Global). v.items) same)
+            ∙ sym (ap (pends_of q) (ap (entry_in cells entries) here' ∙ entry_was))
+        | inr other ↦
+            ap (pends_of q) (entries_changed i ∙ cond-false (nat_eq i j) (Some e') (entry_in cells entries i) (ne_eqb i j other))
+      ]
+
+found_in : (o : Option Entry) (j : ℕ) → option_map (λ (e : Entry). e.cell) o ≡ Some j → (e : Entry) × (o ≡ Some e)
+found_in None j h = absurd (none-some j h)
+found_in (Some e) j h = (e, refl)
+
+pub found : (entries : List Entry) (k j : ℕ) → cell_at entries k ≡ Some j → (e : Entry) × (slice_get entries k ≡ Some e)
+found entries k j h = found_in (slice_get entries k) j h

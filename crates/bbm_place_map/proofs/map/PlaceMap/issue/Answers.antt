@@ -1,0 +1,49 @@
+use Rattle.std.proofs.Common.{ℕ, nat_eq, ap, sym, arith, ◌∙◌, vec_len, slice_get, List, length}
+use Rattle.indexmap.specs.IndexMap.{get}
+use Rattle.bbm_tlbi_scope.specs.declared.entry.Cover.{Cover}
+use Rattle.bbm_place_map.specs.Calls.{MayCover}
+use Rattle.bbm_place_map.specs.Map.{marks_at, pends_at}
+use Rattle.bbm_place_map.specs.Notes.{Keeps, NotesAt}
+use Rattle.bbm_place_map.proofs.Advancing.{seat_kept}
+use Rattle.bbm_place_map.proofs.Issued.{noted_at}
+use Rattle.bbm_place_map.proofs.Seats.{linked_seated, placed_seated}
+use Rattle.bbm_place_map.proofs.map.PlaceMap.issue.Goals as goal
+
+pub invariant_of-self : goal.invariant_of-self
+invariant_of-self g c =
+    let old = c.args.self.now.broken.items in
+    let mid = c.make_room.new.broken.items in
+    let seats = λ (m : ℕ). seat_kept Keeps (slice_get old m) (slice_get mid m) (c.make_room.ensures.each m) in
+    record {
+      numbered = c.args.self.now.numbered;
+      linked = linked_seated old mid seats c.args.self.now.cells.items c.make_room.ensures.len c.args.self.now.linked;
+      placed = placed_seated old mid seats (get nat_eq c.args.self.now.pages) c.args.self.now.placed;
+      room = omega arith;
+      few = c.args.self.now.few;
+    }
+
+pub invariant_of-self-2 : goal.invariant_of-self-2
+invariant_of-self-2 g c =
+    let old = c.args.self.now.broken.items in
+    let mid = c.make_room.new.broken.items in
+    let new = c.note.new.broken.items in
+    let seats = λ (m : ℕ).
+    seat_kept (NotesAt c.deref-2.result.now c.args.issuer c.args.reach c.args.broadcast m) (slice_get mid m) (slice_get new m) (c.note.ensures.each m)
+    ∙ seat_kept Keeps (slice_get old m) (slice_get mid m) (c.make_room.ensures.each m) in
+    record {
+      numbered = c.args.self.now.numbered;
+      linked = linked_seated old new seats c.args.self.now.cells.items (c.note.ensures.len ∙ c.make_room.ensures.len) c.args.self.now.linked;
+      placed = placed_seated old new seats (get nat_eq c.args.self.now.pages) c.args.self.now.placed;
+      room = omega arith;
+      few = c.args.self.now.few;
+    }
+
+pub returns-clause-noted : goal.returns-clause-noted
+unfolding marks_at pends_at
+returns-clause-noted g c =
+    noted_at (get nat_eq c.args.self.now.pages) c.args.self.now.cells.items c.args.self.now.broken.items c.make_room.new.broken.items c.note.new.broken.items
+    c.deref-2.result.now c.args.issuer c.args.reach c.args.broadcast c.args.self.now.linked c.args.self.now.placed c.make_room.ensures.each c.note.ensures.each
+    (ap (λ (xs : List Cover). length xs) c.deref-2.ensures.value ∙ c.in_ok-covers.ensures.len)
+    (MayCover g.F.Fn c.args.cover c.args.self.now)
+    (λ m e cov at is. c.in_ok-covers.ensures.each m e cov at (sym (ap (λ (xs : List Cover). slice_get xs m) c.deref-2.ensures.value) ∙ is))
+    (vec_len c.args.self.now.cells) c.args.self.now.numbered

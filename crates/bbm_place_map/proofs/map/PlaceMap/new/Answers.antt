@@ -1,0 +1,10 @@
+use Rattle.std.proofs.Common.{nat_eq}
+use Rattle.indexmap.specs.IndexMap.{get}
+use Rattle.bbm_place_map.specs.Map.{pends_at}
+use Rattle.bbm_place_map.specs.Sound.{index_of}
+use Rattle.bbm_place_map.proofs.Idle.{none_kept}
+use Rattle.bbm_place_map.proofs.map.PlaceMap.new.Goals as goal
+
+pub returns-clause-pends : goal.returns-clause-pends
+unfolding pends_at
+returns-clause-pends c = λ q a. none_kept q c.new-2.result.items c.new-3.result.items c.new-3.ensures.items (index_of (get nat_eq c.new.result) a)

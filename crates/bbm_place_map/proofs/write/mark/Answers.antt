@@ -1,0 +1,51 @@
+use Rattle.std.proofs.Common.{◌≡◌, ℕ, Some, arith, refl, slice_get}
+use Rattle.bbm_place_map.specs.Cells.{slot_in}
+use Rattle.bbm_place_map.specs.Entries.{seat_at}
+use Rattle.bbm_place_map.specs.declared.entry.Entry.{Entry}
+use Rattle.bbm_place_map.proofs.Edits.{slot_read}
+use Rattle.bbm_place_map.proofs.Linking.{cell_within}
+use Rattle.bbm_place_map.proofs.Seats.{linked_seated, placed_seated, seats_changed, marks_changed, pends_changed, found}
+use Rattle.bbm_place_map.proofs.write.mark.Goals as goal
+
+pub remark-requires : goal.remark-requires
+remark-requires c =
+    omega (
+      arith,
+      cell_within c.args.broken.now.items c.in-Some.k c.args.j (c.requires.linked.forth c.args.j c.in-Some.k
+          (slot_read c.args.cells.now.items c.args.j c.index.result.now (omega arith) c.index.ensures (Some c.in-Some.k) c.in-Some.is)),
+    )
+
+here : (c : goal.After-remark) → slot_in c.args.cells.now.items c.args.j ≡ Some c.in-Some.k
+here c = slot_read c.args.cells.now.items c.args.j c.index.result.now (omega arith) c.index.ensures (Some c.in-Some.k) c.in-Some.is
+
+was : (c : goal.After-remark) → (e : Entry) × (slice_get c.args.broken.now.items c.in-Some.k ≡ Some e)
+was c = found c.args.broken.now.items c.in-Some.k c.args.j (c.requires.linked.forth c.args.j c.in-Some.k (here c))
+
+abbrev after : goal.After-remark → Entry → Entry
+after c e = record e { marks = c.args.marks }
+
+seats : (c : goal.After-remark) (m : ℕ) → seat_at c.remark.new.broken.items m ≡ seat_at c.args.broken.now.items m
+seats c =
+    let w = was c in
+    seats_changed c.args.cells.now.items c.args.broken.now.items c.remark.new.broken.items w.0 (after c w.0) c.args.j c.in-Some.k
+    c.requires.linked (here c) w.1 refl (c.remark.ensures.entry w.0 w.1)
+
+pub returns-in-Some-clause-linked : goal.returns-in-Some-clause-linked
+returns-in-Some-clause-linked c =
+    linked_seated c.args.broken.now.items c.remark.new.broken.items (seats c) c.args.cells.now.items c.remark.ensures.len c.requires.linked
+
+pub returns-in-Some-clause-marks : goal.returns-in-Some-clause-marks
+returns-in-Some-clause-marks c =
+    let w = was c in
+    marks_changed c.args.cells.now.items c.args.broken.now.items c.remark.new.broken.items w.0 (after c w.0) c.args.j c.in-Some.k
+    c.requires.linked (here c) w.1 refl (c.remark.ensures.entry w.0 w.1)
+
+pub returns-in-Some-clause-pends : goal.returns-in-Some-clause-pends
+returns-in-Some-clause-pends c =
+    let w = was c in
+    pends_changed c.args.cells.now.items c.args.broken.now.items c.remark.new.broken.items w.0 (after c w.0) c.args.j c.in-Some.k
+    c.requires.linked (here c) w.1 refl (c.remark.ensures.entry w.0 w.1) refl
+
+pub returns-in-Some-clause-placed : goal.returns-in-Some-clause-placed
+returns-in-Some-clause-placed c = λ base _ placed.
+    placed_seated c.args.broken.now.items c.remark.new.broken.items (seats c) base placed

@@ -1,0 +1,29 @@
+-- What the calls that concern all broken places say of each.
+-- Source: project's own choice.
+use Rattle.std.specs.Prelude.{◌≡◌, ℕ, Bool}
+use Rattle.std.specs.Fn.{FnReturns, Shared}
+use denote.Ref.{Bor}
+use Rattle.bbm_tlbi_scope.specs.declared.entry.Cover.{Cover}
+use Rattle.bbm_place_map.specs.Each.{loses_table}
+use Rattle.bbm_place_map.specs.Map.{value_at, marks_at, pends_at, is_tracked, restless_in, restless_place}
+use Rattle.bbm_place_map.specs.declared.map.PlaceMap.{PlaceMap}
+
+-- The closure may answer, of this map and the place, that a TLBI covers the place so far.
+pub record MayCover {F : Type 0} (calls : Shared F (Bor PlaceMap × (ℕ × Unit {0})) Cover) (f : F) (map : PlaceMap)
+    (place : ℕ) (cover : Cover) : Type 0 where
+  pub shown : Bor PlaceMap
+  pub shows : shown.now ≡ map
+  pub says : FnReturns calls f (shown, (place, tt)) cover
+
+-- whether a place was broken over a table, and isn't broken any more
+abbrev pub lost_table : PlaceMap → PlaceMap → ℕ → Bool
+lost_table old new a = loses_table (marks_at old a) (marks_at new a)
+
+-- no word tells the two maps apart
+pub record IsSame (old new : PlaceMap) : Type 0 where
+  pub values : (a : ℕ) → value_at new a ≡ value_at old a
+  pub marks : (a : ℕ) → marks_at new a ≡ marks_at old a
+  pub pends : (q a : ℕ) → pends_at new q a ≡ pends_at old q a
+  pub pages : (p : ℕ) → is_tracked new p ≡ is_tracked old p
+  pub restless : restless_in new ≡ restless_in old
+  pub places : (i : ℕ) → restless_place new i ≡ restless_place old i

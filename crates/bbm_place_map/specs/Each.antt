@@ -1,0 +1,43 @@
+-- How each entry changes in a call that concerns all of them.
+-- Source: project's own choice.
+use Rattle.std.specs.Prelude.{◌≡◌, ◌≢◌, ℕ, Bool, true, false, Option, Some, None, is_none, is_some, ◌&&◌}
+use Rattle.bbm_barriers.specs.declared.Dsb.{Dsb}
+use Rattle.bbm_entry_state.specs.Calls.{Published, Completed}
+use Rattle.bbm_entry_state.specs.Points.{waits}
+use Rattle.bbm_descriptor.specs.declared.desc.Core.{Core}
+use Rattle.bbm_descriptor.specs.declared.desc.Core.TheVariants.{Table, Leaf}
+use Rattle.bbm_tlbi_scope.specs.declared.entry.Cover.{Cover}
+use Rattle.bbm_entry_state.specs.declared.marks.Marks.{Marks}
+use Rattle.bbm_entry_state.specs.declared.state.EntryState.TheVariants.{Broken}
+use Rattle.bbm_place_map.specs.Entries.{seat, marks_of, pends_of}
+use Rattle.bbm_place_map.specs.States.{state_from}
+use Rattle.bbm_place_map.specs.declared.entry.Entry.{Entry}
+
+-- the place and the cell stay, and the rest is as the relation says
+abbrev pub Advances : (Entry → Entry → Type 0) → Option Entry → Option Entry → Type 0
+Advances R None None = Unit {0}
+Advances R None (Some f) = ⊥
+Advances R (Some e) None = ⊥
+Advances R (Some e) (Some f) = (seat f ≡ seat e) × R e f
+
+abbrev pub Publishes : ℕ → Dsb → ℕ → Entry → Entry → Type 0
+Publishes issuer dsb n e f = (f.pends ≡ e.pends) × Published (Broken e.marks) issuer dsb n (Broken f.marks)
+
+-- a DSB of the issuer answered its TLBIs
+pub record Completes (issuer : ℕ) (dsb : Dsb) (n : ℕ) (old new : Option Entry) : Type 0 where
+  pub own : Completed (state_from None (marks_of old)) (pends_of issuer old) dsb n
+      (state_from None (marks_of new)) (pends_of issuer new)
+  pub others : (q : ℕ) → q ≢ issuer → (b : Bool) (c : Cover) (p : ℕ)
+      → waits (pends_of q new) b c p ≡ (is_some (marks_of new) && waits (pends_of q old) b c p)
+
+-- whether a place was broken over a table, and isn't broken any more
+abbrev pub is_table : Core → Bool
+is_table (Table next ns) = true
+is_table (Leaf out attrs share global contiguous) = false
+
+abbrev pub has_table : Option Marks → Bool
+has_table None = false
+has_table (Some marks) = is_table marks.core
+
+abbrev pub loses_table : Option Marks → Option Marks → Bool
+loses_table old new = has_table old && is_none new

@@ -1,0 +1,9 @@
+pub mod Cells
+pub mod Entries
+pub mod Parts
+pub mod Sound
+pub mod States
+pub mod Each
+pub mod Notes
+pub mod Map
+pub mod Calls

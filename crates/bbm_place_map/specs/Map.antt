@@ -1,0 +1,48 @@
+-- What the map says of each place and page. Each word is total: a place of no tracked page holds 0, isn't broken, and
+-- nothing waits there.
+-- Source: project's own choice.
+use Rattle.std.specs.Prelude.{ℕ, Bool, Option, None, is_some, length, nat_eq, ◌*◌, ◌/◌, slice_get, unwrap_or}
+use Rattle.std.specs.Option.{option_map}
+use Rattle.indexmap.specs.IndexMap.{get}
+use Rattle.bbm_descriptor.specs.declared.desc.Core.{Core}
+use Rattle.bbm_entry_state.specs.declared.marks.Marks.{Marks}
+use Rattle.bbm_entry_state.specs.declared.pending.Pends.{Pends}
+use Rattle.bbm_entry_state.specs.declared.state.EntryState.{EntryState}
+use Rattle.bbm_place_map.specs.Cells.{value_in}
+use Rattle.bbm_place_map.specs.Entries.{no_pends}
+use Rattle.bbm_place_map.specs.Parts.{marks_in, pends_for}
+use Rattle.bbm_place_map.specs.Sound.{index_of, at_index}
+use Rattle.bbm_place_map.specs.States.{state_from}
+use Rattle.bbm_place_map.specs.declared.entry.Entry.{Entry}
+use Rattle.bbm_place_map.specs.declared.map.PlaceMap.{PlaceMap}
+
+-- the page of an address
+abbrev pub page_of : ℕ → ℕ
+page_of a = a / 4096 * 4096
+
+-- the value of a place
+unfoldable pub value_at : PlaceMap → ℕ → ℕ
+value_at map a = at_index 0 (value_in map.cells.items) (index_of (get nat_eq map.pages) a)
+
+-- how far each PE is cleansed of the core of a broken place; None where the place isn't broken
+unfoldable pub marks_at : PlaceMap → ℕ → Option Marks
+marks_at map a = at_index None (marks_in map.cells.items map.broken.items) (index_of (get nat_eq map.pages) a)
+
+-- what waits at a place for the answers of an issuer's TLBIs
+unfoldable pub pends_at : PlaceMap → ℕ → ℕ → Pends
+pends_at map q a = at_index no_pends (pends_for map.cells.items map.broken.items q) (index_of (get nat_eq map.pages) a)
+
+-- whether the page is tracked
+unfoldable pub is_tracked : PlaceMap → ℕ → Bool
+is_tracked map page = is_some (get nat_eq map.pages page)
+
+-- how many places are broken, and one of them by its number
+unfoldable pub restless_in : PlaceMap → ℕ
+restless_in map = length map.broken.items
+
+unfoldable pub restless_place : PlaceMap → ℕ → ℕ
+restless_place map i = unwrap_or (option_map (λ (e : Entry). e.place) (slice_get map.broken.items i)) 0
+
+-- the state of a place, where one that isn't broken is live with this core, or clean without one
+abbrev pub state_at : PlaceMap → Option Core → ℕ → EntryState
+state_at map live a = state_from live (marks_at map a)

@@ -1,0 +1,120 @@
+//! What a DSB answers.
+
+ghost use Rattle.std.specs.Prelude.{◌≡◌, ◌≢◌, ◌≤◌, ◌<◌, ◌+◌, ◌^◌, ℕ, Some, Option, vec_len, vec_capacity, length, slice_get, nat_eq, true, false, if◌then◌else◌};
+ghost use Rattle.bbm_entry_state.specs.Standing.{IsIdle};
+ghost use Rattle.bbm_place_map.specs.Cells.{value_in, slot_in};
+ghost use Rattle.bbm_place_map.specs.Each.{Completes, loses_table, is_table as spec_is_table};
+ghost use Rattle.bbm_place_map.specs.Entries.{cell_at, entry_in, pends_in, seat, WaitsAlike};
+ghost use Rattle.bbm_place_map.specs.Parts.{marks_in};
+ghost use Rattle.bbm_place_map.specs.Sound.{Linked, Placed};
+ghost use Rattle.bbm_place_map.specs.declared.entry.Entry.{Entry as TheEntry};
+
+use crate::cell::Cell;
+use crate::entry::{Entry, keep_pends, pends_of};
+use crate::links::unlink;
+use bbm_barriers::Dsb;
+use bbm_descriptor::Core;
+use bbm_entry_state::{EntryState, Marks, Pends};
+use bbm_regimes::Pe;
+
+fn is_table(core: Core) -> bool
+    ensures { result ≡ spec_is_table core }
+{
+    match core {
+        Core::Table { .. } => true,
+        Core::Leaf { .. } => false,
+    }
+}
+
+// Writes the marks of an entry, and what waits on for the answers of the issuer's TLBIs.
+fn keep(broken: &mut Vec<Entry>, k: usize, marks: Marks, issuer: Pe, left: Pends)
+    requires within { k < vec_len broken.old }
+    requires idle { (e : TheEntry) → slice_get broken.old.items k ≡ Some e → IsIdle (pends_in e.pends.items issuer) → IsIdle left }
+    ensures entry { (e : TheEntry) → slice_get broken.old.items k ≡ Some e → (f : TheEntry) × (seat f ≡ seat e) × (f.marks ≡ marks)
+        × WaitsAlike left (pends_in f.pends.items issuer)
+        × ((q : ℕ) → q ≢ issuer → pends_in f.pends.items q ≡ pends_in e.pends.items q)
+        × ((i : ℕ) → slice_get broken.new.items i ≡ (if nat_eq i k then Some f else slice_get broken.old.items i)) }
+    ensures len { length broken.new.items ≡ length broken.old.items }
+    ensures room { vec_capacity broken.new ≡ vec_capacity broken.old }
+{
+    let entry = &mut broken[k];
+    entry.marks = marks;
+    keep_pends(&mut entry.pends, issuer, left);
+}
+
+// A DSB of the issuer answered its TLBIs at one entry, which leaves where its place is cleansed at every PE. Whether it
+// left, and its core is a table.
+fn complete_at(
+    cells: &mut Vec<Cell>,
+    broken: &mut Vec<Entry>,
+    k: usize,
+    issuer: Pe,
+    dsb: Dsb,
+    n: u8,
+) -> bool
+    requires some { 1 ≤ n }
+    requires most { n ≤ 128 }
+    requires linked { Linked cells.old.items broken.old.items }
+    requires within { k < vec_len broken.old }
+    requires few { vec_len cells.old < 2 ^ 32 }
+    ensures linked { Linked cells.new.items broken.new.items }
+    ensures len { vec_len cells.new ≡ vec_len cells.old }
+    ensures room { vec_capacity broken.new ≡ vec_capacity broken.old }
+    ensures values { (i : ℕ) → value_in cells.new.items i ≡ value_in cells.old.items i }
+    ensures short { length broken.old.items ≤ length broken.new.items + 1 }
+    ensures here { (j : ℕ) → cell_at broken.old.items k ≡ Some j → Completes issuer dsb n
+        (entry_in cells.old.items broken.old.items j) (entry_in cells.new.items broken.new.items j) }
+    ensures answer { (j : ℕ) → cell_at broken.old.items k ≡ Some j → result
+        ≡ loses_table (marks_in cells.old.items broken.old.items j) (marks_in cells.new.items broken.new.items j) }
+    ensures others { (i j : ℕ) → cell_at broken.old.items k ≡ Some j → i ≢ j
+        → entry_in cells.new.items broken.new.items i ≡ entry_in cells.old.items broken.old.items i }
+    ensures below { (i m : ℕ) → m < k → slot_in cells.new.items i ≡ Some m → slot_in cells.old.items i ≡ Some m }
+    ensures front { (m : ℕ) → m < k → slice_get broken.new.items m ≡ slice_get broken.old.items m }
+    ensures placed { (base : ℕ → Option ℕ) → Placed base broken.old.items → Placed base broken.new.items }
+{
+    let marks = broken[k].marks;
+    let core = marks.core;
+    let pends = pends_of(&broken[k].pends, issuer);
+    let (state, left) = (EntryState::Broken { marks }).complete(pends, dsb, n);
+    match state {
+        EntryState::Broken { marks: new } => {
+            keep(broken, k, new, issuer, left);
+            false
+        }
+        EntryState::Clean => {
+            unlink(cells, broken, k);
+            is_table(core)
+        }
+        EntryState::Live { .. } => unreachable!(),
+    }
+}
+
+/// A DSB of the issuer answered its TLBIs. An entry whose place is cleansed at every PE leaves. Whether one over a table
+/// left.
+pub fn complete(cells: &mut Vec<Cell>, broken: &mut Vec<Entry>, issuer: Pe, dsb: Dsb, n: u8) -> bool
+    requires some { 1 ≤ n }
+    requires most { n ≤ 128 }
+    requires linked { Linked cells.old.items broken.old.items }
+    requires few { vec_len cells.old < 2 ^ 32 }
+    ensures linked { Linked cells.new.items broken.new.items }
+    ensures len { vec_len cells.new ≡ vec_len cells.old }
+    ensures room { vec_capacity broken.new ≡ vec_capacity broken.old }
+    ensures values { (i : ℕ) → value_in cells.new.items i ≡ value_in cells.old.items i }
+    ensures each { (j : ℕ) → Completes issuer dsb n (entry_in cells.old.items broken.old.items j)
+        (entry_in cells.new.items broken.new.items j) }
+    ensures lost { result ≡ true → (j : ℕ) × (loses_table (marks_in cells.old.items broken.old.items j)
+        (marks_in cells.new.items broken.new.items j) ≡ true) }
+    ensures kept { result ≡ false → (j : ℕ) → loses_table (marks_in cells.old.items broken.old.items j)
+        (marks_in cells.new.items broken.new.items j) ≡ false }
+    ensures placed { (base : ℕ → Option ℕ) → Placed base broken.old.items → Placed base broken.new.items }
+{
+    let mut lost = false;
+    let mut k = broken.len();
+    while k > 0 {
+        k -= 1;
+        if complete_at(cells, broken, k, issuer, dsb, n) {
+            lost = true;
+        }
+    }
+    lost
+}

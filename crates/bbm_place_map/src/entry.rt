@@ -1,0 +1,81 @@
+//! What is kept of a broken place.
+
+ghost use Rattle.std.specs.Prelude.{◌≡◌, ◌≢◌, ◌<◌, ◌↔◌, ℕ, IsTrue, vec_len, vec_capacity, Bool, true, false};
+ghost use Rattle.bbm_place_map.specs.Entries.{pends_in, WaitsAlike};
+ghost use Rattle.bbm_place_map.specs.Entries.{Lacks};
+ghost use Rattle.bbm_entry_state.specs.Standing.{IsIdle};
+
+use bbm_entry_state::{Marks, Pends};
+use bbm_regimes::{Pe, Place};
+
+/// What waits at a place for the answers of one issuer's TLBIs. Source: project's own choice.
+#[derive(Clone, Copy, Debug)]
+pub struct Pending {
+    /// The PE that issued them.
+    pub issuer: Pe,
+    /// What waits.
+    pub pends: Pends,
+}
+
+/// A broken place. Source: project's own choice.
+#[derive(Drop)]
+pub struct Entry {
+    /// The place.
+    pub place: Place,
+    /// The number of its cell.
+    pub cell: u32,
+    /// How far each PE is cleansed of its core.
+    pub marks: Marks,
+    /// What waits there, for each issuer of TLBIs that cover the place.
+    pub pends: Vec<Pending>,
+}
+
+/// What waits for the answers of the issuer's TLBIs.
+pub fn pends_of(pendings: &[Pending], issuer: Pe) -> Pends
+    ensures { WaitsAlike (pends_in pendings.now issuer) result }
+{
+    for pending in pendings {
+        if pending.issuer == issuer {
+            return pending.pends;
+        }
+    }
+    Pends::none()
+}
+
+// Writes what waits for the answers of the issuer's TLBIs, where it has an entry already. Whether it has one.
+fn put_known(pendings: &mut Vec<Pending>, issuer: Pe, pends: Pends) -> bool
+    ensures there { result ≡ true → pends_in pendings.new.items issuer ≡ pends }
+    ensures absent { result ≡ false → Lacks pendings.old.items (vec_len pendings.old) issuer }
+    ensures alone { result ≡ false → pendings.new.items ≡ pendings.old.items }
+    ensures others { (q : ℕ) → q ≢ issuer → pends_in pendings.new.items q ≡ pends_in pendings.old.items q }
+    ensures room { vec_capacity pendings.new ≡ vec_capacity pendings.old }
+    ensures len { vec_len pendings.new ≡ vec_len pendings.old }
+{
+    for i in 0..pendings.len() {
+        if pendings[i].issuer == issuer {
+            pendings[i] = Pending { issuer, pends };
+            return true;
+        }
+    }
+    false
+}
+
+/// Writes what waits for the answers of the issuer's TLBIs, where there is room for one more issuer.
+pub fn put_pends(pendings: &mut Vec<Pending>, issuer: Pe, pends: Pends)
+    requires { vec_len pendings.old < vec_capacity pendings.old }
+    ensures there { pends_in pendings.new.items issuer ≡ pends }
+    ensures others { (q : ℕ) → q ≢ issuer → pends_in pendings.new.items q ≡ pends_in pendings.old.items q }
+{
+    if !put_known(pendings, issuer, pends) {
+        pendings.push_reserved(Pending { issuer, pends });
+    }
+}
+
+/// Writes what waits for the answers of the issuer's TLBIs, which is nothing where nothing waited.
+pub fn keep_pends(pendings: &mut Vec<Pending>, issuer: Pe, pends: Pends)
+    requires { IsIdle (pends_in pendings.old.items issuer) → IsIdle pends }
+    ensures there { WaitsAlike pends (pends_in pendings.new.items issuer) }
+    ensures others { (q : ℕ) → q ≢ issuer → pends_in pendings.new.items q ≡ pends_in pendings.old.items q }
+{
+    put_known(pendings, issuer, pends);
+}

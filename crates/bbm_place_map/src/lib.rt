@@ -1,0 +1,33 @@
+//! A total map from places of translation tables to their values, and of the broken ones among them to their marks and
+//! to what waits for the answers of each issuer's TLBIs.
+//!
+//! It can be used by itself by anyone who sees the writes, DSBs and TLBIs of a log, and who knows which pages are in
+//! trees and how far each TLBI covers a place:
+//!
+//! - Keep one `PlaceMap`, at first `PlaceMap::new`, and call `track` for each page of descriptors, whose values are 0 then.
+//! - At a write call `state`, with the core of the value that the place has, or with None where that is invalid or the
+//!   page is in no tree. Call `write` of that state, with the core of the new value, and `set` with its result.
+//! - At a TLBI call `issue`, with a closure that says how far it covers a place. It is asked of the broken places alone.
+//! - At a DSB call `publish`, then `complete`.
+//! - Where a page leaves its tree call `release`.
+//!
+//! `restless` and `restless_at` list the broken places. Each contract says of every place what it is after the call.
+//! `break_before_make` is an example of the calls, with its proof.
+#![tactic(auto)]
+
+mod cell;
+mod complete;
+mod entry;
+pub mod example;
+mod issue;
+mod links;
+mod map;
+mod publish;
+mod read;
+mod write;
+
+pub use example::break_before_make;
+pub use map::PlaceMap;
+
+#[cfg(test)]
+mod tests;

@@ -1,0 +1,99 @@
+//! Edits of the cells and the entries, which keep naming each other.
+
+ghost use Rattle.std.specs.Prelude.{◌≡◌, ◌≤◌, ◌<◌, ◌+◌, ◌^◌, ℕ, Option, Some, None, is_some, nat_eq, not, ◌&&◌, vec_len, vec_capacity, count_by, slice_get, cond, if◌then◌else◌};
+ghost use Rattle.bbm_entry_state.specs.Points.{is_broken};
+ghost use Rattle.bbm_place_map.specs.Cells.{value_in, slot_in, is_listed};
+ghost use Rattle.bbm_place_map.specs.Entries.{cell_at, entry_in, no_pends};
+ghost use Rattle.bbm_place_map.specs.Parts.{marks_in, pends_for};
+ghost use Rattle.bbm_place_map.specs.Sound.{Linked, Placed, index_of};
+ghost use Rattle.bbm_place_map.specs.States.{marks_of_state};
+
+use crate::cell::Cell;
+use crate::entry::Entry;
+use bbm_entry_state::{EntryState, Marks};
+use bbm_regimes::Place;
+use std::alloc::Global;
+
+/// Writes the value of a cell.
+pub fn put_value(cells: &mut Vec<Cell>, j: usize, value: u64)
+    requires { j < vec_len cells.old }
+    ensures values { (i : ℕ) → value_in cells.new.items i ≡ (if nat_eq i j then value else value_in cells.old.items i) }
+    ensures slots { (i : ℕ) → slot_in cells.new.items i ≡ slot_in cells.old.items i }
+    ensures count { count_by is_listed cells.new.items ≡ count_by is_listed cells.old.items }
+    ensures len { vec_len cells.new ≡ vec_len cells.old }
+{
+    let slot = cells[j].slot;
+    cells[j] = Cell { value, slot };
+}
+
+// Writes the number of a cell's entry.
+fn put_slot(cells: &mut Vec<Cell>, j: usize, slot: Option<u32>)
+    requires { j < vec_len cells.old }
+    ensures values { (i : ℕ) → value_in cells.new.items i ≡ value_in cells.old.items i }
+    ensures slots { (i : ℕ) → slot_in cells.new.items i ≡ (if nat_eq i j then slot else slot_in cells.old.items i) }
+    ensures count { count_by is_listed cells.new.items + cond (is_some (slot_in cells.old.items j)) 1 0
+        ≡ count_by is_listed cells.old.items + cond (is_some slot) 1 0 }
+    ensures len { vec_len cells.new ≡ vec_len cells.old }
+{
+    let value = cells[j].value;
+    cells[j] = Cell { value, slot };
+}
+
+/// Makes an entry for a cell that has none, with nothing waiting.
+pub fn link(
+    cells: &mut Vec<Cell>,
+    broken: &mut Vec<Entry>,
+    j: usize,
+    place: Place,
+    marks: Marks,
+    alloc: Global,
+)
+    requires linked { Linked cells.old.items broken.old.items }
+    requires within { j < vec_len cells.old }
+    requires few { vec_len cells.old < 2 ^ 32 }
+    requires free { slot_in cells.old.items j ≡ None }
+    requires room { vec_len cells.old ≤ vec_capacity broken.old }
+    ensures linked { Linked cells.new.items broken.new.items }
+    ensures len { vec_len cells.new ≡ vec_len cells.old }
+    ensures room { vec_capacity broken.new ≡ vec_capacity broken.old }
+    ensures values { (i : ℕ) → value_in cells.new.items i ≡ value_in cells.old.items i }
+    ensures marks { (i : ℕ) → marks_in cells.new.items broken.new.items i
+        ≡ (if nat_eq i j then Some marks else marks_in cells.old.items broken.old.items i) }
+    ensures pends { (q i : ℕ) → pends_for cells.new.items broken.new.items q i
+        ≡ pends_for cells.old.items broken.old.items q i }
+    ensures placed { (base : ℕ → Option ℕ) → index_of base place ≡ Some j → Placed base broken.old.items
+        → Placed base broken.new.items }
+{
+    let number = broken.len() as u32;
+    broken.push_reserved(Entry {
+        place,
+        cell: j as u32,
+        marks,
+        pends: Vec::new(alloc),
+    });
+    put_slot(cells, j, Some(number));
+}
+
+/// Takes an entry out. The last one takes its number.
+pub fn unlink(cells: &mut Vec<Cell>, broken: &mut Vec<Entry>, k: usize)
+    requires linked { Linked cells.old.items broken.old.items }
+    requires within { k < vec_len broken.old }
+    requires few { vec_len cells.old < 2 ^ 32 }
+    ensures linked { Linked cells.new.items broken.new.items }
+    ensures len { vec_len cells.new ≡ vec_len cells.old }
+    ensures room { vec_capacity broken.new ≡ vec_capacity broken.old }
+    ensures count { vec_len broken.new + 1 ≡ vec_len broken.old }
+    ensures values { (i : ℕ) → value_in cells.new.items i ≡ value_in cells.old.items i }
+    ensures entries { (j : ℕ) → cell_at broken.old.items k ≡ Some j → (i : ℕ)
+        → entry_in cells.new.items broken.new.items i
+        ≡ (if nat_eq i j then None else entry_in cells.old.items broken.old.items i) }
+    ensures below { (i m : ℕ) → m < k → slot_in cells.new.items i ≡ Some m → slot_in cells.old.items i ≡ Some m }
+    ensures front { (m : ℕ) → m < k → slice_get broken.new.items m ≡ slice_get broken.old.items m }
+    ensures placed { (base : ℕ → Option ℕ) → Placed base broken.old.items → Placed base broken.new.items }
+{
+    let cell = broken[k].cell as usize;
+    let last = broken[broken.len() - 1].cell as usize;
+    put_slot(cells, last, Some(k as u32));
+    put_slot(cells, cell, None);
+    let _ = broken.swap_remove(k);
+}

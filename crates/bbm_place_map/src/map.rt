@@ -1,0 +1,330 @@
+//! The map from places to their values, marks and pendings.
+
+ghost use Rattle.std.specs.Prelude.{◌≡◌, ◌≤◌, ◌<◌, ◌^◌, vec_len, vec_capacity, nat_eq};
+ghost use Rattle.std.proofs.Props.{props};
+ghost use Rattle.indexmap.specs.IndexMap.{get};
+ghost use Rattle.bbm_place_map.specs.Sound.{Linked, Numbered, Placed};
+
+use crate::cell::Cell;
+use crate::entry::Entry;
+use crate::{complete, issue, publish, read, write};
+use bbm_barriers::Dsb;
+use bbm_descriptor::{Core, Memory};
+use bbm_entry_state::{EntryState, Pends};
+use bbm_regimes::{NoMemory, Page, Pe, PeMask, Place};
+use bbm_tlbi_scope::Cover;
+use indexmap::IndexMap;
+use std::alloc::Global;
+
+/// The number of cells that may be kept. Source: project's own choice.
+const MAX_CELLS: usize = 1 << 31;
+
+/// The values of the places of the tracked pages, and of the broken ones among them the marks and the pendings.
+/// Source: project's own choice.
+#[derive(Drop)]
+pub struct PlaceMap {
+    alloc: Global,
+    pages: IndexMap<u64, usize>,
+    cells: Vec<Cell>,
+    broken: Vec<Entry>,
+    ghost numbered: { Numbered (get nat_eq pages) (vec_len cells) },
+    ghost linked: { Linked cells.items broken.items },
+    ghost placed: { Placed (get nat_eq pages) broken.items },
+    ghost room: { vec_len cells ≤ vec_capacity broken },
+    ghost few: { vec_len cells < 2 ^ 32 },
+}
+
+#[tactic(auto, unfolding(crate::specs::Map::value_at, crate::specs::Map::marks_at, crate::specs::Map::pends_at, crate::specs::Map::is_tracked, crate::specs::Map::restless_in, crate::specs::Map::restless_place))]
+impl PlaceMap {
+    ghost use Rattle.std.specs.Prelude.{ℕ, Bool, Some, None, true, false, Option, IsSome, IfSome, IfOk, length, slice_get, is_some, OnOk, OnErr, ◌||◌, not, ◌&&◌, ◌+◌, if◌then◌else◌};
+    ghost use Rattle.bbm_entry_state.specs.Points.{is_broken, waits};
+    ghost use Rattle.bbm_tlbi_scope.specs.declared.entry.Cover.{Cover as TheCover};
+    ghost use Rattle.bbm_place_map.specs.Calls.{lost_table, IsSame, MayCover};
+    ghost use Rattle.bbm_place_map.specs.declared.entry.Entry.{Entry as TheEntry};
+    ghost use Rattle.bbm_entry_state.specs.Calls.{Published, Noted, Completed};
+    ghost use Rattle.bbm_descriptor.specs.declared.desc.Core.{Core as TheCore};
+    ghost use Rattle.bbm_entry_state.specs.Standing.{IsIdle};
+    ghost use Rattle.bbm_place_map.specs.Map.{value_at, marks_at, pends_at, is_tracked, page_of, restless_in, restless_place, state_at};
+    ghost use Rattle.bbm_place_map.specs.Entries.{WaitsAlike};
+    ghost use Rattle.bbm_place_map.specs.Sound.{index_of};
+    ghost use Rattle.bbm_place_map.specs.States.{marks_of_state};
+
+    /// A map that tracks no page. It takes no memory yet.
+    pub fn new(alloc: Global) -> PlaceMap
+        ensures values { (a : ℕ) → value_at result a ≡ 0 }
+        ensures marks { (a : ℕ) → marks_at result a ≡ None }
+        ensures pends { (q a : ℕ) → IsIdle (pends_at result q a) }
+        ensures pages { (page : ℕ) → is_tracked result page ≡ false }
+        ensures restless { restless_in result ≡ 0 }
+    {
+        PlaceMap {
+            alloc,
+            pages: IndexMap::new(alloc),
+            cells: Vec::new(alloc),
+            broken: Vec::new(alloc),
+        }
+    }
+
+    /// Whether the page is tracked.
+    pub fn is_tracked(&self, page: Page) -> bool
+        ensures { result ≡ is_tracked self.now page }
+    {
+        self.pages.contains_key(&page.get())
+    }
+
+    // The number of the place's cell; None where its page isn't tracked.
+    fn index(&self, place: Place) -> Option<usize>
+        ensures index { result ≡ index_of (get nat_eq self.now.pages) place }
+        ensures within { IfSome result (λ j. j < vec_len self.now.cells) }
+        ensures tracked { is_tracked self.now (page_of place) ≡ true → IsSome result }
+    {
+        let _ = place.get();
+        let base = self.base(place.page())?;
+        Some(base + place.index() as usize)
+    }
+
+    /// The state of a place, where a place that isn't broken is live with this core, or clean without one.
+    pub fn state(&self, place: Place, live: Option<Core>) -> EntryState
+        ensures { result ≡ state_at self.now live place }
+    {
+        match self.index(place) {
+            Some(j) => read::state(&self.cells, &self.broken, j, live),
+            None => read::whole(live),
+        }
+    }
+
+    /// What waits at a place for the answers of the issuer's TLBIs. Nothing waits at a place that isn't broken.
+    pub fn pends(&self, issuer: Pe, place: Place) -> Pends
+        ensures pends { WaitsAlike (pends_at self.now issuer place) result }
+        ensures idle { marks_at self.now place ≡ None → IsIdle (pends_at self.now issuer place) }
+    {
+        match self.index(place) {
+            Some(j) => read::pends(&self.cells, &self.broken, j, issuer),
+            None => Pends::none(),
+        }
+    }
+
+    /// How many places are broken.
+    pub fn restless(&self) -> u64
+        ensures count { result ≡ restless_in self.now }
+        ensures broken { (i : ℕ) → i < restless_in self.now → is_some (marks_at self.now (restless_place self.now i)) ≡ true }
+        ensures each { (a : ℕ) → is_some (marks_at self.now a) ≡ true
+            → (i : ℕ) × (i < restless_in self.now) × (restless_place self.now i ≡ a) }
+        ensures once { (i j : ℕ) → i < restless_in self.now → j < restless_in self.now
+            → restless_place self.now i ≡ restless_place self.now j → i ≡ j }
+        ensures idle { (q a : ℕ) → marks_at self.now a ≡ None → IsIdle (pends_at self.now q a) }
+    {
+        self.broken.len() as u64
+    }
+
+    /// One of the broken places, by a number below `restless`. A call that changes the map may number them anew.
+    pub fn restless_at(&self, i: u64) -> Place
+        requires { i < restless_in self.now }
+        ensures place { result ≡ restless_place self.now i }
+        ensures broken { is_some (marks_at self.now result) ≡ true }
+    {
+        self.broken[i as usize].place
+    }
+
+    /// Writes a value at a place of a tracked page, and the state that the write leaves. What waits there stays where
+    /// the place is broken, and else is dropped. Nothing else changes.
+    pub fn set(&mut self, place: Place, value: u64, state: EntryState)
+        requires { is_tracked self.old (page_of place) ≡ true }
+        ensures values { (a : ℕ) → value_at self.new a ≡ (if nat_eq a place then value else value_at self.old a) }
+        ensures marks { (a : ℕ) → marks_at self.new a
+            ≡ (if nat_eq a place then marks_of_state state else marks_at self.old a) }
+        ensures pends { (q a : ℕ) → (nat_eq a place && not (is_broken state)) ≡ false
+            → pends_at self.new q a ≡ pends_at self.old q a }
+        ensures dropped { (q : ℕ) → is_broken state ≡ false → IsIdle (pends_at self.new q place) }
+        ensures pages { (page : ℕ) → is_tracked self.new page ≡ is_tracked self.old page }
+    {
+        let j = self.index(place).unwrap();
+        write::put(
+            &mut self.cells,
+            &mut self.broken,
+            j,
+            place,
+            value,
+            state,
+            self.alloc,
+        );
+    }
+
+    /// No place of the page is broken any more, and nothing waits there. Nothing else changes.
+    pub fn release(&mut self, page: Page)
+        ensures values { (a : ℕ) → value_at self.new a ≡ value_at self.old a }
+        ensures marks { (a : ℕ) → marks_at self.new a
+            ≡ (if nat_eq (page_of a) page then None else marks_at self.old a) }
+        ensures pends { (q a : ℕ) → nat_eq (page_of a) page ≡ false → pends_at self.new q a ≡ pends_at self.old q a }
+        ensures dropped { (q a : ℕ) → nat_eq (page_of a) page ≡ true → IsIdle (pends_at self.new q a) }
+        ensures pages { (p : ℕ) → is_tracked self.new p ≡ is_tracked self.old p }
+    {
+        match self.base(page) {
+            Some(base) => write::clear_page(&mut self.cells, &mut self.broken, base),
+            None => {}
+        }
+    }
+
+    /// A DSB of the issuer, in a log with `n` PEs, 1 to 128, published its writes. Only the marks change.
+    pub fn publish(&mut self, issuer: Pe, dsb: Dsb, n: u8)
+        requires some { 1 ≤ n }
+        requires within { n ≤ 128 }
+        requires issuer_below { issuer < n }
+        ensures published { (live : Option TheCore) (a : ℕ)
+            → Published (state_at self.old live a) issuer dsb n (state_at self.new live a) }
+        ensures values { (a : ℕ) → value_at self.new a ≡ value_at self.old a }
+        ensures pends { (q a : ℕ) → pends_at self.new q a ≡ pends_at self.old q a }
+        ensures pages { (page : ℕ) → is_tracked self.new page ≡ is_tracked self.old page }
+        ensures restless { restless_in self.new ≡ restless_in self.old }
+        ensures places { (i : ℕ) → restless_place self.new i ≡ restless_place self.old i }
+    {
+        publish::publish(&mut self.broken, issuer, dsb, n);
+    }
+
+    /// A DSB of the issuer, in a log with `n` PEs, 1 to 128, answered its TLBIs. A place that is cleansed at every PE
+    /// isn't broken any more, and nothing waits there. Whether such a place was broken over a table.
+    pub fn complete(&mut self, issuer: Pe, dsb: Dsb, n: u8) -> bool
+        requires some { 1 ≤ n }
+        requires within { n ≤ 128 }
+        ensures completed { (a : ℕ) → Completed (state_at self.old None a) (pends_at self.old issuer a) dsb n
+            (state_at self.new None a) (pends_at self.new issuer a) }
+        ensures others { (q a : ℕ) (b : Bool) (c : TheCover) (p : ℕ) → nat_eq q issuer ≡ false
+            → waits (pends_at self.new q a) b c p
+            ≡ (is_some (marks_at self.new a) && waits (pends_at self.old q a) b c p) }
+        ensures lost { result ≡ true → (a : ℕ) × (lost_table self.old self.new a ≡ true) }
+        ensures kept { result ≡ false → (a : ℕ) → lost_table self.old self.new a ≡ false }
+        ensures values { (a : ℕ) → value_at self.new a ≡ value_at self.old a }
+        ensures pages { (page : ℕ) → is_tracked self.new page ≡ is_tracked self.old page }
+    {
+        complete::complete(&mut self.cells, &mut self.broken, issuer, dsb, n)
+    }
+
+    /// Tracks the page: its values are 0, none of its places is broken, and nothing waits there. `NoMemory` where there
+    /// is none, and nothing changes then. It takes all the room that `set` needs later.
+    pub fn track(&mut self, _alloc: Global, page: Page) -> Result<(), NoMemory>
+        ensures pages { OnOk result ((p : ℕ) → is_tracked self.new p ≡ (nat_eq p page || is_tracked self.old p)) }
+        ensures values { OnOk result ((a : ℕ) → value_at self.new a
+            ≡ (if nat_eq (page_of a) page then 0 else value_at self.old a)) }
+        ensures marks { OnOk result ((a : ℕ) → marks_at self.new a
+            ≡ (if nat_eq (page_of a) page then None else marks_at self.old a)) }
+        ensures pends { OnOk result ((q a : ℕ) → nat_eq (page_of a) page ≡ false
+            → pends_at self.new q a ≡ pends_at self.old q a) }
+        ensures kept { OnErr result (IsSame self.old self.new) }
+    {
+        match self.base(page) {
+            Some(base) => {
+                write::clear_page(&mut self.cells, &mut self.broken, base);
+                write::zero_page(&mut self.cells, base);
+                Ok(())
+            }
+            None => self.add_page(page),
+        }
+    }
+
+    // Tracks a page that isn't tracked. `NoMemory` where there is none, and nothing changes then.
+    fn add_page(&mut self, page: Page) -> Result<(), NoMemory>
+        requires { is_tracked self.old page ≡ false }
+        ensures pages { OnOk result ((p : ℕ) → is_tracked self.new p ≡ (nat_eq p page || is_tracked self.old p)) }
+        ensures values { OnOk result ((a : ℕ) → value_at self.new a ≡ value_at self.old a) }
+        ensures marks { OnOk result ((a : ℕ) → marks_at self.new a ≡ marks_at self.old a) }
+        ensures pends { OnOk result ((q a : ℕ) → pends_at self.new q a ≡ pends_at self.old q a) }
+        ensures kept { OnErr result (IsSame self.old self.new) }
+    {
+        let base = self.cells.len();
+        if base >= MAX_CELLS || !self.has_room() {
+            return Err(NoMemory);
+        }
+        match self.pages.insert(page.get(), base) {
+            Ok(_) => {
+                write::add_cells(&mut self.cells);
+                Ok(())
+            }
+            Err(_) => Err(NoMemory),
+        }
+    }
+
+    // Makes room for the cells of one more page, and for an entry of each cell. Whether there is.
+    fn has_room(&mut self) -> bool
+        ensures cells { result ≡ true → vec_len self.new.cells + 512 ≤ vec_capacity self.new.cells }
+        ensures broken { result ≡ true → vec_len self.new.cells + 512 ≤ vec_capacity self.new.broken }
+        ensures pages { self.new.pages ≡ self.old.pages }
+        ensures items { self.new.cells.items ≡ self.old.cells.items }
+        ensures len { vec_len self.new.cells ≡ vec_len self.old.cells }
+        ensures entries { self.new.broken.items ≡ self.old.broken.items }
+    {
+        let wanted = self.cells.len() + 512 - self.broken.len();
+        self.broken.reserve(wanted).is_ok() && self.cells.reserve(512).is_ok()
+    }
+
+    // How far the closure says that a TLBI covers each broken place. `NoMemory` where there is none.
+    fn covers<F: Fn(&PlaceMap, Place) -> Cover>(
+        &self,
+        alloc: Global,
+        cover: &F,
+    ) -> Result<Vec<Cover>, NoMemory>
+        requires { F.IsAlwaysCallable cover.now }
+        ensures len { IfOk result (λ covers. length covers.items ≡ length self.now.broken.items) }
+        ensures each { IfOk result (λ covers. (m : ℕ) (e : TheEntry) (c : TheCover) → slice_get self.now.broken.items m ≡ Some e
+            → slice_get covers.items m ≡ Some c → MayCover F.Fn cover.now self.now e.place c) }
+    {
+        let mut covers = Vec::new(alloc);
+        for k in 0..self.broken.len() {
+            let found = cover(self, self.broken[k].place);
+            match covers.push(found) {
+                Ok(()) => {}
+                Err(_) => return Err(NoMemory),
+            }
+        }
+        Ok(covers)
+    }
+
+    /// The issuer issued a TLBI that reaches these PEs, is broadcast or not, and covers each broken place as far as the
+    /// closure says of the map before the call. `NoMemory` where there is none, and nothing changes then. Only the
+    /// pendings of the issuer change.
+    pub fn issue<F: Fn(&PlaceMap, Place) -> Cover>(
+        &mut self,
+        alloc: Global,
+        issuer: Pe,
+        reach: PeMask,
+        broadcast: bool,
+        cover: F,
+    ) -> Result<(), NoMemory>
+        requires { F.IsAlwaysCallable cover }
+        ensures noted { OnOk result ((a : ℕ) → is_some (marks_at self.old a) ≡ true → (c : TheCover)
+            × MayCover F.Fn cover self.old a c
+            × Noted (state_at self.old None a) (pends_at self.old issuer a) reach broadcast c (pends_at self.new issuer a)) }
+        ensures others { (q a : ℕ) → nat_eq q issuer ≡ false → pends_at self.new q a ≡ pends_at self.old q a }
+        ensures kept { OnErr result (IsSame self.old self.new) }
+        ensures values { (a : ℕ) → value_at self.new a ≡ value_at self.old a }
+        ensures marks { (a : ℕ) → marks_at self.new a ≡ marks_at self.old a }
+        ensures pages { (page : ℕ) → is_tracked self.new page ≡ is_tracked self.old page }
+        ensures restless { restless_in self.new ≡ restless_in self.old }
+        ensures places { (i : ℕ) → restless_place self.new i ≡ restless_place self.old i }
+    {
+        let covers = self.covers(alloc, &cover)?;
+        issue::make_room(&mut self.broken, &covers)?;
+        issue::note(&mut self.broken, &covers, issuer, reach, broadcast);
+        Ok(())
+    }
+
+    // The number of the first cell of a page; None where the page isn't tracked.
+    fn base(&self, page: Page) -> Option<usize>
+        ensures base { result ≡ get nat_eq self.now.pages page }
+        ensures within { IfSome result (λ b. b + 512 ≤ vec_len self.now.cells) }
+    {
+        self.pages.get(&page.get()).copied()
+    }
+}
+
+impl Memory for PlaceMap {
+    ghost use Rattle.bbm_place_map.specs.Map.{value_at};
+
+    ghost value_at = { value_at };
+
+    fn value(&self, place: Place) -> u64 {
+        match self.index(place) {
+            Some(j) => self.cells[j].value,
+            None => 0,
+        }
+    }
+}

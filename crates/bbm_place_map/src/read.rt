@@ -1,0 +1,62 @@
+//! What is kept of a cell.
+
+ghost use Rattle.std.specs.Prelude.{◌≡◌, ◌<◌, length, None, true};
+ghost use Rattle.bbm_entry_state.specs.Points.{is_broken};
+ghost use Rattle.bbm_place_map.specs.Entries.{WaitsAlike};
+ghost use Rattle.bbm_place_map.specs.Parts.{marks_in, pends_for};
+ghost use Rattle.bbm_place_map.specs.Sound.{Linked};
+ghost use Rattle.bbm_place_map.specs.States.{state_from};
+
+use crate::cell::Cell;
+use crate::entry::{Entry, pends_of};
+use bbm_descriptor::Core;
+use bbm_entry_state::{EntryState, Marks, Pends};
+use bbm_regimes::Pe;
+
+/// The state of a place that isn't broken: live with this core, or clean without one.
+pub fn whole(live: Option<Core>) -> EntryState
+    ensures { result ≡ state_from live None }
+{
+    match live {
+        Some(core) => EntryState::Live { core },
+        None => EntryState::Clean,
+    }
+}
+
+/// The marks of a state that is broken.
+pub fn broken_marks(state: EntryState) -> Marks
+    requires { is_broken state ≡ true }
+    ensures { state ≡ EntryState.Broken result }
+{
+    match state {
+        EntryState::Broken { marks } => marks,
+        EntryState::Clean => unreachable!(),
+        EntryState::Live { .. } => unreachable!(),
+    }
+}
+
+/// The state of a cell's place.
+pub fn state(cells: &[Cell], broken: &[Entry], j: usize, live: Option<Core>) -> EntryState
+    requires linked { Linked cells.now broken.now }
+    requires within { j < length cells.now }
+    ensures { result ≡ state_from live (marks_in cells.now broken.now j) }
+{
+    match cells[j].slot {
+        Some(k) => EntryState::Broken {
+            marks: broken[k as usize].marks,
+        },
+        None => whole(live),
+    }
+}
+
+/// What waits at a cell's place for the answers of the issuer's TLBIs.
+pub fn pends(cells: &[Cell], broken: &[Entry], j: usize, issuer: Pe) -> Pends
+    requires linked { Linked cells.now broken.now }
+    requires within { j < length cells.now }
+    ensures { WaitsAlike (pends_for cells.now broken.now issuer j) result }
+{
+    match cells[j].slot {
+        Some(k) => pends_of(&broken[k as usize].pends, issuer),
+        None => Pends::none(),
+    }
+}

@@ -1,0 +1,158 @@
+//! Writes of a cell and its entry.
+
+ghost use Rattle.std.specs.Prelude.{◌≡◌, ◌≤◌, ◌<◌, ◌+◌, ◌^◌, ℕ, Option, Some, None, nat_eq, not, ◌&&◌, vec_len, vec_capacity, slice_get, length, List, if◌then◌else◌};
+ghost use Rattle.bbm_entry_state.specs.Points.{is_broken};
+ghost use Rattle.bbm_place_map.specs.Cells.{value_in, slot_in, in_page};
+ghost use Rattle.bbm_place_map.specs.Entries.{no_pends, entry_in};
+ghost use Rattle.bbm_place_map.specs.Parts.{marks_in, pends_for};
+ghost use Rattle.bbm_place_map.specs.Sound.{Linked, Placed, index_of};
+ghost use Rattle.bbm_place_map.specs.States.{marks_of_state};
+ghost use Rattle.bbm_place_map.specs.declared.entry.Entry.{Entry as TheEntry};
+
+use crate::cell::Cell;
+use crate::entry::Entry;
+use crate::links::{link, put_value, unlink};
+use bbm_entry_state::{EntryState, Marks};
+use bbm_regimes::Place;
+use std::alloc::Global;
+
+/// Changes the marks of an entry.
+pub fn remark(broken: &mut Vec<Entry>, k: usize, marks: Marks)
+    requires { k < vec_len broken.old }
+    ensures entry { (e : TheEntry) → slice_get broken.old.items k ≡ Some e → (i : ℕ) → slice_get broken.new.items i
+        ≡ (if nat_eq i k then Some (record e { marks = marks }) else slice_get broken.old.items i) }
+    ensures len { length broken.new.items ≡ length broken.old.items }
+    ensures room { vec_capacity broken.new ≡ vec_capacity broken.old }
+{
+    let entry = &mut broken[k];
+    entry.marks = marks;
+}
+
+// The place of a cell is broken, with these marks. What waits there stays.
+fn mark(
+    cells: &mut Vec<Cell>,
+    broken: &mut Vec<Entry>,
+    j: usize,
+    place: Place,
+    marks: Marks,
+    alloc: Global,
+)
+    requires linked { Linked cells.old.items broken.old.items }
+    requires within { j < vec_len cells.old }
+    requires few { vec_len cells.old < 2 ^ 32 }
+    requires room { vec_len cells.old ≤ vec_capacity broken.old }
+    ensures linked { Linked cells.new.items broken.new.items }
+    ensures len { vec_len cells.new ≡ vec_len cells.old }
+    ensures room { vec_capacity broken.new ≡ vec_capacity broken.old }
+    ensures values { (i : ℕ) → value_in cells.new.items i ≡ value_in cells.old.items i }
+    ensures marks { (i : ℕ) → marks_in cells.new.items broken.new.items i
+        ≡ (if nat_eq i j then Some marks else marks_in cells.old.items broken.old.items i) }
+    ensures pends { (q i : ℕ) → pends_for cells.new.items broken.new.items q i
+        ≡ pends_for cells.old.items broken.old.items q i }
+    ensures placed { (base : ℕ → Option ℕ) → index_of base place ≡ Some j → Placed base broken.old.items
+        → Placed base broken.new.items }
+{
+    match cells[j].slot {
+        Some(k) => remark(broken, k as usize, marks),
+        None => link(cells, broken, j, place, marks, alloc),
+    }
+}
+
+/// The place of a cell isn't broken, and nothing waits there.
+pub fn clear(cells: &mut Vec<Cell>, broken: &mut Vec<Entry>, j: usize)
+    requires linked { Linked cells.old.items broken.old.items }
+    requires within { j < vec_len cells.old }
+    requires few { vec_len cells.old < 2 ^ 32 }
+    ensures linked { Linked cells.new.items broken.new.items }
+    ensures len { vec_len cells.new ≡ vec_len cells.old }
+    ensures room { vec_capacity broken.new ≡ vec_capacity broken.old }
+    ensures values { (i : ℕ) → value_in cells.new.items i ≡ value_in cells.old.items i }
+    ensures entries { (i : ℕ) → entry_in cells.new.items broken.new.items i
+        ≡ (if nat_eq i j then None else entry_in cells.old.items broken.old.items i) }
+    ensures placed { (base : ℕ → Option ℕ) → Placed base broken.old.items → Placed base broken.new.items }
+{
+    if let Some(k) = cells[j].slot {
+        unlink(cells, broken, k as usize);
+    }
+}
+
+/// Writes a value, and the state that it leaves. What waits there stays where the place is broken, and else is dropped.
+pub fn put(
+    cells: &mut Vec<Cell>,
+    broken: &mut Vec<Entry>,
+    j: usize,
+    place: Place,
+    value: u64,
+    state: EntryState,
+    alloc: Global,
+)
+    requires linked { Linked cells.old.items broken.old.items }
+    requires within { j < vec_len cells.old }
+    requires few { vec_len cells.old < 2 ^ 32 }
+    requires room { vec_len cells.old ≤ vec_capacity broken.old }
+    ensures linked { Linked cells.new.items broken.new.items }
+    ensures len { vec_len cells.new ≡ vec_len cells.old }
+    ensures room { vec_capacity broken.new ≡ vec_capacity broken.old }
+    ensures values { (i : ℕ) → value_in cells.new.items i ≡ (if nat_eq i j then value else value_in cells.old.items i) }
+    ensures marks { (i : ℕ) → marks_in cells.new.items broken.new.items i
+        ≡ (if nat_eq i j then marks_of_state state else marks_in cells.old.items broken.old.items i) }
+    ensures pends { (q i : ℕ) → pends_for cells.new.items broken.new.items q i
+        ≡ (if nat_eq i j && not (is_broken state) then no_pends else pends_for cells.old.items broken.old.items q i) }
+    ensures placed { (base : ℕ → Option ℕ) → index_of base place ≡ Some j → Placed base broken.old.items
+        → Placed base broken.new.items }
+{
+    put_value(cells, j, value);
+    match state {
+        EntryState::Broken { marks } => mark(cells, broken, j, place, marks, alloc),
+        EntryState::Clean => clear(cells, broken, j),
+        EntryState::Live { .. } => clear(cells, broken, j),
+    }
+}
+
+/// No place of the 512 cells from the base on is broken, and nothing waits there.
+pub fn clear_page(cells: &mut Vec<Cell>, broken: &mut Vec<Entry>, base: usize)
+    requires linked { Linked cells.old.items broken.old.items }
+    requires within { base + 512 ≤ vec_len cells.old }
+    requires few { vec_len cells.old < 2 ^ 32 }
+    ensures linked { Linked cells.new.items broken.new.items }
+    ensures len { vec_len cells.new ≡ vec_len cells.old }
+    ensures room { vec_capacity broken.new ≡ vec_capacity broken.old }
+    ensures values { (i : ℕ) → value_in cells.new.items i ≡ value_in cells.old.items i }
+    ensures entries { (i : ℕ) → entry_in cells.new.items broken.new.items i
+        ≡ (if in_page base 512 i then None else entry_in cells.old.items broken.old.items i) }
+    ensures placed { (number : ℕ → Option ℕ) → Placed number broken.old.items → Placed number broken.new.items }
+{
+    for i in 0..512 {
+        clear(cells, broken, base + i);
+    }
+}
+
+/// The values of the 512 cells from the base on are 0.
+pub fn zero_page(cells: &mut Vec<Cell>, base: usize)
+    requires { base + 512 ≤ vec_len cells.old }
+    ensures len { vec_len cells.new ≡ vec_len cells.old }
+    ensures values { (i : ℕ) → value_in cells.new.items i ≡ (if in_page base 512 i then 0 else value_in cells.old.items i) }
+    ensures slots { (i : ℕ) → slot_in cells.new.items i ≡ slot_in cells.old.items i }
+    ensures linked { (entries : List TheEntry) → Linked cells.old.items entries → Linked cells.new.items entries }
+{
+    for i in 0..512 {
+        put_value(cells, base + i, 0);
+    }
+}
+
+/// Adds 512 cells that hold 0 and have no entry, where there is room for them.
+pub fn add_cells(cells: &mut Vec<Cell>)
+    requires { vec_len cells.old + 512 ≤ vec_capacity cells.old }
+    ensures len { vec_len cells.new ≡ vec_len cells.old + 512 }
+    ensures values { (i : ℕ) → value_in cells.new.items i ≡ value_in cells.old.items i }
+    ensures slots { (i : ℕ) → slot_in cells.new.items i ≡ slot_in cells.old.items i }
+    ensures linked { (entries : List TheEntry) → Linked cells.old.items entries → Linked cells.new.items entries }
+{
+    for i in 0..512usize {
+        let _ = i;
+        cells.push_reserved(Cell {
+            value: 0,
+            slot: None,
+        });
+    }
+}

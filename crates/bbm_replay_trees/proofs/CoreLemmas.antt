@@ -1,0 +1,146 @@
+-- The cores of what the places of trees hold after an event.
+use Rattle.std.proofs.Common.{◌≡◌, ℕ, ◌⊎◌, Bool, true, false, cond, ◌&&◌, ◌==◌, List, ◌∷◌, Option, Some, None, is_some, Contains, option_and_then, refl, sym, ◌∙◌, ap, inl, inr, true≢false}
+use Rattle.std.proofs.lemmas.Bool.{and_parts, eqb-true}
+use Rattle.bbm_regimes.specs.declared.regime.Kind.{Kind}
+use Rattle.bbm_descriptor.specs.Descriptor.{core_of, is_valid}
+use Rattle.bbm_descriptor.specs.declared.desc.Core.{Core}
+use Rattle.bbm_events.specs.Heading.{Heading}
+use Rattle.bbm_histories.specs.Steps.{held_after}
+use Rattle.bbm_histories.specs.Tree.{Attaches, HeldChange, Proper}
+use Rattle.bbm_rules.specs.Prelude.{Barrier, Event, Init, Write, Dsb}
+use Rattle.bbm_rules.specs.Broken.{keeps}
+use Rattle.bbm_rules.specs.Claims.Trust.{Patterns}
+use Rattle.bbm_rules.specs.Covers.{note}
+use Rattle.bbm_rules.specs.Held.{held}
+use Rattle.bbm_rules.specs.Notes.{Noted, events_of}
+use Rattle.bbm_rules.specs.Pages.{is_fresh}
+use Rattle.bbm_rules.specs.Places.{page_of}
+use Rattle.bbm_rules.specs.Tree.{Node, held_at, in_tree, node_of, tree}
+use Rattle.bbm_rules.specs.Values.{value_of}
+use Rattle.bbm_replay_trees.specs.Below.{Below}
+use Rattle.bbm_replay_trees.specs.Told.{SameCores, SameNodes, SameValues, core_after, notes}
+use Rattle.bbm_replay_trees.proofs.NodeLemmas.{fresh_outside}
+use Rattle.bbm_replay_trees.proofs.PageLemmas.{eq_swap}
+
+module _ (heading : Heading) (b : Below heading) (h : List Event) where
+  abbrev marks : List Noted
+  marks = notes heading h
+
+  -- the core of a valid value, and of one that isn't
+  present : (n : Node) (v : ℕ) → option_and_then (core_of n.kind n.level) (cond (is_valid n.kind n.level v) (Some v) None)
+      ≡ core_of n.kind n.level v
+  present n v = by (is_valid n.kind n.level v) refl
+    where
+      none : (o : Option Core) → is_some o ≡ false → None ≡ o
+      none None k = refl
+      none (Some c) k = absurd (true≢false k)
+
+      by : (c : Bool) → is_valid n.kind n.level v ≡ c → option_and_then (core_of n.kind n.level) (cond c (Some v) None)
+          ≡ core_of n.kind n.level v
+      by true k = refl
+      by false k = none (core_of n.kind n.level v) (b.core_where_valid n.kind n.level v ∙ k)
+
+  -- at a place of a page that stays in a tree
+  stays : (e : Event) → keeps heading Patterns (e ∷ h) ≡ true → ((q : ℕ) (dsb : Barrier) → e ≡ Dsb q dsb → ⊥) → (n : Node)
+      (a : ℕ) → node_of heading Patterns marks (page_of a) ≡ Some n
+      → core_after n e a (option_and_then (core_of n.kind n.level) (held heading Patterns n.kind n.level a marks))
+      ≡ option_and_then (core_of n.kind n.level)
+      (held_after heading Patterns n.kind n.level a e (note heading Patterns marks e) marks)
+  stays (Write pe place v) kept no_dsb n a at =
+      ap (λ (c : Bool). cond (c && is_valid n.kind n.level v) (core_of n.kind n.level v) before) (eq_swap a place)
+      ∙ by (place == a && is_valid n.kind n.level v)
+    where
+      before : Option Core
+      before = option_and_then (core_of n.kind n.level) (held heading Patterns n.kind n.level a marks)
+
+      by : (c : Bool) → cond c (core_of n.kind n.level v) (option_and_then (core_of n.kind n.level) (held heading Patterns n.kind n.level a marks))
+          ≡ option_and_then (core_of n.kind n.level) (cond c (Some v) (held heading Patterns n.kind n.level a marks))
+      by true = refl
+      by false = refl
+  stays (Init pe page) kept no_dsb n a at = by (page == page_of a) refl
+    where
+      by : (c : Bool) → (page == page_of a) ≡ c → option_and_then (core_of n.kind n.level) (held heading Patterns n.kind n.level a marks)
+          ≡ option_and_then (core_of n.kind n.level) (cond c None (held heading Patterns n.kind n.level a marks))
+      by true k =
+          absurd (true≢false (sym (ap is_some at)
+          ∙ (ap (in_tree heading Patterns marks) (sym (eqb-true page (page_of a) k)) ∙ (b.no_init h pe page kept).0)))
+      by false k = refl
+  stays (Dsb pe dsb) kept no_dsb n a at = absurd (no_dsb pe dsb refl)
+  stays e kept no_dsb n a at = refl
+
+  pub cores_step : (node next_node : ℕ → Option Node) (next_value : ℕ → ℕ) (core next_core : Kind → ℕ → ℕ → Option Core)
+      (e : Event) → Proper heading → keeps heading Patterns (e ∷ h) ≡ true
+      → ((q : ℕ) (dsb : Barrier) → e ≡ Dsb q dsb → ⊥) → SameNodes heading h node → SameNodes heading (e ∷ h) next_node
+      → SameValues (e ∷ h) next_value → SameCores heading h core
+      → ((n : Node) (a : ℕ) → next_node (page_of a) ≡ Some n → next_core n.kind n.level a
+      ≡ cond (is_some (node (page_of a))) (core_after n e a (core n.kind n.level a)) (core_of n.kind n.level (next_value a)))
+      → SameCores heading (e ∷ h) next_core
+  cores_step node next_node next_value core next_core e proper kept no_dsb same next_same values cores is n a at =
+      is n a (next_same (page_of a) ∙ at) ∙ by (b.gained h e kept n taken.0)
+    where
+      taken : Contains (tree heading Patterns (notes heading (e ∷ h))) n × (n.page ≡ page_of a)
+      taken = b.node_taken (notes heading (e ∷ h)) (page_of a) n at
+
+      kept_before : keeps heading Patterns h ≡ true
+      kept_before = (and_parts (keeps heading Patterns h) _ kept).0
+
+      by : Contains (tree heading Patterns marks) n
+          ⊎ (Attaches heading Patterns marks e n × (is_fresh heading Patterns marks n.page ≡ true))
+          → cond (is_some (node (page_of a))) (core_after n e a (core n.kind n.level a)) (core_of n.kind n.level (next_value a))
+          ≡ option_and_then (core_of n.kind n.level) (held_at heading Patterns (notes heading (e ∷ h)) n a)
+      by (inl there) =
+          let old : node_of heading Patterns marks (page_of a) ≡ Some n
+          = ap (node_of heading Patterns marks) (sym taken.1) ∙ b.the_first h kept_before n there in
+          ap (λ (o : Option Node). cond (is_some o) (core_after n e a (core n.kind n.level a)) (core_of n.kind n.level (next_value a)))
+          (same (page_of a) ∙ old)
+          ∙ (ap (core_after n e a) (cores n a old)
+          ∙ (stays e kept no_dsb n a old
+          ∙ ap (option_and_then (core_of n.kind n.level))
+          (sym (b.held_step n.kind n.level a (note heading Patterns marks e) marks proper.some_pe))))
+      by (inr new) =
+          let none : node (page_of a) ≡ None
+          = same (page_of a) ∙ fresh_outside heading marks (page_of a) (ap (is_fresh heading Patterns marks) (sym taken.1) ∙ new.1) in
+          let holds = (b.holds_present h e proper.some_pe kept n a new.0 (sym taken.1)).holds in
+          let value : value_of (events_of (notes heading (e ∷ h))) a ≡ next_value a
+          = ap (λ es. value_of es a) (b.events_noted (e ∷ h)) ∙ sym (values a) in
+          ap (λ (o : Option Node). cond (is_some o) (core_after n e a (core n.kind n.level a)) (core_of n.kind n.level (next_value a))) none
+          ∙ (sym (present n (next_value a))
+          ∙ (ap (λ (v : ℕ). option_and_then (core_of n.kind n.level) (cond (is_valid n.kind n.level v) (Some v) None)) (sym value)
+          ∙ ap (option_and_then (core_of n.kind n.level)) (sym holds)))
+
+  pub cores_dsb : (next_node : ℕ → Option Node) (core next_core : Kind → ℕ → ℕ → Option Core) (pe : ℕ) (dsb : Barrier)
+      → Proper heading → keeps heading Patterns (Dsb pe dsb ∷ h) ≡ true → SameNodes heading (Dsb pe dsb ∷ h) next_node
+      → SameCores heading h core
+      → ((n : Node) (a : ℕ) → next_node (page_of a) ≡ Some n → next_core n.kind n.level a
+      ≡ cond (is_some (held_at heading Patterns (notes heading (Dsb pe dsb ∷ h)) n a)) (core n.kind n.level a) None)
+      → SameCores heading (Dsb pe dsb ∷ h) next_core
+  cores_dsb next_node core next_core pe dsb proper kept next_same cores is n a at =
+      is n a (next_same (page_of a) ∙ at) ∙ by (b.gained h (Dsb pe dsb) kept n taken.0)
+    where
+      now : List Noted
+      now = notes heading (Dsb pe dsb ∷ h)
+
+      taken : Contains (tree heading Patterns (notes heading (Dsb pe dsb ∷ h))) n × (n.page ≡ page_of a)
+      taken = b.node_taken (notes heading (Dsb pe dsb ∷ h)) (page_of a) n at
+
+      kept_before : keeps heading Patterns h ≡ true
+      kept_before = (and_parts (keeps heading Patterns h) _ kept).0
+
+      change : (before after : Option ℕ) → HeldChange n.kind n.level a (Dsb pe dsb) before after
+          → core n.kind n.level a ≡ option_and_then (core_of n.kind n.level) before
+          → cond (is_some after) (core n.kind n.level a) None ≡ option_and_then (core_of n.kind n.level) after
+      change before None k l = refl
+      change before (Some v) (inl same) l = l ∙ ap (option_and_then (core_of n.kind n.level)) (sym same)
+      change before (Some v) (inr (inl w)) l = let apart : Dsb pe dsb ≡ Write w.0 a w.1 = w.2 in cc
+      change before (Some v) (inr (inr d)) l = let none : Some v ≡ None = d.3 in cc
+
+      by : Contains (tree heading Patterns marks) n
+          ⊎ (Attaches heading Patterns marks (Dsb pe dsb) n × (is_fresh heading Patterns marks n.page ≡ true))
+          → cond (is_some (held_at heading Patterns (notes heading (Dsb pe dsb ∷ h)) n a)) (core n.kind n.level a) None
+          ≡ option_and_then (core_of n.kind n.level) (held_at heading Patterns (notes heading (Dsb pe dsb ∷ h)) n a)
+      by (inl there) =
+          let old : node_of heading Patterns marks (page_of a) ≡ Some n
+          = ap (node_of heading Patterns marks) (sym taken.1) ∙ b.the_first h kept_before n there in
+          change (held_at heading Patterns marks n a) (held_at heading Patterns (notes heading (Dsb pe dsb ∷ h)) n a)
+          (b.held_changes h (Dsb pe dsb) proper.some_pe kept n a there (sym taken.1)) (cores n a old)
+      by (inr new) = absurd new.0

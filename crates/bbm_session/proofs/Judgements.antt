@@ -1,0 +1,303 @@
+-- The fold that judges events: its parts, its lines, and that what it says is the outcome of the bytes.
+use Rattle.std.proofs.Common.{◌≡◌, ℕ, suc, ◌<◌, ◌+◌, Bool, true, false, if◌then◌else◌, List, [], ◌∷◌, length, Option, Some, None, refl, ap, sym, ◌∙◌, arith, subst, ◌^◌, Result, Ok, Err, IfOk, IfErr, OnOk, ◌==◌, ◌⊎◌, inl, inr}
+use Rattle.std.proofs.lemmas.Bool.{and_parts}
+use Rattle.bbm_regimes.specs.declared.regime.Which.{Which}
+use Rattle.bbm_events.specs.declared.event.Event.{Event as EventOf}
+use Rattle.bbm_events.specs.declared.event.Item.{Item}
+use Rattle.bbm_events.specs.declared.event.Item.TheVariants as item
+use Rattle.bbm_events.specs.Fits.{fits_heading, item_fits, label_fits}
+use Rattle.bbm_events.specs.Heading.{Heading}
+use Rattle.bbm_events.specs.declared.malformed.Malformed.{Malformed as Cause}
+use Rattle.bbm_events.specs.Lines.{header_of, item_of}
+use Rattle.bbm_rules.specs.declared.verdict.Verdict.{Verdict}
+use Rattle.bbm_rules.specs.declared.verdict.Verdict.TheVariants.{Accepted, Refused, Malformed, Limit}
+use Rattle.bbm_rules.specs.Broken.{Breach, broken}
+use Rattle.bbm_rules.specs.Claims.{Patterns}
+use Rattle.bbm_rules.specs.Limits.{limit_of}
+use Rattle.bbm_rules.specs.declared.limits.Limits.{Limits}
+use Rattle.bbm_rules.specs.Outcome.{Text, is_too_long, limit_after, limit_at, AtHeader, AtEvents, AtEnd, after_header, after_item, after_event, after_judged, after_kept, after_line, too_long_at, cut_at, Progress, Step, Decides, GoesOn, Outcome, outcome_from, outcome_of, outcome_after, verdict_of_bytes, read_from, read_lines, goes_on_to, step_of, end_of, events_in, text_of}
+use Rattle.bbm_session.specs.declared.stop.Stop.{Stop}
+use Rattle.bbm_session.specs.declared.stop.Stop.TheVariants.{Decided, ReadFault, NoMemory}
+use Rattle.bbm_session.specs.declared.stop.Turn.{Turn}
+use Rattle.bbm_session.specs.declared.stop.Turn.TheVariants.{Taken, End}
+use Rattle.bbm_session.specs.Fold.{Fold, Halts, Ending, turned_by, end_by, ending_after, ending_from, ending_at, passes_to, lines_from, header_by, IsStart, IsInside, IsEnd}
+use Rattle.bbm_session.specs.Folds.{Judged, Judges, StopsKnown, judged_at, judged_by, is_event, line_needs, judging}
+use Rattle.bbm_session.specs.Run.{IsEvent, NeedsMemory, ReadFor, ReadTo, ReadToFault, ReadToWant, UpTo}
+use Rattle.bbm_session.specs.Stages.{all_fit, StopsAt, MayJudge, MayTakeLine, Keeps, Knows, KnowsAt, KnowsThat, KnowsWhy, JudgesLine, TakesLine, Ends}
+use Rattle.bbm_session.proofs.ReadBytes.{ByName, Named, ToFault, ToWant, read-by}
+use Rattle.bbm_session.proofs.Refusals.{names-place}
+
+-- ---- an event
+
+-- an event behind others that fit
+pub fits-more : (heading : Heading) (e : EventOf) (h : List EventOf) → fits_heading heading e ≡ true → all_fit heading h ≡ true → all_fit heading (e ∷ h) ≡ true
+fits-more heading e h one rest = rw (one, rest) refl
+
+module _ (stands : Heading → List EventOf → Type 0) (limits : Limits) (heading : Heading) where
+  refused-at : (s : Stop) (n : ℕ) (h : List EventOf) (e : EventOf) (label : Option (List ℕ)) (breach : Option Breach) (which : Option Which) → breach ≡ broken heading Patterns h e → which ≡ limit_of h e → Keeps stands heading h → fits_heading heading e ≡ true → StopsAt s n label breach which → JudgesLine stands heading h (Unit {0}) (Err s) (after_judged limits n heading h e label breach)
+  refused-at (Decided v) n h e label (Some breach) which broke same keeps fits stops =
+      let known : Knows stands heading h (Refused n breach.rule breach.at label) = (keeps, names-place heading h e breach fits (sym broke)) in
+      (ap Decides (sym stops), subst (λ (w : Verdict). Knows stands heading h w) (sym stops) known)
+  refused-at (Decided v) n h e label None (Some which) broke same keeps fits stops =
+      (ap (λ (l : Option Which). after_kept n heading h e (limit_at limits n h l)) (sym same) ∙ ap Decides (sym stops), subst (λ (w : Verdict). Knows stands heading h w) (sym stops) tt)
+  refused-at (Decided v) n h e label None None broke same keeps fits stops = absurd stops
+  refused-at ReadFault n h e label (Some breach) which broke same keeps fits stops = absurd stops
+  refused-at ReadFault n h e label None which broke same keeps fits stops = absurd stops
+  refused-at NoMemory n h e label breach which broke same keeps fits stops = tt
+
+  pub event-refused : (s : Stop) (n : ℕ) (h : List EventOf) (e : EventOf) (label : Option (List ℕ)) → Keeps stands heading h → fits_heading heading e ≡ true → StopsAt s n label (broken heading Patterns h e) (limit_of h e) → JudgesLine stands heading h (Unit {0}) (Err s) (after_event Patterns limits n heading h e label)
+  event-refused s n h e label keeps fits stops = refused-at s n h e label (broken heading Patterns h e) (limit_of h e) refl refl keeps fits stops
+
+  kept-event : (n : ℕ) (h : List EventOf) (e : EventOf) (label : Option (List ℕ)) (which : Option Which) → broken heading Patterns h e ≡ None → limit_of h e ≡ None → limit_after limits n (length h) ≡ which → after_event Patterns limits n heading h e label ≡ after_kept n heading h e which
+  kept-event n h e label which kept free reached = rw (kept, free, reached) refl
+
+  pub event-limit : (n : ℕ) (h : List EventOf) (e : EventOf) (label : Option (List ℕ)) (which : Which) → broken heading Patterns h e ≡ None → limit_of h e ≡ None → limit_after limits n (length h) ≡ Some which → after_event Patterns limits n heading h e label ≡ Decides (Limit n which)
+  event-limit n h e label which kept free reached = kept-event n h e label (Some which) kept free reached
+
+  pub event-kept : (n : ℕ) (h : List EventOf) (e : EventOf) (label : Option (List ℕ)) → broken heading Patterns h e ≡ None → limit_of h e ≡ None → limit_after limits n (length h) ≡ None → after_event Patterns limits n heading h e label ≡ GoesOn (AtEvents heading (e ∷ h))
+  event-kept n h e label kept free reached = kept-event n h e label None kept free reached
+
+-- what was read of a line can be judged
+pub may-judge : (stands : Heading → List EventOf → Type 0) (limits : Limits) (heading : Heading) (n : ℕ) (read : Result Item Cause) → MayTakeLine (Judges stands limits) heading n → n < 2 ^ 64 → IfOk read (λ item. item_fits heading item ≡ true) → MayJudge stands read
+may-judge stands limits heading n (Ok (item.Event event label)) at small fits =
+    (heading, at.2.h, at.2.keeps.0, (and_parts (fits_heading heading event) (label_fits heading.version label) fits).0, omega (arith, at.2.number, small))
+may-judge stands limits heading n (Ok (item.End count)) at small fits = tt
+may-judge stands limits heading n (Err cause) at small fits = tt
+
+-- ---- the parts of a log
+
+header-is : (limits : Limits) (r : Result Heading Cause) → judged_by AtHeader (after_header 1 r) ≡ header_by (judging limits) AtHeader (λ heading. AtEvents heading []) r
+header-is limits (Ok heading) = refl
+header-is limits (Err cause) = refl
+
+pub judging-start : (limits : Limits) → IsStart (judging limits) AtHeader (λ heading. AtEvents heading [])
+judging-start limits = record { line = λ l. header-is limits (header_of l); long = refl; cut = λ rest. refl }
+
+pub judging-inside : (limits : Limits) (heading : Heading) (h : List EventOf) → IsInside (judging limits) (AtEvents heading h)
+judging-inside limits heading h = record { long = λ n. refl; cut = λ n rest. refl }
+
+judging-end : (limits : Limits) (heading : Heading) (h : List EventOf) → IsEnd (judging limits) (AtEvents heading h) (AtEnd h)
+judging-end limits heading h = record { line = λ n l. refl; long = λ n. refl; nothing = λ n. refl; more = λ n b rest. refl }
+
+-- ---- a line
+
+event-needs : (r : Result Item Cause) → IsEvent r → is_event r ≡ true
+event-needs (Ok (item.Event event label)) is = refl
+event-needs (Ok (item.End count)) is = absurd is
+event-needs (Err cause) is = absurd is
+
+knows-more : (a b : Type 0) (v : Verdict) → (a → b) → KnowsThat a v → KnowsThat b v
+knows-more a b (Accepted events) more known = more known
+knows-more a b (Refused line rule at label) more known = (more known.0, known.1)
+knows-more a b (Malformed line cause) more known = tt
+knows-more a b (Limit line which) more known = tt
+
+judged-at : (stands : Heading → List EventOf → Type 0) (limits : Limits) (heading : Heading) (h : List EventOf) (n : ℕ) (line : List ℕ) (r : Result Turn Stop) → n ≡ length h + 2 → JudgesLine stands heading h (IsEvent (item_of heading line)) r (after_item Patterns limits n heading h (item_of heading line)) → TakesLine (judging limits) (Judges stands limits (judging limits) heading) n (AtEvents heading h) line r
+judged-at stands limits heading h n line (Ok Taken) number judged = (
+  AtEvents heading judged.0,
+  ap (judged_by (AtEvents heading h)) judged.1,
+  judging-inside limits heading judged.0,
+  record { h = judged.0; fold_is = refl; is = refl; keeps = judged.2; number = omega (arith, judged.3, number) },
+)
+judged-at stands limits heading h n line (Ok End) number judged = (
+  AtEnd h,
+  ap (judged_by (AtEvents heading h)) judged.0,
+  judging-end limits heading h,
+  record { h = h; fold_is = refl; is = refl; keeps = judged.1; number = number },
+)
+judged-at stands limits heading h n line (Err (Decided v)) number judged = (
+  ap (judged_by (AtEvents heading h)) judged.0,
+  knows-more (Keeps stands heading h) (Judges stands limits (judging limits) heading (AtEvents heading h) n) v
+      (λ keeps. record { h = h; fold_is = refl; is = refl; keeps = keeps; number = number }) judged.1,
+)
+judged-at stands limits heading h n line (Err ReadFault) number judged = absurd judged
+judged-at stands limits heading h n line (Err NoMemory) number judged = event-needs (item_of heading line) judged
+
+pub judged-takes : (stands stands' : Heading → List EventOf → Type 0) (limits : Limits) (heading : Heading) (fold : Fold Progress Judged) (p : Progress) (n : ℕ) (line : List ℕ) (read : Result Item Cause) (r : Result Turn Stop) → Judges stands limits fold heading p n → read ≡ item_of heading line → ((h : List EventOf) → Keeps stands heading h → JudgesLine stands' heading h (IsEvent read) r (after_item Patterns limits n heading h read)) → TakesLine fold (Judges stands' limits fold heading) n p line r
+judged-takes stands stands' limits heading fold p n line read r judges is says =
+    let judged = subst (λ (x : Result Item Cause). JudgesLine stands' heading judges.h (IsEvent x) r (after_item Patterns limits n heading judges.h x)) is (says judges.h judges.keeps) in
+    let at = judged-at stands' limits heading judges.h n line r judges.number judged in
+    subst (λ (f : Fold Progress Judged). TakesLine f (Judges stands' limits f heading) n p line r) (sym judges.fold_is)
+    (subst (λ (q : Progress). TakesLine (judging limits) (Judges stands' limits (judging limits) heading) n q line r) (sym judges.is) at)
+
+-- ---- the whole log
+
+-- what a checker stands for where reading stopped
+known-events : (stands : Heading → List EventOf → Type 0) (limits limits' : Limits) (heading : Heading) (q : Progress) (m : ℕ) → Judges stands limits' (judging limits) heading q m → Keeps stands heading (events_in q)
+known-events stands limits limits' heading q m judges = subst (λ (x : Progress). Keeps stands heading (events_in x)) (sym judges.is) judges.keeps
+
+knows-events : (stands : Heading → List EventOf → Type 0) (limits limits' : Limits) (heading : Heading) (q : Progress) (m : ℕ) (s : Stop) → KnowsWhy (Judges stands limits' (judging limits) heading q m) s → KnowsAt stands heading (events_in q) s
+knows-events stands limits limits' heading q m (Decided v) known =
+    knows-more (Judges stands limits' (judging limits) heading q m) (Keeps stands heading (events_in q)) v (known-events stands limits limits' heading q m) known
+knows-events stands limits limits' heading q m ReadFault known = tt
+knows-events stands limits limits' heading q m NoMemory known = tt
+
+pub judged-ends : (stands : Heading → List EventOf → Type 0) (limits limits' : Limits) (heading : Heading) (p : Progress) (r : Result (Unit {0}) Stop) (stop : Stop) (old new : Option (List ℕ)) (f f' : ℕ) → Ends (judging limits) (Judges stands limits' (judging limits) heading) p r old new f f' → ((h : List EventOf) → stands heading h → OnOk r (stop ≡ Decided (Accepted (length h)))) → IfErr r (λ s. stop ≡ s) → StopsKnown stands limits heading p stop old new f f'
+judged-ends stands limits limits' heading p (Ok u) stop old new f f' ends accepted stopped =
+    let q = ends.0 in
+    let keeps = known-events stands limits limits' heading q ends.1 ends.3 in
+    let is = accepted (events_in q) keeps.0 in
+    subst (λ (s : Stop). StopsKnown stands limits heading p s old new f f') (sym is)
+    (record { reached = q; stops = (ends.2, ends.4); known = keeps })
+judged-ends stands limits limits' heading p (Err s) stop old new f f' ends accepted stopped =
+    subst (λ (x : Stop). StopsKnown stands limits heading p x old new f f') (sym stopped)
+    (record { reached = ends.0; stops = ends.2; known = knows-events stands limits limits' heading ends.0 ends.1 s ends.3 })
+
+-- ---- the line that a verdict names
+
+abbrev pub named_line : Verdict → Option ℕ
+named_line (Accepted events) = None
+named_line (Refused line rule at label) = Some line
+named_line (Malformed line cause) = Some line
+named_line (Limit line which) = Some line
+
+up_to : (line : ℕ) (read : Text) (unread : List ℕ) → ByName 1 (Some line) read unread → UpTo line read unread
+up_to line read unread (inl (count, none)) = inl (omega (arith, count), none)
+up_to line read unread (inr (count, end)) = inr (omega (arith, count), end)
+
+pub read_for : (v : Verdict) (read : Text) (unread : List ℕ) → ByName 1 (named_line v) read unread → ReadFor v read unread
+read_for (Accepted events) read unread f = f
+read_for (Refused line rule at label) read unread f = up_to line read unread f
+read_for (Malformed line cause) read unread f = up_to line read unread f
+read_for (Limit line which) read unread f = up_to line read unread f
+
+-- ---- what the fold says is the outcome of the bytes
+
+abbrev pub outcome_said : Ending Judged → Outcome
+outcome_said o = record { verdict = o.says.verdict; unread = o.unread; log = o.says.log }
+
+step-is : (limits : Limits) (n : ℕ) (p : Progress) (line : List ℕ) → turned_by (judging limits) n p line ≡ judged_by p (step_of Patterns limits n p line)
+unfolding step_of turned_by
+step-is limits n p line = by (is_too_long line)
+  where
+    by : (b : Bool) → (if b then Halts (judged_at p (too_long_at n p)) else judged_by p (after_line Patterns limits n p line)) ≡ judged_by p (if b then Decides (too_long_at n p) else after_line Patterns limits n p line)
+    by true = refl
+    by false = refl
+
+end-is : (limits : Limits) (n : ℕ) (p : Progress) (rest : List ℕ) → end_by (judging limits) n p rest ≡ judged_at p (end_of n p rest)
+unfolding end_of end_by
+end-is limits n p rest = by (is_too_long rest)
+  where
+    by : (b : Bool) → (if b then judged_at p (too_long_at n p) else judged_at p (cut_at n p rest)) ≡ judged_at p (if b then too_long_at n p else cut_at n p rest)
+    by true = refl
+    by false = refl
+
+module _ (limits : Limits) where
+  after-is : (n : ℕ) (p : Progress) (line : List ℕ) (lines : List (List ℕ)) (rest : List ℕ) (s : Step) → ((next : Progress) → outcome_from Patterns limits (suc n) next lines rest ≡ outcome_said (ending_from (judging limits) (suc n) next lines rest))
+      → outcome_after p line lines rest (λ next. outcome_from Patterns limits (suc n) next lines rest) s ≡ outcome_said (ending_after line lines rest (λ next. ending_from (judging limits) (suc n) next lines rest) (judged_by p s))
+  after-is n p line lines rest (Decides v) behind = refl
+  after-is n p line lines rest (GoesOn next) behind = behind next
+
+  outcome-is : (n : ℕ) (p : Progress) (lines : List (List ℕ)) (rest : List ℕ) → outcome_from Patterns limits n p lines rest ≡ outcome_said (ending_from (judging limits) n p lines rest)
+  outcome-is n p [] rest = rw (end-is limits n p rest) refl
+  outcome-is n p (line ∷ lines) rest =
+      rw (step-is limits n p line) (after-is n p line lines rest (step_of Patterns limits n p line) (λ next. outcome-is (suc n) next lines rest))
+
+  pub outcome-said : (bytes : List ℕ) → outcome_of Patterns limits bytes ≡ outcome_said (ending_at (judging limits) 1 AtHeader bytes)
+  outcome-said bytes = outcome-is 1 AtHeader (text_of bytes).lines (text_of bytes).rest
+
+  goes-is : (n : ℕ) (p : Progress) (lines : List (List ℕ)) (s : Step) → ((next : Progress) → read_from Patterns limits (suc n) next lines ≡ lines_from (judging limits) (suc n) next lines)
+      → goes_on_to (λ next. read_from Patterns limits (suc n) next lines) s ≡ passes_to (λ next. lines_from (judging limits) (suc n) next lines) (judged_by p s)
+  goes-is n p lines (Decides v) behind = refl
+  goes-is n p lines (GoesOn next) behind = behind next
+
+  read-is : (n : ℕ) (p : Progress) (lines : List (List ℕ)) → read_from Patterns limits n p lines ≡ lines_from (judging limits) n p lines
+  read-is n p [] = refl
+  read-is n p (line ∷ lines) =
+      rw (step-is limits n p line) (goes-is n p lines (step_of Patterns limits n p line) (λ next. read-is (suc n) next lines))
+
+  -- ---- the line that is named
+
+  abbrev Names : ℕ → Step → Type 0
+  Names n (Decides verdict) = named_line verdict ≡ Some n
+  Names n (GoesOn progress) = Unit {0}
+
+  names_if : (b : Bool) (n : ℕ) (s t : Step) → Names n s → Names n t → Names n (if b then s else t)
+  names_if true n s t first second = first
+  names_if false n s t first second = second
+
+  names_header : (n : ℕ) (r : Result Heading Cause) → Names n (after_header n r)
+  names_header n (Ok heading) = tt
+  names_header n (Err cause) = refl
+
+  names_kept : (n : ℕ) (heading : Heading) (h : List EventOf) (e : EventOf) (limit : Option Which) → Names n (after_kept n heading h e limit)
+  names_kept n heading h e (Some which) = refl
+  names_kept n heading h e None = tt
+
+  names_judged : (n : ℕ) (heading : Heading) (h : List EventOf) (e : EventOf) (label : Option (List ℕ)) (breach : Option Breach)
+      → Names n (after_judged limits n heading h e label breach)
+  names_judged n heading h e label (Some breach) = refl
+  names_judged n heading h e label None = names_kept n heading h e (limit_at limits n h (limit_of h e))
+
+  names_item : (n : ℕ) (heading : Heading) (h : List EventOf) (r : Result Item Cause) → Names n (after_item Patterns limits n heading h r)
+  names_item n heading h (Ok (item.Event e label)) = names_judged n heading h e label (broken heading Patterns h e)
+  names_item n heading h (Ok (item.End count)) = names_if (count == length h) n _ _ tt refl
+  names_item n heading h (Err cause) = refl
+
+  names_line : (n : ℕ) (p : Progress) (line : List ℕ) → Names n (after_line Patterns limits n p line)
+  names_line n AtHeader line = names_header n (header_of line)
+  names_line n (AtEvents heading h) line = names_item n heading h (item_of heading line)
+  names_line n (AtEnd h) line = refl
+
+  names_long : (n : ℕ) (p : Progress) → named_line (too_long_at n p) ≡ Some n
+  names_long n AtHeader = refl
+  names_long n (AtEvents heading h) = refl
+  names_long n (AtEnd h) = refl
+
+  names_cut : (n : ℕ) (p : Progress) (rest : List ℕ) → (named_line (cut_at n p rest) ≡ Some n) ⊎ (named_line (cut_at n p rest) ≡ None)
+  names_cut n AtHeader rest = inl refl
+  names_cut n (AtEvents heading h) rest = inl refl
+  names_cut n (AtEnd h) [] = inr refl
+  names_cut n (AtEnd h) (b ∷ rest) = inl refl
+
+  names_said : (n : ℕ) (p : Progress) (s : Step) (v : Judged) → Names n s → judged_by p s ≡ Halts v → named_line v.verdict ≡ Some n
+  names_said n p (Decides verdict) v names is =
+      let same : verdict ≡ v.verdict = cc in
+      subst (λ (w : Verdict). named_line w ≡ Some n) same names
+  names_said n p (GoesOn next) v names is = cc
+
+  judging-named : Named (judging limits) (λ v. named_line v.verdict)
+  judging-named = record {
+    line = λ n p l v is. names_said n p (after_line Patterns limits n p l) v (names_line n p l) is;
+    long = names_long;
+    cut = names_cut;
+  }
+
+  -- what is left unread, where the rest was read
+  pub read-to : (bytes : List ℕ) (left : Option (List ℕ)) → left ≡ Some (outcome_of Patterns limits bytes).unread → ReadTo bytes (verdict_of_bytes Patterns limits bytes) left
+  read-to bytes left is =
+      let o = ending_at (judging limits) 1 AtHeader bytes in
+      let k = read-by (judging limits) (λ v. named_line v.verdict) judging-named AtHeader bytes in
+      let said = outcome-said bytes in
+      rw (ap (λ (x : Outcome). x.verdict) said)
+      (k.0, o.unread, k.1, is ∙ ap (λ (x : Outcome). Some x.unread) said, read_for o.says.verdict (text_of k.0) o.unread k.2)
+
+  pub fault-is : (bytes : List ℕ) (left : Option (List ℕ)) → ToFault (judging limits) AtHeader bytes left → ReadToFault limits bytes left
+  fault-is bytes left fault = record {
+    part = fault.part;
+    reached = fault.reached;
+    undecided = ap (read_lines Patterns limits) fault.are ∙ read-is 1 AtHeader fault.lines ∙ fault.undecided;
+    short = fault.short;
+  }
+
+  item-needs : (r : Result Item Cause) → is_event r ≡ true → IsEvent r
+  item-needs (Ok (item.Event event label)) is = tt
+  item-needs (Ok (item.End count)) is = cc
+  item-needs (Err cause) is = cc
+
+  needs-memory : (p : Progress) (line : List ℕ) → line_needs p line ≡ true → NeedsMemory p line
+  needs-memory AtHeader line needs = needs
+  needs-memory (AtEvents heading h) line needs = item-needs (item_of heading line) needs
+  needs-memory (AtEnd h) line needs = cc
+
+  pub want-is : (bytes : List ℕ) (left : Option (List ℕ)) → ToWant (judging limits) AtHeader bytes left → ReadToWant limits bytes left
+  want-is bytes left want = record {
+    part = want.part;
+    before = want.before;
+    line = want.line;
+    reached = want.reached;
+    lines = want.lines;
+    undecided = read-is 1 AtHeader want.before ∙ want.undecided;
+    short = want.short;
+    needs = needs-memory want.reached want.line want.needs;
+  }

@@ -1,0 +1,518 @@
+-- What a text that was read says of a call of the program: the bytes that were read and written, and the status.
+use Rattle.std.proofs.Common.{◌≡◌, ◌⊎◌, ℕ, ◌<◌, true, false, List, [], Option, Some, None, Result, Ok, Err, refl, ap, sym, ◌∙◌, subst, inl, inr, arith, reverse, IfOk}
+use Rattle.std.proofs.lemmas.Bool.{false≢true}
+use Rattle.bbm_io.specs.Faults.{Rose}
+use Rattle.bbm_io.specs.Flow.{extended}
+use Rattle.bbm_events.specs.Heading.{Heading}
+use Rattle.bbm_follow.specs.declared.followed.Followed.{Followed}
+use Rattle.bbm_follow.specs.declared.followed.Followed.TheVariants.{Run, BadStep}
+use Rattle.bbm_follow.specs.Following as run
+use Rattle.bbm_rules.specs.declared.verdict.Verdict.{Verdict}
+use Rattle.bbm_rules.specs.declared.verdict.Verdict.TheVariants.{Accepted, Refused, Malformed, Limit}
+use Rattle.bbm_rules.specs.Claims.{Patterns}
+use Rattle.bbm_rules.specs.Outcome.{AtHeader, Outcome, Text, text_of, outcome_of, verdict_of_bytes}
+use Rattle.bbm_report.specs.Further.{heading_in}
+use Rattle.bbm_tlb_machine.specs.declared.step.Step.{Step}
+use Rattle.bbm_session.specs.declared.command.Command.{Command}
+use Rattle.bbm_session.specs.declared.command.Request.{Request}
+use Rattle.bbm_session.specs.declared.command.Request.TheVariants.{Judge, Follow, Generate}
+use Rattle.bbm_session.specs.declared.status.Status.{Status}
+use Rattle.bbm_session.specs.declared.status.Status.TheVariants as status
+use Rattle.bbm_session.specs.declared.stop.Stop.{Stop}
+use Rattle.bbm_session.specs.declared.stop.Stop.TheVariants.{Decided, ReadFault, NoMemory}
+use Rattle.bbm_session.specs.Fold.{Fold, ending_at}
+use Rattle.bbm_session.specs.Folds.{Follows, Judged, judging, following, whole_run}
+use Rattle.bbm_session.specs.Requests.{status_for, IsTextFor, IsSomeTextFor, unread_for, ReadForAll, FaultAt, WantAt, reads_input}
+use Rattle.bbm_session.specs.Generating.{gen_text}
+use Rattle.bbm_session.specs.Run.{IsTextOf, Says, ReadFor, limits_of, status_of, tells_verdict}
+use Rattle.bbm_session.specs.Runs.{RunReadFor, followed_status, run_status}
+use Rattle.bbm_session.specs.Stages.{Breaks, Concludes, Continues, Ends, HeaderLine, Starts, Starves, Stops}
+use Rattle.bbm_session.specs.Writing.{Answered, Heads, IsLine, Obeys, FollowsRun, ReportsRun, Part, Reports, Serves, Told, WantsRun, Wrote}
+use Rattle.bbm_session.proofs.RunLines.{following-start, run-said, run-read-to, run-fault, run-want}
+use Rattle.bbm_session.proofs.Judgements.{outcome-said, read-to, fault-is, want-is}
+use Rattle.bbm_session.proofs.ReadBytes.{to_fault, to_want}
+use Rattle.bbm_session.proofs.Stages.{continues-concludes, continues-stops, header-passes}
+
+tells_of : (v : Verdict) → tells_verdict (status_of v) ≡ true
+tells_of (Accepted events) = refl
+tells_of (Refused line rule at label) = refl
+tells_of (Malformed line cause) = refl
+tells_of (Limit line which) = refl
+
+tells_followed : (f : Followed) → tells_verdict (followed_status f) ≡ true
+tells_followed (Run steps conflict) = refl
+tells_followed (BadStep line) = refl
+
+tells_run : (says : run.RunSays) → tells_verdict (run_status says) ≡ true
+tells_run (run.Stopped verdict) = tells_of verdict
+tells_run (run.Whole heading steps) = tells_followed (run.followed heading steps)
+
+quiet : (result other : Status) → tells_verdict other ≡ false → result ≡ other → tells_verdict result ≡ true → ⊥
+quiet result other untold same tells = false≢true (sym untold ∙ ap tells_verdict (sym same) ∙ tells)
+
+module _ {P V : Type 0} (fold : Fold P V) (start : P) (Text : V → List ℕ → Type 0) (tells : V → Status) (told : (v : V) → tells_verdict (tells v) ≡ true)
+    (Wants : Option (List ℕ) → Option (List ℕ) → Type 0)
+    (result : Status) (old new : Option (List ℕ)) (f f' : ℕ) (held held' : Option (List ℕ)) (w w' : ℕ) where
+  abbrev Answer : Type 0
+  Answer = Answered fold start Text tells Wants result old new f f' held held' w w'
+
+  -- something was said, and its text was written
+  record Heard : Type 0 where
+    says : V
+    concludes : Concludes fold 1 start old says new
+    is : result ≡ tells says
+    text : List ℕ
+    has : Text says text
+    written : held' ≡ extended held text
+
+  -- a write failed
+  record Cut : Type 0 where
+    says : V
+    concludes : Concludes fold 1 start old says new
+    text : List ℕ
+    has : Text says text
+    rose : Rose w w'
+    part : Part text held held'
+
+  abbrev Telling : Type 0
+  Telling = Told fold start Text tells result old new f f' held held' w w'
+
+  heard_by : (t : Telling) → ((result ≡ tells t.says) × (held' ≡ extended held t.text) × (w' ≡ w)) ⊎ ((result ≡ status.WriteFault) × Rose w w' × Part t.text held held')
+      → tells_verdict result ≡ true → Heard
+  heard_by t (inl wrote) tell = record {
+    says = t.says;
+    concludes = t.concludes;
+    is = wrote.0;
+    text = t.text;
+    has = t.is;
+    written = wrote.1;
+  }
+  heard_by t (inr failed) tell = absurd (quiet result status.WriteFault refl failed.0 tell)
+
+  heard : Answer → tells_verdict result ≡ true → Heard
+  heard (inl t) tell = heard_by t t.wrote tell
+  heard (inr (inl failed)) tell = absurd (quiet result status.ReadFault refl failed.silent.0 tell)
+  heard (inr (inr wanted)) tell = absurd (quiet result status.NoMemory refl wanted.silent.0 tell)
+
+  -- a status that tells something is none of the others
+  untelling : (v : V) (other : Status) → tells_verdict other ≡ false → result ≡ tells v → result ≡ other → ⊥
+  untelling v other untold is same = quiet result other untold same (ap tells_verdict is ∙ told v)
+
+  cut_by : (t : Telling) → ((result ≡ tells t.says) × (held' ≡ extended held t.text) × (w' ≡ w)) ⊎ ((result ≡ status.WriteFault) × Rose w w' × Part t.text held held')
+      → result ≡ status.WriteFault → Cut
+  cut_by t (inl wrote) is = absurd (untelling t.says status.WriteFault refl wrote.0 is)
+  cut_by t (inr failed) is = record {
+    says = t.says;
+    concludes = t.concludes;
+    text = t.text;
+    has = t.is;
+    rose = failed.1;
+    part = failed.2;
+  }
+
+  cut : Answer → result ≡ status.WriteFault → Cut
+  cut (inl t) is = cut_by t t.wrote is
+  cut (inr (inl failed)) is = let other = failed.silent.0 in cc
+  cut (inr (inr wanted)) is = let other = wanted.silent.0 in cc
+
+  broke_by : (t : Telling) → ((result ≡ tells t.says) × (held' ≡ extended held t.text) × (w' ≡ w)) ⊎ ((result ≡ status.WriteFault) × Rose w w' × Part t.text held held')
+      → (other : Status) → tells_verdict other ≡ false → (status.WriteFault ≡ other → ⊥) → result ≡ other → ⊥
+  broke_by t (inl wrote) other untold apart is = untelling t.says other untold wrote.0 is
+  broke_by t (inr failed) other untold apart is = apart (sym failed.0 ∙ is)
+
+  broke : Answer → result ≡ status.ReadFault → Breaks fold 1 start old new × Rose f f'
+  broke (inl t) is = absurd (broke_by t t.wrote status.ReadFault refl (λ same. cc) is)
+  broke (inr (inl failed)) is = (failed.breaks, failed.rose)
+  broke (inr (inr wanted)) is = let other = wanted.silent.0 in cc
+
+  starved : Answer → result ≡ status.NoMemory → Wants old new
+  starved (inl t) is = absurd (broke_by t t.wrote status.NoMemory refl (λ same. cc) is)
+  starved (inr (inl failed)) is = let other = failed.silent.0 in cc
+  starved (inr (inr wanted)) is = wanted.wants
+
+  unwritten : Answer → (result ≡ status.ReadFault) ⊎ (result ≡ status.NoMemory) → held' ≡ held
+  unwritten (inl t) (inl is) = absurd (broke_by t t.wrote status.ReadFault refl (λ same. cc) is)
+  unwritten (inl t) (inr is) = absurd (broke_by t t.wrote status.NoMemory refl (λ same. cc) is)
+  unwritten (inr (inl failed)) is = failed.silent.1
+  unwritten (inr (inr wanted)) is = wanted.silent.1
+
+  read_rose : Answer → f < f' → result ≡ status.ReadFault
+  read_rose (inl t) rose = let same = t.sound in absurd (omega (arith, rose, same))
+  read_rose (inr (inl failed)) rose = failed.silent.0
+  read_rose (inr (inr wanted)) rose = let same = wanted.sound in absurd (omega (arith, rose, same))
+
+  rose_by : (t : Telling) → ((result ≡ tells t.says) × (held' ≡ extended held t.text) × (w' ≡ w)) ⊎ ((result ≡ status.WriteFault) × Rose w w' × Part t.text held held')
+      → w < w' → result ≡ status.WriteFault
+  rose_by t (inl wrote) rose = absurd (omega (arith, rose, wrote.2))
+  rose_by t (inr failed) rose = failed.0
+
+  write_rose : Answer → w < w' → result ≡ status.WriteFault
+  write_rose (inl t) rose = rose_by t t.wrote rose
+  write_rose (inr (inl failed)) rose = let same = failed.silent.2 in absurd (omega (arith, rose, same))
+  write_rose (inr (inr wanted)) rose = let same = wanted.silent.2 in absurd (omega (arith, rose, same))
+
+  complete_by : (t : Telling) → ((result ≡ tells t.says) × (held' ≡ extended held t.text) × (w' ≡ w)) ⊎ ((result ≡ status.WriteFault) × Rose w w' × Part t.text held held')
+      → ¬ Rose w w' → tells_verdict result ≡ true
+  complete_by t (inl wrote) writes = ap tells_verdict wrote.0 ∙ told t.says
+  complete_by t (inr failed) writes = absurd (writes failed.1)
+
+  complete : Answer → ¬ Rose f f' → ¬ Rose w w' → (tells_verdict result ≡ true) ⊎ (result ≡ status.NoMemory)
+  complete (inl t) reads writes = inl (complete_by t t.wrote writes)
+  complete (inr (inl failed)) reads writes = absurd (reads failed.rose)
+  complete (inr (inr wanted)) reads writes = inr wanted.silent.0
+
+  usage_not : Answer → result ≡ status.Usage → ⊥
+  usage_not (inl t) is = broke_by t t.wrote status.Usage refl (λ same. cc) is
+  usage_not (inr (inl failed)) is = let other = failed.silent.0 in cc
+  usage_not (inr (inr wanted)) is = let other = wanted.silent.0 in cc
+
+-- ---- how a text is answered, by why reading stopped
+
+pub answered : {P V : Type 0} (fold : Fold P V) (start q : P) (Text : V → List ℕ → Type 0) (tells : V → Status) (Wants : Option (List ℕ) → Option (List ℕ) → Type 0) (OfVerdict : Verdict → List ℕ → Type 0)
+    (stop : Stop) (result : Status) (old new : Option (List ℕ)) (f f' : ℕ) (held held' : Option (List ℕ)) (w w' : ℕ)
+    → ((v : Verdict) (text : List ℕ) → OfVerdict v text → Text (fold.stopped q v) text)
+    → ((v : Verdict) → status_of v ≡ tells (fold.stopped q v))
+    → (Starves fold 1 start old new → Wants old new)
+    → Stops fold 1 start old stop q new f f' → Reports OfVerdict stop result held held' w w'
+    → Answered fold start Text tells Wants result old new f f' held held' w w'
+answered fold start q Text tells Wants OfVerdict (Decided v) result old new f f' held held' w w' texts statuses wants stops reports = inl (record {
+  says = fold.stopped q v;
+  concludes = stops.0;
+  sound = stops.1;
+  text = reports.0;
+  is = texts v reports.0 reports.1;
+  wrote = subst (λ (s : Status). ((result ≡ s) × (held' ≡ extended held reports.0) × (w' ≡ w)) ⊎ ((result ≡ status.WriteFault) × Rose w w' × Part reports.0 held held')) (statuses v) reports.2;
+})
+answered fold start q Text tells Wants OfVerdict ReadFault result old new f f' held held' w w' texts statuses wants stops reports =
+    inr (inl (record { breaks = stops.0; rose = stops.1; silent = reports }))
+answered fold start q Text tells Wants OfVerdict NoMemory result old new f f' held held' w w' texts statuses wants stops reports =
+    inr (inr (record { wants = wants stops.0; sound = stops.1; silent = reports }))
+
+-- a run that was read whole, and followed if there was memory
+pub followed-whole : {E : Type 0} (heading : Heading) (kept : List Step) (told : Result Followed E) (result : Status) (old mid new : Option (List ℕ)) (f f' f'' : ℕ) (held held' : Option (List ℕ)) (w w' : ℕ)
+    → HeaderLine heading old mid → f' ≡ f
+    → Ends following (Follows kept following heading) (run.AtSteps heading []) (Ok tt) mid new f' f''
+    → IfOk told (λ t. t ≡ run.followed heading (reverse kept)) → ReportsRun told result held held' w w'
+    → FollowsRun result old new f f'' held held' w w'
+followed-whole {E = E} heading kept told result old mid new f f' f'' held held' w w' header same ends is reports = by told is reports
+  where
+    passes : Continues following 1 run.AtHeader old 2 (run.AtSteps heading []) mid
+    passes = header-passes following run.AtHeader (λ h. run.AtSteps h []) following-start heading old mid header
+
+    concludes : Concludes following 1 run.AtHeader old (run.Whole heading (reverse kept)) new
+    concludes = continues-concludes following 1 2 run.AtHeader (run.AtSteps heading []) (run.Whole heading (reverse kept)) old mid new passes
+        (subst (λ (v : run.RunSays). Concludes following 2 (run.AtSteps heading []) mid v new) (ap whole_run ends.3.is) ends.2)
+
+    by : (t : Result Followed E) → IfOk t (λ x. x ≡ run.followed heading (reverse kept)) → ReportsRun t result held held' w w' → FollowsRun result old new f f'' held held' w w'
+    by (Ok t) same_told wrote = inl (record {
+      says = run.Whole heading (reverse kept);
+      concludes = concludes;
+      sound = ends.4 ∙ same;
+      text = run.followed_text t;
+      is = ap run.followed_text same_told;
+      wrote = subst (λ (s : Status). ((result ≡ s) × (held' ≡ extended held (run.followed_text t)) × (w' ≡ w)) ⊎ ((result ≡ status.WriteFault) × Rose w w' × Part (run.followed_text t) held held')) (ap followed_status same_told) wrote;
+    })
+    by (Err e) same_told silent = inr (inr (record {
+      wants = inr (record { heading = heading; steps = reverse kept; concludes = concludes });
+      sound = ends.4 ∙ same;
+      silent = silent;
+    }))
+
+-- a run that was read up to a line that stops reading, or to a fault
+pub followed-stopped : (heading : Heading) (kept : List Step) (stop : Stop) (result : Status) (old mid new : Option (List ℕ)) (f f' f'' : ℕ) (held held' : Option (List ℕ)) (w w' : ℕ)
+    → HeaderLine heading old mid → f' ≡ f
+    → Ends following (Follows kept following heading) (run.AtSteps heading []) (Err stop) mid new f' f''
+    → Reports IsLine stop result held held' w w' → FollowsRun result old new f f'' held held' w w'
+followed-stopped heading kept stop result old mid new f f' f'' held held' w w' header same ends reports =
+    let passes = header-passes following run.AtHeader (λ h. run.AtSteps h []) following-start heading old mid header in
+    answered following run.AtHeader ends.0 (λ says text. text ≡ run.run_text says) run_status WantsRun IsLine stop result old new f f'' held held' w w'
+    (λ v text is. is) (λ v. refl) (λ starves. inl starves)
+    (continues-stops following 1 2 run.AtHeader (run.AtSteps heading []) ends.0 stop old mid new f f' f'' passes same ends.2) reports
+
+-- a run whose header was not read
+pub followed-unread : (stop : Stop) (result : Status) (old new : Option (List ℕ)) (f f' : ℕ) (held held' : Option (List ℕ)) (w w' : ℕ)
+    → Starts following run.AtHeader (Err stop) old new f f' → Reports IsLine stop result held held' w w'
+    → FollowsRun result old new f f' held held' w w'
+followed-unread stop result old new f f' held held' w w' starts reports =
+    answered following run.AtHeader run.AtHeader (λ says text. text ≡ run.run_text says) run_status WantsRun IsLine stop result old new f f' held held' w w'
+    (λ v text is. is) (λ v. refl) (λ starves. inl starves) starts reports
+
+-- ---- a log that was judged
+
+module _ (command : Command) where
+  abbrev JudgedText : Option Heading → Judged → List ℕ → Type 0
+  JudgedText heading said text = Says command heading said.log said.verdict text
+
+  abbrev judged_status : Judged → Status
+  judged_status said = status_of said.verdict
+
+-- what was left where it is known what was said
+unread_is : {P V : Type 0} (fold : Fold P V) (start : P) (bytes : List ℕ) (left : Option (List ℕ)) (v : V) → Concludes fold 1 start (Some bytes) v left
+    → ((ending_at fold 1 start bytes).says ≡ v) × (left ≡ Some (ending_at fold 1 start bytes).unread)
+unread_is fold start bytes None v concludes = absurd concludes
+unread_is fold start bytes (Some rest) v concludes = (concludes.0, ap Some (sym concludes.1))
+
+judged_text : (command : Command) (heading : Option Heading) (bytes : List ℕ) (v : Judged) (text : List ℕ) → (ending_at (judging (limits_of command)) 1 AtHeader bytes).says ≡ v
+    → Heads (Some bytes) heading → Says command heading v.log v.verdict text → IsTextOf command bytes text
+judged_text command heading bytes v text is heads says =
+    let limits = limits_of command in
+    let o = ending_at (judging limits) 1 AtHeader bytes in
+    let said : Says command heading o.says.log o.says.verdict text = subst (λ (x : Judged). Says command heading x.log x.verdict text) (sym is) says in
+    subst (λ (k : Outcome). Says command (heading_in (text_of bytes).lines) k.log k.verdict text) (sym (outcome-said limits bytes))
+    (subst (λ (x : Option Heading). Says command x o.says.log o.says.verdict text) (sym heads) said)
+
+none_left : (v : Verdict) (read : Text) (unread : List ℕ) → status_of v ≡ status.Accepted → ReadFor v read unread → unread ≡ []
+none_left (Accepted events) read unread accepted f = f
+none_left (Refused line rule at label) read unread accepted f = cc
+none_left (Malformed line cause) read unread accepted f = cc
+none_left (Limit line which) read unread accepted f = cc
+
+none_left_run : (says : run.RunSays) (read : Text) (unread : List ℕ) → run_status says ≡ status.Accepted → RunReadFor says read unread → unread ≡ []
+none_left_run (run.Stopped verdict) read unread accepted f = none_left verdict read unread accepted f
+none_left_run (run.Whole heading steps) read unread accepted f = f
+
+accepted_is : (v : Verdict) → status_of v ≡ status.Accepted → (count : ℕ) × (v ≡ Accepted count)
+accepted_is (Accepted events) accepted = (events, refl)
+accepted_is (Refused line rule at label) accepted = cc
+accepted_is (Malformed line cause) accepted = cc
+accepted_is (Limit line which) accepted = cc
+
+whole_left : (bytes : List ℕ) (left : Option (List ℕ)) (heading : Heading) (steps : List Step) → (run.run_of bytes).says ≡ run.Whole heading steps → left ≡ Some (run.run_of bytes).unread → left ≡ Some []
+whole_left bytes left heading steps whole is =
+    let r = run-read-to bytes left is in
+    r.3 ∙ ap Some (subst (λ (s : run.RunSays). RunReadFor s (text_of r.0) r.1) whole r.4)
+
+run_wants : (bytes : List ℕ) (left : Option (List ℕ)) → WantsRun (Some bytes) left → WantAt Follow bytes left
+run_wants bytes left (inl starves) = inl (run-want bytes left (to_want following run.AtHeader bytes left starves))
+run_wants bytes left (inr whole) =
+    let is = unread_is following run.AtHeader bytes left (run.Whole whole.heading whole.steps) whole.concludes in
+    let said = run-said bytes in
+    let says = ap (λ (o : run.RunOutcome). o.says) said ∙ is.0 in
+    inr (record {
+      heading = whole.heading;
+      steps = whole.steps;
+      whole = says;
+      now = whole_left bytes left whole.heading whole.steps says (is.1 ∙ ap (λ (o : run.RunOutcome). Some o.unread) (sym said));
+    })
+
+-- ---- what is known where the request was served
+
+module _ (result : Status) (old new : Option (List ℕ)) (f f' : ℕ) (held held' : Option (List ℕ)) (w w' : ℕ) where
+  judged_heard : (command : Command) → (o : Obeys command result old new f f' held held' w w') → tells_verdict result ≡ true
+      → Heard (judging (limits_of command)) AtHeader (JudgedText command o.heading) (judged_status command) (λ v. tells_of v.verdict) (Starves (judging (limits_of command)) 1 AtHeader) result old new f f' held held' w w'
+  judged_heard command o tell = heard (judging (limits_of command)) AtHeader (JudgedText command o.heading) (judged_status command) (λ v. tells_of v.verdict) (Starves (judging (limits_of command)) 1 AtHeader) result old new f f' held held' w w' o.answered tell
+
+  judged_cut : (command : Command) → (o : Obeys command result old new f f' held held' w w') → result ≡ status.WriteFault
+      → Cut (judging (limits_of command)) AtHeader (JudgedText command o.heading) (judged_status command) (λ v. tells_of v.verdict) (Starves (judging (limits_of command)) 1 AtHeader) result old new f f' held held' w w'
+  judged_cut command o is = cut (judging (limits_of command)) AtHeader (JudgedText command o.heading) (judged_status command) (λ v. tells_of v.verdict) (Starves (judging (limits_of command)) 1 AtHeader) result old new f f' held held' w w' o.answered is
+
+  abbrev RunText : run.RunSays → List ℕ → Type 0
+  RunText says text = text ≡ run.run_text says
+
+  run_heard : FollowsRun result old new f f' held held' w w' → tells_verdict result ≡ true
+      → Heard following run.AtHeader RunText run_status tells_run WantsRun result old new f f' held held' w w'
+  run_heard o tell = heard following run.AtHeader RunText run_status tells_run WantsRun result old new f f' held held' w w' o tell
+
+  run_cut : FollowsRun result old new f f' held held' w w' → result ≡ status.WriteFault
+      → Cut following run.AtHeader RunText run_status tells_run WantsRun result old new f f' held held' w w'
+  run_cut o is = cut following run.AtHeader RunText run_status tells_run WantsRun result old new f f' held held' w w' o is
+
+  -- a text that is told by Accepted was written, or a write failed
+  module _ (text : List ℕ) where
+    wrote_heard : Wrote status.Accepted text result held held' w w' → tells_verdict result ≡ true → (result ≡ status.Accepted) × (held' ≡ extended held text)
+    wrote_heard (inl wrote) tell = (wrote.0, wrote.1)
+    wrote_heard (inr failed) tell = absurd (quiet result status.WriteFault refl failed.0 tell)
+
+    wrote_cut : Wrote status.Accepted text result held held' w w' → result ≡ status.WriteFault → Rose w w' × Part text held held'
+    wrote_cut (inl wrote) is = let other = wrote.0 in cc
+    wrote_cut (inr failed) is = (failed.1, failed.2)
+
+    wrote_either : Wrote status.Accepted text result held held' w w' → (result ≡ status.Accepted) ⊎ (result ≡ status.WriteFault)
+    wrote_either (inl wrote) = inl wrote.0
+    wrote_either (inr failed) = inr failed.0
+
+    wrote_only : Wrote status.Accepted text result held held' w w' → (other : Status) → (status.Accepted ≡ other → ⊥) → (status.WriteFault ≡ other → ⊥) → result ≡ other → ⊥
+    wrote_only (inl wrote) other accepted cuts is = accepted (sym wrote.0 ∙ is)
+    wrote_only (inr failed) other accepted cuts is = cuts (sym failed.0 ∙ is)
+
+    wrote_rose : Wrote status.Accepted text result held held' w w' → w < w' → result ≡ status.WriteFault
+    wrote_rose (inl wrote) rose = let same = wrote.2 in absurd (omega (arith, rose, same))
+    wrote_rose (inr failed) rose = failed.0
+
+    wrote_whole : Wrote status.Accepted text result held held' w w' → ¬ Rose w w' → tells_verdict result ≡ true
+    wrote_whole (inl wrote) writes = ap tells_verdict wrote.0
+    wrote_whole (inr failed) writes = absurd (writes failed.1)
+
+    wrote_sound : Wrote status.Accepted text result held held' w w' → (result ≡ status.ReadFault) ⊎ (result ≡ status.NoMemory) → ⊥
+    wrote_sound o (inl is) = wrote_only o status.ReadFault (λ same. cc) (λ same. cc) is
+    wrote_sound o (inr is) = wrote_only o status.NoMemory (λ same. cc) (λ same. cc) is
+
+  abbrev ServesIt : Request → Type 0
+  ServesIt request = Serves request result old new f f' held held' w w'
+
+  pub served-some : (request : Request) → ServesIt request → tells_verdict result ≡ true → (text : List ℕ) × IsSomeTextFor request result text × (held' ≡ extended held text)
+  served-some (Judge command) o tell =
+      let k = judged_heard command o tell in
+      (k.text, (k.says.verdict, k.is, (o.heading, k.says.log, k.has)), k.written)
+  served-some Follow o tell =
+      let k = run_heard o tell in
+      (k.text, (k.says, k.is, k.has), k.written)
+  served-some (Generate n count) o tell =
+      let k = wrote_heard (gen_text n count) o.2 tell in
+      (gen_text n count, (k.0, refl), k.1)
+
+  pub served-part_of_some : (request : Request) → ServesIt request → result ≡ status.WriteFault → (wanted : Status) × (text : List ℕ) × IsSomeTextFor request wanted text × Part text held held'
+  served-part_of_some (Judge command) o is =
+      let k = judged_cut command o is in
+      (status_of k.says.verdict, k.text, (k.says.verdict, refl, (o.heading, k.says.log, k.has)), k.part)
+  served-part_of_some Follow o is =
+      let k = run_cut o is in
+      (run_status k.says, k.text, (k.says, refl, k.has), k.part)
+  served-part_of_some (Generate n count) o is = (status.Accepted, gen_text n count, (refl, refl), (wrote_cut (gen_text n count) o.2 is).1)
+
+  pub served-read_fault : (request : Request) → ServesIt request → result ≡ status.ReadFault → Rose f f'
+  served-read_fault (Judge command) o is = (broke _ _ _ _ (λ (v : Judged). tells_of v.verdict) _ _ _ _ _ _ _ _ _ _ o.answered is).1
+  served-read_fault Follow o is = (broke following run.AtHeader RunText run_status tells_run WantsRun result old new f f' held held' w w' o is).1
+  served-read_fault (Generate n count) o is = absurd (wrote_sound (gen_text n count) o.2 (inl is))
+
+  pub served-write_fault : (request : Request) → ServesIt request → result ≡ status.WriteFault → Rose w w'
+  served-write_fault (Judge command) o is = (judged_cut command o is).rose
+  served-write_fault Follow o is = (run_cut o is).rose
+  served-write_fault (Generate n count) o is = (wrote_cut (gen_text n count) o.2 is).0
+
+  pub served-unwritten : (request : Request) → ServesIt request → (result ≡ status.ReadFault) ⊎ (result ≡ status.NoMemory) → held' ≡ held
+  served-unwritten (Judge command) o is = unwritten _ _ _ _ (λ (v : Judged). tells_of v.verdict) _ _ _ _ _ _ _ _ _ _ o.answered is
+  served-unwritten Follow o is = unwritten following run.AtHeader RunText run_status tells_run WantsRun result old new f f' held held' w w' o is
+  served-unwritten (Generate n count) o is = absurd (wrote_sound (gen_text n count) o.2 is)
+
+  pub served-read_rose : (request : Request) → ServesIt request → f < f' → result ≡ status.ReadFault
+  served-read_rose (Judge command) o rose = read_rose _ _ _ _ (λ (v : Judged). tells_of v.verdict) _ _ _ _ _ _ _ _ _ _ o.answered rose
+  served-read_rose Follow o rose = read_rose following run.AtHeader RunText run_status tells_run WantsRun result old new f f' held held' w w' o rose
+  served-read_rose (Generate n count) o rose = let same = o.1 in absurd (omega (arith, rose, same))
+
+  pub served-write_rose : (request : Request) → ServesIt request → w < w' → result ≡ status.WriteFault
+  served-write_rose (Judge command) o rose = write_rose _ _ _ _ (λ (v : Judged). tells_of v.verdict) _ _ _ _ _ _ _ _ _ _ o.answered rose
+  served-write_rose Follow o rose = write_rose following run.AtHeader RunText run_status tells_run WantsRun result old new f f' held held' w w' o rose
+  served-write_rose (Generate n count) o rose = wrote_rose (gen_text n count) o.2 rose
+
+  pub served-complete : (request : Request) → ServesIt request → ¬ Rose f f' → ¬ Rose w w' → (tells_verdict result ≡ true) ⊎ (result ≡ status.NoMemory)
+  served-complete (Judge command) o reads writes = complete _ _ _ _ (λ (v : Judged). tells_of v.verdict) _ _ _ _ _ _ _ _ _ _ o.answered reads writes
+  served-complete Follow o reads writes = complete following run.AtHeader RunText run_status tells_run WantsRun result old new f f' held held' w w' o reads writes
+  served-complete (Generate n count) o reads writes = inl (wrote_whole (gen_text n count) o.2 writes)
+
+  pub served-usage : (request : Request) → ServesIt request → result ≡ status.Usage → ⊥
+  served-usage (Judge command) o is = usage_not _ _ _ _ (λ (v : Judged). tells_of v.verdict) _ _ _ _ _ _ _ _ _ _ o.answered is
+  served-usage Follow o is = usage_not following run.AtHeader RunText run_status tells_run WantsRun result old new f f' held held' w w' o is
+  served-usage (Generate n count) o is = wrote_only (gen_text n count) o.2 status.Usage (λ same. cc) (λ same. cc) is
+
+  -- a request that reads nothing
+  pub served-untouched : (request : Request) → ServesIt request → reads_input request ≡ false → new ≡ old
+  served-untouched (Judge command) o is = cc
+  served-untouched Follow o is = cc
+  served-untouched (Generate n count) o is = o.0
+
+  pub served-generated : (request : Request) → ServesIt request → reads_input request ≡ false → (result ≡ status.Accepted) ⊎ (result ≡ status.WriteFault)
+  served-generated (Judge command) o is = cc
+  served-generated Follow o is = cc
+  served-generated (Generate n count) o is = wrote_either (gen_text n count) o.2
+
+  module _ (bytes : List ℕ) (is : old ≡ Some bytes) where
+    concluded : {P V : Type 0} (fold : Fold P V) (start : P) (v : V) → Concludes fold 1 start old v new
+        → ((ending_at fold 1 start bytes).says ≡ v) × (new ≡ Some (ending_at fold 1 start bytes).unread)
+    concluded fold start v concludes = unread_is fold start bytes new v (subst (λ (o : Option (List ℕ)). Concludes fold 1 start o v new) is concludes)
+
+    heads_at : (heading : Option Heading) → Heads old heading → Heads (Some bytes) heading
+    heads_at heading heads = subst (λ (o : Option (List ℕ)). Heads o heading) is heads
+
+    judged_concluded : (command : Command) (v : Judged) → Concludes (judging (limits_of command)) 1 AtHeader old v new
+        → (verdict_of_bytes Patterns (limits_of command) bytes ≡ v.verdict) × (new ≡ Some (outcome_of Patterns (limits_of command) bytes).unread)
+    judged_concluded command v concludes =
+        let k = concluded (judging (limits_of command)) AtHeader v concludes in
+        let said = outcome-said (limits_of command) bytes in
+        (ap (λ (o : Outcome). o.verdict) said ∙ ap (λ (x : Judged). x.verdict) k.0, k.1 ∙ ap (λ (o : Outcome). Some o.unread) (sym said))
+
+    run_concluded : (says : run.RunSays) → Concludes following 1 run.AtHeader old says new
+        → ((run.run_of bytes).says ≡ says) × (new ≡ Some (run.run_of bytes).unread)
+    run_concluded says concludes =
+        let k = concluded following run.AtHeader says concludes in
+        let said = run-said bytes in
+        (ap (λ (o : run.RunOutcome). o.says) said ∙ k.0, k.1 ∙ ap (λ (o : run.RunOutcome). Some o.unread) (sym said))
+
+    pub served-status : (request : Request) → ServesIt request → tells_verdict result ≡ true → result ≡ status_for request bytes
+    served-status (Judge command) o tell =
+        let k = judged_heard command o tell in
+        k.is ∙ ap status_of (sym (judged_concluded command k.says k.concludes).0)
+    served-status Follow o tell =
+        let k = run_heard o tell in
+        k.is ∙ ap run_status (sym (run_concluded k.says k.concludes).0)
+    served-status (Generate n count) o tell = (wrote_heard (gen_text n count) o.2 tell).0
+
+    pub served-text : (request : Request) → ServesIt request → tells_verdict result ≡ true → (text : List ℕ) × IsTextFor request bytes text × (held' ≡ extended held text)
+    served-text (Judge command) o tell =
+        let k = judged_heard command o tell in
+        let c = concluded (judging (limits_of command)) AtHeader k.says k.concludes in
+        (k.text, judged_text command o.heading bytes k.says k.text c.0 (heads_at o.heading o.heads) k.has, k.written)
+    served-text Follow o tell =
+        let k = run_heard o tell in
+        (k.text, k.has ∙ ap run.run_text (sym (run_concluded k.says k.concludes).0), k.written)
+    served-text (Generate n count) o tell = (gen_text n count, refl, (wrote_heard (gen_text n count) o.2 tell).1)
+
+    pub served-part : (request : Request) → ServesIt request → result ≡ status.WriteFault → (text : List ℕ) × IsTextFor request bytes text × Part text held held'
+    served-part (Judge command) o cuts =
+        let k = judged_cut command o cuts in
+        let c = concluded (judging (limits_of command)) AtHeader k.says k.concludes in
+        (k.text, judged_text command o.heading bytes k.says k.text c.0 (heads_at o.heading o.heads) k.has, k.part)
+    served-part Follow o cuts =
+        let k = run_cut o cuts in
+        (k.text, k.has ∙ ap run.run_text (sym (run_concluded k.says k.concludes).0), k.part)
+    served-part (Generate n count) o cuts = (gen_text n count, refl, (wrote_cut (gen_text n count) o.2 cuts).1)
+
+    pub served-unread : (request : Request) → ServesIt request → tells_verdict result ≡ true → new ≡ Some (unread_for request bytes)
+    served-unread (Judge command) o tell = let k = judged_heard command o tell in (judged_concluded command k.says k.concludes).1
+    served-unread Follow o tell = let k = run_heard o tell in (run_concluded k.says k.concludes).1
+    served-unread (Generate n count) o tell = o.0 ∙ is
+
+    pub served-untold : (request : Request) → ServesIt request → result ≡ status.WriteFault → new ≡ Some (unread_for request bytes)
+    served-untold (Judge command) o cuts = let k = judged_cut command o cuts in (judged_concluded command k.says k.concludes).1
+    served-untold Follow o cuts = let k = run_cut o cuts in (run_concluded k.says k.concludes).1
+    served-untold (Generate n count) o cuts = o.0 ∙ is
+
+    pub served-read : (request : Request) → ServesIt request → tells_verdict result ≡ true → ReadForAll request bytes new
+    served-read (Judge command) o tell = read-to (limits_of command) bytes new (served-unread (Judge command) o tell)
+    served-read Follow o tell = run-read-to bytes new (served-unread Follow o tell)
+    served-read (Generate n count) o tell = o.0 ∙ is
+
+    pub served-accepted : (request : Request) → ServesIt request → reads_input request ≡ true → result ≡ status.Accepted → new ≡ Some []
+    served-accepted (Judge command) o reads accepted =
+        let tell = ap tells_verdict accepted in
+        let r = served-read (Judge command) o tell in
+        r.3 ∙ ap Some (none_left (verdict_of_bytes Patterns (limits_of command) bytes) (text_of r.0) r.1 (sym (served-status (Judge command) o tell) ∙ accepted) r.4)
+    served-accepted Follow o reads accepted =
+        let tell = ap tells_verdict accepted in
+        let r = served-read Follow o tell in
+        r.3 ∙ ap Some (none_left_run (run.run_of bytes).says (text_of r.0) r.1 (sym (served-status Follow o tell) ∙ accepted) r.4)
+    served-accepted (Generate n count) o reads accepted = cc
+
+    pub served-accepts : (command : Command) → ServesIt (Judge command) → result ≡ status.Accepted → (count : ℕ) × (verdict_of_bytes Patterns (limits_of command) bytes ≡ Accepted count)
+    served-accepts command o accepted =
+        accepted_is (verdict_of_bytes Patterns (limits_of command) bytes) (sym (served-status (Judge command) o (ap tells_verdict accepted)) ∙ accepted)
+
+    pub served-fault : (request : Request) → ServesIt request → result ≡ status.ReadFault → FaultAt request bytes new
+    served-fault (Judge command) o fault =
+        let fold = judging (limits_of command) in
+        let breaks = (broke fold AtHeader (JudgedText command o.heading) (judged_status command) (λ v. tells_of v.verdict) (Starves fold 1 AtHeader) result old new f f' held held' w w' o.answered fault).0 in
+        fault-is (limits_of command) bytes new (to_fault fold AtHeader bytes new (subst (λ (x : Option (List ℕ)). Breaks fold 1 AtHeader x new) is breaks))
+    served-fault Follow o fault =
+        let breaks = (broke following run.AtHeader RunText run_status tells_run WantsRun result old new f f' held held' w w' o fault).0 in
+        run-fault bytes new (to_fault following run.AtHeader bytes new (subst (λ (x : Option (List ℕ)). Breaks following 1 run.AtHeader x new) is breaks))
+    served-fault (Generate n count) o fault = wrote_sound (gen_text n count) o.2 (inl fault)
+
+    pub served-want : (request : Request) → ServesIt request → result ≡ status.NoMemory → WantAt request bytes new
+    served-want (Judge command) o want =
+        let fold = judging (limits_of command) in
+        let starves = starved fold AtHeader (JudgedText command o.heading) (judged_status command) (λ v. tells_of v.verdict) (Starves fold 1 AtHeader) result old new f f' held held' w w' o.answered want in
+        want-is (limits_of command) bytes new (to_want fold AtHeader bytes new (subst (λ (x : Option (List ℕ)). Starves fold 1 AtHeader x new) is starves))
+    served-want Follow o want =
+        let wants = starved following run.AtHeader RunText run_status tells_run WantsRun result old new f f' held held' w w' o want in
+        run_wants bytes new (subst (λ (x : Option (List ℕ)). WantsRun x new) is wants)
+    served-want (Generate n count) o want = wrote_sound (gen_text n count) o.2 (inr want)

@@ -1,0 +1,50 @@
+use Rattle.std.proofs.Common.{◌≡◌, ◌+◌, ◌++◌, ℕ, suc, List, Err, None, arith, subst, sym, ap, ◌∙◌}
+use Rattle.bbm_events.specs.declared.event.Event.{Event as EventOf}
+use Rattle.bbm_events.specs.declared.event.Item.TheVariants.{Event}
+use Rattle.bbm_events.specs.Lines.{item_line}
+use Rattle.bbm_gen.specs.Generated.{event_at}
+use Rattle.bbm_session.specs.Generating.{ended, gen_begin}
+use Rattle.bbm_session.specs.Writing.{Buffered, Pours}
+use Rattle.bbm_session.proofs.Pouring.{begin-none, begin-more, cut-short}
+use Rattle.bbm_session.proofs.generating.add_events.Goals as goal
+
+pub events-init : goal.events-init
+events-init g c = record {
+  within = omega arith;
+  poured = λ start faults buffered.
+      subst (λ (t : List ℕ). Buffered t c.args.buffer.now.items start (g.K.Sink.held c.args.out.now) faults (g.K.Sink.faults c.args.out.now)) (sym (begin-none c.args.n)) buffered;
+}
+
+-- the text with one event more
+longer : (n i : ℕ) (event : EventOf) → event ≡ event_at n i → gen_begin n i ++ ended (item_line (Event event None)) ≡ gen_begin n (i + 1)
+longer n i event is =
+    let next : i + 1 ≡ suc i = omega arith in
+    ap (λ (e : EventOf). gen_begin n i ++ ended (item_line (Event e None))) is ∙ sym (begin-more n i) ∙ ap (gen_begin n) (sym next)
+
+pub events-preserved : goal.events-preserved
+events-preserved g c = record {
+  within = omega (arith, c.events-test.true);
+  poured = λ start faults buffered.
+      subst (λ (t : List ℕ). Buffered t c.add_item.new.buffer.items start (g.K.Sink.held c.add_item.new.out) faults (g.K.Sink.faults c.add_item.new.out))
+      (longer c.args.n c.events.i c.gen_event.result c.gen_event.ensures.value)
+      (c.in-Ok.ensures.poured (gen_begin c.args.n c.events.i) start faults (c.events.invariant.poured start faults buffered));
+}
+
+pub returns-in-Err : goal.returns-in-Err
+returns-in-Err g c = record {
+  poured = λ start faults buffered.
+      cut-short c.args.n (c.events.i + 1) c.args.count c.in-Err.failed c.add_item.new.buffer.items start (g.K.Sink.held c.add_item.new.out) faults (g.K.Sink.faults c.add_item.new.out)
+      (omega (arith, c.events-test.true))
+      (subst (λ (t : List ℕ). Pours t (Err c.in-Err.failed) c.add_item.new.buffer.items start (g.K.Sink.held c.add_item.new.out) faults (g.K.Sink.faults c.add_item.new.out))
+      (longer c.args.n c.events.i c.gen_event.result c.gen_event.ensures.value)
+      (c.in-Err.ensures.poured (gen_begin c.args.n c.events.i) start faults (c.events.invariant.poured start faults buffered)));
+}
+
+pub returns : goal.returns
+returns g c =
+    let all : c.events.i ≡ c.args.count = omega (arith, c.events-test.false, c.events.invariant.within) in
+    record {
+      poured = λ start faults buffered.
+          subst (λ (i : ℕ). Buffered (gen_begin c.args.n i) c.events.buffer.items start (g.K.Sink.held c.events.out) faults (g.K.Sink.faults c.events.out)) all
+          (c.events.invariant.poured start faults buffered);
+    }

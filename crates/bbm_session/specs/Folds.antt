@@ -1,0 +1,111 @@
+-- The two folds over the lines of a log: one judges its events, the other keeps the steps of a run. No public contract
+-- cites these words.
+use Rattle.std.specs.Prelude.{◌≡◌, ℕ, ◌+◌, ◌≤◌, Bool, true, false, is_ok, List, length, reverse, Option, Result, Ok, Err}
+use Rattle.bbm_events.specs.declared.event.Event.{Event}
+use Rattle.bbm_events.specs.declared.event.Item.{Item}
+use Rattle.bbm_events.specs.declared.event.Item.TheVariants as item
+use Rattle.bbm_events.specs.declared.malformed.Malformed.{Malformed as Cause}
+use Rattle.bbm_events.specs.Heading.{Heading}
+use Rattle.bbm_events.specs.Lines.{header_of, item_of}
+use Rattle.bbm_rules.specs.Claims.{Patterns}
+use Rattle.bbm_rules.specs.declared.limits.Limits.{Limits}
+use Rattle.bbm_rules.specs.declared.verdict.Verdict.{Verdict}
+use Rattle.bbm_rules.specs.declared.verdict.Verdict.TheVariants.{Accepted}
+use Rattle.bbm_rules.specs.Outcome.{Progress, AtHeader, AtEvents, AtEnd, Step, Decides, GoesOn, after_line, too_long_at, cut_at}
+use Rattle.bbm_rules.specs.Outcome.{events_in}
+use Rattle.bbm_tlb_machine.specs.declared.step.Step.{Step as MachineStep}
+use Rattle.bbm_follow.specs.declared.turn.LineFault.{LineFault}
+use Rattle.bbm_follow.specs.declared.turn.LineFault.TheVariants as line_fault
+use Rattle.bbm_follow.specs.declared.turn.Turn.{Turn as RunTurn}
+use Rattle.bbm_follow.specs.declared.turn.Turn.TheVariants as turn
+use Rattle.bbm_follow.specs.Following as run
+use Rattle.bbm_session.specs.Fold.{Fold, Turned, Halts, Passes}
+use Rattle.bbm_session.specs.Runs.{step_needs}
+use Rattle.bbm_session.specs.Stages.{Keeps, KnowsAt, Stops}
+use Rattle.bbm_session.specs.declared.stop.Stop.{Stop}
+use Rattle.bbm_session.specs.declared.stop.Stop.TheVariants.{Decided, NoMemory}
+use Rattle.bbm_session.specs.declared.stop.Turn.{Turn}
+use Rattle.bbm_session.specs.declared.stop.Turn.TheVariants.{Taken, End}
+
+-- a verdict, and the events before the line that decides, the newest first
+pub record Judged : Type 0 where
+  pub verdict : Verdict
+  pub log : List Event
+
+abbrev pub judged_at : Progress → Verdict → Judged
+judged_at p verdict = record { verdict = verdict; log = events_in p }
+
+abbrev pub judged_by : Progress → Step → Turned Progress Judged
+judged_by p (Decides verdict) = Halts (judged_at p verdict)
+judged_by p (GoesOn next) = Passes next
+
+abbrev pub is_event : Result Item Cause → Bool
+is_event (Ok (item.Event event label)) = true
+is_event _ = false
+
+abbrev pub line_needs : Progress → List ℕ → Bool
+line_needs AtHeader line = is_ok (header_of line)
+line_needs (AtEvents heading h) line = is_event (item_of heading line)
+line_needs (AtEnd h) line = false
+
+-- the events of a log are judged
+abbrev pub judging : Limits → Fold Progress Judged
+judging limits = record {
+  line = λ n p line. judged_by p (after_line Patterns limits n p line);
+  long = λ n p. judged_at p (too_long_at n p);
+  cut = λ n p rest. judged_at p (cut_at n p rest);
+  stopped = judged_at;
+  whole = λ p. judged_at p (Accepted (length (events_in p)));
+  needs = λ n. line_needs;
+}
+
+-- A checker stands for a history of this header, whose events are on the lines before this one.
+pub record Judges (stands : Heading → List Event → Type 0) (limits : Limits) (fold : Fold Progress Judged)
+    (heading : Heading) (p : Progress) (n : ℕ) : Type 0 where
+  pub h : List Event
+  pub fold_is : fold ≡ judging limits
+  pub is : p ≡ AtEvents heading h
+  pub keeps : Keeps stands heading h
+  pub number : n ≡ length h + 2
+
+-- Why reading stopped behind the header, and what the checker stands for.
+pub record StopsKnown (stands : Heading → List Event → Type 0) (limits : Limits) (heading : Heading) (p : Progress)
+    (stop : Stop) (old new : Option (List ℕ)) (faults faults' : ℕ) : Type 0 where
+  pub reached : Progress
+  pub stops : Stops (judging limits) 2 p old stop reached new faults faults'
+  pub known : KnowsAt stands heading (events_in reached) stop
+
+abbrev pub kept_by : run.Turned → Turned run.Reached run.RunSays
+kept_by (run.Stops verdict) = Halts (run.Stopped verdict)
+kept_by (run.GoesOn next) = Passes next
+
+abbrev pub whole_run : run.Reached → run.RunSays
+whole_run (run.AtSteps heading steps) = run.Whole heading steps
+whole_run (run.AtEnd heading steps) = run.Whole heading steps
+whole_run run.AtHeader = run.Stopped (Accepted 0)
+
+-- the steps of a run are kept
+abbrev pub following : Fold run.Reached run.RunSays
+following = record {
+  line = λ n p line. kept_by (run.after_line n p line);
+  long = λ n p. run.Stopped (run.too_long_at n p);
+  cut = run.cut_at;
+  stopped = λ p. run.Stopped;
+  whole = whole_run;
+  needs = step_needs;
+}
+
+-- these steps, the oldest first, are on the lines before this one
+pub record Follows (kept : List MachineStep) (fold : Fold run.Reached run.RunSays) (heading : Heading) (p : run.Reached)
+    (n : ℕ) : Type 0 where
+  pub fold_is : fold ≡ following
+  pub is : p ≡ run.AtSteps heading (reverse kept)
+  pub number : n ≡ length kept + 2
+  pub few : length kept ≤ 2000
+
+-- what the session makes of a line of a run that was taken or not
+abbrev pub Turns : Result RunTurn LineFault → Result Turn Stop → Type 0
+Turns (Ok turn.Step) result = result ≡ Ok Taken
+Turns (Ok turn.End) result = result ≡ Ok End
+Turns (Err (line_fault.Decided verdict)) result = result ≡ Err (Decided verdict)
+Turns (Err line_fault.NoMemory) result = result ≡ Err NoMemory

@@ -1,0 +1,92 @@
+-- What the program's words ask for, and what it does for each: a log is judged, a run is followed, or a log is written.
+-- Source: project's own choice.
+use Rattle.std.specs.Prelude.{◌≡◌, ℕ, nat_le, Bool, true, false, List, [], ◌∷◌, Option, Some, None, option_map, codes}
+use Rattle.std.specs.Prelude.{bytes_eq, if◌then◌else◌}
+use Rattle.bbm_events.specs.Lines.{passing}
+use Rattle.bbm_events.specs.Spelling.{decimal_value}
+use Rattle.bbm_follow.specs.Following.{RunSays, run_of, run_text}
+use Rattle.bbm_rules.specs.Claims.{Patterns}
+use Rattle.bbm_rules.specs.Lists.{◌>>=◌}
+use Rattle.bbm_rules.specs.declared.verdict.Verdict.{Verdict}
+use Rattle.bbm_rules.specs.Outcome.{outcome_of, verdict_of_bytes}
+use Rattle.bbm_session.specs.declared.command.Request.{Request}
+use Rattle.bbm_session.specs.declared.command.Request.TheVariants.{Judge, Follow, Generate}
+use Rattle.bbm_session.specs.declared.status.Status.{Status}
+use Rattle.bbm_session.specs.declared.status.Status.TheVariants as status
+use Rattle.bbm_session.specs.Generating.{gen_text}
+use Rattle.bbm_session.specs.Run.{IsTextOf, IsSomeText, ReadAs, ReadTo, ReadToFault, ReadToWant, command_of, limits_of}
+use Rattle.bbm_session.specs.Run.{or_else, status_of}
+use Rattle.bbm_session.specs.Runs.{RunReadFor, RunToFault, RunWants, run_status}
+
+-- the request of one word that isn't a command
+abbrev pub follow_of : List (List ℕ) → Option Request
+follow_of (word ∷ []) = if bytes_eq word (codes "follow") then Some Follow else None
+follow_of _ = None
+
+-- The number of events of a generated log: with its header and its end it has at most 2^32 - 1 lines.
+abbrev pub event_count : List ℕ → Option ℕ
+event_count text = passing (λ count. nat_le count 4294967293) (decimal_value text)
+
+-- the request of the words N and COUNT, both decimals, where N is below 2^64
+abbrev pub gen_asked : List ℕ → List ℕ → Option Request
+gen_asked n_text count_text = do
+  n ← decimal_value n_text
+  count ← event_count count_text
+  Some (Generate n count)
+
+-- the request of `gen N COUNT`
+abbrev pub gen_of : List (List ℕ) → Option Request
+gen_of (word ∷ n ∷ count ∷ []) = if bytes_eq word (codes "gen") then gen_asked n count else None
+gen_of _ = None
+
+-- What the words ask for, None where they ask for nothing: a command, to follow a run, or to write a generated log.
+abbrev pub request_of : List (List ℕ) → Option Request
+request_of words = or_else (option_map Judge (command_of words)) (or_else (follow_of words) (gen_of words))
+
+-- whether a request reads its input
+abbrev pub reads_input : Request → Bool
+reads_input (Generate n count) = false
+reads_input _ = true
+
+-- the status for these bytes
+abbrev pub status_for : Request → List ℕ → Status
+status_for (Judge command) bytes = status_of (verdict_of_bytes Patterns (limits_of command) bytes)
+status_for Follow bytes = run_status (run_of bytes).says
+status_for (Generate n count) bytes = status.Accepted
+
+-- the text for these bytes
+abbrev pub IsTextFor : Request → List ℕ → List ℕ → Type 0
+IsTextFor (Judge command) bytes text = IsTextOf command bytes text
+IsTextFor Follow bytes text = text ≡ run_text (run_of bytes).says
+IsTextFor (Generate n count) bytes text = text ≡ gen_text n count
+
+-- a text with this status, where it isn't told what was read
+abbrev pub IsSomeTextFor : Request → Status → List ℕ → Type 0
+IsSomeTextFor (Judge command) tells text =
+    (verdict : Verdict) × (tells ≡ status_of verdict) × IsSomeText command verdict text
+IsSomeTextFor Follow tells text = (says : RunSays) × (tells ≡ run_status says) × (text ≡ run_text says)
+IsSomeTextFor (Generate n count) tells text = (tells ≡ status.Accepted) × (text ≡ gen_text n count)
+
+-- the bytes that are left unread of these
+abbrev pub unread_for : Request → List ℕ → List ℕ
+unread_for (Judge command) bytes = (outcome_of Patterns (limits_of command) bytes).unread
+unread_for Follow bytes = (run_of bytes).unread
+unread_for (Generate n count) bytes = bytes
+
+-- What is left of these bytes, where all before was read for what is said of them.
+abbrev pub ReadForAll : Request → List ℕ → Option (List ℕ) → Type 0
+ReadForAll (Judge command) bytes left = ReadTo bytes (verdict_of_bytes Patterns (limits_of command) bytes) left
+ReadForAll Follow bytes left = ReadAs (RunReadFor (run_of bytes).says) bytes left
+ReadForAll (Generate n count) bytes left = left ≡ Some bytes
+
+-- a read failed, which can't be where nothing is read
+abbrev pub FaultAt : Request → List ℕ → Option (List ℕ) → Type 0
+FaultAt (Judge command) bytes left = ReadToFault (limits_of command) bytes left
+FaultAt Follow bytes left = RunToFault bytes left
+FaultAt (Generate n count) bytes left = ⊥
+
+-- there was no memory, of which a generated log needs none
+abbrev pub WantAt : Request → List ℕ → Option (List ℕ) → Type 0
+WantAt (Judge command) bytes left = ReadToWant (limits_of command) bytes left
+WantAt Follow bytes left = RunWants bytes left
+WantAt (Generate n count) bytes left = ⊥

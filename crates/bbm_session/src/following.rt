@@ -1,0 +1,130 @@
+//! The steps of a run, taken line after line.
+
+ghost use Rattle.std.specs.Prelude.{◌≡◌, ◌<◌, Ok};
+ghost use Rattle.bbm_follow.specs.Following.{Reached, RunSays};
+ghost use Rattle.bbm_follow.specs.Following as following_of;
+ghost use Rattle.bbm_session.specs.Fold.{Fold};
+ghost use Rattle.bbm_session.specs.Folds.{Follows, Turns};
+ghost use Rattle.bbm_session.specs.Runs.{followed_status};
+ghost use Rattle.bbm_session.specs.Stages.{MayTakeLine, Shrinks, TakesLine};
+ghost use Rattle.bbm_session.specs.Writing.{FollowsRun, ReportsRun, Wrote};
+
+use crate::answering::{report_stop, settled};
+use crate::reading::{header_line, read_log};
+use crate::status::Status;
+use crate::stop::{Stop, Turn};
+use crate::taker::Taker;
+use crate::telling::tell;
+use arrayvec::ArrayVec;
+use bbm_events::Header;
+use bbm_follow::{Followed, LineFault, Turn as RunTurn, follow_run, followed_text, take_line};
+use bbm_io::{Lines, Sink, Source};
+use bbm_regimes::NoMemory;
+use bbm_tlb_machine::Step;
+use std::alloc::Global;
+
+// What a line decides that was taken or not.
+fn turned(taken: Result<RunTurn, LineFault>) -> Result<Turn, Stop>
+    ensures { Turns taken result }
+{
+    match taken {
+        Ok(RunTurn::Step) => Ok(Turn::Taken),
+        Ok(RunTurn::End) => Ok(Turn::End),
+        Err(LineFault::Decided(verdict)) => Err(Stop::Decided(verdict)),
+        Err(LineFault::NoMemory) => Err(Stop::NoMemory),
+    }
+}
+
+// What a line after the header decides.
+fn follow_line(
+    number: u64,
+    steps: &mut Vec<Step>,
+    header: &Header,
+    line: &[u8],
+) -> Result<Turn, Stop>
+    requires { MayTakeLine (Follows steps.old.items) header.now number }
+    ensures takes { (fold : Fold Reached RunSays) (p : Reached) → Follows steps.old.items fold header.now p number
+        → TakesLine fold (Follows steps.new.items fold header.now) number p line.now result }
+    ensures few { result ≡ Ok Turn.Taken → number < 4294967295 }
+{
+    turned(take_line(number, header, steps, line))
+}
+
+/// The steps of a run that are kept.
+#[derive(Drop)]
+pub struct Following {
+    /// The steps of the lines so far, the oldest first.
+    pub steps: Vec<Step>,
+}
+
+impl Taker for Following {
+    ghost use Rattle.bbm_follow.specs.Following.{Reached, RunSays};
+    ghost use Rattle.bbm_session.specs.Folds.{Follows};
+
+    ghost Reached = { Reached };
+
+    ghost Said = { RunSays };
+
+    ghost stands = { λ following. Follows following.steps.items };
+
+    fn take(
+        &mut self,
+        _alloc: Global,
+        number: u64,
+        header: &Header,
+        line: &[u8],
+    ) -> Result<Turn, Stop> {
+        follow_line(number, &mut self.steps, header, line)
+    }
+}
+
+// The status of a run that was read whole.
+fn run_status(told: &Followed) -> Status
+    ensures { result ≡ followed_status told.now }
+{
+    match *told {
+        Followed::Run { .. } => Status::Accepted,
+        Followed::BadStep { .. } => Status::Refused,
+    }
+}
+
+// Writes what comes of a run that was read whole.
+fn tell_run<K: Sink>(told: Followed, out: &mut K) -> Status
+    ensures wrote { Wrote (followed_status told) (following_of.followed_text told) result
+        (K.held out.old) (K.held out.new) (K.faults out.old) (K.faults out.new) }
+{
+    let mut text = ArrayVec::new();
+    followed_text(told, &mut text);
+    settled(tell(&text, out), run_status(&told))
+}
+
+// Says what comes of a run that was read whole, if there was memory to follow it.
+fn report_run<K: Sink>(told: Result<Followed, NoMemory>, out: &mut K) -> Status
+    ensures reports { ReportsRun told result (K.held out.old) (K.held out.new) (K.faults out.old) (K.faults out.new) }
+{
+    match told {
+        Ok(followed) => tell_run(followed, out),
+        Err(_) => Status::NoMemory,
+    }
+}
+
+/// Reads a run, follows it, and writes its text. The whole text is read before a step that is none is named.
+pub fn follow<S: Source, K: Sink>(alloc: Global, log: &mut S, out: &mut K) -> Status
+    ensures follows { FollowsRun result (S.left log.old) (S.left log.new) (S.faults log.old) (S.faults log.new)
+        (K.held out.old) (K.held out.new) (K.faults out.old) (K.faults out.new) }
+    ensures shrinks { Shrinks (S.left log.old) (S.left log.new) }
+{
+    let mut lines = Lines::new();
+    match header_line::<Following, S>(&mut lines, log) {
+        Ok(header) => {
+            let mut following = Following {
+                steps: Vec::new(alloc),
+            };
+            match read_log(alloc, &header, &mut following, &mut lines, log) {
+                Ok(()) => report_run(follow_run(alloc, &header, &following.steps), out),
+                Err(stop) => report_stop(stop, out),
+            }
+        }
+        Err(stop) => report_stop(stop, out),
+    }
+}

@@ -1,0 +1,170 @@
+//! The lines of a log, read one after another.
+
+ghost use Rattle.std.specs.Prelude.{◌≡◌, ◌+◌, ◌≤◌, ◌<◌, ℕ, Ok, OnOk, IfOk, IfErr};
+ghost use Rattle.bbm_events.specs.Heading.{Heading};
+ghost use Rattle.bbm_session.specs.Fold.{Fold, IsStart, IsInside, IsEnd};
+ghost use Rattle.bbm_session.specs.Stages.{Shrinks, Ready, IsBrief, ReadsHeader, Starts, MayGoOn, Advances, Reaches};
+ghost use Rattle.bbm_session.specs.Stages.{Closes, Ends};
+
+use crate::line::{Piece, find_piece, next_piece, take_found};
+use crate::stop::{Stop, Turn};
+use crate::taker::Taker;
+use bbm_events::{Header, Malformed};
+use bbm_io::{Lines, Source};
+use bbm_log_grammar::read_header;
+use bbm_regimes::Which;
+use bbm_rules::Verdict;
+use std::alloc::Global;
+
+/// Why reading stops at a malformed line.
+pub fn malformed(line: u64, cause: Malformed) -> Stop
+    ensures { result ≡ Stop.Decided (Verdict.Malformed line cause) }
+{
+    Stop::Decided(Verdict::Malformed { line, cause })
+}
+
+/// Why reading stops at a line that reaches a limit.
+pub fn limit(line: u64, which: Which) -> Stop
+    ensures { result ≡ Stop.Decided (Verdict.Limit line which) }
+{
+    Stop::Decided(Verdict::Limit { line, which })
+}
+
+// What line 1 decides, by what was read of it.
+fn judge_header(read: Result<Header, Malformed>) -> Result<Header, Stop>
+    ensures judges { ReadsHeader result read }
+    ensures brief { IfErr result (λ stop. IsBrief stop) }
+{
+    match read {
+        Ok(header) => Ok(header),
+        Err(cause) => Err(malformed(1, cause)),
+    }
+}
+
+/// Reads line 1 and answers its header, as each fold over the lines of a log begins with it.
+pub fn header_line<T: Taker, S: Source>(lines: &mut Lines, log: &mut S) -> Result<Header, Stop>
+    requires { Ready lines.old 1 }
+    ensures ready { OnOk result (Ready lines.new 2) }
+    ensures starts { (fold : Fold T.Reached T.Said) (start : T.Reached) (begun : Heading → T.Reached)
+        → IsStart fold start begun → Starts fold start result (S.left log.old) (S.left log.new)
+        (S.faults log.old) (S.faults log.new) }
+    ensures brief { IfErr result (λ stop. IsBrief stop) }
+    ensures shrinks { Shrinks (S.left log.old) (S.left log.new) }
+{
+    match next_piece(lines, log) {
+        Piece::Line => judge_header(read_header(lines.bytes())),
+        Piece::Rest => Err(malformed(1, Malformed::NoEnd)),
+        Piece::TooLong => Err(limit(1, Which::LineBytes)),
+        Piece::ReadFault => Err(Stop::ReadFault),
+    }
+}
+
+// Reads line number `number`, after the header.
+fn log_line<T: Taker, S: Source>(
+    alloc: Global,
+    number: u64,
+    header: &Header,
+    taker: &mut T,
+    lines: &mut Lines,
+    log: &mut S,
+) -> Result<Turn, Stop>
+    requires stands { MayGoOn (T.stands taker.old) header.now number }
+    requires number { number ≤ 4294967295 }
+    requires ready { Ready lines.old number }
+    ensures ready { OnOk result (Ready lines.new (number + 1)) }
+    ensures advances { (fold : Fold T.Reached T.Said) (p : T.Reached) → IsInside fold p
+        → T.stands taker.old fold header.now p number
+        → Advances fold (T.stands taker.new fold header.now) number p result (S.left log.old) (S.left log.new)
+        (S.faults log.old) (S.faults log.new) }
+    ensures shrinks { Shrinks (S.left log.old) (S.left log.new) }
+    ensures few { result ≡ Ok Turn.Taken → number < 4294967295 }
+{
+    let whole = lines.at_hand(log);
+    match find_piece(whole, lines, log) {
+        Piece::Line => {
+            let turn = taker.take(alloc, number, header, lines.shown(whole, log));
+            take_found(whole, lines, log);
+            turn
+        }
+        Piece::Rest => Err(malformed(number, Malformed::NoEnd)),
+        Piece::TooLong => Err(limit(number, Which::LineBytes)),
+        Piece::ReadFault => Err(Stop::ReadFault),
+    }
+}
+
+// Reads the lines from line 2 to the `end` line; answers the number of the line behind it.
+fn log_lines<T: Taker, S: Source>(
+    alloc: Global,
+    header: &Header,
+    taker: &mut T,
+    lines: &mut Lines,
+    log: &mut S,
+) -> Result<u64, Stop>
+    requires begun { MayGoOn (T.stands taker.old) header.now 2 }
+    requires ready { Ready lines.old 2 }
+    ensures ready { IfOk result (λ number. Ready lines.new number) }
+    ensures number { IfOk result (λ number. number ≤ 4294967296) }
+    ensures reaches { (fold : Fold T.Reached T.Said) (p : T.Reached) → IsInside fold p
+        → T.stands taker.old fold header.now p 2
+        → Reaches fold (T.stands taker.new fold header.now) p result (S.left log.old) (S.left log.new)
+        (S.faults log.old) (S.faults log.new) }
+    ensures shrinks { Shrinks (S.left log.old) (S.left log.new) }
+{
+    let mut number = 2;
+    'lines: loop {
+        match log_line(alloc, number, header, taker, lines, log) {
+            Ok(Turn::Taken) => number += 1,
+            Ok(Turn::End) => return Ok(number + 1),
+            Err(stop) => return Err(stop),
+        }
+    }
+}
+
+// Reads behind the `end` line, where nothing may follow.
+fn nothing_follows<T: Taker, S: Source>(
+    number: u64,
+    lines: &mut Lines,
+    log: &mut S,
+) -> Result<(), Stop>
+    requires ready { Ready lines.old number }
+    requires number { number ≤ 4294967296 }
+    ensures closes { (fold : Fold T.Reached T.Said) (p : T.Reached) (end : T.Reached) → IsEnd fold p end
+        → Closes fold p end result number (S.left log.old) (S.left log.new) (S.faults log.old) (S.faults log.new) }
+    ensures brief { IfErr result (λ stop. IsBrief stop) }
+    ensures shrinks { Shrinks (S.left log.old) (S.left log.new) }
+{
+    match next_piece(lines, log) {
+        Piece::Line => Err(malformed(number, Malformed::AfterEnd)),
+        Piece::Rest => {
+            if lines.bytes().is_empty() {
+                Ok(())
+            } else {
+                Err(malformed(number, Malformed::AfterEnd))
+            }
+        }
+        Piece::TooLong => Err(malformed(number, Malformed::AfterEnd)),
+        Piece::ReadFault => Err(Stop::ReadFault),
+    }
+}
+
+/// Reads the log behind its header up to the line that stops reading, or whole: Ok where it was read to its end.
+pub fn read_log<T: Taker, S: Source>(
+    alloc: Global,
+    header: &Header,
+    taker: &mut T,
+    lines: &mut Lines,
+    log: &mut S,
+) -> Result<(), Stop>
+    requires begun { MayGoOn (T.stands taker.old) header.now 2 }
+    requires ready { Ready lines.old 2 }
+    ensures ends { (fold : Fold T.Reached T.Said) (p : T.Reached) → IsInside fold p
+        → T.stands taker.old fold header.now p 2
+        → Ends fold (T.stands taker.new fold header.now) p result (S.left log.old) (S.left log.new)
+        (S.faults log.old) (S.faults log.new) }
+    ensures shrinks { Shrinks (S.left log.old) (S.left log.new) }
+{
+    match log_lines(alloc, header, taker, lines, log) {
+        Ok(number) => nothing_follows::<T, S>(number, lines, log),
+        Err(stop) => Err(stop),
+    }
+}

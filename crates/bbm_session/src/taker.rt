@@ -1,0 +1,38 @@
+//! What takes the lines of a log.
+
+ghost use Rattle.std.specs.Prelude.{◌≡◌, ◌<◌, ℕ, Ok};
+ghost use Rattle.bbm_events.specs.Heading.{Heading};
+ghost use Rattle.bbm_session.specs.Fold.{Fold};
+ghost use Rattle.bbm_session.specs.Stages.{MayTakeLine, TakesLine};
+
+use crate::stop::{Stop, Turn};
+use bbm_events::Header;
+use std::alloc::Global;
+
+/// It takes the lines between the header of a log and its end one by one, as a fold over the lines says. Source:
+/// project's own choice.
+pub trait Taker {
+    /// How far the lines of a log were read.
+    ghost Reached: { Type 0 };
+
+    /// What is said of a text.
+    ghost Said: { Type 0 };
+
+    /// By this fold and under this header, the lines before this one were read so far, and it has taken them.
+    ghost stands: { Self → Fold Reached Said → Heading → Reached → ℕ → Type 0 };
+
+    /// Takes line `number`, of at most 200 bytes and without its newline. `Taken`: the line was taken. `End`: the line is
+    /// the end. A verdict: the line stops reading. `NoMemory`: there was none for a line that needs it. There is no
+    /// other answer.
+    fn take(
+        &mut self,
+        alloc: Global,
+        number: u64,
+        header: &Header,
+        line: &[u8],
+    ) -> Result<Turn, Stop>
+        requires { MayTakeLine (stands self.old) header.now number }
+        ensures takes { (fold : Fold Reached Said) (p : Reached) → stands self.old fold header.now p number
+            → TakesLine fold (stands self.new fold header.now) number p line.now result }
+        ensures few { result ≡ Ok Turn.Taken → number < 4294967295 };
+}

@@ -1,0 +1,95 @@
+//! What the words say.
+
+use super::{Faults, REMAP, judged, log, words_of};
+use crate::{number, run_words};
+use bbm_io::{CleanSource, MemSink};
+use std::io;
+use std::io::ErrorKind;
+use std::test::Fail;
+
+/// The usage line.
+const USAGE: &[u8] =
+    b"usage: bbm check | slow | explain | walk KIND ROOT ADDR | gen N COUNT | selftest N COUNT | follow\n";
+
+#[test]
+fn tells_the_usage(rt: HostRuntime) -> Result<(), Fail> {
+    for command in [
+        "",
+        "check check",
+        "check -",
+        "slow slow",
+        "slo",
+        "Check",
+        "chec",
+        "checks",
+        "explain explain",
+        "follow follow",
+        "Follow",
+        "follows",
+        "Explain",
+        "walk",
+        "walk el2 0x40000000",
+        "walk el2 0x40000000 0x0 0x0",
+        "Walk el2 0x40000000 0x0",
+        "walk EL2 0x40000000 0x0",
+        "walk el3 0x40000000 0x0",
+        "walk el2 0x40000008 0x0",
+        "walk el2 0x1000000000000 0x0",
+        "walk el2 0x040000000 0x0",
+        "walk el2 40000000 0x0",
+        "walk el2 0x40000000 0",
+        "walk el2 0x40000000 0x00",
+        "walk el2 0x40000000 0xA",
+        "walk el2 0x40000000 0x10000000000000000",
+        "gen",
+        "gen 7",
+        "gen 7 1 1",
+        "Gen 7 1",
+        "gens 7 1",
+        "gen 07 1",
+        "gen 7 01",
+        "gen 0x7 1",
+        "gen +7 1",
+        "gen 7 -1",
+        "gen 18446744073709551616 1",
+        "gen 7 4294967294",
+        "gen 7 18446744073709551616",
+        "selftest 7 1",
+    ] {
+        let bytes = log(rt.alloc(), b"", REMAP, 1, b"")?;
+        let faults = Faults {
+            read: 1,
+            write: 0,
+            room: 200,
+        };
+        let (status, sink) = judged(rt.alloc(), command, bytes, faults)?;
+        assert_eq!(rt; sink.bytes(), USAGE, "{command}");
+        assert_eq!(rt; status, 3, "{command}");
+    }
+    Ok(())
+}
+
+#[test]
+fn ends_by_the_words(rt: HostRuntime) -> Result<(), Fail> {
+    let check = words_of(rt.alloc(), "check")?;
+    let none = words_of(rt.alloc(), "")?;
+    // What came of gathering the words, and the status and what is written.
+    for (gathered, status, text) in vec![in rt.alloc();
+        (Ok(check), 0, b"accepted 8 events\n".as_slice()),
+        (Ok(none), 3, USAGE),
+        (Err(io::Error::from(ErrorKind::InvalidData)), 3, USAGE),
+        (
+            Err(io::Error::from(ErrorKind::OutOfMemory)),
+            6,
+            b"".as_slice()
+        ),
+    ]? {
+        let mut source = CleanSource::new(log(rt.alloc(), b"", REMAP, 1, b"")?);
+        let room = Vec::with_capacity(rt.alloc(), 200)?;
+        let mut sink = MemSink::new(room, Vec::new(rt.alloc()));
+        let ended = number(run_words(rt.alloc(), gathered, &mut source, &mut sink));
+        assert_eq!(rt; ended, status);
+        assert_eq!(rt; sink.bytes(), text);
+    }
+    Ok(())
+}

@@ -1,0 +1,25 @@
+-- The places of a page.
+use Rattle.std.proofs.Common.{◌≡◌, ℕ, ◌<◌, ◌+◌, ◌*◌, ◌/◌, ◌%◌, true, ◌==◌, sym, arith, subst}
+use Rattle.std.proofs.lemmas.Bool.{and_parts, eqb-true}
+use Rattle.bbm_rules.specs.Places.{page_of}
+use Rattle.bbm_tree_index.specs.Held.{is_at}
+
+-- a place is the one of its number in its page
+place_number : (page a : ℕ) → a / 4096 * 4096 ≡ page → a % 8 ≡ 0 → a ≡ page + 8 * (a % 4096 / 8)
+place_number page a e m = omega arith
+
+number_below : (a : ℕ) → a % 4096 / 8 < 512
+number_below a = omega arith
+
+pub at_page : (page a : ℕ) → is_at page a ≡ true → page_of a ≡ page
+at_page page a e = eqb-true (page_of a) page (and_parts (page_of a == page) (a % 8 == 0) e).0
+
+pub at_eighth : (page a : ℕ) → is_at page a ≡ true → a % 8 ≡ 0
+at_eighth page a e = eqb-true (a % 8) 0 (and_parts (page_of a == page) (a % 8 == 0) e).1
+
+pub place_is : (page a : ℕ) → is_at page a ≡ true → a ≡ page + 8 * (a % 4096 / 8)
+place_is page a e = place_number page a (at_page page a e) (at_eighth page a e)
+
+-- what holds of each number of a page holds of each place of it
+pub each_place : (page : ℕ) (P : ℕ → Type 0) → ((j : ℕ) → j < 512 → P (page + 8 * j)) → (a : ℕ) → is_at page a ≡ true → P a
+each_place page P h a e = subst P (sym (place_is page a e)) (h (a % 4096 / 8) (number_below a))

@@ -1,0 +1,112 @@
+-- The places of a page, one after the other.
+use Rattle.std.proofs.Common.{◌≡◌, ℕ, ◌<◌, ◌≤◌, ◌+◌, ◌*◌, ◌/◌, ◌%◌, Bool, true, false, ◌&&◌, ◌||◌, ◌==◌, nat_lt, List, refl, sym, ap, ◌∙◌, true≢false, arith}
+use Rattle.std.proofs.lemmas.Bool.{eqb-true, eqb-false, ltb-true, lt-ltb}
+use Rattle.bbm_rules.specs.Places.{index_of, page_of}
+use Rattle.bbm_rules.specs.Tree.{Node}
+use Rattle.bbm_tree_index.specs.Held.{is_at}
+use Rattle.bbm_tree_index.specs.Survey.{Partly}
+use Rattle.bbm_tree_index.proofs.Places.{at_page, place_is}
+
+-- two tests that agree on places
+pub partly_same : (fresh : ℕ → Bool) (value : ℕ → ℕ) (starts : List Node) (k : ℕ) (done done' : ℕ → Bool)
+    → ((page a : ℕ) → is_at page a ≡ true → done' a ≡ done a) → (m : Node) → Partly fresh value starts k done m
+    → Partly fresh value starts k done' m
+partly_same fresh value starts k done done' same m r = record {
+  above = r.above;
+  is_above = r.is_above;
+  place = r.place;
+  is_done = same r.above.page r.place r.step.inside ∙ r.is_done;
+  step = r.step;
+}
+
+number_at : (p j : ℕ) → (p + 8 * j) / 4096 * 4096 ≡ p → (p + 8 * j) % 4096 / 8 ≡ j
+number_at p j e = omega (arith, e)
+
+-- which places come first in the page
+abbrev pub scanned : ℕ → ℕ → ℕ → Bool
+scanned p j a = page_of a == p && nat_lt (index_of a) j
+
+module _ (p j : ℕ) (inside : is_at p (p + 8 * j) ≡ true) where
+  number : index_of (p + 8 * j) ≡ j
+  number = number_at p j (at_page p (p + 8 * j) inside)
+
+  pub not_scanned : scanned p j (p + 8 * j) ≡ false
+  not_scanned = by (nat_lt (index_of (p + 8 * j)) j) refl
+    where
+      and_false : (b : Bool) → (b && false) ≡ false
+      and_false true = refl
+      and_false false = refl
+
+      by : (b : Bool) → nat_lt (index_of (p + 8 * j)) j ≡ b → (page_of (p + 8 * j) == p && b) ≡ false
+      by true e = absurd (less (index_of (p + 8 * j)) (ltb-true (index_of (p + 8 * j)) j e) number)
+        where
+          less : (i : ℕ) → i < j → i ≡ j → ⊥
+          less i l s = omega (arith, l, s)
+      by false e = and_false (page_of (p + 8 * j) == p)
+
+  -- a place is the next one exactly where it is that of the number in the page
+  is_next : (page a : ℕ) → is_at page a ≡ true → (a == p + 8 * j) ≡ (page_of a == p && index_of a == j)
+  is_next page a at = by (a == p + 8 * j) (page_of a == p) (index_of a == j) refl refl refl
+    where
+      by : (x y z : Bool) → (a == p + 8 * j) ≡ x → (page_of a == p) ≡ y → (index_of a == j) ≡ z → x ≡ (y && z)
+      by true true true ex ey ez = refl
+      by true true false ex ey ez = absurd (eqb-false (index_of a) j ez (ap index_of (eqb-true a (p + 8 * j) ex) ∙ number))
+      by true false z ex ey ez = absurd (eqb-false (page_of a) p ey (ap page_of (eqb-true a (p + 8 * j) ex) ∙ at_page p (p + 8 * j) inside))
+      by false true true ex ey ez = absurd (eqb-false a (p + 8 * j) ex (place_is page a at
+          ∙ (λ i. (sym (at_page page a at) ∙ eqb-true (page_of a) p ey) i + 8 * eqb-true (index_of a) j ez i)))
+      by false true false ex ey ez = refl
+      by false false z ex ey ez = refl
+
+lt_more : (i j : ℕ) → nat_lt i (j + 1) ≡ (nat_lt i j || i == j)
+lt_more i j = by (nat_lt i (j + 1)) (nat_lt i j) (i == j) refl refl refl
+  where
+    more : i < j → i < j + 1
+    more l = omega (arith, l)
+
+    same : i ≡ j → i < j + 1
+    same e = omega (arith, e)
+
+    less : (i < j → ⊥) → (i ≡ j → ⊥) → i < j + 1 → ⊥
+    less f g l = omega (arith, f, g, l)
+
+    by : (x y z : Bool) → nat_lt i (j + 1) ≡ x → nat_lt i j ≡ y → (i == j) ≡ z → x ≡ (y || z)
+    by true true z ex ey ez = refl
+    by true false true ex ey ez = refl
+    by true false false ex ey ez = absurd (less (λ l. true≢false (sym (lt-ltb i j l) ∙ ey)) (eqb-false i j ez) (ltb-true i (j + 1) ex))
+    by false true z ex ey ez = absurd (true≢false (sym (lt-ltb i (j + 1) (more (ltb-true i j ey))) ∙ ex))
+    by false false true ex ey ez = absurd (true≢false (sym (lt-ltb i (j + 1) (same (eqb-true i j ez))) ∙ ex))
+    by false false false ex ey ez = refl
+
+spread : (d b x e : Bool) → ((d || (b && x)) || (b && e)) ≡ (d || (b && (x || e)))
+spread true b x e = refl
+spread false true x e = refl
+spread false false x e = refl
+
+pub scan_more : (p j : ℕ) → is_at p (p + 8 * j) ≡ true → (done : ℕ → Bool) (page a : ℕ) → is_at page a ≡ true
+    → (done a || scanned p (j + 1) a) ≡ ((done a || scanned p j a) || a == p + 8 * j)
+scan_more p j inside done page a at = ap (λ b. done a || (page_of a == p && b)) (lt_more (index_of a) j)
+    ∙ sym (spread (done a) (page_of a == p) (nat_lt (index_of a) j) (index_of a == j))
+    ∙ ap (λ b. (done a || scanned p j a) || b) (sym (is_next p j inside page a at))
+
+pub scan_none : (p : ℕ) (done : ℕ → Bool) (a : ℕ) → (done a || scanned p 0 a) ≡ done a
+scan_none p done a = by (done a) (page_of a == p) (nat_lt (index_of a) 0) refl
+  where
+    below : index_of a < 0 → ⊥
+    below l = omega (arith, l)
+
+    by : (d b x : Bool) → nat_lt (index_of a) 0 ≡ x → (d || (b && x)) ≡ d
+    by true b x e = refl
+    by false true true e = absurd (below (ltb-true (index_of a) 0 e))
+    by false true false e = refl
+    by false false x e = refl
+
+pub scan_all : (p n : ℕ) → 512 ≤ n → (done : ℕ → Bool) (a : ℕ) → (done a || page_of a == p) ≡ (done a || scanned p n a)
+scan_all p n end done a = ap (λ b. done a || b) (by (page_of a == p) (nat_lt (index_of a) n) refl)
+  where
+    below : index_of a < n
+    below = omega (arith, end)
+
+    by : (b x : Bool) → nat_lt (index_of a) n ≡ x → b ≡ (b && x)
+    by true true e = refl
+    by true false e = absurd (true≢false (sym (lt-ltb (index_of a) n below) ∙ e))
+    by false x e = refl

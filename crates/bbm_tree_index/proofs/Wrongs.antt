@@ -1,0 +1,128 @@
+-- What is wrong with a page, by the tables.
+use Rattle.std.proofs.Common.{◌≡◌, ℕ, ◌<◌, ◌≤◌, ◌+◌, ◌*◌, ◌/◌, ◌%◌, ◌==◌, Bool, true, false, List, Option, Some, is_some, nat_eq, get_or, slice_get, length, refl, sym, ap, ◌∙◌, subst, true≢false, arith}
+use Rattle.std.proofs.lemmas.List.{length-map}
+use Rattle.std.proofs.lemmas.Bool.{eqb-true, eq-eqb}
+use Rattle.std.proofs.lemmas.Option.{same_Some, slice_get-get_or, slice_get_within}
+use Rattle.indexmap.specs.IndexMap.{IndexMap, get, index_map_len, keys}
+use Rattle.bbm_descriptor.specs.declared.desc.Desc.{Desc}
+use Rattle.bbm_regimes.specs.declared.regime.Kind.{Kind}
+use Rattle.bbm_tree_index.specs.Least.{Before, LeafIn, LeafOf, LeafPlace, LeastOf, WrongIn, WrongPage}
+use Rattle.bbm_tree_index.specs.declared.mark.Mark.{Mark}
+use Rattle.bbm_tree_index.proofs.Growing.{all_keys, any_at}
+use Rattle.bbm_tree_index.proofs.Leasts.{least_same}
+use Rattle.bbm_tree_index.proofs.Places.{place_is}
+
+-- no table of another level among the first has the page
+abbrev pub Clear : {S : Type 0} → List (IndexMap ℕ Mark S) → ℕ → ℕ → ℕ → Type 0
+Clear {S} tables level page n = (j : ℕ) (table : IndexMap ℕ Mark S) → j < n → (j ≡ level → ⊥) → slice_get tables j ≡ Some table
+    → is_some (get nat_eq table page) ≡ false
+
+pub clear_none : {S : Type 0} (tables : List (IndexMap ℕ Mark S)) (level page : ℕ) → Clear tables level page 0
+clear_none tables level page = λ j table below. absurd (none j below)
+  where
+    none : (i : ℕ) → i < 0 → ⊥
+    none i l = omega (arith, l)
+
+pub clear_more : {S : Type 0} (tables : List (IndexMap ℕ Mark S)) (level page n : ℕ) → Clear tables level page n
+    → ((table : IndexMap ℕ Mark S) → (n ≡ level → ⊥) → slice_get tables n ≡ Some table → is_some (get nat_eq table page) ≡ false)
+    → Clear tables level page (n + 1)
+clear_more {S} tables level page n c new = λ j table below apart at. by j table below apart at (j == n) refl
+  where
+    before : (i : ℕ) → i < n + 1 → (i ≡ n → ⊥) → i < n
+    before i l e = omega (arith, l, e)
+
+    by : (j : ℕ) (table : IndexMap ℕ Mark S) → j < n + 1 → (j ≡ level → ⊥) → slice_get tables j ≡ Some table
+        → (t : Bool) → (j == n) ≡ t → is_some (get nat_eq table page) ≡ false
+    by j table below apart at true t = let e = eqb-true j n t in
+        new table (λ f. apart (e ∙ f)) (ap (slice_get tables) (sym e) ∙ at)
+    by j table below apart at false t = c j table (before j below (λ e. true≢false (sym (eq-eqb j n e) ∙ t))) apart at
+
+-- a page of a table stands at an index
+pub key_at : {V S : Type 0} (table : IndexMap ℕ V S) (p : ℕ) → is_some (get nat_eq table p) ≡ true
+    → (i : ℕ) × (i < index_map_len table) × (slice_get (keys table) i ≡ Some p)
+key_at {V} {S} table p e =
+    let size : length (keys table) ≡ index_map_len table = length-map table.entries (λ x. x.0) in
+    let found = any_at p (keys table) (index_map_len table) (all_keys table (index_map_len table) (same_le (index_map_len table)) p ∙ e) in (
+      found.0,
+      found.1,
+      slice_get-get_or (keys table) found.0 0 (subst (λ n. found.0 < n) (sym size) found.1)
+          ∙ ap Some (sym (eqb-true p (get_or (keys table) found.0 0) found.2)),
+    )
+  where
+    same_le : (n : ℕ) → n ≤ n
+    same_le n = omega arith
+
+module _ {S : Type 0} (tables : List (IndexMap ℕ Mark S)) (fresh : ℕ → Bool) (named : Bool) where
+  -- a page that stands at an index of a table, and what passes by the table of one level
+  abbrev pub WrongKey : ℕ → IndexMap ℕ Mark S → ℕ → ℕ → Type 0
+  WrongKey level table j p = (slice_get (keys table) j ≡ Some p) × WrongIn tables fresh named level table p
+
+  abbrev pub WrongTable : ℕ → ℕ → Type 0
+  WrongTable level p = (table : IndexMap ℕ Mark S) × (slice_get tables level ≡ Some table) × WrongIn tables fresh named level table p
+
+  pub all_wrong : (level : ℕ) (table : IndexMap ℕ Mark S) (n : ℕ) (o : Option ℕ) → index_map_len table ≤ n
+      → LeastOf (Before (WrongKey level table) n) o → LeastOf (WrongIn tables fresh named level table) o
+  all_wrong level table n o end = least_same (Before (WrongKey level table) n) (WrongIn tables fresh named level table) o
+      (λ p b. b.that.1)
+      (λ p w. let k = key_at table p (ap (λ x. is_some x) w.has) in record { index = k.0; below = omega (arith, k.1, end); that = (k.2, w) })
+
+  pub wrong_table : (level : ℕ) (table : IndexMap ℕ Mark S) (o : Option ℕ) → slice_get tables level ≡ Some table
+      → LeastOf (WrongIn tables fresh named level table) o → LeastOf (WrongTable level) o
+  wrong_table level table o at = least_same (WrongIn tables fresh named level table) (WrongTable level) o (λ p w. (table, at, w))
+      (λ p w. subst (λ t. WrongIn tables fresh named level t p) (same_Some w.0 table (sym w.1 ∙ at)) w.2)
+
+  pub all_tables : (n : ℕ) (o : Option ℕ) → length tables ≤ n → LeastOf (Before WrongTable n) o → LeastOf (WrongPage tables fresh named) o
+  all_tables n o end = least_same (Before WrongTable n) (WrongPage tables fresh named) o
+      (λ p b. record { level = b.index; table = b.that.0; at = b.that.1; wrong = b.that.2 })
+      (λ p w. record { index = w.level; below = under (slice_get_within tables w.level w.table w.at); that = (w.table, w.at, w.wrong) })
+    where
+      under : {i : ℕ} → i < length tables → i < n
+      under l = omega (arith, l, end)
+
+module _ (value : ℕ → ℕ) (test : Kind → Desc → Bool) (kind : Kind) where
+  abbrev pub LeafNumber : ℕ → ℕ → ℕ → ℕ → Type 0
+  LeafNumber level page j a = (a ≡ page + 8 * j) × LeafOf value test kind level page a
+
+  pub all_numbers : (level page n : ℕ) (o : Option ℕ) → 512 ≤ n → LeastOf (Before (LeafNumber level page) n) o
+      → LeastOf (LeafOf value test kind level page) o
+  all_numbers level page n o end = least_same (Before (LeafNumber level page) n) (LeafOf value test kind level page) o
+      (λ a b. b.that.1)
+      (λ a l. record { index = a % 4096 / 8; below = number a; that = (place_is page a l.inside, l) })
+    where
+      number : (a : ℕ) → a % 4096 / 8 < n
+      number a = omega (arith, end)
+
+  module _ {S : Type 0} where
+    abbrev pub LeafKey : ℕ → IndexMap ℕ Mark S → ℕ → ℕ → Type 0
+    LeafKey level table j a = (p : ℕ) × (slice_get (keys table) j ≡ Some p) × (is_some (get nat_eq table p) ≡ true)
+        × LeafOf value test kind level p a
+
+    pub leaf_key : (level : ℕ) (table : IndexMap ℕ Mark S) (j p : ℕ) (o : Option ℕ) → slice_get (keys table) j ≡ Some p
+        → is_some (get nat_eq table p) ≡ true → LeastOf (LeafOf value test kind level p) o → LeastOf (LeafKey level table j) o
+    leaf_key level table j p o at has = least_same (LeafOf value test kind level p) (LeafKey level table j) o (λ a l. (p, at, has, l))
+        (λ a k. subst (λ q. LeafOf value test kind level q a) (same_Some k.0 p (sym k.1 ∙ at)) k.3)
+
+    pub all_keyed : (level : ℕ) (table : IndexMap ℕ Mark S) (n : ℕ) (o : Option ℕ) → index_map_len table ≤ n
+        → LeastOf (Before (LeafKey level table) n) o → LeastOf (LeafIn value test kind level table) o
+    all_keyed level table n o end = least_same (Before (LeafKey level table) n) (LeafIn value test kind level table) o
+        (λ a b. record { page = b.that.0; has = b.that.2; leaf = b.that.3 })
+        (λ a l. let k = key_at table l.page l.has in
+        record { index = k.0; below = omega (arith, k.1, end); that = (l.page, k.2, l.has, l.leaf) })
+
+    module _ (tables : List (IndexMap ℕ Mark S)) (start : ℕ) where
+      abbrev pub LeafTable : ℕ → ℕ → Type 0
+      LeafTable depth a = (table : IndexMap ℕ Mark S) × (slice_get tables depth ≡ Some table)
+          × LeafIn value test kind (start + depth) table a
+
+      pub leaf_table : (depth : ℕ) (table : IndexMap ℕ Mark S) (o : Option ℕ) → slice_get tables depth ≡ Some table
+          → LeastOf (LeafIn value test kind (start + depth) table) o → LeastOf (LeafTable depth) o
+      leaf_table depth table o at = least_same (LeafIn value test kind (start + depth) table) (LeafTable depth) o (λ a l. (table, at, l))
+          (λ a l. subst (λ t. LeafIn value test kind (start + depth) t a) (same_Some l.0 table (sym l.1 ∙ at)) l.2)
+
+      pub all_leaves : (n : ℕ) (o : Option ℕ) → length tables ≤ n → LeastOf (Before LeafTable n) o → LeastOf (LeafPlace tables value test kind start) o
+      all_leaves n o end = least_same (Before LeafTable n) (LeafPlace tables value test kind start) o
+          (λ a b. record { depth = b.index; table = b.that.0; at = b.that.1; leaf = b.that.2 })
+          (λ a l. record { index = l.depth; below = under (slice_get_within tables l.depth l.table l.at); that = (l.table, l.at, l.leaf) })
+        where
+          under : {i : ℕ} → i < length tables → i < n
+          under l = omega (arith, l, end)

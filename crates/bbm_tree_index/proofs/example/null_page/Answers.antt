@@ -1,0 +1,8 @@
+use Rattle.std.proofs.Common.{◌||◌, refl, ap, ◌∙◌}
+use Rattle.std.proofs.lemmas.Bool.{eq-eqb}
+use Rattle.bbm_tree_index.specs.Index.{null_in}
+use Rattle.bbm_tree_index.proofs.example.null_page.Goals as goal
+
+pub returns-clause-null : goal.returns-clause-null
+returns-clause-null c = c.nullify.ensures.null c.args.page
+    ∙ ap (λ b. b || null_in c.track.new.self c.args.page) (eq-eqb c.args.page c.args.page refl)

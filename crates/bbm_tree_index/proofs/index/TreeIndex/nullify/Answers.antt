@@ -1,0 +1,43 @@
+use Rattle.std.proofs.Common.{◌≡◌, ℕ, refl, sym, ◌∙◌, nat_eq}
+use Rattle.indexmap.specs.IndexMap.{get}
+use Rattle.bbm_tree_index.proofs.Climbing.{SameTrees, put_trees}
+use Rattle.bbm_tree_index.proofs.Indexes.{fresh_out, node_kept, put_role, sound_kept}
+use Rattle.bbm_tree_index.proofs.Agreeing.{agrees_same}
+use Rattle.bbm_tree_index.specs.Agreement.{IsSound}
+use Rattle.bbm_tree_index.specs.Index.{heading_of, known_in, node_in, role_in}
+use Rattle.bbm_tree_index.specs.declared.index.TreeIndex.{TreeIndex}
+use Rattle.bbm_tree_index.specs.declared.role.Role.TheVariants.{Null}
+use Rattle.bbm_tree_index.proofs.index.TreeIndex.nullify.Goals as goal
+
+abbrev new_of : goal.After-put → TreeIndex
+new_of c = record { header = c.args.self.now.header; roles = c.put.new.roles }
+
+trees : (c : goal.After-put) → SameTrees (role_in c.args.self.now) (role_in (new_of c))
+unfolding role_in
+trees c = put_trees (role_in c.args.self.now) (role_in (new_of c)) c.args.page Null
+    (put_role (get nat_eq c.args.self.now.roles) (get nat_eq c.put.new.roles) c.args.page Null c.put.ensures.roles)
+    (fresh_out c.args.self.now c.args.page c.requires) refl
+
+same_heading : (c : goal.After-put) → heading_of (new_of c) ≡ heading_of c.args.self.now
+unfolding heading_of
+same_heading c = refl
+
+node : (c : goal.After-put) (p : ℕ) → node_in (new_of c) p ≡ node_in c.args.self.now p
+node c = node_kept c.args.self.now (new_of c) (same_heading c) (trees c)
+
+known : (c : goal.After-put) (p : ℕ) → known_in (new_of c) p ≡ known_in c.args.self.now p
+unfolding known_in
+known c p = c.put.ensures.known p
+
+sound : (c : goal.After-put) → IsSound c.args.self.now → IsSound (new_of c)
+sound c s = sound_kept c.args.self.now (new_of c) (same_heading c) (trees c) (λ p k. s.pages p (sym (known c p) ∙ k)) s
+
+pub returns-clause-node : goal.returns-clause-node
+returns-clause-node c = node c
+
+pub returns-clause-sound : goal.returns-clause-sound
+returns-clause-sound c = sound c
+
+pub returns-clause-agrees : goal.returns-clause-agrees
+returns-clause-agrees c = λ map g. agrees_same c.args.self.now (new_of c) map map (sound c g.sound) (node c)
+    (λ a n e. record { marks = refl; value = refl }) (λ a e. e) g

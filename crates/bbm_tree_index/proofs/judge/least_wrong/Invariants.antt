@@ -1,0 +1,7 @@
+use Rattle.bbm_tree_index.specs.Least.{Before, LeastOf}
+use Rattle.bbm_tree_index.specs.Survey.{fresh_of}
+use Rattle.bbm_tree_index.proofs.Wrongs.{WrongTable}
+use Rattle.bbm_tree_index.proofs.judge.least_wrong.Given as goal
+
+abbrev pub invariant-loop-level : goal.invariant-loop-level
+invariant-loop-level l = LeastOf (Before (WrongTable l.tables (fresh_of l.roles) l.named) l.level) l.least

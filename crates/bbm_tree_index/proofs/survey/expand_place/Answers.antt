@@ -1,0 +1,24 @@
+use Rattle.std.proofs.Common.{◌≡◌, ℕ, ◌<◌, ◌%◌, ◌^◌, Some, sym, subst, nat_eq, ◌/◌, suc, add-one, arith}
+use Rattle.std.proofs.lemmas.Result.{on_ok_weaker}
+use Rattle.std.proofs.lemmas.Option.{same_Some}
+use Rattle.indexmap.specs.IndexMap.{get}
+use Rattle.bbm_rules.specs.Places.{index_of}
+use Rattle.bbm_tree_index.specs.Spots.{RoleFits}
+use Rattle.bbm_tree_index.specs.declared.role.Role.TheVariants.{Hangs}
+use Rattle.bbm_tree_index.proofs.Growing.{hang_fits, well_grown}
+use Rattle.bbm_tree_index.proofs.survey.expand_place.Goals as goal
+
+below : (a : ℕ) → a % 4096 / 8 < 512
+below a = omega arith
+
+pub returns-in-Some-clause-well : goal.returns-in-Some-clause-well
+returns-in-Some-clause-well c = on_ok_weaker c.add.result (λ h heading w.
+    well_grown heading (Some c.in-Some.next) _ (get nat_eq c.args.below.now) (get nat_eq c.add.new.table) h
+    (λ p e. (
+      subst (λ q. q < 2 ^ 48) (same_Some c.in-Some.next p e) c.add.ensures.below,
+      subst (λ q. q % 4096 ≡ 0) (same_Some c.in-Some.next p e) c.add.ensures.aligned,
+      subst (λ l. RoleFits heading (Hangs c.args.place c.args.spot.now.kind l c.start.result c.args.spot.now.first)) (sym (add-one c.args.spot.now.level))
+          (subst (λ b. RoleFits heading (Hangs c.args.place c.args.spot.now.kind (suc c.args.spot.now.level) b c.args.spot.now.first)) (sym c.start.ensures)
+          (hang_fits heading c.args.spot.now c.args.place (index_of c.args.place) c.args.spot.now.kind c.args.spot.now.first c.requires c.in-Some.ensures.low
+          (below c.args.place))),
+    )) w) c.add.ensures.marks

@@ -1,0 +1,12 @@
+pub mod Nodes
+pub mod Spots
+pub mod Index
+pub mod Held
+pub mod Climbs
+pub mod Leaving
+pub mod Paths
+pub mod Judged
+pub mod Agreement
+pub mod Survey
+pub mod Hanging
+pub mod Least

@@ -1,0 +1,395 @@
+//! The index of the trees.
+
+use crate::climb::{Asked, is_cut};
+use crate::fault::TreeFault;
+use crate::hang::hang_all;
+use crate::judge::{is_named, judge_tables};
+use crate::leaving::{Leaving, sweep};
+use crate::mark::Mark;
+use crate::role::{Attach, Path, Role};
+use crate::spot::{Spot, spot_of};
+use crate::start::{count_at, in_ranges, start_at, start_below, start_root};
+use crate::survey::survey;
+use crate::table::put;
+use bbm_events::Header;
+use bbm_place_map::PlaceMap;
+use bbm_regimes::{Kind, NoMemory, Page, Place, Which};
+use indexmap::IndexMap;
+use std::alloc::Global;
+
+/// The number of pages that may be tracked. Source: project's own choice.
+const MAX_PAGES: usize = 16384;
+
+/// What each page of a log is used for, and where it hangs in a tree. Clauses speak of the node of each page, and of the
+/// fresh pages and the null pages. Source: project's own choice.
+#[derive(Drop)]
+pub struct TreeIndex {
+    header: Header,
+    roles: IndexMap<u64, Role>,
+}
+
+#[tactic(auto, unfolding(crate::specs::Index::heading_of, crate::specs::Index::role_in, crate::specs::Index::node_in, crate::specs::Index::fresh_in, crate::specs::Index::null_in, crate::specs::Index::known_in, crate::specs::Index::pages_in))]
+impl TreeIndex {
+    ghost use Rattle.std.specs.Prelude.{◌≡◌, ◌==◌, ◌+◌, ◌≤◌, ◌↔◌, ◌&&◌, ◌||◌, not, true, false, ℕ, None, Some, is_some, nat_eq, IfOk, IfErr, IfSome, OnOk, OnErr, Err, if◌then◌else◌, ◌≢◌};
+    ghost use Rattle.std.specs.Option.{option_map, option_map_or};
+    ghost use Rattle.bbm_rules.specs.Places.{page_of};
+    ghost use Rattle.bbm_place_map.specs.Map.{value_at, marks_at, pends_at, is_tracked};
+    ghost use Rattle.bbm_entry_state.specs.Standing.{IsIdle};
+    ghost use Rattle.bbm_place_map.specs.Calls.{IsSame};
+    ghost use Rattle.bbm_place_map.specs.declared.map.PlaceMap.{PlaceMap as TheMap};
+    ghost use Rattle.bbm_tree_index.specs.Agreement.{Agrees, IsSound};
+    ghost use Rattle.bbm_tree_index.specs.Index.{heading_of, role_in, node_in, fresh_in, null_in, known_in, pages_in, SamePages, SameTracked};
+    ghost use Rattle.bbm_tree_index.specs.Nodes.{path_at};
+    ghost use Rattle.bbm_tree_index.specs.Spots.{Fits, StandsAt, spot_with};
+    ghost use Rattle.bbm_rules.specs.Tree.{Node};
+    ghost use Rattle.bbm_tree_index.specs.Held.{Childless, is_held, kept, leaves, limbo_at, stays_without};
+    ghost use Rattle.bbm_tree_index.specs.Leaving.{stays};
+    ghost use Rattle.bbm_tree_index.specs.Judged.{Judges, MayJudge, names_pages};
+    ghost use Rattle.bbm_tree_index.specs.Least.{IsSurvey};
+    ghost use Rattle.bbm_tree_index.specs.Paths.{Attached, starts_of};
+    ghost use Rattle.bbm_tree_index.specs.Survey.{Starting, Well};
+    ghost use Rattle.std.specs.Prelude.{◌⊎◌, Contains, is_none};
+    ghost use Rattle.indexmap.specs.IndexMap.{get};
+
+    /// The index before any call. `NoMemory` where there is none.
+    pub fn new(alloc: Global, header: &Header) -> Result<TreeIndex, TreeFault>
+        ensures node { IfOk result (λ index. (p : ℕ) → node_in index p ≡ None) }
+        ensures fresh { IfOk result (λ index. (p : ℕ) → fresh_in index p ≡ false) }
+        ensures null { IfOk result (λ index. (p : ℕ) → null_in index p ≡ false) }
+        ensures known { IfOk result (λ index. (p : ℕ) → known_in index p ≡ false) }
+        ensures pages { IfOk result (λ index. pages_in index ≡ 0) }
+        ensures heading { IfOk result (λ index. heading_of index ≡ header.now) }
+        ensures agrees { IfOk result (λ index. (map : TheMap) → ((a : ℕ) → marks_at map a ≡ None) → Agrees index map) }
+        ensures fault { IfErr result (λ fault. fault ≡ TreeFault.NoMemory) }
+    {
+        Ok(TreeIndex {
+            header: *header,
+            roles: IndexMap::new(alloc),
+        })
+    }
+
+    /// What the page is used for.
+    pub fn role(&self, page: Page) -> Role
+        ensures { result ≡ role_in self.now page }
+    {
+        match self.roles.get(&page.get()) {
+            Some(role) => *role,
+            None => Role::Untracked,
+        }
+    }
+
+    /// Whether the page is fresh.
+    pub fn is_fresh(&self, page: Page) -> bool
+        ensures { result ≡ fresh_in self.now page }
+    {
+        matches!(self.role(page), Role::Fresh)
+    }
+
+    /// Whether the page is a null page.
+    pub fn is_null(&self, page: Page) -> bool
+        ensures { result ≡ null_in self.now page }
+    {
+        matches!(self.role(page), Role::Null)
+    }
+
+    /// Whether the page is in a tree.
+    pub fn is_in_tree(&self, page: Page) -> bool
+        ensures { result ≡ is_some (node_in self.now page) }
+    {
+        matches!(self.role(page), Role::RootPage { .. } | Role::Hangs { .. })
+    }
+
+    /// The number of pages that were ever tracked, 0 to 16,384.
+    pub fn pages(&self) -> u64
+        ensures { result ≡ pages_in self.now }
+    {
+        self.roles.len() as u64
+    }
+
+    /// What is known of the place, None where its page is in no tree.
+    pub fn path(&self, place: Place) -> Option<Path>
+        requires { IsSound self.now }
+        ensures { result ≡ option_map (λ n. path_at n place) (node_in self.now (page_of place)) }
+    {
+        match self.spot(place.page()) {
+            Some(spot) => Some(spot.path(place)),
+            None => None,
+        }
+    }
+
+    // Where the page stands, None where it is in no tree.
+    fn spot(&self, page: Page) -> Option<Spot>
+        requires { IsSound self.now }
+        ensures spot { result ≡ spot_with (heading_of self.now) (role_in self.now page) }
+        ensures fits { IfSome result Fits }
+        ensures node { IfSome result (λ s. (n : Node) × (node_in self.now page ≡ Some n) × StandsAt s n) }
+        ensures none { result ≡ None → node_in self.now page ≡ None }
+    {
+        spot_of(&self.header, &self.role(page))
+    }
+
+    /// Whether the present value of a place above the place is invalid; false where its page is in no tree.
+    pub fn in_limbo(&self, map: &PlaceMap, place: Place) -> bool
+        requires { IsSound self.now }
+        ensures { result ≡ option_map_or (limbo_at map.now) (node_in self.now (page_of place)) false }
+    {
+        let page = place.page();
+        match self.spot(page) {
+            Some(spot) => is_cut(
+                &self.roles,
+                map,
+                &Asked::Invalid,
+                spot.level,
+                &self.role(page),
+            ),
+            None => false,
+        }
+    }
+
+    /// Whether the place holds a table no place of which holds anything; false where its page is in no tree.
+    pub fn childless(&self, map: &PlaceMap, place: Place) -> bool
+        requires { IsSound self.now }
+        ensures inside { (n : Node) → node_in self.now (page_of place) ≡ Some n
+            → (result ≡ true) ↔ Childless map.now n place }
+        ensures outside { node_in self.now (page_of place) ≡ None → result ≡ false }
+    {
+        match self.spot(place.page()) {
+            Some(spot) => spot.childless(map, place),
+            None => false,
+        }
+    }
+
+    /// The page is declared null. It is fresh.
+    pub fn nullify(&mut self, page: Page)
+        requires { fresh_in self.old page ≡ true }
+        ensures node { (p : ℕ) → node_in self.new p ≡ node_in self.old p }
+        ensures fresh { (p : ℕ) → fresh_in self.new p ≡ (fresh_in self.old p && not (p == page)) }
+        ensures null { (p : ℕ) → null_in self.new p ≡ (p == page || null_in self.old p) }
+        ensures tracked { SameTracked self.old self.new }
+        ensures sound { IsSound self.old → IsSound self.new }
+        ensures agrees { (map : TheMap) → Agrees self.old map → Agrees self.new map }
+    {
+        put(&mut self.roles, page, Role::Null);
+    }
+
+    // The pages that leave are in no tree any more, and no place of them is broken.
+    fn leave(&mut self, map: &mut PlaceMap, leaving: &Leaving)
+        requires { IsSound self.old }
+        ensures node { (p : ℕ) → node_in self.new p ≡ kept (stays map.old leaving.now) (node_in self.old p) }
+        ensures fresh { (p : ℕ) → fresh_in self.new p ≡ fresh_in self.old p }
+        ensures null { (p : ℕ) → null_in self.new p ≡ null_in self.old p }
+        ensures tracked { SameTracked self.old self.new }
+        ensures sound { IsSound self.new }
+        ensures values { (a : ℕ) → value_at map.new a ≡ value_at map.old a }
+        ensures marks { (a : ℕ) → marks_at map.new a
+            ≡ (if leaves (stays map.old leaving.now) (node_in self.old (page_of a)) then None else marks_at map.old a) }
+        ensures pends { (q a : ℕ) → leaves (stays map.old leaving.now) (node_in self.old (page_of a)) ≡ false
+            → pends_at map.new q a ≡ pends_at map.old q a }
+        ensures dropped { (q a : ℕ) → leaves (stays map.old leaving.now) (node_in self.old (page_of a)) ≡ true
+            → IsIdle (pends_at map.new q a) }
+        ensures map_pages { (p : ℕ) → is_tracked map.new p ≡ is_tracked map.old p }
+    {
+        sweep(&mut self.roles, map, leaving);
+    }
+
+    /// Takes out of the trees each page with a place above it that holds nothing any more, as a DSB may leave it. No
+    /// place of it is broken any more, and nothing waits there. All else stays.
+    pub fn prune(&mut self, map: &mut PlaceMap)
+        requires { IsSound self.old }
+        ensures node { (p : ℕ) → node_in self.new p ≡ kept (is_held map.old) (node_in self.old p) }
+        ensures fresh { (p : ℕ) → fresh_in self.new p ≡ fresh_in self.old p }
+        ensures null { (p : ℕ) → null_in self.new p ≡ null_in self.old p }
+        ensures tracked { SameTracked self.old self.new }
+        ensures sound { IsSound self.new }
+        ensures values { (a : ℕ) → value_at map.new a ≡ value_at map.old a }
+        ensures marks { (a : ℕ) → marks_at map.new a
+            ≡ (if leaves (is_held map.old) (node_in self.old (page_of a)) then None else marks_at map.old a) }
+        ensures pends { (q a : ℕ) → leaves (is_held map.old) (node_in self.old (page_of a)) ≡ false
+            → pends_at map.new q a ≡ pends_at map.old q a }
+        ensures dropped { (q a : ℕ) → leaves (is_held map.old) (node_in self.old (page_of a)) ≡ true
+            → IsIdle (pends_at map.new q a) }
+        ensures map_pages { (p : ℕ) → is_tracked map.new p ≡ is_tracked map.old p }
+    {
+        self.leave(map, &Leaving::Unheld);
+    }
+
+    /// Takes the pages of the root with this first page out of the trees, or those below this place. No place of them is
+    /// broken any more, and nothing waits there. All else stays.
+    pub fn detach(&mut self, map: &mut PlaceMap, at: Attach)
+        requires { IsSound self.old }
+        ensures node { (p : ℕ) → node_in self.new p ≡ kept (stays_without at) (node_in self.old p) }
+        ensures fresh { (p : ℕ) → fresh_in self.new p ≡ fresh_in self.old p }
+        ensures null { (p : ℕ) → null_in self.new p ≡ null_in self.old p }
+        ensures tracked { SameTracked self.old self.new }
+        ensures sound { IsSound self.new }
+        ensures values { (a : ℕ) → value_at map.new a ≡ value_at map.old a }
+        ensures marks { (a : ℕ) → marks_at map.new a
+            ≡ (if leaves (stays_without at) (node_in self.old (page_of a)) then None else marks_at map.old a) }
+        ensures pends { (q a : ℕ) → leaves (stays_without at) (node_in self.old (page_of a)) ≡ false
+            → pends_at map.new q a ≡ pends_at map.old q a }
+        ensures dropped { (q a : ℕ) → leaves (stays_without at) (node_in self.old (page_of a)) ≡ true
+            → IsIdle (pends_at map.new q a) }
+        ensures map_pages { (p : ℕ) → is_tracked map.new p ≡ is_tracked map.old p }
+    {
+        match at {
+            Attach::Root { kind: _, first } => self.leave(map, &Leaving::Root(first)),
+            Attach::Below { place, next: _ } => self.leave(map, &Leaving::Below(place)),
+        }
+    }
+
+    /// The page is tracked, anew where it was before; it is in no tree and isn't a null page. It becomes fresh, and the
+    /// values of its places 0. `Limit(Pages)` exactly where it was never tracked and 16,384 pages were; else `NoMemory`
+    /// where there is none. A refusal changes nothing.
+    pub fn track(&mut self, alloc: Global, map: &mut PlaceMap, page: Page) -> Result<(), TreeFault>
+        requires no_tree { node_in self.old page ≡ None }
+        requires not_null { null_in self.old page ≡ false }
+        ensures node { (p : ℕ) → node_in self.new p ≡ node_in self.old p }
+        ensures fresh { OnOk result ((p : ℕ) → fresh_in self.new p ≡ (p == page || fresh_in self.old p)) }
+        ensures null { (p : ℕ) → null_in self.new p ≡ null_in self.old p }
+        ensures known { OnOk result ((p : ℕ) → known_in self.new p ≡ (p == page || known_in self.old p)) }
+        ensures pages { OnOk result (pages_in self.new ≡ pages_in self.old + (if known_in self.old page then 0 else 1)) }
+        ensures heading { heading_of self.new ≡ heading_of self.old }
+        ensures limit { (result ≡ Err (TreeFault.Limit Which.Pages))
+            ↔ ((known_in self.old page ≡ false) × (16384 ≤ pages_in self.old)) }
+        ensures fault { IfErr result (λ fault. fault ≢ TreeFault.Limit Which.Pages → fault ≡ TreeFault.NoMemory) }
+        ensures same_pages { OnErr result (SamePages self.old self.new) }
+        ensures same_tracked { OnErr result (SameTracked self.old self.new) }
+        ensures values { OnOk result ((a : ℕ) → value_at map.new a ≡ (if page_of a == page then 0 else value_at map.old a)) }
+        ensures marks { OnOk result ((a : ℕ) → marks_at map.new a ≡ (if page_of a == page then None else marks_at map.old a)) }
+        ensures pends { OnOk result ((q a : ℕ) → nat_eq (page_of a) page ≡ false → pends_at map.new q a ≡ pends_at map.old q a) }
+        ensures map_pages { OnOk result ((p : ℕ) → is_tracked map.new p ≡ (nat_eq p page || is_tracked map.old p)) }
+        ensures same_map { OnErr result (IsSame map.old map.new) }
+        ensures sound { IsSound self.old → IsSound self.new }
+        ensures agrees { Agrees self.old map.old → Agrees self.new map.new }
+    {
+        let key = page.get();
+        if !self.roles.contains_key(&key) && self.roles.len() >= MAX_PAGES {
+            return Err(TreeFault::Limit(Which::Pages));
+        }
+        match self.roles.reserve(1) {
+            Ok(()) => {}
+            Err(_) => return Err(TreeFault::NoMemory),
+        }
+        match map.track(alloc, page) {
+            Ok(()) => {}
+            Err(_) => return Err(TreeFault::NoMemory),
+        }
+        match self.roles.insert(key, Role::Fresh) {
+            Ok(_) => Ok(()),
+            Err(_) => Err(TreeFault::NoMemory),
+        }
+    }
+
+    // The kind and the level at which the paths of what is attached begin.
+    fn begin(&self, at: &Attach) -> (Kind, u8)
+        requires sound { IsSound self.now }
+        requires may { MayJudge self.now at.now }
+        ensures low { result.1 ≤ 3 }
+        ensures same { (s : Node) → Contains (starts_of self.now at.now) s → (s.kind ≡ result.0) × (s.level ≡ result.1) }
+        ensures some { (s : Node) × Contains (starts_of self.now at.now) s }
+    {
+        in_ranges(&self.header);
+        match *at {
+            Attach::Root { kind, first: _ } => (kind, start_at(&self.header, kind)),
+            Attach::Below { place, next: _ } => match self.spot(place.page()) {
+                Some(spot) => (spot.kind, spot.level + 1),
+                None => (Kind::El2, 3),
+            },
+        }
+    }
+
+    // The table of the pages at which the paths of what is attached begin.
+    fn start(&self, alloc: Global, at: &Attach) -> Result<IndexMap<u64, Mark>, NoMemory>
+        requires sound { IsSound self.now }
+        requires may { MayJudge self.now at.now }
+        ensures well { IfOk result (λ table. Well (heading_of self.now) (get nat_eq table)) }
+        ensures start { IfOk result (λ table. Starting (heading_of self.now) (get nat_eq table) (starts_of self.now at.now)) }
+    {
+        in_ranges(&self.header);
+        match *at {
+            Attach::Root { kind, first } => {
+                start_root(alloc, kind, first, count_at(&self.header, kind))
+            }
+            Attach::Below { place, next } => match self.spot(place.page()) {
+                Some(spot) => start_below(alloc, &spot, place, next),
+                None => Ok(IndexMap::new(alloc)),
+            },
+        }
+    }
+
+    // The pages that would be attached, a table for each level from the one at which the paths begin.
+    fn survey(
+        &self,
+        alloc: Global,
+        map: &PlaceMap,
+        at: &Attach,
+    ) -> Result<Vec<IndexMap<u64, Mark>>, TreeFault>
+        requires sound { IsSound self.now }
+        requires may { MayJudge self.now at.now }
+        ensures tables { IfOk result (λ tables. IsSurvey tables.items self.now map.now at.now) }
+        ensures fault { IfErr result (λ fault. fault ≡ TreeFault.NoMemory) }
+    {
+        let (_, level) = self.begin(at);
+        let first = match self.start(alloc, at) {
+            Ok(first) => first,
+            Err(NoMemory) => return Err(TreeFault::NoMemory),
+        };
+        match survey(alloc, &self.header, &self.roles, map, first, 3 - level) {
+            Ok(tables) => Ok(tables),
+            Err(NoMemory) => Err(TreeFault::NoMemory),
+        }
+    }
+
+    // Judges what is attached by its survey.
+    fn judge_survey(
+        &self,
+        map: &PlaceMap,
+        at: &Attach,
+        tables: &[IndexMap<u64, Mark>],
+    ) -> Result<(), TreeFault>
+        requires sound { IsSound self.now }
+        requires may { MayJudge self.now at.now }
+        requires survey { IsSurvey tables.now self.now map.now at.now }
+        ensures { Judges (fresh_in self.now) (value_at map.now) (starts_of self.now at.now) (names_pages at.now) result }
+    {
+        let (kind, level) = self.begin(at);
+        judge_tables(&self.roles, map, tables, is_named(at), kind, level)
+    }
+
+    /// Whether these pages can be attached: `NotFresh` with the least page exactly where a path of the attached pages
+    /// ends in a page that isn't fresh, where the named pages of a root don't count, or two different paths end in one
+    /// page; else `BadKind` with the least place exactly where an attached page has a leaf with the Contiguous hint;
+    /// else `GlobalUser` with the least place exactly where, in a tree of the lower range, it has a leaf for every ASID.
+    /// Or `NoMemory` where there is none. It takes time by the number of pages, not of paths.
+    pub fn judge(&self, alloc: Global, map: &PlaceMap, at: Attach) -> Result<(), TreeFault>
+        requires sound { IsSound self.now }
+        requires may { MayJudge self.now at }
+        ensures { Judges (fresh_in self.now) (value_at map.now) (starts_of self.now at) (names_pages at) result }
+    {
+        let tables = self.survey(alloc, map, &at)?;
+        self.judge_survey(map, &at, &tables)
+    }
+
+    /// Attaches pages that can be: those named, and all that paths through fresh pages reach from them. It answers as
+    /// `judge` does, and a refusal changes nothing. Named pages of a root are fresh.
+    pub fn attach(&mut self, alloc: Global, map: &PlaceMap, at: Attach) -> Result<(), TreeFault>
+        requires sound { IsSound self.old }
+        requires may { MayJudge self.old at }
+        requires named { names_pages at ≡ true → (n : Node) → Contains (starts_of self.old at) n
+            → fresh_in self.old n.page ≡ true }
+        ensures judged { Judges (fresh_in self.old) (value_at map.now) (starts_of self.old at) (names_pages at) result }
+        ensures node { OnOk result ((p : ℕ) (m : Node) → (node_in self.new p ≡ Some m) ↔ ((node_in self.old p ≡ Some m)
+            ⊎ ((m.page ≡ p) × Attached (fresh_in self.old) (value_at map.now) (starts_of self.old at) m))) }
+        ensures fresh { OnOk result ((p : ℕ) → fresh_in self.new p
+            ≡ (fresh_in self.old p && is_none (node_in self.new p))) }
+        ensures null { (p : ℕ) → null_in self.new p ≡ null_in self.old p }
+        ensures tracked { SameTracked self.old self.new }
+        ensures same { OnErr result (SamePages self.old self.new) }
+        ensures sound { IsSound self.new }
+    {
+        let tables = self.survey(alloc, map, &at)?;
+        self.judge_survey(map, &at, &tables)?;
+        hang_all(&mut self.roles, &tables);
+        Ok(())
+    }
+}

@@ -1,0 +1,38 @@
+//! The trees of translation tables of a log: what each page is used for, and where it hangs. It stands beside a
+//! `PlaceMap`, which keeps the values of the places and which of them are broken.
+//!
+//! It can be used by itself, with the map, by anyone who sees which pages are tracked and which leave their trees:
+//!
+//! - Keep one `TreeIndex`, at first `TreeIndex::new` of the header, and one `PlaceMap`.
+//! - Call `track` at each page that is initialised, `nullify` at each that is declared null, `prune` after a DSB by which
+//!   a table's place came to hold nothing, and `detach` where a root goes.
+//! - `judge` tells whether pages can be attached, and which page or place is in the way; `attach` attaches them.
+//! - `role`, `is_fresh`, `is_null`, `is_in_tree`, `pages`, `path`, `in_limbo` and `childless` tell what the calls come to.
+//!
+//! Each contract speaks of the node of each page, by the words of `specs/Index.antt`. `null_page` is an example of the
+//! calls, with its proof.
+#![tactic(auto)]
+
+mod climb;
+pub mod example;
+mod fault;
+mod hang;
+mod held;
+mod index;
+mod judge;
+mod leaving;
+mod mark;
+mod role;
+mod spot;
+mod start;
+mod survey;
+mod table;
+mod world;
+
+pub use example::null_page;
+pub use fault::TreeFault;
+pub use index::TreeIndex;
+pub use role::{Attach, Path, Role};
+
+#[cfg(test)]
+mod tests;

@@ -1,0 +1,70 @@
+//! Roles of pages, what a path says of a place, and what is attached.
+
+use bbm_regimes::{Interval, Kind, Page, Place};
+
+/// What a page is used for. Source: project's own choice.
+#[derive(Clone, Copy, Debug, PartialEq, Eq)]
+pub enum Role {
+    /// It was never tracked.
+    Untracked,
+    /// It was tracked, and since then was in no tree and wasn't declared null.
+    Fresh,
+    /// It is a page of a root.
+    RootPage {
+        /// The kind of the root.
+        kind: Kind,
+        /// The first page of the root.
+        first: Page,
+        /// Which of the pages of the root it is, from 0 on.
+        part: u8,
+    },
+    /// It hangs at a place of a page of a tree.
+    Hangs {
+        /// The place.
+        parent: Place,
+        /// The kind of the root.
+        kind: Kind,
+        /// Its level, 1 to 3.
+        level: u8,
+        /// The input page number at which its region begins.
+        base: u64,
+        /// The first page of the root.
+        first: Page,
+    },
+    /// It was in a tree, and left it.
+    Gone,
+    /// It is a null page.
+    Null,
+}
+
+/// What is known of a place of a tree. Source: project's own choice.
+#[derive(Clone, Copy, Debug, PartialEq, Eq)]
+pub struct Path {
+    /// The kind of the tree.
+    pub kind: Kind,
+    /// The level of the place, 0 to 3.
+    pub level: u8,
+    /// The input pages that the place translates.
+    pub region: Interval,
+    /// The first page of the root.
+    pub first: Page,
+}
+
+/// What is attached to a tree or detached from it. Source: project's own choice.
+#[derive(Clone, Copy, Debug, PartialEq, Eq)]
+pub enum Attach {
+    /// The pages of a root.
+    Root {
+        /// The kind of the root.
+        kind: Kind,
+        /// The first page.
+        first: Page,
+    },
+    /// A page below a place of a tree.
+    Below {
+        /// The place.
+        place: Place,
+        /// The page.
+        next: Page,
+    },
+}

@@ -1,0 +1,119 @@
+//! Where a page of a tree stands.
+
+ghost use Rattle.std.specs.Prelude.{◌≡◌, ◌≤◌, ◌+◌, ◌-◌, ◌*◌, ℕ, suc};
+ghost use Rattle.bbm_place_map.specs.declared.map.PlaceMap.{PlaceMap as TheMap};
+ghost use Rattle.bbm_regimes.specs.declared.regime.Kind.{Kind as TheKind};
+ghost use Rattle.bbm_tree_index.specs.Held.{holds_at};
+ghost use Rattle.bbm_regimes.specs.World.{input_pages as input_pages_of};
+ghost use Rattle.bbm_tree_index.specs.Spots.{spot_with, Fits, RoleFits};
+
+use crate::held::{holds_none, next_at};
+use crate::role::{Path, Role};
+use crate::world::{first_input_page, input_pages, start_level};
+use bbm_events::Header;
+use bbm_place_map::PlaceMap;
+use bbm_regimes::{Interval, Kind, Page, Place};
+
+/// Where a page of a tree stands: its kind and level, the input page number at which its region begins, and the first
+/// page of the root. Source: project's own choice.
+#[derive(Clone, Copy, Debug)]
+pub struct Spot {
+    /// The kind of the root.
+    pub kind: Kind,
+    /// The level, 0 to 3.
+    pub level: u8,
+    /// The input page number at which the region begins.
+    pub base: u64,
+    /// The first page of the root.
+    pub first: Page,
+}
+
+/// Where a page with this role stands, None where it is in no tree.
+pub fn spot_of(header: &Header, role: &Role) -> Option<Spot>
+    requires { RoleFits header.now role.now }
+    ensures { result ≡ spot_with header.now role.now }
+{
+    match *role {
+        Role::RootPage { kind, first, part } => {
+            let level = start_level(header.world, kind);
+            Some(Spot {
+                kind,
+                level,
+                base: first_input_page(header.world, kind)
+                    + part as u64 * (512 * input_pages(level)),
+                first,
+            })
+        }
+        Role::Hangs {
+            parent: _,
+            kind,
+            level,
+            base,
+            first,
+        } => Some(Spot {
+            kind,
+            level,
+            base,
+            first,
+        }),
+        _ => None,
+    }
+}
+
+// The level below, at which values are read as at level 3 where there is none.
+fn deeper(level: u8) -> u8
+    requires { level ≤ 3 }
+    ensures low { result ≤ 3 }
+    ensures same { (map : TheMap) (kind : TheKind) (a : ℕ) → holds_at map kind result a ≡ holds_at map kind (suc level) a }
+{
+    if level < 3 { level + 1 } else { 3 }
+}
+
+impl Spot {
+    ghost use Rattle.std.specs.Prelude.{◌↔◌, true};
+    ghost use Rattle.bbm_rules.specs.Tree.{Node};
+    ghost use Rattle.bbm_tree_index.specs.Held.{Childless};
+    ghost use Rattle.bbm_tree_index.specs.Spots.{StandsAt};
+    ghost use Rattle.bbm_rules.specs.Places.{index_of};
+
+    /// The first input page number that the place of the page translates.
+    pub fn start(&self, place: Place) -> u64
+        requires { Fits self.now }
+        ensures { result ≡ self.now.base + index_of place * input_pages_of self.now.level }
+    {
+        self.base + place.index() as u64 * input_pages(self.level)
+    }
+
+    /// Whether the place of the page holds a table no place of which holds anything.
+    pub fn childless(&self, map: &PlaceMap, place: Place) -> bool
+        requires { Fits self.now }
+        ensures { (n : Node) → StandsAt self.now n → (result ≡ true) ↔ Childless map.now n place }
+    {
+        match next_at(map, self.kind, self.level, place) {
+            Some(next) => holds_none(map, self.kind, deeper(self.level), next),
+            None => false,
+        }
+    }
+
+    /// What is known of the place of the page.
+    pub fn path(&self, place: Place) -> Path
+        requires { Fits self.now }
+        ensures kind { result.kind ≡ self.now.kind }
+        ensures level { result.level ≡ self.now.level }
+        ensures lo { result.region.lo ≡ self.now.base + index_of place * input_pages_of self.now.level }
+        ensures hi { result.region.hi ≡ self.now.base + index_of place * input_pages_of self.now.level
+            + input_pages_of self.now.level - 1 }
+        ensures first { result.first ≡ self.now.first }
+    {
+        let lo = self.start(place);
+        Path {
+            kind: self.kind,
+            level: self.level,
+            region: Interval {
+                lo,
+                hi: lo + input_pages(self.level) - 1,
+            },
+            first: self.first,
+        }
+    }
+}

@@ -1,0 +1,211 @@
+//! The pages that paths through fresh pages reach, level by level.
+
+ghost use Rattle.std.specs.Prelude.{◌≡◌, ◌≤◌, ◌<◌, ◌+◌, ◌*◌, ◌&&◌, ◌||◌, ◌==◌, ℕ, suc, Bool, true, false, List, [], ◌∷◌, ◌++◌, Option, Some, is_some, nat_eq, slice_get, ◌%◌, ◌^◌, length, OnOk, IfOk, IfSome};
+ghost use Rattle.indexmap.specs.IndexMap.{get, keys, index_map_len, IsUnique};
+ghost use Rattle.bbm_events.specs.Heading.{Heading};
+ghost use Rattle.bbm_place_map.specs.Map.{value_at};
+ghost use Rattle.bbm_rules.specs.Places.{index_of, page_of};
+ghost use Rattle.bbm_rules.specs.Tree.{Node, next_of};
+ghost use Rattle.bbm_regimes.specs.World.{input_pages};
+ghost use Rattle.bbm_tree_index.specs.Spots.{Fits, RoleFits, StandsAt};
+ghost use Rattle.bbm_tree_index.specs.Survey.{Counts, Found, Partly, Plain, Reached, Surveyed, Uniform, Well, fresh_of, grown};
+ghost use Rattle.bbm_tree_index.specs.declared.mark.Mark.{Mark as TheMark};
+
+use crate::held::place_of;
+use crate::mark::{Mark, add};
+use crate::role::Role;
+use crate::spot::{Spot, spot_of};
+use crate::table::is_fresh;
+use bbm_descriptor::{Desc, Memory, read};
+use bbm_events::Header;
+use bbm_place_map::PlaceMap;
+use bbm_regimes::{Kind, NoMemory, Page, Place};
+use indexmap::IndexMap;
+use std::alloc::Global;
+
+/// The next page of a value at this kind and level, 0 to 3; None where it is no table. Source: Arm ARM (DDI 0487),
+/// "VMSAv8-64 descriptor formats".
+fn next_page(kind: Kind, level: u8, value: u64) -> Option<Page>
+    requires { level ≤ 3 }
+    ensures next { result ≡ next_of kind level value }
+    ensures low { IfSome result (λ next. level < 3) }
+{
+    match read(kind, level, value) {
+        Desc::Table { next, .. } => Some(next),
+        _ => None,
+    }
+}
+
+// Notes the path that goes on through the place of a page that stands there.
+fn expand_place(
+    map: &PlaceMap,
+    spot: &Spot,
+    many: bool,
+    place: Place,
+    below: &mut IndexMap<u64, Mark>,
+) -> Result<(), NoMemory>
+    requires { Fits spot.now }
+    ensures well { OnOk result ((heading : Heading) → Well heading (get nat_eq below.old) → Well heading (get nat_eq below.new)) }
+    ensures grown { OnOk result ((q : ℕ) → get nat_eq below.new q ≡ grown (next_of spot.now.kind spot.now.level (value_at map.now place))
+        (record {
+          role = Role.Hangs place spot.now.kind (suc spot.now.level)
+              (spot.now.base + index_of place * input_pages spot.now.level) spot.now.first;
+          many = many;
+        }) (get nat_eq below.old) q) }
+{
+    match next_page(spot.kind, spot.level, map.value(place)) {
+        Some(next) => {
+            let role = Role::Hangs {
+                parent: place,
+                kind: spot.kind,
+                level: spot.level + 1,
+                base: spot.start(place),
+                first: spot.first,
+            };
+            add(below, next, &Mark { role, many })
+        }
+        None => Ok(()),
+    }
+}
+
+// Notes the paths that go on through the places of a fresh page that stands there.
+fn expand_page(
+    map: &PlaceMap,
+    spot: &Spot,
+    many: bool,
+    page: Page,
+    below: &mut IndexMap<u64, Mark>,
+) -> Result<(), NoMemory>
+    requires { Fits spot.now }
+    ensures well { OnOk result ((heading : Heading) → Well heading (get nat_eq below.old) → Well heading (get nat_eq below.new)) }
+    ensures level { OnOk result ((fresh : ℕ → Bool) (starts : List Node) (k : ℕ) (done : ℕ → Bool) (mark : TheMark) →
+        Uniform fresh (value_at map.now) starts k → fresh page ≡ true → ((a : ℕ) → page_of a ≡ page → done a ≡ false) → mark.many ≡ many →
+        (found : Found (Reached fresh (value_at map.now) starts k) page mark) → StandsAt spot.now found.node →
+        ((q : ℕ) → Counts (Partly fresh (value_at map.now) starts k done) q (get nat_eq below.old q)) →
+        (q : ℕ) → Counts (Partly fresh (value_at map.now) starts k (λ a. done a || page_of a == page)) q (get nat_eq below.new q)) }
+{
+    for index in 0..512 {
+        expand_place(map, spot, many, place_of(page, index), below)?;
+    }
+    Ok(())
+}
+
+// The entry at an index of a table of marks.
+pub fn entry_at(table: &IndexMap<u64, Mark>, index: usize) -> (Page, Mark)
+    requires within { index < index_map_len table.now }
+    requires pages { (p : ℕ) → is_some (get nat_eq table.now p) ≡ true → (p < 2 ^ 48) × (p % 4096 ≡ 0) }
+    ensures at { slice_get (keys table.now) index ≡ Some result.0 }
+    ensures mark { get nat_eq table.now result.0 ≡ Some result.1 }
+    ensures unique { IsUnique nat_eq table.now }
+{
+    let _ = table.len();
+    let (key, mark) = table.get_index(index).unwrap();
+    (Page::new(*key).unwrap(), *mark)
+}
+
+// Notes the paths that go on through a page of a level, where it is fresh.
+fn expand_entry(
+    header: &Header,
+    roles: &IndexMap<u64, Role>,
+    map: &PlaceMap,
+    page: Page,
+    mark: &Mark,
+    below: &mut IndexMap<u64, Mark>,
+) -> Result<(), NoMemory>
+    requires { RoleFits header.now mark.now.role }
+    ensures well { OnOk result ((heading : Heading) → Well heading (get nat_eq below.old) → Well heading (get nat_eq below.new)) }
+    ensures level { OnOk result ((starts : List Node) (k : ℕ) (done : ℕ → Bool) →
+        Uniform (fresh_of roles.now) (value_at map.now) starts k →
+        Plain header.now (Reached (fresh_of roles.now) (value_at map.now) starts k) →
+        ((a : ℕ) → page_of a ≡ page → done a ≡ false) →
+        Found (Reached (fresh_of roles.now) (value_at map.now) starts k) page mark.now →
+        ((q : ℕ) → Counts (Partly (fresh_of roles.now) (value_at map.now) starts k done) q (get nat_eq below.old q)) →
+        (q : ℕ) → Counts (Partly (fresh_of roles.now) (value_at map.now) starts k (λ a. done a || page_of a == page)) q (get nat_eq below.new q)) }
+{
+    if !is_fresh(roles, page) {
+        return Ok(());
+    }
+    match spot_of(header, &mark.role) {
+        Some(spot) => expand_page(map, &spot, mark.many, page, below),
+        None => Ok(()),
+    }
+}
+
+/// The pages that the paths through the fresh pages of a level reach, each with its mark.
+pub fn expand(
+    alloc: Global,
+    header: &Header,
+    roles: &IndexMap<u64, Role>,
+    map: &PlaceMap,
+    level: &IndexMap<u64, Mark>,
+) -> Result<IndexMap<u64, Mark>, NoMemory>
+    requires { Well header.now (get nat_eq level.now) }
+    ensures well { IfOk result (λ below. Well header.now (get nat_eq below)) }
+    ensures level { IfOk result (λ below. (starts : List Node) (k : ℕ) →
+        Uniform (fresh_of roles.now) (value_at map.now) starts k →
+        Plain header.now (Reached (fresh_of roles.now) (value_at map.now) starts k) →
+        ((q : ℕ) → Counts (Reached (fresh_of roles.now) (value_at map.now) starts k) q (get nat_eq level.now q)) →
+        (q : ℕ) → Counts (Reached (fresh_of roles.now) (value_at map.now) starts (suc k)) q (get nat_eq below q)) }
+{
+    let mut below = IndexMap::new(alloc);
+    for index in 0..level.len() {
+        let (page, mark) = entry_at(level, index);
+        expand_entry(header, roles, map, page, &mark, &mut below)?;
+    }
+    Ok(below)
+}
+
+// Adds a table at the end.
+fn push_table(
+    tables: &mut Vec<IndexMap<u64, Mark>>,
+    table: IndexMap<u64, Mark>,
+) -> Result<(), NoMemory>
+    ensures { OnOk result (tables.new.items ≡ tables.old.items ++ table ∷ []) }
+{
+    match tables.push(table) {
+        Ok(()) => Ok(()),
+        Err(_) => Err(NoMemory),
+    }
+}
+
+// Adds the table of the level behind the one with this number, which is the last.
+fn push_level(
+    alloc: Global,
+    header: &Header,
+    roles: &IndexMap<u64, Role>,
+    map: &PlaceMap,
+    tables: &mut Vec<IndexMap<u64, Mark>>,
+    last: usize,
+) -> Result<(), NoMemory>
+    requires count { length tables.old.items ≡ suc last }
+    requires tables { (first : ℕ → Option TheMark) × Surveyed header.now (fresh_of roles.now) (value_at map.now) first tables.old.items }
+    ensures count { OnOk result (length tables.new.items ≡ suc (suc last)) }
+    ensures tables { OnOk result ((first : ℕ → Option TheMark) →
+        Surveyed header.now (fresh_of roles.now) (value_at map.now) first tables.old.items →
+        Surveyed header.now (fresh_of roles.now) (value_at map.now) first tables.new.items) }
+{
+    let next = expand(alloc, header, roles, map, &tables[last])?;
+    push_table(tables, next)
+}
+
+/// The pages that the paths from the starts reach, a table for each level from the start level to 3. The first is given,
+/// and the number of levels behind it.
+pub fn survey(
+    alloc: Global,
+    header: &Header,
+    roles: &IndexMap<u64, Role>,
+    map: &PlaceMap,
+    first: IndexMap<u64, Mark>,
+    behind: u8,
+) -> Result<Vec<IndexMap<u64, Mark>>, NoMemory>
+    requires { Well header.now (get nat_eq first) }
+    ensures count { IfOk result (λ tables. length tables.items ≡ suc behind) }
+    ensures tables { IfOk result (λ tables. Surveyed header.now (fresh_of roles.now) (value_at map.now) (get nat_eq first) tables.items) }
+{
+    let mut tables = Vec::new(alloc);
+    push_table(&mut tables, first)?;
+    for depth in 0..behind {
+        push_level(alloc, header, roles, map, &mut tables, depth as usize)?;
+    }
+    Ok(tables)
+}
