@@ -53,10 +53,6 @@ same_by_truth true b f g = sym (f refl)
 same_by_truth false true f g = g refl
 same_by_truth false false f g = refl
 
-none_held : (o : Option Core) → is_some o ≡ false → o ≡ None
-none_held None k = refl
-none_held (Some c) k = absurd (true≢false k)
-
 -- childless, as the index reads the map and as the law reads it
 module _ (map : PlaceMap) (core : Kind → ℕ → ℕ → Option Core) (is : (kind : Kind) (level a : ℕ)
     → index.core_with (marks_at map a) kind level (value_at map a) ≡ core kind level a) (n : Node) (place : ℕ) where
@@ -64,15 +60,14 @@ module _ (map : PlaceMap) (core : Kind → ℕ → ℕ → Option Core) (is : (k
   childless_to c = record {
     next = c.next;
     table = ap (λ (o : Option Core). index.next_in o) (sym (is n.kind n.level place)) ∙ c.table;
-    holds_none = λ a inside. none_held (core n.kind (suc n.level) a)
-        (ap (λ (o : Option Core). is_some o) (sym (is n.kind (suc n.level) a)) ∙ c.holds_none a inside);
+    holds_none = λ a inside. ap (λ (o : Option Core). is_some o) (sym (is n.kind (suc n.level) a)) ∙ c.holds_none a inside;
   }
 
   pub childless_from : Childless core n place → index.Childless map n place
   childless_from c = record {
     next = c.next;
     table = ap (λ (o : Option Core). index.next_in o) (is n.kind n.level place) ∙ c.table;
-    holds_none = λ a inside. ap (λ (o : Option Core). is_some o) (is n.kind (suc n.level) a ∙ c.holds_none a inside);
+    holds_none = λ a inside. ap (λ (o : Option Core). is_some o) (is n.kind (suc n.level) a) ∙ c.holds_none a inside;
   }
 
 module _ (heading : Heading) (h : List Event) (pe : ℕ) (op : TlbiOp) (xt : ℕ) (scope : Scope) (vmid : Option ℕ) (place : ℕ)

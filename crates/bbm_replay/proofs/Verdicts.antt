@@ -10,7 +10,8 @@ use Rattle.bbm_tree_index.specs.Judged as index
 use Rattle.bbm_tree_index.specs.Paths as index_paths
 use Rattle.bbm_tree_index.specs.declared.fault.TreeFault.{TreeFault}
 use Rattle.bbm_tree_index.specs.declared.fault.TreeFault.TheVariants.{NoMemory, Limit, NotFresh, BadKind, GlobalUser}
-use Rattle.bbm_replay_trees.specs.Judged.{EndsTwice, HasPlace, IsLeast, IsPath, IsUnfresh, Judging, Never, UnfreshEnd}
+use Rattle.bbm_replay_trees.specs.Judged.{EndsTwice, HasPlace, IsLeast, IsPath, IsUnfresh, Never, UnfreshEnd}
+use Rattle.bbm_replay_trees.specs.Judging.{Judging}
 use Rattle.bbm_replay_trees.specs.Judged.{is_bad, is_user_global}
 use Rattle.bbm_replay_trees.specs.Paths.{Attached}
 use Rattle.bbm_replay_trees.specs.Told.{notes}

@@ -20,7 +20,8 @@ use Rattle.bbm_rules.specs.Rules.{bad_kind, break_before_make, global_user, lack
 use Rattle.bbm_rules.specs.Rules.{null_written, page_in_use, rewritten_fresh}
 use Rattle.bbm_rules.specs.Tree.{Node, next_of, node_below, nodes_of_root}
 use Rattle.bbm_replay_trees.specs.Events.{may_reach_limit, rules_of}
-use Rattle.bbm_replay_trees.specs.Judged.{Judging, is_bad, is_user_global}
+use Rattle.bbm_replay_trees.specs.Judged.{is_bad, is_user_global}
+use Rattle.bbm_replay_trees.specs.Judging.{Judging}
 use Rattle.bbm_replay_trees.specs.Told.{AllFit, SameCores, SameFresh, SameNodes, SameNull, SameValues, is_at, limbo_by}
 use Rattle.bbm_replay_trees.specs.Told.{notes}
 
