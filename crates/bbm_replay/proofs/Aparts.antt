@@ -1,5 +1,5 @@
 -- The pages of trees, the fresh pages and the null pages stay apart, and the first two tracked.
-use Rattle.std.proofs.Common.{◌≡◌, ℕ, Bool, true, false, not, ◌&&◌, ◌||◌, ◌⊎◌, ◌==◌, Option, Some, None, is_none, refl, sym, ◌∙◌, ap, subst, inl, inr, true≢false}
+use Rattle.std.proofs.Common.{◌≡◌, ℕ, Bool, true, false, not, ◌&&◌, ◌||◌, ◌==◌, Option, Some, None, is_none, refl, sym, ◌∙◌, ap, subst, inl, inr, true≢false}
 use Rattle.std.proofs.lemmas.Bool.{and_parts, eqb-true, not-true}
 use Rattle.bbm_rules.specs.Tree.{Node}
 use Rattle.bbm_replay_trees.specs.Told.{kept}
@@ -29,12 +29,15 @@ apart_begins old new page a move = record {
     outside : (p : ℕ) (b : Bool) → (p == page) ≡ b → (p == page || old.fresh p) ≡ true → new.node p ≡ None
     outside p true e k = move.nodes p ∙ subst (λ (x : ℕ). old.node x ≡ None) (sym (eqb-true p page e)) move.outside
     outside p false e k = move.nodes p ∙ a.fresh_outside p (sym (ap (λ b. b || old.fresh p) e) ∙ k)
+
     not_null : (p : ℕ) (b : Bool) → (p == page) ≡ b → (p == page || old.fresh p) ≡ true → new.null p ≡ false
     not_null p true e k = move.null p ∙ subst (λ (x : ℕ). old.null x ≡ false) (sym (eqb-true p page e)) move.not_null
     not_null p false e k = move.null p ∙ a.fresh_not_null p (sym (ap (λ b. b || old.fresh p) e) ∙ k)
+
     tracked : (p : ℕ) (b : Bool) → (p == page) ≡ b → (p == page || old.fresh p) ≡ true → new.tracked p ≡ true
     tracked p true e k = move.tracked p ∙ ap (λ b. b || old.tracked p) e
     tracked p false e k = move.tracked p ∙ ap (λ b. b || old.tracked p) e ∙ a.fresh_tracked p (sym (ap (λ b. b || old.fresh p) e) ∙ k)
+
     node_tracked : (p : ℕ) (n : Node) (b : Bool) → (p == page) ≡ b → old.node p ≡ Some n → new.tracked p ≡ true
     node_tracked p n true e k = move.tracked p ∙ ap (λ b. b || old.tracked p) e
     node_tracked p n false e k = move.tracked p ∙ ap (λ b. b || old.tracked p) e ∙ a.node_tracked p n k
@@ -50,6 +53,7 @@ apart_nullifies old new page a move = record {
   where
     was : (p : ℕ) → new.fresh p ≡ true → (old.fresh p ≡ true) × (not (p == page) ≡ true)
     was p k = and_parts (old.fresh p) (not (p == page)) (sym (move.fresh p) ∙ k)
+
     node_not_null : (p : ℕ) (n : Node) (b : Bool) → (p == page) ≡ b → old.node p ≡ Some n → new.null p ≡ false
     node_not_null p n true e k =
         let none : old.node p ≡ None = subst (λ (x : ℕ). old.node x ≡ None) (sym (eqb-true p page e)) (a.fresh_outside page move.was_fresh) in
@@ -71,6 +75,7 @@ apart_grown old new a g fresh null tracked = record {
   where
     was : (p : ℕ) → new.fresh p ≡ true → (old.fresh p ≡ true) × (is_none (new.node p) ≡ true)
     was p k = and_parts (old.fresh p) (is_none (new.node p)) (sym (fresh p) ∙ k)
+
     empty : (o : Option Node) → is_none o ≡ true → o ≡ None
     empty None k = refl
     empty (Some n) k = absurd (true≢false (sym k))

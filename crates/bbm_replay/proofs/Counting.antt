@@ -1,5 +1,5 @@
 -- The first of consecutive pages that isn't fresh is the least one.
-use Rattle.std.proofs.Common.{◌≡◌, ℕ, zero, suc, ◌+◌, ◌*◌, ◌<◌, ◌≤◌, Bool, true, false, not, List, [], ◌∷◌, Option, Some, None, min, unwrap_or, filter, cond, refl, sym, ◌∙◌, ap, subst, arith}
+use Rattle.std.proofs.Common.{◌≡◌, ℕ, zero, suc, ◌+◌, ◌*◌, ◌<◌, ◌≤◌, Bool, true, false, not, List, ◌∷◌, Some, None, min, unwrap_or, filter, cond, refl, sym, ◌∙◌, ap, subst, arith}
 use Rattle.bbm_rules.specs.Lists.{least}
 use Rattle.bbm_rules.specs.Roots.{pages_from}
 
@@ -21,9 +21,9 @@ module _ (fresh : ℕ → Bool) where
       let some : 0 < suc n = omega arith in
       let here : fresh page ≡ true = ap fresh at ∙ all 0 some in
       let rest = none_unfresh n (page + 4096) (λ k below.
-          let next : page + 4096 + 4096 * k ≡ page + 4096 * (k + 1) = omega arith in
-          let within : k + 1 < suc n = omega arith in
-          ap fresh next ∙ all (k + 1) within) in
+      let next : page + 4096 + 4096 * k ≡ page + 4096 * (k + 1) = omega arith in
+      let within : k + 1 < suc n = omega arith in
+      ap fresh next ∙ all (k + 1) within) in
       ap (λ (xs : List ℕ). least xs) (skip page (unfresh (pages_from (page + 4096) n)) here) ∙ rest
 
   least_above : (n page bound : ℕ) → bound ≤ page → bound ≤ unwrap_or (least (unfresh (pages_from page n))) bound
@@ -35,6 +35,7 @@ module _ (fresh : ℕ → Bool) where
     where
       rest : List ℕ
       rest = unfresh (pages_from (page + 4096) n)
+
       by : (b : Bool) → fresh page ≡ b → bound ≤ unwrap_or (least rest) bound → page ≤ unwrap_or (least rest) page
           → bound ≤ unwrap_or (least (cond (not (fresh page)) (page ∷ rest) rest)) bound
       by true e low high = subst (λ (xs : List ℕ). bound ≤ unwrap_or (least xs) bound) (sym (skip page rest e)) low
@@ -59,7 +60,7 @@ module _ (fresh : ℕ → Bool) where
       let last : page + 4096 + 4096 * i ≡ page + 4096 * suc i = omega arith in
       ap (λ (xs : List ℕ). least xs) (skip page (unfresh (pages_from (page + 4096) n)) (ap fresh at ∙ all 0 some))
       ∙ first_unfresh n (page + 4096) i within (λ k less.
-          let next : page + 4096 + 4096 * k ≡ page + 4096 * (k + 1) = omega arith in
-          let less_yet : k + 1 < suc i = omega arith in
-          ap fresh next ∙ all (k + 1) less_yet) (ap fresh last ∙ here)
+      let next : page + 4096 + 4096 * k ≡ page + 4096 * (k + 1) = omega arith in
+      let less_yet : k + 1 < suc i = omega arith in
+      ap fresh next ∙ all (k + 1) less_yet) (ap fresh last ∙ here)
       ∙ ap (λ (x : ℕ). Some x) last

@@ -1,5 +1,5 @@
 -- How far a TLBI covers a broken place.
-use Rattle.std.proofs.Common.{◌≡◌, ℕ, suc, ◌↔◌, Bool, true, false, List, Option, Some, None, is_some, option_and_then, refl, sym, ◌∙◌, ap, subst, true≢false}
+use Rattle.std.proofs.Common.{◌≡◌, ℕ, suc, Bool, true, false, List, Option, Some, None, is_some, option_and_then, refl, sym, ◌∙◌, ap}
 use Rattle.std.specs.Prelude.{unwrap_or}
 use Rattle.bbm_descriptor.specs.Descriptor.{core_of, desc_of}
 use Rattle.bbm_descriptor.specs.Descriptor as descriptor
@@ -15,7 +15,6 @@ use Rattle.bbm_place_map.specs.Map.{marks_at, value_at}
 use Rattle.bbm_place_map.specs.States.{state_from}
 use Rattle.bbm_place_map.specs.declared.map.PlaceMap.{PlaceMap}
 use Rattle.bbm_tlbi_scope.specs.Covers as scopes
-use Rattle.bbm_tlbi_scope.specs.declared.entry.Cover.{Cover}
 use Rattle.bbm_tlbi_scope.specs.declared.entry.Cover.TheVariants.{None as NoCover}
 use Rattle.bbm_tlbi_scope.specs.declared.entry.PlaceView.{PlaceView}
 use Rattle.bbm_tlbi_scope.specs.declared.entry.TagSet.{TagSet}
@@ -30,9 +29,6 @@ use Rattle.bbm_rules.specs.Tree.{Node, held_at, is_childless, next_in, next_of, 
 use Rattle.bbm_tree_index.specs.Held as index
 use Rattle.bbm_replay_trees.specs.Told.{Childless, notes}
 use Rattle.bbm_replay.specs.Leaves.{is_global_core}
-use Rattle.bbm_replay.specs.Standing.{view_of}
-use Rattle.bbm_replay.specs.View.{View, core_at}
-use Rattle.bbm_replay.proofs.Settling.{core_with_is}
 
 pub table_is : (d : Desc) (c : Core) → descriptor.core_in d ≡ Some c → is_table c ≡ is_some (next_in d)
 table_is Invalid c k = let bad : None ≡ Some c = k in absurd cc
@@ -75,7 +71,14 @@ module _ (heading : Heading) (h : List Event) (pe : ℕ) (op : TlbiOp) (xt : ℕ
     (ev : events_of (notes heading h) ≡ h) where
   abbrev seen : Bool → Bool → Bool → TagSet → PlaceView
   seen t g c s = record {
-    kind = n.kind; region = region_of n place; level = n.level; table = t; global = g; childless = c; tags = s }
+    kind = n.kind;
+    region = region_of n place;
+    level = n.level;
+    table = t;
+    global = g;
+    childless = c;
+    tags = s;
+  }
 
   abbrev told : Node → ℕ → PlaceView
   told m v = record {
@@ -98,25 +101,25 @@ module _ (heading : Heading) (h : List Event) (pe : ℕ) (op : TlbiOp) (xt : ℕ
       ≡ cover_at heading Patterns (notes heading h) (Tlbi pe op xt) place
   covered named vmid_is node held t g c s = sym (
       ap (λ (o : Option Scope). unwrap_or (option_and_then (λ (x : Scope). option_and_then (λ (w : PlaceView).
-          Some (scopes.cover_of x (vmid_of heading (events_of (notes heading h)) pe) w))
-          (view_at heading Patterns (notes heading h) place)) o) NoCover)
-          (ap (λ (es : List Event). named_scope heading es pe op xt) ev ∙ named)
+      Some (scopes.cover_of x (vmid_of heading (events_of (notes heading h)) pe) w))
+      (view_at heading Patterns (notes heading h) place)) o) NoCover)
+      (ap (λ (es : List Event). named_scope heading es pe op xt) ev ∙ named)
       ∙ ap (λ (o : Option PlaceView). unwrap_or (option_and_then (λ (w : PlaceView).
-          Some (scopes.cover_of scope (vmid_of heading (events_of (notes heading h)) pe) w)) o) NoCover) view_is
+      Some (scopes.cover_of scope (vmid_of heading (events_of (notes heading h)) pe) w)) o) NoCover) view_is
       ∙ ap (λ (x : Option ℕ). scopes.cover_of scope x (seen table global childless tags))
-          (ap (λ (es : List Event). vmid_of heading es pe) ev ∙ sym vmid_is))
+      (ap (λ (es : List Event). vmid_of heading es pe) ev ∙ sym vmid_is))
     where
       view_is : view_at heading Patterns (notes heading h) place ≡ Some (seen table global childless tags)
       view_is = ap (λ (o : Option Node). option_and_then (λ (m : Node). option_and_then (λ (v : ℕ). Some (told m v))
           (held_at heading Patterns (notes heading h) m place)) o) node
           ∙ ap (λ (o : Option ℕ). option_and_then (λ (v : ℕ). Some (told n v)) o) held
           ∙ ap (λ b. Some (seen b (is_global (desc_of n.kind n.level value)) (is_childless heading Patterns (notes heading h) n value)
-              (tag_set (tags_of heading Patterns n.root (events_of (notes heading h)))))) (sym t)
+          (tag_set (tags_of heading Patterns n.root (events_of (notes heading h)))))) (sym t)
           ∙ ap (λ b. Some (seen table b (is_childless heading Patterns (notes heading h) n value)
-              (tag_set (tags_of heading Patterns n.root (events_of (notes heading h)))))) (sym g)
+          (tag_set (tags_of heading Patterns n.root (events_of (notes heading h)))))) (sym g)
           ∙ ap (λ b. Some (seen table global b (tag_set (tags_of heading Patterns n.root (events_of (notes heading h)))))) (sym c)
           ∙ ap (λ (x : TagSet). Some (seen table global childless x))
-              (ap (λ (es : List Event). tag_set (tags_of heading Patterns n.root es)) ev ∙ sym s)
+          (ap (λ (es : List Event). tag_set (tags_of heading Patterns n.root es)) ev ∙ sym s)
 
 pub marks_of : (m : Option Marks) (x : Marks) → state_from None m ≡ Broken x → m ≡ Some x
 marks_of None x k = let bad : Clean ≡ Broken x = k in absurd cc

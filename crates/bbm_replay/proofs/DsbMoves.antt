@@ -1,30 +1,28 @@
 -- DSBs.
-use Rattle.std.proofs.Common.{◌≡◌, ℕ, ◌<◌, Bool, true, false, cond, ◌&&◌, not, ◌⊎◌, nat_eq, List, [], ◌∷◌, Contains, Option, Some, None, is_none, is_some, refl, sym, ◌∙◌, ap, subst, inl, inr, true≢false}
+use Rattle.std.proofs.Common.{◌≡◌, ℕ, Bool, true, false, cond, ◌&&◌, nat_eq, List, [], ◌∷◌, Contains, Option, Some, None, is_some, refl, sym, ◌∙◌, ap, subst, true≢false}
 use Rattle.std.proofs.lemmas.Bool.{and_parts, eqb-true, not-true}
 use Rattle.bbm_barriers.specs.Options.{is_non}
 use Rattle.bbm_descriptor.specs.Descriptor.{core_of, is_valid}
 use Rattle.bbm_descriptor.specs.declared.desc.Core.{Core}
-use Rattle.bbm_entry_state.specs.Calls.{Completed, Published}
+use Rattle.bbm_entry_state.specs.Calls.{Published}
 use Rattle.bbm_entry_state.specs.Points.{core_in, is_broken, waits}
 use Rattle.bbm_entry_state.specs.declared.marks.Marks.{Marks}
-use Rattle.bbm_entry_state.specs.declared.pending.Pends.{Pends}
 use Rattle.bbm_entry_state.specs.declared.state.EntryState.{EntryState}
-use Rattle.bbm_entry_state.specs.declared.state.EntryState.TheVariants.{Clean, Live, Broken}
 use Rattle.bbm_place_map.specs.States.{state_from}
 use Rattle.bbm_tlbi_scope.specs.declared.entry.Cover.{Cover}
 use Rattle.bbm_events.specs.Fits.{fits_heading}
-use Rattle.bbm_rules.specs.Broken.{broken, keeps}
+use Rattle.bbm_rules.specs.Broken.{broken}
 use Rattle.bbm_rules.specs.Claims.Trust.{Patterns}
 use Rattle.bbm_rules.specs.Held.{held}
 use Rattle.bbm_rules.specs.Lists.{every}
 use Rattle.bbm_rules.specs.Places.{page_of}
 use Rattle.bbm_rules.specs.Prelude.{Barrier, Kind, Heading, Event, Dsb}
-use Rattle.bbm_rules.specs.Tree.{Above, Node, node_below}
-use Rattle.bbm_replay_entries.specs.Events.{Heard, OthersStay}
+use Rattle.bbm_rules.specs.Tree.{Above, Node}
+use Rattle.bbm_replay_entries.specs.Events.{Heard}
 use Rattle.bbm_replay_entries.specs.Stands.{EntryStands}
-use Rattle.bbm_replay_trees.specs.Told.{Hangs, is_held_by, kept, next_in, notes}
+use Rattle.bbm_replay_trees.specs.Told.{is_held_by, kept, next_in, notes}
 use Rattle.bbm_replay.specs.Laws.{Laws}
-use Rattle.bbm_replay.specs.Moves.{Alike, Completes, Hears, Leaves}
+use Rattle.bbm_replay.specs.Moves.{Completes, Hears, Leaves}
 use Rattle.bbm_replay.specs.Told.{Told}
 use Rattle.bbm_replay.specs.View.{View, core_at, state_of, waiting}
 use Rattle.bbm_replay.proofs.Aparts.{apart_leaves, apart_same}
@@ -113,7 +111,7 @@ module _ (heading : Heading) (laws : Laws heading) (h : List Event) (old mid new
     whole_entry k =
         let s = t.entries n a is in
         let unbroken : is_broken (state_of old n.kind n.level a) ≡ false
-            = broken_marks live (old.marks a) ∙ ap (λ (m : Option Marks). is_some m) k in
+        = broken_marks live (old.marks a) ∙ ap (λ (m : Option Marks). is_some m) k in
         entry_same heading laws (e ∷ h) n.kind n.level a (state_of old n.kind n.level a) (state_of new n.kind n.level a)
         (waiting old a) (waiting new a)
         (laws.entries.dsb_whole h n.kind n.level a q dsb (state_of old n.kind n.level a) (waiting old a) (some_pe heading laws h old t) unbroken s)
@@ -126,13 +124,13 @@ module _ (heading : Heading) (laws : Laws heading) (h : List Event) (old mid new
         let s = t.entries n a is in
         let now_broken : is_broken (state_of old n.kind n.level a) ≡ true = broken_marks live (old.marks a) ∙ k in
         let dead : live ≡ None = no_core live (laws.entries.core_where_valid n.kind n.level (old.value a)
-            ∙ ap (λ (x : ℕ). is_valid n.kind n.level x) (t.values a)
-            ∙ not-true _ (and_parts _ _ (sym s.broken ∙ now_broken)).1) in
+        ∙ ap (λ (x : ℕ). is_valid n.kind n.level x) (t.values a)
+        ∙ not-true _ (and_parts _ _ (sym s.broken ∙ now_broken)).1) in
         let mid_broken : is_some (mid.marks a) ≡ true = heard_marks a ∙ k in
         let same_mid : state_from live (mid.marks a) ≡ state_from None (mid.marks a)
-            = same_state live None (mid.marks a) mid_broken in
+        = same_state live None (mid.marks a) mid_broken in
         let same_new : state_from None (new.marks a) ≡ state_of new n.kind n.level a
-            = ap (λ (o : Option Core). state_from o (new.marks a)) (sym dead ∙ ap (λ (x : ℕ). core_of n.kind n.level x) (sym (value_same a))) in
+        = ap (λ (o : Option Core). state_from o (new.marks a)) (sym dead ∙ ap (λ (x : ℕ). core_of n.kind n.level x) (sym (value_same a))) in
         let heard : Heard heading (state_of old n.kind n.level a) q dsb (state_from None (mid.marks a)) = record {
           published = λ loud. subst (λ (x : EntryState). Published (state_of old n.kind n.level a) q dsb heading.pes x) same_mid
               (hears.published loud live a);
@@ -143,7 +141,7 @@ module _ (heading : Heading) (laws : Laws heading) (h : List Event) (old mid new
         (state_from None (new.marks a)) (waiting mid a) (waiting new a) (some_pe heading laws h old t) heard
         (completes.completed a)
         (λ p other b c i. completes.others p a other b c i
-            ∙ ap (λ x. x && waits (mid.pends p a) b c i) (sym (broken_marks None (new.marks a))))
+        ∙ ap (λ x. x && waits (mid.pends p a) b c i) (sym (broken_marks None (new.marks a))))
         (entry_same heading laws h n.kind n.level a (state_of old n.kind n.level a) (state_of old n.kind n.level a)
         (waiting old a) (waiting mid a) s refl (λ p. hears.pends p a)))
 
@@ -165,7 +163,7 @@ module _ (heading : Heading) (laws : Laws heading) (h : List Event) (old mid new
       let n = up.0 in
       let stands = dsb_entry n a.place up.1 in
       let here : holds n.kind n.level a.place ≡ is_some (held heading Patterns n.kind n.level a.place (notes heading (e ∷ h)))
-          = sym (laws.entries.holds (e ∷ h) n.kind n.level a.place (state_of new n.kind n.level a.place) (waiting new a.place) stands) in
+      = sym (laws.entries.holds (e ∷ h) n.kind n.level a.place (state_of new n.kind n.level a.place) (waiting new a.place) stands) in
       subst (λ (k : Kind). holds k a.level a.place ≡ is_some (held heading Patterns k a.level a.place (notes heading (e ∷ h)))) up.2
       (subst (λ (l : ℕ). holds n.kind l a.place ≡ is_some (held heading Patterns n.kind l a.place (notes heading (e ∷ h)))) up.3 here)
 
@@ -200,8 +198,8 @@ module _ (heading : Heading) (laws : Laws heading) (h : List Event) (old mid new
         by (Some m) k =
             let is_marked : is_some (old.marks a) ≡ true = ap (λ (m : Option Marks). is_some m) k in
             marked (core_of kind level (new.value a)) (new.marks a) (no_loss a next
-                (ap (λ (o : Option Core). next_in o)
-                (heard_core a ∙ sym (broken_core (core_of kind level (old.value a)) (old.marks a) is_marked)) ∙ table))
+            (ap (λ (o : Option Core). next_in o)
+            (heard_core a ∙ sym (broken_core (core_of kind level (old.value a)) (old.marks a) is_marked)) ∙ table))
 
     all_above : (xs : List Above) (p : ℕ) (m : Node) → old.node p ≡ Some m → m.above ≡ xs
         → every (λ a. holds m.kind a.level a.place) xs ≡ true
@@ -210,18 +208,18 @@ module _ (heading : Heading) (laws : Laws heading) (h : List Event) (old mid new
         let up = laws.nodes.up h old.node (core_at old) p m a rest t.kept t.fit t.nodes (cores heading h old t) is e in
         let n = up.parent in
         let lists : a ∷ rest ≡ record { place = a.place; level = n.level } ∷ n.above
-            = sym e ∙ ap (λ (x : Node). x.above) up.is_below in
+        = sym e ∙ ap (λ (x : Node). x.above) up.is_below in
         let first : a ≡ record { place = a.place; level = n.level } = cc in
         let others : n.above ≡ rest = cc in
         let level : a.level ≡ n.level = ap (λ (x : Above). x.level) first in
         let kind : m.kind ≡ n.kind = ap (λ (x : Node). x.kind) up.is_below in
         let here : holds m.kind a.level a.place ≡ true
-            = ap (λ (k : Kind). holds k a.level a.place) kind ∙ ap (λ (l : ℕ). holds n.kind l a.place) level
-              ∙ still_holds n.kind n.level a.place m.page up.table in
+        = ap (λ (k : Kind). holds k a.level a.place) kind ∙ ap (λ (l : ℕ). holds n.kind l a.place) level
+        ∙ still_holds n.kind n.level a.place m.page up.table in
         let older : every (λ a. holds n.kind a.level a.place) rest ≡ true
-            = all_above rest (page_of a.place) n up.is_parent others in
+        = all_above rest (page_of a.place) n up.is_parent others in
         let there : every (λ a. holds m.kind a.level a.place) rest ≡ true
-            = ap (λ (k : Kind). every (λ a. holds k a.level a.place) rest) kind ∙ older in
+        = ap (λ (k : Kind). every (λ a. holds k a.level a.place) rest) kind ∙ older in
         rw (here, there) refl
 
     pub all_held : (p : ℕ) → kept (is_held_by holds) (old.node p) ≡ old.node p

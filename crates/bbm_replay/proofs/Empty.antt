@@ -1,11 +1,10 @@
 -- A view of nothing, for the empty history.
-use Rattle.std.proofs.Common.{◌≡◌, ℕ, Bool, true, false, List, [], Option, Some, None, refl, sym, ◌∙◌, true≢false}
-use Rattle.bbm_entry_state.specs.declared.marks.Marks.{Marks}
+use Rattle.std.proofs.Common.{◌≡◌, ℕ, true, false, [], Some, None, refl, sym, ◌∙◌, true≢false}
 use Rattle.bbm_events.specs.Heading.{heading_ok}
 use Rattle.bbm_rules.specs.Claims.Trust.{Patterns}
 use Rattle.bbm_rules.specs.Places.{page_of}
 use Rattle.bbm_rules.specs.Prelude.{Heading}
-use Rattle.bbm_rules.specs.Tree.{Node, node_of, tree}
+use Rattle.bbm_rules.specs.Tree.{node_of, tree}
 use Rattle.bbm_replay.specs.Told.{Told}
 use Rattle.bbm_replay.specs.View.{View}
 

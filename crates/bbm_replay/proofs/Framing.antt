@@ -1,5 +1,5 @@
 -- The parts after an event, by what their objects say.
-use Rattle.std.proofs.Common.{◌≡◌, ℕ, List, ◌∷◌, refl, sym, ◌∙◌, ap, subst}
+use Rattle.std.proofs.Common.{List, ◌∙◌, ap}
 use Rattle.bbm_rules.specs.Prelude.{Heading, Event}
 use Rattle.bbm_entry_state.specs.Points.{waits}
 use Rattle.bbm_entry_state.specs.declared.pending.Pends.{Pends}

@@ -1,5 +1,5 @@
 -- Pages that leave, as the index tells it; and a retired root at the parts.
-use Rattle.std.proofs.Common.{◌≡◌, ℕ, Bool, true, false, cond, not, ◌==◌, List, ◌∷◌, Option, Some, None, Result, Ok, Err, refl, sym, ◌∙◌, ap}
+use Rattle.std.proofs.Common.{◌≡◌, ℕ, Bool, true, false, cond, not, ◌==◌, List, ◌∷◌, Option, Some, None, Ok, Err, refl, sym, ◌∙◌, ap}
 use Rattle.bbm_entry_state.specs.Points.{waits}
 use Rattle.bbm_entry_state.specs.declared.marks.Marks.{Marks}
 use Rattle.bbm_entry_state.specs.declared.pending.Pends.{Pends}
@@ -11,7 +11,6 @@ use Rattle.bbm_rules.specs.Tree.{Node}
 use Rattle.bbm_rules.specs.declared.step_fault.StepFault.{StepFault}
 use Rattle.bbm_tree_index.specs.Held.{leaves}
 use Rattle.bbm_replay_roots.specs.Stands as roots
-use Rattle.bbm_replay_roots.specs.declared.state.RootState.{RootState}
 use Rattle.bbm_replay_trees.specs.Told.{kept}
 use Rattle.bbm_replay.specs.Laws.{Laws}
 use Rattle.bbm_replay.specs.Moves.{Leaves, SamePages, SameTracked}
@@ -21,7 +20,7 @@ use Rattle.bbm_replay.specs.View.{View}
 use Rattle.bbm_replay.specs.declared.parts.Parts.{Parts}
 use Rattle.bbm_replay.proofs.Framing.{stands_next}
 use Rattle.bbm_replay.proofs.Leaving.{after_unroot}
-use Rattle.bbm_replay.proofs.Meeting.{answers, fits_all, stands_same}
+use Rattle.bbm_replay.proofs.Meeting.{answers, fits_all}
 
 -- what leaves and stays, of one page
 stays_there : (keeps : Node → Bool) (o : Option Node) (n : Node) → kept keeps o ≡ Some n → leaves keeps o ≡ false

@@ -1,5 +1,5 @@
 -- Pages that are attached.
-use Rattle.std.proofs.Common.{◌≡◌, ℕ, Bool, true, false, ◌⊎◌, ◌↔◌, ◌==◌, List, [], ◌∷◌, Option, Some, None, refl, sym, ◌∙◌, ap, subst, inl, inr}
+use Rattle.std.proofs.Common.{◌≡◌, ℕ, Bool, true, false, ◌⊎◌, List, [], ◌∷◌, Option, Some, None, refl, sym, ◌∙◌, ap, subst, inl, inr}
 use Rattle.bbm_descriptor.specs.Descriptor.{core_of}
 use Rattle.bbm_descriptor.specs.declared.desc.Core.{Core}
 use Rattle.bbm_entry_state.specs.Points.{core_in, is_broken}
@@ -7,11 +7,11 @@ use Rattle.bbm_entry_state.specs.Standing.{IsIdle}
 use Rattle.bbm_entry_state.specs.declared.marks.Marks.{Marks}
 use Rattle.bbm_place_map.specs.States.{state_from}
 use Rattle.bbm_events.specs.Fits.{fits_heading}
-use Rattle.bbm_rules.specs.Broken.{broken, keeps}
+use Rattle.bbm_rules.specs.Broken.{broken}
 use Rattle.bbm_rules.specs.Claims.Trust.{Patterns}
 use Rattle.bbm_rules.specs.Places.{page_of}
 use Rattle.bbm_rules.specs.Prelude.{Kind, Heading, Event, Root}
-use Rattle.bbm_rules.specs.Tree.{Node, next_of, node_below, nodes_of_root}
+use Rattle.bbm_rules.specs.Tree.{Node, node_below, nodes_of_root}
 use Rattle.bbm_rules.specs.Values.{value_of}
 use Rattle.bbm_replay_entries.specs.Events.{touches}
 use Rattle.bbm_replay_entries.specs.Stands.{EntryStands}
@@ -39,8 +39,11 @@ grown old new starts move = record {
         → (old.node p ≡ Some n) ⊎ ((n.page ≡ p) × Attached old.fresh old.value starts n)
         → (old.node p ≡ Some n) ⊎ ((old.node p ≡ None) × (old.fresh p ≡ true))
     by p n o e (inl is) = inl is
-    by p n None e (inr new_one) = inr (e, subst (λ (x : ℕ). old.fresh x ≡ true) new_one.0
-        (through_fresh old.fresh old.value new_one.1.places new_one.1.start n new_one.1.through))
+    by p n None e (inr new_one) = inr (
+      e,
+      subst (λ (x : ℕ). old.fresh x ≡ true) new_one.0
+          (through_fresh old.fresh old.value new_one.1.places new_one.1.start n new_one.1.through),
+    )
     by p n (Some m) e (inr new_one) =
         let here : new.node p ≡ Some m = (move.node p m).1 (inl e) in
         let there : new.node p ≡ Some n = (move.node p n).1 (inr new_one) in
@@ -64,8 +67,8 @@ module _ (heading : Heading) (laws : Laws heading) where
   planted h old new t e n a fresh untouched value marks idle =
       let level = n.level in
       let same : state_from (core_of n.kind level (value_of h a)) None ≡ state_of new n.kind level a
-          = ap (λ (x : ℕ). state_from (core_of n.kind level x) None) (sym (t.values a) ∙ sym value)
-            ∙ ap (λ (m : Option Marks). state_from (core_of n.kind level (new.value a)) m) (sym marks) in
+      = ap (λ (x : ℕ). state_from (core_of n.kind level x) None) (sym (t.values a) ∙ sym value)
+      ∙ ap (λ (m : Option Marks). state_from (core_of n.kind level (new.value a)) m) (sym marks) in
       subst (λ x. EntryStands heading (e ∷ h) n.kind level a x (waiting new a)) same
       (laws.entries.stays h e n.kind level a _ (waiting new a) (some_pe heading laws h old t) untouched
       (laws.entries.fresh h n.kind level a _ (waiting new a) (some_pe heading laws h old t) t.kept
@@ -107,7 +110,7 @@ module _ (heading : Heading) (laws : Laws heading) where
       let rest = tracked_stay heading laws h old new t e refl move.tracking in
       let g = grown old new (nodes_of_root heading (record { page = page; kind = kind; lock = None })) move in
       let nodes = laws.nodes.root h old.node new.node old.fresh old.value pe page kind lock proper t.fit sound
-          t.nodes t.fresh t.values move.node in
+      t.nodes t.fresh t.values move.node in
       record {
         proper = t.proper;
         kept = sound;

@@ -1,5 +1,5 @@
 -- A write at a place of a tree, at the parts.
-use Rattle.std.proofs.Common.{◌≡◌, ℕ, zero, suc, ◌<◌, arith, ◌%◌, Bool, true, false, cond, not, ◌&&◌, ◌||◌, ◌⊎◌, ◌==◌, List, [], ◌∷◌, Option, Some, None, is_some, option_and_then, Result, Ok, Err, refl, sym, ◌∙◌, ap, subst, inl, inr, true≢false}
+use Rattle.std.proofs.Common.{◌≡◌, ℕ, zero, suc, ◌<◌, arith, ◌%◌, Bool, true, false, cond, not, ◌&&◌, ◌⊎◌, ◌==◌, List, [], ◌∷◌, Option, Some, None, is_some, option_and_then, Result, Ok, Err, refl, sym, ◌∙◌, ap, subst, inl, inr}
 use Rattle.std.specs.Option.{option_map_or}
 use Rattle.bbm_descriptor.specs.Fields.{type_bits}
 use Rattle.bbm_descriptor.specs.Descriptor.{core_of, desc_as, desc_of, differ, invalid, is_valid, leaf}
@@ -8,7 +8,6 @@ use Rattle.bbm_descriptor.specs.declared.desc.Core.{Core}
 use Rattle.bbm_descriptor.specs.declared.desc.Desc.{Desc}
 use Rattle.bbm_descriptor.specs.declared.desc.Desc.TheVariants.{Invalid, Table, Leaf}
 use Rattle.bbm_entry_state.specs.Calls.{Written}
-use Rattle.bbm_entry_state.specs.Points.{core_in}
 use Rattle.bbm_entry_state.specs.Standing.{IsIdle}
 use Rattle.bbm_entry_state.specs.declared.state.EntryState.{EntryState}
 use Rattle.bbm_regimes.specs.Same.{same_kind}
@@ -28,7 +27,6 @@ use Rattle.bbm_rules.specs.declared.step_fault.StepFault.TheVariants.{Broken}
 use Rattle.bbm_place_map.specs.Map.{marks_at, pends_at, value_at}
 use Rattle.bbm_tree_index.specs.Held.{limbo_at}
 use Rattle.bbm_tree_index.specs.Index.{fresh_in, node_in, null_in}
-use Rattle.bbm_tree_index.specs.Nodes.{path_at}
 use Rattle.bbm_tree_index.specs.declared.role.Path.{Path}
 use Rattle.bbm_replay_roots.specs.Stands as roots
 use Rattle.bbm_replay_roots.specs.declared.state.RootState.{RootState}
@@ -89,10 +87,12 @@ table_level kind (suc (suc (suc zero))) v next below k = by (type_bits v == 3) (
   where
     at3 : Bool → Bool → Option ℕ
     at3 a b = next_in (desc_as (cond a leaf (cond b invalid invalid)) kind 3 v)
+
     none : (a b : Bool) → at3 a b ≡ None
     none true b = refl
     none false true = refl
     none false false = refl
+
     by : (a b : Bool) → (type_bits v == 3) ≡ a → (type_bits v == 1) ≡ b → 3 < 3
     by a b e f = let bad : Some next ≡ None = sym k ∙ none (type_bits v == 3) (type_bits v == 1) in absurd cc
 table_level kind (suc (suc (suc (suc level)))) v next below k = absurd (omega arith)

@@ -1,24 +1,19 @@
 -- Which rule an event breaks, and which limit it reaches, by a view.
-use Rattle.std.proofs.Common.{◌≡◌, ℕ, ◌%◌, ◌≤◌, ◌⊎◌, Bool, true, false, cond, not, ◌&&◌, ◌||◌, ◌==◌, nat_le, List, [], ◌∷◌, Option, Some, None, is_some, option_and_then, filter, refl, sym, ◌∙◌, ap}
+use Rattle.std.proofs.Common.{◌≡◌, ℕ, ◌≤◌, Bool, true, false, not, ◌&&◌, ◌||◌, nat_le, List, Option, Some, None, is_some, filter, refl, ◌∙◌, ap}
 use Rattle.std.specs.Option.{option_map_or}
 use Rattle.std.proofs.lemmas.Bool.{le-leb, leb-true}
-use Rattle.bbm_descriptor.specs.Descriptor.{core_of, desc_of, differ, is_valid}
-use Rattle.bbm_regimes.specs.declared.regime.Which.{Which}
 use Rattle.bbm_regimes.specs.declared.regime.Which.TheVariants.{Pages}
-use Rattle.bbm_rules.specs.Attach.{attached_by}
-use Rattle.bbm_rules.specs.Broken.{Breach, broken, first_broken}
+use Rattle.bbm_rules.specs.Broken.{Breach, broken}
 use Rattle.bbm_rules.specs.Claims.Trust.{Patterns}
 use Rattle.bbm_rules.specs.Limits.{limit_of}
 use Rattle.bbm_rules.specs.Lists.{if_so, least}
-use Rattle.bbm_rules.specs.Places.{page_of}
 use Rattle.bbm_rules.specs.Prelude.{Kind, S2, kind_in_world, Heading, Event, Init, Null, Root, Write}
-use Rattle.bbm_rules.specs.Roots.{lock_of, root_pages}
-use Rattle.bbm_rules.specs.Rules.{bad_kind, break_before_make, global_user, lacks, limbo_make, no_lock, not_fresh}
-use Rattle.bbm_rules.specs.Rules.{null_written, page_in_use, rewritten_fresh, wrong_world}
+use Rattle.bbm_rules.specs.Roots.{root_pages}
+use Rattle.bbm_rules.specs.Rules.{bad_kind, break_before_make, global_user, limbo_make, no_lock, not_fresh}
+use Rattle.bbm_rules.specs.Rules.{null_written, page_in_use, rewritten_fresh}
 use Rattle.bbm_rules.specs.declared.rule.Rule.{Rule}
 use Rattle.bbm_rules.specs.declared.rule.Rule.TheVariants.{WrongWorld, NoLock, NullWritten, BreakBeforeMake, LimboMake}
 use Rattle.bbm_rules.specs.declared.rule.Rule.TheVariants.{NotFresh, RewrittenFresh, BadKind, GlobalUser, PageInUse}
-use Rattle.bbm_rules.specs.Tree.{Node}
 use Rattle.bbm_replay_trees.specs.Told.{notes}
 use Rattle.bbm_replay.specs.Rules.{Rules}
 use Rattle.bbm_replay.specs.Told.{Told}

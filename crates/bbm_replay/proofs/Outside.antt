@@ -1,12 +1,12 @@
 -- A write at a place of no tree, at the parts.
-use Rattle.std.proofs.Common.{◌≡◌, ℕ, ◌%◌, Bool, true, false, not, ◌&&◌, ◌||◌, ◌==◌, List, ◌∷◌, Option, Some, None, Result, Ok, Err, refl, sym, ◌∙◌, ap, subst}
+use Rattle.std.proofs.Common.{◌≡◌, ℕ, ◌%◌, Bool, true, false, not, ◌&&◌, ◌||◌, ◌==◌, List, ◌∷◌, Some, None, Ok, Err, refl, sym, ◌∙◌, ap, subst}
 use Rattle.bbm_entry_state.specs.declared.state.EntryState.TheVariants as state
 use Rattle.bbm_rules.specs.Broken.{broken}
 use Rattle.bbm_rules.specs.Claims.Trust.{Patterns}
 use Rattle.bbm_rules.specs.Lists.{if_so}
 use Rattle.bbm_rules.specs.Places.{page_of}
 use Rattle.bbm_rules.specs.Prelude.{Heading, Event, Write}
-use Rattle.bbm_rules.specs.Rules.{bad_kind, break_before_make, global_user, limbo_make, no_lock, not_fresh, null_written}
+use Rattle.bbm_rules.specs.Rules.{null_written}
 use Rattle.bbm_rules.specs.Rules.{rewritten_fresh}
 use Rattle.bbm_rules.specs.declared.rule.Rule.TheVariants.{NoLock, NullWritten, BreakBeforeMake, LimboMake}
 use Rattle.bbm_rules.specs.declared.rule.Rule.TheVariants.{NotFresh, RewrittenFresh, BadKind, GlobalUser}

@@ -1,5 +1,5 @@
 -- Events that change nothing in a view.
-use Rattle.std.proofs.Common.{◌≡◌, ℕ, Bool, true, false, List, ◌∷◌, length, Some, None, refl, sym, ◌∙◌, ap, true≢false}
+use Rattle.std.proofs.Common.{◌≡◌, ℕ, true, false, List, ◌∷◌, length, None, refl, sym, ◌∙◌, true≢false}
 use Rattle.bbm_events.specs.Fits.{fits_heading}
 use Rattle.bbm_rules.specs.Attach.{attached_by}
 use Rattle.bbm_rules.specs.Broken.{broken, keeps}

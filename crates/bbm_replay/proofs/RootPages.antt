@@ -1,6 +1,6 @@
 -- The pages of a root: they lie below 2 ^ 48, and where none is found that isn't fresh, each is fresh.
-use Rattle.std.proofs.Common.{◌≡◌, ℕ, zero, suc, ◌+◌, ◌*◌, ◌%◌, ◌^◌, ◌<◌, ◌≤◌, ◌⊎◌, Bool, true, false, cond, not, ◌&&◌, ◌||◌, ◌==◌, nat_le, nat_lt, List, [], ◌∷◌, length, Contains, slice_index_or, Option, Some, None, filter, refl, sym, ◌∙◌, ap, subst, inl, inr, true≢false, arith, not-suc-le-zero, le_of_suc-le-suc}
-use Rattle.std.proofs.lemmas.Bool.{and_parts, eqb-true, ltb-true, or_cases}
+use Rattle.std.proofs.Common.{◌≡◌, ℕ, zero, suc, ◌+◌, ◌*◌, ◌%◌, ◌^◌, ◌<◌, ◌≤◌, ◌⊎◌, Bool, true, false, cond, not, ◌&&◌, ◌||◌, ◌==◌, nat_le, nat_lt, List, [], ◌∷◌, length, Contains, slice_index_or, None, filter, refl, sym, ◌∙◌, ap, subst, inl, inr, arith, not-suc-le-zero, le_of_suc-le-suc}
+use Rattle.std.proofs.lemmas.Bool.{and_parts, eqb-true, ltb-true}
 use Rattle.bbm_regimes.specs.World.{are_s2_pages, input_pages, page_count, world_ok}
 use Rattle.bbm_regimes.specs.declared.regime.Kind.{Kind}
 use Rattle.bbm_regimes.specs.declared.regime.Kind.TheVariants.{El2, S2, Ttbr0, Ttbr1}
@@ -44,15 +44,18 @@ one page a b = omega arith
 many : (page n : ℕ) → page < 2 ^ 48 → page % (4096 * n) ≡ 0
     → (n ≡ 1) ⊎ ((n ≡ 2) ⊎ ((n ≡ 4) ⊎ ((n ≡ 8) ⊎ (n ≡ 16)))) → page + 4096 * n ≤ 2 ^ 48
 many page n a b c = elim c [
-    | inl e ↦ let r : page % 4096 ≡ 0 = subst (λ (x : ℕ). page % (4096 * x) ≡ 0) e b in omega arith
-    | inr c1 ↦ elim c1 [
+  | inl e ↦ let r : page % 4096 ≡ 0 = subst (λ (x : ℕ). page % (4096 * x) ≡ 0) e b in omega arith
+  | inr c1 ↦ elim c1 [
     | inl e ↦ let r : page % 8192 ≡ 0 = subst (λ (x : ℕ). page % (4096 * x) ≡ 0) e b in omega arith
     | inr c2 ↦ elim c2 [
-    | inl e ↦ let r : page % 16384 ≡ 0 = subst (λ (x : ℕ). page % (4096 * x) ≡ 0) e b in omega arith
-    | inr c3 ↦ elim c3 [
-    | inl e ↦ let r : page % 32768 ≡ 0 = subst (λ (x : ℕ). page % (4096 * x) ≡ 0) e b in omega arith
-    | inr e ↦ let r : page % 65536 ≡ 0 = subst (λ (x : ℕ). page % (4096 * x) ≡ 0) e b in omega arith
-    ] ] ] ]
+      | inl e ↦ let r : page % 16384 ≡ 0 = subst (λ (x : ℕ). page % (4096 * x) ≡ 0) e b in omega arith
+      | inr c3 ↦ elim c3 [
+        | inl e ↦ let r : page % 32768 ≡ 0 = subst (λ (x : ℕ). page % (4096 * x) ≡ 0) e b in omega arith
+        | inr e ↦ let r : page % 65536 ≡ 0 = subst (λ (x : ℕ). page % (4096 * x) ≡ 0) e b in omega arith
+      ]
+    ]
+  ]
+]
 
 counted : (world : World) (kind : Kind) → world_ok world ≡ true → (page_count world kind ≡ 1) ⊎ ((page_count world kind ≡ 2)
     ⊎ ((page_count world kind ≡ 4) ⊎ ((page_count world kind ≡ 8) ⊎ (page_count world kind ≡ 16))))
@@ -82,6 +85,7 @@ module _ (fresh : ℕ → Bool) where
     where
       rest : List ℕ
       rest = filter (λ p. not (fresh p)) ps
+
       by : (least rest ≡ None → AllFresh ps) → (b : Bool) → fresh p ≡ b → (fresh p ≡ true) × AllFresh ps
       by older true e = (e, older (ap (λ (xs : List ℕ). least xs) (sym (ap (λ b. cond (not b) (p ∷ rest) rest) e)) ∙ k))
       by older false e =

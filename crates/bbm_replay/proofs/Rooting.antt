@@ -1,10 +1,9 @@
 -- A root that is declared, at the parts.
-use Rattle.std.proofs.Common.{◌≡◌, ◌≢◌, ℕ, ◌<◌, ◌≤◌, ◌⊎◌, ◌↔◌, Bool, true, false, cond, not, ◌&&◌, List, [], ◌∷◌, length, Contains, Option, Some, None, is_none, filter, Result, Ok, Err, refl, sym, ◌∙◌, ap, subst, inl, inr, nat_le, true≢false}
+use Rattle.std.proofs.Common.{◌≡◌, ℕ, ◌⊎◌, ◌↔◌, Bool, true, false, cond, not, ◌&&◌, List, [], ◌∷◌, length, Option, Some, None, is_none, filter, Result, Ok, Err, refl, sym, ◌∙◌, ap, subst, inl, inr, nat_le}
 use Rattle.bbm_entry_state.specs.Standing.{IsIdle}
-use Rattle.bbm_regimes.specs.declared.regime.Which.{Which}
-use Rattle.bbm_regimes.specs.declared.regime.Which.TheVariants.{Pages, Roots, Values}
+use Rattle.bbm_regimes.specs.declared.regime.Which.TheVariants.{Roots}
 use Rattle.bbm_rules.specs.Answers.{Answers}
-use Rattle.bbm_rules.specs.Broken.{Breach, broken}
+use Rattle.bbm_rules.specs.Broken.{broken}
 use Rattle.bbm_rules.specs.Claims.Trust.{Patterns}
 use Rattle.bbm_rules.specs.Limits.{limit_of}
 use Rattle.bbm_rules.specs.Lists.{if_so, least}
@@ -18,7 +17,7 @@ use Rattle.bbm_rules.specs.declared.rule.Rule.TheVariants.{WrongWorld, NotFresh,
 use Rattle.bbm_rules.specs.declared.step_fault.StepFault.{StepFault}
 use Rattle.bbm_rules.specs.declared.step_fault.StepFault.TheVariants.{Broken, Limit, NoMemory}
 use Rattle.bbm_place_map.specs.Map.{marks_at, pends_at, value_at}
-use Rattle.bbm_tree_index.specs.Index.{fresh_in, heading_of, node_in}
+use Rattle.bbm_tree_index.specs.Index.{fresh_in, heading_of}
 use Rattle.bbm_tree_index.specs.Judged as index
 use Rattle.bbm_tree_index.specs.Paths as index_paths
 use Rattle.bbm_tree_index.specs.declared.fault.TreeFault.{TreeFault}

@@ -1,5 +1,5 @@
 -- A DSB at the parts.
-use Rattle.std.proofs.Common.{◌≡◌, ℕ, ◌<◌, Bool, true, false, cond, not, ◌&&◌, List, [], ◌∷◌, Option, Some, None, is_none, is_some, nat_eq, Result, Ok, Err, refl, sym, ◌∙◌, ap, subst, true≢false}
+use Rattle.std.proofs.Common.{◌≡◌, ℕ, Bool, true, false, cond, ◌&&◌, List, [], ◌∷◌, Option, Some, None, is_some, nat_eq, Ok, refl, sym, ◌∙◌, ap, subst}
 use Rattle.bbm_barriers.specs.Options.{is_non}
 use Rattle.bbm_descriptor.specs.Descriptor.{core_of}
 use Rattle.bbm_descriptor.specs.declared.desc.Core.{Core}

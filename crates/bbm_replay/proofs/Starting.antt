@@ -1,13 +1,12 @@
 -- A page that is made zero, or declared null, at the parts.
-use Rattle.std.proofs.Common.{◌≡◌, ℕ, ◌≤◌, Bool, true, false, ◌||◌, List, ◌∷◌, Option, Some, None, Result, Ok, Err, is_some, refl, sym, ◌∙◌, ap, subst, true≢false}
+use Rattle.std.proofs.Common.{◌≡◌, ℕ, ◌≤◌, Bool, true, false, ◌||◌, List, ◌∷◌, Option, Some, None, Ok, Err, is_some, refl, sym, ◌∙◌, ap, subst, true≢false}
 use Rattle.bbm_regimes.specs.declared.regime.Which.{Which}
 use Rattle.bbm_regimes.specs.declared.regime.Which.TheVariants.{Pages}
 use Rattle.bbm_rules.specs.Answers.{Answers}
-use Rattle.bbm_rules.specs.Broken.{Breach, broken}
+use Rattle.bbm_rules.specs.Broken.{broken}
 use Rattle.bbm_rules.specs.Claims.Trust.{Patterns}
 use Rattle.bbm_rules.specs.Limits.{limit_of}
 use Rattle.bbm_rules.specs.Prelude.{S2, kind_in_world, Heading, Event, Init, Null}
-use Rattle.bbm_rules.specs.Rules.{page_in_use}
 use Rattle.bbm_rules.specs.declared.rule.Rule.{Rule}
 use Rattle.bbm_rules.specs.declared.rule.Rule.TheVariants.{BadKind, GlobalUser, NotFresh, PageInUse, WrongWorld}
 use Rattle.bbm_rules.specs.declared.step_fault.StepFault.{StepFault}
@@ -17,7 +16,7 @@ use Rattle.bbm_tree_index.specs.Index.{fresh_in, known_in, node_in, null_in, pag
 use Rattle.bbm_replay_roots.specs.Stands as roots
 use Rattle.bbm_replay_roots.specs.Stands.{concerns_roots}
 use Rattle.bbm_replay_roots.specs.declared.state.RootState.{RootState}
-use Rattle.bbm_replay_trees.specs.Told.{is_at, notes}
+use Rattle.bbm_replay_trees.specs.Told.{is_at}
 use Rattle.bbm_rules.specs.Tree.{Node}
 use Rattle.bbm_tree_index.specs.declared.fault.TreeFault.{TreeFault}
 use Rattle.bbm_tree_index.specs.declared.fault.TreeFault.TheVariants as tree
@@ -83,6 +82,7 @@ module _ (laws : (heading : Heading) → Laws heading) (rules : (heading : Headi
           other : Which → Bool
           other Pages = true
           other _ = false
+
           by : (f : StepFault) → ((f ≡ Limit Pages) → (known_in old.index page ≡ false) × (16384 ≤ pages_in old.index))
               → ((f ≡ Limit Pages → ⊥) → f ≡ NoMemory) → (heading : Heading) (h : List Event) → Stands old heading h
               → Answers (Err f) (broken heading Patterns h (Init pe page)) (limit_of h (Init pe page))

@@ -1,11 +1,10 @@
 -- TLBIs.
-use Rattle.std.proofs.Common.{◌≡◌, ℕ, ◌<◌, Bool, true, false, ◌&&◌, ◌⊎◌, nat_eq, List, ◌∷◌, Option, Some, None, is_some, refl, sym, ◌∙◌, ap, subst, inl}
+use Rattle.std.proofs.Common.{◌≡◌, ℕ, ◌<◌, Bool, true, false, ◌&&◌, nat_eq, List, ◌∷◌, Option, Some, None, is_some, refl, sym, ◌∙◌, ap, subst, inl}
 use Rattle.bbm_descriptor.specs.Descriptor.{core_of}
 use Rattle.bbm_entry_state.specs.Calls.{Noted}
 use Rattle.bbm_entry_state.specs.Points.{is_broken}
 use Rattle.bbm_entry_state.specs.declared.marks.Marks.{Marks}
 use Rattle.bbm_entry_state.specs.declared.state.EntryState.{EntryState}
-use Rattle.bbm_place_map.specs.States.{state_from}
 use Rattle.bbm_regimes.specs.PeMask.{pe_in}
 use Rattle.bbm_regimes.specs.declared.pe.PeMask.{PeMask}
 use Rattle.bbm_tlbi_scope.specs.Operations.{operation}
@@ -46,7 +45,7 @@ module _ (heading : Heading) (laws : Laws heading) (h : List Event) (old new : V
         → EntryStands heading (e ∷ h) n.kind n.level a (state_of new n.kind n.level a) (waiting new a)
     entry None k =
         let whole : is_broken state ≡ false = broken_marks (core_of n.kind n.level (old.value a)) (old.marks a)
-            ∙ ap (λ (m : Option Marks). is_some m) k in
+        ∙ ap (λ (m : Option Marks). is_some m) k in
         entry_same heading laws (e ∷ h) n.kind n.level a state (state_of new n.kind n.level a) (waiting old a) (waiting new a)
         (laws.entries.tlbi_idle h n.kind n.level a q op xt state (waiting old a) (some_pe heading laws h old t) (inl whole) (t.entries n a is))
         same_new (λ p. move.others p a (off (nat_eq p q) (old.marks a) k))

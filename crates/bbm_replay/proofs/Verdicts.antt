@@ -1,5 +1,5 @@
 -- What the index answers of pages to attach, in the words of the rules.
-use Rattle.std.proofs.Common.{◌≡◌, ℕ, suc, ◌≤◌, ◌⊎◌, ◌↔◌, Bool, List, [], ◌∷◌, Option, Some, None, Result, Ok, Err, refl, inl, inr}
+use Rattle.std.proofs.Common.{◌≡◌, ℕ, Bool, List, Option, Some, None, Result, Ok, Err, inl, inr}
 use Rattle.bbm_descriptor.specs.declared.desc.Desc.{Desc}
 use Rattle.bbm_rules.specs.Attach.{End}
 use Rattle.bbm_rules.specs.Claims.Trust.{Patterns}
@@ -10,7 +10,7 @@ use Rattle.bbm_tree_index.specs.Judged as index
 use Rattle.bbm_tree_index.specs.Paths as index_paths
 use Rattle.bbm_tree_index.specs.declared.fault.TreeFault.{TreeFault}
 use Rattle.bbm_tree_index.specs.declared.fault.TreeFault.TheVariants.{NoMemory, Limit, NotFresh, BadKind, GlobalUser}
-use Rattle.bbm_replay_trees.specs.Judged.{EndsTwice, HasPlace, IsLeast, IsPath, IsUnfresh, Never, UnfreshEnd}
+use Rattle.bbm_replay_trees.specs.Judged.{HasPlace, IsPath, IsUnfresh}
 use Rattle.bbm_replay_trees.specs.Judging.{Judging}
 use Rattle.bbm_replay_trees.specs.Judged.{is_bad, is_user_global}
 use Rattle.bbm_replay_trees.specs.Paths.{Attached}

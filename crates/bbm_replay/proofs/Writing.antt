@@ -1,5 +1,5 @@
 -- Writes.
-use Rattle.std.proofs.Common.{◌≡◌, ℕ, Bool, true, false, cond, ◌&&◌, not, ◌⊎◌, ◌==◌, List, [], ◌∷◌, Option, Some, None, is_none, is_some, refl, sym, ◌∙◌, ap, subst, inl, inr, true≢false}
+use Rattle.std.proofs.Common.{◌≡◌, ℕ, Bool, true, false, cond, ◌&&◌, not, ◌⊎◌, ◌==◌, List, [], ◌∷◌, Option, Some, None, is_some, refl, sym, ◌∙◌, ap, subst, inl, true≢false}
 use Rattle.std.proofs.lemmas.Bool.{eq-eqb, eqb-true, ne_eqb}
 use Rattle.bbm_descriptor.specs.Descriptor.{core_of}
 use Rattle.bbm_descriptor.specs.declared.desc.Core.{Core}
@@ -7,13 +7,12 @@ use Rattle.bbm_entry_state.specs.Calls.{Written}
 use Rattle.bbm_entry_state.specs.Points.{core_in, is_broken, waits}
 use Rattle.bbm_entry_state.specs.Standing.{IsIdle, KeepsPends}
 use Rattle.bbm_entry_state.specs.declared.marks.Marks.{Marks}
-use Rattle.bbm_entry_state.specs.declared.pending.Pends.{Pends}
 use Rattle.bbm_entry_state.specs.declared.state.EntryState.{EntryState}
 use Rattle.bbm_entry_state.specs.declared.state.EntryState.TheVariants.{Clean, Live, Broken}
 use Rattle.bbm_place_map.specs.States.{marks_of_state, state_from}
 use Rattle.bbm_events.specs.Fits.{fits_heading}
 use Rattle.bbm_rules.specs.Attach.{attached_by}
-use Rattle.bbm_rules.specs.Broken.{broken, keeps}
+use Rattle.bbm_rules.specs.Broken.{broken}
 use Rattle.bbm_rules.specs.Claims.Trust.{Patterns}
 use Rattle.bbm_rules.specs.Places.{page_of}
 use Rattle.bbm_rules.specs.Prelude.{Heading, Event, Write}
@@ -22,7 +21,7 @@ use Rattle.bbm_replay_entries.specs.Stands.{EntryStands}
 use Rattle.bbm_replay_trees.specs.Told.{SameCores, notes}
 use Rattle.bbm_replay_trees.specs.Told as told
 use Rattle.bbm_replay.specs.Laws.{Laws}
-use Rattle.bbm_replay.specs.Moves.{Attaches, Grown, SameMap, SameNodes, SamePages, SameTracked, Writes}
+use Rattle.bbm_replay.specs.Moves.{Attaches, Grown, SameNodes, SameTracked, Writes}
 use Rattle.bbm_replay.specs.Told.{Apart, Told}
 use Rattle.bbm_replay.proofs.Aparts.{apart_grown, apart_same}
 use Rattle.bbm_replay.specs.View.{View, core_at, state_of, waiting}
@@ -85,8 +84,8 @@ module _ (heading : Heading) (laws : Laws heading) (h : List Event) (old new : V
   at_place n is written =
       let back = read_back state (core_of n.kind n.level v) (state_of old n.kind n.level place) pe written in
       let same : state ≡ state_of new n.kind n.level place = sym back
-          ∙ ap (λ (x : ℕ). state_from (core_of n.kind n.level x) (marks_of_state state)) (sym value_here)
-          ∙ ap (λ (m : Option Marks). state_from (core_of n.kind n.level (new.value place)) m) (sym marks_here) in
+      ∙ ap (λ (x : ℕ). state_from (core_of n.kind n.level x) (marks_of_state state)) (sym value_here)
+      ∙ ap (λ (m : Option Marks). state_from (core_of n.kind n.level (new.value place)) m) (sym marks_here) in
       subst (λ x. EntryStands heading (e ∷ h) n.kind n.level place x (waiting new place)) same
       (laws.entries.write h n.kind n.level place pe v (state_of old n.kind n.level place) state (waiting old place)
       (waiting new place) (some_pe heading laws h old t) written left (t.entries n place is))
@@ -130,6 +129,7 @@ module _ (heading : Heading) (laws : Laws heading) (h : List Event) (old new : V
             (move.value a ∙ ap (λ b. cond b v (old.value a)) k)
             (move.marks a ∙ ap (λ b. cond b (marks_of_state state) (old.marks a)) k)
             (λ q. move.pends q a (off_place a (not (is_broken state)) k))
+
         outside : (a : ℕ) → new.node (page_of a) ≡ None → (b : Bool) → (a == place) ≡ b → new.marks a ≡ None
         outside a here true k =
             let same : a ≡ place = eqb-true a place k in
@@ -168,7 +168,7 @@ module _ (heading : Heading) (laws : Laws heading) (h : List Event) (old new : V
         let sound = keeps_more heading h e t.kept unbroken in
         let proper = laws.nodes.proper t.proper in
         let nodes = laws.nodes.write h old.node new.node old.fresh old.value (core_at old) n pe place v next proper
-            t.fit sound t.nodes t.fresh t.values (cores heading h old t) is empty table attached.node in
+        t.fit sound t.nodes t.fresh t.values (cores heading h old t) is empty table attached.node in
         after_write n is written (grown old new (node_below n place next ∷ []) attached) nodes
         (laws.pages.fresh_attached h old.fresh new.fresh new.node e refl refl t.fresh nodes attached.fresh)
         (apart_grown old new t.apart (grown old new (node_below n place next ∷ []) attached) attached.fresh null tracking.tracked) idle
@@ -201,11 +201,12 @@ module _ (heading : Heading) (laws : Laws heading) (h : List Event) (old new : V
             → EntryStands heading (e ∷ h) m.kind m.level a (state_of new m.kind m.level a) (waiting new a)
         entry m a here =
             let k : (a == place) ≡ false = ne_eqb a place (λ same.
-                let both : Some m ≡ None = sym here ∙ ap (λ (x : ℕ). old.node (page_of x)) same ∙ away in absurd cc) in
+            let both : Some m ≡ None = sym here ∙ ap (λ (x : ℕ). old.node (page_of x)) same ∙ away in absurd cc) in
             carried heading laws h old new t e m a here (swapped a k)
             (move.value a ∙ ap (λ b. cond b v (old.value a)) k)
             (move.marks a ∙ ap (λ b. cond b (marks_of_state state) (old.marks a)) k)
             (λ q. move.pends q a (off_place a (not (is_broken state)) k))
+
         outside : (a : ℕ) → old.node (page_of a) ≡ None → (b : Bool) → (a == place) ≡ b → new.marks a ≡ None
         outside a here true k = move.marks a ∙ ap (λ b. cond b (marks_of_state state) (old.marks a)) k
             ∙ ap (λ (s : EntryState). marks_of_state s) clean

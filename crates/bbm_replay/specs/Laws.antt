@@ -26,7 +26,7 @@ use Rattle.bbm_rules.specs.Pages.{initialised, is_fresh}
 use Rattle.bbm_rules.specs.Places.{page_of}
 use Rattle.bbm_rules.specs.Prelude.{Barrier, Kind, Heading, Event, Init, Null, Root, Unroot, Write, Dsb, Tlbi, TlbiOp}
 use Rattle.bbm_rules.specs.Reach.{reaches}
-use Rattle.bbm_rules.specs.Tree.{Above, Node, next_of, node_below, node_of, nodes_of_root}
+use Rattle.bbm_rules.specs.Tree.{Above, Node, next_of, node_below, nodes_of_root}
 use Rattle.bbm_rules.specs.Values.{value_of}
 use Rattle.bbm_replay_entries.specs.Events.{Heard, OthersStay, OthersWait, touches}
 use Rattle.bbm_replay_entries.specs.Stands.{ByValue, EntryStands, held_now}

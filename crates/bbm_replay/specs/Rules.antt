@@ -1,12 +1,11 @@
 -- What the crates below prove of the rules that an event breaks and of the limit that it reaches, as one record, so that
 -- each proof here takes it as one hypothesis.
-use Rattle.std.specs.Prelude.{◌≡◌, ℕ, ◌%◌, ◌⊎◌, Bool, true, false, not, ◌&&◌, ◌||◌, ◌==◌, nat_le, List, [], ◌∷◌, length}
+use Rattle.std.specs.Prelude.{◌≡◌, ℕ, ◌%◌, Bool, true, false, not, ◌&&◌, ◌||◌, ◌==◌, nat_le, List, [], ◌∷◌, length}
 use Rattle.std.specs.Prelude.{Option, Some, None, is_some, filter, option_and_then}
 use Rattle.bbm_descriptor.specs.Descriptor.{core_of, desc_of, differ, is_valid}
 use Rattle.bbm_descriptor.specs.declared.desc.Core.{Core}
 use Rattle.bbm_histories.specs.Tree.{Proper}
-use Rattle.bbm_regimes.specs.declared.regime.Which.{Which}
-use Rattle.bbm_regimes.specs.declared.regime.Which.TheVariants.{Pages, Roots, Values}
+use Rattle.bbm_regimes.specs.declared.regime.Which.TheVariants.{Pages}
 use Rattle.bbm_rules.specs.Attach.{attached_by}
 use Rattle.bbm_rules.specs.Broken.{broken, first_broken}
 use Rattle.bbm_rules.specs.Claims.Trust.{Patterns}

@@ -12,7 +12,6 @@ use crate::laws::{laws, rules};
 use crate::parts::Parts;
 use crate::world::has_kind;
 use bbm_descriptor::Memory;
-
 use bbm_place_map::PlaceMap;
 use bbm_regimes::{Kind, Page, Pe, Place};
 use bbm_replay_roots::law_others;

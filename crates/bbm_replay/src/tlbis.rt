@@ -60,9 +60,11 @@ impl Parts {
                 let _ = self.map.restless();
                 let index = &self.index;
                 let roots = &self.roots;
-                match self.map.issue(alloc, pe, reach, op.is_broadcast(), |map, place| {
-                    cover_of(map, index, roots, scope, vmid, place)
-                }) {
+                match self
+                    .map
+                    .issue(alloc, pe, reach, op.is_broadcast(), |map, place| {
+                        cover_of(map, index, roots, scope, vmid, place)
+                    }) {
                     Ok(()) => {
                         let _ = self.map.restless();
                         self.roots.issue_ready(pe, op, xt);

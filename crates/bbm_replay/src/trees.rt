@@ -60,7 +60,10 @@ impl Parts {
         if !has_kind(&self.header, kind) {
             return Err(StepFault::Broken(Rule::WrongWorld, 0));
         }
-        match self.index.judge(alloc, &self.map, Attach::Root { kind, first: page }) {
+        match self
+            .index
+            .judge(alloc, &self.map, Attach::Root { kind, first: page })
+        {
             Ok(()) => {}
             Err(fault) => return Err(step_fault(fault)),
         }
@@ -73,7 +76,10 @@ impl Parts {
             Err(fault) => return Err(fault),
         }
         let _ = self.map.restless();
-        match self.index.attach(alloc, &self.map, Attach::Root { kind, first: page }) {
+        match self
+            .index
+            .attach(alloc, &self.map, Attach::Root { kind, first: page })
+        {
             Ok(()) => {}
             Err(_) => return Err(StepFault::NoMemory),
         }

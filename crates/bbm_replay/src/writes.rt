@@ -225,7 +225,10 @@ impl Parts {
         laws();
         rules();
         law_others();
-        match self.index.attach(alloc, &self.map, Attach::Below { place, next }) {
+        match self
+            .index
+            .attach(alloc, &self.map, Attach::Below { place, next })
+        {
             Ok(()) => {
                 self.map.set(place, value, state.write(pe, new));
                 let _ = self.map.restless();

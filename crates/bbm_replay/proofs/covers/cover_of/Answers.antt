@@ -1,4 +1,4 @@
-use Rattle.std.proofs.Common.{◌≡◌, ℕ, Bool, true, false, Option, Some, None, is_some, refl, sym, ◌∙◌, ap, true≢false}
+use Rattle.std.proofs.Common.{Option, is_some, sym, ◌∙◌, ap, true≢false}
 use Rattle.bbm_descriptor.specs.Descriptor.{core_of, desc_of}
 use Rattle.bbm_entry_state.specs.declared.marks.Marks.{Marks}
 use Rattle.bbm_place_map.specs.Map.{marks_at, value_at}
@@ -38,20 +38,26 @@ returns-in-Some c heading h pe op xt m =
     let marked = marks_of (marks_at map place) x (sym c.state.ensures ∙ c.in-Broken.is) in
     let stands = m.told.entries n place at.1 in
     let held = held_of (held_at heading Patterns (notes heading h) n place) (core_of n.kind n.level) x.core
-        (sym stands.core ∙ core_of_marks (core_of n.kind n.level (value_at map place)) (marks_at map place) x marked) in
+    (sym stands.core ∙ core_of_marks (core_of n.kind n.level (value_at map place)) (marks_at map place) x marked) in
     let inside = c.childless.ensures.inside n at.1 in
     let law = c.law_childless_by_cores.ensures heading h (node_in index) (core_at view) n place held.0 m.told.kept m.told.fit
-        m.told.nodes (cores heading h view m.told) at.1 held.1 in
+    m.told.nodes (cores heading h view m.told) at.1 held.1 in
     c.cover.ensures
     ∙ ap (λ (y : Path). scopes.cover_of c.args.scope c.args.vmid (record {
-        kind = y.kind; region = y.region; level = y.level; table = c.is_table.result; global = c.is_global.result;
-        childless = c.childless.result; tags = c.tags_of.result })) at.2
+      kind = y.kind;
+      region = y.region;
+      level = y.level;
+      table = c.is_table.result;
+      global = c.is_global.result;
+      childless = c.childless.result;
+      tags = c.tags_of.result;
+    })) at.2
     ∙ covered heading h pe op xt c.args.scope c.args.vmid place n held.0 c.is_table.result c.is_global.result
-        c.childless.result c.tags_of.result (c.law_notes_keep_the_events.ensures heading Patterns h)
-        m.named m.vmid_is (sym (m.told.nodes (page_of place)) ∙ at.1) held.1
-        (c.is_table.ensures ∙ table_is (desc_of n.kind n.level held.0) x.core held.2)
-        (c.is_global.ensures ∙ global_is (desc_of n.kind n.level held.0) x.core held.2)
-        (same_by_truth c.childless.result _
-            (λ k. law.1 (childless_to map (core_at view) (λ kind level a. core_with_is (marks_at map a) kind level (value_at map a)) n place (inside.0 k)))
-            (λ k. inside.1 (childless_from map (core_at view) (λ kind level a. core_with_is (marks_at map a) kind level (value_at map a)) n place (law.0 k))))
-        (c.tags_of.ensures heading h m.stands ∙ ap (λ (y : Path). tag_set (tags_of heading Patterns y.first h)) at.2)
+    c.childless.result c.tags_of.result (c.law_notes_keep_the_events.ensures heading Patterns h)
+    m.named m.vmid_is (sym (m.told.nodes (page_of place)) ∙ at.1) held.1
+    (c.is_table.ensures ∙ table_is (desc_of n.kind n.level held.0) x.core held.2)
+    (c.is_global.ensures ∙ global_is (desc_of n.kind n.level held.0) x.core held.2)
+    (same_by_truth c.childless.result _
+    (λ k. law.1 (childless_to map (core_at view) (λ kind level a. core_with_is (marks_at map a) kind level (value_at map a)) n place (inside.0 k)))
+    (λ k. inside.1 (childless_from map (core_at view) (λ kind level a. core_with_is (marks_at map a) kind level (value_at map a)) n place (law.0 k))))
+    (c.tags_of.ensures heading h m.stands ∙ ap (λ (y : Path). tag_set (tags_of heading Patterns y.first h)) at.2)

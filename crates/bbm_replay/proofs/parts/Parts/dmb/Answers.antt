@@ -10,4 +10,4 @@ returns c =
     (λ heading h s. c.law_barriers.ensures.dmb heading h c.args.pe c.args.dsb)
     (λ h. c.law_barriers.ensures.dmb_limit h c.args.pe c.args.dsb)
     (λ heading h s. c.law_others.ensures old.roots heading h (Dmb c.args.pe c.args.dsb) s refl
-        (c.law_barriers.ensures.dmb heading h c.args.pe c.args.dsb)) tt
+    (c.law_barriers.ensures.dmb heading h c.args.pe c.args.dsb)) tt

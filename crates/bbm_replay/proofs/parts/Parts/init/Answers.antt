@@ -1,4 +1,4 @@
-use Rattle.std.proofs.Common.{◌≡◌, ℕ, refl, sym, ◌∙◌, ap, Err}
+use Rattle.std.proofs.Common.{refl, sym, ◌∙◌, ap, Err}
 use Rattle.bbm_entry_state.specs.Points.{waits}
 use Rattle.bbm_tree_index.specs.Index.{node_in, null_in}
 use Rattle.bbm_tree_index.specs.declared.fault.TreeFault.{TreeFault}

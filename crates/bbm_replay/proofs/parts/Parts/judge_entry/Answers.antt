@@ -13,7 +13,7 @@ pub returns-in-Some : goal.returns-in-Some
 returns-in-Some c = entry_locked c.laws.ensures c.rules.ensures c.args.self.now c.args.pe c.args.place c.args.value c.requires.may
     c.args.path.now c.requires.at c.args.old.now c.args.new.now c.requires.old c.requires.new c.without_lock.result
     (λ heading h s. c.without_lock.ensures heading h s
-        ∙ ap (λ (x : ℕ). option_and_then (λ l. if_so (lacks h c.args.pe l) x) (lock_of h c.args.path.now.first)) c.get.ensures.value)
+    ∙ ap (λ (x : ℕ). option_and_then (λ l. if_so (lacks h c.args.pe l) x) (lock_of h c.args.path.now.first)) c.get.ensures.value)
     c.in-Some.at c.in-Some.is
 
 no_some : (o : Option ℕ) → ((x : ℕ) → o ≡ Some x → ⊥) → o ≡ None
@@ -25,7 +25,7 @@ returns-then-differ c = rw c.get-then-differ.ensures.value
     (entry_differs c.laws.ensures c.rules.ensures c.args.self.now c.args.pe c.args.place c.args.value c.requires.may
     c.args.path.now c.requires.at c.args.old.now c.args.new.now c.requires.old c.requires.new c.without_lock.result
     (λ heading h s. c.without_lock.ensures heading h s
-        ∙ ap (λ (x : ℕ). option_and_then (λ l. if_so (lacks h c.args.pe l) x) (lock_of h c.args.path.now.first)) c.get.ensures.value)
+    ∙ ap (λ (x : ℕ). option_and_then (λ l. if_so (lacks h c.args.pe l) x) (lock_of h c.args.path.now.first)) c.get.ensures.value)
     (no_some c.without_lock.result c.in_default.not-Some)
     (sym c.differ.ensures ∙ c.if-differ.true))
 
@@ -34,7 +34,7 @@ returns-then-makes_in_limbo c = rw c.get-then-makes_in_limbo.ensures.value
     (entry_limbo c.laws.ensures c.rules.ensures c.args.self.now c.args.pe c.args.place c.args.value c.requires.may
     c.args.path.now c.requires.at c.args.old.now c.args.new.now c.requires.old c.requires.new c.without_lock.result
     (λ heading h s. c.without_lock.ensures heading h s
-        ∙ ap (λ (x : ℕ). option_and_then (λ l. if_so (lacks h c.args.pe l) x) (lock_of h c.args.path.now.first)) c.get.ensures.value)
+    ∙ ap (λ (x : ℕ). option_and_then (λ l. if_so (lacks h c.args.pe l) x) (lock_of h c.args.path.now.first)) c.get.ensures.value)
     (no_some c.without_lock.result c.in_default.not-Some)
     (sym c.differ.ensures ∙ c.if-differ.false)
     (ap (λ b. b && option_map_or (limbo_at c.args.self.now.map) (node_in c.args.self.now.index (page_of c.args.place)) false) (sym c.is_some.ensures)
@@ -44,7 +44,7 @@ pub returns : goal.returns
 returns c = entry_clear c.laws.ensures c.rules.ensures c.args.self.now c.args.pe c.args.place c.args.value c.requires.may
     c.args.path.now c.requires.at c.args.old.now c.args.new.now c.requires.old c.requires.new c.without_lock.result
     (λ heading h s. c.without_lock.ensures heading h s
-        ∙ ap (λ (x : ℕ). option_and_then (λ l. if_so (lacks h c.args.pe l) x) (lock_of h c.args.path.now.first)) c.get.ensures.value)
+    ∙ ap (λ (x : ℕ). option_and_then (λ l. if_so (lacks h c.args.pe l) x) (lock_of h c.args.path.now.first)) c.get.ensures.value)
     (no_some c.without_lock.result c.in_default.not-Some)
     (sym c.differ.ensures ∙ c.if-differ.false)
     (ap (λ b. b && option_map_or (limbo_at c.args.self.now.map) (node_in c.args.self.now.index (page_of c.args.place)) false) (sym c.is_some.ensures)

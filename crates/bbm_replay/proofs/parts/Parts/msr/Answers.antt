@@ -1,5 +1,3 @@
-use Rattle.std.proofs.Common.{refl}
-use Rattle.bbm_rules.specs.Prelude.{Msr}
 use Rattle.bbm_replay.proofs.Meeting.{meets_msr}
 use Rattle.bbm_replay.proofs.parts.Parts.msr.Goals as goal
 

@@ -1,4 +1,4 @@
-use Rattle.std.proofs.Common.{◌≡◌, ℕ, ◌<◌, refl, sym, ◌∙◌, ap, subst}
+use Rattle.std.proofs.Common.{◌<◌, sym, ◌∙◌, ap, subst}
 use Rattle.bbm_entry_state.specs.declared.state.EntryState.{EntryState}
 use Rattle.bbm_rules.specs.Places.{page_of}
 use Rattle.bbm_rules.specs.Prelude.{Heading}
@@ -20,8 +20,8 @@ returns-in-Some c heading h s =
     ∙ ap (λ (x : EntryState). phase_in x c.args.pe) c.state_at.ensures
     ∙ ap (λ (x : Path). phase_in (state_of (view_of p.map p.index) x.kind x.level c.args.place) c.args.pe) at.2
     ∙ sym (c.law_entry_phase.ensures.phase heading h n c.args.place c.args.pe (state_of (view_of p.map p.index) n.kind n.level c.args.place)
-        (waiting (view_of p.map p.index) c.args.place) below (sym (s.told.nodes (page_of c.args.place)) ∙ at.1)
-        (s.told.entries n c.args.place at.1))
+    (waiting (view_of p.map p.index) c.args.place) below (sym (s.told.nodes (page_of c.args.place)) ∙ at.1)
+    (s.told.entries n c.args.place at.1))
 
 pub returns-in-None : goal.returns-in-None
 returns-in-None c heading h s =

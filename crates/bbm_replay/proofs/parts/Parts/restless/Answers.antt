@@ -1,15 +1,14 @@
-use Rattle.std.proofs.Common.{◌≡◌, ℕ, true, false, List, Option, Some, None, is_some, refl, sym, ◌∙◌, ap}
+use Rattle.std.proofs.Common.{◌≡◌, ℕ, Option, Some, None, is_some, refl, sym, ◌∙◌, ap}
 use Rattle.bbm_descriptor.specs.Descriptor.{core_of}
 use Rattle.bbm_entry_state.specs.declared.marks.Marks.{Marks}
 use Rattle.bbm_place_map.specs.Map.{marks_at, restless_place, value_at}
 use Rattle.bbm_rules.specs.Claims.Trust.{Patterns}
 use Rattle.bbm_rules.specs.Phases.{is_restless}
 use Rattle.bbm_rules.specs.Places.{page_of}
-use Rattle.bbm_rules.specs.Prelude.{Heading, Event}
 use Rattle.bbm_rules.specs.Tree.{Node}
 use Rattle.bbm_tree_index.specs.Index.{node_in}
 use Rattle.bbm_replay_trees.specs.Told.{notes}
-use Rattle.bbm_replay.specs.Standing.{Stands, view_of}
+use Rattle.bbm_replay.specs.Standing.{view_of}
 use Rattle.bbm_replay.specs.View.{state_of, waiting}
 use Rattle.bbm_replay.specs.declared.parts.Parts.{Parts}
 use Rattle.bbm_replay.proofs.DsbMoves.{broken_marks}
@@ -25,6 +24,7 @@ returns c heading h s = c.restless.ensures.count
   where
     p : Parts
     p = c.args.self.now
+
     by : (a : ℕ) (o : Option Node) → node_in p.index (page_of a) ≡ o
         → is_restless heading Patterns (notes heading h) a ≡ is_some (marks_at p.map a)
     by a (Some n) k = c.law_entry_phase.ensures.restless heading h n a (state_of (view_of p.map p.index) n.kind n.level a)
@@ -32,5 +32,6 @@ returns c heading h s = c.restless.ensures.count
         ∙ broken_marks (core_of n.kind n.level (value_at p.map a)) (marks_at p.map a)
     by a None k = c.law_entry_phase.ensures.outside_restless heading h a (sym (s.told.nodes (page_of a)) ∙ k)
         ∙ sym (ap (λ (m : Option Marks). is_some m) (s.told.outside a k))
+
     is : (a : ℕ) → is_restless heading Patterns (notes heading h) a ≡ is_some (marks_at p.map a)
     is a = by a (node_in p.index (page_of a)) refl

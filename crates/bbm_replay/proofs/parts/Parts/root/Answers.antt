@@ -1,12 +1,8 @@
-use Rattle.std.proofs.Common.{◌≡◌, ℕ, ◌+◌, ◌*◌, ◌≤◌, ◌^◌, true, false, Some, None, filter, not, refl, sym, ◌∙◌, ap, subst, inl, inr, Err, Ok, Contains, true≢false}
-use Rattle.std.proofs.lemmas.Bool.{and_parts}
+use Rattle.std.proofs.Common.{◌≡◌, ◌+◌, ◌*◌, ◌≤◌, ◌^◌, refl, sym, ◌∙◌, ap, subst, Err, Contains, true≢false}
 use Rattle.bbm_regimes.specs.World.{page_count}
-use Rattle.bbm_entry_state.specs.Points.{waits}
-use Rattle.bbm_events.specs.Fits.{is_pe, is_root_lock, is_root_page}
-use Rattle.bbm_rules.specs.Prelude.{Heading, kind_in_world, Root}
+use Rattle.bbm_rules.specs.Prelude.{Heading, kind_in_world}
 use Rattle.bbm_rules.specs.declared.step_fault.StepFault.{StepFault}
-use Rattle.bbm_rules.specs.Lists.{least}
-use Rattle.bbm_rules.specs.Roots.{pages_from, root_pages}
+use Rattle.bbm_rules.specs.Roots.{root_pages}
 use Rattle.bbm_tree_index.specs.Index.{fresh_in, heading_of}
 use Rattle.bbm_replay.specs.Standing.{view_of}
 use Rattle.bbm_replay.specs.declared.parts.Parts.{Parts}
@@ -39,7 +35,7 @@ returns-in-Some c =
     (λ heading e. ap (λ (x : Heading). kind_in_world x.world c.args.kind) (sym e) ∙ sym c.has_kind.ensures ∙ c.if-not-has_kind.false)
     c.in-Ok.ensures c.in-Some.at
     (λ heading e. unfresh_is c.args.self.now c.args.kind c.args.page c.page_count.result heading e
-        (sym c.has_kind.ensures ∙ c.if-not-has_kind.false) c.page_count.ensures ∙ sym c.in-Some.ensures)
+    (sym c.has_kind.ensures ∙ c.if-not-has_kind.false) c.page_count.ensures ∙ sym c.in-Some.ensures)
 
 pub returns-in-Err-prepare : goal.returns-in-Err-prepare
 returns-in-Err-prepare c =
@@ -48,8 +44,8 @@ returns-in-Err-prepare c =
     let e = c.in-Err-prepare.ensures in
     root_full c.laws.ensures c.rules.ensures old c.args.pe c.args.page c.args.kind c.args.lock c.requires right c.in-Ok.ensures
     (unbroken c.laws.ensures c.rules.ensures old c.args.pe c.args.page c.args.kind c.args.lock c.requires right c.in-Ok.ensures
-        (λ heading k. unfresh_is old c.args.kind c.args.page c.page_count.result heading k
-        (sym c.has_kind.ensures ∙ c.if-not-has_kind.false) c.page_count.ensures ∙ sym c.in-None.ensures))
+    (λ heading k. unfresh_is old c.args.kind c.args.page c.page_count.result heading k
+    (sym c.has_kind.ensures ∙ c.if-not-has_kind.false) c.page_count.ensures ∙ sym c.in-None.ensures))
     c.prepare.new.self c.prepare.ensures.same c.in-Err-prepare.fault
     (λ heading h s k. (e.limit heading h c.args.pe c.args.kind c.args.lock c.args.page s).0 (ap (λ (f : StepFault). Err f) k))
     e.fault
@@ -60,7 +56,7 @@ attach-requires-clause-named c k n inside =
     let m = c.requires in
     named_fresh (fresh_in old.index) c.args.kind _ c.args.page _ (root_pages m.0.world c.args.kind c.args.page)
     (unfresh_is old c.args.kind c.args.page c.page_count.result m.0 m.2.header
-        (sym c.has_kind.ensures ∙ c.if-not-has_kind.false) c.page_count.ensures ∙ sym c.in-None.ensures) n
+    (sym c.has_kind.ensures ∙ c.if-not-has_kind.false) c.page_count.ensures ∙ sym c.in-None.ensures) n
     (subst (λ (x : Heading). Contains (starts x c.args.kind c.args.page) n) m.2.index_header inside)
 
 pub returns-in-Err-attach : goal.returns-in-Err-attach
@@ -70,23 +66,30 @@ returns-in-Err-attach c =
     let new : Parts = record old { index = c.attach.new.self; roots = c.prepare.new.self } in
     stays_after c.laws.ensures c.rules.ensures old c.args.pe c.args.page c.args.kind c.args.lock c.requires step.NoMemory refl new
     (λ heading h s. stands_still c.laws.ensures old new
-        (record { header = refl; index_header = c.attach.ensures.tracked.heading; sound = λ k. c.attach.ensures.sound })
-        (record {
-          map = record { value = λ a. refl; marks = λ a. refl; pends = λ q a b i p. refl };
-          nodes = e.same.node;
-          roles = record { fresh = e.same.fresh; null = e.same.null };
-          tracking = record { tracked = λ p. refl; known = c.attach.ensures.tracked.known; pages = c.attach.ensures.tracked.pages };
-        }) heading h s (c.prepare.ensures.same heading h s.roots))
+    (record { header = refl; index_header = c.attach.ensures.tracked.heading; sound = λ k. c.attach.ensures.sound })
+    (record {
+      map = record { value = λ a. refl; marks = λ a. refl; pends = λ q a b i p. refl };
+      nodes = e.same.node;
+      roles = record { fresh = e.same.fresh; null = e.same.null };
+      tracking = record { tracked = λ p. refl; known = c.attach.ensures.tracked.known; pages = c.attach.ensures.tracked.pages };
+    }) heading h s (c.prepare.ensures.same heading h s.roots))
 
 pub declare-requires : goal.declare-requires
 declare-requires c =
     let old = c.args.self.now in
     let m = c.requires in
-    let right = λ (heading : Heading) (e : old.header ≡ heading). ap (λ (x : Heading). kind_in_world x.world c.args.kind) (sym e) ∙ sym c.has_kind.ensures ∙ c.if-not-has_kind.false in
-    (c.args.pe, (m.0, m.1, c.prepare.ensures.same m.0 m.1 m.2.roots, m.3,
-    unbroken c.laws.ensures c.rules.ensures old c.args.pe c.args.page c.args.kind c.args.lock c.requires right c.in-Ok.ensures
-        (λ heading k. unfresh_is old c.args.kind c.args.page c.page_count.result heading k
-        (sym c.has_kind.ensures ∙ c.if-not-has_kind.false) c.page_count.ensures ∙ sym c.in-None.ensures) m.0 m.1 m.2))
+    let right = λ (heading : Heading) (e : old.header ≡ heading). ap (λ (x : Heading). kind_in_world x.world c.args.kind) (sym e) ∙ sym c.has_kind.ensures ∙ c.if-not-has_kind.false in (
+      c.args.pe,
+      (
+        m.0,
+        m.1,
+        c.prepare.ensures.same m.0 m.1 m.2.roots,
+        m.3,
+        unbroken c.laws.ensures c.rules.ensures old c.args.pe c.args.page c.args.kind c.args.lock c.requires right c.in-Ok.ensures
+            (λ heading k. unfresh_is old c.args.kind c.args.page c.page_count.result heading k
+            (sym c.has_kind.ensures ∙ c.if-not-has_kind.false) c.page_count.ensures ∙ sym c.in-None.ensures) m.0 m.1 m.2,
+      ),
+    )
 
 pub returns-in-Err-declare : goal.returns-in-Err-declare
 returns-in-Err-declare c = absurd (true≢false (sym (c.in-Err-declare.ensures.room c.in-Ok-prepare.ensures.room)))
@@ -100,14 +103,14 @@ returns-in-Ok-declare c =
     let new : Parts = record old { index = c.attach.new.self; roots = c.declare.new.self } in
     root_ok c.laws.ensures c.rules.ensures old c.args.pe c.args.page c.args.kind c.args.lock c.requires right c.in-Ok.ensures
     (unbroken c.laws.ensures c.rules.ensures old c.args.pe c.args.page c.args.kind c.args.lock c.requires right c.in-Ok.ensures
-        (λ heading k. unfresh_is old c.args.kind c.args.page c.page_count.result heading k
-        (sym c.has_kind.ensures ∙ c.if-not-has_kind.false) c.page_count.ensures ∙ sym c.in-None.ensures))
+    (λ heading k. unfresh_is old c.args.kind c.args.page c.page_count.result heading k
+    (sym c.has_kind.ensures ∙ c.if-not-has_kind.false) c.page_count.ensures ∙ sym c.in-None.ensures))
     c.prepare.new.self c.prepare.ensures.same new
     (record { header = refl; index_header = c.attach.ensures.tracked.heading; sound = λ k. c.attach.ensures.sound })
     (λ heading h s k. let bad = (r.limit heading h c.args.pe c.args.kind c.args.lock c.args.page s).1 k in absurd cc)
     (record { value = λ a. refl; marks = λ a. refl; pends = λ q a b i p. refl })
     (attaches_of (view_of old.map old.index) (view_of new.map new.index) (starts (heading_of old.index) c.args.kind c.args.page)
-        e.node e.fresh c.attach.ensures.null
-        (record { tracked = λ p. refl; known = c.attach.ensures.tracked.known; pages = c.attach.ensures.tracked.pages }))
+    e.node e.fresh c.attach.ensures.null
+    (record { tracked = λ p. refl; known = c.attach.ensures.tracked.known; pages = c.attach.ensures.tracked.pages }))
     c.restless.ensures.idle
     (λ heading h s free. c.in-Ok-declare.ensures.taken heading h c.args.pe s free)

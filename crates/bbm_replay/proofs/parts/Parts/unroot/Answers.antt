@@ -1,5 +1,4 @@
-use Rattle.std.proofs.Common.{◌≡◌, ℕ, not, ◌==◌, refl, sym, ◌∙◌, ap}
-use Rattle.bbm_rules.specs.Prelude.{Unroot}
+use Rattle.std.proofs.Common.{not, ◌==◌, refl}
 use Rattle.bbm_rules.specs.Tree.{Node}
 use Rattle.bbm_replay.specs.Standing.{view_of}
 use Rattle.bbm_replay.specs.declared.parts.Parts.{Parts}
@@ -19,9 +18,9 @@ returns-in-Ok c =
     unroot_ok c.laws.ensures c.rules.ensures old c.args.pe c.args.page c.requires new c.in-Ok.ensures
     (record { header = refl; index_header = e.tracked.heading; sound = λ s. e.sound })
     (λ heading h s. leaves_of (view_of old.map old.index) (view_of new.map new.index) (λ (n : Node). not (n.root == c.args.page))
-        s.told.outside e.node e.values e.marks e.pends
-        (record { fresh = e.fresh; null = e.null })
-        (record { tracked = e.map_pages; known = e.tracked.known; pages = e.tracked.pages }))
+    s.told.outside e.node e.values e.marks e.pends
+    (record { fresh = e.fresh; null = e.null })
+    (record { tracked = e.map_pages; known = e.tracked.known; pages = e.tracked.pages }))
     (λ heading h s free. c.retire.ensures.taken heading h c.args.pe s free)
 
 pub returns-in-Err : goal.returns-in-Err

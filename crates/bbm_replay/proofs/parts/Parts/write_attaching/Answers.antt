@@ -1,4 +1,4 @@
-use Rattle.std.proofs.Common.{◌≡◌, ℕ, Some, None, Option, refl, sym, ◌∙◌, ap, subst}
+use Rattle.std.proofs.Common.{refl, ap, subst}
 use Rattle.bbm_entry_state.specs.Calls.{Written}
 use Rattle.bbm_entry_state.specs.Points.{core_in, waits}
 use Rattle.bbm_entry_state.specs.declared.pending.Pends.{Pends}
@@ -30,8 +30,8 @@ returns-in-Ok c =
       dropped = e.dropped;
     })
     (attaches_of (view_of old.map old.index) (view_of last.map last.index) (starts_of old.index (attach.Below c.args.place c.args.next))
-        a.node a.fresh c.attach.ensures.null
-        (record { tracked = e.pages; known = c.attach.ensures.tracked.known; pages = c.attach.ensures.tracked.pages }))
+    a.node a.fresh c.attach.ensures.null
+    (record { tracked = e.pages; known = c.attach.ensures.tracked.known; pages = c.attach.ensures.tracked.pages }))
     c.restless.ensures.idle
 
 pub returns-in-Err : goal.returns-in-Err
@@ -44,13 +44,13 @@ returns-in-Err c =
     c.args.path.now c.requires.at (core_in c.args.state) c.args.new (ap (λ (s : EntryState). core_in s) c.requires.state) c.requires.new
     c.requires.clear c.args.next c.requires.attaches last
     (λ heading h s. stands_still c.laws.ensures old last
-        (record { header = refl; index_header = c.attach.ensures.tracked.heading; sound = λ s. c.attach.ensures.sound })
-        (record {
-          map = record { value = λ a. refl; marks = λ a. refl; pends = λ q a b i p. refl };
-          nodes = a.same.node;
-          roles = record { fresh = a.same.fresh; null = a.same.null };
-          tracking = record { tracked = λ p. refl; known = c.attach.ensures.tracked.known; pages = c.attach.ensures.tracked.pages };
-        }) heading h s s.roots)
+    (record { header = refl; index_header = c.attach.ensures.tracked.heading; sound = λ s. c.attach.ensures.sound })
+    (record {
+      map = record { value = λ a. refl; marks = λ a. refl; pends = λ q a b i p. refl };
+      nodes = a.same.node;
+      roles = record { fresh = a.same.fresh; null = a.same.null };
+      tracking = record { tracked = λ p. refl; known = c.attach.ensures.tracked.known; pages = c.attach.ensures.tracked.pages };
+    }) heading h s s.roots)
     c.in-Err.fault a.judged)
 
 pub set-requires : goal.set-requires
@@ -59,7 +59,10 @@ set-requires c =
     m.2.told.apart.node_tracked _ c.requires.at.0 c.requires.at.1
 
 pub attach-requires-clause-may : goal.attach-requires-clause-may
-attach-requires-clause-may c = (c.requires.at.0, c.requires.at.1,
-    below_three c.laws.ensures c.rules.ensures c.args.self.now c.args.pe c.args.place c.args.value c.requires.may
-    c.args.path.now c.requires.at (core_in c.args.state) c.args.new (ap (λ (s : EntryState). core_in s) c.requires.state) c.requires.new
-    c.requires.clear c.args.next c.requires.attaches)
+attach-requires-clause-may c = (
+  c.requires.at.0,
+  c.requires.at.1,
+  below_three c.laws.ensures c.rules.ensures c.args.self.now c.args.pe c.args.place c.args.value c.requires.may
+      c.args.path.now c.requires.at (core_in c.args.state) c.args.new (ap (λ (s : EntryState). core_in s) c.requires.state) c.requires.new
+      c.requires.clear c.args.next c.requires.attaches,
+)
