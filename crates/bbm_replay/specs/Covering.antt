@@ -10,7 +10,8 @@ use Rattle.bbm_rules.specs.Registers.{named_scope, vmid_of}
 use Rattle.bbm_replay.specs.Standing.{view_of}
 use Rattle.bbm_replay.specs.Told.{Told}
 
--- The map, the index and the roots stand for the history, this is what the TLBI names and the VMID of its issuer, and the
+-- The map, the index and the roots stand for the history, this is what the TLBI names and the VMID of its issuer, and
+-- the
 -- place is broken.
 pub record MayBeCovered (heading : Heading) (h : List Event) (map : PlaceMap) (index : TreeIndex) (state : RootState)
     (pe : ℕ) (op : TlbiOp) (xt : ℕ) (scope : Scope) (vmid : Option ℕ) (place : ℕ) : Type 0 where

@@ -32,7 +32,8 @@ use Rattle.bbm_replay_entries.specs.Events.{Heard, OthersStay, OthersWait, touch
 use Rattle.bbm_replay_entries.specs.Stands.{ByValue, EntryStands, held_now}
 use Rattle.bbm_replay_trees.specs.Events.{leaves_trees}
 use Rattle.bbm_replay_trees.specs.Paths.{Attached}
-use Rattle.bbm_replay_trees.specs.Told.{AllFit, SameCores, SameFresh, SameKnown, SameNodes, SameNull, SameValues, is_held_by}
+use Rattle.bbm_replay_trees.specs.Told.{AllFit, SameCores, SameFresh, SameKnown}
+use Rattle.bbm_replay_trees.specs.Told.{SameNodes, SameNull, SameValues, is_held_by}
 use Rattle.bbm_replay_trees.specs.Told.{Hangs, kept, notes}
 use Rattle.bbm_entry_state.specs.Points.{core_in}
 
@@ -41,7 +42,8 @@ pub record NodeLaws (heading : Heading) : Type 0 where
   pub proper : heading_ok heading ≡ true → Proper heading
   pub root : (h : List Event) (node next_node : ℕ → Option Node) (fresh : ℕ → Bool) (value : ℕ → ℕ) (pe page : ℕ)
       (kind : Kind) (lock : Option ℕ) → Proper heading → AllFit heading h
-      → keeps heading Patterns (Root pe kind lock page ∷ h) ≡ true → SameNodes heading h node → SameFresh heading h fresh
+      → keeps heading Patterns (Root pe kind lock page ∷ h) ≡ true → SameNodes heading h node
+      → SameFresh heading h fresh
       → SameValues h value
       → ((p : ℕ) (m : Node) → (next_node p ≡ Some m) ↔ ((node p ≡ Some m) ⊎ ((m.page ≡ p) × Attached fresh value
       (nodes_of_root heading (record { page = page; kind = kind; lock = None })) m)))
@@ -72,7 +74,8 @@ pub record NodeLaws (heading : Heading) : Type 0 where
       → SameNodes heading (e ∷ h) node
   pub own : (h : List Event) (node : ℕ → Option Node) (p : ℕ) (m : Node) → SameNodes heading h node
       → node p ≡ Some m → (m.page ≡ p) × (m.level < 4)
-  pub above : (h : List Event) (node : ℕ → Option Node) (core : Kind → ℕ → ℕ → Option Core) (p : ℕ) (m : Node) (a : Above)
+  pub above : (h : List Event) (node : ℕ → Option Node) (core : Kind → ℕ → ℕ
+      → Option Core) (p : ℕ) (m : Node) (a : Above)
       → keeps heading Patterns h ≡ true → SameNodes heading h node → SameCores heading h core → node p ≡ Some m
       → Contains m.above a → (n : Node) × (node (page_of a.place) ≡ Some n) × (n.kind ≡ m.kind) × (n.level ≡ a.level)
       × (is_some (core n.kind n.level a.place) ≡ true)
@@ -123,7 +126,8 @@ pub record PageLaws (heading : Heading) : Type 0 where
 -- one place after an event
 pub record EntryLaws (heading : Heading) : Type 0 where
   pub fresh : (h : List Event) (kind : Kind) (level place : ℕ) (state : EntryState) (pends : ℕ → Pends)
-      → 0 < heading.pes → keeps heading Patterns h ≡ true → is_fresh heading Patterns (notes heading h) (page_of place) ≡ true
+      → 0 < heading.pes → keeps heading Patterns h ≡ true
+      → is_fresh heading Patterns (notes heading h) (page_of place) ≡ true
       → ByValue kind level (value_of h place) state pends → EntryStands heading h kind level place state pends
   pub alike : (h : List Event) (kind : Kind) (level place : ℕ) (state : EntryState) (pends pends' : ℕ → Pends)
       → EntryStands heading h kind level place state pends
@@ -132,7 +136,8 @@ pub record EntryLaws (heading : Heading) : Type 0 where
   pub stays : (h : List Event) (e : Event) (kind : Kind) (level place : ℕ) (state : EntryState) (pends : ℕ → Pends)
       → 0 < heading.pes → touches place e ≡ false → EntryStands heading h kind level place state pends
       → EntryStands heading (e ∷ h) kind level place state pends
-  pub write : (h : List Event) (kind : Kind) (level place pe value : ℕ) (old new : EntryState) (pends pends' : ℕ → Pends)
+  pub write : (h : List Event) (kind : Kind) (level place pe value : ℕ) (old new : EntryState) (pends pends' : ℕ
+      → Pends)
       → 0 < heading.pes → Written old pe (core_of kind level value) new → KeepsPends new pends pends'
       → EntryStands heading h kind level place old pends
       → EntryStands heading (Write pe place value ∷ h) kind level place new pends'
@@ -161,7 +166,8 @@ pub record EntryLaws (heading : Heading) : Type 0 where
   pub holds : (h : List Event) (kind : Kind) (level place : ℕ) (state : EntryState) (pends : ℕ → Pends)
       → EntryStands heading h kind level place state pends
       → is_some (held_now heading h kind level place) ≡ is_some (core_in state)
-  pub core_where_valid : (kind : Kind) (level value : ℕ) → is_some (core_of kind level value) ≡ is_valid kind level value
+  pub core_where_valid : (kind : Kind) (level value : ℕ)
+      → is_some (core_of kind level value) ≡ is_valid kind level value
 
 pub record Laws (heading : Heading) : Type 0 where
   pub nodes : NodeLaws heading

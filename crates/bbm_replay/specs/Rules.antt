@@ -1,4 +1,5 @@
--- What the crates below prove of the rules that an event breaks and of the limit that it reaches, as one record, so that
+-- What the crates below prove of the rules that an event breaks and of the limit that it reaches, as one record, so
+-- that
 -- each proof here takes it as one hypothesis.
 use Rattle.std.specs.Prelude.{◌≡◌, ℕ, ◌%◌, Bool, true, false, not, ◌&&◌, ◌||◌, ◌==◌, nat_le, List, [], ◌∷◌, length}
 use Rattle.std.specs.Prelude.{Option, Some, None, is_some, filter, option_and_then}
@@ -57,7 +58,8 @@ pub record Rules (heading : Heading) : Type 0 where
       → SameFresh heading h fresh → page_in_use heading Patterns (notes heading h) (Root pe kind lock page)
       ≡ least (filter (λ p. not (fresh p)) (root_pages heading.world kind page))
   pub null_unused : (h : List Event) (fresh : ℕ → Bool) (value : ℕ → ℕ) (pe page : ℕ) → AllFit heading h
-      → SameFresh heading h fresh → SameValues h value → fresh page ≡ true → ((a : ℕ) → is_at page a ≡ true → value a ≡ 0)
+      → SameFresh heading h fresh → SameValues h value → fresh page ≡ true → ((a : ℕ) → is_at page a ≡ true
+      → value a ≡ 0)
       → page_in_use heading Patterns (notes heading h) (Null pe page) ≡ None
   pub null_unfresh : (h : List Event) (fresh : ℕ → Bool) (pe page : ℕ) → SameFresh heading h fresh
       → fresh page ≡ false → page_in_use heading Patterns (notes heading h) (Null pe page) ≡ Some page

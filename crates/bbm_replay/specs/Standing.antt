@@ -70,10 +70,12 @@ pub record SameFrame (old new : Parts) : Type 0 where
   pub index_header : heading_of new.index ≡ heading_of old.index
   pub sound : IsSound old.index → IsSound new.index
 
--- Of a write in a tree: the rules on locks, on null pages, on break-before-make and on limbo, which come first, are kept;
+-- Of a write in a tree: the rules on locks, on null pages, on break-before-make and on limbo, which come first, are
+-- kept;
 -- or the event breaks one of them, and this is the answer.
 pub record Clears (parts : Parts) (e : Event) (result : Result (Unit {0}) StepFault) : Type 0 where
   pub passed : OnOk result ((heading : Heading) (h : List Event) → Stands parts heading h
+     
       → (no_lock heading Patterns (notes heading h) e ≡ None) × (null_written heading Patterns (notes heading h) e ≡ None)
       × (break_before_make heading Patterns (notes heading h) e ≡ None)
       × (limbo_make heading Patterns (notes heading h) e ≡ None))
