@@ -20,7 +20,7 @@ use Rattle.bbm_replay.specs.View.{View}
 use Rattle.bbm_replay.specs.declared.parts.Parts.{Parts}
 use Rattle.bbm_replay.proofs.Framing.{stands_next}
 use Rattle.bbm_replay.proofs.Leaving.{after_unroot}
-use Rattle.bbm_replay.proofs.Meeting.{answers, fits_all}
+use Rattle.bbm_replay.proofs.Meeting.{answers, fits_all, frugal_else}
 
 -- what leaves and stays, of one page
 stays_there : (keeps : Node → Bool) (o : Option Node) (n : Node) → kept keeps o ≡ Some n → leaves keeps o ≡ false
@@ -67,6 +67,7 @@ module _ (laws : (heading : Heading) → Laws heading) (rules : (heading : Headi
     judged = λ heading h s. answers (Err fault) _ _ (judged heading h s.roots) ((rules heading).no_limit h (Unroot pe page) refl);
     taken = tt;
     unchanged = λ heading h s. s;
+    frugal = frugal_else old (Unroot pe page) (Err fault) (λ heading h s. (refl, refl));
   }
 
   pub unroot_ok : (new : Parts)
@@ -86,4 +87,5 @@ module _ (laws : (heading : Heading) → Laws heading) (rules : (heading : Headi
         (after_unroot heading (laws heading) h (view_of old.map old.index) (view_of new.map new.index) s.told pe page
         (fits_all old (Unroot pe page) m heading h s) free (move heading h s)) (taken heading h s.roots free);
     unchanged = tt;
+    frugal = tt;
   }

@@ -1,5 +1,5 @@
 -- A write at a place of a tree, at the parts.
-use Rattle.std.proofs.Common.{◌≡◌, ℕ, zero, suc, ◌<◌, arith, ◌%◌, Bool, true, false, cond, not, ◌&&◌, ◌⊎◌, ◌==◌, List, [], ◌∷◌, Option, Some, None, is_some, option_and_then, Result, Ok, Err, refl, sym, ◌∙◌, ap, subst, inl, inr}
+use Rattle.std.proofs.Common.{◌≡◌, ℕ, zero, suc, ◌<◌, arith, ◌%◌, Bool, true, false, cond, not, ◌&&◌, ◌⊎◌, ◌==◌, List, [], ◌∷◌, Option, Some, None, is_none, is_some, option_and_then, Result, Ok, Err, refl, sym, ◌∙◌, ap, subst, true≢false, inl, inr}
 use Rattle.std.specs.Option.{option_map_or}
 use Rattle.bbm_descriptor.specs.Fields.{type_bits}
 use Rattle.bbm_descriptor.specs.Descriptor.{core_of, desc_as, desc_of, differ, invalid, is_valid, leaf}
@@ -11,6 +11,8 @@ use Rattle.bbm_entry_state.specs.Calls.{Written}
 use Rattle.bbm_entry_state.specs.Standing.{IsIdle}
 use Rattle.bbm_entry_state.specs.declared.state.EntryState.{EntryState}
 use Rattle.bbm_regimes.specs.Same.{same_kind}
+use Rattle.bbm_rules.specs.Answers.{is_written, rewrites}
+use Rattle.bbm_rules.specs.Attach.{attached_by}
 use Rattle.bbm_rules.specs.Broken.{broken}
 use Rattle.bbm_rules.specs.Claims.Trust.{Patterns}
 use Rattle.bbm_rules.specs.Covers.{is_global}
@@ -20,7 +22,7 @@ use Rattle.bbm_rules.specs.Prelude.{Kind, Ttbr0, Heading, Event, Write}
 use Rattle.bbm_rules.specs.Roots.{lock_of}
 use Rattle.bbm_rules.specs.Rules.{bad_kind, break_before_make, global_user, is_contiguous, lacks, limbo_make, no_lock}
 use Rattle.bbm_rules.specs.Rules.{not_fresh, null_written, rewritten_fresh}
-use Rattle.bbm_rules.specs.Tree.{Node, next_in, next_of, node_below}
+use Rattle.bbm_rules.specs.Tree.{Node, held_at, next_in, next_of, node_below, node_of}
 use Rattle.bbm_rules.specs.declared.rule.Rule.TheVariants.{NoLock, NullWritten, BreakBeforeMake, LimboMake}
 use Rattle.bbm_rules.specs.declared.rule.Rule.TheVariants.{NotFresh, RewrittenFresh, BadKind, GlobalUser}
 use Rattle.bbm_rules.specs.declared.step_fault.StepFault.TheVariants.{Broken}
@@ -263,6 +265,7 @@ module _ (laws : (heading : Heading) → Laws heading) (rules : (heading : Headi
               (subst (λ (r : RootState). roots.Stands r heading (e ∷ h)) (sym same_roots)
               (others old.roots heading h e s.roots refl (plain_free heading h s)));
           unchanged = tt;
+          frugal = tt;
         }
           where
             written_n : Written (state_of v_old n.kind n.level place) pe (core_of n.kind n.level v) state
@@ -292,11 +295,35 @@ module _ (laws : (heading : Heading) → Laws heading) (rules : (heading : Headi
           s.told.fit s.told.nodes s.told.fresh s.told.values (cores heading h v_old s.told) at.1 (sym held_n ∙ both.0) both.1) r
           (subst (λ (o : Option Node). index.Judges (fresh_in old.index) (value_at old.map) (index_paths.below_all o place next) {A = Unit {0}} false r) at.1 k)
 
+    -- so it may take memory
+    attaching : (heading : Heading) (h : List Event) → Stands old heading h → rewrites heading h e ≡ false
+    attaching heading h s = spends (is_written h place) _ (some_attached held_none)
+      where
+        node_is : node_of heading Patterns (notes heading h) (page_of place) ≡ Some n
+        node_is = sym (s.told.nodes (page_of place)) ∙ at.1
+
+        none_of : (o : Option ℕ) → is_some o ≡ false → o ≡ None
+        none_of None k = refl
+        none_of (Some x) k = absurd (true≢false k)
+
+        held_none : held_at heading Patterns (notes heading h) n place ≡ None
+        held_none = none_of (held_at heading Patterns (notes heading h) n place)
+            ((laws heading).entries.holds h n.kind n.level place _ _ (s.told.entries n place at.1)
+            ∙ ap (λ (x : Option Core). is_some x) (sym held_n ∙ both.0))
+
+        some_attached : held_at heading Patterns (notes heading h) n place ≡ None
+            → is_none (attached_by heading Patterns (notes heading h) e) ≡ false
+        some_attached empty = rw (node_is, empty, both.1) refl
+
+        spends : (x y : Bool) → y ≡ false → (x && y) ≡ false
+        spends false y k = refl
+        spends true y k = k
+
     pub attach_fault : (last : Parts) → ((heading : Heading) (h : List Event) → Stands old heading h → Stands last heading h)
         → (fault : TreeFault)
         → index.Judges (fresh_in old.index) (value_at old.map) (index_paths.starts_of old.index (attach.Below place next)) {A = Unit {0}} false (Err fault)
         → Meets old last e (Err (step_fault fault))
-    attach_fault last same tree.NoMemory k = record { judged = λ heading h s. tt; taken = tt; unchanged = same }
+    attach_fault last same tree.NoMemory k = record { judged = λ heading h s. tt; taken = tt; unchanged = same; frugal = λ heading h s. (refl, attaching heading h s) }
     attach_fault last same (tree.Limit which) k = absurd k
     attach_fault last same (tree.NotFresh x) k = record {
       judged = λ heading h s.
@@ -306,6 +333,7 @@ module _ (laws : (heading : Heading) → Laws heading) (rules : (heading : Headi
           ∙ stops NotFresh _ _ x (judged_here heading h s (Err (tree.NotFresh x)) k);
       taken = tt;
       unchanged = same;
+      frugal = tt;
     }
     attach_fault last same (tree.BadKind x) k = record {
       judged = λ heading h s.
@@ -316,6 +344,7 @@ module _ (laws : (heading : Heading) → Laws heading) (rules : (heading : Headi
           ∙ passes RewrittenFresh _ _ (rewritten_none heading h s) ∙ stops BadKind _ _ x w.1;
       taken = tt;
       unchanged = same;
+      frugal = tt;
     }
     attach_fault last same (tree.GlobalUser x) k = record {
       judged = λ heading h s.
@@ -326,6 +355,7 @@ module _ (laws : (heading : Heading) → Laws heading) (rules : (heading : Headi
           ∙ passes RewrittenFresh _ _ (rewritten_none heading h s) ∙ passes BadKind _ _ w.1 ∙ stops GlobalUser _ _ x w.2;
       taken = tt;
       unchanged = same;
+      frugal = tt;
     }
 
     module _ (fine : index.Judges (fresh_in old.index) (value_at old.map) (index_paths.starts_of old.index (attach.Below place next)) {A = Unit {0}} false (Ok tt)) where
@@ -353,6 +383,7 @@ module _ (laws : (heading : Heading) → Laws heading) (rules : (heading : Headi
             (subst (λ (r : RootState). roots.Stands r heading (e ∷ h)) (sym same_roots)
             (others old.roots heading h e s.roots refl (attach_free heading h s)));
         unchanged = tt;
+        frugal = tt;
       }
         where
           written_n : Written (state_of v_old n.kind n.level place) pe (core_of n.kind n.level v) state

@@ -60,6 +60,7 @@ tlbi_meets laws rules old map r pe op xt m unbroken reach reached noted others i
       (fits_all old (Tlbi pe op xt) m heading h s) (unbroken heading h s.roots))
       (taken heading h s);
   unchanged = tt;
+  frugal = tt;
 }
   where
     other : (q a : ℕ) (b : Bool) → nat_eq q pe ≡ b → (o : Option Marks) → marks_at old.map a ≡ o

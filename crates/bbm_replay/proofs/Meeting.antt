@@ -4,7 +4,7 @@ use Rattle.std.proofs.lemmas.Bool.{and_parts, eqb-true}
 use Rattle.bbm_regimes.specs.declared.regime.Reg.{Reg}
 use Rattle.bbm_regimes.specs.declared.regime.Which.{Which}
 use Rattle.bbm_events.specs.Fits.{fits_heading, is_page}
-use Rattle.bbm_rules.specs.Answers.{Answers, MayAsk}
+use Rattle.bbm_rules.specs.Answers.{Answers, MayAsk, rewrites, takes_no_memory}
 use Rattle.bbm_rules.specs.Broken.{Breach, broken}
 use Rattle.bbm_rules.specs.Claims.Trust.{Patterns}
 use Rattle.bbm_rules.specs.Limits.{limit_of}
@@ -18,7 +18,7 @@ use Rattle.bbm_replay_roots.specs.declared.state.RootState.{RootState}
 use Rattle.bbm_replay_trees.specs.Told.{AllFit}
 use Rattle.bbm_replay.specs.Laws.{Laws}
 use Rattle.bbm_replay.specs.Moves.{is_quiet}
-use Rattle.bbm_replay.specs.Standing.{MayMeet, Meets, Stands, view_of}
+use Rattle.bbm_replay.specs.Standing.{IsFrugal, MayMeet, Meets, Stands, view_of}
 use Rattle.bbm_replay.specs.declared.parts.Parts.{Parts}
 use Rattle.bbm_replay.proofs.Quiet.{after_quiet}
 
@@ -70,6 +70,23 @@ answers (Err (Broken rule at)) breach limit j k = j
 answers (Err (Limit which)) breach limit j k = absurd j
 answers (Err NoMemory) breach limit j k = absurd j
 
+-- an event that may take memory
+pub frugal_else : (p : Parts) (e : Event) (r : Result (Unit {0}) StepFault)
+    → ((heading : Heading) (h : List Event) → Stands p heading h
+    → (takes_no_memory e ≡ false) × (rewrites heading h e ≡ false)) → IsFrugal p e r
+frugal_else p e (Ok u) k = tt
+frugal_else p e (Err (Broken rule at)) k = tt
+frugal_else p e (Err (Limit which)) k = tt
+frugal_else p e (Err NoMemory) k = k
+
+-- an answer that is never want of memory
+frugal_judged : (p : Parts) (e : Event) (fault : StepFault)
+    → ((heading : Heading) (h : List Event) → Stands p heading h → roots.Judges (Err fault) (broken heading Patterns h e))
+    → IsFrugal p e (Err fault)
+frugal_judged p e (Broken rule at) k = tt
+frugal_judged p e (Limit which) k = tt
+frugal_judged p e NoMemory k = λ heading h s. absurd (k heading h s)
+
 -- a call of the roots that judges the event and takes it
 pub meets_judged : ((heading : Heading) → Laws heading) → (p : Parts) (r : RootState) (e : Event) → MayMeet p e
     → is_quiet e ≡ true → (result : Result (Unit {0}) StepFault)
@@ -83,11 +100,13 @@ meets_judged laws p r e m quiet (Ok u) judged limit taken same = record {
   taken = λ heading h s. stands_quiet laws p r e quiet heading h s (fits_all p e m heading h s) (judged heading h s.roots)
       (taken heading h s.roots);
   unchanged = tt;
+  frugal = tt;
 }
 meets_judged laws p r e m quiet (Err fault) judged limit taken same = record {
   judged = λ heading h s. answers (Err fault) (broken heading Patterns h e) (limit_of h e) (judged heading h s.roots) (limit h);
   taken = tt;
   unchanged = λ heading h s. stands_same p r heading h s (same heading h s.roots);
+  frugal = frugal_judged p e fault (λ heading h s. judged heading h s.roots);
 }
 
 -- the same of a register write
@@ -96,17 +115,21 @@ pub meets_answered : ((heading : Heading) → Laws heading) → (p : Parts) (r :
     → ((heading : Heading) (h : List Event) → Stands p heading h → Answers result (broken heading Patterns h e) (limit_of h e))
     → OnOk result ((heading : Heading) (h : List Event) → Stands p heading h → roots.Stands r heading (e ∷ h))
     → OnErr result ((heading : Heading) (h : List Event) → roots.Stands p.roots heading h → roots.Stands r heading h)
+    → ((heading : Heading) (h : List Event) → Stands p heading h
+    → (takes_no_memory e ≡ false) × (rewrites heading h e ≡ false))
     → Meets p (with_roots p r) e result
-meets_answered laws p r e m quiet (Ok u) judged taken same = record {
+meets_answered laws p r e m quiet (Ok u) judged taken same spends = record {
   judged = judged;
   taken = λ heading h s. stands_quiet laws p r e quiet heading h s (fits_all p e m heading h s) (judged heading h s).0
       (taken heading h s);
   unchanged = tt;
+  frugal = tt;
 }
-meets_answered laws p r e m quiet (Err fault) judged taken same = record {
+meets_answered laws p r e m quiet (Err fault) judged taken same spends = record {
   judged = judged;
   taken = tt;
   unchanged = λ heading h s. stands_same p r heading h s (same heading h s.roots);
+  frugal = frugal_else p e (Err fault) spends;
 }
 
 -- a null page is the address of a page
@@ -143,10 +166,10 @@ pub meets_msr : ((heading : Heading) → Laws heading) → (p : Parts) (r : Root
     → Meets p (with_roots p r) (Msr pe reg value) result
 meets_msr laws p r pe reg value m (Ok u) null names judged taken same =
     meets_answered laws p r (Msr pe reg value) m refl (Ok u) (λ heading h s. judged heading h s.roots (names heading h s))
-    (λ heading h s. taken heading h s.roots (names heading h s)) same
+    (λ heading h s. taken heading h s.roots (names heading h s)) same (λ heading h s. (refl, refl))
 meets_msr laws p r pe reg value m (Err fault) null names judged taken same =
     meets_answered laws p r (Msr pe reg value) m refl (Err fault) (λ heading h s. judged heading h s.roots (names heading h s))
-    tt same
+    tt same (λ heading h s. (refl, refl))
 
 -- an address that is no page's is no null page
 pub never_null : (heading : Heading) (h : List Event) (base : ℕ) → AllFit heading h → (is_page base ≡ true → ⊥)

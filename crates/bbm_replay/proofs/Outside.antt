@@ -121,4 +121,5 @@ module _ (laws : (heading : Heading) → Laws heading) (rules : (heading : Headi
         (subst (λ (r : RootState). roots.Stands r heading (Write pe place v ∷ h)) (sym same_roots)
         (others old.roots heading h (Write pe place v) s.roots refl free));
     unchanged = tt;
+    frugal = tt;
   }

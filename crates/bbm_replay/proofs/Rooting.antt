@@ -34,7 +34,7 @@ use Rattle.bbm_replay.specs.declared.parts.Parts.{Parts}
 use Rattle.bbm_replay.proofs.Framing.{stands_next}
 use Rattle.bbm_replay.proofs.Growing.{after_root}
 use Rattle.bbm_replay.proofs.Judging.{passes, root_is, stops, where_false, where_true}
-use Rattle.bbm_replay.proofs.Meeting.{fits_all, stands_same, with_roots}
+use Rattle.bbm_replay.proofs.Meeting.{fits_all, frugal_else, stands_same, with_roots}
 use Rattle.bbm_replay.proofs.Starting.{meets_broken}
 use Rattle.bbm_replay.proofs.Verdicts.{Verdict, attached_from, attached_to, verdict}
 
@@ -70,7 +70,7 @@ module _ (laws : (heading : Heading) → Laws heading) (rules : (heading : Headi
     pub root_fault : (fault : TreeFault)
         → index.Judges (fresh_in old.index) (value_at old.map) (starts (heading_of old.index) kind page) {A = Unit {0}} true (Err fault)
         → Meets old old e (Err (step_fault fault))
-    root_fault tree.NoMemory k = record { judged = λ heading h s. tt; taken = tt; unchanged = λ heading h s. s }
+    root_fault tree.NoMemory k = record { judged = λ heading h s. tt; taken = tt; unchanged = λ heading h s. s; frugal = λ heading h s. (refl, refl) }
     root_fault (tree.Limit which) k = absurd k
     root_fault (tree.NotFresh at) k = meets_broken old e NotFresh at (λ heading h s.
         root_is heading (rules heading) h (view_of old.map old.index) s.told pe page kind lock
@@ -120,6 +120,7 @@ module _ (laws : (heading : Heading) → Laws heading) (rules : (heading : Headi
           judged = λ heading h s. by fault heading h (full heading h s.roots) none s;
           taken = tt;
           unchanged = λ heading h s. stands_same old ready heading h s (same heading h s.roots);
+          frugal = frugal_else old e (Err fault) (λ heading h s. (refl, refl));
         }
           where
             by : (f : StepFault) → (heading : Heading) (h : List Event) → ((f ≡ Limit Roots) → limit_of h e ≡ Some Roots)
@@ -150,6 +151,7 @@ module _ (laws : (heading : Heading) → Laws heading) (rules : (heading : Headi
               idle)
               (taken heading h (same heading h s.roots) (free heading h s));
           unchanged = tt;
+          frugal = tt;
         }
           where
             no_limit : (heading : Heading) (h : List Event) → Stands old heading h → limit_of h e ≡ None
@@ -165,6 +167,7 @@ module _ (laws : (heading : Heading) → Laws heading) (rules : (heading : Headi
     judged = λ heading h s. subst (λ (f : StepFault). Answers (Err f) (broken heading Patterns h e) (limit_of h e)) (sym k) tt;
     taken = tt;
     unchanged = same;
+    frugal = frugal_else old e (Err fault) (λ heading h s. (refl, refl));
   }
 
 -- the page of a root fits

@@ -129,6 +129,7 @@ module _ (laws : (heading : Heading) → Laws heading) (old new : Parts) (m1 m2 
         (λ p. refl) (λ p. refl) tracked (λ p. refl) refl)
         (taken heading h s.roots);
     unchanged = tt;
+    frugal = tt;
   }
 
 pub hears_of : (old : Parts) (m1 : PlaceMap) (pe : ℕ) (dsb : Barrier) (s : Bool) (n : ℕ)

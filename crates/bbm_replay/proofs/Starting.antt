@@ -28,7 +28,7 @@ use Rattle.bbm_replay.specs.Standing.{MayMeet, Meets, SameFrame, Stands, view_of
 use Rattle.bbm_replay.specs.declared.parts.Parts.{Parts}
 use Rattle.bbm_replay.proofs.Framing.{stands_next, stands_still}
 use Rattle.bbm_replay.proofs.Judging.{init_free, init_limit, init_no_limit, init_used, null_free, null_used, null_wrong}
-use Rattle.bbm_replay.proofs.Meeting.{fits_all}
+use Rattle.bbm_replay.proofs.Meeting.{fits_all, frugal_else}
 use Rattle.bbm_replay.proofs.PageMoves.{after_init, after_null}
 
 -- the law of the roots for an event that doesn't concern them
@@ -40,7 +40,7 @@ Others = (state : RootState) (heading : Heading) (h : List Event) (e : Event) �
 pub meets_broken : (p : Parts) (e : Event) (rule : Rule) (at : ℕ)
     → ((heading : Heading) (h : List Event) → Stands p heading h
     → broken heading Patterns h e ≡ Some (record { rule = rule; at = at })) → Meets p p e (Err (Broken rule at))
-meets_broken p e rule at k = record { judged = k; taken = tt; unchanged = λ heading h s. s }
+meets_broken p e rule at k = record { judged = k; taken = tt; unchanged = λ heading h s. s; frugal = tt }
 
 module _ (laws : (heading : Heading) → Laws heading) (rules : (heading : Heading) → Rules heading) (others : Others)
     (old new : Parts) (pe page : ℕ) where
@@ -67,6 +67,7 @@ module _ (laws : (heading : Heading) → Laws heading) (rules : (heading : Headi
             (subst (λ (r : RootState). roots.Stands r heading (Init pe page ∷ h)) (sym same_roots)
             (others old.roots heading h (Init pe page) s.roots refl unbroken));
         unchanged = tt;
+        frugal = tt;
       }
 
       pub init_err : (fault : StepFault) → ((fault ≡ Limit Pages) → (known_in old.index page ≡ false) × (16384 ≤ pages_in old.index))
@@ -77,6 +78,7 @@ module _ (laws : (heading : Heading) → Laws heading) (rules : (heading : Headi
         taken = tt;
         unchanged = λ heading h s. stands_still laws old new frame same heading h s
             (subst (λ (r : RootState). roots.Stands r heading h) (sym same_roots) s.roots);
+        frugal = frugal_else old (Init pe page) (Err fault) (λ heading h s. (refl, refl));
       }
         where
           other : Which → Bool
@@ -125,6 +127,7 @@ module _ (laws : (heading : Heading) → Laws heading) (rules : (heading : Headi
             (subst (λ (r : RootState). roots.Stands r heading (Null pe page ∷ h)) (sym same_roots)
             (others old.roots heading h (Null pe page) s.roots refl (unbroken heading h s)));
         unchanged = tt;
+        frugal = tt;
       }
         where
           unbroken : (heading : Heading) (h : List Event) → Stands old heading h → broken heading Patterns h (Null pe page) ≡ None

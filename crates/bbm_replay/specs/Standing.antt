@@ -1,5 +1,5 @@
 -- What a checker without a history stands for. A history is newest first. Source: project's own choice.
-use Rattle.std.specs.Prelude.{◌≡◌, ℕ, true, List, ◌∷◌, length, Option, Some, None, Result, OnErr, OnOk}
+use Rattle.std.specs.Prelude.{◌≡◌, ℕ, true, false, List, ◌∷◌, length, Option, Some, None, Result, Err, OnErr, OnOk}
 use Rattle.bbm_place_map.specs.Map.{is_tracked, marks_at, pends_at, value_at}
 use Rattle.bbm_place_map.specs.declared.map.PlaceMap.{PlaceMap}
 use Rattle.bbm_tree_index.specs.Agreement.{IsSound}
@@ -7,7 +7,7 @@ use Rattle.bbm_tree_index.specs.Index.{fresh_in, heading_of, known_in, node_in, 
 use Rattle.bbm_tree_index.specs.declared.index.TreeIndex.{TreeIndex}
 use Rattle.bbm_replay_roots.specs.Stands as roots
 use Rattle.bbm_events.specs.Fits.{fits_heading}
-use Rattle.bbm_rules.specs.Answers.{Answers}
+use Rattle.bbm_rules.specs.Answers.{Answers, rewrites, takes_no_memory}
 use Rattle.bbm_rules.specs.Broken.{broken}
 use Rattle.bbm_rules.specs.Claims.Trust.{Patterns}
 use Rattle.bbm_descriptor.specs.declared.desc.Core.{Core}
@@ -20,6 +20,7 @@ use Rattle.bbm_tree_index.specs.declared.role.Path.{Path}
 use Rattle.bbm_replay_trees.specs.Told.{notes}
 use Rattle.bbm_rules.specs.Prelude.{Heading, Event}
 use Rattle.bbm_rules.specs.declared.step_fault.StepFault.{StepFault}
+use Rattle.bbm_rules.specs.declared.step_fault.StepFault.TheVariants.{NoMemory}
 use Rattle.bbm_replay.specs.Told.{Told}
 use Rattle.bbm_replay.specs.View.{View, core_at}
 use Rattle.bbm_replay.specs.declared.parts.Parts.{Parts}
@@ -51,6 +52,12 @@ pub record Stands (parts : Parts) (heading : Heading) (h : List Event) : Type 0 
 abbrev pub MayMeet : Parts → Event → Type 0
 MayMeet parts e = (heading : Heading) × (h : List Event) × Stands parts heading h × (fits_heading heading e ≡ true)
 
+-- want of memory comes only of an event that may take memory
+abbrev pub IsFrugal : Parts → Event → Result (Unit {0}) StepFault → Type 0
+IsFrugal parts e (Err NoMemory) = (heading : Heading) (h : List Event) → Stands parts heading h
+    → (takes_no_memory e ≡ false) × (rewrites heading h e ≡ false)
+IsFrugal parts e _ = Unit {0}
+
 -- The answer to an event, and what the parts stand for then: for the history with the event after Ok, and else for what
 -- they stood for.
 pub record Meets (old new : Parts) (e : Event) (result : Result (Unit {0}) StepFault) : Type 0 where
@@ -58,6 +65,7 @@ pub record Meets (old new : Parts) (e : Event) (result : Result (Unit {0}) StepF
       → Answers result (broken heading Patterns h e) (limit_of h e)
   pub taken : OnOk result ((heading : Heading) (h : List Event) → Stands old heading h → Stands new heading (e ∷ h))
   pub unchanged : OnErr result ((heading : Heading) (h : List Event) → Stands old heading h → Stands new heading h)
+  pub frugal : IsFrugal old e result
 
 -- the checker stands for a history, as its parts do and with as many events as it counted
 pub record StandsFor (replay : Replay) (heading : Heading) (h : List Event) : Type 0 where

@@ -1,6 +1,6 @@
 //! The checker.
 
-ghost use Rattle.std.specs.Prelude.{◌≡◌, ℕ, List, [], true, false, IfOk};
+ghost use Rattle.std.specs.Prelude.{◌≡◌, ℕ, List, [], true, IfOk};
 ghost use Rattle.bbm_events.specs.declared.event.Event.{Event as TheEvent};
 ghost use Rattle.bbm_events.specs.Heading.{Heading};
 ghost use Rattle.bbm_place_map.specs.Map as map;
@@ -45,7 +45,7 @@ impl Memory for Replay {
 impl Checker for Replay {
     ghost stands = { λ replay heading h. StandsFor replay heading h };
 
-    ghost frugal = { λ replay. false };
+    ghost frugal = { λ replay. true };
 
     fn step(&mut self, alloc: Global, event: Event) -> Result<(), StepFault> {
         match self.parts.take(alloc, event) {
