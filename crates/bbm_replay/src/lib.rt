@@ -17,3 +17,6 @@ mod world;
 mod writes;
 
 pub use replay::Replay;
+
+#[cfg(test)]
+mod tests;
