@@ -4,7 +4,7 @@ use Rattle.bbm_regimes.specs.declared.regime.Which.{Which}
 use Rattle.bbm_regimes.specs.declared.regime.Which.TheVariants.{Events, Lines}
 use Rattle.bbm_events.specs.declared.event.Event.{Event}
 use Rattle.bbm_rules.specs.declared.limits.Limits.{Limits}
-use Rattle.bbm_rules.specs.Outcome.{check_limits, limit_at}
+use Rattle.bbm_rules.specs.Outcome.{check_limits, slow_limits, limit_at}
 use Rattle.bbm_rules.proofs.Judged.{judged}
 
 -- Eight writes of a register without an ISB of its PE between reach no limit.
@@ -79,12 +79,15 @@ no_root_comes_before_the_limit = refl
 -- too; these are laws over their numbers.
 
 module _ (h : List Event) (number : ℕ) where
-  -- After 2,000 events one more reaches the limit of `check`.
-  pub events_2000 : length h ≡ 2000 → limit_at check_limits number h None ≡ Some Events
+  -- After 2,000 events one more reaches the limit of `slow`, and none of `check`.
+  pub events_2000 : length h ≡ 2000 → limit_at slow_limits number h None ≡ Some Events
   events_2000 e = rw e refl
 
-  pub events_1999 : length h ≡ 1999 → limit_at check_limits 2001 h None ≡ None
+  pub events_1999 : length h ≡ 1999 → limit_at slow_limits 2001 h None ≡ None
   events_1999 e = rw e refl
+
+  pub events_have_no_limit : limit_at check_limits 2002 h None ≡ None
+  events_have_no_limit = refl
 
   -- A limit of the history comes before that of events, and that of events before that of lines.
   pub history_comes_before_events : (limits : Limits) (which : Which) → limit_at limits number h (Some which) ≡ Some which

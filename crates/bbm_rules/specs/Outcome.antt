@@ -44,11 +44,11 @@ bytes_of (line ∷ lines) rest = line ++ 10 ∷ bytes_of lines rest
 abbrev pub is_too_long : List ℕ → Bool
 is_too_long line = nat_lt 200 (length line)
 
--- the limits of `check`, as long as the oracle judges for it
+-- the limits of `check`, `explain` and `walk`: a log of any number of events, in lines whose numbers stay below 2^32 - 1
 abbrev pub check_limits : Limits
-check_limits = record { events = Some 2000; lines = 4294967295 }
+check_limits = record { events = None; lines = 4294967295 }
 
--- the limits of `slow`
+-- the limits of `slow`, which searches the whole history
 abbrev pub slow_limits : Limits
 slow_limits = record { events = Some 2000; lines = 4294967295 }
 
