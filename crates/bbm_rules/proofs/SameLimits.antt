@@ -1,5 +1,6 @@
 -- Where `slow` reaches no limit of events, `check` says the same of every input; and `check` reaches none.
-use Rattle.std.proofs.Common.{◌≡◌, ◌≢◌, ◌⊎◌, ℕ, suc, Bool, true, false, not, ◌&&◌, ◌==◌, nat_le, List, [], ◌∷◌, length, Option, Some, None, if◌then◌else◌, Result, Ok, Err, refl, ap, ◌∙◌, inl, inr}
+use Rattle.std.proofs.Common.{◌≡◌, ◌≢◌, ◌⊎◌, ℕ, suc, Bool, true, false, not, ◌&&◌, ◌==◌, nat_le, List, [], ◌∷◌, length}
+use Rattle.std.proofs.Common.{Option, Some, None, if◌then◌else◌, Result, Ok, Err, refl, ap, ◌∙◌, inl, inr}
 use Rattle.bbm_regimes.specs.declared.regime.Which.{Which}
 use Rattle.bbm_regimes.specs.declared.regime.Which.TheVariants.{Events, Lines, Pages, Roots, Values}
 use Rattle.bbm_events.specs.declared.event.Event.{Event}
@@ -15,7 +16,10 @@ use Rattle.bbm_rules.specs.Broken.{Breach, broken}
 use Rattle.bbm_rules.specs.Claims.{Trust}
 use Rattle.bbm_rules.specs.Limits.{limit_of}
 use Rattle.bbm_rules.specs.Lists.{among, if_so}
-use Rattle.bbm_rules.specs.Outcome.{Progress, AtHeader, AtEvents, AtEnd, Step, Decides, GoesOn, Outcome, after_header, after_item, after_judged, after_kept, after_line, check_limits, cut_at, end_of, is_too_long, limit_after, limit_at, outcome_after, outcome_from, outcome_of, slow_limits, step_of, text_of, too_long_at, verdict_of_bytes}
+use Rattle.bbm_rules.specs.Outcome.{Progress, AtHeader, AtEvents, AtEnd, Step, Decides, GoesOn, Outcome, after_header}
+use Rattle.bbm_rules.specs.Outcome.{after_item, after_judged, after_kept, after_line, check_limits, cut_at, end_of}
+use Rattle.bbm_rules.specs.Outcome.{is_too_long, limit_after, limit_at, outcome_after, outcome_from, outcome_of}
+use Rattle.bbm_rules.specs.Outcome.{slow_limits, step_of, text_of, too_long_at, verdict_of_bytes}
 use Rattle.bbm_rules.specs.Pages.{initialised}
 use Rattle.bbm_rules.specs.Prelude.{Init, Msr, Root}
 use Rattle.bbm_rules.specs.Registers.{register_values}
@@ -61,7 +65,8 @@ module _ (trust : Trust) (n : ℕ) where
   cut true p line = inl refl
   cut false p line = line_said p line
 
-  step_said : (p : Progress) (line : List ℕ) → Same n (step_of trust check_limits n p line) (step_of trust slow_limits n p line)
+  step_said : (p : Progress) (line : List ℕ)
+      → Same n (step_of trust check_limits n p line) (step_of trust slow_limits n p line)
   unfolding step_of
   step_said p line = cut (is_too_long line) p line
 
@@ -71,12 +76,14 @@ Within o = (line : ℕ) → o.verdict ≢ Limit line Events
 
 module _ (p : Progress) (line : List ℕ) (lines : List (List ℕ)) (rest : List ℕ) (f g : Progress → Outcome) where
   on_both : (s : Step) → ((next : Progress) → Within (g next) → f next ≡ g next)
-      → Within (outcome_after p line lines rest g s) → outcome_after p line lines rest f s ≡ outcome_after p line lines rest g s
+      → Within (outcome_after p line lines rest g s)
+      → outcome_after p line lines rest f s ≡ outcome_after p line lines rest g s
   on_both (Decides verdict) ih within = refl
   on_both (GoesOn next) ih within = ih next within
 
   after_step : (n : ℕ) (s t : Step) → Same n s t → ((next : Progress) → Within (g next) → f next ≡ g next)
-      → Within (outcome_after p line lines rest g t) → outcome_after p line lines rest f s ≡ outcome_after p line lines rest g t
+      → Within (outcome_after p line lines rest g t)
+      → outcome_after p line lines rest f s ≡ outcome_after p line lines rest g t
   after_step n s t (inl e) ih within = ap (outcome_after p line lines rest f) e ∙ on_both t ih within
   after_step n s t (inr e) ih within =
       absurd (within n (ap (λ (u : Step). (outcome_after p line lines rest g u).verdict) e))
@@ -128,7 +135,8 @@ module _ (n : ℕ) (heading : Heading) (h : List Event) (event : Event) where
   after_other (Some which) other v e line is = other (cc)
   after_other None other v e line is = cc
 
-  judged_other : (label : Option (List ℕ)) (o : Option Breach) → Passes (after_judged check_limits n heading h event label o)
+  judged_other : (label : Option (List ℕ)) (o : Option Breach)
+      → Passes (after_judged check_limits n heading h event label o)
   judged_other label (Some breach) = λ v e line is. cc
   judged_other label None = after_other (limit_at check_limits n h (limit_of h event))
       (of_both n h (limit_of h event) (of_history h event))
@@ -139,8 +147,10 @@ module _ (trust : Trust) (n : ℕ) where
   end_other true count h v e line is = cc
   end_other false count h v e line is = cc
 
-  item_other : (heading : Heading) (h : List Event) (r : Result Item Cause) → Passes (after_item trust check_limits n heading h r)
-  item_other heading h (Ok (item.Event event label)) = judged_other n heading h event label (broken heading trust h event)
+  item_other : (heading : Heading) (h : List Event) (r : Result Item Cause)
+      → Passes (after_item trust check_limits n heading h r)
+  item_other heading h (Ok (item.Event event label)) =
+      judged_other n heading h event label (broken heading trust h event)
   item_other heading h (Ok (item.End count)) = end_other (count == length h) count h
   item_other heading h (Err cause) = λ v e line is. cc
 
