@@ -13,10 +13,10 @@ ghost use Rattle.bbm_session.specs.Requests.{FaultAt, IsSomeTextFor, IsTextFor, 
 ghost use Rattle.bbm_session.specs.Requests.{request_of, status_for, unread_for};
 ghost use Rattle.bbm_session.specs.Run.{command_of, limits_of, tells_verdict, usage_text};
 ghost use Rattle.bbm_session.specs.Stages.{Shrinks};
-ghost use Rattle.bbm_session.specs.Writing.{Wrote, Part, Serves};
+ghost use Rattle.bbm_session.specs.Writing.{Obeys, Wrote, Part, Serves};
 
 use crate::answering::settled;
-use crate::command::{Request, said};
+use crate::command::{Command, Request, said};
 use crate::following::follow;
 use crate::generating::generate;
 use crate::obeying::obey;
@@ -24,6 +24,7 @@ use crate::status::Status;
 use crate::telling::tell;
 use bbm_io::{Sink, Source};
 use bbm_oracle::Oracle;
+use bbm_replay::Replay;
 use bbm_tlb_machine::law_accepted_is_safe;
 use std::alloc::Global;
 
@@ -42,6 +43,18 @@ fn say_usage<K: Sink>(out: &mut K) -> Status
     settled(tell(usage(), out), Status::Usage)
 }
 
+// Judges a log: for `slow` by the oracle, which searches the whole history, and else by the checker that keeps none.
+fn judge<S: Source, K: Sink>(alloc: Global, command: &Command, log: &mut S, out: &mut K) -> Status
+    ensures obeys { Obeys command.now result (S.left log.old) (S.left log.new) (S.faults log.old) (S.faults log.new)
+        (K.held out.old) (K.held out.new) (K.faults out.old) (K.faults out.new) }
+    ensures shrinks { Shrinks (S.left log.old) (S.left log.new) }
+{
+    match command {
+        Command::Slow => obey::<Oracle, S, K>(alloc, command, log, out),
+        _ => obey::<Replay, S, K>(alloc, command, log, out),
+    }
+}
+
 // Does what was asked for.
 fn serve<S: Source, K: Sink>(alloc: Global, request: &Request, log: &mut S, out: &mut K) -> Status
     ensures serves { Serves request.now result (S.left log.old) (S.left log.new) (S.faults log.old) (S.faults log.new)
@@ -49,7 +62,7 @@ fn serve<S: Source, K: Sink>(alloc: Global, request: &Request, log: &mut S, out:
     ensures shrinks { Shrinks (S.left log.old) (S.left log.new) }
 {
     match request {
-        Request::Judge(command) => obey::<Oracle, S, K>(alloc, command, log, out),
+        Request::Judge(command) => judge(alloc, command, log, out),
         Request::Follow => follow(alloc, log, out),
         Request::Generate { number, events } => generate(*number, *events, out),
     }
