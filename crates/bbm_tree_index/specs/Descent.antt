@@ -12,8 +12,8 @@ pub record Translates (page : ℕ) (n : Node) (at place : ℕ) : Type 0 where
   pub from : region_start n place ≤ at
   pub to : at < region_start n place + input_pages n.level
 
--- The way down from a page to a place: the places of the way translate the input page, and each holds a table whose next
--- page has the next one.
+-- The way down from a page to a place: the places of the way translate the input page, and each holds a table whose
+-- next page has the next one.
 module _ (node : ℕ → Option Node) (core : Kind → ℕ → ℕ → Option Core) (at : ℕ) where
   abbrev pub IsWay : ℕ → List ℕ → ℕ → Type 0
   IsWay page [] a = (n : Node) × (node page ≡ Some n) × Translates page n at a
