@@ -29,8 +29,7 @@ use Rattle.bbm_roots.specs.Stands.{pes_of, world_of}
 use Rattle.bbm_roots.specs.Stands as lower
 use Rattle.bbm_roots.specs.Calls.{Call}
 use Rattle.bbm_roots.specs.Roots as called
-use Rattle.bbm_replay_roots.specs.Listed.{as_root}
-use Rattle.bbm_replay_roots.proofs.RootMaps.{root_same}
+use Rattle.bbm_replay_roots.proofs.RootMaps.{as_root, root_same}
 use Rattle.bbm_replay_roots.specs.Bridge.{calls_of}
 use Rattle.bbm_replay_roots.specs.Laws.{Laws}
 use Rattle.bbm_replay_roots.specs.Stands.{Stands, concerns_roots}

@@ -11,7 +11,10 @@ use Rattle.bbm_roots.specs.Roots as calls
 use Rattle.bbm_roots.specs.declared.root.Declared.{Declared}
 use Rattle.bbm_replay_roots.specs.Bridge.{calls_of, issue_of, with_call}
 use Rattle.bbm_replay_roots.specs.Laws.{Laws}
-use Rattle.bbm_replay_roots.specs.Listed.{as_root}
+
+-- a declared root as the calls know it
+abbrev pub as_root : rules.Declared → Declared
+as_root r = record { page = r.page; kind = r.kind; lock = r.lock }
 
 -- what a TLBI doesn't change
 pub tlbi_same : {X : Type 0} (f : List Call → X) (heading : Heading) (pe : ℕ) (vmid : Option ℕ) (o : Option Scope) (cs : List Call)

@@ -35,8 +35,7 @@ use Rattle.bbm_replay_roots.specs.Laws.{Laws}
 use Rattle.bbm_replay_roots.specs.Stands.{Stands}
 use Rattle.bbm_replay_roots.specs.declared.state.RootState.{RootState}
 use Rattle.bbm_replay_roots.proofs.Judge.{agrees_by, broken_unroot, or_rule}
-use Rattle.bbm_replay_roots.specs.Listed.{as_root}
-use Rattle.bbm_replay_roots.proofs.RootMaps.{root_same}
+use Rattle.bbm_replay_roots.proofs.RootMaps.{as_root, root_same}
 use Rattle.bbm_replay_roots.proofs.TagMaps.{Agrees, tag_same}
 use Rattle.bbm_replay_roots.proofs.ValueMaps.{load_in, root_in}
 

@@ -10,7 +10,7 @@ use bbm_events::{Event, Header};
 use bbm_locks::Locks;
 use bbm_oracle_tags::wrong_world;
 use bbm_regimes::{Kind, NoMemory, Page, Pe, Reg, Which};
-use bbm_roots::{Declared, RootFault, Roots};
+use bbm_roots::{RootFault, Roots};
 use bbm_rules::{Rule, StepFault};
 use bbm_tlbi_scope::{Scope, TagSet, TlbiOp, decode};
 use std::alloc::Global;
@@ -85,7 +85,7 @@ impl RootState {
     ghost use Rattle.bbm_rules.specs.Rules as rules;
     ghost use Rattle.bbm_rules.specs.Tags as tags;
     ghost use Rattle.bbm_replay_roots.specs.Bridge.{has_null_base};
-    ghost use Rattle.bbm_replay_roots.specs.Listed.{as_root, nth_in};
+    ghost use Rattle.bbm_replay_roots.specs.Listed.{nth_in};
     ghost use Rattle.bbm_replay_roots.specs.Stands.{Stands, MayFollow, MayIssue, HasRoom, IsReady, Judges};
 
     /// What stands for the empty history of the header. `NoMemory` where there is none.
@@ -211,16 +211,19 @@ impl RootState {
     pub fn count(&self) -> usize
         ensures { (heading : Heading) (h : List TheEvent) (page : ℕ) (root : spec.Declared) → Stands self.now heading h
             → spec.root_at h page ≡ Some root
-            → (i : ℕ) × (i < result) × (nth_in self.now i ≡ Some (as_root root)) }
+            → (i : ℕ) × (i < result) × (nth_in self.now i ≡ Some (root.kind, root.page)) }
     {
         self.roots.count()
     }
 
-    /// The declared root with this number, from 0 on; None where there is none.
-    pub fn nth(&self, index: usize) -> Option<Declared>
+    /// The kind and the first page of the declared root with this number, from 0 on; None where there is none.
+    pub fn nth(&self, index: usize) -> Option<(Kind, Page)>
         ensures { result ≡ nth_in self.now index }
     {
-        self.roots.nth(index)
+        match self.roots.nth(index) {
+            Some(root) => Some((root.kind, root.page)),
+            None => None,
+        }
     }
 
     // ---- judgements

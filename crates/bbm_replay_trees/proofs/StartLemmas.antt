@@ -40,9 +40,10 @@ module _ (heading : Heading) (b : Below heading) (h : List Event) where
         level = omega (arith, deep, low);
       }) in
       let one : k.start ≡ m = first_of m none k.start (down_under heading b h k.places k.start m there k.down) in
-      let says = b.root_node k.root k.start k.is_start in
-      (k.root,
-      found k.root (subst (λ es. Contains (roots_of es) k.root) (b.events_noted h) k.declared),
-      sym (ap (λ (x : Node). x.root) one) ∙ says.2,
-      sym (ap (λ (x : Node). x.kind) one) ∙ says.0,
-      subst (λ (x : Node). Contains (root_pages heading.world k.root.kind k.root.page) x.page) one says.4)
+      let says = b.root_node k.root k.start k.is_start in (
+        k.root,
+        found k.root (subst (λ es. Contains (roots_of es) k.root) (b.events_noted h) k.declared),
+        sym (ap (λ (x : Node). x.root) one) ∙ says.2,
+        sym (ap (λ (x : Node). x.kind) one) ∙ says.0,
+        subst (λ (x : Node). Contains (root_pages heading.world k.root.kind k.root.page) x.page) one says.4,
+      )
