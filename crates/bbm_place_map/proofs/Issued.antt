@@ -1,7 +1,7 @@
 -- What the issue of a TLBI notes, of a place.
-use Rattle.std.proofs.Common.{◌≡◌, ℕ, Bool, true, ◌<◌, List, length, Option, Some, None, is_some, refl, ap, sym, subst, ◌∙◌, arith, inl, inr, slice_get, unwrap_or}
+use Rattle.std.proofs.Common.{◌≡◌, ℕ, Bool, true, false, ◌<◌, List, length, Option, Some, None, is_some, refl, ap, sym, subst, ◌∙◌, arith, inl, inr, slice_get, unwrap_or}
 use Rattle.std.specs.Option.{option_map}
-use Rattle.std.proofs.lemmas.Option.{slice_get_cases}
+use Rattle.std.proofs.lemmas.Option.{slice_get_cases, slice_get_within, same_Some}
 use Rattle.bbm_regimes.specs.declared.pe.PeMask.{PeMask}
 use Rattle.bbm_tlbi_scope.specs.declared.entry.Cover.{Cover}
 use Rattle.bbm_entry_state.specs.Calls.{Noted}
@@ -11,7 +11,7 @@ use Rattle.bbm_entry_state.specs.declared.state.EntryState.TheVariants.{Broken}
 use Rattle.bbm_place_map.specs.Cells.{slot_in}
 use Rattle.bbm_place_map.specs.Each.{Advances}
 use Rattle.bbm_place_map.specs.Entries.{no_pends, entry_of, pends_in, pends_of}
-use Rattle.bbm_place_map.specs.Notes.{Keeps, NotesAt}
+use Rattle.bbm_place_map.specs.Notes.{Keeps, NotesAt, is_cover}
 use Rattle.bbm_place_map.specs.Parts.{marks_in, pends_for}
 use Rattle.bbm_place_map.specs.Sound.{Linked, Numbered, Placed, index_of, at_index}
 use Rattle.bbm_place_map.specs.States.{state_from}
@@ -20,6 +20,7 @@ use Rattle.bbm_place_map.specs.declared.entry.Entry.{Entry}
 use Rattle.bbm_place_map.specs.declared.entry.Pending.{Pending}
 use Rattle.bbm_place_map.proofs.Advancing.{at_both}
 use Rattle.bbm_place_map.proofs.Noting.{noted_alike}
+use Rattle.bbm_place_map.proofs.Places.{index_once}
 use Rattle.bbm_place_map.proofs.Restless.{entry_there, marks_are, place_each}
 
 cover_there : (covers : List Cover) (i : ℕ) → i < length covers → (c : Cover) × (slice_get covers i ≡ Some c)
@@ -82,3 +83,49 @@ module _ (base : ℕ → Option ℕ) (cells : List Cell) (entries mid new : List
       (at_index no_pends (pends_for cells entries issuer) (index_of base x)) reach broadcast c.0
       (at_index no_pends (pends_for cells new issuer) (index_of base x)) in
       (c.0, subst M place (may i.0 e.0 c.0 e.1 c.1), subst N place (at_place i.0 e.0 c.0 e.1 c.1))
+
+  gone : (m : ℕ) (o p r : Option Entry) → Advances Keeps o p → Advances (NotesAt covers issuer reach broadcast m) p r → o ≡ None
+      → pends_of issuer r ≡ pends_of issuer o
+  gone m None None None h h' is = refl
+  gone m None None (Some g) h h' is = absurd h'
+  gone m None (Some f) r h h' is = absurd h
+  gone m (Some e) p r h h' is = cc
+
+  unmoved : (m : ℕ) (c : Cover) (o p r : Option Entry) → Advances Keeps o p → Advances (NotesAt covers issuer reach broadcast m) p r
+      → slice_get covers m ≡ Some c → is_cover c ≡ false → pends_of issuer r ≡ pends_of issuer o
+  unmoved m c None None None h h' is none = refl
+  unmoved m c None None (Some g) h h' is none = absurd h'
+  unmoved m c None (Some f) r h h' is none = absurd h
+  unmoved m c (Some e) None r h h' is none = absurd h
+  unmoved m c (Some e) (Some f) None h h' is none = absurd h'
+  unmoved m c (Some e) (Some f) (Some g) h h' is none =
+      ap (λ (ps : List Pending). pends_in ps issuer) (h'.1.3 c is none) ∙ ap (λ (ps : List Pending). pends_in ps issuer) h.1.1
+
+  module _ (count : ℕ) (numbered : Numbered base count) (covered : ℕ → Cover)
+      (each : (m : ℕ) (e : Entry) (c : Cover) → slice_get entries m ≡ Some e → slice_get covers m ≡ Some c → c ≡ covered e.place) where
+    unnoted_in : (a : ℕ) (o : Option ℕ) → index_of base a ≡ o → (s : Option ℕ) → at_index None (slot_in cells) o ≡ s
+        → (e : Option Entry) → entry_of entries s ≡ e → is_cover (covered a) ≡ false
+        → at_index no_pends (pends_for cells new issuer) o ≡ at_index no_pends (pends_for cells entries issuer) o
+    unnoted_in a None is s at e was none = refl
+    unnoted_in a (Some j) is None at e was none =
+        ap (λ (x : Option ℕ). pends_of issuer (entry_of new x)) at ∙ sym (ap (λ (x : Option ℕ). pends_of issuer (entry_of entries x)) at)
+    unnoted_in a (Some j) is (Some k) at None was none =
+        ap (λ (x : Option ℕ). pends_of issuer (entry_of new x)) at
+        ∙ gone k (slice_get entries k) (slice_get mid k) (slice_get new k) (kept k) (noted k) was
+        ∙ sym (ap (λ (x : Option ℕ). pends_of issuer (entry_of entries x)) at)
+    unnoted_in a (Some j) is (Some k) at (Some e) was none =
+        let cell : e.cell ≡ j = same_Some e.cell j (sym (ap (option_map (λ (x : Entry). x.cell)) was) ∙ linked.forth j k at) in
+        let here : index_of base e.place ≡ Some j = placed k e was ∙ ap (λ (n : ℕ). Some n) cell in
+        let place : e.place ≡ a = index_once base count numbered e.place a j here is in
+        let within : k < length entries = slice_get_within entries k e was in
+        let c = cover_there covers k (omega arith) in
+        ap (λ (x : Option ℕ). pends_of issuer (entry_of new x)) at
+        ∙ unmoved k c.0 (slice_get entries k) (slice_get mid k) (slice_get new k) (kept k) (noted k) c.1
+        (ap is_cover (each k e c.0 was c.1 ∙ ap covered place) ∙ none)
+        ∙ sym (ap (λ (x : Option ℕ). pends_of issuer (entry_of entries x)) at)
+
+    pub unnoted_at : (a : ℕ) → is_cover (covered a) ≡ false
+        → at_index no_pends (pends_for cells new issuer) (index_of base a) ≡ at_index no_pends (pends_for cells entries issuer) (index_of base a)
+    unnoted_at a none =
+        unnoted_in a (index_of base a) refl (at_index None (slot_in cells) (index_of base a)) refl
+        (entry_of entries (at_index None (slot_in cells) (index_of base a))) refl none

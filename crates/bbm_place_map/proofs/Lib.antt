@@ -16,5 +16,6 @@ pub mod Looking
 pub mod Completed
 pub mod Growing
 pub mod Noting
+pub mod Finding
 pub mod Issued
 pub mod Shown

@@ -31,3 +31,4 @@ NotesAt covers issuer reach broadcast m e f =
     (f.marks ≡ e.marks) × ((q : ℕ) → q ≢ issuer → pends_in f.pends.items q ≡ pends_in e.pends.items q)
     × ((c : Cover) → slice_get covers m ≡ Some c
     → Noted (Broken e.marks) (pends_in e.pends.items issuer) reach broadcast c (pends_in f.pends.items issuer))
+    × ((c : Cover) → slice_get covers m ≡ Some c → is_cover c ≡ false → f.pends.items ≡ e.pends.items)

@@ -1,18 +1,21 @@
 //! What the issue of a TLBI leaves to its answer.
 
-ghost use Rattle.std.specs.Prelude.{◌≡◌, ◌≢◌, ◌≤◌, ◌<◌, ℕ, vec_len, vec_capacity, length, slice_get, Some, OnOk, List, nat_eq, true, if◌then◌else◌};
+ghost use Rattle.std.specs.Prelude.{◌≡◌, ◌≢◌, ◌≤◌, ◌<◌, ℕ, IfOk, vec_len, vec_capacity, length, slice_get, Some, OnOk, List, nat_eq, true, if◌then◌else◌};
 ghost use Rattle.bbm_entry_state.specs.Calls.{Noted};
 ghost use Rattle.bbm_entry_state.specs.declared.state.EntryState.TheVariants as state;
 ghost use Rattle.bbm_tlbi_scope.specs.declared.entry.Cover.{Cover as TheCover};
 ghost use Rattle.bbm_place_map.specs.Each.{Advances};
 ghost use Rattle.bbm_place_map.specs.Entries.{seat, pends_in};
+ghost use Rattle.bbm_place_map.specs.Finds.{cover_in};
 ghost use Rattle.bbm_place_map.specs.Notes.{Keeps, Readies, NotesAt, is_cover as spec_is_cover};
 ghost use Rattle.bbm_place_map.specs.declared.entry.Entry.{Entry as TheEntry};
 
 use crate::entry::{Entry, pends_of, put_pends};
+use crate::found::Found;
 use bbm_entry_state::EntryState;
-use bbm_regimes::{NoMemory, Pe, PeMask};
+use bbm_regimes::{NoMemory, Pe, PeMask, Place};
 use bbm_tlbi_scope::Cover;
+use std::alloc::Global;
 
 // Whether a TLBI covers a place at all.
 fn is_cover(cover: Cover) -> bool
@@ -98,4 +101,33 @@ pub fn note(broken: &mut Vec<Entry>, covers: &[Cover], issuer: Pe, reach: PeMask
             note_at(broken, k, issuer, reach, broadcast, cover);
         }
     }
+}
+
+// How far a place is covered by the first item of it.
+fn cover_of(found: &[Found], place: Place) -> Cover
+    ensures { result ≡ cover_in found.now place }
+{
+    for item in found {
+        if item.place == place {
+            return item.cover;
+        }
+    }
+    Cover::None
+}
+
+/// How far these items cover each broken place. `NoMemory` where there is none.
+pub fn covers_of(alloc: Global, broken: &[Entry], found: &[Found]) -> Result<Vec<Cover>, NoMemory>
+    ensures len { IfOk result (λ covers. length covers.items ≡ length broken.now) }
+    ensures each { IfOk result (λ covers. (m : ℕ) (e : TheEntry) (c : TheCover) → slice_get broken.now m ≡ Some e
+        → slice_get covers.items m ≡ Some c → c ≡ cover_in found.now e.place) }
+{
+    let mut covers = Vec::new(alloc);
+    for k in 0..broken.len() {
+        let cover = cover_of(found, broken[k].place);
+        match covers.push(cover) {
+            Ok(()) => {}
+            Err(_) => return Err(NoMemory),
+        }
+    }
+    Ok(covers)
 }

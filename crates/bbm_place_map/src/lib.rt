@@ -8,6 +8,7 @@
 //! - At a write call `state`, with the core of the value that the place has, or with None where that is invalid or the
 //!   page is in no tree. Call `write` of that state, with the core of the new value, and `set` with its result.
 //! - At a TLBI call `issue`, with a closure that says how far it covers a place. It is asked of the broken places alone.
+//!   Where the few places that it can cover are known call `issue_at` with these.
 //! - At a DSB call `publish`, then `complete`.
 //! - Where a page leaves its tree call `release`.
 //!
@@ -19,6 +20,7 @@ mod cell;
 mod complete;
 mod entry;
 pub mod example;
+mod found;
 mod issue;
 mod links;
 mod map;
@@ -27,6 +29,7 @@ mod read;
 mod write;
 
 pub use example::break_before_make;
+pub use found::Found;
 pub use map::PlaceMap;
 
 #[cfg(test)]

@@ -7,6 +7,7 @@ ghost use Rattle.bbm_place_map.specs.Sound.{Linked, Numbered, Placed};
 
 use crate::cell::Cell;
 use crate::entry::Entry;
+use crate::found::Found;
 use crate::{complete, issue, publish, read, write};
 use bbm_barriers::Dsb;
 use bbm_descriptor::{Core, Memory};
@@ -39,6 +40,7 @@ impl PlaceMap {
     ghost use Rattle.std.specs.Prelude.{ℕ, Bool, Some, None, true, false, Option, IsSome, IfSome, IfOk, length, slice_get, is_some, OnOk, OnErr, ◌||◌, not, ◌&&◌, ◌+◌, if◌then◌else◌};
     ghost use Rattle.bbm_entry_state.specs.Points.{is_broken, waits};
     ghost use Rattle.bbm_tlbi_scope.specs.declared.entry.Cover.{Cover as TheCover};
+    ghost use Rattle.bbm_place_map.specs.Finds.{is_found, FoundAs};
     ghost use Rattle.bbm_place_map.specs.Calls.{lost_table, IsSame, MayCover};
     ghost use Rattle.bbm_place_map.specs.declared.entry.Entry.{Entry as TheEntry};
     ghost use Rattle.bbm_entry_state.specs.Calls.{Published, Noted, Completed};
@@ -306,6 +308,40 @@ impl PlaceMap {
         issue::note(&mut self.broken, &covers, issuer, reach, broadcast);
         Ok(())
     }
+
+    /// The issuer issued a TLBI that reaches these PEs, is broadcast or not, and covers no broken place but these, each as
+    /// far as stands beside it. A place may stand there more than once, always with one cover, and one that isn't broken
+    /// counts for nothing. `NoMemory` where there is none, and nothing changes then. Only the pendings of the issuer change.
+    pub fn issue_at(
+        &mut self,
+        alloc: Global,
+        issuer: Pe,
+        reach: PeMask,
+        broadcast: bool,
+        found: &[Found],
+    ) -> Result<(), NoMemory>
+        ensures noted { OnOk result ((f : ℕ → TheCover) → FoundAs found.now f → (a : ℕ) → is_found found.now a ≡ true
+            → is_some (marks_at self.old a) ≡ true
+            → Noted (state_at self.old None a) (pends_at self.old issuer a) reach broadcast (f a) (pends_at self.new issuer a)) }
+        ensures unnoted { (a : ℕ) → is_found found.now a ≡ false → pends_at self.new issuer a ≡ pends_at self.old issuer a }
+        ensures others { (q a : ℕ) → nat_eq q issuer ≡ false → pends_at self.new q a ≡ pends_at self.old q a }
+        ensures kept { OnErr result (IsSame self.old self.new) }
+        ensures values { (a : ℕ) → value_at self.new a ≡ value_at self.old a }
+        ensures marks { (a : ℕ) → marks_at self.new a ≡ marks_at self.old a }
+        ensures pages { (page : ℕ) → is_tracked self.new page ≡ is_tracked self.old page }
+        ensures restless { restless_in self.new ≡ restless_in self.old }
+        ensures places { (i : ℕ) → restless_place self.new i ≡ restless_place self.old i }
+    {
+        let covers = issue::covers_of(alloc, &self.broken, found)?;
+        issue::make_room(&mut self.broken, &covers)?;
+        issue::note(&mut self.broken, &covers, issuer, reach, broadcast);
+        Ok(())
+    }
+
+    /// Nothing waits at a place that isn't broken. The call does nothing; the law is its contract.
+    pub fn law_idle(&self)
+        ensures { (q a : ℕ) → marks_at self.now a ≡ None → IsIdle (pends_at self.now q a) }
+    {}
 
     // The number of the first cell of a page; None where the page isn't tracked.
     fn base(&self, page: Page) -> Option<usize>

@@ -11,8 +11,7 @@ use Rattle.bbm_replay.specs.Standing.{view_of}
 use Rattle.bbm_replay.specs.Told.{Told}
 
 -- The map, the index and the roots stand for the history, this is what the TLBI names and the VMID of its issuer, and
--- the
--- place is broken.
+-- the place is broken.
 pub record MayBeCovered (heading : Heading) (h : List Event) (map : PlaceMap) (index : TreeIndex) (state : RootState)
     (pe : ℕ) (op : TlbiOp) (xt : ℕ) (scope : Scope) (vmid : Option ℕ) (place : ℕ) : Type 0 where
   pub told : Told heading h (view_of map index)
@@ -20,3 +19,11 @@ pub record MayBeCovered (heading : Heading) (h : List Event) (map : PlaceMap) (i
   pub named : named_scope heading h pe op xt ≡ Some scope
   pub vmid_is : vmid ≡ vmid_of heading h pe
   pub broken : is_some (marks_at map place) ≡ true
+
+-- the same of any place
+pub record MayBeIssued (heading : Heading) (h : List Event) (map : PlaceMap) (index : TreeIndex) (state : RootState)
+    (pe : ℕ) (op : TlbiOp) (xt : ℕ) (scope : Scope) (vmid : Option ℕ) : Type 0 where
+  pub told : Told heading h (view_of map index)
+  pub stands : roots.Stands state heading h
+  pub named : named_scope heading h pe op xt ≡ Some scope
+  pub vmid_is : vmid ≡ vmid_of heading h pe

@@ -6,3 +6,4 @@ pub mod Standing
 pub mod Faults
 pub mod Leaves
 pub mod Covering
+pub mod OnePage

@@ -83,7 +83,8 @@ pub record SameFrame (old new : Parts) : Type 0 where
 -- or the event breaks one of them, and this is the answer.
 pub record Clears (parts : Parts) (e : Event) (result : Result (Unit {0}) StepFault) : Type 0 where
   pub passed : OnOk result ((heading : Heading) (h : List Event) → Stands parts heading h
-      → (no_lock heading Patterns (notes heading h) e ≡ None) × (null_written heading Patterns (notes heading h) e ≡ None)
+      → (no_lock heading Patterns (notes heading h) e ≡ None)
+      × (null_written heading Patterns (notes heading h) e ≡ None)
       × (break_before_make heading Patterns (notes heading h) e ≡ None)
       × (limbo_make heading Patterns (notes heading h) e ≡ None))
   pub refused : OnErr result (Meets parts parts e result)

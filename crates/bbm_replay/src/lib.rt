@@ -3,8 +3,10 @@
 #![tactic(auto)]
 
 mod barriers;
+mod by_page;
 mod covers;
 mod faults;
+mod issues;
 mod laws;
 mod pages;
 mod parts;

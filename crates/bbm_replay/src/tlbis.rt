@@ -7,7 +7,7 @@ ghost use Rattle.bbm_tlbi_scope.specs.Operations as operations;
 ghost use Rattle.bbm_tree_index.specs.Agreement.{IsSound};
 ghost use Rattle.bbm_replay.specs.Standing.{MayMeet, Meets};
 
-use crate::covers::cover_of;
+use crate::issues::issue;
 use crate::laws::{laws, rules};
 use crate::parts::Parts;
 use crate::world::{cnp, pes};
@@ -57,16 +57,21 @@ impl Parts {
         match self.roots.named_scope(pe, op, xt) {
             Some(scope) => {
                 let reach = reach_of(&self.header, pe, op);
-                let _ = self.map.restless();
-                let index = &self.index;
-                let roots = &self.roots;
-                match self
-                    .map
-                    .issue(alloc, pe, reach, op.is_broadcast(), |map, place| {
-                        cover_of(map, index, roots, scope, vmid, place)
-                    }) {
+                self.map.law_idle();
+                match issue(
+                    alloc,
+                    &self.header,
+                    &mut self.map,
+                    &self.index,
+                    &self.roots,
+                    pe,
+                    op,
+                    reach,
+                    &scope,
+                    &vmid,
+                ) {
                     Ok(()) => {
-                        let _ = self.map.restless();
+                        self.map.law_idle();
                         self.roots.issue_ready(pe, op, xt);
                         Ok(())
                     }

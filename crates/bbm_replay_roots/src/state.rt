@@ -85,6 +85,7 @@ impl RootState {
     ghost use Rattle.bbm_rules.specs.Rules as rules;
     ghost use Rattle.bbm_rules.specs.Tags as tags;
     ghost use Rattle.bbm_replay_roots.specs.Bridge.{has_null_base};
+    ghost use Rattle.bbm_replay_roots.specs.Listed.{nth_in};
     ghost use Rattle.bbm_replay_roots.specs.Stands.{Stands, MayFollow, MayIssue, HasRoom, IsReady, Judges};
 
     /// What stands for the empty history of the header. `NoMemory` where there is none.
@@ -204,6 +205,25 @@ impl RootState {
     {
         bridge();
         self.roots.tags_of(page)
+    }
+
+    /// The number of declared roots, 0 to 1,024. Each has a number below it.
+    pub fn count(&self) -> usize
+        ensures { (heading : Heading) (h : List TheEvent) (page : ℕ) (root : spec.Declared) → Stands self.now heading h
+            → spec.root_at h page ≡ Some root
+            → (i : ℕ) × (i < result) × (nth_in self.now i ≡ Some (root.kind, root.page)) }
+    {
+        self.roots.count()
+    }
+
+    /// The kind and the first page of the declared root with this number, from 0 on; None where there is none.
+    pub fn nth(&self, index: usize) -> Option<(Kind, Page)>
+        ensures { result ≡ nth_in self.now index }
+    {
+        match self.roots.nth(index) {
+            Some(root) => Some((root.kind, root.page)),
+            None => None,
+        }
     }
 
     // ---- judgements

@@ -117,7 +117,7 @@ module _ (heading : Heading) (b : Below heading) (h : List Event) where
   under_next n place value next c inside holds table =
       record { parent = n; there = c; place = place; inside = inside; value = value; holds = holds; table = table; made = refl }
 
-  down_under : (places : List ℕ) (n m : Node) → Contains (tree heading Patterns marks) n → Down heading Patterns marks n places m
+  pub down_under : (places : List ℕ) (n m : Node) → Contains (tree heading Patterns marks) n → Down heading Patterns marks n places m
       → (n ≡ m) ⊎ Under m
   down_under [] n m c d = inl d
   down_under (place ∷ places) n m c d =
@@ -128,7 +128,7 @@ module _ (heading : Heading) (b : Below heading) (h : List Event) where
         | inr under ↦ inr under
       ]
 
-  down_level : (places : List ℕ) (n m : Node) → Down heading Patterns marks n places m → m.level ≡ n.level + length places
+  pub down_level : (places : List ℕ) (n m : Node) → Down heading Patterns marks n places m → m.level ≡ n.level + length places
   down_level [] n m d = let same : n.level ≡ m.level = ap (λ (x : Node). x.level) d in omega (arith, same)
   down_level (place ∷ places) n m d =
       let rest : m.level ≡ suc n.level + length places = down_level places (node_below n place d.3) m d.5 in omega (arith, rest)

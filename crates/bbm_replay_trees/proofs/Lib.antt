@@ -6,6 +6,7 @@ pub mod JudgeLemmas
 pub mod AttachLemmas
 pub mod NodeLemmas
 pub mod HangLemmas
+pub mod StartLemmas
 pub mod PageLemmas
 pub mod PlaceLemmas
 pub mod CountLemmas

@@ -8,6 +8,7 @@ pub mod nodes;
 pub mod pages;
 pub mod places;
 pub mod rules;
+pub mod starts;
 
 pub use cores::law_cores;
 pub use judging::{law_judging, law_unattached};
@@ -15,6 +16,7 @@ pub use nodes::{law_neighbours, law_nodes};
 pub use pages::{law_fresh_pages, law_pages, law_values};
 pub use places::{law_childless_by_cores, law_limbo_by_values, law_restless_places};
 pub use rules::{law_limits_of_events, law_page_rules, law_rules_of_events, law_write_rules};
+pub use starts::law_starts;
 
 #[cfg(test)]
 mod tests {
@@ -26,6 +28,7 @@ mod tests {
     use crate::rules::{
         law_limits_of_events, law_page_rules, law_rules_of_events, law_write_rules,
     };
+    use crate::starts::law_starts;
 
     #[test]
     fn laws_hold() {
@@ -41,6 +44,7 @@ mod tests {
         law_pages();
         law_restless_places();
         law_rules_of_events();
+        law_starts();
         law_unattached();
         law_values();
         law_write_rules();

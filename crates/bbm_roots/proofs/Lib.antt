@@ -14,3 +14,4 @@ pub mod Judged
 pub mod Numbers
 pub mod Users
 pub mod Callers
+pub mod Listing

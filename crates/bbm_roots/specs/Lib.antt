@@ -8,4 +8,5 @@ pub mod Refusals
 pub mod Registers
 pub mod Roots
 pub mod Stands
+pub mod Listed
 pub mod Tags

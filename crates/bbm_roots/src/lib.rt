@@ -9,7 +9,8 @@
 //!   each ISB, TLBI and DSB `isb`, `issue` and `complete`. A TLBI that reaches no PE, as a local one may where TLB
 //!   entries are shared, is left out.
 //! - A call that is refused changes nothing. `RootFault` says why it was.
-//! - `vmid_of`, `tags_of`, `lock_of`, `is_root` and `is_declared` tell what the list of accepted calls comes to.
+//! - `vmid_of`, `tags_of`, `lock_of`, `is_root`, `is_declared`, `count` and `nth` tell what the list of accepted calls
+//!   comes to.
 //!
 //! Each contract speaks of the list of calls that were accepted, by `Stands`. `first_root` is an example of the calls,
 //! with its proof.
@@ -30,6 +31,7 @@ mod vmid;
 
 pub use example::first_root;
 pub use fault::{InUse, RootFault, Unsynced};
+pub use root::Declared;
 pub use roots::Roots;
 
 #[cfg(test)]

@@ -35,6 +35,8 @@ impl Roots {
     ghost use Rattle.bbm_roots.specs.Calls.{Call};
     ghost use Rattle.bbm_roots.specs.Roots as spec;
     ghost use Rattle.bbm_roots.specs.Columns.{loads_in};
+    ghost use Rattle.bbm_roots.specs.Listed.{count_in, nth_in};
+    ghost use Rattle.bbm_roots.specs.declared.root.Declared.{Declared as TheRoot};
     ghost use Rattle.bbm_roots.specs.Holds.{hold_in, has_hold, conflict_in, HasTags};
     ghost use Rattle.bbm_roots.specs.Pendings.{pending_in};
     ghost use Rattle.bbm_roots.specs.Readings.{has_reading, has_tag, readings_of};
@@ -85,6 +87,25 @@ impl Roots {
     {
         match self.declared.get(&page.get()) {
             Some(root) => root.lock,
+            None => None,
+        }
+    }
+
+    /// The number of declared roots, 0 to 1,024.
+    pub fn count(&self) -> usize
+        ensures count { result ≡ count_in self.now }
+        ensures each { (calls : List Call) (page : ℕ) (root : TheRoot) → Stands self.now calls
+            → spec.root_at calls page ≡ Some root → (i : ℕ) × (i < result) × (nth_in self.now i ≡ Some root) }
+    {
+        self.declared.len()
+    }
+
+    /// The declared root with this number, from 0 on; None where there is none.
+    pub fn nth(&self, index: usize) -> Option<Declared>
+        ensures { result ≡ nth_in self.now index }
+    {
+        match self.declared.get_index(index) {
+            Some((_, root)) => Some(*root),
             None => None,
         }
     }

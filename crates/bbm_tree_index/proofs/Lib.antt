@@ -28,3 +28,4 @@ pub mod Reaching
 pub mod Hanging
 pub mod Surveying
 pub mod Attaching
+pub mod Descending

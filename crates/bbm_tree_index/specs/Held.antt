@@ -1,6 +1,7 @@
 -- What the places of trees hold, by a map: a broken place its core, another the core of its value where that is valid.
 -- Source: project's own choice.
-use Rattle.std.specs.Prelude.{◌≡◌, ℕ, suc, ◌%◌, Bool, true, false, not, ◌&&◌, ◌==◌, Option, Some, None, is_some, if◌then◌else◌}
+use Rattle.std.specs.Prelude.{◌≡◌, ℕ, suc, ◌%◌, Bool, true, false, not, ◌&&◌, ◌==◌, Option, Some, None}
+use Rattle.std.specs.Prelude.{is_some, if◌then◌else◌}
 use Rattle.std.specs.Option.{option_map_or}
 use Rattle.bbm_descriptor.specs.Descriptor.{core_of, is_valid}
 use Rattle.bbm_descriptor.specs.declared.desc.Core.{Core}

@@ -10,3 +10,4 @@ pub mod Agreement
 pub mod Survey
 pub mod Hanging
 pub mod Least
+pub mod Descent

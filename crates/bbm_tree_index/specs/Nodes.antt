@@ -18,8 +18,8 @@ is_null_role Null = true
 is_null_role _ = false
 
 module _ (roles : ℕ → Role) where
-  -- the places above a page of this role, the nearest first: of a page that hangs at a place that place, and those above
-  -- the page of the place. The number is the level of the page.
+  -- the places above a page of this role, the nearest first: of a page that hangs at a place that place, and those
+  -- above the page of the place. The number is the level of the page.
   abbrev pub above_by : ℕ → Role → List Above
   above_by (suc level) (Hangs parent _ _ _ _) =
       record { place = parent; level = level } ∷ above_by level (roles (page_of parent))

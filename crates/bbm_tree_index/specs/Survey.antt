@@ -1,5 +1,6 @@
 -- Which nodes the paths through fresh pages reach, and how a table of marks tells it. Source: project's own choice.
-use Rattle.std.specs.Prelude.{◌≡◌, ℕ, ◌-◌, ◌/◌, Bool, true, false, ◌==◌, List, [], ◌∷◌, length, Option, Some, None, Contains}
+use Rattle.std.specs.Prelude.{◌≡◌, ℕ, ◌-◌, ◌/◌, Bool, true, false, ◌==◌, List, [], ◌∷◌, length}
+use Rattle.std.specs.Prelude.{Option, Some, None, Contains}
 use Rattle.std.specs.Prelude.{if◌then◌else◌}
 use Rattle.std.specs.Prelude.{zero, suc, ◌+◌, ◌*◌, ◌<◌, ◌%◌, ◌^◌, is_some, nat_eq, slice_get}
 use Rattle.bbm_regimes.specs.declared.regime.Kind.{Kind}
@@ -99,8 +100,8 @@ Plain heading Has = (m : Node) → Has m → spot_with heading (role_as m m.abov
 abbrev pub fresh_of : {S : Type 0} → IndexMap ℕ Role S → ℕ → Bool
 fresh_of table page = is_fresh_role (roles_of table page)
 
--- A table for each level: where the first tells the starts, which have one kind and one level, each tells the nodes that
--- so many places reach.
+-- A table for each level: where the first tells the starts, which have one kind and one level, each tells the nodes
+-- that so many places reach.
 pub record Starting (heading : Heading) (first : ℕ → Option Mark) (starts : List Node) : Type 0 where
   pub plain : Plain heading (Contains starts)
   pub alike : (s s' : Node) → Contains starts s → Contains starts s' → (s.kind ≡ s'.kind) × (s.level ≡ s'.level)

@@ -1,8 +1,11 @@
 //! The index of the trees.
 
+ghost use Rattle.std.specs.Prelude.{◌≡◌, ◌++◌, [], ◌∷◌, OnOk};
+
 use crate::climb::{Asked, is_cut};
 use crate::fault::TreeFault;
 use crate::hang::hang_all;
+use crate::held::next_at;
 use crate::judge::{is_named, judge_tables};
 use crate::leaving::{Leaving, sweep};
 use crate::mark::Mark;
@@ -28,6 +31,16 @@ pub struct TreeIndex {
     roles: IndexMap<u64, Role>,
 }
 
+// Adds a place at the end.
+fn push_place(places: &mut Vec<Place>, place: Place) -> Result<(), NoMemory>
+    ensures { OnOk result (places.new.items ≡ places.old.items ++ place ∷ []) }
+{
+    match places.push(place) {
+        Ok(()) => Ok(()),
+        Err(_) => Err(NoMemory),
+    }
+}
+
 #[tactic(auto, unfolding(crate::specs::Index::heading_of, crate::specs::Index::role_in, crate::specs::Index::node_in, crate::specs::Index::fresh_in, crate::specs::Index::null_in, crate::specs::Index::known_in, crate::specs::Index::pages_in))]
 impl TreeIndex {
     ghost use Rattle.std.specs.Prelude.{◌≡◌, ◌==◌, ◌+◌, ◌≤◌, ◌↔◌, ◌&&◌, ◌||◌, not, true, false, ℕ, None, Some, is_some, nat_eq, IfOk, IfErr, IfSome, OnOk, OnErr, Err, if◌then◌else◌, ◌≢◌};
@@ -42,13 +55,14 @@ impl TreeIndex {
     ghost use Rattle.bbm_tree_index.specs.Nodes.{path_at};
     ghost use Rattle.bbm_tree_index.specs.Spots.{Fits, StandsAt, spot_with};
     ghost use Rattle.bbm_rules.specs.Tree.{Node};
-    ghost use Rattle.bbm_tree_index.specs.Held.{Childless, is_held, kept, leaves, limbo_at, stays_without};
+    ghost use Rattle.bbm_tree_index.specs.Descent.{IsWay};
+    ghost use Rattle.bbm_tree_index.specs.Held.{Childless, core_at, is_held, kept, leaves, limbo_at, stays_without};
     ghost use Rattle.bbm_tree_index.specs.Leaving.{stays};
     ghost use Rattle.bbm_tree_index.specs.Judged.{Judges, MayJudge, names_pages};
     ghost use Rattle.bbm_tree_index.specs.Least.{IsSurvey};
     ghost use Rattle.bbm_tree_index.specs.Paths.{Attached, starts_of};
     ghost use Rattle.bbm_tree_index.specs.Survey.{Starting, Well};
-    ghost use Rattle.std.specs.Prelude.{◌⊎◌, Contains, is_none};
+    ghost use Rattle.std.specs.Prelude.{◌⊎◌, ◌<◌, Contains, List, is_none, length};
     ghost use Rattle.indexmap.specs.IndexMap.{get};
 
     /// The index before any call. `NoMemory` where there is none.
@@ -126,6 +140,40 @@ impl TreeIndex {
         ensures none { result ≡ None → node_in self.now page ≡ None }
     {
         spot_of(&self.header, &self.role(page))
+    }
+
+    /// Adds the places that are met on the way down from a page along an input page, of so many pages at most: of each
+    /// page that place which translates the input page; where it holds a table, the way goes on in its next page.
+    /// `NoMemory` where there is none.
+    pub fn descend(
+        &self,
+        map: &PlaceMap,
+        page: Page,
+        at: u64,
+        left: u8,
+        places: &mut Vec<Place>,
+    ) -> Result<(), NoMemory>
+        requires { IsSound self.now }
+        ensures kept { OnOk result ((a : ℕ) → Contains places.old.items a → Contains places.new.items a) }
+        ensures met { OnOk result ((way : List ℕ) (a : ℕ) → length way < left
+            → IsWay (node_in self.now) (core_at map.now) at page way a → Contains places.new.items a) }
+    {
+        if left == 0 {
+            return Ok(());
+        }
+        match self.spot(page) {
+            Some(spot) => match spot.place_at(page, at) {
+                Some(place) => {
+                    push_place(places, place)?;
+                    match next_at(map, spot.kind, spot.level, place) {
+                        Some(next) => self.descend(map, next, at, left - 1, places),
+                        None => Ok(()),
+                    }
+                }
+                None => Ok(()),
+            },
+            None => Ok(()),
+        }
     }
 
     /// Whether the present value of a place above the place is invalid; false where its page is in no tree.

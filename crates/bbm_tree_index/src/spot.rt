@@ -7,7 +7,7 @@ ghost use Rattle.bbm_tree_index.specs.Held.{holds_at};
 ghost use Rattle.bbm_regimes.specs.World.{input_pages as input_pages_of};
 ghost use Rattle.bbm_tree_index.specs.Spots.{spot_with, Fits, RoleFits};
 
-use crate::held::{holds_none, next_at};
+use crate::held::{holds_none, next_at, place_of};
 use crate::role::{Path, Role};
 use crate::world::{first_input_page, input_pages, start_level};
 use bbm_events::Header;
@@ -70,9 +70,9 @@ fn deeper(level: u8) -> u8
 }
 
 impl Spot {
-    ghost use Rattle.std.specs.Prelude.{◌↔◌, true};
+    ghost use Rattle.std.specs.Prelude.{◌↔◌, ◌<◌, true, Some};
     ghost use Rattle.bbm_rules.specs.Tree.{Node};
-    ghost use Rattle.bbm_tree_index.specs.Held.{Childless};
+    ghost use Rattle.bbm_tree_index.specs.Held.{Childless, is_at};
     ghost use Rattle.bbm_tree_index.specs.Spots.{StandsAt};
     ghost use Rattle.bbm_rules.specs.Places.{index_of};
 
@@ -82,6 +82,24 @@ impl Spot {
         ensures { result ≡ self.now.base + index_of place * input_pages_of self.now.level }
     {
         self.base + place.index() as u64 * input_pages(self.level)
+    }
+
+    /// The place of the page that translates the input page, None where there is none.
+    pub fn place_at(&self, page: Page, at: u64) -> Option<Place>
+        requires { Fits self.now }
+        ensures { (a : ℕ) → is_at page a ≡ true → self.now.base + index_of a * input_pages_of self.now.level ≤ at
+            → at < self.now.base + index_of a * input_pages_of self.now.level + input_pages_of self.now.level
+            → result ≡ Some a }
+    {
+        if at < self.base {
+            return None;
+        }
+        let index = (at - self.base) / input_pages(self.level);
+        if index < 512 {
+            Some(place_of(page, index))
+        } else {
+            None
+        }
     }
 
     /// Whether the place of the page holds a table no place of which holds anything.

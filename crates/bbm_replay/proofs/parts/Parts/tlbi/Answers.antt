@@ -9,7 +9,7 @@ use Rattle.bbm_rules.specs.Claims.Trust.{Patterns}
 use Rattle.bbm_rules.specs.Covers.{cover_at}
 use Rattle.bbm_rules.specs.Prelude.{Tlbi}
 use Rattle.bbm_replay_trees.specs.Told.{notes}
-use Rattle.bbm_replay.specs.Covering.{MayBeCovered}
+use Rattle.bbm_replay.specs.Covering.{MayBeIssued}
 use Rattle.bbm_replay.specs.declared.parts.Parts.{Parts}
 use Rattle.bbm_replay.proofs.Framing.{same_of, stands_still}
 use Rattle.bbm_replay.proofs.Issuing.{tlbi_meets}
@@ -18,7 +18,7 @@ use Rattle.bbm_replay.proofs.parts.Parts.tlbi.Goals as goal
 pub returns-in-Err-issue : goal.returns-in-Err-issue
 returns-in-Err-issue c =
     let old = c.args.self.now in
-    let new : Parts = record old { map = c.issue.new.self; roots = c.prepare_issue.new.self } in
+    let new : Parts = record old { map = c.issue.new.map; roots = c.prepare_issue.new.self } in
     record {
       judged = λ heading h s. tt;
       taken = tt;
@@ -33,31 +33,17 @@ pub returns-in-Ok-issue : goal.returns-in-Ok-issue
 returns-in-Ok-issue c =
     let old = c.args.self.now in
     let e = c.in-Ok-issue.ensures in
-    tlbi_meets c.laws.ensures c.rules.ensures old c.issue.new.self c.issue_ready.new.self c.args.pe c.args.op c.args.xt c.requires
+    tlbi_meets c.laws.ensures c.rules.ensures old c.issue.new.map c.issue_ready.new.self c.args.pe c.args.op c.args.xt c.requires
     c.in-Ok.ensures c.reach_of-reach.result c.reach_of-reach.ensures
     (λ heading h s a broken.
-    let n = e.noted a broken in
-    let m : MayBeCovered heading h old.map old.index c.prepare_issue.new.self c.args.pe c.args.op c.args.xt c.in-Some.scope c.vmid_of-vmid.result a
+    let st = c.prepare_issue.ensures.same heading h s.roots in
+    let m : MayBeIssued heading h old.map old.index c.prepare_issue.new.self c.args.pe c.args.op c.args.xt c.in-Some.scope c.vmid_of-vmid.result
     = record {
       told = s.told;
-      stands = c.prepare_issue.ensures.same heading h s.roots;
-      named = sym (c.named_scope.ensures heading h (c.prepare_issue.ensures.same heading h s.roots)) ∙ c.in-Some.is;
-      vmid_is = c.vmid_of-vmid.ensures heading h (c.prepare_issue.ensures.same heading h s.roots);
-      broken = broken;
+      stands = st;
+      named = sym (c.named_scope.ensures heading h st) ∙ c.in-Some.is;
+      vmid_is = c.vmid_of-vmid.ensures heading h st;
     } in
-    let shown = n.1.shown in
-    let shows = n.1.shows in
-    let says = n.1.says in
-    let same : n.0 ≡ cover_at heading Patterns (notes heading h) (Tlbi c.args.pe c.args.op c.args.xt) a
-    = (let told = says.met.1 in
-    let may : MayBeCovered heading h shown.now old.index c.prepare_issue.new.self c.args.pe c.args.op c.args.xt c.in-Some.scope c.vmid_of-vmid.result a
-    = subst (λ (x : PlaceMap). MayBeCovered heading h x old.index c.prepare_issue.new.self c.args.pe c.args.op c.args.xt c.in-Some.scope c.vmid_of-vmid.result a) (sym shows) m in
-    search rules) in
-    let at : Noted (state_from None (marks_at old.map a)) (pends_at old.map c.args.pe a) c.reach_of-reach.result c.is_broadcast.result n.0
-    (pends_at c.issue.new.self c.args.pe a) = n.2 in
-    subst (λ (x : Cover). Noted (state_from None (marks_at old.map a)) (pends_at old.map c.args.pe a) c.reach_of-reach.result
-    (operation c.args.op).broadcast x (pends_at c.issue.new.self c.args.pe a)) same
-    (subst (λ b. Noted (state_from None (marks_at old.map a)) (pends_at old.map c.args.pe a) c.reach_of-reach.result b n.0
-    (pends_at c.issue.new.self c.args.pe a)) c.is_broadcast.ensures at))
-    e.others c.restless.ensures.idle c.restless-in-Ok-issue.ensures.idle e.values e.marks e.pages
+    e.noted heading h c.args.xt s.header m a broken)
+    e.others c.law_idle.ensures c.law_idle-in-Ok-issue.ensures e.values e.marks e.pages
     (λ heading h s. c.issue_ready.ensures.taken heading h (c.prepare_issue.ensures.same heading h s.roots) (c.in-Ok.ensures heading h s.roots))

@@ -1,0 +1,264 @@
+-- What a TLBI of one page covers lies on the way down to the page.
+use Rattle.std.proofs.Common.{◌≡◌, ℕ, zero, suc, ◌+◌, ◌-◌, ◌*◌, ◌%◌, ◌^◌, ◌<◌, ◌≤◌, ◌&&◌, ◌==◌, nat_le, Bool, true, false, cond, List, [], ◌∷◌, length, Option, Some, None, Contains, slice_index_or, is_none, is_some, not, option_and_then, refl, sym, ◌∙◌, ap, subst, arith, true≢false, not-suc-le-zero, le_of_suc-le-suc}
+use Rattle.std.proofs.Math.Nat.{mul-le-mul_right}
+use Rattle.std.proofs.lemmas.Bool.{and_parts, eq-eqb, leb-true, le-leb}
+use Rattle.bbm_descriptor.specs.declared.desc.Core.{Core}
+use Rattle.bbm_regimes.specs.Extent.{Extent, holds, meets}
+use Rattle.bbm_regimes.specs.World.{input_pages, page_count}
+use Rattle.bbm_regimes.specs.declared.regime.Kind.{Kind}
+use Rattle.bbm_regimes.specs.declared.regime.Kind.TheVariants.{El2, S2, Ttbr0, Ttbr1}
+use Rattle.bbm_tlbi_scope.specs.Covers.{cover_by, cover_of, fits_place}
+use Rattle.bbm_tlbi_scope.specs.Numbers.{hint_allows, lacks_vmid, names_all, names_some}
+use Rattle.bbm_tlbi_scope.specs.Operations.{has_page}
+use Rattle.bbm_tlbi_scope.specs.declared.entry.Cover.{Cover}
+use Rattle.bbm_tlbi_scope.specs.declared.entry.Cover.TheVariants.{None as NoCover}
+use Rattle.bbm_tlbi_scope.specs.declared.entry.PlaceView.{PlaceView}
+use Rattle.bbm_tlbi_scope.specs.declared.scope.Family.{Family}
+use Rattle.bbm_tlbi_scope.specs.declared.scope.Family.TheVariants.{El2All, El2Va, E1All, VmAll1, VmAll12, Ipa, Va, VaAll, Asid}
+use Rattle.bbm_tlbi_scope.specs.declared.scope.Scope.{Scope}
+use Rattle.bbm_events.specs.Heading.{Heading}
+use Rattle.bbm_rules.specs.Broken.{keeps}
+use Rattle.bbm_rules.specs.Claims.Trust.{Patterns}
+use Rattle.bbm_rules.specs.Places.{index_of, page_of}
+use Rattle.bbm_rules.specs.Prelude.{Event}
+use Rattle.bbm_rules.specs.Tree.{Above, Node, region_start}
+use Rattle.bbm_replay_trees.specs.Told.{AllFit, SameCores, SameNodes}
+use Rattle.bbm_tree_index.specs.Descent.{IsWay, Translates}
+use Rattle.bbm_tree_index.specs.Held.{is_at, next_in}
+use Rattle.bbm_replay.specs.Laws.{Laws}
+use Rattle.bbm_replay.specs.OnePage.{NamesOne, covers_kind}
+
+-- ---- what a TLBI of one page doesn't cover
+
+unfit : (kind : Kind) (family : Family) → has_page family ≡ true → (s : Scope) (vmid : Option ℕ) (v : PlaceView)
+    → cover_by kind family false s vmid v ≡ NoCover
+unfit kind El2All p s vmid v = absurd (true≢false (sym p))
+unfit kind E1All p s vmid v = absurd (true≢false (sym p))
+unfit kind VmAll1 p s vmid v = absurd (true≢false (sym p))
+unfit kind VmAll12 p s vmid v = absurd (true≢false (sym p))
+unfit kind Asid p s vmid v = absurd (true≢false (sym p))
+unfit El2 El2Va p s vmid v = refl
+unfit S2 El2Va p s vmid v = refl
+unfit Ttbr0 El2Va p s vmid v = refl
+unfit Ttbr1 El2Va p s vmid v = refl
+unfit El2 Ipa p s vmid v = refl
+unfit S2 Ipa p s vmid v = refl
+unfit Ttbr0 Ipa p s vmid v = refl
+unfit Ttbr1 Ipa p s vmid v = refl
+unfit El2 Va p s vmid v = refl
+unfit S2 Va p s vmid v = refl
+unfit Ttbr0 Va p s vmid v = refl
+unfit Ttbr1 Va p s vmid v = refl
+unfit El2 VaAll p s vmid v = refl
+unfit S2 VaAll p s vmid v = refl
+unfit Ttbr0 VaAll p s vmid v = refl
+unfit Ttbr1 VaAll p s vmid v = refl
+
+unlike : (kind : Kind) (family : Family) → has_page family ≡ true → covers_kind family kind ≡ false → (b : Bool) (s : Scope)
+    (vmid : Option ℕ) (v : PlaceView) → cover_by kind family b s vmid v ≡ NoCover
+unlike kind El2All p k b s vmid v = absurd (true≢false (sym p))
+unlike kind E1All p k b s vmid v = absurd (true≢false (sym p))
+unlike kind VmAll1 p k b s vmid v = absurd (true≢false (sym p))
+unlike kind VmAll12 p k b s vmid v = absurd (true≢false (sym p))
+unlike kind Asid p k b s vmid v = absurd (true≢false (sym p))
+unlike El2 El2Va p k b s vmid v = absurd (true≢false k)
+unlike S2 El2Va p k b s vmid v = refl
+unlike Ttbr0 El2Va p k b s vmid v = refl
+unlike Ttbr1 El2Va p k b s vmid v = refl
+unlike El2 Ipa p k b s vmid v = refl
+unlike S2 Ipa p k b s vmid v = absurd (true≢false k)
+unlike Ttbr0 Ipa p k b s vmid v = refl
+unlike Ttbr1 Ipa p k b s vmid v = refl
+unlike El2 Va p k b s vmid v = refl
+unlike S2 Va p k b s vmid v = refl
+unlike Ttbr0 Va p k b s vmid v = absurd (true≢false k)
+unlike Ttbr1 Va p k b s vmid v = absurd (true≢false k)
+unlike El2 VaAll p k b s vmid v = refl
+unlike S2 VaAll p k b s vmid v = refl
+unlike Ttbr0 VaAll p k b s vmid v = absurd (true≢false k)
+unlike Ttbr1 VaAll p k b s vmid v = absurd (true≢false k)
+
+-- where the table of covers gives none, there is none
+none_by : (s : Scope) (vmid : Option ℕ) (v : PlaceView) → cover_by v.kind s.family (fits_place s v) s vmid v ≡ NoCover
+    → cover_of s vmid v ≡ NoCover
+none_by s vmid v e = by (lacks_vmid s.vmid_scoped vmid)
+  where
+    by : (b : Bool) → cond b NoCover (cover_by v.kind s.family (fits_place s v) s vmid v) ≡ NoCover
+    by true = refl
+    by false = e
+
+and_swap : (a b : Bool) → (a && b) ≡ false → (b && a) ≡ false
+and_swap true true k = k
+and_swap true false k = refl
+and_swap false true k = refl
+and_swap false false k = refl
+
+-- the input page isn't one of the region
+abbrev pub lies_in : ℕ → Extent → Bool
+lies_in at r = nat_le r.lo at && nat_le at r.hi
+
+names_no_page : (at : ℕ) (r : Extent) → lies_in at r ≡ false → meets (record { lo = at; hi = at }) r ≡ false
+names_no_page at r k = and_swap (nat_le r.lo at) (nat_le at r.hi) k
+
+names_not_all : (at : ℕ) (r : Extent) → r.lo ≤ r.hi → lies_in at r ≡ false → holds (record { lo = at; hi = at }) r ≡ false
+names_not_all at r some k = by (holds (record { lo = at; hi = at }) r) refl
+  where
+    by : (b : Bool) → holds (record { lo = at; hi = at }) r ≡ b → b ≡ false
+    by false e = refl
+    by true e =
+        let both = and_parts (nat_le at r.lo) (nat_le r.hi at) e in
+        let low : at ≤ r.lo = leb-true at r.lo both.0 in
+        let high : r.hi ≤ at = leb-true r.hi at both.1 in
+        let is : lies_in at r ≡ true = and_both (nat_le r.lo at) (nat_le at r.hi) (le-leb r.lo at (omega arith)) (le-leb at r.hi (omega arith)) in
+        absurd (true≢false (sym is ∙ k))
+      where
+        and_both : (a b : Bool) → a ≡ true → b ≡ true → (a && b) ≡ true
+        and_both true true p q = refl
+        and_both true false p q = q
+        and_both false b p q = p
+
+-- a TLBI of one page covers no place whose region doesn't have the page, and none of a kind that its family doesn't cover
+pub away : (s : Scope) (at : ℕ) → NamesOne s at → (vmid : Option ℕ) (v : PlaceView) → v.region.lo ≤ v.region.hi
+    → lies_in at v.region ≡ false → cover_of s vmid v ≡ NoCover
+away s at one vmid v some k =
+    none_by s vmid v (ap (λ b. cover_by v.kind s.family b s vmid v) (no_fit v.table v.childless) ∙ unfit v.kind s.family one.family s vmid v)
+  where
+    some_none : names_some s.interval v.region ≡ false
+    some_none = ap (λ (o : Option Extent). names_some o v.region) one.page ∙ names_no_page at v.region k
+
+    all_none : names_all s.interval v.region ≡ false
+    all_none = ap (λ (o : Option Extent). names_all o v.region) one.page ∙ names_not_all at v.region some k
+
+    and_none : (a b : Bool) → b ≡ false → (a && b) ≡ false
+    and_none true b e = e
+    and_none false b e = refl
+
+    none_and : (a b : Bool) → a ≡ false → (a && b) ≡ false
+    none_and true b e = absurd (true≢false e)
+    none_and false b e = refl
+
+    either : (childless : Bool) → cond childless (names_some s.interval v.region) (names_all s.interval v.region) ≡ false
+    either true = some_none
+    either false = all_none
+
+    no_fit : (table childless : Bool)
+        → cond table (not s.last_only && is_none s.level
+        && cond childless (names_some s.interval v.region) (names_all s.interval v.region))
+        (names_some s.interval v.region && hint_allows s.level v.level) ≡ false
+    no_fit true childless =
+        and_none (not s.last_only && is_none s.level)
+        (cond childless (names_some s.interval v.region) (names_all s.interval v.region)) (either childless)
+    no_fit false childless = none_and (names_some s.interval v.region) (hint_allows s.level v.level) some_none
+
+pub foreign : (s : Scope) (at : ℕ) → NamesOne s at → (vmid : Option ℕ) (v : PlaceView) → covers_kind s.family v.kind ≡ false
+    → cover_of s vmid v ≡ NoCover
+foreign s at one vmid v k = none_by s vmid v (unlike v.kind s.family one.family k (fits_place s v) s vmid v)
+
+-- ---- the way down to a place
+
+wide : (l : ℕ) → suc l < 4 → 512 * input_pages (suc l) ≡ input_pages l
+wide zero k = refl
+wide (suc zero) k = refl
+wide (suc (suc zero)) k = refl
+wide (suc (suc (suc l))) k = absurd (omega arith)
+
+index_small : (a : ℕ) → index_of a < 512
+index_small a = omega arith
+
+-- a part of a page lies in the page
+part_inside : (base i width at : ℕ) → i < 512 → base + i * width ≤ at → at < base + i * width + width
+    → (base ≤ at) × (at < base + 512 * width)
+part_inside base i width at small from to =
+    let most : (i + 1) * width ≤ 512 * width = mul-le-mul_right width (omega arith) in
+    let split : (i + 1) * width ≡ i * width + width = suc_width i width in
+    (omega arith, omega arith)
+  where
+    suc_width : (i width : ℕ) → (i + 1) * width ≡ i * width + width
+    suc_width i width = grind arith
+
+module _ (heading : Heading) (laws : Laws heading) (h : List Event) (node : ℕ → Option Node)
+    (core : Kind → ℕ → ℕ → Option Core) (kept : keeps heading Patterns h ≡ true) (fit : AllFit heading h)
+    (nodes : SameNodes heading h node) (cores : SameCores heading h core) (at a : ℕ) where
+  -- a page of a root, from which the way goes down to the place
+  pub record Top (m : Node) (steps : ℕ) : Type 0 where
+    pub page : ℕ
+    pub start : Node
+    pub is_start : node page ≡ Some start
+    pub first : start.above ≡ []
+    pub root : start.root ≡ m.root
+    pub kind : start.kind ≡ m.kind
+    pub way : List ℕ
+    pub leads : IsWay node core at page way a
+    pub count : length way + start.level ≡ steps + m.level
+
+  climb : (above : List Above) (p : ℕ) (m : Node) → node p ≡ Some m → m.above ≡ above → m.base ≤ at
+      → at < m.base + 512 * input_pages m.level → (way : List ℕ) → IsWay node core at p way a → Top m (length way)
+  climb [] p m is none lo hi way leads = record {
+    page = p;
+    start = m;
+    is_start = is;
+    first = none;
+    root = refl;
+    kind = refl;
+    way = way;
+    leads = leads;
+    count = refl;
+  }
+  climb (x ∷ above) p m is up lo hi way leads =
+      let hangs = laws.nodes.up h node core p m x above kept fit nodes cores is up in
+      let parent = hangs.parent in
+      let place = x.place in
+      let made = hangs.is_below in
+      let own = laws.nodes.own h node p m nodes is in
+      let level : m.level ≡ suc parent.level = ap (λ (n : Node). n.level) made in
+      let base : m.base ≡ region_start parent place = ap (λ (n : Node). n.base) made in
+      let deep : suc parent.level < 4 = subst (λ l. l < 4) level own.1 in
+      let width : 512 * input_pages m.level ≡ input_pages parent.level
+      = ap (λ l. 512 * input_pages l) level ∙ wide parent.level deep in
+      let from : region_start parent place ≤ at = subst (λ b. b ≤ at) base lo in
+      let to : at < region_start parent place + input_pages parent.level
+      = subst (λ w. at < region_start parent place + w) width (subst (λ b. at < b + 512 * input_pages m.level) base hi) in
+      let inside = part_inside parent.base (index_of place) (input_pages parent.level) at (index_small place) from to in
+      let here = laws.nodes.own h node (page_of place) parent nodes hangs.is_parent in
+      let step : Translates (page_of place) parent at place = record {
+        inside = subst (λ q. is_at q place ≡ true) here.0 hangs.at;
+        from = from;
+        to = to;
+      } in
+      let table : next_in (core parent.kind parent.level place) ≡ Some p = hangs.table ∙ ap (λ q. Some q) own.0 in
+      let rest : parent.above ≡ above = tails (record { place = place; level = parent.level }) x parent.above above
+      (sym (ap (λ (n : Node). n.above) made) ∙ up) in
+      let top = climb above (page_of place) parent hangs.is_parent rest inside.0 inside.1 (place ∷ way)
+      (parent, hangs.is_parent, step, p, table, leads) in
+      record {
+        page = top.page;
+        start = top.start;
+        is_start = top.is_start;
+        first = top.first;
+        root = top.root ∙ sym (ap (λ (n : Node). n.root) made);
+        kind = top.kind ∙ sym (ap (λ (n : Node). n.kind) made);
+        way = top.way;
+        leads = top.leads;
+        count = shift (length top.way + top.start.level) (length way) parent.level m.level top.count level;
+      }
+    where
+      tails : (y z : Above) (ys zs : List Above) → y ∷ ys ≡ z ∷ zs → ys ≡ zs
+      tails y z ys zs e = cc
+
+      shift : (n k l m : ℕ) → n ≡ suc k + l → m ≡ suc l → n ≡ k + m
+      shift n k l m e f = omega arith
+
+  pub top : (n : Node) → node (page_of a) ≡ Some n → a % 8 ≡ 0 → region_start n a ≤ at
+      → at < region_start n a + input_pages n.level → Top n 0
+  top n is eighth from to =
+      let inside = part_inside n.base (index_of a) (input_pages n.level) at (index_small a) from to in
+      climb n.above (page_of a) n is refl inside.0 inside.1 []
+      (n, is, record { inside = at_own (page_of a) a refl eighth; from = from; to = to })
+    where
+      at_own : (page a : ℕ) → page_of a ≡ page → a % 8 ≡ 0 → is_at page a ≡ true
+      at_own page a e f = and_both (page_of a == page) (a % 8 == 0) (eq-eqb (page_of a) page e) (eq-eqb (a % 8) 0 f)
+        where
+          and_both : (a b : Bool) → a ≡ true → b ≡ true → (a && b) ≡ true
+          and_both true true p q = refl
+          and_both true false p q = q
+          and_both false b p q = p

@@ -1,0 +1,63 @@
+-- Places that are found, each with its cover.
+use Rattle.std.specs.Prelude.{OnOk}
+use Rattle.std.proofs.Common.{◌≡◌, ℕ, zero, suc, Bool, true, false, ◌||◌, List, [], ◌∷◌, ◌++◌, length, ◌<◌, slice_index_or, Option, Some, None, is_some, nat_eq, Result, Ok, Err, refl, sym, ◌∙◌, ap, subst, not-suc-le-zero, le_of_suc-le-suc}
+use Rattle.std.proofs.lemmas.Bool.{eq-eqb}
+use Rattle.std.proofs.lemmas.List.Elements.{All-append}
+use Rattle.bbm_entry_state.specs.declared.marks.Marks.{Marks}
+use Rattle.bbm_place_map.specs.Finds.{FoundAs, is_found}
+use Rattle.bbm_place_map.specs.Map.{marks_at}
+use Rattle.bbm_place_map.specs.declared.found.Found.{Found}
+use Rattle.bbm_place_map.specs.declared.map.PlaceMap.{PlaceMap}
+use Rattle.bbm_tree_index.specs.declared.index.TreeIndex.{TreeIndex}
+use Rattle.bbm_tlbi_scope.specs.declared.entry.Cover.{Cover}
+use Rattle.bbm_replay_roots.specs.declared.state.RootState.{RootState}
+use Rattle.bbm_rules.specs.Prelude.{Heading, Event, Scope, TlbiOp}
+use Rattle.bbm_replay.specs.Covering.{MayBeCovered, MayBeIssued}
+
+pub on_ok : {A E : Type 0} (r : Result A E) {P Q : Type 0} → OnOk r P → (P → Q) → OnOk r Q
+on_ok (Ok x) p f = f p
+on_ok (Err x) p f = tt
+
+pub may_cover : (heading : Heading) (h : List Event) (map : PlaceMap) (index : TreeIndex) (state : RootState) (pe : ℕ)
+    (op : TlbiOp) (xt : ℕ) (scope : Scope) (vmid : Option ℕ) (place : ℕ)
+    → MayBeIssued heading h map index state pe op xt scope vmid → is_some (marks_at map place) ≡ true
+    → MayBeCovered heading h map index state pe op xt scope vmid place
+may_cover heading h map index state pe op xt scope vmid place m broken = record {
+  told = m.told;
+  stands = m.stands;
+  named = m.named;
+  vmid_is = m.vmid_is;
+  broken = broken;
+}
+
+pub as_end : (xs : List Found) (x : Found) (f : ℕ → Cover) → FoundAs xs f → x.cover ≡ f x.place → FoundAs (xs ++ x ∷ []) f
+as_end xs x f all e = All-append (λ (y : Found). y.cover ≡ f y.place) xs (x ∷ []) all one
+  where
+    one : FoundAs (x ∷ []) f
+    one zero d below = e
+    one (suc k) d below = absurd (not-suc-le-zero (le_of_suc-le-suc below))
+
+pub found_end : (xs : List Found) (x : Found) → is_found (xs ++ x ∷ []) x.place ≡ true
+found_end [] x = ap (λ b. b || false) (same x.place)
+  where
+    same : (n : ℕ) → nat_eq n n ≡ true
+    same n = eq-eqb n n refl
+found_end (y ∷ ys) x = or_true (nat_eq y.place x.place) (is_found (ys ++ x ∷ []) x.place) (found_end ys x)
+  where
+    or_true : (a b : Bool) → b ≡ true → (a || b) ≡ true
+    or_true true b e = refl
+    or_true false b e = e
+
+pub found_before : (xs : List Found) (x : Found) (a : ℕ) → is_found xs a ≡ true → is_found (xs ++ x ∷ []) a ≡ true
+found_before [] x a e = let bad : false ≡ true = e in absurd cc
+found_before (y ∷ ys) x a e = by (nat_eq y.place a) e (found_before ys x a)
+  where
+    by : (b : Bool) → (b || is_found ys a) ≡ true → (is_found ys a ≡ true → is_found (ys ++ x ∷ []) a ≡ true)
+        → (b || is_found (ys ++ x ∷ []) a) ≡ true
+    by true k rest = refl
+    by false k rest = rest k
+
+pub same_item : (xs : List ℕ) (k d e : ℕ) → k < length xs → slice_index_or xs k d ≡ slice_index_or xs k e
+same_item [] k d e below = absurd (not-suc-le-zero below)
+same_item (x ∷ xs) zero d e below = refl
+same_item (x ∷ xs) (suc k) d e below = same_item xs k d e (le_of_suc-le-suc below)

@@ -1,0 +1,217 @@
+-- A broken place that isn't met on the way down to an input page isn't covered by a TLBI of that page.
+use Rattle.std.proofs.Common.{◌≡◌, ℕ, zero, suc, ◌+◌, ◌-◌, ◌*◌, ◌/◌, ◌%◌, ◌^◌, nat_eq, ◌<◌, ◌≤◌, ◌&&◌, ◌||◌, ◌==◌, nat_le, Bool, true, false, cond, List, [], ◌∷◌, length, Option, Some, None, Contains, slice_index_or, is_some, option_and_then, refl, sym, ◌∙◌, ap, subst, arith, true≢false, not-suc-le-zero, le_of_suc-le-suc}
+use Rattle.std.specs.Prelude.{unwrap_or}
+use Rattle.std.proofs.lemmas.Bool.{and_parts, eqb-true, leb-true}
+use Rattle.bbm_descriptor.specs.Descriptor.{core_of, desc_of, same_bool}
+use Rattle.bbm_entry_state.specs.Calls.{Noted, counts_at}
+use Rattle.bbm_entry_state.specs.Points.{waits}
+use Rattle.bbm_entry_state.specs.declared.marks.Marks.{Marks}
+use Rattle.bbm_entry_state.specs.declared.pending.Pends.{Pends}
+use Rattle.bbm_entry_state.specs.declared.state.EntryState.{EntryState}
+use Rattle.bbm_entry_state.specs.declared.state.EntryState.TheVariants.{Clean, Live, Broken}
+use Rattle.bbm_events.specs.Heading.{Heading}
+use Rattle.std.specs.HashMap.{get}
+use Rattle.std.specs.Option.{option_map}
+use Rattle.bbm_place_map.specs.Map.{marks_at, value_at}
+use Rattle.bbm_place_map.specs.Parts.{marks_in}
+use Rattle.bbm_place_map.specs.Sound.{at_index}
+use Rattle.bbm_place_map.specs.declared.map.PlaceMap.{PlaceMap}
+use Rattle.bbm_regimes.specs.PeMask.{pe_in}
+use Rattle.bbm_regimes.specs.World.{input_pages, page_count}
+use Rattle.bbm_regimes.specs.declared.pe.PeMask.{PeMask}
+use Rattle.bbm_regimes.specs.declared.regime.Kind.{Kind}
+use Rattle.bbm_tlbi_scope.specs.Covers as scopes
+use Rattle.bbm_tlbi_scope.specs.Same.{same_cover}
+use Rattle.bbm_tlbi_scope.specs.declared.entry.Cover.{Cover}
+use Rattle.bbm_tlbi_scope.specs.declared.entry.Cover.TheVariants.{None as NoCover, Half, Second, Full}
+use Rattle.bbm_tlbi_scope.specs.declared.entry.PlaceView.{PlaceView}
+use Rattle.bbm_rules.specs.Claims.Trust.{Patterns}
+use Rattle.bbm_rules.specs.Covers.{cover_at, is_global, view_at}
+use Rattle.bbm_rules.specs.Notes.{events_of}
+use Rattle.bbm_rules.specs.Places.{page_of}
+use Rattle.bbm_rules.specs.Prelude.{Event, Scope, TlbiOp, Tlbi}
+use Rattle.bbm_rules.specs.Registers.{named_scope, vmid_of}
+use Rattle.bbm_rules.specs.Roots.{Declared, kind_in_world, pages_from, root_at, root_pages}
+use Rattle.bbm_rules.specs.Tags.{tag_set, tags_of}
+use Rattle.bbm_rules.specs.Tree.{Node, held_at, is_childless, next_of, node_of, region_of, region_start}
+use Rattle.bbm_tree_index.specs.Agreement.{IsSound}
+use Rattle.bbm_tree_index.specs.Descent.{IsWay}
+use Rattle.bbm_tree_index.specs.Held.{core_at}
+use Rattle.bbm_tree_index.specs.Index.{known_in, node_in}
+use Rattle.bbm_tree_index.specs.declared.index.TreeIndex.{TreeIndex}
+use Rattle.bbm_replay_roots.specs.declared.state.RootState.{RootState}
+use Rattle.bbm_replay_trees.specs.Told.{SameCores, SameNodes, notes}
+use Rattle.bbm_replay.specs.Covering.{MayBeIssued}
+use Rattle.bbm_replay.specs.Laws.{Laws}
+use Rattle.bbm_replay.specs.OnePage.{IsPage, MetFromAll, NamesOne, covers_kind}
+use Rattle.bbm_replay.specs.Standing.{view_of}
+use Rattle.bbm_replay.proofs.Descents.{Top, away, foreign, lies_in, top}
+use Rattle.bbm_replay.proofs.Settling.{core_with_is}
+use Rattle.bbm_replay.proofs.Writing.{cores}
+
+-- a broken place is an address of a descriptor
+pub broken_eighth : (map : PlaceMap) (a : ℕ) → is_some (marks_at map a) ≡ true → a % 8 ≡ 0
+unfolding marks_at
+broken_eighth map a k = by (a % 8 == 0) refl k
+  where
+    by : (b : Bool) → (a % 8 == 0) ≡ b → is_some (marks_at map a) ≡ true → a % 8 ≡ 0
+    by true e k = eqb-true (a % 8) 0 e
+    by false e k =
+        absurd (true≢false (sym k ∙ ap (λ b. is_some (at_index None (marks_in map.cells.items map.broken.items)
+        (cond b (option_map (λ base. base + a % 4096 / 8) (get nat_eq map.pages (a / 4096 * 4096))) None))) e))
+
+-- a level below 4 has a width
+pub some_width : (l : ℕ) → l < 4 → 1 ≤ input_pages l
+some_width zero k = omega arith
+some_width (suc zero) k = omega arith
+some_width (suc (suc zero)) k = omega arith
+some_width (suc (suc (suc zero))) k = omega arith
+some_width (suc (suc (suc (suc l)))) k = absurd (omega arith)
+
+-- a page of consecutive ones has a number
+numbered : (page n q : ℕ) → Contains (pages_from page n) q → (j : ℕ) × (j < n) × (q ≡ page + 4096 * j)
+numbered page zero q c = absurd (not-suc-le-zero c.1)
+numbered page (suc n) q c = by c.0 c.1 c.2 (numbered (page + 4096) n q)
+  where
+    by : (k : ℕ) → k < length (pages_from page (suc n)) → slice_index_or (pages_from page (suc n)) k q ≡ q
+        → (Contains (pages_from (page + 4096) n) q → (j : ℕ) × (j < n) × (q ≡ page + 4096 + 4096 * j))
+        → (j : ℕ) × (j < suc n) × (q ≡ page + 4096 * j)
+    by zero below at rest = (0, omega arith, omega (arith, at))
+    by (suc k) below at rest =
+        let found = rest (k, le_of_suc-le-suc below, at) in (suc found.0, omega (arith, found.1), omega (arith, found.2))
+
+pub part_of : (heading : Heading) (kind : Kind) (page q : ℕ) → Contains (root_pages heading.world kind page) q
+    → (j : ℕ) × (j < page_count heading.world kind) × (q ≡ page + 4096 * j)
+part_of heading kind page q c = by (kind_in_world heading.world kind) c
+  where
+    by : (b : Bool) → Contains (cond b (pages_from page (page_count heading.world kind)) []) q
+        → (j : ℕ) × (j < page_count heading.world kind) × (q ≡ page + 4096 * j)
+    by true c = numbered page (page_count heading.world kind) q c
+    by false c = absurd (not-suc-le-zero c.1)
+
+-- noting a TLBI that covers nothing changes nothing
+pub noted_none : (state : EntryState) (p : Pends) (reach : PeMask) (broadcast : Bool) → Noted state p reach broadcast NoCover p
+noted_none state p reach broadcast b c q = sym (by c)
+  where
+    and_false : (x y : Bool) → (x && (y && false)) ≡ false
+    and_false true true = refl
+    and_false true false = refl
+    and_false false y = refl
+
+    uncounted : (state : EntryState) → counts_at state NoCover q ≡ false
+    uncounted Clean = refl
+    uncounted (Live core) = refl
+    uncounted (Broken marks) = refl
+
+    none : (x y w : Bool) → ((x && (y && false)) || w) ≡ w
+    none x y w = ap (λ z. z || w) (and_false x y)
+
+    by : (c : Cover) → ((same_bool broadcast b && (pe_in reach q && (same_cover c NoCover && counts_at state c q))) || waits p b c q)
+        ≡ waits p b c q
+    by NoCover = ap (λ z. (same_bool broadcast b && (pe_in reach q && z)) || waits p b NoCover q) (uncounted state)
+        ∙ none (same_bool broadcast b) (pe_in reach q) (waits p b NoCover q)
+    by Half = none (same_bool broadcast b) (pe_in reach q) (waits p b Half q)
+    by Second = none (same_bool broadcast b) (pe_in reach q) (waits p b Second q)
+    by Full = none (same_bool broadcast b) (pe_in reach q) (waits p b Full q)
+
+module _ (heading : Heading) (laws : Laws heading) (h : List Event)
+    (starts : (node : ℕ → Option Node) (p : ℕ) (m : Node) → SameNodes heading h node → node p ≡ Some m → m.above ≡ []
+    → (r : Declared) × (root_at h r.page ≡ Some r) × (m.root ≡ r.page) × (m.kind ≡ r.kind)
+    × Contains (root_pages heading.world r.kind r.page) m.page)
+    (ev : events_of (notes heading h) ≡ h) (map : PlaceMap) (index : TreeIndex) (state : RootState) (pe : ℕ) (op : TlbiOp)
+    (xt : ℕ) (scope : Scope) (vmid : Option ℕ) (m : MayBeIssued heading h map index state pe op xt scope vmid) where
+  -- a place isn't covered where the scope covers no view of its kind and region
+  cover_none : (n : Node) (a : ℕ) → node_of heading Patterns (notes heading h) (page_of a) ≡ Some n
+      → ((v : PlaceView) (own : Option ℕ) → v.kind ≡ n.kind → v.region ≡ region_of n a → scopes.cover_of scope own v ≡ NoCover)
+      → cover_at heading Patterns (notes heading h) (Tlbi pe op xt) a ≡ NoCover
+  cover_none n a node none =
+      ap (λ (o : Option Scope). unwrap_or (option_and_then (λ (x : Scope). option_and_then (λ (w : PlaceView).
+      Some (scopes.cover_of x (vmid_of heading (events_of (notes heading h)) pe) w))
+      (view_at heading Patterns (notes heading h) a)) o) NoCover)
+      (ap (λ (es : List Event). named_scope heading es pe op xt) ev ∙ m.named)
+      ∙ ap (λ (o : Option PlaceView). unwrap_or (option_and_then (λ (w : PlaceView).
+      Some (scopes.cover_of scope (vmid_of heading (events_of (notes heading h)) pe) w)) o) NoCover)
+      (ap (λ (o : Option Node). option_and_then (λ (k : Node). option_and_then (λ (v : ℕ). Some (told k v))
+      (held_at heading Patterns (notes heading h) k a)) o) node)
+      ∙ by (held_at heading Patterns (notes heading h) n a)
+    where
+      told : Node → ℕ → PlaceView
+      told k v = record {
+        kind = k.kind;
+        region = region_of k a;
+        level = k.level;
+        table = is_some (next_of k.kind k.level v);
+        global = is_global (desc_of k.kind k.level v);
+        childless = is_childless heading Patterns (notes heading h) k v;
+        tags = tag_set (tags_of heading Patterns k.root (events_of (notes heading h)));
+      }
+
+      by : (o : Option ℕ) → unwrap_or (option_and_then (λ (w : PlaceView).
+          Some (scopes.cover_of scope (vmid_of heading (events_of (notes heading h)) pe) w))
+          (option_and_then (λ (v : ℕ). Some (told n v)) o)) NoCover ≡ NoCover
+      by None = refl
+      by (Some v) = none (told n v) (vmid_of heading (events_of (notes heading h)) pe) refl refl
+
+  module _ (sound : IsSound index) (at : ℕ) (one : NamesOne scope at) (places : List ℕ)
+      (met : (r : Declared) → root_at h r.page ≡ Some r → covers_kind scope.family r.kind ≡ true
+      → MetFromAll (node_in index) (core_at map) at r.page (page_count heading.world r.kind) places) where
+    same_cores : SameCores heading h (core_at map)
+    same_cores n a is = core_with_is (marks_at map a) n.kind n.level (value_at map a) ∙ cores heading h (view_of map index) m.told n a is
+
+    is_page : (p : ℕ) (n : Node) → node_in index p ≡ Some n → IsPage p
+    is_page p n is = sound.pages p (sym (m.told.tracked p) ∙ m.told.apart.node_tracked p n is)
+
+    found_top : (n : Node) (a : ℕ) → covers_kind scope.family n.kind ≡ true
+        → (t : Top heading laws h (node_in index) (core_at map) m.told.kept m.told.fit m.told.nodes same_cores at a n 0)
+        → n.level < 4 → Contains places a
+    found_top n a covers t low =
+        let own = laws.nodes.own h (node_in index) t.page t.start m.told.nodes t.is_start in
+        let st = starts (node_in index) t.page t.start m.told.nodes t.is_start t.first in
+        let r = st.0 in
+        let part = part_of heading r.kind r.page t.start.page st.4 in
+        let here : t.page ≡ r.page + 4096 * part.0 = sym own.0 ∙ part.2 in
+        let same : n.kind ≡ r.kind = sym t.kind ∙ st.3 in
+        let right : covers_kind scope.family r.kind ≡ true = ap (λ (k : Kind). covers_kind scope.family k) (sym same) ∙ covers in
+        met r st.1 right part.0 part.1 (subst IsPage here (is_page t.page t.start t.is_start)) t.way a
+        (short (length t.way) t.start.level n.level t.count low)
+        (subst (λ p. IsWay (node_in index) (core_at map) at p t.way a) here t.leads)
+      where
+        short : (w s l : ℕ) → w + s ≡ 0 + l → l < 4 → w < 4
+        short w s l e k = omega arith
+
+    pub uncovered : (a : ℕ) → is_some (marks_at map a) ≡ true → (Contains places a → ⊥)
+        → cover_at heading Patterns (notes heading h) (Tlbi pe op xt) a ≡ NoCover
+    uncovered a broken missed = by (node_in index (page_of a)) refl
+      where
+        by : (o : Option Node) → node_in index (page_of a) ≡ o → cover_at heading Patterns (notes heading h) (Tlbi pe op xt) a ≡ NoCover
+        by None is = absurd (true≢false (sym broken ∙ ap (λ (x : Option Marks). is_some x) (m.told.outside a is)))
+        by (Some n) is = inside (lies_in at (region_of n a)) (covers_kind scope.family n.kind) refl refl
+          where
+            node : node_of heading Patterns (notes heading h) (page_of a) ≡ Some n
+            node = sym (m.told.nodes (page_of a)) ∙ is
+
+            low : n.level < 4
+            low = (laws.nodes.own h (node_in index) (page_of a) n m.told.nodes is).1
+
+            width : 1 ≤ input_pages n.level
+            width = some_width n.level low
+
+            inside : (b k : Bool) → lies_in at (region_of n a) ≡ b → covers_kind scope.family n.kind ≡ k
+                → cover_at heading Patterns (notes heading h) (Tlbi pe op xt) a ≡ NoCover
+            inside false k e f = cover_none n a node (λ v own kind region. away scope at one own v
+                (subst (λ x. x.lo ≤ x.hi) (sym region) (ends (region_start n a) (input_pages n.level) width))
+                (ap (λ x. lies_in at x) region ∙ e))
+              where
+                ends : (start w : ℕ) → 1 ≤ w → start ≤ start + w - 1
+                ends start w k = omega arith
+            inside true false e f = cover_none n a node (λ v own kind region. foreign scope at one own v
+                (ap (λ (x : Kind). covers_kind scope.family x) kind ∙ f))
+            inside true true e f =
+                let both = and_parts (nat_le (region_start n a) at) (nat_le at (region_start n a + input_pages n.level - 1)) e in
+                let from = leb-true (region_start n a) at both.0 in
+                let to = before (region_start n a) (input_pages n.level) width (leb-true at (region_start n a + input_pages n.level - 1) both.1) in
+                absurd (missed (found_top n a f (top heading laws h (node_in index) (core_at map) m.told.kept m.told.fit m.told.nodes same_cores at a
+                n is (broken_eighth map a broken) from to) low))
+              where
+                before : (start w : ℕ) → 1 ≤ w → at ≤ start + w - 1 → at < start + w
+                before start w k l = omega arith

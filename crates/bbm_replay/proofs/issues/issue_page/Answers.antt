@@ -1,0 +1,63 @@
+use Rattle.std.proofs.Common.{◌≡◌, ℕ, Bool, true, false, List, Contains, is_some, None, refl, sym, ◌∙◌, ap, subst, true≢false}
+use Rattle.bbm_entry_state.specs.Calls.{Noted}
+use Rattle.bbm_entry_state.specs.declared.pending.Pends.{Pends}
+use Rattle.bbm_events.specs.Heading.{Heading}
+use Rattle.bbm_place_map.specs.Finds.{FoundAs, is_found}
+use Rattle.bbm_place_map.specs.Map.{marks_at, pends_at}
+use Rattle.bbm_place_map.specs.States.{state_from}
+use Rattle.bbm_place_map.specs.declared.found.Found.{Found}
+use Rattle.bbm_regimes.specs.World.{page_count}
+use Rattle.bbm_tlbi_scope.specs.Operations.{operation}
+use Rattle.bbm_tlbi_scope.specs.declared.entry.Cover.{Cover}
+use Rattle.bbm_tlbi_scope.specs.declared.entry.Cover.TheVariants as cover
+use Rattle.bbm_rules.specs.Claims.Trust.{Patterns}
+use Rattle.bbm_rules.specs.Covers.{cover_at}
+use Rattle.bbm_rules.specs.Prelude.{Tlbi}
+use Rattle.bbm_tree_index.specs.Held.{core_at}
+use Rattle.bbm_tree_index.specs.Index.{node_in}
+use Rattle.bbm_replay_trees.specs.Told.{notes}
+use Rattle.bbm_replay.specs.OnePage.{MetFromAll}
+use Rattle.bbm_replay.proofs.Findings.{on_ok}
+use Rattle.bbm_replay.proofs.Unmet.{noted_none, uncovered}
+use Rattle.bbm_replay.proofs.issues.issue_page.Goals as goal
+
+pub returns-clause-noted : goal.returns-clause-noted
+returns-clause-noted c =
+    let map = c.args.map.now in
+    let index = c.args.index.now in
+    let scope = c.args.scope.now in
+    let pe = c.args.pe in
+    let found = c.deref-2.result.now in
+    let new = c.issue_at.new.self in
+    on_ok c.issue_at.result c.issue_at.ensures.noted (λ noted heading h xt same m a broken.
+    let f = cover_at heading Patterns (notes heading h) (Tlbi pe c.args.op xt) in
+    let told : FoundAs found f
+    = subst (λ (xs : List Found). FoundAs xs f) (sym c.deref-2.ensures.value) (c.in_ok-found.ensures.covers heading h pe c.args.op xt m) in
+    let hit : is_found found a ≡ true → Noted (state_from None (marks_at map a)) (pends_at map pe a) c.args.reach
+    (operation c.args.op).broadcast (f a) (pends_at new pe a)
+    = λ e. subst (λ b. Noted (state_from None (marks_at map a)) (pends_at map pe a) c.args.reach b (f a) (pends_at new pe a))
+    c.is_broadcast.ensures (noted f told a e broken) in
+    let missed : is_found found a ≡ false → Contains c.deref.result.now a → ⊥
+    = λ e has. true≢false (sym (ap (λ (xs : List Found). is_found xs a) c.deref-2.ensures.value
+    ∙ c.in_ok-found.ensures.found a has broken) ∙ e) in
+    let away : is_found found a ≡ false → f a ≡ cover.None
+    = λ e. uncovered heading (c.laws.ensures heading) h (c.law_starts.ensures heading h)
+    (c.law_notes_keep_the_events.ensures heading Patterns h) map index c.args.roots.now pe c.args.op xt scope
+    c.args.vmid.now m c.requires.sound c.args.at c.requires.one c.deref.result.now
+    (λ r at covers. subst (λ (xs : List ℕ). MetFromAll (node_in index) (core_at map) c.args.at r.page (page_count heading.world r.kind) xs)
+    (sym c.deref.ensures.value)
+    (subst (λ (x : Heading). MetFromAll (node_in index) (core_at map) c.args.at r.page (page_count x.world r.kind) c.in_ok-places.places.items)
+    same (c.in_ok-places.ensures heading h r m.stands at covers)))
+    a broken (missed e) in
+    let quiet : is_found found a ≡ false → Noted (state_from None (marks_at map a)) (pends_at map pe a) c.args.reach
+    (operation c.args.op).broadcast (f a) (pends_at new pe a)
+    = λ e. subst (λ (k : Cover). Noted (state_from None (marks_at map a)) (pends_at map pe a) c.args.reach
+    (operation c.args.op).broadcast k (pends_at new pe a)) (sym (away e))
+    (subst (λ (p : Pends). Noted (state_from None (marks_at map a)) (pends_at map pe a) c.args.reach
+    (operation c.args.op).broadcast cover.None p) (sym (c.issue_at.ensures.unnoted a e))
+    (noted_none (state_from None (marks_at map a)) (pends_at map pe a) c.args.reach (operation c.args.op).broadcast)) in
+    either (is_found found a) hit quiet)
+  where
+    either : (b : Bool) {P : Type 0} → (b ≡ true → P) → (b ≡ false → P) → P
+    either true p q = p refl
+    either false p q = q refl

@@ -1,0 +1,41 @@
+-- A TLBI that names one input page, and the places that it can cover. Source: project's own choice; which kinds an
+-- operation by address covers is that of the table of covers.
+use Rattle.std.specs.Prelude.{◌≡◌, ℕ, ◌+◌, ◌*◌, ◌<◌, ◌%◌, ◌^◌, Bool, true, false, List, Option, Some, Contains, length}
+use Rattle.bbm_descriptor.specs.declared.desc.Core.{Core}
+use Rattle.bbm_regimes.specs.declared.regime.Kind.{Kind}
+use Rattle.bbm_regimes.specs.declared.regime.Kind.TheVariants.{El2, S2, Ttbr0, Ttbr1}
+use Rattle.bbm_tlbi_scope.specs.Operations.{has_page}
+use Rattle.bbm_tlbi_scope.specs.declared.scope.Family.{Family}
+use Rattle.bbm_tlbi_scope.specs.declared.scope.Family.TheVariants.{El2Va, Ipa, Va, VaAll}
+use Rattle.bbm_tlbi_scope.specs.declared.scope.Scope.{Scope}
+use Rattle.bbm_rules.specs.Tree.{Node}
+use Rattle.bbm_tree_index.specs.Descent.{IsWay}
+
+-- whether an operation by address of this family can cover places of a root of this kind
+abbrev pub covers_kind : Family → Kind → Bool
+covers_kind El2Va El2 = true
+covers_kind Ipa S2 = true
+covers_kind VaAll Ttbr0 = true
+covers_kind VaAll Ttbr1 = true
+covers_kind Va Ttbr0 = true
+covers_kind Va Ttbr1 = true
+covers_kind _ _ = false
+
+-- the scope names one input page, by its address
+pub record NamesOne (scope : Scope) (at : ℕ) : Type 0 where
+  pub page : scope.interval ≡ Some (record { lo = at; hi = at })
+  pub family : has_page scope.family ≡ true
+
+-- an address of a page
+abbrev pub IsPage : ℕ → Type 0
+IsPage page = (page < 2 ^ 48) × (page % 4096 ≡ 0)
+
+module _ (node : ℕ → Option Node) (core : Kind → ℕ → ℕ → Option Core) (at : ℕ) where
+  -- each place that is met on the way down from the page is among these
+  abbrev pub MetFrom : ℕ → List ℕ → Type 0
+  MetFrom page places = IsPage page → (way : List ℕ) (a : ℕ) → length way < 4 → IsWay node core at page way a
+      → Contains places a
+
+  -- the same of so many consecutive pages
+  abbrev pub MetFromAll : ℕ → ℕ → List ℕ → Type 0
+  MetFromAll first count places = (part : ℕ) → part < count → MetFrom (first + 4096 * part) places
