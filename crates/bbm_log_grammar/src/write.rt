@@ -13,7 +13,7 @@ ghost use Rattle.bbm_regimes.specs.declared.regime.World.TheVariants.{Hyp, Kerne
 use crate::spell::{add, add_decimal, add_hex};
 use crate::words::{asid_from_word, cnp_word, dsb_word, kind_word, op_word, reg_word};
 use arrayvec::ArrayVec;
-use bbm_barriers::Dsb;
+use bbm_barriers::{Domain, Dsb, Types};
 use bbm_events::{Event, Header, Item, Label, law_written_is_read};
 use bbm_regimes::{HypWorld, KernelWorld, Kind, Page, Pe, Place, Reg, World};
 use bbm_tlbi_scope::TlbiOp;
@@ -30,6 +30,7 @@ pub(crate) fn add_word_field(out: &mut ArrayVec<u8, 200>, word: &[u8])
 }
 
 /// A space and a number in decimal.
+#[inline(always)]
 pub(crate) fn add_decimal_field(out: &mut ArrayVec<u8, 200>, n: u64)
     requires room { array_vec_len out.old + 21 ≤ 200 }
     ensures appended { out.new.items ≡ out.old.items ++ 32 ∷ decimal n }
@@ -50,6 +51,7 @@ pub(crate) fn add_hex_field(out: &mut ArrayVec<u8, 200>, n: u64)
 }
 
 /// The first word of an event line and its PE.
+#[inline(always)]
 fn begin(out: &mut ArrayVec<u8, 200>, word: &[u8], pe: Pe)
     requires empty { out.old.items ≡ [] }
     requires short { length word.now ≤ 12 }
@@ -73,6 +75,7 @@ fn add_lock_field(out: &mut ArrayVec<u8, 200>, lock: Option<u16>)
 }
 
 /// `WORD PE PAGE`
+#[inline(always)]
 fn page_line(out: &mut ArrayVec<u8, 200>, word: &[u8], pe: Pe, page: Page)
     requires empty { out.old.items ≡ [] }
     requires short { length word.now ≤ 12 }
@@ -107,8 +110,23 @@ fn store_line(out: &mut ArrayVec<u8, 200>, pe: Pe, place: Place, value: u64)
     add_hex_field(out, value);
 }
 
-/// `WORD PE OPTION`
+/// The option of a barrier; those of most lines are written at once.
 #[tactic(auto, using(crate::proofs::Short::dsb_word_short))]
+#[inline(always)]
+fn add_dsb_field(out: &mut ArrayVec<u8, 200>, dsb: Dsb)
+    requires room { array_vec_len out.old + 13 ≤ 200 }
+    ensures appended { out.new.items ≡ out.old.items ++ 32 ∷ words.dsb_word dsb }
+    ensures longer { array_vec_len out.new ≤ array_vec_len out.old + 13 }
+{
+    match (dsb.domain, dsb.types) {
+        (Domain::Inner, Types::All) => add(out, b" ish"),
+        (Domain::Inner, Types::Stores) => add(out, b" ishst"),
+        _ => add_word_field(out, dsb_word(dsb)),
+    }
+}
+
+/// `WORD PE OPTION`
+#[inline(always)]
 fn barrier_line(out: &mut ArrayVec<u8, 200>, word: &[u8], pe: Pe, dsb: Dsb)
     requires empty { out.old.items ≡ [] }
     requires short { length word.now ≤ 12 }
@@ -116,7 +134,7 @@ fn barrier_line(out: &mut ArrayVec<u8, 200>, word: &[u8], pe: Pe, dsb: Dsb)
     ensures longer { array_vec_len out.new ≤ 100 }
 {
     begin(out, word, pe);
-    add_word_field(out, dsb_word(dsb));
+    add_dsb_field(out, dsb);
 }
 
 /// `tlbi PE OP`, and ` XT` where the operation has an operand.
@@ -146,6 +164,7 @@ fn register_line(out: &mut ArrayVec<u8, 200>, pe: Pe, reg: Reg, value: u64)
 }
 
 /// `WORD PE LOCK`
+#[inline(always)]
 fn lock_line(out: &mut ArrayVec<u8, 200>, word: &[u8], pe: Pe, lock: u16)
     requires empty { out.old.items ≡ [] }
     requires short { length word.now ≤ 12 }
