@@ -10,9 +10,9 @@ use crate::entry::Entry;
 use crate::found::Found;
 use crate::{complete, issue, publish, read, write};
 use bbm_barriers::Dsb;
-use bbm_descriptor::{Core, Memory};
+use bbm_descriptor::{Core, Memory, core};
 use bbm_entry_state::{EntryState, Pends};
-use bbm_regimes::{NoMemory, Page, Pe, PeMask, Place};
+use bbm_regimes::{Kind, NoMemory, Page, Pe, PeMask, Place};
 use bbm_tlbi_scope::Cover;
 use indexmap::IndexMap;
 use std::alloc::Global;
@@ -44,6 +44,7 @@ impl PlaceMap {
     ghost use Rattle.bbm_place_map.specs.Calls.{lost_table, IsSame, MayCover};
     ghost use Rattle.bbm_place_map.specs.declared.entry.Entry.{Entry as TheEntry};
     ghost use Rattle.bbm_entry_state.specs.Calls.{Published, Noted, Completed};
+    ghost use Rattle.bbm_descriptor.specs.Descriptor.{core_of};
     ghost use Rattle.bbm_descriptor.specs.declared.desc.Core.{Core as TheCore};
     ghost use Rattle.bbm_entry_state.specs.Standing.{IsIdle};
     ghost use Rattle.bbm_place_map.specs.Map.{value_at, marks_at, pends_at, is_tracked, page_of, restless_in, restless_place, state_at};
@@ -92,6 +93,21 @@ impl PlaceMap {
         match self.index(place) {
             Some(j) => read::state(&self.cells, &self.broken, j, live),
             None => read::whole(live),
+        }
+    }
+
+    /// The state of the place, read at this kind and level, 0 to 3: one that isn't broken is live with the core of its
+    /// value, or clean where the value is invalid.
+    pub fn state_by(&self, place: Place, kind: Kind, level: u8) -> EntryState
+        requires { level ≤ 3 }
+        ensures { result ≡ state_at self.now (core_of kind level (value_at self.now place)) place }
+    {
+        match self.index(place) {
+            Some(j) => {
+                let live = core(kind, level, self.cells[j].value);
+                read::state(&self.cells, &self.broken, j, live)
+            }
+            None => read::whole(core(kind, level, 0)),
         }
     }
 

@@ -13,7 +13,6 @@ ghost use Rattle.bbm_entry_state.specs.declared.state.EntryState.{EntryState as 
 
 use crate::laws::laws;
 use crate::parts::Parts;
-use bbm_descriptor::{Memory, core};
 use bbm_entry_state::{EntryState, Marks};
 use bbm_regimes::{Pe, Place};
 use bbm_replay_entries::law_entry_phase;
@@ -53,8 +52,7 @@ impl Parts {
         requires { path.now.level ≤ 3 }
         ensures { result ≡ state_of (view_of self.now.map self.now.index) path.now.kind path.now.level place }
     {
-        self.map
-            .state(place, core(path.kind, path.level, self.map.value(place)))
+        self.map.state_by(place, path.kind, path.level)
     }
 
     /// How far the place has been taken through break-before-make at the PE.

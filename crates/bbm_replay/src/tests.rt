@@ -241,3 +241,66 @@ fn refuses_a_make_without_a_break(rt: HostRuntime) {
     };
     assert!(rt; after(rt.alloc(), &lines) == Some(expected));
 }
+
+// Ten blocks of the root page are made and cleared, and the clears are published.
+const TEN: [Line; 23] = [
+    Init(ROOT),
+    Root(ROOT),
+    Write(0x4000_0008, BLOCK),
+    Write(0x4000_0010, BLOCK),
+    Write(0x4000_0018, BLOCK),
+    Write(0x4000_0020, BLOCK),
+    Write(0x4000_0028, BLOCK),
+    Write(0x4000_0030, BLOCK),
+    Write(0x4000_0038, BLOCK),
+    Write(0x4000_0040, BLOCK),
+    Write(0x4000_0048, BLOCK),
+    Write(0x4000_0050, BLOCK),
+    Write(0x4000_0008, 0),
+    Write(0x4000_0010, 0),
+    Write(0x4000_0018, 0),
+    Write(0x4000_0020, 0),
+    Write(0x4000_0028, 0),
+    Write(0x4000_0030, 0),
+    Write(0x4000_0038, 0),
+    Write(0x4000_0040, 0),
+    Write(0x4000_0048, 0),
+    Write(0x4000_0050, 0),
+    Dsb(Stores),
+];
+
+// What is told of the place with index 1 after the ten clears, a TLBI of this page and a DSB.
+fn after_flush(alloc: Global, page: u64) -> Option<Told> {
+    let mut lines = match TEN.to_vec(alloc) {
+        Ok(lines) => lines,
+        Err(_) => return None,
+    };
+    match lines.extend_from_slice(&[Tlbi(page), Dsb(All)]) {
+        Ok(()) => {}
+        Err(_) => return None,
+    }
+    after(alloc, &lines)
+}
+
+#[test]
+fn flushes_one_of_many_broken_places(rt: HostRuntime) {
+    let cases = [
+        (0x40000, Phase::Clean, 9),
+        (0x7ffff, Phase::Clean, 9),
+        (0x3ffff, Phase::Seen, 10),
+        (0x80000, Phase::Seen, 9),
+        (0x300000, Phase::Seen, 10),
+    ];
+    for (page, phase, restless) in cases {
+        let expected = Told {
+            answer: Ok(()),
+            events: 25,
+            phases: (phase, phase),
+            pages: 1,
+            restless,
+            is_root: true,
+            value: 0,
+        };
+        assert!(rt; after_flush(rt.alloc(), page) == Some(expected), "{page}");
+    }
+}

@@ -13,7 +13,7 @@ use crate::parts::Parts;
 use crate::world::{has_kind, page_count};
 use bbm_regimes::{Kind, Page, Pe};
 use bbm_rules::{Rule, StepFault};
-use bbm_tree_index::{Attach, TreeIndex};
+use bbm_tree_index::{Attach, Detach, TreeIndex};
 use std::alloc::Global;
 
 // Whether the page at the address, in bytes, is fresh.
@@ -60,13 +60,13 @@ impl Parts {
         if !has_kind(&self.header, kind) {
             return Err(StepFault::Broken(Rule::WrongWorld, 0));
         }
-        match self
+        let prepared = match self
             .index
-            .judge(alloc, &self.map, Attach::Root { kind, first: page })
+            .prepare(alloc, &self.map, Attach::Root { kind, first: page })
         {
-            Ok(()) => {}
+            Ok(prepared) => prepared,
             Err(fault) => return Err(step_fault(fault)),
-        }
+        };
         match first_unfresh(&self.index, page, page_count(&self.header, kind)) {
             Some(at) => return Err(StepFault::Broken(Rule::PageInUse, at)),
             None => {}
@@ -75,14 +75,8 @@ impl Parts {
             Ok(()) => {}
             Err(fault) => return Err(fault),
         }
-        let _ = self.map.restless();
-        match self
-            .index
-            .attach(alloc, &self.map, Attach::Root { kind, first: page })
-        {
-            Ok(()) => {}
-            Err(_) => return Err(StepFault::NoMemory),
-        }
+        self.map.law_idle();
+        self.index.hang(&prepared);
         match self.roots.declare(alloc, kind, page, lock) {
             Ok(()) => Ok(()),
             Err(_) => Err(StepFault::NoMemory),
@@ -98,13 +92,7 @@ impl Parts {
         rules();
         match self.roots.judge_unroot(pe, page) {
             Ok(()) => {
-                self.index.detach(
-                    &mut self.map,
-                    Attach::Root {
-                        kind: Kind::El2,
-                        first: page,
-                    },
-                );
+                self.index.detach(&mut self.map, Detach::Root(page));
                 self.roots.retire(page);
                 Ok(())
             }

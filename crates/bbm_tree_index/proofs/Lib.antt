@@ -29,3 +29,4 @@ pub mod Hanging
 pub mod Surveying
 pub mod Attaching
 pub mod Descending
+pub mod Limbo

@@ -13,8 +13,8 @@ use Rattle.bbm_regimes.specs.declared.regime.Kind.{Kind}
 use Rattle.bbm_rules.specs.Lists.{any, every}
 use Rattle.bbm_rules.specs.Places.{page_of}
 use Rattle.bbm_rules.specs.Tree.{Node}
-use Rattle.bbm_tree_index.specs.declared.role.Attach.{Attach}
-use Rattle.bbm_tree_index.specs.declared.role.Attach.TheVariants.{Root, Below}
+use Rattle.bbm_tree_index.specs.declared.role.Detach.{Detach}
+use Rattle.bbm_tree_index.specs.declared.role.Detach.TheVariants.{Root, Below}
 
 -- whether the address is that of a descriptor of the page
 abbrev pub is_at : ℕ → ℕ → Bool
@@ -68,6 +68,6 @@ abbrev pub leaves : (Node → Bool) → Option Node → Bool
 leaves keeps o = option_map_or (λ m. not (keeps m)) o false
 
 -- the node stays when a root or what is below a place is detached
-abbrev pub stays_without : Attach → Node → Bool
-stays_without (Root kind first) m = not (m.root == first)
-stays_without (Below place next) m = not (any (λ a. a.place == place) m.above)
+abbrev pub stays_without : Detach → Node → Bool
+stays_without (Root first) m = not (m.root == first)
+stays_without (Below place) m = not (any (λ a. a.place == place) m.above)

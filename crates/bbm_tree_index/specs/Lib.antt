@@ -11,3 +11,4 @@ pub mod Survey
 pub mod Hanging
 pub mod Least
 pub mod Descent
+pub mod Prepared

@@ -3,7 +3,7 @@
 ghost use Rattle.std.specs.Prelude.{◌≡◌, ◌≤◌, ◌<◌, ◌+◌, ◌*◌, ◌↔◌, ℕ, true, false, Some};
 ghost use Rattle.bbm_tree_index.specs.Held.{core_at, holds_at, is_at, next_in};
 
-use bbm_descriptor::{Core, Memory, core};
+use bbm_descriptor::Core;
 use bbm_entry_state::EntryState;
 use bbm_place_map::PlaceMap;
 use bbm_regimes::{Kind, Page, Place};
@@ -16,7 +16,7 @@ pub fn core_at(map: &PlaceMap, kind: Kind, level: u8, place: Place) -> Option<Co
     requires { level ≤ 3 }
     ensures { result ≡ core_at map.now kind level place }
 {
-    match map.state(place, core(kind, level, map.value(place))) {
+    match map.state_by(place, kind, level) {
         EntryState::Clean => None,
         EntryState::Live { core } => Some(core),
         EntryState::Broken { marks } => Some(marks.core),

@@ -9,7 +9,7 @@ use crate::held::next_at;
 use crate::judge::{is_named, judge_tables};
 use crate::leaving::{Leaving, sweep};
 use crate::mark::Mark;
-use crate::role::{Attach, Path, Role};
+use crate::role::{Attach, Detach, Path, Role};
 use crate::spot::{Spot, spot_of};
 use crate::start::{count_at, in_ranges, start_at, start_below, start_root};
 use crate::survey::survey;
@@ -29,6 +29,12 @@ const MAX_PAGES: usize = 16384;
 pub struct TreeIndex {
     header: Header,
     roles: IndexMap<u64, Role>,
+}
+
+/// Pages that can be attached, as a survey found them: a table for each level. Source: project's own choice.
+#[derive(Drop)]
+pub struct Prepared {
+    tables: Vec<IndexMap<u64, Mark>>,
 }
 
 // Adds a place at the end.
@@ -61,7 +67,9 @@ impl TreeIndex {
     ghost use Rattle.bbm_tree_index.specs.Judged.{Judges, MayJudge, names_pages};
     ghost use Rattle.bbm_tree_index.specs.Least.{IsSurvey};
     ghost use Rattle.bbm_tree_index.specs.Paths.{Attached, starts_of};
+    ghost use Rattle.bbm_tree_index.specs.Prepared.{AreNamedFresh, IsPrepared};
     ghost use Rattle.bbm_tree_index.specs.Survey.{Starting, Well};
+    ghost use Rattle.bbm_tree_index.specs.declared.role.Attach.{Attach as TheAttach};
     ghost use Rattle.std.specs.Prelude.{◌⊎◌, ◌<◌, Contains, List, is_none, length};
     ghost use Rattle.indexmap.specs.IndexMap.{get};
 
@@ -181,16 +189,14 @@ impl TreeIndex {
         requires { IsSound self.now }
         ensures { result ≡ option_map_or (limbo_at map.now) (node_in self.now (page_of place)) false }
     {
-        let page = place.page();
-        match self.spot(page) {
-            Some(spot) => is_cut(
-                &self.roles,
-                map,
-                &Asked::Invalid,
-                spot.level,
-                &self.role(page),
-            ),
-            None => false,
+        let role = self.role(place.page());
+        match role {
+            Role::Hangs { level, .. } => { is_cut(&self.roles, map, &Asked::Invalid, level, &role) }
+            Role::RootPage { .. } => false,
+            Role::Untracked => false,
+            Role::Fresh => false,
+            Role::Gone => false,
+            Role::Null => false,
         }
     }
 
@@ -263,7 +269,7 @@ impl TreeIndex {
 
     /// Takes the pages of the root with this first page out of the trees, or those below this place. No place of them is
     /// broken any more, and nothing waits there. All else stays.
-    pub fn detach(&mut self, map: &mut PlaceMap, at: Attach)
+    pub fn detach(&mut self, map: &mut PlaceMap, at: Detach)
         requires { IsSound self.old }
         ensures node { (p : ℕ) → node_in self.new p ≡ kept (stays_without at) (node_in self.old p) }
         ensures fresh { (p : ℕ) → fresh_in self.new p ≡ fresh_in self.old p }
@@ -280,8 +286,8 @@ impl TreeIndex {
         ensures map_pages { (p : ℕ) → is_tracked map.new p ≡ is_tracked map.old p }
     {
         match at {
-            Attach::Root { kind: _, first } => self.leave(map, &Leaving::Root(first)),
-            Attach::Below { place, next: _ } => self.leave(map, &Leaving::Below(place)),
+            Detach::Root(first) => self.leave(map, &Leaving::Root(first)),
+            Detach::Below(place) => self.leave(map, &Leaving::Below(place)),
         }
     }
 
@@ -408,23 +414,44 @@ impl TreeIndex {
     /// ends in a page that isn't fresh, where the named pages of a root don't count, or two different paths end in one
     /// page; else `BadKind` with the least place exactly where an attached page has a leaf with the Contiguous hint;
     /// else `GlobalUser` with the least place exactly where, in a tree of the lower range, it has a leaf for every ASID.
-    /// Or `NoMemory` where there is none. It takes time by the number of pages, not of paths.
-    pub fn judge(&self, alloc: Global, map: &PlaceMap, at: Attach) -> Result<(), TreeFault>
+    /// Or `NoMemory` where there is none. It takes time by the number of pages, not of paths. After Ok, what `hang`
+    /// attaches.
+    pub fn prepare(&self, alloc: Global, map: &PlaceMap, at: Attach) -> Result<Prepared, TreeFault>
         requires sound { IsSound self.now }
         requires may { MayJudge self.now at }
-        ensures { Judges (fresh_in self.now) (value_at map.now) (starts_of self.now at) (names_pages at) result }
+        ensures judged { Judges (fresh_in self.now) (value_at map.now) (starts_of self.now at) (names_pages at) result }
+        ensures prepared { IfOk result (λ prepared. IsPrepared prepared self.now map.now at) }
     {
         let tables = self.survey(alloc, map, &at)?;
-        self.judge_survey(map, &at, &tables)
+        match self.judge_survey(map, &at, &tables) {
+            Ok(()) => Ok(Prepared { tables }),
+            Err(fault) => Err(fault),
+        }
+    }
+
+    /// Attaches pages that can be, as `prepare` found them in this index: those named, and all that paths through fresh
+    /// pages reach from them. Named pages of a root are fresh.
+    pub fn hang(&mut self, prepared: &Prepared)
+        requires sound { IsSound self.old }
+        requires prepared { (map : TheMap) × (at : TheAttach) × IsPrepared prepared.now self.old map at
+            × AreNamedFresh self.old at }
+        ensures node { (map : TheMap) (at : TheAttach) → IsPrepared prepared.now self.old map at → AreNamedFresh self.old at
+            → (p : ℕ) (m : Node) → (node_in self.new p ≡ Some m) ↔ ((node_in self.old p ≡ Some m)
+            ⊎ ((m.page ≡ p) × Attached (fresh_in self.old) (value_at map) (starts_of self.old at) m)) }
+        ensures fresh { (p : ℕ) → fresh_in self.new p ≡ (fresh_in self.old p && is_none (node_in self.new p)) }
+        ensures null { (p : ℕ) → null_in self.new p ≡ null_in self.old p }
+        ensures tracked { SameTracked self.old self.new }
+        ensures sound { IsSound self.new }
+    {
+        hang_all(&mut self.roles, &prepared.tables);
     }
 
     /// Attaches pages that can be: those named, and all that paths through fresh pages reach from them. It answers as
-    /// `judge` does, and a refusal changes nothing. Named pages of a root are fresh.
+    /// `prepare` does, and a refusal changes nothing. Named pages of a root are fresh.
     pub fn attach(&mut self, alloc: Global, map: &PlaceMap, at: Attach) -> Result<(), TreeFault>
         requires sound { IsSound self.old }
         requires may { MayJudge self.old at }
-        requires named { names_pages at ≡ true → (n : Node) → Contains (starts_of self.old at) n
-            → fresh_in self.old n.page ≡ true }
+        requires named { AreNamedFresh self.old at }
         ensures judged { Judges (fresh_in self.old) (value_at map.now) (starts_of self.old at) (names_pages at) result }
         ensures node { OnOk result ((p : ℕ) (m : Node) → (node_in self.new p ≡ Some m) ↔ ((node_in self.old p ≡ Some m)
             ⊎ ((m.page ≡ p) × Attached (fresh_in self.old) (value_at map.now) (starts_of self.old at) m))) }
@@ -435,9 +462,12 @@ impl TreeIndex {
         ensures same { OnErr result (SamePages self.old self.new) }
         ensures sound { IsSound self.new }
     {
-        let tables = self.survey(alloc, map, &at)?;
-        self.judge_survey(map, &at, &tables)?;
-        hang_all(&mut self.roles, &tables);
-        Ok(())
+        match self.prepare(alloc, map, at) {
+            Ok(prepared) => {
+                self.hang(&prepared);
+                Ok(())
+            }
+            Err(fault) => Err(fault),
+        }
     }
 }

@@ -4,6 +4,7 @@ ghost use Rattle.std.specs.Prelude.{◌≡◌, ◌≤◌, ◌<◌, ◌+◌, ◌*
 ghost use Rattle.indexmap.specs.IndexMap.{get, index_map_len, keys};
 ghost use Rattle.bbm_descriptor.specs.Descriptor.{desc_of};
 ghost use Rattle.bbm_place_map.specs.Map.{value_at};
+ghost use Rattle.bbm_regimes.specs.Same.{same_kind};
 ghost use Rattle.bbm_rules.specs.Tree.{Node};
 ghost use Rattle.bbm_tree_index.specs.Judged.{Judges, names_pages};
 ghost use Rattle.bbm_tree_index.specs.Least.{Elsewhere, HasPages, HavePages, LeafIn, LeafOf, LeafPlace, LeastOf, Told, Wrong, WrongIn, WrongPage, asks, lesser};
@@ -257,6 +258,31 @@ fn least_leaf(
     least
 }
 
+// Whether the kind is that of the lower range.
+fn is_lower(kind: Kind) -> bool
+    ensures { result ≡ same_kind kind Kind.Ttbr0 }
+{
+    kind == Kind::Ttbr0
+}
+
+// The least place of the attached pages with a leaf for every ASID, in a tree of the lower range.
+fn least_global(
+    map: &PlaceMap,
+    tables: &[IndexMap<u64, Mark>],
+    kind: Kind,
+    start: u8,
+) -> Option<Place>
+    requires pages { HavePages tables.now }
+    requires low { start + length tables.now ≤ 4 }
+    ensures { LeastOf (LeafPlace tables.now (value_at map.now) (asks Leaf.UserGlobal) kind start) result }
+{
+    if is_lower(kind) {
+        least_leaf(map, tables, &Leaf::UserGlobal, kind, start)
+    } else {
+        None
+    }
+}
+
 /// Judges the pages of a survey that begins at this kind and level.
 pub fn judge_tables(
     roles: &IndexMap<u64, Role>,
@@ -277,7 +303,7 @@ pub fn judge_tables(
     if let Some(place) = least_leaf(map, tables, &Leaf::Contiguous, kind, level) {
         return Err(TreeFault::BadKind(place));
     }
-    if let Some(place) = least_leaf(map, tables, &Leaf::UserGlobal, kind, level) {
+    if let Some(place) = least_global(map, tables, kind, level) {
         return Err(TreeFault::GlobalUser(place));
     }
     Ok(())

@@ -6,7 +6,8 @@
 //! - Keep one `TreeIndex`, at first `TreeIndex::new` of the header, and one `PlaceMap`.
 //! - Call `track` at each page that is initialised, `nullify` at each that is declared null, `prune` after a DSB by which
 //!   a table's place came to hold nothing, and `detach` where a root goes.
-//! - `judge` tells whether pages can be attached, and which page or place is in the way; `attach` attaches them.
+//! - `prepare` tells whether pages can be attached, and which page or place is in the way; `hang` attaches them. `attach`
+//!   does both.
 //! - `role`, `is_fresh`, `is_null`, `is_in_tree`, `pages`, `path`, `in_limbo` and `childless` tell what the calls come to.
 //!
 //! Each contract speaks of the node of each page, by the words of `specs/Index.antt`. `null_page` is an example of the
@@ -31,8 +32,8 @@ mod world;
 
 pub use example::null_page;
 pub use fault::TreeFault;
-pub use index::TreeIndex;
-pub use role::{Attach, Path, Role};
+pub use index::{Prepared, TreeIndex};
+pub use role::{Attach, Detach, Path, Role};
 
 #[cfg(test)]
 mod tests;

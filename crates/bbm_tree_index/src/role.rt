@@ -50,7 +50,7 @@ pub struct Path {
     pub first: Page,
 }
 
-/// What is attached to a tree or detached from it. Source: project's own choice.
+/// What is attached to a tree. Source: project's own choice.
 #[derive(Clone, Copy, Debug, PartialEq, Eq)]
 pub enum Attach {
     /// The pages of a root.
@@ -67,4 +67,13 @@ pub enum Attach {
         /// The page.
         next: Page,
     },
+}
+
+/// What is detached from a tree. Source: project's own choice.
+#[derive(Clone, Copy, Debug, PartialEq, Eq)]
+pub enum Detach {
+    /// The pages of the root with this first page.
+    Root(Page),
+    /// The pages below this place.
+    Below(Place),
 }

@@ -37,7 +37,7 @@ fn judges(rt: HostRuntime) -> Result<(), TreeFault> {
             kind: Kind::El2,
             first,
         };
-        index.judge(rt.alloc(), &map, root)?;
+        let _ = index.prepare(rt.alloc(), &map, root)?;
     }
     Ok(())
 }

@@ -1,9 +1,14 @@
-use Rattle.std.proofs.Common.{◌≡◌, ◌+◌, ◌*◌, ◌≤◌, ◌^◌, refl, sym, ◌∙◌, ap, subst, Err, Contains, true≢false}
+use Rattle.std.proofs.Common.{◌≡◌, ℕ, not, filter, None, ◌+◌, ◌*◌, ◌≤◌, ◌^◌, refl, sym, ◌∙◌, ap, subst, Err, Contains, true≢false}
 use Rattle.bbm_regimes.specs.World.{page_count}
 use Rattle.bbm_rules.specs.Prelude.{Heading, kind_in_world}
 use Rattle.bbm_rules.specs.declared.step_fault.StepFault.{StepFault}
 use Rattle.bbm_rules.specs.Roots.{root_pages}
 use Rattle.bbm_tree_index.specs.Index.{fresh_in, heading_of}
+use Rattle.bbm_tree_index.specs.Prepared.{AreNamedFresh}
+use Rattle.bbm_tree_index.specs.declared.index.TreeIndex.{TreeIndex}
+use Rattle.bbm_regimes.specs.declared.regime.Kind.{Kind}
+use Rattle.bbm_rules.specs.Lists.{least}
+use Rattle.bbm_tree_index.specs.declared.role.Attach.TheVariants as attach
 use Rattle.bbm_replay.specs.Standing.{view_of}
 use Rattle.bbm_replay.specs.declared.parts.Parts.{Parts}
 use Rattle.bbm_rules.specs.declared.step_fault.StepFault.TheVariants as step
@@ -20,7 +25,7 @@ pub returns-in-Err : goal.returns-in-Err
 returns-in-Err c = rw c.step_fault.ensures
     (root_fault c.laws.ensures c.rules.ensures c.args.self.now c.args.pe c.args.page c.args.kind c.args.lock c.requires
     (λ heading e. ap (λ (x : Heading). kind_in_world x.world c.args.kind) (sym e) ∙ sym c.has_kind.ensures ∙ c.if-not-has_kind.false)
-    c.in-Err.fault c.in-Err.ensures)
+    c.in-Err.fault c.in-Err.ensures.judged)
 
 pub first_unfresh-requires : goal.first_unfresh-requires
 first_unfresh-requires c =
@@ -33,7 +38,7 @@ pub returns-in-Some : goal.returns-in-Some
 returns-in-Some c =
     root_used c.laws.ensures c.rules.ensures c.args.self.now c.args.pe c.args.page c.args.kind c.args.lock c.requires
     (λ heading e. ap (λ (x : Heading). kind_in_world x.world c.args.kind) (sym e) ∙ sym c.has_kind.ensures ∙ c.if-not-has_kind.false)
-    c.in-Ok.ensures c.in-Some.at
+    c.in-Ok.ensures.judged c.in-Some.at
     (λ heading e. unfresh_is c.args.self.now c.args.kind c.args.page c.page_count.result heading e
     (sym c.has_kind.ensures ∙ c.if-not-has_kind.false) c.page_count.ensures ∙ sym c.in-Some.ensures)
 
@@ -42,37 +47,32 @@ returns-in-Err-prepare c =
     let old = c.args.self.now in
     let right = λ (heading : Heading) (e : old.header ≡ heading). ap (λ (x : Heading). kind_in_world x.world c.args.kind) (sym e) ∙ sym c.has_kind.ensures ∙ c.if-not-has_kind.false in
     let e = c.in-Err-prepare.ensures in
-    root_full c.laws.ensures c.rules.ensures old c.args.pe c.args.page c.args.kind c.args.lock c.requires right c.in-Ok.ensures
-    (unbroken c.laws.ensures c.rules.ensures old c.args.pe c.args.page c.args.kind c.args.lock c.requires right c.in-Ok.ensures
+    root_full c.laws.ensures c.rules.ensures old c.args.pe c.args.page c.args.kind c.args.lock c.requires right c.in-Ok.ensures.judged
+    (unbroken c.laws.ensures c.rules.ensures old c.args.pe c.args.page c.args.kind c.args.lock c.requires right c.in-Ok.ensures.judged
     (λ heading k. unfresh_is old c.args.kind c.args.page c.page_count.result heading k
     (sym c.has_kind.ensures ∙ c.if-not-has_kind.false) c.page_count.ensures ∙ sym c.in-None.ensures))
-    c.prepare.new.self c.prepare.ensures.same c.in-Err-prepare.fault
+    c.prepare-2.new.self c.prepare-2.ensures.same c.in-Err-prepare.fault
     (λ heading h s k. (e.limit heading h c.args.pe c.args.kind c.args.lock c.args.page s).0 (ap (λ (f : StepFault). Err f) k))
     e.fault
 
-pub attach-requires-clause-named : goal.attach-requires-clause-named
-attach-requires-clause-named c k n inside =
-    let old = c.args.self.now in
-    let m = c.requires in
-    named_fresh (fresh_in old.index) c.args.kind _ c.args.page _ (root_pages m.0.world c.args.kind c.args.page)
-    (unfresh_is old c.args.kind c.args.page c.page_count.result m.0 m.2.header
-    (sym c.has_kind.ensures ∙ c.if-not-has_kind.false) c.page_count.ensures ∙ sym c.in-None.ensures) n
-    (subst (λ (x : Heading). Contains (starts x c.args.kind c.args.page) n) m.2.index_header inside)
+named : (index : TreeIndex) (heading : Heading) → heading_of index ≡ heading → (kind : Kind) (page : ℕ)
+    → least (filter (λ p. not (fresh_in index p)) (root_pages heading.world kind page)) ≡ None
+    → AreNamedFresh index (attach.Root kind page)
+named index heading e kind page none k n inside =
+    named_fresh (fresh_in index) kind _ page _ (root_pages heading.world kind page) none n
+    (subst (λ (x : Heading). Contains (starts x kind page) n) e inside)
 
-pub returns-in-Err-attach : goal.returns-in-Err-attach
-returns-in-Err-attach c =
+pub hang-requires-clause-prepared : goal.hang-requires-clause-prepared
+hang-requires-clause-prepared c =
     let old = c.args.self.now in
-    let e = c.in-Err-attach.ensures in
-    let new : Parts = record old { index = c.attach.new.self; roots = c.prepare.new.self } in
-    stays_after c.laws.ensures c.rules.ensures old c.args.pe c.args.page c.args.kind c.args.lock c.requires step.NoMemory refl new
-    (λ heading h s. stands_still c.laws.ensures old new
-    (record { header = refl; index_header = c.attach.ensures.tracked.heading; sound = λ k. c.attach.ensures.sound })
-    (record {
-      map = record { value = λ a. refl; marks = λ a. refl; pends = λ q a b i p. refl };
-      nodes = e.same.node;
-      roles = record { fresh = e.same.fresh; null = e.same.null };
-      tracking = record { tracked = λ p. refl; known = c.attach.ensures.tracked.known; pages = c.attach.ensures.tracked.pages };
-    }) heading h s (c.prepare.ensures.same heading h s.roots))
+    let m = c.requires in (
+      old.map,
+      attach.Root c.args.kind c.args.page,
+      c.in-Ok.ensures.prepared,
+      named old.index m.0 m.2.index_header c.args.kind c.args.page
+          (unfresh_is old c.args.kind c.args.page c.page_count.result m.0 m.2.header
+          (sym c.has_kind.ensures ∙ c.if-not-has_kind.false) c.page_count.ensures ∙ sym c.in-None.ensures),
+    )
 
 pub declare-requires : goal.declare-requires
 declare-requires c =
@@ -83,34 +83,34 @@ declare-requires c =
       (
         m.0,
         m.1,
-        c.prepare.ensures.same m.0 m.1 m.2.roots,
+        c.prepare-2.ensures.same m.0 m.1 m.2.roots,
         m.3,
-        unbroken c.laws.ensures c.rules.ensures old c.args.pe c.args.page c.args.kind c.args.lock c.requires right c.in-Ok.ensures
+        unbroken c.laws.ensures c.rules.ensures old c.args.pe c.args.page c.args.kind c.args.lock c.requires right c.in-Ok.ensures.judged
             (λ heading k. unfresh_is old c.args.kind c.args.page c.page_count.result heading k
             (sym c.has_kind.ensures ∙ c.if-not-has_kind.false) c.page_count.ensures ∙ sym c.in-None.ensures) m.0 m.1 m.2,
       ),
     )
 
-pub returns-in-Err-declare : goal.returns-in-Err-declare
-returns-in-Err-declare c = absurd (true≢false (sym (c.in-Err-declare.ensures.room c.in-Ok-prepare.ensures.room)))
-
 pub returns-in-Ok-declare : goal.returns-in-Ok-declare
 returns-in-Ok-declare c =
     let old = c.args.self.now in
     let right = λ (heading : Heading) (e : old.header ≡ heading). ap (λ (x : Heading). kind_in_world x.world c.args.kind) (sym e) ∙ sym c.has_kind.ensures ∙ c.if-not-has_kind.false in
-    let e = c.in-Ok-attach.ensures in
+    let e = c.hang.ensures in
     let r = c.in-Ok-prepare.ensures in
-    let new : Parts = record old { index = c.attach.new.self; roots = c.declare.new.self } in
-    root_ok c.laws.ensures c.rules.ensures old c.args.pe c.args.page c.args.kind c.args.lock c.requires right c.in-Ok.ensures
-    (unbroken c.laws.ensures c.rules.ensures old c.args.pe c.args.page c.args.kind c.args.lock c.requires right c.in-Ok.ensures
+    let new : Parts = record old { index = c.hang.new.self; roots = c.declare.new.self } in
+    root_ok c.laws.ensures c.rules.ensures old c.args.pe c.args.page c.args.kind c.args.lock c.requires right c.in-Ok.ensures.judged
+    (unbroken c.laws.ensures c.rules.ensures old c.args.pe c.args.page c.args.kind c.args.lock c.requires right c.in-Ok.ensures.judged
     (λ heading k. unfresh_is old c.args.kind c.args.page c.page_count.result heading k
     (sym c.has_kind.ensures ∙ c.if-not-has_kind.false) c.page_count.ensures ∙ sym c.in-None.ensures))
-    c.prepare.new.self c.prepare.ensures.same new
-    (record { header = refl; index_header = c.attach.ensures.tracked.heading; sound = λ k. c.attach.ensures.sound })
+    c.prepare-2.new.self c.prepare-2.ensures.same new
+    (record { header = refl; index_header = c.hang.ensures.tracked.heading; sound = λ k. c.hang.ensures.sound })
     (λ heading h s k. let bad = (r.limit heading h c.args.pe c.args.kind c.args.lock c.args.page s).1 k in absurd cc)
     (record { value = λ a. refl; marks = λ a. refl; pends = λ q a b i p. refl })
     (attaches_of (view_of old.map old.index) (view_of new.map new.index) (starts (heading_of old.index) c.args.kind c.args.page)
-    e.node e.fresh c.attach.ensures.null
-    (record { tracked = λ p. refl; known = c.attach.ensures.tracked.known; pages = c.attach.ensures.tracked.pages }))
-    c.restless.ensures.idle
+    (e.node old.map (attach.Root c.args.kind c.args.page) c.in-Ok.ensures.prepared
+    (named old.index c.requires.0 c.requires.2.index_header c.args.kind c.args.page
+    (unfresh_is old c.args.kind c.args.page c.page_count.result c.requires.0 c.requires.2.header
+    (sym c.has_kind.ensures ∙ c.if-not-has_kind.false) c.page_count.ensures ∙ sym c.in-None.ensures))) e.fresh c.hang.ensures.null
+    (record { tracked = λ p. refl; known = c.hang.ensures.tracked.known; pages = c.hang.ensures.tracked.pages }))
+    c.law_idle.ensures
     (λ heading h s free. c.in-Ok-declare.ensures.taken heading h c.args.pe s free)
