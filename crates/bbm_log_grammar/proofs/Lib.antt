@@ -4,6 +4,7 @@ pub mod Numerals
 pub mod Splitting
 pub mod Passing
 pub mod Fronts
+pub mod Fitting
 pub mod Begun
 pub mod Parts
 pub mod Short

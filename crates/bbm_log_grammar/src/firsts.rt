@@ -7,7 +7,7 @@ ghost use Rattle.bbm_log_grammar.specs.Front.{first_value, only_zero, run};
 ghost use Rattle.bbm_events.specs.Lines as lines;
 
 use crate::fields::Fields;
-use crate::numbers::{next_decimal, next_hex};
+use crate::numbers::{low_hex, next_decimal, next_hex};
 use crate::words::{dsb_of, keyword_of};
 use bbm_barriers::{Domain, Dsb, Types};
 use bbm_events::{Keyword, Malformed};
@@ -28,12 +28,12 @@ fn decimal_run<'a>(line: &'a [u8]) -> Option<(u64, Fields<'a>)>
     Some((n, Fields::none()))
 }
 
-/// The number that the bytes up to the first space write as hex digits, and the fields after it.
-#[inline]
-fn hex_run<'a>(line: &'a [u8]) -> Option<(u64, Fields<'a>)>
-    ensures { result ≡ run 16 0 line.now }
+/// The number n with all hex digits more up to the first space, and the fields after it.
+#[inline(never)]
+fn hex_rest<'a>(start: u64, line: &'a [u8]) -> Option<(u64, Fields<'a>)>
+    ensures { result ≡ run 16 start line.now }
 {
-    let mut n = 0;
+    let mut n = start;
     for i in 0..line.len() {
         match next_hex(n, line[i]) {
             Some(more) => n = more,
@@ -42,6 +42,29 @@ fn hex_run<'a>(line: &'a [u8]) -> Option<(u64, Fields<'a>)>
         }
     }
     Some((n, Fields::none()))
+}
+
+/// The number that the bytes up to the first space write as hex digits, and the fields after it. The first 15 digits
+/// can't pass 2^60.
+#[inline]
+#[tactic(auto, using(crate::proofs::Fitting::fitting))]
+fn hex_run<'a>(line: &'a [u8]) -> Option<(u64, Fields<'a>)>
+    ensures { result ≡ run 16 0 line.now }
+{
+    let most = line.len().min(15);
+    let mut n = 0;
+    for i in 0..most {
+        match low_hex(n, line[i]) {
+            Some(more) => n = more,
+            None if line[i] == b' ' => return Some((n, Fields::of(&line[i + 1..]))),
+            None => return None,
+        }
+    }
+    if most == line.len() {
+        Some((n, Fields::none()))
+    } else {
+        hex_rest(n, &line[most..])
+    }
 }
 
 /// Zero and the fields after it, where what follows its digit is a space or nothing.
@@ -106,7 +129,6 @@ pub(crate) fn first_hex<'a>(line: &'a [u8]) -> Option<(u64, Fields<'a>)>
 }
 
 /// The word of a line that the next field is, and the fields after it.
-#[inline(never)]
 fn any_keyword<'a>(fields: Fields<'a>) -> Result<(Keyword, Fields<'a>), Malformed>
     ensures { result ≡ lines.keyword_field fields.entry }
 {

@@ -1,6 +1,6 @@
 //! The two spellings of a number.
 
-ghost use Rattle.std.specs.Prelude.{◌≡◌, if◌then◌else◌, Some, None};
+ghost use Rattle.std.specs.Prelude.{◌≡◌, ◌+◌, ◌*◌, ◌<◌, if◌then◌else◌, Some, None, IfSome};
 ghost use Rattle.std.specs.Char.{digit_value};
 ghost use Rattle.bbm_events.specs.Spelling.{decimal_value, hex_value};
 ghost use Rattle.bbm_log_grammar.specs.Digits as digits;
@@ -14,21 +14,36 @@ fn decimal_digit(byte: u8) -> Option<u64>
     if digit < 10 { Some(digit as u64) } else { None }
 }
 
+/// The value of each byte as a lower-case hex digit, and 16 for a byte that is none.
+const HEX_VALUES: [u8; 256] = [
+    16, 16, 16, 16, 16, 16, 16, 16, 16, 16, 16, 16, 16, 16, 16, 16, 16, 16, 16, 16, 16, 16, 16, 16,
+    16, 16, 16, 16, 16, 16, 16, 16, 16, 16, 16, 16, 16, 16, 16, 16, 16, 16, 16, 16, 16, 16, 16, 16,
+    0, 1, 2, 3, 4, 5, 6, 7, 8, 9, 16, 16, 16, 16, 16, 16, 16, 16, 16, 16, 16, 16, 16, 16, 16, 16,
+    16, 16, 16, 16, 16, 16, 16, 16, 16, 16, 16, 16, 16, 16, 16, 16, 16, 16, 16, 16, 16, 16, 16, 10,
+    11, 12, 13, 14, 15, 16, 16, 16, 16, 16, 16, 16, 16, 16, 16, 16, 16, 16, 16, 16, 16, 16, 16, 16,
+    16, 16, 16, 16, 16, 16, 16, 16, 16, 16, 16, 16, 16, 16, 16, 16, 16, 16, 16, 16, 16, 16, 16, 16,
+    16, 16, 16, 16, 16, 16, 16, 16, 16, 16, 16, 16, 16, 16, 16, 16, 16, 16, 16, 16, 16, 16, 16, 16,
+    16, 16, 16, 16, 16, 16, 16, 16, 16, 16, 16, 16, 16, 16, 16, 16, 16, 16, 16, 16, 16, 16, 16, 16,
+    16, 16, 16, 16, 16, 16, 16, 16, 16, 16, 16, 16, 16, 16, 16, 16, 16, 16, 16, 16, 16, 16, 16, 16,
+    16, 16, 16, 16, 16, 16, 16, 16, 16, 16, 16, 16, 16, 16, 16, 16, 16, 16, 16, 16, 16, 16, 16, 16,
+    16, 16, 16, 16, 16, 16, 16, 16, 16, 16, 16, 16, 16, 16,
+];
+
+/// The value of a lower-case hex digit, 0 to 15; 16 where the byte is none.
+#[inline]
+fn hex_value_or_16(byte: u8) -> u8
+    ensures { result ≡ (if digits.is_lower_digit 16 byte then digit_value byte else 16) }
+{
+    HEX_VALUES[byte as usize]
+}
+
 /// The value of a lower-case hex digit, 0 to 15.
 #[inline]
 fn hex_digit(byte: u8) -> Option<u64>
     ensures { result ≡ (if digits.is_lower_digit 16 byte then Some (digit_value byte) else None) }
 {
-    let digit = byte.wrapping_sub(b'0');
-    if digit < 10 {
-        return Some(digit as u64);
-    }
-    let letter = byte.wrapping_sub(b'a');
-    if letter < 6 {
-        Some(letter as u64 + 10)
-    } else {
-        None
-    }
+    let value = hex_value_or_16(byte);
+    if value < 16 { Some(value as u64) } else { None }
 }
 
 /// The number with one decimal digit more.
@@ -40,17 +55,23 @@ pub(crate) fn next_decimal(n: u64, byte: u8) -> Option<u64>
     n.checked_mul(10)?.checked_add(value)
 }
 
+/// The number, which is below 2^60, with one hex digit more.
+#[inline]
+pub(crate) fn low_hex(n: u64, byte: u8) -> Option<u64>
+    requires { n < 1152921504606846976 }
+    ensures number { result ≡ digits.next_number 16 n byte }
+    ensures grows { IfSome result (λ more. more < n * 16 + 16) }
+{
+    let value = hex_digit(byte)?;
+    Some(n * 16 + value)
+}
+
 /// The number with one hex digit more.
 #[inline]
 pub(crate) fn next_hex(n: u64, byte: u8) -> Option<u64>
     ensures { result ≡ digits.next_number 16 n byte }
 {
-    let value = hex_digit(byte)?;
-    if n < 1 << 60 {
-        Some(n * 16 + value)
-    } else {
-        None
-    }
+    if n < 1 << 60 { low_hex(n, byte) } else { None }
 }
 
 /// The number that the bytes write as decimal digits, from the left.
