@@ -69,3 +69,9 @@ pub of_cell : (R : Entry → Entry → Type 0) (old new : List Entry) → ((k : 
     → (s : Option ℕ) → Advances R (entry_of old s) (entry_of new s)
 of_cell R old new each None = tt
 of_cell R old new each (Some k) = each k
+
+pub advance_by : (R S : Entry → Entry → Type 0) → ((e f : Entry) → R e f → S e f) → (o p : Option Entry) → Advances R o p → Advances S o p
+advance_by R S by None None h = tt
+advance_by R S by None (Some f) h = absurd h
+advance_by R S by (Some e) None h = absurd h
+advance_by R S by (Some e) (Some f) h = (h.0, by e f h.1)

@@ -1,9 +1,10 @@
 -- What the issue of a TLBI notes, of a place.
-use Rattle.std.proofs.Common.{◌≡◌, ℕ, Bool, true, false, ◌<◌, List, length, Option, Some, None, is_some, refl, ap, sym, subst, ◌∙◌, arith, inl, inr, slice_get, unwrap_or}
+use Rattle.std.proofs.Common.{◌≡◌, ℕ, Bool, true, false, ◌<◌, List, length, Option, Some, None, is_some, refl, ap, sym, subst, ◌∙◌, arith, inl, inr, slice_get, unwrap_or, get_or}
 use Rattle.std.specs.Option.{option_map}
-use Rattle.std.proofs.lemmas.Option.{slice_get_cases, slice_get_within, same_Some}
+use Rattle.std.proofs.lemmas.Option.{slice_get_cases, slice_get_within, same_Some, slice_get-get_or}
 use Rattle.bbm_regimes.specs.declared.pe.PeMask.{PeMask}
 use Rattle.bbm_tlbi_scope.specs.declared.entry.Cover.{Cover}
+use Rattle.bbm_tlbi_scope.specs.declared.entry.Cover.TheVariants.{None as NoCover}
 use Rattle.bbm_entry_state.specs.Calls.{Noted}
 use Rattle.bbm_entry_state.specs.Points.{waits}
 use Rattle.bbm_entry_state.specs.declared.marks.Marks.{Marks}
@@ -29,6 +30,9 @@ cover_there covers i within =
       | inl is ↦ (is.0, is.2)
       | inr past ↦ absurd (omega (arith, past.0))
     ]
+
+pub cover_read : (covers : List Cover) (i : ℕ) → i < length covers → slice_get covers i ≡ Some (get_or covers i NoCover)
+cover_read covers i within = slice_get-get_or covers i NoCover within
 
 module _ (base : ℕ → Option ℕ) (cells : List Cell) (entries mid new : List Entry) (covers : List Cover) (issuer : ℕ) (reach : PeMask)
     (broadcast : Bool) (linked : Linked cells entries) (placed : Placed base entries)

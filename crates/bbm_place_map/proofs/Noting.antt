@@ -1,5 +1,7 @@
 -- What the issue of a TLBI notes at an entry.
-use Rattle.std.proofs.Common.{◌≡◌, ℕ, Bool, true, false, ◌&&◌, ◌||◌, refl, ap, sym, subst, ◌∙◌}
+use Rattle.std.proofs.Common.{◌≡◌, ℕ, Bool, true, false, not, ◌↔◌, IsTrue, List, Some, slice_get, inl, inr, nat_eq, if◌then◌else◌, ◌&&◌, ◌||◌, refl, ap, sym, subst, ◌∙◌}
+use Rattle.std.proofs.lemmas.Bool.{false≢true, cases_eq, eq-eqb, ne_eqb, cond-true, cond-false}
+use Rattle.std.proofs.lemmas.Option.{same_Some}
 use Rattle.bbm_descriptor.specs.Descriptor.{same_bool}
 use Rattle.bbm_regimes.specs.PeMask.{pe_in}
 use Rattle.bbm_regimes.specs.declared.pe.PeMask.{PeMask}
@@ -11,7 +13,12 @@ use Rattle.bbm_entry_state.specs.Points.{waits}
 use Rattle.bbm_entry_state.specs.declared.marks.Marks.{Marks}
 use Rattle.bbm_entry_state.specs.declared.pending.Pends.{Pends}
 use Rattle.bbm_entry_state.specs.declared.state.EntryState.TheVariants.{Broken}
-use Rattle.bbm_place_map.specs.Entries.{WaitsAlike}
+use Rattle.bbm_entry_state.specs.Standing.{IsIdle}
+use Rattle.bbm_place_map.specs.Entries.{WaitsAlike, pends_in}
+use Rattle.bbm_place_map.specs.Notes.{NotesAs, NotesAt, is_cover}
+use Rattle.bbm_place_map.specs.Works.{HoldsFor, Waits}
+use Rattle.bbm_place_map.specs.declared.entry.Entry.{Entry}
+use Rattle.bbm_place_map.specs.declared.work.WorkList.{WorkList}
 
 pub noted_alike : (marks marks' : Marks) (r r' after after' : Pends) (reach : PeMask) (broadcast : Bool) (cover : Cover)
     → marks ≡ marks' → WaitsAlike r' r → after' ≡ after → Noted (Broken marks) r reach broadcast cover after
@@ -38,3 +45,54 @@ pub noted_none : (marks : Marks) (r : Pends) (reach : PeMask) (broadcast : Bool)
 noted_none marks r reach broadcast b c p =
     nothing (same_bool broadcast b) (pe_in reach p) (waits r b c p)
     ∙ ap (λ (x : Bool). (same_bool broadcast b && (pe_in reach p && x)) || waits r b c p) (sym (none_counts marks c p))
+
+pub notes_at : (covers : List Cover) (k : ℕ) (cover : Cover) (issuer : ℕ) (reach : PeMask) (broadcast : Bool) (e f : Entry)
+    → slice_get covers k ≡ Some cover → NotesAs cover issuer reach broadcast e f → NotesAt covers issuer reach broadcast k e f
+notes_at covers k cover issuer reach broadcast e f is notes = (
+  notes.0,
+  notes.1,
+  λ c at.
+      let P : Cover → Type 0 = λ x. Noted (Broken e.marks) (pends_in e.pends.items issuer) reach broadcast x (pends_in f.pends.items issuer) in
+      subst P (same_Some cover c (sym is ∙ at)) notes.2,
+  λ c at none. notes.3 (ap is_cover (same_Some cover c (sym is ∙ at)) ∙ none),
+)
+
+pub waits_kept : (lists lists' : List WorkList) (issuer : ℕ) → ((q j : ℕ) → HoldsFor lists q j → HoldsFor lists' q j) → (e f : Entry)
+    → Waits lists issuer e f → Waits lists' issuer e f
+waits_kept lists lists' issuer kept e f waits =
+    elim waits [
+      | inl holds ↦ inl (kept issuer e.cell holds)
+      | inr idle ↦ inr idle
+    ]
+
+-- where something waits that didn't is told
+pub idle_still : (b a : Bool) (before after : Pends) → (IsTrue b ↔ IsIdle before) → (IsTrue a ↔ IsIdle after)
+    → (b && not a) ≡ false → IsIdle before → IsIdle after
+idle_still b true before after is is' none idle = is'.0 refl
+idle_still true false before after is is' none idle = cc
+idle_still false false before after is is' none idle = absurd (false≢true (is.1 idle))
+
+pub uncovered : (cover : Cover) → is_cover cover ≡ false → cover ≡ NoCover
+uncovered NoCover none = refl
+uncovered Half none = cc
+uncovered Second none = cc
+uncovered Full none = cc
+
+-- an entry that isn't covered stays
+pub not_noted : (cover : Cover) (issuer : ℕ) (reach : PeMask) (broadcast : Bool) (e : Entry) → is_cover cover ≡ false
+    → NotesAs cover issuer reach broadcast e e
+not_noted cover issuer reach broadcast e none = (
+  refl,
+  λ q other. refl,
+  let P : Cover → Type 0 = λ x. Noted (Broken e.marks) (pends_in e.pends.items issuer) reach broadcast x (pends_in e.pends.items issuer) in
+      subst P (sym (uncovered cover none)) (noted_none e.marks (pends_in e.pends.items issuer) reach broadcast),
+  λ same. refl,
+)
+
+pub gets_same : (entries : List Entry) (k : ℕ) (e : Entry) → slice_get entries k ≡ Some e
+    → (i : ℕ) → slice_get entries i ≡ (if nat_eq i k then Some e else slice_get entries i)
+gets_same entries k e is i =
+    elim (cases_eq i k) [
+      | inl same ↦ ap (slice_get entries) same ∙ is ∙ sym (cond-true (nat_eq i k) (Some e) (slice_get entries i) (eq-eqb i k same))
+      | inr other ↦ sym (cond-false (nat_eq i k) (Some e) (slice_get entries i) (ne_eqb i k other))
+    ]

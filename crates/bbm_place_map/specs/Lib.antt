@@ -4,6 +4,7 @@ pub mod Parts
 pub mod Sound
 pub mod States
 pub mod Each
+pub mod Works
 pub mod Finds
 pub mod Notes
 pub mod Map

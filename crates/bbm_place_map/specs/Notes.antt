@@ -25,6 +25,13 @@ Readies covers m e f =
     (f.marks ≡ e.marks) × (f.pends.items ≡ e.pends.items)
     × ((c : Cover) → slice_get covers m ≡ Some c → is_cover c ≡ true → vec_len f.pends < vec_capacity f.pends)
 
+-- the TLBI is noted, which covers the place so far
+abbrev pub NotesAs : Cover → ℕ → PeMask → Bool → Entry → Entry → Type 0
+NotesAs cover issuer reach broadcast e f =
+    (f.marks ≡ e.marks) × ((q : ℕ) → q ≢ issuer → pends_in f.pends.items q ≡ pends_in e.pends.items q)
+    × Noted (Broken e.marks) (pends_in e.pends.items issuer) reach broadcast cover (pends_in f.pends.items issuer)
+    × (is_cover cover ≡ false → f.pends.items ≡ e.pends.items)
+
 -- the TLBI is noted as far as it covers the place
 abbrev pub NotesAt : List Cover → ℕ → PeMask → Bool → ℕ → Entry → Entry → Type 0
 NotesAt covers issuer reach broadcast m e f =

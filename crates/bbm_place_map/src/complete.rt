@@ -1,18 +1,22 @@
 //! What a DSB answers.
 
-ghost use Rattle.std.specs.Prelude.{◌≡◌, ◌≢◌, ◌≤◌, ◌<◌, ◌+◌, ◌^◌, ℕ, Some, Option, vec_len, vec_capacity, length, slice_get, nat_eq, true, false, if◌then◌else◌};
+ghost use Rattle.std.specs.Prelude.{◌≡◌, ◌≢◌, ◌≤◌, ◌<◌, ◌+◌, ◌^◌, ◌⊎◌, ℕ, Some, Option, vec_len, vec_capacity, length, slice_get, slice_index, nat_eq, true, false, if◌then◌else◌};
 ghost use Rattle.bbm_entry_state.specs.Standing.{IsIdle};
 ghost use Rattle.bbm_place_map.specs.Cells.{value_in, slot_in};
 ghost use Rattle.bbm_place_map.specs.Each.{Completes, loses_table, is_table as spec_is_table};
 ghost use Rattle.bbm_place_map.specs.Entries.{cell_at, entry_in, pends_in, seat, WaitsAlike};
-ghost use Rattle.bbm_place_map.specs.Parts.{marks_in};
+ghost use Rattle.bbm_entry_state.specs.declared.marks.Marks.{Marks as TheMarks};
+ghost use Rattle.bbm_place_map.specs.Parts.{marks_in, pends_for};
 ghost use Rattle.bbm_place_map.specs.Sound.{Linked, Placed};
+ghost use Rattle.bbm_place_map.specs.Works.{Holds, HoldsFor, MayComplete, is_clean};
 ghost use Rattle.bbm_place_map.specs.declared.entry.Entry.{Entry as TheEntry};
 
 use crate::cell::Cell;
-use crate::entry::{Entry, keep_pends, pends_of};
+use crate::entry::{Entry, is_idle, keep_pends, pends_of};
 use crate::links::unlink;
-use bbm_barriers::Dsb;
+use crate::read::slot_of;
+use crate::work::{WorkList, add, restart};
+use bbm_barriers::{Dsb, completes_broadcast, completes_local};
 use bbm_descriptor::Core;
 use bbm_entry_state::{EntryState, Marks, Pends};
 use bbm_regimes::Pe;
@@ -89,9 +93,9 @@ fn complete_at(
     }
 }
 
-/// A DSB of the issuer answered its TLBIs. An entry whose place is cleansed at every PE leaves. Whether one over a table
-/// left.
-pub fn complete(cells: &mut Vec<Cell>, broken: &mut Vec<Entry>, issuer: Pe, dsb: Dsb, n: u8) -> bool
+// A DSB of the issuer answered its TLBIs at each entry. One whose place is cleansed at every PE leaves. Whether one over
+// a table left.
+fn complete_all(cells: &mut Vec<Cell>, broken: &mut Vec<Entry>, issuer: Pe, dsb: Dsb, n: u8) -> bool
     requires some { 1 ≤ n }
     requires most { n ≤ 128 }
     requires linked { Linked cells.old.items broken.old.items }
@@ -117,4 +121,242 @@ pub fn complete(cells: &mut Vec<Cell>, broken: &mut Vec<Entry>, issuer: Pe, dsb:
         }
     }
     lost
+}
+
+// A DSB of the issuer answered its TLBIs at the entry of a cell, if it has one.
+fn complete_cell(
+    cells: &mut Vec<Cell>,
+    broken: &mut Vec<Entry>,
+    cell: u32,
+    issuer: Pe,
+    dsb: Dsb,
+    n: u8,
+) -> bool
+    requires some { 1 ≤ n }
+    requires most { n ≤ 128 }
+    requires linked { Linked cells.old.items broken.old.items }
+    requires few { vec_len cells.old < 2 ^ 32 }
+    ensures linked { Linked cells.new.items broken.new.items }
+    ensures len { vec_len cells.new ≡ vec_len cells.old }
+    ensures room { vec_capacity broken.new ≡ vec_capacity broken.old }
+    ensures values { (i : ℕ) → value_in cells.new.items i ≡ value_in cells.old.items i }
+    ensures here { Completes issuer dsb n (entry_in cells.old.items broken.old.items cell)
+        (entry_in cells.new.items broken.new.items cell) }
+    ensures answer { result ≡ loses_table (marks_in cells.old.items broken.old.items cell)
+        (marks_in cells.new.items broken.new.items cell) }
+    ensures others { (i : ℕ) → i ≢ cell → entry_in cells.new.items broken.new.items i ≡ entry_in cells.old.items broken.old.items i }
+    ensures placed { (base : ℕ → Option ℕ) → Placed base broken.old.items → Placed base broken.new.items }
+{
+    match slot_of(cells, cell) {
+        Some(k) => complete_at(cells, broken, k as usize, issuer, dsb, n),
+        None => false,
+    }
+}
+
+// A DSB of the issuer answered its TLBIs at the entries of these cells.
+fn complete_cells(
+    cells: &mut Vec<Cell>,
+    broken: &mut Vec<Entry>,
+    list: &[u32],
+    issuer: Pe,
+    dsb: Dsb,
+    n: u8,
+) -> bool
+    requires some { 1 ≤ n }
+    requires most { n ≤ 128 }
+    requires linked { Linked cells.old.items broken.old.items }
+    requires few { vec_len cells.old < 2 ^ 32 }
+    ensures linked { Linked cells.new.items broken.new.items }
+    ensures len { vec_len cells.new ≡ vec_len cells.old }
+    ensures room { vec_capacity broken.new ≡ vec_capacity broken.old }
+    ensures values { (i : ℕ) → value_in cells.new.items i ≡ value_in cells.old.items i }
+    ensures here { (i : ℕ) → i < length list.now → Completes issuer dsb n
+        (entry_in cells.old.items broken.old.items (slice_index list.now i))
+        (entry_in cells.new.items broken.new.items (slice_index list.now i)) }
+    ensures each { (j : ℕ) → MayComplete issuer dsb n (entry_in cells.old.items broken.old.items j)
+        (entry_in cells.new.items broken.new.items j) }
+    ensures lost { result ≡ true → (j : ℕ) × (loses_table (marks_in cells.old.items broken.old.items j)
+        (marks_in cells.new.items broken.new.items j) ≡ true) }
+    ensures kept { result ≡ false → (j : ℕ) → loses_table (marks_in cells.old.items broken.old.items j)
+        (marks_in cells.new.items broken.new.items j) ≡ false }
+    ensures placed { (base : ℕ → Option ℕ) → Placed base broken.old.items → Placed base broken.new.items }
+{
+    let mut lost = false;
+    for i in 0..list.len() {
+        if complete_cell(cells, broken, list[i], issuer, dsb, n) {
+            lost = true;
+        }
+    }
+    lost
+}
+
+// Lists the cell of an entry at which something waits for the answers of the issuer's TLBIs.
+fn list_waiting(list: &mut WorkList, entry: &Entry, issuer: Pe, broken: usize)
+    ensures there { Holds list.new entry.now.cell ⊎ IsIdle (pends_in entry.now.pends.items issuer) }
+    ensures kept { (j : ℕ) → Holds list.old j → Holds list.new j }
+{
+    if !is_idle(&pends_of(&entry.pends, issuer)) {
+        add(list, entry.cell, broken);
+    }
+}
+
+// Lists the cells of the entries at which something waits for the answers of the issuer's TLBIs.
+fn relist(broken: &[Entry], list: &mut WorkList, issuer: Pe)
+    ensures { (k : ℕ) (e : TheEntry) → slice_get broken.now k ≡ Some e
+        → Holds list.new e.cell ⊎ IsIdle (pends_in e.pends.items issuer) }
+{
+    restart(list, false);
+    for k in 0..broken.len() {
+        list_waiting(list, &broken[k], issuer, broken.len());
+    }
+}
+
+// A DSB of the issuer answered its TLBIs. Its list has all cells at which something waits for that, and stays.
+fn complete_list(
+    cells: &mut Vec<Cell>,
+    broken: &mut Vec<Entry>,
+    list: &WorkList,
+    issuer: Pe,
+    dsb: Dsb,
+    n: u8,
+) -> bool
+    requires some { 1 ≤ n }
+    requires most { n ≤ 128 }
+    requires linked { Linked cells.old.items broken.old.items }
+    requires few { vec_len cells.old < 2 ^ 32 }
+    requires open { list.now.given_up ≡ false }
+    requires known { (j : ℕ) → Holds list.now j ⊎ IsIdle (pends_for cells.old.items broken.old.items issuer j) }
+    requires settled { (j : ℕ) (marks : TheMarks) → marks_in cells.old.items broken.old.items j ≡ Some marks → is_clean n marks ≡ false }
+    ensures linked { Linked cells.new.items broken.new.items }
+    ensures len { vec_len cells.new ≡ vec_len cells.old }
+    ensures room { vec_capacity broken.new ≡ vec_capacity broken.old }
+    ensures values { (i : ℕ) → value_in cells.new.items i ≡ value_in cells.old.items i }
+    ensures each { (j : ℕ) → Completes issuer dsb n (entry_in cells.old.items broken.old.items j)
+        (entry_in cells.new.items broken.new.items j) }
+    ensures lost { result ≡ true → (j : ℕ) × (loses_table (marks_in cells.old.items broken.old.items j)
+        (marks_in cells.new.items broken.new.items j) ≡ true) }
+    ensures kept { result ≡ false → (j : ℕ) → loses_table (marks_in cells.old.items broken.old.items j)
+        (marks_in cells.new.items broken.new.items j) ≡ false }
+    ensures placed { (base : ℕ → Option ℕ) → Placed base broken.old.items → Placed base broken.new.items }
+{
+    complete_cells(cells, broken, &list.cells, issuer, dsb, n)
+}
+
+// The same, where nothing may stay in the list.
+fn complete_listed(
+    cells: &mut Vec<Cell>,
+    broken: &mut Vec<Entry>,
+    list: &mut WorkList,
+    issuer: Pe,
+    dsb: Dsb,
+    n: u8,
+) -> bool
+    requires some { 1 ≤ n }
+    requires most { n ≤ 128 }
+    requires linked { Linked cells.old.items broken.old.items }
+    requires few { vec_len cells.old < 2 ^ 32 }
+    requires open { list.old.given_up ≡ false }
+    requires known { (j : ℕ) → Holds list.old j ⊎ IsIdle (pends_for cells.old.items broken.old.items issuer j) }
+    requires settled { (j : ℕ) (marks : TheMarks) → marks_in cells.old.items broken.old.items j ≡ Some marks → is_clean n marks ≡ false }
+    ensures linked { Linked cells.new.items broken.new.items }
+    ensures len { vec_len cells.new ≡ vec_len cells.old }
+    ensures room { vec_capacity broken.new ≡ vec_capacity broken.old }
+    ensures values { (i : ℕ) → value_in cells.new.items i ≡ value_in cells.old.items i }
+    ensures each { (j : ℕ) → Completes issuer dsb n (entry_in cells.old.items broken.old.items j)
+        (entry_in cells.new.items broken.new.items j) }
+    ensures known { (j : ℕ) → Holds list.new j ⊎ IsIdle (pends_for cells.new.items broken.new.items issuer j) }
+    ensures lost { result ≡ true → (j : ℕ) × (loses_table (marks_in cells.old.items broken.old.items j)
+        (marks_in cells.new.items broken.new.items j) ≡ true) }
+    ensures kept { result ≡ false → (j : ℕ) → loses_table (marks_in cells.old.items broken.old.items j)
+        (marks_in cells.new.items broken.new.items j) ≡ false }
+    ensures placed { (base : ℕ → Option ℕ) → Placed base broken.old.items → Placed base broken.new.items }
+{
+    if !completes_local(dsb) {
+        return false;
+    }
+    let lost = complete_list(cells, broken, list, issuer, dsb, n);
+    if completes_broadcast(dsb) {
+        list.cells.clear();
+    }
+    lost
+}
+
+// The same for any list.
+fn complete_by(
+    cells: &mut Vec<Cell>,
+    broken: &mut Vec<Entry>,
+    list: &mut WorkList,
+    settled: bool,
+    issuer: Pe,
+    dsb: Dsb,
+    n: u8,
+) -> bool
+    requires some { 1 ≤ n }
+    requires most { n ≤ 128 }
+    requires linked { Linked cells.old.items broken.old.items }
+    requires few { vec_len cells.old < 2 ^ 32 }
+    requires known { (j : ℕ) → Holds list.old j ⊎ IsIdle (pends_for cells.old.items broken.old.items issuer j) }
+    requires settled { settled ≡ true → (j : ℕ) (marks : TheMarks) → marks_in cells.old.items broken.old.items j ≡ Some marks
+        → is_clean n marks ≡ false }
+    ensures linked { Linked cells.new.items broken.new.items }
+    ensures len { vec_len cells.new ≡ vec_len cells.old }
+    ensures room { vec_capacity broken.new ≡ vec_capacity broken.old }
+    ensures values { (i : ℕ) → value_in cells.new.items i ≡ value_in cells.old.items i }
+    ensures each { (j : ℕ) → Completes issuer dsb n (entry_in cells.old.items broken.old.items j)
+        (entry_in cells.new.items broken.new.items j) }
+    ensures known { (j : ℕ) → Holds list.new j ⊎ IsIdle (pends_for cells.new.items broken.new.items issuer j) }
+    ensures lost { result ≡ true → (j : ℕ) × (loses_table (marks_in cells.old.items broken.old.items j)
+        (marks_in cells.new.items broken.new.items j) ≡ true) }
+    ensures kept { result ≡ false → (j : ℕ) → loses_table (marks_in cells.old.items broken.old.items j)
+        (marks_in cells.new.items broken.new.items j) ≡ false }
+    ensures placed { (base : ℕ → Option ℕ) → Placed base broken.old.items → Placed base broken.new.items }
+{
+    if settled && !list.given_up {
+        complete_listed(cells, broken, list, issuer, dsb, n)
+    } else {
+        let lost = complete_all(cells, broken, issuer, dsb, n);
+        relist(broken, list, issuer);
+        lost
+    }
+}
+
+/// A DSB of the issuer answered its TLBIs. An entry whose place is cleansed at every PE leaves. Whether one over a table
+/// left. Where it is settled that no other place waits to leave, and the issuer's list has all cells at which something
+/// waits, only these are visited.
+pub fn complete(
+    cells: &mut Vec<Cell>,
+    broken: &mut Vec<Entry>,
+    lists: &mut Vec<WorkList>,
+    settled: bool,
+    issuer: Pe,
+    dsb: Dsb,
+    n: u8,
+) -> bool
+    requires some { 1 ≤ n }
+    requires most { n ≤ 128 }
+    requires linked { Linked cells.old.items broken.old.items }
+    requires few { vec_len cells.old < 2 ^ 32 }
+    requires known { (j : ℕ) → HoldsFor lists.old.items issuer j ⊎ IsIdle (pends_for cells.old.items broken.old.items issuer j) }
+    requires settled { settled ≡ true → (j : ℕ) (marks : TheMarks) → marks_in cells.old.items broken.old.items j ≡ Some marks
+        → is_clean n marks ≡ false }
+    ensures linked { Linked cells.new.items broken.new.items }
+    ensures len { vec_len cells.new ≡ vec_len cells.old }
+    ensures room { vec_capacity broken.new ≡ vec_capacity broken.old }
+    ensures values { (i : ℕ) → value_in cells.new.items i ≡ value_in cells.old.items i }
+    ensures each { (j : ℕ) → Completes issuer dsb n (entry_in cells.old.items broken.old.items j)
+        (entry_in cells.new.items broken.new.items j) }
+    ensures known { (j : ℕ) → HoldsFor lists.new.items issuer j ⊎ IsIdle (pends_for cells.new.items broken.new.items issuer j) }
+    ensures kept_lists { (q j : ℕ) → q ≢ issuer → HoldsFor lists.old.items q j → HoldsFor lists.new.items q j }
+    ensures lost { result ≡ true → (j : ℕ) × (loses_table (marks_in cells.old.items broken.old.items j)
+        (marks_in cells.new.items broken.new.items j) ≡ true) }
+    ensures kept { result ≡ false → (j : ℕ) → loses_table (marks_in cells.old.items broken.old.items j)
+        (marks_in cells.new.items broken.new.items j) ≡ false }
+    ensures placed { (base : ℕ → Option ℕ) → Placed base broken.old.items → Placed base broken.new.items }
+{
+    let q = issuer.get() as usize;
+    if q < lists.len() {
+        complete_by(cells, broken, &mut lists[q], settled, issuer, dsb, n)
+    } else {
+        complete_all(cells, broken, issuer, dsb, n)
+    }
 }

@@ -3,9 +3,11 @@
 ghost use Rattle.std.specs.Prelude.{◌≡◌, ◌≢◌, ◌<◌, ◌↔◌, ℕ, IsTrue, vec_len, vec_capacity, Bool, true, false};
 ghost use Rattle.bbm_place_map.specs.Entries.{pends_in, WaitsAlike};
 ghost use Rattle.bbm_place_map.specs.Entries.{Lacks};
+ghost use Rattle.bbm_entry_state.specs.Points.{waits_in};
 ghost use Rattle.bbm_entry_state.specs.Standing.{IsIdle};
+ghost use Rattle.bbm_tlbi_scope.specs.declared.entry.Cover.{Cover as TheCover};
 
-use bbm_entry_state::{Marks, Pends};
+use bbm_entry_state::{Marks, Pend, Pends};
 use bbm_regimes::{Pe, Place};
 
 /// What waits at a place for the answers of one issuer's TLBIs. Source: project's own choice.
@@ -28,6 +30,20 @@ pub struct Entry {
     pub marks: Marks,
     /// What waits there, for each issuer of TLBIs that cover the place.
     pub pends: Vec<Pending>,
+}
+
+// Whether no PE waits in these masks.
+fn is_none(pend: &Pend) -> bool
+    ensures { IsTrue result ↔ ((c : TheCover) (p : ℕ) → waits_in pend.now c p ≡ false) }
+{
+    pend.half.or(pend.second).or(pend.full).is_empty()
+}
+
+/// Whether nothing waits.
+pub fn is_idle(pends: &Pends) -> bool
+    ensures { IsTrue result ↔ IsIdle pends.now }
+{
+    is_none(&pends.broadcast.or(pends.local))
 }
 
 /// What waits for the answers of the issuer's TLBIs.

@@ -1,18 +1,21 @@
 //! What the issue of a TLBI leaves to its answer.
 
-ghost use Rattle.std.specs.Prelude.{◌≡◌, ◌≢◌, ◌≤◌, ◌<◌, ℕ, IfOk, vec_len, vec_capacity, length, slice_get, Some, OnOk, List, nat_eq, true, if◌then◌else◌};
+ghost use Rattle.std.specs.Prelude.{◌≡◌, ◌≢◌, ◌≤◌, ◌<◌, ℕ, IfOk, vec_len, vec_capacity, length, slice_get, Some, OnOk, List, nat_eq, true, false, if◌then◌else◌};
 ghost use Rattle.bbm_entry_state.specs.Calls.{Noted};
+ghost use Rattle.bbm_entry_state.specs.Standing.{IsIdle};
 ghost use Rattle.bbm_entry_state.specs.declared.state.EntryState.TheVariants as state;
 ghost use Rattle.bbm_tlbi_scope.specs.declared.entry.Cover.{Cover as TheCover};
 ghost use Rattle.bbm_place_map.specs.Each.{Advances};
 ghost use Rattle.bbm_place_map.specs.Entries.{seat, pends_in};
 ghost use Rattle.bbm_place_map.specs.Finds.{cover_in};
-ghost use Rattle.bbm_place_map.specs.Notes.{Keeps, Readies, NotesAt, is_cover as spec_is_cover};
+ghost use Rattle.bbm_place_map.specs.Notes.{Keeps, Readies, NotesAs, NotesAt, is_cover as spec_is_cover};
+ghost use Rattle.bbm_place_map.specs.Works.{HoldsFor, Waits};
 ghost use Rattle.bbm_place_map.specs.declared.entry.Entry.{Entry as TheEntry};
 
-use crate::entry::{Entry, pends_of, put_pends};
+use crate::entry::{Entry, is_idle, pends_of, put_pends};
 use crate::found::Found;
-use bbm_entry_state::EntryState;
+use crate::work::{WorkList, add_for};
+use bbm_entry_state::{EntryState, Pends};
 use bbm_regimes::{NoMemory, Pe, PeMask, Place};
 use bbm_tlbi_scope::Cover;
 use std::alloc::Global;
@@ -45,7 +48,14 @@ fn make_room_at(broken: &mut Vec<Entry>, k: usize) -> Result<(), NoMemory>
     }
 }
 
-// Notes the TLBI at an entry with room for one more issuer.
+// Whether something waits after, and nothing did before.
+fn starts_waiting(before: &Pends, after: &Pends) -> bool
+    ensures { result ≡ false → IsIdle before.now → IsIdle after.now }
+{
+    is_idle(before) && !is_idle(after)
+}
+
+// Notes the TLBI at an entry with room for one more issuer. Whether something waits there now, and nothing did.
 fn note_at(
     broken: &mut Vec<Entry>,
     k: usize,
@@ -53,12 +63,13 @@ fn note_at(
     reach: PeMask,
     broadcast: bool,
     cover: Cover,
-)
+) -> bool
     requires within { k < vec_len broken.old }
     requires ready { (e : TheEntry) → slice_get broken.old.items k ≡ Some e → vec_len e.pends < vec_capacity e.pends }
     ensures entry { (e : TheEntry) → slice_get broken.old.items k ≡ Some e → (f : TheEntry) × (seat f ≡ seat e)
         × (f.marks ≡ e.marks) × ((q : ℕ) → q ≢ issuer → pends_in f.pends.items q ≡ pends_in e.pends.items q)
         × Noted (state.Broken e.marks) (pends_in e.pends.items issuer) reach broadcast cover (pends_in f.pends.items issuer)
+        × (result ≡ false → IsIdle (pends_in e.pends.items issuer) → IsIdle (pends_in f.pends.items issuer))
         × ((i : ℕ) → slice_get broken.new.items i ≡ (if nat_eq i k then Some f else slice_get broken.old.items i)) }
     ensures len { length broken.new.items ≡ length broken.old.items }
     ensures room { vec_capacity broken.new ≡ vec_capacity broken.old }
@@ -68,6 +79,34 @@ fn note_at(
     let after = (EntryState::Broken { marks }).tlbi(before, reach, broadcast, cover);
     let entry = &mut broken[k];
     put_pends(&mut entry.pends, issuer, after);
+    starts_waiting(&before, &after)
+}
+
+// The same at an entry that is covered so far. The cell of one at which something waits now is listed for the issuer.
+fn note_entry(
+    broken: &mut Vec<Entry>,
+    k: usize,
+    issuer: Pe,
+    reach: PeMask,
+    broadcast: bool,
+    cover: Cover,
+    lists: &mut Vec<WorkList>,
+)
+    requires within { k < vec_len broken.old }
+    requires ready { (e : TheEntry) → slice_get broken.old.items k ≡ Some e → spec_is_cover cover ≡ true
+        → vec_len e.pends < vec_capacity e.pends }
+    ensures entry { (e : TheEntry) → slice_get broken.old.items k ≡ Some e → (f : TheEntry) × (seat f ≡ seat e)
+        × NotesAs cover issuer reach broadcast e f × Waits lists.new.items issuer e f
+        × ((i : ℕ) → slice_get broken.new.items i ≡ (if nat_eq i k then Some f else slice_get broken.old.items i)) }
+    ensures kept { (q j : ℕ) → HoldsFor lists.old.items q j → HoldsFor lists.new.items q j }
+    ensures len { length broken.new.items ≡ length broken.old.items }
+    ensures room { vec_capacity broken.new ≡ vec_capacity broken.old }
+{
+    if is_cover(cover) {
+        if note_at(broken, k, issuer, reach, broadcast, cover) {
+            add_for(lists, issuer, broken[k].cell, broken.len());
+        }
+    }
 }
 
 /// Makes room for one more issuer at each place that is covered. `NoMemory` where there is none.
@@ -86,20 +125,27 @@ pub fn make_room(broken: &mut Vec<Entry>, covers: &[Cover]) -> Result<(), NoMemo
     Ok(())
 }
 
-/// Notes the TLBI at each place that is covered, where there is room for one more issuer.
-pub fn note(broken: &mut Vec<Entry>, covers: &[Cover], issuer: Pe, reach: PeMask, broadcast: bool)
+/// Notes the TLBI at each place that is covered, where there is room for one more issuer. The cells of those at which
+/// something waits now are listed for the issuer.
+pub fn note(
+    broken: &mut Vec<Entry>,
+    covers: &[Cover],
+    issuer: Pe,
+    reach: PeMask,
+    broadcast: bool,
+    lists: &mut Vec<WorkList>,
+)
     requires len { length covers.now ≡ length broken.old.items }
     requires ready { (m : ℕ) (e : TheEntry) → slice_get broken.old.items m ≡ Some e → (c : TheCover)
         → slice_get covers.now m ≡ Some c → spec_is_cover c ≡ true → vec_len e.pends < vec_capacity e.pends }
     ensures each { (m : ℕ) → Advances (NotesAt covers.now issuer reach broadcast m) (slice_get broken.old.items m) (slice_get broken.new.items m) }
+    ensures waits { (m : ℕ) → Advances (Waits lists.new.items issuer) (slice_get broken.old.items m) (slice_get broken.new.items m) }
+    ensures kept { (q j : ℕ) → HoldsFor lists.old.items q j → HoldsFor lists.new.items q j }
     ensures len { length broken.new.items ≡ length broken.old.items }
     ensures room { vec_capacity broken.new ≡ vec_capacity broken.old }
 {
     for k in 0..broken.len() {
-        let cover = covers[k];
-        if is_cover(cover) {
-            note_at(broken, k, issuer, reach, broadcast, cover);
-        }
+        note_entry(broken, k, issuer, reach, broadcast, covers[k], lists);
     }
 }
 

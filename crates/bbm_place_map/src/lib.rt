@@ -26,6 +26,7 @@ mod links;
 mod map;
 mod publish;
 mod read;
+mod work;
 mod write;
 
 pub use example::break_before_make;

@@ -4,10 +4,12 @@ ghost use Rattle.std.specs.Prelude.{◌≡◌, ◌≤◌, ◌<◌, ◌^◌, vec_
 ghost use Rattle.std.proofs.Props.{props};
 ghost use Rattle.indexmap.specs.IndexMap.{get};
 ghost use Rattle.bbm_place_map.specs.Sound.{Linked, Numbered, Placed};
+ghost use Rattle.bbm_place_map.specs.Works.{Listed};
 
 use crate::cell::Cell;
 use crate::entry::Entry;
 use crate::found::Found;
+use crate::work::{self, Work};
 use crate::{complete, issue, publish, read, write};
 use bbm_barriers::Dsb;
 use bbm_descriptor::{Core, Memory, core};
@@ -28,11 +30,13 @@ pub struct PlaceMap {
     pages: IndexMap<u64, usize>,
     cells: Vec<Cell>,
     broken: Vec<Entry>,
+    work: Work,
     ghost numbered: { Numbered (get nat_eq pages) (vec_len cells) },
     ghost linked: { Linked cells.items broken.items },
     ghost placed: { Placed (get nat_eq pages) broken.items },
     ghost room: { vec_len cells ≤ vec_capacity broken },
     ghost few: { vec_len cells < 2 ^ 32 },
+    ghost listed: { Listed work cells.items broken.items },
 }
 
 #[tactic(auto, unfolding(crate::specs::Map::value_at, crate::specs::Map::marks_at, crate::specs::Map::pends_at, crate::specs::Map::is_tracked, crate::specs::Map::restless_in, crate::specs::Map::restless_place))]
@@ -65,6 +69,7 @@ impl PlaceMap {
             pages: IndexMap::new(alloc),
             cells: Vec::new(alloc),
             broken: Vec::new(alloc),
+            work: work::no_work(alloc),
         }
     }
 
@@ -157,6 +162,8 @@ impl PlaceMap {
         ensures pages { (page : ℕ) → is_tracked self.new page ≡ is_tracked self.old page }
     {
         let j = self.index(place).unwrap();
+        let before = read::marks(&self.cells, &self.broken, j);
+        work::note_state(&mut self.work, j as u32, &before, &state, self.broken.len());
         write::put(
             &mut self.cells,
             &mut self.broken,
@@ -196,7 +203,15 @@ impl PlaceMap {
         ensures restless { restless_in self.new ≡ restless_in self.old }
         ensures places { (i : ℕ) → restless_place self.new i ≡ restless_place self.old i }
     {
-        publish::publish(&mut self.broken, issuer, dsb, n);
+        work::begin(&mut self.work, n, self.broken.len());
+        publish::publish(
+            &self.cells,
+            &mut self.broken,
+            &mut self.work.unpublished,
+            issuer,
+            dsb,
+            n,
+        );
     }
 
     /// A DSB of the issuer, in a log with `n` PEs, 1 to 128, answered its TLBIs. A place that is cleansed at every PE
@@ -214,7 +229,18 @@ impl PlaceMap {
         ensures values { (a : ℕ) → value_at self.new a ≡ value_at self.old a }
         ensures pages { (page : ℕ) → is_tracked self.new page ≡ is_tracked self.old page }
     {
-        complete::complete(&mut self.cells, &mut self.broken, issuer, dsb, n)
+        work::begin(&mut self.work, n, self.broken.len());
+        let lost = complete::complete(
+            &mut self.cells,
+            &mut self.broken,
+            &mut self.work.waiting,
+            self.work.settled,
+            issuer,
+            dsb,
+            n,
+        );
+        self.work.settled = true;
+        lost
     }
 
     /// Tracks the page: its values are 0, none of its places is broken, and nothing waits there. `NoMemory` where there
@@ -255,6 +281,8 @@ impl PlaceMap {
         match self.pages.insert(page.get(), base) {
             Ok(_) => {
                 write::add_cells(&mut self.cells);
+                work::make_lists(&mut self.work.unpublished, self.alloc);
+                work::make_lists(&mut self.work.waiting, self.alloc);
                 Ok(())
             }
             Err(_) => Err(NoMemory),
@@ -321,7 +349,14 @@ impl PlaceMap {
     {
         let covers = self.covers(alloc, &cover)?;
         issue::make_room(&mut self.broken, &covers)?;
-        issue::note(&mut self.broken, &covers, issuer, reach, broadcast);
+        issue::note(
+            &mut self.broken,
+            &covers,
+            issuer,
+            reach,
+            broadcast,
+            &mut self.work.waiting,
+        );
         Ok(())
     }
 
@@ -350,7 +385,14 @@ impl PlaceMap {
     {
         let covers = issue::covers_of(alloc, &self.broken, found)?;
         issue::make_room(&mut self.broken, &covers)?;
-        issue::note(&mut self.broken, &covers, issuer, reach, broadcast);
+        issue::note(
+            &mut self.broken,
+            &covers,
+            issuer,
+            reach,
+            broadcast,
+            &mut self.work.waiting,
+        );
         Ok(())
     }
 

@@ -2,6 +2,7 @@
 
 ghost use Rattle.std.specs.Prelude.{◌≡◌, ◌<◌, length, None, true};
 ghost use Rattle.bbm_entry_state.specs.Points.{is_broken};
+ghost use Rattle.bbm_place_map.specs.Cells.{slot_in};
 ghost use Rattle.bbm_place_map.specs.Entries.{WaitsAlike};
 ghost use Rattle.bbm_place_map.specs.Parts.{marks_in, pends_for};
 ghost use Rattle.bbm_place_map.specs.Sound.{Linked};
@@ -35,6 +36,16 @@ pub fn broken_marks(state: EntryState) -> Marks
     }
 }
 
+/// The number of a cell's entry; None where it has none, or there is no such cell.
+pub fn slot_of(cells: &[Cell], j: u32) -> Option<u32>
+    ensures { result ≡ slot_in cells.now j }
+{
+    match cells.get(j as usize) {
+        Some(cell) => cell.slot,
+        None => None,
+    }
+}
+
 /// The state of a cell's place.
 pub fn state(cells: &[Cell], broken: &[Entry], j: usize, live: Option<Core>) -> EntryState
     requires linked { Linked cells.now broken.now }
@@ -46,6 +57,18 @@ pub fn state(cells: &[Cell], broken: &[Entry], j: usize, live: Option<Core>) -> 
             marks: broken[k as usize].marks,
         },
         None => whole(live),
+    }
+}
+
+/// The marks of a cell's place; None where it isn't broken.
+pub fn marks(cells: &[Cell], broken: &[Entry], j: usize) -> Option<Marks>
+    requires linked { Linked cells.now broken.now }
+    requires within { j < length cells.now }
+    ensures { result ≡ marks_in cells.now broken.now j }
+{
+    match cells[j].slot {
+        Some(k) => Some(broken[k as usize].marks),
+        None => None,
     }
 }
 

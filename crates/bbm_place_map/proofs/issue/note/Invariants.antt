@@ -1,12 +1,15 @@
 use Rattle.std.proofs.Common.{◌≡◌, ℕ, ◌<◌, ◌≤◌, length, slice_get, vec_capacity}
 use Rattle.bbm_place_map.specs.Each.{Advances}
 use Rattle.bbm_place_map.specs.Notes.{NotesAt}
+use Rattle.bbm_place_map.specs.Works.{HoldsFor, Waits}
 use Rattle.bbm_place_map.proofs.issue.note.Given as goal
 
 abbrev pub invariant-loop-k : goal.invariant-loop-k
 invariant-loop-k l = record {
   done : (m : ℕ) → m < l.k
       → Advances (NotesAt l.covers l.issuer l.reach l.broadcast m) (slice_get l.initial.broken.items m) (slice_get l.broken.items m);
+  waits : (m : ℕ) → m < l.k → Advances (Waits l.lists.items l.issuer) (slice_get l.initial.broken.items m) (slice_get l.broken.items m);
+  kept : (q j : ℕ) → HoldsFor l.initial.lists.items q j → HoldsFor l.lists.items q j;
   rest : (m : ℕ) → l.k ≤ m → slice_get l.broken.items m ≡ slice_get l.initial.broken.items m;
   len : length l.broken.items ≡ length l.initial.broken.items;
   room : vec_capacity l.broken ≡ vec_capacity l.initial.broken;

@@ -1,4 +1,6 @@
-use Rattle.std.proofs.Common.{ap, ◌∙◌, arith, List, subst}
+use Rattle.std.proofs.Common.{ap, sym, ◌∙◌, arith, List, subst}
+use Rattle.bbm_entry_state.specs.Standing.{IsIdle}
+use Rattle.bbm_entry_state.specs.declared.pending.Pends.{Pends}
 use Rattle.bbm_place_map.specs.Entries.{seat, pends_in, WaitsAlike}
 use Rattle.bbm_place_map.specs.declared.entry.Entry.{Entry}
 use Rattle.bbm_place_map.specs.declared.entry.Pending.{Pending}
@@ -23,5 +25,10 @@ returns-clause-entry c = λ e is.
           (pends_in c.put_pends.new.pendings.items c.args.issuer) c.args.reach c.args.broadcast c.args.cover (ap (λ (x : Entry). x.marks) second)
           (subst P (c.deref.ensures.value ∙ ap (λ (x : Entry). x.pends.items) first) c.pends_of-before.ensures)
           c.put_pends.ensures.there c.tlbi-after.ensures,
+      λ same' idle.
+          let Q : Pends → Type 0 = λ x. IsIdle x in
+          subst Q (sym c.put_pends.ensures.there)
+          (c.starts_waiting.ensures same' (λ b x p.
+          subst P (c.deref.ensures.value ∙ ap (λ (x : Entry). x.pends.items) first) c.pends_of-before.ensures b x p ∙ idle b x p)),
       λ i. set_get entries c.args.k f i (omega arith),
     )

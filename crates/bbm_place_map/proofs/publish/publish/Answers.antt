@@ -1,29 +1,25 @@
-use Rattle.std.proofs.Common.{ℕ, arith, refl, ◌∙◌}
-use Rattle.bbm_place_map.specs.Each.{Publishes}
-use Rattle.bbm_place_map.specs.declared.entry.Entry.{Entry}
-use Rattle.bbm_place_map.proofs.Advancing.{done_more, rest_more, all_done}
-use Rattle.bbm_place_map.proofs.Leaving.{entry_read}
+use Rattle.std.proofs.Common.{ℕ, arith, inl, inr, subst, ◌∙◌, set}
+use Rattle.bbm_place_map.specs.Works.{HoldsFor}
+use Rattle.bbm_place_map.proofs.Holding.{set_there, set_others, read_for}
 use Rattle.bbm_place_map.proofs.publish.publish.Goals as goal
 
-abbrev R : goal.After-remark → ℕ → Entry → Entry → Type 0
-R c m = Publishes c.args.issuer c.args.dsb c.args.n
+pub publish_by-requires-clause-known : goal.publish_by-requires-clause-known
+publish_by-requires-clause-known c = λ k e is.
+    elim (c.requires.known k e is) [
+      | inl holds ↦ inl (read_for c.args.lists.now.items c.get-q.result c.args.issuer c.index_mut.result.now (omega arith) c.get-q.ensures.value c.index_mut.ensures.value e.cell holds)
+      | inr told ↦ inr told
+    ]
 
-abbrev after : goal.After-remark → Entry
-after c = record c.index.result.now { marks = c.published-marks.result }
+pub returns-then-q-len-clause-known : goal.returns-then-q-len-clause-known
+returns-then-q-len-clause-known c = λ k e is.
+    elim (c.publish_by.ensures.known k e is) [
+      | inl holds ↦
+          let P : ℕ → Type 0 = λ x. HoldsFor (set c.args.lists.now.items c.get-q.result c.publish_by.new.list) x e.cell in
+          inl (subst P c.get-q.ensures.value
+          (set_there c.args.lists.now.items c.get-q.result c.index_mut.result.now c.publish_by.new.list (omega arith) c.index_mut.ensures.value e.cell holds))
+      | inr told ↦ inr told
+    ]
 
-pub loop-k-preserved : goal.loop-k-preserved
-loop-k-preserved c =
-    let was = entry_read c.loop-k.broken.items c.loop-k.k c.index.result.now (omega arith) c.index.ensures in
-    record {
-      done = done_more (R c) c.args.broken.now.items c.loop-k.broken.items c.remark.new.broken.items c.loop-k.k c.index.result.now (after c)
-          c.loop-k.invariant.done c.loop-k.invariant.rest was refl (refl, c.published-marks.ensures) (c.remark.ensures.entry c.index.result.now was);
-      rest = rest_more (R c) c.args.broken.now.items c.loop-k.broken.items c.remark.new.broken.items c.loop-k.k c.index.result.now (after c)
-          c.loop-k.invariant.done c.loop-k.invariant.rest was refl (refl, c.published-marks.ensures) (c.remark.ensures.entry c.index.result.now was);
-      len = c.remark.ensures.len ∙ c.loop-k.invariant.len;
-      room = c.remark.ensures.room ∙ c.loop-k.invariant.room;
-    }
-
-pub returns-clause-each : goal.returns-clause-each
-returns-clause-each c =
-    all_done (λ m. Publishes c.args.issuer c.args.dsb c.args.n) c.args.broken.now.items c.loop-k.broken.items c.loop-k.k (omega arith)
-    c.loop-k.invariant.done c.loop-k.invariant.rest
+pub returns-then-q-len-clause-others : goal.returns-then-q-len-clause-others
+returns-then-q-len-clause-others c = λ q j other.
+    set_others c.args.lists.now.items c.get-q.result c.publish_by.new.list (omega arith) q (λ same. other (same ∙ c.get-q.ensures.value)) j

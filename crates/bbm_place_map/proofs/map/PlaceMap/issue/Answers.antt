@@ -1,4 +1,4 @@
-use Rattle.std.proofs.Common.{ℕ, nat_eq, ap, sym, arith, ◌∙◌, vec_len, slice_get, List, length}
+use Rattle.std.proofs.Common.{ℕ, refl, nat_eq, ap, sym, arith, ◌∙◌, vec_len, slice_get, List, length}
 use Rattle.indexmap.specs.IndexMap.{get}
 use Rattle.bbm_tlbi_scope.specs.declared.entry.Cover.{Cover}
 use Rattle.bbm_place_map.specs.Calls.{MayCover}
@@ -7,6 +7,7 @@ use Rattle.bbm_place_map.specs.Notes.{Keeps, NotesAt}
 use Rattle.bbm_place_map.proofs.Advancing.{seat_kept}
 use Rattle.bbm_place_map.proofs.Issued.{noted_at}
 use Rattle.bbm_place_map.proofs.Seats.{linked_seated, placed_seated}
+use Rattle.bbm_place_map.proofs.Listing.{listed_roomed, listed_noted}
 use Rattle.bbm_place_map.proofs.map.PlaceMap.issue.Goals as goal
 
 pub invariant_of-self : goal.invariant_of-self
@@ -20,6 +21,7 @@ invariant_of-self g c =
       placed = placed_seated old mid seats (get nat_eq c.args.self.now.pages) c.args.self.now.placed;
       room = omega arith;
       few = c.args.self.now.few;
+      listed = listed_roomed c.args.self.now.cells.items old mid c.make_room.ensures.each c.args.self.now.work c.args.self.now.listed;
     }
 
 pub invariant_of-self-2 : goal.invariant_of-self-2
@@ -36,6 +38,11 @@ invariant_of-self-2 g c =
       placed = placed_seated old new seats (get nat_eq c.args.self.now.pages) c.args.self.now.placed;
       room = omega arith;
       few = c.args.self.now.few;
+      listed =
+          listed_noted c.args.self.now.cells.items old mid c.make_room.ensures.each new c.deref-2.result.now c.args.issuer c.args.reach c.args.broadcast
+          c.args.self.now.work (record c.args.self.now.work { waiting = c.note.new.lists })
+          (linked_seated old mid (λ (m : ℕ). seat_kept Keeps (slice_get old m) (slice_get mid m) (c.make_room.ensures.each m)) c.args.self.now.cells.items c.make_room.ensures.len c.args.self.now.linked)
+          refl refl refl c.note.ensures.each c.note.ensures.waits c.note.ensures.kept c.args.self.now.listed;
     }
 
 pub returns-clause-noted : goal.returns-clause-noted

@@ -1,13 +1,27 @@
-use Rattle.std.proofs.Common.{ℕ, nat_eq, arith, slice_get, ◌≡◌}
+use Rattle.std.proofs.Common.{ℕ, nat_eq, arith, slice_get, ◌≡◌, ◌⊎◌, ◌<◌, Some, refl, subst}
 use Rattle.indexmap.specs.IndexMap.{get}
 use Rattle.bbm_place_map.specs.Each.{Publishes}
 use Rattle.bbm_place_map.specs.Map.{marks_at, pends_at, restless_in, restless_place}
+use Rattle.bbm_entry_state.specs.declared.marks.Marks.{Marks}
+use Rattle.bbm_place_map.specs.Parts.{marks_in}
 use Rattle.bbm_place_map.specs.Sound.{index_of}
+use Rattle.bbm_place_map.specs.Works.{HoldsFor, IsTold}
+use Rattle.bbm_place_map.proofs.Knowing.{told_entry}
 use Rattle.bbm_place_map.proofs.Advancing.{seat_kept, place_kept}
 use Rattle.bbm_place_map.proofs.Published.{published_at, pends_at_same}
 use Rattle.bbm_place_map.proofs.Seats.{linked_seated, placed_seated}
 use Rattle.bbm_place_map.specs.Entries.{seat_at}
+use Rattle.bbm_place_map.proofs.Listing.{listed_begun, listed_published, told_of}
 use Rattle.bbm_place_map.proofs.map.PlaceMap.publish.Goals as goal
+
+pub publish-requires-clause-known : goal.publish-requires-clause-known
+publish-requires-clause-known c =
+    told_entry c.args.self.now.cells.items c.args.self.now.broken.items c.args.self.now.linked (HoldsFor c.begin.new.work.unpublished.items c.args.issuer) c.args.n c.args.issuer
+    (let P : ℕ → Type 0 = λ x. (j : ℕ) (marks : Marks) → c.args.issuer < x → marks_in c.args.self.now.cells.items c.args.self.now.broken.items j ≡ Some marks
+    → HoldsFor c.begin.new.work.unpublished.items c.args.issuer j ⊎ IsTold x c.args.issuer marks in
+    λ j marks is. subst P c.begin.ensures.pes (told_of c.begin.new.work c.args.self.now.cells.items c.args.self.now.broken.items (listed_begun c.args.self.now.work c.begin.new.work c.args.n c.len.result c.args.self.now.cells.items c.args.self.now.broken.items c.requires.some c.requires.within
+    c.begin.ensures.pes (omega (arith, c.len.ensures)) c.begin.ensures.kept c.args.self.now.listed) c.args.issuer)
+    j marks c.requires.issuer_below is)
 
 seats : (c : goal.After-publish) (m : ℕ) → seat_at c.publish.new.broken.items m ≡ seat_at c.args.self.now.broken.items m
 seats c m =
@@ -20,6 +34,13 @@ invariant_of-self c = record {
   placed = placed_seated c.args.self.now.broken.items c.publish.new.broken.items (seats c) (get nat_eq c.args.self.now.pages) c.args.self.now.placed;
   room = omega arith;
   few = c.args.self.now.few;
+  listed =
+      listed_published c.begin.new.work (record c.begin.new.work { unpublished = c.publish.new.lists }) c.args.issuer c.args.dsb c.args.n
+      c.args.self.now.cells.items c.args.self.now.broken.items c.publish.new.broken.items c.begin.ensures.pes refl refl refl
+      c.publish.ensures.each c.publish.ensures.known c.publish.ensures.others c.args.self.now.linked
+      (linked_seated c.args.self.now.broken.items c.publish.new.broken.items (seats c) c.args.self.now.cells.items c.publish.ensures.len c.args.self.now.linked)
+      (listed_begun c.args.self.now.work c.begin.new.work c.args.n c.len.result c.args.self.now.cells.items c.args.self.now.broken.items c.requires.some c.requires.within
+      c.begin.ensures.pes (omega (arith, c.len.ensures)) c.begin.ensures.kept c.args.self.now.listed);
 }
 
 pub returns-clause-published : goal.returns-clause-published

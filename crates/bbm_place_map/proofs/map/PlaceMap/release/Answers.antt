@@ -1,6 +1,7 @@
-use Rattle.std.proofs.Common.{ℕ, nat_eq, ap, sym, arith, subst, ◌∙◌, vec_len}
+use Rattle.std.proofs.Common.{ℕ, refl, nat_eq, ap, sym, arith, subst, ◌∙◌, vec_len}
 use Rattle.std.proofs.lemmas.Bool.{cond-true, eqb-true}
 use Rattle.indexmap.specs.IndexMap.{get}
+use Rattle.bbm_place_map.specs.Cells.{in_page}
 use Rattle.bbm_place_map.specs.Entries.{no_pends, entry_in}
 use Rattle.bbm_place_map.specs.Map.{pends_at, page_of}
 use Rattle.bbm_place_map.specs.Parts.{pends_for}
@@ -8,6 +9,7 @@ use Rattle.bbm_place_map.specs.Sound.{Numbered, at_index}
 use Rattle.bbm_place_map.proofs.Idle.{idle_from}
 use Rattle.bbm_place_map.proofs.Places.{at_page, index_none}
 use Rattle.bbm_place_map.proofs.Pages.{drop_pends}
+use Rattle.bbm_place_map.proofs.Listing.{listed_fewer, gone_or_same}
 use Rattle.bbm_place_map.proofs.map.PlaceMap.release.Goals as goal
 
 pub invariant_of-self : goal.invariant_of-self
@@ -17,6 +19,11 @@ invariant_of-self c = record {
   placed = c.clear_page.ensures.placed (get nat_eq c.args.self.now.pages) c.args.self.now.placed;
   room = omega arith;
   few = omega arith;
+  listed =
+      listed_fewer c.args.self.now.work c.args.self.now.work c.args.self.now.cells.items c.clear_page.new.cells.items
+      c.args.self.now.broken.items c.clear_page.new.broken.items refl refl (λ q j holds. holds) (λ q j holds. holds)
+      (λ j. gone_or_same (in_page c.in-Some.base 512 j) (entry_in c.args.self.now.cells.items c.args.self.now.broken.items j)
+      (entry_in c.clear_page.new.cells.items c.clear_page.new.broken.items j) (c.clear_page.ensures.entries j)) c.args.self.now.listed;
 }
 
 pub returns-in-Some-clause-dropped : goal.returns-in-Some-clause-dropped

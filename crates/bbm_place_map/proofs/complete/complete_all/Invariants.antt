@@ -2,7 +2,7 @@ use Rattle.std.proofs.Common.{◌≡◌, ◌≤◌, ℕ, Option, vec_len, vec_ca
 use Rattle.bbm_place_map.specs.Cells.{value_in}
 use Rattle.bbm_place_map.specs.Sound.{Linked, Placed}
 use Rattle.bbm_place_map.proofs.Looking.{Looked}
-use Rattle.bbm_place_map.proofs.complete.complete.Given as goal
+use Rattle.bbm_place_map.proofs.complete.complete_all.Given as goal
 
 abbrev pub invariant-loop-k : goal.invariant-loop-k
 invariant-loop-k l = record {

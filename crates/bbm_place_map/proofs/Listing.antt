@@ -1,0 +1,416 @@
+-- The lists of work after each call.
+use Rattle.std.proofs.Common.{◌≡◌, ◌≢◌, ℕ, ◌≤◌, ◌<◌, ◌⊎◌, Bool, true, false, not, ◌&&◌, nat_eq, List, [], ◌∷◌, length, Option, Some, None, refl, ap, sym, subst, ◌∙◌, arith, inl, inr, slice_get, if◌then◌else◌, Vec, Global}
+use Rattle.std.specs.Option.{option_map}
+use Rattle.std.proofs.lemmas.Bool.{cases_Bool, cases_eq, cond-true, cond-false, eq-eqb, ne_eqb, false≢true}
+use Rattle.std.proofs.lemmas.Option.{same_Some, none-some}
+use mathlib.Core.Path.{fun_ext}
+use Rattle.bbm_barriers.specs.declared.Dsb.{Dsb}
+use Rattle.bbm_regimes.specs.EveryPe.{every_pe}
+use Rattle.bbm_regimes.specs.PeMask.{pe_in}
+use Rattle.bbm_regimes.specs.declared.pe.PeMask.{PeMask}
+use Rattle.bbm_tlbi_scope.specs.declared.entry.Cover.{Cover}
+use Rattle.bbm_entry_state.specs.Points.{is_broken}
+use Rattle.bbm_entry_state.specs.Standing.{IsIdle}
+use Rattle.bbm_entry_state.specs.declared.marks.Marks.{Marks}
+use Rattle.bbm_entry_state.specs.declared.pending.Pends.{Pends}
+use Rattle.bbm_entry_state.specs.declared.state.EntryState.{EntryState}
+use Rattle.bbm_place_map.specs.Cells.{slot_in}
+use Rattle.bbm_place_map.specs.Each.{Advances, Publishes, Completes}
+use Rattle.bbm_place_map.specs.Entries.{entry_of, entry_in, marks_of, pends_of, pends_in, no_pends}
+use Rattle.bbm_place_map.specs.Notes.{Keeps, NotesAt}
+use Rattle.bbm_place_map.specs.Parts.{marks_in, pends_for}
+use Rattle.bbm_place_map.specs.Sound.{Linked}
+use Rattle.bbm_place_map.specs.States.{marks_of_state}
+use Rattle.bbm_place_map.specs.Works.{HoldsFor, IsTold, IsToldAsBefore, GivesUp, Listed, Waits, is_clean}
+use Rattle.bbm_place_map.specs.declared.cell.Cell.{Cell}
+use Rattle.bbm_place_map.specs.declared.entry.Entry.{Entry}
+use Rattle.bbm_place_map.specs.declared.entry.Pending.{Pending}
+use Rattle.bbm_place_map.specs.declared.work.Work.{Work}
+use Rattle.bbm_place_map.specs.declared.work.WorkList.{WorkList}
+use Rattle.bbm_place_map.proofs.Advancing.{of_cell, advance_by}
+use Rattle.bbm_place_map.proofs.Idle.{idle_from, none_kept}
+use Rattle.bbm_place_map.proofs.Knowing.{known_or, or_known, told_by_cell, told_entry}
+use Rattle.bbm_place_map.proofs.Publishing.{known_kept}
+use Rattle.bbm_place_map.proofs.Resting.{completes_unclean, idle_others, told_completed}
+use Rattle.bbm_place_map.proofs.Telling.{told_no_writer, told_after_write}
+
+pub told_of : (w : Work) (cells : List Cell) (entries : List Entry) → Listed w cells entries → (q j : ℕ) (marks : Marks) → q < w.pes
+    → marks_in cells entries j ≡ Some marks → HoldsFor w.unpublished.items q j ⊎ IsTold w.pes q marks
+told_of w cells entries listed q j marks below is = known_or w.unpublished.items q j (IsTold w.pes q marks) (listed.told q j marks below is)
+
+pub idle_of : (w : Work) (cells : List Cell) (entries : List Entry) → Listed w cells entries → (q j : ℕ)
+    → HoldsFor w.waiting.items q j ⊎ IsIdle (pends_for cells entries q j)
+idle_of w cells entries listed q j = known_or w.waiting.items q j (IsIdle (pends_for cells entries q j)) (listed.idle q j)
+
+pub listed_by : (w : Work) (cells : List Cell) (entries : List Entry) → 1 ≤ w.pes → w.pes ≤ 128
+    → ((q j : ℕ) (marks : Marks) → q < w.pes → marks_in cells entries j ≡ Some marks → HoldsFor w.unpublished.items q j ⊎ IsTold w.pes q marks)
+    → ((q j : ℕ) → HoldsFor w.waiting.items q j ⊎ IsIdle (pends_for cells entries q j))
+    → (w.settled ≡ true → (j : ℕ) (marks : Marks) → marks_in cells entries j ≡ Some marks → is_clean w.pes marks ≡ false)
+    → Listed w cells entries
+listed_by w cells entries some most told idle settled = record {
+  some = some;
+  most = most;
+  told = λ q j marks below is. or_known w.unpublished.items q j (IsTold w.pes q marks) (told q j marks below is);
+  idle = λ q j. or_known w.waiting.items q j (IsIdle (pends_for cells entries q j)) (idle q j);
+  settled = settled;
+}
+
+no_marks : (entries : List Entry) → entries ≡ [] → (s : Option ℕ) (marks : Marks) → marks_of (entry_of entries s) ≡ Some marks → ⊥
+no_marks entries none None marks is = none-some marks is
+no_marks entries none (Some k) marks is = none-some marks (sym (ap (λ (es : List Entry). marks_of (slice_get es k)) none) ∙ is)
+
+-- where nothing is broken there is nothing to do
+pub listed_none : (w : Work) (cells : List Cell) (entries : List Entry) → 1 ≤ w.pes → w.pes ≤ 128 → entries ≡ [] → Listed w cells entries
+listed_none w cells entries some most none =
+    listed_by w cells entries some most
+    (λ q j marks below is. absurd (no_marks entries none (slot_in cells j) marks is))
+    (λ q j. inr (none_kept q cells entries none (Some j)))
+    (λ settled j marks is. absurd (no_marks entries none (slot_in cells j) marks is))
+
+-- where the lists have given up
+pub listed_all : (w : Work) (cells : List Cell) (entries : List Entry) → 1 ≤ w.pes → w.pes ≤ 128
+    → ((q j : ℕ) → HoldsFor w.unpublished.items q j) → ((q j : ℕ) → HoldsFor w.waiting.items q j) → (w.settled ≡ true → ⊥) → Listed w cells entries
+listed_all w cells entries some most unpublished waiting unsettled =
+    listed_by w cells entries some most (λ q j marks below is. inl (unpublished q j)) (λ q j. inl (waiting q j)) (λ settled j marks is. absurd (unsettled settled))
+
+empty : (entries : List Entry) → length entries ≡ 0 → entries ≡ []
+empty [] none = refl
+empty (e ∷ es) none = absurd (omega arith)
+
+-- a log with so many PEs begins
+pub listed_begun : (w w' : Work) (n broken : ℕ) (cells : List Cell) (entries : List Entry) → 1 ≤ n → n ≤ 128 → w'.pes ≡ n → broken ≡ length entries
+    → (w' ≡ w) ⊎ ((broken ≡ 0) ⊎ GivesUp w') → Listed w cells entries → Listed w' cells entries
+listed_begun w w' n broken cells entries some most pes number kept listed =
+    let some' : 1 ≤ w'.pes = subst (λ (x : ℕ). 1 ≤ x) (sym pes) some in
+    let most' : w'.pes ≤ 128 = subst (λ (x : ℕ). x ≤ 128) (sym pes) most in
+    elim kept [
+      | inl same ↦ subst (λ (x : Work). Listed x cells entries) (sym same) listed
+      | inr changed ↦
+          elim changed [
+            | inl none ↦ listed_none w' cells entries some' most' (empty entries (sym number ∙ none))
+            | inr up ↦ listed_all w' cells entries some' most' up.0 up.1 up.2
+          ]
+    ]
+
+-- where no entry changes but some leave, and lists have no less
+module _ (w w' : Work) (cells cells' : List Cell) (entries entries' : List Entry) (pes : w'.pes ≡ w.pes) (settled : w'.settled ≡ w.settled)
+    (unpublished : (q j : ℕ) → HoldsFor w.unpublished.items q j → HoldsFor w'.unpublished.items q j)
+    (waiting : (q j : ℕ) → HoldsFor w.waiting.items q j → HoldsFor w'.waiting.items q j)
+    (stays : (j : ℕ) → (entry_in cells' entries' j ≡ None) ⊎ (entry_in cells' entries' j ≡ entry_in cells entries j))
+    (listed : Listed w cells entries) where
+  were : (j : ℕ) (marks : Marks) → marks_in cells' entries' j ≡ Some marks → marks_in cells entries j ≡ Some marks
+  were j marks is =
+      elim (stays j) [
+        | inl gone ↦ absurd (none-some marks (sym (ap marks_of gone) ∙ is))
+        | inr same ↦ sym (ap marks_of same) ∙ is
+      ]
+
+  pub listed_fewer : Listed w' cells' entries'
+  listed_fewer =
+      listed_by w' cells' entries' (subst (λ (x : ℕ). 1 ≤ x) (sym pes) listed.some) (subst (λ (x : ℕ). x ≤ 128) (sym pes) listed.most)
+      (λ q j marks below is.
+      elim (told_of w cells entries listed q j marks (subst (λ (x : ℕ). q < x) pes below) (were j marks is)) [
+        | inl holds ↦ inl (unpublished q j holds)
+        | inr told ↦ inr (subst (λ (x : ℕ). IsTold x q marks) (sym pes) told)
+      ])
+      (λ q j.
+      elim (stays j) [
+        | inl gone ↦ inr (idle_from (pends_for cells' entries' q j) (ap (pends_of q) gone))
+        | inr same ↦
+            elim (idle_of w cells entries listed q j) [
+              | inl holds ↦ inl (waiting q j holds)
+              | inr idle ↦ inr (subst (λ (o : Option Entry). IsIdle (pends_of q o)) (sym same) idle)
+            ]
+      ])
+      (λ is j marks at. subst (λ (x : ℕ). is_clean x marks ≡ false) (sym pes) (listed.settled (sym settled ∙ is) j marks (were j marks at)))
+
+-- a place is written
+module _ (w w' : Work) (cells cells' : List Cell) (entries entries' : List Entry) (j : ℕ) (state : EntryState) (before : Option Marks)
+    (pes : w'.pes ≡ w.pes) (was : before ≡ marks_in cells entries j)
+    (told : (marks : Marks) → marks_of_state state ≡ Some marks → (q : ℕ) → q < w.pes
+    → HoldsFor w'.unpublished.items q j ⊎ ((pe_in marks.writers q ≡ false) ⊎ IsToldAsBefore before marks q))
+    (kept : (q i : ℕ) → HoldsFor w.unpublished.items q i → HoldsFor w'.unpublished.items q i)
+    (waiting : w'.waiting.items ≡ w.waiting.items) (settled : w'.settled ≡ true → w.settled ≡ true)
+    (unclean : (marks : Marks) → marks_of_state state ≡ Some marks → w'.settled ≡ true → is_clean w.pes marks ≡ false)
+    (marks_are : (i : ℕ) → marks_in cells' entries' i ≡ (if nat_eq i j then marks_of_state state else marks_in cells entries i))
+    (pends_are : (q i : ℕ) → pends_for cells' entries' q i
+    ≡ (if nat_eq i j && not (is_broken state) then no_pends else pends_for cells entries q i))
+    (listed : Listed w cells entries) where
+  here : (i : ℕ) (marks : Marks) → marks_in cells' entries' i ≡ Some marks → i ≡ j → marks_of_state state ≡ Some marks
+  here i marks is same = sym (marks_are i ∙ cond-true (nat_eq i j) (marks_of_state state) (marks_in cells entries i) (eq-eqb i j same)) ∙ is
+
+  away : (i : ℕ) (marks : Marks) → marks_in cells' entries' i ≡ Some marks → i ≢ j → marks_in cells entries i ≡ Some marks
+  away i marks is other = sym (marks_are i ∙ cond-false (nat_eq i j) (marks_of_state state) (marks_in cells entries i) (ne_eqb i j other)) ∙ is
+
+  told_here : (q : ℕ) (marks : Marks) → q < w.pes → marks_of_state state ≡ Some marks → HoldsFor w'.unpublished.items q j ⊎ IsTold w.pes q marks
+  told_here q marks below is =
+      elim (told marks is q below) [
+        | inl holds ↦ inl holds
+        | inr rest ↦
+            elim rest [
+              | inl none ↦ inr (told_no_writer w.pes q marks none)
+              | inr as_before ↦
+                  elim (told_of w cells entries listed q j as_before.0 below (sym was ∙ as_before.1)) [
+                    | inl holds ↦ inl (kept q j holds)
+                    | inr old ↦ inr (told_after_write w.pes q as_before.0 marks as_before.2 as_before.3 old)
+                  ]
+            ]
+      ]
+
+  told_now : (q i : ℕ) (marks : Marks) → q < w.pes → marks_in cells' entries' i ≡ Some marks
+      → HoldsFor w'.unpublished.items q i ⊎ IsTold w.pes q marks
+  told_now q i marks below is =
+      elim (cases_eq i j) [
+        | inl same ↦
+            let P : ℕ → Type 0 = λ x. HoldsFor w'.unpublished.items q x ⊎ IsTold w.pes q marks in
+            subst P (sym same) (told_here q marks below (here i marks is same))
+        | inr other ↦
+            elim (told_of w cells entries listed q i marks below (away i marks is other)) [
+              | inl holds ↦ inl (kept q i holds)
+              | inr old ↦ inr old
+            ]
+      ]
+
+  idle_now : (q i : ℕ) → HoldsFor w'.waiting.items q i ⊎ IsIdle (pends_for cells' entries' q i)
+  idle_now q i =
+      elim (cases_Bool (nat_eq i j && not (is_broken state))) [
+        | inl dropped ↦
+            inr (idle_from (pends_for cells' entries' q i)
+            (pends_are q i ∙ cond-true (nat_eq i j && not (is_broken state)) no_pends (pends_for cells entries q i) dropped))
+        | inr stays ↦
+            elim (idle_of w cells entries listed q i) [
+              | inl holds ↦ inl (subst (λ (xs : List WorkList). HoldsFor xs q i) (sym waiting) holds)
+              | inr idle ↦
+                  inr (subst (λ (x : Pends). IsIdle x)
+                  (sym (pends_are q i ∙ cond-false (nat_eq i j && not (is_broken state)) no_pends (pends_for cells entries q i) stays)) idle)
+            ]
+      ]
+
+  settled_now : w'.settled ≡ true → (i : ℕ) (marks : Marks) → marks_in cells' entries' i ≡ Some marks → is_clean w.pes marks ≡ false
+  settled_now is i marks at =
+      elim (cases_eq i j) [
+        | inl same ↦ unclean marks (here i marks at same) is
+        | inr other ↦ listed.settled (settled is) i marks (away i marks at other)
+      ]
+
+  pub listed_set : Listed w' cells' entries'
+  listed_set =
+      listed_by w' cells' entries' (subst (λ (x : ℕ). 1 ≤ x) (sym pes) listed.some) (subst (λ (x : ℕ). x ≤ 128) (sym pes) listed.most)
+      (subst (λ (x : ℕ). (q i : ℕ) (marks : Marks) → q < x → marks_in cells' entries' i ≡ Some marks
+      → HoldsFor w'.unpublished.items q i ⊎ IsTold x q marks) (sym pes) told_now)
+      idle_now
+      (subst (λ (x : ℕ). w'.settled ≡ true → (i : ℕ) (marks : Marks) → marks_in cells' entries' i ≡ Some marks → is_clean x marks ≡ false) (sym pes) settled_now)
+
+-- a DSB publishes
+pends_same : (issuer : ℕ) (dsb : Dsb) (n q : ℕ) (o p : Option Entry) → Advances (Publishes issuer dsb n) o p → pends_of q p ≡ pends_of q o
+pends_same issuer dsb n q None None h = refl
+pends_same issuer dsb n q None (Some f) h = absurd h
+pends_same issuer dsb n q (Some e) None h = absurd h
+pends_same issuer dsb n q (Some e) (Some f) h = ap (λ (v : Vec Pending Global). pends_in v.items q) h.1.0
+
+clean_same : (issuer : ℕ) (dsb : Dsb) (n m : ℕ) (o p : Option Entry) → Advances (Publishes issuer dsb n) o p
+    → ((marks : Marks) → marks_of o ≡ Some marks → is_clean m marks ≡ false) → (marks : Marks) → marks_of p ≡ Some marks → is_clean m marks ≡ false
+clean_same issuer dsb n m None None h known marks is = known marks is
+clean_same issuer dsb n m None (Some f) h known marks is = absurd h
+clean_same issuer dsb n m (Some e) None h known marks is = absurd h
+clean_same issuer dsb n m (Some e) (Some f) h known marks is =
+    ap (is_clean m) (sym (same_Some f.marks marks is)) ∙ ap (every_pe m) (fun_ext h.1.1.clean) ∙ known e.marks refl
+
+module _ (w w' : Work) (issuer : ℕ) (dsb : Dsb) (n : ℕ) (cells : List Cell) (entries entries' : List Entry)
+    (number : w.pes ≡ n) (pes : w'.pes ≡ w.pes) (settled : w'.settled ≡ w.settled) (waiting : w'.waiting.items ≡ w.waiting.items)
+    (each : (k : ℕ) → Advances (Publishes issuer dsb n) (slice_get entries k) (slice_get entries' k))
+    (known : (k : ℕ) (e : Entry) → slice_get entries' k ≡ Some e → HoldsFor w'.unpublished.items issuer e.cell ⊎ IsTold n issuer e.marks)
+    (others : (q j : ℕ) → q ≢ issuer → HoldsFor w.unpublished.items q j → HoldsFor w'.unpublished.items q j)
+    (linked : Linked cells entries) (linked' : Linked cells entries') (listed : Listed w cells entries) where
+  by_issuer : (q : ℕ) → q < n → (k : ℕ) (e : Entry) → slice_get entries' k ≡ Some e → HoldsFor w'.unpublished.items q e.cell ⊎ IsTold n q e.marks
+  by_issuer q below =
+      elim (cases_eq q issuer) [
+        | inl same ↦
+            let P : ℕ → Type 0 = λ x. (k : ℕ) (e : Entry) → slice_get entries' k ≡ Some e → HoldsFor w'.unpublished.items x e.cell ⊎ IsTold n x e.marks in
+            subst P (sym same) known
+        | inr other ↦
+            known_kept issuer dsb n q (HoldsFor w'.unpublished.items q) entries entries'
+            (λ k e is.
+            elim (told_entry cells entries linked (HoldsFor w.unpublished.items q) n q
+            (subst (λ (x : ℕ). (j : ℕ) (marks : Marks) → marks_in cells entries j ≡ Some marks → HoldsFor w.unpublished.items q j ⊎ IsTold x q marks) number
+            (λ j marks. told_of w cells entries listed q j marks (subst (λ (x : ℕ). q < x) (sym number) below))) k e is) [
+              | inl holds ↦ inl (others q e.cell other holds)
+              | inr told ↦ inr told
+            ]) each
+      ]
+
+  pub listed_published : Listed w' cells entries'
+  listed_published =
+      let all : w'.pes ≡ n = pes ∙ number in
+      listed_by w' cells entries' (subst (λ (x : ℕ). 1 ≤ x) (sym pes) listed.some) (subst (λ (x : ℕ). x ≤ 128) (sym pes) listed.most)
+      (λ q j marks below is.
+      subst (λ (x : ℕ). HoldsFor w'.unpublished.items q j ⊎ IsTold x q marks) (sym all)
+      (told_by_cell cells entries' linked' (HoldsFor w'.unpublished.items q) n q (by_issuer q (subst (λ (x : ℕ). q < x) all below)) j marks is))
+      (λ q j.
+      elim (idle_of w cells entries listed q j) [
+        | inl holds ↦ inl (subst (λ (xs : List WorkList). HoldsFor xs q j) (sym waiting) holds)
+        | inr idle ↦
+            inr (subst (λ (x : Pends). IsIdle x)
+            (sym (pends_same issuer dsb n q (entry_in cells entries j) (entry_in cells entries' j) (of_cell (Publishes issuer dsb n) entries entries' each (slot_in cells j)))) idle)
+      ])
+      (λ is j marks at.
+      subst (λ (x : ℕ). is_clean x marks ≡ false) (sym pes)
+      (clean_same issuer dsb n w.pes (entry_in cells entries j) (entry_in cells entries' j) (of_cell (Publishes issuer dsb n) entries entries' each (slot_in cells j))
+      (listed.settled (sym settled ∙ is) j) marks at))
+
+-- a DSB answers
+module _ (w w' : Work) (issuer : ℕ) (dsb : Dsb) (n : ℕ) (cells cells' : List Cell) (entries entries' : List Entry)
+    (number : w.pes ≡ n) (pes : w'.pes ≡ w.pes) (unpublished : w'.unpublished.items ≡ w.unpublished.items)
+    (each : (j : ℕ) → Completes issuer dsb n (entry_in cells entries j) (entry_in cells' entries' j))
+    (known : (j : ℕ) → HoldsFor w'.waiting.items issuer j ⊎ IsIdle (pends_for cells' entries' issuer j))
+    (others : (q j : ℕ) → q ≢ issuer → HoldsFor w.waiting.items q j → HoldsFor w'.waiting.items q j)
+    (listed : Listed w cells entries) where
+  told_then : (q j : ℕ) (marks : Marks) → q < w.pes → (o p : Option Entry) → Completes issuer dsb n o p
+      → ((m : Marks) → marks_of o ≡ Some m → HoldsFor w.unpublished.items q j ⊎ IsTold w.pes q m) → marks_of p ≡ Some marks
+      → HoldsFor w.unpublished.items q j ⊎ IsTold w.pes q marks
+  told_then q j marks below o None h known is = absurd (none-some marks is)
+  told_then q j marks below None (Some f) h known is = absurd (false≢true (sym h.own.broken))
+  told_then q j marks below (Some e) (Some f) h known is =
+      elim (known e.marks refl) [
+        | inl holds ↦ inl holds
+        | inr told ↦
+            inr (subst (λ (m : Marks). IsTold w.pes q m) (same_Some f.marks marks is)
+            (told_completed issuer dsb n w.pes q (Some e) f h
+            (λ x at. subst (λ (y : Entry). IsTold w.pes q y.marks) (same_Some e x at) told)))
+      ]
+
+  unclean_then : (marks : Marks) (o p : Option Entry) → Completes issuer dsb n o p → marks_of p ≡ Some marks → is_clean n marks ≡ false
+  unclean_then marks o None h is = absurd (none-some marks is)
+  unclean_then marks o (Some f) h is = ap (is_clean n) (sym (same_Some f.marks marks is)) ∙ completes_unclean issuer dsb n o f h
+
+  pub listed_completed : Listed w' cells' entries'
+  listed_completed =
+      listed_by w' cells' entries' (subst (λ (x : ℕ). 1 ≤ x) (sym pes) listed.some) (subst (λ (x : ℕ). x ≤ 128) (sym pes) listed.most)
+      (λ q j marks below is.
+      elim (told_then q j marks (subst (λ (x : ℕ). q < x) pes below) (entry_in cells entries j) (entry_in cells' entries' j) (each j)
+      (λ m. told_of w cells entries listed q j m (subst (λ (x : ℕ). q < x) pes below)) is) [
+        | inl holds ↦ inl (subst (λ (xs : List WorkList). HoldsFor xs q j) (sym unpublished) holds)
+        | inr told ↦ inr (subst (λ (x : ℕ). IsTold x q marks) (sym pes) told)
+      ])
+      (λ q j.
+      elim (cases_eq q issuer) [
+        | inl same ↦ subst (λ (x : ℕ). HoldsFor w'.waiting.items x j ⊎ IsIdle (pends_for cells' entries' x j)) (sym same) (known j)
+        | inr other ↦
+            elim (idle_of w cells entries listed q j) [
+              | inl holds ↦ inl (others q j other holds)
+              | inr idle ↦ inr (idle_others issuer dsb n q other (entry_in cells entries j) (entry_in cells' entries' j) (each j) idle)
+            ]
+      ])
+      (λ is j marks at.
+      subst (λ (x : ℕ). is_clean x marks ≡ false) (sym (pes ∙ number)) (unclean_then marks (entry_in cells entries j) (entry_in cells' entries' j) (each j) at))
+
+-- a TLBI is noted
+noted_marks : (R : Entry → Entry → Type 0) → ((e f : Entry) → R e f → f.marks ≡ e.marks) → (o p : Option Entry) → Advances R o p → marks_of p ≡ marks_of o
+noted_marks R same None None h = refl
+noted_marks R same None (Some f) h = absurd h
+noted_marks R same (Some e) None h = absurd h
+noted_marks R same (Some e) (Some f) h = ap (λ (m : Marks). Some m) (same e f h.1)
+
+noted_pends : (R : Entry → Entry → Type 0) (q : ℕ) → ((e f : Entry) → R e f → pends_in f.pends.items q ≡ pends_in e.pends.items q) → (o p : Option Entry)
+    → Advances R o p → pends_of q p ≡ pends_of q o
+noted_pends R q same None None h = refl
+noted_pends R q same None (Some f) h = absurd h
+noted_pends R q same (Some e) None h = absurd h
+noted_pends R q same (Some e) (Some f) h = same e f h.1
+
+module _ (w w' : Work) (cells : List Cell) (entries entries' : List Entry) (pes : w'.pes ≡ w.pes) (settled : w'.settled ≡ w.settled)
+    (unpublished : w'.unpublished.items ≡ w.unpublished.items)
+    (kept : (q j : ℕ) → HoldsFor w.waiting.items q j → HoldsFor w'.waiting.items q j)
+    (marks_are : (j : ℕ) → marks_in cells entries' j ≡ marks_in cells entries j)
+    (waits_are : (q j : ℕ) → HoldsFor w'.waiting.items q j ⊎ (IsIdle (pends_for cells entries q j) → IsIdle (pends_for cells entries' q j)))
+    (listed : Listed w cells entries) where
+  idle_then : (q j : ℕ) → HoldsFor w'.waiting.items q j ⊎ IsIdle (pends_for cells entries' q j)
+  idle_then q j =
+      elim (waits_are q j) [
+        | inl holds ↦ inl holds
+        | inr still ↦
+            elim (idle_of w cells entries listed q j) [
+              | inl holds ↦ inl (kept q j holds)
+              | inr idle ↦ inr (still idle)
+            ]
+      ]
+
+  pub listed_changed : Listed w' cells entries'
+  listed_changed =
+      listed_by w' cells entries' (subst (λ (x : ℕ). 1 ≤ x) (sym pes) listed.some) (subst (λ (x : ℕ). x ≤ 128) (sym pes) listed.most)
+      (λ q j marks below is.
+      elim (told_of w cells entries listed q j marks (subst (λ (x : ℕ). q < x) pes below) (sym (marks_are j) ∙ is)) [
+        | inl holds ↦ inl (subst (λ (xs : List WorkList). HoldsFor xs q j) (sym unpublished) holds)
+        | inr told ↦ inr (subst (λ (x : ℕ). IsTold x q marks) (sym pes) told)
+      ])
+      idle_then
+      (λ is j marks at. subst (λ (x : ℕ). is_clean x marks ≡ false) (sym pes) (listed.settled (sym settled ∙ is) j marks (sym (marks_are j) ∙ at)))
+
+abbrev NotesAll : ℕ → Entry → Entry → Type 0
+NotesAll issuer e f = (f.marks ≡ e.marks) × ((q : ℕ) → q ≢ issuer → pends_in f.pends.items q ≡ pends_in e.pends.items q)
+
+module _ (cells : List Cell) (entries mid : List Entry) (kept : (k : ℕ) → Advances Keeps (slice_get entries k) (slice_get mid k)) where
+  room_marks : (j : ℕ) → marks_in cells mid j ≡ marks_in cells entries j
+  room_marks j = noted_marks Keeps (λ e f h. h.0) (entry_in cells entries j) (entry_in cells mid j) (of_cell Keeps entries mid kept (slot_in cells j))
+
+  room_pends : (q j : ℕ) → pends_for cells mid q j ≡ pends_for cells entries q j
+  room_pends q j =
+      noted_pends Keeps q (λ e f h. ap (λ (ps : List Pending). pends_in ps q) h.1) (entry_in cells entries j) (entry_in cells mid j)
+      (of_cell Keeps entries mid kept (slot_in cells j))
+
+  -- room for pendings is made
+  pub listed_roomed : (w : Work) → Listed w cells entries → Listed w cells mid
+  listed_roomed w listed =
+      listed_changed w w cells entries mid refl refl refl (λ q j holds. holds) room_marks
+      (λ q j. inr (λ idle. subst (λ (x : Pends). IsIdle x) (sym (room_pends q j)) idle)) listed
+
+  module _ (new : List Entry) (covers : List Cover) (issuer : ℕ) (reach : PeMask) (broadcast : Bool) (w w' : Work) (linked : Linked cells mid)
+      (pes : w'.pes ≡ w.pes) (settled : w'.settled ≡ w.settled) (unpublished : w'.unpublished.items ≡ w.unpublished.items)
+      (each : (k : ℕ) → Advances (NotesAt covers issuer reach broadcast k) (slice_get mid k) (slice_get new k))
+      (waits : (k : ℕ) → Advances (Waits w'.waiting.items issuer) (slice_get mid k) (slice_get new k))
+      (grown : (q j : ℕ) → HoldsFor w.waiting.items q j → HoldsFor w'.waiting.items q j) where
+    noted_all : (k : ℕ) → Advances (NotesAll issuer) (slice_get mid k) (slice_get new k)
+    noted_all k =
+        advance_by (NotesAt covers issuer reach broadcast k) (NotesAll issuer) (λ e f h. (h.0, h.1)) (slice_get mid k) (slice_get new k) (each k)
+
+    waits_at : (j : ℕ) (s : Option ℕ) → slot_in cells j ≡ s → (o p : Option Entry) → entry_of mid s ≡ o → entry_of new s ≡ p
+        → Advances (Waits w'.waiting.items issuer) o p → HoldsFor w'.waiting.items issuer j ⊎ (IsIdle (pends_of issuer o) → IsIdle (pends_of issuer p))
+    waits_at j s at None None was now h = inr (λ idle. idle)
+    waits_at j s at None (Some f) was now h = absurd h
+    waits_at j s at (Some e) None was now h = absurd h
+    waits_at j None at (Some e) (Some f) was now h = cc
+    waits_at j (Some k) at (Some e) (Some f) was now h =
+        let cell : e.cell ≡ j = same_Some e.cell j (sym (ap (option_map (λ (x : Entry). x.cell)) was) ∙ linked.forth j k at) in
+        elim h.1 [
+          | inl holds ↦ inl (subst (λ (x : ℕ). HoldsFor w'.waiting.items issuer x) cell holds)
+          | inr still ↦ inr still
+        ]
+
+    waits_then : (q j : ℕ) → HoldsFor w'.waiting.items q j ⊎ (IsIdle (pends_for cells mid q j) → IsIdle (pends_for cells new q j))
+    waits_then q j =
+        elim (cases_eq q issuer) [
+          | inl same ↦
+              let P : ℕ → Type 0 = λ x. HoldsFor w'.waiting.items x j ⊎ (IsIdle (pends_for cells mid x j) → IsIdle (pends_for cells new x j)) in
+              subst P (sym same)
+              (waits_at j (slot_in cells j) refl (entry_in cells mid j) (entry_in cells new j) refl refl
+              (of_cell (Waits w'.waiting.items issuer) mid new waits (slot_in cells j)))
+          | inr other ↦
+              inr (λ idle. subst (λ (x : Pends). IsIdle x)
+              (sym (noted_pends (NotesAll issuer) q (λ e f h. h.1 q other) (entry_in cells mid j) (entry_in cells new j) (of_cell (NotesAll issuer) mid new noted_all (slot_in cells j)))) idle)
+        ]
+
+    -- and a TLBI is noted
+    pub listed_noted : Listed w cells entries → Listed w' cells new
+    listed_noted listed =
+        listed_changed w w' cells mid new pes settled unpublished grown
+        (λ j. noted_marks (NotesAll issuer) (λ e f h. h.0) (entry_in cells mid j) (entry_in cells new j) (of_cell (NotesAll issuer) mid new noted_all (slot_in cells j)))
+        waits_then (listed_roomed w listed)
+
+-- an entry of a page that is cleared is gone, and any other one stays
+pub gone_or_same : (gone : Bool) (o p : Option Entry) → p ≡ (if gone then None else o) → (p ≡ None) ⊎ (p ≡ o)
+gone_or_same true o p is = inl is
+gone_or_same false o p is = inr is
+
+pub by_slots : (cells cells' : List Cell) (entries : List Entry) → ((i : ℕ) → slot_in cells' i ≡ slot_in cells i) → (j : ℕ)
+    → entry_in cells' entries j ≡ entry_in cells entries j
+by_slots cells cells' entries slots j = ap (entry_of entries) (slots j)

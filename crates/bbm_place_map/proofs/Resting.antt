@@ -1,0 +1,257 @@
+-- What a DSB answers at an entry, once and twice, and where it answers nothing.
+use Rattle.std.proofs.Common.{◌≡◌, ◌≢◌, ℕ, Bool, true, false, not, ◌&&◌, ◌||◌, Option, Some, None, is_some, is_none, refl, ap, sym, ◌∙◌, if◌then◌else◌, inl, inr}
+use Rattle.std.proofs.lemmas.Bool.{cases_Bool, false≢true}
+use Rattle.std.proofs.lemmas.Option.{same_Some, none-some}
+use mathlib.Core.Path.{fun_ext}
+use Rattle.bbm_barriers.specs.declared.Dsb.{Dsb}
+use Rattle.bbm_barriers.specs.Options.{answers, answers_broadcast, answers_local, completed, has_broadcast, has_local, Completed as Answers}
+use Rattle.bbm_barriers.specs.Options.Completed.{EveryTlbi, LocalTlbis, NoTlbi}
+use Rattle.bbm_descriptor.specs.declared.desc.Core.{Core}
+use Rattle.bbm_regimes.specs.EveryPe.{every_pe}
+use Rattle.bbm_regimes.specs.PeMask.{pe_in}
+use Rattle.bbm_tlbi_scope.specs.declared.entry.Cover.{Cover}
+use Rattle.bbm_tlbi_scope.specs.declared.entry.Cover.TheVariants.{Half, Second, Full}
+use Rattle.bbm_entry_state.specs.Answered.{answered_at}
+use Rattle.bbm_entry_state.specs.Calls.{half_after, clean_after}
+use Rattle.bbm_entry_state.specs.Points.{waits, core_in}
+use Rattle.bbm_entry_state.specs.Standing.{IsIdle}
+use Rattle.bbm_entry_state.specs.declared.marks.Marks.{Marks}
+use Rattle.bbm_entry_state.specs.declared.pending.Pends.{Pends}
+use Rattle.bbm_entry_state.specs.declared.state.EntryState.TheVariants.{Broken}
+use Rattle.bbm_place_map.specs.Each.{Completes, loses_table, has_table, is_table}
+use Rattle.bbm_place_map.specs.Entries.{pends_in, pends_of, marks_of}
+use Rattle.bbm_place_map.specs.States.{state_from}
+use Rattle.bbm_place_map.specs.Works.{IsTold, MayComplete, is_clean}
+use Rattle.bbm_place_map.specs.declared.entry.Entry.{Entry}
+use Rattle.bbm_place_map.proofs.Answering.{completes_at}
+use Rattle.bbm_place_map.proofs.Completing.{completes_none}
+
+none_answered : (a w : Bool) → (a && (not a && w)) ≡ false
+none_answered true w = refl
+none_answered false w = refl
+
+or_none : (x y : Bool) → (x || (y && false)) ≡ x
+or_none true y = refl
+or_none false true = refl
+or_none false false = refl
+
+and_none : (x y : Bool) → (x && (y && false)) ≡ false
+and_none true true = refl
+and_none true false = refl
+and_none false y = refl
+
+false_and : (x : Bool) → (x && false) ≡ false
+false_and true = refl
+false_and false = refl
+
+and_twice : (a w : Bool) → (a && (a && w)) ≡ (a && w)
+and_twice true w = refl
+and_twice false w = refl
+
+has_both : (c : Answers) → has_broadcast c ≡ true → has_local c ≡ true
+has_both EveryTlbi h = refl
+has_both LocalTlbis h = refl
+has_both NoTlbi h = h
+
+has_none : (c : Answers) → has_local c ≡ false → has_broadcast c ≡ false
+has_none EveryTlbi h = h
+has_none LocalTlbis h = refl
+has_none NoTlbi h = refl
+
+-- a DSB that completes the TLBIs that are broadcast completes the others, too
+pub answers_both : (dsb : Dsb) → answers_broadcast dsb ≡ true → answers_local dsb ≡ true
+answers_both dsb = has_both (completed dsb.domain dsb.types)
+
+pub answers_none : (dsb : Dsb) → answers_local dsb ≡ false → answers_broadcast dsb ≡ false
+answers_none dsb = has_none (completed dsb.domain dsb.types)
+
+module _ (issuer : ℕ) (dsb : Dsb) (n : ℕ) where
+  -- where the answered TLBIs wait for nothing a DSB changes nothing
+  module _ (e : Entry) (none : (c : Cover) (p : ℕ) → answered_at (pends_in e.pends.items issuer) dsb c p ≡ false) where
+    clean_still : (p : ℕ) → clean_after (Broken e.marks) (pends_in e.pends.items issuer) dsb p ≡ pe_in e.marks.clean p
+    clean_still p =
+        ap (λ (b : Bool). pe_in e.marks.clean p || (pe_in e.marks.seen p && (b || answered_at (pends_in e.pends.items issuer) dsb Second p))) (none Full p)
+        ∙ ap (λ (b : Bool). pe_in e.marks.clean p || (pe_in e.marks.seen p && (false || b))) (none Second p)
+        ∙ or_none (pe_in e.marks.clean p) (pe_in e.marks.seen p)
+
+    half_still : (p : ℕ) → half_after (Broken e.marks) (pends_in e.pends.items issuer) dsb p ≡ pe_in e.marks.half p
+    half_still p =
+        ap (λ (b : Bool). pe_in e.marks.half p || (pe_in e.marks.seen p && b)) (none Half p) ∙ or_none (pe_in e.marks.half p) (pe_in e.marks.seen p)
+
+    every_still : every_pe n (clean_after (Broken e.marks) (pends_in e.pends.items issuer) dsb) ≡ is_clean n e.marks
+    every_still = ap (every_pe n) (fun_ext clean_still)
+
+  idle_none : (r : Pends) → IsIdle r → (c : Cover) (p : ℕ) → answered_at r dsb c p ≡ false
+  idle_none r idle c p =
+      ap (λ (b : Bool). (answers dsb true && b) || (answers dsb false && waits r false c p)) (idle true c p)
+      ∙ ap (λ (b : Bool). (answers dsb true && false) || (answers dsb false && b)) (idle false c p)
+      ∙ ap (λ (b : Bool). b || (answers dsb false && false)) (false_and (answers dsb true)) ∙ false_and (answers dsb false)
+
+  unanswered : (r : Pends) → answers dsb true ≡ false → answers dsb false ≡ false → (c : Cover) (p : ℕ) → answered_at r dsb c p ≡ false
+  unanswered r none none' c p =
+      ap (λ (b : Bool). (b && waits r true c p) || (answers dsb false && waits r false c p)) none
+      ∙ ap (λ (b : Bool). b && waits r false c p) none'
+
+  still : (e : Entry) → ((c : Cover) (p : ℕ) → answered_at (pends_in e.pends.items issuer) dsb c p ≡ false)
+      → is_clean n e.marks ≡ false
+      → ((b : Bool) (c : Cover) (p : ℕ) → waits (pends_in e.pends.items issuer) b c p ≡ (not (answers dsb b) && waits (pends_in e.pends.items issuer) b c p))
+      → Completes issuer dsb n (Some e) (Some e)
+  still e none unclean waiting = record {
+    own = record {
+      core = sym (ap (λ (b : Bool). if b then None else Some e.marks.core) (every_still e none ∙ unclean));
+      broken = refl;
+      writers = λ p. refl;
+      seen = λ p. refl;
+      half = λ p. sym (half_still e none p);
+      clean = λ p. sym (clean_still e none p);
+      waiting = waiting;
+    };
+    others = λ q other b c p. refl;
+  }
+
+  pub idle_same : (o : Option Entry) → IsIdle (pends_of issuer o) → ((marks : Marks) → marks_of o ≡ Some marks → is_clean n marks ≡ false)
+      → Completes issuer dsb n o o
+  idle_same None idle unclean = completes_none issuer dsb n
+  idle_same (Some e) idle unclean =
+      still e (idle_none (pends_in e.pends.items issuer) idle) (unclean e.marks refl)
+      (λ b c p. idle b c p ∙ sym (ap (λ (x : Bool). not (answers dsb b) && x) (idle b c p) ∙ false_and (not (answers dsb b))))
+
+  not_answered : (none : answers dsb true ≡ false) (none' : answers dsb false ≡ false) (b : Bool) (w : Bool) → w ≡ (not (answers dsb b) && w)
+  not_answered none none' true w = sym (ap (λ (x : Bool). not x && w) none)
+  not_answered none none' false w = sym (ap (λ (x : Bool). not x && w) none')
+
+  pub nothing_answered : answers dsb true ≡ false → answers dsb false ≡ false → (o : Option Entry)
+      → ((marks : Marks) → marks_of o ≡ Some marks → is_clean n marks ≡ false) → Completes issuer dsb n o o
+  nothing_answered none none' None unclean = completes_none issuer dsb n
+  nothing_answered none none' (Some e) unclean =
+      still e (unanswered (pends_in e.pends.items issuer) none none') (unclean e.marks refl)
+      (λ b c p. not_answered none none' b (waits (pends_in e.pends.items issuer) b c p))
+
+  none_stays : (f : Entry) → Completes issuer dsb n None (Some f) → ⊥
+  none_stays f h = absurd (false≢true (sym h.own.broken))
+
+  left_none : (e f : Entry) → Completes issuer dsb n (Some e) (Some f) → (c : Cover) (p : ℕ) → answered_at (pends_in f.pends.items issuer) dsb c p ≡ false
+  left_none e f h c p =
+      ap (λ (b : Bool). (answers dsb true && b) || (answers dsb false && waits (pends_in f.pends.items issuer) false c p)) (h.own.waiting true c p)
+      ∙ ap (λ (b : Bool). b || (answers dsb false && waits (pends_in f.pends.items issuer) false c p))
+      (none_answered (answers dsb true) (waits (pends_in e.pends.items issuer) true c p))
+      ∙ ap (λ (b : Bool). answers dsb false && b) (h.own.waiting false c p)
+      ∙ none_answered (answers dsb false) (waits (pends_in e.pends.items issuer) false c p)
+
+  some_unclean : (e f : Entry) → Completes issuer dsb n (Some e) (Some f)
+      → every_pe n (clean_after (Broken e.marks) (pends_in e.pends.items issuer) dsb) ≡ false
+  some_unclean e f h =
+      elim (cases_Bool (every_pe n (clean_after (Broken e.marks) (pends_in e.pends.items issuer) dsb))) [
+        | inl all ↦ absurd (none-some f.marks.core (sym (h.own.core ∙ ap (λ (b : Bool). if b then None else Some e.marks.core) all)))
+        | inr some ↦ some
+      ]
+
+  -- what is left is unclean at some PE
+  pub completes_unclean : (o : Option Entry) (f : Entry) → Completes issuer dsb n o (Some f) → is_clean n f.marks ≡ false
+  completes_unclean None f h = absurd (none_stays f h)
+  completes_unclean (Some e) f h = ap (every_pe n) (fun_ext h.own.clean) ∙ some_unclean e f h
+
+  core_kept : (e f : Entry) → Completes issuer dsb n (Some e) (Some f) → f.marks.core ≡ e.marks.core
+  core_kept e f h =
+      same_Some f.marks.core e.marks.core (h.own.core ∙ ap (λ (b : Bool). if b then None else Some e.marks.core) (some_unclean e f h))
+
+  gone_twice : (e f : Entry) → Completes issuer dsb n (Some e) (Some f) → Completes issuer dsb n (Some f) None → ⊥
+  gone_twice e f h h' =
+      none-some f.marks.core
+      (h'.own.core ∙ ap (λ (b : Bool). if b then None else Some f.marks.core) (every_still f (left_none e f h) ∙ completes_unclean (Some e) f h))
+
+  some_twice : (e f g : Entry) → Completes issuer dsb n (Some e) (Some f) → Completes issuer dsb n (Some f) (Some g)
+      → Completes issuer dsb n (Some e) (Some g)
+  some_twice e f g h h' = record {
+    own = record {
+      core =
+          ap (λ (x : Core). Some x) (core_kept f g h' ∙ core_kept e f h)
+          ∙ sym (ap (λ (b : Bool). if b then None else Some e.marks.core) (some_unclean e f h));
+      broken = refl;
+      writers = λ p. h'.own.writers p ∙ h.own.writers p;
+      seen = λ p. h'.own.seen p ∙ h.own.seen p;
+      half = λ p. h'.own.half p ∙ half_still f (left_none e f h) p ∙ h.own.half p;
+      clean = λ p. h'.own.clean p ∙ clean_still f (left_none e f h) p ∙ h.own.clean p;
+      waiting = λ b c p.
+          h'.own.waiting b c p ∙ ap (λ (x : Bool). not (answers dsb b) && x) (h.own.waiting b c p)
+          ∙ and_twice (not (answers dsb b)) (waits (pends_in e.pends.items issuer) b c p);
+    };
+    others = λ q other b c p. h'.others q other b c p ∙ h.others q other b c p;
+  }
+
+  twice : (o p r : Option Entry) → Completes issuer dsb n o p → Completes issuer dsb n p r → Completes issuer dsb n o r
+  twice None None r h h' = h'
+  twice None (Some f) r h h' = absurd (none_stays f h)
+  twice (Some e) None None h h' = h
+  twice (Some e) None (Some g) h h' = absurd (none_stays g h')
+  twice (Some e) (Some f) None h h' = absurd (gone_twice e f h h')
+  twice (Some e) (Some f) (Some g) h h' = some_twice e f g h h'
+
+  -- a DSB that answers twice answers the same once
+  pub answers_again : (o p r : Option Entry) → MayComplete issuer dsb n o p → Completes issuer dsb n p r → Completes issuer dsb n o r
+  answers_again o p r may h =
+      elim may [
+        | inl same ↦ completes_at issuer dsb n o p r r (sym same) refl h
+        | inr did ↦ twice o p r did h
+      ]
+
+  -- a table that left stays away, and where none left none left at all
+  pub lost_stays : (s p r : Option Entry) → Completes issuer dsb n p r → loses_table (marks_of s) (marks_of p) ≡ true
+      → loses_table (marks_of s) (marks_of r) ≡ true
+  lost_stays s None None h lost = lost
+  lost_stays s None (Some g) h lost = absurd (none_stays g h)
+  lost_stays s (Some f) r h lost = absurd (false≢true (sym (false_and (has_table (marks_of s))) ∙ lost))
+
+  pub none_lost : (s p r : Option Entry) → MayComplete issuer dsb n s p → Completes issuer dsb n p r
+      → loses_table (marks_of s) (marks_of p) ≡ false → loses_table (marks_of p) (marks_of r) ≡ false
+      → loses_table (marks_of s) (marks_of r) ≡ false
+  none_lost None p r may h none none' = refl
+  none_lost (Some e) p (Some g) may h none none' = false_and (is_table e.marks.core)
+  none_lost (Some e) None None may h none none' = none
+  none_lost (Some e) (Some f) None may h none none' =
+      elim may [
+        | inl same ↦ ap (λ (x : Entry). is_table x.marks.core && true) (sym (same_Some f e same)) ∙ none'
+        | inr did ↦ ap (λ (x : Core). is_table x && true) (sym (core_kept e f did)) ∙ none'
+      ]
+
+  pub lost_here : (s p r : Option Entry) → MayComplete issuer dsb n s p → loses_table (marks_of p) (marks_of r) ≡ true
+      → loses_table (marks_of s) (marks_of r) ≡ true
+  lost_here s None r may lost = absurd (false≢true lost)
+  lost_here None (Some f) r may lost =
+      elim may [
+        | inl same ↦ absurd (none-some f (sym same))
+        | inr did ↦ absurd (none_stays f did)
+      ]
+  lost_here (Some e) (Some f) r may lost =
+      elim may [
+        | inl same ↦ ap (λ (x : Entry). is_table x.marks.core && is_none (marks_of r)) (sym (same_Some f e same)) ∙ lost
+        | inr did ↦ ap (λ (x : Core). is_table x && is_none (marks_of r)) (sym (core_kept e f did)) ∙ lost
+      ]
+
+  -- what waits nowhere waits nowhere after
+  pub idle_kept : (o p : Option Entry) → Completes issuer dsb n o p → IsIdle (pends_of issuer o) → IsIdle (pends_of issuer p)
+  idle_kept o p h idle b c x =
+      h.own.waiting b c x
+      ∙ ap (λ (w : Bool). is_some (core_in (state_from None (marks_of p))) && (not (answers dsb b) && w)) (idle b c x)
+      ∙ and_none (is_some (core_in (state_from None (marks_of p)))) (not (answers dsb b))
+
+  pub idle_others : (q : ℕ) → q ≢ issuer → (o p : Option Entry) → Completes issuer dsb n o p → IsIdle (pends_of q o) → IsIdle (pends_of q p)
+  idle_others q other o p h idle b c x =
+      h.others q other b c x ∙ ap (λ (w : Bool). is_some (marks_of p) && w) (idle b c x) ∙ false_and (is_some (marks_of p))
+
+  off : (answers dsb true ≡ true) → (answers dsb false ≡ true) → (b : Bool) → not (answers dsb b) ≡ false
+  off all all' true = ap not all
+  off all all' false = ap not all'
+
+  pub idle_answered : answers dsb true ≡ true → answers dsb false ≡ true → (o p : Option Entry) → Completes issuer dsb n o p
+      → IsIdle (pends_of issuer p)
+  idle_answered all all' o p h b c x =
+      h.own.waiting b c x
+      ∙ ap (λ (w : Bool). is_some (core_in (state_from None (marks_of p))) && (w && waits (pends_of issuer o) b c x)) (off all all' b)
+      ∙ false_and (is_some (core_in (state_from None (marks_of p))))
+
+  -- of any PE, where nothing more was published nothing more is
+  pub told_completed : (m q : ℕ) (o : Option Entry) (f : Entry) → Completes issuer dsb n o (Some f)
+      → ((e : Entry) → o ≡ Some e → IsTold m q e.marks) → IsTold m q f.marks
+  told_completed m q None f h told = absurd (none_stays f h)
+  told_completed m q (Some e) f h told = λ dsb' p heard wrote. h.own.seen p ∙ told e refl dsb' p heard (sym (h.own.writers q) ∙ wrote)

@@ -1,0 +1,139 @@
+-- What DSBs of a PE publish, and where they publish no more.
+use Rattle.std.proofs.Common.{◌≡◌, ℕ, ◌<◌, ◌⊎◌, Bool, true, false, ◌&&◌, ◌||◌, Option, Some, None, refl, arith, ap, sym, subst, ◌∙◌, inl, inr}
+use Rattle.std.proofs.lemmas.Bool.{cases_eq, ltb-true, eqb-true, and_from, false≢true}
+use Rattle.std.proofs.lemmas.Option.{same_Some}
+use Rattle.bbm_barriers.specs.declared.Dsb.{Dsb}
+use Rattle.bbm_barriers.specs.Options.{publishes, hears, audience, Audience}
+use Rattle.bbm_barriers.specs.Options.Audience.{EveryPe, IssuerAlone, NoPe}
+use Rattle.bbm_regimes.specs.PeMask.{pe_in}
+use Rattle.bbm_entry_state.specs.declared.marks.Marks.{Marks}
+use Rattle.bbm_place_map.specs.Each.{Advances, Publishes}
+use Rattle.bbm_place_map.specs.Works.{IsTold, MayPublish}
+use Rattle.bbm_place_map.specs.declared.entry.Entry.{Entry}
+
+hears_within : (a : Audience) (issuer n p : ℕ) → issuer < n → hears a issuer n p ≡ true → p < n
+hears_within EveryPe issuer n p below h = ltb-true p n h
+hears_within IssuerAlone issuer n p below h = let same : p ≡ issuer = eqb-true p issuer h in omega arith
+hears_within NoPe issuer n p below h = absurd (false≢true h)
+
+pub publishes_within : (dsb : Dsb) (issuer n p : ℕ) → issuer < n → publishes dsb issuer n p ≡ true → p < n
+publishes_within dsb issuer n p below h = hears_within (audience dsb.domain dsb.types) issuer n p below h
+
+twice : (x y : Bool) → (x || (x || y)) ≡ (x || y)
+twice true y = refl
+twice false y = refl
+
+once : (x y s : Bool) → (x ≡ true → y ≡ true → s ≡ true) → s ≡ ((x && y) || s)
+once true true s h = h refl refl
+once true false s h = refl
+once false y s h = refl
+
+left_true : (x y : Bool) → x ≡ true → (x || y) ≡ true
+left_true true y h = refl
+left_true false y h = cc
+
+right_true : (x y : Bool) → y ≡ true → (x || y) ≡ true
+right_true true y h = refl
+right_true false y h = h
+
+module _ (issuer : ℕ) (dsb : Dsb) (n : ℕ) where
+  again_entry : (e f g : Entry) → Publishes issuer dsb n e f → Publishes issuer dsb n f g → Publishes issuer dsb n e g
+  again_entry e f g h h' = (
+    h'.0 ∙ h.0,
+    record {
+      core = h'.1.core ∙ h.1.core;
+      broken = h'.1.broken ∙ h.1.broken;
+      writers = λ p. h'.1.writers p ∙ h.1.writers p;
+      seen = λ p.
+          h'.1.seen p ∙ ap (λ (b : Bool). (publishes dsb issuer n p && b) || pe_in f.marks.seen p) (h.1.writers issuer)
+          ∙ ap (λ (b : Bool). (publishes dsb issuer n p && pe_in e.marks.writers issuer) || b) (h.1.seen p)
+          ∙ twice (publishes dsb issuer n p && pe_in e.marks.writers issuer) (pe_in e.marks.seen p);
+      half = λ p. h'.1.half p ∙ h.1.half p;
+      clean = λ p. h'.1.clean p ∙ h.1.clean p;
+    },
+  )
+
+  again_both : (o p r : Option Entry) → Advances (Publishes issuer dsb n) o p → Advances (Publishes issuer dsb n) p r
+      → Advances (Publishes issuer dsb n) o r
+  again_both None None r h h' = h'
+  again_both None (Some f) r h h' = absurd h
+  again_both (Some e) None r h h' = absurd h
+  again_both (Some e) (Some f) None h h' = absurd h'
+  again_both (Some e) (Some f) (Some g) h h' = (h'.0 ∙ h.0, again_entry e f g h.1 h'.1)
+
+  -- a DSB that publishes twice publishes the same once
+  pub again : (o p r : Option Entry) → MayPublish issuer dsb n o p → Advances (Publishes issuer dsb n) p r
+      → Advances (Publishes issuer dsb n) o r
+  again o p r may h =
+      elim may [
+        | inl same ↦ let P : Option Entry → Type 0 = λ x. Advances (Publishes issuer dsb n) x r in subst P same h
+        | inr did ↦ again_both o p r did h
+      ]
+
+  pub same_published : (e : Entry) → ((p : ℕ) → publishes dsb issuer n p ≡ true → pe_in e.marks.writers issuer ≡ true → pe_in e.marks.seen p ≡ true)
+      → Publishes issuer dsb n e e
+  same_published e told = (
+    refl,
+    record {
+      core = refl;
+      broken = refl;
+      writers = λ p. refl;
+      seen = λ p. once (publishes dsb issuer n p) (pe_in e.marks.writers issuer) (pe_in e.marks.seen p) (told p);
+      half = λ p. refl;
+      clean = λ p. refl;
+    },
+  )
+
+  -- where nothing more is published, an entry that may have been visited was
+  pub told_advances : (o p : Option Entry) → ((e : Entry) → o ≡ Some e → IsTold n issuer e.marks) → MayPublish issuer dsb n o p
+      → Advances (Publishes issuer dsb n) o p
+  told_advances None p told may =
+      elim may [
+        | inl same ↦ let P : Option Entry → Type 0 = λ x. Advances (Publishes issuer dsb n) None x in subst P (sym same) tt
+        | inr did ↦ did
+      ]
+  told_advances (Some e) p told may =
+      elim may [
+        | inl same ↦
+            let P : Option Entry → Type 0 = λ x. Advances (Publishes issuer dsb n) (Some e) x in
+            subst P (sym same) (refl, same_published e (told e refl dsb))
+        | inr did ↦ did
+      ]
+
+  pub none_published : (o : Option Entry) → ((p : ℕ) → publishes dsb issuer n p ≡ false) → Advances (Publishes issuer dsb n) o o
+  none_published None none = tt
+  none_published (Some e) none = (refl, same_published e (λ p h. absurd (false≢true (sym (none p) ∙ h))))
+
+  -- where a DSB reached every PE no more is published
+  pub told_after : (e f : Entry) → issuer < n → ((p : ℕ) → p < n → publishes dsb issuer n p ≡ true) → Publishes issuer dsb n e f
+      → IsTold n issuer f.marks
+  told_after e f below all h dsb' p heard wrote =
+      h.1.seen p
+      ∙ left_true (publishes dsb issuer n p && pe_in e.marks.writers issuer) (pe_in e.marks.seen p)
+      (and_from (publishes dsb issuer n p) (pe_in e.marks.writers issuer) (all p (publishes_within dsb' issuer n p below heard))
+      (sym (h.1.writers issuer) ∙ wrote))
+
+  -- of any PE, where nothing more was published nothing more is
+  pub told_kept : (q : ℕ) (e f : Entry) → Publishes issuer dsb n e f → IsTold n q e.marks → IsTold n q f.marks
+  told_kept q e f h told dsb' p heard wrote =
+      h.1.seen p
+      ∙ right_true (publishes dsb issuer n p && pe_in e.marks.writers issuer) (pe_in e.marks.seen p)
+      (told dsb' p heard (sym (h.1.writers q) ∙ wrote))
+
+pub told_no_writer : (n q : ℕ) (marks : Marks) → pe_in marks.writers q ≡ false → IsTold n q marks
+told_no_writer n q marks none dsb p heard wrote = absurd (false≢true (sym none ∙ wrote))
+
+pub told_all_seen : (n q : ℕ) (marks : Marks) → q < n → ((p : ℕ) → p < n → pe_in marks.seen p ≡ true) → IsTold n q marks
+told_all_seen n q marks below all dsb p heard wrote = all p (publishes_within dsb q n p below heard)
+
+pub told_after_write : (n q : ℕ) (b marks : Marks) → pe_in b.writers q ≡ true → ((p : ℕ) → pe_in b.seen p ≡ true → pe_in marks.seen p ≡ true)
+    → IsTold n q b → IsTold n q marks
+told_after_write n q b marks wrote more told dsb p heard _ = more p (told dsb p heard wrote)
+
+pub slot_cases : (s : Option ℕ) (k : ℕ) → (s ≡ Some k) ⊎ (s ≡ Some k → ⊥)
+slot_cases None k = inr (λ h. cc)
+slot_cases (Some m) k =
+    elim (cases_eq m k) [
+      | inl same ↦ inl (ap (λ (x : ℕ). Some x) same)
+      | inr other ↦ inr (λ h. other (same_Some m k h))
+    ]

@@ -1,0 +1,48 @@
+use Rattle.std.proofs.Common.{ℕ, ◌<◌, arith, ◌∙◌, sym, slice_get, length}
+use Rattle.bbm_place_map.specs.Notes.{NotesAt}
+use Rattle.bbm_place_map.specs.Works.{Waits}
+use Rattle.bbm_place_map.proofs.Advancing.{done_more, rest_more, all_done, advance_by}
+use Rattle.bbm_place_map.proofs.Issued.{cover_read}
+use Rattle.bbm_place_map.proofs.Noting.{notes_at, waits_kept}
+use Rattle.bbm_place_map.proofs.Restless.{entry_there}
+use Rattle.bbm_place_map.proofs.issue.note.Goals as goal
+
+pub note_entry-requires-clause-ready : goal.note_entry-requires-clause-ready
+note_entry-requires-clause-ready c = λ e is cover.
+    c.requires.ready c.loop-k.k e (sym (c.loop-k.invariant.rest c.loop-k.k (omega arith)) ∙ is) _
+    (cover_read c.args.covers.now c.loop-k.k (omega arith)) cover
+
+pub loop-k-preserved : goal.loop-k-preserved
+loop-k-preserved c =
+    let k = c.loop-k.k in
+    let start = c.args.broken.now.items in
+    let mid = c.loop-k.broken.items in
+    let new = c.note_entry.new.broken.items in
+    let within : k < length mid = omega (arith, c.loop-k.invariant.len) in
+    let e = entry_there mid k within in
+    let f = c.note_entry.ensures.entry e.0 e.1 in
+    let R = NotesAt c.args.covers.now c.args.issuer c.args.reach c.args.broadcast in
+    let S = λ (m : ℕ). Waits c.note_entry.new.lists.items c.args.issuer in
+    let notes = notes_at c.args.covers.now k _ c.args.issuer c.args.reach c.args.broadcast e.0 f.0 (cover_read c.args.covers.now k (omega arith)) f.2 in
+    let waits = λ (m : ℕ) (below : m < k).
+    advance_by (Waits c.loop-k.lists.items c.args.issuer) (Waits c.note_entry.new.lists.items c.args.issuer)
+    (waits_kept c.loop-k.lists.items c.note_entry.new.lists.items c.args.issuer c.note_entry.ensures.kept) (slice_get start m) (slice_get mid m)
+    (c.loop-k.invariant.waits m below) in
+    record {
+      done = done_more R start mid new k e.0 f.0 c.loop-k.invariant.done c.loop-k.invariant.rest e.1 f.1 notes f.4;
+      waits = done_more S start mid new k e.0 f.0 waits c.loop-k.invariant.rest e.1 f.1 f.3 f.4;
+      kept = λ q j holds. c.note_entry.ensures.kept q j (c.loop-k.invariant.kept q j holds);
+      rest = rest_more R start mid new k e.0 f.0 c.loop-k.invariant.done c.loop-k.invariant.rest e.1 f.1 notes f.4;
+      len = c.note_entry.ensures.len ∙ c.loop-k.invariant.len;
+      room = c.note_entry.ensures.room ∙ c.loop-k.invariant.room;
+    }
+
+pub returns-clause-each : goal.returns-clause-each
+returns-clause-each c =
+    all_done (NotesAt c.args.covers.now c.args.issuer c.args.reach c.args.broadcast) c.args.broken.now.items c.loop-k.broken.items c.loop-k.k (omega arith)
+    c.loop-k.invariant.done c.loop-k.invariant.rest
+
+pub returns-clause-waits : goal.returns-clause-waits
+returns-clause-waits c =
+    all_done (λ m. Waits c.loop-k.lists.items c.args.issuer) c.args.broken.now.items c.loop-k.broken.items c.loop-k.k (omega arith)
+    c.loop-k.invariant.waits c.loop-k.invariant.rest

@@ -1,0 +1,50 @@
+use Rattle.std.proofs.Common.{◌≡◌, ℕ, Some, nat_eq, arith, ap, sym, subst, ◌∙◌, refl, slice_get}
+use Rattle.std.proofs.lemmas.Bool.{eq-eqb, ne_eqb, cond-true, cond-false}
+use Rattle.std.proofs.lemmas.Option.{same_Some}
+use Rattle.bbm_place_map.specs.Cells.{slot_in}
+use Rattle.bbm_place_map.specs.Each.{Advances, Publishes}
+use Rattle.bbm_place_map.specs.declared.entry.Entry.{Entry}
+use Rattle.bbm_place_map.proofs.Advancing.{at_both}
+use Rattle.bbm_place_map.proofs.Linking.{cell_within}
+use Rattle.bbm_place_map.proofs.Seats.{linked_seated, seats_changed, found}
+use Rattle.bbm_place_map.proofs.publish.publish_cell.Goals as goal
+
+pub publish_at-requires-clause-entry_within : goal.publish_at-requires-clause-entry_within
+publish_at-requires-clause-entry_within c =
+    omega (
+      arith,
+      cell_within c.args.broken.now.items c.in-Some.k c.args.cell (c.requires.linked.forth c.args.cell c.in-Some.k (sym c.slot_of.ensures ∙ c.in-Some.is)),
+    )
+
+at : (c : goal.After-publish_at) → slot_in c.args.cells.now c.args.cell ≡ Some c.in-Some.k
+at c = sym c.slot_of.ensures ∙ c.in-Some.is
+
+was : (c : goal.After-publish_at) → (e : Entry) × (slice_get c.args.broken.now.items c.in-Some.k ≡ Some e)
+was c = found c.args.broken.now.items c.in-Some.k c.args.cell (c.requires.linked.forth c.args.cell c.in-Some.k (at c))
+
+pub returns-in-Some-clause-linked : goal.returns-in-Some-clause-linked
+returns-in-Some-clause-linked c =
+    let e = was c in
+    let f = c.publish_at.ensures.entry e.0 e.1 in
+    linked_seated c.args.broken.now.items c.publish_at.new.broken.items
+    (seats_changed c.args.cells.now c.args.broken.now.items c.publish_at.new.broken.items e.0 f.0 c.args.cell c.in-Some.k c.requires.linked (at c) e.1 f.1 f.3)
+    c.args.cells.now c.publish_at.ensures.len c.requires.linked
+
+pub returns-in-Some-clause-here : goal.returns-in-Some-clause-here
+returns-in-Some-clause-here c = λ k is.
+    let e = was c in
+    let f = c.publish_at.ensures.entry e.0 e.1 in
+    let P : ℕ → Type 0 = λ x. Advances (Publishes c.args.issuer c.args.dsb c.args.n) (slice_get c.args.broken.now.items x) (slice_get c.publish_at.new.broken.items x) in
+    subst P (same_Some c.in-Some.k k (sym (at c) ∙ is))
+    (at_both (Publishes c.args.issuer c.args.dsb c.args.n) (slice_get c.args.broken.now.items c.in-Some.k) (Some e.0)
+    (slice_get c.publish_at.new.broken.items c.in-Some.k) (Some f.0) e.1
+    (f.3 c.in-Some.k ∙ cond-true (nat_eq c.in-Some.k c.in-Some.k) (Some f.0) (slice_get c.args.broken.now.items c.in-Some.k) (eq-eqb c.in-Some.k c.in-Some.k refl))
+    (f.1, f.2))
+
+pub returns-in-Some-clause-others : goal.returns-in-Some-clause-others
+returns-in-Some-clause-others c = λ k other.
+    let e = was c in
+    let f = c.publish_at.ensures.entry e.0 e.1 in
+    f.3 k
+    ∙ cond-false (nat_eq k c.in-Some.k) (Some f.0) (slice_get c.args.broken.now.items k)
+    (ne_eqb k c.in-Some.k (λ same. other (at c ∙ ap (λ (x : ℕ). Some x) (sym same))))

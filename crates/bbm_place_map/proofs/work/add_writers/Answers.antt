@@ -1,0 +1,17 @@
+use Rattle.std.proofs.Common.{◌≡◌, ℕ, true, arith, inl, inr, subst, sym}
+use Rattle.std.proofs.lemmas.Bool.{cases_eq}
+use Rattle.bbm_regimes.specs.PeMask.{pe_in}
+use Rattle.bbm_place_map.specs.Works.{HoldsFor}
+use Rattle.bbm_place_map.proofs.work.add_writers.Goals as goal
+
+pub loop-i-preserved : goal.loop-i-preserved
+loop-i-preserved c = record {
+  there = λ q below is.
+      elim (cases_eq q c.loop-i.i) [
+        | inl same ↦
+            let P : ℕ → Type 0 = λ x. pe_in c.args.writers x ≡ true → HoldsFor c.add_writer.new.lists.items x c.args.cell in
+            subst P (sym same) c.add_writer.ensures.there is
+        | inr other ↦ c.add_writer.ensures.kept q c.args.cell (c.loop-i.invariant.there q (omega arith) is)
+      ];
+  kept = λ q j holds. c.add_writer.ensures.kept q j (c.loop-i.invariant.kept q j holds);
+}

@@ -1,0 +1,84 @@
+-- What is left to do for DSBs: the lists of the cells that they visit.
+-- Source: project's own choice.
+use Rattle.std.specs.Prelude.{◌≡◌, ◌≤◌, ◌<◌, ◌⊎◌, ℕ, Bool, true, false, Option, Some, None, List, [], ◌∷◌, nat_eq, ◌||◌, Contains, slice_get}
+use Rattle.bbm_barriers.specs.declared.Dsb.{Dsb}
+use Rattle.bbm_barriers.specs.Options.{publishes}
+use Rattle.bbm_regimes.specs.EveryPe.{every_pe}
+use Rattle.bbm_regimes.specs.PeMask.{pe_in}
+use Rattle.bbm_entry_state.specs.Standing.{IsIdle}
+use Rattle.bbm_entry_state.specs.declared.marks.Marks.{Marks}
+use Rattle.bbm_place_map.specs.Each.{Advances, Publishes, Completes}
+use Rattle.bbm_place_map.specs.Entries.{pends_in}
+use Rattle.bbm_place_map.specs.Parts.{marks_in, pends_for}
+use Rattle.bbm_place_map.specs.declared.cell.Cell.{Cell}
+use Rattle.bbm_place_map.specs.declared.entry.Entry.{Entry}
+use Rattle.bbm_place_map.specs.declared.work.Work.{Work}
+use Rattle.bbm_place_map.specs.declared.work.WorkList.{WorkList}
+
+-- a list has the cell, or has given up
+abbrev pub Holds : WorkList → ℕ → Type 0
+Holds list j = (list.given_up ≡ true) ⊎ Contains list.cells.items j
+
+-- so does the list of a PE, if it has one
+abbrev pub HoldsFor : List WorkList → ℕ → ℕ → Type 0
+HoldsFor lists q j = (list : WorkList) → slice_get lists q ≡ Some list → Holds list j
+
+-- no DSB of the PE, in a log with n PEs, publishes more of a place with these marks
+abbrev pub IsTold : ℕ → ℕ → Marks → Type 0
+IsTold n q marks =
+    (dsb : Dsb) (p : ℕ) → publishes dsb q n p ≡ true → pe_in marks.writers q ≡ true → pe_in marks.seen p ≡ true
+
+-- the PE was a writer before, and no PE that had seen it then hasn't now
+abbrev pub IsToldAsBefore : Option Marks → Marks → ℕ → Type 0
+IsToldAsBefore before marks q =
+    (b : Marks) × (before ≡ Some b) × (pe_in b.writers q ≡ true)
+    × ((p : ℕ) → pe_in b.seen p ≡ true → pe_in marks.seen p ≡ true)
+
+-- whether each of the first n PEs is clean
+abbrev pub is_clean : ℕ → Marks → Bool
+is_clean n marks = every_pe n (λ p. pe_in marks.clean p)
+
+-- whether a list has the cell, or has given up
+abbrev pub is_in : List ℕ → ℕ → Bool
+is_in [] j = false
+is_in (x ∷ xs) j = nat_eq x j || is_in xs j
+
+abbrev pub holds : WorkList → ℕ → Bool
+holds list j = list.given_up || is_in list.cells.items j
+
+abbrev pub has : Option WorkList → ℕ → Bool
+has None j = true
+has (Some list) j = holds list j
+
+-- whether the list of a PE does, if it has one
+abbrev pub holds_for : List WorkList → ℕ → ℕ → Bool
+holds_for lists q j = has (slice_get lists q) j
+
+-- each list has given up, and nothing is settled
+abbrev pub GivesUp : Work → Type 0
+GivesUp work =
+    ((q j : ℕ) → HoldsFor work.unpublished.items q j) × ((q j : ℕ) → HoldsFor work.waiting.items q j)
+    × (work.settled ≡ true → ⊥)
+
+-- Where a list doesn't have a cell no DSB of its PE publishes, or answers, anything of the cell's place; and where all is
+-- settled no place waits to leave.
+pub record Listed (work : Work) (cells : List Cell) (entries : List Entry) : Type 0 where
+  pub some : 1 ≤ work.pes
+  pub most : work.pes ≤ 128
+  pub told : (q j : ℕ) (marks : Marks) → q < work.pes → marks_in cells entries j ≡ Some marks
+      → holds_for work.unpublished.items q j ≡ false → IsTold work.pes q marks
+  pub idle : (q j : ℕ) → holds_for work.waiting.items q j ≡ false → IsIdle (pends_for cells entries q j)
+  pub settled : work.settled ≡ true → (j : ℕ) (marks : Marks) → marks_in cells entries j ≡ Some marks
+      → is_clean work.pes marks ≡ false
+
+-- a DSB of the issuer published its writes, or nothing changed
+abbrev pub MayPublish : ℕ → Dsb → ℕ → Option Entry → Option Entry → Type 0
+MayPublish issuer dsb n old new = (new ≡ old) ⊎ Advances (Publishes issuer dsb n) old new
+
+-- a DSB of the issuer answered its TLBIs, or nothing changed
+abbrev pub MayComplete : ℕ → Dsb → ℕ → Option Entry → Option Entry → Type 0
+MayComplete issuer dsb n old new = (new ≡ old) ⊎ Completes issuer dsb n old new
+
+-- something may wait at an entry only where the list of the issuer has its cell, or something may have waited before
+abbrev pub Waits : List WorkList → ℕ → Entry → Entry → Type 0
+Waits lists issuer e f = HoldsFor lists issuer e.cell ⊎ (IsIdle (pends_in e.pends.items issuer) → IsIdle (pends_in f.pends.items issuer))

@@ -1,0 +1,241 @@
+//! Lists of the broken places that a DSB has to visit.
+
+ghost use Rattle.std.specs.Prelude.{◌≡◌, ◌≢◌, ◌≤◌, ◌<◌, ◌⊎◌, ℕ, Some, true, false, Contains, vec_len, length, slice_get};
+ghost use Rattle.bbm_regimes.specs.PeMask.{pe_in};
+ghost use Rattle.bbm_entry_state.specs.declared.marks.Marks.{Marks as TheMarks};
+ghost use Rattle.bbm_place_map.specs.States.{marks_of_state};
+ghost use Rattle.bbm_place_map.specs.Works.{GivesUp, Holds, HoldsFor, is_clean, IsToldAsBefore};
+
+use bbm_entry_state::{EntryState, Marks};
+use bbm_regimes::{Pe, PeMask};
+use std::alloc::Global;
+
+/// The numbers of cells at whose places something may be left to do, unless there were too many. A cell may stand here
+/// twice, and one with nothing left to do too. Source: project's own choice.
+#[derive(Drop)]
+pub struct WorkList {
+    /// Whether there may be something left at any other place, too.
+    pub given_up: bool,
+    /// The numbers of the cells.
+    pub cells: Vec<u32>,
+}
+
+/// What is left to do for DSBs, of each PE. Source: project's own choice.
+#[derive(Drop)]
+pub struct Work {
+    /// The number of PEs of the log.
+    pub pes: u8,
+    /// Whether it is known that no place is broken whose every PE is clean.
+    pub settled: bool,
+    /// Of each PE, where it wrote and some PE hasn't seen it.
+    pub unpublished: Vec<WorkList>,
+    /// Of each PE, where something waits for the answers of its TLBIs.
+    pub waiting: Vec<WorkList>,
+}
+
+/// Nothing is left to do. It takes no memory.
+pub fn no_work(alloc: Global) -> Work
+    ensures pes { result.pes ≡ 1 }
+{
+    Work {
+        pes: 1,
+        settled: true,
+        unpublished: Vec::new(alloc),
+        waiting: Vec::new(alloc),
+    }
+}
+
+/// Empties a list, which speaks for all places or has given up.
+pub fn restart(list: &mut WorkList, given_up: bool)
+    ensures { list.new.given_up ≡ given_up }
+{
+    list.given_up = given_up;
+    list.cells.clear();
+}
+
+/// Adds a cell, or gives up where the list is long beside the number of broken places, or there is no room for it.
+pub fn add(list: &mut WorkList, cell: u32, broken: usize)
+    ensures there { Holds list.new cell }
+    ensures kept { (j : ℕ) → Holds list.old j → Holds list.new j }
+{
+    let count = list.cells.len();
+    if count >= 64 && count / 2 >= broken {
+        list.given_up = true;
+    } else {
+        match list.cells.push(cell) {
+            Ok(()) => {}
+            Err(_) => list.given_up = true,
+        }
+    }
+}
+
+/// Adds a cell to the list of a PE.
+pub fn add_for(lists: &mut Vec<WorkList>, pe: Pe, cell: u32, broken: usize)
+    ensures there { HoldsFor lists.new.items pe cell }
+    ensures kept { (q j : ℕ) → HoldsFor lists.old.items q j → HoldsFor lists.new.items q j }
+{
+    let q = pe.get() as usize;
+    if q < lists.len() {
+        let list = &mut lists[q];
+        if !list.given_up {
+            add(list, cell, broken);
+        }
+    }
+}
+
+// The writers of which the list must hear, where a place with the marks before has these now.
+fn fresh_writers(before: &Option<Marks>, marks: &Marks) -> PeMask
+    ensures { (q : ℕ) → pe_in result q ≡ false
+        → (pe_in marks.now.writers q ≡ false) ⊎ IsToldAsBefore before.now marks.now q }
+{
+    match before {
+        Some(old) => {
+            if old.seen.minus(marks.seen).is_empty() {
+                marks.writers.minus(old.writers)
+            } else {
+                marks.writers
+            }
+        }
+        None => marks.writers,
+    }
+}
+
+// Adds a cell to the list of the PE with this number, where it is among these.
+fn add_writer(lists: &mut Vec<WorkList>, writers: PeMask, i: u8, cell: u32, broken: usize)
+    requires { i < 128 }
+    ensures there { pe_in writers i ≡ true → HoldsFor lists.new.items i cell }
+    ensures kept { (q j : ℕ) → HoldsFor lists.old.items q j → HoldsFor lists.new.items q j }
+{
+    if let Some(pe) = Pe::new(i) {
+        if writers.has(pe) {
+            add_for(lists, pe, cell, broken);
+        }
+    }
+}
+
+// Adds a cell to the lists of these PEs, of the first `pes`.
+fn add_writers(lists: &mut Vec<WorkList>, writers: PeMask, pes: u8, cell: u32, broken: usize)
+    requires { pes ≤ 128 }
+    ensures there { (q : ℕ) → q < pes → pe_in writers q ≡ true → HoldsFor lists.new.items q cell }
+    ensures kept { (q j : ℕ) → HoldsFor lists.old.items q j → HoldsFor lists.new.items q j }
+{
+    for i in 0..pes {
+        add_writer(lists, writers, i, cell, broken);
+    }
+}
+
+// Adds the cell of a place that is broken with these marks, with the marks before if it was broken.
+fn add_broken(
+    lists: &mut Vec<WorkList>,
+    pes: u8,
+    cell: u32,
+    before: &Option<Marks>,
+    marks: &Marks,
+    broken: usize,
+)
+    requires { pes ≤ 128 }
+    ensures told { (q : ℕ) → q < pes → HoldsFor lists.new.items q cell
+        ⊎ ((pe_in marks.now.writers q ≡ false) ⊎ IsToldAsBefore before.now marks.now q) }
+    ensures kept { (q j : ℕ) → HoldsFor lists.old.items q j → HoldsFor lists.new.items q j }
+{
+    let fresh = fresh_writers(before, marks);
+    if !fresh.is_empty() {
+        add_writers(lists, fresh, pes, cell, broken);
+    }
+}
+
+/// The place of a cell, with the marks before if it was broken, is broken with these now.
+pub fn note_write(work: &mut Work, cell: u32, before: &Option<Marks>, marks: &Marks, broken: usize)
+    requires some { 1 ≤ work.old.pes }
+    requires most { work.old.pes ≤ 128 }
+    ensures pes { work.new.pes ≡ work.old.pes }
+    ensures told { (q : ℕ) → q < work.old.pes → HoldsFor work.new.unpublished.items q cell
+        ⊎ ((pe_in marks.now.writers q ≡ false) ⊎ IsToldAsBefore before.now marks.now q) }
+    ensures kept { (q j : ℕ) → HoldsFor work.old.unpublished.items q j → HoldsFor work.new.unpublished.items q j }
+    ensures waiting { work.new.waiting.items ≡ work.old.waiting.items }
+    ensures settled { work.new.settled ≡ true → work.old.settled ≡ true }
+    ensures unclean { work.new.settled ≡ true → is_clean work.old.pes marks.now ≡ false }
+{
+    let pes = work.pes;
+    add_broken(&mut work.unpublished, pes, cell, before, marks, broken);
+    if marks.is_clean(work.pes) {
+        work.settled = false;
+    }
+}
+
+/// A cell's place is written, with the marks before if it was broken, and this state after.
+pub fn note_state(
+    work: &mut Work,
+    cell: u32,
+    before: &Option<Marks>,
+    state: &EntryState,
+    broken: usize,
+)
+    requires some { 1 ≤ work.old.pes }
+    requires most { work.old.pes ≤ 128 }
+    ensures pes { work.new.pes ≡ work.old.pes }
+    ensures told { (marks : TheMarks) → marks_of_state state.now ≡ Some marks → (q : ℕ) → q < work.old.pes
+        → HoldsFor work.new.unpublished.items q cell
+        ⊎ ((pe_in marks.writers q ≡ false) ⊎ IsToldAsBefore before.now marks q) }
+    ensures kept { (q j : ℕ) → HoldsFor work.old.unpublished.items q j → HoldsFor work.new.unpublished.items q j }
+    ensures waiting { work.new.waiting.items ≡ work.old.waiting.items }
+    ensures settled { work.new.settled ≡ true → work.old.settled ≡ true }
+    ensures unclean { (marks : TheMarks) → marks_of_state state.now ≡ Some marks → work.new.settled ≡ true
+        → is_clean work.old.pes marks ≡ false }
+{
+    match state {
+        EntryState::Broken { marks } => note_write(work, cell, before, marks, broken),
+        EntryState::Clean => {}
+        EntryState::Live { .. } => {}
+    }
+}
+
+// Restarts each list.
+fn restart_all(lists: &mut Vec<WorkList>, given_up: bool)
+    ensures { given_up ≡ true → (q j : ℕ) → HoldsFor lists.new.items q j }
+{
+    for k in 0..lists.len() {
+        restart(&mut lists[k], given_up);
+    }
+}
+
+// The log has `n` PEs. The lists speak for all places, or each has given up.
+fn renew(work: &mut Work, n: u8, given_up: bool)
+    ensures pes { work.new.pes ≡ n }
+    ensures given_up { given_up ≡ true → GivesUp work.new }
+{
+    work.pes = n;
+    work.settled = !given_up;
+    restart_all(&mut work.unpublished, given_up);
+    restart_all(&mut work.waiting, given_up);
+}
+
+/// The log has `n` PEs, and so many places are broken. Where it had another number of PEs before nothing is known of these.
+pub fn begin(work: &mut Work, n: u8, broken: usize)
+    ensures pes { work.new.pes ≡ n }
+    ensures kept { (work.new ≡ work.old) ⊎ ((broken ≡ 0) ⊎ GivesUp work.new) }
+{
+    if work.pes != n {
+        if broken == 0 {
+            renew(work, n, false);
+        } else {
+            renew(work, n, true);
+        }
+    }
+}
+
+/// Makes a list for each PE that has none, as far as there is memory. A PE without one visits all broken places.
+pub fn make_lists(lists: &mut Vec<WorkList>, alloc: Global)
+    ensures { (q j : ℕ) → HoldsFor lists.old.items q j → HoldsFor lists.new.items q j }
+{
+    for _pe in lists.len()..128 {
+        let list = WorkList {
+            given_up: true,
+            cells: Vec::new(alloc),
+        };
+        match lists.push(list) {
+            Ok(()) => {}
+            Err(_) => return,
+        }
+    }
+}
