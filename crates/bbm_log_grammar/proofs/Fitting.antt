@@ -6,7 +6,7 @@ use Rattle.std.specs.Char.{digit_value}
 use Rattle.bbm_log_grammar.specs.Digits.{is_lower_digit}
 use Rattle.bbm_log_grammar.specs.declared.numbers.TheConstants.{HEX_VALUES}
 
-pub fits : (i n : ℕ) → i < 15 → n < 16 ^ i → n < 1152921504606846976
+pub fits : (i n : ℕ) → i < 15 → n < 16 ^ i → n < 2 ^ 60
 fits i n few h = let low : i ≤ 14 = omega arith in let most : 16 ^ i ≤ 16 ^ 14 = pow-le-pow_right (omega arith) low in omega (arith, h, most)
 
 pub grows : (i n more : ℕ) → n < 16 ^ i → more < n * 16 + 16 → more < 16 ^ (i + 1)

@@ -28,7 +28,7 @@ fn decimal_run<'a>(line: &'a [u8]) -> Option<(u64, Fields<'a>)>
     Some((n, Fields::none()))
 }
 
-/// The number n with all hex digits more up to the first space, and the fields after it.
+/// The number `start` with all hex digits more up to the first space, and the fields after it.
 #[inline(never)]
 fn hex_rest<'a>(start: u64, line: &'a [u8]) -> Option<(u64, Fields<'a>)>
     ensures { result ≡ run 16 start line.now }

@@ -1,6 +1,6 @@
 //! The two spellings of a number.
 
-ghost use Rattle.std.specs.Prelude.{◌≡◌, ◌+◌, ◌*◌, ◌<◌, if◌then◌else◌, Some, None, IfSome};
+ghost use Rattle.std.specs.Prelude.{◌≡◌, ◌+◌, ◌*◌, ◌^◌, ◌<◌, if◌then◌else◌, Some, None, IfSome};
 ghost use Rattle.std.specs.Char.{digit_value};
 ghost use Rattle.bbm_events.specs.Spelling.{decimal_value, hex_value};
 ghost use Rattle.bbm_log_grammar.specs.Digits as digits;
@@ -58,7 +58,7 @@ pub(crate) fn next_decimal(n: u64, byte: u8) -> Option<u64>
 /// The number, which is below 2^60, with one hex digit more.
 #[inline]
 pub(crate) fn low_hex(n: u64, byte: u8) -> Option<u64>
-    requires { n < 1152921504606846976 }
+    requires { n < 2 ^ 60 }
     ensures number { result ≡ digits.next_number 16 n byte }
     ensures grows { IfSome result (λ more. more < n * 16 + 16) }
 {
