@@ -2,6 +2,9 @@ pub mod WorldFaults
 pub mod Marks
 pub mod Numerals
 pub mod Splitting
+pub mod Passing
+pub mod Fronts
+pub mod Begun
 pub mod Parts
 pub mod Short
 pub mod Spelled

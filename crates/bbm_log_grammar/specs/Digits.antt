@@ -1,8 +1,8 @@
 -- A number, digit by digit.
-use Rattle.std.specs.Prelude.{ℕ, ◌+◌, ◌*◌, ◌^◌, List, [], ◌∷◌, Bool, false, ◌&&◌, nat_lt, ◌==◌, if◌then◌else◌, Option}
+use Rattle.std.specs.Prelude.{ℕ, ◌+◌, ◌*◌, ◌^◌, List, [], ◌∷◌, ◌++◌, Bool, false, ◌&&◌, nat_lt, ◌==◌, if◌then◌else◌, Option}
 use Rattle.std.specs.Prelude.{Some, None}
 use Rattle.std.specs.Char.{digit_value}
-use Rattle.std.specs.Fmt.{digit_glyph}
+use Rattle.std.specs.Fmt.{digit_glyph, digits}
 use Rattle.std.specs.Option.{option_and_then}
 
 -- the byte is a lower-case digit in the base
@@ -25,3 +25,7 @@ abbrev pub number_of : ℕ → List ℕ → Option ℕ
 number_of base [] = None
 number_of base (byte ∷ []) = number_after base 0 (byte ∷ [])
 number_of base (byte ∷ next ∷ bytes) = if byte == 48 then None else number_after base 0 (byte ∷ next ∷ bytes)
+
+-- the digits of a front, none of 0, and then the digits that follow it
+abbrev pub led : ℕ → List ℕ → List ℕ
+led front behind = if front == 0 then behind else digits 16 false front ++ behind

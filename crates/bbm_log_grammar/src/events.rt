@@ -8,8 +8,8 @@ ghost use Rattle.bbm_events.specs.Lines as lines;
 ghost use Rattle.bbm_events.specs.declared.keyword.Keyword.TheVariants as first;
 
 use crate::fields::Fields;
+use crate::firsts::first_keyword;
 use crate::readers::*;
-use crate::words::keyword_of;
 use bbm_events::{Event, Header, Item, Keyword, Malformed, law_item_causes, law_item_fits};
 
 fn init_line(header: &Header, fields: Fields) -> Result<Item, Malformed>
@@ -149,21 +149,12 @@ fn line_after(header: &Header, keyword: Keyword, fields: Fields) -> Result<Item,
     }
 }
 
-/// The first word of a line.
-fn keyword_field<'a>(fields: Fields<'a>) -> Result<(Keyword, Fields<'a>), Malformed>
-    ensures { result ≡ lines.keyword_field fields.entry }
-{
-    let (text, rest) = fields.next_or(Malformed::MissingField)?;
-    let keyword = keyword_of(text).ok_or(Malformed::UnknownWord)?;
-    Ok((keyword, rest))
-}
-
 /// The item that a line spells, or the first cause for which it spells none.
 #[tactic(auto, unfolding(bbm_events::specs::Lines::item_of))]
 fn item_on(header: &Header, line: &[u8]) -> Result<Item, Malformed>
     ensures { result ≡ item_of header.now line.now }
 {
-    let (keyword, fields) = keyword_field(Fields::of(line))?;
+    let (keyword, fields) = first_keyword(line)?;
     line_after(header, keyword, fields)
 }
 

@@ -3,8 +3,11 @@
 ghost use Rattle.std.specs.Prelude.{◌≡◌, ℕ, [], ◌∷◌, ◌==◌, MatchOption, MatchResult, slice_get};
 ghost use Rattle.std.specs.List.{position};
 ghost use Rattle.std.specs.Option.{option_copied};
-ghost use Rattle.bbm_events.specs.Spelling.{fields};
+ghost use Rattle.bbm_events.specs.Spelling.{decimal_value, fields, hex_value};
+ghost use Rattle.bbm_events.specs.Lines as lines;
 
+use crate::firsts::{first_decimal, first_dsb, first_hex};
+use bbm_barriers::Dsb;
 use bbm_events::Malformed;
 use std::marker::Model;
 
@@ -31,13 +34,54 @@ fn first_space(line: &[u8]) -> Option<usize>
     line.iter().position(|byte| *byte == b' ')
 }
 
-#[tactic(auto, using(crate::proofs::Splitting::splitting))]
+#[tactic(auto, using(crate::proofs::Splitting::splitting, crate::proofs::Fronts::next_of))]
 impl<'a> Fields<'a> {
     /// All fields of a line.
     pub(crate) fn of(line: &'a [u8]) -> Fields<'a>
         ensures { result ≡ fields line.now }
     {
         Fields { rest: Some(line) }
+    }
+
+    /// No field.
+    pub(crate) fn none() -> Fields<'a>
+        ensures { result ≡ [] }
+    {
+        Fields { rest: None }
+    }
+
+    /// The option of a barrier that the next field is, and the fields after it.
+    #[inline(always)]
+    pub(crate) fn dsb(self) -> Result<(Dsb, Fields<'a>), Malformed>
+        ensures { result ≡ lines.dsb_field self.entry }
+    {
+        first_dsb(self.rest.ok_or(Malformed::MissingField)?)
+    }
+
+    /// The number in decimal that the next field spells, and the fields after it; the first cause where no field is
+    /// left, and the other where it spells none.
+    #[inline]
+    pub(crate) fn decimal_or(
+        self,
+        absent: Malformed,
+        unreadable: Malformed,
+    ) -> Result<(u64, Fields<'a>), Malformed>
+        ensures { result ≡ lines.next_field absent unreadable decimal_value self.entry }
+    {
+        first_decimal(self.rest.ok_or(absent)?).ok_or(unreadable)
+    }
+
+    /// The number in hex that the next field spells, and the fields after it; the first cause where no field is
+    /// left, and the other where it spells none.
+    #[inline]
+    pub(crate) fn hex_or(
+        self,
+        absent: Malformed,
+        unreadable: Malformed,
+    ) -> Result<(u64, Fields<'a>), Malformed>
+        ensures { result ≡ lines.next_field absent unreadable hex_value self.entry }
+    {
+        first_hex(self.rest.ok_or(absent)?).ok_or(unreadable)
     }
 
     /// The next field, and those after it; None where no field is left.

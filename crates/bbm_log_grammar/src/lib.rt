@@ -3,6 +3,7 @@
 
 mod events;
 mod fields;
+mod firsts;
 mod headers;
 mod machine;
 mod machine_writing;

@@ -16,20 +16,22 @@ use bbm_events::{
 use bbm_regimes::Kind;
 
 /// The VMID or ASID of an entry of the kind.
+#[tactic(auto, using(crate::proofs::Passing::passing_fields))]
 fn tag_field<'a>(kind: Kind, fields: Fields<'a>) -> Result<(u16, Fields<'a>), Malformed>
     ensures { result ≡ machine.tag_field kind fields.entry }
 {
-    let (text, rest) = fields.next_or(Malformed::MissingField)?;
-    let value = tag_of(kind, text).ok_or(Malformed::BadNumber)?;
+    let (number, rest) = fields.decimal_or(Malformed::MissingField, Malformed::BadNumber)?;
+    let value = tag_of(kind, number).ok_or(Malformed::BadNumber)?;
     Ok((value, rest))
 }
 
 /// The number of an entry.
+#[tactic(auto, using(crate::proofs::Passing::passing_fields))]
 fn entry_field<'a>(fields: Fields<'a>) -> Result<(u32, Fields<'a>), Malformed>
     ensures { result ≡ machine.entry_field fields.entry }
 {
-    let (text, rest) = fields.next_or(Malformed::MissingField)?;
-    let value = entry_of(text).ok_or(Malformed::BadNumber)?;
+    let (number, rest) = fields.decimal_or(Malformed::MissingField, Malformed::BadNumber)?;
+    let value = entry_of(number).ok_or(Malformed::BadNumber)?;
     Ok((value, rest))
 }
 

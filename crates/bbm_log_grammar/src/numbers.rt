@@ -10,10 +10,8 @@ ghost use Rattle.bbm_log_grammar.specs.Digits as digits;
 fn decimal_digit(byte: u8) -> Option<u64>
     ensures { result ≡ (if digits.is_lower_digit 10 byte then Some (digit_value byte) else None) }
 {
-    match byte {
-        b'0'..=b'9' => Some((byte - b'0') as u64),
-        _ => None,
-    }
+    let digit = byte.wrapping_sub(b'0');
+    if digit < 10 { Some(digit as u64) } else { None }
 }
 
 /// The value of a lower-case hex digit, 0 to 15.
@@ -21,16 +19,21 @@ fn decimal_digit(byte: u8) -> Option<u64>
 fn hex_digit(byte: u8) -> Option<u64>
     ensures { result ≡ (if digits.is_lower_digit 16 byte then Some (digit_value byte) else None) }
 {
-    match byte {
-        b'0'..=b'9' => Some((byte - b'0') as u64),
-        b'a'..=b'f' => Some((byte - b'a' + 10) as u64),
-        _ => None,
+    let digit = byte.wrapping_sub(b'0');
+    if digit < 10 {
+        return Some(digit as u64);
+    }
+    let letter = byte.wrapping_sub(b'a');
+    if letter < 6 {
+        Some(letter as u64 + 10)
+    } else {
+        None
     }
 }
 
 /// The number with one decimal digit more.
 #[inline]
-fn next_decimal(n: u64, byte: u8) -> Option<u64>
+pub(crate) fn next_decimal(n: u64, byte: u8) -> Option<u64>
     ensures { result ≡ digits.next_number 10 n byte }
 {
     let value = decimal_digit(byte)?;
@@ -39,7 +42,7 @@ fn next_decimal(n: u64, byte: u8) -> Option<u64>
 
 /// The number with one hex digit more.
 #[inline]
-fn next_hex(n: u64, byte: u8) -> Option<u64>
+pub(crate) fn next_hex(n: u64, byte: u8) -> Option<u64>
     ensures { result ≡ digits.next_number 16 n byte }
 {
     let value = hex_digit(byte)?;

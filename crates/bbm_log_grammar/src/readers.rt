@@ -4,47 +4,48 @@ ghost use Rattle.std.specs.Prelude.{◌≡◌, ◌∷◌};
 ghost use Rattle.bbm_events.specs.Lines as lines;
 
 use crate::fields::Fields;
-use crate::numbers::read_hex;
-use crate::values::{
-    count_of, is_marked, label_of, lock_of, page_of, pe_of, place_of, root_lock_of, root_page_of,
-};
-use crate::words::{dsb_of, kind_of, op_of, reg_of};
+use crate::values::{count_of, is_marked, label_of, lock_of, pe_of, root_lock_of, root_page_of};
+use crate::words::{kind_of, op_of, reg_of};
 use bbm_barriers::Dsb;
 use bbm_events::{Event, Header, Item, Label, Malformed, has_op};
 use bbm_regimes::{Kind, Page, Pe, Place, Reg};
 use bbm_tlbi_scope::TlbiOp;
 
 /// A PE.
+#[tactic(auto, using(crate::proofs::Passing::passing_fields))]
 pub(crate) fn pe_field<'a>(
     header: &Header,
     fields: Fields<'a>,
 ) -> Result<(Pe, Fields<'a>), Malformed>
     ensures { result ≡ lines.pe_field header.now fields.entry }
 {
-    let (text, rest) = fields.next_or(Malformed::MissingField)?;
-    let value = pe_of(header, text).ok_or(Malformed::BadPe)?;
+    let (number, rest) = fields.decimal_or(Malformed::MissingField, Malformed::BadPe)?;
+    let value = pe_of(header, number).ok_or(Malformed::BadPe)?;
     Ok((value, rest))
 }
 
 /// A page.
+#[tactic(auto, using(crate::proofs::Passing::passing_fields))]
 pub(crate) fn page_field<'a>(fields: Fields<'a>) -> Result<(Page, Fields<'a>), Malformed>
     ensures { result ≡ lines.page_field fields.entry }
 {
-    let (text, rest) = fields.next_or(Malformed::MissingField)?;
-    let value = page_of(text).ok_or(Malformed::BadAddress)?;
+    let (number, rest) = fields.hex_or(Malformed::MissingField, Malformed::BadAddress)?;
+    let value = Page::new(number).ok_or(Malformed::BadAddress)?;
     Ok((value, rest))
 }
 
 /// A place.
+#[tactic(auto, using(crate::proofs::Passing::passing_fields))]
 pub(crate) fn place_field<'a>(fields: Fields<'a>) -> Result<(Place, Fields<'a>), Malformed>
     ensures { result ≡ lines.place_field fields.entry }
 {
-    let (text, rest) = fields.next_or(Malformed::MissingField)?;
-    let value = place_of(text).ok_or(Malformed::BadAddress)?;
+    let (number, rest) = fields.hex_or(Malformed::MissingField, Malformed::BadAddress)?;
+    let value = Place::new(number).ok_or(Malformed::BadAddress)?;
     Ok((value, rest))
 }
 
 /// The first page of a root of the kind.
+#[tactic(auto, using(crate::proofs::Passing::passing_fields))]
 pub(crate) fn root_page_field<'a>(
     header: &Header,
     kind: Kind,
@@ -52,8 +53,8 @@ pub(crate) fn root_page_field<'a>(
 ) -> Result<(Page, Fields<'a>), Malformed>
     ensures { result ≡ lines.root_page_field header.now kind fields.entry }
 {
-    let (text, rest) = fields.next_or(Malformed::MissingField)?;
-    let value = root_page_of(header, kind, text).ok_or(Malformed::BadAddress)?;
+    let (number, rest) = fields.hex_or(Malformed::MissingField, Malformed::BadAddress)?;
+    let value = root_page_of(header, kind, number).ok_or(Malformed::BadAddress)?;
     Ok((value, rest))
 }
 
@@ -62,17 +63,16 @@ pub(crate) fn root_page_field<'a>(
 pub(crate) fn value_field<'a>(fields: Fields<'a>) -> Result<(u64, Fields<'a>), Malformed>
     ensures { result ≡ lines.value_field fields.entry }
 {
-    let (text, rest) = fields.next_or(Malformed::MissingField)?;
-    let value = read_hex(text).ok_or(Malformed::BadNumber)?;
-    Ok((value, rest))
+    fields.hex_or(Malformed::MissingField, Malformed::BadNumber)
 }
 
 /// A lock.
+#[tactic(auto, using(crate::proofs::Passing::passing_fields))]
 pub(crate) fn lock_field<'a>(fields: Fields<'a>) -> Result<(u16, Fields<'a>), Malformed>
     ensures { result ≡ lines.lock_field fields.entry }
 {
-    let (text, rest) = fields.next_or(Malformed::MissingField)?;
-    let value = lock_of(text).ok_or(Malformed::BadNumber)?;
+    let (number, rest) = fields.decimal_or(Malformed::MissingField, Malformed::BadNumber)?;
+    let value = lock_of(number).ok_or(Malformed::BadNumber)?;
     Ok((value, rest))
 }
 
@@ -88,11 +88,12 @@ pub(crate) fn root_lock_field<'a>(
 }
 
 /// A number of event lines.
+#[tactic(auto, using(crate::proofs::Passing::passing_fields))]
 pub(crate) fn count_field<'a>(fields: Fields<'a>) -> Result<(u32, Fields<'a>), Malformed>
     ensures { result ≡ lines.count_field fields.entry }
 {
-    let (text, rest) = fields.next_or(Malformed::MissingField)?;
-    let value = count_of(text).ok_or(Malformed::BadNumber)?;
+    let (number, rest) = fields.decimal_or(Malformed::MissingField, Malformed::BadNumber)?;
+    let value = count_of(number).ok_or(Malformed::BadNumber)?;
     Ok((value, rest))
 }
 
@@ -110,9 +111,7 @@ pub(crate) fn kind_field<'a>(fields: Fields<'a>) -> Result<(Kind, Fields<'a>), M
 pub(crate) fn dsb_field<'a>(fields: Fields<'a>) -> Result<(Dsb, Fields<'a>), Malformed>
     ensures { result ≡ lines.dsb_field fields.entry }
 {
-    let (text, rest) = fields.next_or(Malformed::MissingField)?;
-    let value = dsb_of(text).ok_or(Malformed::UnknownWord)?;
-    Ok((value, rest))
+    fields.dsb()
 }
 
 /// The operation of a TLBI.

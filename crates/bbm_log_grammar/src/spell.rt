@@ -1,6 +1,6 @@
 //! Words and numbers, appended to a line of at most 200 bytes.
 
-ghost use Rattle.std.specs.Prelude.{◌≡◌, ◌+◌, ◌≤◌, ◌<◌, false, ◌++◌, length, decimal};
+ghost use Rattle.std.specs.Prelude.{◌≡◌, ◌+◌, ◌≤◌, ◌<◌, false, ◌++◌, length, decimal, drop};
 ghost use Rattle.std.specs.Fmt.{digits, digit_glyph};
 ghost use Rattle.arrayvec.specs.ArrayVec.{array_vec_len};
 ghost use Rattle.bbm_events.specs.Spelling.{hex};
@@ -9,6 +9,7 @@ use arrayvec::ArrayVec;
 use itoa::Buffer;
 
 /// Appends the bytes of the piece, for which there has to be room.
+#[inline]
 pub fn add(out: &mut ArrayVec<u8, 200>, piece: &[u8])
     requires room { array_vec_len out.old + length piece.now ≤ 200 }
     ensures appended { out.new.items ≡ out.old.items ++ piece.now }
@@ -17,8 +18,9 @@ pub fn add(out: &mut ArrayVec<u8, 200>, piece: &[u8])
     let _fits = out.try_extend_from_slice(piece);
 }
 
-/// Appends the one decimal spelling of the number, which has at most 20 digits.
-pub fn add_decimal(out: &mut ArrayVec<u8, 200>, n: u64)
+// Appends the one decimal spelling of the number, whatever its length.
+#[inline(never)]
+fn add_any_decimal(out: &mut ArrayVec<u8, 200>, n: u64)
     requires room { array_vec_len out.old + 20 ≤ 200 }
     ensures appended { out.new.items ≡ out.old.items ++ decimal n }
     ensures longer { array_vec_len out.new ≤ array_vec_len out.old + 20 }
@@ -27,41 +29,86 @@ pub fn add_decimal(out: &mut ArrayVec<u8, 200>, n: u64)
     add(out, buffer.format(n).as_bytes());
 }
 
+/// Appends the one decimal spelling of the number, which has at most 20 digits.
+#[inline]
+#[tactic(auto, using(crate::proofs::Spelled::decimal_single))]
+pub fn add_decimal(out: &mut ArrayVec<u8, 200>, n: u64)
+    requires room { array_vec_len out.old + 20 ≤ 200 }
+    ensures appended { out.new.items ≡ out.old.items ++ decimal n }
+    ensures longer { array_vec_len out.new ≤ array_vec_len out.old + 20 }
+{
+    if n < 10 {
+        out.push(b'0' + n as u8);
+    } else {
+        add_any_decimal(out, n);
+    }
+}
+
 /// The lower-case digit of a value below 16.
+#[inline]
 fn hex_digit(value: u8) -> u8
     requires { value < 16 }
     ensures { result ≡ digit_glyph false value }
 {
-    if value < 10 {
-        b'0' + value
-    } else {
-        b'a' + (value - 10)
+    match value {
+        0 => b'0',
+        1 => b'1',
+        2 => b'2',
+        3 => b'3',
+        4 => b'4',
+        5 => b'5',
+        6 => b'6',
+        7 => b'7',
+        8 => b'8',
+        9 => b'9',
+        10 => b'a',
+        11 => b'b',
+        12 => b'c',
+        13 => b'd',
+        14 => b'e',
+        _ => b'f',
     }
 }
 
-// The digits of the number in base 16, without leading zeros: those of its front, and then its last.
-#[tactic(auto, using(crate::proofs::Spelled::hex_small_length, crate::proofs::Spelled::hex_more_length, crate::proofs::Spelled::hex_pushed_small, crate::proofs::Spelled::hex_pushed_more))]
-fn add_hex_digits(out: &mut ArrayVec<u8, 200>, n: u64)
-    requires room { array_vec_len out.old + length (digits 16 false n) ≤ 200 }
-    ensures appended { out.new.items ≡ out.old.items ++ digits 16 false n }
-    ensures longer { array_vec_len out.new ≡ array_vec_len out.old + length (digits 16 false n) }
+// Writes the digits of the number in base 16, without leading zeros, at the end of `text`; answers where they begin.
+#[inline]
+#[tactic(auto, using(crate::proofs::Spelled::hex_text))]
+fn put_digits(text: &mut [u8; 18], n: u64) -> usize
+    ensures room { 2 ≤ result }
+    ensures within { result ≤ 17 }
+    ensures digits { drop result text.new ≡ digits 16 false n }
 {
-    let last = hex_digit((n % 16) as u8);
-    if n < 16 {
-        out.push(last);
-    } else {
-        add_hex_digits(out, n / 16);
-        out.push(last);
+    let mut at = 17;
+    text[17] = hex_digit((n % 16) as u8);
+    let mut front = n / 16;
+    while front > 0 {
+        at -= 1;
+        text[at] = hex_digit((front % 16) as u8);
+        front /= 16;
     }
+    at
+}
+
+// Writes the one hex spelling of the number at the end of `text`; answers where it begins.
+#[inline]
+#[tactic(auto, using(crate::proofs::Spelled::marked))]
+fn put_hex(text: &mut [u8; 18], n: u64) -> usize
+    ensures within { result ≤ 17 }
+    ensures spelled { drop result text.new ≡ hex n }
+{
+    let at = put_digits(text, n);
+    text[at - 1] = b'x';
+    text[at - 2] = b'0';
+    at - 2
 }
 
 /// Appends the one hex spelling of the number, `0x` and at most 16 digits.
-#[tactic(auto, using(crate::proofs::Spelled::hex_length))]
 pub fn add_hex(out: &mut ArrayVec<u8, 200>, n: u64)
     requires room { array_vec_len out.old + 18 ≤ 200 }
     ensures appended { out.new.items ≡ out.old.items ++ hex n }
     ensures longer { array_vec_len out.new ≤ array_vec_len out.old + 18 }
 {
-    add(out, b"0x");
-    add_hex_digits(out, n);
+    let mut text = [0; 18];
+    let at = put_hex(&mut text, n);
+    add(out, &text[at..]);
 }

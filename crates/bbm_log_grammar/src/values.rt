@@ -9,7 +9,7 @@ ghost use Rattle.bbm_events.specs.Machine as machine;
 
 use crate::numbers::{read_decimal, read_hex};
 use bbm_events::{Header, Label, page_count};
-use bbm_regimes::{Kind, Page, Pe, Place};
+use bbm_regimes::{Kind, Page, Pe};
 
 /// Locks have numbers below 1,024.
 const LOCKS: u64 = 1024;
@@ -29,11 +29,10 @@ pub(crate) fn version_of(field: &[u8]) -> Option<u8>
     }
 }
 
-/// A PE of the log.
-pub(crate) fn pe_of(header: &Header, field: &[u8]) -> Option<Pe>
-    ensures { result ≡ lines.passing (fits.is_pe header.now) (decimal_value field.now) }
+/// The PE of the log with this number.
+pub(crate) fn pe_of(header: &Header, number: u64) -> Option<Pe>
+    ensures { result ≡ lines.passing (fits.is_pe header.now) (Some number) }
 {
-    let number = read_decimal(field)?;
     if number < header.pes as u64 {
         Pe::new(number as u8)
     } else {
@@ -49,18 +48,11 @@ pub fn page_of(field: &[u8]) -> Option<Page>
     Page::new(read_hex(field)?)
 }
 
-/// A place.
-pub(crate) fn place_of(field: &[u8]) -> Option<Place>
-    ensures { result ≡ lines.passing fits.is_place (hex_value field.now) }
+/// The first page of a root of this kind, with this address.
+pub(crate) fn root_page_of(header: &Header, kind: Kind, address: u64) -> Option<Page>
+    ensures { result ≡ lines.passing (fits.is_root_page header.now.world kind) (Some address) }
 {
-    Place::new(read_hex(field)?)
-}
-
-/// The first page of a root of this kind.
-pub(crate) fn root_page_of(header: &Header, kind: Kind, field: &[u8]) -> Option<Page>
-    ensures { result ≡ lines.passing (fits.is_root_page header.now.world kind) (hex_value field.now) }
-{
-    let page = page_of(field)?;
+    let page = Page::new(address)?;
     if page.get() % (4096 * page_count(header.world, kind) as u64) == 0 {
         Some(page)
     } else {
@@ -68,11 +60,10 @@ pub(crate) fn root_page_of(header: &Header, kind: Kind, field: &[u8]) -> Option<
     }
 }
 
-/// A lock's number.
-pub(crate) fn lock_of(field: &[u8]) -> Option<u16>
-    ensures { result ≡ lines.lock_value field.now }
+/// The number of a lock.
+pub(crate) fn lock_of(number: u64) -> Option<u16>
+    ensures { result ≡ lines.passing fits.is_lock (Some number) }
 {
-    let number = read_decimal(field)?;
     if number < LOCKS {
         Some(number as u16)
     } else {
@@ -87,15 +78,15 @@ pub(crate) fn root_lock_of(field: &[u8]) -> Option<Option<u16>>
     if field == b"-".as_slice() {
         Some(None)
     } else {
-        lock_of(field).map(Some)
+        lock_of(read_decimal(field)?).map(Some)
     }
 }
 
 /// A number of event lines.
-pub(crate) fn count_of(field: &[u8]) -> Option<u32>
-    ensures { result ≡ lines.passing fits.is_count (decimal_value field.now) }
+pub(crate) fn count_of(number: u64) -> Option<u32>
+    ensures { result ≡ lines.passing fits.is_count (Some number) }
 {
-    u32::try_from(read_decimal(field)?).ok()
+    u32::try_from(number).ok()
 }
 
 /// Whether an entry of the kind can have the number as its VMID or ASID.
@@ -111,10 +102,9 @@ fn is_tag(kind: Kind, number: u64) -> bool
 }
 
 /// The VMID or ASID of an entry of the kind.
-pub(crate) fn tag_of(kind: Kind, field: &[u8]) -> Option<u16>
-    ensures { result ≡ lines.passing (machine.is_tag kind) (decimal_value field.now) }
+pub(crate) fn tag_of(kind: Kind, number: u64) -> Option<u16>
+    ensures { result ≡ lines.passing (machine.is_tag kind) (Some number) }
 {
-    let number = read_decimal(field)?;
     if is_tag(kind, number) {
         Some(number as u16)
     } else {
@@ -123,10 +113,10 @@ pub(crate) fn tag_of(kind: Kind, field: &[u8]) -> Option<u16>
 }
 
 /// The number of an entry.
-pub(crate) fn entry_of(field: &[u8]) -> Option<u32>
-    ensures { result ≡ lines.passing machine.is_entry (decimal_value field.now) }
+pub(crate) fn entry_of(number: u64) -> Option<u32>
+    ensures { result ≡ lines.passing machine.is_entry (Some number) }
 {
-    u32::try_from(read_decimal(field)?).ok()
+    u32::try_from(number).ok()
 }
 
 /// Whether the field is marked as a label.

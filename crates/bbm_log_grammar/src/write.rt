@@ -13,7 +13,7 @@ ghost use Rattle.bbm_regimes.specs.declared.regime.World.TheVariants.{Hyp, Kerne
 use crate::spell::{add, add_decimal, add_hex};
 use crate::words::{asid_from_word, cnp_word, dsb_word, kind_word, op_word, reg_word};
 use arrayvec::ArrayVec;
-use bbm_barriers::Dsb;
+use bbm_barriers::{Domain, Dsb, Types};
 use bbm_events::{Event, Header, Item, Label, law_written_is_read};
 use bbm_regimes::{HypWorld, KernelWorld, Kind, Page, Pe, Place, Reg, World};
 use bbm_tlbi_scope::TlbiOp;
@@ -30,6 +30,7 @@ pub(crate) fn add_word_field(out: &mut ArrayVec<u8, 200>, word: &[u8])
 }
 
 /// A space and a number in decimal.
+#[inline(always)]
 pub(crate) fn add_decimal_field(out: &mut ArrayVec<u8, 200>, n: u64)
     requires room { array_vec_len out.old + 21 ≤ 200 }
     ensures appended { out.new.items ≡ out.old.items ++ 32 ∷ decimal n }
@@ -49,15 +50,16 @@ pub(crate) fn add_hex_field(out: &mut ArrayVec<u8, 200>, n: u64)
     add_hex(out, n);
 }
 
-/// The first word of an event line and its PE.
+/// The first word of an event line with the space behind it, and its PE.
+#[inline(always)]
 fn begin(out: &mut ArrayVec<u8, 200>, word: &[u8], pe: Pe)
     requires empty { out.old.items ≡ [] }
-    requires short { length word.now ≤ 12 }
-    ensures written { out.new.items ≡ word.now ++ 32 ∷ decimal pe }
+    requires short { length word.now ≤ 13 }
+    ensures written { out.new.items ≡ word.now ++ decimal pe }
     ensures longer { array_vec_len out.new ≤ 33 }
 {
     add(out, word);
-    add_decimal_field(out, pe.get() as u64);
+    add_decimal(out, pe.get() as u64);
 }
 
 /// A lock, or `-` for none.
@@ -72,11 +74,12 @@ fn add_lock_field(out: &mut ArrayVec<u8, 200>, lock: Option<u16>)
     }
 }
 
-/// `WORD PE PAGE`
+/// `WORD PE PAGE`, with the space behind the word
+#[inline(always)]
 fn page_line(out: &mut ArrayVec<u8, 200>, word: &[u8], pe: Pe, page: Page)
     requires empty { out.old.items ≡ [] }
-    requires short { length word.now ≤ 12 }
-    ensures line { out.new.items ≡ joined (word.now ∷ decimal pe ∷ hex page ∷ []) }
+    requires short { length word.now ≤ 13 }
+    ensures line { out.new.items ≡ word.now ++ joined (decimal pe ∷ hex page ∷ []) }
     ensures longer { array_vec_len out.new ≤ 100 }
 {
     begin(out, word, pe);
@@ -90,7 +93,7 @@ fn root_line(out: &mut ArrayVec<u8, 200>, pe: Pe, kind: Kind, lock: Option<u16>,
     ensures line { out.new.items ≡ joined (event_fields (event.Root pe kind lock page)) }
     ensures longer { array_vec_len out.new ≤ 100 }
 {
-    begin(out, b"root", pe);
+    begin(out, b"root ", pe);
     add_word_field(out, kind_word(kind));
     add_lock_field(out, lock);
     add_hex_field(out, page.get());
@@ -102,21 +105,36 @@ fn store_line(out: &mut ArrayVec<u8, 200>, pe: Pe, place: Place, value: u64)
     ensures line { out.new.items ≡ joined (event_fields (event.Write pe place value)) }
     ensures longer { array_vec_len out.new ≤ 100 }
 {
-    begin(out, b"w", pe);
+    begin(out, b"w ", pe);
     add_hex_field(out, place.get());
     add_hex_field(out, value);
 }
 
-/// `WORD PE OPTION`
+/// The option of a barrier; those of most lines are written at once.
 #[tactic(auto, using(crate::proofs::Short::dsb_word_short))]
+#[inline(always)]
+fn add_dsb_field(out: &mut ArrayVec<u8, 200>, dsb: Dsb)
+    requires room { array_vec_len out.old + 13 ≤ 200 }
+    ensures appended { out.new.items ≡ out.old.items ++ 32 ∷ words.dsb_word dsb }
+    ensures longer { array_vec_len out.new ≤ array_vec_len out.old + 13 }
+{
+    match (dsb.domain, dsb.types) {
+        (Domain::Inner, Types::All) => add(out, b" ish"),
+        (Domain::Inner, Types::Stores) => add(out, b" ishst"),
+        _ => add_word_field(out, dsb_word(dsb)),
+    }
+}
+
+/// `WORD PE OPTION`, with the space behind the word
+#[inline(always)]
 fn barrier_line(out: &mut ArrayVec<u8, 200>, word: &[u8], pe: Pe, dsb: Dsb)
     requires empty { out.old.items ≡ [] }
-    requires short { length word.now ≤ 12 }
-    ensures line { out.new.items ≡ joined (word.now ∷ decimal pe ∷ words.dsb_word dsb ∷ []) }
+    requires short { length word.now ≤ 13 }
+    ensures line { out.new.items ≡ word.now ++ joined (decimal pe ∷ words.dsb_word dsb ∷ []) }
     ensures longer { array_vec_len out.new ≤ 100 }
 {
     begin(out, word, pe);
-    add_word_field(out, dsb_word(dsb));
+    add_dsb_field(out, dsb);
 }
 
 /// `tlbi PE OP`, and ` XT` where the operation has an operand.
@@ -126,7 +144,7 @@ fn tlbi_line(out: &mut ArrayVec<u8, 200>, pe: Pe, op: TlbiOp, xt: u64)
     ensures line { out.new.items ≡ joined (event_fields (event.Tlbi pe op xt)) }
     ensures longer { array_vec_len out.new ≤ 100 }
 {
-    begin(out, b"tlbi", pe);
+    begin(out, b"tlbi ", pe);
     add_word_field(out, op_word(op));
     if op.has_operand() {
         add_hex_field(out, xt);
@@ -140,16 +158,17 @@ fn register_line(out: &mut ArrayVec<u8, 200>, pe: Pe, reg: Reg, value: u64)
     ensures line { out.new.items ≡ joined (event_fields (event.Msr pe reg value)) }
     ensures longer { array_vec_len out.new ≤ 100 }
 {
-    begin(out, b"msr", pe);
+    begin(out, b"msr ", pe);
     add_word_field(out, reg_word(reg));
     add_hex_field(out, value);
 }
 
-/// `WORD PE LOCK`
+/// `WORD PE LOCK`, with the space behind the word
+#[inline(always)]
 fn lock_line(out: &mut ArrayVec<u8, 200>, word: &[u8], pe: Pe, lock: u16)
     requires empty { out.old.items ≡ [] }
-    requires short { length word.now ≤ 12 }
-    ensures line { out.new.items ≡ joined (word.now ∷ decimal pe ∷ decimal lock ∷ []) }
+    requires short { length word.now ≤ 13 }
+    ensures line { out.new.items ≡ word.now ++ joined (decimal pe ∷ decimal lock ∷ []) }
     ensures longer { array_vec_len out.new ≤ 100 }
 {
     begin(out, word, pe);
@@ -163,23 +182,23 @@ fn event_line(out: &mut ArrayVec<u8, 200>, event: Event)
     ensures longer { array_vec_len out.new ≤ 100 }
 {
     match event {
-        Event::Init { pe, page } => page_line(out, b"init", pe, page),
-        Event::Null { pe, page } => page_line(out, b"null", pe, page),
+        Event::Init { pe, page } => page_line(out, b"init ", pe, page),
+        Event::Null { pe, page } => page_line(out, b"null ", pe, page),
         Event::Root {
             pe,
             kind,
             lock,
             page,
         } => root_line(out, pe, kind, lock, page),
-        Event::Unroot { pe, page } => page_line(out, b"unroot", pe, page),
+        Event::Unroot { pe, page } => page_line(out, b"unroot ", pe, page),
         Event::Write { pe, place, value } => store_line(out, pe, place, value),
-        Event::Dsb { pe, dsb } => barrier_line(out, b"dsb", pe, dsb),
-        Event::Dmb { pe, dsb } => barrier_line(out, b"dmb", pe, dsb),
-        Event::Isb { pe } => begin(out, b"isb", pe),
+        Event::Dsb { pe, dsb } => barrier_line(out, b"dsb ", pe, dsb),
+        Event::Dmb { pe, dsb } => barrier_line(out, b"dmb ", pe, dsb),
+        Event::Isb { pe } => begin(out, b"isb ", pe),
         Event::Tlbi { pe, op, xt } => tlbi_line(out, pe, op, xt),
         Event::Msr { pe, reg, value } => register_line(out, pe, reg, value),
-        Event::Lock { pe, lock } => lock_line(out, b"lock", pe, lock),
-        Event::Unlock { pe, lock } => lock_line(out, b"unlock", pe, lock),
+        Event::Lock { pe, lock } => lock_line(out, b"lock ", pe, lock),
+        Event::Unlock { pe, lock } => lock_line(out, b"unlock ", pe, lock),
     }
 }
 

@@ -3,7 +3,7 @@ use Rattle.std.proofs.Common.{◌≡◌, ℕ, Bool, true, false, not, ◌&&◌, 
 use Rattle.std.proofs.lemmas.Bool.{and_parts, eqb-true, not-true}
 use Rattle.bbm_rules.specs.Tree.{Node}
 use Rattle.bbm_replay_trees.specs.Told.{kept}
-use Rattle.bbm_replay.specs.Moves.{Begins, Grown, Leaves, Nullifies, SameNodes, SamePages}
+use Rattle.bbm_replay.proofs.Moves.{Begins, Grown, Leaves, Nullifies, SameNodes, SamePages}
 use Rattle.bbm_replay.specs.Told.{Apart}
 use Rattle.bbm_replay.specs.View.{View}
 

@@ -22,7 +22,7 @@ use Rattle.bbm_replay_entries.specs.Events.{Heard}
 use Rattle.bbm_replay_entries.specs.Stands.{EntryStands}
 use Rattle.bbm_replay_trees.specs.Told.{is_held_by, kept, next_in, notes}
 use Rattle.bbm_replay.specs.Laws.{Laws}
-use Rattle.bbm_replay.specs.Moves.{Completes, Hears, Leaves}
+use Rattle.bbm_replay.proofs.Moves.{Completes, Hears, Leaves}
 use Rattle.bbm_replay.specs.Told.{Told}
 use Rattle.bbm_replay.specs.View.{View, core_at, state_of, waiting}
 use Rattle.bbm_replay.proofs.Aparts.{apart_leaves, apart_same}

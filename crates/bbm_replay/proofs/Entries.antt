@@ -16,7 +16,7 @@ use Rattle.bbm_replay_entries.specs.Events.{touches}
 use Rattle.bbm_replay_entries.specs.Stands.{EntryStands}
 use Rattle.bbm_replay_trees.specs.Told.{AllFit}
 use Rattle.bbm_replay.specs.Laws.{Laws}
-use Rattle.bbm_replay.specs.Moves.{Alike}
+use Rattle.bbm_replay.proofs.Moves.{Alike}
 use Rattle.bbm_replay.specs.Told.{Told}
 use Rattle.bbm_replay.specs.View.{View, state_of, waiting}
 

@@ -9,7 +9,7 @@ use Rattle.bbm_tree_index.specs.Index.{SamePages, SameTracked}
 use Rattle.bbm_tree_index.specs.declared.index.TreeIndex.{TreeIndex}
 use Rattle.bbm_replay_roots.specs.Stands as roots
 use Rattle.bbm_replay.specs.Laws.{Laws}
-use Rattle.bbm_replay.specs.Moves.{Same}
+use Rattle.bbm_replay.proofs.Moves.{Same}
 use Rattle.bbm_replay.specs.Standing.{SameFrame, Stands, view_of}
 use Rattle.bbm_replay.specs.Told.{Told}
 use Rattle.bbm_replay.specs.declared.parts.Parts.{Parts}

@@ -13,7 +13,7 @@ use Rattle.bbm_tree_index.specs.Held.{leaves}
 use Rattle.bbm_replay_roots.specs.Stands as roots
 use Rattle.bbm_replay_trees.specs.Told.{kept}
 use Rattle.bbm_replay.specs.Laws.{Laws}
-use Rattle.bbm_replay.specs.Moves.{Leaves, SamePages, SameTracked}
+use Rattle.bbm_replay.proofs.Moves.{Leaves, SamePages, SameTracked}
 use Rattle.bbm_replay.specs.Rules.{Rules}
 use Rattle.bbm_replay.specs.Standing.{MayMeet, Meets, SameFrame, Stands, view_of}
 use Rattle.bbm_replay.specs.View.{View}

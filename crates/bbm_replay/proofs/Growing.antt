@@ -15,9 +15,9 @@ use Rattle.bbm_rules.specs.Tree.{Node, node_below, nodes_of_root}
 use Rattle.bbm_rules.specs.Values.{value_of}
 use Rattle.bbm_replay_entries.specs.Events.{touches}
 use Rattle.bbm_replay_entries.specs.Stands.{EntryStands}
-use Rattle.bbm_replay_trees.specs.Paths.{Attached, Through}
+use Rattle.bbm_tree_index.specs.Paths.{Attached, Through}
 use Rattle.bbm_replay.specs.Laws.{Laws}
-use Rattle.bbm_replay.specs.Moves.{Alike, Attaches, Grown, SameMap}
+use Rattle.bbm_replay.proofs.Moves.{Alike, Attaches, Grown, SameMap}
 use Rattle.bbm_replay.specs.Told.{Told}
 use Rattle.bbm_replay.specs.View.{View, state_of, waiting}
 use Rattle.bbm_replay.proofs.Aparts.{apart_grown}

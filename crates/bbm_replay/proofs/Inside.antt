@@ -36,20 +36,19 @@ use Rattle.bbm_replay_trees.specs.Told.{notes}
 use Rattle.bbm_replay.specs.Laws.{Laws}
 use Rattle.bbm_replay.specs.Leaves.{attached_next, is_contiguous_core, is_global_core}
 use Rattle.bbm_replay.specs.Faults.{step_fault}
-use Rattle.bbm_replay.specs.Moves.{Attaches, Writes}
+use Rattle.bbm_replay.proofs.Moves.{Attaches, Writes}
 use Rattle.bbm_tree_index.specs.Judged as index
 use Rattle.bbm_tree_index.specs.Paths as index_paths
 use Rattle.bbm_tree_index.specs.declared.role.Attach.TheVariants as attach
 use Rattle.bbm_tree_index.specs.declared.fault.TreeFault.{TreeFault}
 use Rattle.bbm_tree_index.specs.declared.fault.TreeFault.TheVariants as tree
-use Rattle.bbm_replay.proofs.Verdicts.{Verdict, verdict}
 use Rattle.bbm_replay.specs.Rules.{Rules}
 use Rattle.bbm_replay.specs.Standing.{Clears, Holds, IsAt, MayMeet, Meets, SameFrame, Stands, view_of}
 use Rattle.bbm_replay.specs.Told.{Told}
 use Rattle.bbm_replay.specs.View.{View, core_at, state_of}
 use Rattle.bbm_replay.specs.declared.parts.Parts.{Parts}
 use Rattle.bbm_replay.proofs.Framing.{stands_next}
-use Rattle.bbm_replay.proofs.Judging.{passes, stops, where_false, where_true, write_is}
+use Rattle.bbm_replay.proofs.Judging.{Verdict, passes, stops, verdict, where_false, where_true, write_is}
 use Rattle.bbm_replay.proofs.Meeting.{fits_all}
 use Rattle.bbm_replay.proofs.Starting.{Others, meets_broken}
 use Rattle.bbm_replay.proofs.Writing.{after_attaching_write, after_plain_write, cores}

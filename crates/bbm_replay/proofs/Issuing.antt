@@ -19,7 +19,7 @@ use Rattle.bbm_replay_roots.specs.Stands as roots
 use Rattle.bbm_replay_roots.specs.declared.state.RootState.{RootState}
 use Rattle.bbm_replay_trees.specs.Told.{notes}
 use Rattle.bbm_replay.specs.Laws.{Laws}
-use Rattle.bbm_replay.specs.Moves.{Alike}
+use Rattle.bbm_replay.proofs.Moves.{Alike}
 use Rattle.bbm_replay.specs.Rules.{Rules}
 use Rattle.bbm_replay.specs.Standing.{MayMeet, Meets, Stands, view_of}
 use Rattle.bbm_replay.specs.declared.parts.Parts.{Parts}

@@ -1,5 +1,6 @@
--- Which rule an event breaks, and which limit it reaches, by a view.
-use Rattle.std.proofs.Common.{◌≡◌, ℕ, ◌≤◌, Bool, true, false, not, ◌&&◌, ◌||◌, nat_le, List, Option, Some, None, is_some, filter, refl, ◌∙◌, ap}
+-- Which rule an event breaks, and which limit it reaches, by a view; and what the index answers of pages to attach, in
+-- the words of the rules.
+use Rattle.std.proofs.Common.{◌≡◌, ℕ, ◌≤◌, Bool, true, false, not, ◌&&◌, ◌||◌, nat_le, List, Option, Some, None, Result, Ok, Err, is_some, filter, refl, ◌∙◌, ap}
 use Rattle.std.specs.Option.{option_map_or}
 use Rattle.std.proofs.lemmas.Bool.{le-leb, leb-true}
 use Rattle.bbm_regimes.specs.declared.regime.Which.TheVariants.{Pages}
@@ -14,6 +15,11 @@ use Rattle.bbm_rules.specs.Rules.{null_written, page_in_use, rewritten_fresh}
 use Rattle.bbm_rules.specs.declared.rule.Rule.{Rule}
 use Rattle.bbm_rules.specs.declared.rule.Rule.TheVariants.{WrongWorld, NoLock, NullWritten, BreakBeforeMake, LimboMake}
 use Rattle.bbm_rules.specs.declared.rule.Rule.TheVariants.{NotFresh, RewrittenFresh, BadKind, GlobalUser, PageInUse}
+use Rattle.bbm_rules.specs.Tree.{Node}
+use Rattle.bbm_tree_index.specs.Judged.{Judges}
+use Rattle.bbm_tree_index.specs.declared.fault.TreeFault.{TreeFault}
+use Rattle.bbm_tree_index.specs.declared.fault.TreeFault.TheVariants as tree
+use Rattle.bbm_replay_trees.specs.Judging.{Judging}
 use Rattle.bbm_replay_trees.specs.Told.{notes}
 use Rattle.bbm_replay.specs.Rules.{Rules}
 use Rattle.bbm_replay.specs.Told.{Told}
@@ -118,3 +124,29 @@ module _ (heading : Heading) (rules : Rules heading) (h : List Event) (v : View)
         (found BadKind (bad_kind heading Patterns (notes heading h) (Write pe place value))
         (found GlobalUser (global_user heading Patterns (notes heading h) (Write pe place value)) None)))))))
     write_is = rules.by_kind h (Write pe place value)
+
+-- ---- pages to attach
+
+-- what the three rules say, by the answer
+abbrev pub Verdict : Result (Unit {0}) TreeFault → Option ℕ → Option ℕ → Option ℕ → Type 0
+Verdict (Ok _) fresh bad global = (fresh ≡ None) × (bad ≡ None) × (global ≡ None)
+Verdict (Err (tree.NotFresh page)) fresh bad global = fresh ≡ Some page
+Verdict (Err (tree.BadKind place)) fresh bad global = (fresh ≡ None) × (bad ≡ Some place)
+Verdict (Err (tree.GlobalUser place)) fresh bad global = (fresh ≡ None) × (bad ≡ None) × (global ≡ Some place)
+Verdict (Err tree.NoMemory) fresh bad global = Unit {0}
+Verdict (Err (tree.Limit which)) fresh bad global = ⊥
+
+pub verdict : (fresh : ℕ → Bool) (value : ℕ → ℕ) (starts : List Node) (heading : Heading) (h : List Event) (named : Bool)
+    (e : Event) → Judging fresh value starts heading h named e
+    → (r : Result (Unit {0}) TreeFault) → Judges fresh value starts named r
+    → Verdict r (not_fresh heading Patterns (notes heading h) e) (bad_kind heading Patterns (notes heading h) e)
+    (global_user heading Patterns (notes heading h) e)
+verdict fresh value starts heading h named e j (Ok u) k =
+    (j.pages None k.0, j.contiguous None k.1, j.global None k.2)
+verdict fresh value starts heading h named e j (Err (tree.NotFresh page)) k = j.pages (Some page) k
+verdict fresh value starts heading h named e j (Err (tree.BadKind place)) k =
+    (j.pages None k.0, j.contiguous (Some place) k.1)
+verdict fresh value starts heading h named e j (Err (tree.GlobalUser place)) k =
+    (j.pages None k.0, j.contiguous None k.1, j.global (Some place) k.2)
+verdict fresh value starts heading h named e j (Err tree.NoMemory) k = tt
+verdict fresh value starts heading h named e j (Err (tree.Limit which)) k = absurd k

@@ -8,7 +8,7 @@ use Rattle.bbm_rules.specs.Prelude.{Heading, Event, Unroot}
 use Rattle.bbm_rules.specs.Tree.{Node}
 use Rattle.bbm_replay_trees.specs.Told.{kept}
 use Rattle.bbm_replay.specs.Laws.{Laws}
-use Rattle.bbm_replay.specs.Moves.{Leaves}
+use Rattle.bbm_replay.proofs.Moves.{Leaves}
 use Rattle.bbm_replay.specs.Told.{Told}
 use Rattle.bbm_replay.specs.View.{View}
 use Rattle.bbm_replay.proofs.Aparts.{apart_leaves}

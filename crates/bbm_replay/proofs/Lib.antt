@@ -1,3 +1,4 @@
+pub mod Moves
 pub mod Aparts
 pub mod Entries
 pub mod Quiet
@@ -15,7 +16,6 @@ pub mod Gone
 pub mod Counting
 pub mod Outside
 pub mod Settling
-pub mod Verdicts
 pub mod Rooting
 pub mod RootPages
 pub mod Inside

@@ -17,7 +17,7 @@ use Rattle.bbm_replay_roots.specs.Stands as roots
 use Rattle.bbm_replay_roots.specs.declared.state.RootState.{RootState}
 use Rattle.bbm_replay_trees.specs.Told.{AllFit}
 use Rattle.bbm_replay.specs.Laws.{Laws}
-use Rattle.bbm_replay.specs.Moves.{is_quiet}
+use Rattle.bbm_replay.proofs.Moves.{is_quiet}
 use Rattle.bbm_replay.specs.Standing.{IsFrugal, MayMeet, Meets, Stands, view_of}
 use Rattle.bbm_replay.specs.declared.parts.Parts.{Parts}
 use Rattle.bbm_replay.proofs.Quiet.{after_quiet}

@@ -9,7 +9,7 @@ use Rattle.bbm_rules.specs.Places.{page_of}
 use Rattle.bbm_rules.specs.Prelude.{Heading, Event, Init, Null}
 use Rattle.bbm_rules.specs.Tree.{Node}
 use Rattle.bbm_replay.specs.Laws.{Laws}
-use Rattle.bbm_replay.specs.Moves.{Begins, Nullifies}
+use Rattle.bbm_replay.proofs.Moves.{Begins, Nullifies}
 use Rattle.bbm_replay.specs.Told.{Told}
 use Rattle.bbm_replay.specs.View.{View}
 use Rattle.bbm_replay.proofs.Aparts.{apart_begins, apart_nullifies}

@@ -13,7 +13,7 @@ use Rattle.bbm_replay_trees.specs.Events.{leaves_trees}
 use Rattle.bbm_replay_trees.specs.Told.{SameKnown, SameNull, SameValues}
 use Rattle.bbm_replay_trees.specs.Told as told
 use Rattle.bbm_replay.specs.Laws.{Laws}
-use Rattle.bbm_replay.specs.Moves.{Same, SameTracked, is_quiet}
+use Rattle.bbm_replay.proofs.Moves.{Same, SameTracked, is_quiet}
 use Rattle.bbm_replay.specs.Told.{Told}
 use Rattle.bbm_replay.specs.View.{View, state_of, waiting}
 use Rattle.bbm_replay.proofs.Aparts.{apart_same}

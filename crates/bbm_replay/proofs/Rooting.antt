@@ -1,5 +1,5 @@
 -- A root that is declared, at the parts.
-use Rattle.std.proofs.Common.{◌≡◌, ℕ, ◌⊎◌, ◌↔◌, Bool, true, false, cond, not, ◌&&◌, List, [], ◌∷◌, length, Option, Some, None, is_none, filter, Result, Ok, Err, refl, sym, ◌∙◌, ap, subst, inl, inr, nat_le}
+use Rattle.std.proofs.Common.{◌≡◌, ℕ, ◌⊎◌, ◌↔◌, Bool, true, false, cond, not, ◌&&◌, List, [], ◌∷◌, length, Option, Some, None, is_none, filter, Result, Ok, Err, refl, sym, ◌∙◌, ap, subst, nat_le}
 use Rattle.bbm_entry_state.specs.Standing.{IsIdle}
 use Rattle.bbm_regimes.specs.declared.regime.Which.TheVariants.{Roots}
 use Rattle.bbm_rules.specs.Answers.{Answers}
@@ -27,16 +27,15 @@ use Rattle.bbm_replay_roots.specs.declared.state.RootState.{RootState}
 use Rattle.bbm_replay_trees.specs.Told.{notes}
 use Rattle.bbm_replay.specs.Faults.{step_fault}
 use Rattle.bbm_replay.specs.Laws.{Laws}
-use Rattle.bbm_replay.specs.Moves.{Attaches, SameMap, SameTracked}
+use Rattle.bbm_replay.proofs.Moves.{Attaches, SameMap, SameTracked}
 use Rattle.bbm_replay.specs.Rules.{Rules}
 use Rattle.bbm_replay.specs.Standing.{MayMeet, Meets, SameFrame, Stands, view_of}
 use Rattle.bbm_replay.specs.declared.parts.Parts.{Parts}
 use Rattle.bbm_replay.proofs.Framing.{stands_next}
 use Rattle.bbm_replay.proofs.Growing.{after_root}
-use Rattle.bbm_replay.proofs.Judging.{passes, root_is, stops, where_false, where_true}
+use Rattle.bbm_replay.proofs.Judging.{Verdict, passes, root_is, stops, verdict, where_false, where_true}
 use Rattle.bbm_replay.proofs.Meeting.{fits_all, frugal_else, stands_same, with_roots}
 use Rattle.bbm_replay.proofs.Starting.{meets_broken}
-use Rattle.bbm_replay.proofs.Verdicts.{Verdict, attached_from, attached_to, verdict}
 
 -- the nodes of the pages of a root
 abbrev pub starts : Heading → Kind → ℕ → List Node
@@ -196,18 +195,5 @@ pub attaches_of : (old new : View) (from : List Node)
     ⊎ ((n.page ≡ p) × index_paths.Attached old.fresh old.value from n)))
     → ((p : ℕ) → new.fresh p ≡ (old.fresh p && is_none (new.node p))) → ((p : ℕ) → new.null p ≡ old.null p)
     → SameTracked old new → Attaches old new from
-attaches_of old new from node fresh null tracking = record {
-  node = λ p n. (
-    (λ is. elim ((node p n).0 is) [
-      | inl was ↦ inl was
-      | inr came ↦ inr (came.0, attached_from old.fresh old.value from n came.1)
-    ]),
-    (λ is. elim is [
-      | inl was ↦ (node p n).1 (inl was)
-      | inr came ↦ (node p n).1 (inr (came.0, attached_to old.fresh old.value from n came.1))
-    ]),
-  );
-  fresh = fresh;
-  null = null;
-  tracking = tracking;
-}
+attaches_of old new from node fresh null tracking =
+    record { node = node; fresh = fresh; null = null; tracking = tracking }

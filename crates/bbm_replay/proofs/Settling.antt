@@ -25,7 +25,7 @@ use Rattle.bbm_tree_index.specs.Held.{core_with, is_held}
 use Rattle.bbm_replay_roots.specs.Stands as roots
 use Rattle.bbm_replay_trees.specs.Told.{is_held_by, kept, next_in}
 use Rattle.bbm_replay.specs.Laws.{Laws}
-use Rattle.bbm_replay.specs.Moves.{Completes, Hears, Leaves}
+use Rattle.bbm_replay.proofs.Moves.{Completes, Hears, Leaves}
 use Rattle.bbm_replay.specs.Standing.{MayMeet, Meets, SameFrame, Stands, view_of}
 use Rattle.bbm_replay.specs.View.{View, core_at}
 use Rattle.bbm_replay.specs.declared.parts.Parts.{Parts}

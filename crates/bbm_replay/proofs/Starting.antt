@@ -22,7 +22,7 @@ use Rattle.bbm_tree_index.specs.declared.fault.TreeFault.{TreeFault}
 use Rattle.bbm_tree_index.specs.declared.fault.TreeFault.TheVariants as tree
 use Rattle.bbm_replay.specs.Faults.{step_fault}
 use Rattle.bbm_replay.specs.Laws.{Laws}
-use Rattle.bbm_replay.specs.Moves.{Begins, Nullifies, Same}
+use Rattle.bbm_replay.proofs.Moves.{Begins, Nullifies, Same}
 use Rattle.bbm_replay.specs.Rules.{Rules}
 use Rattle.bbm_replay.specs.Standing.{MayMeet, Meets, SameFrame, Stands, view_of}
 use Rattle.bbm_replay.specs.declared.parts.Parts.{Parts}

@@ -19,7 +19,7 @@ use Rattle.bbm_rules.specs.Tree.{Node}
 use Rattle.bbm_replay_entries.specs.Stands.{EntryStands}
 use Rattle.bbm_replay_trees.specs.Told.{notes}
 use Rattle.bbm_replay.specs.Laws.{Laws}
-use Rattle.bbm_replay.specs.Moves.{Issues}
+use Rattle.bbm_replay.proofs.Moves.{Issues}
 use Rattle.bbm_replay.specs.Told.{Told}
 use Rattle.bbm_replay.specs.View.{View, state_of, waiting}
 use Rattle.bbm_replay.proofs.DsbMoves.{broken_marks, same_state}

@@ -21,7 +21,7 @@ use Rattle.bbm_replay_entries.specs.Stands.{EntryStands}
 use Rattle.bbm_replay_trees.specs.Told.{SameCores, notes}
 use Rattle.bbm_replay_trees.specs.Told as told
 use Rattle.bbm_replay.specs.Laws.{Laws}
-use Rattle.bbm_replay.specs.Moves.{Attaches, Grown, SameNodes, SameTracked, Writes}
+use Rattle.bbm_replay.proofs.Moves.{Attaches, Grown, SameNodes, SameTracked, Writes}
 use Rattle.bbm_replay.specs.Told.{Apart, Told}
 use Rattle.bbm_replay.proofs.Aparts.{apart_grown, apart_same}
 use Rattle.bbm_replay.specs.View.{View, core_at, state_of, waiting}

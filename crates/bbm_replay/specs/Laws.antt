@@ -1,5 +1,5 @@
--- What the crates below prove of a history and one event more, as records, so that each proof here takes them as one
--- hypothesis.
+-- Gathered for the proofs here, and nothing that a reader must believe: what the crates below prove of a history and
+-- one event more, as records, so that each proof takes them as one hypothesis. The clause of `laws` promises them.
 use Rattle.std.specs.Prelude.{◌≡◌, ℕ, ◌+◌, ◌<◌, ◌⊎◌, ◌↔◌, Bool, true, false, not, ◌&&◌, ◌||◌, ◌==◌, List, [], ◌∷◌}
 use Rattle.std.specs.Prelude.{length, Contains, Option, Some, None, is_none, is_some, if◌then◌else◌}
 use Rattle.bbm_descriptor.specs.Descriptor.{core_of, is_valid}
@@ -31,7 +31,7 @@ use Rattle.bbm_rules.specs.Values.{value_of}
 use Rattle.bbm_replay_entries.specs.Events.{Heard, OthersStay, OthersWait, touches}
 use Rattle.bbm_replay_entries.specs.Stands.{ByValue, EntryStands, held_now}
 use Rattle.bbm_replay_trees.specs.Events.{leaves_trees}
-use Rattle.bbm_replay_trees.specs.Paths.{Attached}
+use Rattle.bbm_tree_index.specs.Paths.{Attached}
 use Rattle.bbm_replay_trees.specs.Told.{AllFit, SameCores, SameFresh, SameKnown}
 use Rattle.bbm_replay_trees.specs.Told.{SameNodes, SameNull, SameValues, is_held_by}
 use Rattle.bbm_replay_trees.specs.Told.{Hangs, kept, notes}

@@ -1,7 +1,6 @@
 pub mod View
 pub mod Told
 pub mod Laws
-pub mod Moves
 pub mod Rules
 pub mod Standing
 pub mod Faults

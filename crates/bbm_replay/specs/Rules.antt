@@ -1,6 +1,6 @@
--- What the crates below prove of the rules that an event breaks and of the limit that it reaches, as one record, so
--- that
--- each proof here takes it as one hypothesis.
+-- Gathered for the proofs here, and nothing that a reader must believe: what the crates below prove of the rules that an
+-- event breaks and of the limit that it reaches, as one record, so that each proof takes it as one hypothesis. The clause
+-- of `rules` promises it.
 use Rattle.std.specs.Prelude.{◌≡◌, ℕ, ◌%◌, Bool, true, false, not, ◌&&◌, ◌||◌, ◌==◌, nat_le, List, [], ◌∷◌, length}
 use Rattle.std.specs.Prelude.{Option, Some, None, is_some, filter, option_and_then}
 use Rattle.bbm_descriptor.specs.Descriptor.{core_of, desc_of, differ, is_valid}
@@ -20,7 +20,7 @@ use Rattle.bbm_rules.specs.Rules.{bad_kind, break_before_make, global_user, lack
 use Rattle.bbm_rules.specs.Rules.{null_written, page_in_use, rewritten_fresh}
 use Rattle.bbm_rules.specs.Tree.{Node, next_of, node_below, nodes_of_root}
 use Rattle.bbm_replay_trees.specs.Events.{may_reach_limit, rules_of}
-use Rattle.bbm_replay_trees.specs.Judged.{is_bad, is_user_global}
+use Rattle.bbm_tree_index.specs.Judged.{is_bad, is_user_global}
 use Rattle.bbm_replay_trees.specs.Judging.{Judging}
 use Rattle.bbm_replay_trees.specs.Told.{AllFit, SameCores, SameFresh, SameNodes, SameNull, SameValues, is_at, limbo_by}
 use Rattle.bbm_replay_trees.specs.Told.{notes}

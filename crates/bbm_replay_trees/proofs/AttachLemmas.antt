@@ -19,7 +19,8 @@ use Rattle.bbm_rules.specs.Tree.{Node, held_at, in_tree, next_in, next_of, node_
 use Rattle.bbm_replay_trees.specs.Below.{Below}
 use Rattle.bbm_replay_trees.specs.Judging.{Judging}
 use Rattle.bbm_replay_trees.specs.Told.{AllFit, SameFresh, SameNull, SameValues, notes}
-use Rattle.bbm_replay_trees.proofs.Elements.{In, from_contains, to_contains}
+use Rattle.bbm_lists.specs.Elements.{In}
+use Rattle.bbm_lists.proofs.Elements.{from_contains, to_contains}
 use Rattle.bbm_replay_trees.proofs.JudgeLemmas.{judging, no_leaf}
 use Rattle.bbm_replay_trees.proofs.PathLemmas.{Starts}
 

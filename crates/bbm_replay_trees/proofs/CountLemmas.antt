@@ -16,7 +16,8 @@ use Rattle.bbm_rules.specs.Values.{value_of, written_places}
 use Rattle.bbm_replay_trees.specs.Below.{Below}
 use Rattle.bbm_replay_trees.specs.Restless.{Numbers}
 use Rattle.bbm_replay_trees.specs.Told.{notes}
-use Rattle.bbm_replay_trees.proofs.Elements.{In, from_filter, from_map, in_map, to_filter}
+use Rattle.bbm_lists.specs.Elements.{In}
+use Rattle.bbm_lists.proofs.Elements.{from_filter, from_map, in_map, to_filter}
 use Rattle.bbm_replay_trees.proofs.HangLemmas.{held_written}
 use Rattle.bbm_replay_trees.proofs.LeastLemmas.{among_in}
 

@@ -8,7 +8,8 @@ use Rattle.bbm_rules.specs.Lists.{among, every, with_number}
 use Rattle.bbm_rules.specs.Places.{page_of}
 use Rattle.bbm_rules.specs.Values.{places_in, value_of, written_places}
 use Rattle.bbm_replay_trees.specs.Told.{is_at}
-use Rattle.bbm_replay_trees.proofs.Elements.{In, any_found, from_filter, to_filter}
+use Rattle.bbm_lists.specs.Elements.{In}
+use Rattle.bbm_lists.proofs.Elements.{any_found, from_filter, to_filter}
 
 -- ---- lists without repeats
 

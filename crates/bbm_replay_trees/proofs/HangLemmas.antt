@@ -18,7 +18,8 @@ use Rattle.bbm_rules.specs.TreeSentences.{Down, IsNode}
 use Rattle.bbm_rules.specs.Values.{written_places}
 use Rattle.bbm_replay_trees.specs.Below.{Below}
 use Rattle.bbm_replay_trees.specs.Told.{AllFit, Hangs, SameCores, SameNodes, next_in, notes}
-use Rattle.bbm_replay_trees.proofs.Elements.{In, from_contains}
+use Rattle.bbm_lists.specs.Elements.{In}
+use Rattle.bbm_lists.proofs.Elements.{from_contains}
 use Rattle.bbm_replay_trees.proofs.FitLemmas.{is_at_page, with_has, with_keeps}
 
 -- ---- the core of a table

@@ -17,10 +17,12 @@ use Rattle.bbm_rules.specs.Rules.{attached_with, bad_ends, judged_ends, made_wit
 use Rattle.bbm_rules.specs.Tree.{Node, next_in}
 use Rattle.bbm_rules.specs.Values.{places_in, value_of}
 use Rattle.bbm_replay_trees.specs.Below.{Below}
-use Rattle.bbm_replay_trees.specs.Judged.{EndsTwice, HasPlace, IsPath, IsUnfresh, UnfreshEnd, is_bad, is_user_global}
+use Rattle.bbm_tree_index.specs.Judged.{EndsTwice, HasPlace, IsPath, IsUnfresh, UnfreshEnd, is_bad, is_user_global}
 use Rattle.bbm_replay_trees.specs.Judging.{Finds, Judging}
 use Rattle.bbm_replay_trees.specs.Told.{AllFit, SameFresh, SameValues, notes}
-use Rattle.bbm_replay_trees.proofs.Elements.{In, from_filter, from_flat, from_map, in_append, in_left, in_map, in_right, to_filter, to_flat}
+use Rattle.bbm_lists.specs.Elements.{In}
+use Rattle.bbm_lists.proofs.Elements.{from_filter, from_flat, from_map, in_append, in_left, in_map, in_right, to_filter}
+use Rattle.bbm_lists.proofs.Elements.{to_flat}
 use Rattle.bbm_replay_trees.proofs.FitLemmas.{at_page, in_page, is_at_page, to_page, written}
 use Rattle.bbm_replay_trees.proofs.LeastLemmas.{among_in, in_among, least_is}
 use Rattle.bbm_replay_trees.proofs.PathLemmas.{Longer, AnyPath, Starts, from_all, from_deeper, in_all, in_deeper, leads_at, path_from, to_mine, to_theirs, value_is, within_at}

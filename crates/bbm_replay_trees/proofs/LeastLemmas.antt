@@ -3,7 +3,8 @@ use Rattle.std.proofs.Common.{◌≡◌, ℕ, ◌<◌, ◌≤◌, min, true, ◌
 use Rattle.std.proofs.lemmas.Bool.{cases_lt, eq-eqb, eqb-true}
 use Rattle.bbm_rules.specs.Lists.{among, least}
 use Rattle.bbm_replay_trees.specs.Judging.{Finds}
-use Rattle.bbm_replay_trees.proofs.Elements.{In, any_finds, any_found}
+use Rattle.bbm_lists.specs.Elements.{In}
+use Rattle.bbm_lists.proofs.Elements.{any_finds, any_found}
 
 pub in_among : (n : ℕ) (ms : List ℕ) → among n ms ≡ true → In ms n
 in_among n ms e = let f = any_found (λ (m : ℕ). m == n) ms e in subst (In ms) (eqb-true f.0 n f.2) f.1

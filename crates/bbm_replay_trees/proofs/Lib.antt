@@ -1,4 +1,3 @@
-pub mod Elements
 pub mod FitLemmas
 pub mod RuleLemmas
 pub mod LeastLemmas

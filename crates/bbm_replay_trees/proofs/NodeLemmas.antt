@@ -18,9 +18,10 @@ use Rattle.bbm_rules.specs.Places.{page_of}
 use Rattle.bbm_rules.specs.Tree.{Above, Node, held_at, in_tree, next_of, node_below, node_of, nodes_of_root}
 use Rattle.bbm_replay_trees.specs.Below.{Below}
 use Rattle.bbm_replay_trees.specs.Events.{leaves_trees}
-use Rattle.bbm_replay_trees.specs.Paths.{Attached, Through}
+use Rattle.bbm_tree_index.specs.Paths.{Attached, Through}
 use Rattle.bbm_replay_trees.specs.Told.{AllFit, SameFresh, SameNodes, SameValues, is_held_by, kept, notes}
-use Rattle.bbm_replay_trees.proofs.Elements.{In, from_contains, to_contains}
+use Rattle.bbm_lists.specs.Elements.{In}
+use Rattle.bbm_lists.proofs.Elements.{from_contains, to_contains}
 use Rattle.bbm_replay_trees.proofs.FitLemmas.{at_page}
 use Rattle.bbm_replay_trees.proofs.PathLemmas.{table_at, value_is}
 

@@ -12,10 +12,12 @@ use Rattle.bbm_rules.specs.Tree.{Node, next_of}
 use Rattle.bbm_rules.specs.TreeSentences.{Leads as LeadsIn}
 use Rattle.bbm_rules.specs.Values.{places_in, value_of}
 use Rattle.bbm_replay_trees.specs.Below.{Below}
-use Rattle.bbm_replay_trees.specs.Judged.{IsPath}
-use Rattle.bbm_replay_trees.specs.Paths.{Leads}
+use Rattle.bbm_tree_index.specs.Judged.{IsPath}
+use Rattle.bbm_tree_index.specs.Paths.{Leads}
 use Rattle.bbm_replay_trees.specs.Told.{AllFit, SameFresh, SameValues, is_at, notes}
-use Rattle.bbm_replay_trees.proofs.Elements.{In, from_contains, from_flat, from_map, in_left, in_map, in_right, to_contains, to_flat, in_append}
+use Rattle.bbm_lists.specs.Elements.{In}
+use Rattle.bbm_lists.proofs.Elements.{from_contains, from_flat, from_map, in_append, in_left, in_map, in_right}
+use Rattle.bbm_lists.proofs.Elements.{to_contains, to_flat}
 use Rattle.bbm_replay_trees.proofs.FitLemmas.{at_page, is_at_page, written}
 
 -- the nodes at which paths begin are those of these pages, of the kind and at the level

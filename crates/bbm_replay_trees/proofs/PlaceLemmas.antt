@@ -14,7 +14,7 @@ use Rattle.bbm_rules.specs.Values.{written_places}
 use Rattle.bbm_replay_trees.specs.Below.{Below}
 use Rattle.bbm_replay_trees.specs.Told.{AllFit, Childless, SameCores, SameNodes, is_at, next_in, notes}
 use Rattle.bbm_replay_trees.proofs.AttachLemmas.{core_some}
-use Rattle.bbm_replay_trees.proofs.Elements.{In}
+use Rattle.bbm_lists.specs.Elements.{In}
 use Rattle.bbm_replay_trees.proofs.FitLemmas.{at_page, is_at_page}
 use Rattle.bbm_replay_trees.proofs.HangLemmas.{down, held_written, table_core}
 

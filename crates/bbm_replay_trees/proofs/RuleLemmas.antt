@@ -22,7 +22,8 @@ use Rattle.bbm_rules.specs.Tree.{Above, Node, held_at, in_limbo, node_of}
 use Rattle.bbm_rules.specs.Values.{places_in, value_of}
 use Rattle.bbm_replay_trees.specs.Events.{may_reach_limit, rules_of}
 use Rattle.bbm_replay_trees.specs.Told.{AllFit, SameCores, SameFresh, SameNodes, SameNull, SameValues, is_at, limbo_by, notes}
-use Rattle.bbm_replay_trees.proofs.Elements.{In, any_finds, any_none, to_filter}
+use Rattle.bbm_lists.specs.Elements.{In}
+use Rattle.bbm_lists.proofs.Elements.{any_finds, is_none_of, to_filter}
 use Rattle.bbm_replay_trees.proofs.FitLemmas.{at_page, in_page, is_at_page, to_page, written}
 
 pub few : (heading : Heading) (trust : Trust) (h : List Event) (e : Event)
@@ -201,7 +202,7 @@ module _ (heading : Heading) (h : List Event) (events : events_of (notes heading
       → page_in_use heading Patterns (notes heading h) (Null pe page) ≡ None
   null_unused fresh value pe page fit same_fresh same is_fresh_page zeros =
       ap (λ b. if_so (not b || is_used page) page) (sym (same_fresh page) ∙ is_fresh_page)
-      ∙ ap (λ b. if_so b page) (any_none (λ (a : ℕ). not (value_of (events_of (notes heading h)) a == 0))
+      ∙ ap (λ b. if_so b page) (is_none_of (λ (a : ℕ). not (value_of (events_of (notes heading h)) a == 0))
       (places_in (events_of (notes heading h)) page) no_value)
     where
       no_value : (a : ℕ) → In (places_in (events_of (notes heading h)) page) a

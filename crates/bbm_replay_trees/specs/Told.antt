@@ -1,10 +1,9 @@
 -- What a checker that keeps no history says of each page and place, by plain functions, and when that is what the
 -- definitions say after a history. A history is newest first. Source: project's own choice.
-use Rattle.std.specs.Prelude.{◌≡◌, ℕ, suc, ◌%◌, Bool, true, false, not, ◌&&◌, ◌==◌, List, Option, Some, None}
+use Rattle.std.specs.Prelude.{◌≡◌, ℕ, suc, Bool, true, false, not, ◌&&◌, ◌==◌, List, Option, Some}
 use Rattle.std.specs.Prelude.{is_some, option_and_then, if◌then◌else◌}
 use Rattle.bbm_descriptor.specs.Descriptor.{core_of, is_valid}
 use Rattle.bbm_descriptor.specs.declared.desc.Core.{Core}
-use Rattle.bbm_descriptor.specs.declared.desc.Core.TheVariants.{Table}
 use Rattle.bbm_events.specs.Fits.{fits_heading}
 use Rattle.bbm_rules.specs.Prelude.{Kind, Heading, Event, Write}
 use Rattle.bbm_rules.specs.Claims.Trust.{Patterns}
@@ -15,10 +14,9 @@ use Rattle.bbm_rules.specs.Pages.{initialised, is_fresh, is_null}
 use Rattle.bbm_rules.specs.Places.{page_of}
 use Rattle.bbm_rules.specs.Tree.{Node, held_at, node_below, node_of}
 use Rattle.bbm_rules.specs.Values.{value_of}
-
--- whether the address is that of a descriptor of the page
-abbrev pub is_at : ℕ → ℕ → Bool
-is_at page place = page_of place == page && place % 8 == 0
+-- whether an address is that of a descriptor of a page, the next page of a core that is a table, and the node where a
+-- test keeps it
+pub use Rattle.bbm_tree_index.specs.Held.{is_at, next_in, kept}
 
 -- whether each page is a null page
 abbrev pub SameNull : List Event → (ℕ → Bool) → Type 0
@@ -61,16 +59,6 @@ limbo_by value n = any (λ a. not (is_valid n.kind a.level (value a.place))) n.a
 -- whether each place above the node holds something
 abbrev pub is_held_by : (Kind → ℕ → ℕ → Bool) → Node → Bool
 is_held_by holds m = every (λ a. holds m.kind a.level a.place) m.above
-
--- the node where the test keeps it
-abbrev pub kept : (Node → Bool) → Option Node → Option Node
-kept keeps None = None
-kept keeps (Some m) = if keeps m then Some m else None
-
--- the next page of a core that is a table
-abbrev pub next_in : Option Core → Option ℕ
-next_in (Some (Table next ns)) = Some next
-next_in _ = None
 
 -- the core of what a place of a node holds after an event that leaves the node and is no DSB, by that before it: a
 -- valid write of the place makes it that of its value

@@ -15,7 +15,7 @@ ghost use Rattle.bbm_rules.specs.Lists.{if_so};
 ghost use Rattle.bbm_rules.specs.Places.{page_of};
 ghost use Rattle.bbm_rules.specs.Rules.{bad_kind, global_user, not_fresh};
 ghost use Rattle.bbm_rules.specs.Tree.{Node, next_of, node_below, nodes_of_root};
-ghost use Rattle.bbm_replay_trees.specs.Judged.{is_bad, is_user_global};
+ghost use Rattle.bbm_tree_index.specs.Judged.{is_bad, is_user_global};
 ghost use Rattle.bbm_replay_trees.specs.Judging.{Judging};
 ghost use Rattle.bbm_replay_trees.specs.Told.{AllFit, SameCores, SameFresh, SameNodes, SameNull, SameValues, notes};
 

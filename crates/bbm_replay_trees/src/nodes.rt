@@ -16,7 +16,7 @@ ghost use Rattle.bbm_rules.specs.Held.{held};
 ghost use Rattle.bbm_rules.specs.Places.{page_of};
 ghost use Rattle.bbm_rules.specs.Tree.{Above, Node, next_of, node_below, nodes_of_root};
 ghost use Rattle.bbm_replay_trees.specs.Events.{leaves_trees};
-ghost use Rattle.bbm_replay_trees.specs.Paths.{Attached};
+ghost use Rattle.bbm_tree_index.specs.Paths.{Attached};
 ghost use Rattle.bbm_replay_trees.specs.Told.{AllFit, Hangs, SameCores, SameFresh, SameNodes, SameValues, is_at};
 ghost use Rattle.bbm_replay_trees.specs.Told.{is_held_by, kept, next_in, notes};
 

@@ -8,8 +8,9 @@ use Rattle.bbm_descriptor.specs.declared.desc.Desc.{Desc}
 use Rattle.bbm_events.specs.Heading.{Heading}
 use Rattle.bbm_events.specs.declared.event.Event.{Event}
 use Rattle.bbm_events.specs.declared.event.Event.TheVariants.{Root, Write}
-use Rattle.bbm_rules.proofs.ListLemmas.{Apart, Parted, append_none, apart, in_left, in_pages, in_right, least_none, none_in, parted, place_apart, same_place, to_filter, to_flat}
-use Rattle.bbm_rules.proofs.OpenLaw.{In, from_contains}
+use Rattle.bbm_lists.specs.Elements.{In}
+use Rattle.bbm_lists.proofs.Elements.{from_contains, in_left, in_right, none_in, to_filter, to_flat}
+use Rattle.bbm_rules.proofs.ListLemmas.{Apart, Parted, append_none, apart, in_pages, least_none, parted, place_apart, same_place}
 use Rattle.bbm_rules.proofs.TreeLaw.{below_fresh, ends_from, one_more, path_to_end, place_of_table, written_by}
 use Rattle.bbm_rules.specs.Attach.{Attached, End, all_ends, attached_by, attached_from, end_at, ends_below, pages_of}
 use Rattle.bbm_rules.specs.Claims.{Trust}

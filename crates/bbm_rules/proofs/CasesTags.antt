@@ -49,6 +49,25 @@ pub el2_root_switched_after_the_flush : judged (
 unfolding judged
 el2_root_switched_after_the_flush = refl
 
+-- The flush was issued before the ISB, when PE 0 could still use the first root, so the tag stays held.
+pub flush_before_the_isb_keeps_the_tag : judged (
+    "bbmlog 1 hyp 2 1 1 1"
+    ∷ "init 0 0x40000000"
+    ∷ "root 0 el2 - 0x40000000"
+    ∷ "init 0 0x40001000"
+    ∷ "root 0 el2 - 0x40001000"
+    ∷ "msr 0 ttbr0_el2 0x40000000"
+    ∷ "isb 0"
+    ∷ "msr 0 ttbr0_el2 0x0"
+    ∷ "tlbi 0 alle2is"
+    ∷ "isb 0"
+    ∷ "dsb 0 ish"
+    ∷ "msr 0 ttbr0_el2 0x40001000"
+    ∷ "end 11"
+    ∷ []) ≡ codes "refused line 12 rule 12 tag-conflict at 0x40000000\n"
+unfolding judged
+flush_before_the_isb_keeps_the_tag = refl
+
 -- PE 0 may still use the second root, so the first, which it takes now, is the least one in conflict.
 pub tag_conflict_at_the_new_base : judged (
     "bbmlog 1 hyp 1 1 1 1"

@@ -1,5 +1,6 @@
 pub mod Judged
 pub mod FirstLineLaw
+pub mod SameLimits
 pub mod CasesCore
 pub mod CasesPublication
 pub mod CasesTwoSteps

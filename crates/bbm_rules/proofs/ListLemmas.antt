@@ -1,101 +1,11 @@
--- Elements of lists that are made from others, and lists of ends that lie in pages of their own.
-use Rattle.std.proofs.Common.{◌≡◌, ℕ, Bool, true, false, cond, ◌⊎◌, ◌==◌, List, [], ◌∷◌, ◌++◌, Option, Some, None, is_some, find, filter, flat_map, filter_map, refl, sym, ◌∙◌, ap, subst, inl, inr, true≢false}
+-- What `find` finds, lists of numbers, and lists of ends that lie in pages of their own.
+use Rattle.std.proofs.Common.{◌≡◌, ℕ, Bool, true, false, cond, ◌⊎◌, ◌==◌, List, [], ◌∷◌, ◌++◌, Option, Some, None, is_some, find, flat_map, filter_map, refl, sym, ◌∙◌, ap, subst, inl, inr, true≢false}
 use Rattle.std.proofs.lemmas.Bool.{eq-eqb, or_left, or_right}
 use Rattle.std.specs.List.{cons_option}
-use Rattle.bbm_rules.proofs.OpenLaw.{In}
+use Rattle.bbm_lists.specs.Elements.{In}
+use Rattle.bbm_lists.proofs.Elements.{in_left, in_right, to_filter_map, to_flat}
 use Rattle.bbm_rules.specs.Attach.{End, pages_of}
 use Rattle.bbm_rules.specs.Lists.{among, least, repeated, with_number}
-
--- ---- elements
-
-pub in_left : {X : Type 0} (xs ys : List X) (x : X) → In xs x → In (xs ++ ys) x
-in_left [] ys x i = absurd i
-in_left (y ∷ xs) ys x (inl e) = inl e
-in_left (y ∷ xs) ys x (inr i) = inr (in_left xs ys x i)
-
-pub in_right : {X : Type 0} (xs ys : List X) (x : X) → In ys x → In (xs ++ ys) x
-in_right [] ys x i = i
-in_right (y ∷ xs) ys x i = inr (in_right xs ys x i)
-
-pub in_append : {X : Type 0} (xs ys : List X) (x : X) → In (xs ++ ys) x → In xs x ⊎ In ys x
-in_append [] ys x i = inr i
-in_append (y ∷ xs) ys x (inl e) = inl (inl e)
-in_append (y ∷ xs) ys x (inr i) = elim (in_append xs ys x i) [ inl l ↦ inl (inr l) | inr r ↦ inr r ]
-
-pub from_flat : {X A : Type 0} (f : X → List A) (xs : List X) (a : A) → In (flat_map f xs) a
-    → (x : X) × In xs x × In (f x) a
-from_flat f [] a i = absurd i
-from_flat f (x ∷ xs) a i =
-    elim (in_append (f x) (flat_map f xs) a i) [
-      | inl here ↦ (x, inl refl, here)
-      | inr there ↦ let r = from_flat f xs a there in (r.0, inr r.1, r.2)
-    ]
-
-pub to_flat : {X A : Type 0} (f : X → List A) (xs : List X) (x : X) (a : A) → In xs x → In (f x) a → In (flat_map f xs) a
-to_flat f [] x a i k = absurd i
-to_flat {X} {A} f (y ∷ xs) x a (inl e) k =
-    in_left (f y) (flat_map f xs) a (subst (λ (z : X). In (f z) a) (sym e) k)
-to_flat f (y ∷ xs) x a (inr i) k = in_right (f y) (flat_map f xs) a (to_flat f xs x a i k)
-
-in_option : {Y : Type 0} (o : Option Y) (ys : List Y) (y : Y) → In (cons_option o ys) y → (o ≡ Some y) ⊎ In ys y
-in_option None ys y i = inr i
-in_option (Some z) ys y (inl e) = inl (ap Some e)
-in_option (Some z) ys y (inr i) = inr i
-
-option_has : {Y : Type 0} (o : Option Y) (ys : List Y) (y : Y) → o ≡ Some y → In (cons_option o ys) y
-option_has {Y} o ys y e = subst (λ (p : Option Y). In (cons_option p ys) y) (sym e) (inl refl)
-
-option_keeps : {Y : Type 0} (o : Option Y) (ys : List Y) (y : Y) → In ys y → In (cons_option o ys) y
-option_keeps None ys y i = i
-option_keeps (Some z) ys y i = inr i
-
-pub from_filter_map : {X Y : Type 0} (f : X → Option Y) (xs : List X) (y : Y) → In (filter_map f xs) y
-    → (x : X) × In xs x × (f x ≡ Some y)
-from_filter_map f [] y i = absurd i
-from_filter_map f (x ∷ xs) y i =
-    elim (in_option (f x) (filter_map f xs) y i) [
-      | inl here ↦ (x, inl refl, here)
-      | inr there ↦ let r = from_filter_map f xs y there in (r.0, inr r.1, r.2)
-    ]
-
-pub to_filter_map : {X Y : Type 0} (f : X → Option Y) (xs : List X) (x : X) (y : Y) → In xs x → f x ≡ Some y
-    → In (filter_map f xs) y
-to_filter_map f [] x y i k = absurd i
-to_filter_map f (z ∷ xs) x y (inl e) k = option_has (f z) (filter_map f xs) y (ap f e ∙ k)
-to_filter_map f (z ∷ xs) x y (inr i) k = option_keeps (f z) (filter_map f xs) y (to_filter_map f xs x y i k)
-
-in_cond : {X : Type 0} (b : Bool) (x : X) (xs : List X) (y : X) → In (cond b (x ∷ xs) xs) y
-    → ((b ≡ true) × (x ≡ y)) ⊎ In xs y
-in_cond true x xs y (inl e) = inl (refl, e)
-in_cond true x xs y (inr i) = inr i
-in_cond false x xs y i = inr i
-
-cond_has : {X : Type 0} (b : Bool) (x : X) (xs : List X) → b ≡ true → In (cond b (x ∷ xs) xs) x
-cond_has true x xs e = inl refl
-cond_has false x xs e = absurd (true≢false (sym e))
-
-cond_keeps : {X : Type 0} (b : Bool) (x : X) (xs : List X) (y : X) → In xs y → In (cond b (x ∷ xs) xs) y
-cond_keeps true x xs y i = inr i
-cond_keeps false x xs y i = i
-
-pub from_filter : {X : Type 0} (test : X → Bool) (xs : List X) (x : X) → In (filter test xs) x → In xs x × (test x ≡ true)
-from_filter test [] x i = absurd i
-from_filter test (y ∷ xs) x i =
-    elim (in_cond (test y) y (filter test xs) x i) [
-      | inl here ↦ (inl here.1, sym (ap test here.1) ∙ here.0)
-      | inr there ↦ let r = from_filter test xs x there in (inr r.0, r.1)
-    ]
-
-pub to_filter : {X : Type 0} (test : X → Bool) (xs : List X) (x : X) → In xs x → test x ≡ true → In (filter test xs) x
-to_filter test [] x i k = absurd i
-to_filter {X} test (y ∷ xs) x (inl e) k =
-    subst (λ (z : X). In (cond (test y) (y ∷ filter test xs) (filter test xs)) z) e
-    (cond_has (test y) y (filter test xs) (ap test e ∙ k))
-to_filter test (y ∷ xs) x (inr i) k = cond_keeps (test y) y (filter test xs) x (to_filter test xs x i k)
-
--- an empty list has no element
-pub none_in : {X : Type 0} (xs : List X) (x : X) → xs ≡ [] → In xs x → ⊥
-none_in {X} xs x e i = let k : In {X = X} [] x = subst (λ (ys : List X). In ys x) e i in k
 
 -- what `find` finds
 found_one : {X : Type 0} (test : X → Bool) (x : X) (rest : Option X) (y : X) (b : Bool) → test x ≡ b

@@ -1,29 +1,12 @@
 -- The unanswered TLBIs of a PE are those that no later DSB of it completes.
-use Rattle.std.proofs.Common.{◌≡◌, ℕ, zero, suc, ◌<◌, Bool, true, false, cond, ◌&&◌, ◌⊎◌, ◌==◌, List, [], ◌∷◌, ◌++◌, length, Contains, slice_index_or, refl, sym, ◌∙◌, ap, subst, inl, inr, true≢false, not-suc-le-zero, le_of_suc-le-suc, suc-le-suc, zero-le, not}
+use Rattle.std.proofs.Common.{◌≡◌, ℕ, Bool, true, false, cond, ◌&&◌, ◌⊎◌, ◌==◌, List, [], ◌∷◌, ◌++◌, Contains, refl, sym, ◌∙◌, ap, subst, inl, inr, true≢false, not}
+use Rattle.bbm_lists.specs.Elements.{In}
+use Rattle.bbm_lists.proofs.Elements.{from_contains, to_contains}
 use Rattle.bbm_rules.specs.Prelude.{Barrier, Event, Dsb, Tlbi}
 use Rattle.bbm_rules.specs.Notes.{Noted, event_of}
 use Rattle.bbm_rules.specs.Reach.{Issued, completes, left_open, still_open, unanswered}
 use Rattle.bbm_rules.specs.Sentences.{Open, issues, completes_for}
 use Rattle.bbm_rules.specs.Tags.{itself}
-
--- an element of a list
-abbrev pub In : {X : Type 0} → List X → X → Type 0
-In [] x = ⊥
-In (y ∷ ys) x = (y ≡ x) ⊎ In ys x
-
-in_at : {X : Type 0} (xs : List X) (x : X) (k : ℕ) → k < length xs → slice_index_or xs k x ≡ x → In xs x
-in_at [] x k below e = absurd (not-suc-le-zero below)
-in_at (y ∷ ys) x zero below e = inl e
-in_at (y ∷ ys) x (suc k) below e = inr (in_at ys x k (le_of_suc-le-suc below) e)
-
-pub from_contains : {X : Type 0} (xs : List X) (x : X) → Contains xs x → In xs x
-from_contains xs x c = in_at xs x c.0 c.1 c.2
-
-pub to_contains : {X : Type 0} (xs : List X) (x : X) → In xs x → Contains xs x
-to_contains [] x i = absurd i
-to_contains (y ∷ ys) x (inl e) = (0, suc-le-suc zero-le, e)
-to_contains (y ∷ ys) x (inr i) =
-    let c : Contains ys x = to_contains ys x i in (suc c.0, suc-le-suc c.1, c.2)
 
 abbrev pub tail_of : {A : Type 0} → List A → List A
 tail_of [] = []

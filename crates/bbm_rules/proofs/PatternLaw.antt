@@ -7,9 +7,10 @@ use Rattle.bbm_tlbi_scope.specs.declared.entry.Cover.TheVariants.{None as NoCove
 use Rattle.bbm_events.specs.Heading.{Heading}
 use Rattle.bbm_events.specs.declared.event.Event.{Event}
 use Rattle.bbm_events.specs.declared.event.Event.TheVariants.{Write, Dsb}
-use Rattle.bbm_rules.proofs.OpenLaw.{from_contains, open_note_complete}
+use Rattle.bbm_lists.proofs.Elements.{any_finds, from_contains}
+use Rattle.bbm_rules.proofs.OpenLaw.{open_note_complete}
 use Rattle.bbm_rules.proofs.Patterns.{one_allowed, two_allowed, AnsweredOne, answered_one, half_step, is_answer, is_publication, is_write}
-use Rattle.bbm_rules.proofs.SearchLemmas.{Found, any_finds, some_found, some_finds}
+use Rattle.bbm_rules.proofs.SearchLemmas.{Found, some_found, some_finds}
 use Rattle.bbm_rules.specs.Claims.{Trust}
 use Rattle.bbm_rules.specs.Cleansing.{answered_where, answers_one, cleansed, flushes, full_step, half, half_where, is_completed, publishes_write, same_cover, second_step, seen, seen_where, writes}
 use Rattle.bbm_rules.specs.Lists.{some}

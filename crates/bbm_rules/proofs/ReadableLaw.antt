@@ -3,8 +3,9 @@ use Rattle.std.proofs.Common.{◌≡◌, ℕ, Bool, true, false, cond, ◌||◌,
 use Rattle.std.proofs.lemmas.Bool.{and_from, and_parts, eqb-true, or_cases, or_left, or_right}
 use Rattle.bbm_rules.specs.Prelude.{Barrier, Heading, Event, Init, Write, Dsb}
 use Rattle.bbm_rules.proofs.EqualityLaw.{same_number}
-use Rattle.bbm_rules.proofs.OpenLaw.{In, head_of, tail_of}
-use Rattle.bbm_rules.proofs.SearchLemmas.{any_finds, any_found, in_split, split_in}
+use Rattle.bbm_lists.specs.Elements.{In}
+use Rattle.bbm_lists.proofs.Elements.{any_finds, any_found, in_split, split_in}
+use Rattle.bbm_rules.proofs.OpenLaw.{head_of, tail_of}
 use Rattle.bbm_rules.specs.Lists.{among}
 use Rattle.bbm_rules.specs.Places.{page_of}
 use Rattle.bbm_rules.specs.Values.{value_of, published, publishes_for, publishes_to, readable_before, is_readable}

@@ -1,6 +1,6 @@
 -- A tag is readable exactly where the sentence says so; and what the rules on tags and roots say of a register write and
 -- of an `unroot`.
-use Rattle.std.proofs.Common.{◌≡◌, ℕ, zero, suc, ◌<◌, ◌&&◌, not, Bool, true, false, ◌==◌, nat_lt, List, [], ◌∷◌, length, Option, Some, None, is_none, option_and_then, Contains, filter, flat_map, map, refl, sym, ◌∙◌, ap, subst, inl, inr, true≢false, arith}
+use Rattle.std.proofs.Common.{◌≡◌, ℕ, zero, suc, ◌<◌, ◌&&◌, not, Bool, true, false, ◌==◌, nat_lt, List, [], ◌∷◌, length, Option, Some, None, is_none, option_and_then, Contains, filter, flat_map, refl, sym, ◌∙◌, ap, subst, inl, inr, true≢false, arith}
 use Rattle.std.proofs.lemmas.Bool.{and_from, and_parts, eq-eqb, eqb-true, lt-ltb, not_from_false, or_parts}
 use Rattle.bbm_regimes.specs.declared.regime.Reg.TheVariants as reg
 use Rattle.bbm_events.specs.Heading.{Heading}
@@ -8,9 +8,10 @@ use Rattle.bbm_events.specs.declared.event.Event.TheVariants.{Msr, Unroot}
 use Rattle.bbm_rules.specs.Prelude.{AsidFrom, FromTtbr0, FromTtbr1, Reg, Ttbr0El2, VttbrEl2, Ttbr0El1, Ttbr1El1, Tag, El2Tag, Vmid, Asid, Ttbr1Tag, World, Hyp, Kernel, Event}
 use Rattle.bbm_rules.proofs.EqualityLaw.{same_number, tag_equal, tag_self}
 use Rattle.bbm_rules.proofs.HeldLemmas.{among_from}
-use Rattle.bbm_rules.proofs.ListLemmas.{among_in, from_filter_map, from_flat, in_append, in_left, in_right, least_none, none_in, to_filter, to_filter_map, to_flat}
-use Rattle.bbm_rules.proofs.OpenLaw.{In, from_contains}
-use Rattle.bbm_rules.proofs.SearchLemmas.{any_finds, any_found, none_of}
+use Rattle.bbm_lists.specs.Elements.{In}
+use Rattle.bbm_lists.proofs.Elements.{any_finds, any_found, from_contains, from_filter_map, from_flat, in_append}
+use Rattle.bbm_lists.proofs.Elements.{in_left, in_map, in_right, none_in, none_of, to_filter, to_filter_map, to_flat}
+use Rattle.bbm_rules.proofs.ListLemmas.{among_in, least_none}
 use Rattle.bbm_rules.proofs.TagSetLaw.{no_tag}
 use Rattle.bbm_rules.specs.Claims.{Trust, same_tag}
 use Rattle.bbm_rules.specs.Lists.{among, below, if_so, is_that, some_pe}
@@ -168,11 +169,6 @@ reads_complete heading h p tag root k =
 empty : (tags : List Tag) → nat_lt 0 (length tags) ≡ false → tags ≡ []
 empty [] e = refl
 empty (g ∷ tags) e = absurd (true≢false (sym (lt-ltb 0 (suc (length tags)) (omega arith)) ∙ e))
-
-in_map : {A B : Type 0} (f : A → B) (xs : List A) (x : A) → In xs x → In (map f xs) (f x)
-in_map f [] x i = absurd i
-in_map f (y ∷ xs) x (inl e) = inl (ap f e)
-in_map f (y ∷ xs) x (inr i) = inr (in_map f xs x i)
 
 module _ (heading : Heading) (trust : Trust) (h : List Noted) where
   -- after a register write a tag that is readable for a root is held by no other declared root

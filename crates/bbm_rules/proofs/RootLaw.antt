@@ -3,9 +3,10 @@ use Rattle.std.proofs.Common.{◌≡◌, ℕ, Bool, true, false, cond, not, ◌&
 use Rattle.std.proofs.lemmas.Bool.{and_from, and_parts, eqb-true, false_from_ne_true, not-true, not_from_false, or_from, or_parts}
 use Rattle.bbm_rules.specs.Prelude.{Kind, Event, Root, Unroot}
 use Rattle.bbm_rules.proofs.EqualityLaw.{kind_equal, kind_self, same_number}
-use Rattle.bbm_rules.proofs.ListLemmas.{found, from_filter, to_filter}
-use Rattle.bbm_rules.proofs.OpenLaw.{In, from_contains, to_contains}
-use Rattle.bbm_rules.proofs.SearchLemmas.{any_finds, any_found, is_none_at, none_at}
+use Rattle.bbm_lists.specs.Elements.{In}
+use Rattle.bbm_lists.proofs.Elements.{any_finds, any_found, from_contains, from_filter, to_contains, to_filter}
+use Rattle.bbm_rules.proofs.ListLemmas.{found}
+use Rattle.bbm_rules.proofs.SearchLemmas.{is_none_at, none_at}
 use Rattle.bbm_rules.specs.Lists.{any}
 use Rattle.bbm_rules.specs.Roots.{Declared, is_at, is_root, retired, root_at, roots_of, same_kind}
 use Rattle.bbm_rules.specs.Sentences.{IsDeclared}

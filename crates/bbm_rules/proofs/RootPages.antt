@@ -3,7 +3,8 @@ use Rattle.std.proofs.Common.{◌≡◌, ℕ, zero, suc, ◌+◌, ◌*◌, ◌<�
 use Rattle.bbm_regimes.specs.declared.regime.Kind.{Kind}
 use Rattle.bbm_events.specs.Heading.{Heading}
 use Rattle.bbm_rules.proofs.ListLemmas.{Apart}
-use Rattle.bbm_rules.proofs.OpenLaw.{In, from_contains, to_contains}
+use Rattle.bbm_lists.specs.Elements.{In}
+use Rattle.bbm_lists.proofs.Elements.{from_contains, to_contains}
 use Rattle.bbm_rules.specs.Roots.{Declared, first_input_page, input_pages, kind_in_world, page_count, pages_from, root_pages, start_of}
 use Rattle.bbm_rules.specs.Tree.{Node, nodes_of_pages, nodes_of_root}
 

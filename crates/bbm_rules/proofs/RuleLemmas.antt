@@ -4,7 +4,8 @@ use Rattle.std.proofs.Common.{◌≡◌, ℕ, true, List, [], ◌∷◌, ◌++�
 use Rattle.std.proofs.lemmas.Bool.{and_from, and_parts}
 use Rattle.bbm_events.specs.Heading.{Heading}
 use Rattle.bbm_events.specs.declared.event.Event.{Event}
-use Rattle.bbm_rules.proofs.OpenLaw.{In, head_of, tail_of}
+use Rattle.bbm_lists.specs.Elements.{In}
+use Rattle.bbm_rules.proofs.OpenLaw.{head_of, tail_of}
 use Rattle.bbm_rules.specs.declared.rule.Rule.{Rule}
 use Rattle.bbm_rules.specs.declared.rule.Rule.TheVariants.{WrongWorld, NoLock, NullWritten, BreakBeforeMake, LimboMake, NotFresh, RewrittenFresh, BadKind, GlobalUser, PageInUse, NoRoot, TagConflict, RootInUse, UnsyncedVmid, BadOperand, LockBusy, LockNotMine}
 use Rattle.bbm_rules.specs.Broken.{Breach, breaks, broken, first_broken, keeps, rules}

@@ -1,43 +1,9 @@
 -- What a search finds, and that it finds what is there; later items keep what it found.
 use Rattle.std.proofs.Common.{◌≡◌, Bool, true, false, List, [], ◌∷◌, ◌++◌, refl, sym, ◌∙◌, ap, subst, inl, inr, true≢false}
-use Rattle.std.proofs.lemmas.Bool.{or_cases, or_left, or_right, or_parts, or_from}
-use Rattle.bbm_rules.proofs.OpenLaw.{In}
+use Rattle.std.proofs.lemmas.Bool.{or_cases, or_left, or_right, or_from}
+use Rattle.bbm_lists.specs.Elements.{In}
+use Rattle.bbm_lists.proofs.Elements.{any_finds, any_found, in_split, is_none_of, none_of, split_in}
 use Rattle.bbm_rules.specs.Lists.{any, some}
-
-module _ {A : Type 0} (test : A → Bool) where
-  pub any_found : (xs : List A) → any test xs ≡ true → (x : A) × In xs x × (test x ≡ true)
-  any_found [] k = absurd (true≢false (sym k))
-  any_found (x ∷ xs) k =
-      elim (or_cases (test x) (any test xs) k) [
-        | inl here ↦ (x, inl refl, here)
-        | inr there ↦ let r = any_found xs there in (r.0, inr r.1, r.2)
-      ]
-
-  pub any_finds : (xs : List A) (x : A) → In xs x → test x ≡ true → any test xs ≡ true
-  any_finds [] x i k = absurd i
-  any_finds (y ∷ xs) x (inl same) k = or_left (test y) (any test xs) (ap test same ∙ k)
-  any_finds (y ∷ xs) x (inr i) k = or_right (test y) (any test xs) (any_finds xs x i k)
-
-  pub none_of : (xs : List A) → any test xs ≡ false → (x : A) → In xs x → test x ≡ false
-  none_of [] k x i = absurd i
-  none_of (y ∷ xs) k x (inl same) = ap test (sym same) ∙ (or_parts (test y) (any test xs) k).0
-  none_of (y ∷ xs) k x (inr i) = none_of xs (or_parts (test y) (any test xs) k).1 x i
-
-  pub is_none_of : (xs : List A) → ((x : A) → In xs x → test x ≡ false) → any test xs ≡ false
-  is_none_of [] all = refl
-  is_none_of (y ∷ xs) all =
-      or_from (test y) (any test xs) (all y (inl refl)) (is_none_of xs (λ x i. all x (inr i)))
-
--- an item of a list stands in a split of it
-pub in_split : {A : Type 0} (newer older : List A) (x : A) → In (newer ++ x ∷ older) x
-in_split [] older x = inl refl
-in_split (y ∷ newer) older x = inr (in_split newer older x)
-
-pub split_in : {A : Type 0} (xs : List A) (x : A) → In xs x → (newer older : List A) × (xs ≡ newer ++ x ∷ older)
-split_in [] x i = absurd i
-split_in {A} (y ∷ xs) x (inl same) = ([], xs, ap (λ (z : A). z ∷ xs) same)
-split_in {A} (y ∷ xs) x (inr i) =
-    let r = split_in xs x i in (y ∷ r.0, r.1, ap (λ (zs : List A). y ∷ zs) r.2)
 
 -- where none of the newer items passes, in the words of a sentence
 pub none_at : {A : Type 0} (test : A → Bool) (xs : List A) → any test xs ≡ false

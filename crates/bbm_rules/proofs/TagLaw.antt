@@ -13,8 +13,10 @@ use Rattle.bbm_regimes.specs.declared.regime.World.TheVariants.{Hyp, Kernel}
 use Rattle.bbm_events.specs.Heading.{Heading}
 use Rattle.bbm_events.specs.declared.event.Event.{Event}
 use Rattle.bbm_events.specs.declared.event.Event.TheVariants.{Dsb}
-use Rattle.bbm_rules.proofs.OpenLaw.{In, from_contains, to_contains, head_of, tail_of, open_sound, open_complete}
-use Rattle.bbm_rules.proofs.SearchLemmas.{any_found, any_finds, is_none_before, none_before}
+use Rattle.bbm_lists.specs.Elements.{In}
+use Rattle.bbm_lists.proofs.Elements.{any_finds, any_found, from_contains, to_contains}
+use Rattle.bbm_rules.proofs.OpenLaw.{head_of, tail_of, open_sound, open_complete}
+use Rattle.bbm_rules.proofs.SearchLemmas.{is_none_before, none_before}
 use Rattle.bbm_rules.specs.declared.claim.Claim.TheVariants.{Taken}
 use Rattle.bbm_rules.specs.Claims.{Trust, allows, same_tag}
 use Rattle.bbm_rules.specs.Reach.{Issued, completes, reaches, unanswered}

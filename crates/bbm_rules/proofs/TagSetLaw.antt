@@ -4,9 +4,9 @@ use Rattle.std.proofs.lemmas.Bool.{and_parts, false_from_ne_true, or_cases}
 use Rattle.bbm_tlbi_scope.specs.declared.entry.TagSet.TheVariants.{None as NoTag, One, Many}
 use Rattle.bbm_rules.specs.Prelude.{Tag, Heading, Event}
 use Rattle.bbm_rules.proofs.EqualityLaw.{tag_equal, tag_self}
-use Rattle.bbm_rules.proofs.ListLemmas.{from_filter, in_left, in_right, to_filter, to_filter_map, to_flat}
-use Rattle.bbm_rules.proofs.OpenLaw.{In}
-use Rattle.bbm_rules.proofs.SearchLemmas.{any_finds, any_found}
+use Rattle.bbm_lists.specs.Elements.{In}
+use Rattle.bbm_lists.proofs.Elements.{any_finds, any_found, from_filter, in_left, in_right, to_filter, to_filter_map}
+use Rattle.bbm_lists.proofs.Elements.{to_flat}
 use Rattle.bbm_rules.specs.Claims.{Trust, same_tag}
 use Rattle.bbm_rules.specs.Lists.{any, below, if_so}
 use Rattle.bbm_rules.specs.Tags.{Reading, distinct, ever_read, holds_at, holds_tag, loses, readings, reads, tag_set, tag_for, tags_of}

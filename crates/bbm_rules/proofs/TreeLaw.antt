@@ -9,9 +9,9 @@ use Rattle.bbm_events.specs.Heading.{Heading}
 use Rattle.bbm_events.specs.declared.event.Event.{Event}
 use Rattle.bbm_events.specs.declared.event.Event.TheVariants.{Init, Null, Write}
 use Rattle.bbm_rules.proofs.HeldLemmas.{held_is_written, written_here, written_stays}
-use Rattle.bbm_rules.proofs.ListLemmas.{from_filter, from_filter_map, from_flat, to_filter, to_filter_map, to_flat}
-use Rattle.bbm_rules.proofs.OpenLaw.{In, from_contains, to_contains}
-use Rattle.bbm_rules.proofs.SearchLemmas.{any_finds, any_found, is_none_of, none_of}
+use Rattle.bbm_lists.specs.Elements.{In}
+use Rattle.bbm_lists.proofs.Elements.{any_finds, any_found, from_contains, from_filter, from_filter_map, from_flat}
+use Rattle.bbm_lists.proofs.Elements.{is_none_of, none_of, to_contains, to_filter, to_filter_map, to_flat}
 use Rattle.bbm_rules.proofs.TreeLemmas.{Child, InTree, Rooted, at_level, at_start, child_at_level, from_tree, has_node, level_is, node_found, root_at_level, to_tree}
 use Rattle.bbm_rules.specs.Attach.{End, end_at, ends_below}
 use Rattle.bbm_rules.specs.Claims.{Trust}

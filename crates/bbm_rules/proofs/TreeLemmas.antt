@@ -4,8 +4,10 @@ use Rattle.std.proofs.lemmas.Option.{option_and_then_some}
 use Rattle.bbm_regimes.specs.declared.regime.Kind.{Kind}
 use Rattle.bbm_events.specs.Heading.{Heading}
 use Rattle.bbm_rules.proofs.HeldLemmas.{held_is_written}
-use Rattle.bbm_rules.proofs.ListLemmas.{finds, found, from_filter, from_filter_map, from_flat, in_append, in_left, in_right, to_filter, to_filter_map, to_flat}
-use Rattle.bbm_rules.proofs.OpenLaw.{In}
+use Rattle.bbm_lists.specs.Elements.{In}
+use Rattle.bbm_lists.proofs.Elements.{from_filter, from_filter_map, from_flat, in_append, in_left, in_right, to_filter}
+use Rattle.bbm_lists.proofs.Elements.{to_filter_map, to_flat}
+use Rattle.bbm_rules.proofs.ListLemmas.{finds, found}
 use Rattle.bbm_rules.specs.Claims.{Trust}
 use Rattle.bbm_rules.specs.Notes.{Noted, events_of}
 use Rattle.bbm_rules.specs.Places.{page_of}

@@ -1,9 +1,9 @@
 -- Pages in which two ends of a list lie.
 use Rattle.std.proofs.Common.{◌≡◌, ℕ, ◌⊎◌, Bool, true, false, cond, ◌==◌, List, [], ◌∷◌, ◌++◌, Option, Some, None, filter, flat_map, filter_map, refl, sym, ◌∙◌, ap, subst, inl, inr, true≢false}
 use Rattle.std.proofs.lemmas.Bool.{eqb-true}
-use Rattle.bbm_rules.proofs.ListLemmas.{Apart, among_in, from_filter, from_flat, in_left, in_pages, in_right, from_pages, in_append}
-use Rattle.bbm_rules.proofs.OpenLaw.{In}
-use Rattle.bbm_rules.proofs.SearchLemmas.{any_found}
+use Rattle.bbm_lists.specs.Elements.{In}
+use Rattle.bbm_lists.proofs.Elements.{any_found, from_filter, from_flat, in_append, in_left, in_right}
+use Rattle.bbm_rules.proofs.ListLemmas.{Apart, among_in, in_pages, from_pages}
 use Rattle.bbm_rules.specs.Prelude.{Event, Write}
 use Rattle.bbm_rules.specs.Attach.{End, pages_of}
 use Rattle.bbm_rules.specs.Lists.{among, repeated}

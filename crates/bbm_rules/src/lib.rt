@@ -32,7 +32,7 @@ pub use phase::Phase;
 pub use rule::Rule;
 pub use step_fault::StepFault;
 pub use tag_laws::{law_readable_tag, law_tag_rules};
-pub use verdict::{Verdict, law_first_line_decides};
+pub use verdict::{Verdict, law_first_line_decides, law_slow_says_the_same};
 
 #[cfg(test)]
 mod tests {
@@ -48,7 +48,7 @@ mod tests {
     use crate::laws::{law_answered, law_notes_keep_the_events, law_readable_value, law_tag_held};
     use crate::path_laws::law_repeated;
     use crate::tag_laws::{law_readable_tag, law_tag_rules};
-    use crate::verdict::law_first_line_decides;
+    use crate::verdict::{law_first_line_decides, law_slow_says_the_same};
 
     #[test]
     fn laws_hold() {
@@ -85,6 +85,7 @@ mod tests {
         law_tag_set();
         law_tag_held();
         law_first_line_decides();
+        law_slow_says_the_same();
         law_vmid();
     }
 }

@@ -1,10 +1,13 @@
 //! The verdict on a log.
 
-ghost use Rattle.std.specs.Prelude.{◌≡◌, ◌⊎◌, ℕ, List};
+ghost use Rattle.std.specs.Prelude.{◌≡◌, ◌≢◌, ◌⊎◌, ℕ, List};
+ghost use Rattle.bbm_regimes.specs.declared.regime.Which.TheVariants.{Events};
 ghost use Rattle.bbm_rules.specs.Claims.{Trust};
 ghost use Rattle.bbm_rules.specs.declared.limits.Limits.{Limits as LimitsOf};
-ghost use Rattle.bbm_rules.specs.Outcome.{DecidedByEnd, DecidedByLine, verdict_of_lines};
+ghost use Rattle.bbm_rules.specs.Outcome.{DecidedByEnd, DecidedByLine, check_limits, outcome_of, slow_limits};
+ghost use Rattle.bbm_rules.specs.Outcome.{verdict_of_bytes, verdict_of_lines};
 ghost use Rattle.bbm_rules.specs.declared.verdict.Verdict.{Verdict as VerdictOf};
+ghost use Rattle.bbm_rules.specs.declared.verdict.Verdict.TheVariants.{Limit};
 
 use crate::rule::Rule;
 use bbm_events::{Label, Malformed};
@@ -50,4 +53,16 @@ pub fn law_first_line_decides()
     ensures one_decides { (trust : Trust) (limits : LimitsOf) (lines : List (List ℕ)) (rest : List ℕ) →
         DecidedByLine trust limits lines (verdict_of_lines trust limits lines rest)
         ⊎ DecidedByEnd trust limits lines rest (verdict_of_lines trust limits lines rest) }
+{}
+
+/// Under the limits of `check` and of `slow` comes the same of every input, the verdict, the bytes that stay unread and
+/// the events, wherever `slow` reaches no limit of events; and `check` reaches none. The call does nothing; the law is
+/// its contract.
+#[tactic(auto, using(crate::proofs::SameLimits::laws))]
+pub fn law_slow_says_the_same()
+    ensures same { (trust : Trust) (bytes : List ℕ) →
+        ((line : ℕ) → verdict_of_bytes trust slow_limits bytes ≢ Limit line Events) →
+        outcome_of trust check_limits bytes ≡ outcome_of trust slow_limits bytes }
+    ensures unlimited { (trust : Trust) (bytes : List ℕ) (line : ℕ) →
+        verdict_of_bytes trust check_limits bytes ≢ Limit line Events }
 {}

@@ -18,7 +18,7 @@ returns-clause-taken c = λ calls stands. record {
   declared = stands.declared;
   count = stands.count;
   holds = λ g r p.
-      c.sweep.ensures g r p
+      c.sweep.ensures.same g r p
       ∙ ap (λ (xs : List Held). hold_in xs g r p)
       (with_items_is c.args.self.now.holds c.release.new.holds (omega (arith, c.release.auto.holds)))
       ∙ c.release.ensures g r p

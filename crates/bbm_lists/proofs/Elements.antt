@@ -1,13 +1,10 @@
--- Elements of lists that are made from others.
-use Rattle.std.proofs.Common.{◌≡◌, ℕ, zero, suc, ◌<◌, Bool, true, false, cond, ◌⊎◌, List, [], ◌∷◌, ◌++◌, length, Option, Some, None, Contains, slice_index_or, filter, flat_map, filter_map, map, refl, sym, ◌∙◌, ap, subst, inl, inr, true≢false, not-suc-le-zero, le_of_suc-le-suc, suc-le-suc, zero-le}
-use Rattle.std.proofs.lemmas.Bool.{or_cases, or_left, or_right}
-use Rattle.std.specs.List.{cons_option}
-use Rattle.bbm_rules.specs.Lists.{any}
-
--- an element of a list
-abbrev pub In : {X : Type 0} → List X → X → Type 0
-In [] x = ⊥
-In (y ∷ ys) x = (y ≡ x) ⊎ In ys x
+-- Elements of lists that are made from others, and of lists that are searched or split.
+use Rattle.std.proofs.Common.{◌≡◌, ℕ, zero, suc, ◌<◌, Bool, true, false, cond, ◌⊎◌, List, [], ◌∷◌, ◌++◌, length, Option}
+use Rattle.std.proofs.Common.{Some, None, Contains, slice_index_or, filter, flat_map, filter_map, map, refl, sym, ◌∙◌}
+use Rattle.std.proofs.Common.{ap, subst, inl, inr, true≢false, not-suc-le-zero, le_of_suc-le-suc, suc-le-suc, zero-le}
+use Rattle.std.proofs.lemmas.Bool.{or_cases, or_from, or_left, or_parts, or_right}
+use Rattle.std.specs.List.{cons_option, list_any}
+use Rattle.bbm_lists.specs.Elements.{In}
 
 in_at : {X : Type 0} (xs : List X) (x : X) (k : ℕ) → k < length xs → slice_index_or xs k x ≡ x → In xs x
 in_at [] x k below e = absurd (not-suc-le-zero below)
@@ -21,6 +18,10 @@ pub to_contains : {X : Type 0} (xs : List X) (x : X) → In xs x → Contains xs
 to_contains [] x i = absurd i
 to_contains (y ∷ ys) x (inl e) = (0, suc-le-suc zero-le, e)
 to_contains (y ∷ ys) x (inr i) = let c : Contains ys x = to_contains ys x i in (suc c.0, suc-le-suc c.1, c.2)
+
+-- an empty list has no element
+pub none_in : {X : Type 0} (xs : List X) (x : X) → xs ≡ [] → In xs x → ⊥
+none_in {X} xs x e i = let k : In {X = X} [] x = subst (λ (ys : List X). In ys x) e i in k
 
 pub in_left : {X : Type 0} (xs ys : List X) (x : X) → In xs x → In (xs ++ ys) x
 in_left [] ys x i = absurd i
@@ -45,7 +46,8 @@ from_flat f (x ∷ xs) a i =
       | inr there ↦ let r = from_flat f xs a there in (r.0, inr r.1, r.2)
     ]
 
-pub to_flat : {X A : Type 0} (f : X → List A) (xs : List X) (x : X) (a : A) → In xs x → In (f x) a → In (flat_map f xs) a
+pub to_flat : {X A : Type 0} (f : X → List A) (xs : List X) (x : X) (a : A) → In xs x → In (f x) a
+    → In (flat_map f xs) a
 to_flat f [] x a i k = absurd i
 to_flat {X} {A} f (y ∷ xs) x a (inl e) k =
     in_left (f y) (flat_map f xs) a (subst (λ (z : X). In (f z) a) (sym e) k)
@@ -92,7 +94,8 @@ cond_keeps : {X : Type 0} (b : Bool) (x : X) (xs : List X) (y : X) → In xs y �
 cond_keeps true x xs y i = inr i
 cond_keeps false x xs y i = i
 
-pub from_filter : {X : Type 0} (test : X → Bool) (xs : List X) (x : X) → In (filter test xs) x → In xs x × (test x ≡ true)
+pub from_filter : {X : Type 0} (test : X → Bool) (xs : List X) (x : X) → In (filter test xs) x
+    → In xs x × (test x ≡ true)
 from_filter test [] x i = absurd i
 from_filter test (y ∷ xs) x i =
     elim (in_cond (test y) y (filter test xs) x i) [
@@ -118,22 +121,39 @@ from_map f (x ∷ xs) y (inl e) = (x, inl refl, e)
 from_map f (x ∷ xs) y (inr i) = let r = from_map f xs y i in (r.0, inr r.1, r.2)
 
 -- some element passes a test, or none does
-pub any_finds : {X : Type 0} (test : X → Bool) (xs : List X) (x : X) → In xs x → test x ≡ true → any test xs ≡ true
-any_finds test [] x i k = absurd i
-any_finds test (y ∷ xs) x (inl e) k = or_left (test y) (any test xs) (ap test e ∙ k)
-any_finds test (y ∷ xs) x (inr i) k = or_right (test y) (any test xs) (any_finds test xs x i k)
-
-pub any_found : {X : Type 0} (test : X → Bool) (xs : List X) → any test xs ≡ true → (x : X) × In xs x × (test x ≡ true)
+pub any_found : {X : Type 0} (test : X → Bool) (xs : List X) → list_any test xs ≡ true
+    → (x : X) × In xs x × (test x ≡ true)
 any_found test [] e = absurd (true≢false (sym e))
 any_found test (y ∷ xs) e =
-    elim (or_cases (test y) (any test xs) e) [
+    elim (or_cases (test y) (list_any test xs) e) [
       | inl here ↦ (y, inl refl, here)
       | inr there ↦ let r = any_found test xs there in (r.0, inr r.1, r.2)
     ]
 
-pub any_none : {X : Type 0} (test : X → Bool) (xs : List X) → ((x : X) → In xs x → test x ≡ false) → any test xs ≡ false
-any_none test xs none = by (any test xs) refl
-  where
-    by : (b : Bool) → any test xs ≡ b → b ≡ false
-    by false e = refl
-    by true e = let f = any_found test xs e in absurd (true≢false (sym f.2 ∙ none f.0 f.1))
+pub any_finds : {X : Type 0} (test : X → Bool) (xs : List X) (x : X) → In xs x → test x ≡ true → list_any test xs ≡ true
+any_finds test [] x i k = absurd i
+any_finds test (y ∷ xs) x (inl e) k = or_left (test y) (list_any test xs) (ap test e ∙ k)
+any_finds test (y ∷ xs) x (inr i) k = or_right (test y) (list_any test xs) (any_finds test xs x i k)
+
+pub none_of : {X : Type 0} (test : X → Bool) (xs : List X) → list_any test xs ≡ false → (x : X) → In xs x
+    → test x ≡ false
+none_of test [] k x i = absurd i
+none_of test (y ∷ xs) k x (inl e) = ap test (sym e) ∙ (or_parts (test y) (list_any test xs) k).0
+none_of test (y ∷ xs) k x (inr i) = none_of test xs (or_parts (test y) (list_any test xs) k).1 x i
+
+pub is_none_of : {X : Type 0} (test : X → Bool) (xs : List X) → ((x : X) → In xs x → test x ≡ false)
+    → list_any test xs ≡ false
+is_none_of test [] all = refl
+is_none_of test (y ∷ xs) all =
+    or_from (test y) (list_any test xs) (all y (inl refl)) (is_none_of test xs (λ x i. all x (inr i)))
+
+-- an element of a list stands in a split of it
+pub in_split : {A : Type 0} (newer older : List A) (x : A) → In (newer ++ x ∷ older) x
+in_split [] older x = inl refl
+in_split (y ∷ newer) older x = inr (in_split newer older x)
+
+pub split_in : {A : Type 0} (xs : List A) (x : A) → In xs x → (newer older : List A) × (xs ≡ newer ++ x ∷ older)
+split_in [] x i = absurd i
+split_in {A} (y ∷ xs) x (inl same) = ([], xs, ap (λ (z : A). z ∷ xs) same)
+split_in {A} (y ∷ xs) x (inr i) =
+    let r = split_in xs x i in (y ∷ r.0, r.1, ap (λ (zs : List A). y ∷ zs) r.2)

@@ -13,7 +13,7 @@ use Rattle.bbm_tlbi_scope.specs.declared.entry.Cover.{Cover}
 use Rattle.bbm_rules.specs.Places.{page_of}
 use Rattle.bbm_rules.specs.Prelude.{Barrier, Event, Dmb, Isb, Msr, Lock, Unlock}
 use Rattle.bbm_rules.specs.Tree.{Node}
-use Rattle.bbm_replay_trees.specs.Paths.{Attached}
+use Rattle.bbm_tree_index.specs.Paths.{Attached}
 use Rattle.bbm_replay_trees.specs.Told.{kept}
 use Rattle.bbm_replay.specs.View.{View}
 

@@ -1,0 +1,24 @@
+//! The elements of lists, for proofs. The crate has no code but an empty body: crates above cite the lemmas of
+//! `proofs/Elements.antt`.
+#![tactic(auto)]
+
+ghost use Rattle.std.specs.Prelude.{List, Contains};
+ghost use Rattle.bbm_lists.specs.Elements.{In};
+
+/// The elements of a list by recursion, of which the lemmas speak, are those that stand at a number below its length.
+/// The call does nothing; the law is its contract.
+#[tactic(auto, using(crate::proofs::Elements::to_contains, crate::proofs::Elements::from_contains))]
+pub fn law_elements<X>()
+    ensures sound { (xs : List X) (x : X) → In xs x → Contains xs x }
+    ensures complete { (xs : List X) (x : X) → Contains xs x → In xs x }
+{}
+
+#[cfg(test)]
+mod tests {
+    use crate::law_elements;
+
+    #[test]
+    fn law_holds() {
+        law_elements::<u64>();
+    }
+}

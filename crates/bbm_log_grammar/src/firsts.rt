@@ -1,0 +1,169 @@
+//! The first field of a line, read from its left, and the fields after it.
+
+ghost use Rattle.std.specs.Prelude.{◌≡◌};
+ghost use Rattle.bbm_events.specs.Spelling.{decimal_value, fields, hex_value};
+ghost use Rattle.bbm_log_grammar.specs.Digits.{number_of};
+ghost use Rattle.bbm_log_grammar.specs.Front.{first_value, only_zero, run};
+ghost use Rattle.bbm_events.specs.Lines as lines;
+
+use crate::fields::Fields;
+use crate::numbers::{next_decimal, next_hex};
+use crate::words::{dsb_of, keyword_of};
+use bbm_barriers::{Domain, Dsb, Types};
+use bbm_events::{Keyword, Malformed};
+
+/// The number that the bytes up to the first space write as decimal digits, and the fields after it.
+#[inline]
+fn decimal_run<'a>(line: &'a [u8]) -> Option<(u64, Fields<'a>)>
+    ensures { result ≡ run 10 0 line.now }
+{
+    let mut n = 0;
+    for i in 0..line.len() {
+        match next_decimal(n, line[i]) {
+            Some(more) => n = more,
+            None if line[i] == b' ' => return Some((n, Fields::of(&line[i + 1..]))),
+            None => return None,
+        }
+    }
+    Some((n, Fields::none()))
+}
+
+/// The number that the bytes up to the first space write as hex digits, and the fields after it.
+#[inline]
+fn hex_run<'a>(line: &'a [u8]) -> Option<(u64, Fields<'a>)>
+    ensures { result ≡ run 16 0 line.now }
+{
+    let mut n = 0;
+    for i in 0..line.len() {
+        match next_hex(n, line[i]) {
+            Some(more) => n = more,
+            None if line[i] == b' ' => return Some((n, Fields::of(&line[i + 1..]))),
+            None => return None,
+        }
+    }
+    Some((n, Fields::none()))
+}
+
+/// Zero and the fields after it, where what follows its digit is a space or nothing.
+#[inline]
+fn zero_before<'a>(line: &'a [u8]) -> Option<(u64, Fields<'a>)>
+    ensures { result ≡ only_zero line.now }
+{
+    match line {
+        [] => Some((0, Fields::none())),
+        [b' ', rest @ ..] => Some((0, Fields::of(rest))),
+        _ => None,
+    }
+}
+
+/// The number of the decimal digits up to the first space, without a leading zero.
+#[inline]
+#[tactic(auto, using(crate::proofs::Fronts::number_fields))]
+fn first_decimal_number<'a>(line: &'a [u8]) -> Option<(u64, Fields<'a>)>
+    ensures { result ≡ first_value (number_of 10) line.now }
+{
+    match line {
+        [] => None,
+        [b' ', ..] => None,
+        [b'0', rest @ ..] => zero_before(rest),
+        _ => decimal_run(line),
+    }
+}
+
+/// The number of the hex digits up to the first space, without a leading zero.
+#[inline]
+#[tactic(auto, using(crate::proofs::Fronts::number_fields))]
+fn first_hex_number<'a>(line: &'a [u8]) -> Option<(u64, Fields<'a>)>
+    ensures { result ≡ first_value (number_of 16) line.now }
+{
+    match line {
+        [] => None,
+        [b' ', ..] => None,
+        [b'0', rest @ ..] => zero_before(rest),
+        _ => hex_run(line),
+    }
+}
+
+/// The number whose decimal spelling the first field of the line is, and the fields after it.
+#[inline]
+#[tactic(auto, using(crate::proofs::Fronts::first_decimal_is))]
+pub(crate) fn first_decimal<'a>(line: &'a [u8]) -> Option<(u64, Fields<'a>)>
+    ensures { result ≡ first_value decimal_value line.now }
+{
+    first_decimal_number(line)
+}
+
+/// The number whose hex spelling the first field of the line is, and the fields after it.
+#[inline]
+#[tactic(auto, using(crate::proofs::Fronts::hex_fields))]
+pub(crate) fn first_hex<'a>(line: &'a [u8]) -> Option<(u64, Fields<'a>)>
+    ensures { result ≡ first_value hex_value line.now }
+{
+    match line {
+        [b'0', b'x', digits @ ..] => first_hex_number(digits),
+        _ => None,
+    }
+}
+
+/// The word of a line that the next field is, and the fields after it.
+#[inline(never)]
+fn any_keyword<'a>(fields: Fields<'a>) -> Result<(Keyword, Fields<'a>), Malformed>
+    ensures { result ≡ lines.keyword_field fields.entry }
+{
+    let (text, rest) = fields.next_or(Malformed::MissingField)?;
+    let keyword = keyword_of(text).ok_or(Malformed::UnknownWord)?;
+    Ok((keyword, rest))
+}
+
+/// The first word of the line, and the fields after it; the words of most lines are found at once.
+#[inline]
+#[tactic(auto, using(crate::proofs::Begun::begun))]
+pub(crate) fn first_keyword<'a>(line: &'a [u8]) -> Result<(Keyword, Fields<'a>), Malformed>
+    ensures { result ≡ lines.keyword_field (fields line.now) }
+{
+    match line {
+        [b'w', b' ', rest @ ..] => Ok((Keyword::Write, Fields::of(rest))),
+        [b'd', b's', b'b', b' ', rest @ ..] => Ok((Keyword::Dsb, Fields::of(rest))),
+        [b't', b'l', b'b', b'i', b' ', rest @ ..] => Ok((Keyword::Tlbi, Fields::of(rest))),
+        [b'i', b's', b'b', b' ', rest @ ..] => Ok((Keyword::Isb, Fields::of(rest))),
+        [b'd', b'm', b'b', b' ', rest @ ..] => Ok((Keyword::Dmb, Fields::of(rest))),
+        [b'm', b's', b'r', b' ', rest @ ..] => Ok((Keyword::Msr, Fields::of(rest))),
+        _ => any_keyword(Fields::of(line)),
+    }
+}
+
+/// The option of a barrier that the next field is, and the fields after it.
+#[inline(never)]
+fn any_dsb<'a>(fields: Fields<'a>) -> Result<(Dsb, Fields<'a>), Malformed>
+    ensures { result ≡ lines.dsb_field fields.entry }
+{
+    let (text, rest) = fields.next_or(Malformed::MissingField)?;
+    let value = dsb_of(text).ok_or(Malformed::UnknownWord)?;
+    Ok((value, rest))
+}
+
+/// The option of a barrier that the line begins with, and the fields after it; those that end most lines are found at
+/// once.
+#[inline(always)]
+pub(crate) fn first_dsb<'a>(line: &'a [u8]) -> Result<(Dsb, Fields<'a>), Malformed>
+    ensures { result ≡ lines.dsb_field (fields line.now) }
+{
+    let domain = Domain::Inner;
+    match line {
+        b"ish" => Ok((
+            Dsb {
+                domain,
+                types: Types::All,
+            },
+            Fields::none(),
+        )),
+        b"ishst" => Ok((
+            Dsb {
+                domain,
+                types: Types::Stores,
+            },
+            Fields::none(),
+        )),
+        _ => any_dsb(Fields::of(line)),
+    }
+}
