@@ -6,13 +6,11 @@ use Rattle.bbm_regimes.specs.declared.regime.Tag.{Tag}
 use Rattle.bbm_tlbi_scope.specs.Tags.{takes_whole_tag}
 use Rattle.bbm_roots.specs.Calls.{Call, Issue}
 use Rattle.bbm_roots.specs.Columns.{loads_in}
-use Rattle.bbm_roots.specs.Holds.{hold_in}
 use Rattle.bbm_roots.specs.Pendings.{pending_in, has_pending, same_flag}
 use Rattle.bbm_roots.specs.Readings.{reads_tag}
 use Rattle.bbm_roots.specs.Registers.{register_values, first_reg, second_reg}
 use Rattle.bbm_roots.specs.Stands.{world_of, pes_of}
 use Rattle.bbm_roots.specs.Tags.{reads, reads_for_some, reaches, holds_at}
-use Rattle.bbm_roots.specs.declared.hold.Held.{Held}
 use Rattle.bbm_roots.specs.declared.load.Load.{Load}
 use Rattle.bbm_roots.specs.declared.pending.Pending.{Pending}
 use Rattle.bbm_roots.proofs.Bits.{and-false}
