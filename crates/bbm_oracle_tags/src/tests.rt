@@ -13,8 +13,9 @@ use crate::tags::{holds_tag, tag_set_of};
 use crate::values::{places_in, value_of};
 use bbm_barriers::{Domain, Dsb, Types};
 use bbm_events::{Event, Header};
-use bbm_regimes::{HypWorld, Kind, Page, Pe, Place, Reg, Tag, Which, World};
+use bbm_regimes::{HypWorld, Kind, NoMemory, Page, Pe, Place, Reg, Tag, Which, World};
 use bbm_tlbi_scope::{TagSet, TlbiOp};
+use std::alloc::Global;
 use std::test::Fail;
 
 const ROOT: u64 = 0x4000_0000;
@@ -151,64 +152,88 @@ fn registers_and_scopes(rt: HostRuntime) -> Result<(), Fail> {
     Ok(())
 }
 
-#[test]
-fn tags_of_roots(rt: HostRuntime) -> Result<(), Fail> {
-    let header = header();
-    let pe = Pe::new(0).ok_or("pe")?;
-    let page = Page::new(ROOT).ok_or("page")?;
-    let other = Page::new(OTHER).ok_or("page")?;
+// Two roots of EL2. PE 0 reads the first and then none, and the tag of the regime is flushed.
+fn tag_events(pe: Pe, page: Page, other: Page) -> [Event; 7] {
+    let kind = Kind::El2;
+    let lock = None;
     let reg = Reg::Ttbr0El2;
-    let events = [
+    let value = ROOT;
+    let op = TlbiOp::Alle2is;
+    [
         Event::Root {
             pe,
-            kind: Kind::El2,
-            lock: None,
+            kind,
+            lock,
             page,
         },
         Event::Root {
             pe,
-            kind: Kind::El2,
-            lock: None,
+            kind,
+            lock,
             page: other,
         },
-        Event::Msr {
-            pe,
-            reg,
-            value: ROOT,
-        },
+        Event::Msr { pe, reg, value },
         Event::Msr { pe, reg, value: 0 },
         Event::Isb { pe },
-        Event::Tlbi {
-            pe,
-            op: TlbiOp::Alle2is,
-            xt: 0,
-        },
+        Event::Tlbi { pe, op, xt: 0 },
         Event::Dsb { pe, dsb: ISH },
-    ];
-    // The number of events taken, and whether the root holds the tag then.
-    for (count, holds) in [(2, false), (3, true), (5, true), (6, true), (7, false)] {
-        let held = holds_tag(rt.alloc(), &header, &events[..count], ROOT, Tag::El2);
-        assert_eq!(rt; held.map_err(|_| "memory")?, holds, "{count}");
-    }
-    let set = tag_set_of(rt.alloc(), &header, &events[..5], ROOT).map_err(|_| "memory")?;
-    assert_eq!(rt; set, TagSet::One(Tag::El2));
-    assert_eq!(rt;
-        readings_at(rt.alloc(), &header, &events[..4], pe)
-            .map_err(|_| "memory")?
-            .len(),
-        1
-    );
+    ]
+}
+
+/// What the first events tell of the first root: how many tags are readable at PE 0, what the root holds, and what makes
+/// a register write of the other root, and its own `unroot`, break a rule.
+#[derive(Clone, Copy, Debug, PartialEq, Eq)]
+struct Told {
+    readable: usize,
+    tags: TagSet,
+    clash: Option<u64>,
+    used: Option<u64>,
+}
+
+fn told_by(alloc: Global, pe: Pe, page: Page, events: &[Event]) -> Result<Told, NoMemory> {
+    let header = header();
+    let reg = Reg::Ttbr0El2;
     let load = Event::Msr {
         pe,
         reg,
         value: OTHER,
     };
-    let clash = rules::tag_conflict(rt.alloc(), &header, &events[..5], &load);
-    assert_eq!(rt; clash.map_err(|_| "memory")?, Some(ROOT));
     let retired = Event::Unroot { pe, page };
-    let used = rules::root_in_use(rt.alloc(), &header, &events[..5], &retired);
-    assert_eq!(rt; used.map_err(|_| "memory")?, Some(ROOT));
-    let free = rules::root_in_use(rt.alloc(), &header, &events, &retired);
-    assert_eq!(rt; free.map_err(|_| "memory")?, None);
+    Ok(Told {
+        readable: readings_at(alloc, &header, events, pe)?.len(),
+        tags: tag_set_of(alloc, &header, events, ROOT)?,
+        clash: rules::tag_conflict(alloc, &header, events, &load)?,
+        used: rules::root_in_use(alloc, &header, events, &retired)?,
+    })
+}
+
+#[test]
+fn tags_of_roots(rt: HostRuntime) -> Result<(), Fail> {
+    let pe = Pe::new(0).ok_or("pe")?;
+    let page = Page::new(ROOT).ok_or("page")?;
+    let events = tag_events(pe, page, Page::new(OTHER).ok_or("page")?);
+    let held = TagSet::One(Tag::El2);
+    // How many events are taken, and how many tags are readable and which are held then.
+    let steps = [
+        (2, 0, TagSet::None),
+        (3, 1, held),
+        (4, 1, held),
+        (5, 0, held),
+        (6, 0, held),
+        (7, 0, TagSet::None),
+    ];
+    for (count, readable, tags) in steps {
+        let at = if tags == held { Some(ROOT) } else { None };
+        let expected = Told {
+            readable,
+            tags,
+            clash: at,
+            used: at,
+        };
+        let found = told_by(rt.alloc(), pe, page, &events[..count]).map_err(|_| "memory")?;
+        assert_eq!(rt; found, expected, "{count}");
+        let holds = holds_tag(rt.alloc(), &header(), &events[..count], ROOT, Tag::El2);
+        assert_eq!(rt; holds.map_err(|_| "memory")?, at.is_some(), "{count}");
+    }
     Ok(())
 }

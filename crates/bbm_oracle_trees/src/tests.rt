@@ -156,95 +156,97 @@ fn has_fresh(history: &History, pages: &[u64]) -> bool {
 // An EL2 root page A with a table below it at its place 2.
 const BELOW: [Line; 4] = [Init(A), Init(B), Root(Kind::El2, A), Write(A + 16, TO_B)];
 
+// A history, the pages of its trees, and the fresh pages.
+const TREES: [(&str, &[Line], &[InTree], &[u64]); 11] = [
+    ("no event", &[], &[], &[]),
+    ("an init", &[Init(A)], &[], &[A]),
+    ("a null page", &[Init(A), Init(B), Null(A)], &[], &[B]),
+    (
+        "a root",
+        &[Init(A), Init(B), Root(Kind::El2, A)],
+        &[(A, 1, 0, false)],
+        &[B],
+    ),
+    (
+        "a root of the other world",
+        &[Init(A), Root(Kind::Ttbr0, A)],
+        &[],
+        &[A],
+    ),
+    (
+        "a block",
+        &[Init(A), Init(B), Root(Kind::El2, A), Write(A + 16, BLOCK)],
+        &[(A, 1, 0, false)],
+        &[B],
+    ),
+    (
+        "a table",
+        &BELOW,
+        &[(A, 1, 0, false), (B, 2, 2 << 18, false)],
+        &[],
+    ),
+    (
+        "tables on two levels",
+        &[
+            Init(A),
+            Init(B),
+            Init(C),
+            Root(Kind::El2, A),
+            Write(B + 8, TO_C),
+            Write(A + 16, TO_B),
+        ],
+        &[
+            (A, 1, 0, false),
+            (B, 2, 2 << 18, false),
+            (C, 3, (2 << 18) + (1 << 9), false),
+        ],
+        &[],
+    ),
+    (
+        "limbo two levels below a broken table",
+        &[
+            Init(A),
+            Init(B),
+            Init(C),
+            Root(Kind::El2, A),
+            Write(B + 8, TO_C),
+            Write(A + 16, TO_B),
+            Write(A + 16, 0),
+        ],
+        &[
+            (A, 1, 0, false),
+            (B, 2, 2 << 18, true),
+            (C, 3, (2 << 18) + (1 << 9), true),
+        ],
+        &[],
+    ),
+    (
+        "a table flushed, and made anew",
+        &[
+            Init(A),
+            Init(B),
+            Root(Kind::El2, A),
+            Write(A + 16, TO_B),
+            Write(A + 16, 0),
+            Ish,
+            Tlbi(TlbiOp::Alle2is, 0),
+            Ish,
+            Init(B),
+        ],
+        &[(A, 1, 0, false)],
+        &[B],
+    ),
+    (
+        "joined root pages",
+        &[Root(Kind::S2, S), Write(S + 4096, BLOCK)],
+        &[(S, 1, 0, false), (S + 4096, 1, 1 << 27, false)],
+        &[],
+    ),
+];
+
 #[test]
 fn trees_and_fresh_pages(rt: HostRuntime) {
-    let table: [(&str, &[Line], &[InTree], &[u64]); 11] = [
-        ("no event", &[], &[], &[]),
-        ("an init", &[Init(A)], &[], &[A]),
-        ("a null page", &[Init(A), Init(B), Null(A)], &[], &[B]),
-        (
-            "a root",
-            &[Init(A), Init(B), Root(Kind::El2, A)],
-            &[(A, 1, 0, false)],
-            &[B],
-        ),
-        (
-            "a root of the other world",
-            &[Init(A), Root(Kind::Ttbr0, A)],
-            &[],
-            &[A],
-        ),
-        (
-            "a block",
-            &[Init(A), Init(B), Root(Kind::El2, A), Write(A + 16, BLOCK)],
-            &[(A, 1, 0, false)],
-            &[B],
-        ),
-        (
-            "a table",
-            &BELOW,
-            &[(A, 1, 0, false), (B, 2, 2 << 18, false)],
-            &[],
-        ),
-        (
-            "tables on two levels",
-            &[
-                Init(A),
-                Init(B),
-                Init(C),
-                Root(Kind::El2, A),
-                Write(B + 8, TO_C),
-                Write(A + 16, TO_B),
-            ],
-            &[
-                (A, 1, 0, false),
-                (B, 2, 2 << 18, false),
-                (C, 3, (2 << 18) + (1 << 9), false),
-            ],
-            &[],
-        ),
-        (
-            "limbo two levels below a broken table",
-            &[
-                Init(A),
-                Init(B),
-                Init(C),
-                Root(Kind::El2, A),
-                Write(B + 8, TO_C),
-                Write(A + 16, TO_B),
-                Write(A + 16, 0),
-            ],
-            &[
-                (A, 1, 0, false),
-                (B, 2, 2 << 18, true),
-                (C, 3, (2 << 18) + (1 << 9), true),
-            ],
-            &[],
-        ),
-        (
-            "a table flushed, and made anew",
-            &[
-                Init(A),
-                Init(B),
-                Root(Kind::El2, A),
-                Write(A + 16, TO_B),
-                Write(A + 16, 0),
-                Ish,
-                Tlbi(TlbiOp::Alle2is, 0),
-                Ish,
-                Init(B),
-            ],
-            &[(A, 1, 0, false)],
-            &[B],
-        ),
-        (
-            "joined root pages",
-            &[Root(Kind::S2, S), Write(S + 4096, BLOCK)],
-            &[(S, 1, 0, false), (S + 4096, 1, 1 << 27, false)],
-            &[],
-        ),
-    ];
-    for (name, lines, tree, fresh) in table {
+    for (name, lines, tree, fresh) in TREES {
         let history = history_of(rt.alloc(), lines).expect(&rt, name);
         assert!(rt; has_tree(&history, tree), "tree: {name}");
         assert!(rt; has_fresh(&history, fresh), "fresh: {name}");
@@ -258,82 +260,82 @@ fn last_cover(history: &History, place: u64) -> Option<Cover> {
     Some(kept.cover(place))
 }
 
+// A stage 2 leaf, and an EL2 table with a leaf below it.
+const LEAF: [Line; 2] = [Root(Kind::S2, S), Write(S, BLOCK)];
+
+const PARENT: [Line; 5] = [
+    Init(A),
+    Init(B),
+    Root(Kind::El2, A),
+    Write(B, BLOCK),
+    Write(A + 16, TO_B),
+];
+
+// A history, the operation and the operand of a TLBI behind it, a place, and how far the TLBI covers it.
+const COVERS: [(&str, &[Line], TlbiOp, u64, u64, Cover); 9] = [
+    ("by address", &LEAF, TlbiOp::Ipas2e1is, 0, S, Cover::Half),
+    (
+        "by another address",
+        &LEAF,
+        TlbiOp::Ipas2e1is,
+        1 << 18,
+        S,
+        Cover::None,
+    ),
+    (
+        "the second step",
+        &LEAF,
+        TlbiOp::Vmalle1is,
+        0,
+        S,
+        Cover::Second,
+    ),
+    ("all", &LEAF, TlbiOp::Alle1is, 0, S, Cover::Full),
+    (
+        "another place",
+        &LEAF,
+        TlbiOp::Alle1is,
+        0,
+        S + 8,
+        Cover::None,
+    ),
+    (
+        "of another regime",
+        &LEAF,
+        TlbiOp::Alle2is,
+        0,
+        S,
+        Cover::None,
+    ),
+    (
+        "a childless table",
+        &BELOW,
+        TlbiOp::Vae2is,
+        2 << 18,
+        A + 16,
+        Cover::Full,
+    ),
+    (
+        "a table with a child",
+        &PARENT,
+        TlbiOp::Vae2is,
+        2 << 18,
+        A + 16,
+        Cover::None,
+    ),
+    (
+        "a place below a table",
+        &PARENT,
+        TlbiOp::Vae2is,
+        2 << 18,
+        B,
+        Cover::Full,
+    ),
+];
+
 #[test]
 fn covers(rt: HostRuntime) {
-    let leaf = [Root(Kind::S2, S), Write(S, BLOCK)];
-    let table: [(&str, &[Line], TlbiOp, u64, u64, Cover); 9] = [
-        ("by address", &leaf, TlbiOp::Ipas2e1is, 0, S, Cover::Half),
-        (
-            "by another address",
-            &leaf,
-            TlbiOp::Ipas2e1is,
-            1 << 18,
-            S,
-            Cover::None,
-        ),
-        (
-            "the second step",
-            &leaf,
-            TlbiOp::Vmalle1is,
-            0,
-            S,
-            Cover::Second,
-        ),
-        ("all", &leaf, TlbiOp::Alle1is, 0, S, Cover::Full),
-        (
-            "another place",
-            &leaf,
-            TlbiOp::Alle1is,
-            0,
-            S + 8,
-            Cover::None,
-        ),
-        (
-            "of another regime",
-            &leaf,
-            TlbiOp::Alle2is,
-            0,
-            S,
-            Cover::None,
-        ),
-        (
-            "a childless table",
-            &BELOW,
-            TlbiOp::Vae2is,
-            2 << 18,
-            A + 16,
-            Cover::Full,
-        ),
-        (
-            "a table with a child",
-            &[
-                Init(A),
-                Init(B),
-                Root(Kind::El2, A),
-                Write(B, BLOCK),
-                Write(A + 16, TO_B),
-            ],
-            TlbiOp::Vae2is,
-            2 << 18,
-            A + 16,
-            Cover::None,
-        ),
-        (
-            "a place below a table",
-            &[
-                Init(A),
-                Init(B),
-                Root(Kind::El2, A),
-                Write(B, BLOCK),
-                Write(A + 16, TO_B),
-            ],
-            TlbiOp::Vae2is,
-            2 << 18,
-            B,
-            Cover::Full,
-        ),
-    ];
-    for (name, lines, op, xt, place, cover) in table {
+    for (name, lines, op, xt, place, cover) in COVERS {
         let mut history = history_of(rt.alloc(), lines).expect(&rt, name);
         let event = event_of(Line::Tlbi(op, xt)).expect(&rt, name);
         assert!(rt; takes(&mut history, rt.alloc(), &event), "{name}");

@@ -387,7 +387,7 @@ impl RootState {
     {
         let vmid = self.vmid_of(pe);
         match self.named_scope(pe, op, xt) {
-            Some(scope) => match self.roots.prepare_issue(alloc, pe, scope, vmid) {
+            Some(scope) => match self.roots.prepare_issue(alloc, pe, &scope, vmid) {
                 Ok(()) => Ok(()),
                 Err(_) => Err(NoMemory),
             },
@@ -408,7 +408,7 @@ impl RootState {
         match self.named_scope(pe, op, xt) {
             Some(named) => {
                 if named.broadcast || !self.header.cnp {
-                    self.roots.issue_ready(pe, named, vmid);
+                    self.roots.issue_ready(pe, &named, vmid);
                 }
             }
             None => {}

@@ -1,8 +1,13 @@
 //! Each call on a log of the Hyp world, with answers worked out by hand.
 
-use crate::RootState;
+ghost use Rattle.std.specs.Prelude.{◌≡◌, IfOk};
+ghost use Rattle.bbm_rules.specs.Answers.{MayAsk};
+ghost use Rattle.bbm_replay_roots.specs.Stands.{Stands};
+
+use crate::{RootState, law_others};
+use bbm_barriers::{Domain, Dsb, Types};
 use bbm_events::Header;
-use bbm_regimes::{HypWorld, Kind, Page, Pe, Reg, World};
+use bbm_regimes::{HypWorld, Kind, NoMemory, Page, Pe, Reg, World};
 use bbm_rules::{Rule, StepFault};
 use bbm_tlbi_scope::{TagSet, TlbiOp};
 use std::alloc::Global;
@@ -95,5 +100,78 @@ fn nothing_is_declared(rt: HostRuntime) -> Result<(), Fail> {
     assert_eq!(rt; state.lock_of(page), None);
     assert_eq!(rt; state.without_lock(pe, page, 9), None);
     assert_eq!(rt; state.tags_of(page), TagSet::None);
+    Ok(())
+}
+
+// A state after `init 0 0x40000000` and `root 0 el2 - 0x40000000`.
+fn with_root(alloc: Global, page: Page) -> Result<RootState, NoMemory>
+    requires { page ≡ 0x4000_0000 }
+    ensures { IfOk result (λ state. MayAsk (Stands state) 0) }
+{
+    law_others();
+    let mut state = RootState::new(alloc, &HYP)?;
+    state.declare(alloc, Kind::El2, page, None)?;
+    Ok(state)
+}
+
+// A `tlbi` of the PE that breaks no rule.
+fn issue(alloc: Global, state: &mut RootState, pe: Pe) -> Result<(), StepFault>
+    requires { MayAsk (Stands state.old) pe }
+    ensures { MayAsk (Stands state.new) pe }
+{
+    state.judge_tlbi(pe, TlbiOp::Alle2is, 0)?;
+    match state.issue(alloc, pe, TlbiOp::Alle2is, 0) {
+        Ok(()) => Ok(()),
+        Err(_) => Err(StepFault::NoMemory),
+    }
+}
+
+// The same, with room made for it first.
+fn issue_in_two(alloc: Global, state: &mut RootState, pe: Pe) -> Result<(), StepFault>
+    requires { MayAsk (Stands state.old) pe }
+    ensures { MayAsk (Stands state.new) pe }
+{
+    state.judge_tlbi(pe, TlbiOp::Alle2is, 0)?;
+    match state.prepare_issue(alloc, pe, TlbiOp::Alle2is, 0) {
+        Ok(()) => {
+            state.issue_ready(pe, TlbiOp::Alle2is, 0);
+            Ok(())
+        }
+        Err(_) => Err(StepFault::NoMemory),
+    }
+}
+
+// `dsb 0 ish`, or of another PE.
+fn complete(state: &mut RootState, pe: Pe)
+    requires { MayAsk (Stands state.old) pe }
+    ensures { MayAsk (Stands state.new) pe }
+{
+    let domain = Domain::Inner;
+    let types = Types::All;
+    state.complete(pe, Dsb { domain, types });
+}
+
+// An `unroot` that breaks no rule.
+fn retire(state: &mut RootState, pe: Pe, page: Page) -> Result<(), StepFault>
+    requires { MayAsk (Stands state.old) pe }
+{
+    state.judge_unroot(pe, page)?;
+    state.retire(page);
+    Ok(())
+}
+
+#[test]
+fn a_root_from_its_declaration_to_its_end(rt: HostRuntime) -> Result<(), Fail> {
+    let pe = Pe::new(0).unwrap();
+    let page = Page::new(ROOT).unwrap();
+    let mut state = with_root(rt.alloc(), page).expect(&rt, "memory");
+    assert!(rt; state.is_root(Kind::El2, page) && state.is_declared(page));
+    assert_eq!(rt; issue(rt.alloc(), &mut state, pe), Ok(()));
+    complete(&mut state, pe);
+    assert_eq!(rt; issue_in_two(rt.alloc(), &mut state, pe), Ok(()));
+    complete(&mut state, pe);
+    assert_eq!(rt; state.tags_of(page), TagSet::None);
+    assert_eq!(rt; retire(&mut state, pe, page), Ok(()));
+    assert!(rt; !state.is_root(Kind::El2, page) && !state.is_declared(page));
     Ok(())
 }

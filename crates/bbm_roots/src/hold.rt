@@ -1,6 +1,6 @@
 //! Which PEs hold a tag for a root.
 
-ghost use Rattle.std.specs.Prelude.{◌≡◌, ℕ, ◌≤◌, ◌&&◌, ◌||◌, not, nat_eq, true, false, OnOk, IsOk};
+ghost use Rattle.std.specs.Prelude.{◌≡◌, ◌↔◌, ℕ, ◌≤◌, ◌&&◌, ◌||◌, not, nat_eq, true, false, OnOk, IsOk, All};
 ghost use Rattle.bbm_regimes.specs.PeMask.{pe_in};
 ghost use Rattle.bbm_regimes.specs.declared.regime.Tag.{Tag as TheTag};
 ghost use Rattle.bbm_roots.specs.Holds as spec;
@@ -109,14 +109,19 @@ pub fn release(holds: &mut [Held], pendings: &[Pending], issuer: Pe, dsb: Dsb)
 }
 
 fn is_held(held: &Held) -> bool
-    ensures { (p : ℕ) → result ≡ false → pe_in held.now.pes p ≡ false }
+    ensures { result ≡ false ↔ ((p : ℕ) → pe_in held.now.pes p ≡ false) }
 {
     !held.pes.is_empty()
 }
 
 /// Forgets the entries with no PE in them.
 pub fn sweep(holds: &mut Vec<Held>)
-    ensures { (g : TheTag) (r p : ℕ) → spec.hold_in holds.new.items g r p ≡ spec.hold_in holds.old.items g r p }
+    ensures same { (g : TheTag) (r p : ℕ) → spec.hold_in holds.new.items g r p ≡ spec.hold_in holds.old.items g r p }
+    ensures swept { All (λ held. ¬ ((p : ℕ) → pe_in held.pes p ≡ false)) holds.new.items }
 {
-    holds.retain(|held| is_held(held));
+    holds.retain(
+        |held| -> bool
+            ensures { result ≡ false ↔ ((p : ℕ) → pe_in held.now.pes p ≡ false) }
+        { is_held(held) },
+    );
 }

@@ -252,7 +252,7 @@ impl Roots {
     /// tag. `NoMemory` where there is none; then nothing changes. A TLBI for pages looks at nothing.
     pub fn issue(
         &mut self,
-        _alloc: Global,
+        alloc: Global,
         issuer: Pe,
         scope: Scope,
         vmid: Option<u16>,
@@ -266,20 +266,9 @@ impl Roots {
         ensures pes { pes_of self.new ≡ pes_of self.old }
         ensures world { world_of self.new ≡ world_of self.old }
     {
-        if !issue::takes_tags(&scope) {
-            return Ok(());
-        }
-        match issue::make_room(&mut self.pendings, &self.holds, issuer, &scope, vmid) {
+        match self.prepare_issue(alloc, issuer, &scope, vmid) {
             Ok(()) => {
-                let reach = self.reach(issuer, scope.broadcast);
-                issue::note(
-                    &mut self.pendings,
-                    &self.registers,
-                    reach,
-                    issuer,
-                    &scope,
-                    vmid,
-                );
+                self.issue_ready(issuer, &scope, vmid);
                 Ok(())
             }
             Err(_) => Err(RootFault::NoMemory),
@@ -292,36 +281,36 @@ impl Roots {
         &mut self,
         _alloc: Global,
         issuer: Pe,
-        scope: Scope,
+        scope: &Scope,
         vmid: Option<u16>,
     ) -> Result<(), RootFault>
-        ensures ready { OnOk result (IsReady self.new issuer scope vmid) }
+        ensures ready { OnOk result (IsReady self.new issuer scope.now vmid) }
         ensures fault { IfErr result (λ fault. fault ≡ RootFault.NoMemory) }
         ensures same { (calls : List Call) → Stands self.old calls → Stands self.new calls }
         ensures prepared { IsPrepared self.old → IsPrepared self.new }
         ensures pes { pes_of self.new ≡ pes_of self.old }
         ensures world { world_of self.new ≡ world_of self.old }
     {
-        if !issue::takes_tags(&scope) {
+        if !issue::takes_tags(scope) {
             return Ok(());
         }
-        match issue::make_room(&mut self.pendings, &self.holds, issuer, &scope, vmid) {
+        match issue::make_room(&mut self.pendings, &self.holds, issuer, scope, vmid) {
             Ok(()) => Ok(()),
             Err(_) => Err(RootFault::NoMemory),
         }
     }
 
     /// A TLBI of the PE, of this scope and under this VMID, 0 to 65535, for which there is room. It takes no memory.
-    pub fn issue_ready(&mut self, issuer: Pe, scope: Scope, vmid: Option<u16>)
+    pub fn issue_ready(&mut self, issuer: Pe, scope: &Scope, vmid: Option<u16>)
         requires pe { issuer < pes_of self.old }
-        requires ready { IsReady self.old issuer scope vmid }
+        requires ready { IsReady self.old issuer scope.now vmid }
         ensures taken { (calls : List Call) → Stands self.old calls
-            → Stands self.new (call.Issue issuer scope vmid ∷ calls) }
+            → Stands self.new (call.Issue issuer scope.now vmid ∷ calls) }
         ensures prepared { IsPrepared self.old → IsPrepared self.new }
         ensures pes { pes_of self.new ≡ pes_of self.old }
         ensures world { world_of self.new ≡ world_of self.old }
     {
-        if !issue::takes_tags(&scope) {
+        if !issue::takes_tags(scope) {
             return;
         }
         let reach = self.reach(issuer, scope.broadcast);
@@ -330,7 +319,7 @@ impl Roots {
             &self.registers,
             reach,
             issuer,
-            &scope,
+            scope,
             vmid,
         );
     }

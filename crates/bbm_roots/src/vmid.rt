@@ -1,6 +1,6 @@
 //! The VMID that a PE uses.
 
-ghost use Rattle.std.specs.Prelude.{◌≡◌, ℕ, ◌<◌, Bool, ◌&&◌, ◌||◌, not, nat_eq, length};
+ghost use Rattle.std.specs.Prelude.{◌≡◌, ℕ, ◌<◌, Bool, ◌&&◌, ◌||◌, not, nat_eq, length, []};
 ghost use Rattle.bbm_roots.specs.Least.{IsLeast, UpTo};
 ghost use Rattle.bbm_roots.specs.Refusals.{other_number, JudgesVmid};
 ghost use Rattle.bbm_roots.specs.Registers.{is_that};
@@ -50,9 +50,10 @@ fn least_other(loads: &[Load], than: Option<u16>) -> Option<u16>
     least
 }
 
-/// The one VMID of the values, of which there is one at least; `Unsynced` with the two least where there are several.
+/// The one VMID of the values, 0 where there is no value; `Unsynced` with the two least where there are several.
 pub fn one_number(loads: &[Load]) -> Result<u16, Unsynced>
-    ensures { 0 < length loads.now → JudgesVmid (spec.one_number loads.now) loads.now result }
+    ensures judged { 0 < length loads.now → JudgesVmid (spec.one_number loads.now) loads.now result }
+    ensures none { loads.now ≡ [] → result ≡ Ok 0 }
 {
     match least_other(loads, None) {
         Some(first) => match least_other(loads, Some(first)) {

@@ -23,7 +23,7 @@ pub returns-clause-taken : goal.returns-clause-taken
 returns-clause-taken c = λ calls stands.
     let world = world_of c.args.self.now in
     let same = λ (g : Tag) (r p : ℕ) (e : reads world calls p g r ≡ true). e in
-    let stay = λ (g : Tag) (r p : ℕ). holds-stay world (Issue c.args.issuer c.args.scope c.args.vmid) calls g r p (same g r p) refl in
+    let stay = λ (g : Tag) (r p : ℕ). holds-stay world (Issue c.args.issuer c.args.scope.now c.args.vmid) calls g r p (same g r p) refl in
     record {
       first = stands.first;
       second = stands.second;
@@ -44,14 +44,14 @@ returns-clause-taken c = λ calls stands.
           ap (λ (xs : List Pending). pending_in xs q b g p)
           (with_items_is c.args.self.now.pendings c.note.new.pendings (omega (arith, c.note.auto.pendings)))
           ∙ c.note.ensures q b g p
-          ∙ noted world c.args.issuer c.args.scope c.args.vmid calls q b g p
+          ∙ noted world c.args.issuer c.args.scope.now c.args.vmid calls q b g p
           (pending_in c.deref_mut.result.now q b g p) (has_pending q b g c.deref_mut.result.now)
           (nat_lt p (pes_of c.args.self.now)) (pe_in c.reach-reach.result p)
           (reads_tag world (loads_in c.args.self.now.registers.first.items p) (loads_in c.args.self.now.registers.second.items p) g)
           (ap (λ (xs : List Pending). pending_in xs q b g p) c.deref_mut.ensures.value
           ∙ stands.pendings q b g r p held)
           (λ key. ap (λ (xs : List Pending). has_pending q b g xs) c.deref_mut.ensures.value
-          ∙ entry-there q c.args.issuer c.args.scope.broadcast b (takes_whole_tag c.args.scope c.args.vmid g) g
+          ∙ entry-there q c.args.issuer c.args.scope.now.broadcast b (takes_whole_tag c.args.scope.now c.args.vmid g) g
           c.args.self.now.pendings.items key
           (c.requires.ready g r p (stands.holds g r p ∙ held)))
           (lt-ltb p (pes_of c.args.self.now) below)
@@ -64,7 +64,7 @@ returns-clause-taken c = λ calls stands.
 pub returns-then-not-takes_tags-clause-taken : goal.returns-then-not-takes_tags-clause-taken
 returns-then-not-takes_tags-clause-taken c = λ calls stands.
     let world = world_of c.args.self.now in
-    let call : Call = Issue c.args.issuer c.args.scope c.args.vmid in
+    let call : Call = Issue c.args.issuer c.args.scope.now c.args.vmid in
     let stay = λ (g : Tag) (r p : ℕ). holds-stay world call calls g r p (λ (e : reads world calls p g r ≡ true). e) refl in
     record {
       first = stands.first;
@@ -80,8 +80,8 @@ returns-then-not-takes_tags-clause-taken c = λ calls stands.
       pendings = λ q b g r p held.
           stands.pendings q b g r p (sym (stay g r p) ∙ held)
           ∙ sym (awaited-stay world call calls q b g p (λ (e : reads_for_some world calls p g ≡ true). e)
-          (ap (λ (t : Bool). (nat_eq q c.args.issuer && same_flag c.args.scope.broadcast b && t) && reaches c.args.scope c.args.issuer p)
+          (ap (λ (t : Bool). (nat_eq q c.args.issuer && same_flag c.args.scope.now.broadcast b && t) && reaches c.args.scope.now c.args.issuer p)
           (c.takes_tags.ensures c.if-not-takes_tags.true c.args.vmid g)
-          ∙ ap (λ (t : Bool). t && reaches c.args.scope c.args.issuer p) (and-false (nat_eq q c.args.issuer && same_flag c.args.scope.broadcast b)))
+          ∙ ap (λ (t : Bool). t && reaches c.args.scope.now c.args.issuer p) (and-false (nat_eq q c.args.issuer && same_flag c.args.scope.now.broadcast b)))
           refl);
     }

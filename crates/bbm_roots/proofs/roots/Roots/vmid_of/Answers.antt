@@ -16,4 +16,4 @@ returns-in-Hyp c = λ calls stands.
     c.loads_at.ensures ∙ stands.second pe c.requires ∙ ap (λ (w : World). register_values calls pe (second_reg w)) c.in-Hyp.is in
     subst (λ (w : World). JudgesVmid (vmid_of w calls pe) (register_values calls pe (second_reg w)) c.one_number.result) (sym c.in-Hyp.is)
     (subst (λ (ls : List Load). JudgesVmid (one_number ls) ls c.one_number.result) same
-    (c.one_number.ensures (subst (λ (ls : List Load). 0 < length ls) (sym same) (some-value calls pe VttbrEl2))))
+    (c.one_number.ensures.judged (subst (λ (ls : List Load). 0 < length ls) (sym same) (some-value calls pe VttbrEl2))))
