@@ -2,6 +2,7 @@
 use Rattle.std.proofs.Common.{◌≡◌, ℕ, ◌<◌, ◌≤◌, ◌+◌, Bool, true, false, ◌&&◌, ◌||◌, List, [], ◌∷◌, length, take, set, get_or, refl, sym, ◌∙◌, ap, arith}
 use Rattle.std.specs.List.{list_any, items_where_true}
 use Rattle.std.specs.List.Retain.{IsFiltered, ReturnsInTurn}
+use Rattle.std.proofs.lemmas.Bool.{false≢true}
 use Rattle.std.proofs.lemmas.List.{take_more_set, get_or-set_other}
 use Rattle.std.proofs.lemmas.List.Folds.{list_any_more, list_any-append}
 
@@ -102,3 +103,12 @@ pub any-next : {X : Type 0} (test : X → Bool) (xs : List X) (i : ℕ) (x : X) 
     list_any test (take (i + 1) xs) ≡ (list_any test (take i xs) || test x)
 any-next test xs i x lt is =
     list_any_more test xs i x lt ∙ ap (λ y. list_any test (take i xs) || test y) (sym is)
+
+-- what a weaker test doesn't find a stronger one doesn't
+pub any-none : {X : Type 0} (strong weak : X → Bool) → ((x : X) → strong x ≡ true → weak x ≡ true) →
+    (xs : List X) → list_any weak xs ≡ false → list_any strong xs ≡ false
+any-none strong weak h xs none = by_found (list_any strong xs) refl
+  where
+    by_found : (b : Bool) → list_any strong xs ≡ b → list_any strong xs ≡ false
+    by_found false e = e
+    by_found true e = absurd (false≢true (sym none ∙ any-weaker strong weak h xs e))

@@ -1,14 +1,16 @@
 -- What the entries of unanswered TLBIs say after a filter.
 use Rattle.std.proofs.Common.{◌≡◌, ℕ, Bool, true, false, ◌&&◌, ◌||◌, not, nat_eq, List, [], ◌∷◌, filter, refl, sym, ◌∙◌, ap}
+use Rattle.std.specs.List.{list_any}
 use Rattle.std.proofs.lemmas.Bool.{eqb-true}
 use Rattle.bbm_barriers.specs.Options.{answers}
 use Rattle.bbm_barriers.specs.declared.Dsb.{Dsb}
 use Rattle.bbm_regimes.specs.PeMask.{pe_in}
 use Rattle.bbm_regimes.specs.declared.regime.Tag.{Tag}
-use Rattle.bbm_roots.specs.Pendings.{is_open, is_pending, pending_bit, pending_in, answered_in, has_pending, same_flag}
+use Rattle.bbm_roots.specs.Pendings.{is_open, is_pending, pending_bit, pending_in, answered_in, answered_bit, is_answered, has_pending, same_flag}
 use Rattle.bbm_roots.specs.Readings.{same_tag}
 use Rattle.std.proofs.lemmas.Map.Views.{any-filter_same}
-use Rattle.bbm_roots.proofs.Bits.{and_left, and_right, and_comm, same_flag-true, same_flag-comm, same_tag-true}
+use Rattle.bbm_roots.proofs.Lists.{any-none}
+use Rattle.bbm_roots.proofs.Bits.{or-left, or-right, and_left, and_right, and_comm, same_flag-true, same_flag-comm, same_tag-true}
 use Rattle.bbm_roots.specs.declared.pending.Pending.{Pending}
 
 open-same : (issuer : ℕ) (dsb : Dsb) (q : ℕ) (b : Bool) (g : Tag) (p : ℕ) (x : Pending) →
@@ -59,6 +61,27 @@ noted-bit issuer flag takes sees q b g x old new e = by_key (is_pending q b g x)
         ∙ ap (λ (f : Bool). old || ((nat_eq q issuer && same_flag f flag && takes x.tag) && sees x.tag)) (key-flag q b g x found)
         ∙ ap (λ (f : Bool). old || ((nat_eq q issuer && f && takes x.tag) && sees x.tag)) (same_flag-comm b flag)
         ∙ ap (λ (t : Tag). old || ((nat_eq q issuer && same_flag flag b && takes t) && sees t)) (key-tag q b g x found)
+
+-- where a DSB answers no entry it takes nothing away, and forgets none
+pub none-answered : (q : ℕ) (dsb : Dsb) (g : Tag) (p : ℕ) (xs : List Pending) →
+    list_any (is_answered q dsb) xs ≡ false → answered_in xs q dsb g p ≡ false
+none-answered q dsb g p xs none =
+    any-none (answered_bit q dsb g p) (is_answered q dsb)
+    (λ (x : Pending) e. and_left (is_answered q dsb x) (same_tag x.tag g)
+    (and_left (is_answered q dsb x && same_tag x.tag g) (pe_in x.pes p) e)) xs none
+
+pub all-open : (issuer : ℕ) (dsb : Dsb) (q : ℕ) (b : Bool) (g : Tag) (p : ℕ) (xs : List Pending) →
+    list_any (is_answered issuer dsb) xs ≡ false →
+    pending_in xs q b g p ≡ (pending_in xs q b g p && not (nat_eq q issuer && answers dsb b))
+all-open issuer dsb q b g p [] none = refl
+all-open issuer dsb q b g p (x ∷ xs) none =
+    by_bit (pending_bit q b g p x) (not (nat_eq q issuer && answers dsb b)) (pending_in xs q b g p)
+    (λ found. sym (open-same issuer dsb q b g p x found) ∙ ap not (or-left (is_answered issuer dsb x) (list_any (is_answered issuer dsb) xs) none))
+    (all-open issuer dsb q b g p xs (or-right (is_answered issuer dsb x) (list_any (is_answered issuer dsb) xs) none))
+  where
+    by_bit : (k o rest : Bool) → (k ≡ true → o ≡ true) → rest ≡ (rest && o) → (k || rest) ≡ ((k || rest) && o)
+    by_bit true o rest f e = sym (f refl)
+    by_bit false o rest f e = e
 
 -- what a DSB answers, broadcast TLBIs and others apart
 pub answered-split : (q : ℕ) (dsb : Dsb) (g : Tag) (p : ℕ) (xs : List Pending) →

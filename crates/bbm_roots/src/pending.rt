@@ -1,6 +1,7 @@
 //! Whole-tag TLBIs that no DSB has answered yet.
 
 ghost use Rattle.std.specs.Prelude.{◌≡◌, ℕ, Bool, ◌&&◌, ◌||◌, not, nat_eq, IsTrue, IsSome, OnOk};
+ghost use Rattle.std.specs.List.{list_any};
 ghost use Rattle.bbm_barriers.specs.Options.{answers as dsb_answers};
 ghost use Rattle.bbm_regimes.specs.PeMask.{pe_in};
 ghost use Rattle.bbm_regimes.specs.declared.regime.Tag.{Tag as TheTag};
@@ -60,6 +61,15 @@ fn is_answered(pending: &Pending, issuer: Pe, dsb: Dsb) -> bool
     ensures { result ≡ spec.is_answered issuer dsb pending.now }
 {
     pending.issuer.get() == issuer.get() && answers(dsb, pending.broadcast)
+}
+
+/// Whether a DSB of the issuer answers any of these TLBIs.
+pub fn has_answered(pendings: &[Pending], issuer: Pe, dsb: Dsb) -> bool
+    ensures { result ≡ list_any (spec.is_answered issuer dsb) pendings.now }
+{
+    pendings
+        .iter()
+        .any(|pending| is_answered(pending, issuer, dsb))
 }
 
 /// The PEs at which a DSB of the issuer takes the tag away.

@@ -38,7 +38,8 @@ impl Roots {
     ghost use Rattle.bbm_roots.specs.Listed.{count_in, nth_in};
     ghost use Rattle.bbm_roots.specs.declared.root.Declared.{Declared as TheRoot};
     ghost use Rattle.bbm_roots.specs.Holds.{hold_in, has_hold, conflict_in, HasTags};
-    ghost use Rattle.bbm_roots.specs.Pendings.{pending_in};
+    ghost use Rattle.bbm_roots.specs.Pendings.{pending_in, answered_in};
+    ghost use Rattle.bbm_barriers.specs.Options.{answers as dsb_answers};
     ghost use Rattle.bbm_roots.specs.Readings.{has_reading, has_tag, readings_of};
     ghost use Rattle.bbm_roots.specs.Refusals.{missing_root, conflicts, JudgesWrite, JudgesRetire, JudgesVmid};
     ghost use Rattle.bbm_roots.specs.Registers.{is_first as spec_is_first, is_of_world, register_values, root_of, second_reg, uses};
@@ -249,9 +250,23 @@ impl Roots {
         ensures pes { pes_of self.new ≡ pes_of self.old }
         ensures world { world_of self.new ≡ world_of self.old }
     {
-        hold::release(&mut self.holds, &self.pendings, issuer, dsb);
-        hold::sweep(&mut self.holds);
-        pending::settle(&mut self.pendings, issuer, dsb);
+        self.answer(issuer, dsb);
+    }
+
+    // Takes the tags away that a DSB of the issuer takes away, and forgets what it answers.
+    fn answer(&mut self, issuer: Pe, dsb: Dsb)
+        ensures holds { (g : TheTag) (r p : ℕ) → hold_in self.new.holds.items g r p
+            ≡ (hold_in self.old.holds.items g r p && not (answered_in self.old.pendings.items issuer dsb g p)) }
+        ensures pendings { (q : ℕ) (b : Bool) (g : TheTag) (p : ℕ) → pending_in self.new.pendings.items q b g p
+            ≡ (pending_in self.old.pendings.items q b g p && not (nat_eq q issuer && dsb_answers dsb b)) }
+        ensures registers { self.new.registers ≡ self.old.registers }
+        ensures declared { self.new.declared ≡ self.old.declared }
+    {
+        if pending::has_answered(&self.pendings, issuer, dsb) {
+            hold::release(&mut self.holds, &self.pendings, issuer, dsb);
+            hold::sweep(&mut self.holds);
+            pending::settle(&mut self.pendings, issuer, dsb);
+        }
     }
 
     /// A TLBI of the PE, of this scope and under this VMID, 0 to 65535; with None a TLBI for one VMID alone takes no

@@ -1,44 +1,47 @@
-use Rattle.std.proofs.Common.{◌∙◌, ap, sym, Bool, ◌&&◌, not, nat_eq, List, true, false, arith}
+use Rattle.std.proofs.Common.{◌∙◌, ap, sym, Bool, ◌&&◌, ◌∷◌, not, nat_eq, true, false}
 use Rattle.bbm_barriers.specs.Options.{answers}
-use Rattle.std.proofs.lemmas.List.{with_items_is}
+use Rattle.bbm_roots.specs.Columns.{loads_in}
 use Rattle.bbm_roots.specs.Holds.{hold_in}
 use Rattle.bbm_roots.specs.Pendings.{pending_in}
-use Rattle.bbm_roots.specs.Stands.{world_of}
-use Rattle.bbm_roots.specs.declared.hold.Held.{Held}
-use Rattle.bbm_roots.specs.declared.pending.Pending.{Pending}
+use Rattle.bbm_roots.specs.Stands.{world_of, pes_of}
+use Rattle.bbm_roots.specs.declared.registers.Registers.{Registers}
+use Rattle.bbm_roots.proofs.Made.{stands-made}
 use Rattle.bbm_roots.proofs.PendingBits.{answered-split}
 use Rattle.bbm_roots.proofs.Steps.{holds-completed, held-before, not-before, awaited-complete}
+use Rattle.bbm_roots.specs.Calls.{Complete}
 use Rattle.bbm_roots.proofs.roots.Roots.complete.Goals as goal
 
 pub returns-clause-taken : goal.returns-clause-taken
-returns-clause-taken c = λ calls stands. record {
-  first = stands.first;
-  second = stands.second;
-  outside = stands.outside;
-  declared = stands.declared;
-  count = stands.count;
-  holds = λ g r p.
-      c.sweep.ensures.same g r p
-      ∙ ap (λ (xs : List Held). hold_in xs g r p)
-      (with_items_is c.args.self.now.holds c.release.new.holds (omega (arith, c.release.auto.holds)))
-      ∙ c.release.ensures g r p
-      ∙ ap (λ (b : Bool). hold_in c.deref_mut.result.now g r p && not b)
-      (answered-split c.args.issuer c.args.dsb g p c.deref.result.now)
-      ∙ holds-completed (world_of c.args.self.now) c.args.issuer c.args.dsb calls g r p
-      (hold_in c.deref_mut.result.now g r p)
-      (pending_in c.deref.result.now c.args.issuer true g p) (pending_in c.deref.result.now c.args.issuer false g p)
-      (ap (λ (xs : List Held). hold_in xs g r p) c.deref_mut.ensures.value ∙ stands.holds g r p)
-      (λ held. ap (λ (xs : List Pending). pending_in xs c.args.issuer true g p) c.deref.ensures.value
-      ∙ stands.pendings c.args.issuer true g r p held)
-      (λ held. ap (λ (xs : List Pending). pending_in xs c.args.issuer false g p) c.deref.ensures.value
-      ∙ stands.pendings c.args.issuer false g r p held);
-  inside = λ g r p past. not-before (world_of c.args.self.now) c.args.issuer c.args.dsb calls g r p (stands.inside g r p past);
-  pendings = λ q b g r p held.
-      c.settle.ensures q b g p
-      ∙ ap (λ (x : Bool). x && not (nat_eq q c.args.issuer && answers c.args.dsb b))
-      (stands.pendings q b g r p (held-before (world_of c.args.self.now) c.args.issuer c.args.dsb calls g r p held))
-      ∙ sym (awaited-complete (world_of c.args.self.now) c.args.issuer c.args.dsb calls q b g p);
-  apart = stands.apart;
-  named = stands.named;
-  holders = λ g r p held. stands.holders g r p (held-before (world_of c.args.self.now) c.args.issuer c.args.dsb calls g r p held);
-}
+returns-clause-taken c = λ calls stands.
+    let old = c.args.self.now in
+    let world = world_of old in
+    let issuer = c.args.issuer in
+    let dsb = c.args.dsb in
+    let regs = c.answer.ensures.registers in
+    stands-made c.answer.new.self (Complete issuer dsb ∷ calls) world (pes_of old)
+    (ap (λ (r : Registers). r.world) regs)
+    (ap (λ (r : Registers). r.pes) regs)
+    (record {
+      first = λ p lt. ap (λ (r : Registers). loads_in r.first.items p) regs ∙ stands.first p lt;
+      second = λ p lt. ap (λ (r : Registers). loads_in r.second.items p) regs ∙ stands.second p lt;
+      outside = stands.outside;
+      declared = λ q.
+          let d = c.answer.ensures.declared in let s = stands.declared q in cc;
+      count =
+          let d = c.answer.ensures.declared in let s = stands.count in cc;
+      holds = λ g r p.
+          c.answer.ensures.holds g r p
+          ∙ ap (λ (b : Bool). hold_in old.holds.items g r p && not b) (answered-split issuer dsb g p old.pendings.items)
+          ∙ holds-completed world issuer dsb calls g r p (hold_in old.holds.items g r p)
+          (pending_in old.pendings.items issuer true g p) (pending_in old.pendings.items issuer false g p)
+          (stands.holds g r p) (stands.pendings issuer true g r p) (stands.pendings issuer false g r p);
+      inside = λ g r p past. not-before world issuer dsb calls g r p (stands.inside g r p past);
+      pendings = λ q b g r p held.
+          c.answer.ensures.pendings q b g p
+          ∙ ap (λ (x : Bool). x && not (nat_eq q issuer && answers dsb b))
+          (stands.pendings q b g r p (held-before world issuer dsb calls g r p held))
+          ∙ sym (awaited-complete world issuer dsb calls q b g p);
+      apart = stands.apart;
+      named = stands.named;
+      holders = λ g r p held. stands.holders g r p (held-before world issuer dsb calls g r p held);
+    })
