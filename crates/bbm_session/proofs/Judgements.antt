@@ -1,5 +1,5 @@
 -- The fold that judges events: its parts, its lines, and that what it says is the outcome of the bytes.
-use Rattle.std.proofs.Common.{◌≡◌, ℕ, suc, ◌<◌, ◌+◌, Bool, true, false, if◌then◌else◌, List, [], ◌∷◌, length, Option, Some, None, refl, ap, sym, ◌∙◌, arith, subst, ◌^◌, Result, Ok, Err, IfOk, IfErr, OnOk, ◌==◌, ◌⊎◌, inl, inr}
+use Rattle.std.proofs.Common.{◌≡◌, ◌≢◌, not, ℕ, suc, ◌<◌, ◌+◌, Bool, true, false, if◌then◌else◌, List, [], ◌∷◌, length, Option, Some, None, refl, ap, sym, ◌∙◌, arith, subst, ◌^◌, Result, Ok, Err, IfOk, IfErr, OnOk, ◌==◌, ◌⊎◌, inl, inr}
 use Rattle.std.proofs.lemmas.Bool.{and_parts}
 use Rattle.bbm_regimes.specs.declared.regime.Which.{Which}
 use Rattle.bbm_events.specs.declared.event.Event.{Event as EventOf}
@@ -11,42 +11,60 @@ use Rattle.bbm_events.specs.declared.malformed.Malformed.{Malformed as Cause}
 use Rattle.bbm_events.specs.Lines.{header_of, item_of}
 use Rattle.bbm_rules.specs.declared.verdict.Verdict.{Verdict}
 use Rattle.bbm_rules.specs.declared.verdict.Verdict.TheVariants.{Accepted, Refused, Malformed, Limit}
+use Rattle.bbm_rules.specs.declared.step_fault.StepFault.{StepFault}
+use Rattle.bbm_rules.specs.declared.step_fault.StepFault.TheVariants as step_fault
+use Rattle.bbm_rules.specs.Answers.{rewrites, takes_no_memory}
 use Rattle.bbm_rules.specs.Broken.{Breach, broken}
 use Rattle.bbm_rules.specs.Claims.{Patterns}
 use Rattle.bbm_rules.specs.Limits.{limit_of}
 use Rattle.bbm_rules.specs.declared.limits.Limits.{Limits}
 use Rattle.bbm_rules.specs.Outcome.{Text, is_too_long, limit_after, limit_at, AtHeader, AtEvents, AtEnd, after_header, after_item, after_event, after_judged, after_kept, after_line, too_long_at, cut_at, Progress, Step, Decides, GoesOn, Outcome, outcome_from, outcome_of, outcome_after, verdict_of_bytes, read_from, read_lines, goes_on_to, step_of, end_of, events_in, text_of}
+use Rattle.bbm_session.specs.declared.command.Command.{Command}
+use Rattle.bbm_session.specs.declared.command.Command.TheVariants.{Check, Slow, Explain, Walk}
 use Rattle.bbm_session.specs.declared.stop.Stop.{Stop}
 use Rattle.bbm_session.specs.declared.stop.Stop.TheVariants.{Decided, ReadFault, NoMemory}
 use Rattle.bbm_session.specs.declared.stop.Turn.{Turn}
 use Rattle.bbm_session.specs.declared.stop.Turn.TheVariants.{Taken, End}
 use Rattle.bbm_session.specs.Fold.{Fold, Halts, Ending, turned_by, end_by, ending_after, ending_from, ending_at, passes_to, lines_from, header_by, IsStart, IsInside, IsEnd}
-use Rattle.bbm_session.specs.Folds.{Judged, Judges, StopsKnown, judged_at, judged_by, is_event, line_needs, judging}
-use Rattle.bbm_session.specs.Run.{IsEvent, NeedsMemory, ReadFor, ReadTo, ReadToFault, ReadToWant, UpTo}
+use Rattle.bbm_session.specs.Folds.{Judged, Judges, StopsKnown, judged_at, judged_by, event_needs, item_needs, line_needs, is_frugal, judging, judging_for}
+use Rattle.bbm_session.specs.Run.{EventNeeds, ItemNeeds, NeedsMemory, NeedsRoom, ReadFor, ReadTo, ReadToFault, ReadToWant, UpTo, limits_of}
 use Rattle.bbm_session.specs.Stages.{all_fit, StopsAt, MayJudge, MayTakeLine, Keeps, Knows, KnowsAt, KnowsThat, KnowsWhy, JudgesLine, TakesLine, Ends}
 use Rattle.bbm_session.proofs.ReadBytes.{ByName, Named, ToFault, ToWant, read-by}
 use Rattle.bbm_session.proofs.Refusals.{names-place}
 
 -- ---- an event
 
+-- where a frugal checker may have found no memory
+unless : (b : Bool) → (b ≡ true → ⊥) → not b ≡ true
+unless true denied = absurd (denied refl)
+unless false denied = refl
+
+pub needed : (frugal : Bool) (heading : Heading) (h : List EventOf) (e : EventOf) (r : Result (Unit {0}) StepFault) → (frugal ≡ true → takes_no_memory e ≡ true → r ≢ Err step_fault.NoMemory)
+    → (frugal ≡ true → rewrites heading h e ≡ true → r ≢ Err step_fault.NoMemory) → r ≡ Err step_fault.NoMemory → event_needs frugal heading h e ≡ true
+needed true heading h e r barriers writes is =
+    let first = unless (takes_no_memory e) (λ (t : takes_no_memory e ≡ true). barriers refl t is) in
+    let second = unless (rewrites heading h e) (λ (t : rewrites heading h e ≡ true). writes refl t is) in
+    rw (first, second) refl
+needed false heading h e r barriers writes is = refl
+
 -- an event behind others that fit
 pub fits-more : (heading : Heading) (e : EventOf) (h : List EventOf) → fits_heading heading e ≡ true → all_fit heading h ≡ true → all_fit heading (e ∷ h) ≡ true
 fits-more heading e h one rest = rw (one, rest) refl
 
 module _ (stands : Heading → List EventOf → Type 0) (limits : Limits) (heading : Heading) where
-  refused-at : (s : Stop) (n : ℕ) (h : List EventOf) (e : EventOf) (label : Option (List ℕ)) (breach : Option Breach) (which : Option Which) → breach ≡ broken heading Patterns h e → which ≡ limit_of h e → Keeps stands heading h → fits_heading heading e ≡ true → StopsAt s n label breach which → JudgesLine stands heading h (Unit {0}) (Err s) (after_judged limits n heading h e label breach)
-  refused-at (Decided v) n h e label (Some breach) which broke same keeps fits stops =
+  refused-at : (wants : Type 0) (s : Stop) (n : ℕ) (h : List EventOf) (e : EventOf) (label : Option (List ℕ)) (breach : Option Breach) (which : Option Which) → breach ≡ broken heading Patterns h e → which ≡ limit_of h e → Keeps stands heading h → fits_heading heading e ≡ true → (s ≡ NoMemory → wants) → StopsAt s n label breach which → JudgesLine stands heading h wants (Err s) (after_judged limits n heading h e label breach)
+  refused-at wants (Decided v) n h e label (Some breach) which broke same keeps fits want stops =
       let known : Knows stands heading h (Refused n breach.rule breach.at label) = (keeps, names-place heading h e breach fits (sym broke)) in
       (ap Decides (sym stops), subst (λ (w : Verdict). Knows stands heading h w) (sym stops) known)
-  refused-at (Decided v) n h e label None (Some which) broke same keeps fits stops =
+  refused-at wants (Decided v) n h e label None (Some which) broke same keeps fits want stops =
       (ap (λ (l : Option Which). after_kept n heading h e (limit_at limits n h l)) (sym same) ∙ ap Decides (sym stops), subst (λ (w : Verdict). Knows stands heading h w) (sym stops) tt)
-  refused-at (Decided v) n h e label None None broke same keeps fits stops = absurd stops
-  refused-at ReadFault n h e label (Some breach) which broke same keeps fits stops = absurd stops
-  refused-at ReadFault n h e label None which broke same keeps fits stops = absurd stops
-  refused-at NoMemory n h e label breach which broke same keeps fits stops = tt
+  refused-at wants (Decided v) n h e label None None broke same keeps fits want stops = absurd stops
+  refused-at wants ReadFault n h e label (Some breach) which broke same keeps fits want stops = absurd stops
+  refused-at wants ReadFault n h e label None which broke same keeps fits want stops = absurd stops
+  refused-at wants NoMemory n h e label breach which broke same keeps fits want stops = want refl
 
-  pub event-refused : (s : Stop) (n : ℕ) (h : List EventOf) (e : EventOf) (label : Option (List ℕ)) → Keeps stands heading h → fits_heading heading e ≡ true → StopsAt s n label (broken heading Patterns h e) (limit_of h e) → JudgesLine stands heading h (Unit {0}) (Err s) (after_event Patterns limits n heading h e label)
-  event-refused s n h e label keeps fits stops = refused-at s n h e label (broken heading Patterns h e) (limit_of h e) refl refl keeps fits stops
+  pub event-refused : (wants : Type 0) (s : Stop) (n : ℕ) (h : List EventOf) (e : EventOf) (label : Option (List ℕ)) → Keeps stands heading h → fits_heading heading e ≡ true → (s ≡ NoMemory → wants) → StopsAt s n label (broken heading Patterns h e) (limit_of h e) → JudgesLine stands heading h wants (Err s) (after_event Patterns limits n heading h e label)
+  event-refused wants s n h e label keeps fits want stops = refused-at wants s n h e label (broken heading Patterns h e) (limit_of h e) refl refl keeps fits want stops
 
   kept-event : (n : ℕ) (h : List EventOf) (e : EventOf) (label : Option (List ℕ)) (which : Option Which) → broken heading Patterns h e ≡ None → limit_of h e ≡ None → limit_after limits n (length h) ≡ which → after_event Patterns limits n heading h e label ≡ after_kept n heading h e which
   kept-event n h e label which kept free reached = rw (kept, free, reached) refl
@@ -58,33 +76,28 @@ module _ (stands : Heading → List EventOf → Type 0) (limits : Limits) (headi
   event-kept n h e label kept free reached = kept-event n h e label None kept free reached
 
 -- what was read of a line can be judged
-pub may-judge : (stands : Heading → List EventOf → Type 0) (limits : Limits) (heading : Heading) (n : ℕ) (read : Result Item Cause) → MayTakeLine (Judges stands limits) heading n → n < 2 ^ 64 → IfOk read (λ item. item_fits heading item ≡ true) → MayJudge stands read
-may-judge stands limits heading n (Ok (item.Event event label)) at small fits =
+pub may-judge : (frugal : Bool) (stands : Heading → List EventOf → Type 0) (limits : Limits) (heading : Heading) (n : ℕ) (read : Result Item Cause) → MayTakeLine (Judges frugal stands limits) heading n → n < 2 ^ 64 → IfOk read (λ item. item_fits heading item ≡ true) → MayJudge stands read
+may-judge frugal stands limits heading n (Ok (item.Event event label)) at small fits =
     (heading, at.2.h, at.2.keeps.0, (and_parts (fits_heading heading event) (label_fits heading.version label) fits).0, omega (arith, at.2.number, small))
-may-judge stands limits heading n (Ok (item.End count)) at small fits = tt
-may-judge stands limits heading n (Err cause) at small fits = tt
+may-judge frugal stands limits heading n (Ok (item.End count)) at small fits = tt
+may-judge frugal stands limits heading n (Err cause) at small fits = tt
 
 -- ---- the parts of a log
 
-header-is : (limits : Limits) (r : Result Heading Cause) → judged_by AtHeader (after_header 1 r) ≡ header_by (judging limits) AtHeader (λ heading. AtEvents heading []) r
-header-is limits (Ok heading) = refl
-header-is limits (Err cause) = refl
+header-is : (frugal : Bool) (limits : Limits) (r : Result Heading Cause) → judged_by AtHeader (after_header 1 r) ≡ header_by (judging frugal limits) AtHeader (λ heading. AtEvents heading []) r
+header-is frugal limits (Ok heading) = refl
+header-is frugal limits (Err cause) = refl
 
-pub judging-start : (limits : Limits) → IsStart (judging limits) AtHeader (λ heading. AtEvents heading [])
-judging-start limits = record { line = λ l. header-is limits (header_of l); long = refl; cut = λ rest. refl }
+pub judging-start : (frugal : Bool) (limits : Limits) → IsStart (judging frugal limits) AtHeader (λ heading. AtEvents heading [])
+judging-start frugal limits = record { line = λ l. header-is frugal limits (header_of l); long = refl; cut = λ rest. refl }
 
-pub judging-inside : (limits : Limits) (heading : Heading) (h : List EventOf) → IsInside (judging limits) (AtEvents heading h)
-judging-inside limits heading h = record { long = λ n. refl; cut = λ n rest. refl }
+pub judging-inside : (frugal : Bool) (limits : Limits) (heading : Heading) (h : List EventOf) → IsInside (judging frugal limits) (AtEvents heading h)
+judging-inside frugal limits heading h = record { long = λ n. refl; cut = λ n rest. refl }
 
-judging-end : (limits : Limits) (heading : Heading) (h : List EventOf) → IsEnd (judging limits) (AtEvents heading h) (AtEnd h)
-judging-end limits heading h = record { line = λ n l. refl; long = λ n. refl; nothing = λ n. refl; more = λ n b rest. refl }
+judging-end : (frugal : Bool) (limits : Limits) (heading : Heading) (h : List EventOf) → IsEnd (judging frugal limits) (AtEvents heading h) (AtEnd h)
+judging-end frugal limits heading h = record { line = λ n l. refl; long = λ n. refl; nothing = λ n. refl; more = λ n b rest. refl }
 
 -- ---- a line
-
-event-needs : (r : Result Item Cause) → IsEvent r → is_event r ≡ true
-event-needs (Ok (item.Event event label)) is = refl
-event-needs (Ok (item.End count)) is = absurd is
-event-needs (Err cause) is = absurd is
 
 knows-more : (a b : Type 0) (v : Verdict) → (a → b) → KnowsThat a v → KnowsThat b v
 knows-more a b (Accepted events) more known = more known
@@ -92,56 +105,57 @@ knows-more a b (Refused line rule at label) more known = (more known.0, known.1)
 knows-more a b (Malformed line cause) more known = tt
 knows-more a b (Limit line which) more known = tt
 
-judged-at : (stands : Heading → List EventOf → Type 0) (limits : Limits) (heading : Heading) (h : List EventOf) (n : ℕ) (line : List ℕ) (r : Result Turn Stop) → n ≡ length h + 2 → JudgesLine stands heading h (IsEvent (item_of heading line)) r (after_item Patterns limits n heading h (item_of heading line)) → TakesLine (judging limits) (Judges stands limits (judging limits) heading) n (AtEvents heading h) line r
-judged-at stands limits heading h n line (Ok Taken) number judged = (
+judged-at : (frugal : Bool) (stands : Heading → List EventOf → Type 0) (limits : Limits) (heading : Heading) (h : List EventOf) (n : ℕ) (line : List ℕ) (r : Result Turn Stop) → n ≡ length h + 2 → JudgesLine stands heading h (item_needs frugal heading h (item_of heading line) ≡ true) r (after_item Patterns limits n heading h (item_of heading line)) → TakesLine (judging frugal limits) (Judges frugal stands limits (judging frugal limits) heading) n (AtEvents heading h) line r
+judged-at frugal stands limits heading h n line (Ok Taken) number judged = (
   AtEvents heading judged.0,
   ap (judged_by (AtEvents heading h)) judged.1,
-  judging-inside limits heading judged.0,
+  judging-inside frugal limits heading judged.0,
   record { h = judged.0; fold_is = refl; is = refl; keeps = judged.2; number = omega (arith, judged.3, number) },
 )
-judged-at stands limits heading h n line (Ok End) number judged = (
+judged-at frugal stands limits heading h n line (Ok End) number judged = (
   AtEnd h,
   ap (judged_by (AtEvents heading h)) judged.0,
-  judging-end limits heading h,
+  judging-end frugal limits heading h,
   record { h = h; fold_is = refl; is = refl; keeps = judged.1; number = number },
 )
-judged-at stands limits heading h n line (Err (Decided v)) number judged = (
+judged-at frugal stands limits heading h n line (Err (Decided v)) number judged = (
   ap (judged_by (AtEvents heading h)) judged.0,
-  knows-more (Keeps stands heading h) (Judges stands limits (judging limits) heading (AtEvents heading h) n) v
+  knows-more (Keeps stands heading h) (Judges frugal stands limits (judging frugal limits) heading (AtEvents heading h) n) v
       (λ keeps. record { h = h; fold_is = refl; is = refl; keeps = keeps; number = number }) judged.1,
 )
-judged-at stands limits heading h n line (Err ReadFault) number judged = absurd judged
-judged-at stands limits heading h n line (Err NoMemory) number judged = event-needs (item_of heading line) judged
+judged-at frugal stands limits heading h n line (Err ReadFault) number judged = absurd judged
+judged-at frugal stands limits heading h n line (Err NoMemory) number judged = judged
 
-pub judged-takes : (stands stands' : Heading → List EventOf → Type 0) (limits : Limits) (heading : Heading) (fold : Fold Progress Judged) (p : Progress) (n : ℕ) (line : List ℕ) (read : Result Item Cause) (r : Result Turn Stop) → Judges stands limits fold heading p n → read ≡ item_of heading line → ((h : List EventOf) → Keeps stands heading h → JudgesLine stands' heading h (IsEvent read) r (after_item Patterns limits n heading h read)) → TakesLine fold (Judges stands' limits fold heading) n p line r
-judged-takes stands stands' limits heading fold p n line read r judges is says =
-    let judged = subst (λ (x : Result Item Cause). JudgesLine stands' heading judges.h (IsEvent x) r (after_item Patterns limits n heading judges.h x)) is (says judges.h judges.keeps) in
-    let at = judged-at stands' limits heading judges.h n line r judges.number judged in
-    subst (λ (f : Fold Progress Judged). TakesLine f (Judges stands' limits f heading) n p line r) (sym judges.fold_is)
-    (subst (λ (q : Progress). TakesLine (judging limits) (Judges stands' limits (judging limits) heading) n q line r) (sym judges.is) at)
+pub judged-takes : (frugal frugal' : Bool) (stands stands' : Heading → List EventOf → Type 0) (limits : Limits) (heading : Heading) (fold : Fold Progress Judged) (p : Progress) (n : ℕ) (line : List ℕ) (read : Result Item Cause) (r : Result Turn Stop) → frugal' ≡ frugal → Judges frugal stands limits fold heading p n → read ≡ item_of heading line → ((h : List EventOf) → Keeps stands heading h → JudgesLine stands' heading h (item_needs frugal heading h read ≡ true) r (after_item Patterns limits n heading h read)) → TakesLine fold (Judges frugal' stands' limits fold heading) n p line r
+judged-takes frugal frugal' stands stands' limits heading fold p n line read r same judges is says =
+    let judged = subst (λ (x : Result Item Cause). JudgesLine stands' heading judges.h (item_needs frugal heading judges.h x ≡ true) r (after_item Patterns limits n heading judges.h x)) is (says judges.h judges.keeps) in
+    let at = judged-at frugal stands' limits heading judges.h n line r judges.number judged in
+    subst (λ (b : Bool). TakesLine fold (Judges b stands' limits fold heading) n p line r) (sym same)
+    (subst (λ (f : Fold Progress Judged). TakesLine f (Judges frugal stands' limits f heading) n p line r) (sym judges.fold_is)
+    (subst (λ (q : Progress). TakesLine (judging frugal limits) (Judges frugal stands' limits (judging frugal limits) heading) n q line r) (sym judges.is) at))
 
 -- ---- the whole log
 
 -- what a checker stands for where reading stopped
-known-events : (stands : Heading → List EventOf → Type 0) (limits limits' : Limits) (heading : Heading) (q : Progress) (m : ℕ) → Judges stands limits' (judging limits) heading q m → Keeps stands heading (events_in q)
-known-events stands limits limits' heading q m judges = subst (λ (x : Progress). Keeps stands heading (events_in x)) (sym judges.is) judges.keeps
+known-events : (stands : Heading → List EventOf → Type 0) (frugal frugal' : Bool) (limits limits' : Limits) (heading : Heading) (q : Progress) (m : ℕ) → Judges frugal' stands limits' (judging frugal limits) heading q m → Keeps stands heading (events_in q)
+known-events stands frugal frugal' limits limits' heading q m judges = subst (λ (x : Progress). Keeps stands heading (events_in x)) (sym judges.is) judges.keeps
 
-knows-events : (stands : Heading → List EventOf → Type 0) (limits limits' : Limits) (heading : Heading) (q : Progress) (m : ℕ) (s : Stop) → KnowsWhy (Judges stands limits' (judging limits) heading q m) s → KnowsAt stands heading (events_in q) s
-knows-events stands limits limits' heading q m (Decided v) known =
-    knows-more (Judges stands limits' (judging limits) heading q m) (Keeps stands heading (events_in q)) v (known-events stands limits limits' heading q m) known
-knows-events stands limits limits' heading q m ReadFault known = tt
-knows-events stands limits limits' heading q m NoMemory known = tt
+knows-events : (stands : Heading → List EventOf → Type 0) (frugal frugal' : Bool) (limits limits' : Limits) (heading : Heading) (q : Progress) (m : ℕ) (s : Stop) → KnowsWhy (Judges frugal' stands limits' (judging frugal limits) heading q m) s → KnowsAt stands heading (events_in q) s
+knows-events stands frugal frugal' limits limits' heading q m (Decided v) known =
+    knows-more (Judges frugal' stands limits' (judging frugal limits) heading q m) (Keeps stands heading (events_in q)) v (known-events stands frugal frugal' limits limits' heading q m) known
+knows-events stands frugal frugal' limits limits' heading q m ReadFault known = tt
+knows-events stands frugal frugal' limits limits' heading q m NoMemory known = tt
 
-pub judged-ends : (stands : Heading → List EventOf → Type 0) (limits limits' : Limits) (heading : Heading) (p : Progress) (r : Result (Unit {0}) Stop) (stop : Stop) (old new : Option (List ℕ)) (f f' : ℕ) → Ends (judging limits) (Judges stands limits' (judging limits) heading) p r old new f f' → ((h : List EventOf) → stands heading h → OnOk r (stop ≡ Decided (Accepted (length h)))) → IfErr r (λ s. stop ≡ s) → StopsKnown stands limits heading p stop old new f f'
-judged-ends stands limits limits' heading p (Ok u) stop old new f f' ends accepted stopped =
+pub judged-ends : (stands : Heading → List EventOf → Type 0) (frugal frugal' : Bool) (limits limits' : Limits) (heading : Heading) (p : Progress) (r : Result (Unit {0}) Stop) (stop : Stop) (old new : Option (List ℕ)) (f f' : ℕ) → Ends (judging frugal limits) (Judges frugal' stands limits' (judging frugal limits) heading) p r old new f f' → ((h : List EventOf) → stands heading h → OnOk r (stop ≡ Decided (Accepted (length h)))) → IfErr r (λ s. stop ≡ s) → StopsKnown frugal stands limits heading p stop old new f f'
+judged-ends stands frugal frugal' limits limits' heading p (Ok u) stop old new f f' ends accepted stopped =
     let q = ends.0 in
-    let keeps = known-events stands limits limits' heading q ends.1 ends.3 in
+    let keeps = known-events stands frugal frugal' limits limits' heading q ends.1 ends.3 in
     let is = accepted (events_in q) keeps.0 in
-    subst (λ (s : Stop). StopsKnown stands limits heading p s old new f f') (sym is)
+    subst (λ (s : Stop). StopsKnown frugal stands limits heading p s old new f f') (sym is)
     (record { reached = q; stops = (ends.2, ends.4); known = keeps })
-judged-ends stands limits limits' heading p (Err s) stop old new f f' ends accepted stopped =
-    subst (λ (x : Stop). StopsKnown stands limits heading p x old new f f') (sym stopped)
-    (record { reached = ends.0; stops = ends.2; known = knows-events stands limits limits' heading ends.0 ends.1 s ends.3 })
+judged-ends stands frugal frugal' limits limits' heading p (Err s) stop old new f f' ends accepted stopped =
+    subst (λ (x : Stop). StopsKnown frugal stands limits heading p x old new f f') (sym stopped)
+    (record { reached = ends.0; stops = ends.2; known = knows-events stands frugal frugal' limits limits' heading ends.0 ends.1 s ends.3 })
 
 -- ---- the line that a verdict names
 
@@ -166,45 +180,45 @@ read_for (Limit line which) read unread f = up_to line read unread f
 abbrev pub outcome_said : Ending Judged → Outcome
 outcome_said o = record { verdict = o.says.verdict; unread = o.unread; log = o.says.log }
 
-step-is : (limits : Limits) (n : ℕ) (p : Progress) (line : List ℕ) → turned_by (judging limits) n p line ≡ judged_by p (step_of Patterns limits n p line)
+step-is : (frugal : Bool) (limits : Limits) (n : ℕ) (p : Progress) (line : List ℕ) → turned_by (judging frugal limits) n p line ≡ judged_by p (step_of Patterns limits n p line)
 unfolding step_of turned_by
-step-is limits n p line = by (is_too_long line)
+step-is frugal limits n p line = by (is_too_long line)
   where
     by : (b : Bool) → (if b then Halts (judged_at p (too_long_at n p)) else judged_by p (after_line Patterns limits n p line)) ≡ judged_by p (if b then Decides (too_long_at n p) else after_line Patterns limits n p line)
     by true = refl
     by false = refl
 
-end-is : (limits : Limits) (n : ℕ) (p : Progress) (rest : List ℕ) → end_by (judging limits) n p rest ≡ judged_at p (end_of n p rest)
+end-is : (frugal : Bool) (limits : Limits) (n : ℕ) (p : Progress) (rest : List ℕ) → end_by (judging frugal limits) n p rest ≡ judged_at p (end_of n p rest)
 unfolding end_of end_by
-end-is limits n p rest = by (is_too_long rest)
+end-is frugal limits n p rest = by (is_too_long rest)
   where
     by : (b : Bool) → (if b then judged_at p (too_long_at n p) else judged_at p (cut_at n p rest)) ≡ judged_at p (if b then too_long_at n p else cut_at n p rest)
     by true = refl
     by false = refl
 
-module _ (limits : Limits) where
-  after-is : (n : ℕ) (p : Progress) (line : List ℕ) (lines : List (List ℕ)) (rest : List ℕ) (s : Step) → ((next : Progress) → outcome_from Patterns limits (suc n) next lines rest ≡ outcome_said (ending_from (judging limits) (suc n) next lines rest))
-      → outcome_after p line lines rest (λ next. outcome_from Patterns limits (suc n) next lines rest) s ≡ outcome_said (ending_after line lines rest (λ next. ending_from (judging limits) (suc n) next lines rest) (judged_by p s))
+module _ (frugal : Bool) (limits : Limits) where
+  after-is : (n : ℕ) (p : Progress) (line : List ℕ) (lines : List (List ℕ)) (rest : List ℕ) (s : Step) → ((next : Progress) → outcome_from Patterns limits (suc n) next lines rest ≡ outcome_said (ending_from (judging frugal limits) (suc n) next lines rest))
+      → outcome_after p line lines rest (λ next. outcome_from Patterns limits (suc n) next lines rest) s ≡ outcome_said (ending_after line lines rest (λ next. ending_from (judging frugal limits) (suc n) next lines rest) (judged_by p s))
   after-is n p line lines rest (Decides v) behind = refl
   after-is n p line lines rest (GoesOn next) behind = behind next
 
-  outcome-is : (n : ℕ) (p : Progress) (lines : List (List ℕ)) (rest : List ℕ) → outcome_from Patterns limits n p lines rest ≡ outcome_said (ending_from (judging limits) n p lines rest)
-  outcome-is n p [] rest = rw (end-is limits n p rest) refl
+  outcome-is : (n : ℕ) (p : Progress) (lines : List (List ℕ)) (rest : List ℕ) → outcome_from Patterns limits n p lines rest ≡ outcome_said (ending_from (judging frugal limits) n p lines rest)
+  outcome-is n p [] rest = rw (end-is frugal limits n p rest) refl
   outcome-is n p (line ∷ lines) rest =
-      rw (step-is limits n p line) (after-is n p line lines rest (step_of Patterns limits n p line) (λ next. outcome-is (suc n) next lines rest))
+      rw (step-is frugal limits n p line) (after-is n p line lines rest (step_of Patterns limits n p line) (λ next. outcome-is (suc n) next lines rest))
 
-  pub outcome-said : (bytes : List ℕ) → outcome_of Patterns limits bytes ≡ outcome_said (ending_at (judging limits) 1 AtHeader bytes)
+  pub outcome-said : (bytes : List ℕ) → outcome_of Patterns limits bytes ≡ outcome_said (ending_at (judging frugal limits) 1 AtHeader bytes)
   outcome-said bytes = outcome-is 1 AtHeader (text_of bytes).lines (text_of bytes).rest
 
-  goes-is : (n : ℕ) (p : Progress) (lines : List (List ℕ)) (s : Step) → ((next : Progress) → read_from Patterns limits (suc n) next lines ≡ lines_from (judging limits) (suc n) next lines)
-      → goes_on_to (λ next. read_from Patterns limits (suc n) next lines) s ≡ passes_to (λ next. lines_from (judging limits) (suc n) next lines) (judged_by p s)
+  goes-is : (n : ℕ) (p : Progress) (lines : List (List ℕ)) (s : Step) → ((next : Progress) → read_from Patterns limits (suc n) next lines ≡ lines_from (judging frugal limits) (suc n) next lines)
+      → goes_on_to (λ next. read_from Patterns limits (suc n) next lines) s ≡ passes_to (λ next. lines_from (judging frugal limits) (suc n) next lines) (judged_by p s)
   goes-is n p lines (Decides v) behind = refl
   goes-is n p lines (GoesOn next) behind = behind next
 
-  read-is : (n : ℕ) (p : Progress) (lines : List (List ℕ)) → read_from Patterns limits n p lines ≡ lines_from (judging limits) n p lines
+  read-is : (n : ℕ) (p : Progress) (lines : List (List ℕ)) → read_from Patterns limits n p lines ≡ lines_from (judging frugal limits) n p lines
   read-is n p [] = refl
   read-is n p (line ∷ lines) =
-      rw (step-is limits n p line) (goes-is n p lines (step_of Patterns limits n p line) (λ next. read-is (suc n) next lines))
+      rw (step-is frugal limits n p line) (goes-is n p lines (step_of Patterns limits n p line) (λ next. read-is (suc n) next lines))
 
   -- ---- the line that is named
 
@@ -256,7 +270,7 @@ module _ (limits : Limits) where
       subst (λ (w : Verdict). named_line w ≡ Some n) same names
   names_said n p (GoesOn next) v names is = cc
 
-  judging-named : Named (judging limits) (λ v. named_line v.verdict)
+  judging-named : Named (judging frugal limits) (λ v. named_line v.verdict)
   judging-named = record {
     line = λ n p l v is. names_said n p (after_line Patterns limits n p l) v (names_line n p l) is;
     long = names_long;
@@ -266,13 +280,13 @@ module _ (limits : Limits) where
   -- what is left unread, where the rest was read
   pub read-to : (bytes : List ℕ) (left : Option (List ℕ)) → left ≡ Some (outcome_of Patterns limits bytes).unread → ReadTo bytes (verdict_of_bytes Patterns limits bytes) left
   read-to bytes left is =
-      let o = ending_at (judging limits) 1 AtHeader bytes in
-      let k = read-by (judging limits) (λ v. named_line v.verdict) judging-named AtHeader bytes in
+      let o = ending_at (judging frugal limits) 1 AtHeader bytes in
+      let k = read-by (judging frugal limits) (λ v. named_line v.verdict) judging-named AtHeader bytes in
       let said = outcome-said bytes in
       rw (ap (λ (x : Outcome). x.verdict) said)
       (k.0, o.unread, k.1, is ∙ ap (λ (x : Outcome). Some x.unread) said, read_for o.says.verdict (text_of k.0) o.unread k.2)
 
-  pub fault-is : (bytes : List ℕ) (left : Option (List ℕ)) → ToFault (judging limits) AtHeader bytes left → ReadToFault limits bytes left
+  pub fault-is : (bytes : List ℕ) (left : Option (List ℕ)) → ToFault (judging frugal limits) AtHeader bytes left → ReadToFault limits bytes left
   fault-is bytes left fault = record {
     part = fault.part;
     reached = fault.reached;
@@ -280,24 +294,41 @@ module _ (limits : Limits) where
     short = fault.short;
   }
 
-  item-needs : (r : Result Item Cause) → is_event r ≡ true → IsEvent r
-  item-needs (Ok (item.Event event label)) is = tt
-  item-needs (Ok (item.End count)) is = cc
-  item-needs (Err cause) is = cc
+-- ---- the line for which there was no memory
 
-  needs-memory : (p : Progress) (line : List ℕ) → line_needs p line ≡ true → NeedsMemory p line
-  needs-memory AtHeader line needs = needs
-  needs-memory (AtEvents heading h) line needs = item-needs (item_of heading line) needs
-  needs-memory (AtEnd h) line needs = cc
+not-is : (b : Bool) → not b ≡ true → b ≡ false
+not-is false is = refl
+not-is true is = cc
 
-  pub want-is : (bytes : List ℕ) (left : Option (List ℕ)) → ToWant (judging limits) AtHeader bytes left → ReadToWant limits bytes left
-  want-is bytes left want = record {
-    part = want.part;
-    before = want.before;
-    line = want.line;
-    reached = want.reached;
-    lines = want.lines;
-    undecided = read-is 1 AtHeader want.before ∙ want.undecided;
-    short = want.short;
-    needs = needs-memory want.reached want.line want.needs;
-  }
+needs-room : (heading : Heading) (h : List EventOf) (e : EventOf) → event_needs true heading h e ≡ true → NeedsRoom heading h e
+needs-room heading h e is =
+    let both = and_parts (not (takes_no_memory e)) (not (rewrites heading h e)) is in
+    (not-is (takes_no_memory e) both.0, not-is (rewrites heading h e) both.1)
+
+needs-event : (command : Command) (heading : Heading) (h : List EventOf) (e : EventOf) → event_needs (is_frugal command) heading h e ≡ true → EventNeeds command heading h e
+needs-event Slow heading h e is = tt
+needs-event Check heading h e is = needs-room heading h e is
+needs-event Explain heading h e is = needs-room heading h e is
+needs-event (Walk question) heading h e is = needs-room heading h e is
+
+needs-item : (command : Command) (heading : Heading) (h : List EventOf) (r : Result Item Cause) → item_needs (is_frugal command) heading h r ≡ true → ItemNeeds command heading h r
+needs-item command heading h (Ok (item.Event event label)) is = needs-event command heading h event is
+needs-item command heading h (Ok (item.End count)) is = cc
+needs-item command heading h (Err cause) is = cc
+
+needs-memory : (command : Command) (p : Progress) (line : List ℕ) → line_needs (is_frugal command) p line ≡ true → NeedsMemory command p line
+needs-memory command AtHeader line needs = needs
+needs-memory command (AtEvents heading h) line needs = needs-item command heading h (item_of heading line) needs
+needs-memory command (AtEnd h) line needs = cc
+
+pub want-is : (command : Command) (bytes : List ℕ) (left : Option (List ℕ)) → ToWant (judging_for command) AtHeader bytes left → ReadToWant command bytes left
+want-is command bytes left want = record {
+  part = want.part;
+  before = want.before;
+  line = want.line;
+  reached = want.reached;
+  lines = want.lines;
+  undecided = read-is (is_frugal command) (limits_of command) 1 AtHeader want.before ∙ want.undecided;
+  short = want.short;
+  needs = needs-memory command want.reached want.line want.needs;
+}

@@ -21,7 +21,7 @@ use Rattle.bbm_session.specs.declared.status.Status.TheVariants as status
 use Rattle.bbm_session.specs.declared.stop.Stop.{Stop}
 use Rattle.bbm_session.specs.declared.stop.Stop.TheVariants.{Decided, ReadFault, NoMemory}
 use Rattle.bbm_session.specs.Fold.{Fold, ending_at}
-use Rattle.bbm_session.specs.Folds.{Follows, Judged, judging, following, whole_run}
+use Rattle.bbm_session.specs.Folds.{Follows, Judged, is_frugal, judging_for, following, whole_run}
 use Rattle.bbm_session.specs.Requests.{status_for, IsTextFor, IsSomeTextFor, unread_for, ReadForAll, FaultAt, WantAt, reads_input}
 use Rattle.bbm_session.specs.Generating.{gen_text}
 use Rattle.bbm_session.specs.Run.{IsTextOf, Says, ReadFor, limits_of, status_of, tells_verdict}
@@ -252,13 +252,13 @@ unread_is : {P V : Type 0} (fold : Fold P V) (start : P) (bytes : List ℕ) (lef
 unread_is fold start bytes None v concludes = absurd concludes
 unread_is fold start bytes (Some rest) v concludes = (concludes.0, ap Some (sym concludes.1))
 
-judged_text : (command : Command) (heading : Option Heading) (bytes : List ℕ) (v : Judged) (text : List ℕ) → (ending_at (judging (limits_of command)) 1 AtHeader bytes).says ≡ v
+judged_text : (command : Command) (heading : Option Heading) (bytes : List ℕ) (v : Judged) (text : List ℕ) → (ending_at (judging_for command) 1 AtHeader bytes).says ≡ v
     → Heads (Some bytes) heading → Says command heading v.log v.verdict text → IsTextOf command bytes text
 judged_text command heading bytes v text is heads says =
     let limits = limits_of command in
-    let o = ending_at (judging limits) 1 AtHeader bytes in
+    let o = ending_at (judging_for command) 1 AtHeader bytes in
     let said : Says command heading o.says.log o.says.verdict text = subst (λ (x : Judged). Says command heading x.log x.verdict text) (sym is) says in
-    subst (λ (k : Outcome). Says command (heading_in (text_of bytes).lines) k.log k.verdict text) (sym (outcome-said limits bytes))
+    subst (λ (k : Outcome). Says command (heading_in (text_of bytes).lines) k.log k.verdict text) (sym (outcome-said (is_frugal command) limits bytes))
     (subst (λ (x : Option Heading). Says command x o.says.log o.says.verdict text) (sym heads) said)
 
 none_left : (v : Verdict) (read : Text) (unread : List ℕ) → status_of v ≡ status.Accepted → ReadFor v read unread → unread ≡ []
@@ -299,12 +299,12 @@ run_wants bytes left (inr whole) =
 
 module _ (result : Status) (old new : Option (List ℕ)) (f f' : ℕ) (held held' : Option (List ℕ)) (w w' : ℕ) where
   judged_heard : (command : Command) → (o : Obeys command result old new f f' held held' w w') → tells_verdict result ≡ true
-      → Heard (judging (limits_of command)) AtHeader (JudgedText command o.heading) (judged_status command) (λ v. tells_of v.verdict) (Starves (judging (limits_of command)) 1 AtHeader) result old new f f' held held' w w'
-  judged_heard command o tell = heard (judging (limits_of command)) AtHeader (JudgedText command o.heading) (judged_status command) (λ v. tells_of v.verdict) (Starves (judging (limits_of command)) 1 AtHeader) result old new f f' held held' w w' o.answered tell
+      → Heard (judging_for command) AtHeader (JudgedText command o.heading) (judged_status command) (λ v. tells_of v.verdict) (Starves (judging_for command) 1 AtHeader) result old new f f' held held' w w'
+  judged_heard command o tell = heard (judging_for command) AtHeader (JudgedText command o.heading) (judged_status command) (λ v. tells_of v.verdict) (Starves (judging_for command) 1 AtHeader) result old new f f' held held' w w' o.answered tell
 
   judged_cut : (command : Command) → (o : Obeys command result old new f f' held held' w w') → result ≡ status.WriteFault
-      → Cut (judging (limits_of command)) AtHeader (JudgedText command o.heading) (judged_status command) (λ v. tells_of v.verdict) (Starves (judging (limits_of command)) 1 AtHeader) result old new f f' held held' w w'
-  judged_cut command o is = cut (judging (limits_of command)) AtHeader (JudgedText command o.heading) (judged_status command) (λ v. tells_of v.verdict) (Starves (judging (limits_of command)) 1 AtHeader) result old new f f' held held' w w' o.answered is
+      → Cut (judging_for command) AtHeader (JudgedText command o.heading) (judged_status command) (λ v. tells_of v.verdict) (Starves (judging_for command) 1 AtHeader) result old new f f' held held' w w'
+  judged_cut command o is = cut (judging_for command) AtHeader (JudgedText command o.heading) (judged_status command) (λ v. tells_of v.verdict) (Starves (judging_for command) 1 AtHeader) result old new f f' held held' w w' o.answered is
 
   abbrev RunText : run.RunSays → List ℕ → Type 0
   RunText says text = text ≡ run.run_text says
@@ -424,11 +424,11 @@ module _ (result : Status) (old new : Option (List ℕ)) (f f' : ℕ) (held held
     heads_at : (heading : Option Heading) → Heads old heading → Heads (Some bytes) heading
     heads_at heading heads = subst (λ (o : Option (List ℕ)). Heads o heading) is heads
 
-    judged_concluded : (command : Command) (v : Judged) → Concludes (judging (limits_of command)) 1 AtHeader old v new
+    judged_concluded : (command : Command) (v : Judged) → Concludes (judging_for command) 1 AtHeader old v new
         → (verdict_of_bytes Patterns (limits_of command) bytes ≡ v.verdict) × (new ≡ Some (outcome_of Patterns (limits_of command) bytes).unread)
     judged_concluded command v concludes =
-        let k = concluded (judging (limits_of command)) AtHeader v concludes in
-        let said = outcome-said (limits_of command) bytes in
+        let k = concluded (judging_for command) AtHeader v concludes in
+        let said = outcome-said (is_frugal command) (limits_of command) bytes in
         (ap (λ (o : Outcome). o.verdict) said ∙ ap (λ (x : Judged). x.verdict) k.0, k.1 ∙ ap (λ (o : Outcome). Some o.unread) (sym said))
 
     run_concluded : (says : run.RunSays) → Concludes following 1 run.AtHeader old says new
@@ -450,7 +450,7 @@ module _ (result : Status) (old new : Option (List ℕ)) (f f' : ℕ) (held held
     pub served-text : (request : Request) → ServesIt request → tells_verdict result ≡ true → (text : List ℕ) × IsTextFor request bytes text × (held' ≡ extended held text)
     served-text (Judge command) o tell =
         let k = judged_heard command o tell in
-        let c = concluded (judging (limits_of command)) AtHeader k.says k.concludes in
+        let c = concluded (judging_for command) AtHeader k.says k.concludes in
         (k.text, judged_text command o.heading bytes k.says k.text c.0 (heads_at o.heading o.heads) k.has, k.written)
     served-text Follow o tell =
         let k = run_heard o tell in
@@ -460,7 +460,7 @@ module _ (result : Status) (old new : Option (List ℕ)) (f f' : ℕ) (held held
     pub served-part : (request : Request) → ServesIt request → result ≡ status.WriteFault → (text : List ℕ) × IsTextFor request bytes text × Part text held held'
     served-part (Judge command) o cuts =
         let k = judged_cut command o cuts in
-        let c = concluded (judging (limits_of command)) AtHeader k.says k.concludes in
+        let c = concluded (judging_for command) AtHeader k.says k.concludes in
         (k.text, judged_text command o.heading bytes k.says k.text c.0 (heads_at o.heading o.heads) k.has, k.part)
     served-part Follow o cuts =
         let k = run_cut o cuts in
@@ -478,7 +478,7 @@ module _ (result : Status) (old new : Option (List ℕ)) (f f' : ℕ) (held held
     served-untold (Generate n count) o cuts = o.0 ∙ is
 
     pub served-read : (request : Request) → ServesIt request → tells_verdict result ≡ true → ReadForAll request bytes new
-    served-read (Judge command) o tell = read-to (limits_of command) bytes new (served-unread (Judge command) o tell)
+    served-read (Judge command) o tell = read-to (is_frugal command) (limits_of command) bytes new (served-unread (Judge command) o tell)
     served-read Follow o tell = run-read-to bytes new (served-unread Follow o tell)
     served-read (Generate n count) o tell = o.0 ∙ is
 
@@ -499,9 +499,9 @@ module _ (result : Status) (old new : Option (List ℕ)) (f f' : ℕ) (held held
 
     pub served-fault : (request : Request) → ServesIt request → result ≡ status.ReadFault → FaultAt request bytes new
     served-fault (Judge command) o fault =
-        let fold = judging (limits_of command) in
+        let fold = judging_for command in
         let breaks = (broke fold AtHeader (JudgedText command o.heading) (judged_status command) (λ v. tells_of v.verdict) (Starves fold 1 AtHeader) result old new f f' held held' w w' o.answered fault).0 in
-        fault-is (limits_of command) bytes new (to_fault fold AtHeader bytes new (subst (λ (x : Option (List ℕ)). Breaks fold 1 AtHeader x new) is breaks))
+        fault-is (is_frugal command) (limits_of command) bytes new (to_fault fold AtHeader bytes new (subst (λ (x : Option (List ℕ)). Breaks fold 1 AtHeader x new) is breaks))
     served-fault Follow o fault =
         let breaks = (broke following run.AtHeader RunText run_status tells_run WantsRun result old new f f' held held' w w' o fault).0 in
         run-fault bytes new (to_fault following run.AtHeader bytes new (subst (λ (x : Option (List ℕ)). Breaks following 1 run.AtHeader x new) is breaks))
@@ -509,9 +509,9 @@ module _ (result : Status) (old new : Option (List ℕ)) (f f' : ℕ) (held held
 
     pub served-want : (request : Request) → ServesIt request → result ≡ status.NoMemory → WantAt request bytes new
     served-want (Judge command) o want =
-        let fold = judging (limits_of command) in
+        let fold = judging_for command in
         let starves = starved fold AtHeader (JudgedText command o.heading) (judged_status command) (λ v. tells_of v.verdict) (Starves fold 1 AtHeader) result old new f f' held held' w w' o.answered want in
-        want-is (limits_of command) bytes new (to_want fold AtHeader bytes new (subst (λ (x : Option (List ℕ)). Starves fold 1 AtHeader x new) is starves))
+        want-is command bytes new (to_want fold AtHeader bytes new (subst (λ (x : Option (List ℕ)). Starves fold 1 AtHeader x new) is starves))
     served-want Follow o want =
         let wants = starved following run.AtHeader RunText run_status tells_run WantsRun result old new f f' held held' w w' o want in
         run_wants bytes new (subst (λ (x : Option (List ℕ)). WantsRun x new) is wants)

@@ -1,6 +1,7 @@
--- The lines of a text, read one after another, whatever is made of them. A fold over the lines, which knows nothing of a
--- reader. Source: project's own choice.
-use Rattle.std.specs.Prelude.{◌≡◌, ℕ, suc, Bool, List, [], ◌∷◌, drop, Option, Some, None, Result, Ok, Err, if◌then◌else◌}
+-- The lines of a text, read one after another, whatever is made of them. A fold over the lines, which knows nothing of
+-- a reader. Source: project's own choice.
+use Rattle.std.specs.Prelude.{◌≡◌, ℕ, suc, Bool, List, [], ◌∷◌, drop, Option, Some, None, Result, Ok, Err}
+use Rattle.std.specs.Prelude.{if◌then◌else◌}
 use Rattle.bbm_regimes.specs.declared.regime.Which.TheVariants.{LineBytes}
 use Rattle.bbm_events.specs.declared.malformed.Malformed.{Malformed as Cause}
 use Rattle.bbm_events.specs.declared.malformed.Malformed.TheVariants.{NoEnd, AfterEnd}

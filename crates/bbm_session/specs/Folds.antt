@@ -1,25 +1,30 @@
 -- The two folds over the lines of a log: one judges its events, the other keeps the steps of a run. No public contract
 -- cites these words.
-use Rattle.std.specs.Prelude.{◌≡◌, ℕ, ◌+◌, ◌≤◌, Bool, true, false, is_ok, List, length, reverse, Option, Result, Ok, Err}
+use Rattle.std.specs.Prelude.{◌≡◌, ℕ, ◌+◌, ◌≤◌, Bool, true, false, not, ◌&&◌, is_ok, List, length, reverse, Option}
+use Rattle.std.specs.Prelude.{Result, Ok, Err}
 use Rattle.bbm_events.specs.declared.event.Event.{Event}
 use Rattle.bbm_events.specs.declared.event.Item.{Item}
 use Rattle.bbm_events.specs.declared.event.Item.TheVariants as item
 use Rattle.bbm_events.specs.declared.malformed.Malformed.{Malformed as Cause}
 use Rattle.bbm_events.specs.Heading.{Heading}
 use Rattle.bbm_events.specs.Lines.{header_of, item_of}
+use Rattle.bbm_rules.specs.Answers.{rewrites, takes_no_memory}
 use Rattle.bbm_rules.specs.Claims.{Patterns}
 use Rattle.bbm_rules.specs.declared.limits.Limits.{Limits}
 use Rattle.bbm_rules.specs.declared.verdict.Verdict.{Verdict}
 use Rattle.bbm_rules.specs.declared.verdict.Verdict.TheVariants.{Accepted}
-use Rattle.bbm_rules.specs.Outcome.{Progress, AtHeader, AtEvents, AtEnd, Step, Decides, GoesOn, after_line, too_long_at, cut_at}
-use Rattle.bbm_rules.specs.Outcome.{events_in}
+use Rattle.bbm_rules.specs.Outcome.{Progress, AtHeader, AtEvents, AtEnd, Step, Decides, GoesOn, after_line}
+use Rattle.bbm_rules.specs.Outcome.{cut_at, events_in, too_long_at}
 use Rattle.bbm_tlb_machine.specs.declared.step.Step.{Step as MachineStep}
 use Rattle.bbm_follow.specs.declared.turn.LineFault.{LineFault}
 use Rattle.bbm_follow.specs.declared.turn.LineFault.TheVariants as line_fault
 use Rattle.bbm_follow.specs.declared.turn.Turn.{Turn as RunTurn}
 use Rattle.bbm_follow.specs.declared.turn.Turn.TheVariants as turn
 use Rattle.bbm_follow.specs.Following as run
+use Rattle.bbm_session.specs.declared.command.Command.{Command}
+use Rattle.bbm_session.specs.declared.command.Command.TheVariants.{Check, Slow, Explain, Walk}
 use Rattle.bbm_session.specs.Fold.{Fold, Turned, Halts, Passes}
+use Rattle.bbm_session.specs.Run.{limits_of}
 use Rattle.bbm_session.specs.Runs.{step_needs}
 use Rattle.bbm_session.specs.Stages.{Keeps, KnowsAt, Stops}
 use Rattle.bbm_session.specs.declared.stop.Stop.{Stop}
@@ -39,40 +44,55 @@ abbrev pub judged_by : Progress → Step → Turned Progress Judged
 judged_by p (Decides verdict) = Halts (judged_at p verdict)
 judged_by p (GoesOn next) = Passes next
 
-abbrev pub is_event : Result Item Cause → Bool
-is_event (Ok (item.Event event label)) = true
-is_event _ = false
+-- whether memory may be needed for an event, by a checker that is frugal or not
+abbrev pub event_needs : Bool → Heading → List Event → Event → Bool
+event_needs true heading h event = not (takes_no_memory event) && not (rewrites heading h event)
+event_needs false heading h event = true
 
-abbrev pub line_needs : Progress → List ℕ → Bool
-line_needs AtHeader line = is_ok (header_of line)
-line_needs (AtEvents heading h) line = is_event (item_of heading line)
-line_needs (AtEnd h) line = false
+abbrev pub item_needs : Bool → Heading → List Event → Result Item Cause → Bool
+item_needs frugal heading h (Ok (item.Event event label)) = event_needs frugal heading h event
+item_needs frugal heading h _ = false
 
--- the events of a log are judged
-abbrev pub judging : Limits → Fold Progress Judged
-judging limits = record {
+abbrev pub line_needs : Bool → Progress → List ℕ → Bool
+line_needs frugal AtHeader line = is_ok (header_of line)
+line_needs frugal (AtEvents heading h) line = item_needs frugal heading h (item_of heading line)
+line_needs frugal (AtEnd h) line = false
+
+-- whether the checker of a command is frugal: that of `slow` keeps all events
+abbrev pub is_frugal : Command → Bool
+is_frugal Slow = false
+is_frugal Check = true
+is_frugal Explain = true
+is_frugal (Walk question) = true
+
+-- the events of a log are judged, by a checker that is frugal or not
+abbrev pub judging : Bool → Limits → Fold Progress Judged
+judging frugal limits = record {
   line = λ n p line. judged_by p (after_line Patterns limits n p line);
   long = λ n p. judged_at p (too_long_at n p);
   cut = λ n p rest. judged_at p (cut_at n p rest);
   stopped = judged_at;
   whole = λ p. judged_at p (Accepted (length (events_in p)));
-  needs = λ n. line_needs;
+  needs = λ n. line_needs frugal;
 }
 
+abbrev pub judging_for : Command → Fold Progress Judged
+judging_for command = judging (is_frugal command) (limits_of command)
+
 -- A checker stands for a history of this header, whose events are on the lines before this one.
-pub record Judges (stands : Heading → List Event → Type 0) (limits : Limits) (fold : Fold Progress Judged)
-    (heading : Heading) (p : Progress) (n : ℕ) : Type 0 where
+pub record Judges (frugal : Bool) (stands : Heading → List Event → Type 0) (limits : Limits)
+    (fold : Fold Progress Judged) (heading : Heading) (p : Progress) (n : ℕ) : Type 0 where
   pub h : List Event
-  pub fold_is : fold ≡ judging limits
+  pub fold_is : fold ≡ judging frugal limits
   pub is : p ≡ AtEvents heading h
   pub keeps : Keeps stands heading h
   pub number : n ≡ length h + 2
 
 -- Why reading stopped behind the header, and what the checker stands for.
-pub record StopsKnown (stands : Heading → List Event → Type 0) (limits : Limits) (heading : Heading) (p : Progress)
-    (stop : Stop) (old new : Option (List ℕ)) (faults faults' : ℕ) : Type 0 where
+pub record StopsKnown (frugal : Bool) (stands : Heading → List Event → Type 0) (limits : Limits)
+    (heading : Heading) (p : Progress) (stop : Stop) (old new : Option (List ℕ)) (faults faults' : ℕ) : Type 0 where
   pub reached : Progress
-  pub stops : Stops (judging limits) 2 p old stop reached new faults faults'
+  pub stops : Stops (judging frugal limits) 2 p old stop reached new faults faults'
   pub known : KnowsAt stands heading (events_in reached) stop
 
 abbrev pub kept_by : run.Turned → Turned run.Reached run.RunSays

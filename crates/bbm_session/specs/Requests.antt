@@ -87,6 +87,6 @@ FaultAt (Generate n count) bytes left = ⊥
 
 -- there was no memory, of which a generated log needs none
 abbrev pub WantAt : Request → List ℕ → Option (List ℕ) → Type 0
-WantAt (Judge command) bytes left = ReadToWant (limits_of command) bytes left
+WantAt (Judge command) bytes left = ReadToWant command bytes left
 WantAt Follow bytes left = RunWants bytes left
 WantAt (Generate n count) bytes left = ⊥

@@ -10,6 +10,7 @@ use Rattle.bbm_events.specs.declared.malformed.Malformed.{Malformed as Cause}
 use Rattle.bbm_events.specs.declared.event.Event.{Event}
 use Rattle.bbm_events.specs.Heading.{Heading}
 use Rattle.bbm_events.specs.Lines.{header_of, item_of}
+use Rattle.bbm_rules.specs.Answers.{rewrites, takes_no_memory}
 use Rattle.bbm_rules.specs.Claims.{Patterns}
 use Rattle.bbm_rules.specs.declared.limits.Limits.{Limits}
 use Rattle.bbm_rules.specs.Outcome.{check_limits, slow_limits, Outcome, outcome_of, Progress, AtHeader, AtEvents}
@@ -143,23 +144,36 @@ pub record ReadToFault (limits : Limits) (bytes : List ℕ) (left : Option (List
   pub undecided : read_lines Patterns limits (text_of part.read).lines ≡ Some reached
   pub short : length (text_of part.read).rest ≤ 200
 
--- A line for which memory is needed: a header, or an event.
-abbrev pub IsEvent : Result Item Cause → Type 0
-IsEvent (Ok (item.Event event label)) = Unit {0}
-IsEvent _ = ⊥
+-- An event for which new room may be needed, after these: it is none of `dsb`, `dmb`, `isb`, `lock` and `unlock`, and
+-- no write that attaches nothing at a place that was written since the last init of its page.
+abbrev pub NeedsRoom : Heading → List Event → Event → Type 0
+NeedsRoom heading h event = (takes_no_memory event ≡ false) × (rewrites heading h event ≡ false)
 
-abbrev pub NeedsMemory : Progress → List ℕ → Type 0
-NeedsMemory AtHeader line = IsOk (header_of line)
-NeedsMemory (AtEvents heading h) line = IsEvent (item_of heading line)
-NeedsMemory (AtEnd h) line = ⊥
+-- The events for which a command may find no memory: each event for `slow`, which keeps them all, and for the others,
+-- which keep none, those that need new room.
+abbrev pub EventNeeds : Command → Heading → List Event → Event → Type 0
+EventNeeds Slow heading h event = Unit {0}
+EventNeeds Check heading h event = NeedsRoom heading h event
+EventNeeds Explain heading h event = NeedsRoom heading h event
+EventNeeds (Walk question) heading h event = NeedsRoom heading h event
+
+abbrev pub ItemNeeds : Command → Heading → List Event → Result Item Cause → Type 0
+ItemNeeds command heading h (Ok (item.Event event label)) = EventNeeds command heading h event
+ItemNeeds command heading h _ = ⊥
+
+-- A line for which a command may find no memory: the header, or such an event.
+abbrev pub NeedsMemory : Command → Progress → List ℕ → Type 0
+NeedsMemory command AtHeader line = IsOk (header_of line)
+NeedsMemory command (AtEvents heading h) line = ItemNeeds command heading h (item_of heading line)
+NeedsMemory command (AtEnd h) line = ⊥
 
 -- There was no memory: what was read ends with a line that needs memory, and no line before it decides.
-pub record ReadToWant (limits : Limits) (bytes : List ℕ) (left : Option (List ℕ)) : Type 0 where
+pub record ReadToWant (command : Command) (bytes : List ℕ) (left : Option (List ℕ)) : Type 0 where
   pub part : ReadPart bytes left
   pub before : List (List ℕ)
   pub line : List ℕ
   pub reached : Progress
   pub lines : text_of part.read ≡ record { lines = before ++ line ∷ []; rest = [] }
-  pub undecided : read_lines Patterns limits before ≡ Some reached
+  pub undecided : read_lines Patterns (limits_of command) before ≡ Some reached
   pub short : length line ≤ 200
-  pub needs : NeedsMemory reached line
+  pub needs : NeedsMemory command reached line

@@ -90,8 +90,8 @@ Concludes fold n p (Some bytes) v None = ⊥
 Concludes fold n p (Some bytes) v (Some rest) =
     ((ending_at fold n p bytes).says ≡ v) × ((ending_at fold n p bytes).unread ≡ rest)
 
--- Why reading stopped, after lines that were read up to q where a verdict is known, and what was read then. A read fault
--- comes only where the count of faults rose, and where it doesn't come the count stays.
+-- Why reading stopped, after lines that were read up to q where a verdict is known, and what was read then. A read
+-- fault comes only where the count of faults rose, and where it doesn't come the count stays.
 abbrev pub Stops : {P V : Type 0} → Fold P V → ℕ → P → Option (List ℕ) → Stop → P → Option (List ℕ) → ℕ → ℕ → Type 0
 Stops fold n p old (Decided verdict) q new faults faults' =
     Concludes fold n p old (fold.stopped q verdict) new × (faults' ≡ faults)

@@ -19,9 +19,9 @@ use Rattle.bbm_session.specs.declared.status.Status.TheVariants as status
 use Rattle.bbm_session.specs.declared.stop.Stop.{Stop}
 use Rattle.bbm_session.specs.declared.stop.Stop.TheVariants.{Decided, ReadFault, NoMemory}
 use Rattle.bbm_session.specs.Fold.{Fold}
-use Rattle.bbm_session.specs.Folds.{judging, following}
+use Rattle.bbm_session.specs.Folds.{judging_for, following}
 use Rattle.bbm_session.specs.Generating.{gen_text}
-use Rattle.bbm_session.specs.Run.{Says, limits_of, status_of}
+use Rattle.bbm_session.specs.Run.{Says, status_of}
 use Rattle.bbm_session.specs.Runs.{followed_status, run_status}
 use Rattle.bbm_session.specs.Stages.{Breaks, Concludes, Starves}
 
@@ -117,9 +117,9 @@ pub record Obeys (command : Command) (result : Status) (left left' : Option (Lis
     (held held' : Option (List ℕ)) (writes writes' : ℕ) : Type 0 where
   pub heading : Option Heading
   pub heads : Heads left heading
-  pub answered : Answered (judging (limits_of command)) AtHeader
+  pub answered : Answered (judging_for command) AtHeader
       (λ said text. Says command heading said.log said.verdict text) (λ said. status_of said.verdict)
-      (Starves (judging (limits_of command)) 1 AtHeader) result left left' reads reads' held held' writes writes'
+      (Starves (judging_for command) 1 AtHeader) result left left' reads reads' held held' writes writes'
 
 -- a run was followed
 abbrev pub FollowsRun : Status → Option (List ℕ) → Option (List ℕ) → ℕ → ℕ → Option (List ℕ) → Option (List ℕ) → ℕ → ℕ

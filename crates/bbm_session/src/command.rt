@@ -146,13 +146,18 @@ pub fn said(words: &[String]) -> Option<Request>
     }
 }
 
-/// The limits under which a command judges a log. As long as the oracle judges for all, they have the same.
+/// The limits under which a command judges a log: `slow`, which searches the whole history at each event, takes at most
+/// 2,000 events, and the others a log of any number; the line numbers of all stay below 2^32 - 1.
 pub fn limits(command: &Command) -> Limits
     ensures { result ≡ limits_of command.now }
 {
     match command {
-        Command::Check | Command::Slow | Command::Explain | Command::Walk(_) => Limits {
+        Command::Slow => Limits {
             events: Some(ORACLE_EVENTS),
+            lines: u32::MAX,
+        },
+        Command::Check | Command::Explain | Command::Walk(_) => Limits {
+            events: None,
             lines: u32::MAX,
         },
     }

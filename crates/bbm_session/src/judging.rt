@@ -9,9 +9,8 @@ ghost use Rattle.bbm_rules.specs.Answers.{Answers, MayTake};
 ghost use Rattle.bbm_rules.specs.Broken.{Breach};
 ghost use Rattle.bbm_rules.specs.Claims.{Patterns};
 ghost use Rattle.bbm_rules.specs.Outcome.{Progress, is_reached, limit_after, after_event, after_item};
-ghost use Rattle.bbm_session.specs.Run.{IsEvent};
 ghost use Rattle.bbm_session.specs.Fold.{Fold};
-ghost use Rattle.bbm_session.specs.Folds.{Judged, Judges};
+ghost use Rattle.bbm_session.specs.Folds.{Judged, Judges, event_needs, item_needs};
 ghost use Rattle.bbm_session.specs.Stages.{StopsAt, MayJudge, Keeps, JudgesLine, MayTakeLine, TakesLine};
 
 use crate::reading::{limit, malformed};
@@ -25,8 +24,9 @@ use std::alloc::Global;
 
 // Why reading stops at an event with this label that the checker didn't take.
 fn refusal(number: u64, label: Option<Label>, fault: StepFault) -> Stop
-    ensures { (breach : Option Breach) (which : Option WhichOf) → Answers (Err fault) breach which
+    ensures stops { (breach : Option Breach) (which : Option WhichOf) → Answers (Err fault) breach which
         → StopsAt result number label breach which }
+    ensures want { result ≡ Stop.NoMemory → fault ≡ StepFault.NoMemory }
 {
     match fault {
         StepFault::Broken(rule, at) => Stop::Decided(Verdict::Refused {
@@ -76,8 +76,9 @@ fn judge_event<C: Checker>(
     requires { MayTake (C.stands checker.old) event }
     ensures judges { (heading : Heading) (h : List Event) → Keeps (C.stands checker.old) heading h
         → fits_heading heading event ≡ true
-        → JudgesLine (C.stands checker.new) heading h (Unit {0}) result
+        → JudgesLine (C.stands checker.new) heading h (event_needs (C.frugal checker.old) heading h event ≡ true) result
         (after_event Patterns limits number heading h event label) }
+    ensures frugal { C.frugal checker.new ≡ C.frugal checker.old }
     ensures few { result ≡ Ok Turn.Taken → number < 4294967295 }
 {
     if let Err(fault) = checker.step(alloc, event) {
@@ -100,8 +101,9 @@ fn judge_item<C: Checker>(
     requires { MayJudge (C.stands checker.old) read }
     ensures judges { (heading : Heading) (h : List Event) → Keeps (C.stands checker.old) heading h
         → IfOk read (λ item. item_fits heading item ≡ true)
-        → JudgesLine (C.stands checker.new) heading h (IsEvent read) result
+        → JudgesLine (C.stands checker.new) heading h (item_needs (C.frugal checker.old) heading h read ≡ true) result
         (after_item Patterns limits number heading h read) }
+    ensures frugal { C.frugal checker.new ≡ C.frugal checker.old }
     ensures few { result ≡ Ok Turn.Taken → number < 4294967295 }
 {
     match read {
@@ -126,10 +128,11 @@ fn judge_line<C: Checker>(
     header: &Header,
     line: &[u8],
 ) -> Result<Turn, Stop>
-    requires { MayTakeLine (Judges (C.stands checker.old) limits) header.now number }
+    requires { MayTakeLine (Judges (C.frugal checker.old) (C.stands checker.old) limits) header.now number }
     ensures takes { (fold : Fold Progress Judged) (p : Progress)
-        → Judges (C.stands checker.old) limits fold header.now p number
-        → TakesLine fold (Judges (C.stands checker.new) limits fold header.now) number p line.now result }
+        → Judges (C.frugal checker.old) (C.stands checker.old) limits fold header.now p number
+        → TakesLine fold (Judges (C.frugal checker.new) (C.stands checker.new) limits fold header.now) number p line.now
+        result }
     ensures few { result ≡ Ok Turn.Taken → number < 4294967295 }
 {
     judge_item(alloc, limits, number, checker, read_event(header, line))
@@ -153,7 +156,7 @@ impl<C: Checker> Taker for Judging<C> {
 
     ghost Said = { Judged };
 
-    ghost stands = { λ judging. Judges (C.stands judging.checker) judging.limits };
+    ghost stands = { λ judging. Judges (C.frugal judging.checker) (C.stands judging.checker) judging.limits };
 
     fn take(
         &mut self,

@@ -4,7 +4,7 @@ ghost use Rattle.std.specs.Prelude.{◌≡◌, [], List, Some, length, OnOk, IfE
 ghost use Rattle.bbm_events.specs.declared.event.Event.{Event};
 ghost use Rattle.bbm_events.specs.Heading.{Heading};
 ghost use Rattle.bbm_rules.specs.Outcome.{AtEvents};
-ghost use Rattle.bbm_session.specs.Folds.{StopsKnown};
+ghost use Rattle.bbm_session.specs.Folds.{StopsKnown, is_frugal};
 ghost use Rattle.bbm_session.specs.Run.{Says};
 ghost use Rattle.bbm_session.specs.Stages.{KnowsAt, Ready, Shrinks};
 ghost use Rattle.bbm_session.specs.Writing.{Reports, Obeys};
@@ -45,8 +45,8 @@ fn judge_log<C: Checker, S: Source>(
 ) -> Stop
     requires fresh { C.stands judging.old.checker header.now [] }
     requires ready { Ready lines.old 2 }
-    ensures known { StopsKnown (C.stands judging.new.checker) judging.old.limits header.now (AtEvents header.now [])
-        result (S.left log.old) (S.left log.new) (S.faults log.old) (S.faults log.new) }
+    ensures known { StopsKnown (C.frugal judging.old.checker) (C.stands judging.new.checker) judging.old.limits
+        header.now (AtEvents header.now []) result (S.left log.old) (S.left log.new) (S.faults log.old) (S.faults log.new) }
     ensures shrinks { Shrinks (S.left log.old) (S.left log.new) }
 {
     let read = read_log(alloc, header, judging, lines, log);
@@ -76,14 +76,16 @@ fn report<C: Checker, K: Sink>(
     }
 }
 
-/// Judges the log by a new checker, under the limits of the command, and writes its text.
+/// Judges the log by a new checker, under the limits of the command, and writes its text. The checker is frugal where
+/// that of the command is.
 pub fn obey<C: Fresh + Drop, S: Source, K: Sink>(
     alloc: Global,
     command: &Command,
     log: &mut S,
     out: &mut K,
 ) -> Status
-    ensures obeys { Obeys command.now result (S.left log.old) (S.left log.new) (S.faults log.old) (S.faults log.new)
+    ensures obeys { ((checker : C) → C.frugal checker ≡ is_frugal command.now)
+        → Obeys command.now result (S.left log.old) (S.left log.new) (S.faults log.old) (S.faults log.new)
         (K.held out.old) (K.held out.new) (K.faults out.old) (K.faults out.new) }
     ensures shrinks { Shrinks (S.left log.old) (S.left log.new) }
 {

@@ -21,8 +21,8 @@ pub trait Taker {
     /// By this fold and under this header, the lines before this one were read so far, and it has taken them.
     ghost stands: { Self → Fold Reached Said → Heading → Reached → ℕ → Type 0 };
 
-    /// Takes line `number`, of at most 200 bytes and without its newline. `Taken`: the line was taken. `End`: the line is
-    /// the end. A verdict: the line stops reading. `NoMemory`: there was none for a line that needs it. There is no
+    /// Takes line `number`, of at most 200 bytes and without its newline. `Taken`: the line was taken. `End`: the line
+    /// is the end. A verdict: the line stops reading. `NoMemory`: there was none for a line that needs it. There is no
     /// other answer.
     fn take(
         &mut self,

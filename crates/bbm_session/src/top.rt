@@ -13,10 +13,10 @@ ghost use Rattle.bbm_session.specs.Requests.{FaultAt, IsSomeTextFor, IsTextFor, 
 ghost use Rattle.bbm_session.specs.Requests.{request_of, status_for, unread_for};
 ghost use Rattle.bbm_session.specs.Run.{command_of, limits_of, tells_verdict, usage_text};
 ghost use Rattle.bbm_session.specs.Stages.{Shrinks};
-ghost use Rattle.bbm_session.specs.Writing.{Wrote, Part, Serves};
+ghost use Rattle.bbm_session.specs.Writing.{Obeys, Wrote, Part, Serves};
 
 use crate::answering::settled;
-use crate::command::{Request, said};
+use crate::command::{Command, Request, said};
 use crate::following::follow;
 use crate::generating::generate;
 use crate::obeying::obey;
@@ -24,6 +24,7 @@ use crate::status::Status;
 use crate::telling::tell;
 use bbm_io::{Sink, Source};
 use bbm_oracle::Oracle;
+use bbm_replay::Replay;
 use bbm_tlb_machine::law_accepted_is_safe;
 use std::alloc::Global;
 
@@ -42,6 +43,20 @@ fn say_usage<K: Sink>(out: &mut K) -> Status
     settled(tell(usage(), out), Status::Usage)
 }
 
+// Judges a log: for `slow` by the oracle, which searches the whole history, and else by the checker that keeps none.
+fn judge<S: Source, K: Sink>(alloc: Global, command: &Command, log: &mut S, out: &mut K) -> Status
+    ensures obeys { Obeys command.now result (S.left log.old) (S.left log.new) (S.faults log.old) (S.faults log.new)
+        (K.held out.old) (K.held out.new) (K.faults out.old) (K.faults out.new) }
+    ensures shrinks { Shrinks (S.left log.old) (S.left log.new) }
+{
+    match command {
+        Command::Slow => obey::<Oracle, S, K>(alloc, command, log, out),
+        Command::Check | Command::Explain | Command::Walk(_) => {
+            obey::<Replay, S, K>(alloc, command, log, out)
+        }
+    }
+}
+
 // Does what was asked for.
 fn serve<S: Source, K: Sink>(alloc: Global, request: &Request, log: &mut S, out: &mut K) -> Status
     ensures serves { Serves request.now result (S.left log.old) (S.left log.new) (S.faults log.old) (S.faults log.new)
@@ -49,14 +64,15 @@ fn serve<S: Source, K: Sink>(alloc: Global, request: &Request, log: &mut S, out:
     ensures shrinks { Shrinks (S.left log.old) (S.left log.new) }
 {
     match request {
-        Request::Judge(command) => obey::<Oracle, S, K>(alloc, command, log, out),
+        Request::Judge(command) => judge(alloc, command, log, out),
         Request::Follow => follow(alloc, log, out),
         Request::Generate { number, events } => generate(*number, *events, out),
     }
 }
 
 /// Does what the words after the program's name ask for. With `check`, `slow`, `explain` or `walk KIND ROOT ADDR` it
-/// judges the log under the limits of that command and writes the line of its verdict. Behind it `explain` writes a
+/// judges the log under the limits of that command and writes the line of its verdict. `slow` keeps all events, at most
+/// 2,000, and searches them; the others keep none, and take any number. Behind the line `explain` writes a
 /// line for each PE where break-before-make is broken, how far the place has come there; and `walk` writes where an
 /// accepted log maps the address ADDR at its end, by the tables of the root of KIND whose first page is ROOT. With
 /// `follow` it reads a log with lines of machine steps between its events, judges no event, and writes the line of what
@@ -105,8 +121,8 @@ pub fn run<S: Source, K: Sink>(
         → S.left log.new ≡ S.left log.old }
     ensures generated { (request : RequestOf) → request_of (map string_bytes words.now.items) ≡ Some request
         → reads_input request ≡ false → (result ≡ Status.Accepted) ⊎ (result ≡ Status.WriteFault) }
-    // The headline: where a log is accepted, no TLB keeps what a write, an init or a register write needs gone, in any run
-    // of the machine of TLBs over the log of its events.
+    // The headline: where a log is accepted, no TLB keeps what a write, an init or a register write needs gone, in any
+    // run of the machine of TLBs over the log of its events.
     ensures no_stale_entry { (command : CommandOf) → command_of (map string_bytes words.now.items) ≡ Some command
         → (bytes : List ℕ) → S.left log.old ≡ Some bytes → result ≡ Status.Accepted
         → SafeBytes Patterns (limits_of command) bytes }
@@ -132,7 +148,7 @@ pub fn run<S: Source, K: Sink>(
 
     // Nothing is read that isn't needed: up to a fault or for want of memory only lines that decide nothing, and of the
     // next one at most 200 bytes. There is want of memory only at a line that needs memory, or for a run that was read
-    // whole.
+    // whole. With `check`, `explain` and `walk` neither a barrier nor a line on a lock needs memory.
     ensures read_to_fault { (request : RequestOf) → request_of (map string_bytes words.now.items) ≡ Some request
         → (bytes : List ℕ) → S.left log.old ≡ Some bytes → result ≡ Status.ReadFault
         → FaultAt request bytes (S.left log.new) }

@@ -1,7 +1,7 @@
 //! From the words that were gathered, or not, to the status with which the program ends.
 
-ghost use Rattle.std.specs.Prelude.{◌≡◌, ◌≢◌, ◌⊎◌, ◌<◌, ℕ, List, [], true, false, map, IfOk, IfErr, OnErr, Option, Some};
-ghost use Rattle.std.specs.Prelude.{None, IsSome};
+ghost use Rattle.std.specs.Prelude.{◌≡◌, ◌≢◌, ◌⊎◌, ◌<◌, ℕ, List, [], true, false, map, IfOk, IfErr, OnErr};
+ghost use Rattle.std.specs.Prelude.{Option, Some, None, IsSome};
 ghost use Rattle.std.specs.IoError.{error_kind};
 ghost use Rattle.std.specs.String.{string_bytes};
 ghost use Rattle.bbm_io.specs.Faults.{Rose};

@@ -368,7 +368,7 @@ const LETTER: &[u8] = b"a";
 const INIT: &[u8] = b"init 0 0x40000000\n";
 
 /// What stands before a piece, the piece and how often it comes, what stands after it, and the text.
-const LONG: [(&[u8], &[u8], u32, &[u8], &[u8], u8); 18] = [
+const LONG: [(&[u8], &[u8], u32, &[u8], &[u8], u8); 16] = [
     (b"", LETTER, 0, b"", b"malformed line 1 cause 9 NoEnd\n", 2),
     (
         b"",
@@ -446,45 +446,29 @@ const LONG: [(&[u8], &[u8], u32, &[u8], &[u8], u8); 18] = [
         b"malformed line 11 cause 11 AfterEnd\n",
         2,
     ),
-    // At most 2,000 events; what is malformed and a broken rule come first in the same line.
+    // Any number of events.
     (
         HEADER,
         INIT,
-        2000,
-        b"end 2000\n",
-        b"accepted 2000 events\n",
+        2001,
+        b"end 2001\n",
+        b"accepted 2001 events\n",
         0,
     ),
     (
         HEADER,
         INIT,
         2001,
-        b"end 2001\n",
-        b"limit line 2002 events\n",
-        7,
-    ),
-    (
-        HEADER,
-        INIT,
-        2000,
-        b"end 2001\n",
-        b"malformed line 2002 cause 10 WrongCount\n",
+        b"end 2000\n",
+        b"malformed line 2003 cause 10 WrongCount\n",
         2,
     ),
     (
         HEADER,
         INIT,
-        2000,
-        b"dsb 0 full\n",
-        b"malformed line 2002 cause 3 UnknownWord\n",
-        2,
-    ),
-    (
-        HEADER,
-        INIT,
-        2000,
+        2001,
         b"root 1 el2 - 0x40001000\n",
-        b"refused line 2002 rule 10 page-in-use at 0x40001000\n",
+        b"refused line 2003 rule 10 page-in-use at 0x40001000\n",
         1,
     ),
 ];

@@ -7,19 +7,21 @@ use Rattle.bbm_session.proofs.obeying.judge_log.Goals as goal
 pub read_log-read-requires-clause-begun : goal.read_log-read-requires-clause-begun
 read_log-read-requires-clause-begun g c =
     let header = c.args.header.now in
+    let frugal = g.C.Checker.frugal c.args.judging.now.checker in
     let limits = c.args.judging.now.limits in (
-      judging_of limits,
+      judging_of frugal limits,
       AtEvents header [],
-      judging-inside limits header [],
+      judging-inside frugal limits header [],
       record { h = []; fold_is = refl; is = refl; keeps = (c.requires.fresh, refl); number = refl },
     )
 
 pub returns-clause-known : goal.returns-clause-known
 returns-clause-known g c =
     let header = c.args.header.now in
+    let frugal = g.C.Checker.frugal c.args.judging.now.checker in
     let limits = c.args.judging.now.limits in
-    let begun : Judges (g.C.Checker.stands c.args.judging.now.checker) limits (judging_of limits) header (AtEvents header []) 2 =
+    let begun : Judges frugal (g.C.Checker.stands c.args.judging.now.checker) limits (judging_of frugal limits) header (AtEvents header []) 2 =
     record { h = []; fold_is = refl; is = refl; keeps = (c.requires.fresh, refl); number = refl } in
-    judged-ends (g.C.Checker.stands c.read_log-read.new.taker.checker) limits c.read_log-read.new.taker.limits header (AtEvents header []) c.read_log-read.result c.judge_end.result _ _ _ _
-    (c.read_log-read.ensures.ends (judging_of limits) (AtEvents header []) (judging-inside limits header []) begun)
+    judged-ends (g.C.Checker.stands c.read_log-read.new.taker.checker) frugal (g.C.Checker.frugal c.read_log-read.new.taker.checker) limits c.read_log-read.new.taker.limits header (AtEvents header []) c.read_log-read.result c.judge_end.result _ _ _ _
+    (c.read_log-read.ensures.ends (judging_of frugal limits) (AtEvents header []) (judging-inside frugal limits header []) begun)
     (λ h stands. c.judge_end.ensures.accepted header h stands) c.judge_end.ensures.stopped
