@@ -14,7 +14,7 @@ use Rattle.bbm_entry_state.specs.declared.state.EntryState.TheVariants.{Clean, B
 use Rattle.bbm_entry_state.specs.Points.{waits_in, waits}
 use Rattle.bbm_entry_state.specs.Answered.{answered_at}
 use Rattle.bbm_entry_state.specs.Calls.{half_after, clean_after, Completed}
-use Rattle.bbm_entry_state.proofs.Every.{every_same}
+use Rattle.bbm_regimes.proofs.Every.{every_same}
 
 -- the masks after the answers, and those of a DSB's pendings
 pub record Answered (old : Marks) (pends : Pends) (dsb : Dsb) (done : Pend) (new : Marks) : Type 0 where
@@ -36,7 +36,7 @@ module _ (old new : Marks) (pends left : Pends) (dsb : Dsb) (done : Pend) (n : �
       ∙ ap (λ (b : Bool). pe_in old.clean p || (pe_in old.seen p && (answered_at pends dsb Full p || b))) (a.answers Second p)
 
   every_is : every_pe n (λ p. pe_in new.clean p) ≡ every_pe n (clean_after (Broken old) pends dsb)
-  every_is = every_same n (λ p. pe_in new.clean p) (clean_after (Broken old) pends dsb) clean_is
+  every_is = every_same n (λ p. pe_in new.clean p) (clean_after (Broken old) pends dsb) (λ p below. clean_is p)
 
   pub completes_all : every_pe n (λ p. pe_in new.clean p) ≡ true → ((b : Bool) (c : Cover) (p : ℕ) → waits left b c p ≡ false)
       → Completed (Broken old) pends dsb n Clean left

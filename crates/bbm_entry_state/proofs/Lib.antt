@@ -1,4 +1,3 @@
-pub mod Every
 pub mod Searches
 pub mod Completing
 pub mod Taking

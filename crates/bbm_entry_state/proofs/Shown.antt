@@ -13,7 +13,7 @@ use Rattle.bbm_entry_state.specs.declared.state.EntryState.TheVariants.{Clean, L
 use Rattle.bbm_entry_state.specs.Points.{core_in, is_broken, writer_at, seen_at, clean_at, waits}
 use Rattle.bbm_entry_state.specs.Answered.{answered_at}
 use Rattle.bbm_entry_state.specs.Calls.{counts_at, clean_after, Written, Published, Noted, Completed}
-use Rattle.bbm_entry_state.proofs.Every.{every_from}
+use Rattle.bbm_regimes.proofs.Every.{every_from}
 
 clean_from : (state : EntryState) → core_in state ≡ None → state ≡ Clean
 clean_from Clean none = refl

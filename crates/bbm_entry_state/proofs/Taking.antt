@@ -21,7 +21,7 @@ use Rattle.bbm_entry_state.specs.Calls.{counts_at, half_after, clean_after, Writ
 use Rattle.bbm_entry_state.specs.Steps.{Step, Wrote, Barrier, Flush, since, last_core, some, writes, answers_one, answered, still_waits}
 use Rattle.bbm_entry_state.specs.Patterns.{seen, half, cleansed, flushes, earned}
 use Rattle.bbm_entry_state.specs.Standing.{IsIdle, Marked, Between, Stands, KeepsPends, SetsPends}
-use Rattle.bbm_entry_state.proofs.Every.{every_same, every_wider, every_none}
+use Rattle.bbm_regimes.proofs.Every.{every_same, every_wider, every_none}
 use Rattle.bbm_entry_state.proofs.Searches.{counted_seen, answer_adds, unwritten_waits}
 
 -- no core is a core
@@ -50,7 +50,7 @@ write_stands n old new pends pends' steps pe (Some core) some w keeps s =
     let empty : (q : ℕ) (b : Bool) (c : Cover) (p : ℕ) → waits (pends' q) b c p ≡ false
     = λ q b c p. keeps q b c p ∙ ap (λ (x : Bool). x && waits (pends q) b c p) w.broken in
     record {
-      core = w.core ∙ ap (λ (b : Bool). if b then None else Some core) (sym (every_none n some));
+      core = w.core ∙ ap (λ (b : Bool). if b then None else Some core) (sym (every_none n (λ p. false) some (λ p. refl)));
       marks = λ h. record {
         broken = w.broken;
         writers = λ p. w.writers p ∙ ap (λ (x : Bool). x && (nat_eq p pe || writer_at old p)) w.broken;
@@ -252,7 +252,7 @@ complete_stands n old new pends mid pends' left steps q dsb d sets keeps s =
     record {
       core = core_bits (every_pe n (clean_after old (pends q) dsb)) (every_pe n (λ p. cleansed n p (Barrier q dsb ∷ S))) (every_pe n (λ p. cleansed n p S))
           (core_in new) (core_in old) (last_core steps) d.core s.core
-          (λ h. every_same n (clean_after old (pends q) dsb) (λ p. cleansed n p (Barrier q dsb ∷ S)) (clean_now n old pends steps q dsb (s.marks h)))
+          (λ h. every_same n (clean_after old (pends q) dsb) (λ p. cleansed n p (Barrier q dsb ∷ S)) (λ p below. clean_now n old pends steps q dsb (s.marks h) p))
           (every_wider n (λ p. cleansed n p S) (λ p. cleansed n p (Barrier q dsb ∷ S))
           (λ p h. or_later (answers_one (flushes (seen n p) Full p) (Barrier q dsb) S) (answered (flushes (seen n p) Full p) S)
           (answers_one (flushes (half n p) Second p) (Barrier q dsb) S) (answered (flushes (half n p) Second p) S) h));

@@ -90,8 +90,7 @@ impl Marks {
         requires within { n ≤ 128 }
         ensures { result ≡ every_pe n (λ p. pe_in self.now.clean p) }
     {
-        let left = PeMask::all(n).minus(self.clean);
-        left.is_empty()
+        self.clean.has_all(n)
     }
 
     /// What waits for the answer of a TLBI that reaches these PEs and covers the place so far.

@@ -1,6 +1,6 @@
 -- Tests of flags, covers and barriers.
-use Rattle.std.proofs.Common.{◌≡◌, ℕ, zero, suc, ◌<◌, ◌≤◌, Bool, true, false, ◌&&◌, ◌||◌, not, nat_eq, nat_lt, refl, sym, ◌∙◌, ap, arith, IsTrue, inl, inr}
-use Rattle.std.proofs.lemmas.Bool.{cases_lt, lt-ltb, le-ltb, false≢true, true≢false, cases_Bool}
+use Rattle.std.proofs.Common.{◌≡◌, ℕ, ◌≤◌, Bool, true, false, ◌&&◌, ◌||◌, not, nat_eq, nat_lt, refl, sym, ◌∙◌, ap, arith}
+use Rattle.std.proofs.lemmas.Bool.{false≢true, true≢false}
 use Rattle.std.proofs.lemmas.Bool.Decides.{nat_tests}
 use Rattle.bbm_barriers.specs.Options.{publishes}
 use Rattle.bbm_barriers.specs.declared.Dsb.{Dsb}
@@ -8,7 +8,6 @@ use Rattle.bbm_barriers.specs.declared.Domain.{Domain}
 use Rattle.bbm_barriers.specs.declared.Domain.TheVariants.{Full, Inner, Outer, Non}
 use Rattle.bbm_barriers.specs.declared.Types.{Types}
 use Rattle.bbm_barriers.specs.declared.Types.TheVariants.{All, Stores, Loads}
-use Rattle.bbm_regimes.specs.EveryPe.{every_pe}
 use Rattle.bbm_barriers.specs.Options.{is_non}
 use Rattle.bbm_oracle_patterns.specs.Relation.{same_flag}
 
@@ -96,51 +95,3 @@ nowhere dsb q n p cnp m e c m_is =
 
 pub eq-comm : (m n : ℕ) → nat_eq m n ≡ nat_eq n m
 eq-comm m n = grind (arith, nat_tests)
-
--- ---- every PE
-
-pub every_same : (n : ℕ) (f g : ℕ → Bool) → ((p : ℕ) → f p ≡ g p) → every_pe n f ≡ every_pe n g
-every_same zero f g e = refl
-every_same (suc n) f g e = rw (e n) (ap (λ (b : Bool). g n && b) (every_same n f g e))
-
-pub every_from : (n : ℕ) (f : ℕ → Bool) → ((p : ℕ) → p < n → f p ≡ true) → every_pe n f ≡ true
-every_from zero f h = refl
-every_from (suc n) f h = rw (h n (omega arith)) (every_from n f (λ p lt. h p (omega arith)))
-
-pub every_at : (n : ℕ) (f : ℕ → Bool) → every_pe n f ≡ true → (p : ℕ) → p < n → f p ≡ true
-every_at zero f e p lt = absurd (omega arith)
-every_at (suc n) f e p lt =
-    elim (cases_lt p n) [
-      | inl less ↦ every_at n f (and-right (f n) (every_pe n f) e) p less
-      | inr last ↦ let same : p ≡ n = omega arith in ap f same ∙ and-left (f n) (every_pe n f) e
-    ]
-  where
-    and-left : (a b : Bool) → (a && b) ≡ true → a ≡ true
-    and-left true b e = refl
-    and-left false b e = e
-
-    and-right : (a b : Bool) → (a && b) ≡ true → b ≡ true
-    and-right true b e = e
-    and-right false b e = absurd (false≢true e)
-
--- no PE below n is missing
-pub none_missing : (n : ℕ) (f missing : ℕ → Bool) (r : Bool) → ((p : ℕ) → missing p ≡ (nat_lt p n && not (f p))) →
-    (IsTrue r → (p : ℕ) → missing p ≡ false) → (((p : ℕ) → missing p ≡ false) → IsTrue r) → r ≡ every_pe n f
-none_missing n f missing true is none all =
-    sym (every_from n f (λ p lt. there (f p) (ap (λ (b : Bool). b && not (f p)) (sym (lt-ltb p n lt)) ∙ sym (is p) ∙ none refl p)))
-  where
-    there : (b : Bool) → (true && not b) ≡ false → b ≡ true
-    there true e = refl
-    there false e = absurd (true≢false e)
-none_missing n f missing false is none all =
-    elim (cases_Bool (every_pe n f)) [
-      | inl e ↦ absurd (false≢true (all (λ p. is p ∙ here p (every_at n f e p))))
-      | inr e ↦ sym e
-    ]
-  where
-    here : (p : ℕ) → (p < n → f p ≡ true) → (nat_lt p n && not (f p)) ≡ false
-    here p h =
-        elim (cases_lt p n) [
-          | inl less ↦ rw (h less) (and-false (nat_lt p n))
-          | inr more ↦ rw (le-ltb p n more) refl
-        ]

@@ -13,7 +13,7 @@ use Rattle.bbm_rules.specs.declared.phase.Phase.TheVariants.{Clean, Live}
 use Rattle.bbm_oracle_patterns.specs.Phases.{furthest, phase_at}
 use Rattle.bbm_oracle_patterns.specs.Walk.{Traces}
 use Rattle.bbm_oracle_patterns.specs.declared.trace.Trace.{Trace}
-use Rattle.bbm_oracle_patterns.proofs.Bits.{every_same}
+use Rattle.bbm_regimes.proofs.Every.{every_same}
 
 pub phase_found : (heading : Heading) (kind : Kind) (level place value p : ℕ) (h since : List Noted) (old : ℕ) (t : Trace) (everywhere valid : Bool) →
     last_valid kind level place h ≡ Some (record { value = old; since = since }) → Traces t heading place since →
@@ -26,7 +26,7 @@ phase_found heading kind level place value p h since old t everywhere valid foun
     ∙ ap (λ (b : Bool). cond everywhere Clean (cond valid Live (furthest (cleansed heading Patterns place p since) (half heading place p since) b))) (is.seen_at p)
     ∙ ap (λ (b : Bool). cond everywhere Clean (cond b Live (broken_phase heading Patterns place p since))) valid_is
     ∙ ap (λ (b : Bool). cond b Clean (cond (is_valid kind level value) Live (broken_phase heading Patterns place p since)))
-    (all_is ∙ every_same heading.pes (λ q. pe_in t.cleansed q) (λ q. cleansed heading Patterns place q since) is.cleansed_at)
+    (all_is ∙ every_same heading.pes (λ q. pe_in t.cleansed q) (λ q. cleansed heading Patterns place q since) (λ p below. is.cleansed_at p))
     ∙ by (cleansed_everywhere heading Patterns place since)
     ∙ ap (λ (o : Option ValidWrite). unwrap_or (option_and_then (λ w. cond (cleansed_everywhere heading Patterns place w.since) None
     (Some (cond (is_valid kind level value) Live (broken_phase heading Patterns place p w.since)))) o) Clean) (sym found)

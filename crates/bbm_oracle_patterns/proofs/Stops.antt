@@ -15,7 +15,7 @@ use Rattle.bbm_oracle_patterns.specs.Kept.{note_of, notes_behind}
 use Rattle.bbm_oracle_patterns.specs.Walk.{IsWalk, Steps, Traces, full_test, second_test, some_writes}
 use Rattle.bbm_oracle_patterns.specs.declared.kept.Kept.{Kept}
 use Rattle.bbm_oracle_patterns.specs.declared.walk.Walk.{Walk}
-use Rattle.bbm_oracle_patterns.proofs.Bits.{every_at, every_from, every_same}
+use Rattle.bbm_regimes.proofs.Every.{every_at, every_from, every_same}
 use Rattle.bbm_oracle_patterns.proofs.Lasts.{notes_append, notes_more}
 use Rattle.bbm_oracle_patterns.proofs.Walks.{trace_unwritten}
 
@@ -45,7 +45,7 @@ module _ (heading : Heading) (place : ℕ) where
   pub walked : (w : Walk) (since : List Noted) (r : Bool) → IsWalk w heading place since → r ≡ every_pe heading.pes (λ p. pe_in w.trace.cleansed p) →
       r ≡ cleansed_everywhere heading Patterns place since
   walked w since r x is =
-      is ∙ every_same heading.pes (λ p. pe_in w.trace.cleansed p) (λ p. cleansed heading Patterns place p since) x.cleansed_at
+      is ∙ every_same heading.pes (λ p. pe_in w.trace.cleansed p) (λ p. cleansed heading Patterns place p since) (λ p below. x.cleansed_at p)
 
   pub walked_whole : (w : Walk) (before : ℕ) (ks : List Kept) (i : ℕ) (r : Bool) → length ks ≤ i → IsWalk w heading place (notes_behind before (reverse (take i ks))) →
       r ≡ every_pe heading.pes (λ p. pe_in w.trace.cleansed p) → r ≡ cleansed_everywhere heading Patterns place (notes_behind before (reverse ks))
@@ -74,4 +74,4 @@ module _ (heading : Heading) (place : ℕ) where
       r ≡ every_pe heading.pes (λ p. pe_in m p) → r ≡ cleansed_everywhere heading Patterns place (notes_behind before (reverse ks))
   never m before ks r none k is =
       let t : Traces (record { seen = m; half = m; cleansed = m }) heading place (notes_behind before (reverse ks)) = trace_unwritten heading place m none before ks k in
-      is ∙ every_same heading.pes (λ p. pe_in m p) (λ p. cleansed heading Patterns place p (notes_behind before (reverse ks))) t.cleansed_at
+      is ∙ every_same heading.pes (λ p. pe_in m p) (λ p. cleansed heading Patterns place p (notes_behind before (reverse ks))) (λ p below. t.cleansed_at p)

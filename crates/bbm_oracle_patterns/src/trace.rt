@@ -11,7 +11,7 @@ ghost use Rattle.bbm_oracle_patterns.specs.Kept.{notes_behind};
 ghost use Rattle.bbm_oracle_patterns.specs.Walk.{writes_place, some_writes, Traces};
 
 use crate::kept::Kept;
-use crate::walk::{Walk, every_pe_of};
+use crate::walk::Walk;
 use bbm_events::{Event, Header};
 use bbm_regimes::{PeMask, Place};
 
@@ -89,7 +89,7 @@ pub fn trace_of(header: &Header, later: &[Kept], place: Place) -> Trace
 pub(crate) fn has_every_pe(header: &Header, pes: PeMask) -> bool
     ensures { result ≡ every_pe header.now.pes (λ p. pe_in pes p) }
 {
-    every_pe_of(header).minus(pes).is_empty()
+    pes.has_all(header.pes)
 }
 
 // Whether the place is cleansed at every PE, where it is written in these events. No event behind that changes it.

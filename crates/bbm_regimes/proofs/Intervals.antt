@@ -1,5 +1,5 @@
 -- Two intervals meet where neither lies beyond the other, and one holds the other where it reaches as far on both sides.
-use Rattle.std.proofs.Common.{ℕ, ◌≤◌, max, arith}
+use Rattle.std.proofs.Common.{◌≤◌, max, arith}
 use Rattle.bbm_regimes.specs.Extent.{Extent, Meets, Holds}
 
 pub meets_from-ends : (e f : Extent) → e.lo ≤ e.hi → f.lo ≤ f.hi → e.lo ≤ f.hi → f.lo ≤ e.hi → Meets e f

@@ -4,11 +4,13 @@
 
 pub mod address;
 pub mod interval;
+pub mod laws;
 pub mod pe;
 pub mod regime;
 
 pub use address::{Page, Place};
 pub use interval::{Interval, span};
+pub use laws::law_every_pe;
 pub use pe::{Pe, PeMask};
 pub use regime::{AsidFrom, HypWorld, KernelWorld, Kind, NoMemory, Reg, Tag, Which, World};
 
@@ -51,7 +53,13 @@ mod tests {
             assert!(rt; !PeMask::all(127).has(last) && PeMask::all(1).has(first));
             assert!(rt; others.and(PeMask::one(last)).is_empty() && PeMask::none().is_empty());
             assert!(rt; PeMask::none().or(PeMask::one(last)).has(last));
+            assert!(rt; every.has_all(128) && !others.has_all(128) && others.has_all(127));
         }
+    }
+
+    #[test]
+    fn laws_hold() {
+        law_every_pe();
     }
 
     // Two intervals, and whether they meet and the first holds the second.

@@ -52,6 +52,7 @@ pub struct PeMask {
 
 #[tactic(auto, using(crate::proofs::Masks::masks), unfolding(crate::specs::PeMask::pe_in))]
 impl PeMask {
+    ghost use Rattle.bbm_regimes.specs.EveryPe.{every_pe};
     ghost use Rattle.bbm_regimes.specs.PeMask.{pe_in};
 
     /// The set of no PE.
@@ -120,5 +121,14 @@ impl PeMask {
         ensures { IsTrue result ↔ ((p : ℕ) → pe_in self p ≡ false) }
     {
         self.bits == 0
+    }
+
+    /// Whether each of the first n PEs is in the set.
+    pub fn has_all(self, n: u8) -> bool
+        requires some { 1 ≤ n }
+        requires within { n ≤ 128 }
+        ensures { result ≡ every_pe n (λ p. pe_in self p) }
+    {
+        PeMask::all(n).minus(self).is_empty()
     }
 }

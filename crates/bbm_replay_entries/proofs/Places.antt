@@ -1,13 +1,14 @@
 -- What one more event does to a state that stands for a history.
-use Rattle.std.proofs.Common.{◌≡◌, ℕ, ◌<◌, zero, suc, Bool, true, false, cond, not, ◌&&◌, ◌||◌, ◌==◌, nat_eq, List, [], ◌∷◌, ◌++◌, Option, Some, None, is_some, is_none, option_and_then, refl, sym, ◌∙◌, ap, subst, true≢false, arith}
+use Rattle.std.proofs.Common.{◌≡◌, ℕ, ◌<◌, Bool, true, false, cond, not, ◌&&◌, ◌||◌, ◌==◌, nat_eq, List, [], ◌∷◌, ◌++◌, Option, Some, None, is_some, is_none, option_and_then, refl, sym, ◌∙◌, ap, subst, true≢false}
 use Rattle.std.proofs.Math.Bool.{and-false, and-true}
-use Rattle.std.proofs.lemmas.Bool.{and_from, and_parts, eq-eqb, eqb-true, false_from_ne_true}
+use Rattle.std.proofs.lemmas.Bool.{and_parts, eq-eqb, eqb-true, false_from_ne_true}
 use Rattle.std.proofs.lemmas.Option.{option_and_then_some}
 use Rattle.bbm_barriers.specs.Options.{answers}
 use Rattle.bbm_barriers.specs.declared.Dsb.{Dsb as Barrier}
 use Rattle.bbm_descriptor.specs.Descriptor.{core_of, is_valid}
 use Rattle.bbm_descriptor.specs.declared.desc.Core.{Core}
 use Rattle.bbm_regimes.specs.EveryPe.{every_pe}
+use Rattle.bbm_regimes.proofs.Every.{every_none, every_same, every_wider}
 use Rattle.bbm_regimes.specs.declared.regime.Kind.{Kind}
 use Rattle.bbm_tlbi_scope.specs.declared.entry.Cover.{Cover}
 use Rattle.bbm_entry_state.specs.Calls.{Completed, Written, clean_after, core_after}
@@ -32,24 +33,6 @@ use Rattle.bbm_replay_entries.specs.Marked.{Marked}
 use Rattle.bbm_replay_entries.specs.Stands.{ByValue, EntryStands, core_now, held_now}
 use Rattle.bbm_replay_entries.proofs.Marks.{Middle, both_written, clean_now, is_still, marked_blank, marked_dsb, marked_still, middle}
 use Rattle.bbm_replay_entries.proofs.Since.{cleansed_on, unwritten}
-
--- ---- tests of every PE
-
-every_alike : (n : ℕ) (f g : ℕ → Bool) → ((p : ℕ) → p < n → f p ≡ g p) → every_pe n f ≡ every_pe n g
-every_alike zero f g same = refl
-every_alike (suc n) f g same =
-    ap (λ (b : Bool). b && every_pe n f) (same n (omega arith))
-    ∙ ap (λ (b : Bool). g n && b) (every_alike n f g (λ p below. same p (omega arith)))
-
-every_wider : (n : ℕ) (f g : ℕ → Bool) → ((p : ℕ) → f p ≡ true → g p ≡ true) → every_pe n f ≡ true → every_pe n g ≡ true
-every_wider zero f g wider h = refl
-every_wider (suc n) f g wider h =
-    and_from (g n) (every_pe n g) (wider n (and_parts (f n) (every_pe n f) h).0)
-    (every_wider n f g wider (and_parts (f n) (every_pe n f) h).1)
-
-every_none : (n : ℕ) (f : ℕ → Bool) → 0 < n → ((p : ℕ) → f p ≡ false) → every_pe n f ≡ false
-every_none zero f some none = absurd (omega arith)
-every_none (suc n) f some none = ap (λ (b : Bool). b && every_pe n f) (none n)
 
 -- ---- options
 
@@ -450,7 +433,7 @@ module _ (heading : Heading) (k : Known heading) (kind : Kind) (level place : �
           = broken_held h old pends s t in
           let w : ValidWrite = has.0 in
           let all : every_pe heading.pes (clean_after mid (pends q) dsb) ≡ cleansed_everywhere heading Patterns place (n ∷ w.since)
-          = every_alike heading.pes (clean_after mid (pends q) dsb) (λ p. cleansed heading Patterns place p (n ∷ w.since))
+          = every_same heading.pes (clean_after mid (pends q) dsb) (λ p. cleansed heading Patterns place p (n ∷ w.since))
           (clean_now heading k place n w.since q dsb refl old mid pends mids (s.marks t w has.1)) in
           let holds : held_now heading (e ∷ h) kind level place ≡ cond (cleansed_everywhere heading Patterns place (n ∷ w.since)) None (Some w.value)
           = k.held_step kind level place n (noted heading Patterns h) pes

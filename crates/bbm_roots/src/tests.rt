@@ -5,7 +5,7 @@ ghost use Rattle.std.specs.Prelude.{◌≡◌, ◌<◌};
 ghost use Rattle.bbm_roots.specs.Stands.{pes_of, world_of};
 
 use crate::load::is_of_world;
-use crate::{InUse, RootFault, Roots, Unsynced};
+use crate::{InUse, RootFault, Roots, Unsynced, first_root};
 use bbm_barriers::{Domain, Dsb, Types};
 use bbm_events::Header;
 use bbm_regimes::{AsidFrom, HypWorld, KernelWorld, Kind, Page, Pe, Reg, Tag, Which, World};
@@ -219,5 +219,14 @@ fn a_vmid_and_its_tag(rt: HostRuntime) -> Result<(), Fail> {
     assert_eq!(rt; roots.vmid_of(pe), Ok(5));
     roots.write_reg(rt.alloc(), pe, Reg::VttbrEl2, 0x6_0000_4000_0000, false)?;
     assert_eq!(rt; roots.tags_of(page), TagSet::Many);
+    Ok(())
+}
+
+#[test]
+fn the_first_root_holds_its_tag(rt: HostRuntime) -> Result<(), Fail> {
+    let page = Page::new(ONE).ok_or("page")?;
+    let roots = first_root(rt.alloc(), &HYP, page)?;
+    assert!(rt; roots.is_root(Kind::El2, page));
+    assert_eq!(rt; roots.tags_of(page), TagSet::One(Tag::El2));
     Ok(())
 }
