@@ -5,7 +5,7 @@ ghost use Rattle.bbm_regimes.specs.PeMask.{pe_in};
 ghost use Rattle.bbm_regimes.specs.declared.regime.Tag.{Tag as TheTag};
 ghost use Rattle.bbm_tlbi_scope.specs.Tags.{takes_whole_tag};
 ghost use Rattle.bbm_roots.specs.Columns.{loads_in};
-ghost use Rattle.bbm_roots.specs.Holds.{hold_in};
+ghost use Rattle.bbm_roots.specs.Holds.{has_hold};
 ghost use Rattle.bbm_roots.specs.Pendings as spec;
 ghost use Rattle.bbm_roots.specs.Readings.{same_tag as spec_same_tag, reads_tag as spec_reads_tag};
 
@@ -71,7 +71,7 @@ pub fn make_room(
 ) -> Result<(), NoMemory>
     ensures same { (q : ℕ) (b : Bool) (g : TheTag) (p : ℕ) → spec.pending_in pendings.new.items q b g p
         ≡ spec.pending_in pendings.old.items q b g p }
-    ensures made { OnOk result ((g : TheTag) (r p : ℕ) → hold_in holds.now g r p ≡ true
+    ensures made { OnOk result ((g : TheTag) (r : ℕ) → has_hold g r holds.now ≡ true
         → takes_whole_tag scope.now vmid g ≡ true
         → spec.has_pending issuer scope.now.broadcast g pendings.new.items ≡ true) }
 {

@@ -1,27 +1,22 @@
 use Rattle.std.proofs.Common.{◌≡◌, ℕ, take, arith, ap, sym, ◌∙◌, ◌||◌, ◌&&◌, nat_eq, Bool, true, refl, ◌+◌, Vec, Global}
 use Rattle.std.proofs.lemmas.Bool.{false≢true, eq-eqb}
-use Rattle.bbm_regimes.specs.PeMask.{pe_in}
 use Rattle.bbm_regimes.specs.declared.regime.Tag.{Tag}
 use Rattle.bbm_tlbi_scope.specs.Tags.{takes_whole_tag}
 use Rattle.bbm_roots.specs.Pendings.{has_pending, pending_in, same_flag}
 use Rattle.bbm_roots.specs.Readings.{same_tag}
 use Rattle.bbm_roots.specs.declared.pending.Pending.{Pending}
-use Rattle.bbm_roots.specs.Holds.{holds_bit, is_hold, has_hold}
-use Rattle.bbm_roots.specs.declared.hold.Held.{Held}
+use Rattle.bbm_roots.specs.Holds.{is_hold, has_hold}
 use Rattle.std.proofs.lemmas.List.{take_all}
-use Rattle.bbm_roots.proofs.Lists.{any-weaker, any-next}
-use Rattle.bbm_roots.proofs.Bits.{and_left, hold-tag, same_tag-self, same_flag-self}
+use Rattle.bbm_roots.proofs.Lists.{any-next}
+use Rattle.bbm_roots.proofs.Bits.{hold-tag, same_tag-self, same_flag-self}
 use Rattle.bbm_roots.proofs.Leasts.{or-split, or-true, true-or}
 use Rattle.bbm_roots.proofs.issue.make_room.Goals.{then-takes+in_ok-make_entry, else-takes}
 use Rattle.bbm_roots.proofs.issue.make_room.Goals as goal
 
 pub returns-clause-made : goal.returns-clause-made
-returns-clause-made c = λ g r p held takes.
+returns-clause-made c = λ g r held takes.
     let whole : take c.loop-held.held-index c.args.holds.now ≡ c.args.holds.now = take_all c.loop-held.held-index c.args.holds.now (omega arith) in
-    c.loop-held.invariant.made g r
-    (ap (has_hold g r) whole
-    ∙ any-weaker (holds_bit g r p) (is_hold g r) (λ (x : Held) e. and_left (is_hold g r x) (pe_in x.pes p) e) c.args.holds.now held)
-    takes
+    c.loop-held.invariant.made g r (ap (has_hold g r) whole ∙ held) takes
 
 pub loop-held-preserved : goal.loop-held-preserved
 loop-held-preserved c =
