@@ -293,13 +293,7 @@ impl Roots {
         if !issue::takes_tags(scope) {
             return Ok(());
         }
-        match issue::make_room(
-            &mut self.pendings,
-            hold::entries(&self.holds),
-            issuer,
-            scope,
-            vmid,
-        ) {
+        match issue::make_room(&mut self.pendings, &self.holds, issuer, scope, vmid) {
             Ok(()) => Ok(()),
             Err(_) => Err(RootFault::NoMemory),
         }
