@@ -1,18 +1,20 @@
 -- What the entries say of the roots that hold tags is what the calls say.
-use Rattle.std.proofs.Common.{◌≡◌, ℕ, zero, suc, ◌<◌, Bool, true, false, ◌&&◌, ◌||◌, nat_eq, List, [], ◌∷◌, refl, sym, ◌∙◌, ap}
+use Rattle.std.proofs.Common.{◌≡◌, ℕ, zero, suc, ◌<◌, ◌≤◌, ⊎_elim, Option, Some, None, Bool, true, false, ◌&&◌, ◌||◌, nat_eq, List, [], ◌∷◌, refl, sym, ◌∙◌, ap}
+use Rattle.std.specs.List.{list_any}
+use Rattle.indexmap.specs.IndexMap.{IndexMap, get}
 use Rattle.std.proofs.Math.Path.{fun_ext}
-use Rattle.std.proofs.lemmas.Bool.{false≢true, eq-eqb, true_from_ne_false}
+use Rattle.std.proofs.lemmas.Bool.{cases_lt, false≢true, eq-eqb, true_from_ne_false}
 use Rattle.bbm_regimes.specs.PeMask.{pe_in}
 use Rattle.bbm_regimes.specs.declared.regime.Tag.{Tag}
 use Rattle.bbm_regimes.specs.declared.regime.World.{World}
 use Rattle.bbm_roots.specs.Calls.{Call}
-use Rattle.bbm_roots.specs.Holds.{some_pe, is_hold, has_hold, hold_in, tag_in, is_conflict, conflict_in}
-use Rattle.bbm_roots.specs.Readings.{has_reading, has_other}
+use Rattle.bbm_roots.specs.Holds.{some_pe, is_hold, hold_in, tag_in, entry_bit, entry_held, tag_key, conflict_in, is_clash, IsCalm}
+use Rattle.bbm_roots.specs.Readings.{has_reading, has_other, is_reading, is_other}
 use Rattle.bbm_roots.specs.Refusals.{conflicts}
 use Rattle.bbm_roots.specs.Tags.{readings, loses, holds_at, holds_tag}
 use Rattle.bbm_roots.specs.declared.hold.Held.{Held}
 use Rattle.bbm_roots.specs.declared.reading.Reading.{Reading}
-use Rattle.bbm_roots.proofs.Bits.{none_below, none_at, and-false}
+use Rattle.bbm_roots.proofs.Bits.{or-left, or-right, none_below, none_at, and-false}
 use Rattle.bbm_roots.proofs.Steps.{holds-written}
 
 some_pe-or : (n : ℕ) (f g : ℕ → Bool) → some_pe n (λ p. f p || g p) ≡ (some_pe n f || some_pe n g)
@@ -40,72 +42,100 @@ some_pe-one n pe false lt = none_below n (λ p. nat_eq p pe && false) (λ p k. a
 some_pe-same : (n : ℕ) (f g : ℕ → Bool) → ((p : ℕ) → f p ≡ g p) → some_pe n f ≡ some_pe n g
 some_pe-same n f g same = ap (some_pe n) (fun_ext same)
 
--- at one PE some entry, or in some entry one PE
-pub tag_in-is : (hs : List Held) (n : ℕ) (g : Tag) (r : ℕ) → tag_in hs n g r ≡ some_pe n (hold_in hs g r)
-tag_in-is [] n g r = sym (none_below n (λ p. false) (λ p lt. refl))
-tag_in-is (h ∷ hs) n g r =
-    ap (λ (b : Bool). b || tag_in hs n g r) (sym (some_pe-and n (is_hold g r h) (pe_in h.pes)))
-    ∙ ap (λ (b : Bool). some_pe n (λ p. is_hold g r h && pe_in h.pes p) || b) (tag_in-is hs n g r)
-    ∙ sym (some_pe-or n (λ p. is_hold g r h && pe_in h.pes p) (hold_in hs g r))
+-- at one PE of the entry
+entry-is : (n : ℕ) (g : Tag) (r : ℕ) (o : Option Held) → entry_held n g r o ≡ some_pe n (λ p. entry_bit g r p o)
+entry-is n g r None = sym (none_below n (λ p. false) (λ p lt. refl))
+entry-is n g r (Some held) = sym (some_pe-and n (is_hold g r held) (pe_in held.pes))
 
--- what the entries say is what the calls say
-pub tag-held : (world : World) (n : ℕ) (cs : List Call) (hs : List Held) →
-    ((g : Tag) (r p : ℕ) → hold_in hs g r p ≡ holds_at world cs g r p) → (g : Tag) (r : ℕ) →
-    tag_in hs n g r ≡ holds_tag world n cs g r
-tag-held world n cs hs same g r =
-    tag_in-is hs n g r ∙ some_pe-same n (hold_in hs g r) (holds_at world cs g r) (same g r)
+module _ {S : Type 0} (hs : IndexMap ℕ Held S) where
+  pub tag_in-is : (n : ℕ) (g : Tag) (r : ℕ) → tag_in hs n g r ≡ some_pe n (hold_in hs g r)
+  tag_in-is n g r = entry-is n g r (get nat_eq hs (tag_key g))
 
-conflict-split : (hs : List Held) (n : ℕ) (seen : List Reading) (x : Reading) →
-    conflict_in hs n seen x
-    ≡ (has_other x.tag x.root seen && ((has_hold x.tag x.root hs && has_reading x.tag x.root seen) || tag_in hs n x.tag x.root))
-conflict-split [] n seen x = sym (and-false (has_other x.tag x.root seen))
-conflict-split (h ∷ hs) n seen x =
-    ap (λ (b : Bool). is_conflict n seen x.tag x.root h || b) (conflict-split hs n seen x)
-    ∙ by_case (is_hold x.tag x.root h) (has_other x.tag x.root seen) (has_reading x.tag x.root seen) (some_pe n (pe_in h.pes))
-    (has_hold x.tag x.root hs) (tag_in hs n x.tag x.root)
-  where
-    by_case : (k o s m h t : Bool) →
-        ((k && (o && (s || m))) || (o && ((h && s) || t))) ≡ (o && (((k || h) && s) || ((k && m) || t)))
-    by_case true false s m h t = refl
-    by_case false false s m h t = refl
-    by_case true true true m h t = refl
-    by_case true true false true h t = refl
-    by_case true true false false true t = refl
-    by_case true true false false false t = refl
-    by_case false true s m h t = refl
+  -- what the entries say is what the calls say
+  pub tag-held : (world : World) (n : ℕ) (cs : List Call) →
+      ((g : Tag) (r p : ℕ) → hold_in hs g r p ≡ holds_at world cs g r p) → (g : Tag) (r : ℕ) →
+      tag_in hs n g r ≡ holds_tag world n cs g r
+  tag-held world n cs same g r =
+      tag_in-is n g r ∙ some_pe-same n (hold_in hs g r) (holds_at world cs g r) (same g r)
 
--- A register write of one PE, at which the tags and roots seen are then readable; each has an entry.
-module _ (world : World) (c : Call) (cs : List Call) (pe : ℕ) (seen : List Reading)
+  -- what the tags that are about to be readable show is what is in conflict
+  pub clash-split : (n : ℕ) (seen : List Reading) (x : Reading) →
+      list_any (is_clash hs n seen x) seen ≡ conflict_in hs n seen x
+  clash-split n seen x =
+      split (has_other x.tag x.root seen) (tag_in hs n x.tag x.root) seen
+      ∙ turn (has_reading x.tag x.root seen) (has_other x.tag x.root seen) (tag_in hs n x.tag x.root)
+    where
+      right : (b d t : Bool) → ((b && t) || (d && t)) ≡ ((b || d) && t)
+      right true d true = refl
+      right true true false = refl
+      right true false false = refl
+      right false d t = refl
+
+      swap : (a b c d o t : Bool) → (((a && o) || (b && t)) || ((c && o) || (d && t))) ≡ (((a || c) && o) || ((b || d) && t))
+      swap true b c d true t = refl
+      swap false true true d true true = refl
+      swap false true true d true false = refl
+      swap false false true d true t = refl
+      swap false true false d true true = refl
+      swap false true false true true false = refl
+      swap false true false false true false = refl
+      swap false false false d true t = refl
+      swap true b true d false t = right b d t
+      swap true b false d false t = right b d t
+      swap false b true d false t = right b d t
+      swap false b false d false t = right b d t
+
+      split : (o t : Bool) (xs : List Reading) →
+          list_any (λ y. (is_reading x.tag x.root y && o) || (is_other x.tag x.root y && t)) xs
+          ≡ ((has_reading x.tag x.root xs && o) || (has_other x.tag x.root xs && t))
+      split o t [] = refl
+      split o t (y ∷ ys) =
+          ap (λ (b : Bool). ((is_reading x.tag x.root y && o) || (is_other x.tag x.root y && t)) || b) (split o t ys)
+          ∙ swap (is_reading x.tag x.root y) (is_other x.tag x.root y) (has_reading x.tag x.root ys) (has_other x.tag x.root ys) o t
+
+      turn : (a o t : Bool) → ((a && o) || (o && t)) ≡ (o && (a || t))
+      turn true true t = refl
+      turn true false t = refl
+      turn false true t = refl
+      turn false false t = refl
+
+-- A register write of one PE, at which the tags and roots seen are then readable.
+module _ {S : Type 0} (world : World) (c : Call) (cs : List Call) (pe : ℕ) (seen : List Reading)
     (here : (p : ℕ) → nat_eq p pe ≡ true → readings world (c ∷ cs) p ≡ seen)
     (there : (p : ℕ) → nat_eq p pe ≡ false → readings world (c ∷ cs) p ≡ readings world cs p)
     (no_loss : (g : Tag) (p : ℕ) → loses world c cs g p ≡ false)
-    (pes : ℕ) (known : pe < pes) (hs : List Held)
-    (same : (g : Tag) (r p : ℕ) → hold_in hs g r p ≡ holds_at world cs g r p)
-    (entries : (g : Tag) (r : ℕ) → has_reading g r seen ≡ true → has_hold g r hs ≡ true) where
-  tag-written : (g : Tag) (r : ℕ) → holds_tag world pes (c ∷ cs) g r ≡ (tag_in hs pes g r || has_reading g r seen)
+    (pes : ℕ) (known : pe < pes) (hs : IndexMap ℕ Held S)
+    (same : (g : Tag) (r p : ℕ) → hold_in hs g r p ≡ holds_at world cs g r p) where
+  pub tag-written : (g : Tag) (r : ℕ) → holds_tag world pes (c ∷ cs) g r ≡ (tag_in hs pes g r || has_reading g r seen)
   tag-written g r =
       some_pe-same pes (holds_at world (c ∷ cs) g r) (λ p. holds_at world cs g r p || (nat_eq p pe && has_reading g r seen))
       (λ p. sym (holds-written world c cs pe seen here there no_loss g r p))
       ∙ some_pe-or pes (holds_at world cs g r) (λ p. nat_eq p pe && has_reading g r seen)
       ∙ ap (λ (b : Bool). some_pe pes (holds_at world cs g r) || b) (some_pe-one pes pe (has_reading g r seen) known)
-      ∙ ap (λ (b : Bool). b || has_reading g r seen) (sym (tag-held world pes cs hs same g r))
+      ∙ ap (λ (b : Bool). b || has_reading g r seen) (sym (tag-held hs world pes cs same g r))
 
   pub conflict-is : (x : Reading) → conflict_in hs pes seen x ≡ conflicts world pes (c ∷ cs) pe x
   conflict-is x =
-      conflict-split hs pes seen x
-      ∙ ap (λ (b : Bool). has_other x.tag x.root seen && (b || tag_in hs pes x.tag x.root))
-      (entered (has_hold x.tag x.root hs) (has_reading x.tag x.root seen) (entries x.tag x.root))
-      ∙ ap (λ (b : Bool). has_other x.tag x.root seen && b) (turned (has_reading x.tag x.root seen) (tag_in hs pes x.tag x.root))
+      ap (λ (b : Bool). has_other x.tag x.root seen && b) (turned (has_reading x.tag x.root seen) (tag_in hs pes x.tag x.root))
       ∙ ap (λ (b : Bool). has_other x.tag x.root seen && b) (sym (tag-written x.tag x.root))
       ∙ ap (λ (xs : List Reading). has_other x.tag x.root xs && holds_tag world pes (c ∷ cs) x.tag x.root) (sym (here pe (eq-eqb pe pe refl)))
     where
-      entered : (k s : Bool) → (s ≡ true → k ≡ true) → (k && s) ≡ s
-      entered true s f = refl
-      entered false true f = absurd (false≢true (f refl))
-      entered false false f = refl
-
       turned : (a b : Bool) → (a || b) ≡ (b || a)
       turned true true = refl
       turned true false = refl
       turned false true = refl
       turned false false = refl
+
+-- where nothing is in conflict at the first n PEs, and no other PE holds a tag, no tag is to be taken from another root
+pub calm-from : {S : Type 0} (hs : IndexMap ℕ Held S) (n : ℕ) (seen : List Reading) →
+    ((g : Tag) (r p : ℕ) → n ≤ p → hold_in hs g r p ≡ false) →
+    ((x : Reading) → conflict_in hs n seen x ≡ false) → IsCalm hs seen
+calm-from hs n seen past none g r other =
+    let x : Reading = record { tag = g; root = r } in
+    let both : (has_reading g r seen || tag_in hs n g r) ≡ false =
+    sym (ap (λ (b : Bool). b && (has_reading g r seen || tag_in hs n g r)) other) ∙ none x in
+    let no_tag : some_pe n (hold_in hs g r) ≡ false =
+    sym (tag_in-is hs n g r) ∙ or-right (has_reading g r seen) (tag_in hs n g r) both in (
+      or-left (has_reading g r seen) (tag_in hs n g r) both,
+      λ p. ⊎_elim (λ (lt : p < n). none_at n (hold_in hs g r) p no_tag lt) (λ (le : n ≤ p). past g r p le) (cases_lt p n),
+    )

@@ -1,13 +1,14 @@
 -- The judgement of a register write by the entries is that by the calls.
 use Rattle.std.proofs.Common.{◌≡◌, ℕ, ◌<◌, Bool, true, List, ◌∷◌, Option, None, Result, length, refl, sym, ◌∙◌, ap, cond, subst}
 use Rattle.std.proofs.Math.Path.{fun_ext}
+use Rattle.indexmap.specs.IndexMap.{IndexMap}
 use Rattle.bbm_regimes.specs.declared.regime.Reg.{Reg}
 use Rattle.bbm_regimes.specs.declared.regime.Tag.{Tag}
 use Rattle.bbm_regimes.specs.declared.regime.World.{World}
 use Rattle.bbm_regimes.specs.declared.regime.World.TheVariants.{Hyp, Kernel}
 use Rattle.bbm_roots.specs.Calls.{Call, WriteReg}
-use Rattle.bbm_roots.specs.Holds.{hold_in, has_hold, conflict_in}
-use Rattle.bbm_roots.specs.Readings.{readings_of, has_reading}
+use Rattle.bbm_roots.specs.Holds.{hold_in, conflict_in}
+use Rattle.bbm_roots.specs.Readings.{readings_of}
 use Rattle.bbm_roots.specs.Refusals.{missing_root, conflicts, JudgesWrite}
 use Rattle.bbm_roots.specs.Registers.{register_values, first_reg, second_reg, is_first, is_of_world, load_of}
 use Rattle.bbm_roots.specs.Tags.{holds_at}
@@ -35,17 +36,16 @@ values-there world cs pe reg =
     at_second (Kernel w) = refl
 
 pub write-judged : (world : World) (pes pe : ℕ) (reg : Reg) (value : ℕ) (null : Bool) (cs : List Call) (load : Load)
-    (first second : List Load) (seen : List Reading) (hs : List Held) → pe < pes → is_of_world world reg ≡ true →
+    {S : Type 0} (first second : List Load) (seen : List Reading) (hs : IndexMap ℕ Held S) → pe < pes → is_of_world world reg ≡ true →
     load ≡ load_of reg value null →
     first ≡ register_values cs pe (first_reg world) → second ≡ register_values cs pe (second_reg world) →
     seen ≡ readings_of world (cond (is_first reg) (load ∷ first) first) (cond (is_first reg) second (load ∷ second)) →
     ((g : Tag) (r p : ℕ) → hold_in hs g r p ≡ holds_at world cs g r p) →
-    ((g : Tag) (r : ℕ) → has_reading g r seen ≡ true → has_hold g r hs ≡ true) →
     missing_root cs reg value null ≡ None → {A : Type 0} → (result : Result A RootFault) →
     JudgesWrite None (conflict_in hs pes seen) (length (cond (is_first reg) first second)) result →
     JudgesWrite (missing_root cs reg value null) (conflicts world pes (WriteReg pe reg value null ∷ cs) pe)
     (length (register_values cs pe reg)) result
-write-judged world pes pe reg value null cs load first second seen hs known of_world is_load is_left is_right is_seen same entries there result h =
+write-judged world pes pe reg value null cs load first second seen hs known of_world is_load is_left is_right is_seen same there result h =
     subst (λ (m : Option ℕ). JudgesWrite m (conflicts world pes (call ∷ cs) pe) (length (register_values cs pe reg)) result) (sym there)
     (subst (λ (f : Reading → Bool). JudgesWrite None f (length (register_values cs pe reg)) result) found
     (subst (λ (n : ℕ). JudgesWrite None (conflict_in hs pes seen) n result) count h))
@@ -57,7 +57,7 @@ write-judged world pes pe reg value null cs load first second seen hs known of_w
     found =
         fun_ext (conflict-is world call cs pe seen
         (λ p at. right-here world pe reg value null cs p load first second of_world is_load is_left is_right at ∙ sym is_seen)
-        (elsewhere world pe reg value null cs) (λ g p. refl) pes known hs same entries)
+        (elsewhere world pe reg value null cs) (λ g p. refl) pes known hs same)
 
     count : length (cond (is_first reg) first second) ≡ length (register_values cs pe reg)
     count =

@@ -9,6 +9,7 @@ pub mod Made
 pub mod RootLists
 pub mod Leasts
 pub mod Conflicts
+pub mod Entries
 pub mod Rooted
 pub mod Judged
 pub mod Numbers

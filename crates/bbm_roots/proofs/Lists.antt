@@ -1,7 +1,6 @@
 -- Lists changed in place, one element after another, and what a test finds in them.
-use Rattle.std.proofs.Common.{◌≡◌, ℕ, ◌<◌, ◌≤◌, ◌+◌, Bool, true, false, ◌&&◌, ◌||◌, List, [], ◌∷◌, length, take, set, get_or, refl, sym, ◌∙◌, ap, arith}
-use Rattle.std.specs.List.{list_any, items_where_true}
-use Rattle.std.specs.List.Retain.{IsFiltered, ReturnsInTurn}
+use Rattle.std.proofs.Common.{◌≡◌, ℕ, zero, suc, ◌<◌, ◌≤◌, ◌+◌, Bool, true, false, ◌&&◌, ◌||◌, List, [], ◌∷◌, length, take, set, get_or, refl, sym, ◌∙◌, ap, arith}
+use Rattle.std.specs.List.{list_any}
 use Rattle.std.proofs.lemmas.Bool.{false≢true}
 use Rattle.std.proofs.lemmas.List.{take_more_set, get_or-set_other}
 use Rattle.std.proofs.lemmas.List.Folds.{list_any_more, list_any-append}
@@ -71,21 +70,6 @@ pub back-more : {X : Type 0} (now old : List X) (i : ℕ) (y : X) →
 back-more now old i y back k d le =
     get_or-set_other now i k y d (omega arith) ∙ back k d (omega arith)
 
--- what a filter drops has no bit
-module _ {X F : Type 0} (R : F → X → Bool → F → Type 0) (bit : X → Bool)
-    (drops : (f : F) (x : X) (b : Bool) (g : F) → R f x b g → b ≡ false → bit x ≡ false) where
-  in_turn : (bs : List Bool) (xs : List X) (f q : F) → length bs ≡ length xs → ReturnsInTurn R f bs xs q →
-      list_any bit (items_where_true bs xs) ≡ list_any bit xs
-  in_turn [] [] f q len h = refl
-  in_turn [] (x ∷ xs) f q len h = absurd (omega (arith, len))
-  in_turn (b ∷ bs) [] f q len h = absurd (omega (arith, len))
-  in_turn (true ∷ bs) (x ∷ xs) f q len h = ap (λ (t : Bool). bit x || t) (in_turn bs xs h.0 q (omega (arith, len)) h.2)
-  in_turn (false ∷ bs) (x ∷ xs) f q len h =
-      in_turn bs xs h.0 q (omega (arith, len)) h.2 ∙ ap (λ (t : Bool). t || list_any bit xs) (sym (drops f x false h.0 h.1 refl))
-
-  pub kept-any : (f : F) (xs ys : List X) → IsFiltered R f xs ys → list_any bit ys ≡ list_any bit xs
-  kept-any f xs ys h = ap (list_any bit) h.4 ∙ in_turn h.0 xs f h.1 h.2 h.3
-
 -- a weaker test finds what a stronger one finds
 pub any-weaker : {X : Type 0} (strong weak : X → Bool) → ((x : X) → strong x ≡ true → weak x ≡ true) →
     (xs : List X) → list_any strong xs ≡ true → list_any weak xs ≡ true
@@ -112,3 +96,21 @@ any-none strong weak h xs none = by_found (list_any strong xs) refl
     by_found : (b : Bool) → list_any strong xs ≡ b → list_any strong xs ≡ false
     by_found false e = e
     by_found true e = absurd (false≢true (sym none ∙ any-weaker strong weak h xs e))
+
+-- what a test finds in the front of a list it finds in the list
+pub any-front : {X : Type 0} (test : X → Bool) (i : ℕ) (xs : List X) → list_any test (take i xs) ≡ true → list_any test xs ≡ true
+any-front test zero xs e = absurd (false≢true e)
+any-front test (suc i) [] e = e
+any-front test (suc i) (x ∷ xs) e = by_first (test x) (any-front test i xs) e
+  where
+    by_first : (b : Bool) → (list_any test (take i xs) ≡ true → list_any test xs ≡ true) →
+        (b || list_any test (take i xs)) ≡ true → (b || list_any test xs) ≡ true
+    by_first true f e = refl
+    by_first false f e = f e
+
+pub none-front : {X : Type 0} (test : X → Bool) (i : ℕ) (xs : List X) → list_any test xs ≡ false → list_any test (take i xs) ≡ false
+none-front test i xs none = by_found (list_any test (take i xs)) refl
+  where
+    by_found : (b : Bool) → list_any test (take i xs) ≡ b → b ≡ false
+    by_found false e = refl
+    by_found true e = absurd (false≢true (sym none ∙ any-front test i xs e))

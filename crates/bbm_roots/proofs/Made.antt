@@ -20,7 +20,7 @@ pub record Made (world : World) (pes : ℕ) (roots : Roots) (cs : List Call) : T
   pub outside : (p : ℕ) (reg : Reg) → pes ≤ p → register_values cs p reg ≡ at_start ∷ []
   pub declared : (page : ℕ) → get nat_eq roots.declared page ≡ root_at cs page
   pub count : index_map_len roots.declared ≡ length (roots_of cs)
-  pub holds : (tag : Tag) (root p : ℕ) → hold_in roots.holds.items tag root p ≡ holds_at world cs tag root p
+  pub holds : (tag : Tag) (root p : ℕ) → hold_in roots.holds tag root p ≡ holds_at world cs tag root p
   pub inside : (tag : Tag) (root p : ℕ) → pes ≤ p → holds_at world cs tag root p ≡ false
   pub pendings : (q : ℕ) (broadcast : Bool) (tag : Tag) (root p : ℕ) → holds_at world cs tag root p ≡ true →
       pending_in roots.pendings.items q broadcast tag p ≡ awaited world cs q broadcast tag p

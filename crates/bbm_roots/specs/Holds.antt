@@ -1,12 +1,15 @@
--- Which PEs hold a tag for a root: a list of sets of them.
-use Rattle.std.specs.Prelude.{◌≡◌, ℕ, zero, suc, Bool, true, false, ◌&&◌, ◌||◌, ◌==◌, List}
+-- Which PEs hold a tag for a root: a map from the key of a tag to the root and the set of them.
+use Rattle.std.specs.Prelude.{◌≡◌, ℕ, zero, suc, ◌+◌, ◌*◌, Bool, true, false, ◌&&◌, ◌||◌, nat_eq, ◌==◌, List}
+use Rattle.std.specs.Prelude.{Option, Some, None, is_some}
 use Rattle.std.specs.List.{list_any}
 use Rattle.bbm_regimes.specs.PeMask.{pe_in}
+use Rattle.indexmap.specs.IndexMap.{IndexMap, get}
 use Rattle.bbm_regimes.specs.declared.regime.Tag.{Tag}
+use Rattle.bbm_regimes.specs.declared.regime.Tag.TheVariants.{El2 as El2Tag, Vmid, Asid, Ttbr1 as Ttbr1Tag}
 use Rattle.bbm_tlbi_scope.specs.declared.entry.TagSet.{TagSet}
 use Rattle.bbm_tlbi_scope.specs.declared.entry.TagSet.TheVariants.{None as NoTag, One, Many}
 use Rattle.bbm_roots.specs.declared.hold.Held.{Held}
-use Rattle.bbm_roots.specs.Readings.{same_tag, has_reading, has_other}
+use Rattle.bbm_roots.specs.Readings.{same_tag, has_reading, has_other, is_reading, is_other}
 use Rattle.bbm_roots.specs.declared.reading.Reading.{Reading}
 
 -- whether an entry is that of the tag and the root, and with the PE p in it
@@ -16,32 +19,61 @@ is_hold tag root held = same_tag held.tag tag && held.root == root
 abbrev pub holds_bit : Tag → ℕ → ℕ → Held → Bool
 holds_bit tag root p held = is_hold tag root held && pe_in held.pes p
 
--- whether there is an entry of the tag and the root, and whether p is in one
+-- whether one of the entries is that of the tag and the root
 abbrev pub has_hold : Tag → ℕ → List Held → Bool
 has_hold tag root holds = list_any (is_hold tag root) holds
 
-abbrev pub hold_in : List Held → Tag → ℕ → ℕ → Bool
-hold_in holds tag root p = list_any (holds_bit tag root p) holds
+-- The key of a tag, which is no other tag's. Source: project's own choice.
+abbrev pub tag_key : Tag → ℕ
+tag_key El2Tag = 0
+tag_key Ttbr1Tag = 1
+tag_key (Vmid v) = 2 * v + 2
+tag_key (Asid a) = 2 * a + 3
+
+abbrev pub entry_bit : Tag → ℕ → ℕ → Option Held → Bool
+entry_bit tag root p None = false
+entry_bit tag root p (Some held) = holds_bit tag root p held
 
 -- whether a test holds at some PE below n
 abbrev pub some_pe : ℕ → (ℕ → Bool) → Bool
 some_pe zero test = false
 some_pe (suc n) test = test n || some_pe n test
 
--- whether the root holds the tag at one of the first n PEs, by an entry and by the entries
+-- whether the root holds the entry's tag at one of the first n PEs
 abbrev pub is_held_by : ℕ → Tag → ℕ → Held → Bool
 is_held_by n tag root held = is_hold tag root held && some_pe n (pe_in held.pes)
 
-abbrev pub tag_in : List Held → ℕ → Tag → ℕ → Bool
-tag_in holds n tag root = list_any (is_held_by n tag root) holds
+abbrev pub entry_held : ℕ → Tag → ℕ → Option Held → Bool
+entry_held n tag root None = false
+entry_held n tag root (Some held) = is_held_by n tag root held
 
--- whether the entry's root holds its tag, or is about to, while the tag is about to be readable for another root
-abbrev pub is_conflict : ℕ → List Reading → Tag → ℕ → Held → Bool
-is_conflict n seen tag root held =
-    is_hold tag root held && (has_other tag root seen && (has_reading tag root seen || some_pe n (pe_in held.pes)))
+module _ {S : Type 0} (holds : IndexMap ℕ Held S) where
+  -- whether there is an entry of the tag
+  abbrev pub has_entry : Tag → Bool
+  has_entry tag = is_some (get nat_eq holds (tag_key tag))
 
-abbrev pub conflict_in : List Held → ℕ → List Reading → Reading → Bool
-conflict_in holds n seen x = list_any (is_conflict n seen x.tag x.root) holds
+  -- whether the tag is held for the root at p, and at one of the first n PEs
+  abbrev pub hold_in : Tag → ℕ → ℕ → Bool
+  hold_in tag root p = entry_bit tag root p (get nat_eq holds (tag_key tag))
+
+  abbrev pub tag_in : ℕ → Tag → ℕ → Bool
+  tag_in n tag root = entry_held n tag root (get nat_eq holds (tag_key tag))
+
+  -- whether the root holds its tag, or is about to, while the tag is about to be readable for another root
+  abbrev pub conflict_in : ℕ → List Reading → Reading → Bool
+  conflict_in n seen x =
+      has_other x.tag x.root seen && (has_reading x.tag x.root seen || tag_in n x.tag x.root)
+
+  -- the same, as one of the tags that are about to be readable shows it
+  abbrev pub is_clash : ℕ → List Reading → Reading → Reading → Bool
+  is_clash n seen x reading =
+      (is_reading x.tag x.root reading && has_other x.tag x.root seen)
+      || (is_other x.tag x.root reading && tag_in n x.tag x.root)
+
+  -- no tag that is about to be readable for one root is held for another, or about to be
+  abbrev pub IsCalm : List Reading → Type 0
+  IsCalm seen = (tag : Tag) (root : ℕ) → has_other tag root seen ≡ true
+      → (has_reading tag root seen ≡ false) × ((p : ℕ) → hold_in tag root p ≡ false)
 
 -- Which tags pass a test: none, this one alone, or at least two.
 abbrev pub HasTags : (Tag → Bool) → TagSet → Type 0

@@ -35,7 +35,7 @@ pub record Stands (roots : Roots) (cs : List Call) : Type 0 where
   pub outside : (p : ℕ) (reg : Reg) → pes_of roots ≤ p → register_values cs p reg ≡ at_start ∷ []
   pub declared : (page : ℕ) → get nat_eq roots.declared page ≡ root_at cs page
   pub count : index_map_len roots.declared ≡ length (roots_of cs)
-  pub holds : (tag : Tag) (root p : ℕ) → hold_in roots.holds.items tag root p ≡ holds_at (world_of roots) cs tag root p
+  pub holds : (tag : Tag) (root p : ℕ) → hold_in roots.holds tag root p ≡ holds_at (world_of roots) cs tag root p
   pub inside : (tag : Tag) (root p : ℕ) → pes_of roots ≤ p → holds_at (world_of roots) cs tag root p ≡ false
   pub pendings : (q : ℕ) (broadcast : Bool) (tag : Tag) (root p : ℕ) → holds_at (world_of roots) cs tag root p ≡ true →
       pending_in roots.pendings.items q broadcast tag p ≡ awaited (world_of roots) cs q broadcast tag p
@@ -50,5 +50,5 @@ IsPrepared roots = (0 < spare roots.declared) × (index_map_len roots.declared <
 
 -- there is an entry for each tag that a TLBI of the issuer, of this scope and under this VMID, takes and that is held
 abbrev pub IsReady : Roots → ℕ → Scope → Option ℕ → Type 0
-IsReady roots issuer scope vmid = (tag : Tag) (root p : ℕ) → hold_in roots.holds.items tag root p ≡ true
+IsReady roots issuer scope vmid = (tag : Tag) (root p : ℕ) → hold_in roots.holds tag root p ≡ true
     → takes_whole_tag scope vmid tag ≡ true → has_pending issuer scope.broadcast tag roots.pendings.items ≡ true

@@ -1,16 +1,21 @@
 //! Which PEs hold a tag for a root.
 
-ghost use Rattle.std.specs.Prelude.{◌≡◌, ◌↔◌, ℕ, ◌≤◌, ◌&&◌, ◌||◌, not, nat_eq, true, false, OnOk, IsOk, All};
+ghost use Rattle.std.specs.Prelude.{◌≡◌, ℕ, ◌≤◌, Bool, ◌&&◌, ◌||◌, not, nat_eq, true, false, Option, Some, None, is_some, OnOk, if◌then◌else◌};
+ghost use Rattle.indexmap.specs.IndexMap.{get, values};
 ghost use Rattle.bbm_regimes.specs.PeMask.{pe_in};
 ghost use Rattle.bbm_regimes.specs.declared.regime.Tag.{Tag as TheTag};
 ghost use Rattle.bbm_roots.specs.Holds as spec;
-ghost use Rattle.bbm_roots.specs.Pendings.{answered_in};
-ghost use Rattle.bbm_roots.specs.Readings.{same_tag as spec_same_tag, has_reading as spec_has_reading};
+ghost use Rattle.bbm_roots.specs.Pendings.{answered_bit, answered_in};
+ghost use Rattle.bbm_roots.specs.Readings.{same_tag as spec_same_tag, has_reading as spec_has_reading, has_tag as spec_has_tag};
 
-use crate::pending::{Pending, taken_at};
-use crate::reading::{Reading, has_other, has_reading, same_tag, tag_rank};
+use crate::pending::{Pending, is_answered};
+use crate::reading::{Reading, same_tag};
 use bbm_barriers::Dsb;
 use bbm_regimes::{NoMemory, Page, Pe, PeMask, Tag};
+use indexmap::IndexMap;
+
+/// The tags that are held, each with its root and the PEs, by the key of the tag. Source: project's own choice.
+pub type Holds = IndexMap<u32, Held>;
 
 /// The PEs at which a root holds a tag. Source: project's own choice.
 #[derive(Clone, Copy, Debug)]
@@ -39,30 +44,45 @@ fn is_hold(held: &Held, tag: Tag, root: Page) -> bool
     same_tag(held.tag, tag) && held.root == root
 }
 
-fn has_hold(holds: &[Held], tag: Tag, root: Page) -> bool
-    ensures { result ≡ spec.has_hold tag root holds.now }
+/// The key of a tag, which is no other tag's, 0 to 131073. Source: project's own choice.
+pub fn tag_key(tag: Tag) -> u32
+    ensures { result ≡ spec.tag_key tag }
 {
-    holds.iter().any(|held| is_hold(held, tag, root))
+    match tag {
+        Tag::El2 => 0,
+        Tag::Ttbr1 => 1,
+        Tag::Vmid(v) => 2 * v as u32 + 2,
+        Tag::Asid(a) => 2 * a as u32 + 3,
+    }
 }
 
-// Makes an entry of the tag and the root, with no PE in it, where there is none.
-fn make_entry(holds: &mut Vec<Held>, tag: Tag, root: Page) -> Result<(), NoMemory>
-    ensures same { (g : TheTag) (r p : ℕ) → spec.hold_in holds.new.items g r p ≡ spec.hold_in holds.old.items g r p }
-    ensures made { OnOk result ((g : TheTag) (r : ℕ) → spec.has_hold g r holds.new.items
-        ≡ (spec.has_hold g r holds.old.items || (spec_same_tag tag g && nat_eq root r))) }
+/// The entries, in no order.
+pub fn entries(holds: &Holds) -> &[Held]
+    ensures { result.now ≡ values holds.now }
 {
-    if has_hold(holds, tag, root) {
+    holds.values().as_slice()
+}
+
+// Makes an entry of the tag and the root, with no PE in it, where the tag has none.
+fn make_entry(holds: &mut Holds, tag: Tag, root: Page) -> Result<(), NoMemory>
+    ensures same { (g : TheTag) (r p : ℕ) → spec.hold_in holds.new g r p ≡ spec.hold_in holds.old g r p }
+    ensures made { OnOk result ((g : TheTag) → spec.has_entry holds.new g ≡ (spec.has_entry holds.old g || spec_same_tag tag g)) }
+{
+    let key = tag_key(tag);
+    if holds.contains_key(&key) {
         return Ok(());
     }
     let pes = PeMask::none();
-    holds.push(Held { tag, root, pes }).map_err(|_| NoMemory)
+    match holds.insert(key, Held { tag, root, pes }) {
+        Ok(_) => Ok(()),
+        Err(_) => Err(NoMemory),
+    }
 }
 
-/// Makes an entry for each readable tag and its root. `NoMemory` where there is none. Nobody holds more or less.
-pub fn make_room(holds: &mut Vec<Held>, readings: &[Reading]) -> Result<(), NoMemory>
-    ensures same { (g : TheTag) (r p : ℕ) → spec.hold_in holds.new.items g r p ≡ spec.hold_in holds.old.items g r p }
-    ensures made { OnOk result ((g : TheTag) (r : ℕ) → spec_has_reading g r readings.now ≡ true
-        → spec.has_hold g r holds.new.items ≡ true) }
+/// Makes an entry for each readable tag that has none. `NoMemory` where there is none. Nobody holds more or less.
+pub fn make_room(holds: &mut Holds, readings: &[Reading]) -> Result<(), NoMemory>
+    ensures same { (g : TheTag) (r p : ℕ) → spec.hold_in holds.new g r p ≡ spec.hold_in holds.old g r p }
+    ensures made { OnOk result ((g : TheTag) → spec_has_tag g readings.now ≡ true → spec.has_entry holds.new g ≡ true) }
 {
     for reading in readings {
         make_entry(holds, reading.tag, reading.root)?;
@@ -70,58 +90,129 @@ pub fn make_room(holds: &mut Vec<Held>, readings: &[Reading]) -> Result<(), NoMe
     Ok(())
 }
 
-// Puts the PE into the entry where the entry's tag is readable for its root.
-fn mark_one(held: &mut Held, readings: &[Reading], pe: Pe)
-    ensures { (g : TheTag) (r p : ℕ) → spec.holds_bit g r p held.new
-        ≡ (spec.holds_bit g r p held.old || (spec.is_hold g r held.old && (nat_eq p pe && spec_has_reading g r readings.now))) }
+// The entry of the tag with the PE in it: for this root, where another may have been there before.
+fn entered(held: Held, tag: Tag, root: Page, pe: Pe) -> Held
+    ensures { (r p : ℕ) → spec.holds_bit tag r p result ≡ (nat_eq root r && (spec.holds_bit tag r p held || nat_eq p pe)) }
 {
-    if has_reading(readings, held.tag, held.root) {
-        held.pes = held.pes.or(PeMask::one(pe));
+    let one = PeMask::one(pe);
+    let pes = if is_hold(&held, tag, root) {
+        held.pes.or(one)
+    } else {
+        one
+    };
+    Held { tag, root, pes }
+}
+
+// Puts the PE into the entry of the tag, for this root alone.
+fn mark_one(holds: &mut Holds, tag: Tag, root: Page, pe: Pe)
+    requires { spec.has_entry holds.old tag ≡ true }
+    ensures bits { (g : TheTag) (r p : ℕ) → spec.hold_in holds.new g r p ≡ (if spec_same_tag tag g
+        then nat_eq root r && (spec.hold_in holds.old g r p || nat_eq p pe) else spec.hold_in holds.old g r p) }
+    ensures entries { (g : TheTag) → spec.has_entry holds.new g ≡ spec.has_entry holds.old g }
+{
+    enter(holds, tag_key(tag), tag, root, pe);
+}
+
+fn enter(holds: &mut Holds, key: u32, tag: Tag, root: Page, pe: Pe)
+    requires { is_some (get nat_eq holds.old key) ≡ true }
+    ensures others { (q : ℕ) → nat_eq key q ≡ false → get nat_eq holds.new q ≡ get nat_eq holds.old q }
+    ensures here { (r p : ℕ) → spec.entry_bit tag r p (get nat_eq holds.new key)
+        ≡ (nat_eq root r && (spec.entry_bit tag r p (get nat_eq holds.old key) || nat_eq p pe)) }
+    ensures known { (q : ℕ) → is_some (get nat_eq holds.new q) ≡ is_some (get nat_eq holds.old q) }
+{
+    match holds.get_mut(&key) {
+        Some(held) => *held = entered(*held, tag, root, pe),
+        None => {}
     }
 }
 
-/// Puts the PE into the entries of the readable tags and their roots.
-pub fn mark(holds: &mut [Held], readings: &[Reading], pe: Pe)
+/// Puts the PE into the entries of the readable tags, where no other root holds one of them.
+pub fn mark(holds: &mut Holds, readings: &[Reading], pe: Pe)
+    requires { (g : TheTag) → spec_has_tag g readings.now ≡ true → spec.has_entry holds.old g ≡ true }
+    ensures { spec.IsCalm holds.old readings.now → (g : TheTag) (r p : ℕ) → spec.hold_in holds.new g r p
+        ≡ (spec.hold_in holds.old g r p || (nat_eq p pe && spec_has_reading g r readings.now)) }
+{
+    for reading in readings {
+        mark_one(holds, reading.tag, reading.root, pe);
+    }
+}
+
+// Takes the PEs out of the entry of the tag, and forgets it where none is left.
+fn take_from(holds: &mut Holds, tag: Tag, pes: PeMask)
     ensures { (g : TheTag) (r p : ℕ) → spec.hold_in holds.new g r p
-        ≡ (spec.hold_in holds.old g r p || (spec.has_hold g r holds.old && (nat_eq p pe && spec_has_reading g r readings.now))) }
+        ≡ (spec.hold_in holds.old g r p && not (spec_same_tag tag g && pe_in pes p)) }
 {
-    for held in holds.iter_mut() {
-        mark_one(held, readings, pe);
+    let key = tag_key(tag);
+    let left = left_of(holds, key, pes);
+    put_back(holds, key, left);
+}
+
+// Puts an entry into the place of the key's, or forgets the key's where there is none.
+fn put_back(holds: &mut Holds, key: u32, entry: Option<Held>)
+    requires { is_some entry ≡ true → is_some (get nat_eq holds.old key) ≡ true }
+    ensures { (q : ℕ) → get nat_eq holds.new q ≡ (if nat_eq key q then entry else get nat_eq holds.old q) }
+{
+    match entry {
+        Some(held) => overwrite(holds, key, held),
+        None => {
+            holds.swap_remove(&key);
+        }
     }
 }
 
-// Takes the PEs out of the entry at which a DSB of the issuer takes the tag away.
-fn release_one(held: &mut Held, pendings: &[Pending], issuer: Pe, dsb: Dsb)
-    ensures { (g : TheTag) (r p : ℕ) → spec.holds_bit g r p held.new
-        ≡ (spec.holds_bit g r p held.old && not (answered_in pendings.now issuer dsb g p)) }
+fn overwrite(holds: &mut Holds, key: u32, entry: Held)
+    requires { is_some (get nat_eq holds.old key) ≡ true }
+    ensures { (q : ℕ) → get nat_eq holds.new q ≡ (if nat_eq key q then Some entry else get nat_eq holds.old q) }
 {
-    held.pes = held.pes.minus(taken_at(pendings, issuer, dsb, held.tag));
+    match holds.get_mut(&key) {
+        Some(held) => *held = entry,
+        None => {}
+    }
+}
+
+// The entry without the PEs, where one is left.
+fn left_of(holds: &Holds, key: u32, pes: PeMask) -> Option<Held>
+    ensures bits { (g : TheTag) (r p : ℕ) → spec.entry_bit g r p result
+        ≡ (spec.entry_bit g r p (get nat_eq holds.now key) && not (pe_in pes p)) }
+    ensures known { is_some result ≡ true → is_some (get nat_eq holds.now key) ≡ true }
+{
+    match holds.get(&key) {
+        Some(held) => without(*held, pes),
+        None => None,
+    }
+}
+
+fn without(held: Held, pes: PeMask) -> Option<Held>
+    ensures { (g : TheTag) (r p : ℕ) → spec.entry_bit g r p result ≡ (spec.holds_bit g r p held && not (pe_in pes p)) }
+{
+    let left = held.pes.minus(pes);
+    if left.is_empty() {
+        None
+    } else {
+        Some(Held {
+            tag: held.tag,
+            root: held.root,
+            pes: left,
+        })
+    }
 }
 
 /// Takes the tags away that a DSB of the issuer takes away.
-pub fn release(holds: &mut [Held], pendings: &[Pending], issuer: Pe, dsb: Dsb)
+pub fn release(holds: &mut Holds, pendings: &[Pending], issuer: Pe, dsb: Dsb)
     ensures { (g : TheTag) (r p : ℕ) → spec.hold_in holds.new g r p
         ≡ (spec.hold_in holds.old g r p && not (answered_in pendings.now issuer dsb g p)) }
 {
-    for held in holds.iter_mut() {
-        release_one(held, pendings, issuer, dsb);
+    for pending in pendings {
+        release_one(holds, pending, issuer, dsb);
     }
 }
 
-fn is_held(held: &Held) -> bool
-    ensures { result ≡ false ↔ ((p : ℕ) → pe_in held.now.pes p ≡ false) }
+// Takes the entry's tag away where a DSB of the issuer answers the entry's TLBIs.
+fn release_one(holds: &mut Holds, pending: &Pending, issuer: Pe, dsb: Dsb)
+    ensures { (g : TheTag) (r p : ℕ) → spec.hold_in holds.new g r p
+        ≡ (spec.hold_in holds.old g r p && not (answered_bit issuer dsb g p pending.now)) }
 {
-    !held.pes.is_empty()
-}
-
-/// Forgets the entries with no PE in them.
-pub fn sweep(holds: &mut Vec<Held>)
-    ensures same { (g : TheTag) (r p : ℕ) → spec.hold_in holds.new.items g r p ≡ spec.hold_in holds.old.items g r p }
-    ensures swept { All (λ held. ¬ ((p : ℕ) → pe_in held.pes p ≡ false)) holds.new.items }
-{
-    holds.retain(
-        |held| -> bool
-            ensures { result ≡ false ↔ ((p : ℕ) → pe_in held.now.pes p ≡ false) }
-        { is_held(held) },
-    );
+    if is_answered(pending, issuer, dsb) {
+        take_from(holds, pending.tag, pending.pes);
+    }
 }

@@ -1,6 +1,6 @@
 //! What the issue of a whole-tag TLBI leaves to its answer.
 
-ghost use Rattle.std.specs.Prelude.{◌≡◌, ℕ, Bool, ◌&&◌, ◌||◌, not, nat_eq, nat_lt, true, false, Option, OnOk};
+ghost use Rattle.std.specs.Prelude.{◌≡◌, ℕ, Bool, ◌&&◌, ◌||◌, not, nat_eq, nat_lt, true, false, Option, OnOk, IfSome};
 ghost use Rattle.bbm_regimes.specs.PeMask.{pe_in};
 ghost use Rattle.bbm_regimes.specs.declared.regime.Tag.{Tag as TheTag};
 ghost use Rattle.bbm_tlbi_scope.specs.Tags.{takes_whole_tag};
@@ -9,7 +9,7 @@ ghost use Rattle.bbm_roots.specs.Holds.{hold_in};
 ghost use Rattle.bbm_roots.specs.Pendings as spec;
 ghost use Rattle.bbm_roots.specs.Readings.{same_tag as spec_same_tag, reads_tag as spec_reads_tag};
 
-use crate::hold::Held;
+use crate::hold::{Holds, entries, tag_key};
 use crate::pending::{Pending, has_pending};
 use crate::registers::Registers;
 use bbm_regimes::{NoMemory, Pe, PeMask, Tag};
@@ -60,11 +60,48 @@ fn make_entry(
         .map_err(|_| NoMemory)
 }
 
-/// Makes an entry of the issuer for each tag that is held and that its TLBI takes. `NoMemory` where there is none.
-/// No DSB takes more or less away.
-pub fn make_room(
+// The one tag of which alone TLBIs of this scope, under this VMID, take the whole; None where there may be more.
+fn one_tag(scope: &Scope, vmid: Option<u16>) -> Option<Tag>
+    ensures { IfSome result (λ one. (tag : TheTag) → takes_whole_tag scope.now vmid tag ≡ true → tag ≡ one) }
+{
+    match scope.family {
+        Family::El2All => Some(Tag::El2),
+        Family::VmAll12 => match vmid {
+            Some(number) => Some(Tag::Vmid(number)),
+            None => None,
+        },
+        Family::Asid => match scope.asid {
+            Some(number) => Some(Tag::Asid(number)),
+            None => None,
+        },
+        _ => None,
+    }
+}
+
+// Makes an entry of the issuer for the tag, where it is held.
+fn make_one(
     pendings: &mut Vec<Pending>,
-    holds: &[Held],
+    holds: &Holds,
+    issuer: Pe,
+    broadcast: bool,
+    tag: Tag,
+) -> Result<(), NoMemory>
+    ensures same { (q : ℕ) (b : Bool) (g : TheTag) (p : ℕ) → spec.pending_in pendings.new.items q b g p
+        ≡ spec.pending_in pendings.old.items q b g p }
+    ensures made { OnOk result ((r p : ℕ) → hold_in holds.now tag r p ≡ true
+        → spec.has_pending issuer broadcast tag pendings.new.items ≡ true) }
+{
+    if holds.contains_key(&tag_key(tag)) {
+        make_entry(pendings, issuer, broadcast, tag)
+    } else {
+        Ok(())
+    }
+}
+
+// Makes an entry of the issuer for each tag that is held and that its TLBI takes.
+fn make_each(
+    pendings: &mut Vec<Pending>,
+    holds: &Holds,
     issuer: Pe,
     scope: &Scope,
     vmid: Option<u16>,
@@ -75,12 +112,33 @@ pub fn make_room(
         → takes_whole_tag scope.now vmid g ≡ true
         → spec.has_pending issuer scope.now.broadcast g pendings.new.items ≡ true) }
 {
-    for held in holds {
+    for held in entries(holds) {
         if takes(scope, vmid, held.tag) {
             make_entry(pendings, issuer, scope.broadcast, held.tag)?;
         }
     }
     Ok(())
+}
+
+/// Makes an entry of the issuer for each tag that is held and that its TLBI takes. `NoMemory` where there is none.
+/// No DSB takes more or less away. A TLBI that takes one tag alone looks at that tag alone.
+pub fn make_room(
+    pendings: &mut Vec<Pending>,
+    holds: &Holds,
+    issuer: Pe,
+    scope: &Scope,
+    vmid: Option<u16>,
+) -> Result<(), NoMemory>
+    ensures same { (q : ℕ) (b : Bool) (g : TheTag) (p : ℕ) → spec.pending_in pendings.new.items q b g p
+        ≡ spec.pending_in pendings.old.items q b g p }
+    ensures made { OnOk result ((g : TheTag) (r p : ℕ) → hold_in holds.now g r p ≡ true
+        → takes_whole_tag scope.now vmid g ≡ true
+        → spec.has_pending issuer scope.now.broadcast g pendings.new.items ≡ true) }
+{
+    match one_tag(scope, vmid) {
+        Some(tag) => make_one(pendings, holds, issuer, scope.broadcast, tag),
+        None => make_each(pendings, holds, issuer, scope, vmid),
+    }
 }
 
 // Whether the entry is one of the issuer's, broadcast or not.

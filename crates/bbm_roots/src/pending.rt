@@ -56,8 +56,8 @@ pub fn has_pending(pendings: &[Pending], issuer: Pe, broadcast: bool, tag: Tag) 
         .any(|pending| is_pending(pending, issuer, broadcast, tag))
 }
 
-// Whether a DSB of the issuer answers the entry's TLBIs.
-fn is_answered(pending: &Pending, issuer: Pe, dsb: Dsb) -> bool
+/// Whether a DSB of the issuer answers the entry's TLBIs.
+pub fn is_answered(pending: &Pending, issuer: Pe, dsb: Dsb) -> bool
     ensures { result ≡ spec.is_answered issuer dsb pending.now }
 {
     pending.issuer.get() == issuer.get() && answers(dsb, pending.broadcast)
@@ -70,19 +70,6 @@ pub fn has_answered(pendings: &[Pending], issuer: Pe, dsb: Dsb) -> bool
     pendings
         .iter()
         .any(|pending| is_answered(pending, issuer, dsb))
-}
-
-/// The PEs at which a DSB of the issuer takes the tag away.
-pub fn taken_at(pendings: &[Pending], issuer: Pe, dsb: Dsb, tag: Tag) -> PeMask
-    ensures { (p : ℕ) → pe_in result p ≡ spec.answered_in pendings.now issuer dsb tag p }
-{
-    let mut taken = PeMask::none();
-    for pending in pendings {
-        if is_answered(pending, issuer, dsb) && same_tag(pending.tag, tag) {
-            taken = taken.or(pending.pes);
-        }
-    }
-    taken
 }
 
 /// Forgets what a DSB of the issuer answers.

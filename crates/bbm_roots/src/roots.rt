@@ -1,7 +1,7 @@
 //! The roots, their tags and the registers that name them.
 
 use crate::fault::{InUse, RootFault, Unsynced};
-use crate::hold::Held;
+use crate::hold::Holds;
 use crate::load::{Load, base_of, kind_of, names_null, number_of};
 use crate::pending::Pending;
 use crate::reading::Reading;
@@ -24,7 +24,7 @@ const MAX_ROOTS: usize = 1024;
 pub struct Roots {
     registers: Registers,
     declared: IndexMap<u64, Declared>,
-    holds: Vec<Held>,
+    holds: Holds,
     pendings: Vec<Pending>,
 }
 
@@ -37,7 +37,7 @@ impl Roots {
     ghost use Rattle.bbm_roots.specs.Columns.{loads_in};
     ghost use Rattle.bbm_roots.specs.Listed.{count_in, nth_in};
     ghost use Rattle.bbm_roots.specs.declared.root.Declared.{Declared as TheRoot};
-    ghost use Rattle.bbm_roots.specs.Holds.{hold_in, has_hold, conflict_in, HasTags};
+    ghost use Rattle.bbm_roots.specs.Holds.{hold_in, has_entry, conflict_in, HasTags, IsCalm};
     ghost use Rattle.bbm_roots.specs.Pendings.{pending_in, answered_in};
     ghost use Rattle.bbm_barriers.specs.Options.{answers as dsb_answers};
     ghost use Rattle.bbm_roots.specs.Readings.{has_reading, has_tag, readings_of};
@@ -58,7 +58,7 @@ impl Roots {
             Ok(registers) => Ok(Roots {
                 registers,
                 declared: IndexMap::new(alloc),
-                holds: Vec::new(alloc),
+                holds: IndexMap::new(alloc),
                 pendings: Vec::new(alloc),
             }),
             Err(_) => Err(RootFault::NoMemory),
@@ -255,8 +255,8 @@ impl Roots {
 
     // Takes the tags away that a DSB of the issuer takes away, and forgets what it answers.
     fn answer(&mut self, issuer: Pe, dsb: Dsb)
-        ensures holds { (g : TheTag) (r p : ℕ) → hold_in self.new.holds.items g r p
-            ≡ (hold_in self.old.holds.items g r p && not (answered_in self.old.pendings.items issuer dsb g p)) }
+        ensures holds { (g : TheTag) (r p : ℕ) → hold_in self.new.holds g r p
+            ≡ (hold_in self.old.holds g r p && not (answered_in self.old.pendings.items issuer dsb g p)) }
         ensures pendings { (q : ℕ) (b : Bool) (g : TheTag) (p : ℕ) → pending_in self.new.pendings.items q b g p
             ≡ (pending_in self.old.pendings.items q b g p && not (nat_eq q issuer && dsb_answers dsb b)) }
         ensures registers { self.new.registers ≡ self.old.registers }
@@ -264,7 +264,6 @@ impl Roots {
     {
         if pending::has_answered(&self.pendings, issuer, dsb) {
             hold::release(&mut self.holds, &self.pendings, issuer, dsb);
-            hold::sweep(&mut self.holds);
             pending::settle(&mut self.pendings, issuer, dsb);
         }
     }
@@ -401,16 +400,15 @@ impl Roots {
         requires known { pe < pes_of self.old }
         requires room { length (if spec_is_first reg then loads_in self.old.registers.first.items pe
             else loads_in self.old.registers.second.items pe) < 9 }
-        requires entries { (g : TheTag) (r : ℕ) → has_reading g r seen.now ≡ true
-            → has_hold g r self.old.holds.items ≡ true }
+        requires entries { (g : TheTag) → has_tag g seen.now ≡ true → has_entry self.old.holds g ≡ true }
         ensures first { (p : ℕ) → loads_in self.new.registers.first.items p
             ≡ (if nat_eq p pe && spec_is_first reg then record { number = number; root = root } ∷ loads_in self.old.registers.first.items p
             else loads_in self.old.registers.first.items p) }
         ensures second { (p : ℕ) → loads_in self.new.registers.second.items p
             ≡ (if nat_eq p pe && not (spec_is_first reg) then record { number = number; root = root } ∷ loads_in self.old.registers.second.items p
             else loads_in self.old.registers.second.items p) }
-        ensures holds { (g : TheTag) (r p : ℕ) → hold_in self.new.holds.items g r p
-            ≡ (hold_in self.old.holds.items g r p || (nat_eq p pe && has_reading g r seen.now)) }
+        ensures holds { IsCalm self.old.holds seen.now → (g : TheTag) (r p : ℕ) → hold_in self.new.holds g r p
+            ≡ (hold_in self.old.holds g r p || (nat_eq p pe && has_reading g r seen.now)) }
         ensures pendings { (q : ℕ) (b : Bool) (g : TheTag) (p : ℕ) → pending_in self.new.pendings.items q b g p
             ≡ (pending_in self.old.pendings.items q b g p && not (nat_eq p pe && has_tag g seen.now)) }
         ensures declared { self.new.declared ≡ self.old.declared }
@@ -454,43 +452,49 @@ impl Roots {
         let number = number_of(value);
         let seen = self.readings_after(alloc, pe, reg, number, &root)?;
         self.judge(pe, reg, &seen)?;
+        self.make_room(&seen)?;
         self.take(pe, reg, number, root, &seen);
         Ok(())
     }
 
-    // The readable tags of the PE after the write, each with an entry. Nobody holds more or less.
+    // The readable tags of the PE after the write.
     fn readings_after(
-        &mut self,
+        &self,
         alloc: Global,
         pe: Pe,
         reg: Reg,
         number: u16,
         root: &Option<Page>,
     ) -> Result<Vec<Reading>, RootFault>
-        requires known { pe < pes_of self.old }
-        ensures seen { IfOk result (λ seen. seen.items ≡ readings_of (world_of self.old)
-            (if spec_is_first reg then record { number = number; root = root.now } ∷ loads_in self.old.registers.first.items pe
-            else loads_in self.old.registers.first.items pe)
-            (if spec_is_first reg then loads_in self.old.registers.second.items pe
-            else record { number = number; root = root.now } ∷ loads_in self.old.registers.second.items pe)) }
-        ensures entries { IfOk result (λ seen. (g : TheTag) (r : ℕ) → has_reading g r seen.items ≡ true
-            → has_hold g r self.new.holds.items ≡ true) }
+        requires known { pe < pes_of self.now }
+        ensures seen { IfOk result (λ seen. seen.items ≡ readings_of (world_of self.now)
+            (if spec_is_first reg then record { number = number; root = root.now } ∷ loads_in self.now.registers.first.items pe
+            else loads_in self.now.registers.first.items pe)
+            (if spec_is_first reg then loads_in self.now.registers.second.items pe
+            else record { number = number; root = root.now } ∷ loads_in self.now.registers.second.items pe)) }
         ensures fault { IfErr result (λ fault. fault ≡ RootFault.NoMemory) }
-        ensures holds { (g : TheTag) (r p : ℕ) → hold_in self.new.holds.items g r p ≡ hold_in self.old.holds.items g r p }
-        ensures registers { self.new.registers ≡ self.old.registers }
-        ensures declared { self.new.declared ≡ self.old.declared }
-        ensures pendings { self.new.pendings ≡ self.old.pendings }
     {
         let load = Load {
             number,
             root: *root,
         };
-        let seen = match self.registers.readings_with(alloc, pe, reg, load) {
-            Ok(seen) => seen,
-            Err(_) => return Err(RootFault::NoMemory),
-        };
-        match hold::make_room(&mut self.holds, &seen) {
-            Ok(()) => Ok(seen),
+        match self.registers.readings_with(alloc, pe, reg, load) {
+            Ok(seen) => Ok(seen),
+            Err(_) => Err(RootFault::NoMemory),
+        }
+    }
+
+    // Makes an entry for each of these readable tags. Nobody holds more or less.
+    fn make_room(&mut self, seen: &[Reading]) -> Result<(), RootFault>
+        ensures entries { OnOk result ((g : TheTag) → has_tag g seen.now ≡ true → has_entry self.new.holds g ≡ true) }
+        ensures fault { IfErr result (λ fault. fault ≡ RootFault.NoMemory) }
+        ensures holds { (g : TheTag) (r p : ℕ) → hold_in self.new.holds g r p ≡ hold_in self.old.holds g r p }
+        ensures registers { self.new.registers ≡ self.old.registers }
+        ensures declared { self.new.declared ≡ self.old.declared }
+        ensures pendings { self.new.pendings ≡ self.old.pendings }
+    {
+        match hold::make_room(&mut self.holds, seen) {
+            Ok(()) => Ok(()),
             Err(_) => Err(RootFault::NoMemory),
         }
     }
@@ -498,7 +502,7 @@ impl Roots {
     // Judges the write of a value whose root isn't missing and which makes these tags readable at the PE.
     fn judge(&self, pe: Pe, reg: Reg, seen: &[Reading]) -> Result<(), RootFault>
         requires { pe < pes_of self.now }
-        ensures { JudgesWrite None (conflict_in self.now.holds.items (pes_of self.now) seen.now)
+        ensures { JudgesWrite None (conflict_in self.now.holds (pes_of self.now) seen.now)
             (length (if spec_is_first reg then loads_in self.now.registers.first.items pe
             else loads_in self.now.registers.second.items pe)) result }
     {

@@ -4,23 +4,14 @@ ghost use Rattle.std.specs.Prelude.{◌≡◌, ℕ, ◌≤◌, Bool, ◌&&◌, �
 ghost use Rattle.bbm_regimes.specs.declared.regime.Tag.{Tag as TheTag};
 ghost use Rattle.bbm_roots.specs.declared.reading.Reading.{Reading as TheReading};
 ghost use Rattle.bbm_roots.specs.Holds as spec;
+ghost use Rattle.bbm_roots.specs.Readings.{is_other, is_reading, has_other as spec_has_other, same_tag as spec_same_tag};
+ghost use Rattle.bbm_roots.specs.Registers.{is_that};
 ghost use Rattle.bbm_roots.specs.Least.{IsLeast, ReadingUpTo, TagUpTo};
 
-use crate::hold::{Held, some_pe};
-use crate::reading::{Reading, has_other, has_reading, same_tag, tag_rank};
+use crate::hold::{Held, Holds, entries, some_pe, tag_key};
+use crate::reading::{Reading, has_other, same_tag, tag_rank};
 use bbm_regimes::{Page, Tag};
 use bbm_tlbi_scope::TagSet;
-
-// Whether the entry's root holds its tag at one of the first n PEs, or is about to, while the tag is about to be
-// readable for another root.
-fn is_conflict(held: &Held, n: u8, seen: &[Reading]) -> bool
-    requires some { 1 ≤ n }
-    requires within { n ≤ 128 }
-    ensures { (g : TheTag) (r : ℕ) → spec.is_conflict n seen.now g r held.now ≡ (spec.is_hold g r held.now && result) }
-{
-    has_other(seen, held.tag, held.root)
-        && (has_reading(seen, held.tag, held.root) || some_pe(held.pes, n))
-}
 
 // Whether the first comes no later than the second: by the root's first page, then by the tag.
 fn is_up_to(tag: Tag, root: Page, other: Tag, page: Page) -> bool
@@ -34,66 +25,129 @@ fn is_up_to(tag: Tag, root: Page, other: Tag, page: Page) -> bool
     }
 }
 
-// The least, where the entry is one more candidate.
-fn lesser(least: Option<Reading>, held: &Held, n: u8, seen: &[Reading]) -> Option<Reading>
-    requires some { 1 ≤ n }
-    requires within { n ≤ 128 }
+// The least, where the tag and the root are one more candidate.
+fn lesser(least: Option<Reading>, tag: Tag, root: Page) -> Option<Reading>
     ensures { (test : TheReading → Bool) → IsLeast ReadingUpTo test least
-        → IsLeast ReadingUpTo (λ x. test x || spec.is_conflict n seen.now x.tag x.root held.now) result }
+        → IsLeast ReadingUpTo (λ x. test x || (spec_same_tag tag x.tag && nat_eq root x.root)) result }
 {
-    if !is_conflict(held, n, seen) {
-        return least;
-    }
     match least {
         Some(best) => {
-            if is_up_to(best.tag, best.root, held.tag, held.root) {
+            if is_up_to(best.tag, best.root, tag, root) {
                 Some(best)
             } else {
-                Some(Reading {
-                    tag: held.tag,
-                    root: held.root,
-                })
+                Some(Reading { tag, root })
             }
         }
-        None => Some(Reading {
-            tag: held.tag,
-            root: held.root,
-        }),
+        None => Some(Reading { tag, root }),
     }
 }
 
-/// The least root and tag in conflict, of those that have entries: by the root's first page, then by the tag. None
-/// where there is none.
-pub fn least_conflict(holds: &[Held], n: u8, seen: &[Reading]) -> Option<Reading>
+// The root that holds the tag at one of the first n PEs.
+fn holder_of(holds: &Holds, n: u8, tag: Tag) -> Option<Page>
+    requires some { 1 ≤ n }
+    requires within { n ≤ 128 }
+    ensures { (r : ℕ) → spec.tag_in holds.now n tag r ≡ is_that result r }
+{
+    match holds.get(&tag_key(tag)) {
+        Some(held) => {
+            if same_tag(held.tag, tag) && some_pe(held.pes, n) {
+                Some(held.root)
+            } else {
+                None
+            }
+        }
+        None => None,
+    }
+}
+
+// The least, where the tag is one more candidate for another root that holds it.
+fn with_holder(least: Option<Reading>, holds: &Holds, n: u8, reading: &Reading) -> Option<Reading>
+    requires some { 1 ≤ n }
+    requires within { n ≤ 128 }
+    ensures { (test : TheReading → Bool) → IsLeast ReadingUpTo test least → IsLeast ReadingUpTo
+        (λ x. test x || (is_other x.tag x.root reading.now && spec.tag_in holds.now n x.tag x.root)) result }
+{
+    match holder_of(holds, n, reading.tag) {
+        Some(root) => {
+            if root == reading.root {
+                least
+            } else {
+                lesser(least, reading.tag, root)
+            }
+        }
+        None => least,
+    }
+}
+
+// The least, where the reading is one more candidate, if its tag is about to be readable for another root.
+fn with_reading(least: Option<Reading>, seen: &[Reading], reading: &Reading) -> Option<Reading>
+    ensures { (test : TheReading → Bool) → IsLeast ReadingUpTo test least → IsLeast ReadingUpTo
+        (λ x. test x || (is_reading x.tag x.root reading.now && spec_has_other x.tag x.root seen.now)) result }
+{
+    if has_other(seen, reading.tag, reading.root) {
+        lesser(least, reading.tag, reading.root)
+    } else {
+        least
+    }
+}
+
+// The least, with what the reading shows.
+fn with_clash(
+    least: Option<Reading>,
+    holds: &Holds,
+    n: u8,
+    seen: &[Reading],
+    reading: &Reading,
+) -> Option<Reading>
+    requires some { 1 ≤ n }
+    requires within { n ≤ 128 }
+    ensures { (test : TheReading → Bool) → IsLeast ReadingUpTo test least → IsLeast ReadingUpTo
+        (λ x. test x || spec.is_clash holds.now n seen.now x reading.now) result }
+{
+    with_holder(with_reading(least, seen, reading), holds, n, reading)
+}
+
+/// The least root and tag in conflict: by the root's first page, then by the tag. None where there is none.
+pub fn least_conflict(holds: &Holds, n: u8, seen: &[Reading]) -> Option<Reading>
     requires some { 1 ≤ n }
     requires within { n ≤ 128 }
     ensures { IsLeast ReadingUpTo (spec.conflict_in holds.now n seen.now) result }
 {
     let mut least = None;
-    for held in holds {
-        least = lesser(least, held, n, seen);
+    for reading in seen {
+        least = with_clash(least, holds, n, seen, reading);
     }
     least
 }
 
-// Whether the entry is one of the root, which holds the entry's tag at one of the first n PEs.
-fn is_held_by(held: &Held, n: u8, root: Page) -> bool
+// Whether the root holds the entry's tag at one of the first n PEs, by this entry and by the map.
+fn is_held_by(holds: &Holds, held: &Held, n: u8, root: Page) -> bool
     requires some { 1 ≤ n }
     requires within { n ≤ 128 }
-    ensures held { (g : TheTag) → spec.is_held_by n g root held.now ≡ (spec.is_hold g root held.now && result) }
+    ensures held { (g : TheTag) → (spec.tag_in holds.now n g root && spec.is_held_by n g root held.now)
+        ≡ (spec.is_hold g root held.now && result) }
     ensures root { result ≡ true → held.now.root ≡ root }
 {
-    held.root == root && some_pe(held.pes, n)
+    held.root == root && some_pe(held.pes, n) && is_that_root(holder_of(holds, n, held.tag), root)
+}
+
+fn is_that_root(holder: Option<Page>, root: Page) -> bool
+    ensures { result ≡ is_that holder root }
+{
+    match holder {
+        Some(holder) => holder == root,
+        None => false,
+    }
 }
 
 // The first tag, where the entry's is one more candidate.
-fn first_of(first: Option<Tag>, held: &Held, n: u8, root: Page) -> Option<Tag>
+fn first_of(first: Option<Tag>, holds: &Holds, held: &Held, n: u8, root: Page) -> Option<Tag>
     requires some { 1 ≤ n }
     requires within { n ≤ 128 }
     ensures { (test : TheTag → Bool) → IsLeast TagUpTo test first
-        → IsLeast TagUpTo (λ g. test g || spec.is_held_by n g root held.now) result }
+        → IsLeast TagUpTo (λ g. test g || (spec.tag_in holds.now n g root && spec.is_held_by n g root held.now)) result }
 {
-    if !is_held_by(held, n, root) {
+    if !is_held_by(holds, held, n, root) {
         return first;
     }
     match first {
@@ -110,14 +164,14 @@ fn first_of(first: Option<Tag>, held: &Held, n: u8, root: Page) -> Option<Tag>
 
 /// The first tag that the root holds at one of the first n PEs, in the order `El2`, VMIDs, ASIDs, `Ttbr1`. None where
 /// it holds none.
-pub fn first_tag(holds: &[Held], n: u8, root: Page) -> Option<Tag>
+pub fn first_tag(holds: &Holds, n: u8, root: Page) -> Option<Tag>
     requires some { 1 ≤ n }
     requires within { n ≤ 128 }
     ensures { IsLeast TagUpTo (λ g. spec.tag_in holds.now n g root) result }
 {
     let mut first = None;
-    for held in holds {
-        first = first_of(first, held, n, root);
+    for held in entries(holds) {
+        first = first_of(first, holds, held, n, root);
     }
     first
 }
@@ -141,13 +195,13 @@ fn with_tag(set: TagSet, tag: Tag) -> TagSet
 }
 
 // The set, with the entry's tag where the root holds it at one of the first n PEs.
-fn with_entry(set: TagSet, held: &Held, n: u8, root: Page) -> TagSet
+fn with_entry(set: TagSet, holds: &Holds, held: &Held, n: u8, root: Page) -> TagSet
     requires some { 1 ≤ n }
     requires within { n ≤ 128 }
     ensures { (test : TheTag → Bool) → spec.HasTags test set
-        → spec.HasTags (λ g. test g || spec.is_held_by n g root held.now) result }
+        → spec.HasTags (λ g. test g || (spec.tag_in holds.now n g root && spec.is_held_by n g root held.now)) result }
 {
-    if is_held_by(held, n, root) {
+    if is_held_by(holds, held, n, root) {
         with_tag(set, held.tag)
     } else {
         set
@@ -155,14 +209,14 @@ fn with_entry(set: TagSet, held: &Held, n: u8, root: Page) -> TagSet
 }
 
 /// The tags that the root holds at one of the first n PEs.
-pub fn tags_in(holds: &[Held], n: u8, root: Page) -> TagSet
+pub fn tags_in(holds: &Holds, n: u8, root: Page) -> TagSet
     requires some { 1 ≤ n }
     requires within { n ≤ 128 }
     ensures { spec.HasTags (λ g. spec.tag_in holds.now n g root) result }
 {
     let mut tags = TagSet::None;
-    for held in holds {
-        tags = with_entry(tags, held, n, root);
+    for held in entries(holds) {
+        tags = with_entry(tags, holds, held, n, root);
     }
     tags
 }

@@ -1,15 +1,48 @@
-use Rattle.std.proofs.Common.{arith, ◌&&◌, nat_eq}
-use Rattle.bbm_roots.specs.Holds.{holds_bit, is_hold}
-use Rattle.bbm_roots.specs.Readings.{has_reading}
-use Rattle.bbm_roots.proofs.Lists.{marked-more, back-more}
+use Rattle.std.proofs.Common.{◌≡◌, ◌+◌, ◌∙◌, ◌&&◌, ◌||◌, nat_eq, not, take, arith, ap, sym, cond, ℕ, List, Bool, true, false}
+use Rattle.std.specs.List.{list_any}
+use Rattle.bbm_regimes.specs.declared.regime.Tag.{Tag}
+use Rattle.bbm_roots.specs.Holds.{hold_in}
+use Rattle.bbm_roots.specs.Readings.{has_reading, is_reading, is_other, is_of_tag, same_tag}
+use Rattle.bbm_roots.specs.declared.reading.Reading.{Reading}
+use Rattle.bbm_roots.proofs.Bits.{same_tag-self}
+use Rattle.bbm_roots.proofs.Entries.{marked-step}
+use Rattle.bbm_roots.proofs.Leasts.{true-or}
+use Rattle.bbm_roots.proofs.Lists.{any-next, any-front, none-front}
 use Rattle.bbm_roots.proofs.hold.mark.Goals as goal
 
-pub loop-held-preserved : goal.loop-held-preserved
-loop-held-preserved c = record {
-  front = λ g r p. marked-more (holds_bit g r p) (is_hold g r) (nat_eq p c.args.pe && has_reading g r c.args.readings.now)
-      c.loop-held.holds c.args.holds.now c.loop-held.held-index c.held-item.result c.mark_one.new.held
-      (omega arith) (omega arith)
-      (c.loop-held.invariant.back c.loop-held.held-index c.held-item.result (omega arith))
-      (c.loop-held.invariant.front g r p) (c.mark_one.ensures g r p);
-  back = back-more c.loop-held.holds c.args.holds.now c.loop-held.held-index c.mark_one.new.held c.loop-held.invariant.back;
-}
+-- what an element of the list passes
+there : (test : Reading → Bool) (xs : List Reading) (i : ℕ) (x : Reading) → list_any test (take (i + 1) xs) ≡ (list_any test (take i xs) || test x) →
+    test x ≡ true → list_any test xs ≡ true
+there test xs i x next e = any-front test (i + 1) xs (next ∙ true-or (list_any test (take i xs)) (test x) e)
+
+other-there : (y : Reading) (g : Tag) (r : ℕ) → same_tag y.tag g ≡ true → nat_eq y.root r ≡ false → is_other g r y ≡ true
+other-there y g r same here = ap (λ (b : Bool). b && not (nat_eq y.root r)) same ∙ ap not here
+
+pub mark_one-requires : goal.mark_one-requires
+mark_one-requires c =
+    let y = c.reading-item.result in
+    let i = c.loop-reading.reading-index in
+    let readings = c.args.readings.now in
+    c.loop-reading.invariant.entries y.tag
+    ∙ c.requires y.tag
+    (there (is_of_tag y.tag) readings i y (any-next (is_of_tag y.tag) readings i y (omega arith) c.reading-item.is) (same_tag-self y.tag))
+
+pub loop-reading-preserved : goal.loop-reading-preserved
+loop-reading-preserved c =
+    let y = c.reading-item.result in
+    let i = c.loop-reading.reading-index in
+    let readings = c.args.readings.now in
+    let old = c.args.holds.now in
+    record {
+      bits = λ calm g r p.
+          let other = λ (same : same_tag y.tag g ≡ true) (here : nat_eq y.root r ≡ false).
+          calm g r (there (is_other g r) readings i y (any-next (is_other g r) readings i y (omega arith) c.reading-item.is)
+          (other-there y g r same here)) in
+          c.mark_one.ensures.bits g r p
+          ∙ ap (λ (b : Bool). cond (same_tag y.tag g) (nat_eq y.root r && (b || nat_eq p c.args.pe)) b) (c.loop-reading.invariant.bits calm g r p)
+          ∙ marked-step (same_tag y.tag g) (nat_eq y.root r) (hold_in old g r p) (nat_eq p c.args.pe) (has_reading g r (take i readings))
+          (λ same here. (other same here).1 p) (λ same here. none-front (is_reading g r) i readings (other same here).0)
+          ∙ ap (λ (b : Bool). hold_in old g r p || (nat_eq p c.args.pe && b))
+          (sym (any-next (is_reading g r) readings i y (omega arith) c.reading-item.is));
+      entries = λ g. c.mark_one.ensures.entries g ∙ c.loop-reading.invariant.entries g;
+    }

@@ -1,14 +1,12 @@
-use Rattle.std.proofs.Common.{◌≡◌, ℕ, ◌≤◌, ◌&&◌, ◌||◌, nat_eq, take, get_or}
+use Rattle.std.proofs.Common.{◌≡◌, ℕ, ◌&&◌, ◌||◌, nat_eq, take}
 use Rattle.bbm_regimes.specs.declared.regime.Tag.{Tag}
-use Rattle.bbm_roots.specs.Holds.{hold_in, has_hold}
+use Rattle.bbm_roots.specs.Holds.{hold_in, has_entry, IsCalm}
 use Rattle.bbm_roots.specs.Readings.{has_reading}
-use Rattle.bbm_roots.specs.declared.hold.Held.{Held}
 use Rattle.bbm_roots.proofs.hold.mark.Given as goal
 
-abbrev pub invariant-loop-held : goal.invariant-loop-held
-invariant-loop-held l = record {
-  front : (g : Tag) (r p : ℕ) → hold_in (take l.held-index l.holds) g r p
-      ≡ (hold_in (take l.held-index l.initial.holds) g r p
-      || (has_hold g r (take l.held-index l.initial.holds) && (nat_eq p l.pe && has_reading g r l.readings)));
-  back : (k : ℕ) (d : Held) → l.held-index ≤ k → get_or l.holds k d ≡ get_or l.initial.holds k d;
+abbrev pub invariant-loop-reading : goal.invariant-loop-reading
+invariant-loop-reading l = record {
+  bits : IsCalm l.initial.holds l.readings → (g : Tag) (r p : ℕ) → hold_in l.holds g r p
+      ≡ (hold_in l.initial.holds g r p || (nat_eq p l.pe && has_reading g r (take l.reading-index l.readings)));
+  entries : (g : Tag) → has_entry l.holds g ≡ has_entry l.initial.holds g;
 }

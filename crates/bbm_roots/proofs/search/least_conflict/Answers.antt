@@ -1,26 +1,32 @@
-use Rattle.std.proofs.Common.{◌≡◌, ◌+◌, take, arith, ap, sym, ◌||◌, List}
+use Rattle.std.proofs.Common.{◌≡◌, ◌+◌, ◌∙◌, take, arith, ap, sym, ◌||◌}
+use Rattle.std.specs.List.{list_any}
 use Rattle.std.proofs.lemmas.List.{take_all}
-use Rattle.bbm_roots.specs.Holds.{is_conflict, conflict_in}
+use Rattle.bbm_roots.specs.Holds.{is_clash, conflict_in}
 use Rattle.bbm_roots.specs.Least.{ReadingUpTo}
-use Rattle.bbm_roots.specs.declared.hold.Held.{Held}
+use Rattle.bbm_roots.proofs.Conflicts.{clash-split}
 use Rattle.bbm_roots.proofs.Leasts.{least-same}
 use Rattle.bbm_roots.proofs.Lists.{any-next}
 use Rattle.bbm_roots.proofs.search.least_conflict.Goals as goal
 
-pub loop-held-preserved : goal.loop-held-preserved
-loop-held-preserved c =
+pub loop-reading-preserved : goal.loop-reading-preserved
+loop-reading-preserved c =
     let holds = c.args.holds.now in
-    let i = c.loop-held.held-index in
+    let n = c.args.n in
+    let seen = c.args.seen.now in
+    let i = c.loop-reading.reading-index in
     least-same ReadingUpTo
-    (λ x. conflict_in (take i holds) c.args.n c.args.seen.now x || is_conflict c.args.n c.args.seen.now x.tag x.root c.held-item.result)
-    (conflict_in (take (i + 1) holds) c.args.n c.args.seen.now)
-    (λ x. any-next (is_conflict c.args.n c.args.seen.now x.tag x.root) holds i c.held-item.result (omega arith) c.held-item.is)
-    c.lesser-least.result
-    (c.lesser-least.ensures (conflict_in (take i holds) c.args.n c.args.seen.now) c.loop-held.invariant)
+    (λ x. list_any (is_clash holds n seen x) (take i seen) || is_clash holds n seen x c.reading-item.result)
+    (λ x. list_any (is_clash holds n seen x) (take (i + 1) seen))
+    (λ x. any-next (is_clash holds n seen x) seen i c.reading-item.result (omega arith) c.reading-item.is)
+    c.with_clash-least.result
+    (c.with_clash-least.ensures (λ x. list_any (is_clash holds n seen x) (take i seen)) c.loop-reading.invariant)
 
 pub returns : goal.returns
 returns c =
-    let whole : take c.loop-held.held-index c.args.holds.now ≡ c.args.holds.now = take_all c.loop-held.held-index c.args.holds.now (omega arith) in
-    least-same ReadingUpTo (conflict_in (take c.loop-held.held-index c.args.holds.now) c.args.n c.args.seen.now)
-    (conflict_in c.args.holds.now c.args.n c.args.seen.now)
-    (λ x. ap (λ (hs : List Held). conflict_in hs c.args.n c.args.seen.now x) (sym whole)) c.loop-held.least c.loop-held.invariant
+    let holds = c.args.holds.now in
+    let n = c.args.n in
+    let seen = c.args.seen.now in
+    let i = c.loop-reading.reading-index in
+    let whole : take i seen ≡ seen = take_all i seen (omega arith) in
+    least-same ReadingUpTo (λ x. list_any (is_clash holds n seen x) (take i seen)) (conflict_in holds n seen)
+    (λ x. sym (clash-split holds n seen x) ∙ ap (list_any (is_clash holds n seen x)) (sym whole)) c.loop-reading.least c.loop-reading.invariant

@@ -1,7 +1,9 @@
 use Rattle.std.proofs.Common.{take}
-use Rattle.bbm_roots.specs.Holds.{conflict_in}
+use Rattle.std.specs.List.{list_any}
+use Rattle.bbm_roots.specs.Holds.{is_clash}
 use Rattle.bbm_roots.specs.Least.{IsLeast, ReadingUpTo}
 use Rattle.bbm_roots.proofs.search.least_conflict.Given as goal
 
-abbrev pub invariant-loop-held : goal.invariant-loop-held
-invariant-loop-held l = IsLeast ReadingUpTo (conflict_in (take l.held-index l.holds) l.n l.seen) l.least
+abbrev pub invariant-loop-reading : goal.invariant-loop-reading
+invariant-loop-reading l =
+    IsLeast ReadingUpTo (λ x. list_any (is_clash l.holds l.n l.seen x) (take l.reading-index l.seen)) l.least

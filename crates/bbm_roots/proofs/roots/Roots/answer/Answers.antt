@@ -13,8 +13,8 @@ returns-else-has_answered-clause-holds c = λ g r p.
     let none : list_any (is_answered c.args.issuer c.args.dsb) pendings ≡ false =
     ap (list_any (is_answered c.args.issuer c.args.dsb)) (sym c.deref.ensures.value)
     ∙ sym c.has_answered.ensures ∙ c.if-has_answered.false in
-    sym (ap (λ (b : Bool). hold_in old.holds.items g r p && not b) (none-answered c.args.issuer c.args.dsb g p pendings none)
-    ∙ and-true (hold_in old.holds.items g r p))
+    sym (ap (λ (b : Bool). hold_in old.holds g r p && not b) (none-answered c.args.issuer c.args.dsb g p pendings none)
+    ∙ and-true (hold_in old.holds g r p))
 
 pub returns-else-has_answered-clause-pendings : goal.returns-else-has_answered-clause-pendings
 returns-else-has_answered-clause-pendings c = λ q b g p.

@@ -31,8 +31,8 @@ returns-clause-taken c = λ calls stands.
           let d = c.answer.ensures.declared in let s = stands.count in cc;
       holds = λ g r p.
           c.answer.ensures.holds g r p
-          ∙ ap (λ (b : Bool). hold_in old.holds.items g r p && not b) (answered-split issuer dsb g p old.pendings.items)
-          ∙ holds-completed world issuer dsb calls g r p (hold_in old.holds.items g r p)
+          ∙ ap (λ (b : Bool). hold_in old.holds g r p && not b) (answered-split issuer dsb g p old.pendings.items)
+          ∙ holds-completed world issuer dsb calls g r p (hold_in old.holds g r p)
           (pending_in old.pendings.items issuer true g p) (pending_in old.pendings.items issuer false g p)
           (stands.holds g r p) (stands.pendings issuer true g r p) (stands.pendings issuer false g r p);
       inside = λ g r p past. not-before world issuer dsb calls g r p (stands.inside g r p past);

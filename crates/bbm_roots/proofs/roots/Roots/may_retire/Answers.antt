@@ -1,13 +1,12 @@
-use Rattle.std.proofs.Common.{◌≡◌, ◌∙◌, sym, ap, ◌&&◌, ◌||◌, nat_lt, ℕ, List, Option, Some, None}
+use Rattle.std.proofs.Common.{◌≡◌, ◌∙◌, sym, ◌&&◌, ◌||◌, nat_lt, ℕ, List, Option, Some, None}
 use Rattle.bbm_regimes.specs.declared.regime.Tag.{Tag}
 use Rattle.bbm_roots.specs.Calls.{Call}
 use Rattle.bbm_roots.specs.Columns.{loads_in}
-use Rattle.bbm_roots.specs.Holds.{tag_in, hold_in}
+use Rattle.bbm_roots.specs.Holds.{tag_in}
 use Rattle.bbm_roots.specs.Least.{UpTo, TagUpTo}
 use Rattle.bbm_roots.specs.Registers.{uses, names_in}
 use Rattle.bbm_roots.specs.Stands.{Stands, world_of, pes_of}
 use Rattle.bbm_roots.specs.Tags.{holds_tag}
-use Rattle.bbm_roots.specs.declared.hold.Held.{Held}
 use Rattle.bbm_roots.specs.declared.roots.Roots.{Roots}
 use Rattle.bbm_roots.proofs.Conflicts.{tag-held}
 use Rattle.bbm_roots.proofs.Leasts.{least-same}
@@ -21,11 +20,10 @@ used-is roots calls page stands =
     user-is (world_of roots) (pes_of roots) page calls (loads_in roots.registers.first.items) (loads_in roots.registers.second.items)
     stands.first stands.second stands.outside
 
-held-is : (roots : Roots) (calls : List Call) (page : ℕ) (holds : List Held) → holds ≡ roots.holds.items → Stands roots calls → (g : Tag) →
-    holds_tag (world_of roots) (pes_of roots) calls g page ≡ tag_in holds (pes_of roots) g page
-held-is roots calls page holds same stands g =
-    sym (tag-held (world_of roots) (pes_of roots) calls holds
-    (λ h r p. ap (λ (hs : List Held). hold_in hs h r p) same ∙ stands.holds h r p) g page)
+held-is : (roots : Roots) (calls : List Call) (page : ℕ) → Stands roots calls → (g : Tag) →
+    holds_tag (world_of roots) (pes_of roots) calls g page ≡ tag_in roots.holds (pes_of roots) g page
+held-is roots calls page stands g =
+    sym (tag-held roots.holds (world_of roots) (pes_of roots) calls stands.holds g page)
 
 pub returns-in-Some-first_tag : goal.returns-in-Some-first_tag
 returns-in-Some-first_tag c = λ calls stands.
@@ -36,9 +34,9 @@ returns-in-Some-first_tag c = λ calls stands.
       least-same UpTo
           (λ p. nat_lt p (pes_of roots) && (names_in (loads_in roots.registers.first.items p) c.args.page || names_in (loads_in roots.registers.second.items p) c.args.page))
           (uses (world_of roots) calls c.args.page) (used-is roots calls c.args.page stands) none (c.in-None.ensures),
-      least-same TagUpTo (λ g. tag_in c.deref.result.now (pes_of roots) g c.args.page)
+      least-same TagUpTo (λ g. tag_in roots.holds (pes_of roots) g c.args.page)
           (λ g. holds_tag (world_of roots) (pes_of roots) calls g c.args.page)
-          (held-is roots calls c.args.page c.deref.result.now c.deref.ensures.value stands) some (c.in-Some-first_tag.ensures),
+          (held-is roots calls c.args.page stands) some (c.in-Some-first_tag.ensures),
     )
 
 pub returns-in-None-first_tag : goal.returns-in-None-first_tag
@@ -50,7 +48,7 @@ returns-in-None-first_tag c = λ calls stands.
       least-same UpTo
           (λ p. nat_lt p (pes_of roots) && (names_in (loads_in roots.registers.first.items p) c.args.page || names_in (loads_in roots.registers.second.items p) c.args.page))
           (uses (world_of roots) calls c.args.page) (used-is roots calls c.args.page stands) none (c.in-None.ensures),
-      least-same TagUpTo (λ g. tag_in c.deref.result.now (pes_of roots) g c.args.page)
+      least-same TagUpTo (λ g. tag_in roots.holds (pes_of roots) g c.args.page)
           (λ g. holds_tag (world_of roots) (pes_of roots) calls g c.args.page)
-          (held-is roots calls c.args.page c.deref.result.now c.deref.ensures.value stands) no_tag (c.in-None-first_tag.ensures),
+          (held-is roots calls c.args.page stands) no_tag (c.in-None-first_tag.ensures),
     )

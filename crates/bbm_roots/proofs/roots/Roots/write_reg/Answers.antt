@@ -1,14 +1,13 @@
-use Rattle.std.proofs.Common.{◌≡◌, ◌≢◌, ◌≤◌, ◌∙◌, ap, sym, refl, Bool, ◌&&◌, ◌||◌, not, nat_eq, List, ◌∷◌, true, false, cond, ℕ, Option, None, Ok, Err, subst, length, arith, Vec, Global}
+use Rattle.std.proofs.Common.{◌≡◌, ◌≢◌, ◌≤◌, ◌∙◌, ap, sym, refl, Bool, ◌&&◌, ◌||◌, not, nat_eq, List, ◌∷◌, true, false, cond, ℕ, Option, Ok, Err, arith, Vec, Global}
 use Rattle.std.proofs.lemmas.Bool.{ne_eqb}
 use Rattle.std.proofs.lemmas.Result.{err_from_is_err_and}
 use Rattle.bbm_regimes.specs.declared.regime.Reg.{Reg}
 use Rattle.bbm_regimes.specs.declared.regime.Tag.{Tag}
 use Rattle.bbm_roots.specs.Calls.{Call, WriteReg}
 use Rattle.bbm_roots.specs.Columns.{loads_in}
-use Rattle.bbm_roots.specs.Holds.{conflict_in}
+use Rattle.bbm_roots.specs.Holds.{conflict_in, IsCalm}
 use Rattle.bbm_roots.specs.Pendings.{pending_in}
 use Rattle.bbm_roots.specs.Readings.{has_reading}
-use Rattle.bbm_roots.specs.Refusals.{JudgesWrite}
 use Rattle.bbm_roots.specs.Registers.{register_values, first_reg, second_reg, is_first, same_reg, load_of, number_of, is_of_world, kind_of_reg, names_in}
 use Rattle.bbm_roots.specs.Roots.{root_at, is_root}
 use Rattle.bbm_roots.specs.Stands.{world_of, pes_of}
@@ -16,6 +15,8 @@ use Rattle.bbm_roots.specs.Tags.{readings, holds_at}
 use Rattle.bbm_roots.specs.declared.load.Load.{Load}
 use Rattle.bbm_roots.specs.declared.pending.Pending.{Pending}
 use Rattle.bbm_roots.specs.declared.registers.Registers.{Registers}
+use Rattle.bbm_roots.specs.declared.reading.Reading.{Reading}
+use Rattle.bbm_roots.proofs.Conflicts.{calm-from}
 use Rattle.bbm_roots.proofs.Judged.{write-judged}
 use Rattle.bbm_roots.proofs.Made.{stands-made}
 use Rattle.bbm_roots.proofs.Rooted.{holders-next, root-there, written-named}
@@ -29,19 +30,19 @@ returns-clause-taken c = λ calls stands.
     let world = world_of old in
     let pe = c.args.pe in
     let reg = c.args.reg in
-    let seen = c.deref-2.result.now in
+    let seen = c.deref-3.result.now in
     let call : Call = WriteReg pe reg c.args.value c.args.null in
     let load : Load = record { number = c.number_of-number.result; root = c.in_ok-root.root } in
     let is_load : load ≡ load_of reg c.args.value c.args.null =
     ap (λ (n : ℕ). let l : Load = record { number = n; root = c.in_ok-root.root } in l) c.number_of-number.ensures
     ∙ ap (λ (o : Option ℕ). let l : Load = record { number = number_of c.args.value; root = o } in l)
     (c.in_ok-root.ensures.named calls stands) in
-    let regs = c.in_ok-seen.ensures.registers in
+    let regs = c.in_ok-make_room.ensures.registers in
     let here : (p : ℕ) → nat_eq p pe ≡ true → readings world (call ∷ calls) p ≡ seen = λ p at.
     right-here world pe reg c.args.value c.args.null calls p load
     (loads_in old.registers.first.items pe) (loads_in old.registers.second.items pe)
     c.requires.of_world is_load (stands.first pe c.requires.known) (stands.second pe c.requires.known) at
-    ∙ sym c.in_ok-seen.ensures.seen ∙ sym c.deref-2.ensures.value in
+    ∙ sym c.in_ok-seen.ensures.seen ∙ sym c.deref-3.ensures.value in
     let there : (p : ℕ) → nat_eq p pe ≡ false → readings world (call ∷ calls) p ≡ readings world calls p =
     elsewhere world pe reg c.args.value c.args.null calls in
     let written : (g : Tag) (r p : ℕ) →
@@ -52,6 +53,13 @@ returns-clause-taken c = λ calls stands.
     written-named calls p pe reg other c.args.value c.args.null q (c.in_ok-root.ensures.found calls stands) (stands.named p other q of_world) in
     let ne : (p : ℕ) → pes_of old ≤ p → nat_eq p pe ≡ false = λ p past.
     let other : p ≢ pe = omega (arith, c.requires.known) in ne_eqb p pe other in
+    let clear : (x : Reading) → conflict_in old.holds (pes_of old) seen x ≡ false = λ x.
+    ap (λ (xs : List Reading). conflict_in old.holds (pes_of old) xs x) (c.deref-3.ensures.value ∙ sym c.deref.ensures.value)
+    ∙ c.in_ok-judge.ensures.1 x in
+    let calm_before : IsCalm old.holds seen =
+    calm-from old.holds (pes_of old) seen (λ g r p past. stands.holds g r p ∙ stands.inside g r p past) clear in
+    let calm : IsCalm c.make_room.new.self.holds seen = λ g r other.
+    ((calm_before g r other).0, λ p. c.in_ok-make_room.ensures.holds g r p ∙ (calm_before g r other).1 p) in
     stands-made c.take.new.self (call ∷ calls) world (pes_of old)
     (c.take.ensures.world ∙ ap (λ (r : Registers). r.world) regs)
     (c.take.ensures.pes ∙ ap (λ (r : Registers). r.pes) regs)
@@ -74,12 +82,12 @@ returns-clause-taken c = λ calls stands.
           ap (λ (b : Bool). cond (b && same_reg reg other) (load_of reg c.args.value c.args.null ∷ register_values calls p other) (register_values calls p other)) (ne p past)
           ∙ stands.outside p other past;
       declared = λ q.
-          let d1 = c.take.ensures.declared in let d2 = c.in_ok-seen.ensures.declared in let s = stands.declared q in cc;
+          let d1 = c.take.ensures.declared in let d2 = c.in_ok-make_room.ensures.declared in let s = stands.declared q in cc;
       count =
-          let d1 = c.take.ensures.declared in let d2 = c.in_ok-seen.ensures.declared in let s = stands.count in cc;
+          let d1 = c.take.ensures.declared in let d2 = c.in_ok-make_room.ensures.declared in let s = stands.count in cc;
       holds = λ g r p.
-          c.take.ensures.holds g r p
-          ∙ ap (λ (b : Bool). b || (nat_eq p pe && has_reading g r seen)) (c.in_ok-seen.ensures.holds g r p ∙ stands.holds g r p)
+          c.take.ensures.holds calm g r p
+          ∙ ap (λ (b : Bool). b || (nat_eq p pe && has_reading g r seen)) (c.in_ok-make_room.ensures.holds g r p ∙ stands.holds g r p)
           ∙ written g r p;
       apart = stands.apart;
       named = named;
@@ -93,8 +101,8 @@ returns-clause-taken c = λ calls stands.
       pendings = λ q b g r p held.
           c.take.ensures.pendings q b g p
           ∙ awaited-written world call calls pe seen here there (λ g p. refl) q b g r p
-          (pending_in c.readings_after.new.self.pendings.items q b g p) refl refl held
-          (λ before. ap (λ (v : Vec Pending Global). pending_in v.items q b g p) c.in_ok-seen.ensures.pendings
+          (pending_in c.make_room.new.self.pendings.items q b g p) refl refl held
+          (λ before. ap (λ (v : Vec Pending Global). pending_in v.items q b g p) c.in_ok-make_room.ensures.pendings
           ∙ stands.pendings q b g r p before);
     })
 
@@ -102,28 +110,23 @@ pub returns-clause-judged : goal.returns-clause-judged
 returns-clause-judged c = λ calls stands.
     let old = c.args.self.now in
     let pe = c.args.pe in
-    let regs = c.in_ok-seen.ensures.registers in
     let load : Load = record { number = c.number_of-number.result; root = c.in_ok-root.root } in
     let is_load : load ≡ load_of c.args.reg c.args.value c.args.null =
     ap (λ (n : ℕ). let l : Load = record { number = n; root = c.in_ok-root.root } in l) c.number_of-number.ensures
     ∙ ap (λ (o : Option ℕ). let l : Load = record { number = number_of c.args.value; root = o } in l)
     (c.in_ok-root.ensures.named calls stands) in
     write-judged (world_of old) (pes_of old) pe c.args.reg c.args.value c.args.null calls load
-    (loads_in old.registers.first.items pe) (loads_in old.registers.second.items pe) c.deref.result.now c.readings_after.new.self.holds.items
+    (loads_in old.registers.first.items pe) (loads_in old.registers.second.items pe) c.deref.result.now old.holds
     c.requires.known c.requires.of_world is_load (stands.first pe c.requires.known) (stands.second pe c.requires.known)
     (c.deref.ensures.value ∙ c.in_ok-seen.ensures.seen)
-    (λ g r p. c.in_ok-seen.ensures.holds g r p ∙ stands.holds g r p)
-    (λ g r e. c.in_ok-seen.ensures.entries g r (sym (ap (has_reading g r) c.deref.ensures.value) ∙ e))
+    stands.holds
     (c.in_ok-root.ensures.found calls stands) {A = Unit {0}} (Ok c.in_ok-judge.field-0)
-    (subst (λ (r : Registers). JudgesWrite None (conflict_in c.readings_after.new.self.holds.items r.pes c.deref.result.now)
-    (length (cond (is_first c.args.reg) (loads_in r.first.items pe) (loads_in r.second.items pe))) (Ok c.in_ok-judge.field-0)) regs
-    c.in_ok-judge.ensures)
+    c.in_ok-judge.ensures
 
 pub returns-in_err-judge-clause-judged : goal.returns-in_err-judge-clause-judged
 returns-in_err-judge-clause-judged c = λ calls stands.
     let old = c.args.self.now in
     let pe = c.args.pe in
-    let regs = c.in_ok-seen.ensures.registers in
     let load : Load = record { number = c.number_of-number.result; root = c.in_ok-root.root } in
     let is_load : load ≡ load_of c.args.reg c.args.value c.args.null =
     ap (λ (n : ℕ). let l : Load = record { number = n; root = c.in_ok-root.root } in l) c.number_of-number.ensures
@@ -131,12 +134,9 @@ returns-in_err-judge-clause-judged c = λ calls stands.
     (c.in_ok-root.ensures.named calls stands) in
     let p = err_from_is_err_and c.from_residual-in_err-judge.result c.from_residual-in_err-judge.ensures.1 in
     rw (p.1, p.2) (write-judged (world_of old) (pes_of old) pe c.args.reg c.args.value c.args.null calls load
-    (loads_in old.registers.first.items pe) (loads_in old.registers.second.items pe) c.deref.result.now c.readings_after.new.self.holds.items
+    (loads_in old.registers.first.items pe) (loads_in old.registers.second.items pe) c.deref.result.now old.holds
     c.requires.known c.requires.of_world is_load (stands.first pe c.requires.known) (stands.second pe c.requires.known)
     (c.deref.ensures.value ∙ c.in_ok-seen.ensures.seen)
-    (λ g r p. c.in_ok-seen.ensures.holds g r p ∙ stands.holds g r p)
-    (λ g r e. c.in_ok-seen.ensures.entries g r (sym (ap (has_reading g r) c.deref.ensures.value) ∙ e))
+    stands.holds
     (c.in_ok-root.ensures.found calls stands) {A = Unit {0}} (Err c.in_err-judge.field-0.0)
-    (subst (λ (r : Registers). JudgesWrite {A = Unit {0}} None (conflict_in c.readings_after.new.self.holds.items r.pes c.deref.result.now)
-    (length (cond (is_first c.args.reg) (loads_in r.first.items pe) (loads_in r.second.items pe))) (Err c.in_err-judge.field-0.0)) regs
-    c.in_err-judge.ensures))
+    c.in_err-judge.ensures)

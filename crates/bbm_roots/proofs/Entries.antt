@@ -1,0 +1,100 @@
+-- The entries of the tags that are held, found by the key of a tag or one after another.
+use Rattle.std.proofs.Common.{◌≡◌, ℕ, Bool, true, false, ◌&&◌, ◌||◌, not, nat_eq, List, [], ◌∷◌, Option, Some, None, cond, refl, sym, ◌∙◌, ap}
+use Rattle.std.specs.List.{list_any}
+use Rattle.std.specs.Map.{lookup, values_of}
+use Rattle.std.proofs.lemmas.Bool.{false≢true, eqb-true, eq-eqb}
+use Rattle.indexmap.specs.IndexMap.{IndexMap, values}
+use Rattle.bbm_regimes.specs.PeMask.{pe_in}
+use Rattle.bbm_regimes.specs.declared.regime.Tag.{Tag}
+use Rattle.bbm_roots.specs.Holds.{is_hold, entry_bit, entry_held, is_held_by, has_hold, hold_in, tag_in, tag_key}
+use Rattle.bbm_roots.specs.Readings.{same_tag, has_other, is_reading, is_other}
+use Rattle.bbm_roots.specs.declared.hold.Held.{Held}
+use Rattle.bbm_roots.specs.declared.reading.Reading.{Reading}
+use Rattle.bbm_roots.proofs.Bits.{and_left, and_right, and-false, or-false, same_tag-true}
+use Rattle.bbm_roots.proofs.Leasts.{or-true, true-or}
+
+-- what an entry that a key finds passes, one of the entries does
+found-among : (entry : Option Held → Bool) (test : Held → Bool) → entry None ≡ false → ((x : Held) → entry (Some x) ≡ true → test x ≡ true) →
+    (key : ℕ → Bool) (es : List (ℕ × Held)) → entry (lookup key es) ≡ true → list_any test (values_of es) ≡ true
+found-among entry test none some key [] e = absurd (false≢true (sym none ∙ e))
+found-among entry test none some key (x ∷ xs) e = by_key (found-among entry test none some key xs) (key x.0) e
+  where
+    by_key : (entry (lookup key xs) ≡ true → list_any test (values_of xs) ≡ true) → (b : Bool) →
+        entry (cond b (Some x.1) (lookup key xs)) ≡ true → (test x.1 || list_any test (values_of xs)) ≡ true
+    by_key rest true e = or-true (test x.1) (list_any test (values_of xs)) (some x.1 e)
+    by_key rest false e = true-or (test x.1) (list_any test (values_of xs)) (rest e)
+
+-- a tag that is held has an entry for its root
+pub held-among : {S : Type 0} (hs : IndexMap ℕ Held S) (g : Tag) (r p : ℕ) → hold_in hs g r p ≡ true → has_hold g r (values hs) ≡ true
+held-among hs g r p =
+    found-among (entry_bit g r p) (is_hold g r) refl (λ (x : Held) e. and_left (is_hold g r x) (pe_in x.pes p) e)
+    (nat_eq (tag_key g)) hs.entries
+
+module _ {S : Type 0} (hs : IndexMap ℕ Held S) (n root : ℕ) where
+  -- whether an entry shows that the root holds the tag, which the map says too
+  abbrev pub shows : Tag → Held → Bool
+  shows g held = tag_in hs n g root && is_held_by n g root held
+
+  pub shown : (g : Tag) → list_any (shows g) (values hs) ≡ tag_in hs n g root
+  shown g = pull (tag_in hs n g root) (values hs) ∙ by_held (tag_in hs n g root) refl
+    where
+      pull : (b : Bool) (xs : List Held) → list_any (λ x. b && is_held_by n g root x) xs ≡ (b && list_any (is_held_by n g root) xs)
+      pull b [] = sym (and-false b)
+      pull true (x ∷ xs) = ap (λ (t : Bool). is_held_by n g root x || t) (pull true xs)
+      pull false (x ∷ xs) = pull false xs
+
+      by_held : (b : Bool) → tag_in hs n g root ≡ b →
+          (tag_in hs n g root && list_any (is_held_by n g root) (values hs)) ≡ tag_in hs n g root
+      by_held false e = ap (λ (t : Bool). t && list_any (is_held_by n g root) (values hs)) e ∙ sym e
+      by_held true e =
+          ap (λ (t : Bool). t && list_any (is_held_by n g root) (values hs)) e
+          ∙ found-among (entry_held n g root) (is_held_by n g root) refl (λ (x : Held) k. k) (nat_eq (tag_key g)) hs.entries e
+          ∙ sym e
+
+-- one more reading, whose PE is put into its tag's entry for its root alone
+pub marked-step : (same here held pe seen : Bool) → (same ≡ true → here ≡ false → held ≡ false) →
+    (same ≡ true → here ≡ false → seen ≡ false) →
+    cond same (here && ((held || (pe && seen)) || pe)) (held || (pe && seen)) ≡ (held || (pe && (seen || (same && here))))
+marked-step true true true pe seen f g = refl
+marked-step true true false true true f g = refl
+marked-step true true false true false f g = refl
+marked-step true true false false seen f g = refl
+marked-step true false true pe seen f g = absurd (false≢true (sym (f refl refl)))
+marked-step true false false true true f g = absurd (false≢true (sym (g refl refl)))
+marked-step true false false true false f g = refl
+marked-step true false false false seen f g = refl
+marked-step false here held pe seen f g = ap (λ (b : Bool). held || (pe && b)) (sym (or-false seen))
+
+-- the reading of a tag and a root, which is this one
+pub reading-clash : (y : Reading) (seen : List Reading) → has_other y.tag y.root seen ≡ true → (x : Reading) →
+    (is_reading x.tag x.root y && has_other x.tag x.root seen) ≡ (same_tag y.tag x.tag && nat_eq y.root x.root)
+reading-clash y seen other x = by_case (is_reading x.tag x.root y) refl
+  where
+    by_case : (b : Bool) → is_reading x.tag x.root y ≡ b → (b && has_other x.tag x.root seen) ≡ b
+    by_case false e = refl
+    by_case true e =
+        ap (λ (g : Tag). has_other g x.root seen) (sym (same_tag-true y.tag x.tag (and_left (same_tag y.tag x.tag) (nat_eq y.root x.root) e)))
+        ∙ ap (λ (r : ℕ). has_other y.tag r seen) (sym (eqb-true y.root x.root (and_right (same_tag y.tag x.tag) (nat_eq y.root x.root) e)))
+        ∙ other
+
+-- the other root that holds the reading's tag
+pub holder-clash : {S : Type 0} (hs : IndexMap ℕ Held S) (n : ℕ) (y : Reading) (root : ℕ) → nat_eq root y.root ≡ false →
+    ((r : ℕ) → tag_in hs n y.tag r ≡ nat_eq root r) → (x : Reading) →
+    (is_other x.tag x.root y && tag_in hs n x.tag x.root) ≡ (same_tag y.tag x.tag && nat_eq root x.root)
+holder-clash hs n y root apart holder x = by_case (same_tag y.tag x.tag) refl
+  where
+    there : same_tag y.tag x.tag ≡ true → tag_in hs n x.tag x.root ≡ nat_eq root x.root
+    there e = ap (λ (g : Tag). tag_in hs n g x.root) (sym (same_tag-true y.tag x.tag e)) ∙ holder x.root
+
+    by_root : (a b : Bool) → nat_eq y.root x.root ≡ a → nat_eq root x.root ≡ b → (not a && b) ≡ b
+    by_root false b e f = refl
+    by_root true false e f = refl
+    by_root true true e f =
+        absurd (false≢true (sym apart ∙ eq-eqb root y.root (eqb-true root x.root f ∙ sym (eqb-true y.root x.root e))))
+
+    by_case : (b : Bool) → same_tag y.tag x.tag ≡ b →
+        ((b && not (nat_eq y.root x.root)) && tag_in hs n x.tag x.root) ≡ (b && nat_eq root x.root)
+    by_case false e = refl
+    by_case true e =
+        ap (λ (t : Bool). not (nat_eq y.root x.root) && t) (there e)
+        ∙ by_root (nat_eq y.root x.root) (nat_eq root x.root) refl refl

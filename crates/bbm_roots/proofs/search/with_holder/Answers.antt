@@ -1,0 +1,18 @@
+use Rattle.std.proofs.Common.{◌||◌, ◌&&◌, ◌∙◌, ap, sym, nat_eq, Bool}
+use Rattle.bbm_roots.specs.Holds.{tag_in}
+use Rattle.bbm_roots.specs.Least.{ReadingUpTo}
+use Rattle.bbm_roots.specs.Readings.{is_other, same_tag}
+use Rattle.bbm_roots.proofs.Entries.{holder-clash}
+use Rattle.bbm_roots.proofs.Leasts.{least-same}
+use Rattle.bbm_roots.proofs.search.with_holder.Goals as goal
+
+pub returns-else-eq : goal.returns-else-eq
+returns-else-eq c = λ test h.
+    let y = c.args.reading.now in
+    let holds = c.args.holds.now in
+    let root = c.in-Some.root in
+    least-same ReadingUpTo (λ x. test x || (same_tag y.tag x.tag && nat_eq root x.root))
+    (λ x. test x || (is_other x.tag x.root y && tag_in holds c.args.n x.tag x.root))
+    (λ x. ap (λ (b : Bool). test x || b)
+    (holder-clash holds c.args.n y root (sym c.eq.ensures ∙ c.if-eq.false) c.in-Some.ensures x))
+    c.lesser.result (c.lesser.ensures test h)

@@ -1,0 +1,15 @@
+use Rattle.std.proofs.Common.{◌||◌, ◌&&◌, ap, sym, ◌∙◌, nat_eq, Bool}
+use Rattle.bbm_roots.specs.Least.{ReadingUpTo}
+use Rattle.bbm_roots.specs.Readings.{is_reading, has_other, same_tag}
+use Rattle.bbm_roots.proofs.Entries.{reading-clash}
+use Rattle.bbm_roots.proofs.Leasts.{least-same}
+use Rattle.bbm_roots.proofs.search.with_reading.Goals as goal
+
+pub returns-then-has_other : goal.returns-then-has_other
+returns-then-has_other c = λ test h.
+    let y = c.args.reading.now in
+    let seen = c.args.seen.now in
+    least-same ReadingUpTo (λ x. test x || (same_tag y.tag x.tag && nat_eq y.root x.root))
+    (λ x. test x || (is_reading x.tag x.root y && has_other x.tag x.root seen))
+    (λ x. ap (λ (b : Bool). test x || b) (reading-clash y seen (sym c.has_other.ensures ∙ c.if-has_other.true) x))
+    c.lesser.result (c.lesser.ensures test h)
