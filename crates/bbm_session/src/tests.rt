@@ -8,6 +8,7 @@ mod explain;
 mod follow;
 mod generated;
 mod other_logs;
+mod selftest;
 mod slow;
 mod told_logs;
 mod usage;
