@@ -7,3 +7,4 @@ pub mod ReadBytes
 pub mod Judgements
 pub mod RunLines
 pub mod Served
+pub mod Selftests

@@ -15,7 +15,7 @@ use Rattle.bbm_report.specs.Further.{heading_in}
 use Rattle.bbm_tlb_machine.specs.declared.step.Step.{Step}
 use Rattle.bbm_session.specs.declared.command.Command.{Command}
 use Rattle.bbm_session.specs.declared.command.Request.{Request}
-use Rattle.bbm_session.specs.declared.command.Request.TheVariants.{Judge, Follow, Generate}
+use Rattle.bbm_session.specs.declared.command.Request.TheVariants.{Judge, Follow, Generate, Selftest}
 use Rattle.bbm_session.specs.declared.status.Status.{Status}
 use Rattle.bbm_session.specs.declared.status.Status.TheVariants as status
 use Rattle.bbm_session.specs.declared.stop.Stop.{Stop}
@@ -23,11 +23,11 @@ use Rattle.bbm_session.specs.declared.stop.Stop.TheVariants.{Decided, ReadFault,
 use Rattle.bbm_session.specs.Fold.{Fold, ending_at}
 use Rattle.bbm_session.specs.Folds.{Follows, Judged, is_frugal, judging_for, following, whole_run}
 use Rattle.bbm_session.specs.Requests.{status_for, IsTextFor, IsSomeTextFor, unread_for, ReadForAll, FaultAt, WantAt, reads_input}
-use Rattle.bbm_session.specs.Generating.{gen_text}
+use Rattle.bbm_session.specs.Generating.{gen_text, selftest_text}
 use Rattle.bbm_session.specs.Run.{IsTextOf, Says, ReadFor, limits_of, status_of, tells_verdict}
 use Rattle.bbm_session.specs.Runs.{RunReadFor, followed_status, run_status}
 use Rattle.bbm_session.specs.Stages.{Breaks, Concludes, Continues, Ends, HeaderLine, Starts, Starves, Stops}
-use Rattle.bbm_session.specs.Writing.{Answered, Heads, IsLine, Obeys, FollowsRun, ReportsRun, Part, Reports, Serves, Told, WantsRun, Wrote}
+use Rattle.bbm_session.specs.Writing.{Answered, Heads, IsLine, Obeys, FollowsRun, ReportsRun, Part, Reports, Serves, Silent, Told, WantsRun, Wrote}
 use Rattle.bbm_session.proofs.RunLines.{following-start, run-said, run-read-to, run-fault, run-want}
 use Rattle.bbm_session.proofs.Judgements.{outcome-said, read-to, fault-is, want-is}
 use Rattle.bbm_session.proofs.ReadBytes.{to_fault, to_want}
@@ -347,6 +347,39 @@ module _ (result : Status) (old new : Option (List ℕ)) (f f' : ℕ) (held held
     wrote_sound o (inl is) = wrote_only o status.ReadFault (λ same. cc) (λ same. cc) is
     wrote_sound o (inr is) = wrote_only o status.NoMemory (λ same. cc) (λ same. cc) is
 
+    -- the same, or there was no memory
+    abbrev Tests : Type 0
+    Tests = Wrote status.Accepted text result held held' w w' ⊎ Silent status.NoMemory result held held' w w'
+
+    tested_heard : Tests → tells_verdict result ≡ true → (result ≡ status.Accepted) × (held' ≡ extended held text)
+    tested_heard (inl wrote) tell = wrote_heard wrote tell
+    tested_heard (inr silent) tell = absurd (quiet result status.NoMemory refl silent.0 tell)
+
+    tested_cut : Tests → result ≡ status.WriteFault → Rose w w' × Part text held held'
+    tested_cut (inl wrote) is = wrote_cut wrote is
+    tested_cut (inr silent) is = let other = silent.0 in cc
+
+    tested_either : Tests → (result ≡ status.Accepted) ⊎ ((result ≡ status.WriteFault) ⊎ (result ≡ status.NoMemory))
+    tested_either (inl (inl wrote)) = inl wrote.0
+    tested_either (inl (inr failed)) = inr (inl failed.0)
+    tested_either (inr silent) = inr (inr silent.0)
+
+    tested_rose : Tests → w < w' → result ≡ status.WriteFault
+    tested_rose (inl wrote) rose = wrote_rose wrote rose
+    tested_rose (inr silent) rose = let same = silent.2 in absurd (omega (arith, rose, same))
+
+    tested_complete : Tests → ¬ Rose w w' → (tells_verdict result ≡ true) ⊎ (result ≡ status.NoMemory)
+    tested_complete (inl wrote) writes = inl (wrote_whole wrote writes)
+    tested_complete (inr silent) writes = inr silent.0
+
+    tested_only : Tests → (other : Status) → (status.Accepted ≡ other → ⊥) → (status.WriteFault ≡ other → ⊥) → (status.NoMemory ≡ other → ⊥) → result ≡ other → ⊥
+    tested_only (inl wrote) other accepted cuts wants is = wrote_only wrote other accepted cuts is
+    tested_only (inr silent) other accepted cuts wants is = wants (sym silent.0 ∙ is)
+
+    tested_unwritten : Tests → (result ≡ status.ReadFault) ⊎ (result ≡ status.NoMemory) → held' ≡ held
+    tested_unwritten (inl wrote) is = absurd (wrote_sound wrote is)
+    tested_unwritten (inr silent) is = silent.1
+
   abbrev ServesIt : Request → Type 0
   ServesIt request = Serves request result old new f f' held held' w w'
 
@@ -360,6 +393,9 @@ module _ (result : Status) (old new : Option (List ℕ)) (f f' : ℕ) (held held
   served-some (Generate n count) o tell =
       let k = wrote_heard (gen_text n count) o.2 tell in
       (gen_text n count, (k.0, refl), k.1)
+  served-some (Selftest n count) o tell =
+      let k = tested_heard (selftest_text n count) o.2 tell in
+      (selftest_text n count, (k.0, refl), k.1)
 
   pub served-part_of_some : (request : Request) → ServesIt request → result ≡ status.WriteFault → (wanted : Status) × (text : List ℕ) × IsSomeTextFor request wanted text × Part text held held'
   served-part_of_some (Judge command) o is =
@@ -369,52 +405,62 @@ module _ (result : Status) (old new : Option (List ℕ)) (f f' : ℕ) (held held
       let k = run_cut o is in
       (run_status k.says, k.text, (k.says, refl, k.has), k.part)
   served-part_of_some (Generate n count) o is = (status.Accepted, gen_text n count, (refl, refl), (wrote_cut (gen_text n count) o.2 is).1)
+  served-part_of_some (Selftest n count) o is = (status.Accepted, selftest_text n count, (refl, refl), (tested_cut (selftest_text n count) o.2 is).1)
 
   pub served-read_fault : (request : Request) → ServesIt request → result ≡ status.ReadFault → Rose f f'
   served-read_fault (Judge command) o is = (broke _ _ _ _ (λ (v : Judged). tells_of v.verdict) _ _ _ _ _ _ _ _ _ _ o.answered is).1
   served-read_fault Follow o is = (broke following run.AtHeader RunText run_status tells_run WantsRun result old new f f' held held' w w' o is).1
   served-read_fault (Generate n count) o is = absurd (wrote_sound (gen_text n count) o.2 (inl is))
+  served-read_fault (Selftest n count) o is = absurd (tested_only (selftest_text n count) o.2 status.ReadFault (λ same. cc) (λ same. cc) (λ same. cc) is)
 
   pub served-write_fault : (request : Request) → ServesIt request → result ≡ status.WriteFault → Rose w w'
   served-write_fault (Judge command) o is = (judged_cut command o is).rose
   served-write_fault Follow o is = (run_cut o is).rose
   served-write_fault (Generate n count) o is = (wrote_cut (gen_text n count) o.2 is).0
+  served-write_fault (Selftest n count) o is = (tested_cut (selftest_text n count) o.2 is).0
 
   pub served-unwritten : (request : Request) → ServesIt request → (result ≡ status.ReadFault) ⊎ (result ≡ status.NoMemory) → held' ≡ held
   served-unwritten (Judge command) o is = unwritten _ _ _ _ (λ (v : Judged). tells_of v.verdict) _ _ _ _ _ _ _ _ _ _ o.answered is
   served-unwritten Follow o is = unwritten following run.AtHeader RunText run_status tells_run WantsRun result old new f f' held held' w w' o is
   served-unwritten (Generate n count) o is = absurd (wrote_sound (gen_text n count) o.2 is)
+  served-unwritten (Selftest n count) o is = tested_unwritten (selftest_text n count) o.2 is
 
   pub served-read_rose : (request : Request) → ServesIt request → f < f' → result ≡ status.ReadFault
   served-read_rose (Judge command) o rose = read_rose _ _ _ _ (λ (v : Judged). tells_of v.verdict) _ _ _ _ _ _ _ _ _ _ o.answered rose
   served-read_rose Follow o rose = read_rose following run.AtHeader RunText run_status tells_run WantsRun result old new f f' held held' w w' o rose
   served-read_rose (Generate n count) o rose = let same = o.1 in absurd (omega (arith, rose, same))
+  served-read_rose (Selftest n count) o rose = let same = o.1 in absurd (omega (arith, rose, same))
 
   pub served-write_rose : (request : Request) → ServesIt request → w < w' → result ≡ status.WriteFault
   served-write_rose (Judge command) o rose = write_rose _ _ _ _ (λ (v : Judged). tells_of v.verdict) _ _ _ _ _ _ _ _ _ _ o.answered rose
   served-write_rose Follow o rose = write_rose following run.AtHeader RunText run_status tells_run WantsRun result old new f f' held held' w w' o rose
   served-write_rose (Generate n count) o rose = wrote_rose (gen_text n count) o.2 rose
+  served-write_rose (Selftest n count) o rose = tested_rose (selftest_text n count) o.2 rose
 
   pub served-complete : (request : Request) → ServesIt request → ¬ Rose f f' → ¬ Rose w w' → (tells_verdict result ≡ true) ⊎ (result ≡ status.NoMemory)
   served-complete (Judge command) o reads writes = complete _ _ _ _ (λ (v : Judged). tells_of v.verdict) _ _ _ _ _ _ _ _ _ _ o.answered reads writes
   served-complete Follow o reads writes = complete following run.AtHeader RunText run_status tells_run WantsRun result old new f f' held held' w w' o reads writes
   served-complete (Generate n count) o reads writes = inl (wrote_whole (gen_text n count) o.2 writes)
+  served-complete (Selftest n count) o reads writes = tested_complete (selftest_text n count) o.2 writes
 
   pub served-usage : (request : Request) → ServesIt request → result ≡ status.Usage → ⊥
   served-usage (Judge command) o is = usage_not _ _ _ _ (λ (v : Judged). tells_of v.verdict) _ _ _ _ _ _ _ _ _ _ o.answered is
   served-usage Follow o is = usage_not following run.AtHeader RunText run_status tells_run WantsRun result old new f f' held held' w w' o is
   served-usage (Generate n count) o is = wrote_only (gen_text n count) o.2 status.Usage (λ same. cc) (λ same. cc) is
+  served-usage (Selftest n count) o is = tested_only (selftest_text n count) o.2 status.Usage (λ same. cc) (λ same. cc) (λ same. cc) is
 
   -- a request that reads nothing
   pub served-untouched : (request : Request) → ServesIt request → reads_input request ≡ false → new ≡ old
   served-untouched (Judge command) o is = cc
   served-untouched Follow o is = cc
   served-untouched (Generate n count) o is = o.0
+  served-untouched (Selftest n count) o is = o.0
 
-  pub served-generated : (request : Request) → ServesIt request → reads_input request ≡ false → (result ≡ status.Accepted) ⊎ (result ≡ status.WriteFault)
-  served-generated (Judge command) o is = cc
-  served-generated Follow o is = cc
-  served-generated (Generate n count) o is = wrote_either (gen_text n count) o.2
+  pub served-generated : (n count : ℕ) → ServesIt (Generate n count) → (result ≡ status.Accepted) ⊎ (result ≡ status.WriteFault)
+  served-generated n count o = wrote_either (gen_text n count) o.2
+
+  pub served-selftested : (n count : ℕ) → ServesIt (Selftest n count) → (result ≡ status.Accepted) ⊎ ((result ≡ status.WriteFault) ⊎ (result ≡ status.NoMemory))
+  served-selftested n count o = tested_either (selftest_text n count) o.2
 
   module _ (bytes : List ℕ) (is : old ≡ Some bytes) where
     concluded : {P V : Type 0} (fold : Fold P V) (start : P) (v : V) → Concludes fold 1 start old v new
@@ -446,6 +492,7 @@ module _ (result : Status) (old new : Option (List ℕ)) (f f' : ℕ) (held held
         let k = run_heard o tell in
         k.is ∙ ap run_status (sym (run_concluded k.says k.concludes).0)
     served-status (Generate n count) o tell = (wrote_heard (gen_text n count) o.2 tell).0
+    served-status (Selftest n count) o tell = (tested_heard (selftest_text n count) o.2 tell).0
 
     pub served-text : (request : Request) → ServesIt request → tells_verdict result ≡ true → (text : List ℕ) × IsTextFor request bytes text × (held' ≡ extended held text)
     served-text (Judge command) o tell =
@@ -456,6 +503,7 @@ module _ (result : Status) (old new : Option (List ℕ)) (f f' : ℕ) (held held
         let k = run_heard o tell in
         (k.text, k.has ∙ ap run.run_text (sym (run_concluded k.says k.concludes).0), k.written)
     served-text (Generate n count) o tell = (gen_text n count, refl, (wrote_heard (gen_text n count) o.2 tell).1)
+    served-text (Selftest n count) o tell = (selftest_text n count, refl, (tested_heard (selftest_text n count) o.2 tell).1)
 
     pub served-part : (request : Request) → ServesIt request → result ≡ status.WriteFault → (text : List ℕ) × IsTextFor request bytes text × Part text held held'
     served-part (Judge command) o cuts =
@@ -466,21 +514,25 @@ module _ (result : Status) (old new : Option (List ℕ)) (f f' : ℕ) (held held
         let k = run_cut o cuts in
         (k.text, k.has ∙ ap run.run_text (sym (run_concluded k.says k.concludes).0), k.part)
     served-part (Generate n count) o cuts = (gen_text n count, refl, (wrote_cut (gen_text n count) o.2 cuts).1)
+    served-part (Selftest n count) o cuts = (selftest_text n count, refl, (tested_cut (selftest_text n count) o.2 cuts).1)
 
     pub served-unread : (request : Request) → ServesIt request → tells_verdict result ≡ true → new ≡ Some (unread_for request bytes)
     served-unread (Judge command) o tell = let k = judged_heard command o tell in (judged_concluded command k.says k.concludes).1
     served-unread Follow o tell = let k = run_heard o tell in (run_concluded k.says k.concludes).1
     served-unread (Generate n count) o tell = o.0 ∙ is
+    served-unread (Selftest n count) o tell = o.0 ∙ is
 
     pub served-untold : (request : Request) → ServesIt request → result ≡ status.WriteFault → new ≡ Some (unread_for request bytes)
     served-untold (Judge command) o cuts = let k = judged_cut command o cuts in (judged_concluded command k.says k.concludes).1
     served-untold Follow o cuts = let k = run_cut o cuts in (run_concluded k.says k.concludes).1
     served-untold (Generate n count) o cuts = o.0 ∙ is
+    served-untold (Selftest n count) o cuts = o.0 ∙ is
 
     pub served-read : (request : Request) → ServesIt request → tells_verdict result ≡ true → ReadForAll request bytes new
     served-read (Judge command) o tell = read-to (is_frugal command) (limits_of command) bytes new (served-unread (Judge command) o tell)
     served-read Follow o tell = run-read-to bytes new (served-unread Follow o tell)
     served-read (Generate n count) o tell = o.0 ∙ is
+    served-read (Selftest n count) o tell = o.0 ∙ is
 
     pub served-accepted : (request : Request) → ServesIt request → reads_input request ≡ true → result ≡ status.Accepted → new ≡ Some []
     served-accepted (Judge command) o reads accepted =
@@ -492,6 +544,7 @@ module _ (result : Status) (old new : Option (List ℕ)) (f f' : ℕ) (held held
         let r = served-read Follow o tell in
         r.3 ∙ ap Some (none_left_run (run.run_of bytes).says (text_of r.0) r.1 (sym (served-status Follow o tell) ∙ accepted) r.4)
     served-accepted (Generate n count) o reads accepted = cc
+    served-accepted (Selftest n count) o reads accepted = cc
 
     pub served-accepts : (command : Command) → ServesIt (Judge command) → result ≡ status.Accepted → (count : ℕ) × (verdict_of_bytes Patterns (limits_of command) bytes ≡ Accepted count)
     served-accepts command o accepted =
@@ -506,6 +559,7 @@ module _ (result : Status) (old new : Option (List ℕ)) (f f' : ℕ) (held held
         let breaks = (broke following run.AtHeader RunText run_status tells_run WantsRun result old new f f' held held' w w' o fault).0 in
         run-fault bytes new (to_fault following run.AtHeader bytes new (subst (λ (x : Option (List ℕ)). Breaks following 1 run.AtHeader x new) is breaks))
     served-fault (Generate n count) o fault = wrote_sound (gen_text n count) o.2 (inl fault)
+    served-fault (Selftest n count) o fault = tested_only (selftest_text n count) o.2 status.ReadFault (λ same. cc) (λ same. cc) (λ same. cc) fault
 
     pub served-want : (request : Request) → ServesIt request → result ≡ status.NoMemory → WantAt request bytes new
     served-want (Judge command) o want =
@@ -516,3 +570,4 @@ module _ (result : Status) (old new : Option (List ℕ)) (f f' : ℕ) (held held
         let wants = starved following run.AtHeader RunText run_status tells_run WantsRun result old new f f' held held' w w' o want in
         run_wants bytes new (subst (λ (x : Option (List ℕ)). WantsRun x new) is wants)
     served-want (Generate n count) o want = wrote_sound (gen_text n count) o.2 (inr want)
+    served-want (Selftest n count) o want = o.0 ∙ is

@@ -1,4 +1,5 @@
--- What the program's words ask for, and what it does for each: a log is judged, a run is followed, or a log is written.
+-- What the program's words ask for, and what it does for each: a log is judged, a run is followed, a generated log is
+-- written, or one is judged without being stored.
 -- Source: project's own choice.
 use Rattle.std.specs.Prelude.{◌≡◌, ℕ, nat_le, Bool, true, false, List, [], ◌∷◌, Option, Some, None, option_map, codes}
 use Rattle.std.specs.Prelude.{bytes_eq, if◌then◌else◌}
@@ -10,10 +11,10 @@ use Rattle.bbm_rules.specs.Lists.{◌>>=◌}
 use Rattle.bbm_rules.specs.declared.verdict.Verdict.{Verdict}
 use Rattle.bbm_rules.specs.Outcome.{outcome_of, verdict_of_bytes}
 use Rattle.bbm_session.specs.declared.command.Request.{Request}
-use Rattle.bbm_session.specs.declared.command.Request.TheVariants.{Judge, Follow, Generate}
+use Rattle.bbm_session.specs.declared.command.Request.TheVariants.{Judge, Follow, Generate, Selftest}
 use Rattle.bbm_session.specs.declared.status.Status.{Status}
 use Rattle.bbm_session.specs.declared.status.Status.TheVariants as status
-use Rattle.bbm_session.specs.Generating.{gen_text}
+use Rattle.bbm_session.specs.Generating.{gen_text, selftest_text}
 use Rattle.bbm_session.specs.Run.{IsTextOf, IsSomeText, ReadAs, ReadTo, ReadToFault, ReadToWant, command_of, limits_of}
 use Rattle.bbm_session.specs.Run.{or_else, status_of}
 use Rattle.bbm_session.specs.Runs.{RunReadFor, RunToFault, RunWants, run_status}
@@ -39,13 +40,28 @@ abbrev pub gen_of : List (List ℕ) → Option Request
 gen_of (word ∷ n ∷ count ∷ []) = if bytes_eq word (codes "gen") then gen_asked n count else None
 gen_of _ = None
 
--- What the words ask for, None where they ask for nothing: a command, to follow a run, or to write a generated log.
+-- the same of a self-test
+abbrev pub selftest_asked : List ℕ → List ℕ → Option Request
+selftest_asked n_text count_text = do
+  n ← decimal_value n_text
+  count ← event_count count_text
+  Some (Selftest n count)
+
+-- the request of `selftest N COUNT`
+abbrev pub selftest_of : List (List ℕ) → Option Request
+selftest_of (word ∷ n ∷ count ∷ []) = if bytes_eq word (codes "selftest") then selftest_asked n count else None
+selftest_of _ = None
+
+-- What the words ask for, None where they ask for nothing: a command, to follow a run, to write a generated log, or to
+-- judge one.
 abbrev pub request_of : List (List ℕ) → Option Request
-request_of words = or_else (option_map Judge (command_of words)) (or_else (follow_of words) (gen_of words))
+request_of words = or_else (option_map Judge (command_of words))
+    (or_else (follow_of words) (or_else (gen_of words) (selftest_of words)))
 
 -- whether a request reads its input
 abbrev pub reads_input : Request → Bool
 reads_input (Generate n count) = false
+reads_input (Selftest n count) = false
 reads_input _ = true
 
 -- the status for these bytes
@@ -53,12 +69,14 @@ abbrev pub status_for : Request → List ℕ → Status
 status_for (Judge command) bytes = status_of (verdict_of_bytes Patterns (limits_of command) bytes)
 status_for Follow bytes = run_status (run_of bytes).says
 status_for (Generate n count) bytes = status.Accepted
+status_for (Selftest n count) bytes = status.Accepted
 
 -- the text for these bytes
 abbrev pub IsTextFor : Request → List ℕ → List ℕ → Type 0
 IsTextFor (Judge command) bytes text = IsTextOf command bytes text
 IsTextFor Follow bytes text = text ≡ run_text (run_of bytes).says
 IsTextFor (Generate n count) bytes text = text ≡ gen_text n count
+IsTextFor (Selftest n count) bytes text = text ≡ selftest_text n count
 
 -- a text with this status, where it isn't told what was read
 abbrev pub IsSomeTextFor : Request → Status → List ℕ → Type 0
@@ -66,27 +84,32 @@ IsSomeTextFor (Judge command) tells text =
     (verdict : Verdict) × (tells ≡ status_of verdict) × IsSomeText command verdict text
 IsSomeTextFor Follow tells text = (says : RunSays) × (tells ≡ run_status says) × (text ≡ run_text says)
 IsSomeTextFor (Generate n count) tells text = (tells ≡ status.Accepted) × (text ≡ gen_text n count)
+IsSomeTextFor (Selftest n count) tells text = (tells ≡ status.Accepted) × (text ≡ selftest_text n count)
 
 -- the bytes that are left unread of these
 abbrev pub unread_for : Request → List ℕ → List ℕ
 unread_for (Judge command) bytes = (outcome_of Patterns (limits_of command) bytes).unread
 unread_for Follow bytes = (run_of bytes).unread
 unread_for (Generate n count) bytes = bytes
+unread_for (Selftest n count) bytes = bytes
 
 -- What is left of these bytes, where all before was read for what is said of them.
 abbrev pub ReadForAll : Request → List ℕ → Option (List ℕ) → Type 0
 ReadForAll (Judge command) bytes left = ReadTo bytes (verdict_of_bytes Patterns (limits_of command) bytes) left
 ReadForAll Follow bytes left = ReadAs (RunReadFor (run_of bytes).says) bytes left
 ReadForAll (Generate n count) bytes left = left ≡ Some bytes
+ReadForAll (Selftest n count) bytes left = left ≡ Some bytes
 
 -- a read failed, which can't be where nothing is read
 abbrev pub FaultAt : Request → List ℕ → Option (List ℕ) → Type 0
 FaultAt (Judge command) bytes left = ReadToFault (limits_of command) bytes left
 FaultAt Follow bytes left = RunToFault bytes left
 FaultAt (Generate n count) bytes left = ⊥
+FaultAt (Selftest n count) bytes left = ⊥
 
--- there was no memory, of which a generated log needs none
+-- there was no memory; to write a generated log needs none, and a self-test has read nothing then
 abbrev pub WantAt : Request → List ℕ → Option (List ℕ) → Type 0
 WantAt (Judge command) bytes left = ReadToWant command bytes left
 WantAt Follow bytes left = RunWants bytes left
 WantAt (Generate n count) bytes left = ⊥
+WantAt (Selftest n count) bytes left = left ≡ Some bytes

@@ -77,7 +77,7 @@ IsTextOf command bytes text =
 abbrev pub IsSomeText : Command → Verdict → List ℕ → Type 0
 IsSomeText command verdict text = (heading : Option Heading) × (h : List Event) × Says command heading h verdict text
 
--- the usage line, which names all commands, also those that aren't built yet
+-- the usage line, which names all commands
 abbrev pub usage_text : List ℕ
 usage_text = codes "usage: bbm check | slow | explain | walk KIND ROOT ADDR | gen N COUNT | selftest N COUNT | follow\n"
 

@@ -13,14 +13,14 @@ use Rattle.bbm_report.specs.Further.{heading_in}
 use Rattle.bbm_tlb_machine.specs.declared.step.Step.{Step}
 use Rattle.bbm_session.specs.declared.command.Command.{Command}
 use Rattle.bbm_session.specs.declared.command.Request.{Request}
-use Rattle.bbm_session.specs.declared.command.Request.TheVariants.{Judge, Follow, Generate}
+use Rattle.bbm_session.specs.declared.command.Request.TheVariants.{Judge, Follow, Generate, Selftest}
 use Rattle.bbm_session.specs.declared.status.Status.{Status}
 use Rattle.bbm_session.specs.declared.status.Status.TheVariants as status
 use Rattle.bbm_session.specs.declared.stop.Stop.{Stop}
 use Rattle.bbm_session.specs.declared.stop.Stop.TheVariants.{Decided, ReadFault, NoMemory}
 use Rattle.bbm_session.specs.Fold.{Fold}
 use Rattle.bbm_session.specs.Folds.{judging_for, following}
-use Rattle.bbm_session.specs.Generating.{gen_text}
+use Rattle.bbm_session.specs.Generating.{gen_text, selftest_text}
 use Rattle.bbm_session.specs.Run.{Says, status_of}
 use Rattle.bbm_session.specs.Runs.{followed_status, run_status}
 use Rattle.bbm_session.specs.Stages.{Breaks, Concludes, Starves}
@@ -134,6 +134,18 @@ abbrev pub Generates : ℕ → ℕ → Status → Option (List ℕ) → Option (
 Generates n count result left left' reads reads' held held' writes writes' =
     (left' ≡ left) × (reads' ≡ reads) × Wrote status.Accepted (gen_text n count) result held held' writes writes'
 
+-- a generated log was judged and the text of that was written, or there was no memory and nothing was written
+abbrev pub Tested : ℕ → ℕ → Status → Option (List ℕ) → Option (List ℕ) → ℕ → ℕ → Type 0
+Tested n count result held held' writes writes' =
+    Wrote status.Accepted (selftest_text n count) result held held' writes writes'
+    ⊎ Silent status.NoMemory result held held' writes writes'
+
+-- the same, and the source is as before
+abbrev pub Selftests : ℕ → ℕ → Status → Option (List ℕ) → Option (List ℕ) → ℕ → ℕ → Option (List ℕ)
+    → Option (List ℕ) → ℕ → ℕ → Type 0
+Selftests n count result left left' reads reads' held held' writes writes' =
+    (left' ≡ left) × (reads' ≡ reads) × Tested n count result held held' writes writes'
+
 -- what was asked for was done
 abbrev pub Serves : Request → Status → Option (List ℕ) → Option (List ℕ) → ℕ → ℕ → Option (List ℕ) → Option (List ℕ)
     → ℕ → ℕ → Type 0
@@ -143,6 +155,8 @@ Serves Follow result left left' reads reads' held held' writes writes' =
     FollowsRun result left left' reads reads' held held' writes writes'
 Serves (Generate n count) result left left' reads reads' held held' writes writes' =
     Generates n count result left left' reads reads' held held' writes writes'
+Serves (Selftest n count) result left left' reads reads' held held' writes writes' =
+    Selftests n count result left left' reads reads' held held' writes writes'
 
 -- This much of a text was written, whole and without a fault, and the rest of it is buffered.
 abbrev pub Buffered : List ℕ → List ℕ → Option (List ℕ) → Option (List ℕ) → ℕ → ℕ → Type 0

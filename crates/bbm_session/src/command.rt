@@ -3,6 +3,7 @@
 ghost use Rattle.std.specs.Prelude.{◌≡◌, map};
 ghost use Rattle.std.specs.String.{string_bytes};
 ghost use Rattle.bbm_session.specs.Requests.{event_count, follow_of, gen_asked, gen_of, request_of};
+ghost use Rattle.bbm_session.specs.Requests.{selftest_asked, selftest_of};
 ghost use Rattle.bbm_session.specs.Run.{command_alone, command_of, limits_of, or_else};
 
 use bbm_log_grammar::read_decimal;
@@ -39,6 +40,14 @@ pub enum Request {
     Follow,
     /// A generated log is written, and nothing is read.
     Generate {
+        /// The number of the log.
+        number: u64,
+        /// How many events it has, at most 4,294,967,293.
+        events: u32,
+    },
+    /// A generated log is judged event by event and never stored, and nothing is read. The line of its verdict is
+    /// written, and a line with the number of its pages and of the places that are restless at its end.
+    Selftest {
         /// The number of the log.
         number: u64,
         /// How many events it has, at most 4,294,967,293.
@@ -126,13 +135,49 @@ fn said_gen(words: &[String]) -> Option<Request>
     }
 }
 
+// The self-test of two words.
+fn read_selftest(n: &[u8], count: &[u8]) -> Option<Request>
+    ensures { result ≡ selftest_asked n.now count.now }
+{
+    let number = read_decimal(n)?;
+    let events = read_count(count)?;
+    Some(Request::Selftest { number, events })
+}
+
+// The request of the words `selftest N COUNT`.
+fn said_selftest(words: &[String]) -> Option<Request>
+    ensures { result ≡ selftest_of (map string_bytes words.now) }
+{
+    match words {
+        [word, n, count] => {
+            if word.as_bytes() == b"selftest".as_slice() {
+                read_selftest(n.as_bytes(), count.as_bytes())
+            } else {
+                None
+            }
+        }
+        _ => None,
+    }
+}
+
+// The request of words on a generated log.
+fn said_generated(words: &[String]) -> Option<Request>
+    ensures { result ≡ or_else (gen_of (map string_bytes words.now)) (selftest_of (map string_bytes words.now)) }
+{
+    match said_gen(words) {
+        Some(request) => Some(request),
+        None => said_selftest(words),
+    }
+}
+
 // The request of words that are no command.
 fn said_other(words: &[String]) -> Option<Request>
-    ensures { result ≡ or_else (follow_of (map string_bytes words.now)) (gen_of (map string_bytes words.now)) }
+    ensures { result ≡ or_else (follow_of (map string_bytes words.now))
+        (or_else (gen_of (map string_bytes words.now)) (selftest_of (map string_bytes words.now))) }
 {
     match said_follow(words) {
         Some(request) => Some(request),
-        None => said_gen(words),
+        None => said_generated(words),
     }
 }
 

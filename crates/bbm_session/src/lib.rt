@@ -10,6 +10,7 @@ mod judging;
 mod line;
 mod obeying;
 mod reading;
+mod selftesting;
 pub mod status;
 mod stop;
 mod taker;

@@ -46,7 +46,8 @@ fn judge_log<C: Checker, S: Source>(
     requires fresh { C.stands judging.old.checker header.now [] }
     requires ready { Ready lines.old 2 }
     ensures known { StopsKnown (C.frugal judging.old.checker) (C.stands judging.new.checker) judging.old.limits
-        header.now (AtEvents header.now []) result (S.left log.old) (S.left log.new) (S.faults log.old) (S.faults log.new) }
+        header.now (AtEvents header.now []) result (S.left log.old) (S.left log.new)
+        (S.faults log.old) (S.faults log.new) }
     ensures shrinks { Shrinks (S.left log.old) (S.left log.new) }
 {
     let read = read_log(alloc, header, judging, lines, log);

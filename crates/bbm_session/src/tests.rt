@@ -10,6 +10,7 @@ mod follow;
 mod generated;
 mod hostile;
 mod other_logs;
+mod selftest;
 mod slow;
 mod told_logs;
 mod usage;

@@ -8,6 +8,7 @@ ghost use Rattle.bbm_rules.specs.Claims.{Patterns};
 ghost use Rattle.bbm_tlb_machine.specs.Accepted.{SafeBytes};
 ghost use Rattle.bbm_session.specs.declared.command.Command.{Command as CommandOf};
 ghost use Rattle.bbm_session.specs.declared.command.Request.{Request as RequestOf};
+ghost use Rattle.bbm_session.specs.declared.command.Request.TheVariants.{Generate, Selftest};
 ghost use Rattle.bbm_session.specs.declared.status.Status.{Status as StatusOf};
 ghost use Rattle.bbm_session.specs.Requests.{FaultAt, IsSomeTextFor, IsTextFor, ReadForAll, WantAt, reads_input};
 ghost use Rattle.bbm_session.specs.Requests.{request_of, status_for, unread_for};
@@ -20,6 +21,7 @@ use crate::command::{Command, Request, said};
 use crate::following::follow;
 use crate::generating::generate;
 use crate::obeying::obey;
+use crate::selftesting::selftest;
 use crate::status::Status;
 use crate::telling::tell;
 use bbm_io::{Sink, Source};
@@ -28,7 +30,7 @@ use bbm_replay::Replay;
 use bbm_tlb_machine::law_accepted_is_safe;
 use std::alloc::Global;
 
-/// The usage line, which names all commands, also those that aren't built yet.
+/// The usage line, which names all commands.
 fn usage() -> &'static [u8]
     ensures { result.now ≡ usage_text }
 {
@@ -67,20 +69,22 @@ fn serve<S: Source, K: Sink>(alloc: Global, request: &Request, log: &mut S, out:
         Request::Judge(command) => judge(alloc, command, log, out),
         Request::Follow => follow(alloc, log, out),
         Request::Generate { number, events } => generate(*number, *events, out),
+        Request::Selftest { number, events } => selftest::<Replay, K>(alloc, *number, *events, out),
     }
 }
 
 /// Does what the words after the program's name ask for. With `check`, `slow`, `explain` or `walk KIND ROOT ADDR` it
 /// judges the log under the limits of that command and writes the line of its verdict. `slow` keeps all events, at most
-/// 2,000, and searches them; the others keep none, and take any number. Behind the line `explain` writes a
-/// line for each PE where break-before-make is broken, how far the place has come there; and `walk` writes where an
+/// 2,000, and searches them; the others keep none, and take any number. Behind the line of the verdict `explain` writes
+/// a line for each PE where break-before-make is broken, how far the place has come there; and `walk` writes where an
 /// accepted log maps the address ADDR at its end, by the tables of the root of KIND whose first page is ROOT. With
 /// `follow` it reads a log with lines of machine steps between its events, judges no event, and writes the line of what
 /// comes of that run. With `gen N COUNT` it writes the generated log of the number N with COUNT events, at most
-/// 4,294,967,293, and reads nothing. Any other words are answered with the usage line. Nothing else is written. `log`
-/// is read up to the line that decides, and an accepted log and a run without such a line to its end. Where the source
-/// tells what it has left and the sink what it holds, the clauses say which bytes are read and written. Source:
-/// project's own choice.
+/// 4,294,967,293, and reads nothing. With `selftest N COUNT` it judges that log event by event, stores and reads
+/// nothing, and writes that its events are accepted, and how many pages and restless places there are at its end. Any
+/// other words are answered with the usage line. Nothing else is written. `log` is read up to the line that decides,
+/// and an accepted log and a run without such a line to its end. Where the source tells what it has left and the sink
+/// what it holds, the clauses say which bytes are read and written. Source: project's own choice.
 pub fn run<S: Source, K: Sink>(
     alloc: Global,
     words: &Vec<String>,
@@ -115,12 +119,15 @@ pub fn run<S: Source, K: Sink>(
     ensures accepted_reads_all { (request : RequestOf) → request_of (map string_bytes words.now.items) ≡ Some request
         → reads_input request ≡ true → (bytes : List ℕ) → S.left log.old ≡ Some bytes → result ≡ Status.Accepted
         → S.left log.new ≡ Some [] }
-    // A generated log: nothing is read, and there is no want of memory.
+    // A generated log: nothing is read. Where it is written there is no want of memory; where it is judged its events
+    // are accepted, with the whole text, or the text was cut by a write that failed, or there was no memory.
     ensures generated_reads_nothing { (request : RequestOf)
         → request_of (map string_bytes words.now.items) ≡ Some request → reads_input request ≡ false
         → S.left log.new ≡ S.left log.old }
-    ensures generated { (request : RequestOf) → request_of (map string_bytes words.now.items) ≡ Some request
-        → reads_input request ≡ false → (result ≡ Status.Accepted) ⊎ (result ≡ Status.WriteFault) }
+    ensures generated { (n : ℕ) (count : ℕ) → request_of (map string_bytes words.now.items) ≡ Some (Generate n count)
+        → (result ≡ Status.Accepted) ⊎ (result ≡ Status.WriteFault) }
+    ensures selftested { (n : ℕ) (count : ℕ) → request_of (map string_bytes words.now.items) ≡ Some (Selftest n count)
+        → (result ≡ Status.Accepted) ⊎ ((result ≡ Status.WriteFault) ⊎ (result ≡ Status.NoMemory)) }
     // The headline: where a log is accepted, no TLB keeps what a write, an init or a register write needs gone, in any
     // run of the machine of TLBs over the log of its events.
     ensures no_stale_entry { (command : CommandOf) → command_of (map string_bytes words.now.items) ≡ Some command

@@ -7,6 +7,7 @@ ghost use Rattle.std.specs.String.{string_bytes};
 ghost use Rattle.bbm_io.specs.Faults.{Rose};
 ghost use Rattle.bbm_io.specs.Flow.{extended};
 ghost use Rattle.bbm_session.specs.declared.command.Request.{Request as RequestOf};
+ghost use Rattle.bbm_session.specs.declared.command.Request.TheVariants.{Generate, Selftest};
 ghost use Rattle.bbm_session.specs.Requests.{IsTextFor, WantAt, reads_input, request_of, status_for, unread_for};
 ghost use Rattle.bbm_session.specs.Run.{tells_verdict, usage_text};
 
@@ -45,9 +46,12 @@ pub fn run_words<S: Source, K: Sink>(
         → request_of (map string_bytes all.items) ≡ Some request → (bytes : List ℕ)
         → S.left log.old ≡ Some bytes → tells_verdict result ≡ true
         → S.left log.new ≡ Some (unread_for request bytes)) }
-    ensures generated { IfOk words (λ all. (request : RequestOf)
-        → request_of (map string_bytes all.items) ≡ Some request → reads_input request ≡ false
+    ensures generated { IfOk words (λ all. (n : ℕ) (count : ℕ)
+        → request_of (map string_bytes all.items) ≡ Some (Generate n count)
         → (result ≡ Status.Accepted) ⊎ (result ≡ Status.WriteFault)) }
+    ensures selftested { IfOk words (λ all. (n : ℕ) (count : ℕ)
+        → request_of (map string_bytes all.items) ≡ Some (Selftest n count)
+        → (result ≡ Status.Accepted) ⊎ ((result ≡ Status.WriteFault) ⊎ (result ≡ Status.NoMemory))) }
     ensures generated_reads_nothing { IfOk words (λ all. (request : RequestOf)
         → request_of (map string_bytes all.items) ≡ Some request → reads_input request ≡ false
         → S.left log.new ≡ S.left log.old) }

@@ -1,5 +1,5 @@
-//! Logs of stage 2 tables, of the Kernel world, and of later versions, with their verdicts, each worked by hand from the
-//! rules.
+//! Logs of stage 2 tables, of the Kernel world, and of later versions, with their verdicts, each worked by hand from
+//! the rules.
 
 /// Logs of stage 2 tables: the log, the text and the status.
 pub const STAGE2: [(&[u8], &[u8], u8); 7] = [

@@ -54,7 +54,15 @@ fn tells_the_usage(rt: HostRuntime) -> Result<(), Fail> {
         "gen 18446744073709551616 1",
         "gen 7 4294967294",
         "gen 7 18446744073709551616",
-        "selftest 7 1",
+        "selftest",
+        "selftest 7",
+        "selftest 7 1 1",
+        "Selftest 7 1",
+        "selftests 7 1",
+        "selftest 07 1",
+        "selftest 7 01",
+        "selftest 18446744073709551616 1",
+        "selftest 7 4294967294",
     ] {
         let bytes = log(rt.alloc(), b"", REMAP, 1, b"")?;
         let faults = Faults {
