@@ -11,7 +11,8 @@ every_same (suc n) f g same =
     ∙ ap (λ (b : Bool). g n && b) (every_same n f g (λ p below. same p (omega arith)))
 
 -- a weaker test holds where a stronger one does
-pub every_wider : (n : ℕ) (f g : ℕ → Bool) → ((p : ℕ) → f p ≡ true → g p ≡ true) → every_pe n f ≡ true → every_pe n g ≡ true
+pub every_wider : (n : ℕ) (f g : ℕ → Bool) → ((p : ℕ) → f p ≡ true → g p ≡ true) → every_pe n f ≡ true
+    → every_pe n g ≡ true
 every_wider zero f g wider h = h
 every_wider (suc n) f g wider h =
     let parts : (f n ≡ true) × (every_pe n f ≡ true) = and_parts (f n) (every_pe n f) h in
@@ -19,7 +20,8 @@ every_wider (suc n) f g wider h =
 
 pub every_from : (n : ℕ) (f : ℕ → Bool) → ((p : ℕ) → p < n → f p ≡ true) → every_pe n f ≡ true
 every_from zero f each = refl
-every_from (suc n) f each = and_from (f n) (every_pe n f) (each n (omega arith)) (every_from n f (λ p below. each p (omega arith)))
+every_from (suc n) f each =
+    and_from (f n) (every_pe n f) (each n (omega arith)) (every_from n f (λ p below. each p (omega arith)))
 
 pub every_at : (n : ℕ) (f : ℕ → Bool) → every_pe n f ≡ true → (p : ℕ) → p < n → f p ≡ true
 every_at zero f h p below = absurd (omega arith)
