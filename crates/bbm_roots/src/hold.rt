@@ -113,6 +113,7 @@ fn mark_one(holds: &mut Holds, tag: Tag, root: Page, pe: Pe)
     enter(holds, tag_key(tag), tag, root, pe);
 }
 
+// The same, by the key of the tag.
 fn enter(holds: &mut Holds, key: u32, tag: Tag, root: Page, pe: Pe)
     requires { is_some (get nat_eq holds.old key) ≡ true }
     ensures others { (q : ℕ) → nat_eq key q ≡ false → get nat_eq holds.new q ≡ get nat_eq holds.old q }
@@ -160,6 +161,7 @@ fn put_back(holds: &mut Holds, key: u32, entry: Option<Held>)
     }
 }
 
+// Puts an entry into the place of the key's.
 fn overwrite(holds: &mut Holds, key: u32, entry: Held)
     requires { is_some (get nat_eq holds.old key) ≡ true }
     ensures { (q : ℕ) → get nat_eq holds.new q ≡ (if nat_eq key q then Some entry else get nat_eq holds.old q) }
@@ -182,6 +184,7 @@ fn left_of(holds: &Holds, key: u32, pes: PeMask) -> Option<Held>
     }
 }
 
+// The entry without the PEs; None where no PE is left in it.
 fn without(held: Held, pes: PeMask) -> Option<Held>
     ensures { (g : TheTag) (r p : ℕ) → spec.entry_bit g r p result ≡ (spec.holds_bit g r p held && not (pe_in pes p)) }
 {

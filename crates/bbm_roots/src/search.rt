@@ -9,6 +9,7 @@ ghost use Rattle.bbm_roots.specs.Registers.{is_that};
 ghost use Rattle.bbm_roots.specs.Least.{IsLeast, ReadingUpTo, TagUpTo};
 
 use crate::hold::{Held, Holds, entries, some_pe, tag_key};
+use crate::load;
 use crate::reading::{Reading, has_other, same_tag, tag_rank};
 use bbm_regimes::{Page, Tag};
 use bbm_tlbi_scope::TagSet;
@@ -128,16 +129,7 @@ fn is_held_by(holds: &Holds, held: &Held, n: u8, root: Page) -> bool
         ≡ (spec.is_hold g root held.now && result) }
     ensures root { result ≡ true → held.now.root ≡ root }
 {
-    held.root == root && some_pe(held.pes, n) && is_that_root(holder_of(holds, n, held.tag), root)
-}
-
-fn is_that_root(holder: Option<Page>, root: Page) -> bool
-    ensures { result ≡ is_that holder root }
-{
-    match holder {
-        Some(holder) => holder == root,
-        None => false,
-    }
+    held.root == root && some_pe(held.pes, n) && load::is_that(holder_of(holds, n, held.tag), root)
 }
 
 // The first tag, where the entry's is one more candidate.
