@@ -3,9 +3,8 @@ use Rattle.std.proofs.Common.{◌≡◌, ℕ, ◌+◌, ◌<◌, ◌⊎◌, inl, 
 use Rattle.bbm_events.specs.Heading.{Heading}
 use Rattle.bbm_rules.specs.Prelude.{Event}
 use Rattle.bbm_rules.specs.Claims.Trust.{Patterns}
-use Rattle.bbm_rules.specs.Notes.{events_of}
 use Rattle.bbm_rules.specs.Roots.{Declared, root_at, root_pages, roots_of}
-use Rattle.bbm_rules.specs.Tree.{Above, Node, node_of, nodes_of_root, tree}
+use Rattle.bbm_rules.specs.Tree.{Node, tree}
 use Rattle.bbm_rules.specs.TreeSentences.{IsNode}
 use Rattle.bbm_replay_trees.specs.Below.{Below}
 use Rattle.bbm_replay_trees.specs.Told.{SameNodes, notes}
