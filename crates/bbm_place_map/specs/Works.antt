@@ -60,8 +60,8 @@ GivesUp work =
     ((q j : ℕ) → HoldsFor work.unpublished.items q j) × ((q j : ℕ) → HoldsFor work.waiting.items q j)
     × (work.settled ≡ true → ⊥)
 
--- Where a list doesn't have a cell no DSB of its PE publishes, or answers, anything of the cell's place; and where all is
--- settled no place waits to leave.
+-- Where a list doesn't have a cell no DSB of its PE publishes, or answers, anything of the cell's place; and where
+-- all is settled no place waits to leave.
 pub record Listed (work : Work) (cells : List Cell) (entries : List Entry) : Type 0 where
   pub some : 1 ≤ work.pes
   pub most : work.pes ≤ 128
@@ -81,4 +81,5 @@ MayComplete issuer dsb n old new = (new ≡ old) ⊎ Completes issuer dsb n old 
 
 -- something may wait at an entry only where the list of the issuer has its cell, or something may have waited before
 abbrev pub Waits : List WorkList → ℕ → Entry → Entry → Type 0
-Waits lists issuer e f = HoldsFor lists issuer e.cell ⊎ (IsIdle (pends_in e.pends.items issuer) → IsIdle (pends_in f.pends.items issuer))
+Waits lists issuer e f =
+    HoldsFor lists issuer e.cell ⊎ (IsIdle (pends_in e.pends.items issuer) → IsIdle (pends_in f.pends.items issuer))

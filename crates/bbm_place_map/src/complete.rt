@@ -33,8 +33,10 @@ fn is_table(core: Core) -> bool
 // Writes the marks of an entry, and what waits on for the answers of the issuer's TLBIs.
 fn keep(broken: &mut Vec<Entry>, k: usize, marks: Marks, issuer: Pe, left: Pends)
     requires within { k < vec_len broken.old }
-    requires idle { (e : TheEntry) → slice_get broken.old.items k ≡ Some e → IsIdle (pends_in e.pends.items issuer) → IsIdle left }
-    ensures entry { (e : TheEntry) → slice_get broken.old.items k ≡ Some e → (f : TheEntry) × (seat f ≡ seat e) × (f.marks ≡ marks)
+    requires idle { (e : TheEntry) → slice_get broken.old.items k ≡ Some e → IsIdle (pends_in e.pends.items issuer)
+        → IsIdle left }
+    ensures entry { (e : TheEntry) → slice_get broken.old.items k ≡ Some e → (f : TheEntry) × (seat f ≡ seat e)
+        × (f.marks ≡ marks)
         × WaitsAlike left (pends_in f.pends.items issuer)
         × ((q : ℕ) → q ≢ issuer → pends_in f.pends.items q ≡ pends_in e.pends.items q)
         × ((i : ℕ) → slice_get broken.new.items i ≡ (if nat_eq i k then Some f else slice_get broken.old.items i)) }
@@ -93,8 +95,8 @@ fn complete_at(
     }
 }
 
-// A DSB of the issuer answered its TLBIs at each entry. One whose place is cleansed at every PE leaves. Whether one over
-// a table left.
+// A DSB of the issuer answered its TLBIs at each entry. One whose place is cleansed at every PE leaves. Whether one
+// over a table left.
 fn complete_all(cells: &mut Vec<Cell>, broken: &mut Vec<Entry>, issuer: Pe, dsb: Dsb, n: u8) -> bool
     requires some { 1 ≤ n }
     requires most { n ≤ 128 }
@@ -144,7 +146,8 @@ fn complete_cell(
         (entry_in cells.new.items broken.new.items cell) }
     ensures answer { result ≡ loses_table (marks_in cells.old.items broken.old.items cell)
         (marks_in cells.new.items broken.new.items cell) }
-    ensures others { (i : ℕ) → i ≢ cell → entry_in cells.new.items broken.new.items i ≡ entry_in cells.old.items broken.old.items i }
+    ensures others { (i : ℕ) → i ≢ cell → entry_in cells.new.items broken.new.items i
+        ≡ entry_in cells.old.items broken.old.items i }
     ensures placed { (base : ℕ → Option ℕ) → Placed base broken.old.items → Placed base broken.new.items }
 {
     match slot_of(cells, cell) {
@@ -226,7 +229,8 @@ fn complete_list(
     requires few { vec_len cells.old < 2 ^ 32 }
     requires open { list.now.given_up ≡ false }
     requires known { (j : ℕ) → Holds list.now j ⊎ IsIdle (pends_for cells.old.items broken.old.items issuer j) }
-    requires settled { (j : ℕ) (marks : TheMarks) → marks_in cells.old.items broken.old.items j ≡ Some marks → is_clean n marks ≡ false }
+    requires settled { (j : ℕ) (marks : TheMarks) → marks_in cells.old.items broken.old.items j ≡ Some marks
+        → is_clean n marks ≡ false }
     ensures linked { Linked cells.new.items broken.new.items }
     ensures len { vec_len cells.new ≡ vec_len cells.old }
     ensures room { vec_capacity broken.new ≡ vec_capacity broken.old }
@@ -257,7 +261,8 @@ fn complete_listed(
     requires few { vec_len cells.old < 2 ^ 32 }
     requires open { list.old.given_up ≡ false }
     requires known { (j : ℕ) → Holds list.old j ⊎ IsIdle (pends_for cells.old.items broken.old.items issuer j) }
-    requires settled { (j : ℕ) (marks : TheMarks) → marks_in cells.old.items broken.old.items j ≡ Some marks → is_clean n marks ≡ false }
+    requires settled { (j : ℕ) (marks : TheMarks) → marks_in cells.old.items broken.old.items j ≡ Some marks
+        → is_clean n marks ≡ false }
     ensures linked { Linked cells.new.items broken.new.items }
     ensures len { vec_len cells.new ≡ vec_len cells.old }
     ensures room { vec_capacity broken.new ≡ vec_capacity broken.old }
@@ -296,7 +301,8 @@ fn complete_by(
     requires linked { Linked cells.old.items broken.old.items }
     requires few { vec_len cells.old < 2 ^ 32 }
     requires known { (j : ℕ) → Holds list.old j ⊎ IsIdle (pends_for cells.old.items broken.old.items issuer j) }
-    requires settled { settled ≡ true → (j : ℕ) (marks : TheMarks) → marks_in cells.old.items broken.old.items j ≡ Some marks
+    requires settled { settled ≡ true → (j : ℕ) (marks : TheMarks) → marks_in cells.old.items broken.old.items j
+        ≡ Some marks
         → is_clean n marks ≡ false }
     ensures linked { Linked cells.new.items broken.new.items }
     ensures len { vec_len cells.new ≡ vec_len cells.old }
@@ -320,8 +326,8 @@ fn complete_by(
     }
 }
 
-/// A DSB of the issuer answered its TLBIs. An entry whose place is cleansed at every PE leaves. Whether one over a table
-/// left. Where it is settled that no other place waits to leave, and the issuer's list has all cells at which something
+/// A DSB of the issuer answered its TLBIs. An entry whose place is cleansed at every PE leaves. Whether one over a
+/// table left. Where it is settled that no other place waits to leave, and the issuer's list has all cells at which something
 /// waits, only these are visited.
 pub fn complete(
     cells: &mut Vec<Cell>,
@@ -336,8 +342,10 @@ pub fn complete(
     requires most { n ≤ 128 }
     requires linked { Linked cells.old.items broken.old.items }
     requires few { vec_len cells.old < 2 ^ 32 }
-    requires known { (j : ℕ) → HoldsFor lists.old.items issuer j ⊎ IsIdle (pends_for cells.old.items broken.old.items issuer j) }
-    requires settled { settled ≡ true → (j : ℕ) (marks : TheMarks) → marks_in cells.old.items broken.old.items j ≡ Some marks
+    requires known { (j : ℕ) → HoldsFor lists.old.items issuer j
+        ⊎ IsIdle (pends_for cells.old.items broken.old.items issuer j) }
+    requires settled { settled ≡ true → (j : ℕ) (marks : TheMarks) → marks_in cells.old.items broken.old.items j
+        ≡ Some marks
         → is_clean n marks ≡ false }
     ensures linked { Linked cells.new.items broken.new.items }
     ensures len { vec_len cells.new ≡ vec_len cells.old }
@@ -345,7 +353,8 @@ pub fn complete(
     ensures values { (i : ℕ) → value_in cells.new.items i ≡ value_in cells.old.items i }
     ensures each { (j : ℕ) → Completes issuer dsb n (entry_in cells.old.items broken.old.items j)
         (entry_in cells.new.items broken.new.items j) }
-    ensures known { (j : ℕ) → HoldsFor lists.new.items issuer j ⊎ IsIdle (pends_for cells.new.items broken.new.items issuer j) }
+    ensures known { (j : ℕ) → HoldsFor lists.new.items issuer j
+        ⊎ IsIdle (pends_for cells.new.items broken.new.items issuer j) }
     ensures kept_lists { (q j : ℕ) → q ≢ issuer → HoldsFor lists.old.items q j → HoldsFor lists.new.items q j }
     ensures lost { result ≡ true → (j : ℕ) × (loses_table (marks_in cells.old.items broken.old.items j)
         (marks_in cells.new.items broken.new.items j) ≡ true) }

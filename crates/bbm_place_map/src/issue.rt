@@ -113,7 +113,8 @@ fn note_entry(
 pub fn make_room(broken: &mut Vec<Entry>, covers: &[Cover]) -> Result<(), NoMemory>
     requires { length covers.now ≡ length broken.old.items }
     ensures each { (m : ℕ) → Advances Keeps (slice_get broken.old.items m) (slice_get broken.new.items m) }
-    ensures ready { OnOk result ((m : ℕ) → Advances (Readies covers.now m) (slice_get broken.old.items m) (slice_get broken.new.items m)) }
+    ensures ready { OnOk result ((m : ℕ)
+        → Advances (Readies covers.now m) (slice_get broken.old.items m) (slice_get broken.new.items m)) }
     ensures len { length broken.new.items ≡ length broken.old.items }
     ensures room { vec_capacity broken.new ≡ vec_capacity broken.old }
 {
@@ -138,8 +139,10 @@ pub fn note(
     requires len { length covers.now ≡ length broken.old.items }
     requires ready { (m : ℕ) (e : TheEntry) → slice_get broken.old.items m ≡ Some e → (c : TheCover)
         → slice_get covers.now m ≡ Some c → spec_is_cover c ≡ true → vec_len e.pends < vec_capacity e.pends }
-    ensures each { (m : ℕ) → Advances (NotesAt covers.now issuer reach broadcast m) (slice_get broken.old.items m) (slice_get broken.new.items m) }
-    ensures waits { (m : ℕ) → Advances (Waits lists.new.items issuer) (slice_get broken.old.items m) (slice_get broken.new.items m) }
+    ensures each { (m : ℕ)
+        → Advances (NotesAt covers.now issuer reach broadcast m) (slice_get broken.old.items m) (slice_get broken.new.items m) }
+    ensures waits { (m : ℕ)
+        → Advances (Waits lists.new.items issuer) (slice_get broken.old.items m) (slice_get broken.new.items m) }
     ensures kept { (q j : ℕ) → HoldsFor lists.old.items q j → HoldsFor lists.new.items q j }
     ensures len { length broken.new.items ≡ length broken.old.items }
     ensures room { vec_capacity broken.new ≡ vec_capacity broken.old }

@@ -9,7 +9,7 @@
 //!   page is in no tree. Call `write` of that state, with the core of the new value, and `set` with its result.
 //! - At a TLBI call `issue`, with a closure that says how far it covers a place. It is asked of the broken places alone.
 //!   Where the few places that it can cover are known call `issue_at` with these.
-//! - At a DSB call `publish`, then `complete`.
+//! - At a DSB call `publish`, then `complete`. They visit the places where the DSB may change something, seldom all.
 //! - Where a page leaves its tree call `release`.
 //!
 //! `restless` and `restless_at` list the broken places. Each contract says of every place what it is after the call.

@@ -130,7 +130,8 @@ impl PlaceMap {
     /// How many places are broken.
     pub fn restless(&self) -> u64
         ensures count { result ≡ restless_in self.now }
-        ensures broken { (i : ℕ) → i < restless_in self.now → is_some (marks_at self.now (restless_place self.now i)) ≡ true }
+        ensures broken { (i : ℕ) → i < restless_in self.now → is_some (marks_at self.now (restless_place self.now i))
+            ≡ true }
         ensures each { (a : ℕ) → is_some (marks_at self.now a) ≡ true
             → (i : ℕ) × (i < restless_in self.now) × (restless_place self.now i ≡ a) }
         ensures once { (i j : ℕ) → i < restless_in self.now → j < restless_in self.now
@@ -310,7 +311,8 @@ impl PlaceMap {
     ) -> Result<Vec<Cover>, NoMemory>
         requires { F.IsAlwaysCallable cover.now }
         ensures len { IfOk result (λ covers. length covers.items ≡ length self.now.broken.items) }
-        ensures each { IfOk result (λ covers. (m : ℕ) (e : TheEntry) (c : TheCover) → slice_get self.now.broken.items m ≡ Some e
+        ensures each { IfOk result (λ covers. (m : ℕ) (e : TheEntry) (c : TheCover)
+            → slice_get self.now.broken.items m ≡ Some e
             → slice_get covers.items m ≡ Some c → MayCover F.Fn cover.now self.now e.place c) }
     {
         let mut covers = Vec::new(alloc);
@@ -360,9 +362,10 @@ impl PlaceMap {
         Ok(())
     }
 
-    /// The issuer issued a TLBI that reaches these PEs, is broadcast or not, and covers no broken place but these, each as
-    /// far as stands beside it. A place may stand there more than once, always with one cover, and one that isn't broken
-    /// counts for nothing. `NoMemory` where there is none, and nothing changes then. Only the pendings of the issuer change.
+    /// The issuer issued a TLBI that reaches these PEs, is broadcast or not, and covers no broken place but these, each
+    /// as far as stands beside it. A place may stand there more than once, always with one cover, and one that isn't
+    /// broken counts for nothing. `NoMemory` where there is none, and nothing changes then. Only the pendings of the
+    /// issuer change.
     pub fn issue_at(
         &mut self,
         alloc: Global,
@@ -374,7 +377,8 @@ impl PlaceMap {
         ensures noted { OnOk result ((f : ℕ → TheCover) → FoundAs found.now f → (a : ℕ) → is_found found.now a ≡ true
             → is_some (marks_at self.old a) ≡ true
             → Noted (state_at self.old None a) (pends_at self.old issuer a) reach broadcast (f a) (pends_at self.new issuer a)) }
-        ensures unnoted { (a : ℕ) → is_found found.now a ≡ false → pends_at self.new issuer a ≡ pends_at self.old issuer a }
+        ensures unnoted { (a : ℕ) → is_found found.now a ≡ false → pends_at self.new issuer a
+            ≡ pends_at self.old issuer a }
         ensures others { (q a : ℕ) → nat_eq q issuer ≡ false → pends_at self.new q a ≡ pends_at self.old q a }
         ensures kept { OnErr result (IsSame self.old self.new) }
         ensures values { (a : ℕ) → value_at self.new a ≡ value_at self.old a }
@@ -383,6 +387,9 @@ impl PlaceMap {
         ensures restless { restless_in self.new ≡ restless_in self.old }
         ensures places { (i : ℕ) → restless_place self.new i ≡ restless_place self.old i }
     {
+        if found.is_empty() {
+            return Ok(());
+        }
         let covers = issue::covers_of(alloc, &self.broken, found)?;
         issue::make_room(&mut self.broken, &covers)?;
         issue::note(

@@ -51,7 +51,8 @@ fn publish_all(broken: &mut Vec<Entry>, issuer: Pe, dsb: Dsb, n: u8)
     requires some { 1 ≤ n }
     requires within { n ≤ 128 }
     requires issuer_below { issuer < n }
-    ensures each { (k : ℕ) → Advances (Publishes issuer dsb n) (slice_get broken.old.items k) (slice_get broken.new.items k) }
+    ensures each { (k : ℕ)
+        → Advances (Publishes issuer dsb n) (slice_get broken.old.items k) (slice_get broken.new.items k) }
     ensures len { length broken.new.items ≡ length broken.old.items }
     ensures room { vec_capacity broken.new ≡ vec_capacity broken.old }
 {
@@ -69,7 +70,8 @@ fn publish_cell(cells: &[Cell], broken: &mut Vec<Entry>, cell: u32, issuer: Pe, 
     ensures linked { Linked cells.now broken.new.items }
     ensures here { (k : ℕ) → slot_in cells.now cell ≡ Some k
         → Advances (Publishes issuer dsb n) (slice_get broken.old.items k) (slice_get broken.new.items k) }
-    ensures others { (k : ℕ) → (slot_in cells.now cell ≡ Some k → ⊥) → slice_get broken.new.items k ≡ slice_get broken.old.items k }
+    ensures others { (k : ℕ) → (slot_in cells.now cell ≡ Some k → ⊥) → slice_get broken.new.items k
+        ≡ slice_get broken.old.items k }
     ensures len { length broken.new.items ≡ length broken.old.items }
     ensures room { vec_capacity broken.new ≡ vec_capacity broken.old }
 {
@@ -123,7 +125,8 @@ fn relist(broken: &[Entry], list: &mut WorkList, issuer: Pe, n: u8)
     requires some { 1 ≤ n }
     requires within { n ≤ 128 }
     requires issuer_below { issuer < n }
-    ensures { (k : ℕ) (e : TheEntry) → slice_get broken.now k ≡ Some e → Holds list.new e.cell ⊎ IsTold n issuer e.marks }
+    ensures { (k : ℕ) (e : TheEntry) → slice_get broken.now k ≡ Some e → Holds list.new e.cell
+        ⊎ IsTold n issuer e.marks }
 {
     restart(list, false);
     for k in 0..broken.len() {
@@ -145,8 +148,10 @@ fn publish_list(
     requires issuer_below { issuer < n }
     requires linked { Linked cells.now broken.old.items }
     requires open { list.now.given_up ≡ false }
-    requires known { (k : ℕ) (e : TheEntry) → slice_get broken.old.items k ≡ Some e → Holds list.now e.cell ⊎ IsTold n issuer e.marks }
-    ensures each { (k : ℕ) → Advances (Publishes issuer dsb n) (slice_get broken.old.items k) (slice_get broken.new.items k) }
+    requires known { (k : ℕ) (e : TheEntry) → slice_get broken.old.items k ≡ Some e → Holds list.now e.cell
+        ⊎ IsTold n issuer e.marks }
+    ensures each { (k : ℕ)
+        → Advances (Publishes issuer dsb n) (slice_get broken.old.items k) (slice_get broken.new.items k) }
     ensures len { length broken.new.items ≡ length broken.old.items }
     ensures room { vec_capacity broken.new ≡ vec_capacity broken.old }
 {
@@ -167,9 +172,12 @@ fn publish_listed(
     requires issuer_below { issuer < n }
     requires linked { Linked cells.now broken.old.items }
     requires open { list.old.given_up ≡ false }
-    requires known { (k : ℕ) (e : TheEntry) → slice_get broken.old.items k ≡ Some e → Holds list.old e.cell ⊎ IsTold n issuer e.marks }
-    ensures each { (k : ℕ) → Advances (Publishes issuer dsb n) (slice_get broken.old.items k) (slice_get broken.new.items k) }
-    ensures known { (k : ℕ) (e : TheEntry) → slice_get broken.new.items k ≡ Some e → Holds list.new e.cell ⊎ IsTold n issuer e.marks }
+    requires known { (k : ℕ) (e : TheEntry) → slice_get broken.old.items k ≡ Some e → Holds list.old e.cell
+        ⊎ IsTold n issuer e.marks }
+    ensures each { (k : ℕ)
+        → Advances (Publishes issuer dsb n) (slice_get broken.old.items k) (slice_get broken.new.items k) }
+    ensures known { (k : ℕ) (e : TheEntry) → slice_get broken.new.items k ≡ Some e → Holds list.new e.cell
+        ⊎ IsTold n issuer e.marks }
     ensures len { length broken.new.items ≡ length broken.old.items }
     ensures room { vec_capacity broken.new ≡ vec_capacity broken.old }
 {
@@ -195,9 +203,12 @@ fn publish_by(
     requires within { n ≤ 128 }
     requires issuer_below { issuer < n }
     requires linked { Linked cells.now broken.old.items }
-    requires known { (k : ℕ) (e : TheEntry) → slice_get broken.old.items k ≡ Some e → Holds list.old e.cell ⊎ IsTold n issuer e.marks }
-    ensures each { (k : ℕ) → Advances (Publishes issuer dsb n) (slice_get broken.old.items k) (slice_get broken.new.items k) }
-    ensures known { (k : ℕ) (e : TheEntry) → slice_get broken.new.items k ≡ Some e → Holds list.new e.cell ⊎ IsTold n issuer e.marks }
+    requires known { (k : ℕ) (e : TheEntry) → slice_get broken.old.items k ≡ Some e → Holds list.old e.cell
+        ⊎ IsTold n issuer e.marks }
+    ensures each { (k : ℕ)
+        → Advances (Publishes issuer dsb n) (slice_get broken.old.items k) (slice_get broken.new.items k) }
+    ensures known { (k : ℕ) (e : TheEntry) → slice_get broken.new.items k ≡ Some e → Holds list.new e.cell
+        ⊎ IsTold n issuer e.marks }
     ensures len { length broken.new.items ≡ length broken.old.items }
     ensures room { vec_capacity broken.new ≡ vec_capacity broken.old }
 {
@@ -225,7 +236,8 @@ pub fn publish(
     requires linked { Linked cells.now broken.old.items }
     requires known { (k : ℕ) (e : TheEntry) → slice_get broken.old.items k ≡ Some e
         → HoldsFor lists.old.items issuer e.cell ⊎ IsTold n issuer e.marks }
-    ensures each { (k : ℕ) → Advances (Publishes issuer dsb n) (slice_get broken.old.items k) (slice_get broken.new.items k) }
+    ensures each { (k : ℕ)
+        → Advances (Publishes issuer dsb n) (slice_get broken.old.items k) (slice_get broken.new.items k) }
     ensures known { (k : ℕ) (e : TheEntry) → slice_get broken.new.items k ≡ Some e
         → HoldsFor lists.new.items issuer e.cell ⊎ IsTold n issuer e.marks }
     ensures others { (q j : ℕ) → q ≢ issuer → HoldsFor lists.old.items q j → HoldsFor lists.new.items q j }

@@ -210,7 +210,8 @@ fn renew(work: &mut Work, n: u8, given_up: bool)
     restart_all(&mut work.waiting, given_up);
 }
 
-/// The log has `n` PEs, and so many places are broken. Where it had another number of PEs before nothing is known of these.
+/// The log has `n` PEs, and so many places are broken. Where it had another number of PEs before, nothing is known of
+/// these.
 pub fn begin(work: &mut Work, n: u8, broken: usize)
     ensures pes { work.new.pes ≡ n }
     ensures kept { (work.new ≡ work.old) ⊎ ((broken ≡ 0) ⊎ GivesUp work.new) }

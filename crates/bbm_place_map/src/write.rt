@@ -131,7 +131,8 @@ pub fn clear_page(cells: &mut Vec<Cell>, broken: &mut Vec<Entry>, base: usize)
 pub fn zero_page(cells: &mut Vec<Cell>, base: usize)
     requires { base + 512 ≤ vec_len cells.old }
     ensures len { vec_len cells.new ≡ vec_len cells.old }
-    ensures values { (i : ℕ) → value_in cells.new.items i ≡ (if in_page base 512 i then 0 else value_in cells.old.items i) }
+    ensures values { (i : ℕ) → value_in cells.new.items i
+        ≡ (if in_page base 512 i then 0 else value_in cells.old.items i) }
     ensures slots { (i : ℕ) → slot_in cells.new.items i ≡ slot_in cells.old.items i }
     ensures linked { (entries : List TheEntry) → Linked cells.old.items entries → Linked cells.new.items entries }
 {
