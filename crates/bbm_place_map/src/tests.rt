@@ -3,7 +3,7 @@
 ghost use Rattle.std.specs.Prelude.{◌<◌};
 
 use crate::example::{ISH, ISHST};
-use crate::{PlaceMap, break_before_make};
+use crate::{Found, PlaceMap, break_before_make};
 use bbm_descriptor::{Core, Memory};
 use bbm_entry_state::EntryState;
 use bbm_regimes::{NoMemory, Page, Pe, PeMask, Place};
@@ -32,13 +32,15 @@ enum Act {
     Publish,
     /// It issues a broadcast TLBI that covers this place so far, and no other.
     Flush(u64, Cover),
+    /// The same, by the list of the places.
+    FlushAt(u64, Cover),
     /// It has DSB ISH.
     Answer,
     /// The page leaves the trees.
     Release,
 }
 
-use Act::{Answer, Break, Flush, Make, Publish, Release, Track};
+use Act::{Answer, Break, Flush, FlushAt, Make, Publish, Release, Track};
 
 /// What the map says of a place at PE 1.
 #[derive(Clone, Copy, Debug, PartialEq, Eq)]
@@ -108,6 +110,11 @@ fn step(alloc: Global, map: &mut PlaceMap, page: Page, zero: Pe, act: Act) -> Re
                 }
             })?;
         }
+        FlushAt(addr, cover) => {
+            if let Some(place) = Place::new(addr) {
+                map.issue_at(alloc, zero, PeMask::all(2), true, &[Found { place, cover }])?;
+            }
+        }
         Answer => {
             map.publish(zero, ISH, 2);
             map.complete(zero, ISH, 2);
@@ -154,18 +161,43 @@ fn view_of(map: &PlaceMap, zero: Pe) -> Option<View> {
     })
 }
 
-/// What the map says after these steps.
-fn after(alloc: Global, acts: &[Act]) -> Option<View> {
+fn run(
+    alloc: Global,
+    map: &mut PlaceMap,
+    page: Page,
+    zero: Pe,
+    acts: &[Act],
+) -> Result<(), NoMemory>
+    requires { zero < 2 }
+{
+    for act in acts {
+        step(alloc, map, page, zero, *act)?;
+    }
+    Ok(())
+}
+
+/// What the map says after the first steps and then the others.
+fn after_both(alloc: Global, first: &[Act], acts: &[Act]) -> Option<View> {
     let zero = Pe::new(0)?;
     let page = Page::new(PAGE)?;
     let mut map = PlaceMap::new(alloc);
-    for act in acts {
-        match step(alloc, &mut map, page, zero, *act) {
-            Ok(()) => {}
-            Err(_) => return None,
-        }
+    if zero.get() >= 2
+        || run(alloc, &mut map, page, zero, first).is_err()
+        || run(alloc, &mut map, page, zero, acts).is_err()
+    {
+        return None;
     }
     view_of(&map, zero)
+}
+
+/// What the map says after these steps.
+fn after(alloc: Global, acts: &[Act]) -> Option<View> {
+    after_both(alloc, &[], acts)
+}
+
+/// What the map says after these steps, once the first place is broken.
+fn after_break(alloc: Global, acts: &[Act]) -> Option<View> {
+    after_both(alloc, &[Track, Make(FIRST), Break(FIRST)], acts)
 }
 
 fn says(value: u64, first: At, second: At, restless: u64, listed: Option<u64>) -> Option<View> {
@@ -183,53 +215,25 @@ fn one_place(rt: HostRuntime) {
     let alloc = rt.alloc();
     let full = Flush(FIRST, Cover::Full);
     let half = Flush(FIRST, Cover::Half);
+    let at = FlushAt(FIRST, Cover::Full);
     let clean = says(0, At::Clean, At::Clean, 0, None);
+    let live = says(VALUE, At::Live, At::Clean, 0, None);
+    let broken = says(0, At::Broken, At::Clean, 1, Some(FIRST));
     let seen = says(0, At::Seen, At::Clean, 1, Some(FIRST));
+    let waits = says(0, At::Waits, At::Clean, 1, Some(FIRST));
+    let halfway = says(0, At::Half, At::Clean, 1, Some(FIRST));
     assert_eq!(rt; after(alloc, &[]), clean);
+    assert_eq!(rt; after(alloc, &[Track, Make(FIRST)]), live);
+    assert_eq!(rt; after_break(alloc, &[]), broken);
+    assert_eq!(rt; after_break(alloc, &[full, Publish]), seen);
+    assert_eq!(rt; after_break(alloc, &[Publish, full]), waits);
+    assert_eq!(rt; after_break(alloc, &[Publish, at]), waits);
+    assert_eq!(rt; after_break(alloc, &[Publish, full, Answer]), clean);
+    assert_eq!(rt; after_break(alloc, &[Publish, at, Answer]), clean);
+    assert_eq!(rt; after_break(alloc, &[Publish, half, Answer]), halfway);
     assert_eq!(rt;
-        after(alloc, &[Track, Make(FIRST)]),
-        says(VALUE, At::Live, At::Clean, 0, None)
-    );
-    assert_eq!(rt;
-        after(alloc, &[Track, Make(FIRST), Break(FIRST)]),
-        says(0, At::Broken, At::Clean, 1, Some(FIRST))
-    );
-    assert_eq!(rt;
-        after(alloc, &[Track, Make(FIRST), Break(FIRST), full, Publish]),
-        seen
-    );
-    assert_eq!(rt;
-        after(alloc, &[Track, Make(FIRST), Break(FIRST), Publish, full]),
-        says(0, At::Waits, At::Clean, 1, Some(FIRST))
-    );
-    assert_eq!(rt;
-        after(
-            alloc,
-            &[Track, Make(FIRST), Break(FIRST), Publish, full, Answer]
-        ),
-        clean
-    );
-    assert_eq!(rt;
-        after(
-            alloc,
-            &[Track, Make(FIRST), Break(FIRST), Publish, half, Answer]
-        ),
-        says(0, At::Half, At::Clean, 1, Some(FIRST))
-    );
-    assert_eq!(rt;
-        after(
-            alloc,
-            &[
-                Track,
-                Make(FIRST),
-                Break(FIRST),
-                Publish,
-                full,
-                Make(FIRST),
-                Break(FIRST)
-            ]
-        ),
-        says(0, At::Broken, At::Clean, 1, Some(FIRST))
+        after_break(alloc, &[Publish, full, Make(FIRST), Break(FIRST)]),
+        broken
     );
 }
 
