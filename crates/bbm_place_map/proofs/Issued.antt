@@ -12,17 +12,23 @@ use Rattle.bbm_entry_state.specs.declared.state.EntryState.TheVariants.{Broken}
 use Rattle.bbm_place_map.specs.Cells.{slot_in}
 use Rattle.bbm_place_map.specs.Each.{Advances}
 use Rattle.bbm_place_map.specs.Entries.{no_pends, entry_of, pends_in, pends_of}
-use Rattle.bbm_place_map.specs.Notes.{Keeps, NotesAt, is_cover}
+use Rattle.bbm_place_map.specs.Finds.{cover_in, is_found, FoundAs}
+use Rattle.bbm_place_map.specs.Notes.{Keeps, NotesAt, NotesFound, is_cover}
 use Rattle.bbm_place_map.specs.Parts.{marks_in, pends_for}
 use Rattle.bbm_place_map.specs.Sound.{Linked, Numbered, Placed, index_of, at_index}
 use Rattle.bbm_place_map.specs.States.{state_from}
 use Rattle.bbm_place_map.specs.declared.cell.Cell.{Cell}
 use Rattle.bbm_place_map.specs.declared.entry.Entry.{Entry}
 use Rattle.bbm_place_map.specs.declared.entry.Pending.{Pending}
+use Rattle.bbm_place_map.specs.declared.found.Found.{Found}
+use Rattle.bbm_place_map.specs.declared.work.WorkList.{WorkList}
 use Rattle.bbm_place_map.proofs.Advancing.{at_both}
+use Rattle.bbm_place_map.proofs.Finding.{cover_is, cover_none}
 use Rattle.bbm_place_map.proofs.Noting.{noted_alike}
 use Rattle.bbm_place_map.proofs.Places.{index_once}
 use Rattle.bbm_place_map.proofs.Restless.{entry_there, marks_are, place_each}
+use Rattle.bbm_place_map.proofs.Visiting.{covers_of, cover_was, notes_each}
+use Rattle.std.proofs.lemmas.List.{length-map}
 
 cover_there : (covers : List Cover) (i : ℕ) → i < length covers → (c : Cover) × (slice_get covers i ≡ Some c)
 cover_there covers i within =
@@ -133,3 +139,37 @@ module _ (base : ℕ → Option ℕ) (cells : List Cell) (entries mid new : List
     unnoted_at a none =
         unnoted_in a (index_of base a) refl (at_index None (slot_in cells) (index_of base a)) refl
         (entry_of entries (at_index None (slot_in cells) (index_of base a))) refl none
+
+-- a TLBI that covers the places of a few items
+module _ (base : ℕ → Option ℕ) (cells : List Cell) (entries mid new : List Entry) (found : List Found) (issuer : ℕ) (reach : PeMask)
+    (broadcast : Bool) (lists : List WorkList) (linked : Linked cells entries) (placed : Placed base entries)
+    (kept : (m : ℕ) → Advances Keeps (slice_get entries m) (slice_get mid m)) (len : length mid ≡ length entries)
+    (each : (m : ℕ) → Advances (NotesFound found issuer reach broadcast lists) (slice_get mid m) (slice_get new m))
+    (count : ℕ) (numbered : Numbered base count) where
+  abbrev covers : List Cover
+  covers = covers_of found mid
+
+  covers_len : length covers ≡ length entries
+  covers_len = length-map mid (λ (e : Entry). cover_in found e.place) ∙ len
+
+  noted : (m : ℕ) → Advances (NotesAt covers issuer reach broadcast m) (slice_get mid m) (slice_get new m)
+  noted = notes_each found mid issuer reach broadcast lists new each
+
+  pub noted_found : (f : ℕ → Cover) → FoundAs found f → (a : ℕ) → is_found found a ≡ true
+      → is_some (at_index None (marks_in cells entries) (index_of base a)) ≡ true
+      → Noted (state_from None (at_index None (marks_in cells entries) (index_of base a)))
+      (at_index no_pends (pends_for cells entries issuer) (index_of base a)) reach broadcast (f a)
+      (at_index no_pends (pends_for cells new issuer) (index_of base a))
+  noted_found f fits a among broken =
+      let is = noted_at base cells entries mid new covers issuer reach broadcast linked placed kept noted covers_len
+      (λ (p : ℕ) (c : Cover). c ≡ cover_in found p) (cover_was found mid entries kept) count numbered a broken in
+      let P : Cover → Type 0 = λ x. Noted (state_from None (at_index None (marks_in cells entries) (index_of base a)))
+      (at_index no_pends (pends_for cells entries issuer) (index_of base a)) reach broadcast x
+      (at_index no_pends (pends_for cells new issuer) (index_of base a)) in
+      subst P (is.1 ∙ cover_is f found fits a among) is.2
+
+  pub unnoted_found : (a : ℕ) → is_found found a ≡ false
+      → at_index no_pends (pends_for cells new issuer) (index_of base a) ≡ at_index no_pends (pends_for cells entries issuer) (index_of base a)
+  unnoted_found a none =
+      unnoted_at base cells entries mid new covers issuer reach broadcast linked placed kept noted covers_len count numbered (λ p. cover_in found p)
+      (cover_was found mid entries kept) a (ap is_cover (cover_none found a none))

@@ -25,5 +25,6 @@ pub mod Completed
 pub mod Growing
 pub mod Noting
 pub mod Finding
+pub mod Visiting
 pub mod Issued
 pub mod Shown

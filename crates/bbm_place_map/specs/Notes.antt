@@ -7,7 +7,11 @@ use Rattle.bbm_tlbi_scope.specs.declared.entry.Cover.TheVariants.{None as NoCove
 use Rattle.bbm_entry_state.specs.Calls.{Noted}
 use Rattle.bbm_entry_state.specs.declared.state.EntryState.TheVariants.{Broken}
 use Rattle.bbm_place_map.specs.Entries.{pends_in}
+use Rattle.bbm_place_map.specs.Finds.{cover_in, is_found}
+use Rattle.bbm_place_map.specs.Works.{Waits}
 use Rattle.bbm_place_map.specs.declared.entry.Entry.{Entry}
+use Rattle.bbm_place_map.specs.declared.found.Found.{Found}
+use Rattle.bbm_place_map.specs.declared.work.WorkList.{WorkList}
 
 abbrev pub is_cover : Cover → Bool
 is_cover NoCover = false
@@ -39,3 +43,13 @@ NotesAt covers issuer reach broadcast m e f =
     × ((c : Cover) → slice_get covers m ≡ Some c
     → Noted (Broken e.marks) (pends_in e.pends.items issuer) reach broadcast c (pends_in f.pends.items issuer))
     × ((c : Cover) → slice_get covers m ≡ Some c → is_cover c ≡ false → f.pends.items ≡ e.pends.items)
+
+-- the TLBI is noted at one place, and no other entry changes
+abbrev pub NotesOne : ℕ → Cover → ℕ → PeMask → Bool → List WorkList → Entry → Entry → Type 0
+NotesOne place cover issuer reach broadcast lists e f =
+    (e.place ≡ place → NotesAs cover issuer reach broadcast e f) × (e.place ≢ place → f ≡ e) × Waits lists issuer e f
+
+-- the TLBI is noted as far as the items cover the place, and an entry whose place isn't among them stays
+abbrev pub NotesFound : List Found → ℕ → PeMask → Bool → List WorkList → Entry → Entry → Type 0
+NotesFound found issuer reach broadcast lists e f =
+    NotesAs (cover_in found e.place) issuer reach broadcast e f × (is_found found e.place ≡ false → f ≡ e) × Waits lists issuer e f

@@ -31,3 +31,7 @@ Placed base entries = (k : ℕ) (e : Entry) → slice_get entries k ≡ Some e �
 abbrev pub at_index : {X : Type 0} → X → (ℕ → X) → Option ℕ → X
 at_index d f None = d
 at_index d f (Some j) = f j
+
+-- the number of the entry of a place
+abbrev pub slot_at : (ℕ → Option ℕ) → List Cell → ℕ → Option ℕ
+slot_at base cells a = at_index None (slot_in cells) (index_of base a)

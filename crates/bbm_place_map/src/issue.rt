@@ -1,24 +1,28 @@
 //! What the issue of a TLBI leaves to its answer.
 
-ghost use Rattle.std.specs.Prelude.{◌≡◌, ◌≢◌, ◌≤◌, ◌<◌, ℕ, IfOk, vec_len, vec_capacity, length, slice_get, Some, OnOk, List, nat_eq, true, false, if◌then◌else◌};
+ghost use Rattle.std.specs.Prelude.{◌≡◌, ◌≢◌, ◌<◌, ◌+◌, ◌^◌, ℕ, take, vec_len, vec_capacity, length, slice_get, Some, OnOk, List, nat_eq, true, false, if◌then◌else◌};
 ghost use Rattle.bbm_entry_state.specs.Calls.{Noted};
 ghost use Rattle.bbm_entry_state.specs.Standing.{IsIdle};
 ghost use Rattle.bbm_entry_state.specs.declared.state.EntryState.TheVariants as state;
 ghost use Rattle.bbm_tlbi_scope.specs.declared.entry.Cover.{Cover as TheCover};
 ghost use Rattle.bbm_place_map.specs.Each.{Advances};
 ghost use Rattle.bbm_place_map.specs.Entries.{seat, pends_in};
-ghost use Rattle.bbm_place_map.specs.Finds.{cover_in};
-ghost use Rattle.bbm_place_map.specs.Notes.{Keeps, Readies, NotesAs, NotesAt, is_cover as spec_is_cover};
+ghost use Rattle.bbm_place_map.specs.Finds.{is_found};
+ghost use Rattle.indexmap.specs.IndexMap.{get};
+ghost use Rattle.bbm_place_map.specs.Sound.{Linked, Numbered, Placed};
+ghost use Rattle.bbm_place_map.specs.Notes.{Keeps, Readies, NotesAs, NotesAt, NotesFound, NotesOne, is_cover as spec_is_cover};
 ghost use Rattle.bbm_place_map.specs.Works.{HoldsFor, Waits};
 ghost use Rattle.bbm_place_map.specs.declared.entry.Entry.{Entry as TheEntry};
 
+use crate::cell::Cell;
 use crate::entry::{Entry, is_idle, pends_of, put_pends};
 use crate::found::Found;
+use crate::read::entry_at;
 use crate::work::{WorkList, add_for};
 use bbm_entry_state::{EntryState, Pends};
 use bbm_regimes::{NoMemory, Pe, PeMask, Place};
 use bbm_tlbi_scope::Cover;
-use std::alloc::Global;
+use indexmap::IndexMap;
 
 // Whether a TLBI covers a place at all.
 fn is_cover(cover: Cover) -> bool
@@ -152,31 +156,159 @@ pub fn note(
     }
 }
 
-// How far a place is covered by the first item of it.
-fn cover_of(found: &[Found], place: Place) -> Cover
-    ensures { result ≡ cover_in found.now place }
+// Whether a place is among the items.
+fn is_among(found: &[Found], place: Place) -> bool
+    ensures { result ≡ is_found found.now place }
 {
     for item in found {
         if item.place == place {
-            return item.cover;
+            return true;
         }
     }
-    Cover::None
+    false
 }
 
-/// How far these items cover each broken place. `NoMemory` where there is none.
-pub fn covers_of(alloc: Global, broken: &[Entry], found: &[Found]) -> Result<Vec<Cover>, NoMemory>
-    ensures len { IfOk result (λ covers. length covers.items ≡ length broken.now) }
-    ensures each { IfOk result (λ covers. (m : ℕ) (e : TheEntry) (c : TheCover) → slice_get broken.now m ≡ Some e
-        → slice_get covers.items m ≡ Some c → c ≡ cover_in found.now e.place) }
+// Makes room for one more issuer at a place, if it is broken. `NoMemory` where there is none.
+fn make_room_for(
+    pages: &IndexMap<u64, usize>,
+    cells: &[Cell],
+    broken: &mut Vec<Entry>,
+    place: Place,
+) -> Result<(), NoMemory>
+    requires numbered { Numbered (get nat_eq pages.now) (length cells.now) }
+    requires few { length cells.now < 2 ^ 32 }
+    requires linked { Linked cells.now broken.old.items }
+    requires placed { Placed (get nat_eq pages.now) broken.old.items }
+    ensures each { (m : ℕ) → Advances Keeps (slice_get broken.old.items m) (slice_get broken.new.items m) }
+    ensures ready { OnOk result ((m : ℕ) (e : TheEntry) → slice_get broken.new.items m ≡ Some e → e.place ≡ place
+        → vec_len e.pends < vec_capacity e.pends) }
+    ensures others { (m : ℕ) (e : TheEntry) → slice_get broken.new.items m ≡ Some e → e.place ≢ place
+        → slice_get broken.new.items m ≡ slice_get broken.old.items m }
+    ensures len { length broken.new.items ≡ length broken.old.items }
+    ensures room { vec_capacity broken.new ≡ vec_capacity broken.old }
 {
-    let mut covers = Vec::new(alloc);
-    for k in 0..broken.len() {
-        let cover = cover_of(found, broken[k].place);
-        match covers.push(cover) {
-            Ok(()) => {}
-            Err(_) => return Err(NoMemory),
-        }
+    match entry_at(pages, cells, place) {
+        Some(k) => make_room_at(broken, k as usize),
+        None => Ok(()),
     }
-    Ok(covers)
+}
+
+/// Makes room for one more issuer at each broken place of these items. `NoMemory` where there is none.
+pub fn make_room_found(
+    pages: &IndexMap<u64, usize>,
+    cells: &[Cell],
+    broken: &mut Vec<Entry>,
+    found: &[Found],
+) -> Result<(), NoMemory>
+    requires numbered { Numbered (get nat_eq pages.now) (length cells.now) }
+    requires few { length cells.now < 2 ^ 32 }
+    requires linked { Linked cells.now broken.old.items }
+    requires placed { Placed (get nat_eq pages.now) broken.old.items }
+    ensures each { (m : ℕ) → Advances Keeps (slice_get broken.old.items m) (slice_get broken.new.items m) }
+    ensures ready { OnOk result ((m : ℕ) (e : TheEntry) → slice_get broken.new.items m ≡ Some e
+        → is_found found.now e.place ≡ true → vec_len e.pends < vec_capacity e.pends) }
+    ensures len { length broken.new.items ≡ length broken.old.items }
+    ensures room { vec_capacity broken.new ≡ vec_capacity broken.old }
+{
+    for i in 0..found.len() {
+        make_room_for(pages, cells, broken, found[i].place)?;
+    }
+    Ok(())
+}
+
+// Notes the TLBI at a place that is covered so far, if it is broken. Its cell is listed for the issuer where something
+// waits there now.
+fn note_for(
+    pages: &IndexMap<u64, usize>,
+    cells: &[Cell],
+    broken: &mut Vec<Entry>,
+    item: Found,
+    issuer: Pe,
+    reach: PeMask,
+    broadcast: bool,
+    lists: &mut Vec<WorkList>,
+)
+    requires numbered { Numbered (get nat_eq pages.now) (length cells.now) }
+    requires few { length cells.now < 2 ^ 32 }
+    requires linked { Linked cells.now broken.old.items }
+    requires placed { Placed (get nat_eq pages.now) broken.old.items }
+    requires ready { (m : ℕ) (e : TheEntry) → slice_get broken.old.items m ≡ Some e → e.place ≡ item.place
+        → vec_len e.pends < vec_capacity e.pends }
+    ensures each { (m : ℕ) → Advances (NotesOne item.place item.cover issuer reach broadcast lists.new.items)
+        (slice_get broken.old.items m) (slice_get broken.new.items m) }
+    ensures kept { (q j : ℕ) → HoldsFor lists.old.items q j → HoldsFor lists.new.items q j }
+    ensures len { length broken.new.items ≡ length broken.old.items }
+    ensures room { vec_capacity broken.new ≡ vec_capacity broken.old }
+{
+    if let Some(k) = entry_at(pages, cells, item.place) {
+        note_entry(
+            broken, k as usize, issuer, reach, broadcast, item.cover, lists,
+        );
+    }
+}
+
+// Notes the TLBI at the place of one of the items, if no item before it is of that place.
+fn note_next(
+    pages: &IndexMap<u64, usize>,
+    cells: &[Cell],
+    broken: &mut Vec<Entry>,
+    found: &[Found],
+    i: usize,
+    issuer: Pe,
+    reach: PeMask,
+    broadcast: bool,
+    lists: &mut Vec<WorkList>,
+)
+    requires numbered { Numbered (get nat_eq pages.now) (length cells.now) }
+    requires few { length cells.now < 2 ^ 32 }
+    requires linked { Linked cells.now broken.old.items }
+    requires placed { Placed (get nat_eq pages.now) broken.old.items }
+    requires within { i < length found.now }
+    requires ready { (m : ℕ) (e : TheEntry) → slice_get broken.old.items m ≡ Some e
+        → is_found found.now e.place ≡ true → is_found (take i found.now) e.place ≡ false
+        → vec_len e.pends < vec_capacity e.pends }
+    ensures each { (start : List TheEntry) → ((m : ℕ)
+        → Advances (NotesFound (take i found.now) issuer reach broadcast lists.old.items)
+        (slice_get start m) (slice_get broken.old.items m)) → (m : ℕ)
+        → Advances (NotesFound (take (i + 1) found.now) issuer reach broadcast lists.new.items)
+        (slice_get start m) (slice_get broken.new.items m) }
+    ensures kept { (q j : ℕ) → HoldsFor lists.old.items q j → HoldsFor lists.new.items q j }
+    ensures len { length broken.new.items ≡ length broken.old.items }
+    ensures room { vec_capacity broken.new ≡ vec_capacity broken.old }
+{
+    let item = found[i];
+    if !is_among(&found[..i], item.place) {
+        note_for(pages, cells, broken, item, issuer, reach, broadcast, lists);
+    }
+}
+
+/// Notes the TLBI at each broken place of these items, as far as the first item of it says, where there is room for one
+/// more issuer. The cells of those at which something waits now are listed for the issuer.
+pub fn note_found(
+    pages: &IndexMap<u64, usize>,
+    cells: &[Cell],
+    broken: &mut Vec<Entry>,
+    found: &[Found],
+    issuer: Pe,
+    reach: PeMask,
+    broadcast: bool,
+    lists: &mut Vec<WorkList>,
+)
+    requires numbered { Numbered (get nat_eq pages.now) (length cells.now) }
+    requires few { length cells.now < 2 ^ 32 }
+    requires linked { Linked cells.now broken.old.items }
+    requires placed { Placed (get nat_eq pages.now) broken.old.items }
+    requires ready { (m : ℕ) (e : TheEntry) → slice_get broken.old.items m ≡ Some e
+        → is_found found.now e.place ≡ true → vec_len e.pends < vec_capacity e.pends }
+    ensures each { (m : ℕ) → Advances (NotesFound found.now issuer reach broadcast lists.new.items)
+        (slice_get broken.old.items m) (slice_get broken.new.items m) }
+    ensures kept { (q j : ℕ) → HoldsFor lists.old.items q j → HoldsFor lists.new.items q j }
+    ensures len { length broken.new.items ≡ length broken.old.items }
+    ensures room { vec_capacity broken.new ≡ vec_capacity broken.old }
+{
+    for i in 0..found.len() {
+        note_next(
+            pages, cells, broken, found, i, issuer, reach, broadcast, lists,
+        );
+    }
 }

@@ -368,7 +368,7 @@ impl PlaceMap {
     /// issuer change.
     pub fn issue_at(
         &mut self,
-        alloc: Global,
+        _alloc: Global,
         issuer: Pe,
         reach: PeMask,
         broadcast: bool,
@@ -390,11 +390,12 @@ impl PlaceMap {
         if found.is_empty() {
             return Ok(());
         }
-        let covers = issue::covers_of(alloc, &self.broken, found)?;
-        issue::make_room(&mut self.broken, &covers)?;
-        issue::note(
+        issue::make_room_found(&self.pages, &self.cells, &mut self.broken, found)?;
+        issue::note_found(
+            &self.pages,
+            &self.cells,
             &mut self.broken,
-            &covers,
+            found,
             issuer,
             reach,
             broadcast,

@@ -1,18 +1,20 @@
 //! What is kept of a cell.
 
-ghost use Rattle.std.specs.Prelude.{◌≡◌, ◌<◌, length, None, true};
+ghost use Rattle.std.specs.Prelude.{◌≡◌, ◌<◌, ◌^◌, length, None, nat_eq, true};
 ghost use Rattle.bbm_entry_state.specs.Points.{is_broken};
 ghost use Rattle.bbm_place_map.specs.Cells.{slot_in};
 ghost use Rattle.bbm_place_map.specs.Entries.{WaitsAlike};
 ghost use Rattle.bbm_place_map.specs.Parts.{marks_in, pends_for};
-ghost use Rattle.bbm_place_map.specs.Sound.{Linked};
+ghost use Rattle.bbm_place_map.specs.Sound.{Linked, Numbered, slot_at};
+ghost use Rattle.indexmap.specs.IndexMap.{get};
 ghost use Rattle.bbm_place_map.specs.States.{state_from};
 
 use crate::cell::Cell;
 use crate::entry::{Entry, pends_of};
 use bbm_descriptor::Core;
 use bbm_entry_state::{EntryState, Marks, Pends};
-use bbm_regimes::Pe;
+use bbm_regimes::{Pe, Place};
+use indexmap::IndexMap;
 
 /// The state of a place that isn't broken: live with this core, or clean without one.
 pub fn whole(live: Option<Core>) -> EntryState
@@ -42,6 +44,19 @@ pub fn slot_of(cells: &[Cell], j: u32) -> Option<u32>
 {
     match cells.get(j as usize) {
         Some(cell) => cell.slot,
+        None => None,
+    }
+}
+
+/// The number of a place's entry; None where the place isn't broken.
+pub fn entry_at(pages: &IndexMap<u64, usize>, cells: &[Cell], place: Place) -> Option<u32>
+    requires numbered { Numbered (get nat_eq pages.now) (length cells.now) }
+    requires few { length cells.now < 2 ^ 32 }
+    ensures { result ≡ slot_at (get nat_eq pages.now) cells.now place }
+{
+    let _ = place.get();
+    match pages.get(&place.page().get()).copied() {
+        Some(base) => slot_of(cells, (base + place.index() as usize) as u32),
         None => None,
     }
 }

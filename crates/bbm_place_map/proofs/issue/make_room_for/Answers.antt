@@ -1,0 +1,65 @@
+use Rattle.std.proofs.Common.{◌≡◌, ◌<◌, ℕ, vec_len, vec_capacity, subst, Some, arith, refl, ap, sym, ◌∙◌, inl, inr}
+use Rattle.indexmap.specs.IndexMap.{get}
+use Rattle.indexmap.proofs.MapLemmas.{OnOk-map}
+use Rattle.std.proofs.Common.{nat_eq, length, slice_get}
+use Rattle.std.proofs.lemmas.Bool.{cases_eq}
+use Rattle.std.proofs.lemmas.Option.{same_Some, none-some, slice_get_within}
+use Rattle.bbm_place_map.specs.Notes.{Keeps}
+use Rattle.bbm_place_map.specs.declared.entry.Entry.{Entry}
+use Rattle.bbm_place_map.proofs.Visiting.{slot_place, slot_of_place, one_advances, gets_off, gets_here}
+use Rattle.bbm_place_map.proofs.issue.make_room_for.Goals as goal
+
+was : (c : goal.After-make_room_at) → (e : Entry) × (slice_get c.args.broken.now.items c.in-Some.k ≡ Some e) × (e.place ≡ c.args.place)
+was c =
+    slot_place (get nat_eq c.args.pages.now) c.args.cells.now c.args.broken.now.items c.requires.linked c.requires.placed (length c.args.cells.now) c.requires.numbered
+    c.args.place c.in-Some.k (sym c.entry_at.ensures ∙ c.in-Some.is)
+
+pub make_room_at-requires : goal.make_room_at-requires
+make_room_at-requires c =
+    let e = slot_place (get nat_eq c.args.pages.now) c.args.cells.now c.args.broken.now.items c.requires.linked c.requires.placed (length c.args.cells.now) c.requires.numbered
+    c.args.place c.in-Some.k (sym c.entry_at.ensures ∙ c.in-Some.is) in
+    omega (arith, slice_get_within c.args.broken.now.items c.in-Some.k e.0 e.1)
+
+pub returns-in-Some-clause-each : goal.returns-in-Some-clause-each
+returns-in-Some-clause-each c =
+    let e = was c in
+    let f = c.make_room_at.ensures.entry e.0 e.1 in
+    one_advances Keeps c.args.broken.now.items c.make_room_at.new.broken.items c.in-Some.k e.0 f.0 e.1 f.1 f.2 f.4 (λ m x other is. (refl, refl))
+
+pub returns-in-Some-clause-ready : goal.returns-in-Some-clause-ready
+returns-in-Some-clause-ready c =
+    let e = was c in
+    let f = c.make_room_at.ensures.entry e.0 e.1 in
+    OnOk-map c.make_room_at.result (vec_len f.0.pends < vec_capacity f.0.pends)
+    ((m : ℕ) (x : Entry) → slice_get c.make_room_at.new.broken.items m ≡ Some x → x.place ≡ c.args.place → vec_len x.pends < vec_capacity x.pends)
+    (λ room m x is same.
+    let P : Entry → Type 0 = λ y. vec_len y.pends < vec_capacity y.pends in
+    elim (cases_eq m c.in-Some.k) [
+      | inl here ↦
+          subst P (sym (same_Some x f.0 (sym is ∙ ap (slice_get c.make_room_at.new.broken.items) here
+          ∙ gets_here Keeps c.args.broken.now.items c.make_room_at.new.broken.items c.in-Some.k e.0 f.0 e.1 f.1 f.2 f.4))) room
+      | inr away ↦
+          absurd (away (same_Some m c.in-Some.k
+          (sym (slot_of_place (get nat_eq c.args.pages.now) c.args.cells.now c.args.broken.now.items c.requires.linked c.requires.placed c.args.place m x
+          (sym (gets_off Keeps c.args.broken.now.items c.make_room_at.new.broken.items c.in-Some.k e.0 f.0 e.1 f.1 f.2 f.4 m away) ∙ is) same)
+          ∙ sym c.entry_at.ensures ∙ c.in-Some.is)))
+    ])
+    f.3
+
+pub returns-in-Some-clause-others : goal.returns-in-Some-clause-others
+returns-in-Some-clause-others c = λ m x is other.
+    let e = was c in
+    let f = c.make_room_at.ensures.entry e.0 e.1 in
+    elim (cases_eq m c.in-Some.k) [
+      | inl same ↦
+          absurd (other (ap (λ (y : Entry). y.place)
+          (same_Some x f.0 (sym is ∙ ap (slice_get c.make_room_at.new.broken.items) same
+          ∙ gets_here Keeps c.args.broken.now.items c.make_room_at.new.broken.items c.in-Some.k e.0 f.0 e.1 f.1 f.2 f.4))
+          ∙ ap (λ (s : ℕ × ℕ). s.0) f.1 ∙ e.2))
+      | inr away ↦ gets_off Keeps c.args.broken.now.items c.make_room_at.new.broken.items c.in-Some.k e.0 f.0 e.1 f.1 f.2 f.4 m away
+    ]
+
+pub returns-in-None-clause-ready : goal.returns-in-None-clause-ready
+returns-in-None-clause-ready c = λ m e is same.
+    absurd (none-some m (sym (sym c.entry_at.ensures ∙ c.in-None.is)
+    ∙ slot_of_place (get nat_eq c.args.pages.now) c.args.cells.now c.args.broken.now.items c.requires.linked c.requires.placed c.args.place m e is same))

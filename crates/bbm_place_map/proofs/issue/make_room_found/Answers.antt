@@ -1,0 +1,37 @@
+use Rattle.std.proofs.Common.{nat_eq, ap, sym, ◌∙◌, inl, inr, slice_get, take}
+use Rattle.std.proofs.lemmas.Bool.{cases_Bool, eq-eqb, eqb-true, false≢true}
+use Rattle.bbm_place_map.specs.Finds.{is_found}
+use Rattle.bbm_place_map.specs.Notes.{Keeps}
+use Rattle.bbm_place_map.specs.declared.found.Found.{Found}
+use Rattle.bbm_place_map.proofs.Advancing.{seat_kept}
+use Rattle.bbm_place_map.proofs.Finding.{found_off, take_more}
+use Rattle.bbm_place_map.proofs.Seats.{linked_seated}
+use Rattle.bbm_place_map.proofs.Visiting.{advance_then}
+use Rattle.std.proofs.Common.{List}
+use Rattle.bbm_place_map.proofs.issue.make_room_found.Goals as goal
+
+pub make_room_for-requires-clause-linked : goal.make_room_for-requires-clause-linked
+make_room_for-requires-clause-linked c =
+    linked_seated c.args.broken.now.items c.loop-i.broken.items
+    (λ m. seat_kept Keeps (slice_get c.args.broken.now.items m) (slice_get c.loop-i.broken.items m) (c.loop-i.invariant.each m))
+    c.args.cells.now c.loop-i.invariant.len c.requires.linked
+
+pub loop-i-preserved : goal.loop-i-preserved
+loop-i-preserved c = record {
+  each = λ m.
+      advance_then Keeps Keeps Keeps (λ e f g seated h h'. (h'.0 ∙ h.0, h'.1 ∙ h.1)) (slice_get c.args.broken.now.items m) (slice_get c.loop-i.broken.items m)
+      (slice_get c.make_room_for.new.broken.items m) (c.loop-i.invariant.each m) (c.make_room_for.ensures.each m);
+  ready = λ m e is among.
+      let x = c.index-found-i.result in
+      let xs = take c.loop-i.i c.args.found.now in
+      elim (cases_Bool (nat_eq x.place e.place)) [
+        | inl here ↦ c.in_ok-make_room_for.ensures.ready m e is (sym (eqb-true x.place e.place here) ∙ ap (λ (y : Found). y.place) c.index-found-i.is)
+        | inr off ↦
+            c.loop-i.invariant.ready m e
+            (sym (c.in_ok-make_room_for.ensures.others m e is (λ same. false≢true (sym off ∙ eq-eqb x.place e.place (ap (λ (y : Found). y.place) c.index-found-i.is ∙ sym same)))) ∙ is)
+            (sym (found_off xs x e.place off)
+            ∙ sym (ap (λ (ys : List Found). is_found ys e.place) (take_more c.args.found.now c.loop-i.i x c.loop-i-test.true c.index-found-i.is)) ∙ among)
+      ];
+  len = c.make_room_for.ensures.len ∙ c.loop-i.invariant.len;
+  room = c.make_room_for.ensures.room ∙ c.loop-i.invariant.room;
+}

@@ -1,0 +1,48 @@
+use Rattle.std.proofs.Common.{◌≡◌, ℕ, Option, nat_eq, arith, ◌∙◌, List, subst, take, slice_get}
+use Rattle.std.proofs.lemmas.List.{take_all}
+use Rattle.indexmap.specs.IndexMap.{get}
+use Rattle.bbm_place_map.specs.Each.{Advances}
+use Rattle.bbm_place_map.specs.Entries.{seat_at}
+use Rattle.bbm_place_map.specs.Notes.{NotesFound}
+use Rattle.bbm_place_map.specs.declared.entry.Entry.{Entry}
+use Rattle.bbm_place_map.specs.declared.found.Found.{Found}
+use Rattle.bbm_place_map.proofs.Advancing.{seat_kept}
+use Rattle.bbm_place_map.proofs.Seats.{linked_seated, placed_seated}
+use Rattle.bbm_place_map.proofs.Visiting.{unfound_kept}
+use Rattle.bbm_place_map.proofs.issue.note_found.Goals as goal
+
+seats : (c : goal.After-note_next-arg-in-loop-i-1) → (m : ℕ) → seat_at c.loop-i.broken.items m ≡ seat_at c.args.broken.now.items m
+seats c m =
+    seat_kept (NotesFound (take c.loop-i.i c.args.found.now) c.args.issuer c.args.reach c.args.broadcast c.loop-i.lists.items)
+    (slice_get c.args.broken.now.items m) (slice_get c.loop-i.broken.items m) (c.loop-i.invariant.each m)
+
+pub note_next-requires-clause-linked : goal.note_next-requires-clause-linked
+note_next-requires-clause-linked c =
+    linked_seated c.args.broken.now.items c.loop-i.broken.items (seats c) c.args.cells.now c.loop-i.invariant.len c.requires.linked
+
+pub note_next-requires-clause-placed : goal.note_next-requires-clause-placed
+note_next-requires-clause-placed c =
+    placed_seated c.args.broken.now.items c.loop-i.broken.items (seats c) (get nat_eq c.args.pages.now) c.requires.placed
+
+pub note_next-requires-clause-ready : goal.note_next-requires-clause-ready
+note_next-requires-clause-ready c = λ m e is among none.
+    c.requires.ready m e
+    (unfound_kept (take c.loop-i.i c.args.found.now) c.args.issuer c.args.reach c.args.broadcast c.loop-i.lists.items (slice_get c.args.broken.now.items m) e
+    (let P : Option Entry → Type 0 = λ o. Advances (NotesFound (take c.loop-i.i c.args.found.now) c.args.issuer c.args.reach c.args.broadcast c.loop-i.lists.items)
+    (slice_get c.args.broken.now.items m) o in
+    subst P is (c.loop-i.invariant.each m)) none)
+    among
+
+pub loop-i-preserved : goal.loop-i-preserved
+loop-i-preserved c = record {
+  each = c.note_next.ensures.each c.args.broken.now.items c.loop-i.invariant.each;
+  kept = λ q j holds. c.note_next.ensures.kept q j (c.loop-i.invariant.kept q j holds);
+  len = c.note_next.ensures.len ∙ c.loop-i.invariant.len;
+  room = c.note_next.ensures.room ∙ c.loop-i.invariant.room;
+}
+
+pub returns-clause-each : goal.returns-clause-each
+returns-clause-each c = λ m.
+    let P : List Found → Type 0 = λ ys. Advances (NotesFound ys c.args.issuer c.args.reach c.args.broadcast c.loop-i.lists.items)
+    (slice_get c.args.broken.now.items m) (slice_get c.loop-i.broken.items m) in
+    subst P (take_all c.loop-i.i c.args.found.now (omega arith)) (c.loop-i.invariant.each m)

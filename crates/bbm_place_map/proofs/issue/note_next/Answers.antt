@@ -1,0 +1,42 @@
+use Rattle.std.proofs.Common.{[], ◌∷◌, ◌++◌, ap, sym, ◌∙◌, List, subst, take, slice_get}
+use Rattle.bbm_place_map.specs.Each.{Advances}
+use Rattle.bbm_place_map.specs.Finds.{is_found}
+use Rattle.bbm_place_map.specs.Notes.{NotesOne, NotesFound}
+use Rattle.bbm_place_map.specs.declared.found.Found.{Found}
+use Rattle.bbm_place_map.proofs.Advancing.{advance_by}
+use Rattle.bbm_place_map.proofs.Finding.{found_at, take_more}
+use Rattle.bbm_place_map.proofs.Visiting.{advance_then, note_step, skip_step}
+use Rattle.bbm_place_map.proofs.issue.note_next.Goals as goal
+
+pub note_for-requires-clause-ready : goal.note_for-requires-clause-ready
+note_for-requires-clause-ready c = λ m e is same.
+    c.requires.ready m e is
+    (ap (is_found c.args.found.now) same ∙ found_at c.args.found.now c.args.i c.index-found-i.result c.requires.within c.index-found-i.is)
+    (ap (is_found (take c.args.i c.args.found.now)) same ∙ sym c.is_among.ensures ∙ c.if-not-is_among.true)
+
+pub returns-then-not-is_among-clause-each : goal.returns-then-not-is_among-clause-each
+returns-then-not-is_among-clause-each c = λ start before m.
+    let xs = take c.args.i c.args.found.now in
+    let x = c.index-found-i.result in
+    let lists = c.note_for.new.lists.items in
+    let P : List Found → Type 0 = λ ys.
+    Advances (NotesFound ys c.args.issuer c.args.reach c.args.broadcast lists) (slice_get start m) (slice_get c.note_for.new.broken.items m) in
+    subst P (sym (take_more c.args.found.now c.args.i x c.requires.within c.index-found-i.is))
+    (advance_then (NotesFound xs c.args.issuer c.args.reach c.args.broadcast c.args.lists.now.items)
+    (NotesOne x.place x.cover c.args.issuer c.args.reach c.args.broadcast lists)
+    (NotesFound (xs ++ x ∷ []) c.args.issuer c.args.reach c.args.broadcast lists)
+    (note_step xs x c.args.issuer c.args.reach c.args.broadcast c.args.lists.now.items lists c.note_for.ensures.kept
+    (sym c.is_among.ensures ∙ c.if-not-is_among.true))
+    (slice_get start m) (slice_get c.args.broken.now.items m) (slice_get c.note_for.new.broken.items m) (before m) (c.note_for.ensures.each m))
+
+pub returns-else-not-is_among-clause-each : goal.returns-else-not-is_among-clause-each
+returns-else-not-is_among-clause-each c = λ start before m.
+    let xs = take c.args.i c.args.found.now in
+    let x = c.index-found-i.result in
+    let lists = c.args.lists.now.items in
+    let P : List Found → Type 0 = λ ys.
+    Advances (NotesFound ys c.args.issuer c.args.reach c.args.broadcast lists) (slice_get start m) (slice_get c.args.broken.now.items m) in
+    subst P (sym (take_more c.args.found.now c.args.i x c.requires.within c.index-found-i.is))
+    (advance_by (NotesFound xs c.args.issuer c.args.reach c.args.broadcast lists) (NotesFound (xs ++ x ∷ []) c.args.issuer c.args.reach c.args.broadcast lists)
+    (skip_step xs x c.args.issuer c.args.reach c.args.broadcast lists lists (λ q j holds. holds) (sym c.is_among.ensures ∙ c.if-not-is_among.false))
+    (slice_get start m) (slice_get c.args.broken.now.items m) (before m))
