@@ -45,31 +45,43 @@ fn locks(rt: HostRuntime) -> Result<(), Fail> {
     Ok(())
 }
 
+// What stands for no event.
+fn at_the_start(alloc: Global) -> Result<RootState, NoMemory>
+    ensures { IfOk result (λ state. MayAsk (Stands state) 0) }
+{
+    let state = RootState::new(alloc, &HYP)?;
+    Ok(state)
+}
+
 // The judgement of a TLBI of PE 0 with operand 0 before any event.
-fn tlbi(alloc: Global, op: TlbiOp) -> Result<Result<(), StepFault>, Fail> {
-    let state = RootState::new(alloc, &HYP).map_err(|_| "memory")?;
-    let pe = Pe::new(0).ok_or("pe")?;
+fn tlbi(alloc: Global, pe: Pe, op: TlbiOp) -> Result<Result<(), StepFault>, NoMemory>
+    requires { pe ≡ 0 }
+{
+    let state = at_the_start(alloc)?;
     Ok(state.judge_tlbi(pe, op, 0))
 }
 
 // Whether a TLBI of PE 0 with operand 0 before any event names a scope.
-fn has_scope(alloc: Global, op: TlbiOp) -> Result<bool, Fail> {
-    let state = RootState::new(alloc, &HYP).map_err(|_| "memory")?;
-    let pe = Pe::new(0).ok_or("pe")?;
+fn has_scope(alloc: Global, pe: Pe, op: TlbiOp) -> Result<bool, NoMemory>
+    requires { pe ≡ 0 }
+{
+    let state = at_the_start(alloc)?;
     Ok(state.named_scope(pe, op, 0).is_some())
 }
 
 // The answer to a write of VTTBR_EL2 by PE 0 before any event.
-fn write(alloc: Global, value: u64) -> Result<Result<(), StepFault>, Fail> {
-    let mut state = RootState::new(alloc, &HYP).map_err(|_| "memory")?;
-    let pe = Pe::new(0).ok_or("pe")?;
+fn write(alloc: Global, pe: Pe, value: u64) -> Result<Result<(), StepFault>, NoMemory>
+    requires { pe ≡ 0 }
+{
+    let mut state = at_the_start(alloc)?;
     Ok(state.write_reg(alloc, pe, Reg::VttbrEl2, value, false))
 }
 
 // Room for a root after an ISB of PE 0.
-fn room_after_isb(alloc: Global) -> Result<Result<(), StepFault>, Fail> {
-    let mut state = RootState::new(alloc, &HYP).map_err(|_| "memory")?;
-    let pe = Pe::new(0).ok_or("pe")?;
+fn room_after_isb(alloc: Global, pe: Pe) -> Result<Result<(), StepFault>, NoMemory>
+    requires { pe ≡ 0 }
+{
+    let mut state = at_the_start(alloc)?;
     state.isb(pe);
     Ok(state.prepare(alloc))
 }
@@ -77,24 +89,37 @@ fn room_after_isb(alloc: Global) -> Result<Result<(), StepFault>, Fail> {
 #[test]
 fn first_events(rt: HostRuntime) -> Result<(), Fail> {
     let alloc = rt.alloc();
+    let pe = Pe::new(0).unwrap();
     let wrong_world = Err(StepFault::Broken(Rule::WrongWorld, 0));
     let no_root = Err(StepFault::Broken(Rule::NoRoot, ROOT));
-    assert_eq!(rt; tlbi(alloc, TlbiOp::Vmalls12e1is)?, Ok(()));
-    assert_eq!(rt; tlbi(alloc, TlbiOp::Aside1is)?, wrong_world);
-    assert!(rt; has_scope(alloc, TlbiOp::Vmalls12e1is)?);
-    assert_eq!(rt; write(alloc, ROOT)?, no_root);
-    assert_eq!(rt; write(alloc, 0)?, Ok(()));
-    assert_eq!(rt; room_after_isb(alloc)?, Ok(()));
+    let other = tlbi(alloc, pe, TlbiOp::Aside1is);
+    assert_eq!(rt;
+        tlbi(alloc, pe, TlbiOp::Vmalls12e1is).expect(&rt, "memory"),
+        Ok(())
+    );
+    assert_eq!(rt; other.expect(&rt, "memory"), wrong_world);
+    assert!(rt; has_scope(alloc, pe, TlbiOp::Vmalls12e1is).expect(&rt, "memory"));
+    assert_eq!(rt; write(alloc, pe, ROOT).expect(&rt, "memory"), no_root);
+    assert_eq!(rt; write(alloc, pe, 0).expect(&rt, "memory"), Ok(()));
+    assert_eq!(rt; room_after_isb(alloc, pe).expect(&rt, "memory"), Ok(()));
     Ok(())
+}
+
+// The VMID of PE 0 before any event.
+fn vmid(alloc: Global, pe: Pe) -> Result<Option<u16>, NoMemory>
+    requires { pe ≡ 0 }
+{
+    let state = at_the_start(alloc)?;
+    Ok(state.vmid_of(pe))
 }
 
 #[test]
 fn nothing_is_declared(rt: HostRuntime) -> Result<(), Fail> {
     let state = RootState::new(rt.alloc(), &HYP).map_err(|_| "memory")?;
-    let pe = Pe::new(0).ok_or("pe")?;
+    let pe = Pe::new(0).unwrap();
     let page = Page::new(ROOT).ok_or("page")?;
     let no_root = Err(StepFault::Broken(Rule::NoRoot, ROOT));
-    assert_eq!(rt; state.vmid_of(pe), Some(0));
+    assert_eq!(rt; vmid(rt.alloc(), pe).expect(&rt, "memory"), Some(0));
     assert_eq!(rt; state.judge_unroot(pe, page), no_root);
     assert!(rt; !state.is_root(Kind::S2, page) && !state.is_declared(page));
     assert_eq!(rt; state.lock_of(page), None);
