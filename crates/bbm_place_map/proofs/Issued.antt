@@ -4,7 +4,6 @@ use Rattle.std.specs.Option.{option_map}
 use Rattle.std.proofs.lemmas.Option.{slice_get_cases, slice_get_within, same_Some, slice_get-get_or}
 use Rattle.bbm_regimes.specs.declared.pe.PeMask.{PeMask}
 use Rattle.bbm_tlbi_scope.specs.declared.entry.Cover.{Cover}
-use Rattle.bbm_tlbi_scope.specs.declared.entry.Cover.TheVariants.{None as NoCover}
 use Rattle.bbm_entry_state.specs.Calls.{Noted}
 use Rattle.bbm_entry_state.specs.Points.{waits}
 use Rattle.bbm_entry_state.specs.declared.marks.Marks.{Marks}
@@ -37,8 +36,8 @@ cover_there covers i within =
       | inr past ↦ absurd (omega (arith, past.0))
     ]
 
-pub cover_read : (covers : List Cover) (i : ℕ) → i < length covers → slice_get covers i ≡ Some (get_or covers i NoCover)
-cover_read covers i within = slice_get-get_or covers i NoCover within
+pub cover_read : (covers : List Cover) (i : ℕ) (x y : Cover) → i < length covers → x ≡ get_or covers i x → y ≡ x → slice_get covers i ≡ Some y
+cover_read covers i x y within is same = slice_get-get_or covers i x within ∙ ap (λ (c : Cover). Some c) (sym is ∙ sym same)
 
 module _ (base : ℕ → Option ℕ) (cells : List Cell) (entries mid new : List Entry) (covers : List Cover) (issuer : ℕ) (reach : PeMask)
     (broadcast : Bool) (linked : Linked cells entries) (placed : Placed base entries)

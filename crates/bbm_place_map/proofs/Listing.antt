@@ -1,8 +1,9 @@
 -- The lists of work after each call.
-use Rattle.std.proofs.Common.{◌≡◌, ◌≢◌, ℕ, ◌≤◌, ◌<◌, ◌⊎◌, Bool, true, false, not, ◌&&◌, nat_eq, List, [], ◌∷◌, length, Option, Some, None, refl, ap, sym, subst, ◌∙◌, arith, inl, inr, slice_get, if◌then◌else◌, Vec, Global}
+use Rattle.std.proofs.Common.{◌≡◌, ◌≢◌, ℕ, ◌≤◌, ◌<◌, ◌⊎◌, Bool, true, false, not, ◌&&◌, nat_eq, List, [], ◌∷◌, length, Option, Some, None, refl, ap, sym, subst, ◌∙◌, arith, inl, inr, slice_get, if◌then◌else◌}
 use Rattle.std.specs.Option.{option_map}
 use Rattle.std.proofs.lemmas.Bool.{cases_Bool, cases_eq, cond-true, cond-false, eq-eqb, ne_eqb, false≢true}
 use Rattle.std.proofs.lemmas.Option.{same_Some, none-some}
+use Rattle.smallvec.specs.SmallVec.{SmallVec}
 use mathlib.Core.Path.{fun_ext}
 use Rattle.bbm_barriers.specs.declared.Dsb.{Dsb}
 use Rattle.bbm_regimes.specs.EveryPe.{every_pe}
@@ -206,7 +207,7 @@ pends_same : (issuer : ℕ) (dsb : Dsb) (n q : ℕ) (o p : Option Entry) → Adv
 pends_same issuer dsb n q None None h = refl
 pends_same issuer dsb n q None (Some f) h = absurd h
 pends_same issuer dsb n q (Some e) None h = absurd h
-pends_same issuer dsb n q (Some e) (Some f) h = ap (λ (v : Vec Pending Global). pends_in v.items q) h.1.0
+pends_same issuer dsb n q (Some e) (Some f) h = ap (λ (v : SmallVec Pending). pends_in v.items q) h.1.0
 
 clean_same : (issuer : ℕ) (dsb : Dsb) (n m : ℕ) (o p : Option Entry) → Advances (Publishes issuer dsb n) o p
     → ((marks : Marks) → marks_of o ≡ Some marks → is_clean m marks ≡ false) → (marks : Marks) → marks_of p ≡ Some marks → is_clean m marks ≡ false

@@ -1,10 +1,12 @@
 -- What waits, by issuer, after an edit.
-use Rattle.std.proofs.Common.{◌≡◌, ℕ, ◌+◌, ◌<◌, ◌≤◌, true, false, nat_eq, zero, suc, List, [], ◌∷◌, ◌++◌, length, get_or, set, refl, ap, sym, ◌∙◌, arith, inl, inr, if◌then◌else◌}
+use Rattle.std.proofs.Common.{◌≡◌, ℕ, ◌+◌, ◌<◌, ◌≤◌, true, false, nat_eq, zero, suc, List, [], ◌∷◌, ◌++◌, length, get_or, set, refl, ap, sym, subst, ◌∙◌, arith, inl, inr, if◌then◌else◌}
 use Rattle.std.proofs.lemmas.Bool.{cases_eq, cond-true, cond-false}
 use Rattle.std.proofs.lemmas.List.{get_or_default}
 use Rattle.bbm_entry_state.specs.declared.pending.Pends.{Pends}
-use Rattle.bbm_place_map.specs.Entries.{no_pends, pends_in, Lacks}
+use Rattle.bbm_place_map.specs.Entries.{no_pends, pends_in, HasRoom, Lacks}
 use Rattle.bbm_place_map.specs.declared.entry.Pending.{Pending}
+use Rattle.smallvec.specs.SmallVec.{SmallVec, HasRoomFor, small_vec_len, with_items}
+use Rattle.smallvec.proofs.SmallVecLemmas.{items-with_items}
 
 pub lacks_none : (ps : List Pending) (q : ℕ) → Lacks ps 0 q
 lacks_none ps q k d below within = absurd (omega arith)
@@ -58,3 +60,19 @@ more_there (p ∷ ps) y q (suc n) whole lacks is =
 pub more_others : (ps : List Pending) (y : Pending) (q : ℕ) → nat_eq y.issuer q ≡ false → pends_in (ps ++ y ∷ []) q ≡ pends_in ps q
 more_others [] y q other = cond-false (nat_eq y.issuer q) y.pends no_pends other
 more_others (p ∷ ps) y q other = ap (λ (r : Pends). if nat_eq p.issuer q then p.pends else r) (more_others ps y q other)
+
+-- a list that is written as a slice, which keeps its length
+module _ (v : SmallVec Pending) (old new : List Pending) (shown : old ≡ v.items) (len : length new ≡ length old) where
+  pub written : (with_items v new).items ≡ new
+  written = items-with_items v new (len ∙ ap (λ (ps : List Pending). length ps) shown)
+
+  pub lacks_written : (q : ℕ) → Lacks old (length old) q → Lacks v.items (length v.items) q
+  lacks_written q = let P : List Pending → Type 0 = λ ps. Lacks ps (length ps) q → Lacks v.items (length v.items) q in
+      subst P (sym shown) (λ lacks. lacks)
+
+  pub room_written : (q : ℕ) → HasRoom v q → Lacks old (length old) q → HasRoomFor (with_items v new) 1
+  room_written q room lacks =
+      let fits : small_vec_len v + 1 ≤ v.capacity = room (lacks_written q lacks) in
+      let same : small_vec_len (with_items v new) ≡ length new = ap (λ (ps : List Pending). length ps) written in
+      let was : length old ≡ length v.items = ap (λ (ps : List Pending). length ps) shown in
+      omega (arith, same, len, was, fits)

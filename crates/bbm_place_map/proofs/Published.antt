@@ -1,5 +1,6 @@
 -- What a DSB publishes, of a place.
-use Rattle.std.proofs.Common.{◌≡◌, ℕ, Bool, true, false, ◌&&◌, ◌||◌, List, Option, Some, None, refl, ap, slice_get, Vec, Global}
+use Rattle.std.proofs.Common.{◌≡◌, ℕ, Bool, true, false, ◌&&◌, ◌||◌, List, Option, Some, None, refl, ap, slice_get}
+use Rattle.smallvec.specs.SmallVec.{SmallVec}
 use Rattle.bbm_barriers.specs.declared.Dsb.{Dsb}
 use Rattle.bbm_barriers.specs.Options.{publishes}
 use Rattle.bbm_descriptor.specs.declared.desc.Core.{Core}
@@ -49,7 +50,7 @@ module _ (issuer : ℕ) (dsb : Dsb) (n : ℕ) where
   same_pends q None None h = refl
   same_pends q None (Some f) h = absurd h
   same_pends q (Some e) None h = absurd h
-  same_pends q (Some e) (Some f) h = ap (λ (v : Vec Pending Global). pends_in v.items q) h.1.0
+  same_pends q (Some e) (Some f) h = ap (λ (v : SmallVec Pending). pends_in v.items q) h.1.0
 
   module _ (cells : List Cell) (old new : List Entry)
       (each : (k : ℕ) → Advances (Publishes issuer dsb n) (slice_get old k) (slice_get new k)) where

@@ -1,8 +1,9 @@
 -- Entries that change, each in its place.
-use Rattle.std.proofs.Common.{◌≡◌, ◌≢◌, ℕ, nat_eq, List, length, Option, Some, None, refl, ap, sym, ◌∙◌, inl, inr, if◌then◌else◌, slice_get, Vec, Global}
+use Rattle.std.proofs.Common.{◌≡◌, ◌≢◌, ℕ, nat_eq, List, length, Option, Some, None, refl, ap, sym, ◌∙◌, inl, inr, if◌then◌else◌, slice_get}
 use Rattle.std.specs.Option.{option_map}
 use Rattle.std.proofs.lemmas.Bool.{cases_eq, eq-eqb, ne_eqb, cond-true, cond-false}
 use Rattle.std.proofs.lemmas.Option.{same_Some, none-some}
+use Rattle.smallvec.specs.SmallVec.{SmallVec}
 use Rattle.bbm_place_map.specs.Cells.{slot_in}
 use Rattle.bbm_place_map.specs.Entries.{seat, seat_at, cell_at, entry_of, entry_in, marks_of, pends_of, pends_in}
 use Rattle.bbm_place_map.specs.Parts.{marks_in, pends_for}
@@ -87,7 +88,7 @@ module _ (cells : List Cell) (entries entries' : List Entry) (e e' : Entry) (j k
       elim (cases_eq i j) [
         | inl here' ↦
             ap (pends_of q) (entries_changed i ∙ cond-true (nat_eq i j) (Some e') (entry_in cells entries i) (eq-eqb i j here'))
-            ∙ ap (λ (ps : List Pending). pends_in ps q) (ap (λ (v : Vec Pending Global). v.items) same)
+            ∙ ap (λ (ps : List Pending). pends_in ps q) (ap (λ (v : SmallVec Pending). v.items) same)
             ∙ sym (ap (pends_of q) (ap (entry_in cells entries) here' ∙ entry_was))
         | inr other ↦
             ap (pends_of q) (entries_changed i ∙ cond-false (nat_eq i j) (Some e') (entry_in cells entries i) (ne_eqb i j other))

@@ -12,6 +12,7 @@ use Rattle.bbm_place_map.specs.Cells.{slot_in}
 use Rattle.bbm_place_map.specs.declared.cell.Cell.{Cell}
 use Rattle.bbm_place_map.specs.declared.entry.Entry.{Entry}
 use Rattle.bbm_place_map.specs.declared.entry.Pending.{Pending}
+use Rattle.smallvec.specs.SmallVec.{SmallVec, HasRoomFor}
 
 -- no PE waits
 abbrev pub no_pend : Pend
@@ -59,3 +60,7 @@ WaitsAlike old new = (b : Bool) (c : Cover) (p : ℕ) → waits new b c p ≡ wa
 -- none of the first n is of this issuer
 abbrev pub Lacks : List Pending → ℕ → ℕ → Type 0
 Lacks ps n q = (k : ℕ) (d : Pending) → k < n → k < length ps → nat_eq (slice_index_or ps k d).issuer q ≡ false
+
+-- what waits for this issuer has its place there, or there is room for it
+abbrev pub HasRoom : SmallVec Pending → ℕ → Type 0
+HasRoom pends q = Lacks pends.items (length pends.items) q → HasRoomFor pends 1

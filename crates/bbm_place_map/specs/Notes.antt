@@ -1,12 +1,12 @@
 -- What the issue of a TLBI makes of each entry.
 -- Source: project's own choice.
-use Rattle.std.specs.Prelude.{◌≡◌, ◌≢◌, ◌<◌, ℕ, Bool, true, false, List, Some, slice_get, vec_len, vec_capacity}
+use Rattle.std.specs.Prelude.{◌≡◌, ◌≢◌, ℕ, Bool, true, false, List, Some, slice_get}
 use Rattle.bbm_regimes.specs.declared.pe.PeMask.{PeMask}
 use Rattle.bbm_tlbi_scope.specs.declared.entry.Cover.{Cover}
 use Rattle.bbm_tlbi_scope.specs.declared.entry.Cover.TheVariants.{None as NoCover, Half, Second, Full}
 use Rattle.bbm_entry_state.specs.Calls.{Noted}
 use Rattle.bbm_entry_state.specs.declared.state.EntryState.TheVariants.{Broken}
-use Rattle.bbm_place_map.specs.Entries.{pends_in}
+use Rattle.bbm_place_map.specs.Entries.{pends_in, HasRoom}
 use Rattle.bbm_place_map.specs.Finds.{cover_in, is_found}
 use Rattle.bbm_place_map.specs.Works.{Waits}
 use Rattle.bbm_place_map.specs.declared.entry.Entry.{Entry}
@@ -23,11 +23,11 @@ is_cover Full = true
 abbrev pub Keeps : Entry → Entry → Type 0
 Keeps e f = (f.marks ≡ e.marks) × (f.pends.items ≡ e.pends.items)
 
--- and there is room for one more issuer, where the place is covered
-abbrev pub Readies : List Cover → ℕ → Entry → Entry → Type 0
-Readies covers m e f =
+-- and there is room for the issuer, where the place is covered
+abbrev pub Readies : ℕ → List Cover → ℕ → Entry → Entry → Type 0
+Readies issuer covers m e f =
     (f.marks ≡ e.marks) × (f.pends.items ≡ e.pends.items)
-    × ((c : Cover) → slice_get covers m ≡ Some c → is_cover c ≡ true → vec_len f.pends < vec_capacity f.pends)
+    × ((c : Cover) → slice_get covers m ≡ Some c → is_cover c ≡ true → HasRoom f.pends issuer)
 
 -- the TLBI is noted, which covers the place so far
 abbrev pub NotesAs : Cover → ℕ → PeMask → Bool → Entry → Entry → Type 0

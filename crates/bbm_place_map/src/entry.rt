@@ -1,14 +1,15 @@
 //! What is kept of a broken place.
 
-ghost use Rattle.std.specs.Prelude.{◌≡◌, ◌≢◌, ◌<◌, ◌↔◌, ℕ, IsTrue, vec_len, vec_capacity, Bool, true, false};
+ghost use Rattle.std.specs.Prelude.{◌≡◌, ◌≢◌, ◌↔◌, ℕ, IsTrue, OnOk, length, Bool, true, false};
 ghost use Rattle.bbm_place_map.specs.Entries.{pends_in, WaitsAlike};
-ghost use Rattle.bbm_place_map.specs.Entries.{Lacks};
+ghost use Rattle.bbm_place_map.specs.Entries.{HasRoom, Lacks};
 ghost use Rattle.bbm_entry_state.specs.Points.{waits_in};
 ghost use Rattle.bbm_entry_state.specs.Standing.{IsIdle};
 ghost use Rattle.bbm_tlbi_scope.specs.declared.entry.Cover.{Cover as TheCover};
 
 use bbm_entry_state::{Marks, Pend, Pends};
-use bbm_regimes::{Pe, Place};
+use bbm_regimes::{NoMemory, Pe, Place};
+use smallvec::SmallVec;
 
 /// What waits at a place for the answers of one issuer's TLBIs. Source: project's own choice.
 #[derive(Clone, Copy, Debug)]
@@ -17,6 +18,16 @@ pub struct Pending {
     pub issuer: Pe,
     /// What waits.
     pub pends: Pends,
+}
+
+/// What fills an unused place of a list: nothing waits for an answer to PE 0.
+impl Default for Pending {
+    fn default() -> Pending {
+        Pending {
+            issuer: Pe::new(0).unwrap(),
+            pends: Pends::none(),
+        }
+    }
 }
 
 /// A broken place. Source: project's own choice.
@@ -28,8 +39,8 @@ pub struct Entry {
     pub cell: u32,
     /// How far each PE is cleansed of its core.
     pub marks: Marks,
-    /// What waits there, for each issuer of TLBIs that cover the place.
-    pub pends: Vec<Pending>,
+    /// What waits there, for each issuer of TLBIs that cover the place. Most often there is one.
+    pub pends: SmallVec<Pending, 1>,
 }
 
 // Whether no PE waits in these masks.
@@ -59,13 +70,12 @@ pub fn pends_of(pendings: &[Pending], issuer: Pe) -> Pends
 }
 
 // Writes what waits for the answers of the issuer's TLBIs, where it has an entry already. Whether it has one.
-fn put_known(pendings: &mut Vec<Pending>, issuer: Pe, pends: Pends) -> bool
-    ensures there { result ≡ true → pends_in pendings.new.items issuer ≡ pends }
-    ensures absent { result ≡ false → Lacks pendings.old.items (vec_len pendings.old) issuer }
-    ensures alone { result ≡ false → pendings.new.items ≡ pendings.old.items }
-    ensures others { (q : ℕ) → q ≢ issuer → pends_in pendings.new.items q ≡ pends_in pendings.old.items q }
-    ensures room { vec_capacity pendings.new ≡ vec_capacity pendings.old }
-    ensures len { vec_len pendings.new ≡ vec_len pendings.old }
+fn put_known(pendings: &mut [Pending], issuer: Pe, pends: Pends) -> bool
+    ensures there { result ≡ true → pends_in pendings.new issuer ≡ pends }
+    ensures absent { result ≡ false → Lacks pendings.old (length pendings.old) issuer }
+    ensures alone { result ≡ false → pendings.new ≡ pendings.old }
+    ensures others { (q : ℕ) → q ≢ issuer → pends_in pendings.new q ≡ pends_in pendings.old q }
+    ensures len { length pendings.new ≡ length pendings.old }
 {
     for i in 0..pendings.len() {
         if pendings[i].issuer == issuer {
@@ -76,22 +86,48 @@ fn put_known(pendings: &mut Vec<Pending>, issuer: Pe, pends: Pends) -> bool
     false
 }
 
-/// Writes what waits for the answers of the issuer's TLBIs, where there is room for one more issuer.
-pub fn put_pends(pendings: &mut Vec<Pending>, issuer: Pe, pends: Pends)
-    requires { vec_len pendings.old < vec_capacity pendings.old }
+// Whether something is kept for the issuer.
+fn is_known(pendings: &[Pending], issuer: Pe) -> bool
+    ensures { result ≡ true → Lacks pendings.now (length pendings.now) issuer → ⊥ }
+{
+    for pending in pendings {
+        if pending.issuer == issuer {
+            return true;
+        }
+    }
+    false
+}
+
+/// Makes room for what waits for the answers of the issuer's TLBIs. `NoMemory` where there is none.
+pub fn make_room_for_issuer(pendings: &mut SmallVec<Pending, 1>, issuer: Pe) -> Result<(), NoMemory>
+    ensures items { pendings.new.items ≡ pendings.old.items }
+    ensures room { OnOk result (HasRoom pendings.new issuer) }
+{
+    if is_known(pendings.as_slice(), issuer) {
+        return Ok(());
+    }
+    match pendings.reserve(1) {
+        Ok(()) => Ok(()),
+        Err(_) => Err(NoMemory),
+    }
+}
+
+/// Writes what waits for the answers of the issuer's TLBIs, where there is room for that.
+pub fn put_pends(pendings: &mut SmallVec<Pending, 1>, issuer: Pe, pends: Pends)
+    requires { HasRoom pendings.old issuer }
     ensures there { pends_in pendings.new.items issuer ≡ pends }
     ensures others { (q : ℕ) → q ≢ issuer → pends_in pendings.new.items q ≡ pends_in pendings.old.items q }
 {
-    if !put_known(pendings, issuer, pends) {
+    if !put_known(pendings.as_mut_slice(), issuer, pends) {
         pendings.push_reserved(Pending { issuer, pends });
     }
 }
 
 /// Writes what waits for the answers of the issuer's TLBIs, which is nothing where nothing waited.
-pub fn keep_pends(pendings: &mut Vec<Pending>, issuer: Pe, pends: Pends)
+pub fn keep_pends(pendings: &mut SmallVec<Pending, 1>, issuer: Pe, pends: Pends)
     requires { IsIdle (pends_in pendings.old.items issuer) → IsIdle pends }
     ensures there { WaitsAlike pends (pends_in pendings.new.items issuer) }
     ensures others { (q : ℕ) → q ≢ issuer → pends_in pendings.new.items q ≡ pends_in pendings.old.items q }
 {
-    put_known(pendings, issuer, pends);
+    put_known(pendings.as_mut_slice(), issuer, pends);
 }

@@ -2,6 +2,7 @@
 
 use bbm_regimes::Place;
 use bbm_tlbi_scope::Cover;
+use std::marker::Model;
 
 /// A place, and how far a TLBI covers it. Source: project's own choice.
 #[derive(Clone, Copy, Debug)]
@@ -10,4 +11,45 @@ pub struct Found {
     pub place: Place,
     /// How far it is covered.
     pub cover: Cover,
+}
+
+/// How far a TLBI covers one of the broken places. Contracts see the cover. Source: project's own choice.
+#[derive(Clone, Copy, Debug)]
+pub struct Answer {
+    cover: Cover,
+}
+
+impl Model for Answer {
+    ghost use Rattle.bbm_tlbi_scope.specs.declared.entry.Cover.{Cover as TheCover};
+
+    ghost Value = { TheCover };
+
+    ghost view = { λ answer. answer.cover };
+
+    ghost inverse = { λ cover. record { cover = cover } };
+}
+
+/// What fills an unused place of a list: no cover.
+impl Default for Answer {
+    fn default() -> Answer {
+        Answer { cover: Cover::None }
+    }
+}
+
+impl Answer {
+    ghost use Rattle.std.specs.Prelude.{◌≡◌};
+
+    /// This cover.
+    pub fn new(cover: Cover) -> Answer
+        ensures { result ≡ cover }
+    {
+        Answer { cover }
+    }
+
+    /// The cover.
+    pub fn get(self) -> Cover
+        ensures { result ≡ self }
+    {
+        self.cover
+    }
 }

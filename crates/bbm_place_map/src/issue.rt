@@ -6,7 +6,7 @@ ghost use Rattle.bbm_entry_state.specs.Standing.{IsIdle};
 ghost use Rattle.bbm_entry_state.specs.declared.state.EntryState.TheVariants as state;
 ghost use Rattle.bbm_tlbi_scope.specs.declared.entry.Cover.{Cover as TheCover};
 ghost use Rattle.bbm_place_map.specs.Each.{Advances};
-ghost use Rattle.bbm_place_map.specs.Entries.{seat, pends_in};
+ghost use Rattle.bbm_place_map.specs.Entries.{seat, pends_in, HasRoom};
 ghost use Rattle.bbm_place_map.specs.Finds.{is_found};
 ghost use Rattle.indexmap.specs.IndexMap.{get};
 ghost use Rattle.bbm_place_map.specs.Sound.{Linked, Numbered, Placed};
@@ -15,8 +15,8 @@ ghost use Rattle.bbm_place_map.specs.Works.{HoldsFor, Waits};
 ghost use Rattle.bbm_place_map.specs.declared.entry.Entry.{Entry as TheEntry};
 
 use crate::cell::Cell;
-use crate::entry::{Entry, is_idle, pends_of, put_pends};
-use crate::found::Found;
+use crate::entry::{Entry, is_idle, make_room_for_issuer, pends_of, put_pends};
+use crate::found::{Answer, Found};
 use crate::read::entry_at;
 use crate::work::{WorkList, add_for};
 use bbm_entry_state::{EntryState, Pends};
@@ -36,20 +36,17 @@ fn is_cover(cover: Cover) -> bool
     }
 }
 
-// Makes room at an entry for one more issuer. `NoMemory` where there is none.
-fn make_room_at(broken: &mut Vec<Entry>, k: usize) -> Result<(), NoMemory>
+// Makes room at an entry for what waits for the issuer. `NoMemory` where there is none.
+fn make_room_at(broken: &mut Vec<Entry>, k: usize, issuer: Pe) -> Result<(), NoMemory>
     requires { k < vec_len broken.old }
     ensures entry { (e : TheEntry) → slice_get broken.old.items k ≡ Some e → (f : TheEntry) × (seat f ≡ seat e)
-        × Keeps e f × OnOk result (vec_len f.pends < vec_capacity f.pends)
+        × Keeps e f × OnOk result (HasRoom f.pends issuer)
         × ((i : ℕ) → slice_get broken.new.items i ≡ (if nat_eq i k then Some f else slice_get broken.old.items i)) }
     ensures len { length broken.new.items ≡ length broken.old.items }
     ensures room { vec_capacity broken.new ≡ vec_capacity broken.old }
 {
     let entry = &mut broken[k];
-    match entry.pends.reserve_exact(1) {
-        Ok(()) => Ok(()),
-        Err(_) => Err(NoMemory),
-    }
+    make_room_for_issuer(&mut entry.pends, issuer)
 }
 
 // Whether something waits after, and nothing did before.
@@ -59,7 +56,7 @@ fn starts_waiting(before: &Pends, after: &Pends) -> bool
     is_idle(before) && !is_idle(after)
 }
 
-// Notes the TLBI at an entry with room for one more issuer. Whether something waits there now, and nothing did.
+// Notes the TLBI at an entry with room for its issuer. Whether something waits there now, and nothing did.
 fn note_at(
     broken: &mut Vec<Entry>,
     k: usize,
@@ -69,7 +66,7 @@ fn note_at(
     cover: Cover,
 ) -> bool
     requires within { k < vec_len broken.old }
-    requires ready { (e : TheEntry) → slice_get broken.old.items k ≡ Some e → vec_len e.pends < vec_capacity e.pends }
+    requires ready { (e : TheEntry) → slice_get broken.old.items k ≡ Some e → HasRoom e.pends issuer }
     ensures entry { (e : TheEntry) → slice_get broken.old.items k ≡ Some e → (f : TheEntry) × (seat f ≡ seat e)
         × (f.marks ≡ e.marks) × ((q : ℕ) → q ≢ issuer → pends_in f.pends.items q ≡ pends_in e.pends.items q)
         × Noted (state.Broken e.marks) (pends_in e.pends.items issuer) reach broadcast cover (pends_in f.pends.items issuer)
@@ -98,7 +95,7 @@ fn note_entry(
 )
     requires within { k < vec_len broken.old }
     requires ready { (e : TheEntry) → slice_get broken.old.items k ≡ Some e → spec_is_cover cover ≡ true
-        → vec_len e.pends < vec_capacity e.pends }
+        → HasRoom e.pends issuer }
     ensures entry { (e : TheEntry) → slice_get broken.old.items k ≡ Some e → (f : TheEntry) × (seat f ≡ seat e)
         × NotesAs cover issuer reach broadcast e f × Waits lists.new.items issuer e f
         × ((i : ℕ) → slice_get broken.new.items i ≡ (if nat_eq i k then Some f else slice_get broken.old.items i)) }
@@ -113,28 +110,28 @@ fn note_entry(
     }
 }
 
-/// Makes room for one more issuer at each place that is covered. `NoMemory` where there is none.
-pub fn make_room(broken: &mut Vec<Entry>, covers: &[Cover]) -> Result<(), NoMemory>
+/// Makes room for the issuer at each place that is covered. `NoMemory` where there is none.
+pub fn make_room(broken: &mut Vec<Entry>, covers: &[Answer], issuer: Pe) -> Result<(), NoMemory>
     requires { length covers.now ≡ length broken.old.items }
     ensures each { (m : ℕ) → Advances Keeps (slice_get broken.old.items m) (slice_get broken.new.items m) }
     ensures ready { OnOk result ((m : ℕ)
-        → Advances (Readies covers.now m) (slice_get broken.old.items m) (slice_get broken.new.items m)) }
+        → Advances (Readies issuer covers.now m) (slice_get broken.old.items m) (slice_get broken.new.items m)) }
     ensures len { length broken.new.items ≡ length broken.old.items }
     ensures room { vec_capacity broken.new ≡ vec_capacity broken.old }
 {
     for k in 0..broken.len() {
-        if is_cover(covers[k]) {
-            make_room_at(broken, k)?;
+        if is_cover(covers[k].get()) {
+            make_room_at(broken, k, issuer)?;
         }
     }
     Ok(())
 }
 
-/// Notes the TLBI at each place that is covered, where there is room for one more issuer. The cells of those at which
+/// Notes the TLBI at each place that is covered, where there is room for its issuer. The cells of those at which
 /// something waits now are listed for the issuer.
 pub fn note(
     broken: &mut Vec<Entry>,
-    covers: &[Cover],
+    covers: &[Answer],
     issuer: Pe,
     reach: PeMask,
     broadcast: bool,
@@ -142,7 +139,7 @@ pub fn note(
 )
     requires len { length covers.now ≡ length broken.old.items }
     requires ready { (m : ℕ) (e : TheEntry) → slice_get broken.old.items m ≡ Some e → (c : TheCover)
-        → slice_get covers.now m ≡ Some c → spec_is_cover c ≡ true → vec_len e.pends < vec_capacity e.pends }
+        → slice_get covers.now m ≡ Some c → spec_is_cover c ≡ true → HasRoom e.pends issuer }
     ensures each { (m : ℕ)
         → Advances (NotesAt covers.now issuer reach broadcast m) (slice_get broken.old.items m) (slice_get broken.new.items m) }
     ensures waits { (m : ℕ)
@@ -152,7 +149,8 @@ pub fn note(
     ensures room { vec_capacity broken.new ≡ vec_capacity broken.old }
 {
     for k in 0..broken.len() {
-        note_entry(broken, k, issuer, reach, broadcast, covers[k], lists);
+        let cover = covers[k].get();
+        note_entry(broken, k, issuer, reach, broadcast, cover, lists);
     }
 }
 
@@ -168,12 +166,13 @@ fn is_among(found: &[Found], place: Place) -> bool
     false
 }
 
-// Makes room for one more issuer at a place, if it is broken. `NoMemory` where there is none.
+// Makes room for the issuer at a place, if it is broken. `NoMemory` where there is none.
 fn make_room_for(
     pages: &IndexMap<u64, usize>,
     cells: &[Cell],
     broken: &mut Vec<Entry>,
     place: Place,
+    issuer: Pe,
 ) -> Result<(), NoMemory>
     requires numbered { Numbered (get nat_eq pages.now) (length cells.now) }
     requires few { length cells.now < 2 ^ 32 }
@@ -181,24 +180,25 @@ fn make_room_for(
     requires placed { Placed (get nat_eq pages.now) broken.old.items }
     ensures each { (m : ℕ) → Advances Keeps (slice_get broken.old.items m) (slice_get broken.new.items m) }
     ensures ready { OnOk result ((m : ℕ) (e : TheEntry) → slice_get broken.new.items m ≡ Some e → e.place ≡ place
-        → vec_len e.pends < vec_capacity e.pends) }
+        → HasRoom e.pends issuer) }
     ensures others { (m : ℕ) (e : TheEntry) → slice_get broken.new.items m ≡ Some e → e.place ≢ place
         → slice_get broken.new.items m ≡ slice_get broken.old.items m }
     ensures len { length broken.new.items ≡ length broken.old.items }
     ensures room { vec_capacity broken.new ≡ vec_capacity broken.old }
 {
     match entry_at(pages, cells, place) {
-        Some(k) => make_room_at(broken, k as usize),
+        Some(k) => make_room_at(broken, k as usize, issuer),
         None => Ok(()),
     }
 }
 
-/// Makes room for one more issuer at each broken place of these items. `NoMemory` where there is none.
+/// Makes room for the issuer at each broken place of these items. `NoMemory` where there is none.
 pub fn make_room_found(
     pages: &IndexMap<u64, usize>,
     cells: &[Cell],
     broken: &mut Vec<Entry>,
     found: &[Found],
+    issuer: Pe,
 ) -> Result<(), NoMemory>
     requires numbered { Numbered (get nat_eq pages.now) (length cells.now) }
     requires few { length cells.now < 2 ^ 32 }
@@ -206,12 +206,12 @@ pub fn make_room_found(
     requires placed { Placed (get nat_eq pages.now) broken.old.items }
     ensures each { (m : ℕ) → Advances Keeps (slice_get broken.old.items m) (slice_get broken.new.items m) }
     ensures ready { OnOk result ((m : ℕ) (e : TheEntry) → slice_get broken.new.items m ≡ Some e
-        → is_found found.now e.place ≡ true → vec_len e.pends < vec_capacity e.pends) }
+        → is_found found.now e.place ≡ true → HasRoom e.pends issuer) }
     ensures len { length broken.new.items ≡ length broken.old.items }
     ensures room { vec_capacity broken.new ≡ vec_capacity broken.old }
 {
     for i in 0..found.len() {
-        make_room_for(pages, cells, broken, found[i].place)?;
+        make_room_for(pages, cells, broken, found[i].place, issuer)?;
     }
     Ok(())
 }
@@ -233,7 +233,7 @@ fn note_for(
     requires linked { Linked cells.now broken.old.items }
     requires placed { Placed (get nat_eq pages.now) broken.old.items }
     requires ready { (m : ℕ) (e : TheEntry) → slice_get broken.old.items m ≡ Some e → e.place ≡ item.place
-        → vec_len e.pends < vec_capacity e.pends }
+        → HasRoom e.pends issuer }
     ensures each { (m : ℕ) → Advances (NotesOne item.place item.cover issuer reach broadcast lists.new.items)
         (slice_get broken.old.items m) (slice_get broken.new.items m) }
     ensures kept { (q j : ℕ) → HoldsFor lists.old.items q j → HoldsFor lists.new.items q j }
@@ -266,7 +266,7 @@ fn note_next(
     requires within { i < length found.now }
     requires ready { (m : ℕ) (e : TheEntry) → slice_get broken.old.items m ≡ Some e
         → is_found found.now e.place ≡ true → is_found (take i found.now) e.place ≡ false
-        → vec_len e.pends < vec_capacity e.pends }
+        → HasRoom e.pends issuer }
     ensures each { (start : List TheEntry) → ((m : ℕ)
         → Advances (NotesFound (take i found.now) issuer reach broadcast lists.old.items)
         (slice_get start m) (slice_get broken.old.items m)) → (m : ℕ)
@@ -282,8 +282,8 @@ fn note_next(
     }
 }
 
-/// Notes the TLBI at each broken place of these items, as far as the first item of it says, where there is room for one
-/// more issuer. The cells of those at which something waits now are listed for the issuer.
+/// Notes the TLBI at each broken place of these items, as far as the first item of it says, where there is room for its
+/// issuer. The cells of those at which something waits now are listed for the issuer.
 pub fn note_found(
     pages: &IndexMap<u64, usize>,
     cells: &[Cell],
@@ -299,7 +299,7 @@ pub fn note_found(
     requires linked { Linked cells.now broken.old.items }
     requires placed { Placed (get nat_eq pages.now) broken.old.items }
     requires ready { (m : ℕ) (e : TheEntry) → slice_get broken.old.items m ≡ Some e
-        → is_found found.now e.place ≡ true → vec_len e.pends < vec_capacity e.pends }
+        → is_found found.now e.place ≡ true → HasRoom e.pends issuer }
     ensures each { (m : ℕ) → Advances (NotesFound found.now issuer reach broadcast lists.new.items)
         (slice_get broken.old.items m) (slice_get broken.new.items m) }
     ensures kept { (q j : ℕ) → HoldsFor lists.old.items q j → HoldsFor lists.new.items q j }

@@ -12,6 +12,7 @@ use crate::cell::Cell;
 use crate::entry::Entry;
 use bbm_entry_state::{EntryState, Marks};
 use bbm_regimes::Place;
+use smallvec::SmallVec;
 use std::alloc::Global;
 
 /// Writes the value of a cell.
@@ -69,7 +70,7 @@ pub fn link(
         place,
         cell: j as u32,
         marks,
-        pends: Vec::new(alloc),
+        pends: SmallVec::new(alloc),
     });
     put_slot(cells, j, Some(number));
 }

@@ -8,7 +8,7 @@ ghost use Rattle.bbm_place_map.specs.Works.{Listed};
 
 use crate::cell::Cell;
 use crate::entry::Entry;
-use crate::found::Found;
+use crate::found::{Answer, Found};
 use crate::work::{self, Work};
 use crate::{complete, issue, publish, read, write};
 use bbm_barriers::Dsb;
@@ -17,6 +17,7 @@ use bbm_entry_state::{EntryState, Pends};
 use bbm_regimes::{Kind, NoMemory, Page, Pe, PeMask, Place};
 use bbm_tlbi_scope::Cover;
 use indexmap::IndexMap;
+use smallvec::SmallVec;
 use std::alloc::Global;
 
 /// The number of cells that may be kept. Source: project's own choice.
@@ -308,17 +309,17 @@ impl PlaceMap {
         &self,
         alloc: Global,
         cover: &F,
-    ) -> Result<Vec<Cover>, NoMemory>
+    ) -> Result<SmallVec<Answer, 8>, NoMemory>
         requires { F.IsAlwaysCallable cover.now }
         ensures len { IfOk result (λ covers. length covers.items ≡ length self.now.broken.items) }
         ensures each { IfOk result (λ covers. (m : ℕ) (e : TheEntry) (c : TheCover)
             → slice_get self.now.broken.items m ≡ Some e
             → slice_get covers.items m ≡ Some c → MayCover F.Fn cover.now self.now e.place c) }
     {
-        let mut covers = Vec::new(alloc);
+        let mut covers = SmallVec::new(alloc);
         for k in 0..self.broken.len() {
             let found = cover(self, self.broken[k].place);
-            match covers.push(found) {
+            match covers.push(Answer::new(found)) {
                 Ok(()) => {}
                 Err(_) => return Err(NoMemory),
             }
@@ -350,7 +351,7 @@ impl PlaceMap {
         ensures places { (i : ℕ) → restless_place self.new i ≡ restless_place self.old i }
     {
         let covers = self.covers(alloc, &cover)?;
-        issue::make_room(&mut self.broken, &covers)?;
+        issue::make_room(&mut self.broken, &covers, issuer)?;
         issue::note(
             &mut self.broken,
             &covers,
@@ -390,7 +391,7 @@ impl PlaceMap {
         if found.is_empty() {
             return Ok(());
         }
-        issue::make_room_found(&self.pages, &self.cells, &mut self.broken, found)?;
+        issue::make_room_found(&self.pages, &self.cells, &mut self.broken, found, issuer)?;
         issue::note_found(
             &self.pages,
             &self.cells,

@@ -9,7 +9,7 @@ use Rattle.bbm_place_map.proofs.complete.complete_at.Goals as goal
 pub keep-requires-clause-idle : goal.keep-requires-clause-idle
 keep-requires-clause-idle c =
     idle_left c.args.broken.now.items c.args.k c.index.result.now c.index-2.result.now c.deref.result.now c.args.issuer c.args.n c.args.dsb c.pends_of-pends.result c.complete.result.1 c.complete.result.0
-    (omega arith) c.index.ensures c.index-2.ensures c.deref.ensures.value c.pends_of-pends.ensures c.complete.ensures
+    (omega arith) c.index.ensures c.index-2.ensures c.deref.ensures c.pends_of-pends.ensures c.complete.ensures
 
 seats : (c : goal.After-keep) (m : ℕ) → seat_at c.keep.new.broken.items m ≡ seat_at c.args.broken.now.items m
 seats c =
@@ -28,7 +28,7 @@ returns-in-Broken-clause-here c =
     let x = c.index.result.now in
     let kept = c.keep.ensures.entry x (entry_read c.args.broken.now.items c.args.k x (omega arith) c.index.ensures) in
     here_kept c.args.broken.now.items c.args.k c.index.result.now c.index-2.result.now c.deref.result.now c.args.issuer c.args.n c.args.dsb c.pends_of-pends.result c.complete.result.1 c.complete.result.0
-    (omega arith) c.index.ensures c.index-2.ensures c.deref.ensures.value c.pends_of-pends.ensures c.complete.ensures
+    (omega arith) c.index.ensures c.index-2.ensures c.deref.ensures c.pends_of-pends.ensures c.complete.ensures
     c.args.cells.now.items c.requires.linked c.keep.new.broken.items c.in-Broken.new kept.0 c.in-Broken.is kept.2 kept.3 kept.4 kept.5
 
 pub returns-in-Broken-clause-front : goal.returns-in-Broken-clause-front
@@ -44,18 +44,18 @@ returns-in-Broken-clause-placed c = λ base placed.
 pub returns-in-Clean-clause-here : goal.returns-in-Clean-clause-here
 returns-in-Clean-clause-here c =
     here_gone c.args.broken.now.items c.args.k c.index.result.now c.index-2.result.now c.deref.result.now c.args.issuer c.args.n c.args.dsb c.pends_of-pends.result c.complete.result.1 c.complete.result.0
-    (omega arith) c.index.ensures c.index-2.ensures c.deref.ensures.value c.pends_of-pends.ensures c.complete.ensures
+    (omega arith) c.index.ensures c.index-2.ensures c.deref.ensures c.pends_of-pends.ensures c.complete.ensures
     c.args.cells.now.items c.requires.linked c.unlink.new.cells.items c.unlink.new.broken.items c.unlink.ensures.entries c.in-Clean.is
 
 pub returns-in-Clean-clause-answer : goal.returns-in-Clean-clause-answer
 returns-in-Clean-clause-answer c = λ j at.
     c.is_table.ensures
     ∙ answer_gone c.args.broken.now.items c.args.k c.index.result.now c.index-2.result.now c.deref.result.now c.args.issuer c.args.n c.args.dsb c.pends_of-pends.result c.complete.result.1 c.complete.result.0
-    (omega arith) c.index.ensures c.index-2.ensures c.deref.ensures.value c.pends_of-pends.ensures c.complete.ensures
+    (omega arith) c.index.ensures c.index-2.ensures c.deref.ensures c.pends_of-pends.ensures c.complete.ensures
     c.args.cells.now.items c.requires.linked c.unlink.new.cells.items c.unlink.new.broken.items c.unlink.ensures.entries j at
 
 pub returns-in-Clean-clause-others : goal.returns-in-Clean-clause-others
 returns-in-Clean-clause-others c = λ i j at other.
     others_gone c.args.broken.now.items c.args.k c.index.result.now c.index-2.result.now c.deref.result.now c.args.issuer c.args.n c.args.dsb c.pends_of-pends.result c.complete.result.1 c.complete.result.0
-    (omega arith) c.index.ensures c.index-2.ensures c.deref.ensures.value c.pends_of-pends.ensures c.complete.ensures
+    (omega arith) c.index.ensures c.index-2.ensures c.deref.ensures c.pends_of-pends.ensures c.complete.ensures
     c.args.cells.now.items c.requires.linked c.unlink.new.cells.items c.unlink.new.broken.items c.unlink.ensures.entries i j at other

@@ -5,24 +5,13 @@ use Rattle.bbm_place_map.proofs.Leaving.{entry_same}
 use Rattle.bbm_place_map.proofs.Lists.{set_get}
 use Rattle.bbm_place_map.proofs.issue.make_room_at.Goals as goal
 
-pub returns-in-Ok-clause-entry : goal.returns-in-Ok-clause-entry
-returns-in-Ok-clause-entry c = λ e is.
+pub returns-clause-entry : goal.returns-clause-entry
+returns-clause-entry c = λ e is.
     let same = entry_same c.args.broken.now.items c.args.k c.index_mut-entry.result.now e (omega arith) c.index_mut-entry.ensures.value is in
-    let f : Entry = record c.index_mut-entry.result.now { pends = c.reserve_exact.new.self } in (
+    let f : Entry = record c.index_mut-entry.result.now { pends = c.make_room_for_issuer.new.pendings } in (
       f,
       ap seat same,
-      (ap (λ (x : Entry). x.marks) same, c.reserve_exact.ensures.items ∙ ap (λ (x : Entry). x.pends.items) same),
-      omega (arith, c.in-Ok.ensures.ok),
-      λ i. set_get c.args.broken.now.items c.args.k f i (omega arith),
-    )
-
-pub returns-in-Err-clause-entry : goal.returns-in-Err-clause-entry
-returns-in-Err-clause-entry c = λ e is.
-    let same = entry_same c.args.broken.now.items c.args.k c.index_mut-entry.result.now e (omega arith) c.index_mut-entry.ensures.value is in
-    let f : Entry = record c.index_mut-entry.result.now { pends = c.reserve_exact.new.self } in (
-      f,
-      ap seat same,
-      (ap (λ (x : Entry). x.marks) same, c.reserve_exact.ensures.items ∙ ap (λ (x : Entry). x.pends.items) same),
-      tt,
+      (ap (λ (x : Entry). x.marks) same, c.make_room_for_issuer.ensures.items ∙ ap (λ (x : Entry). x.pends.items) same),
+      c.make_room_for_issuer.ensures.room,
       λ i. set_get c.args.broken.now.items c.args.k f i (omega arith),
     )

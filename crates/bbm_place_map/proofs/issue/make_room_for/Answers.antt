@@ -1,9 +1,10 @@
-use Rattle.std.proofs.Common.{◌≡◌, ◌<◌, ℕ, vec_len, vec_capacity, subst, Some, arith, refl, ap, sym, ◌∙◌, inl, inr}
+use Rattle.std.proofs.Common.{◌≡◌, ℕ, subst, Some, arith, refl, ap, sym, ◌∙◌, inl, inr}
 use Rattle.indexmap.specs.IndexMap.{get}
 use Rattle.indexmap.proofs.MapLemmas.{OnOk-map}
 use Rattle.std.proofs.Common.{nat_eq, length, slice_get}
 use Rattle.std.proofs.lemmas.Bool.{cases_eq}
 use Rattle.std.proofs.lemmas.Option.{same_Some, none-some, slice_get_within}
+use Rattle.bbm_place_map.specs.Entries.{HasRoom}
 use Rattle.bbm_place_map.specs.Notes.{Keeps}
 use Rattle.bbm_place_map.specs.declared.entry.Entry.{Entry}
 use Rattle.bbm_place_map.proofs.Visiting.{slot_place, slot_of_place, one_advances, gets_off, gets_here}
@@ -30,10 +31,10 @@ pub returns-in-Some-clause-ready : goal.returns-in-Some-clause-ready
 returns-in-Some-clause-ready c =
     let e = was c in
     let f = c.make_room_at.ensures.entry e.0 e.1 in
-    OnOk-map c.make_room_at.result (vec_len f.0.pends < vec_capacity f.0.pends)
-    ((m : ℕ) (x : Entry) → slice_get c.make_room_at.new.broken.items m ≡ Some x → x.place ≡ c.args.place → vec_len x.pends < vec_capacity x.pends)
+    OnOk-map c.make_room_at.result (HasRoom f.0.pends c.args.issuer)
+    ((m : ℕ) (x : Entry) → slice_get c.make_room_at.new.broken.items m ≡ Some x → x.place ≡ c.args.place → HasRoom x.pends c.args.issuer)
     (λ room m x is same.
-    let P : Entry → Type 0 = λ y. vec_len y.pends < vec_capacity y.pends in
+    let P : Entry → Type 0 = λ y. HasRoom y.pends c.args.issuer in
     elim (cases_eq m c.in-Some.k) [
       | inl here ↦
           subst P (sym (same_Some x f.0 (sym is ∙ ap (slice_get c.make_room_at.new.broken.items) here

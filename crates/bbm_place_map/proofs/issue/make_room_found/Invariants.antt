@@ -1,5 +1,6 @@
-use Rattle.std.proofs.Common.{◌≡◌, ℕ, ◌<◌, true, Some, length, slice_get, take, vec_len, vec_capacity}
+use Rattle.std.proofs.Common.{◌≡◌, ℕ, true, Some, length, slice_get, take, vec_capacity}
 use Rattle.bbm_place_map.specs.Each.{Advances}
+use Rattle.bbm_place_map.specs.Entries.{HasRoom}
 use Rattle.bbm_place_map.specs.Finds.{is_found}
 use Rattle.bbm_place_map.specs.Notes.{Keeps}
 use Rattle.bbm_place_map.specs.declared.entry.Entry.{Entry}
@@ -9,7 +10,7 @@ abbrev pub invariant-loop-i : goal.invariant-loop-i
 invariant-loop-i l = record {
   each : (m : ℕ) → Advances Keeps (slice_get l.initial.broken.items m) (slice_get l.broken.items m);
   ready : (m : ℕ) (e : Entry) → slice_get l.broken.items m ≡ Some e → is_found (take l.i l.found) e.place ≡ true
-      → vec_len e.pends < vec_capacity e.pends;
+      → HasRoom e.pends l.issuer;
   len : length l.broken.items ≡ length l.initial.broken.items;
   room : vec_capacity l.broken ≡ vec_capacity l.initial.broken;
 }

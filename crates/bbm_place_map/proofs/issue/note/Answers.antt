@@ -9,8 +9,8 @@ use Rattle.bbm_place_map.proofs.issue.note.Goals as goal
 
 pub note_entry-requires-clause-ready : goal.note_entry-requires-clause-ready
 note_entry-requires-clause-ready c = λ e is cover.
-    c.requires.ready c.loop-k.k e (sym (c.loop-k.invariant.rest c.loop-k.k (omega arith)) ∙ is) _
-    (cover_read c.args.covers.now c.loop-k.k (omega arith)) cover
+    c.requires.ready c.loop-k.k e (sym (c.loop-k.invariant.rest c.loop-k.k (omega arith)) ∙ is) c.get-cover.result
+    (cover_read c.args.covers.now c.loop-k.k c.index-covers-k.result c.get-cover.result (omega arith) c.index-covers-k.is c.get-cover.ensures) cover
 
 pub loop-k-preserved : goal.loop-k-preserved
 loop-k-preserved c =
@@ -23,7 +23,8 @@ loop-k-preserved c =
     let f = c.note_entry.ensures.entry e.0 e.1 in
     let R = NotesAt c.args.covers.now c.args.issuer c.args.reach c.args.broadcast in
     let S = λ (m : ℕ). Waits c.note_entry.new.lists.items c.args.issuer in
-    let notes = notes_at c.args.covers.now k _ c.args.issuer c.args.reach c.args.broadcast e.0 f.0 (cover_read c.args.covers.now k (omega arith)) f.2 in
+    let notes = notes_at c.args.covers.now k c.get-cover.result c.args.issuer c.args.reach c.args.broadcast e.0 f.0
+    (cover_read c.args.covers.now k c.index-covers-k.result c.get-cover.result (omega arith) c.index-covers-k.is c.get-cover.ensures) f.2 in
     let waits = λ (m : ℕ) (below : m < k).
     advance_by (Waits c.loop-k.lists.items c.args.issuer) (Waits c.note_entry.new.lists.items c.args.issuer)
     (waits_kept c.loop-k.lists.items c.note_entry.new.lists.items c.args.issuer c.note_entry.ensures.kept) (slice_get start m) (slice_get mid m)

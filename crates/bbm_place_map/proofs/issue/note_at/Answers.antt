@@ -23,12 +23,12 @@ returns-clause-entry c = λ e is.
       λ q other. c.put_pends.ensures.others q other ∙ ap (λ (x : Entry). pends_in x.pends.items q) same,
       noted_alike c.index-2.result.now.marks e.marks c.pends_of-before.result (pends_in e.pends.items c.args.issuer) c.tlbi-after.result
           (pends_in c.put_pends.new.pendings.items c.args.issuer) c.args.reach c.args.broadcast c.args.cover (ap (λ (x : Entry). x.marks) second)
-          (subst P (c.deref.ensures.value ∙ ap (λ (x : Entry). x.pends.items) first) c.pends_of-before.ensures)
+          (subst P (c.deref.ensures ∙ ap (λ (x : Entry). x.pends.items) first) c.pends_of-before.ensures)
           c.put_pends.ensures.there c.tlbi-after.ensures,
       λ same' idle.
           let Q : Pends → Type 0 = λ x. IsIdle x in
           subst Q (sym c.put_pends.ensures.there)
           (c.starts_waiting.ensures same' (λ b x p.
-          subst P (c.deref.ensures.value ∙ ap (λ (x : Entry). x.pends.items) first) c.pends_of-before.ensures b x p ∙ idle b x p)),
+          subst P (c.deref.ensures ∙ ap (λ (x : Entry). x.pends.items) first) c.pends_of-before.ensures b x p ∙ idle b x p)),
       λ i. set_get entries c.args.k f i (omega arith),
     )

@@ -16,7 +16,7 @@ returns-in-Some c = λ b cover p.
     let within = cell_within c.args.broken.now c.in-Some.k c.args.j (c.requires.linked.forth c.args.j c.in-Some.k c.in-Some.is) in
     let read = slice_get_read c.args.broken.now (length c.args.broken.now) c.in-Some.k c.index-broken-k.result refl within c.index-broken-k.is in
     c.pends_of.ensures b cover p
-    ∙ ap (λ (ps : List Pending). waits (pends_in ps c.args.issuer) b cover p) c.deref.ensures.value
+    ∙ ap (λ (ps : List Pending). waits (pends_in ps c.args.issuer) b cover p) c.deref.ensures
     ∙ ap (λ (e : Entry). waits (pends_in e.pends.items c.args.issuer) b cover p) (sym c.index-broken-k.is)
     ∙ sym (ap (λ (o : Option ℕ). waits (pends_of c.args.issuer (entry_of c.args.broken.now o)) b cover p) c.in-Some.is
     ∙ ap (λ (o : Option Entry). waits (pends_of c.args.issuer o) b cover p) read)

@@ -12,14 +12,14 @@ pub loop-k-preserved : goal.loop-k-preserved
 loop-k-preserved g c = record {
   len = omega (arith, c.in-Ok.ensures.len);
   each = λ m e cov at got.
-      let all = push_get c.loop-k.covers.items c.cover-found.result m in
-      let items : slice_get (c.loop-k.covers.items ++ c.cover-found.result ∷ []) m ≡ Some cov
-      = sym (ap (λ (xs : List Cover). slice_get xs m) c.in-Ok.ensures.items) ∙ got in
+      let all = push_get c.loop-k.covers.items c.new.result m in
+      let items : slice_get (c.loop-k.covers.items ++ c.new.result ∷ []) m ≡ Some cov
+      = sym (ap (λ (xs : List Cover). slice_get xs m) c.in-Ok.ensures.ok) ∙ got in
       elim (cases_eq m (length c.loop-k.covers.items)) [
         | inl same ↦
             let found : c.cover-found.result ≡ cov
-            = same_Some c.cover-found.result cov
-            (sym (all ∙ cond-true (nat_eq m (length c.loop-k.covers.items)) (Some c.cover-found.result) (slice_get c.loop-k.covers.items m)
+            = sym c.new.ensures ∙ same_Some c.new.result cov
+            (sym (all ∙ cond-true (nat_eq m (length c.loop-k.covers.items)) (Some c.new.result) (slice_get c.loop-k.covers.items m)
             (eq-eqb m (length c.loop-k.covers.items) same)) ∙ items) in
             let index : m ≡ c.loop-k.k = same ∙ c.loop-k.invariant.len in
             let entry : c.index.result.now ≡ e
@@ -30,7 +30,7 @@ loop-k-preserved g c = record {
             subst P entry (subst Q found (record { shown = _; shows = refl; says = record { met = c.cover-found.ensures } }))
         | inr other ↦
             c.loop-k.invariant.each m e cov at
-            (sym (all ∙ cond-false (nat_eq m (length c.loop-k.covers.items)) (Some c.cover-found.result) (slice_get c.loop-k.covers.items m)
+            (sym (all ∙ cond-false (nat_eq m (length c.loop-k.covers.items)) (Some c.new.result) (slice_get c.loop-k.covers.items m)
             (ne_eqb m (length c.loop-k.covers.items) other)) ∙ items)
       ];
 }
