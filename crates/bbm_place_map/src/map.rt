@@ -88,8 +88,7 @@ impl PlaceMap {
         ensures tracked { is_tracked self.now (page_of place) ≡ true → IsSome result }
     {
         let _ = place.get();
-        let base = self.base(place.page())?;
-        Some(base + place.index() as usize)
+        read::index_at(&self.pages, &self.cells, place)
     }
 
     /// The state of a place, where a place that isn't broken is live with this core, or clean without one.

@@ -1,11 +1,11 @@
 //! What is kept of a cell.
 
-ghost use Rattle.std.specs.Prelude.{◌≡◌, ◌<◌, ◌^◌, length, None, nat_eq, true};
+ghost use Rattle.std.specs.Prelude.{◌≡◌, ◌<◌, ◌^◌, IfSome, length, None, nat_eq, true};
 ghost use Rattle.bbm_entry_state.specs.Points.{is_broken};
 ghost use Rattle.bbm_place_map.specs.Cells.{slot_in};
 ghost use Rattle.bbm_place_map.specs.Entries.{WaitsAlike};
 ghost use Rattle.bbm_place_map.specs.Parts.{marks_in, pends_for};
-ghost use Rattle.bbm_place_map.specs.Sound.{Linked, Numbered, slot_at};
+ghost use Rattle.bbm_place_map.specs.Sound.{Linked, Numbered, index_of, slot_at};
 ghost use Rattle.indexmap.specs.IndexMap.{get};
 ghost use Rattle.bbm_place_map.specs.States.{state_from};
 
@@ -48,15 +48,28 @@ pub fn slot_of(cells: &[Cell], j: u32) -> Option<u32>
     }
 }
 
+/// The number of a place's cell; None where its page isn't tracked.
+pub fn index_at(pages: &IndexMap<u64, usize>, cells: &[Cell], place: Place) -> Option<usize>
+    requires numbered { Numbered (get nat_eq pages.now) (length cells.now) }
+    requires few { length cells.now < 2 ^ 32 }
+    ensures index { result ≡ index_of (get nat_eq pages.now) place }
+    ensures within { IfSome result (λ j. j < length cells.now) }
+{
+    let _ = place.get();
+    match pages.get(&place.page().get()).copied() {
+        Some(base) => Some(base + place.index() as usize),
+        None => None,
+    }
+}
+
 /// The number of a place's entry; None where the place isn't broken.
 pub fn entry_at(pages: &IndexMap<u64, usize>, cells: &[Cell], place: Place) -> Option<u32>
     requires numbered { Numbered (get nat_eq pages.now) (length cells.now) }
     requires few { length cells.now < 2 ^ 32 }
     ensures { result ≡ slot_at (get nat_eq pages.now) cells.now place }
 {
-    let _ = place.get();
-    match pages.get(&place.page().get()).copied() {
-        Some(base) => slot_of(cells, (base + place.index() as usize) as u32),
+    match index_at(pages, cells, place) {
+        Some(j) => slot_of(cells, j as u32),
         None => None,
     }
 }
