@@ -34,13 +34,15 @@ enum Act {
     Flush(u64, Cover),
     /// The same, by the list of the places.
     FlushAt(u64, Cover),
+    /// The same, with the place twice in the list.
+    FlushTwice(u64, Cover),
     /// It has DSB ISH.
     Answer,
     /// The page leaves the trees.
     Release,
 }
 
-use Act::{Answer, Break, Flush, FlushAt, Make, Publish, Release, Track};
+use Act::{Answer, Break, Flush, FlushAt, FlushTwice, Make, Publish, Release, Track};
 
 /// What the map says of a place at PE 1.
 #[derive(Clone, Copy, Debug, PartialEq, Eq)]
@@ -113,6 +115,12 @@ fn step(alloc: Global, map: &mut PlaceMap, page: Page, zero: Pe, act: Act) -> Re
         FlushAt(addr, cover) => {
             if let Some(place) = Place::new(addr) {
                 map.issue_at(alloc, zero, PeMask::all(2), true, &[Found { place, cover }])?;
+            }
+        }
+        FlushTwice(addr, cover) => {
+            if let Some(place) = Place::new(addr) {
+                let found = Found { place, cover };
+                map.issue_at(alloc, zero, PeMask::all(2), true, &[found, found])?;
             }
         }
         Answer => {
@@ -216,6 +224,7 @@ fn one_place(rt: HostRuntime) {
     let full = Flush(FIRST, Cover::Full);
     let half = Flush(FIRST, Cover::Half);
     let at = FlushAt(FIRST, Cover::Full);
+    let twice = FlushTwice(FIRST, Cover::Full);
     let clean = says(0, At::Clean, At::Clean, 0, None);
     let live = says(VALUE, At::Live, At::Clean, 0, None);
     let broken = says(0, At::Broken, At::Clean, 1, Some(FIRST));
@@ -228,8 +237,10 @@ fn one_place(rt: HostRuntime) {
     assert_eq!(rt; after_break(alloc, &[full, Publish]), seen);
     assert_eq!(rt; after_break(alloc, &[Publish, full]), waits);
     assert_eq!(rt; after_break(alloc, &[Publish, at]), waits);
+    assert_eq!(rt; after_break(alloc, &[Publish, twice]), waits);
     assert_eq!(rt; after_break(alloc, &[Publish, full, Answer]), clean);
     assert_eq!(rt; after_break(alloc, &[Publish, at, Answer]), clean);
+    assert_eq!(rt; after_break(alloc, &[Publish, twice, Answer]), clean);
     assert_eq!(rt; after_break(alloc, &[Publish, half, Answer]), halfway);
     assert_eq!(rt;
         after_break(alloc, &[Publish, full, Make(FIRST), Break(FIRST)]),
