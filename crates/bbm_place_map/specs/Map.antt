@@ -1,7 +1,7 @@
 -- What the map says of each place and page. Each word is total: a place of no tracked page holds 0, isn't broken, and
 -- nothing waits there.
 -- Source: project's own choice.
-use Rattle.std.specs.Prelude.{ℕ, Bool, Option, None, is_some, length, nat_eq, ◌*◌, ◌/◌, slice_get, unwrap_or}
+use Rattle.std.specs.Prelude.{◌≡◌, ℕ, Bool, Option, Some, None, is_some, length, nat_eq, ◌*◌, ◌/◌, slice_get, unwrap_or}
 use Rattle.std.specs.Option.{option_map}
 use Rattle.indexmap.specs.IndexMap.{get}
 use Rattle.bbm_descriptor.specs.declared.desc.Core.{Core}
@@ -15,6 +15,7 @@ use Rattle.bbm_place_map.specs.Sound.{index_of, at_index}
 use Rattle.bbm_place_map.specs.States.{state_from}
 use Rattle.bbm_place_map.specs.declared.entry.Entry.{Entry}
 use Rattle.bbm_place_map.specs.declared.map.PlaceMap.{PlaceMap}
+use Rattle.bbm_place_map.specs.declared.seat.Seat.{Seat}
 
 -- the page of an address
 abbrev pub page_of : ℕ → ℕ
@@ -35,6 +36,10 @@ pends_at map q a = at_index no_pends (pends_for map.cells.items map.broken.items
 -- whether the page is tracked
 unfoldable pub is_tracked : PlaceMap → ℕ → Bool
 is_tracked map page = is_some (get nat_eq map.pages page)
+
+-- the seat is where its place is kept
+unfoldable pub IsSeat : PlaceMap → Seat → Type 0
+IsSeat map seat = index_of (get nat_eq map.pages) seat.place ≡ Some seat.index
 
 -- how many places are broken, and one of them by its number
 unfoldable pub restless_in : PlaceMap → ℕ

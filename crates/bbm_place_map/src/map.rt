@@ -9,6 +9,7 @@ ghost use Rattle.bbm_place_map.specs.Works.{Listed};
 use crate::cell::Cell;
 use crate::entry::Entry;
 use crate::found::{Answer, Found};
+use crate::seat::Seat;
 use crate::work::{self, Work};
 use crate::{complete, issue, publish, read, write};
 use bbm_barriers::Dsb;
@@ -40,7 +41,7 @@ pub struct PlaceMap {
     ghost listed: { Listed work cells.items broken.items },
 }
 
-#[tactic(auto, unfolding(crate::specs::Map::value_at, crate::specs::Map::marks_at, crate::specs::Map::pends_at, crate::specs::Map::is_tracked, crate::specs::Map::restless_in, crate::specs::Map::restless_place))]
+#[tactic(auto, unfolding(crate::specs::Map::value_at, crate::specs::Map::marks_at, crate::specs::Map::pends_at, crate::specs::Map::is_tracked, crate::specs::Map::IsSeat, crate::specs::Map::restless_in, crate::specs::Map::restless_place))]
 impl PlaceMap {
     ghost use Rattle.std.specs.Prelude.{ℕ, Bool, Some, None, true, false, Option, IsSome, IfSome, IfOk, length, slice_get, is_some, OnOk, OnErr, ◌||◌, not, ◌&&◌, ◌+◌, if◌then◌else◌};
     ghost use Rattle.bbm_entry_state.specs.Points.{is_broken, waits};
@@ -52,7 +53,7 @@ impl PlaceMap {
     ghost use Rattle.bbm_descriptor.specs.Descriptor.{core_of};
     ghost use Rattle.bbm_descriptor.specs.declared.desc.Core.{Core as TheCore};
     ghost use Rattle.bbm_entry_state.specs.Standing.{IsIdle};
-    ghost use Rattle.bbm_place_map.specs.Map.{value_at, marks_at, pends_at, is_tracked, page_of, restless_in, restless_place, state_at};
+    ghost use Rattle.bbm_place_map.specs.Map.{value_at, marks_at, pends_at, is_tracked, IsSeat, page_of, restless_in, restless_place, state_at};
     ghost use Rattle.bbm_place_map.specs.Entries.{WaitsAlike};
     ghost use Rattle.bbm_place_map.specs.Sound.{index_of};
     ghost use Rattle.bbm_place_map.specs.States.{marks_of_state};
@@ -101,17 +102,34 @@ impl PlaceMap {
         }
     }
 
+    /// Where the place is kept; None where its page isn't tracked. A call that needs a place's seat looks nothing up.
+    pub fn seat(&self, place: Place) -> Option<Seat>
+        ensures place { IfSome result (λ seat. seat.place ≡ place) }
+        ensures seat { IfSome result (λ seat. IsSeat self.now seat) }
+        ensures tracked { is_tracked self.now (page_of place) ≡ true → IsSome result }
+    {
+        let index = self.index(place)?;
+        Some(Seat { place, index })
+    }
+
+    /// The state of a seat's place, as `state_by` says it.
+    pub fn state_at_seat(&self, seat: Seat, kind: Kind, level: u8) -> EntryState
+        requires seat { IsSeat self.now seat }
+        requires level { level ≤ 3 }
+        ensures { result ≡ state_at self.now (core_of kind level (value_at self.now seat.place)) seat.place }
+    {
+        let live = core(kind, level, self.cells[seat.index].value);
+        read::state(&self.cells, &self.broken, seat.index, live)
+    }
+
     /// The state of the place, read at this kind and level, 0 to 3: one that isn't broken is live with the core of its
     /// value, or clean where the value is invalid.
     pub fn state_by(&self, place: Place, kind: Kind, level: u8) -> EntryState
         requires { level ≤ 3 }
         ensures { result ≡ state_at self.now (core_of kind level (value_at self.now place)) place }
     {
-        match self.index(place) {
-            Some(j) => {
-                let live = core(kind, level, self.cells[j].value);
-                read::state(&self.cells, &self.broken, j, live)
-            }
+        match self.seat(place) {
+            Some(seat) => self.state_at_seat(seat, kind, level),
             None => read::whole(core(kind, level, 0)),
         }
     }
@@ -150,6 +168,31 @@ impl PlaceMap {
         self.broken[i as usize].place
     }
 
+    /// Writes a value at a seat's place, and the state that the write leaves, as `set`. Nothing else changes.
+    pub fn set_at(&mut self, seat: Seat, value: u64, state: EntryState)
+        requires { IsSeat self.old seat }
+        ensures values { (a : ℕ) → value_at self.new a ≡ (if nat_eq a seat.place then value else value_at self.old a) }
+        ensures marks { (a : ℕ) → marks_at self.new a
+            ≡ (if nat_eq a seat.place then marks_of_state state else marks_at self.old a) }
+        ensures pends { (q a : ℕ) → (nat_eq a seat.place && not (is_broken state)) ≡ false
+            → pends_at self.new q a ≡ pends_at self.old q a }
+        ensures dropped { (q : ℕ) → is_broken state ≡ false → IsIdle (pends_at self.new q seat.place) }
+        ensures pages { (page : ℕ) → is_tracked self.new page ≡ is_tracked self.old page }
+    {
+        let j = seat.index;
+        let before = read::marks(&self.cells, &self.broken, j);
+        work::note_state(&mut self.work, j as u32, &before, &state, self.broken.len());
+        write::put(
+            &mut self.cells,
+            &mut self.broken,
+            j,
+            seat.place,
+            value,
+            state,
+            self.alloc,
+        );
+    }
+
     /// Writes a value at a place of a tracked page, and the state that the write leaves. What waits there stays where
     /// the place is broken, and else is dropped. Nothing else changes.
     pub fn set(&mut self, place: Place, value: u64, state: EntryState)
@@ -162,18 +205,8 @@ impl PlaceMap {
         ensures dropped { (q : ℕ) → is_broken state ≡ false → IsIdle (pends_at self.new q place) }
         ensures pages { (page : ℕ) → is_tracked self.new page ≡ is_tracked self.old page }
     {
-        let j = self.index(place).unwrap();
-        let before = read::marks(&self.cells, &self.broken, j);
-        work::note_state(&mut self.work, j as u32, &before, &state, self.broken.len());
-        write::put(
-            &mut self.cells,
-            &mut self.broken,
-            j,
-            place,
-            value,
-            state,
-            self.alloc,
-        );
+        let seat = self.seat(place).unwrap();
+        self.set_at(seat, value, state);
     }
 
     /// No place of the page is broken any more, and nothing waits there. Nothing else changes.

@@ -1,0 +1,12 @@
+//! Where a place is kept.
+
+use bbm_regimes::Place;
+
+/// Where a place of a tracked page is kept, for calls before the map changes. Source: project's own choice.
+#[derive(Clone, Copy, Debug)]
+pub struct Seat {
+    /// The place.
+    pub place: Place,
+    /// The number of its cell.
+    pub(crate) index: usize,
+}
