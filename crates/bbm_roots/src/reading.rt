@@ -5,6 +5,7 @@ ghost use Rattle.bbm_roots.specs.Readings as spec;
 
 use crate::load::Load;
 use bbm_regimes::{AsidFrom, Kind, NoMemory, Page, Tag, World};
+use smallvec::SmallVec;
 use std::alloc::Global;
 
 /// A tag that is readable for a root. Source: project's own choice.
@@ -53,8 +54,20 @@ pub fn tag_of(kind: Kind, number: u16) -> Tag
     }
 }
 
+impl Default for Reading {
+    fn default() -> Reading {
+        Reading {
+            tag: Tag::El2,
+            root: Page::new(0).unwrap(),
+        }
+    }
+}
+
+/// Readable tags, each with its root. Few of them take no memory. Source: project's own choice.
+pub type Readings = SmallVec<Reading, 4>;
+
 // Adds the tag with the root, where there is one.
-fn add(readings: &mut Vec<Reading>, tag: Tag, root: Option<Page>) -> Result<(), NoMemory>
+fn add(readings: &mut Readings, tag: Tag, root: Option<Page>) -> Result<(), NoMemory>
     ensures { OnOk result (readings.new.items ≡ readings.old.items ++ spec.reading_at tag root) }
 {
     match root {
@@ -64,7 +77,7 @@ fn add(readings: &mut Vec<Reading>, tag: Tag, root: Option<Page>) -> Result<(), 
 }
 
 // Adds what the values of the register of a kind name, each with its own VMID or ASID.
-fn add_own(readings: &mut Vec<Reading>, kind: Kind, loads: &[Load]) -> Result<(), NoMemory>
+fn add_own(readings: &mut Readings, kind: Kind, loads: &[Load]) -> Result<(), NoMemory>
     ensures { OnOk result (readings.new.items ≡ readings.old.items ++ flat_map (spec.own_reading kind) loads.now) }
 {
     for load in loads {
@@ -73,8 +86,22 @@ fn add_own(readings: &mut Vec<Reading>, kind: Kind, loads: &[Load]) -> Result<()
     Ok(())
 }
 
+// The same of values in two parts.
+fn add_all(
+    readings: &mut Readings,
+    kind: Kind,
+    newest: &[Load],
+    others: &[Load],
+) -> Result<(), NoMemory>
+    ensures { OnOk result (readings.new.items
+        ≡ readings.old.items ++ flat_map (spec.own_reading kind) (newest.now ++ others.now)) }
+{
+    add_own(readings, kind, newest)?;
+    add_own(readings, kind, others)
+}
+
 // Adds what the values of TTBR0_EL1 name, under this ASID.
-fn add_under(readings: &mut Vec<Reading>, tag: Tag, loads: &[Load]) -> Result<(), NoMemory>
+fn add_under(readings: &mut Readings, tag: Tag, loads: &[Load]) -> Result<(), NoMemory>
     ensures { OnOk result (readings.new.items ≡ readings.old.items ++ flat_map (spec.reading_under tag) loads.now) }
 {
     for load in loads {
@@ -83,51 +110,88 @@ fn add_under(readings: &mut Vec<Reading>, tag: Tag, loads: &[Load]) -> Result<()
     Ok(())
 }
 
-// Adds what the values of TTBR0_EL1 name, under each ASID of the values of TTBR1_EL1.
-fn add_each(readings: &mut Vec<Reading>, first: &[Load], second: &[Load]) -> Result<(), NoMemory>
-    ensures { OnOk result (readings.new.items ≡ readings.old.items ++ flat_map (spec.readings_with first.now) second.now) }
+// The same of values in two parts.
+fn add_all_under(
+    readings: &mut Readings,
+    tag: Tag,
+    newest: &[Load],
+    others: &[Load],
+) -> Result<(), NoMemory>
+    ensures { OnOk result (readings.new.items
+        ≡ readings.old.items ++ flat_map (spec.reading_under tag) (newest.now ++ others.now)) }
+{
+    add_under(readings, tag, newest)?;
+    add_under(readings, tag, others)
+}
+
+// Adds what the values of TTBR0_EL1 name, under each ASID of values of TTBR1_EL1.
+fn add_each(
+    readings: &mut Readings,
+    newest: &[Load],
+    others: &[Load],
+    second: &[Load],
+) -> Result<(), NoMemory>
+    ensures { OnOk result (readings.new.items ≡ readings.old.items
+        ++ flat_map (spec.readings_with (newest.now ++ others.now)) second.now) }
 {
     for load in second {
-        add_under(readings, Tag::Asid(load.number), first)?;
+        add_all_under(readings, Tag::Asid(load.number), newest, others)?;
     }
     Ok(())
 }
 
-// Adds what the values of TTBR0_EL1 name, each under its own ASID or under those of the values of TTBR1_EL1.
+// Adds what the values of TTBR0_EL1 name, each under its own ASID or under those of the values of TTBR1_EL1. Both come
+// in two parts.
 fn add_asids(
-    readings: &mut Vec<Reading>,
+    readings: &mut Readings,
     asid_from: AsidFrom,
+    new_first: &[Load],
     first: &[Load],
+    new_second: &[Load],
     second: &[Load],
 ) -> Result<(), NoMemory>
-    ensures { OnOk result (readings.new.items ≡ readings.old.items ++ spec.asid_readings asid_from first.now second.now) }
+    ensures { OnOk result (readings.new.items ≡ readings.old.items
+        ++ spec.asid_readings asid_from (new_first.now ++ first.now) (new_second.now ++ second.now)) }
 {
     match asid_from {
-        AsidFrom::Ttbr0 => add_own(readings, Kind::Ttbr0, first),
-        AsidFrom::Ttbr1 => add_each(readings, first, second),
+        AsidFrom::Ttbr0 => add_all(readings, Kind::Ttbr0, new_first, first),
+        AsidFrom::Ttbr1 => {
+            add_each(readings, new_first, first, new_second)?;
+            add_each(readings, new_first, first, second)
+        }
     }
 }
 
-/// The readable tags of a PE, each with its root, of the readable values of the two registers of the world.
-/// `NoMemory` where there is none. Source: Arm ARM (DDI 0487), "Translation Lookaside Buffers", and TCR_EL1.A1
+/// The readable tags of a PE, each with its root, of the readable values of the two registers of the world, each in two
+/// parts. `NoMemory` where there is none. Source: Arm ARM (DDI 0487), "Translation Lookaside Buffers", and TCR_EL1.A1
 /// of "AArch64 System register descriptions".
 pub fn readings(
     alloc: Global,
     world: World,
+    new_first: &[Load],
     first: &[Load],
+    new_second: &[Load],
     second: &[Load],
-) -> Result<Vec<Reading>, NoMemory>
-    ensures { IfOk result (λ readings. readings.items ≡ spec.readings_of world first.now second.now) }
+) -> Result<Readings, NoMemory>
+    ensures { IfOk result (λ readings. readings.items
+        ≡ spec.readings_of world (new_first.now ++ first.now) (new_second.now ++ second.now)) }
 {
-    let mut readings = Vec::new(alloc);
+    let mut readings = SmallVec::new(alloc);
     match world {
         World::Hyp(_) => {
-            add_own(&mut readings, Kind::El2, first)?;
-            add_own(&mut readings, Kind::S2, second)?;
+            add_all(&mut readings, Kind::El2, new_first, first)?;
+            add_all(&mut readings, Kind::S2, new_second, second)?;
         }
         World::Kernel(world) => {
-            add_asids(&mut readings, world.asid_from, first, second)?;
-            add_own(&mut readings, Kind::Ttbr1, second)?;
+            add_asids(
+                &mut readings,
+                world.asid_from,
+                new_first,
+                first,
+                new_second,
+                second,
+            )?;
+            add_all(&mut readings, Kind::Ttbr1, new_second, second)?;
         }
     }
     Ok(readings)

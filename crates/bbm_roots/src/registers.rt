@@ -7,7 +7,7 @@ ghost use Rattle.bbm_roots.specs.Columns.{Column, loads_in};
 ghost use Rattle.bbm_roots.specs.Registers.{at_start, newest};
 
 use crate::load::{self, Load, is_first};
-use crate::reading::{Reading, readings, reads_tag};
+use crate::reading::{Readings, readings, reads_tag};
 use arrayvec::ArrayVec;
 use bbm_events::Header;
 use bbm_regimes::{NoMemory, Page, Pe, PeMask, Reg, Tag, World};
@@ -94,24 +94,6 @@ fn new_column(alloc: Global, pes: u8) -> Result<Vec<Loads>, NoMemory>
         add_pe(&mut column)?;
     }
     Ok(column)
-}
-
-// The value in front of the others.
-fn with_front(alloc: Global, load: Load, loads: &[Load]) -> Result<Vec<Load>, NoMemory>
-    ensures { IfOk result (λ all. all.items ≡ load ∷ loads.now) }
-{
-    let mut all = Vec::new(alloc);
-    add_load(&mut all, load.number, load.root)?;
-    for load in loads {
-        add_load(&mut all, load.number, load.root)?;
-    }
-    Ok(all)
-}
-
-fn add_load(loads: &mut Vec<Load>, number: u16, root: Option<Page>) -> Result<(), NoMemory>
-    ensures { OnOk result (loads.new.items ≡ loads.old.items ++ record { number = number; root = root } ∷ []) }
-{
-    loads.push(Load { number, root }).map_err(|_| NoMemory)
 }
 
 // The set, with the PE where the test says so.
@@ -209,7 +191,7 @@ impl Registers {
         pe: Pe,
         reg: Reg,
         load: Load,
-    ) -> Result<Vec<Reading>, NoMemory>
+    ) -> Result<Readings, NoMemory>
         requires known { pe < self.now.pes }
         ensures { IfOk result (λ readings. readings.items ≡ readings_of self.now.world
             (if spec_is_first reg then load ∷ loads_in self.now.first.items pe else loads_in self.now.first.items pe)
@@ -218,11 +200,9 @@ impl Registers {
         let first = loads_at(&self.first, pe);
         let second = loads_at(&self.second, pe);
         if is_first(reg) {
-            let first = with_front(alloc, load, first)?;
-            readings(alloc, self.world, &first, second)
+            readings(alloc, self.world, &[load], first, &[], second)
         } else {
-            let second = with_front(alloc, load, second)?;
-            readings(alloc, self.world, first, &second)
+            readings(alloc, self.world, &[], first, &[load], second)
         }
     }
 

@@ -4,7 +4,7 @@ use crate::fault::{InUse, RootFault, Unsynced};
 use crate::hold::Holds;
 use crate::load::{Load, base_of, kind_of, names_null, number_of};
 use crate::pending::Pending;
-use crate::reading::Reading;
+use crate::reading::{Reading, Readings};
 use crate::registers::Registers;
 use crate::root::{Declared, same_kind};
 use crate::{hold, issue, pending, registers, search, vmid};
@@ -465,7 +465,7 @@ impl Roots {
         reg: Reg,
         number: u16,
         root: &Option<Page>,
-    ) -> Result<Vec<Reading>, RootFault>
+    ) -> Result<Readings, RootFault>
         requires known { pe < pes_of self.now }
         ensures seen { IfOk result (λ seen. seen.items ≡ readings_of (world_of self.now)
             (if spec_is_first reg then record { number = number; root = root.now } ∷ loads_in self.now.registers.first.items pe

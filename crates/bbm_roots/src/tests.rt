@@ -1,7 +1,7 @@
 //! Lists of calls, each with the answer of its last.
 #![tactic(auto)]
 
-ghost use Rattle.std.specs.Prelude.{◌≡◌, ◌<◌};
+ghost use Rattle.std.specs.Prelude.{◌≡◌, ◌<◌, IfOk};
 ghost use Rattle.bbm_roots.specs.Stands.{pes_of, world_of};
 
 use crate::load::is_of_world;
@@ -74,6 +74,23 @@ fn flush(alloc: Global, roots: &mut Roots, pe: Pe, op: TlbiOp, xt: u64) -> Resul
     }
 }
 
+// The page at an address, or `NoMemory` where that is none.
+fn page_at(base: u64) -> Result<Page, RootFault> {
+    Page::new(base).ok_or(RootFault::NoMemory)
+}
+
+// The PE of the header with this number, or `NoMemory` where it has none.
+fn pe_of(header: &Header, number: u8) -> Result<Pe, RootFault>
+    ensures { IfOk result (λ pe. pe < header.now.pes) }
+{
+    let pe = Pe::new(number).ok_or(RootFault::NoMemory)?;
+    if pe.get() < header.pes {
+        Ok(pe)
+    } else {
+        Err(RootFault::NoMemory)
+    }
+}
+
 // The call's answer. `NoMemory` stands for arguments that no log has.
 fn make(alloc: Global, roots: &mut Roots, header: &Header, step: Step) -> Result<(), RootFault>
     requires pes { pes_of roots.old ≡ header.now.pes }
@@ -83,39 +100,25 @@ fn make(alloc: Global, roots: &mut Roots, header: &Header, step: Step) -> Result
 {
     match step {
         Declare(kind, base) => {
-            let page = Page::new(base).ok_or(RootFault::NoMemory)?;
+            let page = page_at(base)?;
             if roots.is_declared(page) {
                 return Err(RootFault::NoMemory);
             }
             roots.declare(alloc, kind, page, None)
         }
-        Retire(base) => {
-            let page = Page::new(base).ok_or(RootFault::NoMemory)?;
-            roots.retire(page)
-        }
+        Retire(base) => roots.retire(page_at(base)?),
         Write(pe, reg, value) => {
-            let pe = Pe::new(pe).ok_or(RootFault::NoMemory)?;
-            if pe.get() < header.pes && is_of_world(header.world, reg) {
-                roots.write_reg(alloc, pe, reg, value, false)
-            } else {
-                Err(RootFault::NoMemory)
+            let pe = pe_of(header, pe)?;
+            if !is_of_world(header.world, reg) {
+                return Err(RootFault::NoMemory);
             }
+            roots.write_reg(alloc, pe, reg, value, false)
         }
         Isb(pe) => {
-            let pe = Pe::new(pe).ok_or(RootFault::NoMemory)?;
-            if pe.get() < header.pes {
-                roots.isb(pe);
-            }
+            roots.isb(pe_of(header, pe)?);
             Ok(())
         }
-        Tlbi(pe, op, xt) => {
-            let pe = Pe::new(pe).ok_or(RootFault::NoMemory)?;
-            if pe.get() < header.pes {
-                flush(alloc, roots, pe, op, xt)
-            } else {
-                Err(RootFault::NoMemory)
-            }
-        }
+        Tlbi(pe, op, xt) => flush(alloc, roots, pe_of(header, pe)?, op, xt),
     }
 }
 

@@ -55,6 +55,9 @@ pub fn one_number(loads: &[Load]) -> Result<u16, Unsynced>
     ensures judged { 0 < length loads.now → JudgesVmid (spec.one_number loads.now) loads.now result }
     ensures none { loads.now ≡ [] → result ≡ Ok 0 }
 {
+    if loads.len() == 1 {
+        return Ok(loads[0].number);
+    }
     match least_other(loads, None) {
         Some(first) => match least_other(loads, Some(first)) {
             Some(second) => Err(Unsynced(first, second)),

@@ -42,7 +42,7 @@ returns-clause-taken c = λ calls stands.
     right-here world pe reg c.args.value c.args.null calls p load
     (loads_in old.registers.first.items pe) (loads_in old.registers.second.items pe)
     c.requires.of_world is_load (stands.first pe c.requires.known) (stands.second pe c.requires.known) at
-    ∙ sym c.in_ok-seen.ensures.seen ∙ sym c.deref-3.ensures.value in
+    ∙ sym c.in_ok-seen.ensures.seen ∙ sym c.deref-3.ensures in
     let there : (p : ℕ) → nat_eq p pe ≡ false → readings world (call ∷ calls) p ≡ readings world calls p =
     elsewhere world pe reg c.args.value c.args.null calls in
     let written : (g : Tag) (r p : ℕ) →
@@ -54,7 +54,7 @@ returns-clause-taken c = λ calls stands.
     let ne : (p : ℕ) → pes_of old ≤ p → nat_eq p pe ≡ false = λ p past.
     let other : p ≢ pe = omega (arith, c.requires.known) in ne_eqb p pe other in
     let clear : (x : Reading) → conflict_in old.holds (pes_of old) seen x ≡ false = λ x.
-    ap (λ (xs : List Reading). conflict_in old.holds (pes_of old) xs x) (c.deref-3.ensures.value ∙ sym c.deref.ensures.value)
+    ap (λ (xs : List Reading). conflict_in old.holds (pes_of old) xs x) (c.deref-3.ensures ∙ sym c.deref.ensures)
     ∙ c.in_ok-judge.ensures.1 x in
     let calm_before : IsCalm old.holds seen =
     calm-from old.holds (pes_of old) seen (λ g r p past. stands.holds g r p ∙ stands.inside g r p past) clear in
@@ -118,7 +118,7 @@ returns-clause-judged c = λ calls stands.
     write-judged (world_of old) (pes_of old) pe c.args.reg c.args.value c.args.null calls load
     (loads_in old.registers.first.items pe) (loads_in old.registers.second.items pe) c.deref.result.now old.holds
     c.requires.known c.requires.of_world is_load (stands.first pe c.requires.known) (stands.second pe c.requires.known)
-    (c.deref.ensures.value ∙ c.in_ok-seen.ensures.seen)
+    (c.deref.ensures ∙ c.in_ok-seen.ensures.seen)
     stands.holds
     (c.in_ok-root.ensures.found calls stands) {A = Unit {0}} (Ok c.in_ok-judge.field-0)
     c.in_ok-judge.ensures
@@ -136,7 +136,7 @@ returns-in_err-judge-clause-judged c = λ calls stands.
     rw (p.1, p.2) (write-judged (world_of old) (pes_of old) pe c.args.reg c.args.value c.args.null calls load
     (loads_in old.registers.first.items pe) (loads_in old.registers.second.items pe) c.deref.result.now old.holds
     c.requires.known c.requires.of_world is_load (stands.first pe c.requires.known) (stands.second pe c.requires.known)
-    (c.deref.ensures.value ∙ c.in_ok-seen.ensures.seen)
+    (c.deref.ensures ∙ c.in_ok-seen.ensures.seen)
     stands.holds
     (c.in_ok-root.ensures.found calls stands) {A = Unit {0}} (Err c.in_err-judge.field-0.0)
     c.in_err-judge.ensures)
