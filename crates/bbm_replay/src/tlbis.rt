@@ -45,40 +45,34 @@ impl Parts {
     {
         laws();
         rules();
-        match self.roots.judge_tlbi(pe, op, xt) {
-            Ok(()) => {}
+        let named = match self.roots.judge_tlbi(pe, op, xt) {
+            Ok(named) => named,
             Err(fault) => return Err(fault),
-        }
-        match self.roots.prepare_issue(alloc, pe, op, xt) {
+        };
+        match self.roots.prepare_issue(alloc, pe, &named) {
             Ok(()) => {}
             Err(_) => return Err(StepFault::NoMemory),
         }
-        let vmid = self.roots.vmid_of(pe);
-        match self.roots.named_scope(pe, op, xt) {
-            Some(scope) => {
-                let reach = reach_of(&self.header, pe, op);
+        let reach = reach_of(&self.header, pe, op);
+        self.map.law_idle();
+        match issue(
+            alloc,
+            &self.header,
+            &mut self.map,
+            &self.index,
+            &self.roots,
+            pe,
+            op,
+            reach,
+            &named.scope,
+            &named.vmid,
+        ) {
+            Ok(()) => {
                 self.map.law_idle();
-                match issue(
-                    alloc,
-                    &self.header,
-                    &mut self.map,
-                    &self.index,
-                    &self.roots,
-                    pe,
-                    op,
-                    reach,
-                    &scope,
-                    &vmid,
-                ) {
-                    Ok(()) => {
-                        self.map.law_idle();
-                        self.roots.issue_ready(pe, op, xt);
-                        Ok(())
-                    }
-                    Err(_) => Err(StepFault::NoMemory),
-                }
+                self.roots.issue_ready(pe, &named);
+                Ok(())
             }
-            None => Err(StepFault::NoMemory),
+            Err(_) => Err(StepFault::NoMemory),
         }
     }
 }

@@ -1,5 +1,5 @@
 -- The least rule that an event breaks, and what stands after one that breaks none.
-use Rattle.std.proofs.Common.{◌≡◌, ℕ, ◌<◌, Bool, true, false, not, ◌&&◌, ◌==◌, cond, nat_le, length, ◌≤◌, ◌↔◌, Result, List, ◌∷◌, Option, Some, None, refl, sym, ap, ◌∙◌, arith, true≢false}
+use Rattle.std.proofs.Common.{◌≡◌, ℕ, ◌<◌, Bool, true, false, not, ◌&&◌, ◌||◌, ◌==◌, cond, nat_le, length, ◌≤◌, ◌↔◌, Result, Ok, List, ◌∷◌, Option, Some, None, refl, sym, ap, ◌∙◌, arith, true≢false}
 use Rattle.std.specs.Option.{is_none, option_map, option_map_or}
 use Rattle.std.proofs.lemmas.Bool.{and_from, eq-eqb, eqb-true, le-leb, leb-true, ne_eqb}
 use Rattle.std.specs.Result.{result_ok}
@@ -14,7 +14,7 @@ use Rattle.bbm_regimes.specs.declared.regime.Which.TheVariants.{Roots as Roots'}
 use Rattle.bbm_tlbi_scope.specs.Decode.{scope_of}
 use Rattle.bbm_tlbi_scope.specs.Operations.{of_world}
 use Rattle.bbm_tlbi_scope.specs.declared.scope.BadOperand.{BadOperand as BadOperandOf}
-use Rattle.bbm_rules.specs.Registers.{lacks_vmid}
+use Rattle.bbm_rules.specs.Registers.{lacks_vmid, named_scope, vmid_of}
 use Rattle.bbm_rules.specs.Prelude.{World, Scope, Init, Null, Root, Write, Kind, Reg, TlbiOp, Heading, Event, Dsb, Dmb, Isb, Tlbi, Msr, Lock, Unlock, Unroot}
 use Rattle.bbm_rules.specs.Broken.{Breach, broken, keeps}
 use Rattle.bbm_rules.specs.Claims.{Patterns}
@@ -27,12 +27,13 @@ use Rattle.bbm_rules.specs.declared.rule.Rule.{Rule}
 use Rattle.bbm_rules.specs.declared.rule.Rule.TheVariants.{WrongWorld, NoLock, NoRoot, TagConflict, RootInUse, UnsyncedVmid, BadOperand, LockBusy, LockNotMine}
 use Rattle.bbm_roots.specs.Stands.{pes_of, world_of}
 use Rattle.bbm_roots.specs.Stands as lower
-use Rattle.bbm_roots.specs.Calls.{Call}
+use Rattle.bbm_roots.specs.Calls.{Call, Issue}
 use Rattle.bbm_roots.specs.Roots as called
 use Rattle.bbm_replay_roots.proofs.RootMaps.{as_root, root_same}
-use Rattle.bbm_replay_roots.specs.Bridge.{calls_of}
+use Rattle.bbm_replay_roots.specs.Bridge.{calls_of, issue_of, with_call}
 use Rattle.bbm_replay_roots.specs.Laws.{Laws}
-use Rattle.bbm_replay_roots.specs.Stands.{Stands, concerns_roots}
+use Rattle.bbm_replay_roots.specs.Stands.{IsNamed, Stands, concerns_roots}
+use Rattle.bbm_replay_roots.specs.declared.named.NamedTlbi.{NamedTlbi}
 use Rattle.bbm_replay_roots.specs.declared.state.RootState.{RootState}
 use Rattle.bbm_replay_roots.proofs.TagMaps.{Agrees, agrees}
 
@@ -238,6 +239,21 @@ pub tlbi_elsewhere : (heading : Heading) (h : List Event) (pe : ℕ) (op : TlbiO
     → of_world heading.world op ≡ false → broken heading Patterns h (Tlbi pe op xt) ≡ Some (record { rule = WrongWorld; at = 0 })
 tlbi_elsewhere heading h pe op xt laws world =
     tlbi_is heading h pe op xt laws false (lacks_vmid heading h pe op) (scope_of op xt) world refl refl
+
+-- what a TLBI names, where it needs no VMID that its PE lacks and its operand can be decoded
+pub named_by : (heading : Heading) (h : List Event) (pe : ℕ) (op : TlbiOp) (xt : ℕ) (scope : Scope) → lacks_vmid heading h pe op ≡ false
+    → scope_of op xt ≡ Ok scope → named_scope heading h pe op xt ≡ Some scope
+named_by heading h pe op xt scope lacks decoded =
+    ap (λ (b : Bool). cond b None (result_ok (scope_of op xt))) lacks ∙ ap (λ (r : Result Scope BadOperandOf). result_ok r) decoded
+
+-- the calls after a TLBI that names this
+pub tlbi_calls : (heading : Heading) (h : List Event) (pe : ℕ) (op : TlbiOp) (xt : ℕ) (named : NamedTlbi) (b : Bool)
+    → IsNamed heading h pe op xt named → (named.scope.broadcast || not heading.cnp) ≡ b
+    → calls_of heading (Tlbi pe op xt ∷ h) ≡ with_call (cond b (Some (Issue pe named.scope named.vmid)) None) (calls_of heading h)
+tlbi_calls heading h pe op xt named b is reaches =
+    ap (λ (o : Option Scope). with_call (issue_of heading pe (vmid_of heading h pe) o) (calls_of heading h)) is.0
+    ∙ (ap (λ (v : Option ℕ). with_call (issue_of heading pe v (Some named.scope)) (calls_of heading h)) (sym is.1)
+    ∙ ap (λ (c : Bool). with_call (cond c (Some (Issue pe named.scope named.vmid)) None) (calls_of heading h)) reaches)
 
 -- ---- limits
 

@@ -4,3 +4,4 @@ pub mod TagMaps
 pub mod Unroots
 pub mod ValueMaps
 pub mod Writes
+mod TestLog

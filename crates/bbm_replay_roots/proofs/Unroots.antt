@@ -1,8 +1,11 @@
 -- Whether a root may be retired, by the history and by its calls.
 use Rattle.std.proofs.Common.{◌≡◌, ℕ, zero, suc, ◌<◌, ◌≤◌, Bool, true, false, not, ◌&&◌, ◌||◌, ◌==◌, nat_lt, List, [], ◌∷◌, ◌++◌, map, length, Option, Some, None, Result, Ok, Err, refl, sym, ap, ◌∙◌, subst, true≢false, inl, inr, arith}
+use Rattle.std.specs.Cmp.{both_ways}
 use Rattle.std.specs.List.{list_any}
 use Rattle.std.specs.Option.{is_none, option_and_then, option_map}
-use Rattle.std.proofs.lemmas.Bool.{cases_lt, lt-ltb, eqb-true, eq-eqb, not-false, or_cases}
+use Rattle.std.proofs.lemmas.Bool.{cases_lt, lt-ltb, eqb-true, eq-eqb, not-false, or_cases, or_left, or_right}
+use Rattle.std.proofs.lemmas.List.Folds.{list_any-append}
+use Rattle.bbm_lists.proofs.Elements.{any_finds, any_found}
 use Rattle.bbm_tlbi_scope.specs.declared.entry.TagSet.{TagSet}
 use Rattle.bbm_tlbi_scope.specs.declared.entry.TagSet.TheVariants.{None as NoTag, One, Many}
 use Rattle.bbm_rules.specs.Prelude.{Kind, Reg, Ttbr0El2, VttbrEl2, Ttbr0El1, Ttbr1El1, Tag, World, Hyp, Kernel, Heading, Event, Root, Unroot}
@@ -44,34 +47,9 @@ err_of fault = Err fault
 
 -- ---- tests
 
-pub both_ways : (a b : Bool) → (a ≡ true → b ≡ true) → (b ≡ true → a ≡ true) → a ≡ b
-both_ways true b up down = sym (up refl)
-both_ways false true up down = down refl
-both_ways false false up down = refl
-
-pub or_left : (a b : Bool) → a ≡ true → (a || b) ≡ true
-or_left true b e = refl
-or_left false b e = absurd (true≢false (sym e))
-
-pub or_right : (a b : Bool) → b ≡ true → (a || b) ≡ true
-or_right true b e = refl
-or_right false b e = e
-
-pub any_append : {A : Type 0} (f : A → Bool) (xs ys : List A) → list_any f (xs ++ ys) ≡ (list_any f xs || list_any f ys)
-any_append f [] ys = refl
-any_append f (x ∷ xs) ys = ap (λ (b : Bool). f x || b) (any_append f xs ys) ∙ by (f x) (list_any f xs) (list_any f ys)
-  where
-    by : (a b c : Bool) → (a || (b || c)) ≡ ((a || b) || c)
-    by true b c = refl
-    by false b c = refl
-
-any_found : (f : ℕ → Bool) (vs : List ℕ) → list_any f vs ≡ true → (v : ℕ) × (among v vs ≡ true) × (f v ≡ true)
-any_found f [] e = absurd (true≢false (sym e))
-any_found f (v ∷ vs) e =
-    elim (or_cases (f v) (list_any f vs) e) [
-      | inl here ↦ (v, or_left (v == v) (among v vs) (eq-eqb v v refl), here)
-      | inr there ↦ let k = any_found f vs there in (k.0, or_right (v == k.0) (among k.0 vs) k.1, k.2)
-    ]
+value_found : (f : ℕ → Bool) (vs : List ℕ) → list_any f vs ≡ true → (v : ℕ) × (among v vs ≡ true) × (f v ≡ true)
+value_found f vs e =
+    let k = any_found f vs e in (k.0, any_finds (λ m. m == k.0) vs k.0 k.1 (eq-eqb k.0 k.0 refl), k.2)
 
 pub pe_finds : (n : ℕ) (test : ℕ → Bool) (p : ℕ) → p < n → test p ≡ true → some_pe n test ≡ true
 pe_finds zero test p less e = absurd (omega arith)
@@ -135,10 +113,10 @@ in_reg h page p reg = list_any (at_base page) (rules.register_values h p reg)
 four : (h : List Event) (page p : ℕ) → is_base_at h page p
     ≡ (in_reg h page p Ttbr0El2 || (in_reg h page p VttbrEl2 || (in_reg h page p Ttbr0El1 || (in_reg h page p Ttbr1El1 || false))))
 four h page p =
-    any_append (at_base page) (rules.register_values h p Ttbr0El2) _
-    ∙ ap (λ (b : Bool). in_reg h page p Ttbr0El2 || b) (any_append (at_base page) (rules.register_values h p VttbrEl2) _
-    ∙ ap (λ (b : Bool). in_reg h page p VttbrEl2 || b) (any_append (at_base page) (rules.register_values h p Ttbr0El1) _
-    ∙ ap (λ (b : Bool). in_reg h page p Ttbr0El1 || b) (any_append (at_base page) (rules.register_values h p Ttbr1El1) [])))
+    list_any-append (at_base page) (rules.register_values h p Ttbr0El2) _
+    ∙ ap (λ (b : Bool). in_reg h page p Ttbr0El2 || b) (list_any-append (at_base page) (rules.register_values h p VttbrEl2) _
+    ∙ ap (λ (b : Bool). in_reg h page p VttbrEl2 || b) (list_any-append (at_base page) (rules.register_values h p Ttbr0El1) _
+    ∙ ap (λ (b : Bool). in_reg h page p Ttbr0El1 || b) (list_any-append (at_base page) (rules.register_values h p Ttbr1El1) [])))
 
 four_up : (world : World) (a : Reg → Bool) → (a (first_reg world) || a (second_reg world)) ≡ true
     → (a Ttbr0El2 || (a VttbrEl2 || (a Ttbr0El1 || (a Ttbr1El1 || false)))) ≡ true
@@ -204,7 +182,7 @@ module _ (heading : Heading) (laws : Laws heading) (proper : Proper heading) (h 
     -- a base that is this page is a root of its register's kind
     base_root : (p : ℕ) → p < heading.pes → (reg : Reg) → in_reg h page p reg ≡ true → is_root h (kind_of_reg reg) page ≡ true
     base_root p less reg e =
-        let f = any_found (at_base page) (rules.register_values h p reg) e in
+        let f = value_found (at_base page) (rules.register_values h p reg) e in
         elim (laws.named h proper kept p f.0 page reg less f.1 (base_there page (base_of f.0) f.2)) [
           | inl root ↦ root
           | inr null ↦ absurd (true≢false (sym is_declared ∙ laws.null h proper kept r.kind page null))

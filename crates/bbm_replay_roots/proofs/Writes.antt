@@ -2,7 +2,8 @@
 use Rattle.std.proofs.Common.{◌≡◌, ℕ, zero, suc, ◌<◌, ◌≤◌, Bool, true, false, not, ◌&&◌, ◌||◌, ◌==◌, cond, nat_le, List, [], ◌∷◌, map, length, min, Option, Some, None, Result, Ok, Err, refl, sym, ap, ◌∙◌, subst, true≢false, inl, inr, arith}
 use Rattle.std.specs.List.{filter, flat_map, list_any}
 use Rattle.std.specs.Option.{option_and_then, option_map_or, unwrap_or}
-use Rattle.std.proofs.lemmas.Bool.{and_from, and_parts, eqb-true, eq-eqb, le-leb, lt-leb, or_cases}
+use Rattle.std.proofs.lemmas.Bool.{and_from, and_parts, eqb-true, eq-eqb, le-leb, lt-leb, or_cases, or_left, or_right}
+use Rattle.std.proofs.lemmas.List.Folds.{list_any-append}
 use Rattle.bbm_regimes.specs.declared.regime.Which.{Which}
 use Rattle.bbm_regimes.specs.declared.regime.Which.TheVariants.{Values as ValuesLimit}
 use Rattle.bbm_rules.specs.Prelude.{Kind, Reg, Ttbr0El2, VttbrEl2, Ttbr0El1, Ttbr1El1, Tag, El2Tag, Vmid, Asid, Ttbr1Tag, World, Hyp, Kernel, Heading, Event, Msr}
@@ -41,7 +42,7 @@ use Rattle.bbm_replay_roots.specs.Laws.{Laws}
 use Rattle.bbm_replay_roots.proofs.Judge.{broken_msr, or_rule}
 use Rattle.bbm_replay_roots.proofs.RootMaps.{is_root_same}
 use Rattle.bbm_replay_roots.proofs.TagMaps.{Agrees, agrees_next, tag_same}
-use Rattle.bbm_replay_roots.proofs.Unroots.{any_append, or_left, or_right, pe_finds}
+use Rattle.bbm_replay_roots.proofs.Unroots.{pe_finds}
 use Rattle.bbm_replay_roots.proofs.ValueMaps.{any_map, load_in, null_test, readings_same, swap, values_written}
 
 -- ---- the least number of a list
@@ -130,7 +131,7 @@ clash_found : (own : (g : Tag) → same_tag g g ≡ true) (holds : ℕ → Tag �
 clash_found own holds roots [] m e = absurd (true≢false (sym e))
 clash_found own holds roots (r ∷ rs) m e =
     elim (or_cases (among m (pages_with (test_of holds r) roots)) (among m (flat_map (λ r. pages_with (test_of holds r) roots) rs))
-    (sym (any_append (λ x. x == m) (pages_with (test_of holds r) roots) (flat_map (λ r. pages_with (test_of holds r) roots) rs)) ∙ e)) [
+    (sym (list_any-append (λ x. x == m) (pages_with (test_of holds r) roots) (flat_map (λ r. pages_with (test_of holds r) roots) rs)) ∙ e)) [
       | inl here ↦
           let f = one_found (test_of holds r) roots m here in
           let parts = and_parts (not (f.0.page == r.root)) (holds f.0.page r.tag) f.2 in (
@@ -149,7 +150,7 @@ clash_finds : (same : (g k : Tag) → same_tag g k ≡ true → g ≡ k) (holds 
     → among n (flat_map (λ r. pages_with (test_of holds r) roots) rs) ≡ true
 clash_finds same holds roots [] n tag e k root = absurd (true≢false (sym e))
 clash_finds same holds roots (r ∷ rs) n tag e k root =
-    any_append (λ x. x == n) (pages_with (test_of holds r) roots) (flat_map (λ r. pages_with (test_of holds r) roots) rs)
+    list_any-append (λ x. x == n) (pages_with (test_of holds r) roots) (flat_map (λ r. pages_with (test_of holds r) roots) rs)
     ∙ elim (or_cases (same_tag r.tag tag && not (r.root == n)) (clash_in rs n tag) e) [
       | inl here ↦
           let parts = and_parts (same_tag r.tag tag) (not (r.root == n)) here in

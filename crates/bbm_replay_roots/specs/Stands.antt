@@ -10,11 +10,12 @@ use Rattle.bbm_rules.specs.Prelude.{Heading, Event, Root, Unroot, Dsb, Isb, Tlbi
 use Rattle.bbm_rules.specs.Broken.{Breach, broken, keeps}
 use Rattle.bbm_rules.specs.Claims.{Patterns}
 use Rattle.bbm_rules.specs.Locks.{holder_of}
-use Rattle.bbm_rules.specs.Prelude.{Scope, TlbiOp}
+use Rattle.bbm_rules.specs.Prelude.{TlbiOp}
 use Rattle.bbm_rules.specs.Registers.{named_scope, vmid_of}
 use Rattle.bbm_rules.specs.declared.step_fault.StepFault.{StepFault}
 use Rattle.bbm_rules.specs.declared.step_fault.StepFault.TheVariants.{Broken, Limit, NoMemory}
 use Rattle.bbm_replay_roots.specs.Bridge.{calls_of}
+use Rattle.bbm_replay_roots.specs.declared.named.NamedTlbi.{NamedTlbi}
 use Rattle.bbm_replay_roots.specs.declared.state.RootState.{RootState}
 
 -- It stands for a history that keeps the rules over all patterns of events: its roots, registers and tags are those of
@@ -57,13 +58,17 @@ Judges (Err (Broken rule at)) breach = breach ≡ Some (record { rule = rule; at
 Judges (Err (Limit which)) breach = ⊥
 Judges (Err NoMemory) breach = ⊥
 
--- there is room for what a TLBI after the history leaves to its answer
-abbrev pub IsReady : RootState → Heading → List Event → ℕ → TlbiOp → ℕ → Type 0
-IsReady state heading h pe op xt = (scope : Scope) → named_scope heading h pe op xt ≡ Some scope
-    → lower.IsReady state.roots pe scope (vmid_of heading h pe)
+-- a TLBI of the PE names this after the history
+abbrev pub IsNamed : Heading → List Event → ℕ → TlbiOp → ℕ → NamedTlbi → Type 0
+IsNamed heading h pe op xt named =
+    (named_scope heading h pe op xt ≡ Some named.scope) × (named.vmid ≡ vmid_of heading h pe)
 
--- it stands for a history of the event's header after which the TLBI breaks no rule, and there is room for it
-abbrev pub MayIssue : RootState → ℕ → TlbiOp → ℕ → Type 0
-MayIssue state pe op xt = (heading : Heading) × (h : List Event) × Stands state heading h
-    × (fits_heading heading (Tlbi pe op xt) ≡ true) × (broken heading Patterns h (Tlbi pe op xt) ≡ None)
-    × IsReady state heading h pe op xt
+-- the judgement of a TLBI after the history: what it names, or else the least rule that it breaks
+abbrev pub JudgesTlbi : Heading → List Event → ℕ → TlbiOp → ℕ → Result NamedTlbi StepFault → Type 0
+JudgesTlbi heading h pe op xt (Ok named) =
+    (broken heading Patterns h (Tlbi pe op xt) ≡ None) × IsNamed heading h pe op xt named
+JudgesTlbi heading h pe op xt (Err fault) = Judges (Err fault) (broken heading Patterns h (Tlbi pe op xt))
+
+-- there is room for what a TLBI of the PE that names this leaves to its answer
+abbrev pub IsReady : RootState → ℕ → NamedTlbi → Type 0
+IsReady state pe named = lower.IsReady state.roots pe named.scope named.vmid

@@ -6,9 +6,11 @@
 
 mod bridge;
 pub mod laws;
+pub mod named;
 pub mod state;
 
 pub use laws::{law_barriers, law_others};
+pub use named::NamedTlbi;
 pub use state::RootState;
 
 #[cfg(test)]

@@ -1,10 +1,12 @@
 //! The roots, registers, tags and locks of a log.
 
-ghost use Rattle.std.specs.Prelude.{◌≡◌, true};
+ghost use Rattle.std.specs.Prelude.{◌≡◌, ◌&&◌, true, is_none};
 ghost use Rattle.bbm_events.specs.Heading.{heading_ok};
+ghost use Rattle.bbm_tlbi_scope.specs.Operations.{scoped_by_vmid};
 ghost use Rattle.bbm_replay_roots.specs.Faults as faults;
 
 use crate::bridge::bridge;
+use crate::named::NamedTlbi;
 use bbm_barriers::Dsb;
 use bbm_events::{Event, Header};
 use bbm_locks::Locks;
@@ -12,7 +14,7 @@ use bbm_oracle_tags::wrong_world;
 use bbm_regimes::{Kind, NoMemory, Page, Pe, Reg, Which};
 use bbm_roots::{RootFault, Roots};
 use bbm_rules::{Rule, StepFault};
-use bbm_tlbi_scope::{Scope, TagSet, TlbiOp, decode};
+use bbm_tlbi_scope::{TagSet, TlbiOp, decode};
 use std::alloc::Global;
 
 /// The header of a log, its declared roots, the register values of each PE that may still be in use, the tags that each
@@ -69,6 +71,13 @@ fn retire_rule(fault: RootFault) -> Rule
     }
 }
 
+// Whether the operation needs the VMID of its PE, which has several.
+fn lacks_vmid(op: TlbiOp, vmid: Option<u16>) -> bool
+    ensures { result ≡ (scoped_by_vmid op && is_none vmid) }
+{
+    op.scoped_by_vmid() && vmid.is_none()
+}
+
 impl RootState {
     ghost use Rattle.std.specs.Prelude.{◌≡◌, ◌≢◌, ◌<◌, ◌≤◌, ◌↔◌, ℕ, Bool, true, List, [], ◌∷◌, Option, Some, None, Err, is_some, length, option_and_then, IsOk, IfOk, IfErr, OnOk, OnErr};
     ghost use Rattle.bbm_events.specs.Fits.{fits_heading};
@@ -84,9 +93,10 @@ impl RootState {
     ghost use Rattle.bbm_rules.specs.Roots as spec;
     ghost use Rattle.bbm_rules.specs.Rules as rules;
     ghost use Rattle.bbm_rules.specs.Tags as tags;
+    ghost use Rattle.bbm_tlbi_scope.specs.declared.op.TlbiOp.{TlbiOp as TheOp};
     ghost use Rattle.bbm_replay_roots.specs.Bridge.{has_null_base};
     ghost use Rattle.bbm_replay_roots.specs.Listed.{nth_in};
-    ghost use Rattle.bbm_replay_roots.specs.Stands.{Stands, MayFollow, MayIssue, HasRoom, IsReady, Judges};
+    ghost use Rattle.bbm_replay_roots.specs.Stands.{Stands, MayFollow, HasRoom, IsNamed, IsReady, Judges, JudgesTlbi};
 
     /// What stands for the empty history of the header. `NoMemory` where there is none.
     pub fn new(alloc: Global, header: &Header) -> Result<RootState, NoMemory>
@@ -159,45 +169,6 @@ impl RootState {
         }
     }
 
-    /// The VMID under which the PE issues its TLBIs, 0 to 65535: None where two of its readable values of VTTBR_EL2
-    /// have different ones; 0 in the Kernel world.
-    pub fn vmid_of(&self, pe: Pe) -> Option<u16>
-        requires { MayAsk (Stands self.now) pe }
-        ensures { (heading : Heading) (h : List TheEvent) → Stands self.now heading h
-            → result ≡ registers.vmid_of heading h pe }
-    {
-        bridge();
-        match self.roots.vmid_of(pe) {
-            Ok(vmid) => Some(vmid),
-            Err(_) => None,
-        }
-    }
-
-    // Whether the operation needs the VMID of the PE, which has several.
-    fn lacks_vmid(&self, pe: Pe, op: TlbiOp) -> bool
-        requires { MayAsk (Stands self.now) pe }
-        ensures { (heading : Heading) (h : List TheEvent) → Stands self.now heading h
-            → result ≡ registers.lacks_vmid heading h pe op }
-    {
-        op.scoped_by_vmid() && self.vmid_of(pe).is_none()
-    }
-
-    /// What a TLBI of the PE names: its scope, or None where its operand can't be decoded, or where it needs a VMID and
-    /// the PE has several.
-    pub fn named_scope(&self, pe: Pe, op: TlbiOp, xt: u64) -> Option<Scope>
-        requires { MayAsk (Stands self.now) pe }
-        ensures { (heading : Heading) (h : List TheEvent) → Stands self.now heading h
-            → result ≡ registers.named_scope heading h pe op xt }
-    {
-        if self.lacks_vmid(pe, op) {
-            return None;
-        }
-        match decode(op, xt) {
-            Ok(scope) => Some(scope),
-            Err(_) => None,
-        }
-    }
-
     /// The tags that the root with this first page holds at any PE: none, one, or more than one.
     pub fn tags_of(&self, page: Page) -> TagSet
         ensures { (heading : Heading) (h : List TheEvent) → Stands self.now heading h
@@ -244,22 +215,37 @@ impl RootState {
         }
     }
 
-    /// Judges a TLBI of the PE: Ok exactly where it breaks no rule, else the least rule that it breaks. Nothing
-    /// changes.
-    pub fn judge_tlbi(&self, pe: Pe, op: TlbiOp, xt: u64) -> Result<(), StepFault>
+    // The VMID under which the PE issues its TLBIs, 0 to 65535: None where two of its readable values of VTTBR_EL2
+    // have different ones; 0 in the Kernel world.
+    fn vmid_of(&self, pe: Pe) -> Option<u16>
         requires { MayAsk (Stands self.now) pe }
         ensures { (heading : Heading) (h : List TheEvent) → Stands self.now heading h
-            → Judges result (broken heading Patterns h (TheEvent.Tlbi pe op xt)) }
+            → result ≡ registers.vmid_of heading h pe }
+    {
+        bridge();
+        match self.roots.vmid_of(pe) {
+            Ok(vmid) => Some(vmid),
+            Err(_) => None,
+        }
+    }
+
+    /// Judges a TLBI of the PE: Ok with what it names exactly where it breaks no rule, else the least rule that it
+    /// breaks. Nothing changes.
+    pub fn judge_tlbi(&self, pe: Pe, op: TlbiOp, xt: u64) -> Result<NamedTlbi, StepFault>
+        requires { MayAsk (Stands self.now) pe }
+        ensures { (heading : Heading) (h : List TheEvent) → Stands self.now heading h
+            → JudgesTlbi heading h pe op xt result }
     {
         bridge();
         if !op.of_world(self.header.world) {
             return Err(StepFault::Broken(Rule::WrongWorld, 0));
         }
-        if self.lacks_vmid(pe, op) {
+        let vmid = self.vmid_of(pe);
+        if lacks_vmid(op, vmid) {
             return Err(StepFault::Broken(Rule::UnsyncedVmid, pe.get() as u64));
         }
         match decode(op, xt) {
-            Ok(_) => Ok(()),
+            Ok(scope) => Ok(NamedTlbi { scope, vmid }),
             Err(_) => Err(StepFault::Broken(Rule::BadOperand, xt)),
         }
     }
@@ -363,75 +349,38 @@ impl RootState {
         self.roots.isb(pe);
     }
 
-    /// A TLBI of the PE that breaks no rule. `NoMemory` where there is none; then it stands for what it stood for.
-    pub fn issue(&mut self, alloc: Global, pe: Pe, op: TlbiOp, xt: u64) -> Result<(), NoMemory>
-        requires { MayFollow self.old (TheEvent.Tlbi pe op xt) }
-        ensures taken { OnOk result ((heading : Heading) (h : List TheEvent) → Stands self.old heading h
-            → broken heading Patterns h (TheEvent.Tlbi pe op xt) ≡ None
-            → Stands self.new heading (TheEvent.Tlbi pe op xt ∷ h)) }
-        ensures same { OnErr result ((heading : Heading) (h : List TheEvent) → Stands self.old heading h
-            → Stands self.new heading h) }
-        ensures room { HasRoom self.old → HasRoom self.new }
-    {
-        bridge();
-        let vmid = self.vmid_of(pe);
-        match self.named_scope(pe, op, xt) {
-            Some(scope) => {
-                if scope.broadcast || !self.header.cnp {
-                    match self.roots.issue(alloc, pe, scope, vmid) {
-                        Ok(()) => Ok(()),
-                        Err(_) => Err(NoMemory),
-                    }
-                } else {
-                    Ok(())
-                }
-            }
-            None => Ok(()),
-        }
-    }
-
-    /// Makes room for a TLBI of the PE. `NoMemory` where there is none. It stands for what it stood for. After Ok
-    /// `issue_ready` takes that TLBI without memory.
+    /// Makes room for a TLBI of the PE that names this. `NoMemory` where there is none. It stands for what it stood
+    /// for. After Ok `issue_ready` takes that TLBI without memory.
     pub fn prepare_issue(
         &mut self,
         alloc: Global,
         pe: Pe,
-        op: TlbiOp,
-        xt: u64,
+        named: &NamedTlbi,
     ) -> Result<(), NoMemory>
-        requires { MayAsk (Stands self.old) pe }
-        ensures ready { OnOk result ((heading : Heading) (h : List TheEvent) → Stands self.old heading h
-            → IsReady self.new heading h pe op xt) }
+        ensures ready { OnOk result (IsReady self.new pe named.now) }
         ensures same { (heading : Heading) (h : List TheEvent) → Stands self.old heading h → Stands self.new heading h }
         ensures room { HasRoom self.old → HasRoom self.new }
     {
-        let vmid = self.vmid_of(pe);
-        match self.named_scope(pe, op, xt) {
-            Some(scope) => match self.roots.prepare_issue(alloc, pe, &scope, vmid) {
-                Ok(()) => Ok(()),
-                Err(_) => Err(NoMemory),
-            },
-            None => Ok(()),
+        match self
+            .roots
+            .prepare_issue(alloc, pe, &named.scope, named.vmid)
+        {
+            Ok(()) => Ok(()),
+            Err(_) => Err(NoMemory),
         }
     }
 
-    /// A TLBI of the PE that breaks no rule and for which there is room. It takes no memory.
-    pub fn issue_ready(&mut self, pe: Pe, op: TlbiOp, xt: u64)
-        requires { MayIssue self.old pe op xt }
-        ensures taken { (heading : Heading) (h : List TheEvent) → Stands self.old heading h
-            → broken heading Patterns h (TheEvent.Tlbi pe op xt) ≡ None
+    /// A TLBI of the PE that breaks no rule, names this, and for which there is room. It takes no memory.
+    pub fn issue_ready(&mut self, pe: Pe, named: &NamedTlbi)
+        requires pe { MayAsk (Stands self.old) pe }
+        requires ready { IsReady self.old pe named.now }
+        ensures taken { (heading : Heading) (h : List TheEvent) (op : TheOp) (xt : ℕ) → Stands self.old heading h
+            → IsNamed heading h pe op xt named.now → broken heading Patterns h (TheEvent.Tlbi pe op xt) ≡ None
             → Stands self.new heading (TheEvent.Tlbi pe op xt ∷ h) }
         ensures room { HasRoom self.old → HasRoom self.new }
     {
-        bridge();
-        let vmid = self.vmid_of(pe);
-        match self.named_scope(pe, op, xt) {
-            Some(named) => {
-                if named.broadcast || !self.header.cnp {
-                    self.roots.issue_ready(pe, &named, vmid);
-                }
-            }
-            None => {}
+        if named.scope.broadcast || !self.header.cnp {
+            self.roots.issue_ready(pe, &named.scope, named.vmid);
         }
     }
 

@@ -4,12 +4,12 @@ ghost use Rattle.std.specs.Prelude.{◌≡◌, IfOk};
 ghost use Rattle.bbm_rules.specs.Answers.{MayAsk};
 ghost use Rattle.bbm_replay_roots.specs.Stands.{Stands};
 
-use crate::{RootState, law_others};
+use crate::{NamedTlbi, RootState, law_others};
 use bbm_barriers::{Domain, Dsb, Types};
 use bbm_events::Header;
 use bbm_regimes::{HypWorld, Kind, NoMemory, Page, Pe, Reg, World};
 use bbm_rules::{Rule, StepFault};
-use bbm_tlbi_scope::{TagSet, TlbiOp};
+use bbm_tlbi_scope::{TagSet, TlbiOp, decode};
 use std::alloc::Global;
 use std::test::Fail;
 
@@ -54,19 +54,11 @@ fn at_the_start(alloc: Global) -> Result<RootState, NoMemory>
 }
 
 // The judgement of a TLBI of PE 0 with operand 0 before any event.
-fn tlbi(alloc: Global, pe: Pe, op: TlbiOp) -> Result<Result<(), StepFault>, NoMemory>
+fn tlbi(alloc: Global, pe: Pe, op: TlbiOp) -> Result<Result<NamedTlbi, StepFault>, NoMemory>
     requires { pe ≡ 0 }
 {
     let state = at_the_start(alloc)?;
     Ok(state.judge_tlbi(pe, op, 0))
-}
-
-// Whether a TLBI of PE 0 with operand 0 before any event names a scope.
-fn has_scope(alloc: Global, pe: Pe, op: TlbiOp) -> Result<bool, NoMemory>
-    requires { pe ≡ 0 }
-{
-    let state = at_the_start(alloc)?;
-    Ok(state.named_scope(pe, op, 0).is_some())
 }
 
 // The answer to a write of VTTBR_EL2 by PE 0 before any event.
@@ -93,24 +85,19 @@ fn first_events(rt: HostRuntime) -> Result<(), Fail> {
     let wrong_world = Err(StepFault::Broken(Rule::WrongWorld, 0));
     let no_root = Err(StepFault::Broken(Rule::NoRoot, ROOT));
     let other = tlbi(alloc, pe, TlbiOp::Aside1is);
+    let named = NamedTlbi {
+        scope: decode(TlbiOp::Vmalls12e1is, 0).map_err(|_| "operand")?,
+        vmid: Some(0),
+    };
     assert_eq!(rt;
         tlbi(alloc, pe, TlbiOp::Vmalls12e1is).expect(&rt, "memory"),
-        Ok(())
+        Ok(named)
     );
     assert_eq!(rt; other.expect(&rt, "memory"), wrong_world);
-    assert!(rt; has_scope(alloc, pe, TlbiOp::Vmalls12e1is).expect(&rt, "memory"));
     assert_eq!(rt; write(alloc, pe, ROOT).expect(&rt, "memory"), no_root);
     assert_eq!(rt; write(alloc, pe, 0).expect(&rt, "memory"), Ok(()));
     assert_eq!(rt; room_after_isb(alloc, pe).expect(&rt, "memory"), Ok(()));
     Ok(())
-}
-
-// The VMID of PE 0 before any event.
-fn vmid(alloc: Global, pe: Pe) -> Result<Option<u16>, NoMemory>
-    requires { pe ≡ 0 }
-{
-    let state = at_the_start(alloc)?;
-    Ok(state.vmid_of(pe))
 }
 
 #[test]
@@ -119,7 +106,6 @@ fn nothing_is_declared(rt: HostRuntime) -> Result<(), Fail> {
     let pe = Pe::new(0).unwrap();
     let page = Page::new(ROOT).ok_or("page")?;
     let no_root = Err(StepFault::Broken(Rule::NoRoot, ROOT));
-    assert_eq!(rt; vmid(rt.alloc(), pe).expect(&rt, "memory"), Some(0));
     assert_eq!(rt; state.judge_unroot(pe, page), no_root);
     assert!(rt; !state.is_root(Kind::S2, page) && !state.is_declared(page));
     assert_eq!(rt; state.lock_of(page), None);
@@ -144,22 +130,10 @@ fn issue(alloc: Global, state: &mut RootState, pe: Pe) -> Result<(), StepFault>
     requires { MayAsk (Stands state.old) pe }
     ensures { MayAsk (Stands state.new) pe }
 {
-    state.judge_tlbi(pe, TlbiOp::Alle2is, 0)?;
-    match state.issue(alloc, pe, TlbiOp::Alle2is, 0) {
-        Ok(()) => Ok(()),
-        Err(_) => Err(StepFault::NoMemory),
-    }
-}
-
-// The same, with room made for it first.
-fn issue_in_two(alloc: Global, state: &mut RootState, pe: Pe) -> Result<(), StepFault>
-    requires { MayAsk (Stands state.old) pe }
-    ensures { MayAsk (Stands state.new) pe }
-{
-    state.judge_tlbi(pe, TlbiOp::Alle2is, 0)?;
-    match state.prepare_issue(alloc, pe, TlbiOp::Alle2is, 0) {
+    let named = state.judge_tlbi(pe, TlbiOp::Alle2is, 0)?;
+    match state.prepare_issue(alloc, pe, &named) {
         Ok(()) => {
-            state.issue_ready(pe, TlbiOp::Alle2is, 0);
+            state.issue_ready(pe, &named);
             Ok(())
         }
         Err(_) => Err(StepFault::NoMemory),
@@ -193,7 +167,7 @@ fn a_root_from_its_declaration_to_its_end(rt: HostRuntime) -> Result<(), Fail> {
     assert!(rt; state.is_root(Kind::El2, page) && state.is_declared(page));
     assert_eq!(rt; issue(rt.alloc(), &mut state, pe), Ok(()));
     complete(&mut state, pe);
-    assert_eq!(rt; issue_in_two(rt.alloc(), &mut state, pe), Ok(()));
+    assert_eq!(rt; issue(rt.alloc(), &mut state, pe), Ok(()));
     complete(&mut state, pe);
     assert_eq!(rt; state.tags_of(page), TagSet::None);
     assert_eq!(rt; retire(&mut state, pe, page), Ok(()));

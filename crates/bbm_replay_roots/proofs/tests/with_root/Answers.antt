@@ -1,13 +1,11 @@
-use Rattle.std.proofs.Common.{◌≡◌, ℕ, true, false, None, [], ◌∷◌, refl, sym, subst, arith}
+use Rattle.std.proofs.Common.{◌≡◌, ℕ, true, None, [], ◌∷◌, refl, sym, subst, arith}
 use Rattle.bbm_events.specs.Fits.{fits_heading}
-use Rattle.bbm_rules.specs.Prelude.{Heading, Hyp, Init, Root, El2}
+use Rattle.bbm_rules.specs.Prelude.{Init, Root, El2}
 use Rattle.bbm_rules.specs.Broken.{broken}
 use Rattle.bbm_rules.specs.Tree as Tree
 use Rattle.bbm_rules.specs.Claims.{Patterns}
+use Rattle.bbm_replay_roots.proofs.TestLog.{heading}
 use Rattle.bbm_replay_roots.proofs.tests.with_root.Goals as goal
-
-abbrev heading : Heading
-heading = record { version = 1; pes = 2; cnp = false; world = Hyp (record { el2_start = 1; s2_start = 1; s2_pages = 1 }) }
 
 page_breaks_nothing : (page : ℕ) → page ≡ 0x4000_0000 → broken heading Patterns [] (Init 0 page) ≡ None
 unfolding broken Tree.tree

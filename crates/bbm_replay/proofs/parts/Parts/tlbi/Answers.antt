@@ -34,16 +34,18 @@ returns-in-Ok-issue c =
     let old = c.args.self.now in
     let e = c.in-Ok-issue.ensures in
     tlbi_meets c.laws.ensures c.rules.ensures old c.issue.new.map c.issue_ready.new.self c.args.pe c.args.op c.args.xt c.requires
-    c.in-Ok.ensures c.reach_of-reach.result c.reach_of-reach.ensures
+    (λ heading h s. (c.in-Ok.ensures heading h s).0) c.reach_of-reach.result c.reach_of-reach.ensures
     (λ heading h s a broken.
-    let st = c.prepare_issue.ensures.same heading h s.roots in
-    let m : MayBeIssued heading h old.map old.index c.prepare_issue.new.self c.args.pe c.args.op c.args.xt c.in-Some.scope c.vmid_of-vmid.result
+    let names = (c.in-Ok.ensures heading h s.roots).1 in
+    let m : MayBeIssued heading h old.map old.index c.prepare_issue.new.self c.args.pe c.args.op c.args.xt c.in-Ok.named.scope c.in-Ok.named.vmid
     = record {
       told = s.told;
-      stands = st;
-      named = sym (c.named_scope.ensures heading h st) ∙ c.in-Some.is;
-      vmid_is = c.vmid_of-vmid.ensures heading h st;
+      stands = c.prepare_issue.ensures.same heading h s.roots;
+      named = names.0;
+      vmid_is = names.1;
     } in
     e.noted heading h c.args.xt s.header m a broken)
     e.others c.law_idle.ensures c.law_idle-in-Ok-issue.ensures e.values e.marks e.pages
-    (λ heading h s. c.issue_ready.ensures.taken heading h (c.prepare_issue.ensures.same heading h s.roots) (c.in-Ok.ensures heading h s.roots))
+    (λ heading h s.
+    let judged = c.in-Ok.ensures heading h s.roots in
+    c.issue_ready.ensures.taken heading h c.args.op c.args.xt (c.prepare_issue.ensures.same heading h s.roots) judged.1 judged.0)

@@ -1,7 +1,9 @@
-use Rattle.std.proofs.Common.{ℕ, true, false, Some, Ok, Err, refl, sym, ap, ◌∙◌}
+use Rattle.std.proofs.Common.{◌≡◌, ℕ, true, false, Bool, Option, Some, None, Ok, Err, ◌&&◌, refl, sym, ap, ◌∙◌}
+use Rattle.std.specs.Option.{is_none}
+use Rattle.bbm_tlbi_scope.specs.Operations.{scoped_by_vmid}
 use Rattle.bbm_rules.specs.declared.rule.Rule.TheVariants.{UnsyncedVmid}
 use Rattle.bbm_replay_roots.specs.declared.state.RootState.{RootState}
-use Rattle.bbm_replay_roots.proofs.Judge.{tlbi_elsewhere, tlbi_is, world_by}
+use Rattle.bbm_replay_roots.proofs.Judge.{named_by, tlbi_elsewhere, tlbi_is, world_by}
 use Rattle.bbm_replay_roots.proofs.state.RootState.judge_tlbi.Goals as goal
 
 pub returns-then-not-of_world : goal.returns-then-not-of_world
@@ -13,17 +15,26 @@ pub returns-then-lacks_vmid : goal.returns-then-lacks_vmid
 returns-then-lacks_vmid c heading h s =
     tlbi_is heading h c.args.pe c.args.op c.args.xt (c.bridge.ensures heading) true true _
     (world_by s _ c.args.op true (ap (λ (x : RootState). x.header.world) (sym c.self.view_is)) (sym c.of_world.ensures ∙ c.if-not-of_world.false))
-    (sym (c.lacks_vmid.ensures heading h s) ∙ c.if-lacks_vmid.true) refl
+    (ap (λ (v : Option ℕ). scoped_by_vmid c.args.op && is_none v) (sym (c.vmid_of-vmid.ensures heading h s))
+    ∙ (sym c.lacks_vmid.ensures ∙ c.if-lacks_vmid.true)) refl
     ∙ ap (λ (n : ℕ). Some (record { rule = UnsyncedVmid; at = n })) (sym c.get.ensures.value)
 
 pub returns-in-Ok : goal.returns-in-Ok
 returns-in-Ok c heading h s =
-    tlbi_is heading h c.args.pe c.args.op c.args.xt (c.bridge.ensures heading) true false (Ok c.in-Ok.field-0)
-    (world_by s _ c.args.op true (ap (λ (x : RootState). x.header.world) (sym c.self.view_is)) (sym c.of_world.ensures ∙ c.if-not-of_world.false))
-    (sym (c.lacks_vmid.ensures heading h s) ∙ c.if-lacks_vmid.false) (sym c.in-Ok.ensures.scope)
+    let lacks = ap (λ (v : Option ℕ). scoped_by_vmid c.args.op && is_none v) (sym (c.vmid_of-vmid.ensures heading h s))
+    ∙ (sym c.lacks_vmid.ensures ∙ c.if-lacks_vmid.false) in (
+      tlbi_is heading h c.args.pe c.args.op c.args.xt (c.bridge.ensures heading) true false (Ok c.in-Ok.scope)
+          (world_by s _ c.args.op true (ap (λ (x : RootState). x.header.world) (sym c.self.view_is)) (sym c.of_world.ensures ∙ c.if-not-of_world.false))
+          lacks (sym c.in-Ok.ensures.scope),
+      (
+        named_by heading h c.args.pe c.args.op c.args.xt c.in-Ok.scope lacks (sym c.in-Ok.ensures.scope),
+        c.vmid_of-vmid.ensures heading h s,
+      ),
+    )
 
 pub returns-in-Err : goal.returns-in-Err
 returns-in-Err c heading h s =
     tlbi_is heading h c.args.pe c.args.op c.args.xt (c.bridge.ensures heading) true false (Err c.in-Err.field-0)
     (world_by s _ c.args.op true (ap (λ (x : RootState). x.header.world) (sym c.self.view_is)) (sym c.of_world.ensures ∙ c.if-not-of_world.false))
-    (sym (c.lacks_vmid.ensures heading h s) ∙ c.if-lacks_vmid.false) (sym c.in-Err.ensures.scope)
+    (ap (λ (v : Option ℕ). scoped_by_vmid c.args.op && is_none v) (sym (c.vmid_of-vmid.ensures heading h s))
+    ∙ (sym c.lacks_vmid.ensures ∙ c.if-lacks_vmid.false)) (sym c.in-Err.ensures.scope)
