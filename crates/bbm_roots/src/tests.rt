@@ -76,7 +76,10 @@ fn flush(alloc: Global, roots: &mut Roots, pe: Pe, op: TlbiOp, xt: u64) -> Resul
 
 // The page at an address, or `NoMemory` where that is none.
 fn page_at(base: u64) -> Result<Page, RootFault> {
-    Page::new(base).ok_or(RootFault::NoMemory)
+    match Page::new(base) {
+        Some(page) => Ok(page),
+        None => Err(RootFault::NoMemory),
+    }
 }
 
 // The PE of the header with this number, or `NoMemory` where it has none.

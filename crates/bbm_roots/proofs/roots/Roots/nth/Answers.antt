@@ -1,5 +1,4 @@
 use Rattle.std.proofs.Common.{rules}
-use Rattle.std.proofs.lemmas.Grind.{common_steps}
 use Rattle.bbm_roots.specs.Listed.{nth_in}
 use Rattle.bbm_roots.proofs.roots.Roots.nth.Goals as goal
 
