@@ -1,6 +1,7 @@
 -- The first word of a line, where a space follows it.
-use Rattle.std.proofs.Common.{◌≡◌, ℕ, ◌-◌, ◌≤◌, List, [], ◌∷◌, length, take, drop, get_or, refl, Ok, arith}
-use Rattle.std.proofs.lemmas.List.{take_all}
+use Rattle.std.proofs.Common.{◌≡◌, ℕ, suc, ◌-◌, ◌≤◌, List, [], ◌∷◌, ◌++◌, length, take, drop, get_or, codes, refl, ap, ◌∙◌, Ok, arith}
+use Rattle.std.specs.Bool.{⊤}
+use Rattle.std.proofs.lemmas.List.{take_rest}
 use Rattle.bbm_events.specs.Spelling.{fields}
 use Rattle.bbm_events.specs.declared.keyword.Keyword.{Keyword}
 use Rattle.bbm_events.specs.declared.keyword.Keyword.TheVariants as first
@@ -9,80 +10,41 @@ use Rattle.bbm_events.specs.Lines.{FieldRead, keyword_field}
 abbrev keyword : List ℕ → FieldRead Keyword
 keyword line = keyword_field (fields line)
 
+-- these codes stand in the text, from the position on
+abbrev Has : List ℕ → ℕ → List ℕ → Type 0
+Has text i [] = ⊤
+Has text i (code ∷ more) = (get_or text i 0 ≡ code) × Has text (suc i) more
+
+-- the same of the text behind its first byte
+behind : (byte : ℕ) (bytes : List ℕ) (i : ℕ) (word : List ℕ) → Has (byte ∷ bytes) (suc i) word → Has bytes i word
+behind byte bytes i [] has = tt
+behind byte bytes i (code ∷ more) has = (has.0, behind byte bytes (suc i) more has.1)
+
+-- the text is the word and what stands behind it
+begins : (word text : List ℕ) → length word ≤ length text → Has text 0 word → text ≡ word ++ drop (length word) text
+begins [] text some has = refl
+begins (code ∷ more) [] some has = absurd (omega arith)
+begins (code ∷ more) (byte ∷ bytes) some has =
+    let is : byte ≡ code = has.0 in
+    let rest : bytes ≡ more ++ drop (length more) bytes = begins more bytes (omega arith) (behind byte bytes 0 more has.1) in
+    ap (λ (b : ℕ). b ∷ bytes) is ∙ ap (λ (l : List ℕ). code ∷ l) rest
+
 pub begins_w : (text : List ℕ) → 2 ≤ length text → get_or text 0 0 ≡ 119 → get_or text 1 0 ≡ 32 → keyword text ≡ Ok (first.Write, fields (take (length text - 2) (drop 2 text)))
-begins_w [] some h0 h1 = absurd (omega arith)
-begins_w (a ∷ []) some h0 h1 = absurd (omega arith)
-begins_w (a ∷ b ∷ rest) some h0 h1 =
-    let is_0 : a ≡ 119 = h0 in
-    let is_1 : b ≡ 32 = h1 in
-    let all : take (length (a ∷ b ∷ rest) - 2) rest ≡ rest = take_all (length (a ∷ b ∷ rest) - 2) rest (omega arith) in
-    rw (is_0, is_1, all) refl
+begins_w text some h0 h1 = rw (take_rest text 2) (ap keyword (begins (codes "w ") text some (h0, (h1, tt))))
 
 pub begins_dsb : (text : List ℕ) → 4 ≤ length text → get_or text 0 0 ≡ 100 → get_or text 1 0 ≡ 115 → get_or text 2 0 ≡ 98 → get_or text 3 0 ≡ 32 → keyword text ≡ Ok (first.Dsb, fields (take (length text - 4) (drop 4 text)))
-begins_dsb [] some h0 h1 h2 h3 = absurd (omega arith)
-begins_dsb (a ∷ []) some h0 h1 h2 h3 = absurd (omega arith)
-begins_dsb (a ∷ b ∷ []) some h0 h1 h2 h3 = absurd (omega arith)
-begins_dsb (a ∷ b ∷ c ∷ []) some h0 h1 h2 h3 = absurd (omega arith)
-begins_dsb (a ∷ b ∷ c ∷ d ∷ rest) some h0 h1 h2 h3 =
-    let is_0 : a ≡ 100 = h0 in
-    let is_1 : b ≡ 115 = h1 in
-    let is_2 : c ≡ 98 = h2 in
-    let is_3 : d ≡ 32 = h3 in
-    let all : take (length (a ∷ b ∷ c ∷ d ∷ rest) - 4) rest ≡ rest = take_all (length (a ∷ b ∷ c ∷ d ∷ rest) - 4) rest (omega arith) in
-    rw (is_0, is_1, is_2, is_3, all) refl
+begins_dsb text some h0 h1 h2 h3 = rw (take_rest text 4) (ap keyword (begins (codes "dsb ") text some (h0, (h1, (h2, (h3, tt))))))
 
 pub begins_tlbi : (text : List ℕ) → 5 ≤ length text → get_or text 0 0 ≡ 116 → get_or text 1 0 ≡ 108 → get_or text 2 0 ≡ 98 → get_or text 3 0 ≡ 105 → get_or text 4 0 ≡ 32 → keyword text ≡ Ok (first.Tlbi, fields (take (length text - 5) (drop 5 text)))
-begins_tlbi [] some h0 h1 h2 h3 h4 = absurd (omega arith)
-begins_tlbi (a ∷ []) some h0 h1 h2 h3 h4 = absurd (omega arith)
-begins_tlbi (a ∷ b ∷ []) some h0 h1 h2 h3 h4 = absurd (omega arith)
-begins_tlbi (a ∷ b ∷ c ∷ []) some h0 h1 h2 h3 h4 = absurd (omega arith)
-begins_tlbi (a ∷ b ∷ c ∷ d ∷ []) some h0 h1 h2 h3 h4 = absurd (omega arith)
-begins_tlbi (a ∷ b ∷ c ∷ d ∷ e ∷ rest) some h0 h1 h2 h3 h4 =
-    let is_0 : a ≡ 116 = h0 in
-    let is_1 : b ≡ 108 = h1 in
-    let is_2 : c ≡ 98 = h2 in
-    let is_3 : d ≡ 105 = h3 in
-    let is_4 : e ≡ 32 = h4 in
-    let all : take (length (a ∷ b ∷ c ∷ d ∷ e ∷ rest) - 5) rest ≡ rest = take_all (length (a ∷ b ∷ c ∷ d ∷ e ∷ rest) - 5) rest (omega arith) in
-    rw (is_0, is_1, is_2, is_3, is_4, all) refl
+begins_tlbi text some h0 h1 h2 h3 h4 = rw (take_rest text 5) (ap keyword (begins (codes "tlbi ") text some (h0, (h1, (h2, (h3, (h4, tt)))))))
 
 pub begins_isb : (text : List ℕ) → 4 ≤ length text → get_or text 0 0 ≡ 105 → get_or text 1 0 ≡ 115 → get_or text 2 0 ≡ 98 → get_or text 3 0 ≡ 32 → keyword text ≡ Ok (first.Isb, fields (take (length text - 4) (drop 4 text)))
-begins_isb [] some h0 h1 h2 h3 = absurd (omega arith)
-begins_isb (a ∷ []) some h0 h1 h2 h3 = absurd (omega arith)
-begins_isb (a ∷ b ∷ []) some h0 h1 h2 h3 = absurd (omega arith)
-begins_isb (a ∷ b ∷ c ∷ []) some h0 h1 h2 h3 = absurd (omega arith)
-begins_isb (a ∷ b ∷ c ∷ d ∷ rest) some h0 h1 h2 h3 =
-    let is_0 : a ≡ 105 = h0 in
-    let is_1 : b ≡ 115 = h1 in
-    let is_2 : c ≡ 98 = h2 in
-    let is_3 : d ≡ 32 = h3 in
-    let all : take (length (a ∷ b ∷ c ∷ d ∷ rest) - 4) rest ≡ rest = take_all (length (a ∷ b ∷ c ∷ d ∷ rest) - 4) rest (omega arith) in
-    rw (is_0, is_1, is_2, is_3, all) refl
+begins_isb text some h0 h1 h2 h3 = rw (take_rest text 4) (ap keyword (begins (codes "isb ") text some (h0, (h1, (h2, (h3, tt))))))
 
 pub begins_dmb : (text : List ℕ) → 4 ≤ length text → get_or text 0 0 ≡ 100 → get_or text 1 0 ≡ 109 → get_or text 2 0 ≡ 98 → get_or text 3 0 ≡ 32 → keyword text ≡ Ok (first.Dmb, fields (take (length text - 4) (drop 4 text)))
-begins_dmb [] some h0 h1 h2 h3 = absurd (omega arith)
-begins_dmb (a ∷ []) some h0 h1 h2 h3 = absurd (omega arith)
-begins_dmb (a ∷ b ∷ []) some h0 h1 h2 h3 = absurd (omega arith)
-begins_dmb (a ∷ b ∷ c ∷ []) some h0 h1 h2 h3 = absurd (omega arith)
-begins_dmb (a ∷ b ∷ c ∷ d ∷ rest) some h0 h1 h2 h3 =
-    let is_0 : a ≡ 100 = h0 in
-    let is_1 : b ≡ 109 = h1 in
-    let is_2 : c ≡ 98 = h2 in
-    let is_3 : d ≡ 32 = h3 in
-    let all : take (length (a ∷ b ∷ c ∷ d ∷ rest) - 4) rest ≡ rest = take_all (length (a ∷ b ∷ c ∷ d ∷ rest) - 4) rest (omega arith) in
-    rw (is_0, is_1, is_2, is_3, all) refl
+begins_dmb text some h0 h1 h2 h3 = rw (take_rest text 4) (ap keyword (begins (codes "dmb ") text some (h0, (h1, (h2, (h3, tt))))))
 
 pub begins_msr : (text : List ℕ) → 4 ≤ length text → get_or text 0 0 ≡ 109 → get_or text 1 0 ≡ 115 → get_or text 2 0 ≡ 114 → get_or text 3 0 ≡ 32 → keyword text ≡ Ok (first.Msr, fields (take (length text - 4) (drop 4 text)))
-begins_msr [] some h0 h1 h2 h3 = absurd (omega arith)
-begins_msr (a ∷ []) some h0 h1 h2 h3 = absurd (omega arith)
-begins_msr (a ∷ b ∷ []) some h0 h1 h2 h3 = absurd (omega arith)
-begins_msr (a ∷ b ∷ c ∷ []) some h0 h1 h2 h3 = absurd (omega arith)
-begins_msr (a ∷ b ∷ c ∷ d ∷ rest) some h0 h1 h2 h3 =
-    let is_0 : a ≡ 109 = h0 in
-    let is_1 : b ≡ 115 = h1 in
-    let is_2 : c ≡ 114 = h2 in
-    let is_3 : d ≡ 32 = h3 in
-    let all : take (length (a ∷ b ∷ c ∷ d ∷ rest) - 4) rest ≡ rest = take_all (length (a ∷ b ∷ c ∷ d ∷ rest) - 4) rest (omega arith) in
-    rw (is_0, is_1, is_2, is_3, all) refl
+begins_msr text some h0 h1 h2 h3 = rw (take_rest text 4) (ap keyword (begins (codes "msr ") text some (h0, (h1, (h2, (h3, tt))))))
 
 pub ruleset begun = (begins_w, begins_dsb, begins_tlbi, begins_isb, begins_dmb, begins_msr)
