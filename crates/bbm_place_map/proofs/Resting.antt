@@ -48,6 +48,11 @@ and_twice : (a w : Bool) → (a && (a && w)) ≡ (a && w)
 and_twice true w = refl
 and_twice false w = refl
 
+-- an entry that stays is no table that left
+pub stays_kept : (o : Option Entry) → loses_table (marks_of o) (marks_of o) ≡ false
+stays_kept None = refl
+stays_kept (Some e) = false_and (is_table e.marks.core)
+
 has_both : (c : Answers) → has_broadcast c ≡ true → has_local c ≡ true
 has_both EveryTlbi h = refl
 has_both LocalTlbis h = refl

@@ -5,6 +5,7 @@ pub mod Sound
 pub mod States
 pub mod Each
 pub mod Works
+pub mod Dsbs
 pub mod Finds
 pub mod Notes
 pub mod Map

@@ -3,12 +3,12 @@
 ghost use Rattle.std.specs.Prelude.{◌≡◌, ◌≢◌, ◌≤◌, ◌<◌, ◌+◌, ◌^◌, ◌⊎◌, ℕ, Some, Option, vec_len, vec_capacity, length, slice_get, slice_index, nat_eq, true, false, if◌then◌else◌};
 ghost use Rattle.bbm_entry_state.specs.Standing.{IsIdle};
 ghost use Rattle.bbm_place_map.specs.Cells.{value_in, slot_in};
+ghost use Rattle.bbm_place_map.specs.Dsbs.{CompletesAll, HoldWaiting, IsSettled};
 ghost use Rattle.bbm_place_map.specs.Each.{Completes, loses_table, is_table as spec_is_table};
 ghost use Rattle.bbm_place_map.specs.Entries.{cell_at, entry_in, pends_in, seat, WaitsAlike};
-ghost use Rattle.bbm_entry_state.specs.declared.marks.Marks.{Marks as TheMarks};
-ghost use Rattle.bbm_place_map.specs.Parts.{marks_in, pends_for};
+ghost use Rattle.bbm_place_map.specs.Parts.{marks_in};
 ghost use Rattle.bbm_place_map.specs.Sound.{Linked, Placed};
-ghost use Rattle.bbm_place_map.specs.Works.{Holds, HoldsFor, MayComplete, is_clean};
+ghost use Rattle.bbm_place_map.specs.Works.{Holds, HoldsFor, MayComplete};
 ghost use Rattle.bbm_place_map.specs.declared.entry.Entry.{Entry as TheEntry};
 
 use crate::cell::Cell;
@@ -102,17 +102,7 @@ fn complete_all(cells: &mut Vec<Cell>, broken: &mut Vec<Entry>, issuer: Pe, dsb:
     requires most { n ≤ 128 }
     requires linked { Linked cells.old.items broken.old.items }
     requires few { vec_len cells.old < 2 ^ 32 }
-    ensures linked { Linked cells.new.items broken.new.items }
-    ensures len { vec_len cells.new ≡ vec_len cells.old }
-    ensures room { vec_capacity broken.new ≡ vec_capacity broken.old }
-    ensures values { (i : ℕ) → value_in cells.new.items i ≡ value_in cells.old.items i }
-    ensures each { (j : ℕ) → Completes issuer dsb n (entry_in cells.old.items broken.old.items j)
-        (entry_in cells.new.items broken.new.items j) }
-    ensures lost { result ≡ true → (j : ℕ) × (loses_table (marks_in cells.old.items broken.old.items j)
-        (marks_in cells.new.items broken.new.items j) ≡ true) }
-    ensures kept { result ≡ false → (j : ℕ) → loses_table (marks_in cells.old.items broken.old.items j)
-        (marks_in cells.new.items broken.new.items j) ≡ false }
-    ensures placed { (base : ℕ → Option ℕ) → Placed base broken.old.items → Placed base broken.new.items }
+    ensures { CompletesAll issuer dsb n cells.old cells.new broken.old broken.new result }
 {
     let mut lost = false;
     let mut k = broken.len();
@@ -228,20 +218,9 @@ fn complete_list(
     requires linked { Linked cells.old.items broken.old.items }
     requires few { vec_len cells.old < 2 ^ 32 }
     requires open { list.now.given_up ≡ false }
-    requires known { (j : ℕ) → Holds list.now j ⊎ IsIdle (pends_for cells.old.items broken.old.items issuer j) }
-    requires settled { (j : ℕ) (marks : TheMarks) → marks_in cells.old.items broken.old.items j ≡ Some marks
-        → is_clean n marks ≡ false }
-    ensures linked { Linked cells.new.items broken.new.items }
-    ensures len { vec_len cells.new ≡ vec_len cells.old }
-    ensures room { vec_capacity broken.new ≡ vec_capacity broken.old }
-    ensures values { (i : ℕ) → value_in cells.new.items i ≡ value_in cells.old.items i }
-    ensures each { (j : ℕ) → Completes issuer dsb n (entry_in cells.old.items broken.old.items j)
-        (entry_in cells.new.items broken.new.items j) }
-    ensures lost { result ≡ true → (j : ℕ) × (loses_table (marks_in cells.old.items broken.old.items j)
-        (marks_in cells.new.items broken.new.items j) ≡ true) }
-    ensures kept { result ≡ false → (j : ℕ) → loses_table (marks_in cells.old.items broken.old.items j)
-        (marks_in cells.new.items broken.new.items j) ≡ false }
-    ensures placed { (base : ℕ → Option ℕ) → Placed base broken.old.items → Placed base broken.new.items }
+    requires known { HoldWaiting (Holds list.now) issuer cells.old.items broken.old.items }
+    requires settled { IsSettled n cells.old.items broken.old.items }
+    ensures { CompletesAll issuer dsb n cells.old cells.new broken.old broken.new result }
 {
     complete_cells(cells, broken, &list.cells, issuer, dsb, n)
 }
@@ -260,21 +239,10 @@ fn complete_listed(
     requires linked { Linked cells.old.items broken.old.items }
     requires few { vec_len cells.old < 2 ^ 32 }
     requires open { list.old.given_up ≡ false }
-    requires known { (j : ℕ) → Holds list.old j ⊎ IsIdle (pends_for cells.old.items broken.old.items issuer j) }
-    requires settled { (j : ℕ) (marks : TheMarks) → marks_in cells.old.items broken.old.items j ≡ Some marks
-        → is_clean n marks ≡ false }
-    ensures linked { Linked cells.new.items broken.new.items }
-    ensures len { vec_len cells.new ≡ vec_len cells.old }
-    ensures room { vec_capacity broken.new ≡ vec_capacity broken.old }
-    ensures values { (i : ℕ) → value_in cells.new.items i ≡ value_in cells.old.items i }
-    ensures each { (j : ℕ) → Completes issuer dsb n (entry_in cells.old.items broken.old.items j)
-        (entry_in cells.new.items broken.new.items j) }
-    ensures known { (j : ℕ) → Holds list.new j ⊎ IsIdle (pends_for cells.new.items broken.new.items issuer j) }
-    ensures lost { result ≡ true → (j : ℕ) × (loses_table (marks_in cells.old.items broken.old.items j)
-        (marks_in cells.new.items broken.new.items j) ≡ true) }
-    ensures kept { result ≡ false → (j : ℕ) → loses_table (marks_in cells.old.items broken.old.items j)
-        (marks_in cells.new.items broken.new.items j) ≡ false }
-    ensures placed { (base : ℕ → Option ℕ) → Placed base broken.old.items → Placed base broken.new.items }
+    requires known { HoldWaiting (Holds list.old) issuer cells.old.items broken.old.items }
+    requires settled { IsSettled n cells.old.items broken.old.items }
+    ensures completed { CompletesAll issuer dsb n cells.old cells.new broken.old broken.new result }
+    ensures known { HoldWaiting (Holds list.new) issuer cells.new.items broken.new.items }
 {
     if !completes_local(dsb) {
         return false;
@@ -300,22 +268,10 @@ fn complete_by(
     requires most { n ≤ 128 }
     requires linked { Linked cells.old.items broken.old.items }
     requires few { vec_len cells.old < 2 ^ 32 }
-    requires known { (j : ℕ) → Holds list.old j ⊎ IsIdle (pends_for cells.old.items broken.old.items issuer j) }
-    requires settled { settled ≡ true → (j : ℕ) (marks : TheMarks) → marks_in cells.old.items broken.old.items j
-        ≡ Some marks
-        → is_clean n marks ≡ false }
-    ensures linked { Linked cells.new.items broken.new.items }
-    ensures len { vec_len cells.new ≡ vec_len cells.old }
-    ensures room { vec_capacity broken.new ≡ vec_capacity broken.old }
-    ensures values { (i : ℕ) → value_in cells.new.items i ≡ value_in cells.old.items i }
-    ensures each { (j : ℕ) → Completes issuer dsb n (entry_in cells.old.items broken.old.items j)
-        (entry_in cells.new.items broken.new.items j) }
-    ensures known { (j : ℕ) → Holds list.new j ⊎ IsIdle (pends_for cells.new.items broken.new.items issuer j) }
-    ensures lost { result ≡ true → (j : ℕ) × (loses_table (marks_in cells.old.items broken.old.items j)
-        (marks_in cells.new.items broken.new.items j) ≡ true) }
-    ensures kept { result ≡ false → (j : ℕ) → loses_table (marks_in cells.old.items broken.old.items j)
-        (marks_in cells.new.items broken.new.items j) ≡ false }
-    ensures placed { (base : ℕ → Option ℕ) → Placed base broken.old.items → Placed base broken.new.items }
+    requires known { HoldWaiting (Holds list.old) issuer cells.old.items broken.old.items }
+    requires settled { settled ≡ true → IsSettled n cells.old.items broken.old.items }
+    ensures completed { CompletesAll issuer dsb n cells.old cells.new broken.old broken.new result }
+    ensures known { HoldWaiting (Holds list.new) issuer cells.new.items broken.new.items }
 {
     if settled && !list.given_up {
         complete_listed(cells, broken, list, issuer, dsb, n)
@@ -342,25 +298,11 @@ pub fn complete(
     requires most { n ≤ 128 }
     requires linked { Linked cells.old.items broken.old.items }
     requires few { vec_len cells.old < 2 ^ 32 }
-    requires known { (j : ℕ) → HoldsFor lists.old.items issuer j
-        ⊎ IsIdle (pends_for cells.old.items broken.old.items issuer j) }
-    requires settled { settled ≡ true → (j : ℕ) (marks : TheMarks) → marks_in cells.old.items broken.old.items j
-        ≡ Some marks
-        → is_clean n marks ≡ false }
-    ensures linked { Linked cells.new.items broken.new.items }
-    ensures len { vec_len cells.new ≡ vec_len cells.old }
-    ensures room { vec_capacity broken.new ≡ vec_capacity broken.old }
-    ensures values { (i : ℕ) → value_in cells.new.items i ≡ value_in cells.old.items i }
-    ensures each { (j : ℕ) → Completes issuer dsb n (entry_in cells.old.items broken.old.items j)
-        (entry_in cells.new.items broken.new.items j) }
-    ensures known { (j : ℕ) → HoldsFor lists.new.items issuer j
-        ⊎ IsIdle (pends_for cells.new.items broken.new.items issuer j) }
+    requires known { HoldWaiting (HoldsFor lists.old.items issuer) issuer cells.old.items broken.old.items }
+    requires settled { settled ≡ true → IsSettled n cells.old.items broken.old.items }
+    ensures completed { CompletesAll issuer dsb n cells.old cells.new broken.old broken.new result }
+    ensures known { HoldWaiting (HoldsFor lists.new.items issuer) issuer cells.new.items broken.new.items }
     ensures kept_lists { (q j : ℕ) → q ≢ issuer → HoldsFor lists.old.items q j → HoldsFor lists.new.items q j }
-    ensures lost { result ≡ true → (j : ℕ) × (loses_table (marks_in cells.old.items broken.old.items j)
-        (marks_in cells.new.items broken.new.items j) ≡ true) }
-    ensures kept { result ≡ false → (j : ℕ) → loses_table (marks_in cells.old.items broken.old.items j)
-        (marks_in cells.new.items broken.new.items j) ≡ false }
-    ensures placed { (base : ℕ → Option ℕ) → Placed base broken.old.items → Placed base broken.new.items }
 {
     let q = issuer.get() as usize;
     if q < lists.len() {

@@ -1,6 +1,6 @@
 //! What is kept of a broken place.
 
-ghost use Rattle.std.specs.Prelude.{◌≡◌, ◌≢◌, ◌↔◌, ℕ, IsTrue, OnOk, length, Bool, true, false};
+ghost use Rattle.std.specs.Prelude.{◌≡◌, ◌≢◌, ◌↔◌, ℕ, IsTrue, OnOk, length, true, false};
 ghost use Rattle.bbm_place_map.specs.Entries.{pends_in, WaitsAlike};
 ghost use Rattle.bbm_place_map.specs.Entries.{HasRoom, Lacks};
 ghost use Rattle.bbm_entry_state.specs.Points.{waits_in};

@@ -1,12 +1,10 @@
 //! Edits of the cells and the entries, which keep naming each other.
 
-ghost use Rattle.std.specs.Prelude.{◌≡◌, ◌≤◌, ◌<◌, ◌+◌, ◌^◌, ℕ, Option, Some, None, is_some, nat_eq, not, ◌&&◌, vec_len, vec_capacity, count_by, slice_get, cond, if◌then◌else◌};
-ghost use Rattle.bbm_entry_state.specs.Points.{is_broken};
+ghost use Rattle.std.specs.Prelude.{◌≡◌, ◌≤◌, ◌<◌, ◌+◌, ◌^◌, ℕ, Option, Some, None, is_some, nat_eq, vec_len, vec_capacity, count_by, slice_get, cond, if◌then◌else◌};
 ghost use Rattle.bbm_place_map.specs.Cells.{value_in, slot_in, is_listed};
-ghost use Rattle.bbm_place_map.specs.Entries.{cell_at, entry_in, no_pends};
+ghost use Rattle.bbm_place_map.specs.Entries.{cell_at, entry_in};
 ghost use Rattle.bbm_place_map.specs.Parts.{marks_in, pends_for};
 ghost use Rattle.bbm_place_map.specs.Sound.{Linked, Placed, index_of};
-ghost use Rattle.bbm_place_map.specs.States.{marks_of_state};
 
 use crate::cell::Cell;
 use crate::entry::Entry;

@@ -1,12 +1,11 @@
 //! What a DSB publishes.
 
-ghost use Rattle.std.specs.Prelude.{◌≡◌, ◌≢◌, ◌≤◌, ◌<◌, ◌⊎◌, ℕ, Some, true, false, All, vec_len, vec_capacity, length, slice_get, slice_index, nat_eq, if◌then◌else◌};
+ghost use Rattle.std.specs.Prelude.{◌≡◌, ◌≢◌, ◌≤◌, ◌<◌, ◌⊎◌, ℕ, Some, true, false, vec_len, vec_capacity, length, slice_get, slice_index, nat_eq, if◌then◌else◌};
 ghost use Rattle.bbm_entry_state.specs.Calls.{Published};
-ghost use Rattle.bbm_entry_state.specs.declared.marks.Marks.{Marks as TheMarks};
 ghost use Rattle.bbm_place_map.specs.Cells.{slot_in};
+ghost use Rattle.bbm_place_map.specs.Dsbs.{HoldUntold, PublishesAll};
 ghost use Rattle.bbm_place_map.specs.Each.{Advances, Publishes};
-ghost use Rattle.bbm_place_map.specs.Entries.{seat, entry_of};
-ghost use Rattle.bbm_place_map.specs.Parts.{marks_in};
+ghost use Rattle.bbm_place_map.specs.Entries.{seat};
 ghost use Rattle.bbm_place_map.specs.Sound.{Linked};
 ghost use Rattle.bbm_place_map.specs.Works.{Holds, HoldsFor, IsTold, MayPublish};
 ghost use Rattle.bbm_place_map.specs.declared.entry.Entry.{Entry as TheEntry};
@@ -51,10 +50,7 @@ fn publish_all(broken: &mut Vec<Entry>, issuer: Pe, dsb: Dsb, n: u8)
     requires some { 1 ≤ n }
     requires within { n ≤ 128 }
     requires issuer_below { issuer < n }
-    ensures each { (k : ℕ)
-        → Advances (Publishes issuer dsb n) (slice_get broken.old.items k) (slice_get broken.new.items k) }
-    ensures len { length broken.new.items ≡ length broken.old.items }
-    ensures room { vec_capacity broken.new ≡ vec_capacity broken.old }
+    ensures { PublishesAll issuer dsb n broken.old broken.new }
 {
     for k in 0..broken.len() {
         publish_at(broken, k, issuer, dsb, n);
@@ -125,8 +121,7 @@ fn relist(broken: &[Entry], list: &mut WorkList, issuer: Pe, n: u8)
     requires some { 1 ≤ n }
     requires within { n ≤ 128 }
     requires issuer_below { issuer < n }
-    ensures { (k : ℕ) (e : TheEntry) → slice_get broken.now k ≡ Some e → Holds list.new e.cell
-        ⊎ IsTold n issuer e.marks }
+    ensures { HoldUntold (Holds list.new) n issuer broken.now }
 {
     restart(list, false);
     for k in 0..broken.len() {
@@ -148,12 +143,8 @@ fn publish_list(
     requires issuer_below { issuer < n }
     requires linked { Linked cells.now broken.old.items }
     requires open { list.now.given_up ≡ false }
-    requires known { (k : ℕ) (e : TheEntry) → slice_get broken.old.items k ≡ Some e → Holds list.now e.cell
-        ⊎ IsTold n issuer e.marks }
-    ensures each { (k : ℕ)
-        → Advances (Publishes issuer dsb n) (slice_get broken.old.items k) (slice_get broken.new.items k) }
-    ensures len { length broken.new.items ≡ length broken.old.items }
-    ensures room { vec_capacity broken.new ≡ vec_capacity broken.old }
+    requires known { HoldUntold (Holds list.now) n issuer broken.old.items }
+    ensures { PublishesAll issuer dsb n broken.old broken.new }
 {
     publish_cells(cells, broken, &list.cells, issuer, dsb, n);
 }
@@ -172,14 +163,9 @@ fn publish_listed(
     requires issuer_below { issuer < n }
     requires linked { Linked cells.now broken.old.items }
     requires open { list.old.given_up ≡ false }
-    requires known { (k : ℕ) (e : TheEntry) → slice_get broken.old.items k ≡ Some e → Holds list.old e.cell
-        ⊎ IsTold n issuer e.marks }
-    ensures each { (k : ℕ)
-        → Advances (Publishes issuer dsb n) (slice_get broken.old.items k) (slice_get broken.new.items k) }
-    ensures known { (k : ℕ) (e : TheEntry) → slice_get broken.new.items k ≡ Some e → Holds list.new e.cell
-        ⊎ IsTold n issuer e.marks }
-    ensures len { length broken.new.items ≡ length broken.old.items }
-    ensures room { vec_capacity broken.new ≡ vec_capacity broken.old }
+    requires known { HoldUntold (Holds list.old) n issuer broken.old.items }
+    ensures published { PublishesAll issuer dsb n broken.old broken.new }
+    ensures known { HoldUntold (Holds list.new) n issuer broken.new.items }
 {
     let heard = publishes_to(dsb, issuer, n);
     if !heard.is_empty() {
@@ -203,14 +189,9 @@ fn publish_by(
     requires within { n ≤ 128 }
     requires issuer_below { issuer < n }
     requires linked { Linked cells.now broken.old.items }
-    requires known { (k : ℕ) (e : TheEntry) → slice_get broken.old.items k ≡ Some e → Holds list.old e.cell
-        ⊎ IsTold n issuer e.marks }
-    ensures each { (k : ℕ)
-        → Advances (Publishes issuer dsb n) (slice_get broken.old.items k) (slice_get broken.new.items k) }
-    ensures known { (k : ℕ) (e : TheEntry) → slice_get broken.new.items k ≡ Some e → Holds list.new e.cell
-        ⊎ IsTold n issuer e.marks }
-    ensures len { length broken.new.items ≡ length broken.old.items }
-    ensures room { vec_capacity broken.new ≡ vec_capacity broken.old }
+    requires known { HoldUntold (Holds list.old) n issuer broken.old.items }
+    ensures published { PublishesAll issuer dsb n broken.old broken.new }
+    ensures known { HoldUntold (Holds list.new) n issuer broken.new.items }
 {
     if list.given_up {
         publish_all(broken, issuer, dsb, n);
@@ -234,15 +215,10 @@ pub fn publish(
     requires within { n ≤ 128 }
     requires issuer_below { issuer < n }
     requires linked { Linked cells.now broken.old.items }
-    requires known { (k : ℕ) (e : TheEntry) → slice_get broken.old.items k ≡ Some e
-        → HoldsFor lists.old.items issuer e.cell ⊎ IsTold n issuer e.marks }
-    ensures each { (k : ℕ)
-        → Advances (Publishes issuer dsb n) (slice_get broken.old.items k) (slice_get broken.new.items k) }
-    ensures known { (k : ℕ) (e : TheEntry) → slice_get broken.new.items k ≡ Some e
-        → HoldsFor lists.new.items issuer e.cell ⊎ IsTold n issuer e.marks }
+    requires known { HoldUntold (HoldsFor lists.old.items issuer) n issuer broken.old.items }
+    ensures published { PublishesAll issuer dsb n broken.old broken.new }
+    ensures known { HoldUntold (HoldsFor lists.new.items issuer) n issuer broken.new.items }
     ensures others { (q j : ℕ) → q ≢ issuer → HoldsFor lists.old.items q j → HoldsFor lists.new.items q j }
-    ensures len { length broken.new.items ≡ length broken.old.items }
-    ensures room { vec_capacity broken.new ≡ vec_capacity broken.old }
 {
     let q = issuer.get() as usize;
     if q < lists.len() {

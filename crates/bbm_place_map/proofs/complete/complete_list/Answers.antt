@@ -4,11 +4,22 @@ use Rattle.bbm_place_map.specs.Entries.{entry_in}
 use Rattle.bbm_place_map.proofs.Rounds.{all_answered}
 use Rattle.bbm_place_map.proofs.complete.complete_list.Goals as goal
 
-pub returns-clause-each : goal.returns-clause-each
-returns-clause-each c =
+pub returns : goal.returns
+returns c =
     let P : List ℕ → Type 0 = λ xs. (i : ℕ) → i < length xs → Completes c.args.issuer c.args.dsb c.args.n
     (entry_in c.args.cells.now.items c.args.broken.now.items (slice_index xs i))
     (entry_in c.complete_cells.new.cells.items c.complete_cells.new.broken.items (slice_index xs i)) in
-    all_answered c.args.issuer c.args.dsb c.args.n c.args.list.now (entry_in c.args.cells.now.items c.args.broken.now.items)
-    (entry_in c.complete_cells.new.cells.items c.complete_cells.new.broken.items) c.requires.open c.requires.known c.requires.settled
-    (subst P c.deref.ensures.value c.complete_cells.ensures.here) c.complete_cells.ensures.each
+    let done = c.complete_cells.ensures in
+    record {
+      linked = done.linked;
+      len = done.len;
+      room = done.room;
+      values = done.values;
+      each =
+          all_answered c.args.issuer c.args.dsb c.args.n c.args.list.now (entry_in c.args.cells.now.items c.args.broken.now.items)
+          (entry_in c.complete_cells.new.cells.items c.complete_cells.new.broken.items) c.requires.open c.requires.known c.requires.settled
+          (subst P c.deref.ensures.value done.here) done.each;
+      lost = done.lost;
+      kept = done.kept;
+      placed = done.placed;
+    }

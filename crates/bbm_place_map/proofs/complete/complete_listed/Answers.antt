@@ -1,12 +1,22 @@
-use Rattle.std.proofs.Common.{sym, ◌∙◌, inl, inr}
+use Rattle.std.proofs.Common.{sym, refl, ◌∙◌, inl, inr}
+use Rattle.std.proofs.lemmas.Bool.{false≢true}
 use Rattle.bbm_place_map.specs.Entries.{entry_in}
-use Rattle.bbm_place_map.proofs.Resting.{idle_kept, idle_answered, nothing_answered, answers_both, answers_none}
+use Rattle.bbm_place_map.proofs.Resting.{idle_kept, idle_answered, nothing_answered, stays_kept, answers_both, answers_none}
 use Rattle.bbm_place_map.proofs.complete.complete_listed.Goals as goal
 
-pub returns-then-not-completes_local-clause-each : goal.returns-then-not-completes_local-clause-each
-returns-then-not-completes_local-clause-each c = λ j.
-    nothing_answered c.args.issuer c.args.dsb c.args.n (answers_none c.args.dsb (sym c.completes_local.ensures ∙ c.if-not-completes_local.true))
-    (sym c.completes_local.ensures ∙ c.if-not-completes_local.true) (entry_in c.args.cells.now.items c.args.broken.now.items j) (c.requires.settled j)
+pub returns-then-not-completes_local-clause-completed : goal.returns-then-not-completes_local-clause-completed
+returns-then-not-completes_local-clause-completed c = record {
+  linked = c.requires.linked;
+  len = refl;
+  room = refl;
+  values = λ i. refl;
+  each = λ j.
+      nothing_answered c.args.issuer c.args.dsb c.args.n (answers_none c.args.dsb (sym c.completes_local.ensures ∙ c.if-not-completes_local.true))
+      (sym c.completes_local.ensures ∙ c.if-not-completes_local.true) (entry_in c.args.cells.now.items c.args.broken.now.items j) (c.requires.settled j);
+  lost = λ none. absurd (false≢true none);
+  kept = λ _ j. stays_kept (entry_in c.args.cells.now.items c.args.broken.now.items j);
+  placed = λ base placed. placed;
+}
 
 pub returns-then-completes_broadcast-clause-known : goal.returns-then-completes_broadcast-clause-known
 returns-then-completes_broadcast-clause-known c = λ j.

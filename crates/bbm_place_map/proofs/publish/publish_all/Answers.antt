@@ -21,7 +21,11 @@ loop-k-preserved c =
       room = c.publish_at.ensures.room ∙ c.loop-k.invariant.room;
     }
 
-pub returns-clause-each : goal.returns-clause-each
-returns-clause-each c =
-    all_done (λ m. Publishes c.args.issuer c.args.dsb c.args.n) c.args.broken.now.items c.loop-k.broken.items c.loop-k.k (omega arith)
-    c.loop-k.invariant.done c.loop-k.invariant.rest
+pub returns : goal.returns
+returns c = record {
+  each =
+      all_done (λ m. Publishes c.args.issuer c.args.dsb c.args.n) c.args.broken.now.items c.loop-k.broken.items c.loop-k.k (omega arith)
+      c.loop-k.invariant.done c.loop-k.invariant.rest;
+  len = c.loop-k.invariant.len;
+  room = c.loop-k.invariant.room;
+}

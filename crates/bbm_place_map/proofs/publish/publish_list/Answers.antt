@@ -4,9 +4,14 @@ use Rattle.bbm_place_map.specs.Each.{Advances, Publishes}
 use Rattle.bbm_place_map.proofs.Publishing.{all_published}
 use Rattle.bbm_place_map.proofs.publish.publish_list.Goals as goal
 
-pub returns-clause-each : goal.returns-clause-each
-returns-clause-each c =
+pub returns : goal.returns
+returns c =
     let P : List ℕ → Type 0 = λ xs. (i k : ℕ) → i < length xs → slot_in c.args.cells.now (slice_index xs i) ≡ Some k
     → Advances (Publishes c.args.issuer c.args.dsb c.args.n) (slice_get c.args.broken.now.items k) (slice_get c.publish_cells.new.broken.items k) in
-    all_published c.args.issuer c.args.dsb c.args.n c.args.cells.now c.args.list.now c.args.broken.now.items c.publish_cells.new.broken.items
-    c.requires.linked c.requires.open c.requires.known (subst P c.deref.ensures.value c.publish_cells.ensures.here) c.publish_cells.ensures.each
+    record {
+      each =
+          all_published c.args.issuer c.args.dsb c.args.n c.args.cells.now c.args.list.now c.args.broken.now.items c.publish_cells.new.broken.items
+          c.requires.linked c.requires.open c.requires.known (subst P c.deref.ensures.value c.publish_cells.ensures.here) c.publish_cells.ensures.each;
+      len = c.publish_cells.ensures.len;
+      room = c.publish_cells.ensures.room;
+    }

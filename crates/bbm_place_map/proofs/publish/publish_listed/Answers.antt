@@ -1,4 +1,4 @@
-use Rattle.std.proofs.Common.{sym, ◌∙◌, inr, slice_get}
+use Rattle.std.proofs.Common.{refl, sym, ◌∙◌, inr, slice_get}
 use Rattle.std.proofs.lemmas.Bool.{lt-ltb}
 use Rattle.bbm_regimes.specs.PeMask.{pe_in}
 use Rattle.bbm_place_map.specs.Works.{Holds}
@@ -21,7 +21,11 @@ returns-else-is_empty-clause-known c =
     known_kept c.args.issuer c.args.dsb c.args.n c.args.issuer (Holds c.args.list.now) c.args.broken.now.items c.publish_list.new.broken.items
     c.requires.known c.publish_list.ensures.each
 
-pub returns-else-not-is_empty-clause-each : goal.returns-else-not-is_empty-clause-each
-returns-else-not-is_empty-clause-each c = λ k.
-    none_published c.args.issuer c.args.dsb c.args.n (slice_get c.args.broken.now.items k)
-    (λ p. sym (c.publishes_to-heard.ensures p) ∙ c.is_empty.ensures.0 c.if-not-is_empty.false p)
+pub returns-else-not-is_empty-clause-published : goal.returns-else-not-is_empty-clause-published
+returns-else-not-is_empty-clause-published c = record {
+  each = λ k.
+      none_published c.args.issuer c.args.dsb c.args.n (slice_get c.args.broken.now.items k)
+      (λ p. sym (c.publishes_to-heard.ensures p) ∙ c.is_empty.ensures.0 c.if-not-is_empty.false p);
+  len = refl;
+  room = refl;
+}

@@ -23,15 +23,15 @@ complete-lost-requires-clause-settled c =
 
 pub invariant_of-self : goal.invariant_of-self
 invariant_of-self c = record {
-  numbered = let P : ℕ → Type 0 = Numbered (get nat_eq c.args.self.now.pages) in subst P (sym c.complete-lost.ensures.len) c.args.self.now.numbered;
-  linked = c.complete-lost.ensures.linked;
-  placed = c.complete-lost.ensures.placed (get nat_eq c.args.self.now.pages) c.args.self.now.placed;
-  room = omega arith;
-  few = omega arith;
+  numbered = let P : ℕ → Type 0 = Numbered (get nat_eq c.args.self.now.pages) in subst P (sym c.complete-lost.ensures.completed.len) c.args.self.now.numbered;
+  linked = c.complete-lost.ensures.completed.linked;
+  placed = c.complete-lost.ensures.completed.placed (get nat_eq c.args.self.now.pages) c.args.self.now.placed;
+  room = omega (arith, c.complete-lost.ensures.completed.len, c.complete-lost.ensures.completed.room);
+  few = omega (arith, c.complete-lost.ensures.completed.len);
   listed =
       listed_completed c.begin.new.work (record c.begin.new.work { settled = true; waiting = c.complete-lost.new.lists }) c.args.issuer c.args.dsb c.args.n
       c.args.self.now.cells.items c.complete-lost.new.cells.items c.args.self.now.broken.items c.complete-lost.new.broken.items c.begin.ensures.pes refl refl
-      c.complete-lost.ensures.each c.complete-lost.ensures.known c.complete-lost.ensures.kept_lists (listed_begun c.args.self.now.work c.begin.new.work c.args.n c.len.result c.args.self.now.cells.items c.args.self.now.broken.items c.requires.some c.requires.within
+      c.complete-lost.ensures.completed.each c.complete-lost.ensures.known c.complete-lost.ensures.kept_lists (listed_begun c.args.self.now.work c.begin.new.work c.args.n c.len.result c.args.self.now.cells.items c.args.self.now.broken.items c.requires.some c.requires.within
       c.begin.ensures.pes (omega (arith, c.len.ensures)) c.begin.ensures.kept c.args.self.now.listed);
 }
 
@@ -39,18 +39,18 @@ pub returns-clause-completed : goal.returns-clause-completed
 unfolding marks_at pends_at
 returns-clause-completed c = λ a.
     completed_at c.args.issuer c.args.dsb c.args.n c.args.self.now.cells.items c.complete-lost.new.cells.items c.args.self.now.broken.items c.complete-lost.new.broken.items
-    c.complete-lost.ensures.each (index_of (get nat_eq c.args.self.now.pages) a)
+    c.complete-lost.ensures.completed.each (index_of (get nat_eq c.args.self.now.pages) a)
 
 pub returns-clause-others : goal.returns-clause-others
 unfolding marks_at pends_at
 returns-clause-others c = λ q a b cover p other.
     others_at c.args.issuer c.args.dsb c.args.n c.args.self.now.cells.items c.complete-lost.new.cells.items c.args.self.now.broken.items c.complete-lost.new.broken.items
-    c.complete-lost.ensures.each q (eqb-false q c.args.issuer other) (index_of (get nat_eq c.args.self.now.pages) a) b cover p
+    c.complete-lost.ensures.completed.each q (eqb-false q c.args.issuer other) (index_of (get nat_eq c.args.self.now.pages) a) b cover p
 
 pub returns-clause-lost : goal.returns-clause-lost
 unfolding marks_at
 returns-clause-lost c = λ is.
-    let w = c.complete-lost.ensures.lost is in
+    let w = c.complete-lost.ensures.completed.lost is in
     lost_at (get nat_eq c.args.self.now.pages) c.args.self.now.cells.items c.complete-lost.new.cells.items c.args.self.now.broken.items c.complete-lost.new.broken.items
     c.args.self.now.linked c.args.self.now.placed w.0 w.1
 
@@ -58,4 +58,4 @@ pub returns-clause-kept : goal.returns-clause-kept
 unfolding marks_at
 returns-clause-kept c = λ is a.
     kept_at c.args.self.now.cells.items c.complete-lost.new.cells.items c.args.self.now.broken.items c.complete-lost.new.broken.items
-    (c.complete-lost.ensures.kept is) (index_of (get nat_eq c.args.self.now.pages) a)
+    (c.complete-lost.ensures.completed.kept is) (index_of (get nat_eq c.args.self.now.pages) a)

@@ -25,20 +25,20 @@ publish-requires-clause-known c =
 
 seats : (c : goal.After-publish) (m : ℕ) → seat_at c.publish.new.broken.items m ≡ seat_at c.args.self.now.broken.items m
 seats c m =
-    seat_kept (Publishes c.args.issuer c.args.dsb c.args.n) (slice_get c.args.self.now.broken.items m) (slice_get c.publish.new.broken.items m) (c.publish.ensures.each m)
+    seat_kept (Publishes c.args.issuer c.args.dsb c.args.n) (slice_get c.args.self.now.broken.items m) (slice_get c.publish.new.broken.items m) (c.publish.ensures.published.each m)
 
 pub invariant_of-self : goal.invariant_of-self
 invariant_of-self c = record {
   numbered = c.args.self.now.numbered;
-  linked = linked_seated c.args.self.now.broken.items c.publish.new.broken.items (seats c) c.args.self.now.cells.items c.publish.ensures.len c.args.self.now.linked;
+  linked = linked_seated c.args.self.now.broken.items c.publish.new.broken.items (seats c) c.args.self.now.cells.items c.publish.ensures.published.len c.args.self.now.linked;
   placed = placed_seated c.args.self.now.broken.items c.publish.new.broken.items (seats c) (get nat_eq c.args.self.now.pages) c.args.self.now.placed;
-  room = omega arith;
+  room = omega (arith, c.publish.ensures.published.room);
   few = c.args.self.now.few;
   listed =
       listed_published c.begin.new.work (record c.begin.new.work { unpublished = c.publish.new.lists }) c.args.issuer c.args.dsb c.args.n
       c.args.self.now.cells.items c.args.self.now.broken.items c.publish.new.broken.items c.begin.ensures.pes refl refl refl
-      c.publish.ensures.each c.publish.ensures.known c.publish.ensures.others c.args.self.now.linked
-      (linked_seated c.args.self.now.broken.items c.publish.new.broken.items (seats c) c.args.self.now.cells.items c.publish.ensures.len c.args.self.now.linked)
+      c.publish.ensures.published.each c.publish.ensures.known c.publish.ensures.others c.args.self.now.linked
+      (linked_seated c.args.self.now.broken.items c.publish.new.broken.items (seats c) c.args.self.now.cells.items c.publish.ensures.published.len c.args.self.now.linked)
       (listed_begun c.args.self.now.work c.begin.new.work c.args.n c.len.result c.args.self.now.cells.items c.args.self.now.broken.items c.requires.some c.requires.within
       c.begin.ensures.pes (omega (arith, c.len.ensures)) c.begin.ensures.kept c.args.self.now.listed);
 }
@@ -46,21 +46,21 @@ invariant_of-self c = record {
 pub returns-clause-published : goal.returns-clause-published
 unfolding marks_at
 returns-clause-published c = λ live a.
-    published_at c.args.issuer c.args.dsb c.args.n c.args.self.now.cells.items c.args.self.now.broken.items c.publish.new.broken.items c.publish.ensures.each
+    published_at c.args.issuer c.args.dsb c.args.n c.args.self.now.cells.items c.args.self.now.broken.items c.publish.new.broken.items c.publish.ensures.published.each
     live (index_of (get nat_eq c.args.self.now.pages) a)
 
 pub returns-clause-pends : goal.returns-clause-pends
 unfolding pends_at
 returns-clause-pends c = λ q a.
-    pends_at_same c.args.issuer c.args.dsb c.args.n c.args.self.now.cells.items c.args.self.now.broken.items c.publish.new.broken.items c.publish.ensures.each
+    pends_at_same c.args.issuer c.args.dsb c.args.n c.args.self.now.cells.items c.args.self.now.broken.items c.publish.new.broken.items c.publish.ensures.published.each
     q (index_of (get nat_eq c.args.self.now.pages) a)
 
 pub returns-clause-restless : goal.returns-clause-restless
 unfolding restless_in
-returns-clause-restless c = c.publish.ensures.len
+returns-clause-restless c = c.publish.ensures.published.len
 
 pub returns-clause-places : goal.returns-clause-places
 unfolding restless_place
 returns-clause-places c = λ i.
     place_kept (slice_get c.args.self.now.broken.items i) (slice_get c.publish.new.broken.items i)
-    (seat_kept (Publishes c.args.issuer c.args.dsb c.args.n) (slice_get c.args.self.now.broken.items i) (slice_get c.publish.new.broken.items i) (c.publish.ensures.each i))
+    (seat_kept (Publishes c.args.issuer c.args.dsb c.args.n) (slice_get c.args.self.now.broken.items i) (slice_get c.publish.new.broken.items i) (c.publish.ensures.published.each i))
