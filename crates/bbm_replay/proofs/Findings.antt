@@ -1,5 +1,5 @@
 -- Places that are found, each with its cover.
-use Rattle.std.specs.Prelude.{OnOk}
+use Rattle.std.specs.Prelude.{IfSome, OnOk}
 use Rattle.std.proofs.Common.{◌≡◌, ℕ, zero, suc, Bool, true, false, ◌||◌, List, [], ◌∷◌, ◌++◌, length, ◌<◌, slice_index_or, Option, Some, None, is_some, nat_eq, Result, Ok, Err, refl, sym, ◌∙◌, ap, subst, not-suc-le-zero, le_of_suc-le-suc}
 use Rattle.std.proofs.lemmas.Bool.{eq-eqb}
 use Rattle.std.proofs.lemmas.List.Elements.{All-append}
@@ -18,6 +18,14 @@ pub on_ok : {A E : Type 0} (r : Result A E) {P Q : Type 0} → OnOk r P → (P �
 on_ok (Ok x) p f = f p
 on_ok (Err x) p f = tt
 
+pub if_some : {A : Type 0} (P : A → Type 0) (o : Option A) (x : A) → o ≡ Some x → IfSome o P → P x
+if_some P o x e p = subst (λ y. IfSome y P) e p
+
+-- what two clauses of an answer come to where it is Ok
+pub on_both : {A E : Type 0} (r : Result A E) {P Q R : Type 0} → OnOk r P → OnOk r Q → (P → Q → R) → OnOk r R
+on_both (Ok x) p q f = f p q
+on_both (Err x) p q f = tt
+
 pub may_cover : (heading : Heading) (h : List Event) (map : PlaceMap) (index : TreeIndex) (state : RootState) (pe : ℕ)
     (op : TlbiOp) (xt : ℕ) (scope : Scope) (vmid : Option ℕ) (place : ℕ)
     → MayBeIssued heading h map index state pe op xt scope vmid → is_some (marks_at map place) ≡ true
@@ -28,6 +36,17 @@ may_cover heading h map index state pe op xt scope vmid place m broken = record 
   named = m.named;
   vmid_is = m.vmid_is;
   broken = broken;
+}
+
+pub issued : (heading : Heading) (h : List Event) (map : PlaceMap) (index : TreeIndex) (state : RootState) (pe : ℕ)
+    (op : TlbiOp) (xt : ℕ) (scope : Scope) (vmid : Option ℕ) (place : ℕ)
+    → MayBeCovered heading h map index state pe op xt scope vmid place
+    → MayBeIssued heading h map index state pe op xt scope vmid
+issued heading h map index state pe op xt scope vmid place m = record {
+  told = m.told;
+  stands = m.stands;
+  named = m.named;
+  vmid_is = m.vmid_is;
 }
 
 pub as_end : (xs : List Found) (x : Found) (f : ℕ → Cover) → FoundAs xs f → x.cover ≡ f x.place → FoundAs (xs ++ x ∷ []) f
@@ -56,8 +75,3 @@ found_before (y ∷ ys) x a e = by (nat_eq y.place a) e (found_before ys x a)
         → (b || is_found (ys ++ x ∷ []) a) ≡ true
     by true k rest = refl
     by false k rest = rest k
-
-pub same_item : (xs : List ℕ) (k d e : ℕ) → k < length xs → slice_index_or xs k d ≡ slice_index_or xs k e
-same_item [] k d e below = absurd (not-suc-le-zero below)
-same_item (x ∷ xs) zero d e below = refl
-same_item (x ∷ xs) (suc k) d e below = same_item xs k d e (le_of_suc-le-suc below)

@@ -24,5 +24,7 @@ pub mod Empty
 pub mod Covered
 pub mod Descents
 pub mod Findings
+pub mod Asking
+pub mod Ways
 pub mod Unmet
 pub mod Issuing

@@ -152,9 +152,9 @@ module _ (heading : Heading) (laws : Laws heading) (h : List Event)
       by None = refl
       by (Some v) = none (told n v) (vmid_of heading (events_of (notes heading h)) pe) refl refl
 
-  module _ (sound : IsSound index) (at : ℕ) (one : NamesOne scope at) (places : List ℕ)
+  module _ (sound : IsSound index) (at : ℕ) (one : NamesOne scope at) (Has : ℕ → Type 0)
       (met : (r : Declared) → root_at h r.page ≡ Some r → covers_kind scope.family r.kind ≡ true
-      → MetFromAll (node_in index) (core_at map) at r.page (page_count heading.world r.kind) places) where
+      → MetFromAll (node_in index) (core_at map) at r.page (page_count heading.world r.kind) Has) where
     same_cores : SameCores heading h (core_at map)
     same_cores n a is = core_with_is (marks_at map a) n.kind n.level (value_at map a) ∙ cores heading h (view_of map index) m.told n a is
 
@@ -163,7 +163,7 @@ module _ (heading : Heading) (laws : Laws heading) (h : List Event)
 
     found_top : (n : Node) (a : ℕ) → covers_kind scope.family n.kind ≡ true
         → (t : Top heading laws h (node_in index) (core_at map) m.told.kept m.told.fit m.told.nodes same_cores at a n 0)
-        → n.level < 4 → Contains places a
+        → n.level < 4 → Has a
     found_top n a covers t low =
         let own = laws.nodes.own h (node_in index) t.page t.start m.told.nodes t.is_start in
         let st = starts (node_in index) t.page t.start m.told.nodes t.is_start t.first in
@@ -179,7 +179,7 @@ module _ (heading : Heading) (laws : Laws heading) (h : List Event)
         short : (w s l : ℕ) → w + s ≡ 0 + l → l < 4 → w < 4
         short w s l e k = omega arith
 
-    pub uncovered : (a : ℕ) → is_some (marks_at map a) ≡ true → (Contains places a → ⊥)
+    pub uncovered : (a : ℕ) → is_some (marks_at map a) ≡ true → (Has a → ⊥)
         → cover_at heading Patterns (notes heading h) (Tlbi pe op xt) a ≡ NoCover
     uncovered a broken missed = by (node_in index (page_of a)) refl
       where

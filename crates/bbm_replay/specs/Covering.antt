@@ -1,12 +1,21 @@
 -- What a TLBI covers, asked of the parts. Source: project's own choice.
-use Rattle.std.specs.Prelude.{◌≡◌, ℕ, true, List, Option, Some, is_some}
+use Rattle.std.specs.Prelude.{◌≡◌, ℕ, Bool, true, false, List, Option, Some, is_some}
+use Rattle.bbm_place_map.specs.Finds.{FoundAs}
 use Rattle.bbm_place_map.specs.Map.{marks_at}
+use Rattle.bbm_place_map.specs.declared.found.Found.{Found}
 use Rattle.bbm_place_map.specs.declared.map.PlaceMap.{PlaceMap}
+use Rattle.bbm_regimes.specs.declared.regime.Kind.{Kind}
+use Rattle.bbm_regimes.specs.declared.regime.Kind.TheVariants.{S2, Ttbr0}
+use Rattle.bbm_tlbi_scope.specs.declared.scope.Family.{Family}
+use Rattle.bbm_tlbi_scope.specs.declared.scope.Family.TheVariants.{VmAll1, VmAll12, Ipa, Va, Asid}
 use Rattle.bbm_tree_index.specs.declared.index.TreeIndex.{TreeIndex}
 use Rattle.bbm_replay_roots.specs.Stands as roots
 use Rattle.bbm_replay_roots.specs.declared.state.RootState.{RootState}
-use Rattle.bbm_rules.specs.Prelude.{Heading, Event, Scope, TlbiOp}
+use Rattle.bbm_rules.specs.Claims.Trust.{Patterns}
+use Rattle.bbm_rules.specs.Covers.{cover_at}
+use Rattle.bbm_rules.specs.Prelude.{Heading, Event, Scope, Tlbi, TlbiOp}
 use Rattle.bbm_rules.specs.Registers.{named_scope, vmid_of}
+use Rattle.bbm_replay_trees.specs.Told.{notes}
 use Rattle.bbm_replay.specs.Standing.{view_of}
 use Rattle.bbm_replay.specs.Told.{Told}
 
@@ -27,3 +36,18 @@ pub record MayBeIssued (heading : Heading) (h : List Event) (map : PlaceMap) (in
   pub stands : roots.Stands state heading h
   pub named : named_scope heading h pe op xt ≡ Some scope
   pub vmid_is : vmid ≡ vmid_of heading h pe
+
+-- each place that was found is covered as far as stands beside it
+abbrev pub AreCovered : PlaceMap → TreeIndex → RootState → Scope → Option ℕ → List Found → Type 0
+AreCovered map index state scope vmid found = (heading : Heading) (h : List Event) (pe : ℕ) (op : TlbiOp) (xt : ℕ)
+    → MayBeIssued heading h map index state pe op xt scope vmid
+    → FoundAs found (cover_at heading Patterns (notes heading h) (Tlbi pe op xt))
+
+-- whether the cover of a place of this kind depends on the tags of its root
+abbrev pub asks_tags : Family → Kind → Bool
+asks_tags VmAll12 S2 = true
+asks_tags Ipa S2 = true
+asks_tags VmAll1 S2 = true
+asks_tags Va Ttbr0 = true
+asks_tags Asid Ttbr0 = true
+asks_tags _ _ = false

@@ -1,7 +1,11 @@
 -- A TLBI that names one input page, and the places that it can cover. Source: project's own choice; which kinds an
 -- operation by address covers is that of the table of covers.
-use Rattle.std.specs.Prelude.{◌≡◌, ℕ, ◌+◌, ◌*◌, ◌<◌, ◌%◌, ◌^◌, Bool, true, false, List, Option, Some, Contains, length}
+use Rattle.std.specs.Prelude.{◌≡◌, ℕ, ◌+◌, ◌*◌, ◌<◌, ◌%◌, ◌^◌, Bool, true, false, List, Option, Some, is_some, length}
 use Rattle.bbm_descriptor.specs.declared.desc.Core.{Core}
+use Rattle.bbm_place_map.specs.Finds.{is_found}
+use Rattle.bbm_place_map.specs.Map.{marks_at}
+use Rattle.bbm_place_map.specs.declared.found.Found.{Found}
+use Rattle.bbm_place_map.specs.declared.map.PlaceMap.{PlaceMap}
 use Rattle.bbm_regimes.specs.declared.regime.Kind.{Kind}
 use Rattle.bbm_regimes.specs.declared.regime.Kind.TheVariants.{El2, S2, Ttbr0, Ttbr1}
 use Rattle.bbm_tlbi_scope.specs.Operations.{has_page}
@@ -31,11 +35,14 @@ abbrev pub IsPage : ℕ → Type 0
 IsPage page = (page < 2 ^ 48) × (page % 4096 ≡ 0)
 
 module _ (node : ℕ → Option Node) (core : Kind → ℕ → ℕ → Option Core) (at : ℕ) where
-  -- each place that is met on the way down from the page is among these
-  abbrev pub MetFrom : ℕ → List ℕ → Type 0
-  MetFrom page places = IsPage page → (way : List ℕ) (a : ℕ) → length way < 4 → IsWay node core at page way a
-      → Contains places a
+  -- each place that is met on the way down from the page has the property
+  abbrev pub MetFrom : ℕ → (ℕ → Type 0) → Type 0
+  MetFrom page Has = IsPage page → (way : List ℕ) (a : ℕ) → length way < 4 → IsWay node core at page way a → Has a
 
   -- the same of so many consecutive pages
-  abbrev pub MetFromAll : ℕ → ℕ → List ℕ → Type 0
-  MetFromAll first count places = (part : ℕ) → part < count → MetFrom (first + 4096 * part) places
+  abbrev pub MetFromAll : ℕ → ℕ → (ℕ → Type 0) → Type 0
+  MetFromAll first count Has = (part : ℕ) → part < count → MetFrom (first + 4096 * part) Has
+
+-- the place is among what was found, where it is broken
+abbrev pub IsFoundIn : PlaceMap → List Found → ℕ → Type 0
+IsFoundIn map found a = is_some (marks_at map a) ≡ true → is_found found a ≡ true

@@ -1,25 +1,37 @@
 //! The TLBIs of one input page: they look at the places on the way down to it alone.
 
-ghost use Rattle.std.specs.Prelude.{◌≡◌, ◌+◌, ◌*◌, ℕ, true, List, Some, Contains, OnOk, IfOk, IfSome};
+ghost use Rattle.std.specs.Prelude.{◌≡◌, ◌++◌, [], ◌∷◌, ◌+◌, ◌*◌, ◌<◌, ℕ, true, List, Some, length, is_some, OnOk, IfOk, IfSome};
+ghost use Rattle.bbm_descriptor.specs.Descriptor.{core_of};
+ghost use Rattle.bbm_entry_state.specs.Points.{core_in};
 ghost use Rattle.bbm_events.specs.Heading.{Heading};
 ghost use Rattle.bbm_events.specs.declared.event.Event.{Event};
+ghost use Rattle.bbm_place_map.specs.Finds.{is_found};
+ghost use Rattle.bbm_place_map.specs.Map.{marks_at, state_at, value_at};
 ghost use Rattle.bbm_regimes.specs.World as spec;
 ghost use Rattle.bbm_regimes.specs.declared.regime.Kind.{Kind as TheKind};
+ghost use Rattle.bbm_rules.specs.Places.{page_of};
 ghost use Rattle.bbm_rules.specs.Roots.{Declared, root_at};
+ghost use Rattle.bbm_rules.specs.Tree.{Node};
 ghost use Rattle.bbm_tree_index.specs.Agreement.{IsSound};
-ghost use Rattle.bbm_tree_index.specs.Held.{core_at};
+ghost use Rattle.bbm_tree_index.specs.Descent.{IsWay};
+ghost use Rattle.bbm_tree_index.specs.Held.{core_at, next_in};
 ghost use Rattle.bbm_tree_index.specs.Index.{node_in};
+ghost use Rattle.bbm_tree_index.specs.Nodes.{path_at};
 ghost use Rattle.bbm_replay_roots.specs.Listed.{nth_in};
 ghost use Rattle.bbm_replay_roots.specs.Stands.{Stands};
-ghost use Rattle.bbm_replay.specs.OnePage.{MetFrom, MetFromAll, NamesOne, covers_kind as spec_covers_kind};
+ghost use Rattle.bbm_replay.specs.Covering.{AreCovered};
+ghost use Rattle.bbm_replay.specs.OnePage.{IsFoundIn, MetFrom, MetFromAll, NamesOne, covers_kind as spec_covers_kind};
 
+use crate::covers::cover_met;
 use crate::world::page_count;
+use bbm_descriptor::Core;
+use bbm_entry_state::EntryState;
 use bbm_events::Header;
-use bbm_place_map::PlaceMap;
+use bbm_place_map::{Found, PlaceMap};
 use bbm_regimes::{Kind, NoMemory, Page, Place};
 use bbm_replay_roots::RootState;
 use bbm_tlbi_scope::{Family, Scope};
-use bbm_tree_index::TreeIndex;
+use bbm_tree_index::{Path, TreeIndex};
 use std::alloc::Global;
 
 /// The one input page that the scope names by its address, None where it names none or more.
@@ -50,108 +62,210 @@ fn covers_kind(family: Family, kind: Kind) -> bool
     }
 }
 
-// Adds the places that are met on the way down from the page at this address, in bytes.
-fn descend_at(
-    index: &TreeIndex,
+// Adds a place with its cover at the end.
+fn push_found(found: &mut Vec<Found>, item: Found) -> Result<(), NoMemory>
+    ensures { OnOk result (found.new.items ≡ found.old.items ++ item ∷ []) }
+{
+    match found.push(item) {
+        Ok(()) => Ok(()),
+        Err(_) => Err(NoMemory),
+    }
+}
+
+// Adds the place, which has this path and this state, with its cover, where it is broken.
+fn add_met(
     map: &PlaceMap,
-    addr: u64,
+    index: &TreeIndex,
+    roots: &RootState,
+    scope: &Scope,
+    vmid: &Option<u16>,
+    place: Place,
+    path: &Path,
+    state: &EntryState,
+    found: &mut Vec<Found>,
+) -> Result<(), NoMemory>
+    requires sound { IsSound index.now }
+    requires path { (n : Node) × (node_in index.now (page_of place) ≡ Some n) × (path.now ≡ path_at n place) }
+    requires state { state.now ≡ state_at map.now (core_of path.now.kind path.now.level (value_at map.now place)) place }
+    ensures covers { OnOk result (AreCovered map.now index.now roots.now scope.now vmid.now found.old.items
+        → AreCovered map.now index.now roots.now scope.now vmid.now found.new.items) }
+    ensures kept { OnOk result ((a : ℕ) → is_found found.old.items a ≡ true → is_found found.new.items a ≡ true) }
+    ensures added { OnOk result (IsFoundIn map.now found.new.items place) }
+{
+    match state {
+        EntryState::Broken { marks } => {
+            let cover = cover_met(map, index, roots, scope, vmid, place, path, marks);
+            push_found(found, Found { place, cover })
+        }
+        EntryState::Clean | EntryState::Live { .. } => Ok(()),
+    }
+}
+
+// The next page of a core that is a table.
+fn next_of_core(core: &Core) -> Option<Page>
+    ensures { result ≡ next_in (Some core.now) }
+{
+    match *core {
+        Core::Table { next, ns: _ } => Some(next),
+        Core::Leaf { .. } => None,
+    }
+}
+
+// The next page of the table that a place of this state holds; None where it holds none.
+fn next_of(state: &EntryState) -> Option<Page>
+    ensures { result ≡ next_in (core_in state.now) }
+{
+    match state {
+        EntryState::Clean => None,
+        EntryState::Live { core } => next_of_core(core),
+        EntryState::Broken { marks } => next_of_core(&marks.core),
+    }
+}
+
+// Adds the broken places that are met on the way down from the page along the input page, of so many pages at most, each
+// with its cover.
+fn descend(
+    map: &PlaceMap,
+    index: &TreeIndex,
+    roots: &RootState,
+    scope: &Scope,
+    vmid: &Option<u16>,
     at: u64,
-    places: &mut Vec<Place>,
+    page: Page,
+    left: u8,
+    found: &mut Vec<Found>,
 ) -> Result<(), NoMemory>
     requires { IsSound index.now }
-    ensures kept { OnOk result ((a : ℕ) → Contains places.old.items a → Contains places.new.items a) }
-    ensures met { OnOk result (MetFrom (node_in index.now) (core_at map.now) at addr places.new.items) }
+    ensures covers { OnOk result (AreCovered map.now index.now roots.now scope.now vmid.now found.old.items
+        → AreCovered map.now index.now roots.now scope.now vmid.now found.new.items) }
+    ensures kept { OnOk result ((a : ℕ) → is_found found.old.items a ≡ true → is_found found.new.items a ≡ true) }
+    ensures met { OnOk result ((way : List ℕ) (a : ℕ) → length way < left
+        → IsWay (node_in index.now) (core_at map.now) at page way a → IsFoundIn map.now found.new.items a) }
 {
-    match Page::new(addr) {
-        Some(page) => index.descend(map, page, at, 4, places),
+    if left == 0 {
+        return Ok(());
+    }
+    match index.meet(page, at) {
+        Some(met) => {
+            let state = map.state_by(met.0, met.1.kind, met.1.level);
+            add_met(map, index, roots, scope, vmid, met.0, &met.1, &state, found)?;
+            match next_of(&state) {
+                Some(next) => descend(map, index, roots, scope, vmid, at, next, left - 1, found),
+                None => Ok(()),
+            }
+        }
         None => Ok(()),
     }
 }
 
-// Adds the places that are met on the way down from so many consecutive pages.
-fn descend_all(
-    index: &TreeIndex,
+// Adds those that are met on the way down from the page at this address, in bytes.
+fn descend_at(
     map: &PlaceMap,
-    first: Page,
-    count: u8,
+    index: &TreeIndex,
+    roots: &RootState,
+    scope: &Scope,
+    vmid: &Option<u16>,
     at: u64,
-    places: &mut Vec<Place>,
+    addr: u64,
+    found: &mut Vec<Found>,
 ) -> Result<(), NoMemory>
     requires { IsSound index.now }
-    ensures kept { OnOk result ((a : ℕ) → Contains places.old.items a → Contains places.new.items a) }
-    ensures met { OnOk result (MetFromAll (node_in index.now) (core_at map.now) at first count places.new.items) }
+    ensures covers { OnOk result (AreCovered map.now index.now roots.now scope.now vmid.now found.old.items
+        → AreCovered map.now index.now roots.now scope.now vmid.now found.new.items) }
+    ensures kept { OnOk result ((a : ℕ) → is_found found.old.items a ≡ true → is_found found.new.items a ≡ true) }
+    ensures met { OnOk result (MetFrom (node_in index.now) (core_at map.now) at addr (IsFoundIn map.now found.new.items)) }
+{
+    match Page::new(addr) {
+        Some(page) => descend(map, index, roots, scope, vmid, at, page, 4, found),
+        None => Ok(()),
+    }
+}
+
+// Adds those that are met on the way down from so many consecutive pages.
+fn descend_all(
+    map: &PlaceMap,
+    index: &TreeIndex,
+    roots: &RootState,
+    scope: &Scope,
+    vmid: &Option<u16>,
+    at: u64,
+    first: Page,
+    count: u8,
+    found: &mut Vec<Found>,
+) -> Result<(), NoMemory>
+    requires { IsSound index.now }
+    ensures covers { OnOk result (AreCovered map.now index.now roots.now scope.now vmid.now found.old.items
+        → AreCovered map.now index.now roots.now scope.now vmid.now found.new.items) }
+    ensures kept { OnOk result ((a : ℕ) → is_found found.old.items a ≡ true → is_found found.new.items a ≡ true) }
+    ensures met { OnOk result (MetFromAll (node_in index.now) (core_at map.now) at first count
+        (IsFoundIn map.now found.new.items)) }
 {
     for part in 0..count {
-        descend_at(index, map, first.get() + 4096 * part as u64, at, places)?;
+        let addr = first.get() + 4096 * part as u64;
+        descend_at(map, index, roots, scope, vmid, at, addr, found)?;
     }
     Ok(())
 }
 
-// Adds the places that are met on the way down from the pages of a root, where the family can cover any.
+// Adds those that are met on the way down from the pages of the root with this number, if there is one and the operation
+// can cover places of its kind.
 fn visit(
     header: &Header,
-    index: &TreeIndex,
     map: &PlaceMap,
-    root: (Kind, Page),
-    family: Family,
-    at: u64,
-    places: &mut Vec<Place>,
-) -> Result<(), NoMemory>
-    requires { IsSound index.now }
-    ensures kept { OnOk result ((a : ℕ) → Contains places.old.items a → Contains places.new.items a) }
-    ensures met { OnOk result (spec_covers_kind family root.0 ≡ true
-        → MetFromAll (node_in index.now) (core_at map.now) at root.1 (spec.page_count header.now.world root.0) places.new.items) }
-{
-    let (kind, first) = root;
-    if covers_kind(family, kind) {
-        descend_all(index, map, first, page_count(header, kind), at, places)
-    } else {
-        Ok(())
-    }
-}
-
-// The same of the root with this number, if there is one.
-fn visit_nth(
-    header: &Header,
     index: &TreeIndex,
-    map: &PlaceMap,
     roots: &RootState,
-    number: usize,
-    family: Family,
+    scope: &Scope,
+    vmid: &Option<u16>,
     at: u64,
-    places: &mut Vec<Place>,
+    number: usize,
+    found: &mut Vec<Found>,
 ) -> Result<(), NoMemory>
     requires { IsSound index.now }
-    ensures kept { OnOk result ((a : ℕ) → Contains places.old.items a → Contains places.new.items a) }
+    ensures covers { OnOk result (AreCovered map.now index.now roots.now scope.now vmid.now found.old.items
+        → AreCovered map.now index.now roots.now scope.now vmid.now found.new.items) }
+    ensures kept { OnOk result ((a : ℕ) → is_found found.old.items a ≡ true → is_found found.new.items a ≡ true) }
     ensures met { OnOk result ((kind : TheKind) (first : ℕ) → nth_in roots.now number ≡ Some (kind, first)
-        → spec_covers_kind family kind ≡ true
-        → MetFromAll (node_in index.now) (core_at map.now) at first (spec.page_count header.now.world kind) places.new.items) }
+        → spec_covers_kind scope.now.family kind ≡ true
+        → MetFromAll (node_in index.now) (core_at map.now) at first (spec.page_count header.now.world kind)
+        (IsFoundIn map.now found.new.items)) }
 {
     match roots.nth(number) {
-        Some(root) => visit(header, index, map, root, family, at, places),
+        Some((kind, first)) => {
+            if covers_kind(scope.family, kind) {
+                let count = page_count(header, kind);
+                descend_all(map, index, roots, scope, vmid, at, first, count, found)
+            } else {
+                Ok(())
+            }
+        }
         None => Ok(()),
     }
 }
 
-/// The places that are met on the way down to an input page from the pages of each declared root of which the family can
-/// cover places. `NoMemory` where there is none.
-pub(crate) fn places_met(
+/// The broken places that are met on the way down to an input page from the pages of each declared root of which the
+/// operation can cover places, each with its cover. `NoMemory` where there is none.
+pub(crate) fn found_on_ways(
     alloc: Global,
     header: &Header,
-    index: &TreeIndex,
     map: &PlaceMap,
+    index: &TreeIndex,
     roots: &RootState,
-    family: Family,
+    scope: &Scope,
+    vmid: &Option<u16>,
     at: u64,
-) -> Result<Vec<Place>, NoMemory>
+) -> Result<Vec<Found>, NoMemory>
     requires { IsSound index.now }
-    ensures { IfOk result (λ places. (heading : Heading) (h : List Event) (root : Declared) → Stands roots.now heading h
-        → root_at h root.page ≡ Some root → spec_covers_kind family root.kind ≡ true
-        → MetFromAll (node_in index.now) (core_at map.now) at root.page (spec.page_count header.now.world root.kind) places.items) }
+    ensures covers { IfOk result (λ found. AreCovered map.now index.now roots.now scope.now vmid.now found.items) }
+    ensures met { IfOk result (λ found. (heading : Heading) (h : List Event) (root : Declared) → Stands roots.now heading h
+        → root_at h root.page ≡ Some root → spec_covers_kind scope.now.family root.kind ≡ true
+        → MetFromAll (node_in index.now) (core_at map.now) at root.page (spec.page_count header.now.world root.kind)
+        (IsFoundIn map.now found.items)) }
 {
-    let mut places = Vec::new(alloc);
+    let mut found = Vec::new(alloc);
     for number in 0..roots.count() {
-        visit_nth(header, index, map, roots, number, family, at, &mut places)?;
+        visit(
+            header, map, index, roots, scope, vmid, at, number, &mut found,
+        )?;
     }
-    Ok(places)
+    Ok(found)
 }

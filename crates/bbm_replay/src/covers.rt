@@ -1,6 +1,6 @@
 //! How far a TLBI covers a broken place.
 
-ghost use Rattle.std.specs.Prelude.{◌≡◌, ℕ, List};
+ghost use Rattle.std.specs.Prelude.{◌≡◌, ◌↔◌, ◌&&◌, ℕ, true, List};
 ghost use Rattle.bbm_events.specs.Heading.{Heading};
 ghost use Rattle.bbm_events.specs.declared.event.Event.{Event};
 ghost use Rattle.bbm_events.specs.declared.event.Event.TheVariants.{Tlbi};
@@ -8,7 +8,16 @@ ghost use Rattle.bbm_tlbi_scope.specs.declared.op.TlbiOp.{TlbiOp};
 ghost use Rattle.bbm_rules.specs.Claims.Trust.{Patterns};
 ghost use Rattle.bbm_rules.specs.Covers.{cover_at};
 ghost use Rattle.bbm_replay_trees.specs.Told.{notes};
-ghost use Rattle.bbm_replay.specs.Covering.{MayBeCovered};
+ghost use Rattle.bbm_replay.specs.Covering.{MayBeCovered, MayBeIssued, asks_tags as spec_asks_tags};
+ghost use Rattle.bbm_place_map.specs.Map.{marks_at};
+ghost use Rattle.bbm_replay_roots.specs.Stands.{Stands};
+ghost use Rattle.bbm_rules.specs.Places.{page_of};
+ghost use Rattle.bbm_rules.specs.Tags.{tag_set, tags_of};
+ghost use Rattle.bbm_rules.specs.Tree.{Node};
+ghost use Rattle.bbm_tlbi_scope.specs.Operations.{has_page};
+ghost use Rattle.bbm_tree_index.specs.Held.{Childless};
+ghost use Rattle.bbm_tree_index.specs.Index.{node_in};
+ghost use Rattle.bbm_tree_index.specs.Nodes.{path_at};
 ghost use Rattle.bbm_place_map.specs.Each.{is_table as is_table_core};
 ghost use Rattle.bbm_replay.specs.Leaves.{is_global_core};
 ghost use Rattle.std.specs.Prelude.{Some};
@@ -16,15 +25,15 @@ ghost use Rattle.bbm_tree_index.specs.Agreement.{IsSound};
 
 use crate::laws::laws;
 use bbm_descriptor::Core;
-use bbm_entry_state::EntryState;
+use bbm_entry_state::{EntryState, Marks};
 use bbm_place_map::PlaceMap;
-use bbm_regimes::Place;
+use bbm_regimes::{Kind, Page, Place};
 use bbm_replay_entries::law_entry_holds;
 use bbm_replay_roots::RootState;
 use bbm_replay_trees::law_childless_by_cores;
 use bbm_rules::law_notes_keep_the_events;
-use bbm_tlbi_scope::{Cover, PlaceView, Scope, cover};
-use bbm_tree_index::TreeIndex;
+use bbm_tlbi_scope::{Cover, Family, PlaceView, Scope, TagSet, cover};
+use bbm_tree_index::{Path, TreeIndex};
 
 // Whether the core is that of a table.
 fn is_table(core: &Core) -> bool
@@ -46,6 +55,84 @@ fn is_global(core: &Core) -> bool
     }
 }
 
+// Whether the cover of a place with this core depends on whether its table is childless: at an operation that names pages.
+fn asks_childless(family: Family, core: &Core) -> bool
+    ensures { result ≡ (has_page family && is_table_core core.now) }
+{
+    family.has_page() && is_table(core)
+}
+
+// Whether the cover of a place of this kind depends on the tags of its root.
+fn asks_tags(family: Family, kind: Kind) -> bool
+    ensures { result ≡ spec_asks_tags family kind }
+{
+    match kind {
+        Kind::S2 => matches!(family, Family::VmAll12 | Family::Ipa | Family::VmAll1),
+        Kind::Ttbr0 => matches!(family, Family::Va | Family::Asid),
+        Kind::El2 | Kind::Ttbr1 => false,
+    }
+}
+
+// Whether the place holds a table no place of which holds anything, where that is asked.
+fn childless_where(asked: bool, map: &PlaceMap, index: &TreeIndex, place: Place) -> bool
+    requires { IsSound index.now }
+    ensures { asked ≡ true → (n : Node) → node_in index.now (page_of place) ≡ Some n
+        → (result ≡ true) ↔ Childless map.now n place }
+{
+    asked && index.childless(map, place)
+}
+
+// The tags of the root with this first page, where they are asked.
+fn tags_where(asked: bool, roots: &RootState, first: Page) -> TagSet
+    ensures { asked ≡ true → (heading : Heading) (h : List Event) → Stands roots.now heading h
+        → result ≡ tag_set (tags_of heading Patterns first h) }
+{
+    if asked {
+        roots.tags_of(first)
+    } else {
+        TagSet::None
+    }
+}
+
+/// How far a TLBI of this scope, under this VMID, covers the place, which has this path and these marks.
+pub(crate) fn cover_met(
+    map: &PlaceMap,
+    index: &TreeIndex,
+    roots: &RootState,
+    scope: &Scope,
+    vmid: &Option<u16>,
+    place: Place,
+    path: &Path,
+    marks: &Marks,
+) -> Cover
+    requires sound { IsSound index.now }
+    requires path { (n : Node) × (node_in index.now (page_of place) ≡ Some n) × (path.now ≡ path_at n place) }
+    requires marks { marks_at map.now place ≡ Some marks.now }
+    ensures { (heading : Heading) (h : List Event) (pe : ℕ) (op : TlbiOp) (xt : ℕ)
+        → MayBeIssued heading h map.now index.now roots.now pe op xt scope.now vmid.now
+        → result ≡ cover_at heading Patterns (notes heading h) (Tlbi pe op xt) place }
+{
+    laws();
+    law_entry_holds();
+    law_childless_by_cores();
+    law_notes_keep_the_events();
+    let childless = asks_childless(scope.family, &marks.core);
+    let tags = asks_tags(scope.family, path.kind);
+    cover(
+        *scope,
+        *vmid,
+        PlaceView {
+            kind: path.kind,
+            region: path.region,
+            level: path.level,
+            table: is_table(&marks.core),
+            global: is_global(&marks.core),
+            childless: childless_where(childless, map, index, place),
+            tags: tags_where(tags, roots, path.first),
+        },
+    )
+}
+
 /// How far a TLBI of this scope, under this VMID, covers the place, which is broken.
 pub(crate) fn cover_of(
     map: &PlaceMap,
@@ -60,25 +147,9 @@ pub(crate) fn cover_of(
         → MayBeCovered heading h map.now index.now roots.now pe op xt scope vmid place
         → result ≡ cover_at heading Patterns (notes heading h) (Tlbi pe op xt) place }
 {
-    laws();
-    law_entry_holds();
-    law_childless_by_cores();
-    law_notes_keep_the_events();
     match map.state(place, None) {
         EntryState::Broken { marks } => match index.path(place) {
-            Some(path) => cover(
-                scope,
-                vmid,
-                PlaceView {
-                    kind: path.kind,
-                    region: path.region,
-                    level: path.level,
-                    table: is_table(&marks.core),
-                    global: is_global(&marks.core),
-                    childless: index.childless(map, place),
-                    tags: roots.tags_of(path.first),
-                },
-            ),
+            Some(path) => cover_met(map, index, roots, &scope, &vmid, place, &path, &marks),
             None => Cover::None,
         },
         EntryState::Clean | EntryState::Live { .. } => Cover::None,

@@ -1,12 +1,11 @@
 //! What the issue of a TLBI leaves to its answer.
 
-ghost use Rattle.std.specs.Prelude.{◌≡◌, ◌++◌, [], ◌∷◌, ℕ, true, false, List, Some, None, Contains, OnOk, OnErr, IfOk, is_some, nat_eq, slice_index_or};
+ghost use Rattle.std.specs.Prelude.{◌≡◌, ℕ, true, false, List, None, OnOk, OnErr, is_some, nat_eq};
 ghost use Rattle.bbm_entry_state.specs.Calls.{Noted};
 ghost use Rattle.bbm_events.specs.Heading.{Heading};
 ghost use Rattle.bbm_events.specs.declared.event.Event.{Event};
 ghost use Rattle.bbm_events.specs.declared.event.Event.TheVariants.{Tlbi};
 ghost use Rattle.bbm_place_map.specs.Calls.{IsSame};
-ghost use Rattle.bbm_place_map.specs.Finds.{FoundAs, is_found};
 ghost use Rattle.bbm_place_map.specs.Map.{is_tracked, marks_at, pends_at, value_at};
 ghost use Rattle.bbm_place_map.specs.States.{state_from};
 ghost use Rattle.bbm_tlbi_scope.specs.Operations as operations;
@@ -18,13 +17,12 @@ ghost use Rattle.bbm_replay_trees.specs.Told.{notes};
 ghost use Rattle.bbm_replay.specs.Covering.{MayBeIssued};
 ghost use Rattle.bbm_replay.specs.OnePage.{NamesOne};
 
-use crate::by_page::{one_page, places_met};
+use crate::by_page::{found_on_ways, one_page};
 use crate::covers::cover_of;
 use crate::laws::laws;
-use bbm_entry_state::EntryState;
 use bbm_events::Header;
-use bbm_place_map::{Found, PlaceMap};
-use bbm_regimes::{NoMemory, Pe, PeMask, Place};
+use bbm_place_map::PlaceMap;
+use bbm_regimes::{NoMemory, Pe, PeMask};
 use bbm_replay_roots::RootState;
 use bbm_replay_trees::starts::law_starts;
 use bbm_rules::law_notes_keep_the_events;
@@ -34,67 +32,6 @@ use std::alloc::Global;
 
 /// How many places may be broken for a TLBI of one page to look at each of them. Source: project's own choice.
 const FEW: u64 = 8;
-
-// Adds a place with its cover at the end.
-fn push_found(found: &mut Vec<Found>, item: Found) -> Result<(), NoMemory>
-    ensures { OnOk result (found.new.items ≡ found.old.items ++ item ∷ []) }
-{
-    match found.push(item) {
-        Ok(()) => Ok(()),
-        Err(_) => Err(NoMemory),
-    }
-}
-
-// Adds the place with its cover, where it is broken.
-fn add_found(
-    map: &PlaceMap,
-    index: &TreeIndex,
-    roots: &RootState,
-    scope: &Scope,
-    vmid: &Option<u16>,
-    place: Place,
-    found: &mut Vec<Found>,
-) -> Result<(), NoMemory>
-    requires { IsSound index.now }
-    ensures covers { OnOk result ((heading : Heading) (h : List Event) (pe : ℕ) (op : TheOp) (xt : ℕ)
-        → MayBeIssued heading h map.now index.now roots.now pe op xt scope.now vmid.now
-        → FoundAs found.old.items (cover_at heading Patterns (notes heading h) (Tlbi pe op xt))
-        → FoundAs found.new.items (cover_at heading Patterns (notes heading h) (Tlbi pe op xt))) }
-    ensures kept { OnOk result ((a : ℕ) → is_found found.old.items a ≡ true → is_found found.new.items a ≡ true) }
-    ensures added { OnOk result (is_some (marks_at map.now place) ≡ true → is_found found.new.items place ≡ true) }
-{
-    match map.state(place, None) {
-        EntryState::Broken { .. } => {
-            let cover = cover_of(map, index, roots, *scope, *vmid, place);
-            push_found(found, Found { place, cover })
-        }
-        EntryState::Clean | EntryState::Live { .. } => Ok(()),
-    }
-}
-
-// Those of the places that are broken, each with its cover.
-fn found_among(
-    alloc: Global,
-    map: &PlaceMap,
-    index: &TreeIndex,
-    roots: &RootState,
-    scope: &Scope,
-    vmid: &Option<u16>,
-    places: &[Place],
-) -> Result<Vec<Found>, NoMemory>
-    requires { IsSound index.now }
-    ensures covers { IfOk result (λ found. (heading : Heading) (h : List Event) (pe : ℕ) (op : TheOp) (xt : ℕ)
-        → MayBeIssued heading h map.now index.now roots.now pe op xt scope.now vmid.now
-        → FoundAs found.items (cover_at heading Patterns (notes heading h) (Tlbi pe op xt))) }
-    ensures found { IfOk result (λ found. (a : ℕ) → Contains places.now a → is_some (marks_at map.now a) ≡ true
-        → is_found found.items a ≡ true) }
-{
-    let mut found = Vec::new(alloc);
-    for k in 0..places.len() {
-        add_found(map, index, roots, scope, vmid, places[k], &mut found)?;
-    }
-    Ok(found)
-}
 
 // A TLBI of any scope looks at each broken place.
 fn issue_all(
@@ -153,8 +90,7 @@ fn issue_page(
     laws();
     law_notes_keep_the_events();
     law_starts();
-    let places = places_met(alloc, header, index, map, roots, scope.family, at)?;
-    let found = found_among(alloc, map, index, roots, scope, vmid, &places)?;
+    let found = found_on_ways(alloc, header, map, index, roots, scope, vmid, at)?;
     map.issue_at(alloc, pe, reach, op.is_broadcast(), &found)
 }
 

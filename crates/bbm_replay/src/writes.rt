@@ -197,8 +197,9 @@ impl Parts {
         if is_user_global(path.kind, &new) {
             return Err(StepFault::Broken(Rule::GlobalUser, place.get()));
         }
-        self.map.set(place, value, state.write(pe, new));
-        let _ = self.map.restless();
+        let written = state.write(pe, new);
+        self.map.set(place, value, written);
+        self.map.law_idle();
         Ok(())
     }
 
@@ -231,7 +232,7 @@ impl Parts {
         {
             Ok(()) => {
                 self.map.set(place, value, state.write(pe, new));
-                let _ = self.map.restless();
+                self.map.law_idle();
                 Ok(())
             }
             Err(fault) => Err(step_fault(fault)),

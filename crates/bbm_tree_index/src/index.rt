@@ -1,11 +1,8 @@
 //! The index of the trees.
 
-ghost use Rattle.std.specs.Prelude.{◌≡◌, ◌++◌, [], ◌∷◌, OnOk};
-
 use crate::climb::{Asked, is_cut};
 use crate::fault::TreeFault;
 use crate::hang::hang_all;
-use crate::held::next_at;
 use crate::judge::{is_named, judge_tables};
 use crate::leaving::{Leaving, sweep};
 use crate::mark::Mark;
@@ -37,16 +34,6 @@ pub struct Prepared {
     tables: Vec<IndexMap<u64, Mark>>,
 }
 
-// Adds a place at the end.
-fn push_place(places: &mut Vec<Place>, place: Place) -> Result<(), NoMemory>
-    ensures { OnOk result (places.new.items ≡ places.old.items ++ place ∷ []) }
-{
-    match places.push(place) {
-        Ok(()) => Ok(()),
-        Err(_) => Err(NoMemory),
-    }
-}
-
 #[tactic(auto, unfolding(crate::specs::Index::heading_of, crate::specs::Index::role_in, crate::specs::Index::node_in, crate::specs::Index::fresh_in, crate::specs::Index::null_in, crate::specs::Index::known_in, crate::specs::Index::pages_in))]
 impl TreeIndex {
     ghost use Rattle.std.specs.Prelude.{◌≡◌, ◌==◌, ◌+◌, ◌≤◌, ◌↔◌, ◌&&◌, ◌||◌, not, true, false, ℕ, None, Some, is_some, nat_eq, IfOk, IfErr, IfSome, OnOk, OnErr, Err, if◌then◌else◌, ◌≢◌};
@@ -61,8 +48,8 @@ impl TreeIndex {
     ghost use Rattle.bbm_tree_index.specs.Nodes.{path_at};
     ghost use Rattle.bbm_tree_index.specs.Spots.{Fits, StandsAt, spot_with};
     ghost use Rattle.bbm_rules.specs.Tree.{Node};
-    ghost use Rattle.bbm_tree_index.specs.Descent.{IsWay};
-    ghost use Rattle.bbm_tree_index.specs.Held.{Childless, core_at, is_held, kept, leaves, limbo_at, stays_without};
+    ghost use Rattle.bbm_tree_index.specs.Descent.{Translates};
+    ghost use Rattle.bbm_tree_index.specs.Held.{Childless, is_at, is_held, kept, leaves, limbo_at, stays_without};
     ghost use Rattle.bbm_tree_index.specs.Leaving.{stays};
     ghost use Rattle.bbm_tree_index.specs.Judged.{Judges, MayJudge, names_pages};
     ghost use Rattle.bbm_tree_index.specs.Least.{IsSurvey};
@@ -147,40 +134,28 @@ impl TreeIndex {
         ensures node { IfSome result (λ s. (n : Node) × (node_in self.now page ≡ Some n) × StandsAt s n) }
         ensures none { result ≡ None → node_in self.now page ≡ None }
     {
-        spot_of(&self.header, &self.role(page))
+        match self.roles.get(&page.get()) {
+            Some(role) => spot_of(&self.header, role),
+            None => None,
+        }
     }
 
-    /// Adds the places that are met on the way down from a page along an input page, of so many pages at most: of each
-    /// page that place which translates the input page; where it holds a table, the way goes on in its next page.
-    /// `NoMemory` where there is none.
-    pub fn descend(
-        &self,
-        map: &PlaceMap,
-        page: Page,
-        at: u64,
-        left: u8,
-        places: &mut Vec<Place>,
-    ) -> Result<(), NoMemory>
+    /// The place of a page that translates the input page, with what is known of it: where one goes on the way down from
+    /// the page along the input page. None where the page is in no tree, or no place of it translates the input page.
+    pub fn meet(&self, page: Page, at: u64) -> Option<(Place, Path)>
         requires { IsSound self.now }
-        ensures kept { OnOk result ((a : ℕ) → Contains places.old.items a → Contains places.new.items a) }
-        ensures met { OnOk result ((way : List ℕ) (a : ℕ) → length way < left
-            → IsWay (node_in self.now) (core_at map.now) at page way a → Contains places.new.items a) }
+        ensures inside { IfSome result (λ met. is_at page met.0 ≡ true) }
+        ensures path { IfSome result (λ met. (n : Node) × (node_in self.now page ≡ Some n) × (met.1 ≡ path_at n met.0)) }
+        ensures low { IfSome result (λ met. met.1.level ≤ 3) }
+        ensures met { (n : Node) (a : ℕ) → node_in self.now page ≡ Some n → Translates page n at a
+            → option_map (λ met. met.0) result ≡ Some a }
     {
-        if left == 0 {
-            return Ok(());
-        }
         match self.spot(page) {
             Some(spot) => match spot.place_at(page, at) {
-                Some(place) => {
-                    push_place(places, place)?;
-                    match next_at(map, spot.kind, spot.level, place) {
-                        Some(next) => self.descend(map, next, at, left - 1, places),
-                        None => Ok(()),
-                    }
-                }
-                None => Ok(()),
+                Some(place) => Some((place, spot.path(place))),
+                None => None,
             },
-            None => Ok(()),
+            None => None,
         }
     }
 

@@ -9,7 +9,7 @@ ghost use Rattle.bbm_tree_index.specs.Spots.{spot_with, Fits, RoleFits};
 
 use crate::held::{holds_none, next_at, place_of};
 use crate::role::{Path, Role};
-use crate::world::{first_input_page, input_pages, start_level};
+use crate::world::{first_input_page, input_pages, regions_in, start_level};
 use bbm_events::Header;
 use bbm_place_map::PlaceMap;
 use bbm_regimes::{Interval, Kind, Page, Place};
@@ -70,7 +70,7 @@ fn deeper(level: u8) -> u8
 }
 
 impl Spot {
-    ghost use Rattle.std.specs.Prelude.{◌↔◌, ◌<◌, true, Some};
+    ghost use Rattle.std.specs.Prelude.{◌↔◌, ◌<◌, true, Some, IfSome};
     ghost use Rattle.bbm_rules.specs.Tree.{Node};
     ghost use Rattle.bbm_tree_index.specs.Held.{Childless, is_at};
     ghost use Rattle.bbm_tree_index.specs.Spots.{StandsAt};
@@ -87,14 +87,15 @@ impl Spot {
     /// The place of the page that translates the input page, None where there is none.
     pub fn place_at(&self, page: Page, at: u64) -> Option<Place>
         requires { Fits self.now }
-        ensures { (a : ℕ) → is_at page a ≡ true → self.now.base + index_of a * input_pages_of self.now.level ≤ at
+        ensures place { (a : ℕ) → is_at page a ≡ true → self.now.base + index_of a * input_pages_of self.now.level ≤ at
             → at < self.now.base + index_of a * input_pages_of self.now.level + input_pages_of self.now.level
             → result ≡ Some a }
+        ensures inside { IfSome result (λ a. is_at page a ≡ true) }
     {
         if at < self.base {
             return None;
         }
-        let index = (at - self.base) / input_pages(self.level);
+        let index = regions_in(self.level, at - self.base);
         if index < 512 {
             Some(place_of(page, index))
         } else {

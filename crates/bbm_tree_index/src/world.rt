@@ -1,6 +1,6 @@
 //! What a header says of its roots.
 
-ghost use Rattle.std.specs.Prelude.{◌≡◌, ◌*◌, ◌≤◌, ◌^◌};
+ghost use Rattle.std.specs.Prelude.{◌≡◌, ◌*◌, ◌/◌, ◌≤◌, ◌^◌};
 ghost use Rattle.bbm_regimes.specs.World as world_of;
 
 use bbm_regimes::{Kind, World};
@@ -37,6 +37,20 @@ pub fn input_pages(level: u8) -> u64
         1 => 1 << 18,
         2 => 1 << 9,
         _ => 1,
+    }
+}
+
+/// How many regions of descriptors of the level, 0 to 3, lie whole in so many input pages. Source: Arm ARM (DDI 0487),
+/// "VMSAv8-64 translation table walks", the 4 KiB granule.
+pub fn regions_in(level: u8, pages: u64) -> u64
+    requires { level ≤ 3 }
+    ensures { result ≡ pages / world_of.input_pages level }
+{
+    match level {
+        0 => pages / (1 << 27),
+        1 => pages / (1 << 18),
+        2 => pages / (1 << 9),
+        _ => pages,
     }
 }
 

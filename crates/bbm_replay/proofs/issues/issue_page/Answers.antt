@@ -16,7 +16,7 @@ use Rattle.bbm_rules.specs.Prelude.{Tlbi}
 use Rattle.bbm_tree_index.specs.Held.{core_at}
 use Rattle.bbm_tree_index.specs.Index.{node_in}
 use Rattle.bbm_replay_trees.specs.Told.{notes}
-use Rattle.bbm_replay.specs.OnePage.{MetFromAll}
+use Rattle.bbm_replay.specs.OnePage.{IsFoundIn, MetFromAll}
 use Rattle.bbm_replay.proofs.Findings.{on_ok}
 use Rattle.bbm_replay.proofs.Unmet.{noted_none, uncovered}
 use Rattle.bbm_replay.proofs.issues.issue_page.Goals as goal
@@ -27,27 +27,25 @@ returns-clause-noted c =
     let index = c.args.index.now in
     let scope = c.args.scope.now in
     let pe = c.args.pe in
-    let found = c.deref-2.result.now in
+    let items = c.in_ok-found.found.items in
+    let found = c.deref.result.now in
     let new = c.issue_at.new.self in
     on_ok c.issue_at.result c.issue_at.ensures.noted (λ noted heading h xt same m a broken.
     let f = cover_at heading Patterns (notes heading h) (Tlbi pe c.args.op xt) in
     let told : FoundAs found f
-    = subst (λ (xs : List Found). FoundAs xs f) (sym c.deref-2.ensures.value) (c.in_ok-found.ensures.covers heading h pe c.args.op xt m) in
+    = subst (λ (xs : List Found). FoundAs xs f) (sym c.deref.ensures.value) (c.in_ok-found.ensures.covers heading h pe c.args.op xt m) in
     let hit : is_found found a ≡ true → Noted (state_from None (marks_at map a)) (pends_at map pe a) c.args.reach
     (operation c.args.op).broadcast (f a) (pends_at new pe a)
     = λ e. subst (λ b. Noted (state_from None (marks_at map a)) (pends_at map pe a) c.args.reach b (f a) (pends_at new pe a))
     c.is_broadcast.ensures (noted f told a e broken) in
-    let missed : is_found found a ≡ false → Contains c.deref.result.now a → ⊥
-    = λ e has. true≢false (sym (ap (λ (xs : List Found). is_found xs a) c.deref-2.ensures.value
-    ∙ c.in_ok-found.ensures.found a has broken) ∙ e) in
+    let missed : is_found found a ≡ false → IsFoundIn map items a → ⊥
+    = λ e has. true≢false (sym (has broken) ∙ ap (λ (xs : List Found). is_found xs a) (sym c.deref.ensures.value) ∙ e) in
     let away : is_found found a ≡ false → f a ≡ cover.None
     = λ e. uncovered heading (c.laws.ensures heading) h (c.law_starts.ensures heading h)
     (c.law_notes_keep_the_events.ensures heading Patterns h) map index c.args.roots.now pe c.args.op xt scope
-    c.args.vmid.now m c.requires.sound c.args.at c.requires.one c.deref.result.now
-    (λ r at covers. subst (λ (xs : List ℕ). MetFromAll (node_in index) (core_at map) c.args.at r.page (page_count heading.world r.kind) xs)
-    (sym c.deref.ensures.value)
-    (subst (λ (x : Heading). MetFromAll (node_in index) (core_at map) c.args.at r.page (page_count x.world r.kind) c.in_ok-places.places.items)
-    same (c.in_ok-places.ensures heading h r m.stands at covers)))
+    c.args.vmid.now m c.requires.sound c.args.at c.requires.one (IsFoundIn map items)
+    (λ r at covers. subst (λ (x : Heading). MetFromAll (node_in index) (core_at map) c.args.at r.page (page_count x.world r.kind)
+    (IsFoundIn map items)) same (c.in_ok-found.ensures.met heading h r m.stands at covers))
     a broken (missed e) in
     let quiet : is_found found a ≡ false → Noted (state_from None (marks_at map a)) (pends_at map pe a) c.args.reach
     (operation c.args.op).broadcast (f a) (pends_at new pe a)

@@ -32,7 +32,7 @@ returns-in-Ok c =
     (attaches_of (view_of old.map old.index) (view_of last.map last.index) (starts_of old.index (attach.Below c.args.place c.args.next))
     a.node a.fresh c.attach.ensures.null
     (record { tracked = e.pages; known = c.attach.ensures.tracked.known; pages = c.attach.ensures.tracked.pages }))
-    c.restless.ensures.idle
+    c.law_idle.ensures
 
 pub returns-in-Err : goal.returns-in-Err
 returns-in-Err c =

@@ -29,15 +29,15 @@ returns c =
     c.args.path.now c.requires.at (core_in c.args.state) c.args.new (ap (λ (s : EntryState). core_in s) c.requires.state) c.requires.new
     c.requires.clear c.requires.plain (sym c.is_contiguous.ensures ∙ c.if-is_contiguous.false)
     (sym c.is_user_global.ensures ∙ c.if-is_user_global.false)
-    c.law_others.ensures next (record { header = refl; index_header = refl; sound = λ s. s }) refl refl c.write.result
-    (subst (λ (s : EntryState). Written s c.args.pe c.args.new c.write.result) c.requires.state c.write.ensures)
+    c.law_others.ensures next (record { header = refl; index_header = refl; sound = λ s. s }) refl refl c.write-written.result
+    (subst (λ (s : EntryState). Written s c.args.pe c.args.new c.write-written.result) c.requires.state c.write-written.ensures)
     (record {
       value = e.values;
       marks = e.marks;
       pends = λ q a k b i p. ap (λ (x : Pends). waits x b i p) (e.pends q a k);
       dropped = e.dropped;
     })
-    e.pages c.restless.ensures.idle
+    e.pages c.law_idle.ensures
 
 pub set-requires : goal.set-requires
 set-requires c =

@@ -1,17 +1,33 @@
-use Rattle.std.proofs.Common.{◌≡◌, ℕ, Some, None, Option, IfSome, refl, ap, sym, ◌∙◌, subst}
-use Rattle.bbm_tree_index.proofs.Sounds.{role_fits}
+use Rattle.std.proofs.Common.{◌≡◌, ℕ, Some, None, Option, IfSome, nat_eq, unwrap_or, refl, ap, sym, ◌∙◌, subst}
+use Rattle.std.specs.Option.{option_copied}
+use Rattle.indexmap.specs.IndexMap.{get}
 use Rattle.bbm_rules.specs.Tree.{Node}
-use Rattle.bbm_tree_index.proofs.Cutting.{spot_node, spot_none}
+use Rattle.bbm_tree_index.proofs.Cutting.{spot_node}
+use Rattle.bbm_tree_index.proofs.Sounds.{role_fits}
 use Rattle.bbm_tree_index.specs.Index.{heading_of, node_in, role_in}
-use Rattle.bbm_tree_index.specs.declared.index.TreeIndex.{TreeIndex}
 use Rattle.bbm_tree_index.specs.Spots.{Fits, RoleFits, StandsAt, spot_with}
+use Rattle.bbm_tree_index.specs.declared.index.TreeIndex.{TreeIndex}
+use Rattle.bbm_tree_index.specs.declared.role.Role.{Role}
+use Rattle.bbm_tree_index.specs.declared.role.Role.TheVariants.{Untracked}
 use Rattle.bbm_tree_index.specs.declared.spot.Spot.{Spot}
 use Rattle.bbm_tree_index.proofs.index.TreeIndex.spot.Goals as goal
 
+role_is : (index : TreeIndex) (page key : ℕ) (r : Role) → key ≡ page → get nat_eq index.roles key ≡ Some r
+    → role_in index page ≡ r
+unfolding role_in
+role_is index page key r same e =
+    ap (λ (o : Option Role). unwrap_or o Untracked) (ap (λ k. get nat_eq index.roles k) (sym same) ∙ e)
+
 pub spot_of-requires : goal.spot_of-requires
-unfolding heading_of role_in
-spot_of-requires c = subst (RoleFits c.args.self.now.header) (sym c.role.ensures)
+unfolding heading_of
+spot_of-requires c = subst (RoleFits c.args.self.now.header) (role_is c.args.self.now c.args.page c.get.result c.in-Some.role.now c.get.ensures.value
+    (sym c.get-2.ensures.value ∙ ap (λ o. option_copied o) c.in-Some.is))
     (role_fits (role_in c.args.self.now) (heading_of c.args.self.now) c.requires.roles c.args.page)
+
+is_spot : (c : goal.After-spot_of) → c.spot_of.result ≡ spot_with (heading_of c.args.self.now) (role_in c.args.self.now c.args.page)
+unfolding heading_of
+is_spot c = c.spot_of.ensures ∙ ap (spot_with c.args.self.now.header) (sym (role_is c.args.self.now c.args.page c.get.result c.in-Some.role.now c.get.ensures.value
+    (sym c.get-2.ensures.value ∙ ap (λ o. option_copied o) c.in-Some.is)))
 
 fits_some : (o : Option Spot) → ((s : Spot) → o ≡ Some s → Fits s) → IfSome o Fits
 fits_some None h = tt
@@ -23,20 +39,9 @@ unfolding node_in
 node_some old page None e = tt
 node_some old page (Some s) e = spot_node (role_in old) (heading_of old) page (role_in old page) s (sym e)
 
-is_spot : (c : goal.After-spot_of) → c.spot_of.result ≡ spot_with (heading_of c.args.self.now) (role_in c.args.self.now c.args.page)
-unfolding heading_of role_in
-is_spot c = c.spot_of.ensures ∙ ap (spot_with c.args.self.now.header) c.role.ensures
+pub returns-in-Some-clause-fits : goal.returns-in-Some-clause-fits
+returns-in-Some-clause-fits c = fits_some c.spot_of.result (λ s e. role_fits (role_in c.args.self.now)
+    (heading_of c.args.self.now) c.requires.roles c.args.page s (sym (is_spot c) ∙ e))
 
-none : (old : TreeIndex) (page : ℕ) (o : Option Spot) → o ≡ spot_with (heading_of old) (role_in old page)
-    → o ≡ None → node_in old page ≡ None
-unfolding node_in
-none old page o e f = spot_none (role_in old) (heading_of old) page (role_in old page) (sym e ∙ f)
-
-pub returns : goal.returns
-returns c = record {
-  spot = is_spot c;
-  fits = fits_some c.spot_of.result (λ s e. role_fits (role_in c.args.self.now) (heading_of c.args.self.now) c.requires.roles
-      c.args.page s (sym (is_spot c) ∙ e));
-  node = node_some c.args.self.now c.args.page c.spot_of.result (is_spot c);
-  none = none c.args.self.now c.args.page c.spot_of.result (is_spot c);
-}
+pub returns-in-Some-clause-node : goal.returns-in-Some-clause-node
+returns-in-Some-clause-node c = node_some c.args.self.now c.args.page c.spot_of.result (is_spot c)

@@ -1,14 +1,13 @@
-use Rattle.std.proofs.Common.{◌≡◌, ◌+◌, ◌-◌, ◌*◌, ◌/◌, Some, sym, ap, ◌∙◌}
+use Rattle.std.proofs.Common.{◌+◌, ◌*◌, Some, sym, ap, ◌∙◌}
 use Rattle.bbm_regimes.specs.World.{input_pages as input_pages_of}
 use Rattle.bbm_rules.specs.Places.{index_of}
 use Rattle.bbm_tree_index.proofs.Descending.{part_is}
 use Rattle.bbm_tree_index.proofs.Places.{place_is}
 use Rattle.bbm_tree_index.proofs.spot.Spot.place_at.Goals as goal
 
-pub returns-then-index-lt512 : goal.returns-then-index-lt512
-returns-then-index-lt512 c a inside from to =
+pub returns-then-index-lt512-clause-place : goal.returns-then-index-lt512-clause-place
+returns-then-index-lt512-clause-place c a inside from to =
     let s = c.args.self.now in
     let page = c.args.page in
     let part = part_is s.base c.args.at (index_of a) (input_pages_of s.level) from to in
-    ap Some (c.place_of.ensures.place ∙ (ap (λ w. page + 8 * ((c.args.at - s.base) / w)) c.input_pages.ensures.value
-    ∙ (ap (λ i. page + 8 * i) part.1 ∙ sym (place_is page a inside))))
+    ap Some (c.place_of.ensures.place ∙ (ap (λ i. page + 8 * i) (c.regions_in-index.ensures ∙ part.1) ∙ sym (place_is page a inside)))

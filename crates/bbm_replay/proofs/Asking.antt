@@ -1,0 +1,162 @@
+-- What the cover of a place doesn't depend on.
+use Rattle.std.proofs.Common.{◌≡◌, ℕ, Bool, true, false, cond, ◌&&◌, not, is_none, Option, refl, sym, ◌∙◌, ap, true≢false}
+use Rattle.bbm_regimes.specs.Extent.{Extent}
+use Rattle.bbm_regimes.specs.declared.regime.Kind.{Kind}
+use Rattle.bbm_regimes.specs.declared.regime.Kind.TheVariants.{El2, S2, Ttbr0, Ttbr1}
+use Rattle.bbm_tlbi_scope.specs.Covers.{cover_by, cover_of, fits_leaf, fits_place, fits_table}
+use Rattle.bbm_tlbi_scope.specs.Numbers.{hint_allows, lacks_vmid, names_all, names_some}
+use Rattle.bbm_tlbi_scope.specs.Operations.{has_page}
+use Rattle.bbm_tlbi_scope.specs.declared.entry.Cover.{Cover}
+use Rattle.bbm_tlbi_scope.specs.declared.entry.Cover.TheVariants.{None as NoCover}
+use Rattle.bbm_tlbi_scope.specs.declared.entry.PlaceView.{PlaceView}
+use Rattle.bbm_tlbi_scope.specs.declared.entry.TagSet.{TagSet}
+use Rattle.bbm_tlbi_scope.specs.declared.scope.Family.{Family}
+use Rattle.bbm_tlbi_scope.specs.declared.scope.Family.TheVariants.{El2All, El2Va, E1All, VmAll1, VmAll12, Ipa, Va, VaAll, Asid}
+use Rattle.bbm_tlbi_scope.specs.declared.scope.Scope.{Scope}
+use Rattle.bbm_replay.specs.Covering.{asks_tags}
+
+module _ (s : Scope) (vmid : Option ℕ) (kind : Kind) (region : Extent) (level : ℕ) (table global : Bool) where
+  abbrev pub seen : Bool → TagSet → PlaceView
+  seen childless tags = record {
+    kind = kind;
+    region = region;
+    level = level;
+    table = table;
+    global = global;
+    childless = childless;
+    tags = tags;
+  }
+
+  -- the table of covers doesn't ask whether a place is childless, but whether it fits
+  by_fits : (k : Kind) (f : Family) (fits c c' : Bool) (t : TagSet) → cover_by k f fits s vmid (seen c t) ≡ cover_by k f fits s vmid (seen c' t)
+  by_fits El2 El2All fits c c' t = refl
+  by_fits El2 El2Va fits c c' t = refl
+  by_fits El2 E1All fits c c' t = refl
+  by_fits El2 VmAll1 fits c c' t = refl
+  by_fits El2 VmAll12 fits c c' t = refl
+  by_fits El2 Ipa fits c c' t = refl
+  by_fits El2 Va fits c c' t = refl
+  by_fits El2 VaAll fits c c' t = refl
+  by_fits El2 Asid fits c c' t = refl
+  by_fits S2 El2All fits c c' t = refl
+  by_fits S2 El2Va fits c c' t = refl
+  by_fits S2 E1All fits c c' t = refl
+  by_fits S2 VmAll1 fits c c' t = refl
+  by_fits S2 VmAll12 fits c c' t = refl
+  by_fits S2 Ipa fits c c' t = refl
+  by_fits S2 Va fits c c' t = refl
+  by_fits S2 VaAll fits c c' t = refl
+  by_fits S2 Asid fits c c' t = refl
+  by_fits Ttbr0 El2All fits c c' t = refl
+  by_fits Ttbr0 El2Va fits c c' t = refl
+  by_fits Ttbr0 E1All fits c c' t = refl
+  by_fits Ttbr0 VmAll1 fits c c' t = refl
+  by_fits Ttbr0 VmAll12 fits c c' t = refl
+  by_fits Ttbr0 Ipa fits c c' t = refl
+  by_fits Ttbr0 Va fits c c' t = refl
+  by_fits Ttbr0 VaAll fits c c' t = refl
+  by_fits Ttbr0 Asid fits c c' t = refl
+  by_fits Ttbr1 El2All fits c c' t = refl
+  by_fits Ttbr1 El2Va fits c c' t = refl
+  by_fits Ttbr1 E1All fits c c' t = refl
+  by_fits Ttbr1 VmAll1 fits c c' t = refl
+  by_fits Ttbr1 VmAll12 fits c c' t = refl
+  by_fits Ttbr1 Ipa fits c c' t = refl
+  by_fits Ttbr1 Va fits c c' t = refl
+  by_fits Ttbr1 VaAll fits c c' t = refl
+  by_fits Ttbr1 Asid fits c c' t = refl
+
+  -- it asks whether a place fits at operations that name pages alone
+  unpaged : (k : Kind) (f : Family) → has_page f ≡ false → (b b' : Bool) (v : PlaceView) → cover_by k f b s vmid v ≡ cover_by k f b' s vmid v
+  unpaged El2 El2All p b b' v = refl
+  unpaged S2 El2All p b b' v = refl
+  unpaged Ttbr0 El2All p b b' v = refl
+  unpaged Ttbr1 El2All p b b' v = refl
+  unpaged k El2Va p b b' v = absurd (true≢false p)
+  unpaged El2 E1All p b b' v = refl
+  unpaged S2 E1All p b b' v = refl
+  unpaged Ttbr0 E1All p b b' v = refl
+  unpaged Ttbr1 E1All p b b' v = refl
+  unpaged El2 VmAll1 p b b' v = refl
+  unpaged S2 VmAll1 p b b' v = refl
+  unpaged Ttbr0 VmAll1 p b b' v = refl
+  unpaged Ttbr1 VmAll1 p b b' v = refl
+  unpaged El2 VmAll12 p b b' v = refl
+  unpaged S2 VmAll12 p b b' v = refl
+  unpaged Ttbr0 VmAll12 p b b' v = refl
+  unpaged Ttbr1 VmAll12 p b b' v = refl
+  unpaged k Ipa p b b' v = absurd (true≢false p)
+  unpaged k Va p b b' v = absurd (true≢false p)
+  unpaged k VaAll p b b' v = absurd (true≢false p)
+  unpaged El2 Asid p b b' v = refl
+  unpaged S2 Asid p b b' v = refl
+  unpaged Ttbr0 Asid p b b' v = refl
+  unpaged Ttbr1 Asid p b b' v = refl
+
+  untagged : (k : Kind) (f : Family) → asks_tags f k ≡ false → (fits c : Bool) (t t' : TagSet)
+      → cover_by k f fits s vmid (seen c t) ≡ cover_by k f fits s vmid (seen c t')
+  untagged El2 El2All p fits c t t' = refl
+  untagged El2 El2Va p fits c t t' = refl
+  untagged El2 E1All p fits c t t' = refl
+  untagged El2 VmAll1 p fits c t t' = refl
+  untagged El2 VmAll12 p fits c t t' = refl
+  untagged El2 Ipa p fits c t t' = refl
+  untagged El2 Va p fits c t t' = refl
+  untagged El2 VaAll p fits c t t' = refl
+  untagged El2 Asid p fits c t t' = refl
+  untagged S2 El2All p fits c t t' = refl
+  untagged S2 El2Va p fits c t t' = refl
+  untagged S2 E1All p fits c t t' = refl
+  untagged S2 VmAll1 p fits c t t' = absurd (true≢false p)
+  untagged S2 VmAll12 p fits c t t' = absurd (true≢false p)
+  untagged S2 Ipa p fits c t t' = absurd (true≢false p)
+  untagged S2 Va p fits c t t' = refl
+  untagged S2 VaAll p fits c t t' = refl
+  untagged S2 Asid p fits c t t' = refl
+  untagged Ttbr0 El2All p fits c t t' = refl
+  untagged Ttbr0 El2Va p fits c t t' = refl
+  untagged Ttbr0 E1All p fits c t t' = refl
+  untagged Ttbr0 VmAll1 p fits c t t' = refl
+  untagged Ttbr0 VmAll12 p fits c t t' = refl
+  untagged Ttbr0 Ipa p fits c t t' = refl
+  untagged Ttbr0 Va p fits c t t' = absurd (true≢false p)
+  untagged Ttbr0 VaAll p fits c t t' = refl
+  untagged Ttbr0 Asid p fits c t t' = absurd (true≢false p)
+  untagged Ttbr1 El2All p fits c t t' = refl
+  untagged Ttbr1 El2Va p fits c t t' = refl
+  untagged Ttbr1 E1All p fits c t t' = refl
+  untagged Ttbr1 VmAll1 p fits c t t' = refl
+  untagged Ttbr1 VmAll12 p fits c t t' = refl
+  untagged Ttbr1 Ipa p fits c t t' = refl
+  untagged Ttbr1 Va p fits c t t' = refl
+  untagged Ttbr1 VaAll p fits c t t' = refl
+  untagged Ttbr1 Asid p fits c t t' = refl
+
+  -- the tags count where they are asked
+  same_tags : (f : Family) (fits c : Bool) (t t' : TagSet) → (asks_tags f kind ≡ true → t ≡ t')
+      → cover_by kind f fits s vmid (seen c t) ≡ cover_by kind f fits s vmid (seen c t')
+  same_tags f fits c t t' same = by (asks_tags f kind) refl
+    where
+      by : (b : Bool) → asks_tags f kind ≡ b → cover_by kind f fits s vmid (seen c t) ≡ cover_by kind f fits s vmid (seen c t')
+      by true e = ap (λ (x : TagSet). cover_by kind f fits s vmid (seen c x)) (same e)
+      by false e = untagged kind f e fits c t t'
+
+  -- whether a table is childless counts where it is asked
+  same_fits : (f : Family) (c c' : Bool) (t : TagSet) (v : PlaceView) → ((has_page f && table) ≡ true → c ≡ c')
+      → cover_by kind f (fits_place s (seen c t)) s vmid v ≡ cover_by kind f (fits_place s (seen c' t)) s vmid v
+  same_fits f c c' t v same = by (has_page f) table refl same
+    where
+      by : (p w : Bool) → has_page f ≡ p → ((p && w) ≡ true → c ≡ c')
+          → cover_by kind f (cond w (fits_table s (seen c t)) (fits_leaf s (seen c t))) s vmid v
+          ≡ cover_by kind f (cond w (fits_table s (seen c' t)) (fits_leaf s (seen c' t))) s vmid v
+      by false w e k = unpaged kind f e (cond w (fits_table s (seen c t)) (fits_leaf s (seen c t)))
+          (cond w (fits_table s (seen c' t)) (fits_leaf s (seen c' t))) v
+      by true false e k = refl
+      by true true e k = ap (λ x. cover_by kind f (fits_table s (seen x t)) s vmid v) (k refl)
+
+  pub alike : (c c' : Bool) (t t' : TagSet) → ((has_page s.family && table) ≡ true → c ≡ c')
+      → (asks_tags s.family kind ≡ true → t ≡ t') → cover_of s vmid (seen c t) ≡ cover_of s vmid (seen c' t')
+  alike c c' t t' childless tags = ap (λ (x : Cover). cond (lacks_vmid s.vmid_scoped vmid) NoCover x)
+      (same_fits s.family c c' t (seen c t) childless
+      ∙ by_fits kind s.family (fits_place s (seen c' t)) c c' t
+      ∙ same_tags s.family (fits_place s (seen c' t)) c' t t' tags)
