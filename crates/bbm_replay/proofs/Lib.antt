@@ -26,5 +26,6 @@ pub mod Descents
 pub mod Findings
 pub mod Asking
 pub mod Ways
+pub mod Whole
 pub mod Unmet
 pub mod Issuing

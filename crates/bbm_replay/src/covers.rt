@@ -1,6 +1,6 @@
 //! How far a TLBI covers a broken place.
 
-ghost use Rattle.std.specs.Prelude.{◌≡◌, ◌↔◌, ◌&&◌, ℕ, true, List};
+ghost use Rattle.std.specs.Prelude.{◌≡◌, ◌↔◌, ◌&&◌, not, is_none, ℕ, true, List};
 ghost use Rattle.bbm_events.specs.Heading.{Heading};
 ghost use Rattle.bbm_events.specs.declared.event.Event.{Event};
 ghost use Rattle.bbm_events.specs.declared.event.Event.TheVariants.{Tlbi};
@@ -14,6 +14,7 @@ ghost use Rattle.bbm_replay_roots.specs.Stands.{Stands};
 ghost use Rattle.bbm_rules.specs.Places.{page_of};
 ghost use Rattle.bbm_rules.specs.Tags.{tag_set, tags_of};
 ghost use Rattle.bbm_rules.specs.Tree.{Node};
+ghost use Rattle.bbm_tlbi_scope.specs.Numbers.{names_some};
 ghost use Rattle.bbm_tlbi_scope.specs.Operations.{has_page};
 ghost use Rattle.bbm_tree_index.specs.Held.{Childless};
 ghost use Rattle.bbm_tree_index.specs.Index.{node_in};
@@ -27,7 +28,7 @@ use crate::laws::laws;
 use bbm_descriptor::Core;
 use bbm_entry_state::{EntryState, Marks};
 use bbm_place_map::PlaceMap;
-use bbm_regimes::{Kind, Page, Place};
+use bbm_regimes::{Interval, Kind, Page, Place};
 use bbm_replay_entries::law_entry_holds;
 use bbm_replay_roots::RootState;
 use bbm_replay_trees::law_childless_by_cores;
@@ -55,11 +56,19 @@ fn is_global(core: &Core) -> bool
     }
 }
 
-// Whether the cover of a place with this core depends on whether its table is childless: at an operation that names pages.
-fn asks_childless(family: Family, core: &Core) -> bool
-    ensures { result ≡ (has_page family && is_table_core core.now) }
+// Whether the cover of a place of this region with this core depends on whether its table is childless: where the scope
+// names pages of any level, and some of the region.
+fn asks_childless(scope: &Scope, region: Interval, core: &Core) -> bool
+    ensures { result ≡ (has_page scope.now.family && (is_table_core core.now && (not scope.now.last_only
+        && is_none scope.now.level && names_some scope.now.interval region))) }
 {
-    family.has_page() && is_table(core)
+    if !scope.family.has_page() || !is_table(core) {
+        return false;
+    }
+    if scope.last_only || scope.level.is_some() {
+        return false;
+    }
+    scope.names_some(region)
 }
 
 // Whether the cover of a place of this kind depends on the tags of its root.
@@ -116,7 +125,7 @@ pub(crate) fn cover_met(
     law_entry_holds();
     law_childless_by_cores();
     law_notes_keep_the_events();
-    let childless = asks_childless(scope.family, &marks.core);
+    let childless = asks_childless(scope, path.region, &marks.core);
     let tags = asks_tags(scope.family, path.kind);
     cover(
         *scope,

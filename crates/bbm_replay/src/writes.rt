@@ -1,13 +1,15 @@
 //! Writes of places.
 
-ghost use Rattle.std.specs.Prelude.{◌≡◌, ◌≤◌, ◌%◌, ◌==◌, ◌&&◌, not, ℕ, false, Some, None, is_some};
+ghost use Rattle.std.specs.Prelude.{◌≡◌, ◌≤◌, ◌%◌, ◌==◌, ◌&&◌, not, ℕ, List, true, false, Some, None, is_some};
 ghost use Rattle.std.specs.Option.{option_map, option_map_or};
-ghost use Rattle.bbm_tree_index.specs.Agreement.{IsSound};
 ghost use Rattle.bbm_tree_index.specs.Held.{limbo_at};
 ghost use Rattle.bbm_descriptor.specs.Descriptor as spec;
 ghost use Rattle.bbm_entry_state.specs.Points as points;
+ghost use Rattle.bbm_place_map.specs.Map.{marks_at};
 ghost use Rattle.bbm_replay.specs.Leaves as leaves;
-ghost use Rattle.bbm_replay.specs.Standing.{view_of};
+ghost use Rattle.bbm_replay.specs.Standing.{Stands, view_of};
+ghost use Rattle.bbm_events.specs.Heading.{Heading};
+ghost use Rattle.bbm_events.specs.declared.event.Event.{Event};
 ghost use Rattle.bbm_replay.specs.View.{state_of};
 ghost use Rattle.bbm_regimes.specs.Same.{same_kind};
 ghost use Rattle.std.specs.Prelude.{Ok};
@@ -24,6 +26,7 @@ use crate::laws::{laws, rules};
 use crate::parts::Parts;
 use bbm_descriptor::{Core, Memory, core};
 use bbm_entry_state::EntryState;
+use bbm_place_map::PlaceMap;
 use bbm_regimes::{Kind, Page, Pe, Place};
 use bbm_replay_roots::law_others;
 use bbm_rules::{Rule, StepFault};
@@ -85,6 +88,13 @@ fn is_user_global(kind: Kind, new: &Option<Core>) -> bool
     kind == Kind::Ttbr0 && is_global(new)
 }
 
+// Whether no place is broken.
+fn is_whole(map: &PlaceMap) -> bool
+    ensures { result ≡ true → (a : ℕ) → is_some (marks_at map.now a) ≡ true → ⊥ }
+{
+    map.restless() == 0
+}
+
 // The next page of a core that is a table.
 fn next_of(core: &Core) -> Option<Page>
     ensures { result ≡ leaves.attached_next None (Some core.now) }
@@ -131,13 +141,20 @@ impl Parts {
         Ok(())
     }
 
-    // Whether the write makes a valid value at a place in limbo.
+    // Whether the write makes a valid value at a place in limbo. None is where no place is broken.
     fn makes_in_limbo(&self, place: Place, valid: bool) -> bool
-        requires { IsSound self.now.index }
+        requires { (heading : Heading) × (h : List Event) × Stands self.now heading h }
         ensures { result ≡ (valid
             && option_map_or (limbo_at self.now.map) (node_in self.now.index (page_of place)) false) }
     {
-        valid && self.index.in_limbo(&self.map, place)
+        laws();
+        if !valid {
+            return false;
+        }
+        if is_whole(&self.map) {
+            return false;
+        }
+        self.index.in_limbo(&self.map, place)
     }
 
     // The rules that come first of a write in a tree.
