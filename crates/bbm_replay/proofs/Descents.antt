@@ -1,16 +1,15 @@
 -- What a TLBI of one page covers lies on the way down to the page.
-use Rattle.std.proofs.Common.{◌≡◌, ℕ, zero, suc, ◌+◌, ◌-◌, ◌*◌, ◌%◌, ◌^◌, ◌<◌, ◌≤◌, ◌&&◌, ◌==◌, nat_le, Bool, true, false, cond, List, [], ◌∷◌, length, Option, Some, None, Contains, slice_index_or, is_none, is_some, not, option_and_then, refl, sym, ◌∙◌, ap, subst, arith, true≢false, not-suc-le-zero, le_of_suc-le-suc}
+use Rattle.std.proofs.Common.{◌≡◌, ℕ, zero, suc, ◌+◌, ◌*◌, ◌%◌, ◌<◌, ◌≤◌, ◌&&◌, ◌==◌, nat_le, Bool, true, false, cond, List, [], ◌∷◌, length, Option, Some, is_none, not, refl, sym, ◌∙◌, ap, subst, arith, true≢false}
 use Rattle.std.proofs.Math.Nat.{mul-le-mul_right}
 use Rattle.std.proofs.lemmas.Bool.{and_parts, eq-eqb, leb-true, le-leb}
 use Rattle.bbm_descriptor.specs.declared.desc.Core.{Core}
 use Rattle.bbm_regimes.specs.Extent.{Extent, holds, meets}
-use Rattle.bbm_regimes.specs.World.{input_pages, page_count}
+use Rattle.bbm_regimes.specs.World.{input_pages}
 use Rattle.bbm_regimes.specs.declared.regime.Kind.{Kind}
 use Rattle.bbm_regimes.specs.declared.regime.Kind.TheVariants.{El2, S2, Ttbr0, Ttbr1}
 use Rattle.bbm_tlbi_scope.specs.Covers.{cover_by, cover_of, fits_place}
 use Rattle.bbm_tlbi_scope.specs.Numbers.{hint_allows, lacks_vmid, names_all, names_some}
 use Rattle.bbm_tlbi_scope.specs.Operations.{has_page}
-use Rattle.bbm_tlbi_scope.specs.declared.entry.Cover.{Cover}
 use Rattle.bbm_tlbi_scope.specs.declared.entry.Cover.TheVariants.{None as NoCover}
 use Rattle.bbm_tlbi_scope.specs.declared.entry.PlaceView.{PlaceView}
 use Rattle.bbm_tlbi_scope.specs.declared.scope.Family.{Family}

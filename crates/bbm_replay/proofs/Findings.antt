@@ -1,9 +1,8 @@
 -- Places that are found, each with its cover.
 use Rattle.std.specs.Prelude.{IfSome, OnOk}
-use Rattle.std.proofs.Common.{◌≡◌, ℕ, zero, suc, Bool, true, false, ◌||◌, List, [], ◌∷◌, ◌++◌, length, ◌<◌, slice_index_or, Option, Some, None, is_some, nat_eq, Result, Ok, Err, refl, sym, ◌∙◌, ap, subst, not-suc-le-zero, le_of_suc-le-suc}
+use Rattle.std.proofs.Common.{◌≡◌, ℕ, zero, suc, Bool, true, false, ◌||◌, List, [], ◌∷◌, ◌++◌, Option, Some, is_some, nat_eq, Result, Ok, Err, refl, ap, subst, not-suc-le-zero, le_of_suc-le-suc}
 use Rattle.std.proofs.lemmas.Bool.{eq-eqb}
 use Rattle.std.proofs.lemmas.List.Elements.{All-append}
-use Rattle.bbm_entry_state.specs.declared.marks.Marks.{Marks}
 use Rattle.bbm_place_map.specs.Finds.{FoundAs, is_found}
 use Rattle.bbm_place_map.specs.Map.{marks_at}
 use Rattle.bbm_place_map.specs.declared.found.Found.{Found}

@@ -1,8 +1,8 @@
 -- A broken place that isn't met on the way down to an input page isn't covered by a TLBI of that page.
-use Rattle.std.proofs.Common.{◌≡◌, ℕ, zero, suc, ◌+◌, ◌-◌, ◌*◌, ◌/◌, ◌%◌, ◌^◌, nat_eq, ◌<◌, ◌≤◌, ◌&&◌, ◌||◌, ◌==◌, nat_le, Bool, true, false, cond, List, [], ◌∷◌, length, Option, Some, None, Contains, slice_index_or, is_some, option_and_then, refl, sym, ◌∙◌, ap, subst, arith, true≢false, not-suc-le-zero, le_of_suc-le-suc}
+use Rattle.std.proofs.Common.{◌≡◌, ℕ, zero, suc, ◌+◌, ◌-◌, ◌*◌, ◌/◌, ◌%◌, nat_eq, ◌<◌, ◌≤◌, ◌&&◌, ◌||◌, ◌==◌, nat_le, Bool, true, false, cond, List, [], length, Option, Some, None, Contains, slice_index_or, is_some, option_and_then, refl, sym, ◌∙◌, ap, subst, arith, true≢false, not-suc-le-zero, le_of_suc-le-suc}
 use Rattle.std.specs.Prelude.{unwrap_or}
 use Rattle.std.proofs.lemmas.Bool.{and_parts, eqb-true, leb-true}
-use Rattle.bbm_descriptor.specs.Descriptor.{core_of, desc_of, same_bool}
+use Rattle.bbm_descriptor.specs.Descriptor.{desc_of, same_bool}
 use Rattle.bbm_entry_state.specs.Calls.{Noted, counts_at}
 use Rattle.bbm_entry_state.specs.Points.{waits}
 use Rattle.bbm_entry_state.specs.declared.marks.Marks.{Marks}
@@ -37,7 +37,7 @@ use Rattle.bbm_rules.specs.Tree.{Node, held_at, is_childless, next_of, node_of, 
 use Rattle.bbm_tree_index.specs.Agreement.{IsSound}
 use Rattle.bbm_tree_index.specs.Descent.{IsWay}
 use Rattle.bbm_tree_index.specs.Held.{core_at}
-use Rattle.bbm_tree_index.specs.Index.{known_in, node_in}
+use Rattle.bbm_tree_index.specs.Index.{node_in}
 use Rattle.bbm_tree_index.specs.declared.index.TreeIndex.{TreeIndex}
 use Rattle.bbm_replay_roots.specs.declared.state.RootState.{RootState}
 use Rattle.bbm_replay_trees.specs.Told.{SameCores, SameNodes, notes}

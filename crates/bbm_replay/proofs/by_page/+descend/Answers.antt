@@ -1,4 +1,4 @@
-use Rattle.std.proofs.Common.{◌≡◌, ℕ, suc, ◌-◌, ◌<◌, Some, length, ap, ◌∙◌, subst, arith}
+use Rattle.std.proofs.Common.{◌≡◌, ℕ, suc, ◌-◌, ◌<◌, Some, length, subst, arith}
 use Rattle.bbm_tree_index.specs.Held.{core_at, next_in}
 use Rattle.bbm_tree_index.specs.Index.{node_in}
 use Rattle.bbm_rules.specs.Tree.{Node}

@@ -1,4 +1,4 @@
-use Rattle.std.proofs.Common.{◌≡◌, ◌+◌, ◌*◌, ℕ, ap, subst}
+use Rattle.std.proofs.Common.{◌+◌, ◌*◌, ℕ, subst}
 use borrow.Author.Count.{below_more}
 use Rattle.bbm_tree_index.specs.Held.{core_at}
 use Rattle.bbm_tree_index.specs.Index.{node_in}

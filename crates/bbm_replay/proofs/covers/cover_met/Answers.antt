@@ -6,7 +6,6 @@ use Rattle.bbm_place_map.specs.Each.{is_table}
 use Rattle.bbm_regimes.specs.World.{input_pages}
 use Rattle.bbm_tlbi_scope.specs.Numbers.{names_some}
 use Rattle.bbm_tlbi_scope.specs.Operations.{has_page}
-use Rattle.bbm_regimes.specs.declared.regime.Kind.{Kind}
 use Rattle.bbm_rules.specs.Claims.Trust.{Patterns}
 use Rattle.bbm_rules.specs.Places.{page_of}
 use Rattle.bbm_rules.specs.Tags.{tag_set, tags_of}

@@ -1,4 +1,4 @@
-use Rattle.std.proofs.Common.{◌≡◌, None, sym, ◌∙◌, subst, rules}
+use Rattle.std.proofs.Common.{◌≡◌, None, sym, subst, rules}
 use Rattle.bbm_entry_state.specs.Calls.{Noted}
 use Rattle.bbm_place_map.specs.Map.{marks_at, pends_at}
 use Rattle.bbm_place_map.specs.States.{state_from}

@@ -1,4 +1,4 @@
-use Rattle.std.proofs.Common.{◌≡◌, ℕ, Bool, true, false, List, Contains, is_some, None, refl, sym, ◌∙◌, ap, subst, true≢false}
+use Rattle.std.proofs.Common.{◌≡◌, Bool, true, false, List, None, refl, sym, ◌∙◌, ap, subst, true≢false}
 use Rattle.bbm_entry_state.specs.Calls.{Noted}
 use Rattle.bbm_entry_state.specs.declared.pending.Pends.{Pends}
 use Rattle.bbm_events.specs.Heading.{Heading}

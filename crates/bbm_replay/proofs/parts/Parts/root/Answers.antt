@@ -1,4 +1,4 @@
-use Rattle.std.proofs.Common.{◌≡◌, ℕ, not, filter, None, ◌+◌, ◌*◌, ◌≤◌, ◌^◌, refl, sym, ◌∙◌, ap, subst, Err, Contains, true≢false}
+use Rattle.std.proofs.Common.{◌≡◌, ℕ, not, filter, None, ◌+◌, ◌*◌, ◌≤◌, ◌^◌, refl, sym, ◌∙◌, ap, subst, Err, Contains}
 use Rattle.bbm_regimes.specs.World.{page_count}
 use Rattle.bbm_rules.specs.Prelude.{Heading, kind_in_world}
 use Rattle.bbm_rules.specs.declared.step_fault.StepFault.{StepFault}
@@ -11,10 +11,8 @@ use Rattle.bbm_rules.specs.Lists.{least}
 use Rattle.bbm_tree_index.specs.declared.role.Attach.TheVariants as attach
 use Rattle.bbm_replay.specs.Standing.{view_of}
 use Rattle.bbm_replay.specs.declared.parts.Parts.{Parts}
-use Rattle.bbm_rules.specs.declared.step_fault.StepFault.TheVariants as step
-use Rattle.bbm_replay.proofs.Framing.{stands_still}
 use Rattle.bbm_replay.proofs.RootPages.{named_fresh, room_for}
-use Rattle.bbm_replay.proofs.Rooting.{attaches_of, root_fault, root_full, root_ok, root_page, root_used, root_world, starts, stays_after, unbroken, unfresh_is}
+use Rattle.bbm_replay.proofs.Rooting.{attaches_of, root_fault, root_full, root_ok, root_page, root_used, root_world, starts, unbroken, unfresh_is}
 use Rattle.bbm_replay.proofs.parts.Parts.root.Goals as goal
 
 pub returns-then-not-has_kind : goal.returns-then-not-has_kind

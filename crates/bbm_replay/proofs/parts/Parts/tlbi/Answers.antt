@@ -1,14 +1,4 @@
-use Rattle.std.proofs.Common.{◌≡◌, None, refl, sym, ◌∙◌, subst, rules}
-use Rattle.bbm_entry_state.specs.Calls.{Noted}
-use Rattle.bbm_place_map.specs.Map.{marks_at, pends_at}
-use Rattle.bbm_place_map.specs.declared.map.PlaceMap.{PlaceMap}
-use Rattle.bbm_place_map.specs.States.{state_from}
-use Rattle.bbm_tlbi_scope.specs.Operations.{operation}
-use Rattle.bbm_tlbi_scope.specs.declared.entry.Cover.{Cover}
-use Rattle.bbm_rules.specs.Claims.Trust.{Patterns}
-use Rattle.bbm_rules.specs.Covers.{cover_at}
-use Rattle.bbm_rules.specs.Prelude.{Tlbi}
-use Rattle.bbm_replay_trees.specs.Told.{notes}
+use Rattle.std.proofs.Common.{refl, sym, ◌∙◌}
 use Rattle.bbm_replay.specs.Covering.{MayBeIssued}
 use Rattle.bbm_replay.specs.declared.parts.Parts.{Parts}
 use Rattle.bbm_replay.proofs.Framing.{same_of, stands_still}
