@@ -1,11 +1,14 @@
--- The first word of a line, where a space follows it.
+-- The first word of a line, or the option of a barrier, where a space follows it.
 use Rattle.std.proofs.Common.{◌≡◌, ℕ, suc, ◌-◌, ◌≤◌, List, [], ◌∷◌, ◌++◌, length, take, drop, get_or, codes, refl, ap, ◌∙◌, Ok, arith}
 use Rattle.std.specs.Bool.{⊤}
 use Rattle.std.proofs.lemmas.List.{take_rest}
+use Rattle.bbm_barriers.specs.declared.Dsb.{Dsb}
+use Rattle.bbm_barriers.specs.declared.Domain.TheVariants.{Inner}
+use Rattle.bbm_barriers.specs.declared.Types.TheVariants.{All, Stores}
 use Rattle.bbm_events.specs.Spelling.{fields}
 use Rattle.bbm_events.specs.declared.keyword.Keyword.{Keyword}
 use Rattle.bbm_events.specs.declared.keyword.Keyword.TheVariants as first
-use Rattle.bbm_events.specs.Lines.{FieldRead, keyword_field}
+use Rattle.bbm_events.specs.Lines.{FieldRead, keyword_field, dsb_field}
 
 abbrev keyword : List ℕ → FieldRead Keyword
 keyword line = keyword_field (fields line)
@@ -47,4 +50,27 @@ begins_dmb text some h0 h1 h2 h3 = rw (take_rest text 4) (ap keyword (begins (co
 pub begins_msr : (text : List ℕ) → 4 ≤ length text → get_or text 0 0 ≡ 109 → get_or text 1 0 ≡ 115 → get_or text 2 0 ≡ 114 → get_or text 3 0 ≡ 32 → keyword text ≡ Ok (first.Msr, fields (take (length text - 4) (drop 4 text)))
 begins_msr text some h0 h1 h2 h3 = rw (take_rest text 4) (ap keyword (begins (codes "msr ") text some (h0, (h1, (h2, (h3, tt))))))
 
-pub ruleset begun = (begins_w, begins_dsb, begins_tlbi, begins_isb, begins_dmb, begins_msr)
+pub begins_lock : (text : List ℕ) → 5 ≤ length text → get_or text 0 0 ≡ 108 → get_or text 1 0 ≡ 111 → get_or text 2 0 ≡ 99 → get_or text 3 0 ≡ 107 → get_or text 4 0 ≡ 32 → keyword text ≡ Ok (first.Lock, fields (take (length text - 5) (drop 5 text)))
+begins_lock text some h0 h1 h2 h3 h4 = rw (take_rest text 5) (ap keyword (begins (codes "lock ") text some (h0, (h1, (h2, (h3, (h4, tt)))))))
+
+pub begins_unlock : (text : List ℕ) → 7 ≤ length text → get_or text 0 0 ≡ 117 → get_or text 1 0 ≡ 110 → get_or text 2 0 ≡ 108 → get_or text 3 0 ≡ 111 → get_or text 4 0 ≡ 99 → get_or text 5 0 ≡ 107 → get_or text 6 0 ≡ 32 → keyword text ≡ Ok (first.Unlock, fields (take (length text - 7) (drop 7 text)))
+begins_unlock text some h0 h1 h2 h3 h4 h5 h6 = rw (take_rest text 7) (ap keyword (begins (codes "unlock ") text some (h0, (h1, (h2, (h3, (h4, (h5, (h6, tt)))))))))
+
+pub ruleset begun = (begins_w, begins_dsb, begins_tlbi, begins_isb, begins_dmb, begins_msr, begins_lock, begins_unlock)
+
+abbrev option : List ℕ → FieldRead Dsb
+option line = dsb_field (fields line)
+
+abbrev inner : Dsb
+inner = record { domain = Inner; types = All }
+
+abbrev inner_stores : Dsb
+inner_stores = record { domain = Inner; types = Stores }
+
+pub begins_ish : (text : List ℕ) → 4 ≤ length text → get_or text 0 0 ≡ 105 → get_or text 1 0 ≡ 115 → get_or text 2 0 ≡ 104 → get_or text 3 0 ≡ 32 → option text ≡ Ok (inner, fields (take (length text - 4) (drop 4 text)))
+begins_ish text some h0 h1 h2 h3 = rw (take_rest text 4) (ap option (begins (codes "ish ") text some (h0, (h1, (h2, (h3, tt))))))
+
+pub begins_ishst : (text : List ℕ) → 6 ≤ length text → get_or text 0 0 ≡ 105 → get_or text 1 0 ≡ 115 → get_or text 2 0 ≡ 104 → get_or text 3 0 ≡ 115 → get_or text 4 0 ≡ 116 → get_or text 5 0 ≡ 32 → option text ≡ Ok (inner_stores, fields (take (length text - 6) (drop 6 text)))
+begins_ishst text some h0 h1 h2 h3 h4 h5 = rw (take_rest text 6) (ap option (begins (codes "ishst ") text some (h0, (h1, (h2, (h3, (h4, (h5, tt))))))))
+
+pub ruleset options_begun = (begins_ish, begins_ishst)

@@ -83,6 +83,22 @@ number_run base (byte ∷ bytes) some blank zero = by (byte == 32) (byte == 48) 
     by false true is e = absurd (grind (arith, nat_tests))
     by false false is e = ap (λ (x : Option ℕ). with_rest (after (byte ∷ bytes)) x) (rw is (filled (front bytes) e))
 
+-- a number of one digit, up to a space
+pub number_digit : (line : List ℕ) → 2 ≤ length line → get_or line 0 0 ≢ 32 → get_or line 0 0 ≢ 48 → get_or line 1 0 ≡ 32
+    → first_value (number_of 10) line ≡ with_rest (fields (take (length line - 2) (drop 2 line))) (next_number 10 0 (get_or line 0 0))
+number_digit [] some blank zero space = absurd (omega arith)
+number_digit (digit ∷ []) some blank zero space = absurd (omega arith)
+number_digit (digit ∷ next ∷ bytes) some blank zero space =
+    let is : next ≡ 32 = space in
+    let all : take (length (digit ∷ next ∷ bytes) - 2) bytes ≡ bytes = take_all (length (digit ∷ next ∷ bytes) - 2) bytes (omega arith) in
+    let filled : (digit == 32) ≡ false = grind (arith, nat_tests, blank) in
+    number_run 10 (digit ∷ next ∷ bytes) (omega arith) blank zero
+    ∙ rw (all, is, filled) (ended (next_number 10 0 digit))
+  where
+    ended : (n : Option ℕ) → option_and_then (λ m. Some (m, fields bytes)) n ≡ with_rest (fields bytes) n
+    ended None = refl
+    ended (Some m) = refl
+
 pub number_zero_10 : (line : List ℕ) → 1 ≤ length line → get_or line 0 0 ≡ 48 → first_value (number_of 10) line ≡ only_zero (take (length line - 1) (drop 1 line))
 number_zero_10 = number_zero 10 (inl refl)
 
@@ -167,4 +183,4 @@ first_hex_no_x (c ∷ x ∷ ds) h = first_hex_is (c ∷ x ∷ ds) ∙ by (120 ==
 
 pub ruleset hex_fields = (first_hex_from_digits, first_hex_short, first_hex_no_zero, first_hex_no_x)
 
-pub ruleset number_fields = (number_none, number_blank, number_zero_10, number_zero_16, number_run)
+pub ruleset number_fields = (number_none, number_blank, number_zero_10, number_zero_16, number_run, number_digit)

@@ -1,9 +1,10 @@
 //! The first field of a line, read from its left, and the fields after it.
 
 ghost use Rattle.std.specs.Prelude.{◌≡◌};
+ghost use Rattle.bbm_barriers.specs.declared.Domain.TheVariants.{Inner};
 ghost use Rattle.bbm_events.specs.Spelling.{decimal_value, fields, hex_value};
-ghost use Rattle.bbm_log_grammar.specs.Digits.{number_of};
-ghost use Rattle.bbm_log_grammar.specs.Front.{first_value, only_zero, run};
+ghost use Rattle.bbm_log_grammar.specs.Digits.{next_number, number_of};
+ghost use Rattle.bbm_log_grammar.specs.Front.{first_value, only_zero, run, with_rest};
 ghost use Rattle.bbm_events.specs.Lines as lines;
 
 use crate::fields::Fields;
@@ -79,6 +80,17 @@ fn zero_before<'a>(line: &'a [u8]) -> Option<(u64, Fields<'a>)>
     }
 }
 
+/// The number of one decimal digit, and the fields after the space behind it.
+#[inline]
+fn one_digit<'a>(digit: u8, rest: &'a [u8]) -> Option<(u64, Fields<'a>)>
+    ensures { result ≡ with_rest (fields rest.now) (next_number 10 0 digit) }
+{
+    match next_decimal(0, digit) {
+        Some(n) => Some((n, Fields::of(rest))),
+        None => None,
+    }
+}
+
 /// The number of the decimal digits up to the first space, without a leading zero.
 #[inline]
 #[tactic(auto, using(crate::proofs::Fronts::number_fields))]
@@ -89,6 +101,7 @@ fn first_decimal_number<'a>(line: &'a [u8]) -> Option<(u64, Fields<'a>)>
         [] => None,
         [b' ', ..] => None,
         [b'0', rest @ ..] => zero_before(rest),
+        [digit, b' ', rest @ ..] => one_digit(*digit, rest),
         _ => decimal_run(line),
     }
 }
@@ -150,7 +163,22 @@ pub(crate) fn first_keyword<'a>(line: &'a [u8]) -> Result<(Keyword, Fields<'a>),
         [b'i', b's', b'b', b' ', rest @ ..] => Ok((Keyword::Isb, Fields::of(rest))),
         [b'd', b'm', b'b', b' ', rest @ ..] => Ok((Keyword::Dmb, Fields::of(rest))),
         [b'm', b's', b'r', b' ', rest @ ..] => Ok((Keyword::Msr, Fields::of(rest))),
+        [b'l', b'o', b'c', b'k', b' ', rest @ ..] => Ok((Keyword::Lock, Fields::of(rest))),
+        [b'u', b'n', b'l', b'o', b'c', b'k', b' ', rest @ ..] => {
+            Ok((Keyword::Unlock, Fields::of(rest)))
+        }
         _ => any_keyword(Fields::of(line)),
+    }
+}
+
+/// The barrier of the inner shareable domain for these accesses.
+#[inline]
+fn inner(types: Types) -> Dsb
+    ensures { result ≡ record { domain = Inner; types = types } }
+{
+    Dsb {
+        domain: Domain::Inner,
+        types,
     }
 }
 
@@ -164,28 +192,19 @@ fn any_dsb<'a>(fields: Fields<'a>) -> Result<(Dsb, Fields<'a>), Malformed>
     Ok((value, rest))
 }
 
-/// The option of a barrier that the line begins with, and the fields after it; those that end most lines are found at
-/// once.
+/// The option of a barrier that the line begins with, and the fields after it; those of most lines are found at once.
 #[inline(always)]
+#[tactic(auto, using(crate::proofs::Begun::options_begun))]
 pub(crate) fn first_dsb<'a>(line: &'a [u8]) -> Result<(Dsb, Fields<'a>), Malformed>
     ensures { result ≡ lines.dsb_field (fields line.now) }
 {
-    let domain = Domain::Inner;
     match line {
-        b"ish" => Ok((
-            Dsb {
-                domain,
-                types: Types::All,
-            },
-            Fields::none(),
-        )),
-        b"ishst" => Ok((
-            Dsb {
-                domain,
-                types: Types::Stores,
-            },
-            Fields::none(),
-        )),
+        b"ish" => Ok((inner(Types::All), Fields::none())),
+        b"ishst" => Ok((inner(Types::Stores), Fields::none())),
+        [b'i', b's', b'h', b' ', rest @ ..] => Ok((inner(Types::All), Fields::of(rest))),
+        [b'i', b's', b'h', b's', b't', b' ', rest @ ..] => {
+            Ok((inner(Types::Stores), Fields::of(rest)))
+        }
         _ => any_dsb(Fields::of(line)),
     }
 }
