@@ -6,6 +6,7 @@ pub mod States
 pub mod Each
 pub mod Works
 pub mod Dsbs
+pub mod Puts
 pub mod Finds
 pub mod Notes
 pub mod Map

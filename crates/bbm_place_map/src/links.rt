@@ -3,8 +3,8 @@
 ghost use Rattle.std.specs.Prelude.{◌≡◌, ◌≤◌, ◌<◌, ◌+◌, ◌^◌, ℕ, Option, Some, None, is_some, nat_eq, vec_len, vec_capacity, count_by, slice_get, cond, if◌then◌else◌};
 ghost use Rattle.bbm_place_map.specs.Cells.{value_in, slot_in, is_listed};
 ghost use Rattle.bbm_place_map.specs.Entries.{cell_at, entry_in};
-ghost use Rattle.bbm_place_map.specs.Parts.{marks_in, pends_for};
-ghost use Rattle.bbm_place_map.specs.Sound.{Linked, Placed, index_of};
+ghost use Rattle.bbm_place_map.specs.Puts.{Breaks};
+ghost use Rattle.bbm_place_map.specs.Sound.{Linked, Placed};
 
 use crate::cell::Cell;
 use crate::entry::Entry;
@@ -52,16 +52,7 @@ pub fn link(
     requires few { vec_len cells.old < 2 ^ 32 }
     requires free { slot_in cells.old.items j ≡ None }
     requires room { vec_len cells.old ≤ vec_capacity broken.old }
-    ensures linked { Linked cells.new.items broken.new.items }
-    ensures len { vec_len cells.new ≡ vec_len cells.old }
-    ensures room { vec_capacity broken.new ≡ vec_capacity broken.old }
-    ensures values { (i : ℕ) → value_in cells.new.items i ≡ value_in cells.old.items i }
-    ensures marks { (i : ℕ) → marks_in cells.new.items broken.new.items i
-        ≡ (if nat_eq i j then Some marks else marks_in cells.old.items broken.old.items i) }
-    ensures pends { (q i : ℕ) → pends_for cells.new.items broken.new.items q i
-        ≡ pends_for cells.old.items broken.old.items q i }
-    ensures placed { (base : ℕ → Option ℕ) → index_of base place ≡ Some j → Placed base broken.old.items
-        → Placed base broken.new.items }
+    ensures { Breaks j place marks cells.old cells.new broken.old broken.new }
 {
     let number = broken.len() as u32;
     broken.push_reserved(Entry {

@@ -3,8 +3,9 @@
 ghost use Rattle.std.specs.Prelude.{◌≡◌, ◌≤◌, ◌<◌, ◌+◌, ◌^◌, ℕ, Option, Some, None, nat_eq, not, ◌&&◌, vec_len, vec_capacity, slice_get, length, List, if◌then◌else◌};
 ghost use Rattle.bbm_entry_state.specs.Points.{is_broken};
 ghost use Rattle.bbm_place_map.specs.Cells.{value_in, slot_in, in_page};
-ghost use Rattle.bbm_place_map.specs.Entries.{no_pends, entry_in};
+ghost use Rattle.bbm_place_map.specs.Entries.{no_pends};
 ghost use Rattle.bbm_place_map.specs.Parts.{marks_in, pends_for};
+ghost use Rattle.bbm_place_map.specs.Puts.{Breaks, Clears};
 ghost use Rattle.bbm_place_map.specs.Sound.{Linked, Placed, index_of};
 ghost use Rattle.bbm_place_map.specs.States.{marks_of_state};
 ghost use Rattle.bbm_place_map.specs.declared.entry.Entry.{Entry as TheEntry};
@@ -41,16 +42,7 @@ fn mark(
     requires within { j < vec_len cells.old }
     requires few { vec_len cells.old < 2 ^ 32 }
     requires room { vec_len cells.old ≤ vec_capacity broken.old }
-    ensures linked { Linked cells.new.items broken.new.items }
-    ensures len { vec_len cells.new ≡ vec_len cells.old }
-    ensures room { vec_capacity broken.new ≡ vec_capacity broken.old }
-    ensures values { (i : ℕ) → value_in cells.new.items i ≡ value_in cells.old.items i }
-    ensures marks { (i : ℕ) → marks_in cells.new.items broken.new.items i
-        ≡ (if nat_eq i j then Some marks else marks_in cells.old.items broken.old.items i) }
-    ensures pends { (q i : ℕ) → pends_for cells.new.items broken.new.items q i
-        ≡ pends_for cells.old.items broken.old.items q i }
-    ensures placed { (base : ℕ → Option ℕ) → index_of base place ≡ Some j → Placed base broken.old.items
-        → Placed base broken.new.items }
+    ensures { Breaks j place marks cells.old cells.new broken.old broken.new }
 {
     match cells[j].slot {
         Some(k) => remark(broken, k as usize, marks),
@@ -63,13 +55,7 @@ pub fn clear(cells: &mut Vec<Cell>, broken: &mut Vec<Entry>, j: usize)
     requires linked { Linked cells.old.items broken.old.items }
     requires within { j < vec_len cells.old }
     requires few { vec_len cells.old < 2 ^ 32 }
-    ensures linked { Linked cells.new.items broken.new.items }
-    ensures len { vec_len cells.new ≡ vec_len cells.old }
-    ensures room { vec_capacity broken.new ≡ vec_capacity broken.old }
-    ensures values { (i : ℕ) → value_in cells.new.items i ≡ value_in cells.old.items i }
-    ensures entries { (i : ℕ) → entry_in cells.new.items broken.new.items i
-        ≡ (if nat_eq i j then None else entry_in cells.old.items broken.old.items i) }
-    ensures placed { (base : ℕ → Option ℕ) → Placed base broken.old.items → Placed base broken.new.items }
+    ensures { Clears (λ i. nat_eq i j) cells.old cells.new broken.old broken.new }
 {
     if let Some(k) = cells[j].slot {
         unlink(cells, broken, k as usize);
@@ -114,13 +100,7 @@ pub fn clear_page(cells: &mut Vec<Cell>, broken: &mut Vec<Entry>, base: usize)
     requires linked { Linked cells.old.items broken.old.items }
     requires within { base + 512 ≤ vec_len cells.old }
     requires few { vec_len cells.old < 2 ^ 32 }
-    ensures linked { Linked cells.new.items broken.new.items }
-    ensures len { vec_len cells.new ≡ vec_len cells.old }
-    ensures room { vec_capacity broken.new ≡ vec_capacity broken.old }
-    ensures values { (i : ℕ) → value_in cells.new.items i ≡ value_in cells.old.items i }
-    ensures entries { (i : ℕ) → entry_in cells.new.items broken.new.items i
-        ≡ (if in_page base 512 i then None else entry_in cells.old.items broken.old.items i) }
-    ensures placed { (number : ℕ → Option ℕ) → Placed number broken.old.items → Placed number broken.new.items }
+    ensures { Clears (in_page base 512) cells.old cells.new broken.old broken.new }
 {
     for i in 0..512 {
         clear(cells, broken, base + i);

@@ -12,24 +12,23 @@ push_reserved-requires c =
 abbrev made : goal.After-put_slot → Entry
 made c = record { place = c.args.place; cell = c.args.j; marks = c.args.marks; pends = c.new.result }
 
-pub returns-clause-linked : goal.returns-clause-linked
-returns-clause-linked c =
-    rw c.push_reserved.ensures.items (linked_more c.args.cells.now.items c.put_slot.new.cells.items c.args.broken.now.items (made c) c.args.j c.len-number.result
-    c.requires.linked c.requires.free refl (omega arith) c.put_slot.ensures.slots c.put_slot.ensures.count)
-
-pub returns-clause-marks : goal.returns-clause-marks
-returns-clause-marks c = λ i.
-    ap (λ (es : List Entry). marks_in c.put_slot.new.cells.items es i) c.push_reserved.ensures.items
-    ∙ marks_more c.args.cells.now.items c.put_slot.new.cells.items c.args.broken.now.items (made c) c.args.j c.len-number.result
-    c.requires.linked c.requires.free refl (omega arith) c.put_slot.ensures.slots c.put_slot.ensures.count i
-
-pub returns-clause-pends : goal.returns-clause-pends
-returns-clause-pends c = λ q i.
-    ap (λ (es : List Entry). pends_for c.put_slot.new.cells.items es q i) c.push_reserved.ensures.items
-    ∙ pends_more c.args.cells.now.items c.put_slot.new.cells.items c.args.broken.now.items (made c) c.args.j c.len-number.result
-    c.requires.linked c.requires.free refl (omega arith) c.put_slot.ensures.slots c.put_slot.ensures.count c.new.ensures.items q i
-
-pub returns-clause-placed : goal.returns-clause-placed
-returns-clause-placed c = λ base here placed.
-    rw c.push_reserved.ensures.items (placed_more c.args.cells.now.items c.put_slot.new.cells.items c.args.broken.now.items (made c) c.args.j c.len-number.result
-    c.requires.linked c.requires.free refl (omega arith) c.put_slot.ensures.slots c.put_slot.ensures.count base here placed)
+pub returns : goal.returns
+returns c = record {
+  linked =
+      rw c.push_reserved.ensures.items (linked_more c.args.cells.now.items c.put_slot.new.cells.items c.args.broken.now.items (made c) c.args.j c.len-number.result
+      c.requires.linked c.requires.free refl (omega arith) c.put_slot.ensures.slots c.put_slot.ensures.count);
+  len = c.put_slot.ensures.len;
+  room = c.push_reserved.ensures.capacity;
+  values = c.put_slot.ensures.values;
+  marks = λ i.
+      ap (λ (es : List Entry). marks_in c.put_slot.new.cells.items es i) c.push_reserved.ensures.items
+      ∙ marks_more c.args.cells.now.items c.put_slot.new.cells.items c.args.broken.now.items (made c) c.args.j c.len-number.result
+      c.requires.linked c.requires.free refl (omega arith) c.put_slot.ensures.slots c.put_slot.ensures.count i;
+  pends = λ q i.
+      ap (λ (es : List Entry). pends_for c.put_slot.new.cells.items es q i) c.push_reserved.ensures.items
+      ∙ pends_more c.args.cells.now.items c.put_slot.new.cells.items c.args.broken.now.items (made c) c.args.j c.len-number.result
+      c.requires.linked c.requires.free refl (omega arith) c.put_slot.ensures.slots c.put_slot.ensures.count c.new.ensures.items q i;
+  placed = λ base here placed.
+      rw c.push_reserved.ensures.items (placed_more c.args.cells.now.items c.put_slot.new.cells.items c.args.broken.now.items (made c) c.args.j c.len-number.result
+      c.requires.linked c.requires.free refl (omega arith) c.put_slot.ensures.slots c.put_slot.ensures.count base here placed);
+}

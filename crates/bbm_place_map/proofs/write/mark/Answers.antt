@@ -30,22 +30,19 @@ seats c =
     seats_changed c.args.cells.now.items c.args.broken.now.items c.remark.new.broken.items w.0 (after c w.0) c.args.j c.in-Some.k
     c.requires.linked (here c) w.1 refl (c.remark.ensures.entry w.0 w.1)
 
-pub returns-in-Some-clause-linked : goal.returns-in-Some-clause-linked
-returns-in-Some-clause-linked c =
-    linked_seated c.args.broken.now.items c.remark.new.broken.items (seats c) c.args.cells.now.items c.remark.ensures.len c.requires.linked
-
-pub returns-in-Some-clause-marks : goal.returns-in-Some-clause-marks
-returns-in-Some-clause-marks c =
+pub returns-in-Some : goal.returns-in-Some
+returns-in-Some c =
     let w = was c in
-    marks_changed c.args.cells.now.items c.args.broken.now.items c.remark.new.broken.items w.0 (after c w.0) c.args.j c.in-Some.k
-    c.requires.linked (here c) w.1 refl (c.remark.ensures.entry w.0 w.1)
-
-pub returns-in-Some-clause-pends : goal.returns-in-Some-clause-pends
-returns-in-Some-clause-pends c =
-    let w = was c in
-    pends_changed c.args.cells.now.items c.args.broken.now.items c.remark.new.broken.items w.0 (after c w.0) c.args.j c.in-Some.k
-    c.requires.linked (here c) w.1 refl (c.remark.ensures.entry w.0 w.1) refl
-
-pub returns-in-Some-clause-placed : goal.returns-in-Some-clause-placed
-returns-in-Some-clause-placed c = λ base _ placed.
-    placed_seated c.args.broken.now.items c.remark.new.broken.items (seats c) base placed
+    record {
+      linked = linked_seated c.args.broken.now.items c.remark.new.broken.items (seats c) c.args.cells.now.items c.remark.ensures.len c.requires.linked;
+      len = refl;
+      room = c.remark.ensures.room;
+      values = λ i. refl;
+      marks =
+          marks_changed c.args.cells.now.items c.args.broken.now.items c.remark.new.broken.items w.0 (after c w.0) c.args.j c.in-Some.k
+          c.requires.linked (here c) w.1 refl (c.remark.ensures.entry w.0 w.1);
+      pends =
+          pends_changed c.args.cells.now.items c.args.broken.now.items c.remark.new.broken.items w.0 (after c w.0) c.args.j c.in-Some.k
+          c.requires.linked (here c) w.1 refl (c.remark.ensures.entry w.0 w.1) refl;
+      placed = λ base _ placed. placed_seated c.args.broken.now.items c.remark.new.broken.items (seats c) base placed;
+    }
