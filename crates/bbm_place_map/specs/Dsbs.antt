@@ -1,6 +1,6 @@
 -- What a DSB finds and leaves: cells and entries, and the list of its PE.
 -- Source: project's own choice.
-use Rattle.std.specs.Prelude.{◌≡◌, ◌⊎◌, ℕ, Bool, true, false, Option, Some, List, Vec, vec_len, vec_capacity, length, slice_get}
+use Rattle.std.specs.Prelude.{◌≡◌, ◌≤◌, ◌<◌, ◌⊎◌, ℕ, Bool, true, false, Option, Some, List, Vec, vec_len, vec_capacity, length, slice_get}
 use Rattle.std.specs.declared.alloc.Global.{Global}
 use Rattle.bbm_barriers.specs.declared.Dsb.{Dsb}
 use Rattle.bbm_entry_state.specs.Standing.{IsIdle}
@@ -13,6 +13,12 @@ use Rattle.bbm_place_map.specs.Sound.{Linked, Placed}
 use Rattle.bbm_place_map.specs.Works.{IsTold, is_clean}
 use Rattle.bbm_place_map.specs.declared.cell.Cell.{Cell}
 use Rattle.bbm_place_map.specs.declared.entry.Entry.{Entry}
+
+-- The issuer is one of the n PEs of a log.
+pub record InLog (issuer n : ℕ) : Type 0 where
+  pub some : 1 ≤ n
+  pub within : n ≤ 128
+  pub issuer_below : issuer < n
 
 -- these hold each cell at whose place something waits for the answers of the issuer's TLBIs
 abbrev pub HoldWaiting : (ℕ → Type 0) → ℕ → List Cell → List Entry → Type 0

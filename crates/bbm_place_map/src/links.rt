@@ -8,7 +8,7 @@ ghost use Rattle.bbm_place_map.specs.Sound.{Linked, Placed};
 
 use crate::cell::Cell;
 use crate::entry::Entry;
-use bbm_entry_state::{EntryState, Marks};
+use bbm_entry_state::Marks;
 use bbm_regimes::Place;
 use smallvec::SmallVec;
 use std::alloc::Global;

@@ -3,7 +3,7 @@
 ghost use Rattle.std.specs.Prelude.{◌≡◌, ◌≢◌, ◌≤◌, ◌<◌, ◌⊎◌, ℕ, Some, true, false, vec_len, vec_capacity, length, slice_get, slice_index, nat_eq, if◌then◌else◌};
 ghost use Rattle.bbm_entry_state.specs.Calls.{Published};
 ghost use Rattle.bbm_place_map.specs.Cells.{slot_in};
-ghost use Rattle.bbm_place_map.specs.Dsbs.{HoldUntold, PublishesAll};
+ghost use Rattle.bbm_place_map.specs.Dsbs.{HoldUntold, InLog, PublishesAll};
 ghost use Rattle.bbm_place_map.specs.Each.{Advances, Publishes};
 ghost use Rattle.bbm_place_map.specs.Entries.{seat};
 ghost use Rattle.bbm_place_map.specs.Sound.{Linked};
@@ -21,9 +21,7 @@ use bbm_regimes::{Pe, PeMask};
 
 // The marks after a DSB of the issuer published its writes.
 fn published(marks: Marks, issuer: Pe, dsb: Dsb, n: u8) -> Marks
-    requires some { 1 ≤ n }
-    requires within { n ≤ 128 }
-    requires issuer_below { issuer < n }
+    requires { InLog issuer n }
     ensures { Published (EntryState.Broken marks) issuer dsb n (EntryState.Broken result) }
 {
     broken_marks((EntryState::Broken { marks }).dsb(issuer, dsb, n))
@@ -31,9 +29,7 @@ fn published(marks: Marks, issuer: Pe, dsb: Dsb, n: u8) -> Marks
 
 // A DSB of the issuer published its writes at one entry.
 fn publish_at(broken: &mut Vec<Entry>, k: usize, issuer: Pe, dsb: Dsb, n: u8)
-    requires some { 1 ≤ n }
-    requires within { n ≤ 128 }
-    requires issuer_below { issuer < n }
+    requires log { InLog issuer n }
     requires entry_within { k < vec_len broken.old }
     ensures entry { (e : TheEntry) → slice_get broken.old.items k ≡ Some e → (f : TheEntry) × (seat f ≡ seat e)
         × Publishes issuer dsb n e f
@@ -47,9 +43,7 @@ fn publish_at(broken: &mut Vec<Entry>, k: usize, issuer: Pe, dsb: Dsb, n: u8)
 
 // A DSB of the issuer published its writes at each entry.
 fn publish_all(broken: &mut Vec<Entry>, issuer: Pe, dsb: Dsb, n: u8)
-    requires some { 1 ≤ n }
-    requires within { n ≤ 128 }
-    requires issuer_below { issuer < n }
+    requires { InLog issuer n }
     ensures { PublishesAll issuer dsb n broken.old broken.new }
 {
     for k in 0..broken.len() {
@@ -59,9 +53,7 @@ fn publish_all(broken: &mut Vec<Entry>, issuer: Pe, dsb: Dsb, n: u8)
 
 // A DSB of the issuer published its writes at the entry of a cell, if it has one.
 fn publish_cell(cells: &[Cell], broken: &mut Vec<Entry>, cell: u32, issuer: Pe, dsb: Dsb, n: u8)
-    requires some { 1 ≤ n }
-    requires within { n ≤ 128 }
-    requires issuer_below { issuer < n }
+    requires log { InLog issuer n }
     requires linked { Linked cells.now broken.old.items }
     ensures linked { Linked cells.now broken.new.items }
     ensures here { (k : ℕ) → slot_in cells.now cell ≡ Some k
@@ -78,9 +70,7 @@ fn publish_cell(cells: &[Cell], broken: &mut Vec<Entry>, cell: u32, issuer: Pe, 
 
 // A DSB of the issuer published its writes at the entries of these cells.
 fn publish_cells(cells: &[Cell], broken: &mut Vec<Entry>, list: &[u32], issuer: Pe, dsb: Dsb, n: u8)
-    requires some { 1 ≤ n }
-    requires within { n ≤ 128 }
-    requires issuer_below { issuer < n }
+    requires log { InLog issuer n }
     requires linked { Linked cells.now broken.old.items }
     ensures here { (i k : ℕ) → i < length list.now → slot_in cells.now (slice_index list.now i) ≡ Some k
         → Advances (Publishes issuer dsb n) (slice_get broken.old.items k) (slice_get broken.new.items k) }
@@ -95,9 +85,7 @@ fn publish_cells(cells: &[Cell], broken: &mut Vec<Entry>, list: &[u32], issuer: 
 
 // Whether no DSB of the issuer publishes more of a place with these marks.
 fn is_told(marks: &Marks, issuer: Pe, n: u8) -> bool
-    requires some { 1 ≤ n }
-    requires within { n ≤ 128 }
-    requires issuer_below { issuer < n }
+    requires { InLog issuer n }
     ensures { result ≡ true → IsTold n issuer marks.now }
 {
     !marks.writers.has(issuer) || PeMask::all(n).minus(marks.seen).is_empty()
@@ -105,9 +93,7 @@ fn is_told(marks: &Marks, issuer: Pe, n: u8) -> bool
 
 // Lists the cell of an entry of which DSBs of the issuer may publish more.
 fn list_untold(list: &mut WorkList, entry: &Entry, issuer: Pe, n: u8, broken: usize)
-    requires some { 1 ≤ n }
-    requires within { n ≤ 128 }
-    requires issuer_below { issuer < n }
+    requires { InLog issuer n }
     ensures there { Holds list.new entry.now.cell ⊎ IsTold n issuer entry.now.marks }
     ensures kept { (j : ℕ) → Holds list.old j → Holds list.new j }
 {
@@ -118,9 +104,7 @@ fn list_untold(list: &mut WorkList, entry: &Entry, issuer: Pe, n: u8, broken: us
 
 // Lists the cells of the entries of which DSBs of the issuer may publish more.
 fn relist(broken: &[Entry], list: &mut WorkList, issuer: Pe, n: u8)
-    requires some { 1 ≤ n }
-    requires within { n ≤ 128 }
-    requires issuer_below { issuer < n }
+    requires { InLog issuer n }
     ensures { HoldUntold (Holds list.new) n issuer broken.now }
 {
     restart(list, false);
@@ -138,9 +122,7 @@ fn publish_list(
     dsb: Dsb,
     n: u8,
 )
-    requires some { 1 ≤ n }
-    requires within { n ≤ 128 }
-    requires issuer_below { issuer < n }
+    requires log { InLog issuer n }
     requires linked { Linked cells.now broken.old.items }
     requires open { list.now.given_up ≡ false }
     requires known { HoldUntold (Holds list.now) n issuer broken.old.items }
@@ -158,9 +140,7 @@ fn publish_listed(
     dsb: Dsb,
     n: u8,
 )
-    requires some { 1 ≤ n }
-    requires within { n ≤ 128 }
-    requires issuer_below { issuer < n }
+    requires log { InLog issuer n }
     requires linked { Linked cells.now broken.old.items }
     requires open { list.old.given_up ≡ false }
     requires known { HoldUntold (Holds list.old) n issuer broken.old.items }
@@ -185,9 +165,7 @@ fn publish_by(
     dsb: Dsb,
     n: u8,
 )
-    requires some { 1 ≤ n }
-    requires within { n ≤ 128 }
-    requires issuer_below { issuer < n }
+    requires log { InLog issuer n }
     requires linked { Linked cells.now broken.old.items }
     requires known { HoldUntold (Holds list.old) n issuer broken.old.items }
     ensures published { PublishesAll issuer dsb n broken.old broken.new }
@@ -211,9 +189,7 @@ pub fn publish(
     dsb: Dsb,
     n: u8,
 )
-    requires some { 1 ≤ n }
-    requires within { n ≤ 128 }
-    requires issuer_below { issuer < n }
+    requires log { InLog issuer n }
     requires linked { Linked cells.now broken.old.items }
     requires known { HoldUntold (HoldsFor lists.old.items issuer) n issuer broken.old.items }
     ensures published { PublishesAll issuer dsb n broken.old broken.new }

@@ -9,7 +9,7 @@ use Rattle.bbm_place_map.proofs.publish.publish_listed.Goals as goal
 
 pub returns-then-is_empty-clause-known : goal.returns-then-is_empty-clause-known
 returns-then-is_empty-clause-known c = λ k f is.
-    inr (none_untold c.args.issuer c.args.dsb c.args.n c.args.broken.now.items c.publish_list.new.broken.items c.requires.issuer_below
+    inr (none_untold c.args.issuer c.args.dsb c.args.n c.args.broken.now.items c.publish_list.new.broken.items c.requires.log.issuer_below
     (λ p below.
     sym (c.publishes_to-heard.ensures p)
     ∙ still_in (pe_in c.all.result p) (pe_in c.publishes_to-heard.result p)
