@@ -130,7 +130,10 @@ fn issue(alloc: Global, state: &mut RootState, pe: Pe) -> Result<(), StepFault>
     requires { MayAsk (Stands state.old) pe }
     ensures { MayAsk (Stands state.new) pe }
 {
-    let named = state.judge_tlbi(pe, TlbiOp::Alle2is, 0)?;
+    let named = match state.judge_tlbi(pe, TlbiOp::Alle2is, 0) {
+        Ok(named) => named,
+        Err(fault) => return Err(fault),
+    };
     match state.prepare_issue(alloc, pe, &named) {
         Ok(()) => {
             state.issue_ready(pe, &named);

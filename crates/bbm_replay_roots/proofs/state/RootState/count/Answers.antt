@@ -1,4 +1,4 @@
-use Rattle.std.proofs.Common.{ℕ, ap, ◌∙◌}
+use Rattle.std.proofs.Common.{ap, ◌∙◌}
 use Rattle.std.specs.Option.{option_map}
 use Rattle.bbm_roots.specs.declared.root.Declared.{Declared}
 use Rattle.bbm_replay_roots.proofs.RootMaps.{as_root, root_same}

@@ -1,4 +1,4 @@
-use Rattle.std.proofs.Common.{◌≡◌, ℕ, true, false, Bool, Option, Some, None, Ok, Err, ◌&&◌, refl, sym, ap, ◌∙◌}
+use Rattle.std.proofs.Common.{ℕ, true, false, Option, Some, Ok, Err, ◌&&◌, refl, sym, ap, ◌∙◌}
 use Rattle.std.specs.Option.{is_none}
 use Rattle.bbm_tlbi_scope.specs.Operations.{scoped_by_vmid}
 use Rattle.bbm_rules.specs.declared.rule.Rule.TheVariants.{UnsyncedVmid}
