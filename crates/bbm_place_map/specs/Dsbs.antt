@@ -1,6 +1,6 @@
 -- What a DSB finds and leaves: cells and entries, and the list of its PE.
 -- Source: project's own choice.
-use Rattle.std.specs.Prelude.{◌≡◌, ◌≤◌, ◌<◌, ◌⊎◌, ℕ, Bool, true, false, Option, Some, List, Vec, vec_len, vec_capacity, length, slice_get}
+use Rattle.std.specs.Prelude.{◌≡◌, ◌≤◌, ◌<◌, ◌^◌, ◌⊎◌, ℕ, Bool, true, false, Option, Some, List, Vec, vec_len, vec_capacity, length, slice_get}
 use Rattle.std.specs.declared.alloc.Global.{Global}
 use Rattle.bbm_barriers.specs.declared.Dsb.{Dsb}
 use Rattle.bbm_entry_state.specs.Standing.{IsIdle}
@@ -19,6 +19,13 @@ pub record InLog (issuer n : ℕ) : Type 0 where
   pub some : 1 ≤ n
   pub within : n ≤ 128
   pub issuer_below : issuer < n
+
+-- Cells and entries, fewer than 2^32, at which a DSB can answer in a log with n PEs.
+pub record CanAnswer (n : ℕ) (cells : Vec Cell Global) (entries : Vec Entry Global) : Type 0 where
+  pub some : 1 ≤ n
+  pub most : n ≤ 128
+  pub linked : Linked cells.items entries.items
+  pub few : vec_len cells < 2 ^ 32
 
 -- these hold each cell at whose place something waits for the answers of the issuer's TLBIs
 abbrev pub HoldWaiting : (ℕ → Type 0) → ℕ → List Cell → List Entry → Type 0

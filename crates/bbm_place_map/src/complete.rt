@@ -3,7 +3,7 @@
 ghost use Rattle.std.specs.Prelude.{◌≡◌, ◌≢◌, ◌≤◌, ◌<◌, ◌+◌, ◌^◌, ◌⊎◌, ℕ, Some, Option, vec_len, vec_capacity, length, slice_get, slice_index, nat_eq, true, false, if◌then◌else◌};
 ghost use Rattle.bbm_entry_state.specs.Standing.{IsIdle};
 ghost use Rattle.bbm_place_map.specs.Cells.{value_in, slot_in};
-ghost use Rattle.bbm_place_map.specs.Dsbs.{CompletesAll, HoldWaiting, IsSettled};
+ghost use Rattle.bbm_place_map.specs.Dsbs.{CanAnswer, CompletesAll, HoldWaiting, IsSettled};
 ghost use Rattle.bbm_place_map.specs.Each.{Completes, loses_table, is_table as spec_is_table};
 ghost use Rattle.bbm_place_map.specs.Entries.{cell_at, entry_in, pends_in, seat, WaitsAlike};
 ghost use Rattle.bbm_place_map.specs.Parts.{marks_in};
@@ -58,11 +58,8 @@ fn complete_at(
     dsb: Dsb,
     n: u8,
 ) -> bool
-    requires some { 1 ≤ n }
-    requires most { n ≤ 128 }
-    requires linked { Linked cells.old.items broken.old.items }
+    requires able { CanAnswer n cells.old broken.old }
     requires within { k < vec_len broken.old }
-    requires few { vec_len cells.old < 2 ^ 32 }
     ensures linked { Linked cells.new.items broken.new.items }
     ensures len { vec_len cells.new ≡ vec_len cells.old }
     ensures room { vec_capacity broken.new ≡ vec_capacity broken.old }
@@ -98,10 +95,7 @@ fn complete_at(
 // A DSB of the issuer answered its TLBIs at each entry. One whose place is cleansed at every PE leaves. Whether one
 // over a table left.
 fn complete_all(cells: &mut Vec<Cell>, broken: &mut Vec<Entry>, issuer: Pe, dsb: Dsb, n: u8) -> bool
-    requires some { 1 ≤ n }
-    requires most { n ≤ 128 }
-    requires linked { Linked cells.old.items broken.old.items }
-    requires few { vec_len cells.old < 2 ^ 32 }
+    requires { CanAnswer n cells.old broken.old }
     ensures { CompletesAll issuer dsb n cells.old cells.new broken.old broken.new result }
 {
     let mut lost = false;
@@ -124,10 +118,7 @@ fn complete_cell(
     dsb: Dsb,
     n: u8,
 ) -> bool
-    requires some { 1 ≤ n }
-    requires most { n ≤ 128 }
-    requires linked { Linked cells.old.items broken.old.items }
-    requires few { vec_len cells.old < 2 ^ 32 }
+    requires { CanAnswer n cells.old broken.old }
     ensures linked { Linked cells.new.items broken.new.items }
     ensures len { vec_len cells.new ≡ vec_len cells.old }
     ensures room { vec_capacity broken.new ≡ vec_capacity broken.old }
@@ -155,10 +146,7 @@ fn complete_cells(
     dsb: Dsb,
     n: u8,
 ) -> bool
-    requires some { 1 ≤ n }
-    requires most { n ≤ 128 }
-    requires linked { Linked cells.old.items broken.old.items }
-    requires few { vec_len cells.old < 2 ^ 32 }
+    requires { CanAnswer n cells.old broken.old }
     ensures linked { Linked cells.new.items broken.new.items }
     ensures len { vec_len cells.new ≡ vec_len cells.old }
     ensures room { vec_capacity broken.new ≡ vec_capacity broken.old }
@@ -213,10 +201,7 @@ fn complete_list(
     dsb: Dsb,
     n: u8,
 ) -> bool
-    requires some { 1 ≤ n }
-    requires most { n ≤ 128 }
-    requires linked { Linked cells.old.items broken.old.items }
-    requires few { vec_len cells.old < 2 ^ 32 }
+    requires able { CanAnswer n cells.old broken.old }
     requires open { list.now.given_up ≡ false }
     requires known { HoldWaiting (Holds list.now) issuer cells.old.items broken.old.items }
     requires settled { IsSettled n cells.old.items broken.old.items }
@@ -234,10 +219,7 @@ fn complete_listed(
     dsb: Dsb,
     n: u8,
 ) -> bool
-    requires some { 1 ≤ n }
-    requires most { n ≤ 128 }
-    requires linked { Linked cells.old.items broken.old.items }
-    requires few { vec_len cells.old < 2 ^ 32 }
+    requires able { CanAnswer n cells.old broken.old }
     requires open { list.old.given_up ≡ false }
     requires known { HoldWaiting (Holds list.old) issuer cells.old.items broken.old.items }
     requires settled { IsSettled n cells.old.items broken.old.items }
@@ -264,10 +246,7 @@ fn complete_by(
     dsb: Dsb,
     n: u8,
 ) -> bool
-    requires some { 1 ≤ n }
-    requires most { n ≤ 128 }
-    requires linked { Linked cells.old.items broken.old.items }
-    requires few { vec_len cells.old < 2 ^ 32 }
+    requires able { CanAnswer n cells.old broken.old }
     requires known { HoldWaiting (Holds list.old) issuer cells.old.items broken.old.items }
     requires settled { settled ≡ true → IsSettled n cells.old.items broken.old.items }
     ensures completed { CompletesAll issuer dsb n cells.old cells.new broken.old broken.new result }
@@ -294,10 +273,7 @@ pub fn complete(
     dsb: Dsb,
     n: u8,
 ) -> bool
-    requires some { 1 ≤ n }
-    requires most { n ≤ 128 }
-    requires linked { Linked cells.old.items broken.old.items }
-    requires few { vec_len cells.old < 2 ^ 32 }
+    requires able { CanAnswer n cells.old broken.old }
     requires known { HoldWaiting (HoldsFor lists.old.items issuer) issuer cells.old.items broken.old.items }
     requires settled { settled ≡ true → IsSettled n cells.old.items broken.old.items }
     ensures completed { CompletesAll issuer dsb n cells.old cells.new broken.old broken.new result }

@@ -6,7 +6,7 @@ use Rattle.bbm_place_map.proofs.complete.complete_listed.Goals as goal
 
 pub returns-then-not-completes_local-clause-completed : goal.returns-then-not-completes_local-clause-completed
 returns-then-not-completes_local-clause-completed c = record {
-  linked = c.requires.linked;
+  linked = c.requires.able.linked;
   len = refl;
   room = refl;
   values = λ i. refl;
