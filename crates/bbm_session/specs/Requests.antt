@@ -28,29 +28,25 @@ follow_of _ = None
 abbrev pub event_count : List ℕ → Option ℕ
 event_count text = passing (λ count. nat_le count 4294967293) (decimal_value text)
 
--- the request of the words N and COUNT, both decimals, where N is below 2^64
-abbrev pub gen_asked : List ℕ → List ℕ → Option Request
-gen_asked n_text count_text = do
+-- the words N and COUNT, both decimals, where N is below 2^64
+abbrev pub log_asked : List ℕ → List ℕ → Option (ℕ × ℕ)
+log_asked n_text count_text = do
   n ← decimal_value n_text
   count ← event_count count_text
-  Some (Generate n count)
+  Some (n, count)
+
+-- the numbers of a generated log behind this word
+abbrev pub log_after : List ℕ → List (List ℕ) → Option (ℕ × ℕ)
+log_after first (word ∷ n ∷ count ∷ []) = if bytes_eq word first then log_asked n count else None
+log_after first _ = None
 
 -- the request of `gen N COUNT`
 abbrev pub gen_of : List (List ℕ) → Option Request
-gen_of (word ∷ n ∷ count ∷ []) = if bytes_eq word (codes "gen") then gen_asked n count else None
-gen_of _ = None
-
--- the same of a self-test
-abbrev pub selftest_asked : List ℕ → List ℕ → Option Request
-selftest_asked n_text count_text = do
-  n ← decimal_value n_text
-  count ← event_count count_text
-  Some (Selftest n count)
+gen_of words = option_map (λ log. Generate log.0 log.1) (log_after (codes "gen") words)
 
 -- the request of `selftest N COUNT`
 abbrev pub selftest_of : List (List ℕ) → Option Request
-selftest_of (word ∷ n ∷ count ∷ []) = if bytes_eq word (codes "selftest") then selftest_asked n count else None
-selftest_of _ = None
+selftest_of words = option_map (λ log. Selftest log.0 log.1) (log_after (codes "selftest") words)
 
 -- What the words ask for, None where they ask for nothing: a command, to follow a run, to write a generated log, or to
 -- judge one.

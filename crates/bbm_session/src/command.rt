@@ -2,8 +2,7 @@
 
 ghost use Rattle.std.specs.Prelude.{◌≡◌, map};
 ghost use Rattle.std.specs.String.{string_bytes};
-ghost use Rattle.bbm_session.specs.Requests.{event_count, follow_of, gen_asked, gen_of, request_of};
-ghost use Rattle.bbm_session.specs.Requests.{selftest_asked, selftest_of};
+ghost use Rattle.bbm_session.specs.Requests.{event_count, follow_of, gen_of, log_after, log_asked, request_of, selftest_of};
 ghost use Rattle.bbm_session.specs.Run.{command_alone, command_of, limits_of, or_else};
 
 use bbm_log_grammar::read_decimal;
@@ -110,54 +109,45 @@ fn read_count(text: &[u8]) -> Option<u32>
     }
 }
 
-// The generated log of two words.
-fn read_gen(n: &[u8], count: &[u8]) -> Option<Request>
-    ensures { result ≡ gen_asked n.now count.now }
+// The number of a generated log and how many events it has, by two words.
+fn read_log(n: &[u8], count: &[u8]) -> Option<(u64, u32)>
+    ensures { result ≡ log_asked n.now count.now }
 {
     let number = read_decimal(n)?;
     let events = read_count(count)?;
-    Some(Request::Generate { number, events })
+    Some((number, events))
+}
+
+// The same by the words behind this one.
+fn said_log(first: &[u8], words: &[String]) -> Option<(u64, u32)>
+    ensures { result ≡ log_after first.now (map string_bytes words.now) }
+{
+    match words {
+        [word, n, count] => {
+            if word.as_bytes() == first {
+                read_log(n.as_bytes(), count.as_bytes())
+            } else {
+                None
+            }
+        }
+        _ => None,
+    }
 }
 
 // The request of the words `gen N COUNT`.
 fn said_gen(words: &[String]) -> Option<Request>
     ensures { result ≡ gen_of (map string_bytes words.now) }
 {
-    match words {
-        [word, n, count] => {
-            if word.as_bytes() == b"gen".as_slice() {
-                read_gen(n.as_bytes(), count.as_bytes())
-            } else {
-                None
-            }
-        }
-        _ => None,
-    }
-}
-
-// The self-test of two words.
-fn read_selftest(n: &[u8], count: &[u8]) -> Option<Request>
-    ensures { result ≡ selftest_asked n.now count.now }
-{
-    let number = read_decimal(n)?;
-    let events = read_count(count)?;
-    Some(Request::Selftest { number, events })
+    let (number, events) = said_log(b"gen", words)?;
+    Some(Request::Generate { number, events })
 }
 
 // The request of the words `selftest N COUNT`.
 fn said_selftest(words: &[String]) -> Option<Request>
     ensures { result ≡ selftest_of (map string_bytes words.now) }
 {
-    match words {
-        [word, n, count] => {
-            if word.as_bytes() == b"selftest".as_slice() {
-                read_selftest(n.as_bytes(), count.as_bytes())
-            } else {
-                None
-            }
-        }
-        _ => None,
-    }
+    let (number, events) = said_log(b"selftest", words)?;
+    Some(Request::Selftest { number, events })
 }
 
 // The request of words on a generated log.
