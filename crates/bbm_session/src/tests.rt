@@ -90,6 +90,26 @@ fn judged_by(alloc: Global, command: &str, log: Vec<u8>) -> Result<(u8, MemSink)
     )
 }
 
+/// How a log begins, the rest of it, the text of `check` and of `slow`, and the status.
+type Row = (&'static [u8], &'static [u8], &'static [u8], u8);
+
+/// Whether the command says the text of the row, with its status.
+fn says(alloc: Global, command: &str, row: &Row) -> Result<bool, AllocError> {
+    let bytes = log(alloc, row.0, row.1, 1, b"")?;
+    let (status, sink) = judged_by(alloc, command, bytes)?;
+    Ok(status == row.3 && sink.bytes() == row.2)
+}
+
+/// The first row of which a command says something else.
+fn first_other(alloc: Global, rows: &[Row]) -> Result<Option<usize>, AllocError> {
+    for (at, row) in rows.iter().enumerate() {
+        if !says(alloc, "check", row)? || !says(alloc, "slow", row)? {
+            return Ok(Some(at));
+        }
+    }
+    Ok(None)
+}
+
 const HEADER: &[u8] = b"bbmlog 1 hyp 2 1 1 1\n";
 
 /// A block is written, cleared, and flushed, and then another one is written.
@@ -105,10 +125,46 @@ w 0 0x40000008 0xc0000701
 end 8
 ";
 
-/// The lines 2 to 5 of logs that move a block: it is written and cleared.
+/// A root of EL2.
+const EL2_ROOT: &[u8] = b"bbmlog 1 hyp 2 1 1 1
+init 0 0x40000000
+root 0 el2 - 0x40000000
+";
+
+/// A block is written and cleared, as in logs that move it.
 const CLEARED: &[u8] = b"bbmlog 1 hyp 2 1 1 1
 init 0 0x40000000
 root 0 el2 - 0x40000000
 w 0 0x40000008 0x80000701
 w 0 0x40000008 0x0
+";
+
+/// The same with a DSB between the writes.
+const CLEARED_AFTER_A_DSB: &[u8] = b"bbmlog 1 hyp 2 1 1 1
+init 0 0x40000000
+root 0 el2 - 0x40000000
+w 0 0x40000008 0x80000701
+dsb 0 ishst
+w 0 0x40000008 0x0
+";
+
+/// A root of stage 2, under which PE 0 runs with VMID 5.
+const STAGE2_ROOT: &[u8] = b"bbmlog 1 hyp 2 1 1 1
+init 0 0x40002000
+root 0 s2 - 0x40002000
+msr 0 vttbr_el2 0x5000040002000
+isb 0
+";
+
+/// The same with a table, which is linked and cleared.
+const TABLE_CLEARED: &[u8] = b"bbmlog 1 hyp 2 1 1 1
+init 0 0x40002000
+init 0 0x40003000
+root 0 s2 - 0x40002000
+msr 0 vttbr_el2 0x5000040002000
+isb 0
+w 0 0x40002000 0x40003003
+w 0 0x40003000 0x800007fd
+w 0 0x40002000 0x0
+dsb 0 ishst
 ";

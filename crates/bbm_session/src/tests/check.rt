@@ -3,7 +3,7 @@
 use super::boot_log::{BOOT_BEGIN, BOOT_REST};
 use super::el2_logs::EL2;
 use super::other_logs::{KERNEL, STAGE2, VERSIONED};
-use super::{CLEARED, Faults, HEADER, REMAP, checked, judged, judged_by, log};
+use super::{CLEARED, Faults, HEADER, REMAP, checked, first_other, judged, log};
 use std::test::Fail;
 
 /// What follows the block's clear, the text and the status.
@@ -87,7 +87,7 @@ const MOVES: [(&[u8], &[u8], u8); 13] = [
 ];
 
 /// What follows the header, the text and the status.
-const LOGS: [(&[u8], &[u8], u8); 18] = [
+const LOGS: [(&[u8], &[u8], u8); 17] = [
     (b"end 0\n", b"accepted 0 events\n", 0),
     (
         b"root 0 el2 - 0x40000000\nend 1\n",
@@ -101,11 +101,6 @@ const LOGS: [(&[u8], &[u8], u8); 18] = [
     ),
     (
         b"init 0 0x40000000\nroot 0 el2 - 0x40000000\ninit 0 0x40000000\nend 3\n",
-        b"refused line 4 rule 10 page-in-use at 0x40000000\n",
-        1,
-    ),
-    (
-        b"init 0 0x40000000\nroot 0 el2 - 0x40000000\nroot 0 el2 - 0x40000000\nend 3\n",
         b"refused line 4 rule 10 page-in-use at 0x40000000\n",
         1,
     ),
@@ -529,53 +524,25 @@ fn judges_later_versions(rt: HostRuntime) -> Result<(), Fail> {
 
 #[test]
 fn judges_logs_of_el2(rt: HostRuntime) -> Result<(), Fail> {
-    for row in EL2 {
-        for command in ["check", "slow"] {
-            let bytes = log(rt.alloc(), b"", row.0, 1, b"")?;
-            let (status, sink) = judged_by(rt.alloc(), command, bytes)?;
-            assert_eq!(rt; sink.bytes(), row.1);
-            assert_eq!(rt; status, row.2);
-        }
-    }
+    assert_eq!(rt; first_other(rt.alloc(), &EL2)?, None);
     Ok(())
 }
 
 #[test]
 fn judges_logs_of_stage_2(rt: HostRuntime) -> Result<(), Fail> {
-    for row in STAGE2 {
-        for command in ["check", "slow"] {
-            let bytes = log(rt.alloc(), b"", row.0, 1, b"")?;
-            let (status, sink) = judged_by(rt.alloc(), command, bytes)?;
-            assert_eq!(rt; sink.bytes(), row.1);
-            assert_eq!(rt; status, row.2);
-        }
-    }
+    assert_eq!(rt; first_other(rt.alloc(), &STAGE2)?, None);
     Ok(())
 }
 
 #[test]
 fn judges_logs_of_the_kernel_world(rt: HostRuntime) -> Result<(), Fail> {
-    for row in KERNEL {
-        for command in ["check", "slow"] {
-            let bytes = log(rt.alloc(), b"", row.0, 1, b"")?;
-            let (status, sink) = judged_by(rt.alloc(), command, bytes)?;
-            assert_eq!(rt; sink.bytes(), row.1);
-            assert_eq!(rt; status, row.2);
-        }
-    }
+    assert_eq!(rt; first_other(rt.alloc(), &KERNEL)?, None);
     Ok(())
 }
 
 #[test]
 fn judges_worked_logs_of_later_versions(rt: HostRuntime) -> Result<(), Fail> {
-    for row in VERSIONED {
-        for command in ["check", "slow"] {
-            let bytes = log(rt.alloc(), b"", row.0, 1, b"")?;
-            let (status, sink) = judged_by(rt.alloc(), command, bytes)?;
-            assert_eq!(rt; sink.bytes(), row.1);
-            assert_eq!(rt; status, row.2);
-        }
-    }
+    assert_eq!(rt; first_other(rt.alloc(), &VERSIONED)?, None);
     Ok(())
 }
 

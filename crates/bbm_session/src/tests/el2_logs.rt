@@ -1,72 +1,41 @@
 //! Logs of EL2 tables, and of pages and locks, with their verdicts, each worked by hand from the rules.
 
-/// Logs of EL2 tables, and of pages and locks: the log, the text and the status.
-pub const EL2: [(&[u8], &[u8], u8); 42] = [
+use super::{CLEARED, CLEARED_AFTER_A_DSB, EL2_ROOT, HEADER, Row};
+
+/// Logs of EL2 tables, and of pages and locks.
+pub const EL2: [Row; 28] = [
     // EL2 block moved after TLBI by address.
     (
-        b"bbmlog 1 hyp 2 1 1 1
-init 0 0x40000000
-root 0 el2 - 0x40000000
-w 0 0x40000008 0x80000701
-dsb 0 ishst
-w 0 0x40000008 0x0
-dsb 0 ishst
-tlbi 0 vae2is 0x40000
-dsb 0 ish
-w 0 0x40000008 0xc0000701
-end 9
-",
+        CLEARED_AFTER_A_DSB,
+        b"dsb 0 ishst\ntlbi 0 vae2is 0x40000\ndsb 0 ish\nw 0 0x40000008 0xc0000701\nend 9\n",
         b"accepted 9 events\n",
         0,
     ),
     // TLBI before publication.
     (
-        b"bbmlog 1 hyp 2 1 1 1
-init 0 0x40000000
-root 0 el2 - 0x40000000
-w 0 0x40000008 0x80000701
-dsb 0 ishst
-w 0 0x40000008 0x0
-tlbi 0 vae2is 0x40000
-dsb 0 ish
-w 0 0x40000008 0xc0000701
-end 8
-",
+        CLEARED_AFTER_A_DSB,
+        b"tlbi 0 vae2is 0x40000\ndsb 0 ish\nw 0 0x40000008 0xc0000701\nend 8\n",
         b"refused line 9 rule 4 break-before-make at 0x40000008\n",
         1,
     ),
     // Block replaced by table without break.
     (
-        b"bbmlog 1 hyp 2 1 1 1
-init 0 0x40000000
-root 0 el2 - 0x40000000
-init 0 0x40001000
-w 0 0x40000008 0x80000701
-w 0 0x40000008 0x40001003
-end 5
-",
+        EL2_ROOT,
+        b"init 0 0x40001000\nw 0 0x40000008 0x80000701\nw 0 0x40000008 0x40001003\nend 5\n",
         b"refused line 6 rule 4 break-before-make at 0x40000008\n",
         1,
     ),
     // Same core other permissions.
     (
-        b"bbmlog 1 hyp 2 1 1 1
-init 0 0x40000000
-root 0 el2 - 0x40000000
-w 0 0x40000008 0x80000701
-w 0 0x40000008 0x0
-w 0 0x40000008 0x80000781
-end 5
-",
+        CLEARED,
+        b"w 0 0x40000008 0x80000781\nend 5\n",
         b"accepted 5 events\n",
         0,
     ),
     // Local flush on each PE after local publication.
     (
-        b"bbmlog 1 hyp 2 1 1 1
-init 0 0x40000000
-root 0 el2 - 0x40000000
-w 0 0x40000008 0x80000701
+        EL2_ROOT,
+        b"w 0 0x40000008 0x80000701
 dsb 0 ish
 w 0 0x40000008 0x0
 dsb 0 nshst
@@ -82,10 +51,8 @@ end 11
     ),
     // Local flush on each PE after shared publication.
     (
-        b"bbmlog 1 hyp 2 1 1 1
-init 0 0x40000000
-root 0 el2 - 0x40000000
-w 0 0x40000008 0x80000701
+        EL2_ROOT,
+        b"w 0 0x40000008 0x80000701
 dsb 0 ish
 w 0 0x40000008 0x0
 dsb 0 ishst
@@ -101,13 +68,8 @@ end 11
     ),
     // TLBI with wrong level hint.
     (
-        b"bbmlog 1 hyp 2 1 1 1
-init 0 0x40000000
-root 0 el2 - 0x40000000
-w 0 0x40000008 0x80000701
-dsb 0 ishst
-w 0 0x40000008 0x0
-dsb 0 ishst
+        CLEARED_AFTER_A_DSB,
+        b"dsb 0 ishst
 tlbi 0 vae2is 0x600000040000
 dsb 0 ish
 w 0 0x40000008 0xc0000701
@@ -118,13 +80,8 @@ end 9
     ),
     // TLBI with right level hint.
     (
-        b"bbmlog 1 hyp 2 1 1 1
-init 0 0x40000000
-root 0 el2 - 0x40000000
-w 0 0x40000008 0x80000701
-dsb 0 ishst
-w 0 0x40000008 0x0
-dsb 0 ishst
+        CLEARED_AFTER_A_DSB,
+        b"dsb 0 ishst
 tlbi 0 vae2is 0x500000040000
 dsb 0 ish
 w 0 0x40000008 0xc0000701
@@ -135,8 +92,8 @@ end 9
     ),
     // Write without the lock.
     (
-        b"bbmlog 1 hyp 2 1 1 1
-init 0 0x40000000
+        HEADER,
+        b"init 0 0x40000000
 root 0 el2 3 0x40000000
 lock 0 3
 w 0 0x40000008 0x80000701
@@ -148,86 +105,43 @@ end 5
     ),
     // Cut inside the last line.
     (
-        b"bbmlog 1 hyp 2 1 1 1
-init 0 0x40000000
-root 0 el2 - 0x40000000
-w 0 0x40000008 0x80000701
-dsb 0 ishst
-w 0 0x40000008 0x0
-dsb 0 ishst
-tlbi 0 vae2is 0x40000
-dsb 0 ish
-w 0 0x40000008 0xc0000701
-end",
+        CLEARED_AFTER_A_DSB,
+        b"dsb 0 ishst\ntlbi 0 vae2is 0x40000\ndsb 0 ish\nw 0 0x40000008 0xc0000701\nend",
         b"malformed line 11 cause 9 NoEnd\n",
         2,
     ),
     // End line missing.
     (
-        b"bbmlog 1 hyp 2 1 1 1
-init 0 0x40000000
-root 0 el2 - 0x40000000
-w 0 0x40000008 0x80000701
-dsb 0 ishst
-w 0 0x40000008 0x0
-dsb 0 ishst
-tlbi 0 vae2is 0x40000
-dsb 0 ish
-w 0 0x40000008 0xc0000701
-",
+        CLEARED_AFTER_A_DSB,
+        b"dsb 0 ishst\ntlbi 0 vae2is 0x40000\ndsb 0 ish\nw 0 0x40000008 0xc0000701\n",
         b"malformed line 11 cause 9 NoEnd\n",
         2,
     ),
     // End count wrong.
     (
-        b"bbmlog 1 hyp 2 1 1 1
-init 0 0x40000000
-root 0 el2 - 0x40000000
-w 0 0x40000008 0x80000701
-dsb 0 ishst
-w 0 0x40000008 0x0
-dsb 0 ishst
-tlbi 0 vae2is 0x40000
-dsb 0 ish
-w 0 0x40000008 0xc0000701
-end 8
-",
+        CLEARED_AFTER_A_DSB,
+        b"dsb 0 ishst\ntlbi 0 vae2is 0x40000\ndsb 0 ish\nw 0 0x40000008 0xc0000701\nend 8\n",
         b"malformed line 11 cause 10 WrongCount\n",
         2,
     ),
     // Byte after the end.
     (
-        b"bbmlog 1 hyp 2 1 1 1
-init 0 0x40000000
-root 0 el2 - 0x40000000
-w 0 0x40000008 0x80000701
-dsb 0 ishst
-w 0 0x40000008 0x0
-dsb 0 ishst
-tlbi 0 vae2is 0x40000
-dsb 0 ish
-w 0 0x40000008 0xc0000701
-end 9
-
-",
+        CLEARED_AFTER_A_DSB,
+        b"dsb 0 ishst\ntlbi 0 vae2is 0x40000\ndsb 0 ish\nw 0 0x40000008 0xc0000701\nend 9\n\n",
         b"malformed line 12 cause 11 AfterEnd\n",
         2,
     ),
     // TTBR1 in the hyp world.
     (
-        b"bbmlog 1 hyp 2 1 1 1
-msr 0 ttbr1_el1 0x0
-end 1
-",
+        HEADER,
+        b"msr 0 ttbr1_el1 0x0\nend 1\n",
         b"refused line 2 rule 1 wrong-world at 0x0\n",
         1,
     ),
     // Valid write below a broken table.
     (
-        b"bbmlog 1 hyp 2 1 1 1
-init 0 0x40000000
-root 0 el2 - 0x40000000
-init 0 0x40001000
+        EL2_ROOT,
+        b"init 0 0x40001000
 w 0 0x40000008 0x40001003
 w 0 0x40000008 0x0
 w 0 0x40001000 0x80000701
@@ -238,92 +152,64 @@ end 6
     ),
     // Link to a page that links itself.
     (
-        b"bbmlog 1 hyp 2 1 1 1
-init 0 0x40000000
-root 0 el2 - 0x40000000
-init 0 0x40001000
-w 0 0x40001000 0x40001003
-w 0 0x40000008 0x40001003
-end 5
-",
+        EL2_ROOT,
+        b"init 0 0x40001000\nw 0 0x40001000 0x40001003\nw 0 0x40000008 0x40001003\nend 5\n",
         b"refused line 6 rule 6 not-fresh at 0x40001000\n",
         1,
     ),
     // Fresh descriptor written twice.
     (
-        b"bbmlog 1 hyp 2 1 1 1
-init 0 0x40001000
-w 0 0x40001000 0x80000701
-w 0 0x40001000 0xc0000701
-end 3
-",
+        HEADER,
+        b"init 0 0x40001000\nw 0 0x40001000 0x80000701\nw 0 0x40001000 0xc0000701\nend 3\n",
         b"refused line 4 rule 7 rewritten-fresh at 0x40001000\n",
         1,
     ),
     // Contiguous leaf.
     (
-        b"bbmlog 1 hyp 2 1 1 1
-init 0 0x40000000
-root 0 el2 - 0x40000000
-w 0 0x40000008 0x10000080000701
-end 3
-",
+        EL2_ROOT,
+        b"w 0 0x40000008 0x10000080000701\nend 3\n",
         b"refused line 4 rule 8 bad-kind at 0x40000008\n",
         1,
     ),
     // TTBR names no root.
     (
-        b"bbmlog 1 hyp 2 1 1 1
-msr 0 ttbr0_el2 0x40000000
-end 1
-",
+        HEADER,
+        b"msr 0 ttbr0_el2 0x40000000\nend 1\n",
         b"refused line 2 rule 11 no-root at 0x40000000\n",
         1,
     ),
     // Unroot while a register names it.
     (
-        b"bbmlog 1 hyp 2 1 1 1
-init 0 0x40000000
-root 0 el2 - 0x40000000
-msr 0 ttbr0_el2 0x40000000
-unroot 0 0x40000000
-end 4
-",
+        EL2_ROOT,
+        b"msr 0 ttbr0_el2 0x40000000\nunroot 0 0x40000000\nend 4\n",
         b"refused line 5 rule 13 root-in-use at 0x40000000\n",
         1,
     ),
     // TLBI operand not canonical.
     (
-        b"bbmlog 1 hyp 2 1 1 1
-tlbi 0 vae2is 0x800000000000
-end 1
-",
+        HEADER,
+        b"tlbi 0 vae2is 0x800000000000\nend 1\n",
         b"refused line 2 rule 15 bad-operand at 0x800000000000\n",
         1,
     ),
     // Lock taken twice.
     (
-        b"bbmlog 1 hyp 2 1 1 1
-lock 0 3
-lock 1 3
-end 2
-",
+        HEADER,
+        b"lock 0 3\nlock 1 3\nend 2\n",
         b"refused line 3 rule 16 lock-busy at 0x0\n",
         1,
     ),
     // Unlock by another.
     (
-        b"bbmlog 1 hyp 2 1 1 1
-unlock 1 3
-end 1
-",
+        HEADER,
+        b"unlock 1 3\nend 1\n",
         b"refused line 2 rule 17 lock-not-mine at 0x3\n",
         1,
     ),
     // Limit values.
     (
-        b"bbmlog 1 hyp 2 1 1 1
-msr 0 ttbr0_el2 0x0
+        HEADER,
+        b"msr 0 ttbr0_el2 0x0
 msr 0 ttbr0_el2 0x0
 msr 0 ttbr0_el2 0x0
 msr 0 ttbr0_el2 0x0
@@ -339,25 +225,15 @@ end 9
     ),
     // Alle2is log cut inside the last line.
     (
-        b"bbmlog 1 hyp 2 1 1 1
-init 0 0x40000000
-root 0 el2 - 0x40000000
-w 0 0x40000008 0x80000701
-w 0 0x40000008 0x0
-dsb 0 ish
-tlbi 0 alle2is
-dsb 0 ish
-w 0 0x40000008 0xc0000701
-end",
+        CLEARED,
+        b"dsb 0 ish\ntlbi 0 alle2is\ndsb 0 ish\nw 0 0x40000008 0xc0000701\nend",
         b"malformed line 10 cause 9 NoEnd\n",
         2,
     ),
     // EL2 root switched on another PE too early.
     (
-        b"bbmlog 1 hyp 2 1 1 1
-init 0 0x40000000
-root 0 el2 - 0x40000000
-init 0 0x40001000
+        EL2_ROOT,
+        b"init 0 0x40001000
 root 0 el2 - 0x40001000
 msr 0 ttbr0_el2 0x40000000
 msr 1 ttbr0_el2 0x40001000
@@ -368,10 +244,8 @@ end 6
     ),
     // EL2 root switched after the flush.
     (
-        b"bbmlog 1 hyp 2 1 1 1
-init 0 0x40000000
-root 0 el2 - 0x40000000
-init 0 0x40001000
+        EL2_ROOT,
+        b"init 0 0x40001000
 root 0 el2 - 0x40001000
 msr 0 ttbr0_el2 0x40000000
 isb 0
@@ -385,174 +259,10 @@ end 11
         b"accepted 11 events\n",
         0,
     ),
-    // Root linked into itself.
-    (
-        b"bbmlog 1 hyp 2 1 1 1
-init 0 0x40000000
-root 0 el2 - 0x40000000
-w 0 0x40000008 0x40000003
-end 3
-",
-        b"refused line 4 rule 6 not-fresh at 0x40000000\n",
-        1,
-    ),
-    // Two fresh pages link each other.
-    (
-        b"bbmlog 1 hyp 2 0 1 1
-init 0 0x40000000
-root 0 el2 - 0x40000000
-init 0 0x40001000
-init 0 0x40002000
-w 0 0x40001000 0x40002003
-w 0 0x40002000 0x40001003
-w 0 0x40000008 0x40001003
-end 7
-",
-        b"refused line 8 rule 6 not-fresh at 0x40001000\n",
-        1,
-    ),
-    // Second link is a page leaf.
-    (
-        b"bbmlog 1 hyp 2 1 1 1
-init 0 0x40000000
-root 0 el2 - 0x40000000
-init 0 0x40001000
-init 0 0x40002000
-w 0 0x40001000 0x40002003
-w 0 0x40002000 0x40001003
-w 0 0x40000008 0x40001003
-end 7
-",
-        b"accepted 7 events\n",
-        0,
-    ),
-    // Page linked twice in one attach.
-    (
-        b"bbmlog 1 hyp 2 1 1 1
-init 0 0x40000000
-root 0 el2 - 0x40000000
-init 0 0x40001000
-init 0 0x40002000
-w 0 0x40001000 0x40002003
-w 0 0x40001008 0x40002003
-w 0 0x40000008 0x40001003
-end 7
-",
-        b"refused line 8 rule 6 not-fresh at 0x40002000\n",
-        1,
-    ),
-    // Write to an untracked page.
-    (
-        b"bbmlog 1 hyp 2 1 1 1
-w 0 0x40000000 0x0
-end 1
-",
-        b"refused line 2 rule 6 not-fresh at 0x40000000\n",
-        1,
-    ),
-    // Write to a retired root.
-    (
-        b"bbmlog 1 hyp 2 1 1 1
-init 0 0x40000000
-root 0 el2 - 0x40000000
-unroot 0 0x40000000
-w 0 0x40000008 0x0
-end 4
-",
-        b"refused line 5 rule 6 not-fresh at 0x40000000\n",
-        1,
-    ),
-    // Highest page links itself with 64 PEs.
-    (
-        b"bbmlog 1 hyp 64 0 0 1
-init 63 0xfffffffff000
-root 63 el2 - 0xfffffffff000
-w 63 0xfffffffffff8 0xfffffffff003
-end 3
-",
-        b"refused line 4 rule 6 not-fresh at 0xfffffffff000\n",
-        1,
-    ),
-    // Bits 01 at level 0.
-    (
-        b"bbmlog 1 hyp 2 0 1 1
-init 0 0x40000000
-root 0 el2 - 0x40000000
-w 0 0x40000008 0x80000701
-w 0 0x40000008 0xc0000701
-end 4
-",
-        b"accepted 4 events\n",
-        0,
-    ),
-    // TLBI hint of another granule.
-    (
-        b"bbmlog 1 hyp 2 1 1 1
-tlbi 0 vae2is 0xc00000040000
-end 1
-",
-        b"refused line 2 rule 15 bad-operand at 0xc00000040000\n",
-        1,
-    ),
-    // Value of 17 digits slow.
-    (
-        b"bbmlog 1 hyp 2 1 1 1
-w 0 0x40000008 0x10000000000000000
-end 1
-",
-        b"malformed line 2 cause 4 BadNumber\n",
-        2,
-    ),
-    // Count with a leading zero slow.
-    (
-        b"bbmlog 1 hyp 2 1 1 1
-end 00
-",
-        b"malformed line 2 cause 4 BadNumber\n",
-        2,
-    ),
-    // Carriage return in the header slow.
-    (
-        b"bbmlog 1 hyp 2 1 1 1\r
-end 0
-",
-        b"malformed line 1 cause 2 BadHeader\n",
-        2,
-    ),
-    // Lock taken again by its holder slow.
-    (
-        b"bbmlog 1 hyp 2 1 1 1
-lock 0 3
-lock 0 3
-end 2
-",
-        b"refused line 3 rule 16 lock-busy at 0x0\n",
-        1,
-    ),
-    // Root declared twice.
-    (
-        b"bbmlog 1 hyp 2 1 1 1
-init 0 0x40000000
-root 0 el2 - 0x40000000
-root 0 el2 - 0x40000000
-end 3
-",
-        b"refused line 4 rule 10 page-in-use at 0x40000000\n",
-        1,
-    ),
     // Remap without its idle DSB check.
     (
-        b"bbmlog 1 hyp 2 1 1 1
-init 0 0x40000000
-root 0 el2 - 0x40000000
-w 0 0x40000008 0x80000701
-w 0 0x40000008 0x0
-dsb 0 ishst
-tlbi 0 vae2is 0x40000
-dsb 0 ish
-w 0 0x40000008 0xc0000701
-end 8
-",
+        CLEARED,
+        b"dsb 0 ishst\ntlbi 0 vae2is 0x40000\ndsb 0 ish\nw 0 0x40000008 0xc0000701\nend 8\n",
         b"accepted 8 events\n",
         0,
     ),
