@@ -195,7 +195,7 @@ const BLOCK_REPLACED_BY_TABLE_WITHOUT_BREAK: [&[u8]; 10] = [
     b"end 7",
 ];
 
-// Both TLBIs are issued before one DSB answers them; the stages are joined after the second, which then finds the combined entry too young.
+// Both TLBIs are issued before one DSB answers them; the stages are joined after the second, so the entry outlives both.
 const STAGE2_TWO_STEPS_UNDER_ONE_DSB: [&[u8]; 16] = [
     b"bbmlog 1 hyp 2 1 1 1",
     b"init 0 0x40002000",
@@ -321,28 +321,8 @@ const FLUSH_AFTER_PUBLICATION: [&[u8]; 14] = [
     b"end 10",
 ];
 
-// The stages are joined after the flush of both, so the entry outlives it.
-const FOLLOW_COMBINED_ENTRY_OUTLIVES_THE_FLUSH: [&[u8]; 16] = [
-    b"bbmlog 1 hyp 2 1 1 1",
-    b"init 0 0x40002000",
-    b"root 0 s2 - 0x40002000",
-    b"msr 0 vttbr_el2 0x5000040002000",
-    b"isb 0",
-    b"w 0 0x40002008 0x800007fd",
-    b"m start 0 s2 5 0x40002008 0x800007fd",
-    b"w 0 0x40002008 0x0",
-    b"dsb 0 ishst",
-    b"tlbi 0 ipas2e1is 0x40000",
-    b"tlbi 0 vmalle1is",
-    b"m combine 1",
-    b"m drop 1",
-    b"dsb 0 ish",
-    b"w 0 0x40002008 0xc00007fd",
-    b"end 11",
-];
-
 /// Runs, and what comes of each.
-const RUNS: [(&[&[u8]], &[u8]); 16] = [
+const RUNS: [(&[&[u8]], &[u8]); 15] = [
     (&FOLLOW_TO_A_CONFLICT, b"run 9 steps conflict line 10\n"),
     (&FOLLOW_DSB_WITH_A_TAKEN_ENTRY, b"bad step line 9\n"),
     (&FOLLOW_COMBINED_ENTRY_IS_TAKEN, b"bad step line 14\n"),
@@ -372,10 +352,6 @@ const RUNS: [(&[&[u8]], &[u8]); 16] = [
     (&TABLE_ABOVE_IS_REPLACED, b"run 11 steps conflict line 12\n"),
     (&EXTEND_PAST_A_LEAF, b"bad step line 11\n"),
     (&FLUSH_AFTER_PUBLICATION, b"run 12 steps\n"),
-    (
-        &FOLLOW_COMBINED_ENTRY_OUTLIVES_THE_FLUSH,
-        b"run 14 steps conflict line 15\n",
-    ),
     (&[b"bbmlog 1 hyp 2 1 1 1", b"end 0"], b"run 0 steps\n"),
 ];
 
