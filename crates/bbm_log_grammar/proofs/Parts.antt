@@ -15,16 +15,19 @@ joined_more piece (next ∷ pieces) last =
     append_assoc piece (32 ∷ joined (next ∷ pieces)) (32 ∷ last)
     ∙ ap (λ (x : List ℕ). piece ++ 32 ∷ x) (joined_more next pieces last)
 
-pub no_label : (line : List ℕ) (event : Event) → line ≡ joined (event_fields event) → line ≡ joined (event_fields event ++ label_fields None)
-no_label line event e = e ∙ ap joined (sym (append-nil (event_fields event)))
+pub no_label : (front line : List ℕ) (event : Event) → line ≡ front ++ joined (event_fields event) → line ≡ front ++ joined (event_fields event ++ label_fields None)
+no_label front line event e = e ∙ ap (λ (fs : Fields). front ++ joined fs) (sym (append-nil (event_fields event)))
 
-pub one_label : (line : List ℕ) (event : Event) (label : List ℕ) → line ≡ joined (event_fields event) → (line ++ 32 ∷ 64 ∷ []) ++ label ≡ joined (event_fields event ++ label_fields (Some label))
-one_label line event label e =
+pub one_label : (front line : List ℕ) (event : Event) (label : List ℕ) → line ≡ front ++ joined (event_fields event) → (line ++ 32 ∷ 64 ∷ []) ++ label ≡ front ++ joined (event_fields event ++ label_fields (Some label))
+one_label front line event label e =
     let some = event_fields_some event in
     append_assoc line (32 ∷ 64 ∷ []) label
-    ∙ ap (λ (x : List ℕ). x ++ 32 ∷ 64 ∷ label) (e ∙ ap joined some.2)
+    ∙ ap (λ (x : List ℕ). x ++ 32 ∷ 64 ∷ label) e
+    ∙ append_assoc front (joined (event_fields event)) (32 ∷ 64 ∷ label)
+    ∙ ap (λ (x : List ℕ). front ++ x)
+    (ap (λ (x : List ℕ). x ++ 32 ∷ 64 ∷ label) (ap joined some.2)
     ∙ joined_more some.0 some.1 (64 ∷ label)
-    ∙ ap (λ (fs : Fields). joined (fs ++ ((64 ∷ label) ∷ []))) (sym some.2)
+    ∙ ap (λ (fs : Fields). joined (fs ++ ((64 ∷ label) ∷ []))) (sym some.2))
 
 pub label_length : (label : List ℕ) → is_label label ≡ true → length label ≤ 32
 label_length label e = leb-true (length label) 32 (and_parts (nat_le 1 (length label)) (nat_le (length label) 32) (and_parts (nat_le 1 (length label) && nat_le (length label) 32) (list_all is_label_byte label) e).0).1

@@ -27,7 +27,7 @@ pub use numbers::{read_decimal, read_hex};
 pub use spell::{add, add_decimal, add_hex};
 pub use values::page_of;
 pub use words::kind_of;
-pub use write::{write_event, write_header};
+pub use write::{append_event, write_event, write_header};
 
 #[cfg(test)]
 mod machine_tests;

@@ -1,4 +1,4 @@
-//! Words and numbers, appended to a line of at most 200 bytes.
+//! Words and numbers, appended to a line that has room for them.
 
 ghost use Rattle.std.specs.Prelude.{◌≡◌, ◌+◌, ◌≤◌, ◌<◌, false, ◌++◌, length, decimal, drop};
 ghost use Rattle.std.specs.Fmt.{digits, digit_glyph};
@@ -10,8 +10,8 @@ use itoa::Buffer;
 
 /// Appends the bytes of the piece, for which there has to be room.
 #[inline]
-pub fn add(out: &mut ArrayVec<u8, 200>, piece: &[u8])
-    requires room { array_vec_len out.old + length piece.now ≤ 200 }
+pub fn add<const N: usize>(out: &mut ArrayVec<u8, N>, piece: &[u8])
+    requires room { array_vec_len out.old + length piece.now ≤ N }
     ensures appended { out.new.items ≡ out.old.items ++ piece.now }
     ensures longer { array_vec_len out.new ≡ array_vec_len out.old + length piece.now }
 {
@@ -20,8 +20,8 @@ pub fn add(out: &mut ArrayVec<u8, 200>, piece: &[u8])
 
 // Appends the one decimal spelling of the number, whatever its length.
 #[inline(never)]
-fn add_any_decimal(out: &mut ArrayVec<u8, 200>, n: u64)
-    requires room { array_vec_len out.old + 20 ≤ 200 }
+fn add_any_decimal<const N: usize>(out: &mut ArrayVec<u8, N>, n: u64)
+    requires room { array_vec_len out.old + 20 ≤ N }
     ensures appended { out.new.items ≡ out.old.items ++ decimal n }
     ensures longer { array_vec_len out.new ≤ array_vec_len out.old + 20 }
 {
@@ -32,8 +32,8 @@ fn add_any_decimal(out: &mut ArrayVec<u8, 200>, n: u64)
 /// Appends the one decimal spelling of the number, which has at most 20 digits.
 #[inline]
 #[tactic(auto, using(crate::proofs::Spelled::decimal_single))]
-pub fn add_decimal(out: &mut ArrayVec<u8, 200>, n: u64)
-    requires room { array_vec_len out.old + 20 ≤ 200 }
+pub fn add_decimal<const N: usize>(out: &mut ArrayVec<u8, N>, n: u64)
+    requires room { array_vec_len out.old + 20 ≤ N }
     ensures appended { out.new.items ≡ out.old.items ++ decimal n }
     ensures longer { array_vec_len out.new ≤ array_vec_len out.old + 20 }
 {
@@ -103,8 +103,8 @@ fn put_hex(text: &mut [u8; 18], n: u64) -> usize
 }
 
 /// Appends the one hex spelling of the number, `0x` and at most 16 digits.
-pub fn add_hex(out: &mut ArrayVec<u8, 200>, n: u64)
-    requires room { array_vec_len out.old + 18 ≤ 200 }
+pub fn add_hex<const N: usize>(out: &mut ArrayVec<u8, N>, n: u64)
+    requires room { array_vec_len out.old + 18 ≤ N }
     ensures appended { out.new.items ≡ out.old.items ++ hex n }
     ensures longer { array_vec_len out.new ≤ array_vec_len out.old + 18 }
 {

@@ -1,6 +1,6 @@
 //! The one line of a header, and of an item.
 
-ghost use Rattle.std.specs.Prelude.{◌≡◌, ◌+◌, ◌≤◌, true, Ok, ◌++◌, ◌∷◌, [], length, codes, decimal};
+ghost use Rattle.std.specs.Prelude.{◌≡◌, ◌+◌, ◌≤◌, ℕ, List, true, Ok, ◌++◌, ◌∷◌, [], length, codes, decimal};
 ghost use Rattle.arrayvec.specs.ArrayVec.{array_vec_len};
 ghost use Rattle.bbm_events.specs.declared.event.Event.{Event};
 ghost use Rattle.bbm_events.specs.declared.event.Event.TheVariants as event;
@@ -19,9 +19,9 @@ use bbm_regimes::{HypWorld, KernelWorld, Kind, Page, Pe, Place, Reg, World};
 use bbm_tlbi_scope::TlbiOp;
 
 /// A space and a word of at most 12 bytes.
-pub(crate) fn add_word_field(out: &mut ArrayVec<u8, 200>, word: &[u8])
+pub(crate) fn add_word_field<const N: usize>(out: &mut ArrayVec<u8, N>, word: &[u8])
     requires short { length word.now ≤ 12 }
-    requires room { array_vec_len out.old + 13 ≤ 200 }
+    requires room { array_vec_len out.old + 13 ≤ N }
     ensures appended { out.new.items ≡ out.old.items ++ 32 ∷ word.now }
     ensures longer { array_vec_len out.new ≤ array_vec_len out.old + 13 }
 {
@@ -31,8 +31,8 @@ pub(crate) fn add_word_field(out: &mut ArrayVec<u8, 200>, word: &[u8])
 
 /// A space and a number in decimal.
 #[inline(always)]
-pub(crate) fn add_decimal_field(out: &mut ArrayVec<u8, 200>, n: u64)
-    requires room { array_vec_len out.old + 21 ≤ 200 }
+pub(crate) fn add_decimal_field<const N: usize>(out: &mut ArrayVec<u8, N>, n: u64)
+    requires room { array_vec_len out.old + 21 ≤ N }
     ensures appended { out.new.items ≡ out.old.items ++ 32 ∷ decimal n }
     ensures longer { array_vec_len out.new ≤ array_vec_len out.old + 21 }
 {
@@ -41,8 +41,8 @@ pub(crate) fn add_decimal_field(out: &mut ArrayVec<u8, 200>, n: u64)
 }
 
 /// A space and a number in hex.
-pub(crate) fn add_hex_field(out: &mut ArrayVec<u8, 200>, n: u64)
-    requires room { array_vec_len out.old + 19 ≤ 200 }
+pub(crate) fn add_hex_field<const N: usize>(out: &mut ArrayVec<u8, N>, n: u64)
+    requires room { array_vec_len out.old + 19 ≤ N }
     ensures appended { out.new.items ≡ out.old.items ++ 32 ∷ hex n }
     ensures longer { array_vec_len out.new ≤ array_vec_len out.old + 19 }
 {
@@ -52,19 +52,19 @@ pub(crate) fn add_hex_field(out: &mut ArrayVec<u8, 200>, n: u64)
 
 /// The first word of an event line with the space behind it, and its PE.
 #[inline(always)]
-fn begin(out: &mut ArrayVec<u8, 200>, word: &[u8], pe: Pe)
-    requires empty { out.old.items ≡ [] }
+fn begin<const N: usize>(out: &mut ArrayVec<u8, N>, word: &[u8], pe: Pe)
+    requires room { array_vec_len out.old + 200 ≤ N }
     requires short { length word.now ≤ 13 }
-    ensures written { out.new.items ≡ word.now ++ decimal pe }
-    ensures longer { array_vec_len out.new ≤ 33 }
+    ensures written { out.new.items ≡ out.old.items ++ word.now ++ decimal pe }
+    ensures longer { array_vec_len out.new ≤ array_vec_len out.old + 33 }
 {
     add(out, word);
     add_decimal(out, pe.get() as u64);
 }
 
 /// A lock, or `-` for none.
-fn add_lock_field(out: &mut ArrayVec<u8, 200>, lock: Option<u16>)
-    requires room { array_vec_len out.old + 21 ≤ 200 }
+fn add_lock_field<const N: usize>(out: &mut ArrayVec<u8, N>, lock: Option<u16>)
+    requires room { array_vec_len out.old + 21 ≤ N }
     ensures appended { out.new.items ≡ out.old.items ++ 32 ∷ lock_text lock }
     ensures longer { array_vec_len out.new ≤ array_vec_len out.old + 21 }
 {
@@ -76,11 +76,11 @@ fn add_lock_field(out: &mut ArrayVec<u8, 200>, lock: Option<u16>)
 
 /// `WORD PE PAGE`, with the space behind the word
 #[inline(always)]
-fn page_line(out: &mut ArrayVec<u8, 200>, word: &[u8], pe: Pe, page: Page)
-    requires empty { out.old.items ≡ [] }
+fn page_line<const N: usize>(out: &mut ArrayVec<u8, N>, word: &[u8], pe: Pe, page: Page)
+    requires room { array_vec_len out.old + 200 ≤ N }
     requires short { length word.now ≤ 13 }
-    ensures line { out.new.items ≡ word.now ++ joined (decimal pe ∷ hex page ∷ []) }
-    ensures longer { array_vec_len out.new ≤ 100 }
+    ensures line { out.new.items ≡ out.old.items ++ word.now ++ joined (decimal pe ∷ hex page ∷ []) }
+    ensures longer { array_vec_len out.new ≤ array_vec_len out.old + 100 }
 {
     begin(out, word, pe);
     add_hex_field(out, page.get());
@@ -88,10 +88,16 @@ fn page_line(out: &mut ArrayVec<u8, 200>, word: &[u8], pe: Pe, page: Page)
 
 /// `root PE KIND LOCK PAGE`
 #[tactic(auto, using(crate::proofs::Short::kind_word_short))]
-fn root_line(out: &mut ArrayVec<u8, 200>, pe: Pe, kind: Kind, lock: Option<u16>, page: Page)
-    requires empty { out.old.items ≡ [] }
-    ensures line { out.new.items ≡ joined (event_fields (event.Root pe kind lock page)) }
-    ensures longer { array_vec_len out.new ≤ 100 }
+fn root_line<const N: usize>(
+    out: &mut ArrayVec<u8, N>,
+    pe: Pe,
+    kind: Kind,
+    lock: Option<u16>,
+    page: Page,
+)
+    requires room { array_vec_len out.old + 200 ≤ N }
+    ensures line { out.new.items ≡ out.old.items ++ joined (event_fields (event.Root pe kind lock page)) }
+    ensures longer { array_vec_len out.new ≤ array_vec_len out.old + 100 }
 {
     begin(out, b"root ", pe);
     add_word_field(out, kind_word(kind));
@@ -100,10 +106,10 @@ fn root_line(out: &mut ArrayVec<u8, 200>, pe: Pe, kind: Kind, lock: Option<u16>,
 }
 
 /// `w PE PLACE VALUE`
-fn store_line(out: &mut ArrayVec<u8, 200>, pe: Pe, place: Place, value: u64)
-    requires empty { out.old.items ≡ [] }
-    ensures line { out.new.items ≡ joined (event_fields (event.Write pe place value)) }
-    ensures longer { array_vec_len out.new ≤ 100 }
+fn store_line<const N: usize>(out: &mut ArrayVec<u8, N>, pe: Pe, place: Place, value: u64)
+    requires room { array_vec_len out.old + 200 ≤ N }
+    ensures line { out.new.items ≡ out.old.items ++ joined (event_fields (event.Write pe place value)) }
+    ensures longer { array_vec_len out.new ≤ array_vec_len out.old + 100 }
 {
     begin(out, b"w ", pe);
     add_hex_field(out, place.get());
@@ -113,8 +119,8 @@ fn store_line(out: &mut ArrayVec<u8, 200>, pe: Pe, place: Place, value: u64)
 /// The option of a barrier; those of most lines are written at once.
 #[tactic(auto, using(crate::proofs::Short::dsb_word_short))]
 #[inline(always)]
-fn add_dsb_field(out: &mut ArrayVec<u8, 200>, dsb: Dsb)
-    requires room { array_vec_len out.old + 13 ≤ 200 }
+fn add_dsb_field<const N: usize>(out: &mut ArrayVec<u8, N>, dsb: Dsb)
+    requires room { array_vec_len out.old + 13 ≤ N }
     ensures appended { out.new.items ≡ out.old.items ++ 32 ∷ words.dsb_word dsb }
     ensures longer { array_vec_len out.new ≤ array_vec_len out.old + 13 }
 {
@@ -127,11 +133,11 @@ fn add_dsb_field(out: &mut ArrayVec<u8, 200>, dsb: Dsb)
 
 /// `WORD PE OPTION`, with the space behind the word
 #[inline(always)]
-fn barrier_line(out: &mut ArrayVec<u8, 200>, word: &[u8], pe: Pe, dsb: Dsb)
-    requires empty { out.old.items ≡ [] }
+fn barrier_line<const N: usize>(out: &mut ArrayVec<u8, N>, word: &[u8], pe: Pe, dsb: Dsb)
+    requires room { array_vec_len out.old + 200 ≤ N }
     requires short { length word.now ≤ 13 }
-    ensures line { out.new.items ≡ word.now ++ joined (decimal pe ∷ words.dsb_word dsb ∷ []) }
-    ensures longer { array_vec_len out.new ≤ 100 }
+    ensures line { out.new.items ≡ out.old.items ++ word.now ++ joined (decimal pe ∷ words.dsb_word dsb ∷ []) }
+    ensures longer { array_vec_len out.new ≤ array_vec_len out.old + 100 }
 {
     begin(out, word, pe);
     add_dsb_field(out, dsb);
@@ -139,10 +145,10 @@ fn barrier_line(out: &mut ArrayVec<u8, 200>, word: &[u8], pe: Pe, dsb: Dsb)
 
 /// `tlbi PE OP`, and ` XT` where the operation has an operand.
 #[tactic(auto, using(crate::proofs::Short::op_word_short))]
-fn tlbi_line(out: &mut ArrayVec<u8, 200>, pe: Pe, op: TlbiOp, xt: u64)
-    requires empty { out.old.items ≡ [] }
-    ensures line { out.new.items ≡ joined (event_fields (event.Tlbi pe op xt)) }
-    ensures longer { array_vec_len out.new ≤ 100 }
+fn tlbi_line<const N: usize>(out: &mut ArrayVec<u8, N>, pe: Pe, op: TlbiOp, xt: u64)
+    requires room { array_vec_len out.old + 200 ≤ N }
+    ensures line { out.new.items ≡ out.old.items ++ joined (event_fields (event.Tlbi pe op xt)) }
+    ensures longer { array_vec_len out.new ≤ array_vec_len out.old + 100 }
 {
     begin(out, b"tlbi ", pe);
     add_word_field(out, op_word(op));
@@ -153,10 +159,10 @@ fn tlbi_line(out: &mut ArrayVec<u8, 200>, pe: Pe, op: TlbiOp, xt: u64)
 
 /// `msr PE REG VALUE`
 #[tactic(auto, using(crate::proofs::Short::reg_word_short))]
-fn register_line(out: &mut ArrayVec<u8, 200>, pe: Pe, reg: Reg, value: u64)
-    requires empty { out.old.items ≡ [] }
-    ensures line { out.new.items ≡ joined (event_fields (event.Msr pe reg value)) }
-    ensures longer { array_vec_len out.new ≤ 100 }
+fn register_line<const N: usize>(out: &mut ArrayVec<u8, N>, pe: Pe, reg: Reg, value: u64)
+    requires room { array_vec_len out.old + 200 ≤ N }
+    ensures line { out.new.items ≡ out.old.items ++ joined (event_fields (event.Msr pe reg value)) }
+    ensures longer { array_vec_len out.new ≤ array_vec_len out.old + 100 }
 {
     begin(out, b"msr ", pe);
     add_word_field(out, reg_word(reg));
@@ -165,21 +171,21 @@ fn register_line(out: &mut ArrayVec<u8, 200>, pe: Pe, reg: Reg, value: u64)
 
 /// `WORD PE LOCK`, with the space behind the word
 #[inline(always)]
-fn lock_line(out: &mut ArrayVec<u8, 200>, word: &[u8], pe: Pe, lock: u16)
-    requires empty { out.old.items ≡ [] }
+fn lock_line<const N: usize>(out: &mut ArrayVec<u8, N>, word: &[u8], pe: Pe, lock: u16)
+    requires room { array_vec_len out.old + 200 ≤ N }
     requires short { length word.now ≤ 13 }
-    ensures line { out.new.items ≡ word.now ++ joined (decimal pe ∷ decimal lock ∷ []) }
-    ensures longer { array_vec_len out.new ≤ 100 }
+    ensures line { out.new.items ≡ out.old.items ++ word.now ++ joined (decimal pe ∷ decimal lock ∷ []) }
+    ensures longer { array_vec_len out.new ≤ array_vec_len out.old + 100 }
 {
     begin(out, word, pe);
     add_decimal_field(out, lock as u64);
 }
 
 /// The line of an event.
-fn event_line(out: &mut ArrayVec<u8, 200>, event: Event)
-    requires empty { out.old.items ≡ [] }
-    ensures line { out.new.items ≡ joined (event_fields event) }
-    ensures longer { array_vec_len out.new ≤ 100 }
+fn event_line<const N: usize>(out: &mut ArrayVec<u8, N>, event: Event)
+    requires room { array_vec_len out.old + 200 ≤ N }
+    ensures line { out.new.items ≡ out.old.items ++ joined (event_fields event) }
+    ensures longer { array_vec_len out.new ≤ array_vec_len out.old + 100 }
 {
     match event {
         Event::Init { pe, page } => page_line(out, b"init ", pe, page),
@@ -263,9 +269,10 @@ pub fn write_header(header: &Header, out: &mut ArrayVec<u8, 200>)
 
 /// A space, the mark `@` and the label, where there is one.
 #[tactic(auto, using(crate::proofs::Parts::parts))]
-fn add_label_field(out: &mut ArrayVec<u8, 200>, label: Option<Label>)
-    requires room { array_vec_len out.old ≤ 100 }
-    ensures { (event : Event) → out.old.items ≡ joined (event_fields event) → out.new.items ≡ joined (event_fields event ++ label_fields label) }
+fn add_label_field<const N: usize>(out: &mut ArrayVec<u8, N>, label: Option<Label>)
+    requires room { array_vec_len out.old + 100 ≤ N }
+    ensures appended { (front : List ℕ) (event : Event) → out.old.items ≡ front ++ joined (event_fields event) → out.new.items ≡ front ++ joined (event_fields event ++ label_fields label) }
+    ensures longer { array_vec_len out.new ≤ array_vec_len out.old + 34 }
 {
     if let Some(label) = label {
         add(out, b" @");
@@ -275,9 +282,10 @@ fn add_label_field(out: &mut ArrayVec<u8, 200>, label: Option<Label>)
 
 /// The line of an item, whatever the header.
 #[tactic(auto, unfolding(bbm_events::specs::Lines::item_line))]
-fn any_line(item: Item, out: &mut ArrayVec<u8, 200>)
-    requires empty { out.old.items ≡ [] }
-    ensures { out.new.items ≡ item_line item }
+fn any_line<const N: usize>(item: Item, out: &mut ArrayVec<u8, N>)
+    requires room { array_vec_len out.old + 200 ≤ N }
+    ensures line { out.new.items ≡ out.old.items ++ item_line item }
+    ensures longer { array_vec_len out.new ≤ array_vec_len out.old + 200 }
 {
     match item {
         Item::Event(event, label) => {
@@ -289,6 +297,18 @@ fn any_line(item: Item, out: &mut ArrayVec<u8, 200>)
             add_decimal_field(out, count as u64);
         }
     }
+}
+
+/// Appends the line of an event, or the last line with its count, without its newline, to what stands there,
+/// which leaves room for a line. The item has to fit the header, so that it has a label only under version 3
+/// or 4. It is the line that `write_event` writes, of at most 200 bytes. Source: project's own choice.
+pub fn append_event<const N: usize>(header: &Header, item: Item, out: &mut ArrayVec<u8, N>)
+    requires room { array_vec_len out.old + 200 ≤ N }
+    requires fits { item_fits header.now item ≡ true }
+    ensures line { out.new.items ≡ out.old.items ++ item_line item }
+    ensures longer { array_vec_len out.new ≤ array_vec_len out.old + 200 }
+{
+    any_line(item, out);
 }
 
 /// Writes the line of an event, or the last line with its count, without its newline, into an empty
