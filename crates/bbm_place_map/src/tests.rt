@@ -119,8 +119,8 @@ fn step(alloc: Global, map: &mut PlaceMap, page: Page, zero: Pe, act: Act) -> Re
         }
         FlushTwice(addr, cover) => {
             if let Some(place) = Place::new(addr) {
-                let found = Found { place, cover };
-                map.issue_at(alloc, zero, PeMask::all(2), true, &[found, found])?;
+                let found = [Found { place, cover }, Found { place, cover }];
+                map.issue_at(alloc, zero, PeMask::all(2), true, &found)?;
             }
         }
         Answer => {
