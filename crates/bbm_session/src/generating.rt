@@ -15,7 +15,7 @@ use arrayvec::ArrayVec;
 use bbm_events::{Header, Item};
 use bbm_gen::{gen_event, gen_header};
 use bbm_io::{Failed, Sink};
-use bbm_log_grammar::{write_event, write_header};
+use bbm_log_grammar::{append_event, write_header};
 
 /// The bytes that are written at once. Source: project's own choice.
 const BUFFER_BYTES: usize = 16384;
@@ -72,6 +72,16 @@ fn add_line<K: Sink>(
     }
 }
 
+// Appends the line of an item and its newline, for which there is room.
+fn append_item(header: &Header, item: Item, buffer: &mut ArrayVec<u8, BUFFER_BYTES>)
+    requires room { array_vec_len buffer.old + 256 ≤ 16384 }
+    requires fits { item_fits header.now item ≡ true }
+    ensures appended { buffer.new.items ≡ buffer.old.items ++ ended (item_line item) }
+{
+    append_event(header, item, buffer);
+    buffer.push(b'\n');
+}
+
 // Adds the line of an item.
 fn add_item<K: Sink>(
     header: &Header,
@@ -85,9 +95,13 @@ fn add_item<K: Sink>(
         → Pours (text ++ ended (item_line item)) result buffer.new.items start (K.held out.new)
         faults (K.faults out.new) }
 {
-    let mut line = ArrayVec::new();
-    write_event(header, item, &mut line);
-    add_line(buffer, &line, out)
+    match make_room(buffer, out) {
+        Ok(()) => {
+            append_item(header, item, buffer);
+            Ok(())
+        }
+        Err(failed) => Err(failed),
+    }
 }
 
 // Adds the line of the header to an empty buffer.
