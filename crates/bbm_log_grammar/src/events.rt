@@ -3,33 +3,35 @@
 ghost use Rattle.std.specs.Prelude.{◌≡◌, true, IfOk, IfErr};
 ghost use Rattle.bbm_events.specs.Causes.{IsLineCause};
 ghost use Rattle.bbm_events.specs.Fits.{item_fits};
+ghost use Rattle.bbm_log_grammar.specs.InLine.{read_in};
 ghost use Rattle.bbm_events.specs.Lines.{item_of};
 ghost use Rattle.bbm_events.specs.Lines as lines;
 ghost use Rattle.bbm_events.specs.declared.keyword.Keyword.TheVariants as first;
 
 use crate::fields::Fields;
 use crate::firsts::first_keyword;
+use crate::line::LineItem;
 use crate::readers::*;
 use bbm_events::{Event, Header, Item, Keyword, Malformed, law_item_causes, law_item_fits};
 
-fn init_line(header: &Header, fields: Fields) -> Result<Item, Malformed>
-    ensures { result ≡ lines.line_after header.now first.Init fields.entry }
+fn init_line<'a>(header: &Header, fields: Fields<'a>) -> Result<LineItem<'a>, Malformed>
+    ensures { read_in result ≡ lines.line_after header.now first.Init fields.entry }
 {
     let (pe, fields) = pe_field(header, fields)?;
     let (page, fields) = page_field(fields)?;
     event_item(header, Event::Init { pe, page }, fields)
 }
 
-fn null_line(header: &Header, fields: Fields) -> Result<Item, Malformed>
-    ensures { result ≡ lines.line_after header.now first.Null fields.entry }
+fn null_line<'a>(header: &Header, fields: Fields<'a>) -> Result<LineItem<'a>, Malformed>
+    ensures { read_in result ≡ lines.line_after header.now first.Null fields.entry }
 {
     let (pe, fields) = pe_field(header, fields)?;
     let (page, fields) = page_field(fields)?;
     event_item(header, Event::Null { pe, page }, fields)
 }
 
-fn root_line(header: &Header, fields: Fields) -> Result<Item, Malformed>
-    ensures { result ≡ lines.line_after header.now first.Root fields.entry }
+fn root_line<'a>(header: &Header, fields: Fields<'a>) -> Result<LineItem<'a>, Malformed>
+    ensures { read_in result ≡ lines.line_after header.now first.Root fields.entry }
 {
     let (pe, fields) = pe_field(header, fields)?;
     let (kind, fields) = kind_field(fields)?;
@@ -47,16 +49,16 @@ fn root_line(header: &Header, fields: Fields) -> Result<Item, Malformed>
     )
 }
 
-fn unroot_line(header: &Header, fields: Fields) -> Result<Item, Malformed>
-    ensures { result ≡ lines.line_after header.now first.Unroot fields.entry }
+fn unroot_line<'a>(header: &Header, fields: Fields<'a>) -> Result<LineItem<'a>, Malformed>
+    ensures { read_in result ≡ lines.line_after header.now first.Unroot fields.entry }
 {
     let (pe, fields) = pe_field(header, fields)?;
     let (page, fields) = page_field(fields)?;
     event_item(header, Event::Unroot { pe, page }, fields)
 }
 
-fn write_line(header: &Header, fields: Fields) -> Result<Item, Malformed>
-    ensures { result ≡ lines.line_after header.now first.Write fields.entry }
+fn write_line<'a>(header: &Header, fields: Fields<'a>) -> Result<LineItem<'a>, Malformed>
+    ensures { read_in result ≡ lines.line_after header.now first.Write fields.entry }
 {
     let (pe, fields) = pe_field(header, fields)?;
     let (place, fields) = place_field(fields)?;
@@ -64,31 +66,31 @@ fn write_line(header: &Header, fields: Fields) -> Result<Item, Malformed>
     event_item(header, Event::Write { pe, place, value }, fields)
 }
 
-fn dsb_line(header: &Header, fields: Fields) -> Result<Item, Malformed>
-    ensures { result ≡ lines.line_after header.now first.Dsb fields.entry }
+fn dsb_line<'a>(header: &Header, fields: Fields<'a>) -> Result<LineItem<'a>, Malformed>
+    ensures { read_in result ≡ lines.line_after header.now first.Dsb fields.entry }
 {
     let (pe, fields) = pe_field(header, fields)?;
     let (dsb, fields) = dsb_field(fields)?;
     event_item(header, Event::Dsb { pe, dsb }, fields)
 }
 
-fn dmb_line(header: &Header, fields: Fields) -> Result<Item, Malformed>
-    ensures { result ≡ lines.line_after header.now first.Dmb fields.entry }
+fn dmb_line<'a>(header: &Header, fields: Fields<'a>) -> Result<LineItem<'a>, Malformed>
+    ensures { read_in result ≡ lines.line_after header.now first.Dmb fields.entry }
 {
     let (pe, fields) = pe_field(header, fields)?;
     let (dsb, fields) = dsb_field(fields)?;
     event_item(header, Event::Dmb { pe, dsb }, fields)
 }
 
-fn isb_line(header: &Header, fields: Fields) -> Result<Item, Malformed>
-    ensures { result ≡ lines.line_after header.now first.Isb fields.entry }
+fn isb_line<'a>(header: &Header, fields: Fields<'a>) -> Result<LineItem<'a>, Malformed>
+    ensures { read_in result ≡ lines.line_after header.now first.Isb fields.entry }
 {
     let (pe, fields) = pe_field(header, fields)?;
     event_item(header, Event::Isb { pe }, fields)
 }
 
-fn tlbi_line(header: &Header, fields: Fields) -> Result<Item, Malformed>
-    ensures { result ≡ lines.line_after header.now first.Tlbi fields.entry }
+fn tlbi_line<'a>(header: &Header, fields: Fields<'a>) -> Result<LineItem<'a>, Malformed>
+    ensures { read_in result ≡ lines.line_after header.now first.Tlbi fields.entry }
 {
     let (pe, fields) = pe_field(header, fields)?;
     let (op, fields) = op_field(header, fields)?;
@@ -96,8 +98,8 @@ fn tlbi_line(header: &Header, fields: Fields) -> Result<Item, Malformed>
     event_item(header, Event::Tlbi { pe, op, xt }, fields)
 }
 
-fn msr_line(header: &Header, fields: Fields) -> Result<Item, Malformed>
-    ensures { result ≡ lines.line_after header.now first.Msr fields.entry }
+fn msr_line<'a>(header: &Header, fields: Fields<'a>) -> Result<LineItem<'a>, Malformed>
+    ensures { read_in result ≡ lines.line_after header.now first.Msr fields.entry }
 {
     let (pe, fields) = pe_field(header, fields)?;
     let (reg, fields) = reg_field(fields)?;
@@ -105,32 +107,36 @@ fn msr_line(header: &Header, fields: Fields) -> Result<Item, Malformed>
     event_item(header, Event::Msr { pe, reg, value }, fields)
 }
 
-fn lock_line(header: &Header, fields: Fields) -> Result<Item, Malformed>
-    ensures { result ≡ lines.line_after header.now first.Lock fields.entry }
+fn lock_line<'a>(header: &Header, fields: Fields<'a>) -> Result<LineItem<'a>, Malformed>
+    ensures { read_in result ≡ lines.line_after header.now first.Lock fields.entry }
 {
     let (pe, fields) = pe_field(header, fields)?;
     let (lock, fields) = lock_field(fields)?;
     event_item(header, Event::Lock { pe, lock }, fields)
 }
 
-fn unlock_line(header: &Header, fields: Fields) -> Result<Item, Malformed>
-    ensures { result ≡ lines.line_after header.now first.Unlock fields.entry }
+fn unlock_line<'a>(header: &Header, fields: Fields<'a>) -> Result<LineItem<'a>, Malformed>
+    ensures { read_in result ≡ lines.line_after header.now first.Unlock fields.entry }
 {
     let (pe, fields) = pe_field(header, fields)?;
     let (lock, fields) = lock_field(fields)?;
     event_item(header, Event::Unlock { pe, lock }, fields)
 }
 
-fn end_line(header: &Header, fields: Fields) -> Result<Item, Malformed>
-    ensures { result ≡ lines.line_after header.now first.End fields.entry }
+fn end_line<'a>(header: &Header, fields: Fields<'a>) -> Result<LineItem<'a>, Malformed>
+    ensures { read_in result ≡ lines.line_after header.now first.End fields.entry }
 {
     let (count, fields) = count_field(fields)?;
-    whole(Item::End(count), fields)
+    whole_item(LineItem::End(count), fields)
 }
 
 /// The item of a line that begins with this word.
-fn line_after(header: &Header, keyword: Keyword, fields: Fields) -> Result<Item, Malformed>
-    ensures { result ≡ lines.line_after header.now keyword fields.entry }
+fn line_after<'a>(
+    header: &Header,
+    keyword: Keyword,
+    fields: Fields<'a>,
+) -> Result<LineItem<'a>, Malformed>
+    ensures { read_in result ≡ lines.line_after header.now keyword fields.entry }
 {
     match keyword {
         Keyword::Init => init_line(header, fields),
@@ -151,11 +157,22 @@ fn line_after(header: &Header, keyword: Keyword, fields: Fields) -> Result<Item,
 
 /// The item that a line spells, or the first cause for which it spells none.
 #[tactic(auto, unfolding(bbm_events::specs::Lines::item_of))]
-fn item_on(header: &Header, line: &[u8]) -> Result<Item, Malformed>
-    ensures { result ≡ item_of header.now line.now }
+fn item_on<'a>(header: &Header, line: &'a [u8]) -> Result<LineItem<'a>, Malformed>
+    ensures { read_in result ≡ item_of header.now line.now }
 {
     let (keyword, fields) = first_keyword(line)?;
     line_after(header, keyword, fields)
+}
+
+/// What `read_event` answers, with the bytes of a label where they stand in the line. Source: project's own choice.
+pub fn read_line<'a>(header: &Header, line: &'a [u8]) -> Result<LineItem<'a>, Malformed>
+    ensures item { read_in result ≡ item_of header.now line.now }
+    ensures fits { IfOk (read_in result) (λ item. item_fits header.now item ≡ true) }
+    ensures causes { IfErr result IsLineCause }
+{
+    law_item_fits();
+    law_item_causes();
+    item_on(header, line)
 }
 
 /// The event or the end that a line after the header says; the bytes are the line's without its
@@ -170,7 +187,8 @@ pub fn read_event(header: &Header, line: &[u8]) -> Result<Item, Malformed>
     ensures fits { IfOk result (λ item. item_fits header.now item ≡ true) }
     ensures causes { IfErr result IsLineCause }
 {
-    law_item_fits();
-    law_item_causes();
-    item_on(header, line)
+    match read_line(header, line) {
+        Ok(said) => Ok(said.kept()),
+        Err(cause) => Err(cause),
+    }
 }

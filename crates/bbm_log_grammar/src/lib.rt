@@ -5,6 +5,7 @@ mod events;
 mod fields;
 mod firsts;
 mod headers;
+pub mod line;
 mod machine;
 mod machine_writing;
 mod numbers;
@@ -18,9 +19,10 @@ pub use bbm_events::{
     Item, MachineLine, Malformed, law_machine_one_line, law_machine_written_is_read, law_one_line,
     law_written_is_read,
 };
-pub use events::read_event;
+pub use events::{read_event, read_line};
 pub use fields::field;
 pub use headers::read_header;
+pub use line::{LabelText, LineItem, kept_label};
 pub use machine::read_machine;
 pub use machine_writing::write_machine;
 pub use numbers::{read_decimal, read_hex};

@@ -2,12 +2,14 @@
 
 ghost use Rattle.std.specs.Prelude.{◌≡◌, ◌∷◌};
 ghost use Rattle.bbm_events.specs.Lines as lines;
+ghost use Rattle.bbm_log_grammar.specs.InLine.{item_in, read_in};
 
 use crate::fields::Fields;
+use crate::line::LineItem;
 use crate::values::{count_of, is_marked, label_of, lock_of, pe_of, root_lock_of, root_page_of};
 use crate::words::{kind_of, op_of, reg_of};
 use bbm_barriers::Dsb;
-use bbm_events::{Event, Header, Item, Label, Malformed, has_op};
+use bbm_events::{Event, Header, Malformed, has_op};
 use bbm_regimes::{Kind, Page, Pe, Place, Reg};
 use bbm_tlbi_scope::TlbiOp;
 
@@ -35,6 +37,7 @@ pub(crate) fn page_field<'a>(fields: Fields<'a>) -> Result<(Page, Fields<'a>), M
 }
 
 /// A place.
+#[inline(always)]
 #[tactic(auto, using(crate::proofs::Passing::passing_fields))]
 pub(crate) fn place_field<'a>(fields: Fields<'a>) -> Result<(Place, Fields<'a>), Malformed>
     ensures { result ≡ lines.place_field fields.entry }
@@ -154,24 +157,43 @@ pub(crate) fn operand_field<'a>(
 }
 
 /// The event with the label that its line's last field is, where no field is left.
-fn labelled(header: &Header, event: Event, text: &[u8], fields: Fields) -> Result<Item, Malformed>
-    ensures { result ≡ lines.event_item header.now event (text.now ∷ fields.entry) }
+fn labelled<'a>(
+    header: &Header,
+    event: Event,
+    text: &'a [u8],
+    fields: Fields<'a>,
+) -> Result<LineItem<'a>, Malformed>
+    ensures { read_in result ≡ lines.event_item header.now event (text.now ∷ fields.entry) }
 {
     if header.version < 3 || !is_marked(text) {
         return Err(Malformed::ExtraField);
     }
     let label = label_of(text).ok_or(Malformed::BadLabel)?;
-    whole(Item::Event(event, Some(label)), fields)
+    whole_item(LineItem::Event(event, Some(label)), fields)
 }
 
 /// The event, and the label where a field is left.
-pub(crate) fn event_item(header: &Header, event: Event, fields: Fields) -> Result<Item, Malformed>
-    ensures { result ≡ lines.event_item header.now event fields.entry }
+pub(crate) fn event_item<'a>(
+    header: &Header,
+    event: Event,
+    fields: Fields<'a>,
+) -> Result<LineItem<'a>, Malformed>
+    ensures { read_in result ≡ lines.event_item header.now event fields.entry }
 {
     match fields.next() {
-        None => Ok(Item::Event(event, None)),
+        None => Ok(LineItem::Event(event, None)),
         Some((text, rest)) => labelled(header, event, text, rest),
     }
+}
+
+/// The item, where no field is left.
+pub(crate) fn whole_item<'a>(item: LineItem<'a>, fields: Fields) -> Result<LineItem<'a>, Malformed>
+    ensures { read_in result ≡ lines.whole (item_in item.entry) fields.entry }
+{
+    if fields.next().is_some() {
+        return Err(Malformed::ExtraField);
+    }
+    Ok(item)
 }
 
 /// The value, where no field is left.

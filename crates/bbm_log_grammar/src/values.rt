@@ -7,8 +7,9 @@ ghost use Rattle.bbm_events.specs.Fits as fits;
 ghost use Rattle.bbm_events.specs.Lines as lines;
 ghost use Rattle.bbm_events.specs.Machine as machine;
 
+use crate::line::LabelText;
 use crate::numbers::{read_decimal, read_hex};
-use bbm_events::{Header, Label, page_count};
+use bbm_events::{Header, page_count};
 use bbm_regimes::{Kind, Page, Pe};
 
 /// Locks have numbers below 1,024.
@@ -128,9 +129,9 @@ pub(crate) fn is_marked(field: &[u8]) -> bool
 
 /// The label behind the mark of the field.
 #[tactic(auto, using(crate::proofs::Marks::unmarked))]
-pub(crate) fn label_of(field: &[u8]) -> Option<Label>
+pub(crate) fn label_of(field: &[u8]) -> Option<LabelText>
     requires { lines.is_marked field.now ≡ true }
     ensures { result ≡ lines.label_value field.now }
 {
-    Label::new(&field[1..])
+    LabelText::of(&field[1..])
 }

@@ -9,6 +9,7 @@ ghost use Rattle.bbm_rules.specs.Answers.{Answers, MayTake};
 ghost use Rattle.bbm_rules.specs.Broken.{Breach};
 ghost use Rattle.bbm_rules.specs.Claims.{Patterns};
 ghost use Rattle.bbm_rules.specs.Outcome.{Progress, is_reached, limit_after, after_event, after_item};
+ghost use Rattle.bbm_log_grammar.specs.InLine.{read_in};
 ghost use Rattle.bbm_session.specs.Fold.{Fold};
 ghost use Rattle.bbm_session.specs.Folds.{Judged, Judges, event_needs, item_needs};
 ghost use Rattle.bbm_session.specs.Stages.{StopsAt, MayJudge, Keeps, JudgesLine, MayTakeLine, TakesLine};
@@ -16,16 +17,16 @@ ghost use Rattle.bbm_session.specs.Stages.{StopsAt, MayJudge, Keeps, JudgesLine,
 use crate::reading::{limit, malformed};
 use crate::stop::{Stop, Turn};
 use crate::taker::Taker;
-use bbm_events::{Event, Header, Item, Label, Malformed};
-use bbm_log_grammar::read_event;
+use bbm_events::{Event, Header, Malformed};
+use bbm_log_grammar::{LabelText, LineItem, kept_label, read_line};
 use bbm_regimes::Which;
 use bbm_rules::{Checker, Limits, StepFault, Verdict};
 use std::alloc::Global;
 
 // Why reading stops at an event with this label that the checker didn't take.
-fn refusal(number: u64, label: Option<Label>, fault: StepFault) -> Stop
+fn refusal(number: u64, label: &Option<LabelText>, fault: StepFault) -> Stop
     ensures stops { (breach : Option Breach) (which : Option WhichOf) → Answers (Err fault) breach which
-        → StopsAt result number label breach which }
+        → StopsAt result number label.now breach which }
     ensures want { result ≡ Stop.NoMemory → fault ≡ StepFault.NoMemory }
 {
     match fault {
@@ -33,7 +34,7 @@ fn refusal(number: u64, label: Option<Label>, fault: StepFault) -> Stop
             line: number,
             rule,
             at,
-            label,
+            label: kept_label(label),
         }),
         StepFault::Limit(which) => limit(number, which),
         StepFault::NoMemory => Stop::NoMemory,
@@ -71,13 +72,13 @@ fn judge_event<C: Checker>(
     number: u64,
     checker: &mut C,
     event: Event,
-    label: Option<Label>,
+    label: &Option<LabelText>,
 ) -> Result<Turn, Stop>
     requires { MayTake (C.stands checker.old) event }
     ensures judges { (heading : Heading) (h : List Event) → Keeps (C.stands checker.old) heading h
         → fits_heading heading event ≡ true
         → JudgesLine (C.stands checker.new) heading h (event_needs (C.frugal checker.old) heading h event ≡ true) result
-        (after_event Patterns limits number heading h event label) }
+        (after_event Patterns limits number heading h event label.now) }
     ensures frugal { C.frugal checker.new ≡ C.frugal checker.old }
     ensures few { result ≡ Ok Turn.Taken → number < 4294967295 }
 {
@@ -96,19 +97,21 @@ fn judge_item<C: Checker>(
     limits: Limits,
     number: u64,
     checker: &mut C,
-    read: Result<Item, Malformed>,
+    read: Result<LineItem, Malformed>,
 ) -> Result<Turn, Stop>
-    requires { MayJudge (C.stands checker.old) read }
+    requires { MayJudge (C.stands checker.old) (read_in read) }
     ensures judges { (heading : Heading) (h : List Event) → Keeps (C.stands checker.old) heading h
-        → IfOk read (λ item. item_fits heading item ≡ true)
-        → JudgesLine (C.stands checker.new) heading h (item_needs (C.frugal checker.old) heading h read ≡ true) result
-        (after_item Patterns limits number heading h read) }
+        → IfOk (read_in read.entry) (λ item. item_fits heading item ≡ true)
+        → JudgesLine (C.stands checker.new) heading h (item_needs (C.frugal checker.old) heading h (read_in read.entry) ≡ true) result
+        (after_item Patterns limits number heading h (read_in read.entry)) }
     ensures frugal { C.frugal checker.new ≡ C.frugal checker.old }
     ensures few { result ≡ Ok Turn.Taken → number < 4294967295 }
 {
     match read {
-        Ok(Item::Event(event, label)) => judge_event(alloc, limits, number, checker, event, label),
-        Ok(Item::End(count)) => {
+        Ok(LineItem::Event(event, label)) => {
+            judge_event(alloc, limits, number, checker, event, &label)
+        }
+        Ok(LineItem::End(count)) => {
             if u64::from(count) == checker.events() {
                 Ok(Turn::End)
             } else {
@@ -135,7 +138,7 @@ fn judge_line<C: Checker>(
         result }
     ensures few { result ≡ Ok Turn.Taken → number < 4294967295 }
 {
-    judge_item(alloc, limits, number, checker, read_event(header, line))
+    judge_item(alloc, limits, number, checker, read_line(header, line))
 }
 
 /// Events that are judged by a checker, under these limits.
