@@ -1,5 +1,5 @@
 -- What roots stand for, with the number of PEs and the world named apart.
-use Rattle.std.proofs.Common.{◌≡◌, ◌<◌, ◌≤◌, ℕ, Bool, true, false, List, [], ◌∷◌, nat_eq, length, sym, subst, IsSome}
+use Rattle.std.proofs.Common.{◌≡◌, ◌<◌, ◌≤◌, ℕ, Bool, true, false, List, [], ◌∷◌, None, nat_eq, length, sym, subst, IsSome}
 use Rattle.indexmap.specs.IndexMap.{get, index_map_len}
 use Rattle.bbm_regimes.specs.declared.regime.Reg.{Reg}
 use Rattle.bbm_regimes.specs.declared.regime.Tag.{Tag}
@@ -9,7 +9,7 @@ use Rattle.bbm_roots.specs.Columns.{loads_in}
 use Rattle.bbm_roots.specs.Holds.{hold_in}
 use Rattle.bbm_roots.specs.Pendings.{pending_in}
 use Rattle.bbm_roots.specs.Registers.{at_start, first_reg, second_reg, register_values, is_of_world, kind_of_reg, names_in}
-use Rattle.bbm_roots.specs.Roots.{root_at, roots_of, is_root, are_apart}
+use Rattle.bbm_roots.specs.Roots.{root_at, roots_of, is_root, are_apart, lock_of}
 use Rattle.bbm_roots.specs.Stands.{Stands, pes_of, world_of}
 use Rattle.bbm_roots.specs.Tags.{holds_at, awaited}
 use Rattle.bbm_roots.specs.declared.roots.Roots.{Roots}
@@ -20,6 +20,7 @@ pub record Made (world : World) (pes : ℕ) (roots : Roots) (cs : List Call) : T
   pub outside : (p : ℕ) (reg : Reg) → pes ≤ p → register_values cs p reg ≡ at_start ∷ []
   pub declared : (page : ℕ) → get nat_eq roots.declared page ≡ root_at cs page
   pub count : index_map_len roots.declared ≡ length (roots_of cs)
+  pub locks : roots.names_locks ≡ false → (page : ℕ) → lock_of cs page ≡ None
   pub holds : (tag : Tag) (root p : ℕ) → hold_in roots.holds tag root p ≡ holds_at world cs tag root p
   pub inside : (tag : Tag) (root p : ℕ) → pes ≤ p → holds_at world cs tag root p ≡ false
   pub pendings : (q : ℕ) (broadcast : Bool) (tag : Tag) (root p : ℕ) → holds_at world cs tag root p ≡ true →
@@ -36,6 +37,7 @@ stands-from roots cs m = record {
   outside = m.outside;
   declared = m.declared;
   count = m.count;
+  locks = m.locks;
   holds = m.holds;
   inside = m.inside;
   pendings = m.pendings;

@@ -2,7 +2,7 @@
 use Rattle.std.proofs.Common.{◌≡◌, ℕ, ◌+◌, Bool, true, false, not, ◌&&◌, ◌||◌, nat_eq, List, [], ◌∷◌, Option, Some, None, find, length, cond, refl, sym, ◌∙◌, ap, subst, IsSome, arith}
 use Rattle.std.specs.List.{list_any}
 use Rattle.std.proofs.lemmas.Bool.{eqb-true, eq-eqb, false≢true}
-use Rattle.bbm_roots.specs.Roots.{retired, is_at, are_apart}
+use Rattle.bbm_roots.specs.Roots.{retired, is_at, are_apart, lock_in}
 use Rattle.bbm_roots.specs.declared.root.Declared.{Declared}
 use Rattle.bbm_roots.proofs.Bits.{or-left, or-right, and_left, and_right}
 
@@ -146,3 +146,20 @@ retired-length page (r ∷ rs) e f =
         length (cond b (retired page rs) (r ∷ retired page rs)) + 1 ≡ length (r ∷ rs)
     by_case true at k h = let same = rest (eqb-true r.page page at) in omega (arith, same)
     by_case false at k h = let less = h k in omega (arith, less)
+
+-- where no root has a lock, none has one with a root less, nor with one more that has none
+pub unlocked-retired : (page : ℕ) (rs : List Declared) → ((q : ℕ) → lock_in (find (is_at q) rs) ≡ None) →
+    (q : ℕ) → lock_in (find (is_at q) (retired page rs)) ≡ None
+unlocked-retired page rs none q = ap lock_in (found-retired page q rs) ∙ by_case (nat_eq page q)
+  where
+    by_case : (b : Bool) → lock_in (cond b None (find (is_at q) rs)) ≡ None
+    by_case true = refl
+    by_case false = none q
+
+pub unlocked-declared : (r : Declared) (rs : List Declared) → r.lock ≡ None → ((q : ℕ) → lock_in (find (is_at q) rs) ≡ None) →
+    (q : ℕ) → lock_in (find (is_at q) (r ∷ retired r.page rs)) ≡ None
+unlocked-declared r rs lock none q = by_case (nat_eq r.page q)
+  where
+    by_case : (b : Bool) → lock_in (cond b (Some r) (find (is_at q) (retired r.page rs))) ≡ None
+    by_case true = lock
+    by_case false = unlocked-retired r.page rs none q

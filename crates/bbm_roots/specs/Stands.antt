@@ -1,5 +1,5 @@
 -- What the roots stand for: a list of accepted calls, point by point.
-use Rattle.std.specs.Prelude.{◌≡◌, ◌<◌, ◌≤◌, ℕ, Bool, true, false, List, [], ◌∷◌, IsSome, nat_eq, length, Option}
+use Rattle.std.specs.Prelude.{◌≡◌, ◌<◌, ◌≤◌, ℕ, Bool, true, false, List, [], ◌∷◌, IsSome, nat_eq, length, Option, None}
 use Rattle.indexmap.specs.IndexMap.{get, index_map_len, spare}
 use Rattle.bbm_regimes.specs.declared.regime.Reg.{Reg}
 use Rattle.bbm_regimes.specs.declared.regime.Tag.{Tag}
@@ -12,7 +12,7 @@ use Rattle.bbm_roots.specs.Holds.{hold_in}
 use Rattle.bbm_roots.specs.Pendings.{has_pending, pending_in}
 use Rattle.bbm_roots.specs.Registers.{at_start, first_reg, second_reg, register_values, is_of_world, kind_of_reg}
 use Rattle.bbm_roots.specs.Registers.{names_in}
-use Rattle.bbm_roots.specs.Roots.{root_at, roots_of, is_root, are_apart}
+use Rattle.bbm_roots.specs.Roots.{root_at, roots_of, is_root, are_apart, lock_of}
 use Rattle.bbm_roots.specs.Tags.{holds_at, awaited}
 use Rattle.bbm_roots.specs.declared.roots.Roots.{Roots}
 
@@ -24,9 +24,10 @@ abbrev pub world_of : Roots → World
 world_of roots = roots.registers.world
 
 -- The roots stand for the calls: they keep what the readable values of each register name, the declared roots, which
--- PEs hold a tag for a root, and, where a tag is held, which unanswered TLBIs are about to take it away. Of the calls
--- it says besides that a page is that of one declared root at most, that readable values name declared roots of their
--- register's kind, and that a root which holds a tag is declared.
+-- PEs hold a tag for a root, and, where a tag is held, which unanswered TLBIs are about to take it away. Where they keep
+-- that no root was declared with a lock, no declared root has one. Of the calls it says besides that a page is that of
+-- one declared root at most, that readable values name declared roots of their register's kind, and that a root which
+-- holds a tag is declared.
 pub record Stands (roots : Roots) (cs : List Call) : Type 0 where
   pub first : (p : ℕ) → p < pes_of roots
       → loads_in roots.registers.first.items p ≡ register_values cs p (first_reg (world_of roots))
@@ -35,6 +36,7 @@ pub record Stands (roots : Roots) (cs : List Call) : Type 0 where
   pub outside : (p : ℕ) (reg : Reg) → pes_of roots ≤ p → register_values cs p reg ≡ at_start ∷ []
   pub declared : (page : ℕ) → get nat_eq roots.declared page ≡ root_at cs page
   pub count : index_map_len roots.declared ≡ length (roots_of cs)
+  pub locks : roots.names_locks ≡ false → (page : ℕ) → lock_of cs page ≡ None
   pub holds : (tag : Tag) (root p : ℕ) → hold_in roots.holds tag root p ≡ holds_at (world_of roots) cs tag root p
   pub inside : (tag : Tag) (root p : ℕ) → pes_of roots ≤ p → holds_at (world_of roots) cs tag root p ≡ false
   pub pendings : (q : ℕ) (broadcast : Bool) (tag : Tag) (root p : ℕ) → holds_at (world_of roots) cs tag root p ≡ true →

@@ -26,6 +26,8 @@ pub struct Roots {
     declared: IndexMap<u64, Declared>,
     holds: Holds,
     pendings: Vec<Pending>,
+    /// Whether any root was declared with a lock, also one that is retired. Where not, no declared root has one.
+    names_locks: bool,
 }
 
 impl Roots {
@@ -60,6 +62,7 @@ impl Roots {
                 declared: IndexMap::new(alloc),
                 holds: IndexMap::new(alloc),
                 pendings: Vec::new(alloc),
+                names_locks: false,
             }),
             Err(_) => Err(RootFault::NoMemory),
         }
@@ -83,7 +86,20 @@ impl Roots {
     }
 
     /// The lock of the declared root with this first page, 0 to 65535; None where it has none or isn't declared.
+    #[inline]
     pub fn lock_of(&self, page: Page) -> Option<u16>
+        ensures { (calls : List Call) → Stands self.now calls → result ≡ spec.lock_of calls page }
+    {
+        if self.names_locks {
+            self.declared_lock(page)
+        } else {
+            None
+        }
+    }
+
+    // The same, looked up among the declared roots.
+    #[inline(never)]
+    fn declared_lock(&self, page: Page) -> Option<u16>
         ensures { (calls : List Call) → Stands self.now calls → result ≡ spec.lock_of calls page }
     {
         match self.declared.get(&page.get()) {
@@ -160,7 +176,10 @@ impl Roots {
             .declared
             .insert(page.get(), Declared { page, kind, lock })
         {
-            Ok(_) => Ok(()),
+            Ok(_) => {
+                self.names_locks |= lock.is_some();
+                Ok(())
+            }
             Err(_) => Err(RootFault::NoMemory),
         }
     }
@@ -242,6 +261,7 @@ impl Roots {
     }
 
     /// A DSB of the PE: it answers TLBIs that the PE issued, which take tags away.
+    #[inline]
     pub fn complete(&mut self, issuer: Pe, dsb: Dsb)
         requires { issuer < pes_of self.old }
         ensures taken { (calls : List Call) → Stands self.old calls
@@ -250,10 +270,13 @@ impl Roots {
         ensures pes { pes_of self.new ≡ pes_of self.old }
         ensures world { world_of self.new ≡ world_of self.old }
     {
-        self.answer(issuer, dsb);
+        if !self.pendings.is_empty() {
+            self.answer(issuer, dsb);
+        }
     }
 
     // Takes the tags away that a DSB of the issuer takes away, and forgets what it answers.
+    #[inline(never)]
     fn answer(&mut self, issuer: Pe, dsb: Dsb)
         ensures holds { (g : TheTag) (r p : ℕ) → hold_in self.new.holds g r p
             ≡ (hold_in self.old.holds g r p && not (answered_in self.old.pendings.items issuer dsb g p)) }
@@ -261,6 +284,7 @@ impl Roots {
             ≡ (pending_in self.old.pendings.items q b g p && not (nat_eq q issuer && dsb_answers dsb b)) }
         ensures registers { self.new.registers ≡ self.old.registers }
         ensures declared { self.new.declared ≡ self.old.declared }
+        ensures names_locks { self.new.names_locks ≡ self.old.names_locks }
     {
         if pending::has_answered(&self.pendings, issuer, dsb) {
             hold::release(&mut self.holds, &self.pendings, issuer, dsb);
@@ -412,6 +436,7 @@ impl Roots {
         ensures pendings { (q : ℕ) (b : Bool) (g : TheTag) (p : ℕ) → pending_in self.new.pendings.items q b g p
             ≡ (pending_in self.old.pendings.items q b g p && not (nat_eq p pe && has_tag g seen.now)) }
         ensures declared { self.new.declared ≡ self.old.declared }
+        ensures names_locks { self.new.names_locks ≡ self.old.names_locks }
         ensures pes { pes_of self.new ≡ pes_of self.old }
         ensures world { world_of self.new ≡ world_of self.old }
     {
@@ -492,6 +517,7 @@ impl Roots {
         ensures registers { self.new.registers ≡ self.old.registers }
         ensures declared { self.new.declared ≡ self.old.declared }
         ensures pendings { self.new.pendings ≡ self.old.pendings }
+        ensures names_locks { self.new.names_locks ≡ self.old.names_locks }
     {
         match hold::make_room(&mut self.holds, seen) {
             Ok(()) => Ok(()),

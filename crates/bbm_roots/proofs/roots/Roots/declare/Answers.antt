@@ -1,4 +1,4 @@
-use Rattle.std.proofs.Common.{◌≡◌, ◌∙◌, ap, sym, refl, nat_eq, ◌+◌, true, cond, ℕ, Option, Some, None, is_some, IsSome, length, subst, arith}
+use Rattle.std.proofs.Common.{◌≡◌, ◌∙◌, ap, sym, refl, nat_eq, ◌+◌, true, cond, ℕ, Option, Some, None, is_some, IsSome, length, subst, arith, rules}
 use Rattle.indexmap.specs.IndexMap.{get, index_map_len}
 use Rattle.bbm_regimes.specs.declared.regime.Tag.{Tag}
 use Rattle.bbm_roots.specs.Calls.{Declare}
@@ -7,7 +7,7 @@ use Rattle.bbm_roots.specs.Roots.{roots_of, root_at, is_root, is_of_kind, retire
 use Rattle.bbm_roots.specs.Stands.{world_of}
 use Rattle.bbm_roots.specs.Tags.{reads, reads_for_some}
 use Rattle.bbm_roots.specs.declared.root.Declared.{Declared}
-use Rattle.bbm_roots.proofs.RootLists.{found-declared, absent-retired, apart-declared, kept-declared}
+use Rattle.bbm_roots.proofs.RootLists.{found-declared, absent-retired, apart-declared, kept-declared, unlocked-declared}
 use Rattle.bbm_roots.proofs.Rooted.{root-there}
 use Rattle.bbm_roots.proofs.Steps.{holds-stay, awaited-stay}
 use Rattle.bbm_roots.proofs.roots.Roots.declare.Goals as goal
@@ -35,6 +35,8 @@ returns-in-Ok-clause-taken c = λ calls stands.
           ∙ ap (λ (o : Option Declared). cond (nat_eq c.args.page q) (Some root) o) (stands.declared q)
           ∙ sym (found-declared root c.args.page q (roots_of calls) refl);
       count = omega (arith, stands.count);
+      locks = λ none.
+          unlocked-declared root (roots_of calls) (search rules) (stands.locks (search rules));
       apart = apart-declared root (roots_of calls) stands.apart;
       named = λ p reg q of_world e.
           let known : is_root calls (kind_of_reg reg) q ≡ true = stands.named p reg q of_world e in

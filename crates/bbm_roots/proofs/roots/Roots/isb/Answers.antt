@@ -30,6 +30,7 @@ returns-clause-taken c = λ calls stands.
           ∙ newest-same (nat_eq p c.args.pe) at_start;
       declared = stands.declared;
       count = stands.count;
+      locks = stands.locks;
       apart = stands.apart;
       named = λ p reg q of_world e.
           stands.named p reg q of_world (names-isb (nat_eq p c.args.pe) (register_values calls p reg) q e);

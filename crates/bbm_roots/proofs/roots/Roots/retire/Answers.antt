@@ -7,7 +7,7 @@ use Rattle.bbm_roots.specs.Roots.{roots_of, root_at, is_of_kind}
 use Rattle.bbm_roots.specs.Stands.{world_of, pes_of}
 use Rattle.bbm_roots.specs.Tags.{reads, reads_for_some}
 use Rattle.bbm_roots.specs.declared.root.Declared.{Declared}
-use Rattle.bbm_roots.proofs.RootLists.{found-retired, kept-retired, apart-retired, retired-length}
+use Rattle.bbm_roots.proofs.RootLists.{found-retired, kept-retired, apart-retired, retired-length, unlocked-retired}
 use Rattle.bbm_roots.proofs.Rooted.{retired-named, retired-holder}
 use Rattle.bbm_roots.proofs.Steps.{holds-stay, awaited-stay}
 use Rattle.bbm_roots.proofs.roots.Roots.retire.Goals as goal
@@ -35,6 +35,7 @@ returns-in-Ok-clause-taken c = λ calls stands.
           ∙ ap (λ (o : Option Declared). cond (nat_eq page q) none o) (stands.declared q)
           ∙ sym (found-retired page q (roots_of calls));
       count = omega (arith, one, stands.count, retired-length page (roots_of calls) stands.apart judged.0);
+      locks = λ none. unlocked-retired page (roots_of calls) (stands.locks none);
       holds = λ g r p. stands.holds g r p ∙ sym (stay g r p);
       inside = λ g r p past. stay g r p ∙ stands.inside g r p past;
       pendings = λ q b g r p held.

@@ -85,6 +85,7 @@ returns-clause-taken c = λ calls stands.
           let d1 = c.take.ensures.declared in let d2 = c.in_ok-make_room.ensures.declared in let s = stands.declared q in cc;
       count =
           let d1 = c.take.ensures.declared in let d2 = c.in_ok-make_room.ensures.declared in let s = stands.count in cc;
+      locks = λ none. stands.locks (sym c.in_ok-make_room.ensures.names_locks ∙ sym c.take.ensures.names_locks ∙ none);
       holds = λ g r p.
           c.take.ensures.holds calm g r p
           ∙ ap (λ (b : Bool). b || (nat_eq p pe && has_reading g r seen)) (c.in_ok-make_room.ensures.holds g r p ∙ stands.holds g r p)
