@@ -1,16 +1,16 @@
 -- The entries of the tags that are held, found by the key of a tag or one after another.
 use Rattle.std.proofs.Common.{◌≡◌, ℕ, Bool, true, false, ◌&&◌, ◌||◌, not, nat_eq, List, [], ◌∷◌, Option, Some, None, cond, refl, sym, ◌∙◌, ap}
-use Rattle.std.specs.List.{list_any}
-use Rattle.std.specs.Map.{lookup, values_of}
+use Rattle.std.specs.List.{list_any, AllByRecursion, IsDistinct}
+use Rattle.std.specs.Map.{lookup, keys_of, values_of}
 use Rattle.std.proofs.lemmas.Bool.{false≢true, eqb-true, eq-eqb}
 use Rattle.indexmap.specs.IndexMap.{IndexMap, values}
 use Rattle.bbm_regimes.specs.PeMask.{pe_in}
 use Rattle.bbm_regimes.specs.declared.regime.Tag.{Tag}
-use Rattle.bbm_roots.specs.Holds.{is_hold, entry_bit, entry_held, is_held_by, has_hold, hold_in, tag_in, tag_key}
+use Rattle.bbm_roots.specs.Holds.{is_hold, entry_bit, entry_held, is_held_by, is_held_under, has_hold, hold_in, tag_in, tag_key}
 use Rattle.bbm_roots.specs.Readings.{same_tag, has_other, is_reading, is_other}
 use Rattle.bbm_roots.specs.declared.hold.Held.{Held}
 use Rattle.bbm_roots.specs.declared.reading.Reading.{Reading}
-use Rattle.bbm_roots.proofs.Bits.{and_left, and_right, and-false, or-false, same_tag-true}
+use Rattle.bbm_roots.proofs.Bits.{and_left, and_right, or-false, same_tag-true}
 use Rattle.bbm_roots.proofs.Leasts.{or-true, true-or}
 
 -- what an entry that a key finds passes, one of the entries does
@@ -30,26 +30,36 @@ held-among hs g r p =
     found-among (entry_bit g r p) (is_hold g r) refl (λ (x : Held) e. and_left (is_hold g r x) (pe_in x.pes p) e)
     (nat_eq (tag_key g)) hs.entries
 
-module _ {S : Type 0} (hs : IndexMap ℕ Held S) (n root : ℕ) where
-  -- whether an entry shows that the root holds the tag, which the map says too
-  abbrev pub shows : Tag → Held → Bool
-  shows g held = tag_in hs n g root && is_held_by n g root held
+module _ (n root : ℕ) where
+  -- whether an entry with its key shows that the root holds the tag
+  abbrev pub shows : Tag → ℕ × Held → Bool
+  shows g e = is_held_under n g root e.0 e.1
 
-  pub shown : (g : Tag) → list_any (shows g) (values hs) ≡ tag_in hs n g root
-  shown g = pull (tag_in hs n g root) (values hs) ∙ by_held (tag_in hs n g root) refl
+  none-shows : (g : Tag) (key : ℕ) (es : List (ℕ × Held)) → tag_key g ≡ key → AllByRecursion (λ q. nat_eq key q ≡ false) (keys_of es) →
+      list_any (shows g) es ≡ false
+  none-shows g key [] same apart = refl
+  none-shows g key (e ∷ es) same apart =
+      ap (λ (b : Bool). (b && is_held_by n g root e.1) || list_any (shows g) es) (ap (λ (q : ℕ). nat_eq q e.0) same ∙ apart.0)
+      ∙ none-shows g key es same apart.1
+
+  -- where no key is twice there, an entry shows what the one that is found under the tag's key says
+  shown-among : (g : Tag) (es : List (ℕ × Held)) → IsDistinct nat_eq (keys_of es) →
+      list_any (shows g) es ≡ entry_held n g root (lookup (nat_eq (tag_key g)) es)
+  unfolding IsDistinct
+  shown-among g [] distinct = refl
+  shown-among g (e ∷ es) distinct = by_key (nat_eq (tag_key g) e.0) refl (shown-among g es distinct.1)
     where
-      pull : (b : Bool) (xs : List Held) → list_any (λ x. b && is_held_by n g root x) xs ≡ (b && list_any (is_held_by n g root) xs)
-      pull b [] = sym (and-false b)
-      pull true (x ∷ xs) = ap (λ (t : Bool). is_held_by n g root x || t) (pull true xs)
-      pull false (x ∷ xs) = pull false xs
+      by_key : (b : Bool) → nat_eq (tag_key g) e.0 ≡ b → list_any (shows g) es ≡ entry_held n g root (lookup (nat_eq (tag_key g)) es) →
+          ((b && is_held_by n g root e.1) || list_any (shows g) es)
+          ≡ entry_held n g root (cond b (Some e.1) (lookup (nat_eq (tag_key g)) es))
+      by_key false at rest = rest
+      by_key true at rest =
+          ap (λ (t : Bool). is_held_by n g root e.1 || t) (none-shows g e.0 es (eqb-true (tag_key g) e.0 at) distinct.0)
+          ∙ or-false (is_held_by n g root e.1)
 
-      by_held : (b : Bool) → tag_in hs n g root ≡ b →
-          (tag_in hs n g root && list_any (is_held_by n g root) (values hs)) ≡ tag_in hs n g root
-      by_held false e = ap (λ (t : Bool). t && list_any (is_held_by n g root) (values hs)) e ∙ sym e
-      by_held true e =
-          ap (λ (t : Bool). t && list_any (is_held_by n g root) (values hs)) e
-          ∙ found-among (entry_held n g root) (is_held_by n g root) refl (λ (x : Held) k. k) (nat_eq (tag_key g)) hs.entries e
-          ∙ sym e
+  pub shown : {S : Type 0} (hs : IndexMap ℕ Held S) → IsDistinct nat_eq (keys_of hs.entries) → (g : Tag) →
+      list_any (shows g) hs.entries ≡ tag_in hs n g root
+  shown hs distinct g = shown-among g hs.entries distinct
 
 -- one more reading, whose PE is put into its tag's entry for its root alone
 pub marked-step : (same here held pe seen : Bool) → (same ≡ true → here ≡ false → held ≡ false) →

@@ -43,6 +43,10 @@ some_pe (suc n) test = test n || some_pe n test
 abbrev pub is_held_by : ℕ → Tag → ℕ → Held → Bool
 is_held_by n tag root held = is_hold tag root held && some_pe n (pe_in held.pes)
 
+-- the same of the entry under a key, where that is the key of the tag
+abbrev pub is_held_under : ℕ → Tag → ℕ → ℕ → Held → Bool
+is_held_under n tag root key held = tag_key tag == key && is_held_by n tag root held
+
 abbrev pub entry_held : ℕ → Tag → ℕ → Option Held → Bool
 entry_held n tag root None = false
 entry_held n tag root (Some held) = is_held_by n tag root held

@@ -73,8 +73,8 @@ pub fn is_of_world(world: World, reg: Reg) -> bool
     }
 }
 
-/// Whether the root is there and is this page.
-pub fn is_that(root: Option<Page>, page: Page) -> bool
+// Whether the root is there and is this page.
+fn is_that(root: Option<Page>, page: Page) -> bool
     ensures { result ≡ spec.is_that root page }
 {
     match root {

@@ -8,8 +8,7 @@ ghost use Rattle.bbm_roots.specs.Readings.{is_other, is_reading, has_other as sp
 ghost use Rattle.bbm_roots.specs.Registers.{is_that};
 ghost use Rattle.bbm_roots.specs.Least.{IsLeast, ReadingUpTo, TagUpTo};
 
-use crate::hold::{Held, Holds, entries, some_pe, tag_key};
-use crate::load;
+use crate::hold::{Held, Holds, some_pe, tag_key};
 use crate::reading::{Reading, has_other, same_tag, tag_rank};
 use bbm_regimes::{Page, Tag};
 use bbm_tlbi_scope::TagSet;
@@ -121,25 +120,25 @@ pub fn least_conflict(holds: &Holds, n: u8, seen: &[Reading]) -> Option<Reading>
     least
 }
 
-// Whether the root holds the entry's tag at one of the first n PEs, by this entry and by the map.
-fn is_held_by(holds: &Holds, held: &Held, n: u8, root: Page) -> bool
+// Whether the root holds the tag of the entry under this key at one of the first n PEs. Under the key of another tag it
+// says nothing.
+fn is_held_under(key: u32, held: &Held, n: u8, root: Page) -> bool
     requires some { 1 ≤ n }
     requires within { n ≤ 128 }
-    ensures held { (g : TheTag) → (spec.tag_in holds.now n g root && spec.is_held_by n g root held.now)
-        ≡ (spec.is_hold g root held.now && result) }
+    ensures held { (g : TheTag) → spec.is_held_under n g root key held.now ≡ (spec.is_hold g root held.now && result) }
     ensures root { result ≡ true → held.now.root ≡ root }
 {
-    held.root == root && some_pe(held.pes, n) && load::is_that(holder_of(holds, n, held.tag), root)
+    held.root == root && some_pe(held.pes, n) && tag_key(held.tag) == key
 }
 
-// The first tag, where the entry's is one more candidate.
-fn first_of(first: Option<Tag>, holds: &Holds, held: &Held, n: u8, root: Page) -> Option<Tag>
+// The first tag, where that of the entry under this key is one more candidate.
+fn first_of(first: Option<Tag>, key: u32, held: &Held, n: u8, root: Page) -> Option<Tag>
     requires some { 1 ≤ n }
     requires within { n ≤ 128 }
     ensures { (test : TheTag → Bool) → IsLeast TagUpTo test first
-        → IsLeast TagUpTo (λ g. test g || (spec.tag_in holds.now n g root && spec.is_held_by n g root held.now)) result }
+        → IsLeast TagUpTo (λ g. test g || spec.is_held_under n g root key held.now) result }
 {
-    if !is_held_by(holds, held, n, root) {
+    if !is_held_under(key, held, n, root) {
         return first;
     }
     match first {
@@ -162,8 +161,10 @@ pub fn first_tag(holds: &Holds, n: u8, root: Page) -> Option<Tag>
     ensures { IsLeast TagUpTo (λ g. spec.tag_in holds.now n g root) result }
 {
     let mut first = None;
-    for held in entries(holds) {
-        first = first_of(first, holds, held, n, root);
+    for index in 0..holds.len() {
+        if let Some((key, held)) = holds.get_index(index) {
+            first = first_of(first, *key, held, n, root);
+        }
     }
     first
 }
@@ -186,14 +187,14 @@ fn with_tag(set: TagSet, tag: Tag) -> TagSet
     }
 }
 
-// The set, with the entry's tag where the root holds it at one of the first n PEs.
-fn with_entry(set: TagSet, holds: &Holds, held: &Held, n: u8, root: Page) -> TagSet
+// The set, with the tag of the entry under this key where the root holds it at one of the first n PEs.
+fn with_entry(set: TagSet, key: u32, held: &Held, n: u8, root: Page) -> TagSet
     requires some { 1 ≤ n }
     requires within { n ≤ 128 }
     ensures { (test : TheTag → Bool) → spec.HasTags test set
-        → spec.HasTags (λ g. test g || (spec.tag_in holds.now n g root && spec.is_held_by n g root held.now)) result }
+        → spec.HasTags (λ g. test g || spec.is_held_under n g root key held.now) result }
 {
-    if is_held_by(holds, held, n, root) {
+    if is_held_under(key, held, n, root) {
         with_tag(set, held.tag)
     } else {
         set
@@ -207,8 +208,10 @@ pub fn tags_in(holds: &Holds, n: u8, root: Page) -> TagSet
     ensures { spec.HasTags (λ g. spec.tag_in holds.now n g root) result }
 {
     let mut tags = TagSet::None;
-    for held in entries(holds) {
-        tags = with_entry(tags, holds, held, n, root);
+    for index in 0..holds.len() {
+        if let Some((key, held)) = holds.get_index(index) {
+            tags = with_entry(tags, *key, held, n, root);
+        }
     }
     tags
 }

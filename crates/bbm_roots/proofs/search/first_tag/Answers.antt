@@ -1,29 +1,40 @@
-use Rattle.std.proofs.Common.{◌≡◌, ◌+◌, ◌∙◌, take, arith, ap, sym, ◌||◌}
-use Rattle.std.specs.List.{list_any}
+use Rattle.std.proofs.Common.{◌≡◌, ◌+◌, ◌∙◌, ℕ, Option, Some, take, arith, ap, subst, sym, ◌||◌}
+use Rattle.std.specs.List.{list_any, slice_get}
+use Rattle.std.proofs.lemmas.Bool.{false≢true}
 use Rattle.std.proofs.lemmas.List.{take_all}
-use Rattle.indexmap.specs.IndexMap.{values}
+use Rattle.std.proofs.lemmas.Option.{get_or_from_slice_get}
+use Rattle.bbm_regimes.specs.declared.regime.Tag.{Tag}
 use Rattle.bbm_roots.specs.Holds.{tag_in}
-use Rattle.bbm_roots.specs.Least.{TagUpTo}
+use Rattle.bbm_roots.specs.Least.{IsLeast, TagUpTo}
+use Rattle.bbm_roots.specs.declared.hold.Held.{Held}
 use Rattle.bbm_roots.proofs.Entries.{shows, shown}
 use Rattle.bbm_roots.proofs.Leasts.{least-same}
 use Rattle.bbm_roots.proofs.Lists.{any-next}
 use Rattle.bbm_roots.proofs.search.first_tag.Goals as goal
+use Rattle.bbm_roots.proofs.search.first_tag.Goals.{in-Some, in_default}
 
-pub loop-held-preserved : goal.loop-held-preserved
-loop-held-preserved c =
-    let show = shows c.args.holds.now c.args.n c.args.root in
-    let all = c.entries-held-items.result.now in
-    let i = c.loop-held.held-index in
-    least-same TagUpTo (λ g. list_any (show g) (take i all) || show g c.held-item.result) (λ g. list_any (show g) (take (i + 1) all))
-    (λ g. any-next (show g) all i c.held-item.result (omega arith) c.held-item.is)
-    c.first_of-first.result
-    (c.first_of-first.ensures (λ g. list_any (show g) (take i all)) c.loop-held.invariant)
+pub loop-index-preserved : goal.loop-index-preserved
+loop-index-preserved c =
+    let show = shows c.args.n c.args.root in
+    let all = c.args.holds.now.entries in
+    let i = c.loop-index.index in
+    elim c.match-get_index.branch [
+      | in-Some w ↦
+          let e : ℕ × Held = (w.in-Some.key.now, w.in-Some.held.now) in
+          let found : slice_get all i ≡ Some e = sym w.in-Some.ensures.entry in
+          subst (λ (t : Option Tag). IsLeast TagUpTo (λ g. list_any (show g) (take (i + 1) all)) t) (sym w.first-is)
+          (least-same TagUpTo (λ g. list_any (show g) (take i all) || show g e) (λ g. list_any (show g) (take (i + 1) all))
+          (λ g. any-next (show g) all i e (omega arith) (sym (get_or_from_slice_get all i e e found)))
+          w.first_of-first.result
+          (w.first_of-first.ensures (λ g. list_any (show g) (take i all)) c.loop-index.invariant))
+      | in_default w ↦ absurd (false≢true (w.in_default.ensures.found.1 (omega arith)))
+    ]
 
 pub returns : goal.returns
 returns c =
-    let show = shows c.args.holds.now c.args.n c.args.root in
-    let all = c.entries-held-items.result.now in
-    let i = c.loop-held.held-index in
-    let whole : take i all ≡ values c.args.holds.now = take_all i all (omega arith) ∙ c.entries-held-items.ensures in
+    let show = shows c.args.n c.args.root in
+    let all = c.args.holds.now.entries in
+    let i = c.loop-index.index in
     least-same TagUpTo (λ g. list_any (show g) (take i all)) (λ g. tag_in c.args.holds.now c.args.n g c.args.root)
-    (λ g. sym (shown c.args.holds.now c.args.n c.args.root g) ∙ ap (list_any (show g)) (sym whole)) c.loop-held.first c.loop-held.invariant
+    (λ g. sym (shown c.args.n c.args.root c.args.holds.now c.len-index-end.ensures.unique g) ∙ ap (list_any (show g)) (sym (take_all i all (omega arith))))
+    c.loop-index.first c.loop-index.invariant

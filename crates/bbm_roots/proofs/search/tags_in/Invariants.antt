@@ -4,6 +4,6 @@ use Rattle.bbm_roots.specs.Holds.{HasTags}
 use Rattle.bbm_roots.proofs.Entries.{shows}
 use Rattle.bbm_roots.proofs.search.tags_in.Given as goal
 
-abbrev pub invariant-loop-held : goal.invariant-loop-held
-invariant-loop-held l =
-    HasTags (λ g. list_any (shows l.holds l.n l.root g) (take l.held-index l.held-items)) l.tags
+abbrev pub invariant-loop-index : goal.invariant-loop-index
+invariant-loop-index l =
+    HasTags (λ g. list_any (shows l.n l.root g) (take l.index l.holds.entries)) l.tags
