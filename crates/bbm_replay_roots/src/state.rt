@@ -133,6 +133,7 @@ impl RootState {
     }
 
     /// The lock that the root with this first page names, 0 to 65535; None where it names none or isn't declared.
+    #[inline]
     pub fn lock_of(&self, page: Page) -> Option<u16>
         ensures { (heading : Heading) (h : List TheEvent) → Stands self.now heading h → result ≡ spec.lock_of h page }
     {
@@ -159,6 +160,7 @@ impl RootState {
 
     /// Whether the root with this first page names a lock that the PE doesn't hold: None where not, else the number
     /// `at`. Rule 2, no-lock, asks it of an `unroot` of the page, and of a write of a place in the root's tree.
+    #[inline]
     pub fn without_lock(&self, pe: Pe, root: Page, at: u64) -> Option<u64>
         ensures { (heading : Heading) (h : List TheEvent) → Stands self.now heading h
             → result ≡ option_and_then (λ lock. if_so (rules.lacks h pe lock) at) (spec.lock_of h root) }
@@ -385,6 +387,7 @@ impl RootState {
     }
 
     /// A DSB of the PE. It takes no memory.
+    #[inline]
     pub fn complete(&mut self, pe: Pe, dsb: Dsb)
         requires { MayAsk (Stands self.old) pe }
         ensures taken { (heading : Heading) (h : List TheEvent) → Stands self.old heading h
