@@ -3,6 +3,7 @@
 ghost use Rattle.std.specs.Prelude.{◌≡◌, ℕ, Bool, ◌&&◌, ◌||◌, not, nat_eq, nat_lt, true, false, Option, OnOk, IfSome};
 ghost use Rattle.bbm_regimes.specs.PeMask.{pe_in};
 ghost use Rattle.bbm_regimes.specs.declared.regime.Tag.{Tag as TheTag};
+ghost use Rattle.bbm_tlbi_scope.specs.Operations.{has_page};
 ghost use Rattle.bbm_tlbi_scope.specs.Tags.{takes_whole_tag};
 ghost use Rattle.bbm_roots.specs.Columns.{loads_in};
 ghost use Rattle.bbm_roots.specs.Holds.{hold_in};
@@ -22,10 +23,11 @@ fn takes(scope: &Scope, vmid: Option<u16>, tag: Tag) -> bool
     whole_tag(*scope, vmid, tag)
 }
 
-/// Whether TLBIs of the scope's family take whole tags. Where they don't, this one takes none. Source: Arm ARM (DDI
+/// Whether TLBIs of the scope's family take whole tags: those that name no pages. Where they don't, this one takes none. Source: Arm ARM (DDI
 /// 0487), "TLB maintenance instructions".
 pub fn takes_tags(scope: &Scope) -> bool
-    ensures { result ≡ false → (vmid : Option ℕ) (tag : TheTag) → takes_whole_tag scope.now vmid tag ≡ false }
+    ensures family { result ≡ not (has_page scope.now.family) }
+    ensures none { result ≡ false → (vmid : Option ℕ) (tag : TheTag) → takes_whole_tag scope.now vmid tag ≡ false }
 {
     matches!(
         scope.family,

@@ -83,7 +83,7 @@ returns-then-not-takes_tags-clause-taken c = λ calls stands.
           stands.pendings q b g r p (sym (stay g r p) ∙ held)
           ∙ sym (awaited-stay world call calls q b g p (λ (e : reads_for_some world calls p g ≡ true). e)
           (ap (λ (t : Bool). (nat_eq q c.args.issuer && same_flag c.args.scope.now.broadcast b && t) && reaches c.args.scope.now c.args.issuer p)
-          (c.takes_tags.ensures c.if-not-takes_tags.true c.args.vmid g)
+          (c.takes_tags.ensures.none c.if-not-takes_tags.true c.args.vmid g)
           ∙ ap (λ (t : Bool). t && reaches c.args.scope.now c.args.issuer p) (and-false (nat_eq q c.args.issuer && same_flag c.args.scope.now.broadcast b)))
           refl);
     }
