@@ -113,10 +113,10 @@ impl PlaceMap {
     }
 
     /// The state of a seat's place, as `state_by` says it.
-    pub fn state_at_seat(&self, seat: Seat, kind: Kind, level: u8) -> EntryState
-        requires seat { IsSeat self.now seat }
+    pub fn state_at_seat(&self, seat: &Seat, kind: Kind, level: u8) -> EntryState
+        requires seat { IsSeat self.now seat.now }
         requires level { level ≤ 3 }
-        ensures { result ≡ state_at self.now (core_of kind level (value_at self.now seat.place)) seat.place }
+        ensures { result ≡ state_at self.now (core_of kind level (value_at self.now seat.now.place)) seat.now.place }
     {
         let live = core(kind, level, self.cells[seat.index].value);
         read::state(&self.cells, &self.broken, seat.index, live)
@@ -129,7 +129,7 @@ impl PlaceMap {
         ensures { result ≡ state_at self.now (core_of kind level (value_at self.now place)) place }
     {
         match self.seat(place) {
-            Some(seat) => self.state_at_seat(seat, kind, level),
+            Some(seat) => self.state_at_seat(&seat, kind, level),
             None => read::whole(core(kind, level, 0)),
         }
     }
@@ -169,14 +169,14 @@ impl PlaceMap {
     }
 
     /// Writes a value at a seat's place, and the state that the write leaves, as `set`. Nothing else changes.
-    pub fn set_at(&mut self, seat: Seat, value: u64, state: EntryState)
-        requires { IsSeat self.old seat }
-        ensures values { (a : ℕ) → value_at self.new a ≡ (if nat_eq a seat.place then value else value_at self.old a) }
+    pub fn set_at(&mut self, seat: &Seat, value: u64, state: EntryState)
+        requires { IsSeat self.old seat.now }
+        ensures values { (a : ℕ) → value_at self.new a ≡ (if nat_eq a seat.now.place then value else value_at self.old a) }
         ensures marks { (a : ℕ) → marks_at self.new a
-            ≡ (if nat_eq a seat.place then marks_of_state state else marks_at self.old a) }
-        ensures pends { (q a : ℕ) → (nat_eq a seat.place && not (is_broken state)) ≡ false
+            ≡ (if nat_eq a seat.now.place then marks_of_state state else marks_at self.old a) }
+        ensures pends { (q a : ℕ) → (nat_eq a seat.now.place && not (is_broken state)) ≡ false
             → pends_at self.new q a ≡ pends_at self.old q a }
-        ensures dropped { (q : ℕ) → is_broken state ≡ false → IsIdle (pends_at self.new q seat.place) }
+        ensures dropped { (q : ℕ) → is_broken state ≡ false → IsIdle (pends_at self.new q seat.now.place) }
         ensures pages { (page : ℕ) → is_tracked self.new page ≡ is_tracked self.old page }
     {
         let j = seat.index;
@@ -206,7 +206,7 @@ impl PlaceMap {
         ensures pages { (page : ℕ) → is_tracked self.new page ≡ is_tracked self.old page }
     {
         let seat = self.seat(place).unwrap();
-        self.set_at(seat, value, state);
+        self.set_at(&seat, value, state);
     }
 
     /// No place of the page is broken any more, and nothing waits there. Nothing else changes.

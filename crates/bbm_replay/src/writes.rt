@@ -5,7 +5,7 @@ ghost use Rattle.std.specs.Option.{option_map, option_map_or};
 ghost use Rattle.bbm_tree_index.specs.Held.{limbo_at};
 ghost use Rattle.bbm_descriptor.specs.Descriptor as spec;
 ghost use Rattle.bbm_entry_state.specs.Points as points;
-ghost use Rattle.bbm_place_map.specs.Map.{marks_at};
+ghost use Rattle.bbm_place_map.specs.Map.{IsSeat, marks_at};
 ghost use Rattle.bbm_replay.specs.Leaves as leaves;
 ghost use Rattle.bbm_replay.specs.Standing.{Stands, view_of};
 ghost use Rattle.bbm_events.specs.Heading.{Heading};
@@ -26,7 +26,7 @@ use crate::laws::{laws, rules};
 use crate::parts::Parts;
 use bbm_descriptor::{Core, Memory, core};
 use bbm_entry_state::EntryState;
-use bbm_place_map::PlaceMap;
+use bbm_place_map::{PlaceMap, Seat};
 use bbm_regimes::{Kind, Page, Pe, Place};
 use bbm_replay_roots::law_others;
 use bbm_rules::{Rule, StepFault};
@@ -191,31 +191,32 @@ impl Parts {
     fn write_plain(
         &mut self,
         pe: Pe,
-        place: Place,
+        seat: &Seat,
         value: u64,
         path: &Path,
         state: EntryState,
         new: Option<Core>,
     ) -> Result<(), StepFault>
-        requires may { MayMeet self.old (Write pe place value) }
-        requires at { IsAt self.old place path.now }
-        requires state { state ≡ state_of (view_of self.old.map self.old.index) path.now.kind path.now.level place }
+        requires may { MayMeet self.old (Write pe seat.now.place value) }
+        requires seat { IsSeat self.old.map seat.now }
+        requires at { IsAt self.old seat.now.place path.now }
+        requires state { state ≡ state_of (view_of self.old.map self.old.index) path.now.kind path.now.level seat.now.place }
         requires new { new ≡ spec.core_of path.now.kind path.now.level value }
-        requires clear { Clears self.old (Write pe place value) (Ok tt) }
+        requires clear { Clears self.old (Write pe seat.now.place value) (Ok tt) }
         requires plain { leaves.attached_next (points.core_in state) new ≡ None }
-        ensures { Meets self.old self.new (Write pe place value) result }
+        ensures { Meets self.old self.new (Write pe seat.now.place value) result }
     {
         laws();
         rules();
         law_others();
         if is_contiguous(&new) {
-            return Err(StepFault::Broken(Rule::BadKind, place.get()));
+            return Err(StepFault::Broken(Rule::BadKind, seat.place.get()));
         }
         if is_user_global(path.kind, &new) {
-            return Err(StepFault::Broken(Rule::GlobalUser, place.get()));
+            return Err(StepFault::Broken(Rule::GlobalUser, seat.place.get()));
         }
         let written = state.write(pe, new);
-        self.map.set(place, value, written);
+        self.map.set_at(seat, value, written);
         self.map.law_idle();
         Ok(())
     }
@@ -225,30 +226,32 @@ impl Parts {
         &mut self,
         alloc: Global,
         pe: Pe,
-        place: Place,
+        seat: &Seat,
         value: u64,
         path: &Path,
         state: EntryState,
         new: Option<Core>,
         next: Page,
     ) -> Result<(), StepFault>
-        requires may { MayMeet self.old (Write pe place value) }
-        requires at { IsAt self.old place path.now }
-        requires state { state ≡ state_of (view_of self.old.map self.old.index) path.now.kind path.now.level place }
+        requires may { MayMeet self.old (Write pe seat.now.place value) }
+        requires seat { IsSeat self.old.map seat.now }
+        requires at { IsAt self.old seat.now.place path.now }
+        requires state { state ≡ state_of (view_of self.old.map self.old.index) path.now.kind path.now.level seat.now.place }
         requires new { new ≡ spec.core_of path.now.kind path.now.level value }
-        requires clear { Clears self.old (Write pe place value) (Ok tt) }
+        requires clear { Clears self.old (Write pe seat.now.place value) (Ok tt) }
         requires attaches { leaves.attached_next (points.core_in state) new ≡ Some next }
-        ensures { Meets self.old self.new (Write pe place value) result }
+        ensures { Meets self.old self.new (Write pe seat.now.place value) result }
     {
         laws();
         rules();
         law_others();
+        let place = seat.place;
         match self
             .index
             .attach(alloc, &self.map, Attach::Below { place, next })
         {
             Ok(()) => {
-                self.map.set(place, value, state.write(pe, new));
+                self.map.set_at(seat, value, state.write(pe, new));
                 self.map.law_idle();
                 Ok(())
             }
@@ -256,29 +259,30 @@ impl Parts {
         }
     }
 
-    // A write at a place of a tree.
+    // A write at a place of a tree, which is kept at this seat.
     fn write_inside(
         &mut self,
         alloc: Global,
         pe: Pe,
-        place: Place,
+        seat: &Seat,
         value: u64,
         path: Path,
     ) -> Result<(), StepFault>
-        requires may { MayMeet self.old (Write pe place value) }
-        requires at { IsAt self.old place path }
-        ensures { Meets self.old self.new (Write pe place value) result }
+        requires may { MayMeet self.old (Write pe seat.now.place value) }
+        requires seat { IsSeat self.old.map seat.now }
+        requires at { IsAt self.old seat.now.place path }
+        ensures { Meets self.old self.new (Write pe seat.now.place value) result }
     {
         laws();
-        let state = self.state_at(place, &path);
+        let state = self.map.state_at_seat(seat, path.kind, path.level);
         let old = core_of_state(&state);
         let new = core(path.kind, path.level, value);
-        match self.judge_entry(pe, place, value, &path, &old, &new) {
+        match self.judge_entry(pe, seat.place, value, &path, &old, &new) {
             Ok(()) => match attached_next(&old, &new) {
                 Some(next) => {
-                    self.write_attaching(alloc, pe, place, value, &path, state, new, next)
+                    self.write_attaching(alloc, pe, seat, value, &path, state, new, next)
                 }
-                None => self.write_plain(pe, place, value, &path, state, new),
+                None => self.write_plain(pe, seat, value, &path, state, new),
             },
             Err(fault) => Err(fault),
         }
@@ -296,7 +300,10 @@ impl Parts {
         ensures { Meets self.old self.new (Write pe place value) result }
     {
         match self.index.path(place) {
-            Some(path) => self.write_inside(alloc, pe, place, value, path),
+            Some(path) => {
+                let seat = self.map.seat(place).unwrap();
+                self.write_inside(alloc, pe, &seat, value, path)
+            }
             None => self.write_outside(pe, place, value),
         }
     }

@@ -22,9 +22,9 @@ invariant_of-self c = record {
   few = omega arith;
   listed =
       listed_set c.args.self.now.work c.note_state.new.work c.args.self.now.cells.items c.put.new.cells.items c.args.self.now.broken.items c.put.new.broken.items
-      c.args.seat.index c.args.state c.marks-before.result c.note_state.ensures.pes
-      (c.marks-before.ensures ∙ ap (λ (xs : List Cell). marks_in xs c.deref-2.result.now c.args.seat.index) c.deref.ensures.value
-      ∙ ap (λ (xs : List Entry). marks_in c.args.self.now.cells.items xs c.args.seat.index) c.deref-2.ensures.value)
+      c.args.seat.now.index c.args.state c.marks-before.result c.note_state.ensures.pes
+      (c.marks-before.ensures ∙ ap (λ (xs : List Cell). marks_in xs c.deref-2.result.now c.args.seat.now.index) c.deref.ensures.value
+      ∙ ap (λ (xs : List Entry). marks_in c.args.self.now.cells.items xs c.args.seat.now.index) c.deref-2.ensures.value)
       c.note_state.ensures.told c.note_state.ensures.kept c.note_state.ensures.waiting c.note_state.ensures.settled c.note_state.ensures.unclean
       c.put.ensures.marks c.put.ensures.pends c.args.self.now.listed;
 }
@@ -34,8 +34,8 @@ unfolding pends_at IsSeat
 returns-clause-dropped c = λ q whole.
     idle_from _
     (ap (at_index no_pends (pends_for c.put.new.cells.items c.put.new.broken.items q)) c.requires
-    ∙ c.put.ensures.pends q c.args.seat.index
-    ∙ cond-true (nat_eq c.args.seat.index c.args.seat.index && not (is_broken c.args.state)) no_pends
-    (pends_for c.args.self.now.cells.items c.args.self.now.broken.items q c.args.seat.index)
-    (and_from (nat_eq c.args.seat.index c.args.seat.index) (not (is_broken c.args.state)) (eq-eqb c.args.seat.index c.args.seat.index refl)
+    ∙ c.put.ensures.pends q c.args.seat.now.index
+    ∙ cond-true (nat_eq c.args.seat.now.index c.args.seat.now.index && not (is_broken c.args.state)) no_pends
+    (pends_for c.args.self.now.cells.items c.args.self.now.broken.items q c.args.seat.now.index)
+    (and_from (nat_eq c.args.seat.now.index c.args.seat.now.index) (not (is_broken c.args.state)) (eq-eqb c.args.seat.now.index c.args.seat.now.index refl)
     (not_from_false (is_broken c.args.state) whole)))

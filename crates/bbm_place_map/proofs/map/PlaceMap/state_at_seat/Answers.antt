@@ -18,8 +18,8 @@ unfolding value_at marks_at IsSeat
 returns c =
     let cells = c.args.self.now.cells.items in
     let broken = c.args.self.now.broken.items in
-    let j = c.args.seat.index in
-    let within = index_inside (get nat_eq c.args.self.now.pages) _ c.args.self.now.numbered c.args.seat.place j c.requires.seat in
+    let j = c.args.seat.now.index in
+    let within = index_inside (get nat_eq c.args.self.now.pages) _ c.args.self.now.numbered c.args.seat.now.place j c.requires.seat in
     let P : Option ℕ → Type 0 = λ o. c.state.result
     ≡ state_from (core_of c.args.kind c.args.level (at_index 0 (value_in cells) o)) (at_index None (marks_in cells broken) o) in
     subst P (sym c.requires.seat)

@@ -15,10 +15,10 @@ use Rattle.bbm_replay.proofs.parts.Parts.write_attaching.Goals as goal
 pub returns-in-Ok : goal.returns-in-Ok
 returns-in-Ok c =
     let old = c.args.self.now in
-    let e = c.set.ensures in
+    let e = c.set_at.ensures in
     let a = c.in-Ok.ensures in
-    let last : Parts = record old { map = c.set.new.self; index = c.attach.new.self } in
-    attach_ok c.laws.ensures c.rules.ensures old c.args.pe c.args.place c.args.value c.requires.may
+    let last : Parts = record old { map = c.set_at.new.self; index = c.attach.new.self } in
+    attach_ok c.laws.ensures c.rules.ensures old c.args.pe c.args.seat.now.place c.args.value c.requires.may
     c.args.path.now c.requires.at (core_in c.args.state) c.args.new (ap (λ (s : EntryState). core_in s) c.requires.state) c.requires.new
     c.requires.clear c.args.next c.requires.attaches a.judged c.law_others.ensures last
     (record { header = refl; index_header = c.attach.ensures.tracked.heading; sound = λ s. c.attach.ensures.sound }) refl c.write.result
@@ -29,7 +29,7 @@ returns-in-Ok c =
       pends = λ q a k b i p. ap (λ (x : Pends). waits x b i p) (e.pends q a k);
       dropped = e.dropped;
     })
-    (attaches_of (view_of old.map old.index) (view_of last.map last.index) (starts_of old.index (attach.Below c.args.place c.args.next))
+    (attaches_of (view_of old.map old.index) (view_of last.map last.index) (starts_of old.index (attach.Below c.args.seat.now.place c.args.next))
     a.node a.fresh c.attach.ensures.null
     (record { tracked = e.pages; known = c.attach.ensures.tracked.known; pages = c.attach.ensures.tracked.pages }))
     c.law_idle.ensures
@@ -40,7 +40,7 @@ returns-in-Err c =
     let a = c.in-Err.ensures in
     let last : Parts = record old { index = c.attach.new.self } in
     rw c.step_fault.ensures
-    (attach_fault c.laws.ensures c.rules.ensures old c.args.pe c.args.place c.args.value c.requires.may
+    (attach_fault c.laws.ensures c.rules.ensures old c.args.pe c.args.seat.now.place c.args.value c.requires.may
     c.args.path.now c.requires.at (core_in c.args.state) c.args.new (ap (λ (s : EntryState). core_in s) c.requires.state) c.requires.new
     c.requires.clear c.args.next c.requires.attaches last
     (λ heading h s. stands_still c.laws.ensures old last
@@ -53,16 +53,11 @@ returns-in-Err c =
     }) heading h s s.roots)
     c.in-Err.fault a.judged)
 
-pub set-requires : goal.set-requires
-set-requires c =
-    let m = c.requires.may in
-    m.2.told.apart.node_tracked _ c.requires.at.0 c.requires.at.1
-
 pub attach-requires-clause-may : goal.attach-requires-clause-may
 attach-requires-clause-may c = (
   c.requires.at.0,
   c.requires.at.1,
-  below_three c.laws.ensures c.rules.ensures c.args.self.now c.args.pe c.args.place c.args.value c.requires.may
+  below_three c.laws.ensures c.rules.ensures c.args.self.now c.args.pe c.args.seat.now.place c.args.value c.requires.may
       c.args.path.now c.requires.at (core_in c.args.state) c.args.new (ap (λ (s : EntryState). core_in s) c.requires.state) c.requires.new
       c.requires.clear c.args.next c.requires.attaches,
 )

@@ -9,13 +9,13 @@ use Rattle.bbm_replay.proofs.parts.Parts.write_plain.Goals as goal
 
 pub returns-then-is_contiguous : goal.returns-then-is_contiguous
 returns-then-is_contiguous c = rw c.get.ensures.value
-    (plain_bad c.laws.ensures c.rules.ensures c.args.self.now c.args.pe c.args.place c.args.value c.requires.may
+    (plain_bad c.laws.ensures c.rules.ensures c.args.self.now c.args.pe c.args.seat.now.place c.args.value c.requires.may
     c.args.path.now c.requires.at (core_in c.args.state) c.args.new (ap (λ (s : EntryState). core_in s) c.requires.state) c.requires.new
     c.requires.clear c.requires.plain (sym c.is_contiguous.ensures ∙ c.if-is_contiguous.true))
 
 pub returns-then-is_user_global : goal.returns-then-is_user_global
 returns-then-is_user_global c = rw c.get-then-is_user_global.ensures.value
-    (plain_global c.laws.ensures c.rules.ensures c.args.self.now c.args.pe c.args.place c.args.value c.requires.may
+    (plain_global c.laws.ensures c.rules.ensures c.args.self.now c.args.pe c.args.seat.now.place c.args.value c.requires.may
     c.args.path.now c.requires.at (core_in c.args.state) c.args.new (ap (λ (s : EntryState). core_in s) c.requires.state) c.requires.new
     c.requires.clear c.requires.plain (sym c.is_contiguous.ensures ∙ c.if-is_contiguous.false)
     (sym c.is_user_global.ensures ∙ c.if-is_user_global.true))
@@ -23,9 +23,9 @@ returns-then-is_user_global c = rw c.get-then-is_user_global.ensures.value
 pub returns : goal.returns
 returns c =
     let old = c.args.self.now in
-    let e = c.set.ensures in
-    let next : Parts = record old { map = c.set.new.self } in
-    plain_ok c.laws.ensures c.rules.ensures old c.args.pe c.args.place c.args.value c.requires.may
+    let e = c.set_at.ensures in
+    let next : Parts = record old { map = c.set_at.new.self } in
+    plain_ok c.laws.ensures c.rules.ensures old c.args.pe c.args.seat.now.place c.args.value c.requires.may
     c.args.path.now c.requires.at (core_in c.args.state) c.args.new (ap (λ (s : EntryState). core_in s) c.requires.state) c.requires.new
     c.requires.clear c.requires.plain (sym c.is_contiguous.ensures ∙ c.if-is_contiguous.false)
     (sym c.is_user_global.ensures ∙ c.if-is_user_global.false)
@@ -38,8 +38,3 @@ returns c =
       dropped = e.dropped;
     })
     e.pages c.law_idle.ensures
-
-pub set-requires : goal.set-requires
-set-requires c =
-    let m = c.requires.may in
-    m.2.told.apart.node_tracked _ c.requires.at.0 c.requires.at.1
