@@ -1,19 +1,24 @@
 -- What the calls that concern all broken places say of each.
 -- Source: project's own choice.
-use Rattle.std.specs.Prelude.{◌≡◌, ℕ, Bool}
+use Rattle.std.specs.Prelude.{◌≡◌, ℕ, Bool, Some}
 use Rattle.std.specs.Fn.{FnReturns, Shared}
 use denote.Ref.{Bor}
+use Rattle.bbm_descriptor.specs.declared.desc.Core.{Core}
+use Rattle.bbm_entry_state.specs.declared.marks.Marks.{Marks}
 use Rattle.bbm_tlbi_scope.specs.declared.entry.Cover.{Cover}
 use Rattle.bbm_place_map.specs.Each.{loses_table}
 use Rattle.bbm_place_map.specs.Map.{value_at, marks_at, pends_at, is_tracked, restless_in, restless_place}
 use Rattle.bbm_place_map.specs.declared.map.PlaceMap.{PlaceMap}
 
--- The closure may answer, of this map and the place, that a TLBI covers the place so far.
-pub record MayCover {F : Type 0} (calls : Shared F (Bor PlaceMap × (ℕ × Unit {0})) Cover) (f : F) (map : PlaceMap)
+-- The place is broken, and the closure may answer, of this map, the place and the core that it is broken over, that a
+-- TLBI covers the place so far.
+pub record MayCover {F : Type 0} (calls : Shared F (Bor PlaceMap × (ℕ × (Core × Unit {0}))) Cover) (f : F) (map : PlaceMap)
     (place : ℕ) (cover : Cover) : Type 0 where
   pub shown : Bor PlaceMap
   pub shows : shown.now ≡ map
-  pub says : FnReturns calls f (shown, (place, tt)) cover
+  pub marks : Marks
+  pub broken : marks_at map place ≡ Some marks
+  pub says : FnReturns calls f (shown, (place, (marks.core, tt))) cover
 
 -- whether a place was broken over a table, and isn't broken any more
 abbrev pub lost_table : PlaceMap → PlaceMap → ℕ → Bool

@@ -44,7 +44,7 @@ pub fn break_before_make(
     let broken = map.state(place, Some(core)).write(issuer, None);
     map.set(place, 0, broken);
     map.publish(issuer, ISHST, n);
-    map.issue(alloc, issuer, PeMask::all(n), true, |_, _| Cover::Full)?;
+    map.issue(alloc, issuer, PeMask::all(n), true, |_, _, _| Cover::Full)?;
     map.publish(issuer, ISH, n);
     map.complete(issuer, ISH, n);
     Ok(())

@@ -336,8 +336,8 @@ impl PlaceMap {
         self.broken.reserve(wanted).is_ok() && self.cells.reserve(512).is_ok()
     }
 
-    // How far the closure says that a TLBI covers each broken place. `NoMemory` where there is none.
-    fn covers<F: Fn(&PlaceMap, Place) -> Cover>(
+    // How far the closure says that a TLBI covers each broken place, over its core. `NoMemory` where there is none.
+    fn covers<F: Fn(&PlaceMap, Place, Core) -> Cover>(
         &self,
         alloc: Global,
         cover: &F,
@@ -350,7 +350,8 @@ impl PlaceMap {
     {
         let mut covers = SmallVec::new(alloc);
         for k in 0..self.broken.len() {
-            let found = cover(self, self.broken[k].place);
+            let entry = &self.broken[k];
+            let found = cover(self, entry.place, entry.marks.core);
             match covers.push(Answer::new(found)) {
                 Ok(()) => {}
                 Err(_) => return Err(NoMemory),
@@ -360,9 +361,9 @@ impl PlaceMap {
     }
 
     /// The issuer issued a TLBI that reaches these PEs, is broadcast or not, and covers each broken place as far as the
-    /// closure says of the map before the call. `NoMemory` where there is none, and nothing changes then. Only the
-    /// pendings of the issuer change.
-    pub fn issue<F: Fn(&PlaceMap, Place) -> Cover>(
+    /// closure says of the map before the call, the place, and the core that it is broken over. `NoMemory` where there
+    /// is none, and nothing changes then. Only the pendings of the issuer change.
+    pub fn issue<F: Fn(&PlaceMap, Place, Core) -> Cover>(
         &mut self,
         alloc: Global,
         issuer: Pe,

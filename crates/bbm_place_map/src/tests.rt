@@ -104,7 +104,7 @@ fn step(alloc: Global, map: &mut PlaceMap, page: Page, zero: Pe, act: Act) -> Re
         Publish => map.publish(zero, ISHST, 2),
         Flush(addr, cover) => {
             let all = PeMask::all(2);
-            map.issue(alloc, zero, all, true, |_, place| {
+            map.issue(alloc, zero, all, true, |_, place, _| {
                 if place.get() == addr {
                     cover
                 } else {

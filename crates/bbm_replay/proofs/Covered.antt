@@ -9,7 +9,7 @@ use Rattle.bbm_descriptor.specs.declared.desc.Desc.{Desc}
 use Rattle.bbm_descriptor.specs.declared.desc.Desc.TheVariants.{Invalid, Table, Leaf}
 use Rattle.bbm_entry_state.specs.Points.{core_in}
 use Rattle.bbm_entry_state.specs.declared.marks.Marks.{Marks}
-use Rattle.bbm_entry_state.specs.declared.state.EntryState.TheVariants.{Broken, Clean}
+use Rattle.bbm_entry_state.specs.declared.state.EntryState.TheVariants.{Broken, Clean, Live}
 use Rattle.bbm_place_map.specs.Each.{is_table}
 use Rattle.bbm_place_map.specs.Map.{marks_at, value_at}
 use Rattle.bbm_place_map.specs.States.{state_from}
@@ -121,9 +121,12 @@ module _ (heading : Heading) (h : List Event) (pe : ℕ) (op : TlbiOp) (xt : ℕ
           ∙ ap (λ (x : TagSet). Some (seen table global childless x))
           (ap (λ (es : List Event). tag_set (tags_of heading Patterns n.root es)) ev ∙ sym s)
 
-pub marks_of : (m : Option Marks) (x : Marks) → state_from None m ≡ Broken x → m ≡ Some x
-marks_of None x k = let bad : Clean ≡ Broken x = k in absurd cc
-marks_of (Some y) x k = let same : Broken y ≡ Broken x = k in let one : y ≡ x = cc in ap (λ (z : Marks). Some z) one
+pub marks_of : (o : Option Core) (m : Option Marks) (x : Marks) → state_from o m ≡ Broken x → m ≡ Some x
+marks_of None None x k = let bad : Clean ≡ Broken x = k in absurd cc
+marks_of (Some c) None x k = let bad : Live c ≡ Broken x = k in absurd cc
+marks_of None (Some y) x k = let same : Broken y ≡ Broken x = k in let one : y ≡ x = cc in ap (λ (z : Marks). Some z) one
+marks_of (Some c) (Some y) x k =
+    let same : Broken y ≡ Broken x = k in let one : y ≡ x = cc in ap (λ (z : Marks). Some z) one
 
 pub core_of_marks : (o : Option Core) (m : Option Marks) (x : Marks) → m ≡ Some x → core_in (state_from o m) ≡ Some x.core
 core_of_marks o m x k = ap (λ (z : Option Marks). core_in (state_from o z)) k ∙ by o

@@ -1,17 +1,17 @@
 -- Places that are found, each with its cover.
 use Rattle.std.specs.Prelude.{IfSome, OnOk}
-use Rattle.std.proofs.Common.{◌≡◌, ℕ, zero, suc, Bool, true, false, ◌||◌, List, [], ◌∷◌, ◌++◌, Option, Some, is_some, nat_eq, Result, Ok, Err, refl, ap, subst, not-suc-le-zero, le_of_suc-le-suc}
+use Rattle.std.proofs.Common.{◌≡◌, ℕ, zero, suc, Bool, true, false, ◌||◌, List, [], ◌∷◌, ◌++◌, Option, Some, nat_eq, Result, Ok, Err, refl, ap, subst, not-suc-le-zero, le_of_suc-le-suc}
 use Rattle.std.proofs.lemmas.Bool.{eq-eqb}
 use Rattle.std.proofs.lemmas.List.Elements.{All-append}
+use Rattle.bbm_descriptor.specs.declared.desc.Core.{Core}
 use Rattle.bbm_place_map.specs.Finds.{FoundAs, is_found}
-use Rattle.bbm_place_map.specs.Map.{marks_at}
 use Rattle.bbm_place_map.specs.declared.found.Found.{Found}
 use Rattle.bbm_place_map.specs.declared.map.PlaceMap.{PlaceMap}
 use Rattle.bbm_tree_index.specs.declared.index.TreeIndex.{TreeIndex}
 use Rattle.bbm_tlbi_scope.specs.declared.entry.Cover.{Cover}
 use Rattle.bbm_replay_roots.specs.declared.state.RootState.{RootState}
 use Rattle.bbm_rules.specs.Prelude.{Heading, Event, Scope, TlbiOp}
-use Rattle.bbm_replay.specs.Covering.{MayBeCovered, MayBeIssued}
+use Rattle.bbm_replay.specs.Covering.{IsBrokenOver, MayBeCovered, MayBeIssued}
 
 pub on_ok : {A E : Type 0} (r : Result A E) {P Q : Type 0} → OnOk r P → (P → Q) → OnOk r Q
 on_ok (Ok x) p f = f p
@@ -26,22 +26,22 @@ on_both (Ok x) p q f = f p q
 on_both (Err x) p q f = tt
 
 pub may_cover : (heading : Heading) (h : List Event) (map : PlaceMap) (index : TreeIndex) (state : RootState) (pe : ℕ)
-    (op : TlbiOp) (xt : ℕ) (scope : Scope) (vmid : Option ℕ) (place : ℕ)
-    → MayBeIssued heading h map index state pe op xt scope vmid → is_some (marks_at map place) ≡ true
-    → MayBeCovered heading h map index state pe op xt scope vmid place
-may_cover heading h map index state pe op xt scope vmid place m broken = record {
+    (op : TlbiOp) (xt : ℕ) (scope : Scope) (vmid : Option ℕ) (place : ℕ) (core : Core)
+    → MayBeIssued heading h map index state pe op xt scope vmid → IsBrokenOver map place core
+    → MayBeCovered heading h map index state pe op xt scope vmid place core
+may_cover heading h map index state pe op xt scope vmid place core m over = record {
   told = m.told;
   stands = m.stands;
   named = m.named;
   vmid_is = m.vmid_is;
-  broken = broken;
+  over = over;
 }
 
 pub issued : (heading : Heading) (h : List Event) (map : PlaceMap) (index : TreeIndex) (state : RootState) (pe : ℕ)
-    (op : TlbiOp) (xt : ℕ) (scope : Scope) (vmid : Option ℕ) (place : ℕ)
-    → MayBeCovered heading h map index state pe op xt scope vmid place
+    (op : TlbiOp) (xt : ℕ) (scope : Scope) (vmid : Option ℕ) (place : ℕ) (core : Core)
+    → MayBeCovered heading h map index state pe op xt scope vmid place core
     → MayBeIssued heading h map index state pe op xt scope vmid
-issued heading h map index state pe op xt scope vmid place m = record {
+issued heading h map index state pe op xt scope vmid place core m = record {
   told = m.told;
   stands = m.stands;
   named = m.named;

@@ -1,5 +1,7 @@
 -- What a TLBI covers, asked of the parts. Source: project's own choice.
-use Rattle.std.specs.Prelude.{◌≡◌, ℕ, Bool, true, false, List, Option, Some, is_some}
+use Rattle.std.specs.Prelude.{◌≡◌, ℕ, Bool, true, false, List, Option, Some}
+use Rattle.bbm_descriptor.specs.declared.desc.Core.{Core}
+use Rattle.bbm_entry_state.specs.declared.marks.Marks.{Marks}
 use Rattle.bbm_place_map.specs.Finds.{FoundAs}
 use Rattle.bbm_place_map.specs.Map.{marks_at}
 use Rattle.bbm_place_map.specs.declared.found.Found.{Found}
@@ -19,15 +21,19 @@ use Rattle.bbm_replay_trees.specs.Told.{notes}
 use Rattle.bbm_replay.specs.Standing.{view_of}
 use Rattle.bbm_replay.specs.Told.{Told}
 
+-- the place is broken over this core
+abbrev pub IsBrokenOver : PlaceMap → ℕ → Core → Type 0
+IsBrokenOver map place core = (marks : Marks) × (marks_at map place ≡ Some marks) × (marks.core ≡ core)
+
 -- The map, the index and the roots stand for the history, this is what the TLBI names and the VMID of its issuer, and
--- the place is broken.
+-- the place is broken over the core.
 pub record MayBeCovered (heading : Heading) (h : List Event) (map : PlaceMap) (index : TreeIndex) (state : RootState)
-    (pe : ℕ) (op : TlbiOp) (xt : ℕ) (scope : Scope) (vmid : Option ℕ) (place : ℕ) : Type 0 where
+    (pe : ℕ) (op : TlbiOp) (xt : ℕ) (scope : Scope) (vmid : Option ℕ) (place : ℕ) (core : Core) : Type 0 where
   pub told : Told heading h (view_of map index)
   pub stands : roots.Stands state heading h
   pub named : named_scope heading h pe op xt ≡ Some scope
   pub vmid_is : vmid ≡ vmid_of heading h pe
-  pub broken : is_some (marks_at map place) ≡ true
+  pub over : IsBrokenOver map place core
 
 -- the same of any place
 pub record MayBeIssued (heading : Heading) (h : List Event) (map : PlaceMap) (index : TreeIndex) (state : RootState)

@@ -94,7 +94,7 @@ fn add_met(
 {
     match state {
         EntryState::Broken { marks } => {
-            let cover = cover_met(map, index, roots, scope, vmid, place, path, marks);
+            let cover = cover_met(map, index, roots, scope, vmid, place, path, &marks.core);
             push_found(found, Found { place, cover })
         }
         EntryState::Clean | EntryState::Live { .. } => Ok(()),

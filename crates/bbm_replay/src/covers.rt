@@ -8,8 +8,7 @@ ghost use Rattle.bbm_tlbi_scope.specs.declared.op.TlbiOp.{TlbiOp};
 ghost use Rattle.bbm_rules.specs.Claims.Trust.{Patterns};
 ghost use Rattle.bbm_rules.specs.Covers.{cover_at};
 ghost use Rattle.bbm_replay_trees.specs.Told.{notes};
-ghost use Rattle.bbm_replay.specs.Covering.{MayBeCovered, MayBeIssued, asks_tags as spec_asks_tags};
-ghost use Rattle.bbm_place_map.specs.Map.{marks_at};
+ghost use Rattle.bbm_replay.specs.Covering.{IsBrokenOver, MayBeCovered, MayBeIssued, asks_tags as spec_asks_tags};
 ghost use Rattle.bbm_replay_roots.specs.Stands.{Stands};
 ghost use Rattle.bbm_rules.specs.Places.{page_of};
 ghost use Rattle.bbm_rules.specs.Tags.{tag_set, tags_of};
@@ -26,7 +25,6 @@ ghost use Rattle.bbm_tree_index.specs.Agreement.{IsSound};
 
 use crate::laws::laws;
 use bbm_descriptor::Core;
-use bbm_entry_state::{EntryState, Marks};
 use bbm_place_map::PlaceMap;
 use bbm_regimes::{Interval, Kind, Page, Place};
 use bbm_replay_entries::law_entry_holds;
@@ -103,7 +101,8 @@ fn tags_where(asked: bool, roots: &RootState, first: Page) -> TagSet
     }
 }
 
-/// How far a TLBI of this scope, under this VMID, covers the place, which has this path and these marks.
+/// How far a TLBI of this scope, under this VMID, covers the place, which has this path, where it is broken over this
+/// core.
 pub(crate) fn cover_met(
     map: &PlaceMap,
     index: &TreeIndex,
@@ -112,12 +111,11 @@ pub(crate) fn cover_met(
     vmid: &Option<u16>,
     place: Place,
     path: &Path,
-    marks: &Marks,
+    core: &Core,
 ) -> Cover
     requires sound { IsSound index.now }
     requires path { (n : Node) × (node_in index.now (page_of place) ≡ Some n) × (path.now ≡ path_at n place) }
-    requires marks { marks_at map.now place ≡ Some marks.now }
-    ensures { (heading : Heading) (h : List Event) (pe : ℕ) (op : TlbiOp) (xt : ℕ)
+    ensures { IsBrokenOver map.now place core.now → (heading : Heading) (h : List Event) (pe : ℕ) (op : TlbiOp) (xt : ℕ)
         → MayBeIssued heading h map.now index.now roots.now pe op xt scope.now vmid.now
         → result ≡ cover_at heading Patterns (notes heading h) (Tlbi pe op xt) place }
 {
@@ -125,7 +123,7 @@ pub(crate) fn cover_met(
     law_entry_holds();
     law_childless_by_cores();
     law_notes_keep_the_events();
-    let childless = asks_childless(scope, path.region, &marks.core);
+    let childless = asks_childless(scope, path.region, core);
     let tags = asks_tags(scope.family, path.kind);
     cover(
         *scope,
@@ -134,15 +132,15 @@ pub(crate) fn cover_met(
             kind: path.kind,
             region: path.region,
             level: path.level,
-            table: is_table(&marks.core),
-            global: is_global(&marks.core),
+            table: is_table(core),
+            global: is_global(core),
             childless: childless_where(childless, map, index, place),
             tags: tags_where(tags, roots, path.first),
         },
     )
 }
 
-/// How far a TLBI of this scope, under this VMID, covers the place, which is broken.
+/// How far a TLBI of this scope, under this VMID, covers the place, where it is broken over this core.
 pub(crate) fn cover_of(
     map: &PlaceMap,
     index: &TreeIndex,
@@ -150,17 +148,15 @@ pub(crate) fn cover_of(
     scope: Scope,
     vmid: Option<u16>,
     place: Place,
+    core: Core,
 ) -> Cover
     requires { IsSound index.now }
     ensures { (heading : Heading) (h : List Event) (pe : ℕ) (op : TlbiOp) (xt : ℕ)
-        → MayBeCovered heading h map.now index.now roots.now pe op xt scope vmid place
+        → MayBeCovered heading h map.now index.now roots.now pe op xt scope vmid place core
         → result ≡ cover_at heading Patterns (notes heading h) (Tlbi pe op xt) place }
 {
-    match map.state(place, None) {
-        EntryState::Broken { marks } => match index.path(place) {
-            Some(path) => cover_met(map, index, roots, &scope, &vmid, place, &path, &marks),
-            None => Cover::None,
-        },
-        EntryState::Clean | EntryState::Live { .. } => Cover::None,
+    match index.path(place) {
+        Some(path) => cover_met(map, index, roots, &scope, &vmid, place, &path, &core),
+        None => Cover::None,
     }
 }

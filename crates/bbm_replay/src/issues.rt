@@ -56,8 +56,8 @@ fn issue_all(
     ensures marks { (a : ℕ) → marks_at map.new a ≡ marks_at map.old a }
     ensures pages { (p : ℕ) → is_tracked map.new p ≡ is_tracked map.old p }
 {
-    map.issue(alloc, pe, reach, op.is_broadcast(), |map, place| {
-        cover_of(map, index, roots, scope, vmid, place)
+    map.issue(alloc, pe, reach, op.is_broadcast(), |map, place, core| {
+        cover_of(map, index, roots, scope, vmid, place, core)
     })
 }
 

@@ -1,10 +1,13 @@
-use Rattle.std.proofs.Common.{◌≡◌, true, sym, subst}
+use Rattle.std.proofs.Common.{◌≡◌, true, refl, sym, ◌∙◌, subst}
+use Rattle.bbm_descriptor.specs.Descriptor.{core_of}
 use Rattle.bbm_place_map.specs.Finds.{FoundAs, is_found}
+use Rattle.bbm_place_map.specs.Map.{marks_at, value_at}
 use Rattle.bbm_place_map.specs.declared.found.Found.{Found}
 use Rattle.bbm_rules.specs.Claims.Trust.{Patterns}
 use Rattle.bbm_rules.specs.Covers.{cover_at}
 use Rattle.bbm_rules.specs.Prelude.{Tlbi}
 use Rattle.bbm_replay_trees.specs.Told.{notes}
+use Rattle.bbm_replay.proofs.Covered.{marks_of}
 use Rattle.bbm_replay.proofs.Findings.{as_end, found_before, found_end, on_ok}
 use Rattle.bbm_replay.proofs.by_page.add_met.Goals as goal
 
@@ -14,7 +17,12 @@ returns-in-Broken-clause-covers c =
     on_ok c.push_found.result c.push_found.ensures (λ e all heading h pe op xt m.
     subst (λ (xs : _). FoundAs xs (cover_at heading Patterns (notes heading h) (Tlbi pe op xt))) (sym e)
     (as_end c.args.found.now.items item (cover_at heading Patterns (notes heading h) (Tlbi pe op xt)) (all heading h pe op xt m)
-    (c.cover_met-cover.ensures heading h pe op xt m)))
+    (c.cover_met-cover.ensures (
+      c.in-Broken.marks,
+      marks_of (core_of c.args.path.now.kind c.args.path.now.level (value_at c.args.map.now c.args.place))
+          (marks_at c.args.map.now c.args.place) c.in-Broken.marks (sym c.requires.state ∙ c.in-Broken.is),
+      refl,
+    ) heading h pe op xt m)))
 
 pub returns-in-Broken-clause-kept : goal.returns-in-Broken-clause-kept
 returns-in-Broken-clause-kept c =

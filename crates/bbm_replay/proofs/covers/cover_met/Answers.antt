@@ -1,5 +1,6 @@
-use Rattle.std.proofs.Common.{◌≡◌, ◌≤◌, ◌<◌, ◌+◌, ◌-◌, ℕ, Bool, true, ◌&&◌, not, is_none, refl, sym, ◌∙◌, ap, arith}
+use Rattle.std.proofs.Common.{◌≡◌, ◌≤◌, ◌<◌, ◌+◌, ◌-◌, ℕ, Bool, true, Some, ◌&&◌, not, is_none, refl, sym, ◌∙◌, ap, arith}
 use Rattle.bbm_descriptor.specs.Descriptor.{core_of, desc_of}
+use Rattle.bbm_descriptor.specs.declared.desc.Core.{Core}
 use Rattle.bbm_place_map.specs.Map.{marks_at, value_at}
 use Rattle.bbm_tlbi_scope.specs.Covers as scopes
 use Rattle.bbm_place_map.specs.Each.{is_table}
@@ -24,7 +25,7 @@ use Rattle.bbm_replay.proofs.Writing.{cores}
 use Rattle.bbm_replay.proofs.covers.cover_met.Goals as goal
 
 pub returns : goal.returns
-returns c heading h pe op xt m =
+returns c over heading h pe op xt m =
     let map = c.args.map.now in
     let index = c.args.index.now in
     let scope = c.args.scope.now in
@@ -34,10 +35,11 @@ returns c heading h pe op xt m =
     let n = c.requires.path.0 in
     let is = c.requires.path.1 in
     let at = c.requires.path.2 in
-    let x = c.args.marks.now in
+    let core = c.args.core.now in
     let stands = m.told.entries n place is in
-    let held = held_of (held_at heading Patterns (notes heading h) n place) (core_of n.kind n.level) x.core
-    (sym stands.core ∙ core_of_marks (core_of n.kind n.level (value_at map place)) (marks_at map place) x c.requires.marks) in
+    let held = held_of (held_at heading Patterns (notes heading h) n place) (core_of n.kind n.level) core
+    (sym stands.core ∙ core_of_marks (core_of n.kind n.level (value_at map place)) (marks_at map place) over.0 over.1
+    ∙ ap (λ (k : Core). Some k) over.2) in
     let law = c.law_childless_by_cores.ensures heading h (node_in index) (core_at view) n place held.0 m.told.kept m.told.fit
     m.told.nodes (cores heading h view m.told) is held.1 in
     let low : n.level < 4 = ((c.laws.ensures heading).nodes.own h (node_in index) (page_of place) n m.told.nodes is).1 in
@@ -47,7 +49,7 @@ returns c heading h pe op xt m =
     let same_childless : (has_page scope.family && (c.is_table.result && names)) ≡ true → c.childless_where.result ≡ childless
     = λ asked. let inside = c.childless_where.ensures
     (c.asks_childless-childless.ensures
-    ∙ ap (λ (y : Path). has_page scope.family && (is_table x.core && (not scope.last_only && is_none scope.level
+    ∙ ap (λ (y : Path). has_page scope.family && (is_table core && (not scope.last_only && is_none scope.level
     && names_some scope.interval y.region))) at
     ∙ ap (λ b. has_page scope.family && (b && names)) (sym c.is_table.ensures) ∙ asked) n is in
     same_by_truth c.childless_where.result childless
@@ -73,8 +75,8 @@ returns c heading h pe op xt m =
     ∙ covered heading h pe op xt scope vmid place n held.0 c.is_table.result c.is_global.result
     childless tags (c.law_notes_keep_the_events.ensures heading Patterns h)
     m.named m.vmid_is (sym (m.told.nodes (page_of place)) ∙ is) held.1
-    (c.is_table.ensures ∙ table_is (desc_of n.kind n.level held.0) x.core held.2)
-    (c.is_global.ensures ∙ global_is (desc_of n.kind n.level held.0) x.core held.2) refl refl
+    (c.is_table.ensures ∙ table_is (desc_of n.kind n.level held.0) core held.2)
+    (c.is_global.ensures ∙ global_is (desc_of n.kind n.level held.0) core held.2) refl refl
   where
     ends : (start w : ℕ) → 1 ≤ w → start ≤ start + w - 1
     ends start w k = omega arith

@@ -1,4 +1,4 @@
-use Rattle.std.proofs.Common.{◌≡◌, None, sym, subst, rules}
+use Rattle.std.proofs.Common.{◌≡◌, None, refl, sym, subst, rules}
 use Rattle.bbm_entry_state.specs.Calls.{Noted}
 use Rattle.bbm_place_map.specs.Map.{marks_at, pends_at}
 use Rattle.bbm_place_map.specs.States.{state_from}
@@ -25,9 +25,10 @@ returns-clause-noted c =
     let says = n.1.says in
     let same : n.0 ≡ cover_at heading Patterns (notes heading h) (Tlbi pe c.args.op xt) a
     = (let told = says.met.1 in
-    let may : MayBeCovered heading h shown.now c.args.index.now c.args.roots.now pe c.args.op xt c.args.scope c.args.vmid a
-    = subst (λ (x : PlaceMap). MayBeCovered heading h x c.args.index.now c.args.roots.now pe c.args.op xt c.args.scope c.args.vmid a) (sym shows)
-    (may_cover heading h map c.args.index.now c.args.roots.now pe c.args.op xt c.args.scope c.args.vmid a m broken) in
+    let core = n.1.marks.core in
+    let may : MayBeCovered heading h shown.now c.args.index.now c.args.roots.now pe c.args.op xt c.args.scope c.args.vmid a core
+    = subst (λ (x : PlaceMap). MayBeCovered heading h x c.args.index.now c.args.roots.now pe c.args.op xt c.args.scope c.args.vmid a core) (sym shows)
+    (may_cover heading h map c.args.index.now c.args.roots.now pe c.args.op xt c.args.scope c.args.vmid a core m (n.1.marks, n.1.broken, refl)) in
     search rules) in
     let at : Noted (state_from None (marks_at map a)) (pends_at map pe a) c.args.reach c.is_broadcast.result n.0 (pends_at new pe a) = n.2 in
     subst (λ (x : Cover). Noted (state_from None (marks_at map a)) (pends_at map pe a) c.args.reach (operation c.args.op).broadcast x (pends_at new pe a)) same

@@ -1,14 +1,18 @@
 use Rattle.std.proofs.Common.{◌≡◌, ◌∷◌, [], ◌++◌, List, Some, arith, refl, ap, sym, subst, ◌∙◌, slice_get, nat_eq, inl, inr, length}
 use Rattle.std.proofs.lemmas.Bool.{cases_eq, eq-eqb, ne_eqb, cond-true, cond-false}
 use Rattle.std.proofs.lemmas.Option.{same_Some}
+use Rattle.indexmap.specs.IndexMap.{get}
 use Rattle.bbm_tlbi_scope.specs.declared.entry.Cover.{Cover}
 use Rattle.bbm_place_map.specs.Calls.{MayCover}
+use Rattle.bbm_place_map.specs.Map.{marks_at}
 use Rattle.bbm_place_map.specs.declared.entry.Entry.{Entry}
-use Rattle.bbm_place_map.proofs.Leaving.{entry_same}
+use Rattle.bbm_place_map.proofs.Leaving.{entry_read, entry_same}
 use Rattle.bbm_place_map.proofs.Lists.{push_get}
+use Rattle.bbm_place_map.proofs.Restless.{marks_are}
 use Rattle.bbm_place_map.proofs.map.PlaceMap.covers.Goals as goal
 
 pub loop-k-preserved : goal.loop-k-preserved
+unfolding marks_at
 loop-k-preserved g c = record {
   len = omega (arith, c.in-Ok.ensures.len);
   each = λ m e cov at got.
@@ -22,12 +26,21 @@ loop-k-preserved g c = record {
             (sym (all ∙ cond-true (nat_eq m (length c.loop-k.covers.items)) (Some c.new.result) (slice_get c.loop-k.covers.items m)
             (eq-eqb m (length c.loop-k.covers.items) same)) ∙ items) in
             let index : m ≡ c.loop-k.k = same ∙ c.loop-k.invariant.len in
-            let entry : c.index.result.now ≡ e
-            = entry_same c.args.self.now.broken.items c.loop-k.k c.index.result.now e (omega arith) c.index.ensures
+            let entry : c.index-entry.result.now ≡ e
+            = entry_same c.args.self.now.broken.items c.loop-k.k c.index-entry.result.now e (omega arith) c.index-entry.ensures
             (ap (slice_get c.args.self.now.broken.items) (sym index) ∙ at) in
             let P : Entry → Type 0 = λ x. MayCover g.F.Fn c.args.cover.now c.args.self.now x.place cov in
-            let Q : Cover → Type 0 = λ x. MayCover g.F.Fn c.args.cover.now c.args.self.now c.index.result.now.place x in
-            subst P entry (subst Q found (record { shown = _; shows = refl; says = record { met = c.cover-found.ensures } }))
+            let Q : Cover → Type 0 = λ x. MayCover g.F.Fn c.args.cover.now c.args.self.now c.index-entry.result.now.place x in
+            subst P entry (subst Q found (record {
+              shown = _;
+              shows = refl;
+              marks = c.index-entry.result.now.marks;
+              broken =
+                  marks_are (get nat_eq c.args.self.now.pages) c.args.self.now.cells.items c.args.self.now.broken.items c.args.self.now.linked
+                  c.args.self.now.placed c.loop-k.k c.index-entry.result.now
+                  (entry_read c.args.self.now.broken.items c.loop-k.k c.index-entry.result.now (omega arith) c.index-entry.ensures);
+              says = record { met = c.cover-found.ensures };
+            }))
         | inr other ↦
             c.loop-k.invariant.each m e cov at
             (sym (all ∙ cond-false (nat_eq m (length c.loop-k.covers.items)) (Some c.new.result) (slice_get c.loop-k.covers.items m)
