@@ -1,5 +1,5 @@
 -- One entry that a DSB answered, among the others.
-use Rattle.std.proofs.Common.{◌≡◌, ◌≢◌, ℕ, ◌<◌, Bool, true, false, ◌&&◌, nat_eq, List, length, Option, Some, None, refl, ap, sym, subst, ◌∙◌, if◌then◌else◌, slice_get, get_or}
+use Rattle.std.proofs.Common.{◌≡◌, ◌≢◌, ℕ, ◌<◌, Bool, true, false, ◌&&◌, nat_eq, List, [], length, Option, Some, None, refl, ap, sym, subst, ◌∙◌, if◌then◌else◌, slice_get, get_or}
 use Rattle.std.proofs.lemmas.Bool.{eq-eqb, ne_eqb, cond-true, cond-false}
 use Rattle.std.proofs.lemmas.Option.{same_Some}
 use Rattle.bbm_barriers.specs.declared.Dsb.{Dsb}
@@ -9,6 +9,7 @@ use Rattle.bbm_entry_state.specs.declared.marks.Marks.{Marks}
 use Rattle.bbm_entry_state.specs.declared.pending.Pends.{Pends}
 use Rattle.bbm_entry_state.specs.declared.state.EntryState.{EntryState}
 use Rattle.bbm_entry_state.specs.declared.state.EntryState.TheVariants.{Clean, Broken}
+use Rattle.bbm_place_map.specs.Cells.{slot_in}
 use Rattle.bbm_place_map.specs.Each.{Completes, loses_table, is_table}
 use Rattle.bbm_place_map.specs.Entries.{WaitsAlike, pends_in, cell_at, entry_of, entry_in, marks_of}
 use Rattle.bbm_place_map.specs.Parts.{marks_in}
@@ -16,7 +17,7 @@ use Rattle.bbm_place_map.specs.Sound.{Linked}
 use Rattle.bbm_place_map.specs.declared.cell.Cell.{Cell}
 use Rattle.bbm_place_map.specs.declared.entry.Entry.{Entry}
 use Rattle.bbm_place_map.specs.declared.entry.Pending.{Pending}
-use Rattle.bbm_place_map.proofs.Completing.{left_idle, completes_kept, completes_gone}
+use Rattle.bbm_place_map.proofs.Completing.{left_idle, completes_kept, completes_gone, completes_none}
 use Rattle.bbm_place_map.proofs.Leaving.{entry_read}
 
 pub completes_at : (issuer : ℕ) (dsb : Dsb) (n : ℕ) (o o' p p' : Option Entry) → o ≡ o' → p ≡ p'
@@ -25,6 +26,17 @@ completes_at issuer dsb n o o' p p' is is' h =
     let P : Option Entry → Type 0 = λ x. Completes issuer dsb n x p' in
     let Q : Option Entry → Type 0 = λ y. Completes issuer dsb n o y in
     subst Q (sym is') (subst P (sym is) h)
+
+none_broken : (entries : List Entry) → entries ≡ [] → (o : Option ℕ) → entry_of entries o ≡ None
+none_broken entries none None = refl
+none_broken entries none (Some k) = ap (λ (es : List Entry). slice_get es k) none
+
+-- where no place is broken nothing is answered
+pub completes_whole : (issuer : ℕ) (dsb : Dsb) (n : ℕ) (cells : List Cell) (entries : List Entry) → entries ≡ [] → (j : ℕ)
+    → Completes issuer dsb n (entry_in cells entries j) (entry_in cells entries j)
+completes_whole issuer dsb n cells entries none j =
+    let is = none_broken entries none (slot_in cells j) in
+    completes_at issuer dsb n (entry_in cells entries j) None (entry_in cells entries j) None is is (completes_none issuer dsb n)
 
 and_true : (b : Bool) → b ≡ (b && true)
 and_true true = refl

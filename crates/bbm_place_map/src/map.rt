@@ -237,6 +237,9 @@ impl PlaceMap {
         ensures restless { restless_in self.new ≡ restless_in self.old }
         ensures places { (i : ℕ) → restless_place self.new i ≡ restless_place self.old i }
     {
+        if self.broken.is_empty() {
+            return;
+        }
         work::begin(&mut self.work, n, self.broken.len());
         publish::publish(
             &self.cells,
@@ -263,6 +266,9 @@ impl PlaceMap {
         ensures values { (a : ℕ) → value_at self.new a ≡ value_at self.old a }
         ensures pages { (page : ℕ) → is_tracked self.new page ≡ is_tracked self.old page }
     {
+        if self.broken.is_empty() {
+            return false;
+        }
         work::begin(&mut self.work, n, self.broken.len());
         let lost = complete::complete(
             &mut self.cells,

@@ -1,11 +1,13 @@
-use Rattle.std.proofs.Common.{◌≡◌, true, false, Some, refl, ℕ, nat_eq, sym, arith, subst}
-use Rattle.std.proofs.lemmas.Bool.{eqb-false}
+use Rattle.std.proofs.Common.{◌≡◌, true, false, Some, refl, ℕ, nat_eq, sym, ◌∙◌, arith, vec_len, subst}
+use Rattle.std.proofs.lemmas.Bool.{eqb-false, eqb-true}
+use Rattle.std.proofs.lemmas.List.{nil_from_length}
 use Rattle.indexmap.specs.IndexMap.{get}
 use Rattle.bbm_place_map.specs.Map.{marks_at, pends_at}
 use Rattle.bbm_entry_state.specs.declared.marks.Marks.{Marks}
 use Rattle.bbm_place_map.specs.Parts.{marks_in}
 use Rattle.bbm_place_map.specs.Works.{is_clean}
 use Rattle.bbm_place_map.specs.Sound.{Numbered, index_of}
+use Rattle.bbm_place_map.proofs.Answering.{completes_whole}
 use Rattle.bbm_place_map.proofs.Completed.{completed_at, others_at, kept_at, lost_at}
 use Rattle.bbm_place_map.proofs.Listing.{listed_begun, listed_completed, idle_of}
 use Rattle.bbm_place_map.proofs.map.PlaceMap.complete.Goals as goal
@@ -21,8 +23,8 @@ complete-lost-requires-clause-settled c =
     subst P c.begin.ensures.pes (listed_begun c.args.self.now.work c.begin.new.work c.args.n c.len.result c.args.self.now.cells.items c.args.self.now.broken.items c.requires.some c.requires.within
     c.begin.ensures.pes (omega (arith, c.len.ensures)) c.begin.ensures.kept c.args.self.now.listed).settled
 
-pub invariant_of-self : goal.invariant_of-self
-invariant_of-self c = record {
+pub invariant_of-self-2 : goal.invariant_of-self-2
+invariant_of-self-2 c = record {
   numbered = let P : ℕ → Type 0 = Numbered (get nat_eq c.args.self.now.pages) in subst P (sym c.complete-lost.ensures.completed.len) c.args.self.now.numbered;
   linked = c.complete-lost.ensures.completed.linked;
   placed = c.complete-lost.ensures.completed.placed (get nat_eq c.args.self.now.pages) c.args.self.now.placed;
@@ -34,6 +36,22 @@ invariant_of-self c = record {
       c.complete-lost.ensures.completed.each c.complete-lost.ensures.known c.complete-lost.ensures.kept_lists (listed_begun c.args.self.now.work c.begin.new.work c.args.n c.len.result c.args.self.now.cells.items c.args.self.now.broken.items c.requires.some c.requires.within
       c.begin.ensures.pes (omega (arith, c.len.ensures)) c.begin.ensures.kept c.args.self.now.listed);
 }
+
+pub returns-then-is_empty-clause-completed : goal.returns-then-is_empty-clause-completed
+unfolding marks_at pends_at
+returns-then-is_empty-clause-completed c = λ a.
+    completed_at c.args.issuer c.args.dsb c.args.n c.args.self.now.cells.items c.args.self.now.cells.items c.args.self.now.broken.items c.args.self.now.broken.items
+    (completes_whole c.args.issuer c.args.dsb c.args.n c.args.self.now.cells.items c.args.self.now.broken.items
+    (nil_from_length c.args.self.now.broken.items (omega (arith, eqb-true (vec_len c.args.self.now.broken) 0 (sym c.is_empty.ensures ∙ c.if-is_empty.true)))))
+    (index_of (get nat_eq c.args.self.now.pages) a)
+
+pub returns-then-is_empty-clause-others : goal.returns-then-is_empty-clause-others
+unfolding marks_at pends_at
+returns-then-is_empty-clause-others c = λ q a b cover p other.
+    others_at c.args.issuer c.args.dsb c.args.n c.args.self.now.cells.items c.args.self.now.cells.items c.args.self.now.broken.items c.args.self.now.broken.items
+    (completes_whole c.args.issuer c.args.dsb c.args.n c.args.self.now.cells.items c.args.self.now.broken.items
+    (nil_from_length c.args.self.now.broken.items (omega (arith, eqb-true (vec_len c.args.self.now.broken) 0 (sym c.is_empty.ensures ∙ c.if-is_empty.true)))))
+    q (eqb-false q c.args.issuer other) (index_of (get nat_eq c.args.self.now.pages) a) b cover p
 
 pub returns-clause-completed : goal.returns-clause-completed
 unfolding marks_at pends_at

@@ -1,8 +1,10 @@
-use Rattle.std.proofs.Common.{ℕ, nat_eq, arith, slice_get, ◌≡◌, ◌⊎◌, ◌<◌, Some, refl, subst}
+use Rattle.std.proofs.Common.{ℕ, nat_eq, arith, slice_get, ◌≡◌, ◌⊎◌, ◌<◌, List, Some, refl, subst}
 use Rattle.indexmap.specs.IndexMap.{get}
-use Rattle.bbm_place_map.specs.Each.{Publishes}
+use Rattle.bbm_barriers.specs.declared.Dsb.{Dsb}
+use Rattle.bbm_place_map.specs.Each.{Advances, Publishes}
 use Rattle.bbm_place_map.specs.Map.{marks_at, pends_at, restless_in, restless_place}
 use Rattle.bbm_entry_state.specs.declared.marks.Marks.{Marks}
+use Rattle.bbm_place_map.specs.declared.entry.Entry.{Entry}
 use Rattle.bbm_place_map.specs.Parts.{marks_in}
 use Rattle.bbm_place_map.specs.Sound.{index_of}
 use Rattle.bbm_place_map.specs.Works.{HoldsFor, IsTold}
@@ -23,22 +25,22 @@ publish-requires-clause-known c =
     c.begin.ensures.pes (omega (arith, c.len.ensures)) c.begin.ensures.kept c.args.self.now.listed) c.args.issuer)
     j marks c.requires.issuer_below is)
 
-seats : (c : goal.After-publish) (m : ℕ) → seat_at c.publish.new.broken.items m ≡ seat_at c.args.self.now.broken.items m
-seats c m =
-    seat_kept (Publishes c.args.issuer c.args.dsb c.args.n) (slice_get c.args.self.now.broken.items m) (slice_get c.publish.new.broken.items m) (c.publish.ensures.published.each m)
+seats : (issuer : ℕ) (dsb : Dsb) (n : ℕ) (old new : List Entry) → ((k : ℕ) → Advances (Publishes issuer dsb n) (slice_get old k) (slice_get new k))
+    → (m : ℕ) → seat_at new m ≡ seat_at old m
+seats issuer dsb n old new each m = seat_kept (Publishes issuer dsb n) (slice_get old m) (slice_get new m) (each m)
 
-pub invariant_of-self : goal.invariant_of-self
-invariant_of-self c = record {
+pub invariant_of-self-2 : goal.invariant_of-self-2
+invariant_of-self-2 c = record {
   numbered = c.args.self.now.numbered;
-  linked = linked_seated c.args.self.now.broken.items c.publish.new.broken.items (seats c) c.args.self.now.cells.items c.publish.ensures.published.len c.args.self.now.linked;
-  placed = placed_seated c.args.self.now.broken.items c.publish.new.broken.items (seats c) (get nat_eq c.args.self.now.pages) c.args.self.now.placed;
+  linked = linked_seated c.args.self.now.broken.items c.publish.new.broken.items (seats c.args.issuer c.args.dsb c.args.n c.args.self.now.broken.items c.publish.new.broken.items c.publish.ensures.published.each) c.args.self.now.cells.items c.publish.ensures.published.len c.args.self.now.linked;
+  placed = placed_seated c.args.self.now.broken.items c.publish.new.broken.items (seats c.args.issuer c.args.dsb c.args.n c.args.self.now.broken.items c.publish.new.broken.items c.publish.ensures.published.each) (get nat_eq c.args.self.now.pages) c.args.self.now.placed;
   room = omega (arith, c.publish.ensures.published.room);
   few = c.args.self.now.few;
   listed =
       listed_published c.begin.new.work (record c.begin.new.work { unpublished = c.publish.new.lists }) c.args.issuer c.args.dsb c.args.n
       c.args.self.now.cells.items c.args.self.now.broken.items c.publish.new.broken.items c.begin.ensures.pes refl refl refl
       c.publish.ensures.published.each c.publish.ensures.known c.publish.ensures.others c.args.self.now.linked
-      (linked_seated c.args.self.now.broken.items c.publish.new.broken.items (seats c) c.args.self.now.cells.items c.publish.ensures.published.len c.args.self.now.linked)
+      (linked_seated c.args.self.now.broken.items c.publish.new.broken.items (seats c.args.issuer c.args.dsb c.args.n c.args.self.now.broken.items c.publish.new.broken.items c.publish.ensures.published.each) c.args.self.now.cells.items c.publish.ensures.published.len c.args.self.now.linked)
       (listed_begun c.args.self.now.work c.begin.new.work c.args.n c.len.result c.args.self.now.cells.items c.args.self.now.broken.items c.requires.some c.requires.within
       c.begin.ensures.pes (omega (arith, c.len.ensures)) c.begin.ensures.kept c.args.self.now.listed);
 }
