@@ -1,6 +1,5 @@
 -- What the cover of a place doesn't depend on.
-use Rattle.std.proofs.Common.{◌≡◌, ◌≤◌, ℕ, nat_le, Bool, true, false, cond, ◌&&◌, not, is_none, Option, Some, None, refl, sym, ◌∙◌, ap, arith, true≢false}
-use Rattle.std.proofs.lemmas.Bool.{and_parts, leb-true, le-leb}
+use Rattle.std.proofs.Common.{◌≡◌, ◌≤◌, ℕ, Bool, true, false, cond, ◌&&◌, not, is_none, Option, Some, None, refl, sym, ◌∙◌, ap, true≢false}
 use Rattle.bbm_regimes.specs.Extent.{Extent}
 use Rattle.bbm_regimes.specs.declared.regime.Kind.{Kind}
 use Rattle.bbm_regimes.specs.declared.regime.Kind.TheVariants.{El2, S2, Ttbr0, Ttbr1}
@@ -15,26 +14,12 @@ use Rattle.bbm_tlbi_scope.specs.declared.scope.Family.{Family}
 use Rattle.bbm_tlbi_scope.specs.declared.scope.Family.TheVariants.{El2All, El2Va, E1All, VmAll1, VmAll12, Ipa, Va, VaAll, Asid}
 use Rattle.bbm_tlbi_scope.specs.declared.scope.Scope.{Scope}
 use Rattle.bbm_replay.specs.Covering.{asks_tags}
+use Rattle.bbm_replay.proofs.Extents.{holds_meets}
 
 -- a scope that names all pages of a region names some
 all_some : (i : Option Extent) (r : Extent) → r.lo ≤ r.hi → names_some i r ≡ false → names_all i r ≡ false
 all_some None r some k = refl
-all_some (Some i) r some k = by (names_all (Some i) r) refl
-  where
-    by : (b : Bool) → names_all (Some i) r ≡ b → b ≡ false
-    by false e = refl
-    by true e =
-        let both = and_parts (nat_le i.lo r.lo) (nat_le r.hi i.hi) e in
-        let low : i.lo ≤ r.lo = leb-true i.lo r.lo both.0 in
-        let high : r.hi ≤ i.hi = leb-true r.hi i.hi both.1 in
-        let is : names_some (Some i) r ≡ true
-        = and_both (nat_le i.lo r.hi) (nat_le r.lo i.hi) (le-leb i.lo r.hi (omega arith)) (le-leb r.lo i.hi (omega arith)) in
-        absurd (true≢false (sym is ∙ k))
-      where
-        and_both : (a b : Bool) → a ≡ true → b ≡ true → (a && b) ≡ true
-        and_both true true p q = refl
-        and_both true false p q = q
-        and_both false b p q = p
+all_some (Some i) r some k = holds_meets i r some k
 
 module _ (s : Scope) (vmid : Option ℕ) (kind : Kind) (region : Extent) (level : ℕ) (table global : Bool) where
   abbrev pub seen : Bool → TagSet → PlaceView

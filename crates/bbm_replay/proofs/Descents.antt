@@ -1,7 +1,7 @@
 -- What a TLBI of one page covers lies on the way down to the page.
 use Rattle.std.proofs.Common.{◌≡◌, ℕ, zero, suc, ◌+◌, ◌*◌, ◌%◌, ◌<◌, ◌≤◌, ◌&&◌, ◌==◌, nat_le, Bool, true, false, cond, List, [], ◌∷◌, length, Option, Some, is_none, not, refl, sym, ◌∙◌, ap, subst, arith, true≢false}
 use Rattle.std.proofs.Math.Nat.{mul-le-mul_right}
-use Rattle.std.proofs.lemmas.Bool.{and_parts, eq-eqb, leb-true, le-leb}
+use Rattle.std.proofs.lemmas.Bool.{eq-eqb}
 use Rattle.bbm_descriptor.specs.declared.desc.Core.{Core}
 use Rattle.bbm_regimes.specs.Extent.{Extent, holds, meets}
 use Rattle.bbm_regimes.specs.World.{input_pages}
@@ -26,6 +26,7 @@ use Rattle.bbm_tree_index.specs.Descent.{IsWay, Translates}
 use Rattle.bbm_tree_index.specs.Held.{is_at, next_in}
 use Rattle.bbm_replay.specs.Laws.{Laws}
 use Rattle.bbm_replay.specs.OnePage.{NamesOne, covers_kind}
+use Rattle.bbm_replay.proofs.Extents.{holds_meets}
 
 -- ---- what a TLBI of one page doesn't cover
 
@@ -100,21 +101,7 @@ names_no_page : (at : ℕ) (r : Extent) → lies_in at r ≡ false → meets (re
 names_no_page at r k = and_swap (nat_le r.lo at) (nat_le at r.hi) k
 
 names_not_all : (at : ℕ) (r : Extent) → r.lo ≤ r.hi → lies_in at r ≡ false → holds (record { lo = at; hi = at }) r ≡ false
-names_not_all at r some k = by (holds (record { lo = at; hi = at }) r) refl
-  where
-    by : (b : Bool) → holds (record { lo = at; hi = at }) r ≡ b → b ≡ false
-    by false e = refl
-    by true e =
-        let both = and_parts (nat_le at r.lo) (nat_le r.hi at) e in
-        let low : at ≤ r.lo = leb-true at r.lo both.0 in
-        let high : r.hi ≤ at = leb-true r.hi at both.1 in
-        let is : lies_in at r ≡ true = and_both (nat_le r.lo at) (nat_le at r.hi) (le-leb r.lo at (omega arith)) (le-leb at r.hi (omega arith)) in
-        absurd (true≢false (sym is ∙ k))
-      where
-        and_both : (a b : Bool) → a ≡ true → b ≡ true → (a && b) ≡ true
-        and_both true true p q = refl
-        and_both true false p q = q
-        and_both false b p q = p
+names_not_all at r some k = holds_meets (record { lo = at; hi = at }) r some (names_no_page at r k)
 
 -- a TLBI of one page covers no place whose region doesn't have the page, and none of a kind that its family doesn't cover
 pub away : (s : Scope) (at : ℕ) → NamesOne s at → (vmid : Option ℕ) (v : PlaceView) → v.region.lo ≤ v.region.hi

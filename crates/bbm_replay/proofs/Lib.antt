@@ -22,6 +22,7 @@ pub mod Inside
 pub mod Found
 pub mod Empty
 pub mod Covered
+pub mod Extents
 pub mod Descents
 pub mod Findings
 pub mod Asking
