@@ -14,11 +14,12 @@ grows i n more h small = let next : i + 1 ≡ suc i = omega arith in rw next (om
 
 pub ruleset fitting = (fits, grows)
 
-abbrev below : (ℕ → Bool) → ℕ → Bool
+abbrev pub below : (ℕ → Bool) → ℕ → Bool
 below test zero = true
 below test (suc n) = test n && below test n
 
-below_each : (test : ℕ → Bool) (n k : ℕ) → below test n ≡ true → k < n → test k ≡ true
+-- the test holds of each number below n
+pub below_each : (test : ℕ → Bool) (n k : ℕ) → below test n ≡ true → k < n → test k ≡ true
 below_each test zero k e l = absurd (omega arith)
 below_each test (suc n) k e l = elim (cases_lt k n) [
   | inl less ↦ below_each test n k (and_parts (test n) (below test n) e).1 less

@@ -1,8 +1,8 @@
 -- A number, digit by digit.
-use Rattle.std.specs.Prelude.{ℕ, ◌+◌, ◌*◌, ◌^◌, List, [], ◌∷◌, ◌++◌, Bool, false, ◌&&◌, nat_lt, ◌==◌, if◌then◌else◌, Option}
+use Rattle.std.specs.Prelude.{ℕ, ◌+◌, ◌*◌, ◌/◌, ◌%◌, ◌^◌, List, [], ◌∷◌, ◌++◌, Bool, false, ◌&&◌, nat_lt, ◌==◌, if◌then◌else◌, Option}
 use Rattle.std.specs.Prelude.{Some, None}
 use Rattle.std.specs.Char.{digit_value}
-use Rattle.std.specs.Fmt.{digit_glyph, digits}
+use Rattle.std.specs.Fmt.{digit_glyph}
 use Rattle.std.specs.Option.{option_and_then}
 
 -- the byte is a lower-case digit in the base
@@ -26,6 +26,10 @@ number_of base [] = None
 number_of base (byte ∷ []) = number_after base 0 (byte ∷ [])
 number_of base (byte ∷ next ∷ bytes) = if byte == 48 then None else number_after base 0 (byte ∷ next ∷ bytes)
 
--- the digits of a front, none of 0, and then the digits that follow it
-abbrev pub led : ℕ → List ℕ → List ℕ
-led front behind = if front == 0 then behind else digits 16 false front ++ behind
+-- the two digits of a value below 2^8
+abbrev pub two : ℕ → List ℕ
+two value = digit_glyph false (value / 16) ∷ digit_glyph false (value % 16) ∷ []
+
+-- the four digits of a value below 2^16
+abbrev pub four : ℕ → List ℕ
+four value = two (value / 256) ++ two (value % 256)

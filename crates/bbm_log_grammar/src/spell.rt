@@ -1,9 +1,10 @@
 //! Words and numbers, appended to a line that has room for them.
 
-ghost use Rattle.std.specs.Prelude.{◌≡◌, ◌+◌, ◌≤◌, ◌<◌, false, ◌++◌, length, decimal, drop};
+ghost use Rattle.std.specs.Prelude.{◌≡◌, ◌+◌, ◌^◌, ◌≤◌, ◌<◌, false, ◌++◌, length, decimal};
 ghost use Rattle.std.specs.Fmt.{digits, digit_glyph};
 ghost use Rattle.arrayvec.specs.ArrayVec.{array_vec_len};
 ghost use Rattle.bbm_events.specs.Spelling.{hex};
+ghost use Rattle.bbm_log_grammar.specs.Digits.{two, four};
 
 use arrayvec::ArrayVec;
 use itoa::Buffer;
@@ -45,8 +46,8 @@ pub fn add_decimal<const N: usize>(out: &mut ArrayVec<u8, N>, n: u64)
 }
 
 /// The lower-case digit of a value below 16.
-#[inline]
-fn hex_digit(value: u8) -> u8
+#[inline(always)]
+fn hex_digit(value: u64) -> u8
     requires { value < 16 }
     ensures { result ≡ digit_glyph false value }
 {
@@ -70,36 +71,103 @@ fn hex_digit(value: u8) -> u8
     }
 }
 
-// Writes the digits of the number in base 16, without leading zeros, at the end of `text`; answers where they begin.
-#[inline]
-#[tactic(auto, using(crate::proofs::Spelled::hex_text))]
-fn put_digits(text: &mut [u8; 18], n: u64) -> usize
-    ensures room { 2 ≤ result }
-    ensures within { result ≤ 17 }
-    ensures digits { drop result text.new ≡ digits 16 false n }
+/// The two digits of each value below 2^8, one pair behind another.
+const PAIRS: [u8; 512] = *b"000102030405060708090a0b0c0d0e0f\
+      101112131415161718191a1b1c1d1e1f\
+      202122232425262728292a2b2c2d2e2f\
+      303132333435363738393a3b3c3d3e3f\
+      404142434445464748494a4b4c4d4e4f\
+      505152535455565758595a5b5c5d5e5f\
+      606162636465666768696a6b6c6d6e6f\
+      707172737475767778797a7b7c7d7e7f\
+      808182838485868788898a8b8c8d8e8f\
+      909192939495969798999a9b9c9d9e9f\
+      a0a1a2a3a4a5a6a7a8a9aaabacadaeaf\
+      b0b1b2b3b4b5b6b7b8b9babbbcbdbebf\
+      c0c1c2c3c4c5c6c7c8c9cacbcccdcecf\
+      d0d1d2d3d4d5d6d7d8d9dadbdcdddedf\
+      e0e1e2e3e4e5e6e7e8e9eaebecedeeef\
+      f0f1f2f3f4f5f6f7f8f9fafbfcfdfeff";
+
+// Appends the two digits of a value below 2^8, with its leading zero.
+#[inline(always)]
+#[tactic(auto, using(crate::proofs::Spelled::pair_at))]
+fn add_two<const N: usize>(out: &mut ArrayVec<u8, N>, value: u64)
+    requires small { value < 256 }
+    requires room { array_vec_len out.old + 2 ≤ N }
+    ensures appended { out.new.items ≡ out.old.items ++ two value }
+    ensures longer { array_vec_len out.new ≡ array_vec_len out.old + 2 }
 {
-    let mut at = 17;
-    text[17] = hex_digit((n % 16) as u8);
-    let mut front = n / 16;
-    while front > 0 {
-        at -= 1;
-        text[at] = hex_digit((front % 16) as u8);
-        front /= 16;
-    }
-    at
+    let from = value as usize * 2;
+    add(out, &[PAIRS[from], PAIRS[from + 1]]);
 }
 
-// Writes the one hex spelling of the number at the end of `text`; answers where it begins.
-#[inline]
-#[tactic(auto, using(crate::proofs::Spelled::marked))]
-fn put_hex(text: &mut [u8; 18], n: u64) -> usize
-    ensures within { result ≤ 17 }
-    ensures spelled { drop result text.new ≡ hex n }
+// Appends the four digits of a value below 2^16, with its leading zeros.
+#[inline(always)]
+fn add_four<const N: usize>(out: &mut ArrayVec<u8, N>, value: u64)
+    requires small { value < 65536 }
+    requires room { array_vec_len out.old + 4 ≤ N }
+    ensures appended { out.new.items ≡ out.old.items ++ four value }
+    ensures longer { array_vec_len out.new ≡ array_vec_len out.old + 4 }
 {
-    let at = put_digits(text, n);
-    text[at - 1] = b'x';
-    text[at - 2] = b'0';
-    at - 2
+    add_two(out, value / 256);
+    add_two(out, value % 256);
+}
+
+// Appends the digits of a number below 2^16, without leading zeros.
+#[inline(always)]
+#[tactic(auto, using(crate::proofs::Spelled::first_digits))]
+fn add_first<const N: usize>(out: &mut ArrayVec<u8, N>, n: u64)
+    requires small { n < 65536 }
+    requires room { array_vec_len out.old + 4 ≤ N }
+    ensures appended { out.new.items ≡ out.old.items ++ digits 16 false n }
+    ensures longer { array_vec_len out.new ≤ array_vec_len out.old + 4 }
+{
+    if n < 16 {
+        out.push(hex_digit(n));
+    } else if n < 256 {
+        add_two(out, n);
+    } else if n < 4096 {
+        out.push(hex_digit(n / 256));
+        add_two(out, n % 256);
+    } else {
+        add_four(out, n);
+    }
+}
+
+// Appends the digits of a number below 2^32, without leading zeros.
+#[inline(always)]
+#[tactic(auto, using(crate::proofs::Spelled::four_more))]
+fn add_low<const N: usize>(out: &mut ArrayVec<u8, N>, n: u64)
+    requires small { n < 2 ^ 32 }
+    requires room { array_vec_len out.old + 8 ≤ N }
+    ensures appended { out.new.items ≡ out.old.items ++ digits 16 false n }
+    ensures longer { array_vec_len out.new ≤ array_vec_len out.old + 8 }
+{
+    if n < 65536 {
+        add_first(out, n);
+    } else {
+        add_first(out, n / 65536);
+        add_four(out, n % 65536);
+    }
+}
+
+/// Appends the digits of the number in base 16, at most 16, without leading zeros.
+#[inline(always)]
+#[tactic(auto, using(crate::proofs::Spelled::eight_more))]
+pub(crate) fn add_digits<const N: usize>(out: &mut ArrayVec<u8, N>, n: u64)
+    requires room { array_vec_len out.old + 16 ≤ N }
+    ensures appended { out.new.items ≡ out.old.items ++ digits 16 false n }
+    ensures longer { array_vec_len out.new ≤ array_vec_len out.old + 16 }
+{
+    let high = n / 0x1_0000_0000;
+    if high == 0 {
+        add_low(out, n);
+    } else {
+        add_low(out, high);
+        add_four(out, n / 65536 % 65536);
+        add_four(out, n % 65536);
+    }
 }
 
 /// Appends the one hex spelling of the number, `0x` and at most 16 digits.
@@ -108,7 +176,6 @@ pub fn add_hex<const N: usize>(out: &mut ArrayVec<u8, N>, n: u64)
     ensures appended { out.new.items ≡ out.old.items ++ hex n }
     ensures longer { array_vec_len out.new ≤ array_vec_len out.old + 18 }
 {
-    let mut text = [0; 18];
-    let at = put_hex(&mut text, n);
-    add(out, &text[at..]);
+    add(out, b"0x");
+    add_digits(out, n);
 }

@@ -10,7 +10,7 @@ ghost use Rattle.bbm_events.specs.Fits.{item_fits};
 ghost use Rattle.bbm_events.specs.Lines.{header_of, item_of, header_fields, cnp_fields, header_line, item_line, lock_text, event_fields, label_fields};
 ghost use Rattle.bbm_regimes.specs.declared.regime.World.TheVariants.{Hyp, Kernel};
 
-use crate::spell::{add, add_decimal, add_hex};
+use crate::spell::{add, add_decimal, add_digits};
 use crate::words::{asid_from_word, cnp_word, dsb_word, kind_word, op_word, reg_word};
 use arrayvec::ArrayVec;
 use bbm_barriers::{Domain, Dsb, Types};
@@ -46,8 +46,8 @@ pub(crate) fn add_hex_field<const N: usize>(out: &mut ArrayVec<u8, N>, n: u64)
     ensures appended { out.new.items ≡ out.old.items ++ 32 ∷ hex n }
     ensures longer { array_vec_len out.new ≤ array_vec_len out.old + 19 }
 {
-    add(out, b" ");
-    add_hex(out, n);
+    add(out, b" 0x");
+    add_digits(out, n);
 }
 
 /// The first word of an event line with the space behind it, and its PE.
@@ -143,15 +143,30 @@ fn barrier_line<const N: usize>(out: &mut ArrayVec<u8, N>, word: &[u8], pe: Pe, 
     add_dsb_field(out, dsb);
 }
 
-/// `tlbi PE OP`, and ` XT` where the operation has an operand.
+/// The operation of a TLBI; those of generated logs are written at once.
 #[tactic(auto, using(crate::proofs::Short::op_word_short))]
+#[inline(always)]
+fn add_op_field<const N: usize>(out: &mut ArrayVec<u8, N>, op: TlbiOp)
+    requires room { array_vec_len out.old + 13 ≤ N }
+    ensures appended { out.new.items ≡ out.old.items ++ 32 ∷ words.op_word op }
+    ensures longer { array_vec_len out.new ≤ array_vec_len out.old + 13 }
+{
+    match op {
+        TlbiOp::Vae2is => add(out, b" vae2is"),
+        TlbiOp::Ipas2e1is => add(out, b" ipas2e1is"),
+        TlbiOp::Vmalle1is => add(out, b" vmalle1is"),
+        _ => add_word_field(out, op_word(op)),
+    }
+}
+
+/// `tlbi PE OP`, and ` XT` where the operation has an operand.
 fn tlbi_line<const N: usize>(out: &mut ArrayVec<u8, N>, pe: Pe, op: TlbiOp, xt: u64)
     requires room { array_vec_len out.old + 200 ≤ N }
     ensures line { out.new.items ≡ out.old.items ++ joined (event_fields (event.Tlbi pe op xt)) }
     ensures longer { array_vec_len out.new ≤ array_vec_len out.old + 100 }
 {
     begin(out, b"tlbi ", pe);
-    add_word_field(out, op_word(op));
+    add_op_field(out, op);
     if op.has_operand() {
         add_hex_field(out, xt);
     }
