@@ -15,10 +15,10 @@ use arrayvec::ArrayVec;
 use bbm_events::{Header, Item};
 use bbm_gen::{gen_event, gen_header};
 use bbm_io::{Failed, Sink};
-use bbm_log_grammar::{append_event, write_header};
+use bbm_log_grammar::{append_event, write_event, write_header};
 
 /// The bytes that are written at once. Source: project's own choice.
-const BUFFER_BYTES: usize = 16384;
+const BUFFER_BYTES: usize = 65536;
 
 /// The bytes of the buffer that are free after each line: room for the longest line and its newline. Source: project's
 /// own choice.
@@ -26,7 +26,7 @@ const LINE_ROOM: usize = 256;
 
 // Writes what is buffered where there may be no room for another line.
 fn make_room<K: Sink>(buffer: &mut ArrayVec<u8, BUFFER_BYTES>, out: &mut K) -> Result<(), Failed>
-    ensures room { OnOk result (array_vec_len buffer.new + 256 ≤ 16384) }
+    ensures room { OnOk result (array_vec_len buffer.new + 256 ≤ 65536) }
     ensures poured { (text : List ℕ) (start : Option (List ℕ)) (faults : ℕ)
         → Buffered text buffer.old.items start (K.held out.old) faults (K.faults out.old)
         → Pours text result buffer.new.items start (K.held out.new) faults (K.faults out.new) }
@@ -45,7 +45,7 @@ fn make_room<K: Sink>(buffer: &mut ArrayVec<u8, BUFFER_BYTES>, out: &mut K) -> R
 
 // Appends a line and its newline, for which there is room.
 fn append(buffer: &mut ArrayVec<u8, BUFFER_BYTES>, line: &ArrayVec<u8, 200>)
-    requires room { array_vec_len buffer.old + 256 ≤ 16384 }
+    requires room { array_vec_len buffer.old + 256 ≤ 65536 }
     ensures appended { buffer.new.items ≡ buffer.old.items ++ ended line.now.items }
 {
     let _fits = buffer.try_extend_from_slice(line);
@@ -73,8 +73,9 @@ fn add_line<K: Sink>(
 }
 
 // Appends the line of an item and its newline, for which there is room.
+#[inline(always)]
 fn append_item(header: &Header, item: Item, buffer: &mut ArrayVec<u8, BUFFER_BYTES>)
-    requires room { array_vec_len buffer.old + 256 ≤ 16384 }
+    requires room { array_vec_len buffer.old + 256 ≤ 65536 }
     requires fits { item_fits header.now item ≡ true }
     ensures appended { buffer.new.items ≡ buffer.old.items ++ ended (item_line item) }
 {
@@ -82,7 +83,7 @@ fn append_item(header: &Header, item: Item, buffer: &mut ArrayVec<u8, BUFFER_BYT
     buffer.push(b'\n');
 }
 
-// Adds the line of an item.
+// Adds the line of an item, made apart: only the loop over events appends to the buffer, so that it is compiled into it.
 fn add_item<K: Sink>(
     header: &Header,
     item: Item,
@@ -95,13 +96,9 @@ fn add_item<K: Sink>(
         → Pours (text ++ ended (item_line item)) result buffer.new.items start (K.held out.new)
         faults (K.faults out.new) }
 {
-    match make_room(buffer, out) {
-        Ok(()) => {
-            append_item(header, item, buffer);
-            Ok(())
-        }
-        Err(failed) => Err(failed),
-    }
+    let mut line = ArrayVec::new();
+    write_event(header, item, &mut line);
+    add_line(buffer, &line, out)
 }
 
 // Adds the line of the header to an empty buffer.
@@ -135,8 +132,11 @@ fn add_events<K: Sink>(
 {
     let mut i = 0;
     'events: while i < count {
-        match add_item(header, Item::Event(gen_event(n, i), None), buffer, out) {
-            Ok(()) => i += 1,
+        match make_room(buffer, out) {
+            Ok(()) => {
+                append_item(header, Item::Event(gen_event(n, i), None), buffer);
+                i += 1;
+            }
             Err(failed) => return Err(failed),
         }
     }

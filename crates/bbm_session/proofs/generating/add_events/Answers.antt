@@ -1,11 +1,11 @@
-use Rattle.std.proofs.Common.{◌≡◌, ◌+◌, ◌++◌, ℕ, suc, List, Err, None, arith, subst, sym, ap, ◌∙◌}
+use Rattle.std.proofs.Common.{◌≡◌, ◌+◌, ◌++◌, ℕ, suc, List, None, arith, subst, sym, ap, ◌∙◌}
 use Rattle.bbm_events.specs.declared.event.Event.{Event as EventOf}
 use Rattle.bbm_events.specs.declared.event.Item.TheVariants.{Event}
 use Rattle.bbm_events.specs.Lines.{item_line}
 use Rattle.bbm_gen.specs.Generated.{event_at}
 use Rattle.bbm_session.specs.Generating.{ended, gen_begin}
-use Rattle.bbm_session.specs.Writing.{Buffered, Pours}
-use Rattle.bbm_session.proofs.Pouring.{begin-none, begin-more, cut-short}
+use Rattle.bbm_session.specs.Writing.{Buffered}
+use Rattle.bbm_session.proofs.Pouring.{begin-none, begin-more, buffered-more, cut-short}
 use Rattle.bbm_session.proofs.generating.add_events.Goals as goal
 
 pub events-init : goal.events-init
@@ -25,19 +25,18 @@ pub events-preserved : goal.events-preserved
 events-preserved g c = record {
   within = omega (arith, c.events-test.true);
   poured = λ start faults buffered.
-      subst (λ (t : List ℕ). Buffered t c.add_item.new.buffer.items start (g.K.Sink.held c.add_item.new.out) faults (g.K.Sink.faults c.add_item.new.out))
+      subst (λ (t : List ℕ). Buffered t c.append_item.new.buffer.items start (g.K.Sink.held c.make_room.new.out) faults (g.K.Sink.faults c.make_room.new.out))
       (longer c.args.n c.events.i c.gen_event.result c.gen_event.ensures.value)
-      (c.in-Ok.ensures.poured (gen_begin c.args.n c.events.i) start faults (c.events.invariant.poured start faults buffered));
+      (buffered-more (gen_begin c.args.n c.events.i) c.make_room.new.buffer.items (ended (item_line (Event c.gen_event.result None))) c.append_item.new.buffer.items start _ faults _ c.append_item.ensures.appended
+      (c.in-Ok.ensures.poured (gen_begin c.args.n c.events.i) start faults (c.events.invariant.poured start faults buffered)));
 }
 
 pub returns-in-Err : goal.returns-in-Err
 returns-in-Err g c = record {
   poured = λ start faults buffered.
-      cut-short c.args.n (c.events.i + 1) c.args.count c.in-Err.failed c.add_item.new.buffer.items start (g.K.Sink.held c.add_item.new.out) faults (g.K.Sink.faults c.add_item.new.out)
+      cut-short c.args.n c.events.i c.args.count c.in-Err.failed c.make_room.new.buffer.items start (g.K.Sink.held c.make_room.new.out) faults (g.K.Sink.faults c.make_room.new.out)
       (omega (arith, c.events-test.true))
-      (subst (λ (t : List ℕ). Pours t (Err c.in-Err.failed) c.add_item.new.buffer.items start (g.K.Sink.held c.add_item.new.out) faults (g.K.Sink.faults c.add_item.new.out))
-      (longer c.args.n c.events.i c.gen_event.result c.gen_event.ensures.value)
-      (c.in-Err.ensures.poured (gen_begin c.args.n c.events.i) start faults (c.events.invariant.poured start faults buffered)));
+      (c.in-Err.ensures.poured (gen_begin c.args.n c.events.i) start faults (c.events.invariant.poured start faults buffered));
 }
 
 pub returns : goal.returns
