@@ -1,7 +1,9 @@
--- The first word of a line, or the option of a barrier, where a space follows it.
-use Rattle.std.proofs.Common.{◌≡◌, ℕ, suc, ◌-◌, ◌≤◌, List, [], ◌∷◌, ◌++◌, length, take, drop, get_or, codes, refl, ap, ◌∙◌, Ok, arith}
+-- The first word of a line, the option of a barrier, or the operation of a TLBI, where a space follows it.
+use Rattle.std.proofs.Common.{◌≡◌, ℕ, suc, ◌-◌, ◌<◌, ◌≤◌, List, [], ◌∷◌, ◌++◌, length, take, drop, get_or, codes, refl, ap, ◌∙◌, Ok, arith}
 use Rattle.std.specs.Bool.{⊤}
 use Rattle.std.proofs.lemmas.List.{take_rest}
+use Rattle.bbm_tlbi_scope.specs.declared.op.TlbiOp.{TlbiOp}
+use Rattle.bbm_tlbi_scope.specs.declared.op.TlbiOp.TheVariants.{Vae2is, Vale2is, Vae1is, Vale1is, Ipas2e1is, Vmalle1is, Alle2is}
 use Rattle.bbm_barriers.specs.declared.Dsb.{Dsb}
 use Rattle.bbm_barriers.specs.declared.Domain.TheVariants.{Inner}
 use Rattle.bbm_barriers.specs.declared.Types.TheVariants.{All, Stores}
@@ -9,6 +11,7 @@ use Rattle.bbm_events.specs.Spelling.{fields}
 use Rattle.bbm_events.specs.declared.keyword.Keyword.{Keyword}
 use Rattle.bbm_events.specs.declared.keyword.Keyword.TheVariants as first
 use Rattle.bbm_events.specs.Lines.{FieldRead, keyword_field, dsb_field}
+use Rattle.bbm_log_grammar.specs.Front.{named_op}
 
 abbrev keyword : List ℕ → FieldRead Keyword
 keyword line = keyword_field (fields line)
@@ -30,6 +33,16 @@ begins (code ∷ more) [] some has = absurd (omega arith)
 begins (code ∷ more) (byte ∷ bytes) some has =
     let is : byte ≡ code = has.0 in
     let rest : bytes ≡ more ++ drop (length more) bytes = begins more bytes (omega arith) (behind byte bytes 0 more has.1) in
+    ap (λ (b : ℕ). b ∷ bytes) is ∙ ap (λ (l : List ℕ). code ∷ l) rest
+
+-- the text is the word
+stands : (word text : List ℕ) → length word ≤ length text → length text < suc (length word) → Has text 0 word → text ≡ word
+stands [] [] some few has = refl
+stands [] (byte ∷ bytes) some few has = absurd (omega arith)
+stands (code ∷ more) [] some few has = absurd (omega arith)
+stands (code ∷ more) (byte ∷ bytes) some few has =
+    let is : byte ≡ code = has.0 in
+    let rest : bytes ≡ more = stands more bytes (omega arith) (omega arith) (behind byte bytes 0 more has.1) in
     ap (λ (b : ℕ). b ∷ bytes) is ∙ ap (λ (l : List ℕ). code ∷ l) rest
 
 pub begins_w : (text : List ℕ) → 2 ≤ length text → get_or text 0 0 ≡ 119 → get_or text 1 0 ≡ 32 → keyword text ≡ Ok (first.Write, fields (take (length text - 2) (drop 2 text)))
@@ -74,3 +87,29 @@ pub begins_ishst : (text : List ℕ) → 6 ≤ length text → get_or text 0 0 �
 begins_ishst text some h0 h1 h2 h3 h4 h5 = rw (take_rest text 6) (ap option (begins (codes "ishst ") text some (h0, (h1, (h2, (h3, (h4, (h5, tt))))))))
 
 pub ruleset options_begun = (begins_ish, begins_ishst)
+
+abbrev operation : List ℕ → FieldRead TlbiOp
+operation line = named_op (fields line)
+
+pub begins_vae2is : (text : List ℕ) → 7 ≤ length text → get_or text 0 0 ≡ 118 → get_or text 1 0 ≡ 97 → get_or text 2 0 ≡ 101 → get_or text 3 0 ≡ 50 → get_or text 4 0 ≡ 105 → get_or text 5 0 ≡ 115 → get_or text 6 0 ≡ 32 → operation text ≡ Ok (Vae2is, fields (take (length text - 7) (drop 7 text)))
+begins_vae2is text some h0 h1 h2 h3 h4 h5 h6 = rw (take_rest text 7) (ap operation (begins (codes "vae2is ") text some (h0, (h1, (h2, (h3, (h4, (h5, (h6, tt)))))))))
+
+pub begins_vale2is : (text : List ℕ) → 8 ≤ length text → get_or text 0 0 ≡ 118 → get_or text 1 0 ≡ 97 → get_or text 2 0 ≡ 108 → get_or text 3 0 ≡ 101 → get_or text 4 0 ≡ 50 → get_or text 5 0 ≡ 105 → get_or text 6 0 ≡ 115 → get_or text 7 0 ≡ 32 → operation text ≡ Ok (Vale2is, fields (take (length text - 8) (drop 8 text)))
+begins_vale2is text some h0 h1 h2 h3 h4 h5 h6 h7 = rw (take_rest text 8) (ap operation (begins (codes "vale2is ") text some (h0, (h1, (h2, (h3, (h4, (h5, (h6, (h7, tt))))))))))
+
+pub begins_vae1is : (text : List ℕ) → 7 ≤ length text → get_or text 0 0 ≡ 118 → get_or text 1 0 ≡ 97 → get_or text 2 0 ≡ 101 → get_or text 3 0 ≡ 49 → get_or text 4 0 ≡ 105 → get_or text 5 0 ≡ 115 → get_or text 6 0 ≡ 32 → operation text ≡ Ok (Vae1is, fields (take (length text - 7) (drop 7 text)))
+begins_vae1is text some h0 h1 h2 h3 h4 h5 h6 = rw (take_rest text 7) (ap operation (begins (codes "vae1is ") text some (h0, (h1, (h2, (h3, (h4, (h5, (h6, tt)))))))))
+
+pub begins_vale1is : (text : List ℕ) → 8 ≤ length text → get_or text 0 0 ≡ 118 → get_or text 1 0 ≡ 97 → get_or text 2 0 ≡ 108 → get_or text 3 0 ≡ 101 → get_or text 4 0 ≡ 49 → get_or text 5 0 ≡ 105 → get_or text 6 0 ≡ 115 → get_or text 7 0 ≡ 32 → operation text ≡ Ok (Vale1is, fields (take (length text - 8) (drop 8 text)))
+begins_vale1is text some h0 h1 h2 h3 h4 h5 h6 h7 = rw (take_rest text 8) (ap operation (begins (codes "vale1is ") text some (h0, (h1, (h2, (h3, (h4, (h5, (h6, (h7, tt))))))))))
+
+pub begins_ipas2e1is : (text : List ℕ) → 10 ≤ length text → get_or text 0 0 ≡ 105 → get_or text 1 0 ≡ 112 → get_or text 2 0 ≡ 97 → get_or text 3 0 ≡ 115 → get_or text 4 0 ≡ 50 → get_or text 5 0 ≡ 101 → get_or text 6 0 ≡ 49 → get_or text 7 0 ≡ 105 → get_or text 8 0 ≡ 115 → get_or text 9 0 ≡ 32 → operation text ≡ Ok (Ipas2e1is, fields (take (length text - 10) (drop 10 text)))
+begins_ipas2e1is text some h0 h1 h2 h3 h4 h5 h6 h7 h8 h9 = rw (take_rest text 10) (ap operation (begins (codes "ipas2e1is ") text some (h0, (h1, (h2, (h3, (h4, (h5, (h6, (h7, (h8, (h9, tt))))))))))))
+
+pub stands_vmalle1is : (text : List ℕ) → 9 ≤ length text → length text < 10 → get_or text 0 0 ≡ 118 → get_or text 1 0 ≡ 109 → get_or text 2 0 ≡ 97 → get_or text 3 0 ≡ 108 → get_or text 4 0 ≡ 108 → get_or text 5 0 ≡ 101 → get_or text 6 0 ≡ 49 → get_or text 7 0 ≡ 105 → get_or text 8 0 ≡ 115 → operation text ≡ Ok (Vmalle1is, [])
+stands_vmalle1is text some few h0 h1 h2 h3 h4 h5 h6 h7 h8 = ap operation (stands (codes "vmalle1is") text some few (h0, (h1, (h2, (h3, (h4, (h5, (h6, (h7, (h8, tt))))))))))
+
+pub stands_alle2is : (text : List ℕ) → 7 ≤ length text → length text < 8 → get_or text 0 0 ≡ 97 → get_or text 1 0 ≡ 108 → get_or text 2 0 ≡ 108 → get_or text 3 0 ≡ 101 → get_or text 4 0 ≡ 50 → get_or text 5 0 ≡ 105 → get_or text 6 0 ≡ 115 → operation text ≡ Ok (Alle2is, [])
+stands_alle2is text some few h0 h1 h2 h3 h4 h5 h6 = ap operation (stands (codes "alle2is") text some few (h0, (h1, (h2, (h3, (h4, (h5, (h6, tt))))))))
+
+pub ruleset operations_begun = (begins_vae2is, begins_vale2is, begins_vae1is, begins_vale1is, begins_ipas2e1is, stands_vmalle1is, stands_alle2is)

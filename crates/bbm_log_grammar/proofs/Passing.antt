@@ -2,29 +2,33 @@
 use Rattle.std.proofs.Common.{◌≡◌, ℕ, List, [], ◌∷◌, Bool, Option, Some, None, Result, Ok, Err, ap}
 use Rattle.bbm_events.specs.Spelling.{decimal_value, hex_value}
 use Rattle.bbm_events.specs.declared.malformed.Malformed.{Malformed}
-use Rattle.bbm_events.specs.Lines.{Fields, next_field, found, passing}
+use Rattle.bbm_events.specs.declared.malformed.Malformed.TheVariants.{MissingField, UnknownWord}
+use Rattle.bbm_events.specs.Lines.{Fields, next_field, line_field, found, passing}
+use Rattle.bbm_events.specs.Words.{with_word, op_word, ops}
+use Rattle.bbm_tlbi_scope.specs.declared.op.TlbiOp.{TlbiOp}
+use Rattle.bbm_log_grammar.specs.Front.{named_op}
 
-passed : (absent unreadable : Malformed) (read : List ℕ → Option ℕ) (test : ℕ → Bool) (fields : Fields) {n : ℕ} {rest : Fields}
+passed : {A : Type 0} (absent unreadable : Malformed) (read : List ℕ → Option A) (test : A → Bool) (fields : Fields) {n : A} {rest : Fields}
     → next_field absent unreadable read fields ≡ Ok (n, rest)
     → next_field absent unreadable (λ text. passing test (read text)) fields ≡ found unreadable (passing test (Some n)) rest
 passed absent unreadable read test [] e = cc
-passed absent unreadable read test (text ∷ more) {n = n} {rest = rest} e = by (read text) e
+passed {A = A} absent unreadable read test (text ∷ more) {n = n} {rest = rest} e = by (read text) e
   where
-    tested : Result (ℕ × Fields) Malformed → Result (ℕ × Fields) Malformed
+    tested : Result (A × Fields) Malformed → Result (A × Fields) Malformed
     tested (Ok x) = found unreadable (passing test (Some x.0)) x.1
     tested (Err cause) = Err cause
 
-    by : (value : Option ℕ) → found unreadable value more ≡ Ok (n, rest) → found unreadable (passing test value) more ≡ found unreadable (passing test (Some n)) rest
+    by : (value : Option A) → found unreadable value more ≡ Ok (n, rest) → found unreadable (passing test value) more ≡ found unreadable (passing test (Some n)) rest
     by None f = cc
     by (Some m) f = ap tested f
 
-unread : (absent unreadable : Malformed) (read : List ℕ → Option ℕ) (test : ℕ → Bool) (fields : Fields) {cause : Malformed}
+unread : {A : Type 0} (absent unreadable : Malformed) (read : List ℕ → Option A) (test : A → Bool) (fields : Fields) {cause : Malformed}
     → next_field absent unreadable read fields ≡ Err cause
     → next_field absent unreadable (λ text. passing test (read text)) fields ≡ Err cause
 unread absent unreadable read test [] e = cc
-unread absent unreadable read test (text ∷ more) {cause = cause} e = by (read text) e
+unread {A = A} absent unreadable read test (text ∷ more) {cause = cause} e = by (read text) e
   where
-    by : (value : Option ℕ) → found unreadable value more ≡ Err cause → found unreadable (passing test value) more ≡ Err cause
+    by : (value : Option A) → found unreadable value more ≡ Err cause → found unreadable (passing test value) more ≡ Err cause
     by None f = f
     by (Some m) f = cc
 
@@ -39,5 +43,11 @@ hex_passed absent unreadable test fields e = passed absent unreadable hex_value 
 
 pub hex_unread : (absent unreadable : Malformed) (test : ℕ → Bool) (fields : Fields) {cause : Malformed} → next_field absent unreadable hex_value fields ≡ Err cause → next_field absent unreadable (λ text. passing test (hex_value text)) fields ≡ Err cause
 hex_unread absent unreadable test fields e = unread absent unreadable hex_value test fields e
+
+pub op_passed : (test : TlbiOp → Bool) (fields : Fields) {op : TlbiOp} {rest : Fields} → named_op fields ≡ Ok (op, rest) → line_field UnknownWord (λ text. passing test (with_word op_word ops text)) fields ≡ found UnknownWord (passing test (Some op)) rest
+op_passed test fields e = passed MissingField UnknownWord (with_word op_word ops) test fields e
+
+pub op_unread : (test : TlbiOp → Bool) (fields : Fields) {cause : Malformed} → named_op fields ≡ Err cause → line_field UnknownWord (λ text. passing test (with_word op_word ops text)) fields ≡ Err cause
+op_unread test fields e = unread MissingField UnknownWord (with_word op_word ops) test fields e
 
 pub ruleset passing_fields = (decimal_passed, decimal_unread, hex_passed, hex_unread)

@@ -1,7 +1,11 @@
 -- The first field of a line, read from its left up to the first space.
 use Rattle.std.specs.Prelude.{ℕ, List, [], ◌∷◌, ◌==◌, if◌then◌else◌, Option, Some, None}
 use Rattle.std.specs.Option.{option_and_then}
+use Rattle.bbm_tlbi_scope.specs.declared.op.TlbiOp.{TlbiOp}
+use Rattle.bbm_events.specs.declared.malformed.Malformed.TheVariants.{UnknownWord}
 use Rattle.bbm_events.specs.Spelling.{fields}
+use Rattle.bbm_events.specs.Words.{with_word, op_word, ops}
+use Rattle.bbm_events.specs.Lines.{Fields, FieldRead, line_field}
 use Rattle.bbm_log_grammar.specs.Digits.{next_number}
 
 -- the first field
@@ -32,3 +36,7 @@ run base n (byte ∷ bytes) = if byte == 32 then Some (n, fields bytes) else opt
 abbrev pub only_zero : List ℕ → Option (ℕ × List (List ℕ))
 only_zero [] = Some (0, [])
 only_zero (byte ∷ bytes) = if byte == 32 then Some (0, fields bytes) else None
+
+-- the operation of a TLBI whose word the next field is, under whichever version
+abbrev pub named_op : Fields → FieldRead TlbiOp
+named_op = line_field UnknownWord (with_word op_word ops)

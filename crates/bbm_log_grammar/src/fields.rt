@@ -5,10 +5,12 @@ ghost use Rattle.std.specs.List.{position};
 ghost use Rattle.std.specs.Option.{option_copied};
 ghost use Rattle.bbm_events.specs.Spelling.{decimal_value, fields, hex_value};
 ghost use Rattle.bbm_events.specs.Lines as lines;
+ghost use Rattle.bbm_log_grammar.specs.Front.{named_op};
 
-use crate::firsts::{first_decimal, first_dsb, first_hex};
+use crate::firsts::{first_decimal, first_dsb, first_hex, first_op};
 use bbm_barriers::Dsb;
 use bbm_events::Malformed;
+use bbm_tlbi_scope::TlbiOp;
 use std::marker::Model;
 
 /// The fields of a line that aren't read yet. A clause sees the list of them.
@@ -56,6 +58,14 @@ impl<'a> Fields<'a> {
         ensures { result ≡ lines.dsb_field self.entry }
     {
         first_dsb(self.rest.ok_or(Malformed::MissingField)?)
+    }
+
+    /// The operation of a TLBI that the next field is, and the fields after it.
+    #[inline(always)]
+    pub(crate) fn op(self) -> Result<(TlbiOp, Fields<'a>), Malformed>
+        ensures { result ≡ named_op self.entry }
+    {
+        first_op(self.rest.ok_or(Malformed::MissingField)?)
     }
 
     /// The number in decimal that the next field spells, and the fields after it; the first cause where no field is

@@ -4,14 +4,15 @@ ghost use Rattle.std.specs.Prelude.{◌≡◌};
 ghost use Rattle.bbm_barriers.specs.declared.Domain.TheVariants.{Inner};
 ghost use Rattle.bbm_events.specs.Spelling.{decimal_value, fields, hex_value};
 ghost use Rattle.bbm_log_grammar.specs.Digits.{next_number, number_of};
-ghost use Rattle.bbm_log_grammar.specs.Front.{first_value, only_zero, run, with_rest};
+ghost use Rattle.bbm_log_grammar.specs.Front.{first_value, named_op, only_zero, run, with_rest};
 ghost use Rattle.bbm_events.specs.Lines as lines;
 
 use crate::fields::Fields;
 use crate::numbers::{low_hex, next_decimal, next_hex};
-use crate::words::{dsb_of, keyword_of};
+use crate::words::{dsb_of, keyword_of, op_of};
 use bbm_barriers::{Domain, Dsb, Types};
 use bbm_events::{Keyword, Malformed};
+use bbm_tlbi_scope::TlbiOp;
 
 /// The number that the bytes up to the first space write as decimal digits, and the fields after it.
 #[inline]
@@ -206,5 +207,53 @@ pub(crate) fn first_dsb<'a>(line: &'a [u8]) -> Result<(Dsb, Fields<'a>), Malform
             Ok((inner(Types::Stores), Fields::of(rest)))
         }
         _ => any_dsb(Fields::of(line)),
+    }
+}
+
+/// The operation of a TLBI that the next field is, and the fields after it.
+#[inline(never)]
+fn any_op<'a>(fields: Fields<'a>) -> Result<(TlbiOp, Fields<'a>), Malformed>
+    ensures { result ≡ named_op fields.entry }
+{
+    let (text, rest) = fields.next_or(Malformed::MissingField)?;
+    let value = op_of(text).ok_or(Malformed::UnknownWord)?;
+    Ok((value, rest))
+}
+
+/// The operation of a TLBI that the line begins with, and the fields after it; those of most lines are found at once.
+#[inline(always)]
+#[tactic(auto, using(crate::proofs::Begun::operations_begun))]
+pub(crate) fn first_op<'a>(line: &'a [u8]) -> Result<(TlbiOp, Fields<'a>), Malformed>
+    ensures { result ≡ named_op (fields line.now) }
+{
+    match line {
+        [b'v', b'a', b'e', b'2', b'i', b's', b' ', rest @ ..] => {
+            Ok((TlbiOp::Vae2is, Fields::of(rest)))
+        }
+        [b'v', b'a', b'l', b'e', b'2', b'i', b's', b' ', rest @ ..] => {
+            Ok((TlbiOp::Vale2is, Fields::of(rest)))
+        }
+        [b'v', b'a', b'e', b'1', b'i', b's', b' ', rest @ ..] => {
+            Ok((TlbiOp::Vae1is, Fields::of(rest)))
+        }
+        [b'v', b'a', b'l', b'e', b'1', b'i', b's', b' ', rest @ ..] => {
+            Ok((TlbiOp::Vale1is, Fields::of(rest)))
+        }
+        [
+            b'i',
+            b'p',
+            b'a',
+            b's',
+            b'2',
+            b'e',
+            b'1',
+            b'i',
+            b's',
+            b' ',
+            rest @ ..,
+        ] => { Ok((TlbiOp::Ipas2e1is, Fields::of(rest))) }
+        b"vmalle1is" => Ok((TlbiOp::Vmalle1is, Fields::none())),
+        b"alle2is" => Ok((TlbiOp::Alle2is, Fields::none())),
+        _ => any_op(Fields::of(line)),
     }
 }

@@ -7,7 +7,7 @@ ghost use Rattle.bbm_log_grammar.specs.InLine.{item_in, read_in};
 use crate::fields::Fields;
 use crate::line::LineItem;
 use crate::values::{count_of, is_marked, label_of, lock_of, pe_of, root_lock_of, root_page_of};
-use crate::words::{kind_of, op_of, reg_of};
+use crate::words::{kind_of, reg_of};
 use bbm_barriers::Dsb;
 use bbm_events::{Event, Header, Malformed, has_op};
 use bbm_regimes::{Kind, Page, Pe, Place, Reg};
@@ -124,8 +124,7 @@ pub(crate) fn op_field<'a>(
 ) -> Result<(TlbiOp, Fields<'a>), Malformed>
     ensures { result ≡ lines.op_field header.now.version fields.entry }
 {
-    let (text, rest) = fields.next_or(Malformed::MissingField)?;
-    let value = op_of(text).ok_or(Malformed::UnknownWord)?;
+    let (value, rest) = fields.op()?;
     if has_op(header, value) {
         Ok((value, rest))
     } else {

@@ -303,20 +303,16 @@ fn any_op(field: &[u8]) -> Option<TlbiOp>
     OPS.iter().copied().find(|op| op_word(*op) == field)
 }
 
-/// The operation that the field is; those that kernels and hypervisors mostly issue are found at once.
+/// The operation that the field is; those without an operand that kernels and hypervisors mostly issue, and that of an
+/// ASID, are found at once.
 pub(crate) fn op_of(field: &[u8]) -> Option<TlbiOp>
     ensures { result ≡ words.with_word words.op_word words.ops field.now }
 {
     match field {
         b"alle2is" => Some(TlbiOp::Alle2is),
-        b"vae2is" => Some(TlbiOp::Vae2is),
-        b"vale2is" => Some(TlbiOp::Vale2is),
-        b"ipas2e1is" => Some(TlbiOp::Ipas2e1is),
         b"vmalle1is" => Some(TlbiOp::Vmalle1is),
         b"vmalls12e1is" => Some(TlbiOp::Vmalls12e1is),
         b"alle1is" => Some(TlbiOp::Alle1is),
-        b"vae1is" => Some(TlbiOp::Vae1is),
-        b"vale1is" => Some(TlbiOp::Vale1is),
         b"aside1is" => Some(TlbiOp::Aside1is),
         _ => any_op(field),
     }
