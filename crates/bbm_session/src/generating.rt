@@ -83,7 +83,7 @@ fn append_item(header: &Header, item: Item, buffer: &mut ArrayVec<u8, BUFFER_BYT
     buffer.push(b'\n');
 }
 
-// Adds the line of an item, made apart: only the loop over events appends to the buffer, so that it is compiled into it.
+// Adds the line of an item, made apart: only the loop over events appends to the buffer, so that it is compiled there.
 fn add_item<K: Sink>(
     header: &Header,
     item: Item,
