@@ -255,7 +255,7 @@ class Story:
 
     def forget_below(self, page):
         for place in [place for place in self.held if place & ~0xfff == page]:
-            value = self.held.pop(place)
+            value = self.held.pop(place, 0)  # none where the page was met below itself
             below = value & 0xfffffffff000
             if below in self.tables and self.tables[below].above == place:
                 self.forget_below(below)
