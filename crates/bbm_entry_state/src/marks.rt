@@ -98,24 +98,9 @@ impl Marks {
         ensures { (c : Cover) (p : ℕ) → waits_in result c p
             ≡ (pe_in reach p && (same_cover c cover && counts_for self.now c p)) }
     {
-        match cover {
-            Cover::None => Pend::none(),
-            Cover::Half => Pend {
-                half: reach.and(self.seen),
-                second: PeMask::none(),
-                full: PeMask::none(),
-            },
-            Cover::Second => Pend {
-                half: PeMask::none(),
-                second: reach.and(self.half),
-                full: PeMask::none(),
-            },
-            Cover::Full => Pend {
-                half: PeMask::none(),
-                second: PeMask::none(),
-                full: reach.and(self.seen),
-            },
-        }
+        let mut pend = Pend::none();
+        pend.note(self, reach, cover);
+        pend
     }
 
     /// The masks after TLBIs were answered for which these PEs waited, as far as they have seen the break.
@@ -128,12 +113,22 @@ impl Marks {
         ensures clean { (p : ℕ) → pe_in result.clean p
             ≡ (pe_in self.clean p || (pe_in self.seen p && (pe_in done.full p || pe_in done.second p))) }
     {
-        Marks {
-            core: self.core,
-            writers: self.writers,
-            seen: self.seen,
-            half: self.half.or(self.seen.and(done.half)),
-            clean: self.clean.or(self.seen.and(done.full.or(done.second))),
-        }
+        let mut marks = self;
+        marks.answer(done);
+        marks
+    }
+
+    /// The same in place.
+    pub fn answer(&mut self, done: Pend)
+        ensures core { self.new.core ≡ self.old.core }
+        ensures writers { (p : ℕ) → pe_in self.new.writers p ≡ pe_in self.old.writers p }
+        ensures seen { (p : ℕ) → pe_in self.new.seen p ≡ pe_in self.old.seen p }
+        ensures half { (p : ℕ) → pe_in self.new.half p
+            ≡ (pe_in self.old.half p || (pe_in self.old.seen p && pe_in done.half p)) }
+        ensures clean { (p : ℕ) → pe_in self.new.clean p
+            ≡ (pe_in self.old.clean p || (pe_in self.old.seen p && (pe_in done.full p || pe_in done.second p))) }
+    {
+        self.half = self.half.or(self.seen.and(done.half));
+        self.clean = self.clean.or(self.seen.and(done.full.or(done.second)));
     }
 }
