@@ -1,9 +1,9 @@
 -- What waits, by issuer, after an edit.
-use Rattle.std.proofs.Common.{◌≡◌, ℕ, ◌+◌, ◌<◌, ◌≤◌, true, false, nat_eq, zero, suc, List, [], ◌∷◌, ◌++◌, length, get_or, set, refl, ap, sym, subst, ◌∙◌, arith, inl, inr, if◌then◌else◌}
-use Rattle.std.proofs.lemmas.Bool.{cases_eq, cond-true, cond-false}
+use Rattle.std.proofs.Common.{◌≡◌, ◌≢◌, ℕ, ◌+◌, ◌<◌, ◌≤◌, true, false, nat_eq, zero, suc, List, [], ◌∷◌, ◌++◌, length, get_or, set, refl, ap, sym, subst, ◌∙◌, arith, inl, inr, if◌then◌else◌, Option, Some, None, is_some, IfSome}
+use Rattle.std.proofs.lemmas.Bool.{cases_eq, cond-true, cond-false, eq-eqb, ne_eqb, false≢true}
 use Rattle.std.proofs.lemmas.List.{get_or_default}
 use Rattle.bbm_entry_state.specs.declared.pending.Pends.{Pends}
-use Rattle.bbm_place_map.specs.Entries.{no_pends, pends_in, HasRoom, Lacks}
+use Rattle.bbm_place_map.specs.Entries.{no_pends, pends_in, HasRoom, IsFirst, Lacks}
 use Rattle.bbm_place_map.specs.declared.entry.Pending.{Pending}
 use Rattle.smallvec.specs.SmallVec.{SmallVec, HasRoomFor, small_vec_len, with_items}
 use Rattle.smallvec.proofs.SmallVecLemmas.{items-with_items}
@@ -76,3 +76,34 @@ module _ (v : SmallVec Pending) (old new : List Pending) (shown : old ≡ v.item
       let same : small_vec_len (with_items v new) ≡ length new = ap (λ (ps : List Pending). length ps) written in
       let was : length old ≡ length v.items = ap (λ (ps : List Pending). length ps) shown in
       omega (arith, same, len, was, fits)
+
+-- what waits for an issuer is that of the first of its
+pub first_pends : (ps : List Pending) (i q : ℕ) (d : Pending) → IsFirst ps i q → pends_in ps q ≡ (get_or ps i d).pends
+first_pends [] i q d first = absurd (omega (arith, first.0))
+first_pends (p ∷ ps) zero q d first = cond-true (nat_eq p.issuer q) p.pends (pends_in ps q) (eq-eqb p.issuer q (first.1 p))
+first_pends (p ∷ ps) (suc n) q d first =
+    cond-false (nat_eq p.issuer q) p.pends (pends_in ps q) (first.2 0 p (omega arith) (omega arith))
+    ∙ first_pends ps n q d (omega (arith, first.0), λ e. first.1 e, tail_lacks p ps n q first.2)
+
+-- other pends there
+module _ (ps : List Pending) (i q : ℕ) (d : Pending) (new : Pends) (first : IsFirst ps i q) where
+  issued : nat_eq (get_or ps i d).issuer q ≡ true
+  issued = eq-eqb (get_or ps i d).issuer q (first.1 d)
+
+  pub first_there : pends_in (set ps i (record { issuer = (get_or ps i d).issuer; pends = new })) q ≡ new
+  first_there = set_there ps i (record { issuer = (get_or ps i d).issuer; pends = new }) q first.0 first.2 issued
+
+  pub first_others : (r : ℕ) → r ≢ q → pends_in (set ps i (record { issuer = (get_or ps i d).issuer; pends = new })) r ≡ pends_in ps r
+  first_others r other =
+      let apart : nat_eq (get_or ps i d).issuer r ≡ false = ne_eqb (get_or ps i d).issuer r (λ is. other (sym is ∙ first.1 d)) in
+      set_others ps i (get_or ps i d) (record { issuer = (get_or ps i d).issuer; pends = new }) r first.0
+      (get_or_default ps i d (get_or ps i d) first.0) apart apart
+
+-- an issuer with a place of its own doesn't lack
+first_known : (ps : List Pending) (i q : ℕ) → IsFirst ps i q → Lacks ps (length ps) q → ⊥
+first_known [] i q first lacks = absurd (omega (arith, first.0))
+first_known (p ∷ ps) i q first lacks = false≢true (sym (lacks i p first.0 first.0) ∙ eq-eqb (get_or (p ∷ ps) i p).issuer q (first.1 p))
+
+pub known_by : (ps : List Pending) (o : Option ℕ) (q : ℕ) → is_some o ≡ true → IfSome o (λ i. IsFirst ps i q) → Lacks ps (length ps) q → ⊥
+known_by ps None q is first = cc
+known_by ps (Some i) q is first = first_known ps i q first

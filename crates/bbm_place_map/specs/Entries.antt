@@ -61,6 +61,10 @@ WaitsAlike old new = (b : Bool) (c : Cover) (p : ℕ) → waits new b c p ≡ wa
 abbrev pub Lacks : List Pending → ℕ → ℕ → Type 0
 Lacks ps n q = (k : ℕ) (d : Pending) → k < n → k < length ps → nat_eq (slice_index_or ps k d).issuer q ≡ false
 
+-- what waits for this issuer has its place there, the first of its
+abbrev pub IsFirst : List Pending → ℕ → ℕ → Type 0
+IsFirst ps i q = (i < length ps) × ((d : Pending) → (slice_index_or ps i d).issuer ≡ q) × Lacks ps i q
+
 -- what waits for this issuer has its place there, or there is room for it
 abbrev pub HasRoom : SmallVec Pending → ℕ → Type 0
 HasRoom pends q = Lacks pends.items (length pends.items) q → HasRoomFor pends 1

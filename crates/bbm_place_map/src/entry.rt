@@ -1,14 +1,17 @@
 //! What is kept of a broken place.
 
-ghost use Rattle.std.specs.Prelude.{◌≡◌, ◌≢◌, ◌↔◌, ℕ, IsTrue, OnOk, length, true, false};
+ghost use Rattle.std.specs.Prelude.{◌≡◌, ◌≢◌, ◌↔◌, ◌<◌, ℕ, IsTrue, OnOk, IfSome, None, length, true, false};
 ghost use Rattle.bbm_place_map.specs.Entries.{pends_in, WaitsAlike};
-ghost use Rattle.bbm_place_map.specs.Entries.{HasRoom, Lacks};
+ghost use Rattle.bbm_place_map.specs.Entries.{HasRoom, IsFirst, Lacks};
+ghost use Rattle.bbm_entry_state.specs.Calls.{Noted};
 ghost use Rattle.bbm_entry_state.specs.Points.{waits_in};
 ghost use Rattle.bbm_entry_state.specs.Standing.{IsIdle};
+ghost use Rattle.bbm_entry_state.specs.declared.state.EntryState.TheVariants as state;
 ghost use Rattle.bbm_tlbi_scope.specs.declared.entry.Cover.{Cover as TheCover};
 
 use bbm_entry_state::{Marks, Pend, Pends};
-use bbm_regimes::{NoMemory, Pe, Place};
+use bbm_regimes::{NoMemory, Pe, PeMask, Place};
+use bbm_tlbi_scope::Cover;
 use smallvec::SmallVec;
 
 /// What waits at a place for the answers of one issuer's TLBIs. Source: project's own choice.
@@ -69,6 +72,43 @@ pub fn pends_of(pendings: &[Pending], issuer: Pe) -> Pends
     Pends::none()
 }
 
+// Where what waits for the answers of the issuer's TLBIs is kept; None where nothing is.
+fn place_of(pendings: &[Pending], issuer: Pe) -> Option<usize>
+    ensures some { IfSome result (λ i. IsFirst pendings.now i issuer) }
+    ensures none { result ≡ None → Lacks pendings.now (length pendings.now) issuer }
+{
+    for i in 0..pendings.len() {
+        if pendings[i].issuer == issuer {
+            return Some(i);
+        }
+    }
+    None
+}
+
+// Notes a TLBI over a place with these marks in what waits for the answers of its issuer's, which is kept here.
+// Whether nothing waited.
+fn note_here(
+    pendings: &mut [Pending],
+    i: usize,
+    marks: &Marks,
+    reach: PeMask,
+    broadcast: bool,
+    cover: Cover,
+) -> bool
+    requires { i < length pendings.old }
+    ensures here { (q : ℕ) → IsFirst pendings.old i q → Noted (state.Broken marks.now) (pends_in pendings.old q) reach
+        broadcast cover (pends_in pendings.new q) }
+    ensures idle { (q : ℕ) → IsFirst pendings.old i q → IsTrue result ↔ IsIdle (pends_in pendings.old q) }
+    ensures others { (q r : ℕ) → IsFirst pendings.old i q → r ≢ q
+        → pends_in pendings.new r ≡ pends_in pendings.old r }
+    ensures len { length pendings.new ≡ length pendings.old }
+{
+    let pends = &mut pendings[i].pends;
+    let idle = is_idle(pends);
+    pends.note(marks, reach, broadcast, cover);
+    idle
+}
+
 // Writes what waits for the answers of the issuer's TLBIs, where it has an entry already. Whether it has one.
 fn put_known(pendings: &mut [Pending], issuer: Pe, pends: Pends) -> bool
     ensures there { result ≡ true → pends_in pendings.new issuer ≡ pends }
@@ -86,24 +126,12 @@ fn put_known(pendings: &mut [Pending], issuer: Pe, pends: Pends) -> bool
     false
 }
 
-// Whether something is kept for the issuer.
-fn is_known(pendings: &[Pending], issuer: Pe) -> bool
-    ensures { result ≡ true → Lacks pendings.now (length pendings.now) issuer → ⊥ }
-{
-    for pending in pendings {
-        if pending.issuer == issuer {
-            return true;
-        }
-    }
-    false
-}
-
 /// Makes room for what waits for the answers of the issuer's TLBIs. `NoMemory` where there is none.
 pub fn make_room_for_issuer(pendings: &mut SmallVec<Pending, 1>, issuer: Pe) -> Result<(), NoMemory>
     ensures items { pendings.new.items ≡ pendings.old.items }
     ensures room { OnOk result (HasRoom pendings.new issuer) }
 {
-    if is_known(pendings.as_slice(), issuer) {
+    if place_of(pendings.as_slice(), issuer).is_some() {
         return Ok(());
     }
     match pendings.reserve(1) {
@@ -112,14 +140,30 @@ pub fn make_room_for_issuer(pendings: &mut SmallVec<Pending, 1>, issuer: Pe) -> 
     }
 }
 
-/// Writes what waits for the answers of the issuer's TLBIs, where there is room for that.
-pub fn put_pends(pendings: &mut SmallVec<Pending, 1>, issuer: Pe, pends: Pends)
+/// Notes a TLBI of the issuer over a place with these marks, where there is room for what waits for its answer. Whether
+/// nothing waited.
+pub fn note_pends(
+    pendings: &mut SmallVec<Pending, 1>,
+    issuer: Pe,
+    marks: &Marks,
+    reach: PeMask,
+    broadcast: bool,
+    cover: Cover,
+) -> bool
     requires { HasRoom pendings.old issuer }
-    ensures there { pends_in pendings.new.items issuer ≡ pends }
+    ensures there { Noted (state.Broken marks.now) (pends_in pendings.old.items issuer) reach broadcast cover
+        (pends_in pendings.new.items issuer) }
+    ensures idle { IsTrue result ↔ IsIdle (pends_in pendings.old.items issuer) }
     ensures others { (q : ℕ) → q ≢ issuer → pends_in pendings.new.items q ≡ pends_in pendings.old.items q }
 {
-    if !put_known(pendings.as_mut_slice(), issuer, pends) {
-        pendings.push_reserved(Pending { issuer, pends });
+    match place_of(pendings.as_slice(), issuer) {
+        Some(i) => note_here(pendings.as_mut_slice(), i, marks, reach, broadcast, cover),
+        None => {
+            let mut pends = Pends::none();
+            pends.note(marks, reach, broadcast, cover);
+            pendings.push_reserved(Pending { issuer, pends });
+            true
+        }
     }
 }
 

@@ -15,11 +15,10 @@ ghost use Rattle.bbm_place_map.specs.Works.{HoldsFor, Waits};
 ghost use Rattle.bbm_place_map.specs.declared.entry.Entry.{Entry as TheEntry};
 
 use crate::cell::Cell;
-use crate::entry::{Entry, is_idle, make_room_for_issuer, pends_of, put_pends};
+use crate::entry::{Entry, make_room_for_issuer, note_pends};
 use crate::found::{Answer, Found};
 use crate::read::entry_at;
 use crate::work::{WorkList, add_for};
-use bbm_entry_state::{EntryState, Pends};
 use bbm_regimes::{NoMemory, Pe, PeMask, Place};
 use bbm_tlbi_scope::Cover;
 use indexmap::IndexMap;
@@ -49,14 +48,7 @@ fn make_room_at(broken: &mut Vec<Entry>, k: usize, issuer: Pe) -> Result<(), NoM
     make_room_for_issuer(&mut entry.pends, issuer)
 }
 
-// Whether something waits after, and nothing did before.
-fn starts_waiting(before: &Pends, after: &Pends) -> bool
-    ensures { result ≡ false → IsIdle before.now → IsIdle after.now }
-{
-    is_idle(before) && !is_idle(after)
-}
-
-// Notes the TLBI at an entry with room for its issuer. Whether something waits there now, and nothing did.
+// Notes the TLBI at an entry with room for its issuer. Whether nothing waited there.
 fn note_at(
     broken: &mut Vec<Entry>,
     k: usize,
@@ -75,15 +67,12 @@ fn note_at(
     ensures len { length broken.new.items ≡ length broken.old.items }
     ensures room { vec_capacity broken.new ≡ vec_capacity broken.old }
 {
-    let before = pends_of(&broken[k].pends, issuer);
-    let marks = broken[k].marks;
-    let after = (EntryState::Broken { marks }).tlbi(before, reach, broadcast, cover);
     let entry = &mut broken[k];
-    put_pends(&mut entry.pends, issuer, after);
-    starts_waiting(&before, &after)
+    let marks = &entry.marks;
+    note_pends(&mut entry.pends, issuer, marks, reach, broadcast, cover)
 }
 
-// The same at an entry that is covered so far. The cell of one at which something waits now is listed for the issuer.
+// The same at an entry that is covered so far. The cell of one at which nothing waited is listed for the issuer.
 fn note_entry(
     broken: &mut Vec<Entry>,
     k: usize,
