@@ -25,7 +25,7 @@ seat_of (Some f) e h =
     (f, refl, ap (λ (p : ℕ × ℕ). p.0) same, ap (λ (p : ℕ × ℕ). p.1) same)
 
 module _ (entries entries' : List Entry) (seats : (m : ℕ) → seat_at entries' m ≡ seat_at entries m) where
-  cells_same : (m : ℕ) → cell_at entries' m ≡ cell_at entries m
+  pub cells_same : (m : ℕ) → cell_at entries' m ≡ cell_at entries m
   cells_same m =
       seat_cell (slice_get entries' m) ∙ ap (option_map (λ (p : ℕ × ℕ). p.1)) (seats m) ∙ sym (seat_cell (slice_get entries m))
 

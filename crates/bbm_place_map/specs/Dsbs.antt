@@ -1,10 +1,16 @@
 -- What a DSB finds and leaves: cells and entries, and the list of its PE.
 -- Source: project's own choice.
-use Rattle.std.specs.Prelude.{◌≡◌, ◌≤◌, ◌<◌, ◌^◌, ◌⊎◌, ℕ, Bool, true, false, Option, Some, List, Vec, vec_len, vec_capacity, length, slice_get}
+use Rattle.std.specs.Prelude.{◌≡◌, ◌≤◌, ◌<◌, ◌^◌, ◌⊎◌, ℕ, Bool, true, false, Option, Some, List, Vec, vec_len, vec_capacity, length, slice_get, not, ◌&&◌}
 use Rattle.std.specs.declared.alloc.Global.{Global}
 use Rattle.bbm_barriers.specs.declared.Dsb.{Dsb}
+use Rattle.bbm_barriers.specs.Options.{answers}
+use Rattle.bbm_tlbi_scope.specs.declared.entry.Cover.{Cover}
+use Rattle.bbm_entry_state.specs.Answered.{answered_at}
+use Rattle.bbm_entry_state.specs.Points.{waits, waits_in}
 use Rattle.bbm_entry_state.specs.Standing.{IsIdle}
 use Rattle.bbm_entry_state.specs.declared.marks.Marks.{Marks}
+use Rattle.bbm_entry_state.specs.declared.pending.Pend.{Pend}
+use Rattle.bbm_entry_state.specs.declared.pending.Pends.{Pends}
 use Rattle.bbm_place_map.specs.Cells.{value_in}
 use Rattle.bbm_place_map.specs.Each.{Advances, Completes, Publishes, loses_table}
 use Rattle.bbm_place_map.specs.Entries.{entry_in}
@@ -13,6 +19,14 @@ use Rattle.bbm_place_map.specs.Sound.{Linked, Placed}
 use Rattle.bbm_place_map.specs.Works.{IsTold, is_clean}
 use Rattle.bbm_place_map.specs.declared.cell.Cell.{Cell}
 use Rattle.bbm_place_map.specs.declared.entry.Entry.{Entry}
+
+-- the PEs whose answer a DSB of the issuer is
+abbrev pub AreAnswered : Dsb → Pends → Pend → Type 0
+AreAnswered dsb pends done = (c : Cover) (p : ℕ) → waits_in done c p ≡ answered_at pends dsb c p
+
+-- what waits on after it
+abbrev pub WaitsOn : Dsb → Pends → Pends → Type 0
+WaitsOn dsb old new = (b : Bool) (c : Cover) (p : ℕ) → waits new b c p ≡ (not (answers dsb b) && waits old b c p)
 
 -- The issuer is one of the n PEs of a log.
 pub record InLog (issuer n : ℕ) : Type 0 where

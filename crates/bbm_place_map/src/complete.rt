@@ -1,24 +1,25 @@
 //! What a DSB answers.
 
 ghost use Rattle.std.specs.Prelude.{◌≡◌, ◌≢◌, ◌≤◌, ◌<◌, ◌+◌, ◌^◌, ◌⊎◌, ℕ, Some, Option, vec_len, vec_capacity, length, slice_get, slice_index, nat_eq, true, false, if◌then◌else◌};
+ghost use Rattle.bbm_entry_state.specs.Calls.{Completed};
 ghost use Rattle.bbm_entry_state.specs.Standing.{IsIdle};
+ghost use Rattle.bbm_entry_state.specs.declared.state.EntryState.TheVariants as state;
 ghost use Rattle.bbm_place_map.specs.Cells.{value_in, slot_in};
 ghost use Rattle.bbm_place_map.specs.Dsbs.{CanAnswer, CompletesAll, HoldWaiting, IsSettled};
 ghost use Rattle.bbm_place_map.specs.Each.{Completes, loses_table, is_table as spec_is_table};
-ghost use Rattle.bbm_place_map.specs.Entries.{cell_at, entry_in, pends_in, seat, WaitsAlike};
+ghost use Rattle.bbm_place_map.specs.Entries.{cell_at, entry_in, no_pends, pends_in, seat};
 ghost use Rattle.bbm_place_map.specs.Parts.{marks_in};
 ghost use Rattle.bbm_place_map.specs.Sound.{Linked, Placed};
 ghost use Rattle.bbm_place_map.specs.Works.{Holds, HoldsFor, MayComplete};
 ghost use Rattle.bbm_place_map.specs.declared.entry.Entry.{Entry as TheEntry};
 
 use crate::cell::Cell;
-use crate::entry::{Entry, is_idle, keep_pends, pends_of};
+use crate::entry::{Entry, is_idle, pends_of, take_answered};
 use crate::links::unlink;
 use crate::read::slot_of;
 use crate::work::{WorkList, add, restart};
 use bbm_barriers::{Dsb, completes_broadcast, completes_local};
 use bbm_descriptor::Core;
-use bbm_entry_state::{EntryState, Marks, Pends};
 use bbm_regimes::Pe;
 
 fn is_table(core: Core) -> bool
@@ -30,22 +31,24 @@ fn is_table(core: Core) -> bool
     }
 }
 
-// Writes the marks of an entry, and what waits on for the answers of the issuer's TLBIs.
-fn keep(broken: &mut Vec<Entry>, k: usize, marks: Marks, issuer: Pe, left: Pends)
+// A DSB of the issuer answered its TLBIs at one entry, which stays for now. Whether its place is cleansed at every PE.
+fn answer_at(broken: &mut Vec<Entry>, k: usize, issuer: Pe, dsb: Dsb, n: u8) -> bool
+    requires some { 1 ≤ n }
+    requires most { n ≤ 128 }
     requires within { k < vec_len broken.old }
-    requires idle { (e : TheEntry) → slice_get broken.old.items k ≡ Some e → IsIdle (pends_in e.pends.items issuer)
-        → IsIdle left }
     ensures entry { (e : TheEntry) → slice_get broken.old.items k ≡ Some e → (f : TheEntry) × (seat f ≡ seat e)
-        × (f.marks ≡ marks)
-        × WaitsAlike left (pends_in f.pends.items issuer)
+        × (result ≡ true → Completed (state.Broken e.marks) (pends_in e.pends.items issuer) dsb n state.Clean no_pends)
+        × (result ≡ false → Completed (state.Broken e.marks) (pends_in e.pends.items issuer) dsb n
+        (state.Broken f.marks) (pends_in f.pends.items issuer))
         × ((q : ℕ) → q ≢ issuer → pends_in f.pends.items q ≡ pends_in e.pends.items q)
         × ((i : ℕ) → slice_get broken.new.items i ≡ (if nat_eq i k then Some f else slice_get broken.old.items i)) }
     ensures len { length broken.new.items ≡ length broken.old.items }
     ensures room { vec_capacity broken.new ≡ vec_capacity broken.old }
 {
     let entry = &mut broken[k];
-    entry.marks = marks;
-    keep_pends(&mut entry.pends, issuer, left);
+    let done = take_answered(&mut entry.pends, issuer, dsb);
+    entry.marks.answer(done);
+    entry.marks.is_clean(n)
 }
 
 // A DSB of the issuer answered its TLBIs at one entry, which leaves where its place is cleansed at every PE. Whether it
@@ -75,20 +78,12 @@ fn complete_at(
     ensures front { (m : ℕ) → m < k → slice_get broken.new.items m ≡ slice_get broken.old.items m }
     ensures placed { (base : ℕ → Option ℕ) → Placed base broken.old.items → Placed base broken.new.items }
 {
-    let marks = broken[k].marks;
-    let core = marks.core;
-    let pends = pends_of(&broken[k].pends, issuer);
-    let (state, left) = (EntryState::Broken { marks }).complete(pends, dsb, n);
-    match state {
-        EntryState::Broken { marks: new } => {
-            keep(broken, k, new, issuer, left);
-            false
-        }
-        EntryState::Clean => {
-            unlink(cells, broken, k);
-            is_table(core)
-        }
-        EntryState::Live { .. } => unreachable!(),
+    let core = broken[k].marks.core;
+    if answer_at(broken, k, issuer, dsb, n) {
+        unlink(cells, broken, k);
+        is_table(core)
+    } else {
+        false
     }
 }
 

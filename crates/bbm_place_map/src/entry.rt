@@ -1,6 +1,7 @@
 //! What is kept of a broken place.
 
 ghost use Rattle.std.specs.Prelude.{◌≡◌, ◌≢◌, ◌↔◌, ◌<◌, ℕ, IsTrue, OnOk, IfSome, None, length, true, false};
+ghost use Rattle.bbm_place_map.specs.Dsbs.{AreAnswered, WaitsOn};
 ghost use Rattle.bbm_place_map.specs.Entries.{pends_in, WaitsAlike};
 ghost use Rattle.bbm_place_map.specs.Entries.{HasRoom, IsFirst, Lacks};
 ghost use Rattle.bbm_entry_state.specs.Calls.{Noted};
@@ -9,6 +10,7 @@ ghost use Rattle.bbm_entry_state.specs.Standing.{IsIdle};
 ghost use Rattle.bbm_entry_state.specs.declared.state.EntryState.TheVariants as state;
 ghost use Rattle.bbm_tlbi_scope.specs.declared.entry.Cover.{Cover as TheCover};
 
+use bbm_barriers::Dsb;
 use bbm_entry_state::{Marks, Pend, Pends};
 use bbm_regimes::{NoMemory, Pe, PeMask, Place};
 use bbm_tlbi_scope::Cover;
@@ -109,21 +111,19 @@ fn note_here(
     idle
 }
 
-// Writes what waits for the answers of the issuer's TLBIs, where it has an entry already. Whether it has one.
-fn put_known(pendings: &mut [Pending], issuer: Pe, pends: Pends) -> bool
-    ensures there { result ≡ true → pends_in pendings.new issuer ≡ pends }
-    ensures absent { result ≡ false → Lacks pendings.old (length pendings.old) issuer }
-    ensures alone { result ≡ false → pendings.new ≡ pendings.old }
-    ensures others { (q : ℕ) → q ≢ issuer → pends_in pendings.new q ≡ pends_in pendings.old q }
+// Takes those whose answer a DSB is out of those that wait here for the answers of its issuer's TLBIs.
+fn take_here(pendings: &mut [Pending], i: usize, dsb: Dsb) -> Pend
+    requires { i < length pendings.old }
+    ensures done { (q : ℕ) → IsFirst pendings.old i q → AreAnswered dsb (pends_in pendings.old q) result }
+    ensures left { (q : ℕ) → IsFirst pendings.old i q → WaitsOn dsb (pends_in pendings.old q) (pends_in pendings.new q) }
+    ensures others { (q r : ℕ) → IsFirst pendings.old i q → r ≢ q
+        → pends_in pendings.new r ≡ pends_in pendings.old r }
     ensures len { length pendings.new ≡ length pendings.old }
 {
-    for i in 0..pendings.len() {
-        if pendings[i].issuer == issuer {
-            pendings[i] = Pending { issuer, pends };
-            return true;
-        }
-    }
-    false
+    let pends = &mut pendings[i].pends;
+    let done = pends.answered(dsb);
+    pends.drop_answered(dsb);
+    done
 }
 
 /// Makes room for what waits for the answers of the issuer's TLBIs. `NoMemory` where there is none.
@@ -167,11 +167,14 @@ pub fn note_pends(
     }
 }
 
-/// Writes what waits for the answers of the issuer's TLBIs, which is nothing where nothing waited.
-pub fn keep_pends(pendings: &mut SmallVec<Pending, 1>, issuer: Pe, pends: Pends)
-    requires { IsIdle (pends_in pendings.old.items issuer) → IsIdle pends }
-    ensures there { WaitsAlike pends (pends_in pendings.new.items issuer) }
+/// Takes those whose answer a DSB is out of those that wait for the answers of its issuer's TLBIs.
+pub fn take_answered(pendings: &mut SmallVec<Pending, 1>, issuer: Pe, dsb: Dsb) -> Pend
+    ensures done { AreAnswered dsb (pends_in pendings.old.items issuer) result }
+    ensures left { WaitsOn dsb (pends_in pendings.old.items issuer) (pends_in pendings.new.items issuer) }
     ensures others { (q : ℕ) → q ≢ issuer → pends_in pendings.new.items q ≡ pends_in pendings.old.items q }
 {
-    put_known(pendings.as_mut_slice(), issuer, pends);
+    match place_of(pendings.as_slice(), issuer) {
+        Some(i) => take_here(pendings.as_mut_slice(), i, dsb),
+        None => Pend::none(),
+    }
 }
