@@ -1,6 +1,6 @@
 -- What the issue of a TLBI notes at an entry.
-use Rattle.std.proofs.Common.{◌≡◌, ℕ, Bool, true, false, not, ◌↔◌, IsTrue, List, Some, slice_get, inl, inr, nat_eq, if◌then◌else◌, ◌&&◌, ◌||◌, refl, ap, sym, subst, ◌∙◌}
-use Rattle.std.proofs.lemmas.Bool.{false≢true, cases_eq, eq-eqb, ne_eqb, cond-true, cond-false}
+use Rattle.std.proofs.Common.{◌≡◌, ℕ, Bool, true, false, List, Some, slice_get, inl, inr, nat_eq, if◌then◌else◌, ◌&&◌, ◌||◌, refl, ap, sym, subst, ◌∙◌}
+use Rattle.std.proofs.lemmas.Bool.{cases_eq, eq-eqb, ne_eqb, cond-true, cond-false}
 use Rattle.std.proofs.lemmas.Option.{same_Some}
 use Rattle.bbm_descriptor.specs.Descriptor.{same_bool}
 use Rattle.bbm_regimes.specs.PeMask.{pe_in}
@@ -13,7 +13,6 @@ use Rattle.bbm_entry_state.specs.Points.{waits}
 use Rattle.bbm_entry_state.specs.declared.marks.Marks.{Marks}
 use Rattle.bbm_entry_state.specs.declared.pending.Pends.{Pends}
 use Rattle.bbm_entry_state.specs.declared.state.EntryState.TheVariants.{Broken}
-use Rattle.bbm_entry_state.specs.Standing.{IsIdle}
 use Rattle.bbm_place_map.specs.Entries.{WaitsAlike, pends_in}
 use Rattle.bbm_place_map.specs.Notes.{NotesAs, NotesAt, is_cover}
 use Rattle.bbm_place_map.specs.Works.{HoldsFor, Waits}
@@ -64,13 +63,6 @@ waits_kept lists lists' issuer kept e f waits =
       | inl holds ↦ inl (kept issuer e.cell holds)
       | inr idle ↦ inr idle
     ]
-
--- where something waits that didn't is told
-pub idle_still : (b a : Bool) (before after : Pends) → (IsTrue b ↔ IsIdle before) → (IsTrue a ↔ IsIdle after)
-    → (b && not a) ≡ false → IsIdle before → IsIdle after
-idle_still b true before after is is' none idle = is'.0 refl
-idle_still true false before after is is' none idle = cc
-idle_still false false before after is is' none idle = absurd (false≢true (is.1 idle))
 
 pub uncovered : (cover : Cover) → is_cover cover ≡ false → cover ≡ NoCover
 uncovered NoCover none = refl

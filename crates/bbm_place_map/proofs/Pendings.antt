@@ -1,25 +1,12 @@
 -- What waits, by issuer, after an edit.
-use Rattle.std.proofs.Common.{◌≡◌, ◌≢◌, ℕ, ◌+◌, ◌<◌, ◌≤◌, true, false, nat_eq, zero, suc, List, [], ◌∷◌, ◌++◌, length, get_or, set, refl, ap, sym, subst, ◌∙◌, arith, inl, inr, if◌then◌else◌, Option, Some, None, is_some, IfSome}
-use Rattle.std.proofs.lemmas.Bool.{cases_eq, cond-true, cond-false, eq-eqb, ne_eqb, false≢true}
+use Rattle.std.proofs.Common.{◌≡◌, ◌≢◌, ℕ, ◌<◌, ◌≤◌, true, false, nat_eq, zero, suc, List, [], ◌∷◌, ◌++◌, length, get_or, set, refl, ap, sym, ◌∙◌, arith, if◌then◌else◌, Option, Some, None, is_some, IfSome}
+use Rattle.std.proofs.lemmas.Bool.{cond-true, cond-false, eq-eqb, ne_eqb, false≢true}
 use Rattle.std.proofs.lemmas.List.{get_or_default}
 use Rattle.bbm_entry_state.specs.declared.pending.Pends.{Pends}
-use Rattle.bbm_place_map.specs.Entries.{no_pends, pends_in, HasRoom, IsFirst, Lacks}
+use Rattle.bbm_place_map.specs.Entries.{no_pends, pends_in, IsFirst, Lacks}
 use Rattle.bbm_place_map.specs.declared.entry.Pending.{Pending}
-use Rattle.smallvec.specs.SmallVec.{SmallVec, HasRoomFor, small_vec_len, with_items}
+use Rattle.smallvec.specs.SmallVec.{SmallVec, with_items}
 use Rattle.smallvec.proofs.SmallVecLemmas.{items-with_items}
-
-pub lacks_none : (ps : List Pending) (q : ℕ) → Lacks ps 0 q
-lacks_none ps q k d below within = absurd (omega arith)
-
-pub lacks_more : (ps : List Pending) (n : ℕ) (x : Pending) (q : ℕ) → n < length ps → x ≡ get_or ps n x → nat_eq x.issuer q ≡ false
-    → Lacks ps n q → Lacks ps (n + 1) q
-lacks_more ps n x q within is other lacks k d below in' =
-    elim (cases_eq k n) [
-      | inl same ↦
-          ap (λ (y : Pending). nat_eq y.issuer q)
-          (ap (λ (m : ℕ). get_or ps m d) same ∙ sym (is ∙ get_or_default ps n x d within)) ∙ other
-      | inr apart ↦ lacks k d (omega arith) in'
-    ]
 
 tail_lacks : (p : Pending) (ps : List Pending) (n q : ℕ) → Lacks (p ∷ ps) (suc n) q → Lacks ps n q
 tail_lacks p ps n q lacks k d below in' = lacks (suc k) d (omega arith) (omega arith)
@@ -65,17 +52,6 @@ more_others (p ∷ ps) y q other = ap (λ (r : Pends). if nat_eq p.issuer q then
 module _ (v : SmallVec Pending) (old new : List Pending) (shown : old ≡ v.items) (len : length new ≡ length old) where
   pub written : (with_items v new).items ≡ new
   written = items-with_items v new (len ∙ ap (λ (ps : List Pending). length ps) shown)
-
-  pub lacks_written : (q : ℕ) → Lacks old (length old) q → Lacks v.items (length v.items) q
-  lacks_written q = let P : List Pending → Type 0 = λ ps. Lacks ps (length ps) q → Lacks v.items (length v.items) q in
-      subst P (sym shown) (λ lacks. lacks)
-
-  pub room_written : (q : ℕ) → HasRoom v q → Lacks old (length old) q → HasRoomFor (with_items v new) 1
-  room_written q room lacks =
-      let fits : small_vec_len v + 1 ≤ v.capacity = room (lacks_written q lacks) in
-      let same : small_vec_len (with_items v new) ≡ length new = ap (λ (ps : List Pending). length ps) written in
-      let was : length old ≡ length v.items = ap (λ (ps : List Pending). length ps) shown in
-      omega (arith, same, len, was, fits)
 
 -- what waits for an issuer is that of the first of its
 pub first_pends : (ps : List Pending) (i q : ℕ) (d : Pending) → IsFirst ps i q → pends_in ps q ≡ (get_or ps i d).pends
