@@ -96,6 +96,15 @@ fn whole_barrier(kept: &Kept, pe: Pe, dsb: Dsb) -> Kept
     Kept { state, pends }
 }
 
+/// The pendings after a TLBI that reaches PE 0 alone, by the call in place.
+fn after_local(kept: &Kept, zero: Pe, cover: Cover) -> Pends {
+    let mut pends = kept.pends;
+    if let EntryState::Broken { marks } = kept.state {
+        pends.note(&marks, PeMask::one(zero), false, cover);
+    }
+    pends
+}
+
 /// What is kept after one step.
 fn step(kept: &Kept, act: Act, zero: Pe, one: Pe) -> Kept
     requires first { zero < 2 }
@@ -117,7 +126,7 @@ fn step(kept: &Kept, act: Act, zero: Pe, one: Pe) -> Kept
         },
         Local(cover) => Kept {
             state: kept.state,
-            pends: kept.state.tlbi(kept.pends, PeMask::one(zero), false, cover),
+            pends: after_local(kept, zero, cover),
         },
         Other(dsb) => Kept {
             state: kept.state.dsb(one, dsb, 2),
