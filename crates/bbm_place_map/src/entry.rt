@@ -4,6 +4,7 @@ ghost use Rattle.std.specs.Prelude.{◌≡◌, ◌≢◌, ◌↔◌, ◌<◌, �
 ghost use Rattle.bbm_place_map.specs.Dsbs.{AreAnswered, WaitsOn};
 ghost use Rattle.bbm_place_map.specs.Entries.{pends_in, WaitsAlike};
 ghost use Rattle.bbm_place_map.specs.Entries.{HasRoom, IsFirst, Lacks};
+ghost use Rattle.smallvec.specs.SmallVec.{HasRoomFor};
 ghost use Rattle.bbm_entry_state.specs.Calls.{Noted};
 ghost use Rattle.bbm_entry_state.specs.Points.{waits_in};
 ghost use Rattle.bbm_entry_state.specs.Standing.{IsIdle};
@@ -126,18 +127,30 @@ fn take_here(pendings: &mut [Pending], i: usize, dsb: Dsb) -> Pend
     done
 }
 
+// Takes memory for one more. `NoMemory` where there is none.
+#[inline(never)]
+fn grow(pendings: &mut SmallVec<Pending, 1>) -> Result<(), NoMemory>
+    ensures items { pendings.new.items ≡ pendings.old.items }
+    ensures room { OnOk result (HasRoomFor pendings.new 1) }
+{
+    match pendings.reserve(1) {
+        Ok(()) => Ok(()),
+        Err(_) => Err(NoMemory),
+    }
+}
+
 /// Makes room for what waits for the answers of the issuer's TLBIs. `NoMemory` where there is none.
 pub fn make_room_for_issuer(pendings: &mut SmallVec<Pending, 1>, issuer: Pe) -> Result<(), NoMemory>
     ensures items { pendings.new.items ≡ pendings.old.items }
     ensures room { OnOk result (HasRoom pendings.new issuer) }
 {
+    if pendings.len() < pendings.capacity() {
+        return Ok(());
+    }
     if place_of(pendings.as_slice(), issuer).is_some() {
         return Ok(());
     }
-    match pendings.reserve(1) {
-        Ok(()) => Ok(()),
-        Err(_) => Err(NoMemory),
-    }
+    grow(pendings)
 }
 
 /// Notes a TLBI of the issuer over a place with these marks, where there is room for what waits for its answer. Whether
