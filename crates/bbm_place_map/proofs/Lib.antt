@@ -26,5 +26,6 @@ pub mod Growing
 pub mod Noting
 pub mod Finding
 pub mod Visiting
+pub mod Wholes
 pub mod Issued
 pub mod Shown

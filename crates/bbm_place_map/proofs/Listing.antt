@@ -15,6 +15,7 @@ use Rattle.bbm_entry_state.specs.Standing.{IsIdle}
 use Rattle.bbm_entry_state.specs.declared.marks.Marks.{Marks}
 use Rattle.bbm_entry_state.specs.declared.pending.Pends.{Pends}
 use Rattle.bbm_entry_state.specs.declared.state.EntryState.{EntryState}
+use Rattle.bbm_entry_state.specs.declared.state.EntryState.TheVariants.{Clean, Broken}
 use Rattle.bbm_place_map.specs.Cells.{slot_in}
 use Rattle.bbm_place_map.specs.Each.{Advances, Publishes, Completes}
 use Rattle.bbm_place_map.specs.Entries.{entry_of, entry_in, marks_of, pends_of, pends_in, no_pends}
@@ -201,6 +202,46 @@ module _ (w w' : Work) (cells cells' : List Cell) (entries entries' : List Entry
       → HoldsFor w'.unpublished.items q i ⊎ IsTold x q marks) (sym pes) told_now)
       idle_now
       (subst (λ (x : ℕ). w'.settled ≡ true → (i : ℕ) (marks : Marks) → marks_in cells' entries' i ≡ Some marks → is_clean x marks ≡ false) (sym pes) settled_now)
+
+-- a place is written that isn't broken after
+pub listed_whole : (w : Work) (cells cells' : List Cell) (entries entries' : List Entry) (j : ℕ)
+    → ((i : ℕ) → marks_in cells' entries' i ≡ (if nat_eq i j then None else marks_in cells entries i))
+    → ((q i : ℕ) → pends_for cells' entries' q i ≡ (if nat_eq i j then no_pends else pends_for cells entries q i))
+    → Listed w cells entries → Listed w cells' entries'
+listed_whole w cells cells' entries entries' j marks_are pends_are listed =
+    listed_set w w cells cells' entries entries' j Clean (marks_in cells entries j) refl refl
+    (λ marks is. absurd (none-some marks is)) (λ q i holds. holds) refl (λ settled. settled) (λ marks is. absurd (none-some marks is))
+    marks_are
+    (λ q i. pends_are q i ∙ ap (λ (b : Bool). if b then no_pends else pends_for cells entries q i) (whole (nat_eq i j)))
+    listed
+  where
+    whole : (b : Bool) → b ≡ (b && true)
+    whole true = refl
+    whole false = refl
+
+-- a place is written that is broken after
+pub listed_broken : (w w' : Work) (cells cells' : List Cell) (entries entries' : List Entry) (j : ℕ) (marks : Marks) (before : Option Marks)
+    → w'.pes ≡ w.pes → before ≡ marks_in cells entries j
+    → ((q : ℕ) → q < w.pes → HoldsFor w'.unpublished.items q j ⊎ ((pe_in marks.writers q ≡ false) ⊎ IsToldAsBefore before marks q))
+    → ((q i : ℕ) → HoldsFor w.unpublished.items q i → HoldsFor w'.unpublished.items q i)
+    → w'.waiting.items ≡ w.waiting.items → (w'.settled ≡ true → w.settled ≡ true)
+    → (w'.settled ≡ true → is_clean w.pes marks ≡ false)
+    → ((i : ℕ) → marks_in cells' entries' i ≡ (if nat_eq i j then Some marks else marks_in cells entries i))
+    → ((q i : ℕ) → pends_for cells' entries' q i ≡ pends_for cells entries q i)
+    → Listed w cells entries → Listed w' cells' entries'
+listed_broken w w' cells cells' entries entries' j marks before pes was told kept waiting settled unclean marks_are pends_are listed =
+    listed_set w w' cells cells' entries entries' j (Broken marks) before pes was
+    (λ m is. subst (λ (x : Marks). (q : ℕ) → q < w.pes
+    → HoldsFor w'.unpublished.items q j ⊎ ((pe_in x.writers q ≡ false) ⊎ IsToldAsBefore before x q)) (same_Some marks m is) told)
+    kept waiting settled
+    (λ m is. subst (λ (x : Marks). w'.settled ≡ true → is_clean w.pes x ≡ false) (same_Some marks m is) unclean)
+    marks_are
+    (λ q i. pends_are q i ∙ stays (nat_eq i j) (pends_for cells entries q i))
+    listed
+  where
+    stays : (b : Bool) (p : Pends) → p ≡ (if b && false then no_pends else p)
+    stays true p = refl
+    stays false p = refl
 
 -- a DSB publishes
 pends_same : (issuer : ℕ) (dsb : Dsb) (n q : ℕ) (o p : Option Entry) → Advances (Publishes issuer dsb n) o p → pends_of q p ≡ pends_of q o

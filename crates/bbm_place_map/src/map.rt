@@ -14,7 +14,7 @@ use crate::work::{self, Work};
 use crate::{complete, issue, publish, read, write};
 use bbm_barriers::Dsb;
 use bbm_descriptor::{Core, Memory, core};
-use bbm_entry_state::{EntryState, Pends};
+use bbm_entry_state::{EntryState, Marks, Pends};
 use bbm_regimes::{Kind, NoMemory, Page, Pe, PeMask, Place};
 use bbm_tlbi_scope::Cover;
 use indexmap::IndexMap;
@@ -44,12 +44,13 @@ pub struct PlaceMap {
 #[tactic(auto, unfolding(crate::specs::Map::value_at, crate::specs::Map::marks_at, crate::specs::Map::pends_at, crate::specs::Map::is_tracked, crate::specs::Map::IsSeat, crate::specs::Map::restless_in, crate::specs::Map::restless_place))]
 impl PlaceMap {
     ghost use Rattle.std.specs.Prelude.{ℕ, Bool, Some, None, true, false, Option, IsSome, IfSome, IfOk, length, slice_get, is_some, OnOk, OnErr, ◌||◌, not, ◌&&◌, ◌+◌, if◌then◌else◌};
-    ghost use Rattle.bbm_entry_state.specs.Points.{is_broken, waits};
+    ghost use Rattle.bbm_entry_state.specs.Points.{core_in, is_broken, waits};
+    ghost use Rattle.bbm_entry_state.specs.declared.state.EntryState.{EntryState as TheState};
     ghost use Rattle.bbm_tlbi_scope.specs.declared.entry.Cover.{Cover as TheCover};
     ghost use Rattle.bbm_place_map.specs.Finds.{is_found, FoundAs};
-    ghost use Rattle.bbm_place_map.specs.Calls.{lost_table, IsSame, MayCover};
+    ghost use Rattle.bbm_place_map.specs.Calls.{lost_table, IsSame, Leaves, MayCover};
     ghost use Rattle.bbm_place_map.specs.declared.entry.Entry.{Entry as TheEntry};
-    ghost use Rattle.bbm_entry_state.specs.Calls.{Published, Noted, Completed};
+    ghost use Rattle.bbm_entry_state.specs.Calls.{Written, Published, Noted, Completed};
     ghost use Rattle.bbm_descriptor.specs.Descriptor.{core_of};
     ghost use Rattle.bbm_descriptor.specs.declared.desc.Core.{Core as TheCore};
     ghost use Rattle.bbm_entry_state.specs.Standing.{IsIdle};
@@ -112,14 +113,21 @@ impl PlaceMap {
         Some(Seat { place, index })
     }
 
-    /// The state of a seat's place, as `state_by` says it.
-    pub fn state_at_seat(&self, seat: &Seat, kind: Kind, level: u8) -> EntryState
+    /// The core of the value of a seat's place, read at this kind and level, 0 to 3; None where the value is invalid.
+    pub fn live_at(&self, seat: &Seat, kind: Kind, level: u8) -> Option<Core>
         requires seat { IsSeat self.now seat.now }
         requires level { level ≤ 3 }
-        ensures { result ≡ state_at self.now (core_of kind level (value_at self.now seat.now.place)) seat.now.place }
+        ensures { result ≡ core_of kind level (value_at self.now seat.now.place) }
     {
-        let live = core(kind, level, self.cells[seat.index].value);
-        read::state(&self.cells, &self.broken, seat.index, live)
+        core(kind, level, self.cells[seat.index].value)
+    }
+
+    /// The core that a seat's place is broken over; where it isn't broken, this one.
+    pub fn core_at(&self, seat: &Seat, live: Option<Core>) -> Option<Core>
+        requires { IsSeat self.now seat.now }
+        ensures { result ≡ core_in (state_at self.now live seat.now.place) }
+    {
+        read::core(&self.cells, &self.broken, seat.index, live)
     }
 
     /// The state of the place, read at this kind and level, 0 to 3: one that isn't broken is live with the core of its
@@ -128,8 +136,11 @@ impl PlaceMap {
         requires { level ≤ 3 }
         ensures { result ≡ state_at self.now (core_of kind level (value_at self.now place)) place }
     {
-        match self.seat(place) {
-            Some(seat) => self.state_at_seat(&seat, kind, level),
+        match self.index(place) {
+            Some(j) => {
+                let live = core(kind, level, self.cells[j].value);
+                read::state(&self.cells, &self.broken, j, live)
+            }
             None => read::whole(core(kind, level, 0)),
         }
     }
@@ -168,27 +179,76 @@ impl PlaceMap {
         self.broken[i as usize].place
     }
 
-    /// Writes a value at a seat's place, and the state that the write leaves, as `set`. Nothing else changes.
-    pub fn set_at(&mut self, seat: &Seat, value: u64, state: EntryState)
+    /// The PE writes a value at a seat's place, the core of which is `new`, None where it is invalid; `live` is the core
+    /// of the value before. The state is after what the write leaves of the one before. What waits there stays where the
+    /// place is broken, and else is dropped. Nothing else changes.
+    pub fn write_at(
+        &mut self,
+        seat: &Seat,
+        pe: Pe,
+        value: u64,
+        live: &Option<Core>,
+        new: &Option<Core>,
+    )
+        requires { IsSeat self.old seat.now }
+        ensures written { (state : TheState) × Written (state_at self.old live.now seat.now.place) pe new.now state
+            × Leaves state seat.now.place self.old self.new }
+        ensures values { (a : ℕ) → value_at self.new a ≡ (if nat_eq a seat.now.place then value else value_at self.old a) }
+        ensures pages { (page : ℕ) → is_tracked self.new page ≡ is_tracked self.old page }
+    {
+        match new {
+            Some(_core) => self.put_whole(seat, value),
+            None => self.clear_at(seat, pe, value, live),
+        }
+    }
+
+    // The same for an invalid value.
+    fn clear_at(&mut self, seat: &Seat, pe: Pe, value: u64, live: &Option<Core>)
+        requires { IsSeat self.old seat.now }
+        ensures written { (state : TheState) × Written (state_at self.old live.now seat.now.place) pe None state
+            × Leaves state seat.now.place self.old self.new }
+        ensures values { (a : ℕ) → value_at self.new a ≡ (if nat_eq a seat.now.place then value else value_at self.old a) }
+        ensures pages { (page : ℕ) → is_tracked self.new page ≡ is_tracked self.old page }
+    {
+        match read::state(&self.cells, &self.broken, seat.index, *live).write(pe, None) {
+            EntryState::Broken { marks } => self.put_broken(seat, value, marks),
+            EntryState::Clean => self.put_whole(seat, value),
+            EntryState::Live { .. } => self.put_whole(seat, value),
+        }
+    }
+
+    // Writes a value at a seat's place, which isn't broken after. What waits there is dropped. Nothing else changes.
+    fn put_whole(&mut self, seat: &Seat, value: u64)
+        requires { IsSeat self.old seat.now }
+        ensures values { (a : ℕ) → value_at self.new a ≡ (if nat_eq a seat.now.place then value else value_at self.old a) }
+        ensures marks { (a : ℕ) → marks_at self.new a ≡ (if nat_eq a seat.now.place then None else marks_at self.old a) }
+        ensures pends { (q a : ℕ) → nat_eq a seat.now.place ≡ false → pends_at self.new q a ≡ pends_at self.old q a }
+        ensures dropped { (q : ℕ) → IsIdle (pends_at self.new q seat.now.place) }
+        ensures pages { (page : ℕ) → is_tracked self.new page ≡ is_tracked self.old page }
+    {
+        write::put_whole(&mut self.cells, &mut self.broken, seat.index, value);
+    }
+
+    // Writes a value at a seat's place, which is broken with these marks after. What waits there stays. Nothing else
+    // changes.
+    fn put_broken(&mut self, seat: &Seat, value: u64, marks: Marks)
         requires { IsSeat self.old seat.now }
         ensures values { (a : ℕ) → value_at self.new a ≡ (if nat_eq a seat.now.place then value else value_at self.old a) }
         ensures marks { (a : ℕ) → marks_at self.new a
-            ≡ (if nat_eq a seat.now.place then marks_of_state state else marks_at self.old a) }
-        ensures pends { (q a : ℕ) → (nat_eq a seat.now.place && not (is_broken state)) ≡ false
-            → pends_at self.new q a ≡ pends_at self.old q a }
-        ensures dropped { (q : ℕ) → is_broken state ≡ false → IsIdle (pends_at self.new q seat.now.place) }
+            ≡ (if nat_eq a seat.now.place then Some marks else marks_at self.old a) }
+        ensures pends { (q a : ℕ) → pends_at self.new q a ≡ pends_at self.old q a }
         ensures pages { (page : ℕ) → is_tracked self.new page ≡ is_tracked self.old page }
     {
         let j = seat.index;
         let before = read::marks(&self.cells, &self.broken, j);
-        work::note_state(&mut self.work, j as u32, &before, &state, self.broken.len());
-        write::put(
+        work::note_write(&mut self.work, j as u32, &before, &marks, self.broken.len());
+        write::put_broken(
             &mut self.cells,
             &mut self.broken,
             j,
             seat.place,
             value,
-            state,
+            marks,
             self.alloc,
         );
     }
@@ -206,7 +266,11 @@ impl PlaceMap {
         ensures pages { (page : ℕ) → is_tracked self.new page ≡ is_tracked self.old page }
     {
         let seat = self.seat(place).unwrap();
-        self.set_at(&seat, value, state);
+        match state {
+            EntryState::Broken { marks } => self.put_broken(&seat, value, marks),
+            EntryState::Clean => self.put_whole(&seat, value),
+            EntryState::Live { .. } => self.put_whole(&seat, value),
+        }
     }
 
     /// No place of the page is broken any more, and nothing waits there. Nothing else changes.

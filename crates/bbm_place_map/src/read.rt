@@ -1,9 +1,10 @@
 //! What is kept of a cell.
 
 ghost use Rattle.std.specs.Prelude.{◌≡◌, ◌<◌, ◌^◌, IfSome, length, None, nat_eq, true};
-ghost use Rattle.bbm_entry_state.specs.Points.{is_broken};
+ghost use Rattle.bbm_entry_state.specs.Points.{core_in, is_broken};
 ghost use Rattle.bbm_place_map.specs.Cells.{slot_in};
-ghost use Rattle.bbm_place_map.specs.Entries.{WaitsAlike};
+ghost use Rattle.bbm_place_map.specs.Entries.{WaitsAlike, entry_in};
+ghost use Rattle.std.specs.Option.{option_copied};
 ghost use Rattle.bbm_place_map.specs.Parts.{marks_in, pends_for};
 ghost use Rattle.bbm_place_map.specs.Sound.{Linked, Numbered, index_of, slot_at};
 ghost use Rattle.indexmap.specs.IndexMap.{get};
@@ -74,17 +75,39 @@ pub fn entry_at(pages: &IndexMap<u64, usize>, cells: &[Cell], place: Place) -> O
     }
 }
 
+// The entry of a cell; None where its place isn't broken.
+fn entry<'a>(cells: &[Cell], broken: &'a [Entry], j: usize) -> Option<&'a Entry>
+    requires linked { Linked cells.now broken.now }
+    requires within { j < length cells.now }
+    ensures { option_copied result ≡ entry_in cells.now broken.now j }
+{
+    match cells[j].slot {
+        Some(k) => Some(&broken[k as usize]),
+        None => None,
+    }
+}
+
 /// The state of a cell's place.
 pub fn state(cells: &[Cell], broken: &[Entry], j: usize, live: Option<Core>) -> EntryState
     requires linked { Linked cells.now broken.now }
     requires within { j < length cells.now }
     ensures { result ≡ state_from live (marks_in cells.now broken.now j) }
 {
-    match cells[j].slot {
-        Some(k) => EntryState::Broken {
-            marks: broken[k as usize].marks,
-        },
+    match entry(cells, broken, j) {
+        Some(entry) => EntryState::Broken { marks: entry.marks },
         None => whole(live),
+    }
+}
+
+/// The core that a cell's place is broken over; where it isn't broken, this one.
+pub fn core(cells: &[Cell], broken: &[Entry], j: usize, live: Option<Core>) -> Option<Core>
+    requires linked { Linked cells.now broken.now }
+    requires within { j < length cells.now }
+    ensures { result ≡ core_in (state_from live (marks_in cells.now broken.now j)) }
+{
+    match entry(cells, broken, j) {
+        Some(entry) => Some(entry.marks.core),
+        None => live,
     }
 }
 
@@ -94,8 +117,8 @@ pub fn marks(cells: &[Cell], broken: &[Entry], j: usize) -> Option<Marks>
     requires within { j < length cells.now }
     ensures { result ≡ marks_in cells.now broken.now j }
 {
-    match cells[j].slot {
-        Some(k) => Some(broken[k as usize].marks),
+    match entry(cells, broken, j) {
+        Some(entry) => Some(entry.marks),
         None => None,
     }
 }
@@ -106,8 +129,8 @@ pub fn pends(cells: &[Cell], broken: &[Entry], j: usize, issuer: Pe) -> Pends
     requires within { j < length cells.now }
     ensures { WaitsAlike (pends_for cells.now broken.now issuer j) result }
 {
-    match cells[j].slot {
-        Some(k) => pends_of(&broken[k as usize].pends, issuer),
+    match entry(cells, broken, j) {
+        Some(entry) => pends_of(&entry.pends, issuer),
         None => Pends::none(),
     }
 }

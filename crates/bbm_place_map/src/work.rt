@@ -2,11 +2,9 @@
 
 ghost use Rattle.std.specs.Prelude.{◌≡◌, ◌≢◌, ◌≤◌, ◌<◌, ◌⊎◌, ℕ, Some, true, false, Contains, vec_len, length, slice_get};
 ghost use Rattle.bbm_regimes.specs.PeMask.{pe_in};
-ghost use Rattle.bbm_entry_state.specs.declared.marks.Marks.{Marks as TheMarks};
-ghost use Rattle.bbm_place_map.specs.States.{marks_of_state};
 ghost use Rattle.bbm_place_map.specs.Works.{GivesUp, Holds, HoldsFor, is_clean, IsToldAsBefore};
 
-use bbm_entry_state::{EntryState, Marks};
+use bbm_entry_state::Marks;
 use bbm_regimes::{Pe, PeMask};
 use std::alloc::Global;
 
@@ -160,33 +158,6 @@ pub fn note_write(work: &mut Work, cell: u32, before: &Option<Marks>, marks: &Ma
     add_broken(&mut work.unpublished, pes, cell, before, marks, broken);
     if marks.is_clean(work.pes) {
         work.settled = false;
-    }
-}
-
-/// A cell's place is written, with the marks before if it was broken, and this state after.
-pub fn note_state(
-    work: &mut Work,
-    cell: u32,
-    before: &Option<Marks>,
-    state: &EntryState,
-    broken: usize,
-)
-    requires some { 1 ≤ work.old.pes }
-    requires most { work.old.pes ≤ 128 }
-    ensures pes { work.new.pes ≡ work.old.pes }
-    ensures told { (marks : TheMarks) → marks_of_state state.now ≡ Some marks → (q : ℕ) → q < work.old.pes
-        → HoldsFor work.new.unpublished.items q cell
-        ⊎ ((pe_in marks.writers q ≡ false) ⊎ IsToldAsBefore before.now marks q) }
-    ensures kept { (q j : ℕ) → HoldsFor work.old.unpublished.items q j → HoldsFor work.new.unpublished.items q j }
-    ensures waiting { work.new.waiting.items ≡ work.old.waiting.items }
-    ensures settled { work.new.settled ≡ true → work.old.settled ≡ true }
-    ensures unclean { (marks : TheMarks) → marks_of_state state.now ≡ Some marks → work.new.settled ≡ true
-        → is_clean work.old.pes marks ≡ false }
-{
-    match state {
-        EntryState::Broken { marks } => note_write(work, cell, before, marks, broken),
-        EntryState::Clean => {}
-        EntryState::Live { .. } => {}
     }
 }
 

@@ -1,19 +1,17 @@
 //! Writes of a cell and its entry.
 
-ghost use Rattle.std.specs.Prelude.{◌≡◌, ◌≤◌, ◌<◌, ◌+◌, ◌^◌, ℕ, Option, Some, None, nat_eq, not, ◌&&◌, vec_len, vec_capacity, slice_get, length, List, if◌then◌else◌};
-ghost use Rattle.bbm_entry_state.specs.Points.{is_broken};
+ghost use Rattle.std.specs.Prelude.{◌≡◌, ◌≤◌, ◌<◌, ◌+◌, ◌^◌, ℕ, Option, Some, None, nat_eq, vec_len, vec_capacity, slice_get, length, List, if◌then◌else◌};
 ghost use Rattle.bbm_place_map.specs.Cells.{value_in, slot_in, in_page};
 ghost use Rattle.bbm_place_map.specs.Entries.{no_pends};
 ghost use Rattle.bbm_place_map.specs.Parts.{marks_in, pends_for};
 ghost use Rattle.bbm_place_map.specs.Puts.{Breaks, Clears};
 ghost use Rattle.bbm_place_map.specs.Sound.{Linked, Placed, index_of};
-ghost use Rattle.bbm_place_map.specs.States.{marks_of_state};
 ghost use Rattle.bbm_place_map.specs.declared.entry.Entry.{Entry as TheEntry};
 
 use crate::cell::Cell;
 use crate::entry::Entry;
 use crate::links::{link, put_value, unlink};
-use bbm_entry_state::{EntryState, Marks};
+use bbm_entry_state::Marks;
 use bbm_regimes::Place;
 use std::alloc::Global;
 
@@ -62,14 +60,33 @@ pub fn clear(cells: &mut Vec<Cell>, broken: &mut Vec<Entry>, j: usize)
     }
 }
 
-/// Writes a value, and the state that it leaves. What waits there stays where the place is broken, and else is dropped.
-pub fn put(
+/// Writes a value, and the place isn't broken after. What waits there is dropped.
+pub fn put_whole(cells: &mut Vec<Cell>, broken: &mut Vec<Entry>, j: usize, value: u64)
+    requires linked { Linked cells.old.items broken.old.items }
+    requires within { j < vec_len cells.old }
+    requires few { vec_len cells.old < 2 ^ 32 }
+    ensures linked { Linked cells.new.items broken.new.items }
+    ensures len { vec_len cells.new ≡ vec_len cells.old }
+    ensures room { vec_capacity broken.new ≡ vec_capacity broken.old }
+    ensures values { (i : ℕ) → value_in cells.new.items i ≡ (if nat_eq i j then value else value_in cells.old.items i) }
+    ensures marks { (i : ℕ) → marks_in cells.new.items broken.new.items i
+        ≡ (if nat_eq i j then None else marks_in cells.old.items broken.old.items i) }
+    ensures pends { (q i : ℕ) → pends_for cells.new.items broken.new.items q i
+        ≡ (if nat_eq i j then no_pends else pends_for cells.old.items broken.old.items q i) }
+    ensures placed { (base : ℕ → Option ℕ) → Placed base broken.old.items → Placed base broken.new.items }
+{
+    put_value(cells, j, value);
+    clear(cells, broken, j);
+}
+
+/// Writes a value, and the place is broken with these marks after. What waits there stays.
+pub fn put_broken(
     cells: &mut Vec<Cell>,
     broken: &mut Vec<Entry>,
     j: usize,
     place: Place,
     value: u64,
-    state: EntryState,
+    marks: Marks,
     alloc: Global,
 )
     requires linked { Linked cells.old.items broken.old.items }
@@ -81,18 +98,14 @@ pub fn put(
     ensures room { vec_capacity broken.new ≡ vec_capacity broken.old }
     ensures values { (i : ℕ) → value_in cells.new.items i ≡ (if nat_eq i j then value else value_in cells.old.items i) }
     ensures marks { (i : ℕ) → marks_in cells.new.items broken.new.items i
-        ≡ (if nat_eq i j then marks_of_state state else marks_in cells.old.items broken.old.items i) }
+        ≡ (if nat_eq i j then Some marks else marks_in cells.old.items broken.old.items i) }
     ensures pends { (q i : ℕ) → pends_for cells.new.items broken.new.items q i
-        ≡ (if nat_eq i j && not (is_broken state) then no_pends else pends_for cells.old.items broken.old.items q i) }
+        ≡ pends_for cells.old.items broken.old.items q i }
     ensures placed { (base : ℕ → Option ℕ) → index_of base place ≡ Some j → Placed base broken.old.items
         → Placed base broken.new.items }
 {
     put_value(cells, j, value);
-    match state {
-        EntryState::Broken { marks } => mark(cells, broken, j, place, marks, alloc),
-        EntryState::Clean => clear(cells, broken, j),
-        EntryState::Live { .. } => clear(cells, broken, j),
-    }
+    mark(cells, broken, j, place, marks, alloc);
 }
 
 /// No place of the 512 cells from the base on is broken, and nothing waits there.

@@ -5,7 +5,7 @@ ghost use Rattle.std.specs.Option.{option_map, option_map_or};
 ghost use Rattle.bbm_tree_index.specs.Held.{limbo_at};
 ghost use Rattle.bbm_descriptor.specs.Descriptor as spec;
 ghost use Rattle.bbm_entry_state.specs.Points as points;
-ghost use Rattle.bbm_place_map.specs.Map.{IsSeat, marks_at};
+ghost use Rattle.bbm_place_map.specs.Map.{IsSeat, marks_at, value_at};
 ghost use Rattle.bbm_replay.specs.Leaves as leaves;
 ghost use Rattle.bbm_replay.specs.Standing.{Stands, view_of};
 ghost use Rattle.bbm_events.specs.Heading.{Heading};
@@ -48,17 +48,6 @@ fn rewrites(old: u64, value: u64) -> bool
     ensures { result ≡ (old % 2 == 1 && not (old == value)) }
 {
     old % 2 == 1 && old != value
-}
-
-// The core of what a state holds.
-fn core_of_state(state: &EntryState) -> Option<Core>
-    ensures { result ≡ points.core_in state.now }
-{
-    match state {
-        EntryState::Clean => None,
-        EntryState::Live { core } => Some(*core),
-        EntryState::Broken { marks } => Some(marks.core),
-    }
 }
 
 // Whether it is a leaf with the Contiguous hint.
@@ -194,29 +183,29 @@ impl Parts {
         seat: &Seat,
         value: u64,
         path: &Path,
-        state: EntryState,
-        new: Option<Core>,
+        live: &Option<Core>,
+        new: &Option<Core>,
     ) -> Result<(), StepFault>
         requires may { MayMeet self.old (Write pe seat.now.place value) }
         requires seat { IsSeat self.old.map seat.now }
         requires at { IsAt self.old seat.now.place path.now }
-        requires state { state ≡ state_of (view_of self.old.map self.old.index) path.now.kind path.now.level seat.now.place }
-        requires new { new ≡ spec.core_of path.now.kind path.now.level value }
+        requires live { live.now ≡ spec.core_of path.now.kind path.now.level (value_at self.old.map seat.now.place) }
+        requires new { new.now ≡ spec.core_of path.now.kind path.now.level value }
         requires clear { Clears self.old (Write pe seat.now.place value) (Ok tt) }
-        requires plain { leaves.attached_next (points.core_in state) new ≡ None }
+        requires plain { leaves.attached_next
+            (points.core_in (state_of (view_of self.old.map self.old.index) path.now.kind path.now.level seat.now.place)) new.now ≡ None }
         ensures { Meets self.old self.new (Write pe seat.now.place value) result }
     {
         laws();
         rules();
         law_others();
-        if is_contiguous(&new) {
+        if is_contiguous(new) {
             return Err(StepFault::Broken(Rule::BadKind, seat.place.get()));
         }
-        if is_user_global(path.kind, &new) {
+        if is_user_global(path.kind, new) {
             return Err(StepFault::Broken(Rule::GlobalUser, seat.place.get()));
         }
-        let written = state.write(pe, new);
-        self.map.set_at(seat, value, written);
+        self.map.write_at(seat, pe, value, live, new);
         self.map.law_idle();
         Ok(())
     }
@@ -229,17 +218,18 @@ impl Parts {
         seat: &Seat,
         value: u64,
         path: &Path,
-        state: EntryState,
-        new: Option<Core>,
+        live: &Option<Core>,
+        table: &Option<Core>,
         next: Page,
     ) -> Result<(), StepFault>
         requires may { MayMeet self.old (Write pe seat.now.place value) }
         requires seat { IsSeat self.old.map seat.now }
         requires at { IsAt self.old seat.now.place path.now }
-        requires state { state ≡ state_of (view_of self.old.map self.old.index) path.now.kind path.now.level seat.now.place }
-        requires new { new ≡ spec.core_of path.now.kind path.now.level value }
+        requires live { live.now ≡ spec.core_of path.now.kind path.now.level (value_at self.old.map seat.now.place) }
+        requires table { table.now ≡ spec.core_of path.now.kind path.now.level value }
         requires clear { Clears self.old (Write pe seat.now.place value) (Ok tt) }
-        requires attaches { leaves.attached_next (points.core_in state) new ≡ Some next }
+        requires attaches { leaves.attached_next
+            (points.core_in (state_of (view_of self.old.map self.old.index) path.now.kind path.now.level seat.now.place)) table.now ≡ Some next }
         ensures { Meets self.old self.new (Write pe seat.now.place value) result }
     {
         laws();
@@ -251,7 +241,7 @@ impl Parts {
             .attach(alloc, &self.map, Attach::Below { place, next })
         {
             Ok(()) => {
-                self.map.set_at(seat, value, state.write(pe, new));
+                self.map.write_at(seat, pe, value, live, table);
                 self.map.law_idle();
                 Ok(())
             }
@@ -266,23 +256,23 @@ impl Parts {
         pe: Pe,
         seat: &Seat,
         value: u64,
-        path: Path,
+        path: &Path,
     ) -> Result<(), StepFault>
         requires may { MayMeet self.old (Write pe seat.now.place value) }
         requires seat { IsSeat self.old.map seat.now }
-        requires at { IsAt self.old seat.now.place path }
+        requires at { IsAt self.old seat.now.place path.now }
         ensures { Meets self.old self.new (Write pe seat.now.place value) result }
     {
         laws();
-        let state = self.map.state_at_seat(seat, path.kind, path.level);
-        let old = core_of_state(&state);
+        let live = self.map.live_at(seat, path.kind, path.level);
+        let old = self.map.core_at(seat, live);
         let new = core(path.kind, path.level, value);
-        match self.judge_entry(pe, seat.place, value, &path, &old, &new) {
+        match self.judge_entry(pe, seat.place, value, path, &old, &new) {
             Ok(()) => match attached_next(&old, &new) {
                 Some(next) => {
-                    self.write_attaching(alloc, pe, seat, value, &path, state, new, next)
+                    self.write_attaching(alloc, pe, seat, value, path, &live, &new, next)
                 }
-                None => self.write_plain(pe, seat, value, &path, state, new),
+                None => self.write_plain(pe, seat, value, path, &live, &new),
             },
             Err(fault) => Err(fault),
         }
@@ -302,7 +292,7 @@ impl Parts {
         match self.index.path(place) {
             Some(path) => {
                 let seat = self.map.seat(place).unwrap();
-                self.write_inside(alloc, pe, &seat, value, path)
+                self.write_inside(alloc, pe, &seat, value, &path)
             }
             None => self.write_outside(pe, place, value),
         }

@@ -1,33 +1,43 @@
-use Rattle.std.proofs.Common.{refl, ap, subst}
+use Rattle.std.proofs.Common.{ℕ, Option, refl, ap, subst}
+use Rattle.bbm_descriptor.specs.declared.desc.Core.{Core}
 use Rattle.bbm_entry_state.specs.Calls.{Written}
 use Rattle.bbm_entry_state.specs.Points.{core_in, waits}
 use Rattle.bbm_entry_state.specs.declared.pending.Pends.{Pends}
 use Rattle.bbm_entry_state.specs.declared.state.EntryState.{EntryState}
+use Rattle.bbm_place_map.specs.Map.{state_at}
+use Rattle.bbm_tree_index.specs.declared.role.Path.{Path}
 use Rattle.bbm_tree_index.specs.Paths.{starts_of}
 use Rattle.bbm_tree_index.specs.declared.role.Attach.TheVariants as attach
 use Rattle.bbm_replay.specs.Standing.{view_of}
+use Rattle.bbm_replay.specs.View.{state_of}
 use Rattle.bbm_replay.specs.declared.parts.Parts.{Parts}
 use Rattle.bbm_replay.proofs.Framing.{stands_still}
 use Rattle.bbm_replay.proofs.Inside.{attach_fault, attach_ok, below_three}
 use Rattle.bbm_replay.proofs.Rooting.{attaches_of}
 use Rattle.bbm_replay.proofs.parts.Parts.write_attaching.Goals as goal
 
+-- the state of the place before
+abbrev was : Parts → Path → ℕ → EntryState
+was parts path place = state_of (view_of parts.map parts.index) path.kind path.level place
+
 pub returns-in-Ok : goal.returns-in-Ok
 returns-in-Ok c =
     let old = c.args.self.now in
-    let e = c.set_at.ensures in
+    let e = c.write_at.ensures in
+    let state = e.written.0 in
+    let left = e.written.1.1 in
     let a = c.in-Ok.ensures in
-    let last : Parts = record old { map = c.set_at.new.self; index = c.attach.new.self } in
+    let last : Parts = record old { map = c.write_at.new.self; index = c.attach.new.self } in
     attach_ok c.laws.ensures c.rules.ensures old c.args.pe c.args.seat.now.place c.args.value c.requires.may
-    c.args.path.now c.requires.at (core_in c.args.state) c.args.new (ap (λ (s : EntryState). core_in s) c.requires.state) c.requires.new
+    c.args.path.now c.requires.at (core_in (was c.args.self.now c.args.path.now c.args.seat.now.place)) c.args.table.now refl c.requires.table
     c.requires.clear c.args.next c.requires.attaches a.judged c.law_others.ensures last
-    (record { header = refl; index_header = c.attach.ensures.tracked.heading; sound = λ s. c.attach.ensures.sound }) refl c.write.result
-    (subst (λ (s : EntryState). Written s c.args.pe c.args.new c.write.result) c.requires.state c.write.ensures)
+    (record { header = refl; index_header = c.attach.ensures.tracked.heading; sound = λ s. c.attach.ensures.sound }) refl state
+    (subst (λ (live : Option Core). Written (state_at old.map live c.args.seat.now.place) c.args.pe c.args.table.now state) c.requires.live e.written.1.0)
     (record {
       value = e.values;
-      marks = e.marks;
-      pends = λ q a k b i p. ap (λ (x : Pends). waits x b i p) (e.pends q a k);
-      dropped = e.dropped;
+      marks = left.marks;
+      pends = λ q a k b i p. ap (λ (x : Pends). waits x b i p) (left.pends q a k);
+      dropped = left.dropped;
     })
     (attaches_of (view_of old.map old.index) (view_of last.map last.index) (starts_of old.index (attach.Below c.args.seat.now.place c.args.next))
     a.node a.fresh c.attach.ensures.null
@@ -41,7 +51,7 @@ returns-in-Err c =
     let last : Parts = record old { index = c.attach.new.self } in
     rw c.step_fault.ensures
     (attach_fault c.laws.ensures c.rules.ensures old c.args.pe c.args.seat.now.place c.args.value c.requires.may
-    c.args.path.now c.requires.at (core_in c.args.state) c.args.new (ap (λ (s : EntryState). core_in s) c.requires.state) c.requires.new
+    c.args.path.now c.requires.at (core_in (was c.args.self.now c.args.path.now c.args.seat.now.place)) c.args.table.now refl c.requires.table
     c.requires.clear c.args.next c.requires.attaches last
     (λ heading h s. stands_still c.laws.ensures old last
     (record { header = refl; index_header = c.attach.ensures.tracked.heading; sound = λ s. c.attach.ensures.sound })
@@ -58,6 +68,6 @@ attach-requires-clause-may c = (
   c.requires.at.0,
   c.requires.at.1,
   below_three c.laws.ensures c.rules.ensures c.args.self.now c.args.pe c.args.seat.now.place c.args.value c.requires.may
-      c.args.path.now c.requires.at (core_in c.args.state) c.args.new (ap (λ (s : EntryState). core_in s) c.requires.state) c.requires.new
+      c.args.path.now c.requires.at (core_in (was c.args.self.now c.args.path.now c.args.seat.now.place)) c.args.table.now refl c.requires.table
       c.requires.clear c.args.next c.requires.attaches,
 )

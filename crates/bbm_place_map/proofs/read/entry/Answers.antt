@@ -1,9 +1,9 @@
 use Rattle.std.proofs.Common.{ap, sym, ◌∙◌, refl, Some, Option, ℕ, length}
 use Rattle.std.proofs.lemmas.Option.{slice_get_read}
-use Rattle.bbm_place_map.specs.Entries.{marks_of, entry_of}
+use Rattle.bbm_place_map.specs.Entries.{entry_of}
 use Rattle.bbm_place_map.specs.declared.entry.Entry.{Entry}
 use Rattle.bbm_place_map.proofs.Linking.{cell_within}
-use Rattle.bbm_place_map.proofs.read.marks.Goals as goal
+use Rattle.bbm_place_map.proofs.read.entry.Goals as goal
 
 pub bounds-broken-k : goal.bounds-broken-k
 bounds-broken-k c = cell_within c.args.broken.now c.in-Some.k c.args.j (c.requires.linked.forth c.args.j c.in-Some.k c.in-Some.is)
@@ -12,9 +12,4 @@ pub returns-in-Some : goal.returns-in-Some
 returns-in-Some c =
     let within = cell_within c.args.broken.now c.in-Some.k c.args.j (c.requires.linked.forth c.args.j c.in-Some.k c.in-Some.is) in
     let read = slice_get_read c.args.broken.now (length c.args.broken.now) c.in-Some.k c.index-broken-k.result refl within c.index-broken-k.is in
-    ap (λ (e : Entry). Some e.marks) (sym c.index-broken-k.is)
-    ∙ sym (ap (λ (o : Option ℕ). marks_of (entry_of c.args.broken.now o)) c.in-Some.is
-    ∙ ap (λ (o : Option Entry). marks_of o) read)
-
-pub bounds-broken-k-in-Some : goal.bounds-broken-k-in-Some
-bounds-broken-k-in-Some c = cell_within c.args.broken.now c.in-Some.k c.args.j (c.requires.linked.forth c.args.j c.in-Some.k c.in-Some.is)
+    sym (ap (λ (o : Option ℕ). entry_of c.args.broken.now o) c.in-Some.is ∙ read)

@@ -1,0 +1,20 @@
+use Rattle.std.proofs.Common.{ℕ, nat_eq, ap, sym, ◌∙◌, arith}
+use Rattle.indexmap.specs.IndexMap.{get}
+use Rattle.bbm_descriptor.specs.Descriptor.{core_of}
+use Rattle.bbm_place_map.specs.Cells.{value_in}
+use Rattle.bbm_place_map.specs.Map.{value_at, IsSeat}
+use Rattle.bbm_place_map.specs.Sound.{at_index}
+use Rattle.bbm_place_map.proofs.Edits.{value_read}
+use Rattle.bbm_place_map.proofs.Places.{index_inside}
+use Rattle.bbm_place_map.proofs.map.PlaceMap.live_at.Goals as goal
+
+pub returns : goal.returns
+unfolding value_at IsSeat
+returns c =
+    let cells = c.args.self.now.cells.items in
+    let j = c.args.seat.now.index in
+    let within = index_inside (get nat_eq c.args.self.now.pages) _ c.args.self.now.numbered c.args.seat.now.place j c.requires.seat in
+    c.core.ensures.value
+    ∙ ap (λ (v : ℕ). core_of c.args.kind c.args.level v)
+    (sym (value_read cells j c.index.result.now (omega (arith, within)) c.index.ensures)
+    ∙ ap (at_index 0 (value_in cells)) (sym c.requires.seat))
