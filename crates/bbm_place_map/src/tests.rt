@@ -6,7 +6,7 @@ use crate::example::{ISH, ISHST};
 use crate::{Found, PlaceMap, break_before_make};
 use bbm_descriptor::{Core, Memory};
 use bbm_entry_state::EntryState;
-use bbm_regimes::{NoMemory, Page, Pe, PeMask, Place};
+use bbm_regimes::{Kind, NoMemory, Page, Pe, PeMask, Place};
 use bbm_tlbi_scope::Cover;
 use std::alloc::Global;
 
@@ -87,9 +87,9 @@ fn state(map: &PlaceMap, place: Place) -> EntryState {
 
 fn write(map: &mut PlaceMap, zero: Pe, addr: u64, value: u64, new: Option<Core>) {
     if let Some(place) = Place::new(addr) {
-        let after = state(map, place).write(zero, new);
-        if map.is_tracked(place.page()) {
-            map.set(place, value, after);
+        if let Some(seat) = map.seat(place) {
+            let live = map.live_at(&seat, Kind::El2, 1);
+            map.write_at(&seat, zero, value, &live, &new);
         }
     }
 }
@@ -279,6 +279,32 @@ fn two_places(rt: HostRuntime) {
         after(alloc, &[track, first, second, Break(SECOND), Track]),
         says(0, At::Clean, At::Clean, 0, None)
     );
+}
+
+/// The core that a place is broken over after it was made and cleared.
+fn broken_over(alloc: Global) -> Option<Core> {
+    let zero = Pe::new(0)?;
+    let page = Page::new(PAGE)?;
+    let mut map = PlaceMap::new(alloc);
+    if zero.get() >= 2
+        || run(
+            alloc,
+            &mut map,
+            page,
+            zero,
+            &[Track, Make(FIRST), Break(FIRST)],
+        )
+        .is_err()
+    {
+        return None;
+    }
+    let seat = map.seat(Place::new(FIRST)?)?;
+    map.core_at(&seat, None)
+}
+
+#[test]
+fn a_cleared_place_is_broken_over_its_core(rt: HostRuntime) {
+    assert_eq!(rt; broken_over(rt.alloc()), Some(core()));
 }
 
 /// What the map says of the place of the example.
