@@ -1,6 +1,6 @@
 //! The steps of a run, taken line after line.
 
-ghost use Rattle.std.specs.Prelude.{◌≡◌, ◌<◌, Ok};
+ghost use Rattle.std.specs.Prelude.{◌≡◌, ◌<◌, Some, ok_or};
 ghost use Rattle.bbm_follow.specs.Following.{Reached, RunSays};
 ghost use Rattle.bbm_follow.specs.Following as following_of;
 ghost use Rattle.bbm_session.specs.Fold.{Fold};
@@ -24,14 +24,20 @@ use bbm_tlb_machine::Step;
 use std::alloc::Global;
 
 // What a line decides that was taken or not.
-fn turned(taken: Result<RunTurn, LineFault>) -> Result<Turn, Stop>
-    ensures { Turns taken result }
+fn turned(taken: Result<RunTurn, LineFault>, stop: &mut Stop) -> Option<Turn>
+    ensures { Turns taken (ok_or result stop.new) }
 {
     match taken {
-        Ok(RunTurn::Step) => Ok(Turn::Taken),
-        Ok(RunTurn::End) => Ok(Turn::End),
-        Err(LineFault::Decided(verdict)) => Err(Stop::Decided(verdict)),
-        Err(LineFault::NoMemory) => Err(Stop::NoMemory),
+        Ok(RunTurn::Step) => Some(Turn::Taken),
+        Ok(RunTurn::End) => Some(Turn::End),
+        Err(LineFault::Decided(verdict)) => {
+            *stop = Stop::Decided(verdict);
+            None
+        }
+        Err(LineFault::NoMemory) => {
+            *stop = Stop::NoMemory;
+            None
+        }
     }
 }
 
@@ -41,13 +47,15 @@ fn follow_line(
     steps: &mut Vec<Step>,
     header: &Header,
     line: &[u8],
-) -> Result<Turn, Stop>
+    stop: &mut Stop,
+) -> Option<Turn>
     requires { MayTakeLine (Follows steps.old.items) header.now number }
     ensures takes { (fold : Fold Reached RunSays) (p : Reached) → Follows steps.old.items fold header.now p number
-        → TakesLine fold (Follows steps.new.items fold header.now) number p line.now result }
-    ensures few { result ≡ Ok Turn.Taken → number < 4294967295 }
+        → TakesLine fold (Follows steps.new.items fold header.now) number p line.now
+        (ok_or result stop.new) }
+    ensures few { result ≡ Some Turn.Taken → number < 4294967295 }
 {
-    turned(take_line(number, header, steps, line))
+    turned(take_line(number, header, steps, line), stop)
 }
 
 /// The steps of a run that are kept.
@@ -73,8 +81,9 @@ impl Taker for Following {
         number: u64,
         header: &Header,
         line: &[u8],
-    ) -> Result<Turn, Stop> {
-        follow_line(number, &mut self.steps, header, line)
+        stop: &mut Stop,
+    ) -> Option<Turn> {
+        follow_line(number, &mut self.steps, header, line, stop)
     }
 }
 

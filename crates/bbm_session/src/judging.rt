@@ -1,6 +1,6 @@
 //! The events of a log, judged one after another.
 
-ghost use Rattle.std.specs.Prelude.{◌≡◌, ◌<◌, ℕ, suc, List, length, Option, Ok, IfOk, Err, true};
+ghost use Rattle.std.specs.Prelude.{◌≡◌, ◌<◌, ℕ, suc, List, length, Option, Some, IfOk, Err, ok_or, true};
 ghost use Rattle.bbm_regimes.specs.declared.regime.Which.{Which as WhichOf};
 ghost use Rattle.bbm_events.specs.declared.event.Event.{Event};
 ghost use Rattle.bbm_events.specs.Fits.{fits_heading, item_fits};
@@ -14,7 +14,7 @@ ghost use Rattle.bbm_session.specs.Fold.{Fold};
 ghost use Rattle.bbm_session.specs.Folds.{Judged, Judges, event_needs, item_needs};
 ghost use Rattle.bbm_session.specs.Stages.{StopsAt, MayJudge, Keeps, JudgesLine, MayTakeLine, TakesLine};
 
-use crate::reading::{limit, malformed};
+use crate::reading::{limit, stop_limit, stop_malformed};
 use crate::stop::{Stop, Turn};
 use crate::taker::Taker;
 use bbm_events::{Event, Header, Malformed};
@@ -41,6 +41,17 @@ fn refusal(number: u64, label: &Option<LabelText>, fault: StepFault) -> Stop
     }
 }
 
+// Stops reading at an event with this label that the checker didn't take.
+#[cold]
+#[inline(never)]
+fn refuse(number: u64, label: Option<LabelText>, fault: StepFault, stop: &mut Stop)
+    ensures stops { (breach : Option Breach) (which : Option WhichOf) → Answers (Err fault) breach which
+        → StopsAt stop.new number label.entry breach which }
+    ensures want { stop.new ≡ Stop.NoMemory → fault ≡ StepFault.NoMemory }
+{
+    *stop = refusal(number, &label, fault);
+}
+
 // Whether the last of so many events is one too many.
 fn passes(most: Option<u64>, taken: u64) -> bool
     ensures { (before : ℕ) → taken ≡ suc before → result ≡ is_reached most before }
@@ -52,8 +63,8 @@ fn passes(most: Option<u64>, taken: u64) -> bool
 }
 
 // The limit that the last of so many events, on this line, reaches.
-fn limit_reached(limits: Limits, number: u64, taken: u64) -> Option<Which>
-    ensures reached { (before : ℕ) → taken ≡ suc before → result ≡ limit_after limits number before }
+fn limit_reached(limits: &Limits, number: u64, taken: u64) -> Option<Which>
+    ensures reached { (before : ℕ) → taken ≡ suc before → result ≡ limit_after limits.now number before }
     ensures few { result ≡ None → number < 4294967295 }
 {
     if passes(limits.events, taken) {
@@ -68,77 +79,97 @@ fn limit_reached(limits: Limits, number: u64, taken: u64) -> Option<Which>
 // What an event with this label decides on this line.
 fn judge_event<C: Checker>(
     alloc: Global,
-    limits: Limits,
+    limits: &Limits,
     number: u64,
     checker: &mut C,
     event: Event,
-    label: &Option<LabelText>,
-) -> Result<Turn, Stop>
+    label: Option<LabelText>,
+    stop: &mut Stop,
+) -> Option<Turn>
     requires { MayTake (C.stands checker.old) event }
     ensures judges { (heading : Heading) (h : List Event) → Keeps (C.stands checker.old) heading h
         → fits_heading heading event ≡ true
-        → JudgesLine (C.stands checker.new) heading h (event_needs (C.frugal checker.old) heading h event ≡ true) result
-        (after_event Patterns limits number heading h event label.now) }
+        → JudgesLine (C.stands checker.new) heading h (event_needs (C.frugal checker.old) heading h event ≡ true)
+        (ok_or result stop.new)
+        (after_event Patterns limits.now number heading h event label.entry) }
     ensures frugal { C.frugal checker.new ≡ C.frugal checker.old }
-    ensures few { result ≡ Ok Turn.Taken → number < 4294967295 }
+    ensures few { result ≡ Some Turn.Taken → number < 4294967295 }
 {
     if let Err(fault) = checker.step(alloc, event) {
-        return Err(refusal(number, label, fault));
+        refuse(number, label, fault, stop);
+        return None;
     }
     match limit_reached(limits, number, checker.events()) {
-        Some(which) => Err(limit(number, which)),
-        None => Ok(Turn::Taken),
+        Some(which) => {
+            stop_limit(number, which, stop);
+            None
+        }
+        None => Some(Turn::Taken),
     }
 }
 
 // What a line after the header decides, by what was read of it.
 fn judge_item<C: Checker>(
     alloc: Global,
-    limits: Limits,
+    limits: &Limits,
     number: u64,
     checker: &mut C,
     read: Result<LineItem, Malformed>,
-) -> Result<Turn, Stop>
+    stop: &mut Stop,
+) -> Option<Turn>
     requires { MayJudge (C.stands checker.old) (read_in read) }
     ensures judges { (heading : Heading) (h : List Event) → Keeps (C.stands checker.old) heading h
         → IfOk (read_in read.entry) (λ item. item_fits heading item ≡ true)
-        → JudgesLine (C.stands checker.new) heading h (item_needs (C.frugal checker.old) heading h (read_in read.entry) ≡ true) result
-        (after_item Patterns limits number heading h (read_in read.entry)) }
+        → JudgesLine (C.stands checker.new) heading h (item_needs (C.frugal checker.old) heading h (read_in read.entry) ≡ true)
+        (ok_or result stop.new)
+        (after_item Patterns limits.now number heading h (read_in read.entry)) }
     ensures frugal { C.frugal checker.new ≡ C.frugal checker.old }
-    ensures few { result ≡ Ok Turn.Taken → number < 4294967295 }
+    ensures few { result ≡ Some Turn.Taken → number < 4294967295 }
 {
     match read {
         Ok(LineItem::Event(event, label)) => {
-            judge_event(alloc, limits, number, checker, event, &label)
+            judge_event(alloc, limits, number, checker, event, label, stop)
         }
         Ok(LineItem::End(count)) => {
             if u64::from(count) == checker.events() {
-                Ok(Turn::End)
+                Some(Turn::End)
             } else {
-                Err(malformed(number, Malformed::WrongCount))
+                stop_malformed(number, Malformed::WrongCount, stop);
+                None
             }
         }
-        Err(cause) => Err(malformed(number, cause)),
+        Err(cause) => {
+            stop_malformed(number, cause, stop);
+            None
+        }
     }
 }
 
 // What a line after the header decides.
 fn judge_line<C: Checker>(
     alloc: Global,
-    limits: Limits,
+    limits: &Limits,
     number: u64,
     checker: &mut C,
     header: &Header,
     line: &[u8],
-) -> Result<Turn, Stop>
-    requires { MayTakeLine (Judges (C.frugal checker.old) (C.stands checker.old) limits) header.now number }
+    stop: &mut Stop,
+) -> Option<Turn>
+    requires { MayTakeLine (Judges (C.frugal checker.old) (C.stands checker.old) limits.now) header.now number }
     ensures takes { (fold : Fold Progress Judged) (p : Progress)
-        → Judges (C.frugal checker.old) (C.stands checker.old) limits fold header.now p number
-        → TakesLine fold (Judges (C.frugal checker.new) (C.stands checker.new) limits fold header.now) number p line.now
-        result }
-    ensures few { result ≡ Ok Turn.Taken → number < 4294967295 }
+        → Judges (C.frugal checker.old) (C.stands checker.old) limits.now fold header.now p number
+        → TakesLine fold (Judges (C.frugal checker.new) (C.stands checker.new) limits.now fold header.now) number p line.now
+        (ok_or result stop.new) }
+    ensures few { result ≡ Some Turn.Taken → number < 4294967295 }
 {
-    judge_item(alloc, limits, number, checker, read_line(header, line))
+    judge_item(
+        alloc,
+        limits,
+        number,
+        checker,
+        read_line(header, line),
+        stop,
+    )
 }
 
 /// Events that are judged by a checker, under these limits.
@@ -167,7 +198,16 @@ impl<C: Checker> Taker for Judging<C> {
         number: u64,
         header: &Header,
         line: &[u8],
-    ) -> Result<Turn, Stop> {
-        judge_line(alloc, self.limits, number, &mut self.checker, header, line)
+        stop: &mut Stop,
+    ) -> Option<Turn> {
+        judge_line(
+            alloc,
+            &self.limits,
+            number,
+            &mut self.checker,
+            header,
+            line,
+            stop,
+        )
     }
 }

@@ -1,6 +1,6 @@
 //! The lines of a log, read one after another.
 
-ghost use Rattle.std.specs.Prelude.{◌≡◌, ◌+◌, ◌≤◌, ◌<◌, ℕ, Ok, OnOk, IfOk, IfErr};
+ghost use Rattle.std.specs.Prelude.{◌≡◌, ◌+◌, ◌≤◌, ◌<◌, ℕ, OnOk, IfOk, IfErr, Some, OnSome, ok_or};
 ghost use Rattle.bbm_events.specs.Heading.{Heading};
 ghost use Rattle.bbm_session.specs.Fold.{Fold, IsStart, IsInside, IsEnd};
 ghost use Rattle.bbm_session.specs.Stages.{Shrinks, Ready, IsBrief, ReadsHeader, Starts, MayGoOn, Advances, Reaches};
@@ -28,6 +28,24 @@ pub fn limit(line: u64, which: Which) -> Stop
     ensures { result ≡ Stop.Decided (Verdict.Limit line which) }
 {
     Stop::Decided(Verdict::Limit { line, which })
+}
+
+/// Stops reading at a malformed line.
+#[cold]
+#[inline(never)]
+pub fn stop_malformed(line: u64, cause: Malformed, stop: &mut Stop)
+    ensures { stop.new ≡ Stop.Decided (Verdict.Malformed line cause) }
+{
+    *stop = malformed(line, cause);
+}
+
+/// Stops reading at a line that reaches a limit.
+#[cold]
+#[inline(never)]
+pub fn stop_limit(line: u64, which: Which, stop: &mut Stop)
+    ensures { stop.new ≡ Stop.Decided (Verdict.Limit line which) }
+{
+    *stop = limit(line, which);
 }
 
 // What line 1 decides, by what was read of it.
@@ -59,7 +77,8 @@ pub fn header_line<T: Taker, S: Source>(lines: &mut Lines, log: &mut S) -> Resul
     }
 }
 
-// Reads line number `number`, after the header.
+// Reads line number `number`, after the header. None: reading stops, and `stop` says why: so no verdict is moved about
+// for a line that decides nothing. The line is taken in both arms, which leaves the loop one test for each line.
 fn log_line<T: Taker, S: Source>(
     alloc: Global,
     number: u64,
@@ -67,28 +86,43 @@ fn log_line<T: Taker, S: Source>(
     taker: &mut T,
     lines: &mut Lines,
     log: &mut S,
-) -> Result<Turn, Stop>
+    stop: &mut Stop,
+) -> Option<Turn>
     requires stands { MayGoOn (T.stands taker.old) header.now number }
     requires number { number ≤ 4294967295 }
     requires ready { Ready lines.old number }
-    ensures ready { OnOk result (Ready lines.new (number + 1)) }
+    ensures ready { OnSome result (Ready lines.new (number + 1)) }
     ensures advances { (fold : Fold T.Reached T.Said) (p : T.Reached) → IsInside fold p
         → T.stands taker.old fold header.now p number
-        → Advances fold (T.stands taker.new fold header.now) number p result (S.left log.old) (S.left log.new)
-        (S.faults log.old) (S.faults log.new) }
+        → Advances fold (T.stands taker.new fold header.now) number p (ok_or result stop.new)
+        (S.left log.old) (S.left log.new) (S.faults log.old) (S.faults log.new) }
     ensures shrinks { Shrinks (S.left log.old) (S.left log.new) }
-    ensures few { result ≡ Ok Turn.Taken → number < 4294967295 }
+    ensures few { result ≡ Some Turn.Taken → number < 4294967295 }
 {
     let whole = lines.at_hand(log);
     match find_piece(whole, lines, log) {
-        Piece::Line => {
-            let turn = taker.take(alloc, number, header, lines.shown(whole, log));
-            take_found(whole, lines, log);
-            turn
+        Piece::Line => match taker.take(alloc, number, header, lines.shown(whole, log), stop) {
+            Some(turn) => {
+                take_found(whole, lines, log);
+                Some(turn)
+            }
+            None => {
+                take_found(whole, lines, log);
+                None
+            }
+        },
+        Piece::Rest => {
+            stop_malformed(number, Malformed::NoEnd, stop);
+            None
         }
-        Piece::Rest => Err(malformed(number, Malformed::NoEnd)),
-        Piece::TooLong => Err(limit(number, Which::LineBytes)),
-        Piece::ReadFault => Err(Stop::ReadFault),
+        Piece::TooLong => {
+            stop_limit(number, Which::LineBytes, stop);
+            None
+        }
+        Piece::ReadFault => {
+            *stop = Stop::ReadFault;
+            None
+        }
     }
 }
 
@@ -111,11 +145,12 @@ fn log_lines<T: Taker, S: Source>(
     ensures shrinks { Shrinks (S.left log.old) (S.left log.new) }
 {
     let mut number = 2;
+    let mut stop = Stop::ReadFault;
     'lines: loop {
-        match log_line(alloc, number, header, taker, lines, log) {
-            Ok(Turn::Taken) => number += 1,
-            Ok(Turn::End) => return Ok(number + 1),
-            Err(stop) => return Err(stop),
+        match log_line(alloc, number, header, taker, lines, log, &mut stop) {
+            Some(Turn::Taken) => number += 1,
+            Some(Turn::End) => return Ok(number + 1),
+            None => return Err(stop),
         }
     }
 }

@@ -1,6 +1,6 @@
 //! What takes the lines of a log.
 
-ghost use Rattle.std.specs.Prelude.{◌≡◌, ◌<◌, ℕ, Ok};
+ghost use Rattle.std.specs.Prelude.{◌≡◌, ◌<◌, ℕ, Some, ok_or};
 ghost use Rattle.bbm_events.specs.Heading.{Heading};
 ghost use Rattle.bbm_session.specs.Fold.{Fold};
 ghost use Rattle.bbm_session.specs.Stages.{MayTakeLine, TakesLine};
@@ -22,17 +22,18 @@ pub trait Taker {
     ghost stands: { Self → Fold Reached Said → Heading → Reached → ℕ → Type 0 };
 
     /// Takes line `number`, of at most 200 bytes and without its newline. `Taken`: the line was taken. `End`: the line
-    /// is the end. A verdict: the line stops reading. `NoMemory`: there was none for a line that needs it. There is no
-    /// other answer.
+    /// is the end. None: the line stops reading, and `stop` is why: a verdict, or `NoMemory`, where there was none for a
+    /// line that needs it. There is no other answer.
     fn take(
         &mut self,
         alloc: Global,
         number: u64,
         header: &Header,
         line: &[u8],
-    ) -> Result<Turn, Stop>
+        stop: &mut Stop,
+    ) -> Option<Turn>
         requires { MayTakeLine (stands self.old) header.now number }
         ensures takes { (fold : Fold Reached Said) (p : Reached) → stands self.old fold header.now p number
-            → TakesLine fold (stands self.new fold header.now) number p line.now result }
-        ensures few { result ≡ Ok Turn.Taken → number < 4294967295 };
+            → TakesLine fold (stands self.new fold header.now) number p line.now (ok_or result stop.new) }
+        ensures few { result ≡ Some Turn.Taken → number < 4294967295 };
 }

@@ -14,35 +14,35 @@ lines-preserved g c =
     let header = c.args.header.now in
     let begun = c.requires.begun in
     let first = kept.going begun.0 begun.1 begun.2 begun.3 in
-    let advanced = rw c.in-Ok-Taken.field-0-is at c.in-Ok-Taken.ensures.advances begun.0 first.0 first.2 first.3 in
-    let few = c.in-Ok-Taken.ensures.few cc in
+    let advanced = rw c.in-Some-Taken.field-0-is at c.in-Some-Taken.ensures.advances begun.0 first.0 first.2 first.3 in
+    let few = c.in-Some-Taken.ensures.few cc in
     record {
       within = omega (arith, few);
-      ready = c.in-Ok-Taken.ensures.ready;
-      shrinks = shrinks-trans _ _ _ kept.shrinks c.in-Ok-Taken.ensures.shrinks;
+      ready = c.in-Some-Taken.ensures.ready;
+      shrinks = shrinks-trans _ _ _ kept.shrinks c.in-Some-Taken.ensures.shrinks;
       sound = advanced.4 ∙ kept.sound;
       going = λ fold p inside stands.
           let going = kept.going fold p inside stands in
-          let taken = rw c.in-Ok-Taken.field-0-is at c.in-Ok-Taken.ensures.advances fold going.0 going.2 going.3 in
+          let taken = rw c.in-Some-Taken.field-0-is at c.in-Some-Taken.ensures.advances fold going.0 going.2 going.3 in
           going-on fold (g.T.Taker.stands c.lines.taker fold header) (g.T.Taker.stands c.log_line.new.taker fold header) p c.lines.number _ _ _ _ _ going taken;
     }
 
-pub returns-in-Ok-End-clause-shrinks : goal.returns-in-Ok-End-clause-shrinks
-returns-in-Ok-End-clause-shrinks g c = shrinks-trans _ _ _ c.lines.invariant.shrinks c.in-Ok-End.ensures.shrinks
+pub returns-in-Some-End-clause-shrinks : goal.returns-in-Some-End-clause-shrinks
+returns-in-Some-End-clause-shrinks g c = shrinks-trans _ _ _ c.lines.invariant.shrinks c.in-Some-End.ensures.shrinks
 
-pub returns-in-Err-clause-shrinks : goal.returns-in-Err-clause-shrinks
-returns-in-Err-clause-shrinks g c = shrinks-trans _ _ _ c.lines.invariant.shrinks c.in-Err.ensures.shrinks
+pub returns-in-None-clause-shrinks : goal.returns-in-None-clause-shrinks
+returns-in-None-clause-shrinks g c = shrinks-trans _ _ _ c.lines.invariant.shrinks c.in-None.ensures.shrinks
 
-pub returns-in-Ok-End-clause-reaches : goal.returns-in-Ok-End-clause-reaches
-returns-in-Ok-End-clause-reaches g c = λ fold p inside stands.
+pub returns-in-Some-End-clause-reaches : goal.returns-in-Some-End-clause-reaches
+returns-in-Some-End-clause-reaches g c = λ fold p inside stands.
     let kept = c.lines.invariant in
     let going = kept.going fold p inside stands in
-    let advanced = rw c.in-Ok-End.field-0-is at c.in-Ok-End.ensures.advances fold going.0 going.2 going.3 in
+    let advanced = rw c.in-Some-End.field-0-is at c.in-Some-End.ensures.advances fold going.0 going.2 going.3 in
     going-end fold (g.T.Taker.stands c.lines.taker fold c.args.header.now) (g.T.Taker.stands c.log_line.new.taker fold c.args.header.now) p c.lines.number _ _ _ _ _ _ going kept.sound advanced
 
-pub returns-in-Err-clause-reaches : goal.returns-in-Err-clause-reaches
-returns-in-Err-clause-reaches g c = λ fold p inside stands.
+pub returns-in-None-clause-reaches : goal.returns-in-None-clause-reaches
+returns-in-None-clause-reaches g c = λ fold p inside stands.
     let kept = c.lines.invariant in
     let going = kept.going fold p inside stands in
-    let stopped = c.in-Err.ensures.advances fold going.0 going.2 going.3 in
-    going-stops fold (g.T.Taker.stands c.lines.taker fold c.args.header.now) (g.T.Taker.stands c.log_line.new.taker fold c.args.header.now) p c.lines.number c.in-Err.stop _ _ _ _ _ _ going kept.sound stopped
+    let stopped = c.in-None.ensures.advances fold going.0 going.2 going.3 in
+    going-stops fold (g.T.Taker.stands c.lines.taker fold c.args.header.now) (g.T.Taker.stands c.log_line.new.taker fold c.args.header.now) p c.lines.number c.log_line.new.stop _ _ _ _ _ _ going kept.sound stopped
