@@ -11,19 +11,10 @@ use Rattle.bbm_entry_state.specs.declared.marks.Marks.{Marks}
 use Rattle.bbm_entry_state.specs.declared.pending.Pend.{Pend}
 use Rattle.bbm_entry_state.specs.declared.pending.Pends.{Pends}
 use Rattle.bbm_entry_state.specs.declared.state.EntryState.TheVariants.{Clean, Broken}
-use Rattle.bbm_entry_state.specs.Points.{waits_in, waits}
-use Rattle.bbm_entry_state.specs.Answered.{answered_at}
+use Rattle.bbm_entry_state.specs.Points.{waits}
+use Rattle.bbm_entry_state.specs.Answered.{Answered, answered_at}
 use Rattle.bbm_entry_state.specs.Calls.{half_after, clean_after, Completed}
 use Rattle.bbm_regimes.proofs.Every.{every_same}
-
--- the masks after the answers, and those of a DSB's pendings
-pub record Answered (old : Marks) (pends : Pends) (dsb : Dsb) (done : Pend) (new : Marks) : Type 0 where
-  pub answers : (c : Cover) (p : ℕ) → waits_in done c p ≡ answered_at pends dsb c p
-  pub core : new.core ≡ old.core
-  pub writers : (p : ℕ) → pe_in new.writers p ≡ pe_in old.writers p
-  pub seen : (p : ℕ) → pe_in new.seen p ≡ pe_in old.seen p
-  pub half : (p : ℕ) → pe_in new.half p ≡ (pe_in old.half p || (pe_in old.seen p && pe_in done.half p))
-  pub clean : (p : ℕ) → pe_in new.clean p ≡ (pe_in old.clean p || (pe_in old.seen p && (pe_in done.full p || pe_in done.second p)))
 
 module _ (old new : Marks) (pends left : Pends) (dsb : Dsb) (done : Pend) (n : ℕ) (a : Answered old pends dsb done new) where
   half_is : (p : ℕ) → pe_in new.half p ≡ half_after (Broken old) pends dsb p

@@ -20,6 +20,7 @@ use crate::read::slot_of;
 use crate::work::{WorkList, add, restart};
 use bbm_barriers::{Dsb, completes_broadcast, completes_local};
 use bbm_descriptor::Core;
+use bbm_entry_state::law_completes;
 use bbm_regimes::Pe;
 
 fn is_table(core: Core) -> bool
@@ -45,6 +46,7 @@ fn answer_at(broken: &mut Vec<Entry>, k: usize, issuer: Pe, dsb: Dsb, n: u8) -> 
     ensures len { length broken.new.items ≡ length broken.old.items }
     ensures room { vec_capacity broken.new ≡ vec_capacity broken.old }
 {
+    law_completes();
     let entry = &mut broken[k];
     let done = take_answered(&mut entry.pends, issuer, dsb);
     entry.marks.answer(done);

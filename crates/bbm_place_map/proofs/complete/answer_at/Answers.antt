@@ -1,5 +1,5 @@
 use Rattle.std.proofs.Common.{ap, sym, ◌∙◌, arith, subst}
-use Rattle.bbm_entry_state.proofs.Completing.{Answered, completes_all, completes_some}
+use Rattle.bbm_entry_state.specs.Answered.{Answered}
 use Rattle.bbm_entry_state.specs.Calls.{Completed}
 use Rattle.bbm_entry_state.specs.declared.state.EntryState.TheVariants as state
 use Rattle.bbm_place_map.specs.Entries.{seat, pends_in, no_pends}
@@ -30,9 +30,9 @@ returns-clause-entry c = λ e is.
       f,
       ap seat same,
       λ all. subst P same
-          (completes_all x.marks now pends no_pends c.args.dsb c.take_answered-done.result c.args.n masks (sym c.is_clean.ensures ∙ all) nothing_waits),
+          (c.law_completes.ensures.clean x.marks now pends no_pends c.args.dsb c.take_answered-done.result c.args.n masks (sym c.is_clean.ensures ∙ all) nothing_waits),
       λ some. subst Q same
-          (completes_some x.marks now pends left c.args.dsb c.take_answered-done.result c.args.n masks (sym c.is_clean.ensures ∙ some) c.take_answered-done.ensures.left),
+          (c.law_completes.ensures.broken x.marks now pends left c.args.dsb c.take_answered-done.result c.args.n masks (sym c.is_clean.ensures ∙ some) c.take_answered-done.ensures.left),
       λ q other. c.take_answered-done.ensures.others q other ∙ ap (λ (y : Entry). pends_in y.pends.items q) same,
       λ i. set_get c.args.broken.now.items c.args.k f i (omega arith),
     )

@@ -1,5 +1,6 @@
 use Rattle.std.proofs.Common.{sym, ◌∙◌}
-use Rattle.bbm_entry_state.proofs.Completing.{Answered, completes_all, completes_some}
+use Rattle.bbm_entry_state.specs.Answered.{Answered}
+use Rattle.bbm_entry_state.proofs.Completing.{completes_all, completes_some}
 use Rattle.bbm_entry_state.proofs.state.EntryState.complete.Goals as goal
 
 pub returns-then-is_clean : goal.returns-then-is_clean
