@@ -25,14 +25,14 @@ returns-in-Ok c =
     let old = c.args.self.now in
     let e = c.write_at.ensures in
     let state = e.written.0 in
-    let left = e.written.1.1 in
+    let left = e.written.2 in
     let a = c.in-Ok.ensures in
     let last : Parts = record old { map = c.write_at.new.self; index = c.attach.new.self } in
     attach_ok c.laws.ensures c.rules.ensures old c.args.pe c.args.seat.now.place c.args.value c.requires.may
     c.args.path.now c.requires.at (core_in (was c.args.self.now c.args.path.now c.args.seat.now.place)) c.args.table.now refl c.requires.table
     c.requires.clear c.args.next c.requires.attaches a.judged c.law_others.ensures last
     (record { header = refl; index_header = c.attach.ensures.tracked.heading; sound = λ s. c.attach.ensures.sound }) refl state
-    (subst (λ (live : Option Core). Written (state_at old.map live c.args.seat.now.place) c.args.pe c.args.table.now state) c.requires.live e.written.1.0)
+    (subst (λ (live : Option Core). Written (state_at old.map live c.args.seat.now.place) c.args.pe c.args.table.now state) c.requires.live e.written.1)
     (record {
       value = e.values;
       marks = left.marks;

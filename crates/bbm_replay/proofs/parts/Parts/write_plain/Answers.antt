@@ -39,14 +39,14 @@ returns c =
     let was = state_of (view_of old.map old.index) path.kind path.level place in
     let e = c.write_at.ensures in
     let state = e.written.0 in
-    let left = e.written.1.1 in
+    let left = e.written.2 in
     let next : Parts = record old { map = c.write_at.new.self } in
     plain_ok c.laws.ensures c.rules.ensures old c.args.pe place c.args.value c.requires.may
     path c.requires.at (core_in was) c.args.new.now refl c.requires.new
     c.requires.clear c.requires.plain (sym c.is_contiguous.ensures ∙ c.if-is_contiguous.false)
     (sym c.is_user_global.ensures ∙ c.if-is_user_global.false)
     c.law_others.ensures next (record { header = refl; index_header = refl; sound = λ s. s }) refl refl state
-    (subst (λ (live : Option Core). Written (state_at old.map live place) c.args.pe c.args.new.now state) c.requires.live e.written.1.0)
+    (subst (λ (live : Option Core). Written (state_at old.map live place) c.args.pe c.args.new.now state) c.requires.live e.written.1)
     (record {
       value = e.values;
       marks = left.marks;
