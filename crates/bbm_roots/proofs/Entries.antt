@@ -1,8 +1,10 @@
 -- The entries of the tags that are held, found by the key of a tag or one after another.
-use Rattle.std.proofs.Common.{◌≡◌, ℕ, Bool, true, false, ◌&&◌, ◌||◌, not, nat_eq, List, [], ◌∷◌, Option, Some, None, cond, refl, sym, ◌∙◌, ap}
-use Rattle.std.specs.List.{list_any, AllByRecursion, IsDistinct}
+use Rattle.std.proofs.Common.{◌≡◌, ◌+◌, ◌<◌, ◌≤◌, ℕ, Bool, true, false, ◌&&◌, ◌||◌, not, nat_eq, List, [], ◌∷◌, Option, Some, None, cond, refl, sym, ◌∙◌, ap, take, length}
+use Rattle.std.specs.List.{list_any, AllByRecursion, IsDistinct, slice_get}
 use Rattle.std.specs.Map.{lookup, keys_of, values_of}
 use Rattle.std.proofs.lemmas.Bool.{false≢true, eqb-true, eq-eqb}
+use Rattle.std.proofs.lemmas.List.{take_all}
+use Rattle.std.proofs.lemmas.Option.{get_or_from_slice_get}
 use Rattle.indexmap.specs.IndexMap.{IndexMap, values}
 use Rattle.bbm_regimes.specs.PeMask.{pe_in}
 use Rattle.bbm_regimes.specs.declared.regime.Tag.{Tag}
@@ -12,6 +14,7 @@ use Rattle.bbm_roots.specs.declared.hold.Held.{Held}
 use Rattle.bbm_roots.specs.declared.reading.Reading.{Reading}
 use Rattle.bbm_roots.proofs.Bits.{and_left, and_right, or-false, same_tag-true}
 use Rattle.bbm_roots.proofs.Leasts.{or-true, true-or}
+use Rattle.bbm_roots.proofs.Lists.{any-next}
 
 -- what an entry that a key finds passes, one of the entries does
 found-among : (entry : Option Held → Bool) (test : Held → Bool) → entry None ≡ false → ((x : Held) → entry (Some x) ≡ true → test x ≡ true) →
@@ -57,9 +60,17 @@ module _ (n root : ℕ) where
           ap (λ (t : Bool). is_held_by n g root e.1 || t) (none-shows g e.0 es (eqb-true (tag_key g) e.0 at) distinct.0)
           ∙ or-false (is_held_by n g root e.1)
 
-  pub shown : {S : Type 0} (hs : IndexMap ℕ Held S) → IsDistinct nat_eq (keys_of hs.entries) → (g : Tag) →
-      list_any (shows g) hs.entries ≡ tag_in hs n g root
-  shown hs distinct g = shown-among g hs.entries distinct
+  module _ {S : Type 0} (hs : IndexMap ℕ Held S) (i : ℕ) where
+    -- whether one of the first entries shows it
+    abbrev pub shows_before : Tag → Bool
+    shows_before g = list_any (shows g) (take i hs.entries)
+
+    pub shown-next : (e : ℕ × Held) → i < length hs.entries → slice_get hs.entries i ≡ Some e → (g : Tag) →
+        list_any (shows g) (take (i + 1) hs.entries) ≡ (shows_before g || shows g e)
+    shown-next e below found g = any-next (shows g) hs.entries i e below (sym (get_or_from_slice_get hs.entries i e e found))
+
+    pub shown : IsDistinct nat_eq (keys_of hs.entries) → length hs.entries ≤ i → (g : Tag) → tag_in hs n g root ≡ shows_before g
+    shown distinct all g = sym (ap (list_any (shows g)) (take_all i hs.entries all) ∙ shown-among g hs.entries distinct)
 
 -- one more reading, whose PE is put into its tag's entry for its root alone
 pub marked-step : (same here held pe seen : Bool) → (same ≡ true → here ≡ false → held ≡ false) →
