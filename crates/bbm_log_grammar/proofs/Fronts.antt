@@ -2,6 +2,7 @@
 use Rattle.std.proofs.Common.{◌≡◌, ◌≢◌, ◌⊎◌, inl, inr, subst, ℕ, ◌-◌, ◌<◌, ◌≤◌, List, [], ◌∷◌, Bool, true, false, ◌&&◌, cond, length, take, drop, get_or, ◌==◌, refl, ap, sym, ◌∙◌, Option, Some, None, arith}
 use Rattle.std.specs.Option.{option_and_then}
 use Rattle.std.specs.List.{onto_first}
+use Rattle.std.proofs.lemmas.Bool.{false≢true, eqb-true, eq-eqb}
 use Rattle.std.proofs.lemmas.Bool.Decides.{nat_tests}
 use Rattle.std.proofs.lemmas.List.{take_all}
 use Rattle.bbm_events.specs.Spelling.{fields, decimal_value, hex_value}
@@ -84,20 +85,28 @@ number_run base (byte ∷ bytes) some blank zero = by (byte == 32) (byte == 48) 
     by false false is e = ap (λ (x : Option ℕ). with_rest (after (byte ∷ bytes)) x) (rw is (filled (front bytes) e))
 
 -- a number of one digit, up to a space
-pub number_digit : (line : List ℕ) → 2 ≤ length line → get_or line 0 0 ≢ 32 → get_or line 0 0 ≢ 48 → get_or line 1 0 ≡ 32
+pub number_digit : (line : List ℕ) → 2 ≤ length line → get_or line 1 0 ≡ 32
     → first_value (number_of 10) line ≡ with_rest (fields (take (length line - 2) (drop 2 line))) (next_number 10 0 (get_or line 0 0))
-number_digit [] some blank zero space = absurd (omega arith)
-number_digit (digit ∷ []) some blank zero space = absurd (omega arith)
-number_digit (digit ∷ next ∷ bytes) some blank zero space =
+number_digit [] some space = absurd (omega arith)
+number_digit (digit ∷ []) some space = absurd (omega arith)
+number_digit (digit ∷ next ∷ bytes) some space =
     let is : next ≡ 32 = space in
     let all : take (length (digit ∷ next ∷ bytes) - 2) bytes ≡ bytes = take_all (length (digit ∷ next ∷ bytes) - 2) bytes (omega arith) in
-    let filled : (digit == 32) ≡ false = grind (arith, nat_tests, blank) in
-    number_run 10 (digit ∷ next ∷ bytes) (omega arith) blank zero
-    ∙ rw (all, is, filled) (ended (next_number 10 0 digit))
+    rw (all, is) (by (digit == 32) (digit == 48) refl refl)
   where
+    Reads : ℕ → Type 0
+    Reads x = first_value (number_of 10) (x ∷ 32 ∷ bytes) ≡ with_rest (fields bytes) (next_number 10 0 x)
+
     ended : (n : Option ℕ) → option_and_then (λ m. Some (m, fields bytes)) n ≡ with_rest (fields bytes) n
     ended None = refl
     ended (Some m) = refl
+
+    by : (s t : Bool) → (digit == 32) ≡ s → (digit == 48) ≡ t → Reads digit
+    by true t e f = subst Reads (sym (eqb-true digit 32 e)) refl
+    by false true e f = subst Reads (sym (eqb-true digit 48 f)) refl
+    by false false e f =
+        number_run 10 (digit ∷ 32 ∷ bytes) (omega arith) (λ same. false≢true (sym e ∙ eq-eqb digit 32 same)) (λ same. false≢true (sym f ∙ eq-eqb digit 48 same))
+        ∙ rw e (ended (next_number 10 0 digit))
 
 pub number_zero_10 : (line : List ℕ) → 1 ≤ length line → get_or line 0 0 ≡ 48 → first_value (number_of 10) line ≡ only_zero (take (length line - 1) (drop 1 line))
 number_zero_10 = number_zero 10 (inl refl)

@@ -18,29 +18,28 @@ hex_more n h bound = text_more 16 is_base_16 n h bound
 hex_two : (n : ℕ) → 16 ≤ n → n < 256 → digits 16 false n ≡ two n
 hex_two n lo hi = rw (hex_more n lo (omega arith), hex_small (n / 16) (omega arith)) refl
 
+-- where the last digits stand behind the others, and those before them behind what is left, twice as many stand so
+twice : (base more : ℕ) (low : ℕ → List ℕ) (n : ℕ) → digits 16 false n ≡ digits 16 false (n / base) ++ low (n % base)
+    → digits 16 false (n / base) ≡ digits 16 false (n / base / base) ++ low (n / base % base)
+    → n / base / base ≡ n / more → n / base % base ≡ n % more / base → n % base ≡ n % more % base
+    → digits 16 false n ≡ digits 16 false (n / more) ++ (low (n % more / base) ++ low (n % more % base))
+twice base more low n last before a b c =
+    last
+    ∙ ap (λ (l : List ℕ). l ++ low (n % base)) before
+    ∙ append_assoc (digits 16 false (n / base / base)) (low (n / base % base)) (low (n % base))
+    ∙ ap (λ (k : ℕ). digits 16 false k ++ (low (n / base % base) ++ low (n % base))) a
+    ∙ ap (λ (k : ℕ). digits 16 false (n / more) ++ (low k ++ low (n % base))) b
+    ∙ ap (λ (k : ℕ). digits 16 false (n / more) ++ (low (n % more / base) ++ low k)) c
+
 two_more : (n : ℕ) → 256 ≤ n → n < 2 ^ 64 → digits 16 false n ≡ digits 16 false (n / 256) ++ two (n % 256)
 two_more n lo hi =
-    let a : n / 16 / 16 ≡ n / 256 = omega arith in
-    let b : n / 16 % 16 ≡ n % 256 / 16 = omega arith in
-    let c : n % 16 ≡ n % 256 % 16 = omega arith in
-    hex_more n (omega arith) hi
-    ∙ ap (λ (l : List ℕ). l ++ (digit_glyph false (n % 16) ∷ [])) (hex_more (n / 16) (omega arith) (omega arith))
-    ∙ append_assoc (digits 16 false (n / 16 / 16)) (digit_glyph false (n / 16 % 16) ∷ []) (digit_glyph false (n % 16) ∷ [])
-    ∙ ap (λ (k : ℕ). digits 16 false k ++ (digit_glyph false (n / 16 % 16) ∷ digit_glyph false (n % 16) ∷ [])) a
-    ∙ ap (λ (k : ℕ). digits 16 false (n / 256) ++ (digit_glyph false k ∷ digit_glyph false (n % 16) ∷ [])) b
-    ∙ ap (λ (k : ℕ). digits 16 false (n / 256) ++ (digit_glyph false (n % 256 / 16) ∷ digit_glyph false k ∷ [])) c
+    twice 16 256 (λ k. digit_glyph false k ∷ []) n (hex_more n (omega arith) hi) (hex_more (n / 16) (omega arith) (omega arith))
+    (omega arith) (omega arith) (omega arith)
 
 all_four : (n : ℕ) → 65536 ≤ n → n < 2 ^ 64 → digits 16 false n ≡ digits 16 false (n / 65536) ++ four (n % 65536)
 all_four n lo hi =
-    let a : n / 256 / 256 ≡ n / 65536 = omega arith in
-    let b : n / 256 % 256 ≡ n % 65536 / 256 = omega arith in
-    let c : n % 256 ≡ n % 65536 % 256 = omega arith in
-    two_more n (omega arith) hi
-    ∙ ap (λ (l : List ℕ). l ++ two (n % 256)) (two_more (n / 256) (omega arith) (omega arith))
-    ∙ append_assoc (digits 16 false (n / 256 / 256)) (two (n / 256 % 256)) (two (n % 256))
-    ∙ ap (λ (k : ℕ). digits 16 false k ++ (two (n / 256 % 256) ++ two (n % 256))) a
-    ∙ ap (λ (k : ℕ). digits 16 false (n / 65536) ++ (two k ++ two (n % 256))) b
-    ∙ ap (λ (k : ℕ). digits 16 false (n / 65536) ++ (two (n % 65536 / 256) ++ two k)) c
+    twice 256 65536 two n (two_more n (omega arith) hi) (two_more (n / 256) (omega arith) (omega arith))
+    (omega arith) (omega arith) (omega arith)
 
 abbrev first_right : ℕ → Bool
 first_right value = slice_index_or PAIRS (value * 2) 0 == digit_glyph false (value / 16)

@@ -83,7 +83,7 @@ impl<'a> Fields<'a> {
 
     /// The number in hex that the next field spells, and the fields after it; the first cause where no field is
     /// left, and the other where it spells none.
-    #[inline]
+    #[inline(always)]
     pub(crate) fn hex_or(
         self,
         absent: Malformed,

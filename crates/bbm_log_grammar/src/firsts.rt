@@ -1,6 +1,6 @@
 //! The first field of a line, read from its left, and the fields after it.
 
-ghost use Rattle.std.specs.Prelude.{◌≡◌};
+ghost use Rattle.std.specs.Prelude.{◌≡◌, ◌+◌, ◌*◌, ◌^◌, ◌<◌, ◌≤◌, get_or, length};
 ghost use Rattle.bbm_barriers.specs.declared.Domain.TheVariants.{Inner};
 ghost use Rattle.bbm_events.specs.Spelling.{decimal_value, fields, hex_value};
 ghost use Rattle.bbm_log_grammar.specs.Digits.{next_number, number_of};
@@ -8,7 +8,7 @@ ghost use Rattle.bbm_log_grammar.specs.Front.{first_value, named_op, only_zero, 
 ghost use Rattle.bbm_events.specs.Lines as lines;
 
 use crate::fields::Fields;
-use crate::numbers::{low_hex, next_decimal, next_hex};
+use crate::numbers::{four_hex, low_hex, next_decimal, next_hex};
 use crate::words::{dsb_of, keyword_of, op_of};
 use bbm_barriers::{Domain, Dsb, Types};
 use bbm_events::{Keyword, Malformed};
@@ -46,15 +46,16 @@ fn hex_rest<'a>(start: u64, line: &'a [u8]) -> Option<(u64, Fields<'a>)>
     Some((n, Fields::none()))
 }
 
-/// The number that the bytes up to the first space write as hex digits, and the fields after it. The first 15 digits
-/// can't pass 2^60.
-#[inline]
+/// The number `start`, which is below 2^48, with all hex digits more up to the first space, and the fields after it. The
+/// first 3 of them can't pass 2^60.
+#[inline(always)]
 #[tactic(auto, using(crate::proofs::Fitting::fitting))]
-fn hex_run<'a>(line: &'a [u8]) -> Option<(u64, Fields<'a>)>
-    ensures { result ≡ run 16 0 line.now }
+fn hex_tail<'a>(start: u64, line: &'a [u8]) -> Option<(u64, Fields<'a>)>
+    requires { start < 2 ^ 48 }
+    ensures { result ≡ run 16 start line.now }
 {
-    let most = line.len().min(15);
-    let mut n = 0;
+    let most = line.len().min(3);
+    let mut n = start;
     for i in 0..most {
         match low_hex(n, line[i]) {
             Some(more) => n = more,
@@ -66,6 +67,34 @@ fn hex_run<'a>(line: &'a [u8]) -> Option<(u64, Fields<'a>)>
         Some((n, Fields::none()))
     } else {
         hex_rest(n, &line[most..])
+    }
+}
+
+/// The number that the bytes up to the first space write as hex digits, and the fields after it. Up to 12 digits are taken
+/// four at a time.
+#[inline(always)]
+fn hex_run<'a>(line: &'a [u8]) -> Option<(u64, Fields<'a>)>
+    ensures { result ≡ run 16 0 line.now }
+{
+    let mut n = 0;
+    let mut left = line;
+    for _ in 0..3_usize {
+        match left {
+            [a, b, c, d, rest @ ..] if *a != b' ' => {
+                let value = four_hex(*a, *b, *c, *d);
+                if value >= 65536 {
+                    break;
+                }
+                n = n * 65536 + value as u64;
+                left = rest;
+            }
+            _ => break,
+        }
+    }
+    match left {
+        [] => Some((n, Fields::none())),
+        [b' ', rest @ ..] => Some((n, Fields::of(rest))),
+        _ => hex_tail(n, left),
     }
 }
 
@@ -99,16 +128,16 @@ fn first_decimal_number<'a>(line: &'a [u8]) -> Option<(u64, Fields<'a>)>
     ensures { result ≡ first_value (number_of 10) line.now }
 {
     match line {
+        [digit, b' ', rest @ ..] => one_digit(*digit, rest),
         [] => None,
         [b' ', ..] => None,
         [b'0', rest @ ..] => zero_before(rest),
-        [digit, b' ', rest @ ..] => one_digit(*digit, rest),
         _ => decimal_run(line),
     }
 }
 
 /// The number of the hex digits up to the first space, without a leading zero.
-#[inline]
+#[inline(always)]
 #[tactic(auto, using(crate::proofs::Fronts::number_fields))]
 fn first_hex_number<'a>(line: &'a [u8]) -> Option<(u64, Fields<'a>)>
     ensures { result ≡ first_value (number_of 16) line.now }
@@ -131,7 +160,7 @@ pub(crate) fn first_decimal<'a>(line: &'a [u8]) -> Option<(u64, Fields<'a>)>
 }
 
 /// The number whose hex spelling the first field of the line is, and the fields after it.
-#[inline]
+#[inline(always)]
 #[tactic(auto, using(crate::proofs::Fronts::hex_fields))]
 pub(crate) fn first_hex<'a>(line: &'a [u8]) -> Option<(u64, Fields<'a>)>
     ensures { result ≡ first_value hex_value line.now }
@@ -151,20 +180,52 @@ fn any_keyword<'a>(fields: Fields<'a>) -> Result<(Keyword, Fields<'a>), Malforme
     Ok((keyword, rest))
 }
 
-/// The first word of the line, and the fields after it; the words of most lines are found at once.
+/// The bytes `w `.
+const WRITE: u16 = 0x2077;
+/// The bytes `dsb `.
+const DSB: u32 = 0x2062_7364;
+/// The bytes `isb `.
+const ISB: u32 = 0x2062_7369;
+/// The bytes `dmb `.
+const DMB: u32 = 0x2062_6d64;
+/// The bytes `msr `.
+const MSR: u32 = 0x2072_736d;
+/// The bytes `tlbi`.
+const TLBI: u32 = 0x6962_6c74;
+/// The bytes `lock`.
+const LOCK: u32 = 0x6b63_6f6c;
+
+/// The first two bytes as a number, of which the first byte is the lowest, and the two after them; 0 and 0 where there
+/// are fewer than four.
+#[inline(always)]
+fn first_pairs(line: &[u8]) -> (u16, u16)
+    ensures few { length line.now < 4 → result ≡ (0, 0) }
+    ensures first { 4 ≤ length line.now → result.0 ≡ get_or line.now 0 0 + get_or line.now 1 0 * 256 }
+    ensures second { 4 ≤ length line.now → result.1 ≡ get_or line.now 2 0 + get_or line.now 3 0 * 256 }
+{
+    match line {
+        [a, b, c, d, ..] => (u16::from_le_bytes([*a, *b]), u16::from_le_bytes([*c, *d])),
+        _ => (0, 0),
+    }
+}
+
+/// The first word of the line, and the fields after it; the words of most lines are found at once, by their first four
+/// bytes.
 #[inline]
 #[tactic(auto, using(crate::proofs::Begun::begun))]
 pub(crate) fn first_keyword<'a>(line: &'a [u8]) -> Result<(Keyword, Fields<'a>), Malformed>
     ensures { result ≡ lines.keyword_field (fields line.now) }
 {
+    let (first, second) = first_pairs(line);
+    let word = first as u32 + second as u32 * 65536;
     match line {
-        [b'w', b' ', rest @ ..] => Ok((Keyword::Write, Fields::of(rest))),
-        [b'd', b's', b'b', b' ', rest @ ..] => Ok((Keyword::Dsb, Fields::of(rest))),
-        [b't', b'l', b'b', b'i', b' ', rest @ ..] => Ok((Keyword::Tlbi, Fields::of(rest))),
-        [b'i', b's', b'b', b' ', rest @ ..] => Ok((Keyword::Isb, Fields::of(rest))),
-        [b'd', b'm', b'b', b' ', rest @ ..] => Ok((Keyword::Dmb, Fields::of(rest))),
-        [b'm', b's', b'r', b' ', rest @ ..] => Ok((Keyword::Msr, Fields::of(rest))),
-        [b'l', b'o', b'c', b'k', b' ', rest @ ..] => Ok((Keyword::Lock, Fields::of(rest))),
+        [_, _, rest @ ..] if first == WRITE => Ok((Keyword::Write, Fields::of(rest))),
+        [_, _, _, _, rest @ ..] if word == DSB => Ok((Keyword::Dsb, Fields::of(rest))),
+        [_, _, _, _, b' ', rest @ ..] if word == TLBI => Ok((Keyword::Tlbi, Fields::of(rest))),
+        [_, _, _, _, rest @ ..] if word == ISB => Ok((Keyword::Isb, Fields::of(rest))),
+        [_, _, _, _, rest @ ..] if word == DMB => Ok((Keyword::Dmb, Fields::of(rest))),
+        [_, _, _, _, rest @ ..] if word == MSR => Ok((Keyword::Msr, Fields::of(rest))),
+        [_, _, _, _, b' ', rest @ ..] if word == LOCK => Ok((Keyword::Lock, Fields::of(rest))),
         [b'u', b'n', b'l', b'o', b'c', b'k', b' ', rest @ ..] => {
             Ok((Keyword::Unlock, Fields::of(rest)))
         }

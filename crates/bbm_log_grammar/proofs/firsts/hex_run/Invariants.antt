@@ -1,8 +1,8 @@
--- The bytes that are left lead from the number so far to the number of all up to the space, and each digit makes it 16
--- times as large at most.
-use Rattle.std.proofs.Common.{◌≡◌, ◌<◌, ◌^◌, drop}
+-- The bytes that are left lead from the number so far to the number of all up to the space, and each four digits make it
+-- 65536 times as large at most.
+use Rattle.std.proofs.Common.{◌≡◌, ◌<◌, ◌^◌}
 use Rattle.bbm_log_grammar.specs.Front.{run}
 use Rattle.bbm_log_grammar.proofs.firsts.hex_run.Given as goal
 
-abbrev pub invariant-loop-i : goal.invariant-loop-i
-invariant-loop-i l = (run 16 l.n (drop l.i l.line) ≡ run 16 0 l.line) × (l.n < 16 ^ l.i)
+abbrev pub invariant-loop : goal.invariant-loop
+invariant-loop l = (run 16 l.n l.left ≡ run 16 0 l.line) × (l.n < 65536 ^ l.counter)
