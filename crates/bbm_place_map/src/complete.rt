@@ -55,6 +55,7 @@ fn answer_at(broken: &mut Vec<Entry>, k: usize, issuer: Pe, dsb: Dsb, n: u8) -> 
 
 // A DSB of the issuer answered its TLBIs at one entry, which leaves where its place is cleansed at every PE. Whether it
 // left, and its core is a table.
+#[inline(always)]
 fn complete_at(
     cells: &mut Vec<Cell>,
     broken: &mut Vec<Entry>,

@@ -49,6 +49,7 @@ fn make_room_at(broken: &mut Vec<Entry>, k: usize, issuer: Pe) -> Result<(), NoM
 }
 
 // Notes the TLBI at an entry with room for its issuer. Whether nothing waited there.
+#[inline(always)]
 fn note_at(
     broken: &mut Vec<Entry>,
     k: usize,
@@ -73,6 +74,7 @@ fn note_at(
 }
 
 // The same at an entry that is covered so far. The cell of one at which nothing waited is listed for the issuer.
+#[inline(always)]
 fn note_entry(
     broken: &mut Vec<Entry>,
     k: usize,

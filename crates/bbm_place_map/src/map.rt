@@ -43,7 +43,7 @@ pub struct PlaceMap {
 
 #[tactic(auto, unfolding(crate::specs::Map::value_at, crate::specs::Map::marks_at, crate::specs::Map::pends_at, crate::specs::Map::is_tracked, crate::specs::Map::IsSeat, crate::specs::Map::restless_in, crate::specs::Map::restless_place))]
 impl PlaceMap {
-    ghost use Rattle.std.specs.Prelude.{ℕ, Bool, Some, None, true, false, Option, IsSome, IfSome, IfOk, length, slice_get, is_some, OnOk, OnErr, ◌||◌, not, ◌&&◌, ◌+◌, if◌then◌else◌};
+    ghost use Rattle.std.specs.Prelude.{ℕ, Bool, Some, None, [], true, false, Option, IsSome, IfSome, IfOk, length, slice_get, is_some, OnOk, OnErr, ◌||◌, not, ◌&&◌, ◌+◌, if◌then◌else◌};
     ghost use Rattle.bbm_entry_state.specs.Points.{core_in, is_broken, waits};
     ghost use Rattle.bbm_entry_state.specs.declared.state.EntryState.{EntryState as TheState};
     ghost use Rattle.bbm_tlbi_scope.specs.declared.entry.Cover.{Cover as TheCover};
@@ -182,6 +182,7 @@ impl PlaceMap {
     /// The PE writes a value at a seat's place, the core of which is `new`, None where it is invalid; `live` is the core
     /// of the value before. The state is after what the write leaves of the one before. What waits there stays where the
     /// place is broken, and else is dropped. Nothing else changes.
+    #[inline(always)]
     pub fn write_at(
         &mut self,
         seat: &Seat,
@@ -202,7 +203,8 @@ impl PlaceMap {
         }
     }
 
-    // The same for an invalid value.
+    // The same for an invalid value. Each state has an arm of its own, so that the code of a live place carries no marks
+    // about.
     fn clear_at(&mut self, seat: &Seat, pe: Pe, value: u64, live: &Option<Core>)
         requires { IsSeat self.old seat.now }
         ensures written { (state : TheState) × Written (state_at self.old live.now seat.now.place) pe None state
@@ -210,8 +212,27 @@ impl PlaceMap {
         ensures values { (a : ℕ) → value_at self.new a ≡ (if nat_eq a seat.now.place then value else value_at self.old a) }
         ensures pages { (page : ℕ) → is_tracked self.new page ≡ is_tracked self.old page }
     {
-        match read::state(&self.cells, &self.broken, seat.index, *live).write(pe, None) {
-            EntryState::Broken { marks } => self.put_broken(seat, value, marks),
+        match read::state(&self.cells, &self.broken, seat.index, *live) {
+            EntryState::Live { core } => {
+                self.clear_from(seat, pe, value, EntryState::Live { core })
+            }
+            EntryState::Broken { marks } => {
+                self.clear_from(seat, pe, value, EntryState::Broken { marks })
+            }
+            EntryState::Clean => self.clear_from(seat, pe, value, EntryState::Clean),
+        }
+    }
+
+    // The same at a place in this state.
+    #[inline(always)]
+    fn clear_from(&mut self, seat: &Seat, pe: Pe, value: u64, state: EntryState)
+        requires { IsSeat self.old seat.now }
+        ensures written { (after : TheState) × Written state pe None after × Leaves after seat.now.place self.old self.new }
+        ensures values { (a : ℕ) → value_at self.new a ≡ (if nat_eq a seat.now.place then value else value_at self.old a) }
+        ensures pages { (page : ℕ) → is_tracked self.new page ≡ is_tracked self.old page }
+    {
+        match state.write(pe, None) {
+            EntryState::Broken { marks } => self.put_broken(seat, pe, value, marks),
             EntryState::Clean => self.put_whole(seat, value),
             EntryState::Live { .. } => self.put_whole(seat, value),
         }
@@ -230,8 +251,9 @@ impl PlaceMap {
     }
 
     // Writes a value at a seat's place, which is broken with these marks after. What waits there stays. Nothing else
-    // changes.
-    fn put_broken(&mut self, seat: &Seat, value: u64, marks: Marks)
+    // changes. Whoever wrote is best named, and the result is the same by any PE.
+    #[inline(always)]
+    fn put_broken(&mut self, seat: &Seat, mostly: Pe, value: u64, marks: Marks)
         requires { IsSeat self.old seat.now }
         ensures values { (a : ℕ) → value_at self.new a ≡ (if nat_eq a seat.now.place then value else value_at self.old a) }
         ensures marks { (a : ℕ) → marks_at self.new a
@@ -241,7 +263,8 @@ impl PlaceMap {
     {
         let j = seat.index;
         let before = read::marks(&self.cells, &self.broken, j);
-        work::note_write(&mut self.work, j as u32, &before, &marks, self.broken.len());
+        let broken = self.broken.len();
+        work::note_write(&mut self.work, mostly, j as u32, &before, &marks, broken);
         write::put_broken(
             &mut self.cells,
             &mut self.broken,
@@ -267,7 +290,9 @@ impl PlaceMap {
     {
         let seat = self.seat(place).unwrap();
         match state {
-            EntryState::Broken { marks } => self.put_broken(&seat, value, marks),
+            EntryState::Broken { marks } => {
+                self.put_broken(&seat, Pe::new(0).unwrap(), value, marks)
+            }
             EntryState::Clean => self.put_whole(&seat, value),
             EntryState::Live { .. } => self.put_whole(&seat, value),
         }
@@ -406,19 +431,20 @@ impl PlaceMap {
         self.broken.reserve(wanted).is_ok() && self.cells.reserve(512).is_ok()
     }
 
-    // How far the closure says that a TLBI covers each broken place, over its core. `NoMemory` where there is none.
-    fn covers<F: Fn(&PlaceMap, Place, Core) -> Cover>(
+    // Adds to an empty list how far the closure says that a TLBI covers each broken place, over its core. `NoMemory` where
+    // there is none.
+    fn add_covers<F: Fn(&PlaceMap, Place, Core) -> Cover>(
         &self,
-        alloc: Global,
         cover: &F,
-    ) -> Result<SmallVec<Answer, 8>, NoMemory>
-        requires { F.IsAlwaysCallable cover.now }
-        ensures len { IfOk result (λ covers. length covers.items ≡ length self.now.broken.items) }
-        ensures each { IfOk result (λ covers. (m : ℕ) (e : TheEntry) (c : TheCover)
+        covers: &mut SmallVec<Answer, 8>,
+    ) -> Result<(), NoMemory>
+        requires callable { F.IsAlwaysCallable cover.now }
+        requires empty { covers.old.items ≡ [] }
+        ensures len { OnOk result (length covers.new.items ≡ length self.now.broken.items) }
+        ensures each { OnOk result ((m : ℕ) (e : TheEntry) (c : TheCover)
             → slice_get self.now.broken.items m ≡ Some e
-            → slice_get covers.items m ≡ Some c → MayCover F.Fn cover.now self.now e.place c) }
+            → slice_get covers.new.items m ≡ Some c → MayCover F.Fn cover.now self.now e.place c) }
     {
-        let mut covers = SmallVec::new(alloc);
         for k in 0..self.broken.len() {
             let entry = &self.broken[k];
             let found = cover(self, entry.place, entry.marks.core);
@@ -427,7 +453,7 @@ impl PlaceMap {
                 Err(_) => return Err(NoMemory),
             }
         }
-        Ok(covers)
+        Ok(())
     }
 
     /// The issuer issued a TLBI that reaches these PEs, is broadcast or not, and covers each broken place as far as the
@@ -453,7 +479,8 @@ impl PlaceMap {
         ensures restless { restless_in self.new ≡ restless_in self.old }
         ensures places { (i : ℕ) → restless_place self.new i ≡ restless_place self.old i }
     {
-        let covers = self.covers(alloc, &cover)?;
+        let mut covers = SmallVec::new(alloc);
+        self.add_covers(&cover, &mut covers)?;
         issue::make_room(&mut self.broken, &covers, issuer)?;
         issue::note(
             &mut self.broken,

@@ -147,9 +147,9 @@ fn publish_listed(
     ensures published { PublishesAll issuer dsb n broken.old broken.new }
     ensures known { HoldUntold (Holds list.new) n issuer broken.new.items }
 {
-    let heard = publishes_to(dsb, issuer, n);
-    if !heard.is_empty() {
-        publish_list(cells, broken, list, issuer, dsb, n);
+    publish_list(cells, broken, list, issuer, dsb, n);
+    if !list.cells.is_empty() {
+        let heard = publishes_to(dsb, issuer, n);
         if PeMask::all(n).minus(heard).is_empty() {
             list.cells.clear();
         }

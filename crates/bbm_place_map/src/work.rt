@@ -122,10 +122,34 @@ fn add_writers(lists: &mut Vec<WorkList>, writers: PeMask, pes: u8, cell: u32, b
     }
 }
 
-// Adds the cell of a place that is broken with these marks, with the marks before if it was broken.
+// The same, where most often this PE is the only one.
+#[inline(always)]
+fn add_mostly(
+    lists: &mut Vec<WorkList>,
+    writers: PeMask,
+    mostly: Pe,
+    pes: u8,
+    cell: u32,
+    broken: usize,
+)
+    requires { pes ≤ 128 }
+    ensures there { (q : ℕ) → q < pes → pe_in writers q ≡ true → HoldsFor lists.new.items q cell }
+    ensures kept { (q j : ℕ) → HoldsFor lists.old.items q j → HoldsFor lists.new.items q j }
+{
+    add_for(lists, mostly, cell, broken);
+    let others = writers.minus(PeMask::one(mostly));
+    if !others.is_empty() {
+        add_writers(lists, others, pes, cell, broken);
+    }
+}
+
+// Adds the cell of a place that is broken with these marks, with the marks before if it was broken. Most often this PE
+// is the only one that wrote there since.
+#[inline(always)]
 fn add_broken(
     lists: &mut Vec<WorkList>,
     pes: u8,
+    mostly: Pe,
     cell: u32,
     before: &Option<Marks>,
     marks: &Marks,
@@ -138,12 +162,21 @@ fn add_broken(
 {
     let fresh = fresh_writers(before, marks);
     if !fresh.is_empty() {
-        add_writers(lists, fresh, pes, cell, broken);
+        add_mostly(lists, fresh, mostly, pes, cell, broken);
     }
 }
 
-/// The place of a cell, with the marks before if it was broken, is broken with these now.
-pub fn note_write(work: &mut Work, cell: u32, before: &Option<Marks>, marks: &Marks, broken: usize)
+/// The place of a cell, with the marks before if it was broken, is broken with these now. Most often this PE is the only
+/// one that wrote there since.
+#[inline(always)]
+pub fn note_write(
+    work: &mut Work,
+    mostly: Pe,
+    cell: u32,
+    before: &Option<Marks>,
+    marks: &Marks,
+    broken: usize,
+)
     requires some { 1 ≤ work.old.pes }
     requires most { work.old.pes ≤ 128 }
     ensures pes { work.new.pes ≡ work.old.pes }
@@ -155,7 +188,15 @@ pub fn note_write(work: &mut Work, cell: u32, before: &Option<Marks>, marks: &Ma
     ensures unclean { work.new.settled ≡ true → is_clean work.old.pes marks.now ≡ false }
 {
     let pes = work.pes;
-    add_broken(&mut work.unpublished, pes, cell, before, marks, broken);
+    add_broken(
+        &mut work.unpublished,
+        pes,
+        mostly,
+        cell,
+        before,
+        marks,
+        broken,
+    );
     if marks.is_clean(work.pes) {
         work.settled = false;
     }
@@ -171,6 +212,8 @@ fn restart_all(lists: &mut Vec<WorkList>, given_up: bool)
 }
 
 // The log has `n` PEs. The lists speak for all places, or each has given up.
+#[cold]
+#[inline(never)]
 fn renew(work: &mut Work, n: u8, given_up: bool)
     ensures pes { work.new.pes ≡ n }
     ensures given_up { given_up ≡ true → GivesUp work.new }
@@ -183,6 +226,7 @@ fn renew(work: &mut Work, n: u8, given_up: bool)
 
 /// The log has `n` PEs, and so many places are broken. Where it had another number of PEs before, nothing is known of
 /// these.
+#[inline(always)]
 pub fn begin(work: &mut Work, n: u8, broken: usize)
     ensures pes { work.new.pes ≡ n }
     ensures kept { (work.new ≡ work.old) ⊎ ((broken ≡ 0) ⊎ GivesUp work.new) }

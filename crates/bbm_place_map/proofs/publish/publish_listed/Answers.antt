@@ -1,10 +1,9 @@
-use Rattle.std.proofs.Common.{refl, sym, ◌∙◌, inr, slice_get}
+use Rattle.std.proofs.Common.{sym, ◌∙◌, inr}
 use Rattle.std.proofs.lemmas.Bool.{lt-ltb}
 use Rattle.bbm_regimes.specs.PeMask.{pe_in}
 use Rattle.bbm_place_map.specs.Works.{Holds}
 use Rattle.bbm_place_map.proofs.Holding.{still_in}
 use Rattle.bbm_place_map.proofs.Publishing.{none_untold, known_kept}
-use Rattle.bbm_place_map.proofs.Telling.{none_published}
 use Rattle.bbm_place_map.proofs.publish.publish_listed.Goals as goal
 
 pub returns-then-is_empty-clause-known : goal.returns-then-is_empty-clause-known
@@ -20,12 +19,3 @@ pub returns-else-is_empty-clause-known : goal.returns-else-is_empty-clause-known
 returns-else-is_empty-clause-known c =
     known_kept c.args.issuer c.args.dsb c.args.n c.args.issuer (Holds c.args.list.now) c.args.broken.now.items c.publish_list.new.broken.items
     c.requires.known c.publish_list.ensures.each
-
-pub returns-else-not-is_empty-clause-published : goal.returns-else-not-is_empty-clause-published
-returns-else-not-is_empty-clause-published c = record {
-  each = λ k.
-      none_published c.args.issuer c.args.dsb c.args.n (slice_get c.args.broken.now.items k)
-      (λ p. sym (c.publishes_to-heard.ensures p) ∙ c.is_empty.ensures.0 c.if-not-is_empty.false p);
-  len = refl;
-  room = refl;
-}

@@ -1,7 +1,6 @@
-use Rattle.std.proofs.Common.{ap, sym, ◌∙◌, refl, Some, Option, ℕ, length}
+use Rattle.std.proofs.Common.{ap, sym, ◌∙◌, refl, Option, ℕ, length}
 use Rattle.std.proofs.lemmas.Option.{slice_get_read}
 use Rattle.bbm_place_map.specs.Entries.{entry_of}
-use Rattle.bbm_place_map.specs.declared.entry.Entry.{Entry}
 use Rattle.bbm_place_map.proofs.Linking.{cell_within}
 use Rattle.bbm_place_map.proofs.read.entry.Goals as goal
 

@@ -6,7 +6,7 @@ use Rattle.bbm_place_map.proofs.work.add_broken.Goals as goal
 pub returns-then-not-is_empty-clause-told : goal.returns-then-not-is_empty-clause-told
 returns-then-not-is_empty-clause-told c = λ q below.
     elim (cases_Bool (pe_in c.fresh_writers-fresh.result q)) [
-      | inl is ↦ inl (c.add_writers.ensures.there q below is)
+      | inl is ↦ inl (c.add_mostly.ensures.there q below is)
       | inr none ↦ inr (c.fresh_writers-fresh.ensures q none)
     ]
 

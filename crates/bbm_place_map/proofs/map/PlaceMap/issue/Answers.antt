@@ -50,7 +50,7 @@ unfolding marks_at pends_at
 returns-clause-noted g c =
     noted_at (get nat_eq c.args.self.now.pages) c.args.self.now.cells.items c.args.self.now.broken.items c.make_room.new.broken.items c.note.new.broken.items
     c.deref-2.result.now c.args.issuer c.args.reach c.args.broadcast c.args.self.now.linked c.args.self.now.placed c.make_room.ensures.each c.note.ensures.each
-    (ap (λ (xs : List Cover). length xs) c.deref-2.ensures ∙ c.in_ok-covers.ensures.len)
+    (ap (λ (xs : List Cover). length xs) c.deref-2.ensures ∙ c.in_ok-add_covers.ensures.len)
     (MayCover g.F.Fn c.args.cover c.args.self.now)
-    (λ m e cov at is. c.in_ok-covers.ensures.each m e cov at (sym (ap (λ (xs : List Cover). slice_get xs m) c.deref-2.ensures) ∙ is))
+    (λ m e cov at is. c.in_ok-add_covers.ensures.each m e cov at (sym (ap (λ (xs : List Cover). slice_get xs m) c.deref-2.ensures) ∙ is))
     (vec_len c.args.self.now.cells) c.args.self.now.numbered

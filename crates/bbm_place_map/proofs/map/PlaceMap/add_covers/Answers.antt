@@ -9,7 +9,7 @@ use Rattle.bbm_place_map.specs.declared.entry.Entry.{Entry}
 use Rattle.bbm_place_map.proofs.Leaving.{entry_read, entry_same}
 use Rattle.bbm_place_map.proofs.Lists.{push_get}
 use Rattle.bbm_place_map.proofs.Restless.{marks_are}
-use Rattle.bbm_place_map.proofs.map.PlaceMap.covers.Goals as goal
+use Rattle.bbm_place_map.proofs.map.PlaceMap.add_covers.Goals as goal
 
 pub loop-k-preserved : goal.loop-k-preserved
 unfolding marks_at
