@@ -145,18 +145,18 @@ pub(crate) fn cover_of(
     map: &PlaceMap,
     index: &TreeIndex,
     roots: &RootState,
-    scope: Scope,
-    vmid: Option<u16>,
+    scope: &Scope,
+    vmid: &Option<u16>,
     place: Place,
     core: Core,
 ) -> Cover
     requires { IsSound index.now }
     ensures { (heading : Heading) (h : List Event) (pe : ℕ) (op : TlbiOp) (xt : ℕ)
-        → MayBeCovered heading h map.now index.now roots.now pe op xt scope vmid place core
+        → MayBeCovered heading h map.now index.now roots.now pe op xt scope.now vmid.now place core
         → result ≡ cover_at heading Patterns (notes heading h) (Tlbi pe op xt) place }
 {
     match index.path(place) {
-        Some(path) => cover_met(map, index, roots, &scope, &vmid, place, &path, &core),
+        Some(path) => cover_met(map, index, roots, scope, vmid, place, &path, &core),
         None => Cover::None,
     }
 }

@@ -42,12 +42,12 @@ fn issue_all(
     pe: Pe,
     op: TlbiOp,
     reach: PeMask,
-    scope: Scope,
-    vmid: Option<u16>,
+    scope: &Scope,
+    vmid: &Option<u16>,
 ) -> Result<(), NoMemory>
     requires { IsSound index.now }
     ensures noted { OnOk result ((heading : Heading) (h : List Event) (xt : ℕ)
-        → MayBeIssued heading h map.old index.now roots.now pe op xt scope vmid → (a : ℕ) → is_some (marks_at map.old a) ≡ true
+        → MayBeIssued heading h map.old index.now roots.now pe op xt scope.now vmid.now → (a : ℕ) → is_some (marks_at map.old a) ≡ true
         → Noted (state_from None (marks_at map.old a)) (pends_at map.old pe a) reach (operations.operation op).broadcast
         (cover_at heading Patterns (notes heading h) (Tlbi pe op xt) a) (pends_at map.new pe a)) }
     ensures others { (q a : ℕ) → nat_eq q pe ≡ false → pends_at map.new q a ≡ pends_at map.old q a }
@@ -126,5 +126,5 @@ pub(crate) fn issue(
             );
         }
     }
-    issue_all(alloc, map, index, roots, pe, op, reach, *scope, *vmid)
+    issue_all(alloc, map, index, roots, pe, op, reach, scope, vmid)
 }

@@ -54,6 +54,7 @@ impl Parts {
     }
 
     /// Judges and takes an event.
+    #[inline(always)]
     pub(crate) fn take(&mut self, alloc: Global, event: Event) -> Result<(), StepFault>
         requires { MayMeet self.old event }
         ensures { Meets self.old self.new event result }

@@ -47,6 +47,7 @@ impl Checker for Replay {
 
     ghost frugal = { λ replay. true };
 
+    #[inline(always)]
     fn step(&mut self, alloc: Global, event: Event) -> Result<(), StepFault> {
         match self.parts.take(alloc, event) {
             Ok(()) => {

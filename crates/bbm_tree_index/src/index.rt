@@ -116,6 +116,7 @@ impl TreeIndex {
     }
 
     /// What is known of the place, None where its page is in no tree.
+    #[inline(always)]
     pub fn path(&self, place: Place) -> Option<Path>
         requires { IsSound self.now }
         ensures { result ≡ option_map (λ n. path_at n place) (node_in self.now (page_of place)) }
@@ -127,6 +128,7 @@ impl TreeIndex {
     }
 
     // Where the page stands, None where it is in no tree.
+    #[inline(always)]
     fn spot(&self, page: Page) -> Option<Spot>
         requires { IsSound self.now }
         ensures spot { result ≡ spot_with (heading_of self.now) (role_in self.now page) }

@@ -18,4 +18,4 @@ cover_met-requires-clause-path c =
 
 pub returns-in-Some : goal.returns-in-Some
 returns-in-Some c heading h pe op xt m = c.cover_met.ensures m.over heading h pe op xt (issued heading h c.args.map.now c.args.index.now
-    c.args.roots.now pe op xt c.args.scope c.args.vmid c.args.place c.args.core m)
+    c.args.roots.now pe op xt c.args.scope.now c.args.vmid.now c.args.place c.args.core m)

@@ -26,9 +26,9 @@ returns-clause-noted c =
     let same : n.0 ≡ cover_at heading Patterns (notes heading h) (Tlbi pe c.args.op xt) a
     = (let told = says.met.1 in
     let core = n.1.marks.core in
-    let may : MayBeCovered heading h shown.now c.args.index.now c.args.roots.now pe c.args.op xt c.args.scope c.args.vmid a core
-    = subst (λ (x : PlaceMap). MayBeCovered heading h x c.args.index.now c.args.roots.now pe c.args.op xt c.args.scope c.args.vmid a core) (sym shows)
-    (may_cover heading h map c.args.index.now c.args.roots.now pe c.args.op xt c.args.scope c.args.vmid a core m (n.1.marks, n.1.broken, refl)) in
+    let may : MayBeCovered heading h shown.now c.args.index.now c.args.roots.now pe c.args.op xt c.args.scope.now c.args.vmid.now a core
+    = subst (λ (x : PlaceMap). MayBeCovered heading h x c.args.index.now c.args.roots.now pe c.args.op xt c.args.scope.now c.args.vmid.now a core) (sym shows)
+    (may_cover heading h map c.args.index.now c.args.roots.now pe c.args.op xt c.args.scope.now c.args.vmid.now a core m (n.1.marks, n.1.broken, refl)) in
     search rules) in
     let at : Noted (state_from None (marks_at map a)) (pends_at map pe a) c.args.reach c.is_broadcast.result n.0 (pends_at new pe a) = n.2 in
     subst (λ (x : Cover). Noted (state_from None (marks_at map a)) (pends_at map pe a) c.args.reach (operation c.args.op).broadcast x (pends_at new pe a)) same
