@@ -1,7 +1,8 @@
 -- The bytes before the first newline.
-use Rattle.std.proofs.Common.{◌≡◌, ℕ, zero, suc, ◌<◌, ◌≤◌, List, [], ◌∷◌, length, take, min, Option, None, Some, IfSome, Bool, true, false, nat_eq, slice_index, refl, arith}
+use Rattle.std.proofs.Common.{◌≡◌, ℕ, zero, suc, ◌+◌, ◌-◌, ◌<◌, ◌≤◌, List, [], ◌∷◌, length, take, min, Option, None, Some, IfSome, Bool, true, false, cond, nat_eq, slice_index, get_or, refl, sym, ap, subst, ◌∙◌, inl, inr, arith}
+use Rattle.std.proofs.lemmas.Bool.{cases_eq, false≢true}
 use Rattle.std.proofs.lemmas.List.{length-take, take-take}
-use Rattle.memchr.specs.Find.{IsFirstByte, is_byte}
+use Rattle.memchr.specs.Find.{IsFirstByte, NoneBefore, Nowhere, Passes, TakesFirst, is_byte, places, places_from}
 use Rattle.bbm_io.specs.Flow.{plain}
 
 other : (b : Bool) → ¬ (b ≡ true) → b ≡ false
@@ -22,3 +23,50 @@ plain-line (Some at) bytes m (none, here) =
     let within : at < min m (length bytes) = omega (arith, none.high, length-take m bytes) in
     let front = plain-front (take m bytes) at (omega (arith, none.high)) (λ k below. other _ (none.before k (omega arith) below)) in
     rw (← take-take at m bytes (omega (arith, within))) front
+
+module _ (test : ℕ → Bool) (hay : List ℕ) where
+  -- a place that doesn't pass, and those after it
+  nor-first : (i j : ℕ) → test (slice_index hay i) ≡ false → Nowhere (Passes test hay) (i + 1) j → Nowhere (Passes test hay) i j
+  nor-first i j miss later k low high =
+      elim (cases_eq k i) [
+        | inl same ↦ λ passes. false≢true (sym miss ∙ subst (λ (x : ℕ). test (slice_index hay x) ≡ true) same passes)
+        | inr differs ↦ later k (omega (arith, differs)) high
+      ]
+
+  no-place : (i m : ℕ) → places_from test hay i m ≡ [] → Nowhere (Passes test hay) i (i + m)
+  unfolding places_from
+  no-place i zero none = λ k low high. absurd (omega arith)
+  no-place i (suc m) none = by (no-place (i + 1) m) (test (slice_index hay i)) refl none
+    where
+      by : (places_from test hay (i + 1) m ≡ [] → Nowhere (Passes test hay) (i + 1) (i + 1 + m)) → (t : Bool) → test (slice_index hay i) ≡ t
+          → cond t (i ∷ places_from test hay (i + 1) m) (places_from test hay (i + 1) m) ≡ [] → Nowhere (Passes test hay) i (i + suc m)
+      by later true hit none = let some : suc (length (places_from test hay (i + 1) m)) ≡ 0 = ap length none in absurd (omega (arith, some))
+      by later false miss none = nor-first i (i + suc m) miss (λ k low high. later none k low (omega arith))
+
+  first-place : (i m n : ℕ) (rest : List ℕ) → places_from test hay i m ≡ n ∷ rest → NoneBefore (Passes test hay) i (i + m) n × Passes test hay n
+  unfolding places_from
+  first-place i zero n rest is = let none : 0 ≡ suc (length rest) = ap length is in absurd (omega (arith, none))
+  first-place i (suc m) n rest is = by (first-place (i + 1) m n rest) (test (slice_index hay i)) refl is
+    where
+      by : (places_from test hay (i + 1) m ≡ n ∷ rest → NoneBefore (Passes test hay) (i + 1) (i + 1 + m) n × Passes test hay n) → (t : Bool)
+          → test (slice_index hay i) ≡ t → cond t (i ∷ places_from test hay (i + 1) m) (places_from test hay (i + 1) m) ≡ n ∷ rest
+          → NoneBefore (Passes test hay) i (i + suc m) n × Passes test hay n
+      by more true hit is =
+          let same : i ≡ n = ap (λ (l : List ℕ). get_or l 0 0) is in (
+            record { low = omega (arith, same); high = omega (arith, same); before = λ k low high. absurd (omega (arith, same)) },
+            subst (λ (x : ℕ). test (slice_index hay x) ≡ true) same hit,
+          )
+      by more false miss is =
+          let later = more is in
+          (record { low = omega (arith, later.0.low); high = omega (arith, later.0.high); before = nor-first i n miss later.0.before }, later.1)
+
+-- the first of the places of newlines is the first newline
+pub first-of-places : (hay before : List ℕ) (r : Option ℕ) (after : List ℕ) → before ≡ places (is_byte 10) hay → TakesFirst before r after → IsFirstByte (is_byte 10) hay r
+first-of-places hay before None after is took =
+    let all : length hay ≡ length hay - 0 = omega arith in
+    let none = no-place (is_byte 10) hay 0 (length hay) (ap (places_from (is_byte 10) hay 0) all ∙ sym is ∙ took.0) in
+    λ k low high. none k low (omega (arith, high))
+first-of-places hay before (Some n) after is took =
+    let all : length hay ≡ length hay - 0 = omega arith in
+    let first = first-place (is_byte 10) hay 0 (length hay) n after (ap (places_from (is_byte 10) hay 0) all ∙ sym is ∙ took) in
+    (record { low = first.0.low; high = omega (arith, first.0.high); before = first.0.before }, first.1)

@@ -5,10 +5,11 @@ ghost use Rattle.bbm_io.specs.Faults.{Rose};
 ghost use Rattle.bbm_io.specs.Flow.{preceded, plain};
 ghost use Rattle.bbm_io.specs.Reading.{Reading, Took, Counts, LiesWhole, shown};
 ghost use Rattle.bbm_io.specs.Byte.{Gave};
+ghost use Rattle.memchr.specs.Find.{IsFirstByte, is_byte};
 
 use crate::source::{Failed, Source};
 use arrayvec::ArrayVec;
-use memchr::memchr;
+use memchr::memchr_iter;
 use std::marker::Model;
 
 /// The most bytes of a line, without its newline. Source: project's own choice.
@@ -190,14 +191,22 @@ fn take_line<S: Source>(line: &mut ArrayVec<u8, LINE_BYTES>, taken: &mut u64, sr
     true
 }
 
+// The first newline. The next 32 bytes are looked at first, among which most lines end.
+fn first_newline(bytes: &[u8]) -> Option<usize>
+    ensures { IsFirstByte (is_byte 10) bytes.now result }
+{
+    memchr_iter(b'\n', bytes).next()
+}
+
 // The number of bytes before the first newline, where there are at most 200.
+#[inline(never)]
 fn line_at_hand(bytes: &[u8]) -> Option<usize>
     ensures newline { IfSome result (λ n. take (n + 1) bytes.now ≡ take n bytes.now ++ 10 ∷ []) }
     ensures plain { IfSome result (λ n. plain (take n bytes.now) ≡ true) }
     ensures short { IfSome result (λ n. n ≤ 200) }
     ensures within { IfSome result (λ n. n + 1 ≤ length bytes.now) }
 {
-    memchr(b'\n', &bytes[..bytes.len().min(LINE_BYTES + 1)])
+    first_newline(&bytes[..bytes.len().min(LINE_BYTES + 1)])
 }
 
 // Reads the next line.
