@@ -14,7 +14,7 @@ use crate::line::LineItem;
 use crate::readers::*;
 use bbm_events::{Event, Header, Item, Keyword, Malformed, law_item_causes, law_item_fits};
 
-fn init_line<'a>(header: &Header, fields: Fields<'a>) -> Result<LineItem<'a>, Malformed>
+fn init_line<'a, R>(header: &Header, fields: Fields<'a>) -> Result<LineItem<'a>, Malformed>
     ensures { read_in result ≡ lines.line_after header.now first.Init fields.entry }
 {
     let (pe, fields) = pe_field(header, fields)?;
@@ -22,7 +22,7 @@ fn init_line<'a>(header: &Header, fields: Fields<'a>) -> Result<LineItem<'a>, Ma
     event_item(header, Event::Init { pe, page }, fields)
 }
 
-fn null_line<'a>(header: &Header, fields: Fields<'a>) -> Result<LineItem<'a>, Malformed>
+fn null_line<'a, R>(header: &Header, fields: Fields<'a>) -> Result<LineItem<'a>, Malformed>
     ensures { read_in result ≡ lines.line_after header.now first.Null fields.entry }
 {
     let (pe, fields) = pe_field(header, fields)?;
@@ -30,7 +30,7 @@ fn null_line<'a>(header: &Header, fields: Fields<'a>) -> Result<LineItem<'a>, Ma
     event_item(header, Event::Null { pe, page }, fields)
 }
 
-fn root_line<'a>(header: &Header, fields: Fields<'a>) -> Result<LineItem<'a>, Malformed>
+fn root_line<'a, R>(header: &Header, fields: Fields<'a>) -> Result<LineItem<'a>, Malformed>
     ensures { read_in result ≡ lines.line_after header.now first.Root fields.entry }
 {
     let (pe, fields) = pe_field(header, fields)?;
@@ -49,7 +49,7 @@ fn root_line<'a>(header: &Header, fields: Fields<'a>) -> Result<LineItem<'a>, Ma
     )
 }
 
-fn unroot_line<'a>(header: &Header, fields: Fields<'a>) -> Result<LineItem<'a>, Malformed>
+fn unroot_line<'a, R>(header: &Header, fields: Fields<'a>) -> Result<LineItem<'a>, Malformed>
     ensures { read_in result ≡ lines.line_after header.now first.Unroot fields.entry }
 {
     let (pe, fields) = pe_field(header, fields)?;
@@ -57,7 +57,7 @@ fn unroot_line<'a>(header: &Header, fields: Fields<'a>) -> Result<LineItem<'a>, 
     event_item(header, Event::Unroot { pe, page }, fields)
 }
 
-fn write_line<'a>(header: &Header, fields: Fields<'a>) -> Result<LineItem<'a>, Malformed>
+fn write_line<'a, R>(header: &Header, fields: Fields<'a>) -> Result<LineItem<'a>, Malformed>
     ensures { read_in result ≡ lines.line_after header.now first.Write fields.entry }
 {
     let (pe, fields) = pe_field(header, fields)?;
@@ -66,7 +66,7 @@ fn write_line<'a>(header: &Header, fields: Fields<'a>) -> Result<LineItem<'a>, M
     event_item(header, Event::Write { pe, place, value }, fields)
 }
 
-fn dsb_line<'a>(header: &Header, fields: Fields<'a>) -> Result<LineItem<'a>, Malformed>
+fn dsb_line<'a, R>(header: &Header, fields: Fields<'a>) -> Result<LineItem<'a>, Malformed>
     ensures { read_in result ≡ lines.line_after header.now first.Dsb fields.entry }
 {
     let (pe, fields) = pe_field(header, fields)?;
@@ -74,7 +74,7 @@ fn dsb_line<'a>(header: &Header, fields: Fields<'a>) -> Result<LineItem<'a>, Mal
     event_item(header, Event::Dsb { pe, dsb }, fields)
 }
 
-fn dmb_line<'a>(header: &Header, fields: Fields<'a>) -> Result<LineItem<'a>, Malformed>
+fn dmb_line<'a, R>(header: &Header, fields: Fields<'a>) -> Result<LineItem<'a>, Malformed>
     ensures { read_in result ≡ lines.line_after header.now first.Dmb fields.entry }
 {
     let (pe, fields) = pe_field(header, fields)?;
@@ -82,14 +82,14 @@ fn dmb_line<'a>(header: &Header, fields: Fields<'a>) -> Result<LineItem<'a>, Mal
     event_item(header, Event::Dmb { pe, dsb }, fields)
 }
 
-fn isb_line<'a>(header: &Header, fields: Fields<'a>) -> Result<LineItem<'a>, Malformed>
+fn isb_line<'a, R>(header: &Header, fields: Fields<'a>) -> Result<LineItem<'a>, Malformed>
     ensures { read_in result ≡ lines.line_after header.now first.Isb fields.entry }
 {
     let (pe, fields) = pe_field(header, fields)?;
     event_item(header, Event::Isb { pe }, fields)
 }
 
-fn tlbi_line<'a>(header: &Header, fields: Fields<'a>) -> Result<LineItem<'a>, Malformed>
+fn tlbi_line<'a, R>(header: &Header, fields: Fields<'a>) -> Result<LineItem<'a>, Malformed>
     ensures { read_in result ≡ lines.line_after header.now first.Tlbi fields.entry }
 {
     let (pe, fields) = pe_field(header, fields)?;
@@ -98,7 +98,7 @@ fn tlbi_line<'a>(header: &Header, fields: Fields<'a>) -> Result<LineItem<'a>, Ma
     event_item(header, Event::Tlbi { pe, op, xt }, fields)
 }
 
-fn msr_line<'a>(header: &Header, fields: Fields<'a>) -> Result<LineItem<'a>, Malformed>
+fn msr_line<'a, R>(header: &Header, fields: Fields<'a>) -> Result<LineItem<'a>, Malformed>
     ensures { read_in result ≡ lines.line_after header.now first.Msr fields.entry }
 {
     let (pe, fields) = pe_field(header, fields)?;
@@ -107,7 +107,7 @@ fn msr_line<'a>(header: &Header, fields: Fields<'a>) -> Result<LineItem<'a>, Mal
     event_item(header, Event::Msr { pe, reg, value }, fields)
 }
 
-fn lock_line<'a>(header: &Header, fields: Fields<'a>) -> Result<LineItem<'a>, Malformed>
+fn lock_line<'a, R>(header: &Header, fields: Fields<'a>) -> Result<LineItem<'a>, Malformed>
     ensures { read_in result ≡ lines.line_after header.now first.Lock fields.entry }
 {
     let (pe, fields) = pe_field(header, fields)?;
@@ -115,7 +115,7 @@ fn lock_line<'a>(header: &Header, fields: Fields<'a>) -> Result<LineItem<'a>, Ma
     event_item(header, Event::Lock { pe, lock }, fields)
 }
 
-fn unlock_line<'a>(header: &Header, fields: Fields<'a>) -> Result<LineItem<'a>, Malformed>
+fn unlock_line<'a, R>(header: &Header, fields: Fields<'a>) -> Result<LineItem<'a>, Malformed>
     ensures { read_in result ≡ lines.line_after header.now first.Unlock fields.entry }
 {
     let (pe, fields) = pe_field(header, fields)?;
@@ -123,7 +123,7 @@ fn unlock_line<'a>(header: &Header, fields: Fields<'a>) -> Result<LineItem<'a>, 
     event_item(header, Event::Unlock { pe, lock }, fields)
 }
 
-fn end_line<'a>(header: &Header, fields: Fields<'a>) -> Result<LineItem<'a>, Malformed>
+fn end_line<'a, R>(header: &Header, fields: Fields<'a>) -> Result<LineItem<'a>, Malformed>
     ensures { read_in result ≡ lines.line_after header.now first.End fields.entry }
 {
     let (count, fields) = count_field(fields)?;
@@ -131,7 +131,7 @@ fn end_line<'a>(header: &Header, fields: Fields<'a>) -> Result<LineItem<'a>, Mal
 }
 
 /// The item of a line that begins with this word.
-fn line_after<'a>(
+fn line_after<'a, R>(
     header: &Header,
     keyword: Keyword,
     fields: Fields<'a>,
@@ -139,40 +139,41 @@ fn line_after<'a>(
     ensures { read_in result ≡ lines.line_after header.now keyword fields.entry }
 {
     match keyword {
-        Keyword::Init => init_line(header, fields),
-        Keyword::Null => null_line(header, fields),
-        Keyword::Root => root_line(header, fields),
-        Keyword::Unroot => unroot_line(header, fields),
-        Keyword::Write => write_line(header, fields),
-        Keyword::Dsb => dsb_line(header, fields),
-        Keyword::Dmb => dmb_line(header, fields),
-        Keyword::Isb => isb_line(header, fields),
-        Keyword::Tlbi => tlbi_line(header, fields),
-        Keyword::Msr => msr_line(header, fields),
-        Keyword::Lock => lock_line(header, fields),
-        Keyword::Unlock => unlock_line(header, fields),
-        Keyword::End => end_line(header, fields),
+        Keyword::Init => init_line::<R>(header, fields),
+        Keyword::Null => null_line::<R>(header, fields),
+        Keyword::Root => root_line::<R>(header, fields),
+        Keyword::Unroot => unroot_line::<R>(header, fields),
+        Keyword::Write => write_line::<R>(header, fields),
+        Keyword::Dsb => dsb_line::<R>(header, fields),
+        Keyword::Dmb => dmb_line::<R>(header, fields),
+        Keyword::Isb => isb_line::<R>(header, fields),
+        Keyword::Tlbi => tlbi_line::<R>(header, fields),
+        Keyword::Msr => msr_line::<R>(header, fields),
+        Keyword::Lock => lock_line::<R>(header, fields),
+        Keyword::Unlock => unlock_line::<R>(header, fields),
+        Keyword::End => end_line::<R>(header, fields),
     }
 }
 
 /// The item that a line spells, or the first cause for which it spells none.
 #[tactic(auto, unfolding(bbm_events::specs::Lines::item_of))]
-fn item_on<'a>(header: &Header, line: &'a [u8]) -> Result<LineItem<'a>, Malformed>
+fn item_on<'a, R>(header: &Header, line: &'a [u8]) -> Result<LineItem<'a>, Malformed>
     ensures { read_in result ≡ item_of header.now line.now }
 {
     let (keyword, fields) = first_keyword(line)?;
-    line_after(header, keyword, fields)
+    line_after::<R>(header, keyword, fields)
 }
 
-/// What `read_event` answers, with the bytes of a label where they stand in the line. Source: project's own choice.
-pub fn read_line<'a>(header: &Header, line: &'a [u8]) -> Result<LineItem<'a>, Malformed>
+/// What `read_event` answers, with the bytes of a label where they stand in the line. Each reader `R` has code of its own, so
+/// that it can be made part of the reader's loop; the answer doesn't depend on it. Source: project's own choice.
+pub fn read_line<'a, R>(header: &Header, line: &'a [u8]) -> Result<LineItem<'a>, Malformed>
     ensures item { read_in result ≡ item_of header.now line.now }
     ensures fits { IfOk (read_in result) (λ item. item_fits header.now item ≡ true) }
     ensures causes { IfErr result IsLineCause }
 {
     law_item_fits();
     law_item_causes();
-    item_on(header, line)
+    item_on::<R>(header, line)
 }
 
 /// The event or the end that a line after the header says; the bytes are the line's without its
@@ -187,7 +188,7 @@ pub fn read_event(header: &Header, line: &[u8]) -> Result<Item, Malformed>
     ensures fits { IfOk result (λ item. item_fits header.now item ≡ true) }
     ensures causes { IfErr result IsLineCause }
 {
-    match read_line(header, line) {
+    match read_line::<Item>(header, line) {
         Ok(said) => Ok(said.kept()),
         Err(cause) => Err(cause),
     }

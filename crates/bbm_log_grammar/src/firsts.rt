@@ -211,7 +211,7 @@ fn first_pairs(line: &[u8]) -> (u16, u16)
 
 /// The first word of the line, and the fields after it; the words of most lines are found at once, by their first four
 /// bytes.
-#[inline]
+#[inline(always)]
 #[tactic(auto, using(crate::proofs::Begun::begun))]
 pub(crate) fn first_keyword<'a>(line: &'a [u8]) -> Result<(Keyword, Fields<'a>), Malformed>
     ensures { result ≡ lines.keyword_field (fields line.now) }

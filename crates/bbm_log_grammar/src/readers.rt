@@ -118,6 +118,7 @@ pub(crate) fn dsb_field<'a>(fields: Fields<'a>) -> Result<(Dsb, Fields<'a>), Mal
 }
 
 /// The operation of a TLBI.
+#[inline(always)]
 pub(crate) fn op_field<'a>(
     header: &Header,
     fields: Fields<'a>,
@@ -142,6 +143,7 @@ pub(crate) fn reg_field<'a>(fields: Fields<'a>) -> Result<(Reg, Fields<'a>), Mal
 }
 
 /// The operand of a TLBI, where the operation has one.
+#[inline(always)]
 pub(crate) fn operand_field<'a>(
     op: TlbiOp,
     fields: Fields<'a>,

@@ -167,7 +167,7 @@ fn judge_line<C: Checker>(
         limits,
         number,
         checker,
-        read_line(header, line),
+        read_line::<C>(header, line),
         stop,
     )
 }
