@@ -7,12 +7,14 @@ pub mod interval;
 pub mod laws;
 pub mod pe;
 pub mod regime;
+pub mod register;
 
 pub use address::{Page, Place};
 pub use interval::{Interval, span};
 pub use laws::law_every_pe;
 pub use pe::{Pe, PeMask};
 pub use regime::{AsidFrom, HypWorld, KernelWorld, Kind, NoMemory, Reg, Tag, Which, World};
+pub use register::{base_of, kind_of, same_reg, same_tag, tag_number};
 
 #[cfg(test)]
 mod tests {
@@ -55,6 +57,27 @@ mod tests {
             assert!(rt; PeMask::none().or(PeMask::one(last)).has(last));
             assert!(rt; every.has_all(128) && !others.has_all(128) && others.has_all(127));
         }
+    }
+
+    // Values of VTTBR_EL2, their bases and their VMIDs.
+    const VALUES: [(u64, Option<u64>, u16); 4] = [
+        (0, None, 0),
+        (0x5_0000_4000_2000, Some(0x4000_2000), 5),
+        (0x4000_2001, Some(0x4000_2000), 0),
+        (0xffff_0000_0000_0000, Some(0), 0xffff),
+    ];
+
+    #[test]
+    fn registers(rt: HostRuntime) {
+        for (value, base, number) in VALUES {
+            assert_eq!(rt; base_of(value), base);
+            assert_eq!(rt; tag_number(value), number);
+        }
+        assert!(rt; kind_of(Reg::VttbrEl2) == Kind::S2 && kind_of(Reg::Ttbr1El1) == Kind::Ttbr1);
+        assert!(rt;
+            same_reg(Reg::Ttbr0El2, Reg::Ttbr0El2) && !same_reg(Reg::Ttbr0El2, Reg::Ttbr0El1)
+        );
+        assert!(rt; same_tag(Tag::Vmid(5), Tag::Vmid(5)) && !same_tag(Tag::Vmid(5), Tag::Asid(5)));
     }
 
     #[test]

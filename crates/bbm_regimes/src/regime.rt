@@ -1,9 +1,17 @@
 //! Kinds of translation tables, root registers, tags, and the world that a log belongs to.
 
+use std::alloc::AllocError;
+
 /// There was no memory. The call that answers this changed nothing unless its contract says otherwise.
 /// Source: project's own choice.
 #[derive(Clone, Copy, Debug, PartialEq, Eq)]
 pub struct NoMemory;
+
+impl From<AllocError> for NoMemory {
+    fn from(_: AllocError) -> NoMemory {
+        NoMemory
+    }
+}
 
 /// The kind of a translation table tree: which translation regime and stage walk it. Source: Arm ARM
 /// (DDI 0487), "The AArch64 Virtual Memory System Architecture", translation regimes.
@@ -111,4 +119,6 @@ pub enum Which {
     Steps,
     /// 2^32 - 1 lines.
     Lines,
+    /// 300,000 claims of a certificate.
+    Claims,
 }
