@@ -253,6 +253,19 @@ pub write_to_a_null_page : judged (
 unfolding judged
 write_to_a_null_page = refl
 
+-- A null page stays one when another page becomes one.
+pub write_to_the_first_of_two_null_pages : judged (
+    "bbmlog 1 kernel 1 1 1 ttbr0"
+    ∷ "init 0 0x40000000"
+    ∷ "null 0 0x40000000"
+    ∷ "init 0 0x40001000"
+    ∷ "null 0 0x40001000"
+    ∷ "w 0 0x40000000 0x0"
+    ∷ "end 5"
+    ∷ []) ≡ codes "refused line 6 rule 3 null-written at 0x40000000\n"
+unfolding judged
+write_to_the_first_of_two_null_pages = refl
+
 -- The refusal names the place, and not its page.
 pub null_written_at_the_place : judged (
     "bbmlog 1 kernel 2 1 1 ttbr0"

@@ -47,6 +47,18 @@ pub lock_of_the_root_asked_two_tables_down : judged (
 unfolding judged
 lock_of_the_root_asked_two_tables_down = refl
 
+-- A place of the second joined page is of the root that begins a page before it, whose lock is asked.
+pub lock_of_the_root_asked_in_a_joined_page : judged (
+    "bbmlog 1 hyp 2 1 1 2"
+    ∷ "init 0 0x40000000"
+    ∷ "init 0 0x40001000"
+    ∷ "root 0 s2 3 0x40000000"
+    ∷ "w 0 0x40001008 0x800007fd"
+    ∷ "end 4"
+    ∷ []) ≡ codes "refused line 5 rule 2 no-lock at 0x40001008\n"
+unfolding judged
+lock_of_the_root_asked_in_a_joined_page = refl
+
 -- A root is retired without its lock.
 pub unroot_without_the_lock : judged (
     "bbmlog 1 hyp 2 1 1 1"

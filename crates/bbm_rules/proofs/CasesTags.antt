@@ -68,6 +68,25 @@ pub flush_before_the_isb_keeps_the_tag : judged (
 unfolding judged
 flush_before_the_isb_keeps_the_tag = refl
 
+-- The same of a VMID: it is flushed before the ISB, when PE 0 could still use it for the first root, and answered after.
+pub vmid_flushed_before_the_isb_stays_held : judged (
+    "bbmlog 1 hyp 2 1 1 1"
+    ∷ "init 0 0x40000000"
+    ∷ "root 0 s2 - 0x40000000"
+    ∷ "init 0 0x40001000"
+    ∷ "root 0 s2 - 0x40001000"
+    ∷ "msr 0 vttbr_el2 0x5000040000000"
+    ∷ "isb 0"
+    ∷ "msr 0 vttbr_el2 0x0"
+    ∷ "tlbi 0 alle1is"
+    ∷ "isb 0"
+    ∷ "dsb 0 ish"
+    ∷ "msr 0 vttbr_el2 0x5000040001000"
+    ∷ "end 11"
+    ∷ []) ≡ codes "refused line 12 rule 12 tag-conflict at 0x40000000\n"
+unfolding judged
+vmid_flushed_before_the_isb_stays_held = refl
+
 -- PE 0 may still use the second root, so the first, which it takes now, is the least one in conflict.
 pub tag_conflict_at_the_new_base : judged (
     "bbmlog 1 hyp 1 1 1 1"
