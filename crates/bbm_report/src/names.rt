@@ -68,6 +68,7 @@ pub(crate) fn limit_words(which: Which) -> &'static [u8]
         Which::Events => b"events",
         Which::Steps => b"steps",
         Which::Lines => b"lines",
+        Which::Claims => b"claims",
     }
 }
 

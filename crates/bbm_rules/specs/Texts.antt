@@ -4,6 +4,7 @@ use Rattle.std.specs.Option.{option_map_or}
 use Rattle.std.specs.Prelude.{ℕ, List, [], ◌++◌, Option, codes, decimal}
 use Rattle.bbm_regimes.specs.declared.regime.Which.{Which}
 use Rattle.bbm_regimes.specs.declared.regime.Which.TheVariants.{LineBytes, Pages, Roots, Values, Events, Steps, Lines}
+use Rattle.bbm_regimes.specs.declared.regime.Which.TheVariants.{Claims}
 use Rattle.bbm_events.specs.declared.malformed.Malformed.{Malformed as Cause}
 use Rattle.bbm_events.specs.declared.malformed.Malformed.TheVariants.{NoMagic, BadHeader, UnknownWord, BadNumber}
 use Rattle.bbm_events.specs.declared.malformed.Malformed.TheVariants.{BadPe, BadAddress, MissingField, ExtraField}
@@ -61,6 +62,7 @@ limit_text Values = codes "values"
 limit_text Events = codes "events"
 limit_text Steps = codes "steps"
 limit_text Lines = codes "lines"
+limit_text Claims = codes "claims"
 
 -- a space and the label, behind its `@`, where there is one
 abbrev pub label_text : Option (List ℕ) → List ℕ
