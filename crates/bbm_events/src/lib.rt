@@ -1,6 +1,7 @@
 //! A log's header, its events, and the grammar that leads from a line to its item and back.
 #![tactic(auto)]
 
+pub mod claim;
 pub mod event;
 pub mod fitting;
 pub mod header;
@@ -11,6 +12,7 @@ pub mod machine;
 pub mod malformed;
 pub mod roots;
 
+pub use claim::Claim;
 pub use event::{Event, Item};
 pub use fitting::{fits, has_op};
 pub use header::Header;

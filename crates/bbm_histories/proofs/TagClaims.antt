@@ -3,8 +3,8 @@ use Rattle.std.proofs.Common.{◌≡◌, ℕ, suc, length, ◌&&◌, not, Bool, 
 use Rattle.std.proofs.Math.Bool.{and_assoc, and_comm}
 use Rattle.bbm_events.specs.Heading.{Heading}
 use Rattle.bbm_rules.specs.Prelude.{Barrier, Tag, Event, Dsb, Tlbi}
-use Rattle.bbm_rules.specs.declared.claim.Claim.{Claim}
-use Rattle.bbm_rules.specs.declared.claim.Claim.TheVariants.{Place, Two, Taken}
+use Rattle.bbm_events.specs.declared.claim.Claim.{Claim}
+use Rattle.bbm_events.specs.declared.claim.Claim.TheVariants.{Place, Two, Taken}
 use Rattle.bbm_rules.specs.Claims.{same_claim, same_tag}
 use Rattle.bbm_rules.specs.Claims.Trust.{Listed}
 use Rattle.bbm_rules.specs.Lists.{any}

@@ -5,8 +5,8 @@ use Rattle.std.specs.Prelude.{ℕ, suc, length, Bool, false, ◌&&◌, ◌||◌,
 use Rattle.bbm_barriers.specs.Options.{answers}
 use Rattle.bbm_tlbi_scope.specs.declared.entry.Cover.TheVariants.{Half, Second, Full}
 use Rattle.bbm_rules.specs.Prelude.{Barrier, Tag, Heading, Event, Dsb, Tlbi}
-use Rattle.bbm_rules.specs.declared.claim.Claim.{Claim}
-use Rattle.bbm_rules.specs.declared.claim.Claim.TheVariants.{Place, Two, Taken}
+use Rattle.bbm_events.specs.declared.claim.Claim.{Claim}
+use Rattle.bbm_events.specs.declared.claim.Claim.TheVariants.{Place, Two, Taken}
 use Rattle.bbm_rules.specs.Claims.{Trust, same_tag}
 use Rattle.bbm_rules.specs.Claims.Trust.{Listed}
 use Rattle.bbm_rules.specs.Cleansing.{cleansed, flushes, full_step, half_where, second_step, seen_where}

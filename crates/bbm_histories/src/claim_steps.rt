@@ -6,7 +6,7 @@ ghost use Rattle.bbm_regimes.specs.declared.regime.Tag.{Tag};
 ghost use Rattle.bbm_events.specs.Heading.{Heading};
 ghost use Rattle.bbm_events.specs.declared.event.Event.{Event};
 ghost use Rattle.bbm_events.specs.declared.event.Event.TheVariants.{Dsb};
-ghost use Rattle.bbm_rules.specs.declared.claim.Claim.{Claim};
+ghost use Rattle.bbm_events.specs.declared.claim.Claim.{Claim};
 ghost use Rattle.bbm_rules.specs.Claims.{Trust};
 ghost use Rattle.bbm_rules.specs.Claims.Trust.{Listed};
 ghost use Rattle.bbm_rules.specs.Cleansing.{cleansed};

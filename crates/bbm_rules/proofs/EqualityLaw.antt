@@ -7,8 +7,8 @@ use Rattle.bbm_regimes.specs.declared.regime.Reg.{Reg}
 use Rattle.bbm_regimes.specs.declared.regime.Reg.TheVariants.{Ttbr0El2, VttbrEl2, Ttbr0El1, Ttbr1El1}
 use Rattle.bbm_regimes.specs.declared.regime.Tag.{Tag}
 use Rattle.bbm_regimes.specs.declared.regime.Tag.TheVariants.{El2, Vmid, Asid, Ttbr1}
-use Rattle.bbm_rules.specs.declared.claim.Claim.{Claim}
-use Rattle.bbm_rules.specs.declared.claim.Claim.TheVariants.{Place, Two, Taken}
+use Rattle.bbm_events.specs.declared.claim.Claim.{Claim}
+use Rattle.bbm_events.specs.declared.claim.Claim.TheVariants.{Place, Two, Taken}
 use Rattle.bbm_rules.specs.Claims.{same_claim, same_tag}
 use Rattle.bbm_rules.specs.Registers.{same_reg}
 use Rattle.bbm_rules.specs.Roots.{same_kind}

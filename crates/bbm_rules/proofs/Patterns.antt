@@ -8,7 +8,7 @@ use Rattle.bbm_tlbi_scope.specs.declared.entry.Cover.TheVariants.{Half, Second, 
 use Rattle.bbm_events.specs.Heading.{Heading}
 use Rattle.bbm_events.specs.declared.event.Event.{Event}
 use Rattle.bbm_events.specs.declared.event.Event.TheVariants.{Dsb}
-use Rattle.bbm_rules.specs.declared.claim.Claim.TheVariants.{Place, Two}
+use Rattle.bbm_events.specs.declared.claim.Claim.TheVariants.{Place, Two}
 use Rattle.bbm_lists.proofs.Elements.{any_found, to_contains}
 use Rattle.bbm_rules.proofs.OpenLaw.{open_note_sound}
 use Rattle.bbm_rules.proofs.SearchLemmas.{Found, any_weaker, some_found, some_later, some_weaker}

@@ -17,7 +17,7 @@ use Rattle.bbm_lists.specs.Elements.{In}
 use Rattle.bbm_lists.proofs.Elements.{any_finds, any_found, from_contains, to_contains}
 use Rattle.bbm_rules.proofs.OpenLaw.{head_of, tail_of, open_sound, open_complete}
 use Rattle.bbm_rules.proofs.SearchLemmas.{is_none_before, none_before}
-use Rattle.bbm_rules.specs.declared.claim.Claim.TheVariants.{Taken}
+use Rattle.bbm_events.specs.declared.claim.Claim.TheVariants.{Taken}
 use Rattle.bbm_rules.specs.Claims.{Trust, allows, same_tag}
 use Rattle.bbm_rules.specs.Reach.{Issued, completes, reaches, unanswered}
 use Rattle.bbm_rules.specs.Sentences.{HoldsTag, Open, TakenAway}

@@ -2,8 +2,8 @@
 -- Source: project's own choice.
 use Rattle.std.specs.Prelude.{Bool, true, false, ◌&&◌, ◌==◌, List}
 pub use Rattle.bbm_regimes.specs.Same.{same_tag}
-use Rattle.bbm_rules.specs.declared.claim.Claim.{Claim}
-use Rattle.bbm_rules.specs.declared.claim.Claim.TheVariants.{Place, Two, Taken}
+use Rattle.bbm_events.specs.declared.claim.Claim.{Claim}
+use Rattle.bbm_events.specs.declared.claim.Claim.TheVariants.{Place, Two, Taken}
 use Rattle.bbm_rules.specs.Lists.{any}
 
 -- whether two claims are the same

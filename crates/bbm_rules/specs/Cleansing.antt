@@ -8,7 +8,7 @@ use Rattle.bbm_tlbi_scope.specs.declared.entry.Cover.{Cover}
 use Rattle.bbm_tlbi_scope.specs.declared.entry.Cover.TheVariants.{Half, Second, Full}
 pub use Rattle.bbm_tlbi_scope.specs.Same.{same_cover}
 use Rattle.bbm_rules.specs.Prelude.{Barrier, Heading, Event, Write, Dsb}
-use Rattle.bbm_rules.specs.declared.claim.Claim.TheVariants.{Place, Two}
+use Rattle.bbm_events.specs.declared.claim.Claim.TheVariants.{Place, Two}
 use Rattle.bbm_rules.specs.Claims.{Trust, allows}
 use Rattle.bbm_rules.specs.Lists.{any, some}
 use Rattle.bbm_rules.specs.Notes.{Noted, event_of}

@@ -5,7 +5,7 @@ use Rattle.std.specs.Prelude.{◌≡◌, ℕ, suc, ◌<◌, ◌≤◌, Bool, tru
 use Rattle.std.specs.Prelude.{if◌then◌else◌}
 use Rattle.bbm_rules.specs.Prelude.{Barrier, Kind, Reg, Tag, Heading, Event, Init, Root, Unroot, Write, Dsb, Isb, Tlbi}
 use Rattle.bbm_rules.specs.Prelude.{Msr, Lock, Unlock}
-use Rattle.bbm_rules.specs.declared.claim.Claim.TheVariants.{Taken}
+use Rattle.bbm_events.specs.declared.claim.Claim.TheVariants.{Taken}
 use Rattle.bbm_rules.specs.Claims.{Trust, allows}
 use Rattle.bbm_rules.specs.Places.{page_of}
 use Rattle.bbm_rules.specs.Reach.{Issued, completes, reaches}

@@ -8,7 +8,7 @@ use Rattle.bbm_tlbi_scope.specs.Tags.{takes_whole_tag}
 use Rattle.bbm_rules.specs.Prelude.{Barrier, AsidFrom, FromTtbr0, FromTtbr1, Reg, Ttbr0El2, VttbrEl2, Ttbr0El1}
 use Rattle.bbm_rules.specs.Prelude.{Ttbr1El1, Tag, El2Tag, Vmid, Asid, Ttbr1Tag, World, Hyp, Kernel, Heading, Event}
 use Rattle.bbm_rules.specs.Prelude.{Dsb, Tlbi}
-use Rattle.bbm_rules.specs.declared.claim.Claim.TheVariants.{Taken}
+use Rattle.bbm_events.specs.declared.claim.Claim.TheVariants.{Taken}
 use Rattle.bbm_rules.specs.Claims.{Trust, allows, same_tag}
 use Rattle.bbm_rules.specs.Lists.{◌>>=◌, any, below, if_so, some, some_pe}
 use Rattle.bbm_rules.specs.Reach.{Issued, completes, reaches, unanswered}

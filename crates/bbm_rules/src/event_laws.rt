@@ -14,7 +14,7 @@ ghost use Rattle.bbm_tlbi_scope.specs.declared.entry.TagSet.TheVariants.{None as
 ghost use Rattle.bbm_events.specs.Heading.{Heading};
 ghost use Rattle.bbm_events.specs.declared.event.Event.{Event};
 ghost use Rattle.bbm_events.specs.declared.event.Event.TheVariants.{Init, Msr, Null, Root};
-ghost use Rattle.bbm_rules.specs.declared.claim.Claim.{Claim};
+ghost use Rattle.bbm_events.specs.declared.claim.Claim.{Claim};
 ghost use Rattle.bbm_rules.specs.Changes.{changes};
 ghost use Rattle.bbm_rules.specs.Claims.{Trust, same_claim, same_tag};
 ghost use Rattle.bbm_rules.specs.Cleansing.{cleansed, half, seen};

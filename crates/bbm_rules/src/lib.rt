@@ -2,7 +2,6 @@
 #![tactic(auto)]
 
 pub mod checker;
-pub mod claim;
 pub mod event_laws;
 pub mod history_laws;
 pub mod laws;
@@ -14,8 +13,8 @@ pub mod step_fault;
 pub mod tag_laws;
 pub mod verdict;
 
+pub use bbm_events::Claim;
 pub use checker::{Checker, Fresh};
-pub use claim::Claim;
 pub use event_laws::{
     law_changes, law_equality_tests, law_limits, law_lock_held, law_null, law_published,
     law_readable_register, law_root, law_tag_set, law_vmid,
