@@ -4,8 +4,9 @@ use Rattle.std.specs.Option.{option_map}
 use Rattle.std.specs.Prelude.{IfErr, bytes_eq, codes, if◌then◌else◌}
 use Rattle.bbm_events.specs.declared.event.Event.{Event}
 use Rattle.bbm_events.specs.declared.event.Event.TheVariants as event
+use Rattle.bbm_events.specs.declared.event.Item.TheVariants as item
 use Rattle.bbm_events.specs.declared.malformed.Malformed.{Malformed}
-use Rattle.bbm_events.specs.declared.malformed.Malformed.TheVariants.{NoMagic, BadHeader, UnknownWord, BadNumber, BadPe, BadAddress, MissingField, BadLabel}
+use Rattle.bbm_events.specs.declared.malformed.Malformed.TheVariants.{NoMagic, BadHeader, UnknownWord, BadNumber, BadPe, BadAddress, MissingField, ExtraField, BadLabel}
 use Rattle.bbm_events.specs.declared.keyword.Keyword.{Keyword}
 use Rattle.bbm_events.specs.declared.keyword.Keyword.TheVariants as first
 use Rattle.bbm_regimes.specs.declared.regime.World.TheVariants.{Hyp, Kernel}
@@ -15,8 +16,8 @@ use Rattle.bbm_events.specs.Heading.{Heading, heading_ok, is_version, has_op, ma
 use Rattle.bbm_events.specs.Spelling.{fields, decimal_value, hex_value}
 use Rattle.bbm_events.specs.Fits.{is_pe, is_page, is_place, is_root_page, is_count}
 use Rattle.bbm_events.specs.Words.{with_word, keyword_word, keywords, cnp_word, cnps, kind_word, kinds, reg_word, regs, dsb_word, dsbs, op_word, ops, asid_from_word, asid_froms}
-use Rattle.bbm_events.specs.Causes.{IsHeaderCause, IsLineCause}
-use Rattle.bbm_events.specs.Lines.{◌>>=◌, Fields, FieldRead, found, next_field, checked, hyp_fields, kernel_fields, world_fields, header_of, item_of, line_after, passing, exactly, magic_field, version_field, cnp_field, header_field, keyword_field, line_field, pe_field, page_field, place_field, root_page_field, lock_value, lock_field, root_lock, root_lock_field, count_field, kind_field, dsb_field, op_field, reg_field, operand_field, value_field, whole, is_marked, label_value, label_field, event_item, pe_alone, pe_and, pe_and_two, root_line, tlbi_line, end_line}
+use Rattle.bbm_events.specs.Causes.{IsHeaderCause, IsFieldCause, IsLineCause}
+use Rattle.bbm_events.specs.Lines.{◌>>=◌, Fields, FieldRead, found, next_field, checked, hyp_fields, kernel_fields, world_fields, header_of, item_of, line_after, passing, exactly, magic_field, version_field, cnp_field, header_field, keyword_field, line_field, pe_field, page_field, place_field, root_page_field, lock_value, lock_field, root_lock, root_lock_field, count_field, kind_field, dsb_field, op_field, reg_field, operand_field, value_field, whole, is_marked, label_value, label_field, event_item, pe_alone, pe_and, pe_and_two, root_line, tlbi_line, count_line}
 
 -- each cause that the result can have is one of these
 abbrev pub Ends : {A : Type 0} → (Malformed → Type 0) → Result A Malformed → Type 0
@@ -34,9 +35,19 @@ field_ends {A = A} Cause absent unreadable read (text ∷ rest) p q = by (read t
     by None = q
     by (Some value) = tt
 
-pub whole_ends : {A : Type 0} (value : A) (rest : Fields) → Ends IsLineCause (whole value rest)
-whole_ends value [] = tt
-whole_ends value (text ∷ rest) = tt
+-- the cause of a field is one of its line
+pub of_field : (cause : Malformed) → IsFieldCause cause → IsLineCause cause
+of_field BadLabel e = tt
+of_field cause e = e
+
+-- an event line's field, and what follows it, which can be a label
+field_then : {A B : Type 0} (r : Result A Malformed) (f : A → Result B Malformed) → Ends IsFieldCause r → ((x : A) → Ends IsLineCause (f x)) → Ends IsLineCause (r >>= f)
+field_then (Ok x) f here later = later x
+field_then (Err cause) f here later = of_field cause here
+
+pub whole_ends : {A : Type 0} (Cause : Malformed → Type 0) → Cause ExtraField → (value : A) (rest : Fields) → Ends Cause (whole value rest)
+whole_ends Cause p value [] = tt
+whole_ends Cause p value (text ∷ rest) = p
 
 label_ends : (version : ℕ) (rest : Fields) → Ends IsLineCause (label_field version rest)
 label_ends version [] = tt
@@ -48,62 +59,70 @@ label_ends version (text ∷ rest) = by (may_label version && is_marked text) (o
     by false label = tt
 
 item_ends : (h : Heading) (event : Event) (rest : Fields) → Ends IsLineCause (event_item h event rest)
-item_ends h event rest = then_ends IsLineCause (label_field h.version rest) _ (label_ends h.version rest) (λ label. whole_ends _ label.1)
+item_ends h event rest = then_ends IsLineCause (label_field h.version rest) _ (label_ends h.version rest) (λ label. whole_ends IsLineCause tt _ label.1)
 
-pub pe_ends : (h : Heading) (rest : Fields) → Ends IsLineCause (pe_field h rest)
-pe_ends h rest = field_ends IsLineCause MissingField BadPe (λ text. passing (is_pe h) (decimal_value text)) rest tt tt
+pub pe_ends : (h : Heading) (rest : Fields) → Ends IsFieldCause (pe_field h rest)
+pe_ends h rest = field_ends IsFieldCause MissingField BadPe (λ text. passing (is_pe h) (decimal_value text)) rest tt tt
 
 pe_alone_ends : (h : Heading) (event : ℕ → Event) (rest : Fields) → Ends IsLineCause (pe_alone h event rest)
-pe_alone_ends h event rest = then_ends IsLineCause (pe_field h rest) _ (pe_ends h rest) (λ pe. item_ends h _ pe.1)
+pe_alone_ends h event rest = field_then (pe_field h rest) _ (pe_ends h rest) (λ pe. item_ends h _ pe.1)
 
-pe_and_ends : {A : Type 0} (h : Heading) (second : Fields → FieldRead A) (event : ℕ → A → Event) → ((left : Fields) → Ends IsLineCause (second left)) → (rest : Fields) → Ends IsLineCause (pe_and h second event rest)
+pe_and_ends : {A : Type 0} (h : Heading) (second : Fields → FieldRead A) (event : ℕ → A → Event) → ((left : Fields) → Ends IsFieldCause (second left)) → (rest : Fields) → Ends IsLineCause (pe_and h second event rest)
 pe_and_ends h second event ends rest =
-    then_ends IsLineCause (pe_field h rest) _ (pe_ends h rest) (λ pe.
-    then_ends IsLineCause (second pe.1) _ (ends pe.1) (λ a. item_ends h _ a.1))
+    field_then (pe_field h rest) _ (pe_ends h rest) (λ pe.
+    field_then (second pe.1) _ (ends pe.1) (λ a. item_ends h _ a.1))
 
-pe_and_two_ends : {A B : Type 0} (h : Heading) (second : Fields → FieldRead A) (third : Fields → FieldRead B) (event : ℕ → A → B → Event) → ((left : Fields) → Ends IsLineCause (second left)) → ((left : Fields) → Ends IsLineCause (third left)) → (rest : Fields) → Ends IsLineCause (pe_and_two h second third event rest)
+pe_and_two_ends : {A B : Type 0} (h : Heading) (second : Fields → FieldRead A) (third : Fields → FieldRead B) (event : ℕ → A → B → Event) → ((left : Fields) → Ends IsFieldCause (second left)) → ((left : Fields) → Ends IsFieldCause (third left)) → (rest : Fields) → Ends IsLineCause (pe_and_two h second third event rest)
 pe_and_two_ends h second third event ends more rest =
-    then_ends IsLineCause (pe_field h rest) _ (pe_ends h rest) (λ pe.
-    then_ends IsLineCause (second pe.1) _ (ends pe.1) (λ a.
-    then_ends IsLineCause (third a.1) _ (more a.1) (λ b. item_ends h _ b.1)))
+    field_then (pe_field h rest) _ (pe_ends h rest) (λ pe.
+    field_then (second pe.1) _ (ends pe.1) (λ a.
+    field_then (third a.1) _ (more a.1) (λ b. item_ends h _ b.1)))
 
-page_ends : (left : Fields) → Ends IsLineCause (page_field left)
-page_ends left = field_ends IsLineCause MissingField BadAddress (λ text. passing is_page (hex_value text)) left tt tt
+page_ends : (left : Fields) → Ends IsFieldCause (page_field left)
+page_ends left = field_ends IsFieldCause MissingField BadAddress (λ text. passing is_page (hex_value text)) left tt tt
 
-pub place_ends : (left : Fields) → Ends IsLineCause (place_field left)
-place_ends left = field_ends IsLineCause MissingField BadAddress (λ text. passing is_place (hex_value text)) left tt tt
+pub place_ends : (left : Fields) → Ends IsFieldCause (place_field left)
+place_ends left = field_ends IsFieldCause MissingField BadAddress (λ text. passing is_place (hex_value text)) left tt tt
 
-pub value_ends : (left : Fields) → Ends IsLineCause (value_field left)
-value_ends left = field_ends IsLineCause MissingField BadNumber hex_value left tt tt
+pub value_ends : (left : Fields) → Ends IsFieldCause (value_field left)
+value_ends left = field_ends IsFieldCause MissingField BadNumber hex_value left tt tt
 
-lock_ends : (left : Fields) → Ends IsLineCause (lock_field left)
-lock_ends left = field_ends IsLineCause MissingField BadNumber lock_value left tt tt
+lock_ends : (left : Fields) → Ends IsFieldCause (lock_field left)
+lock_ends left = field_ends IsFieldCause MissingField BadNumber lock_value left tt tt
 
-pub word_ends : {A : Type 0} (read : List ℕ → Option A) (left : Fields) → Ends IsLineCause (line_field UnknownWord read left)
-word_ends read left = field_ends IsLineCause MissingField UnknownWord read left tt tt
+pub word_ends : {A : Type 0} (read : List ℕ → Option A) (left : Fields) → Ends IsFieldCause (line_field UnknownWord read left)
+word_ends read left = field_ends IsFieldCause MissingField UnknownWord read left tt tt
 
-operand_ends : (op : TlbiOp) (left : Fields) → Ends IsLineCause (operand_field op left)
+operand_ends : (op : TlbiOp) (left : Fields) → Ends IsFieldCause (operand_field op left)
 operand_ends op left = by (has_operand op)
   where
-    by : (has : Bool) → Ends IsLineCause (if has then value_field left else Ok (0, left))
+    by : (has : Bool) → Ends IsFieldCause (if has then value_field left else Ok (0, left))
     by true = value_ends left
     by false = tt
 
 root_line_ends : (h : Heading) (rest : Fields) → Ends IsLineCause (root_line h rest)
 root_line_ends h rest =
-    then_ends IsLineCause (pe_field h rest) _ (pe_ends h rest) (λ pe.
-    then_ends IsLineCause (kind_field pe.1) _ (word_ends (with_word kind_word kinds) pe.1) (λ kind.
-    then_ends IsLineCause (root_lock_field kind.1) _ (field_ends IsLineCause MissingField BadNumber root_lock kind.1 tt tt) (λ lock.
-    then_ends IsLineCause (root_page_field h kind.0 lock.1) _ (field_ends IsLineCause MissingField BadAddress (λ text. passing (is_root_page h.world kind.0) (hex_value text)) lock.1 tt tt) (λ page. item_ends h _ page.1))))
+    field_then (pe_field h rest) _ (pe_ends h rest) (λ pe.
+    field_then (kind_field pe.1) _ (word_ends (with_word kind_word kinds) pe.1) (λ kind.
+    field_then (root_lock_field kind.1) _ (field_ends IsFieldCause MissingField BadNumber root_lock kind.1 tt tt) (λ lock.
+    field_then (root_page_field h kind.0 lock.1) _ (field_ends IsFieldCause MissingField BadAddress (λ text. passing (is_root_page h.world kind.0) (hex_value text)) lock.1 tt tt) (λ page. item_ends h _ page.1))))
 
 tlbi_line_ends : (h : Heading) (rest : Fields) → Ends IsLineCause (tlbi_line h rest)
 tlbi_line_ends h rest =
-    then_ends IsLineCause (pe_field h rest) _ (pe_ends h rest) (λ pe.
-    then_ends IsLineCause (op_field h.version pe.1) _ (word_ends (λ text. passing (has_op h.version) (with_word op_word ops text)) pe.1) (λ op.
-    then_ends IsLineCause (operand_field op.0 op.1) _ (operand_ends op.0 op.1) (λ xt. item_ends h _ xt.1)))
+    field_then (pe_field h rest) _ (pe_ends h rest) (λ pe.
+    field_then (op_field h.version pe.1) _ (word_ends (λ text. passing (has_op h.version) (with_word op_word ops text)) pe.1) (λ op.
+    field_then (operand_field op.0 op.1) _ (operand_ends op.0 op.1) (λ xt. item_ends h _ xt.1)))
 
-end_line_ends : (rest : Fields) → Ends IsLineCause (end_line rest)
-end_line_ends rest = then_ends IsLineCause (count_field rest) _ (field_ends IsLineCause MissingField BadNumber (λ text. passing is_count (decimal_value text)) rest tt tt) (λ count. whole_ends _ count.1)
+pub count_ends : (left : Fields) → Ends IsFieldCause (count_field left)
+count_ends left = field_ends IsFieldCause MissingField BadNumber (λ text. passing is_count (decimal_value text)) left tt tt
+
+pub count_line_ends : {A : Type 0} (value : ℕ → A) (rest : Fields) → Ends IsFieldCause (count_line value rest)
+count_line_ends value rest = then_ends IsFieldCause (count_field rest) _ (count_ends rest) (λ count. whole_ends IsFieldCause tt _ count.1)
+
+-- what ends with the cause of a field ends with one of its line
+pub of_fields : {A : Type 0} (r : Result A Malformed) → Ends IsFieldCause r → Ends IsLineCause r
+of_fields (Ok x) e = tt
+of_fields (Err cause) e = of_field cause e
 
 line_ends : (h : Heading) (word : Keyword) (rest : Fields) → Ends IsLineCause (line_after h word rest)
 line_ends h first.Init rest = pe_and_ends h page_field event.Init page_ends rest
@@ -118,12 +137,12 @@ line_ends h first.Tlbi rest = tlbi_line_ends h rest
 line_ends h first.Msr rest = pe_and_two_ends h reg_field value_field event.Msr (word_ends (with_word reg_word regs)) value_ends rest
 line_ends h first.Lock rest = pe_and_ends h lock_field event.Lock lock_ends rest
 line_ends h first.Unlock rest = pe_and_ends h lock_field event.Unlock lock_ends rest
-line_ends h first.End rest = end_line_ends rest
+line_ends h first.End rest = of_fields (count_line item.End rest) (count_line_ends item.End rest)
 
 pub item_of_causes : (h : Heading) (line : List ℕ) → IfErr (item_of h line) IsLineCause
 unfolding item_of
 item_of_causes h line =
-    then_ends IsLineCause (keyword_field (fields line)) _ (word_ends (with_word keyword_word keywords) (fields line)) (λ word. line_ends h word.0 word.1)
+    field_then (keyword_field (fields line)) _ (word_ends (with_word keyword_word keywords) (fields line)) (λ word. line_ends h word.0 word.1)
 
 magic_ends : (word : List ℕ) (left : Fields) → Ends IsHeaderCause (magic_field word left)
 magic_ends word left = field_ends IsHeaderCause NoMagic NoMagic (exactly word) left tt tt

@@ -1,4 +1,5 @@
 pub mod Causes
+pub mod CertificateLines
 pub mod Joining
 pub mod Labels
 pub mod MachineLines

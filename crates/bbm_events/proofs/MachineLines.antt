@@ -1,6 +1,6 @@
 -- Machine lines: what is read of one fits the header and has a cause of a line where it spells none, a step that
 -- is written is read again, and no other line is read as it.
-use Rattle.std.proofs.Common.{◌≡◌, ℕ, ◌^◌, ◌<◌, List, [], ◌∷◌, true, ◌&&◌, refl, ap, sym, ◌∙◌, Result, Ok, arith}
+use Rattle.std.proofs.Common.{◌≡◌, ℕ, ◌^◌, ◌<◌, List, [], ◌∷◌, true, ◌&&◌, refl, ap, ◌∙◌, Result, Ok, arith}
 use Rattle.std.specs.Prelude.{IfErr, codes, decimal}
 use Rattle.std.proofs.lemmas.Bool.{and_parts, ltb-true, eqb-true}
 use Rattle.bbm_regimes.specs.declared.regime.Kind.{Kind}
@@ -10,83 +10,65 @@ use Rattle.bbm_events.specs.declared.machine.MachineLine.TheVariants.{Start, Ext
 use Rattle.bbm_events.specs.declared.machine.MachineWord.{MachineWord}
 use Rattle.bbm_events.specs.declared.machine.MachineWord.TheVariants as second
 use Rattle.bbm_events.specs.declared.malformed.Malformed.{Malformed}
-use Rattle.bbm_events.specs.declared.malformed.Malformed.TheVariants.{UnknownWord, BadNumber, BadPe, MissingField}
-use Rattle.bbm_events.specs.Causes.{IsLineCause}
+use Rattle.bbm_events.specs.declared.malformed.Malformed.TheVariants.{UnknownWord, BadNumber, MissingField}
+use Rattle.bbm_events.specs.Causes.{IsFieldCause, IsLineCause}
 use Rattle.bbm_events.specs.Heading.{Heading, heading_ok, may_share}
 use Rattle.bbm_events.specs.Spelling.{fields, hex, decimal_value}
 use Rattle.bbm_events.specs.Words.{with_word, kind_word, kinds}
 use Rattle.bbm_events.specs.Fits.{is_pe, is_place, is_value}
 use Rattle.bbm_events.specs.Lines.{◌>>=◌, Fields, passing, exactly, pe_field, kind_field, place_field, value_field}
-use Rattle.bbm_events.specs.Machine.{machine_word, machine_words, has_machine_word, is_tag, is_entry, machine_fits, mark_field, machine_word_field, tag_field, entry_field, start_line, extend_line, entry_line, share_line, machine_after, machine_of, machine_fields, machine_line}
-use Rattle.bbm_events.proofs.Causes.{Ends, then_ends, field_ends, whole_ends, pe_ends, place_ends, value_ends, word_ends}
-use Rattle.bbm_events.proofs.Readings.{bind_ok, field_ok, passing_field_ok, both, place_kept, value_kept}
+use Rattle.bbm_events.specs.Machine.{machine_word, machine_words, has_machine_word, is_tag, is_entry, machine_fits, mark_field, machine_word_field, tag_field, entry_field, start_line, extend_line, share_line, machine_after, machine_of, machine_fields, machine_line}
+use Rattle.bbm_events.proofs.Causes.{Ends, then_ends, field_ends, whole_ends, pe_ends, place_ends, value_ends, count_ends, count_line_ends, word_ends, of_fields}
+use Rattle.bbm_events.proofs.Readings.{bind_ok, field_ok, passing_field_ok, both, pe_kept, count_kept, place_kept, value_kept}
 use Rattle.bbm_events.proofs.Joining.{joined_fields, fields_joined, no_spaces}
-use Rattle.bbm_events.proofs.OneSpelling.{decimal_read, word_once}
-use Rattle.bbm_events.proofs.OneLine.{exactly_once, passing_from, whole_end, field_once, decimal_passing_once, pe_once, kind_once, place_once, value_once}
+use Rattle.bbm_events.proofs.OneSpelling.{word_once}
+use Rattle.bbm_events.proofs.OneLine.{IsRead, as_read, count_line_read_as, exactly_once, passing_from, whole_end, field_once, decimal_field_once, count_once, pe_once, kind_once, place_once, value_once}
 use Rattle.bbm_events.proofs.WordsRead.{kind_word_no_space}
-use Rattle.bbm_events.proofs.Written.{on, field_read, passing_read, pe_read, kind_read, place_read, value_read, one_more, dec, hexa}
+use Rattle.bbm_events.proofs.Written.{on, field_read, passing_read, decimal_field_read, count_read, count_line_read, pe_read, kind_read, place_read, value_read, one_more, dec, hexa}
 
 -- The causes.
 
-entry_ends : (left : Fields) → Ends IsLineCause (entry_field left)
-entry_ends left = field_ends IsLineCause MissingField BadNumber (λ text. passing is_entry (decimal_value text)) left tt tt
+tag_ends : (kind : Kind) (left : Fields) → Ends IsFieldCause (tag_field kind left)
+tag_ends kind left = field_ends IsFieldCause MissingField BadNumber (λ text. passing (is_tag kind) (decimal_value text)) left tt tt
 
-tag_ends : (kind : Kind) (left : Fields) → Ends IsLineCause (tag_field kind left)
-tag_ends kind left = field_ends IsLineCause MissingField BadNumber (λ text. passing (is_tag kind) (decimal_value text)) left tt tt
-
-start_line_ends : (h : Heading) (rest : Fields) → Ends IsLineCause (start_line h rest)
+start_line_ends : (h : Heading) (rest : Fields) → Ends IsFieldCause (start_line h rest)
 start_line_ends h rest =
-    then_ends IsLineCause (pe_field h rest) _ (pe_ends h rest) (λ pe.
-    then_ends IsLineCause (kind_field pe.1) _ (word_ends (with_word kind_word kinds) pe.1) (λ kind.
-    then_ends IsLineCause (tag_field kind.0 kind.1) _ (tag_ends kind.0 kind.1) (λ tag.
-    then_ends IsLineCause (place_field tag.1) _ (place_ends tag.1) (λ place.
-    then_ends IsLineCause (value_field place.1) _ (value_ends place.1) (λ value. whole_ends _ value.1)))))
+    then_ends IsFieldCause (pe_field h rest) _ (pe_ends h rest) (λ pe.
+    then_ends IsFieldCause (kind_field pe.1) _ (word_ends (with_word kind_word kinds) pe.1) (λ kind.
+    then_ends IsFieldCause (tag_field kind.0 kind.1) _ (tag_ends kind.0 kind.1) (λ tag.
+    then_ends IsFieldCause (place_field tag.1) _ (place_ends tag.1) (λ place.
+    then_ends IsFieldCause (value_field place.1) _ (value_ends place.1) (λ value. whole_ends IsFieldCause tt _ value.1)))))
 
-extend_line_ends : (rest : Fields) → Ends IsLineCause (extend_line rest)
+extend_line_ends : (rest : Fields) → Ends IsFieldCause (extend_line rest)
 extend_line_ends rest =
-    then_ends IsLineCause (entry_field rest) _ (entry_ends rest) (λ entry.
-    then_ends IsLineCause (place_field entry.1) _ (place_ends entry.1) (λ place.
-    then_ends IsLineCause (value_field place.1) _ (value_ends place.1) (λ value. whole_ends _ value.1)))
+    then_ends IsFieldCause (entry_field rest) _ (count_ends rest) (λ entry.
+    then_ends IsFieldCause (place_field entry.1) _ (place_ends entry.1) (λ place.
+    then_ends IsFieldCause (value_field place.1) _ (value_ends place.1) (λ value. whole_ends IsFieldCause tt _ value.1)))
 
-entry_line_ends : (step : ℕ → MachineLine) (rest : Fields) → Ends IsLineCause (entry_line step rest)
-entry_line_ends step rest = then_ends IsLineCause (entry_field rest) _ (entry_ends rest) (λ entry. whole_ends _ entry.1)
-
-share_line_ends : (h : Heading) (rest : Fields) → Ends IsLineCause (share_line h rest)
+share_line_ends : (h : Heading) (rest : Fields) → Ends IsFieldCause (share_line h rest)
 share_line_ends h rest =
-    then_ends IsLineCause (entry_field rest) _ (entry_ends rest) (λ entry.
-    then_ends IsLineCause (pe_field h entry.1) _ (pe_ends h entry.1) (λ pe. whole_ends _ pe.1))
+    then_ends IsFieldCause (entry_field rest) _ (count_ends rest) (λ entry.
+    then_ends IsFieldCause (pe_field h entry.1) _ (pe_ends h entry.1) (λ pe. whole_ends IsFieldCause tt _ pe.1))
 
-machine_ends : (h : Heading) (word : MachineWord) (rest : Fields) → Ends IsLineCause (machine_after h word rest)
+machine_ends : (h : Heading) (word : MachineWord) (rest : Fields) → Ends IsFieldCause (machine_after h word rest)
 machine_ends h second.Start rest = start_line_ends h rest
 machine_ends h second.Extend rest = extend_line_ends rest
-machine_ends h second.Combine rest = entry_line_ends Combine rest
+machine_ends h second.Combine rest = count_line_ends Combine rest
 machine_ends h second.Share rest = share_line_ends h rest
-machine_ends h second.Drop rest = entry_line_ends Drop rest
+machine_ends h second.Drop rest = count_line_ends Drop rest
 
 pub machine_of_causes : (h : Heading) (line : List ℕ) → IfErr (machine_of h line) IsLineCause
 unfolding machine_of
 machine_of_causes h line =
-    then_ends IsLineCause (mark_field (fields line)) _ (word_ends (exactly (codes "m")) (fields line)) (λ mark.
-    then_ends IsLineCause (machine_word_field h.version mark.1) _ (word_ends (λ text. passing (has_machine_word h.version) (with_word machine_word machine_words text)) mark.1) (λ word. machine_ends h word.0 word.1))
+    of_fields (machine_of h line)
+    (then_ends IsFieldCause (mark_field (fields line)) _ (word_ends (exactly (codes "m")) (fields line)) (λ mark.
+    then_ends IsFieldCause (machine_word_field h.version mark.1) _ (word_ends (λ text. passing (has_machine_word h.version) (with_word machine_word machine_words text)) mark.1) (λ word. machine_ends h word.0 word.1)))
 
--- What is read of a line: it fits, and its line is the one that is written of it.
+-- What is read of a line: it fits, and its line is the one that is written of it. An entry is read as a count is.
 
-entry_kept : (rest : Fields) {x : ℕ × Fields} → entry_field rest ≡ Ok x → is_entry x.0 ≡ true
-entry_kept rest e = passing_field_ok MissingField BadNumber is_entry decimal_value rest e
-
-entry_once : (rest : Fields) {x : ℕ × Fields} → entry_field rest ≡ Ok x → rest ≡ decimal x.0 ∷ x.1
-entry_once rest e = field_once MissingField BadNumber (λ text. passing is_entry (decimal_value text)) decimal (decimal_passing_once is_entry) rest e
-
-tag_once : (kind : Kind) (rest : Fields) {x : ℕ × Fields} → tag_field kind rest ≡ Ok x → rest ≡ decimal x.0 ∷ x.1
-tag_once kind rest e = field_once MissingField BadNumber (λ text. passing (is_tag kind) (decimal_value text)) decimal (decimal_passing_once (is_tag kind)) rest e
-
--- the step of a line: it fits, and the line's fields are its own
-record IsStep (h : Heading) (all : Fields) (step : MachineLine) : Type 0 where
-  fits : machine_fits h step ≡ true
-  once : all ≡ machine_fields step
-
-as_step : (h : Heading) (all : Fields) (step : MachineLine) {x : MachineLine} → machine_fits h step ≡ true → all ≡ machine_fields step → step ≡ x → IsStep h all x
-as_step h all step fits once is = record { fits = ap (machine_fits h) (sym is) ∙ fits; once = once ∙ ap machine_fields is }
+-- the step of a line's fields
+abbrev IsStep : Heading → Fields → MachineLine → Type 0
+IsStep h all step = IsRead (machine_fits h) machine_fields all step
 
 start_line_ok : (h : Heading) (rest : Fields) {x : MachineLine} → start_line h rest ≡ Ok x → IsStep h (codes "start" ∷ rest) x
 start_line_ok h rest e =
@@ -96,12 +78,12 @@ start_line_ok h rest e =
     let place = bind_ok (place_field tag.0.1) _ tag.2 in
     let value = bind_ok (value_field place.0.1) _ place.2 in
     let end = whole_end _ value.0.1 value.2 in
-    as_step h (codes "start" ∷ rest) (Start pe.0.0 kind.0.0 tag.0.0 place.0.0 value.0.0)
-    (both (both (both (passing_field_ok MissingField BadPe (is_pe h) decimal_value rest pe.1)
+    as_read (machine_fits h) machine_fields (codes "start" ∷ rest) (Start pe.0.0 kind.0.0 tag.0.0 place.0.0 value.0.0)
+    (both (both (both (pe_kept h rest pe.1)
     (passing_field_ok MissingField BadNumber (is_tag kind.0.0) decimal_value kind.0.1 tag.1)) (place_kept tag.0.1 place.0 place.1)) (value_kept place.0.1 value.0 value.1))
     (ap (λ (left : Fields). codes "start" ∷ left) (pe_once h rest pe.1
     ∙ ap (λ (left : Fields). decimal pe.0.0 ∷ left) (kind_once pe.0.1 kind.0 kind.1
-    ∙ ap (λ (left : Fields). kind_word kind.0.0 ∷ left) (tag_once kind.0.0 kind.0.1 tag.1
+    ∙ ap (λ (left : Fields). kind_word kind.0.0 ∷ left) (decimal_field_once BadNumber (is_tag kind.0.0) kind.0.1 tag.1
     ∙ ap (λ (left : Fields). decimal tag.0.0 ∷ left) (place_once tag.0.1 place.0 place.1
     ∙ ap (λ (left : Fields). hex place.0.0 ∷ left) (value_once place.0.1 value.0 value.1
     ∙ ap (λ (left : Fields). hex value.0.0 ∷ left) end.0))))))
@@ -113,23 +95,12 @@ extend_line_ok h rest e =
     let place = bind_ok (place_field entry.0.1) _ entry.2 in
     let value = bind_ok (value_field place.0.1) _ place.2 in
     let end = whole_end _ value.0.1 value.2 in
-    as_step h (codes "extend" ∷ rest) (Extend entry.0.0 place.0.0 value.0.0)
-    (both (both (entry_kept rest entry.1) (place_kept entry.0.1 place.0 place.1)) (value_kept place.0.1 value.0 value.1))
-    (ap (λ (left : Fields). codes "extend" ∷ left) (entry_once rest entry.1
+    as_read (machine_fits h) machine_fields (codes "extend" ∷ rest) (Extend entry.0.0 place.0.0 value.0.0)
+    (both (both (count_kept rest entry.0 entry.1) (place_kept entry.0.1 place.0 place.1)) (value_kept place.0.1 value.0 value.1))
+    (ap (λ (left : Fields). codes "extend" ∷ left) (count_once rest entry.0 entry.1
     ∙ ap (λ (left : Fields). decimal entry.0.0 ∷ left) (place_once entry.0.1 place.0 place.1
     ∙ ap (λ (left : Fields). hex place.0.0 ∷ left) (value_once place.0.1 value.0 value.1
     ∙ ap (λ (left : Fields). hex value.0.0 ∷ left) end.0))))
-    end.1
-
--- a line of an entry alone, by its word
-entry_line_ok : (h : Heading) (word : List ℕ) (step : ℕ → MachineLine) → ((n : ℕ) → machine_fits h (step n) ≡ is_entry n) → ((n : ℕ) → machine_fields (step n) ≡ word ∷ decimal n ∷ [])
-    → (rest : Fields) {x : MachineLine} → entry_line step rest ≡ Ok x → IsStep h (word ∷ rest) x
-entry_line_ok h word step fit spelled rest e =
-    let entry = bind_ok (entry_field rest) _ e in
-    let end = whole_end _ entry.0.1 entry.2 in
-    as_step h (word ∷ rest) (step entry.0.0)
-    (fit entry.0.0 ∙ entry_kept rest entry.1)
-    (ap (λ (left : Fields). word ∷ left) (entry_once rest entry.1 ∙ ap (λ (left : Fields). decimal entry.0.0 ∷ left) end.0) ∙ sym (spelled entry.0.0))
     end.1
 
 share_line_ok : (h : Heading) (rest : Fields) {x : MachineLine} → may_share h.version ≡ true → share_line h rest ≡ Ok x → IsStep h (codes "share" ∷ rest) x
@@ -137,9 +108,9 @@ share_line_ok h rest shares e =
     let entry = bind_ok (entry_field rest) _ e in
     let pe = bind_ok (pe_field h entry.0.1) _ entry.2 in
     let end = whole_end _ pe.0.1 pe.2 in
-    as_step h (codes "share" ∷ rest) (Share entry.0.0 pe.0.0)
-    (both (both shares (entry_kept rest entry.1)) (passing_field_ok MissingField BadPe (is_pe h) decimal_value entry.0.1 pe.1))
-    (ap (λ (left : Fields). codes "share" ∷ left) (entry_once rest entry.1
+    as_read (machine_fits h) machine_fields (codes "share" ∷ rest) (Share entry.0.0 pe.0.0)
+    (both (both shares (count_kept rest entry.0 entry.1)) (pe_kept h entry.0.1 pe.1))
+    (ap (λ (left : Fields). codes "share" ∷ left) (count_once rest entry.0 entry.1
     ∙ ap (λ (left : Fields). decimal entry.0.0 ∷ left) (pe_once h entry.0.1 pe.1
     ∙ ap (λ (left : Fields). decimal pe.0.0 ∷ left) end.0)))
     end.1
@@ -147,9 +118,9 @@ share_line_ok h rest shares e =
 machine_after_ok : (h : Heading) (word : MachineWord) (rest : Fields) {x : MachineLine} → has_machine_word h.version word ≡ true → machine_after h word rest ≡ Ok x → IsStep h (machine_word word ∷ rest) x
 machine_after_ok h second.Start rest has e = start_line_ok h rest e
 machine_after_ok h second.Extend rest has e = extend_line_ok h rest e
-machine_after_ok h second.Combine rest has e = entry_line_ok h (codes "combine") Combine (λ n. refl) (λ n. refl) rest e
+machine_after_ok h second.Combine rest has e = count_line_read_as (machine_fits h) machine_fields (codes "combine") Combine (λ n. refl) (λ n. refl) rest e
 machine_after_ok h second.Share rest has e = share_line_ok h rest has e
-machine_after_ok h second.Drop rest has e = entry_line_ok h (codes "drop") Drop (λ n. refl) (λ n. refl) rest e
+machine_after_ok h second.Drop rest has e = count_line_read_as (machine_fits h) machine_fields (codes "drop") Drop (λ n. refl) (λ n. refl) rest e
 
 mark_once : (rest : Fields) {x : List ℕ × Fields} → mark_field rest ≡ Ok x → rest ≡ codes "m" ∷ x.1
 mark_once rest {x = x} e =
@@ -192,17 +163,7 @@ tag_below Ttbr1 n e = let below = ltb-true n (2 ^ 16) e in omega (arith, below)
 
 tag_read : (kind : Kind) (n : ℕ) (rest : Fields) → is_tag kind n ≡ true → tag_field kind (decimal n ∷ rest) ≡ Ok (n, rest)
 tag_read kind n rest fits =
-    field_read MissingField BadNumber (λ text. passing (is_tag kind) (decimal_value text)) (decimal n) rest
-    (passing_read (is_tag kind) (decimal_value (decimal n)) (decimal_read n (tag_below kind n fits)) fits)
-
-entry_read : (n : ℕ) (rest : Fields) → is_entry n ≡ true → entry_field (decimal n ∷ rest) ≡ Ok (n, rest)
-entry_read n rest fits =
-    let below = ltb-true n (2 ^ 32) fits in
-    field_read MissingField BadNumber (λ text. passing is_entry (decimal_value text)) (decimal n) rest
-    (passing_read is_entry (decimal_value (decimal n)) (decimal_read n (omega (arith, below))) fits)
-
-entry_line_read : (step : ℕ → MachineLine) (n : ℕ) → is_entry n ≡ true → entry_line step (decimal n ∷ []) ≡ Ok (step n)
-entry_line_read step n fits = on (entry_field (decimal n ∷ [])) _ (entry_read n [] fits)
+    decimal_field_read BadNumber (is_tag kind) n rest (tag_below kind n fits) fits
 
 -- what follows `m`, read
 abbrev read_step : Heading → Fields → Result MachineLine Malformed
@@ -226,17 +187,17 @@ step_read h (Start pe kind tag place value) ok fits =
 step_read h (Extend entry place value) ok fits =
     let all = and_parts (is_entry entry && is_place place) (is_value value) fits in
     let front = and_parts (is_entry entry) (is_place place) all.0 in
-    on (entry_field (decimal entry ∷ hex place ∷ hex value ∷ [])) _ (entry_read entry (hex place ∷ hex value ∷ []) front.0)
+    on (entry_field (decimal entry ∷ hex place ∷ hex value ∷ [])) _ (count_read entry (hex place ∷ hex value ∷ []) front.0)
     ∙ on (place_field (hex place ∷ hex value ∷ [])) _ (place_read place (hex value ∷ []) front.1)
     ∙ on (value_field (hex value ∷ [])) _ (value_read value [] all.1)
-step_read h (Combine entry) ok fits = entry_line_read Combine entry fits
+step_read h (Combine entry) ok fits = count_line_read Combine entry fits
 step_read h (Share entry pe) ok fits =
     let all = and_parts (may_share h.version && is_entry entry) (is_pe h pe) fits in
     let front = and_parts (may_share h.version) (is_entry entry) all.0 in
     on (machine_word_field h.version (codes "share" ∷ decimal entry ∷ decimal pe ∷ [])) _ (share_known h.version (decimal entry ∷ decimal pe ∷ []) front.0)
-    ∙ on (entry_field (decimal entry ∷ decimal pe ∷ [])) _ (entry_read entry (decimal pe ∷ []) front.1)
+    ∙ on (entry_field (decimal entry ∷ decimal pe ∷ [])) _ (count_read entry (decimal pe ∷ []) front.1)
     ∙ on (pe_field h (decimal pe ∷ [])) _ (pe_read h pe [] ok all.1)
-step_read h (Drop entry) ok fits = entry_line_read Drop entry fits
+step_read h (Drop entry) ok fits = count_line_read Drop entry fits
 
 step_no_spaces : (step : MachineLine) → no_spaces (machine_fields step) ≡ true
 step_no_spaces (Start pe kind tag place value) =

@@ -22,9 +22,9 @@ use Rattle.bbm_events.specs.Label.{is_label}
 use Rattle.bbm_events.specs.Spelling.{fields, hex, decimal_value, hex_value}
 use Rattle.bbm_tlbi_scope.specs.Operations.{has_operand}
 use Rattle.bbm_events.specs.Words.{with_word, keyword_word, keywords, cnp_word, cnps, kind_word, kinds, reg_word, regs, asid_from_word, asid_froms, dsb_word, dsbs, op_word, ops}
-use Rattle.bbm_events.specs.Fits.{is_pe, is_page, is_place, is_lock, is_count, is_root_page}
-use Rattle.bbm_events.specs.Lines.{Fields, FieldRead, next_field, passing, checked, version_field, cnp_field, cnp_fields, header_field, hyp_fields, kernel_fields, world_fields, header_of, item_of, line_after, line_field, pe_field, page_field, place_field, root_page_field, value_field, operand_field, lock_field, lock_value, root_lock, root_lock_field, count_field, kind_field, dsb_field, op_field, reg_field, whole, found, is_marked, label_field, label_fields, event_item, pe_alone, pe_and, pe_and_two, root_line, tlbi_line, end_line, header_fields, header_line, lock_text, operand_fields, item_fields, item_line, magic_field, exactly}
-use Rattle.bbm_events.proofs.Readings.{bind_ok, field_ok}
+use Rattle.bbm_events.specs.Fits.{item_fits, is_pe, is_page, is_place, is_lock, is_count, is_root_page}
+use Rattle.bbm_events.specs.Lines.{Fields, FieldRead, next_field, passing, checked, version_field, cnp_field, cnp_fields, header_field, hyp_fields, kernel_fields, world_fields, header_of, item_of, line_after, line_field, pe_field, page_field, place_field, root_page_field, value_field, operand_field, lock_field, lock_value, root_lock, root_lock_field, count_field, kind_field, dsb_field, op_field, reg_field, whole, found, is_marked, label_field, label_fields, event_item, pe_alone, pe_and, pe_and_two, root_line, tlbi_line, count_line, header_fields, header_line, lock_text, operand_fields, item_fields, item_line, magic_field, exactly}
+use Rattle.bbm_events.proofs.Readings.{bind_ok, field_ok, count_kept}
 use Rattle.bbm_events.proofs.Joining.{joined_fields}
 use Rattle.bbm_events.proofs.OneSpelling.{decimal_once, hex_once, word_once}
 
@@ -54,8 +54,15 @@ decimal_passing_once test text n e = decimal_once text (passing_from test (decim
 hex_passing_once : (test : ℕ → Bool) (text : List ℕ) (n : ℕ) → passing test (hex_value text) ≡ Some n → text ≡ hex n
 hex_passing_once test text n e = hex_once text (passing_from test (hex_value text) e)
 
+-- the fields of numbers and of words
+pub decimal_field_once : (cause : Malformed) (test : ℕ → Bool) (rest : Fields) {x : ℕ × Fields} → line_field cause (λ text. passing test (decimal_value text)) rest ≡ Ok x → rest ≡ decimal x.0 ∷ x.1
+decimal_field_once cause test rest e = field_once MissingField cause (λ text. passing test (decimal_value text)) decimal (decimal_passing_once test) rest e
+
+pub word_field_once : {A : Type 0} (word : A → List ℕ) (values : List A) (rest : Fields) {x : A × Fields} → line_field UnknownWord (with_word word values) rest ≡ Ok x → rest ≡ word x.0 ∷ x.1
+word_field_once word values rest e = field_once MissingField UnknownWord (with_word word values) word (λ text v f. word_once word values text f) rest e
+
 pub pe_once : (h : Heading) (rest : Fields) {x : ℕ × Fields} → pe_field h rest ≡ Ok x → rest ≡ decimal x.0 ∷ x.1
-pe_once h rest e = field_once MissingField BadPe (λ text. passing (is_pe h) (decimal_value text)) decimal (decimal_passing_once (is_pe h)) rest e
+pe_once h rest e = decimal_field_once BadPe (is_pe h) rest e
 
 page_once : (rest : Fields) (x : ℕ × Fields) → page_field rest ≡ Ok x → rest ≡ hex x.0 ∷ x.1
 page_once rest x e = field_once MissingField BadAddress (λ text. passing is_page (hex_value text)) hex (hex_passing_once is_page) rest e
@@ -70,10 +77,29 @@ pub value_once : (rest : Fields) (x : ℕ × Fields) → value_field rest ≡ Ok
 value_once rest x e = field_once MissingField BadNumber hex_value hex (λ text n f. hex_once text f) rest e
 
 lock_once : (rest : Fields) (x : ℕ × Fields) → lock_field rest ≡ Ok x → rest ≡ decimal x.0 ∷ x.1
-lock_once rest x e = field_once MissingField BadNumber lock_value decimal (decimal_passing_once is_lock) rest e
+lock_once rest x e = decimal_field_once BadNumber is_lock rest e
 
-count_once : (rest : Fields) (x : ℕ × Fields) → count_field rest ≡ Ok x → rest ≡ decimal x.0 ∷ x.1
-count_once rest x e = field_once MissingField BadNumber (λ text. passing is_count (decimal_value text)) decimal (decimal_passing_once is_count) rest e
+pub count_once : (rest : Fields) (x : ℕ × Fields) → count_field rest ≡ Ok x → rest ≡ decimal x.0 ∷ x.1
+count_once rest x e = decimal_field_once BadNumber is_count rest e
+
+-- What the fields of a line are read as: it fits, and they are its own.
+pub record IsRead {A : Type 0} (fit : A → Bool) (spelled : A → Fields) (all : Fields) (x : A) : Type 0 where
+  pub fits : fit x ≡ true
+  pub once : all ≡ spelled x
+
+pub as_read : {A : Type 0} (fit : A → Bool) (spelled : A → Fields) (all : Fields) (value : A) {x : A} → fit value ≡ true → all ≡ spelled value → value ≡ x → IsRead fit spelled all x
+as_read fit spelled all value fits once is = record { fits = ap fit (sym is) ∙ fits; once = once ∙ ap spelled is }
+
+-- a line of a count alone, by the words before it
+pub count_line_read_as : {A : Type 0} (fit : A → Bool) (spelled : A → Fields) (word : List ℕ) (value : ℕ → A) → ((n : ℕ) → fit (value n) ≡ is_count n) → ((n : ℕ) → spelled (value n) ≡ word ∷ decimal n ∷ [])
+    → (rest : Fields) {x : A} → count_line value rest ≡ Ok x → IsRead fit spelled (word ∷ rest) x
+count_line_read_as fit spelled word value fits once rest e =
+    let count = bind_ok (count_field rest) _ e in
+    let end = whole_end _ count.0.1 count.2 in
+    as_read fit spelled (word ∷ rest) (value count.0.0)
+    (fits count.0.0 ∙ count_kept rest count.0 count.1)
+    (ap (λ (left : Fields). word ∷ left) (count_once rest count.0 count.1 ∙ ap (λ (left : Fields). decimal count.0.0 ∷ left) end.0) ∙ sym (once count.0.0))
+    end.1
 
 lock_text_once : (text : List ℕ) (lock : Option ℕ) → root_lock text ≡ Some lock → text ≡ lock_text lock
 lock_text_once text lock e = by (bytes_eq text (codes "-")) (lock_value text) refl refl e
@@ -87,10 +113,10 @@ root_lock_once : (rest : Fields) (x : Option ℕ × Fields) → root_lock_field 
 root_lock_once rest x e = field_once MissingField BadNumber root_lock lock_text lock_text_once rest e
 
 pub kind_once : (rest : Fields) (x : Kind × Fields) → kind_field rest ≡ Ok x → rest ≡ kind_word x.0 ∷ x.1
-kind_once rest x e = field_once MissingField UnknownWord (with_word kind_word kinds) kind_word (λ text v f. word_once kind_word kinds text f) rest e
+kind_once rest x e = word_field_once kind_word kinds rest e
 
 dsb_once : (rest : Fields) (x : Dsb × Fields) → dsb_field rest ≡ Ok x → rest ≡ dsb_word x.0 ∷ x.1
-dsb_once rest x e = field_once MissingField UnknownWord (with_word dsb_word dsbs) dsb_word (λ text v f. word_once dsb_word dsbs text f) rest e
+dsb_once rest x e = word_field_once dsb_word dsbs rest e
 
 op_once : (version : ℕ) (rest : Fields) (x : TlbiOp × Fields) → op_field version rest ≡ Ok x → rest ≡ op_word x.0 ∷ x.1
 op_once version rest x e =
@@ -98,7 +124,7 @@ op_once version rest x e =
     (λ text v f. word_once op_word ops text (passing_from (has_op version) (with_word op_word ops text) f)) rest e
 
 reg_once : (rest : Fields) (x : Reg × Fields) → reg_field rest ≡ Ok x → rest ≡ reg_word x.0 ∷ x.1
-reg_once rest x e = field_once MissingField UnknownWord (with_word reg_word regs) reg_word (λ text v f. word_once reg_word regs text f) rest e
+reg_once rest x e = word_field_once reg_word regs rest e
 
 operand_once : (op : TlbiOp) (rest after : Fields) (x : ℕ × Fields) → operand_field op rest ≡ Ok x → x.1 ≡ after → rest ≡ operand_fields op x.0 ++ after
 operand_once op rest after x e end = by (has_operand op) e
@@ -205,14 +231,6 @@ tlbi_line_once h rest e =
     ∙ ap (λ (left : Fields). op_word op.0.0 ∷ left) (operand_once op.0.0 op.0.1 (label_fields end.0) xt.0 xt.1 end.1)))
     refl end.2
 
-end_line_once : (rest : Fields) {x : Item} → end_line rest ≡ Ok x → codes "end" ∷ rest ≡ item_fields x
-end_line_once rest e =
-    let count = bind_ok (count_field rest) _ e in
-    let end = whole_end _ count.0.1 count.2 in
-    as_item (codes "end") rest (decimal count.0.0 ∷ []) (item.End count.0.0)
-    (count_once rest count.0 count.1 ∙ ap (λ (left : Fields). decimal count.0.0 ∷ left) end.0)
-    refl end.1
-
 line_once : (h : Heading) (word : Keyword) (rest : Fields) {x : Item} → line_after h word rest ≡ Ok x → keyword_word word ∷ rest ≡ item_fields x
 line_once h first.Init rest e = let l = pe_and_once h page_field event.Init hex page_once rest e in as_item (codes "init") rest (decimal l.0 ∷ hex l.1 ∷ label_fields l.2) (item.Event (event.Init l.0 l.1) l.2) l.3 refl l.4
 line_once h first.Null rest e = let l = pe_and_once h page_field event.Null hex page_once rest e in as_item (codes "null") rest (decimal l.0 ∷ hex l.1 ∷ label_fields l.2) (item.Event (event.Null l.0 l.1) l.2) l.3 refl l.4
@@ -226,16 +244,13 @@ line_once h first.Tlbi rest e = tlbi_line_once h rest e
 line_once h first.Msr rest e = let l = pe_and_two_once h reg_field value_field event.Msr reg_word hex reg_once value_once rest e in as_item (codes "msr") rest (decimal l.0 ∷ reg_word l.1 ∷ hex l.2 ∷ label_fields l.3) (item.Event (event.Msr l.0 l.1 l.2) l.3) l.4 refl l.5
 line_once h first.Lock rest e = let l = pe_and_once h lock_field event.Lock decimal lock_once rest e in as_item (codes "lock") rest (decimal l.0 ∷ decimal l.1 ∷ label_fields l.2) (item.Event (event.Lock l.0 l.1) l.2) l.3 refl l.4
 line_once h first.Unlock rest e = let l = pe_and_once h lock_field event.Unlock decimal lock_once rest e in as_item (codes "unlock") rest (decimal l.0 ∷ decimal l.1 ∷ label_fields l.2) (item.Event (event.Unlock l.0 l.1) l.2) l.3 refl l.4
-line_once h first.End rest e = end_line_once rest e
-
-keyword_once : (rest : Fields) {x : Keyword × Fields} → line_field UnknownWord (with_word keyword_word keywords) rest ≡ Ok x → rest ≡ keyword_word x.0 ∷ x.1
-keyword_once rest e = field_once MissingField UnknownWord (with_word keyword_word keywords) keyword_word (λ text v f. word_once keyword_word keywords text f) rest e
+line_once h first.End rest e = (count_line_read_as (item_fits h) item_fields (codes "end") item.End (λ n. refl) (λ n. refl) rest e).once
 
 pub item_one_line : (h : Heading) (line : List ℕ) (x : Item) → item_of h line ≡ Ok x → line ≡ item_line x
 unfolding item_of item_line
 item_one_line h line x e =
     let word = bind_ok (line_field UnknownWord (with_word keyword_word keywords) (fields line)) _ e in
-    joined_fields line (item_fields x) (keyword_once (fields line) word.1 ∙ line_once h word.0.0 word.0.1 word.2)
+    joined_fields line (item_fields x) (word_field_once keyword_word keywords (fields line) word.1 ∙ line_once h word.0.0 word.0.1 word.2)
 
 -- The header.
 

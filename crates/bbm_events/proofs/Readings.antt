@@ -19,7 +19,7 @@ use Rattle.bbm_events.specs.Label.{is_label}
 use Rattle.bbm_events.specs.Spelling.{fields, hex, decimal_value, hex_value, where_spelled}
 use Rattle.bbm_events.specs.Words.{with_word, asid_from_word, asid_froms, op_word, ops}
 use Rattle.bbm_events.specs.Fits.{fits_heading, item_fits, is_pe, is_page, is_place, is_value, is_lock, is_count, is_root_page, is_root_lock, is_operand, label_fits}
-use Rattle.bbm_events.specs.Lines.{◌>>=◌, Fields, magic_field, version_field, cnp_field, header_field, FieldRead, found, next_field, passing, checked, hyp_fields, kernel_fields, world_fields, header_of, item_of, line_after, keyword_field, pe_field, page_field, place_field, root_page_field, value_field, operand_field, lock_field, lock_value, root_lock, root_lock_field, count_field, kind_field, dsb_field, op_field, reg_field, whole, is_marked, label_field, event_item, pe_alone, pe_and, pe_and_two, root_line, tlbi_line, end_line}
+use Rattle.bbm_events.specs.Lines.{◌>>=◌, Fields, magic_field, version_field, cnp_field, header_field, FieldRead, found, next_field, passing, checked, hyp_fields, kernel_fields, world_fields, header_of, item_of, line_after, keyword_field, pe_field, page_field, place_field, root_page_field, value_field, operand_field, lock_field, lock_value, root_lock, root_lock_field, count_field, kind_field, dsb_field, op_field, reg_field, whole, is_marked, label_field, event_item, pe_alone, pe_and, pe_and_two, root_line, tlbi_line, count_line}
 
 -- where two steps give a value, the first gave one that leads the second to it
 pub bind_ok : {A B : Type 0} (r : Result A Malformed) (f : A → Result B Malformed) {y : B} → (r >>= f) ≡ Ok y → (x : A) × (r ≡ Ok x) × (f x ≡ Ok y)
@@ -90,6 +90,12 @@ item_ok h event rest e =
     let label = bind_ok (label_field h.version rest) _ e in
     (label.0.0, label_kept h.version rest label.1, whole_ok _ _ label.2)
 
+pub pe_kept : (h : Heading) (rest : Fields) {x : ℕ × Fields} → pe_field h rest ≡ Ok x → is_pe h x.0 ≡ true
+pe_kept h rest e = passing_field_ok MissingField BadPe (is_pe h) decimal_value rest e
+
+pub count_kept : (rest : Fields) (x : ℕ × Fields) → count_field rest ≡ Ok x → is_count x.0 ≡ true
+count_kept rest x e = passing_field_ok MissingField BadNumber is_count decimal_value rest e
+
 -- the shapes of lines
 
 pub pe_alone_fits : (h : Heading) (event : ℕ → Event) → ((pe : ℕ) → is_pe h pe ≡ true → fits_heading h (event pe) ≡ true)
@@ -97,7 +103,7 @@ pub pe_alone_fits : (h : Heading) (event : ℕ → Event) → ((pe : ℕ) → is
 pe_alone_fits h event fit rest e =
     let pe = bind_ok (pe_field h rest) _ e in
     let is = item_ok h _ _ pe.2 in
-    rw (← is.2) (both (fit pe.0.0 (passing_field_ok MissingField BadPe (is_pe h) decimal_value rest pe.1)) is.1)
+    rw (← is.2) (both (fit pe.0.0 (pe_kept h rest pe.1)) is.1)
 
 pub pe_and_fits : {A : Type 0} (h : Heading) (second : Fields → FieldRead A) (event : ℕ → A → Event) (Good : A → Type 0)
     → ((rest : Fields) (x : A × Fields) → second rest ≡ Ok x → Good x.0)
@@ -107,7 +113,7 @@ pe_and_fits h second event Good good fit rest e =
     let pe = bind_ok (pe_field h rest) _ e in
     let a = bind_ok (second pe.0.1) _ pe.2 in
     let is = item_ok h _ _ a.2 in
-    rw (← is.2) (both (fit pe.0.0 a.0.0 (passing_field_ok MissingField BadPe (is_pe h) decimal_value rest pe.1) (good pe.0.1 a.0 a.1)) is.1)
+    rw (← is.2) (both (fit pe.0.0 a.0.0 (pe_kept h rest pe.1) (good pe.0.1 a.0 a.1)) is.1)
 
 pub pe_and_two_fits : {A B : Type 0} (h : Heading) (second : Fields → FieldRead A) (third : Fields → FieldRead B) (event : ℕ → A → B → Event) (Good : A → Type 0) (Fine : B → Type 0)
     → ((rest : Fields) (x : A × Fields) → second rest ≡ Ok x → Good x.0)
@@ -119,7 +125,7 @@ pe_and_two_fits h second third event Good Fine good fine fit rest e =
     let a = bind_ok (second pe.0.1) _ pe.2 in
     let b = bind_ok (third a.0.1) _ a.2 in
     let is = item_ok h _ _ b.2 in
-    rw (← is.2) (both (fit pe.0.0 a.0.0 b.0.0 (passing_field_ok MissingField BadPe (is_pe h) decimal_value rest pe.1) (good pe.0.1 a.0 a.1) (fine a.0.1 b.0 b.1)) is.1)
+    rw (← is.2) (both (fit pe.0.0 a.0.0 b.0.0 (pe_kept h rest pe.1) (good pe.0.1 a.0 a.1) (fine a.0.1 b.0 b.1)) is.1)
 
 root_lock_kept : (text : List ℕ) {o : Option ℕ} → root_lock text ≡ Some o → is_root_lock o ≡ true
 root_lock_kept text {o = o} e = by_dash (bytes_eq text (codes "-")) (lock_value text) refl e
@@ -137,7 +143,7 @@ root_line_fits h rest e =
     let page = bind_ok (root_page_field h kind.0.0 lock.0.1) _ lock.2 in
     let is = item_ok h _ _ page.2 in
     let lock_read = field_ok MissingField BadNumber root_lock kind.0.1 lock.1 in
-    rw (← is.2) (both (both (both (passing_field_ok MissingField BadPe (is_pe h) decimal_value rest pe.1) (root_lock_kept lock_read.0 lock_read.2))
+    rw (← is.2) (both (both (both (pe_kept h rest pe.1) (root_lock_kept lock_read.0 lock_read.2))
     (passing_field_ok MissingField BadAddress (is_root_page h.world kind.0.0) hex_value lock.0.1 page.1)) is.1)
 
 operand_kept : (op : TlbiOp) (rest : Fields) {x : ℕ × Fields} → operand_field op rest ≡ Ok x → is_operand op x.0 ≡ true
@@ -153,14 +159,14 @@ tlbi_line_fits h rest e =
     let op = bind_ok (op_field h.version pe.0.1) _ pe.2 in
     let xt = bind_ok (operand_field op.0.0 op.0.1) _ op.2 in
     let is = item_ok h _ _ xt.2 in
-    rw (← is.2) (both (both (both (passing_field_ok MissingField BadPe (is_pe h) decimal_value rest pe.1)
+    rw (← is.2) (both (both (both (pe_kept h rest pe.1)
     (passing_field_ok MissingField UnknownWord (has_op h.version) (with_word op_word ops) pe.0.1 op.1)) (operand_kept op.0.0 op.0.1 xt.1)) is.1)
 
-end_line_fits : (h : Heading) (rest : Fields) {x : Item} → end_line rest ≡ Ok x → item_fits h x ≡ true
+end_line_fits : (h : Heading) (rest : Fields) {x : Item} → count_line item.End rest ≡ Ok x → item_fits h x ≡ true
 end_line_fits h rest e =
     let count = bind_ok (count_field rest) _ e in
     let is = whole_ok _ _ count.2 in
-    rw (← is) (passing_field_ok MissingField BadNumber is_count decimal_value rest count.1)
+    rw (← is) (count_kept rest count.0 count.1)
 
 page_kept : (rest : Fields) (x : ℕ × Fields) → page_field rest ≡ Ok x → is_page x.0 ≡ true
 page_kept rest x e = passing_field_ok MissingField BadAddress is_page hex_value rest e

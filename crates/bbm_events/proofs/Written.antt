@@ -27,7 +27,7 @@ use Rattle.bbm_events.specs.Spelling.{fields, joined, hex, decimal_value, hex_va
 use Rattle.bbm_tlbi_scope.specs.Operations.{has_operand}
 use Rattle.bbm_events.specs.Words.{with_word, keyword_word, keywords, cnp_word, cnps, kind_word, kinds, reg_word, regs, asid_from_word, asid_froms, dsb_word, dsbs, op_word, ops}
 use Rattle.bbm_events.specs.Fits.{fits_heading, item_fits, is_pe, is_page, is_place, is_value, is_lock, is_count, is_root_page, is_root_lock, is_operand, label_fits}
-use Rattle.bbm_events.specs.Lines.{◌>>=◌, Fields, FieldRead, found, next_field, passing, checked, version_field, cnp_field, cnp_fields, header_field, world_fields, header_of, item_of, line_after, line_field, pe_field, page_field, place_field, root_page_field, value_field, operand_field, lock_field, lock_value, root_lock, root_lock_field, count_field, kind_field, dsb_field, op_field, reg_field, label_value, label_field, label_fields, event_item, pe_alone, pe_and, pe_and_two, root_line, tlbi_line, header_fields, header_line, lock_text, operand_fields, event_fields, item_fields, item_line, magic_field}
+use Rattle.bbm_events.specs.Lines.{◌>>=◌, Fields, FieldRead, found, next_field, passing, checked, version_field, cnp_field, cnp_fields, header_field, world_fields, header_of, item_of, line_after, line_field, pe_field, page_field, place_field, root_page_field, value_field, operand_field, lock_field, lock_value, root_lock, root_lock_field, count_field, kind_field, dsb_field, op_field, reg_field, label_value, label_field, label_fields, event_item, pe_alone, pe_and, pe_and_two, root_line, tlbi_line, count_line, header_fields, header_line, lock_text, operand_fields, event_fields, item_fields, item_line, magic_field}
 use Rattle.bbm_events.proofs.Joining.{no_space, no_spaces, fields_joined, digits_no_space}
 use Rattle.bbm_events.proofs.OneSpelling.{decimal_read, hex_read}
 use Rattle.bbm_events.proofs.Labels.{label_no_space}
@@ -77,10 +77,14 @@ aligned_below n aligned e = let below = ltb-true n (2 ^ 48) (and_parts (nat_lt n
 
 -- The fields of event lines.
 
+pub decimal_field_read : (cause : Malformed) (test : ℕ → Bool) (n : ℕ) (rest : Fields) → n < 2 ^ 64 → test n ≡ true → line_field cause (λ text. passing test (decimal_value text)) (decimal n ∷ rest) ≡ Ok (n, rest)
+decimal_field_read cause test n rest below fits =
+    field_read MissingField cause (λ text. passing test (decimal_value text)) (decimal n) rest
+    (passing_read test (decimal_value (decimal n)) (decimal_read n below) fits)
+
 pub pe_read : (h : Heading) (pe : ℕ) (rest : Fields) → heading_ok h ≡ true → is_pe h pe ≡ true → pe_field h (decimal pe ∷ rest) ≡ Ok (pe, rest)
 pe_read h pe rest ok fits =
-    field_read MissingField BadPe (λ text. passing (is_pe h) (decimal_value text)) (decimal pe) rest
-    (passing_read (is_pe h) (decimal_value (decimal pe)) (decimal_read pe (pe_below h pe ok fits)) fits)
+    decimal_field_read BadPe (is_pe h) pe rest (pe_below h pe ok fits) fits
 
 address_read : (test : ℕ → Bool) (n : ℕ) (rest : Fields) → n < 2 ^ 64 → test n ≡ true → line_field BadAddress (λ text. passing test (hex_value text)) (hex n ∷ rest) ≡ Ok (n, rest)
 address_read test n rest below fits =
@@ -110,11 +114,13 @@ lock_value_read n fits = passing_read is_lock (decimal_value (decimal n)) (decim
 lock_read : (n : ℕ) (rest : Fields) → is_lock n ≡ true → lock_field (decimal n ∷ rest) ≡ Ok (n, rest)
 lock_read n rest fits = field_read MissingField BadNumber lock_value (decimal n) rest (lock_value_read n fits)
 
-count_read : (n : ℕ) (rest : Fields) → is_count n ≡ true → count_field (decimal n ∷ rest) ≡ Ok (n, rest)
+pub count_read : (n : ℕ) (rest : Fields) → is_count n ≡ true → count_field (decimal n ∷ rest) ≡ Ok (n, rest)
 count_read n rest fits =
     let below = ltb-true n (2 ^ 32) fits in
-    field_read MissingField BadNumber (λ text. passing is_count (decimal_value text)) (decimal n) rest
-    (passing_read is_count (decimal_value (decimal n)) (decimal_read n (omega (arith, below))) fits)
+    decimal_field_read BadNumber is_count n rest (omega (arith, below)) fits
+
+pub count_line_read : {A : Type 0} (value : ℕ → A) (n : ℕ) → is_count n ≡ true → count_line value (decimal n ∷ []) ≡ Ok (value n)
+count_line_read value n fits = on (count_field (decimal n ∷ [])) _ (count_read n [] fits)
 
 -- no number is spelled `-`, which stands for no lock
 dash_is_no_decimal : decimal_value (codes "-") ≡ None
@@ -321,7 +327,7 @@ item_fields_read : (h : Heading) (x : Item) → heading_ok h ≡ true → item_f
 item_fields_read h (item.Event event label) ok fits =
     let parts = and_parts (fits_heading h event) (label_fits h.version label) fits in
     event_read h event label ok parts.0 parts.1
-item_fields_read h (item.End count) ok fits = on (count_field (decimal count ∷ [])) _ (count_read count [] fits)
+item_fields_read h (item.End count) ok fits = count_line_read item.End count fits
 
 pub item_written_is_read : (h : Heading) (x : Item) → heading_ok h ≡ true → item_fits h x ≡ true → item_of h (item_line x) ≡ Ok x
 unfolding item_of item_line

@@ -11,13 +11,17 @@ IsHeaderCause NoMagic = ⊤
 IsHeaderCause BadHeader = ⊤
 IsHeaderCause _ = ⊥
 
--- the causes of a line after it, by its own bytes
+-- the causes of a field of a line after it
+abbrev pub IsFieldCause : Malformed → Type 0
+IsFieldCause UnknownWord = ⊤
+IsFieldCause BadNumber = ⊤
+IsFieldCause BadPe = ⊤
+IsFieldCause BadAddress = ⊤
+IsFieldCause MissingField = ⊤
+IsFieldCause ExtraField = ⊤
+IsFieldCause _ = ⊥
+
+-- the causes of such a line, by its own bytes: those of its fields, and that of a label
 abbrev pub IsLineCause : Malformed → Type 0
-IsLineCause UnknownWord = ⊤
-IsLineCause BadNumber = ⊤
-IsLineCause BadPe = ⊤
-IsLineCause BadAddress = ⊤
-IsLineCause MissingField = ⊤
-IsLineCause ExtraField = ⊤
 IsLineCause BadLabel = ⊤
-IsLineCause _ = ⊥
+IsLineCause cause = IsFieldCause cause

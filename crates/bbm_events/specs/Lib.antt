@@ -1,4 +1,5 @@
 pub mod Causes
+pub mod Certificate
 pub mod Fits
 pub mod Heading
 pub mod Label

@@ -236,11 +236,11 @@ tlbi_line h rest = do
   xt ← operand_field op.0 op.1
   event_item h (event.Tlbi pe.0 op.0 xt.0) xt.1
 
--- `COUNT`, which no label follows
-abbrev pub end_line : Fields → Result Item Malformed
-end_line rest = do
+-- `COUNT` alone, which no label follows
+abbrev pub count_line : {A : Type 0} → (ℕ → A) → Fields → Result A Malformed
+count_line value rest = do
   count ← count_field rest
-  whole (item.End count.0) count.1
+  whole (value count.0) count.1
 
 -- The table of lines: what follows each first word.
 abbrev pub line_after : Heading → Keyword → Fields → Result Item Malformed
@@ -256,7 +256,7 @@ line_after h first.Tlbi = tlbi_line h
 line_after h first.Msr = pe_and_two h reg_field value_field event.Msr
 line_after h first.Lock = pe_and h lock_field event.Lock
 line_after h first.Unlock = pe_and h lock_field event.Unlock
-line_after h first.End = end_line
+line_after h first.End = count_line item.End
 
 -- the first word of a line; a line always has a first field, if an empty one
 abbrev pub keyword_field : Fields → FieldRead Keyword

@@ -3,9 +3,11 @@
 ghost use Rattle.std.specs.Prelude.{◌≡◌, ℕ, List, true, Ok, IfErr};
 ghost use Rattle.bbm_events.specs.declared.event.Item.{Item};
 ghost use Rattle.bbm_events.specs.declared.machine.MachineLine.{MachineLine};
+ghost use Rattle.bbm_events.specs.declared.certificate.ClaimItem.{ClaimItem};
+ghost use Rattle.bbm_events.specs.Certificate.{certificate_line, certificate_of, claim_of, claim_fits, claim_line};
 ghost use Rattle.bbm_events.specs.Machine.{machine_of, machine_fits, machine_line};
 ghost use Rattle.bbm_events.specs.Heading.{Heading, heading_ok};
-ghost use Rattle.bbm_events.specs.Causes.{IsHeaderCause, IsLineCause};
+ghost use Rattle.bbm_events.specs.Causes.{IsHeaderCause, IsFieldCause, IsLineCause};
 ghost use Rattle.bbm_events.specs.Fits.{item_fits};
 ghost use Rattle.bbm_events.specs.Lines.{header_of, item_of, header_line, item_line};
 
@@ -69,4 +71,32 @@ pub fn law_machine_written_is_read()
 #[tactic(auto, using(crate::proofs::MachineLines::machine_one_line))]
 pub fn law_machine_one_line()
     ensures { (heading : Heading) (line : List ℕ) (step : MachineLine) → machine_of heading line ≡ Ok step → line ≡ machine_line step }
+{}
+
+/// Each claim and each count that a line of a certificate spells fits the header under which the line is read.
+#[tactic(auto, using(crate::proofs::CertificateLines::claim_of_fits))]
+pub fn law_claim_fits()
+    ensures { (heading : Heading) (line : List ℕ) (item : ClaimItem) → claim_of heading line ≡ Ok item → claim_fits heading item ≡ true }
+{}
+
+/// A line of a certificate that spells no claim and no count has a cause of a field, 3 to 8.
+#[tactic(auto, using(crate::proofs::CertificateLines::claim_of_causes))]
+pub fn law_claim_causes()
+    ensures { (heading : Heading) (line : List ℕ) → IfErr (claim_of heading line) IsFieldCause }
+{}
+
+/// The first line of a certificate is read as one, and what is written of a claim or a count is read as the same under
+/// each header that it fits.
+#[tactic(auto, using(crate::proofs::CertificateLines::first_line_read, crate::proofs::CertificateLines::claim_written_is_read))]
+pub fn law_claim_written_is_read()
+    ensures first { certificate_of certificate_line ≡ Ok tt }
+    ensures item { (heading : Heading) (item : ClaimItem) → heading_ok heading ≡ true → claim_fits heading item ≡ true → claim_of heading (claim_line item) ≡ Ok item }
+{}
+
+/// A certificate has one first line, and each claim and each count has one line: what a line is read as is written as
+/// that line.
+#[tactic(auto, using(crate::proofs::CertificateLines::first_line_once, crate::proofs::CertificateLines::claim_one_line))]
+pub fn law_claim_one_line()
+    ensures first { (line : List ℕ) → certificate_of line ≡ Ok tt → line ≡ certificate_line }
+    ensures item { (heading : Heading) (line : List ℕ) (item : ClaimItem) → claim_of heading line ≡ Ok item → line ≡ claim_line item }
 {}

@@ -1,5 +1,5 @@
-use crate::{Event, Header, Label, fits};
-use bbm_regimes::{HypWorld, Kind, Page, Pe, World};
+use crate::{Claim, ClaimItem, Event, Header, Label, claim_fits, fits};
+use bbm_regimes::{HypWorld, Kind, Page, Pe, Tag, World};
 use bbm_tlbi_scope::TlbiOp;
 
 /// A header of version 3 of the Hyp world with two PEs and stage 2 roots of 16 pages.
@@ -101,4 +101,20 @@ fn fits_a_range_under_version_4(rt: HostRuntime) {
     let pe = Pe::new(1).unwrap();
     let op = TlbiOp::Rvae2is;
     assert!(rt; fits(&NEWEST, Event::Tlbi { pe, op, xt: 1 }));
+}
+
+#[test]
+fn tells_which_claims_fit(rt: HostRuntime) {
+    for (number, fit) in [(1, true), (2, false)] {
+        let pe = Pe::new(number).unwrap();
+        let tag = Tag::Asid(65535);
+        let claim = Claim::Taken {
+            pe,
+            tag,
+            t: 1,
+            d: 4294967295,
+        };
+        assert_eq!(rt; claim_fits(&header(), ClaimItem::Claim(claim)), fit);
+    }
+    assert!(rt; claim_fits(&header(), ClaimItem::End(0)));
 }
