@@ -1,6 +1,8 @@
 //! Reads and writes the lines of a log by its grammar.
 #![tactic(auto)]
 
+mod claim_writing;
+mod claims;
 mod events;
 mod fields;
 mod firsts;
@@ -16,9 +18,11 @@ mod words;
 pub mod write;
 
 pub use bbm_events::{
-    Item, MachineLine, Malformed, law_machine_one_line, law_machine_written_is_read, law_one_line,
-    law_written_is_read,
+    ClaimItem, Item, MachineLine, Malformed, law_claim_one_line, law_claim_written_is_read,
+    law_machine_one_line, law_machine_written_is_read, law_one_line, law_written_is_read,
 };
+pub use claim_writing::{write_certificate_line, write_claim};
+pub use claims::{read_certificate_line, read_claim};
 pub use events::{read_event, read_line};
 pub use fields::field;
 pub use headers::read_header;
@@ -31,6 +35,8 @@ pub use values::page_of;
 pub use words::kind_of;
 pub use write::{append_event, write_event, write_header};
 
+#[cfg(test)]
+mod claim_tests;
 #[cfg(test)]
 mod machine_tests;
 #[cfg(test)]

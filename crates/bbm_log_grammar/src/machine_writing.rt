@@ -14,14 +14,15 @@ use arrayvec::ArrayVec;
 use bbm_events::{MachineLine, law_machine_written_is_read};
 use bbm_regimes::{Kind, Pe, Place};
 
-/// `m`, the word of the step and its first number, a PE or an entry.
-fn begin(out: &mut ArrayVec<u8, 200>, word: &[u8], number: u64)
+/// The mark of a line, its second word and a number, which is a PE or an entry.
+pub(crate) fn begin(out: &mut ArrayVec<u8, 200>, mark: &[u8], word: &[u8], number: u64)
     requires empty { out.old.items ≡ [] }
+    requires mark { length mark.now ≡ 1 }
     requires short { length word.now ≤ 12 }
-    ensures written { out.new.items ≡ joined (codes "m" ∷ word.now ∷ decimal number ∷ []) }
+    ensures written { out.new.items ≡ joined (mark.now ∷ word.now ∷ decimal number ∷ []) }
     ensures longer { array_vec_len out.new ≤ 40 }
 {
-    add(out, b"m");
+    add(out, mark);
     add_word_field(out, word);
     add_decimal_field(out, number);
 }
@@ -32,7 +33,7 @@ fn start_line(out: &mut ArrayVec<u8, 200>, pe: Pe, kind: Kind, tag: u16, place: 
     requires empty { out.old.items ≡ [] }
     ensures { out.new.items ≡ joined (codes "m" ∷ machine_fields (step.Start pe kind tag place value)) }
 {
-    begin(out, b"start", pe.get() as u64);
+    begin(out, b"m", b"start", pe.get() as u64);
     add_word_field(out, kind_word(kind));
     add_decimal_field(out, tag as u64);
     add_hex_field(out, place.get());
@@ -44,7 +45,7 @@ fn extend_line(out: &mut ArrayVec<u8, 200>, entry: u32, place: Place, value: u64
     requires empty { out.old.items ≡ [] }
     ensures { out.new.items ≡ joined (codes "m" ∷ machine_fields (step.Extend entry place value)) }
 {
-    begin(out, b"extend", entry as u64);
+    begin(out, b"m", b"extend", entry as u64);
     add_hex_field(out, place.get());
     add_hex_field(out, value);
 }
@@ -54,7 +55,7 @@ fn share_line(out: &mut ArrayVec<u8, 200>, entry: u32, pe: Pe)
     requires empty { out.old.items ≡ [] }
     ensures { out.new.items ≡ joined (codes "m" ∷ machine_fields (step.Share entry pe)) }
 {
-    begin(out, b"share", entry as u64);
+    begin(out, b"m", b"share", entry as u64);
     add_decimal_field(out, pe.get() as u64);
 }
 
@@ -81,8 +82,8 @@ pub fn write_machine(line: MachineLine, out: &mut ArrayVec<u8, 200>)
             place,
             value,
         } => extend_line(out, entry, place, value),
-        MachineLine::Combine { entry } => begin(out, b"combine", entry as u64),
+        MachineLine::Combine { entry } => begin(out, b"m", b"combine", entry as u64),
         MachineLine::Share { entry, pe } => share_line(out, entry, pe),
-        MachineLine::Drop { entry } => begin(out, b"drop", entry as u64),
+        MachineLine::Drop { entry } => begin(out, b"m", b"drop", entry as u64),
     }
 }

@@ -5,11 +5,12 @@ ghost use Rattle.bbm_events.specs.Spelling.{decimal_value, hex_value};
 ghost use Rattle.bbm_events.specs.Heading.{is_version};
 ghost use Rattle.bbm_events.specs.Fits as fits;
 ghost use Rattle.bbm_events.specs.Lines as lines;
+ghost use Rattle.bbm_events.specs.Certificate as certificate;
 ghost use Rattle.bbm_events.specs.Machine as machine;
 
 use crate::line::LabelText;
 use crate::numbers::{read_decimal, read_hex};
-use bbm_events::{Header, page_count};
+use bbm_events::{Header, TagWord, page_count};
 use bbm_regimes::{Kind, Page, Pe};
 
 /// Locks have numbers below 1,024.
@@ -107,6 +108,29 @@ pub(crate) fn tag_of(kind: Kind, number: u64) -> Option<u16>
     ensures { result ≡ lines.passing (machine.is_tag kind) (Some number) }
 {
     if is_tag(kind, number) {
+        Some(number as u16)
+    } else {
+        None
+    }
+}
+
+/// Whether the tag with this word can have the number.
+fn has_number(word: TagWord, number: u64) -> bool
+    ensures { result ≡ certificate.has_number word number }
+{
+    match word {
+        TagWord::El2 => number == 0,
+        TagWord::Vmid => number < TAGS,
+        TagWord::Asid => number < TAGS,
+        TagWord::Ttbr1 => number == 0,
+    }
+}
+
+/// The number of a tag with this word, 0 where it has none.
+pub(crate) fn tag_number_of(word: TagWord, number: u64) -> Option<u16>
+    ensures { result ≡ lines.passing (certificate.has_number word) (Some number) }
+{
+    if has_number(word, number) {
         Some(number as u16)
     } else {
         None

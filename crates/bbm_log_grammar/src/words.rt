@@ -1,11 +1,12 @@
 //! The words of a log.
 
 ghost use Rattle.std.specs.Prelude.{◌≡◌};
+ghost use Rattle.bbm_events.specs.Certificate as certificate;
 ghost use Rattle.bbm_events.specs.Machine as machine;
 ghost use Rattle.bbm_events.specs.Words as words;
 
 use bbm_barriers::{Domain, Dsb, Types};
-use bbm_events::{Keyword, MachineWord};
+use bbm_events::{CertificateWord, ClaimWord, Keyword, MachineWord, TagWord};
 use bbm_regimes::{AsidFrom, Kind, Reg};
 use bbm_tlbi_scope::TlbiOp;
 
@@ -62,6 +63,42 @@ pub(crate) fn machine_word_of(field: &[u8]) -> Option<MachineWord>
         b"combine" => Some(MachineWord::Combine),
         b"share" => Some(MachineWord::Share),
         b"drop" => Some(MachineWord::Drop),
+        _ => None,
+    }
+}
+
+/// What the first word of a line of a certificate says.
+pub(crate) fn certificate_word_of(field: &[u8]) -> Option<CertificateWord>
+    ensures { result ≡ words.with_word certificate.certificate_word certificate.certificate_words field.now }
+{
+    match field {
+        b"c" => Some(CertificateWord::Claim),
+        b"end" => Some(CertificateWord::End),
+        _ => None,
+    }
+}
+
+/// The claim whose word the field is.
+pub(crate) fn claim_word_of(field: &[u8]) -> Option<ClaimWord>
+    ensures { result ≡ words.with_word certificate.claim_word certificate.claim_words field.now }
+{
+    match field {
+        b"place" => Some(ClaimWord::Place),
+        b"two" => Some(ClaimWord::Two),
+        b"tag" => Some(ClaimWord::Tag),
+        _ => None,
+    }
+}
+
+/// The tag whose word the field is.
+pub(crate) fn tag_word_of(field: &[u8]) -> Option<TagWord>
+    ensures { result ≡ words.with_word certificate.tag_word certificate.tag_words field.now }
+{
+    match field {
+        b"el2" => Some(TagWord::El2),
+        b"vmid" => Some(TagWord::Vmid),
+        b"asid" => Some(TagWord::Asid),
+        b"ttbr1" => Some(TagWord::Ttbr1),
         _ => None,
     }
 }
