@@ -5,6 +5,7 @@ pub mod Numbers
 pub mod Takes
 pub mod Covers
 pub mod Tags
+pub mod TagSets
 pub mod Agreement
 pub mod Ranges
 pub mod Same

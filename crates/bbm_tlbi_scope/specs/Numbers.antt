@@ -1,5 +1,5 @@
 -- How the parts of a scope compare with an entry or a place.
-use Rattle.std.specs.Prelude.{ℕ, Bool, true, false, Option, Some, None, ◌==◌}
+use Rattle.std.specs.Prelude.{ℕ, Bool, true, false, ◌&&◌, Option, Some, None, is_none, ◌==◌}
 use Rattle.bbm_regimes.specs.Extent.{Extent, meets, holds}
 
 -- whether the VMID or ASID is there and is this number
@@ -9,8 +9,7 @@ is_number (Some m) n = m == n
 
 -- whether a TLBI for one VMID alone is issued where no VMID is defined
 abbrev pub lacks_vmid : Bool → Option ℕ → Bool
-lacks_vmid vmid_scoped None = vmid_scoped
-lacks_vmid vmid_scoped (Some vmid) = false
+lacks_vmid vmid_scoped vmid = vmid_scoped && is_none vmid
 
 -- whether the level hint is none or this level
 abbrev pub hint_allows : Option ℕ → ℕ → Bool

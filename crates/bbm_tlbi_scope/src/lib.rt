@@ -8,6 +8,7 @@ pub mod laws;
 pub mod op;
 pub mod operand;
 pub mod scope;
+pub mod tag_set;
 pub mod taking;
 
 pub use covering::cover;
@@ -15,7 +16,8 @@ pub use decoding::decode;
 pub use entry::{Cover, EntryHead, EntryKind, PlaceView, TagSet};
 pub use laws::{law_cover_takes, law_range, law_whole_tag_takes};
 pub use op::TlbiOp;
-pub use scope::{BadOperand, Family, Scope};
+pub use scope::{BadOperand, Family, Scope, lacks_vmid};
+pub use tag_set::with_tag;
 pub use taking::{takes, whole_tag};
 
 #[cfg(test)]
