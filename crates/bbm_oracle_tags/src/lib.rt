@@ -23,9 +23,7 @@ pub use numbers::least;
 pub use pages::{count_initialised, has_values, is_initialised, is_null, may_be_fresh};
 pub use reach::{completes, publishes_for, reaches};
 pub use readings::{Reading, readings_at};
-pub use registers::{
-    base_of, kind_of, lacks_vmid, named_scope, register_values, tag_number, vmid_of,
-};
+pub use registers::{named_scope, register_values, vmid_of};
 pub use roots::{Declared, is_root, lock_of, root_at, roots_of};
 pub use rules::{
     bad_operand, lock_busy, lock_not_mine, no_root, null_written, root_in_use, tag_conflict,

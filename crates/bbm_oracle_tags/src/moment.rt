@@ -8,10 +8,10 @@ ghost use Rattle.bbm_rules.specs.Roots.{roots_of};
 ghost use Rattle.bbm_oracle_tags.specs.Moments as spec;
 
 use crate::readings::Reading;
-use crate::registers::{base_of, tag_number, take_value};
+use crate::registers::take_value;
 use crate::roots::{Declared, same_kind, take_root};
 use bbm_events::{Event, Header};
-use bbm_regimes::{AsidFrom, Kind, NoMemory, Pe, Reg, Tag, World};
+use bbm_regimes::{AsidFrom, Kind, NoMemory, Pe, Reg, Tag, World, base_of, tag_number};
 use std::alloc::Global;
 
 /// What one PE may use at a moment: the declared roots, and the readable values of the root registers of its world.

@@ -1,13 +1,12 @@
 //! Readable tags.
 
 ghost use Rattle.std.specs.Prelude.{◌≡◌, reverse, IfOk};
-ghost use Rattle.bbm_rules.specs.Claims.{same_tag as is_same_tag};
 ghost use Rattle.bbm_rules.specs.Tags as spec;
 ghost use Rattle.bbm_oracle_tags.specs.Moments as moments;
 
 use crate::moment::Moment;
 use bbm_events::{Event, Header};
-use bbm_regimes::{NoMemory, Pe, Tag};
+use bbm_regimes::{NoMemory, Pe, Tag, same_tag};
 use std::alloc::Global;
 use std::marker::Model;
 
@@ -28,19 +27,6 @@ impl Model for Reading {
     ghost view = { λ r. record { tag = r.tag; root = r.root } };
 
     ghost inverse = { λ r. record { tag = r.tag; root = r.root } };
-}
-
-/// Whether the tags are the same.
-pub fn same_tag(tag: Tag, other: Tag) -> bool
-    ensures { result ≡ is_same_tag tag other }
-{
-    match (tag, other) {
-        (Tag::El2, Tag::El2) => true,
-        (Tag::Vmid(v), Tag::Vmid(w)) => v == w,
-        (Tag::Asid(a), Tag::Asid(b)) => a == b,
-        (Tag::Ttbr1, Tag::Ttbr1) => true,
-        _ => false,
-    }
 }
 
 /// Whether the tag is among the readings for the root.

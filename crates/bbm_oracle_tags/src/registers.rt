@@ -6,54 +6,9 @@ ghost use Rattle.bbm_rules.specs.Lists.{every, one_number as only_number};
 ghost use Rattle.bbm_rules.specs.Registers as spec;
 
 use bbm_events::{Event, Header};
-use bbm_regimes::{Kind, NoMemory, Pe, Reg, World};
-use bbm_tlbi_scope::{Scope, TlbiOp, decode};
+use bbm_regimes::{NoMemory, Pe, Reg, World, same_reg, tag_number};
+use bbm_tlbi_scope::{Scope, TlbiOp, decode, lacks_vmid};
 use std::alloc::Global;
-
-/// Whether the registers are the same.
-pub fn same_reg(reg: Reg, other: Reg) -> bool
-    ensures { result ≡ spec.same_reg reg other }
-{
-    match (reg, other) {
-        (Reg::Ttbr0El2, Reg::Ttbr0El2) => true,
-        (Reg::VttbrEl2, Reg::VttbrEl2) => true,
-        (Reg::Ttbr0El1, Reg::Ttbr0El1) => true,
-        (Reg::Ttbr1El1, Reg::Ttbr1El1) => true,
-        _ => false,
-    }
-}
-
-/// The kind of the roots that the register names. Source: Arm ARM (DDI 0487), "AArch64 System register descriptions".
-pub fn kind_of(reg: Reg) -> Kind
-    ensures { result ≡ spec.kind_of_reg reg }
-{
-    match reg {
-        Reg::Ttbr0El2 => Kind::El2,
-        Reg::VttbrEl2 => Kind::S2,
-        Reg::Ttbr0El1 => Kind::Ttbr0,
-        Reg::Ttbr1El1 => Kind::Ttbr1,
-    }
-}
-
-/// The base that a register value names, in bytes: bits [47:1] as an address. None of value 0. Source: Arm ARM (DDI
-/// 0487), "AArch64 System register descriptions"; that value 0 names none is the project's own choice.
-pub fn base_of(value: u64) -> Option<u64>
-    ensures { result ≡ spec.base_of value }
-{
-    if value == 0 {
-        None
-    } else {
-        Some(value % (1 << 48) / 2 * 2)
-    }
-}
-
-/// The VMID or the ASID of a register value, 0 to 65535: bits [63:48]. Source: Arm ARM (DDI 0487), "AArch64 System
-/// register descriptions".
-pub fn tag_number(value: u64) -> u16
-    ensures { result ≡ spec.tag_number value }
-{
-    (value >> 48) as u16
-}
 
 // Puts the value in front.
 fn put_value(values: &mut Vec<u64>, value: u64) -> Result<(), NoMemory>
@@ -148,24 +103,6 @@ pub fn vmid_of(
     }
 }
 
-/// Whether the operation needs the VMID of its issuer, which may still use several. `NoMemory` where there is none.
-/// Source: project's own choice.
-pub fn lacks_vmid(
-    alloc: Global,
-    header: &Header,
-    events: &[Event],
-    pe: Pe,
-    op: TlbiOp,
-) -> Result<bool, NoMemory>
-    ensures { IfOk result (λ lacks. lacks ≡ spec.lacks_vmid header.now (reverse events.now) pe op) }
-{
-    if !op.scoped_by_vmid() {
-        return Ok(false);
-    }
-    let vmid = vmid_of(alloc, header, events, pe)?;
-    Ok(vmid.is_none())
-}
-
 /// What a TLBI names at its issue: its scope, or None where its operand can't be decoded, or where it needs a VMID and
 /// there are several. `NoMemory` where there is none. Source: project's own choice.
 pub fn named_scope(
@@ -178,7 +115,8 @@ pub fn named_scope(
 ) -> Result<Option<Scope>, NoMemory>
     ensures { IfOk result (λ scope. scope ≡ spec.named_scope header.now (reverse events.now) pe op xt) }
 {
-    if lacks_vmid(alloc, header, events, pe, op)? {
+    let vmid = vmid_of(alloc, header, events, pe)?;
+    if lacks_vmid(op.scoped_by_vmid(), vmid) {
         return Ok(None);
     }
     match decode(op, xt) {

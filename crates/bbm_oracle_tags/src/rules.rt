@@ -22,12 +22,12 @@ use crate::locks;
 use crate::numbers::least;
 use crate::pages::is_null;
 use crate::readings::{Reading, readings_at};
-use crate::registers::{base_of, kind_of, lacks_vmid, register_values};
+use crate::registers::{register_values, vmid_of};
 use crate::roots::{Declared, is_root, lock_of, root_at, roots_of};
 use crate::tags::{holds_tag, tag_set_of};
 use bbm_events::{Event, Header, has_kind};
-use bbm_regimes::{Kind, NoMemory, Pe, Reg};
-use bbm_tlbi_scope::{TagSet, decode};
+use bbm_regimes::{Kind, NoMemory, Pe, Reg, base_of, kind_of};
+use bbm_tlbi_scope::{TagSet, decode, lacks_vmid};
 use std::alloc::Global;
 
 // The number, where the test holds.
@@ -337,7 +337,8 @@ pub fn unsynced_vmid(
 {
     match *event {
         Event::Tlbi { pe, op, .. } => {
-            let lacks = lacks_vmid(alloc, header, events, pe, op)?;
+            let vmid = vmid_of(alloc, header, events, pe)?;
+            let lacks = lacks_vmid(op.scoped_by_vmid(), vmid);
             Ok(if_so(lacks, pe.get() as u64))
         }
         _ => Ok(None),

@@ -9,12 +9,12 @@ ghost use Rattle.bbm_oracle_tags.specs.Moments as moments;
 ghost use Rattle.bbm_oracle_tags.specs.TagSets as sets;
 
 use crate::moment::Moment;
-use crate::readings::{Reading, same_tag};
+use crate::readings::Reading;
 use crate::watch::{Watch, changes_readings};
 use bbm_events::{Event, Header};
-use bbm_regimes::{NoMemory, Pe, Tag};
+use bbm_regimes::{NoMemory, Pe, Tag, same_tag};
 use bbm_rules::{law_equality_tests, law_tag_set};
-use bbm_tlbi_scope::TagSet;
+use bbm_tlbi_scope::{TagSet, with_tag};
 use std::alloc::Global;
 
 /// Whether the root with this first page, by its address in bytes, holds the tag at the PE. `NoMemory` where there is
@@ -165,24 +165,6 @@ fn candidates(
         add_read_at(alloc, &mut tags, header, events, pe, root)?;
     }
     Ok(tags)
-}
-
-// The set with the tag.
-fn with_tag(set: TagSet, tag: Tag) -> TagSet
-    ensures { (test hit : TheTag → Bool) → sets.HasTags test set → hit tag ≡ true
-        → ((g : TheTag) → hit g ≡ true → g ≡ tag) → sets.HasTags (λ g. test g || hit g) result }
-{
-    match set {
-        TagSet::None => TagSet::One(tag),
-        TagSet::One(one) => {
-            if same_tag(one, tag) {
-                TagSet::One(one)
-            } else {
-                TagSet::Many
-            }
-        }
-        TagSet::Many => TagSet::Many,
-    }
 }
 
 // The set with the tag, where the root holds it.

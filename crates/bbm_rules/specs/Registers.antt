@@ -1,8 +1,9 @@
 -- The root registers of a PE: which of their values may still be in use. A history is newest first.
 -- Source: project's own choice, but where another is named.
-use Rattle.std.specs.Prelude.{ℕ, ◌*◌, ◌/◌, ◌%◌, ◌^◌, Bool, ◌&&◌, ◌==◌, List, [], ◌∷◌, Option, Some, None, is_none, map}
+use Rattle.std.specs.Prelude.{ℕ, Bool, ◌&&◌, ◌==◌, List, [], ◌∷◌, Option, Some, None, is_none, map}
 use Rattle.std.specs.Prelude.{take, if◌then◌else◌}
 use Rattle.std.specs.Result.{result_ok}
+pub use Rattle.bbm_regimes.specs.Registers.{base_of, tag_number}
 pub use Rattle.bbm_regimes.specs.Same.{kind_of_reg, same_reg}
 use Rattle.bbm_tlbi_scope.specs.Operations.{scoped_by_vmid}
 use Rattle.bbm_rules.specs.Prelude.{Reg, VttbrEl2, World, Hyp, Kernel, TlbiOp, Scope, scope_of, Heading, Event, Isb}
@@ -18,17 +19,6 @@ register_values (Msr pe r value ∷ h) p reg =
     if pe == p && same_reg r reg then value ∷ register_values h p reg else register_values h p reg
 register_values (Isb pe ∷ h) p reg = if pe == p then take 1 (register_values h p reg) else register_values h p reg
 register_values (_ ∷ h) p reg = register_values h p reg
-
--- The base that a register value names: bits [47:1], as an address. Bit 0 is ignored. Value 0 names none.
--- Source: Arm ARM (DDI 0487), "AArch64 System register descriptions", TTBR0_EL2, VTTBR_EL2, TTBR0_EL1 and
--- TTBR1_EL1; of value 0 the project's own choice.
-abbrev pub base_of : ℕ → Option ℕ
-base_of value = if value == 0 then None else Some (value % 2 ^ 48 / 2 * 2)
-
--- The VMID or the ASID of a register value: bits [63:48]; 0 of value 0.
--- Source: Arm ARM (DDI 0487), "AArch64 System register descriptions", VTTBR_EL2, TTBR0_EL1 and TTBR1_EL1.
-abbrev pub tag_number : ℕ → ℕ
-tag_number value = value / 2 ^ 48
 
 -- The VMID under which a PE issues its TLBIs: the one VMID of the values of VTTBR_EL2 that it may still use, None
 -- where there are several. In the Kernel world 0 stands for the one VMID, which isn't logged.

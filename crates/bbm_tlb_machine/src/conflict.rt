@@ -10,9 +10,8 @@ ghost use Rattle.bbm_tlb_machine.specs.Safe as spec;
 use crate::entry::Entry;
 use crate::living::Living;
 use bbm_events::{Event, Header};
-use bbm_oracle_tags::readings::same_tag;
 use bbm_oracle_tags::{Reading, readings_at};
-use bbm_regimes::{NoMemory, Page, Place};
+use bbm_regimes::{NoMemory, Page, Place, same_tag};
 use std::alloc::Global;
 
 // Whether an entry has a part at the place from which the value needs break-before-make.

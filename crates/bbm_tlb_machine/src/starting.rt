@@ -16,8 +16,8 @@ use crate::geometry::{first_of, root_of};
 use crate::looking::can_read;
 use bbm_events::{Event, Header, input_pages, start_level};
 use bbm_oracle_tags::readings::is_read;
-use bbm_oracle_tags::{readings_at, register_values, tag_number};
-use bbm_regimes::{AsidFrom, Kind, NoMemory, Pe, Place, Reg, World};
+use bbm_oracle_tags::{readings_at, register_values};
+use bbm_regimes::{AsidFrom, Kind, NoMemory, Pe, Place, Reg, World, tag_number};
 use bbm_tlbi_scope::EntryKind;
 use std::alloc::Global;
 
