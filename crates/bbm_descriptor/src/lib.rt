@@ -6,8 +6,6 @@ pub mod decode;
 pub mod desc;
 pub mod laws;
 pub mod memory;
-#[cfg(test)]
-mod tests;
 pub mod walk;
 
 pub use decode::{core, needs_bbm, read};

@@ -31,6 +31,3 @@ pub use laws::{law_completes, law_steps};
 pub use marks::Marks;
 pub use pending::{Pend, Pends};
 pub use state::EntryState;
-
-#[cfg(test)]
-mod tests;

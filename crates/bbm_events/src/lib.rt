@@ -29,6 +29,3 @@ pub use laws::{
 pub use machine::{MachineLine, MachineWord};
 pub use malformed::Malformed;
 pub use roots::{first_input_page, has_kind, input_pages, page_count, start_level};
-
-#[cfg(test)]
-mod tests;

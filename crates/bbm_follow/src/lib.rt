@@ -4,8 +4,6 @@
 
 pub mod followed;
 mod taking;
-#[cfg(test)]
-mod tests;
 pub mod turn;
 
 pub use followed::{Followed, follow_run, followed_text};

@@ -7,6 +7,3 @@ pub mod law;
 
 pub use generator::{gen_event, gen_header};
 pub use law::law_gen;
-
-#[cfg(test)]
-mod tests;

@@ -11,6 +11,3 @@ pub use lines::{LineFault, LineOrEnd, Lines};
 pub use sink::{CleanSink, MemSink, Sink, put};
 pub use source::{CleanSource, Failed, MemSource, Source};
 pub use streams::{StdSink, StdSource};
-
-#[cfg(test)]
-mod tests;

@@ -12,13 +12,3 @@ pub fn law_elements<X>()
     ensures sound { (xs : List X) (x : X) → In xs x → Contains xs x }
     ensures complete { (xs : List X) (x : X) → Contains xs x → In xs x }
 {}
-
-#[cfg(test)]
-mod tests {
-    use crate::law_elements;
-
-    #[test]
-    fn law_holds() {
-        law_elements::<u64>();
-    }
-}

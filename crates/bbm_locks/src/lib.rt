@@ -4,7 +4,5 @@
 
 pub mod laws;
 pub mod locks;
-#[cfg(test)]
-mod tests;
 
 pub use locks::{Busy, Locks, NotHolder};

@@ -34,14 +34,3 @@ pub use spell::{add, add_decimal, add_hex};
 pub use values::page_of;
 pub use words::kind_of;
 pub use write::{append_event, write_event, write_header};
-
-#[cfg(test)]
-mod claim_tests;
-#[cfg(test)]
-mod machine_tests;
-#[cfg(test)]
-mod tests;
-#[cfg(test)]
-mod version_tests;
-#[cfg(test)]
-mod write_tests;

@@ -12,6 +12,3 @@ mod starts;
 mod tree_rules;
 
 pub use oracle::Oracle;
-
-#[cfg(test)]
-mod tests;

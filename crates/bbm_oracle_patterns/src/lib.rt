@@ -18,6 +18,3 @@ mod walk;
 pub use kept::{Covered, Kept};
 pub use search::{ValidWrite, held, last_valid, phase_in};
 pub use trace::{Trace, cleansed_everywhere, trace_of};
-
-#[cfg(test)]
-mod tests;

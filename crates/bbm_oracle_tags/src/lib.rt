@@ -31,6 +31,3 @@ pub use rules::{
 };
 pub use tags::{holds_at, holds_tag, tag_set_of};
 pub use values::{places_in, value_of};
-
-#[cfg(test)]
-mod tests;

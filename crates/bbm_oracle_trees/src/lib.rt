@@ -12,6 +12,3 @@ mod tree;
 
 pub use history::History;
 pub use node::{Above, Node};
-
-#[cfg(test)]
-mod tests;

@@ -36,6 +36,3 @@ pub use example::break_before_make;
 pub use found::Found;
 pub use map::PlaceMap;
 pub use seat::Seat;
-
-#[cfg(test)]
-mod tests;

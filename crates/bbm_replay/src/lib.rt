@@ -19,6 +19,3 @@ mod world;
 mod writes;
 
 pub use replay::Replay;
-
-#[cfg(test)]
-mod tests;

@@ -10,23 +10,3 @@ pub mod tells;
 pub use begins::{law_entry_alike, law_entry_begins};
 pub use steps::{law_entry_dsb, law_entry_stays, law_entry_tlbi, law_entry_write};
 pub use tells::{law_entry_holds, law_entry_need, law_entry_phase};
-
-#[cfg(test)]
-mod tests {
-    use crate::begins::{law_entry_alike, law_entry_begins};
-    use crate::steps::{law_entry_dsb, law_entry_stays, law_entry_tlbi, law_entry_write};
-    use crate::tells::{law_entry_holds, law_entry_need, law_entry_phase};
-
-    #[test]
-    fn laws_hold() {
-        law_entry_alike();
-        law_entry_begins();
-        law_entry_dsb();
-        law_entry_holds();
-        law_entry_need();
-        law_entry_phase();
-        law_entry_stays();
-        law_entry_tlbi();
-        law_entry_write();
-    }
-}

@@ -4,4 +4,3 @@ pub mod TagMaps
 pub mod Unroots
 pub mod ValueMaps
 pub mod Writes
-mod TestLog

@@ -12,6 +12,3 @@ pub mod state;
 pub use laws::{law_barriers, law_others};
 pub use named::NamedTlbi;
 pub use state::RootState;
-
-#[cfg(test)]
-mod tests;

@@ -17,36 +17,3 @@ pub use pages::{law_fresh_pages, law_pages, law_values};
 pub use places::{law_childless_by_cores, law_limbo_by_values, law_restless_places};
 pub use rules::{law_limits_of_events, law_page_rules, law_rules_of_events, law_write_rules};
 pub use starts::law_starts;
-
-#[cfg(test)]
-mod tests {
-    use crate::cores::law_cores;
-    use crate::judging::{law_judging, law_unattached};
-    use crate::nodes::{law_neighbours, law_nodes};
-    use crate::pages::{law_fresh_pages, law_pages, law_values};
-    use crate::places::{law_childless_by_cores, law_limbo_by_values, law_restless_places};
-    use crate::rules::{
-        law_limits_of_events, law_page_rules, law_rules_of_events, law_write_rules,
-    };
-    use crate::starts::law_starts;
-
-    #[test]
-    fn laws_hold() {
-        law_childless_by_cores();
-        law_cores();
-        law_fresh_pages();
-        law_judging();
-        law_limbo_by_values();
-        law_limits_of_events();
-        law_neighbours();
-        law_nodes();
-        law_page_rules();
-        law_pages();
-        law_restless_places();
-        law_rules_of_events();
-        law_starts();
-        law_unattached();
-        law_values();
-        law_write_rules();
-    }
-}

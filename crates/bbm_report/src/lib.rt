@@ -6,8 +6,6 @@ pub mod finding;
 mod names;
 pub mod phases;
 pub mod questions;
-#[cfg(test)]
-mod tests;
 pub mod verdicts;
 pub mod walks;
 

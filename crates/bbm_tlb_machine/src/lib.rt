@@ -13,8 +13,6 @@ mod pending;
 pub mod safety;
 mod starting;
 pub mod step;
-#[cfg(test)]
-mod tests;
 
 pub use laws::{law_conflict, law_run};
 pub use machine::{FollowFault, Machine, follow};

@@ -93,15 +93,3 @@ pub fn law_accepted_is_safe()
     law_item_fits();
     law_safe();
 }
-
-#[cfg(test)]
-mod tests {
-    use crate::safety::{law_accepted_is_safe, law_fine, law_safe};
-
-    #[test]
-    fn laws_hold() {
-        law_accepted_is_safe();
-        law_fine();
-        law_safe();
-    }
-}

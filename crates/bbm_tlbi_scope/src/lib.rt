@@ -19,6 +19,3 @@ pub use op::TlbiOp;
 pub use scope::{BadOperand, Family, Scope, lacks_vmid};
 pub use tag_set::with_tag;
 pub use taking::{takes, whole_tag};
-
-#[cfg(test)]
-mod tests;

@@ -34,6 +34,3 @@ pub use example::null_page;
 pub use fault::TreeFault;
 pub use index::{Prepared, TreeIndex};
 pub use role::{Attach, Detach, Path, Role};
-
-#[cfg(test)]
-mod tests;

@@ -10,8 +10,6 @@
 #![tactic(auto)]
 
 pub mod root;
-#[cfg(test)]
-mod tests;
 pub mod walking;
 
 pub use bbm_descriptor::{Memory, Pairs, Walk};

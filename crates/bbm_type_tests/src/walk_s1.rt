@@ -1,0 +1,108 @@
+//! Walks worked out by hand, and a proved caller.
+
+ghost use Rattle.std.specs.Prelude.{◌≡◌, ◌<◌, ◌≤◌, ◌%◌, ◌^◌, ◌↔◌, IsTrue};
+ghost use Rattle.bbm_descriptor.specs.Listing.{NoLeaf};
+ghost use Rattle.bbm_walk_s1.specs.Ranges.{stage1_root};
+
+use bbm_regimes::{Page, Place};
+use bbm_walk_s1::{Memory, Pairs, S1Root, Walk, walk};
+
+// Whether a leaf translates the address.
+fn is_mapped<M: Memory>(mem: &M, root: S1Root, va: u64) -> bool
+    ensures { IsTrue result ↔ ¬ NoLeaf (M.value_at mem.now) (stage1_root root.start root.high root.page) va }
+{
+    match walk(mem, root, va) {
+        Walk::Out { .. } => true,
+        Walk::Fault { .. } => false,
+    }
+}
+
+fn place(addr: u64) -> Place
+    requires below { addr < 2 ^ 48 }
+    requires aligned { addr % 8 ≡ 0 }
+{
+    Place::new(addr).unwrap()
+}
+
+fn root(start: u8, high: bool, addr: u64) -> S1Root
+    requires start { start ≤ 2 }
+    requires below { addr < 2 ^ 48 }
+    requires aligned { addr % 4096 ≡ 0 }
+{
+    S1Root {
+        start,
+        high,
+        page: Page::new(addr).unwrap(),
+    }
+}
+
+fn out(addr: u64, level: u8) -> Walk {
+    Walk::Out { addr, level }
+}
+
+fn fault(level: u8) -> Walk {
+    Walk::Fault { level }
+}
+
+#[test]
+fn walks_through_a_table_at_each_level(rt: HostRuntime) {
+    let pairs = [
+        (place(0x1008), 0x2003),
+        (place(0x1010), 0x8000_0701),
+        (place(0x2010), 0x3003),
+        (place(0x2018), 0xc000_0701),
+        (place(0x3018), 0x4003),
+        (place(0x3020), 0x4020_0701),
+        (place(0x4020), 0x1234_5703),
+        (place(0x4028), 0x1234_5701),
+    ];
+    let mem = Pairs { pairs: &pairs };
+    for (va, want) in [
+        (0x80_8060_4567, out(0x1234_5567, 3)),
+        (0x80_8060_5567, fault(3)),
+        (0x80_8080_4567, out(0x4020_4567, 2)),
+        (0x80_80a0_4567, fault(2)),
+        (0x80_c060_4567, out(0xc060_4567, 1)),
+        (0x81_0060_4567, fault(1)),
+        (0x100_0060_4567, fault(0)),
+        (0, fault(0)),
+        (0x1_0080_8060_4567, fault(0)),
+        (0xffff_ffff_ffff_ffff, fault(0)),
+    ] {
+        assert_eq!(rt; walk(&mem, root(0, false, 0x1000), va), want, "{va}");
+    }
+    assert!(rt; is_mapped(&mem, root(0, false, 0x1000), 0x80_8060_4567));
+}
+
+#[test]
+fn walks_the_ends_of_an_input_range(rt: HostRuntime) {
+    let pairs = [
+        (place(0x4000_0000), 0x4000_0f01),
+        (place(0x4000_0008), 0xc000_0701),
+        (place(0x4000_0ff8), 0x8000_0f01),
+    ];
+    let mem = Pairs { pairs: &pairs };
+    for (start, high, va, want) in [
+        (1, false, 0x4000_1234, out(0xc000_1234, 1)),
+        (1, false, 0x7f_ffff_ffff, out(0xbfff_ffff, 1)),
+        (1, false, 0x80_0000_0000, fault(1)),
+        (1, false, 0xffff_ffff_ffff_ffff, fault(1)),
+        (1, true, 0xffff_ff80_0000_0000, out(0x4000_0000, 1)),
+        (1, true, 0xffff_ffff_ffff_ffff, out(0xbfff_ffff, 1)),
+        (1, true, 0xffff_ff7f_ffff_ffff, fault(1)),
+        (1, true, 0x4000_1234, fault(1)),
+        (2, true, 0xffff_ffff_c000_0000, out(0x4000_0000, 2)),
+        (2, true, 0xffff_ffff_ffff_ffff, out(0x801f_ffff, 2)),
+        (2, true, 0xffff_ffff_bfff_ffff, fault(2)),
+        (2, false, 0x4000_0000, fault(2)),
+        (0, true, 0xffff_0000_0000_0000, fault(0)),
+        (0, true, 0xfffe_ffff_ffff_ffff, fault(0)),
+    ] {
+        assert!(rt; start <= 2);
+        assert_eq!(rt;
+            walk(&mem, root(start, high, 0x4000_0000), va),
+            want,
+            "{va}"
+        );
+    }
+}
