@@ -199,7 +199,12 @@ struct Told {
 }
 
 // None where there is no memory for the checker, or a line is no event.
-fn after<C: Fresh + Drop>(alloc: Global, header: &Header, lines: &[Line], place: u64) -> Option<Told> {
+fn after<C: Fresh + Drop>(
+    alloc: Global,
+    header: &Header,
+    lines: &[Line],
+    place: u64,
+) -> Option<Told> {
     let place = Place::new(place)?;
     let page = Page::new(ROOT)?;
     let mut checker = match C::fresh(alloc, header) {
@@ -221,15 +226,26 @@ fn after<C: Fresh + Drop>(alloc: Global, header: &Header, lines: &[Line], place:
 }
 
 // The answer to the lines, and the number of events taken.
-fn judged<C: Fresh + Drop>(alloc: Global, header: &Header, lines: &[Line]) -> Option<(Result<(), StepFault>, u64)> {
+fn judged<C: Fresh + Drop>(
+    alloc: Global,
+    header: &Header,
+    lines: &[Line],
+) -> Option<(Result<(), StepFault>, u64)> {
     let told = after::<C>(alloc, header, lines, PLACE)?;
     Some((told.answer, told.events))
 }
 
 // Whether both checkers give this answer to the lines, after so many events.
-fn both_answer(alloc: Global, header: &Header, lines: &[Line], answer: Result<(), StepFault>, events: u64) -> bool {
+fn both_answer(
+    alloc: Global,
+    header: &Header,
+    lines: &[Line],
+    answer: Result<(), StepFault>,
+    events: u64,
+) -> bool {
     let expected = Some((answer, events));
-    judged::<Oracle>(alloc, header, lines) == expected && judged::<Replay>(alloc, header, lines) == expected
+    judged::<Oracle>(alloc, header, lines) == expected
+        && judged::<Replay>(alloc, header, lines) == expected
 }
 
 // Whether both checkers tell this after the lines.
@@ -239,13 +255,24 @@ fn both_tell(alloc: Global, lines: &[Line], place: u64, expected: Told) -> bool 
 }
 
 // Whether both checkers see these phases of the place at PEs 0 and 1, and so many restless places, after the lines.
-fn both_see(alloc: Global, lines: &[Line], place: u64, phases: (Phase, Phase), restless: u64) -> bool {
+fn both_see(
+    alloc: Global,
+    lines: &[Line],
+    place: u64,
+    phases: (Phase, Phase),
+    restless: u64,
+) -> bool {
     let expected = Some((phases, restless));
-    seen::<Oracle>(alloc, lines, place) == expected && seen::<Replay>(alloc, lines, place) == expected
+    seen::<Oracle>(alloc, lines, place) == expected
+        && seen::<Replay>(alloc, lines, place) == expected
 }
 
 // After the lines: the phases of the place at PEs 0 and 1, and the number of restless places.
-fn seen<C: Fresh + Drop>(alloc: Global, lines: &[Line], place: u64) -> Option<((Phase, Phase), u64)> {
+fn seen<C: Fresh + Drop>(
+    alloc: Global,
+    lines: &[Line],
+    place: u64,
+) -> Option<((Phase, Phase), u64)> {
     let told = after::<C>(alloc, &HYP, lines, place)?;
     Some((told.phases, told.restless))
 }
@@ -533,7 +560,10 @@ fn tells_each_step_of_a_remap(rt: HostRuntime) {
             is_root,
             value,
         };
-        assert!(rt; both_tell(rt.alloc(), &REMAP[..count], PLACE, expected), "{count}");
+        assert!(rt;
+            both_tell(rt.alloc(), &REMAP[..count], PLACE, expected),
+            "{count}"
+        );
     }
 }
 
@@ -616,7 +646,13 @@ fn flushes_one_of_many_broken_places(rt: HostRuntime) {
             is_root: true,
             value: 0,
         };
-        assert!(rt; after_flush::<Oracle>(rt.alloc(), page) == Some(expected), "{page}");
-        assert!(rt; after_flush::<Replay>(rt.alloc(), page) == Some(expected), "{page}");
+        assert!(rt;
+            after_flush::<Oracle>(rt.alloc(), page) == Some(expected),
+            "{page}"
+        );
+        assert!(rt;
+            after_flush::<Replay>(rt.alloc(), page) == Some(expected),
+            "{page}"
+        );
     }
 }

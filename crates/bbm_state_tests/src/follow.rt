@@ -1,8 +1,8 @@
 //! The lines of runs, and what comes of them. The texts of worked cases come from outside.
 
-use bbm_follow::{Followed, LineFault, Turn, follow_run, followed_text, take_line};
 use arrayvec::ArrayVec;
 use bbm_events::{Header, Malformed};
+use bbm_follow::{Followed, LineFault, Turn, follow_run, followed_text, take_line};
 use bbm_log_grammar::read_header;
 use bbm_rules::Verdict;
 use bbm_tlb_machine::Step;

@@ -3,11 +3,11 @@
 #![tactic(auto)]
 
 #[cfg(test)]
+mod checkers;
+#[cfg(test)]
 mod follow;
 #[cfg(test)]
-mod gen;
-#[cfg(test)]
-mod checkers;
+mod generator;
 #[cfg(test)]
 mod oracle_patterns;
 #[cfg(test)]

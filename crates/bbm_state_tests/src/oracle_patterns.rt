@@ -1,8 +1,10 @@
 //! Histories of one place of stage 2 at level 1, each with what was worked out by hand.
 
-use bbm_oracle_patterns::{Covered, Kept, cleansed_everywhere, held, last_valid, phase_in, trace_of};
 use bbm_barriers::{Domain, Dsb, Types};
 use bbm_events::{Event, Header};
+use bbm_oracle_patterns::{
+    Covered, Kept, cleansed_everywhere, held, last_valid, phase_in, trace_of,
+};
 use bbm_regimes::{HypWorld, Kind, Pe, Place, World};
 use bbm_rules::Phase;
 use bbm_tlbi_scope::{Cover, TlbiOp};

@@ -1,8 +1,8 @@
 //! Histories event by event, with what was worked out by hand.
 
-use bbm_oracle_trees::History;
 use bbm_barriers::{Domain, Dsb, Types};
 use bbm_events::{Event, Header, fits};
+use bbm_oracle_trees::History;
 use bbm_regimes::{HypWorld, Kind, Page, Pe, Place, World};
 use bbm_rules::Phase;
 use bbm_tlbi_scope::{Cover, TlbiOp};

@@ -2,10 +2,10 @@
 
 ghost use Rattle.std.specs.Prelude.{◌<◌};
 
-use bbm_place_map::example::{ISH, ISHST};
-use bbm_place_map::{Found, PlaceMap, break_before_make};
 use bbm_descriptor::{Core, Memory};
 use bbm_entry_state::EntryState;
+use bbm_place_map::example::{ISH, ISHST};
+use bbm_place_map::{Found, PlaceMap, break_before_make};
 use bbm_regimes::{Kind, NoMemory, Page, Pe, PeMask, Place};
 use bbm_tlbi_scope::Cover;
 use std::alloc::Global;

@@ -4,10 +4,10 @@ ghost use Rattle.std.specs.Prelude.{◌≡◌, IfOk};
 ghost use Rattle.bbm_rules.specs.Answers.{MayAsk};
 ghost use Rattle.bbm_replay_roots.specs.Stands.{Stands};
 
-use bbm_replay_roots::{NamedTlbi, RootState, law_others};
 use bbm_barriers::{Domain, Dsb, Types};
 use bbm_events::Header;
 use bbm_regimes::{HypWorld, Kind, NoMemory, Page, Pe, Reg, World};
+use bbm_replay_roots::{NamedTlbi, RootState, law_others};
 use bbm_rules::{Rule, StepFault};
 use bbm_tlbi_scope::{TagSet, TlbiOp, decode};
 use std::alloc::Global;

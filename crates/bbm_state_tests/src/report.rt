@@ -1,10 +1,10 @@
 //! Each line, and the words that ask for a walk. What a walk finds is shown by the session's tests.
 
-use bbm_report::{Question, asked, found_text, phase_text, verdict_text, walk_text};
 use arrayvec::ArrayVec;
 use bbm_descriptor::Walk;
 use bbm_events::{Label, Malformed};
 use bbm_regimes::{Kind, Page, Pe, Which};
+use bbm_report::{Question, asked, found_text, phase_text, verdict_text, walk_text};
 use bbm_rules::{Phase, Rule, Verdict};
 use std::alloc::{AllocError, Global};
 use std::test::Fail;

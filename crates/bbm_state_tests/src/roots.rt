@@ -4,10 +4,10 @@
 ghost use Rattle.std.specs.Prelude.{◌≡◌, ◌<◌, IfOk};
 ghost use Rattle.bbm_roots.specs.Stands.{pes_of, world_of};
 
-use bbm_roots::{InUse, RootFault, Roots, Unsynced, first_root, is_of_world};
 use bbm_barriers::{Domain, Dsb, Types};
 use bbm_events::Header;
 use bbm_regimes::{AsidFrom, HypWorld, KernelWorld, Kind, Page, Pe, Reg, Tag, Which, World};
+use bbm_roots::{InUse, RootFault, Roots, Unsynced, first_root, is_of_world};
 use bbm_tlbi_scope::{TagSet, TlbiOp, decode};
 use std::alloc::Global;
 use std::test::Fail;

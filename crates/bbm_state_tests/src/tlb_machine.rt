@@ -1,8 +1,8 @@
 //! What comes of one run, step by step, as it was worked out by hand.
 
-use bbm_tlb_machine::{FollowFault, Machine, Step, follow};
 use bbm_events::{Event, Header, MachineLine};
 use bbm_regimes::{HypWorld, Kind, Page, Pe, Place, Reg, World};
+use bbm_tlb_machine::{FollowFault, Machine, Step, follow};
 use std::alloc::Global;
 
 // `bbmlog 1 hyp 2 1 1 1`

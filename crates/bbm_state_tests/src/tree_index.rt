@@ -1,10 +1,10 @@
 //! What no clause says: the calls answer Ok where there is memory.
 #![tactic(auto)]
 
-use bbm_tree_index::{Attach, TreeFault, TreeIndex, null_page};
 use bbm_events::Header;
 use bbm_place_map::PlaceMap;
 use bbm_regimes::{HypWorld, Kind, Page, World};
+use bbm_tree_index::{Attach, TreeFault, TreeIndex, null_page};
 
 const HYP: Header = Header {
     version: 1,

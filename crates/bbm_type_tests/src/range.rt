@@ -1,6 +1,6 @@
 //! Tests of bbm_range.
 
-use bbm_range::{BadRange, Range, pages};
+use bbm_range::{BadRange, is_upper, pages};
 
 /// The first page number, the last one and the level of the hint.
 fn read(xt: u64) -> Result<(u64, u64, u8), BadRange> {

@@ -1,7 +1,8 @@
 //! Tests of bbm_regimes.
 
 use bbm_regimes::{
-    Interval, Kind, Page, Pe, PeMask, Place, Reg, Tag, base_of, kind_of, same_reg, same_tag, span, tag_number,
+    Interval, Kind, Page, Pe, PeMask, Place, Reg, Tag, base_of, kind_of, same_reg, same_tag, span,
+    tag_number,
 };
 
 // Addresses and whether they are a page's and a place's.
@@ -58,12 +59,9 @@ fn registers(rt: HostRuntime) {
         assert_eq!(rt; tag_number(value), number);
     }
     assert!(rt; kind_of(Reg::VttbrEl2) == Kind::S2 && kind_of(Reg::Ttbr1El1) == Kind::Ttbr1);
-    assert!(rt;
-        same_reg(Reg::Ttbr0El2, Reg::Ttbr0El2) && !same_reg(Reg::Ttbr0El2, Reg::Ttbr0El1)
-    );
+    assert!(rt; same_reg(Reg::Ttbr0El2, Reg::Ttbr0El2) && !same_reg(Reg::Ttbr0El2, Reg::Ttbr0El1));
     assert!(rt; same_tag(Tag::Vmid(5), Tag::Vmid(5)) && !same_tag(Tag::Vmid(5), Tag::Asid(5)));
 }
-
 
 // Two intervals, and whether they meet and the first holds the second.
 const INTERVALS: [((u64, u64), (u64, u64), bool, bool); 5] = [

@@ -1,6 +1,6 @@
-use bbm_log_grammar::{read_certificate_line, read_claim, write_certificate_line, write_claim};
 use arrayvec::ArrayVec;
 use bbm_events::{Claim, ClaimItem, Header, Malformed};
+use bbm_log_grammar::{read_certificate_line, read_claim, write_certificate_line, write_claim};
 use bbm_regimes::{HypWorld, Pe, Place, Tag, World};
 
 /// A header of the Hyp world with two PEs.

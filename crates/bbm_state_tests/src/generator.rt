@@ -1,6 +1,6 @@
-use bbm_gen::{gen_event, gen_header};
 use bbm_barriers::{Domain, Dsb, Types};
 use bbm_events::Event;
+use bbm_gen::{gen_event, gen_header};
 use bbm_regimes::{Kind, Page, Pe, Place, Reg};
 use bbm_tlbi_scope::TlbiOp;
 
