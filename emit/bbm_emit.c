@@ -88,7 +88,8 @@ static struct bbm_slot *take_slot(struct bbm_buffer *buffer, unsigned spare)
 	return &buffer->slots[next % buffer->room];
 }
 
-/* What an event tells, besides its ticket and its PE. */
+/* What an event tells, besides its ticket and its PE. Each field is set by itself: what an initialiser leaves out may be
+ * made zero by a call of memset. */
 struct told {
 	enum bbm_word word;
 	unsigned detail;
@@ -110,15 +111,16 @@ static void fill(struct bbm_slot *slot, uint64_t ticket, uint32_t pe, const stru
 	slot->first = told->first;
 	slot->second = told->second;
 	/* One by one: a loop, or the whole struct, may become a call of memcpy. */
-	slot->label.part[0] = from->part[0];
-	slot->label.part[1] = from->part[1];
-	slot->label.part[2] = from->part[2];
-	slot->label.part[3] = from->part[3];
+	slot->label[0] = from->part[0];
+	slot->label[1] = from->part[1];
+	slot->label[2] = from->part[2];
+	slot->label[3] = from->part[3];
 	store(&slot->mark, ticket + 1);
 }
 
-/* Keeps one event. An interrupt between any two steps may keep others. */
-static void keep(struct bbm_buffer *buffer, const struct told *told, const struct bbm_label *label)
+/* Keeps one event. An interrupt between any two steps may keep others. It is one function for all events: where the
+ * compiler knows which fields are zero, it may call memset for them. */
+static __attribute__((noinline)) void keep(struct bbm_buffer *buffer, const struct told *told, const struct bbm_label *label)
 {
 	uint64_t ticket = take_ticket(buffer->tickets);
 	struct bbm_slot *slot;
@@ -150,78 +152,125 @@ void bbm_open(struct bbm_buffer *buffer, struct bbm_tickets *tickets, struct bbm
 void bbm_close(struct bbm_buffer *buffer)
 {
 	uint64_t taken = stop_tickets(buffer->tickets);
-	struct told told = {.word = BBM_CLOSE, .first = taken, .second = load(&buffer->lost)};
 	struct bbm_slot *slot = take_slot(buffer, 0);
+	struct told told;
 
+	told.word = BBM_CLOSE;
+	told.detail = 0;
+	told.lock = 0;
+	told.first = taken;
+	told.second = load(&buffer->lost);
 	if (slot)
 		fill(slot, taken, buffer->pe, &told, BBM_NO_LABEL);
 }
 
 /* ---- the events */
 
+/* An event that has numbers alone, or none. */
+static void keep_numbers(struct bbm_buffer *buffer, enum bbm_word word, uint64_t first, uint64_t second,
+			 const struct bbm_label *label)
+{
+	struct told told;
+
+	told.word = word;
+	told.detail = 0;
+	told.lock = 0;
+	told.first = first;
+	told.second = second;
+	keep(buffer, &told, label);
+}
+
+/* One of an option, an operation or a register. */
+static void keep_detail(struct bbm_buffer *buffer, enum bbm_word word, unsigned detail, uint64_t first,
+			const struct bbm_label *label)
+{
+	struct told told;
+
+	told.word = word;
+	told.detail = detail;
+	told.lock = 0;
+	told.first = first;
+	told.second = 0;
+	keep(buffer, &told, label);
+}
+
+/* One that names a lock, and perhaps a root. */
+static void keep_lock(struct bbm_buffer *buffer, enum bbm_word word, unsigned kind, int lock, uint64_t page,
+		      const struct bbm_label *label)
+{
+	struct told told;
+
+	told.word = word;
+	told.detail = kind;
+	told.lock = lock;
+	told.first = page;
+	told.second = 0;
+	keep(buffer, &told, label);
+}
+
 void bbm_init(struct bbm_buffer *buffer, uint64_t page, const struct bbm_label *label)
 {
-	keep(buffer, &(struct told){.word = BBM_INIT, .first = page}, label);
+	keep_numbers(buffer, BBM_INIT, page, 0, label);
 }
 
 void bbm_null(struct bbm_buffer *buffer, uint64_t page, const struct bbm_label *label)
 {
-	keep(buffer, &(struct told){.word = BBM_NULL, .first = page}, label);
+	keep_numbers(buffer, BBM_NULL, page, 0, label);
 }
 
 void bbm_root(struct bbm_buffer *buffer, enum bbm_kind kind, int lock, uint64_t page, const struct bbm_label *label)
 {
-	keep(buffer, &(struct told){.word = BBM_ROOT, .detail = kind, .lock = lock, .first = page}, label);
+	keep_lock(buffer, BBM_ROOT, kind, lock, page, label);
 }
 
 void bbm_unroot(struct bbm_buffer *buffer, uint64_t page, const struct bbm_label *label)
 {
-	keep(buffer, &(struct told){.word = BBM_UNROOT, .first = page}, label);
+	keep_numbers(buffer, BBM_UNROOT, page, 0, label);
 }
 
 void bbm_write(struct bbm_buffer *buffer, uint64_t place, uint64_t value, const struct bbm_label *label)
 {
-	keep(buffer, &(struct told){.word = BBM_W, .first = place, .second = value}, label);
+	keep_numbers(buffer, BBM_W, place, value, label);
 }
 
 void bbm_dsb(struct bbm_buffer *buffer, enum bbm_option option, const struct bbm_label *label)
 {
-	keep(buffer, &(struct told){.word = BBM_DSB, .detail = option}, label);
+	keep_detail(buffer, BBM_DSB, option, 0, label);
 }
 
 void bbm_dmb(struct bbm_buffer *buffer, enum bbm_option option, const struct bbm_label *label)
 {
-	keep(buffer, &(struct told){.word = BBM_DMB, .detail = option}, label);
+	keep_detail(buffer, BBM_DMB, option, 0, label);
 }
 
 void bbm_isb(struct bbm_buffer *buffer, const struct bbm_label *label)
 {
-	keep(buffer, &(struct told){.word = BBM_ISB}, label);
+	keep_numbers(buffer, BBM_ISB, 0, 0, label);
 }
 
 void bbm_tlbi(struct bbm_buffer *buffer, enum bbm_tlbi_op op, const struct bbm_label *label)
 {
-	keep(buffer, &(struct told){.word = BBM_TLBI, .detail = op}, label);
+	keep_detail(buffer, BBM_TLBI, op, 0, label);
 }
 
 void bbm_tlbi_at(struct bbm_buffer *buffer, enum bbm_tlbi_at_op op, uint64_t operand, const struct bbm_label *label)
 {
-	keep(buffer, &(struct told){.word = BBM_TLBI_AT, .detail = op, .first = operand}, label);
+	keep_detail(buffer, BBM_TLBI_AT, op, operand, label);
 }
 
 void bbm_msr(struct bbm_buffer *buffer, enum bbm_register reg, uint64_t value, const struct bbm_label *label)
 {
-	keep(buffer, &(struct told){.word = BBM_MSR, .detail = reg, .first = value}, label);
+	keep_detail(buffer, BBM_MSR, reg, value, label);
 }
 
 void bbm_lock(struct bbm_buffer *buffer, unsigned lock, const struct bbm_label *label)
 {
-	keep(buffer, &(struct told){.word = BBM_LOCK, .lock = (int)lock}, label);
+	keep_lock(buffer, BBM_LOCK, 0, (int)lock, 0, label);
 }
 
 void bbm_unlock(struct bbm_buffer *buffer, unsigned lock, const struct bbm_label *label)
 {
-	keep(buffer, &(struct told){.word = BBM_UNLOCK, .lock = (int)lock}, label);
+	keep_lock(buffer, BBM_UNLOCK, 0, (int)lock, 0, label);
 }
 
 /* ---- a tree that stands before logging begins */
@@ -381,9 +430,8 @@ static int is_label_character(char c)
 	       c == ':' || c == '_' || c == '-';
 }
 
-static char *put_label(char *at, const struct bbm_label *label)
+static char *put_label(char *at, const char *text)
 {
-	const char *text = (const char *)label;
 	unsigned i;
 
 	if (!text[0])
@@ -433,7 +481,7 @@ size_t bbm_line(const struct bbm_slot *slot, char *line)
 	char *at = put_digits(line, slot->mark - 1, 10);
 
 	at = put_decimal(put_name(at, bbm_word_name(slot->word)), slot->pe);
-	at = put_text(put_label(put_fields(at, slot), &slot->label), "\n");
+	at = put_text(put_label(put_fields(at, slot), (const char *)slot->label), "\n");
 	return (size_t)(at - line);
 }
 
@@ -454,18 +502,19 @@ size_t bbm_read(struct bbm_buffer *buffer, char *text, size_t room)
 	return used;
 }
 
-struct bbm_label bbm_label_of(const char *text)
+void bbm_label_of(struct bbm_label *label, const char *text)
 {
-	struct bbm_label label = {{0}};
-	char *to = (char *)&label;
+	char *to = (char *)label;
 	unsigned length = 0, i;
 
 	while (text[length])
 		length++;
 	text += BBM_LABEL_START(length);
-	for (i = 0; i < BBM_LABEL_BYTES && text[i]; i++)
-		to[i] = text[i];
-	return label;
+	for (i = 0; i < BBM_LABEL_BYTES; i++) {
+		to[i] = *text;
+		if (*text)
+			text++;
+	}
 }
 
 /* ---- the header of a log */

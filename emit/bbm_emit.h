@@ -119,8 +119,8 @@ struct bbm_label {
 #define BBM_STRING(tokens) BBM_STRING_OF(tokens)
 #define BBM_STRING_OF(tokens) #tokens
 
-/* The label of any text, which ends with a zero byte: the last 32 bytes of it. */
-struct bbm_label bbm_label_of(const char *text);
+/* Makes the label of any text, which ends with a zero byte: the last 32 bytes of it. */
+void bbm_label_of(struct bbm_label *label, const char *text);
 
 /* The tickets: one object for all PEs, zero at the start. */
 struct bbm_tickets {
@@ -136,7 +136,7 @@ struct bbm_slot {
 	int32_t lock;     /* of BBM_ROOT, BBM_LOCK and BBM_UNLOCK */
 	uint64_t first;   /* the address, the operand, the value of a register; of BBM_CLOSE the tickets taken */
 	uint64_t second;  /* the descriptor; of BBM_CLOSE the events lost */
-	struct bbm_label label;
+	uint64_t label[BBM_LABEL_BYTES / sizeof(uint64_t)];
 };
 
 /* The buffer of one PE, a ring of slots. Set it by bbm_open; or name tickets, slots, room and pe, all else zero. */

@@ -138,8 +138,9 @@ static void labels(void)
 	unsigned i;
 
 	for (i = 0; i < sizeof texts / sizeof texts[0]; i++) {
-		struct bbm_label label = bbm_label_of(texts[i]);
+		struct bbm_label label;
 
+		bbm_label_of(&label, texts[i]);
 		bbm_isb(&one, &label);
 	}
 	bbm_isb(&two, BBM_LABEL("arch/arm64/kvm/hyp/nvhe/mem_protect.c:1234"));

@@ -254,7 +254,8 @@ static bool read_fields(char *const fields[], unsigned *taken, struct bbm_slot *
 	return false;
 }
 
-/* Reads a line "TICKET LINE" without its newline into a slot. What can't be read, or null. */
+/* Reads a line "TICKET LINE" without its newline into a slot. What can't be read, or null; the slot has a mark where its
+ * PE could be read. */
 static const char *read_line(char *line, struct bbm_slot *slot)
 {
 	char *fields[MOST_FIELDS];
@@ -275,7 +276,7 @@ static const char *read_line(char *line, struct bbm_slot *slot)
 		return "a field can't be read, or isn't there";
 	taken += 3;
 	if (taken < count && fields[taken][0] == '@' && slot->word != BBM_CLOSE)
-		slot->label = bbm_label_of(fields[taken++] + 1);
+		bbm_label_of((struct bbm_label *)slot->label, fields[taken++] + 1);
 	return taken < count ? "it has a field more than that" : NULL;
 }
 
@@ -420,7 +421,7 @@ static void take_line(struct dump *dump, char *line)
 		return;
 	wrong = read_line(line, &slot);
 	if (wrong)
-		fail("%s: %s", place_of(dump->pe, dump, dump->line), wrong);
+		fail("%s: %s", place_of(slot.mark ? slot.pe : dump->pe, dump, dump->line), wrong);
 	take_slot(dump, &slot);
 }
 
@@ -558,7 +559,7 @@ static void write_event(const struct event *event)
 	const char *text;
 
 	if (header.version < 3)
-		memset(&slot.label, 0, sizeof slot.label);
+		memset(slot.label, 0, sizeof slot.label);
 	length = bbm_line(&slot, line);
 	text = (const char *)memchr(line, ' ', length) + 1;
 	fwrite(text, 1, length - (size_t)(text - line), stdout);

@@ -18,8 +18,9 @@ void write_here(uint64_t place, uint64_t value)
 
 void make_calls(const char *text, char *line, size_t room)
 {
-	struct bbm_label label = bbm_label_of(text);
+	struct bbm_label label;
 
+	bbm_label_of(&label, text);
 	bbm_open(&buffer, &tickets, slots, 64, 3);
 	bbm_init(&buffer, 0x40000000, BBM_HERE);
 	bbm_null(&buffer, 0x40001000, BBM_NO_LABEL);
@@ -39,7 +40,7 @@ void make_calls(const char *text, char *line, size_t room)
 
 uint64_t make_a_tree(char *header, uint64_t tcr, uint64_t vtcr)
 {
-	const struct bbm_tree tree = {
+	static const struct bbm_tree tree = {
 		.kind = BBM_S2, .lock = 1, .page = 0x40000000, .pages = 2, .start = 1, .descriptor = descriptor_at};
 
 	bbm_tree(&buffer, &tree, BBM_HERE);
