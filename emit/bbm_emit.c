@@ -7,7 +7,7 @@
 
 /* Puts `new` into *at where it is `old`, and tells whether it did. It orders what comes before it and after it: where
  * one PE sees a store behind another's ticket, its own next ticket is a later one. */
-static int swap(uint64_t *at, uint64_t old, uint64_t new)
+static int swap_if(uint64_t *at, uint64_t old, uint64_t new)
 {
 #if defined(__aarch64__) && !defined(__ARM_FEATURE_ATOMICS)
 	/* Written out, since the compiler's own may be a call to a function of its library. */
@@ -50,7 +50,7 @@ static uint64_t take_ticket(struct bbm_tickets *tickets)
 		ticket = load(&tickets->next);
 		if (ticket & STOPPED)
 			return STOPPED;
-	} while (!swap(&tickets->next, ticket, ticket + 1));
+	} while (!swap_if(&tickets->next, ticket, ticket + 1));
 	return ticket;
 }
 
@@ -61,7 +61,7 @@ static uint64_t stop_tickets(struct bbm_tickets *tickets)
 
 	do
 		next = load(&tickets->next);
-	while (!swap(&tickets->next, next, next | STOPPED));
+	while (!swap_if(&tickets->next, next, next | STOPPED));
 	return next & ~STOPPED;
 }
 
@@ -71,7 +71,7 @@ static void count_lost(struct bbm_buffer *buffer)
 
 	do
 		lost = load(&buffer->lost);
-	while (!swap(&buffer->lost, lost, lost + 1));
+	while (!swap_if(&buffer->lost, lost, lost + 1));
 }
 
 /* A slot for this call alone, which leaves at least `spare` others free; or 0. `read` is loaded behind `next`: so an old
@@ -84,7 +84,7 @@ static struct bbm_slot *take_slot(struct bbm_buffer *buffer, unsigned spare)
 		next = load(&buffer->next);
 		if (next + spare >= load(&buffer->read) + buffer->room)
 			return 0;
-	} while (!swap(&buffer->next, next, next + 1));
+	} while (!swap_if(&buffer->next, next, next + 1));
 	return &buffer->slots[next % buffer->room];
 }
 
@@ -120,7 +120,7 @@ static void fill(struct bbm_slot *slot, uint64_t ticket, uint32_t pe, const stru
 
 /* Keeps one event. An interrupt between any two steps may keep others. It is one function for all events: where the
  * compiler knows which fields are zero, it may call memset for them. */
-static __attribute__((noinline)) void keep(struct bbm_buffer *buffer, const struct told *told, const struct bbm_label *label)
+static __attribute__((__noinline__)) void keep(struct bbm_buffer *buffer, const struct told *told, const struct bbm_label *label)
 {
 	uint64_t ticket = take_ticket(buffer->tickets);
 	struct bbm_slot *slot;

@@ -97,7 +97,7 @@ enum { BBM_NO_LOCK = -1 };
 /* Where an event comes from: 32 bytes, zero behind the last one. They may lie at any address. */
 struct bbm_label {
 	uint64_t part[BBM_LABEL_BYTES / sizeof(uint64_t)];
-} __attribute__((packed, may_alias));
+} __attribute__((__packed__, __may_alias__));
 
 /* No label. */
 #define BBM_NO_LABEL ((const struct bbm_label *)0)

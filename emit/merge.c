@@ -704,6 +704,18 @@ static int write_header(int count, char **words)
 	return fclose(stdout) ? 1 : 0;
 }
 
+/* Reads the number of tickets to take, in decimal or as a debugger prints it, where the top bit says that the log is
+ * closed. */
+static bool read_tickets(const char *text)
+{
+	const uint64_t closed = (uint64_t)1 << 63;
+
+	if (!read_decimal(text, UINT64_MAX, &option.tickets) && !read_hex(text, &option.tickets))
+		usage();
+	option.tickets &= ~closed;
+	return true;
+}
+
 /* Reads the options. The number of the first word behind them. */
 static int read_options(int argc, char **argv)
 {
@@ -715,10 +727,7 @@ static int read_options(int argc, char **argv)
 		} else if (!strcmp(argv[n], "--strip") && n + 1 < argc && *argv[n + 1]) {
 			option.strip = argv[++n];
 		} else if (!strcmp(argv[n], "--tickets") && n + 1 < argc) {
-			if (!read_decimal(argv[++n], UINT32_MAX, &option.tickets) &&
-			    (!read_hex(argv[n], &option.tickets) || option.tickets > UINT32_MAX))
-				usage();
-			option.has_tickets = true;
+			option.has_tickets = read_tickets(argv[++n]);
 		} else {
 			usage();
 		}

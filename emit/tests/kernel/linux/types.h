@@ -1,4 +1,5 @@
-/* The types that a kernel's own header of this name has, and no others: for building without any of the compiler's. */
+/* The types that a kernel's own header of this name has, and no others: for building without any of the compiler's. And
+ * words that a kernel has as macros. */
 #ifndef LINUX_TYPES_H
 #define LINUX_TYPES_H
 
@@ -16,5 +17,12 @@ typedef __u64 u64, uint64_t;
 
 typedef unsigned long size_t;
 typedef _Bool bool;
+
+#define inline inline __attribute__((__always_inline__))
+#define noinline __attribute__((__noinline__))
+#define swap(a, b) do { __typeof__(a) was = (a); (a) = (b); (b) = was; } while (0)
+#define min(a, b) ((a) < (b) ? (a) : (b))
+#define __packed __attribute__((__packed__))
+#define current get_current()
 
 #endif
