@@ -1,7 +1,7 @@
-"""Runs the program on a log, and says what is wrong with its answer. `tools/fuzz`, `tools/compare` and
-`tools/refuse_memory` use it.
+"""Runs the program on a log, and says what is wrong with its answer. `tools/fuzz`, `tools/compare`, `tools/refuse_memory` and
+`tools/test_why` use it.
 
-The forms are those of README.md, "Answers", and docs/FORMAT.md.
+The forms are those that docs/OUTPUT.md promises: they are read from there.
 """
 import os
 import re
@@ -10,36 +10,57 @@ import subprocess
 TOP = os.path.dirname(os.path.dirname(os.path.realpath(__file__)))
 BUILT = os.path.join(TOP, "crates/bbm_cli/out/bbm_cli")
 SECONDS = 10
+PROMISED = os.path.join(TOP, "docs/OUTPUT.md")
 
-RULES = """wrong-world no-lock null-written break-before-make limbo-make not-fresh rewritten-fresh bad-kind global-user
-page-in-use no-root tag-conflict root-in-use unsynced-vmid bad-operand lock-busy lock-not-mine""".split()
-CAUSES = {1: "NoMagic", 2: "BadHeader", 3: "UnknownWord", 4: "BadNumber", 5: "BadPe", 6: "BadAddress", 7: "MissingField",
-          8: "ExtraField", 9: "NoEnd", 10: "WrongCount", 11: "AfterEnd", 13: "BadLabel"}
-LIMITS = "line-bytes pages roots values events lines steps".split()
 
-HEX = "0x(?:0|[1-9a-f][0-9a-f]{0,15})"
-NUMBER = "(?:0|[1-9][0-9]*)"
-ACCEPTED = rf"accepted {NUMBER} events\n"
-RULE = "|".join(f"{number} {name}" for number, name in enumerate(RULES, 1))
-REFUSED = rf"refused line {NUMBER} rule (?:{RULE}) at {HEX}(?: @[A-Za-z0-9./:_-]{{1,32}})?\n"
-CAUSE = "|".join(f"{number} {name}" for number, name in CAUSES.items())
-MALFORMED = rf"malformed line {NUMBER} cause (?:{CAUSE})\n"
-LIMIT = rf"limit line {NUMBER} (?:{'|'.join(LIMITS)})\n"
-USAGE = r"usage: bbm [^\n]+\n"
-PHASES = rf"(?:pe {NUMBER} (?:live|broken|seen|half|cleansed)\n)+"
-WALK = rf"walk (?:out {HEX} level [0-3]|fault level [0-3]|no-root)\n"
-RUN = rf"run {NUMBER} steps(?: conflict line {NUMBER})?\n"
-BAD_STEP = rf"bad step line {NUMBER}\n"
+# ---- the forms of docs/OUTPUT.md
 
-# What each command writes with each status.
-COMMON = {2: MALFORMED, 3: USAGE, 4: "", 6: "", 7: LIMIT}
-FORMS = {
-    "check": {**COMMON, 0: ACCEPTED, 1: REFUSED},
-    "slow": {**COMMON, 0: ACCEPTED, 1: REFUSED},
-    "explain": {**COMMON, 0: ACCEPTED, 1: rf"{REFUSED}(?:{PHASES})?"},
-    "walk": {**COMMON, 0: ACCEPTED + WALK, 1: REFUSED},
-    "follow": {**COMMON, 0: RUN, 1: BAD_STEP},
-}
+def block(page, name):
+    """The lines of a fenced block of the page, each cut at its first separator."""
+    lines = re.search(rf"^```{name}\n(.*?)^```$", page, re.M | re.S).group(1).splitlines()
+    separator = ": " if name == "answers" else " = "
+    return [line.split(separator, 1) for line in lines]
+
+
+def field(words):
+    """The regular expression of a field: that between slashes, or any of its words."""
+    return f"(?:{words[1:-1]})" if words.startswith("/") else "(?:" + "|".join(map(re.escape, words.split(" | "))) + ")"
+
+
+def line_form(form, fields):
+    """The regular expression of a line: a field for each of its capitals, and `[..]` may be absent."""
+    signs = {"[": "(?:", "]": ")?", "\\[": r"\[", "\\]": r"\]"}
+    parts = re.split(r"(\\?[\[\]]|[A-Z][A-Z_]+)", form)
+    return "".join(signs.get(part) or fields.get(part) or re.escape(part) for part in parts) + "\n"
+
+
+def answer_forms(texts, lines):
+    """The regular expression of a whole text for each status."""
+    forms = {}
+    for text in texts.split(", "):
+        status, *names = text.split(" ")
+        forms[int(status)] = "".join(f"(?:{lines[name.rstrip('*')]})" + ("*" if name.endswith("*") else "") for name in names)
+    return forms
+
+
+def promised():
+    """The fields, the lines and the answers of the page."""
+    with open(PROMISED, encoding="utf-8") as file:
+        page = file.read()
+    words = dict(block(page, "fields"))
+    fields = {name: field(text) for name, text in words.items()}
+    lines = {}
+    for name, form in block(page, "forms"):
+        lines[name] = (lines[name] + "|" if name in lines else "") + line_form(form, fields)
+    answers = {command: answer_forms(texts, lines) for command, texts in block(page, "answers")}
+    common = answers.pop("any")
+    return words, lines, {command: {**common, **forms} for command, forms in answers.items()}
+
+
+WORDS, LINES, FORMS = promised()
+RULES = [rule.split()[1] for rule in WORDS["RULE"].split(" | ")]
+CAUSES = {int(number): name for number, name in (cause.split() for cause in WORDS["CAUSE"].split(" | "))}
+LIMITS = WORDS["BOUND"].split(" | ")
 
 
 class Answer:
@@ -76,7 +97,7 @@ def fault_of(words, answer):
         return "ended by a signal"
     if answer.faults:
         return "wrote to standard error"
-    forms = FORMS.get(words[0] if words else "", {3: USAGE})
+    forms = FORMS.get(" ".join(words)) or FORMS.get(words[0] if words else "", {3: LINES["USAGE"]})
     if answer.status not in forms:
         return "a status of no answer"
     if not re.fullmatch(forms[answer.status], answer.text):

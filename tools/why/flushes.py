@@ -1,0 +1,248 @@
+"""Barriers and TLBIs that may be missing or wrong between a break and what comes after it, and register writes before a flush.
+
+Each try is what stands before the TLBI, the TLBI, and what stands behind it; each of the three may stay as it is.
+"""
+from __future__ import annotations
+
+from collections.abc import Iterator
+from dataclasses import dataclass
+
+import words
+from changes import NOTHING, Change, Kind, Put, Swap, one, puts
+from log import ADDRESS_BITS, Event, Line
+from scene import Scene
+
+NEAR = 5
+
+
+@dataclass(frozen=True)
+class Family:
+    """Changes of one size, the least first; the first that passes stands for all. `probe` is tried before them: where that
+    doesn't pass, less doesn't."""
+
+    choices: tuple[Change, ...]
+    probe: Change | None = None
+
+
+@dataclass(frozen=True)
+class Flush:
+    """A TLBI as it is, changed or put in: the changes, the widest of them, by which PE, and behind which line."""
+
+    choices: tuple[Change, ...]
+    widest: Change
+    pe: int
+    at: int
+
+
+def with_words(line: Line, rest: tuple[str, ...], kind: Kind, pe: int | None = None) -> Change:
+    """The line with other fields, its label as it was."""
+    event = line.event
+    text = Event(event.word, event.pe if pe is None else pe, rest, event.label)
+    return one(Swap(line.at, str(text), kind))
+
+
+def with_pe(line: Line, pe: int) -> Change:
+    return with_words(line, line.event.rest, Kind.PE, pe)
+
+
+# ---- the operands
+
+def operands(scene: Scene, event: Event) -> Iterator[tuple[int, Kind]]:
+    """Other operands of a TLBI: without its hint, with the right one, of the place's address, of a tag, of a longer range."""
+    operand = words.Operand(event.operation, event.operand)
+    if operand.hint is not None:
+        yield operand.without_hint(), Kind.HINT
+    yield from ((longer, Kind.RANGE) for longer in operand.longer())
+    for spot in scene.spots:
+        yield operand.at(spot.address), Kind.ADDRESS
+        yield words.Operand(event.operation, operand.without_hint()).at(spot.address), Kind.ADDRESS
+    if words.base_of(event.operation) in words.BY_ASID:
+        yield from ((operand.of_asid(tag), Kind.TAG) for tag in scene.tags)
+
+
+def operations(event: Event) -> Iterator[tuple[str, Kind]]:
+    """Other operations in the place of one: its broadcast form, that for every level, and those that take more."""
+    base = words.base_of(event.operation)
+    every_level = words.LAST_LEVEL.get(base, base)
+    suffix = words.BROADCAST
+    yield base + suffix, Kind.BROADCAST
+    yield every_level + (suffix if words.is_broadcast(event.operation) else ""), Kind.OPERATION
+    yield every_level + suffix, Kind.OPERATION
+    for wider in words.WIDER.get(every_level, []):
+        yield wider + suffix, Kind.OPERATION
+
+
+def operand_for(scene: Scene, event: Event, operation: str) -> tuple[str, ...]:
+    """The operand of an event under another operation."""
+    base = words.base_of(operation)
+    if base not in words.WITH_OPERAND:
+        return ()
+    if base == "aside1":
+        asid = event.operand >> words.ASID_SHIFT if words.base_of(event.operation) in words.BY_ASID else (scene.tags or [0])[0]
+        return (hex(asid << words.ASID_SHIFT),)
+    if words.is_range(event.operation) and not words.is_range(operation):
+        return (hex(words.Operand(operation, 0).at(words.Operand(event.operation, event.operand).address)),)
+    return (hex(event.operand or 0),)
+
+
+def changes_of_tlbi(scene: Scene, line: Line) -> tuple[Change, ...]:
+    """What a TLBI of the log may be changed to, the least first."""
+    event, tried = line.event, {}
+    tries = []
+    if event.operand is not None:
+        tries += [((event.operation, hex(value)), kind) for value, kind in operands(scene, event)]
+    tries += [((operation, *operand_for(scene, event, operation)), kind) for operation, kind in operations(event)]
+    tries.sort(key=lambda item: item[1] is not Kind.BROADCAST)
+    for rest, kind in tries:
+        if rest != event.rest:
+            tried.setdefault(rest, kind)
+    return tuple(with_words(line, rest, kind) for rest, kind in tried.items())
+
+
+# ---- TLBIs that are put in
+
+def tlbis_for_places(scene: Scene, kind: str) -> list[str]:
+    """TLBIs that may take the place, the least first, without their PE."""
+    pages = [hex(words.Operand("ipas2e1" if kind == "s2" else "vae1", 0).at(spot.address))
+             for spot in scene.spots if spot.kind == kind]
+    if kind == "el2":
+        return [f"vae2is {page}" for page in pages] + ["alle2is"]
+    if kind == "s2":
+        return ["vmalle1is"] + [f"ipas2e1is {page}" for page in pages] + ["vmalls12e1is", "alle1is"]
+    by_asid = [f"vae1is {hex(tag << 48 | int(page, 16))}" for page in pages for tag in scene.tags if kind == "ttbr0"]
+    return by_asid + [f"vaae1is {page}" for page in pages] + tlbis_for_tags(scene, kind)
+
+
+def tlbis_for_tags(scene: Scene, kind: str) -> list[str]:
+    """TLBIs that take all under a tag, the least first."""
+    if kind == "el2":
+        return ["alle2is"]
+    if kind == "s2":
+        return ["vmalls12e1is", "alle1is"]
+    return [*(f"aside1is {hex(tag << 48)}" for tag in scene.tags if kind == "ttbr0"), "vmalle1is"]
+
+
+def is_about_tags(scene: Scene) -> bool:
+    return scene.event.word in ("msr", "unroot")
+
+
+def positions(scene: Scene) -> list[int]:
+    """Behind which lines a TLBI may be put in: before and behind each near DSB, before each near TLBI, before the refused line."""
+    near = scene.in_window("dsb")[-NEAR:]
+    found = [at for line in near for at in (line.at, line.at - 1)]
+    synced = [line.at for line in scene.in_window("isb")[-2:]] if is_about_tags(scene) else []
+    return list(dict.fromkeys([*found, *synced, scene.refused.at - 1]))
+
+
+def flushes_put(scene: Scene) -> Iterator[Flush]:
+    for kind in scene.kinds:
+        texts = tlbis_for_tags(scene, kind) if is_about_tags(scene) else tlbis_for_places(scene, kind)
+        widest = words.WIDEST[kind] + words.BROADCAST
+        for pe in scene.pes[:2]:
+            for at in positions(scene):
+                yield Flush(tuple(puts(at, f"tlbi {pe} {text}") for text in texts), puts(at, f"tlbi {pe} {widest}"), pe, at)
+
+
+def flushes_there(scene: Scene) -> Iterator[Flush]:
+    """The TLBIs that are there: as they are, and changed."""
+    for line in scene.in_window("tlbi")[-NEAR:]:
+        yield Flush((NOTHING,), NOTHING, line.event.pe, line.at)
+        for kind in scene.kinds:
+            widest = with_words(line, (words.WIDEST[kind] + words.BROADCAST,), Kind.OPERATION)
+            yield Flush(changes_of_tlbi(scene, line), widest, line.event.pe, line.at)
+
+
+# ---- what stands before and behind a TLBI
+
+def options_of(line: Line, pe: int) -> list[Change]:
+    """A DSB with another option, or of another PE."""
+    if line.event.pe != pe:
+        return [with_pe(line, pe)]
+    return [with_words(line, (option,), Kind.OPTION) for option in words.OPTIONS if (option,) != line.event.rest]
+
+
+def publications(scene: Scene, flush: Flush) -> Iterator[Change]:
+    """What may stand before the TLBI so that the break is published."""
+    yield NOTHING
+    broken = scene.last_write
+    if broken is None:
+        return
+    pe = broken.event.pe
+    clear = f"w {pe} {broken.event.rest[0]} 0x0"
+    barrier = f"dsb {pe} {words.PUBLISHING}"
+    yield puts(broken.at, barrier)
+    for line in [line for line in scene.in_window("dsb") if broken.at < line.at < flush.at][-2:]:
+        yield from options_of(line, pe)
+    if broken.event.value & 1:
+        yield puts(broken.at, clear)
+        yield puts(broken.at, clear, barrier)
+
+
+def elsewhere(scene: Scene) -> list[tuple[str, str]]:
+    """Register writes that lead away from a root: those of the log that name another one, and 0."""
+    written = [tuple(line.event.rest) for line in scene.of_word("msr") if line is not scene.refused]
+    given_up = scene.refusal.at
+    others = [(register, value) for register, value in written if int(value, 16) & ADDRESS_BITS not in (given_up, 0)]
+    zeros = [(register, "0x0") for register, _ in written]
+    if scene.event.word == "msr":
+        zeros.append((scene.event.rest[0], "0x0"))
+    return list(dict.fromkeys([*others, *zeros]))
+
+
+def switches(scene: Scene, flush: Flush) -> Iterator[Change]:
+    """What may stand before the TLBI so that no PE uses the tag any more: an ISB, or another root and an ISB."""
+    yield NOTHING
+    behind = flush.at if flush.choices[0].edits and isinstance(flush.choices[0].edits[0], Put) else flush.at - 1
+    pes = list(dict.fromkeys(line.event.pe for line in scene.of_word("msr")))[-NEAR:]
+    for pe in pes:
+        yield puts(behind, f"isb {pe}")
+    for pe in pes:
+        for register, value in elsewhere(scene)[:3]:
+            yield puts(behind, f"msr {pe} {register} {value}", f"isb {pe}")
+
+
+def completions(scene: Scene, flush: Flush) -> Iterator[Change]:
+    """What may stand behind the TLBI so that it is complete."""
+    yield NOTHING
+    later = [line for line in scene.in_window("dsb") if line.at > flush.at][:2]
+    for line in later:
+        yield from options_of(line, flush.pe)
+    yield puts(flush.at, f"dsb {flush.pe} {words.COMPLETING}")
+
+
+def sequences(scene: Scene, size: int) -> Iterator[Family]:
+    """Each way to a complete flush that takes so many edits."""
+    before = switches if is_about_tags(scene) else publications
+    for flush in (*flushes_there(scene), *flushes_put(scene)):
+        width = flush.choices[0].size if flush.choices else size + 1
+        ends = [end for end in completions(scene, flush) if end.size + width <= size]
+        for begin in before(scene, flush):
+            for end in ends:
+                if begin.size + width + end.size == size:
+                    yield Family(tuple(begin + choice + end for choice in flush.choices), begin + flush.widest + end)
+
+
+def whole_sequences(scene: Scene) -> Iterator[Family]:
+    """All four steps at once before the refused line: where the log has none of them."""
+    behind, event = scene.refused.at - 1, scene.event
+    for kind in scene.kinds:
+        if is_about_tags(scene):
+            heads = [(f"msr {event.pe} {register} {value}", f"isb {event.pe}") for register, value in elsewhere(scene)]
+            texts, tail = tlbis_for_tags(scene, kind), ()
+        else:
+            heads, tail = places_broken(scene), (f"init {event.pe} {hex(event.page)}",) if scene.refusal.name == "limbo-make" else ()
+            texts = tlbis_for_places(scene, kind)
+        for head in heads:
+            for text in texts:
+                yield Family((puts(behind, *head, f"tlbi {event.pe} {text}", f"dsb {event.pe} {words.COMPLETING}", *tail),))
+
+
+def places_broken(scene: Scene) -> list[tuple[str, ...]]:
+    """The clear of each place that the refusal is about, and the barrier that publishes it."""
+    pe = scene.event.pe
+    barrier = f"dsb {pe} {words.PUBLISHING}"
+    if scene.refusal.name == "limbo-make":
+        return [(barrier,)]
+    return [(f"w {pe} {hex(place)} 0x0", barrier) for place in scene.places]
+
+

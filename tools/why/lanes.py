@@ -1,0 +1,196 @@
+"""The small log in lanes: one column a PE, one row an event, and in each column how long an old entry may live there.
+
+What a row shows of the place after it is the answer of the program to a made write there (`probe`).
+"""
+from __future__ import annotations
+
+import shutil
+from dataclasses import dataclass, field
+from enum import Enum
+
+import words
+from log import Event, Header, Line, Lines, header_of, written
+from probe import Locks, made, other_value
+from program import Program, Refusal
+
+ALL_SHOWN = 16
+BREAK_BEFORE_MAKE = 4
+
+
+class Effect(Enum):
+    """What a row does at a PE, beside its own event."""
+
+    PUBLISHED = "p"
+    REACHED = "t"
+    HALF = "h"
+    GONE = "x"
+
+
+@dataclass
+class Row:
+    line: Line
+    phases: tuple[str, ...] = ()
+    effects: dict[int, Effect] = field(default_factory=dict)
+    refused: bool = False
+
+    @property
+    def event(self) -> Event:
+        return self.line.event
+
+
+@dataclass
+class Chart:
+    """The rows, and the columns: the PEs that are shown, and how many more there are."""
+
+    header: Header
+    rows: list[Row]
+    pes: list[int]
+    others: int
+    place: int | None
+    entries: list[tuple[int, int, int]] = field(default_factory=list)
+
+    def living(self, row: int, pe: int) -> bool:
+        """Whether a told run has a stale entry at a PE behind this row."""
+        return any(of == pe and first <= row < last for of, first, last in self.entries)
+
+
+# ---- what the program says
+
+class Phases:
+    """Asks for the phases of one place after each line."""
+
+    def __init__(self, program: Program, header: str, place: int):
+        self.program, self.header, self.place = program, header, place
+        self.value: int | None = None
+
+    def after(self, lines: Lines, locks: Locks) -> tuple[str, ...]:
+        """The phases after these lines; none where the place holds nothing."""
+        event = lines[-1].event
+        if event.place == self.place and event.value & 1:
+            self.value = event.value
+        if self.value is None:
+            return ()
+        return next((phases for pe in locks.writers() if (phases := self.asked(lines, locks, pe))), ())
+
+    def asked(self, lines: Lines, locks: Locks, pe: int) -> tuple[str, ...]:
+        texts = made(locks, pe, self.place, other_value(self.value))
+        answer = self.program.explain(written(self.header, [*lines, *(Line(0, text) for text in texts)]))
+        found = answer.refusal
+        made_line = len(lines) + 1 + len(texts)
+        return answer.phases if found and (found.line, found.rule) == (made_line, BREAK_BEFORE_MAKE) else ()
+
+
+def effects_of(event: Event, header: Header, before: tuple[str, ...], after: tuple[str, ...]) -> dict[int, Effect]:
+    """What an event did at each PE: by the phases before and behind it, and a TLBI by its form."""
+    if event.word == "tlbi":
+        if words.is_broadcast(event.operation):
+            return {pe: Effect.REACHED for pe in range(header.pes)}
+        return {} if header.shares else {event.pe: Effect.REACHED}
+    if event.word != "dsb" or not before:
+        return {}
+    names = {"seen": Effect.PUBLISHED, "half": Effect.HALF, "cleansed": Effect.GONE}
+    now = after or ("cleansed",) * len(before)
+    return {pe: names[new] for pe, (old, new) in enumerate(zip(before, now)) if old != new and new in names}
+
+
+def columns(header: Header, lines: Lines) -> tuple[list[int], int]:
+    """The PEs that have a column, and how many have none: of many PEs those with events, and one for all others."""
+    if header.pes <= ALL_SHOWN:
+        return list(range(header.pes)), 0
+    used = sorted({line.event.pe for line in lines})[:ALL_SHOWN - 1]
+    rest = [pe for pe in range(header.pes) if pe not in used]
+    return used + rest[:1], len(rest) - 1
+
+
+def chart_of(program: Program, header_text: str, lines: Lines, refusal: Refusal, place: int | None) -> Chart:
+    """The chart of a log that its last line is refused of."""
+    header, rows, locks = header_of(header_text), [], Locks()
+    asked = Phases(program, header_text, place) if place is not None else None
+    before: tuple[str, ...] = ()
+    for count, line in enumerate(lines[:-1], 1):
+        locks.take(line.event)
+        after = asked.after(lines[:count], locks) if asked else ()
+        rows.append(Row(line, after, effects_of(line.event, header, before, after)))
+        before = after
+    rows.append(Row(lines[-1], before, {}, True))
+    pes, others = columns(header, lines)
+    return Chart(header, rows, pes, others, place)
+
+
+# ---- as text
+
+BARS = {"live": "┃", "broken": "╏", "seen": "│", "half": "┊", "cleansed": "·"}
+PLAIN_BARS = {"live": "#", "broken": "!", "seen": "|", "half": ":", "cleansed": "."}
+LETTERS = {"init": "I", "null": "N", "root": "R", "unroot": "U", "dsb": "D", "dmb": "B", "isb": "S", "tlbi": "T", "msr": "M",
+           "lock": "L", "unlock": "K"}
+RED, BOLD, DIM, PLAIN = "\x1b[31m", "\x1b[1m", "\x1b[2m", "\x1b[0m"
+LEGEND = {"live": "the value is there", "broken": "it is cleared, and that isn't published", "seen": "the clear is published; an old entry may live on",
+          "half": "stage 2 entries are gone, combined ones may live on", "cleansed": "no old entry is left"}
+EFFECTS = {Effect.PUBLISHED: "the clear is published to this PE", Effect.REACHED: "the TLBI reaches this PE",
+           Effect.HALF: "the first step is complete here", Effect.GONE: "the flush is complete here: the old entry is gone"}
+
+
+def letter_of(row: Row) -> str:
+    """The mark of an event in its PE's column: W for a valid value, C for an invalid one, and for the refused line a cross."""
+    if row.refused:
+        return "X"
+    if row.event.word == "w":
+        return "W" if row.event.value & 1 else "C"
+    return LETTERS.get(row.event.word, "?")
+
+
+class Text:
+    """Writes a chart for a terminal."""
+
+    def __init__(self, chart: Chart, width: int, colour: bool, unicode: bool):
+        self.chart, self.width, self.colour = chart, width, colour
+        self.bars = BARS if unicode else PLAIN_BARS
+        self.digits = max(4, *(len(str(row.line.at)) for row in chart.rows))
+
+    def painted(self, text: str, *codes: str) -> str:
+        return "".join(codes) + text + PLAIN if self.colour and text.strip() else text
+
+    def cell(self, number: int, row: Row, pe: int) -> str:
+        if row.event.pe == pe:
+            return self.painted(letter_of(row), BOLD, *([RED] if row.refused else []))
+        if pe in row.effects:
+            return self.painted(row.effects[pe].value, BOLD)
+        if self.chart.living(number, pe):
+            return self.painted("█" if self.bars is BARS else "E", RED)
+        phase = row.phases[pe] if row.phases else ""
+        bar = self.bars.get(phase, " ")
+        return self.painted(bar, DIM if phase == "cleansed" else RED)
+
+    def heads(self) -> list[str]:
+        """The numbers of the PEs, one digit a line."""
+        names = [str(pe) for pe in self.chart.pes]
+        height = max(map(len, names))
+        rows = [" ".join(name.rjust(height)[i] for name in names) for i in range(height)]
+        left = ["PE".rjust(self.digits)] + [" " * self.digits] * (height - 1)
+        tail = f"+{self.chart.others} alike" if self.chart.others else ""
+        return [f"{head}  {row}  {tail if i == 0 else ''}".rstrip() for i, (head, row) in enumerate(zip(left, rows))]
+
+    def row(self, number: int, row: Row) -> str:
+        cells = " ".join(self.cell(number, row, pe) for pe in self.chart.pes)
+        room = self.width - self.digits - 4 - 2 * len(self.chart.pes)
+        text = str(row.event) + ("  <- refused" if row.refused else "")
+        if len(text) > room and row.event.label:
+            text = row.event.plain + ("  <- refused" if row.refused else "")
+        text = text if len(text) <= room else text[:max(0, room - 2)] + ".."
+        return f"{row.line.at:>{self.digits}}  {cells}  {self.painted(text, *([BOLD, RED] if row.refused else []))}".rstrip()
+
+    def legend(self) -> list[str]:
+        phases = list(dict.fromkeys(phase for row in self.chart.rows for phase in row.phases))
+        done = list(dict.fromkeys(effect for row in self.chart.rows for effect in row.effects.values()))
+        told = [f"{self.bars[phase]} {LEGEND[phase]}" for phase in BARS if phase in phases]
+        told += [f"{effect.value} {EFFECTS[effect]}" for effect in Effect if effect in done]
+        if self.chart.entries:
+            told.append(f"{'█' if self.bars is BARS else 'E'} the entry of the run lives here")
+        return told
+
+    def lines(self) -> list[str]:
+        return [*self.heads(), *(self.row(number, row) for number, row in enumerate(self.chart.rows)), *self.legend()]
+
+
+def width_of_terminal() -> int:
+    return max(60, min(120, shutil.get_terminal_size((80, 24)).columns))

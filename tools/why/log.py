@@ -1,0 +1,210 @@
+"""A log as this tool holds it: the header and the event lines, each under its number in the log that was given.
+
+The forms are those of docs/FORMAT.md. Nothing is judged here: a line that isn't well formed is for the program to name.
+"""
+from __future__ import annotations
+
+import re
+import sys
+from dataclasses import dataclass, replace
+from functools import lru_cache
+
+PAGE_BYTES = 4096
+ADDRESS_BITS = 0x0000_FFFF_FFFF_F000
+WITH_PAGE = {"init", "null", "root", "unroot"}
+
+
+@dataclass(frozen=True)
+class Event:
+    """The words of an event line: `pe` is its PE, `rest` what stands behind that, and `label` is empty where there is none."""
+
+    word: str
+    pe: int
+    rest: tuple[str, ...]
+    label: str = ""
+
+    def __str__(self) -> str:
+        return " ".join([self.plain, *([f"@{self.label}"] if self.label else [])])
+
+    @property
+    def plain(self) -> str:
+        """The line without its label."""
+        return " ".join([self.word, str(self.pe), *self.rest])
+
+    @property
+    def unlabelled(self) -> Event:
+        return replace(self, label="")
+
+    @property
+    def page(self) -> int | None:
+        """The page that the line names, or that of its place."""
+        if self.word in WITH_PAGE or self.word == "w":
+            return number(self.rest[0 if self.word == "w" else -1]) & ~(PAGE_BYTES - 1)
+        return None
+
+    @property
+    def place(self) -> int | None:
+        return number(self.rest[0]) if self.word == "w" else None
+
+    @property
+    def value(self) -> int | None:
+        return number(self.rest[1]) if self.word in ("w", "msr") else None
+
+    @property
+    def next_page(self) -> int | None:
+        """The page that a written value names where it is one of a table; a page at level 3 is written alike."""
+        return self.value & ADDRESS_BITS if self.word == "w" and self.value & 3 == 3 else None
+
+    @property
+    def base(self) -> int | None:
+        """The page that a register write names as its root."""
+        return self.value & 0x0000_FFFF_FFFF_FFFE & ADDRESS_BITS if self.word == "msr" else None
+
+    @property
+    def lock(self) -> str | None:
+        """The lock that the line takes or gives back, or that of a declared root; None where there is none."""
+        if self.word in ("lock", "unlock"):
+            return self.rest[0]
+        return self.rest[1] if self.word == "root" and self.rest[1] != "-" else None
+
+    @property
+    def operation(self) -> str | None:
+        return self.rest[0] if self.word == "tlbi" else None
+
+    @property
+    def operand(self) -> int | None:
+        return number(self.rest[1]) if self.word == "tlbi" and len(self.rest) > 1 else None
+
+
+def number(text: str) -> int:
+    """A number of a line; 0 where it can't be read."""
+    try:
+        return int(text, 16) if text.startswith("0x") else int(text)
+    except ValueError:
+        return 0
+
+
+@lru_cache(maxsize=1 << 16)
+def event_of(line: str) -> Event:
+    fields = line.split(" ")
+    label = fields.pop()[1:] if fields[-1].startswith("@") else ""
+    word, pe, *rest = [*fields, "", ""][:max(2, len(fields))]
+    return Event(word, number(pe), tuple(padded(word, rest)), label)
+
+
+def padded(word: str, rest: list[str]) -> list[str]:
+    """The fields, at least as many as the readers above look at: a line that isn't well formed may have fewer."""
+    least = {"root": 3, "w": 2, "msr": 2}.get(word, 1)
+    return rest + [""] * (least - len(rest)) if word != "isb" else rest
+
+
+@dataclass(frozen=True)
+class Header:
+    """The fields of the first line: `starts` are what stands between the PEs and the field for CnP."""
+
+    version: int
+    world: str
+    pes: int
+    starts: tuple[str, ...]
+    cnp: str
+
+    def __str__(self) -> str:
+        cnp = [self.cnp] if self.version > 1 else []
+        return " ".join(["bbmlog", str(self.version), self.world, str(self.pes), *self.starts, *cnp])
+
+    @property
+    def is_kernel(self) -> bool:
+        return self.world == "kernel"
+
+    @property
+    def shares(self) -> bool:
+        return self.cnp == "cnp"
+
+    def start_of(self, kind: str) -> int:
+        """The level at which walks of a root of this kind start."""
+        return number(self.starts[{"el2": 0, "s2": 1, "ttbr0": 0, "ttbr1": 1}[kind]])
+
+    def pages_of(self, kind: str) -> int:
+        return number(self.starts[2]) if kind == "s2" and not self.is_kernel else 1
+
+
+def header_of(line: str) -> Header:
+    fields = line.split(" ")
+    fields += ["0"] * (8 - len(fields))
+    version = number(fields[1])
+    return Header(version, fields[2], number(fields[3]), tuple(fields[4:7]), fields[7] if version > 1 else "-")
+
+
+@dataclass(frozen=True)
+class Line:
+    """An event line, and its number in the log that was given."""
+
+    at: int
+    text: str
+
+    @property
+    def event(self) -> Event:
+        return event_of(self.text)
+
+    @property
+    def name(self) -> str:
+        """How a text names the line: by its number, and its label where it has one."""
+        label = self.event.label
+        return f"line {self.at} @{label}" if label else f"line {self.at}"
+
+
+Lines = tuple[Line, ...]
+
+
+def written(header: str, lines) -> bytes:
+    """The log of these lines, with the right `end` line."""
+    texts = [header, *(line.text for line in lines)]
+    return ("\n".join(texts) + f"\nend {len(texts) - 1}\n").encode("latin-1")
+
+
+class Log:
+    """The bytes of a log, cut at its newlines once. Event i of `events` stands on line i + 2."""
+
+    def __init__(self, data: bytes):
+        self.data = data
+        self.parts = data.split(b"\n")
+
+    @property
+    def header(self) -> str:
+        return self.parts[0].decode("latin-1")
+
+    @property
+    def last_event(self) -> int:
+        """The number of the last whole line that isn't the `end` line: the header's 1 where there is no event."""
+        whole = len(self.parts) - 1
+        return whole - 1 if whole > 1 and self.parts[whole - 1].startswith(b"end ") else whole
+
+    def bytes_of(self, at: int) -> bytes:
+        return self.parts[at - 1]
+
+    def line(self, at: int) -> Line:
+        return Line(at, self.parts[at - 1].decode("latin-1"))
+
+    def lines(self, numbers) -> Lines:
+        return tuple(self.line(at) for at in numbers)
+
+    def cut(self, numbers) -> bytes:
+        """The log of the lines of these numbers alone."""
+        parts = self.parts
+        chosen = [parts[at - 1] for at in numbers]
+        return b"\n".join([parts[0], *chosen, b"end %d\n" % len(chosen)])
+
+    def until(self, last: int) -> bytes:
+        """The log up to the line of this number, and with it."""
+        return b"\n".join([*self.parts[:last], b"end %d\n" % (last - 1)])
+
+
+def read(path: str | None) -> bytes:
+    """The bytes of a file, or of standard input where none is named or its name is `-`."""
+    if path in (None, "-"):
+        return sys.stdin.buffer.read()
+    with open(path, "rb") as file:
+        return file.read()
+
+
+LABEL = re.compile(r"[A-Za-z0-9./:_-]{1,32}")

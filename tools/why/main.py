@@ -1,0 +1,138 @@
+#!/usr/bin/env python3
+"""From a refusal to the fix: the words `why`, `shrink`, `pending`, `partial` and `check --format` of the script ./bbm.
+
+    ./bbm why [LOG] [--svg FILE] [--html FILE] [--whole]
+    ./bbm shrink [LOG] [--least] [--rename]
+    ./bbm pending [LOG] [--at LABEL] [--nth N]
+    ./bbm partial [LOG]
+    ./bbm check --format gcc|github|json < LOG
+
+LOG is a file, or standard input where none is named. The exit status is that of `bbm check` on the log. docs/WHY.md says
+what each prints, and docs/OUTPUT.md the exact forms. The program is that of the environment variable BBM.
+"""
+from __future__ import annotations
+
+import argparse
+import sys
+
+import formats
+import partial
+import pending
+import picture
+import rename
+import why
+from log import Log, read, written
+from program import Program, Unable, built
+from shrink import Shrinker
+from study import study
+
+
+class Words(argparse.ArgumentParser):
+    """Words that are no command end with the program's status for them, and the usage line on standard output."""
+
+    def error(self, message: str):
+        sys.stdout.write("usage: bbm" + self.format_usage().removeprefix("usage: bbm").replace("\n", " ").rstrip() + "\n")
+        sys.stderr.write(f"bbm: {message}\n")
+        sys.exit(3)
+
+
+def words_of(word: str, arguments: list[str]) -> argparse.Namespace:
+    words = Words(prog=f"bbm {word}", usage=USAGES[word], add_help=False)
+    words.add_argument("log", nargs="?")
+    for option in OPTIONS[word]:
+        words.add_argument(f"--{option}", **KINDS_OF_OPTIONS.get(option, {"action": "store_true"}))
+    return words.parse_args(arguments)
+
+
+USAGES = {
+    "why": "bbm why [LOG] [--svg FILE] [--html FILE] [--whole]", "shrink": "bbm shrink [LOG] [--least] [--rename]",
+    "pending": "bbm pending [LOG] [--at LABEL] [--nth N]", "partial": "bbm partial [LOG]",
+}
+OPTIONS = {"why": ["svg", "html", "whole"], "shrink": ["least", "rename"], "pending": ["at", "nth"], "partial": []}
+KINDS_OF_OPTIONS = {"svg": {}, "html": {}, "at": {}, "nth": {"type": int, "default": 1}}
+
+
+def say_why(program: Program, data: bytes, asked: argparse.Namespace) -> int:
+    answer = program.run(("check",), data)
+    log = Log(data)
+    if not answer.refusal:
+        line = log.bytes_of(answer.line) if answer.line and answer.line <= len(log.parts) else None
+        why.emit(why.other_answer(answer, line))
+        return answer.status
+    found = study(program, log, answer.refusal)
+    views = why.views_of(found, asked.whole)
+    why.emit(why.text_of(answer, why.parts_of(found, views, why.style_of(sys.stdout))))
+    for path, make in ((asked.svg, picture.svg), (asked.html, picture.html)):
+        if path:
+            with open(path, "w", encoding="utf-8") as file:
+                file.write(make(found, views, answer))
+    return answer.status
+
+
+def shrink(program: Program, data: bytes, asked: argparse.Namespace) -> int:
+    answer = program.run(("check",), data)
+    if not answer.refusal:
+        why.emit(answer.text)
+        return answer.status
+    log = Log(data)
+    found = study(program, log, answer.refusal)
+    header, lines = found.header, found.small
+    if asked.least:
+        lines = log.lines(Shrinker(program, log, answer.refusal).barest([line.at for line in lines]))
+    if asked.rename:
+        header, lines = rename.if_alike(program, header, lines)
+    why.emit(written(header, lines).decode("latin-1"))
+    return answer.status
+
+
+def say_pending(program: Program, data: bytes, asked: argparse.Namespace) -> int:
+    log: Log | None = Log(data)
+    if asked.at:
+        log = pending.until_label(program, log, asked.at, asked.nth)
+    if log is None:
+        raise Unable(3, f"no line number {asked.nth} has the label {asked.at}")
+    status, text = pending.command(program, log)
+    why.emit(text)
+    return status
+
+
+def say_partial(program: Program, data: bytes, _asked: argparse.Namespace) -> int:
+    status, text = partial.partial(program, data)
+    why.emit(text)
+    return status
+
+
+COMMANDS = {"why": say_why, "shrink": shrink, "pending": say_pending, "partial": say_partial}
+
+
+def run(word: str, arguments: list[str]) -> int:
+    program = built()
+    if word == "check":
+        return formats.check(program, arguments)
+    if word not in COMMANDS:
+        raise Unable(3, f"no such word: {word}")
+    asked = words_of(word, arguments)
+    try:
+        data = read(asked.log)
+    except OSError as fault:
+        raise Unable(4, f"{asked.log}: {fault.strerror}") from fault
+    return COMMANDS[word](program, data, asked)
+
+
+def main() -> int:
+    if len(sys.argv) < 2:
+        sys.stderr.write(__doc__)
+        return 3
+    try:
+        return run(sys.argv[1], sys.argv[2:])
+    except Unable as fault:
+        if str(fault):
+            sys.stderr.write(f"bbm: {fault}\n")
+        return fault.status
+    except BrokenPipeError:
+        sys.stderr.close()
+        return 5
+
+
+if __name__ == "__main__":
+    sys.exit(main())

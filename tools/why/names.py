@@ -1,0 +1,210 @@
+"""Which lines of a log name what a refused line speaks of: the pages on the way to its place, their root, its lock and tags.
+
+This only says which lines are tried first. Whether they are refused alike the program says.
+"""
+from __future__ import annotations
+
+from bisect import bisect_right
+from collections import defaultdict
+from collections.abc import Iterator
+from dataclasses import dataclass, field
+
+from log import ADDRESS_BITS, Header, Log
+from program import Refusal
+
+BARRIERS = {b"dsb", b"tlbi", b"isb"}
+LOCKS_KEPT = 64
+PAGE = 12
+
+
+@dataclass
+class Index:
+    """Where the lines before and at the refused one stand, by what they name. A page goes by its number, address / 4096."""
+
+    log: Log
+    last: int
+    inits: dict = field(default_factory=lambda: defaultdict(list))
+    writes: dict = field(default_factory=lambda: defaultdict(list))
+    links: dict = field(default_factory=lambda: defaultdict(list))
+    declared: dict = field(default_factory=lambda: defaultdict(list))
+    registers: list = field(default_factory=list)
+    others: dict = field(default_factory=lambda: defaultdict(list))
+
+    def fields(self, at: int) -> list[bytes]:
+        return self.log.bytes_of(at).split(b" ")
+
+    def note(self, at: int) -> None:
+        fields = self.fields(at)
+        word = fields[0]
+        if word == b"w":
+            place, value = number(fields[2]), number(fields[3])
+            self.writes[place >> PAGE].append((at, place, value))
+            if value & 3 == 3:
+                self.links[(value & ADDRESS_BITS) >> PAGE].append((at, place))
+        elif word == b"init":
+            self.inits[number(fields[2]) >> PAGE].append(at)
+        elif word in (b"root", b"unroot", b"null"):
+            page = [name for name in fields if not name.startswith(b"@")][-1]
+            self.declared[number(page) >> PAGE].append(at)
+        elif word == b"msr":
+            self.registers.append((at, fields[1], number(fields[3])))
+        else:
+            self.others[word].append(at)
+
+    def begun(self, page: int) -> int:
+        """The line of the last `init` of a page, 0 where there is none. That of the refused line doesn't count."""
+        return max((at for at in self.inits[page] if at < self.last), default=0)
+
+
+def number(text: bytes) -> int:
+    """A number of a line, 0 where it can't be read."""
+    try:
+        return int(text, 16)
+    except ValueError:
+        return 0
+
+
+def index_of(log: Log, last: int) -> Index:
+    index = Index(log, last)
+    for at in range(2, last + 1):
+        index.note(at)
+    return index
+
+
+@dataclass
+class Way:
+    """The pages that matter, and the lines that put them where they are."""
+
+    pages: set = field(default_factory=set)
+    lines: set = field(default_factory=set)
+
+
+def pages_named(index: Index, refusal: Refusal) -> list[int]:
+    """The pages that the refused line names, that which it reports, and that of the root that a register write names."""
+    line = index.log.line(refusal.line).event
+    named = [line.page, line.next_page, line.base, refusal.at if refusal.at >> PAGE else None]
+    return [page >> PAGE for page in named if page is not None and page >> PAGE < 1 << 36]
+
+
+def climb(index: Index, header: Header, pages: list[int], last_link_alone: bool) -> Way:
+    """From these pages up: the lines that made each page zero and declared it, and the writes that linked it."""
+    way, waiting = Way(), list(pages)
+    joined = header.pages_of("s2")
+    while waiting:
+        page = waiting.pop()
+        if page in way.pages:
+            continue
+        way.pages.add(page)
+        begun = index.begun(page)
+        way.lines.update(at for at in index.inits[page] if at >= begun)
+        first = page - page % joined
+        waiting.extend(range(first, first + joined) if any(index.declared[first + i] for i in range(joined)) else ())
+        way.lines.update(at for at in index.declared[page] if at >= begun)
+        links = [(at, place) for at, place in index.links[page] if at >= begun]
+        for _, place in links[-1:] if last_link_alone else links:
+            way.lines.update(written_at(index, place))
+            waiting.append(place >> PAGE)
+    return way
+
+
+def written_at(index: Index, place: int) -> list[int]:
+    begun = index.begun(place >> PAGE)
+    return [at for at, there, _ in index.writes[place >> PAGE] if there == place and at >= begun]
+
+
+def descend(index: Index, way: Way, pages: list[int]) -> None:
+    """From these pages down: all that was written in them, and in the pages that they link."""
+    waiting, seen = list(pages), set()
+    while waiting:
+        page = waiting.pop()
+        if page in seen or not index.inits[page]:
+            continue
+        seen.add(page)
+        begun = index.begun(page)
+        way.lines.update(at for at in index.inits[page] if at >= begun)
+        inside = [(at, value) for at, _, value in index.writes[page] if at >= begun]
+        way.lines.update(at for at, _ in inside)
+        waiting.extend((value & ADDRESS_BITS) >> PAGE for _, value in inside if value & 3 == 3)
+
+
+def window_of(index: Index, refusal: Refusal, way: Way) -> int:
+    """The line from which on barriers and TLBIs can matter: the last valid write of the refused place, or of the way to it."""
+    line = index.log.line(refusal.line).event
+    if line.word == "w":
+        made = [at for at, place, value in index.writes[line.page >> PAGE]
+                if place == line.place and value & 1 and at < refusal.line]
+        return made[-1] if made else refusal.line
+    written = [at for at in way.lines if at < refusal.line]
+    return min(written, default=2)
+
+
+def tags(index: Index, way: Way) -> set[int]:
+    """The register writes that name a page of the way, or none, each with the next `isb` of its PE."""
+    synced = defaultdict(list)
+    for at in index.others[b"isb"]:
+        synced[index.fields(at)[1]].append(at)
+    chosen = set()
+    for at, pe, value in index.registers:
+        if value == 0 or (value & ADDRESS_BITS) >> PAGE in way.pages:
+            chosen.add(at)
+            chosen.update(synced[pe][bisect_right(synced[pe], at):][:1])
+    return chosen
+
+
+def locks(index: Index, refusal: Refusal, way: Way) -> set[int]:
+    """The last lines of the locks of the roots on the way, and of the lock that the refused line names, from a `lock` on."""
+    wanted = {lock for at in way.lines if (lock := index.log.line(at).event.lock)}
+    wanted.add(index.log.line(refusal.line).event.lock)
+    lines = sorted(index.others[b"lock"] + index.others[b"unlock"])
+    named = [at for at in lines if index.log.line(at).event.lock in wanted][-LOCKS_KEPT:]
+    while named and index.log.line(named[0]).event.word == "unlock" and named[0] != refusal.line:
+        named.pop(0)
+    return set(named)
+
+
+def slices(index: Index, refusal: Refusal, header: Header) -> Iterator[list[int]]:
+    """Lines to try, from few to many. The refused line is the last of each."""
+    log, named = index.log, pages_named(index, refusal)
+    barriers = sorted(at for word in BARRIERS for at in index.others[word])
+    others = {at for lines in index.others.values() for at in lines} | {at for at, _, _ in index.registers}
+    others |= {at for kind in (index.inits, index.declared) for lines in kind.values() for at in lines}
+    for last_link_alone, down in ((True, False), (True, True), (False, True)):
+        way = climb(index, header, named, last_link_alone)
+        line = log.line(refusal.line).event
+        way.lines.update(written_at(index, line.place) if line.word == "w" else ())
+        if down:
+            descend(index, way, named)
+        since = window_of(index, refusal, way)
+        near = {at for at in barriers if at >= since}
+        yield sorted(way.lines | near | tags(index, way) | locks(index, refusal, way) | {refusal.line})
+    yield sorted(way.lines | others | {refusal.line})
+
+
+# ---- what the log did about it
+
+BEFORE, BEHIND, FOCUSED, TRIED_LOCKS = 6, 6, 4, 8
+
+
+def attempts(index: Index, refusal: Refusal, header: Header) -> list[int]:
+    """The lines near by that may have been meant to help: writes of the same places, the barriers and TLBIs around them and
+    around the refused line, and the last lines of the locks."""
+    way = climb(index, header, pages_named(index, refusal), True)
+    line = index.log.line(refusal.line).event
+    way.lines.update(written_at(index, line.place) if line.word == "w" else ())
+    changed = sorted(at for at in way.lines if index.fields(at)[0] in (b"w", b"unroot") and at < refusal.line)
+    registers = [at for at, _, value in index.registers if not value or (value & ADDRESS_BITS) >> PAGE in way.pages]
+    focus = [*changed[-FOCUSED:], *registers[-FOCUSED:], refusal.line]
+    barriers = sorted(at for word in BARRIERS for at in index.others[word])
+    chosen = {at for centre in focus for at in around(index, barriers, centre)}
+    held = sorted(locks(index, refusal, way))[-TRIED_LOCKS:]
+    return sorted(at for at in {*chosen, *focus, *held} if at < refusal.line)
+
+
+def around(index: Index, barriers: list[int], centre: int) -> list[int]:
+    """The barriers and TLBIs next to a line: those of its PE, and the next TLBIs of any."""
+    pe, middle = index.fields(centre)[1], bisect_right(barriers, centre)
+    own = lambda lines: [at for at in lines if index.fields(at)[1] == pe]
+    before = own(barriers[max(0, middle - 64):middle])[-BEFORE:]
+    behind = barriers[middle:middle + 256]
+    flushes = [at for at in behind if index.fields(at)[0] == b"tlbi"]
+    return [*before, *own(behind)[:BEHIND], *flushes[:BEHIND // 2]]

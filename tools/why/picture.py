@@ -1,0 +1,172 @@
+"""The lanes as one picture: an SVG, or a page of HTML with the rest of the answer. Each stands by itself, in light and dark."""
+from __future__ import annotations
+
+from html import escape
+
+import why
+from lanes import EFFECTS, LEGEND, Chart, Effect, Row, letter_of
+from program import Answer
+from study import Study
+
+ROW, LANE, LEFT, TOP, LETTER = 20, 26, 64, 70, 7.3
+LONGEST = 84
+HEADS_EACH = 30
+WIDTHS = {"live": 14, "broken": 12, "seen": 9, "half": 6, "cleansed": 1}
+
+STYLE = """
+.bbm{--paper:#ffffff;--ink:#1c2024;--soft:#68707a;--line:#d9dde2;--live:#c62828;--broken:#e2622b;--seen:#e8a13a;--half:#c9b458;
+--gone:#4a8f5a;--mark:#2f5fb3;--band:#fde3e1;--stripe:#f5f7f9}
+@media (prefers-color-scheme:dark){.bbm{--paper:#15181c;--ink:#e6e9ed;--soft:#98a1ab;--line:#333a42;--live:#ef5350;--broken:#f08a4b;
+--seen:#d9a441;--half:#a8994f;--gone:#6cbf7f;--mark:#7fa8f0;--band:#46201f;--stripe:#1b1f24}}
+.bbm{background:var(--paper);color:var(--ink)}
+.bbm text{font:12px ui-monospace,"DejaVu Sans Mono",Menlo,Consolas,monospace;fill:var(--ink)}
+.bbm .title{font-weight:bold;font-size:13px}.bbm .soft{fill:var(--soft)}.bbm .mark{font-weight:bold;font-size:10.5px;fill:var(--paper)}
+.bbm .paper{fill:var(--paper)}.bbm .stripe{fill:var(--stripe)}.bbm .band{fill:var(--band)}.bbm .lane{stroke:var(--line)}
+.bbm .live{fill:var(--live)}.bbm .broken{fill:var(--broken)}.bbm .seen{fill:var(--seen)}.bbm .half{fill:var(--half)}
+.bbm .cleansed{fill:var(--gone)}.bbm .dot{fill:var(--mark)}.bbm .dot.refused{fill:var(--live)}.bbm .reach{stroke:var(--mark);stroke-width:1.3}
+.bbm .effect{font-weight:bold;font-size:10.5px;fill:var(--ink)}.bbm .tile{fill:var(--paper);stroke:var(--mark)}.bbm .tile.x{stroke:var(--gone)}
+.bbm .entry{fill:none;stroke:var(--live);stroke-width:2}
+"""
+
+
+def box(x: float, y: float, width: float, height: float, name: str, more: str = "") -> str:
+    return f'<rect x="{x:.1f}" y="{y:.1f}" width="{width:.1f}" height="{height:.1f}" class="{name}"{more}/>'
+
+
+def text(x: float, y: float, name: str, words: str, anchor: str = "start") -> str:
+    return f'<text x="{x:.1f}" y="{y:.1f}" class="{name}" text-anchor="{anchor}" xml:space="preserve">{escape(words)}</text>'
+
+
+class Drawing:
+    """Draws a chart."""
+
+    def __init__(self, chart: Chart, title: str):
+        self.chart, self.title = chart, title
+        longest = min(LONGEST, max(len(self.words(row)) for row in chart.rows))
+        self.words_at = LEFT + LANE * len(chart.pes) + 14
+        self.legend = self.legend_rows()
+        least = max(len(title), *(len(words) + 6 for _, words in self.legend), 1) * LETTER + 32
+        self.width = max(self.words_at + longest * LETTER + 20, least)
+        self.bottom = TOP + ROW * len(chart.rows)
+        self.height = self.bottom + 34 + 18 * len(self.legend) + 8
+
+    def words(self, row: Row) -> str:
+        return str(row.event) + ("   refused" if row.refused else "")
+
+    def x(self, pe: int) -> float:
+        return LEFT + LANE * self.chart.pes.index(pe) + LANE / 2
+
+    def y(self, number: int) -> float:
+        return TOP + ROW * number
+
+    # ---- the parts
+
+    def heads(self, y: float) -> list[str]:
+        parts = [text(LEFT - 12, y, "soft", "PE", "end")]
+        parts += [text(self.x(pe), y, "soft", str(pe), "middle") for pe in self.chart.pes]
+        if self.chart.others:
+            parts.append(text(self.words_at, y, "soft", f"the last column stands for {self.chart.others} PEs more"))
+        return parts
+
+    def ground(self) -> list[str]:
+        rows = [box(8, self.y(i), self.width - 16, ROW, "band" if row.refused else "stripe")
+                for i, row in enumerate(self.chart.rows) if row.refused or i % 2]
+        lanes = [f'<line x1="{self.x(pe):.1f}" x2="{self.x(pe):.1f}" y1="{TOP}" y2="{self.bottom}" class="lane"/>' for pe in self.chart.pes]
+        return rows + lanes
+
+    def bars(self) -> list[str]:
+        """How far the place has come at each PE behind each row: until the next row."""
+        parts = []
+        for number, row in enumerate(self.chart.rows[:-1]):
+            for pe in self.chart.pes if row.phases else []:
+                phase, width = row.phases[pe], WIDTHS[row.phases[pe]]
+                parts.append(box(self.x(pe) - width / 2, self.y(number) + ROW / 2, width, ROW, phase))
+        return parts
+
+    def entries(self) -> list[str]:
+        return [box(self.x(pe) - 10, self.y(first) + ROW, 20, ROW * (last - first - 0.5), "entry", ' rx="6"')
+                for pe, first, last in self.chart.entries if pe in self.chart.pes]
+
+    def reach(self, number: int, row: Row) -> list[str]:
+        """A line from the PE of a barrier or TLBI to those at which it does something, each with its letter."""
+        there = [pe for pe in self.chart.pes if pe in row.effects and pe != row.event.pe]
+        middle = self.y(number) + ROW / 2
+        ends = [self.x(pe) for pe in there] + ([self.x(row.event.pe)] if row.event.pe in self.chart.pes else [])
+        parts = [f'<line x1="{min(ends):.1f}" x2="{max(ends):.1f}" y1="{middle}" y2="{middle}" class="reach"/>'] if there else []
+        for pe in there:
+            effect = row.effects[pe].value
+            parts.append(box(self.x(pe) - 7, middle - 7, 14, 14, f"tile {effect}", ' rx="3"'))
+            parts.append(text(self.x(pe), middle + 4, "effect", effect, "middle"))
+        return parts
+
+    def event(self, number: int, row: Row) -> list[str]:
+        y = self.y(number) + ROW / 2
+        words = self.words(row)
+        shown = words if len(words) <= LONGEST else words[:LONGEST - 2] + ".."
+        plain, label = (shown.split(" @", 1) + [""])[:2]
+        tail = f'<tspan class="soft"> @{escape(label)}</tspan>' if label else ""
+        name = "dot refused" if row.refused else "dot"
+        parts = [text(LEFT - 12, y + 4, "soft", str(row.line.at), "end"),
+                 f'<text x="{self.words_at}" y="{y + 4}" xml:space="preserve">{escape(plain)}{tail}</text>']
+        if row.event.pe in self.chart.pes:
+            parts.append(f'<circle cx="{self.x(row.event.pe):.1f}" cy="{y}" r="8.5" class="{name}"/>')
+            parts.append(text(self.x(row.event.pe), y + 4, "mark", letter_of(row), "middle"))
+        return parts
+
+    def legend_rows(self) -> list[tuple[str, str]]:
+        phases = dict.fromkeys(phase for row in self.chart.rows for phase in row.phases)
+        done = dict.fromkeys(effect for row in self.chart.rows for effect in row.effects.values())
+        rows = [(phase, f"{phase}: {LEGEND[phase]}") for phase in LEGEND if phase in phases]
+        rows += [(effect.value, EFFECTS[effect]) for effect in Effect if effect in done]
+        rows.append(("W", "a mark in a circle is the event: W a valid value, C an invalid one, D dsb, T tlbi, S isb, M msr, X refused"))
+        return rows + ([("E", "an outline is the entry of the run")] if self.chart.entries else [])
+
+    def legend_parts(self) -> list[str]:
+        parts = []
+        for i, (name, words) in enumerate(self.legend):
+            y = self.bottom + 34 + 18 * i
+            parts.append(box(16, y, 12, 12, name) if name in WIDTHS else text(22, y + 10, "effect", name, "middle"))
+            parts.append(text(36, y + 10, "soft", words))
+        return parts
+
+    def svg(self) -> str:
+        chart, rows = self.chart, list(enumerate(self.chart.rows))
+        parts = [box(0, 0, self.width, self.height, "paper"), text(16, 24, "title", self.title), *self.heads(TOP - 8), *self.ground(),
+                 *self.bars(), *self.entries()]
+        parts += [part for number, row in rows for part in self.reach(number, row)]
+        parts += [part for number, row in rows for part in self.event(number, row)]
+        if len(chart.rows) > HEADS_EACH:
+            parts += self.heads(self.bottom + 16)
+        size = f'width="{self.width:.0f}" height="{self.height:.0f}" viewBox="0 0 {self.width:.0f} {self.height:.0f}"'
+        return f'<svg xmlns="http://www.w3.org/2000/svg" class="bbm" {size} role="img">\n<title>{escape(self.title)}</title>\n' \
+               f"<style>{STYLE}</style>\n" + "\n".join([*parts, *self.legend_parts()]) + "\n</svg>\n"
+
+
+def svg(_study: Study, views, answer: Answer) -> str:
+    return Drawing(views.chart, answer.first).svg()
+
+
+PAGE_STYLE = """
+:root{color-scheme:light dark}
+body{margin:1.5rem;font:15px/1.45 system-ui,sans-serif;background:#fff;color:#1c2024}
+pre{font:13px/1.4 ui-monospace,"DejaVu Sans Mono",Menlo,Consolas,monospace;white-space:pre-wrap;max-width:60rem}
+h1{font-size:1.15rem}h2{font-size:1rem;margin:1.4rem 0 .4rem}.picture{overflow-x:auto}
+@media (prefers-color-scheme:dark){body{background:#15181c;color:#e6e9ed}}
+"""
+
+
+def section(part: list[str]) -> str:
+    """A part of the text, its first line as the heading."""
+    head, *rest = part
+    return f"<h2>{escape(head)}</h2>\n<pre>{escape(chr(10).join(rest))}</pre>\n"
+
+
+def html(study: Study, views, answer: Answer) -> str:
+    """The whole answer: the text's parts, with the picture in the place of the lanes."""
+    small, repairs, told, _lanes, rule = why.parts_of(study, views, why.Style(100, False, True))
+    picture = f'<h2>Lanes</h2>\n<div class="picture">\n{Drawing(views.chart, answer.first).svg()}</div>\n'
+    parts = [section(part) for part in (repairs, small, told) if part]
+    return "<!DOCTYPE html>\n<html lang=\"en\">\n<head>\n<meta charset=\"utf-8\">\n" \
+           "<meta name=\"viewport\" content=\"width=device-width, initial-scale=1\">\n" \
+           f"<title>{escape(answer.first)}</title>\n<style>{PAGE_STYLE}</style>\n</head>\n<body>\n<h1>{escape(answer.first)}</h1>\n" \
+           + "".join(parts[:1]) + picture + "".join([*parts[1:], section(rule) if rule else ""]) + "</body>\n</html>\n"

@@ -1,0 +1,125 @@
+"""The program, and what it answers. It alone judges: every statement about a log comes from one of its answers."""
+from __future__ import annotations
+
+import os
+import pathlib
+import re
+import subprocess
+from dataclasses import dataclass, field
+from enum import IntEnum
+
+TOP = pathlib.Path(__file__).resolve().parents[2]
+BUILT = TOP / "crates/bbm_cli/out/bbm_cli"
+REMEMBERED = 1 << 20
+
+
+class Status(IntEnum):
+    ACCEPTED = 0
+    REFUSED = 1
+    MALFORMED = 2
+    USAGE = 3
+    UNREADABLE = 4
+
+
+@dataclass(frozen=True)
+class Refusal:
+    """The line of a refusal: which line breaks which rule, and what the rule reports."""
+
+    line: int
+    rule: int
+    name: str
+    at: int
+    label: str = ""
+
+    @property
+    def titled(self) -> str:
+        return f"rule {self.rule} {self.name}"
+
+
+REFUSED = re.compile(r"refused line (\d+) rule (\d+) ([a-z-]+) at (0x[0-9a-f]+)(?: @(\S+))?")
+
+
+@dataclass(frozen=True)
+class Answer:
+    """The status of a run of the program, and its text."""
+
+    status: int
+    text: str
+
+    @property
+    def first(self) -> str:
+        return self.text.split("\n", 1)[0]
+
+    @property
+    def accepted(self) -> bool:
+        return self.status == Status.ACCEPTED
+
+    @property
+    def refusal(self) -> Refusal | None:
+        found = REFUSED.fullmatch(self.first)
+        if not found or self.status != Status.REFUSED:
+            return None
+        line, rule, name, at, label = found.groups()
+        return Refusal(int(line), int(rule), name, int(at, 16), label or "")
+
+    @property
+    def line(self) -> int | None:
+        """The line that decided, where one did."""
+        found = re.match(r"(?:refused|malformed|limit) line (\d+)", self.first)
+        return int(found.group(1)) if found else None
+
+    @property
+    def phases(self) -> tuple[str, ...]:
+        """How far the place has come at each PE, in order; none behind another answer than that of rule 4."""
+        return tuple(re.findall(r"^pe \d+ ([a-z]+)$", self.text, re.M))
+
+
+class Unable(Exception):
+    """The program could not be run, or gave no answer that has a line; `status` is what this process ends with then."""
+
+    def __init__(self, status: int, why: str = ""):
+        super().__init__(why)
+        self.status = status
+
+
+@dataclass
+class Program:
+    """The built program. Answers to small logs are remembered."""
+
+    path: str
+    runs: int = 0
+    known: dict = field(default_factory=dict)
+
+    def ask(self, words: tuple[str, ...], log: bytes) -> Answer:
+        key = (words, log)
+        if key in self.known:
+            return self.known[key]
+        answer = self.run(words, log)
+        if len(log) < REMEMBERED:
+            self.known[key] = answer
+        return answer
+
+    def run(self, words: tuple[str, ...], log: bytes) -> Answer:
+        self.runs += 1
+        try:
+            done = subprocess.run([self.path, *words], input=log, stdout=subprocess.PIPE, check=False)
+        except OSError as fault:
+            raise Unable(70, f"the program can't be run: {fault}") from fault
+        if done.returncode < 0:
+            raise Unable(70, f"the program ended by signal {-done.returncode}")
+        return Answer(done.returncode, done.stdout.decode("latin-1"))
+
+    def check(self, log: bytes) -> Answer:
+        return self.ask(("check",), log)
+
+    def explain(self, log: bytes) -> Answer:
+        return self.ask(("explain",), log)
+
+    def has(self, command: str) -> bool:
+        """Whether the usage line names a command."""
+        return command in re.findall(r"[a-z]+", self.ask((), b"").text.partition("bbm")[2])
+
+
+def built() -> Program:
+    """The program that the script names, or the one that stands beside this tool."""
+    return Program(os.environ.get("BBM") or str(BUILT))

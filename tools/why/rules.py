@@ -1,0 +1,49 @@
+"""What docs/RULES.md says of a rule: read there, so that no sentence stands twice."""
+from __future__ import annotations
+
+import re
+from dataclasses import dataclass
+
+from program import TOP
+
+RULES = TOP / "docs/RULES.md"
+FORMAT = TOP / "docs/FORMAT.md"
+
+
+@dataclass(frozen=True)
+class Rule:
+    number: int
+    name: str
+    sentence: str
+    bug: str
+    right: str
+
+
+def plain(text: str) -> str:
+    """Markdown as plain text: links by their words."""
+    return re.sub(r"\[([^\]]*)\]\([^)]*\)", r"\1", text).strip()
+
+
+def section_of(number: int) -> str | None:
+    found = re.search(rf"^### {number} .*?(?=^###? |\Z)", RULES.read_text(encoding="utf-8"), re.M | re.S)
+    return found.group(0) if found else None
+
+
+def rule_of(number: int) -> Rule | None:
+    """The rule of this number; None where the document has no section for it."""
+    section = section_of(number)
+    if section is None:
+        return None
+
+    def part(form: str) -> str:
+        found = re.search(form, section, re.M)
+        return plain(found.group(1)) if found else ""
+
+    return Rule(number, part(rf"^### {number} (\S+)"), part(r"^\*\*(An event breaks it exactly where\*\* .*)$").replace("**", ""),
+                part(r"^- \*\*The usual bug:\*\* (.*)$"), part(r"^- \*\*Right:\*\* (.*)$"))
+
+
+def cause_of(name: str) -> str | None:
+    """Where a cause of a malformed line comes, by docs/FORMAT.md."""
+    found = re.search(rf"^\| \d+ {re.escape(name)} \| (.*) \|$", FORMAT.read_text(encoding="utf-8"), re.M)
+    return plain(found.group(1)) if found else None

@@ -1,0 +1,174 @@
+"""What a refusal is about, as the log's own words tell it: the places, their input addresses, roots, locks, tags and PEs.
+
+It goes by the writes that stand in the small log. It chooses what is tried; the program judges each try.
+"""
+from __future__ import annotations
+
+from dataclasses import dataclass, field
+from functools import cached_property
+
+from log import ADDRESS_BITS, PAGE_BYTES, Event, Header, Line, Lines, header_of
+from program import Refusal
+from words import KIND_OF_REGISTER
+
+BARRIERS = {"dsb", "tlbi", "isb"}
+BITS_OF_START = {0: 48, 1: 39, 2: 30}
+
+
+@dataclass(frozen=True)
+class Spot:
+    """A place that hangs below a root: the kind of its tree, its level, and the first address that it translates."""
+
+    place: int
+    kind: str
+    level: int
+    address: int
+    root: int
+
+    @property
+    def span(self) -> int:
+        return 1 << 39 - 9 * self.level
+
+
+@dataclass
+class Scene:
+    """The lines at hand, the refused one last, and those that come behind it in the log that was given."""
+
+    header_text: str
+    lines: Lines
+    later: Lines
+    refusal: Refusal
+    links: dict[int, int] = field(default_factory=dict)
+
+    def __post_init__(self):
+        for line in self.lines[:-1]:
+            if line.event.next_page is not None:
+                self.links[line.event.next_page] = line.event.place
+
+    @property
+    def header(self) -> Header:
+        return header_of(self.header_text)
+
+    @property
+    def refused(self) -> Line:
+        return self.lines[-1]
+
+    @property
+    def event(self) -> Event:
+        return self.refused.event
+
+    def of_word(self, *words: str) -> list[Line]:
+        return [line for line in self.lines if line.event.word in words]
+
+    @cached_property
+    def roots(self) -> dict[int, tuple[str, str | None]]:
+        """Each page of a declared root, with its kind and lock."""
+        found = {}
+        for line in self.lines[:-1]:
+            if line.event.word != "root":
+                continue
+            kind = line.event.rest[0]
+            for i in range(self.header.pages_of(kind)):
+                found[line.event.page + i * PAGE_BYTES] = (kind, line.event.lock)
+        return found
+
+    def way_up(self, place: int) -> list[int]:
+        """The place, that which links its page, and so on to a place of a root; shorter where that isn't known."""
+        way = [place]
+        while (page := way[-1] & ~(PAGE_BYTES - 1)) not in self.roots:
+            above = self.links.get(page)
+            if above is None or above in way:
+                break
+            way.append(above)
+        return way
+
+    def spot(self, place: int) -> Spot | None:
+        """Where a place translates; None where no root is known above it."""
+        way = self.way_up(place)
+        top = way[-1] & ~(PAGE_BYTES - 1)
+        if top not in self.roots:
+            return None
+        kind = self.roots[top][0]
+        if kind not in (("ttbr0", "ttbr1") if self.header.is_kernel else ("el2", "s2")):
+            return None
+        start = self.header.start_of(kind)
+        joined = self.header.pages_of(kind)
+        number = top // PAGE_BYTES % joined
+        address = number << BITS_OF_START[start]
+        for depth, step in enumerate(reversed(way)):
+            address += (step % PAGE_BYTES // 8) << 39 - 9 * (start + depth)
+        if kind == "ttbr1":
+            address += (1 << 64) - (1 << BITS_OF_START[start])
+        return Spot(place, kind, start + len(way) - 1, address, top - number * PAGE_BYTES)
+
+    @cached_property
+    def places(self) -> list[int]:
+        """The places that the refusal is about: the refused one, those that link the pages it names, and those above."""
+        event, at = self.event, self.refusal.at
+        first = [event.place] if event.word == "w" else []
+        pages = [event.page, event.next_page, at & ~(PAGE_BYTES - 1) if at >= PAGE_BYTES else None]
+        linking = [self.links[page] for page in pages if page in self.links]
+        above = [place for place in first if self.refusal.name == "limbo-make" for place in self.way_up(place)[1:]]
+        return list(dict.fromkeys([*first, *linking, *above]))
+
+    @cached_property
+    def spots(self) -> list[Spot]:
+        return [spot for place in self.places if (spot := self.spot(place))]
+
+    @cached_property
+    def kinds(self) -> list[str]:
+        """The kinds of the trees that the refusal is about."""
+        named = [spot.kind for spot in self.spots]
+        if self.event.word == "msr":
+            named.append(KIND_OF_REGISTER.get(self.event.rest[0], "el2"))
+        if self.event.page in self.roots:
+            named.append(self.roots[self.event.page][0])
+        if self.event.word == "root":
+            named.append(self.event.rest[0])
+        return list(dict.fromkeys(named))
+
+    @cached_property
+    def tags(self) -> list[int]:
+        """The VMIDs and ASIDs of the register writes that name a root, that of the refused line first."""
+        lines = [self.refused, *self.of_word("msr")]
+        values = [line.event.value for line in lines if line.event.word == "msr" and line.event.value & ADDRESS_BITS]
+        return list(dict.fromkeys(value >> 48 for value in values))
+
+    @cached_property
+    def last_write(self) -> Line | None:
+        """The last write before the refused line at a place that the refusal is about: the break, where there is one."""
+        written = [line for line in self.lines[:-1] if line.event.word == "w" and line.event.place in self.places]
+        return written[-1] if written else None
+
+    @cached_property
+    def window(self) -> Lines:
+        """The lines from the last write of the place on, without the refused one; else all lines."""
+        since = self.last_write.at if self.last_write else 0
+        if self.event.word in ("msr", "unroot"):
+            since = 0
+        return tuple(line for line in self.lines[:-1] if line.at >= since)
+
+    def in_window(self, *words: str) -> list[Line]:
+        return [line for line in self.window if line.event.word in words]
+
+    @cached_property
+    def pes(self) -> list[int]:
+        """The PEs whose events count: that of the last write of the place, of the refused line, and of TLBIs between."""
+        first = [self.last_write.event.pe] if self.last_write else []
+        return list(dict.fromkeys([*first, self.event.pe, *(line.event.pe for line in self.in_window("tlbi"))]))
+
+    def unused_page(self) -> int:
+        return self.unused_pages(1)[0]
+
+    def unused_pages(self, count: int) -> list[int]:
+        """Pages that no line names, from the least that one does on."""
+        lines = (*self.lines, *self.later)
+        named = {page for line in lines for page in (line.event.page, line.event.next_page, line.event.base)}
+        first = min((page for page in named if page), default=0x4000_0000)
+        found: list[int] = []
+        page = first if first + (len(named) + count) * PAGE_BYTES < 1 << 48 else 0x4000_0000
+        while len(found) < count:
+            if page not in named:
+                found.append(page)
+            page += PAGE_BYTES
+        return found

@@ -1,0 +1,142 @@
+"""`why`: a refusal with its small log, what would do, a run, its lanes and its rule, as one text."""
+from __future__ import annotations
+
+import os
+import sys
+import textwrap
+from dataclasses import dataclass
+
+import lanes
+import run
+from log import Lines
+from program import Answer
+from rules import cause_of, rule_of
+from study import Study
+from telling import Teller
+
+TOO_MANY = 400
+
+
+@dataclass
+class Style:
+    width: int
+    colour: bool
+    unicode: bool
+
+
+def style_of(stream) -> Style:
+    colour = stream.isatty() and "NO_COLOR" not in os.environ
+    unicode = (stream.encoding or "").lower().replace("-", "") == "utf8"
+    return Style(lanes.width_of_terminal() if stream.isatty() else 80, colour, unicode)
+
+
+def wrapped(text: str, style: Style, first: str = "", later: str = "  ") -> str:
+    return textwrap.fill(text, style.width, initial_indent=first, subsequent_indent=later, break_long_words=False,
+                         break_on_hyphens=False)
+
+
+@dataclass
+class Pages:
+    """The parts of the answer, made from a study."""
+
+    study: Study
+    style: Style
+
+    def head(self, text: str) -> str:
+        return f"{lanes.BOLD}{text}{lanes.PLAIN}" if self.style.colour else text
+
+    def small(self) -> list[str]:
+        study = self.study
+        count, whole = len(study.small), study.refusal.line - 1
+        title = f"The small log: {count} of {whole} events; the same rule refuses the last at the same place"
+        digits = len(str(study.refused.at))
+        lines = [f"  {1:>{digits}}  {study.header}", *(f"  {line.at:>{digits}}  {line.text}" for line in study.small)]
+        return [self.head(title), *lines]
+
+    def repairs(self) -> list[str]:
+        teller = Teller(self.study.log, self.study.refused)
+        if not self.study.repairs:
+            return [self.head("What would do: nothing found with up to three events put in, or a line changed or moved")]
+        told = [self.head("What would do, tried and judged by bbm")]
+        for count, repair in enumerate(self.study.repairs, 1):
+            first, *rest = teller.repair(repair)
+            told.append(wrapped(first, self.style, f"  {count}. ", "     "))
+            told += [wrapped(text, self.style, "     ", "     ") for text in rest]
+        return told
+
+    def run(self, told: run.Told | None, has_command: bool) -> list[str]:
+        if told is None:
+            why = "the program has none for this log" if has_command else f"this program has no command `{run.COMMAND}`"
+            return [self.head(f"A run that goes wrong: {why}")]
+        return [self.head("A run that goes wrong"), *(wrapped(f"{text}", self.style, "  ", "    ") for text in told.told())]
+
+    def lanes(self, chart: lanes.Chart) -> list[str]:
+        about = f" of {hex(chart.place)}" if chart.place is not None else ""
+        title = f"Lanes: a column a PE; how long an old entry{about} may live there"
+        text = lanes.Text(chart, self.style.width, self.style.colour, self.style.unicode)
+        return [self.head(title), *(f"{line}" for line in text.lines())]
+
+    def rule(self) -> list[str]:
+        rule = rule_of(self.study.refusal.rule)
+        if rule is None:
+            return []
+        parts = [wrapped(rule.sentence, self.style, "  ", "  "), wrapped(f"The usual bug: {rule.bug}", self.style, "  ", "  "),
+                 wrapped(f"Right: {rule.right}", self.style, "  ", "  ")]
+        return [self.head(f"Rule {rule.number} {rule.name} (docs/RULES.md)"), *parts]
+
+
+def watched(study: Study) -> int | None:
+    """The place whose old entry the lanes follow: the refused one, or that which links the page in question."""
+    return study.scene.places[0] if study.scene.places else None
+
+
+def lines_shown(study: Study, whole: bool) -> Lines:
+    """The small log; or all lines up to the refused one where that is asked for, and they aren't too many."""
+    if whole and study.refusal.line <= TOO_MANY:
+        return study.log.lines(range(2, study.refusal.line + 1))
+    return study.small
+
+
+@dataclass
+class Views:
+    """The run and the lanes of a study, made once for all forms."""
+
+    told: run.Told | None
+    has_command: bool
+    chart: lanes.Chart
+
+
+def views_of(study: Study, whole: bool) -> Views:
+    has_command = study.program.has(run.COMMAND)
+    found = run.run_of(study.program, study.text()) if has_command else None
+    told = run.Told(study.small, found) if found else None
+    chart = lanes.chart_of(study.program, study.header, lines_shown(study, whole), study.refusal, watched(study))
+    if told and not whole:
+        told.read()
+        chart.entries = run.lives(told)
+        told = run.Told(study.small, found)
+    return Views(told, has_command, chart)
+
+
+def parts_of(study: Study, views: Views, style: Style) -> list[list[str]]:
+    pages = Pages(study, style)
+    return [pages.small(), pages.repairs(), pages.run(views.told, views.has_command), pages.lanes(views.chart), pages.rule()]
+
+
+def text_of(answer: Answer, parts: list[list[str]]) -> str:
+    return "\n\n".join("\n".join(part) for part in [[answer.first], *parts] if part) + "\n"
+
+
+def other_answer(answer: Answer, line: bytes | None) -> str:
+    """What is said of a log that no rule refuses: the program's line, and for a malformed one the line itself."""
+    if answer.status != 2 or line is None:
+        return answer.text
+    cause = answer.first.split(" ")[-1]
+    why = cause_of(cause)
+    shown = line[:200].decode("latin-1").encode("unicode_escape").decode("ascii")
+    return answer.text + f"  the line: {shown}\n" + (f"  {cause}: {why}\n" if why else "")
+
+
+def emit(text: str) -> None:
+    sys.stdout.write(text)
+    sys.stdout.flush()
