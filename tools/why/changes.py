@@ -32,15 +32,16 @@ class Kind(Enum):
 
 @dataclass(frozen=True)
 class Put:
-    """An event put in behind a line. `text` has no label."""
+    """An event put in behind a line. `text` has no label; `step` tells the second TLBI of two from one that takes all."""
 
     after: int
     text: str
+    step: int = 1
     kind: Kind = Kind.PUT_IN
 
     @property
     def site(self) -> tuple:
-        return ("put", self.text.split(" ")[0])
+        return ("put", self.text.split(" ")[0], self.step)
 
 
 @dataclass(frozen=True)
@@ -97,6 +98,11 @@ class Head:
 Edit = Put | Swap | Move | Drop | Head
 
 
+def position_of(edit: Edit) -> int:
+    """The line at which an edit changes something."""
+    return edit.after if isinstance(edit, Put) else edit.at
+
+
 @dataclass(frozen=True)
 class Change:
     """Some edits that are made together."""
@@ -118,6 +124,10 @@ class Change:
 
     def __add__(self, other: Change) -> Change:
         return Change(self.edits + other.edits)
+
+    def shares(self, other: Change) -> bool:
+        """Whether both have an edit of one site."""
+        return bool(self.sites & other.sites)
 
     def but(self, position: int) -> Change:
         """Without the edit at this position."""

@@ -12,7 +12,7 @@ from changes import NOTHING, Change, Kind, Put, Swap, one, puts
 from log import ADDRESS_BITS, Event, Line
 from scene import Scene
 
-NEAR = 5
+SWITCHING = 5
 
 
 @dataclass(frozen=True)
@@ -26,12 +26,13 @@ class Family:
 
 @dataclass(frozen=True)
 class Flush:
-    """A TLBI as it is, changed or put in: the changes, the widest of them, by which PE, and behind which line."""
+    """A TLBI as it is, changed or put in: the changes, the widest of them, by which PE, and on or behind which line."""
 
     choices: tuple[Change, ...]
     widest: Change
     pe: int
     at: int
+    is_new: bool = False
 
 
 def with_words(line: Line, rest: tuple[str, ...], kind: Kind, pe: int | None = None) -> Change:
@@ -126,26 +127,32 @@ def is_about_tags(scene: Scene) -> bool:
     return scene.event.word in ("msr", "unroot")
 
 
-def positions(scene: Scene) -> list[int]:
-    """Behind which lines a TLBI may be put in: before and behind each near DSB, before each near TLBI, before the refused line."""
-    near = scene.in_window("dsb")[-NEAR:]
-    found = [at for line in near for at in (line.at, line.at - 1)]
+def positions(scene: Scene) -> list[tuple[int, int]]:
+    """Behind which lines a TLBI may be put in, and by which PE: before and behind each near DSB by that PE, behind the last
+    ISBs, and before the refused line."""
+    near = scene.near("dsb")
+    found = [(at, line.event.pe) for line in near for at in (line.at, line.at - 1)]
     synced = [line.at for line in scene.in_window("isb")[-2:]] if is_about_tags(scene) else []
-    return list(dict.fromkeys([*found, *synced, scene.refused.at - 1]))
+    ends = [*(line.at for line in near), *synced, scene.refused.at - 1]
+    return list(dict.fromkeys([*found, *((at, pe) for pe in scene.pes[:2] for at in ends)]))
+
+
+def put_flush(kind: str, at: int, pe: int, text: str) -> Change:
+    is_second = kind == "s2" and text == words.SECOND_STEP
+    return one(Put(at, f"tlbi {pe} {text}", 2 if is_second else 1))
 
 
 def flushes_put(scene: Scene) -> Iterator[Flush]:
     for kind in scene.kinds:
         texts = tlbis_for_tags(scene, kind) if is_about_tags(scene) else tlbis_for_places(scene, kind)
         widest = words.WIDEST[kind] + words.BROADCAST
-        for pe in scene.pes[:2]:
-            for at in positions(scene):
-                yield Flush(tuple(puts(at, f"tlbi {pe} {text}") for text in texts), puts(at, f"tlbi {pe} {widest}"), pe, at)
+        for at, pe in positions(scene):
+            yield Flush(tuple(put_flush(kind, at, pe, text) for text in texts), puts(at, f"tlbi {pe} {widest}"), pe, at, True)
 
 
 def flushes_there(scene: Scene) -> Iterator[Flush]:
     """The TLBIs that are there: as they are, and changed."""
-    for line in scene.in_window("tlbi")[-NEAR:]:
+    for line in scene.near("tlbi"):
         yield Flush((NOTHING,), NOTHING, line.event.pe, line.at)
         for kind in scene.kinds:
             widest = with_words(line, (words.WIDEST[kind] + words.BROADCAST,), Kind.OPERATION)
@@ -192,8 +199,8 @@ def elsewhere(scene: Scene) -> list[tuple[str, str]]:
 def switches(scene: Scene, flush: Flush) -> Iterator[Change]:
     """What may stand before the TLBI so that no PE uses the tag any more: an ISB, or another root and an ISB."""
     yield NOTHING
-    behind = flush.at if flush.choices[0].edits and isinstance(flush.choices[0].edits[0], Put) else flush.at - 1
-    pes = list(dict.fromkeys(line.event.pe for line in scene.of_word("msr")))[-NEAR:]
+    behind = flush.at if flush.is_new else flush.at - 1
+    pes = list(dict.fromkeys(line.event.pe for line in scene.of_word("msr")))[-SWITCHING:]
     for pe in pes:
         yield puts(behind, f"isb {pe}")
     for pe in pes:
@@ -214,7 +221,9 @@ def sequences(scene: Scene, size: int) -> Iterator[Family]:
     """Each way to a complete flush that takes so many edits."""
     before = switches if is_about_tags(scene) else publications
     for flush in (*flushes_there(scene), *flushes_put(scene)):
-        width = flush.choices[0].size if flush.choices else size + 1
+        if not flush.choices:
+            continue
+        width = flush.choices[0].size
         ends = [end for end in completions(scene, flush) if end.size + width <= size]
         for begin in before(scene, flush):
             for end in ends:

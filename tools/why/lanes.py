@@ -151,15 +151,17 @@ class Text:
         return "".join(codes) + text + PLAIN if self.colour and text.strip() else text
 
     def cell(self, number: int, row: Row, pe: int) -> str:
+        """Two columns: the event or what holds at the PE, and beside its own event what that did here."""
+        effect = row.effects[pe].value if pe in row.effects else ""
         if row.event.pe == pe:
-            return self.painted(letter_of(row), BOLD, *([RED] if row.refused else []))
-        if pe in row.effects:
-            return self.painted(row.effects[pe].value, BOLD)
+            mark = self.painted(letter_of(row), BOLD, *([RED] if row.refused else []))
+            return mark + (self.painted(effect, BOLD) or " ")
+        if effect:
+            return self.painted(effect, BOLD) + " "
         if self.chart.living(number, pe):
-            return self.painted("█" if self.bars is BARS else "E", RED)
+            return self.painted("█" if self.bars is BARS else "E", RED) + " "
         phase = row.phases[pe] if row.phases else ""
-        bar = self.bars.get(phase, " ")
-        return self.painted(bar, DIM if phase == "cleansed" else RED)
+        return self.painted(self.bars.get(phase, " "), DIM if phase in ("live", "cleansed") else RED) + " "
 
     def heads(self) -> list[str]:
         """The numbers of the PEs, one digit a line."""
@@ -171,21 +173,21 @@ class Text:
         return [f"{head}  {row}  {tail if i == 0 else ''}".rstrip() for i, (head, row) in enumerate(zip(left, rows))]
 
     def row(self, number: int, row: Row) -> str:
-        cells = " ".join(self.cell(number, row, pe) for pe in self.chart.pes)
+        cells = "".join(self.cell(number, row, pe) for pe in self.chart.pes)
         room = self.width - self.digits - 4 - 2 * len(self.chart.pes)
         text = str(row.event) + ("  <- refused" if row.refused else "")
         if len(text) > room and row.event.label:
             text = row.event.plain + ("  <- refused" if row.refused else "")
         text = text if len(text) <= room else text[:max(0, room - 2)] + ".."
-        return f"{row.line.at:>{self.digits}}  {cells}  {self.painted(text, *([BOLD, RED] if row.refused else []))}".rstrip()
+        return f"{row.line.at:>{self.digits}}  {cells} {self.painted(text, *([BOLD, RED] if row.refused else []))}".rstrip()
 
     def legend(self) -> list[str]:
         phases = list(dict.fromkeys(phase for row in self.chart.rows for phase in row.phases))
         done = list(dict.fromkeys(effect for row in self.chart.rows for effect in row.effects.values()))
-        told = [f"{self.bars[phase]} {LEGEND[phase]}" for phase in BARS if phase in phases]
-        told += [f"{effect.value} {EFFECTS[effect]}" for effect in Effect if effect in done]
+        told = [f"  {self.bars[phase]} {LEGEND[phase]}" for phase in BARS if phase in phases]
+        told += [f"  {effect.value} {EFFECTS[effect]}" for effect in Effect if effect in done]
         if self.chart.entries:
-            told.append(f"{'█' if self.bars is BARS else 'E'} the entry of the run lives here")
+            told.append(f"  {'█' if self.bars is BARS else 'E'} the entry of the run lives here")
         return told
 
     def lines(self) -> list[str]:

@@ -14,7 +14,8 @@ from program import Refusal
 
 BARRIERS = {b"dsb", b"tlbi", b"isb"}
 LOCKS_KEPT = 64
-PAGE = 12
+PAGE, TAG = 12, 48
+TAGS_TRIED = 8
 
 
 @dataclass
@@ -100,16 +101,27 @@ def climb(index: Index, header: Header, pages: list[int], last_link_alone: bool)
         first = page - page % joined
         waiting.extend(range(first, first + joined) if any(index.declared[first + i] for i in range(joined)) else ())
         way.lines.update(at for at in index.declared[page] if at >= begun)
-        links = [(at, place) for at, place in index.links[page] if at >= begun]
-        for _, place in links[-1:] if last_link_alone else links:
-            way.lines.update(written_at(index, place))
+        links = [(at, place) for at, place in index.links[page] if at >= begun and at != index.last]
+        for at, place in links[-1:] if last_link_alone else links:
+            way.lines.update(written_at(index, place, at if last_link_alone else 0))
             waiting.append(place >> PAGE)
     return way
 
 
-def written_at(index: Index, place: int) -> list[int]:
-    begun = index.begun(place >> PAGE)
+def written_at(index: Index, place: int, since: int = 0) -> list[int]:
+    """The writes of a place since the `init` of its page, and from a line on."""
+    begun = max(since, index.begun(place >> PAGE))
     return [at for at, there, _ in index.writes[place >> PAGE] if there == place and at >= begun]
+
+
+def of_refused(index: Index, refusal: Refusal, last_alone: bool) -> list[int]:
+    """The writes of the refused line's place: those from the last valid one before it on, or all since its page's `init`."""
+    line = index.log.line(refusal.line).event
+    if line.word != "w":
+        return []
+    made = [at for at, place, value in index.writes[line.page >> PAGE]
+            if place == line.place and value & 1 and at < refusal.line]
+    return written_at(index, line.place, made[-1] if made and last_alone else 0)
 
 
 def descend(index: Index, way: Way, pages: list[int]) -> None:
@@ -151,6 +163,14 @@ def tags(index: Index, way: Way) -> set[int]:
     return chosen
 
 
+def tags_near(index: Index, refusal: Refusal, header: Header) -> list[int]:
+    """The ASIDs and VMIDs of the register writes that name a page of the way, and of those next to them by the same PE, since
+    an ASID may stand in the other register; the last ones first."""
+    way = climb(index, header, pages_named(index, refusal), True)
+    values = [number(index.fields(at)[3]) for at in registers_near(index, way)]
+    return list(dict.fromkeys(value >> TAG for value in values[::-1] if value))[:TAGS_TRIED]
+
+
 def locks(index: Index, refusal: Refusal, way: Way) -> set[int]:
     """The last lines of the locks of the roots on the way, and of the lock that the refused line names, from a `lock` on."""
     wanted = {lock for at in way.lines if (lock := index.log.line(at).event.lock)}
@@ -164,14 +184,13 @@ def locks(index: Index, refusal: Refusal, way: Way) -> set[int]:
 
 def slices(index: Index, refusal: Refusal, header: Header) -> Iterator[list[int]]:
     """Lines to try, from few to many. The refused line is the last of each."""
-    log, named = index.log, pages_named(index, refusal)
+    named = pages_named(index, refusal)
     barriers = sorted(at for word in BARRIERS for at in index.others[word])
     others = {at for lines in index.others.values() for at in lines} | {at for at, _, _ in index.registers}
     others |= {at for kind in (index.inits, index.declared) for lines in kind.values() for at in lines}
     for last_link_alone, down in ((True, False), (True, True), (False, True)):
         way = climb(index, header, named, last_link_alone)
-        line = log.line(refusal.line).event
-        way.lines.update(written_at(index, line.place) if line.word == "w" else ())
+        way.lines.update(of_refused(index, refusal, last_link_alone))
         if down:
             descend(index, way, named)
         since = window_of(index, refusal, way)
@@ -187,24 +206,47 @@ BEFORE, BEHIND, FOCUSED, TRIED_LOCKS = 6, 6, 4, 8
 
 def attempts(index: Index, refusal: Refusal, header: Header) -> list[int]:
     """The lines near by that may have been meant to help: writes of the same places, the barriers and TLBIs around them and
-    around the refused line, and the last lines of the locks."""
+    around the refused line, the register writes that give the root its tags, and the last lines of the locks."""
     way = climb(index, header, pages_named(index, refusal), True)
-    line = index.log.line(refusal.line).event
-    way.lines.update(written_at(index, line.place) if line.word == "w" else ())
+    way.lines.update(of_refused(index, refusal, True))
     changed = sorted(at for at in way.lines if index.fields(at)[0] in (b"w", b"unroot") and at < refusal.line)
-    registers = [at for at, _, value in index.registers if not value or (value & ADDRESS_BITS) >> PAGE in way.pages]
-    focus = [*changed[-FOCUSED:], *registers[-FOCUSED:], refusal.line]
-    barriers = sorted(at for word in BARRIERS for at in index.others[word])
+    registers = registers_near(index, way)
+    is_write = index.fields(refusal.line)[0] in (b"w", b"init")
+    focus = [*changed[-FOCUSED:], *([] if is_write else registers[-FOCUSED:]), refusal.line]
+    words = (b"dsb", b"tlbi") if is_write else BARRIERS
+    barriers = sorted(at for word in words for at in index.others[word])
     chosen = {at for centre in focus for at in around(index, barriers, centre)}
     held = sorted(locks(index, refusal, way))[-TRIED_LOCKS:]
-    return sorted(at for at in {*chosen, *focus, *held} if at < refusal.line)
+    given = {at for at in registers[-FOCUSED:] for at in with_its_root(index, at)}
+    return sorted(at for at in {*chosen, *focus, *held, *given} if at < refusal.line)
+
+
+def registers_near(index: Index, way: Way) -> list[int]:
+    """The register writes that name a page of the way or none, and those next to them by the same PE."""
+    by_pe, found = defaultdict(list), set()
+    for at, pe, value in index.registers:
+        by_pe[pe].append((at, value))
+    for written in by_pe.values():
+        for i, (_, value) in enumerate(written):
+            if not value or (value & ADDRESS_BITS) >> PAGE in way.pages:
+                found.update(at for at, _ in written[max(0, i - 1):i + 2])
+    return sorted(at for at in found if at < index.last)
+
+
+def with_its_root(index: Index, at: int) -> list[int]:
+    """A register write with the lines that make its root, and the next `isb` of its PE."""
+    fields = index.fields(at)
+    page = (number(fields[3]) & ADDRESS_BITS) >> PAGE
+    synced = [later for later in index.others[b"isb"][bisect_right(index.others[b"isb"], at):][:64] if index.fields(later)[1] == fields[1]]
+    made = [line for lines in (index.inits[page], index.declared[page]) for line in lines if line < at]
+    return [at, *made[-2:], *synced[:1]]
 
 
 def around(index: Index, barriers: list[int], centre: int) -> list[int]:
     """The barriers and TLBIs next to a line: those of its PE, and the next TLBIs of any."""
     pe, middle = index.fields(centre)[1], bisect_right(barriers, centre)
-    own = lambda lines: [at for at in lines if index.fields(at)[1] == pe]
-    before = own(barriers[max(0, middle - 64):middle])[-BEFORE:]
+    before = [at for at in barriers[max(0, middle - 64):middle] if index.fields(at)[1] == pe]
     behind = barriers[middle:middle + 256]
+    own = [at for at in behind if index.fields(at)[1] == pe]
     flushes = [at for at in behind if index.fields(at)[0] == b"tlbi"]
-    return [*before, *own(behind)[:BEHIND], *flushes[:BEHIND // 2]]
+    return [*before[-BEFORE:], *own[:BEHIND], *flushes[:BEHIND // 2]]

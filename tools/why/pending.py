@@ -21,6 +21,7 @@ from program import Answer, Program
 BREAK_BEFORE_MAKE, NO_LOCK = 4, 2
 LIMIT_OF_PAGES = 16384
 JOBS = 2
+PHASES = ("broken", "seen", "half", "cleansed")
 LINK = 0x803
 PAGE = 12
 
@@ -169,8 +170,8 @@ def ranges(pes: list[int]) -> str:
 
 
 def told(log: Log, place: Pending) -> str:
-    phases = dict.fromkeys(place.phases)
-    by_phase = [f"{phase} {ranges([pe for pe, is_now in enumerate(place.phases) if is_now == phase])}" for phase in phases]
+    by_phase = [f"{phase} {ranges([pe for pe, is_now in enumerate(place.phases) if is_now == phase])}"
+                for phase in PHASES if phase in place.phases]
     return f"pending {hex(place.place)} cleared {log.line(place.cleared).name} {' '.join(by_phase)}\n"
 
 
@@ -179,7 +180,6 @@ def command(program: Program, log: Log) -> tuple[int, str]:
     if not answer.accepted:
         return answer.status, answer.text
     found = pending(program, log)
-    count = f"pending {len(found)} places\n" if len(found) != 1 else "pending 1 place\n"
-    return answer.status, answer.text + count + "".join(told(log, place) for place in found)
+    return answer.status, answer.text + f"pending {len(found)} places\n" + "".join(told(log, place) for place in found)
 
 

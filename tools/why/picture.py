@@ -8,24 +8,25 @@ from lanes import EFFECTS, LEGEND, Chart, Effect, Row, letter_of
 from program import Answer
 from study import Study
 
-ROW, LANE, LEFT, TOP, LETTER = 20, 26, 64, 70, 7.3
+ROW, LANE, LEFT, TOP, LETTER = 22, 30, 64, 70, 7.3
 LONGEST = 84
 HEADS_EACH = 30
-WIDTHS = {"live": 14, "broken": 12, "seen": 9, "half": 6, "cleansed": 1}
+WIDTHS = {"live": 6, "broken": 10, "seen": 12, "half": 8, "cleansed": 3}
 
 STYLE = """
-.bbm{--paper:#ffffff;--ink:#1c2024;--soft:#68707a;--line:#d9dde2;--live:#c62828;--broken:#e2622b;--seen:#e8a13a;--half:#c9b458;
---gone:#4a8f5a;--mark:#2f5fb3;--band:#fde3e1;--stripe:#f5f7f9}
-@media (prefers-color-scheme:dark){.bbm{--paper:#15181c;--ink:#e6e9ed;--soft:#98a1ab;--line:#333a42;--live:#ef5350;--broken:#f08a4b;
---seen:#d9a441;--half:#a8994f;--gone:#6cbf7f;--mark:#7fa8f0;--band:#46201f;--stripe:#1b1f24}}
+.bbm{--paper:#ffffff;--ink:#1c2024;--soft:#68707a;--line:#d9dde2;--live:#9aa7b6;--broken:#ef8d2f;--seen:#cf2f2f;--half:#b98a00;
+--gone:#4a8f5a;--bad:#c62828;--mark:#2f5fb3;--band:#fde3e1;--stripe:#f5f7f9}
+@media (prefers-color-scheme:dark){.bbm{--paper:#15181c;--ink:#e6e9ed;--soft:#98a1ab;--line:#333a42;--live:#66727f;--broken:#f0a04b;
+--seen:#ef5350;--half:#d9b441;--gone:#6cbf7f;--bad:#ef5350;--mark:#7fa8f0;--band:#46201f;--stripe:#1b1f24}}
 .bbm{background:var(--paper);color:var(--ink)}
 .bbm text{font:12px ui-monospace,"DejaVu Sans Mono",Menlo,Consolas,monospace;fill:var(--ink)}
 .bbm .title{font-weight:bold;font-size:13px}.bbm .soft{fill:var(--soft)}.bbm .mark{font-weight:bold;font-size:10.5px;fill:var(--paper)}
 .bbm .paper{fill:var(--paper)}.bbm .stripe{fill:var(--stripe)}.bbm .band{fill:var(--band)}.bbm .lane{stroke:var(--line)}
 .bbm .live{fill:var(--live)}.bbm .broken{fill:var(--broken)}.bbm .seen{fill:var(--seen)}.bbm .half{fill:var(--half)}
-.bbm .cleansed{fill:var(--gone)}.bbm .dot{fill:var(--mark)}.bbm .dot.refused{fill:var(--live)}.bbm .reach{stroke:var(--mark);stroke-width:1.3}
+.bbm .cleansed{fill:var(--gone)}.bbm .dot{fill:var(--mark)}.bbm .dot.refused{fill:var(--bad)}.bbm .reach{stroke:var(--mark);stroke-width:1.3}
 .bbm .effect{font-weight:bold;font-size:10.5px;fill:var(--ink)}.bbm .tile{fill:var(--paper);stroke:var(--mark)}.bbm .tile.x{stroke:var(--gone)}
-.bbm .entry{fill:none;stroke:var(--live);stroke-width:2}
+.bbm .own{font-weight:bold;font-size:9px;fill:var(--ink)}.bbm .refusal{font-weight:bold;fill:var(--bad)}
+.bbm .entry{fill:none;stroke:var(--bad);stroke-width:2}
 """
 
 
@@ -101,16 +102,19 @@ class Drawing:
 
     def event(self, number: int, row: Row) -> list[str]:
         y = self.y(number) + ROW / 2
-        words = self.words(row)
+        words = str(row.event)
         shown = words if len(words) <= LONGEST else words[:LONGEST - 2] + ".."
         plain, label = (shown.split(" @", 1) + [""])[:2]
         tail = f'<tspan class="soft"> @{escape(label)}</tspan>' if label else ""
+        tail += '<tspan class="refusal">   refused</tspan>' if row.refused else ""
         name = "dot refused" if row.refused else "dot"
         parts = [text(LEFT - 12, y + 4, "soft", str(row.line.at), "end"),
                  f'<text x="{self.words_at}" y="{y + 4}" xml:space="preserve">{escape(plain)}{tail}</text>']
         if row.event.pe in self.chart.pes:
-            parts.append(f'<circle cx="{self.x(row.event.pe):.1f}" cy="{y}" r="8.5" class="{name}"/>')
-            parts.append(text(self.x(row.event.pe), y + 4, "mark", letter_of(row), "middle"))
+            parts.append(f'<circle cx="{self.x(row.event.pe):.1f}" cy="{y}" r="7.5" class="{name}"/>')
+            parts.append(text(self.x(row.event.pe), y + 3.7, "mark", letter_of(row), "middle"))
+            own = row.effects.get(row.event.pe)
+            parts += [text(self.x(row.event.pe) + 8, y + 9, "own", own.value)] if own else []
         return parts
 
     def legend_rows(self) -> list[tuple[str, str]]:
@@ -118,7 +122,7 @@ class Drawing:
         done = dict.fromkeys(effect for row in self.chart.rows for effect in row.effects.values())
         rows = [(phase, f"{phase}: {LEGEND[phase]}") for phase in LEGEND if phase in phases]
         rows += [(effect.value, EFFECTS[effect]) for effect in Effect if effect in done]
-        rows.append(("W", "a mark in a circle is the event: W a valid value, C an invalid one, D dsb, T tlbi, S isb, M msr, X refused"))
+        rows.append(("W", "in a circle the event: W a valid value, C an invalid one, D dsb, T tlbi, S isb, M msr, L lock, K unlock, X refused"))
         return rows + ([("E", "an outline is the entry of the run")] if self.chart.entries else [])
 
     def legend_parts(self) -> list[str]:

@@ -3,8 +3,9 @@ from __future__ import annotations
 
 from collections.abc import Iterable
 from dataclasses import dataclass
+from itertools import islice
 
-from changes import Change, Move, applied, changed, changed_header
+from changes import Change, Move, applied, changed, changed_header, position_of
 from flushes import Family
 from log import Lines, Log, written
 from program import Answer, Program
@@ -13,6 +14,7 @@ from tries import LARGEST, families, last_resort
 
 WANTED = 3
 RANKED = 8
+CHOICES = 4
 ACCEPTED_ALL = 1 << 40
 
 
@@ -54,10 +56,17 @@ class Repairer:
         left = changed(self.lines_for(change, lines), change)
         return self.program.check(written(changed_header(self.scene.header_text, change), left)).accepted
 
-    def first_of(self, family: Family) -> Change | None:
+    def repair_of(self, family: Family) -> Repair | None:
+        """The first change of a family that passes, in the whole log too where one does."""
         if family.probe is not None and not self.passes(family.probe):
             return None
-        return next((change for change in family.choices if self.passes(change)), None)
+        passing = (change for change in family.choices if self.passes(change) and self.is_needed(change))
+        repairs = []
+        for change in islice(passing, CHOICES):
+            repairs.append(self.in_whole(change))
+            if repairs[-1].holds_in_whole(self.scene.refused.at):
+                return repairs[-1]
+        return repairs[0] if repairs else None
 
     def is_needed(self, change: Change) -> bool:
         """Whether no edit of the change can be left out."""
@@ -65,32 +74,41 @@ class Repairer:
 
     # ---- search
 
-    def found_with(self, tries: Iterable[Family], before: list[Change]) -> list[Change]:
-        """Changes that pass, one for each site; none that does what a smaller one does with something more."""
-        found: list[Change] = []
+    def found_with(self, tries: Iterable[Family], before: list[Repair]) -> list[Repair]:
+        """Changes that pass, of which none shares an edit's site with one before: those with which the whole log gets furthest
+        first, and none that is further from the break than the first."""
+        found: list[Repair] = []
         for family in tries:
-            sites = family.choices[0].sites if family.choices else frozenset()
-            if any(known.sites <= sites for known in (*before, *found)):
-                continue
-            change = self.first_of(family)
-            if change is not None and self.is_needed(change):
-                found.append(change)
+            known = [repair.change for repair in (*before, *found)]
+            new = tuple(change for change in family.choices if not any(old.shares(change) for old in known))
+            repair = self.repair_of(Family(new, family.probe)) if new else None
+            if repair is not None:
+                found.append(repair)
             if len(found) == RANKED:
                 break
-        return found
+        found.sort(key=lambda repair: (-repair.reach, self.farness(repair.change)))
+        return [repair for repair in found if self.farness(repair.change) <= self.farness(found[0].change)]
 
     def search(self) -> list[Repair]:
         """At most three repairs, the smallest first, and of one size those with which the whole log gets furthest."""
         repairs: list[Repair] = []
         for size in range(1, LARGEST + 1):
-            if len(repairs) >= WANTED or repairs and size == LARGEST:
+            good = [repair for repair in repairs if not self.only_moves_it(repair)]
+            if len(good) >= WANTED or good and size == LARGEST:
                 break
-            found = self.found_with(families(self.scene, size), [repair.change for repair in repairs])
-            repairs += self.ranked(found)
-        return (repairs or self.ranked(self.found_with(last_resort(self.scene), [])))[:WANTED]
+            repairs += self.found_with(families(self.scene, size), repairs)
+        repairs = [repair for repair in repairs if not self.only_moves_it(repair)] or repairs
+        return (repairs or self.found_with(last_resort(self.scene), []))[:WANTED]
 
-    def ranked(self, changes: list[Change]) -> list[Repair]:
-        return sorted((self.in_whole(change) for change in changes), key=lambda repair: -repair.reach)
+    def farness(self, change: Change) -> int:
+        """How far from the break a change is: 0 among its next lines, and then by the number of digits of the distance."""
+        broken = self.scene.last_write or self.scene.refused
+        return max(abs(position_of(edit) - broken.at).bit_length() for edit in change.edits) // 4
+
+    def only_moves_it(self, repair: Repair) -> bool:
+        """Whether the same rule refuses a later line of the whole log at the same place, or the same line still."""
+        refusal, old = repair.whole.refusal, self.scene.refusal
+        return refusal is not None and (refusal.rule, refusal.at) == (old.rule, old.at)
 
     def in_whole(self, change: Change) -> Repair:
         """The repair, and what the program says of the whole log with it."""

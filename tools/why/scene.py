@@ -11,7 +11,8 @@ from log import ADDRESS_BITS, PAGE_BYTES, Event, Header, Line, Lines, header_of
 from program import Refusal
 from words import KIND_OF_REGISTER
 
-BARRIERS = {"dsb", "tlbi", "isb"}
+# How many lines on each side are looked at where there are more.
+NEAR = 4
 BITS_OF_START = {0: 48, 1: 39, 2: 30}
 
 
@@ -38,6 +39,7 @@ class Scene:
     lines: Lines
     later: Lines
     refusal: Refusal
+    near_tags: list[int] = field(default_factory=list)
     links: dict[int, int] = field(default_factory=dict)
 
     def __post_init__(self):
@@ -129,10 +131,11 @@ class Scene:
 
     @cached_property
     def tags(self) -> list[int]:
-        """The VMIDs and ASIDs of the register writes that name a root, that of the refused line first."""
+        """The VMIDs and ASIDs of the register writes that name a root, that of the refused line first, and those of the log
+        that was given."""
         lines = [self.refused, *self.of_word("msr")]
         values = [line.event.value for line in lines if line.event.word == "msr" and line.event.value & ADDRESS_BITS]
-        return list(dict.fromkeys(value >> 48 for value in values))
+        return list(dict.fromkeys([*(value >> 48 for value in values), *self.near_tags]))
 
     @cached_property
     def last_write(self) -> Line | None:
@@ -150,6 +153,11 @@ class Scene:
 
     def in_window(self, *words: str) -> list[Line]:
         return [line for line in self.window if line.event.word in words]
+
+    def near(self, *words: str) -> list[Line]:
+        """Of these lines of the window the first ones, behind the break, and the last ones, before the refused line."""
+        lines = self.in_window(*words)
+        return lines if len(lines) <= 2 * NEAR else [*lines[:NEAR], *lines[-NEAR:]]
 
     @cached_property
     def pes(self) -> list[int]:

@@ -4,6 +4,7 @@ from __future__ import annotations
 from dataclasses import dataclass
 
 from log import Line, Lines, Log, written
+from names import tags_near
 from program import Program, Refusal
 from repair import Repair, Repairer, anchors
 from scene import Scene
@@ -57,7 +58,8 @@ def with_repairs(shrinker: Shrinker, repairer: Repairer, repairs: list[Repair], 
 def study(program: Program, log: Log, refusal: Refusal) -> Study:
     shrinker = Shrinker(program, log, refusal)
     tried = shrinker.with_attempts()
-    scene = Scene(log.header, log.lines(tried), later_lines(log, refusal), refusal)
+    near_tags = tags_near(shrinker.index, refusal, shrinker.header)
+    scene = Scene(log.header, log.lines(tried), later_lines(log, refusal), refusal, near_tags)
     repairer = Repairer(program, log, scene)
     repairs = repairer.search()
     small = with_repairs(shrinker, repairer, repairs, tried)

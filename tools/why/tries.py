@@ -176,14 +176,14 @@ def rewritten_fresh(scene: Scene, size: int) -> Iterator[Family]:
 
 
 def null_written(scene: Scene, size: int) -> Iterator[Family]:
-    """The write in a page of a root that is there, or of one that is declared for it."""
+    """The write in a page of a root that is there, or in one of its own, which a root can be made of."""
     event, inside = scene.event, scene.event.place % PAGE_BYTES
     in_page = lambda page: with_words(scene.refused, (hex(page + inside), event.rest[1]), Kind.PLACE)
     if size == 1:
         yield from each(in_page(page) for page, (kind, _) in scene.roots.items() if kind == "ttbr0")
-    if size == 3:
+    if size == 2:
         page = scene.unused_page()
-        yield family(puts(scene.refused.at - 1, f"init {event.pe} {hex(page)}", f"root {event.pe} ttbr0 - {hex(page)}") + in_page(page))
+        yield family(puts(scene.refused.at - 1, f"init {event.pe} {hex(page)}") + in_page(page))
 
 
 def at_place(scene: Scene) -> list[Line]:
@@ -245,14 +245,15 @@ def bad_operand(scene: Scene, size: int) -> Iterator[Family]:
         return
     event = scene.event
     operand = words.Operand(event.operation, event.operand)
-    tried = {words.shifted(event.operand): Kind.OPERAND, operand.without_hint(): Kind.HINT}
+    tried = {operand.without_hint(): Kind.HINT, words.shifted(event.operand): Kind.OPERAND}
+    if operand.asid == words.SIGN:
+        tried = {words.shifted(event.operand): Kind.OPERAND}
     if words.is_range(event.operation):
         tried = {event.operand & ~(3 << 46) | words.GRANULE_4K: Kind.OPERAND,
                  event.operand & ~(3 << 46) & ~words.RANGE_HINT | words.GRANULE_4K: Kind.HINT, **tried}
-    tried.update({value: Kind.OPERAND for value in (operand.without_hint() & ~(0xFF << 36), operand.without_hint() & words.VA_BITS,
-                                                    operand.without_hint() & words.IPA_BITS, event.operand & words.IPA_BITS)})
-    own = [item for item in operands(scene, event)]
-    choices = [(value, kind) for value, kind in (*tried.items(), *own) if value != event.operand]
+    bare = operand.without_hint()
+    tried |= {value: Kind.OPERAND for value in (bare & ~(0xFF << 36), bare & words.VA_BITS, bare & words.IPA_BITS) if value not in tried}
+    choices = [(value, kind) for value, kind in (*tried.items(), *operands(scene, event)) if value != event.operand]
     yield Family(tuple(with_words(scene.refused, (event.operation, hex(value)), kind) for value, kind in choices))
 
 

@@ -17,6 +17,8 @@ WIDER = {
     "vae1": ["vaae1", "aside1", "vmalle1"], "rvae1": ["rvaae1", "aside1", "vmalle1"],
     "vaae1": ["vmalle1"], "rvaae1": ["vmalle1"], "aside1": ["vmalle1"],
 }
+# At stage 2 what takes the combined entries, behind that which takes those of stage 2 by address.
+SECOND_STEP = "vmalle1is"
 WIDEST = {"el2": "alle2", "s2": "alle1", "ttbr0": "vmalle1", "ttbr1": "vmalle1"}
 WITH_OPERAND = {"vae2", "ipas2e1", "vae1", "vaae1", "aside1", *LAST_LEVEL, *LAST_LEVEL.values()}
 BY_ASID = {"vae1", "vale1", "aside1", "rvae1", "rvale1"}
@@ -37,6 +39,8 @@ HINT = 0xF << 44
 GRANULE_4K = 1 << 46
 RANGE_HINT = 3 << 37
 ASID_SHIFT = 48
+# The highest 16 bits of an upper address.
+SIGN = 0xFFFF
 
 
 def base_of(operation: str) -> str:
