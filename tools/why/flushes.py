@@ -151,12 +151,15 @@ def flushes_put(scene: Scene) -> Iterator[Flush]:
 
 
 def flushes_there(scene: Scene) -> Iterator[Flush]:
-    """The TLBIs that are there: as they are, and changed."""
+    """The TLBIs that are there: as they are, with other words, and of another PE."""
     for line in scene.near("tlbi"):
         yield Flush((NOTHING,), NOTHING, line.event.pe, line.at)
         for kind in scene.kinds:
             widest = with_words(line, (words.WIDEST[kind] + words.BROADCAST,), Kind.OPERATION)
             yield Flush(changes_of_tlbi(scene, line), widest, line.event.pe, line.at)
+        for pe in scene.pes:
+            if pe != line.event.pe:
+                yield Flush((with_pe(line, pe),), with_pe(line, pe), pe, line.at)
 
 
 # ---- what stands before and behind a TLBI

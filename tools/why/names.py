@@ -151,16 +151,9 @@ def window_of(index: Index, refusal: Refusal, way: Way) -> int:
 
 
 def tags(index: Index, way: Way) -> set[int]:
-    """The register writes that name a page of the way, or none, each with the next `isb` of its PE."""
-    synced = defaultdict(list)
-    for at in index.others[b"isb"]:
-        synced[index.fields(at)[1]].append(at)
-    chosen = set()
-    for at, pe, value in index.registers:
-        if value == 0 or (value & ADDRESS_BITS) >> PAGE in way.pages:
-            chosen.add(at)
-            chosen.update(synced[pe][bisect_right(synced[pe], at):][:1])
-    return chosen
+    """The register writes that give the roots of the way their tags, each with the lines that make its root, and the next `isb`
+    of its PE."""
+    return {line for at in registers_near(index, way) for line in with_its_root(index, at)}
 
 
 def tags_near(index: Index, refusal: Refusal, header: Header) -> list[int]:
@@ -201,11 +194,11 @@ def slices(index: Index, refusal: Refusal, header: Header) -> Iterator[list[int]
 
 # ---- what the log did about it
 
-BEFORE, BEHIND, FOCUSED, TRIED_LOCKS = 6, 6, 4, 8
+BEFORE, BEHIND, FLUSHES, FOCUSED, TRIED_LOCKS, WAY = 6, 6, 3, 4, 8, 24
 
 
 def attempts(index: Index, refusal: Refusal, header: Header) -> list[int]:
-    """The lines near by that may have been meant to help: writes of the same places, the barriers and TLBIs around them and
+    """The lines near by that may have been meant to help: those of the way, writes of the same places, the barriers and TLBIs around them and
     around the refused line, the register writes that give the root its tags, and the last lines of the locks."""
     way = climb(index, header, pages_named(index, refusal), True)
     way.lines.update(of_refused(index, refusal, True))
@@ -218,18 +211,19 @@ def attempts(index: Index, refusal: Refusal, header: Header) -> list[int]:
     chosen = {at for centre in focus for at in around(index, barriers, centre)}
     held = sorted(locks(index, refusal, way))[-TRIED_LOCKS:]
     given = {at for at in registers[-FOCUSED:] for at in with_its_root(index, at)}
-    return sorted(at for at in {*chosen, *focus, *held, *given} if at < refusal.line)
+    return sorted(at for at in {*chosen, *focus, *held, *given, *sorted(way.lines)[-WAY:]} if at < refusal.line)
 
 
 def registers_near(index: Index, way: Way) -> list[int]:
-    """The register writes that name a page of the way or none, and those next to them by the same PE."""
+    """The register writes that name a page of the way as it is now or none, and those next to them by the same PE."""
     by_pe, found = defaultdict(list), set()
     for at, pe, value in index.registers:
-        by_pe[pe].append((at, value))
+        by_pe[pe].append((at, (value & ADDRESS_BITS) >> PAGE))
+    begun = {page: index.begun(page) for page in way.pages}
     for written in by_pe.values():
-        for i, (_, value) in enumerate(written):
-            if not value or (value & ADDRESS_BITS) >> PAGE in way.pages:
-                found.update(at for at, _ in written[max(0, i - 1):i + 2])
+        for i, (at, page) in enumerate(written):
+            if page in begun and at >= begun[page]:
+                found.update(near for near, _ in written[max(0, i - 1):i + 2])
     return sorted(at for at in found if at < index.last)
 
 
@@ -237,16 +231,17 @@ def with_its_root(index: Index, at: int) -> list[int]:
     """A register write with the lines that make its root, and the next `isb` of its PE."""
     fields = index.fields(at)
     page = (number(fields[3]) & ADDRESS_BITS) >> PAGE
-    synced = [later for later in index.others[b"isb"][bisect_right(index.others[b"isb"], at):][:64] if index.fields(later)[1] == fields[1]]
-    made = [line for lines in (index.inits[page], index.declared[page]) for line in lines if line < at]
-    return [at, *made[-2:], *synced[:1]]
+    behind = bisect_right(index.others[b"isb"], at)
+    synced = [later for later in index.others[b"isb"][behind:behind + 64] if index.fields(later)[1] == fields[1]]
+    zeroed = [line for line in index.inits[page] if line < at][-1:]
+    declared = [line for line in index.declared[page] if zeroed and zeroed[0] < line < at and index.fields(line)[0] != b"unroot"]
+    return [at, *zeroed, *declared, *synced[:1]]
 
 
 def around(index: Index, barriers: list[int], centre: int) -> list[int]:
     """The barriers and TLBIs next to a line: those of its PE, and the next TLBIs of any."""
     pe, middle = index.fields(centre)[1], bisect_right(barriers, centre)
-    before = [at for at in barriers[max(0, middle - 64):middle] if index.fields(at)[1] == pe]
-    behind = barriers[middle:middle + 256]
-    own = [at for at in behind if index.fields(at)[1] == pe]
-    flushes = [at for at in behind if index.fields(at)[0] == b"tlbi"]
-    return [*before[-BEFORE:], *own[:BEHIND], *flushes[:BEHIND // 2]]
+    before, behind = barriers[max(0, middle - 64):middle], barriers[middle:middle + 256]
+    own = lambda lines: [at for at in lines if index.fields(at)[1] == pe]
+    flushes = lambda lines: [at for at in lines if index.fields(at)[0] == b"tlbi"]
+    return [*own(before)[-BEFORE:], *own(behind)[:BEHIND], *flushes(before)[-FLUSHES:], *flushes(behind)[:FLUSHES]]

@@ -13,6 +13,7 @@ from words import KIND_OF_REGISTER
 
 # How many lines on each side are looked at where there are more.
 NEAR = 4
+PES_TRIED = 4
 BITS_OF_START = {0: 48, 1: 39, 2: 30}
 
 
@@ -155,15 +156,19 @@ class Scene:
         return [line for line in self.window if line.event.word in words]
 
     def near(self, *words: str) -> list[Line]:
-        """Of these lines of the window the first ones, behind the break, and the last ones, before the refused line."""
+        """Of these lines of the window the first ones, behind the break, and the last ones, before the refused line. Where
+        nothing was written the last ones come first."""
         lines = self.in_window(*words)
+        if self.last_write is None:
+            return lines[:-2 * NEAR - 1:-1]
         return lines if len(lines) <= 2 * NEAR else [*lines[:NEAR], *lines[-NEAR:]]
 
     @cached_property
     def pes(self) -> list[int]:
-        """The PEs whose events count: that of the last write of the place, of the refused line, and of TLBIs between."""
+        """The PEs whose events count: that of the last write of the place, of the refused line, and of what is between."""
         first = [self.last_write.event.pe] if self.last_write else []
-        return list(dict.fromkeys([*first, self.event.pe, *(line.event.pe for line in self.in_window("tlbi"))]))
+        between = [line.event.pe for line in self.in_window("tlbi", "dsb")]
+        return list(dict.fromkeys([*first, self.event.pe, *between[::-1]]))[:PES_TRIED]
 
     def unused_page(self) -> int:
         return self.unused_pages(1)[0]
