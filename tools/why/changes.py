@@ -118,6 +118,10 @@ class Change:
         return frozenset(edit.site for edit in self.edits)
 
     @property
+    def kinds(self) -> list[str]:
+        return sorted(edit.kind.value for edit in self.edits)
+
+    @property
     def touched(self) -> set[int]:
         """The lines that the edits speak of; a put event speaks of none."""
         return {edit.at for edit in self.edits if not isinstance(edit, (Put, Head))}

@@ -12,7 +12,7 @@ from program import Answer, Program
 from scene import Scene
 from tries import LARGEST, families, last_resort
 
-WANTED = 3
+WANTED, ALIKE = 3, 2
 RANKED = 8
 CHOICES = 4
 ACCEPTED_ALL = 1 << 40
@@ -98,7 +98,7 @@ class Repairer:
                 break
             repairs += self.found_with(families(self.scene, size), repairs)
         repairs = [repair for repair in repairs if not self.only_moves_it(repair)] or repairs
-        return (repairs or self.found_with(last_resort(self.scene), []))[:WANTED]
+        return varied(repairs or self.found_with(last_resort(self.scene), []))
 
     def farness(self, change: Change) -> int:
         """How far from the break a change is: 0 among its next lines, and then by the number of digits of the distance."""
@@ -116,6 +116,16 @@ class Repairer:
         answer = self.program.run(("check",), log)
         line = answer.line
         return Repair(change, answer, numbers[min(line, len(numbers)) - 1] if line else None)
+
+
+def varied(repairs: list[Repair]) -> list[Repair]:
+    """The first three, of which no more than two change things of the same kinds."""
+    chosen: list[Repair] = []
+    for repair in repairs:
+        alike = [one for one in chosen if one.change.kinds == repair.change.kinds]
+        if len(alike) < ALIKE and len(chosen) < WANTED:
+            chosen.append(repair)
+    return chosen
 
 
 def anchors(repairs: list[Repair]) -> set[int]:
