@@ -57,7 +57,7 @@
 enum { OLDEST_INTERFACE = 4, NEWEST_INTERFACE = 6 };
 QEMU_EXPORT int qemu_plugin_version = OLDEST_INTERFACE;
 
-enum { MAX_PES = 128, MAX_VECTORS = 64, WORDS = 512, WAIT_MS = 100, STOP_MS = 100 };
+enum { MAX_PES = 128, MAX_VECTORS = 64, WORDS = 512, WAIT_MS = 1000, STOP_MS = 100 };
 #define PAGE_SIZE 4096ull
 #define NEXT_TABLE 0xfffffffff000ull
 #define BASE_OF_ROOT 0xfffffffff000ull /* for more than 48 bits of physical address, see granule_fits */
@@ -71,6 +71,7 @@ struct page {
 	uint8_t kind;  /* enum kind */
 	int8_t level;
 	bool is_root;  /* it belongs to the root itself, rather than to a table below */
+	uint8_t loaded_as; /* a bit for each kind of register that named it */
 	uint32_t root; /* the number of the first page of its root */
 };
 
@@ -316,7 +317,7 @@ static void learn(const struct event *event, uint64_t page, int level, enum kind
 		tell(event, 'a', " %" PRIx64 " %d %d %" PRIx64, page, level, kind, root);
 		return;
 	}
-	*known = (struct page){ UNKNOWN, kind, level, page == root, number_of(root) };
+	*known = (struct page){ UNKNOWN, kind, level, page == root, 0, number_of(root) };
 	/* From here on stores to the page are told; what is read below has all that were made before. */
 	__atomic_store_n(&known->use, TABLE, __ATOMIC_SEQ_CST);
 	trace.counts.tables++;
@@ -457,8 +458,9 @@ static void root_loaded(const struct event *event, enum kind kind, uint64_t valu
 		return;
 	}
 	if (page_of(root)->use == TABLE) {
-		if (!page_of(root)->is_root || page_of(root)->kind != kind)
+		if (!(page_of(root)->loaded_as >> kind & 1))
 			tell(event, 'a', " %" PRIx64 " %d %d %" PRIx64, root, level, kind, root);
+		page_of(root)->loaded_as |= 1 << kind;
 		return;
 	}
 	for (i = 0; i < pages; i++) {
@@ -466,6 +468,7 @@ static void root_loaded(const struct event *event, enum kind kind, uint64_t valu
 		if (in_ram(root + PAGE_SIZE * i))
 			page_of(root + PAGE_SIZE * i)->is_root = true;
 	}
+	page_of(root)->loaded_as = 1 << kind;
 	tell(event, 'r', " %" PRIx64 " %d %d %u", root, level, kind, pages);
 }
 
@@ -1093,7 +1096,7 @@ static void end_callback(qemu_plugin_id_t id, void *data)
 	pthread_mutex_lock(&trace.lock);
 	say("# told: %" PRIu64 " records, %" PRIu64 " tables, %" PRIu64 " stores to tables\n", counts->records, counts->tables, counts->stores);
 #define TOLD(what, text) if (counts->what) say("# %" PRIu64 " %s\n", counts->what, text)
-	TOLD(late, "times a store was under way for 100 ms at another PE: the DSB or ISB may stand too early by that store");
+	TOLD(late, "times a store was under way for a second at another PE: the DSB or ISB may stand too early by that store");
 	TOLD(raced, "stores found another value in memory: two PEs store to one place, and their order may be the other one");
 	TOLD(compare_failed, "compare and swaps changed nothing, and have no line");
 	TOLD(zero_untold, "DC ZVA or memory copies at addresses that a walk didn't find: they may have cleared a table unseen");

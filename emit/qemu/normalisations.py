@@ -1,0 +1,46 @@
+"""The departures from what the machine did that bbm_convert can make, each off unless asked for.
+
+For each: the worlds in which it has a meaning, what it does, and what the judgement loses by it. `--suggest` tries them in
+this order, and takes the first of those that get past a refusal.
+"""
+from collections import namedtuple
+
+Normalisation = namedtuple("Normalisation", "worlds does weakens")
+KERNEL, HYP = ("kernel", "vhe"), ("hyp",)
+
+ALL = {
+    "snapshot": Normalisation(
+        (*KERNEL, *HYP), "the log begins when the first process, or guest, is loaded, with the tables as they stand then",
+        "what was done before isn't judged, and no TLB is taken to hold anything from before"),
+    "contiguous": Normalisation(
+        (*KERNEL, *HYP), "the Contiguous bit of leaves is told as 0",
+        "an entry that stands for sixteen places is judged as sixteen entries"),
+    "dead-roots": Normalisation(
+        (*KERNEL, *HYP), "a root that isn't loaded, and whose pages have another use, is given up by an unroot line",
+        "when the root was given up isn't known: an earlier reuse that the trace doesn't show isn't judged"),
+    "isb-between-ttbrs": Normalisation(
+        KERNEL, "an ISB is told behind a write of TTBR0_EL1 that names the reserved table, and behind one of TTBR1_EL1",
+        "an old value of one of the two registers could be in use for longer than is judged"),
+    "dead-asids": Normalisation(
+        KERNEL, "before the unroot of a dead root, a TLBI of each ASID it was loaded under and a DSB are told",
+        "an ASID that the kernel never flushed after its root died isn't found, until it has another root"),
+    "reserved-ttbr1": Normalisation(
+        KERNEL, "a write of TTBR1_EL1 that names the reserved table is left out",
+        "the upper range is judged as if it had stayed mapped"),
+    "kpti": Normalisation(
+        KERNEL, "a second root in TTBR1_EL1 is told as the first; of each pair of ASIDs the even one alone is told",
+        "entries under the odd ASID of a process, and those of the second upper root, aren't judged"),
+    "attr-index": Normalisation(
+        KERNEL, "AttrIndx 1 of a leaf is told as 0",
+        "a change of the memory type between these two without a break isn't judged"),
+    "mmu-off": Normalisation(
+        HYP, "while the MMU of EL2 is off its root register is told as 0",
+        "that a PE makes no walk of EL2 then is taken from SCTLR_EL2.M"),
+    "no-cnp": Normalisation(
+        HYP, "bit 0 of root registers is told as 0, and the header says that TLBs aren't shared",
+        "entries that one PE takes from another aren't judged"),
+}
+
+
+def for_world(world):
+    return [name for name, one in ALL.items() if world in one.worlds]
