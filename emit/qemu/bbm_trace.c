@@ -207,7 +207,8 @@ static void stop_guest(void)
 		return;
 	}
 	fprintf(stderr, "bbm_trace: the reader of the trace has gone, and the guest is stopped\n");
-	usleep(STOP_MS * 1000); /* the socket stays open, since the monitor reads it when it comes to it */
+	usleep(STOP_MS * 1000); /* so that the monitor reads it before this PE goes on */
+	close(monitor);
 }
 
 static void check_output(void)

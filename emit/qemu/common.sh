@@ -1,0 +1,41 @@
+# What `run` and `tools/qemu_demo` share. They set `top`, the folder of the repository.
+QEMU=${QEMU:-qemu-system-aarch64}
+
+# Whether there is a program; says what is left out where there isn't.
+has() {
+  command -v "$1" >/dev/null 2>&1 && return
+  echo "left out: $2, since there is no $1"
+  return 1
+}
+
+# The checker: $BBM, or the built one, or the script that builds it.
+checker() {
+  if [ -n "${BBM:-}" ]; then
+    echo "$BBM"
+  elif [ -x "$top/crates/bbm_cli/out/bbm_cli" ]; then
+    echo "$top/crates/bbm_cli/out/bbm_cli"
+  else
+    echo "$top/bbm"
+  fi
+}
+
+# OUT: compiles the plugin.
+build_plugin() {
+  cc -O2 -Wall -Wextra -Werror -shared -fPIC -fvisibility=hidden -o "$1" "$top/emit/qemu/bbm_trace.c"
+}
+
+# A name for the file with a guest's memory: in memory, where there is a file system for that.
+memory_file() {
+  if [ -d /dev/shm ]; then
+    mktemp /dev/shm/bbm_guest.XXXXXX
+  else
+    mktemp
+  fi
+}
+
+# OUT: compiles the guest without an operating system.
+build_guest() {
+  aarch64-linux-gnu-gcc -g -O2 -Wall -Wextra -Werror -ffreestanding -nostdlib -static -fno-pic -no-pie -mgeneral-regs-only \
+    -mstrict-align -fno-stack-protector -Wl,--build-id=none -Wl,--no-warn-rwx-segments -Wl,-T,"$top/emit/qemu/guest/guest.ld" \
+    -o "$1" "$top/emit/qemu/guest/start.S" "$top/emit/qemu/guest/guest.c"
+}
