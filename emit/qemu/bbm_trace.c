@@ -301,6 +301,21 @@ static void take_contents(const struct event *event, uint64_t page, int level, e
 			say("c %u %" PRIx64 "\n", i, *told_at(page + 8 * i));
 }
 
+/* The page, and all below it, belongs to the tree that linked it last. */
+static void move(uint64_t page, int level, enum kind kind, uint32_t from, uint32_t to)
+{
+	struct page *known = page_of(page);
+	uint64_t next;
+	unsigned i;
+
+	if (known->use != TABLE || known->root != from || from == to)
+		return;
+	*known = (struct page){ TABLE, kind, level, false, known->loaded_as, to };
+	for (i = 0; i < WORDS; i++)
+		if (links(*told_at(page + 8 * i), level, &next) && in_ram(next))
+			move(next, level + 1, kind, from, to);
+}
+
 /* The page, and all that is below it, becomes known; what is below is told first. */
 static void learn(const struct event *event, uint64_t page, int level, enum kind kind, uint64_t root)
 {
@@ -316,6 +331,7 @@ static void learn(const struct event *event, uint64_t page, int level, enum kind
 	if (known->use == TABLE) {
 		trace.counts.links_again++;
 		tell(event, 'a', " %" PRIx64 " %d %d %" PRIx64, page, level, kind, root);
+		move(page, level, kind, known->root, number_of(root));
 		return;
 	}
 	*known = (struct page){ UNKNOWN, kind, level, page == root, 0, number_of(root) };
@@ -426,8 +442,10 @@ static bool start_of(enum kind kind, int *level, unsigned *pages)
 {
 	static const enum named controls[KINDS] = { CPSR, TCR_EL1, TCR_EL1, TCR_EL2, TCR_EL2, VTCR_EL2 };
 	uint64_t control = register_value(named[controls[kind]]);
-	bool upper = kind == TTBR1_EL1 || kind == TTBR1_EL2;
-	unsigned size = control >> (upper ? 16 : 0) & 63, bits = 64 - (size < 12 ? 12 : size);
+	bool upper = kind == TTBR1_EL1 || kind == TTBR1_EL2, host = register_value(named[HCR_EL2]) >> 34 & 1;
+	/* Whether addresses of 52 bits are on, at the place that the register of this regime has for it. */
+	unsigned wide = control >> (kind == VTTBR_EL2 || (kind == TTBR0_EL2 && !host) ? 32 : 59) & 1, least = wide ? 12 : 16;
+	unsigned size = control >> (upper ? 16 : 0) & 63, bits = 64 - (size < least ? least : size);
 
 	*pages = 1;
 	*level = 4 - (int)((bits - 12 + 8) / 9);
