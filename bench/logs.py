@@ -214,6 +214,65 @@ def asids(count):
     return Log(b"bbmlog 1 kernel 2 0 0 ttbr0", events())
 
 
+# ---- a real kernel
+
+PROCESSES, FAULTS = 256, 16
+
+
+def process_pages(process):
+    """The pages of a process: its root, a table of level 1, one of level 2, and four of level 3."""
+    return [page_at(64 + 7 * process + number) for number in range(7)]
+
+
+def new_process(process, pe):
+    root, one, two, *last = process_pages(process)
+    for page in (root, one, two, *last):
+        yield b"init %d 0x%x @clear_page\n" % (pe, page)
+    for page in last:
+        yield from (b"w %d 0x%x 0x%x @set_pte\n" % (pe, page + 8 * index, 0x20000000000fc3 | index << 12) for index in range(16))
+    for index, page in enumerate(last):
+        yield b"w %d 0x%x 0x%x @pmd_install\n" % (pe, two + 8 * index, page | 3)
+    yield b"w %d 0x%x 0x%x @pud_install\n" % (pe, one, two | 3)
+    yield b"w %d 0x%x 0x%x @pgd_install\n" % (pe, root, one | 3)
+    yield b"dsb %d ishst\n" % pe
+    yield b"root %d ttbr0 - 0x%x\n" % (pe, root)
+
+
+def switch_to(process, pe):
+    """Through the reserved table, so that no root is loaded under the ASID of another."""
+    for register, value in ((b"ttbr0", page_at(0) | 1), (b"ttbr1", process + 1 << 49 | page_at(1) | 1), (b"ttbr0", process_pages(process)[0] | 1)):
+        yield b"msr %d %s_el1 0x%x @cpu_do_switch_mm\n" % (pe, register, value)
+        yield b"isb %d\n" % pe
+
+
+def fault(process, pe, number):
+    """A page is copied on write, between an exception entry and a return; and one page of the kernel is flushed."""
+    place = process_pages(process)[3 + number % 4] + 8 * (number // 4 % 16)
+    page = number % 4 << 9 | number // 4 % 16
+    return (b"isb %d\n" % pe, b"dsb %d ld\n" % pe,
+            b"w %d 0x%x 0x0 @ptep_clear_flush\n" % (pe, place), b"dsb %d ishst\n" % pe,
+            b"tlbi %d vale1is 0x%x @ptep_clear_flush\n" % (pe, process + 1 << 49 | page), b"dsb %d ish\n" % pe,
+            b"w %d 0x%x 0x%x @__set_ptes\n" % (pe, place, 0x20000000000fc3 | number % (1 << 20) << 12), b"isb %d\n" % pe,
+            b"dsb %d ishst\n" % pe, b"tlbi %d vaale1is 0x%x @__flush_tlb_kernel\n" % (pe, 0xffff8000000 | number % 4096),
+            b"dsb %d ish\n" % pe, b"isb %d\n" % pe)
+
+
+def kernel(count):
+    """The shape of a log of a real kernel: by far most events are barriers and TLBIs for one page, as those of faults, and
+    256 processes on four PEs have some two thousand tables. At 2,000,000 events each process ran forty times."""
+    def events():
+        yield from (new_page(page_at(0)), b"null 0 0x%x\n" % page_at(0))
+        yield from new_root(page_at(1), b"ttbr1")
+        for turn in numbers():
+            process, pe = turn % PROCESSES, turn % 4
+            if turn < PROCESSES:
+                yield from new_process(process, pe)
+            yield from switch_to(process, pe)
+            for number in range(FAULTS):
+                yield from fault(process, pe, turn // PROCESSES * FAULTS + number)
+    return Log(b"bbmlog 4 kernel 4 0 0 ttbr1 cnp", events())
+
+
 # ---- hostile logs
 
 def linked_by_all(count):
@@ -292,7 +351,7 @@ def crowd(count):
 LOGS = {
     "moves": moves, "plain": plain, "rounds": rounds,
     "pages_in_order": pages_in_order, "pages_in_random_order": pages_in_random_order, "broken_at_once": broken_at_once,
-    "cleared_512": cleared_one_by_one(512), "cleared_4096": cleared_one_by_one(4096), "guests": guests, "asids": asids,
+    "cleared_512": cleared_one_by_one(512), "cleared_4096": cleared_one_by_one(4096), "guests": guests, "asids": asids, "kernel": kernel,
     "linked_by_all": linked_by_all, "fan_of_512": fan_of_512, "roots_and_flushes": roots_and_flushes,
     "unanswered": unanswered, "registers": registers, "long_lines": long_lines, "crowd": crowd,
 }

@@ -54,8 +54,9 @@
 #include <time.h>
 #include <unistd.h>
 
-enum { OLDEST_INTERFACE = 4, NEWEST_INTERFACE = 6 };
-QEMU_EXPORT int qemu_plugin_version = OLDEST_INTERFACE;
+/* The version of the plugin interface that it was tried with: that of QEMU 9.2 and 10.0. */
+enum { INTERFACE = 4 };
+QEMU_EXPORT int qemu_plugin_version = INTERFACE;
 
 enum { MAX_PES = 128, MAX_VECTORS = 64, WORDS = 512, WAIT_MS = 1000, STOP_MS = 100 };
 #define PAGE_SIZE 4096ull
@@ -1141,10 +1142,10 @@ static bool interface_fits(const qemu_info_t *info)
 		fprintf(stderr, "bbm_trace: it runs in qemu-system-aarch64 alone\n");
 		return false;
 	}
-	if (info->version.cur >= OLDEST_INTERFACE && info->version.cur <= NEWEST_INTERFACE && qemu_plugin_mem_get_value)
+	if (info->version.cur == INTERFACE)
 		return true;
-	fprintf(stderr, "bbm_trace: this QEMU has version %d of the plugin interface; the plugin was tried with %d to %d\n",
-		info->version.cur, OLDEST_INTERFACE, NEWEST_INTERFACE);
+	fprintf(stderr, "bbm_trace: this QEMU has version %d of the plugin interface; the plugin runs with %d, which QEMU 9.2 and 10.0 have\n",
+		info->version.cur, INTERFACE);
 	return false;
 }
 
