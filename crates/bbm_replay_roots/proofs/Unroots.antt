@@ -19,7 +19,7 @@ use Rattle.bbm_rules.specs.Roots.{Declared, is_root, kind_in_world, lock_of, roo
 use Rattle.bbm_rules.specs.Rules.{is_base_at, lacks, no_lock, no_root, root_in_use}
 use Rattle.bbm_rules.specs.Tags.{holds_tag, tag_set, tags_of}
 use Rattle.bbm_rules.specs.declared.rule.Rule.TheVariants.{NoLock, NoRoot, RootInUse, WrongWorld}
-use Rattle.bbm_roots.specs.Holds.{HasTags}
+use Rattle.bbm_tlbi_scope.specs.TagSets.{HasTags}
 use Rattle.bbm_roots.specs.Refusals.{JudgesRetire}
 use Rattle.bbm_roots.specs.Registers.{at_start, first_reg, names_in, names_page, register_values, second_reg, uses}
 use Rattle.bbm_roots.specs.Registers as named
@@ -353,20 +353,20 @@ set_is heading laws h page test same set has = by set (tag_set (tags_of heading 
     by NoTag NoTag is has = refl
     by NoTag (One u) is has = absurd (true≢false (sym (laws.one_tag page h u is u ∙ own u) ∙ (sym (same u) ∙ has u)))
     by NoTag Many is has = let m = laws.many_tags page h is in absurd (true≢false (sym m.3 ∙ (sym (same m.0) ∙ has m.0)))
-    by (One t) NoTag is has = absurd (true≢false (sym has.0 ∙ (same t ∙ laws.no_tag page h is t)))
+    by (One t) NoTag is has = absurd (true≢false (sym (has t ∙ own t) ∙ (same t ∙ laws.no_tag page h is t)))
     by (One t) (One u) is has =
-        let e : u ≡ t = (laws.tag_equal u t).0 (sym (laws.one_tag page h u is t) ∙ (sym (same t) ∙ has.0)) in
+        let e : u ≡ t = (laws.tag_equal u t).0 (sym (laws.one_tag page h u is t) ∙ (sym (same t) ∙ (has t ∙ own t))) in
         ap (λ (g : Tag). One g) (sym e)
     by (One t) Many is has =
         let m = laws.many_tags page h is in
-        let a : m.0 ≡ t = has.1 m.0 (same m.0 ∙ m.3) in
-        let b : m.1 ≡ t = has.1 m.1 (same m.1 ∙ m.4) in
+        let a : m.0 ≡ t = sym ((laws.tag_equal t m.0).0 (sym (has m.0) ∙ (same m.0 ∙ m.3))) in
+        let b : m.1 ≡ t = sym ((laws.tag_equal t m.1).0 (sym (has m.1) ∙ (same m.1 ∙ m.4))) in
         absurd (true≢false (sym (own t) ∙ (ap (λ (g : Tag). same_tag g t) (sym a) ∙ (ap (λ (g : Tag). same_tag m.0 g) (sym b) ∙ m.2))))
-    by Many NoTag is has = absurd (true≢false (sym has.2 ∙ (same has.0 ∙ laws.no_tag page h is has.0)))
+    by Many NoTag is has = absurd (true≢false (sym has.3 ∙ (same has.0 ∙ laws.no_tag page h is has.0)))
     by Many (One u) is has =
-        let a : u ≡ has.0 = (laws.tag_equal u has.0).0 (sym (laws.one_tag page h u is has.0) ∙ (sym (same has.0) ∙ has.2)) in
-        let b : u ≡ has.1 = (laws.tag_equal u has.1).0 (sym (laws.one_tag page h u is has.1) ∙ (sym (same has.1) ∙ has.3)) in
-        absurd (true≢false (sym (own u) ∙ (ap (λ (g : Tag). same_tag g u) a ∙ (ap (λ (g : Tag). same_tag has.0 g) b ∙ has.4))))
+        let a : u ≡ has.0 = (laws.tag_equal u has.0).0 (sym (laws.one_tag page h u is has.0) ∙ (sym (same has.0) ∙ has.3)) in
+        let b : u ≡ has.1 = (laws.tag_equal u has.1).0 (sym (laws.one_tag page h u is has.1) ∙ (sym (same has.1) ∙ has.4)) in
+        absurd (true≢false (sym (own u) ∙ (ap (λ (g : Tag). same_tag g u) a ∙ (ap (λ (g : Tag). same_tag has.0 g) b ∙ has.2))))
     by Many Many is has = refl
 
 -- ---- what a state that stands for a history tells

@@ -4,9 +4,8 @@ use Rattle.std.proofs.lemmas.Bool.{false≢true}
 use Rattle.bbm_regimes.specs.declared.regime.Tag.{Tag}
 use Rattle.bbm_tlbi_scope.specs.declared.entry.TagSet.{TagSet}
 use Rattle.bbm_tlbi_scope.specs.declared.entry.TagSet.TheVariants.{None as NoTag, One, Many}
-use Rattle.bbm_roots.specs.Holds.{HasTags}
+use Rattle.bbm_tlbi_scope.specs.TagSets.{HasTags}
 use Rattle.bbm_roots.specs.Least.{IsLeast, ReadingUpTo}
-use Rattle.bbm_roots.specs.Readings.{same_tag}
 use Rattle.bbm_roots.specs.declared.reading.Reading.{Reading}
 
 pub or-split : (a b : Bool) → (P : Type 0) → (a ≡ true → P) → (b ≡ true → P) → (a || b) ≡ true → P
@@ -56,31 +55,5 @@ up-to-trans x y z f g = (
 -- sets of tags
 pub tags-same : (test other : Tag → Bool) → ((g : Tag) → other g ≡ test g) → (set : TagSet) → HasTags test set → HasTags other set
 tags-same test other same NoTag h = λ g. same g ∙ h g
-tags-same test other same (One g) h = (same g ∙ h.0, λ k e. h.1 k (sym (same k) ∙ e))
-tags-same test other same Many h = (h.0, h.1, same h.0 ∙ h.2, same h.1 ∙ h.3, h.4)
-
-module _ (test hit : Tag → Bool) where
-  pub tags-miss : ((g : Tag) → hit g ≡ false) → (set : TagSet) → HasTags test set → HasTags (λ g. test g || hit g) set
-  tags-miss none set h =
-      tags-same test (λ g. test g || hit g) (λ g. ap (λ (b : Bool). test g || b) (none g) ∙ or-false (test g)) set h
-    where
-      or-false : (b : Bool) → (b || false) ≡ b
-      or-false true = refl
-      or-false false = refl
-
-  pub tags-first : (g : Tag) → hit g ≡ true → ((k : Tag) → hit k ≡ true → k ≡ g) → HasTags test NoTag →
-      HasTags (λ k. test k || hit k) (One g)
-  tags-first g at one none =
-      (true-or (test g) (hit g) at, λ k e. or-split (test k) (hit k) (k ≡ g) (λ t. absurd (false≢true (sym (none k) ∙ t))) (one k) e)
-
-  pub tags-again : (g h : Tag) → ((k : Tag) → hit k ≡ true → k ≡ g) → h ≡ g → HasTags test (One h) →
-      HasTags (λ k. test k || hit k) (One h)
-  tags-again g h one same known =
-      (or-true (test h) (hit h) known.0, λ k e. or-split (test k) (hit k) (k ≡ h) (known.1 k) (λ t. one k t ∙ sym same) e)
-
-  pub tags-second : (g h : Tag) → hit g ≡ true → same_tag h g ≡ false → HasTags test (One h) →
-      HasTags (λ k. test k || hit k) Many
-  tags-second g h at other known = (h, g, or-true (test h) (hit h) known.0, true-or (test g) (hit g) at, other)
-
-  pub tags-many : HasTags test Many → HasTags (λ k. test k || hit k) Many
-  tags-many h = (h.0, h.1, or-true (test h.0) (hit h.0) h.2, or-true (test h.1) (hit h.1) h.3, h.4)
+tags-same test other same (One t) h = λ g. same g ∙ h g
+tags-same test other same Many h = (h.0, h.1, h.2, same h.0 ∙ h.3, same h.1 ∙ h.4)

@@ -6,8 +6,6 @@ use Rattle.bbm_regimes.specs.PeMask.{pe_in}
 use Rattle.indexmap.specs.IndexMap.{IndexMap, get}
 use Rattle.bbm_regimes.specs.declared.regime.Tag.{Tag}
 use Rattle.bbm_regimes.specs.declared.regime.Tag.TheVariants.{El2 as El2Tag, Vmid, Asid, Ttbr1 as Ttbr1Tag}
-use Rattle.bbm_tlbi_scope.specs.declared.entry.TagSet.{TagSet}
-use Rattle.bbm_tlbi_scope.specs.declared.entry.TagSet.TheVariants.{None as NoTag, One, Many}
 use Rattle.bbm_roots.specs.declared.hold.Held.{Held}
 use Rattle.bbm_roots.specs.Readings.{same_tag, has_reading, has_other, is_reading, is_other}
 use Rattle.bbm_roots.specs.declared.reading.Reading.{Reading}
@@ -78,9 +76,3 @@ module _ {S : Type 0} (holds : IndexMap ℕ Held S) where
   abbrev pub IsCalm : List Reading → Type 0
   IsCalm seen = (tag : Tag) (root : ℕ) → has_other tag root seen ≡ true
       → (has_reading tag root seen ≡ false) × ((p : ℕ) → hold_in tag root p ≡ false)
-
--- Which tags pass a test: none, this one alone, or at least two.
-abbrev pub HasTags : (Tag → Bool) → TagSet → Type 0
-HasTags test NoTag = (tag : Tag) → test tag ≡ false
-HasTags test (One tag) = (test tag ≡ true) × ((other : Tag) → test other ≡ true → other ≡ tag)
-HasTags test Many = (tag : Tag) × (other : Tag) × (test tag ≡ true) × (test other ≡ true) × (same_tag tag other ≡ false)

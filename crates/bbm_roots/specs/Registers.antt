@@ -1,7 +1,8 @@
 -- The root registers of a PE: what the values that may still be in use name. A list of calls is newest first.
-use Rattle.std.specs.Prelude.{ℕ, ◌*◌, ◌/◌, ◌%◌, ◌^◌, Bool, true, false, ◌&&◌, ◌||◌, ◌==◌, List, [], ◌∷◌, Option, Some}
+use Rattle.std.specs.Prelude.{ℕ, Bool, true, false, ◌&&◌, ◌||◌, ◌==◌, List, [], ◌∷◌, Option, Some}
 use Rattle.std.specs.Prelude.{None, if◌then◌else◌}
 use Rattle.std.specs.List.{list_any}
+use Rattle.bbm_regimes.specs.Registers.{base_of, tag_number}
 pub use Rattle.bbm_regimes.specs.Same.{kind_of_reg, same_reg}
 use Rattle.bbm_regimes.specs.declared.regime.Reg.{Reg}
 use Rattle.bbm_regimes.specs.declared.regime.Reg.TheVariants.{Ttbr0El2, VttbrEl2, Ttbr0El1, Ttbr1El1}
@@ -28,17 +29,6 @@ is_first Ttbr1El1 = false
 abbrev pub is_of_world : World → Reg → Bool
 is_of_world world reg = same_reg reg (first_reg world) || same_reg reg (second_reg world)
 
--- The base that a register value names: bits [47:1], as an address. Value 0 names none, and bit 0 is ignored.
--- Source: Arm ARM (DDI 0487), "AArch64 System register descriptions", TTBR0_EL2, VTTBR_EL2, TTBR0_EL1 and
--- TTBR1_EL1; that value 0 names no root is the project's own choice.
-abbrev pub base_of : ℕ → Option ℕ
-base_of value = if value == 0 then None else Some (value % 2 ^ 48 / 2 * 2)
-
--- The VMID or the ASID of a register value: bits [63:48]; 0 of value 0.
--- Source: Arm ARM (DDI 0487), "AArch64 System register descriptions", VTTBR_EL2, TTBR0_EL1 and TTBR1_EL1.
-abbrev pub number_of : ℕ → ℕ
-number_of value = value / 2 ^ 48
-
 -- whether a value means that no walk is made: a null page as the base of TTBR0_EL1
 -- Source: project's own choice.
 abbrev pub names_null : Reg → Bool → Bool
@@ -50,7 +40,7 @@ abbrev pub root_of : Reg → ℕ → Bool → Option ℕ
 root_of reg value null = if names_null reg null then None else base_of value
 
 abbrev pub load_of : Reg → ℕ → Bool → Load
-load_of reg value null = record { number = number_of value; root = root_of reg value null }
+load_of reg value null = record { number = tag_number value; root = root_of reg value null }
 
 -- what the value 0 names, with which each register starts
 abbrev pub at_start : Load

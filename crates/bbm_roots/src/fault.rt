@@ -1,6 +1,6 @@
 //! Why a call is refused.
 
-use bbm_regimes::{Page, Pe, Tag, Which};
+use bbm_regimes::{NoMemory, Page, Pe, Tag, Which};
 use thiserror::Error;
 
 /// What keeps a root from being retired. Source: project's own choice.
@@ -30,6 +30,17 @@ pub enum RootFault {
     /// The root is in use.
     #[error("root in use")]
     RootInUse(InUse),
+}
+
+impl From<NoMemory> for RootFault {
+    ghost use Rattle.std.specs.Prelude.{◌≡◌};
+    ghost use Rattle.bbm_roots.specs.declared.fault.RootFault.TheVariants.{NoMemory as OutOfMemory};
+
+    ghost from_gives = { λ _ e. e ≡ OutOfMemory };
+
+    fn from(_: NoMemory) -> RootFault {
+        RootFault::NoMemory
+    }
 }
 
 /// The VMIDs of a PE differ: the two least of them. Source: project's own choice.

@@ -9,9 +9,9 @@ ghost use Rattle.bbm_roots.specs.Pendings.{answered_bit, answered_in};
 ghost use Rattle.bbm_roots.specs.Readings.{same_tag as spec_same_tag, has_reading as spec_has_reading, has_tag as spec_has_tag};
 
 use crate::pending::{Pending, is_answered};
-use crate::reading::{Reading, same_tag};
+use crate::reading::Reading;
 use bbm_barriers::Dsb;
-use bbm_regimes::{NoMemory, Page, Pe, PeMask, Tag};
+use bbm_regimes::{NoMemory, Page, Pe, PeMask, Tag, same_tag};
 use indexmap::IndexMap;
 
 /// The tags that are held, each with its root and the PEs, by the key of the tag. Source: project's own choice.

@@ -3,7 +3,7 @@
 ghost use Rattle.std.specs.Prelude.{◌≡◌};
 ghost use Rattle.bbm_roots.specs.Registers as spec;
 
-use bbm_regimes::{Kind, Page, Reg, World};
+use bbm_regimes::{Page, Reg, World};
 
 /// What the value of a root register names. Source: Arm ARM (DDI 0487), "AArch64 System register
 /// descriptions", TTBR0_EL2, VTTBR_EL2, TTBR0_EL1 and TTBR1_EL1.
@@ -13,39 +13,6 @@ pub struct Load {
     pub number: u16,
     /// The first page of the root that it names; None where it names none.
     pub root: Option<Page>,
-}
-
-/// The base that a register value names, in bytes: bits [47:1] as an address. None of value 0. Source: Arm ARM
-/// (DDI 0487), "AArch64 System register descriptions"; that value 0 names no root is the project's own choice.
-pub fn base_of(value: u64) -> Option<u64>
-    ensures { result ≡ spec.base_of value }
-{
-    if value == 0 {
-        None
-    } else {
-        Some(value % (1 << 48) / 2 * 2)
-    }
-}
-
-/// The VMID or the ASID of a register value, 0 to 65535: bits [63:48]. Source: Arm ARM (DDI 0487), "AArch64
-/// System register descriptions".
-pub fn number_of(value: u64) -> u16
-    ensures { result ≡ spec.number_of value }
-{
-    (value >> 48) as u16
-}
-
-/// The kind of the roots that a register names. Source: Arm ARM (DDI 0487), "AArch64 System register
-/// descriptions".
-pub fn kind_of(reg: Reg) -> Kind
-    ensures { result ≡ spec.kind_of_reg reg }
-{
-    match reg {
-        Reg::Ttbr0El2 => Kind::El2,
-        Reg::VttbrEl2 => Kind::S2,
-        Reg::Ttbr0El1 => Kind::Ttbr0,
-        Reg::Ttbr1El1 => Kind::Ttbr1,
-    }
 }
 
 /// Whether a value of this register, whose base is a null page or isn't, as `null` says, means that no walk is

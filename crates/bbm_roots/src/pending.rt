@@ -8,9 +8,9 @@ ghost use Rattle.bbm_regimes.specs.declared.regime.Tag.{Tag as TheTag};
 ghost use Rattle.bbm_roots.specs.Pendings as spec;
 ghost use Rattle.bbm_roots.specs.Readings.{has_tag as spec_has_tag};
 
-use crate::reading::{Reading, has_tag, same_tag};
+use crate::reading::{Reading, has_tag};
 use bbm_barriers::{Dsb, completes_broadcast, completes_local};
-use bbm_regimes::{Pe, PeMask, Tag};
+use bbm_regimes::{Pe, PeMask, Tag, same_tag};
 
 /// The whole-tag TLBIs of an issuer for one tag, broadcast or not, that no DSB has answered yet. Source: project's
 /// own choice.

@@ -4,7 +4,7 @@ ghost use Rattle.std.specs.Prelude.{◌≡◌, ℕ, ◌++◌, flat_map, OnOk, If
 ghost use Rattle.bbm_roots.specs.Readings as spec;
 
 use crate::load::Load;
-use bbm_regimes::{AsidFrom, Kind, NoMemory, Page, Tag, World};
+use bbm_regimes::{AsidFrom, Kind, NoMemory, Page, Tag, World, same_tag};
 use smallvec::SmallVec;
 use std::alloc::Global;
 
@@ -15,19 +15,6 @@ pub struct Reading {
     pub tag: Tag,
     /// The first page of the root.
     pub root: Page,
-}
-
-/// Whether the tags are the same.
-pub fn same_tag(tag: Tag, other: Tag) -> bool
-    ensures { result ≡ spec.same_tag tag other }
-{
-    match (tag, other) {
-        (Tag::El2, Tag::El2) => true,
-        (Tag::Vmid(v), Tag::Vmid(w)) => v == w,
-        (Tag::Asid(a), Tag::Asid(b)) => a == b,
-        (Tag::Ttbr1, Tag::Ttbr1) => true,
-        _ => false,
-    }
 }
 
 /// The place of a tag in the order `El2`, VMIDs, ASIDs, `Ttbr1`, 0 to 131073. Source: project's own choice.

@@ -2,7 +2,7 @@
 
 use crate::fault::{InUse, RootFault, Unsynced};
 use crate::hold::Holds;
-use crate::load::{Load, base_of, kind_of, names_null, number_of};
+use crate::load::{Load, names_null};
 use crate::pending::Pending;
 use crate::reading::{Reading, Readings};
 use crate::registers::Registers;
@@ -10,7 +10,9 @@ use crate::root::{Declared, same_kind};
 use crate::{hold, issue, pending, registers, search, vmid};
 use bbm_barriers::Dsb;
 use bbm_events::Header;
-use bbm_regimes::{Kind, NoMemory, Page, Pe, PeMask, Reg, Which, World};
+use bbm_regimes::{
+    Kind, NoMemory, Page, Pe, PeMask, Reg, Which, World, base_of, kind_of, tag_number,
+};
 use bbm_tlbi_scope::{Scope, TagSet};
 use indexmap::IndexMap;
 use std::alloc::Global;
@@ -39,7 +41,8 @@ impl Roots {
     ghost use Rattle.bbm_roots.specs.Columns.{loads_in};
     ghost use Rattle.bbm_roots.specs.Listed.{count_in, nth_in};
     ghost use Rattle.bbm_roots.specs.declared.root.Declared.{Declared as TheRoot};
-    ghost use Rattle.bbm_roots.specs.Holds.{hold_in, has_entry, conflict_in, HasTags, IsCalm};
+    ghost use Rattle.bbm_tlbi_scope.specs.TagSets.{HasTags};
+    ghost use Rattle.bbm_roots.specs.Holds.{hold_in, has_entry, conflict_in, IsCalm};
     ghost use Rattle.bbm_roots.specs.Pendings.{pending_in, answered_in};
     ghost use Rattle.bbm_barriers.specs.Options.{answers as dsb_answers};
     ghost use Rattle.bbm_roots.specs.Readings.{has_reading, has_tag, readings_of};
@@ -56,16 +59,13 @@ impl Roots {
         ensures world { IfOk result (λ roots. world_of roots ≡ header.now.world) }
         ensures fault { IfErr result (λ fault. fault ≡ RootFault.NoMemory) }
     {
-        match Registers::new(alloc, header) {
-            Ok(registers) => Ok(Roots {
-                registers,
-                declared: IndexMap::new(alloc),
-                holds: IndexMap::new(alloc),
-                pendings: Vec::new(alloc),
-                names_locks: false,
-            }),
-            Err(_) => Err(RootFault::NoMemory),
-        }
+        Ok(Roots {
+            registers: Registers::new(alloc, header)?,
+            declared: IndexMap::new(alloc),
+            holds: IndexMap::new(alloc),
+            pendings: Vec::new(alloc),
+            names_locks: false,
+        })
     }
 
     /// Whether the page is the first page of a declared root of the kind.
@@ -338,10 +338,8 @@ impl Roots {
         if !issue::takes_tags(scope) {
             return Ok(());
         }
-        match issue::make_room(&mut self.pendings, &self.holds, issuer, scope, vmid) {
-            Ok(()) => Ok(()),
-            Err(_) => Err(RootFault::NoMemory),
-        }
+        issue::make_room(&mut self.pendings, &self.holds, issuer, scope, vmid)?;
+        Ok(())
     }
 
     /// A TLBI of the PE, of this scope and under this VMID, 0 to 65535, for which there is room. It takes no memory.
@@ -474,7 +472,7 @@ impl Roots {
         ensures world { world_of self.new ≡ world_of self.old }
     {
         let root = self.named_root(reg, value, null)?;
-        let number = number_of(value);
+        let number = tag_number(value);
         let seen = self.readings_after(alloc, pe, reg, number, &root)?;
         self.judge(pe, reg, &seen)?;
         self.make_room(&seen)?;
@@ -503,10 +501,7 @@ impl Roots {
             number,
             root: *root,
         };
-        match self.registers.readings_with(alloc, pe, reg, load) {
-            Ok(seen) => Ok(seen),
-            Err(_) => Err(RootFault::NoMemory),
-        }
+        Ok(self.registers.readings_with(alloc, pe, reg, load)?)
     }
 
     // Makes an entry for each of these readable tags. Nobody holds more or less.
@@ -519,10 +514,8 @@ impl Roots {
         ensures pendings { self.new.pendings ≡ self.old.pendings }
         ensures names_locks { self.new.names_locks ≡ self.old.names_locks }
     {
-        match hold::make_room(&mut self.holds, seen) {
-            Ok(()) => Ok(()),
-            Err(_) => Err(RootFault::NoMemory),
-        }
+        hold::make_room(&mut self.holds, seen)?;
+        Ok(())
     }
 
     // Judges the write of a value whose root isn't missing and which makes these tags readable at the PE.

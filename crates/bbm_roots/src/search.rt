@@ -2,6 +2,7 @@
 
 ghost use Rattle.std.specs.Prelude.{◌≡◌, ℕ, ◌≤◌, Bool, ◌&&◌, ◌||◌, nat_eq, true, false, Option, Some, None};
 ghost use Rattle.bbm_regimes.specs.declared.regime.Tag.{Tag as TheTag};
+ghost use Rattle.bbm_tlbi_scope.specs.TagSets.{HasTags};
 ghost use Rattle.bbm_roots.specs.declared.reading.Reading.{Reading as TheReading};
 ghost use Rattle.bbm_roots.specs.Holds as spec;
 ghost use Rattle.bbm_roots.specs.Readings.{is_other, is_reading, has_other as spec_has_other, same_tag as spec_same_tag};
@@ -9,9 +10,9 @@ ghost use Rattle.bbm_roots.specs.Registers.{is_that};
 ghost use Rattle.bbm_roots.specs.Least.{IsLeast, ReadingUpTo, TagUpTo};
 
 use crate::hold::{Held, Holds, some_pe, tag_key};
-use crate::reading::{Reading, has_other, same_tag, tag_rank};
-use bbm_regimes::{Page, Tag};
-use bbm_tlbi_scope::TagSet;
+use crate::reading::{Reading, has_other, tag_rank};
+use bbm_regimes::{Page, Tag, same_tag};
+use bbm_tlbi_scope::{TagSet, with_tag};
 
 // Whether the first comes no later than the second: by the root's first page, then by the tag.
 fn is_up_to(tag: Tag, root: Page, other: Tag, page: Page) -> bool
@@ -169,30 +170,12 @@ pub fn first_tag(holds: &Holds, n: u8, root: Page) -> Option<Tag>
     first
 }
 
-// The set with the tag.
-fn with_tag(set: TagSet, tag: Tag) -> TagSet
-    ensures { (test hit : TheTag → Bool) → spec.HasTags test set → hit tag ≡ true
-        → ((g : TheTag) → hit g ≡ true → g ≡ tag) → spec.HasTags (λ g. test g || hit g) result }
-{
-    match set {
-        TagSet::None => TagSet::One(tag),
-        TagSet::One(one) => {
-            if same_tag(one, tag) {
-                TagSet::One(one)
-            } else {
-                TagSet::Many
-            }
-        }
-        TagSet::Many => TagSet::Many,
-    }
-}
-
 // The set, with the tag of the entry under this key where the root holds it at one of the first n PEs.
 fn with_entry(set: TagSet, key: u32, held: &Held, n: u8, root: Page) -> TagSet
     requires some { 1 ≤ n }
     requires within { n ≤ 128 }
-    ensures { (test : TheTag → Bool) → spec.HasTags test set
-        → spec.HasTags (λ g. test g || spec.is_held_under n g root key held.now) result }
+    ensures { (test : TheTag → Bool) → HasTags test set
+        → HasTags (λ g. test g || spec.is_held_under n g root key held.now) result }
 {
     if is_held_under(key, held, n, root) {
         with_tag(set, held.tag)
@@ -205,7 +188,7 @@ fn with_entry(set: TagSet, key: u32, held: &Held, n: u8, root: Page) -> TagSet
 pub fn tags_in(holds: &Holds, n: u8, root: Page) -> TagSet
     requires some { 1 ≤ n }
     requires within { n ≤ 128 }
-    ensures { spec.HasTags (λ g. spec.tag_in holds.now n g root) result }
+    ensures { HasTags (λ g. spec.tag_in holds.now n g root) result }
 {
     let mut tags = TagSet::None;
     for index in 0..holds.len() {

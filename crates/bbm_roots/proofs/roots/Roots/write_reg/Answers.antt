@@ -1,6 +1,7 @@
 use Rattle.std.proofs.Common.{◌≡◌, ◌≢◌, ◌≤◌, ◌∙◌, ap, sym, refl, Bool, ◌&&◌, ◌||◌, not, nat_eq, List, ◌∷◌, true, false, cond, ℕ, Option, Ok, Err, arith, Vec, Global}
 use Rattle.std.proofs.lemmas.Bool.{ne_eqb}
 use Rattle.std.proofs.lemmas.Result.{err_from_is_err_and}
+use Rattle.bbm_regimes.specs.Registers.{tag_number}
 use Rattle.bbm_regimes.specs.declared.regime.Reg.{Reg}
 use Rattle.bbm_regimes.specs.declared.regime.Tag.{Tag}
 use Rattle.bbm_roots.specs.Calls.{Call, WriteReg}
@@ -8,7 +9,7 @@ use Rattle.bbm_roots.specs.Columns.{loads_in}
 use Rattle.bbm_roots.specs.Holds.{conflict_in, IsCalm}
 use Rattle.bbm_roots.specs.Pendings.{pending_in}
 use Rattle.bbm_roots.specs.Readings.{has_reading}
-use Rattle.bbm_roots.specs.Registers.{register_values, first_reg, second_reg, is_first, same_reg, load_of, number_of, is_of_world, kind_of_reg, names_in}
+use Rattle.bbm_roots.specs.Registers.{register_values, first_reg, second_reg, is_first, same_reg, load_of, is_of_world, kind_of_reg, names_in}
 use Rattle.bbm_roots.specs.Roots.{root_at, is_root}
 use Rattle.bbm_roots.specs.Stands.{world_of, pes_of}
 use Rattle.bbm_roots.specs.Tags.{readings, holds_at}
@@ -32,10 +33,10 @@ returns-clause-taken c = λ calls stands.
     let reg = c.args.reg in
     let seen = c.deref-3.result.now in
     let call : Call = WriteReg pe reg c.args.value c.args.null in
-    let load : Load = record { number = c.number_of-number.result; root = c.in_ok-root.root } in
+    let load : Load = record { number = c.tag_number-number.result; root = c.in_ok-root.root } in
     let is_load : load ≡ load_of reg c.args.value c.args.null =
-    ap (λ (n : ℕ). let l : Load = record { number = n; root = c.in_ok-root.root } in l) c.number_of-number.ensures
-    ∙ ap (λ (o : Option ℕ). let l : Load = record { number = number_of c.args.value; root = o } in l)
+    ap (λ (n : ℕ). let l : Load = record { number = n; root = c.in_ok-root.root } in l) c.tag_number-number.ensures
+    ∙ ap (λ (o : Option ℕ). let l : Load = record { number = tag_number c.args.value; root = o } in l)
     (c.in_ok-root.ensures.named calls stands) in
     let regs = c.in_ok-make_room.ensures.registers in
     let here : (p : ℕ) → nat_eq p pe ≡ true → readings world (call ∷ calls) p ≡ seen = λ p at.
@@ -111,10 +112,10 @@ pub returns-clause-judged : goal.returns-clause-judged
 returns-clause-judged c = λ calls stands.
     let old = c.args.self.now in
     let pe = c.args.pe in
-    let load : Load = record { number = c.number_of-number.result; root = c.in_ok-root.root } in
+    let load : Load = record { number = c.tag_number-number.result; root = c.in_ok-root.root } in
     let is_load : load ≡ load_of c.args.reg c.args.value c.args.null =
-    ap (λ (n : ℕ). let l : Load = record { number = n; root = c.in_ok-root.root } in l) c.number_of-number.ensures
-    ∙ ap (λ (o : Option ℕ). let l : Load = record { number = number_of c.args.value; root = o } in l)
+    ap (λ (n : ℕ). let l : Load = record { number = n; root = c.in_ok-root.root } in l) c.tag_number-number.ensures
+    ∙ ap (λ (o : Option ℕ). let l : Load = record { number = tag_number c.args.value; root = o } in l)
     (c.in_ok-root.ensures.named calls stands) in
     write-judged (world_of old) (pes_of old) pe c.args.reg c.args.value c.args.null calls load
     (loads_in old.registers.first.items pe) (loads_in old.registers.second.items pe) c.deref.result.now old.holds
@@ -128,10 +129,10 @@ pub returns-in_err-judge-clause-judged : goal.returns-in_err-judge-clause-judged
 returns-in_err-judge-clause-judged c = λ calls stands.
     let old = c.args.self.now in
     let pe = c.args.pe in
-    let load : Load = record { number = c.number_of-number.result; root = c.in_ok-root.root } in
+    let load : Load = record { number = c.tag_number-number.result; root = c.in_ok-root.root } in
     let is_load : load ≡ load_of c.args.reg c.args.value c.args.null =
-    ap (λ (n : ℕ). let l : Load = record { number = n; root = c.in_ok-root.root } in l) c.number_of-number.ensures
-    ∙ ap (λ (o : Option ℕ). let l : Load = record { number = number_of c.args.value; root = o } in l)
+    ap (λ (n : ℕ). let l : Load = record { number = n; root = c.in_ok-root.root } in l) c.tag_number-number.ensures
+    ∙ ap (λ (o : Option ℕ). let l : Load = record { number = tag_number c.args.value; root = o } in l)
     (c.in_ok-root.ensures.named calls stands) in
     let p = err_from_is_err_and c.from_residual-in_err-judge.result c.from_residual-in_err-judge.ensures.1 in
     rw (p.1, p.2) (write-judged (world_of old) (pes_of old) pe c.args.reg c.args.value c.args.null calls load
