@@ -1,5 +1,6 @@
 pub mod Causes
 pub mod CertificateLines
+pub mod Counts
 pub mod Joining
 pub mod Labels
 pub mod MachineLines

@@ -1,7 +1,6 @@
 //! Which events and claims fit a header.
 
-ghost use Rattle.std.specs.Prelude.{◌≡◌, ◌<◌};
-ghost use Rattle.bbm_regimes.specs.World.{page_count};
+ghost use Rattle.std.specs.Prelude.{◌≡◌};
 ghost use Rattle.bbm_events.specs.Certificate as certificate;
 ghost use Rattle.bbm_events.specs.Heading as heading;
 ghost use Rattle.bbm_events.specs.Fits as spec;
@@ -11,8 +10,7 @@ use crate::certificate::ClaimItem;
 use crate::claim::Claim;
 use crate::event::Event;
 use crate::header::Header;
-use crate::roots::page_count;
-use bbm_regimes::{Kind, Page, Pe, Place, Tag, World};
+use bbm_regimes::{Kind, Page, Pe, Place, Tag};
 use bbm_tlbi_scope::TlbiOp;
 
 /// Locks have numbers below 1,024. Source: project's own choice.
@@ -39,11 +37,10 @@ fn is_place(place: Place) -> bool
     true
 }
 
-fn is_root_page(world: World, kind: Kind, page: Page) -> bool
-    requires { 0 < page_count world kind }
-    ensures { result ≡ spec.is_root_page world kind page }
+fn is_root_page(header: &Header, kind: Kind, page: Page) -> bool
+    ensures { result ≡ spec.is_root_page header.now.world kind page }
 {
-    page.get() % (4096 * page_count(world, kind) as u64) == 0
+    page.get() % (4096 * header.page_count(kind) as u64) == 0
 }
 
 fn is_root_lock(lock: Option<u16>) -> bool
@@ -82,7 +79,7 @@ pub fn fits(header: &Header, event: Event) -> bool
             kind,
             lock,
             page,
-        } => has_pe(header, pe) && is_root_lock(lock) && is_root_page(header.world, kind, page),
+        } => has_pe(header, pe) && is_root_lock(lock) && is_root_page(header, kind, page),
         Event::Unroot { pe, page } => has_pe(header, pe) && is_page(page),
         Event::Write {
             pe,

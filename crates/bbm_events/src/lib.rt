@@ -28,4 +28,4 @@ pub use laws::{
 };
 pub use machine::{MachineLine, MachineWord};
 pub use malformed::Malformed;
-pub use roots::{first_input_page, has_kind, input_pages, page_count, start_level};
+pub use roots::{input_pages, regions_in};

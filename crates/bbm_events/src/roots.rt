@@ -1,57 +1,92 @@
-//! What a header says of the roots of each kind: how many pages one has, where its walks start, and which input pages
-//! its tables translate.
+//! What a header says of its PEs, and of the roots of each kind: how many pages one has, where its walks start, and
+//! which input pages its tables translate.
 
-ghost use Rattle.std.specs.Prelude.{◌≡◌, ◌≤◌, ◌^◌};
+ghost use Rattle.std.specs.Prelude.{◌≡◌, ◌≤◌, ◌/◌, ◌^◌, true};
 ghost use Rattle.bbm_regimes.specs.World as spec;
+ghost use Rattle.bbm_events.specs.Heading.{heading_ok};
 
 use crate::header::Header;
 use bbm_regimes::{Kind, World};
 
-/// The number of consecutive pages of a root of this kind, 1 to 16. Source: Arm ARM (DDI 0487), "VMSAv8-64
-/// translation table walks", concatenated translation tables.
-pub fn page_count(world: World, kind: Kind) -> u8
-    ensures { result ≡ spec.page_count world kind }
-{
-    match (world, kind) {
-        (World::Hyp(world), Kind::S2) => world.s2_pages,
-        _ => 1,
+impl Header {
+    /// The numbers of a header are in their ranges. The call does nothing; what it tells is its contract. Source:
+    /// project's own choice.
+    pub fn in_ranges(&self)
+        ensures { heading_ok self.now ≡ true }
+    {
+        let _pes = self.pes;
     }
-}
 
-/// Whether the kind is one of the world: `El2` and `S2` are those of the Hyp world, `Ttbr0` and `Ttbr1` those of the
-/// Kernel world. Source: project's own choice.
-pub fn has_kind(world: World, kind: Kind) -> bool
-    ensures { result ≡ spec.kind_in_world world kind }
-{
-    match world {
-        World::Hyp(_) => match kind {
-            Kind::El2 | Kind::S2 => true,
-            Kind::Ttbr0 | Kind::Ttbr1 => false,
-        },
-        World::Kernel(_) => match kind {
-            Kind::Ttbr0 | Kind::Ttbr1 => true,
-            Kind::El2 | Kind::S2 => false,
-        },
+    /// The number of PEs, 1 to 128. Source: project's own choice.
+    pub fn pe_count(&self) -> u8
+        ensures count { result ≡ self.now.pes }
+        ensures some { 1 ≤ result }
+        ensures within { result ≤ 128 }
+    {
+        self.pes
     }
-}
 
-/// The level at which walks of the kind start, 0 to 2; 0 where the kind isn't one of the header's world. Source: Arm
-/// ARM (DDI 0487), "VMSAv8-64 translation table walks".
-pub fn start_level(header: &Header, kind: Kind) -> u8
-    ensures value { result ≡ spec.start_of header.now.world kind }
-    ensures low { result ≤ 2 }
-{
-    match header.world {
-        World::Hyp(world) => match kind {
-            Kind::El2 => world.el2_start,
-            Kind::S2 => world.s2_start,
-            Kind::Ttbr0 | Kind::Ttbr1 => 0,
-        },
-        World::Kernel(world) => match kind {
-            Kind::Ttbr0 => world.start0,
-            Kind::Ttbr1 => world.start1,
-            Kind::El2 | Kind::S2 => 0,
-        },
+    /// The number of consecutive pages of a root of this kind, 1 to 16. Source: Arm ARM (DDI 0487), "VMSAv8-64
+    /// translation table walks", concatenated translation tables.
+    #[tactic(auto, using(crate::proofs::Counts::hyp_counts))]
+    pub fn page_count(&self, kind: Kind) -> u8
+        ensures value { result ≡ spec.page_count self.now.world kind }
+        ensures some { 1 ≤ result }
+        ensures bound { result ≤ 16 }
+    {
+        match (self.world, kind) {
+            (World::Hyp(world), Kind::S2) => world.s2_pages,
+            _ => 1,
+        }
+    }
+
+    /// Whether the kind is one of the header's world: `El2` and `S2` are those of the Hyp world, `Ttbr0` and `Ttbr1`
+    /// those of the Kernel world. Source: project's own choice.
+    pub fn has_kind(&self, kind: Kind) -> bool
+        ensures { result ≡ spec.kind_in_world self.now.world kind }
+    {
+        match self.world {
+            World::Hyp(_) => match kind {
+                Kind::El2 | Kind::S2 => true,
+                Kind::Ttbr0 | Kind::Ttbr1 => false,
+            },
+            World::Kernel(_) => match kind {
+                Kind::Ttbr0 | Kind::Ttbr1 => true,
+                Kind::El2 | Kind::S2 => false,
+            },
+        }
+    }
+
+    /// The level at which walks of the kind start, 0 to 2; 0 where the kind isn't one of the header's world. Source:
+    /// Arm ARM (DDI 0487), "VMSAv8-64 translation table walks".
+    pub fn start_level(&self, kind: Kind) -> u8
+        ensures value { result ≡ spec.start_of self.now.world kind }
+        ensures low { result ≤ 2 }
+    {
+        match self.world {
+            World::Hyp(world) => match kind {
+                Kind::El2 => world.el2_start,
+                Kind::S2 => world.s2_start,
+                Kind::Ttbr0 | Kind::Ttbr1 => 0,
+            },
+            World::Kernel(world) => match kind {
+                Kind::Ttbr0 => world.start0,
+                Kind::Ttbr1 => world.start1,
+                Kind::El2 | Kind::S2 => 0,
+            },
+        }
+    }
+
+    /// The number of the first input page that trees of the kind translate, at most 2^44: 0, but for the upper range,
+    /// whose trees end at the last input page. Source: Arm ARM (DDI 0487), "VMSAv8-64 translation table walks".
+    pub fn first_input_page(&self, kind: Kind) -> u64
+        ensures value { result ≡ spec.first_input_page self.now.world kind }
+        ensures bound { result ≤ 2 ^ 44 }
+    {
+        match kind {
+            Kind::Ttbr1 => (1 << 44) - 512 * input_pages(self.start_level(kind)),
+            Kind::El2 | Kind::S2 | Kind::Ttbr0 => 0,
+        }
     }
 }
 
@@ -71,14 +106,16 @@ pub fn input_pages(level: u8) -> u64
     }
 }
 
-/// The number of the first input page that trees of the kind translate, at most 2^44: 0, but for the upper range, whose
-/// trees end at the last input page. Source: Arm ARM (DDI 0487), "VMSAv8-64 translation table walks".
-pub fn first_input_page(header: &Header, kind: Kind) -> u64
-    ensures value { result ≡ spec.first_input_page header.now.world kind }
-    ensures bound { result ≤ 2 ^ 44 }
+/// How many regions of descriptors of this level, 0 to 3, lie whole in so many input pages. Source: Arm ARM (DDI 0487),
+/// "VMSAv8-64 translation table walks", the 4 KiB granule.
+pub fn regions_in(level: u8, pages: u64) -> u64
+    requires { level ≤ 3 }
+    ensures { result ≡ pages / spec.input_pages level }
 {
-    match kind {
-        Kind::Ttbr1 => (1 << 44) - 512 * input_pages(start_level(header, kind)),
-        Kind::El2 | Kind::S2 | Kind::Ttbr0 => 0,
+    match level {
+        0 => pages / (1 << 27),
+        1 => pages / (1 << 18),
+        2 => pages / (1 << 9),
+        _ => pages,
     }
 }

@@ -13,7 +13,7 @@ ghost use Rattle.bbm_oracle_trees.specs.Past.{notes};
 
 use crate::starts::root_pages;
 use bbm_descriptor::{Desc, read};
-use bbm_events::{Event, start_level};
+use bbm_events::Event;
 use bbm_oracle_tags::values::{places_in, value_of};
 use bbm_oracle_trees::History;
 use bbm_regimes::{Kind, NoMemory, Page, Place};
@@ -245,7 +245,7 @@ pub fn attached_by(
         } => {
             let header = history.header();
             let pages = root_pages(alloc, header, kind, page)?;
-            let level = start_level(header, kind);
+            let level = header.start_level(kind);
             let attached = attached_from(alloc, history, kind, level, &pages)?;
             Ok(Some(attached))
         }

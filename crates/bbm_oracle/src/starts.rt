@@ -4,7 +4,7 @@ ghost use Rattle.std.specs.Prelude.{◌≡◌, ◌≤◌, ◌<◌, ◌+◌, ◌*
 ghost use Rattle.bbm_events.specs.Fits.{is_root_page};
 ghost use Rattle.bbm_rules.specs.Roots as roots;
 
-use bbm_events::{Header, has_kind, page_count};
+use bbm_events::Header;
 use bbm_regimes::{Kind, NoMemory, Page};
 use std::alloc::Global;
 
@@ -35,7 +35,8 @@ fn root_page_count(header: &Header, kind: Kind, page: Page) -> u8
     ensures fits { page + 4096 * result ≤ 2 ^ 48 }
 {
     let _ = page.get();
-    page_count(header.world, kind)
+    header.in_ranges();
+    header.page_count(kind)
 }
 
 /// The pages of a root with this first page; none where the kind isn't one of the header's world. `NoMemory` where
@@ -49,7 +50,7 @@ pub fn root_pages(
     requires { is_root_page header.now.world kind page ≡ true }
     ensures { IfOk result (λ pages. pages.items ≡ roots.root_pages header.now.world kind page) }
 {
-    if has_kind(header.world, kind) {
+    if header.has_kind(kind) {
         pages_from(alloc, page, root_page_count(header, kind, page))
     } else {
         Ok(Vec::new(alloc))

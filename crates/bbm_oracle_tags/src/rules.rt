@@ -25,7 +25,7 @@ use crate::readings::{Reading, readings_at};
 use crate::registers::{register_values, vmid_of};
 use crate::roots::{Declared, is_root, lock_of, root_at, roots_of};
 use crate::tags::{holds_tag, tag_set_of};
-use bbm_events::{Event, Header, has_kind};
+use bbm_events::{Event, Header};
 use bbm_regimes::{Kind, NoMemory, Pe, Reg, base_of, kind_of};
 use bbm_tlbi_scope::{TagSet, decode, lacks_vmid};
 use std::alloc::Global;
@@ -49,7 +49,7 @@ fn is_wrong_write(header: &Header, reg: Reg, value: u64) -> bool
     ensures { result ≡ (not (roots.kind_in_world header.now.world (registers.kind_of_reg reg))
         || (nat_le 2 header.now.version && not header.now.cnp && value % 2 == 1)) }
 {
-    if !has_kind(header.world, kind_of(reg)) {
+    if !header.has_kind(kind_of(reg)) {
         return true;
     }
     asks_to_share(header, value)
@@ -62,10 +62,10 @@ pub fn wrong_world(header: &Header, event: &Event) -> Option<u64>
     ensures { (h : List Noted) → result ≡ spec.wrong_world header.now Patterns h event.now }
 {
     match *event {
-        Event::Root { kind, .. } => if_so(!has_kind(header.world, kind), 0),
+        Event::Root { kind, .. } => if_so(!header.has_kind(kind), 0),
         Event::Msr { pe: _, reg, value } => if_so(is_wrong_write(header, reg, value), 0),
         Event::Tlbi { op, .. } => if_so(!op.of_world(header.world), 0),
-        Event::Null { .. } => if_so(has_kind(header.world, Kind::S2), 0),
+        Event::Null { .. } => if_so(header.has_kind(Kind::S2), 0),
         _ => None,
     }
 }

@@ -8,17 +8,17 @@ ghost use Rattle.bbm_rules.specs.Roots.{pages_from};
 ghost use Rattle.bbm_oracle_trees.specs.Fits.{fits_root};
 
 use crate::node::Node;
-use bbm_events::{Header, first_input_page, has_kind, input_pages, page_count, start_level};
+use bbm_events::{Header, input_pages};
 use bbm_oracle_tags::Declared;
-use bbm_regimes::{Kind, NoMemory, Page, World};
+use bbm_regimes::{Kind, NoMemory, Page};
 use std::alloc::Global;
 
-// The number of pages of a root of the kind, none where the kind isn't one of the world.
-fn root_page_count(world: World, kind: Kind) -> u8
-    ensures { result ≡ (if worlds.kind_in_world world kind then worlds.page_count world kind else 0) }
+/// The number of pages of a root of the kind, 1 to 16; 0 where the kind isn't one of the header's world.
+fn root_page_count(header: &Header, kind: Kind) -> u8
+    ensures { result ≡ (if worlds.kind_in_world header.now.world kind then worlds.page_count header.now.world kind else 0) }
 {
-    if has_kind(world, kind) {
-        page_count(world, kind)
+    if header.has_kind(kind) {
+        header.page_count(kind)
     } else {
         0
     }
@@ -81,10 +81,11 @@ fn add_root(
     requires { fits_root header.now root.now ≡ true }
     ensures { OnOk result (nodes.new.items ≡ nodes.old.items ++ nodes_of_root header.now root.now) }
 {
+    header.in_ranges();
     let kind = root.kind;
-    let level = start_level(header, kind);
-    let first = first_input_page(header, kind);
-    let count = root_page_count(header.world, kind);
+    let level = header.start_level(kind);
+    let first = header.first_input_page(kind);
+    let count = root_page_count(header, kind);
     add_pages(alloc, kind, level, root.page, first, count, nodes)
 }
 
@@ -100,7 +101,7 @@ pub fn add_starts(
     ensures { OnOk result (nodes.new.items ≡ nodes.old.items ++ flat_map (starts_at header.now level) roots.now) }
 {
     for root in roots {
-        if start_level(header, root.kind) == level {
+        if header.start_level(root.kind) == level {
             add_root(alloc, header, root, nodes)?;
         }
     }

@@ -10,7 +10,6 @@ ghost use Rattle.bbm_replay.specs.Standing.{MayMeet, Meets};
 
 use crate::laws::laws;
 use crate::parts::Parts;
-use crate::world::{cnp, pes};
 use bbm_barriers::{Dsb, is_non};
 use bbm_events::Header;
 use bbm_place_map::PlaceMap;
@@ -21,7 +20,7 @@ use bbm_replay_roots::{law_barriers, law_others};
 fn is_silent(header: &Header, dsb: Dsb) -> bool
     ensures { result ≡ (header.now.cnp && options.is_non dsb.domain) }
 {
-    cnp(header) && is_non(dsb.domain)
+    header.cnp && is_non(dsb.domain)
 }
 
 // The DSB of the PE publishes its writes, unless it is silent.
@@ -59,7 +58,7 @@ impl Parts {
     {
         laws();
         law_barriers();
-        let n = pes(&self.header);
+        let n = self.header.pe_count();
         let silent = is_silent(&self.header, dsb);
         publish(&mut self.map, silent, pe, dsb, n);
         if self.map.complete(pe, dsb, n) {

@@ -23,7 +23,6 @@ ghost use Rattle.bbm_replay.specs.Covering.{AreCovered};
 ghost use Rattle.bbm_replay.specs.OnePage.{IsFoundIn, MetFrom, MetFromAll, NamesOne, covers_kind as spec_covers_kind};
 
 use crate::covers::cover_met;
-use crate::world::page_count;
 use bbm_descriptor::Core;
 use bbm_entry_state::EntryState;
 use bbm_events::Header;
@@ -232,7 +231,7 @@ fn visit(
     match roots.nth(number) {
         Some((kind, first)) => {
             if covers_kind(scope.family, kind) {
-                let count = page_count(header, kind);
+                let count = header.page_count(kind);
                 descend_all(map, index, roots, scope, vmid, at, first, count, found)
             } else {
                 Ok(())

@@ -15,7 +15,6 @@ pub mod replay;
 mod tells;
 mod tlbis;
 mod trees;
-mod world;
 mod writes;
 
 pub use replay::Replay;

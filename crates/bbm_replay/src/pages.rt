@@ -10,7 +10,6 @@ ghost use Rattle.bbm_replay.specs.Standing.{MayMeet, Meets};
 use crate::faults::step_fault;
 use crate::laws::{laws, rules};
 use crate::parts::Parts;
-use crate::world::has_kind;
 use bbm_descriptor::Memory;
 use bbm_place_map::PlaceMap;
 use bbm_regimes::{Kind, Page, Pe, Place};
@@ -66,7 +65,7 @@ impl Parts {
         laws();
         rules();
         law_others();
-        if has_kind(&self.header, Kind::S2) {
+        if self.header.has_kind(Kind::S2) {
             return Err(StepFault::Broken(Rule::WrongWorld, 0));
         }
         if !self.index.is_fresh(page) {

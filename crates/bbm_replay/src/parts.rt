@@ -1,7 +1,6 @@
 //! The parts of the checker.
 
-ghost use Rattle.std.specs.Prelude.{◌≡◌, IfOk, [], true};
-ghost use Rattle.bbm_events.specs.Heading.{heading_ok};
+ghost use Rattle.std.specs.Prelude.{IfOk, []};
 ghost use Rattle.bbm_replay.specs.Standing.{MayMeet, Meets, Stands};
 
 use bbm_events::{Event, Header};
@@ -26,19 +25,12 @@ pub struct Parts {
     pub(crate) roots: RootState,
 }
 
-// The numbers of a header are in their ranges.
-fn in_ranges(header: &Header)
-    ensures { heading_ok header.now ≡ true }
-{
-    let _pes = header.pes;
-}
-
 impl Parts {
     /// What stands for the empty history of the header.
     pub(crate) fn new(alloc: Global, header: &Header) -> Result<Parts, NoMemory>
         ensures { IfOk result (λ parts. Stands parts header.now []) }
     {
-        in_ranges(header);
+        header.in_ranges();
         match TreeIndex::new(alloc, header) {
             Ok(index) => match RootState::new(alloc, header) {
                 Ok(roots) => Ok(Parts {

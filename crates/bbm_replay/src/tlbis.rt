@@ -10,7 +10,6 @@ ghost use Rattle.bbm_replay.specs.Standing.{MayMeet, Meets};
 use crate::issues::issue;
 use crate::laws::{laws, rules};
 use crate::parts::Parts;
-use crate::world::{cnp, pes};
 use bbm_events::Header;
 use bbm_regimes::{Pe, PeMask};
 use bbm_rules::StepFault;
@@ -23,8 +22,8 @@ fn reach_of(header: &Header, pe: Pe, op: TlbiOp) -> PeMask
         → pe_in result p ≡ ((operations.operation op).broadcast || (not header.now.cnp && nat_eq pe p)) }
 {
     if op.is_broadcast() {
-        PeMask::all(pes(header))
-    } else if cnp(header) {
+        PeMask::all(header.pe_count())
+    } else if header.cnp {
         PeMask::none()
     } else {
         PeMask::one(pe)

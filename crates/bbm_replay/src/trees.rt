@@ -10,7 +10,6 @@ ghost use Rattle.bbm_replay.specs.Standing.{MayMeet, Meets};
 use crate::faults::step_fault;
 use crate::laws::{laws, rules};
 use crate::parts::Parts;
-use crate::world::{has_kind, page_count};
 use bbm_regimes::{Kind, Page, Pe};
 use bbm_rules::{Rule, StepFault};
 use bbm_tree_index::{Attach, Detach, TreeIndex};
@@ -57,7 +56,7 @@ impl Parts {
     {
         laws();
         rules();
-        if !has_kind(&self.header, kind) {
+        if !self.header.has_kind(kind) {
             return Err(StepFault::Broken(Rule::WrongWorld, 0));
         }
         let prepared = match self
@@ -67,7 +66,7 @@ impl Parts {
             Ok(prepared) => prepared,
             Err(fault) => return Err(step_fault(fault)),
         };
-        match first_unfresh(&self.index, page, page_count(&self.header, kind)) {
+        match first_unfresh(&self.index, page, self.header.page_count(kind)) {
             Some(at) => return Err(StepFault::Broken(Rule::PageInUse, at)),
             None => {}
         }

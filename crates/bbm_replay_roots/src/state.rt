@@ -1,8 +1,6 @@
 //! The roots, registers, tags and locks of a log.
 
-ghost use Rattle.std.specs.Prelude.{◌≡◌, ◌&&◌, true, is_none};
-ghost use Rattle.bbm_events.specs.Heading.{heading_ok};
-ghost use Rattle.bbm_tlbi_scope.specs.Operations.{scoped_by_vmid};
+ghost use Rattle.std.specs.Prelude.{◌≡◌};
 ghost use Rattle.bbm_replay_roots.specs.Faults as faults;
 
 use crate::bridge::bridge;
@@ -14,7 +12,7 @@ use bbm_oracle_tags::wrong_world;
 use bbm_regimes::{Kind, NoMemory, Page, Pe, Reg, Which};
 use bbm_roots::{RootFault, Roots};
 use bbm_rules::{Rule, StepFault};
-use bbm_tlbi_scope::{TagSet, TlbiOp, decode};
+use bbm_tlbi_scope::{TagSet, TlbiOp, decode, lacks_vmid};
 use std::alloc::Global;
 
 /// The header of a log, its declared roots, the register values of each PE that may still be in use, the tags that each
@@ -51,13 +49,6 @@ fn write_fault(fault: RootFault) -> StepFault
     }
 }
 
-// The numbers of a header are in their ranges.
-fn in_ranges(header: &Header)
-    ensures { heading_ok header.now ≡ true }
-{
-    let _pes = header.pes;
-}
-
 // The rule that an `unroot` breaks, by the fault of the roots.
 fn retire_rule(fault: RootFault) -> Rule
     ensures { result ≡ faults.unroot_rule fault }
@@ -69,13 +60,6 @@ fn retire_rule(fault: RootFault) -> Rule
         | RootFault::NoRoot(_)
         | RootFault::TagConflict(_, _) => Rule::NoRoot,
     }
-}
-
-// Whether the operation needs the VMID of its PE, which has several.
-fn lacks_vmid(op: TlbiOp, vmid: Option<u16>) -> bool
-    ensures { result ≡ (scoped_by_vmid op && is_none vmid) }
-{
-    op.scoped_by_vmid() && vmid.is_none()
 }
 
 impl RootState {
@@ -102,7 +86,7 @@ impl RootState {
     pub fn new(alloc: Global, header: &Header) -> Result<RootState, NoMemory>
         ensures empty { IfOk result (λ state. Stands state header.now []) }
     {
-        in_ranges(header);
+        header.in_ranges();
         match Roots::new(alloc, header) {
             Ok(roots) => Ok(RootState {
                 header: *header,
@@ -243,7 +227,7 @@ impl RootState {
             return Err(StepFault::Broken(Rule::WrongWorld, 0));
         }
         let vmid = self.vmid_of(pe);
-        if lacks_vmid(op, vmid) {
+        if lacks_vmid(op.scoped_by_vmid(), vmid) {
             return Err(StepFault::Broken(Rule::UnsyncedVmid, pe.get() as u64));
         }
         match decode(op, xt) {

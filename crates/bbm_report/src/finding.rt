@@ -12,7 +12,7 @@ ghost use Rattle.bbm_report.specs.Further.{Found};
 
 use crate::questions::Question;
 use bbm_descriptor::Walk;
-use bbm_events::{Header, page_count, start_level};
+use bbm_events::Header;
 use bbm_regimes::{Kind, Page};
 use bbm_rules::Checker;
 use bbm_walk_s1::S1Root;
@@ -34,7 +34,8 @@ fn joined_pages(header: &Header) -> u8
     ensures count { result ≡ worlds.page_count header.now.world S2 }
     ensures joined { IsTrue (can_join (worlds.start_of header.now.world S2) result) }
 {
-    page_count(header.world, Kind::S2)
+    header.in_ranges();
+    header.page_count(Kind::S2)
 }
 
 // The stage 2 root at the page, None where the page isn't aligned to all pages of a root.
@@ -44,7 +45,7 @@ fn joined_root(header: &Header, page: Page) -> Option<S2Root>
     ensures pages { IfSome result (λ root. root.pages ≡ worlds.page_count header.now.world S2) }
     ensures page { IfSome result (λ root. root.page ≡ page) }
 {
-    let start = start_level(header, Kind::S2);
+    let start = header.start_level(Kind::S2);
     let pages = joined_pages(header);
     if page.get() % (4096 * pages as u64) == 0 {
         Some(S2Root { start, pages, page })
@@ -71,7 +72,7 @@ pub fn find<C: Checker>(checker: &C, header: &Header, question: Question) -> Opt
         }
         kind => {
             let root = S1Root {
-                start: start_level(header, kind),
+                start: header.start_level(kind),
                 high: is_high(kind),
                 page: question.root,
             };

@@ -14,7 +14,7 @@ ghost use Rattle.bbm_tlb_machine.specs.Registers.{asids_by};
 use crate::entry::{Entry, Part, is_valid};
 use crate::geometry::{first_of, root_of};
 use crate::looking::can_read;
-use bbm_events::{Event, Header, input_pages, start_level};
+use bbm_events::{Event, Header, input_pages};
 use bbm_oracle_tags::readings::is_read;
 use bbm_oracle_tags::{readings_at, register_values};
 use bbm_regimes::{AsidFrom, Kind, NoMemory, Pe, Place, Reg, World, tag_number};
@@ -174,7 +174,7 @@ pub fn start(
             place,
             value,
             kind,
-            level: start_level(header, kind),
+            level: header.start_level(kind),
             first: first_of(header, kind, place),
         },
         above: Vec::new(alloc),

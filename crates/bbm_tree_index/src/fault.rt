@@ -1,6 +1,6 @@
 //! Why a call is refused.
 
-use bbm_regimes::{Page, Place, Which};
+use bbm_regimes::{NoMemory, Page, Place, Which};
 use thiserror::Error;
 
 /// Why a call of `TreeIndex` is refused. Source: project's own choice.
@@ -21,4 +21,15 @@ pub enum TreeFault {
     /// This place of an attached page of the lower range has a leaf for every ASID.
     #[error("global user")]
     GlobalUser(Place),
+}
+
+impl From<NoMemory> for TreeFault {
+    ghost use Rattle.std.specs.Prelude.{◌≡◌};
+    ghost use Rattle.bbm_tree_index.specs.declared.fault.TreeFault.TheVariants.{NoMemory as OutOfMemory};
+
+    ghost from_gives = { λ _ e. e ≡ OutOfMemory };
+
+    fn from(_: NoMemory) -> TreeFault {
+        TreeFault::NoMemory
+    }
 }

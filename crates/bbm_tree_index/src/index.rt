@@ -8,7 +8,7 @@ use crate::leaving::{Leaving, sweep};
 use crate::mark::Mark;
 use crate::role::{Attach, Detach, Path, Role};
 use crate::spot::{Spot, spot_of};
-use crate::start::{count_at, in_ranges, start_at, start_below, start_root};
+use crate::start::{start_below, start_root};
 use crate::survey::survey;
 use crate::table::put;
 use bbm_events::Header;
@@ -319,9 +319,9 @@ impl TreeIndex {
         ensures same { (s : Node) → Contains (starts_of self.now at.now) s → (s.kind ≡ result.0) × (s.level ≡ result.1) }
         ensures some { (s : Node) × Contains (starts_of self.now at.now) s }
     {
-        in_ranges(&self.header);
+        self.header.in_ranges();
         match *at {
-            Attach::Root { kind, first: _ } => (kind, start_at(&self.header, kind)),
+            Attach::Root { kind, first: _ } => (kind, self.header.start_level(kind)),
             Attach::Below { place, next: _ } => match self.spot(place.page()) {
                 Some(spot) => (spot.kind, spot.level + 1),
                 None => (Kind::El2, 3),
@@ -336,10 +336,10 @@ impl TreeIndex {
         ensures well { IfOk result (λ table. Well (heading_of self.now) (get nat_eq table)) }
         ensures start { IfOk result (λ table. Starting (heading_of self.now) (get nat_eq table) (starts_of self.now at.now)) }
     {
-        in_ranges(&self.header);
+        self.header.in_ranges();
         match *at {
             Attach::Root { kind, first } => {
-                start_root(alloc, kind, first, count_at(&self.header, kind))
+                start_root(alloc, kind, first, self.header.page_count(kind))
             }
             Attach::Below { place, next } => match self.spot(place.page()) {
                 Some(spot) => start_below(alloc, &spot, place, next),
@@ -361,14 +361,9 @@ impl TreeIndex {
         ensures fault { IfErr result (λ fault. fault ≡ TreeFault.NoMemory) }
     {
         let (_, level) = self.begin(at);
-        let first = match self.start(alloc, at) {
-            Ok(first) => first,
-            Err(NoMemory) => return Err(TreeFault::NoMemory),
-        };
-        match survey(alloc, &self.header, &self.roles, map, first, 3 - level) {
-            Ok(tables) => Ok(tables),
-            Err(NoMemory) => Err(TreeFault::NoMemory),
-        }
+        let first = self.start(alloc, at)?;
+        let tables = survey(alloc, &self.header, &self.roles, map, first, 3 - level)?;
+        Ok(tables)
     }
 
     // Judges what is attached by its survey.

@@ -28,7 +28,6 @@ mod spot;
 mod start;
 mod survey;
 mod table;
-mod world;
 
 pub use example::null_page;
 pub use fault::TreeFault;

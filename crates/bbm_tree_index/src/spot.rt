@@ -9,8 +9,7 @@ ghost use Rattle.bbm_tree_index.specs.Spots.{spot_with, Fits, RoleFits};
 
 use crate::held::{holds_none, next_at, place_of};
 use crate::role::{Path, Role};
-use crate::world::{first_input_page, input_pages, regions_in, start_level};
-use bbm_events::Header;
+use bbm_events::{Header, input_pages, regions_in};
 use bbm_place_map::PlaceMap;
 use bbm_regimes::{Interval, Kind, Page, Place};
 
@@ -35,12 +34,11 @@ pub fn spot_of(header: &Header, role: &Role) -> Option<Spot>
 {
     match *role {
         Role::RootPage { kind, first, part } => {
-            let level = start_level(header.world, kind);
+            let level = header.start_level(kind);
             Some(Spot {
                 kind,
                 level,
-                base: first_input_page(header.world, kind)
-                    + part as u64 * (512 * input_pages(level)),
+                base: header.first_input_page(kind) + part as u64 * (512 * input_pages(level)),
                 first,
             })
         }

@@ -16,9 +16,9 @@ returns-then-complete c =
     let m1 = c.publish.new.map in
     let m2 = c.complete.new.self in
     let new : Parts = record old { map = c.prune.new.map; index = c.prune.new.self; roots = c.complete-then-complete.new.self } in
-    let hears = hears_of old m1 c.args.pe c.args.dsb c.is_silent-silent.result c.pes-n.result c.is_silent-silent.ensures
-    c.pes-n.ensures.count p.published p.unheard p.values p.pends in
-    let completes = completes_of old m1 m2 c.args.pe c.args.dsb c.pes-n.result c.pes-n.ensures.count e.completed e.others e.values in
+    let hears = hears_of old m1 c.args.pe c.args.dsb c.is_silent-silent.result c.pe_count-n.result c.is_silent-silent.ensures
+    c.pe_count-n.ensures.count p.published p.unheard p.values p.pends in
+    let completes = completes_of old m1 m2 c.args.pe c.args.dsb c.pe_count-n.result c.pe_count-n.ensures.count e.completed e.others e.values in
     dsb_meets c.laws.ensures old new m1 m2 c.args.pe c.args.dsb c.requires hears completes (λ x. e.pages x ∙ p.pages x)
     (record { header = refl; index_header = r.tracked.heading; sound = λ s. r.sound })
     (λ heading h. c.law_barriers.ensures.dsb heading h c.args.pe c.args.dsb)
@@ -43,9 +43,9 @@ returns c =
     let m1 = c.publish.new.map in
     let m2 = c.complete.new.self in
     let new : Parts = record old { map = m2; roots = c.complete-2.new.self } in
-    let hears = hears_of old m1 c.args.pe c.args.dsb c.is_silent-silent.result c.pes-n.result c.is_silent-silent.ensures
-    c.pes-n.ensures.count p.published p.unheard p.values p.pends in
-    let completes = completes_of old m1 m2 c.args.pe c.args.dsb c.pes-n.result c.pes-n.ensures.count e.completed e.others e.values in
+    let hears = hears_of old m1 c.args.pe c.args.dsb c.is_silent-silent.result c.pe_count-n.result c.is_silent-silent.ensures
+    c.pe_count-n.ensures.count p.published p.unheard p.values p.pends in
+    let completes = completes_of old m1 m2 c.args.pe c.args.dsb c.pe_count-n.result c.pe_count-n.ensures.count e.completed e.others e.values in
     dsb_meets c.laws.ensures old new m1 m2 c.args.pe c.args.dsb c.requires hears completes (λ x. e.pages x ∙ p.pages x)
     (record { header = refl; index_header = refl; sound = λ s. s })
     (λ heading h. c.law_barriers.ensures.dsb heading h c.args.pe c.args.dsb)

@@ -28,7 +28,7 @@ returns-in-Err c = rw c.step_fault.ensures
 pub first_unfresh-requires : goal.first_unfresh-requires
 first_unfresh-requires c =
     let m = c.requires in
-    rw c.page_count.ensures
+    rw c.page_count.ensures.value
     (subst (λ (x : Heading). c.args.page + 4096 * page_count x.world c.args.kind ≤ 2 ^ 48) (sym m.2.header)
     (room_for m.0 c.args.kind c.args.page m.2.told.proper (root_page m.0 c.args.pe c.args.lock c.args.kind c.args.page m.3)))
 
@@ -38,7 +38,7 @@ returns-in-Some c =
     (λ heading e. ap (λ (x : Heading). kind_in_world x.world c.args.kind) (sym e) ∙ sym c.has_kind.ensures ∙ c.if-not-has_kind.false)
     c.in-Ok.ensures.judged c.in-Some.at
     (λ heading e. unfresh_is c.args.self.now c.args.kind c.args.page c.page_count.result heading e
-    (sym c.has_kind.ensures ∙ c.if-not-has_kind.false) c.page_count.ensures ∙ sym c.in-Some.ensures)
+    (sym c.has_kind.ensures ∙ c.if-not-has_kind.false) c.page_count.ensures.value ∙ sym c.in-Some.ensures)
 
 pub returns-in-Err-prepare : goal.returns-in-Err-prepare
 returns-in-Err-prepare c =
@@ -48,7 +48,7 @@ returns-in-Err-prepare c =
     root_full c.laws.ensures c.rules.ensures old c.args.pe c.args.page c.args.kind c.args.lock c.requires right c.in-Ok.ensures.judged
     (unbroken c.laws.ensures c.rules.ensures old c.args.pe c.args.page c.args.kind c.args.lock c.requires right c.in-Ok.ensures.judged
     (λ heading k. unfresh_is old c.args.kind c.args.page c.page_count.result heading k
-    (sym c.has_kind.ensures ∙ c.if-not-has_kind.false) c.page_count.ensures ∙ sym c.in-None.ensures))
+    (sym c.has_kind.ensures ∙ c.if-not-has_kind.false) c.page_count.ensures.value ∙ sym c.in-None.ensures))
     c.prepare-2.new.self c.prepare-2.ensures.same c.in-Err-prepare.fault
     (λ heading h s k. (e.limit heading h c.args.pe c.args.kind c.args.lock c.args.page s).0 (ap (λ (f : StepFault). Err f) k))
     e.fault
@@ -69,7 +69,7 @@ hang-requires-clause-prepared c =
       c.in-Ok.ensures.prepared,
       named old.index m.0 m.2.index_header c.args.kind c.args.page
           (unfresh_is old c.args.kind c.args.page c.page_count.result m.0 m.2.header
-          (sym c.has_kind.ensures ∙ c.if-not-has_kind.false) c.page_count.ensures ∙ sym c.in-None.ensures),
+          (sym c.has_kind.ensures ∙ c.if-not-has_kind.false) c.page_count.ensures.value ∙ sym c.in-None.ensures),
     )
 
 pub declare-requires : goal.declare-requires
@@ -85,7 +85,7 @@ declare-requires c =
         m.3,
         unbroken c.laws.ensures c.rules.ensures old c.args.pe c.args.page c.args.kind c.args.lock c.requires right c.in-Ok.ensures.judged
             (λ heading k. unfresh_is old c.args.kind c.args.page c.page_count.result heading k
-            (sym c.has_kind.ensures ∙ c.if-not-has_kind.false) c.page_count.ensures ∙ sym c.in-None.ensures) m.0 m.1 m.2,
+            (sym c.has_kind.ensures ∙ c.if-not-has_kind.false) c.page_count.ensures.value ∙ sym c.in-None.ensures) m.0 m.1 m.2,
       ),
     )
 
@@ -99,7 +99,7 @@ returns-in-Ok-declare c =
     root_ok c.laws.ensures c.rules.ensures old c.args.pe c.args.page c.args.kind c.args.lock c.requires right c.in-Ok.ensures.judged
     (unbroken c.laws.ensures c.rules.ensures old c.args.pe c.args.page c.args.kind c.args.lock c.requires right c.in-Ok.ensures.judged
     (λ heading k. unfresh_is old c.args.kind c.args.page c.page_count.result heading k
-    (sym c.has_kind.ensures ∙ c.if-not-has_kind.false) c.page_count.ensures ∙ sym c.in-None.ensures))
+    (sym c.has_kind.ensures ∙ c.if-not-has_kind.false) c.page_count.ensures.value ∙ sym c.in-None.ensures))
     c.prepare-2.new.self c.prepare-2.ensures.same new
     (record { header = refl; index_header = c.hang.ensures.tracked.heading; sound = λ k. c.hang.ensures.sound })
     (λ heading h s k. let bad = (r.limit heading h c.args.pe c.args.kind c.args.lock c.args.page s).1 k in absurd cc)
@@ -108,7 +108,7 @@ returns-in-Ok-declare c =
     (e.node old.map (attach.Root c.args.kind c.args.page) c.in-Ok.ensures.prepared
     (named old.index c.requires.0 c.requires.2.index_header c.args.kind c.args.page
     (unfresh_is old c.args.kind c.args.page c.page_count.result c.requires.0 c.requires.2.header
-    (sym c.has_kind.ensures ∙ c.if-not-has_kind.false) c.page_count.ensures ∙ sym c.in-None.ensures))) e.fresh c.hang.ensures.null
+    (sym c.has_kind.ensures ∙ c.if-not-has_kind.false) c.page_count.ensures.value ∙ sym c.in-None.ensures))) e.fresh c.hang.ensures.null
     (record { tracked = λ p. refl; known = c.hang.ensures.tracked.known; pages = c.hang.ensures.tracked.pages }))
     c.law_idle.ensures
     (λ heading h s free. c.in-Ok-declare.ensures.taken heading h c.args.pe s free)

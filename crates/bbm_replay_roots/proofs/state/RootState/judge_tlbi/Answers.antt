@@ -1,4 +1,4 @@
-use Rattle.std.proofs.Common.{ℕ, true, false, Option, Some, Ok, Err, ◌&&◌, refl, sym, ap, ◌∙◌}
+use Rattle.std.proofs.Common.{ℕ, Bool, true, false, Option, Some, Ok, Err, ◌&&◌, refl, sym, ap, ◌∙◌}
 use Rattle.std.specs.Option.{is_none}
 use Rattle.bbm_tlbi_scope.specs.Operations.{scoped_by_vmid}
 use Rattle.bbm_rules.specs.declared.rule.Rule.TheVariants.{UnsyncedVmid}
@@ -16,13 +16,15 @@ returns-then-lacks_vmid c heading h s =
     tlbi_is heading h c.args.pe c.args.op c.args.xt (c.bridge.ensures heading) true true _
     (world_by s _ c.args.op true (ap (λ (x : RootState). x.header.world) (sym c.self.view_is)) (sym c.of_world.ensures ∙ c.if-not-of_world.false))
     (ap (λ (v : Option ℕ). scoped_by_vmid c.args.op && is_none v) (sym (c.vmid_of-vmid.ensures heading h s))
-    ∙ (sym c.lacks_vmid.ensures ∙ c.if-lacks_vmid.true)) refl
+    ∙ (ap (λ (b : Bool). b && is_none c.vmid_of-vmid.result) (sym c.scoped_by_vmid.ensures)
+    ∙ sym c.lacks_vmid.ensures ∙ c.if-lacks_vmid.true)) refl
     ∙ ap (λ (n : ℕ). Some (record { rule = UnsyncedVmid; at = n })) (sym c.get.ensures.value)
 
 pub returns-in-Ok : goal.returns-in-Ok
 returns-in-Ok c heading h s =
     let lacks = ap (λ (v : Option ℕ). scoped_by_vmid c.args.op && is_none v) (sym (c.vmid_of-vmid.ensures heading h s))
-    ∙ (sym c.lacks_vmid.ensures ∙ c.if-lacks_vmid.false) in (
+    ∙ (ap (λ (b : Bool). b && is_none c.vmid_of-vmid.result) (sym c.scoped_by_vmid.ensures)
+    ∙ sym c.lacks_vmid.ensures ∙ c.if-lacks_vmid.false) in (
       tlbi_is heading h c.args.pe c.args.op c.args.xt (c.bridge.ensures heading) true false (Ok c.in-Ok.scope)
           (world_by s _ c.args.op true (ap (λ (x : RootState). x.header.world) (sym c.self.view_is)) (sym c.of_world.ensures ∙ c.if-not-of_world.false))
           lacks (sym c.in-Ok.ensures.scope),
@@ -37,4 +39,5 @@ returns-in-Err c heading h s =
     tlbi_is heading h c.args.pe c.args.op c.args.xt (c.bridge.ensures heading) true false (Err c.in-Err.field-0)
     (world_by s _ c.args.op true (ap (λ (x : RootState). x.header.world) (sym c.self.view_is)) (sym c.of_world.ensures ∙ c.if-not-of_world.false))
     (ap (λ (v : Option ℕ). scoped_by_vmid c.args.op && is_none v) (sym (c.vmid_of-vmid.ensures heading h s))
-    ∙ (sym c.lacks_vmid.ensures ∙ c.if-lacks_vmid.false)) (sym c.in-Err.ensures.scope)
+    ∙ (ap (λ (b : Bool). b && is_none c.vmid_of-vmid.result) (sym c.scoped_by_vmid.ensures)
+    ∙ sym c.lacks_vmid.ensures ∙ c.if-lacks_vmid.false)) (sym c.in-Err.ensures.scope)

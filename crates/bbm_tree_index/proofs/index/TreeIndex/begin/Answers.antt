@@ -7,7 +7,7 @@ pub returns-in-Root-clause-same : goal.returns-in-Root-clause-same
 unfolding heading_of
 returns-in-Root-clause-same c = λ s h.
     let r = same_root c.args.self.now c.args.at.now c.requires.may c.in-Root.kind c.in-Root.first c.in-Root.is s h in
-    (r.0, r.1 ∙ sym c.start_at.ensures.value)
+    (r.0, r.1 ∙ sym c.start_level.ensures.value)
 
 pub returns-in-Root-clause-some : goal.returns-in-Root-clause-some
 unfolding heading_of

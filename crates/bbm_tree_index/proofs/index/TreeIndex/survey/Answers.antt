@@ -3,12 +3,12 @@ use Rattle.indexmap.specs.IndexMap.{get}
 use Rattle.bbm_tree_index.specs.Index.{fresh_in, heading_of, role_in}
 use Rattle.bbm_tree_index.proofs.index.TreeIndex.survey.Goals as goal
 
-pub returns-in-Ok-survey-clause-tables : goal.returns-in-Ok-survey-clause-tables
+pub returns-clause-tables : goal.returns-clause-tables
 unfolding fresh_in heading_of role_in
-returns-in-Ok-survey-clause-tables c = record {
-  first = get nat_eq c.in-Ok.first;
-  starting = c.in-Ok.ensures.start;
-  surveyed = c.in-Ok-survey.ensures.tables;
-  filled = omega (arith, c.in-Ok-survey.ensures.count);
-  count = λ s h. omega (arith, (c.begin-level.ensures.same s h).1, c.in-Ok-survey.ensures.count, c.begin-level.ensures.low);
+returns-clause-tables c = record {
+  first = get nat_eq c.in_ok-first.first;
+  starting = c.in_ok-first.ensures.start;
+  surveyed = c.in_ok-tables.ensures.tables;
+  filled = omega (arith, c.in_ok-tables.ensures.count);
+  count = λ s h. omega (arith, (c.begin-level.ensures.same s h).1, c.in_ok-tables.ensures.count, c.begin-level.ensures.low);
 }
