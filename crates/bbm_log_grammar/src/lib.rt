@@ -32,5 +32,5 @@ pub use machine_writing::write_machine;
 pub use numbers::{read_decimal, read_hex};
 pub use spell::{add, add_decimal, add_hex};
 pub use values::page_of;
-pub use words::kind_of;
+pub use words::kind_named;
 pub use write::{append_event, write_event, write_header};

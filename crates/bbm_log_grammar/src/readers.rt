@@ -7,7 +7,7 @@ ghost use Rattle.bbm_log_grammar.specs.InLine.{item_in, read_in};
 use crate::fields::Fields;
 use crate::line::LineItem;
 use crate::values::{count_of, is_marked, label_of, lock_of, pe_of, root_lock_of, root_page_of};
-use crate::words::{kind_of, reg_of};
+use crate::words::{kind_named, reg_of};
 use bbm_barriers::Dsb;
 use bbm_events::{Event, Header, Malformed, has_op};
 use bbm_regimes::{Kind, Page, Pe, Place, Reg};
@@ -105,7 +105,7 @@ pub(crate) fn kind_field<'a>(fields: Fields<'a>) -> Result<(Kind, Fields<'a>), M
     ensures { result ≡ lines.kind_field fields.entry }
 {
     let (text, rest) = fields.next_or(Malformed::MissingField)?;
-    let value = kind_of(text).ok_or(Malformed::UnknownWord)?;
+    let value = kind_named(text).ok_or(Malformed::UnknownWord)?;
     Ok((value, rest))
 }
 

@@ -4,7 +4,7 @@ ghost use Rattle.std.specs.Prelude.{◌≡◌, map};
 ghost use Rattle.std.specs.String.{string_bytes};
 ghost use Rattle.bbm_report.specs.Questions.{question_of, walk_asked};
 
-use bbm_log_grammar::{kind_of, page_of, read_hex};
+use bbm_log_grammar::{kind_named, page_of, read_hex};
 use bbm_regimes::{Kind, Page};
 
 /// Where the tables of a root map an address. Source: project's own choice.
@@ -22,7 +22,7 @@ pub struct Question {
 fn read_question(kind: &[u8], root: &[u8], addr: &[u8]) -> Option<Question>
     ensures { result ≡ question_of kind.now root.now addr.now }
 {
-    let kind = kind_of(kind)?;
+    let kind = kind_named(kind)?;
     let root = page_of(root)?;
     let addr = read_hex(addr)?;
     Some(Question { kind, root, addr })
