@@ -22,7 +22,7 @@ use bbm_oracle_tags::pages::count_initialised;
 use bbm_oracle_tags::{roots, values};
 use bbm_oracle_trees::History;
 use bbm_regimes::{Kind, NoMemory, Page, Pe, Place};
-use bbm_rules::{Checker, Fresh, Phase, StepFault};
+use bbm_rules::{Checker, Fresh, Logged, Phase, StepFault};
 use std::alloc::Global;
 
 /// A checker that keeps the header and the events that it took, with each TLBI the places that it covered, and searches
@@ -105,5 +105,11 @@ impl Checker for Oracle {
 impl Fresh for Oracle {
     fn fresh(alloc: Global, header: &Header) -> Result<Oracle, NoMemory> {
         Oracle::new(alloc, header)
+    }
+}
+
+impl Logged for Oracle {
+    fn log(&self) -> &[Event] {
+        self.history.events()
     }
 }

@@ -1,6 +1,6 @@
 //! What every checker of events promises.
 
-ghost use Rattle.std.specs.Prelude.{◌≡◌, ◌≢◌, ℕ, List, [], ◌∷◌, Bool, true, length, IfOk, OnOk, OnErr, Err};
+ghost use Rattle.std.specs.Prelude.{◌≡◌, ◌≢◌, ℕ, List, [], ◌∷◌, Bool, true, length, reverse, IfOk, OnOk, OnErr, Err};
 ghost use Rattle.bbm_events.specs.declared.event.Event.{Event};
 ghost use Rattle.bbm_events.specs.Heading.{Heading};
 ghost use Rattle.bbm_rules.specs.Answers.{Answers, MayAsk, MayTake, takes_no_memory, rewrites};
@@ -86,4 +86,12 @@ pub trait Fresh: Checker {
     /// A checker of this header that took no event.
     fn fresh(alloc: Global, header: &Header) -> Result<Self, NoMemory>
         ensures { IfOk result (λ checker. Self.stands checker header.now []) };
+}
+
+/// A checker that can tell its events.
+pub trait Logged: Checker {
+    /// The events taken, the oldest first.
+    fn log(&self) -> &[Event]
+        ensures { (heading : Heading) (h : List Event) → Self.stands self.now heading h
+            → reverse result.now ≡ h };
 }

@@ -14,7 +14,7 @@ pub mod tag_laws;
 pub mod verdict;
 
 pub use bbm_events::Claim;
-pub use checker::{Checker, Fresh};
+pub use checker::{Checker, Fresh, Logged};
 pub use event_laws::{
     law_changes, law_equality_tests, law_limits, law_lock_held, law_null, law_published,
     law_readable_register, law_root, law_tag_set, law_vmid,
