@@ -1,13 +1,14 @@
-//! The program: it gathers its words, and judges standard input to standard output.
+//! The program: it gathers its words, and does what they ask for, from standard input to standard output.
 #![tactic(auto)]
 
 use bbm_io::{StdSink, StdSource};
-use bbm_session::{number, run_words};
+use bbm_session::{Status, number, run};
+use std::io::ErrorKind;
 use std::process::ExitCode;
 use std::rt::Env;
 use std::{env, io};
 
-// The words after the program's name.
+/// The words after the program's name.
 fn words<R: Env + AllocGlobal>(rt: &R) -> io::Result<Vec<String>> {
     let mut words = Vec::new(rt.alloc());
     for word in env::args(rt)?.skip(1) {
@@ -16,8 +17,20 @@ fn words<R: Env + AllocGlobal>(rt: &R) -> io::Result<Vec<String>> {
     Ok(words)
 }
 
+// Words that couldn't be gathered, as where one isn't Unicode, ask for nothing. Where there was no memory for them
+// nothing is read or written.
 fn main(rt: HostRuntime) -> ExitCode {
     let mut log = StdSource::new(rt.stdin());
     let mut out = StdSink::new(rt.stdout());
-    ExitCode::from(number(run_words(rt.alloc(), words(&rt), &mut log, &mut out)))
+    let status = match words(&rt) {
+        Ok(words) => run(rt.alloc(), &words, &mut log, &mut out),
+        Err(error) => {
+            if error.kind() == ErrorKind::OutOfMemory {
+                Status::NoMemory
+            } else {
+                run(rt.alloc(), &Vec::new(rt.alloc()), &mut log, &mut out)
+            }
+        }
+    };
+    ExitCode::from(number(status))
 }

@@ -8,29 +8,32 @@ use Rattle.bbm_events.specs.declared.event.Item.TheVariants as item
 use Rattle.bbm_events.specs.Fits.{fits_heading, item_fits, label_fits}
 use Rattle.bbm_events.specs.Heading.{Heading}
 use Rattle.bbm_events.specs.declared.malformed.Malformed.{Malformed as Cause}
+use Rattle.bbm_events.specs.declared.malformed.Malformed.TheVariants.{WrongCount}
 use Rattle.bbm_events.specs.Lines.{header_of, item_of}
+use Rattle.bbm_rules.specs.declared.rule.Rule.{Rule}
 use Rattle.bbm_rules.specs.declared.verdict.Verdict.{Verdict}
 use Rattle.bbm_rules.specs.declared.verdict.Verdict.TheVariants.{Accepted, Refused, Malformed, Limit}
 use Rattle.bbm_rules.specs.declared.step_fault.StepFault.{StepFault}
 use Rattle.bbm_rules.specs.declared.step_fault.StepFault.TheVariants as step_fault
 use Rattle.bbm_rules.specs.Answers.{rewrites, takes_no_memory}
-use Rattle.bbm_rules.specs.Broken.{Breach, broken}
+use Rattle.bbm_rules.specs.Broken.{Breach, broken, keeps}
 use Rattle.bbm_rules.specs.Claims.{Patterns}
 use Rattle.bbm_rules.specs.Limits.{limit_of}
 use Rattle.bbm_rules.specs.declared.limits.Limits.{Limits}
 use Rattle.bbm_rules.specs.Outcome.{Text, is_too_long, limit_after, limit_at, AtHeader, AtEvents, AtEnd, after_header, after_item, after_event, after_judged, after_kept, after_line, too_long_at, cut_at, Progress, Step, Decides, GoesOn, Outcome, outcome_from, outcome_of, outcome_after, verdict_of_bytes, read_from, read_lines, goes_on_to, step_of, end_of, events_in, text_of}
 use Rattle.bbm_session.specs.declared.command.Command.{Command}
 use Rattle.bbm_session.specs.declared.command.Command.TheVariants.{Check, Slow, Explain, Walk}
+use Rattle.bbm_session.specs.declared.stop.Decision.{Decision}
 use Rattle.bbm_session.specs.declared.stop.Stop.{Stop}
 use Rattle.bbm_session.specs.declared.stop.Stop.TheVariants.{Decided, ReadFault, NoMemory}
 use Rattle.bbm_session.specs.declared.stop.Turn.{Turn}
 use Rattle.bbm_session.specs.declared.stop.Turn.TheVariants.{Taken, End}
-use Rattle.bbm_session.specs.Fold.{Fold, Halts, Ending, turned_by, end_by, ending_after, ending_from, ending_at, passes_to, lines_from, header_by, IsStart, IsInside, IsEnd}
-use Rattle.bbm_session.specs.Folds.{Judged, Judges, StopsKnown, judged_at, judged_by, event_needs, item_needs, line_needs, is_frugal, judging, judging_for}
+use Rattle.bbm_session.specs.Fold.{Fold, Turned, Halts, alone, refusing, Ending, turned_by, end_by, ending_after, ending_from, ending_at, passes_to, lines_from, header_by, IsStart, IsInside, IsEnd}
+use Rattle.bbm_session.specs.Folds.{Judged, Judges, StopsKnown, judged_at, judged_by, event_on, event_needs, item_needs, line_needs, is_frugal, judging, judging_for}
 use Rattle.bbm_session.specs.Run.{EventNeeds, ItemNeeds, NeedsMemory, NeedsRoom, ReadFor, ReadTo, ReadToFault, ReadToWant, UpTo, limits_of}
-use Rattle.bbm_session.specs.Stages.{all_fit, StopsAt, MayJudge, MayTakeLine, Keeps, Knows, KnowsAt, KnowsThat, KnowsWhy, JudgesLine, TakesLine, Ends}
+use Rattle.bbm_session.specs.Refused.{IsRefused}
+use Rattle.bbm_session.specs.Stages.{StopsAt, MayJudge, MayTakeLine, Keeps, KnowsAt, KnowsThat, KnowsWhy, RefusedOn, TellsEvent, JudgesLine, TakesLine, Ends, event_in}
 use Rattle.bbm_session.proofs.ReadBytes.{ByName, Named, ToFault, ToWant, read-by}
-use Rattle.bbm_session.proofs.Refusals.{names-place}
 
 -- ---- an event
 
@@ -47,24 +50,28 @@ needed true heading h e r barriers writes is =
     rw (first, second) refl
 needed false heading h e r barriers writes is = refl
 
--- an event behind others that fit
-pub fits-more : (heading : Heading) (e : EventOf) (h : List EventOf) → fits_heading heading e ≡ true → all_fit heading h ≡ true → all_fit heading (e ∷ h) ≡ true
-fits-more heading e h one rest = rw (one, rest) refl
+-- an event that fits and breaks no rule, behind others
+pub keeps-more : (stands stands' : Heading → List EventOf → Type 0) (heading : Heading) (h : List EventOf) (e : EventOf) → Keeps stands heading h → fits_heading heading e ≡ true → broken heading Patterns h e ≡ None → stands' heading (e ∷ h) → Keeps stands' heading (e ∷ h)
+keeps-more stands stands' heading h e kept fits unbroken known = record {
+  known = known;
+  fit = rw (fits, kept.fit) refl;
+  rules = rw (kept.rules, unbroken) refl;
+}
 
 module _ (stands : Heading → List EventOf → Type 0) (limits : Limits) (heading : Heading) where
-  refused-at : (wants : Type 0) (s : Stop) (n : ℕ) (h : List EventOf) (e : EventOf) (label : Option (List ℕ)) (breach : Option Breach) (which : Option Which) → breach ≡ broken heading Patterns h e → which ≡ limit_of h e → Keeps stands heading h → fits_heading heading e ≡ true → (s ≡ NoMemory → wants) → StopsAt s n label breach which → JudgesLine stands heading h wants (Err s) (after_judged limits n heading h e label breach)
-  refused-at wants (Decided v) n h e label (Some breach) which broke same keeps fits want stops =
-      let known : Knows stands heading h (Refused n breach.rule breach.at label) = (keeps, names-place heading h e breach fits (sym broke)) in
-      (ap Decides (sym stops), subst (λ (w : Verdict). Knows stands heading h w) (sym stops) known)
-  refused-at wants (Decided v) n h e label None (Some which) broke same keeps fits want stops =
-      (ap (λ (l : Option Which). after_kept n heading h e (limit_at limits n h l)) (sym same) ∙ ap Decides (sym stops), subst (λ (w : Verdict). Knows stands heading h w) (sym stops) tt)
-  refused-at wants (Decided v) n h e label None None broke same keeps fits want stops = absurd stops
-  refused-at wants ReadFault n h e label (Some breach) which broke same keeps fits want stops = absurd stops
-  refused-at wants ReadFault n h e label None which broke same keeps fits want stops = absurd stops
-  refused-at wants NoMemory n h e label breach which broke same keeps fits want stops = want refl
+  refused-at : (wants : Type 0) (s : Stop) (n : ℕ) (h : List EventOf) (e : EventOf) (label : Option (List ℕ)) (breach : Option Breach) (which : Option Which) → which ≡ limit_of h e → Keeps stands heading h → (s ≡ NoMemory → wants) → StopsAt s n e label breach which → JudgesLine stands heading h (Some e) wants (Err s) (after_judged limits n heading h e label breach)
+  refused-at wants (Decided d) n h e label (Some breach) which same kept want stops =
+      subst (λ (x : Decision). JudgesLine stands heading h (Some e) wants (Err (Decided x)) (Decides (Refused n breach.rule breach.at label))) (sym stops) (refl, refl, kept)
+  refused-at wants (Decided d) n h e label None (Some which) same kept want stops =
+      let step = ap (λ (l : Option Which). after_kept n heading h e (limit_at limits n h l)) (sym same) in
+      subst (λ (x : Decision). JudgesLine stands heading h (Some e) wants (Err (Decided x)) (after_judged limits n heading h e label None)) (sym stops) (step, refl, tt)
+  refused-at wants (Decided d) n h e label None None same kept want stops = absurd stops
+  refused-at wants ReadFault n h e label (Some breach) which same kept want stops = absurd stops
+  refused-at wants ReadFault n h e label None which same kept want stops = absurd stops
+  refused-at wants NoMemory n h e label breach which same kept want stops = want refl
 
-  pub event-refused : (wants : Type 0) (s : Stop) (n : ℕ) (h : List EventOf) (e : EventOf) (label : Option (List ℕ)) → Keeps stands heading h → fits_heading heading e ≡ true → (s ≡ NoMemory → wants) → StopsAt s n label (broken heading Patterns h e) (limit_of h e) → JudgesLine stands heading h wants (Err s) (after_event Patterns limits n heading h e label)
-  event-refused wants s n h e label keeps fits want stops = refused-at wants s n h e label (broken heading Patterns h e) (limit_of h e) refl refl keeps fits want stops
+  pub event-refused : (wants : Type 0) (s : Stop) (n : ℕ) (h : List EventOf) (e : EventOf) (label : Option (List ℕ)) → Keeps stands heading h → (s ≡ NoMemory → wants) → StopsAt s n e label (broken heading Patterns h e) (limit_of h e) → JudgesLine stands heading h (Some e) wants (Err s) (after_event Patterns limits n heading h e label)
+  event-refused wants s n h e label kept want stops = refused-at wants s n h e label (broken heading Patterns h e) (limit_of h e) refl kept want stops
 
   kept-event : (n : ℕ) (h : List EventOf) (e : EventOf) (label : Option (List ℕ)) (which : Option Which) → broken heading Patterns h e ≡ None → limit_of h e ≡ None → limit_after limits n (length h) ≡ which → after_event Patterns limits n heading h e label ≡ after_kept n heading h e which
   kept-event n h e label which kept free reached = rw (kept, free, reached) refl
@@ -78,13 +85,13 @@ module _ (stands : Heading → List EventOf → Type 0) (limits : Limits) (headi
 -- what was read of a line can be judged
 pub may-judge : (frugal : Bool) (stands : Heading → List EventOf → Type 0) (limits : Limits) (heading : Heading) (n : ℕ) (read : Result Item Cause) → MayTakeLine (Judges frugal stands limits) heading n → n < 2 ^ 64 → IfOk read (λ item. item_fits heading item ≡ true) → MayJudge stands read
 may-judge frugal stands limits heading n (Ok (item.Event event label)) at small fits =
-    (heading, at.2.h, at.2.keeps.0, (and_parts (fits_heading heading event) (label_fits heading.version label) fits).0, omega (arith, at.2.number, small))
+    (heading, at.2.h, at.2.keeps.known, (and_parts (fits_heading heading event) (label_fits heading.version label) fits).0, omega (arith, at.2.number, small))
 may-judge frugal stands limits heading n (Ok (item.End count)) at small fits = tt
 may-judge frugal stands limits heading n (Err cause) at small fits = tt
 
 -- ---- the parts of a log
 
-header-is : (frugal : Bool) (limits : Limits) (r : Result Heading Cause) → judged_by AtHeader (after_header 1 r) ≡ header_by (judging frugal limits) AtHeader (λ heading. AtEvents heading []) r
+header-is : (frugal : Bool) (limits : Limits) (r : Result Heading Cause) → judged_by AtHeader None (after_header 1 r) ≡ header_by (judging frugal limits) AtHeader (λ heading. AtEvents heading []) r
 header-is frugal limits (Ok heading) = refl
 header-is frugal limits (Err cause) = refl
 
@@ -99,36 +106,40 @@ judging-end frugal limits heading h = record { line = λ n l. refl; long = λ n.
 
 -- ---- a line
 
+-- a line stops reading with this said
+abbrev pub halting : Judged → Turned Progress Judged
+halting v = Halts v
+
 knows-more : (a b : Type 0) (v : Verdict) → (a → b) → KnowsThat a v → KnowsThat b v
 knows-more a b (Accepted events) more known = more known
-knows-more a b (Refused line rule at label) more known = (more known.0, known.1)
+knows-more a b (Refused line rule at label) more known = more known
 knows-more a b (Malformed line cause) more known = tt
 knows-more a b (Limit line which) more known = tt
 
-judged-at : (frugal : Bool) (stands : Heading → List EventOf → Type 0) (limits : Limits) (heading : Heading) (h : List EventOf) (n : ℕ) (line : List ℕ) (r : Result Turn Stop) → n ≡ length h + 2 → JudgesLine stands heading h (item_needs frugal heading h (item_of heading line) ≡ true) r (after_item Patterns limits n heading h (item_of heading line)) → TakesLine (judging frugal limits) (Judges frugal stands limits (judging frugal limits) heading) n (AtEvents heading h) line r
+judged-at : (frugal : Bool) (stands : Heading → List EventOf → Type 0) (limits : Limits) (heading : Heading) (h : List EventOf) (n : ℕ) (line : List ℕ) (r : Result Turn Stop) → n ≡ length h + 2 → JudgesLine stands heading h (event_in (item_of heading line)) (item_needs frugal heading h (item_of heading line) ≡ true) r (after_item Patterns limits n heading h (item_of heading line)) → TakesLine (judging frugal limits) (Judges frugal stands limits (judging frugal limits) heading) n (AtEvents heading h) line r
 judged-at frugal stands limits heading h n line (Ok Taken) number judged = (
   AtEvents heading judged.0,
-  ap (judged_by (AtEvents heading h)) judged.1,
+  ap (judged_by (AtEvents heading h) (event_in (item_of heading line))) judged.1,
   judging-inside frugal limits heading judged.0,
   record { h = judged.0; fold_is = refl; is = refl; keeps = judged.2; number = omega (arith, judged.3, number) },
 )
 judged-at frugal stands limits heading h n line (Ok End) number judged = (
   AtEnd h,
-  ap (judged_by (AtEvents heading h)) judged.0,
+  ap (judged_by (AtEvents heading h) (event_in (item_of heading line))) judged.0,
   judging-end frugal limits heading h,
   record { h = h; fold_is = refl; is = refl; keeps = judged.1; number = number },
 )
-judged-at frugal stands limits heading h n line (Err (Decided v)) number judged = (
-  ap (judged_by (AtEvents heading h)) judged.0,
-  knows-more (Keeps stands heading h) (Judges frugal stands limits (judging frugal limits) heading (AtEvents heading h) n) v
-      (λ keeps. record { h = h; fold_is = refl; is = refl; keeps = keeps; number = number }) judged.1,
+judged-at frugal stands limits heading h n line (Err (Decided d)) number judged = (
+  ap (judged_by (AtEvents heading h) (event_in (item_of heading line))) judged.0 ∙ ap (λ (x : Decision). halting (judged_at (AtEvents heading h) x)) (sym judged.1),
+  knows-more (Keeps stands heading h) (Judges frugal stands limits (judging frugal limits) heading (AtEvents heading h) n) d.verdict
+      (λ kept. record { h = h; fold_is = refl; is = refl; keeps = kept; number = number }) judged.2,
 )
 judged-at frugal stands limits heading h n line (Err ReadFault) number judged = absurd judged
 judged-at frugal stands limits heading h n line (Err NoMemory) number judged = judged
 
-pub judged-takes : (frugal frugal' : Bool) (stands stands' : Heading → List EventOf → Type 0) (limits : Limits) (heading : Heading) (fold : Fold Progress Judged) (p : Progress) (n : ℕ) (line : List ℕ) (read : Result Item Cause) (r : Result Turn Stop) → frugal' ≡ frugal → Judges frugal stands limits fold heading p n → read ≡ item_of heading line → ((h : List EventOf) → Keeps stands heading h → JudgesLine stands' heading h (item_needs frugal heading h read ≡ true) r (after_item Patterns limits n heading h read)) → TakesLine fold (Judges frugal' stands' limits fold heading) n p line r
+pub judged-takes : (frugal frugal' : Bool) (stands stands' : Heading → List EventOf → Type 0) (limits : Limits) (heading : Heading) (fold : Fold Progress Judged) (p : Progress) (n : ℕ) (line : List ℕ) (read : Result Item Cause) (r : Result Turn Stop) → frugal' ≡ frugal → Judges frugal stands limits fold heading p n → read ≡ item_of heading line → ((h : List EventOf) → Keeps stands heading h → JudgesLine stands' heading h (event_in read) (item_needs frugal heading h read ≡ true) r (after_item Patterns limits n heading h read)) → TakesLine fold (Judges frugal' stands' limits fold heading) n p line r
 judged-takes frugal frugal' stands stands' limits heading fold p n line read r same judges is says =
-    let judged = subst (λ (x : Result Item Cause). JudgesLine stands' heading judges.h (item_needs frugal heading judges.h x ≡ true) r (after_item Patterns limits n heading judges.h x)) is (says judges.h judges.keeps) in
+    let judged = subst (λ (x : Result Item Cause). JudgesLine stands' heading judges.h (event_in x) (item_needs frugal heading judges.h x ≡ true) r (after_item Patterns limits n heading judges.h x)) is (says judges.h judges.keeps) in
     let at = judged-at frugal stands' limits heading judges.h n line r judges.number judged in
     subst (λ (b : Bool). TakesLine fold (Judges b stands' limits fold heading) n p line r) (sym same)
     (subst (λ (f : Fold Progress Judged). TakesLine f (Judges frugal stands' limits f heading) n p line r) (sym judges.fold_is)
@@ -140,22 +151,121 @@ judged-takes frugal frugal' stands stands' limits heading fold p n line read r s
 known-events : (stands : Heading → List EventOf → Type 0) (frugal frugal' : Bool) (limits limits' : Limits) (heading : Heading) (q : Progress) (m : ℕ) → Judges frugal' stands limits' (judging frugal limits) heading q m → Keeps stands heading (events_in q)
 known-events stands frugal frugal' limits limits' heading q m judges = subst (λ (x : Progress). Keeps stands heading (events_in x)) (sym judges.is) judges.keeps
 
-knows-events : (stands : Heading → List EventOf → Type 0) (frugal frugal' : Bool) (limits limits' : Limits) (heading : Heading) (q : Progress) (m : ℕ) (s : Stop) → KnowsWhy (Judges frugal' stands limits' (judging frugal limits) heading q m) s → KnowsAt stands heading (events_in q) s
-knows-events stands frugal frugal' limits limits' heading q m (Decided v) known =
-    knows-more (Judges frugal' stands limits' (judging frugal limits) heading q m) (Keeps stands heading (events_in q)) v (known-events stands frugal frugal' limits limits' heading q m) known
-knows-events stands frugal frugal' limits limits' heading q m ReadFault known = tt
-knows-events stands frugal frugal' limits limits' heading q m NoMemory known = tt
+-- the verdict that decides
+pub refusing-verdict : (event : Option EventOf) (v : Verdict) → (refusing event v).verdict ≡ v
+refusing-verdict event (Accepted events) = refl
+refusing-verdict event (Refused line rule at label) = refl
+refusing-verdict event (Malformed line cause) = refl
+refusing-verdict event (Limit line which) = refl
 
-pub judged-ends : (stands : Heading → List EventOf → Type 0) (frugal frugal' : Bool) (limits limits' : Limits) (heading : Heading) (p : Progress) (r : Result (Unit {0}) Stop) (stop : Stop) (old new : Option (List ℕ)) (f f' : ℕ) → Ends (judging frugal limits) (Judges frugal' stands limits' (judging frugal limits) heading) p r old new f f' → ((h : List EventOf) → stands heading h → OnOk r (stop ≡ Decided (Accepted (length h)))) → IfErr r (λ s. stop ≡ s) → StopsKnown frugal stands limits heading p stop old new f f'
-judged-ends stands frugal frugal' limits limits' heading p (Ok u) stop old new f f' ends accepted stopped =
+halts-is : (v w : Judged) → halting v ≡ halting w → v ≡ w
+halts-is v w is = cc
+
+-- the parts of a breach
+same-breach : (breach : Breach) (rule : Rule) (at : ℕ) → breach.rule ≡ rule → breach.at ≡ at → Some breach ≡ Some (record { rule = rule; at = at })
+same-breach breach rule at by_rule by_number =
+    ap (λ (x : Rule). Some (record { rule = x; at = breach.at })) by_rule ∙ ap (λ (x : ℕ). Some (record { rule = rule; at = x })) by_number
+
+-- what a step decides
+pub decided-by : (p : Progress) (event : Option EventOf) (s : Step) (v : Judged) → judged_by p event s ≡ Halts v
+    → (s ≡ Decides v.verdict) × (v.refused ≡ (refusing event v.verdict).refused) × (v.log ≡ events_in p)
+decided-by p event (Decides verdict) v is =
+    let judged : judged_at p (refusing event verdict) ≡ v = halts-is (judged_at p (refusing event verdict)) v is in
+    let same : verdict ≡ v.verdict = sym (refusing-verdict event verdict) ∙ ap (λ (x : Judged). x.verdict) judged in
+    (ap Decides same, sym (ap (λ (x : Judged). x.refused) judged) ∙ ap (λ (w : Verdict). (refusing event w).refused) same, sym (ap (λ (x : Judged). x.log) judged))
+decided-by p event (GoesOn next) v is = cc
+
+-- an event with its label was read
+abbrev said : EventOf → Option (List ℕ) → Result Item Cause
+said e label = Ok (item.Event e label)
+
+module _ (limits : Limits) (heading : Heading) (h : List EventOf) (n line : ℕ) (rule : Rule) (at : ℕ) (label : Option (List ℕ)) where
+  -- An event of line n is refused.
+  pub record Refuses (read : Result Item Cause) : Type 0 where
+    pub event : EventOf
+    pub says : read ≡ Ok (item.Event event label)
+    pub count : line ≡ n
+    pub refused : IsRefused heading h rule at event
+
+  refuses-breach : (e : EventOf) (label' : Option (List ℕ)) (breach : Option Breach) → broken heading Patterns h e ≡ breach → fits_heading heading e ≡ true
+      → after_judged limits n heading h e label' breach ≡ Decides (Refused line rule at label) → Refuses (Ok (item.Event e label'))
+  refuses-breach e label' (Some breach) broke fits is =
+      let same : label' ≡ label = cc in
+      let by_rule : breach.rule ≡ rule = cc in
+      let by_number : breach.at ≡ at = cc in
+      record {
+        event = e;
+        says = subst (λ (l : Option (List ℕ)). said e label' ≡ said e l) same refl;
+        count = cc;
+        refused = record { fits = fits; breaks = broke ∙ same-breach breach rule at by_rule by_number };
+      }
+  refuses-breach e label' None broke fits is = by (limit_at limits n h (limit_of h e)) is
+    where
+      by : (limit : Option Which) → after_kept n heading h e limit ≡ Decides (Refused line rule at label) → Refuses (Ok (item.Event e label'))
+      by (Some which) same = cc
+      by None same = cc
+
+  -- where a line refuses an event
+  pub refuses-item : (read : Result Item Cause) → IfOk read (λ i. item_fits heading i ≡ true)
+      → after_item Patterns limits n heading h read ≡ Decides (Refused line rule at label) → Refuses read
+  refuses-item (Ok (item.Event e label')) fits is =
+      refuses-breach e label' (broken heading Patterns h e) refl (and_parts (fits_heading heading e) (label_fits heading.version label') fits).0 is
+  refuses-item (Ok (item.End count)) fits is = by (count == length h) is
+    where
+      by : (b : Bool) → (if b then GoesOn (AtEnd h) else Decides (Malformed n WrongCount)) ≡ Decides (Refused line rule at label) → Refuses (Ok (item.End count))
+      by true same = cc
+      by false same = cc
+  refuses-item (Err cause) fits is = cc
+
+-- what is read of a line fits its header
+abbrev pub AllFit : Type 0
+AllFit = (heading : Heading) (line : List ℕ) (i : Item) → item_of heading line ≡ Ok i → item_fits heading i ≡ true
+
+pub fits-read : AllFit → (heading : Heading) (line : List ℕ) → IfOk (item_of heading line) (λ i. item_fits heading i ≡ true)
+fits-read all heading line = by (item_of heading line) (all heading line)
+  where
+    by : (read : Result Item Cause) → ((i : Item) → read ≡ Ok i → item_fits heading i ≡ true) → IfOk read (λ i. item_fits heading i ≡ true)
+    by (Ok i) fits = fits i refl
+    by (Err cause) fits = tt
+
+-- the event that a line refuses is told
+tells-event : AllFit → (frugal : Bool) (limits : Limits) (heading : Heading) (h : List EventOf) (n : ℕ) (d : Decision) (v : Verdict) → d.verdict ≡ v
+    → RefusedOn (judging frugal limits) n (AtEvents heading h) d v → TellsEvent heading h v d.refused
+tells-event all frugal limits heading h n d (Accepted events) same on = tt
+tells-event all frugal limits heading h n d (Refused line rule at label) same on =
+    let by = decided-by (AtEvents heading h) (event_in (item_of heading on.0)) (after_item Patterns limits n heading h (item_of heading on.0)) (judged_at (AtEvents heading h) d) on.1 in
+    let refuses = refuses-item limits heading h n line rule at label (item_of heading on.0) (fits-read all heading on.0) (by.0 ∙ ap Decides same) in
+    (refuses.event, by.1 ∙ ap (λ (w : Verdict). (refusing (event_in (item_of heading on.0)) w).refused) same ∙ ap event_in refuses.says, refuses.refused)
+tells-event all frugal limits heading h n d (Malformed line cause) same on = tt
+tells-event all frugal limits heading h n d (Limit line which) same on = tt
+
+knows-at : AllFit → (stands : Heading → List EventOf → Type 0) (frugal frugal' : Bool) (limits limits' : Limits) (heading : Heading) (q : Progress) (m : ℕ) (d : Decision) (v : Verdict) → d.verdict ≡ v
+    → KnowsThat (Judges frugal' stands limits' (judging frugal limits) heading q m) v → RefusedOn (judging frugal limits) m q d v
+    → KnowsThat (Keeps stands heading (events_in q)) v × TellsEvent heading (events_in q) v d.refused
+knows-at all stands frugal frugal' limits limits' heading q m d (Accepted events) same judges on = (known-events stands frugal frugal' limits limits' heading q m judges, tt)
+knows-at all stands frugal frugal' limits limits' heading q m d (Refused line rule at label) same judges on =
+    let at_events = subst (λ (x : Progress). RefusedOn (judging frugal limits) m x d (Refused line rule at label)) judges.is on in
+    let tells = tells-event all frugal limits heading judges.h m d (Refused line rule at label) same at_events in
+    (known-events stands frugal frugal' limits limits' heading q m judges, subst (λ (x : Progress). TellsEvent heading (events_in x) (Refused line rule at label) d.refused) (sym judges.is) tells)
+knows-at all stands frugal frugal' limits limits' heading q m d (Malformed line cause) same judges on = (tt, tt)
+knows-at all stands frugal frugal' limits limits' heading q m d (Limit line which) same judges on = (tt, tt)
+
+knows-events : AllFit → (stands : Heading → List EventOf → Type 0) (frugal frugal' : Bool) (limits limits' : Limits) (heading : Heading) (q : Progress) (m : ℕ) (s : Stop)
+    → KnowsWhy (judging frugal limits) (Judges frugal' stands limits' (judging frugal limits) heading) m q s → KnowsAt stands heading (events_in q) s
+knows-events all stands frugal frugal' limits limits' heading q m (Decided d) known = knows-at all stands frugal frugal' limits limits' heading q m d d.verdict refl known.0 known.1
+knows-events all stands frugal frugal' limits limits' heading q m ReadFault known = tt
+knows-events all stands frugal frugal' limits limits' heading q m NoMemory known = tt
+
+pub judged-ends : AllFit → (stands : Heading → List EventOf → Type 0) (frugal frugal' : Bool) (limits limits' : Limits) (heading : Heading) (p : Progress) (r : Result (Unit {0}) Stop) (stop : Stop) (old new : Option (List ℕ)) (f f' : ℕ) → Ends (judging frugal limits) (Judges frugal' stands limits' (judging frugal limits) heading) p r old new f f' → ((h : List EventOf) → stands heading h → OnOk r (stop ≡ Decided (alone (Accepted (length h))))) → IfErr r (λ s. stop ≡ s) → StopsKnown frugal stands limits heading p stop old new f f'
+judged-ends all stands frugal frugal' limits limits' heading p (Ok u) stop old new f f' ends accepted stopped =
     let q = ends.0 in
-    let keeps = known-events stands frugal frugal' limits limits' heading q ends.1 ends.3 in
-    let is = accepted (events_in q) keeps.0 in
+    let kept = known-events stands frugal frugal' limits limits' heading q ends.1 ends.3 in
+    let is = accepted (events_in q) kept.known in
     subst (λ (s : Stop). StopsKnown frugal stands limits heading p s old new f f') (sym is)
-    (record { reached = q; stops = (ends.2, ends.4); known = keeps })
-judged-ends stands frugal frugal' limits limits' heading p (Err s) stop old new f f' ends accepted stopped =
+    (record { reached = q; stops = (ends.2, ends.4); known = (kept, tt) })
+judged-ends all stands frugal frugal' limits limits' heading p (Err s) stop old new f f' ends accepted stopped =
     subst (λ (x : Stop). StopsKnown frugal stands limits heading p x old new f f') (sym stopped)
-    (record { reached = ends.0; stops = ends.2; known = knows-events stands frugal frugal' limits limits' heading ends.0 ends.1 s ends.3 })
+    (record { reached = ends.0; stops = ends.2; known = knows-events all stands frugal frugal' limits limits' heading ends.0 ends.1 s ends.3 })
 
 -- ---- the line that a verdict names
 
@@ -180,45 +290,57 @@ read_for (Limit line which) read unread f = up_to line read unread f
 abbrev pub outcome_said : Ending Judged → Outcome
 outcome_said o = record { verdict = o.says.verdict; unread = o.unread; log = o.says.log }
 
-step-is : (frugal : Bool) (limits : Limits) (n : ℕ) (p : Progress) (line : List ℕ) → turned_by (judging frugal limits) n p line ≡ judged_by p (step_of Patterns limits n p line)
+-- a line that is too long refuses no event
+unrefused : (event : Option EventOf) (n : ℕ) (p : Progress) → alone (too_long_at n p) ≡ refusing event (too_long_at n p)
+unrefused event n AtHeader = refl
+unrefused event n (AtEvents heading h) = refl
+unrefused event n (AtEnd h) = refl
+
+pub step-is : (frugal : Bool) (limits : Limits) (n : ℕ) (p : Progress) (line : List ℕ) → turned_by (judging frugal limits) n p line ≡ judged_by p (event_on p line) (step_of Patterns limits n p line)
 unfolding step_of turned_by
 step-is frugal limits n p line = by (is_too_long line)
   where
-    by : (b : Bool) → (if b then Halts (judged_at p (too_long_at n p)) else judged_by p (after_line Patterns limits n p line)) ≡ judged_by p (if b then Decides (too_long_at n p) else after_line Patterns limits n p line)
-    by true = refl
+    by : (b : Bool) → (if b then Halts (judged_at p (alone (too_long_at n p))) else judged_by p (event_on p line) (after_line Patterns limits n p line)) ≡ judged_by p (event_on p line) (if b then Decides (too_long_at n p) else after_line Patterns limits n p line)
+    by true = ap (λ (x : Decision). halting (judged_at p x)) (unrefused (event_on p line) n p)
     by false = refl
 
-end-is : (frugal : Bool) (limits : Limits) (n : ℕ) (p : Progress) (rest : List ℕ) → end_by (judging frugal limits) n p rest ≡ judged_at p (end_of n p rest)
+pub end-is : (frugal : Bool) (limits : Limits) (n : ℕ) (p : Progress) (rest : List ℕ) → end_by (judging frugal limits) n p rest ≡ judged_at p (alone (end_of n p rest))
 unfolding end_of end_by
 end-is frugal limits n p rest = by (is_too_long rest)
   where
-    by : (b : Bool) → (if b then judged_at p (too_long_at n p) else judged_at p (cut_at n p rest)) ≡ judged_at p (if b then too_long_at n p else cut_at n p rest)
+    by : (b : Bool) → (if b then judged_at p (alone (too_long_at n p)) else judged_at p (alone (cut_at n p rest))) ≡ judged_at p (alone (if b then too_long_at n p else cut_at n p rest))
     by true = refl
     by false = refl
 
 module _ (frugal : Bool) (limits : Limits) where
-  after-is : (n : ℕ) (p : Progress) (line : List ℕ) (lines : List (List ℕ)) (rest : List ℕ) (s : Step) → ((next : Progress) → outcome_from Patterns limits (suc n) next lines rest ≡ outcome_said (ending_from (judging frugal limits) (suc n) next lines rest))
-      → outcome_after p line lines rest (λ next. outcome_from Patterns limits (suc n) next lines rest) s ≡ outcome_said (ending_after line lines rest (λ next. ending_from (judging frugal limits) (suc n) next lines rest) (judged_by p s))
-  after-is n p line lines rest (Decides v) behind = refl
-  after-is n p line lines rest (GoesOn next) behind = behind next
+  after-is : (n : ℕ) (p : Progress) (event : Option EventOf) (line : List ℕ) (lines : List (List ℕ)) (rest : List ℕ) (s : Step) → ((next : Progress) → outcome_from Patterns limits (suc n) next lines rest ≡ outcome_said (ending_from (judging frugal limits) (suc n) next lines rest))
+      → outcome_after p line lines rest (λ next. outcome_from Patterns limits (suc n) next lines rest) s ≡ outcome_said (ending_after line lines rest (λ next. ending_from (judging frugal limits) (suc n) next lines rest) (judged_by p event s))
+  after-is n p event line lines rest (Decides v) behind = by v
+    where
+      by : (w : Verdict) → outcome_after p line lines rest (λ next. outcome_from Patterns limits (suc n) next lines rest) (Decides w) ≡ outcome_said (ending_after line lines rest (λ next. ending_from (judging frugal limits) (suc n) next lines rest) (judged_by p event (Decides w)))
+      by (Accepted events) = refl
+      by (Refused number rule at label) = refl
+      by (Malformed number cause) = refl
+      by (Limit number which) = refl
+  after-is n p event line lines rest (GoesOn next) behind = behind next
 
   outcome-is : (n : ℕ) (p : Progress) (lines : List (List ℕ)) (rest : List ℕ) → outcome_from Patterns limits n p lines rest ≡ outcome_said (ending_from (judging frugal limits) n p lines rest)
   outcome-is n p [] rest = rw (end-is frugal limits n p rest) refl
   outcome-is n p (line ∷ lines) rest =
-      rw (step-is frugal limits n p line) (after-is n p line lines rest (step_of Patterns limits n p line) (λ next. outcome-is (suc n) next lines rest))
+      rw (step-is frugal limits n p line) (after-is n p (event_on p line) line lines rest (step_of Patterns limits n p line) (λ next. outcome-is (suc n) next lines rest))
 
   pub outcome-said : (bytes : List ℕ) → outcome_of Patterns limits bytes ≡ outcome_said (ending_at (judging frugal limits) 1 AtHeader bytes)
   outcome-said bytes = outcome-is 1 AtHeader (text_of bytes).lines (text_of bytes).rest
 
-  goes-is : (n : ℕ) (p : Progress) (lines : List (List ℕ)) (s : Step) → ((next : Progress) → read_from Patterns limits (suc n) next lines ≡ lines_from (judging frugal limits) (suc n) next lines)
-      → goes_on_to (λ next. read_from Patterns limits (suc n) next lines) s ≡ passes_to (λ next. lines_from (judging frugal limits) (suc n) next lines) (judged_by p s)
-  goes-is n p lines (Decides v) behind = refl
-  goes-is n p lines (GoesOn next) behind = behind next
+  goes-is : (n : ℕ) (p : Progress) (event : Option EventOf) (lines : List (List ℕ)) (s : Step) → ((next : Progress) → read_from Patterns limits (suc n) next lines ≡ lines_from (judging frugal limits) (suc n) next lines)
+      → goes_on_to (λ next. read_from Patterns limits (suc n) next lines) s ≡ passes_to (λ next. lines_from (judging frugal limits) (suc n) next lines) (judged_by p event s)
+  goes-is n p event lines (Decides v) behind = refl
+  goes-is n p event lines (GoesOn next) behind = behind next
 
   read-is : (n : ℕ) (p : Progress) (lines : List (List ℕ)) → read_from Patterns limits n p lines ≡ lines_from (judging frugal limits) n p lines
   read-is n p [] = refl
   read-is n p (line ∷ lines) =
-      rw (step-is frugal limits n p line) (goes-is n p lines (step_of Patterns limits n p line) (λ next. read-is (suc n) next lines))
+      rw (step-is frugal limits n p line) (goes-is n p (event_on p line) lines (step_of Patterns limits n p line) (λ next. read-is (suc n) next lines))
 
   -- ---- the line that is named
 
@@ -264,15 +386,15 @@ module _ (frugal : Bool) (limits : Limits) where
   names_cut n (AtEnd h) [] = inr refl
   names_cut n (AtEnd h) (b ∷ rest) = inl refl
 
-  names_said : (n : ℕ) (p : Progress) (s : Step) (v : Judged) → Names n s → judged_by p s ≡ Halts v → named_line v.verdict ≡ Some n
-  names_said n p (Decides verdict) v names is =
-      let same : verdict ≡ v.verdict = cc in
+  names_said : (n : ℕ) (p : Progress) (event : Option EventOf) (s : Step) (v : Judged) → Names n s → judged_by p event s ≡ Halts v → named_line v.verdict ≡ Some n
+  names_said n p event (Decides verdict) v names is =
+      let same : verdict ≡ v.verdict = sym (refusing-verdict event verdict) ∙ ap (λ (x : Judged). x.verdict) (halts-is (judged_at p (refusing event verdict)) v is) in
       subst (λ (w : Verdict). named_line w ≡ Some n) same names
-  names_said n p (GoesOn next) v names is = cc
+  names_said n p event (GoesOn next) v names is = cc
 
   judging-named : Named (judging frugal limits) (λ v. named_line v.verdict)
   judging-named = record {
-    line = λ n p l v is. names_said n p (after_line Patterns limits n p l) v (names_line n p l) is;
+    line = λ n p l v is. names_said n p (event_on p l) (after_line Patterns limits n p l) v (names_line n p l) is;
     long = names_long;
     cut = names_cut;
   }

@@ -1,4 +1,5 @@
 pub mod Texts
+pub mod RefusedLines
 pub mod Refusals
 pub mod Puts
 pub mod Pouring

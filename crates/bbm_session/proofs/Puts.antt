@@ -14,9 +14,13 @@ use Rattle.bbm_rules.specs.declared.verdict.Verdict.{Verdict}
 use Rattle.bbm_rules.specs.declared.verdict.Verdict.TheVariants.{Accepted, Refused, Malformed, Limit}
 use Rattle.bbm_rules.specs.Claims.{Patterns}
 use Rattle.bbm_rules.specs.Phases.{phase_of}
+use Rattle.bbm_rules.specs.Texts.{verdict_text}
 use Rattle.bbm_report.specs.Further.{explained, lines_of_rule, phase_lines}
 use Rattle.bbm_report.specs.Lines.{phase_text}
-use Rattle.bbm_session.specs.Stages.{Keeps, Knows}
+use Rattle.bbm_session.specs.declared.command.Command.{Command}
+use Rattle.bbm_session.specs.declared.command.Command.TheVariants.{Check, Slow, Explain, Walk}
+use Rattle.bbm_session.specs.Run.{FurtherIn, Says}
+use Rattle.bbm_session.specs.Stages.{EndsThere, Keeps, Knows}
 use Rattle.bbm_session.specs.Telling.{place_named, place_of_rule}
 use Rattle.bbm_session.specs.Writing.{Part, Puts}
 
@@ -126,3 +130,21 @@ knows-keeps stands heading h (Refused line rule at label) place is knows = knows
 knows-keeps stands heading h (Accepted events) place is knows = cc
 knows-keeps stands heading h (Malformed line cause) place is knows = cc
 knows-keeps stands heading h (Limit line which) place is knows = cc
+
+-- a verdict behind which nothing is said
+nothing-further : (command : Command) (heading : Option Heading) (h : List EventOf) (v : Verdict) → EndsThere v → FurtherIn command heading h v []
+nothing-further command heading h (Accepted events) ends = absurd ends
+nothing-further command heading h (Refused line rule at label) ends = absurd ends
+nothing-further command None h (Malformed line cause) ends = refl
+nothing-further Check (Some heading) h (Malformed line cause) ends = refl
+nothing-further Slow (Some heading) h (Malformed line cause) ends = refl
+nothing-further Explain (Some heading) h (Malformed line cause) ends = refl
+nothing-further (Walk question) (Some heading) h (Malformed line cause) ends = refl
+nothing-further command None h (Limit line which) ends = refl
+nothing-further Check (Some heading) h (Limit line which) ends = refl
+nothing-further Slow (Some heading) h (Limit line which) ends = refl
+nothing-further Explain (Some heading) h (Limit line which) ends = refl
+nothing-further (Walk question) (Some heading) h (Limit line which) ends = refl
+
+pub says-line : (command : Command) (heading : Option Heading) (h : List EventOf) (v : Verdict) → EndsThere v → Says command heading h v (verdict_text v)
+says-line command heading h v ends = ([], sym (append-nil (verdict_text v)), nothing-further command heading h v ends)

@@ -7,6 +7,8 @@ use Rattle.bbm_events.specs.declared.event.Event.TheVariants.{Init, Null, Root, 
 use Rattle.bbm_events.specs.Fits.{fits_heading, is_pe, is_place, is_value}
 use Rattle.bbm_events.specs.Heading.{Heading}
 use Rattle.bbm_rules.specs.declared.rule.Rule.{Rule}
+use Rattle.bbm_rules.specs.declared.verdict.Verdict.{Verdict}
+use Rattle.bbm_rules.specs.declared.verdict.Verdict.TheVariants.{Accepted, Refused, Malformed, Limit}
 use Rattle.bbm_rules.specs.declared.rule.Rule.TheVariants.{WrongWorld, NoLock, NullWritten, BreakBeforeMake, LimboMake, NotFresh, RewrittenFresh, BadKind, GlobalUser, PageInUse, NoRoot, TagConflict, RootInUse, UnsyncedVmid, BadOperand, LockBusy, LockNotMine}
 use Rattle.bbm_rules.specs.Broken.{Breach, rules, breaks, first_broken, broken}
 use Rattle.bbm_rules.specs.Claims.{Patterns}
@@ -16,7 +18,7 @@ use Rattle.bbm_rules.specs.Notes.{Noted}
 use Rattle.bbm_rules.specs.Places.{page_of}
 use Rattle.bbm_rules.specs.Rules.{break_before_make}
 use Rattle.bbm_rules.specs.Tree.{node_of, held_at}
-use Rattle.bbm_session.specs.Stages.{NamesPlace}
+use Rattle.bbm_session.specs.Stages.{Keeps, Knows, KnowsThat, NamesPlace, TellsEvent}
 
 module _ (heading : Heading) (h : List Noted) (e : EventOf) where
   -- where the rule of a breach is broken at its number, or one behind it is
@@ -95,3 +97,12 @@ pub names-place : (heading : Heading) (h : List EventOf) (e : EventOf) (breach :
 unfolding broken
 names-place heading h e breach fits is =
     of-rule heading (noted heading Patterns h) e breach.rule breach.at fits (first-named heading (noted heading Patterns h) e rules breach is)
+
+-- what is told of a verdict, by the event that it refuses
+pub names-it : (stands : Heading → List EventOf → Type 0) (heading : Heading) (h : List EventOf) (v : Verdict) (refused : Option EventOf)
+    → KnowsThat (Keeps stands heading h) v → TellsEvent heading h v refused → Knows stands heading h v
+names-it stands heading h (Accepted events) refused kept tells = kept
+names-it stands heading h (Refused line rule at label) refused kept tells =
+    (kept, names-place heading h tells.0 (record { rule = rule; at = at }) tells.2.fits tells.2.breaks)
+names-it stands heading h (Malformed line cause) refused kept tells = tt
+names-it stands heading h (Limit line which) refused kept tells = tt

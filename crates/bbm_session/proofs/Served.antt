@@ -18,6 +18,7 @@ use Rattle.bbm_session.specs.declared.command.Request.{Request}
 use Rattle.bbm_session.specs.declared.command.Request.TheVariants.{Judge, Follow, Generate, Selftest}
 use Rattle.bbm_session.specs.declared.status.Status.{Status}
 use Rattle.bbm_session.specs.declared.status.Status.TheVariants as status
+use Rattle.bbm_session.specs.declared.stop.Decision.{Decision}
 use Rattle.bbm_session.specs.declared.stop.Stop.{Stop}
 use Rattle.bbm_session.specs.declared.stop.Stop.TheVariants.{Decided, ReadFault, NoMemory}
 use Rattle.bbm_session.specs.Fold.{Fold, ending_at}
@@ -168,10 +169,10 @@ module _ {P V : Type 0} (fold : Fold P V) (start : P) (Text : V → List ℕ →
 
 -- ---- how a text is answered, by why reading stopped
 
-pub answered : {P V : Type 0} (fold : Fold P V) (start q : P) (Text : V → List ℕ → Type 0) (tells : V → Status) (Wants : Option (List ℕ) → Option (List ℕ) → Type 0) (OfVerdict : Verdict → List ℕ → Type 0)
+pub answered : {P V : Type 0} (fold : Fold P V) (start q : P) (Text : V → List ℕ → Type 0) (tells : V → Status) (Wants : Option (List ℕ) → Option (List ℕ) → Type 0) (OfVerdict : Decision → List ℕ → Type 0)
     (stop : Stop) (result : Status) (old new : Option (List ℕ)) (f f' : ℕ) (held held' : Option (List ℕ)) (w w' : ℕ)
-    → ((v : Verdict) (text : List ℕ) → OfVerdict v text → Text (fold.stopped q v) text)
-    → ((v : Verdict) → status_of v ≡ tells (fold.stopped q v))
+    → ((v : Decision) (text : List ℕ) → OfVerdict v text → Text (fold.stopped q v) text)
+    → ((v : Decision) → status_of v.verdict ≡ tells (fold.stopped q v))
     → (Starves fold 1 start old new → Wants old new)
     → Stops fold 1 start old stop q new f f' → Reports OfVerdict stop result held held' w w'
     → Answered fold start Text tells Wants result old new f f' held held' w w'

@@ -17,14 +17,16 @@ use Rattle.bbm_rules.specs.declared.verdict.Verdict.{Verdict}
 use Rattle.bbm_rules.specs.declared.verdict.Verdict.TheVariants.{Accepted, Refused, Malformed, Limit}
 use Rattle.bbm_rules.specs.Outcome.{text_of, bytes_of, is_too_long}
 use Rattle.bbm_report.specs.Further.{heading_in}
+use Rattle.bbm_session.specs.declared.line.Piece.{Piece}
 use Rattle.bbm_session.specs.declared.line.Piece.TheVariants as piece
+use Rattle.bbm_session.specs.declared.stop.Decision.{Decision}
 use Rattle.bbm_session.specs.declared.stop.Stop.{Stop}
 use Rattle.bbm_session.specs.declared.stop.Stop.TheVariants.{Decided, ReadFault, NoMemory}
 use Rattle.bbm_session.specs.declared.stop.Turn.{Turn}
 use Rattle.bbm_session.specs.declared.stop.Turn.TheVariants.{Taken, End}
-use Rattle.bbm_session.specs.Fold.{Fold, Turned, Halts, Passes, Ending, turned_by, end_by, ending_after, ending_from, ending_at, passes_to, lines_from, header_by, IsStart, IsInside, IsEnd}
+use Rattle.bbm_session.specs.Fold.{Fold, alone, Turned, Halts, Passes, Ending, turned_by, end_by, ending_after, ending_from, ending_at, passes_to, lines_from, header_by, IsStart, IsInside, IsEnd}
 use Rattle.bbm_session.specs.Pieces.{Takes, Finds, TakesFound}
-use Rattle.bbm_session.specs.Stages.{plain_lines, Passed, Breaks, Starves, Shrinks, Continues, Concludes, Stops, IsBrief, KnowsWhy, ReadsHeader, HeaderLine, Starts, TakesLine, Advances, Going, Reaches, Closes, Ends}
+use Rattle.bbm_session.specs.Stages.{plain_lines, Passed, Breaks, Starves, Shrinks, Continues, Concludes, Stops, EndsThere, IsBrief, KnowsThat, KnowsWhy, RefusedOn, ReadsHeader, HeaderLine, Starts, TakesLine, Advances, Going, Reaches, Closes, Ends}
 use Rattle.bbm_session.specs.Writing.{Heads}
 use Rattle.bbm_session.proofs.Texts.{plain-head, text_of-line, text_of-plain, text_of-prefix, bytes_of-text_of, prefixed}
 
@@ -69,23 +71,44 @@ preceded-twice : (a b : List ℕ) (rest : Option (List ℕ)) → preceded a (pre
 preceded-twice a b None = refl
 preceded-twice a b (Some rest) = ap Some (sym (append_assoc a b rest))
 
-pub shrinks-trans : (old mid new : Option (List ℕ)) → Shrinks old mid → Shrinks mid new → Shrinks old new
-shrinks-trans old mid new first second = (first.0 ++ second.0, first.1 ∙ ap (preceded first.0) second.1 ∙ preceded-twice first.0 second.0 new)
+pub shrinks-trans : (a b most : ℕ) (old mid new : Option (List ℕ)) → a + b ≤ most → Shrinks a old mid → Shrinks b mid new → Shrinks most old new
+shrinks-trans a b most old mid new within first second = (
+  first.0 ++ second.0,
+  first.1 ∙ ap (preceded first.0) second.1 ∙ preceded-twice first.0 second.0 new,
+  omega (arith, length-append first.0 second.0, first.2, second.2, within),
+)
 
--- nothing is known of a cause for which nothing is said behind the verdict
-pub brief-knows : (known : Type 0) (s : Stop) → IsBrief s → KnowsWhy known s
-brief-knows known (Decided (Accepted events)) brief = absurd brief
-brief-knows known (Decided (Refused line rule at label)) brief = absurd brief
-brief-knows known (Decided (Malformed line cause)) brief = tt
-brief-knows known (Decided (Limit line which)) brief = tt
-brief-knows known ReadFault brief = tt
-brief-knows known NoMemory brief = tt
+-- what one call takes
+pub takes-shrinks : (p : Piece) (kept : List ℕ) (old new : Option (List ℕ)) → length kept ≤ 200 → Takes p kept old new → Shrinks 201 old new
+takes-shrinks piece.Line kept old new is_short takes = (kept ++ 10 ∷ [], takes, omega (arith, length-append kept (10 ∷ []), is_short))
+takes-shrinks piece.Rest kept old new is_short takes = (kept, takes.0, omega (arith, is_short))
+takes-shrinks piece.TooLong kept old new is_short takes = (kept ++ takes.0 ∷ [], takes.1.taken, omega (arith, length-append kept (takes.0 ∷ []), is_short))
+takes-shrinks piece.ReadFault kept old new is_short takes = (kept, takes, omega (arith, is_short))
 
 no-bytes : (line : List ℕ) → nat_eq (length line) 0 ≡ true → line ≡ []
 no-bytes [] empty = refl
 no-bytes (b ∷ bs) empty = absurd (grind (arith, nat_tests))
 
 module _ {P V : Type 0} (fold : Fold P V) where
+  -- nothing is known of a cause for which nothing is said behind the verdict
+  brief-that : (known : Type 0) (n : ℕ) (p : P) (d : Decision) (v : Verdict) → EndsThere v → KnowsThat known v × RefusedOn fold n p d v
+  brief-that known n p d (Accepted events) brief = absurd brief
+  brief-that known n p d (Refused line rule at label) brief = absurd brief
+  brief-that known n p d (Malformed line cause) brief = (tt, tt)
+  brief-that known n p d (Limit line which) brief = (tt, tt)
+
+  pub brief-knows : (stands : P → ℕ → Type 0) (n : ℕ) (p : P) (s : Stop) → IsBrief s → KnowsWhy fold stands n p s
+  brief-knows stands n p (Decided d) brief = brief-that (stands p n) n p d d.verdict brief
+  brief-knows stands n p ReadFault brief = tt
+  brief-knows stands n p NoMemory brief = tt
+
+  -- a line decides so
+  refused-on : (n : ℕ) (p : P) (d : Decision) (line : List ℕ) (v : Verdict) → fold.line n p line ≡ Halts (fold.stopped p d) → RefusedOn fold n p d v
+  refused-on n p d line (Accepted events) is = tt
+  refused-on n p d line (Refused number rule at label) is = (line, is)
+  refused-on n p d line (Malformed number cause) is = tt
+  refused-on n p d line (Limit number which) is = tt
+
   pub turned-short : (n : ℕ) (p : P) (line : List ℕ) → length line ≤ 200 → turned_by fold n p line ≡ fold.line n p line
   unfolding turned_by
   turned-short n p line h = rw (short line h) refl
@@ -214,11 +237,11 @@ module _ {P V : Type 0} (fold : Fold P V) where
 
   -- One piece, by what stood there.
 
-  rest-stops : (n : ℕ) (p q : P) (v : Verdict) (line : List ℕ) (old new : Option (List ℕ)) (f f' : ℕ) → fold.cut n p line ≡ fold.stopped q v → plain line ≡ true → length line ≤ 200 → Takes piece.Rest line old new → f' ≡ f → Stops fold n p old (Decided v) q new f f'
+  rest-stops : (n : ℕ) (p q : P) (v : Decision) (line : List ℕ) (old new : Option (List ℕ)) (f f' : ℕ) → fold.cut n p line ≡ fold.stopped q v → plain line ≡ true → length line ≤ 200 → Takes piece.Rest line old new → f' ≡ f → Stops fold n p old (Decided v) q new f f'
   rest-stops n p q v line old new f f' cut is_plain is_short takes sound =
       (end-halts n p (fold.stopped q v) line old new is_plain is_short takes cut, sound)
 
-  long-stops : (n : ℕ) (p q : P) (v : Verdict) (line : List ℕ) (old new : Option (List ℕ)) (f f' : ℕ) → fold.long n p ≡ fold.stopped q v → plain line ≡ true → Takes piece.TooLong line old new → f' ≡ f → Stops fold n p old (Decided v) q new f f'
+  long-stops : (n : ℕ) (p q : P) (v : Decision) (line : List ℕ) (old new : Option (List ℕ)) (f f' : ℕ) → fold.long n p ≡ fold.stopped q v → plain line ≡ true → Takes piece.TooLong line old new → f' ≡ f → Stops fold n p old (Decided v) q new f f'
   long-stops n p q v line old new f f' too_long is_plain takes sound =
       let long_line = long-halts n p (line ++ takes.0 ∷ []) old new (plain-more line takes.0 is_plain takes.1.no_newline) (omega (arith, length-append line (takes.0 ∷ []), takes.1.kept_bytes)) takes.1.taken in
       (subst (λ (w : V). Concludes fold n p old w new) too_long long_line, sound)
@@ -242,9 +265,9 @@ module _ {P V : Type 0} (fold : Fold P V) where
 
   -- The header.
 
-  header-refused : (start : P) (begun : Heading → P) (v : Verdict) (read : Result Heading Cause) (line : List ℕ) (old new : Option (List ℕ)) → fold.line 1 start line ≡ header_by fold start begun read → plain line ≡ true → length line ≤ 200 → Takes piece.Line line old new → (cause : Cause) → read ≡ Err cause → v ≡ Malformed 1 cause → Concludes fold 1 start old (fold.stopped start v) new
+  header-refused : (start : P) (begun : Heading → P) (v : Decision) (read : Result Heading Cause) (line : List ℕ) (old new : Option (List ℕ)) → fold.line 1 start line ≡ header_by fold start begun read → plain line ≡ true → length line ≤ 200 → Takes piece.Line line old new → (cause : Cause) → read ≡ Err cause → v ≡ alone (Malformed 1 cause) → Concludes fold 1 start old (fold.stopped start v) new
   header-refused start begun v read line old new says is_plain is_short takes cause is same =
-      let stopped : Halts (fold.stopped start (Malformed 1 cause)) ≡ Halts (fold.stopped start v) = ap (λ (w : Verdict). Halts (fold.stopped start w)) (sym same) in
+      let stopped : Halts (fold.stopped start (alone (Malformed 1 cause))) ≡ Halts (fold.stopped start v) = ap (λ (w : Decision). Halts (fold.stopped start w)) (sym same) in
       line-halts 1 start (fold.stopped start v) line old new is_plain is_short takes (says ∙ ap (header_by fold start begun) is ∙ stopped)
 
   pub header-starts : (start : P) (begun : Heading → P) → IsStart fold start begun → (r : Result Heading Stop) (line : List ℕ) (old new : Option (List ℕ)) (f f' : ℕ) → plain line ≡ true → length line ≤ 200 → Takes piece.Line line old new → ReadsHeader r (header_of line) → f' ≡ f → Starts fold start r old new f f'
@@ -255,13 +278,13 @@ module _ {P V : Type 0} (fold : Fold P V) where
   header-starts start begun is (Err ReadFault) line old new f f' is_plain is_short takes reads sound = absurd reads
   header-starts start begun is (Err NoMemory) line old new f f' is_plain is_short takes reads sound = absurd reads
 
-  pub header-rest : (start : P) (begun : Heading → P) → IsStart fold start begun → (line : List ℕ) (old new : Option (List ℕ)) (f f' : ℕ) → plain line ≡ true → length line ≤ 200 → Takes piece.Rest line old new → f' ≡ f → Starts fold start (Err (Decided (Malformed 1 NoEnd))) old new f f'
+  pub header-rest : (start : P) (begun : Heading → P) → IsStart fold start begun → (line : List ℕ) (old new : Option (List ℕ)) (f f' : ℕ) → plain line ≡ true → length line ≤ 200 → Takes piece.Rest line old new → f' ≡ f → Starts fold start (Err (Decided (alone (Malformed 1 NoEnd)))) old new f f'
   header-rest start begun is line old new f f' is_plain is_short takes sound =
-      rest-stops 1 start start (Malformed 1 NoEnd) line old new f f' (is.cut line) is_plain is_short takes sound
+      rest-stops 1 start start (alone (Malformed 1 NoEnd)) line old new f f' (is.cut line) is_plain is_short takes sound
 
-  pub header-long : (start : P) (begun : Heading → P) → IsStart fold start begun → (line : List ℕ) (old new : Option (List ℕ)) (f f' : ℕ) → plain line ≡ true → Takes piece.TooLong line old new → f' ≡ f → Starts fold start (Err (Decided (Limit 1 LineBytes))) old new f f'
+  pub header-long : (start : P) (begun : Heading → P) → IsStart fold start begun → (line : List ℕ) (old new : Option (List ℕ)) (f f' : ℕ) → plain line ≡ true → Takes piece.TooLong line old new → f' ≡ f → Starts fold start (Err (Decided (alone (Limit 1 LineBytes)))) old new f f'
   header-long start begun is line old new f f' is_plain takes sound =
-      long-stops 1 start start (Limit 1 LineBytes) line old new f f' is.long is_plain takes sound
+      long-stops 1 start start (alone (Limit 1 LineBytes)) line old new f f' is.long is_plain takes sound
 
   pub header-fault : (start : P) (line : List ℕ) (old new : Option (List ℕ)) (f f' : ℕ) → plain line ≡ true → length line ≤ 200 → Takes piece.ReadFault line old new → Rose f f' → Starts fold start (Err ReadFault) old new f f'
   header-fault start line old new f f' is_plain is_short takes rose =
@@ -288,18 +311,18 @@ module _ {P V : Type 0} (fold : Fold P V) where
         let passes = line-passes n p taken.0 line old new is_plain is_short takes taken.1 in
         (taken.0, subst (λ (m : ℕ). Continues fold n p old m taken.0 new) (sym (add-one n)) passes, taken.2, taken.3, sound)
     line-advances n p (Err (Decided v)) line old new f f' is_plain is_short takes taken sound =
-        ((line-halts n p (fold.stopped p v) line old new is_plain is_short takes taken.0, sound), taken.1)
+        ((line-halts n p (fold.stopped p v) line old new is_plain is_short takes taken.0, sound), (taken.1, refused-on n p v line v.verdict taken.0))
     line-advances n p (Err ReadFault) line old new f f' is_plain is_short takes taken sound = absurd taken
     line-advances n p (Err NoMemory) line old new f f' is_plain is_short takes taken sound =
         (want-stops n p p line old new f f' is_plain is_short takes taken sound, tt)
 
-    pub rest-advances : (n : ℕ) (p : P) (line : List ℕ) (old new : Option (List ℕ)) (f f' : ℕ) → IsInside fold p → plain line ≡ true → length line ≤ 200 → Takes piece.Rest line old new → f' ≡ f → Advances fold stands n p (Err (Decided (Malformed n NoEnd))) old new f f'
+    pub rest-advances : (n : ℕ) (p : P) (line : List ℕ) (old new : Option (List ℕ)) (f f' : ℕ) → IsInside fold p → plain line ≡ true → length line ≤ 200 → Takes piece.Rest line old new → f' ≡ f → Advances fold stands n p (Err (Decided (alone (Malformed n NoEnd)))) old new f f'
     rest-advances n p line old new f f' inside is_plain is_short takes sound =
-        (rest-stops n p p (Malformed n NoEnd) line old new f f' (inside.cut n line) is_plain is_short takes sound, tt)
+        (rest-stops n p p (alone (Malformed n NoEnd)) line old new f f' (inside.cut n line) is_plain is_short takes sound, (tt, tt))
 
-    pub long-advances : (n : ℕ) (p : P) (line : List ℕ) (old new : Option (List ℕ)) (f f' : ℕ) → IsInside fold p → plain line ≡ true → Takes piece.TooLong line old new → f' ≡ f → Advances fold stands n p (Err (Decided (Limit n LineBytes))) old new f f'
+    pub long-advances : (n : ℕ) (p : P) (line : List ℕ) (old new : Option (List ℕ)) (f f' : ℕ) → IsInside fold p → plain line ≡ true → Takes piece.TooLong line old new → f' ≡ f → Advances fold stands n p (Err (Decided (alone (Limit n LineBytes)))) old new f f'
     long-advances n p line old new f f' inside is_plain takes sound =
-        (long-stops n p p (Limit n LineBytes) line old new f f' (inside.long n) is_plain takes sound, tt)
+        (long-stops n p p (alone (Limit n LineBytes)) line old new f f' (inside.long n) is_plain takes sound, (tt, tt))
 
     pub fault-advances : (n : ℕ) (p : P) (line : List ℕ) (old new : Option (List ℕ)) (f f' : ℕ) → plain line ≡ true → length line ≤ 200 → Takes piece.ReadFault line old new → Rose f f' → Advances fold stands n p (Err ReadFault) old new f f'
     fault-advances n p line old new f f' is_plain is_short takes rose =
@@ -308,25 +331,25 @@ module _ {P V : Type 0} (fold : Fold P V) where
   -- Behind the end.
 
   module _ (p end : P) (is : IsEnd fold p end) where
-    pub line-closes : (n : ℕ) (line : List ℕ) (old new : Option (List ℕ)) (f f' : ℕ) → plain line ≡ true → length line ≤ 200 → Takes piece.Line line old new → f' ≡ f → Closes fold p end (Err (Decided (Malformed n AfterEnd))) n old new f f'
+    pub line-closes : (n : ℕ) (line : List ℕ) (old new : Option (List ℕ)) (f f' : ℕ) → plain line ≡ true → length line ≤ 200 → Takes piece.Line line old new → f' ≡ f → Closes fold p end (Err (Decided (alone (Malformed n AfterEnd)))) n old new f f'
     line-closes n line old new f f' is_plain is_short takes sound =
-        (line-halts n end (fold.stopped p (Malformed n AfterEnd)) line old new is_plain is_short takes (is.line n line), sound)
+        (line-halts n end (fold.stopped p (alone (Malformed n AfterEnd))) line old new is_plain is_short takes (is.line n line), sound)
 
     pub nothing-closes : (n : ℕ) (line : List ℕ) (old new : Option (List ℕ)) (f f' : ℕ) → nat_eq (length line) 0 ≡ true → plain line ≡ true → length line ≤ 200 → Takes piece.Rest line old new → f' ≡ f → Closes fold p end (Ok tt) n old new f f'
     nothing-closes n line old new f f' empty is_plain is_short takes sound =
         (end-halts n end (fold.whole p) line old new is_plain is_short takes (ap (fold.cut n end) (no-bytes line empty) ∙ is.nothing n), sound)
 
-    cut-more : (n : ℕ) (line : List ℕ) → nat_eq (length line) 0 ≡ false → fold.cut n end line ≡ fold.stopped p (Malformed n AfterEnd)
+    cut-more : (n : ℕ) (line : List ℕ) → nat_eq (length line) 0 ≡ false → fold.cut n end line ≡ fold.stopped p (alone (Malformed n AfterEnd))
     cut-more n [] more = cc
     cut-more n (b ∷ bs) more = is.more n b bs
 
-    pub more-closes : (n : ℕ) (line : List ℕ) (old new : Option (List ℕ)) (f f' : ℕ) → nat_eq (length line) 0 ≡ false → plain line ≡ true → length line ≤ 200 → Takes piece.Rest line old new → f' ≡ f → Closes fold p end (Err (Decided (Malformed n AfterEnd))) n old new f f'
+    pub more-closes : (n : ℕ) (line : List ℕ) (old new : Option (List ℕ)) (f f' : ℕ) → nat_eq (length line) 0 ≡ false → plain line ≡ true → length line ≤ 200 → Takes piece.Rest line old new → f' ≡ f → Closes fold p end (Err (Decided (alone (Malformed n AfterEnd)))) n old new f f'
     more-closes n line old new f f' more is_plain is_short takes sound =
-        rest-stops n end p (Malformed n AfterEnd) line old new f f' (cut-more n line more) is_plain is_short takes sound
+        rest-stops n end p (alone (Malformed n AfterEnd)) line old new f f' (cut-more n line more) is_plain is_short takes sound
 
-    pub long-closes : (n : ℕ) (line : List ℕ) (old new : Option (List ℕ)) (f f' : ℕ) → plain line ≡ true → Takes piece.TooLong line old new → f' ≡ f → Closes fold p end (Err (Decided (Malformed n AfterEnd))) n old new f f'
+    pub long-closes : (n : ℕ) (line : List ℕ) (old new : Option (List ℕ)) (f f' : ℕ) → plain line ≡ true → Takes piece.TooLong line old new → f' ≡ f → Closes fold p end (Err (Decided (alone (Malformed n AfterEnd)))) n old new f f'
     long-closes n line old new f f' is_plain takes sound =
-        long-stops n end p (Malformed n AfterEnd) line old new f f' (is.long n) is_plain takes sound
+        long-stops n end p (alone (Malformed n AfterEnd)) line old new f f' (is.long n) is_plain takes sound
 
     pub fault-closes : (n : ℕ) (line : List ℕ) (old new : Option (List ℕ)) (f f' : ℕ) → plain line ≡ true → length line ≤ 200 → Takes piece.ReadFault line old new → Rose f f' → Closes fold p end (Err ReadFault) n old new f f'
     fault-closes n line old new f f' is_plain is_short takes rose =
@@ -403,7 +426,7 @@ module _ {P V : Type 0} (fold : Fold P V) where
   closes-ends stands p n (Ok u) old mid new f f' f'' reached closes brief =
       (reached.0, reached.2, continues-concludes 2 n p reached.1 (fold.whole reached.0) old mid new reached.3 closes.0, reached.5, closes.1 ∙ reached.6)
   closes-ends stands p n (Err s) old mid new f f' f'' reached closes brief =
-      (reached.0, reached.2, continues-stops 2 n p reached.1 reached.0 s old mid new f f' f'' reached.3 reached.6 closes, brief-knows (stands reached.0 reached.2) s brief)
+      (reached.0, reached.2, continues-stops 2 n p reached.1 reached.0 s old mid new f f' f'' reached.3 reached.6 closes, brief-knows stands reached.2 reached.0 s brief)
 
 -- the heading that was read is that of what was left
 pub header-heads : (heading : Heading) (old new : Option (List ℕ)) → HeaderLine heading old new → Heads old (Some heading)

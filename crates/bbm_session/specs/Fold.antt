@@ -3,13 +3,25 @@
 use Rattle.std.specs.Prelude.{◌≡◌, ℕ, suc, Bool, List, [], ◌∷◌, drop, Option, Some, None, Result, Ok, Err}
 use Rattle.std.specs.Prelude.{if◌then◌else◌}
 use Rattle.bbm_regimes.specs.declared.regime.Which.TheVariants.{LineBytes}
+use Rattle.bbm_events.specs.declared.event.Event.{Event}
 use Rattle.bbm_events.specs.declared.malformed.Malformed.{Malformed as Cause}
 use Rattle.bbm_events.specs.declared.malformed.Malformed.TheVariants.{NoEnd, AfterEnd}
 use Rattle.bbm_events.specs.Heading.{Heading}
 use Rattle.bbm_events.specs.Lines.{header_of}
 use Rattle.bbm_rules.specs.declared.verdict.Verdict.{Verdict}
-use Rattle.bbm_rules.specs.declared.verdict.Verdict.TheVariants.{Malformed, Limit}
+use Rattle.bbm_rules.specs.declared.verdict.Verdict.TheVariants.{Refused, Malformed, Limit}
 use Rattle.bbm_rules.specs.Outcome.{text_of, is_too_long, unread_after}
+use Rattle.bbm_session.specs.declared.stop.Decision.{Decision}
+
+-- a verdict that refuses no event
+abbrev pub alone : Verdict → Decision
+alone verdict = record { verdict = verdict; refused = None }
+
+-- a verdict, with this event where it refuses one
+abbrev pub refusing : Option Event → Verdict → Decision
+refusing event (Refused line rule at label) =
+    record { verdict = Refused line rule at label; refused = event }
+refusing event verdict = alone verdict
 
 -- what a line decides: what is said of the whole text, or how far the lines are read with it
 pub data Turned (P V : Type 0) : Type 0 where
@@ -24,8 +36,8 @@ pub record Fold (P V : Type 0) : Type 0 where
   pub long : ℕ → P → V
   -- what is said at the end of the input, after these bytes since the last newline
   pub cut : ℕ → P → List ℕ → V
-  -- what is said where a line stops reading for a verdict, by how far the lines before it were read
-  pub stopped : P → Verdict → V
+  -- what is said where a line stops reading and this is decided, by how far the lines before it were read
+  pub stopped : P → Decision → V
   -- what is said where the whole text was read, by how far the lines before its end were read
   pub whole : P → V
   -- whether memory is needed for a line
@@ -70,22 +82,22 @@ lines_from fold n p (line ∷ lines) = passes_to (λ next. lines_from fold (suc 
 
 abbrev pub header_by : {P V : Type 0} → Fold P V → P → (Heading → P) → Result Heading Cause → Turned P V
 header_by fold start begun (Ok heading) = Passes (begun heading)
-header_by fold start begun (Err cause) = Halts (fold.stopped start (Malformed 1 cause))
+header_by fold start begun (Err cause) = Halts (fold.stopped start (alone (Malformed 1 cause)))
 
 -- the start of a log, where a header is read
 pub record IsStart {P V : Type 0} (fold : Fold P V) (start : P) (begun : Heading → P) : Type 0 where
   pub line : (l : List ℕ) → fold.line 1 start l ≡ header_by fold start begun (header_of l)
-  pub long : fold.long 1 start ≡ fold.stopped start (Limit 1 LineBytes)
-  pub cut : (rest : List ℕ) → fold.cut 1 start rest ≡ fold.stopped start (Malformed 1 NoEnd)
+  pub long : fold.long 1 start ≡ fold.stopped start (alone (Limit 1 LineBytes))
+  pub cut : (rest : List ℕ) → fold.cut 1 start rest ≡ fold.stopped start (alone (Malformed 1 NoEnd))
 
 -- between the header and the end
 pub record IsInside {P V : Type 0} (fold : Fold P V) (p : P) : Type 0 where
-  pub long : (n : ℕ) → fold.long n p ≡ fold.stopped p (Limit n LineBytes)
-  pub cut : (n : ℕ) (rest : List ℕ) → fold.cut n p rest ≡ fold.stopped p (Malformed n NoEnd)
+  pub long : (n : ℕ) → fold.long n p ≡ fold.stopped p (alone (Limit n LineBytes))
+  pub cut : (n : ℕ) (rest : List ℕ) → fold.cut n p rest ≡ fold.stopped p (alone (Malformed n NoEnd))
 
 -- behind the end, where nothing may follow; the lines before the end were read to p
 pub record IsEnd {P V : Type 0} (fold : Fold P V) (p q : P) : Type 0 where
-  pub line : (n : ℕ) (l : List ℕ) → fold.line n q l ≡ Halts (fold.stopped p (Malformed n AfterEnd))
-  pub long : (n : ℕ) → fold.long n q ≡ fold.stopped p (Malformed n AfterEnd)
+  pub line : (n : ℕ) (l : List ℕ) → fold.line n q l ≡ Halts (fold.stopped p (alone (Malformed n AfterEnd)))
+  pub long : (n : ℕ) → fold.long n q ≡ fold.stopped p (alone (Malformed n AfterEnd))
   pub nothing : (n : ℕ) → fold.cut n q [] ≡ fold.whole p
-  pub more : (n b : ℕ) (rest : List ℕ) → fold.cut n q (b ∷ rest) ≡ fold.stopped p (Malformed n AfterEnd)
+  pub more : (n b : ℕ) (rest : List ℕ) → fold.cut n q (b ∷ rest) ≡ fold.stopped p (alone (Malformed n AfterEnd))

@@ -1,6 +1,6 @@
 -- The two folds over the lines of a log: one judges its events, the other keeps the steps of a run. No public contract
 -- cites these words.
-use Rattle.std.specs.Prelude.{◌≡◌, ℕ, ◌+◌, ◌≤◌, Bool, true, false, not, ◌&&◌, is_ok, List, length, reverse, Option}
+use Rattle.std.specs.Prelude.{◌≡◌, ℕ, ◌+◌, ◌≤◌, Bool, true, false, not, ◌&&◌, is_ok, List, length, reverse, Option, None}
 use Rattle.std.specs.Prelude.{Result, Ok, Err}
 use Rattle.bbm_events.specs.declared.event.Event.{Event}
 use Rattle.bbm_events.specs.declared.event.Item.{Item}
@@ -23,26 +23,34 @@ use Rattle.bbm_follow.specs.declared.turn.Turn.TheVariants as turn
 use Rattle.bbm_follow.specs.Following as run
 use Rattle.bbm_session.specs.declared.command.Command.{Command}
 use Rattle.bbm_session.specs.declared.command.Command.TheVariants.{Check, Slow, Explain, Walk}
-use Rattle.bbm_session.specs.Fold.{Fold, Turned, Halts, Passes}
+use Rattle.bbm_session.specs.Fold.{Fold, Turned, Halts, Passes, alone, refusing}
 use Rattle.bbm_session.specs.Run.{limits_of}
 use Rattle.bbm_session.specs.Runs.{step_needs}
-use Rattle.bbm_session.specs.Stages.{Keeps, KnowsAt, Stops}
+use Rattle.bbm_session.specs.Stages.{Keeps, KnowsAt, Stops, event_in}
+use Rattle.bbm_session.specs.declared.stop.Decision.{Decision}
 use Rattle.bbm_session.specs.declared.stop.Stop.{Stop}
 use Rattle.bbm_session.specs.declared.stop.Stop.TheVariants.{Decided, NoMemory}
 use Rattle.bbm_session.specs.declared.stop.Turn.{Turn}
 use Rattle.bbm_session.specs.declared.stop.Turn.TheVariants.{Taken, End}
 
--- a verdict, and the events before the line that decides, the newest first
+-- a verdict, the event that it refuses if there is one, and the events before the line that decides, the newest first
 pub record Judged : Type 0 where
   pub verdict : Verdict
+  pub refused : Option Event
   pub log : List Event
 
-abbrev pub judged_at : Progress → Verdict → Judged
-judged_at p verdict = record { verdict = verdict; log = events_in p }
+abbrev pub judged_at : Progress → Decision → Judged
+judged_at p decision = record { verdict = decision.verdict; refused = decision.refused; log = events_in p }
 
-abbrev pub judged_by : Progress → Step → Turned Progress Judged
-judged_by p (Decides verdict) = Halts (judged_at p verdict)
-judged_by p (GoesOn next) = Passes next
+-- by the event on the line, if there is one
+abbrev pub judged_by : Progress → Option Event → Step → Turned Progress Judged
+judged_by p event (Decides verdict) = Halts (judged_at p (refusing event verdict))
+judged_by p event (GoesOn next) = Passes next
+
+-- the event on a line behind these
+abbrev pub event_on : Progress → List ℕ → Option Event
+event_on (AtEvents heading h) line = event_in (item_of heading line)
+event_on _ line = None
 
 -- whether memory may be needed for an event, by a checker that is frugal or not
 abbrev pub event_needs : Bool → Heading → List Event → Event → Bool
@@ -68,11 +76,11 @@ is_frugal (Walk question) = true
 -- the events of a log are judged, by a checker that is frugal or not
 abbrev pub judging : Bool → Limits → Fold Progress Judged
 judging frugal limits = record {
-  line = λ n p line. judged_by p (after_line Patterns limits n p line);
-  long = λ n p. judged_at p (too_long_at n p);
-  cut = λ n p rest. judged_at p (cut_at n p rest);
+  line = λ n p line. judged_by p (event_on p line) (after_line Patterns limits n p line);
+  long = λ n p. judged_at p (alone (too_long_at n p));
+  cut = λ n p rest. judged_at p (alone (cut_at n p rest));
   stopped = judged_at;
-  whole = λ p. judged_at p (Accepted (length (events_in p)));
+  whole = λ p. judged_at p (alone (Accepted (length (events_in p))));
   needs = λ n. line_needs frugal;
 }
 
@@ -110,7 +118,7 @@ following = record {
   line = λ n p line. kept_by (run.after_line n p line);
   long = λ n p. run.Stopped (run.too_long_at n p);
   cut = run.cut_at;
-  stopped = λ p. run.Stopped;
+  stopped = λ p decision. run.Stopped decision.verdict;
   whole = whole_run;
   needs = step_needs;
 }
@@ -127,5 +135,5 @@ pub record Follows (kept : List MachineStep) (fold : Fold run.Reached run.RunSay
 abbrev pub Turns : Result RunTurn LineFault → Result Turn Stop → Type 0
 Turns (Ok turn.Step) result = result ≡ Ok Taken
 Turns (Ok turn.End) result = result ≡ Ok End
-Turns (Err (line_fault.Decided verdict)) result = result ≡ Err (Decided verdict)
+Turns (Err (line_fault.Decided verdict)) result = result ≡ Err (Decided (alone verdict))
 Turns (Err line_fault.NoMemory) result = result ≡ Err NoMemory

@@ -1,7 +1,9 @@
 pub mod Fold
 pub mod Folds
 pub mod Generating
+pub mod JudgedLog
 pub mod Pieces
+pub mod Refused
 pub mod Requests
 pub mod Run
 pub mod Runs

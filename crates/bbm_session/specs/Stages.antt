@@ -18,18 +18,21 @@ use Rattle.bbm_rules.specs.declared.rule.Rule.TheVariants.{BreakBeforeMake}
 use Rattle.bbm_rules.specs.declared.verdict.Verdict.{Verdict}
 use Rattle.bbm_rules.specs.declared.verdict.Verdict.TheVariants.{Accepted, Refused, Malformed, Limit}
 use Rattle.bbm_rules.specs.Answers.{MayTake}
-use Rattle.bbm_rules.specs.Broken.{Breach}
+use Rattle.bbm_rules.specs.Broken.{Breach, keeps}
+use Rattle.bbm_rules.specs.Claims.{Patterns}
 use Rattle.bbm_rules.specs.Lists.{every}
 use Rattle.bbm_rules.specs.Outcome.{AtEvents, AtEnd, Step, Decides, GoesOn, bytes_of}
-use Rattle.bbm_session.specs.Fold.{Fold, Halts, Passes, ending_at, lines_from, IsInside, IsEnd}
+use Rattle.bbm_session.specs.Fold.{Fold, Halts, Passes, alone, refusing, ending_at, lines_from, IsInside, IsEnd}
+use Rattle.bbm_session.specs.Refused.{IsRefused}
+use Rattle.bbm_session.specs.declared.stop.Decision.{Decision}
 use Rattle.bbm_session.specs.declared.stop.Stop.{Stop}
 use Rattle.bbm_session.specs.declared.stop.Stop.TheVariants.{Decided, ReadFault, NoMemory}
 use Rattle.bbm_session.specs.declared.stop.Turn.{Turn}
 use Rattle.bbm_session.specs.declared.stop.Turn.TheVariants.{Taken, End}
 
--- What a source had left begins with what was taken of it, and the rest is left now.
-abbrev pub Shrinks : Option (List ℕ) → Option (List ℕ) → Type 0
-Shrinks old new = (taken : List ℕ) × (old ≡ preceded taken new)
+-- What a source had left begins with what was taken of it, at most so many bytes, and the rest is left now.
+abbrev pub Shrinks : ℕ → Option (List ℕ) → Option (List ℕ) → Type 0
+Shrinks most old new = (taken : List ℕ) × (old ≡ preceded taken new) × (length taken ≤ most)
 
 -- whether no byte of these lines is a newline
 abbrev pub plain_lines : List (List ℕ) → Bool
@@ -93,30 +96,38 @@ Concludes fold n p (Some bytes) v (Some rest) =
 -- Why reading stopped, after lines that were read up to q where a verdict is known, and what was read then. A read
 -- fault comes only where the count of faults rose, and where it doesn't come the count stays.
 abbrev pub Stops : {P V : Type 0} → Fold P V → ℕ → P → Option (List ℕ) → Stop → P → Option (List ℕ) → ℕ → ℕ → Type 0
-Stops fold n p old (Decided verdict) q new faults faults' =
-    Concludes fold n p old (fold.stopped q verdict) new × (faults' ≡ faults)
+Stops fold n p old (Decided decision) q new faults faults' =
+    Concludes fold n p old (fold.stopped q decision) new × (faults' ≡ faults)
 Stops fold n p old ReadFault q new faults faults' = Breaks fold n p old new × Rose faults faults'
 Stops fold n p old NoMemory q new faults faults' = Starves fold n p old new × (faults' ≡ faults)
-
--- break-before-make names a place
-abbrev pub NamesPlace : Rule → ℕ → Type 0
-NamesPlace BreakBeforeMake at = is_place at ≡ true
-NamesPlace _ at = Unit {0}
 
 -- Where a log is accepted, or an event of it refused, this holds of the lines before the line that decides.
 abbrev pub KnowsThat : Type 0 → Verdict → Type 0
 KnowsThat stands (Accepted events) = stands
-KnowsThat stands (Refused line rule at label) = stands × NamesPlace rule at
+KnowsThat stands (Refused line rule at label) = stands
 KnowsThat stands _ = Unit {0}
 
-abbrev pub KnowsWhy : Type 0 → Stop → Type 0
-KnowsWhy stands (Decided verdict) = KnowsThat stands verdict
-KnowsWhy stands _ = Unit {0}
+-- Where an event is refused, a line decides so, behind the lines before it, which were read up to p.
+abbrev pub RefusedOn : {P V : Type 0} → Fold P V → ℕ → P → Decision → Verdict → Type 0
+RefusedOn fold n p decision (Refused line rule at label) =
+    (l : List ℕ) × (fold.line n p l ≡ Halts (fold.stopped p decision))
+RefusedOn fold n p decision _ = Unit {0}
+
+-- What is known where reading stopped for this cause, at line number n, behind lines that were read up to p.
+abbrev pub KnowsWhy : {P V : Type 0} → Fold P V → (P → ℕ → Type 0) → ℕ → P → Stop → Type 0
+KnowsWhy fold stands n p (Decided decision) =
+    KnowsThat (stands p n) decision.verdict × RefusedOn fold n p decision decision.verdict
+KnowsWhy fold stands n p _ = Unit {0}
+
+-- a verdict behind which nothing is said
+abbrev pub EndsThere : Verdict → Type 0
+EndsThere (Accepted events) = ⊥
+EndsThere (Refused line rule at label) = ⊥
+EndsThere _ = Unit {0}
 
 -- a cause for which nothing is said behind the line of the verdict, if there is one
 abbrev pub IsBrief : Stop → Type 0
-IsBrief (Decided (Accepted events)) = ⊥
-IsBrief (Decided (Refused line rule at label)) = ⊥
+IsBrief (Decided decision) = EndsThere decision.verdict
 IsBrief _ = Unit {0}
 
 -- The reader of lines can read line number n: each line before took at most 201 bytes.
@@ -126,7 +137,8 @@ Ready lines n = (lines.failed ≡ false) × (lines.taken + 201 ≤ 201 * n)
 -- What was made of a header: it is that of its line, or why that is none.
 abbrev pub ReadsHeader : Result Heading Stop → Result Heading Cause → Type 0
 ReadsHeader (Ok heading) read = read ≡ Ok heading
-ReadsHeader (Err (Decided verdict)) read = (cause : Cause) × (read ≡ Err cause) × (verdict ≡ Malformed 1 cause)
+ReadsHeader (Err (Decided decision)) read =
+    (cause : Cause) × (read ≡ Err cause) × (decision ≡ alone (Malformed 1 cause))
 ReadsHeader (Err _) read = ⊥
 
 -- Line 1 was read of what was left, and it has this heading.
@@ -157,8 +169,8 @@ module _ {P V : Type 0} (fold : Fold P V) (stands : P → ℕ → Type 0) where
   abbrev pub TakesLine : ℕ → P → List ℕ → Result Turn Stop → Type 0
   TakesLine n p line (Ok Taken) = (q : P) × (fold.line n p line ≡ Passes q) × IsInside fold q × stands q (n + 1)
   TakesLine n p line (Ok End) = (q : P) × (fold.line n p line ≡ Passes q) × IsEnd fold p q × stands p n
-  TakesLine n p line (Err (Decided verdict)) =
-      (fold.line n p line ≡ Halts (fold.stopped p verdict)) × KnowsThat (stands p n) verdict
+  TakesLine n p line (Err (Decided decision)) =
+      (fold.line n p line ≡ Halts (fold.stopped p decision)) × KnowsThat (stands p n) decision.verdict
   TakesLine n p line (Err ReadFault) = ⊥
   TakesLine n p line (Err NoMemory) = fold.needs n p line ≡ true
 
@@ -169,7 +181,7 @@ module _ {P V : Type 0} (fold : Fold P V) (stands : P → ℕ → Type 0) where
   Advances n p (Ok End) was now faults faults' =
       (q : P) × Continues fold n p was (n + 1) q now × IsEnd fold p q × stands p n × (faults' ≡ faults)
   Advances n p (Err stop) was now faults faults' =
-      Stops fold n p was stop p now faults faults' × KnowsWhy (stands p n) stop
+      Stops fold n p was stop p now faults faults' × KnowsWhy fold stands n p stop
 
   -- the lines from line 2 on were taken up to line number n, and none of them halts
   abbrev pub Going : P → Option (List ℕ) → ℕ → Option (List ℕ) → Type 0
@@ -181,14 +193,14 @@ module _ {P V : Type 0} (fold : Fold P V) (stands : P → ℕ → Type 0) where
       (q : P) × (end : P) × (m : ℕ) × Continues fold 2 p was n end now × IsEnd fold q end × stands q m
       × (faults' ≡ faults)
   Reaches p (Err stop) was now faults faults' =
-      (q : P) × (m : ℕ) × Stops fold 2 p was stop q now faults faults' × KnowsWhy (stands q m) stop
+      (q : P) × (m : ℕ) × Stops fold 2 p was stop q now faults faults' × KnowsWhy fold stands m q stop
 
   -- what reading to the end of the log says
   abbrev pub Ends : P → Result (Unit {0}) Stop → Option (List ℕ) → Option (List ℕ) → ℕ → ℕ → Type 0
   Ends p (Ok _) was now faults faults' =
       (q : P) × (m : ℕ) × Concludes fold 2 p was (fold.whole q) now × stands q m × (faults' ≡ faults)
   Ends p (Err stop) was now faults faults' =
-      (q : P) × (m : ℕ) × Stops fold 2 p was stop q now faults faults' × KnowsWhy (stands q m) stop
+      (q : P) × (m : ℕ) × Stops fold 2 p was stop q now faults faults' × KnowsWhy fold stands m q stop
 
 -- What reading behind the end says, where the lines before the end were read up to p: nothing follows, or why not.
 abbrev pub Closes : {P V : Type 0} → Fold P V → P → P → Result (Unit {0}) Stop → ℕ → Option (List ℕ) → Option (List ℕ)
@@ -202,43 +214,67 @@ Closes fold p end (Err stop) n was now faults faults' = Stops fold n end was sto
 abbrev pub all_fit : Heading → List EventOf → Bool
 all_fit heading h = every (fits_heading heading) h
 
--- A checker stands for a history whose events fit its header.
-abbrev pub Keeps : (Heading → List EventOf → Type 0) → Heading → List EventOf → Type 0
-Keeps stands heading h = stands heading h × (all_fit heading h ≡ true)
+-- A checker stands for a history that keeps the rules, and whose events fit its header.
+pub record Keeps (stands : Heading → List EventOf → Type 0) (heading : Heading) (h : List EventOf) : Type 0 where
+  pub known : stands heading h
+  pub fit : all_fit heading h ≡ true
+  pub rules : keeps heading Patterns h ≡ true
 
--- Where a log is accepted, or an event of it refused, the checker stands for the events before the line that decides.
-abbrev pub Knows : (Heading → List EventOf → Type 0) → Heading → List EventOf → Verdict → Type 0
-Knows stands heading h verdict = KnowsThat (Keeps stands heading h) verdict
+-- the event that a verdict refuses is told
+abbrev pub TellsEvent : Heading → List EventOf → Verdict → Option EventOf → Type 0
+TellsEvent heading h (Refused line rule at label) refused =
+    (event : EventOf) × (refused ≡ Some event) × IsRefused heading h rule at event
+TellsEvent heading h _ refused = Unit {0}
 
+-- Where a log is accepted, or an event of it refused, the checker stands for the events before the line that decides,
+-- which keep the rules; and the event that is refused is told.
 abbrev pub KnowsAt : (Heading → List EventOf → Type 0) → Heading → List EventOf → Stop → Type 0
-KnowsAt stands heading h stop = KnowsWhy (Keeps stands heading h) stop
+KnowsAt stands heading h (Decided decision) =
+    KnowsThat (Keeps stands heading h) decision.verdict × TellsEvent heading h decision.verdict decision.refused
+KnowsAt stands heading h _ = Unit {0}
 
--- why reading stops at an event with this label that breaks this rule, or else reaches this limit of a history, or for
+-- break-before-make names a place
+abbrev pub NamesPlace : Rule → ℕ → Type 0
+NamesPlace BreakBeforeMake at = is_place at ≡ true
+NamesPlace _ at = Unit {0}
+
+-- Where a log is accepted, or an event of it refused, the checker stands for the events before the line that decides,
+-- and a place is named where break-before-make is broken.
+abbrev pub Knows : (Heading → List EventOf → Type 0) → Heading → List EventOf → Verdict → Type 0
+Knows stands heading h (Accepted events) = Keeps stands heading h
+Knows stands heading h (Refused line rule at label) = Keeps stands heading h × NamesPlace rule at
+Knows stands heading h _ = Unit {0}
+
+-- the event of an item
+abbrev pub event_in : Result Item Cause → Option EventOf
+event_in (Ok (item.Event event label)) = Some event
+event_in _ = None
+
+-- why reading stops at this event with this label that breaks this rule, or else reaches this limit of a history, or for
 -- which there was no memory
-abbrev pub StopsAt : Stop → ℕ → Option (List ℕ) → Option Breach → Option Which → Type 0
-StopsAt (Decided verdict) n label (Some breach) which = verdict ≡ Refused n breach.rule breach.at label
-StopsAt (Decided verdict) n label None (Some which) = verdict ≡ Limit n which
-StopsAt NoMemory n label breach which = Unit {0}
-StopsAt _ n label breach which = ⊥
+abbrev pub StopsAt : Stop → ℕ → EventOf → Option (List ℕ) → Option Breach → Option Which → Type 0
+StopsAt (Decided decision) n event label (Some breach) which =
+    decision ≡ record { verdict = Refused n breach.rule breach.at label; refused = Some event }
+StopsAt (Decided decision) n event label None (Some which) = decision ≡ alone (Limit n which)
+StopsAt NoMemory n event label breach which = Unit {0}
+StopsAt _ n event label breach which = ⊥
 
 -- What was read of a line can be judged: an event of it may be taken.
 abbrev pub MayJudge : (Heading → List EventOf → Type 0) → Result Item Cause → Type 0
 MayJudge stands (Ok (item.Event event label)) = MayTake stands event
 MayJudge stands _ = Unit {0}
 
--- A checker stands for some history of this header, whose events are on the lines before this one.
-abbrev pub StandsAt : (Heading → List EventOf → Type 0) → Heading → ℕ → Type 0
-StandsAt stands heading n = (h : List EventOf) × stands heading h × (n ≡ length h + 2)
-
 module _ (stands : Heading → List EventOf → Type 0) (heading : Heading) where
-  -- What a line says, judged after a history, and what the checker stands for then: it took one event, or the end came,
-  -- or reading stopped. There can be no memory only for an event, which is the first fact. No line after the header
-  -- accepts a log.
-  abbrev pub JudgesLine : List EventOf → Type 0 → Result Turn Stop → Step → Type 0
-  JudgesLine h event (Ok Taken) step =
+  -- What a line says, which has this event or none, judged after a history, and what the checker stands for then: it took
+  -- the event, or the end came, or reading stopped. There can be no memory only for an event, which is the first fact. No
+  -- line after the header accepts a log.
+  abbrev pub JudgesLine : List EventOf → Option EventOf → Type 0 → Result Turn Stop → Step → Type 0
+  JudgesLine h event wants (Ok Taken) step =
       (longer : List EventOf) × (step ≡ GoesOn (AtEvents heading longer)) × Keeps stands heading longer
       × (length longer ≡ length h + 1)
-  JudgesLine h event (Ok End) step = (step ≡ GoesOn (AtEnd h)) × Keeps stands heading h
-  JudgesLine h event (Err (Decided verdict)) step = (step ≡ Decides verdict) × Knows stands heading h verdict
-  JudgesLine h event (Err ReadFault) step = ⊥
-  JudgesLine h event (Err NoMemory) step = event
+  JudgesLine h event wants (Ok End) step = (step ≡ GoesOn (AtEnd h)) × Keeps stands heading h
+  JudgesLine h event wants (Err (Decided decision)) step =
+      (step ≡ Decides decision.verdict) × (decision ≡ refusing event decision.verdict)
+      × KnowsThat (Keeps stands heading h) decision.verdict
+  JudgesLine h event wants (Err ReadFault) step = ⊥
+  JudgesLine h event wants (Err NoMemory) step = wants

@@ -3,10 +3,10 @@ use Rattle.std.specs.Prelude.{◌≡◌, ℕ, ◌<◌, List, ◌++◌, length, t
 use Rattle.bbm_io.specs.Faults.{Rose}
 use Rattle.bbm_io.specs.Flow.{extended}
 use Rattle.bbm_io.specs.declared.source.Failed.{Failed}
+use Rattle.bbm_events.specs.declared.event.Event.{Event}
 use Rattle.bbm_events.specs.Heading.{Heading}
 use Rattle.bbm_follow.specs.Following as run
 use Rattle.bbm_follow.specs.declared.followed.Followed.{Followed}
-use Rattle.bbm_rules.specs.declared.verdict.Verdict.{Verdict}
 use Rattle.bbm_rules.specs.Outcome.{AtHeader, text_of}
 use Rattle.bbm_rules.specs.Texts.{verdict_text}
 use Rattle.bbm_report.specs.Further.{heading_in}
@@ -16,6 +16,7 @@ use Rattle.bbm_session.specs.declared.command.Request.{Request}
 use Rattle.bbm_session.specs.declared.command.Request.TheVariants.{Judge, Follow, Generate, Selftest}
 use Rattle.bbm_session.specs.declared.status.Status.{Status}
 use Rattle.bbm_session.specs.declared.status.Status.TheVariants as status
+use Rattle.bbm_session.specs.declared.stop.Decision.{Decision}
 use Rattle.bbm_session.specs.declared.stop.Stop.{Stop}
 use Rattle.bbm_session.specs.declared.stop.Stop.TheVariants.{Decided, ReadFault, NoMemory}
 use Rattle.bbm_session.specs.Fold.{Fold}
@@ -47,10 +48,10 @@ Wrote wanted text result old new faults faults' =
 abbrev pub Silent : Status → Status → Option (List ℕ) → Option (List ℕ) → ℕ → ℕ → Type 0
 Silent wanted result old new faults faults' = (result ≡ wanted) × (new ≡ old) × (faults' ≡ faults)
 
--- What became of the answer where reading stopped for this cause; a verdict has some text.
-abbrev pub Reports : (Verdict → List ℕ → Type 0) → Stop → Status → Option (List ℕ) → Option (List ℕ) → ℕ → ℕ → Type 0
-Reports Text (Decided verdict) result old new faults faults' =
-    (text : List ℕ) × Text verdict text × Wrote (status_of verdict) text result old new faults faults'
+-- What became of the answer where reading stopped for this cause; what was decided has some text.
+abbrev pub Reports : (Decision → List ℕ → Type 0) → Stop → Status → Option (List ℕ) → Option (List ℕ) → ℕ → ℕ → Type 0
+Reports Text (Decided decision) result old new faults faults' =
+    (text : List ℕ) × Text decision text × Wrote (status_of decision.verdict) text result old new faults faults'
 Reports Text ReadFault result old new faults faults' = Silent status.ReadFault result old new faults faults'
 Reports Text NoMemory result old new faults faults' = Silent status.NoMemory result old new faults faults'
 
@@ -61,8 +62,12 @@ ReportsRun (Ok told) result old new faults faults' =
 ReportsRun (Err _) result old new faults faults' = Silent status.NoMemory result old new faults faults'
 
 -- the line of a verdict alone
-abbrev pub IsLine : Verdict → List ℕ → Type 0
-IsLine verdict text = text ≡ verdict_text verdict
+abbrev pub IsLine : Decision → List ℕ → Type 0
+IsLine decision text = text ≡ verdict_text decision.verdict
+
+-- the text of a command for what was decided
+abbrev pub SaysFor : Command → Option Heading → List Event → Decision → List ℕ → Type 0
+SaysFor command heading h decision text = Says command heading h decision.verdict text
 
 -- the heading of what is left, where that is told
 abbrev pub Heads : Option (List ℕ) → Option Heading → Type 0

@@ -4,9 +4,9 @@ ghost use Rattle.std.specs.Prelude.{◌≡◌, ℕ, List, Option};
 ghost use Rattle.bbm_events.specs.declared.event.Event.{Event};
 ghost use Rattle.bbm_events.specs.Heading.{Heading as HeadingOf};
 ghost use Rattle.bbm_session.specs.declared.command.Command.{Command as CommandOf};
-ghost use Rattle.bbm_session.specs.Run.{Says, status_of};
+ghost use Rattle.bbm_session.specs.Run.{status_of};
 ghost use Rattle.bbm_session.specs.Stages.{IsBrief};
-ghost use Rattle.bbm_session.specs.Writing.{IsLine, Wrote, Puts, Reports};
+ghost use Rattle.bbm_session.specs.Writing.{IsLine, Wrote, Puts, Reports, SaysFor};
 
 use crate::status::Status;
 use crate::stop::Stop;
@@ -41,11 +41,14 @@ pub fn settled(written: Result<(), Failed>, wanted: Status) -> Status
 pub fn report_stop<K: Sink>(stop: Stop, out: &mut K) -> Status
     ensures line { Reports IsLine stop result (K.held out.old) (K.held out.new) (K.faults out.old) (K.faults out.new) }
     ensures brief { IsBrief stop → (command : CommandOf) (heading : Option HeadingOf) (h : List Event)
-        → Reports (Says command heading h) stop result (K.held out.old) (K.held out.new)
+        → Reports (SaysFor command heading h) stop result (K.held out.old) (K.held out.new)
         (K.faults out.old) (K.faults out.new) }
 {
     match stop {
-        Stop::Decided(verdict) => settled(tell_verdict(&verdict, out), status(&verdict)),
+        Stop::Decided(decision) => settled(
+            tell_verdict(&decision.verdict, out),
+            status(&decision.verdict),
+        ),
         Stop::ReadFault => Status::ReadFault,
         Stop::NoMemory => Status::NoMemory,
     }

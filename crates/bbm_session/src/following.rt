@@ -1,6 +1,6 @@
 //! The steps of a run, taken line after line.
 
-ghost use Rattle.std.specs.Prelude.{◌≡◌, ◌<◌, Some, ok_or};
+ghost use Rattle.std.specs.Prelude.{◌≡◌, ◌*◌, ◌<◌, Some, ok_or};
 ghost use Rattle.bbm_follow.specs.Following.{Reached, RunSays};
 ghost use Rattle.bbm_follow.specs.Following as following_of;
 ghost use Rattle.bbm_session.specs.Fold.{Fold};
@@ -12,7 +12,7 @@ ghost use Rattle.bbm_session.specs.Writing.{FollowsRun, ReportsRun, Wrote};
 use crate::answering::{report_stop, settled};
 use crate::reading::{header_line, read_log};
 use crate::status::Status;
-use crate::stop::{Stop, Turn};
+use crate::stop::{Stop, Turn, decided};
 use crate::taker::Taker;
 use crate::telling::tell;
 use arrayvec::ArrayVec;
@@ -31,7 +31,7 @@ fn turned(taken: Result<RunTurn, LineFault>, stop: &mut Stop) -> Option<Turn>
         Ok(RunTurn::Step) => Some(Turn::Taken),
         Ok(RunTurn::End) => Some(Turn::End),
         Err(LineFault::Decided(verdict)) => {
-            *stop = Stop::Decided(verdict);
+            *stop = decided(verdict);
             None
         }
         Err(LineFault::NoMemory) => {
@@ -121,7 +121,7 @@ fn report_run<K: Sink>(told: Result<Followed, NoMemory>, out: &mut K) -> Status
 pub fn follow<S: Source, K: Sink>(alloc: Global, log: &mut S, out: &mut K) -> Status
     ensures follows { FollowsRun result (S.left log.old) (S.left log.new) (S.faults log.old) (S.faults log.new)
         (K.held out.old) (K.held out.new) (K.faults out.old) (K.faults out.new) }
-    ensures shrinks { Shrinks (S.left log.old) (S.left log.new) }
+    ensures shrinks { Shrinks (201 * 4294967298) (S.left log.old) (S.left log.new) }
 {
     let mut lines = Lines::new();
     match header_line::<Following, S>(&mut lines, log) {

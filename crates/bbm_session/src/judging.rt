@@ -12,10 +12,10 @@ ghost use Rattle.bbm_rules.specs.Outcome.{Progress, is_reached, limit_after, aft
 ghost use Rattle.bbm_log_grammar.specs.InLine.{read_in};
 ghost use Rattle.bbm_session.specs.Fold.{Fold};
 ghost use Rattle.bbm_session.specs.Folds.{Judged, Judges, event_needs, item_needs};
-ghost use Rattle.bbm_session.specs.Stages.{StopsAt, MayJudge, Keeps, JudgesLine, MayTakeLine, TakesLine};
+ghost use Rattle.bbm_session.specs.Stages.{StopsAt, MayJudge, Keeps, JudgesLine, MayTakeLine, TakesLine, event_in};
 
 use crate::reading::{limit, stop_limit, stop_malformed};
-use crate::stop::{Stop, Turn};
+use crate::stop::{Decision, Stop, Turn};
 use crate::taker::Taker;
 use bbm_events::{Event, Header, Malformed};
 use bbm_log_grammar::{LabelText, LineItem, kept_label, read_line};
@@ -23,36 +23,39 @@ use bbm_regimes::Which;
 use bbm_rules::{Checker, Limits, StepFault, Verdict};
 use std::alloc::Global;
 
-// Why reading stops at an event with this label that the checker didn't take.
-fn refusal(number: u64, label: &Option<LabelText>, fault: StepFault) -> Stop
+/// Why reading stops at an event with this label that the checker didn't take.
+fn refusal(number: u64, event: &Event, label: &Option<LabelText>, fault: StepFault) -> Stop
     ensures stops { (breach : Option Breach) (which : Option WhichOf) → Answers (Err fault) breach which
-        → StopsAt result number label.now breach which }
+        → StopsAt result number event.now label.now breach which }
     ensures want { result ≡ Stop.NoMemory → fault ≡ StepFault.NoMemory }
 {
     match fault {
-        StepFault::Broken(rule, at) => Stop::Decided(Verdict::Refused {
-            line: number,
-            rule,
-            at,
-            label: kept_label(label),
+        StepFault::Broken(rule, at) => Stop::Decided(Decision {
+            verdict: Verdict::Refused {
+                line: number,
+                rule,
+                at,
+                label: kept_label(label),
+            },
+            refused: Some(*event),
         }),
         StepFault::Limit(which) => limit(number, which),
         StepFault::NoMemory => Stop::NoMemory,
     }
 }
 
-// Stops reading at an event with this label that the checker didn't take.
+/// Stops reading at an event with this label that the checker didn't take.
 #[cold]
 #[inline(never)]
-fn refuse(number: u64, label: Option<LabelText>, fault: StepFault, stop: &mut Stop)
+fn refuse(number: u64, event: &Event, label: Option<LabelText>, fault: StepFault, stop: &mut Stop)
     ensures stops { (breach : Option Breach) (which : Option WhichOf) → Answers (Err fault) breach which
-        → StopsAt stop.new number label.entry breach which }
+        → StopsAt stop.new number event.now label.entry breach which }
     ensures want { stop.new ≡ Stop.NoMemory → fault ≡ StepFault.NoMemory }
 {
-    *stop = refusal(number, &label, fault);
+    *stop = refusal(number, event, &label, fault);
 }
 
-// Whether the last of so many events is one too many.
+/// Whether the last of so many events is one too many.
 fn passes(most: Option<u64>, taken: u64) -> bool
     ensures { (before : ℕ) → taken ≡ suc before → result ≡ is_reached most before }
 {
@@ -62,7 +65,7 @@ fn passes(most: Option<u64>, taken: u64) -> bool
     }
 }
 
-// The limit that the last of so many events, on this line, reaches.
+/// The limit that the last of so many events, on this line, reaches.
 fn limit_reached(limits: &Limits, number: u64, taken: u64) -> Option<Which>
     ensures reached { (before : ℕ) → taken ≡ suc before → result ≡ limit_after limits.now number before }
     ensures few { result ≡ None → number < 4294967295 }
@@ -76,7 +79,7 @@ fn limit_reached(limits: &Limits, number: u64, taken: u64) -> Option<Which>
     }
 }
 
-// What an event with this label decides on this line.
+/// What an event with this label decides on this line.
 fn judge_event<C: Checker>(
     alloc: Global,
     limits: &Limits,
@@ -89,14 +92,15 @@ fn judge_event<C: Checker>(
     requires { MayTake (C.stands checker.old) event }
     ensures judges { (heading : Heading) (h : List Event) → Keeps (C.stands checker.old) heading h
         → fits_heading heading event ≡ true
-        → JudgesLine (C.stands checker.new) heading h (event_needs (C.frugal checker.old) heading h event ≡ true)
+        → JudgesLine (C.stands checker.new) heading h (Some event)
+        (event_needs (C.frugal checker.old) heading h event ≡ true)
         (ok_or result stop.new)
         (after_event Patterns limits.now number heading h event label.entry) }
     ensures frugal { C.frugal checker.new ≡ C.frugal checker.old }
     ensures few { result ≡ Some Turn.Taken → number < 4294967295 }
 {
     if let Err(fault) = checker.step(alloc, event) {
-        refuse(number, label, fault, stop);
+        refuse(number, &event, label, fault, stop);
         return None;
     }
     match limit_reached(limits, number, checker.events()) {
@@ -108,7 +112,7 @@ fn judge_event<C: Checker>(
     }
 }
 
-// What a line after the header decides, by what was read of it.
+/// What a line after the header decides, by what was read of it.
 fn judge_item<C: Checker>(
     alloc: Global,
     limits: &Limits,
@@ -120,7 +124,8 @@ fn judge_item<C: Checker>(
     requires { MayJudge (C.stands checker.old) (read_in read) }
     ensures judges { (heading : Heading) (h : List Event) → Keeps (C.stands checker.old) heading h
         → IfOk (read_in read.entry) (λ item. item_fits heading item ≡ true)
-        → JudgesLine (C.stands checker.new) heading h (item_needs (C.frugal checker.old) heading h (read_in read.entry) ≡ true)
+        → JudgesLine (C.stands checker.new) heading h (event_in (read_in read.entry))
+        (item_needs (C.frugal checker.old) heading h (read_in read.entry) ≡ true)
         (ok_or result stop.new)
         (after_item Patterns limits.now number heading h (read_in read.entry)) }
     ensures frugal { C.frugal checker.new ≡ C.frugal checker.old }
@@ -145,7 +150,7 @@ fn judge_item<C: Checker>(
     }
 }
 
-// What a line after the header decides.
+/// What a line after the header decides.
 fn judge_line<C: Checker>(
     alloc: Global,
     limits: &Limits,

@@ -6,6 +6,7 @@ mod answering;
 mod command;
 mod following;
 mod generating;
+mod judgement;
 mod judging;
 mod line;
 mod obeying;
@@ -16,12 +17,10 @@ mod stop;
 mod taker;
 mod telling;
 mod top;
-mod words;
 
 pub use command::{Command, Request};
 pub use status::{Status, number};
 pub use top::run;
-pub use words::run_words;
 
 #[cfg(test)]
 mod tests;

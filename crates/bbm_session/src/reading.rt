@@ -1,13 +1,13 @@
 //! The lines of a log, read one after another.
 
-ghost use Rattle.std.specs.Prelude.{◌≡◌, ◌+◌, ◌≤◌, ◌<◌, ℕ, OnOk, IfOk, IfErr, Some, OnSome, ok_or};
+ghost use Rattle.std.specs.Prelude.{◌≡◌, ◌+◌, ◌*◌, ◌≤◌, ◌<◌, ℕ, OnOk, IfOk, IfErr, Some, OnSome, ok_or};
 ghost use Rattle.bbm_events.specs.Heading.{Heading};
-ghost use Rattle.bbm_session.specs.Fold.{Fold, IsStart, IsInside, IsEnd};
+ghost use Rattle.bbm_session.specs.Fold.{Fold, IsStart, IsInside, IsEnd, alone};
 ghost use Rattle.bbm_session.specs.Stages.{Shrinks, Ready, IsBrief, ReadsHeader, Starts, MayGoOn, Advances, Reaches};
 ghost use Rattle.bbm_session.specs.Stages.{Closes, Ends};
 
 use crate::line::{Piece, find_piece, next_piece, take_found};
-use crate::stop::{Stop, Turn};
+use crate::stop::{Stop, Turn, decided};
 use crate::taker::Taker;
 use bbm_events::{Header, Malformed};
 use bbm_io::{Lines, Source};
@@ -18,23 +18,23 @@ use std::alloc::Global;
 
 /// Why reading stops at a malformed line.
 pub fn malformed(line: u64, cause: Malformed) -> Stop
-    ensures { result ≡ Stop.Decided (Verdict.Malformed line cause) }
+    ensures { result ≡ Stop.Decided (alone (Verdict.Malformed line cause)) }
 {
-    Stop::Decided(Verdict::Malformed { line, cause })
+    decided(Verdict::Malformed { line, cause })
 }
 
 /// Why reading stops at a line that reaches a limit.
 pub fn limit(line: u64, which: Which) -> Stop
-    ensures { result ≡ Stop.Decided (Verdict.Limit line which) }
+    ensures { result ≡ Stop.Decided (alone (Verdict.Limit line which)) }
 {
-    Stop::Decided(Verdict::Limit { line, which })
+    decided(Verdict::Limit { line, which })
 }
 
 /// Stops reading at a malformed line.
 #[cold]
 #[inline(never)]
 pub fn stop_malformed(line: u64, cause: Malformed, stop: &mut Stop)
-    ensures { stop.new ≡ Stop.Decided (Verdict.Malformed line cause) }
+    ensures { stop.new ≡ Stop.Decided (alone (Verdict.Malformed line cause)) }
 {
     *stop = malformed(line, cause);
 }
@@ -43,12 +43,12 @@ pub fn stop_malformed(line: u64, cause: Malformed, stop: &mut Stop)
 #[cold]
 #[inline(never)]
 pub fn stop_limit(line: u64, which: Which, stop: &mut Stop)
-    ensures { stop.new ≡ Stop.Decided (Verdict.Limit line which) }
+    ensures { stop.new ≡ Stop.Decided (alone (Verdict.Limit line which)) }
 {
     *stop = limit(line, which);
 }
 
-// What line 1 decides, by what was read of it.
+/// What line 1 decides, by what was read of it.
 fn judge_header(read: Result<Header, Malformed>) -> Result<Header, Stop>
     ensures judges { ReadsHeader result read }
     ensures brief { IfErr result (λ stop. IsBrief stop) }
@@ -67,7 +67,7 @@ pub fn header_line<T: Taker, S: Source>(lines: &mut Lines, log: &mut S) -> Resul
         → IsStart fold start begun → Starts fold start result (S.left log.old) (S.left log.new)
         (S.faults log.old) (S.faults log.new) }
     ensures brief { IfErr result (λ stop. IsBrief stop) }
-    ensures shrinks { Shrinks (S.left log.old) (S.left log.new) }
+    ensures shrinks { Shrinks 201 (S.left log.old) (S.left log.new) }
 {
     match next_piece(lines, log) {
         Piece::Line => judge_header(read_header(lines.bytes())),
@@ -77,8 +77,8 @@ pub fn header_line<T: Taker, S: Source>(lines: &mut Lines, log: &mut S) -> Resul
     }
 }
 
-// Reads line number `number`, after the header. None: reading stops, and `stop` says why: so no verdict is moved about
-// for a line that decides nothing. The line is taken in both arms, which leaves the loop one test for each line.
+/// Reads line number `number`, after the header. None: reading stops, and `stop` says why: so no verdict is moved about
+/// for a line that decides nothing. The line is taken in both arms, which leaves the loop one test for each line.
 fn log_line<T: Taker, S: Source>(
     alloc: Global,
     number: u64,
@@ -96,7 +96,7 @@ fn log_line<T: Taker, S: Source>(
         → T.stands taker.old fold header.now p number
         → Advances fold (T.stands taker.new fold header.now) number p (ok_or result stop.new)
         (S.left log.old) (S.left log.new) (S.faults log.old) (S.faults log.new) }
-    ensures shrinks { Shrinks (S.left log.old) (S.left log.new) }
+    ensures shrinks { Shrinks 201 (S.left log.old) (S.left log.new) }
     ensures few { result ≡ Some Turn.Taken → number < 4294967295 }
 {
     let whole = lines.at_hand(log);
@@ -126,7 +126,7 @@ fn log_line<T: Taker, S: Source>(
     }
 }
 
-// Reads the lines from line 2 to the `end` line; answers the number of the line behind it.
+/// Reads the lines from line 2 to the `end` line; answers the number of the line behind it.
 fn log_lines<T: Taker, S: Source>(
     alloc: Global,
     header: &Header,
@@ -142,7 +142,7 @@ fn log_lines<T: Taker, S: Source>(
         → T.stands taker.old fold header.now p 2
         → Reaches fold (T.stands taker.new fold header.now) p result (S.left log.old) (S.left log.new)
         (S.faults log.old) (S.faults log.new) }
-    ensures shrinks { Shrinks (S.left log.old) (S.left log.new) }
+    ensures shrinks { Shrinks (201 * 4294967296) (S.left log.old) (S.left log.new) }
 {
     let mut number = 2;
     let mut stop = Stop::ReadFault;
@@ -155,7 +155,7 @@ fn log_lines<T: Taker, S: Source>(
     }
 }
 
-// Reads behind the `end` line, where nothing may follow.
+/// Reads behind the `end` line, where nothing may follow.
 fn nothing_follows<T: Taker, S: Source>(
     number: u64,
     lines: &mut Lines,
@@ -166,7 +166,7 @@ fn nothing_follows<T: Taker, S: Source>(
     ensures closes { (fold : Fold T.Reached T.Said) (p : T.Reached) (end : T.Reached) → IsEnd fold p end
         → Closes fold p end result number (S.left log.old) (S.left log.new) (S.faults log.old) (S.faults log.new) }
     ensures brief { IfErr result (λ stop. IsBrief stop) }
-    ensures shrinks { Shrinks (S.left log.old) (S.left log.new) }
+    ensures shrinks { Shrinks 201 (S.left log.old) (S.left log.new) }
 {
     match next_piece(lines, log) {
         Piece::Line => Err(malformed(number, Malformed::AfterEnd)),
@@ -196,7 +196,7 @@ pub fn read_log<T: Taker, S: Source>(
         → T.stands taker.old fold header.now p 2
         → Ends fold (T.stands taker.new fold header.now) p result (S.left log.old) (S.left log.new)
         (S.faults log.old) (S.faults log.new) }
-    ensures shrinks { Shrinks (S.left log.old) (S.left log.new) }
+    ensures shrinks { Shrinks (201 * 4294967297) (S.left log.old) (S.left log.new) }
 {
     match log_lines(alloc, header, taker, lines, log) {
         Ok(number) => nothing_follows::<T, S>(number, lines, log),

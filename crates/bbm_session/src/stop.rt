@@ -1,16 +1,39 @@
 //! How reading a log goes on, and why it stops.
 
+ghost use Rattle.std.specs.Prelude.{◌≡◌};
+ghost use Rattle.bbm_session.specs.Fold.{alone};
+
+use bbm_events::Event;
 use bbm_rules::Verdict;
+
+/// What is decided.
+#[derive(Clone, Copy, Debug)]
+pub struct Decision {
+    /// The verdict.
+    pub verdict: Verdict,
+    /// The event that is refused; None where the verdict refuses none.
+    pub refused: Option<Event>,
+}
 
 /// Why reading a log stopped.
 #[derive(Clone, Copy, Debug)]
 pub enum Stop {
     /// The verdict is known.
-    Decided(Verdict),
+    Decided(Decision),
     /// A read failed.
     ReadFault,
     /// There was no memory.
     NoMemory,
+}
+
+/// Why reading stops where this verdict is known, which refuses no event.
+pub fn decided(verdict: Verdict) -> Stop
+    ensures { result ≡ Stop.Decided (alone verdict) }
+{
+    Stop::Decided(Decision {
+        verdict,
+        refused: None,
+    })
 }
 
 /// What a line was that decides nothing.

@@ -1,6 +1,6 @@
 //! The top call.
 
-ghost use Rattle.std.specs.Prelude.{◌≡◌, ◌<◌, ◌⊎◌, ℕ, List, [], Option, Some, None, IsSome, true, false, map};
+ghost use Rattle.std.specs.Prelude.{◌≡◌, ◌*◌, ◌<◌, ◌^◌, ◌⊎◌, length, ℕ, List, [], Option, Some, None, IsSome, true, false, map};
 ghost use Rattle.std.specs.String.{string_bytes};
 ghost use Rattle.bbm_io.specs.Faults.{Rose};
 ghost use Rattle.bbm_io.specs.Flow.{preceded, extended};
@@ -49,7 +49,7 @@ fn say_usage<K: Sink>(out: &mut K) -> Status
 fn judge<S: Source, K: Sink>(alloc: Global, command: &Command, log: &mut S, out: &mut K) -> Status
     ensures obeys { Obeys command.now result (S.left log.old) (S.left log.new) (S.faults log.old) (S.faults log.new)
         (K.held out.old) (K.held out.new) (K.faults out.old) (K.faults out.new) }
-    ensures shrinks { Shrinks (S.left log.old) (S.left log.new) }
+    ensures shrinks { Shrinks (201 * 4294967298) (S.left log.old) (S.left log.new) }
 {
     match command {
         Command::Slow => obey::<Oracle, S, K>(alloc, command, log, out),
@@ -63,7 +63,7 @@ fn judge<S: Source, K: Sink>(alloc: Global, command: &Command, log: &mut S, out:
 fn serve<S: Source, K: Sink>(alloc: Global, request: &Request, log: &mut S, out: &mut K) -> Status
     ensures serves { Serves request.now result (S.left log.old) (S.left log.new) (S.faults log.old) (S.faults log.new)
         (K.held out.old) (K.held out.new) (K.faults out.old) (K.faults out.new) }
-    ensures shrinks { Shrinks (S.left log.old) (S.left log.new) }
+    ensures shrinks { Shrinks (201 * 4294967298) (S.left log.old) (S.left log.new) }
 {
     match request {
         Request::Judge(command) => judge(alloc, command, log, out),
@@ -163,8 +163,8 @@ pub fn run<S: Source, K: Sink>(
         → (bytes : List ℕ) → S.left log.old ≡ Some bytes → result ≡ Status.NoMemory
         → WantAt request bytes (S.left log.new) }
 
-    // What is read begins what was left, in every case.
-    ensures read { (taken : List ℕ) × (S.left log.old ≡ preceded taken (S.left log.new)) }
+    // What is read begins what was left, and is fewer than 2^40 bytes, in every case.
+    ensures read { (taken : List ℕ) × (S.left log.old ≡ preceded taken (S.left log.new)) × (length taken < 2 ^ 40) }
 
     // Where no fault comes from outside, there is a verdict, or want of memory.
     ensures complete { IsSome (request_of (map string_bytes words.now.items))

@@ -1,11 +1,7 @@
 //! What the words say.
 
-use super::{Faults, REMAP, judged, log, words_of};
-use crate::{number, run_words};
-use bbm_io::{CleanSource, MemSink};
+use super::{Faults, REMAP, judged, log};
 use std::alloc::{AllocError, Global};
-use std::io;
-use std::io::ErrorKind;
 use std::test::Fail;
 
 /// The usage line.
@@ -81,31 +77,6 @@ fn tells_usage(alloc: Global, command: &str) -> Result<bool, AllocError> {
 fn tells_the_usage(rt: HostRuntime) -> Result<(), Fail> {
     for command in NO_REQUESTS {
         assert!(rt; tells_usage(rt.alloc(), command)?, "{command}");
-    }
-    Ok(())
-}
-
-#[test]
-fn ends_by_the_words(rt: HostRuntime) -> Result<(), Fail> {
-    let check = words_of(rt.alloc(), "check")?;
-    let none = words_of(rt.alloc(), "")?;
-    // What came of gathering the words, and the status and what is written.
-    for (gathered, status, text) in vec![in rt.alloc();
-        (Ok(check), 0, b"accepted 8 events\n".as_slice()),
-        (Ok(none), 3, USAGE),
-        (Err(io::Error::from(ErrorKind::InvalidData)), 3, USAGE),
-        (
-            Err(io::Error::from(ErrorKind::OutOfMemory)),
-            6,
-            b"".as_slice()
-        ),
-    ]? {
-        let mut source = CleanSource::new(log(rt.alloc(), b"", REMAP, 1, b"")?);
-        let room = Vec::with_capacity(rt.alloc(), 200)?;
-        let mut sink = MemSink::new(room, Vec::new(rt.alloc()));
-        let ended = number(run_words(rt.alloc(), gathered, &mut source, &mut sink));
-        assert_eq!(rt; ended, status);
-        assert_eq!(rt; sink.bytes(), text);
     }
     Ok(())
 }

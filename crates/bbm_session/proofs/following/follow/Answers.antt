@@ -1,4 +1,4 @@
-use Rattle.std.proofs.Common.{[]}
+use Rattle.std.proofs.Common.{[], ◌*◌, lit≤}
 use Rattle.bbm_follow.specs.Following as run
 use Rattle.bbm_session.specs.Folds.{following as following_of}
 use Rattle.bbm_session.proofs.RunLines.{following-start, following-inside, follows-none}
@@ -25,7 +25,7 @@ returns-in-Ok-read_log-clause-follows g c =
     followed-whole header c.read_log.new.taker.steps.items c.follow_run.result c.report_run.result _ _ _ _ _ _ _ _ _ _ starts.0 starts.1 ends c.follow_run.ensures.followed c.report_run.ensures.reports
 
 pub returns-in-Ok-read_log-clause-shrinks : goal.returns-in-Ok-read_log-clause-shrinks
-returns-in-Ok-read_log-clause-shrinks g c = shrinks-trans _ _ _ c.in-Ok.ensures.shrinks c.in-Ok-read_log.ensures.shrinks
+returns-in-Ok-read_log-clause-shrinks g c = shrinks-trans 201 (201 * 4294967297) (201 * 4294967298) _ _ _ (lit≤ tt) c.in-Ok.ensures.shrinks c.in-Ok-read_log.ensures.shrinks
 
 pub returns-in-Ok-clause-follows : goal.returns-in-Ok-clause-follows
 returns-in-Ok-clause-follows g c =
@@ -35,7 +35,7 @@ returns-in-Ok-clause-follows g c =
     followed-stopped header c.read_log.new.taker.steps.items c.in-Err-read_log.stop c.report_stop.result _ _ _ _ _ _ _ _ _ _ starts.0 starts.1 ends c.report_stop.ensures.line
 
 pub returns-in-Ok-clause-shrinks : goal.returns-in-Ok-clause-shrinks
-returns-in-Ok-clause-shrinks g c = shrinks-trans _ _ _ c.in-Ok.ensures.shrinks c.in-Err-read_log.ensures.shrinks
+returns-in-Ok-clause-shrinks g c = shrinks-trans 201 (201 * 4294967297) (201 * 4294967298) _ _ _ (lit≤ tt) c.in-Ok.ensures.shrinks c.in-Err-read_log.ensures.shrinks
 
 pub returns-clause-follows : goal.returns-clause-follows
 returns-clause-follows g c =

@@ -1,7 +1,8 @@
 use Rattle.std.proofs.Common.{[], ◌∷◌, ◌++◌, ◌∙◌, subst, ℕ, List, Ok, Err}
 use Rattle.bbm_io.specs.Reading.{shown}
+use Rattle.bbm_session.specs.declared.line.Piece.TheVariants as piece
 use Rattle.bbm_session.specs.Stages.{TakesLine}
-use Rattle.bbm_session.proofs.Stages.{found-takes, line-advances, rest-advances, long-advances, fault-advances}
+use Rattle.bbm_session.proofs.Stages.{found-takes, takes-shrinks, line-advances, rest-advances, long-advances, fault-advances}
 use Rattle.bbm_session.proofs.reading.log_line.Goals as goal
 
 pub take-requires : goal.take-requires
@@ -22,7 +23,7 @@ pub returns-in-Some-clause-shrinks : goal.returns-in-Some-clause-shrinks
 returns-in-Some-clause-shrinks g c =
     let whole = c.at_hand-whole.result in
     let line = shown whole (g.S.Source.at_hand c.find_piece.new.log) c.find_piece.new.lines.bytes in
-    (line ++ 10 ∷ [], found-takes whole line _ _ _ c.in-Line.ensures.finds c.take_found.ensures.takes)
+    takes-shrinks piece.Line line _ _ c.in-Line.ensures.within (found-takes whole line _ _ _ c.in-Line.ensures.finds c.take_found.ensures.takes)
 
 pub returns-in-None-clause-advances : goal.returns-in-None-clause-advances
 returns-in-None-clause-advances g c = λ fold p inside stands.
@@ -39,7 +40,7 @@ pub returns-in-None-clause-shrinks : goal.returns-in-None-clause-shrinks
 returns-in-None-clause-shrinks g c =
     let whole = c.at_hand-whole.result in
     let line = shown whole (g.S.Source.at_hand c.find_piece.new.log) c.find_piece.new.lines.bytes in
-    (line ++ 10 ∷ [], found-takes whole line _ _ _ c.in-Line.ensures.finds c.take_found-in-None.ensures.takes)
+    takes-shrinks piece.Line line _ _ c.in-Line.ensures.within (found-takes whole line _ _ _ c.in-Line.ensures.finds c.take_found-in-None.ensures.takes)
 
 pub returns-in-Rest-clause-advances : goal.returns-in-Rest-clause-advances
 returns-in-Rest-clause-advances g c = λ fold p inside stands.
@@ -52,3 +53,12 @@ returns-in-TooLong-clause-advances g c = λ fold p inside stands.
 pub returns-in-ReadFault-clause-advances : goal.returns-in-ReadFault-clause-advances
 returns-in-ReadFault-clause-advances g c = λ fold p inside stands.
     fault-advances fold (g.T.Taker.stands c.args.taker.now fold c.args.header.now) c.args.number p (shown c.at_hand-whole.result (g.S.Source.at_hand c.find_piece.new.log) c.find_piece.new.lines.bytes) _ _ _ _ c.in-ReadFault.ensures.plain c.in-ReadFault.ensures.within c.in-ReadFault.ensures.finds c.in-ReadFault.ensures.counted
+
+pub returns-in-Rest-clause-shrinks : goal.returns-in-Rest-clause-shrinks
+returns-in-Rest-clause-shrinks g c = takes-shrinks piece.Rest (shown c.at_hand-whole.result (g.S.Source.at_hand c.find_piece.new.log) c.find_piece.new.lines.bytes) _ _ c.in-Rest.ensures.within c.in-Rest.ensures.finds
+
+pub returns-in-TooLong-clause-shrinks : goal.returns-in-TooLong-clause-shrinks
+returns-in-TooLong-clause-shrinks g c = takes-shrinks piece.TooLong (shown c.at_hand-whole.result (g.S.Source.at_hand c.find_piece.new.log) c.find_piece.new.lines.bytes) _ _ c.in-TooLong.ensures.within c.in-TooLong.ensures.finds
+
+pub returns-in-ReadFault-clause-shrinks : goal.returns-in-ReadFault-clause-shrinks
+returns-in-ReadFault-clause-shrinks g c = takes-shrinks piece.ReadFault (shown c.at_hand-whole.result (g.S.Source.at_hand c.find_piece.new.log) c.find_piece.new.lines.bytes) _ _ c.in-ReadFault.ensures.within c.in-ReadFault.ensures.finds

@@ -1,4 +1,4 @@
-use Rattle.std.proofs.Common.{arith, ◌∙◌}
+use Rattle.std.proofs.Common.{arith, ◌∙◌, ◌*◌, ◌+◌}
 use Rattle.bbm_session.proofs.Stages.{shrinks-trans, going-on, going-end, going-stops}
 use Rattle.bbm_session.proofs.reading.log_lines.Goals as goal
 
@@ -19,7 +19,7 @@ lines-preserved g c =
     record {
       within = omega (arith, few);
       ready = c.in-Some-Taken.ensures.ready;
-      shrinks = shrinks-trans _ _ _ kept.shrinks c.in-Some-Taken.ensures.shrinks;
+      shrinks = shrinks-trans (201 * c.lines.number) 201 (201 * (c.lines.number + 1)) _ _ _ (omega arith) kept.shrinks c.in-Some-Taken.ensures.shrinks;
       sound = advanced.4 ∙ kept.sound;
       going = λ fold p inside stands.
           let going = kept.going fold p inside stands in
@@ -28,10 +28,10 @@ lines-preserved g c =
     }
 
 pub returns-in-Some-End-clause-shrinks : goal.returns-in-Some-End-clause-shrinks
-returns-in-Some-End-clause-shrinks g c = shrinks-trans _ _ _ c.lines.invariant.shrinks c.in-Some-End.ensures.shrinks
+returns-in-Some-End-clause-shrinks g c = shrinks-trans (201 * c.lines.number) 201 (201 * 4294967296) _ _ _ (omega (arith, c.lines.invariant.within)) c.lines.invariant.shrinks c.in-Some-End.ensures.shrinks
 
 pub returns-in-None-clause-shrinks : goal.returns-in-None-clause-shrinks
-returns-in-None-clause-shrinks g c = shrinks-trans _ _ _ c.lines.invariant.shrinks c.in-None.ensures.shrinks
+returns-in-None-clause-shrinks g c = shrinks-trans (201 * c.lines.number) 201 (201 * 4294967296) _ _ _ (omega (arith, c.lines.invariant.within)) c.lines.invariant.shrinks c.in-None.ensures.shrinks
 
 pub returns-in-Some-End-clause-reaches : goal.returns-in-Some-End-clause-reaches
 returns-in-Some-End-clause-reaches g c = λ fold p inside stands.

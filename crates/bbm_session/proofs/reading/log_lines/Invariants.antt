@@ -1,4 +1,4 @@
-use Rattle.std.proofs.Common.{◌≡◌, ◌≤◌, ◌-◌}
+use Rattle.std.proofs.Common.{◌≡◌, ◌*◌, ◌≤◌, ◌-◌}
 use Rattle.bbm_session.specs.Fold.{Fold, IsInside}
 use Rattle.bbm_session.specs.Stages.{Shrinks, Going, Ready}
 use Rattle.bbm_session.proofs.reading.log_lines.Given as goal
@@ -7,7 +7,7 @@ abbrev pub invariant-lines : goal.invariant-lines
 invariant-lines g l = record {
   within : l.number ≤ 4294967295;
   ready : Ready l.lines l.number;
-  shrinks : Shrinks (g.S.Source.left l.initial.log) (g.S.Source.left l.log);
+  shrinks : Shrinks (201 * l.number) (g.S.Source.left l.initial.log) (g.S.Source.left l.log);
   sound : g.S.Source.faults l.log ≡ g.S.Source.faults l.initial.log;
   going : (fold : Fold g.T.Taker.Reached g.T.Taker.Said) (p : g.T.Taker.Reached) → IsInside fold p
       → g.T.Taker.stands l.initial.taker fold l.header p 2

@@ -1,3 +1,4 @@
+use Rattle.std.proofs.Common.{◌*◌, lit≤}
 use Rattle.bbm_session.proofs.Stages.{shrinks-trans, closes-ends}
 use Rattle.bbm_session.proofs.reading.read_log.Goals as goal
 
@@ -8,4 +9,4 @@ returns-in-Ok-clause-ends g c = λ fold p inside stands.
     closes-ends fold (g.T.Taker.stands c.log_lines.new.taker fold c.args.header.now) p c.in-Ok.number c.nothing_follows.result _ _ _ _ _ _ reached closes c.nothing_follows.ensures.brief
 
 pub returns-in-Ok-clause-shrinks : goal.returns-in-Ok-clause-shrinks
-returns-in-Ok-clause-shrinks g c = shrinks-trans _ _ _ c.in-Ok.ensures.shrinks c.nothing_follows.ensures.shrinks
+returns-in-Ok-clause-shrinks g c = shrinks-trans (201 * 4294967296) 201 (201 * 4294967297) _ _ _ (lit≤ tt) c.in-Ok.ensures.shrinks c.nothing_follows.ensures.shrinks
