@@ -1,4 +1,1 @@
-pub mod Flaws
-pub mod Judges
-pub mod Least
 pub mod StandsFor

@@ -2,12 +2,10 @@
 use Rattle.std.specs.Prelude.{◌≡◌, List}
 use Rattle.bbm_rules.specs.Prelude.{Heading, Event}
 use Rattle.bbm_rules.specs.Claims.{Patterns}
-use Rattle.bbm_rules.specs.Covers.{noted}
-use Rattle.bbm_rules.specs.Notes.{events_of}
-use Rattle.bbm_oracle_trees.specs.Past.{Past, notes}
+use Rattle.bbm_oracle_trees.specs.Past.{Past}
+use Rattle.bbm_oracle_trees.specs.StandsFor as trees
 
--- It keeps the header and the events of this history, and with each event the notes that the definitions give.
+-- Its history stands for this one, and every pattern of events is trusted.
 pub record StandsFor (past : Past) (heading : Heading) (h : List Event) : Type 0 where
-  pub heading_is : past.heading ≡ heading
-  pub events_are : events_of (notes past) ≡ h
-  pub notes_are : notes past ≡ noted heading Patterns h
+  pub trust_is : past.trust ≡ Patterns
+  pub kept : trees.StandsFor past heading h

@@ -14,12 +14,11 @@ ghost use Rattle.bbm_rules.specs.Values as values;
 ghost use Rattle.bbm_oracle_trees.specs.Past.{notes};
 ghost use Rattle.bbm_oracle.specs.StandsFor.{StandsFor};
 
-use crate::order::{check_limit, judge};
-use crate::restless::count_restless;
 use bbm_descriptor::Memory;
 use bbm_events::{Event, Header};
+use bbm_judge::{admit, count_restless};
 use bbm_oracle_tags::pages::count_initialised;
-use bbm_oracle_tags::{roots, values};
+use bbm_oracle_tags::{AllPatterns, roots, values};
 use bbm_oracle_trees::History;
 use bbm_regimes::{Kind, NoMemory, Page, Pe, Place};
 use bbm_rules::{Checker, Fresh, Logged, Phase, StepFault};
@@ -29,7 +28,7 @@ use std::alloc::Global;
 /// them at each call as the rules say. A clause sees it as its history. Source: project's own choice.
 #[derive(Drop)]
 pub struct Oracle {
-    history: History,
+    history: History<AllPatterns>,
 }
 
 impl Oracle {
@@ -40,7 +39,7 @@ impl Oracle {
         ensures empty { IfOk result (λ oracle. StandsFor oracle.history header.now []) }
     {
         Ok(Oracle {
-            history: History::new(alloc, header),
+            history: History::new(alloc, header, AllPatterns),
         })
     }
 
@@ -50,8 +49,7 @@ impl Oracle {
         ensures { (heading : Heading) (h : List Event) → StandsFor self.now.history heading h
             → Answers result (broken heading Patterns h event.now) (limit_of h event.now) }
     {
-        judge(alloc, &self.history, event)?;
-        check_limit(alloc, &self.history, event)
+        admit(alloc, &self.history, event)
     }
 }
 
@@ -99,7 +97,7 @@ impl Checker for Oracle {
     }
 
     ghost values = { λ oracle heading h stands place.
-        ap (λ (events : List Event). values.value_of events place) stands.events_are };
+        ap (λ (events : List Event). values.value_of events place) stands.kept.events_are };
 }
 
 impl Fresh for Oracle {

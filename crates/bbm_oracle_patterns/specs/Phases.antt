@@ -5,7 +5,7 @@ use Rattle.bbm_descriptor.specs.Descriptor.{is_valid}
 use Rattle.bbm_rules.specs.Prelude.{Heading, Kind}
 use Rattle.bbm_rules.specs.declared.phase.Phase.{Phase}
 use Rattle.bbm_rules.specs.declared.phase.Phase.TheVariants.{Clean, Live, Broken, Seen, Half, Cleansed}
-use Rattle.bbm_rules.specs.Claims.{Patterns}
+use Rattle.bbm_rules.specs.Claims.{Trust}
 use Rattle.bbm_rules.specs.Held.{cleansed_everywhere, last_valid}
 use Rattle.bbm_rules.specs.Lists.{◌>>=◌}
 use Rattle.bbm_rules.specs.Notes.{Noted}
@@ -13,11 +13,11 @@ use Rattle.bbm_rules.specs.Phases.{broken_phase}
 
 -- The phase at p of a place that is in a tree, at this kind and level, with this value: as `phase_of` has it where it
 -- found the node of the place.
-abbrev pub phase_at : Heading → Kind → ℕ → ℕ → ℕ → ℕ → List Noted → Phase
-phase_at heading kind level place value p h = unwrap_or (do
+abbrev pub phase_at : Heading → Trust → Kind → ℕ → ℕ → ℕ → ℕ → List Noted → Phase
+phase_at heading trust kind level place value p h = unwrap_or (do
   w ← last_valid kind level place h
-  if cleansed_everywhere heading Patterns place w.since then None
-      else Some (if is_valid kind level value then Live else broken_phase heading Patterns place p w.since)) Clean
+  if cleansed_everywhere heading trust place w.since then None
+      else Some (if is_valid kind level value then Live else broken_phase heading trust place p w.since)) Clean
 
 -- the phase of a broken place that is cleansed, half and seen, or not
 abbrev pub furthest : Bool → Bool → Bool → Phase

@@ -8,6 +8,8 @@
 //! a call costs about the number of events, and for each TLBI behind a publication the length of its list of places.
 #![tactic(auto)]
 
+mod all_patterns;
+pub mod evidence;
 pub mod kept;
 mod open;
 mod relation;
@@ -15,6 +17,7 @@ pub mod search;
 pub mod trace;
 mod walk;
 
+pub use evidence::Evidence;
 pub use kept::{Covered, Kept};
 pub use search::{ValidWrite, held, last_valid, phase_in};
 pub use trace::{Trace, cleansed_everywhere, trace_of};

@@ -1,19 +1,19 @@
 //! The last valid write of a place, and what the place holds.
 
-ghost use Rattle.std.specs.Prelude.{◌≡◌, ℕ, ◌<◌, length, reverse, IfSome};
+ghost use Rattle.std.specs.Prelude.{◌≡◌, ◌<◌, length, reverse, IfSome};
 ghost use Rattle.bbm_descriptor.specs.Descriptor.{is_valid};
 ghost use Rattle.bbm_regimes.specs.PeMask.{pe_in};
-ghost use Rattle.bbm_rules.specs.Claims.{Patterns};
 ghost use Rattle.bbm_rules.specs.Held as spec;
 ghost use Rattle.bbm_oracle_patterns.specs.Kept.{notes_of, write_in};
 ghost use Rattle.bbm_oracle_patterns.specs.Lasts.{TellsOf};
 ghost use Rattle.bbm_oracle_patterns.specs.Phases.{phase_at, furthest};
 
+use crate::evidence::Evidence;
 use crate::kept::Kept;
-use crate::trace::{Trace, cleansed_everywhere, has_every_pe, trace_of};
+use crate::trace::trace_of;
 use bbm_descriptor::core;
 use bbm_events::{Event, Header};
-use bbm_regimes::{Kind, Pe, Place};
+use bbm_regimes::{Kind, Pe, PeMask, Place};
 use bbm_rules::Phase;
 
 /// A valid write in a log. Source: project's own choice.
@@ -89,13 +89,22 @@ pub fn last_valid(log: &[Kept], kind: Kind, level: u8, place: Place) -> Option<V
 }
 
 /// The value that the place holds, where it has this kind and this level, 0 to 3: that of its last valid write since
-/// the last init of its page, unless it is cleansed since at every PE of the header. The log is oldest first.
-pub fn held(header: &Header, log: &[Kept], kind: Kind, level: u8, place: Place) -> Option<u64>
-    ensures { result ≡ spec.held header.now Patterns kind level place (notes_of (reverse log.now)) }
+/// the last init of its page, unless it is cleansed since at every PE of the header. The log is oldest first, and the
+/// evidence has taken it.
+pub fn held<E: Evidence>(
+    evidence: &E,
+    header: &Header,
+    log: &[Kept],
+    kind: Kind,
+    level: u8,
+    place: Place,
+) -> Option<u64>
+    requires { E.has_taken evidence.now header.now (notes_of (reverse log.now)) }
+    ensures { result ≡ spec.held header.now (E.trust evidence.now) kind level place (notes_of (reverse log.now)) }
 {
     match last_valid(log, kind, level, place) {
         Some(write) => {
-            if cleansed_everywhere(header, &log[write.index + 1..], place) {
+            if evidence.is_cleansed(header, log, write.index + 1, place) {
                 None
             } else {
                 Some(write.value)
@@ -105,15 +114,15 @@ pub fn held(header: &Header, log: &[Kept], kind: Kind, level: u8, place: Place) 
     }
 }
 
-// The furthest that a broken place has come at the PE.
-fn broken_phase(trace: &Trace, pe: Pe) -> Phase
-    ensures { result ≡ furthest (pe_in trace.now.cleansed pe) (pe_in trace.now.half pe) (pe_in trace.now.seen pe) }
+// The furthest that a broken place has come at the PE, which is cleansed, half and seen at these PEs.
+fn broken_phase(cleansed: PeMask, half: PeMask, seen: PeMask, pe: Pe) -> Phase
+    ensures { result ≡ furthest (pe_in cleansed pe) (pe_in half pe) (pe_in seen pe) }
 {
-    if trace.cleansed.has(pe) {
+    if cleansed.has(pe) {
         Phase::Cleansed
-    } else if trace.half.has(pe) {
+    } else if half.has(pe) {
         Phase::Half
-    } else if trace.seen.has(pe) {
+    } else if seen.has(pe) {
         Phase::Seen
     } else {
         Phase::Broken
@@ -122,8 +131,9 @@ fn broken_phase(trace: &Trace, pe: Pe) -> Phase
 
 /// The phase at the PE of a place that is in a tree, where it has this kind and this level, 0 to 3, and now has this
 /// value: clean where it holds nothing; live where its value is valid; else the furthest of cleansed, half and seen, or
-/// broken where it is none of them. The log is oldest first.
-pub fn phase_in(
+/// broken where it is none of them. The log is oldest first, and the evidence has taken it.
+pub fn phase_in<E: Evidence>(
+    evidence: &E,
     header: &Header,
     log: &[Kept],
     kind: Kind,
@@ -132,17 +142,20 @@ pub fn phase_in(
     value: u64,
     pe: Pe,
 ) -> Phase
-    ensures { result ≡ phase_at header.now kind level place value pe (notes_of (reverse log.now)) }
+    requires { E.has_taken evidence.now header.now (notes_of (reverse log.now)) }
+    ensures { result ≡ phase_at header.now (E.trust evidence.now) kind level place value pe (notes_of (reverse log.now)) }
 {
     match last_valid(log, kind, level, place) {
         Some(write) => {
-            let trace = trace_of(header, &log[write.index + 1..], place);
-            if has_every_pe(header, trace.cleansed) {
+            let from = write.index + 1;
+            if evidence.is_cleansed(header, log, from, place) {
                 Phase::Clean
             } else if is_valid_at(kind, level, value) {
                 Phase::Live
             } else {
-                broken_phase(&trace, pe)
+                let cleansed = evidence.cleansed(header, log, from, place);
+                let trace = trace_of(header, &log[from..], place);
+                broken_phase(cleansed, trace.half, trace.seen, pe)
             }
         }
         None => Phase::Clean,

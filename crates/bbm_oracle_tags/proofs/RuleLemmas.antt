@@ -8,7 +8,7 @@ use Rattle.std.proofs.lemmas.List.Folds.{list_any-append}
 use Rattle.bbm_tlbi_scope.specs.declared.entry.TagSet.{TagSet}
 use Rattle.bbm_tlbi_scope.specs.declared.entry.TagSet.TheVariants.{None as NoTag, One, Many}
 use Rattle.bbm_rules.specs.Prelude.{Heading, Event, Msr, Reg, Ttbr0El2, VttbrEl2, Ttbr0El1, Ttbr1El1, Tag}
-use Rattle.bbm_rules.specs.Claims.{Patterns}
+use Rattle.bbm_rules.specs.Claims.{Trust}
 use Rattle.bbm_rules.specs.Lists.{is_that, least}
 use Rattle.bbm_rules.specs.Notes.{Noted, events_of}
 use Rattle.bbm_rules.specs.Registers.{base_of, register_values}
@@ -58,17 +58,17 @@ some-tag (g ∷ []) set some e none one many = one g e
 some-tag (g ∷ k ∷ gs) set some e none one many = many e ∙ sym (lt-ltb 0 (length (g ∷ k ∷ gs)) (omega arith))
 
 -- one more root
-pub holders-push : (heading : Heading) (after : List Event) (reading : Reading) (rs : List Declared) (r : Declared)
-    → holder_pages heading after reading (rs ++ r ∷ []) ≡ holder_pages heading after reading rs ++ holder_pages heading after reading (r ∷ [])
-holders-push heading after reading rs r =
-    ap (map (λ (d : Declared). d.page)) (filter-append (λ (d : Declared). not (d.page == reading.root) && holds_tag heading Patterns d.page reading.tag after) rs (r ∷ []))
-    ∙ map-append (λ (d : Declared). d.page) (filter (λ (d : Declared). not (d.page == reading.root) && holds_tag heading Patterns d.page reading.tag after) rs)
-    (filter (λ (d : Declared). not (d.page == reading.root) && holds_tag heading Patterns d.page reading.tag after) (r ∷ []))
+pub holders-push : (heading : Heading) (trust : Trust) (after : List Event) (reading : Reading) (rs : List Declared) (r : Declared)
+    → holder_pages heading trust after reading (rs ++ r ∷ []) ≡ holder_pages heading trust after reading rs ++ holder_pages heading trust after reading (r ∷ [])
+holders-push heading trust after reading rs r =
+    ap (map (λ (d : Declared). d.page)) (filter-append (λ (d : Declared). not (d.page == reading.root) && holds_tag heading trust d.page reading.tag after) rs (r ∷ []))
+    ∙ map-append (λ (d : Declared). d.page) (filter (λ (d : Declared). not (d.page == reading.root) && holds_tag heading trust d.page reading.tag after) rs)
+    (filter (λ (d : Declared). not (d.page == reading.root) && holds_tag heading trust d.page reading.tag after) (r ∷ []))
 
 -- the conflicts after a register write
-pub conflict-at : (heading : Heading) (h : List Noted) (events : List Event) (pe value : ℕ) (reg : Reg) (pages : List ℕ) (at : Option ℕ)
-    → at ≡ least pages → pages ≡ conflict_pages heading (reverse (events ++ Msr pe reg value ∷ [])) pe
-    → events_of h ≡ reverse events → at ≡ tag_conflict heading Patterns h (Msr pe reg value)
-conflict-at heading h events pe value reg pages at i j k =
-    i ∙ ap least (j ∙ ap (λ (after : List Event). conflict_pages heading after pe)
+pub conflict-at : (heading : Heading) (trust : Trust) (h : List Noted) (events : List Event) (pe value : ℕ) (reg : Reg) (pages : List ℕ) (at : Option ℕ)
+    → at ≡ least pages → pages ≡ conflict_pages heading trust (reverse (events ++ Msr pe reg value ∷ [])) pe
+    → events_of h ≡ reverse events → at ≡ tag_conflict heading trust h (Msr pe reg value)
+conflict-at heading trust h events pe value reg pages at i j k =
+    i ∙ ap least (j ∙ ap (λ (after : List Event). conflict_pages heading trust after pe)
     (reverse-append events (Msr pe reg value ∷ []) ∙ ap (λ (es : List Event). Msr pe reg value ∷ es) (sym k)))

@@ -6,7 +6,7 @@ use Rattle.bbm_tlbi_scope.specs.declared.entry.TagSet.{TagSet}
 use Rattle.bbm_tlbi_scope.specs.declared.entry.TagSet.TheVariants.{None as NoTag, One, Many}
 use Rattle.bbm_rules.specs.Prelude.{Heading, Event, Tag}
 use Rattle.bbm_rules.specs.Changes.{changes}
-use Rattle.bbm_rules.specs.Claims.{Patterns, same_tag}
+use Rattle.bbm_rules.specs.Claims.{Trust, same_tag}
 use Rattle.bbm_rules.specs.Lists.{some_pe}
 use Rattle.bbm_rules.specs.Tags.{holds_at, loses, reads}
 use Rattle.bbm_oracle_tags.specs.TagSets.{HasTags, has_tag, was_read}
@@ -48,17 +48,17 @@ first-part true b k = refl
 first-part false b k = k
 
 -- a held tag was readable for the root
-pub held-was-read : (heading : Heading) (p root : ℕ) (tag : Tag) (h : List Event) → holds_at heading Patterns p root tag h ≡ true
+pub held-was-read : (heading : Heading) (trust : Trust) (p root : ℕ) (tag : Tag) (h : List Event) → holds_at heading trust p root tag h ≡ true
     → was_read heading p root tag h ≡ true
-held-was-read heading p root tag [] k = k
-held-was-read heading p root tag (e ∷ h) k =
-    by_case (reads heading (e ∷ h) p tag root) k (λ l. held-was-read heading p root tag h l)
+held-was-read heading trust p root tag [] k = k
+held-was-read heading trust p root tag (e ∷ h) k =
+    by_case (reads heading (e ∷ h) p tag root) k (λ l. held-was-read heading trust p root tag h l)
   where
-    by_case : (b : Bool) → (b || (holds_at heading Patterns p root tag h && not (loses heading Patterns p tag e h))) ≡ true
-        → (holds_at heading Patterns p root tag h ≡ true → was_read heading p root tag h ≡ true)
+    by_case : (b : Bool) → (b || (holds_at heading trust p root tag h && not (loses heading trust p tag e h))) ≡ true
+        → (holds_at heading trust p root tag h ≡ true → was_read heading p root tag h ≡ true)
         → (b || was_read heading p root tag h) ≡ true
     by_case true k rest = refl
-    by_case false k rest = rest (first-part (holds_at heading Patterns p root tag h) (not (loses heading Patterns p tag e h)) k)
+    by_case false k rest = rest (first-part (holds_at heading trust p root tag h) (not (loses heading trust p tag e h)) k)
 
 -- what is read now was read
 pub reads-was-read : (heading : Heading) (p root : ℕ) (tag : Tag) (h : List Event) → reads heading h p tag root ≡ true

@@ -3,6 +3,8 @@
 //! newest first, so the contracts speak of the events reversed. Whatever makes a list may want memory, and says so.
 #![tactic(auto)]
 
+mod all_patterns;
+pub mod evidence;
 pub mod limits;
 pub mod locks;
 mod moment;
@@ -17,6 +19,8 @@ pub mod tags;
 pub mod values;
 mod watch;
 
+pub use all_patterns::AllPatterns;
+pub use evidence::TagEvidence;
 pub use limits::limit_of;
 pub use locks::{holder_of, lacks};
 pub use numbers::least;

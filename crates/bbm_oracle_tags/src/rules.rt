@@ -7,7 +7,7 @@ ghost use Rattle.bbm_regimes.specs.declared.regime.Reg.TheVariants.{Ttbr0El1};
 ghost use Rattle.bbm_regimes.specs.declared.regime.Tag.{Tag as TheTag};
 ghost use Rattle.bbm_events.specs.Heading.{Heading};
 ghost use Rattle.bbm_events.specs.declared.event.Event.{Event};
-ghost use Rattle.bbm_rules.specs.Claims.{Patterns};
+ghost use Rattle.bbm_rules.specs.Claims.{Trust};
 ghost use Rattle.bbm_rules.specs.Lists as lists;
 ghost use Rattle.bbm_rules.specs.Lists.{any, is_that, some_pe};
 ghost use Rattle.bbm_rules.specs.Notes.{Noted, events_of};
@@ -18,6 +18,7 @@ ghost use Rattle.bbm_rules.specs.Rules as spec;
 ghost use Rattle.bbm_rules.specs.Tags as tags;
 ghost use Rattle.bbm_oracle_tags.specs.Conflicts as clashes;
 
+use crate::evidence::TagEvidence;
 use crate::locks;
 use crate::numbers::least;
 use crate::pages::is_null;
@@ -59,7 +60,7 @@ fn is_wrong_write(header: &Header, reg: Reg, value: u64) -> bool
 /// `null` in the Hyp world, or an `msr` of a value with bit 0 set under a header of version 2 or later without `cnp`.
 /// At: 0. Source: project's own choice.
 pub fn wrong_world(header: &Header, event: &Event) -> Option<u64>
-    ensures { (h : List Noted) → result ≡ spec.wrong_world header.now Patterns h event.now }
+    ensures { (trust : Trust) (h : List Noted) → result ≡ spec.wrong_world header.now trust h event.now }
 {
     match *event {
         Event::Root { kind, .. } => if_so(!header.has_kind(kind), 0),
@@ -85,8 +86,8 @@ pub fn without_lock(events: &[Event], pe: Pe, root: u64, at: u64) -> Option<u64>
 
 /// 3, null-written: the event is a write at a place of a null page. At: the place. Source: project's own choice.
 pub fn null_written(events: &[Event], event: &Event) -> Option<u64>
-    ensures { (h : List Noted) (header : Heading) → events_of h ≡ reverse events.now
-        → result ≡ spec.null_written header Patterns h event.now }
+    ensures { (trust : Trust) (h : List Noted) (header : Heading) → events_of h ≡ reverse events.now
+        → result ≡ spec.null_written header trust h event.now }
 {
     match *event {
         Event::Write {
@@ -117,8 +118,8 @@ fn is_rootless(events: &[Event], reg: Reg, base: u64) -> bool
 /// the register's kind nor, in TTBR0_EL1, a null page; or an `unroot` names no first page of a declared root. At: the
 /// base, or the page. Source: project's own choice.
 pub fn no_root(events: &[Event], event: &Event) -> Option<u64>
-    ensures { (h : List Noted) (header : Heading) → events_of h ≡ reverse events.now
-        → result ≡ spec.no_root header Patterns h event.now }
+    ensures { (trust : Trust) (h : List Noted) (header : Heading) → events_of h ≡ reverse events.now
+        → result ≡ spec.no_root header trust h event.now }
 {
     match *event {
         Event::Msr { pe: _, reg, value } => match base_of(value) {
@@ -141,22 +142,24 @@ fn with_event(alloc: Global, events: &[Event], event: &Event) -> Result<Vec<Even
 }
 
 // Adds the first page of the root, where it is another than that of the reading and holds the reading's tag.
-fn add_holder(
+fn add_holder<E: TagEvidence>(
     alloc: Global,
     pages: &mut Vec<u64>,
+    evidence: &E,
     header: &Header,
     after: &[Event],
     reading: &Reading,
     root: &Declared,
 ) -> Result<(), NoMemory>
+    requires { E.knows evidence.now header.now (reverse after.now) }
     ensures { OnOk result (pages.new.items ≡ pages.old.items
-        ++ clashes.holder_pages header.now (reverse after.now) reading.now (root.now ∷ [])) }
+        ++ clashes.holder_pages header.now (E.trust evidence.now) (reverse after.now) reading.now (root.now ∷ [])) }
 {
     let page = root.page.get();
     if page == reading.root {
         return Ok(());
     }
-    if holds_tag(alloc, header, after, page, reading.tag)? {
+    if holds_tag(alloc, evidence, header, after, page, reading.tag)? {
         pages.push(page).map_err(|_| NoMemory)
     } else {
         Ok(())
@@ -164,67 +167,82 @@ fn add_holder(
 }
 
 // Adds the first pages of the other roots that hold the reading's tag.
-fn add_holders(
+fn add_holders<E: TagEvidence>(
     alloc: Global,
     pages: &mut Vec<u64>,
+    evidence: &E,
     header: &Header,
     after: &[Event],
     reading: &Reading,
     roots: &[Declared],
 ) -> Result<(), NoMemory>
+    requires { E.knows evidence.now header.now (reverse after.now) }
     ensures { OnOk result (pages.new.items ≡ pages.old.items
-        ++ clashes.holder_pages header.now (reverse after.now) reading.now roots.now) }
+        ++ clashes.holder_pages header.now (E.trust evidence.now) (reverse after.now) reading.now roots.now) }
 {
     for root in roots {
-        add_holder(alloc, pages, header, after, reading, root)?;
+        add_holder(alloc, pages, evidence, header, after, reading, root)?;
     }
     Ok(())
 }
 
 // Adds the first pages of the roots that hold the tag of a reading for another root.
-fn add_conflicts(
+fn add_conflicts<E: TagEvidence>(
     alloc: Global,
     pages: &mut Vec<u64>,
+    evidence: &E,
     header: &Header,
     after: &[Event],
     readings: &[Reading],
     roots: &[Declared],
 ) -> Result<(), NoMemory>
+    requires { E.knows evidence.now header.now (reverse after.now) }
     ensures { OnOk result (pages.new.items ≡ pages.old.items
-        ++ flat_map (λ reading. clashes.holder_pages header.now (reverse after.now) reading roots.now) readings.now) }
+        ++ flat_map (λ reading. clashes.holder_pages header.now (E.trust evidence.now) (reverse after.now) reading roots.now) readings.now) }
 {
     for reading in readings {
-        add_holders(alloc, pages, header, after, reading, roots)?;
+        add_holders(alloc, pages, evidence, header, after, reading, roots)?;
     }
     Ok(())
 }
 
 // The first pages of roots that hold a tag which is readable at the PE for another root.
-fn conflicts(alloc: Global, header: &Header, after: &[Event], pe: Pe) -> Result<Vec<u64>, NoMemory>
-    ensures { IfOk result (λ pages. pages.items ≡ clashes.conflict_pages header.now (reverse after.now) pe) }
+fn conflicts<E: TagEvidence>(
+    alloc: Global,
+    evidence: &E,
+    header: &Header,
+    after: &[Event],
+    pe: Pe,
+) -> Result<Vec<u64>, NoMemory>
+    requires { E.knows evidence.now header.now (reverse after.now) }
+    ensures { IfOk result (λ pages. pages.items ≡ clashes.conflict_pages header.now (E.trust evidence.now) (reverse after.now) pe) }
 {
     let roots = roots_of(alloc, after)?;
     let readings = readings_at(alloc, header, after, pe)?;
     let mut pages = Vec::new(alloc);
-    add_conflicts(alloc, &mut pages, header, after, &readings, &roots)?;
+    add_conflicts(
+        alloc, &mut pages, evidence, header, after, &readings, &roots,
+    )?;
     Ok(pages)
 }
 
 /// 12, tag-conflict: after the register write a tag is readable at its PE for one root, and another root holds it. At:
 /// the least first page of such another root. `NoMemory` where there is none. Source: project's own choice.
-pub fn tag_conflict(
+pub fn tag_conflict<E: TagEvidence>(
     alloc: Global,
+    evidence: &E,
     header: &Header,
     events: &[Event],
     event: &Event,
 ) -> Result<Option<u64>, NoMemory>
+    requires { E.knows evidence.now header.now (reverse events.now) }
     ensures { IfOk result (λ at. (h : List Noted) → events_of h ≡ reverse events.now
-        → at ≡ spec.tag_conflict header.now Patterns h event.now) }
+        → at ≡ spec.tag_conflict header.now (E.trust evidence.now) h event.now) }
 {
     match *event {
         Event::Msr { pe, .. } => {
             let after = with_event(alloc, events, event)?;
-            let pages = conflicts(alloc, header, &after, pe)?;
+            let pages = conflicts(alloc, evidence, header, &after, pe)?;
             Ok(least(&pages))
         }
         _ => Ok(None),
@@ -290,34 +308,43 @@ fn has_some(set: TagSet) -> bool
 }
 
 // Whether the root with this first page is the base of a readable register value at some PE, or holds a tag.
-fn is_used(alloc: Global, header: &Header, events: &[Event], page: u64) -> Result<bool, NoMemory>
+fn is_used<E: TagEvidence>(
+    alloc: Global,
+    evidence: &E,
+    header: &Header,
+    events: &[Event],
+    page: u64,
+) -> Result<bool, NoMemory>
+    requires { E.knows evidence.now header.now (reverse events.now) }
     ensures { IfOk result (λ used. (h : List Noted) → events_of h ≡ reverse events.now
-        → used ≡ spec.is_used header.now Patterns h page) }
+        → used ≡ spec.is_used header.now (E.trust evidence.now) h page) }
 {
     if is_base(alloc, header, events, page)? {
         return Ok(true);
     }
-    let set = tag_set_of(alloc, header, events, page)?;
+    let set = tag_set_of(alloc, evidence, header, events, page)?;
     Ok(has_some(set))
 }
 
 /// 13, root-in-use: an `unroot` names a root that is the base of a readable register value at some PE, or that holds a
 /// tag. At: the page. `NoMemory` where there is none. Source: project's own choice.
-pub fn root_in_use(
+pub fn root_in_use<E: TagEvidence>(
     alloc: Global,
+    evidence: &E,
     header: &Header,
     events: &[Event],
     event: &Event,
 ) -> Result<Option<u64>, NoMemory>
+    requires { E.knows evidence.now header.now (reverse events.now) }
     ensures { IfOk result (λ at. (h : List Noted) → events_of h ≡ reverse events.now
-        → at ≡ spec.root_in_use header.now Patterns h event.now) }
+        → at ≡ spec.root_in_use header.now (E.trust evidence.now) h event.now) }
 {
     match *event {
         Event::Unroot { pe: _, page } => {
             if root_at(events, page.get()).is_none() {
                 return Ok(None);
             }
-            let used = is_used(alloc, header, events, page.get())?;
+            let used = is_used(alloc, evidence, header, events, page.get())?;
             Ok(if_so(used, page.get()))
         }
         _ => Ok(None),
@@ -332,8 +359,8 @@ pub fn unsynced_vmid(
     events: &[Event],
     event: &Event,
 ) -> Result<Option<u64>, NoMemory>
-    ensures { IfOk result (λ at. (h : List Noted) → events_of h ≡ reverse events.now
-        → at ≡ spec.unsynced_vmid header.now Patterns h event.now) }
+    ensures { IfOk result (λ at. (trust : Trust) (h : List Noted) → events_of h ≡ reverse events.now
+        → at ≡ spec.unsynced_vmid header.now trust h event.now) }
 {
     match *event {
         Event::Tlbi { pe, op, .. } => {
@@ -347,7 +374,8 @@ pub fn unsynced_vmid(
 
 /// 15, bad-operand: the operand of a TLBI can't be decoded. At: the operand. Source: project's own choice.
 pub fn bad_operand(event: &Event) -> Option<u64>
-    ensures { (h : List Noted) (header : Heading) → result ≡ spec.bad_operand header Patterns h event.now }
+    ensures { (trust : Trust) (h : List Noted) (header : Heading)
+        → result ≡ spec.bad_operand header trust h event.now }
 {
     match *event {
         Event::Tlbi { pe: _, op, xt } => match decode(op, xt) {
@@ -361,8 +389,8 @@ pub fn bad_operand(event: &Event) -> Option<u64>
 /// 16, lock-busy: a `lock` names a lock that is held, by this PE or another. At: the holder's number. Source:
 /// project's own choice.
 pub fn lock_busy(events: &[Event], event: &Event) -> Option<u64>
-    ensures { (h : List Noted) (header : Heading) → events_of h ≡ reverse events.now
-        → result ≡ spec.lock_busy header Patterns h event.now }
+    ensures { (trust : Trust) (h : List Noted) (header : Heading) → events_of h ≡ reverse events.now
+        → result ≡ spec.lock_busy header trust h event.now }
 {
     match *event {
         Event::Lock { pe: _, lock } => match locks::holder_of(events, lock) {
@@ -376,8 +404,8 @@ pub fn lock_busy(events: &[Event], event: &Event) -> Option<u64>
 /// 17, lock-not-mine: an `unlock` names a lock that this PE doesn't hold. At: the lock's number. Source: project's own
 /// choice.
 pub fn lock_not_mine(events: &[Event], event: &Event) -> Option<u64>
-    ensures { (h : List Noted) (header : Heading) → events_of h ≡ reverse events.now
-        → result ≡ spec.lock_not_mine header Patterns h event.now }
+    ensures { (trust : Trust) (h : List Noted) (header : Heading) → events_of h ≡ reverse events.now
+        → result ≡ spec.lock_not_mine header trust h event.now }
 {
     match *event {
         Event::Unlock { pe, lock } => if_so(locks::lacks(events, pe, lock), lock as u64),

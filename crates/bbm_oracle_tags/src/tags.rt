@@ -3,11 +3,12 @@
 ghost use Rattle.std.specs.Prelude.{◌≡◌, ℕ, List, ◌∷◌, ◌==◌, ◌&&◌, ◌||◌, Bool, true, reverse, IfOk, OnOk};
 ghost use Rattle.bbm_regimes.specs.declared.regime.Tag.{Tag as TheTag};
 ghost use Rattle.bbm_events.specs.declared.event.Event.{Event as TheEvent};
-ghost use Rattle.bbm_rules.specs.Claims.{Patterns, same_tag as is_same_tag};
+ghost use Rattle.bbm_rules.specs.Claims.{Patterns, Trust, same_tag as is_same_tag};
 ghost use Rattle.bbm_rules.specs.Tags as spec;
 ghost use Rattle.bbm_oracle_tags.specs.Moments as moments;
 ghost use Rattle.bbm_oracle_tags.specs.TagSets as sets;
 
+use crate::evidence::TagEvidence;
 use crate::moment::Moment;
 use crate::readings::Reading;
 use crate::watch::{Watch, changes_readings};
@@ -38,18 +39,21 @@ pub fn holds_at(
 
 /// Whether the root with this first page, by its address in bytes, holds the tag at some PE. `NoMemory` where there is
 /// none. Source: project's own choice, after Arm ARM (DDI 0487), "Translation Lookaside Buffers".
-pub fn holds_tag(
+pub fn holds_tag<E: TagEvidence>(
     alloc: Global,
+    evidence: &E,
     header: &Header,
     events: &[Event],
     root: u64,
     tag: Tag,
 ) -> Result<bool, NoMemory>
-    ensures { IfOk result (λ holds. holds ≡ spec.holds_tag header.now Patterns root tag (reverse events.now)) }
+    requires { E.knows evidence.now header.now (reverse events.now) }
+    ensures { IfOk result (λ holds. holds
+        ≡ spec.holds_tag header.now (E.trust evidence.now) root tag (reverse events.now)) }
 {
     for number in 0..header.pes {
         let pe = Pe::new(number).unwrap();
-        if holds_at(alloc, header, events, pe, root, tag)? {
+        if evidence.holds_at(alloc, header, events, pe, root, tag)? {
             return Ok(true);
         }
     }
@@ -156,8 +160,8 @@ fn candidates(
     events: &[Event],
     root: u64,
 ) -> Result<Vec<Tag>, NoMemory>
-    ensures { IfOk result (λ tags. (g : TheTag) → spec.holds_tag header.now Patterns root g (reverse events.now) ≡ true
-        → sets.has_tag g tags.items ≡ true) }
+    ensures { IfOk result (λ tags. (trust : Trust) (g : TheTag)
+        → spec.holds_tag header.now trust root g (reverse events.now) ≡ true → sets.has_tag g tags.items ≡ true) }
 {
     let mut tags = Vec::new(alloc);
     for number in 0..header.pes {
@@ -168,19 +172,21 @@ fn candidates(
 }
 
 // The set with the tag, where the root holds it.
-fn with_held(
+fn with_held<E: TagEvidence>(
     alloc: Global,
+    evidence: &E,
     header: &Header,
     events: &[Event],
     root: u64,
     set: TagSet,
     tag: Tag,
 ) -> Result<TagSet, NoMemory>
+    requires { E.knows evidence.now header.now (reverse events.now) }
     ensures { IfOk result (λ after. (test : TheTag → Bool) → sets.HasTags test set → sets.HasTags (λ g. test g
-        || (is_same_tag tag g && spec.holds_tag header.now Patterns root g (reverse events.now))) after) }
+        || (is_same_tag tag g && spec.holds_tag header.now (E.trust evidence.now) root g (reverse events.now))) after) }
 {
     law_equality_tests();
-    if holds_tag(alloc, header, events, root, tag)? {
+    if holds_tag(alloc, evidence, header, events, root, tag)? {
         Ok(with_tag(set, tag))
     } else {
         Ok(set)
@@ -188,35 +194,40 @@ fn with_held(
 }
 
 // Those of the tags that the root holds.
-fn held_among(
+fn held_among<E: TagEvidence>(
     alloc: Global,
+    evidence: &E,
     header: &Header,
     events: &[Event],
     root: u64,
     tags: &[Tag],
 ) -> Result<TagSet, NoMemory>
+    requires { E.knows evidence.now header.now (reverse events.now) }
     ensures { IfOk result (λ set. sets.HasTags (λ g. sets.has_tag g tags.now
-        && spec.holds_tag header.now Patterns root g (reverse events.now)) set) }
+        && spec.holds_tag header.now (E.trust evidence.now) root g (reverse events.now)) set) }
 {
     let mut set = TagSet::None;
     for tag in tags {
-        set = with_held(alloc, header, events, root, set, *tag)?;
+        set = with_held(alloc, evidence, header, events, root, set, *tag)?;
     }
     Ok(set)
 }
 
 /// The tags that the root with this first page, by its address in bytes, holds at any PE. `NoMemory` where there is
 /// none. Source: project's own choice, after Arm ARM (DDI 0487), "Translation Lookaside Buffers".
-pub fn tag_set_of(
+pub fn tag_set_of<E: TagEvidence>(
     alloc: Global,
+    evidence: &E,
     header: &Header,
     events: &[Event],
     root: u64,
 ) -> Result<TagSet, NoMemory>
-    ensures { IfOk result (λ set. set ≡ spec.tag_set (spec.tags_of header.now Patterns root (reverse events.now))) }
+    requires { E.knows evidence.now header.now (reverse events.now) }
+    ensures { IfOk result (λ set. set
+        ≡ spec.tag_set (spec.tags_of header.now (E.trust evidence.now) root (reverse events.now))) }
 {
     law_tag_set();
     law_equality_tests();
     let tags = candidates(alloc, header, events, root)?;
-    held_among(alloc, header, events, root, &tags)
+    held_among(alloc, evidence, header, events, root, &tags)
 }

@@ -8,7 +8,7 @@ use Rattle.bbm_tlbi_scope.specs.declared.entry.Cover.{Cover}
 use Rattle.bbm_tlbi_scope.specs.declared.entry.Cover.TheVariants.{None as NoCover, Half, Second, Full}
 use Rattle.bbm_tlbi_scope.specs.Covers.{cover_of}
 use Rattle.bbm_rules.specs.Prelude.{Kind, Scope, Heading, Event, Init, Null, Root, Unroot, Write, Dsb, Dmb, Isb, Tlbi, Msr, Lock, Unlock}
-use Rattle.bbm_rules.specs.Claims.{Patterns}
+use Rattle.bbm_rules.specs.Claims.{Trust}
 use Rattle.bbm_rules.specs.Held.{ValidWrite, cleansed_everywhere, held, last_valid, last_valid_after, later}
 use Rattle.bbm_rules.specs.Lists.{◌>>=◌, among, any, with_number}
 use Rattle.bbm_rules.specs.Notes.{Noted, events_of}
@@ -92,11 +92,11 @@ module _ (kind : Kind) (level q : ℕ) where
   none_valid [] none = refl
   none_valid (n ∷ h) none = none_after n.event n (events_of h) (last_valid kind level q h) (none_valid h) none
 
-  none_held : (heading : Heading) (h : List Noted) (page : ℕ) → page ≡ page_of q →
-      among q (places_in (events_of h) page) ≡ false → held heading Patterns kind level q h ≡ None
-  none_held heading h page same none =
+  none_held : (heading : Heading) (trust : Trust) (h : List Noted) (page : ℕ) → page ≡ page_of q →
+      among q (places_in (events_of h) page) ≡ false → held heading trust kind level q h ≡ None
+  none_held heading trust h page same none =
       let passes : (page_of q == page) ≡ true = eq-eqb (page_of q) page (sym same) in
-      ap (λ (w : Option ValidWrite). w >>= (λ v. cond (cleansed_everywhere heading Patterns q v.since) None (Some v.value)))
+      ap (λ (w : Option ValidWrite). w >>= (λ v. cond (cleansed_everywhere heading trust q v.since) None (Some v.value)))
       (none_valid h (sym (among_filter (λ place. page_of place == page) q (written_places (events_of h)) passes) ∙ none))
 
 -- ---- the list of covers
@@ -170,53 +170,53 @@ module _ (f : ℕ → Cover) where
 
 -- ---- what a TLBI covers
 
-module _ (heading : Heading) (h : List Noted) (scope : Scope) (vmid : Option ℕ) where
+module _ (heading : Heading) (trust : Trust) (h : List Noted) (scope : Scope) (vmid : Option ℕ) where
   -- of a place of a page in a tree
   abbrev pub cover_at_node : Node → ℕ → Option ℕ → Cover
-  cover_at_node n place held = option_map_or (λ value. cover_of scope vmid (view_of heading h n place value)) held NoCover
+  cover_at_node n place held = option_map_or (λ value. cover_of scope vmid (view_of heading trust h n place value)) held NoCover
 
-  pub cover_under_node : (place : ℕ) (found : Option Node) (n : Node) → node_of heading Patterns h (page_of place) ≡ found →
+  pub cover_under_node : (place : ℕ) (found : Option Node) (n : Node) → node_of heading trust h (page_of place) ≡ found →
       found ≡ Some n →
-      cover_at_node n place (held_at heading Patterns h n place) ≡ cover_under heading h scope vmid place
+      cover_at_node n place (held_at heading trust h n place) ≡ cover_under heading trust h scope vmid place
   cover_under_node place found n found_is is =
-      by_held (held_at heading Patterns h n place)
+      by_held (held_at heading trust h n place)
       ∙ sym (ap (λ (o : Option Node). option_map_or (cover_of scope vmid)
-      (o >>= (λ m. held_at heading Patterns h m place >>= (λ value. Some (view_of heading h m place value)))) NoCover) (found_is ∙ is))
+      (o >>= (λ m. held_at heading trust h m place >>= (λ value. Some (view_of heading trust h m place value)))) NoCover) (found_is ∙ is))
     where
       by_held : (o : Option ℕ) → cover_at_node n place o
-          ≡ option_map_or (cover_of scope vmid) (o >>= (λ value. Some (view_of heading h n place value))) NoCover
+          ≡ option_map_or (cover_of scope vmid) (o >>= (λ value. Some (view_of heading trust h n place value))) NoCover
       by_held None = refl
       by_held (Some value) = refl
 
   -- of a place in no tree
-  pub cover_under_none : (place : ℕ) → node_of heading Patterns h (page_of place) ≡ None →
-      NoCover ≡ cover_under heading h scope vmid place
+  pub cover_under_none : (place : ℕ) → node_of heading trust h (page_of place) ≡ None →
+      NoCover ≡ cover_under heading trust h scope vmid place
   cover_under_none place none =
       sym (ap (λ (o : Option Node). option_map_or (cover_of scope vmid)
-      (o >>= (λ m. held_at heading Patterns h m place >>= (λ value. Some (view_of heading h m place value)))) NoCover) none)
+      (o >>= (λ m. held_at heading trust h m place >>= (λ value. Some (view_of heading trust h m place value)))) NoCover) none)
 
   -- of a place that was never written
-  not_written : (q : ℕ) → any (λ n. among q (places_in (events_of h) n.page)) (tree heading Patterns h) ≡ false →
-      cover_under heading h scope vmid q ≡ NoCover
-  not_written q none = by_node (node_of heading Patterns h (page_of q)) refl
+  not_written : (q : ℕ) → any (λ n. among q (places_in (events_of h) n.page)) (tree heading trust h) ≡ false →
+      cover_under heading trust h scope vmid q ≡ NoCover
+  not_written q none = by_node (node_of heading trust h (page_of q)) refl
     where
-      by_node : (found : Option Node) → node_of heading Patterns h (page_of q) ≡ found → cover_under heading h scope vmid q ≡ NoCover
+      by_node : (found : Option Node) → node_of heading trust h (page_of q) ≡ found → cover_under heading trust h scope vmid q ≡ NoCover
       by_node None e = sym (cover_under_none q e)
       by_node (Some n) e =
           let passes : ((n.page == page_of q) ≡ true) × (among q (places_in (events_of h) n.page) ≡ false) =
           found_passes (λ (m : Node). m.page == page_of q) (λ (m : Node). among q (places_in (events_of h) m.page))
-          (tree heading Patterns h) n e none in
+          (tree heading trust h) n e none in
           sym (cover_under_node q (Some n) n e refl)
-          ∙ ap (cover_at_node n q) (none_held n.kind n.level q heading h n.page (eqb-true n.page (page_of q) passes.0) passes.1)
+          ∙ ap (cover_at_node n q) (none_held n.kind n.level q heading trust h n.page (eqb-true n.page (page_of q) passes.0) passes.1)
 
   -- of every place: what the list of the places of the trees says
-  pub covers_right : (q : ℕ) → cover_in (flat_map (covers_of_page heading h scope vmid) (tree heading Patterns h)) q
-      ≡ cover_under heading h scope vmid q
+  pub covers_right : (q : ℕ) → cover_in (flat_map (covers_of_page heading trust h scope vmid) (tree heading trust h)) q
+      ≡ cover_under heading trust h scope vmid q
   covers_right q =
-      in_pages (cover_under heading h scope vmid) (λ n. places_in (events_of h) n.page) (tree heading Patterns h) q
-      ∙ by_written (any (λ n. among q (places_in (events_of h) n.page)) (tree heading Patterns h)) (not_written q)
+      in_pages (cover_under heading trust h scope vmid) (λ n. places_in (events_of h) n.page) (tree heading trust h) q
+      ∙ by_written (any (λ n. among q (places_in (events_of h) n.page)) (tree heading trust h)) (not_written q)
     where
-      by_written : (b : Bool) → (b ≡ false → cover_under heading h scope vmid q ≡ NoCover) →
-          cond b (cover_under heading h scope vmid q) NoCover ≡ cover_under heading h scope vmid q
+      by_written : (b : Bool) → (b ≡ false → cover_under heading trust h scope vmid q ≡ NoCover) →
+          cond b (cover_under heading trust h scope vmid q) NoCover ≡ cover_under heading trust h scope vmid q
       by_written true none = refl
       by_written false none = sym (none refl)

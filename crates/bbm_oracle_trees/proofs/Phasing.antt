@@ -1,25 +1,49 @@
 -- The phase of a place of a tree.
-use Rattle.std.proofs.Common.{◌≡◌, ℕ, cond, List, Option, Some, None, sym, ap}
+use Rattle.std.proofs.Common.{◌≡◌, ℕ, cond, List, Option, Some, None, refl, sym, ◌∙◌, ap}
 use Rattle.std.specs.Option.{unwrap_or}
 use Rattle.bbm_descriptor.specs.Descriptor.{is_valid}
-use Rattle.bbm_rules.specs.Prelude.{Heading}
+use Rattle.bbm_rules.specs.Prelude.{Heading, Event}
 use Rattle.bbm_rules.specs.declared.phase.Phase.TheVariants.{Clean, Live}
-use Rattle.bbm_rules.specs.Claims.{Patterns}
+use Rattle.bbm_rules.specs.Claims.{Trust}
 use Rattle.bbm_rules.specs.Held.{cleansed_everywhere, last_valid}
 use Rattle.bbm_rules.specs.Lists.{◌>>=◌}
 use Rattle.bbm_rules.specs.Notes.{Noted, events_of}
-use Rattle.bbm_rules.specs.Phases.{broken_phase}
+use Rattle.bbm_rules.specs.Phases.{broken_phase, phase_of}
+use Rattle.bbm_rules.specs.Covers.{noted}
 use Rattle.bbm_rules.specs.Places.{page_of}
 use Rattle.bbm_rules.specs.Tree.{Node, node_of}
 use Rattle.bbm_rules.specs.Values.{value_of}
 use Rattle.bbm_oracle_patterns.specs.Phases.{phase_at}
+use Rattle.bbm_oracle_trees.specs.Past.{Past, notes}
 use Rattle.bbm_oracle_trees.specs.Phases.{phase_among}
+use Rattle.bbm_oracle_trees.specs.StandsFor.{StandsFor}
 
 -- where the search of the node found one
-pub phase_at_node : (heading : Heading) (h : List Noted) (place p : ℕ) (n : Node) →
-    node_of heading Patterns h (page_of place) ≡ Some n →
-    phase_at heading n.kind n.level place (value_of (events_of h) place) p h ≡ phase_among heading h place p
-phase_at_node heading h place p n found =
+pub phase_at_node : (heading : Heading) (trust : Trust) (h : List Noted) (place p : ℕ) (n : Node) →
+    node_of heading trust h (page_of place) ≡ Some n →
+    phase_at heading trust n.kind n.level place (value_of (events_of h) place) p h ≡ phase_among heading trust h place p
+phase_at_node heading trust h place p n found =
     sym (ap (λ (o : Option Node). unwrap_or (o >>= (λ m. last_valid m.kind m.level place h >>= (λ w.
-    cond (cleansed_everywhere heading Patterns place w.since) None
-    (Some (cond (is_valid m.kind m.level (value_of (events_of h) place)) Live (broken_phase heading Patterns place p w.since)))))) Clean) found)
+    cond (cleansed_everywhere heading trust place w.since) None
+    (Some (cond (is_valid m.kind m.level (value_of (events_of h) place)) Live (broken_phase heading trust place p w.since)))))) Clean) found)
+
+-- where it found none
+pub phase_nowhere : (heading : Heading) (trust : Trust) (h : List Noted) (place p : ℕ) →
+    node_of heading trust h (page_of place) ≡ None → Clean ≡ phase_among heading trust h place p
+phase_nowhere heading trust h place p none =
+    sym (ap (λ (o : Option Node). unwrap_or (o >>= (λ m. last_valid m.kind m.level place h >>= (λ w.
+    cond (cleansed_everywhere heading trust place w.since) None
+    (Some (cond (is_valid m.kind m.level (value_of (events_of h) place)) Live (broken_phase heading trust place p w.since)))))) Clean) none)
+
+-- the same of the history that the notes stand for
+phase_noted : (heading : Heading) (trust : Trust) (h : List Event) (place p : ℕ) → events_of (noted heading trust h) ≡ h →
+    phase_among heading trust (noted heading trust h) place p ≡ phase_of heading trust h place p
+unfolding phase_of
+phase_noted heading trust h place p e = rw e refl
+
+pub phase_stands : (past : Past) (heading : Heading) (h : List Event) → StandsFor past heading h → (place p : ℕ) →
+    phase_among past.heading past.trust (notes past) place p ≡ phase_of heading past.trust h place p
+phase_stands past heading h s place p =
+    ap (λ (g : Heading). phase_among g past.trust (notes past) place p) s.heading_is
+    ∙ ap (λ (n : List Noted). phase_among heading past.trust n place p) s.notes_are
+    ∙ phase_noted heading past.trust h place p (ap (λ (n : List Noted). events_of n) (sym s.notes_are) ∙ s.events_are)

@@ -1,4 +1,5 @@
 pub mod Fits
 pub mod Past
 pub mod Phases
+pub mod StandsFor
 pub mod Views

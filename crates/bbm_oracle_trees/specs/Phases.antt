@@ -5,7 +5,7 @@ use Rattle.bbm_descriptor.specs.Descriptor.{is_valid}
 use Rattle.bbm_rules.specs.Prelude.{Heading}
 use Rattle.bbm_rules.specs.declared.phase.Phase.{Phase}
 use Rattle.bbm_rules.specs.declared.phase.Phase.TheVariants.{Clean, Live}
-use Rattle.bbm_rules.specs.Claims.{Patterns}
+use Rattle.bbm_rules.specs.Claims.{Trust}
 use Rattle.bbm_rules.specs.Held.{cleansed_everywhere, last_valid}
 use Rattle.bbm_rules.specs.Lists.{◌>>=◌}
 use Rattle.bbm_rules.specs.Notes.{Noted, events_of}
@@ -15,10 +15,10 @@ use Rattle.bbm_rules.specs.Tree.{node_of}
 use Rattle.bbm_rules.specs.Values.{value_of}
 
 -- as `phase_of` has it of the events whose notes these are
-abbrev pub phase_among : Heading → List Noted → ℕ → ℕ → Phase
-phase_among heading h place p = unwrap_or (do
-  n ← node_of heading Patterns h (page_of place)
+abbrev pub phase_among : Heading → Trust → List Noted → ℕ → ℕ → Phase
+phase_among heading trust h place p = unwrap_or (do
+  n ← node_of heading trust h (page_of place)
   w ← last_valid n.kind n.level place h
-  if cleansed_everywhere heading Patterns place w.since then None
+  if cleansed_everywhere heading trust place w.since then None
       else Some (if is_valid n.kind n.level (value_of (events_of h) place) then Live
-      else broken_phase heading Patterns place p w.since)) Clean
+      else broken_phase heading trust place p w.since)) Clean

@@ -8,7 +8,7 @@ use Rattle.bbm_tlbi_scope.specs.declared.entry.Cover.TheVariants.{None as NoCove
 use Rattle.bbm_tlbi_scope.specs.declared.entry.PlaceView.{PlaceView}
 use Rattle.bbm_tlbi_scope.specs.Covers.{cover_of}
 use Rattle.bbm_rules.specs.Prelude.{Heading, Event, Scope}
-use Rattle.bbm_rules.specs.Claims.{Patterns}
+use Rattle.bbm_rules.specs.Claims.{Trust}
 use Rattle.bbm_rules.specs.Covers.{is_global, view_at}
 use Rattle.bbm_rules.specs.Notes.{Noted, events_of}
 use Rattle.bbm_rules.specs.Tags.{tag_set, tags_of}
@@ -22,7 +22,7 @@ abbrev pub entry_of : ℕ → Cover → List Covered
 entry_of place NoCover = []
 entry_of place cover = record { place = place; cover = cover } ∷ []
 
-module _ (heading : Heading) (h : List Noted) where
+module _ (heading : Heading) (trust : Trust) (h : List Noted) where
   -- how a TLBI sees a place of a node that holds this value
   abbrev pub view_of : Node → ℕ → ℕ → PlaceView
   view_of n place value = record {
@@ -31,13 +31,13 @@ module _ (heading : Heading) (h : List Noted) where
     level = n.level;
     table = is_some (next_of n.kind n.level value);
     global = is_global (desc_of n.kind n.level value);
-    childless = is_childless heading Patterns h n value;
-    tags = tag_set (tags_of heading Patterns n.root (events_of h));
+    childless = is_childless heading trust h n value;
+    tags = tag_set (tags_of heading trust n.root (events_of h));
   }
 
   -- how far a TLBI of this scope, under this VMID, covers a place
   abbrev pub cover_under : Scope → Option ℕ → ℕ → Cover
-  cover_under scope vmid place = option_map_or (cover_of scope vmid) (view_at heading Patterns h place) NoCover
+  cover_under scope vmid place = option_map_or (cover_of scope vmid) (view_at heading trust h place) NoCover
 
   -- its entry
   abbrev pub covered_under : Scope → Option ℕ → ℕ → List Covered
@@ -48,5 +48,5 @@ module _ (heading : Heading) (h : List Noted) where
   covers_of_page scope vmid n = flat_map (covered_under scope vmid) (places_in (events_of h) n.page)
 
 -- each is the tag set of its root
-abbrev pub AreTags : Heading → List Event → List RootTags → Type 0
-AreTags heading h known = All (λ k. k.tags ≡ tag_set (tags_of heading Patterns k.root h)) known
+abbrev pub AreTags : Heading → Trust → List Event → List RootTags → Type 0
+AreTags heading trust h known = All (λ k. k.tags ≡ tag_set (tags_of heading trust k.root h)) known

@@ -5,7 +5,6 @@ ghost use Rattle.std.specs.Option.{option_map_or};
 ghost use Rattle.bbm_descriptor.specs.Descriptor.{desc_of};
 ghost use Rattle.bbm_tlbi_scope.specs.declared.entry.Cover.TheVariants.{None as NoCover};
 ghost use Rattle.bbm_tlbi_scope.specs.Covers.{cover_of};
-ghost use Rattle.bbm_rules.specs.Claims.{Patterns};
 ghost use Rattle.bbm_rules.specs.Covers as covering;
 ghost use Rattle.bbm_rules.specs.Notes.{events_of};
 ghost use Rattle.bbm_rules.specs.Registers.{vmid_of};
@@ -21,7 +20,7 @@ use crate::node::Node;
 use crate::tree::{first_of, is_childless, next_page};
 use bbm_descriptor::{Desc, read};
 use bbm_events::Event;
-use bbm_oracle_patterns::Covered;
+use bbm_oracle_patterns::{Covered, Evidence};
 use bbm_regimes::{Kind, NoMemory, Page, Pe, Place};
 use bbm_tlbi_scope::{Cover, PlaceView, Scope, TagSet, cover};
 use std::alloc::Global;
@@ -36,8 +35,8 @@ pub struct RootTags {
 }
 
 // The tags of each declared root.
-fn root_tags(alloc: Global, log: &Log) -> Result<Vec<RootTags>, NoMemory>
-    ensures { IfOk result (λ known. AreTags log.now.heading (events_of (notes log.now)) known.items) }
+fn root_tags<E: Evidence>(alloc: Global, log: &Log<E>) -> Result<Vec<RootTags>, NoMemory>
+    ensures { IfOk result (λ known. AreTags log.now.heading log.now.trust (events_of (notes log.now)) known.items) }
 {
     let mut known = Vec::new(alloc);
     for root in &log.roots(alloc)? {
@@ -53,9 +52,14 @@ fn root_tags(alloc: Global, log: &Log) -> Result<Vec<RootTags>, NoMemory>
 }
 
 // The tags of the root, of those that are known where it is among them.
-fn tags_at(alloc: Global, log: &Log, known: &[RootTags], root: Page) -> Result<TagSet, NoMemory>
-    requires { AreTags log.now.heading (events_of (notes log.now)) known.now }
-    ensures { IfOk result (λ tags. tags ≡ tag_set (tags_of log.now.heading Patterns root (events_of (notes log.now)))) }
+fn tags_at<E: Evidence>(
+    alloc: Global,
+    log: &Log<E>,
+    known: &[RootTags],
+    root: Page,
+) -> Result<TagSet, NoMemory>
+    requires { AreTags log.now.heading log.now.trust (events_of (notes log.now)) known.now }
+    ensures { IfOk result (λ tags. tags ≡ tag_set (tags_of log.now.heading log.now.trust root (events_of (notes log.now)))) }
 {
     for held in known {
         if held.root == root {
@@ -77,16 +81,16 @@ fn is_global(kind: Kind, level: u8, value: u64) -> bool
 }
 
 // How a TLBI sees a place of the page that holds this value.
-fn view(
+fn view<E: Evidence>(
     alloc: Global,
-    log: &Log,
+    log: &Log<E>,
     known: &[RootTags],
     node: &Node,
     place: Place,
     value: u64,
 ) -> Result<PlaceView, NoMemory>
-    requires { AreTags log.now.heading (events_of (notes log.now)) known.now }
-    ensures { IfOk result (λ view. view ≡ view_of log.now.heading (notes log.now) node.now place value) }
+    requires { AreTags log.now.heading log.now.trust (events_of (notes log.now)) known.now }
+    ensures { IfOk result (λ view. view ≡ view_of log.now.heading log.now.trust (notes log.now) node.now place value) }
 {
     let childless = is_childless(alloc, log, node, value)?;
     let tags = tags_at(alloc, log, known, node.root)?;
@@ -102,19 +106,19 @@ fn view(
 }
 
 // How far a TLBI of this scope, under this VMID, covers a place of the page.
-fn cover_in_node(
+fn cover_in_node<E: Evidence>(
     alloc: Global,
-    log: &Log,
+    log: &Log<E>,
     known: &[RootTags],
     scope: &Scope,
     vmid: Option<u16>,
     node: &Node,
     place: Place,
 ) -> Result<Cover, NoMemory>
-    requires { AreTags log.now.heading (events_of (notes log.now)) known.now }
+    requires { AreTags log.now.heading log.now.trust (events_of (notes log.now)) known.now }
     ensures { IfOk result (λ cover. cover ≡ option_map_or
-        (λ value. cover_of scope.now vmid (view_of log.now.heading (notes log.now) node.now place value))
-        (trees.held_at log.now.heading Patterns (notes log.now) node.now place) NoCover) }
+        (λ value. cover_of scope.now vmid (view_of log.now.heading log.now.trust (notes log.now) node.now place value))
+        (trees.held_at log.now.heading log.now.trust (notes log.now) node.now place) NoCover) }
 {
     match log.held(node.kind, node.level, place) {
         Some(value) => match view(alloc, log, known, node, place, value) {
@@ -126,18 +130,18 @@ fn cover_in_node(
 }
 
 // How far a TLBI of this scope, under this VMID, covers the place, where these are the trees.
-fn cover_at(
+fn cover_at<E: Evidence>(
     alloc: Global,
-    log: &Log,
+    log: &Log<E>,
     tree: &[Node],
     known: &[RootTags],
     scope: &Scope,
     vmid: Option<u16>,
     place: Place,
 ) -> Result<Cover, NoMemory>
-    requires tree { tree.now ≡ trees.tree log.now.heading Patterns (notes log.now) }
-    requires known { AreTags log.now.heading (events_of (notes log.now)) known.now }
-    ensures { IfOk result (λ cover. cover ≡ cover_under log.now.heading (notes log.now) scope.now vmid place) }
+    requires tree { tree.now ≡ trees.tree log.now.heading log.now.trust (notes log.now) }
+    requires known { AreTags log.now.heading log.now.trust (events_of (notes log.now)) known.now }
+    ensures { IfOk result (λ cover. cover ≡ cover_under log.now.heading log.now.trust (notes log.now) scope.now vmid place) }
 {
     match first_of(tree, place.page()) {
         Some(node) => cover_in_node(alloc, log, known, scope, vmid, node, place),
@@ -158,9 +162,9 @@ fn add_cover(covers: &mut Vec<Covered>, place: Place, cover: Cover) -> Result<()
 }
 
 // Adds how far a TLBI covers each place of the page.
-fn add_covers(
+fn add_covers<E: Evidence>(
     alloc: Global,
-    log: &Log,
+    log: &Log<E>,
     tree: &[Node],
     known: &[RootTags],
     scope: &Scope,
@@ -168,10 +172,10 @@ fn add_covers(
     page: Page,
     covers: &mut Vec<Covered>,
 ) -> Result<(), NoMemory>
-    requires tree { tree.now ≡ trees.tree log.now.heading Patterns (notes log.now) }
-    requires known { AreTags log.now.heading (events_of (notes log.now)) known.now }
+    requires tree { tree.now ≡ trees.tree log.now.heading log.now.trust (notes log.now) }
+    requires known { AreTags log.now.heading log.now.trust (events_of (notes log.now)) known.now }
     ensures { OnOk result (covers.new.items ≡ covers.old.items
-        ++ flat_map (covered_under log.now.heading (notes log.now) scope.now vmid) (places_in (events_of (notes log.now)) page)) }
+        ++ flat_map (covered_under log.now.heading log.now.trust (notes log.now) scope.now vmid) (places_in (events_of (notes log.now)) page)) }
 {
     for place in &log.places_in(alloc, page)? {
         let cover = cover_at(alloc, log, tree, known, scope, vmid, *place)?;
@@ -181,16 +185,16 @@ fn add_covers(
 }
 
 // How far a TLBI of this scope, under this VMID, covers each place of the trees, page by page.
-fn covers_under(
+fn covers_under<E: Evidence>(
     alloc: Global,
-    log: &Log,
+    log: &Log<E>,
     tree: &[Node],
     scope: &Scope,
     vmid: Option<u16>,
 ) -> Result<Vec<Covered>, NoMemory>
-    requires { tree.now ≡ trees.tree log.now.heading Patterns (notes log.now) }
+    requires { tree.now ≡ trees.tree log.now.heading log.now.trust (notes log.now) }
     ensures { IfOk result (λ covers. (place : ℕ) → cover_in covers.items place
-        ≡ cover_under log.now.heading (notes log.now) scope.now vmid place) }
+        ≡ cover_under log.now.heading log.now.trust (notes log.now) scope.now vmid place) }
 {
     let known = root_tags(alloc, log)?;
     let mut covers = Vec::new(alloc);
@@ -210,16 +214,16 @@ fn covers_under(
 }
 
 // How far a TLBI covers each place, where these are the trees.
-fn tlbi_covers(
+fn tlbi_covers<E: Evidence>(
     alloc: Global,
-    log: &Log,
+    log: &Log<E>,
     tree: &[Node],
     pe: Pe,
     scope: &Scope,
 ) -> Result<Vec<Covered>, NoMemory>
-    requires { tree.now ≡ trees.tree log.now.heading Patterns (notes log.now) }
+    requires { tree.now ≡ trees.tree log.now.heading log.now.trust (notes log.now) }
     ensures { IfOk result (λ covers. (place : ℕ) → cover_in covers.items place
-        ≡ cover_under log.now.heading (notes log.now) scope.now (vmid_of log.now.heading (events_of (notes log.now)) pe) place) }
+        ≡ cover_under log.now.heading log.now.trust (notes log.now) scope.now (vmid_of log.now.heading (events_of (notes log.now)) pe) place) }
 {
     match log.vmid_of(alloc, pe) {
         Ok(vmid) => covers_under(alloc, log, tree, scope, vmid),
@@ -229,15 +233,15 @@ fn tlbi_covers(
 
 /// The places of the trees that the event, coming after those of the log, covers, and how far. `NoMemory` where there is
 /// none. Source: Arm ARM (DDI 0487), "TLB maintenance instructions"; the grades of cover are the project's own choice.
-pub fn covers_of(
+pub fn covers_of<E: Evidence>(
     alloc: Global,
-    log: &Log,
+    log: &Log<E>,
     tree: &[Node],
     event: &Event,
 ) -> Result<Vec<Covered>, NoMemory>
-    requires { tree.now ≡ trees.tree log.now.heading Patterns (notes log.now) }
+    requires { tree.now ≡ trees.tree log.now.heading log.now.trust (notes log.now) }
     ensures { IfOk result (λ covers. (place : ℕ) → cover_in covers.items place
-        ≡ covering.cover_at log.now.heading Patterns (notes log.now) event.now place) }
+        ≡ covering.cover_at log.now.heading log.now.trust (notes log.now) event.now place) }
 {
     match *event {
         Event::Tlbi { pe, op, xt } => match log.named_scope(alloc, pe, op, xt) {

@@ -1,17 +1,21 @@
 //! The history of a log: the events taken, the trees after them, and the fresh pages.
 
-ghost use Rattle.std.specs.Prelude.{◌≡◌, ◌∷◌, ◌&&◌, ℕ, [], true, not, reverse, IfOk, OnOk, OnErr, option_copied};
+ghost use Rattle.std.specs.Prelude.{◌≡◌, ◌∷◌, ◌&&◌, ℕ, List, [], true, not, reverse, IfOk, OnOk, OnErr, option_copied};
+ghost use Rattle.bbm_events.specs.declared.event.Event.{Event as TheEvent};
 ghost use Rattle.bbm_events.specs.Fits.{fits_heading};
-ghost use Rattle.bbm_rules.specs.Claims.{Patterns};
+ghost use Rattle.bbm_events.specs.Heading.{Heading};
 ghost use Rattle.bbm_rules.specs.Covers.{note};
 ghost use Rattle.bbm_rules.specs.Lists.{among};
 ghost use Rattle.bbm_rules.specs.Notes.{events_of};
 ghost use Rattle.bbm_rules.specs.Pages as pages;
+ghost use Rattle.bbm_rules.specs.Phases as phases;
+ghost use Rattle.bbm_rules.specs.Tags as tags;
 ghost use Rattle.bbm_rules.specs.Tree as trees;
 ghost use Rattle.bbm_rules.specs.Values.{value_of};
 ghost use Rattle.bbm_oracle_patterns.specs.Phases.{phase_at};
 ghost use Rattle.bbm_oracle_trees.specs.Past.{notes};
 ghost use Rattle.bbm_oracle_trees.specs.Phases.{phase_among};
+ghost use Rattle.bbm_oracle_trees.specs.StandsFor.{StandsFor};
 
 use crate::covers::covers_of;
 use crate::fresh::{fresh_after, has};
@@ -20,9 +24,10 @@ use crate::log::Log;
 use crate::node::Node;
 use crate::tree::{first_of, is_childless, tree_of};
 use bbm_events::{Event, Header};
-use bbm_oracle_patterns::Kept;
-use bbm_regimes::{NoMemory, Page, Pe, Place};
+use bbm_oracle_patterns::{Evidence, Kept};
+use bbm_regimes::{NoMemory, Page, Pe, Place, Tag};
 use bbm_rules::Phase;
+use bbm_tlbi_scope::TagSet;
 use std::alloc::Global;
 use std::marker::Model;
 
@@ -35,17 +40,17 @@ pub struct Trees {
     pub fresh: Vec<Page>,
 }
 
-/// A header and the events taken, with the trees and the fresh pages after them. A clause sees the header and the
-/// events, the newest first, each with the places that it covered. Source: project's own choice.
+/// A header and the events taken, with the trees and the fresh pages after them, by what is trusted. A clause sees the
+/// header, the trust and the events, the newest first, each with the places that it covered. Source: project's own
+/// choice.
 #[derive(Drop)]
-pub struct History {
-    log: Log,
+pub struct History<E: Evidence> {
+    log: Log<E>,
     trees: Trees,
 }
 
-impl Model for History {
+impl<E: Evidence> Model for History<E> {
     ghost use Rattle.std.specs.Prelude.{◌≡◌, ℕ};
-    ghost use Rattle.bbm_rules.specs.Claims.{Patterns};
     ghost use Rattle.bbm_rules.specs.Lists.{among};
     ghost use Rattle.bbm_rules.specs.Pages.{is_fresh};
     ghost use Rattle.bbm_rules.specs.Tree.{tree};
@@ -55,16 +60,21 @@ impl Model for History {
 
     ghost view = { λ h. h.log };
 
-    ghost invariant = { λ h. (h.trees.nodes.items ≡ tree h.log.heading Patterns (notes h.log))
-        × ((page : ℕ) → among page h.trees.fresh.items ≡ is_fresh h.log.heading Patterns (notes h.log) page) };
+    ghost invariant = { λ h. (h.trees.nodes.items ≡ tree h.log.heading h.log.trust (notes h.log))
+        × ((page : ℕ) → among page h.trees.fresh.items ≡ is_fresh h.log.heading h.log.trust (notes h.log) page) };
 }
 
 // The trees and the fresh pages after the newest event, where these pages were fresh before it.
-fn trees_after(alloc: Global, log: &Log, fresh: &[Page], event: &Event) -> Result<Trees, NoMemory>
-    ensures nodes { IfOk result (λ made. made.nodes.items ≡ trees.tree log.now.heading Patterns (notes log.now)) }
+fn trees_after<E: Evidence>(
+    alloc: Global,
+    log: &Log<E>,
+    fresh: &[Page],
+    event: &Event,
+) -> Result<Trees, NoMemory>
+    ensures nodes { IfOk result (λ made. made.nodes.items ≡ trees.tree log.now.heading log.now.trust (notes log.now)) }
     ensures fresh { IfOk result (λ made. (page : ℕ) → among page made.fresh.items
         ≡ (pages.may_be_fresh event.now page (among page fresh.now)
-        && not (trees.in_tree log.now.heading Patterns (notes log.now) page))) }
+        && not (trees.in_tree log.now.heading log.now.trust (notes log.now) page))) }
 {
     let nodes = tree_of(alloc, log)?;
     let fresh = fresh_after(alloc, fresh, event, &nodes)?;
@@ -72,21 +82,23 @@ fn trees_after(alloc: Global, log: &Log, fresh: &[Page], event: &Event) -> Resul
 }
 
 // The phase at the PE of a place of the page.
-fn phase_of(log: &Log, node: &Node, place: Place, pe: Pe) -> Phase
-    ensures { result ≡ phase_at log.now.heading node.now.kind node.now.level place
+fn phase_of<E: Evidence>(log: &Log<E>, node: &Node, place: Place, pe: Pe) -> Phase
+    ensures { result ≡ phase_at log.now.heading log.now.trust node.now.kind node.now.level place
         (value_of (events_of (notes log.now)) place) pe (notes log.now) }
 {
     let value = log.value_of(place);
     log.phase_in(node.kind, node.level, place, value, pe)
 }
 
-impl History {
-    /// The history of this header with no event. It takes no room yet.
-    pub fn new(alloc: Global, header: &Header) -> History
-        ensures { result ≡ record { heading = header.now; kept = [] } }
+impl<E: Evidence> History<E> {
+    /// The history of this header with no event, by evidence that has taken none. It takes no room yet.
+    pub fn new(alloc: Global, header: &Header, evidence: E) -> History<E>
+        requires { E.has_taken evidence header.now [] }
+        ensures is { result ≡ record { heading = header.now; trust = E.trust evidence; kept = [] } }
+        ensures stands { StandsFor result header.now [] }
     {
         History {
-            log: Log::new(alloc, header),
+            log: Log::new(alloc, header, evidence),
             trees: Trees {
                 nodes: Vec::new(alloc),
                 fresh: Vec::new(alloc),
@@ -99,6 +111,15 @@ impl History {
         ensures { result.now ≡ self.now.heading }
     {
         self.log.header()
+    }
+
+    /// What is trusted. It has taken the events, and can be asked of the tags after them.
+    pub fn evidence(&self) -> &E
+        ensures trust { E.trust result.now ≡ self.now.trust }
+        ensures taken { E.has_taken result.now self.now.heading (notes self.now) }
+        ensures knows { E.knows result.now self.now.heading (events_of (notes self.now)) }
+    {
+        self.log.evidence()
     }
 
     /// The events taken, oldest first.
@@ -117,21 +138,21 @@ impl History {
 
     /// The pages of the trees, level by level.
     pub fn tree(&self) -> &[Node]
-        ensures { result.now ≡ trees.tree self.now.heading Patterns (notes self.now) }
+        ensures { result.now ≡ trees.tree self.now.heading self.now.trust (notes self.now) }
     {
         &self.trees.nodes
     }
 
     /// The page in its tree, the first of them where it is in several; None where it is in no tree.
     pub fn node_of(&self, page: Page) -> Option<&Node>
-        ensures { option_copied result ≡ trees.node_of self.now.heading Patterns (notes self.now) page }
+        ensures { option_copied result ≡ trees.node_of self.now.heading self.now.trust (notes self.now) page }
     {
         first_of(self.tree(), page)
     }
 
     /// The value that the place holds as one of the page; None where it holds none.
     pub fn held_at(&self, node: &Node, place: Place) -> Option<u64>
-        ensures { result ≡ trees.held_at self.now.heading Patterns (notes self.now) node.now place }
+        ensures { result ≡ trees.held_at self.now.heading self.now.trust (notes self.now) node.now place }
     {
         self.log.held(node.kind, node.level, place)
     }
@@ -147,21 +168,40 @@ impl History {
     /// where there is none.
     pub fn is_childless(&self, alloc: Global, node: &Node, value: u64) -> Result<bool, NoMemory>
         ensures { IfOk result (λ childless. childless
-            ≡ trees.is_childless self.now.heading Patterns (notes self.now) node.now value) }
+            ≡ trees.is_childless self.now.heading self.now.trust (notes self.now) node.now value) }
     {
         is_childless(alloc, &self.log, node, value)
     }
 
     /// Whether the page was initialised, has been in no tree since its last init, and wasn't declared null since.
     pub fn is_fresh(&self, page: Page) -> bool
-        ensures { result ≡ pages.is_fresh self.now.heading Patterns (notes self.now) page }
+        ensures { result ≡ pages.is_fresh self.now.heading self.now.trust (notes self.now) page }
     {
         has(&self.trees.fresh, page)
     }
 
+    /// Whether the root with this first page holds the tag at the PE. `NoMemory` where there is none.
+    pub fn holds_at(&self, alloc: Global, pe: Pe, root: Page, tag: Tag) -> Result<bool, NoMemory>
+        ensures { IfOk result (λ holds. holds
+            ≡ tags.holds_at self.now.heading self.now.trust pe root tag (events_of (notes self.now))) }
+    {
+        let evidence = self.evidence();
+        evidence.holds_at(alloc, self.header(), self.events(), pe, root.get(), tag)
+    }
+
+    /// The tags that the root with this first page holds at any PE. `NoMemory` where there is none.
+    pub fn tag_set_of(&self, alloc: Global, root: Page) -> Result<TagSet, NoMemory>
+        ensures { IfOk result (λ found. found
+            ≡ tags.tag_set (tags.tags_of self.now.heading self.now.trust root (events_of (notes self.now)))) }
+    {
+        self.log.tag_set_of(alloc, root)
+    }
+
     /// The phase of the place at the PE: clean where the place is in no tree or holds nothing.
     pub fn phase(&self, place: Place, pe: Pe) -> Phase
-        ensures { result ≡ phase_among self.now.heading (notes self.now) place pe }
+        ensures among { result ≡ phase_among self.now.heading self.now.trust (notes self.now) place pe }
+        ensures stands { (heading : Heading) (h : List TheEvent) → StandsFor self.now heading h
+            → result ≡ phases.phase_of heading self.now.trust h place pe }
     {
         match self.node_of(place.page()) {
             Some(node) => phase_of(&self.log, node, place, pe),
@@ -173,19 +213,22 @@ impl History {
     pub fn take(&mut self, alloc: Global, event: Event) -> Result<(), NoMemory>
         requires { fits_heading self.old.heading event ≡ true }
         ensures heading { self.new.heading ≡ self.old.heading }
+        ensures trust { self.new.trust ≡ self.old.trust }
+        ensures stands { OnOk result ((heading : Heading) (h : List TheEvent) → StandsFor self.old heading h
+            → StandsFor self.new heading (event ∷ h)) }
         ensures taken { OnOk result (notes self.new
-            ≡ note self.old.heading Patterns (notes self.old) event ∷ notes self.old) }
+            ≡ note self.old.heading self.old.trust (notes self.old) event ∷ notes self.old) }
         ensures unchanged { OnErr result (self.new ≡ self.old) }
     {
         let covers = covers_of(alloc, &self.log, &self.trees.nodes, &event)?;
-        self.log.take(&event, covers)?;
+        let before = self.log.take(alloc, &event, covers)?;
         match trees_after(alloc, &self.log, &self.trees.fresh, &event) {
             Ok(trees) => {
                 self.trees = trees;
                 Ok(())
             }
             Err(_) => {
-                self.log.forget();
+                self.log.forget(before);
                 Err(NoMemory)
             }
         }

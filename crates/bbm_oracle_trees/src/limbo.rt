@@ -10,17 +10,18 @@ ghost use Rattle.bbm_oracle_trees.specs.Past.{notes};
 use crate::log::Log;
 use crate::node::{Above, Node};
 use bbm_descriptor::core;
+use bbm_oracle_patterns::Evidence;
 use bbm_regimes::Kind;
 
 // Whether the present value of the place is invalid, at this kind and its level.
-fn is_broken(log: &Log, kind: Kind, above: &Above) -> bool
+fn is_broken<E: Evidence>(log: &Log<E>, kind: Kind, above: &Above) -> bool
     ensures { result ≡ not (is_valid kind above.now.level (value_of (events_of (notes log.now)) above.now.place)) }
 {
     core(kind, above.level, log.value_of(above.place)).is_none()
 }
 
 /// Whether the present value of a place above the page is invalid. Source: project's own choice.
-pub fn in_limbo(log: &Log, node: &Node) -> bool
+pub fn in_limbo<E: Evidence>(log: &Log<E>, node: &Node) -> bool
     ensures { result ≡ trees.in_limbo (notes log.now) node.now }
 {
     for above in &node.above {

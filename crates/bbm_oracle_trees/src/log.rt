@@ -2,35 +2,37 @@
 
 ghost use Rattle.std.specs.Prelude.{◌≡◌, ◌∷◌, [], true, reverse, drop, All, IfOk, OnOk, OnErr};
 ghost use Rattle.bbm_events.specs.Fits.{fits_heading};
-ghost use Rattle.bbm_rules.specs.Claims.{Patterns};
 ghost use Rattle.bbm_rules.specs.Held as holding;
 ghost use Rattle.bbm_rules.specs.Notes.{events_of};
 ghost use Rattle.bbm_rules.specs.Registers as registers;
 ghost use Rattle.bbm_rules.specs.Roots as roots;
 ghost use Rattle.bbm_rules.specs.Tags as tags;
 ghost use Rattle.bbm_rules.specs.Values as values;
+ghost use Rattle.bbm_oracle_patterns.specs.Kept.{notes_of};
 ghost use Rattle.bbm_oracle_patterns.specs.Phases.{phase_at};
 ghost use Rattle.bbm_oracle_trees.specs.Fits.{fits_root};
 
 use bbm_events::{Event, Header};
-use bbm_oracle_patterns::{Covered, Kept, held, phase_in};
+use bbm_oracle_patterns::{Covered, Evidence, Kept, held, phase_in};
 use bbm_oracle_tags::{Declared, named_scope, places_in, roots_of, tag_set_of, value_of, vmid_of};
 use bbm_regimes::{Kind, NoMemory, Page, Pe, Place};
 use bbm_rules::Phase;
 use bbm_tlbi_scope::{Scope, TagSet, TlbiOp};
 use std::alloc::Global;
 use std::marker::Model;
+use std::mem;
 
-/// A header, and the events taken, each with the places that it covered. A clause sees the events newest first. Source:
-/// project's own choice.
+/// A header, and the events taken, each with the places that it covered, beside what is trusted, which has taken the
+/// same. A clause sees the events newest first. Source: project's own choice.
 #[derive(Drop)]
-pub struct Log {
+pub struct Log<E: Evidence> {
     header: Header,
     events: Vec<Event>,
     kept: Vec<Kept>,
+    evidence: E,
 }
 
-impl Model for Log {
+impl<E: Evidence> Model for Log<E> {
     ghost use Rattle.std.specs.Prelude.{◌≡◌, true, reverse};
     ghost use Rattle.bbm_rules.specs.Notes.{events_of};
     ghost use Rattle.bbm_oracle_patterns.specs.Kept.{notes_of};
@@ -39,23 +41,30 @@ impl Model for Log {
 
     ghost Value = { Past };
 
-    ghost view = { λ l. record { heading = l.header; kept = reverse l.kept.items } };
+    ghost view = { λ l. record {
+      heading = l.header;
+      trust = E.trust l.evidence;
+      kept = reverse l.kept.items;
+    } };
 
     ghost invariant = { λ l. (reverse l.events.items ≡ events_of (notes_of (reverse l.kept.items)))
-        × (all_fit l.header (reverse l.events.items) ≡ true) };
+        × (all_fit l.header (reverse l.events.items) ≡ true)
+        × E.has_taken l.evidence l.header (notes_of (reverse l.kept.items)) };
 }
 
-impl Log {
+impl<E: Evidence> Log<E> {
     ghost use Rattle.bbm_oracle_trees.specs.Past.{notes};
 
-    /// The log of this header with no event.
-    pub fn new(alloc: Global, header: &Header) -> Log
-        ensures { result ≡ record { heading = header.now; kept = [] } }
+    /// The log of this header with no event, beside evidence that has taken none.
+    pub fn new(alloc: Global, header: &Header, evidence: E) -> Log<E>
+        requires { E.has_taken evidence header.now [] }
+        ensures { result ≡ record { heading = header.now; trust = E.trust evidence; kept = [] } }
     {
         Log {
             header: *header,
             events: Vec::new(alloc),
             kept: Vec::new(alloc),
+            evidence,
         }
     }
 
@@ -78,6 +87,14 @@ impl Log {
         ensures { reverse result.now ≡ self.now.kept }
     {
         &self.kept
+    }
+
+    /// What is trusted.
+    pub fn evidence(&self) -> &E
+        ensures trust { E.trust result.now ≡ self.now.trust }
+        ensures taken { E.has_taken result.now self.now.heading (notes self.now) }
+    {
+        &self.evidence
     }
 
     /// The value of the place.
@@ -104,16 +121,25 @@ impl Log {
 
     /// The value that the place holds, at this kind and level.
     pub fn held(&self, kind: Kind, level: u8, place: Place) -> Option<u64>
-        ensures { result ≡ holding.held self.now.heading Patterns kind level place (notes self.now) }
+        ensures { result ≡ holding.held self.now.heading self.now.trust kind level place (notes self.now) }
     {
-        held(self.header(), self.kept(), kind, level, place)
+        held(&self.evidence, &self.header, &self.kept, kind, level, place)
     }
 
     /// The phase at the PE of a place of a tree, at this kind and level, with this value.
     pub fn phase_in(&self, kind: Kind, level: u8, place: Place, value: u64, pe: Pe) -> Phase
-        ensures { result ≡ phase_at self.now.heading kind level place value pe (notes self.now) }
+        ensures { result ≡ phase_at self.now.heading self.now.trust kind level place value pe (notes self.now) }
     {
-        phase_in(self.header(), self.kept(), kind, level, place, value, pe)
+        phase_in(
+            &self.evidence,
+            &self.header,
+            &self.kept,
+            kind,
+            level,
+            place,
+            value,
+            pe,
+        )
     }
 
     /// The VMID under which the PE issues its TLBIs. `NoMemory` where there is none.
@@ -140,16 +166,31 @@ impl Log {
     /// The tags that the root holds. `NoMemory` where there is none.
     pub fn tag_set_of(&self, alloc: Global, root: Page) -> Result<TagSet, NoMemory>
         ensures { IfOk result (λ found. found
-            ≡ tags.tag_set (tags.tags_of self.now.heading Patterns root (events_of (notes self.now)))) }
+            ≡ tags.tag_set (tags.tags_of self.now.heading self.now.trust root (events_of (notes self.now)))) }
     {
-        tag_set_of(alloc, self.header(), self.events(), root.get())
+        tag_set_of(
+            alloc,
+            &self.evidence,
+            &self.header,
+            &self.events,
+            root.get(),
+        )
     }
 
-    /// Takes one more event. `NoMemory` where there is none; then it is as before.
-    pub fn take(&mut self, event: &Event, covers: Vec<Covered>) -> Result<(), NoMemory>
+    /// Takes one more event. It gives what the evidence was before, to go back to. `NoMemory` where there is none; then
+    /// it is as before.
+    pub fn take(
+        &mut self,
+        alloc: Global,
+        event: &Event,
+        covers: Vec<Covered>,
+    ) -> Result<E, NoMemory>
         requires { fits_heading self.old.heading event.now ≡ true }
         ensures heading { self.new.heading ≡ self.old.heading }
+        ensures trust { self.new.trust ≡ self.old.trust }
         ensures taken { OnOk result (self.new.kept ≡ record { event = event.now; covers = covers } ∷ self.old.kept) }
+        ensures before { IfOk result (λ before. E.has_taken before self.old.heading (notes self.old)) }
+        ensures same { IfOk result (λ before. E.trust before ≡ self.old.trust) }
         ensures unchanged { OnErr result (self.new ≡ self.old) }
     {
         let kept = Kept {
@@ -158,17 +199,22 @@ impl Log {
         };
         self.events.reserve(1).map_err(|_| NoMemory)?;
         self.kept.reserve(1).map_err(|_| NoMemory)?;
+        let after = self.evidence.after(alloc, &self.header, &self.kept, &kept)?;
         self.events.push(*event).unwrap();
         self.kept.push(kept).unwrap();
-        Ok(())
+        Ok(mem::replace(&mut self.evidence, after))
     }
 
-    /// Forgets the newest event, where there is one.
-    pub fn forget(&mut self)
+    /// Forgets the newest event, where there is one, and goes back to evidence that hasn't taken it.
+    pub fn forget(&mut self, before: E)
+        requires before { E.has_taken before self.old.heading (notes_of (drop 1 self.old.kept)) }
+        requires same { E.trust before ≡ self.old.trust }
         ensures heading { self.new.heading ≡ self.old.heading }
+        ensures trust { self.new.trust ≡ self.old.trust }
         ensures kept { self.new.kept ≡ drop 1 self.old.kept }
     {
         self.events.pop();
         self.kept.pop();
+        self.evidence = before;
     }
 }

@@ -1,7 +1,6 @@
 //! The trees of the declared roots.
 
 ghost use Rattle.std.specs.Prelude.{◌≡◌, ◌≤◌, ◌<◌, ◌==◌, ◌++◌, suc, true, All, find, flat_map, is_some, IfOk, OnOk, IfSome, option_copied, option_to_list};
-ghost use Rattle.bbm_rules.specs.Claims.{Patterns};
 ghost use Rattle.bbm_rules.specs.Lists.{any};
 ghost use Rattle.bbm_rules.specs.Tree as trees;
 ghost use Rattle.bbm_oracle_trees.specs.Fits.{fits_root};
@@ -11,6 +10,7 @@ use crate::log::Log;
 use crate::node::Node;
 use crate::starts::{add, add_starts};
 use bbm_descriptor::{Desc, read};
+use bbm_oracle_patterns::Evidence;
 use bbm_oracle_tags::Declared;
 use bbm_regimes::{Kind, NoMemory, Page, Place};
 use std::alloc::Global;
@@ -29,8 +29,13 @@ pub fn next_page(kind: Kind, level: u8, value: u64) -> Option<Page>
 }
 
 // The page to which a place of the page leads, None where it holds no table.
-fn child_at(alloc: Global, log: &Log, node: &Node, place: Place) -> Result<Option<Node>, NoMemory>
-    ensures { IfOk result (λ child. child ≡ trees.child_at log.now.heading Patterns (notes log.now) node.now place) }
+fn child_at<E: Evidence>(
+    alloc: Global,
+    log: &Log<E>,
+    node: &Node,
+    place: Place,
+) -> Result<Option<Node>, NoMemory>
+    ensures { IfOk result (λ child. child ≡ trees.child_at log.now.heading log.now.trust (notes log.now) node.now place) }
 {
     match log.held(node.kind, node.level, place) {
         Some(value) => match next_page(node.kind, node.level, value) {
@@ -45,15 +50,15 @@ fn child_at(alloc: Global, log: &Log, node: &Node, place: Place) -> Result<Optio
 }
 
 // Adds the page to which a place of the page leads, where there is one.
-fn add_child(
+fn add_child<E: Evidence>(
     alloc: Global,
-    log: &Log,
+    log: &Log<E>,
     node: &Node,
     place: Place,
     nodes: &mut Vec<Node>,
 ) -> Result<(), NoMemory>
     ensures { OnOk result (nodes.new.items ≡ nodes.old.items
-        ++ option_to_list (trees.child_at log.now.heading Patterns (notes log.now) node.now place)) }
+        ++ option_to_list (trees.child_at log.now.heading log.now.trust (notes log.now) node.now place)) }
 {
     match child_at(alloc, log, node, place) {
         Ok(Some(child)) => add(nodes, child),
@@ -63,14 +68,14 @@ fn add_child(
 }
 
 // Adds the pages to which the places of the page lead.
-fn add_children(
+fn add_children<E: Evidence>(
     alloc: Global,
-    log: &Log,
+    log: &Log<E>,
     node: &Node,
     nodes: &mut Vec<Node>,
 ) -> Result<(), NoMemory>
     ensures { OnOk result (nodes.new.items ≡ nodes.old.items
-        ++ trees.children log.now.heading Patterns (notes log.now) node.now) }
+        ++ trees.children log.now.heading log.now.trust (notes log.now) node.now) }
 {
     let places = log.places_in(alloc, node.page)?;
     for place in &places {
@@ -80,14 +85,14 @@ fn add_children(
 }
 
 // Adds the pages to which the places of these pages lead.
-fn add_below(
+fn add_below<E: Evidence>(
     alloc: Global,
-    log: &Log,
+    log: &Log<E>,
     parents: &[Node],
     nodes: &mut Vec<Node>,
 ) -> Result<(), NoMemory>
     ensures { OnOk result (nodes.new.items ≡ nodes.old.items
-        ++ flat_map (trees.children log.now.heading Patterns (notes log.now)) parents.now) }
+        ++ flat_map (trees.children log.now.heading log.now.trust (notes log.now)) parents.now) }
 {
     for node in parents {
         add_children(alloc, log, node, nodes)?;
@@ -96,16 +101,16 @@ fn add_below(
 }
 
 // The pages of a level: those of the roots whose walks start there, and those below the pages of the level above.
-fn level_nodes(
+fn level_nodes<E: Evidence>(
     alloc: Global,
-    log: &Log,
+    log: &Log<E>,
     roots: &[Declared],
     level: u8,
     parents: &[Node],
 ) -> Result<Vec<Node>, NoMemory>
     requires { All (λ root. fits_root log.now.heading root ≡ true) roots.now }
     ensures { IfOk result (λ nodes. nodes.items ≡ flat_map (trees.starts_at log.now.heading level) roots.now
-        ++ flat_map (trees.children log.now.heading Patterns (notes log.now)) parents.now) }
+        ++ flat_map (trees.children log.now.heading log.now.trust (notes log.now)) parents.now) }
 {
     let mut nodes = Vec::new(alloc);
     add_starts(alloc, log.header(), level, roots, &mut nodes)?;
@@ -122,8 +127,8 @@ fn add_all(nodes: &mut Vec<Node>, mut more: Vec<Node>) -> Result<(), NoMemory>
 
 /// The pages of the trees, level by level. `NoMemory` where there is none.
 #[tactic(auto, unfolding(bbm_rules::specs::Tree::tree))]
-pub fn tree_of(alloc: Global, log: &Log) -> Result<Vec<Node>, NoMemory>
-    ensures { IfOk result (λ nodes. nodes.items ≡ trees.tree log.now.heading Patterns (notes log.now)) }
+pub fn tree_of<E: Evidence>(alloc: Global, log: &Log<E>) -> Result<Vec<Node>, NoMemory>
+    ensures { IfOk result (λ nodes. nodes.items ≡ trees.tree log.now.heading log.now.trust (notes log.now)) }
 {
     let roots = log.roots(alloc)?;
     let mut nodes = level_nodes(alloc, log, &roots, 0, &[])?;
@@ -156,8 +161,8 @@ pub fn has_page(nodes: &[Node], page: Page) -> bool
 }
 
 // Whether one of the places holds something, at this kind and level.
-fn holds_some(log: &Log, kind: Kind, level: u8, places: &[Place]) -> bool
-    ensures { result ≡ any (trees.holds_some log.now.heading Patterns (notes log.now) kind level) places.now }
+fn holds_some<E: Evidence>(log: &Log<E>, kind: Kind, level: u8, places: &[Place]) -> bool
+    ensures { result ≡ any (trees.holds_some log.now.heading log.now.trust (notes log.now) kind level) places.now }
 {
     for place in places {
         if log.held(kind, level, *place).is_some() {
@@ -169,9 +174,14 @@ fn holds_some(log: &Log, kind: Kind, level: u8, places: &[Place]) -> bool
 
 /// Whether the value, at the kind and the level of the page, is a table no place of which holds anything. `NoMemory`
 /// where there is none.
-pub fn is_childless(alloc: Global, log: &Log, node: &Node, value: u64) -> Result<bool, NoMemory>
+pub fn is_childless<E: Evidence>(
+    alloc: Global,
+    log: &Log<E>,
+    node: &Node,
+    value: u64,
+) -> Result<bool, NoMemory>
     ensures { IfOk result (λ childless. childless
-        ≡ trees.is_childless log.now.heading Patterns (notes log.now) node.now value) }
+        ≡ trees.is_childless log.now.heading log.now.trust (notes log.now) node.now value) }
 {
     match next_page(node.kind, node.level, value) {
         Some(next) => {

@@ -9,6 +9,8 @@ mod follow;
 #[cfg(test)]
 mod generator;
 #[cfg(test)]
+mod judge;
+#[cfg(test)]
 mod oracle_patterns;
 #[cfg(test)]
 mod oracle_tags;

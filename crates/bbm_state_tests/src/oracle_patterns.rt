@@ -5,6 +5,7 @@ use bbm_events::{Event, Header};
 use bbm_oracle_patterns::{
     Covered, Kept, cleansed_everywhere, held, last_valid, phase_in, trace_of,
 };
+use bbm_oracle_tags::AllPatterns;
 use bbm_regimes::{HypWorld, Kind, Pe, Place, World};
 use bbm_rules::Phase;
 use bbm_tlbi_scope::{Cover, TlbiOp};
@@ -102,9 +103,9 @@ fn judged(
     let log = log_of(alloc, steps, place)?;
     let first = Pe::new(0).ok_or("PE")?;
     let second = Pe::new(1).ok_or("PE")?;
-    let value = held(header, &log, Kind::S2, 1, place);
-    let one = phase_in(header, &log, Kind::S2, 1, place, 0, first);
-    let other = phase_in(header, &log, Kind::S2, 1, place, 0, second);
+    let value = held(&AllPatterns, header, &log, Kind::S2, 1, place);
+    let one = phase_in(&AllPatterns, header, &log, Kind::S2, 1, place, 0, first);
+    let other = phase_in(&AllPatterns, header, &log, Kind::S2, 1, place, 0, second);
     Ok((value, [one, other]))
 }
 

@@ -2,6 +2,7 @@
 
 use bbm_barriers::{Domain, Dsb, Types};
 use bbm_events::{Event, Header};
+use bbm_oracle_tags::AllPatterns;
 use bbm_oracle_tags::limits::limit_of;
 use bbm_oracle_tags::locks::holder_of;
 use bbm_oracle_tags::numbers::least;
@@ -203,9 +204,9 @@ fn told_by(alloc: Global, pe: Pe, page: Page, events: &[Event]) -> Result<Told, 
     let retired = Event::Unroot { pe, page };
     Ok(Told {
         readable: readings_at(alloc, &header, events, pe)?.len(),
-        tags: tag_set_of(alloc, &header, events, ROOT)?,
-        clash: rules::tag_conflict(alloc, &header, events, &load)?,
-        used: rules::root_in_use(alloc, &header, events, &retired)?,
+        tags: tag_set_of(alloc, &AllPatterns, &header, events, ROOT)?,
+        clash: rules::tag_conflict(alloc, &AllPatterns, &header, events, &load)?,
+        used: rules::root_in_use(alloc, &AllPatterns, &header, events, &retired)?,
     })
 }
 
@@ -234,7 +235,14 @@ fn tags_of_roots(rt: HostRuntime) -> Result<(), Fail> {
         };
         let found = told_by(rt.alloc(), pe, page, &events[..count]).map_err(|_| "memory")?;
         assert_eq!(rt; found, expected, "{count}");
-        let holds = holds_tag(rt.alloc(), &header(), &events[..count], ROOT, Tag::El2);
+        let holds = holds_tag(
+            rt.alloc(),
+            &AllPatterns,
+            &header(),
+            &events[..count],
+            ROOT,
+            Tag::El2,
+        );
         assert_eq!(rt; holds.map_err(|_| "memory")?, at.is_some(), "{count}");
     }
     Ok(())

@@ -2,11 +2,14 @@
 
 use bbm_barriers::{Domain, Dsb, Types};
 use bbm_events::{Event, Header, fits};
-use bbm_oracle_trees::History;
+use bbm_oracle_tags::AllPatterns;
 use bbm_regimes::{HypWorld, Kind, Page, Pe, Place, World};
 use bbm_rules::Phase;
 use bbm_tlbi_scope::{Cover, TlbiOp};
 use std::alloc::Global;
+
+/// A history by every pattern of events.
+type History = bbm_oracle_trees::History<AllPatterns>;
 
 /// An event of PE 0.
 #[derive(Clone, Copy)]
@@ -108,7 +111,7 @@ fn takes(history: &mut History, alloc: Global, event: &Event) -> bool {
 
 // The history of the lines; None where one doesn't fit, or there is no memory.
 fn history_of(alloc: Global, lines: &[Line]) -> Option<History> {
-    let mut history = History::new(alloc, &header());
+    let mut history = History::new(alloc, &header(), AllPatterns);
     for line in lines {
         let event = event_of(*line)?;
         if !takes(&mut history, alloc, &event) {

@@ -1,51 +1,47 @@
-use Rattle.std.proofs.Common.{◌+◌, List, subst, true, false, drop, reverse, refl, sym, ◌∙◌}
-use Rattle.bbm_descriptor.specs.Descriptor.{is_valid}
-use Rattle.bbm_oracle_patterns.specs.Kept.{notes_behind, notes_of}
+use Rattle.std.proofs.Common.{◌≡◌, ◌+◌, ℕ, List, ap, true, false, drop, reverse, refl, sym, ◌∙◌}
 use Rattle.std.proofs.lemmas.List.{take_rest}
-use Rattle.bbm_oracle_patterns.specs.Walk.{Traces}
+use Rattle.bbm_descriptor.specs.Descriptor.{is_valid}
+use Rattle.bbm_rules.specs.Claims.{Trust}
+use Rattle.bbm_rules.specs.Cleansing.{cleansed, half, seen}
+use Rattle.bbm_rules.specs.Notes.{Noted}
+use Rattle.bbm_oracle_patterns.specs.Kept.{notes_behind, notes_of}
 use Rattle.bbm_oracle_patterns.specs.declared.kept.Kept.{Kept}
 use Rattle.bbm_oracle_patterns.proofs.Phases.{phase_found}
 use Rattle.bbm_oracle_patterns.proofs.search.phase_in.Goals as goal
 
-pub returns-then-has_every_pe : goal.returns-then-has_every_pe
-returns-then-has_every_pe c =
-    phase_found c.args.header.now c.args.kind c.args.level c.args.place c.args.value c.args.pe (notes_of (reverse c.args.log.now))
-    (notes_behind (c.in-Some.write.index + 1) (reverse (drop (c.in-Some.write.index + 1) c.args.log.now))) c.in-Some.write.value c.trace_of-trace.result true (is_valid c.args.kind c.args.level c.args.value)
-    c.in-Some.ensures.found
-    (subst (λ (ks : List Kept). Traces c.trace_of-trace.result c.args.header.now c.args.place (notes_behind (c.in-Some.write.index + 1) (reverse ks)))
-    (take_rest c.args.log.now (c.in-Some.write.index + 1))
-    (record {
-      seen_at = c.trace_of-trace.ensures.seen (c.in-Some.write.index + 1);
-      half_at = c.trace_of-trace.ensures.half (c.in-Some.write.index + 1);
-      cleansed_at = c.trace_of-trace.ensures.cleansed (c.in-Some.write.index + 1);
-    }))
-    (sym c.if-has_every_pe.true ∙ c.has_every_pe.ensures) refl
+pub returns-then-is_cleansed : goal.returns-then-is_cleansed
+returns-then-is_cleansed g c =
+    let trust : Trust = g.E.TagEvidence.trust c.args.evidence.now in
+    let from : ℕ = c.in-Some.write.index + 1 in
+    let since : List Noted = notes_behind from (reverse (drop from c.args.log.now)) in
+    phase_found c.args.header.now trust c.args.kind c.args.level c.args.place c.args.value c.args.pe (notes_of (reverse c.args.log.now)) since
+    c.in-Some.write.value true (is_valid c.args.kind c.args.level c.args.value) (cleansed c.args.header.now trust c.args.place c.args.pe since)
+    (half c.args.header.now c.args.place c.args.pe since) (seen c.args.header.now c.args.place c.args.pe since)
+    c.in-Some.ensures.found (sym c.if-is_cleansed.true ∙ c.is_cleansed.ensures) refl refl refl refl
 
 pub returns-then-is_valid_at : goal.returns-then-is_valid_at
-returns-then-is_valid_at c =
-    phase_found c.args.header.now c.args.kind c.args.level c.args.place c.args.value c.args.pe (notes_of (reverse c.args.log.now))
-    (notes_behind (c.in-Some.write.index + 1) (reverse (drop (c.in-Some.write.index + 1) c.args.log.now))) c.in-Some.write.value c.trace_of-trace.result false true
-    c.in-Some.ensures.found
-    (subst (λ (ks : List Kept). Traces c.trace_of-trace.result c.args.header.now c.args.place (notes_behind (c.in-Some.write.index + 1) (reverse ks)))
-    (take_rest c.args.log.now (c.in-Some.write.index + 1))
-    (record {
-      seen_at = c.trace_of-trace.ensures.seen (c.in-Some.write.index + 1);
-      half_at = c.trace_of-trace.ensures.half (c.in-Some.write.index + 1);
-      cleansed_at = c.trace_of-trace.ensures.cleansed (c.in-Some.write.index + 1);
-    }))
-    (sym c.if-has_every_pe.false ∙ c.has_every_pe.ensures) (sym c.if-is_valid_at.true ∙ c.is_valid_at.ensures)
+returns-then-is_valid_at g c =
+    let trust : Trust = g.E.TagEvidence.trust c.args.evidence.now in
+    let from : ℕ = c.in-Some.write.index + 1 in
+    let since : List Noted = notes_behind from (reverse (drop from c.args.log.now)) in
+    phase_found c.args.header.now trust c.args.kind c.args.level c.args.place c.args.value c.args.pe (notes_of (reverse c.args.log.now)) since
+    c.in-Some.write.value false true (cleansed c.args.header.now trust c.args.place c.args.pe since)
+    (half c.args.header.now c.args.place c.args.pe since) (seen c.args.header.now c.args.place c.args.pe since)
+    c.in-Some.ensures.found (sym c.if-is_cleansed.false ∙ c.is_cleansed.ensures) (sym c.if-is_valid_at.true ∙ c.is_valid_at.ensures)
+    refl refl refl
 
 pub returns-else-is_valid_at : goal.returns-else-is_valid_at
-returns-else-is_valid_at c =
-    c.broken_phase.ensures ∙
-    phase_found c.args.header.now c.args.kind c.args.level c.args.place c.args.value c.args.pe (notes_of (reverse c.args.log.now))
-    (notes_behind (c.in-Some.write.index + 1) (reverse (drop (c.in-Some.write.index + 1) c.args.log.now))) c.in-Some.write.value c.trace_of-trace.result false false
-    c.in-Some.ensures.found
-    (subst (λ (ks : List Kept). Traces c.trace_of-trace.result c.args.header.now c.args.place (notes_behind (c.in-Some.write.index + 1) (reverse ks)))
-    (take_rest c.args.log.now (c.in-Some.write.index + 1))
-    (record {
-      seen_at = c.trace_of-trace.ensures.seen (c.in-Some.write.index + 1);
-      half_at = c.trace_of-trace.ensures.half (c.in-Some.write.index + 1);
-      cleansed_at = c.trace_of-trace.ensures.cleansed (c.in-Some.write.index + 1);
-    }))
-    (sym c.if-has_every_pe.false ∙ c.has_every_pe.ensures) (sym c.if-is_valid_at.false ∙ c.is_valid_at.ensures)
+returns-else-is_valid_at g c =
+    let trust : Trust = g.E.TagEvidence.trust c.args.evidence.now in
+    let from : ℕ = c.in-Some.write.index + 1 in
+    let since : List Noted = notes_behind from (reverse (drop from c.args.log.now)) in
+    let rest : List Kept → List Noted = λ ks. notes_behind from (reverse ks) in
+    c.broken_phase.ensures
+    ∙ phase_found c.args.header.now trust c.args.kind c.args.level c.args.place c.args.value c.args.pe (notes_of (reverse c.args.log.now)) since
+    c.in-Some.write.value false false _ _ _
+    c.in-Some.ensures.found (sym c.if-is_cleansed.false ∙ c.is_cleansed.ensures) (sym c.if-is_valid_at.false ∙ c.is_valid_at.ensures)
+    (c.cleansed-cleansed.ensures c.args.pe)
+    (c.trace_of-trace.ensures.half from c.args.pe
+    ∙ ap (λ (ks : List Kept). half c.args.header.now c.args.place c.args.pe (rest ks)) (take_rest c.args.log.now from))
+    (c.trace_of-trace.ensures.seen from c.args.pe
+    ∙ ap (λ (ks : List Kept). seen c.args.header.now c.args.place c.args.pe (rest ks)) (take_rest c.args.log.now from))

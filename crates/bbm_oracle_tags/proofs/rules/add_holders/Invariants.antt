@@ -3,5 +3,5 @@ use Rattle.bbm_oracle_tags.specs.Conflicts.{holder_pages}
 use Rattle.bbm_oracle_tags.proofs.rules.add_holders.Given as goal
 
 abbrev pub invariant-loop-root : goal.invariant-loop-root
-invariant-loop-root l = l.pages.items
-    ≡ l.initial.pages.items ++ holder_pages l.header (reverse l.after) l.reading (take l.root-index l.roots)
+invariant-loop-root g l = l.pages.items
+    ≡ l.initial.pages.items ++ holder_pages l.header (g.E.TagEvidence.trust l.evidence) (reverse l.after) l.reading (take l.root-index l.roots)

@@ -1,9 +1,8 @@
 use Rattle.std.proofs.Common.{◌&&◌, take, reverse}
-use Rattle.bbm_rules.specs.Claims.{Patterns}
 use Rattle.bbm_rules.specs.Tags.{holds_tag}
 use Rattle.bbm_oracle_tags.specs.TagSets.{HasTags, has_tag}
 use Rattle.bbm_oracle_tags.proofs.tags.held_among.Given as goal
 
 abbrev pub invariant-loop-tag : goal.invariant-loop-tag
-invariant-loop-tag l =
-    HasTags (λ g. has_tag g (take l.tag-index l.tags) && holds_tag l.header Patterns l.root g (reverse l.events)) l.set
+invariant-loop-tag g l =
+    HasTags (λ k. has_tag k (take l.tag-index l.tags) && holds_tag l.header (g.E.TagEvidence.trust l.evidence) l.root k (reverse l.events)) l.set

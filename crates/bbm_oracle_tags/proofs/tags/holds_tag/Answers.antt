@@ -1,19 +1,21 @@
 use Rattle.std.proofs.Common.{◌≡◌, sym, ap, ◌∙◌, arith, rules, reverse}
 use Rattle.bbm_events.specs.Heading.{Heading}
-use Rattle.bbm_rules.specs.Claims.{Patterns}
+use Rattle.bbm_rules.specs.Claims.{Trust}
 use Rattle.bbm_rules.specs.Tags.{holds_at}
 use Rattle.bbm_oracle_tags.proofs.TagLemmas.{no-pe, one-pe}
 use Rattle.bbm_oracle_tags.proofs.tags.holds_tag.Goals as goal
 
 pub returns-then-branch : goal.returns-then-branch
-returns-then-branch c =
+returns-then-branch g c =
+    let trust : Trust = g.E.TagEvidence.trust c.args.evidence.now in
     let at : c.unwrap-pe.result ≡ c.loop-number.number = search rules in
     let pes : c.header.inside.pes ≡ c.args.header.now.pes = ap (λ (h : Heading). h.pes) c.header.view_is in
-    sym (one-pe c.args.header.now.pes (λ p. holds_at c.args.header.now Patterns p c.args.root c.args.tag (reverse c.args.events.now))
+    sym (one-pe c.args.header.now.pes (λ p. holds_at c.args.header.now trust p c.args.root c.args.tag (reverse c.args.events.now))
     c.unwrap-pe.result (omega (arith, at, pes, c.loop-number-test.true)) (sym c.in_ok-holds_at.ensures ∙ c.if-branch.true))
 
 pub returns : goal.returns
-returns c =
+returns g c =
+    let trust : Trust = g.E.TagEvidence.trust c.args.evidence.now in
     let pes : c.header.inside.pes ≡ c.args.header.now.pes = ap (λ (h : Heading). h.pes) c.header.view_is in
-    sym (no-pe c.args.header.now.pes (λ p. holds_at c.args.header.now Patterns p c.args.root c.args.tag (reverse c.args.events.now))
+    sym (no-pe c.args.header.now.pes (λ p. holds_at c.args.header.now trust p c.args.root c.args.tag (reverse c.args.events.now))
     (λ p lt. c.loop-number.invariant p (omega (arith, pes, lt))))

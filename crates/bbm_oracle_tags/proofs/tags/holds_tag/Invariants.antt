@@ -1,8 +1,7 @@
 use Rattle.std.proofs.Common.{◌≡◌, ℕ, ◌<◌, false, reverse}
-use Rattle.bbm_rules.specs.Claims.{Patterns}
 use Rattle.bbm_rules.specs.Tags.{holds_at}
 use Rattle.bbm_oracle_tags.proofs.tags.holds_tag.Given as goal
 
 abbrev pub invariant-loop-number : goal.invariant-loop-number
-invariant-loop-number l =
-    (p : ℕ) → p < l.number → holds_at l.header Patterns p l.root l.tag (reverse l.events) ≡ false
+invariant-loop-number g l =
+    (p : ℕ) → p < l.number → holds_at l.header (g.E.TagEvidence.trust l.evidence) p l.root l.tag (reverse l.events) ≡ false

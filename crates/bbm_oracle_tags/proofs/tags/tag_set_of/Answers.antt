@@ -1,25 +1,26 @@
 use Rattle.std.proofs.Common.{◌≡◌, ◌&&◌, reverse, refl}
 use Rattle.std.proofs.lemmas.Result.{IfOk-weaker}
-use Rattle.bbm_rules.specs.Claims.{Patterns}
+use Rattle.bbm_rules.specs.Claims.{Trust}
 use Rattle.bbm_rules.specs.Tags.{holds_tag, tag_set, tags_of}
 use Rattle.bbm_oracle_tags.specs.TagSets.{HasTags, has_tag}
 use Rattle.bbm_oracle_tags.proofs.TagLemmas.{implied, same-set, set-same}
 use Rattle.bbm_oracle_tags.proofs.tags.tag_set_of.Goals as goal
 
 pub returns : goal.returns
-returns c =
+returns g c =
+    let trust : Trust = g.E.TagEvidence.trust c.args.evidence.now in
     let heading = c.args.header.now in
     let h = reverse c.args.events.now in
     let root = c.args.root in
     IfOk-weaker c.held_among.result
-    (λ set. HasTags (λ g. has_tag g c.deref.result.now && holds_tag heading Patterns root g h) set)
-    (λ set. set ≡ tag_set (tags_of heading Patterns root h))
+    (λ set. HasTags (λ g. has_tag g c.deref.result.now && holds_tag heading trust root g h) set)
+    (λ set. set ≡ tag_set (tags_of heading trust root h))
     (λ set has. same-set (λ g k e. (c.law_equality_tests.ensures.tags g k).0 e) (λ g. (c.law_equality_tests.ensures.tags g g).1 refl)
-    (λ g. holds_tag heading Patterns root g h) set (tag_set (tags_of heading Patterns root h))
-    (set-same (λ g. has_tag g c.deref.result.now && holds_tag heading Patterns root g h) (λ g. holds_tag heading Patterns root g h) set
-    (λ g. implied (has_tag g c.deref.result.now) (holds_tag heading Patterns root g h)
-    (λ held. rw c.deref.ensures.value (c.in_ok-tags.ensures g held))) has)
-    (λ e. c.law_tag_set.ensures.none heading Patterns root h e)
-    (λ t e. c.law_tag_set.ensures.one heading Patterns root h t e)
-    (λ e. c.law_tag_set.ensures.many heading Patterns root h e))
+    (λ g. holds_tag heading trust root g h) set (tag_set (tags_of heading trust root h))
+    (set-same (λ g. has_tag g c.deref.result.now && holds_tag heading trust root g h) (λ g. holds_tag heading trust root g h) set
+    (λ g. implied (has_tag g c.deref.result.now) (holds_tag heading trust root g h)
+    (λ held. rw c.deref.ensures.value (c.in_ok-tags.ensures trust g held))) has)
+    (λ e. c.law_tag_set.ensures.none heading trust root h e)
+    (λ t e. c.law_tag_set.ensures.one heading trust root h t e)
+    (λ e. c.law_tag_set.ensures.many heading trust root h e))
     c.held_among.ensures

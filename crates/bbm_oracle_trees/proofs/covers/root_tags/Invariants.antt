@@ -4,4 +4,4 @@ use Rattle.bbm_oracle_trees.specs.Views.{AreTags}
 use Rattle.bbm_oracle_trees.proofs.covers.root_tags.Given as goal
 
 abbrev pub invariant-loop-root : goal.invariant-loop-root
-invariant-loop-root l = AreTags l.log.heading (events_of (notes l.log)) l.known.items
+invariant-loop-root g l = AreTags l.log.heading l.log.trust (events_of (notes l.log)) l.known.items

@@ -8,6 +8,6 @@ use Rattle.bbm_oracle_trees.specs.Past.{notes}
 use Rattle.bbm_oracle_trees.proofs.limbo.in_limbo.Given as goal
 
 abbrev pub invariant-loop-above : goal.invariant-loop-above
-invariant-loop-above l = any
+invariant-loop-above g l = any
     (λ (a : Above). not (is_valid l.node-inside.kind a.level (value_of (events_of (notes l.log)) a.place)))
     (take l.above-index l.above-items) ≡ false

@@ -1,10 +1,9 @@
 use Rattle.std.proofs.Common.{◌≡◌, ◌++◌, take}
 use Rattle.std.specs.List.{filter_map}
-use Rattle.bbm_rules.specs.Claims.{Patterns}
 use Rattle.bbm_rules.specs.Tree.{child_at}
 use Rattle.bbm_oracle_trees.specs.Past.{notes}
 use Rattle.bbm_oracle_trees.proofs.tree.add_children.Given as goal
 
 abbrev pub invariant-loop-place : goal.invariant-loop-place
-invariant-loop-place l = l.nodes.items ≡ l.initial.nodes.items
-    ++ filter_map (child_at l.log.heading Patterns (notes l.log) l.node) (take l.place-index l.place-items)
+invariant-loop-place g l = l.nodes.items ≡ l.initial.nodes.items
+    ++ filter_map (child_at l.log.heading l.log.trust (notes l.log) l.node) (take l.place-index l.place-items)

@@ -1,6 +1,9 @@
-use Rattle.std.proofs.Common.{◌∙◌}
-use Rattle.bbm_oracle.proofs.Stands.{phase_stands}
+use Rattle.std.proofs.Common.{◌∙◌, ap}
+use Rattle.bbm_rules.specs.Claims.{Trust}
+use Rattle.bbm_rules.specs.Phases.{phase_of}
 use Rattle.bbm_oracle.proofs.oracle.OracleChecker.phase.Goals as goal
 
 pub returns : goal.returns
-returns c = λ heading h s. c.phase.ensures ∙ phase_stands s c.args.place c.args.pe
+returns c = λ heading h s.
+    c.phase.ensures.stands heading h s.kept
+    ∙ ap (λ (trust : Trust). phase_of heading trust h c.args.place c.args.pe) s.trust_is

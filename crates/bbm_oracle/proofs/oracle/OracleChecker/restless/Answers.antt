@@ -1,6 +1,8 @@
-use Rattle.std.proofs.Common.{◌∙◌}
-use Rattle.bbm_oracle.proofs.Stands.{restless_stands}
+use Rattle.std.proofs.Common.{◌∙◌, ap}
+use Rattle.bbm_rules.specs.Claims.{Trust}
+use Rattle.bbm_rules.specs.Phases.{restless_of}
 use Rattle.bbm_oracle.proofs.oracle.OracleChecker.restless.Goals as goal
 
 pub returns : goal.returns
-returns c = λ heading h s. c.count_restless.ensures ∙ restless_stands s
+returns c = λ heading h s.
+    c.count_restless.ensures heading h s.kept ∙ ap (λ (trust : Trust). restless_of heading trust h) s.trust_is

@@ -1,11 +1,19 @@
 use Rattle.std.proofs.Common.{◌∙◌, ap}
 use Rattle.bbm_oracle_patterns.specs.Kept.{notes_of}
-use Rattle.bbm_oracle_trees.proofs.Noting.{noted_more}
+use Rattle.bbm_oracle_trees.specs.Past.{Past}
+use Rattle.bbm_oracle_trees.proofs.Noting.{noted_more, stands_more}
 use Rattle.bbm_oracle_trees.proofs.history.History.take.Goals as goal
 
 pub returns-in-Ok-clause-taken : goal.returns-in-Ok-clause-taken
-returns-in-Ok-clause-taken c =
+returns-in-Ok-clause-taken g c =
     rw (← c.self.view_is)
-    (ap notes_of c.in_ok-take.ensures.taken
-    ∙ noted_more c.self.inside.log.heading c.self.inside.log.kept (record { event = c.args.event; covers = c.in_ok-covers.covers })
-    c.in_ok-covers.ensures)
+    (ap notes_of c.in_ok-before.ensures.taken
+    ∙ noted_more c.self.inside.log.heading c.self.inside.log.trust c.self.inside.log.kept
+    (record { event = c.args.event; covers = c.in_ok-covers.covers }) c.in_ok-covers.ensures)
+
+pub returns-in-Ok-clause-stands : goal.returns-in-Ok-clause-stands
+returns-in-Ok-clause-stands g c =
+    stands_more c.args.self.now c.take.new.self c.args.event
+    (c.take.ensures.heading ∙ ap (λ (past : Past). past.heading) c.self.view_is)
+    (c.take.ensures.trust ∙ ap (λ (past : Past). past.trust) c.self.view_is)
+    (returns-in-Ok-clause-taken g c)

@@ -16,21 +16,21 @@ use Rattle.bbm_replay_roots.proofs.state.RootState.write_reg.Goals as goal
 
 pub returns-in-Some-clause-judged : goal.returns-in-Some-clause-judged
 returns-in-Some-clause-judged c heading h s e =
-    msr_elsewhere s c.args.pe c.args.reg c.args.value c.in-Some.at (c.in-Some.ensures (noted heading Patterns h))
+    msr_elsewhere s c.args.pe c.args.reg c.args.value c.in-Some.at (c.in-Some.ensures Patterns (noted heading Patterns h))
 
 pub write_reg-requires-clause-of_world : goal.write_reg-requires-clause-of_world
 write_reg-requires-clause-of_world c =
     let s = c.requires.2 in
     ap (λ (w : World). is_of_world w c.args.reg) s.world
     ∙ reg_of_world c.requires.0.world c.args.reg
-    (right_world c.requires.0 [] c.args.pe c.args.reg c.args.value (world_here s [] c.args.pe c.args.reg c.args.value (c.in_default.ensures [])))
+    (right_world c.requires.0 [] c.args.pe c.args.reg c.args.value (world_here s [] c.args.pe c.args.reg c.args.value (c.in_default.ensures Patterns [])))
 
 pub returns-in-Ok-clause-judged : goal.returns-in-Ok-clause-judged
 returns-in-Ok-clause-judged c heading h s e =
     let laws = c.bridge.ensures heading in
     write_ok heading laws (laws.proper s.proper) h s.kept (agrees_by laws s) c.args.pe c.args.reg c.args.value
     (in_range c.requires.2 s c.requires.3)
-    (world_here s (noted heading Patterns h) c.args.pe c.args.reg c.args.value (c.in_default.ensures (noted heading Patterns h)))
+    (world_here s (noted heading Patterns h) c.args.pe c.args.reg c.args.value (c.in_default.ensures Patterns (noted heading Patterns h)))
     c.in-Ok.field-0
     (write_by s c.args.pe c.args.reg c.args.value c.args.null e (Ok c.in-Ok.field-0) (c.in-Ok.ensures.judged (calls_of heading h) s.roots))
 
@@ -47,6 +47,6 @@ returns-in-Err-clause-judged c heading h s e =
     (sym c.write_fault.ensures)
     (write_err heading laws (laws.proper s.proper) h s.kept (agrees_by laws s) c.args.pe c.args.reg c.args.value
     (in_range c.requires.2 s c.requires.3)
-    (world_here s (noted heading Patterns h) c.args.pe c.args.reg c.args.value (c.in_default.ensures (noted heading Patterns h)))
+    (world_here s (noted heading Patterns h) c.args.pe c.args.reg c.args.value (c.in_default.ensures Patterns (noted heading Patterns h)))
     c.in-Err.fault
     (write_by s c.args.pe c.args.reg c.args.value c.args.null e (Err c.in-Err.fault) (c.in-Err.ensures.judged (calls_of heading h) s.roots)))

@@ -1,0 +1,14 @@
+use Rattle.std.proofs.Common.{arith}
+use Rattle.bbm_rules.specs.Notes.{events_of}
+use Rattle.bbm_rules.specs.Tree.{next_of}
+use Rattle.bbm_rules.specs.Values.{value_of}
+use Rattle.bbm_oracle_trees.specs.Past.{notes}
+use Rattle.bbm_judge.proofs.Lists.{filter_map_more}
+use Rattle.bbm_judge.proofs.ends.next_pages.Goals as goal
+
+pub loop-place-preserved : goal.loop-place-preserved
+loop-place-preserved g c = filter_map_more
+    (λ place. next_of c.args.kind c.args.level (value_of (events_of (notes c.args.history.now)) place))
+    c.deref-place-items.result.now c.loop-place.place-index c.place-item.result c.loop-place.pages.items c.add_next.new.pages.items
+    (omega arith) c.place-item.is c.loop-place.invariant
+    (rw (c.next_in.ensures.value, c.value_of-value.ensures, c.events-in-loop-place.ensures) at c.in_ok-add_next.ensures)

@@ -1,0 +1,11 @@
+use Rattle.std.proofs.Common.{not, arith}
+use Rattle.bbm_rules.specs.Pages.{is_fresh}
+use Rattle.bbm_oracle_trees.specs.Past.{notes}
+use Rattle.bbm_judge.proofs.Leasts.{least_filter_more}
+use Rattle.bbm_judge.proofs.least.least_unfresh.Goals as goal
+
+pub loop-page-preserved : goal.loop-page-preserved
+loop-page-preserved g c = rw c.lesser-found.ensures
+    (least_filter_more (λ page. not (is_fresh c.args.history.now.heading c.args.history.now.trust (notes c.args.history.now) page))
+    c.args.pages.now c.loop-page.page-index c.page-item.result c.loop-page.found c.unfresh.result
+    (omega arith) c.page-item.is c.loop-page.invariant c.unfresh.ensures)

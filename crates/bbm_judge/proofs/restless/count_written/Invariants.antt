@@ -1,0 +1,9 @@
+use Rattle.std.proofs.Common.{◌≡◌, ◌≤◌, take, reverse, count_by}
+use Rattle.bbm_rules.specs.Phases.{is_restless}
+use Rattle.bbm_rules.specs.Values.{written_places}
+use Rattle.bbm_oracle_trees.specs.Past.{notes}
+use Rattle.bbm_judge.proofs.restless.count_written.Given as goal
+
+abbrev pub invariant-loop-index : goal.invariant-loop-index
+invariant-loop-index g l = (l.count ≡ count_by (is_restless l.history.heading l.history.trust (notes l.history))
+    (written_places (reverse (take l.index l.events)))) × (l.count ≤ l.index)

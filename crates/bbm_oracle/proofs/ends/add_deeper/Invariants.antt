@@ -1,9 +1,0 @@
-use Rattle.std.proofs.Common.{◌≡◌, ◌-◌, ◌++◌, take, flat_map}
-use Rattle.bbm_rules.specs.Attach.{ends_below}
-use Rattle.bbm_rules.specs.Claims.{Patterns}
-use Rattle.bbm_oracle_trees.specs.Past.{notes}
-use Rattle.bbm_oracle.proofs.ends.add_deeper.Given as goal
-
-abbrev pub invariant-loop-page : goal.invariant-loop-page
-invariant-loop-page l = l.ends.items ≡ l.initial.ends.items
-    ++ flat_map (ends_below l.history.heading Patterns (notes l.history) l.kind (3 - l.level) l.level) (take l.page-index l.pages)

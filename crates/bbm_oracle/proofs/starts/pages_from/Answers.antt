@@ -1,6 +1,0 @@
-use Rattle.std.proofs.Common.{rules}
-use Rattle.bbm_oracle.proofs.Paths.{pages_from_more}
-use Rattle.bbm_oracle.proofs.starts.pages_from.Goals as goal
-
-pub loop-index-preserved : goal.loop-index-preserved
-loop-index-preserved c = rw (pages_from_more, ← c.page_at.ensures) (search rules)

@@ -1,4 +1,0 @@
-use Rattle.bbm_oracle.proofs.tree_rules.no_lock.Goals as goal
-
-pub returns-in-Write : goal.returns-in-Write
-returns-in-Write c = rw c.in-Write.is (c.unlocked_write.ensures c.in-Write.value)
