@@ -73,7 +73,7 @@ pub fn next_in(kind: Kind, level: u8, value: u64) -> Option<Page>
     }
 }
 
-// Adds the page, where there is one. `NoMemory` where there is none.
+/// Adds the page, where there is one. `NoMemory` where there is none.
 fn add_next(pages: &mut Vec<Page>, next: Option<Page>) -> Result<(), NoMemory>
     ensures { OnOk result (pages.new.items ≡ pages.old.items ++ option_to_list next) }
 {
@@ -83,7 +83,7 @@ fn add_next(pages: &mut Vec<Page>, next: Option<Page>) -> Result<(), NoMemory>
     }
 }
 
-// The next pages of the table values of the page, read at this kind and level, 0 to 3. `NoMemory` where there is none.
+/// The next pages of the table values of the page, read at this kind and level, 0 to 3. `NoMemory` where there is none.
 fn next_pages<E: Evidence>(
     alloc: Global,
     history: &History<E>,
@@ -105,8 +105,8 @@ fn next_pages<E: Evidence>(
     Ok(pages)
 }
 
-// Adds the ends of the paths of at least one place that begin in the page, read at this kind and level, with so many
-// levels below. `NoMemory` where there is none.
+/// Adds the ends of the paths of at least one place that begin in the page, read at this kind and level, with so many
+/// levels below. `NoMemory` where there is none.
 fn add_ends<E: Evidence>(
     alloc: Global,
     history: &History<E>,
@@ -138,7 +138,7 @@ fn add_ends<E: Evidence>(
     Ok(())
 }
 
-// Adds the ends of the paths of no places that begin in the pages, read at this level. `NoMemory` where there is none.
+/// Adds the ends of the paths of no places that begin in the pages, read at this level. `NoMemory` where there is none.
 fn add_first(level: u8, pages: &[Page], ends: &mut Vec<End>) -> Result<(), NoMemory>
     requires { level ≤ 3 }
     ensures { OnOk result (ends.new.items ≡ ends.old.items ++ map (spec.end_at level) pages.now) }
@@ -150,8 +150,8 @@ fn add_first(level: u8, pages: &[Page], ends: &mut Vec<End>) -> Result<(), NoMem
     Ok(())
 }
 
-// Adds the ends of all longer paths that begin in the pages, read at this kind and level, 0 to 3. `NoMemory` where
-// there is none.
+/// Adds the ends of all longer paths that begin in the pages, read at this kind and level, 0 to 3. `NoMemory` where
+/// there is none.
 fn add_deeper<E: Evidence>(
     alloc: Global,
     history: &History<E>,
@@ -171,7 +171,7 @@ fn add_deeper<E: Evidence>(
     Ok(())
 }
 
-// The ends of all paths that begin in the pages, read at this kind and level, 0 to 3. `NoMemory` where there is none.
+/// The ends of all paths that begin in the pages, read at this kind and level, 0 to 3. `NoMemory` where there is none.
 fn attached_from<E: Evidence>(
     alloc: Global,
     history: &History<E>,
@@ -194,7 +194,7 @@ fn attached_from<E: Evidence>(
     })
 }
 
-// What a write attaches.
+/// What a write attaches.
 fn attached_by_write<E: Evidence>(
     alloc: Global,
     history: &History<E>,

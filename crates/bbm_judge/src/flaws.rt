@@ -31,7 +31,7 @@ pub enum Flaw {
     GlobalUser,
 }
 
-// Whether a value has the flaw at this kind and level, 0 to 3.
+/// Whether a value has the flaw at this kind and level, 0 to 3.
 fn has_flaw(flaw: Flaw, kind: Kind, level: u8, value: u64) -> bool
     requires { level ≤ 3 }
     ensures { result ≡ spec.has_flaw flaw kind (desc_of kind level value) }
@@ -49,7 +49,7 @@ fn has_flaw(flaw: Flaw, kind: Kind, level: u8, value: u64) -> bool
     }
 }
 
-// The place, where its value has the flaw at this kind and level, 0 to 3.
+/// The place, where its value has the flaw at this kind and level, 0 to 3.
 fn flawed<E: Evidence>(
     history: &History<E>,
     flaw: Flaw,
@@ -68,7 +68,7 @@ fn flawed<E: Evidence>(
     }
 }
 
-// The least place of the page of an end whose value has the flaw at this kind. `NoMemory` where there is none.
+/// The least place of the page of an end whose value has the flaw at this kind. `NoMemory` where there is none.
 fn least_flawed<E: Evidence>(
     alloc: Global,
     history: &History<E>,
@@ -88,7 +88,7 @@ fn least_flawed<E: Evidence>(
     Ok(found)
 }
 
-// The least place of the pages of the ends whose value has the flaw at this kind. `NoMemory` where there is none.
+/// The least place of the pages of the ends whose value has the flaw at this kind. `NoMemory` where there is none.
 fn least_of_ends<E: Evidence>(
     alloc: Global,
     history: &History<E>,
@@ -108,7 +108,7 @@ fn least_of_ends<E: Evidence>(
     Ok(found)
 }
 
-// The least place of the attached pages whose value has the flaw. `NoMemory` where there is none.
+/// The least place of the attached pages whose value has the flaw. `NoMemory` where there is none.
 fn least_attached<E: Evidence>(
     alloc: Global,
     history: &History<E>,
@@ -123,7 +123,7 @@ fn least_attached<E: Evidence>(
     Ok(lesser(first, deeper))
 }
 
-// The place, where a write of the value is one of a flaw into a tree.
+/// The place, where a write of the value is one of a flaw into a tree.
 fn written_at<E: Evidence>(
     history: &History<E>,
     flaw: Flaw,
@@ -141,7 +141,7 @@ fn written_at<E: Evidence>(
     }
 }
 
-// The place, where the event writes a flaw into a tree.
+/// The place, where the event writes a flaw into a tree.
 fn written_with<E: Evidence>(history: &History<E>, flaw: Flaw, event: &Event) -> Option<u64>
     ensures { result ≡ rules.written_with history.now.heading history.now.trust (notes history.now)
         (spec.has_flaw flaw) event.now }

@@ -24,7 +24,7 @@ pub fn lesser(one: Option<u64>, other: Option<u64>) -> Option<u64>
     }
 }
 
-// The page, where it isn't fresh.
+/// The page, where it isn't fresh.
 fn unfresh<E: Evidence>(history: &History<E>, page: Page) -> Option<u64>
     ensures { result ≡ lists.if_so (not (is_fresh history.now.heading history.now.trust (notes history.now) page)) page }
 {
@@ -46,14 +46,14 @@ pub fn least_unfresh<E: Evidence>(history: &History<E>, pages: &[Page]) -> Optio
     found
 }
 
-// Whether the page is in the list.
+/// Whether the page is in the list.
 fn has_page(pages: &[Page], page: Page) -> bool
     ensures { result ≡ lists.among page pages.now }
 {
     pages.iter().any(|other| *other == page)
 }
 
-// Whether there is a number and it is at most that of the page.
+/// Whether there is a number and it is at most that of the page.
 fn is_at_most(found: Option<u64>, page: Page) -> bool
     ensures { result ≡ spec.is_at_most found page }
 {
@@ -63,7 +63,7 @@ fn is_at_most(found: Option<u64>, page: Page) -> bool
     }
 }
 
-// The least of the pages that stand in the list more than once, with one more page in front.
+/// The least of the pages that stand in the list more than once, with one more page in front.
 fn with_repeated(found: Option<u64>, page: Page, behind: &[Page]) -> Option<u64>
     requires { found ≡ lists.least (lists.repeated behind.now) }
     ensures { result ≡ lists.least (lists.repeated (page ∷ behind.now)) }

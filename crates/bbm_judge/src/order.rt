@@ -45,8 +45,8 @@ const RULES: [Rule; 17] = [
     Rule::LockNotMine,
 ];
 
-// Whether an event that fits the header breaks the rule: the number that is reported with it, or None. `NoMemory` where
-// there is none.
+/// Whether an event that fits the header breaks the rule: the number that is reported with it, or None. `NoMemory` where
+/// there is none.
 fn breaks<E: Evidence>(
     alloc: Global,
     history: &History<E>,
@@ -79,7 +79,7 @@ fn breaks<E: Evidence>(
     }
 }
 
-// Refuses the event where a number is reported with the rule.
+/// Refuses the event where a number is reported with the rule.
 fn refuse(rule: Rule, at: Option<u64>) -> Result<(), StepFault>
     ensures { Judges result (option_map_or (λ number. Some (record { rule = rule; at = number })) at None) }
 {
@@ -89,7 +89,7 @@ fn refuse(rule: Rule, at: Option<u64>) -> Result<(), StepFault>
     }
 }
 
-// Judges an event that fits the header by one rule.
+/// Judges an event that fits the header by one rule.
 fn judge_by<E: Evidence>(
     alloc: Global,
     history: &History<E>,
@@ -106,7 +106,7 @@ fn judge_by<E: Evidence>(
     }
 }
 
-// The first of the rules that an event which fits the header breaks.
+/// The first of the rules that an event which fits the header breaks.
 fn first_broken<E: Evidence>(
     alloc: Global,
     history: &History<E>,

@@ -20,14 +20,14 @@ use bbm_oracle_trees::History;
 use bbm_regimes::{NoMemory, Page};
 use std::alloc::Global;
 
-// Whether the page is in a tree.
+/// Whether the page is in a tree.
 fn is_in_tree<E: Evidence>(history: &History<E>, page: Page) -> bool
     ensures { result ≡ trees.in_tree history.now.heading history.now.trust (notes history.now) page }
 {
     history.node_of(page).is_some()
 }
 
-// Adds the pages of the ends. `NoMemory` where there is none.
+/// Adds the pages of the ends. `NoMemory` where there is none.
 fn add_pages(pages: &mut Vec<Page>, ends: &[End]) -> Result<(), NoMemory>
     ensures { OnOk result (pages.new.items ≡ pages.old.items ++ attach.pages_of ends.now) }
 {
@@ -38,7 +38,7 @@ fn add_pages(pages: &mut Vec<Page>, ends: &[End]) -> Result<(), NoMemory>
     Ok(())
 }
 
-// The pages in which the attached paths end. `NoMemory` where there is none.
+/// The pages in which the attached paths end. `NoMemory` where there is none.
 fn all_pages(alloc: Global, attached: &Attached) -> Result<Vec<Page>, NoMemory>
     ensures { IfOk result (λ pages. pages.items ≡ attach.pages_of (attach.all_ends attached.now)) }
 {
@@ -48,7 +48,7 @@ fn all_pages(alloc: Global, attached: &Attached) -> Result<Vec<Page>, NoMemory>
     Ok(pages)
 }
 
-// The pages of the ends that count as fresh: of a `root` those of longer paths alone. `NoMemory` where there is none.
+/// The pages of the ends that count as fresh: of a `root` those of longer paths alone. `NoMemory` where there is none.
 fn judged_pages(alloc: Global, event: &Event, attached: &Attached) -> Result<Vec<Page>, NoMemory>
     ensures { IfOk result (λ pages. pages.items ≡ attach.pages_of (rules.judged_ends event.now attached.now)) }
 {
@@ -62,7 +62,7 @@ fn judged_pages(alloc: Global, event: &Event, attached: &Attached) -> Result<Vec
     }
 }
 
-// The least page in which an attached path must not end. `NoMemory` where there is none.
+/// The least page in which an attached path must not end. `NoMemory` where there is none.
 fn least_bad_end<E: Evidence>(
     alloc: Global,
     history: &History<E>,
@@ -77,7 +77,7 @@ fn least_bad_end<E: Evidence>(
     Ok(lesser(least_unfresh(history, &judged), least_repeated(&all)))
 }
 
-// The page, where it is in no tree, isn't fresh and isn't a null page.
+/// The page, where it is in no tree, isn't fresh and isn't a null page.
 fn untracked<E: Evidence>(history: &History<E>, page: Page) -> Option<u64>
     ensures { (pe place value : ℕ) → page_of place ≡ page → result
         ≡ least (rules.untracked_page history.now.heading history.now.trust (notes history.now) (Event.Write pe place value)) }
@@ -92,7 +92,7 @@ fn untracked<E: Evidence>(history: &History<E>, page: Page) -> Option<u64>
     }
 }
 
-// The page of the place that the event writes, where it is in no tree, isn't fresh and isn't a null page.
+/// The page of the place that the event writes, where it is in no tree, isn't fresh and isn't a null page.
 fn untracked_page<E: Evidence>(history: &History<E>, event: &Event) -> Option<u64>
     ensures { result ≡ least (rules.untracked_page history.now.heading history.now.trust (notes history.now) event.now) }
 {
@@ -128,7 +128,7 @@ pub fn not_fresh<E: Evidence>(
     }
 }
 
-// The page, where it is in use and an `init` names it.
+/// The page, where it is in use and an `init` names it.
 fn used_by_init<E: Evidence>(history: &History<E>, page: Page) -> Option<u64>
     ensures { (pe : ℕ) → result ≡ rules.page_in_use history.now.heading history.now.trust (notes history.now)
         (Event.Init pe page) }
@@ -140,7 +140,7 @@ fn used_by_init<E: Evidence>(history: &History<E>, page: Page) -> Option<u64>
     }
 }
 
-// The page, where it is in use and a `null` names it. `NoMemory` where there is none.
+/// The page, where it is in use and a `null` names it. `NoMemory` where there is none.
 fn used_by_null<E: Evidence>(
     alloc: Global,
     history: &History<E>,

@@ -17,7 +17,7 @@ use bbm_oracle_tags::values::value_of;
 use bbm_oracle_trees::History;
 use bbm_regimes::Place;
 
-// Whether the place is one of a tree, holds a value and has an invalid one.
+/// Whether the place is one of a tree, holds a value and has an invalid one.
 fn is_restless<E: Evidence>(history: &History<E>, place: Place) -> bool
     ensures { result ≡ phases.is_restless history.now.heading history.now.trust (notes history.now) place }
 {
@@ -30,7 +30,7 @@ fn is_restless<E: Evidence>(history: &History<E>, place: Place) -> bool
     }
 }
 
-// Whether the event writes the place.
+/// Whether the event writes the place.
 fn writes(event: &Event, place: Place) -> bool
     ensures { (h : List Event) → among place (values.written_places (event.now ∷ h))
         ≡ (result || among place (values.written_places h)) }
@@ -45,7 +45,7 @@ fn writes(event: &Event, place: Place) -> bool
     }
 }
 
-// Whether the place was written.
+/// Whether the place was written.
 fn is_written(events: &[Event], place: Place) -> bool
     ensures { result ≡ among place (values.written_places (reverse events.now)) }
 {
@@ -56,7 +56,7 @@ fn is_written(events: &[Event], place: Place) -> bool
     found
 }
 
-// Whether the event, which comes after these, is the first write of a restless place.
+/// Whether the event, which comes after these, is the first write of a restless place.
 fn is_first_write<E: Evidence>(history: &History<E>, before: &[Event], event: &Event) -> bool
     ensures { count_by (phases.is_restless history.now.heading history.now.trust (notes history.now))
         (values.written_places (event.now ∷ reverse before.now))
@@ -75,7 +75,7 @@ fn is_first_write<E: Evidence>(history: &History<E>, before: &[Event], event: &E
     }
 }
 
-// The number of restless places among the places that were written.
+/// The number of restless places among the places that were written.
 fn count_written<E: Evidence>(history: &History<E>) -> u64
     ensures { result ≡ count_by (phases.is_restless history.now.heading history.now.trust (notes history.now))
         (values.written_places (events_of (notes history.now))) }

@@ -8,7 +8,7 @@ use bbm_events::Header;
 use bbm_regimes::{Kind, NoMemory, Page};
 use std::alloc::Global;
 
-// The page so many pages behind the first.
+/// The page so many pages behind the first.
 fn page_at(first: Page, index: u8) -> Page
     requires { first + 4096 * index < 2 ^ 48 }
     ensures { result ≡ first + 4096 * index }
@@ -16,7 +16,7 @@ fn page_at(first: Page, index: u8) -> Page
     Page::new(first.get() + 4096 * index as u64).unwrap()
 }
 
-// So many consecutive pages. `NoMemory` where there is none.
+/// So many consecutive pages. `NoMemory` where there is none.
 fn pages_from(alloc: Global, first: Page, count: u8) -> Result<Vec<Page>, NoMemory>
     requires { first + 4096 * count ≤ 2 ^ 48 }
     ensures { IfOk result (λ pages. pages.items ≡ roots.pages_from first count) }
@@ -28,7 +28,7 @@ fn pages_from(alloc: Global, first: Page, count: u8) -> Result<Vec<Page>, NoMemo
     Ok(pages)
 }
 
-// The number of pages of a root of the header.
+/// The number of pages of a root of the header.
 fn root_page_count(header: &Header, kind: Kind, page: Page) -> u8
     requires { is_root_page header.now.world kind page ≡ true }
     ensures value { result ≡ roots.page_count header.now.world kind }

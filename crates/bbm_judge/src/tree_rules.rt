@@ -22,7 +22,7 @@ pub fn is_valid(kind: Kind, level: u8, value: u64) -> bool
     core(kind, level, value).is_some()
 }
 
-// The place, where a write of it by the PE lacks the lock of its tree.
+/// The place, where a write of it by the PE lacks the lock of its tree.
 fn unlocked_write<E: Evidence>(history: &History<E>, pe: Pe, place: Place) -> Option<u64>
     ensures { (value : ℕ) → result ≡ rules.no_lock history.now.heading history.now.trust (notes history.now)
         (Event.Write pe place value) }
@@ -47,7 +47,7 @@ pub fn no_lock<E: Evidence>(history: &History<E>, event: &Event) -> Option<u64>
     }
 }
 
-// The place, where it holds a value over which a write of this one needs break-before-make.
+/// The place, where it holds a value over which a write of this one needs break-before-make.
 fn unbroken_write<E: Evidence>(history: &History<E>, place: Place, value: u64) -> Option<u64>
     ensures { (pe : ℕ) → result ≡ rules.break_before_make history.now.heading history.now.trust (notes history.now)
         (Event.Write pe place value) }
@@ -77,7 +77,7 @@ pub fn break_before_make<E: Evidence>(history: &History<E>, event: &Event) -> Op
     }
 }
 
-// The place, where it is in limbo and the value is valid.
+/// The place, where it is in limbo and the value is valid.
 fn write_in_limbo<E: Evidence>(history: &History<E>, place: Place, value: u64) -> Option<u64>
     ensures { (pe : ℕ) → result ≡ rules.limbo_make history.now.heading history.now.trust (notes history.now)
         (Event.Write pe place value) }
@@ -105,7 +105,7 @@ pub fn limbo_make<E: Evidence>(history: &History<E>, event: &Event) -> Option<u6
     }
 }
 
-// The place, where its page is fresh and its value, which has bit 0 set, is another one.
+/// The place, where its page is fresh and its value, which has bit 0 set, is another one.
 fn rewrite<E: Evidence>(history: &History<E>, place: Place, value: u64) -> Option<u64>
     ensures { (pe : ℕ) → result ≡ rules.rewritten_fresh history.now.heading history.now.trust (notes history.now)
         (Event.Write pe place value) }

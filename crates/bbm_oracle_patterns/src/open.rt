@@ -17,7 +17,7 @@ pub struct Open {
     local: Relation,
 }
 
-// Takes out what a DSB of the issuer answers, if it answers such TLBIs.
+/// Takes out what a DSB of the issuer answers, if it answers such TLBIs.
 fn settle(relation: &mut Relation, issuer: Pe, answers: bool) -> PeMask
     ensures answered { (p : ℕ) → pe_in result p ≡ (answers && related relation.old issuer p) }
     ensures left { (q p : ℕ) → related relation.new q p

@@ -25,7 +25,7 @@ pub struct ValidWrite {
     pub index: usize,
 }
 
-// What one event says of the last valid write of a place.
+/// What one event says of the last valid write of a place.
 enum Says {
     // It is that write, of this value.
     ItIs(u64),
@@ -35,7 +35,7 @@ enum Says {
     Older,
 }
 
-// Whether the value is valid at this kind and level; each level above 3 is as level 3.
+/// Whether the value is valid at this kind and level; each level above 3 is as level 3.
 fn is_valid_at(kind: Kind, level: u8, value: u64) -> bool
     ensures { result ≡ is_valid kind level value }
 {
@@ -43,7 +43,7 @@ fn is_valid_at(kind: Kind, level: u8, value: u64) -> bool
     core(kind, level, value).is_some()
 }
 
-// What the event says of the last valid write of the place.
+/// What the event says of the last valid write of the place.
 fn told_by(event: &Event, kind: Kind, level: u8, place: Place) -> Says
     ensures { TellsOf result kind level place event.now }
 {
@@ -114,7 +114,7 @@ pub fn held<E: Evidence>(
     }
 }
 
-// The furthest that a broken place has come at the PE, which is cleansed, half and seen at these PEs.
+/// The furthest that a broken place has come at the PE, which is cleansed, half and seen at these PEs.
 fn broken_phase(cleansed: PeMask, half: PeMask, seen: PeMask, pe: Pe) -> Phase
     ensures { result ≡ furthest (pe_in cleansed pe) (pe_in half pe) (pe_in seen pe) }
 {

@@ -27,7 +27,7 @@ pub struct Trace {
     pub cleansed: PeMask,
 }
 
-// Whether the event is a write of the place.
+/// Whether the event is a write of the place.
 fn writes_it(kept: &Kept, place: Place) -> bool
     ensures { result ≡ writes_place place kept.now }
 {
@@ -41,7 +41,7 @@ fn writes_it(kept: &Kept, place: Place) -> bool
     }
 }
 
-// Whether one of the events is a write of the place.
+/// Whether one of the events is a write of the place.
 fn is_written(later: &[Kept], place: Place) -> bool
     ensures { result ≡ some_writes place later.now }
 {
@@ -53,7 +53,7 @@ fn is_written(later: &[Kept], place: Place) -> bool
     false
 }
 
-// The trace where the place is written in these events.
+/// The trace where the place is written in these events.
 fn walk_through(header: &Header, later: &[Kept], place: Place) -> Trace
     ensures { (before : ℕ) → Traces result header.now place (notes_behind before (reverse later.now)) }
 {
@@ -92,7 +92,7 @@ pub(crate) fn has_every_pe(header: &Header, pes: PeMask) -> bool
     pes.has_all(header.pes)
 }
 
-// Whether the place is cleansed at every PE, where it is written in these events. No event behind that changes it.
+/// Whether the place is cleansed at every PE, where it is written in these events. No event behind that changes it.
 fn walk_to_cleansed(header: &Header, later: &[Kept], place: Place) -> bool
     ensures { (before : ℕ) → result
         ≡ held.cleansed_everywhere header.now Patterns place (notes_behind before (reverse later.now)) }

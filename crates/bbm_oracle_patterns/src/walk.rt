@@ -41,8 +41,8 @@ pub fn every_pe_of(header: &Header) -> PeMask
     PeMask::all(header.pes)
 }
 
-// The PEs to which a DSB of the issuer publishes its earlier writes. Under `cnp` one of the non-shareable domain
-// publishes nothing. The issuer may be any PE here.
+/// The PEs to which a DSB of the issuer publishes its earlier writes. Under `cnp` one of the non-shareable domain
+/// publishes nothing. The issuer may be any PE here.
 #[tactic(auto, using(crate::proofs::Bits::wide, crate::proofs::Bits::near, crate::proofs::Bits::nowhere))]
 fn published_to(header: &Header, dsb: Dsb, issuer: Pe) -> PeMask
     ensures { (p : ℕ) → pe_in result p ≡ values.publishes_to header.now dsb issuer p }
@@ -57,7 +57,7 @@ fn published_to(header: &Header, dsb: Dsb, issuer: Pe) -> PeMask
     }
 }
 
-// The PEs to which a DSB of the PE publishes a write of the place, where these PEs wrote it.
+/// The PEs to which a DSB of the PE publishes a write of the place, where these PEs wrote it.
 fn newly_seen(header: &Header, dsb: Dsb, pe: Pe, writers: PeMask) -> PeMask
     ensures { (p : ℕ) → pe_in result p ≡ (values.publishes_to header.now dsb pe p && pe_in writers pe) }
 {
@@ -68,7 +68,7 @@ fn newly_seen(header: &Header, dsb: Dsb, pe: Pe, writers: PeMask) -> PeMask
     }
 }
 
-// Those of the PEs that a TLBI of the issuer reaches.
+/// Those of the PEs that a TLBI of the issuer reaches.
 fn reached(header: &Header, issuer: Pe, broadcast: bool, pes: PeMask) -> PeMask
     ensures { (p : ℕ) → pe_in result p
         ≡ ((broadcast || (not header.now.cnp && nat_eq issuer p)) && pe_in pes p) }
@@ -82,7 +82,7 @@ fn reached(header: &Header, issuer: Pe, broadcast: bool, pes: PeMask) -> PeMask
     }
 }
 
-// These PEs where the covers are the same, else none.
+/// These PEs where the covers are the same, else none.
 fn if_same(cover: Cover, asked: Cover, pes: PeMask) -> PeMask
     ensures { (p : ℕ) → pe_in result p ≡ (same_cover cover asked && pe_in pes p) }
 {
@@ -113,7 +113,7 @@ impl Walk {
         }
     }
 
-    // The PE writes the place.
+    /// The PE writes the place.
     fn write(&mut self, pe: Pe)
         ensures { (heading : Heading) (place value position : ℕ) (covers : ℕ → Grade)
             → Steps self.old self.new heading place (record {
@@ -125,7 +125,7 @@ impl Walk {
         self.writers = self.writers.or(PeMask::one(pe));
     }
 
-    // The PE issues a DSB.
+    /// The PE issues a DSB.
     fn complete(&mut self, header: &Header, pe: Pe, dsb: Dsb)
         ensures { (place position : ℕ) (covers : ℕ → Grade)
             → Steps self.old self.new header.now place (record {
@@ -145,7 +145,7 @@ impl Walk {
         };
     }
 
-    // The PE issues a TLBI that covers the place so far.
+    /// The PE issues a TLBI that covers the place so far.
     fn issue(&mut self, header: &Header, pe: Pe, op: TlbiOp, cover: Cover)
         ensures { (place xt position : ℕ) (covers : ℕ → Grade) → covers place ≡ cover
             → Steps self.old self.new header.now place (record {

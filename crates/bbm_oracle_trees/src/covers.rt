@@ -34,7 +34,7 @@ pub struct RootTags {
     pub tags: TagSet,
 }
 
-// The tags of each declared root.
+/// The tags of each declared root.
 fn root_tags<E: Evidence>(alloc: Global, log: &Log<E>) -> Result<Vec<RootTags>, NoMemory>
     ensures { IfOk result (λ known. AreTags log.now.heading log.now.trust (events_of (notes log.now)) known.items) }
 {
@@ -51,7 +51,7 @@ fn root_tags<E: Evidence>(alloc: Global, log: &Log<E>) -> Result<Vec<RootTags>, 
     Ok(known)
 }
 
-// The tags of the root, of those that are known where it is among them.
+/// The tags of the root, of those that are known where it is among them.
 fn tags_at<E: Evidence>(
     alloc: Global,
     log: &Log<E>,
@@ -69,7 +69,7 @@ fn tags_at<E: Evidence>(
     log.tag_set_of(alloc, root)
 }
 
-// Whether the value, at this kind and level, is a leaf for every ASID.
+/// Whether the value, at this kind and level, is a leaf for every ASID.
 fn is_global(kind: Kind, level: u8, value: u64) -> bool
     requires { level ≤ 3 }
     ensures { result ≡ covering.is_global (desc_of kind level value) }
@@ -80,7 +80,7 @@ fn is_global(kind: Kind, level: u8, value: u64) -> bool
     }
 }
 
-// How a TLBI sees a place of the page that holds this value.
+/// How a TLBI sees a place of the page that holds this value.
 fn view<E: Evidence>(
     alloc: Global,
     log: &Log<E>,
@@ -105,7 +105,7 @@ fn view<E: Evidence>(
     })
 }
 
-// How far a TLBI of this scope, under this VMID, covers a place of the page.
+/// How far a TLBI of this scope, under this VMID, covers a place of the page.
 fn cover_in_node<E: Evidence>(
     alloc: Global,
     log: &Log<E>,
@@ -129,7 +129,7 @@ fn cover_in_node<E: Evidence>(
     }
 }
 
-// How far a TLBI of this scope, under this VMID, covers the place, where these are the trees.
+/// How far a TLBI of this scope, under this VMID, covers the place, where these are the trees.
 fn cover_at<E: Evidence>(
     alloc: Global,
     log: &Log<E>,
@@ -149,7 +149,7 @@ fn cover_at<E: Evidence>(
     }
 }
 
-// Adds the place, where it is covered at all.
+/// Adds the place, where it is covered at all.
 fn add_cover(covers: &mut Vec<Covered>, place: Place, cover: Cover) -> Result<(), NoMemory>
     ensures { OnOk result (covers.new.items ≡ covers.old.items ++ entry_of place cover) }
 {
@@ -161,7 +161,7 @@ fn add_cover(covers: &mut Vec<Covered>, place: Place, cover: Cover) -> Result<()
     }
 }
 
-// Adds how far a TLBI covers each place of the page.
+/// Adds how far a TLBI covers each place of the page.
 fn add_covers<E: Evidence>(
     alloc: Global,
     log: &Log<E>,
@@ -184,7 +184,7 @@ fn add_covers<E: Evidence>(
     Ok(())
 }
 
-// How far a TLBI of this scope, under this VMID, covers each place of the trees, page by page.
+/// How far a TLBI of this scope, under this VMID, covers each place of the trees, page by page.
 fn covers_under<E: Evidence>(
     alloc: Global,
     log: &Log<E>,
@@ -213,7 +213,7 @@ fn covers_under<E: Evidence>(
     Ok(covers)
 }
 
-// How far a TLBI covers each place, where these are the trees.
+/// How far a TLBI covers each place, where these are the trees.
 fn tlbi_covers<E: Evidence>(
     alloc: Global,
     log: &Log<E>,

@@ -10,7 +10,7 @@ use bbm_events::Event;
 use bbm_regimes::{NoMemory, Page};
 use std::alloc::Global;
 
-// The pages but for this one.
+/// The pages but for this one.
 fn without(alloc: Global, pages: &[Page], but: Page) -> Result<Vec<Page>, NoMemory>
     ensures { IfOk result (λ left. (page : ℕ) → among page left.items
         ≡ (not (but == page) && among page pages.now)) }
@@ -24,7 +24,7 @@ fn without(alloc: Global, pages: &[Page], but: Page) -> Result<Vec<Page>, NoMemo
     Ok(left)
 }
 
-// The pages, and this one.
+/// The pages, and this one.
 fn with(alloc: Global, pages: &[Page], page: Page) -> Result<Vec<Page>, NoMemory>
     ensures { IfOk result (λ more. (q : ℕ) → among q more.items ≡ (page == q || among q pages.now)) }
 {
@@ -33,7 +33,7 @@ fn with(alloc: Global, pages: &[Page], page: Page) -> Result<Vec<Page>, NoMemory
     Ok(more)
 }
 
-// The pages that may be fresh after the event.
+/// The pages that may be fresh after the event.
 fn candidates(alloc: Global, fresh: &[Page], event: &Event) -> Result<Vec<Page>, NoMemory>
     ensures { IfOk result (λ pages. (page : ℕ) → among page pages.items
         ≡ may_be_fresh event.now page (among page fresh.now)) }
@@ -48,7 +48,7 @@ fn candidates(alloc: Global, fresh: &[Page], event: &Event) -> Result<Vec<Page>,
     }
 }
 
-// The pages that are in no tree.
+/// The pages that are in no tree.
 fn unused(alloc: Global, pages: &[Page], tree: &[Node]) -> Result<Vec<Page>, NoMemory>
     ensures { IfOk result (λ left. (page : ℕ) → among page left.items
         ≡ (among page pages.now && not (is_some (find (λ n. n.page == page) tree.now)))) }

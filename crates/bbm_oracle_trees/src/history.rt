@@ -64,7 +64,7 @@ impl<E: Evidence> Model for History<E> {
         × ((page : ℕ) → among page h.trees.fresh.items ≡ is_fresh h.log.heading h.log.trust (notes h.log) page) };
 }
 
-// The trees and the fresh pages after the newest event, where these pages were fresh before it.
+/// The trees and the fresh pages after the newest event, where these pages were fresh before it.
 fn trees_after<E: Evidence>(
     alloc: Global,
     log: &Log<E>,
@@ -81,7 +81,7 @@ fn trees_after<E: Evidence>(
     Ok(Trees { nodes, fresh })
 }
 
-// The phase at the PE of a place of the page.
+/// The phase at the PE of a place of the page.
 fn phase_of<E: Evidence>(log: &Log<E>, node: &Node, place: Place, pe: Pe) -> Phase
     ensures { result ≡ phase_at log.now.heading log.now.trust node.now.kind node.now.level place
         (value_of (events_of (notes log.now)) place) pe (notes log.now) }

@@ -13,7 +13,7 @@ use bbm_descriptor::core;
 use bbm_oracle_patterns::Evidence;
 use bbm_regimes::Kind;
 
-// Whether the present value of the place is invalid, at this kind and its level.
+/// Whether the present value of the place is invalid, at this kind and its level.
 fn is_broken<E: Evidence>(log: &Log<E>, kind: Kind, above: &Above) -> bool
     ensures { result ≡ not (is_valid kind above.now.level (value_of (events_of (notes log.now)) above.now.place)) }
 {

@@ -86,7 +86,7 @@ impl Node {
         }
     }
 
-    // The places above the page below the place, the nearest first.
+    /// The places above the page below the place, the nearest first.
     fn above_next(&self, alloc: Global, place: Place) -> Result<Vec<Above>, NoMemory>
         ensures { IfOk result (λ above. above.items ≡ record { place = place; level = self.now.level } ∷ self.now.above) }
     {

@@ -28,7 +28,7 @@ pub fn next_page(kind: Kind, level: u8, value: u64) -> Option<Page>
     }
 }
 
-// The page to which a place of the page leads, None where it holds no table.
+/// The page to which a place of the page leads, None where it holds no table.
 fn child_at<E: Evidence>(
     alloc: Global,
     log: &Log<E>,
@@ -49,7 +49,7 @@ fn child_at<E: Evidence>(
     }
 }
 
-// Adds the page to which a place of the page leads, where there is one.
+/// Adds the page to which a place of the page leads, where there is one.
 fn add_child<E: Evidence>(
     alloc: Global,
     log: &Log<E>,
@@ -67,7 +67,7 @@ fn add_child<E: Evidence>(
     }
 }
 
-// Adds the pages to which the places of the page lead.
+/// Adds the pages to which the places of the page lead.
 fn add_children<E: Evidence>(
     alloc: Global,
     log: &Log<E>,
@@ -84,7 +84,7 @@ fn add_children<E: Evidence>(
     Ok(())
 }
 
-// Adds the pages to which the places of these pages lead.
+/// Adds the pages to which the places of these pages lead.
 fn add_below<E: Evidence>(
     alloc: Global,
     log: &Log<E>,
@@ -100,7 +100,7 @@ fn add_below<E: Evidence>(
     Ok(())
 }
 
-// The pages of a level: those of the roots whose walks start there, and those below the pages of the level above.
+/// The pages of a level: those of the roots whose walks start there, and those below the pages of the level above.
 fn level_nodes<E: Evidence>(
     alloc: Global,
     log: &Log<E>,
@@ -118,7 +118,7 @@ fn level_nodes<E: Evidence>(
     Ok(nodes)
 }
 
-// Adds nodes at the end.
+/// Adds nodes at the end.
 fn add_all(nodes: &mut Vec<Node>, mut more: Vec<Node>) -> Result<(), NoMemory>
     ensures { OnOk result (nodes.new.items ≡ nodes.old.items ++ more.items) }
 {
@@ -160,7 +160,7 @@ pub fn has_page(nodes: &[Node], page: Page) -> bool
     first_of(nodes, page).is_some()
 }
 
-// Whether one of the places holds something, at this kind and level.
+/// Whether one of the places holds something, at this kind and level.
 fn holds_some<E: Evidence>(log: &Log<E>, kind: Kind, level: u8, places: &[Place]) -> bool
     ensures { result ≡ any (trees.holds_some log.now.heading log.now.trust (notes log.now) kind level) places.now }
 {
