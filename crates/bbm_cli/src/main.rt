@@ -17,8 +17,8 @@ fn words<R: Env + AllocGlobal>(rt: &R) -> io::Result<Vec<String>> {
     Ok(words)
 }
 
-// Words that couldn't be gathered, as where one isn't Unicode, ask for nothing. Where there was no memory for them
-// nothing is read or written.
+/// Words that couldn't be gathered, as where one isn't Unicode, ask for nothing. Where there was no memory for them
+/// nothing is read or written.
 fn main(rt: HostRuntime) -> ExitCode {
     let mut log = StdSource::new(rt.stdin());
     let mut out = StdSink::new(rt.stdout());

@@ -7,7 +7,7 @@ ghost use Rattle.bbm_descriptor.specs.Descriptor.{leaf, stage1, desc_of, desc_as
 use crate::desc::{Core, Desc};
 use bbm_regimes::{Kind, Page};
 
-// Bits [high:low] of a value.
+/// Bits [high:low] of a value.
 #[tactic(auto, using(crate::proofs::Shifts::shifts))]
 fn bits_at(value: u64, high: u32, low: u32) -> u64
     requires order { low ≤ high }
@@ -17,7 +17,7 @@ fn bits_at(value: u64, high: u32, low: u32) -> u64
     value >> low & u64::MAX >> (63 + low - high)
 }
 
-// Whether bit k of a value is 1.
+/// Whether bit k of a value is 1.
 fn has_bit(value: u64, k: u32) -> bool
     requires { k < 64 }
     ensures { result ≡ value_bit value k }
@@ -25,7 +25,7 @@ fn has_bit(value: u64, k: u32) -> bool
     bits_at(value, k, k) == 1
 }
 
-// The address in bits [47:low] of a value.
+/// The address in bits [47:low] of a value.
 #[tactic(auto, using(crate::proofs::Shifts::shifts))]
 fn address_at(value: u64, low: u32) -> u64
     requires { low < 48 }
@@ -36,14 +36,14 @@ fn address_at(value: u64, low: u32) -> u64
     bits_at(value, 47, low) << low
 }
 
-// Whether tables of this kind are of stage 1.
+/// Whether tables of this kind are of stage 1.
 fn is_stage1(kind: Kind) -> bool
     ensures { result ≡ stage1 kind }
 {
     kind != Kind::S2
 }
 
-// The table of this value, whose bits [1:0] are 11 above level 3.
+/// The table of this value, whose bits [1:0] are 11 above level 3.
 fn read_table(kind: Kind, value: u64) -> Desc
     ensures { result ≡ Desc.Table (next_of value) (stage1 kind && ns_table value) }
 {
@@ -53,7 +53,7 @@ fn read_table(kind: Kind, value: u64) -> Desc
     }
 }
 
-// The output address of a leaf, by its level.
+/// The output address of a leaf, by its level.
 fn output(level: u8, value: u64) -> u64
     ensures { result ≡ out_of level value }
 {
@@ -64,7 +64,7 @@ fn output(level: u8, value: u64) -> u64
     }
 }
 
-// The leaf of this value, which is a block or a page.
+/// The leaf of this value, which is a block or a page.
 fn read_leaf(kind: Kind, level: u8, value: u64) -> Desc
     ensures { result ≡ desc_as leaf kind level value }
 {

@@ -1,4 +1,5 @@
 //! What waits for the answers of TLBIs.
+//! Source: project's own choice, where no other is named.
 
 ghost use Rattle.std.specs.Prelude.{◌≡◌, ℕ, Bool, false, ◌&&◌, ◌||◌, not, if◌then◌else◌};
 ghost use Rattle.bbm_regimes.specs.PeMask.{pe_in};
@@ -17,7 +18,7 @@ use bbm_barriers::{Dsb, completes_broadcast, completes_local};
 use bbm_regimes::PeMask;
 use bbm_tlbi_scope::Cover;
 
-/// The PEs that wait for the answer of a TLBI, by how far it covers the place. Source: project's own choice.
+/// The PEs that wait for the answer of a TLBI, by how far it covers the place.
 #[derive(Clone, Copy, Debug)]
 pub struct Pend {
     /// Those for which it is the first of two steps.
@@ -28,7 +29,7 @@ pub struct Pend {
     pub full: PeMask,
 }
 
-/// What waits for the answers of one issuer's TLBIs. Source: project's own choice.
+/// What waits for the answers of one issuer's TLBIs.
 #[derive(Clone, Copy, Debug)]
 pub struct Pends {
     /// Of the TLBIs that are broadcast.

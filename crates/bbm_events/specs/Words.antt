@@ -1,4 +1,5 @@
 -- The words of a log, each kind of word as one table from a value to its word, and one list of its values.
+-- Source: project's own choice, where no other is named.
 use Rattle.std.specs.Prelude.{ℕ, List, [], ◌∷◌, Bool, true, false, Option, codes, bytes_eq}
 use Rattle.std.specs.List.{find}
 use Rattle.bbm_regimes.specs.declared.regime.Kind.{Kind}
@@ -28,7 +29,7 @@ use Rattle.bbm_events.specs.declared.keyword.Keyword.TheVariants as first
 abbrev pub with_word : {A : Type 0} → (A → List ℕ) → List A → List ℕ → Option A
 with_word word values text = find (λ value. bytes_eq (word value) text) values
 
--- the first word of a line. Source: project's own choice.
+-- the first word of a line.
 abbrev pub keyword_word : Keyword → List ℕ
 keyword_word first.Init = codes "init"
 keyword_word first.Null = codes "null"
@@ -49,7 +50,7 @@ keywords =
     first.Init ∷ first.Null ∷ first.Root ∷ first.Unroot ∷ first.Write ∷ first.Dsb ∷ first.Dmb ∷ first.Isb
     ∷ first.Tlbi ∷ first.Msr ∷ first.Lock ∷ first.Unlock ∷ first.End ∷ []
 
--- whether TLBs are shared. Source: project's own choice.
+-- whether TLBs are shared.
 abbrev pub cnp_word : Bool → List ℕ
 cnp_word true = codes "cnp"
 cnp_word false = codes "-"
@@ -57,7 +58,7 @@ cnp_word false = codes "-"
 abbrev pub cnps : List Bool
 cnps = true ∷ false ∷ []
 
--- the kind of a root. Source: project's own choice.
+-- the kind of a root.
 abbrev pub kind_word : Kind → List ℕ
 kind_word El2 = codes "el2"
 kind_word S2 = codes "s2"
@@ -77,7 +78,7 @@ reg_word Ttbr1El1 = codes "ttbr1_el1"
 abbrev pub regs : List Reg
 regs = Ttbr0El2 ∷ VttbrEl2 ∷ Ttbr0El1 ∷ Ttbr1El1 ∷ []
 
--- the register of the current ASID, in the header. Source: project's own choice.
+-- the register of the current ASID, in the header.
 abbrev pub asid_from_word : AsidFrom → List ℕ
 asid_from_word from.Ttbr0 = codes "ttbr0"
 asid_from_word from.Ttbr1 = codes "ttbr1"

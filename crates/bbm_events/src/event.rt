@@ -1,12 +1,12 @@
 //! The events of a log.
+//! Source: project's own choice, where no other is named.
 
 use crate::label::Label;
 use bbm_barriers::Dsb;
 use bbm_regimes::{Kind, Page, Pe, Place, Reg};
 use bbm_tlbi_scope::TlbiOp;
 
-/// One line of a log between its header and its `end`: one atomic action of one PE. Source: project's
-/// own choice.
+/// One line of a log between its header and its `end`: one atomic action of one PE.
 #[derive(Clone, Copy, Debug, PartialEq, Eq)]
 pub enum Event {
     /// The page is made zero.
@@ -77,7 +77,7 @@ pub enum Event {
 }
 
 /// What a line after the header says: an event with its label or none, or the end with the number of event
-/// lines. Source: project's own choice.
+/// lines.
 #[derive(Clone, Copy, Debug, PartialEq, Eq)]
 pub enum Item {
     /// An event line. Only a line under version 3 or 4 has a label.

@@ -1,4 +1,5 @@
 //! Which events and claims fit a header.
+//! Source: project's own choice, where no other is named.
 
 ghost use Rattle.std.specs.Prelude.{◌≡◌};
 ghost use Rattle.bbm_events.specs.Certificate as certificate;
@@ -13,7 +14,7 @@ use crate::header::Header;
 use bbm_regimes::{Kind, Page, Pe, Place, Tag};
 use bbm_tlbi_scope::TlbiOp;
 
-/// Locks have numbers below 1,024. Source: project's own choice.
+/// Locks have numbers below 1,024.
 const LOCKS: u16 = 1024;
 
 fn has_pe(header: &Header, pe: Pe) -> bool
@@ -22,7 +23,7 @@ fn has_pe(header: &Header, pe: Pe) -> bool
     pe.get() < header.pes
 }
 
-// Each page and each place is one by its type.
+/// Each page and each place is one by its type.
 fn is_page(page: Page) -> bool
     ensures { result ≡ spec.is_page page }
 {
@@ -49,8 +50,7 @@ fn is_root_lock(lock: Option<u16>) -> bool
     lock.is_none_or(|lock| lock < LOCKS)
 }
 
-/// Whether the header's version has the operation: those for a range of pages are of version 4. Source:
-/// project's own choice.
+/// Whether the header's version has the operation: those for a range of pages are of version 4.
 pub fn has_op(header: &Header, op: TlbiOp) -> bool
     ensures { result ≡ heading.has_op header.now.version op }
 {

@@ -1,5 +1,6 @@
 //! What a header says of its PEs, and of the roots of each kind: how many pages one has, where its walks start, and
 //! which input pages its tables translate.
+//! Source: project's own choice, where no other is named.
 
 ghost use Rattle.std.specs.Prelude.{◌≡◌, ◌≤◌, ◌/◌, ◌^◌, true};
 ghost use Rattle.bbm_regimes.specs.World as spec;
@@ -9,15 +10,14 @@ use crate::header::Header;
 use bbm_regimes::{Kind, World};
 
 impl Header {
-    /// The numbers of a header are in their ranges. The call does nothing; what it tells is its contract. Source:
-    /// project's own choice.
+    /// The numbers of a header are in their ranges. The call does nothing; what it tells is its contract.
     pub fn in_ranges(&self)
         ensures { heading_ok self.now ≡ true }
     {
         let _pes = self.pes;
     }
 
-    /// The number of PEs, 1 to 128. Source: project's own choice.
+    /// The number of PEs, 1 to 128.
     pub fn pe_count(&self) -> u8
         ensures count { result ≡ self.now.pes }
         ensures some { 1 ≤ result }
@@ -41,7 +41,7 @@ impl Header {
     }
 
     /// Whether the kind is one of the header's world: `El2` and `S2` are those of the Hyp world, `Ttbr0` and `Ttbr1`
-    /// those of the Kernel world. Source: project's own choice.
+    /// those of the Kernel world.
     pub fn has_kind(&self, kind: Kind) -> bool
         ensures { result ≡ spec.kind_in_world self.now.world kind }
     {

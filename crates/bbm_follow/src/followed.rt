@@ -1,4 +1,5 @@
 //! What comes of a run.
+//! Source: project's own choice, where no other is named.
 
 ghost use Rattle.std.specs.Prelude.{◌≡◌, ◌≤◌, ◌+◌, ◌++◌, [], IfOk, IfSome, length, option_map, reverse};
 ghost use Rattle.arrayvec.specs.ArrayVec.{array_vec_len};
@@ -22,7 +23,7 @@ pub enum Followed {
     BadStep { line: u64 },
 }
 
-// The line of a step, by its index.
+/// The line of a step, by its index.
 fn line_of(index: u64) -> u64
     requires { index ≤ 2000 }
     ensures { result ≡ spec_line index }
@@ -30,7 +31,7 @@ fn line_of(index: u64) -> u64
     index + 2
 }
 
-// The line of a conflict, by its index.
+/// The line of a conflict, by its index.
 fn conflict_line(conflict: Option<u64>) -> Option<u64>
     requires { IfSome conflict (λ index. index ≤ 2000) }
     ensures { result ≡ option_map spec_line conflict }
@@ -42,7 +43,7 @@ fn conflict_line(conflict: Option<u64>) -> Option<u64>
 }
 
 /// Follows the steps of a run, at most 2,000, the oldest first, under its header: what comes of them, or `NoMemory`. Step
-/// i, counted from 0, stands on line i + 2. Source: project's own choice.
+/// i, counted from 0, stands on line i + 2.
 #[tactic(auto, using(crate::proofs::Runs::bad_index, crate::proofs::Runs::conflict_index))]
 pub fn follow_run(alloc: Global, header: &Header, steps: &Vec<Step>) -> Result<Followed, NoMemory>
     requires few { length steps.now.items ≤ 2000 }
@@ -60,7 +61,7 @@ pub fn follow_run(alloc: Global, header: &Header, steps: &Vec<Step>) -> Result<F
     }
 }
 
-// What is said of a conflict, by its line.
+/// What is said of a conflict, by its line.
 fn add_conflict(out: &mut ArrayVec<u8, 200>, conflict: Option<u64>)
     requires room { array_vec_len out.old ≤ 100 }
     ensures appended { out.new.items ≡ out.old.items ++ conflict_text conflict }
@@ -72,7 +73,7 @@ fn add_conflict(out: &mut ArrayVec<u8, 200>, conflict: Option<u64>)
     }
 }
 
-// The text of a run of the machine.
+/// The text of a run of the machine.
 #[tactic(auto, unfolding(crate::specs::Following::followed_text))]
 fn add_run(out: &mut ArrayVec<u8, 200>, steps: u64, conflict: Option<u64>)
     requires { out.old.items ≡ [] }
@@ -85,7 +86,7 @@ fn add_run(out: &mut ArrayVec<u8, 200>, steps: u64, conflict: Option<u64>)
     add(out, b"\n");
 }
 
-// The text of a run with a step that is none.
+/// The text of a run with a step that is none.
 #[tactic(auto, unfolding(crate::specs::Following::followed_text))]
 fn add_bad_step(out: &mut ArrayVec<u8, 200>, line: u64)
     requires { out.old.items ≡ [] }
@@ -96,8 +97,7 @@ fn add_bad_step(out: &mut ArrayVec<u8, 200>, line: u64)
     add(out, b"\n");
 }
 
-/// Puts the line that says what comes of a run, with its newline, into `out`, which is empty. Source: project's own
-/// choice.
+/// Puts the line that says what comes of a run, with its newline, into `out`, which is empty.
 pub fn followed_text(told: Followed, out: &mut ArrayVec<u8, 200>)
     requires empty { out.old.items ≡ [] }
     ensures text { out.new.items ≡ text_of_followed told }

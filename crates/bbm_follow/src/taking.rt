@@ -1,4 +1,5 @@
 //! A line of a run, taken.
+//! Source: project's own choice, where no other is named.
 
 ghost use Rattle.std.specs.Prelude.{◌≡◌, ◌≤◌, ◌+◌, Ok, reverse, length};
 ghost use Rattle.bbm_events.specs.Heading.{Heading};
@@ -12,17 +13,17 @@ use bbm_regimes::Which;
 use bbm_rules::Verdict;
 use bbm_tlb_machine::Step;
 
-/// The most events and machine steps of a run. Source: project's own choice.
+/// The most events and machine steps of a run.
 const STEPS: usize = 2000;
 
-// That a line is malformed.
+/// That a line is malformed.
 fn malformed(line: u64, cause: Malformed) -> LineFault
     ensures { result ≡ LineFault.Decided (Verdict.Malformed line cause) }
 {
     LineFault::Decided(Verdict::Malformed { line, cause })
 }
 
-// That a line reaches the limit of steps.
+/// That a line reaches the limit of steps.
 fn too_many(line: u64) -> LineFault
     ensures { result ≡ LineFault.Decided (Verdict.Limit line Which.Steps) }
 {
@@ -30,7 +31,7 @@ fn too_many(line: u64) -> LineFault
     LineFault::Decided(Verdict::Limit { line, which })
 }
 
-// Whether a line is a machine line: its first field is `m`.
+/// Whether a line is a machine line: its first field is `m`.
 fn is_machine(line: &[u8]) -> bool
     ensures { result ≡ following.is_machine line.now }
 {
@@ -41,7 +42,7 @@ fn is_machine(line: &[u8]) -> bool
     }
 }
 
-// The number of events among steps.
+/// The number of events among steps.
 fn count_events(steps: &[Step]) -> u64
     ensures { result ≡ event_count (reverse steps.now) }
 {
@@ -54,7 +55,7 @@ fn count_events(steps: &[Step]) -> u64
     count
 }
 
-// One more step.
+/// One more step.
 fn take_step(number: u64, steps: &mut Vec<Step>, step: &Step) -> Result<Turn, LineFault>
     ensures says { (heading : Heading) → TakesLine heading (reverse steps.old.items) (reverse steps.new.items) result
         (after_step number heading (reverse steps.old.items) step.now) }
@@ -74,7 +75,7 @@ fn take_step(number: u64, steps: &mut Vec<Step>, step: &Step) -> Result<Turn, Li
     }
 }
 
-// What a line that is no machine line decides, by what was read of it. A label says nothing here.
+/// What a line that is no machine line decides, by what was read of it. A label says nothing here.
 fn take_item(
     number: u64,
     steps: &mut Vec<Step>,
@@ -98,7 +99,7 @@ fn take_item(
     }
 }
 
-// What a machine line decides, by what was read of it.
+/// What a machine line decides, by what was read of it.
 fn take_machine(
     number: u64,
     steps: &mut Vec<Step>,
@@ -120,7 +121,7 @@ fn take_machine(
 /// step of a machine, and any other is an event or the end. `Step`: the line's step was added to `steps`. `End`: the
 /// line is the end, with the right count of the events; no step was added. `Decided`: the line is malformed, by the
 /// first cause, or is a step behind 2,000 others. `NoMemory`: the line is a step, for which there was none. Labels say
-/// nothing here, and no event is judged. Source: project's own choice.
+/// nothing here, and no event is judged.
 pub fn take_line(
     number: u64,
     header: &Header,

@@ -1,4 +1,5 @@
 //! The header and the events of the generated logs.
+//! Source: project's own choice, where no other is named.
 
 ghost use Rattle.std.specs.Prelude.{◌≡◌, ◌<◌, ◌+◌, ◌*◌, ◌%◌, ◌/◌, true};
 ghost use Rattle.bbm_events.specs.Fits.{fits_heading};
@@ -9,17 +10,17 @@ use bbm_events::{Event, Header};
 use bbm_regimes::{HypWorld, Kind, Page, Pe, Place, Reg, World};
 use bbm_tlbi_scope::TlbiOp;
 
-/// The first page of the EL2 root. Source: project's own choice.
+/// The first page of the EL2 root.
 const EL2_ROOT: u64 = 0x4000_0000;
 
-/// The first page of the stage 2 root. Source: project's own choice.
+/// The first page of the stage 2 root.
 const S2_ROOT: u64 = 0x4000_1000;
 
-/// The stage 2 root under VMID 1. Source: project's own choice.
+/// The stage 2 root under VMID 1.
 const VTTBR: u64 = 0x0001_0000_4000_1000;
 
 /// The header of every generated log: version 1, the Hyp world, four PEs, walks of both kinds from level 1, and one
-/// page for a stage 2 root. Source: project's own choice.
+/// page for a stage 2 root.
 pub fn gen_header() -> Header
     ensures { result ≡ log.heading }
 {
@@ -206,8 +207,7 @@ fn round_step(n: u64, round: u32, k: u32) -> Event
 /// The event of index i, from 0, of the generated log of the number n. The first seven declare an EL2 root and a
 /// stage 2 root and put them into the registers of PE 0. Then come rounds of eight events: each makes a 1 GiB block at a
 /// place of a root, clears it, publishes the clear, flushes the block and waits for the flush; even rounds in the EL2
-/// tree by the four PEs in turn, odd rounds in the stage 2 tree by PE 0. The number n moves the places. Source:
-/// project's own choice.
+/// tree by the four PEs in turn, odd rounds in the stage 2 tree by PE 0. The number n moves the places.
 pub fn gen_event(n: u64, i: u32) -> Event
     ensures value { result ≡ log.event_at n i }
     ensures fits { fits_heading log.heading result ≡ true }

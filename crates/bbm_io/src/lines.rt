@@ -1,4 +1,5 @@
 //! Lines of a source, one after another.
+//! Source: project's own choice, where no other is named.
 
 ghost use Rattle.std.specs.Prelude.{◌≡◌, ◌+◌, ◌-◌, ◌<◌, ◌≤◌, ◌^◌, ◌≢◌, [], ◌∷◌, ◌++◌, take, drop, IfSome, length, true, false, is_err, Ok, Err, OnErr};
 ghost use Rattle.bbm_io.specs.Faults.{Rose};
@@ -12,10 +13,10 @@ use arrayvec::ArrayVec;
 use memchr::memchr_iter;
 use std::marker::Model;
 
-/// The most bytes of a line, without its newline. Source: project's own choice.
+/// The most bytes of a line, without its newline.
 const LINE_BYTES: usize = 200;
 
-/// The most bytes that a reader of lines takes. Source: project's own choice.
+/// The most bytes that a reader of lines takes.
 const LOG_BYTES: u64 = 1 << 40;
 
 /// What stands where a line was asked for.
@@ -97,7 +98,7 @@ impl Lines {
 
     /// How many bytes the next line has before its newline, where the source has the line whole at hand and
     /// this reader can take it: at most 200. None says nothing; `next` then reads what there is. Nothing is
-    /// taken. Source: project's own choice.
+    /// taken.
     #[inline]
     pub fn at_hand<S: Source>(&self, src: &S) -> Option<usize>
         ensures line { IfSome result (λ count. LiesWhole count (S.at_hand src.now)) }
@@ -162,7 +163,7 @@ impl Lines {
     }
 }
 
-// Takes the line that lies whole in what the source has at hand; answers whether one does.
+/// Takes the line that lies whole in what the source has at hand; answers whether one does.
 fn take_line<S: Source>(line: &mut ArrayVec<u8, LINE_BYTES>, taken: &mut u64, src: &mut S) -> bool
     requires empty { line.old.items ≡ [] }
     requires within { taken.old ≤ 2 ^ 40 }
@@ -191,14 +192,14 @@ fn take_line<S: Source>(line: &mut ArrayVec<u8, LINE_BYTES>, taken: &mut u64, sr
     true
 }
 
-// The first newline. The next 32 bytes are looked at first, among which most lines end.
+/// The first newline. The next 32 bytes are looked at first, among which most lines end.
 fn first_newline(bytes: &[u8]) -> Option<usize>
     ensures { IsFirstByte (is_byte 10) bytes.now result }
 {
     memchr_iter(b'\n', bytes).next()
 }
 
-// The number of bytes before the first newline, where there are at most 200.
+/// The number of bytes before the first newline, where there are at most 200.
 #[inline(never)]
 fn line_at_hand(bytes: &[u8]) -> Option<usize>
     ensures newline { IfSome result (λ n. take (n + 1) bytes.now ≡ take n bytes.now ++ 10 ∷ []) }
@@ -209,7 +210,7 @@ fn line_at_hand(bytes: &[u8]) -> Option<usize>
     first_newline(&bytes[..bytes.len().min(LINE_BYTES + 1)])
 }
 
-// Reads the next line.
+/// Reads the next line.
 fn next_line<S: Source>(
     line: &mut ArrayVec<u8, LINE_BYTES>,
     taken: &mut u64,
@@ -242,7 +243,7 @@ fn next_line<S: Source>(
     read_line(line, taken, src)
 }
 
-// Whether the bytes at hand end within a line: there are some, and fewer than make a line too long.
+/// Whether the bytes at hand end within a line: there are some, and fewer than make a line too long.
 fn is_cut(bytes: &[u8]) -> bool {
     (1..=LINE_BYTES).contains(&bytes.len())
 }

@@ -52,7 +52,7 @@ impl<R: Read> StdSource<R> {
     }
 }
 
-// One read into `buf`, made again where a signal interrupts it.
+/// One read into `buf`, made again where a signal interrupts it.
 #[tactic(auto, using(crate::proofs::Readers::readers))]
 fn read_once<R: Read>(reader: &mut R, buf: &mut [u8]) -> Result<usize, Failed>
     ensures bound { IfOk result (λ n. n ≤ length buf.new) }
@@ -70,7 +70,7 @@ fn read_once<R: Read>(reader: &mut R, buf: &mut [u8]) -> Result<usize, Failed>
     Err(Failed)
 }
 
-// Moves the bytes from `at` to `end` to the front.
+/// Moves the bytes from `at` to `end` to the front.
 fn move_to_front(buffer: &mut [u8], at: usize, end: usize)
     requires ordered { at ≤ end }
     requires within { end ≤ length buffer.old }
@@ -79,7 +79,7 @@ fn move_to_front(buffer: &mut [u8], at: usize, end: usize)
     buffer.copy_within(at..end, 0);
 }
 
-// One read into `buffer` from `end` on; answers where the bytes end now.
+/// One read into `buffer` from `end` on; answers where the bytes end now.
 #[tactic(auto, using(crate::proofs::Readers::readers))]
 fn read_behind<R: Read>(reader: &mut R, buffer: &mut [u8], end: usize) -> Result<usize, Failed>
     requires within { end ≤ length buffer.old }
@@ -95,7 +95,7 @@ fn read_behind<R: Read>(reader: &mut R, buffer: &mut [u8], end: usize) -> Result
 }
 
 impl<R: Read> StdSource<R> {
-    // Reads further bytes behind those at hand; answers whether any came.
+    /// Reads further bytes behind those at hand; answers whether any came.
     #[tactic(auto, using(crate::proofs::Readers::readers))]
     fn refill(&mut self) -> Result<bool, Failed>
         ensures behind { OnOk result ((further : List ℕ) × (self.new.at_hand ≡ self.old.at_hand ++ further)
@@ -125,7 +125,7 @@ impl<R: Read> StdSource<R> {
         }
     }
 
-    // Moves bytes at hand to the front of `buf`, as many as fit; answers how many.
+    /// Moves bytes at hand to the front of `buf`, as many as fit; answers how many.
     fn give(&mut self, buf: &mut [u8]) -> usize
         ensures count { result ≡ min (length self.old.at_hand) (length buf.old) }
         ensures bytes { self.old.at_hand ≡ take result buf.new ++ self.new.at_hand }
@@ -226,7 +226,7 @@ impl<W: Write> StdSink<W> {
     }
 }
 
-// One write, made again where a signal interrupts it.
+/// One write, made again where a signal interrupts it.
 #[tactic(auto, using(crate::proofs::Readers::readers))]
 fn write_once<W: Write>(writer: &mut W, piece: &[u8]) -> Result<usize, Failed>
     ensures bound { IfOk result (λ n. n ≤ length piece.now) }

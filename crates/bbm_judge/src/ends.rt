@@ -1,4 +1,5 @@
 //! The pages that an event attaches to a tree.
+//! Source: project's own choice, where no other is named.
 
 ghost use Rattle.std.specs.Prelude.{◌≡◌, ◌≤◌, ◌<◌, ◌+◌, ◌-◌, ◌++◌, ℕ, true, IfOk, IfSome, OnOk};
 ghost use Rattle.std.specs.Prelude.{filter_map, flat_map, map, option_to_list};
@@ -20,7 +21,7 @@ use bbm_regimes::{Kind, NoMemory, Page, Place};
 use std::alloc::Global;
 use std::marker::Model;
 
-/// The end of a path: a page and the level at which it is read, 0 to 3. Source: project's own choice.
+/// The end of a path: a page and the level at which it is read, 0 to 3.
 #[derive(Clone, Copy, Debug)]
 pub struct End {
     /// The page.
@@ -42,7 +43,7 @@ impl Model for End {
     ghost inverse = { λ e. record { page = e.page; level = e.level } };
 }
 
-/// The pages that an event attaches, each as often as paths end in it. Source: project's own choice.
+/// The pages that an event attaches, each as often as paths end in it.
 #[derive(Drop)]
 pub struct Attached {
     /// The kind of the tree.
@@ -221,7 +222,7 @@ fn attached_by_write<E: Evidence>(
 }
 
 /// The pages that an event which fits the header attaches, None where it attaches nothing. `NoMemory` where there is
-/// none. Source: project's own choice.
+/// none.
 pub fn attached_by<E: Evidence>(
     alloc: Global,
     history: &History<E>,

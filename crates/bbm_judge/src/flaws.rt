@@ -1,4 +1,5 @@
 //! Descriptors that must not come into a tree.
+//! Source: project's own choice, where no other is named.
 
 ghost use Rattle.std.specs.Prelude.{◌≡◌, ◌≤◌, ℕ, true, IfOk, flat_map};
 ghost use Rattle.bbm_descriptor.specs.Descriptor.{desc_of};
@@ -22,7 +23,7 @@ use bbm_oracle_trees::History;
 use bbm_regimes::{Kind, NoMemory, Place};
 use std::alloc::Global;
 
-/// What is wrong with a descriptor of a tree. Source: project's own choice.
+/// What is wrong with a descriptor of a tree.
 #[derive(Clone, Copy, Debug, PartialEq, Eq)]
 pub enum Flaw {
     /// A leaf with the Contiguous hint.
@@ -157,8 +158,7 @@ fn written_with<E: Evidence>(history: &History<E>, flaw: Flaw, event: &Event) ->
 }
 
 /// The least place at which an event that fits the header puts a descriptor with the flaw into a tree: the place of a
-/// tree that it writes, or a place of a page that it attaches. `NoMemory` where there is none. Source: project's own
-/// choice.
+/// tree that it writes, or a place of a page that it attaches. `NoMemory` where there is none.
 pub fn made_with<E: Evidence>(
     alloc: Global,
     history: &History<E>,

@@ -1,4 +1,5 @@
 //! The order in which an event is judged: the least rule that it breaks, then the limit that it reaches.
+//! Source: project's own choice, where no other is named.
 
 ghost use Rattle.std.specs.Option.{option_map_or};
 ghost use Rattle.std.specs.Prelude.{◌≡◌, List, ◌∷◌, [], true, IfOk};
@@ -124,7 +125,7 @@ fn first_broken<E: Evidence>(
 }
 
 /// Judges an event that fits the header: Ok where it breaks no rule, else `Broken` with the least rule that it breaks
-/// and the number that is reported with it; `NoMemory` where there is none. Source: project's own choice.
+/// and the number that is reported with it; `NoMemory` where there is none.
 pub fn judge<E: Evidence>(
     alloc: Global,
     history: &History<E>,
@@ -137,8 +138,7 @@ pub fn judge<E: Evidence>(
     first_broken(alloc, history, event, &RULES)
 }
 
-/// Ok where the event reaches no limit, else `Limit` with the limit; `NoMemory` where there is none. Source: project's
-/// own choice.
+/// Ok where the event reaches no limit, else `Limit` with the limit; `NoMemory` where there is none.
 pub fn check_limit<E: Evidence>(
     alloc: Global,
     history: &History<E>,
@@ -155,7 +155,7 @@ pub fn check_limit<E: Evidence>(
 }
 
 /// Judges an event that fits the header: Ok where it breaks no rule and reaches no limit. A broken rule comes first.
-/// `NoMemory` where there is none. Source: project's own choice.
+/// `NoMemory` where there is none.
 pub fn admit<E: Evidence>(
     alloc: Global,
     history: &History<E>,

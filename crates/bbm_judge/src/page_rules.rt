@@ -1,4 +1,5 @@
 //! The rules of pages: fresh pages and pages in use.
+//! Source: project's own choice, where no other is named.
 
 ghost use Rattle.std.specs.Prelude.{◌≡◌, ◌++◌, ℕ, true, IfOk, OnOk};
 ghost use Rattle.bbm_events.specs.declared.event.Event.{Event};
@@ -109,7 +110,6 @@ fn untracked_page<E: Evidence>(history: &History<E>, event: &Event) -> Option<u6
 /// Not-fresh: a path of the attached pages ends in a page that isn't fresh, where of a `root` the paths of no places
 /// don't count; or two different paths end in one page; or it is a write at a page that is in no tree, isn't fresh and
 /// isn't a null page. The answer is the least such page; `NoMemory` where there is none. The event fits the header.
-/// Source: project's own choice.
 pub fn not_fresh<E: Evidence>(
     alloc: Global,
     history: &History<E>,
@@ -159,7 +159,7 @@ fn used_by_null<E: Evidence>(
 
 /// Page-in-use: an `init` names a page of a tree or a null page; a `root` names a page that isn't fresh; a `null` names
 /// a page that isn't fresh or has a value other than 0. The answer is the least such page; `NoMemory` where there is
-/// none. The event fits the header. Source: project's own choice.
+/// none. The event fits the header.
 pub fn page_in_use<E: Evidence>(
     alloc: Global,
     history: &History<E>,

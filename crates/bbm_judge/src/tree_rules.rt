@@ -1,4 +1,5 @@
 //! The rules of places of trees: locks, break-before-make and limbo; and the rewritten places of fresh pages.
+//! Source: project's own choice, where no other is named.
 
 ghost use Rattle.std.specs.Prelude.{◌≡◌, ◌≤◌, ℕ};
 ghost use Rattle.bbm_descriptor.specs.Descriptor as descriptor;
@@ -90,8 +91,7 @@ fn write_in_limbo<E: Evidence>(history: &History<E>, place: Place, value: u64) -
     }
 }
 
-/// Limbo-make: it is a write of a valid value at a place in limbo. The answer is the place. Source: project's own
-/// choice.
+/// Limbo-make: it is a write of a valid value at a place in limbo. The answer is the place.
 pub fn limbo_make<E: Evidence>(history: &History<E>, event: &Event) -> Option<u64>
     ensures { result ≡ rules.limbo_make history.now.heading history.now.trust (notes history.now) event.now }
 {
@@ -119,7 +119,7 @@ fn rewrite<E: Evidence>(history: &History<E>, place: Place, value: u64) -> Optio
 }
 
 /// Rewritten-fresh: it is a write at a place of a fresh page whose value has bit 0 set, with another value. The answer
-/// is the place. Source: project's own choice.
+/// is the place.
 pub fn rewritten_fresh<E: Evidence>(history: &History<E>, event: &Event) -> Option<u64>
     ensures { result ≡ rules.rewritten_fresh history.now.heading history.now.trust (notes history.now) event.now }
 {

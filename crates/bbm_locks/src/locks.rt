@@ -1,19 +1,20 @@
 //! The table of locks.
+//! Source: project's own choice, where no other is named.
 
 ghost use Rattle.std.specs.Prelude.{◌≡◌, ℕ, ◌<◌, ◌==◌, ◌↔◌, List, [], ◌∷◌, IsOk, OnOk, OnErr, if◌then◌else◌};
 
 use bbm_regimes::Pe;
 
-/// The lock is held, by this PE. Source: project's own choice.
+/// The lock is held, by this PE.
 #[derive(Clone, Copy, Debug, PartialEq, Eq)]
 pub struct Busy(pub Pe);
 
-/// The PE doesn't hold the lock. Source: project's own choice.
+/// The PE doesn't hold the lock.
 #[derive(Clone, Copy, Debug, PartialEq, Eq)]
 pub struct NotHolder;
 
 /// Which PE holds each lock, of numbers 0 to 1,023. Contracts speak of it by its points,
-/// `holder_at locks lock`, and by the calls that it accepted. Source: project's own choice.
+/// `holder_at locks lock`, and by the calls that it accepted.
 #[derive(Debug, Drop)]
 pub struct Locks {
     holders: [Option<Pe>; 1024],

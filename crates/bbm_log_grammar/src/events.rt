@@ -1,4 +1,5 @@
 //! The lines after the header.
+//! Source: project's own choice, where no other is named.
 
 ghost use Rattle.std.specs.Prelude.{◌≡◌, true, IfOk, IfErr};
 ghost use Rattle.bbm_events.specs.Causes.{IsLineCause};
@@ -165,7 +166,7 @@ fn item_on<'a, R>(header: &Header, line: &'a [u8]) -> Result<LineItem<'a>, Malfo
 }
 
 /// What `read_event` answers, with the bytes of a label where they stand in the line. Each reader `R` has code of its own, so
-/// that it can be made part of the reader's loop; the answer doesn't depend on it. Source: project's own choice.
+/// that it can be made part of the reader's loop; the answer doesn't depend on it.
 pub fn read_line<'a, R>(header: &Header, line: &'a [u8]) -> Result<LineItem<'a>, Malformed>
     ensures item { read_in result ≡ item_of header.now line.now }
     ensures fits { IfOk (read_in result) (λ item. item_fits header.now item ≡ true) }
@@ -182,7 +183,6 @@ pub fn read_line<'a, R>(header: &Header, line: &'a [u8]) -> Result<LineItem<'a>,
 /// left to right, `MissingField` where it is absent and else the cause of its kind where it can't be
 /// read. Under versions 3 and 4 a label can follow the last field of an event line: `BadLabel` where the
 /// field there begins with `@` and isn't a label. At last `ExtraField` where a further field follows.
-/// Source: project's own choice.
 pub fn read_event(header: &Header, line: &[u8]) -> Result<Item, Malformed>
     ensures item { result ≡ item_of header.now line.now }
     ensures fits { IfOk result (λ item. item_fits header.now item ≡ true) }

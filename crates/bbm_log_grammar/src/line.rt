@@ -1,4 +1,5 @@
 //! An item as it stands in its line.
+//! Source: project's own choice, where no other is named.
 
 ghost use Rattle.std.specs.Prelude.{◌≡◌, Some, None, if◌then◌else◌};
 ghost use Rattle.bbm_events.specs.Label.{is_label};
@@ -6,8 +7,7 @@ ghost use Rattle.bbm_events.specs.Label.{is_label};
 use bbm_events::{Event, Item, Label};
 use std::marker::Model;
 
-/// The bytes of a label where they stand in a line. A clause sees the list of them, as of a `Label`. Source: project's
-/// own choice.
+/// The bytes of a label where they stand in a line. A clause sees the list of them, as of a `Label`.
 #[derive(Drop)]
 pub struct LabelText<'a> {
     bytes: &'a [u8],
@@ -43,8 +43,7 @@ impl<'a> LabelText<'a> {
     }
 }
 
-/// What a line after the header says: an `Item`, with its label where that stands in the line. Source: project's own
-/// choice.
+/// What a line after the header says: an `Item`, with its label where that stands in the line.
 #[derive(Drop)]
 pub enum LineItem<'a> {
     /// An event line. Only a line under version 3 or 4 has a label.

@@ -1,4 +1,5 @@
 //! The two spellings of a number.
+//! Source: project's own choice, where no other is named.
 
 ghost use Rattle.std.specs.Prelude.{◌≡◌, ◌+◌, ◌*◌, ◌^◌, ◌<◌, if◌then◌else◌, Some, None, IfSome};
 ghost use Rattle.std.specs.Char.{digit_value};
@@ -142,7 +143,7 @@ fn hex_number(bytes: &[u8]) -> Option<u64>
 }
 
 /// The number below 2^64 whose decimal spelling the field is: digits without leading zeros, and `0`
-/// for zero. None where it is no such spelling. Source: project's own choice.
+/// for zero. None where it is no such spelling.
 #[inline]
 #[tactic(auto, using(crate::proofs::Numerals::decimal_is))]
 pub fn read_decimal(field: &[u8]) -> Option<u64>
@@ -152,7 +153,7 @@ pub fn read_decimal(field: &[u8]) -> Option<u64>
 }
 
 /// The number below 2^64 whose hex spelling the field is: `0x` and lower-case digits without leading
-/// zeros, and `0x0` for zero. None where it is no such spelling. Source: project's own choice.
+/// zeros, and `0x0` for zero. None where it is no such spelling.
 #[inline]
 #[tactic(auto, using(crate::proofs::Numerals::hex_is, crate::proofs::Numerals::hex_from_digits))]
 pub fn read_hex(field: &[u8]) -> Option<u64>

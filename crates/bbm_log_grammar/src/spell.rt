@@ -19,7 +19,7 @@ pub fn add<const N: usize>(out: &mut ArrayVec<u8, N>, piece: &[u8])
     let _fits = out.try_extend_from_slice(piece);
 }
 
-// Appends the one decimal spelling of the number, whatever its length.
+/// Appends the one decimal spelling of the number, whatever its length.
 #[inline(never)]
 fn add_any_decimal<const N: usize>(out: &mut ArrayVec<u8, N>, n: u64)
     requires room { array_vec_len out.old + 20 ≤ N }
@@ -89,7 +89,7 @@ const PAIRS: [u8; 512] = *b"000102030405060708090a0b0c0d0e0f\
       e0e1e2e3e4e5e6e7e8e9eaebecedeeef\
       f0f1f2f3f4f5f6f7f8f9fafbfcfdfeff";
 
-// Appends the two digits of a value below 2^8, with its leading zero.
+/// Appends the two digits of a value below 2^8, with its leading zero.
 #[inline(always)]
 #[tactic(auto, using(crate::proofs::Spelled::pair_at))]
 fn add_two<const N: usize>(out: &mut ArrayVec<u8, N>, value: u64)
@@ -102,7 +102,7 @@ fn add_two<const N: usize>(out: &mut ArrayVec<u8, N>, value: u64)
     add(out, &[PAIRS[from], PAIRS[from + 1]]);
 }
 
-// Appends the four digits of a value below 2^16, with its leading zeros.
+/// Appends the four digits of a value below 2^16, with its leading zeros.
 #[inline(always)]
 fn add_four<const N: usize>(out: &mut ArrayVec<u8, N>, value: u64)
     requires small { value < 65536 }
@@ -114,7 +114,7 @@ fn add_four<const N: usize>(out: &mut ArrayVec<u8, N>, value: u64)
     add_two(out, value % 256);
 }
 
-// Appends the digits of a number below 2^16, without leading zeros.
+/// Appends the digits of a number below 2^16, without leading zeros.
 #[inline(always)]
 #[tactic(auto, using(crate::proofs::Spelled::first_digits))]
 fn add_first<const N: usize>(out: &mut ArrayVec<u8, N>, n: u64)
@@ -135,7 +135,7 @@ fn add_first<const N: usize>(out: &mut ArrayVec<u8, N>, n: u64)
     }
 }
 
-// Appends the digits of a number below 2^32, without leading zeros.
+/// Appends the digits of a number below 2^32, without leading zeros.
 #[inline(always)]
 #[tactic(auto, using(crate::proofs::Spelled::four_more))]
 fn add_low<const N: usize>(out: &mut ArrayVec<u8, N>, n: u64)

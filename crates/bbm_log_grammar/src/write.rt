@@ -1,4 +1,5 @@
 //! The one line of a header, and of an item.
+//! Source: project's own choice, where no other is named.
 
 ghost use Rattle.std.specs.Prelude.{◌≡◌, ◌+◌, ◌≤◌, ℕ, List, true, Ok, ◌++◌, ◌∷◌, [], length, codes, decimal};
 ghost use Rattle.arrayvec.specs.ArrayVec.{array_vec_len};
@@ -268,7 +269,7 @@ fn kernel_line(out: &mut ArrayVec<u8, 200>, header: &Header, world: KernelWorld)
 }
 
 /// Writes line 1 of a log with this header, without its newline, into an empty buffer. Reading the line
-/// gives the header again. Source: project's own choice.
+/// gives the header again.
 #[tactic(auto, unfolding(bbm_events::specs::Lines::header_line))]
 pub fn write_header(header: &Header, out: &mut ArrayVec<u8, 200>)
     requires empty { out.old.items ≡ [] }
@@ -316,7 +317,7 @@ fn any_line<const N: usize>(item: Item, out: &mut ArrayVec<u8, N>)
 
 /// Appends the line of an event, or the last line with its count, without its newline, to what stands there,
 /// which leaves room for a line. The item has to fit the header, so that it has a label only under version 3
-/// or 4. It is the line that `write_event` writes, of at most 200 bytes. Source: project's own choice.
+/// or 4. It is the line that `write_event` writes, of at most 200 bytes.
 pub fn append_event<const N: usize>(header: &Header, item: Item, out: &mut ArrayVec<u8, N>)
     requires room { array_vec_len out.old + 200 ≤ N }
     requires fits { item_fits header.now item ≡ true }
@@ -328,7 +329,7 @@ pub fn append_event<const N: usize>(header: &Header, item: Item, out: &mut Array
 
 /// Writes the line of an event, or the last line with its count, without its newline, into an empty
 /// buffer. The item has to fit the header, so that it has a label only under version 3 or 4. Reading the
-/// line gives the item again. Source: project's own choice.
+/// line gives the item again.
 pub fn write_event(header: &Header, item: Item, out: &mut ArrayVec<u8, 200>)
     requires empty { out.old.items ≡ [] }
     requires fits { item_fits header.now item ≡ true }

@@ -1,4 +1,5 @@
 //! The events of a log as the oracle keeps them.
+//! Source: project's own choice, where no other is named.
 
 ghost use Rattle.std.specs.Prelude.{◌≡◌};
 ghost use Rattle.bbm_oracle_patterns.specs.Kept.{cover_in};
@@ -7,7 +8,7 @@ use bbm_events::Event;
 use bbm_regimes::Place;
 use bbm_tlbi_scope::Cover;
 
-/// How far a TLBI covers a place. Source: project's own choice.
+/// How far a TLBI covers a place.
 #[derive(Clone, Copy, Debug, PartialEq, Eq)]
 pub struct Covered {
     /// The place.
@@ -16,7 +17,7 @@ pub struct Covered {
     pub cover: Cover,
 }
 
-/// An event of a log with the places that it covers. Source: project's own choice.
+/// An event of a log with the places that it covers.
 #[derive(Debug, Drop)]
 pub struct Kept {
     /// The event.

@@ -1,4 +1,5 @@
 //! Who holds a lock.
+//! Source: project's own choice, where no other is named.
 
 ghost use Rattle.std.specs.Prelude.{◌≡◌, List, ◌∷◌, None, reverse, if◌then◌else◌};
 ghost use Rattle.bbm_events.specs.declared.event.Event.{Event};
@@ -9,7 +10,7 @@ ghost use Rattle.bbm_rules.specs.Rules.{lacks as pe_lacks};
 use bbm_events::Event;
 use bbm_regimes::Pe;
 
-// The holder after an unlock by the PE.
+/// The holder after an unlock by the PE.
 fn released(holder: Option<Pe>, pe: Pe) -> Option<Pe>
     ensures { result ≡ (if is_that holder pe then None else holder) }
 {
@@ -19,7 +20,7 @@ fn released(holder: Option<Pe>, pe: Pe) -> Option<Pe>
     }
 }
 
-// The holder after one more event.
+/// The holder after one more event.
 fn holder_after(holder: Option<Pe>, event: &Event, lock: u16) -> Option<Pe>
     ensures { (h : List Event) → holder ≡ spec.holder_of h lock → result ≡ spec.holder_of (event.now ∷ h) lock }
 {
@@ -36,7 +37,7 @@ fn holder_after(holder: Option<Pe>, event: &Event, lock: u16) -> Option<Pe>
     }
 }
 
-/// The PE that took the lock last and hasn't given it back; None where the lock is free. Source: project's own choice.
+/// The PE that took the lock last and hasn't given it back; None where the lock is free.
 pub fn holder_of(events: &[Event], lock: u16) -> Option<Pe>
     ensures { result ≡ spec.holder_of (reverse events.now) lock }
 {
@@ -47,7 +48,7 @@ pub fn holder_of(events: &[Event], lock: u16) -> Option<Pe>
     holder
 }
 
-/// Whether the PE doesn't hold the lock. Source: project's own choice.
+/// Whether the PE doesn't hold the lock.
 pub fn lacks(events: &[Event], pe: Pe, lock: u16) -> bool
     ensures { result ≡ pe_lacks (reverse events.now) pe lock }
 {

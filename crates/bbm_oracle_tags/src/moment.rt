@@ -26,7 +26,7 @@ pub struct Moment {
     pub second: Vec<u64>,
 }
 
-// The first root register of the header's world.
+/// The first root register of the header's world.
 fn first_reg(header: &Header) -> Reg
     ensures { result ≡ spec.first_reg header.now.world }
 {
@@ -36,7 +36,7 @@ fn first_reg(header: &Header) -> Reg
     }
 }
 
-// The second one.
+/// The second one.
 fn second_reg(header: &Header) -> Reg
     ensures { result ≡ spec.second_reg header.now.world }
 {
@@ -46,7 +46,7 @@ fn second_reg(header: &Header) -> Reg
     }
 }
 
-// The values of a register before any event.
+/// The values of a register before any event.
 fn at_start(alloc: Global) -> Result<Vec<u64>, NoMemory>
     ensures { IfOk result (λ values. values.items ≡ 0 ∷ []) }
 {
@@ -55,7 +55,7 @@ fn at_start(alloc: Global) -> Result<Vec<u64>, NoMemory>
     Ok(values)
 }
 
-// The tag under which a root of the kind is read.
+/// The tag under which a root of the kind is read.
 fn tag_of(kind: Kind, number: u16) -> Tag
     ensures { result ≡ spec.tag_of kind number }
 {
@@ -67,14 +67,14 @@ fn tag_of(kind: Kind, number: u16) -> Tag
     }
 }
 
-// Whether one of the roots has this kind and this first page.
+/// Whether one of the roots has this kind and this first page.
 fn has_root(roots: &[Declared], kind: Kind, page: u64) -> bool
     ensures { result ≡ spec.has_root roots.now kind page }
 {
     roots.iter().any(|root| root.page.get() == page && same_kind(root.kind, kind))
 }
 
-// What a register value lets read under the tag.
+/// What a register value lets read under the tag.
 fn reading_in(roots: &[Declared], kind: Kind, tag: Tag, value: u64) -> Option<Reading>
     ensures { result ≡ spec.reading_in roots.now kind tag value }
 {
@@ -90,7 +90,7 @@ fn reading_in(roots: &[Declared], kind: Kind, tag: Tag, value: u64) -> Option<Re
     }
 }
 
-// Adds what the value lets read under the tag.
+/// Adds what the value lets read under the tag.
 fn add_reading(
     readings: &mut Vec<Reading>,
     roots: &[Declared],
@@ -107,7 +107,7 @@ fn add_reading(
     }
 }
 
-// Adds what the values of the kind's register let read, each under its own VMID or ASID.
+/// Adds what the values of the kind's register let read, each under its own VMID or ASID.
 fn add_own(
     readings: &mut Vec<Reading>,
     roots: &[Declared],
@@ -129,7 +129,7 @@ fn add_own(
     Ok(())
 }
 
-// Adds what the values of TTBR0_EL1 let read under the ASID of this value of TTBR1_EL1.
+/// Adds what the values of TTBR0_EL1 let read under the ASID of this value of TTBR1_EL1.
 fn add_under(
     readings: &mut Vec<Reading>,
     roots: &[Declared],
@@ -151,7 +151,7 @@ fn add_under(
     Ok(())
 }
 
-// Adds what the values of TTBR0_EL1 let read under each ASID of the values of TTBR1_EL1.
+/// Adds what the values of TTBR0_EL1 let read under each ASID of the values of TTBR1_EL1.
 fn add_each(
     readings: &mut Vec<Reading>,
     roots: &[Declared],

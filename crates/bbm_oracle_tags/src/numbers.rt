@@ -3,7 +3,7 @@
 ghost use Rattle.std.specs.Prelude.{◌≡◌, Some, min, unwrap_or};
 ghost use Rattle.bbm_rules.specs.Lists as spec;
 
-// The least, with one more number.
+/// The least, with one more number.
 fn lesser(least: Option<u64>, number: u64) -> Option<u64>
     ensures { result ≡ Some (min number (unwrap_or least number)) }
 {

@@ -1,4 +1,5 @@
 //! Initialised pages and null pages.
+//! Source: project's own choice, where no other is named.
 
 ghost use Rattle.std.specs.Prelude.{◌≡◌, not, ◌==◌, ◌+◌, List, ◌∷◌, reverse, length, IfOk, if◌then◌else◌};
 ghost use Rattle.bbm_events.specs.declared.event.Event.{Event};
@@ -11,7 +12,7 @@ use bbm_events::Event;
 use bbm_regimes::{NoMemory, Page, Place};
 use std::alloc::Global;
 
-// Whether the page is a null page after one more event.
+/// Whether the page is a null page after one more event.
 fn null_after(before: bool, event: &Event, page: u64) -> bool
     ensures { (h : List Event) → before ≡ spec.is_null h page → result ≡ spec.is_null (event.now ∷ h) page }
 {
@@ -21,8 +22,7 @@ fn null_after(before: bool, event: &Event, page: u64) -> bool
     }
 }
 
-/// Whether the page at this address, in bytes, was declared a null page; false where no page is there. Source:
-/// project's own choice.
+/// Whether the page at this address, in bytes, was declared a null page; false where no page is there.
 pub fn is_null(events: &[Event], page: u64) -> bool
     ensures { result ≡ spec.is_null (reverse events.now) page }
 {
@@ -33,7 +33,7 @@ pub fn is_null(events: &[Event], page: u64) -> bool
     found
 }
 
-// Whether the page was initialised, after one more event.
+/// Whether the page was initialised, after one more event.
 fn initialised_after(before: bool, event: &Event, page: Page) -> bool
     ensures { (h : List Event) → before ≡ among page (spec.initialised h)
         → result ≡ among page (spec.initialised (event.now ∷ h)) }
@@ -44,7 +44,7 @@ fn initialised_after(before: bool, event: &Event, page: Page) -> bool
     }
 }
 
-/// Whether the page was ever initialised. Source: project's own choice.
+/// Whether the page was ever initialised.
 pub fn is_initialised(events: &[Event], page: Page) -> bool
     ensures { result ≡ among page (spec.initialised (reverse events.now)) }
 {
@@ -55,7 +55,7 @@ pub fn is_initialised(events: &[Event], page: Page) -> bool
     found
 }
 
-// Whether the event initialises a page for the first time.
+/// Whether the event initialises a page for the first time.
 fn is_first_init(before: &[Event], event: &Event) -> bool
     ensures { length (spec.initialised (event.now ∷ reverse before.now))
         ≡ (if result then length (spec.initialised (reverse before.now)) + 1
@@ -67,7 +67,7 @@ fn is_first_init(before: &[Event], event: &Event) -> bool
     }
 }
 
-/// The number of pages that were ever initialised, each counted once. Source: project's own choice.
+/// The number of pages that were ever initialised, each counted once.
 pub fn count_initialised(events: &[Event]) -> usize
     ensures { result ≡ length (spec.initialised (reverse events.now)) }
 {
@@ -81,7 +81,7 @@ pub fn count_initialised(events: &[Event]) -> usize
 }
 
 /// Whether a page may be fresh after the event, where it was fresh before it or wasn't, as `before` says: an `init` of
-/// it makes it so, and a `null` of it ends it. Source: project's own choice.
+/// it makes it so, and a `null` of it ends it.
 pub fn may_be_fresh(event: &Event, page: Page, before: bool) -> bool
     ensures { result ≡ spec.may_be_fresh event.now page before }
 {
@@ -92,15 +92,14 @@ pub fn may_be_fresh(event: &Event, page: Page, before: bool) -> bool
     }
 }
 
-// Whether one of the places has another value than 0.
+/// Whether one of the places has another value than 0.
 fn has_other_than_0(events: &[Event], places: &[Place]) -> bool
     ensures { result ≡ any (λ place. not (values.value_of (reverse events.now) place == 0)) places.now }
 {
     places.iter().any(|place| value_of(events, *place) != 0)
 }
 
-/// Whether some place of the page has another value than 0. `NoMemory` where there is none. Source: project's own
-/// choice.
+/// Whether some place of the page has another value than 0. `NoMemory` where there is none.
 pub fn has_values(alloc: Global, events: &[Event], page: Page) -> Result<bool, NoMemory>
     ensures { IfOk result (λ found. found ≡ any (λ place. not (values.value_of (reverse events.now) place == 0))
         (values.places_in (reverse events.now) page)) }

@@ -37,7 +37,7 @@ pub fn completes(dsb: Dsb, event: &Event) -> bool
     }
 }
 
-// Whether a DSB of the issuer publishes its earlier writes to the PE.
+/// Whether a DSB of the issuer publishes its earlier writes to the PE.
 fn publishes_to(header: &Header, dsb: Dsb, issuer: Pe, pe: Pe) -> bool
     ensures { result ≡ values.publishes_to header.now dsb issuer pe }
 {

@@ -1,4 +1,5 @@
 //! The root registers of a PE, the VMID that it uses, and what its TLBIs name.
+//! Source: project's own choice, where no other is named.
 
 ghost use Rattle.std.specs.Prelude.{◌≡◌, ℕ, ◌==◌, List, ◌∷◌, reverse, map, IfOk, OnOk};
 ghost use Rattle.bbm_events.specs.declared.event.Event.{Event};
@@ -10,7 +11,7 @@ use bbm_regimes::{NoMemory, Pe, Reg, World, same_reg, tag_number};
 use bbm_tlbi_scope::{Scope, TlbiOp, decode, lacks_vmid};
 use std::alloc::Global;
 
-// Puts the value in front.
+/// Puts the value in front.
 fn put_value(values: &mut Vec<u64>, value: u64) -> Result<(), NoMemory>
     ensures { OnOk result (values.new.items ≡ value ∷ values.old.items) }
 {
@@ -62,14 +63,14 @@ pub fn register_values(
     Ok(values)
 }
 
-// Whether each value has this VMID or ASID.
+/// Whether each value has this VMID or ASID.
 fn all_numbered(values: &[u64], number: u16) -> bool
     ensures { result ≡ every (λ value. spec.tag_number value == number) values.now }
 {
     values.iter().all(|value| tag_number(*value) == number)
 }
 
-// The one VMID of the values, None where there are several or none.
+/// The one VMID of the values, None where there are several or none.
 fn one_number(values: &[u64]) -> Option<u16>
     ensures { result ≡ only_number (map spec.tag_number values.now) }
 {
@@ -85,7 +86,7 @@ fn one_number(values: &[u64]) -> Option<u16>
 }
 
 /// The VMID under which the PE issues its TLBIs: the one VMID of the values of VTTBR_EL2 that it may still use, None
-/// where there are several; 0 in the Kernel world. `NoMemory` where there is none. Source: project's own choice.
+/// where there are several; 0 in the Kernel world. `NoMemory` where there is none.
 pub fn vmid_of(
     alloc: Global,
     header: &Header,
@@ -104,7 +105,7 @@ pub fn vmid_of(
 }
 
 /// What a TLBI names at its issue: its scope, or None where its operand can't be decoded, or where it needs a VMID and
-/// there are several. `NoMemory` where there is none. Source: project's own choice.
+/// there are several. `NoMemory` where there is none.
 pub fn named_scope(
     alloc: Global,
     header: &Header,

@@ -1,4 +1,5 @@
 //! The declared roots.
+//! Source: project's own choice, where no other is named.
 
 ghost use Rattle.std.specs.Prelude.{◌≡◌, List, ◌∷◌, reverse, IfOk, OnOk};
 ghost use Rattle.bbm_events.specs.declared.event.Event.{Event};
@@ -9,7 +10,7 @@ use bbm_regimes::{Kind, NoMemory, Page};
 use std::alloc::Global;
 use std::marker::Model;
 
-/// A declared root. A clause sees it as the declared root of the definitions. Source: project's own choice.
+/// A declared root. A clause sees it as the declared root of the definitions.
 #[derive(Clone, Copy, Debug, PartialEq, Eq)]
 pub struct Declared {
     /// Its first page.
@@ -43,14 +44,14 @@ pub fn same_kind(kind: Kind, other: Kind) -> bool
     }
 }
 
-// Takes the root with this first page out.
+/// Takes the root with this first page out.
 fn retire(roots: &mut Vec<Declared>, page: Page)
     ensures { roots.new.items ≡ spec.retired page roots.old.items }
 {
     roots.retain(|root| root.page != page);
 }
 
-// Puts the root in front.
+/// Puts the root in front.
 fn put_root(roots: &mut Vec<Declared>, root: Declared) -> Result<(), NoMemory>
     ensures { OnOk result (roots.new.items ≡ root ∷ roots.old.items) }
 {
@@ -80,7 +81,7 @@ pub fn take_root(roots: &mut Vec<Declared>, event: &Event) -> Result<(), NoMemor
     }
 }
 
-/// The declared roots, that of the last `root` first. `NoMemory` where there is none. Source: project's own choice.
+/// The declared roots, that of the last `root` first. `NoMemory` where there is none.
 pub fn roots_of(alloc: Global, events: &[Event]) -> Result<Vec<Declared>, NoMemory>
     ensures { IfOk result (λ roots. roots.items ≡ spec.roots_of (reverse events.now)) }
 {
@@ -91,7 +92,7 @@ pub fn roots_of(alloc: Global, events: &[Event]) -> Result<Vec<Declared>, NoMemo
     Ok(roots)
 }
 
-// The root with this first page after one more event.
+/// The root with this first page after one more event.
 fn root_after(root: Option<Declared>, event: &Event, page: u64) -> Option<Declared>
     ensures { (h : List Event) → root ≡ spec.root_at h page → result ≡ spec.root_at (event.now ∷ h) page }
 {
@@ -117,8 +118,7 @@ fn root_after(root: Option<Declared>, event: &Event, page: u64) -> Option<Declar
     }
 }
 
-/// The root whose first page has this address, in bytes; None where none is declared there. Source: project's own
-/// choice.
+/// The root whose first page has this address, in bytes; None where none is declared there.
 pub fn root_at(events: &[Event], page: u64) -> Option<Declared>
     ensures { result ≡ spec.root_at (reverse events.now) page }
 {
@@ -129,7 +129,7 @@ pub fn root_at(events: &[Event], page: u64) -> Option<Declared>
     root
 }
 
-// Whether the page is the first of a root of the kind, after one more event.
+/// Whether the page is the first of a root of the kind, after one more event.
 fn is_root_after(before: bool, event: &Event, kind: Kind, page: u64) -> bool
     ensures { (h : List Event) → before ≡ spec.is_root h kind page → result ≡ spec.is_root (event.now ∷ h) kind page }
 {
@@ -151,7 +151,7 @@ fn is_root_after(before: bool, event: &Event, kind: Kind, page: u64) -> bool
     }
 }
 
-/// Whether a root of the kind is declared whose first page has this address, in bytes. Source: project's own choice.
+/// Whether a root of the kind is declared whose first page has this address, in bytes.
 pub fn is_root(events: &[Event], kind: Kind, page: u64) -> bool
     ensures { result ≡ spec.is_root (reverse events.now) kind page }
 {
@@ -163,7 +163,7 @@ pub fn is_root(events: &[Event], kind: Kind, page: u64) -> bool
 }
 
 /// The lock that the root with this first page names, by its address in bytes; None where it names none or no root is
-/// declared there. Source: project's own choice.
+/// declared there.
 pub fn lock_of(events: &[Event], page: u64) -> Option<u16>
     ensures { result ≡ spec.lock_of (reverse events.now) page }
 {

@@ -1,6 +1,7 @@
 //! The rules that need no tree. Each function says whether an event breaks its rule after the given events: None where
 //! it doesn't, else the number that is reported as `at`. Each contract speaks of every annotated history of these
 //! events.
+//! Source: project's own choice, where no other is named.
 
 ghost use Rattle.std.specs.Prelude.{◌≡◌, not, ◌&&◌, ◌||◌, nat_le, nat_lt, ◌==◌, ◌%◌, length, flat_map, option_and_then, ◌∷◌, ◌++◌, [], List, reverse, IfOk, OnOk};
 ghost use Rattle.bbm_regimes.specs.declared.regime.Reg.TheVariants.{Ttbr0El1};
@@ -31,21 +32,21 @@ use bbm_regimes::{Kind, NoMemory, Pe, Reg, base_of, kind_of};
 use bbm_tlbi_scope::{TagSet, decode, lacks_vmid};
 use std::alloc::Global;
 
-// The number, where the test holds.
+/// The number, where the test holds.
 fn if_so(test: bool, at: u64) -> Option<u64>
     ensures { result ≡ lists.if_so test at }
 {
     if test { Some(at) } else { None }
 }
 
-// Whether an `msr` of the value asks to share TLB entries under a header that says they aren't shared.
+/// Whether an `msr` of the value asks to share TLB entries under a header that says they aren't shared.
 fn asks_to_share(header: &Header, value: u64) -> bool
     ensures { result ≡ (nat_le 2 header.now.version && not header.now.cnp && value % 2 == 1) }
 {
     header.version >= 2 && !header.cnp && value % 2 == 1
 }
 
-// Whether a write of the register is none of the world, or asks to share.
+/// Whether a write of the register is none of the world, or asks to share.
 fn is_wrong_write(header: &Header, reg: Reg, value: u64) -> bool
     ensures { result ≡ (not (roots.kind_in_world header.now.world (registers.kind_of_reg reg))
         || (nat_le 2 header.now.version && not header.now.cnp && value % 2 == 1)) }
@@ -58,7 +59,7 @@ fn is_wrong_write(header: &Header, reg: Reg, value: u64) -> bool
 
 /// 1, wrong-world: the event has a root kind, a register or a TLBI operation that isn't of the header's world, or is a
 /// `null` in the Hyp world, or an `msr` of a value with bit 0 set under a header of version 2 or later without `cnp`.
-/// At: 0. Source: project's own choice.
+/// At: 0.
 pub fn wrong_world(header: &Header, event: &Event) -> Option<u64>
     ensures { (trust : Trust) (h : List Noted) → result ≡ spec.wrong_world header.now trust h event.now }
 {
@@ -73,7 +74,7 @@ pub fn wrong_world(header: &Header, event: &Event) -> Option<u64>
 
 /// Whether the root with this first page, by its address in bytes, names a lock that the PE doesn't hold: None where
 /// not, else the number `at`. Rule 2, no-lock, asks it of an `unroot` of the page, and of a write of a place in the
-/// root's tree. Source: project's own choice.
+/// root's tree.
 pub fn without_lock(events: &[Event], pe: Pe, root: u64, at: u64) -> Option<u64>
     ensures { result ≡ option_and_then (λ lock. lists.if_so (spec.lacks (reverse events.now) pe lock) at)
         (roots.lock_of (reverse events.now) root) }
@@ -84,7 +85,7 @@ pub fn without_lock(events: &[Event], pe: Pe, root: u64, at: u64) -> Option<u64>
     }
 }
 
-/// 3, null-written: the event is a write at a place of a null page. At: the place. Source: project's own choice.
+/// 3, null-written: the event is a write at a place of a null page. At: the place.
 pub fn null_written(events: &[Event], event: &Event) -> Option<u64>
     ensures { (trust : Trust) (h : List Noted) (header : Heading) → events_of h ≡ reverse events.now
         → result ≡ spec.null_written header trust h event.now }
@@ -99,8 +100,8 @@ pub fn null_written(events: &[Event], event: &Event) -> Option<u64>
     }
 }
 
-// Whether the base of a register value has no walk to a declared root: it is no first page of a declared root of the
-// register's kind, nor, in TTBR0_EL1, a null page.
+/// Whether the base of a register value has no walk to a declared root: it is no first page of a declared root of the
+/// register's kind, nor, in TTBR0_EL1, a null page.
 fn is_rootless(events: &[Event], reg: Reg, base: u64) -> bool
     ensures { result ≡ not (roots.is_root (reverse events.now) (registers.kind_of_reg reg) base
         || (registers.same_reg reg Ttbr0El1 && pages.is_null (reverse events.now) base)) }
@@ -116,7 +117,7 @@ fn is_rootless(events: &[Event], reg: Reg, base: u64) -> bool
 
 /// 11, no-root: a register is given a value other than 0 whose base is neither the first page of a declared root of
 /// the register's kind nor, in TTBR0_EL1, a null page; or an `unroot` names no first page of a declared root. At: the
-/// base, or the page. Source: project's own choice.
+/// base, or the page.
 pub fn no_root(events: &[Event], event: &Event) -> Option<u64>
     ensures { (trust : Trust) (h : List Noted) (header : Heading) → events_of h ≡ reverse events.now
         → result ≡ spec.no_root header trust h event.now }
@@ -131,7 +132,7 @@ pub fn no_root(events: &[Event], event: &Event) -> Option<u64>
     }
 }
 
-// The events with one more.
+/// The events with one more.
 fn with_event(alloc: Global, events: &[Event], event: &Event) -> Result<Vec<Event>, NoMemory>
     ensures { IfOk result (λ all. all.items ≡ events.now ++ event.now ∷ []) }
 {
@@ -141,7 +142,7 @@ fn with_event(alloc: Global, events: &[Event], event: &Event) -> Result<Vec<Even
     Ok(all)
 }
 
-// Adds the first page of the root, where it is another than that of the reading and holds the reading's tag.
+/// Adds the first page of the root, where it is another than that of the reading and holds the reading's tag.
 fn add_holder<E: TagEvidence>(
     alloc: Global,
     pages: &mut Vec<u64>,
@@ -166,7 +167,7 @@ fn add_holder<E: TagEvidence>(
     }
 }
 
-// Adds the first pages of the other roots that hold the reading's tag.
+/// Adds the first pages of the other roots that hold the reading's tag.
 fn add_holders<E: TagEvidence>(
     alloc: Global,
     pages: &mut Vec<u64>,
@@ -186,7 +187,7 @@ fn add_holders<E: TagEvidence>(
     Ok(())
 }
 
-// Adds the first pages of the roots that hold the tag of a reading for another root.
+/// Adds the first pages of the roots that hold the tag of a reading for another root.
 fn add_conflicts<E: TagEvidence>(
     alloc: Global,
     pages: &mut Vec<u64>,
@@ -206,7 +207,7 @@ fn add_conflicts<E: TagEvidence>(
     Ok(())
 }
 
-// The first pages of roots that hold a tag which is readable at the PE for another root.
+/// The first pages of roots that hold a tag which is readable at the PE for another root.
 fn conflicts<E: TagEvidence>(
     alloc: Global,
     evidence: &E,
@@ -227,7 +228,7 @@ fn conflicts<E: TagEvidence>(
 }
 
 /// 12, tag-conflict: after the register write a tag is readable at its PE for one root, and another root holds it. At:
-/// the least first page of such another root. `NoMemory` where there is none. Source: project's own choice.
+/// the least first page of such another root. `NoMemory` where there is none.
 pub fn tag_conflict<E: TagEvidence>(
     alloc: Global,
     evidence: &E,
@@ -249,14 +250,14 @@ pub fn tag_conflict<E: TagEvidence>(
     }
 }
 
-// Whether one of the values has this base.
+/// Whether one of the values has this base.
 fn has_base(values: &[u64], page: u64) -> bool
     ensures { result ≡ any (λ value. is_that (registers.base_of value) page) values.now }
 {
     values.iter().any(|value| base_of(*value) == Some(page))
 }
 
-// Whether the page is the base of a value of the register that the PE may still use.
+/// Whether the page is the base of a value of the register that the PE may still use.
 fn is_base_in(
     alloc: Global,
     events: &[Event],
@@ -271,7 +272,7 @@ fn is_base_in(
     Ok(has_base(&values, page))
 }
 
-// Whether the page is the base of a value of some register that the PE may still use.
+/// Whether the page is the base of a value of some register that the PE may still use.
 fn is_base_at(alloc: Global, events: &[Event], page: u64, pe: Pe) -> Result<bool, NoMemory>
     ensures { IfOk result (λ found. found ≡ spec.is_base_at (reverse events.now) page pe) }
 {
@@ -282,7 +283,7 @@ fn is_base_at(alloc: Global, events: &[Event], page: u64, pe: Pe) -> Result<bool
     Ok(el2 || stage2 || lower || upper)
 }
 
-// Whether the page is the base of a readable register value at some PE.
+/// Whether the page is the base of a readable register value at some PE.
 fn is_base(alloc: Global, header: &Header, events: &[Event], page: u64) -> Result<bool, NoMemory>
     ensures { IfOk result (λ found. found
         ≡ some_pe header.now.pes (spec.is_base_at (reverse events.now) page)) }
@@ -296,7 +297,7 @@ fn is_base(alloc: Global, header: &Header, events: &[Event], page: u64) -> Resul
     Ok(false)
 }
 
-// Whether the set has a tag.
+/// Whether the set has a tag.
 fn has_some(set: TagSet) -> bool
     ensures { (gs : List TheTag) → set ≡ tags.tag_set gs → result ≡ nat_lt 0 (length gs) }
 {
@@ -307,7 +308,7 @@ fn has_some(set: TagSet) -> bool
     }
 }
 
-// Whether the root with this first page is the base of a readable register value at some PE, or holds a tag.
+/// Whether the root with this first page is the base of a readable register value at some PE, or holds a tag.
 fn is_used<E: TagEvidence>(
     alloc: Global,
     evidence: &E,
@@ -327,7 +328,7 @@ fn is_used<E: TagEvidence>(
 }
 
 /// 13, root-in-use: an `unroot` names a root that is the base of a readable register value at some PE, or that holds a
-/// tag. At: the page. `NoMemory` where there is none. Source: project's own choice.
+/// tag. At: the page. `NoMemory` where there is none.
 pub fn root_in_use<E: TagEvidence>(
     alloc: Global,
     evidence: &E,
@@ -352,7 +353,7 @@ pub fn root_in_use<E: TagEvidence>(
 }
 
 /// 14, unsynced-vmid: in the Hyp world, a TLBI scoped by VMID comes from a PE whose readable values of VTTBR_EL2 have
-/// more than one VMID. At: the PE's number. `NoMemory` where there is none. Source: project's own choice.
+/// more than one VMID. At: the PE's number. `NoMemory` where there is none.
 pub fn unsynced_vmid(
     alloc: Global,
     header: &Header,
@@ -372,7 +373,7 @@ pub fn unsynced_vmid(
     }
 }
 
-/// 15, bad-operand: the operand of a TLBI can't be decoded. At: the operand. Source: project's own choice.
+/// 15, bad-operand: the operand of a TLBI can't be decoded. At: the operand.
 pub fn bad_operand(event: &Event) -> Option<u64>
     ensures { (trust : Trust) (h : List Noted) (header : Heading)
         → result ≡ spec.bad_operand header trust h event.now }
@@ -386,8 +387,7 @@ pub fn bad_operand(event: &Event) -> Option<u64>
     }
 }
 
-/// 16, lock-busy: a `lock` names a lock that is held, by this PE or another. At: the holder's number. Source:
-/// project's own choice.
+/// 16, lock-busy: a `lock` names a lock that is held, by this PE or another. At: the holder's number.
 pub fn lock_busy(events: &[Event], event: &Event) -> Option<u64>
     ensures { (trust : Trust) (h : List Noted) (header : Heading) → events_of h ≡ reverse events.now
         → result ≡ spec.lock_busy header trust h event.now }
@@ -401,8 +401,7 @@ pub fn lock_busy(events: &[Event], event: &Event) -> Option<u64>
     }
 }
 
-/// 17, lock-not-mine: an `unlock` names a lock that this PE doesn't hold. At: the lock's number. Source: project's own
-/// choice.
+/// 17, lock-not-mine: an `unlock` names a lock that this PE doesn't hold. At: the lock's number.
 pub fn lock_not_mine(events: &[Event], event: &Event) -> Option<u64>
     ensures { (trust : Trust) (h : List Noted) (header : Heading) → events_of h ≡ reverse events.now
         → result ≡ spec.lock_not_mine header trust h event.now }

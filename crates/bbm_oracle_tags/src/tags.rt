@@ -60,14 +60,14 @@ pub fn holds_tag<E: TagEvidence>(
     Ok(false)
 }
 
-// Whether the tag is in the list.
+/// Whether the tag is in the list.
 fn has_tag(tags: &[Tag], tag: Tag) -> bool
     ensures { result ≡ sets.has_tag tag tags.now }
 {
     tags.iter().any(|other| same_tag(*other, tag))
 }
 
-// Adds the tag, unless it is there already.
+/// Adds the tag, unless it is there already.
 fn add_tag(tags: &mut Vec<Tag>, tag: Tag) -> Result<(), NoMemory>
     ensures kept { OnOk result ((g : TheTag) → sets.has_tag g tags.old.items ≡ true
         → sets.has_tag g tags.new.items ≡ true) }
@@ -80,7 +80,7 @@ fn add_tag(tags: &mut Vec<Tag>, tag: Tag) -> Result<(), NoMemory>
     }
 }
 
-// Adds the tag of the reading, where it is one of the root.
+/// Adds the tag of the reading, where it is one of the root.
 fn add_reading(tags: &mut Vec<Tag>, reading: &Reading, root: u64) -> Result<(), NoMemory>
     ensures kept { OnOk result ((g : TheTag) → sets.has_tag g tags.old.items ≡ true
         → sets.has_tag g tags.new.items ≡ true) }
@@ -94,7 +94,7 @@ fn add_reading(tags: &mut Vec<Tag>, reading: &Reading, root: u64) -> Result<(), 
     }
 }
 
-// Adds the tags that are readable for the root.
+/// Adds the tags that are readable for the root.
 fn add_readings(tags: &mut Vec<Tag>, readings: &[Reading], root: u64) -> Result<(), NoMemory>
     ensures kept { OnOk result ((g : TheTag) → sets.has_tag g tags.old.items ≡ true
         → sets.has_tag g tags.new.items ≡ true) }
@@ -107,7 +107,7 @@ fn add_readings(tags: &mut Vec<Tag>, readings: &[Reading], root: u64) -> Result<
     Ok(())
 }
 
-// Adds the tags that are readable for the root after the event, unless they are those from before it.
+/// Adds the tags that are readable for the root after the event, unless they are those from before it.
 fn add_read_now(
     alloc: Global,
     tags: &mut Vec<Tag>,
@@ -131,7 +131,7 @@ fn add_read_now(
     Ok(())
 }
 
-// Adds the tags that were readable for the root at the PE at some moment.
+/// Adds the tags that were readable for the root at the PE at some moment.
 fn add_read_at(
     alloc: Global,
     tags: &mut Vec<Tag>,
@@ -153,7 +153,7 @@ fn add_read_at(
     Ok(())
 }
 
-// Every tag that the root may hold at some PE.
+/// Every tag that the root may hold at some PE.
 fn candidates(
     alloc: Global,
     header: &Header,
@@ -171,7 +171,7 @@ fn candidates(
     Ok(tags)
 }
 
-// The set with the tag, where the root holds it.
+/// The set with the tag, where the root holds it.
 fn with_held<E: TagEvidence>(
     alloc: Global,
     evidence: &E,
@@ -193,7 +193,7 @@ fn with_held<E: TagEvidence>(
     }
 }
 
-// Those of the tags that the root holds.
+/// Those of the tags that the root holds.
 fn held_among<E: TagEvidence>(
     alloc: Global,
     evidence: &E,

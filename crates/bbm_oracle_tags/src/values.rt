@@ -1,4 +1,5 @@
 //! The values of places.
+//! Source: project's own choice, where no other is named.
 
 ghost use Rattle.std.specs.Prelude.{◌≡◌, List, ◌∷◌, reverse, IfOk, OnOk};
 ghost use Rattle.bbm_events.specs.declared.event.Event.{Event};
@@ -9,7 +10,7 @@ use bbm_events::Event;
 use bbm_regimes::{NoMemory, Page, Place};
 use std::alloc::Global;
 
-// The value of the place after one more event.
+/// The value of the place after one more event.
 fn value_after(before: u64, event: &Event, place: Place) -> u64
     ensures { (h : List Event) → before ≡ spec.value_of h place → result ≡ spec.value_of (event.now ∷ h) place }
 {
@@ -24,8 +25,7 @@ fn value_after(before: u64, event: &Event, place: Place) -> u64
     }
 }
 
-/// The value of the place: that of its last write since the last `init` of its page, else 0. Source: project's own
-/// choice.
+/// The value of the place: that of its last write since the last `init` of its page, else 0.
 pub fn value_of(events: &[Event], place: Place) -> u64
     ensures { result ≡ spec.value_of (reverse events.now) place }
 {
@@ -36,14 +36,14 @@ pub fn value_of(events: &[Event], place: Place) -> u64
     value
 }
 
-// Whether the place is in the list.
+/// Whether the place is in the list.
 fn has_place(places: &[Place], place: Place) -> bool
     ensures { result ≡ among place places.now }
 {
     places.iter().any(|other| *other == place)
 }
 
-// Puts the place in front, unless it is there already.
+/// Puts the place in front, unless it is there already.
 fn put_place(places: &mut Vec<Place>, place: Place) -> Result<(), NoMemory>
     ensures { OnOk result (places.new.items ≡ with_number place places.old.items) }
 {
@@ -54,7 +54,7 @@ fn put_place(places: &mut Vec<Place>, place: Place) -> Result<(), NoMemory>
     }
 }
 
-// Puts the place in front that the event writes, where it is one of the page.
+/// Puts the place in front that the event writes, where it is one of the page.
 fn add_place(places: &mut Vec<Place>, event: &Event, page: Page) -> Result<(), NoMemory>
     ensures { OnOk result ((h : List Event) → places.old.items ≡ spec.places_in h page
         → places.new.items ≡ spec.places_in (event.now ∷ h) page) }
@@ -76,7 +76,7 @@ fn add_place(places: &mut Vec<Place>, event: &Event, page: Page) -> Result<(), N
 }
 
 /// The places of the page that were ever written, each once, that of the latest first write in front. `NoMemory` where
-/// there is none. Source: project's own choice.
+/// there is none.
 pub fn places_in(alloc: Global, events: &[Event], page: Page) -> Result<Vec<Place>, NoMemory>
     ensures { IfOk result (λ places. places.items ≡ spec.places_in (reverse events.now) page) }
 {

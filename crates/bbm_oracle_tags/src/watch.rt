@@ -52,7 +52,7 @@ pub fn changes_readings(event: &Event) -> bool
     )
 }
 
-// Whether some TLBI of the family takes the whole tag.
+/// Whether some TLBI of the family takes the whole tag.
 fn suits(family: Family, tag: Tag) -> bool
     ensures { result ≡ false → (scope : TheScope) (vmid : Option ℕ) → scope.family ≡ family
         → takes_whole_tag scope vmid tag ≡ false }
@@ -65,7 +65,7 @@ fn suits(family: Family, tag: Tag) -> bool
     }
 }
 
-// Whether a TLBI of this scope by the PE, after these events, takes the whole tag.
+/// Whether a TLBI of this scope by the PE, after these events, takes the whole tag.
 fn takes_under(
     alloc: Global,
     header: &Header,
@@ -84,7 +84,7 @@ fn takes_under(
     Ok(whole_tag(scope, vmid, tag))
 }
 
-// Whether the TLBI, after these events, takes the whole tag.
+/// Whether the TLBI, after these events, takes the whole tag.
 fn takes_by(
     alloc: Global,
     header: &Header,
@@ -102,8 +102,8 @@ fn takes_by(
     }
 }
 
-// Whether the event, after these, is a TLBI that reaches the PE and takes the whole tag. Where the tag is readable, any
-// answer will do.
+/// Whether the event, after these, is a TLBI that reaches the PE and takes the whole tag. Where the tag is readable, any
+/// answer will do.
 fn takes(
     alloc: Global,
     header: &Header,
@@ -127,7 +127,7 @@ fn takes(
     }
 }
 
-// Whether the DSB completes TLBIs of this sort, broadcast or not.
+/// Whether the DSB completes TLBIs of this sort, broadcast or not.
 fn answers(dsb: Dsb, cast: bool) -> bool
     ensures { result ≡ options.answers dsb cast }
 {
@@ -138,7 +138,7 @@ fn answers(dsb: Dsb, cast: bool) -> bool
     }
 }
 
-// Whether the event answers a TLBI that a PE awaits.
+/// Whether the event answers a TLBI that a PE awaits.
 fn loses(event: &Event, broadcast: PeMask, local: PeMask) -> bool
     ensures { result ≡ spec.loses_by event.now (pe_in broadcast) (pe_in local) }
 {
@@ -150,14 +150,14 @@ fn loses(event: &Event, broadcast: PeMask, local: PeMask) -> bool
     }
 }
 
-// The set with the PE.
+/// The set with the PE.
 fn with_pe(pes: PeMask, pe: Pe, added: bool) -> PeMask
     ensures { (q : ℕ) → pe_in result q ≡ ((pe == q && added) || pe_in pes q) }
 {
     if added { pes.or(PeMask::one(pe)) } else { pes }
 }
 
-// The set without the PE.
+/// The set without the PE.
 fn without_pe(pes: PeMask, pe: Pe, removed: bool) -> PeMask
     ensures { (q : ℕ) → pe_in result q ≡ (pe_in pes q && not (pe == q && removed)) }
 {
@@ -168,7 +168,7 @@ fn without_pe(pes: PeMask, pe: Pe, removed: bool) -> PeMask
     }
 }
 
-// The PEs that await a TLBI of this sort after the event, unless the tag is readable then.
+/// The PEs that await a TLBI of this sort after the event, unless the tag is readable then.
 fn awaiting(pes: PeMask, event: &Event, cast: bool, takes: bool) -> PeMask
     ensures { (q : ℕ) → pe_in result q ≡ spec.awaits_after cast takes false event.now q (pe_in pes q) }
 {
@@ -179,7 +179,7 @@ fn awaiting(pes: PeMask, event: &Event, cast: bool, takes: bool) -> PeMask
     }
 }
 
-// The PEs that await a TLBI of this sort after the event.
+/// The PEs that await a TLBI of this sort after the event.
 fn awaiting_after(pes: PeMask, event: &Event, cast: bool, takes: bool, reads_some: bool) -> PeMask
     ensures { (q : ℕ) → pe_in result q ≡ spec.awaits_after cast takes reads_some event.now q (pe_in pes q) }
 {
@@ -190,7 +190,7 @@ fn awaiting_after(pes: PeMask, event: &Event, cast: bool, takes: bool, reads_som
     }
 }
 
-// Whether the root holds the tag after an event.
+/// Whether the root holds the tag after an event.
 fn holds_after(reads: bool, holds: bool, lost: bool) -> bool
     ensures { result ≡ (reads || (holds && not lost)) }
 {
@@ -216,7 +216,7 @@ impl Watch {
         })
     }
 
-    // What the PE may use after the event, and what is readable then.
+    /// What the PE may use after the event, and what is readable then.
     fn look(
         &mut self,
         alloc: Global,

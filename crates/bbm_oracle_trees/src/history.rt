@@ -1,4 +1,5 @@
 //! The history of a log: the events taken, the trees after them, and the fresh pages.
+//! Source: project's own choice, where no other is named.
 
 ghost use Rattle.std.specs.Prelude.{◌≡◌, ◌∷◌, ◌&&◌, ℕ, List, [], true, not, reverse, IfOk, OnOk, OnErr, option_copied};
 ghost use Rattle.bbm_events.specs.declared.event.Event.{Event as TheEvent};
@@ -31,7 +32,7 @@ use bbm_tlbi_scope::TagSet;
 use std::alloc::Global;
 use std::marker::Model;
 
-/// The trees after some events, and the fresh pages. Source: project's own choice.
+/// The trees after some events, and the fresh pages.
 #[derive(Drop)]
 pub struct Trees {
     /// The pages of the trees, level by level.
@@ -41,8 +42,7 @@ pub struct Trees {
 }
 
 /// A header and the events taken, with the trees and the fresh pages after them, by what is trusted. A clause sees the
-/// header, the trust and the events, the newest first, each with the places that it covered. Source: project's own
-/// choice.
+/// header, the trust and the events, the newest first, each with the places that it covered.
 #[derive(Drop)]
 pub struct History<E: Evidence> {
     log: Log<E>,

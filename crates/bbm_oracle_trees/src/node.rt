@@ -1,4 +1,5 @@
 //! Pages of translation table trees.
+//! Source: project's own choice, where no other is named.
 
 ghost use Rattle.std.specs.Prelude.{◌≡◌, ◌<◌, ◌∷◌, IfOk};
 ghost use Rattle.bbm_rules.specs.Tree as trees;
@@ -8,7 +9,7 @@ use bbm_regimes::{Interval, Kind, NoMemory, Page, Place};
 use std::alloc::Global;
 use std::marker::Model;
 
-/// A place above a page of a tree. Source: project's own choice.
+/// A place above a page of a tree.
 #[derive(Clone, Copy, Debug, PartialEq, Eq)]
 pub struct Above {
     /// The place.
@@ -30,8 +31,7 @@ impl Model for Above {
     ghost inverse = { λ a. record { place = a.place; level = a.level } };
 }
 
-/// A page of a tree of translation tables. A clause sees the places above as the list, the nearest first. Source:
-/// project's own choice.
+/// A page of a tree of translation tables. A clause sees the places above as the list, the nearest first.
 #[derive(Debug, Drop)]
 pub struct Node {
     /// The page.

@@ -24,7 +24,7 @@ fn root_page_count(header: &Header, kind: Kind) -> u8
     }
 }
 
-// The page that is so many pages behind this one.
+/// The page that is so many pages behind this one.
 fn page_behind(page: Page, count: u8) -> Page
     requires { page + 4096 * count < 2 ^ 48 }
     ensures { result ≡ page + 4096 * count }
@@ -39,7 +39,7 @@ pub fn add(nodes: &mut Vec<Node>, node: Node) -> Result<(), NoMemory>
     nodes.push(node).map_err(|_| NoMemory)
 }
 
-// Adds so many consecutive pages of a root, at this level, the first of which begins at this input page.
+/// Adds so many consecutive pages of a root, at this level, the first of which begins at this input page.
 fn add_pages(
     alloc: Global,
     kind: Kind,
@@ -71,7 +71,7 @@ fn add_pages(
     Ok(())
 }
 
-// Adds the pages of a root.
+/// Adds the pages of a root.
 fn add_root(
     alloc: Global,
     header: &Header,

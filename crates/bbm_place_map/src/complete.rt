@@ -32,7 +32,7 @@ fn is_table(core: Core) -> bool
     }
 }
 
-// A DSB of the issuer answered its TLBIs at one entry, which stays for now. Whether its place is cleansed at every PE.
+/// A DSB of the issuer answered its TLBIs at one entry, which stays for now. Whether its place is cleansed at every PE.
 fn answer_at(broken: &mut Vec<Entry>, k: usize, issuer: Pe, dsb: Dsb, n: u8) -> bool
     requires some { 1 ≤ n }
     requires most { n ≤ 128 }
@@ -53,8 +53,8 @@ fn answer_at(broken: &mut Vec<Entry>, k: usize, issuer: Pe, dsb: Dsb, n: u8) -> 
     entry.marks.is_clean(n)
 }
 
-// A DSB of the issuer answered its TLBIs at one entry, which leaves where its place is cleansed at every PE. Whether it
-// left, and its core is a table.
+/// A DSB of the issuer answered its TLBIs at one entry, which leaves where its place is cleansed at every PE. Whether it
+/// left, and its core is a table.
 #[inline(always)]
 fn complete_at(
     cells: &mut Vec<Cell>,
@@ -90,8 +90,8 @@ fn complete_at(
     }
 }
 
-// A DSB of the issuer answered its TLBIs at each entry. One whose place is cleansed at every PE leaves. Whether one
-// over a table left.
+/// A DSB of the issuer answered its TLBIs at each entry. One whose place is cleansed at every PE leaves. Whether one
+/// over a table left.
 fn complete_all(cells: &mut Vec<Cell>, broken: &mut Vec<Entry>, issuer: Pe, dsb: Dsb, n: u8) -> bool
     requires { CanAnswer n cells.old broken.old }
     ensures { CompletesAll issuer dsb n cells.old cells.new broken.old broken.new result }
@@ -107,7 +107,7 @@ fn complete_all(cells: &mut Vec<Cell>, broken: &mut Vec<Entry>, issuer: Pe, dsb:
     lost
 }
 
-// A DSB of the issuer answered its TLBIs at the entry of a cell, if it has one.
+/// A DSB of the issuer answered its TLBIs at the entry of a cell, if it has one.
 fn complete_cell(
     cells: &mut Vec<Cell>,
     broken: &mut Vec<Entry>,
@@ -135,7 +135,7 @@ fn complete_cell(
     }
 }
 
-// A DSB of the issuer answered its TLBIs at the entries of these cells.
+/// A DSB of the issuer answered its TLBIs at the entries of these cells.
 fn complete_cells(
     cells: &mut Vec<Cell>,
     broken: &mut Vec<Entry>,
@@ -169,7 +169,7 @@ fn complete_cells(
     lost
 }
 
-// Lists the cell of an entry at which something waits for the answers of the issuer's TLBIs.
+/// Lists the cell of an entry at which something waits for the answers of the issuer's TLBIs.
 fn list_waiting(list: &mut WorkList, entry: &Entry, issuer: Pe, broken: usize)
     ensures there { Holds list.new entry.now.cell ⊎ IsIdle (pends_in entry.now.pends.items issuer) }
     ensures kept { (j : ℕ) → Holds list.old j → Holds list.new j }
@@ -179,7 +179,7 @@ fn list_waiting(list: &mut WorkList, entry: &Entry, issuer: Pe, broken: usize)
     }
 }
 
-// Lists the cells of the entries at which something waits for the answers of the issuer's TLBIs.
+/// Lists the cells of the entries at which something waits for the answers of the issuer's TLBIs.
 fn relist(broken: &[Entry], list: &mut WorkList, issuer: Pe)
     ensures { (k : ℕ) (e : TheEntry) → slice_get broken.now k ≡ Some e
         → Holds list.new e.cell ⊎ IsIdle (pends_in e.pends.items issuer) }
@@ -190,7 +190,7 @@ fn relist(broken: &[Entry], list: &mut WorkList, issuer: Pe)
     }
 }
 
-// A DSB of the issuer answered its TLBIs. Its list has all cells at which something waits for that, and stays.
+/// A DSB of the issuer answered its TLBIs. Its list has all cells at which something waits for that, and stays.
 fn complete_list(
     cells: &mut Vec<Cell>,
     broken: &mut Vec<Entry>,
@@ -208,7 +208,7 @@ fn complete_list(
     complete_cells(cells, broken, &list.cells, issuer, dsb, n)
 }
 
-// The same, where nothing may stay in the list.
+/// The same, where nothing may stay in the list.
 fn complete_listed(
     cells: &mut Vec<Cell>,
     broken: &mut Vec<Entry>,
@@ -234,7 +234,7 @@ fn complete_listed(
     lost
 }
 
-// The same for any list.
+/// The same for any list.
 fn complete_by(
     cells: &mut Vec<Cell>,
     broken: &mut Vec<Entry>,

@@ -1,4 +1,5 @@
 //! What is kept of a broken place.
+//! Source: project's own choice, where no other is named.
 
 ghost use Rattle.std.specs.Prelude.{◌≡◌, ◌≢◌, ◌↔◌, ◌<◌, ℕ, IsTrue, OnOk, IfSome, None, length, true, false};
 ghost use Rattle.bbm_place_map.specs.Dsbs.{AreAnswered, WaitsOn};
@@ -17,7 +18,7 @@ use bbm_regimes::{NoMemory, Pe, PeMask, Place};
 use bbm_tlbi_scope::Cover;
 use smallvec::SmallVec;
 
-/// What waits at a place for the answers of one issuer's TLBIs. Source: project's own choice.
+/// What waits at a place for the answers of one issuer's TLBIs.
 #[derive(Clone, Copy, Debug)]
 pub struct Pending {
     /// The PE that issued them.
@@ -36,7 +37,7 @@ impl Default for Pending {
     }
 }
 
-/// A broken place. Source: project's own choice.
+/// A broken place.
 #[derive(Drop)]
 pub struct Entry {
     /// The place.
@@ -49,7 +50,7 @@ pub struct Entry {
     pub pends: SmallVec<Pending, 1>,
 }
 
-// Whether no PE waits in these masks.
+/// Whether no PE waits in these masks.
 fn is_none(pend: &Pend) -> bool
     ensures { IsTrue result ↔ ((c : TheCover) (p : ℕ) → waits_in pend.now c p ≡ false) }
 {
@@ -75,7 +76,7 @@ pub fn pends_of(pendings: &[Pending], issuer: Pe) -> Pends
     Pends::none()
 }
 
-// Where what waits for the answers of the issuer's TLBIs is kept; None where nothing is.
+/// Where what waits for the answers of the issuer's TLBIs is kept; None where nothing is.
 fn place_of(pendings: &[Pending], issuer: Pe) -> Option<usize>
     ensures some { IfSome result (λ i. IsFirst pendings.now i issuer) }
     ensures none { result ≡ None → Lacks pendings.now (length pendings.now) issuer }
@@ -88,8 +89,8 @@ fn place_of(pendings: &[Pending], issuer: Pe) -> Option<usize>
     None
 }
 
-// Notes a TLBI over a place with these marks in what waits for the answers of its issuer's, which is kept here.
-// Whether nothing waited.
+/// Notes a TLBI over a place with these marks in what waits for the answers of its issuer's, which is kept here.
+/// Whether nothing waited.
 fn note_here(
     pendings: &mut [Pending],
     i: usize,
@@ -112,7 +113,7 @@ fn note_here(
     idle
 }
 
-// Takes those whose answer a DSB is out of those that wait here for the answers of its issuer's TLBIs.
+/// Takes those whose answer a DSB is out of those that wait here for the answers of its issuer's TLBIs.
 fn take_here(pendings: &mut [Pending], i: usize, dsb: Dsb) -> Pend
     requires { i < length pendings.old }
     ensures done { (q : ℕ) → IsFirst pendings.old i q → AreAnswered dsb (pends_in pendings.old q) result }
@@ -127,7 +128,7 @@ fn take_here(pendings: &mut [Pending], i: usize, dsb: Dsb) -> Pend
     done
 }
 
-// Takes memory for one more. `NoMemory` where there is none.
+/// Takes memory for one more. `NoMemory` where there is none.
 #[inline(never)]
 fn grow(pendings: &mut SmallVec<Pending, 1>) -> Result<(), NoMemory>
     ensures items { pendings.new.items ≡ pendings.old.items }

@@ -1,10 +1,11 @@
 //! How far a TLBI covers a place.
+//! Source: project's own choice, where no other is named.
 
 use bbm_regimes::Place;
 use bbm_tlbi_scope::Cover;
 use std::marker::Model;
 
-/// A place, and how far a TLBI covers it. Source: project's own choice.
+/// A place, and how far a TLBI covers it.
 #[derive(Clone, Copy, Debug)]
 pub struct Found {
     /// The place.
@@ -13,7 +14,7 @@ pub struct Found {
     pub cover: Cover,
 }
 
-/// How far a TLBI covers one of the broken places. Contracts see the cover. Source: project's own choice.
+/// How far a TLBI covers one of the broken places. Contracts see the cover.
 #[derive(Clone, Copy, Debug)]
 pub struct Answer {
     cover: Cover,

@@ -23,7 +23,7 @@ use bbm_regimes::{NoMemory, Pe, PeMask, Place};
 use bbm_tlbi_scope::Cover;
 use indexmap::IndexMap;
 
-// Whether a TLBI covers a place at all.
+/// Whether a TLBI covers a place at all.
 fn is_cover(cover: Cover) -> bool
     ensures { result ≡ spec_is_cover cover }
 {
@@ -35,7 +35,7 @@ fn is_cover(cover: Cover) -> bool
     }
 }
 
-// Makes room at an entry for what waits for the issuer. `NoMemory` where there is none.
+/// Makes room at an entry for what waits for the issuer. `NoMemory` where there is none.
 fn make_room_at(broken: &mut Vec<Entry>, k: usize, issuer: Pe) -> Result<(), NoMemory>
     requires { k < vec_len broken.old }
     ensures entry { (e : TheEntry) → slice_get broken.old.items k ≡ Some e → (f : TheEntry) × (seat f ≡ seat e)
@@ -48,7 +48,7 @@ fn make_room_at(broken: &mut Vec<Entry>, k: usize, issuer: Pe) -> Result<(), NoM
     make_room_for_issuer(&mut entry.pends, issuer)
 }
 
-// Notes the TLBI at an entry with room for its issuer. Whether nothing waited there.
+/// Notes the TLBI at an entry with room for its issuer. Whether nothing waited there.
 #[inline(always)]
 fn note_at(
     broken: &mut Vec<Entry>,
@@ -73,7 +73,7 @@ fn note_at(
     note_pends(&mut entry.pends, issuer, marks, reach, broadcast, cover)
 }
 
-// The same at an entry that is covered so far. The cell of one at which nothing waited is listed for the issuer.
+/// The same at an entry that is covered so far. The cell of one at which nothing waited is listed for the issuer.
 #[inline(always)]
 fn note_entry(
     broken: &mut Vec<Entry>,
@@ -145,7 +145,7 @@ pub fn note(
     }
 }
 
-// Whether a place is among the items.
+/// Whether a place is among the items.
 fn is_among(found: &[Found], place: Place) -> bool
     ensures { result ≡ is_found found.now place }
 {
@@ -157,7 +157,7 @@ fn is_among(found: &[Found], place: Place) -> bool
     false
 }
 
-// Makes room for the issuer at a place, if it is broken. `NoMemory` where there is none.
+/// Makes room for the issuer at a place, if it is broken. `NoMemory` where there is none.
 fn make_room_for(
     pages: &IndexMap<u64, usize>,
     cells: &[Cell],
@@ -207,8 +207,8 @@ pub fn make_room_found(
     Ok(())
 }
 
-// Notes the TLBI at a place that is covered so far, if it is broken. Its cell is listed for the issuer where something
-// waits there now.
+/// Notes the TLBI at a place that is covered so far, if it is broken. Its cell is listed for the issuer where something
+/// waits there now.
 fn note_for(
     pages: &IndexMap<u64, usize>,
     cells: &[Cell],
@@ -238,7 +238,7 @@ fn note_for(
     }
 }
 
-// Notes the TLBI at the place of one of the items, if no item before it is of that place.
+/// Notes the TLBI at the place of one of the items, if no item before it is of that place.
 fn note_next(
     pages: &IndexMap<u64, usize>,
     cells: &[Cell],

@@ -25,7 +25,7 @@ pub fn put_value(cells: &mut Vec<Cell>, j: usize, value: u64)
     cells[j] = Cell { value, slot };
 }
 
-// Writes the number of a cell's entry.
+/// Writes the number of a cell's entry.
 fn put_slot(cells: &mut Vec<Cell>, j: usize, slot: Option<u32>)
     requires { j < vec_len cells.old }
     ensures values { (i : ℕ) → value_in cells.new.items i ≡ value_in cells.old.items i }

@@ -1,4 +1,5 @@
 //! The map from places to their values, marks and pendings.
+//! Source: project's own choice, where no other is named.
 
 ghost use Rattle.std.specs.Prelude.{◌≡◌, ◌≤◌, ◌<◌, ◌^◌, vec_len, vec_capacity, nat_eq};
 ghost use Rattle.std.proofs.Props.{props};
@@ -21,11 +22,10 @@ use indexmap::IndexMap;
 use smallvec::SmallVec;
 use std::alloc::Global;
 
-/// The number of cells that may be kept. Source: project's own choice.
+/// The number of cells that may be kept.
 const MAX_CELLS: usize = 1 << 31;
 
 /// The values of the places of the tracked pages, and of the broken ones among them the marks and the pendings.
-/// Source: project's own choice.
 #[derive(Drop)]
 pub struct PlaceMap {
     alloc: Global,
@@ -83,7 +83,7 @@ impl PlaceMap {
         self.pages.contains_key(&page.get())
     }
 
-    // The number of the place's cell; None where its page isn't tracked.
+    /// The number of the place's cell; None where its page isn't tracked.
     fn index(&self, place: Place) -> Option<usize>
         ensures index { result ≡ index_of (get nat_eq self.now.pages) place }
         ensures within { IfSome result (λ j. j < vec_len self.now.cells) }
@@ -203,8 +203,8 @@ impl PlaceMap {
         }
     }
 
-    // The same for an invalid value. Each state has an arm of its own, so that the code of a live place carries no marks
-    // about.
+    /// The same for an invalid value. Each state has an arm of its own, so that the code of a live place carries no marks
+    /// about.
     fn clear_at(&mut self, seat: &Seat, pe: Pe, value: u64, live: &Option<Core>)
         requires { IsSeat self.old seat.now }
         ensures written { (state : TheState) × Written (state_at self.old live.now seat.now.place) pe None state
@@ -223,7 +223,7 @@ impl PlaceMap {
         }
     }
 
-    // The same at a place in this state.
+    /// The same at a place in this state.
     #[inline(always)]
     fn clear_from(&mut self, seat: &Seat, pe: Pe, value: u64, state: EntryState)
         requires { IsSeat self.old seat.now }
@@ -238,7 +238,7 @@ impl PlaceMap {
         }
     }
 
-    // Writes a value at a seat's place, which isn't broken after. What waits there is dropped. Nothing else changes.
+    /// Writes a value at a seat's place, which isn't broken after. What waits there is dropped. Nothing else changes.
     fn put_whole(&mut self, seat: &Seat, value: u64)
         requires { IsSeat self.old seat.now }
         ensures values { (a : ℕ) → value_at self.new a ≡ (if nat_eq a seat.now.place then value else value_at self.old a) }
@@ -250,8 +250,8 @@ impl PlaceMap {
         write::put_whole(&mut self.cells, &mut self.broken, seat.index, value);
     }
 
-    // Writes a value at a seat's place, which is broken with these marks after. What waits there stays. Nothing else
-    // changes. Whoever wrote is best named, and the result is the same by any PE.
+    /// Writes a value at a seat's place, which is broken with these marks after. What waits there stays. Nothing else
+    /// changes. Whoever wrote is best named, and the result is the same by any PE.
     #[inline(always)]
     fn put_broken(&mut self, seat: &Seat, mostly: Pe, value: u64, marks: Marks)
         requires { IsSeat self.old seat.now }
@@ -394,7 +394,7 @@ impl PlaceMap {
         }
     }
 
-    // Tracks a page that isn't tracked. `NoMemory` where there is none, and nothing changes then.
+    /// Tracks a page that isn't tracked. `NoMemory` where there is none, and nothing changes then.
     fn add_page(&mut self, page: Page) -> Result<(), NoMemory>
         requires { is_tracked self.old page ≡ false }
         ensures pages { OnOk result ((p : ℕ) → is_tracked self.new p ≡ (nat_eq p page || is_tracked self.old p)) }
@@ -418,7 +418,7 @@ impl PlaceMap {
         }
     }
 
-    // Makes room for the cells of one more page, and for an entry of each cell. Whether there is.
+    /// Makes room for the cells of one more page, and for an entry of each cell. Whether there is.
     fn has_room(&mut self) -> bool
         ensures cells { result ≡ true → vec_len self.new.cells + 512 ≤ vec_capacity self.new.cells }
         ensures broken { result ≡ true → vec_len self.new.cells + 512 ≤ vec_capacity self.new.broken }
@@ -431,8 +431,8 @@ impl PlaceMap {
         self.broken.reserve(wanted).is_ok() && self.cells.reserve(512).is_ok()
     }
 
-    // Adds to an empty list how far the closure says that a TLBI covers each broken place, over its core. `NoMemory` where
-    // there is none.
+    /// Adds to an empty list how far the closure says that a TLBI covers each broken place, over its core. `NoMemory` where
+    /// there is none.
     fn add_covers<F: Fn(&PlaceMap, Place, Core) -> Cover>(
         &self,
         cover: &F,
@@ -540,7 +540,7 @@ impl PlaceMap {
         ensures { (q a : ℕ) → marks_at self.now a ≡ None → IsIdle (pends_at self.now q a) }
     {}
 
-    // The number of the first cell of a page; None where the page isn't tracked.
+    /// The number of the first cell of a page; None where the page isn't tracked.
     fn base(&self, page: Page) -> Option<usize>
         ensures base { result ≡ get nat_eq self.now.pages page }
         ensures within { IfSome result (λ b. b + 512 ≤ vec_len self.now.cells) }

@@ -19,7 +19,7 @@ use bbm_barriers::{Dsb, publishes_to};
 use bbm_entry_state::{EntryState, Marks};
 use bbm_regimes::{Pe, PeMask};
 
-// The marks after a DSB of the issuer published its writes.
+/// The marks after a DSB of the issuer published its writes.
 fn published(marks: Marks, issuer: Pe, dsb: Dsb, n: u8) -> Marks
     requires { InLog issuer n }
     ensures { Published (EntryState.Broken marks) issuer dsb n (EntryState.Broken result) }
@@ -27,7 +27,7 @@ fn published(marks: Marks, issuer: Pe, dsb: Dsb, n: u8) -> Marks
     broken_marks((EntryState::Broken { marks }).dsb(issuer, dsb, n))
 }
 
-// A DSB of the issuer published its writes at one entry.
+/// A DSB of the issuer published its writes at one entry.
 fn publish_at(broken: &mut Vec<Entry>, k: usize, issuer: Pe, dsb: Dsb, n: u8)
     requires log { InLog issuer n }
     requires entry_within { k < vec_len broken.old }
@@ -41,7 +41,7 @@ fn publish_at(broken: &mut Vec<Entry>, k: usize, issuer: Pe, dsb: Dsb, n: u8)
     remark(broken, k, marks);
 }
 
-// A DSB of the issuer published its writes at each entry.
+/// A DSB of the issuer published its writes at each entry.
 fn publish_all(broken: &mut Vec<Entry>, issuer: Pe, dsb: Dsb, n: u8)
     requires { InLog issuer n }
     ensures { PublishesAll issuer dsb n broken.old broken.new }
@@ -51,7 +51,7 @@ fn publish_all(broken: &mut Vec<Entry>, issuer: Pe, dsb: Dsb, n: u8)
     }
 }
 
-// A DSB of the issuer published its writes at the entry of a cell, if it has one.
+/// A DSB of the issuer published its writes at the entry of a cell, if it has one.
 fn publish_cell(cells: &[Cell], broken: &mut Vec<Entry>, cell: u32, issuer: Pe, dsb: Dsb, n: u8)
     requires log { InLog issuer n }
     requires linked { Linked cells.now broken.old.items }
@@ -68,7 +68,7 @@ fn publish_cell(cells: &[Cell], broken: &mut Vec<Entry>, cell: u32, issuer: Pe, 
     }
 }
 
-// A DSB of the issuer published its writes at the entries of these cells.
+/// A DSB of the issuer published its writes at the entries of these cells.
 fn publish_cells(cells: &[Cell], broken: &mut Vec<Entry>, list: &[u32], issuer: Pe, dsb: Dsb, n: u8)
     requires log { InLog issuer n }
     requires linked { Linked cells.now broken.old.items }
@@ -83,7 +83,7 @@ fn publish_cells(cells: &[Cell], broken: &mut Vec<Entry>, list: &[u32], issuer: 
     }
 }
 
-// Whether no DSB of the issuer publishes more of a place with these marks.
+/// Whether no DSB of the issuer publishes more of a place with these marks.
 fn is_told(marks: &Marks, issuer: Pe, n: u8) -> bool
     requires { InLog issuer n }
     ensures { result ≡ true → IsTold n issuer marks.now }
@@ -91,7 +91,7 @@ fn is_told(marks: &Marks, issuer: Pe, n: u8) -> bool
     !marks.writers.has(issuer) || PeMask::all(n).minus(marks.seen).is_empty()
 }
 
-// Lists the cell of an entry of which DSBs of the issuer may publish more.
+/// Lists the cell of an entry of which DSBs of the issuer may publish more.
 fn list_untold(list: &mut WorkList, entry: &Entry, issuer: Pe, n: u8, broken: usize)
     requires { InLog issuer n }
     ensures there { Holds list.new entry.now.cell ⊎ IsTold n issuer entry.now.marks }
@@ -102,7 +102,7 @@ fn list_untold(list: &mut WorkList, entry: &Entry, issuer: Pe, n: u8, broken: us
     }
 }
 
-// Lists the cells of the entries of which DSBs of the issuer may publish more.
+/// Lists the cells of the entries of which DSBs of the issuer may publish more.
 fn relist(broken: &[Entry], list: &mut WorkList, issuer: Pe, n: u8)
     requires { InLog issuer n }
     ensures { HoldUntold (Holds list.new) n issuer broken.now }
@@ -113,7 +113,7 @@ fn relist(broken: &[Entry], list: &mut WorkList, issuer: Pe, n: u8)
     }
 }
 
-// A DSB of the issuer published its writes. Its list has all entries of which it can publish more, and stays.
+/// A DSB of the issuer published its writes. Its list has all entries of which it can publish more, and stays.
 fn publish_list(
     cells: &[Cell],
     broken: &mut Vec<Entry>,
@@ -131,7 +131,7 @@ fn publish_list(
     publish_cells(cells, broken, &list.cells, issuer, dsb, n);
 }
 
-// The same, where nothing may stay in the list.
+/// The same, where nothing may stay in the list.
 fn publish_listed(
     cells: &[Cell],
     broken: &mut Vec<Entry>,
@@ -156,7 +156,7 @@ fn publish_listed(
     }
 }
 
-// A DSB of the issuer published its writes. Its list has given up, or has all entries of which it can publish more.
+/// A DSB of the issuer published its writes. Its list has given up, or has all entries of which it can publish more.
 fn publish_by(
     cells: &[Cell],
     broken: &mut Vec<Entry>,

@@ -75,7 +75,7 @@ pub fn entry_at(pages: &IndexMap<u64, usize>, cells: &[Cell], place: Place) -> O
     }
 }
 
-// The entry of a cell; None where its place isn't broken.
+/// The entry of a cell; None where its place isn't broken.
 fn entry<'a>(cells: &[Cell], broken: &'a [Entry], j: usize) -> Option<&'a Entry>
     requires linked { Linked cells.now broken.now }
     requires within { j < length cells.now }

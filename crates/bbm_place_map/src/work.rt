@@ -1,4 +1,5 @@
 //! Lists of the broken places that a DSB has to visit.
+//! Source: project's own choice, where no other is named.
 
 ghost use Rattle.std.specs.Prelude.{◌≡◌, ◌≢◌, ◌≤◌, ◌<◌, ◌⊎◌, ℕ, Some, true, false, Contains, vec_len, length, slice_get};
 ghost use Rattle.bbm_regimes.specs.PeMask.{pe_in};
@@ -9,7 +10,7 @@ use bbm_regimes::{Pe, PeMask};
 use std::alloc::Global;
 
 /// The numbers of cells at whose places something may be left to do, unless there were too many. A cell may stand here
-/// twice, and one with nothing left to do too. Source: project's own choice.
+/// twice, and one with nothing left to do too.
 #[derive(Drop)]
 pub struct WorkList {
     /// Whether there may be something left at any other place, too.
@@ -18,7 +19,7 @@ pub struct WorkList {
     pub cells: Vec<u32>,
 }
 
-/// What is left to do for DSBs, of each PE. Source: project's own choice.
+/// What is left to do for DSBs, of each PE.
 #[derive(Drop)]
 pub struct Work {
     /// The number of PEs of the log.
@@ -81,7 +82,7 @@ pub fn add_for(lists: &mut Vec<WorkList>, pe: Pe, cell: u32, broken: usize)
     }
 }
 
-// The writers of which the list must hear, where a place with the marks before has these now.
+/// The writers of which the list must hear, where a place with the marks before has these now.
 fn fresh_writers(before: &Option<Marks>, marks: &Marks) -> PeMask
     ensures { (q : ℕ) → pe_in result q ≡ false
         → (pe_in marks.now.writers q ≡ false) ⊎ IsToldAsBefore before.now marks.now q }
@@ -98,7 +99,7 @@ fn fresh_writers(before: &Option<Marks>, marks: &Marks) -> PeMask
     }
 }
 
-// Adds a cell to the list of the PE with this number, where it is among these.
+/// Adds a cell to the list of the PE with this number, where it is among these.
 fn add_writer(lists: &mut Vec<WorkList>, writers: PeMask, i: u8, cell: u32, broken: usize)
     requires { i < 128 }
     ensures there { pe_in writers i ≡ true → HoldsFor lists.new.items i cell }
@@ -111,7 +112,7 @@ fn add_writer(lists: &mut Vec<WorkList>, writers: PeMask, i: u8, cell: u32, brok
     }
 }
 
-// Adds a cell to the lists of these PEs, of the first `pes`.
+/// Adds a cell to the lists of these PEs, of the first `pes`.
 fn add_writers(lists: &mut Vec<WorkList>, writers: PeMask, pes: u8, cell: u32, broken: usize)
     requires { pes ≤ 128 }
     ensures there { (q : ℕ) → q < pes → pe_in writers q ≡ true → HoldsFor lists.new.items q cell }
@@ -122,7 +123,7 @@ fn add_writers(lists: &mut Vec<WorkList>, writers: PeMask, pes: u8, cell: u32, b
     }
 }
 
-// The same, where most often this PE is the only one.
+/// The same, where most often this PE is the only one.
 #[inline(always)]
 fn add_mostly(
     lists: &mut Vec<WorkList>,
@@ -143,8 +144,8 @@ fn add_mostly(
     }
 }
 
-// Adds the cell of a place that is broken with these marks, with the marks before if it was broken. Most often this PE
-// is the only one that wrote there since.
+/// Adds the cell of a place that is broken with these marks, with the marks before if it was broken. Most often this PE
+/// is the only one that wrote there since.
 #[inline(always)]
 fn add_broken(
     lists: &mut Vec<WorkList>,
@@ -202,7 +203,7 @@ pub fn note_write(
     }
 }
 
-// Restarts each list.
+/// Restarts each list.
 fn restart_all(lists: &mut Vec<WorkList>, given_up: bool)
     ensures { given_up ≡ true → (q j : ℕ) → HoldsFor lists.new.items q j }
 {
@@ -211,7 +212,7 @@ fn restart_all(lists: &mut Vec<WorkList>, given_up: bool)
     }
 }
 
-// The log has `n` PEs. The lists speak for all places, or each has given up.
+/// The log has `n` PEs. The lists speak for all places, or each has given up.
 #[cold]
 #[inline(never)]
 fn renew(work: &mut Work, n: u8, given_up: bool)

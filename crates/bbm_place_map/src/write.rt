@@ -27,7 +27,7 @@ pub fn remark(broken: &mut Vec<Entry>, k: usize, marks: Marks)
     entry.marks = marks;
 }
 
-// The place of a cell is broken, with these marks. What waits there stays.
+/// The place of a cell is broken, with these marks. What waits there stays.
 fn mark(
     cells: &mut Vec<Cell>,
     broken: &mut Vec<Entry>,

@@ -1,4 +1,5 @@
 //! The operand of a TLBI for a range of pages: which pages it names, and its level hint.
+//! Source: project's own choice, where no other is named.
 #![tactic(auto)]
 
 ghost use Rattle.std.specs.Prelude.{◌≡◌, ℕ, ◌^◌, ◌<◌, ◌≤◌, ◌↔◌, IfOk};
@@ -6,7 +7,7 @@ ghost use Rattle.bbm_range.specs.Operand as fields;
 ghost use Rattle.bbm_range.specs.Pages as range;
 
 /// The pages that the operand of a range TLBI names, and its level hint. A page number is an address
-/// without its 12 lowest bits. Source: project's own choice.
+/// without its 12 lowest bits.
 #[derive(Clone, Copy, Debug, PartialEq, Eq)]
 pub struct Range {
     /// The first page number, 0 to 2^44 - 1.
@@ -17,7 +18,7 @@ pub struct Range {
     pub level: u8,
 }
 
-/// Why the operand of a range TLBI can't be read. Source: project's own choice.
+/// Why the operand of a range TLBI can't be read.
 #[derive(Clone, Copy, Debug, PartialEq, Eq)]
 pub enum BadRange {
     /// The granule is another than 4 KiB.

@@ -1,11 +1,12 @@
 //! Processing elements and sets of them.
+//! Source: project's own choice, where no other is named.
 
 ghost use Rattle.std.specs.Prelude.{◌≡◌, ℕ, ◌<◌, ◌≤◌, ◌↔◌, ◌&&◌, ◌||◌, not, nat_eq, nat_lt, false, IsTrue, IsSome, IfSome};
 ghost use Rattle.std.specs.List.{list_any};
 
 use std::marker::Model;
 
-/// A processing element: its number in the log, 0 to 127. Source: project's own choice.
+/// A processing element: its number in the log, 0 to 127.
 #[derive(Clone, Copy, Debug, PartialEq, Eq)]
 pub struct Pe {
     number: u8,
@@ -44,7 +45,7 @@ impl Pe {
 }
 
 /// A set of processing elements, of numbers 0 to 127. Contracts speak of it by its points alone,
-/// `pe_in mask p`. Source: project's own choice.
+/// `pe_in mask p`.
 #[derive(Clone, Copy, Debug)]
 pub struct PeMask {
     bits: u128,

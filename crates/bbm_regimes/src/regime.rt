@@ -1,9 +1,9 @@
 //! Kinds of translation tables, root registers, tags, and the world that a log belongs to.
+//! Source: project's own choice, where no other is named.
 
 use std::alloc::AllocError;
 
 /// There was no memory. The call that answers this changed nothing unless its contract says otherwise.
-/// Source: project's own choice.
 #[derive(Clone, Copy, Debug, PartialEq, Eq)]
 pub struct NoMemory;
 
@@ -93,7 +93,7 @@ pub struct KernelWorld {
     pub asid_from: AsidFrom,
 }
 
-/// The world that a log belongs to, with what it says of its tables. Source: project's own choice.
+/// The world that a log belongs to, with what it says of its tables.
 #[derive(Clone, Copy, Debug, PartialEq, Eq)]
 pub enum World {
     /// A hypervisor without VHE: its EL2 stage 1 tables and its stage 2 tables.
@@ -102,7 +102,7 @@ pub enum World {
     Kernel(KernelWorld),
 }
 
-/// A limit of the program. Source: project's own choice.
+/// A limit of the program.
 #[derive(Clone, Copy, Debug, PartialEq, Eq)]
 pub enum Which {
     /// 200 bytes in a line.

@@ -16,14 +16,14 @@ use bbm_place_map::PlaceMap;
 use bbm_regimes::Pe;
 use bbm_replay_roots::{law_barriers, law_others};
 
-// Whether the DSB publishes nothing, since TLBs may share entries and its domain is the non-shareable one.
+/// Whether the DSB publishes nothing, since TLBs may share entries and its domain is the non-shareable one.
 fn is_silent(header: &Header, dsb: Dsb) -> bool
     ensures { result ≡ (header.now.cnp && options.is_non dsb.domain) }
 {
     header.cnp && is_non(dsb.domain)
 }
 
-// The DSB of the PE publishes its writes, unless it is silent.
+/// The DSB of the PE publishes its writes, unless it is silent.
 fn publish(map: &mut PlaceMap, silent: bool, pe: Pe, dsb: Dsb, n: u8)
     requires some { 1 ≤ n }
     requires within { n ≤ 128 }

@@ -49,7 +49,7 @@ pub(crate) fn one_page(scope: &Scope) -> Option<u64>
     }
 }
 
-// Whether an operation by address of this family can cover places of a root of this kind.
+/// Whether an operation by address of this family can cover places of a root of this kind.
 fn covers_kind(family: Family, kind: Kind) -> bool
     ensures { result ≡ spec_covers_kind family kind }
 {
@@ -61,7 +61,7 @@ fn covers_kind(family: Family, kind: Kind) -> bool
     }
 }
 
-// Adds a place with its cover at the end.
+/// Adds a place with its cover at the end.
 fn push_found(found: &mut Vec<Found>, item: Found) -> Result<(), NoMemory>
     ensures { OnOk result (found.new.items ≡ found.old.items ++ item ∷ []) }
 {
@@ -71,7 +71,7 @@ fn push_found(found: &mut Vec<Found>, item: Found) -> Result<(), NoMemory>
     }
 }
 
-// Adds the place, which has this path and this state, with its cover, where it is broken.
+/// Adds the place, which has this path and this state, with its cover, where it is broken.
 fn add_met(
     map: &PlaceMap,
     index: &TreeIndex,
@@ -100,7 +100,7 @@ fn add_met(
     }
 }
 
-// The next page of a core that is a table.
+/// The next page of a core that is a table.
 fn next_of_core(core: &Core) -> Option<Page>
     ensures { result ≡ next_in (Some core.now) }
 {
@@ -110,7 +110,7 @@ fn next_of_core(core: &Core) -> Option<Page>
     }
 }
 
-// The next page of the table that a place of this state holds; None where it holds none.
+/// The next page of the table that a place of this state holds; None where it holds none.
 fn next_of(state: &EntryState) -> Option<Page>
     ensures { result ≡ next_in (core_in state.now) }
 {
@@ -121,8 +121,8 @@ fn next_of(state: &EntryState) -> Option<Page>
     }
 }
 
-// Adds the broken places that are met on the way down from the page along the input page, of so many pages at most, each
-// with its cover.
+/// Adds the broken places that are met on the way down from the page along the input page, of so many pages at most, each
+/// with its cover.
 fn descend(
     map: &PlaceMap,
     index: &TreeIndex,
@@ -157,7 +157,7 @@ fn descend(
     }
 }
 
-// Adds those that are met on the way down from the page at this address, in bytes.
+/// Adds those that are met on the way down from the page at this address, in bytes.
 fn descend_at(
     map: &PlaceMap,
     index: &TreeIndex,
@@ -180,7 +180,7 @@ fn descend_at(
     }
 }
 
-// Adds those that are met on the way down from so many consecutive pages.
+/// Adds those that are met on the way down from so many consecutive pages.
 fn descend_all(
     map: &PlaceMap,
     index: &TreeIndex,
@@ -206,8 +206,8 @@ fn descend_all(
     Ok(())
 }
 
-// Adds those that are met on the way down from the pages of the root with this number, if there is one and the operation
-// can cover places of its kind.
+/// Adds those that are met on the way down from the pages of the root with this number, if there is one and the operation
+/// can cover places of its kind.
 fn visit(
     header: &Header,
     map: &PlaceMap,

@@ -34,7 +34,7 @@ use bbm_rules::law_notes_keep_the_events;
 use bbm_tlbi_scope::{Cover, Family, PlaceView, Scope, TagSet, cover};
 use bbm_tree_index::{Path, TreeIndex};
 
-// Whether the core is that of a table.
+/// Whether the core is that of a table.
 fn is_table(core: &Core) -> bool
     ensures { result ≡ is_table_core core.now }
 {
@@ -44,7 +44,7 @@ fn is_table(core: &Core) -> bool
     }
 }
 
-// Whether the core is that of a leaf for every ASID.
+/// Whether the core is that of a leaf for every ASID.
 fn is_global(core: &Core) -> bool
     ensures { result ≡ is_global_core (Some core.now) }
 {
@@ -54,8 +54,8 @@ fn is_global(core: &Core) -> bool
     }
 }
 
-// Whether the cover of a place of this region with this core depends on whether its table is childless: where the scope
-// names pages of any level, and some of the region.
+/// Whether the cover of a place of this region with this core depends on whether its table is childless: where the scope
+/// names pages of any level, and some of the region.
 fn asks_childless(scope: &Scope, region: Interval, core: &Core) -> bool
     ensures { result ≡ (has_page scope.now.family && (is_table_core core.now && (not scope.now.last_only
         && is_none scope.now.level && names_some scope.now.interval region))) }
@@ -69,7 +69,7 @@ fn asks_childless(scope: &Scope, region: Interval, core: &Core) -> bool
     scope.names_some(region)
 }
 
-// Whether the cover of a place of this kind depends on the tags of its root.
+/// Whether the cover of a place of this kind depends on the tags of its root.
 fn asks_tags(family: Family, kind: Kind) -> bool
     ensures { result ≡ spec_asks_tags family kind }
 {
@@ -80,7 +80,7 @@ fn asks_tags(family: Family, kind: Kind) -> bool
     }
 }
 
-// Whether the place holds a table no place of which holds anything, where that is asked.
+/// Whether the place holds a table no place of which holds anything, where that is asked.
 fn childless_where(asked: bool, map: &PlaceMap, index: &TreeIndex, place: Place) -> bool
     requires { IsSound index.now }
     ensures { asked ≡ true → (n : Node) → node_in index.now (page_of place) ≡ Some n
@@ -89,7 +89,7 @@ fn childless_where(asked: bool, map: &PlaceMap, index: &TreeIndex, place: Place)
     asked && index.childless(map, place)
 }
 
-// The tags of the root with this first page, where they are asked.
+/// The tags of the root with this first page, where they are asked.
 fn tags_where(asked: bool, roots: &RootState, first: Page) -> TagSet
     ensures { asked ≡ true → (heading : Heading) (h : List Event) → Stands roots.now heading h
         → result ≡ tag_set (tags_of heading Patterns first h) }

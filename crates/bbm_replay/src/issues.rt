@@ -33,7 +33,7 @@ use std::alloc::Global;
 /// How many places may be broken for a TLBI of one page to look at each of them. Source: project's own choice.
 const FEW: u64 = 8;
 
-// A TLBI of any scope looks at each broken place.
+/// A TLBI of any scope looks at each broken place.
 fn issue_all(
     alloc: Global,
     map: &mut PlaceMap,
@@ -61,7 +61,7 @@ fn issue_all(
     })
 }
 
-// A TLBI of one input page looks at the broken places on the way down to it.
+/// A TLBI of one input page looks at the broken places on the way down to it.
 fn issue_page(
     alloc: Global,
     header: &Header,

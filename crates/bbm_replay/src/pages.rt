@@ -17,7 +17,7 @@ use bbm_replay_roots::law_others;
 use bbm_rules::{Rule, StepFault};
 use std::alloc::Global;
 
-// Whether each place of the page has the value 0.
+/// Whether each place of the page has the value 0.
 fn is_zero(map: &PlaceMap, page: Page) -> bool
     ensures zero { result ≡ true → (a : ℕ) → is_at page a ≡ true → value_at map.now a ≡ 0 }
     ensures other { result ≡ false → (a : ℕ) × (is_at page a ≡ true) × (value_at map.now a ≡ 0 → ⊥) }
@@ -33,7 +33,7 @@ fn is_zero(map: &PlaceMap, page: Page) -> bool
 }
 
 impl Parts {
-    // Whether the page is in a tree or a null page.
+    /// Whether the page is in a tree or a null page.
     fn is_used(&self, page: Page) -> bool
         ensures { result ≡ (is_some (node_in self.now.index page) || null_in self.now.index page) }
     {

@@ -18,7 +18,7 @@ use bbm_rules::StepFault;
 use std::alloc::Global;
 
 impl Parts {
-    // Whether the base of a register value is a null page.
+    /// Whether the base of a register value is a null page.
     fn names_null(&self, value: u64) -> bool
         ensures { (heading : Heading) (h : List Event) → Stands self.now heading h → result ≡ has_null_base h value }
     {

@@ -20,7 +20,7 @@ use bbm_replay_trees::law_restless_places;
 use bbm_rules::Phase;
 use bbm_tree_index::Path;
 
-// How far the PE has come with a broken place.
+/// How far the PE has come with a broken place.
 fn phase_of_marks(marks: &Marks, pe: Pe) -> Phase
     ensures { result ≡ phase_in (TheState.Broken marks.now) pe }
 {
@@ -35,7 +35,7 @@ fn phase_of_marks(marks: &Marks, pe: Pe) -> Phase
     }
 }
 
-// How far the PE has come with a place of this state.
+/// How far the PE has come with a place of this state.
 fn phase_of_state(state: &EntryState, pe: Pe) -> Phase
     ensures { result ≡ phase_in state.now pe }
 {

@@ -16,7 +16,7 @@ use bbm_rules::StepFault;
 use bbm_tlbi_scope::TlbiOp;
 use std::alloc::Global;
 
-// The PEs that the TLBI reaches.
+/// The PEs that the TLBI reaches.
 fn reach_of(header: &Header, pe: Pe, op: TlbiOp) -> PeMask
     ensures { (p : ℕ) → p < header.now.pes
         → pe_in result p ≡ ((operations.operation op).broadcast || (not header.now.cnp && nat_eq pe p)) }

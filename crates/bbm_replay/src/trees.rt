@@ -15,7 +15,7 @@ use bbm_rules::{Rule, StepFault};
 use bbm_tree_index::{Attach, Detach, TreeIndex};
 use std::alloc::Global;
 
-// Whether the page at the address, in bytes, is fresh.
+/// Whether the page at the address, in bytes, is fresh.
 fn is_fresh_at(index: &TreeIndex, at: u64) -> bool
     requires below { at < 2 ^ 48 }
     requires aligned { at % 4096 ≡ 0 }
@@ -27,7 +27,7 @@ fn is_fresh_at(index: &TreeIndex, at: u64) -> bool
     }
 }
 
-// The first of so many consecutive pages that isn't fresh.
+/// The first of so many consecutive pages that isn't fresh.
 fn first_unfresh(index: &TreeIndex, page: Page, count: u8) -> Option<u64>
     requires { page + 4096 * count ≤ 2 ^ 48 }
     ensures { result ≡ least (filter (λ p. not (fresh_in index.now p)) (pages_from page count)) }

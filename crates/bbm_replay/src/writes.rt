@@ -33,7 +33,7 @@ use bbm_rules::{Rule, StepFault};
 use bbm_tree_index::{Attach, Path};
 use std::alloc::Global;
 
-// Whether both are cores, and they differ.
+/// Whether both are cores, and they differ.
 fn differ(old: &Option<Core>, new: &Option<Core>) -> bool
     ensures { result ≡ spec.differ old.now new.now }
 {
@@ -43,14 +43,14 @@ fn differ(old: &Option<Core>, new: &Option<Core>) -> bool
     }
 }
 
-// Whether a write of this value changes an old one that has bit 0 set.
+/// Whether a write of this value changes an old one that has bit 0 set.
 fn rewrites(old: u64, value: u64) -> bool
     ensures { result ≡ (old % 2 == 1 && not (old == value)) }
 {
     old % 2 == 1 && old != value
 }
 
-// Whether it is a leaf with the Contiguous hint.
+/// Whether it is a leaf with the Contiguous hint.
 fn is_contiguous(new: &Option<Core>) -> bool
     ensures { result ≡ leaves.is_contiguous_core new.now }
 {
@@ -60,7 +60,7 @@ fn is_contiguous(new: &Option<Core>) -> bool
     }
 }
 
-// Whether it is a leaf for every ASID.
+/// Whether it is a leaf for every ASID.
 fn is_global(new: &Option<Core>) -> bool
     ensures { result ≡ leaves.is_global_core new.now }
 {
@@ -70,21 +70,21 @@ fn is_global(new: &Option<Core>) -> bool
     }
 }
 
-// Whether it is such a leaf in a tree of the lower range.
+/// Whether it is such a leaf in a tree of the lower range.
 fn is_user_global(kind: Kind, new: &Option<Core>) -> bool
     ensures { result ≡ (same_kind kind Kind.Ttbr0 && leaves.is_global_core new.now) }
 {
     kind == Kind::Ttbr0 && is_global(new)
 }
 
-// Whether no place is broken.
+/// Whether no place is broken.
 fn is_whole(map: &PlaceMap) -> bool
     ensures { result ≡ true → (a : ℕ) → is_some (marks_at map.now a) ≡ true → ⊥ }
 {
     map.restless() == 0
 }
 
-// The next page of a core that is a table.
+/// The next page of a core that is a table.
 fn next_of(core: &Core) -> Option<Page>
     ensures { result ≡ leaves.attached_next None (Some core.now) }
 {
@@ -94,7 +94,7 @@ fn next_of(core: &Core) -> Option<Page>
     }
 }
 
-// The next page that the write attaches, if any.
+/// The next page that the write attaches, if any.
 fn attached_next(old: &Option<Core>, new: &Option<Core>) -> Option<Page>
     ensures { result ≡ leaves.attached_next old.now new.now }
 {
@@ -108,7 +108,7 @@ fn attached_next(old: &Option<Core>, new: &Option<Core>) -> Option<Page>
 }
 
 impl Parts {
-    // A write at a place of no tree.
+    /// A write at a place of no tree.
     fn write_outside(&mut self, pe: Pe, place: Place, value: u64) -> Result<(), StepFault>
         requires may { MayMeet self.old (Write pe place value) }
         requires outside { node_in self.old.index (page_of place) ≡ None }
@@ -130,7 +130,7 @@ impl Parts {
         Ok(())
     }
 
-    // Whether the write makes a valid value at a place in limbo. None is where no place is broken.
+    /// Whether the write makes a valid value at a place in limbo. None is where no place is broken.
     fn makes_in_limbo(&self, place: Place, valid: bool) -> bool
         requires { (heading : Heading) × (h : List Event) × Stands self.now heading h }
         ensures { result ≡ (valid
@@ -146,7 +146,7 @@ impl Parts {
         self.index.in_limbo(&self.map, place)
     }
 
-    // The rules that come first of a write in a tree.
+    /// The rules that come first of a write in a tree.
     fn judge_entry(
         &self,
         pe: Pe,
@@ -176,7 +176,7 @@ impl Parts {
         Ok(())
     }
 
-    // A write in a tree that attaches nothing, after the rules that come first.
+    /// A write in a tree that attaches nothing, after the rules that come first.
     fn write_plain(
         &mut self,
         pe: Pe,
@@ -210,7 +210,7 @@ impl Parts {
         Ok(())
     }
 
-    // A write in a tree that attaches the next page, after the rules that come first.
+    /// A write in a tree that attaches the next page, after the rules that come first.
     fn write_attaching(
         &mut self,
         alloc: Global,
@@ -249,7 +249,7 @@ impl Parts {
         }
     }
 
-    // A write at a place of a tree, which is kept at this seat.
+    /// A write at a place of a tree, which is kept at this seat.
     fn write_inside(
         &mut self,
         alloc: Global,

@@ -24,7 +24,7 @@ pub struct RootState {
     locks: Locks,
 }
 
-// Why there is no room for a root, by the fault of the roots.
+/// Why there is no room for a root, by the fault of the roots.
 fn room_fault(fault: RootFault) -> StepFault
     ensures { result ≡ faults.room_fault fault }
 {
@@ -37,7 +37,7 @@ fn room_fault(fault: RootFault) -> StepFault
     }
 }
 
-// Why a register write isn't taken, by the fault of the roots.
+/// Why a register write isn't taken, by the fault of the roots.
 fn write_fault(fault: RootFault) -> StepFault
     ensures { result ≡ faults.write_fault fault }
 {
@@ -49,7 +49,7 @@ fn write_fault(fault: RootFault) -> StepFault
     }
 }
 
-// The rule that an `unroot` breaks, by the fault of the roots.
+/// The rule that an `unroot` breaks, by the fault of the roots.
 fn retire_rule(fault: RootFault) -> Rule
     ensures { result ≡ faults.unroot_rule fault }
 {
@@ -201,8 +201,8 @@ impl RootState {
         }
     }
 
-    // The VMID under which the PE issues its TLBIs, 0 to 65535: None where two of its readable values of VTTBR_EL2
-    // have different ones; 0 in the Kernel world.
+    /// The VMID under which the PE issues its TLBIs, 0 to 65535: None where two of its readable values of VTTBR_EL2
+    /// have different ones; 0 in the Kernel world.
     fn vmid_of(&self, pe: Pe) -> Option<u16>
         requires { MayAsk (Stands self.now) pe }
         ensures { (heading : Heading) (h : List TheEvent) → Stands self.now heading h

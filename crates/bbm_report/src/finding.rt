@@ -18,7 +18,7 @@ use bbm_rules::Checker;
 use bbm_walk_s1::S1Root;
 use bbm_walk_s2::S2Root;
 
-// Whether the input range of the kind is the high one.
+/// Whether the input range of the kind is the high one.
 fn is_high(kind: Kind) -> bool
     ensures { result ≡ same_kind kind Ttbr1 }
 {
@@ -28,7 +28,7 @@ fn is_high(kind: Kind) -> bool
     }
 }
 
-// The number of joined pages of a stage 2 root.
+/// The number of joined pages of a stage 2 root.
 #[tactic(auto, using(crate::proofs::Starts::joined))]
 fn joined_pages(header: &Header) -> u8
     ensures count { result ≡ worlds.page_count header.now.world S2 }
@@ -38,7 +38,7 @@ fn joined_pages(header: &Header) -> u8
     header.page_count(Kind::S2)
 }
 
-// The stage 2 root at the page, None where the page isn't aligned to all pages of a root.
+/// The stage 2 root at the page, None where the page isn't aligned to all pages of a root.
 fn joined_root(header: &Header, page: Page) -> Option<S2Root>
     ensures aligned { IsSome result ↔ (page % (4096 * worlds.page_count header.now.world S2) ≡ 0) }
     ensures start { IfSome result (λ root. root.start ≡ worlds.start_of header.now.world S2) }

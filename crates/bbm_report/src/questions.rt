@@ -1,4 +1,5 @@
 //! What the command `walk` is asked.
+//! Source: project's own choice, where no other is named.
 
 ghost use Rattle.std.specs.Prelude.{◌≡◌, map};
 ghost use Rattle.std.specs.String.{string_bytes};
@@ -7,7 +8,7 @@ ghost use Rattle.bbm_report.specs.Questions.{question_of, walk_asked};
 use bbm_log_grammar::{kind_named, page_of, read_hex};
 use bbm_regimes::{Kind, Page};
 
-/// Where the tables of a root map an address. Source: project's own choice.
+/// Where the tables of a root map an address.
 #[derive(Clone, Copy, Debug, PartialEq, Eq)]
 pub struct Question {
     /// The kind of the root.
@@ -18,7 +19,7 @@ pub struct Question {
     pub addr: u64,
 }
 
-// The question of three words.
+/// The question of three words.
 fn read_question(kind: &[u8], root: &[u8], addr: &[u8]) -> Option<Question>
     ensures { result ≡ question_of kind.now root.now addr.now }
 {
@@ -29,7 +30,7 @@ fn read_question(kind: &[u8], root: &[u8], addr: &[u8]) -> Option<Question>
 }
 
 /// The question of the words `walk KIND ROOT ADDR`; None for any other words. KIND is `el2`, `s2`, `ttbr0` or `ttbr1`;
-/// ROOT is a page and ADDR a number below 2^64, each in its one hex spelling. Source: project's own choice.
+/// ROOT is a page and ADDR a number below 2^64, each in its one hex spelling.
 pub fn asked(words: &[String]) -> Option<Question>
     ensures { result ≡ walk_asked (map string_bytes words.now) }
 {

@@ -11,7 +11,7 @@ use bbm_log_grammar::{add, add_decimal, add_hex};
 use bbm_regimes::Which;
 use bbm_rules::{Rule, Verdict};
 
-// A space, the mark `@` and the label, where there is one.
+/// A space, the mark `@` and the label, where there is one.
 #[tactic(auto, using(bbm_log_grammar::proofs::Parts::label_length))]
 fn add_label(out: &mut ArrayVec<u8, 200>, label: Option<Label>)
     requires room { array_vec_len out.old ≤ 100 }
@@ -24,7 +24,7 @@ fn add_label(out: &mut ArrayVec<u8, 200>, label: Option<Label>)
     }
 }
 
-// The text of a refusal.
+/// The text of a refusal.
 #[tactic(auto, unfolding(bbm_rules::specs::Texts::verdict_text))]
 fn add_refused(out: &mut ArrayVec<u8, 200>, line: u64, rule: Rule, at: u64, label: Option<Label>)
     requires { out.old.items ≡ [] }
@@ -40,7 +40,7 @@ fn add_refused(out: &mut ArrayVec<u8, 200>, line: u64, rule: Rule, at: u64, labe
     add(out, b"\n");
 }
 
-// The text of a malformed line.
+/// The text of a malformed line.
 #[tactic(auto, unfolding(bbm_rules::specs::Texts::verdict_text))]
 fn add_malformed(out: &mut ArrayVec<u8, 200>, line: u64, cause: Malformed)
     requires { out.old.items ≡ [] }
@@ -53,7 +53,7 @@ fn add_malformed(out: &mut ArrayVec<u8, 200>, line: u64, cause: Malformed)
     add(out, b"\n");
 }
 
-// The text of a limit.
+/// The text of a limit.
 #[tactic(auto, unfolding(bbm_rules::specs::Texts::verdict_text))]
 fn add_limit(out: &mut ArrayVec<u8, 200>, line: u64, which: Which)
     requires { out.old.items ≡ [] }
@@ -66,7 +66,7 @@ fn add_limit(out: &mut ArrayVec<u8, 200>, line: u64, which: Which)
     add(out, b"\n");
 }
 
-// The text of an accepted log.
+/// The text of an accepted log.
 #[tactic(auto, unfolding(bbm_rules::specs::Texts::verdict_text))]
 fn add_accepted(out: &mut ArrayVec<u8, 200>, events: u64)
     requires { out.old.items ≡ [] }

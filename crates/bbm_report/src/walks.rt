@@ -1,4 +1,5 @@
 //! The line of a walk.
+//! Source: project's own choice, where no other is named.
 
 ghost use Rattle.std.specs.Prelude.{◌≡◌, []};
 ghost use Rattle.bbm_descriptor.specs.declared.walk.Walk.{Walk as WalkOf};
@@ -8,7 +9,7 @@ use arrayvec::ArrayVec;
 use bbm_descriptor::Walk;
 use bbm_log_grammar::{add, add_decimal, add_hex};
 
-/// Puts the line of a walk's answer, with its newline, into `out`, which is empty. Source: project's own choice.
+/// Puts the line of a walk's answer, with its newline, into `out`, which is empty.
 #[tactic(auto, unfolding(crate::specs::Lines::walk_text))]
 pub fn walk_text(walk: Walk, out: &mut ArrayVec<u8, 200>)
     requires { out.old.items ≡ [] }
@@ -29,7 +30,7 @@ pub fn walk_text(walk: Walk, out: &mut ArrayVec<u8, 200>)
     add(out, b"\n");
 }
 
-/// The same of what `walk` found: the answer, or None where there is no such root. Source: project's own choice.
+/// The same of what `walk` found: the answer, or None where there is no such root.
 #[tactic(auto, unfolding(crate::specs::Lines::found_text))]
 pub fn found_text(found: Option<Walk>, out: &mut ArrayVec<u8, 200>)
     requires { out.old.items ≡ [] }

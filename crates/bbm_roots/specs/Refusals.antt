@@ -1,4 +1,5 @@
 -- Why a call is refused, and when it is taken. A list of calls is newest first.
+-- Source: project's own choice, where no other is named.
 use Rattle.std.specs.Prelude.{◌≡◌, ◌<◌, ◌≤◌, ℕ, Bool, not, ◌==◌, ◌&&◌, Option, Some, None, IsSome, Result, Ok, Err}
 use Rattle.std.specs.Prelude.{List, if◌then◌else◌}
 use Rattle.std.specs.List.{list_any}
@@ -22,7 +23,7 @@ use Rattle.bbm_roots.specs.declared.reading.Reading.{Reading}
 use Rattle.bbm_roots.specs.declared.root.Declared.{Declared}
 
 -- The base of a value, where it is neither that of a declared root of the kind, nor a null page, which counts in
--- TTBR0_EL1 alone. Source: project's own choice.
+-- TTBR0_EL1 alone.
 abbrev pub unless_root : List Call → Kind → Option ℕ → Option ℕ
 unless_root cs kind None = None
 unless_root cs kind (Some base) = if is_root cs kind base then None else Some base
@@ -31,13 +32,13 @@ abbrev pub missing_root : List Call → Reg → ℕ → Bool → Option ℕ
 missing_root cs reg value null = unless_root cs (kind_of_reg reg) (root_of reg value null)
 
 -- Tag conflict: the root holds the tag, which is readable at p for another root. The list of calls is the one with the
--- register write. Source: project's own choice.
+-- register write.
 abbrev pub conflicts : World → ℕ → List Call → ℕ → Reading → Bool
 conflicts world pes cs p x = has_other x.tag x.root (readings world cs p) && holds_tag world pes cs x.tag x.root
 
 -- A register write is taken where its value misses no root, nothing conflicts, and the register has fewer than nine
 -- readable values. The first of these that fails refuses it: the root with the least first page, of those in conflict,
--- and its first tag. Memory may be wanting once no root is missing. Source: project's own choice.
+-- and its first tag. Memory may be wanting once no root is missing.
 module _ {A : Type 0} (missing : Option ℕ) (conflict : Reading → Bool) (values : ℕ) where
   abbrev pub JudgesWrite : Result A RootFault → Type 0
   JudgesWrite (Ok _) = (missing ≡ None) × IsLeast ReadingUpTo conflict None × (values < 9)
@@ -49,7 +50,7 @@ module _ {A : Type 0} (missing : Option ℕ) (conflict : Reading → Bool) (valu
   JudgesWrite (Err _) = ⊥
 
 -- A root is retired where it is declared, is the base of no readable value, and holds no tag. Else the page, the least
--- PE with such a value, or the first tag tells why not. Source: project's own choice.
+-- PE with such a value, or the first tag tells why not.
 module _ (page : ℕ) (root : Option Declared) (uses_it : ℕ → Bool) (holds_it : Tag → Bool) where
   abbrev pub JudgesRetire : {A : Type 0} → Result A RootFault → Type 0
   JudgesRetire (Ok _) = IsSome root × IsLeast UpTo uses_it None × IsLeast TagUpTo holds_it None
@@ -67,7 +68,6 @@ abbrev pub other_number : List Load → Option ℕ → ℕ → Bool
 other_number loads than n = list_any (is_other_number than n) loads
 
 -- A PE's TLBIs have the one VMID of its readable values, or these two are the least of several.
--- Source: project's own choice.
 module _ (vmid : Option ℕ) (loads : List Load) where
   abbrev pub JudgesVmid : Result ℕ Unsynced → Type 0
   JudgesVmid (Ok n) = vmid ≡ Some n

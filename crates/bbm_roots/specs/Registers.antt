@@ -1,4 +1,5 @@
 -- The root registers of a PE: what the values that may still be in use name. A list of calls is newest first.
+-- Source: project's own choice, where no other is named.
 use Rattle.std.specs.Prelude.{ℕ, Bool, true, false, ◌&&◌, ◌||◌, ◌==◌, List, [], ◌∷◌, Option, Some}
 use Rattle.std.specs.Prelude.{None, if◌then◌else◌}
 use Rattle.std.specs.List.{list_any}
@@ -11,7 +12,7 @@ use Rattle.bbm_regimes.specs.declared.regime.World.TheVariants.{Hyp, Kernel}
 use Rattle.bbm_roots.specs.Calls.{Call, Isb, WriteReg}
 use Rattle.bbm_roots.specs.declared.load.Load.{Load}
 
--- The two registers of a world. Source: project's own choice.
+-- The two registers of a world.
 abbrev pub first_reg : World → Reg
 first_reg (Hyp world) = Ttbr0El2
 first_reg (Kernel world) = Ttbr0El1
@@ -30,7 +31,6 @@ abbrev pub is_of_world : World → Reg → Bool
 is_of_world world reg = same_reg reg (first_reg world) || same_reg reg (second_reg world)
 
 -- whether a value means that no walk is made: a null page as the base of TTBR0_EL1
--- Source: project's own choice.
 abbrev pub names_null : Reg → Bool → Bool
 names_null Ttbr0El1 null = null
 names_null _ null = false
@@ -74,7 +74,7 @@ names_page page load = is_that load.root page
 abbrev pub names_in : List Load → ℕ → Bool
 names_in loads page = list_any (names_page page) loads
 
--- Whether a readable value of p has this base. Source: project's own choice.
+-- Whether a readable value of p has this base.
 abbrev pub uses : World → List Call → ℕ → ℕ → Bool
 uses world cs page p =
     names_in (register_values cs p (first_reg world)) page || names_in (register_values cs p (second_reg world)) page

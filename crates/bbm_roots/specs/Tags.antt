@@ -1,4 +1,5 @@
 -- Tags: under which a PE may read through a root, and which a root holds. A list of calls is newest first.
+-- Source: project's own choice, where no other is named.
 use Rattle.std.specs.Prelude.{ℕ, Bool, true, false, ◌&&◌, ◌||◌, not, nat_eq, ◌==◌, List, [], ◌∷◌, Option, Some, None}
 use Rattle.std.specs.Prelude.{if◌then◌else◌}
 use Rattle.bbm_barriers.specs.Options.{answers}
@@ -64,7 +65,7 @@ module _ (world : World) where
   holds_at [] tag root p = false
   holds_at (c ∷ cs) tag root p = reads (c ∷ cs) p tag root || (holds_at cs tag root p && not (loses c cs tag p))
 
-  -- Tag held by a root: at one of the PEs. Source: project's own choice.
+  -- Tag held by a root: at one of the PEs.
   abbrev pub holds_tag : ℕ → List Call → Tag → ℕ → Bool
   holds_tag pes cs tag root = some_pe pes (holds_at cs tag root)
 
@@ -79,7 +80,6 @@ one_number (load ∷ loads) = if all_are load.number loads then Some load.number
 
 -- The VMID under which a PE issues its TLBIs: the one VMID of the values of VTTBR_EL2 that it may still use, None
 -- where there are several. In the Kernel world 0 stands for the one VMID, which isn't logged.
--- Source: project's own choice.
 abbrev pub vmid_of : World → List Call → ℕ → Option ℕ
 vmid_of (Hyp world) cs p =
     one_number (register_values cs p (second_reg (Hyp world)))

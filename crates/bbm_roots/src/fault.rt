@@ -1,9 +1,10 @@
 //! Why a call is refused.
+//! Source: project's own choice, where no other is named.
 
 use bbm_regimes::{NoMemory, Page, Pe, Tag, Which};
 use thiserror::Error;
 
-/// What keeps a root from being retired. Source: project's own choice.
+/// What keeps a root from being retired.
 #[derive(Clone, Copy, Debug, PartialEq, Eq)]
 pub enum InUse {
     /// The first PE that may still use a register value with this base.
@@ -12,7 +13,7 @@ pub enum InUse {
     Tag(Tag),
 }
 
-/// Why a call of `Roots` is refused. Source: project's own choice.
+/// Why a call of `Roots` is refused.
 #[derive(Clone, Copy, Debug, PartialEq, Eq, Error)]
 pub enum RootFault {
     /// There was no memory.
@@ -43,6 +44,6 @@ impl From<NoMemory> for RootFault {
     }
 }
 
-/// The VMIDs of a PE differ: the two least of them. Source: project's own choice.
+/// The VMIDs of a PE differ: the two least of them.
 #[derive(Clone, Copy, Debug, PartialEq, Eq)]
 pub struct Unsynced(pub u16, pub u16);

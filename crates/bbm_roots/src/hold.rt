@@ -1,4 +1,5 @@
 //! Which PEs hold a tag for a root.
+//! Source: project's own choice, where no other is named.
 
 ghost use Rattle.std.specs.Prelude.{◌≡◌, ℕ, ◌≤◌, Bool, ◌&&◌, ◌||◌, not, nat_eq, true, false, Option, Some, None, is_some, OnOk, if◌then◌else◌};
 ghost use Rattle.indexmap.specs.IndexMap.{get, values};
@@ -14,10 +15,10 @@ use bbm_barriers::Dsb;
 use bbm_regimes::{NoMemory, Page, Pe, PeMask, Tag, same_tag};
 use indexmap::IndexMap;
 
-/// The tags that are held, each with its root and the PEs, by the key of the tag. Source: project's own choice.
+/// The tags that are held, each with its root and the PEs, by the key of the tag.
 pub type Holds = IndexMap<u32, Held>;
 
-/// The PEs at which a root holds a tag. Source: project's own choice.
+/// The PEs at which a root holds a tag.
 #[derive(Clone, Copy, Debug)]
 pub struct Held {
     /// The tag.
@@ -37,14 +38,14 @@ pub fn some_pe(pes: PeMask, n: u8) -> bool
     !pes.and(PeMask::all(n)).is_empty()
 }
 
-// Whether the entry is that of the tag and the root.
+/// Whether the entry is that of the tag and the root.
 fn is_hold(held: &Held, tag: Tag, root: Page) -> bool
     ensures { result ≡ spec.is_hold tag root held.now }
 {
     same_tag(held.tag, tag) && held.root == root
 }
 
-/// The key of a tag, which is no other tag's, 0 to 131073. Source: project's own choice.
+/// The key of a tag, which is no other tag's, 0 to 131073.
 pub fn tag_key(tag: Tag) -> u32
     ensures { result ≡ spec.tag_key tag }
 {
@@ -63,7 +64,7 @@ pub fn entries(holds: &Holds) -> &[Held]
     holds.values().as_slice()
 }
 
-// Makes an entry of the tag and the root, with no PE in it, where the tag has none.
+/// Makes an entry of the tag and the root, with no PE in it, where the tag has none.
 fn make_entry(holds: &mut Holds, tag: Tag, root: Page) -> Result<(), NoMemory>
     ensures same { (g : TheTag) (r p : ℕ) → spec.hold_in holds.new g r p ≡ spec.hold_in holds.old g r p }
     ensures made { OnOk result ((g : TheTag) → spec.has_entry holds.new g ≡ (spec.has_entry holds.old g || spec_same_tag tag g)) }
@@ -90,7 +91,7 @@ pub fn make_room(holds: &mut Holds, readings: &[Reading]) -> Result<(), NoMemory
     Ok(())
 }
 
-// The entry of the tag with the PE in it: for this root, where another may have been there before.
+/// The entry of the tag with the PE in it: for this root, where another may have been there before.
 fn entered(held: Held, tag: Tag, root: Page, pe: Pe) -> Held
     ensures { (r p : ℕ) → spec.holds_bit tag r p result ≡ (nat_eq root r && (spec.holds_bit tag r p held || nat_eq p pe)) }
 {
@@ -103,7 +104,7 @@ fn entered(held: Held, tag: Tag, root: Page, pe: Pe) -> Held
     Held { tag, root, pes }
 }
 
-// Puts the PE into the entry of the tag, for this root alone.
+/// Puts the PE into the entry of the tag, for this root alone.
 fn mark_one(holds: &mut Holds, tag: Tag, root: Page, pe: Pe)
     requires { spec.has_entry holds.old tag ≡ true }
     ensures bits { (g : TheTag) (r p : ℕ) → spec.hold_in holds.new g r p ≡ (if spec_same_tag tag g
@@ -113,7 +114,7 @@ fn mark_one(holds: &mut Holds, tag: Tag, root: Page, pe: Pe)
     enter(holds, tag_key(tag), tag, root, pe);
 }
 
-// The same, by the key of the tag.
+/// The same, by the key of the tag.
 fn enter(holds: &mut Holds, key: u32, tag: Tag, root: Page, pe: Pe)
     requires { is_some (get nat_eq holds.old key) ≡ true }
     ensures others { (q : ℕ) → nat_eq key q ≡ false → get nat_eq holds.new q ≡ get nat_eq holds.old q }
@@ -138,7 +139,7 @@ pub fn mark(holds: &mut Holds, readings: &[Reading], pe: Pe)
     }
 }
 
-// Takes the PEs out of the entry of the tag, and forgets it where none is left.
+/// Takes the PEs out of the entry of the tag, and forgets it where none is left.
 fn take_from(holds: &mut Holds, tag: Tag, pes: PeMask)
     ensures { (g : TheTag) (r p : ℕ) → spec.hold_in holds.new g r p
         ≡ (spec.hold_in holds.old g r p && not (spec_same_tag tag g && pe_in pes p)) }
@@ -148,7 +149,7 @@ fn take_from(holds: &mut Holds, tag: Tag, pes: PeMask)
     put_back(holds, key, left);
 }
 
-// Puts an entry into the place of the key's, or forgets the key's where there is none.
+/// Puts an entry into the place of the key's, or forgets the key's where there is none.
 fn put_back(holds: &mut Holds, key: u32, entry: Option<Held>)
     requires { is_some entry ≡ true → is_some (get nat_eq holds.old key) ≡ true }
     ensures { (q : ℕ) → get nat_eq holds.new q ≡ (if nat_eq key q then entry else get nat_eq holds.old q) }
@@ -161,7 +162,7 @@ fn put_back(holds: &mut Holds, key: u32, entry: Option<Held>)
     }
 }
 
-// Puts an entry into the place of the key's.
+/// Puts an entry into the place of the key's.
 fn overwrite(holds: &mut Holds, key: u32, entry: Held)
     requires { is_some (get nat_eq holds.old key) ≡ true }
     ensures { (q : ℕ) → get nat_eq holds.new q ≡ (if nat_eq key q then Some entry else get nat_eq holds.old q) }
@@ -172,7 +173,7 @@ fn overwrite(holds: &mut Holds, key: u32, entry: Held)
     }
 }
 
-// The entry without the PEs, where one is left.
+/// The entry without the PEs, where one is left.
 fn left_of(holds: &Holds, key: u32, pes: PeMask) -> Option<Held>
     ensures bits { (g : TheTag) (r p : ℕ) → spec.entry_bit g r p result
         ≡ (spec.entry_bit g r p (get nat_eq holds.now key) && not (pe_in pes p)) }
@@ -184,7 +185,7 @@ fn left_of(holds: &Holds, key: u32, pes: PeMask) -> Option<Held>
     }
 }
 
-// The entry without the PEs; None where no PE is left in it.
+/// The entry without the PEs; None where no PE is left in it.
 fn without(held: Held, pes: PeMask) -> Option<Held>
     ensures { (g : TheTag) (r p : ℕ) → spec.entry_bit g r p result ≡ (spec.holds_bit g r p held && not (pe_in pes p)) }
 {
@@ -210,7 +211,7 @@ pub fn release(holds: &mut Holds, pendings: &[Pending], issuer: Pe, dsb: Dsb)
     }
 }
 
-// Takes the entry's tag away where a DSB of the issuer answers the entry's TLBIs.
+/// Takes the entry's tag away where a DSB of the issuer answers the entry's TLBIs.
 fn release_one(holds: &mut Holds, pending: &Pending, issuer: Pe, dsb: Dsb)
     ensures { (g : TheTag) (r p : ℕ) → spec.hold_in holds.new g r p
         ≡ (spec.hold_in holds.old g r p && not (answered_bit issuer dsb g p pending.now)) }

@@ -16,7 +16,7 @@ use crate::registers::Registers;
 use bbm_regimes::{NoMemory, Pe, PeMask, Tag};
 use bbm_tlbi_scope::{Family, Scope, whole_tag};
 
-// Whether a TLBI of this scope, under this VMID, takes the whole tag.
+/// Whether a TLBI of this scope, under this VMID, takes the whole tag.
 fn takes(scope: &Scope, vmid: Option<u16>, tag: Tag) -> bool
     ensures { result ≡ takes_whole_tag scope.now vmid tag }
 {
@@ -35,7 +35,7 @@ pub fn takes_tags(scope: &Scope) -> bool
     )
 }
 
-// Makes an entry of the issuer and the tag, with no PE in it, where there is none.
+/// Makes an entry of the issuer and the tag, with no PE in it, where there is none.
 fn make_entry(
     pendings: &mut Vec<Pending>,
     issuer: Pe,
@@ -62,7 +62,7 @@ fn make_entry(
         .map_err(|_| NoMemory)
 }
 
-// The one tag of which alone TLBIs of this scope, under this VMID, take the whole; None where there may be more.
+/// The one tag of which alone TLBIs of this scope, under this VMID, take the whole; None where there may be more.
 fn one_tag(scope: &Scope, vmid: Option<u16>) -> Option<Tag>
     ensures { IfSome result (λ one. (tag : TheTag) → takes_whole_tag scope.now vmid tag ≡ true → tag ≡ one) }
 {
@@ -80,7 +80,7 @@ fn one_tag(scope: &Scope, vmid: Option<u16>) -> Option<Tag>
     }
 }
 
-// Makes an entry of the issuer for the tag, where it is held.
+/// Makes an entry of the issuer for the tag, where it is held.
 fn make_one(
     pendings: &mut Vec<Pending>,
     holds: &Holds,
@@ -100,7 +100,7 @@ fn make_one(
     }
 }
 
-// Makes an entry of the issuer for each tag that is held and that its TLBI takes.
+/// Makes an entry of the issuer for each tag that is held and that its TLBI takes.
 fn make_each(
     pendings: &mut Vec<Pending>,
     holds: &Holds,
@@ -143,15 +143,15 @@ pub fn make_room(
     }
 }
 
-// Whether the entry is one of the issuer's, broadcast or not.
+/// Whether the entry is one of the issuer's, broadcast or not.
 fn is_of(pending: &Pending, issuer: Pe, broadcast: bool) -> bool
     ensures { result ≡ (nat_eq pending.now.issuer issuer && spec.same_flag pending.now.broadcast broadcast) }
 {
     pending.issuer.get() == issuer.get() && pending.broadcast == broadcast
 }
 
-// The PEs that the TLBI reaches and at which the entry's tag is readable for no root, where the entry is one of the
-// issuer and the TLBI takes its tag.
+/// The PEs that the TLBI reaches and at which the entry's tag is readable for no root, where the entry is one of the
+/// issuer and the TLBI takes its tag.
 fn added(
     pending: &Pending,
     registers: &Registers,
@@ -173,7 +173,7 @@ fn added(
     }
 }
 
-// Puts these PEs into the entry.
+/// Puts these PEs into the entry.
 fn note_one(
     pending: &mut Pending,
     registers: &Registers,

@@ -1,4 +1,5 @@
 //! What the value of a root register names.
+//! Source: project's own choice, where no other is named.
 
 ghost use Rattle.std.specs.Prelude.{◌≡◌};
 ghost use Rattle.bbm_roots.specs.Registers as spec;
@@ -16,21 +17,21 @@ pub struct Load {
 }
 
 /// Whether a value of this register, whose base is a null page or isn't, as `null` says, means that no walk is
-/// made. Source: project's own choice.
+/// made.
 pub fn names_null(reg: Reg, null: bool) -> bool
     ensures { result ≡ spec.names_null reg null }
 {
     matches!(reg, Reg::Ttbr0El1) && null
 }
 
-/// Whether the register is the first of its world: TTBR0_EL2, or TTBR0_EL1. Source: project's own choice.
+/// Whether the register is the first of its world: TTBR0_EL2, or TTBR0_EL1.
 pub fn is_first(reg: Reg) -> bool
     ensures { result ≡ spec.is_first reg }
 {
     matches!(reg, Reg::Ttbr0El2 | Reg::Ttbr0El1)
 }
 
-/// Whether the register is one of the world. Source: project's own choice.
+/// Whether the register is one of the world.
 pub fn is_of_world(world: World, reg: Reg) -> bool
     ensures { result ≡ spec.is_of_world world reg }
 {
@@ -40,7 +41,7 @@ pub fn is_of_world(world: World, reg: Reg) -> bool
     }
 }
 
-// Whether the root is there and is this page.
+/// Whether the root is there and is this page.
 fn is_that(root: Option<Page>, page: Page) -> bool
     ensures { result ≡ spec.is_that root page }
 {

@@ -38,7 +38,7 @@ pub fn answers(dsb: Dsb, broadcast: bool) -> bool
     }
 }
 
-// Whether the entry is that of the issuer and the tag.
+/// Whether the entry is that of the issuer and the tag.
 fn is_pending(pending: &Pending, issuer: Pe, broadcast: bool, tag: Tag) -> bool
     ensures { result ≡ spec.is_pending issuer broadcast tag pending.now }
 {
@@ -84,7 +84,7 @@ pub fn settle(pendings: &mut Vec<Pending>, issuer: Pe, dsb: Dsb)
     );
 }
 
-// Takes the PE out of the entry where the entry's tag is among those that are readable.
+/// Takes the PE out of the entry where the entry's tag is among those that are readable.
 fn clear_one(pending: &mut Pending, readings: &[Reading], pe: Pe)
     ensures { (q : ℕ) (broadcast : Bool) (tag : TheTag) (p : ℕ) → spec.pending_bit q broadcast tag p pending.new
         ≡ (spec.pending_bit q broadcast tag p pending.old && not (nat_eq p pe && spec_has_tag tag readings.now)) }

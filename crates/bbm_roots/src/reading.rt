@@ -1,4 +1,5 @@
 //! Readable tags: what the readable values of the registers of a PE name, each with its tag.
+//! Source: project's own choice, where no other is named.
 
 ghost use Rattle.std.specs.Prelude.{◌≡◌, ℕ, ◌++◌, flat_map, OnOk, IfOk};
 ghost use Rattle.bbm_roots.specs.Readings as spec;
@@ -8,7 +9,7 @@ use bbm_regimes::{AsidFrom, Kind, NoMemory, Page, Tag, World, same_tag};
 use smallvec::SmallVec;
 use std::alloc::Global;
 
-/// A tag that is readable for a root. Source: project's own choice.
+/// A tag that is readable for a root.
 #[derive(Clone, Copy, Debug, PartialEq, Eq)]
 pub struct Reading {
     /// The tag.
@@ -17,7 +18,7 @@ pub struct Reading {
     pub root: Page,
 }
 
-/// The place of a tag in the order `El2`, VMIDs, ASIDs, `Ttbr1`, 0 to 131073. Source: project's own choice.
+/// The place of a tag in the order `El2`, VMIDs, ASIDs, `Ttbr1`, 0 to 131073.
 pub fn tag_rank(tag: Tag) -> u32
     ensures { result ≡ spec.tag_rank tag }
 {
@@ -50,10 +51,10 @@ impl Default for Reading {
     }
 }
 
-/// Readable tags, each with its root. Few of them take no memory. Source: project's own choice.
+/// Readable tags, each with its root. Few of them take no memory.
 pub type Readings = SmallVec<Reading, 4>;
 
-// Adds the tag with the root, where there is one.
+/// Adds the tag with the root, where there is one.
 fn add(readings: &mut Readings, tag: Tag, root: Option<Page>) -> Result<(), NoMemory>
     ensures { OnOk result (readings.new.items ≡ readings.old.items ++ spec.reading_at tag root) }
 {
@@ -63,7 +64,7 @@ fn add(readings: &mut Readings, tag: Tag, root: Option<Page>) -> Result<(), NoMe
     }
 }
 
-// Adds what the values of the register of a kind name, each with its own VMID or ASID.
+/// Adds what the values of the register of a kind name, each with its own VMID or ASID.
 fn add_own(readings: &mut Readings, kind: Kind, loads: &[Load]) -> Result<(), NoMemory>
     ensures { OnOk result (readings.new.items ≡ readings.old.items ++ flat_map (spec.own_reading kind) loads.now) }
 {
@@ -73,7 +74,7 @@ fn add_own(readings: &mut Readings, kind: Kind, loads: &[Load]) -> Result<(), No
     Ok(())
 }
 
-// The same of values in two parts.
+/// The same of values in two parts.
 fn add_all(
     readings: &mut Readings,
     kind: Kind,
@@ -87,7 +88,7 @@ fn add_all(
     add_own(readings, kind, others)
 }
 
-// Adds what the values of TTBR0_EL1 name, under this ASID.
+/// Adds what the values of TTBR0_EL1 name, under this ASID.
 fn add_under(readings: &mut Readings, tag: Tag, loads: &[Load]) -> Result<(), NoMemory>
     ensures { OnOk result (readings.new.items ≡ readings.old.items ++ flat_map (spec.reading_under tag) loads.now) }
 {
@@ -97,7 +98,7 @@ fn add_under(readings: &mut Readings, tag: Tag, loads: &[Load]) -> Result<(), No
     Ok(())
 }
 
-// The same of values in two parts.
+/// The same of values in two parts.
 fn add_all_under(
     readings: &mut Readings,
     tag: Tag,
@@ -111,7 +112,7 @@ fn add_all_under(
     add_under(readings, tag, others)
 }
 
-// Adds what the values of TTBR0_EL1 name, under each ASID of values of TTBR1_EL1.
+/// Adds what the values of TTBR0_EL1 name, under each ASID of values of TTBR1_EL1.
 fn add_each(
     readings: &mut Readings,
     newest: &[Load],
@@ -127,8 +128,8 @@ fn add_each(
     Ok(())
 }
 
-// Adds what the values of TTBR0_EL1 name, each under its own ASID or under those of the values of TTBR1_EL1. Both come
-// in two parts.
+/// Adds what the values of TTBR0_EL1 name, each under its own ASID or under those of the values of TTBR1_EL1. Both come
+/// in two parts.
 fn add_asids(
     readings: &mut Readings,
     asid_from: AsidFrom,
@@ -205,14 +206,14 @@ pub fn has_other(readings: &[Reading], tag: Tag, root: Page) -> bool
     readings.iter().any(|reading| same_tag(reading.tag, tag) && reading.root != root)
 }
 
-// Whether one of the values names a root.
+/// Whether one of the values names a root.
 fn names_some(loads: &[Load]) -> bool
     ensures { result ≡ spec.names_some loads.now }
 {
     loads.iter().any(|load| load.root.is_some())
 }
 
-// Whether one of the values names a root with this VMID or ASID.
+/// Whether one of the values names a root with this VMID or ASID.
 fn names_with(loads: &[Load], number: u16) -> bool
     ensures { result ≡ spec.names_with number loads.now }
 {
@@ -221,14 +222,14 @@ fn names_with(loads: &[Load], number: u16) -> bool
         .any(|load| load.root.is_some() && load.number == number)
 }
 
-// Whether one of the values has this ASID.
+/// Whether one of the values has this ASID.
 fn has_number(loads: &[Load], number: u16) -> bool
     ensures { result ≡ spec.has_number number loads.now }
 {
     loads.iter().any(|load| load.number == number)
 }
 
-// Whether an ASID is readable for some root.
+/// Whether an ASID is readable for some root.
 fn reads_asid(asid_from: AsidFrom, first: &[Load], second: &[Load], number: u16) -> bool
     ensures { result ≡ spec.reads_asid asid_from first.now second.now number }
 {

@@ -1,4 +1,5 @@
 //! The register values of each PE that may still be in use.
+//! Source: project's own choice, where no other is named.
 #![tactic(auto)]
 
 ghost use Rattle.std.specs.Prelude.{◌≡◌, ℕ, ◌<◌, ◌≤◌, ◌+◌, ◌∷◌, ◌++◌, [], nat_eq, nat_le, length, vec_len, ◌&&◌, ◌||◌, IfOk, OnOk, if◌then◌else◌};
@@ -14,7 +15,7 @@ use bbm_regimes::{NoMemory, Page, Pe, PeMask, Reg, Tag, World};
 use std::alloc::Global;
 
 /// The values of one register that may still be in use, the newest first: one that every PE starts with or
-/// made its own by an ISB, and eight written since. Source: project's own choice.
+/// made its own by an ISB, and eight written since.
 pub type Loads = ArrayVec<Load, 9>;
 
 /// The values of one register of a PE that may still be in use, the newest first.
@@ -33,7 +34,7 @@ pub fn is_full(column: &Vec<Loads>, pe: Pe) -> bool
     column[pe.get() as usize].is_full()
 }
 
-// Puts the value in front of the others.
+/// Puts the value in front of the others.
 fn put_front(loads: &mut Loads, number: u16, root: Option<Page>)
     requires { length loads.old.items < 9 }
     ensures { loads.new.items ≡ record { number = number; root = root } ∷ loads.old.items }
@@ -62,7 +63,7 @@ pub fn sync(column: &mut Vec<Loads>, pe: Pe)
     column[pe.get() as usize].truncate(1);
 }
 
-// The values that a register starts with.
+/// The values that a register starts with.
 fn start_loads(number: u16, root: Option<Page>) -> Loads
     ensures { result.items ≡ record { number = number; root = root } ∷ [] }
 {
@@ -71,7 +72,7 @@ fn start_loads(number: u16, root: Option<Page>) -> Loads
     loads
 }
 
-// One more PE, with the value 0.
+/// One more PE, with the value 0.
 #[tactic(auto, using(crate::proofs::Columns::growing))]
 fn add_pe(column: &mut Vec<Loads>) -> Result<(), NoMemory>
     ensures pes { OnOk result (length column.new.items ≡ length column.old.items + 1) }
@@ -84,7 +85,7 @@ fn add_pe(column: &mut Vec<Loads>) -> Result<(), NoMemory>
     }
 }
 
-// A column of as many PEs as the number says, each with the value 0.
+/// A column of as many PEs as the number says, each with the value 0.
 fn new_column(alloc: Global, pes: u8) -> Result<Vec<Loads>, NoMemory>
     ensures pes { IfOk result (λ column. length column.items ≡ pes) }
     ensures start { IfOk result (λ column. (p : ℕ) → p < pes → loads_in column.items p ≡ at_start ∷ []) }
@@ -96,7 +97,7 @@ fn new_column(alloc: Global, pes: u8) -> Result<Vec<Loads>, NoMemory>
     Ok(column)
 }
 
-// The set, with the PE where the test says so.
+/// The set, with the PE where the test says so.
 fn with_pe(pes: PeMask, pe: Pe, test: bool) -> PeMask
     ensures { (p : ℕ) → pe_in result p ≡ (pe_in pes p || (nat_eq p pe && test)) }
 {
@@ -104,7 +105,7 @@ fn with_pe(pes: PeMask, pe: Pe, test: bool) -> PeMask
 }
 
 /// The root registers of every PE: what the values name that may still be in use, the newest first, for each of
-/// the two registers of the world. Source: project's own choice.
+/// the two registers of the world.
 #[derive(Drop)]
 pub struct Registers {
     /// The number of PEs, 1 to 128.
@@ -170,7 +171,7 @@ impl Registers {
         unread
     }
 
-    // Whether the tag is readable at the PE for some root.
+    /// Whether the tag is readable at the PE for some root.
     fn reads(&self, pe: Pe, tag: Tag) -> bool
         requires { pe < self.now.pes }
         ensures { result ≡ spec_reads_tag self.now.world (loads_in self.now.first.items pe)
@@ -206,7 +207,7 @@ impl Registers {
         }
     }
 
-    // Whether a readable value of the PE names the root with this first page.
+    /// Whether a readable value of the PE names the root with this first page.
     fn uses(&self, pe: Pe, page: Page) -> bool
         requires { pe < self.now.pes }
         ensures { result ≡ (names_in (loads_in self.now.first.items pe) page

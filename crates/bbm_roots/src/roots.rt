@@ -1,4 +1,5 @@
 //! The roots, their tags and the registers that name them.
+//! Source: project's own choice, where no other is named.
 
 use crate::fault::{InUse, RootFault, Unsynced};
 use crate::hold::Holds;
@@ -17,11 +18,11 @@ use bbm_tlbi_scope::{Scope, TagSet};
 use indexmap::IndexMap;
 use std::alloc::Global;
 
-/// The number of roots that may be declared at one time. Source: project's own choice.
+/// The number of roots that may be declared at one time.
 const MAX_ROOTS: usize = 1024;
 
 /// The declared roots, the register values of each PE that may still be in use, and the tags that each root holds.
-/// Clauses speak of the list of calls that were accepted, which it stands for. Source: project's own choice.
+/// Clauses speak of the list of calls that were accepted, which it stands for.
 #[derive(Drop)]
 pub struct Roots {
     registers: Registers,
@@ -97,7 +98,7 @@ impl Roots {
         }
     }
 
-    // The same, looked up among the declared roots.
+    /// The same, looked up among the declared roots.
     #[inline(never)]
     fn declared_lock(&self, page: Page) -> Option<u16>
         ensures { (calls : List Call) → Stands self.now calls → result ≡ spec.lock_of calls page }
@@ -275,7 +276,7 @@ impl Roots {
         }
     }
 
-    // Takes the tags away that a DSB of the issuer takes away, and forgets what it answers.
+    /// Takes the tags away that a DSB of the issuer takes away, and forgets what it answers.
     #[inline(never)]
     fn answer(&mut self, issuer: Pe, dsb: Dsb)
         ensures holds { (g : TheTag) (r p : ℕ) → hold_in self.new.holds g r p
@@ -366,7 +367,7 @@ impl Roots {
         );
     }
 
-    // The PEs that a TLBI of the issuer reaches.
+    /// The PEs that a TLBI of the issuer reaches.
     fn reach(&self, issuer: Pe, broadcast: bool) -> PeMask
         ensures { (p : ℕ) → p < pes_of self.now → pe_in result p ≡ (broadcast || nat_eq p issuer) }
     {
@@ -377,7 +378,7 @@ impl Roots {
         }
     }
 
-    // The root that a value names, None where it names none; `NoRoot` with its base where that is no declared root.
+    /// The root that a value names, None where it names none; `NoRoot` with its base where that is no declared root.
     fn named_root(&self, reg: Reg, value: u64, null: bool) -> Result<Option<Page>, RootFault>
         ensures named { IfOk result (λ root. (calls : List Call) → Stands self.now calls
             → root ≡ root_of reg value null) }
@@ -398,7 +399,7 @@ impl Roots {
         }
     }
 
-    // The page of the declared root of the kind with this base.
+    /// The page of the declared root of the kind with this base.
     fn root_page(&self, kind: Kind, base: u64) -> Option<Page>
         ensures found { IfSome result (λ page. (calls : List Call) → Stands self.now calls
             → (page ≡ base) × (spec.is_root calls kind base ≡ true)) }
@@ -417,7 +418,7 @@ impl Roots {
         }
     }
 
-    // Takes the value of a register that names what was judged, under the readable tags that it gives.
+    /// Takes the value of a register that names what was judged, under the readable tags that it gives.
     fn take(&mut self, pe: Pe, reg: Reg, number: u16, root: Option<Page>, seen: &[Reading])
         requires known { pe < pes_of self.old }
         requires room { length (if spec_is_first reg then loads_in self.old.registers.first.items pe
@@ -480,7 +481,7 @@ impl Roots {
         Ok(())
     }
 
-    // The readable tags of the PE after the write.
+    /// The readable tags of the PE after the write.
     fn readings_after(
         &self,
         alloc: Global,
@@ -504,7 +505,7 @@ impl Roots {
         Ok(self.registers.readings_with(alloc, pe, reg, load)?)
     }
 
-    // Makes an entry for each of these readable tags. Nobody holds more or less.
+    /// Makes an entry for each of these readable tags. Nobody holds more or less.
     fn make_room(&mut self, seen: &[Reading]) -> Result<(), RootFault>
         ensures entries { OnOk result ((g : TheTag) → has_tag g seen.now ≡ true → has_entry self.new.holds g ≡ true) }
         ensures fault { IfErr result (λ fault. fault ≡ RootFault.NoMemory) }
@@ -518,7 +519,7 @@ impl Roots {
         Ok(())
     }
 
-    // Judges the write of a value whose root isn't missing and which makes these tags readable at the PE.
+    /// Judges the write of a value whose root isn't missing and which makes these tags readable at the PE.
     fn judge(&self, pe: Pe, reg: Reg, seen: &[Reading]) -> Result<(), RootFault>
         requires { pe < pes_of self.now }
         ensures { JudgesWrite None (conflict_in self.now.holds (pes_of self.now) seen.now)

@@ -14,7 +14,7 @@ use crate::reading::{Reading, has_other, tag_rank};
 use bbm_regimes::{Page, Tag, same_tag};
 use bbm_tlbi_scope::{TagSet, with_tag};
 
-// Whether the first comes no later than the second: by the root's first page, then by the tag.
+/// Whether the first comes no later than the second: by the root's first page, then by the tag.
 fn is_up_to(tag: Tag, root: Page, other: Tag, page: Page) -> bool
     ensures yes { result ≡ true → ReadingUpTo (record { tag = tag; root = root }) (record { tag = other; root = page }) }
     ensures no { result ≡ false → ReadingUpTo (record { tag = other; root = page }) (record { tag = tag; root = root }) }
@@ -26,7 +26,7 @@ fn is_up_to(tag: Tag, root: Page, other: Tag, page: Page) -> bool
     }
 }
 
-// The least, where the tag and the root are one more candidate.
+/// The least, where the tag and the root are one more candidate.
 fn lesser(least: Option<Reading>, tag: Tag, root: Page) -> Option<Reading>
     ensures { (test : TheReading → Bool) → IsLeast ReadingUpTo test least
         → IsLeast ReadingUpTo (λ x. test x || (spec_same_tag tag x.tag && nat_eq root x.root)) result }
@@ -43,7 +43,7 @@ fn lesser(least: Option<Reading>, tag: Tag, root: Page) -> Option<Reading>
     }
 }
 
-// The root that holds the tag at one of the first n PEs.
+/// The root that holds the tag at one of the first n PEs.
 fn holder_of(holds: &Holds, n: u8, tag: Tag) -> Option<Page>
     requires some { 1 ≤ n }
     requires within { n ≤ 128 }
@@ -61,7 +61,7 @@ fn holder_of(holds: &Holds, n: u8, tag: Tag) -> Option<Page>
     }
 }
 
-// The least, where the tag is one more candidate for another root that holds it.
+/// The least, where the tag is one more candidate for another root that holds it.
 fn with_holder(least: Option<Reading>, holds: &Holds, n: u8, reading: &Reading) -> Option<Reading>
     requires some { 1 ≤ n }
     requires within { n ≤ 128 }
@@ -80,7 +80,7 @@ fn with_holder(least: Option<Reading>, holds: &Holds, n: u8, reading: &Reading) 
     }
 }
 
-// The least, where the reading is one more candidate, if its tag is about to be readable for another root.
+/// The least, where the reading is one more candidate, if its tag is about to be readable for another root.
 fn with_reading(least: Option<Reading>, seen: &[Reading], reading: &Reading) -> Option<Reading>
     ensures { (test : TheReading → Bool) → IsLeast ReadingUpTo test least → IsLeast ReadingUpTo
         (λ x. test x || (is_reading x.tag x.root reading.now && spec_has_other x.tag x.root seen.now)) result }
@@ -92,7 +92,7 @@ fn with_reading(least: Option<Reading>, seen: &[Reading], reading: &Reading) -> 
     }
 }
 
-// The least, with what the reading shows.
+/// The least, with what the reading shows.
 fn with_clash(
     least: Option<Reading>,
     holds: &Holds,
@@ -121,8 +121,8 @@ pub fn least_conflict(holds: &Holds, n: u8, seen: &[Reading]) -> Option<Reading>
     least
 }
 
-// Whether the root holds the tag of the entry under this key at one of the first n PEs. Under the key of another tag it
-// says nothing.
+/// Whether the root holds the tag of the entry under this key at one of the first n PEs. Under the key of another tag it
+/// says nothing.
 fn is_held_under(key: u32, held: &Held, n: u8, root: Page) -> bool
     requires some { 1 ≤ n }
     requires within { n ≤ 128 }
@@ -132,7 +132,7 @@ fn is_held_under(key: u32, held: &Held, n: u8, root: Page) -> bool
     held.root == root && some_pe(held.pes, n) && tag_key(held.tag) == key
 }
 
-// The first tag, where that of the entry under this key is one more candidate.
+/// The first tag, where that of the entry under this key is one more candidate.
 fn first_of(first: Option<Tag>, key: u32, held: &Held, n: u8, root: Page) -> Option<Tag>
     requires some { 1 ≤ n }
     requires within { n ≤ 128 }
@@ -170,7 +170,7 @@ pub fn first_tag(holds: &Holds, n: u8, root: Page) -> Option<Tag>
     first
 }
 
-// The set, with the tag of the entry under this key where the root holds it at one of the first n PEs.
+/// The set, with the tag of the entry under this key where the root holds it at one of the first n PEs.
 fn with_entry(set: TagSet, key: u32, held: &Held, n: u8, root: Page) -> TagSet
     requires some { 1 ≤ n }
     requires within { n ≤ 128 }

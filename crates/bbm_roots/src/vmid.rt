@@ -9,7 +9,7 @@ ghost use Rattle.bbm_roots.specs.Tags as spec;
 use crate::fault::Unsynced;
 use crate::load::Load;
 
-// Whether the number is there and is this one.
+/// Whether the number is there and is this one.
 fn is_number(number: Option<u16>, other: u16) -> bool
     ensures { result ≡ is_that number other }
 {
@@ -19,7 +19,7 @@ fn is_number(number: Option<u16>, other: u16) -> bool
     }
 }
 
-// The least, where the number is one more candidate unless it is the one left out.
+/// The least, where the number is one more candidate unless it is the one left out.
 fn lesser(least: Option<u16>, number: u16, than: Option<u16>) -> Option<u16>
     ensures { (test : ℕ → Bool) → IsLeast UpTo test least
         → IsLeast UpTo (λ n. test n || (nat_eq number n && not (is_that than n))) result }
@@ -39,7 +39,7 @@ fn lesser(least: Option<u16>, number: u16, than: Option<u16>) -> Option<u16>
     }
 }
 
-// The least VMID of the values other than this one.
+/// The least VMID of the values other than this one.
 fn least_other(loads: &[Load], than: Option<u16>) -> Option<u16>
     ensures { IsLeast UpTo (other_number loads.now than) result }
 {

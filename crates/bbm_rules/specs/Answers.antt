@@ -1,4 +1,5 @@
 -- What a checker may be asked, what its answer to an event means, and where it takes no memory.
+-- Source: project's own choice, where no other is named.
 use Rattle.std.specs.Prelude.{◌≡◌, ℕ, ◌<◌, ◌-◌, ◌^◌, Bool, true, false, ◌&&◌, ◌||◌, ◌==◌, List, [], ◌∷◌, length}
 use Rattle.std.specs.Prelude.{Option, Some, None, is_none, Result, Ok, Err, if◌then◌else◌}
 use Rattle.bbm_regimes.specs.declared.regime.Which.{Which}
@@ -24,14 +25,13 @@ MayAsk stands pe = (heading : Heading) × (h : List Event) × stands heading h �
 
 -- Given the least broken rule with its number, or none, and the limit that the event reaches, or none: the event is
 -- taken where there is neither; a broken rule is named before a limit. Want of memory may come in the place of any.
--- Source: project's own choice.
 abbrev pub Answers : Result (Unit {0}) StepFault → Option Breach → Option Which → Type 0
 Answers (Ok _) breach limit = (breach ≡ None) × (limit ≡ None)
 Answers (Err (Broken rule at)) breach limit = breach ≡ Some (record { rule = rule; at = at })
 Answers (Err (Limit which)) breach limit = (breach ≡ None) × (limit ≡ Some which)
 Answers (Err NoMemory) breach limit = Unit {0}
 
--- The events for which a frugal checker takes no memory. Source: project's own choice.
+-- The events for which a frugal checker takes no memory.
 abbrev pub takes_no_memory : Event → Bool
 takes_no_memory (Dsb pe dsb) = true
 takes_no_memory (Dmb pe dsb) = true
@@ -48,7 +48,7 @@ is_written (Init pe page ∷ h) place = if page == page_of place then false else
 is_written (_ ∷ h) place = is_written h place
 
 -- Whether the event is a write that attaches nothing, at a place that was written since the last init of its page. Room
--- for the place stands already. Source: project's own choice.
+-- for the place stands already.
 abbrev pub rewrites : Heading → List Event → Event → Bool
 rewrites heading h (Write pe place value) =
     is_written h place && is_none (attached_by heading Patterns (noted heading Patterns h) (Write pe place value))

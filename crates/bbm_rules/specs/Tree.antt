@@ -1,6 +1,7 @@
 -- The trees of translation tables: the pages of the declared roots, and all pages that they reach through held
 -- tables. That held tables count, and not present ones alone, is the project's own choice.
 -- Source: Arm ARM (DDI 0487), "VMSAv8-64 translation table walks".
+-- Source: project's own choice, where no other is named.
 use Rattle.std.specs.Option.{option_map_or}
 use Rattle.std.specs.Prelude.{ℕ, zero, suc, ◌+◌, ◌*◌, ◌-◌, Bool, false, not, ◌==◌, List, [], ◌∷◌, ◌++◌, Option, Some}
 use Rattle.std.specs.Prelude.{None, is_some, find, flat_map, filter_map, if◌then◌else◌}
@@ -71,7 +72,7 @@ node_below n place next = record n {
   above = record { place = place; level = n.level } ∷ n.above;
 }
 
--- Limbo: the present value of a place above is invalid. Source: project's own choice.
+-- Limbo: the present value of a place above is invalid.
 abbrev pub in_limbo : List Noted → Node → Bool
 in_limbo h n = any (λ a. not (is_valid n.kind a.level (value_of (events_of h) a.place))) n.above
 
@@ -107,7 +108,7 @@ module _ (heading : Heading) (trust : Trust) (h : List Noted) where
   abbrev pub in_tree : ℕ → Bool
   in_tree page = is_some (node_of page)
 
-  -- Childless: no place of the next page of a held table holds anything. Source: project's own choice.
+  -- Childless: no place of the next page of a held table holds anything.
   abbrev pub holds_some : Kind → ℕ → ℕ → Bool
   holds_some kind level place = is_some (held heading trust kind level place h)
 

@@ -1,4 +1,5 @@
 //! The commands of the program.
+//! Source: project's own choice, where no other is named.
 
 ghost use Rattle.std.specs.Prelude.{◌≡◌, map};
 ghost use Rattle.std.specs.String.{string_bytes};
@@ -9,14 +10,13 @@ use bbm_log_grammar::read_decimal;
 use bbm_report::{Question, asked};
 use bbm_rules::Limits;
 
-/// The most events of a log that the oracle judges. Source: project's own choice.
+/// The most events of a log that the oracle judges.
 const ORACLE_EVENTS: u64 = 2000;
 
-/// The most events of a generated log, which has at most 2^32 - 1 lines with its header and its end. Source: project's
-/// own choice.
+/// The most events of a generated log, which has at most 2^32 - 1 lines with its header and its end.
 const GENERATED_EVENTS: u64 = 4_294_967_293;
 
-/// A command that judges a log. Source: project's own choice.
+/// A command that judges a log.
 #[derive(Clone, Copy, Debug)]
 pub enum Command {
     /// Judges the log and writes the line of its verdict.
@@ -30,7 +30,7 @@ pub enum Command {
     Walk(Question),
 }
 
-/// What the program is asked for. Source: project's own choice.
+/// What the program is asked for.
 #[derive(Clone, Copy, Debug)]
 pub enum Request {
     /// A log is judged.
@@ -54,7 +54,7 @@ pub enum Request {
     },
 }
 
-// The command that one word says, None where there is another number of words.
+/// The command that one word says, None where there is another number of words.
 fn said_alone(words: &[String]) -> Option<Command>
     ensures { result ≡ command_alone (map string_bytes words.now) }
 {
@@ -71,7 +71,7 @@ fn said_alone(words: &[String]) -> Option<Command>
     }
 }
 
-// The command that the words say, None where they say none.
+/// The command that the words say, None where they say none.
 fn said_command(words: &[String]) -> Option<Command>
     ensures { result ≡ command_of (map string_bytes words.now) }
 {
@@ -84,7 +84,7 @@ fn said_command(words: &[String]) -> Option<Command>
     }
 }
 
-// The request of one word that isn't a command.
+/// The request of one word that isn't a command.
 fn said_follow(words: &[String]) -> Option<Request>
     ensures { result ≡ follow_of (map string_bytes words.now) }
 {
@@ -97,7 +97,7 @@ fn said_follow(words: &[String]) -> Option<Request>
     }
 }
 
-// The number of events of a generated log.
+/// The number of events of a generated log.
 fn read_count(text: &[u8]) -> Option<u32>
     ensures { result ≡ event_count text.now }
 {
@@ -109,7 +109,7 @@ fn read_count(text: &[u8]) -> Option<u32>
     }
 }
 
-// The number of a generated log and how many events it has, by two words.
+/// The number of a generated log and how many events it has, by two words.
 fn read_log(n: &[u8], count: &[u8]) -> Option<(u64, u32)>
     ensures { result ≡ log_asked n.now count.now }
 {
@@ -118,7 +118,7 @@ fn read_log(n: &[u8], count: &[u8]) -> Option<(u64, u32)>
     Some((number, events))
 }
 
-// The same by the words behind this one.
+/// The same by the words behind this one.
 fn said_log(first: &[u8], words: &[String]) -> Option<(u64, u32)>
     ensures { result ≡ log_after first.now (map string_bytes words.now) }
 {
@@ -134,7 +134,7 @@ fn said_log(first: &[u8], words: &[String]) -> Option<(u64, u32)>
     }
 }
 
-// The request of the words `gen N COUNT`.
+/// The request of the words `gen N COUNT`.
 fn said_gen(words: &[String]) -> Option<Request>
     ensures { result ≡ gen_of (map string_bytes words.now) }
 {
@@ -142,7 +142,7 @@ fn said_gen(words: &[String]) -> Option<Request>
     Some(Request::Generate { number, events })
 }
 
-// The request of the words `selftest N COUNT`.
+/// The request of the words `selftest N COUNT`.
 fn said_selftest(words: &[String]) -> Option<Request>
     ensures { result ≡ selftest_of (map string_bytes words.now) }
 {
@@ -150,7 +150,7 @@ fn said_selftest(words: &[String]) -> Option<Request>
     Some(Request::Selftest { number, events })
 }
 
-// The request of words on a generated log.
+/// The request of words on a generated log.
 fn said_generated(words: &[String]) -> Option<Request>
     ensures { result ≡ or_else (gen_of (map string_bytes words.now)) (selftest_of (map string_bytes words.now)) }
 {
@@ -160,7 +160,7 @@ fn said_generated(words: &[String]) -> Option<Request>
     }
 }
 
-// The request of words that are no command.
+/// The request of words that are no command.
 fn said_other(words: &[String]) -> Option<Request>
     ensures { result ≡ or_else (follow_of (map string_bytes words.now))
         (or_else (gen_of (map string_bytes words.now)) (selftest_of (map string_bytes words.now))) }

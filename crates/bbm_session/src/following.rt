@@ -23,7 +23,7 @@ use bbm_regimes::NoMemory;
 use bbm_tlb_machine::Step;
 use std::alloc::Global;
 
-// What a line decides that was taken or not.
+/// What a line decides that was taken or not.
 fn turned(taken: Result<RunTurn, LineFault>, stop: &mut Stop) -> Option<Turn>
     ensures { Turns taken (ok_or result stop.new) }
 {
@@ -41,7 +41,7 @@ fn turned(taken: Result<RunTurn, LineFault>, stop: &mut Stop) -> Option<Turn>
     }
 }
 
-// What a line after the header decides.
+/// What a line after the header decides.
 fn follow_line(
     number: u64,
     steps: &mut Vec<Step>,
@@ -87,7 +87,7 @@ impl Taker for Following {
     }
 }
 
-// The status of a run that was read whole.
+/// The status of a run that was read whole.
 fn run_status(told: &Followed) -> Status
     ensures { result ≡ followed_status told.now }
 {
@@ -97,7 +97,7 @@ fn run_status(told: &Followed) -> Status
     }
 }
 
-// Writes what comes of a run that was read whole.
+/// Writes what comes of a run that was read whole.
 fn tell_run<K: Sink>(told: Followed, out: &mut K) -> Status
     ensures wrote { Wrote (followed_status told) (following_of.followed_text told) result
         (K.held out.old) (K.held out.new) (K.faults out.old) (K.faults out.new) }
@@ -107,7 +107,7 @@ fn tell_run<K: Sink>(told: Followed, out: &mut K) -> Status
     settled(tell(&text, out), run_status(&told))
 }
 
-// Says what comes of a run that was read whole, if there was memory to follow it.
+/// Says what comes of a run that was read whole, if there was memory to follow it.
 fn report_run<K: Sink>(told: Result<Followed, NoMemory>, out: &mut K) -> Status
     ensures reports { ReportsRun told result (K.held out.old) (K.held out.new) (K.faults out.old) (K.faults out.new) }
 {

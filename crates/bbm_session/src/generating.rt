@@ -1,4 +1,5 @@
 //! A generated log, written line by line.
+//! Source: project's own choice, where no other is named.
 
 ghost use Rattle.std.specs.Prelude.{◌≡◌, ◌≤◌, ◌+◌, ◌++◌, ℕ, List, [], Option, OnOk, true};
 ghost use Rattle.arrayvec.specs.ArrayVec.{array_vec_len};
@@ -17,14 +18,13 @@ use bbm_gen::{gen_event, gen_header};
 use bbm_io::{Failed, Sink};
 use bbm_log_grammar::{append_event, write_event, write_header};
 
-/// The bytes that are written at once. Source: project's own choice.
+/// The bytes that are written at once.
 const BUFFER_BYTES: usize = 65536;
 
-/// The bytes of the buffer that are free after each line: room for the longest line and its newline. Source: project's
-/// own choice.
+/// The bytes of the buffer that are free after each line: room for the longest line and its newline.
 const LINE_ROOM: usize = 256;
 
-// Writes what is buffered where there may be no room for another line.
+/// Writes what is buffered where there may be no room for another line.
 fn make_room<K: Sink>(buffer: &mut ArrayVec<u8, BUFFER_BYTES>, out: &mut K) -> Result<(), Failed>
     ensures room { OnOk result (array_vec_len buffer.new + 256 ≤ 65536) }
     ensures poured { (text : List ℕ) (start : Option (List ℕ)) (faults : ℕ)
@@ -43,7 +43,7 @@ fn make_room<K: Sink>(buffer: &mut ArrayVec<u8, BUFFER_BYTES>, out: &mut K) -> R
     }
 }
 
-// Appends a line and its newline, for which there is room.
+/// Appends a line and its newline, for which there is room.
 fn append(buffer: &mut ArrayVec<u8, BUFFER_BYTES>, line: &ArrayVec<u8, 200>)
     requires room { array_vec_len buffer.old + 256 ≤ 65536 }
     ensures appended { buffer.new.items ≡ buffer.old.items ++ ended line.now.items }
@@ -52,7 +52,7 @@ fn append(buffer: &mut ArrayVec<u8, BUFFER_BYTES>, line: &ArrayVec<u8, 200>)
     buffer.push(b'\n');
 }
 
-// Adds a line and its newline to what is buffered.
+/// Adds a line and its newline to what is buffered.
 fn add_line<K: Sink>(
     buffer: &mut ArrayVec<u8, BUFFER_BYTES>,
     line: &ArrayVec<u8, 200>,
@@ -72,7 +72,7 @@ fn add_line<K: Sink>(
     }
 }
 
-// Appends the line of an item and its newline, for which there is room.
+/// Appends the line of an item and its newline, for which there is room.
 #[inline(always)]
 fn append_item(header: &Header, item: Item, buffer: &mut ArrayVec<u8, BUFFER_BYTES>)
     requires room { array_vec_len buffer.old + 256 ≤ 65536 }
@@ -83,7 +83,7 @@ fn append_item(header: &Header, item: Item, buffer: &mut ArrayVec<u8, BUFFER_BYT
     buffer.push(b'\n');
 }
 
-// Adds the line of an item, made apart: only the loop over events appends to the buffer, so that it is compiled there.
+/// Adds the line of an item, made apart: only the loop over events appends to the buffer, so that it is compiled there.
 fn add_item<K: Sink>(
     header: &Header,
     item: Item,
@@ -101,7 +101,7 @@ fn add_item<K: Sink>(
     add_line(buffer, &line, out)
 }
 
-// Adds the line of the header to an empty buffer.
+/// Adds the line of the header to an empty buffer.
 fn add_header<K: Sink>(
     header: &Header,
     buffer: &mut ArrayVec<u8, BUFFER_BYTES>,
@@ -117,7 +117,7 @@ fn add_header<K: Sink>(
     add_line(buffer, &line, out)
 }
 
-// Adds the lines of the first events of the log of the number n, so many, behind the line of the header.
+/// Adds the lines of the first events of the log of the number n, so many, behind the line of the header.
 fn add_events<K: Sink>(
     header: &Header,
     n: u64,
@@ -143,7 +143,7 @@ fn add_events<K: Sink>(
     Ok(())
 }
 
-// Adds the lines of the log of the number n with so many events to an empty buffer.
+/// Adds the lines of the log of the number n with so many events to an empty buffer.
 fn pour_log<K: Sink>(
     n: u64,
     count: u32,
@@ -160,7 +160,7 @@ fn pour_log<K: Sink>(
     add_item(&header, Item::End(count), buffer, out)
 }
 
-// Writes what is still buffered.
+/// Writes what is still buffered.
 fn finish<K: Sink>(
     poured: Result<(), Failed>,
     buffer: &ArrayVec<u8, BUFFER_BYTES>,

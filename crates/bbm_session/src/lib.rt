@@ -21,6 +21,3 @@ mod top;
 pub use command::{Command, Request};
 pub use status::{Status, number};
 pub use top::run;
-
-#[cfg(test)]
-mod tests;

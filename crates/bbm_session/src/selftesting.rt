@@ -20,7 +20,7 @@ use bbm_regimes::NoMemory;
 use bbm_rules::{Checker, Fresh, StepFault, Verdict};
 use std::alloc::Global;
 
-// Why an event wasn't taken that breaks no rule and reaches no limit.
+/// Why an event wasn't taken that breaks no rule and reaches no limit.
 fn want(fault: StepFault) -> NoMemory
     requires { Answers (Err fault) None None }
 {
@@ -31,7 +31,7 @@ fn want(fault: StepFault) -> NoMemory
     }
 }
 
-// Takes the event of index i of the log of the number n.
+/// Takes the event of index i of the log of the number n.
 fn take_event<C: Checker>(alloc: Global, n: u64, i: u32, checker: &mut C) -> Result<(), NoMemory>
     requires stands { C.stands checker.old log.heading (log.log_of n i) }
     requires unbroken { broken log.heading Patterns (log.log_of n i) (log.event_at n i) ≡ None }
@@ -44,7 +44,7 @@ fn take_event<C: Checker>(alloc: Global, n: u64, i: u32, checker: &mut C) -> Res
     }
 }
 
-// Takes the events of the log of the number n, so many, one after another.
+/// Takes the events of the log of the number n, so many, one after another.
 fn take_log<C: Checker>(alloc: Global, n: u64, count: u32, checker: &mut C) -> Result<(), NoMemory>
     requires { C.stands checker.old log.heading [] }
     ensures { OnOk result (C.stands checker.new log.heading (log.log_of n count)) }
@@ -60,7 +60,7 @@ fn take_log<C: Checker>(alloc: Global, n: u64, count: u32, checker: &mut C) -> R
     Ok(())
 }
 
-// A checker that took the log of the number n with so many events.
+/// A checker that took the log of the number n with so many events.
 fn judged<C: Fresh + Drop>(alloc: Global, n: u64, count: u32) -> Result<C, NoMemory>
     ensures { IfOk result (λ checker. C.stands checker log.heading (log.log_of n count)) }
 {
@@ -70,7 +70,7 @@ fn judged<C: Fresh + Drop>(alloc: Global, n: u64, count: u32) -> Result<C, NoMem
     Ok(checker)
 }
 
-// Puts the line with the number of pages and of restless places into `out`, which is empty.
+/// Puts the line with the number of pages and of restless places into `out`, which is empty.
 #[tactic(auto, unfolding(crate::specs::Generating::counts_text))]
 fn counts_text(pages: u64, restless: u64, out: &mut ArrayVec<u8, 200>)
     requires { out.old.items ≡ [] }
@@ -83,8 +83,8 @@ fn counts_text(pages: u64, restless: u64, out: &mut ArrayVec<u8, 200>)
     add(out, b"\n");
 }
 
-// Writes the line of the verdict on the log of so many events that the checker took, and behind it how many pages and
-// restless places there are.
+/// Writes the line of the verdict on the log of so many events that the checker took, and behind it how many pages and
+/// restless places there are.
 fn tell_counts<C: Checker, K: Sink>(count: u32, checker: &C, out: &mut K) -> Result<(), Failed>
     ensures puts { (n : ℕ) → C.stands checker.now log.heading (log.log_of n count)
         → Puts (selftest_text n count) result (K.held out.old) (K.held out.new) (K.faults out.old) (K.faults out.new) }

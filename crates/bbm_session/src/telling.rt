@@ -40,7 +40,7 @@ pub fn tell_verdict<K: Sink>(verdict: &Verdict, out: &mut K) -> Result<(), Faile
     tell(&text, out)
 }
 
-// Writes the line of a PE, by its number.
+/// Writes the line of a PE, by its number.
 fn tell_phase<C: Checker, K: Sink>(
     header: &Header,
     checker: &C,
@@ -61,7 +61,7 @@ fn tell_phase<C: Checker, K: Sink>(
     tell(&text, out)
 }
 
-// Writes the line of each PE of the header in order.
+/// Writes the line of each PE of the header in order.
 fn tell_phases<C: Checker, K: Sink>(
     header: &Header,
     checker: &C,
@@ -83,7 +83,7 @@ fn tell_phases<C: Checker, K: Sink>(
     Ok(())
 }
 
-// The place at which break-before-make is broken, None where the verdict is another.
+/// The place at which break-before-make is broken, None where the verdict is another.
 fn broken_place(verdict: &Verdict) -> Option<Place>
     ensures { result ≡ place_named verdict.now }
 {
@@ -99,7 +99,7 @@ fn broken_place(verdict: &Verdict) -> Option<Place>
     }
 }
 
-// Writes the line of a verdict, and behind it what explains it.
+/// Writes the line of a verdict, and behind it what explains it.
 fn tell_explained<C: Checker, K: Sink>(
     header: &Header,
     checker: &C,
@@ -120,7 +120,7 @@ fn tell_explained<C: Checker, K: Sink>(
     }
 }
 
-// Writes the line of a verdict, and behind it that of what was found.
+/// Writes the line of a verdict, and behind it that of what was found.
 fn tell_found<K: Sink>(verdict: &Verdict, found: Option<Walk>, out: &mut K) -> Result<(), Failed>
     ensures puts { Puts (text_of_verdict verdict.now ++ text_of_found found) result
         (K.held out.old) (K.held out.new) (K.faults out.old) (K.faults out.new) }
@@ -135,7 +135,7 @@ fn tell_found<K: Sink>(verdict: &Verdict, found: Option<Walk>, out: &mut K) -> R
     }
 }
 
-// Writes the line of a verdict, and behind that of an accepted log the line of a walk.
+/// Writes the line of a verdict, and behind that of an accepted log the line of a walk.
 fn tell_walked<C: Checker, K: Sink>(
     header: &Header,
     checker: &C,

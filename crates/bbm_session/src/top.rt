@@ -37,7 +37,7 @@ fn usage() -> &'static [u8]
     b"usage: bbm check | slow | explain | walk KIND ROOT ADDR | gen N COUNT | selftest N COUNT | follow\n"
 }
 
-// Writes the usage line.
+/// Writes the usage line.
 fn say_usage<K: Sink>(out: &mut K) -> Status
     ensures wrote { Wrote Status.Usage usage_text result (K.held out.old) (K.held out.new)
         (K.faults out.old) (K.faults out.new) }
@@ -45,7 +45,7 @@ fn say_usage<K: Sink>(out: &mut K) -> Status
     settled(tell(usage(), out), Status::Usage)
 }
 
-// Judges a log: for `slow` by the oracle, which searches the whole history, and else by the checker that keeps none.
+/// Judges a log: for `slow` by the oracle, which searches the whole history, and else by the checker that keeps none.
 fn judge<S: Source, K: Sink>(alloc: Global, command: &Command, log: &mut S, out: &mut K) -> Status
     ensures obeys { Obeys command.now result (S.left log.old) (S.left log.new) (S.faults log.old) (S.faults log.new)
         (K.held out.old) (K.held out.new) (K.faults out.old) (K.faults out.new) }
@@ -59,7 +59,7 @@ fn judge<S: Source, K: Sink>(alloc: Global, command: &Command, log: &mut S, out:
     }
 }
 
-// Does what was asked for.
+/// Does what was asked for.
 fn serve<S: Source, K: Sink>(alloc: Global, request: &Request, log: &mut S, out: &mut K) -> Status
     ensures serves { Serves request.now result (S.left log.old) (S.left log.new) (S.faults log.old) (S.faults log.new)
         (K.held out.old) (K.held out.new) (K.faults out.old) (K.faults out.new) }

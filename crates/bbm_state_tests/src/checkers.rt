@@ -75,7 +75,7 @@ const KERNEL: Header = Header {
     }),
 };
 
-// A line as an event, None where its numbers are none of an event.
+/// A line as an event, None where its numbers are none of an event.
 fn event_of(line: Line) -> Option<Event> {
     let pe = Pe::new(0)?;
     Some(match line {
@@ -141,7 +141,7 @@ fn is_event(header: &Header, event: &Event) -> bool
     fits(header, *event)
 }
 
-// The line as an event of the header, None where it is none.
+/// The line as an event of the header, None where it is none.
 fn event_for(header: &Header, line: Line) -> Option<Event>
     ensures { IfSome result (λ event. fits_heading header.now event ≡ true) }
 {
@@ -153,7 +153,7 @@ fn event_for(header: &Header, line: Line) -> Option<Event>
     }
 }
 
-// Steps through the lines: the first answer that isn't Ok, or Ok; None where a line is no event of the header.
+/// Steps through the lines: the first answer that isn't Ok, or Ok; None where a line is no event of the header.
 fn run<C: Checker>(
     alloc: Global,
     header: &Header,
@@ -173,7 +173,7 @@ fn run<C: Checker>(
     Some(Ok(()))
 }
 
-// The phase of the place at the PE, where the header has it.
+/// The phase of the place at the PE, where the header has it.
 fn phase_at<C: Checker>(header: &Header, checker: &C, place: Place, pe: u8) -> Option<Phase>
     requires { (h : List AnEvent) × C.stands checker.now header.now h }
 {
@@ -198,7 +198,7 @@ struct Told {
     value: u64,
 }
 
-// None where there is no memory for the checker, or a line is no event.
+/// None where there is no memory for the checker, or a line is no event.
 fn after<C: Fresh + Drop>(
     alloc: Global,
     header: &Header,
@@ -225,7 +225,7 @@ fn after<C: Fresh + Drop>(
     })
 }
 
-// The answer to the lines, and the number of events taken.
+/// The answer to the lines, and the number of events taken.
 fn judged<C: Fresh + Drop>(
     alloc: Global,
     header: &Header,
@@ -235,7 +235,7 @@ fn judged<C: Fresh + Drop>(
     Some((told.answer, told.events))
 }
 
-// Whether both checkers give this answer to the lines, after so many events.
+/// Whether both checkers give this answer to the lines, after so many events.
 fn both_answer(
     alloc: Global,
     header: &Header,
@@ -248,13 +248,13 @@ fn both_answer(
         && judged::<Replay>(alloc, header, lines) == expected
 }
 
-// Whether both checkers tell this after the lines.
+/// Whether both checkers tell this after the lines.
 fn both_tell(alloc: Global, lines: &[Line], place: u64, expected: Told) -> bool {
     after::<Oracle>(alloc, &HYP, lines, place) == Some(expected)
         && after::<Replay>(alloc, &HYP, lines, place) == Some(expected)
 }
 
-// Whether both checkers see these phases of the place at PEs 0 and 1, and so many restless places, after the lines.
+/// Whether both checkers see these phases of the place at PEs 0 and 1, and so many restless places, after the lines.
 fn both_see(
     alloc: Global,
     lines: &[Line],
@@ -267,7 +267,7 @@ fn both_see(
         && seen::<Replay>(alloc, lines, place) == expected
 }
 
-// After the lines: the phases of the place at PEs 0 and 1, and the number of restless places.
+/// After the lines: the phases of the place at PEs 0 and 1, and the number of restless places.
 fn seen<C: Fresh + Drop>(
     alloc: Global,
     lines: &[Line],
@@ -614,7 +614,7 @@ const TEN: [Line; 23] = [
     Dsb(0, Inner, Stores),
 ];
 
-// What is told of the place with index 1 after the ten clears, a TLBI of this page and a DSB.
+/// What is told of the place with index 1 after the ten clears, a TLBI of this page and a DSB.
 fn after_flush<C: Fresh + Drop>(alloc: Global, page: u64) -> Option<Told> {
     let mut lines = match TEN.to_vec(alloc) {
         Ok(lines) => lines,

@@ -9,7 +9,7 @@ use bbm_tlb_machine::Step;
 use std::alloc::Global;
 use std::test::Fail;
 
-// That a line of number 7 is malformed.
+/// That a line of number 7 is malformed.
 fn malformed(cause: Malformed) -> Result<Turn, LineFault> {
     Err(LineFault::Decided(Verdict::Malformed { line: 7, cause }))
 }
@@ -42,7 +42,7 @@ fn lines_say_what_was_worked_out(rt: HostRuntime) -> Result<(), Fail> {
     Ok(())
 }
 
-// The steps of the lines behind the header; None where one of them isn't taken.
+/// The steps of the lines behind the header; None where one of them isn't taken.
 fn steps_of(alloc: Global, header: &Header, lines: &[&[u8]]) -> Option<Vec<Step>> {
     let mut steps = Vec::new(alloc);
     for line in lines {
@@ -53,7 +53,7 @@ fn steps_of(alloc: Global, header: &Header, lines: &[&[u8]]) -> Option<Vec<Step>
     Some(steps)
 }
 
-// What comes of the steps, as a text; None where there are too many, or there is no memory.
+/// What comes of the steps, as a text; None where there are too many, or there is no memory.
 fn text_of(alloc: Global, header: &Header, steps: &Vec<Step>) -> Option<ArrayVec<u8, 200>> {
     if steps.len() > 2000 {
         return None;
@@ -68,7 +68,7 @@ fn text_of(alloc: Global, header: &Header, steps: &Vec<Step>) -> Option<ArrayVec
     }
 }
 
-// Whether the run with these lines comes to this text.
+/// Whether the run with these lines comes to this text.
 fn comes_to(alloc: Global, lines: &[&[u8]], text: &[u8]) -> Option<bool> {
     let (first, rest) = match lines {
         [] => return None,

@@ -14,9 +14,9 @@ const ISHST: Dsb = Dsb {
     types: Types::Stores,
 };
 
-// `bbmlog 1 hyp 4 1 1 1`, and after it with n = 3:
-// `init 0 0x40000000`, `root 0 el2 - 0x40000000`, `init 0 0x40001000`, `root 0 s2 - 0x40001000`,
-// `msr 0 ttbr0_el2 0x40000000`, `msr 0 vttbr_el2 0x1000040001000`, `isb 0`, `w 0 0x40000018 0x701`.
+/// `bbmlog 1 hyp 4 1 1 1`, and after it with n = 3:
+/// `init 0 0x40000000`, `root 0 el2 - 0x40000000`, `init 0 0x40001000`, `root 0 s2 - 0x40001000`,
+/// `msr 0 ttbr0_el2 0x40000000`, `msr 0 vttbr_el2 0x1000040001000`, `isb 0`, `w 0 0x40000018 0x701`.
 #[test]
 fn generates_a_small_log(rt: HostRuntime) {
     assert_eq!(rt; gen_header().pes, 4);
@@ -61,8 +61,8 @@ fn generates_a_small_log(rt: HostRuntime) {
     }
 }
 
-// Round 1 with n = 7: `w 0 0x40001040 0x40000701`, `dsb 0 ishst`, `w 0 0x40001040 0x0`, `dsb 0 ishst`,
-// `tlbi 0 ipas2e1is 0x200000`, `dsb 0 ish`, `tlbi 0 vmalle1is`, `dsb 0 ish`.
+/// Round 1 with n = 7: `w 0 0x40001040 0x40000701`, `dsb 0 ishst`, `w 0 0x40001040 0x0`, `dsb 0 ishst`,
+/// `tlbi 0 ipas2e1is 0x200000`, `dsb 0 ish`, `tlbi 0 vmalle1is`, `dsb 0 ish`.
 #[test]
 fn generates_a_stage_2_round(rt: HostRuntime) {
     let pe = Pe::new(0).unwrap();
@@ -98,8 +98,8 @@ fn generates_a_stage_2_round(rt: HostRuntime) {
     }
 }
 
-// Round 4 with n = 7 is of PE 2: `w 2 0x40000058 0x100000701`, `dsb 2 ishst`, `w 2 0x40000058 0x0`, `dsb 2 ishst`,
-// `tlbi 2 vae2is 0x2c0000`, `dsb 2 ish`, `isb 2`, `dmb 2 ish`.
+/// Round 4 with n = 7 is of PE 2: `w 2 0x40000058 0x100000701`, `dsb 2 ishst`, `w 2 0x40000058 0x0`, `dsb 2 ishst`,
+/// `tlbi 2 vae2is 0x2c0000`, `dsb 2 ish`, `isb 2`, `dmb 2 ish`.
 #[test]
 fn generates_an_el2_round(rt: HostRuntime) {
     let pe = Pe::new(2).unwrap();

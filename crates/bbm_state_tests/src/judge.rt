@@ -19,7 +19,7 @@ const BLOCK: u64 = 0x8000_0701;
 
 const MOVED: u64 = 0xc000_0701;
 
-// The header `bbmlog 1 hyp 2 1 1 1`.
+/// The header `bbmlog 1 hyp 2 1 1 1`.
 fn header() -> Header {
     Header {
         version: 1,
@@ -33,7 +33,7 @@ fn header() -> Header {
     }
 }
 
-// A write of the place by PE 0.
+/// A write of the place by PE 0.
 fn write(value: u64) -> Option<Event> {
     Some(Event::Write {
         pe: Pe::new(0)?,
@@ -42,7 +42,7 @@ fn write(value: u64) -> Option<Event> {
     })
 }
 
-// A block is made, cleared and flushed.
+/// A block is made, cleared and flushed.
 fn events() -> Option<[Event; 7]> {
     let pe = Pe::new(0)?;
     let page = Page::new(ROOT)?;
@@ -73,7 +73,7 @@ fn events() -> Option<[Event; 7]> {
     ])
 }
 
-// The history of these events; None where one isn't admitted, or there is no memory.
+/// The history of these events; None where one isn't admitted, or there is no memory.
 fn history_of(alloc: Global, events: &[Event]) -> Option<History<AllPatterns>> {
     let mut history = History::new(alloc, &header(), AllPatterns);
     for event in events {
@@ -132,7 +132,7 @@ fn judges_without_a_checker(rt: HostRuntime) {
     }
 }
 
-// What the root holds after a load of TTBR0_EL2: at PE 0, at PE 1, and at any PE.
+/// What the root holds after a load of TTBR0_EL2: at PE 0, at PE 1, and at any PE.
 fn held(alloc: Global) -> Option<(bool, bool, TagSet)> {
     let events = events()?;
     let mut history = history_of(alloc, &events[..2])?;

@@ -62,7 +62,7 @@ fn tlbi(pe: Pe, op: TlbiOp) -> Event {
     Event::Tlbi { pe, op, xt: 0 }
 }
 
-// The event of a step, and how far it covers the place.
+/// The event of a step, and how far it covers the place.
 fn event_of(step: Step, place: Place) -> Option<(Event, Cover)> {
     let page = place.page();
     Some(match step {
@@ -93,7 +93,7 @@ fn log_of(alloc: Global, steps: &[Step], place: Place) -> Result<Vec<Kept>, Fail
     Ok(log)
 }
 
-// What the place holds after the steps, and its phases at PEs 0 and 1 where its value is invalid.
+/// What the place holds after the steps, and its phases at PEs 0 and 1 where its value is invalid.
 fn judged(
     alloc: Global,
     header: &Header,
@@ -305,7 +305,7 @@ fn reach(rt: HostRuntime) -> Result<(), Fail> {
     Ok(())
 }
 
-// The calls that the others stand on.
+/// The calls that the others stand on.
 #[test]
 fn parts(rt: HostRuntime) -> Result<(), Fail> {
     let place = Place::new(0x4000_2008).ok_or("place")?;

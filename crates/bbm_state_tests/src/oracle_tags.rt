@@ -25,7 +25,7 @@ const ROOT: u64 = 0x4000_0000;
 
 const OTHER: u64 = 0x4000_1000;
 
-// The header `bbmlog 1 hyp 2 1 1 1`.
+/// The header `bbmlog 1 hyp 2 1 1 1`.
 fn header() -> Header {
     Header {
         version: 1,
@@ -155,7 +155,7 @@ fn registers_and_scopes(rt: HostRuntime) -> Result<(), Fail> {
     Ok(())
 }
 
-// Two roots of EL2. PE 0 reads the first and then none, and the tag of the regime is flushed.
+/// Two roots of EL2. PE 0 reads the first and then none, and the tag of the regime is flushed.
 fn tag_events(pe: Pe, page: Page, other: Page) -> [Event; 7] {
     let kind = Kind::El2;
     let lock = None;

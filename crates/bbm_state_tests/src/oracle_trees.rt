@@ -48,7 +48,7 @@ const TO_B: u64 = B + 3;
 
 const TO_C: u64 = C + 3;
 
-// The header `bbmlog 1 hyp 2 1 1 2`.
+/// The header `bbmlog 1 hyp 2 1 1 2`.
 fn header() -> Header {
     Header {
         version: 1,
@@ -104,12 +104,12 @@ fn event_of(line: Line) -> Option<Event> {
     Some(event)
 }
 
-// Takes the event; false where it doesn't fit, or there is no memory.
+/// Takes the event; false where it doesn't fit, or there is no memory.
 fn takes(history: &mut History, alloc: Global, event: &Event) -> bool {
     fits(history.header(), *event) && history.take(alloc, *event).is_ok()
 }
 
-// The history of the lines; None where one doesn't fit, or there is no memory.
+/// The history of the lines; None where one doesn't fit, or there is no memory.
 fn history_of(alloc: Global, lines: &[Line]) -> Option<History> {
     let mut history = History::new(alloc, &header(), AllPatterns);
     for line in lines {
@@ -124,7 +124,7 @@ fn history_of(alloc: Global, lines: &[Line]) -> Option<History> {
 /// A page of a tree: the page, its level, the input page at which it begins, and whether it is in limbo.
 type InTree = (u64, u8, u64, bool);
 
-// Whether these are the pages of the trees.
+/// Whether these are the pages of the trees.
 fn has_tree(history: &History, pages: &[InTree]) -> bool {
     if history.tree().len() != pages.len() {
         return false;
@@ -141,7 +141,7 @@ fn has_tree(history: &History, pages: &[InTree]) -> bool {
     true
 }
 
-// Whether of A, B and C these pages are fresh.
+/// Whether of A, B and C these pages are fresh.
 fn has_fresh(history: &History, pages: &[u64]) -> bool {
     for at in [A, B, C] {
         match Page::new(at) {
@@ -256,7 +256,7 @@ fn trees_and_fresh_pages(rt: HostRuntime) {
     }
 }
 
-// How far the last event covers the place, by its address.
+/// How far the last event covers the place, by its address.
 fn last_cover(history: &History, place: u64) -> Option<Cover> {
     let place = Place::new(place)?;
     let kept = history.log().last()?;
@@ -346,7 +346,7 @@ fn covers(rt: HostRuntime) {
     }
 }
 
-// The phases of the place at both PEs.
+/// The phases of the place at both PEs.
 fn phases(history: &History, place: u64) -> Option<(Phase, Phase)> {
     let place = Place::new(place)?;
     Some((

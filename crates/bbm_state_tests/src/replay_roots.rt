@@ -45,7 +45,7 @@ fn locks(rt: HostRuntime) -> Result<(), Fail> {
     Ok(())
 }
 
-// What stands for no event.
+/// What stands for no event.
 fn at_the_start(alloc: Global) -> Result<RootState, NoMemory>
     ensures { IfOk result (λ state. MayAsk (Stands state) 0) }
 {
@@ -53,7 +53,7 @@ fn at_the_start(alloc: Global) -> Result<RootState, NoMemory>
     Ok(state)
 }
 
-// The judgement of a TLBI of PE 0 with operand 0 before any event.
+/// The judgement of a TLBI of PE 0 with operand 0 before any event.
 fn tlbi(alloc: Global, pe: Pe, op: TlbiOp) -> Result<Result<NamedTlbi, StepFault>, NoMemory>
     requires { pe ≡ 0 }
 {
@@ -61,7 +61,7 @@ fn tlbi(alloc: Global, pe: Pe, op: TlbiOp) -> Result<Result<NamedTlbi, StepFault
     Ok(state.judge_tlbi(pe, op, 0))
 }
 
-// The answer to a write of VTTBR_EL2 by PE 0 before any event.
+/// The answer to a write of VTTBR_EL2 by PE 0 before any event.
 fn write(alloc: Global, pe: Pe, value: u64) -> Result<Result<(), StepFault>, NoMemory>
     requires { pe ≡ 0 }
 {
@@ -69,7 +69,7 @@ fn write(alloc: Global, pe: Pe, value: u64) -> Result<Result<(), StepFault>, NoM
     Ok(state.write_reg(alloc, pe, Reg::VttbrEl2, value, false))
 }
 
-// Room for a root after an ISB of PE 0.
+/// Room for a root after an ISB of PE 0.
 fn room_after_isb(alloc: Global, pe: Pe) -> Result<Result<(), StepFault>, NoMemory>
     requires { pe ≡ 0 }
 {
@@ -114,7 +114,7 @@ fn nothing_is_declared(rt: HostRuntime) -> Result<(), Fail> {
     Ok(())
 }
 
-// A state after `init 0 0x40000000` and `root 0 el2 - 0x40000000`.
+/// A state after `init 0 0x40000000` and `root 0 el2 - 0x40000000`.
 fn with_root(alloc: Global, page: Page) -> Result<RootState, NoMemory>
     requires { page ≡ 0x4000_0000 }
     ensures { IfOk result (λ state. MayAsk (Stands state) 0) }
@@ -125,7 +125,7 @@ fn with_root(alloc: Global, page: Page) -> Result<RootState, NoMemory>
     Ok(state)
 }
 
-// A `tlbi` of the PE that breaks no rule.
+/// A `tlbi` of the PE that breaks no rule.
 fn issue(alloc: Global, state: &mut RootState, pe: Pe) -> Result<(), StepFault>
     requires { MayAsk (Stands state.old) pe }
     ensures { MayAsk (Stands state.new) pe }
@@ -143,7 +143,7 @@ fn issue(alloc: Global, state: &mut RootState, pe: Pe) -> Result<(), StepFault>
     }
 }
 
-// `dsb 0 ish`, or of another PE.
+/// `dsb 0 ish`, or of another PE.
 fn complete(state: &mut RootState, pe: Pe)
     requires { MayAsk (Stands state.old) pe }
     ensures { MayAsk (Stands state.new) pe }
@@ -153,7 +153,7 @@ fn complete(state: &mut RootState, pe: Pe)
     state.complete(pe, Dsb { domain, types });
 }
 
-// An `unroot` that breaks no rule.
+/// An `unroot` that breaks no rule.
 fn retire(state: &mut RootState, pe: Pe, page: Page) -> Result<(), StepFault>
     requires { MayAsk (Stands state.old) pe }
 {

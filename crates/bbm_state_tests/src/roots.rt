@@ -51,7 +51,7 @@ const ONE: u64 = 0x4000_0000;
 
 const OTHER: u64 = 0x4000_1000;
 
-// A TLBI of the PE, and a DSB ISH of the PE that answers it.
+/// A TLBI of the PE, and a DSB ISH of the PE that answers it.
 fn flush(alloc: Global, roots: &mut Roots, pe: Pe, op: TlbiOp, xt: u64) -> Result<(), RootFault>
     requires { pe < pes_of roots.old }
     ensures pes { pes_of roots.new ≡ pes_of roots.old }
@@ -73,7 +73,7 @@ fn flush(alloc: Global, roots: &mut Roots, pe: Pe, op: TlbiOp, xt: u64) -> Resul
     }
 }
 
-// The page at an address, or `NoMemory` where that is none.
+/// The page at an address, or `NoMemory` where that is none.
 fn page_at(base: u64) -> Result<Page, RootFault> {
     match Page::new(base) {
         Some(page) => Ok(page),
@@ -81,7 +81,7 @@ fn page_at(base: u64) -> Result<Page, RootFault> {
     }
 }
 
-// The PE of the header with this number, or `NoMemory` where it has none.
+/// The PE of the header with this number, or `NoMemory` where it has none.
 fn pe_of(header: &Header, number: u8) -> Result<Pe, RootFault>
     ensures { IfOk result (λ pe. pe < header.now.pes) }
 {
@@ -93,7 +93,7 @@ fn pe_of(header: &Header, number: u8) -> Result<Pe, RootFault>
     }
 }
 
-// The call's answer. `NoMemory` stands for arguments that no log has.
+/// The call's answer. `NoMemory` stands for arguments that no log has.
 fn make(alloc: Global, roots: &mut Roots, header: &Header, step: Step) -> Result<(), RootFault>
     requires pes { pes_of roots.old ≡ header.now.pes }
     requires world { world_of roots.old ≡ header.now.world }
@@ -124,7 +124,7 @@ fn make(alloc: Global, roots: &mut Roots, header: &Header, step: Step) -> Result
     }
 }
 
-// The answer of the last call, or of the first that is refused.
+/// The answer of the last call, or of the first that is refused.
 fn answer(alloc: Global, header: &Header, steps: &[Step]) -> Result<(), RootFault> {
     let mut roots = Roots::new(alloc, header)?;
     for one in steps {

@@ -24,7 +24,7 @@ const BLOCK: u64 = 0x8000_0701;
 
 const MOVED: u64 = 0xc000_0701;
 
-// A block is read by a TLB and replaced while it is kept there; then two entries are dropped, where there is one.
+/// A block is read by a TLB and replaced while it is kept there; then two entries are dropped, where there is one.
 fn steps(pe: Pe, page: Page, place: Place) -> [Step; 8] {
     let kind = Kind::El2;
     let lock = None;
@@ -62,7 +62,7 @@ fn steps(pe: Pe, page: Page, place: Place) -> [Step; 8] {
     ]
 }
 
-// The first steps of the run.
+/// The first steps of the run.
 fn first_steps(alloc: Global, count: usize) -> Option<Vec<Step>> {
     let steps = steps(Pe::new(0)?, Page::new(ROOT)?, Place::new(ROOT + 8)?);
     let mut first = Vec::new(alloc);

@@ -14,7 +14,7 @@ use bbm_oracle_tags::{Reading, readings_at};
 use bbm_regimes::{NoMemory, Page, Place, same_tag};
 use std::alloc::Global;
 
-// Whether an entry has a part at the place from which the value needs break-before-make.
+/// Whether an entry has a part at the place from which the value needs break-before-make.
 fn any_stale(living: &[Living], place: Place, value: u64) -> bool
     ensures { result ≡ any (λ l. any (spec.is_stale place value) (parts_of l.entry)) living.now }
 {
@@ -23,14 +23,14 @@ fn any_stale(living: &[Living], place: Place, value: u64) -> bool
         .any(|living| living.entry.is_stale(place, value))
 }
 
-// Whether an entry has a part in the page.
+/// Whether an entry has a part in the page.
 fn any_in(living: &[Living], page: Page) -> bool
     ensures { result ≡ any (λ l. any (λ part. page_of part.place == page) (parts_of l.entry)) living.now }
 {
     living.iter().any(|living| living.entry.is_in(page))
 }
 
-// Whether the entry's tag is among the readings for another root.
+/// Whether the entry's tag is among the readings for another root.
 fn has_other_root(readings: &[Reading], entry: &Entry) -> bool
     ensures { result ≡ any (spec.has_other_root entry.now) readings.now }
 {
@@ -39,7 +39,7 @@ fn has_other_root(readings: &[Reading], entry: &Entry) -> bool
     readings.iter().any(|reading| same_tag(reading.tag, tag) && reading.root != root)
 }
 
-// Whether an entry's tag is.
+/// Whether an entry's tag is.
 fn any_other_root(living: &[Living], readings: &[Reading]) -> bool
     ensures { result ≡ any (λ l. any (spec.has_other_root l.entry) readings.now) living.now }
 {

@@ -44,7 +44,7 @@ impl Model for Part {
 }
 
 impl Part {
-    // What the value means.
+    /// What the value means.
     fn desc(self) -> Desc
         ensures { result ≡ spec.desc_in self }
     {
@@ -63,7 +63,7 @@ impl Part {
         }
     }
 
-    // The input pages that the place translates.
+    /// The input pages that the place translates.
     fn region(self) -> Interval
         ensures { result ≡ spec.region_in self }
     {
@@ -73,14 +73,14 @@ impl Part {
         }
     }
 
-    // Whether it stands at the place, and the value needs break-before-make from it.
+    /// Whether it stands at the place, and the value needs break-before-make from it.
     fn is_stale(self, place: Place, value: u64) -> bool
         ensures { result ≡ is_stale_part place value self }
     {
         self.place == place && needs_bbm(self.kind, self.level, self.value, value)
     }
 
-    // Whether it stands in the page.
+    /// Whether it stands in the page.
     fn is_in(self, page: Page) -> bool
         ensures { result ≡ (page_of self.place == page) }
     {
@@ -88,14 +88,14 @@ impl Part {
     }
 }
 
-// Whether a part stands at the place, and the value needs break-before-make from it.
+/// Whether a part stands at the place, and the value needs break-before-make from it.
 fn has_stale(parts: &[Part], place: Place, value: u64) -> bool
     ensures { result ≡ any (is_stale_part place value) parts.now }
 {
     parts.iter().any(|part| part.is_stale(place, value))
 }
 
-// Adds parts at the end.
+/// Adds parts at the end.
 fn add_all(parts: &mut Vec<Part>, more: &[Part]) -> Result<(), NoMemory>
     ensures { OnOk result (parts.new.items ≡ parts.old.items ++ more.now) }
 {
@@ -105,7 +105,7 @@ fn add_all(parts: &mut Vec<Part>, more: &[Part]) -> Result<(), NoMemory>
     Ok(())
 }
 
-// Whether a part stands in the page.
+/// Whether a part stands in the page.
 fn has_one_in(parts: &[Part], page: Page) -> bool
     ensures { result ≡ any (λ part. page_of part.place == page) parts.now }
 {

@@ -7,7 +7,7 @@ ghost use Rattle.bbm_tlb_machine.specs.Step.{root_of as root_with};
 use bbm_events::{Header, input_pages};
 use bbm_regimes::{Kind, Place};
 
-// The bytes of all pages of a root of the kind.
+/// The bytes of all pages of a root of the kind.
 fn root_size(header: &Header, kind: Kind) -> u64
     ensures value { result ≡ 4096 * spec.page_count header.now.world kind }
     ensures some { 0 < result }

@@ -20,7 +20,7 @@ pub enum Look {
     Further(PeMask),
 }
 
-// A look at one event, where later ones publish writes of the marked PEs.
+/// A look at one event, where later ones publish writes of the marked PEs.
 #[tactic(auto, using(crate::proofs::LookBack::looks))]
 fn look_at(header: &Header, pe: Pe, place: Place, value: u64, marks: PeMask, event: &Event) -> Look
     ensures { (later older : List Event) → Marks header.now pe later marks

@@ -1,4 +1,5 @@
 //! The machine of TLBs, and the runs that it follows.
+//! Source: project's own choice, where no other is named.
 
 ghost use Rattle.std.specs.Prelude.{◌≡◌, ℕ, ◌+◌, ◌-◌, ◌<◌, ◌≤◌, ◌^◌, true, List, [], ◌∷◌, None, Some, Err, length, reverse, IfOk, OnOk, is_some};
 ghost use Rattle.bbm_events.specs.Heading.{Heading};
@@ -34,7 +35,7 @@ pub enum FollowFault {
 }
 
 /// The machine where it stands in a run: the events taken, the entries that the TLBs keep, and the first conflict. A
-/// clause sees it as what `follow` has. Source: project's own choice.
+/// clause sees it as what `follow` has.
 #[derive(Drop)]
 pub struct Machine {
     events: Vec<Event>,
@@ -58,7 +59,7 @@ impl Model for Machine {
 }
 
 impl Machine {
-    // The machine before any step.
+    /// The machine before any step.
     fn new(alloc: Global) -> Machine
         ensures { result ≡ record { state = at_start; pending = []; conflict = None } }
     {
@@ -81,7 +82,7 @@ impl Machine {
         self.conflict
     }
 
-    // The entry that the line makes, None where it makes none.
+    /// The entry that the line makes, None where it makes none.
     fn entry_of(
         &self,
         alloc: Global,
@@ -94,7 +95,7 @@ impl Machine {
         made_by(alloc, header, &self.events, &self.living, line)
     }
 
-    // Adds an entry.
+    /// Adds an entry.
     fn add(&mut self, entry: Entry) -> Result<(), NoMemory>
         requires { self.old.state.made < 2 ^ 64 - 1 }
         ensures state { OnOk result (self.new.state ≡ with_entry self.old.state entry) }
@@ -109,7 +110,7 @@ impl Machine {
         self.living.insert(0, living).map_err(|_| NoMemory)
     }
 
-    // Drops the entry with this number. False where there is none.
+    /// Drops the entry with this number. False where there is none.
     fn drop_entry(&mut self, number: u32) -> bool
         ensures step { (heading : Heading) → step_to heading self.old.state (MachineStep (DropLine number))
             ≡ if_so result self.new.state }
@@ -126,7 +127,7 @@ impl Machine {
         true
     }
 
-    // Takes the step of a line. False where it is none.
+    /// Takes the step of a line. False where it is none.
     fn take_line(
         &mut self,
         alloc: Global,
@@ -152,14 +153,14 @@ impl Machine {
         }
     }
 
-    // Whether a DSB of the PE answers a TLBI that must have taken an entry which is still there.
+    /// Whether a DSB of the PE answers a TLBI that must have taken an entry which is still there.
     fn leaves(&self, header: &Header, pe: Pe, dsb: Dsb) -> bool
         ensures { result ≡ spec_leaves header.now self.now.state.living pe dsb self.now.pending }
     {
         leaves_any(header, &self.living, pe, dsb, &self.pendings)
     }
 
-    // Whether the event is such a DSB.
+    /// Whether the event is such a DSB.
     fn is_left(&self, header: &Header, event: &Event) -> bool
         requires { IsPending header.now self.now.state.log self.now.pending }
         ensures { result ≡ leaves_some header.now self.now.state event.now }
@@ -170,7 +171,7 @@ impl Machine {
         }
     }
 
-    // Takes the event in what is unanswered.
+    /// Takes the event in what is unanswered.
     fn note(&mut self, alloc: Global, header: &Header, event: &Event) -> Result<(), NoMemory>
         ensures pending { OnOk result (IsPending header.now self.old.state.log self.old.pending
             → IsPending header.now (event.now ∷ self.old.state.log) self.new.pending) }
@@ -180,7 +181,7 @@ impl Machine {
         take_event(alloc, header, &self.events, &mut self.pendings, event)
     }
 
-    // Adds the event to those taken.
+    /// Adds the event to those taken.
     fn push(&mut self, event: &Event) -> Result<(), NoMemory>
         ensures state { OnOk result (self.new.state ≡ after_event self.old.state event.now) }
         ensures pending { self.new.pending ≡ self.old.pending }
@@ -189,7 +190,7 @@ impl Machine {
         self.events.push(*event).map_err(|_| NoMemory)
     }
 
-    // Takes the event.
+    /// Takes the event.
     fn enter(&mut self, alloc: Global, header: &Header, event: &Event) -> Result<(), NoMemory>
         requires { IsPending header.now self.old.state.log self.old.pending }
         ensures state { OnOk result (self.new.state ≡ after_event self.old.state event.now) }
@@ -201,7 +202,7 @@ impl Machine {
         Ok(())
     }
 
-    // Whether an entry conflicts with the last event.
+    /// Whether an entry conflicts with the last event.
     fn meets(&self, alloc: Global, header: &Header, event: &Event) -> Result<bool, NoMemory>
         ensures { IfOk result (λ b. (h : List TheEvent) → self.now.state.log ≡ event.now ∷ h
             → b ≡ any (λ l. conflicts_with header.now h event.now l.entry) self.now.state.living) }
@@ -209,7 +210,7 @@ impl Machine {
         in_conflict(alloc, header, &self.events, &self.living, event)
     }
 
-    // Whether the event, which was taken last, is in conflict with the state before it.
+    /// Whether the event, which was taken last, is in conflict with the state before it.
     fn conflicts(&self, alloc: Global, header: &Header, event: &Event) -> Result<bool, NoMemory>
         ensures { IfOk result (λ b. (s : State) → self.now.state ≡ after_event s event.now
             → b ≡ spec_conflict header.now s event.now) }
@@ -217,7 +218,7 @@ impl Machine {
         self.meets(alloc, header, event)
     }
 
-    // Names the step of the event, which was taken last, where it is the first with a conflict.
+    /// Names the step of the event, which was taken last, where it is the first with a conflict.
     fn mark(
         &mut self,
         alloc: Global,
@@ -239,7 +240,7 @@ impl Machine {
         Ok(())
     }
 
-    // Takes the step of an event. False where it is none.
+    /// Takes the step of an event. False where it is none.
     fn take(
         &mut self,
         alloc: Global,
@@ -262,7 +263,7 @@ impl Machine {
         Ok(true)
     }
 
-    // Takes a step, of which this is the index. False where it is none of the machine's.
+    /// Takes a step, of which this is the index. False where it is none of the machine's.
     #[tactic(auto, using(crate::proofs::FollowSteps::steps))]
     fn step(
         &mut self,
@@ -283,7 +284,7 @@ impl Machine {
         }
     }
 
-    // Takes a step, of which this is the index, or names it.
+    /// Takes a step, of which this is the index, or names it.
     fn go(
         &mut self,
         alloc: Global,
@@ -312,7 +313,7 @@ impl Machine {
 
 /// Follows a run: its events and what the TLBs do between them, under the header. `BadStep` exactly where a step is none
 /// of the machine's, with the index of the first such, counted from 0. The work for a step grows with the number of the
-/// entries that are living, and with that of the events taken. Source: project's own choice.
+/// entries that are living, and with that of the events taken.
 #[tactic(auto, using(crate::proofs::FollowSteps::ends))]
 pub fn follow(alloc: Global, header: &Header, steps: &Vec<Step>) -> Result<Machine, FollowFault>
     ensures followed { IfOk result (λ machine. Follows header.now (reverse steps.now.items) machine) }

@@ -11,7 +11,7 @@ use bbm_events::{Event, Header, MachineLine};
 use bbm_regimes::{NoMemory, Pe, Place};
 use std::alloc::Global;
 
-// The entry that has one part more than the one with this number.
+/// The entry that has one part more than the one with this number.
 #[tactic(auto, using(crate::proofs::MadeLemmas::made))]
 fn extend_at(
     alloc: Global,
@@ -31,7 +31,7 @@ fn extend_at(
     }
 }
 
-// The combined entry of the one with this number.
+/// The combined entry of the one with this number.
 #[tactic(auto, using(crate::proofs::MadeLemmas::made))]
 fn combine_at(
     alloc: Global,
@@ -50,7 +50,7 @@ fn combine_at(
     }
 }
 
-// The copy at the PE of the entry with this number.
+/// The copy at the PE of the entry with this number.
 #[tactic(auto, using(crate::proofs::MadeLemmas::made))]
 fn share_at(
     alloc: Global,

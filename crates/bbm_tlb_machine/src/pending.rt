@@ -38,7 +38,7 @@ impl Model for Pending {
 }
 
 impl Pending {
-    // The event that issued it.
+    /// The event that issued it.
     fn tlbi(&self) -> Event
         ensures { result ≡ self.now.tlbi }
     {
@@ -49,7 +49,7 @@ impl Pending {
         }
     }
 
-    // What it names at its issue, None where it takes nothing.
+    /// What it names at its issue, None where it takes nothing.
     fn scope(&self) -> Option<Scope>
         ensures { result ≡ self.now.scope }
     {
@@ -63,7 +63,7 @@ impl Pending {
     }
 }
 
-// Whether the TLBI must have taken the entry by the time that it is answered.
+/// Whether the TLBI must have taken the entry by the time that it is answered.
 #[tactic(auto, using(crate::proofs::PendingSteps::never))]
 fn must_leave(header: &Header, pending: &Pending, entry: &Entry) -> bool
     ensures { result ≡ spec.must_leave header.now pending.now entry.now }
@@ -78,7 +78,7 @@ fn must_leave(header: &Header, pending: &Pending, entry: &Entry) -> bool
     }
 }
 
-// Whether it must have taken one of the entries.
+/// Whether it must have taken one of the entries.
 fn leaves_by(header: &Header, living: &[Living], pending: &Pending) -> bool
     ensures { result ≡ spec.leaves_by header.now living.now pending.now }
 {
@@ -87,7 +87,7 @@ fn leaves_by(header: &Header, living: &[Living], pending: &Pending) -> bool
         .any(|living| must_leave(header, pending, &living.entry))
 }
 
-// Whether a DSB of the PE answers it.
+/// Whether a DSB of the PE answers it.
 fn is_answered(pe: Pe, dsb: Dsb, pending: &Pending) -> bool
     ensures { result ≡ spec.is_answered pe dsb pending.now }
 {
@@ -108,14 +108,14 @@ pub fn leaves_any(
         && leaves_by(header, living, pending))
 }
 
-// Forgets what a DSB of the PE answers.
+/// Forgets what a DSB of the PE answers.
 fn answer(pendings: &mut Vec<Pending>, pe: Pe, dsb: Dsb)
     ensures { pendings.new.items ≡ filter (λ p. not (spec.is_answered pe dsb p)) pendings.old.items }
 {
     pendings.retain(|pending| !is_answered(pe, dsb, pending));
 }
 
-// Puts the TLBI in front, which is issued after these events.
+/// Puts the TLBI in front, which is issued after these events.
 #[tactic(auto, using(std::proofs::lemmas::Grind::common_steps))]
 fn issue(
     alloc: Global,

@@ -21,7 +21,7 @@ use bbm_regimes::{AsidFrom, Kind, NoMemory, Pe, Place, Reg, World, tag_number};
 use bbm_tlbi_scope::EntryKind;
 use std::alloc::Global;
 
-// The kind of the entries that are read through tables of the kind.
+/// The kind of the entries that are read through tables of the kind.
 fn entry_kind(kind: Kind) -> EntryKind
     ensures { result ≡ spec.entry_kind kind }
 {
@@ -32,7 +32,7 @@ fn entry_kind(kind: Kind) -> EntryKind
     }
 }
 
-// The VMID that such an entry has under a VMID or an ASID.
+/// The VMID that such an entry has under a VMID or an ASID.
 fn vmid_under(kind: Kind, number: u16) -> u16
     ensures { result ≡ spec.vmid_under kind number }
 {
@@ -42,7 +42,7 @@ fn vmid_under(kind: Kind, number: u16) -> u16
     }
 }
 
-// The ASID that it has.
+/// The ASID that it has.
 fn asid_under(kind: Kind, number: u16) -> u16
     ensures { result ≡ spec.asid_under kind number }
 {
@@ -52,7 +52,7 @@ fn asid_under(kind: Kind, number: u16) -> u16
     }
 }
 
-// The register whose values name the current ASIDs, None in the world of a hypervisor.
+/// The register whose values name the current ASIDs, None in the world of a hypervisor.
 fn asid_register(header: &Header) -> Option<Reg>
     ensures { (h : List TheEvent) (p : ℕ) → spec.current_asids header.now.world h p ≡ asids_by result h p }
 {
@@ -65,14 +65,14 @@ fn asid_register(header: &Header) -> Option<Reg>
     }
 }
 
-// Whether one of the values has the ASID.
+/// Whether one of the values has the ASID.
 fn has_asid(values: &[u64], number: u16) -> bool
     ensures { result ≡ any (λ value. number_in value == number) values.now }
 {
     values.iter().any(|value| tag_number(*value) == number)
 }
 
-// Whether the ASID is current at the PE.
+/// Whether the ASID is current at the PE.
 #[tactic(auto, using(crate::proofs::ListWords::among_numbers))]
 fn is_current(
     alloc: Global,
@@ -93,7 +93,7 @@ fn is_current(
     }
 }
 
-// Whether an entry of the kind may have the number.
+/// Whether an entry of the kind may have the number.
 fn has_number(
     alloc: Global,
     header: &Header,
@@ -111,7 +111,7 @@ fn has_number(
     }
 }
 
-// Whether the tag of the entry is readable at its PE for its root.
+/// Whether the tag of the entry is readable at its PE for its root.
 fn is_tagged(
     alloc: Global,
     header: &Header,
@@ -125,7 +125,7 @@ fn is_tagged(
     Ok(is_read(&readings, entry.tag(), entry.root))
 }
 
-// Whether the entry may be started.
+/// Whether the entry may be started.
 fn may_start(
     alloc: Global,
     header: &Header,
@@ -188,7 +188,7 @@ pub fn start(
     }
 }
 
-// Whether the PE can read the value of the place, and it is valid one level below a part.
+/// Whether the PE can read the value of the place, and it is valid one level below a part.
 fn can_follow(
     header: &Header,
     events: &[Event],
@@ -204,7 +204,7 @@ fn can_follow(
     can_read(header, events, place, pe, value) && is_valid(part.kind, part.level + 1, value)
 }
 
-// The part one level below.
+/// The part one level below.
 fn next_part(part: Part, place: Place, value: u64) -> Part
     requires { part.level < 3 }
     ensures { result ≡ spec.next_part part place value }
@@ -253,7 +253,7 @@ pub fn extend(
     }))
 }
 
-// Whether it is a stage 2 entry.
+/// Whether it is a stage 2 entry.
 fn is_stage2(kind: EntryKind) -> bool
     ensures { result ≡ spec.is_stage2 kind }
 {
@@ -283,7 +283,7 @@ pub fn combine(alloc: Global, events: &[Event], entry: &Entry) -> Result<Option<
     }))
 }
 
-// Whether TLBs may copy entries to the PE.
+/// Whether TLBs may copy entries to the PE.
 fn may_share(header: &Header, pe: Pe) -> bool
     ensures { result ≡ spec.may_share header.now pe }
 {

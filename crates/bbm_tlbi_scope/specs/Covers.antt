@@ -1,4 +1,5 @@
 -- Which places a TLBI covers, and how far.
+-- Source: project's own choice, where no other is named.
 use Rattle.std.specs.Prelude.{ℕ, Bool, true, false, Option, Some, None, is_none, not, ◌&&◌, if◌then◌else◌}
 use Rattle.bbm_regimes.specs.declared.regime.Kind.{Kind}
 use Rattle.bbm_regimes.specs.declared.regime.Kind.TheVariants.{El2, S2, Ttbr0, Ttbr1}
@@ -19,7 +20,7 @@ abbrev pub fits_leaf : Scope → PlaceView → Bool
 fits_leaf s v = names_some s.interval v.region && hint_allows s.level v.level
 
 -- Whether a scope fits a held table. Below a table that isn't childless the TLB may keep entries for each
--- page of its region; so the scope has to name them all. Source: project's own choice.
+-- page of its region; so the scope has to name them all.
 abbrev pub fits_table : Scope → PlaceView → Bool
 fits_table s v =
     not s.last_only && is_none s.level
@@ -69,7 +70,7 @@ cover_by Ttbr1 Va fits s vmid v = where_fits Full (fits && (not v.table && v.glo
 cover_by _ _ fits s vmid v = NoCover
 
 -- How far a TLBI of this scope, under this VMID, covers the place. Where it is for one VMID alone and none is
--- defined, it covers nothing: which entries it takes isn't known. Source: project's own choice.
+-- defined, it covers nothing: which entries it takes isn't known.
 abbrev pub cover_of : Scope → Option ℕ → PlaceView → Cover
 cover_of s vmid v =
     if lacks_vmid s.vmid_scoped vmid then NoCover else cover_by v.kind s.family (fits_place s v) s vmid v

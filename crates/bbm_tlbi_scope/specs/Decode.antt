@@ -1,4 +1,5 @@
 -- The scope of a TLBI operation with its operand.
+-- Source: project's own choice, where no other is named.
 use Rattle.std.specs.Prelude.{ℕ, Bool, true, not, Option, Some, None, Result, Ok, Err, ◌==◌, ◌||◌, if◌then◌else◌}
 use Rattle.bbm_regimes.specs.Extent.{Extent}
 use Rattle.bbm_range.specs.declared.Range.{Range}
@@ -17,7 +18,7 @@ use Rattle.bbm_tlbi_scope.specs.Operand.{asid_field, ttl_granule, va_page, ipa_p
 
 -- Whether the page number lies in the address range of the regime: 48 bits of input address at EL2 and at
 -- stage 2; a lower and an upper range of 48 bits each at stage 1 of EL1&0, where the bits above are all
--- zeros or all ones. Source: project's own choice.
+-- zeros or all ones.
 abbrev pub canonical : Family → ℕ → Bool
 canonical El2Va xt = top_bits xt == 0
 canonical Va xt = top_bits xt == 0 || top_bits xt == 255
@@ -25,7 +26,7 @@ canonical VaAll xt = top_bits xt == 0 || top_bits xt == 255
 canonical Ipa xt = top_bits xt == 0
 canonical _ xt = true
 
--- Whether the granule of the level hint is none or 4 KiB. Source: project's own choice.
+-- Whether the granule of the level hint is none or 4 KiB.
 abbrev pub granule_known : Family → ℕ → Bool
 granule_known family xt = if has_page family then (ttl_granule xt == 0 || ttl_granule xt == 1) else true
 
@@ -68,7 +69,7 @@ page_scope o xt =
     else Err NonCanonical
 
 -- Whether the pages of a range begin in the address range of the regime: only stage 1 of EL1&0 has an upper
--- range. Source: project's own choice.
+-- range.
 abbrev pub range_canonical : Family → ℕ → Bool
 range_canonical El2Va xt = not (is_upper xt)
 range_canonical Ipa xt = not (is_upper xt)

@@ -1,4 +1,5 @@
 //! TLB entries and places of translation tables, as a TLBI sees them.
+//! Source: project's own choice, where no other is named.
 
 use bbm_regimes::{Interval, Kind, Tag};
 
@@ -34,7 +35,7 @@ pub struct EntryHead {
     pub global: bool,
 }
 
-/// The tags that a root holds, at any PE, at the issue of a TLBI. Source: project's own choice.
+/// The tags that a root holds, at any PE, at the issue of a TLBI.
 #[derive(Clone, Copy, Debug, PartialEq, Eq)]
 pub enum TagSet {
     /// No tag.
@@ -45,7 +46,7 @@ pub enum TagSet {
     Many,
 }
 
-/// A place that holds a value, at the issue of a TLBI. Source: project's own choice.
+/// A place that holds a value, at the issue of a TLBI.
 #[derive(Clone, Copy, Debug, PartialEq, Eq)]
 pub struct PlaceView {
     /// The kind of the tree that the place is in.

@@ -1,4 +1,5 @@
 //! What a TLBI operation with its operand says: its scope.
+//! Source: project's own choice, where no other is named.
 
 ghost use Rattle.std.specs.Prelude.{◌≡◌};
 ghost use Rattle.bbm_tlbi_scope.specs.Operations as words;
@@ -54,7 +55,7 @@ impl Family {
         matches!(self, Family::Va | Family::Asid)
     }
 
-    /// Whether the family is one that a hypervisor uses. Source: project's own choice.
+    /// Whether the family is one that a hypervisor uses.
     pub fn of_hyp(self) -> bool
         ensures { result ≡ words.of_hyp self }
     {
@@ -69,7 +70,7 @@ impl Family {
         )
     }
 
-    /// Whether the family is one that a kernel uses. Source: project's own choice.
+    /// Whether the family is one that a kernel uses.
     pub fn of_kernel(self) -> bool
         ensures { result ≡ words.of_kernel self }
     {
@@ -100,7 +101,7 @@ pub struct Scope {
     pub broadcast: bool,
 }
 
-/// Why the operand of a TLBI can't be decoded. Source: project's own choice.
+/// Why the operand of a TLBI can't be decoded.
 #[derive(Clone, Copy, Debug, PartialEq, Eq)]
 pub enum BadOperand {
     /// The page number lies outside the address range of the operation's regime.
@@ -145,14 +146,14 @@ impl Scope {
     }
 }
 
-/// Whether a TLBI for one VMID alone has none. Source: project's own choice.
+/// Whether a TLBI for one VMID alone has none.
 pub fn lacks_vmid(vmid_scoped: bool, vmid: Option<u16>) -> bool
     ensures { result ≡ numbers.lacks_vmid vmid_scoped vmid }
 {
     vmid_scoped && vmid.is_none()
 }
 
-/// Whether the VMID or ASID is there and is this number, 0 to 65535. Source: project's own choice.
+/// Whether the VMID or ASID is there and is this number, 0 to 65535.
 pub fn is_number(named: Option<u16>, number: u16) -> bool
     ensures { result ≡ numbers.is_number named number }
 {

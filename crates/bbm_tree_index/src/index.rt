@@ -1,4 +1,5 @@
 //! The index of the trees.
+//! Source: project's own choice, where no other is named.
 
 use crate::climb::{Asked, is_cut};
 use crate::fault::TreeFault;
@@ -17,18 +18,18 @@ use bbm_regimes::{Kind, NoMemory, Page, Place, Which};
 use indexmap::IndexMap;
 use std::alloc::Global;
 
-/// The number of pages that may be tracked. Source: project's own choice.
+/// The number of pages that may be tracked.
 const MAX_PAGES: usize = 16384;
 
 /// What each page of a log is used for, and where it hangs in a tree. Clauses speak of the node of each page, and of the
-/// fresh pages and the null pages. Source: project's own choice.
+/// fresh pages and the null pages.
 #[derive(Drop)]
 pub struct TreeIndex {
     header: Header,
     roles: IndexMap<u64, Role>,
 }
 
-/// Pages that can be attached, as a survey found them: a table for each level. Source: project's own choice.
+/// Pages that can be attached, as a survey found them: a table for each level.
 #[derive(Drop)]
 pub struct Prepared {
     tables: Vec<IndexMap<u64, Mark>>,
@@ -127,7 +128,7 @@ impl TreeIndex {
         }
     }
 
-    // Where the page stands, None where it is in no tree.
+    /// Where the page stands, None where it is in no tree.
     #[inline(always)]
     fn spot(&self, page: Page) -> Option<Spot>
         requires { IsSound self.now }
@@ -203,7 +204,7 @@ impl TreeIndex {
         put(&mut self.roles, page, Role::Null);
     }
 
-    // The pages that leave are in no tree any more, and no place of them is broken.
+    /// The pages that leave are in no tree any more, and no place of them is broken.
     fn leave(&mut self, map: &mut PlaceMap, leaving: &Leaving)
         requires { IsSound self.old }
         ensures node { (p : ℕ) → node_in self.new p ≡ kept (stays map.old leaving.now) (node_in self.old p) }
@@ -311,7 +312,7 @@ impl TreeIndex {
         }
     }
 
-    // The kind and the level at which the paths of what is attached begin.
+    /// The kind and the level at which the paths of what is attached begin.
     fn begin(&self, at: &Attach) -> (Kind, u8)
         requires sound { IsSound self.now }
         requires may { MayJudge self.now at.now }
@@ -329,7 +330,7 @@ impl TreeIndex {
         }
     }
 
-    // The table of the pages at which the paths of what is attached begin.
+    /// The table of the pages at which the paths of what is attached begin.
     fn start(&self, alloc: Global, at: &Attach) -> Result<IndexMap<u64, Mark>, NoMemory>
         requires sound { IsSound self.now }
         requires may { MayJudge self.now at.now }
@@ -348,7 +349,7 @@ impl TreeIndex {
         }
     }
 
-    // The pages that would be attached, a table for each level from the one at which the paths begin.
+    /// The pages that would be attached, a table for each level from the one at which the paths begin.
     fn survey(
         &self,
         alloc: Global,
@@ -366,7 +367,7 @@ impl TreeIndex {
         Ok(tables)
     }
 
-    // Judges what is attached by its survey.
+    /// Judges what is attached by its survey.
     fn judge_survey(
         &self,
         map: &PlaceMap,

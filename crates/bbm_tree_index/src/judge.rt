@@ -37,7 +37,7 @@ pub fn is_named(at: &Attach) -> bool
     matches!(at, Attach::Root { .. })
 }
 
-// Whether the page is in a table of another level than this one.
+/// Whether the page is in a table of another level than this one.
 fn is_elsewhere(tables: &[IndexMap<u64, Mark>], level: usize, page: Page) -> bool
     ensures { (result ≡ true) ↔ Elsewhere tables.now level page }
 {
@@ -49,8 +49,8 @@ fn is_elsewhere(tables: &[IndexMap<u64, Mark>], level: usize, page: Page) -> boo
     false
 }
 
-// Whether a path to the page of a level breaks not-fresh. Of the named pages of a root it isn't asked whether they are
-// fresh.
+/// Whether a path to the page of a level breaks not-fresh. Of the named pages of a root it isn't asked whether they are
+/// fresh.
 fn is_wrong(
     roles: &IndexMap<u64, Role>,
     tables: &[IndexMap<u64, Mark>],
@@ -70,7 +70,7 @@ fn is_wrong(
     !is_fresh(roles, page)
 }
 
-// The lesser of two pages.
+/// The lesser of two pages.
 fn lesser_page(page: Option<Page>, other: Option<Page>) -> Option<Page>
     ensures { result ≡ lesser page other }
 {
@@ -87,7 +87,7 @@ fn lesser_page(page: Option<Page>, other: Option<Page>) -> Option<Page>
     }
 }
 
-// The page at an index of a table where it breaks not-fresh.
+/// The page at an index of a table where it breaks not-fresh.
 fn wrong_at(
     roles: &IndexMap<u64, Role>,
     tables: &[IndexMap<u64, Mark>],
@@ -109,7 +109,7 @@ fn wrong_at(
     }
 }
 
-// The least page of a table that breaks not-fresh.
+/// The least page of a table that breaks not-fresh.
 fn wrong_in(
     roles: &IndexMap<u64, Role>,
     tables: &[IndexMap<u64, Mark>],
@@ -128,7 +128,7 @@ fn wrong_in(
     least
 }
 
-// The least page that breaks not-fresh.
+/// The least page that breaks not-fresh.
 fn least_wrong(
     roles: &IndexMap<u64, Role>,
     tables: &[IndexMap<u64, Mark>],
@@ -145,7 +145,7 @@ fn least_wrong(
     least
 }
 
-// Whether the value is a leaf that is asked for.
+/// Whether the value is a leaf that is asked for.
 fn is_leaf(leaf: &Leaf, kind: Kind, level: u8, value: u64) -> bool
     requires { level ≤ 3 }
     ensures { result ≡ asks leaf.now kind (desc_of kind level value) }
@@ -166,7 +166,7 @@ fn is_leaf(leaf: &Leaf, kind: Kind, level: u8, value: u64) -> bool
     }
 }
 
-// The lesser of two places.
+/// The lesser of two places.
 fn lesser_place(place: Option<Place>, other: Option<Place>) -> Option<Place>
     ensures { result ≡ lesser place other }
 {
@@ -183,7 +183,7 @@ fn lesser_place(place: Option<Place>, other: Option<Place>) -> Option<Place>
     }
 }
 
-// The place of a page with this number, where it has a leaf that is asked for.
+/// The place of a page with this number, where it has a leaf that is asked for.
 fn leaf_at(
     map: &PlaceMap,
     leaf: &Leaf,
@@ -204,7 +204,7 @@ fn leaf_at(
     }
 }
 
-// The least place of a page with a leaf that is asked for.
+/// The least place of a page with a leaf that is asked for.
 fn leaf_of(map: &PlaceMap, leaf: &Leaf, kind: Kind, level: u8, page: Page) -> Option<Place>
     requires { level ≤ 3 }
     ensures { LeastOf (LeafOf (value_at map.now) (asks leaf.now) kind level page) result }
@@ -217,7 +217,7 @@ fn leaf_of(map: &PlaceMap, leaf: &Leaf, kind: Kind, level: u8, page: Page) -> Op
     least
 }
 
-// The least place of the pages of a table with a leaf that is asked for.
+/// The least place of the pages of a table with a leaf that is asked for.
 fn leaf_in(
     map: &PlaceMap,
     leaf: &Leaf,
@@ -238,7 +238,7 @@ fn leaf_in(
     least
 }
 
-// The least place of the attached pages with a leaf that is asked for.
+/// The least place of the attached pages with a leaf that is asked for.
 fn least_leaf(
     map: &PlaceMap,
     tables: &[IndexMap<u64, Mark>],
@@ -258,14 +258,14 @@ fn least_leaf(
     least
 }
 
-// Whether the kind is that of the lower range.
+/// Whether the kind is that of the lower range.
 fn is_lower(kind: Kind) -> bool
     ensures { result ≡ same_kind kind Kind.Ttbr0 }
 {
     kind == Kind::Ttbr0
 }
 
-// The least place of the attached pages with a leaf for every ASID, in a tree of the lower range.
+/// The least place of the attached pages with a leaf for every ASID, in a tree of the lower range.
 fn least_global(
     map: &PlaceMap,
     tables: &[IndexMap<u64, Mark>],

@@ -44,7 +44,7 @@ pub fn leaves(roles: &IndexMap<u64, Role>, map: &PlaceMap, leaving: &Leaving, ro
     }
 }
 
-// Whether a page of the root with this first page leaves.
+/// Whether a page of the root with this first page leaves.
 fn leaves_root(leaving: &Leaving, first: Page) -> bool
     ensures { result ≡ spec_leaves_root leaving.now first }
 {

@@ -1,8 +1,9 @@
 //! Roles of pages, what a path says of a place, and what is attached.
+//! Source: project's own choice, where no other is named.
 
 use bbm_regimes::{Interval, Kind, Page, Place};
 
-/// What a page is used for. Source: project's own choice.
+/// What a page is used for.
 #[derive(Clone, Copy, Debug, PartialEq, Eq)]
 pub enum Role {
     /// It was never tracked.
@@ -37,7 +38,7 @@ pub enum Role {
     Null,
 }
 
-/// What is known of a place of a tree. Source: project's own choice.
+/// What is known of a place of a tree.
 #[derive(Clone, Copy, Debug, PartialEq, Eq)]
 pub struct Path {
     /// The kind of the tree.
@@ -50,7 +51,7 @@ pub struct Path {
     pub first: Page,
 }
 
-/// What is attached to a tree. Source: project's own choice.
+/// What is attached to a tree.
 #[derive(Clone, Copy, Debug, PartialEq, Eq)]
 pub enum Attach {
     /// The pages of a root.
@@ -69,7 +70,7 @@ pub enum Attach {
     },
 }
 
-/// What is detached from a tree. Source: project's own choice.
+/// What is detached from a tree.
 #[derive(Clone, Copy, Debug, PartialEq, Eq)]
 pub enum Detach {
     /// The pages of the root with this first page.

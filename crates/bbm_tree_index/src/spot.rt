@@ -58,7 +58,7 @@ pub fn spot_of(header: &Header, role: &Role) -> Option<Spot>
     }
 }
 
-// The level below, at which values are read as at level 3 where there is none.
+/// The level below, at which values are read as at level 3 where there is none.
 fn deeper(level: u8) -> u8
     requires { level ≤ 3 }
     ensures low { result ≤ 3 }

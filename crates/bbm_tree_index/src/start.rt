@@ -40,7 +40,7 @@ pub fn start_below(
     Ok(table)
 }
 
-// The page of a root with this number.
+/// The page of a root with this number.
 fn part_page(first: Page, part: u8) -> Page
     requires { first + 4096 * part < 2 ^ 48 }
     ensures { result ≡ first + 4096 * part }

@@ -36,7 +36,7 @@ fn next_page(kind: Kind, level: u8, value: u64) -> Option<Page>
     }
 }
 
-// Notes the path that goes on through the place of a page that stands there.
+/// Notes the path that goes on through the place of a page that stands there.
 fn expand_place(
     map: &PlaceMap,
     spot: &Spot,
@@ -68,7 +68,7 @@ fn expand_place(
     }
 }
 
-// Notes the paths that go on through the places of a fresh page that stands there.
+/// Notes the paths that go on through the places of a fresh page that stands there.
 fn expand_page(
     map: &PlaceMap,
     spot: &Spot,
@@ -103,7 +103,7 @@ pub fn entry_at(table: &IndexMap<u64, Mark>, index: usize) -> (Page, Mark)
     (Page::new(*key).unwrap(), *mark)
 }
 
-// Notes the paths that go on through a page of a level, where it is fresh.
+/// Notes the paths that go on through a page of a level, where it is fresh.
 fn expand_entry(
     header: &Header,
     roles: &IndexMap<u64, Role>,
@@ -155,7 +155,7 @@ pub fn expand(
     Ok(below)
 }
 
-// Adds a table at the end.
+/// Adds a table at the end.
 fn push_table(
     tables: &mut Vec<IndexMap<u64, Mark>>,
     table: IndexMap<u64, Mark>,
@@ -168,7 +168,7 @@ fn push_table(
     }
 }
 
-// Adds the table of the level behind the one with this number, which is the last.
+/// Adds the table of the level behind the one with this number, which is the last.
 fn push_level(
     alloc: Global,
     header: &Header,

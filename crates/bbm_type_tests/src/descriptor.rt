@@ -26,7 +26,7 @@ fn leaf(out: u64, attrs: u8, share: u8, global: bool, contiguous: bool) -> Desc 
     }
 }
 
-// The value is read as this descriptor, and its core has the same fields.
+/// The value is read as this descriptor, and its core has the same fields.
 fn expect_read(rt: &impl Abort, kind: Kind, level: u8, value: u64, want: Desc)
     requires { level ≤ 3 }
 {

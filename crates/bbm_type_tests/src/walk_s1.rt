@@ -7,7 +7,7 @@ ghost use Rattle.bbm_walk_s1.specs.Ranges.{stage1_root};
 use bbm_regimes::{Page, Place};
 use bbm_walk_s1::{Memory, Pairs, S1Root, Walk, walk};
 
-// Whether a leaf translates the address.
+/// Whether a leaf translates the address.
 fn is_mapped<M: Memory>(mem: &M, root: S1Root, va: u64) -> bool
     ensures { IsTrue result ↔ ¬ NoLeaf (M.value_at mem.now) (stage1_root root.start root.high root.page) va }
 {

@@ -7,7 +7,7 @@ ghost use Rattle.bbm_walk_s2.specs.Joined.{can_join, stage2_root};
 use bbm_regimes::{Page, Place};
 use bbm_walk_s2::{Memory, Pairs, S2Root, Walk, walk};
 
-// Whether a leaf translates the address.
+/// Whether a leaf translates the address.
 fn is_mapped<M: Memory>(mem: &M, root: S2Root, ipa: u64) -> bool
     ensures { IsTrue result ↔ ¬ NoLeaf (M.value_at mem.now) (stage2_root root.start root.pages root.page) ipa }
 {

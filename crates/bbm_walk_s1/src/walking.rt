@@ -10,7 +10,7 @@ use bbm_descriptor::laws::{law_one_answer, law_outside, law_walk_begins};
 use bbm_descriptor::{Memory, Walk, place_for, walk_from};
 use bbm_regimes::{Kind, span};
 
-// The first input address of a root, by its start level and whether its range is the high one.
+/// The first input address of a root, by its start level and whether its range is the high one.
 fn first_input(start: u8, high: bool) -> u64
     requires { start ≤ 2 }
     ensures { result ≡ first_address start high }
@@ -22,7 +22,7 @@ fn first_input(start: u8, high: bool) -> u64
     }
 }
 
-// Whether the address is in the input range of a root.
+/// Whether the address is in the input range of a root.
 fn is_in_range(start: u8, high: bool, va: u64) -> bool
     requires { start ≤ 2 }
     ensures { (value : ℕ → ℕ) (page : ℕ) → IsTrue result ↔ RegionHolds value (stage1_root start high page) [] va }

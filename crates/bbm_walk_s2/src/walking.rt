@@ -10,7 +10,7 @@ use bbm_descriptor::laws::{law_one_answer, law_outside, law_walk_begins};
 use bbm_descriptor::{Memory, Walk, walk_from};
 use bbm_regimes::{Kind, Page, Place, span};
 
-// Whether the address is in the input range of a root.
+/// Whether the address is in the input range of a root.
 fn is_in_range(start: u8, pages: u8, ipa: u64) -> bool
     requires start { start ≤ 2 }
     requires pages { pages ≤ 16 }
@@ -19,7 +19,7 @@ fn is_in_range(start: u8, pages: u8, ipa: u64) -> bool
     ipa < pages as u64 * (512 * span(start))
 }
 
-// The place of this number in the joined pages.
+/// The place of this number in the joined pages.
 fn joined_place(page: Page, pages: u8, number: u64) -> Place
     requires inside { number < 512 * pages }
     requires pages { pages ≤ 16 }

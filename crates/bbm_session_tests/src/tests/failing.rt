@@ -20,7 +20,7 @@ fn checked_to(alloc: Global, read: u64) -> Result<(u8, Vec<u8>), AllocError> {
     Ok((status, sink.bytes().to_vec(alloc)?))
 }
 
-// There is a read for each byte, and one that finds the end.
+/// There is a read for each byte, and one that finds the end.
 #[test]
 fn each_read_fails_in_turn(rt: HostRuntime) -> Result<(), Fail> {
     let reads = 283;

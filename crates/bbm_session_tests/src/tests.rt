@@ -15,8 +15,8 @@ mod slow;
 mod told_logs;
 mod usage;
 
-use super::*;
 use bbm_io::{MemSink, MemSource};
+use bbm_session::{number, run};
 use std::alloc::{AllocError, Global};
 
 /// The calls of the source and of the sink that fail, counted from 1 (0: none does), and the room of the

@@ -468,8 +468,8 @@ const LONG: [(&[u8], &[u8], u32, &[u8], &[u8], u8); 16] = [
     ),
 ];
 
-// No contract says that there is memory: with ample memory the log of the first row is accepted, so a
-// body that always answers want of memory fails here.
+/// No contract says that there is memory: with ample memory the log of the first row is accepted, so a
+/// body that always answers want of memory fails here.
 #[test]
 fn judges_the_move_of_a_block(rt: HostRuntime) -> Result<(), Fail> {
     for row in MOVES {
