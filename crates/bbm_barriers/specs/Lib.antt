@@ -1,1 +1,2 @@
 pub mod Options
+pub use Rattle.bbm_regimes.specs as regimes

@@ -1,1 +1,2 @@
 pub mod Following
+pub use Rattle.bbm_tlb_machine.specs as tlb_machine

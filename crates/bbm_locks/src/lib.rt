@@ -5,4 +5,5 @@
 pub mod laws;
 pub mod locks;
 
+pub use bbm_regimes as regimes;
 pub use locks::{Busy, Locks, NotHolder};

@@ -11,3 +11,4 @@ pub mod Finds
 pub mod Notes
 pub mod Map
 pub mod Calls
+pub use Rattle.bbm_entry_state.specs as entry_state

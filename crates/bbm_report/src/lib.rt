@@ -9,6 +9,10 @@ pub mod questions;
 pub mod verdicts;
 pub mod walks;
 
+pub use bbm_log_grammar as log_grammar;
+pub use bbm_rules as rules;
+pub use bbm_rules::events;
+pub use bbm_walk_s1::{descriptor, regimes};
 pub use finding::find;
 pub use phases::phase_text;
 pub use questions::{Question, asked};

@@ -18,6 +18,7 @@ mod taker;
 mod telling;
 mod top;
 
+pub use bbm_io as io;
 pub use command::{Command, Request};
 pub use status::{Status, number};
 pub use top::run;

@@ -2,7 +2,6 @@
 
 use bbm_barriers::{Domain, Dsb, Types};
 use bbm_events::{Event, Header};
-use bbm_oracle_tags::AllPatterns;
 use bbm_oracle_tags::limits::limit_of;
 use bbm_oracle_tags::locks::holder_of;
 use bbm_oracle_tags::numbers::least;
@@ -13,9 +12,9 @@ use bbm_oracle_tags::reach::{completes, publishes_for, reaches};
 use bbm_oracle_tags::readings::readings_at;
 use bbm_oracle_tags::registers::{named_scope, register_values, vmid_of};
 use bbm_oracle_tags::roots::{is_root, lock_of, roots_of};
-use bbm_oracle_tags::rules;
 use bbm_oracle_tags::tags::{holds_tag, tag_set_of};
 use bbm_oracle_tags::values::{places_in, value_of};
+use bbm_oracle_tags::{AllPatterns, rules};
 use bbm_regimes::{HypWorld, Kind, NoMemory, Page, Pe, Place, Reg, Tag, Which, World};
 use bbm_tlbi_scope::{TagSet, TlbiOp};
 use std::alloc::Global;

@@ -2,20 +2,20 @@
 -- are the events taken so far, newest first. `law_fine` says that it is so, and `law_safe` stands on it.
 -- Source: project's own choice.
 use Rattle.std.specs.Prelude.{◌≡◌, ℕ, suc, ◌+◌, ◌*◌, ◌<◌, ◌≤◌, ◌⊎◌, true, false, List, [], ◌∷◌, length, Some, Contains}
-use Rattle.bbm_descriptor.specs.Descriptor.{is_valid, needs}
-use Rattle.bbm_tlbi_scope.specs.Agreement.{read_through}
-use Rattle.bbm_tlbi_scope.specs.declared.entry.EntryKind.TheVariants.{Combined}
-use Rattle.bbm_rules.specs.Claims.{Trust}
-use Rattle.bbm_rules.specs.Covers.{noted}
-use Rattle.bbm_rules.specs.Held.{ValidWrite, held, last_valid}
-use Rattle.bbm_rules.specs.Notes.{Noted}
-use Rattle.bbm_rules.specs.PatternSentences.{Cleansed, HalfBy, Publication}
-use Rattle.bbm_rules.specs.Places.{index_of, page_of}
-use Rattle.bbm_rules.specs.Prelude.{Heading, Kind, Event, first_input_page, input_pages, start_of}
-use Rattle.bbm_rules.specs.Reach.{Issued}
-use Rattle.bbm_rules.specs.Roots.{root_pages}
-use Rattle.bbm_rules.specs.Sentences.{HoldsTag}
-use Rattle.bbm_rules.specs.Tree.{Node, next_of, nodes_of_pages, region_start, tree}
+use Rattle.bbm_histories.specs.descriptor.Descriptor.{is_valid, needs}
+use Rattle.bbm_histories.specs.tlbi_scope.Agreement.{read_through}
+use Rattle.bbm_histories.specs.tlbi_scope.declared.entry.EntryKind.TheVariants.{Combined}
+use Rattle.bbm_histories.specs.rules.Claims.{Trust}
+use Rattle.bbm_histories.specs.rules.Covers.{noted}
+use Rattle.bbm_histories.specs.rules.Held.{ValidWrite, held, last_valid}
+use Rattle.bbm_histories.specs.rules.Notes.{Noted}
+use Rattle.bbm_histories.specs.rules.PatternSentences.{Cleansed, HalfBy, Publication}
+use Rattle.bbm_histories.specs.rules.Places.{index_of, page_of}
+use Rattle.bbm_histories.specs.rules.Prelude.{Heading, Kind, Event, first_input_page, input_pages, start_of}
+use Rattle.bbm_histories.specs.rules.Reach.{Issued}
+use Rattle.bbm_histories.specs.rules.Roots.{root_pages}
+use Rattle.bbm_histories.specs.rules.Sentences.{HoldsTag}
+use Rattle.bbm_histories.specs.rules.Tree.{Node, next_of, nodes_of_pages, region_start, tree}
 use Rattle.bbm_tlb_machine.specs.Entry.{Entry, Part, parts_of, tag_of_entry}
 
 -- ---- the shape of an entry

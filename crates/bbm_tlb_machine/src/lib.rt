@@ -14,6 +14,7 @@ pub mod safety;
 mod starting;
 pub mod step;
 
+pub use bbm_histories::{events, rules};
 pub use laws::{law_conflict, law_run};
 pub use machine::{FollowFault, Machine, follow};
 pub use safety::{law_accepted_is_safe, law_fine, law_safe};
