@@ -120,7 +120,8 @@ static void fill(struct bbm_slot *slot, uint64_t ticket, uint32_t pe, const stru
 
 /* Keeps one event. An interrupt between any two steps may keep others. It is one function for all events: where the
  * compiler knows which fields are zero, it may call memset for them. */
-static __attribute__((__noinline__)) void keep(struct bbm_buffer *buffer, const struct told *told, const struct bbm_label *label)
+static __attribute__((__noinline__)) void keep(struct bbm_buffer *buffer, const struct told *told,
+					       const struct bbm_label *label)
 {
 	uint64_t ticket = take_ticket(buffer->tickets);
 	struct bbm_slot *slot;

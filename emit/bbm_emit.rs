@@ -467,8 +467,8 @@ fn write_line(line: &mut Text<'_>, parts: &[u64; 8]) -> fmt::Result {
 }
 
 fn write_label(line: &mut Text<'_>, parts: &[u64]) -> fmt::Result {
-    let bytes = parts.iter().flat_map(|part| (0..8).map(move |i| (part >> (8 * i)) as u8)).take_while(|byte| *byte != 0);
-    for (i, byte) in bytes.enumerate() {
+    let bytes = parts.iter().flat_map(|part| (0..8).map(move |i| (part >> (8 * i)) as u8));
+    for (i, byte) in bytes.take_while(|byte| *byte != 0).enumerate() {
         if i == 0 {
             line.write_str(" @")?;
         }

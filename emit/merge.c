@@ -78,7 +78,7 @@ static uint64_t written; /* tickets that are */
 
 /* ---- what is wrong */
 
-static void fail(const char *form, ...)
+static __attribute__((__noreturn__)) void fail(const char *form, ...)
 {
 	va_list rest;
 
@@ -676,7 +676,7 @@ static bool read_header(const char *text)
 	return !strcmp(text, again);
 }
 
-static void usage(void)
+static __attribute__((__noreturn__)) void usage(void)
 {
 	fail("usage: merge [--strip PREFIX] [--tickets N] [--follow] HEADER DUMP.. | "
 	     "merge --header kernel PES TCR_EL1 CNP | merge --header hyp PES TCR_EL2 VTCR_EL2 CNP");
@@ -685,19 +685,20 @@ static void usage(void)
 /* merge --header: the header that the registers give. */
 static int write_header(int count, char **words)
 {
+	bool hyp = count == 5 && !strcmp(words[0], "hyp"), kernel = count == 4 && !strcmp(words[0], "kernel");
+	const char *shared = hyp ? words[4] : kernel ? words[3] : "", *wrong;
+	uint64_t pes = 0, tcr = 0, vtcr = 0;
+	int cnp = !strcmp(shared, "cnp");
 	char text[BBM_LINE_BYTES];
-	const char *wrong = NULL;
-	uint64_t pes, tcr, vtcr;
-	bool hyp = count && !strcmp(words[0], "hyp");
-	int cnp = hyp ? 4 : 3;
 
-	if (count != cnp + 1 || (!hyp && strcmp(words[0], "kernel")))
+	if (!cnp && strcmp(shared, "-"))
 		usage();
-	if (!read_decimal(words[1], UINT32_MAX, &pes) || !read_hex(words[2], &tcr) || !read_hex(words[cnp - 1], &vtcr) ||
-	    (strcmp(words[cnp], "cnp") && strcmp(words[cnp], "-")))
+	if (!read_decimal(words[1], UINT32_MAX, &pes) || !read_hex(words[2], &tcr) || (hyp && !read_hex(words[3], &vtcr)))
 		usage();
-	cnp = !strcmp(words[cnp], "cnp");
-	wrong = hyp ? bbm_hyp_header(text, (unsigned)pes, tcr, vtcr, cnp) : bbm_kernel_header(text, (unsigned)pes, tcr, cnp);
+	if (hyp)
+		wrong = bbm_hyp_header(text, (unsigned)pes, tcr, vtcr, cnp);
+	else
+		wrong = bbm_kernel_header(text, (unsigned)pes, tcr, cnp);
 	if (wrong)
 		fail("%s", wrong);
 	printf("%s\n", text);
