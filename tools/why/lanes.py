@@ -32,6 +32,7 @@ class Row:
     phases: tuple[str, ...] = ()
     effects: dict[int, Effect] = field(default_factory=dict)
     refused: bool = False
+    alike: bool = False
 
     @property
     def event(self) -> Event:
@@ -48,6 +49,11 @@ class Chart:
     others: int
     place: int | None
     entries: list[tuple[int, int, int]] = field(default_factory=list)
+
+    @property
+    def has_alike(self) -> bool:
+        """Whether a further column shows behind which rows the refused line would be refused alike."""
+        return any(row.alike for row in self.rows)
 
     def living(self, row: int, pe: int) -> bool:
         """Whether a told run has a stale entry at a PE behind this row."""
@@ -114,7 +120,18 @@ def chart_of(program: Program, header_text: str, lines: Lines, refusal: Refusal,
         before = after
     rows.append(Row(lines[-1], before, {}, True))
     pes, others = columns(header, lines)
+    if not any(row.phases for row in rows):
+        mark_alike(program, header_text, rows, refusal)
     return Chart(header, rows, pes, others, place)
+
+
+def mark_alike(program: Program, header: str, rows: list[Row], refusal: Refusal) -> None:
+    """Marks the rows behind which the refused line would be refused by the same rule at the same place."""
+    lines = [row.line for row in rows]
+    for count, row in enumerate(rows[:-1], 1):
+        found = program.check(written(header, [*lines[:count], lines[-1]])).refusal
+        row.alike = found is not None and (found.line, found.rule, found.at) == (count + 2, refusal.rule, refusal.at)
+    rows[-1].alike = any(row.alike for row in rows)
 
 
 # ---- as text
@@ -126,6 +143,7 @@ LETTERS = {"init": "I", "null": "N", "root": "R", "unroot": "U", "dsb": "D", "dm
 RED, BOLD, DIM, PLAIN = "\x1b[31m", "\x1b[1m", "\x1b[2m", "\x1b[0m"
 LEGEND = {"live": "the value is there", "broken": "it is cleared, and that isn't published", "seen": "the clear is published; an old entry may live on",
           "half": "stage 2 entries are gone, combined ones may live on", "cleansed": "no old entry is left"}
+ALIKE = "behind this row the refused line would be refused too"
 EFFECTS = {Effect.PUBLISHED: "the clear is published to this PE", Effect.REACHED: "the TLBI reaches this PE",
            Effect.HALF: "the first step is complete here", Effect.GONE: "the flush is complete here: the old entry is gone"}
 
@@ -169,12 +187,13 @@ class Text:
         height = max(map(len, names))
         rows = [" ".join(name.rjust(height)[i] for name in names) for i in range(height)]
         left = ["PE".rjust(self.digits)] + [" " * self.digits] * (height - 1)
-        tail = f"+{self.chart.others} alike" if self.chart.others else ""
-        return [f"{head}  {row}  {tail if i == 0 else ''}".rstrip() for i, (head, row) in enumerate(zip(left, rows))]
+        tail = (" !" if self.chart.has_alike else "") + (f"  (and {self.chart.others} more as the last)" if self.chart.others else "")
+        return [f"{head}  {row}{tail if i == 0 else ''}".rstrip() for i, (head, row) in enumerate(zip(left, rows))]
 
     def row(self, number: int, row: Row) -> str:
         cells = "".join(self.cell(number, row, pe) for pe in self.chart.pes)
-        room = self.width - self.digits - 4 - 2 * len(self.chart.pes)
+        cells += (self.painted("!", RED) + " " if row.alike else "  ") if self.chart.has_alike else ""
+        room = self.width - self.digits - 4 - 2 * (len(self.chart.pes) + self.chart.has_alike)
         text = str(row.event) + ("  <- refused" if row.refused else "")
         if len(text) > room and row.event.label:
             text = row.event.plain + ("  <- refused" if row.refused else "")
@@ -186,6 +205,8 @@ class Text:
         done = list(dict.fromkeys(effect for row in self.chart.rows for effect in row.effects.values()))
         told = [f"  {self.bars[phase]} {LEGEND[phase]}" for phase in BARS if phase in phases]
         told += [f"  {effect.value} {EFFECTS[effect]}" for effect in Effect if effect in done]
+        if self.chart.has_alike:
+            told.append(f"  ! {ALIKE}")
         if self.chart.entries:
             told.append(f"  {'█' if self.bars is BARS else 'E'} the entry of the run lives here")
         return told

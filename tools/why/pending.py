@@ -1,9 +1,11 @@
 """`pending`: the places whose old descriptor a TLB may still hold at the end of an accepted log.
 
-The log's writes give the candidates: places that had a valid value since the `init` of their page and have none now. Each is
-asked of the program by a made write behind the log. All made writes stand in one log: one that is accepted says that its place
-holds nothing, and changes no other candidate; one that break-before-make refuses says that it does, and `explain` tells the
-phases; then the asking goes on behind it. So there are as many runs as places that are found, and one.
+The log's writes give the candidates: places that had a valid value since the `init` of their page and have none now. First their
+pages are made zero behind the log, all in one log: where that is accepted the page is in no tree, and none of its places holds
+anything. Then each place of the others is asked of the program by a made write behind the log, again all in one log: one that is
+accepted says that its place holds nothing, and changes no other candidate; one that break-before-make refuses says that it does,
+and `explain` tells the phases; then the asking goes on behind it. So there are as many runs as places that are found and pages
+of trees with candidates, and some more.
 
 A made write links a page of its own that was just made zero: so it is valid at every level, of another core than what the place
 held, and breaks no rule where the place holds nothing.
@@ -18,12 +20,13 @@ from log import ADDRESS_BITS, Log, event_of
 from probe import Locks
 from program import Answer, Program
 
-BREAK_BEFORE_MAKE, NO_LOCK = 4, 2
+BREAK_BEFORE_MAKE, NO_LOCK, PAGE_IN_USE = 4, 2, 10
 LIMIT_OF_PAGES = 16384
 JOBS = 2
 PHASES = ("broken", "seen", "half", "cleansed")
 LINK = 0x803
 PAGE = 12
+VALID, BLOCK = 0, -1
 
 
 @dataclass(frozen=True)
@@ -45,8 +48,8 @@ class Pending:
 
 @dataclass
 class Tables:
-    """What the log wrote: for each page since its `init` the places that had a valid value, and the line that cleared it: 0
-    where none did, and that of a value with bits 01 with a minus."""
+    """What the log wrote: for each page since its `init` the places that had a valid value, with the line that cleared it, or
+    VALID or BLOCK while none did, by bits 11 or 01 of the value."""
 
     pages: dict[int, dict[int, int]] = field(default_factory=dict)
     zeroed: set[int] = field(default_factory=set)
@@ -66,16 +69,20 @@ class Tables:
 
     def write(self, at: int, place: int, value: int) -> None:
         places = self.pages.setdefault(place >> PAGE, {})
-        if value & 1:
-            # Bits 01 are valid at some levels alone: where they aren't, this is the write that cleared the place.
-            places[place] = -at if value & 2 == 0 else 0
-            self.named.add((value & ADDRESS_BITS) >> PAGE)
-        elif places.get(place, 1) <= 0:
+        now = places.get(place)
+        if value & 3 == 3:
+            places[place] = VALID
+        elif value & 1:
+            # Bits 01 are valid at some levels alone. Where they come upon bits 11, those are cleared by them, or nothing was held.
+            places[place] = at if now == VALID else BLOCK if now is None else now
+        elif now in (VALID, BLOCK):
             places[place] = at
+        if value & 1:
+            self.named.add((value & ADDRESS_BITS) >> PAGE)
 
     def candidates(self) -> list[Candidate]:
         """In the order of their addresses."""
-        found = [Candidate(place, abs(cleared)) for places in self.pages.values() for place, cleared in places.items() if cleared]
+        found = [Candidate(place, cleared) for places in self.pages.values() for place, cleared in places.items() if cleared > 0]
         return sorted(found, key=lambda candidate: candidate.place)
 
     def unused(self) -> Iterator[int]:
@@ -102,6 +109,18 @@ class Asker:
         room = max(1, (LIMIT_OF_PAGES - len(tables.zeroed)) // JOBS)
         source = tables.unused()
         self.fresh = [next(source) for _ in range(room)]
+
+    def in_trees(self, pages: list[int]) -> set[int]:
+        """Those of the pages that an `init` behind the log may not make zero: pages of trees, and null pages."""
+        found, left = set(), pages
+        while left:
+            lines = [*self.body, *(b"init 0 0x%x" % (page << PAGE) for page in left)]
+            answer = self.program.run(("check",), b"\n".join([*lines, b"end %d\n" % (len(lines) - 1)]))
+            position = len(left) if answer.line is None else answer.line - len(self.body) - 1
+            if answer.refusal and answer.refusal.rule == PAGE_IN_USE:
+                found.add(left[position])
+            left = left[position + 1:]
+        return found
 
     def asked(self, candidates: list[Candidate], pe: int) -> tuple[Answer, int]:
         """The answer to a log with a made write for each, and which of them it refuses: their number where none is."""
@@ -140,9 +159,16 @@ def pending(program: Program, log: Log) -> list[Pending]:
     tables = tables_of(log)
     candidates = tables.candidates()
     asker = Asker(program, log, tables)
-    shares = [candidates[i * len(candidates) // JOBS:(i + 1) * len(candidates) // JOBS] for i in range(JOBS)]
     with ThreadPoolExecutor(JOBS) as pool:
-        return [place for share in pool.map(asker.found, shares) for place in share]
+        pages = list(dict.fromkeys(candidate.place >> PAGE for candidate in candidates))
+        used = set().union(*pool.map(asker.in_trees, shares(pages)))
+        candidates = [candidate for candidate in candidates if candidate.place >> PAGE in used]
+        return [place for found in pool.map(asker.found, shares(candidates)) for place in found]
+
+
+def shares(items: list) -> list[list]:
+    """The items in order, for each job a part of them."""
+    return [items[i * len(items) // JOBS:(i + 1) * len(items) // JOBS] for i in range(JOBS)]
 
 
 # ---- the command

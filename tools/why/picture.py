@@ -4,7 +4,7 @@ from __future__ import annotations
 from html import escape
 
 import why
-from lanes import EFFECTS, LEGEND, Chart, Effect, Row, letter_of
+from lanes import ALIKE, EFFECTS, LEGEND, Chart, Effect, Row, letter_of
 from program import Answer
 from study import Study
 
@@ -23,7 +23,7 @@ STYLE = """
 .bbm .title{font-weight:bold;font-size:13px}.bbm .soft{fill:var(--soft)}.bbm .mark{font-weight:bold;font-size:10.5px;fill:var(--paper)}
 .bbm .paper{fill:var(--paper)}.bbm .stripe{fill:var(--stripe)}.bbm .band{fill:var(--band)}.bbm .lane{stroke:var(--line)}
 .bbm .live{fill:var(--live)}.bbm .broken{fill:var(--broken)}.bbm .seen{fill:var(--seen)}.bbm .half{fill:var(--half)}
-.bbm .cleansed{fill:var(--gone)}.bbm .dot{fill:var(--mark)}.bbm .dot.refused{fill:var(--bad)}.bbm .reach{stroke:var(--mark);stroke-width:1.3}
+.bbm .cleansed{fill:var(--gone)}.bbm .alike{fill:var(--bad)}.bbm .dot{fill:var(--mark)}.bbm .dot.refused{fill:var(--bad)}.bbm .reach{stroke:var(--mark);stroke-width:1.3}
 .bbm .effect{font-weight:bold;font-size:10.5px;fill:var(--ink)}.bbm .tile{fill:var(--paper);stroke:var(--mark)}.bbm .tile.x{stroke:var(--gone)}
 .bbm .own{font-weight:bold;font-size:9px;fill:var(--ink)}.bbm .refusal{font-weight:bold;fill:var(--bad)}
 .bbm .entry{fill:none;stroke:var(--bad);stroke-width:2}
@@ -44,7 +44,7 @@ class Drawing:
     def __init__(self, chart: Chart, title: str):
         self.chart, self.title = chart, title
         longest = min(LONGEST, max(len(self.words(row)) for row in chart.rows))
-        self.words_at = LEFT + LANE * len(chart.pes) + 14
+        self.words_at = LEFT + LANE * (len(chart.pes) + chart.has_alike) + 14
         self.legend = self.legend_rows()
         least = max(len(title), *(len(words) + 6 for _, words in self.legend), 1) * LETTER + 32
         self.width = max(self.words_at + longest * LETTER + 20, least)
@@ -57,6 +57,10 @@ class Drawing:
     def x(self, pe: int) -> float:
         return LEFT + LANE * self.chart.pes.index(pe) + LANE / 2
 
+    @property
+    def alike_at(self) -> float:
+        return LEFT + LANE * len(self.chart.pes) + LANE / 2
+
     def y(self, number: int) -> float:
         return TOP + ROW * number
 
@@ -65,6 +69,8 @@ class Drawing:
     def heads(self, y: float) -> list[str]:
         parts = [text(LEFT - 12, y, "soft", "PE", "end")]
         parts += [text(self.x(pe), y, "soft", str(pe), "middle") for pe in self.chart.pes]
+        if self.chart.has_alike:
+            parts.append(text(self.alike_at, y, "soft", "!", "middle"))
         if self.chart.others:
             parts.append(text(self.words_at, y, "soft", f"the last column stands for {self.chart.others} PEs more"))
         return parts
@@ -79,6 +85,8 @@ class Drawing:
         """How far the place has come at each PE behind each row: until the next row."""
         parts = []
         for number, row in enumerate(self.chart.rows[:-1]):
+            if row.alike:
+                parts.append(box(self.alike_at - 3, self.y(number) + ROW / 2, 6, ROW, "alike"))
             for pe in self.chart.pes if row.phases else []:
                 phase, width = row.phases[pe], WIDTHS[row.phases[pe]]
                 parts.append(box(self.x(pe) - width / 2, self.y(number) + ROW / 2, width, ROW, phase))
@@ -123,13 +131,15 @@ class Drawing:
         rows = [(phase, f"{phase}: {LEGEND[phase]}") for phase in LEGEND if phase in phases]
         rows += [(effect.value, EFFECTS[effect]) for effect in Effect if effect in done]
         rows.append(("W", "in a circle the event: W a valid value, C an invalid one, D dsb, T tlbi, S isb, M msr, L lock, K unlock, X refused"))
+        if self.chart.has_alike:
+            rows.append(("alike", f"column !: {ALIKE}"))
         return rows + ([("E", "an outline is the entry of the run")] if self.chart.entries else [])
 
     def legend_parts(self) -> list[str]:
         parts = []
         for i, (name, words) in enumerate(self.legend):
             y = self.bottom + 34 + 18 * i
-            parts.append(box(16, y, 12, 12, name) if name in WIDTHS else text(22, y + 10, "effect", name, "middle"))
+            parts.append(box(16, y, 12, 12, name) if name in WIDTHS or name == "alike" else text(22, y + 10, "effect", name, "middle"))
             parts.append(text(36, y + 10, "soft", words))
         return parts
 

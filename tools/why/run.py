@@ -55,6 +55,7 @@ class Told:
         self.lines, self.run = lines, run
         self.entries: list[Entry] = []
         self.texts: list[str] = []
+        self.read()
 
     def behind(self, row: int) -> str:
         return f"after {self.lines[row - 1].name}" if row else "before the first event"
@@ -107,20 +108,15 @@ class Told:
         event = line.event
         pes = " and ".join(f"PE {pe}" for pe in sorted({entry.pe for entry in self.left()}))
         if event.word == "w":
-            what = "a block or page" if not is_table(event.value) else "a table or page"
+            what = "a table or page" if event.value & 2 else "a block"
             return f"{line.name} writes {hex(event.value)}, {what}, at {event.rest[0]}: {pes} has the old entry and may have both"
         if event.word == "msr":
             return f"{line.name} makes the tag readable for another root: {pes} still has an entry under it"
         return f"{line.name} takes the page while {pes} has an entry that was read in it"
 
     def told(self) -> list[str]:
-        self.read()
         kept = self.left()
         return [*self.texts, *dict.fromkeys(self.flushes(entry) for entry in kept[-1:]), self.end()]
-
-
-def is_table(value: int) -> bool:
-    return value & 3 == 3
 
 
 def lives(told: Told) -> list[tuple[int, int, int]]:

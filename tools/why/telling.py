@@ -115,15 +115,15 @@ class Teller:
         texts = self.change(repair.change)
         if len(texts) == 1 and isinstance(repair.change.edits[0], (Swap, Head)):
             texts = [f"{texts[0]} would do"]
-        return [*texts, self.whole(repair)]
+        return [*texts, self.whole(repair, {1: "it", 2: "both"}.get(len(texts), "all of it"))]
 
-    def whole(self, repair: Repair) -> str:
+    def whole(self, repair: Repair, what: str) -> str:
         """What the program says of the whole log with the change."""
         if repair.whole.accepted:
-            return "with it the whole log is accepted"
+            return f"with {what} the whole log is accepted"
         if not repair.holds_in_whole(self.refused.at):
-            return "in the small log alone: the whole log is refused at or before this line with it too"
-        return f"with it the whole log gets to {self.log.line(repair.next_line).name}: " + told_answer(repair)
+            return f"in the small log alone: the whole log is refused at or before this line with {what} too"
+        return f"with {what} the whole log gets to {self.log.line(repair.next_line).name}: " + told_answer(repair)
 
 
 def told_answer(repair: Repair) -> str:

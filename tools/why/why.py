@@ -4,11 +4,12 @@ from __future__ import annotations
 import os
 import sys
 import textwrap
+from collections.abc import Iterator
 from dataclasses import dataclass
 
 import lanes
 import run
-from log import Lines
+from log import Lines, written
 from program import Answer
 from rules import cause_of, rule_of
 from study import Study
@@ -68,11 +69,15 @@ class Pages:
         if told is None:
             why = "the program has none for this log" if has_command else f"this program has no command `{run.COMMAND}`"
             return [self.head(f"A run that goes wrong: {why}")]
-        return [self.head("A run that goes wrong"), *(wrapped(f"{text}", self.style, "  ", "    ") for text in told.told())]
+        small = {line.at for line in self.study.small}
+        more = [str(line.at) for line in told.lines if line.at not in small]
+        also = wrapped(f"over the small log and lines {', '.join(more)} besides", self.style, "  ", "    ")
+        steps = [wrapped(text, self.style, "  ", "    ") for text in told.told()]
+        return [self.head("A run that goes wrong"), *([also] if more else []), *steps]
 
     def lanes(self, chart: lanes.Chart) -> list[str]:
-        about = f" of {hex(chart.place)}" if chart.place is not None else ""
-        title = f"Lanes: a column a PE; how long an old entry{about} may live there"
+        shown = any(row.phases for row in chart.rows)
+        title = f"Lanes: a column a PE{f'; how long an old entry of {hex(chart.place)} may live there' if shown else ''}"
         text = lanes.Text(chart, self.style.width, self.style.colour, self.style.unicode)
         return [self.head(title), *(f"{line}" for line in text.lines())]
 
@@ -97,6 +102,27 @@ def lines_shown(study: Study, whole: bool) -> Lines:
     return study.small
 
 
+LOADING = {"msr", "isb", "root", "init", "null"}
+
+
+def lines_for_run(study: Study) -> Iterator[Lines]:
+    """Logs to ask for a run of: the small log; with the lines that load its roots, without which no TLB walks; and with all that
+    was tried about it."""
+    small = {line.at for line in study.small}
+    yield study.small
+    yield tuple(line for line in study.scene.lines if line.at in small or line.event.word in LOADING)
+    yield study.scene.lines
+
+
+def told_run(study: Study) -> run.Told | None:
+    """The run of the first of these logs that has one."""
+    for lines in lines_for_run(study):
+        found = run.run_of(study.program, written(study.header, lines))
+        if found:
+            return run.Told(lines, found)
+    return None
+
+
 @dataclass
 class Views:
     """The run and the lanes of a study, made once for all forms."""
@@ -108,13 +134,11 @@ class Views:
 
 def views_of(study: Study, whole: bool) -> Views:
     has_command = study.program.has(run.COMMAND)
-    found = run.run_of(study.program, study.text()) if has_command else None
-    told = run.Told(study.small, found) if found else None
-    chart = lanes.chart_of(study.program, study.header, lines_shown(study, whole), study.refusal, watched(study))
-    if told and not whole:
-        told.read()
+    told = told_run(study) if has_command else None
+    lines = lines_shown(study, whole) if whole or told is None else told.lines
+    chart = lanes.chart_of(study.program, study.header, lines, study.refusal, watched(study))
+    if told and lines is told.lines:
         chart.entries = run.lives(told)
-        told = run.Told(study.small, found)
     return Views(told, has_command, chart)
 
 
