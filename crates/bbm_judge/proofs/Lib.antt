@@ -1,5 +1,5 @@
 pub mod Leasts
 pub mod Lists
 pub mod Paths
-pub mod Rules
+pub mod RuleLemmas
 pub mod Stands

@@ -126,7 +126,7 @@ fn add_all(nodes: &mut Vec<Node>, mut more: Vec<Node>) -> Result<(), NoMemory>
 }
 
 /// The pages of the trees, level by level. `NoMemory` where there is none.
-#[tactic(auto, unfolding(bbm_oracle_patterns::rules::specs::Tree::tree))]
+#[tactic(auto, unfolding(bbm_rules::specs::Tree::tree))]
 pub fn tree_of<E: Evidence>(alloc: Global, log: &Log<E>) -> Result<Vec<Node>, NoMemory>
     ensures { IfOk result (λ nodes. nodes.items ≡ trees.tree log.now.heading log.now.trust (notes log.now)) }
 {

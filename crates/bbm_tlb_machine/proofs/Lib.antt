@@ -3,7 +3,7 @@ mod Cases
 mod Covered
 mod Descs
 mod Elements
-mod Events
+mod EventSteps
 mod Facts
 pub mod FollowSteps
 mod InTrees

@@ -30,7 +30,7 @@ use Rattle.bbm_tlb_machine.specs.Known.{Known}
 use Rattle.bbm_tlb_machine.specs.Step.{Extends, Starts, combined, entry_kind, extended, first_part, is_stage2, may_share, next_part, root_of, shared, started}
 use Rattle.bbm_tlb_machine.proofs.AfterEvent.{publication_answered}
 use Rattle.bbm_tlb_machine.proofs.Elements.{contains_cases, contains_head, contains_none}
-use Rattle.bbm_tlb_machine.proofs.Events.{tag_kind}
+use Rattle.bbm_tlb_machine.proofs.EventSteps.{tag_kind}
 use Rattle.bbm_tlb_machine.proofs.Facts.{tag_now}
 use Rattle.bbm_tlb_machine.proofs.InTrees.{below_placed, start_placed}
 use Rattle.bbm_tlb_machine.proofs.Roots.{reads_at, start_node}

@@ -24,7 +24,7 @@ use Rattle.bbm_tlb_machine.specs.Run.{IsRun, Leads, LeavesNone, Living, State, e
 use Rattle.bbm_tlb_machine.specs.Safe.{ComesTo, IsLog, Safe}
 use Rattle.bbm_tlb_machine.proofs.Descs.{no_need}
 use Rattle.bbm_tlb_machine.proofs.Elements.{contains_after, contains_cases, contains_head, contains_more, contains_none, pe_finds}
-use Rattle.bbm_tlb_machine.proofs.Events.{fine_after}
+use Rattle.bbm_tlb_machine.proofs.EventSteps.{fine_after}
 use Rattle.bbm_tlb_machine.proofs.Facts.{held_there, held_valid, keeps_older, tag_now}
 use Rattle.bbm_tlb_machine.proofs.Made.{fine_combined, fine_extended, fine_shared, fine_start}
 use Rattle.bbm_tlb_machine.proofs.Patterns.{LeavesIt, tagged_after}

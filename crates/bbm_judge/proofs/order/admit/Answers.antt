@@ -1,7 +1,7 @@
 use Rattle.std.proofs.Common.{Option, Err, sym, ◌∙◌, subst}
 use Rattle.std.proofs.lemmas.Result.{err_from_is_err_and}
 use Rattle.bbm_oracle_trees.specs.rules.Limits.{limit_of}
-use Rattle.bbm_judge.proofs.Rules.{answers_broken, answers_limit}
+use Rattle.bbm_judge.proofs.RuleLemmas.{answers_broken, answers_limit}
 use Rattle.bbm_judge.proofs.order.admit.Goals as goal
 
 pub returns-in_err-judge : goal.returns-in_err-judge

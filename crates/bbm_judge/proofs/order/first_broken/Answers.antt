@@ -4,7 +4,7 @@ use Rattle.bbm_oracle_trees.specs.rules.declared.rule.Rule.TheVariants.{WrongWor
 use Rattle.bbm_oracle_trees.specs.rules.Broken.{Breach}
 use Rattle.bbm_oracle_trees.specs.Past.{notes}
 use Rattle.bbm_judge.specs.Judges.{Judges}
-use Rattle.bbm_judge.proofs.Rules.{first_at, judges_first}
+use Rattle.bbm_judge.proofs.RuleLemmas.{first_at, judges_first}
 use Rattle.bbm_judge.proofs.order.first_broken.Goals as goal
 
 pub returns-in_err-judge_by : goal.returns-in_err-judge_by
