@@ -171,12 +171,12 @@ module _ (b : Below) where
 
 -- ---- covers
 
-el2_cover : (h : List Noted) (p place block page vmid : ℕ) → node_of heading Patterns h (page_of place) ≡ Some el2_node
+el2_cover : (h : List Noted) (p place block page : ℕ) → node_of heading Patterns h (page_of place) ≡ Some el2_node
     → held_at heading Patterns h el2_node place ≡ Some block → next_of El2 1 block ≡ None
     → result_ok (scope_of Vae2is page) ≡ Some (el2_scope page)
-    → meets (one_page page) (region_of el2_node place) ≡ true → vmid_of heading (events_of h) p ≡ Some vmid
+    → meets (one_page page) (region_of el2_node place) ≡ true
     → cover_at heading Patterns h (Tlbi p Vae2is page) place ≡ Full
-el2_cover h p place block page vmid node holds no_table decoded met is = rw (decoded, node, holds, is, no_table, met) refl
+el2_cover h p place block page node holds no_table decoded met = rw (decoded, node, holds, no_table, met) refl
 
 s2_cover : (h : List Noted) (place block page : ℕ) → node_of heading Patterns h (page_of place) ≡ Some s2_node
     → held_at heading Patterns h s2_node place ≡ Some block → next_of S2 1 block ≡ None
@@ -283,8 +283,7 @@ module _ (b : Below) (h : List Event) (w : Whole h) (p place block page : ℕ) (
       (suc (length (notes e1))) (suc (length (notes e2))) (suc (length (notes e3))) 0 0 0 0 p lt)
 
   full : cover_at heading Patterns (notes e4) (Tlbi p Vae2is page) place ≡ Full
-  full = el2_cover (notes e4) p place block page (tag_number (loaded p VttbrEl2)) (el2_at b e4 place m4.stands inside) held4
-      (leaf El2 block made) decoded met (vmid_is b e4 p m4.stands lt)
+  full = el2_cover (notes e4) p place block page (el2_at b e4 place m4.stands inside) held4 (leaf El2 block made) decoded met
 
   m6 : Mid e6 place
   m6 = by_dsb b e5 p place ish (by_tlbi b e4 p place page Vae2is (el2_scope page) refl refl decoded m4)
