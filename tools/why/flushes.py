@@ -52,6 +52,7 @@ def operands(scene: Scene, event: Event) -> Iterator[tuple[int, Kind]]:
     """Other operands of a TLBI: without its hint, with the right one, of the place's address, of a tag, of a longer range."""
     operand = words.Operand(event.operation, event.operand)
     if operand.hint is not None:
+        yield from ((operand.hinted(spot.level), Kind.HINT) for spot in scene.spots if spot.level)
         yield operand.without_hint(), Kind.HINT
     yield from ((longer, Kind.RANGE) for longer in operand.longer())
     for spot in scene.spots:
@@ -93,6 +94,7 @@ def changes_of_tlbi(scene: Scene, line: Line) -> tuple[Change, ...]:
     if event.operand is not None:
         tries += [((event.operation, hex(value)), kind) for value, kind in operands(scene, event)]
     tries += [((operation, *operand_for(scene, event, operation)), kind) for operation, kind in operations(event)]
+    tries += [(tuple(text.split(" ")), Kind.OPERATION) for kind in scene.kinds for text in tlbis_for(scene, kind)]
     tries.sort(key=lambda item: item[1] is not Kind.BROADCAST)
     for rest, kind in tries:
         if rest != event.rest:
@@ -123,6 +125,10 @@ def tlbis_for_tags(scene: Scene, kind: str) -> list[str]:
     return [*(f"aside1is {hex(tag << 48)}" for tag in scene.tags if kind == "ttbr0"), "vmalle1is"]
 
 
+def tlbis_for(scene: Scene, kind: str) -> list[str]:
+    return tlbis_for_tags(scene, kind) if is_about_tags(scene) else tlbis_for_places(scene, kind)
+
+
 def is_about_tags(scene: Scene) -> bool:
     return scene.event.word in ("msr", "unroot")
 
@@ -144,7 +150,7 @@ def put_flush(kind: str, at: int, pe: int, text: str) -> Change:
 
 def flushes_put(scene: Scene) -> Iterator[Flush]:
     for kind in scene.kinds:
-        texts = tlbis_for_tags(scene, kind) if is_about_tags(scene) else tlbis_for_places(scene, kind)
+        texts = tlbis_for(scene, kind)
         widest = words.WIDEST[kind] + words.BROADCAST
         for at, pe in positions(scene):
             yield Flush(tuple(put_flush(kind, at, pe, text) for text in texts), puts(at, f"tlbi {pe} {widest}"), pe, at, True)
@@ -180,9 +186,9 @@ def publications(scene: Scene, flush: Flush) -> Iterator[Change]:
     pe = broken.event.pe
     clear = f"w {pe} {broken.event.rest[0]} 0x0"
     barrier = f"dsb {pe} {words.PUBLISHING}"
-    yield puts(broken.at, barrier)
     for line in [line for line in scene.in_window("dsb") if broken.at < line.at < flush.at][-2:]:
         yield from options_of(line, pe)
+    yield puts(broken.at, barrier)
     if broken.event.value & 1:
         yield puts(broken.at, clear)
         yield puts(broken.at, clear, barrier)

@@ -76,8 +76,8 @@ def gcc(finding: Finding) -> str:
 
 
 def escaped(text: str) -> str:
-    """A value of a workflow command: its separators are written as numbers."""
-    return text.replace("%", "%25").replace(":", "%3A").replace(",", "%2C")
+    """A value of a workflow command: of its separators a label can have the colon."""
+    return text.replace(":", "%3A")
 
 
 def github(finding: Finding) -> str:

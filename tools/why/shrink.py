@@ -9,7 +9,7 @@ from collections.abc import Callable, Sequence
 from dataclasses import dataclass
 from functools import cached_property
 
-from log import Log, header_of
+from log import WITH_PAGE, Log, header_of
 from names import attempts, index_of, slices
 from program import Program, Refusal
 
@@ -53,7 +53,7 @@ def without_some(numbers: Numbers, size: int, holds: Callable[[Numbers], bool]) 
     return left
 
 
-def reduced(numbers: Numbers, holds: Callable[[Numbers], bool]) -> Numbers:
+def by_size(numbers: Numbers, holds: Callable[[Numbers], bool]) -> Numbers:
     """Lines of which none can be left out: by halves, quarters and so on, and then one by one until nothing more goes."""
     size = max(1, len(numbers) // 2)
     while True:
@@ -61,6 +61,35 @@ def reduced(numbers: Numbers, holds: Callable[[Numbers], bool]) -> Numbers:
         if size == 1 and len(fewer) == len(numbers):
             return fewer
         numbers, size = fewer, max(1, size // 2)
+
+
+def groups(log: Log, numbers: Numbers) -> list[frozenset[int]]:
+    """Lines that may have to go together: two or three in a row of one lock, or of one page that is made zero and declared."""
+    named: dict[tuple, list[int]] = {}
+    for at in numbers[:-1]:
+        event = log.line(at).event
+        if event.word in WITH_PAGE:
+            named.setdefault(("page", event.page), []).append(at)
+        elif event.lock is not None:
+            named.setdefault(("lock", event.lock), []).append(at)
+    return [frozenset(lines[i:i + size]) for size in (3, 2) for lines in named.values() for i in range(len(lines) - size + 1)]
+
+
+def without_groups(log: Log, numbers: Numbers, holds: Callable[[Numbers], bool]) -> Numbers:
+    for group in groups(log, numbers):
+        fewer = [at for at in numbers if at not in group]
+        if group <= set(numbers) and holds(fewer):
+            numbers = fewer
+    return numbers
+
+
+def reduced(log: Log, numbers: Numbers, holds: Callable[[Numbers], bool]) -> Numbers:
+    """Lines of which none can be left out, nor a group of them."""
+    while True:
+        least = by_size(numbers, holds)
+        numbers = without_groups(log, least, holds)
+        if len(numbers) == len(least):
+            return numbers
 
 
 class Shrinker:
@@ -88,7 +117,7 @@ class Shrinker:
     @cached_property
     def least(self) -> Numbers:
         """Lines of which none can be left out: the same rule refuses the last at the same place, which has come as far."""
-        return reduced(self.start(), self.holds)
+        return reduced(self.log, self.start(), self.holds)
 
     def with_attempts(self) -> Numbers:
         """The least log and what the log did about it beside: where a repair is looked for."""
@@ -111,4 +140,4 @@ class Shrinker:
     def barest(self, numbers: Numbers) -> Numbers:
         """Of these lines the least that the same rule refuses at the same place, however far the place has come."""
         bare = Bug(self.bug.rule, self.bug.at, ())
-        return reduced(numbers, lambda fewer: has_bug(self.program, self.log.cut(fewer), len(fewer), bare))
+        return reduced(self.log, numbers, lambda fewer: has_bug(self.program, self.log.cut(fewer), len(fewer), bare))

@@ -52,7 +52,7 @@ def with_repairs(shrinker: Shrinker, repairer: Repairer, repairs: list[Repair], 
         return all(repairer.passes(repair.change, lines) for repair in repairs)
 
     start = sorted({*shrinker.least, *needed})
-    return reduced(start if holds(start) else tried, holds)
+    return reduced(shrinker.log, start if holds(start) else tried, holds)
 
 
 def study(program: Program, log: Log, refusal: Refusal) -> Study:

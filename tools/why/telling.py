@@ -45,6 +45,8 @@ def told_swap(old: Event, new: Event, kind: Kind) -> str:
         return f"{quoted} is by PE {old.pe}; {instead}"
     if kind in (Kind.ADDRESS, Kind.HINT, Kind.TAG, Kind.RANGE, Kind.OPERAND):
         return f"{quoted} {fault_of_operand(old, new, kind)}; `{new.rest[1]}`"
+    if kind is Kind.OPERATION and words.is_of_el2(old.operation) != words.is_of_el2(new.operation):
+        return f"{quoted} is for another regime; `{' '.join(new.rest)}`"
     if kind is Kind.OPERATION:
         reach = f" and reaches PE {old.pe} alone" if not words.is_broadcast(old.operation) else ""
         last = words.base_of(old.operation) in words.LAST_LEVEL

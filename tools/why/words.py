@@ -52,6 +52,11 @@ def is_broadcast(operation: str) -> bool:
     return operation.endswith(BROADCAST)
 
 
+def is_of_el2(operation: str) -> bool:
+    """Whether the operation is of the EL2 regime, and not of EL1 and stage 2."""
+    return base_of(operation).endswith("e2")
+
+
 def is_range(operation: str) -> bool:
     return operation.startswith("r")
 
