@@ -76,7 +76,7 @@ class Repairer:
 
     def found_with(self, tries: Iterable[Family], before: list[Repair]) -> list[Repair]:
         """Changes that pass, of which none shares an edit's site with one before: those with which the whole log gets furthest
-        first, and none that is further from the break than the first."""
+        first, and of these those next to the break."""
         found: list[Repair] = []
         for family in tries:
             known = [repair.change for repair in (*before, *found)]
@@ -86,19 +86,22 @@ class Repairer:
                 found.append(repair)
             if len(found) == RANKED:
                 break
-        found.sort(key=lambda repair: (-repair.reach, self.farness(repair.change)))
-        return [repair for repair in found if self.farness(repair.change) <= self.farness(found[0].change)]
+        return sorted(found, key=lambda repair: (-repair.reach, self.farness(repair.change)))
 
     def search(self) -> list[Repair]:
         """At most three repairs, the smallest first, and of one size those with which the whole log gets furthest."""
         repairs: list[Repair] = []
         for size in range(1, LARGEST + 1):
-            good = [repair for repair in repairs if not self.only_moves_it(repair)]
+            good = self.good(repairs)
             if len(good) >= WANTED or good and size == LARGEST:
                 break
             repairs += self.found_with(families(self.scene, size), repairs)
-        repairs = [repair for repair in repairs if not self.only_moves_it(repair)] or repairs
-        return varied(repairs or self.found_with(last_resort(self.scene), []))
+        return varied(self.good(repairs) or repairs or self.found_with(last_resort(self.scene), []))
+
+    def good(self, repairs: list[Repair]) -> list[Repair]:
+        """Those that don't only move the refusal, and aren't further from the break than the first."""
+        left = [repair for repair in repairs if not self.only_moves_it(repair)]
+        return [repair for repair in left if self.farness(repair.change) <= self.farness(left[0].change)]
 
     def farness(self, change: Change) -> int:
         """How far from the break a change is: 0 among its next lines, and then by the number of digits of the distance."""
