@@ -1,10 +1,22 @@
+# shellcheck shell=bash
 # What `run` and `tools/qemu_demo` share. They set `top`, the folder of the repository.
+: "${top:?}"
 QEMU=${QEMU:-qemu-system-aarch64}
 
 # Whether there is a program; says what is left out where there isn't.
 has() {
   command -v "$1" >/dev/null 2>&1 && return
   echo "left out: $2, since there is no $1"
+  return 1
+}
+
+# Whether QEMU is there, with the plugin interface that bbm_trace.c needs; says what is left out where it isn't.
+has_qemu() {
+  local version
+  has "$QEMU" "$1" || return 1
+  version=$("$QEMU" --version | sed -n 's/.*version \([0-9]*\.[0-9]*\).*/\1/p')
+  case $version in 9.2 | 10.0) return ;; esac
+  echo "left out: $1, since $QEMU is of version $version, and the plugin's interface is that of 9.2 and 10.0"
   return 1
 }
 
