@@ -430,12 +430,14 @@ static void page_reused(const struct event *event, uint64_t address)
 }
 
 /* Whether a store to this table says that its page has another use: one by a user program, or to the empty page of a root
- * that no PE has loaded. */
+ * that no PE has loaded. A root of stage 2 can be filled while it isn't loaded, so its emptiness says nothing. */
 static bool says_dead(const struct event *event, const struct page *page, uint64_t place)
 {
+	bool may_be_empty = page->kind == VTTBR_EL2;
+
 	if (is_loaded(address_of(page->root), page->kind))
 		return false;
-	return event->site->el == 0 || (page->is_root && is_empty(place & ~(PAGE_SIZE - 1)));
+	return event->site->el == 0 || (page->is_root && !may_be_empty && is_empty(place & ~(PAGE_SIZE - 1)));
 }
 
 /* The level at which walks of a root start, as TCR_EL1, TCR_EL2 or VTCR_EL2 says; false where the granule isn't 4 KiB. */
