@@ -302,16 +302,17 @@ static void take_contents(const struct event *event, uint64_t page, int level, e
 			say("c %u %" PRIx64 "\n", i, *told_at(page + 8 * i));
 }
 
-/* The page, and all below it, belongs to the tree that linked it last. */
+/* The page, and all below it, belongs to the tree that linked it last, and that is of the kind by which it was loaded last:
+ * a kernel that turns itself into a host at EL2 takes its roots along. */
 static void move(uint64_t page, int level, enum kind kind, uint32_t from, uint32_t to)
 {
 	struct page *known = page_of(page);
 	uint64_t next;
 	unsigned i;
 
-	if (known->use != TABLE || known->root != from || from == to)
+	if (known->use != TABLE || known->root != from)
 		return;
-	*known = (struct page){ TABLE, kind, level, false, known->loaded_as, to };
+	*known = (struct page){ TABLE, kind, level, number_of(page) == to, known->loaded_as, to };
 	for (i = 0; i < WORDS; i++)
 		if (links(*told_at(page + 8 * i), level, &next) && in_ram(next))
 			move(next, level + 1, kind, from, to);
@@ -332,7 +333,8 @@ static void learn(const struct event *event, uint64_t page, int level, enum kind
 	if (known->use == TABLE) {
 		trace.counts.links_again++;
 		tell(event, 'a', " %" PRIx64 " %d %d %" PRIx64, page, level, kind, root);
-		move(page, level, kind, known->root, number_of(root));
+		if (address_of(known->root) != root)
+			move(page, level, kind, known->root, number_of(root));
 		return;
 	}
 	*known = (struct page){ UNKNOWN, kind, level, page == root, 0, number_of(root) };
@@ -480,8 +482,10 @@ static void root_loaded(const struct event *event, enum kind kind, uint64_t valu
 		return;
 	}
 	if (page_of(root)->use == TABLE) {
-		if (!(page_of(root)->loaded_as >> kind & 1))
+		if (!(page_of(root)->loaded_as >> kind & 1)) {
 			tell(event, 'a', " %" PRIx64 " %d %d %" PRIx64, root, level, kind, root);
+			move(root, level, kind, page_of(root)->root, page_of(root)->is_root ? page_of(root)->root : number_of(root));
+		}
 		page_of(root)->loaded_as |= 1 << kind;
 		return;
 	}
