@@ -60,8 +60,7 @@ QEMU_EXPORT int qemu_plugin_version = INTERFACE;
 
 enum { MAX_PES = 128, MAX_VECTORS = 64, WORDS = 512, WAIT_MS = 1000, STOP_MS = 100 };
 #define PAGE_SIZE 4096ull
-#define NEXT_TABLE 0xfffffffff000ull
-#define BASE_OF_ROOT 0xfffffffff000ull /* for more than 48 bits of physical address, see granule_fits */
+#define BASE 0xfffffffff000ull /* the address of a table, in a descriptor and in a root register */
 
 enum kind { NO_KIND, TTBR0_EL1, TTBR1_EL1, TTBR0_EL2, TTBR1_EL2, VTTBR_EL2, KINDS };
 enum use { UNKNOWN, TABLE, LEFT };
@@ -287,7 +286,7 @@ static uint64_t memory_at(uint64_t place)
 /* Whether a value at this level leads to a table, and to which. */
 static bool links(uint64_t value, int level, uint64_t *next)
 {
-	*next = value & NEXT_TABLE;
+	*next = value & BASE;
 	return level < 3 && (value & 3) == 3;
 }
 
@@ -390,7 +389,7 @@ static bool is_loaded(uint64_t root, enum kind kind)
 	unsigned pe;
 
 	for (pe = 0; pe < MAX_PES; pe++)
-		if ((trace.pes[pe].base[kind] & BASE_OF_ROOT) == root)
+		if ((trace.pes[pe].base[kind] & BASE) == root)
 			return true;
 	return false;
 }
@@ -466,7 +465,7 @@ static bool start_of(enum kind kind, int *level, unsigned *pages)
 
 static void root_loaded(const struct event *event, enum kind kind, uint64_t value)
 {
-	uint64_t root = value & BASE_OF_ROOT;
+	uint64_t root = value & BASE;
 	unsigned pages, i;
 	int level;
 
@@ -515,7 +514,7 @@ static bool through_stage2(unsigned el, uint64_t address, uint64_t *output)
 		return true;
 	control = register_value(named[VTCR_EL2]);
 	return start_of(VTTBR_EL2, &level, &pages)
-	       && walk(register_value(named[REG_VTTBR_EL2]) & BASE_OF_ROOT, level, 64 - (control & 63), address, true, output);
+	       && walk(register_value(named[REG_VTTBR_EL2]) & BASE, level, 64 - (control & 63), address, true, output);
 }
 
 static bool walk(uint64_t root, int level, unsigned bits, uint64_t address, bool stage2, uint64_t *output)
@@ -537,10 +536,10 @@ static bool walk(uint64_t root, int level, unsigned bits, uint64_t address, bool
 			return false;
 		if (level == 3 || !(value & 2)) {
 			mask = (1ull << shift) - 1;
-			*output = (value & NEXT_TABLE & ~mask) | (address & mask);
+			*output = (value & BASE & ~mask) | (address & mask);
 			return true;
 		}
-		table = value & NEXT_TABLE;
+		table = value & BASE;
 	}
 	return false;
 }
@@ -561,7 +560,7 @@ static bool translate(unsigned el, uint64_t address, uint64_t *output)
 		return through_stage2(at_el2 ? 2 : el, address, output);
 	if (!start_of(kind, &level, &pages))
 		return false;
-	return walk(register_value(named[roots[kind]]) & BASE_OF_ROOT, level, bits, address, at_el2, output)
+	return walk(register_value(named[roots[kind]]) & BASE, level, bits, address, at_el2, output)
 	       && through_stage2(at_el2 ? 2 : el, *output, output);
 }
 
