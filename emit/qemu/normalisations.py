@@ -24,6 +24,9 @@ ALL = {
     "dead-asids": Normalisation(
         KERNEL, "before the unroot of a dead root, a TLBI of each ASID it was loaded under and a DSB are told",
         "an ASID that the kernel never flushed after its root died isn't found, until it has another root"),
+    "moved-tables": Normalisation(
+        KERNEL, "before a table that left its place is linked at another without a store to it, a TLBI of each ASID of its root and a DSB are told",
+        "a table that is linked elsewhere before its old place is flushed isn't found"),
     "reserved-ttbr1": Normalisation(
         KERNEL, "a write of TTBR1_EL1 that names the reserved table is left out",
         "the upper range is judged as if it had stayed mapped"),
