@@ -3,5 +3,5 @@ use Rattle.bbm_rules.specs.Prelude.{Event}
 use Rattle.bbm_state_tests.proofs.checkers.run.Given as goal
 
 abbrev pub invariant-loop-line : goal.invariant-loop-line
-invariant-loop-line l =
-    (h : List Event) × l.C.stands l.checker l.header h × (length h ≤ l.line-index)
+invariant-loop-line g l =
+    (h : List Event) × g.C.Checker.stands l.checker l.header h × (length h ≤ l.line-index)
