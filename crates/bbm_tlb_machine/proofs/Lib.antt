@@ -1,5 +1,15 @@
 mod AfterEvent
 mod Cases
+mod CasesAges
+mod CasesAsids
+mod CasesAsked
+mod CasesFlush
+mod CasesFlushTag
+mod CasesNumbers
+mod CasesParts
+mod CasesReads
+mod CasesShare
+mod CasesVmids
 mod Covered
 mod Descs
 mod Elements
