@@ -1,6 +1,6 @@
 -- A TLBI that covers a place of a part, and that was issued after the entry was made, takes the entry.
 use Rattle.std.proofs.Common.{◌≡◌, ℕ, suc, ◌+◌, ◌-◌, ◌<◌, ◌≤◌, ◌⊎◌, Bool, true, false, List, [], ◌∷◌, ◌++◌, length, Option, Some, None, is_some, Contains, refl, sym, ◌∙◌, ap, subst, inl, inr, arith, true≢false, length-append}
-use Rattle.std.proofs.lemmas.List.{append_assoc}
+use Rattle.std.proofs.lemmas.List.{append_assoc, append_cancel_left}
 use Rattle.bbm_histories.specs.regimes.declared.regime.Kind.{Kind}
 use Rattle.bbm_histories.specs.regimes.Extent.{Extent, holds}
 use Rattle.bbm_histories.specs.descriptor.Descriptor.{desc_of}
@@ -20,8 +20,8 @@ use Rattle.bbm_histories.specs.rules.PatternSentences.{IsLastValid, Publication}
 use Rattle.bbm_histories.specs.rules.Places.{page_of}
 use Rattle.bbm_histories.specs.rules.Prelude.{Heading, Ttbr0, Ttbr1, Event, input_pages}
 use Rattle.bbm_histories.specs.rules.Reach.{Issued}
-use Rattle.bbm_histories.specs.rules.Sentences.{Open, completes_for}
-use Rattle.bbm_histories.specs.rules.Tags.{itself, tag_set, tags_of}
+use Rattle.bbm_histories.specs.rules.Sentences.{Open}
+use Rattle.bbm_histories.specs.rules.Tags.{tag_set, tags_of}
 use Rattle.bbm_histories.specs.rules.Tree.{Node, held_at, is_childless, next_in, next_of, node_of, region_of, region_start, tree}
 use Rattle.bbm_histories.specs.rules.TreeSentences.{Childless}
 use Rattle.bbm_histories.specs.Tree.{HeldBy, View}
@@ -29,7 +29,7 @@ use Rattle.bbm_tlb_machine.specs.Entry.{Entry, Part, desc_in, head_of, is_leaf, 
 use Rattle.bbm_tlb_machine.specs.Invariant.{Fine, Holding, IsAt, IsBelow, IsNear}
 use Rattle.bbm_tlb_machine.specs.Known.{Known}
 use Rattle.bbm_tlb_machine.proofs.Descs.{leaf_if_no_table, no_leaf_if_table, some_pages}
-use Rattle.bbm_tlb_machine.proofs.Elements.{At, event_at, events_append, events_length}
+use Rattle.bbm_tlb_machine.proofs.Elements.{events_append, events_length}
 use Rattle.bbm_tlb_machine.proofs.Facts.{has_tag, held_there, keeps_older, means, no_global, tag_then}
 use Rattle.bbm_tlb_machine.proofs.Regions.{chain_kind, inside_of, last_or_above, region_holds}
 use Rattle.bbm_tlb_machine.proofs.Scopes.{CoversBy, covers_by}
@@ -48,10 +48,8 @@ view_of heading trust older n place value = record {
 
 -- A TLBI that covers a place of a part so far, among the events alone: its scope, what it saw there, and that the entry was
 -- made before it. What came before it among the events after the last valid write has earlier positions.
-pub record Covering (heading : Heading) (h : List Event) (x : Entry) (q : ℕ) (t : Issued Noted) (cover : Cover) : Type 0 where
-  pub older : List Noted
+pub record Covering (heading : Heading) (x : Entry) (t : Issued Noted) (cover : Cover) (older : List Noted) : Type 0 where
   pub view : PlaceView
-  pub is_open : Open itself q h (record { tlbi = t.tlbi.event; before = events_of older })
   pub by_scope : CoversBy heading older t.tlbi.event view cover
   pub agrees : Agrees (head_of x) view
   pub since : x.since ≤ length (events_of older)
@@ -242,27 +240,19 @@ module _ (heading : Heading) (trust : Trust) (k : Known heading trust) (h : List
           (is_split ∙ sym (append_assoc (events_of o.newer) (t.tlbi.event ∷ []) (events_of view.older))) since_then
           (k.limbo_is_empty h kept n part.place value p w o.newer t.before view.older t.tlbi holds_it o.split view.split was_seen)
 
-      -- the TLBI among the events alone
-      plain : Issued Event
-      plain = record { tlbi = t.tlbi.event; before = events_of view.older }
-
-      is_open : Open itself q h (record { tlbi = t.tlbi.event; before = events_of view.older })
-      is_open = record {
-        newer = events_of o.newer;
-        split = is_split;
-        issued = o.issued;
-        uncompleted = λ y after before s.
-            let a : At o.newer y = event_at o.newer after before y s in
-            subst (λ (z : Event). completes_for q t.tlbi.event z ≡ false) a.is (o.uncompleted a.item a.newer a.older a.split);
-      }
-
-      pub covering : Covering heading h x q t cover
-      covering = record {
-        older = view.older;
+      was_covering : Covering heading x t cover view.older
+      was_covering = record {
         view = view_of heading trust view.older n part.place value;
-        is_open = is_open;
         by_scope = covers;
         agrees = agrees_then;
         since = since_then;
         earlier = earlier;
       }
+
+      pub covering : (older : List Noted) → noted heading trust h ≡ o.newer ++ t.tlbi ∷ older → Covering heading x t cover older
+      covering older whole =
+          let split : o.newer ++ t.tlbi ∷ view.older ≡ o.newer ++ t.tlbi ∷ older = sym view.split ∙ whole in
+          let tails : t.tlbi ∷ view.older ≡ t.tlbi ∷ older
+          = append_cancel_left o.newer (t.tlbi ∷ view.older) (t.tlbi ∷ older) split in
+          let same : view.older ≡ older = cc in
+          subst (λ (ns : List Noted). Covering heading x t cover ns) same was_covering

@@ -33,3 +33,4 @@ mod RunTexts
 mod Runs
 mod SafeLaw
 mod Scopes
+mod Taken

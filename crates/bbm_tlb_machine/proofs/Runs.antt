@@ -18,7 +18,7 @@ use Rattle.bbm_histories.specs.rules.Tree.{Node, held_at, in_tree, node_of}
 use Rattle.bbm_tlb_machine.specs.declared.step.Step.{Step}
 use Rattle.bbm_tlb_machine.specs.declared.step.Step.TheVariants.{Machine, Event as Taken}
 use Rattle.bbm_tlb_machine.specs.Entry.{Entry, Part, parts_of, tag_of_entry}
-use Rattle.bbm_tlb_machine.specs.Invariant.{Fine, Holding, Placed}
+use Rattle.bbm_tlb_machine.specs.Invariant.{Fine, Holding, Placed, Taken as TakenBy}
 use Rattle.bbm_tlb_machine.specs.Known.{Known}
 use Rattle.bbm_tlb_machine.specs.Run.{IsRun, Leads, LeavesNone, Living, State, entry_at, with_entry}
 use Rattle.bbm_tlb_machine.specs.Safe.{ComesTo, IsLog, Safe}
@@ -28,6 +28,7 @@ use Rattle.bbm_tlb_machine.proofs.EventSteps.{fine_after}
 use Rattle.bbm_tlb_machine.proofs.Facts.{held_there, held_valid, keeps_older, tag_now}
 use Rattle.bbm_tlb_machine.proofs.Made.{fine_combined, fine_extended, fine_shared, fine_start}
 use Rattle.bbm_tlb_machine.proofs.Patterns.{LeavesIt, tagged_after}
+use Rattle.bbm_tlb_machine.proofs.Taken.{taken}
 
 -- ---- entries by number
 
@@ -134,6 +135,11 @@ module _ (heading : Heading) (trust : Trust) (k : Known heading trust) where
       λ (l : Living) i. absurd (contains_none l (subst (λ (n : State). Contains n.living l) run i))
   run_fine (step ∷ steps) s log kept run =
       step_fine run.0 step s log kept run.2 (λ log' kept'. run_fine steps run.0 log' kept' run.1)
+
+  pub run_taken : (steps : List Step) (s : State) → IsLog heading s.log → keeps heading trust s.log ≡ true
+      → IsRun heading steps s → (l : Living) → Contains s.living l → TakenBy heading trust s.log l.entry
+  run_taken steps s log kept run l i =
+      taken heading trust k s.log kept l.entry (run_fine steps s log kept run l i)
 
   -- ---- the clauses of a safe log
 

@@ -1,22 +1,26 @@
 -- What is true of each entry that some TLB keeps, in each run over a log that keeps the rules, point by point. Here `h`
 -- are the events taken so far, newest first. `law_fine` says that it is so, and `law_safe` stands on it.
 -- Source: project's own choice.
-use Rattle.std.specs.Prelude.{◌≡◌, ℕ, suc, ◌+◌, ◌*◌, ◌<◌, ◌≤◌, ◌⊎◌, true, false, List, [], ◌∷◌, length, Some, Contains}
+use Rattle.std.specs.Prelude.{◌≡◌, ℕ, suc, ◌+◌, ◌*◌, ◌<◌, ◌≤◌, ◌⊎◌, true, false, List, [], ◌∷◌, ◌++◌, length, Some}
+use Rattle.std.specs.Prelude.{Contains}
 use Rattle.bbm_histories.specs.descriptor.Descriptor.{is_valid, needs}
 use Rattle.bbm_histories.specs.tlbi_scope.Agreement.{read_through}
-use Rattle.bbm_histories.specs.tlbi_scope.declared.entry.EntryKind.TheVariants.{Combined}
+use Rattle.bbm_histories.specs.tlbi_scope.declared.entry.Cover.{Cover}
+use Rattle.bbm_histories.specs.tlbi_scope.declared.entry.Cover.TheVariants.{Half, Second, Full}
+use Rattle.bbm_histories.specs.tlbi_scope.declared.entry.EntryKind.TheVariants.{Stage2, Combined}
 use Rattle.bbm_histories.specs.rules.Claims.{Trust}
 use Rattle.bbm_histories.specs.rules.Covers.{noted}
 use Rattle.bbm_histories.specs.rules.Held.{ValidWrite, held, last_valid}
-use Rattle.bbm_histories.specs.rules.Notes.{Noted}
+use Rattle.bbm_histories.specs.rules.Notes.{Noted, event_of, events_of}
 use Rattle.bbm_histories.specs.rules.PatternSentences.{Cleansed, HalfBy, Publication}
 use Rattle.bbm_histories.specs.rules.Places.{index_of, page_of}
 use Rattle.bbm_histories.specs.rules.Prelude.{Heading, Kind, Event, first_input_page, input_pages, start_of}
-use Rattle.bbm_histories.specs.rules.Reach.{Issued}
+use Rattle.bbm_histories.specs.rules.Reach.{Issued, reaches}
 use Rattle.bbm_histories.specs.rules.Roots.{root_pages}
-use Rattle.bbm_histories.specs.rules.Sentences.{HoldsTag}
+use Rattle.bbm_histories.specs.rules.Sentences.{HoldsTag, Open}
 use Rattle.bbm_histories.specs.rules.Tree.{Node, next_of, nodes_of_pages, region_start, tree}
 use Rattle.bbm_tlb_machine.specs.Entry.{Entry, Part, parts_of, tag_of_entry}
+use Rattle.bbm_tlb_machine.specs.Step.{must_go}
 
 -- ---- the shape of an entry
 
@@ -82,6 +86,16 @@ module _ (heading : Heading) where
       pub holds : held heading trust part.kind part.level part.place (noted heading trust h) ≡ Some value
       pub same_core : needs part.kind part.level value part.value ≡ false
 
+    -- Unanswered: no DSB has answered the TLBI yet. It came after the last valid write of the place, it reaches p, and
+    -- it covers the place so far. All that came before it is `older`.
+    pub record Unanswered (cover : Cover) (place p : ℕ) (since : List Noted) (t : Issued Noted) : Type 0 where
+      pub q : ℕ
+      pub is_open : Open event_of q since t
+      pub reached : reaches heading t.tlbi.event p ≡ true
+      pub covered : t.tlbi.covers place ≡ cover
+      pub older : List Noted
+      pub whole : noted heading trust h ≡ is_open.newer ++ t.tlbi ∷ older
+
   module _ (trust : Trust) (h : List Event) (x : Entry) where
     -- this holds of each place of a part, at each PE near, and of what came after the last valid write of the place
     abbrev pub AtParts : (ℕ → ℕ → List Noted → Type 0) → Type 0
@@ -121,3 +135,19 @@ module _ (heading : Heading) where
       pub tagged : Tagged
       pub made_before : MadeBefore
       pub joined_before : JoinedBefore
+
+    -- the TLBI must have taken the entry by the time that it is answered
+    abbrev pub Goes : Noted → List Noted → Type 0
+    Goes tlbi older = must_go heading (record { tlbi = tlbi.event; before = events_of older }) x ≡ true
+
+    -- Taken: an unanswered TLBI takes the entry where, behind a barrier that publishes a write of a part's place, it
+    -- covers the place in full; where it covers it half, if the entry is one of stage 2; and where the place was half
+    -- before it and it covers the rest, if the entry combines the stages. It follows from the points of `Fine`.
+    pub record Taken : Type 0 where
+      pub full : AtParts (λ place p since. (b : Noted) (t : Issued Noted) → Publication heading place p t.before b
+          → (u : Unanswered trust h Full place p since t) → Goes t.tlbi u.older)
+      pub half : x.kind ≡ Stage2 → AtParts (λ place p since. (b : Noted) (t : Issued Noted)
+          → Publication heading place p t.before b → (u : Unanswered trust h Half place p since t) → Goes t.tlbi u.older)
+      pub rest : x.kind ≡ Combined → AtParts (λ place p since. (b : Noted) (t1 : Issued Noted) (d1 : Noted)
+          (t : Issued Noted) → HalfBy heading place p t.before b t1 d1 → (u : Unanswered trust h Second place p since t)
+          → Goes t.tlbi u.older)

@@ -10,7 +10,7 @@ ghost use Rattle.bbm_histories.specs.rules.declared.limits.Limits.{Limits};
 ghost use Rattle.bbm_histories.specs.rules.declared.verdict.Verdict.TheVariants.{Accepted};
 ghost use Rattle.bbm_tlb_machine.specs.Accepted.{SafeBytes};
 ghost use Rattle.bbm_tlb_machine.specs.declared.step.Step.{Step};
-ghost use Rattle.bbm_tlb_machine.specs.Invariant.{Fine};
+ghost use Rattle.bbm_tlb_machine.specs.Invariant.{Fine, Taken};
 ghost use Rattle.bbm_tlb_machine.specs.Known.{Known};
 ghost use Rattle.bbm_tlb_machine.specs.Run.{IsRun, Living, State};
 ghost use Rattle.bbm_tlb_machine.specs.Safe.{IsLog, Safe};
@@ -64,11 +64,15 @@ fn known()
 }
 
 /// In each run over a log that keeps the rules, each entry that some TLB keeps is fine, point by point, whatever the
-/// rules trust. A log has a header that can be said, and each event fits it. The law is the contract.
+/// rules trust; and so each unanswered TLBI that covers a place of a part of it takes it. A log has a header that can be
+/// said, and each event fits it. The law is the contract.
 pub fn law_fine()
-    ensures { (heading : Heading) (trust : Trust) (steps : List Step) (s : State) → IsLog heading s.log →
+    ensures fine { (heading : Heading) (trust : Trust) (steps : List Step) (s : State) → IsLog heading s.log →
         keeps heading trust s.log ≡ true → IsRun heading steps s → (l : Living) → Contains s.living l →
         Fine heading trust s.log l.entry }
+    ensures taken { (heading : Heading) (trust : Trust) (steps : List Step) (s : State) → IsLog heading s.log →
+        keeps heading trust s.log ≡ true → IsRun heading steps s → (l : Living) → Contains s.living l →
+        Taken heading trust s.log l.entry }
 {
     known();
 }
