@@ -1,3 +1,6 @@
+mod CaseWords
+mod CasesEdges
+mod CasesEnds
 pub mod Words
 pub mod Starts
 pub mod Roots

@@ -1,0 +1,21 @@
+-- The words in which the worked cases are written: bytes, and the text of the verdict on them.
+use Rattle.std.specs.Prelude.{ℕ, List, [], ◌∷◌, ◌++◌, codes}
+use Rattle.std.specs.Fmt.{digits}
+use Prim.Native.String.{String}
+use Rattle.bbm_rules.specs.events.Lines.{header_of, item_of}
+use Rattle.bbm_rules.specs.events.Spelling.{decimal_value, hex_value}
+use Rattle.bbm_rules.specs.Broken.{broken}
+use Rattle.bbm_rules.specs.Claims.{Patterns}
+use Rattle.bbm_rules.specs.Outcome.{check_limits, end_of, step_of, verdict_of_bytes}
+use Rattle.bbm_rules.specs.Texts.{verdict_text}
+use Rattle.bbm_rules.specs.Tree.{tree}
+
+-- the bytes of these lines, each with its newline
+abbrev pub bytes_of : List String → List ℕ
+bytes_of [] = []
+bytes_of (line ∷ lines) = codes line ++ 10 ∷ bytes_of lines
+
+-- the line of the verdict on them, and on these lines with some bytes behind them
+unfoldable pub told : List String → List ℕ → List ℕ
+unfolding digits header_of item_of decimal_value hex_value broken tree step_of end_of verdict_text
+told lines rest = verdict_text (verdict_of_bytes Patterns check_limits (bytes_of lines ++ rest))
