@@ -46,10 +46,17 @@ fn vmid_entries(rt: HostRuntime) {
             EntryKind::Combined,
             false,
         ),
+        (Vmalle1, 0, Some(5), EntryKind::Combined, true),
+        (Vmalle1, 0, Some(6), EntryKind::Combined, false),
         (Vmalle1is, 0, Some(5), EntryKind::Combined, true),
+        (Vmalle1is, 0, Some(6), EntryKind::Combined, false),
         (Vmalle1is, 0, Some(5), EntryKind::Stage2, false),
         (Vmalle1is, 0, None, EntryKind::El1, false),
         (Vmalls12e1is, 0, Some(5), EntryKind::Stage2, true),
+        (Vmalls12e1is, 0, Some(6), EntryKind::Stage2, false),
+        (Vmalls12e1is, 0, Some(5), EntryKind::Combined, true),
+        (Vmalls12e1is, 0, Some(6), EntryKind::Combined, false),
+        (Vmalls12e1is, 0, None, EntryKind::Combined, false),
         (Alle1is, 0, Some(5), EntryKind::El2, false),
         (Alle1is, 0, None, EntryKind::Combined, true),
     ];
@@ -78,8 +85,8 @@ fn el2_entries(rt: HostRuntime) {
     }
 }
 
-/// Whether a TLBI takes an entry of ASID 7 that ends at level 2, in a leaf that isn't global or in a table.
-fn kernel_taken(op: TlbiOp, xt: u64, last: bool) -> Option<bool> {
+/// Whether a TLBI takes an entry of ASID 7 that ends at level 2, in a leaf for that ASID alone or for each, or in a table.
+fn kernel_taken(op: TlbiOp, xt: u64, last: bool, global: bool) -> Option<bool> {
     let scope = decode(op, xt).ok()?;
     let entry = EntryHead {
         kind: EntryKind::El1,
@@ -91,7 +98,7 @@ fn kernel_taken(op: TlbiOp, xt: u64, last: bool) -> Option<bool> {
         },
         last,
         level: 2,
-        global: false,
+        global,
     };
     Some(takes(scope, Some(0), entry))
 }
@@ -104,14 +111,36 @@ fn kernel_entries(rt: HostRuntime) {
         (Vale1is, 0x7000000040000, true, true),
         (Vale1is, 0x7000000040000, false, false),
         (Vae1is, 0x7000000040000, false, true),
+        (Vae1is, 0x5000000040000, true, false),
+        (Vmalle1, 0, true, true),
+        (Vmalle1is, 0, false, true),
+        (Vmalls12e1is, 0, true, false),
         (Aside1is, 0x7000000000000, false, true),
     ];
     for (op, xt, last, want) in rows {
         assert_eq!(rt;
-            kernel_taken(op, xt, last),
+            kernel_taken(op, xt, last, false),
             Some(want),
             "{op:?} {xt} {last}"
         );
+    }
+}
+
+#[test]
+fn global_leaves(rt: HostRuntime) {
+    let rows = [
+        (Aside1is, 0x7000000000000, false),
+        (Aside1is, 0x5000000000000, false),
+        (Vae1is, 0x7000000040000, true),
+        (Vae1is, 0x5000000040000, true),
+        (Vae1is, 0x5000000040200, false),
+        (Vale1is, 0x5000000040000, true),
+        (Vmalle1, 0, true),
+        (Vmalle1is, 0, true),
+        (Vmalls12e1is, 0, false),
+    ];
+    for (op, xt, want) in rows {
+        assert_eq!(rt; kernel_taken(op, xt, true, true), Some(want), "{op:?} {xt}");
     }
 }
 
