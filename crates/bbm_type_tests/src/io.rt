@@ -197,6 +197,42 @@ fn reads_lines_in_pieces(rt: HostRuntime) -> Result<(), Fail> {
 }
 
 #[test]
+fn asks_for_no_byte_behind_a_line_that_is_too_long(rt: HostRuntime) -> Result<(), Fail> {
+    use Turn::{Fail, Pass};
+
+    // How many bytes the first call passes, an empty line and letters; what stands where the second line is asked for;
+    // and how many of its three turns the reader has left then. The second call fails, so it would wait on a pipe.
+    let fault = Fail(ErrorKind::Other);
+    let turns = [Pass(1000), fault, fault];
+    for (passed, answer, left) in [
+        (200, Err(LineFault::ReadFault), 1),
+        (201, Err(LineFault::ReadFault), 1),
+        (202, Err(LineFault::TooLong), 2),
+        (203, Err(LineFault::TooLong), 2),
+        (1000, Err(LineFault::TooLong), 2),
+    ] {
+        let mut bytes = letters(rt.alloc(), 0, "\n")?;
+        bytes.resize(passed, b'a')?;
+        let mut wire = Wire {
+            bytes: &bytes,
+            turns: &turns,
+            sent: ArrayVec::new(),
+        };
+        let mut source = StdSource::new(&mut wire);
+        let mut lines = Lines::new();
+        assert_eq!(rt;
+            lines.next(&mut source),
+            Ok(LineOrEnd::Line),
+            "{passed} bytes"
+        );
+        assert_eq!(rt; lines.next(&mut source), answer, "{passed} bytes");
+        drop(source);
+        assert_eq!(rt; wire.turns.len(), left, "{passed} bytes");
+    }
+    Ok(())
+}
+
+#[test]
 fn reads_ahead(rt: HostRuntime) -> Result<(), Fail> {
     let mut source = StdSource::new(Wire {
         bytes: b"abcde",
