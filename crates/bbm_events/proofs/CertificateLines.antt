@@ -27,7 +27,7 @@ use Rattle.bbm_events.specs.Lines.{◌>>=◌, Fields, passing, pe_field, place_f
 use Rattle.bbm_events.specs.Certificate.{certificate_line, certificate_of, certificate_word, certificate_words, claim_word, claim_words, tag_word, tag_words, word_of_tag, number_of_tag, tag_with, has_number, is_tag, is_position, is_claim, claim_fits, certificate_word_field, claim_word_field, tag_word_field, tag_number_field, tag_fields, flush_fields, place_line, two_line, tag_line, claim_after, any_claim, certificate_after, claim_of, claim_fields, claim_item_fields, claim_line}
 use Rattle.bbm_events.proofs.Causes.{Ends, then_ends, field_ends, whole_ends, pe_ends, place_ends, count_ends, count_line_ends, word_ends}
 use Rattle.bbm_events.proofs.Readings.{bind_ok, passing_field_ok, both, pe_kept, count_kept, place_kept}
-use Rattle.bbm_events.proofs.Joining.{no_space, no_spaces, joined_fields, fields_joined}
+use Rattle.bbm_events.proofs.Joining.{visible, all_visible, joined_fields, fields_joined}
 use Rattle.bbm_events.proofs.OneLine.{IsRead, as_read, count_line_read_as, whole_end, decimal_field_once, word_field_once, count_once, pe_once, place_once}
 use Rattle.bbm_events.proofs.Written.{on, decimal_field_read, count_read, count_line_read, pe_read, place_read, one_more, dec, hexa}
 
@@ -229,11 +229,11 @@ tag_word_read word.Vmid rest = refl
 tag_word_read word.Asid rest = refl
 tag_word_read word.Ttbr1 rest = refl
 
-tag_word_no_space : (word : TagWord) → no_space (tag_word word) ≡ true
-tag_word_no_space word.El2 = refl
-tag_word_no_space word.Vmid = refl
-tag_word_no_space word.Asid = refl
-tag_word_no_space word.Ttbr1 = refl
+tag_word_visible : (word : TagWord) → visible (tag_word word) ≡ true
+tag_word_visible word.El2 = refl
+tag_word_visible word.Vmid = refl
+tag_word_visible word.Asid = refl
+tag_word_visible word.Ttbr1 = refl
 
 tag_again : (tag : Tag) → tag_with (word_of_tag tag) (number_of_tag tag) ≡ tag
 tag_again tag.El2 = refl
@@ -285,20 +285,20 @@ claim_read h (Taken pe tag t d) ok fits =
     ∙ on (tag_fields spelled) _ (tag_read tag flush front.1)
     ∙ on (flush_fields flush) _ (flush_read t d [] all.1)
 
-claim_no_spaces : (claim : Claim) → no_spaces (claim_fields claim) ≡ true
-claim_no_spaces (Place pe place b t d) =
+claim_all_visible : (claim : Claim) → all_visible (claim_fields claim) ≡ true
+claim_all_visible (Place pe place b t d) =
     dec pe (hex place ∷ decimal b ∷ decimal t ∷ decimal d ∷ []) (hexa place (decimal b ∷ decimal t ∷ decimal d ∷ [])
     (dec b (decimal t ∷ decimal d ∷ []) (dec t (decimal d ∷ []) (dec d [] refl))))
-claim_no_spaces (Two pe place b t1 d1 t2 d2) =
+claim_all_visible (Two pe place b t1 d1 t2 d2) =
     let other = decimal t2 ∷ decimal d2 ∷ [] in
-    let clean : no_spaces other ≡ true = dec t2 (decimal d2 ∷ []) (dec d2 [] refl) in
+    let clean : all_visible other ≡ true = dec t2 (decimal d2 ∷ []) (dec d2 [] refl) in
     dec pe (hex place ∷ decimal b ∷ decimal t1 ∷ decimal d1 ∷ other) (hexa place (decimal b ∷ decimal t1 ∷ decimal d1 ∷ other)
     (dec b (decimal t1 ∷ decimal d1 ∷ other) (dec t1 (decimal d1 ∷ other) (dec d1 other clean))))
-claim_no_spaces (Taken pe tag t d) =
+claim_all_visible (Taken pe tag t d) =
     let flush = decimal t ∷ decimal d ∷ [] in
-    let clean : no_spaces flush ≡ true = dec t (decimal d ∷ []) (dec d [] refl) in
+    let clean : all_visible flush ≡ true = dec t (decimal d ∷ []) (dec d [] refl) in
     dec pe (tag_word (word_of_tag tag) ∷ decimal (number_of_tag tag) ∷ flush)
-    (one_more (tag_word (word_of_tag tag)) (decimal (number_of_tag tag) ∷ flush) (tag_word_no_space (word_of_tag tag)) (dec (number_of_tag tag) flush clean))
+    (one_more (tag_word (word_of_tag tag)) (decimal (number_of_tag tag) ∷ flush) (tag_word_visible (word_of_tag tag)) (dec (number_of_tag tag) flush clean))
 
 -- the fields of a line, read
 abbrev read_item : Heading → Fields → Result ClaimItem Malformed
@@ -307,6 +307,6 @@ read_item h all = certificate_word_field all >>= (λ word. certificate_after h w
 pub claim_written_is_read : (h : Heading) (x : ClaimItem) → heading_ok h ≡ true → claim_fits h x ≡ true → claim_of h (claim_line x) ≡ Ok x
 unfolding claim_of claim_line
 claim_written_is_read h (item.Claim claim) ok fits =
-    ap (read_item h) (fields_joined (codes "c") (claim_fields claim) (claim_no_spaces claim)) ∙ claim_read h claim ok fits
+    ap (read_item h) (fields_joined (codes "c") (claim_fields claim) (claim_all_visible claim)) ∙ claim_read h claim ok fits
 claim_written_is_read h (item.End count) ok fits =
     ap (read_item h) (fields_joined (codes "end") (decimal count ∷ []) (dec count [] refl)) ∙ count_line_read item.End count fits

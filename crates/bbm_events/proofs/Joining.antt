@@ -1,38 +1,43 @@
--- Pieces that are joined by spaces and hold none are the fields of what they are joined to.
-use Rattle.std.proofs.Common.{◌≡◌, ℕ, zero, suc, ◌/◌, ◌%◌, List, [], ◌∷◌, ◌++◌, Bool, true, false, not, ◌&&◌, cond, ◌==◌, refl, ap, sym, ◌∙◌, arith}
+-- Pieces that are joined by spaces and whose bytes all show are the fields of what they are joined to, which is one line.
+use Rattle.std.proofs.Common.{◌≡◌, ℕ, zero, suc, ◌/◌, ◌%◌, List, [], ◌∷◌, ◌++◌, Bool, true, false, ◌&&◌, cond, ◌==◌, refl, ap, sym, ◌∙◌, arith, nat_lt}
 use Rattle.std.specs.Fmt.{digit_glyph, digits_onto, digits}
 use Rattle.std.specs.List.{onto_first}
-use Rattle.std.proofs.lemmas.Bool.{and_parts, not-true}
+use Rattle.std.proofs.lemmas.Bool.{and_parts}
 use Rattle.std.proofs.lemmas.Bool.Decides.{nat_tests}
 use Rattle.std.proofs.lemmas.List.Splits.{slice_split-cons_no, join_with_byte-slice_split}
 use Rattle.bbm_events.specs.Spelling.{fields, joined}
 
-abbrev pub no_space : List ℕ → Bool
-no_space [] = true
-no_space (byte ∷ bytes) = not (byte == 32) && no_space bytes
+-- whether each byte shows: none is a space, and none below it, as a newline is
+abbrev pub visible : List ℕ → Bool
+visible [] = true
+visible (byte ∷ bytes) = nat_lt 32 byte && visible bytes
 
-abbrev pub no_spaces : List (List ℕ) → Bool
-no_spaces [] = true
-no_spaces (piece ∷ pieces) = no_space piece && no_spaces pieces
+abbrev pub all_visible : List (List ℕ) → Bool
+all_visible [] = true
+all_visible (piece ∷ pieces) = visible piece && all_visible pieces
 
-fields_last : (piece : List ℕ) → no_space piece ≡ true → fields piece ≡ piece ∷ []
+-- a byte that shows is no space
+no_space : (byte : ℕ) → nat_lt 32 byte ≡ true → (byte == 32) ≡ false
+no_space byte shows = grind (arith, nat_tests)
+
+fields_last : (piece : List ℕ) → visible piece ≡ true → fields piece ≡ piece ∷ []
 fields_last [] h = refl
 fields_last (byte ∷ bytes) h =
-    let parts = and_parts (not (byte == 32)) (no_space bytes) h in
-    slice_split-cons_no (λ (b : ℕ). b == 32) byte bytes (not-true (byte == 32) parts.0)
+    let parts = and_parts (nat_lt 32 byte) (visible bytes) h in
+    slice_split-cons_no (λ (b : ℕ). b == 32) byte bytes (no_space byte parts.0)
     ∙ ap (λ (xs : List (List ℕ)). onto_first byte xs) (fields_last bytes parts.1)
 
-fields_then : (piece rest : List ℕ) → no_space piece ≡ true → fields (piece ++ 32 ∷ rest) ≡ piece ∷ fields rest
+fields_then : (piece rest : List ℕ) → visible piece ≡ true → fields (piece ++ 32 ∷ rest) ≡ piece ∷ fields rest
 fields_then [] rest h = refl
 fields_then (byte ∷ bytes) rest h =
-    let parts = and_parts (not (byte == 32)) (no_space bytes) h in
-    slice_split-cons_no (λ (b : ℕ). b == 32) byte (bytes ++ 32 ∷ rest) (not-true (byte == 32) parts.0)
+    let parts = and_parts (nat_lt 32 byte) (visible bytes) h in
+    slice_split-cons_no (λ (b : ℕ). b == 32) byte (bytes ++ 32 ∷ rest) (no_space byte parts.0)
     ∙ ap (λ (xs : List (List ℕ)). onto_first byte xs) (fields_then bytes rest parts.1)
 
-pub fields_joined : (piece : List ℕ) (pieces : List (List ℕ)) → no_spaces (piece ∷ pieces) ≡ true → fields (joined (piece ∷ pieces)) ≡ piece ∷ pieces
-fields_joined piece [] h = fields_last piece (and_parts (no_space piece) true h).0
+pub fields_joined : (piece : List ℕ) (pieces : List (List ℕ)) → all_visible (piece ∷ pieces) ≡ true → fields (joined (piece ∷ pieces)) ≡ piece ∷ pieces
+fields_joined piece [] h = fields_last piece (and_parts (visible piece) true h).0
 fields_joined piece (next ∷ pieces) h =
-    let parts = and_parts (no_space piece) (no_spaces (next ∷ pieces)) h in
+    let parts = and_parts (visible piece) (all_visible (next ∷ pieces)) h in
     fields_then piece (joined (next ∷ pieces)) parts.0
     ∙ ap (λ (xs : List (List ℕ)). piece ∷ xs) (fields_joined next pieces parts.1)
 
@@ -40,21 +45,21 @@ fields_joined piece (next ∷ pieces) h =
 pub joined_fields : (line : List ℕ) (pieces : List (List ℕ)) → fields line ≡ pieces → line ≡ joined pieces
 joined_fields line pieces e = sym (join_with_byte-slice_split 32 line) ∙ ap joined e
 
-glyph_no_space : (digit : ℕ) → (digit_glyph false digit == 32) ≡ false
-glyph_no_space digit = grind (arith, nat_tests)
+glyph_visible : (digit : ℕ) → nat_lt 32 (digit_glyph false digit) ≡ true
+glyph_visible digit = grind (arith, nat_tests)
 
-onto_no_space : (k base n : ℕ) (acc : List ℕ) → no_space acc ≡ true → no_space (digits_onto k base false n acc) ≡ true
-onto_no_space zero base n acc h = h
-onto_no_space (suc k) base n acc h = by (n / base == 0) (onto_no_space k base (n / base) (digit_glyph false (n % base) ∷ acc) more)
+onto_visible : (k base n : ℕ) (acc : List ℕ) → visible acc ≡ true → visible (digits_onto k base false n acc) ≡ true
+onto_visible zero base n acc h = h
+onto_visible (suc k) base n acc h = by (n / base == 0) (onto_visible k base (n / base) (digit_glyph false (n % base) ∷ acc) more)
   where
-    more : no_space (digit_glyph false (n % base) ∷ acc) ≡ true
-    more = rw (glyph_no_space (n % base)) h
+    more : visible (digit_glyph false (n % base) ∷ acc) ≡ true
+    more = rw (glyph_visible (n % base)) h
 
-    by : (t : Bool) → no_space (digits_onto k base false (n / base) (digit_glyph false (n % base) ∷ acc)) ≡ true
-        → no_space (cond t (digit_glyph false (n % base) ∷ acc) (digits_onto k base false (n / base) (digit_glyph false (n % base) ∷ acc))) ≡ true
+    by : (t : Bool) → visible (digits_onto k base false (n / base) (digit_glyph false (n % base) ∷ acc)) ≡ true
+        → visible (cond t (digit_glyph false (n % base) ∷ acc) (digits_onto k base false (n / base) (digit_glyph false (n % base) ∷ acc))) ≡ true
     by true on = more
     by false on = on
 
-pub digits_no_space : (base n : ℕ) → no_space (digits base false n) ≡ true
+pub digits_visible : (base n : ℕ) → visible (digits base false n) ≡ true
 unfolding digits
-digits_no_space base n = onto_no_space 64 base n [] refl
+digits_visible base n = onto_visible 64 base n [] refl

@@ -1,11 +1,11 @@
--- A label that is kept in 32 bytes is the front of them, and holds no space.
-use Rattle.std.proofs.Common.{◌≡◌, ℕ, List, [], ◌∷◌, true, false, ◌==◌, ◌&&◌, nat_le, ◌≤◌, length, take, drop, refl, arith}
+-- A label that is kept in 32 bytes is the front of them, and each byte of it shows.
+use Rattle.std.proofs.Common.{◌≡◌, ℕ, List, [], ◌∷◌, true, false, ◌==◌, ◌&&◌, nat_le, ◌≤◌, length, take, drop, refl, arith, nat_lt}
 use Rattle.std.proofs.Math.ListN.{replicate}
 use Rattle.std.proofs.Math.Seq.{take-append_seam}
 use Rattle.std.proofs.lemmas.Bool.{and_parts, leb-true}
 use Rattle.std.specs.List.{list_all}
 use Rattle.std.proofs.lemmas.Bool.Decides.{nat_tests}
-use Rattle.bbm_events.proofs.Joining.{no_space}
+use Rattle.bbm_events.proofs.Joining.{visible}
 use Rattle.bbm_events.specs.Label.{is_label_byte, is_label, padded}
 
 pub label_length : (text : List ℕ) → is_label text ≡ true → length text ≤ 32
@@ -16,16 +16,16 @@ label_length text e =
 pub front : (text : List ℕ) → take (length text) (padded text) ≡ text
 front text = take-append_seam text (drop (length text) (replicate 32 0))
 
-byte_no_space : (byte : ℕ) → is_label_byte byte ≡ true → (byte == 32) ≡ false
-byte_no_space byte e = grind (arith, nat_tests)
+byte_visible : (byte : ℕ) → is_label_byte byte ≡ true → nat_lt 32 byte ≡ true
+byte_visible byte e = grind (arith, nat_tests)
 
-bytes_no_space : (text : List ℕ) → list_all is_label_byte text ≡ true → no_space text ≡ true
-bytes_no_space [] e = refl
-bytes_no_space (byte ∷ bytes) e =
+bytes_visible : (text : List ℕ) → list_all is_label_byte text ≡ true → visible text ≡ true
+bytes_visible [] e = refl
+bytes_visible (byte ∷ bytes) e =
     let parts = and_parts (is_label_byte byte) (list_all is_label_byte bytes) e in
-    rw (byte_no_space byte parts.0) (bytes_no_space bytes parts.1)
+    rw (byte_visible byte parts.0) (bytes_visible bytes parts.1)
 
-pub label_no_space : (text : List ℕ) → is_label text ≡ true → no_space text ≡ true
-label_no_space text e = bytes_no_space text (and_parts (nat_le 1 (length text) && nat_le (length text) 32) (list_all is_label_byte text) e).1
+pub label_visible : (text : List ℕ) → is_label text ≡ true → visible text ≡ true
+label_visible text e = bytes_visible text (and_parts (nat_le 1 (length text) && nat_le (length text) 32) (list_all is_label_byte text) e).1
 
 pub ruleset kept = (label_length, front)

@@ -9,3 +9,4 @@ pub mod OneSpelling
 pub mod Readings
 pub mod WordsRead
 pub mod Written
+pub mod PlainLines

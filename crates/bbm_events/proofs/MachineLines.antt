@@ -20,10 +20,10 @@ use Rattle.bbm_events.specs.Lines.{◌>>=◌, Fields, passing, exactly, pe_field
 use Rattle.bbm_events.specs.Machine.{machine_word, machine_words, has_machine_word, is_tag, is_entry, machine_fits, mark_field, machine_word_field, tag_field, entry_field, start_line, extend_line, share_line, machine_after, machine_of, machine_fields, machine_line}
 use Rattle.bbm_events.proofs.Causes.{Ends, then_ends, field_ends, whole_ends, pe_ends, place_ends, value_ends, count_ends, count_line_ends, word_ends, of_fields}
 use Rattle.bbm_events.proofs.Readings.{bind_ok, field_ok, passing_field_ok, both, pe_kept, count_kept, place_kept, value_kept}
-use Rattle.bbm_events.proofs.Joining.{joined_fields, fields_joined, no_spaces}
+use Rattle.bbm_events.proofs.Joining.{joined_fields, fields_joined, all_visible}
 use Rattle.bbm_events.proofs.OneSpelling.{word_once}
 use Rattle.bbm_events.proofs.OneLine.{IsRead, as_read, count_line_read_as, exactly_once, passing_from, whole_end, field_once, decimal_field_once, count_once, pe_once, kind_once, place_once, value_once}
-use Rattle.bbm_events.proofs.WordsRead.{kind_word_no_space}
+use Rattle.bbm_events.proofs.WordsRead.{kind_word_visible}
 use Rattle.bbm_events.proofs.Written.{on, field_read, passing_read, decimal_field_read, count_read, count_line_read, pe_read, kind_read, place_read, value_read, one_more, dec, hexa}
 
 -- The causes.
@@ -199,18 +199,18 @@ step_read h (Share entry pe) ok fits =
     ∙ on (pe_field h (decimal pe ∷ [])) _ (pe_read h pe [] ok all.1)
 step_read h (Drop entry) ok fits = count_line_read Drop entry fits
 
-step_no_spaces : (step : MachineLine) → no_spaces (machine_fields step) ≡ true
-step_no_spaces (Start pe kind tag place value) =
+step_all_visible : (step : MachineLine) → all_visible (machine_fields step) ≡ true
+step_all_visible (Start pe kind tag place value) =
     dec pe (kind_word kind ∷ decimal tag ∷ hex place ∷ hex value ∷ [])
-    (one_more (kind_word kind) (decimal tag ∷ hex place ∷ hex value ∷ []) (kind_word_no_space kind)
+    (one_more (kind_word kind) (decimal tag ∷ hex place ∷ hex value ∷ []) (kind_word_visible kind)
     (dec tag (hex place ∷ hex value ∷ []) (hexa place (hex value ∷ []) (hexa value [] refl))))
-step_no_spaces (Extend entry place value) = dec entry (hex place ∷ hex value ∷ []) (hexa place (hex value ∷ []) (hexa value [] refl))
-step_no_spaces (Combine entry) = dec entry [] refl
-step_no_spaces (Share entry pe) = dec entry (decimal pe ∷ []) (dec pe [] refl)
-step_no_spaces (Drop entry) = dec entry [] refl
+step_all_visible (Extend entry place value) = dec entry (hex place ∷ hex value ∷ []) (hexa place (hex value ∷ []) (hexa value [] refl))
+step_all_visible (Combine entry) = dec entry [] refl
+step_all_visible (Share entry pe) = dec entry (decimal pe ∷ []) (dec pe [] refl)
+step_all_visible (Drop entry) = dec entry [] refl
 
 pub machine_written_is_read : (h : Heading) (step : MachineLine) → heading_ok h ≡ true → machine_fits h step ≡ true → machine_of h (machine_line step) ≡ Ok step
 unfolding machine_of machine_line
 machine_written_is_read h step ok fits =
-    ap (λ (all : Fields). mark_field all >>= (λ mark. read_step h mark.1)) (fields_joined (codes "m") (machine_fields step) (step_no_spaces step))
+    ap (λ (all : Fields). mark_field all >>= (λ mark. read_step h mark.1)) (fields_joined (codes "m") (machine_fields step) (step_all_visible step))
     ∙ step_read h step ok fits

@@ -1,4 +1,4 @@
--- Each word is read as its value again, and holds no space.
+-- Each word is read as its value again, and each byte of it shows.
 use Rattle.std.proofs.Common.{◌≡◌, Bool, true, false, refl, Some}
 use Rattle.bbm_barriers.specs.regimes.declared.regime.Kind.{Kind}
 use Rattle.bbm_barriers.specs.regimes.declared.regime.Kind.TheVariants.{El2, S2, Ttbr0, Ttbr1}
@@ -16,7 +16,7 @@ use Rattle.bbm_tlbi_scope.specs.declared.op.TlbiOp.TheVariants.{Alle2, Alle2is, 
 use Rattle.bbm_events.specs.declared.keyword.Keyword.{Keyword}
 use Rattle.bbm_events.specs.declared.keyword.Keyword.TheVariants as first
 use Rattle.bbm_events.specs.Words.{with_word, keyword_word, keywords, cnp_word, cnps, kind_word, kinds, reg_word, regs, asid_from_word, asid_froms, option_word, dsb_word, dsbs, op_word, ops}
-use Rattle.bbm_events.proofs.Joining.{no_space}
+use Rattle.bbm_events.proofs.Joining.{visible}
 
 pub keyword_word_read : (keyword : Keyword) → with_word keyword_word keywords (keyword_word keyword) ≡ Some keyword
 keyword_word_read first.Init = refl
@@ -37,9 +37,9 @@ pub cnp_word_read : (cnp : Bool) → with_word cnp_word cnps (cnp_word cnp) ≡ 
 cnp_word_read true = refl
 cnp_word_read false = refl
 
-pub cnp_word_no_space : (cnp : Bool) → no_space (cnp_word cnp) ≡ true
-cnp_word_no_space true = refl
-cnp_word_no_space false = refl
+pub cnp_word_visible : (cnp : Bool) → visible (cnp_word cnp) ≡ true
+cnp_word_visible true = refl
+cnp_word_visible false = refl
 
 pub kind_word_read : (kind : Kind) → with_word kind_word kinds (kind_word kind) ≡ Some kind
 kind_word_read El2 = refl
@@ -47,11 +47,11 @@ kind_word_read S2 = refl
 kind_word_read Ttbr0 = refl
 kind_word_read Ttbr1 = refl
 
-pub kind_word_no_space : (kind : Kind) → no_space (kind_word kind) ≡ true
-kind_word_no_space El2 = refl
-kind_word_no_space S2 = refl
-kind_word_no_space Ttbr0 = refl
-kind_word_no_space Ttbr1 = refl
+pub kind_word_visible : (kind : Kind) → visible (kind_word kind) ≡ true
+kind_word_visible El2 = refl
+kind_word_visible S2 = refl
+kind_word_visible Ttbr0 = refl
+kind_word_visible Ttbr1 = refl
 
 pub reg_word_read : (reg : Reg) → with_word reg_word regs (reg_word reg) ≡ Some reg
 reg_word_read Ttbr0El2 = refl
@@ -59,19 +59,19 @@ reg_word_read VttbrEl2 = refl
 reg_word_read Ttbr0El1 = refl
 reg_word_read Ttbr1El1 = refl
 
-pub reg_word_no_space : (reg : Reg) → no_space (reg_word reg) ≡ true
-reg_word_no_space Ttbr0El2 = refl
-reg_word_no_space VttbrEl2 = refl
-reg_word_no_space Ttbr0El1 = refl
-reg_word_no_space Ttbr1El1 = refl
+pub reg_word_visible : (reg : Reg) → visible (reg_word reg) ≡ true
+reg_word_visible Ttbr0El2 = refl
+reg_word_visible VttbrEl2 = refl
+reg_word_visible Ttbr0El1 = refl
+reg_word_visible Ttbr1El1 = refl
 
 pub asid_from_word_read : (asid_from : AsidFrom) → with_word asid_from_word asid_froms (asid_from_word asid_from) ≡ Some asid_from
 asid_from_word_read from.Ttbr0 = refl
 asid_from_word_read from.Ttbr1 = refl
 
-pub asid_from_word_no_space : (asid_from : AsidFrom) → no_space (asid_from_word asid_from) ≡ true
-asid_from_word_no_space from.Ttbr0 = refl
-asid_from_word_no_space from.Ttbr1 = refl
+pub asid_from_word_visible : (asid_from : AsidFrom) → visible (asid_from_word asid_from) ≡ true
+asid_from_word_visible from.Ttbr0 = refl
+asid_from_word_visible from.Ttbr1 = refl
 
 pub op_word_read : (op : TlbiOp) → with_word op_word ops (op_word op) ≡ Some op
 op_word_read Alle2 = refl
@@ -117,49 +117,49 @@ op_word_read Rvaae1is = refl
 op_word_read Rvaale1 = refl
 op_word_read Rvaale1is = refl
 
-pub op_word_no_space : (op : TlbiOp) → no_space (op_word op) ≡ true
-op_word_no_space Alle2 = refl
-op_word_no_space Alle2is = refl
-op_word_no_space Vae2 = refl
-op_word_no_space Vae2is = refl
-op_word_no_space Vale2 = refl
-op_word_no_space Vale2is = refl
-op_word_no_space Alle1 = refl
-op_word_no_space Alle1is = refl
-op_word_no_space Vmalle1 = refl
-op_word_no_space Vmalle1is = refl
-op_word_no_space Vmalls12e1 = refl
-op_word_no_space Vmalls12e1is = refl
-op_word_no_space Ipas2e1 = refl
-op_word_no_space Ipas2e1is = refl
-op_word_no_space Ipas2le1 = refl
-op_word_no_space Ipas2le1is = refl
-op_word_no_space Vae1 = refl
-op_word_no_space Vae1is = refl
-op_word_no_space Vale1 = refl
-op_word_no_space Vale1is = refl
-op_word_no_space Vaae1 = refl
-op_word_no_space Vaae1is = refl
-op_word_no_space Vaale1 = refl
-op_word_no_space Vaale1is = refl
-op_word_no_space Aside1 = refl
-op_word_no_space Aside1is = refl
-op_word_no_space Rvae2 = refl
-op_word_no_space Rvae2is = refl
-op_word_no_space Rvale2 = refl
-op_word_no_space Rvale2is = refl
-op_word_no_space Ripas2e1 = refl
-op_word_no_space Ripas2e1is = refl
-op_word_no_space Ripas2le1 = refl
-op_word_no_space Ripas2le1is = refl
-op_word_no_space Rvae1 = refl
-op_word_no_space Rvae1is = refl
-op_word_no_space Rvale1 = refl
-op_word_no_space Rvale1is = refl
-op_word_no_space Rvaae1 = refl
-op_word_no_space Rvaae1is = refl
-op_word_no_space Rvaale1 = refl
-op_word_no_space Rvaale1is = refl
+pub op_word_visible : (op : TlbiOp) → visible (op_word op) ≡ true
+op_word_visible Alle2 = refl
+op_word_visible Alle2is = refl
+op_word_visible Vae2 = refl
+op_word_visible Vae2is = refl
+op_word_visible Vale2 = refl
+op_word_visible Vale2is = refl
+op_word_visible Alle1 = refl
+op_word_visible Alle1is = refl
+op_word_visible Vmalle1 = refl
+op_word_visible Vmalle1is = refl
+op_word_visible Vmalls12e1 = refl
+op_word_visible Vmalls12e1is = refl
+op_word_visible Ipas2e1 = refl
+op_word_visible Ipas2e1is = refl
+op_word_visible Ipas2le1 = refl
+op_word_visible Ipas2le1is = refl
+op_word_visible Vae1 = refl
+op_word_visible Vae1is = refl
+op_word_visible Vale1 = refl
+op_word_visible Vale1is = refl
+op_word_visible Vaae1 = refl
+op_word_visible Vaae1is = refl
+op_word_visible Vaale1 = refl
+op_word_visible Vaale1is = refl
+op_word_visible Aside1 = refl
+op_word_visible Aside1is = refl
+op_word_visible Rvae2 = refl
+op_word_visible Rvae2is = refl
+op_word_visible Rvale2 = refl
+op_word_visible Rvale2is = refl
+op_word_visible Ripas2e1 = refl
+op_word_visible Ripas2e1is = refl
+op_word_visible Ripas2le1 = refl
+op_word_visible Ripas2le1is = refl
+op_word_visible Rvae1 = refl
+op_word_visible Rvae1is = refl
+op_word_visible Rvale1 = refl
+op_word_visible Rvale1is = refl
+op_word_visible Rvaae1 = refl
+op_word_visible Rvaae1is = refl
+op_word_visible Rvaale1 = refl
+op_word_visible Rvaale1is = refl
 
 option_word_read : (domain : Domain) (types : Types) → with_word dsb_word dsbs (option_word domain types) ≡ Some (record { domain = domain; types = types })
 option_word_read Full All = refl
@@ -178,19 +178,19 @@ option_word_read Non Loads = refl
 pub dsb_word_read : (dsb : Dsb) → with_word dsb_word dsbs (dsb_word dsb) ≡ Some dsb
 dsb_word_read dsb = option_word_read dsb.domain dsb.types
 
-option_word_no_space : (domain : Domain) (types : Types) → no_space (option_word domain types) ≡ true
-option_word_no_space Full All = refl
-option_word_no_space Full Stores = refl
-option_word_no_space Full Loads = refl
-option_word_no_space Inner All = refl
-option_word_no_space Inner Stores = refl
-option_word_no_space Inner Loads = refl
-option_word_no_space Outer All = refl
-option_word_no_space Outer Stores = refl
-option_word_no_space Outer Loads = refl
-option_word_no_space Non All = refl
-option_word_no_space Non Stores = refl
-option_word_no_space Non Loads = refl
+option_word_visible : (domain : Domain) (types : Types) → visible (option_word domain types) ≡ true
+option_word_visible Full All = refl
+option_word_visible Full Stores = refl
+option_word_visible Full Loads = refl
+option_word_visible Inner All = refl
+option_word_visible Inner Stores = refl
+option_word_visible Inner Loads = refl
+option_word_visible Outer All = refl
+option_word_visible Outer Stores = refl
+option_word_visible Outer Loads = refl
+option_word_visible Non All = refl
+option_word_visible Non Stores = refl
+option_word_visible Non Loads = refl
 
-pub dsb_word_no_space : (dsb : Dsb) → no_space (dsb_word dsb) ≡ true
-dsb_word_no_space dsb = option_word_no_space dsb.domain dsb.types
+pub dsb_word_visible : (dsb : Dsb) → visible (dsb_word dsb) ≡ true
+dsb_word_visible dsb = option_word_visible dsb.domain dsb.types

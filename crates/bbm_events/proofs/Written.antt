@@ -28,10 +28,10 @@ use Rattle.bbm_tlbi_scope.specs.Operations.{has_operand}
 use Rattle.bbm_events.specs.Words.{with_word, keyword_word, keywords, cnp_word, cnps, kind_word, kinds, reg_word, regs, asid_from_word, asid_froms, dsb_word, dsbs, op_word, ops}
 use Rattle.bbm_events.specs.Fits.{fits_heading, item_fits, is_pe, is_page, is_place, is_value, is_lock, is_count, is_root_page, is_root_lock, is_operand, label_fits}
 use Rattle.bbm_events.specs.Lines.{◌>>=◌, Fields, FieldRead, found, next_field, passing, checked, version_field, cnp_field, cnp_fields, header_field, world_fields, header_of, item_of, line_after, line_field, pe_field, page_field, place_field, root_page_field, value_field, operand_field, lock_field, lock_value, root_lock, root_lock_field, count_field, kind_field, dsb_field, op_field, reg_field, label_value, label_field, label_fields, event_item, pe_alone, pe_and, pe_and_two, root_line, tlbi_line, count_line, header_fields, header_line, lock_text, operand_fields, event_fields, item_fields, item_line, magic_field}
-use Rattle.bbm_events.proofs.Joining.{no_space, no_spaces, fields_joined, digits_no_space}
+use Rattle.bbm_events.proofs.Joining.{visible, all_visible, fields_joined, digits_visible}
 use Rattle.bbm_events.proofs.OneSpelling.{decimal_read, hex_read}
-use Rattle.bbm_events.proofs.Labels.{label_no_space}
-use Rattle.bbm_events.proofs.WordsRead.{cnp_word_read, cnp_word_no_space, kind_word_read, reg_word_read, asid_from_word_read, dsb_word_read, op_word_read, kind_word_no_space, reg_word_no_space, asid_from_word_no_space, dsb_word_no_space, op_word_no_space}
+use Rattle.bbm_events.proofs.Labels.{label_visible}
+use Rattle.bbm_events.proofs.WordsRead.{cnp_word_read, cnp_word_visible, kind_word_read, reg_word_read, asid_from_word_read, dsb_word_read, op_word_read, kind_word_visible, reg_word_visible, asid_from_word_visible, dsb_word_visible, op_word_visible}
 
 -- a step that gives a value leads on with it
 pub on : {A B : Type 0} (r : Result A Malformed) (f : A → Result B Malformed) {x : A} → r ≡ Ok x → (r >>= f) ≡ f x
@@ -47,17 +47,17 @@ both : {a b : Bool} → a ≡ true → b ≡ true → (a && b) ≡ true
 both p q = rw (p, q) refl
 
 -- what a heading's ranges say of its parts
-record Ranges (h : Heading) : Type 0 where
-  version : is_version h.version ≡ true
-  pes : h.pes ≤ 128
-  cnp : (may_share h.version || not h.cnp) ≡ true
-  world : world_ok h.world ≡ true
+pub record Ranges (h : Heading) : Type 0 where
+  pub version : is_version h.version ≡ true
+  pub pes : h.pes ≤ 128
+  pub cnp : (may_share h.version || not h.cnp) ≡ true
+  pub world : world_ok h.world ≡ true
 
 pes_most : (few : Bool) (pes : ℕ) → (nat_le 1 pes && nat_le pes (cond few 64 128)) ≡ true → pes ≤ 128
 pes_most true pes e = let most = leb-true pes 64 (and_parts (nat_le 1 pes) (nat_le pes 64) e).1 in omega (arith, most)
 pes_most false pes e = leb-true pes 128 (and_parts (nat_le 1 pes) (nat_le pes 128) e).1
 
-ranges : (h : Heading) → heading_ok h ≡ true → Ranges h
+pub ranges : (h : Heading) → heading_ok h ≡ true → Ranges h
 ranges h ok =
     let front = and_parts (is_version h.version && are_pes h.version h.pes && (may_share h.version || not h.cnp)) (world_ok h.world) ok in
     let some = and_parts (is_version h.version && are_pes h.version h.pes) (may_share h.version || not h.cnp) front.0 in
@@ -66,13 +66,13 @@ ranges h ok =
 
 -- The numbers of an item that fits are below 2 ^ 64.
 
-pe_below : (h : Heading) (pe : ℕ) → heading_ok h ≡ true → is_pe h pe ≡ true → pe < 2 ^ 64
+pub pe_below : (h : Heading) (pe : ℕ) → heading_ok h ≡ true → is_pe h pe ≡ true → pe < 2 ^ 64
 pe_below h pe ok fits =
     let few = (ranges h ok).pes in
     let less = ltb-true pe h.pes fits in
     omega (arith, few, less)
 
-aligned_below : (n : ℕ) (aligned : Bool) → (nat_lt n (2 ^ 48) && aligned) ≡ true → n < 2 ^ 64
+pub aligned_below : (n : ℕ) (aligned : Bool) → (nat_lt n (2 ^ 48) && aligned) ≡ true → n < 2 ^ 64
 aligned_below n aligned e = let below = ltb-true n (2 ^ 48) (and_parts (nat_lt n (2 ^ 48)) aligned e).0 in omega (arith, below)
 
 -- The fields of event lines.
@@ -105,7 +105,7 @@ root_page_read h kind n rest fits =
 pub value_read : (n : ℕ) (rest : Fields) → is_value n ≡ true → value_field (hex n ∷ rest) ≡ Ok (n, rest)
 value_read n rest fits = field_read MissingField BadNumber hex_value (hex n) rest (hex_read n (ltb-true n (2 ^ 64) fits))
 
-lock_below : (n : ℕ) → is_lock n ≡ true → n < 2 ^ 64
+pub lock_below : (n : ℕ) → is_lock n ≡ true → n < 2 ^ 64
 lock_below n fits = let below = ltb-true n 1024 fits in omega (arith, below)
 
 lock_value_read : (n : ℕ) → is_lock n ≡ true → lock_value (decimal n) ≡ Some n
@@ -249,50 +249,50 @@ event_read h (event.Msr pe reg value) label ok fits labelled =
 event_read h (event.Lock pe lock) label ok fits labelled = let parts = and_parts (is_pe h pe) (is_lock lock) fits in pe_and_read h lock_field event.Lock pe lock (decimal lock) label ok parts.0 (lock_read lock (label_fields label) parts.1) labelled
 event_read h (event.Unlock pe lock) label ok fits labelled = let parts = and_parts (is_pe h pe) (is_lock lock) fits in pe_and_read h lock_field event.Unlock pe lock (decimal lock) label ok parts.0 (lock_read lock (label_fields label) parts.1) labelled
 
--- No field of a line holds a space.
+-- Each byte of a field shows.
 
-pub one_more : (piece : List ℕ) (pieces : List (List ℕ)) → no_space piece ≡ true → no_spaces pieces ≡ true → no_spaces (piece ∷ pieces) ≡ true
+pub one_more : (piece : List ℕ) (pieces : List (List ℕ)) → visible piece ≡ true → all_visible pieces ≡ true → all_visible (piece ∷ pieces) ≡ true
 one_more piece pieces p q = both p q
 
-pub dec : (n : ℕ) (pieces : List (List ℕ)) → no_spaces pieces ≡ true → no_spaces (decimal n ∷ pieces) ≡ true
-dec n pieces h = one_more (decimal n) pieces (digits_no_space 10 n) h
+pub dec : (n : ℕ) (pieces : List (List ℕ)) → all_visible pieces ≡ true → all_visible (decimal n ∷ pieces) ≡ true
+dec n pieces h = one_more (decimal n) pieces (digits_visible 10 n) h
 
-pub hexa : (n : ℕ) (pieces : List (List ℕ)) → no_spaces pieces ≡ true → no_spaces (hex n ∷ pieces) ≡ true
-hexa n pieces h = one_more (hex n) pieces (digits_no_space 16 n) h
+pub hexa : (n : ℕ) (pieces : List (List ℕ)) → all_visible pieces ≡ true → all_visible (hex n ∷ pieces) ≡ true
+hexa n pieces h = one_more (hex n) pieces (digits_visible 16 n) h
 
-lock_no_space : (lock : Option ℕ) → no_space (lock_text lock) ≡ true
-lock_no_space None = refl
-lock_no_space (Some n) = digits_no_space 10 n
+lock_visible : (lock : Option ℕ) → visible (lock_text lock) ≡ true
+lock_visible None = refl
+lock_visible (Some n) = digits_visible 10 n
 
-operand_no_spaces : (op : TlbiOp) (xt : ℕ) (after : Fields) → no_spaces after ≡ true → no_spaces (operand_fields op xt ++ after) ≡ true
-operand_no_spaces op xt after clean = by (has_operand op)
+operand_all_visible : (op : TlbiOp) (xt : ℕ) (after : Fields) → all_visible after ≡ true → all_visible (operand_fields op xt ++ after) ≡ true
+operand_all_visible op xt after clean = by (has_operand op)
   where
-    by : (has : Bool) → no_spaces (cond has (hex xt ∷ []) [] ++ after) ≡ true
+    by : (has : Bool) → all_visible (cond has (hex xt ∷ []) [] ++ after) ≡ true
     by true = hexa xt after clean
     by false = clean
 
-event_no_spaces : (event : Event) (after : Fields) → no_spaces after ≡ true → no_spaces (event_fields event ++ after) ≡ true
-event_no_spaces (event.Init pe page) after clean = dec pe (hex page ∷ after) (hexa page after clean)
-event_no_spaces (event.Null pe page) after clean = dec pe (hex page ∷ after) (hexa page after clean)
-event_no_spaces (event.Root pe kind lock page) after clean =
+pub event_all_visible : (event : Event) (after : Fields) → all_visible after ≡ true → all_visible (event_fields event ++ after) ≡ true
+event_all_visible (event.Init pe page) after clean = dec pe (hex page ∷ after) (hexa page after clean)
+event_all_visible (event.Null pe page) after clean = dec pe (hex page ∷ after) (hexa page after clean)
+event_all_visible (event.Root pe kind lock page) after clean =
     dec pe (kind_word kind ∷ lock_text lock ∷ hex page ∷ after)
-    (one_more (kind_word kind) (lock_text lock ∷ hex page ∷ after) (kind_word_no_space kind)
-    (one_more (lock_text lock) (hex page ∷ after) (lock_no_space lock) (hexa page after clean)))
-event_no_spaces (event.Unroot pe page) after clean = dec pe (hex page ∷ after) (hexa page after clean)
-event_no_spaces (event.Write pe place value) after clean = dec pe (hex place ∷ hex value ∷ after) (hexa place (hex value ∷ after) (hexa value after clean))
-event_no_spaces (event.Dsb pe dsb) after clean = dec pe (dsb_word dsb ∷ after) (one_more (dsb_word dsb) after (dsb_word_no_space dsb) clean)
-event_no_spaces (event.Dmb pe dsb) after clean = dec pe (dsb_word dsb ∷ after) (one_more (dsb_word dsb) after (dsb_word_no_space dsb) clean)
-event_no_spaces (event.Isb pe) after clean = dec pe after clean
-event_no_spaces (event.Tlbi pe op xt) after clean =
+    (one_more (kind_word kind) (lock_text lock ∷ hex page ∷ after) (kind_word_visible kind)
+    (one_more (lock_text lock) (hex page ∷ after) (lock_visible lock) (hexa page after clean)))
+event_all_visible (event.Unroot pe page) after clean = dec pe (hex page ∷ after) (hexa page after clean)
+event_all_visible (event.Write pe place value) after clean = dec pe (hex place ∷ hex value ∷ after) (hexa place (hex value ∷ after) (hexa value after clean))
+event_all_visible (event.Dsb pe dsb) after clean = dec pe (dsb_word dsb ∷ after) (one_more (dsb_word dsb) after (dsb_word_visible dsb) clean)
+event_all_visible (event.Dmb pe dsb) after clean = dec pe (dsb_word dsb ∷ after) (one_more (dsb_word dsb) after (dsb_word_visible dsb) clean)
+event_all_visible (event.Isb pe) after clean = dec pe after clean
+event_all_visible (event.Tlbi pe op xt) after clean =
     dec pe (op_word op ∷ (operand_fields op xt ++ after))
-    (one_more (op_word op) (operand_fields op xt ++ after) (op_word_no_space op) (operand_no_spaces op xt after clean))
-event_no_spaces (event.Msr pe reg value) after clean = dec pe (reg_word reg ∷ hex value ∷ after) (one_more (reg_word reg) (hex value ∷ after) (reg_word_no_space reg) (hexa value after clean))
-event_no_spaces (event.Lock pe lock) after clean = dec pe (decimal lock ∷ after) (dec lock after clean)
-event_no_spaces (event.Unlock pe lock) after clean = dec pe (decimal lock ∷ after) (dec lock after clean)
+    (one_more (op_word op) (operand_fields op xt ++ after) (op_word_visible op) (operand_all_visible op xt after clean))
+event_all_visible (event.Msr pe reg value) after clean = dec pe (reg_word reg ∷ hex value ∷ after) (one_more (reg_word reg) (hex value ∷ after) (reg_word_visible reg) (hexa value after clean))
+event_all_visible (event.Lock pe lock) after clean = dec pe (decimal lock ∷ after) (dec lock after clean)
+event_all_visible (event.Unlock pe lock) after clean = dec pe (decimal lock ∷ after) (dec lock after clean)
 
-label_no_spaces : (version : ℕ) (label : Option (List ℕ)) → label_fits version label ≡ true → no_spaces (label_fields label) ≡ true
-label_no_spaces version None fits = refl
-label_no_spaces version (Some text) fits = one_more (64 ∷ text) [] (label_no_space text (and_parts (may_label version) (is_label text) fits).1) refl
+pub label_all_visible : (version : ℕ) (label : Option (List ℕ)) → label_fits version label ≡ true → all_visible (label_fields label) ≡ true
+label_all_visible version None fits = refl
+label_all_visible version (Some text) fits = one_more (64 ∷ text) [] (label_visible text (and_parts (may_label version) (is_label text) fits).1) refl
 
 -- an event's line has a first word
 pub event_fields_some : (event : Event) → (word : List ℕ) × (rest : Fields) × (event_fields event ≡ word ∷ rest)
@@ -309,10 +309,10 @@ event_fields_some (event.Msr pe reg value) = (_, _, refl)
 event_fields_some (event.Lock pe lock) = (_, _, refl)
 event_fields_some (event.Unlock pe lock) = (_, _, refl)
 
-again : (word : List ℕ) (rest all : Fields) → all ≡ word ∷ rest → no_spaces all ≡ true → fields (joined all) ≡ all
+again : (word : List ℕ) (rest all : Fields) → all ≡ word ∷ rest → all_visible all ≡ true → fields (joined all) ≡ all
 again word rest all is clean =
     ap (λ (fs : Fields). fields (joined fs)) is
-    ∙ fields_joined word rest (sym (ap no_spaces is) ∙ clean)
+    ∙ fields_joined word rest (sym (ap all_visible is) ∙ clean)
     ∙ sym is
 
 item_fields_again : (h : Heading) (x : Item) → item_fits h x ≡ true → fields (joined (item_fields x)) ≡ item_fields x
@@ -320,7 +320,7 @@ item_fields_again h (item.Event event label) fits =
     let labelled = (and_parts (fits_heading h event) (label_fits h.version label) fits).1 in
     let some = event_fields_some event in
     again some.0 (some.1 ++ label_fields label) (event_fields event ++ label_fields label) (ap (λ (fs : Fields). fs ++ label_fields label) some.2)
-    (event_no_spaces event (label_fields label) (label_no_spaces h.version label labelled))
+    (event_all_visible event (label_fields label) (label_all_visible h.version label labelled))
 item_fields_again h (item.End count) fits = fields_joined (codes "end") (decimal count ∷ []) (dec count [] refl)
 
 item_fields_read : (h : Heading) (x : Item) → heading_ok h ≡ true → item_fits h x ≡ true → read_fields h (item_fields x) ≡ Ok x
@@ -335,10 +335,10 @@ item_written_is_read h x ok fits = ap (λ (all : Fields). read_fields h all) (it
 
 -- The header.
 
-hyp_below : (world : HypWorld) → world_ok (Hyp world) ≡ true → (world.el2_start < 2 ^ 64) × (world.s2_start < 2 ^ 64) × (world.s2_pages < 2 ^ 64)
+pub hyp_below : (world : HypWorld) → world_ok (Hyp world) ≡ true → (world.el2_start < 2 ^ 64) × (world.s2_start < 2 ^ 64) × (world.s2_pages < 2 ^ 64)
 hyp_below world ok = (grind (arith, nat_tests), grind (arith, nat_tests), grind (arith, nat_tests))
 
-kernel_below : (world : KernelWorld) → world_ok (Kernel world) ≡ true → (world.start0 < 2 ^ 64) × (world.start1 < 2 ^ 64)
+pub kernel_below : (world : KernelWorld) → world_ok (Kernel world) ≡ true → (world.start0 < 2 ^ 64) × (world.start1 < 2 ^ 64)
 kernel_below world ok = (grind (arith, nat_tests), grind (arith, nat_tests))
 
 number_read : (n : ℕ) (rest : Fields) → n < 2 ^ 64 → header_field decimal_value (decimal n ∷ rest) ≡ Ok (n, rest)
@@ -396,26 +396,26 @@ world_read version pes cnp (Kernel world) ok =
     ∙ on (cnp_field version after) _ (cnp_read version cnp here.cnp)
     ∙ in_range (record { version = version; pes = pes; cnp = cnp; world = Kernel world }) ok
 
-cnp_no_spaces : (version : ℕ) (cnp : Bool) → no_spaces (cnp_fields version cnp) ≡ true
-cnp_no_spaces version cnp = by (may_share version)
+pub cnp_all_visible : (version : ℕ) (cnp : Bool) → all_visible (cnp_fields version cnp) ≡ true
+cnp_all_visible version cnp = by (may_share version)
   where
-    by : (shares : Bool) → no_spaces (cond shares (cnp_word cnp ∷ []) []) ≡ true
-    by true = one_more (cnp_word cnp) [] (cnp_word_no_space cnp) refl
+    by : (shares : Bool) → all_visible (cond shares (cnp_word cnp ∷ []) []) ≡ true
+    by true = one_more (cnp_word cnp) [] (cnp_word_visible cnp) refl
     by false = refl
 
-header_no_spaces : (pes : ℕ) (world : World) (after : Fields) → no_spaces after ≡ true → no_spaces (header_fields pes world after) ≡ true
-header_no_spaces pes (Hyp world) after clean =
+pub header_all_visible : (pes : ℕ) (world : World) (after : Fields) → all_visible after ≡ true → all_visible (header_fields pes world after) ≡ true
+header_all_visible pes (Hyp world) after clean =
     dec pes (decimal world.el2_start ∷ decimal world.s2_start ∷ decimal world.s2_pages ∷ after)
     (dec world.el2_start (decimal world.s2_start ∷ decimal world.s2_pages ∷ after) (dec world.s2_start (decimal world.s2_pages ∷ after) (dec world.s2_pages after clean)))
-header_no_spaces pes (Kernel world) after clean =
+header_all_visible pes (Kernel world) after clean =
     dec pes (decimal world.start0 ∷ decimal world.start1 ∷ asid_from_word world.asid_from ∷ after)
     (dec world.start0 (decimal world.start1 ∷ asid_from_word world.asid_from ∷ after) (dec world.start1 (asid_from_word world.asid_from ∷ after)
-    (one_more (asid_from_word world.asid_from) after (asid_from_word_no_space world.asid_from) clean)))
+    (one_more (asid_from_word world.asid_from) after (asid_from_word_visible world.asid_from) clean)))
 
 pub header_written_is_read : (h : Heading) → heading_ok h ≡ true → header_of (header_line h) ≡ Ok h
 unfolding header_of header_line
 header_written_is_read h ok =
     let after = cnp_fields h.version h.cnp in
     ap read_header_fields (fields_joined (codes "bbmlog") (decimal h.version ∷ header_fields h.pes h.world after)
-    (dec h.version (header_fields h.pes h.world after) (header_no_spaces h.pes h.world after (cnp_no_spaces h.version h.cnp))))
+    (dec h.version (header_fields h.pes h.world after) (header_all_visible h.pes h.world after (cnp_all_visible h.version h.cnp))))
     ∙ world_read h.version h.pes h.cnp h.world ok

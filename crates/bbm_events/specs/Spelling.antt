@@ -1,6 +1,7 @@
 -- How a line is cut into fields, and how a number is spelled.
 -- Source: project's own choice.
-use Rattle.std.specs.Prelude.{ℕ, ◌^◌, List, ◌++◌, drop, false, ◌&&◌, nat_lt, ◌==◌, if◌then◌else◌, Option, Some, None}
+use Rattle.std.specs.Prelude.{ℕ, ◌^◌, List, [], ◌∷◌, ◌++◌, drop, Bool, true, false, not, ◌&&◌, nat_lt, ◌==◌}
+use Rattle.std.specs.Prelude.{if◌then◌else◌, Option, Some, None}
 use Rattle.std.specs.Prelude.{codes, decimal, bytes_eq}
 use Rattle.std.specs.List.{slice_split, join_with_byte}
 use Rattle.std.specs.Fmt.{digits}
@@ -14,6 +15,11 @@ fields line = slice_split (λ byte. byte == 32) line
 -- the line that has these fields
 abbrev pub joined : List (List ℕ) → List ℕ
 joined pieces = join_with_byte 32 pieces
+
+-- A text that can stand as a line: no byte is a newline, byte 10.
+abbrev pub is_plain : List ℕ → Bool
+is_plain [] = true
+is_plain (byte ∷ bytes) = not (byte == 10) && is_plain bytes
 
 -- The one hex spelling of a number: `0x`, and lower-case digits without leading zeros. The one decimal
 -- spelling is `decimal`.

@@ -1,6 +1,6 @@
 //! What the grammar promises of each line.
 
-ghost use Rattle.std.specs.Prelude.{◌≡◌, ℕ, List, true, Ok, IfErr};
+ghost use Rattle.std.specs.Prelude.{◌≡◌, ◌≤◌, ℕ, List, length, true, Ok, IfErr};
 ghost use Rattle.bbm_events.specs.declared.event.Item.{Item};
 ghost use Rattle.bbm_events.specs.declared.machine.MachineLine.{MachineLine};
 ghost use Rattle.bbm_events.specs.declared.certificate.ClaimItem.{ClaimItem};
@@ -9,6 +9,7 @@ ghost use Rattle.bbm_events.specs.Machine.{machine_of, machine_fits, machine_lin
 ghost use Rattle.bbm_events.specs.Heading.{Heading, heading_ok};
 ghost use Rattle.bbm_events.specs.Causes.{IsHeaderCause, IsFieldCause, IsLineCause};
 ghost use Rattle.bbm_events.specs.Fits.{item_fits};
+ghost use Rattle.bbm_events.specs.Spelling.{is_plain};
 ghost use Rattle.bbm_events.specs.Lines.{header_of, item_of, header_line, item_line};
 
 /// Each header that a line spells has its numbers in their ranges.
@@ -40,6 +41,16 @@ pub fn law_item_causes()
 pub fn law_written_is_read()
     ensures header { (heading : Heading) → heading_ok heading ≡ true → header_of (header_line heading) ≡ Ok heading }
     ensures item { (heading : Heading) (item : Item) → heading_ok heading ≡ true → item_fits heading item ≡ true → item_of heading (item_line item) ≡ Ok item }
+{}
+
+/// A written header, and a written item that fits, is one line: no byte of it is a newline, byte 10, and it has at most
+/// 200 bytes.
+#[tactic(auto, using(crate::proofs::PlainLines::header_plain, crate::proofs::PlainLines::header_short, crate::proofs::PlainLines::item_plain, crate::proofs::PlainLines::item_short))]
+pub fn law_written_is_a_line()
+    ensures header_plain { (heading : Heading) → is_plain (header_line heading) ≡ true }
+    ensures header_short { (heading : Heading) → heading_ok heading ≡ true → length (header_line heading) ≤ 200 }
+    ensures item_plain { (heading : Heading) (item : Item) → item_fits heading item ≡ true → is_plain (item_line item) ≡ true }
+    ensures item_short { (heading : Heading) (item : Item) → heading_ok heading ≡ true → item_fits heading item ≡ true → length (item_line item) ≤ 200 }
 {}
 
 /// Each header and each item has one line: what a line is read as is written as that line.
