@@ -1,0 +1,5 @@
+pub mod Alike
+pub use Rattle.bbm_histories.specs.events
+pub use Rattle.bbm_histories.specs as histories
+pub use Rattle.bbm_histories.specs.regimes
+pub use Rattle.bbm_histories.specs.rules
