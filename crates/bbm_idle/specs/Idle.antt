@@ -1,0 +1,94 @@
+-- Idle events: those that a log can do without, and still keep the rules. A history is newest first, so whether an
+-- event is idle goes by the events before it alone. Source: project's own choice.
+use Rattle.std.specs.Prelude.{ℕ, Bool, true, false, not, ◌&&◌, ◌||◌, ◌==◌, List, [], ◌∷◌, Option, Some, unwrap_or}
+use Rattle.std.specs.Prelude.{if◌then◌else◌}
+use Rattle.bbm_rules.specs.regimes.EveryPe.{every_pe}
+use Rattle.bbm_rules.specs.tlbi_scope.declared.entry.Cover.{Cover}
+use Rattle.bbm_rules.specs.tlbi_scope.declared.entry.Cover.TheVariants.{None as NoCover, Half, Second, Full}
+use Rattle.bbm_rules.specs.Claims.{Patterns}
+use Rattle.bbm_rules.specs.Cleansing.{cleansed, half, seen}
+use Rattle.bbm_rules.specs.Covers.{cover_at, noted}
+use Rattle.bbm_rules.specs.Held.{last_valid}
+use Rattle.bbm_rules.specs.Lists.{◌>>=◌, any, every, some_pe}
+use Rattle.bbm_rules.specs.Notes.{Noted, events_of}
+use Rattle.bbm_rules.specs.Phases.{phase_of}
+use Rattle.bbm_rules.specs.Places.{page_of}
+use Rattle.bbm_rules.specs.Prelude.{Barrier, Heading, Event, Dsb, Dmb, Isb, Tlbi, Msr, Tag}
+use Rattle.bbm_rules.specs.Reach.{Issued, completes, reaches, unanswered}
+use Rattle.bbm_rules.specs.Roots.{Declared, roots_of}
+use Rattle.bbm_rules.specs.Tags.{distinct, ever_read, holds_at, itself, takes_tag}
+use Rattle.bbm_rules.specs.Tree.{node_of}
+use Rattle.bbm_rules.specs.Values.{written_places}
+use Rattle.bbm_idle.specs.Same.{same_phase}
+
+-- whether p wrote a register since its last ISB
+abbrev pub wrote_register : ℕ → List Event → Bool
+wrote_register p [] = false
+wrote_register p (Msr pe reg value ∷ h) = pe == p || wrote_register p h
+wrote_register p (Isb pe ∷ h) = if pe == p then false else wrote_register p h
+wrote_register p (_ ∷ h) = wrote_register p h
+
+-- Whether a TLBI that covers a place so far adds something at a PE at which the place is seen, half and cleansed as
+-- told: in full, where it is seen and not cleansed; half, where it is seen and not half; the rest, where it is half and
+-- not cleansed.
+abbrev pub adds : Cover → Bool → Bool → Bool → Bool
+adds Full is_seen is_half is_cleansed = is_seen && not is_cleansed
+adds Half is_seen is_half is_cleansed = is_seen && not is_half
+adds Second is_seen is_half is_cleansed = is_half && not is_cleansed
+adds NoCover is_seen is_half is_cleansed = false
+
+module _ (heading : Heading) where
+  -- whether the TLBI adds something at the place of a tree, at p
+  abbrev pub adds_at : List Noted → Event → ℕ → ℕ → Bool
+  adds_at h e p place = unwrap_or (do
+    n ← node_of heading Patterns h (page_of place)
+    w ← last_valid n.kind n.level place h
+    Some (adds (cover_at heading Patterns h e place) (seen heading place p w.since) (half heading place p w.since)
+        (cleansed heading Patterns place p w.since))) false
+
+  -- whether the root holds at p a tag that the TLBI takes whole
+  abbrev pub takes_of : List Event → Event → ℕ → Declared → Bool
+  takes_of h e p r = any (λ tag. takes_tag heading e h tag && holds_at heading Patterns p r.page tag h)
+      (distinct (ever_read heading r.page h))
+
+  -- Needed: a TLBI that at a PE which it reaches adds something at a place of a tree, or takes a whole tag that a root
+  -- holds there. A place that was never written holds nothing.
+  abbrev pub is_needed_at : List Event → Event → ℕ → Bool
+  is_needed_at h e p = reaches heading e p
+      && (any (adds_at (noted heading Patterns h) e p) (written_places h) || any (takes_of h e p) (roots_of h))
+
+  abbrev pub is_needed : List Event → Event → Bool
+  is_needed h e = some_pe heading.pes (is_needed_at h e)
+
+  -- whether the event leaves the phase of each place at each PE
+  abbrev pub keeps_phases : List Event → Event → Bool
+  keeps_phases h e = every (λ place. every_pe heading.pes
+      (λ p. same_phase (phase_of heading Patterns (e ∷ h) place p) (phase_of heading Patterns h place p)))
+      (written_places h)
+
+  -- whether the DSB answers a TLBI that was needed
+  abbrev pub answers_needed : Barrier → Issued Event → Bool
+  answers_needed dsb t = completes dsb t.tlbi && is_needed t.before t.tlbi
+
+  -- Idle: a DMB; an ISB of a PE that wrote no register since its last one; a TLBI that isn't needed; a DSB that changes
+  -- no phase and answers no TLBI that was needed.
+  unfoldable pub is_idle : List Event → Event → Bool
+  is_idle h (Dmb pe dsb) = true
+  is_idle h (Isb pe) = not (wrote_register pe h)
+  is_idle h (Tlbi pe op xt) = not (is_needed h (Tlbi pe op xt))
+  is_idle h (Dsb pe dsb) = keeps_phases h (Dsb pe dsb) && not (any (answers_needed dsb) (unanswered itself pe h))
+  is_idle h _ = false
+
+  -- for each event of a log whether it is idle, the newest first
+  abbrev pub idle_marks : List Event → List Bool
+  idle_marks [] = []
+  idle_marks (e ∷ h) = is_idle h e ∷ idle_marks h
+
+-- the log without the events that are chosen, each by what came before it
+abbrev pub without : (List Event → Event → Bool) → List Event → List Event
+without chosen [] = []
+without chosen (e ∷ h) = if chosen h e then without chosen h else e ∷ without chosen h
+
+-- the log without its idle events
+abbrev pub without_idle : Heading → List Event → List Event
+without_idle heading h = without (is_idle heading) h

@@ -1,0 +1,2 @@
+//! The events that a log can do without.
+#![tactic(auto)]
