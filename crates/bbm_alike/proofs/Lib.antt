@@ -1,1 +1,10 @@
+pub mod ListsAlike
 pub mod TreesAlike
+pub mod ReadingsAlike
+pub mod CoverAlike
+pub mod Quiet
+pub mod PatternsStep
+pub mod HeldStep
+pub mod TreesStep
+pub mod TakesLemmas
+pub mod Joined

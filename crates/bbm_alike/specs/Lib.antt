@@ -1,4 +1,5 @@
 pub mod Alike
+pub mod Known
 pub use Rattle.bbm_histories.specs.events
 pub use Rattle.bbm_histories.specs as histories
 pub use Rattle.bbm_histories.specs.regimes

@@ -1,5 +1,11 @@
 //! Two histories that no rule tells apart, each read by what it trusts. No code but empty bodies.
 #![tactic(auto)]
 
+pub mod joins;
+mod known;
+pub mod takes;
+
 pub use bbm_histories as histories;
 pub use bbm_histories::{events, regimes, rules};
+pub use joins::law_alike_joins;
+pub use takes::law_takes_alike;

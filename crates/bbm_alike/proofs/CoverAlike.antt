@@ -1,0 +1,159 @@
+-- In histories that are alike, a TLBI covers each place as far.
+use Rattle.std.proofs.Common.{◌≡◌, ℕ, suc, Bool, true, List, Option, Some, None, filter, find, is_some, option_and_then, unwrap_or, Contains, refl, sym, ◌∙◌, ap, ◌==◌}
+use Rattle.bbm_histories.specs.descriptor.Descriptor.{desc_of}
+use Rattle.bbm_histories.specs.tlbi_scope.Covers.{cover_of}
+use Rattle.bbm_histories.specs.tlbi_scope.declared.entry.Cover.{Cover}
+use Rattle.bbm_histories.specs.tlbi_scope.declared.entry.Cover.TheVariants.{None as NoCover}
+use Rattle.bbm_histories.specs.tlbi_scope.declared.entry.PlaceView.{PlaceView}
+use Rattle.bbm_histories.specs.tlbi_scope.declared.entry.TagSet.{TagSet}
+use Rattle.bbm_histories.specs.rules.Prelude.{Kind, Heading, Event, Tlbi, Tag, Scope}
+use Rattle.bbm_histories.specs.rules.Claims.{Trust}
+use Rattle.bbm_histories.specs.rules.Covers.{cover_at, is_global, noted, view_at}
+use Rattle.bbm_histories.specs.rules.Held.{held}
+use Rattle.bbm_histories.specs.rules.Lists.{some_pe}
+use Rattle.bbm_histories.specs.rules.Notes.{Noted, events_of}
+use Rattle.bbm_histories.specs.rules.Places.{page_of}
+use Rattle.bbm_histories.specs.rules.Registers.{named_scope, vmid_of}
+use Rattle.bbm_histories.specs.rules.Tags.{distinct, ever_read, holds_at, holds_tag, tag_set, tags_of}
+use Rattle.bbm_histories.specs.rules.Tree.{Node, held_at, in_tree, is_childless, next_of, node_below, node_of, region_of, tree}
+use Rattle.bbm_histories.specs.TreeSteps.{HoldsNone}
+use Rattle.bbm_alike.specs.Alike.{Alike}
+use Rattle.bbm_alike.specs.Known.{Known}
+use Rattle.bbm_alike.proofs.ListsAlike.{same_filter, same_some_pe, same_truth}
+use Rattle.bbm_alike.proofs.ReadingsAlike.{scope_alike, vmid_alike}
+
+module _ (heading : Heading) (k : Known heading) (one other : Trust) (h h' : List Event) (a : Alike heading one other h h') where
+  abbrev marks : List Noted
+  marks = noted heading one h
+
+  abbrev marks' : List Noted
+  marks' = noted heading other h'
+
+  pub node_alike : (page : ℕ) → node_of heading one marks page ≡ node_of heading other marks' page
+  node_alike page = ap (λ (ns : List Node). find (λ n. n.page == page) ns) a.trees
+
+  pub in_tree_alike : (page : ℕ) → in_tree heading one marks page ≡ in_tree heading other marks' page
+  in_tree_alike page = ap is_some (node_alike page)
+
+  -- what a place of the node of a page holds
+  pub held_alike : (n : Node) (place : ℕ) → node_of heading one marks (page_of place) ≡ Some n
+      → held_at heading one marks n place ≡ held_at heading other marks' n place
+  held_alike n place is = let t = k.node_taken one marks (page_of place) n is in a.held n place t.0 (sym t.1)
+
+  -- ---- childless
+
+  none_below : (n : Node) (place value next : ℕ) → Contains (tree heading one marks) n → page_of place ≡ n.page
+      → held_at heading one marks n place ≡ Some value → next_of n.kind n.level value ≡ Some next
+      → (below : ℕ) → page_of below ≡ next → held heading one n.kind (suc n.level) below marks
+      ≡ held heading other n.kind (suc n.level) below marks'
+  none_below n place value next there inside holds table below under =
+      a.held (node_below n place next) below (k.tree_below one marks n place value next there inside holds table) under
+
+  pub childless_alike : (n : Node) (place value : ℕ) → Contains (tree heading one marks) n → page_of place ≡ n.page
+      → held_at heading one marks n place ≡ Some value
+      → is_childless heading one marks n value ≡ is_childless heading other marks' n value
+  childless_alike n place value there inside holds = by (next_of n.kind n.level value) refl
+    where
+      by : (o : Option ℕ) → next_of n.kind n.level value ≡ o
+          → is_childless heading one marks n value ≡ is_childless heading other marks' n value
+      by None none = rw (none) refl
+      by (Some next) table =
+          let same = none_below n place value next there inside holds table in
+          same_truth (is_childless heading one marks n value) (is_childless heading other marks' n value)
+          (λ c. (k.childless_table other marks' n value next table).1
+          (λ below under. sym (same below under) ∙ (k.childless_table one marks n value next table).0 c below under))
+          (λ c. (k.childless_table one marks n value next table).1
+          (λ below under. same below under ∙ (k.childless_table other marks' n value next table).0 c below under))
+
+  -- ---- tags
+
+  pub holds_tag_alike : (root : ℕ) (tag : Tag) → holds_tag heading one root tag h ≡ holds_tag heading other root tag h'
+  holds_tag_alike root tag =
+      same_some_pe heading.pes (λ p. holds_at heading one p root tag h) (λ p. holds_at heading other p root tag h')
+      (λ p below. a.holds p root tag below)
+
+  pub tags_alike : (root : ℕ) → tags_of heading one root h ≡ tags_of heading other root h'
+  tags_alike root =
+      same_filter (λ tag. holds_tag heading one root tag h) (λ tag. holds_tag heading other root tag h')
+      (distinct (ever_read heading root h)) (λ tag. holds_tag_alike root tag)
+      ∙ ap (λ (ts : List Tag). filter (λ tag. holds_tag heading other root tag h') ts) (a.tags root)
+
+  -- ---- how a TLBI sees a place
+
+  tag_set_alike : (root : ℕ) → tag_set (tags_of heading one root (events_of marks)) ≡ tag_set (tags_of heading other root (events_of marks'))
+  tag_set_alike root =
+      ap (λ (es : List Event). tag_set (tags_of heading one root es)) (k.events_noted one h)
+      ∙ (ap (λ (ts : List Tag). tag_set ts) (tags_alike root)
+      ∙ sym (ap (λ (es : List Event). tag_set (tags_of heading other root es)) (k.events_noted other h')))
+
+  abbrev with_parts : Node → ℕ → ℕ → Bool → TagSet → Option PlaceView
+  with_parts n place value childless tags = Some (record {
+    kind = n.kind;
+    region = region_of n place;
+    level = n.level;
+    table = is_some (next_of n.kind n.level value);
+    global = is_global (desc_of n.kind n.level value);
+    childless = childless;
+    tags = tags;
+  })
+
+  abbrev of_value : Trust → List Noted → Node → ℕ → ℕ → Option PlaceView
+  of_value t x n place value =
+      with_parts n place value (is_childless heading t x n value) (tag_set (tags_of heading t n.root (events_of x)))
+
+  abbrev of_node : Trust → List Noted → ℕ → Node → Option PlaceView
+  of_node t x place n = option_and_then (of_value t x n place) (held_at heading t x n place)
+
+  of_node_alike : (place : ℕ) (n : Node) → node_of heading one marks (page_of place) ≡ Some n
+      → of_node one marks place n ≡ of_node other marks' place n
+  of_node_alike place n is = by (held_at heading one marks n place) refl
+    where
+      by : (o : Option ℕ) → held_at heading one marks n place ≡ o → of_node one marks place n ≡ of_node other marks' place n
+      by None none =
+          ap (option_and_then (of_value one marks n place)) none
+          ∙ sym (ap (option_and_then (of_value other marks' n place)) (sym (held_alike n place is) ∙ none))
+      by (Some value) holds =
+          let t = k.node_taken one marks (page_of place) n is in
+          ap (option_and_then (of_value one marks n place)) holds
+          ∙ (ap (λ (b : Bool). with_parts n place value b (tag_set (tags_of heading one n.root (events_of marks))))
+          (childless_alike n place value t.0 (sym t.1) holds)
+          ∙ (ap (λ (s : TagSet). with_parts n place value (is_childless heading other marks' n value) s) (tag_set_alike n.root)
+          ∙ sym (ap (option_and_then (of_value other marks' n place)) (sym (held_alike n place is) ∙ holds))))
+
+  pub view_alike : (place : ℕ) → view_at heading one marks place ≡ view_at heading other marks' place
+  view_alike place = by (node_of heading one marks (page_of place)) refl
+    where
+      by : (o : Option Node) → node_of heading one marks (page_of place) ≡ o
+          → view_at heading one marks place ≡ view_at heading other marks' place
+      by None none =
+          ap (option_and_then (of_node one marks place)) none
+          ∙ sym (ap (option_and_then (of_node other marks' place)) (sym (node_alike (page_of place)) ∙ none))
+      by (Some n) is =
+          ap (option_and_then (of_node one marks place)) is
+          ∙ (of_node_alike place n is
+          ∙ sym (ap (option_and_then (of_node other marks' place)) (sym (node_alike (page_of place)) ∙ is)))
+
+  -- ---- how far a TLBI covers a place
+
+  abbrev cover_by : Option Scope → Option ℕ → Option PlaceView → Cover
+  cover_by scope vmid view = unwrap_or (option_and_then (λ s. option_and_then (λ v. Some (cover_of s vmid v)) view) scope) NoCover
+
+  pub cover_alike : (e : Event) (place : ℕ) → cover_at heading one marks e place ≡ cover_at heading other marks' e place
+  cover_alike (Tlbi pe op xt) place =
+      ap (λ (o : Option Scope). cover_by o (vmid_of heading (events_of marks) pe) (view_at heading one marks place)) scope
+      ∙ (ap (λ (o : Option ℕ). cover_by (named_scope heading (events_of marks') pe op xt) o (view_at heading one marks place)) vmid
+      ∙ ap (λ (o : Option PlaceView). cover_by (named_scope heading (events_of marks') pe op xt) (vmid_of heading (events_of marks') pe) o)
+      (view_alike place))
+    where
+      scope : named_scope heading (events_of marks) pe op xt ≡ named_scope heading (events_of marks') pe op xt
+      scope =
+          ap (λ (es : List Event). named_scope heading es pe op xt) (k.events_noted one h)
+          ∙ (scope_alike h h' a.registers heading pe op xt
+          ∙ sym (ap (λ (es : List Event). named_scope heading es pe op xt) (k.events_noted other h')))
+
+      vmid : vmid_of heading (events_of marks) pe ≡ vmid_of heading (events_of marks') pe
+      vmid =
+          ap (λ (es : List Event). vmid_of heading es pe) (k.events_noted one h)
+          ∙ (vmid_alike h h' a.registers heading pe
+          ∙ sym (ap (λ (es : List Event). vmid_of heading es pe) (k.events_noted other h')))
+  cover_alike e place = refl

@@ -1,0 +1,71 @@
+-- Where the same registers have the same readable values, and the same roots are declared, the same VMIDs and the same
+-- tags are readable, and a TLBI names the same.
+use Rattle.std.proofs.Common.{◌≡◌, ℕ, ◌&&◌, ◌==◌, Bool, cond, List, ◌++◌, Option, None, filter_map, flat_map, is_none, map, option_and_then, refl, ◌∙◌, ap}
+use Rattle.std.specs.Result.{result_ok}
+use Rattle.bbm_histories.specs.tlbi_scope.Operations.{scoped_by_vmid}
+use Rattle.bbm_histories.specs.rules.Prelude.{AsidFrom, FromTtbr0, FromTtbr1, Reg, Ttbr0El2, VttbrEl2, Ttbr0El1, Ttbr1El1, Tag, El2Tag, Vmid, Asid, Ttbr1Tag, World, Hyp, Kernel, Heading, Event, TlbiOp, Scope, scope_of}
+use Rattle.bbm_histories.specs.rules.Claims.{same_tag}
+use Rattle.bbm_histories.specs.rules.Lists.{any, if_so, one_number}
+use Rattle.bbm_histories.specs.rules.Registers.{base_of, kind_of_reg, lacks_vmid, named_scope, register_values, tag_number, vmid_in, vmid_of}
+use Rattle.bbm_histories.specs.rules.Roots.{Declared, is_at, roots_of, same_kind}
+use Rattle.bbm_histories.specs.rules.Tags.{Reading, asid_readings, reading_of, readings, readings_in, readings_of, reads, reads_for_some}
+use Rattle.bbm_alike.proofs.ListsAlike.{same_filter_map, same_flat}
+
+module _ (h h' : List Event) (registers : (p : ℕ) (reg : Reg) → register_values h p reg ≡ register_values h' p reg) where
+  vmid_in_alike : (world : World) (p : ℕ) → vmid_in world h p ≡ vmid_in world h' p
+  vmid_in_alike (Hyp world) p = ap (λ (vs : List ℕ). one_number (map tag_number vs)) (registers p VttbrEl2)
+  vmid_in_alike (Kernel world) p = refl
+
+  pub vmid_alike : (heading : Heading) (p : ℕ) → vmid_of heading h p ≡ vmid_of heading h' p
+  vmid_alike heading p = vmid_in_alike heading.world p
+
+  pub lacks_alike : (heading : Heading) (pe : ℕ) (op : TlbiOp) → lacks_vmid heading h pe op ≡ lacks_vmid heading h' pe op
+  lacks_alike heading pe op = ap (λ (o : Option ℕ). scoped_by_vmid op && is_none o) (vmid_alike heading pe)
+
+  pub scope_alike : (heading : Heading) (pe : ℕ) (op : TlbiOp) (xt : ℕ)
+      → named_scope heading h pe op xt ≡ named_scope heading h' pe op xt
+  scope_alike heading pe op xt = ap (λ (b : Bool). cond b None (result_ok (scope_of op xt))) (lacks_alike heading pe op)
+
+  module _ (roots : roots_of h ≡ roots_of h') where
+    reading_alike : (reg : Reg) (tag : ℕ → Tag) (value : ℕ) → reading_of h reg tag value ≡ reading_of h' reg tag value
+    reading_alike reg tag value =
+        ap (λ (rs : List Declared). option_and_then (λ base. if_so (any (λ r. is_at base r && same_kind r.kind (kind_of_reg reg)) rs)
+        (record { tag = tag value; root = base })) (base_of value)) roots
+
+    readings_of_alike : (p : ℕ) (reg : Reg) (tag : ℕ → Tag) → readings_of h p reg tag ≡ readings_of h' p reg tag
+    readings_of_alike p reg tag =
+        same_filter_map (reading_of h reg tag) (reading_of h' reg tag) (register_values h p reg)
+        (λ value there. reading_alike reg tag value)
+        ∙ ap (λ (vs : List ℕ). filter_map (reading_of h' reg tag) vs) (registers p reg)
+
+    asid_alike : (source : AsidFrom) (p : ℕ) → asid_readings source h p ≡ asid_readings source h' p
+    asid_alike FromTtbr0 p = readings_of_alike p Ttbr0El1 (λ value. Asid (tag_number value))
+    asid_alike FromTtbr1 p =
+        same_flat (λ from. readings_of h p Ttbr0El1 (λ value. Asid (tag_number from)))
+        (λ from. readings_of h' p Ttbr0El1 (λ value. Asid (tag_number from))) (register_values h p Ttbr1El1)
+        (λ from there. readings_of_alike p Ttbr0El1 (λ value. Asid (tag_number from)))
+        ∙ ap (λ (vs : List ℕ). flat_map (λ from. readings_of h' p Ttbr0El1 (λ value. Asid (tag_number from))) vs)
+        (registers p Ttbr1El1)
+
+    both : (a b a' b' : List Reading) → a ≡ a' → b ≡ b' → a ++ b ≡ a' ++ b'
+    both a b a' b' p q = rw (p, q) refl
+
+    readings_in_alike : (world : World) (p : ℕ) → readings_in world h p ≡ readings_in world h' p
+    readings_in_alike (Hyp world) p =
+        both (readings_of h p Ttbr0El2 (λ value. El2Tag)) (readings_of h p VttbrEl2 (λ value. Vmid (tag_number value)))
+        (readings_of h' p Ttbr0El2 (λ value. El2Tag)) (readings_of h' p VttbrEl2 (λ value. Vmid (tag_number value)))
+        (readings_of_alike p Ttbr0El2 (λ value. El2Tag)) (readings_of_alike p VttbrEl2 (λ value. Vmid (tag_number value)))
+    readings_in_alike (Kernel world) p =
+        both (asid_readings world.asid_from h p) (readings_of h p Ttbr1El1 (λ value. Ttbr1Tag))
+        (asid_readings world.asid_from h' p) (readings_of h' p Ttbr1El1 (λ value. Ttbr1Tag))
+        (asid_alike world.asid_from p) (readings_of_alike p Ttbr1El1 (λ value. Ttbr1Tag))
+
+    pub readings_alike : (heading : Heading) (p : ℕ) → readings heading h p ≡ readings heading h' p
+    readings_alike heading p = readings_in_alike heading.world p
+
+    pub reads_alike : (heading : Heading) (p : ℕ) (tag : Tag) (root : ℕ) → reads heading h p tag root ≡ reads heading h' p tag root
+    reads_alike heading p tag root =
+        ap (λ (rs : List Reading). any (λ r. same_tag r.tag tag && r.root == root) rs) (readings_alike heading p)
+
+    pub reads_some_alike : (heading : Heading) (p : ℕ) (tag : Tag) → reads_for_some heading h p tag ≡ reads_for_some heading h' p tag
+    reads_some_alike heading p tag = ap (λ (rs : List Reading). any (λ r. same_tag r.tag tag) rs) (readings_alike heading p)

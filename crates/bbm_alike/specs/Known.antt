@@ -1,0 +1,74 @@
+-- What the crates below prove, as one record, so that each proof here takes it as one hypothesis.
+use Rattle.std.specs.Prelude.{◌≡◌, ◌↔◌, ◌⊎◌, ℕ, suc, ◌<◌, Bool, true, not, ◌&&◌, List, ◌∷◌, ◌++◌, Option, Some, Contains}
+use Rattle.bbm_histories.specs.descriptor.Descriptor.{is_valid}
+use Rattle.bbm_histories.specs.rules.Prelude.{Barrier, Kind, Tag, Heading, Event, Write, Dsb}
+use Rattle.bbm_histories.specs.rules.Broken.{keeps}
+use Rattle.bbm_histories.specs.rules.Claims.{Trust}
+use Rattle.bbm_histories.specs.rules.Claims.Trust.{Patterns}
+use Rattle.bbm_histories.specs.rules.Cleansing.{cleansed, half, seen}
+use Rattle.bbm_histories.specs.rules.Covers.{noted}
+use Rattle.bbm_histories.specs.rules.Held.{ValidWrite, held, last_valid}
+use Rattle.bbm_histories.specs.rules.Notes.{Noted, event_of, events_of}
+use Rattle.bbm_histories.specs.rules.Pages.{is_fresh}
+use Rattle.bbm_histories.specs.rules.PatternSentences.{Cleansed, IsHalf, Seen}
+use Rattle.bbm_histories.specs.rules.Places.{page_of}
+use Rattle.bbm_histories.specs.rules.Reach.{Issued}
+use Rattle.bbm_histories.specs.rules.Tags.{loses, reads_for_some}
+use Rattle.bbm_histories.specs.rules.Tree.{Node, held_at, is_childless, next_of, node_below, node_of, tree}
+use Rattle.bbm_histories.specs.rules.Values.{value_of}
+use Rattle.bbm_histories.specs.ClaimSteps.{cleansed_under}
+use Rattle.bbm_histories.specs.Steps.{answered_by, cleansed_after, half_after, held_after, seen_after, tag_waits, waits}
+use Rattle.bbm_histories.specs.Steps.{waits_after}
+use Rattle.bbm_histories.specs.Tree.{Attaches}
+use Rattle.bbm_histories.specs.TreeSteps.{HoldsNone}
+use Rattle.bbm_histories.specs.Values.{HoldsPresent}
+
+pub record Known (heading : Heading) : Type 0 where
+  pub events_noted : (trust : Trust) (h : List Event) → events_of (noted heading trust h) ≡ h
+  -- one place
+  pub last_live : (kind : Kind) (level place : ℕ) (h : List Noted)
+      → is_valid kind level (value_of (events_of h) place) ≡ true
+      → (w : ValidWrite) × (last_valid kind level place h ≡ Some w)
+      × (w.value ≡ value_of (events_of h) place) × ((q v : ℕ) (n : Noted) (after before : List Noted)
+      → w.since ≡ after ++ n ∷ before → n.event ≡ Write q place v → ⊥)
+  pub held_step : (trust : Trust) (kind : Kind) (level place : ℕ) (n : Noted) (h : List Noted) → 0 < heading.pes
+      → held heading trust kind level place (n ∷ h) ≡ held_after heading trust kind level place n.event n h
+  pub waits_step : (q : ℕ) (b : Bool) (test : Issued Noted → Bool) (n : Noted) (since : List Noted)
+      → waits event_of q b test (n ∷ since) ≡ waits_after event_of q b test n.event n since
+  pub seen_step : (place p : ℕ) (n : Noted) (since : List Noted)
+      → seen heading place p (n ∷ since) ≡ seen_after heading place p n.event since
+  pub half_step : (place p : ℕ) (n : Noted) (since : List Noted)
+      → half heading place p (n ∷ since) ≡ half_after heading place p n.event since
+  pub seen_complete : (place p : ℕ) (since : List Noted) → Seen heading place p since
+      → seen heading place p since ≡ true
+  pub half_sound : (place p : ℕ) (since : List Noted) → half heading place p since ≡ true → IsHalf heading place p since
+  pub half_complete : (place p : ℕ) (since : List Noted) → IsHalf heading place p since
+      → half heading place p since ≡ true
+  pub cleansed_sound : (trust : Trust) (place p : ℕ) (since : List Noted)
+      → cleansed heading trust place p since ≡ true → Cleansed heading trust place p since
+  pub cleansed_patterns : (place p : ℕ) (n : Noted) (since : List Noted)
+      → cleansed heading Patterns place p (n ∷ since) ≡ cleansed_after heading place p n.event since
+  pub cleansed_step : (trust : Trust) (place p : ℕ) (n : Noted) (since : List Noted)
+      → cleansed heading trust place p (n ∷ since) ≡ cleansed_under heading place p trust n.position n.event since
+  -- trees
+  pub node_taken : (trust : Trust) (h : List Noted) (page : ℕ) (n : Node) → node_of heading trust h page ≡ Some n
+      → Contains (tree heading trust h) n × (n.page ≡ page)
+  pub tree_below : (trust : Trust) (h : List Noted) (n : Node) (place value next : ℕ)
+      → Contains (tree heading trust h) n → page_of place ≡ n.page → held_at heading trust h n place ≡ Some value
+      → next_of n.kind n.level value ≡ Some next → Contains (tree heading trust h) (node_below n place next)
+  pub childless_table : (trust : Trust) (h : List Noted) (m : Node) (value next : ℕ)
+      → next_of m.kind m.level value ≡ Some next
+      → (is_childless heading trust h m value ≡ true) ↔ HoldsNone heading trust m.kind (suc m.level) next h
+  pub gained : (trust : Trust) (h : List Event) (e : Event) → keeps heading trust (e ∷ h) ≡ true → (n : Node)
+      → Contains (tree heading trust (noted heading trust (e ∷ h))) n
+      → Contains (tree heading trust (noted heading trust h)) n
+      ⊎ (Attaches heading trust (noted heading trust h) e n
+      × (is_fresh heading trust (noted heading trust h) n.page ≡ true))
+  pub attached_holds : (trust : Trust) (h : List Event) (e : Event) → 0 < heading.pes
+      → keeps heading trust (e ∷ h) ≡ true → (n : Node) (place : ℕ)
+      → Attaches heading trust (noted heading trust h) e n → page_of place ≡ n.page
+      → HoldsPresent heading trust (noted heading trust (e ∷ h)) n place
+  -- tags
+  pub lost_patterns : (p : ℕ) (tag : Tag) (q : ℕ) (dsb : Barrier) (h : List Event)
+      → loses heading Patterns p tag (Dsb q dsb) h ≡ (answered_by dsb (λ b. tag_waits heading p tag q b h)
+      && not (reads_for_some heading (Dsb q dsb ∷ h) p tag))

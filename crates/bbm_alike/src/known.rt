@@ -1,0 +1,31 @@
+//! What the crates below prove, gathered for the proofs here.
+
+ghost use Rattle.bbm_histories.specs.events.Heading.{Heading};
+ghost use Rattle.bbm_alike.specs.Known.{Known};
+
+use bbm_histories::rules::{
+    law_cleansed, law_half, law_last_valid, law_notes_keep_the_events, law_seen, law_tree,
+};
+use bbm_histories::{
+    law_childless_step, law_claim_steps, law_fresh_content, law_held_step, law_one_position,
+    law_pattern_steps, law_tag_steps,
+};
+
+/// The laws that the laws here stand on.
+pub(crate) fn known()
+    ensures { (heading : Heading) → Known heading }
+{
+    law_childless_step();
+    law_claim_steps();
+    law_cleansed();
+    law_fresh_content();
+    law_half();
+    law_held_step();
+    law_last_valid();
+    law_notes_keep_the_events();
+    law_one_position();
+    law_pattern_steps();
+    law_seen();
+    law_tag_steps();
+    law_tree();
+}
