@@ -3,7 +3,7 @@
 use Rattle.std.proofs.Common.{◌≡◌, ℕ, ◌<◌, ◌&&◌, Bool, true, false, cond, ◌==◌, List, [], ◌∷◌, Option, Some, None, is_some, option_and_then, Contains, refl, sym, ◌∙◌, ap, subst, true≢false}
 use Rattle.bbm_regimes.proofs.Every.{every_same, every_wider}
 use Rattle.bbm_histories.specs.descriptor.Descriptor.{is_valid}
-use Rattle.bbm_histories.specs.rules.Prelude.{Barrier, Kind, Heading, Event, Init, Write, Dsb}
+use Rattle.bbm_histories.specs.rules.Prelude.{Heading, Event, Init, Write, Dsb}
 use Rattle.bbm_histories.specs.rules.Claims.{Trust}
 use Rattle.bbm_histories.specs.rules.Cleansing.{cleansed}
 use Rattle.bbm_histories.specs.rules.Covers.{cover_at, note, noted}

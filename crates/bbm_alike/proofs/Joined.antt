@@ -1,5 +1,5 @@
--- The relation holds of a history and itself, both ways, and through a third.
-use Rattle.std.proofs.Common.{◌≡◌, ℕ, ◌<◌, Bool, true, false, List, Option, Some, None, is_some, Contains, refl, sym, ◌∙◌, ap, subst}
+-- The relation holds of the start by any two trusts, of a history and itself, both ways, and through a third.
+use Rattle.std.proofs.Common.{[], true≢false, ◌≡◌, ℕ, true, false, List, Option, Some, None, is_some, Contains, refl, sym, ◌∙◌, ap, subst}
 use Rattle.bbm_histories.specs.rules.Prelude.{Heading, Event}
 use Rattle.bbm_histories.specs.rules.Claims.{Trust}
 use Rattle.bbm_histories.specs.rules.Covers.{noted}
@@ -69,6 +69,24 @@ module _ (heading : Heading) where
     tags = λ root. refl;
     holds = λ p root tag below. refl;
     tag_wait = λ p q root b tag below holds. refl;
+  }
+
+  pub start_alike : (one other : Trust) → Alike heading one other [] []
+  unfolding tree
+  start_alike one other = record {
+    values = λ place. refl;
+    places = refl;
+    roots = refl;
+    nulls = λ page. refl;
+    registers = λ p reg. refl;
+    locks = λ lock. refl;
+    trees = refl;
+    fresh = λ page. refl;
+    held = λ n place there inside. refl;
+    patterns = λ n place w w' there inside some last last'. absurd (true≢false (sym some));
+    tags = λ root. refl;
+    holds = λ p root tag below. refl;
+    tag_wait = λ p q root b tag below holds. absurd (true≢false (sym holds));
   }
 
   module _ (one other : Trust) (h h' : List Event) (a : Alike heading one other h h') where

@@ -1,5 +1,5 @@
 -- Lists and tests that are made alike.
-use Rattle.std.proofs.Common.{◌≡◌, ℕ, zero, suc, ◌<◌, ◌||◌, Bool, true, false, cond, List, [], ◌∷◌, ◌++◌, Option, filter, filter_map, flat_map, refl, sym, ◌∙◌, ap, inl, inr, arith}
+use Rattle.std.proofs.Common.{◌≡◌, ℕ, zero, suc, ◌<◌, ◌||◌, Bool, true, false, cond, List, [], ◌∷◌, Option, filter, filter_map, flat_map, refl, sym, ◌∙◌, ap, inl, inr, arith}
 use Rattle.bbm_lists.specs.Elements.{In}
 use Rattle.bbm_histories.specs.rules.Lists.{some_pe}
 

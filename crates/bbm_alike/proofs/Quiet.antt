@@ -1,5 +1,5 @@
 -- Where no write of a place is seen after its last valid write, nothing is half, cleansed or waits.
-use Rattle.std.proofs.Common.{◌≡◌, ℕ, ◌<◌, ◌&&◌, ◌||◌, Bool, true, false, cond, ◌==◌, List, [], ◌∷◌, ◌++◌, refl, sym, ◌∙◌, ap, true≢false, inl, inr}
+use Rattle.std.proofs.Common.{◌≡◌, ℕ, ◌&&◌, Bool, true, false, cond, ◌==◌, List, [], ◌∷◌, ◌++◌, refl, sym, ◌∙◌, ap, true≢false, inl, inr}
 use Rattle.std.proofs.Math.Bool.{and-false}
 use Rattle.std.proofs.lemmas.Bool.{and_right, eqb-true, false_from_ne_true, or_from, or_parts}
 use Rattle.bbm_histories.specs.barriers.Options.{answers}

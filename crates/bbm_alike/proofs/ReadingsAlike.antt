@@ -3,7 +3,7 @@
 use Rattle.std.proofs.Common.{◌≡◌, ℕ, ◌&&◌, ◌==◌, Bool, cond, List, ◌++◌, Option, None, filter_map, flat_map, is_none, map, option_and_then, refl, ◌∙◌, ap}
 use Rattle.std.specs.Result.{result_ok}
 use Rattle.bbm_histories.specs.tlbi_scope.Operations.{scoped_by_vmid}
-use Rattle.bbm_histories.specs.rules.Prelude.{AsidFrom, FromTtbr0, FromTtbr1, Reg, Ttbr0El2, VttbrEl2, Ttbr0El1, Ttbr1El1, Tag, El2Tag, Vmid, Asid, Ttbr1Tag, World, Hyp, Kernel, Heading, Event, TlbiOp, Scope, scope_of}
+use Rattle.bbm_histories.specs.rules.Prelude.{AsidFrom, FromTtbr0, FromTtbr1, Reg, Ttbr0El2, VttbrEl2, Ttbr0El1, Ttbr1El1, Tag, El2Tag, Vmid, Asid, Ttbr1Tag, World, Hyp, Kernel, Heading, Event, TlbiOp, scope_of}
 use Rattle.bbm_histories.specs.rules.Claims.{same_tag}
 use Rattle.bbm_histories.specs.rules.Lists.{any, if_so, one_number}
 use Rattle.bbm_histories.specs.rules.Registers.{base_of, kind_of_reg, lacks_vmid, named_scope, register_values, tag_number, vmid_in, vmid_of}

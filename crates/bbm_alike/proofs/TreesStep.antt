@@ -1,10 +1,10 @@
 -- The trees after an event, which pages are fresh, and what places hold, in histories that are alike.
 use Rattle.std.proofs.Common.{◌≡◌, ℕ, ◌<◌, ◌&&◌, not, Bool, true, false, cond, List, [], ◌∷◌, Option, Some, None, is_some, find, Contains, ◌++◌, ◌==◌, refl, sym, ◌∙◌, ap, inl, inr}
 use Rattle.bbm_histories.specs.descriptor.Descriptor.{is_valid}
-use Rattle.bbm_histories.specs.rules.Prelude.{Kind, Heading, Event, Root, Write}
+use Rattle.bbm_histories.specs.rules.Prelude.{Heading, Event, Root, Write}
 use Rattle.bbm_histories.specs.rules.Broken.{keeps}
 use Rattle.bbm_histories.specs.rules.Claims.{Trust}
-use Rattle.bbm_histories.specs.rules.Covers.{note, noted}
+use Rattle.bbm_histories.specs.rules.Covers.{noted}
 use Rattle.bbm_histories.specs.rules.Held.{ValidWrite, last_valid}
 use Rattle.bbm_histories.specs.rules.Notes.{Noted, events_of}
 use Rattle.bbm_histories.specs.rules.Pages.{is_fresh, may_be_fresh}

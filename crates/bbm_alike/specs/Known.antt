@@ -1,5 +1,5 @@
 -- What the crates below prove, as one record, so that each proof here takes it as one hypothesis.
-use Rattle.std.specs.Prelude.{◌≡◌, ◌↔◌, ◌⊎◌, ℕ, suc, ◌<◌, Bool, true, not, ◌&&◌, List, ◌∷◌, ◌++◌, Option, Some, Contains}
+use Rattle.std.specs.Prelude.{◌≡◌, ◌↔◌, ◌⊎◌, ℕ, suc, ◌<◌, Bool, true, not, ◌&&◌, List, ◌∷◌, ◌++◌, Some, Contains}
 use Rattle.bbm_histories.specs.descriptor.Descriptor.{is_valid}
 use Rattle.bbm_histories.specs.rules.Prelude.{Barrier, Kind, Tag, Heading, Event, Write, Dsb}
 use Rattle.bbm_histories.specs.rules.Broken.{keeps}

@@ -1,5 +1,8 @@
-use Rattle.bbm_alike.proofs.Joined.{itself_alike, joined_alike, turned_alike}
+use Rattle.bbm_alike.proofs.Joined.{itself_alike, joined_alike, start_alike, turned_alike}
 use Rattle.bbm_alike.proofs.joins.law_alike_joins.Goals as goal
+
+pub returns-clause-start : goal.returns-clause-start
+returns-clause-start c heading one other = start_alike heading one other
 
 pub returns-clause-itself : goal.returns-clause-itself
 returns-clause-itself c heading trust h = itself_alike heading trust h
