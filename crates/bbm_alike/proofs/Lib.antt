@@ -8,3 +8,12 @@ pub mod HeldStep
 pub mod TreesStep
 pub mod TakesLemmas
 pub mod Joined
+pub mod SameThen
+pub mod PartsAlike
+pub mod RegisterWrites
+pub mod LockRules
+pub mod WriteRules
+pub mod PageRules
+pub mod TagRules
+pub mod AlikeJudges
+pub mod AlikePhases

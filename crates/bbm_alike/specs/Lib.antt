@@ -1,5 +1,6 @@
 pub mod Alike
 pub mod Known
+pub mod PhaseParts
 pub use Rattle.bbm_histories.specs.events
 pub use Rattle.bbm_histories.specs as histories
 pub use Rattle.bbm_histories.specs.regimes

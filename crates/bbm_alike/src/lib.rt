@@ -2,10 +2,12 @@
 #![tactic(auto)]
 
 pub mod joins;
+pub mod judges;
 mod known;
 pub mod takes;
 
 pub use bbm_histories as histories;
 pub use bbm_histories::{events, regimes, rules};
 pub use joins::law_alike_joins;
+pub use judges::law_alike_judges;
 pub use takes::law_takes_alike;

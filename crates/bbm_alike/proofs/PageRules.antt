@@ -1,0 +1,91 @@
+-- The rules on pages that are attached, initialised, declared or written judge alike.
+use Rattle.std.proofs.Common.{◌≡◌, ℕ, Bool, not, ◌&&◌, List, ◌++◌, Option, Some, option_and_then, option_to_list, flat_map, refl, ◌∙◌, ap}
+use Rattle.bbm_histories.specs.descriptor.Descriptor.{desc_of}
+use Rattle.bbm_histories.specs.descriptor.declared.desc.Desc.{Desc}
+use Rattle.bbm_histories.specs.rules.Attach.{Attached, End, all_ends, attached_by, pages_of}
+use Rattle.bbm_histories.specs.rules.Claims.{Trust}
+use Rattle.bbm_histories.specs.rules.Covers.{is_global}
+use Rattle.bbm_histories.specs.rules.Lists.{if_so, least, repeated}
+use Rattle.bbm_histories.specs.rules.Notes.{Noted, events_of}
+use Rattle.bbm_histories.specs.rules.Pages.{is_fresh, is_null}
+use Rattle.bbm_histories.specs.rules.Places.{page_of}
+use Rattle.bbm_histories.specs.rules.Prelude.{Kind, Ttbr0, Heading, Event, Init, Null, Root, Write}
+use Rattle.bbm_histories.specs.rules.Roots.{root_pages, same_kind}
+use Rattle.bbm_histories.specs.rules.Rules.{attached_with, bad_ends, bad_kind, global_user, is_contiguous, judged_ends, made_with, not_fresh, page_in_use, places_with, unfresh, untracked_page, written_with}
+use Rattle.bbm_histories.specs.rules.Tree.{Node, held_at, node_of, tree}
+use Rattle.bbm_histories.specs.rules.Values.{value_of, written_places}
+use Rattle.bbm_alike.proofs.PartsAlike.{same_attached_by, same_node}
+use Rattle.bbm_alike.proofs.ListsAlike.{same_filter, same_flat}
+
+module _ (heading : Heading) (one other : Trust) (h h' : List Noted)
+    (values : (place : ℕ) → value_of (events_of h) place ≡ value_of (events_of h') place)
+    (places : written_places (events_of h) ≡ written_places (events_of h'))
+    (fresh : (page : ℕ) → is_fresh heading one h page ≡ is_fresh heading other h' page)
+    (trees : tree heading one h ≡ tree heading other h') where
+  same_unfresh : (pages : List ℕ) → unfresh heading one h pages ≡ unfresh heading other h' pages
+  same_unfresh pages =
+      same_filter (λ page. not (is_fresh heading one h page)) (λ page. not (is_fresh heading other h' page)) pages
+      (λ page. ap not (fresh page))
+
+  same_bad_ends : (e : Event) (a : Attached) → bad_ends heading one h e a ≡ bad_ends heading other h' e a
+  same_bad_ends e a =
+      ap (λ (pages : List ℕ). pages ++ repeated (pages_of (all_ends a))) (same_unfresh (pages_of (judged_ends e a)))
+
+  same_places_with : (test : Kind → Desc → Bool) (kind : Kind) (end : End)
+      → places_with test kind (events_of h) end ≡ places_with test kind (events_of h') end
+  same_places_with test kind end = simp (values, places)
+
+  same_attached_with : (test : Kind → Desc → Bool) (a : Attached)
+      → attached_with test (events_of h) a ≡ attached_with test (events_of h') a
+  same_attached_with test a =
+      same_flat (places_with test a.kind (events_of h)) (places_with test a.kind (events_of h')) (all_ends a)
+      (λ end there. same_places_with test a.kind end)
+
+  same_written_with : (test : Kind → Desc → Bool) (e : Event)
+      → written_with heading one h test e ≡ written_with heading other h' test e
+  same_written_with test (Write pe place value) =
+      ap (option_and_then (λ n. if_so (test n.kind (desc_of n.kind n.level value)) place))
+      (same_node heading one other h h' trees (page_of place))
+  same_written_with test e = refl
+
+  module _ (nulls : (page : ℕ) → is_null (events_of h) page ≡ is_null (events_of h') page) where
+    same_untracked : (e : Event) → untracked_page heading one h e ≡ untracked_page heading other h' e
+    same_untracked (Write pe place value) = simp (trees, fresh, nulls)
+    same_untracked e = refl
+
+    pub same_page_in_use : (e : Event) → page_in_use heading one h e ≡ page_in_use heading other h' e
+    same_page_in_use (Init pe page) = simp (trees, nulls)
+    same_page_in_use (Root pe kind lock page) = ap least (same_unfresh (root_pages heading.world kind page))
+    same_page_in_use (Null pe page) = simp (fresh, values, places)
+    same_page_in_use e = refl
+
+  module _ (held : (n : Node) (place : ℕ) → node_of heading one h (page_of place) ≡ Some n
+      → held_at heading one h n place ≡ held_at heading other h' n place) where
+    by_attached : (e : Event) → attached_by heading one h e ≡ attached_by heading other h' e
+    by_attached e = same_attached_by heading one other h h' values places fresh trees held e
+
+    pub same_not_fresh : ((page : ℕ) → is_null (events_of h) page ≡ is_null (events_of h') page)
+        → (e : Event) → not_fresh heading one h e ≡ not_fresh heading other h' e
+    same_not_fresh nulls e =
+        ap (λ (pages : List ℕ). least (pages ++ untracked_page heading one h e))
+        (same_flat (bad_ends heading one h e) (bad_ends heading other h' e)
+        (option_to_list (attached_by heading one h e)) (λ a there. same_bad_ends e a)
+        ∙ ap (λ (o : Option Attached). flat_map (bad_ends heading other h' e) (option_to_list o)) (by_attached e))
+        ∙ ap (λ (pages : List ℕ). least (flat_map (bad_ends heading other h' e) (option_to_list (attached_by heading other h' e)) ++ pages))
+        (same_untracked nulls e)
+
+    same_made_with : (test : Kind → Desc → Bool) (e : Event)
+        → made_with heading one h test e ≡ made_with heading other h' test e
+    same_made_with test e =
+        ap (λ (o : Option ℕ). least (option_to_list o
+        ++ flat_map (attached_with test (events_of h)) (option_to_list (attached_by heading one h e)))) (same_written_with test e)
+        ∙ ap (λ (pages : List ℕ). least (option_to_list (written_with heading other h' test e) ++ pages))
+        (same_flat (attached_with test (events_of h)) (attached_with test (events_of h'))
+        (option_to_list (attached_by heading one h e)) (λ a there. same_attached_with test a)
+        ∙ ap (λ (o : Option Attached). flat_map (attached_with test (events_of h')) (option_to_list o)) (by_attached e))
+
+    pub same_bad_kind : (e : Event) → bad_kind heading one h e ≡ bad_kind heading other h' e
+    same_bad_kind e = same_made_with is_contiguous e
+
+    pub same_global_user : (e : Event) → global_user heading one h e ≡ global_user heading other h' e
+    same_global_user e = same_made_with (λ kind desc. same_kind kind Ttbr0 && is_global desc) e

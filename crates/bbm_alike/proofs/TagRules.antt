@@ -1,0 +1,59 @@
+-- The rules on tags and on roots in use judge alike.
+use Rattle.std.proofs.Common.{◌≡◌, ℕ, ◌<◌, Bool, not, ◌&&◌, ◌||◌, ◌==◌, nat_lt, List, ◌∷◌, length, Option, is_none, filter, find, flat_map, map, refl, ◌∙◌, ap}
+use Rattle.bbm_histories.specs.rules.Claims.{Trust}
+use Rattle.bbm_histories.specs.rules.Lists.{if_so, least, some_pe}
+use Rattle.bbm_histories.specs.rules.Notes.{Noted, events_of}
+use Rattle.bbm_histories.specs.rules.Prelude.{Heading, Event, Unroot, Msr, Reg, Tag}
+use Rattle.bbm_histories.specs.rules.Registers.{register_values}
+use Rattle.bbm_histories.specs.rules.Roots.{Declared, root_at, roots_of}
+use Rattle.bbm_histories.specs.rules.Rules.{is_base_at, is_used, other_holders, root_in_use, tag_conflict}
+use Rattle.bbm_histories.specs.rules.Tags.{Reading, holds_at, holds_tag, readings, tags_of}
+use Rattle.bbm_alike.proofs.ListsAlike.{same_filter, same_flat, same_some_pe}
+use Rattle.bbm_alike.proofs.RegisterWrites.{holds_after, readings_after}
+
+module _ (heading : Heading) (one other : Trust) (h h' : List Noted)
+    (registers : (p : ℕ) (reg : Reg) → register_values (events_of h) p reg ≡ register_values (events_of h') p reg)
+    (roots : roots_of (events_of h) ≡ roots_of (events_of h'))
+    (holds : (p root : ℕ) (tag : Tag) → p < heading.pes
+    → holds_at heading one p root tag (events_of h) ≡ holds_at heading other p root tag (events_of h')) where
+  same_holders : (pe : ℕ) (reg : Reg) (value : ℕ) (reading : Reading)
+      → other_holders heading one h (Msr pe reg value ∷ events_of h) reading
+      ≡ other_holders heading other h' (Msr pe reg value ∷ events_of h') reading
+  same_holders pe reg value reading =
+      ap (map (λ (r : Declared). r.page))
+      (same_filter (holds_it one (events_of h)) (holds_it other (events_of h')) (roots_of (events_of h))
+      (λ r. ap (λ (b : Bool). not (r.page == reading.root) && b)
+      (holds_after heading (events_of h) (events_of h') registers roots pe reg value one other holds r.page reading.tag)))
+      ∙ ap (λ (rs : List Declared). map (λ r. r.page) (filter (holds_it other (events_of h')) rs)) roots
+    where
+      holds_it : Trust → List Event → Declared → Bool
+      holds_it trust es r = not (r.page == reading.root) && holds_tag heading trust r.page reading.tag (Msr pe reg value ∷ es)
+
+  pub same_tag_conflict : (e : Event) → tag_conflict heading one h e ≡ tag_conflict heading other h' e
+  same_tag_conflict (Msr pe reg value) =
+      ap least (same_flat (other_holders heading one h (Msr pe reg value ∷ events_of h))
+      (other_holders heading other h' (Msr pe reg value ∷ events_of h'))
+      (readings heading (Msr pe reg value ∷ events_of h) pe) (λ reading there. same_holders pe reg value reading)
+      ∙ ap (λ (rs : List Reading). flat_map (other_holders heading other h' (Msr pe reg value ∷ events_of h')) rs)
+      (readings_after heading (events_of h) (events_of h') registers roots pe reg value pe))
+  same_tag_conflict e = refl
+
+  module _ (tags : (root : ℕ) → tags_of heading one root (events_of h) ≡ tags_of heading other root (events_of h')) where
+    same_used : (page : ℕ) → is_used heading one h page ≡ is_used heading other h' page
+    same_used page =
+        ap (λ (b : Bool). b || nat_lt 0 (length (tags_of heading one page (events_of h))))
+        (same_some_pe heading.pes (is_base_at (events_of h) page) (is_base_at (events_of h') page) (λ p under. same_base p))
+        ∙ ap (λ (ts : List Tag). some_pe heading.pes (is_base_at (events_of h') page) || nat_lt 0 (length ts))
+        (tags page)
+      where
+        same_base : (p : ℕ) → is_base_at (events_of h) page p ≡ is_base_at (events_of h') page p
+        same_base p = simp registers
+
+    pub same_root_in_use : (e : Event) → root_in_use heading one h e ≡ root_in_use heading other h' e
+    same_root_in_use (Unroot pe page) =
+        ap (λ (b : Bool). if_so (not (is_none (root_at (events_of h) page)) && b) page) (same_used page)
+        ∙ ap (λ (rs : List Declared). if_so (not (is_none (find_in rs page)) && is_used heading other h' page) page) roots
+      where
+        find_in : List Declared → ℕ → Option Declared
+        find_in rs page = find (λ r. r.page == page) rs
+    same_root_in_use e = refl
