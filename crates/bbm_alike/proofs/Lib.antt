@@ -17,3 +17,9 @@ pub mod PageRules
 pub mod TagRules
 pub mod AlikeJudges
 pub mod AlikePhases
+pub mod PlainSteps
+pub mod Distinct
+pub mod TagSteps
+pub mod HeldTags
+pub mod IdleTags
+pub mod CasesSameTags

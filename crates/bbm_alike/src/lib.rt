@@ -4,10 +4,12 @@
 pub mod joins;
 pub mod judges;
 mod known;
+pub mod same_tags;
 pub mod takes;
 
 pub use bbm_histories as histories;
 pub use bbm_histories::{events, regimes, rules};
 pub use joins::law_alike_joins;
 pub use judges::law_alike_judges;
+pub use same_tags::law_same_tags;
 pub use takes::law_takes_alike;

@@ -1,0 +1,56 @@
+-- A list with each tag once, by what the list has.
+use Rattle.std.proofs.Common.{◌≡◌, ◌↔◌, Bool, true, false, cond, ◌||◌, List, [], ◌∷◌, ◌++◌, refl, sym, ◌∙◌, ap, subst, inl, inr}
+use Rattle.bbm_lists.specs.Elements.{In}
+use Rattle.bbm_lists.proofs.Elements.{any_finds, any_found, in_right}
+use Rattle.bbm_histories.specs.rules.Claims.{same_tag}
+use Rattle.bbm_histories.specs.rules.Lists.{any}
+use Rattle.bbm_histories.specs.rules.Prelude.{Tag}
+use Rattle.bbm_histories.specs.rules.Tags.{distinct}
+
+module _ (equal : (g k : Tag) → (same_tag g k ≡ true) ↔ (g ≡ k)) where
+  -- the list with each tag once has the same tags
+  any_distinct : (g : Tag) (gs : List Tag) → any (same_tag g) (distinct gs) ≡ any (same_tag g) gs
+  any_distinct g [] = refl
+  any_distinct g (k ∷ gs) = by (any (same_tag k) gs) refl (any_distinct g gs)
+    where
+      again : (c : Bool) → same_tag g k ≡ c → any (same_tag k) gs ≡ true
+          → any (same_tag g) gs ≡ (c || any (same_tag g) gs)
+      again false c e = refl
+      again true c e = subst (λ (x : Tag). any (same_tag x) gs ≡ true) (sym ((equal g k).0 c)) e
+
+      by : (b : Bool) → any (same_tag k) gs ≡ b → any (same_tag g) (distinct gs) ≡ any (same_tag g) gs
+          → any (same_tag g) (cond b (distinct gs) (k ∷ distinct gs)) ≡ (same_tag g k || any (same_tag g) gs)
+      by false e rest = ap (λ (b : Bool). same_tag g k || b) rest
+      by true e rest = rest ∙ again (same_tag g k) refl e
+
+  same_any : (g : Tag) (xs ys zs : List Tag) → distinct ys ≡ distinct zs
+      → any (same_tag g) (xs ++ ys) ≡ any (same_tag g) (xs ++ zs)
+  same_any g [] ys zs same =
+      sym (any_distinct g ys) ∙ (ap (λ (gs : List Tag). any (same_tag g) gs) same ∙ any_distinct g zs)
+  same_any g (x ∷ xs) ys zs same = ap (λ (b : Bool). same_tag g x || b) (same_any g xs ys zs same)
+
+  -- more tags in front
+  pub distinct_append : (xs ys zs : List Tag) → distinct ys ≡ distinct zs → distinct (xs ++ ys) ≡ distinct (xs ++ zs)
+  distinct_append [] ys zs same = same
+  distinct_append (x ∷ xs) ys zs same = rw (same_any x xs ys zs same, distinct_append xs ys zs same) refl
+
+  -- more tags in front, which were there already
+  pub distinct_again : (xs ys : List Tag) → ((x : Tag) → In xs x → In ys x) → distinct (xs ++ ys) ≡ distinct ys
+  distinct_again [] ys there = refl
+  distinct_again (x ∷ xs) ys there =
+      rw (any_finds (same_tag x) (xs ++ ys) x (in_right xs ys x (there x (inl refl))) ((equal x x).1 refl))
+      (distinct_again xs ys (λ y i. there y (inr i)))
+
+  -- what was there is there once
+  pub distinct_keeps : (gs : List Tag) (tag : Tag) → In gs tag → In (distinct gs) tag
+  distinct_keeps [] tag i = i
+  distinct_keeps (g ∷ gs) tag i = by (any (same_tag g) gs) refl i (distinct_keeps gs)
+    where
+      by : (b : Bool) → any (same_tag g) gs ≡ b → In (g ∷ gs) tag → ((x : Tag) → In gs x → In (distinct gs) x)
+          → In (cond b (distinct gs) (g ∷ distinct gs)) tag
+      by true e (inl same) rest =
+          let r = any_found (same_tag g) gs e in
+          rest tag (subst (λ (x : Tag). In gs x) (sym ((equal g r.0).0 r.2) ∙ same) r.1)
+      by true e (inr i) rest = rest tag i
+      by false e (inl same) rest = inl same
+      by false e (inr i) rest = inr (rest tag i)

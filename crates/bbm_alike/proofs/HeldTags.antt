@@ -1,0 +1,106 @@
+-- A tag that a root holds was readable for it; and one that waits to be taken away, and is held, was held when the TLBI
+-- was issued that is to take it.
+use Rattle.std.proofs.Common.{◌≡◌, ◌↔◌, ℕ, zero, suc, ◌<◌, ◌≤◌, Bool, true, false, not, ◌&&◌, ◌==◌, nat_le, List, [], ◌∷◌, ◌++◌, length, Some, filter_map, flat_map, refl, sym, ◌∙◌, ap, subst, inl, inr, true≢false, arith}
+use Rattle.std.proofs.lemmas.Bool.{and_parts, cases_eq, le-leb, or_cases, or_left, or_parts, not-true}
+use Rattle.std.proofs.lemmas.List.{length-append}
+use Rattle.bbm_lists.specs.Elements.{In}
+use Rattle.bbm_lists.proofs.Elements.{any_found, in_left, in_right, to_flat, to_filter_map}
+use Rattle.bbm_histories.specs.rules.Claims.{Trust, same_tag}
+use Rattle.bbm_histories.specs.rules.Lists.{any, below, if_so}
+use Rattle.bbm_histories.specs.rules.Prelude.{AsidFrom, FromTtbr0, FromTtbr1, World, Hyp, Kernel, Heading, Event, Tag}
+use Rattle.bbm_histories.specs.rules.Reach.{Issued, reaches}
+use Rattle.bbm_histories.specs.rules.Sentences.{Open}
+use Rattle.bbm_histories.specs.rules.Tags.{Reading, asid_readings, distinct, ever_read, holds_at, itself, loses, read_since, readings, readings_in, reads, reads_for_some, tag_for, takes_tag}
+use Rattle.bbm_histories.specs.Steps.{takes}
+use Rattle.bbm_alike.proofs.Distinct.{distinct_keeps}
+use Rattle.bbm_alike.proofs.TagSteps.{held_before}
+
+pub in_below : (n p : ℕ) → p < n → In (below n) p
+in_below zero p less = absurd (omega arith)
+in_below (suc n) p less = elim (cases_eq n p) [ inl same ↦ inl same | inr apart ↦ inr (in_below n p (omega arith)) ]
+
+-- ---- what is readable
+
+-- nothing is readable before the first event
+pub no_readings : (heading : Heading) (p : ℕ) → readings heading [] p ≡ []
+no_readings heading p = by heading.world
+  where
+    asids : (from : AsidFrom) → asid_readings from [] p ≡ []
+    asids FromTtbr0 = refl
+    asids FromTtbr1 = refl
+
+    by : (world : World) → readings_in world [] p ≡ []
+    by (Hyp world) = refl
+    by (Kernel world) = rw (asids world.asid_from) refl
+
+module _ (heading : Heading) (trust : Trust) (p root : ℕ) (tag : Tag) where
+  -- what is readable is held
+  pub read_is_held : (h : List Event) → reads heading h p tag root ≡ true → holds_at heading trust p root tag h ≡ true
+  read_is_held [] e = absurd (true≢false (sym e
+      ∙ ap (λ (rs : List Reading). any (λ r. same_tag r.tag tag && r.root == root) rs) (no_readings heading p)))
+  read_is_held (x ∷ h) e = or_left (reads heading (x ∷ h) p tag root) _ e
+
+  module _ (equal : (g k : Tag) → (same_tag g k ≡ true) ↔ (g ≡ k)) where
+    -- what is held was readable
+    was_read : (h : List Event) → In (below heading.pes) p → holds_at heading trust p root tag h ≡ true
+        → In (ever_read heading root h) tag
+    was_read [] among held = absurd (true≢false (sym held))
+    was_read (e ∷ h) among held =
+        let now = flat_map (λ (q : ℕ). filter_map (tag_for root) (readings heading (e ∷ h) q)) (below heading.pes) in
+        elim (or_cases (reads heading (e ∷ h) p tag root)
+        (holds_at heading trust p root tag h && not (loses heading trust p tag e h)) held) [
+          | inl here ↦
+              let r = any_found (λ (r : Reading). same_tag r.tag tag && r.root == root) (readings heading (e ∷ h) p) here in
+              let parts = and_parts (same_tag r.0.tag tag) (r.0.root == root) r.2 in
+              in_left now (ever_read heading root h) tag
+              (to_flat (λ (q : ℕ). filter_map (tag_for root) (readings heading (e ∷ h) q)) (below heading.pes) p tag among
+              (to_filter_map (tag_for root) (readings heading (e ∷ h) p) r.0 tag r.1
+              (ap (λ (b : Bool). if_so b r.0.tag) parts.1 ∙ ap (λ (g : Tag). Some g) ((equal r.0.tag tag).0 parts.0))))
+          | inr before ↦ in_right now (ever_read heading root h) tag (was_read h among
+              (and_parts (holds_at heading trust p root tag h) (not (loses heading trust p tag e h)) before).0)
+        ]
+
+    pub held_is_listed : (h : List Event) → p < heading.pes → holds_at heading trust p root tag h ≡ true
+        → In (distinct (ever_read heading root h)) tag
+    held_is_listed h less held =
+        distinct_keeps equal (ever_read heading root h) tag (was_read h (in_below heading.pes p less) held)
+
+  -- ---- what waits
+
+  -- a tag that is held now, and wasn't readable since a moment, was held then
+  held_back : (newer before : List Event) (e : Event) → holds_at heading trust p root tag (newer ++ e ∷ before) ≡ true
+      → read_since heading (length before) p tag (newer ++ e ∷ before) ≡ false
+      → holds_at heading trust p root tag before ≡ true
+  held_back [] before e held unread =
+      held_before heading trust p root tag e before held
+      (subst (λ (b : Bool). (b && reads_for_some heading (e ∷ before) p tag) ≡ false)
+      (le-leb (length before) (length before) (omega arith))
+      (or_parts (nat_le (length before) (length before) && reads_for_some heading (e ∷ before) p tag)
+      (read_since heading (length before) p tag before) unread).0)
+  held_back (x ∷ newer) before e held unread =
+      let rest : List Event = newer ++ e ∷ before in
+      let long : length before ≤ length rest = omega (arith, length-append newer (e ∷ before)) in
+      let parts = or_parts (nat_le (length before) (length rest) && reads_for_some heading (x ∷ rest) p tag)
+      (read_since heading (length before) p tag rest) unread in
+      held_back newer before e
+      (held_before heading trust p root tag x rest held
+      (subst (λ (b : Bool). (b && reads_for_some heading (x ∷ rest) p tag) ≡ false)
+      (le-leb (length before) (length rest) long) parts.0))
+      parts.1
+
+  -- a tag that is held, and waits for a TLBI to take it away, was held at the issue of the TLBI
+  pub held_at_issue : (q : ℕ) (h : List Event) (t : Issued Event) → Open itself q h t → takes heading p tag h t ≡ true
+      → holds_at heading trust p root tag h ≡ true
+      → (reaches heading t.tlbi p ≡ true) × (takes_tag heading t.tlbi t.before tag ≡ true)
+      × (holds_at heading trust p root tag t.before ≡ true)
+  held_at_issue q h t o taken held =
+      let parts = and_parts (reaches heading t.tlbi p && takes_tag heading t.tlbi t.before tag)
+      (not (read_since heading (length t.before) p tag h)) taken in
+      let both = and_parts (reaches heading t.tlbi p) (takes_tag heading t.tlbi t.before tag) parts.0 in (
+        both.0,
+        both.1,
+        held_back o.newer t.before t.tlbi
+            (subst (λ (es : List Event). holds_at heading trust p root tag es ≡ true) o.split held)
+            (subst (λ (es : List Event). read_since heading (length t.before) p tag es ≡ false) o.split
+            (not-true (read_since heading (length t.before) p tag h) parts.1)),
+      )

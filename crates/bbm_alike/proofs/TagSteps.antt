@@ -1,0 +1,152 @@
+-- One event more, the same in two histories: the same roots hold the same tags, of which the same wait to be taken away.
+use Rattle.std.proofs.Common.{◌≡◌, ◌↔◌, ℕ, ◌<◌, Bool, true, false, cond, not, ◌&&◌, ◌||◌, ◌==◌, List, ◌∷◌, ◌++◌, Option, Some, None, filter_map, flat_map, refl, sym, ◌∙◌, ap, true≢false, inl, inr}
+use Rattle.std.proofs.Math.Bool.{and-false}
+use Rattle.std.proofs.lemmas.Bool.{and_parts, or_cases}
+use Rattle.bbm_lists.proofs.Elements.{any_finds, any_found}
+use Rattle.bbm_histories.specs.barriers.Options.{answers}
+use Rattle.bbm_histories.specs.rules.Claims.{Trust, same_tag}
+use Rattle.bbm_histories.specs.rules.Lists.{below}
+use Rattle.bbm_histories.specs.rules.Prelude.{Heading, Event, Dsb, Tlbi, Reg, Scope, Tag}
+use Rattle.bbm_histories.specs.tlbi_scope.Tags.{takes_whole_tag}
+use Rattle.bbm_histories.specs.rules.Reach.{reaches}
+use Rattle.bbm_histories.specs.rules.Registers.{named_scope, register_values, vmid_of}
+use Rattle.bbm_histories.specs.rules.Roots.{roots_of}
+use Rattle.bbm_histories.specs.rules.Tags.{Reading, distinct, ever_read, holds_at, loses, readings, reads, reads_for_some, tag_for, takes_tag}
+use Rattle.bbm_histories.specs.Steps.{is_tlbi, tag_waits, tag_waits_after}
+use Rattle.bbm_alike.specs.SameTags.{SameTags}
+use Rattle.bbm_alike.proofs.Distinct.{distinct_append}
+use Rattle.bbm_alike.proofs.PlainSteps.{registers_step, roots_step}
+use Rattle.bbm_alike.proofs.ReadingsAlike.{readings_alike, reads_alike, reads_some_alike, scope_alike, vmid_alike}
+use Rattle.bbm_alike.proofs.ListsAlike.{same_flat}
+
+-- a tag that is readable for a root is readable for some root
+pub read_for_some : (heading : Heading) (h : List Event) (p : ℕ) (tag : Tag) (root : ℕ) → reads heading h p tag root ≡ true
+    → reads_for_some heading h p tag ≡ true
+read_for_some heading h p tag root e =
+    let r = any_found (λ (r : Reading). same_tag r.tag tag && r.root == root) (readings heading h p) e in
+    any_finds (λ (r : Reading). same_tag r.tag tag) (readings heading h p) r.0 r.1
+    (and_parts (same_tag r.0.tag tag) (r.0.root == root) r.2).0
+
+-- a root that holds a tag after an event at which the tag isn't readable held it before
+pub held_before : (heading : Heading) (trust : Trust) (p root : ℕ) (tag : Tag) (e : Event) (h : List Event)
+    → holds_at heading trust p root tag (e ∷ h) ≡ true → reads_for_some heading (e ∷ h) p tag ≡ false
+    → holds_at heading trust p root tag h ≡ true
+held_before heading trust p root tag e h held unread =
+    elim (or_cases (reads heading (e ∷ h) p tag root)
+    (holds_at heading trust p root tag h && not (loses heading trust p tag e h)) held) [
+      | inl read ↦ absurd (true≢false (sym (read_for_some heading (e ∷ h) p tag root read) ∙ unread))
+      | inr kept ↦ (and_parts (holds_at heading trust p root tag h) (not (loses heading trust p tag e h)) kept).0
+    ]
+
+not_lost : (a b x y : Bool) → a ≡ b → (a ≡ true → x ≡ y) → (a && not x) ≡ (b && not y)
+not_lost true true x y same rest = ap not (rest refl)
+not_lost false false x y same rest = refl
+not_lost true false x y same rest = absurd (true≢false same)
+not_lost false true x y same rest = absurd (true≢false (sym same))
+
+-- the step equation of what waits
+abbrev pub WaitsStep : Heading → Type 0
+WaitsStep heading = (p : ℕ) (tag : Tag) (q : ℕ) (b : Bool) (e : Event) (h : List Event)
+    → tag_waits heading p tag q b (e ∷ h)
+    ≡ (tag_waits_after heading p tag q b e h && not (reads_for_some heading (e ∷ h) p tag))
+
+module _ (heading : Heading) (h h' : List Event) (e : Event) (roots : roots_of h ≡ roots_of h')
+    (registers : (p : ℕ) (reg : Reg) → register_values h p reg ≡ register_values h' p reg) where
+  after : (p : ℕ) (reg : Reg) → register_values (e ∷ h) p reg ≡ register_values (e ∷ h') p reg
+  after p reg = registers_step h h' e p reg (registers p reg)
+
+  readings_step : (p : ℕ) → readings heading (e ∷ h) p ≡ readings heading (e ∷ h') p
+  readings_step = readings_alike (e ∷ h) (e ∷ h') after (roots_step h h' e roots) heading
+
+  reads_step : (p : ℕ) (tag : Tag) (root : ℕ) → reads heading (e ∷ h) p tag root ≡ reads heading (e ∷ h') p tag root
+  reads_step = reads_alike (e ∷ h) (e ∷ h') after (roots_step h h' e roots) heading
+
+  some_step : (p : ℕ) (tag : Tag) → reads_for_some heading (e ∷ h) p tag ≡ reads_for_some heading (e ∷ h') p tag
+  some_step = reads_some_alike (e ∷ h) (e ∷ h') after (roots_step h h' e roots) heading
+
+  -- ---- the tags that were ever readable for a root
+
+  pub tags_step : ((g k : Tag) → (same_tag g k ≡ true) ↔ (g ≡ k)) → (root : ℕ)
+      → distinct (ever_read heading root h) ≡ distinct (ever_read heading root h')
+      → distinct (ever_read heading root (e ∷ h)) ≡ distinct (ever_read heading root (e ∷ h'))
+  tags_step equal root same =
+      ap (λ (gs : List Tag). distinct (gs ++ ever_read heading root h))
+      (same_flat (λ (p : ℕ). filter_map (tag_for root) (readings heading (e ∷ h) p))
+      (λ p. filter_map (tag_for root) (readings heading (e ∷ h') p)) (below heading.pes)
+      (λ p there. ap (λ (rs : List Reading). filter_map (tag_for root) rs) (readings_step p)))
+      ∙ distinct_append equal (flat_map (λ (p : ℕ). filter_map (tag_for root) (readings heading (e ∷ h') p)) (below heading.pes))
+      (ever_read heading root h) (ever_read heading root h') same
+
+  -- ---- the tags that a root holds
+
+  pub holds_step : (one other : Trust) (p root : ℕ) (tag : Tag)
+      → holds_at heading one p root tag h ≡ holds_at heading other p root tag h'
+      → (holds_at heading one p root tag h ≡ true → loses heading one p tag e h ≡ loses heading other p tag e h')
+      → holds_at heading one p root tag (e ∷ h) ≡ holds_at heading other p root tag (e ∷ h')
+  holds_step one other p root tag same lost =
+      rw (
+        reads_step p tag root,
+        not_lost (holds_at heading one p root tag h) (holds_at heading other p root tag h')
+            (loses heading one p tag e h) (loses heading other p tag e h') same lost,
+      ) refl
+
+  -- ---- the TLBIs that wait to take a tag away
+
+  takes_alike : (x : Event) (tag : Tag) → takes_tag heading x h tag ≡ takes_tag heading x h' tag
+  takes_alike (Tlbi pe op xt) tag =
+      ap (λ (o : Option Scope). elim o as (λ x. Bool) [
+        | None ↦ false
+        | Some scope ↦ takes_whole_tag scope (vmid_of heading h pe) tag
+      ]) (scope_alike h h' registers heading pe op xt)
+      ∙ ap (λ (v : Option ℕ). elim (named_scope heading h' pe op xt) as (λ x. Bool) [
+        | None ↦ false
+        | Some scope ↦ takes_whole_tag scope v tag
+      ]) (vmid_alike h h' registers heading pe)
+  takes_alike x tag = refl
+
+  after_alike : (x : Event) (p q : ℕ) (b : Bool) (tag : Tag) → tag_waits heading p tag q b h ≡ tag_waits heading p tag q b h'
+      → tag_waits_after heading p tag q b x h ≡ tag_waits_after heading p tag q b x h'
+  after_alike (Tlbi pe op xt) p q b tag same =
+      ap (λ (c : Bool). (pe == q && (is_tlbi b (Tlbi pe op xt) && (reaches heading (Tlbi pe op xt) p && c)))
+      || tag_waits heading p tag q b h) (takes_alike (Tlbi pe op xt) tag)
+      ∙ ap (λ (c : Bool). (pe == q && (is_tlbi b (Tlbi pe op xt)
+      && (reaches heading (Tlbi pe op xt) p && takes_tag heading (Tlbi pe op xt) h' tag))) || c) same
+  after_alike (Dsb pe dsb) p q b tag same = ap (λ (c : Bool). cond (pe == q && answers dsb b) false c) same
+  after_alike x p q b tag same = same
+
+  pub wait_step : WaitsStep heading → (one : Trust) (p q root : ℕ) (b : Bool) (tag : Tag)
+      → holds_at heading one p root tag (e ∷ h) ≡ true
+      → (holds_at heading one p root tag h ≡ true → tag_waits heading p tag q b h ≡ tag_waits heading p tag q b h')
+      → tag_waits heading p tag q b (e ∷ h) ≡ tag_waits heading p tag q b (e ∷ h')
+  wait_step waits one p q root b tag held same =
+      waits p tag q b e h
+      ∙ (by (reads_for_some heading (e ∷ h) p tag) refl
+      ∙ (ap (λ (c : Bool). tag_waits_after heading p tag q b e h' && not c) (some_step p tag)
+      ∙ sym (waits p tag q b e h')))
+    where
+      by : (c : Bool) → reads_for_some heading (e ∷ h) p tag ≡ c
+          → (tag_waits_after heading p tag q b e h && not (reads_for_some heading (e ∷ h) p tag))
+          ≡ (tag_waits_after heading p tag q b e h' && not (reads_for_some heading (e ∷ h) p tag))
+      by true is = rw is (and-false (tag_waits_after heading p tag q b e h)
+          ∙ sym (and-false (tag_waits_after heading p tag q b e h')))
+      by false is =
+          ap (λ (c : Bool). c && not (reads_for_some heading (e ∷ h) p tag)) (after_alike e p q b tag (same
+          (held_before heading one p root tag e h held is)))
+
+-- ---- all together
+
+module _ (heading : Heading) (equal : (g k : Tag) → (same_tag g k ≡ true) ↔ (g ≡ k)) (waits : WaitsStep heading)
+    (h h' : List Event) (e : Event) (roots : roots_of h ≡ roots_of h')
+    (registers : (p : ℕ) (reg : Reg) → register_values h p reg ≡ register_values h' p reg) where
+  -- where the event takes the same tags away of those that are held
+  pub same_tags_step : (one other : Trust)
+      → ((p root : ℕ) (tag : Tag) → p < heading.pes → holds_at heading one p root tag h ≡ true
+      → loses heading one p tag e h ≡ loses heading other p tag e h')
+      → SameTags heading one other h h' → SameTags heading one other (e ∷ h) (e ∷ h')
+  same_tags_step one other lost same = record {
+    tags = λ root. tags_step heading h h' e roots registers equal root (same.tags root);
+    holds = λ p root tag less.
+        holds_step heading h h' e roots registers one other p root tag (same.holds p root tag less) (lost p root tag less);
+    tag_wait = λ p q root b tag less held.
+        wait_step heading h h' e roots registers waits one p q root b tag held (same.tag_wait p q root b tag less);
+  }

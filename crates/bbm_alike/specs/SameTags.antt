@@ -1,0 +1,38 @@
+-- When two histories have the same tags, each read by what it trusts, and when a TLBI takes a tag that a root holds.
+-- Source: project's own choice.
+use Rattle.std.specs.Prelude.{◌≡◌, ℕ, ◌<◌, Bool, true, false, ◌&&◌, List}
+use Rattle.bbm_histories.specs.rules.Claims.{Trust}
+use Rattle.bbm_histories.specs.rules.Claims.Trust.{Patterns}
+use Rattle.bbm_histories.specs.rules.Lists.{any}
+use Rattle.bbm_histories.specs.rules.Prelude.{Barrier, Heading, Event, Tag}
+use Rattle.bbm_histories.specs.rules.Reach.{Issued, completes, reaches, unanswered}
+use Rattle.bbm_histories.specs.rules.Roots.{roots_of}
+use Rattle.bbm_histories.specs.rules.Tags.{distinct, ever_read, holds_at, itself, takes_tag}
+use Rattle.bbm_histories.specs.Steps.{tag_waits}
+use Rattle.bbm_lists.specs.Elements.{In}
+
+module _ (heading : Heading) where
+  -- The same tags were ever readable for each root; the same roots hold the same ones; and of those that are held the
+  -- same wait to be taken away.
+  pub record SameTags (one other : Trust) (h h' : List Event) : Type 0 where
+    pub tags : (root : ℕ) → distinct (ever_read heading root h) ≡ distinct (ever_read heading root h')
+    pub holds : (p root : ℕ) (tag : Tag) → p < heading.pes
+        → holds_at heading one p root tag h ≡ holds_at heading other p root tag h'
+    pub tag_wait : (p q root : ℕ) (b : Bool) (tag : Tag) → p < heading.pes → holds_at heading one p root tag h ≡ true
+        → tag_waits heading p tag q b h ≡ tag_waits heading p tag q b h'
+
+  -- Whether the event, after h, takes whole at p a tag that a declared root holds there: it reaches p, and one of the
+  -- tags that were ever readable for the root is such a tag.
+  abbrev pub takes_held : List Event → Event → ℕ → Bool
+  takes_held h e p = reaches heading e p
+      && any (λ r. any (λ tag. takes_tag heading e h tag && holds_at heading Patterns p r.page tag h)
+      (distinct (ever_read heading r.page h))) (roots_of h)
+
+  -- it does so at no PE of the log
+  abbrev pub TakesNone : List Event → Event → Type 0
+  TakesNone h e = (p : ℕ) → p < heading.pes → takes_held h e p ≡ false
+
+  -- no TLBI that a DSB of q answers did so at its issue
+  abbrev pub AnswersNone : ℕ → Barrier → List Event → Type 0
+  AnswersNone q dsb h = (t : Issued Event) → In (unanswered itself q h) t → completes dsb t.tlbi ≡ true
+      → TakesNone t.before t.tlbi
