@@ -23,3 +23,4 @@ pub mod TagSteps
 pub mod HeldTags
 pub mod IdleTags
 pub mod CasesSameTags
+pub mod AlikeStep

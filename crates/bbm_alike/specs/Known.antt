@@ -3,7 +3,7 @@ use Rattle.std.specs.Prelude.{◌≡◌, ◌↔◌, ◌⊎◌, ℕ, suc, ◌<◌
 use Rattle.bbm_histories.specs.descriptor.Descriptor.{is_valid}
 use Rattle.bbm_histories.specs.rules.Prelude.{Barrier, Kind, Tag, Heading, Event, Write, Dsb}
 use Rattle.bbm_histories.specs.rules.Broken.{keeps}
-use Rattle.bbm_histories.specs.rules.Claims.{Trust}
+use Rattle.bbm_histories.specs.rules.Claims.{Trust, same_tag}
 use Rattle.bbm_histories.specs.rules.Claims.Trust.{Patterns}
 use Rattle.bbm_histories.specs.rules.Cleansing.{cleansed, half, seen}
 use Rattle.bbm_histories.specs.rules.Covers.{noted}
@@ -18,7 +18,7 @@ use Rattle.bbm_histories.specs.rules.Tree.{Node, held_at, is_childless, next_of,
 use Rattle.bbm_histories.specs.rules.Values.{value_of}
 use Rattle.bbm_histories.specs.ClaimSteps.{cleansed_under}
 use Rattle.bbm_histories.specs.Steps.{answered_by, cleansed_after, half_after, held_after, seen_after, tag_waits, waits}
-use Rattle.bbm_histories.specs.Steps.{waits_after}
+use Rattle.bbm_histories.specs.Steps.{tag_waits_after, waits_after}
 use Rattle.bbm_histories.specs.Tree.{Attaches}
 use Rattle.bbm_histories.specs.TreeSteps.{HoldsNone}
 use Rattle.bbm_histories.specs.Values.{HoldsPresent}
@@ -69,6 +69,10 @@ pub record Known (heading : Heading) : Type 0 where
       → Attaches heading trust (noted heading trust h) e n → page_of place ≡ n.page
       → HoldsPresent heading trust (noted heading trust (e ∷ h)) n place
   -- tags
+  pub tags_equal : (g k : Tag) → (same_tag g k ≡ true) ↔ (g ≡ k)
+  pub tag_waits_step : (p : ℕ) (tag : Tag) (q : ℕ) (b : Bool) (e : Event) (h : List Event)
+      → tag_waits heading p tag q b (e ∷ h)
+      ≡ (tag_waits_after heading p tag q b e h && not (reads_for_some heading (e ∷ h) p tag))
   pub lost_patterns : (p : ℕ) (tag : Tag) (q : ℕ) (dsb : Barrier) (h : List Event)
       → loses heading Patterns p tag (Dsb q dsb) h ≡ (answered_by dsb (λ b. tag_waits heading p tag q b h)
       && not (reads_for_some heading (Dsb q dsb ∷ h) p tag))

@@ -4,7 +4,8 @@ ghost use Rattle.bbm_histories.specs.events.Heading.{Heading};
 ghost use Rattle.bbm_alike.specs.Known.{Known};
 
 use bbm_histories::rules::{
-    law_cleansed, law_half, law_last_valid, law_notes_keep_the_events, law_seen, law_tree,
+    law_cleansed, law_equality_tests, law_half, law_last_valid, law_notes_keep_the_events,
+    law_seen, law_tree,
 };
 use bbm_histories::{
     law_childless_step, law_claim_steps, law_fresh_content, law_held_step, law_one_position,
@@ -18,6 +19,7 @@ pub(crate) fn known()
     law_childless_step();
     law_claim_steps();
     law_cleansed();
+    law_equality_tests();
     law_fresh_content();
     law_half();
     law_held_step();

@@ -5,6 +5,7 @@ pub mod joins;
 pub mod judges;
 mod known;
 pub mod same_tags;
+pub mod steps;
 pub mod takes;
 
 pub use bbm_histories as histories;
@@ -12,4 +13,5 @@ pub use bbm_histories::{events, regimes, rules};
 pub use joins::law_alike_joins;
 pub use judges::law_alike_judges;
 pub use same_tags::law_same_tags;
+pub use steps::law_alike_step;
 pub use takes::law_takes_alike;

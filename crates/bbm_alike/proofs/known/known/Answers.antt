@@ -19,5 +19,7 @@ returns c heading = record {
   childless_table = c.law_childless_step.ensures.table heading;
   gained = c.law_one_position.ensures.gained heading;
   attached_holds = c.law_fresh_content.ensures.attached heading;
+  tags_equal = c.law_equality_tests.ensures.tags;
+  tag_waits_step = c.law_tag_steps.ensures.waits heading;
   lost_patterns = c.law_tag_steps.ensures.lost heading;
 }

@@ -1,0 +1,47 @@
+-- After the same event, histories that are alike are so still.
+use Rattle.std.proofs.Common.{◌≡◌, ℕ, ◌<◌, true, List, ◌∷◌}
+use Rattle.bbm_histories.specs.rules.Prelude.{Heading, Event}
+use Rattle.bbm_histories.specs.rules.Broken.{keeps}
+use Rattle.bbm_histories.specs.rules.Claims.{Trust}
+use Rattle.bbm_histories.specs.rules.Roots.{roots_of}
+use Rattle.bbm_histories.specs.rules.Values.{value_of, written_places}
+use Rattle.bbm_alike.specs.Alike.{Alike, TakesAlike}
+use Rattle.bbm_alike.specs.Known.{Known}
+use Rattle.bbm_alike.specs.SameTags.{SameTags}
+use Rattle.bbm_alike.proofs.PlainSteps.{locks_step, nulls_step, places_step, registers_step, roots_step, values_step}
+use Rattle.bbm_alike.proofs.TagSteps.{same_tags_step}
+use Rattle.bbm_alike.proofs.TreesStep.{fresh_step, held_step, patterns_step, trees_step}
+
+module _ (heading : Heading) (k : Known heading) (one other : Trust) (h h' : List Event) (e : Event) (pes : 0 < heading.pes)
+    (unbroken : keeps heading one (e ∷ h) ≡ true) (unbroken' : keeps heading other (e ∷ h') ≡ true)
+    (a : Alike heading one other h h') (t : TakesAlike heading one other h h' e) where
+  values : (place : ℕ) → value_of (e ∷ h) place ≡ value_of (e ∷ h') place
+  values place = values_step h h' e place (a.values place)
+
+  roots : roots_of (e ∷ h) ≡ roots_of (e ∷ h')
+  roots = roots_step h h' e a.roots
+
+  places : written_places (e ∷ h) ≡ written_places (e ∷ h')
+  places = places_step h h' e a.places
+
+  tags : SameTags heading one other (e ∷ h) (e ∷ h')
+  tags =
+      same_tags_step heading k.tags_equal k.tag_waits_step h h' e a.roots a.registers one other t.takes
+      (record { tags = a.tags; holds = a.holds; tag_wait = a.tag_wait })
+
+  pub alike_step : Alike heading one other (e ∷ h) (e ∷ h')
+  alike_step = record {
+    values = values;
+    places = places;
+    roots = roots;
+    nulls = λ page. nulls_step h h' e page (a.nulls page);
+    registers = λ p reg. registers_step h h' e p reg (a.registers p reg);
+    locks = λ lock. locks_step h h' e lock (a.locks lock);
+    trees = trees_step heading k one other h h' a e pes unbroken unbroken' t values roots places;
+    fresh = fresh_step heading k one other h h' a e pes unbroken unbroken' t values roots places;
+    held = held_step heading k one other h h' a e pes unbroken unbroken' t values roots places;
+    patterns = patterns_step heading k one other h h' a e pes unbroken unbroken' t values roots places;
+    tags = tags.tags;
+    holds = tags.holds;
+    tag_wait = tags.tag_wait;
+  }

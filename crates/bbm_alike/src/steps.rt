@@ -1,0 +1,21 @@
+//! The same event in two histories that are alike.
+
+ghost use Rattle.std.specs.Prelude.{◌≡◌, ◌<◌, true, List, ◌∷◌};
+ghost use Rattle.bbm_histories.specs.events.Heading.{Heading};
+ghost use Rattle.bbm_histories.specs.events.declared.event.Event.{Event};
+ghost use Rattle.bbm_histories.specs.rules.Broken.{keeps};
+ghost use Rattle.bbm_histories.specs.rules.Claims.{Trust};
+ghost use Rattle.bbm_alike.specs.Alike.{Alike, TakesAlike};
+
+use crate::known::known;
+
+/// Two histories that are alike are so still after the same event, where it breaks no rule in either and takes away
+/// alike in both. The law is the contract.
+pub fn law_alike_step()
+    ensures { (heading : Heading) (one other : Trust) (h h' : List Event) (e : Event) → 0 < heading.pes →
+        keeps heading one (e ∷ h) ≡ true → keeps heading other (e ∷ h') ≡ true →
+        Alike heading one other h h' → TakesAlike heading one other h h' e →
+        Alike heading one other (e ∷ h) (e ∷ h') }
+{
+    known();
+}
