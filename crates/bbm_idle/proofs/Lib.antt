@@ -1,2 +1,13 @@
 pub mod Registers
 pub mod CasesIdle
+pub mod Since
+pub mod Written
+pub mod Waits
+pub mod Phases
+pub mod Needed
+pub mod DsbBase
+pub mod Base
+pub mod Thinned
+pub mod Judged
+pub mod NeededWaits
+pub mod Rest

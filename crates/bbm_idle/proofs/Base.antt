@@ -1,0 +1,222 @@
+-- A history is alike to what came before its last event, where that event is idle.
+use Rattle.std.proofs.Common.{◌≡◌, ℕ, Bool, true, false, not, ◌&&◌, ◌||◌, ◌==◌, List, [], ◌∷◌, Option, Some, None, find, is_none, is_some, Contains, refl, sym, ◌∙◌, ap, subst, true≢false}
+use Rattle.std.proofs.lemmas.Bool.{and_parts, false_from_ne_true, not-true}
+use Rattle.bbm_lists.proofs.Elements.{none_of}
+use Rattle.bbm_alike.specs.rules.Broken.{broken, keeps}
+use Rattle.bbm_alike.specs.rules.Changes.{changes}
+use Rattle.bbm_alike.specs.rules.Claims.{Patterns}
+use Rattle.bbm_alike.specs.rules.Cleansing.{cleansed, half, seen}
+use Rattle.bbm_alike.specs.rules.Covers.{note, noted}
+use Rattle.bbm_alike.specs.rules.Held.{ValidWrite, last_valid}
+use Rattle.bbm_alike.specs.rules.Lists.{any, below}
+use Rattle.bbm_alike.specs.rules.Notes.{Noted, events_of}
+use Rattle.bbm_alike.specs.rules.Pages.{is_fresh, may_be_fresh}
+use Rattle.bbm_alike.specs.rules.Places.{page_of}
+use Rattle.bbm_alike.specs.rules.Prelude.{Barrier, Heading, Event, Dsb, Dmb, Isb, Tlbi, Reg}
+use Rattle.bbm_alike.specs.rules.Reach.{reaches, unanswered}
+use Rattle.bbm_alike.specs.rules.Registers.{register_values}
+use Rattle.bbm_alike.specs.rules.Roots.{roots_of}
+use Rattle.bbm_alike.specs.rules.Tags.{itself}
+use Rattle.bbm_alike.specs.rules.Tree.{Node, held_at, in_tree, node_of, tree}
+use Rattle.bbm_alike.specs.rules.Values.{written_places}
+use Rattle.bbm_alike.specs.Alike.{Alike, SamePatterns}
+use Rattle.bbm_alike.specs.SameTags.{AnswersNone, SameTags, TakesNone}
+use Rattle.bbm_idle.specs.Idle.{adds, adds_at, answers_needed, is_idle, is_needed, is_needed_at, keeps_phases, takes_of, wrote_register}
+use Rattle.bbm_idle.specs.Known.{Known}
+use Rattle.bbm_idle.proofs.DsbBase.{same_held, same_patterns, same_tree}
+use Rattle.bbm_idle.proofs.Needed.{adds_needed, in_below}
+use Rattle.bbm_idle.proofs.Registers.{idle_isb}
+use Rattle.bbm_idle.proofs.Waits.{changeless, of_dmb, of_isb, of_tlbi}
+use Rattle.bbm_idle.proofs.Written.{was_some}
+
+-- ---- tags
+
+module _ (heading : Heading) where
+  -- a TLBI that isn't needed takes no tag
+  takes_none : (h : List Event) (e : Event) → is_needed heading h e ≡ false → TakesNone heading h e
+  takes_none h e needless p less =
+      by (reaches heading e p) (any (adds_at heading (noted heading Patterns h) e p) (written_places h)) (any (takes_of heading h e p) (roots_of h))
+      (none_of (is_needed_at heading h e) (below heading.pes) needless p (in_below heading.pes p less))
+    where
+      by : (r a b : Bool) → (r && (a || b)) ≡ false → (r && b) ≡ false
+      by false a b e = refl
+      by true true b e = absurd (true≢false e)
+      by true false b e = e
+
+  answers_none : (q : ℕ) (dsb : Barrier) (h : List Event) → any (answers_needed heading dsb) (unanswered itself q h) ≡ false
+      → AnswersNone heading q dsb h
+  answers_none q dsb h none t waiting completed =
+      takes_none t.before t.tlbi (sym (ap (λ (x : Bool). x && is_needed heading t.before t.tlbi) completed)
+      ∙ none_of (answers_needed heading dsb) (unanswered itself q h) none t waiting)
+
+  -- ---- the parts of the relation
+
+  -- the event changes no value, no page, no root and no lock
+  pub record Quiet (e : Event) : Type 0 where
+    pub values : (changes e).values ≡ false
+    pub inits : (changes e).inits ≡ false
+    pub nulls : (changes e).nulls ≡ false
+    pub roots : (changes e).roots ≡ false
+    pub locks : (changes e).locks ≡ false
+
+  fresh_outside : (ns : List Noted) (page : ℕ) → (is_fresh heading Patterns ns page && not (in_tree heading Patterns ns page))
+      ≡ is_fresh heading Patterns ns page
+  fresh_outside [] page = refl
+  fresh_outside (n ∷ ns) page = by (may_be_fresh n.event page (is_fresh heading Patterns ns page)) (in_tree heading Patterns (n ∷ ns) page)
+    where
+      by : (m t : Bool) → ((m && not t) && not t) ≡ (m && not t)
+      by false t = refl
+      by true true = refl
+      by true false = refl
+
+  module _ (k : Known heading) (h : List Event) (e : Event) where
+    abbrev before : List Noted
+    before = noted heading Patterns h
+
+    abbrev after : List Noted
+    after = noted heading Patterns (e ∷ h)
+
+    abbrev item : Noted
+    item = note heading Patterns (noted heading Patterns h) e
+
+    abbrev SameHeld : Type 0
+    SameHeld = (n : Node) (place : ℕ) → Contains (tree heading Patterns (noted heading Patterns h)) n → page_of place ≡ n.page
+        → held_at heading Patterns (noted heading Patterns (e ∷ h)) n place ≡ held_at heading Patterns (noted heading Patterns h) n place
+
+    abbrev PatternsStay : Type 0
+    PatternsStay = (n : Node) (place value : ℕ) (w : ValidWrite) → Contains (tree heading Patterns (noted heading Patterns h)) n
+        → page_of place ≡ n.page → held_at heading Patterns (noted heading Patterns h) n place ≡ Some value
+        → last_valid n.kind n.level place (noted heading Patterns h) ≡ Some w
+        → SamePatterns heading place Patterns Patterns (note heading Patterns (noted heading Patterns h) e ∷ w.since) w.since
+
+    same_fresh : Quiet e → tree heading Patterns after ≡ tree heading Patterns before → (page : ℕ)
+        → is_fresh heading Patterns after page ≡ is_fresh heading Patterns before page
+    same_fresh quiet trees page =
+        ap (λ (b : Bool). b && not (in_tree heading Patterns after page)) (k.fresh e page (is_fresh heading Patterns before page) quiet.inits quiet.nulls)
+        ∙ (ap (λ (ns : List Node). is_fresh heading Patterns before page && not (is_some (find (λ (n : Node). n.page == page) ns))) trees
+        ∙ fresh_outside before page)
+
+    patterns_on : Quiet e → PatternsStay → (n : Node) (place value : ℕ) (w w' : ValidWrite) → Contains (tree heading Patterns before) n
+        → page_of place ≡ n.page → held_at heading Patterns before n place ≡ Some value → last_valid n.kind n.level place after ≡ Some w
+        → last_valid n.kind n.level place before ≡ Some w' → SamePatterns heading place Patterns Patterns w.since w'.since
+    patterns_on quiet stay n place value w w' t inside holds last last' =
+        let v = was_some item (last_valid n.kind n.level place before) w (sym (k.valid item before n.kind n.level place quiet.values) ∙ last) in
+        let same : Some v.0 ≡ Some w' = sym v.1 ∙ last' in
+        let one : v.0 ≡ w' = cc in
+        let since : item ∷ w'.since ≡ w.since = ap (λ (x : ValidWrite). item ∷ x.since) (sym one) ∙ v.3 in
+        subst (λ (s : List Noted). SamePatterns heading place Patterns Patterns s w'.since) since (stay n place value w' t inside holds last')
+
+    alike_by : Quiet e → ((p : ℕ) (reg : Reg) → register_values (e ∷ h) p reg ≡ register_values h p reg)
+        → tree heading Patterns after ≡ tree heading Patterns before → SameHeld → PatternsStay → SameTags heading Patterns Patterns (e ∷ h) h
+        → Alike heading Patterns Patterns (e ∷ h) h
+    alike_by quiet registers trees same_held stay tags = record {
+      values = λ place. k.values e h place quiet.values;
+      places = k.places e h quiet.values;
+      roots = k.roots e h quiet.roots;
+      nulls = λ page. k.nulls e h page quiet.nulls;
+      registers = registers;
+      locks = λ lock. k.locks e h lock quiet.locks;
+      trees = trees;
+      fresh = same_fresh quiet trees;
+      held = λ n place t inside. same_held n place (there n t) inside;
+      patterns = λ n place w w' t inside some last last'. by n place w w' (there n t) inside last last'
+          (held_at heading Patterns before n place) refl (sym (ap is_some (same_held n place (there n t) inside)) ∙ some);
+      tags = tags.tags;
+      holds = tags.holds;
+      tag_wait = tags.tag_wait;
+    }
+      where
+        there : (n : Node) → Contains (tree heading Patterns after) n → Contains (tree heading Patterns before) n
+        there n t = subst (λ (ns : List Node). Contains ns n) trees t
+
+        by : (n : Node) (place : ℕ) (w w' : ValidWrite) → Contains (tree heading Patterns before) n → page_of place ≡ n.page
+            → last_valid n.kind n.level place after ≡ Some w → last_valid n.kind n.level place before ≡ Some w' → (o : Option ℕ)
+            → held_at heading Patterns before n place ≡ o → is_some (held_at heading Patterns before n place) ≡ true
+            → SamePatterns heading place Patterns Patterns w.since w'.since
+        by n place w w' t inside last last' None o some = absurd (true≢false (sym some ∙ ap is_some o))
+        by n place w w' t inside last last' (Some value) o some = patterns_on quiet stay n place value w w' t inside o last last'
+
+    -- where no place holds anything else
+    same_trees : Quiet e → ((n : Node) (place : ℕ) → held_at heading Patterns after n place ≡ held_at heading Patterns before n place)
+        → tree heading Patterns after ≡ tree heading Patterns before
+    same_trees quiet same_held =
+        k.same_tree after before
+        (k.roots e (events_of before) quiet.roots)
+        (k.places e (events_of before) quiet.values)
+        (λ n place t inside. same_held n place)
+
+  -- ---- the base
+
+  node_before : Known heading → (h : List Event) → keeps heading Patterns h ≡ true → (n : Node) (place : ℕ)
+      → Contains (tree heading Patterns (noted heading Patterns h)) n → page_of place ≡ n.page
+      → node_of heading Patterns (noted heading Patterns h) (page_of place) ≡ Some n
+  node_before k h kept n place t inside = ap (node_of heading Patterns (noted heading Patterns h)) inside ∙ k.first_node h kept n t
+
+  pub base : Known heading → (h : List Event) (e : Event) → keeps heading Patterns (e ∷ h) ≡ true
+      → is_idle heading h e ≡ true → Alike heading Patterns Patterns (e ∷ h) h
+  unfolding is_idle
+  base k h (Dmb pe dsb) kept idle =
+      alike_by k h (Dmb pe dsb) quiet (λ p reg. refl) (same_trees k h (Dmb pe dsb) quiet held) (λ n place t inside. held n place)
+      (λ n place value w t inside holds last. changeless heading k place item w.since
+      (of_dmb heading k place item.covers item.position w.since pe dsb))
+      (k.tags_dmb pe dsb h)
+    where
+      quiet : Quiet (Dmb pe dsb)
+      quiet = record { values = refl; inits = refl; nulls = refl; roots = refl; locks = refl }
+
+      item : Noted
+      item = note heading Patterns (noted heading Patterns h) (Dmb pe dsb)
+
+      held : (n : Node) (place : ℕ) → held_at heading Patterns (noted heading Patterns (Dmb pe dsb ∷ h)) n place
+          ≡ held_at heading Patterns (noted heading Patterns h) n place
+      held n place = k.held_step n.kind n.level place item (noted heading Patterns h) k.proper.some_pe
+  base k h (Isb pe) kept idle =
+      alike_by k h (Isb pe) quiet registers (same_trees k h (Isb pe) quiet held) (λ n place t inside. held n place)
+      (λ n place value w t inside holds last. changeless heading k place item w.since
+      (of_isb heading k place item.covers item.position w.since pe))
+      (k.tags_isb pe h registers)
+    where
+      quiet : Quiet (Isb pe)
+      quiet = record { values = refl; inits = refl; nulls = refl; roots = refl; locks = refl }
+
+      item : Noted
+      item = note heading Patterns (noted heading Patterns h) (Isb pe)
+
+      registers : (p : ℕ) (reg : Reg) → register_values (Isb pe ∷ h) p reg ≡ register_values h p reg
+      registers p reg = idle_isb pe p reg h (not-true (wrote_register pe h) idle)
+
+      held : (n : Node) (place : ℕ) → held_at heading Patterns (noted heading Patterns (Isb pe ∷ h)) n place
+          ≡ held_at heading Patterns (noted heading Patterns h) n place
+      held n place = k.held_step n.kind n.level place item (noted heading Patterns h) k.proper.some_pe
+  base k h (Tlbi pe op xt) kept idle =
+      alike_by k h (Tlbi pe op xt) quiet (λ p reg. refl) (same_trees k h (Tlbi pe op xt) quiet held) (λ n place t inside. held n place)
+      (λ n place value w t inside holds last. changeless heading k place item w.since
+      (of_tlbi heading k place item.covers item.position w.since pe op xt (λ p less reached.
+      false_from_ne_true (adds (item.covers place) (seen heading place p w.since) (half heading place p w.since)
+      (cleansed heading Patterns place p w.since)) (λ adding. true≢false (sym (adds_needed heading k h (Tlbi pe op xt) p place n w less reached
+      (node_before k h kept_before n place t inside) last adding) ∙ needless)))))
+      (k.tags_tlbi pe op xt h kept_before (takes_none h (Tlbi pe op xt) needless))
+    where
+      quiet : Quiet (Tlbi pe op xt)
+      quiet = record { values = refl; inits = refl; nulls = refl; roots = refl; locks = refl }
+
+      item : Noted
+      item = note heading Patterns (noted heading Patterns h) (Tlbi pe op xt)
+
+      kept_before : keeps heading Patterns h ≡ true
+      kept_before = (and_parts (keeps heading Patterns h) (is_none (broken heading Patterns h (Tlbi pe op xt))) kept).0
+
+      needless : is_needed heading h (Tlbi pe op xt) ≡ false
+      needless = not-true (is_needed heading h (Tlbi pe op xt)) idle
+
+      held : (n : Node) (place : ℕ) → held_at heading Patterns (noted heading Patterns (Tlbi pe op xt ∷ h)) n place
+          ≡ held_at heading Patterns (noted heading Patterns h) n place
+      held n place = k.held_step n.kind n.level place item (noted heading Patterns h) k.proper.some_pe
+  base k h (Dsb pe dsb) kept idle =
+      alike_by k h (Dsb pe dsb) (record { values = refl; inits = refl; nulls = refl; roots = refl; locks = refl }) (λ p reg. refl)
+      (same_tree heading k h pe dsb kept idle) (same_held heading k h pe dsb kept idle)
+      (same_patterns heading k h pe dsb kept idle)
+      (k.tags_dsb pe dsb h (and_parts (keeps heading Patterns h) (is_none (broken heading Patterns h (Dsb pe dsb))) kept).0
+      (answers_none pe dsb h (not-true (any (answers_needed heading dsb) (unanswered itself pe h))
+      (and_parts (keeps_phases heading h (Dsb pe dsb)) (not (any (answers_needed heading dsb) (unanswered itself pe h))) idle).1)))
+  base k h e kept idle = absurd (true≢false (sym idle))

@@ -1,0 +1,196 @@
+-- After a DSB that changes no phase and answers no TLBI that was needed, the places of trees hold what they held, with
+-- the same patterns.
+use Rattle.std.proofs.Common.{◌≡◌, ℕ, ◌<◌, Bool, true, false, cond, not, List, [], ◌∷◌, Option, Some, None, option_and_then, is_none, Contains, refl, sym, ◌∙◌, ap, subst, inl, inr}
+use Rattle.std.proofs.lemmas.Bool.{and_parts, not-true}
+use Rattle.bbm_lists.specs.Elements.{In}
+use Rattle.bbm_regimes.proofs.Every.{every_at}
+use Rattle.bbm_alike.specs.rules.descriptor.Descriptor.{is_valid}
+use Rattle.bbm_alike.specs.rules.regimes.EveryPe.{every_pe}
+use Rattle.bbm_alike.specs.rules.declared.phase.Phase.{Phase}
+use Rattle.bbm_alike.specs.rules.declared.phase.Phase.TheVariants.{Clean, Live}
+use Rattle.bbm_alike.specs.rules.Broken.{broken, keeps}
+use Rattle.bbm_alike.specs.rules.Claims.{Patterns}
+use Rattle.bbm_alike.specs.rules.Cleansing.{cleansed, half, seen}
+use Rattle.bbm_alike.specs.rules.Covers.{cover_at, note, noted}
+use Rattle.bbm_alike.specs.rules.Held.{ValidWrite, cleansed_everywhere, held, last_valid}
+use Rattle.bbm_alike.specs.rules.Lists.{any, every}
+use Rattle.bbm_alike.specs.rules.Notes.{Noted}
+use Rattle.bbm_alike.specs.rules.Phases.{broken_phase, phase_of}
+use Rattle.bbm_alike.specs.rules.Places.{page_of}
+use Rattle.bbm_alike.specs.rules.Prelude.{Barrier, Kind, Heading, Event, Write, Dsb}
+use Rattle.bbm_alike.specs.rules.Reach.{unanswered}
+use Rattle.bbm_alike.specs.rules.Tags.{itself}
+use Rattle.bbm_alike.specs.rules.Tree.{Node, held_at, node_of, tree}
+use Rattle.bbm_alike.specs.rules.Values.{value_of, written_places}
+use Rattle.bbm_alike.specs.histories.Tree.{HeldChange}
+use Rattle.bbm_alike.specs.histories.TreeSteps.{holds_above, node_where}
+use Rattle.bbm_alike.specs.Alike.{SamePatterns}
+use Rattle.bbm_idle.specs.Idle.{answers_needed, is_idle, keeps_phases}
+use Rattle.bbm_idle.specs.Known.{Known}
+use Rattle.bbm_idle.specs.Same.{same_phase}
+use Rattle.bbm_idle.proofs.Needed.{half_stays}
+use Rattle.bbm_idle.proofs.Phases.{SameMarks, never_clean, same_marks}
+use Rattle.bbm_idle.proofs.Since.{Untouched, Unwritten, untouched, unwrote}
+use Rattle.bbm_idle.proofs.Waits.{changeless, of_dsb}
+use Rattle.bbm_idle.proofs.Written.{written}
+
+every_in : {A : Type 0} (test : A → Bool) (xs : List A) (x : A) → every test xs ≡ true → In xs x → test x ≡ true
+every_in test [] x e i = absurd i
+every_in test (y ∷ xs) x e (inl same) = ap test (sym same) ∙ (and_parts (test y) (every test xs) e).0
+every_in test (y ∷ xs) x e (inr there) = every_in test xs x (and_parts (test y) (every test xs) e).1 there
+
+module _ (heading : Heading) where
+  -- what holds a value has a last valid write
+  pub held_last : (kind : Kind) (level place : ℕ) (h : List Noted) (value : ℕ) → held heading Patterns kind level place h ≡ Some value
+      → (w : ValidWrite) × (last_valid kind level place h ≡ Some w) × (w.value ≡ value)
+  held_last kind level place h value e = by (last_valid kind level place h) refl e
+    where
+      go : (w : ValidWrite) (c : Bool) → cond c None (Some w.value) ≡ Some value → w.value ≡ value
+      go w true e = cc
+      go w false e = cc
+
+      by : (o : Option ValidWrite) → last_valid kind level place h ≡ o
+          → option_and_then (λ w. cond (cleansed_everywhere heading Patterns place w.since) None (Some w.value)) o ≡ Some value
+          → (w : ValidWrite) × (last_valid kind level place h ≡ Some w) × (w.value ≡ value)
+      by None o e = cc
+      by (Some w) o e = (w, o, go w (cleansed_everywhere heading Patterns place w.since) e)
+
+  module _ (k : Known heading) (h : List Event) (pe : ℕ) (dsb : Barrier)
+      (kept : keeps heading Patterns (Dsb pe dsb ∷ h) ≡ true) (idle : is_idle heading h (Dsb pe dsb) ≡ true) where
+    abbrev before : List Noted
+    before = noted heading Patterns h
+
+    abbrev after : List Noted
+    after = noted heading Patterns (Dsb pe dsb ∷ h)
+
+    abbrev item : Noted
+    item = note heading Patterns (noted heading Patterns h) (Dsb pe dsb)
+
+    kept_before : keeps heading Patterns h ≡ true
+    kept_before = (and_parts (keeps heading Patterns h) (is_none (broken heading Patterns h (Dsb pe dsb))) kept).0
+
+    idle_parts : (keeps_phases heading h (Dsb pe dsb) ≡ true) × (not (any (answers_needed heading dsb) (unanswered itself pe h)) ≡ true)
+    unfolding is_idle
+    idle_parts = and_parts (keeps_phases heading h (Dsb pe dsb)) (not (any (answers_needed heading dsb) (unanswered itself pe h))) idle
+
+    same_phases : (place p : ℕ) → In (written_places h) place → p < heading.pes
+        → same_phase (phase_of heading Patterns (Dsb pe dsb ∷ h) place p) (phase_of heading Patterns h place p) ≡ true
+    same_phases place p there less =
+        every_at heading.pes
+        (λ p. same_phase (phase_of heading Patterns (Dsb pe dsb ∷ h) place p) (phase_of heading Patterns h place p))
+        (every_in (λ place. every_pe heading.pes
+        (λ p. same_phase (phase_of heading Patterns (Dsb pe dsb ∷ h) place p) (phase_of heading Patterns h place p)))
+        (written_places h) place idle_parts.0 there) p less
+
+    in_written : (kind : Kind) (level place : ℕ) (w : ValidWrite) → last_valid kind level place before ≡ Some w → In (written_places h) place
+    in_written kind level place w last =
+        subst (λ (es : List Event). In (written_places es) place) (k.events_noted h) (written kind level place before w last)
+
+    -- the node of a place of a tree
+    node_before : (n : Node) (place : ℕ) → Contains (tree heading Patterns before) n → page_of place ≡ n.page
+        → node_of heading Patterns before (page_of place) ≡ Some n
+    node_before n place t inside = ap (node_of heading Patterns before) inside ∙ k.first_node h kept_before n t
+
+    -- ---- what is held
+
+    -- a place that holds nothing any more is clean
+    now_clean : (n : Node) (place p : ℕ) → node_of heading Patterns before (page_of place) ≡ Some n
+        → held_at heading Patterns after n place ≡ None → phase_of heading Patterns (Dsb pe dsb ∷ h) place p ≡ Clean
+    now_clean n place p node none = by (holds_above heading Patterns after n) refl
+      where
+        then : node_of heading Patterns after (page_of place) ≡ node_where (holds_above heading Patterns after) (Some n)
+        then = k.node_dsb h pe dsb kept (page_of place) ∙ ap (node_where (holds_above heading Patterns after)) node
+
+        by : (c : Bool) → holds_above heading Patterns after n ≡ c → phase_of heading Patterns (Dsb pe dsb ∷ h) place p ≡ Clean
+        by true c = k.phase_empty (Dsb pe dsb ∷ h) place p n (then ∙ ap (λ (x : Bool). cond x (Some n) None) c) none
+        by false c = k.phase_outside (Dsb pe dsb ∷ h) place p (then ∙ ap (λ (x : Bool). cond x (Some n) None) c)
+
+    not_ended : (n : Node) (place value : ℕ) → Contains (tree heading Patterns before) n → page_of place ≡ n.page
+        → held_at heading Patterns before n place ≡ Some value → held_at heading Patterns after n place ≡ None → ⊥
+    not_ended n place value t inside holds none =
+        let node = node_before n place t inside in
+        let last = held_last n.kind n.level place before value holds in
+        never_clean (is_valid n.kind n.level (value_of h place)) (cleansed heading Patterns place 0 last.0.since)
+        (half heading place 0 last.0.since) (seen heading place 0 last.0.since)
+        (subst (λ (x : Phase). same_phase Clean x ≡ true) (k.phase_holding h place 0 value n last.0 node holds last.1)
+        (subst (λ (x : Phase). same_phase x (phase_of heading Patterns h place 0) ≡ true) (now_clean n place 0 node none)
+        (same_phases place 0 (in_written n.kind n.level place last.0 last.1) k.proper.some_pe)))
+
+    pub same_held : (n : Node) (place : ℕ) → Contains (tree heading Patterns before) n → page_of place ≡ n.page
+        → held_at heading Patterns after n place ≡ held_at heading Patterns before n place
+    same_held n place t inside = by (k.held_changes h (Dsb pe dsb) k.proper.some_pe kept n place t inside)
+      where
+        ends : (o : Option ℕ) → held_at heading Patterns before n place ≡ o → held_at heading Patterns after n place ≡ None
+            → held_at heading Patterns after n place ≡ held_at heading Patterns before n place
+        ends None o none = none ∙ sym o
+        ends (Some value) o none = absurd (not_ended n place value t inside o none)
+
+        by : HeldChange n.kind n.level place (Dsb pe dsb) (held_at heading Patterns before n place) (held_at heading Patterns after n place)
+            → held_at heading Patterns after n place ≡ held_at heading Patterns before n place
+        by (inl same) = same
+        by (inr (inl w)) = let apart : Dsb pe dsb ≡ Write w.0 place w.1 = w.2 in cc
+        by (inr (inr d)) = ends (held_at heading Patterns before n place) refl d.3
+
+    pub same_tree : tree heading Patterns after ≡ tree heading Patterns before
+    same_tree = sym (k.same_tree before after refl refl (λ n place t inside. sym (same_held n place t inside)))
+
+    -- ---- patterns
+
+    module _ (n : Node) (place value p : ℕ) (w : ValidWrite) (t : Contains (tree heading Patterns before) n) (inside : page_of place ≡ n.page)
+        (holds : held_at heading Patterns before n place ≡ Some value) (last : last_valid n.kind n.level place before ≡ Some w)
+        (less : p < heading.pes) where
+      last_after : last_valid n.kind n.level place after ≡ Some (record { value = w.value; since = item ∷ w.since })
+      last_after = ap (option_and_then (λ (v : ValidWrite). Some (record v { since = item ∷ v.since }))) last
+
+      node_after : node_of heading Patterns after (page_of place) ≡ Some n
+      node_after =
+          ap (node_of heading Patterns after) inside
+          ∙ k.first_node (Dsb pe dsb ∷ h) kept n (subst (λ (ns : List Node). Contains ns n) (sym same_tree) t)
+
+      phases_alike : same_phase (cond (is_valid n.kind n.level (value_of h place)) Live (broken_phase heading Patterns place p (item ∷ w.since)))
+          (cond (is_valid n.kind n.level (value_of h place)) Live (broken_phase heading Patterns place p w.since)) ≡ true
+      phases_alike =
+          subst (λ (x : Phase). same_phase (cond (is_valid n.kind n.level (value_of h place)) Live (broken_phase heading Patterns place p (item ∷ w.since))) x ≡ true)
+          (k.phase_holding h place p value n w (node_before n place t inside) holds last)
+          (subst (λ (x : Phase). same_phase x (phase_of heading Patterns h place p) ≡ true)
+          (k.phase_holding (Dsb pe dsb ∷ h) place p value n (record { value = w.value; since = item ∷ w.since }) node_after
+          (same_held n place t inside ∙ holds) last_after)
+          (same_phases place p (in_written n.kind n.level place w last) less))
+
+      -- where the present value is valid, nobody wrote the place since
+      live : is_valid n.kind n.level (value_of h place) ≡ true → Unwritten heading k place p w.since
+      live valid =
+          let v = k.last_live n.kind n.level place before
+          (subst (λ (es : List Event). is_valid n.kind n.level (value_of es place) ≡ true) (sym (k.events_noted h)) valid) in
+          let same : Some v.0 ≡ Some w = sym v.1 ∙ last in
+          let one : v.0 ≡ w = cc in
+          subst (λ (x : ValidWrite). Unwritten heading k place p x.since) one v.3
+
+      marks : SameMarks heading k place p (item ∷ w.since) w.since
+      marks = by (is_valid n.kind n.level (value_of h place)) refl phases_alike
+        where
+          by : (c : Bool) → is_valid n.kind n.level (value_of h place) ≡ c
+              → same_phase (cond c Live (broken_phase heading Patterns place p (item ∷ w.since))) (cond c Live (broken_phase heading Patterns place p w.since)) ≡ true
+              → SameMarks heading k place p (item ∷ w.since) w.since
+          by true c e =
+              let none = unwrote heading k place p w.since (live c) in
+              let now : Untouched heading k place p (item ∷ w.since) = untouched heading k place p (item ∷ w.since) none in
+              let old : Untouched heading k place p w.since = untouched heading k place p w.since none in
+              record {
+                seen_same = now.unseen ∙ sym old.unseen;
+                half_same = now.unhalf ∙ sym old.unhalf;
+                cleansed_same = now.uncleansed ∙ sym old.uncleansed;
+              }
+          by false c e = same_marks heading k place p (item ∷ w.since) w.since e (λ clean.
+              k.half_step place p item w.since
+              ∙ half_stays heading k h kept_before n place value w (record { in_tree = t; inside = inside; holds = holds; is_last = last })
+              p less pe dsb (not-true (any (answers_needed heading dsb) (unanswered itself pe h)) idle_parts.1))
+
+    pub same_patterns : (n : Node) (place value : ℕ) (w : ValidWrite) → Contains (tree heading Patterns before) n → page_of place ≡ n.page
+        → held_at heading Patterns before n place ≡ Some value → last_valid n.kind n.level place before ≡ Some w
+        → SamePatterns heading place Patterns Patterns (item ∷ w.since) w.since
+    same_patterns n place value w t inside holds last =
+        changeless heading k place item w.since (of_dsb heading k place (cover_at heading Patterns before (Dsb pe dsb)) item.position w.since pe dsb
+        (λ p less. let m = marks n place value p w t inside holds last less in sym (k.seen_step place p item w.since) ∙ m.seen_same)
+        (λ p less. let m = marks n place value p w t inside holds last less in sym (k.half_step place p item w.since) ∙ m.half_same)
+        (λ p less. let m = marks n place value p w t inside holds last less in sym (k.cleansed_step place p item w.since) ∙ m.cleansed_same))

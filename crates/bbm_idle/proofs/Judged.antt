@@ -1,0 +1,205 @@
+-- Histories that are alike judge alike which TLBIs are needed, and which phases an event keeps.
+use Rattle.std.proofs.Common.{◌≡◌, ℕ, zero, suc, ◌<◌, Bool, false, cond, ◌&&◌, ◌||◌, ◌==◌, List, [], ◌∷◌, Option, Some, None, option_and_then, Contains, find, is_none, is_some, map, unwrap_or, refl, sym, ◌∙◌, ap, inl, inr, arith}
+use Rattle.std.specs.Result.{result_ok}
+use Rattle.bbm_lists.specs.Elements.{In}
+use Rattle.bbm_regimes.proofs.Every.{every_same}
+use Rattle.bbm_alike.specs.rules.tlbi_scope.Operations.{scoped_by_vmid}
+use Rattle.bbm_alike.specs.rules.tlbi_scope.declared.entry.Cover.{Cover}
+use Rattle.bbm_alike.specs.rules.tlbi_scope.declared.entry.Cover.TheVariants.{None as NoCover}
+use Rattle.bbm_alike.specs.rules.tlbi_scope.declared.entry.PlaceView.{PlaceView}
+use Rattle.bbm_alike.specs.rules.tlbi_scope.Covers.{cover_of}
+use Rattle.bbm_alike.specs.rules.tlbi_scope.Tags.{takes_whole_tag}
+use Rattle.bbm_alike.specs.rules.descriptor.Descriptor.{desc_of}
+use Rattle.bbm_alike.specs.rules.regimes.EveryPe.{every_pe}
+use Rattle.bbm_alike.specs.rules.declared.phase.Phase.{Phase}
+use Rattle.bbm_alike.specs.rules.Claims.{Patterns}
+use Rattle.bbm_alike.specs.rules.Cleansing.{cleansed, half, seen}
+use Rattle.bbm_alike.specs.rules.Covers.{cover_at, is_global, noted, view_at}
+use Rattle.bbm_alike.specs.rules.Held.{ValidWrite, last_valid}
+use Rattle.bbm_alike.specs.rules.Lists.{any, below, every, one_number}
+use Rattle.bbm_alike.specs.rules.Notes.{Noted, events_of}
+use Rattle.bbm_alike.specs.rules.Phases.{phase_of}
+use Rattle.bbm_alike.specs.rules.Places.{page_of}
+use Rattle.bbm_alike.specs.rules.Prelude.{Heading, Event, Tlbi, Tag, World, Hyp, Kernel, VttbrEl2, Scope, scope_of}
+use Rattle.bbm_alike.specs.rules.Reach.{reaches}
+use Rattle.bbm_alike.specs.rules.Registers.{named_scope, tag_number, vmid_in, vmid_of}
+use Rattle.bbm_alike.specs.rules.Roots.{Declared, roots_of}
+use Rattle.bbm_alike.specs.rules.Tags.{distinct, ever_read, holds_at, tag_set, tags_of, takes_tag}
+use Rattle.bbm_alike.specs.rules.Tree.{Node, held_at, is_childless, next_of, node_of, region_of, tree}
+use Rattle.bbm_alike.specs.rules.Values.{written_places}
+use Rattle.bbm_alike.specs.Alike.{Alike, SamePatterns}
+use Rattle.bbm_idle.specs.Idle.{adds, adds_at, is_needed, is_needed_at, keeps_phases, takes_of}
+use Rattle.bbm_idle.specs.Known.{Known}
+use Rattle.bbm_idle.specs.Same.{same_phase}
+use Rattle.bbm_idle.proofs.DsbBase.{held_last}
+
+-- ---- tests that say the same
+
+pub any_same : {A : Type 0} (f g : A → Bool) (xs : List A) → ((x : A) → In xs x → f x ≡ g x) → any f xs ≡ any g xs
+any_same f g [] same = refl
+any_same f g (x ∷ xs) same =
+    ap (λ (b : Bool). b || any f xs) (same x (inl refl))
+    ∙ ap (λ (b : Bool). g x || b) (any_same f g xs (λ y there. same y (inr there)))
+
+all_same : {A : Type 0} (f g : A → Bool) (xs : List A) → ((x : A) → f x ≡ g x) → every f xs ≡ every g xs
+all_same f g [] same = refl
+all_same f g (x ∷ xs) same =
+    ap (λ (b : Bool). b && every f xs) (same x) ∙ ap (λ (b : Bool). g x && b) (all_same f g xs same)
+
+below_in : (n p : ℕ) → In (below n) p → p < n
+below_in zero p i = absurd i
+below_in (suc n) p (inl same) = omega (arith, same)
+below_in (suc n) p (inr there) = let less : p < n = below_in n p there in omega arith
+
+-- a TLBI covers no place that holds nothing
+uncovered : (heading : Heading) (ns : List Noted) (e : Event) (place : ℕ) (n : Node) → node_of heading Patterns ns (page_of place) ≡ Some n
+    → held_at heading Patterns ns n place ≡ None → cover_at heading Patterns ns e place ≡ NoCover
+uncovered heading ns (Tlbi pe op xt) place n node none =
+    ap (λ (v : Option PlaceView). unwrap_or (option_and_then (λ s. option_and_then (λ x. Some (cover_of s (vmid_of heading (events_of ns) pe) x)) v)
+    (named_scope heading (events_of ns) pe op xt)) NoCover) blind
+    ∙ by (named_scope heading (events_of ns) pe op xt)
+  where
+    look : Node → ℕ → Option PlaceView
+    look m value = Some (record {
+      kind = m.kind;
+      region = region_of m place;
+      level = m.level;
+      table = is_some (next_of m.kind m.level value);
+      global = is_global (desc_of m.kind m.level value);
+      childless = is_childless heading Patterns ns m value;
+      tags = tag_set (tags_of heading Patterns m.root (events_of ns));
+    })
+
+    blind : view_at heading Patterns ns place ≡ None
+    blind =
+        ap (λ (o : Option Node). option_and_then (λ m. option_and_then (look m) (held_at heading Patterns ns m place)) o) node
+        ∙ ap (λ (o : Option ℕ). option_and_then (look n) o) none
+
+    by : (o : Option Scope) → unwrap_or (option_and_then (λ s. option_and_then (λ x. Some (cover_of s (vmid_of heading (events_of ns) pe) x)) None) o) NoCover ≡ NoCover
+    by None = refl
+    by (Some s) = refl
+uncovered heading ns e place n node none = refl
+
+module _ (heading : Heading) (h h' : List Event) (a : Alike heading Patterns Patterns h h') where
+  abbrev here : List Noted
+  here = noted heading Patterns h
+
+  abbrev there : List Noted
+  there = noted heading Patterns h'
+
+  -- ---- tags
+
+  same_vmid : (p : ℕ) → vmid_of heading h p ≡ vmid_of heading h' p
+  same_vmid p = by heading.world
+    where
+      by : (world : World) → vmid_in world h p ≡ vmid_in world h' p
+      by (Hyp world) = ap (λ (vs : List ℕ). one_number (map tag_number vs)) (a.registers p VttbrEl2)
+      by (Kernel world) = refl
+
+  same_takes : (e : Event) (tag : Tag) → takes_tag heading e h tag ≡ takes_tag heading e h' tag
+  same_takes (Tlbi pe op xt) tag =
+      ap (λ (v : Option ℕ). elim (cond (scoped_by_vmid op && is_none v) None (result_ok (scope_of op xt))) as (λ o. Bool) [
+        | None ↦ false
+        | Some scope ↦ takes_whole_tag scope v tag
+      ]) (same_vmid pe)
+  same_takes e tag = refl
+
+  same_takes_of : (e : Event) (p : ℕ) → p < heading.pes → (r : Declared) → takes_of heading h e p r ≡ takes_of heading h' e p r
+  same_takes_of e p less r =
+      ap (λ (gs : List Tag). any (λ tag. takes_tag heading e h tag && holds_at heading Patterns p r.page tag h) gs) (a.tags r.page)
+      ∙ any_same (λ tag. takes_tag heading e h tag && holds_at heading Patterns p r.page tag h)
+      (λ tag. takes_tag heading e h' tag && holds_at heading Patterns p r.page tag h') (distinct (ever_read heading r.page h'))
+      (λ tag i. ap (λ (b : Bool). b && holds_at heading Patterns p r.page tag h) (same_takes e tag)
+      ∙ ap (λ (b : Bool). takes_tag heading e h' tag && b) (a.holds p r.page tag less))
+
+  -- ---- places
+
+  module _ (k : Known heading) (e : Event) (p : ℕ) (less : p < heading.pes) (place : ℕ) where
+    abbrev adds_by : List Noted → Option ValidWrite → Bool
+    adds_by ns o = unwrap_or (option_and_then (λ w. Some (adds (cover_at heading Patterns ns e place) (seen heading place p w.since)
+        (half heading place p w.since) (cleansed heading Patterns place p w.since))) o) false
+
+    -- where it covers nothing, it adds nothing
+    adds_none : (ns : List Noted) (o : Option ValidWrite) → cover_at heading Patterns ns e place ≡ NoCover → adds_by ns o ≡ false
+    adds_none ns None none = refl
+    adds_none ns (Some w) none = ap (λ (x : Cover). adds x (seen heading place p w.since) (half heading place p w.since)
+        (cleansed heading Patterns place p w.since)) none
+
+    same_node : node_of heading Patterns here (page_of place) ≡ node_of heading Patterns there (page_of place)
+    same_node = ap (λ (ns : List Node). find (λ (n : Node). n.page == page_of place) ns) a.trees
+
+    same_adds : adds_at heading here e p place ≡ adds_at heading there e p place
+    same_adds = by (node_of heading Patterns here (page_of place)) refl
+      where
+        at : (ns : List Noted) (n : Node) → node_of heading Patterns ns (page_of place) ≡ Some n
+            → adds_at heading ns e p place ≡ adds_by ns (last_valid n.kind n.level place ns)
+        at ns n node = ap (λ (o : Option Node). unwrap_or (option_and_then (λ m. option_and_then (λ w. Some (adds (cover_at heading Patterns ns e place)
+            (seen heading place p w.since) (half heading place p w.since) (cleansed heading Patterns place p w.since)))
+            (last_valid m.kind m.level place ns)) o) false) node
+
+        out : (ns : List Noted) → node_of heading Patterns ns (page_of place) ≡ None → adds_at heading ns e p place ≡ false
+        out ns node = ap (λ (o : Option Node). unwrap_or (option_and_then (λ m. option_and_then (λ w. Some (adds (cover_at heading Patterns ns e place)
+            (seen heading place p w.since) (half heading place p w.since) (cleansed heading Patterns place p w.since)))
+            (last_valid m.kind m.level place ns)) o) false) node
+
+        holding : (n : Node) (value : ℕ) → Contains (tree heading Patterns here) n → page_of place ≡ n.page
+            → held_at heading Patterns here n place ≡ Some value
+            → adds_by here (last_valid n.kind n.level place here) ≡ adds_by there (last_valid n.kind n.level place there)
+        holding n value t inside holds =
+            let w = held_last heading n.kind n.level place here value holds in
+            let w' = held_last heading n.kind n.level place there value (sym (a.held n place t inside) ∙ holds) in
+            let s : SamePatterns heading place Patterns Patterns w.0.since w'.0.since
+            = a.patterns n place w.0 w'.0 t inside (ap is_some holds) w.1 w'.1 in
+            ap (adds_by here) w.1
+            ∙ (ap (λ (x : Cover). adds x (seen heading place p w.0.since) (half heading place p w.0.since) (cleansed heading Patterns place p w.0.since))
+            (k.covers h h' e place a)
+            ∙ (ap (λ (x : Bool). adds (cover_at heading Patterns there e place) x (half heading place p w.0.since) (cleansed heading Patterns place p w.0.since))
+            (s.seen_alike p less)
+            ∙ (ap (λ (x : Bool). adds (cover_at heading Patterns there e place) (seen heading place p w'.0.since) x (cleansed heading Patterns place p w.0.since))
+            (s.half_alike p less)
+            ∙ (ap (λ (x : Bool). adds (cover_at heading Patterns there e place) (seen heading place p w'.0.since) (half heading place p w'.0.since) x)
+            (s.cleansed_alike p less)
+            ∙ sym (ap (adds_by there) w'.1)))))
+
+        inside_tree : (n : Node) → node_of heading Patterns here (page_of place) ≡ Some n → (o : Option ℕ) → held_at heading Patterns here n place ≡ o
+            → adds_by here (last_valid n.kind n.level place here) ≡ adds_by there (last_valid n.kind n.level place there)
+        inside_tree n node None o =
+            let none : cover_at heading Patterns here e place ≡ NoCover = uncovered heading here e place n node o in
+            adds_none here (last_valid n.kind n.level place here) none
+            ∙ sym (adds_none there (last_valid n.kind n.level place there) (sym (k.covers h h' e place a) ∙ none))
+        inside_tree n node (Some value) o =
+            let t = k.node_taken here (page_of place) n node in holding n value t.0 (sym t.1) o
+
+        by : (o : Option Node) → node_of heading Patterns here (page_of place) ≡ o → adds_at heading here e p place ≡ adds_at heading there e p place
+        by None node = out here node ∙ sym (out there (sym same_node ∙ node))
+        by (Some n) node = at here n node ∙ (inside_tree n node (held_at heading Patterns here n place) refl ∙ sym (at there n (sym same_node ∙ node)))
+
+  -- ---- which TLBIs are needed
+
+  same_needed_at : Known heading → (e : Event) (p : ℕ) → p < heading.pes
+      → is_needed_at heading h e p ≡ is_needed_at heading h' e p
+  same_needed_at k e p less =
+      ap (λ (b : Bool). reaches heading e p && (b || any (takes_of heading h e p) (roots_of h)))
+      (ap (any (adds_at heading here e p)) a.places
+      ∙ any_same (adds_at heading here e p) (adds_at heading there e p) (written_places h') (λ place i. same_adds k e p less place))
+      ∙ ap (λ (b : Bool). reaches heading e p && (any (adds_at heading there e p) (written_places h') || b))
+      (ap (any (takes_of heading h e p)) a.roots
+      ∙ any_same (takes_of heading h e p) (takes_of heading h' e p) (roots_of h') (λ r i. same_takes_of e p less r))
+
+  pub same_needed : Known heading → (e : Event) → is_needed heading h e ≡ is_needed heading h' e
+  same_needed k e = any_same (is_needed_at heading h e) (is_needed_at heading h' e) (below heading.pes)
+      (λ p i. same_needed_at k e p (below_in heading.pes p i))
+
+  -- ---- which phases an event keeps
+
+  pub same_kept : Known heading → (e : Event) → Alike heading Patterns Patterns (e ∷ h) (e ∷ h')
+      → keeps_phases heading h e ≡ keeps_phases heading h' e
+  same_kept k e on =
+      ap (every (test h)) a.places ∙ all_same (test h) (test h') (written_places h') (λ place.
+      every_same heading.pes (λ p. same_phase (phase_of heading Patterns (e ∷ h) place p) (phase_of heading Patterns h place p))
+      (λ p. same_phase (phase_of heading Patterns (e ∷ h') place p) (phase_of heading Patterns h' place p))
+      (λ p less. ap (λ (x : Phase). same_phase x (phase_of heading Patterns h place p)) (k.phases (e ∷ h) (e ∷ h') place p on less)
+      ∙ ap (λ (x : Phase). same_phase (phase_of heading Patterns (e ∷ h') place p) x) (k.phases h h' place p a less)))
+    where
+      test : List Event → ℕ → Bool
+      test es place = every_pe heading.pes (λ p. same_phase (phase_of heading Patterns (e ∷ es) place p) (phase_of heading Patterns es place p))

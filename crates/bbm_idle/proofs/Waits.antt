@@ -1,0 +1,186 @@
+-- What is seen, half and cleansed, and what waits and still counts, after an event that is idle.
+use Rattle.std.proofs.Common.{◌≡◌, ℕ, ◌<◌, Bool, true, false, cond, not, ◌&&◌, ◌||◌, ◌==◌, List, ◌∷◌, refl, sym, ◌∙◌, ap, true≢false}
+use Rattle.std.proofs.lemmas.Bool.{and_parts, eqb-true, false_from_ne_true, or_parts}
+use Rattle.bbm_alike.specs.rules.barriers.Options.{answers}
+use Rattle.bbm_alike.specs.rules.tlbi_scope.declared.entry.Cover.{Cover}
+use Rattle.bbm_alike.specs.rules.tlbi_scope.declared.entry.Cover.TheVariants.{Half, Second, Full}
+use Rattle.bbm_alike.specs.rules.Prelude.{Barrier, Heading, Event, Dsb, Dmb, Isb, Tlbi, TlbiOp}
+use Rattle.bbm_alike.specs.rules.Claims.{Patterns}
+use Rattle.bbm_alike.specs.rules.Cleansing.{cleansed, flushes, half, same_cover, seen, writes}
+use Rattle.bbm_alike.specs.rules.Notes.{Noted, event_of}
+use Rattle.bbm_alike.specs.rules.Reach.{Issued, reaches}
+use Rattle.bbm_alike.specs.histories.Steps.{answered_by, cleansed_after, full_waits, half_after, half_waits, is_tlbi, second_waits, seen_after, waits_after, wrote}
+use Rattle.bbm_alike.specs.Alike.{SamePatterns}
+use Rattle.bbm_idle.specs.Idle.{adds}
+use Rattle.bbm_idle.specs.Known.{Known}
+use Rattle.bbm_idle.proofs.Since.{waits_answered}
+
+-- ---- a TLBI that adds nothing covers no place in full, half or for the rest, where that counts
+
+no_full : (r : Bool) (c : Cover) (s h d : Bool) → (r ≡ true → adds c s h d ≡ false) → d ≡ false → ((r && same_cover c Full) && s) ≡ false
+no_full false c s h d needless yet = refl
+no_full true Full s h d needless yet = by s d yet (needless refl)
+  where
+    by : (s d : Bool) → d ≡ false → (s && not d) ≡ false → s ≡ false
+    by true true yet e = absurd (true≢false yet)
+    by true false yet e = e
+    by false d yet e = refl
+no_full true c s h d needless yet = refl
+
+no_half : (r : Bool) (c : Cover) (s h d : Bool) → (r ≡ true → adds c s h d ≡ false) → h ≡ false → ((r && same_cover c Half) && s) ≡ false
+no_half false c s h d needless yet = refl
+no_half true Half s h d needless yet = by s h yet (needless refl)
+  where
+    by : (s h : Bool) → h ≡ false → (s && not h) ≡ false → s ≡ false
+    by true true yet e = absurd (true≢false yet)
+    by true false yet e = e
+    by false h yet e = refl
+no_half true c s h d needless yet = refl
+
+no_second : (r : Bool) (c : Cover) (s h d : Bool) → (r ≡ true → adds c s h d ≡ false) → d ≡ false → ((r && same_cover c Second) && h) ≡ false
+no_second false c s h d needless yet = refl
+no_second true Second s h d needless yet = by h d yet (needless refl)
+  where
+    by : (h d : Bool) → d ≡ false → (h && not d) ≡ false → h ≡ false
+    by true true yet e = absurd (true≢false yet)
+    by true false yet e = e
+    by false d yet e = refl
+no_second true c s h d needless yet = refl
+
+-- what doesn't count adds nothing
+dropped : (a t x w : Bool) → x ≡ false → ((a && (t && x)) || w) ≡ w
+dropped a t x w none = ap (λ (y : Bool). (a && (t && y)) || w) none ∙ by a t
+  where
+    by : (a t : Bool) → ((a && (t && false)) || w) ≡ w
+    by true true = refl
+    by true false = refl
+    by false t = refl
+
+-- what a DSB would answer, where it answers nothing
+left_alone : (pe q : ℕ) (b : Bool) (dsb : Barrier) (waiting : ℕ → Bool → Bool) → answered_by dsb (λ c. waiting pe c) ≡ false
+    → cond (pe == q && answers dsb b) false (waiting q b) ≡ waiting q b
+left_alone pe q b dsb waiting none = by (pe == q && answers dsb b) refl
+  where
+    by : (c : Bool) → (pe == q && answers dsb b) ≡ c → cond c false (waiting q b) ≡ waiting q b
+    by true c =
+        let parts = and_parts (pe == q) (answers dsb b) c in
+        sym (false_from_ne_true (waiting q b) (λ w. true≢false (sym (waits_answered dsb (λ x. waiting pe x) b parts.1
+        (ap (λ (x : ℕ). waiting x b) (eqb-true pe q parts.0) ∙ w)) ∙ none)))
+    by false c = refl
+
+-- an event with its notes
+abbrev pub item : Event → (ℕ → Cover) → ℕ → Noted
+item e covers position = record { event = e; covers = covers; position = position }
+
+module _ (heading : Heading) (k : Known heading) (place : ℕ) where
+  -- The event n changes nothing of what came after the last valid write, but for what waits and doesn't count.
+  pub record Changeless (n : Noted) (since : List Noted) : Type 0 where
+    pub no_write : (q : ℕ) → writes q place n.event ≡ false
+    pub seen_same : (p : ℕ) → p < heading.pes → seen_after heading place p n.event since ≡ seen heading place p since
+    pub half_same : (p : ℕ) → p < heading.pes → half_after heading place p n.event since ≡ half heading place p since
+    pub cleansed_same : (p : ℕ) → p < heading.pes → cleansed_after heading place p n.event since
+        ≡ cleansed heading Patterns place p since
+    pub full_same : (p q : ℕ) (b : Bool) → p < heading.pes → cleansed_after heading place p n.event since ≡ false
+        → waits_after event_of q b (flushes heading place p Full (seen heading place p)) n.event n since
+        ≡ full_waits heading place p q b since
+    pub half_open : (p q : ℕ) (b : Bool) → p < heading.pes → half_after heading place p n.event since ≡ false
+        → waits_after event_of q b (flushes heading place p Half (seen heading place p)) n.event n since
+        ≡ half_waits heading place p q b since
+    pub second_same : (p q : ℕ) (b : Bool) → p < heading.pes → cleansed_after heading place p n.event since ≡ false
+        → waits_after event_of q b (flushes heading place p Second (half heading place p)) n.event n since
+        ≡ second_waits heading place p q b since
+
+  pub changeless : (n : Noted) (since : List Noted) → Changeless n since
+      → SamePatterns heading place Patterns Patterns (n ∷ since) since
+  changeless n since c = record {
+    writers = λ p q. ap (λ (x : Bool). x || wrote_before p q) (c.no_write q);
+    seen_alike = λ p less. k.seen_step place p n since ∙ c.seen_same p less;
+    half_alike = λ p less. k.half_step place p n since ∙ c.half_same p less;
+    cleansed_alike = λ p less. k.cleansed_step place p n since ∙ c.cleansed_same p less;
+    full_wait = λ p q b less yet. k.waits_step q b (flushes heading place p Full (seen heading place p)) n since
+        ∙ c.full_same p q b less (sym (k.cleansed_step place p n since) ∙ yet);
+    half_wait = λ p q b less yet. k.waits_step q b (flushes heading place p Half (seen heading place p)) n since
+        ∙ c.half_open p q b less (sym (k.half_step place p n since) ∙ yet);
+    second_wait = λ p q b less yet. k.waits_step q b (flushes heading place p Second (half heading place p)) n since
+        ∙ c.second_same p q b less (sym (k.cleansed_step place p n since) ∙ yet);
+  }
+    where
+      wrote_before : ℕ → ℕ → Bool
+      wrote_before p q = wrote heading place p q since
+
+  module _ (covers : ℕ → Cover) (position : ℕ) (since : List Noted) where
+    pub of_dmb : (pe : ℕ) (dsb : Barrier) → Changeless (item (Dmb pe dsb) covers position) since
+    of_dmb pe dsb = record {
+      no_write = λ q. refl;
+      seen_same = λ p less. refl;
+      half_same = λ p less. refl;
+      cleansed_same = λ p less. refl;
+      full_same = λ p q b less yet. refl;
+      half_open = λ p q b less yet. refl;
+      second_same = λ p q b less yet. refl;
+    }
+
+    pub of_isb : (pe : ℕ) → Changeless (item (Isb pe) covers position) since
+    of_isb pe = record {
+      no_write = λ q. refl;
+      seen_same = λ p less. refl;
+      half_same = λ p less. refl;
+      cleansed_same = λ p less. refl;
+      full_same = λ p q b less yet. refl;
+      half_open = λ p q b less yet. refl;
+      second_same = λ p q b less yet. refl;
+    }
+
+    -- a TLBI that adds nothing at any PE that it reaches
+    pub of_tlbi : (pe : ℕ) (op : TlbiOp) (xt : ℕ) → ((p : ℕ) → p < heading.pes → reaches heading (Tlbi pe op xt) p ≡ true
+        → adds (covers place) (seen heading place p since) (half heading place p since) (cleansed heading Patterns place p since) ≡ false)
+        → Changeless (item (Tlbi pe op xt) covers position) since
+    of_tlbi pe op xt needless = record {
+      no_write = λ q. refl;
+      seen_same = λ p less. refl;
+      half_same = λ p less. refl;
+      cleansed_same = λ p less. refl;
+      full_same = λ p q b less yet. dropped (pe == q) (is_tlbi b e) (flushes heading place p Full (seen heading place p) i)
+          (full_waits heading place p q b since)
+          (no_full (reaches heading e p) (covers place) (seen heading place p since) (half heading place p since)
+          (cleansed heading Patterns place p since) (needless p less) yet);
+      half_open = λ p q b less yet. dropped (pe == q) (is_tlbi b e) (flushes heading place p Half (seen heading place p) i)
+          (half_waits heading place p q b since)
+          (no_half (reaches heading e p) (covers place) (seen heading place p since) (half heading place p since)
+          (cleansed heading Patterns place p since) (needless p less) yet);
+      second_same = λ p q b less yet. dropped (pe == q) (is_tlbi b e) (flushes heading place p Second (half heading place p) i)
+          (second_waits heading place p q b since)
+          (no_second (reaches heading e p) (covers place) (seen heading place p since) (half heading place p since)
+          (cleansed heading Patterns place p since) (needless p less) yet);
+    }
+      where
+        e : Event
+        e = Tlbi pe op xt
+
+        i : Issued Noted
+        i = record { tlbi = item (Tlbi pe op xt) covers position; before = since }
+
+    -- a DSB after which the same is seen, half and cleansed
+    pub of_dsb : (pe : ℕ) (dsb : Barrier)
+        → ((p : ℕ) → p < heading.pes → seen_after heading place p (Dsb pe dsb) since ≡ seen heading place p since)
+        → ((p : ℕ) → p < heading.pes → half_after heading place p (Dsb pe dsb) since ≡ half heading place p since)
+        → ((p : ℕ) → p < heading.pes → cleansed_after heading place p (Dsb pe dsb) since ≡ cleansed heading Patterns place p since)
+        → Changeless (item (Dsb pe dsb) covers position) since
+    of_dsb pe dsb seen_same half_same cleansed_same = record {
+      no_write = λ q. refl;
+      seen_same = seen_same;
+      half_same = half_same;
+      cleansed_same = cleansed_same;
+      full_same = λ p q b less yet. left_alone pe q b dsb (λ x c. full_waits heading place p x c since)
+          (or_parts (full p) (second p) (or_parts (full p || second p) (cleansed heading Patterns place p since) yet).0).0;
+      half_open = λ p q b less yet. left_alone pe q b dsb (λ x c. half_waits heading place p x c since)
+          (or_parts (answered_by dsb (λ c. half_waits heading place p pe c since)) (half heading place p since) yet).0;
+      second_same = λ p q b less yet. left_alone pe q b dsb (λ x c. second_waits heading place p x c since)
+          (or_parts (full p) (second p) (or_parts (full p || second p) (cleansed heading Patterns place p since) yet).0).1;
+    }
+      where
+        full : ℕ → Bool
+        full p = answered_by dsb (λ c. full_waits heading place p pe c since)
+
+        second : ℕ → Bool
+        second p = answered_by dsb (λ c. second_waits heading place p pe c since)

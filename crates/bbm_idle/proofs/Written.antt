@@ -1,0 +1,57 @@
+-- A place with a last valid write was written.
+use Rattle.std.proofs.Common.{◌≡◌, ℕ, Bool, true, false, cond, ◌==◌, ◌&&◌, List, [], ◌∷◌, Option, Some, None, refl, ap, subst, inl, inr}
+use Rattle.std.proofs.lemmas.Bool.{and_parts, eqb-true}
+use Rattle.bbm_lists.specs.Elements.{In}
+use Rattle.bbm_lists.proofs.Elements.{any_found}
+use Rattle.bbm_alike.specs.rules.descriptor.Descriptor.{is_valid}
+use Rattle.bbm_alike.specs.rules.Prelude.{Kind, Event, Init, Write}
+use Rattle.bbm_alike.specs.rules.Held.{ValidWrite, last_valid, last_valid_after, later}
+use Rattle.bbm_alike.specs.rules.Lists.{among, with_number}
+use Rattle.bbm_alike.specs.rules.Notes.{Noted, events_of}
+use Rattle.bbm_alike.specs.rules.Places.{page_of}
+use Rattle.bbm_alike.specs.rules.Values.{written_places}
+
+in_with : (n : ℕ) (ms : List ℕ) → In (with_number n ms) n
+in_with n ms = by (among n ms) refl
+  where
+    by : (c : Bool) → among n ms ≡ c → In (cond c ms (n ∷ ms)) n
+    by true c = let f = any_found (λ m. m == n) ms c in subst (λ (x : ℕ). In ms x) (eqb-true f.0 n f.2) f.1
+    by false c = inl refl
+
+with_keeps : (n : ℕ) (ms : List ℕ) (m : ℕ) → In ms m → In (with_number n ms) m
+with_keeps n ms m there = by (among n ms)
+  where
+    by : (c : Bool) → In (cond c ms (n ∷ ms)) m
+    by true = there
+    by false = inr there
+
+pub was_some : (n : Noted) (o : Option ValidWrite) (w : ValidWrite) → later n o ≡ Some w
+    → (v : ValidWrite) × (o ≡ Some v) × (v.value ≡ w.value) × (n ∷ v.since ≡ w.since)
+was_some n None w e = cc
+was_some n (Some v) w e =
+    let same : record v { since = n ∷ v.since } ≡ w = cc in
+    (v, refl, ap (λ (x : ValidWrite). x.value) same, ap (λ (x : ValidWrite). x.since) same)
+
+pub written : (kind : Kind) (level place : ℕ) (h : List Noted) (w : ValidWrite) → last_valid kind level place h ≡ Some w
+    → In (written_places (events_of h)) place
+written kind level place [] w e = cc
+written kind level place (n ∷ h) w e = by n.event (λ k. let v = was_some n (last_valid kind level place h) w k in
+    written kind level place h v.0 v.1) e
+  where
+    by : (x : Event) → (later n (last_valid kind level place h) ≡ Some w → In (written_places (events_of h)) place)
+        → last_valid_after kind level place x n (last_valid kind level place h) ≡ Some w
+        → In (written_places (x ∷ events_of h)) place
+    by (Write pe at value) older k = go (at == place && is_valid kind level value) refl k
+      where
+        go : (c : Bool) → (at == place && is_valid kind level value) ≡ c
+            → cond c (Some (record { value = value; since = [] })) (later n (last_valid kind level place h)) ≡ Some w
+            → In (with_number at (written_places (events_of h))) place
+        go true c k = subst (λ (x : ℕ). In (with_number at (written_places (events_of h))) x)
+            (eqb-true at place (and_parts (at == place) (is_valid kind level value) c).0) (in_with at (written_places (events_of h)))
+        go false c k = with_keeps at (written_places (events_of h)) place (older k)
+    by (Init pe page) older k = go (page == page_of place) k
+      where
+        go : (c : Bool) → cond c None (later n (last_valid kind level place h)) ≡ Some w → In (written_places (events_of h)) place
+        go true k = cc
+        go false k = older k
+    by x older k = older k
