@@ -1,5 +1,5 @@
--- What a place of a tree holds after an event, and its patterns, in histories that are alike: where its page was in the
--- tree before.
+-- What a place of a tree holds after an event, and its patterns, in histories that are alike: where its page was in a
+-- tree before and is so still.
 use Rattle.std.proofs.Common.{◌≡◌, ℕ, ◌<◌, ◌&&◌, Bool, true, false, cond, ◌==◌, List, [], ◌∷◌, Option, Some, None, is_some, option_and_then, Contains, refl, sym, ◌∙◌, ap, subst, true≢false}
 use Rattle.bbm_regimes.proofs.Every.{every_same, every_wider}
 use Rattle.bbm_histories.specs.descriptor.Descriptor.{is_valid}
@@ -73,7 +73,8 @@ module _ (heading : Heading) (k : Known heading) (one other : Trust) (h h' : Lis
   marks' = noted heading other h'
 
   module _ (e : Event) (t : TakesAlike heading one other h h' e) (n : Node) (place : ℕ)
-      (there : Contains (tree heading one marks) n) (inside : page_of place ≡ n.page) where
+      (there : Contains (tree heading one marks) n) (stays : Contains (tree heading one (noted heading one (e ∷ h))) n)
+      (inside : page_of place ≡ n.page) where
     abbrev x : Noted
     x = note heading one marks e
 
@@ -96,7 +97,7 @@ module _ (heading : Heading) (k : Known heading) (one other : Trust) (h h' : Lis
             ap (λ (c : Bool). cond c None (Some w.value))
             (every_same heading.pes (λ p. cleansed heading one place p (x ∷ w.since))
             (λ p. cleansed heading other place p (x' ∷ w'.since))
-            (λ p below. t.cleanses n place p w w' there inside (ap is_some holds) last last' below))
+            (λ p below. t.cleanses n place p w w' there stays inside (ap is_some holds) last last' below))
             ∙ ap (λ (v : ℕ). cond (cleansed_everywhere heading other place (x' ∷ w'.since)) None (Some v)) (is ∙ sym is')
 
         by : (o : Option ℕ) → held_at heading one marks n place ≡ o
@@ -143,7 +144,7 @@ module _ (heading : Heading) (k : Known heading) (one other : Trust) (h h' : Lis
         (a.patterns n place u.0 u'.0 there inside some u.1 u'.1) e (cover_at heading one marks e)
         (cover_at heading other marks' e) x.position x'.position
         (cover_alike heading k one other h h' a e place)
-        (λ p below. t.cleanses n place p u.0 u'.0 there inside some u.1 u'.1 below)))
+        (λ p below. t.cleanses n place p u.0 u'.0 there stays inside some u.1 u'.1 below)))
 
     at_write : (value : ℕ) (w w' : ValidWrite) → Some (record { value = value; since = [] }) ≡ Some w
         → Some (record { value = value; since = [] }) ≡ Some w' → Patterns_at w w'

@@ -58,7 +58,7 @@ module _ (heading : Heading) (k : Known heading) where
 
     pub takes_patterns : (e : Event) → TakesAlike heading Patterns Patterns h h' e
     takes_patterns e = record {
-      cleanses = λ n place p w w' there inside some last last' below.
+      cleanses = λ n place p w w' there stays inside some last last' below.
           k.cleansed_patterns place p (note heading Patterns (noted heading Patterns h) e) w.since
           ∙ (cleansed_by place p below w.since w'.since (a.patterns n place w w' there inside some last last') e
           ∙ sym (k.cleansed_patterns place p (note heading Patterns (noted heading Patterns h') e) w'.since));
@@ -80,7 +80,7 @@ module _ (heading : Heading) (k : Known heading) where
 
     pub takes_nothing : (e : Event) → ((q : ℕ) (dsb : Barrier) → e ≡ Dsb q dsb → ⊥) → TakesAlike heading one other h h' e
     takes_nothing e no_dsb = record {
-      cleanses = λ n place p w w' there inside some last last' below.
+      cleanses = λ n place p w w' there stays inside some last last' below.
           let s = a.patterns n place w w' there inside some last last' in
           k.cleansed_step one place p (note heading one (noted heading one h) e) w.since
           ∙ (cleansed_still one place p (note heading one (noted heading one h) e).position e w.since no_dsb

@@ -131,7 +131,7 @@ module _ (heading : Heading) (k : Known heading) (one other : Trust) (h h' : Lis
         → held_at heading one now n place ≡ held_at heading other now' n place
     held_step n place there inside =
         elim (k.gained one h e unbroken n there) [
-          | inl old ↦ held_old heading k one other h h' pes a e t n place old inside
+          | inl old ↦ held_old heading k one other h h' pes a e t n place old there inside
           | inr made ↦ held_new n place made.0 inside
         ]
 
@@ -140,7 +140,7 @@ module _ (heading : Heading) (k : Known heading) (one other : Trust) (h h' : Lis
         → last_valid n.kind n.level place now' ≡ Some w' → SamePatterns heading place one other w.since w'.since
     patterns_step n place w w' there inside some last last' =
         elim (k.gained one h e unbroken n there) [
-          | inl old ↦ patterns_old heading k one other h h' pes a e t n place old inside w w' some last last'
+          | inl old ↦ patterns_old heading k one other h h' pes a e t n place old there inside w w' some last last'
           | inr made ↦ patterns_new n place made.0 inside w w' some last last'
         ]
 

@@ -1,6 +1,8 @@
 -- What the crates below prove, as one record, so that each proof here takes it as one hypothesis.
-use Rattle.std.specs.Prelude.{◌≡◌, ◌↔◌, ◌⊎◌, ℕ, suc, ◌<◌, Bool, true, not, ◌&&◌, List, ◌∷◌, ◌++◌, Some, Contains}
+use Rattle.std.specs.Prelude.{◌≡◌, ◌↔◌, ◌⊎◌, ℕ, suc, ◌<◌, Bool, true, not, ◌&&◌, List, ◌∷◌, ◌++◌, Some, None, Contains}
+use Rattle.std.specs.Prelude.{if◌then◌else◌}
 use Rattle.bbm_histories.specs.descriptor.Descriptor.{is_valid}
+use Rattle.bbm_histories.specs.rules.declared.phase.Phase.TheVariants.{Clean, Live}
 use Rattle.bbm_histories.specs.rules.Prelude.{Barrier, Kind, Tag, Heading, Event, Write, Dsb}
 use Rattle.bbm_histories.specs.rules.Broken.{keeps}
 use Rattle.bbm_histories.specs.rules.Claims.{Trust, same_tag}
@@ -11,6 +13,7 @@ use Rattle.bbm_histories.specs.rules.Held.{ValidWrite, held, last_valid}
 use Rattle.bbm_histories.specs.rules.Notes.{Noted, event_of, events_of}
 use Rattle.bbm_histories.specs.rules.Pages.{is_fresh}
 use Rattle.bbm_histories.specs.rules.PatternSentences.{Cleansed, IsHalf, Seen}
+use Rattle.bbm_histories.specs.rules.Phases.{broken_phase, phase_of}
 use Rattle.bbm_histories.specs.rules.Places.{page_of}
 use Rattle.bbm_histories.specs.rules.Reach.{Issued}
 use Rattle.bbm_histories.specs.rules.Tags.{loses, reads_for_some}
@@ -68,6 +71,17 @@ pub record Known (heading : Heading) : Type 0 where
       → keeps heading trust (e ∷ h) ≡ true → (n : Node) (place : ℕ)
       → Attaches heading trust (noted heading trust h) e n → page_of place ≡ n.page
       → HoldsPresent heading trust (noted heading trust (e ∷ h)) n place
+  -- phases
+  pub phase_outside : (trust : Trust) (h : List Event) (place p : ℕ)
+      → node_of heading trust (noted heading trust h) (page_of place) ≡ None → phase_of heading trust h place p ≡ Clean
+  pub phase_empty : (trust : Trust) (h : List Event) (place p : ℕ) (n : Node)
+      → node_of heading trust (noted heading trust h) (page_of place) ≡ Some n
+      → held_at heading trust (noted heading trust h) n place ≡ None → phase_of heading trust h place p ≡ Clean
+  pub phase_holding : (trust : Trust) (h : List Event) (place p value : ℕ) (n : Node) (w : ValidWrite)
+      → node_of heading trust (noted heading trust h) (page_of place) ≡ Some n
+      → held_at heading trust (noted heading trust h) n place ≡ Some value
+      → last_valid n.kind n.level place (noted heading trust h) ≡ Some w → phase_of heading trust h place p
+      ≡ (if is_valid n.kind n.level (value_of h place) then Live else broken_phase heading trust place p w.since)
   -- tags
   pub tags_equal : (g k : Tag) → (same_tag g k ≡ true) ↔ (g ≡ k)
   pub tag_waits_step : (p : ℕ) (tag : Tag) (q : ℕ) (b : Bool) (e : Event) (h : List Event)

@@ -1,6 +1,5 @@
 pub mod Alike
 pub mod Known
-pub mod PhaseParts
 pub mod SameTags
 pub use Rattle.bbm_histories.specs.events
 pub use Rattle.bbm_histories.specs as histories

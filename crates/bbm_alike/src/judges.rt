@@ -7,21 +7,12 @@ ghost use Rattle.bbm_histories.specs.rules.Broken.{broken, keeps};
 ghost use Rattle.bbm_histories.specs.rules.Claims.{Trust};
 ghost use Rattle.bbm_histories.specs.rules.Phases.{phase_of, restless_of};
 ghost use Rattle.bbm_alike.specs.Alike.{Alike};
-ghost use Rattle.bbm_alike.specs.PhaseParts.{PhaseParts};
 
 use crate::known::known;
-use bbm_histories::law_phase_parts;
-
-/// The laws of phases that the law of alike judges stands on.
-fn phase_parts()
-    ensures { (heading : Heading) → PhaseParts heading }
-{
-    law_phase_parts();
-}
 
 /// After histories that are alike, each read by its trust, every event breaks the same rule, at the same number, or
 /// none; so where both keep the rules or neither does, the same holds of both with the event. Each place has the same
-/// phase at each PE of the header, and as many places are restless. The call does nothing; the law is its contract.
+/// phase at each PE of the header, and as many places are restless. The law is the contract.
 pub fn law_alike_judges()
     ensures rule { (heading : Heading) (one other : Trust) (h h' : List Event) (e : Event) →
         Alike heading one other h h' → broken heading one h e ≡ broken heading other h' e }
@@ -35,5 +26,4 @@ pub fn law_alike_judges()
         Alike heading one other h h' → restless_of heading one h ≡ restless_of heading other h' }
 {
     known();
-    phase_parts();
 }

@@ -9,7 +9,7 @@ use bbm_histories::rules::{
 };
 use bbm_histories::{
     law_childless_step, law_claim_steps, law_fresh_content, law_held_step, law_one_position,
-    law_pattern_steps, law_tag_steps,
+    law_pattern_steps, law_phase_parts, law_tag_steps,
 };
 
 /// The laws that the laws here stand on.
@@ -27,6 +27,7 @@ pub(crate) fn known()
     law_notes_keep_the_events();
     law_one_position();
     law_pattern_steps();
+    law_phase_parts();
     law_seen();
     law_tag_steps();
     law_tree();

@@ -10,8 +10,8 @@ returns-clause-keeps c heading one other h h' e a = same_keeps heading (c.known.
 
 pub returns-clause-phase : goal.returns-clause-phase
 returns-clause-phase c heading one other h h' place p a =
-    same_phase heading (c.known.ensures heading) (c.phase_parts.ensures heading) one other h h' a place p
+    same_phase heading (c.known.ensures heading) one other h h' a place p
 
 pub returns-clause-restless : goal.returns-clause-restless
 returns-clause-restless c heading one other h h' a =
-    same_count heading (c.known.ensures heading) (c.phase_parts.ensures heading) one other h h' a
+    same_count heading (c.known.ensures heading) one other h h' a
