@@ -7,7 +7,7 @@ use Rattle.bbm_histories.specs.tlbi_scope.declared.op.TlbiOp.TheVariants.{Alle2,
 use Rattle.bbm_alike.specs.SameTags.{takes_held}
 
 -- two PEs, and walks that start at level 1
-abbrev two_pes : Heading
+abbrev pub two_pes : Heading
 two_pes = record {
   version = 1;
   pes = 2;
@@ -16,7 +16,7 @@ two_pes = record {
 }
 
 -- PE 0 took a root of EL2 and left it.
-abbrev left_a_root : List Event
+abbrev pub left_a_root : List Event
 left_a_root =
     Isb 0 ∷ Msr 0 Ttbr0El2 0 ∷ Msr 0 Ttbr0El2 4096 ∷ Root 0 El2 None 4096 ∷ Init 0 4096 ∷ []
 

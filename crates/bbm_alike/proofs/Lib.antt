@@ -24,3 +24,5 @@ pub mod HeldTags
 pub mod IdleTags
 pub mod CasesSameTags
 pub mod AlikeStep
+pub mod Onward
+pub mod CasesAlike

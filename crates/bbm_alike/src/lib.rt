@@ -16,6 +16,6 @@ pub use covers::law_covers_alike;
 pub use joins::law_alike_joins;
 pub use judges::law_alike_judges;
 pub use same_tags::law_same_tags;
-pub use steps::law_alike_step;
+pub use steps::{law_alike_onward, law_alike_step};
 pub use takes::law_takes_alike;
 pub use trees::law_trees_alike;

@@ -1,10 +1,11 @@
-//! The same event in two histories that are alike.
+//! The same events in two histories that are alike.
 
-ghost use Rattle.std.specs.Prelude.{◌≡◌, ◌<◌, true, List, ◌∷◌};
+ghost use Rattle.std.specs.Prelude.{◌≡◌, ◌<◌, true, List, ◌∷◌, ◌++◌};
 ghost use Rattle.bbm_histories.specs.events.Heading.{Heading};
 ghost use Rattle.bbm_histories.specs.events.declared.event.Event.{Event};
 ghost use Rattle.bbm_histories.specs.rules.Broken.{keeps};
 ghost use Rattle.bbm_histories.specs.rules.Claims.{Trust};
+ghost use Rattle.bbm_histories.specs.rules.Claims.Trust.{Patterns};
 ghost use Rattle.bbm_alike.specs.Alike.{Alike, TakesAlike};
 
 use crate::known::known;
@@ -16,6 +17,17 @@ pub fn law_alike_step()
         keeps heading one (e ∷ h) ≡ true → keeps heading other (e ∷ h') ≡ true →
         Alike heading one other h h' → TakesAlike heading one other h h' e →
         Alike heading one other (e ∷ h) (e ∷ h') }
+{
+    known();
+}
+
+/// Where every pattern is trusted, no later events tell two histories apart that are alike: what keeps the rules after
+/// the one keeps them after the other, and both are alike then. The law is the contract.
+pub fn law_alike_onward()
+    ensures { (heading : Heading) (newer h h' : List Event) → 0 < heading.pes →
+        Alike heading Patterns Patterns h h' → keeps heading Patterns h' ≡ true →
+        keeps heading Patterns (newer ++ h) ≡ true →
+        (keeps heading Patterns (newer ++ h') ≡ true) × Alike heading Patterns Patterns (newer ++ h) (newer ++ h') }
 {
     known();
 }
