@@ -2,7 +2,7 @@
 -- place outside the trees a rule reads the value alone, which is alike at every place; what is held it reads at the node
 -- of a page alone.
 use Rattle.std.specs.Option.{option_map_or}
-use Rattle.std.proofs.Common.{◌≡◌, ℕ, ◌<◌, Bool, ◌&&◌, List, [], ◌∷◌, Option, Some, is_none, refl, sym, ◌∙◌, ap}
+use Rattle.std.proofs.Common.{◌≡◌, ℕ, ◌<◌, Bool, ◌&&◌, List, [], ◌∷◌, Option, Some, is_none, refl, ◌∙◌, ap}
 use Rattle.bbm_histories.specs.rules.declared.rule.Rule.{Rule}
 use Rattle.bbm_histories.specs.rules.declared.rule.Rule.TheVariants.{WrongWorld, NoLock, NullWritten, BreakBeforeMake, LimboMake, NotFresh, RewrittenFresh, BadKind, GlobalUser, PageInUse, NoRoot, TagConflict, RootInUse, UnsyncedVmid, BadOperand, LockBusy, LockNotMine}
 use Rattle.bbm_histories.specs.rules.Broken.{Breach, breaks, broken, first_broken, keeps, rules}
@@ -20,7 +20,7 @@ use Rattle.bbm_histories.specs.rules.Tree.{Node, held_at, node_of}
 use Rattle.bbm_histories.specs.rules.Values.{value_of, written_places}
 use Rattle.bbm_alike.specs.Alike.{Alike}
 use Rattle.bbm_alike.specs.Known.{Known}
-use Rattle.bbm_alike.proofs.CoverAlike.{held_alike, tags_alike}
+use Rattle.bbm_alike.proofs.CoverAlike.{held_alike, of_events, tags_alike, values_alike}
 use Rattle.bbm_alike.proofs.LockRules.{same_bad_operand, same_lock_busy, same_lock_not_mine, same_no_root, same_unsynced_vmid, same_wrong_world}
 use Rattle.bbm_alike.proofs.PageRules.{same_bad_kind, same_global_user, same_not_fresh, same_page_in_use}
 use Rattle.bbm_alike.proofs.TagRules.{same_root_in_use, same_tag_conflict}
@@ -34,15 +34,14 @@ module _ (heading : Heading) (k : Known heading) (one other : Trust) (h h' : Lis
   abbrev marks' : List Noted
   marks' = noted heading other h'
 
-  -- what is asked of the events alone
   both : {A : Type 0} (f g : List Event → A) → f h ≡ g h' → f (events_of marks) ≡ g (events_of marks')
-  both f g same = ap f (k.events_noted one h) ∙ (same ∙ sym (ap g (k.events_noted other h')))
+  both f g same = of_events heading k one other h h' a f g same
 
   both_alike : {A : Type 0} (f : List Event → A) → f h ≡ f h' → f (events_of marks) ≡ f (events_of marks')
   both_alike f same = both f f same
 
-  pub values : (place : ℕ) → value_of (events_of marks) place ≡ value_of (events_of marks') place
-  values place = both_alike (λ (es : List Event). value_of es place) (a.values place)
+  values : (place : ℕ) → value_of (events_of marks) place ≡ value_of (events_of marks') place
+  values = values_alike heading k one other h h' a
 
   places : written_places (events_of marks) ≡ written_places (events_of marks')
   places = both_alike written_places a.places

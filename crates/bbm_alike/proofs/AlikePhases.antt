@@ -16,8 +16,7 @@ use Rattle.bbm_histories.specs.rules.Tree.{Node, held_at, node_of}
 use Rattle.bbm_histories.specs.rules.Values.{value_of, written_places}
 use Rattle.bbm_alike.specs.Alike.{Alike, SamePatterns}
 use Rattle.bbm_alike.specs.Known.{Known}
-use Rattle.bbm_alike.proofs.AlikeJudges.{values}
-use Rattle.bbm_alike.proofs.CoverAlike.{held_alike, node_alike}
+use Rattle.bbm_alike.proofs.CoverAlike.{held_alike, node_alike, values_alike}
 use Rattle.bbm_alike.proofs.HeldStep.{last_of}
 
 module _ (heading : Heading) (k : Known heading) (one other : Trust) (h h' : List Event)
@@ -82,7 +81,7 @@ module _ (heading : Heading) (k : Known heading) (one other : Trust) (h h' : Lis
           ap (λ (o : Option ℕ). is_some o && not (is_valid n.kind n.level (value_of (events_of marks) place)))
           (held_alike heading k one other h h' a n place found)
           ∙ ap (λ (v : ℕ). is_some (held_at heading other marks' n place) && not (is_valid n.kind n.level v))
-          (values heading k one other h h' a place)
+          (values_alike heading k one other h h' a place)
 
   pub same_count : restless_of heading one h ≡ restless_of heading other h'
   unfolding restless_of

@@ -1,11 +1,11 @@
 -- Worked cases: histories with the same phases, or the same tags, of which one has a TLBI that waits for its answer. They
 -- aren't alike, since they differ after the answer. The events stand newest first.
-use Rattle.std.proofs.Common.{◌≡◌, ◌<◌, true, false, List, [], ◌∷◌, None, refl, sym, ◌∙◌, true≢false, arith}
+use Rattle.std.proofs.Common.{◌≡◌, true, false, List, [], ◌∷◌, None, refl, sym, ◌∙◌, true≢false, arith}
 use Rattle.bbm_histories.specs.barriers.declared.Domain.TheVariants.{Inner}
 use Rattle.bbm_histories.specs.barriers.declared.Types.TheVariants.{All, Stores}
-use Rattle.bbm_histories.specs.rules.Prelude.{El2, El2Tag, Ttbr0El2, Event, Init, Null, Root, Write, Dsb, Isb, Tlbi, Msr}
+use Rattle.bbm_histories.specs.rules.Prelude.{El2, El2Tag, Event, Init, Root, Write, Dsb, Tlbi}
 use Rattle.bbm_histories.specs.rules.declared.phase.Phase.TheVariants.{Clean, Seen}
-use Rattle.bbm_histories.specs.rules.Broken.{broken, keeps}
+use Rattle.bbm_histories.specs.rules.Broken.{broken}
 use Rattle.bbm_histories.specs.rules.Claims.Trust.{Patterns}
 use Rattle.bbm_histories.specs.rules.Phases.{phase_of}
 use Rattle.bbm_histories.specs.rules.Tags.{holds_at}

@@ -1,5 +1,5 @@
 -- In histories that are alike, a TLBI covers each place as far.
-use Rattle.std.proofs.Common.{◌≡◌, ℕ, suc, Bool, List, Option, Some, None, filter, find, is_some, option_and_then, unwrap_or, Contains, refl, sym, ◌∙◌, ap, ◌==◌}
+use Rattle.std.proofs.Common.{◌≡◌, ℕ, suc, Bool, List, Option, Some, None, filter, is_some, option_and_then, unwrap_or, Contains, refl, sym, ◌∙◌, ap}
 use Rattle.bbm_histories.specs.descriptor.Descriptor.{desc_of}
 use Rattle.bbm_histories.specs.tlbi_scope.Covers.{cover_of}
 use Rattle.bbm_histories.specs.tlbi_scope.declared.entry.Cover.{Cover}
@@ -15,9 +15,12 @@ use Rattle.bbm_histories.specs.rules.Places.{page_of}
 use Rattle.bbm_histories.specs.rules.Registers.{named_scope, vmid_of}
 use Rattle.bbm_histories.specs.rules.Tags.{distinct, ever_read, holds_at, holds_tag, tag_set, tags_of}
 use Rattle.bbm_histories.specs.rules.Tree.{Node, held_at, in_tree, is_childless, next_of, node_below, node_of, region_of, tree}
+use Rattle.bbm_histories.specs.rules.Values.{value_of}
 use Rattle.bbm_alike.specs.Alike.{Alike}
 use Rattle.bbm_alike.specs.Known.{Known}
 use Rattle.bbm_alike.proofs.ListsAlike.{same_filter, same_some_pe, same_truth}
+use Rattle.bbm_alike.proofs.PartsAlike.{same_node}
+use Rattle.bbm_alike.proofs.SameThen.{same_then}
 use Rattle.bbm_alike.proofs.ReadingsAlike.{scope_alike, vmid_alike}
 
 module _ (heading : Heading) (k : Known heading) (one other : Trust) (h h' : List Event) (a : Alike heading one other h h') where
@@ -27,8 +30,15 @@ module _ (heading : Heading) (k : Known heading) (one other : Trust) (h h' : Lis
   abbrev marks' : List Noted
   marks' = noted heading other h'
 
+  -- what is asked of the events alone
+  pub of_events : {A : Type 0} (f g : List Event → A) → f h ≡ g h' → f (events_of marks) ≡ g (events_of marks')
+  of_events f g same = ap f (k.events_noted one h) ∙ (same ∙ sym (ap g (k.events_noted other h')))
+
+  pub values_alike : (place : ℕ) → value_of (events_of marks) place ≡ value_of (events_of marks') place
+  values_alike place = of_events (λ (es : List Event). value_of es place) (λ (es : List Event). value_of es place) (a.values place)
+
   pub node_alike : (page : ℕ) → node_of heading one marks page ≡ node_of heading other marks' page
-  node_alike page = ap (λ (ns : List Node). find (λ n. n.page == page) ns) a.trees
+  node_alike = same_node heading one other marks marks' a.trees
 
   pub in_tree_alike : (page : ℕ) → in_tree heading one marks page ≡ in_tree heading other marks' page
   in_tree_alike page = ap is_some (node_alike page)
@@ -80,9 +90,8 @@ module _ (heading : Heading) (k : Known heading) (one other : Trust) (h h' : Lis
 
   tag_set_alike : (root : ℕ) → tag_set (tags_of heading one root (events_of marks)) ≡ tag_set (tags_of heading other root (events_of marks'))
   tag_set_alike root =
-      ap (λ (es : List Event). tag_set (tags_of heading one root es)) (k.events_noted one h)
-      ∙ (ap (λ (ts : List Tag). tag_set ts) (tags_alike root)
-      ∙ sym (ap (λ (es : List Event). tag_set (tags_of heading other root es)) (k.events_noted other h')))
+      of_events (λ (es : List Event). tag_set (tags_of heading one root es)) (λ (es : List Event). tag_set (tags_of heading other root es))
+      (ap tag_set (tags_alike root))
 
   abbrev with_parts : Node → ℕ → ℕ → Bool → TagSet → Option PlaceView
   with_parts n place value childless tags = Some (record {
@@ -102,34 +111,20 @@ module _ (heading : Heading) (k : Known heading) (one other : Trust) (h h' : Lis
   abbrev of_node : Trust → List Noted → ℕ → Node → Option PlaceView
   of_node t x place n = option_and_then (of_value t x n place) (held_at heading t x n place)
 
-  of_node_alike : (place : ℕ) (n : Node) → node_of heading one marks (page_of place) ≡ Some n
-      → of_node one marks place n ≡ of_node other marks' place n
-  of_node_alike place n is = by (held_at heading one marks n place) refl
-    where
-      by : (o : Option ℕ) → held_at heading one marks n place ≡ o → of_node one marks place n ≡ of_node other marks' place n
-      by None none =
-          ap (option_and_then (of_value one marks n place)) none
-          ∙ sym (ap (option_and_then (of_value other marks' n place)) (sym (held_alike n place is) ∙ none))
-      by (Some value) holds =
-          let t = k.node_taken one marks (page_of place) n is in
-          ap (option_and_then (of_value one marks n place)) holds
-          ∙ (ap (λ (b : Bool). with_parts n place value b (tag_set (tags_of heading one n.root (events_of marks))))
-          (childless_alike n place value t.0 (sym t.1) holds)
-          ∙ (ap (λ (s : TagSet). with_parts n place value (is_childless heading other marks' n value) s) (tag_set_alike n.root)
-          ∙ sym (ap (option_and_then (of_value other marks' n place)) (sym (held_alike n place is) ∙ holds))))
+  of_value_alike : (place : ℕ) (n : Node) (value : ℕ) → node_of heading one marks (page_of place) ≡ Some n
+      → held_at heading one marks n place ≡ Some value → of_value one marks n place value ≡ of_value other marks' n place value
+  of_value_alike place n value is holds =
+      let t = k.node_taken one marks (page_of place) n is in
+      ap (λ (b : Bool). with_parts n place value b (tag_set (tags_of heading one n.root (events_of marks))))
+      (childless_alike n place value t.0 (sym t.1) holds)
+      ∙ ap (λ (s : TagSet). with_parts n place value (is_childless heading other marks' n value) s) (tag_set_alike n.root)
 
   pub view_alike : (place : ℕ) → view_at heading one marks place ≡ view_at heading other marks' place
-  view_alike place = by (node_of heading one marks (page_of place)) refl
-    where
-      by : (o : Option Node) → node_of heading one marks (page_of place) ≡ o
-          → view_at heading one marks place ≡ view_at heading other marks' place
-      by None none =
-          ap (option_and_then (of_node one marks place)) none
-          ∙ sym (ap (option_and_then (of_node other marks' place)) (sym (node_alike (page_of place)) ∙ none))
-      by (Some n) is =
-          ap (option_and_then (of_node one marks place)) is
-          ∙ (of_node_alike place n is
-          ∙ sym (ap (option_and_then (of_node other marks' place)) (sym (node_alike (page_of place)) ∙ is)))
+  view_alike place =
+      same_then (of_node one marks place) (of_node other marks' place) (node_of heading one marks (page_of place))
+      (node_of heading other marks' (page_of place)) (node_alike (page_of place))
+      (λ n is. same_then (of_value one marks n place) (of_value other marks' n place) (held_at heading one marks n place)
+      (held_at heading other marks' n place) (held_alike n place is) (λ value holds. of_value_alike place n value is holds))
 
   -- ---- how far a TLBI covers a place
 
@@ -145,13 +140,11 @@ module _ (heading : Heading) (k : Known heading) (one other : Trust) (h h' : Lis
     where
       scope : named_scope heading (events_of marks) pe op xt ≡ named_scope heading (events_of marks') pe op xt
       scope =
-          ap (λ (es : List Event). named_scope heading es pe op xt) (k.events_noted one h)
-          ∙ (scope_alike h h' a.registers heading pe op xt
-          ∙ sym (ap (λ (es : List Event). named_scope heading es pe op xt) (k.events_noted other h')))
+          of_events (λ (es : List Event). named_scope heading es pe op xt) (λ (es : List Event). named_scope heading es pe op xt)
+          (scope_alike h h' a.registers heading pe op xt)
 
       vmid : vmid_of heading (events_of marks) pe ≡ vmid_of heading (events_of marks') pe
       vmid =
-          ap (λ (es : List Event). vmid_of heading es pe) (k.events_noted one h)
-          ∙ (vmid_alike h h' a.registers heading pe
-          ∙ sym (ap (λ (es : List Event). vmid_of heading es pe) (k.events_noted other h')))
+          of_events (λ (es : List Event). vmid_of heading es pe) (λ (es : List Event). vmid_of heading es pe)
+          (vmid_alike h h' a.registers heading pe)
   cover_alike e place = refl

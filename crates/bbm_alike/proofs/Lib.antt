@@ -10,7 +10,6 @@ pub mod TakesLemmas
 pub mod Joined
 pub mod SameThen
 pub mod PartsAlike
-pub mod RegisterWrites
 pub mod LockRules
 pub mod WriteRules
 pub mod PageRules

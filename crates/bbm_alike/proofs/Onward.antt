@@ -1,5 +1,5 @@
 -- Where every pattern is trusted, no later events tell histories apart that are alike.
-use Rattle.std.proofs.Common.{◌≡◌, ◌<◌, Bool, true, is_none, List, [], ◌∷◌, ◌++◌, sym, ◌∙◌}
+use Rattle.std.proofs.Common.{◌≡◌, ◌<◌, true, is_none, List, [], ◌∷◌, ◌++◌, sym, ◌∙◌}
 use Rattle.std.proofs.lemmas.Bool.{and_parts}
 use Rattle.bbm_histories.specs.rules.Prelude.{Heading, Event}
 use Rattle.bbm_histories.specs.rules.Broken.{broken, keeps}

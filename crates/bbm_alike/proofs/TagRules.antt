@@ -9,13 +9,23 @@ use Rattle.bbm_histories.specs.rules.Roots.{Declared, root_at, roots_of}
 use Rattle.bbm_histories.specs.rules.Rules.{is_base_at, is_used, other_holders, root_in_use, tag_conflict}
 use Rattle.bbm_histories.specs.rules.Tags.{Reading, holds_at, holds_tag, readings, tags_of}
 use Rattle.bbm_alike.proofs.ListsAlike.{same_filter, same_flat, same_some_pe}
-use Rattle.bbm_alike.proofs.RegisterWrites.{holds_after, readings_after}
+use Rattle.bbm_alike.proofs.TagSteps.{holds_step, readings_step}
 
 module _ (heading : Heading) (one other : Trust) (h h' : List Noted)
     (registers : (p : ℕ) (reg : Reg) → register_values (events_of h) p reg ≡ register_values (events_of h') p reg)
     (roots : roots_of (events_of h) ≡ roots_of (events_of h'))
     (holds : (p root : ℕ) (tag : Tag) → p < heading.pes
     → holds_at heading one p root tag (events_of h) ≡ holds_at heading other p root tag (events_of h')) where
+  -- a register write takes no tag away
+  holds_after : (pe : ℕ) (reg : Reg) (value root : ℕ) (tag : Tag)
+      → holds_tag heading one root tag (Msr pe reg value ∷ events_of h)
+      ≡ holds_tag heading other root tag (Msr pe reg value ∷ events_of h')
+  holds_after pe reg value root tag =
+      same_some_pe heading.pes (λ p. holds_at heading one p root tag (Msr pe reg value ∷ events_of h))
+      (λ p. holds_at heading other p root tag (Msr pe reg value ∷ events_of h'))
+      (λ p under. holds_step heading (events_of h) (events_of h') (Msr pe reg value) roots registers one other p root tag
+      (holds p root tag under) (λ held. refl))
+
   same_holders : (pe : ℕ) (reg : Reg) (value : ℕ) (reading : Reading)
       → other_holders heading one h (Msr pe reg value ∷ events_of h) reading
       ≡ other_holders heading other h' (Msr pe reg value ∷ events_of h') reading
@@ -23,7 +33,7 @@ module _ (heading : Heading) (one other : Trust) (h h' : List Noted)
       ap (map (λ (r : Declared). r.page))
       (same_filter (holds_it one (events_of h)) (holds_it other (events_of h')) (roots_of (events_of h))
       (λ r. ap (λ (b : Bool). not (r.page == reading.root) && b)
-      (holds_after heading (events_of h) (events_of h') registers roots pe reg value one other holds r.page reading.tag)))
+      (holds_after pe reg value r.page reading.tag)))
       ∙ ap (λ (rs : List Declared). map (λ r. r.page) (filter (holds_it other (events_of h')) rs)) roots
     where
       holds_it : Trust → List Event → Declared → Bool
@@ -35,7 +45,7 @@ module _ (heading : Heading) (one other : Trust) (h h' : List Noted)
       (other_holders heading other h' (Msr pe reg value ∷ events_of h'))
       (readings heading (Msr pe reg value ∷ events_of h) pe) (λ reading there. same_holders pe reg value reading)
       ∙ ap (λ (rs : List Reading). flat_map (other_holders heading other h' (Msr pe reg value ∷ events_of h')) rs)
-      (readings_after heading (events_of h) (events_of h') registers roots pe reg value pe))
+      (readings_step heading (events_of h) (events_of h') (Msr pe reg value) roots registers pe))
   same_tag_conflict e = refl
 
   module _ (tags : (root : ℕ) → tags_of heading one root (events_of h) ≡ tags_of heading other root (events_of h')) where

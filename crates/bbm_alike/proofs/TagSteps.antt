@@ -55,7 +55,7 @@ module _ (heading : Heading) (h h' : List Event) (e : Event) (roots : roots_of h
   after : (p : ℕ) (reg : Reg) → register_values (e ∷ h) p reg ≡ register_values (e ∷ h') p reg
   after p reg = registers_step h h' e p reg (registers p reg)
 
-  readings_step : (p : ℕ) → readings heading (e ∷ h) p ≡ readings heading (e ∷ h') p
+  pub readings_step : (p : ℕ) → readings heading (e ∷ h) p ≡ readings heading (e ∷ h') p
   readings_step = readings_alike (e ∷ h) (e ∷ h') after (roots_step h h' e roots) heading
 
   reads_step : (p : ℕ) (tag : Tag) (root : ℕ) → reads heading (e ∷ h) p tag root ≡ reads heading (e ∷ h') p tag root

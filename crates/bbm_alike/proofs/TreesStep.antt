@@ -16,7 +16,7 @@ use Rattle.bbm_histories.specs.Tree.{Attaches, Through}
 use Rattle.bbm_histories.specs.Values.{HoldsPresent}
 use Rattle.bbm_alike.specs.Alike.{Alike, SamePatterns, TakesAlike}
 use Rattle.bbm_alike.specs.Known.{Known}
-use Rattle.bbm_alike.proofs.CoverAlike.{held_alike, node_alike}
+use Rattle.bbm_alike.proofs.CoverAlike.{held_alike, node_alike, values_alike}
 use Rattle.bbm_alike.proofs.HeldStep.{held_old, patterns_old}
 use Rattle.bbm_alike.proofs.Quiet.{quiet_alike, unwritten}
 use Rattle.bbm_alike.proofs.TreesAlike.{same_tree}
@@ -30,18 +30,13 @@ module _ (heading : Heading) (k : Known heading) (one other : Trust) (h h' : Lis
 
   -- ---- an event attaches the same nodes in both
 
-  value_alike : (place : ℕ) → value_of (events_of marks) place ≡ value_of (events_of marks') place
-  value_alike place =
-      ap (λ (es : List Event). value_of es place) (k.events_noted one h)
-      ∙ (a.values place ∙ sym (ap (λ (es : List Event). value_of es place) (k.events_noted other h')))
-
   through_alike : (places : List ℕ) (n m : Node) → Through heading one marks n places m → Through heading other marks' n places m
   through_alike [] n m t = (sym (a.fresh n.page) ∙ t.0, t.1)
   through_alike (place ∷ places) n m t = (
     sym (a.fresh n.page) ∙ t.0,
     t.1,
     t.2,
-    ap (λ (v : ℕ). next_of n.kind n.level v) (sym (value_alike place)) ∙ t.3,
+    ap (λ (v : ℕ). next_of n.kind n.level v) (sym (values_alike heading k one other h h' a place)) ∙ t.3,
     through_alike places (node_below n place t.2) m t.4,
   )
 
