@@ -20,6 +20,10 @@ phase_word Cleansed = codes "cleansed"
 unfoldable pub phase_text : ℕ → Phase → List ℕ
 phase_text pe phase = codes "pe " ++ decimal pe ++ codes " " ++ phase_word phase ++ codes "\n"
 
+-- the line that names the line of an event which a log can do without
+unfoldable pub idle_text : ℕ → List ℕ
+idle_text line = codes "idle line " ++ decimal line ++ codes "\n"
+
 -- the line of a walk's answer
 unfoldable pub walk_text : Walk → List ℕ
 walk_text (Out addr level) = codes "walk out " ++ hex addr ++ codes " level " ++ decimal level ++ codes "\n"

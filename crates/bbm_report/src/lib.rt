@@ -1,8 +1,9 @@
-//! The texts that the program prints: the line of a verdict, of a phase and of a walk; and what `explain` and `walk`
-//! say behind the line of the verdict.
+//! The texts that the program prints: the line of a verdict, of a phase, of a walk and of an idle event; and what
+//! `explain` and `walk` say behind the line of the verdict.
 #![tactic(auto)]
 
 pub mod finding;
+pub mod idle;
 mod names;
 pub mod phases;
 pub mod questions;
@@ -14,6 +15,7 @@ pub use bbm_rules as rules;
 pub use bbm_rules::events;
 pub use bbm_walk_s1::{descriptor, regimes};
 pub use finding::find;
+pub use idle::idle_text;
 pub use phases::phase_text;
 pub use questions::{Question, asked};
 pub use verdicts::verdict_text;

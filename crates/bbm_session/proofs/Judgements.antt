@@ -16,13 +16,13 @@ use Rattle.bbm_report.specs.rules.declared.verdict.Verdict.TheVariants.{Accepted
 use Rattle.bbm_report.specs.rules.declared.step_fault.StepFault.{StepFault}
 use Rattle.bbm_report.specs.rules.declared.step_fault.StepFault.TheVariants as step_fault
 use Rattle.bbm_report.specs.rules.Answers.{rewrites, takes_no_memory}
-use Rattle.bbm_report.specs.rules.Broken.{Breach, broken, keeps}
+use Rattle.bbm_report.specs.rules.Broken.{Breach, broken}
 use Rattle.bbm_report.specs.rules.Claims.{Patterns}
 use Rattle.bbm_report.specs.rules.Limits.{limit_of}
 use Rattle.bbm_report.specs.rules.declared.limits.Limits.{Limits}
 use Rattle.bbm_report.specs.rules.Outcome.{Text, is_too_long, limit_after, limit_at, AtHeader, AtEvents, AtEnd, after_header, after_item, after_event, after_judged, after_kept, after_line, too_long_at, cut_at, Progress, Step, Decides, GoesOn, Outcome, outcome_from, outcome_of, outcome_after, verdict_of_bytes, read_from, read_lines, goes_on_to, step_of, end_of, events_in, text_of}
 use Rattle.bbm_session.specs.declared.command.Command.{Command}
-use Rattle.bbm_session.specs.declared.command.Command.TheVariants.{Check, Slow, Explain, Walk}
+use Rattle.bbm_session.specs.declared.command.Command.TheVariants.{Check, Slow, Explain, Walk, Show}
 use Rattle.bbm_session.specs.declared.stop.Decision.{Decision}
 use Rattle.bbm_session.specs.declared.stop.Stop.{Stop}
 use Rattle.bbm_session.specs.declared.stop.Stop.TheVariants.{Decided, ReadFault, NoMemory}
@@ -429,6 +429,7 @@ needs-room heading h e is =
 
 needs-event : (command : Command) (heading : Heading) (h : List EventOf) (e : EventOf) → event_needs (is_frugal command) heading h e ≡ true → EventNeeds command heading h e
 needs-event Slow heading h e is = tt
+needs-event (Show evidence) heading h e is = tt
 needs-event Check heading h e is = needs-room heading h e is
 needs-event Explain heading h e is = needs-room heading h e is
 needs-event (Walk question) heading h e is = needs-room heading h e is

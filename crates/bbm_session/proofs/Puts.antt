@@ -18,7 +18,8 @@ use Rattle.bbm_report.specs.rules.Texts.{verdict_text}
 use Rattle.bbm_report.specs.Further.{explained, lines_of_rule, phase_lines}
 use Rattle.bbm_report.specs.Lines.{phase_text}
 use Rattle.bbm_session.specs.declared.command.Command.{Command}
-use Rattle.bbm_session.specs.declared.command.Command.TheVariants.{Check, Slow, Explain, Walk}
+use Rattle.bbm_session.specs.declared.command.Command.TheVariants.{Check, Slow, Explain, Walk, Show}
+use Rattle.bbm_session.specs.declared.command.Evidence.TheVariants.{Idle}
 use Rattle.bbm_session.specs.Run.{FurtherIn, Says}
 use Rattle.bbm_session.specs.Stages.{EndsThere, Keeps, Knows}
 use Rattle.bbm_session.specs.Telling.{place_named, place_of_rule}
@@ -140,11 +141,13 @@ nothing-further Check (Some heading) h (Malformed line cause) ends = refl
 nothing-further Slow (Some heading) h (Malformed line cause) ends = refl
 nothing-further Explain (Some heading) h (Malformed line cause) ends = refl
 nothing-further (Walk question) (Some heading) h (Malformed line cause) ends = refl
+nothing-further (Show Idle) (Some heading) h (Malformed line cause) ends = refl
 nothing-further command None h (Limit line which) ends = refl
 nothing-further Check (Some heading) h (Limit line which) ends = refl
 nothing-further Slow (Some heading) h (Limit line which) ends = refl
 nothing-further Explain (Some heading) h (Limit line which) ends = refl
 nothing-further (Walk question) (Some heading) h (Limit line which) ends = refl
+nothing-further (Show Idle) (Some heading) h (Limit line which) ends = refl
 
 pub says-line : (command : Command) (heading : Option Heading) (h : List EventOf) (v : Verdict) → EndsThere v → Says command heading h v (verdict_text v)
 says-line command heading h v ends = ([], sym (append-nil (verdict_text v)), nothing-further command heading h v ends)

@@ -21,7 +21,7 @@ use Rattle.bbm_report.specs.Further.{heading_in}
 use Rattle.bbm_session.specs.declared.stop.Decision.{Decision}
 use Rattle.bbm_session.specs.declared.stop.Stop.{Stop}
 use Rattle.bbm_session.specs.declared.stop.Stop.TheVariants.{Decided, ReadFault, NoMemory}
-use Rattle.bbm_session.specs.Fold.{Turned, Halts, alone, refusing, ending_after, ending_at, ending_from}
+use Rattle.bbm_session.specs.Fold.{Turned, Halts, refusing, ending_after, ending_at, ending_from}
 use Rattle.bbm_session.specs.Folds.{Judged, event_on, judged_at, judged_by, judging}
 use Rattle.bbm_session.specs.JudgedLog.{RefusesIn, StopsIn}
 use Rattle.bbm_session.specs.Refused.{IsRefused, RefusedIn}

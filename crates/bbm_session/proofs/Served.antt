@@ -25,10 +25,10 @@ use Rattle.bbm_session.specs.Fold.{Fold, ending_at}
 use Rattle.bbm_session.specs.Folds.{Follows, Judged, is_frugal, judging_for, following, whole_run}
 use Rattle.bbm_session.specs.Requests.{status_for, IsTextFor, IsSomeTextFor, unread_for, ReadForAll, FaultAt, WantAt, reads_input}
 use Rattle.bbm_session.specs.Generating.{gen_text, selftest_text}
-use Rattle.bbm_session.specs.Run.{IsTextOf, Says, ReadFor, limits_of, status_of, tells_verdict}
+use Rattle.bbm_session.specs.Run.{IsTextOf, Says, ReadFor, ShowsMore, Wants, limits_of, status_of, tells_verdict}
 use Rattle.bbm_session.specs.Runs.{RunReadFor, followed_status, run_status}
 use Rattle.bbm_session.specs.Stages.{Breaks, Concludes, Continues, Ends, HeaderLine, Starts, Starves, Stops}
-use Rattle.bbm_session.specs.Writing.{Answered, Heads, IsLine, Obeys, FollowsRun, ReportsRun, Part, Reports, Serves, Silent, Told, WantsRun, Wrote}
+use Rattle.bbm_session.specs.Writing.{Answered, Heads, IsLine, Obeys, FollowsRun, ReportsRun, Part, Reports, Serves, Silent, Told, WantsJudged, WantsRun, Wrote}
 use Rattle.bbm_session.proofs.RunLines.{following-start, run-said, run-read-to, run-fault, run-want}
 use Rattle.bbm_session.proofs.Judgements.{outcome-said, read-to, fault-is, want-is}
 use Rattle.bbm_session.proofs.ReadBytes.{to_fault, to_want}
@@ -300,12 +300,12 @@ run_wants bytes left (inr whole) =
 
 module _ (result : Status) (old new : Option (List ℕ)) (f f' : ℕ) (held held' : Option (List ℕ)) (w w' : ℕ) where
   judged_heard : (command : Command) → (o : Obeys command result old new f f' held held' w w') → tells_verdict result ≡ true
-      → Heard (judging_for command) AtHeader (JudgedText command o.heading) (judged_status command) (λ v. tells_of v.verdict) (Starves (judging_for command) 1 AtHeader) result old new f f' held held' w w'
-  judged_heard command o tell = heard (judging_for command) AtHeader (JudgedText command o.heading) (judged_status command) (λ v. tells_of v.verdict) (Starves (judging_for command) 1 AtHeader) result old new f f' held held' w w' o.answered tell
+      → Heard (judging_for command) AtHeader (JudgedText command o.heading) (judged_status command) (λ v. tells_of v.verdict) (WantsJudged command) result old new f f' held held' w w'
+  judged_heard command o tell = heard (judging_for command) AtHeader (JudgedText command o.heading) (judged_status command) (λ v. tells_of v.verdict) (WantsJudged command) result old new f f' held held' w w' o.answered tell
 
   judged_cut : (command : Command) → (o : Obeys command result old new f f' held held' w w') → result ≡ status.WriteFault
-      → Cut (judging_for command) AtHeader (JudgedText command o.heading) (judged_status command) (λ v. tells_of v.verdict) (Starves (judging_for command) 1 AtHeader) result old new f f' held held' w w'
-  judged_cut command o is = cut (judging_for command) AtHeader (JudgedText command o.heading) (judged_status command) (λ v. tells_of v.verdict) (Starves (judging_for command) 1 AtHeader) result old new f f' held held' w w' o.answered is
+      → Cut (judging_for command) AtHeader (JudgedText command o.heading) (judged_status command) (λ v. tells_of v.verdict) (WantsJudged command) result old new f f' held held' w w'
+  judged_cut command o is = cut (judging_for command) AtHeader (JudgedText command o.heading) (judged_status command) (λ v. tells_of v.verdict) (WantsJudged command) result old new f f' held held' w w' o.answered is
 
   abbrev RunText : run.RunSays → List ℕ → Type 0
   RunText says text = text ≡ run.run_text says
@@ -554,7 +554,7 @@ module _ (result : Status) (old new : Option (List ℕ)) (f f' : ℕ) (held held
     pub served-fault : (request : Request) → ServesIt request → result ≡ status.ReadFault → FaultAt request bytes new
     served-fault (Judge command) o fault =
         let fold = judging_for command in
-        let breaks = (broke fold AtHeader (JudgedText command o.heading) (judged_status command) (λ v. tells_of v.verdict) (Starves fold 1 AtHeader) result old new f f' held held' w w' o.answered fault).0 in
+        let breaks = (broke fold AtHeader (JudgedText command o.heading) (judged_status command) (λ v. tells_of v.verdict) (WantsJudged command) result old new f f' held held' w w' o.answered fault).0 in
         fault-is (is_frugal command) (limits_of command) bytes new (to_fault fold AtHeader bytes new (subst (λ (x : Option (List ℕ)). Breaks fold 1 AtHeader x new) is breaks))
     served-fault Follow o fault =
         let breaks = (broke following run.AtHeader RunText run_status tells_run WantsRun result old new f f' held held' w w' o fault).0 in
@@ -562,11 +562,21 @@ module _ (result : Status) (old new : Option (List ℕ)) (f f' : ℕ) (held held
     served-fault (Generate n count) o fault = wrote_sound (gen_text n count) o.2 (inl fault)
     served-fault (Selftest n count) o fault = tested_only (selftest_text n count) o.2 status.ReadFault (λ same. cc) (λ same. cc) (λ same. cc) fault
 
+    -- there was no memory for a line, or for what is shown
+    judged_wants : (command : Command) → WantsJudged command old new → Wants command bytes new
+    judged_wants command (inl starves) =
+        let fold = judging_for command in
+        inl (want-is command bytes new (to_want fold AtHeader bytes new (subst (λ (x : Option (List ℕ)). Starves fold 1 AtHeader x new) is starves)))
+    judged_wants command (inr whole) =
+        let k = judged_concluded command whole.says whole.concludes in
+        inr (record {
+          shows = subst (ShowsMore command) (sym k.0) whole.shows;
+          read = read-to (is_frugal command) (limits_of command) bytes new k.1;
+        })
+
     pub served-want : (request : Request) → ServesIt request → result ≡ status.NoMemory → WantAt request bytes new
     served-want (Judge command) o want =
-        let fold = judging_for command in
-        let starves = starved fold AtHeader (JudgedText command o.heading) (judged_status command) (λ v. tells_of v.verdict) (Starves fold 1 AtHeader) result old new f f' held held' w w' o.answered want in
-        want-is command bytes new (to_want fold AtHeader bytes new (subst (λ (x : Option (List ℕ)). Starves fold 1 AtHeader x new) is starves))
+        judged_wants command (starved (judging_for command) AtHeader (JudgedText command o.heading) (judged_status command) (λ v. tells_of v.verdict) (WantsJudged command) result old new f f' held held' w w' o.answered want)
     served-want Follow o want =
         let wants = starved following run.AtHeader RunText run_status tells_run WantsRun result old new f f' held held' w w' o want in
         run_wants bytes new (subst (λ (x : Option (List ℕ)). WantsRun x new) is wants)

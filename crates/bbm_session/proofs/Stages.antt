@@ -125,7 +125,7 @@ module _ {P V : Type 0} (fold : Fold P V) where
   unfolding end_by
   end-long n p rest h = rw (long rest h) refl
 
-  ending-line : (n : ℕ) (p : P) (line rest : List ℕ) → plain line ≡ true → length line ≤ 200 → ending_at fold n p (line ++ 10 ∷ rest) ≡ ending_after line (text_of rest).lines (text_of rest).rest (λ next. ending_at fold (suc n) next rest) (fold.line n p line)
+  pub ending-line : (n : ℕ) (p : P) (line rest : List ℕ) → plain line ≡ true → length line ≤ 200 → ending_at fold n p (line ++ 10 ∷ rest) ≡ ending_after line (text_of rest).lines (text_of rest).rest (λ next. ending_at fold (suc n) next rest) (fold.line n p line)
   ending-line n p line rest is_plain is_short =
       rw (text_of-line line rest is_plain, turned-short n p line is_short) refl
 

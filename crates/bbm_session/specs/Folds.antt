@@ -22,7 +22,7 @@ use Rattle.bbm_follow.specs.declared.turn.Turn.{Turn as RunTurn}
 use Rattle.bbm_follow.specs.declared.turn.Turn.TheVariants as turn
 use Rattle.bbm_follow.specs.Following as run
 use Rattle.bbm_session.specs.declared.command.Command.{Command}
-use Rattle.bbm_session.specs.declared.command.Command.TheVariants.{Check, Slow, Explain, Walk}
+use Rattle.bbm_session.specs.declared.command.Command.TheVariants.{Check, Slow, Explain, Walk, Show}
 use Rattle.bbm_session.specs.Fold.{Fold, Turned, Halts, Passes, alone, refusing}
 use Rattle.bbm_session.specs.Run.{limits_of}
 use Rattle.bbm_session.specs.Runs.{step_needs}
@@ -66,9 +66,10 @@ line_needs frugal AtHeader line = is_ok (header_of line)
 line_needs frugal (AtEvents heading h) line = item_needs frugal heading h (item_of heading line)
 line_needs frugal (AtEnd h) line = false
 
--- whether the checker of a command is frugal: that of `slow` keeps all events
+-- whether the checker of a command is frugal: those of `slow` and of what shows more keep all events
 abbrev pub is_frugal : Command → Bool
 is_frugal Slow = false
+is_frugal (Show evidence) = false
 is_frugal Check = true
 is_frugal Explain = true
 is_frugal (Walk question) = true

@@ -1,5 +1,5 @@
 -- What is known of a log that was judged. No public contract cites these words.
-use Rattle.std.specs.Prelude.{◌≡◌, ℕ, Bool, List, Option, Some, None}
+use Rattle.std.specs.Prelude.{◌≡◌, ℕ, Bool, List, Option, Some}
 use Rattle.bbm_report.specs.events.declared.event.Event.{Event}
 use Rattle.bbm_report.specs.events.Heading.{Heading}
 use Rattle.bbm_report.specs.rules.declared.limits.Limits.{Limits}

@@ -7,6 +7,7 @@ pub mod Refused
 pub mod Requests
 pub mod Run
 pub mod Runs
+pub mod Shown
 pub mod Stages
 pub mod Telling
 pub mod Writing

@@ -15,7 +15,7 @@ use Rattle.bbm_session.specs.declared.command.Request.TheVariants.{Judge, Follow
 use Rattle.bbm_session.specs.declared.status.Status.{Status}
 use Rattle.bbm_session.specs.declared.status.Status.TheVariants as status
 use Rattle.bbm_session.specs.Generating.{gen_text, selftest_text}
-use Rattle.bbm_session.specs.Run.{IsTextOf, IsSomeText, ReadAs, ReadTo, ReadToFault, ReadToWant, command_of, limits_of}
+use Rattle.bbm_session.specs.Run.{IsTextOf, IsSomeText, ReadAs, ReadTo, ReadToFault, Wants, command_of, limits_of}
 use Rattle.bbm_session.specs.Run.{or_else, status_of}
 use Rattle.bbm_session.specs.Runs.{RunReadFor, RunToFault, RunWants, run_status}
 
@@ -105,7 +105,7 @@ FaultAt (Selftest n count) bytes left = ⊥
 
 -- there was no memory; to write a generated log needs none, and a self-test has read nothing then
 abbrev pub WantAt : Request → List ℕ → Option (List ℕ) → Type 0
-WantAt (Judge command) bytes left = ReadToWant command bytes left
+WantAt (Judge command) bytes left = Wants command bytes left
 WantAt Follow bytes left = RunWants bytes left
 WantAt (Generate n count) bytes left = ⊥
 WantAt (Selftest n count) bytes left = left ≡ Some bytes

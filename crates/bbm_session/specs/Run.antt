@@ -13,13 +13,15 @@ use Rattle.bbm_report.specs.events.Lines.{header_of, item_of}
 use Rattle.bbm_report.specs.rules.Answers.{rewrites, takes_no_memory}
 use Rattle.bbm_report.specs.rules.Claims.{Patterns}
 use Rattle.bbm_report.specs.rules.declared.limits.Limits.{Limits}
-use Rattle.bbm_report.specs.rules.Outcome.{check_limits, slow_limits, Outcome, outcome_of, Progress, AtHeader, AtEvents}
-use Rattle.bbm_report.specs.rules.Outcome.{AtEnd, Text, text_of, read_lines}
+use Rattle.bbm_report.specs.rules.Outcome.{check_limits, slow_limits, Outcome, outcome_of, verdict_of_bytes, Progress}
+use Rattle.bbm_report.specs.rules.Outcome.{AtHeader, AtEvents, AtEnd, Text, text_of, read_lines}
 use Rattle.bbm_report.specs.rules.Texts.{verdict_text}
 use Rattle.bbm_report.specs.Further.{Walked, explained, heading_in}
 use Rattle.bbm_report.specs.Questions.{walk_asked}
 use Rattle.bbm_session.specs.declared.command.Command.{Command}
-use Rattle.bbm_session.specs.declared.command.Command.TheVariants.{Check, Slow, Explain, Walk}
+use Rattle.bbm_session.specs.declared.command.Command.TheVariants.{Check, Slow, Explain, Walk, Show}
+use Rattle.bbm_session.specs.declared.command.Evidence.TheVariants.{Idle}
+use Rattle.bbm_session.specs.Shown.{shown}
 use Rattle.bbm_session.specs.declared.status.Status.{Status}
 use Rattle.bbm_session.specs.declared.status.Status.TheVariants as status
 
@@ -28,7 +30,8 @@ abbrev pub command_at : List ℕ → Option Command
 command_at word =
     if bytes_eq word (codes "check") then Some Check
     else (if bytes_eq word (codes "slow") then Some Slow
-    else (if bytes_eq word (codes "explain") then Some Explain else None))
+    else (if bytes_eq word (codes "explain") then Some Explain
+    else (if bytes_eq word (codes "idle") then Some (Show Idle) else None)))
 
 abbrev pub command_alone : List (List ℕ) → Option Command
 command_alone (word ∷ []) = command_at word
@@ -49,6 +52,7 @@ limits_of Check = check_limits
 limits_of Slow = slow_limits
 limits_of Explain = check_limits
 limits_of (Walk question) = check_limits
+limits_of (Show evidence) = slow_limits
 
 -- What a command says behind the line of a verdict, after these events of a log with this heading. Nothing is said
 -- where the log has no heading.
@@ -57,6 +61,7 @@ Further Check heading h verdict further = further ≡ []
 Further Slow heading h verdict further = further ≡ []
 Further Explain heading h verdict further = further ≡ explained heading h verdict
 Further (Walk question) heading h verdict further = Walked heading h question verdict further
+Further (Show evidence) heading h verdict further = further ≡ shown evidence heading h verdict
 
 abbrev pub FurtherIn : Command → Option Heading → List Event → Verdict → List ℕ → Type 0
 FurtherIn command None h verdict further = further ≡ []
@@ -79,7 +84,7 @@ IsSomeText command verdict text = (heading : Option Heading) × (h : List Event)
 
 -- the usage line, which names all commands
 abbrev pub usage_text : List ℕ
-usage_text = codes "usage: bbm check | slow | explain | walk KIND ROOT ADDR | gen N COUNT | selftest N COUNT | follow\n"
+usage_text = codes "usage: bbm check | slow | explain | walk KIND ROOT ADDR | gen N COUNT | selftest N COUNT | follow | idle\n"
 
 -- the status of a verdict
 abbrev pub status_of : Verdict → Status
@@ -149,10 +154,11 @@ pub record ReadToFault (limits : Limits) (bytes : List ℕ) (left : Option (List
 abbrev pub NeedsRoom : Heading → List Event → Event → Type 0
 NeedsRoom heading h event = (takes_no_memory event ≡ false) × (rewrites heading h event ≡ false)
 
--- The events for which a command may find no memory: each event for `slow`, which keeps them all, and for the others,
+-- The events for which a command may find no memory: each event where the command keeps them all, and for the others,
 -- which keep none, those that need new room.
 abbrev pub EventNeeds : Command → Heading → List Event → Event → Type 0
 EventNeeds Slow heading h event = Unit {0}
+EventNeeds (Show evidence) heading h event = Unit {0}
 EventNeeds Check heading h event = NeedsRoom heading h event
 EventNeeds Explain heading h event = NeedsRoom heading h event
 EventNeeds (Walk question) heading h event = NeedsRoom heading h event
@@ -177,3 +183,22 @@ pub record ReadToWant (command : Command) (bytes : List ℕ) (left : Option (Lis
   pub undecided : read_lines Patterns (limits_of command) before ≡ Some reached
   pub short : length line ≤ 200
   pub needs : NeedsMemory command reached line
+
+-- whether a command shows more of the events
+abbrev pub shows : Command → Bool
+shows (Show evidence) = true
+shows _ = false
+
+-- A command shows more of the events behind this verdict.
+abbrev pub ShowsMore : Command → Verdict → Type 0
+ShowsMore (Show Idle) (Accepted events) = Unit {0}
+ShowsMore _ _ = ⊥
+
+-- There was no memory for what is shown: all was read that the verdict needs.
+pub record ShownWant (command : Command) (bytes : List ℕ) (left : Option (List ℕ)) : Type 0 where
+  pub shows : ShowsMore command (verdict_of_bytes Patterns (limits_of command) bytes)
+  pub read : ReadTo bytes (verdict_of_bytes Patterns (limits_of command) bytes) left
+
+-- There was no memory, for a line or for what is shown.
+abbrev pub Wants : Command → List ℕ → Option (List ℕ) → Type 0
+Wants command bytes left = ReadToWant command bytes left ⊎ ShownWant command bytes left

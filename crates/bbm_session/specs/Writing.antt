@@ -6,7 +6,9 @@ use Rattle.bbm_io.specs.declared.source.Failed.{Failed}
 use Rattle.bbm_report.specs.events.declared.event.Event.{Event}
 use Rattle.bbm_report.specs.events.Heading.{Heading}
 use Rattle.bbm_follow.specs.Following as run
+use Rattle.bbm_idle.specs.Idle.{idle_marks}
 use Rattle.bbm_follow.specs.declared.followed.Followed.{Followed}
+use Rattle.bbm_report.specs.rules.declared.verdict.Verdict.{Verdict}
 use Rattle.bbm_report.specs.rules.Outcome.{AtHeader, text_of}
 use Rattle.bbm_report.specs.rules.Texts.{verdict_text}
 use Rattle.bbm_report.specs.Further.{heading_in}
@@ -20,10 +22,11 @@ use Rattle.bbm_session.specs.declared.stop.Decision.{Decision}
 use Rattle.bbm_session.specs.declared.stop.Stop.{Stop}
 use Rattle.bbm_session.specs.declared.stop.Stop.TheVariants.{Decided, ReadFault, NoMemory}
 use Rattle.bbm_session.specs.Fold.{Fold}
-use Rattle.bbm_session.specs.Folds.{judging_for, following}
+use Rattle.bbm_session.specs.Folds.{Judged, judging_for, following}
 use Rattle.bbm_session.specs.Generating.{gen_text, selftest_text}
-use Rattle.bbm_session.specs.Run.{Says, status_of}
+use Rattle.bbm_session.specs.Run.{Says, ShowsMore, status_of}
 use Rattle.bbm_session.specs.Runs.{followed_status, run_status}
+use Rattle.bbm_session.specs.Shown.{marked_lines}
 use Rattle.bbm_session.specs.Stages.{Breaks, Concludes, Starves}
 
 -- a proper prefix of the text was added to what the sink holds
@@ -117,6 +120,40 @@ pub record ReadWhole (left left' : Option (List ℕ)) : Type 0 where
 abbrev pub WantsRun : Option (List ℕ) → Option (List ℕ) → Type 0
 WantsRun left left' = Starves following 1 run.AtHeader left left' ⊎ ReadWhole left left'
 
+-- The text of a command for a verdict was to be written, or there was no memory for what it shows behind it.
+abbrev pub ReportsVerdict : Command → Option Heading → List Event → Verdict → Status → Option (List ℕ)
+    → Option (List ℕ) → ℕ → ℕ → Type 0
+ReportsVerdict command heading h verdict result old new faults faults' =
+    ((text : List ℕ) × Says command heading h verdict text
+    × Wrote (status_of verdict) text result old new faults faults')
+    ⊎ (ShowsMore command verdict × Silent status.NoMemory result old new faults faults')
+
+-- the same by why reading stopped
+abbrev pub ReportsShown : Command → Option Heading → List Event → Stop → Status → Option (List ℕ) → Option (List ℕ)
+    → ℕ → ℕ → Type 0
+ReportsShown command heading h (Decided decision) result old new faults faults' =
+    ReportsVerdict command heading h decision.verdict result old new faults faults'
+ReportsShown command heading h ReadFault result old new faults faults' =
+    Silent status.ReadFault result old new faults faults'
+ReportsShown command heading h NoMemory result old new faults faults' =
+    Silent status.NoMemory result old new faults faults'
+
+-- a verdict with the lines of idle events behind it was to be written, or there was no memory for these
+abbrev pub ReportsIdle : Heading → List Event → Verdict → Status → Option (List ℕ) → Option (List ℕ) → ℕ → ℕ → Type 0
+ReportsIdle heading h verdict result old new faults faults' =
+    Wrote (status_of verdict) (verdict_text verdict ++ marked_lines (idle_marks heading h)) result old new faults faults'
+    ⊎ Silent status.NoMemory result old new faults faults'
+
+-- a log was read for its verdict, behind which a command shows more
+pub record ReadJudged (command : Command) (left left' : Option (List ℕ)) : Type 0 where
+  pub says : Judged
+  pub concludes : Concludes (judging_for command) 1 AtHeader left says left'
+  pub shows : ShowsMore command says.verdict
+
+-- what was left and is left where there was no memory for a command
+abbrev pub WantsJudged : Command → Option (List ℕ) → Option (List ℕ) → Type 0
+WantsJudged command left left' = Starves (judging_for command) 1 AtHeader left left' ⊎ ReadJudged command left left'
+
 -- a log was judged for a command
 pub record Obeys (command : Command) (result : Status) (left left' : Option (List ℕ)) (reads reads' : ℕ)
     (held held' : Option (List ℕ)) (writes writes' : ℕ) : Type 0 where
@@ -124,7 +161,7 @@ pub record Obeys (command : Command) (result : Status) (left left' : Option (Lis
   pub heads : Heads left heading
   pub answered : Answered (judging_for command) AtHeader
       (λ said text. Says command heading said.log said.verdict text) (λ said. status_of said.verdict)
-      (Starves (judging_for command) 1 AtHeader) result left left' reads reads' held held' writes writes'
+      (WantsJudged command) result left left' reads reads' held held' writes writes'
 
 -- a run was followed
 abbrev pub FollowsRun : Status → Option (List ℕ) → Option (List ℕ) → ℕ → ℕ → Option (List ℕ) → Option (List ℕ) → ℕ → ℕ

@@ -28,6 +28,15 @@ pub enum Command {
     Explain,
     /// The same as `Check`; where the log is accepted, behind it the line of a walk over the values at its end.
     Walk(Question),
+    /// The same as `Slow`; where the log is accepted, behind it what its events show.
+    Show(Evidence),
+}
+
+/// What a command shows of the events of a log, for which it keeps them all.
+#[derive(Clone, Copy, Debug)]
+pub enum Evidence {
+    /// The events of an accepted log that it can do without.
+    Idle,
 }
 
 /// What the program is asked for.
@@ -66,6 +75,8 @@ fn said_alone(words: &[String]) -> Option<Command>
         Some(Command::Slow)
     } else if words[0].as_bytes() == b"explain".as_slice() {
         Some(Command::Explain)
+    } else if words[0].as_bytes() == b"idle".as_slice() {
+        Some(Command::Show(Evidence::Idle))
     } else {
         None
     }
@@ -181,13 +192,13 @@ pub fn said(words: &[String]) -> Option<Request>
     }
 }
 
-/// The limits under which a command judges a log: `slow`, which searches the whole history at each event, takes at most
-/// 2,000 events, and the others a log of any number; the line numbers of all stay below 2^32 - 1.
+/// The limits under which a command judges a log: one that keeps all events and searches them at each event takes at most
+/// 2,000, and the others a log of any number; the line numbers of all stay below 2^32 - 1.
 pub fn limits(command: &Command) -> Limits
     ensures { result ≡ limits_of command.now }
 {
     match command {
-        Command::Slow => Limits {
+        Command::Slow | Command::Show(_) => Limits {
             events: Some(ORACLE_EVENTS),
             lines: u32::MAX,
         },

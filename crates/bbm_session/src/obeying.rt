@@ -1,8 +1,9 @@
 //! The commands that judge a log.
 
-ghost use Rattle.std.specs.Prelude.{◌≡◌, ◌*◌, List, Some};
+ghost use Rattle.std.specs.Prelude.{◌≡◌, ◌*◌, false, List, Some};
 ghost use Rattle.bbm_report.specs.events.declared.event.Event.{Event};
 ghost use Rattle.bbm_session.specs.Folds.{is_frugal};
+ghost use Rattle.bbm_session.specs.Run.{shows};
 ghost use Rattle.bbm_session.specs.Stages.{KnowsAt, Shrinks};
 ghost use Rattle.bbm_session.specs.Writing.{Reports, Obeys, SaysFor};
 
@@ -25,7 +26,8 @@ fn report<C: Checker, K: Sink>(
     stop: Stop,
     out: &mut K,
 ) -> Status
-    requires { (h : List Event) × KnowsAt (C.stands checker.now) header.now h stop }
+    requires known { (h : List Event) × KnowsAt (C.stands checker.now) header.now h stop }
+    requires plain { shows command.now ≡ false }
     ensures { (h : List Event) → KnowsAt (C.stands checker.now) header.now h stop
         → Reports (SaysFor command.now (Some header.now) h) stop result (K.held out.old) (K.held out.new)
         (K.faults out.old) (K.faults out.new) }
@@ -40,14 +42,15 @@ fn report<C: Checker, K: Sink>(
     }
 }
 
-/// Judges the log by a new checker, under the limits of the command, and writes its text. The checker is frugal where
-/// that of the command is.
+/// Judges the log by a new checker, under the limits of the command, and writes its text. The command shows no more of
+/// the events, and the checker is frugal where that of the command is.
 pub fn obey<C: Fresh + Drop, S: Source, K: Sink>(
     alloc: Global,
     command: &Command,
     log: &mut S,
     out: &mut K,
 ) -> Status
+    requires plain { shows command.now ≡ false }
     ensures obeys { ((checker : C) → C.frugal checker ≡ is_frugal command.now)
         → Obeys command.now result (S.left log.old) (S.left log.new) (S.faults log.old) (S.faults log.new)
         (K.held out.old) (K.held out.new) (K.faults out.old) (K.faults out.new) }

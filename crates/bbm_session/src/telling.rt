@@ -1,6 +1,6 @@
 //! The texts of a command.
 
-ghost use Rattle.std.specs.Prelude.{◌≡◌, ◌<◌, ◌++◌, ℕ, List, Option, Some, None};
+ghost use Rattle.std.specs.Prelude.{◌≡◌, ◌<◌, ◌++◌, ℕ, false, List, Option, Some, None};
 ghost use Rattle.bbm_report.specs.events.declared.event.Event.{Event};
 ghost use Rattle.bbm_report.specs.events.Heading.{Heading};
 ghost use Rattle.bbm_report.specs.rules.Phases.{phase_of};
@@ -9,7 +9,7 @@ ghost use Rattle.bbm_report.specs.rules.Texts.{verdict_text as text_of_verdict};
 ghost use Rattle.bbm_report.specs.Lines.{found_text as text_of_found, phase_text as text_of_phase};
 ghost use Rattle.bbm_report.specs.Further.{explained, phase_lines as lines_of_phases};
 ghost use Rattle.bbm_session.specs.declared.command.Command.TheVariants as command_of;
-ghost use Rattle.bbm_session.specs.Run.{Says};
+ghost use Rattle.bbm_session.specs.Run.{Says, shows};
 ghost use Rattle.bbm_session.specs.Stages.{Keeps, Knows};
 ghost use Rattle.bbm_session.specs.Telling.{place_named};
 ghost use Rattle.bbm_session.specs.Writing.{Puts};
@@ -154,7 +154,8 @@ fn tell_walked<C: Checker, K: Sink>(
     }
 }
 
-/// Writes the text of a command for a verdict: its line, and what is said behind it.
+/// Writes the text of a command for a verdict: its line, and what is said behind it. The command shows no more of the
+/// events.
 pub fn tell_all<C: Checker, K: Sink>(
     command: &Command,
     header: &Header,
@@ -162,13 +163,14 @@ pub fn tell_all<C: Checker, K: Sink>(
     verdict: &Verdict,
     out: &mut K,
 ) -> Result<(), Failed>
-    requires { (h : List Event) × Knows (C.stands checker.now) header.now h verdict.now }
+    requires known { (h : List Event) × Knows (C.stands checker.now) header.now h verdict.now }
+    requires plain { shows command.now ≡ false }
     ensures puts { (h : List Event) → Knows (C.stands checker.now) header.now h verdict.now
         → (text : List ℕ) × Says command.now (Some header.now) h verdict.now text
         × Puts text result (K.held out.old) (K.held out.new) (K.faults out.old) (K.faults out.new) }
 {
     match command {
-        Command::Check | Command::Slow => tell_verdict(verdict, out),
+        Command::Check | Command::Slow | Command::Show(_) => tell_verdict(verdict, out),
         Command::Explain => tell_explained(header, checker, verdict, out),
         Command::Walk(question) => tell_walked(header, checker, question, verdict, out),
     }

@@ -22,6 +22,7 @@ use crate::following::follow;
 use crate::generating::generate;
 use crate::obeying::obey;
 use crate::selftesting::selftest;
+use crate::showing::show;
 use crate::status::Status;
 use crate::telling::tell;
 use bbm_follow::tlb_machine::law_accepted_is_safe;
@@ -34,7 +35,7 @@ use std::alloc::Global;
 fn usage() -> &'static [u8]
     ensures { result.now ≡ usage_text }
 {
-    b"usage: bbm check | slow | explain | walk KIND ROOT ADDR | gen N COUNT | selftest N COUNT | follow\n"
+    b"usage: bbm check | slow | explain | walk KIND ROOT ADDR | gen N COUNT | selftest N COUNT | follow | idle\n"
 }
 
 /// Writes the usage line.
@@ -53,6 +54,7 @@ fn judge<S: Source, K: Sink>(alloc: Global, command: &Command, log: &mut S, out:
 {
     match command {
         Command::Slow => obey::<Oracle, S, K>(alloc, command, log, out),
+        Command::Show(evidence) => show::<Oracle, S, K>(alloc, evidence, log, out),
         Command::Check | Command::Explain | Command::Walk(_) => {
             obey::<Replay, S, K>(alloc, command, log, out)
         }

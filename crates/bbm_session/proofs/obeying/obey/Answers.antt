@@ -1,17 +1,16 @@
-use Rattle.std.proofs.Common.{[], Bool, Some, refl, subst, sym, ap, ◌∙◌}
+use Rattle.std.proofs.Common.{[], Bool, Some, refl, subst, inl}
 use Rattle.bbm_report.specs.rules.declared.limits.Limits.{Limits}
 use Rattle.bbm_report.specs.rules.Outcome.{AtHeader, events_in}
 use Rattle.bbm_session.specs.Folds.{is_frugal, judging_for}
 use Rattle.bbm_session.specs.JudgedLog.{JudgedLog, Unjudged}
 use Rattle.bbm_session.specs.Run.{Says, limits_of, status_of}
-use Rattle.bbm_session.specs.Stages.{Starves}
-use Rattle.bbm_session.specs.Writing.{SaysFor}
+use Rattle.bbm_session.specs.Writing.{SaysFor, WantsJudged}
 use Rattle.bbm_session.proofs.Served.{answered}
 use Rattle.bbm_session.proofs.Stages.{some-heads}
 use Rattle.bbm_session.proofs.obeying.obey.Goals as goal
 
-pub report-requires : goal.report-requires
-report-requires g c =
+pub report-requires-clause-known : goal.report-requires-clause-known
+report-requires-clause-known g c =
     let judged = c.in-Ok.ensures.judged.1 in
     (events_in judged.reached, judged.known)
 
@@ -28,8 +27,8 @@ returns-in-Ok-clause-obeys g c = λ frugal.
     record {
       heading = Some header;
       heads = judged.heads;
-      answered = answered fold AtHeader judged.reached (λ said text. Says command (Some header) said.log said.verdict text) (λ said. status_of said.verdict) (Starves fold 1 AtHeader) (SaysFor command (Some header) (events_in judged.reached)) stop c.report.result _ _ _ _ _ _ _ _
-          (λ v text says. says) (λ v. refl) (λ starves. starves) judged.stops (c.report.ensures (events_in judged.reached) judged.known);
+      answered = answered fold AtHeader judged.reached (λ said text. Says command (Some header) said.log said.verdict text) (λ said. status_of said.verdict) (WantsJudged command) (SaysFor command (Some header) (events_in judged.reached)) stop c.report.result _ _ _ _ _ _ _ _
+          (λ v text says. says) (λ v. refl) (λ starves. inl starves) judged.stops (c.report.ensures (events_in judged.reached) judged.known);
     }
 
 pub returns-in-Err-clause-obeys : goal.returns-in-Err-clause-obeys
@@ -41,6 +40,6 @@ returns-in-Err-clause-obeys g c = λ frugal.
     record {
       heading = heads.0;
       heads = heads.1;
-      answered = answered fold AtHeader AtHeader (λ said text. Says command heads.0 said.log said.verdict text) (λ said. status_of said.verdict) (Starves fold 1 AtHeader) (SaysFor command heads.0 []) c.in-Err.stop c.report_stop.result _ _ _ _ _ _ _ _
-          (λ v text says. says) (λ v. refl) (λ starves. starves) unjudged.stops (c.report_stop.ensures.brief unjudged.brief command heads.0 []);
+      answered = answered fold AtHeader AtHeader (λ said text. Says command heads.0 said.log said.verdict text) (λ said. status_of said.verdict) (WantsJudged command) (SaysFor command heads.0 []) c.in-Err.stop c.report_stop.result _ _ _ _ _ _ _ _
+          (λ v text says. says) (λ v. refl) (λ starves. inl starves) unjudged.stops (c.report_stop.ensures.brief unjudged.brief command heads.0 []);
     }

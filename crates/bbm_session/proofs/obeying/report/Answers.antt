@@ -6,12 +6,13 @@ use Rattle.bbm_session.specs.Writing.{Reports, SaysFor, Wrote}
 use Rattle.bbm_session.proofs.Refusals.{names-it}
 use Rattle.bbm_session.proofs.obeying.report.Goals as goal
 
-pub tell_all-requires : goal.tell_all-requires
-tell_all-requires g c =
+pub tell_all-requires-clause-known : goal.tell_all-requires-clause-known
+tell_all-requires-clause-known g c =
     let header = c.args.header.now in
     let stands = g.C.Checker.stands c.args.checker.now in
-    let known = subst (λ (s : Stop). KnowsAt stands header c.requires.0 s) c.in-Decided.is c.requires.1 in
-    (c.requires.0, names-it stands header c.requires.0 c.in-Decided.decision.verdict c.in-Decided.decision.refused known.0 known.1)
+    let h = c.requires.known.0 in
+    let known = subst (λ (s : Stop). KnowsAt stands header h s) c.in-Decided.is c.requires.known.1 in
+    (h, names-it stands header h c.in-Decided.decision.verdict c.in-Decided.decision.refused known.0 known.1)
 
 pub returns-in-Decided : goal.returns-in-Decided
 returns-in-Decided g c = λ h knows.

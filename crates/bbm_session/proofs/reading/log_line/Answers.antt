@@ -1,4 +1,4 @@
-use Rattle.std.proofs.Common.{[], ◌∷◌, ◌++◌, ◌∙◌, subst, ℕ, List, Ok, Err}
+use Rattle.std.proofs.Common.{◌∙◌, subst, ℕ, List, Ok, Err}
 use Rattle.bbm_io.specs.Reading.{shown}
 use Rattle.bbm_session.specs.declared.line.Piece.TheVariants as piece
 use Rattle.bbm_session.specs.Stages.{TakesLine}

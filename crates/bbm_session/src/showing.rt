@@ -1,0 +1,154 @@
+//! The commands that show more of the events of a log.
+
+ghost use Rattle.std.specs.Prelude.{◌≡◌, ◌*◌, ◌<◌, ◌^◌, ◌++◌, false, List, Some, reverse};
+ghost use Rattle.bbm_report.specs.events.declared.event.Event.{Event};
+ghost use Rattle.bbm_report.specs.rules.Texts.{verdict_text as text_of_verdict};
+ghost use Rattle.bbm_report.specs.Lines.{idle_text as text_of_idle};
+ghost use Rattle.bbm_session.specs.declared.command.Command.TheVariants as command_of;
+ghost use Rattle.bbm_session.specs.Shown.{marked_line, marked_lines};
+ghost use Rattle.bbm_session.specs.Stages.{Keeps, KnowsAt, KnowsThat, Shrinks};
+ghost use Rattle.bbm_session.specs.Writing.{Obeys, Puts, ReportsIdle, ReportsShown, ReportsVerdict};
+
+use crate::answering::{report_stop, settled, status};
+use crate::command::{Command, Evidence, limits};
+use crate::judgement::judge_log;
+use crate::status::Status;
+use crate::stop::Stop;
+use crate::telling::{tell, tell_verdict};
+use arrayvec::ArrayVec;
+use bbm_idle::find;
+use bbm_io::{Failed, Sink, Source};
+use bbm_report::events::Header;
+use bbm_report::idle_text;
+use bbm_report::rules::{Fresh, Logged, Verdict};
+use std::alloc::Global;
+
+/// Writes the line of the event behind so many others, where it is marked.
+fn tell_marked<K: Sink>(marked: bool, before: usize, out: &mut K) -> Result<(), Failed>
+    requires { before < 2 ^ 63 }
+    ensures puts { Puts (marked_line marked before) result (K.held out.old) (K.held out.new)
+        (K.faults out.old) (K.faults out.new) }
+{
+    if marked {
+        let mut text = ArrayVec::new();
+        idle_text(before as u64 + 2, &mut text);
+        tell(&text, out)
+    } else {
+        Ok(())
+    }
+}
+
+/// Writes the lines of the marked events of a log.
+fn tell_marks<K: Sink>(marks: &[bool], out: &mut K) -> Result<(), Failed>
+    ensures puts { Puts (marked_lines (reverse marks.now)) result (K.held out.old) (K.held out.new)
+        (K.faults out.old) (K.faults out.new) }
+{
+    let mut before = 0;
+    'events: while before < marks.len() {
+        match tell_marked(marks[before], before, out) {
+            Ok(()) => before += 1,
+            Err(failed) => return Err(failed),
+        }
+    }
+    Ok(())
+}
+
+/// Writes the line of a verdict, and behind it those of the marked events.
+fn tell_idle<K: Sink>(verdict: &Verdict, marks: &[bool], out: &mut K) -> Result<(), Failed>
+    ensures puts { Puts (text_of_verdict verdict.now ++ marked_lines (reverse marks.now)) result
+        (K.held out.old) (K.held out.new) (K.faults out.old) (K.faults out.new) }
+{
+    match tell_verdict(verdict, out) {
+        Ok(()) => tell_marks(marks, out),
+        Err(failed) => Err(failed),
+    }
+}
+
+/// Says of an accepted log which events it can do without.
+fn report_idle<C: Logged, K: Sink>(
+    alloc: Global,
+    header: &Header,
+    checker: &C,
+    verdict: &Verdict,
+    out: &mut K,
+) -> Status
+    requires { (h : List Event) × Keeps (C.stands checker.now) header.now h }
+    ensures { (h : List Event) → Keeps (C.stands checker.now) header.now h → ReportsIdle header.now h verdict.now result
+        (K.held out.old) (K.held out.new) (K.faults out.old) (K.faults out.new) }
+{
+    match find(alloc, header, checker.log()) {
+        Ok(marks) => settled(tell_idle(verdict, &marks, out), status(verdict)),
+        Err(_) => Status::NoMemory,
+    }
+}
+
+/// Says what was decided, and shows what there is to show.
+fn report_decided<C: Logged, K: Sink>(
+    alloc: Global,
+    evidence: &Evidence,
+    header: &Header,
+    checker: &C,
+    verdict: &Verdict,
+    out: &mut K,
+) -> Status
+    requires { (h : List Event) × KnowsThat (Keeps (C.stands checker.now) header.now h) verdict.now }
+    ensures { (h : List Event) → KnowsThat (Keeps (C.stands checker.now) header.now h) verdict.now
+        → ReportsVerdict (command_of.Show evidence.now) (Some header.now) h verdict.now result
+        (K.held out.old) (K.held out.new) (K.faults out.old) (K.faults out.new) }
+{
+    match verdict {
+        Verdict::Accepted { .. } => match evidence {
+            Evidence::Idle => report_idle(alloc, header, checker, verdict, out),
+        },
+        _ => settled(tell_verdict(verdict, out), status(verdict)),
+    }
+}
+
+/// Says why reading stopped behind the header, and shows what there is to show.
+fn report_shown<C: Logged, K: Sink>(
+    alloc: Global,
+    evidence: &Evidence,
+    header: &Header,
+    checker: &C,
+    stop: Stop,
+    out: &mut K,
+) -> Status
+    requires { (h : List Event) × KnowsAt (C.stands checker.now) header.now h stop }
+    ensures { (h : List Event) → KnowsAt (C.stands checker.now) header.now h stop
+        → ReportsShown (command_of.Show evidence.now) (Some header.now) h stop result
+        (K.held out.old) (K.held out.new) (K.faults out.old) (K.faults out.new) }
+{
+    match stop {
+        Stop::Decided(decision) => {
+            report_decided(alloc, evidence, header, checker, &decision.verdict, out)
+        }
+        Stop::ReadFault => Status::ReadFault,
+        Stop::NoMemory => Status::NoMemory,
+    }
+}
+
+/// Judges the log by a new checker that keeps its events, under the limits of the command, and writes its text. There
+/// may be no memory for what is shown: then nothing is written.
+pub fn show<C: Fresh + Logged + Drop, S: Source, K: Sink>(
+    alloc: Global,
+    evidence: &Evidence,
+    log: &mut S,
+    out: &mut K,
+) -> Status
+    ensures obeys { ((checker : C) → C.frugal checker ≡ false)
+        → Obeys (command_of.Show evidence.now) result (S.left log.old) (S.left log.new)
+        (S.faults log.old) (S.faults log.new) (K.held out.old) (K.held out.new) (K.faults out.old) (K.faults out.new) }
+    ensures shrinks { Shrinks (201 * 4294967298) (S.left log.old) (S.left log.new) }
+{
+    match judge_log::<C, S>(alloc, limits(&Command::Show(*evidence)), log) {
+        Ok(judgement) => report_shown(
+            alloc,
+            evidence,
+            &judgement.header,
+            &judgement.checker,
+            judgement.stop,
+            out,
+        ),
+        Err(stop) => report_stop(stop, out),
+    }
+}
