@@ -259,7 +259,7 @@ header_short h ok =
     let world = world_short h h.pes h.world (cnp_fields h.version h.cnp) (omega (arith, pes)) here.world cnp.0 in
     let count = world.1 in
     let most = joined_length (codes "bbmlog" ∷ decimal h.version ∷ header_fields h.pes h.world (cnp_fields h.version h.cnp))
-        (leb-true 6 20 refl, (decimal_length h.version (version_below h.version here.version), world.0)) in
+    (leb-true 6 20 refl, (decimal_length h.version (version_below h.version here.version), world.0)) in
     omega (arith, most, count, one)
 
 pub header_plain : (h : Heading) → is_plain (header_line h) ≡ true

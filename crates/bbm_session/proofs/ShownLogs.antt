@@ -46,9 +46,9 @@ marks-failed marks i d e old mid new f f' f'' below first second =
     let taken = take (i + 1) marks in
     let rest = marked-begins (reverse (drop (i + 1) marks)) (reverse taken) in
     let whole : marked_lines (reverse marks) ≡ (lines ++ line) ++ rest.0 =
-        ap (λ (bs : List Bool). marked_lines (reverse bs)) (sym (take-append-drop (i + 1) marks))
-        ∙ ap marked_lines (reverse-append taken (drop (i + 1) marks)) ∙ rest.1
-        ∙ ap (λ (text : List ℕ). text ++ rest.0) (marked-more marks i d below) in
+    ap (λ (bs : List Bool). marked_lines (reverse bs)) (sym (take-append-drop (i + 1) marks))
+    ∙ ap marked_lines (reverse-append taken (drop (i + 1) marks)) ∙ rest.1
+    ∙ ap (λ (text : List ℕ). text ++ rest.0) (marked-more marks i d below) in
     subst (λ (text : List ℕ). Puts text (Err e) old new f f'') (sym whole) (puts-longer (lines ++ line) rest.0 e old new f f'' failed)
 
 -- what became of a log that was judged up to the line that decides
