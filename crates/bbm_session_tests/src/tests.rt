@@ -9,6 +9,7 @@ mod failing;
 mod follow;
 mod generated;
 mod hostile;
+mod idle;
 mod other_logs;
 mod selftest;
 mod slow;

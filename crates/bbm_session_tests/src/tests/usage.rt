@@ -6,7 +6,7 @@ use std::test::Fail;
 
 /// The usage line.
 const USAGE: &[u8] =
-    b"usage: bbm check | slow | explain | walk KIND ROOT ADDR | gen N COUNT | selftest N COUNT | follow\n";
+    b"usage: bbm check | slow | explain | walk KIND ROOT ADDR | gen N COUNT | selftest N COUNT | follow | idle\n";
 
 /// Words that ask for nothing.
 const NO_REQUESTS: [&str; 49] = [
