@@ -1,0 +1,213 @@
+-- The TLBI at a position of a log that is kept, and the barrier behind the log that answers it.
+use Rattle.std.proofs.Common.{◌≡◌, ℕ, suc, ◌+◌, ◌-◌, ◌<◌, ◌⊎◌, Bool, true, false, cond, ◌&&◌, ◌||◌, not, ◌==◌, List, [], ◌∷◌, ◌++◌, length, take, drop, get_or, reverse, refl, sym, ◌∙◌, ap, arith, inl, inr, length-append}
+use Rattle.std.proofs.Math.Bool.{or_comm, or-false}
+use Rattle.std.proofs.lemmas.Bool.{and_right, eq-eqb, ne_eqb}
+use Rattle.std.proofs.lemmas.List.{get_or_default, length-drop, reverse-append, take_all}
+use Rattle.std.proofs.lemmas.List.Folds.{list_any-append}
+use Rattle.std.specs.List.{list_any}
+use Rattle.bbm_histories.specs.barriers.Options.{answers}
+use Rattle.bbm_histories.specs.tlbi_scope.declared.entry.Cover.{Cover}
+use Rattle.bbm_histories.specs.tlbi_scope.Operations.{operation}
+use Rattle.bbm_histories.specs.rules.Cleansing.{same_cover}
+use Rattle.bbm_histories.specs.rules.Notes.{Noted}
+use Rattle.bbm_histories.specs.descriptor.Descriptor.{same_bool}
+use Rattle.bbm_histories.specs.rules.Prelude.{Barrier, Heading, Event, Dsb, Tlbi, TlbiOp}
+use Rattle.bbm_histories.specs.rules.Reach.{completes, reaches}
+use Rattle.bbm_histories.specs.rules.Sentences.{completes_for, issues}
+use Rattle.bbm_histories.specs.Steps.{answered_by, is_tlbi}
+use Rattle.bbm_oracle_patterns.specs.Kept.{cover_in, note_of, notes_of}
+use Rattle.bbm_oracle_patterns.specs.declared.kept.Kept.{Kept}
+use Rattle.bbm_cert.specs.Flushes.{completed_by, is_flush_of}
+use Rattle.bbm_cert.specs.Marks.{answers_for, flush_mark, flushes_for, mark_at, waits_at}
+use Rattle.bbm_cert.proofs.Kepts.{length_before, length_notes, mark_found, mark_lost, split}
+
+-- ---- tests
+
+any_reverse : {X : Type 0} (f : X → Bool) (xs : List X) → list_any f (reverse xs) ≡ list_any f xs
+any_reverse f [] = refl
+any_reverse f (x ∷ xs) =
+    ap (list_any f) (reverse-append (x ∷ []) xs)
+    ∙ list_any-append f (reverse xs) (x ∷ [])
+    ∙ or_comm (list_any f (reverse xs)) (f x || false)
+    ∙ ap (λ (b : Bool). b || list_any f (reverse xs)) (or-false (f x))
+    ∙ ap (λ (b : Bool). f x || b) (any_reverse f xs)
+
+any_same : {X : Type 0} (f g : X → Bool) (xs : List X) → ((x : X) → f x ≡ g x) → list_any f xs ≡ list_any g xs
+any_same f g [] each = refl
+any_same f g (x ∷ xs) each =
+    ap (λ (b : Bool). b || list_any f xs) (each x) ∙ ap (λ (b : Bool). g x || b) (any_same f g xs each)
+
+pick_true : (a b n m i r : Bool)
+    → ((a && (n && ((i && true) && r))) || (b && (m && ((i && false) && r)))) ≡ ((i && (a && r)) && n)
+pick_true true true true true true true = refl
+pick_true true true true true true false = refl
+pick_true true true true false true true = refl
+pick_true true true true false true false = refl
+pick_true true true false true true true = refl
+pick_true true true false true true false = refl
+pick_true true true false false true true = refl
+pick_true true true false false true false = refl
+pick_true true false true m true true = refl
+pick_true true false true m true false = refl
+pick_true true false false m true true = refl
+pick_true true false false m true false = refl
+pick_true false true n true true r = refl
+pick_true false true n false true r = refl
+pick_true false false n m true r = refl
+pick_true true true true true false r = refl
+pick_true true true true false false r = refl
+pick_true true true false true false r = refl
+pick_true true true false false false r = refl
+pick_true true false true m false r = refl
+pick_true true false false m false r = refl
+pick_true false true n true false r = refl
+pick_true false true n false false r = refl
+pick_true false false n m false r = refl
+
+pick_false : (a b n m i r : Bool)
+    → ((a && (n && ((i && false) && r))) || (b && (m && ((i && true) && r)))) ≡ ((i && (b && r)) && m)
+pick_false a b n m i r = flip (a && (n && ((i && false) && r))) (b && (m && ((i && true) && r))) ∙ pick_true b a m n i r
+  where
+    flip : (x y : Bool) → (x || y) ≡ (y || x)
+    flip x y = or_comm x y
+
+pick_none : (a b n m : Bool) → ((a && (n && false)) || (b && (m && false))) ≡ false
+pick_none true true true true = refl
+pick_none true true true false = refl
+pick_none true true false true = refl
+pick_none true true false false = refl
+pick_none true false true m = refl
+pick_none true false false m = refl
+pick_none false true n true = refl
+pick_none false true n false = refl
+pick_none false false n m = refl
+
+-- ---- what waits
+
+module _ (heading : Heading) (place p q : ℕ) (cover : Cover) where
+  -- whether some of these barriers answers TLBIs of q, broadcast or not as told
+  abbrev answered : Bool → List Kept → Bool
+  answered b ks = list_any (λ x. answers_for q b x.event) ks
+
+  waits_kept : (b : Bool) (newer older : List Kept) (k : Kept)
+      → waits_at heading place p q b cover (suc (length older)) (notes_of (newer ++ k ∷ older))
+      ≡ (not (answered b newer) && flushes_for heading place p q b cover (note_of (length older) k))
+  waits_kept b [] older k =
+      let here : (suc (length older) == suc (length (notes_of older))) ≡ true
+      = eq-eqb (suc (length older)) (suc (length (notes_of older))) (ap suc (sym (length_notes older))) in
+      rw here refl
+  waits_kept b (x ∷ newer) older k =
+      let there : (suc (length older) == suc (length (notes_of (newer ++ k ∷ older)))) ≡ false
+      = ne_eqb (suc (length older)) (suc (length (notes_of (newer ++ k ∷ older))))
+      (λ e. omega (arith, length_notes (newer ++ k ∷ older), length-append newer (k ∷ older))) in
+      rw there
+      (ap (λ (w : Bool). not (answers_for q b x.event) && w) (waits_kept b newer older k)
+      ∙ both (answers_for q b x.event) (answered b newer) (flushes_for heading place p q b cover (note_of (length older) k)))
+    where
+      both : (a n f : Bool) → (not a && (not n && f)) ≡ (not (a || n) && f)
+      both true n f = refl
+      both false n f = refl
+
+  waits_found : (b : Bool) (log : List Kept) (t i : ℕ) (k : Kept) → i < length log → t ≡ suc i → k ≡ get_or log i k
+      → waits_at heading place p q b cover t (notes_of (reverse log))
+      ≡ (not (answered b (drop (i + 1) log)) && flushes_for heading place p q b cover (note_of i k))
+  waits_found b log t i k below at is =
+      let before : length (reverse (take i log)) ≡ i = length_before log i (omega arith) in
+      ap (λ (n : ℕ). waits_at heading place p q b cover n (notes_of (reverse log))) (at ∙ ap suc (sym before))
+      ∙ ap (λ (ks : List Kept). waits_at heading place p q b cover (suc (length (reverse (take i log)))) (notes_of ks))
+      (split log i k below ∙ ap (λ (x : Kept). reverse (drop (i + 1) log) ++ x ∷ reverse (take i log)) (sym is))
+      ∙ waits_kept b (reverse (drop (i + 1) log)) (reverse (take i log)) k
+      ∙ ap (λ (n : ℕ). not (answered b (reverse (drop (i + 1) log))) && flushes_for heading place p q b cover (note_of n k)) before
+      ∙ ap (λ (x : Bool). not x && flushes_for heading place p q b cover (note_of i k))
+      (any_reverse (λ x. answers_for q b x.event) (drop (i + 1) log))
+
+  -- ---- what is answered
+
+  same_answers : (pe : ℕ) (op : TlbiOp) (xt : ℕ) (x : Kept)
+      → answers_for q (operation op).broadcast x.event ≡ completed_by q (Tlbi pe op xt) x
+  same_answers pe op xt x = one x.event
+    where
+      one : (e : Event) → answers_for q (operation op).broadcast e ≡ completes_for q (Tlbi pe op xt) e
+      one (Dsb q' dsb) = refl
+      one _ = refl
+
+  answered_is : (dsb : Barrier) (later : List Kept) (e : Event) (r : Bool)
+      → answered_by dsb (λ b. not (answered b later) && ((issues q e && is_tlbi b e) && r))
+      ≡ ((issues q e && (completes dsb e && r)) && not (list_any (completed_by q e) later))
+  answered_is dsb later (Tlbi pe op xt) r =
+      by (operation op).broadcast (any_same (λ x. answers_for q (operation op).broadcast x.event) (completed_by q (Tlbi pe op xt)) later (same_answers pe op xt))
+    where
+      by : (c : Bool) → answered c later ≡ list_any (completed_by q (Tlbi pe op xt)) later
+          → answered_by dsb (λ b. not (answered b later) && ((pe == q && same_bool c b) && r))
+          ≡ ((pe == q && (answers dsb c && r)) && not (list_any (completed_by q (Tlbi pe op xt)) later))
+      by true same =
+          pick_true (answers dsb true) (answers dsb false) (not (answered true later)) (not (answered false later)) (pe == q) r
+          ∙ ap (λ (b : Bool). (pe == q && (answers dsb true && r)) && not b) same
+      by false same =
+          pick_false (answers dsb true) (answers dsb false) (not (answered true later)) (not (answered false later)) (pe == q) r
+          ∙ ap (λ (b : Bool). (pe == q && (answers dsb false && r)) && not b) same
+  answered_is dsb later _ r =
+      pick_none (answers dsb true) (answers dsb false) (not (answered true later)) (not (answered false later))
+
+  pub flush_found : (dsb : Barrier) (mark : List Noted → ℕ) (log : List Kept) (t i : ℕ) (k : Kept) → i < length log
+      → t ≡ suc i → k ≡ get_or log i k
+      → flush_mark heading place p cover t mark (Dsb q dsb) (notes_of (reverse log))
+      ≡ cond (is_flush_of heading q dsb cover place p k && not (list_any (completed_by q k.event) (drop (i + 1) log)))
+      (mark (notes_of (reverse (take i log)))) 0
+  flush_found dsb mark log t i k below at is =
+      ap (λ (b : Bool). cond b (mark_at t (λ n before. mark before) (notes_of (reverse log))) 0)
+      (ap (λ (w : Bool). (answers dsb true && w) || (answers dsb false && waits_at heading place p q false cover t (notes_of (reverse log))))
+      (waits_found true log t i k below at is)
+      ∙ ap (λ (w : Bool). (answers dsb true && (not (answered true (drop (i + 1) log)) && flushes_for heading place p q true cover (note_of i k)))
+      || (answers dsb false && w))
+      (waits_found false log t i k below at is)
+      ∙ answered_is dsb (drop (i + 1) log) k.event (reaches heading k.event p && same_cover (cover_in k.covers.items place) cover))
+      ∙ ap (λ (m : ℕ). cond (is_flush_of heading q dsb cover place p k && not (list_any (completed_by q k.event) (drop (i + 1) log))) m 0)
+      (mark_found (λ n before. mark before) log t i k below at is)
+
+  -- where the code has asked whether the TLBI does what it has to, and then whether it is answered
+  module _ (dsb : Barrier) (mark : List Noted → ℕ) (log : List Kept) (t i : ℕ) (k : Kept)
+      (found : (i < length log) × (t ≡ suc i)) (is : k ≡ get_or log i k) where
+    flush_by : (x y : Bool) → is_flush_of heading q dsb cover place p k ≡ x
+        → list_any (completed_by q k.event) (drop (i + 1) log) ≡ y
+        → flush_mark heading place p cover t mark (Dsb q dsb) (notes_of (reverse log))
+        ≡ cond (x && not y) (mark (notes_of (reverse (take i log)))) 0
+    flush_by x y is_x is_y =
+        flush_found dsb mark log t i k found.0 found.1 is
+        ∙ ap (λ (b : Bool). cond (b && not (list_any (completed_by q k.event) (drop (i + 1) log))) (mark (notes_of (reverse (take i log)))) 0) is_x
+        ∙ ap (λ (b : Bool). cond (x && not b) (mark (notes_of (reverse (take i log)))) 0) is_y
+
+    pub flush_not : is_flush_of heading q dsb cover place p k ≡ false
+        → flush_mark heading place p cover t mark (Dsb q dsb) (notes_of (reverse log)) ≡ 0
+    flush_not none = flush_by false (list_any (completed_by q k.event) (drop (i + 1) log)) none refl
+
+    -- the events behind it, as the code has them
+    later_is : (k' : Kept) → list_any (completed_by q (get_or log i k').event) (take (length log - (i + 1)) (drop (i + 1) log))
+        ≡ list_any (completed_by q k.event) (drop (i + 1) log)
+    later_is k' =
+        let same : get_or log i k' ≡ k = get_or_default log i k' k found.0 ∙ sym is in
+        ap (λ (x : Kept). list_any (completed_by q x.event) (take (length log - (i + 1)) (drop (i + 1) log))) same
+        ∙ ap (list_any (completed_by q k.event)) (take_all (length log - (i + 1)) (drop (i + 1) log) (omega (arith, length-drop (i + 1) log)))
+
+    pub flush_yes : (k' : Kept) → is_flush_of heading q dsb cover place p k ≡ true
+        → list_any (completed_by q (get_or log i k').event) (take (length log - (i + 1)) (drop (i + 1) log)) ≡ false
+        → flush_mark heading place p cover t mark (Dsb q dsb) (notes_of (reverse log)) ≡ mark (notes_of (reverse (take i log)))
+    flush_yes k' does none = flush_by true false does (sym (later_is k') ∙ none)
+
+    pub flush_answered : (k' : Kept)
+        → list_any (completed_by q (get_or log i k').event) (take (length log - (i + 1)) (drop (i + 1) log)) ≡ true
+        → flush_mark heading place p cover t mark (Dsb q dsb) (notes_of (reverse log)) ≡ 0
+    flush_answered k' answered =
+        flush_by (is_flush_of heading q dsb cover place p k) true refl (sym (later_is k') ∙ answered)
+        ∙ ap (λ (b : Bool). cond b (mark (notes_of (reverse (take i log)))) 0) (and_right (is_flush_of heading q dsb cover place p k) false refl)
+
+  pub flush_lost : (dsb : Barrier) (mark : List Noted → ℕ) (log : List Kept) (t : ℕ)
+      → (t ≡ 0) ⊎ (length log < t)
+      → flush_mark heading place p cover t mark (Dsb q dsb) (notes_of (reverse log)) ≡ 0
+  flush_lost dsb mark log t gone =
+      zero (answered_by dsb (λ b. waits_at heading place p q b cover t (notes_of (reverse log))))
+      (mark_at t (λ n before. mark before) (notes_of (reverse log))) (mark_lost (λ n before. mark before) log t gone)
+    where
+      zero : (b : Bool) (m : ℕ) → m ≡ 0 → cond b m 0 ≡ 0
+      zero true m e = e
+      zero false m e = refl

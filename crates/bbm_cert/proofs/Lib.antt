@@ -1,0 +1,9 @@
+pub mod Tests
+pub mod Marked
+pub mod Claimed
+pub mod Kepts
+pub mod Flushed
+pub mod Cleansed
+pub mod TagSteps
+pub mod JudgedLaw
+pub mod Verified

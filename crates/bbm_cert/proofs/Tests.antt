@@ -1,0 +1,91 @@
+-- Tests that are combined, and numbers that are compared. None of them speaks of events.
+use Rattle.std.proofs.Common.{◌≡◌, ℕ, zero, suc, ◌≤◌, ◌<◌, Bool, true, false, cond, ◌&&◌, ◌||◌, not, nat_lt, List, [], ◌∷◌, refl, sym, ◌∙◌, ap, zero-le}
+use Rattle.std.proofs.Math.Bool.{and-false, or-false}
+use Rattle.std.proofs.lemmas.Bool.{le-ltb, or_from}
+use Rattle.std.specs.List.{list_any}
+
+pub and_true : (a : Bool) → (a && true) ≡ a
+and_true true = refl
+and_true false = refl
+
+-- no number is below 0
+pub none_below : (n : ℕ) → nat_lt n 0 ≡ false
+none_below n = le-ltb n 0 zero-le
+
+pub lt_cond : (b : Bool) (n m : ℕ) → nat_lt n (cond b m 0) ≡ (b && nat_lt n m)
+lt_cond true n m = refl
+lt_cond false n m = none_below n
+
+-- a mark at one position or at those before it
+pub lt_at : (k : Bool) (n x y : ℕ) (f g : Bool) → nat_lt n x ≡ f → nat_lt n y ≡ g → (k ≡ true → y ≡ 0)
+    → nat_lt n (cond k x y) ≡ ((f && k) || g)
+lt_at true n x y f g is_f is_g none =
+    is_f
+    ∙ sym (and_true f)
+    ∙ sym (or-false (f && true))
+    ∙ ap (λ (b : Bool). (f && true) || b) (sym (sym is_g ∙ ap (nat_lt n) (none refl) ∙ none_below n))
+lt_at false n x y f g is_f is_g none = is_g ∙ ap (λ (b : Bool). b || g) (sym (and-false f))
+
+pub and_or : (a x c y m : Bool) → (((a && x) || (c && y)) && m) ≡ ((a && (x && m)) || (c && (y && m)))
+and_or true true c y true = refl
+and_or true true false y false = refl
+and_or true true true true false = refl
+and_or true true true false false = refl
+and_or true false true y m = refl
+and_or true false false y m = refl
+and_or false x true y m = refl
+and_or false x false y m = refl
+
+-- two searches of one list
+pub any_both : {X : Type 0} (f g h : X → Bool) (xs : List X) → ((x : X) → (f x || g x) ≡ h x)
+    → (list_any f xs || list_any g xs) ≡ list_any h xs
+any_both f g h [] each = refl
+any_both f g h (x ∷ xs) each =
+    pairs (f x) (list_any f xs) (g x) (list_any g xs)
+    ∙ ap (λ (b : Bool). b || (list_any f xs || list_any g xs)) (each x)
+    ∙ ap (λ (b : Bool). h x || b) (any_both f g h xs each)
+  where
+    pairs : (a b c d : Bool) → ((a || b) || (c || d)) ≡ ((a || c) || (b || d))
+    pairs true b c d = refl
+    pairs false true true d = refl
+    pairs false true false d = refl
+    pairs false false c d = refl
+
+pub any_never : {X : Type 0} (f : X → Bool) (xs : List X) → ((x : X) → f x ≡ false) → list_any f xs ≡ false
+any_never f [] each = refl
+any_never f (x ∷ xs) each = or_from (f x) (list_any f xs) (each x) (any_never f xs each)
+
+-- A TLBI that waits at a position, and what it is marked by, with one more event: whether the event stands at the
+-- position, what it is there, whether some TLBI waited before, and the two marks.
+module _ (here waited : Bool) (n m y : ℕ) (w : Bool) (none : here ≡ true → waited ≡ false)
+    (before : (waited && nat_lt n y) ≡ w) where
+  stops : here ≡ true → w ≡ false
+  stops k = sym before ∙ ap (λ (b : Bool). b && nat_lt n y) (none k)
+
+pub tlbi_case : (here a i r waited : Bool) (n m y : ℕ) (f w : Bool) → (here ≡ true → waited ≡ false)
+    → (waited && nat_lt n y) ≡ w → nat_lt n m ≡ f
+    → (cond here ((a && i) && r) waited && nat_lt n (cond here m y)) ≡ ((a && (i && (r && (here && f)))) || w)
+tlbi_case true a i r waited n m y f w none before marked =
+    ap (λ (b : Bool). ((a && i) && r) && b) marked
+    ∙ regroup a i r f
+    ∙ sym (or-false (a && (i && (r && f))))
+    ∙ ap (λ (b : Bool). (a && (i && (r && f))) || b) (sym (stops true waited n m y w none before refl))
+  where
+    regroup : (a i r f : Bool) → (((a && i) && r) && f) ≡ (a && (i && (r && f)))
+    regroup true true r f = refl
+    regroup true false r f = refl
+    regroup false i r f = refl
+tlbi_case false a i r waited n m y f w none before marked =
+    before ∙ ap (λ (b : Bool). b || w) (sym (nothing a i r))
+  where
+    nothing : (a i r : Bool) → (a && (i && (r && false))) ≡ false
+    nothing true true r = and-false r
+    nothing true false r = refl
+    nothing false i r = refl
+
+pub dsb_case : (here c waited : Bool) (n m y : ℕ) (w : Bool) → (here ≡ true → waited ≡ false) → (waited && nat_lt n y) ≡ w
+    → (cond here false (not c && waited) && nat_lt n (cond here m y)) ≡ cond c false w
+dsb_case true true waited n m y w none before = refl
+dsb_case true false waited n m y w none before = sym (stops true waited n m y w none before refl)
+dsb_case false true waited n m y w none before = refl
+dsb_case false false waited n m y w none before = before

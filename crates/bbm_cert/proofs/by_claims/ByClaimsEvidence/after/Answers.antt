@@ -1,0 +1,16 @@
+use Rattle.std.proofs.Common.{List, Bool, ◌||◌, length, reverse, ◌∙◌, ap}
+use Rattle.std.specs.List.{list_any}
+use Rattle.bbm_oracle_patterns.specs.Kept.{note_of, notes_of}
+use Rattle.bbm_cert.specs.Cleansings.{ends_now, tells}
+use Rattle.bbm_cert.specs.declared.cleansings.Cleansing.{Cleansing}
+use Rattle.bbm_cert.proofs.Cleansed.{tell_next}
+use Rattle.bbm_cert.proofs.by_claims.ByClaimsEvidence.after.Goals as goal
+
+pub returns-clause-taken : goal.returns-clause-taken
+returns-clause-taken c = λ a p n.
+    c.in_ok-add_completed.ensures a p n
+    ∙ ap (λ (b : Bool). b || list_any (ends_now c.args.header.now c.args.newest.now.event (notes_of (reverse c.args.log.now)) a p n)
+    c.args.self.now.claims.now)
+    (ap (λ (xs : List Cleansing). tells xs a p n) (c.in_ok-cleansings.ensures ∙ c.deref.ensures.value) ∙ c.requires a p n)
+    ∙ tell_next c.args.header.now a p n c.args.self.now.claims.now (note_of (length c.args.log.now) c.args.newest.now)
+    (notes_of (reverse c.args.log.now))

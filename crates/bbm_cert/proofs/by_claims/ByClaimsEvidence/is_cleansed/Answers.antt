@@ -1,0 +1,26 @@
+use Rattle.std.proofs.Common.{◌≡◌, ℕ, List, reverse, drop, ◌∙◌, ap}
+use Rattle.bbm_histories.specs.events.Heading.{Heading}
+use Rattle.bbm_histories.specs.regimes.EveryPe.{every_pe}
+use Rattle.bbm_histories.specs.regimes.PeMask.{pe_in}
+use Rattle.bbm_histories.specs.rules.Claims.Trust.{Listed}
+use Rattle.bbm_histories.specs.rules.Cleansing.{cleansed}
+use Rattle.bbm_oracle_patterns.specs.Kept.{notes_behind}
+use Rattle.bbm_regimes.proofs.Every.{every_same}
+use Rattle.bbm_cert.specs.Cleansings.{tells}
+use Rattle.bbm_cert.specs.declared.cleansings.Cleansing.{Cleansing}
+use Rattle.bbm_cert.proofs.Cleansed.{kept_cleansed}
+use Rattle.bbm_cert.proofs.by_claims.ByClaimsEvidence.is_cleansed.Goals as goal
+
+pub returns : goal.returns
+returns c =
+    let header : Heading = c.args.header.now in
+    let pes : c.header.inside.pes ≡ header.pes = ap (λ (h : Heading). h.pes) c.header.view_is in
+    c.has_all.ensures
+    ∙ ap (λ (n : ℕ). every_pe n (λ p. pe_in c.cleansed_since.result p)) pes
+    ∙ every_same header.pes (λ p. pe_in c.cleansed_since.result p)
+    (λ p. cleansed header (Listed c.args.self.now.claims.now) c.args.place p
+    (notes_behind c.args.from (reverse (drop c.args.from c.args._log.now))))
+    (λ p below. c.cleansed_since.ensures p
+    ∙ ap (λ (xs : List Cleansing). tells xs c.args.place p c.args.from) c.deref.ensures.value
+    ∙ kept_cleansed header (c.known.ensures header) c.args.self.now.claims.now
+    c.args.self.now.cleansings.items c.args._log.now c.args.from c.args.place p c.requires.within c.requires.taken)

@@ -1,0 +1,7 @@
+use Rattle.std.proofs.Common.{◌≡◌, take, reverse}
+use Rattle.bbm_oracle_patterns.specs.Kept.{notes_of}
+use Rattle.bbm_cert.specs.Marks.{wrote_mark}
+use Rattle.bbm_cert.proofs.marks.last_write.Given as goal
+
+abbrev pub invariant-loop-i : goal.invariant-loop-i
+invariant-loop-i l = l.count ≡ wrote_mark l.place l.pe (notes_of (reverse (take l.i l.log)))

@@ -1,0 +1,6 @@
+pub mod Judged
+pub mod Marks
+pub mod Flushes
+pub mod Cleansings
+pub mod Takings
+pub mod Known
