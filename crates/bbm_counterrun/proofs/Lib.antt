@@ -1,0 +1,7 @@
+mod CasesRuns
+mod Following
+mod LastStep
+mod OneEntry
+mod PlainTest
+mod RunTexts
+mod WalkSteps

@@ -1,0 +1,129 @@
+-- What becomes of the state where no entry is kept, and where one is.
+use Rattle.std.proofs.Common.{◌≡◌, ℕ, ◌+◌, ◌<◌, ◌≤◌, arith, Bool, true, false, ◌&&◌, ◌||◌, not, ◌==◌, nat_lt, nat_le, List, [], ◌∷◌, ◌++◌, length, map, reverse, Option, Some, refl, sym, ◌∙◌, ap}
+use Rattle.std.proofs.lemmas.Bool.{and_left, and_right, eq-eqb, le-leb, le-ltb, lt-leb, lt-ltb, or_from}
+use Rattle.std.proofs.lemmas.List.{length-append, map-append, reverse-append}
+use Rattle.bbm_tlb_machine.specs.rules.Lists.{◌>>=◌, any, if_so}
+use Rattle.bbm_tlb_machine.specs.rules.Prelude.{Heading, Event, Dsb}
+use Rattle.bbm_tlb_machine.specs.rules.Reach.{Issued, completes, unanswered}
+use Rattle.bbm_tlb_machine.specs.rules.Tags.{itself}
+use Rattle.bbm_tlb_machine.specs.declared.step.Step.TheVariants.{Event as Taken}
+use Rattle.bbm_tlb_machine.specs.Entry.{Entry}
+use Rattle.bbm_tlb_machine.specs.Run.{State, leaves_some}
+use Rattle.bbm_tlb_machine.specs.Safe.{conflicts_with, in_conflict}
+use Rattle.bbm_tlb_machine.specs.Step.{must_go}
+use Rattle.bbm_counterrun.specs.Tested.{forbids, is_forbidden}
+use Rattle.bbm_counterrun.proofs.Following.{run_after, run_append, run_to, then_so}
+
+-- ---- the two states
+
+abbrev pub none_kept : List Event → State
+none_kept h = record { log = h; living = []; made = 0 }
+
+abbrev pub one_kept : List Event → ℕ → Entry → State
+one_kept h n x = record { log = h; living = record { number = n; entry = x } ∷ []; made = n }
+
+-- ---- tests of lists
+
+any_false : {X : Type 0} (test : X → Bool) (xs : List X) → ((x : X) → test x ≡ false) → any test xs ≡ false
+any_false test [] all = refl
+any_false test (x ∷ xs) all = or_from (test x) (any test xs) (all x) (any_false test xs all)
+
+any_same : {X : Type 0} (one other : X → Bool) (xs : List X) → ((x : X) → one x ≡ other x) → any one xs ≡ any other xs
+any_same one other [] all = refl
+any_same one other (x ∷ xs) all =
+    ap (λ b. b || any one xs) (all x) ∙ ap (λ b. other x || b) (any_same one other xs all)
+
+pub or_false : (b : Bool) → (b || false) ≡ b
+or_false true = refl
+or_false false = refl
+
+so_some : {A : Type 0} (b : Bool) (x : A) → (if_so b x >>= (λ y. Some y)) ≡ if_so b x
+so_some true x = refl
+so_some false x = refl
+
+not_or : (now before : Bool) → (not before && not now) ≡ not (now || before)
+not_or true true = refl
+not_or true false = refl
+not_or false true = refl
+not_or false false = refl
+
+pub same_number : (n : ℕ) → (n == n) ≡ true
+same_number n = eq-eqb n n refl
+
+module _ (heading : Heading) where
+  -- ---- events
+
+  none_left : (h : List Event) (e : Event) → leaves_some heading (none_kept h) e ≡ false
+  none_left h (Dsb q dsb) = any_false _ (unanswered itself q h) (λ (t : Issued Event). and_right (completes dsb t.tlbi) false refl)
+  none_left h _ = refl
+
+  one_left : (h : List Event) (n : ℕ) (x : Entry) (e : Event) → leaves_some heading (one_kept h n x) e ≡ forbids heading x e h
+  one_left h n x (Dsb q dsb) =
+      any_same _ _ (unanswered itself q h) (λ (t : Issued Event). ap (λ b. completes dsb t.tlbi && b) (or_false (must_go heading t x)))
+  one_left h n x _ = refl
+
+  pub one_meets : (h : List Event) (n : ℕ) (x : Entry) (e : Event) → in_conflict heading (one_kept h n x) e ≡ conflicts_with heading h e x
+  one_meets h n x e = or_false (conflicts_with heading h e x)
+
+  -- the steps of events, of which one more comes last
+  taken_more : (e : Event) (newer : List Event) → map Taken (reverse (e ∷ newer)) ≡ map Taken (reverse newer) ++ Taken e ∷ []
+  taken_more e newer = ap (map Taken) (reverse-append (e ∷ []) newer) ∙ map-append Taken (reverse newer) (e ∷ [])
+
+  pub past_none : (newer older : List Event) → run_to heading (none_kept older) (map Taken (reverse newer)) ≡ Some (none_kept (newer ++ older))
+  past_none [] older = refl
+  past_none (e ∷ newer) older =
+      ap (run_to heading (none_kept older)) (taken_more e newer)
+      ∙ run_after heading (none_kept older) (none_kept (newer ++ older)) (map Taken (reverse newer)) (Taken e ∷ []) (past_none newer older)
+      ∙ ap (λ b. if_so (not b) (none_kept (e ∷ newer ++ older)) >>= (λ s. Some s)) (none_left (newer ++ older) e)
+
+  -- whether one of the newer events forbids the entry
+  abbrev pub forbidden_in : Entry → List Event → List Event → Bool
+  forbidden_in x [] older = false
+  forbidden_in x (e ∷ newer) older = forbids heading x e (newer ++ older) || forbidden_in x newer older
+
+  step_one : (h : List Event) (n : ℕ) (x : Entry) (e : Event)
+      → run_to heading (one_kept h n x) (Taken e ∷ []) ≡ if_so (not (forbids heading x e h)) (one_kept (e ∷ h) n x)
+  step_one h n x e =
+      ap (λ b. if_so (not b) (one_kept (e ∷ h) n x) >>= (λ s. Some s)) (one_left h n x e)
+      ∙ so_some (not (forbids heading x e h)) (one_kept (e ∷ h) n x)
+
+  pub past_one : (newer older : List Event) (n : ℕ) (x : Entry)
+      → run_to heading (one_kept older n x) (map Taken (reverse newer)) ≡ if_so (not (forbidden_in x newer older)) (one_kept (newer ++ older) n x)
+  past_one [] older n x = refl
+  past_one (e ∷ newer) older n x =
+      ap (run_to heading (one_kept older n x)) (taken_more e newer)
+      ∙ run_append heading (one_kept older n x) (map Taken (reverse newer)) (Taken e ∷ [])
+      ∙ ap (λ (o : Option State). o >>= (λ s. run_to heading s (Taken e ∷ []))) (past_one newer older n x)
+      ∙ then_so (not (forbidden_in x newer older)) (not (forbids heading x e (newer ++ older))) (one_kept (newer ++ older) n x)
+      (one_kept (e ∷ newer ++ older) n x) (λ s. run_to heading s (Taken e ∷ [])) (step_one (newer ++ older) n x e)
+      ∙ ap (λ b. if_so b (one_kept (e ∷ newer ++ older) n x)) (not_or (forbids heading x e (newer ++ older)) (forbidden_in x newer older))
+
+  -- where only the newer ones count, of a log
+  behind_none : (k to : ℕ) (x : Entry) (h : List Event) → length h ≤ k → is_forbidden heading k to x h ≡ false
+  behind_none k to x [] le = refl
+  behind_none k to x (e ∷ h) le =
+      or_from _ _ (and_left _ _ (and_left _ _ (lt-leb k (length h) le))) (behind_none k to x h (omega (arith, le)))
+
+  counts : (from to at : ℕ) (b : Bool) → from ≤ at → at < to → (nat_le from at && nat_lt at to && b) ≡ b
+  counts from to at b le lt =
+      ap (λ c. c && nat_lt at to && b) (le-leb from at le) ∙ ap (λ c. c && b) (lt-ltb at to lt)
+
+  between_is : (newer older : List Event) (to : ℕ) (x : Entry) → length (newer ++ older) ≤ to
+      → is_forbidden heading (length older) to x (newer ++ older) ≡ forbidden_in x newer older
+  between_is [] older to x le = behind_none (length older) to x older (omega arith)
+  between_is (e ∷ newer) older to x le =
+      let long : length (newer ++ older) ≡ length newer + length older = length-append newer older in
+      ap (λ b. b || is_forbidden heading (length older) to x (newer ++ older))
+      (counts (length older) to (length (newer ++ older)) (forbids heading x e (newer ++ older)) (omega (arith, long)) le)
+      ∙ ap (λ b. forbids heading x e (newer ++ older) || b) (between_is newer older to x (omega (arith, le)))
+
+  -- the events from one number on and before another, of a log
+  pub forbidden_is : (last newer older : List Event) (from to : ℕ) (x : Entry) → length older ≡ from → length (newer ++ older) ≡ to
+      → is_forbidden heading from to x (last ++ (newer ++ older)) ≡ forbidden_in x newer older
+  forbidden_is [] newer older from to x a b =
+      ap (λ k. is_forbidden heading k to x (newer ++ older)) (sym a) ∙ between_is newer older to x (omega (arith, b))
+  forbidden_is (e ∷ last) newer older from to x a b =
+      let long : length (last ++ (newer ++ older)) ≡ length last + length (newer ++ older) = length-append last (newer ++ older) in
+      ap (λ c. c || is_forbidden heading from to x (last ++ (newer ++ older)))
+      (and_left _ _ (and_right _ _ (le-ltb (length (last ++ (newer ++ older))) to (omega (arith, long, b)))))
+      ∙ forbidden_is last newer older from to x a b

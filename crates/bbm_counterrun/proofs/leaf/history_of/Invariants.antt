@@ -1,0 +1,11 @@
+use Rattle.std.proofs.Common.{◌≡◌, take, reverse}
+use Rattle.bbm_oracle_trees.specs.StandsFor.{StandsFor}
+use Rattle.bbm_tlb_machine.specs.rules.Claims.{Patterns}
+use Rattle.bbm_counterrun.proofs.leaf.history_of.Given as goal
+
+abbrev pub invariant-loop-event : goal.invariant-loop-event
+invariant-loop-event l = record {
+  heading : l.history.heading ≡ l.header;
+  trust : l.history.trust ≡ Patterns;
+  stands : StandsFor l.history l.header (reverse (take l.event-index l.events));
+}

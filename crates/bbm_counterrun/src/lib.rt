@@ -1,0 +1,10 @@
+//! Runs of the machine of TLBs that end in a conflict at a write which the rule of break-before-make refuses.
+#![tactic(auto)]
+
+mod laws;
+mod leaf;
+
+pub use bbm_oracle_trees as oracle_trees;
+pub use bbm_tlb_machine as tlb_machine;
+pub use laws::{law_conflict_at_the_end, law_plain_is_tested};
+pub use leaf::holds_leaf;
