@@ -15,7 +15,11 @@ mod starting;
 pub mod step;
 
 pub use bbm_histories::{events, rules};
+pub use entry::{Entry, Part};
 pub use laws::{law_conflict, law_run};
+pub use looking::can_read;
 pub use machine::{FollowFault, Machine, follow};
+pub use pending::{Pending, is_answered, must_leave, take_event};
 pub use safety::{law_accepted_is_safe, law_fine, law_safe};
+pub use starting::{combine, extend, start};
 pub use step::Step;

@@ -65,7 +65,7 @@ impl Pending {
 
 /// Whether the TLBI must have taken the entry by the time that it is answered.
 #[tactic(auto, using(crate::proofs::PendingSteps::never))]
-fn must_leave(header: &Header, pending: &Pending, entry: &Entry) -> bool
+pub fn must_leave(header: &Header, pending: &Pending, entry: &Entry) -> bool
     ensures { result ≡ spec.must_leave header.now pending.now entry.now }
 {
     match pending.scope() {
@@ -88,7 +88,7 @@ fn leaves_by(header: &Header, living: &[Living], pending: &Pending) -> bool
 }
 
 /// Whether a DSB of the PE answers it.
-fn is_answered(pe: Pe, dsb: Dsb, pending: &Pending) -> bool
+pub fn is_answered(pe: Pe, dsb: Dsb, pending: &Pending) -> bool
     ensures { result ≡ spec.is_answered pe dsb pending.now }
 {
     pending.issuer == pe && completes(dsb, &pending.tlbi())
