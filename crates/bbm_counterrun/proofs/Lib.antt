@@ -4,4 +4,5 @@ mod LastStep
 mod OneEntry
 mod PlainTest
 mod RunTexts
+mod Sights
 mod WalkSteps
