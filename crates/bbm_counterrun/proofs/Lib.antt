@@ -1,8 +1,11 @@
 mod CasesRuns
 mod Following
 mod LastStep
+mod LeastGoals
+mod LeastReads
 mod OneEntry
 mod PlainTest
 mod RunTexts
 mod Sights
 mod WalkSteps
+mod WayParts

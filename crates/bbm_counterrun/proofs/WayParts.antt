@@ -1,0 +1,260 @@
+-- The parts of an entry that conflicts with a write over a leaf stand on the way to the place of the write.
+use Rattle.std.proofs.Common.{◌≡◌, ℕ, suc, ◌+◌, ◌<◌, arith, Bool, true, false, ◌&&◌, ◌||◌, ◌==◌, List, [], ◌∷◌, ◌++◌, length, map, filter_map, reverse, Option, Some, None, unwrap_or, Contains, inl, inr, refl, sym, ◌∙◌, ap, subst, true≢false}
+use Rattle.std.proofs.lemmas.Bool.{and_parts, eqb-true, or_cases}
+use Rattle.std.proofs.lemmas.List.{append_assoc, reverse-append}
+use Rattle.bbm_lists.specs.Elements.{In}
+use Rattle.bbm_lists.proofs.Elements.{to_contains}
+use Rattle.bbm_histories.specs.regimes.declared.regime.Kind.{Kind}
+use Rattle.bbm_histories.specs.descriptor.Descriptor.{desc_of, is_valid, needs}
+use Rattle.bbm_histories.specs.descriptor.declared.desc.Desc.{Desc}
+use Rattle.bbm_histories.specs.descriptor.declared.desc.Desc.TheVariants.{Invalid, Table, Leaf}
+use Rattle.bbm_tlb_machine.specs.rules.Broken.{keeps}
+use Rattle.bbm_tlb_machine.specs.rules.Claims.{Patterns}
+use Rattle.bbm_tlb_machine.specs.rules.Covers.{noted}
+use Rattle.bbm_tlb_machine.specs.rules.Held.{held}
+use Rattle.bbm_tlb_machine.specs.rules.Lists.{◌>>=◌, any, is_that}
+use Rattle.bbm_tlb_machine.specs.rules.Notes.{Noted}
+use Rattle.bbm_tlb_machine.specs.rules.Places.{page_of}
+use Rattle.bbm_tlb_machine.specs.rules.Prelude.{Heading, Event, start_of}
+use Rattle.bbm_tlb_machine.specs.rules.Roots.{Declared, root_pages}
+use Rattle.bbm_tlb_machine.specs.rules.Tree.{Above, Node, held_at, next_in, next_of, node_below, node_of, nodes_of_root, tree}
+use Rattle.bbm_tlb_machine.specs.rules.TreeSentences.{Down, IsNode}
+use Rattle.bbm_tlb_machine.specs.rules.Values.{is_readable}
+use Rattle.bbm_tlb_machine.specs.declared.step.Step.{Step}
+use Rattle.bbm_tlb_machine.specs.Entry.{Entry, Part, desc_in, is_leaf, parts_of}
+use Rattle.bbm_tlb_machine.specs.Invariant.{Begins, Chained, Fine, Holding, Placed}
+use Rattle.bbm_tlb_machine.specs.Run.{IsRun, Living, State}
+use Rattle.bbm_tlb_machine.specs.Safe.{IsLog, is_stale}
+use Rattle.bbm_tlb_machine.specs.Step.{extended, may_extend}
+use Rattle.bbm_counterrun.specs.Plans.{Read}
+use Rattle.bbm_counterrun.specs.Refused.{holds_leaf, leaf_among, leaf_in}
+use Rattle.bbm_counterrun.specs.Tested.{extended_by, may_extend_by}
+use Rattle.bbm_counterrun.specs.Ways.{Goal, goal_at, places_to}
+use Rattle.bbm_counterrun.proofs.Following.{StepLaw}
+use Rattle.bbm_counterrun.proofs.LeastGoals.{CoreLaw, HaveGoals, means_same}
+
+-- what the laws of the machine, of trees, of what is held and of cores say
+pub record WayLaws (heading : Heading) : Type 0 where
+  pub step : StepLaw
+  pub cores : CoreLaw
+  pub held_valid : (kind : Kind) (level place : ℕ) (h : List Noted) (value : ℕ)
+      → held heading Patterns kind level place h ≡ Some value → is_valid kind level value ≡ true
+  pub node_sound : (h : List Noted) (n : Node) → Contains (tree heading Patterns h) n → IsNode heading Patterns h n
+  pub tree_below : (h : List Noted) (n : Node) (place value next : ℕ) → Contains (tree heading Patterns h) n
+      → page_of place ≡ n.page → held_at heading Patterns h n place ≡ Some value → next_of n.kind n.level value ≡ Some next
+      → Contains (tree heading Patterns h) (node_below n place next)
+  pub root_nodes : (r : Declared) (n : Node) → Contains (nodes_of_root heading r) n
+      → (n.kind ≡ r.kind) × (n.level ≡ start_of heading.world r.kind) × (n.root ≡ r.page) × (n.above ≡ [])
+      × Contains (root_pages heading.world r.kind r.page) n.page
+  pub first_node : (h : List Event) → keeps heading Patterns h ≡ true → (n : Node)
+      → Contains (tree heading Patterns (noted heading Patterns h)) n
+      → node_of heading Patterns (noted heading Patterns h) n.page ≡ Some n
+  pub fine : (steps : List Step) (s : State) → IsLog heading s.log → keeps heading Patterns s.log ≡ true
+      → IsRun heading steps s → (l : Living) → Contains s.living l → Fine heading Patterns s.log l.entry
+
+-- a part whose place is in the tree, and what that holds
+pub record IsOnWay (heading : Heading) (h : List Event) (part : Part) : Type 0 where
+  pub node : Node
+  pub in_tree : Contains (tree heading Patterns (noted heading Patterns h)) node
+  pub page : page_of part.place ≡ node.page
+  pub kind : node.kind ≡ part.kind
+  pub level : node.level ≡ part.level
+  pub value : ℕ
+  pub holds : held_at heading Patterns (noted heading Patterns h) node part.place ≡ Some value
+  pub valid : is_valid part.kind part.level value ≡ true
+  pub same_core : needs part.kind part.level value part.value ≡ false
+  pub means : desc_of part.kind part.level value ≡ desc_in part
+
+-- ---- words on lists
+
+same_some : {X : Type 0} (x y : X) → Some x ≡ Some y → x ≡ y
+same_some x y e = cc
+
+abbrev part_places : List Part → List ℕ
+part_places parts = map (λ (q : Part). q.place) parts
+
+abbrev pub read_places : List Read → List ℕ
+read_places rs = map (λ (r : Read). r.place) rs
+
+abbrev goal_of : ℕ → Kind → ℕ → ℕ → Goal
+goal_of place kind level value = record { place = place; kind = kind; level = level; value = value }
+
+-- ---- the parts of a walk
+
+pub pe_stays : (x : Entry) (rs : List Read) → (extended_by x rs).pe ≡ x.pe
+pe_stays x [] = refl
+pe_stays x (r ∷ rs) = pe_stays (extended x r.place r.value) rs
+
+pub kind_stays : (x : Entry) (rs : List Read) → (extended_by x rs).last.kind ≡ x.last.kind
+kind_stays x [] = refl
+kind_stays x (r ∷ rs) = kind_stays (extended x r.place r.value) rs
+
+pub parts_stay : (x : Entry) (rs : List Read) (q : Part) → In (parts_of x) q → In (parts_of (extended_by x rs)) q
+parts_stay x [] q i = i
+parts_stay x (r ∷ rs) q i = parts_stay (extended x r.place r.value) rs q (inr i)
+
+-- the places of its parts, from the root down, are those of its reads
+pub walk_places : (x : Entry) (rs : List Read)
+    → reverse (part_places (extended_by x rs).above) ++ (extended_by x rs).last.place ∷ []
+    ≡ reverse (part_places x.above) ++ x.last.place ∷ read_places rs
+walk_places x [] = refl
+walk_places x (r ∷ rs) =
+    walk_places (extended x r.place r.value) rs
+    ∙ ap (λ (ps : List ℕ). ps ++ r.place ∷ read_places rs) (reverse-append (x.last.place ∷ []) (part_places x.above))
+    ∙ append_assoc (reverse (part_places x.above)) (x.last.place ∷ []) (r.place ∷ read_places rs)
+
+-- ---- leaves and tables
+
+leaf_is_no_table : (d : Desc) (next : ℕ) → next_in d ≡ Some next → is_leaf d ≡ true → ⊥
+leaf_is_no_table Invalid next e k = true≢false (sym k)
+leaf_is_no_table (Table n ns) next e k = true≢false (sym k)
+leaf_is_no_table (Leaf out attrs share global contiguous) next e k = cc
+
+-- where the part is at the place, it is a leaf
+abbrev LeafAt : ℕ → Part → Type 0
+LeafAt place part = part.place ≡ place → is_leaf (desc_in part) ≡ true
+
+module _ (place value : ℕ) where
+  -- so a table isn't at the place
+  not_stale : (a : Part) (next : ℕ) → next_of a.kind a.level a.value ≡ Some next → LeafAt place a → is_stale place value a ≡ false
+  not_stale a next e leaf = by (a.place == place) refl
+    where
+      by : (b : Bool) → (a.place == place) ≡ b → (b && needs a.kind a.level a.value value) ≡ false
+      by false s = refl
+      by true s = absurd (leaf_is_no_table (desc_in a) next e (leaf (eqb-true a.place place s)))
+
+  none_above : (part : Part) (above : List Part) → Chained part above → ((q : Part) → In above q → LeafAt place q)
+      → any (is_stale place value) above ≡ false
+  none_above part [] c leaf = refl
+  none_above part (a ∷ above) c leaf =
+      ap (λ b. b || any (is_stale place value) above) (not_stale a (page_of part.place) c.0.inside (leaf a (inl refl)))
+      ∙ none_above a above c.1 (λ q i. leaf q (inr i))
+
+  pub last_is_stale : (part : Part) (above : List Part) → Chained part above → ((q : Part) → In (part ∷ above) q → LeafAt place q)
+      → any (is_stale place value) (part ∷ above) ≡ true → is_stale place value part ≡ true
+  last_is_stale part above c leaf e = elim (or_cases (is_stale place value part) (any (is_stale place value) above) e) [
+    | inl here ↦ here
+    | inr there ↦ absurd (true≢false (sym there ∙ none_above part above c (λ q i. leaf q (inr i))))
+  ]
+
+module _ (heading : Heading) (laws : WayLaws heading) (h : List Event) (kept : keeps heading Patterns h ≡ true) where
+  abbrev notes : List Noted
+  notes = noted heading Patterns h
+
+  -- each part of an entry stands on the way
+  pub on_way : (x : Entry) → Fine heading Patterns h x → (part : Part) → In (parts_of x) part → IsOnWay heading h part
+  on_way x f part i =
+      let c : Contains (parts_of x) part = to_contains (parts_of x) part i in
+      let p : Placed heading Patterns h x.root part = f.placed part c in
+      let q : Holding heading Patterns h part = f.holding part c in
+      let valid : is_valid part.kind part.level q.value ≡ true = laws.held_valid part.kind part.level part.place notes q.value q.holds in
+      record {
+        node = p.node;
+        in_tree = p.in_tree;
+        page = p.is_at.inside;
+        kind = p.is_at.kind;
+        level = p.is_at.level;
+        value = q.value;
+        holds = ap (λ (k : Kind). held heading Patterns k p.node.level part.place notes) p.is_at.kind
+            ∙ ap (λ (l : ℕ). held heading Patterns part.kind l part.place notes) p.is_at.level ∙ q.holds;
+        valid = valid;
+        same_core = q.same_core;
+        means = means_same laws.cores part.kind part.level q.value part.value valid (f.shape.valid part c) q.same_core;
+      }
+
+  pub node_at : (part : Part) (w : IsOnWay heading h part) → node_of heading Patterns notes (page_of part.place) ≡ Some w.node
+  node_at part w = ap (node_of heading Patterns notes) w.page ∙ laws.first_node h kept w.node w.in_tree
+
+  goal_is : (part : Part) (w : IsOnWay heading h part)
+      → goal_at heading h part.place ≡ Some (goal_of part.place part.kind part.level w.value)
+  goal_is part w =
+      ap (λ (o : Option Node). o >>= (λ n. held_at heading Patterns notes n part.place
+      >>= (λ value. Some (goal_of part.place n.kind n.level value)))) (node_at part w)
+      ∙ ap (λ (o : Option ℕ). o >>= (λ value. Some (goal_of part.place w.node.kind w.node.level value))) w.holds
+      ∙ ap (λ (k : Kind). Some (goal_of part.place k w.node.level w.value)) w.kind
+      ∙ ap (λ (l : ℕ). Some (goal_of part.place part.kind l w.value)) w.level
+
+  -- where the place holds a leaf, the part is one
+  pub is_leaf_there : (place : ℕ) → holds_leaf heading h place ≡ true → (part : Part) → IsOnWay heading h part → LeafAt place part
+  is_leaf_there place leaf part w e =
+      let is : leaf_among heading Patterns notes part.place ≡ Some (is_leaf (desc_in part))
+      = ap (λ (o : Option Node). o >>= (λ n. leaf_in heading Patterns notes n part.place)) (node_at part w)
+      ∙ ap (λ (o : Option ℕ). o >>= (λ value. Some (is_leaf (desc_of w.node.kind w.node.level value)))) w.holds
+      ∙ ap (λ (k : Kind). Some (is_leaf (desc_of k w.node.level w.value))) w.kind
+      ∙ ap (λ (l : ℕ). Some (is_leaf (desc_of part.kind l w.value))) w.level
+      ∙ ap (λ (d : Desc). Some (is_leaf d)) w.means in
+      sym (ap (λ (o : Option Bool). unwrap_or o false) is) ∙ ap (holds_leaf heading h) e ∙ leaf
+
+  -- ---- the places above
+
+  down_from : (places : List ℕ) (n m : Node) → Down heading Patterns notes n places m
+      → (m.kind ≡ n.kind) × (m.level ≡ n.level + length places)
+  down_from [] n m d =
+      let level : n.level ≡ m.level = ap (λ (k : Node). k.level) d in
+      (sym (ap (λ (k : Node). k.kind) d), omega (arith, level))
+  down_from (place ∷ places) n m d =
+      let rest = down_from places (node_below n place d.3) m d.5 in
+      let level : m.level ≡ suc n.level + length places = rest.1 in
+      (rest.0, omega (arith, level))
+
+  -- a node at the level at which walks start has nothing above
+  none_above_start : (n : Node) → Contains (tree heading Patterns notes) n → n.level ≡ start_of heading.world n.kind → n.above ≡ []
+  none_above_start n c e = by s.places s.down
+    where
+      s : IsNode heading Patterns notes n
+      s = laws.node_sound notes n c
+
+      by : (places : List ℕ) → Down heading Patterns notes s.start places n → n.above ≡ []
+      by [] d = sym (ap (λ (k : Node). k.above) d) ∙ (laws.root_nodes s.root s.start s.is_start).3
+      by (place ∷ places) d =
+          let r = laws.root_nodes s.root s.start s.is_start in
+          let down = down_from (place ∷ places) s.start n d in
+          let deeper : n.level ≡ s.start.level + suc (length places) = down.1 in
+          let level : n.level ≡ s.start.level = e ∙ ap (start_of heading.world) (down.0 ∙ r.0) ∙ sym r.1 in
+          absurd (omega (arith, deeper, level))
+
+  pub places_above : (root : ℕ) (part : Part) (above : List Part) → Begins heading root part above → Chained part above
+      → ((q : Part) → In above q → IsOnWay heading h q) → (one : IsOnWay heading h part)
+      → map (λ (a : Above). a.place) one.node.above ≡ part_places above
+  places_above root part [] begins c on one =
+      let first : Declared = record { page = root; kind = part.kind; lock = None } in
+      let level : one.node.level ≡ start_of heading.world one.node.kind
+      = one.level ∙ sym begins.2.level ∙ (laws.root_nodes first begins.0 begins.1).1 ∙ ap (start_of heading.world) (sym one.kind) in
+      ap (λ (bs : List Above). map (λ (b : Above). b.place) bs) (none_above_start one.node one.in_tree level)
+  places_above root part (a ∷ above) begins c on one =
+      let upper : IsOnWay heading h a = on a (inl refl) in
+      let table : next_of upper.node.kind upper.node.level upper.value ≡ Some (page_of part.place)
+      = ap (λ (k : Kind). next_of k upper.node.level upper.value) upper.kind
+      ∙ ap (λ (l : ℕ). next_of a.kind l upper.value) upper.level ∙ ap next_in upper.means ∙ c.0.inside in
+      let lower : Node = node_below upper.node a.place (page_of part.place) in
+      let there : Contains (tree heading Patterns notes) lower
+      = laws.tree_below notes upper.node a.place upper.value (page_of part.place) upper.in_tree upper.page upper.holds table in
+      let same : one.node ≡ lower = same_some one.node lower (sym (node_at part one) ∙ laws.first_node h kept lower there) in
+      ap (λ (n : Node). map (λ (b : Above). b.place) n.above) same
+      ∙ ap (λ (ps : List ℕ). a.place ∷ ps) (places_above root a above begins c.1 (λ q i. on q (inr i)) upper)
+
+  -- ---- the goals of the reads
+
+  pub first_goal : (first : List Event) (p : ℕ) (part : Part) → IsOnWay heading h part
+      → is_readable heading first part.place p part.value ≡ true → is_valid part.kind part.level part.value ≡ true
+      → HaveGoals heading h first p part.kind part.level (record { place = part.place; value = part.value } ∷ [])
+  first_goal first p part w readable valid = (record {
+    held = w.value;
+    goal = goal_is part w;
+    held_valid = w.valid;
+    same_core = w.same_core;
+    readable = readable;
+    valid = valid;
+  }, tt)
+
+  pub walk_goals : (first : List Event) (x : Entry) (rs : List Read)
+      → ((q : Part) → In (parts_of (extended_by x rs)) q → IsOnWay heading h q) → may_extend_by heading first x rs ≡ true
+      → HaveGoals heading h first x.pe x.last.kind (suc x.last.level) rs
+  walk_goals first x [] on m = tt
+  walk_goals first x (r ∷ rs) on m =
+      let y : Entry = extended x r.place r.value in
+      let a = and_parts (may_extend heading first x r.place r.value) (may_extend_by heading first y rs) m in
+      let b = and_parts (is_that (next_in (desc_in x.last)) (page_of r.place) && is_readable heading first r.place x.pe r.value)
+      (is_valid x.last.kind (suc x.last.level) r.value) a.0 in
+      let c = and_parts (is_that (next_in (desc_in x.last)) (page_of r.place)) (is_readable heading first r.place x.pe r.value) b.0 in
+      ((first_goal first x.pe y.last (on y.last (parts_stay y rs y.last (inl refl))) c.1 b.1).0, walk_goals first y rs on a.1)
