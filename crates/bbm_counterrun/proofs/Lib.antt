@@ -4,6 +4,7 @@ mod LastStep
 mod LeastGoals
 mod LeastReads
 mod OneEntry
+mod Order
 mod PlainTest
 mod RunTexts
 mod Sights
