@@ -34,25 +34,25 @@ record IsLeast (xs : List ℕ) : Type 0 where
 
 least_more : (n k : ℕ) (ms : List ℕ) → IsLeast (k ∷ ms) → IsLeast (n ∷ k ∷ ms)
 least_more n k ms rest = elim (less_of n rest.number) [
-    | inl here ↦ record {
-        number = n;
-        is = found ∙ ap Some here.0;
-        has = inl refl;
-        below = λ v i. elim i [
-          | inl e ↦ omega (arith, e)
-          | inr j ↦ let le = rest.below v j in omega (arith, here.1, le)
-        ];
-      }
-    | inr there ↦ record {
-        number = rest.number;
-        is = found ∙ ap Some there.0;
-        has = inr rest.has;
-        below = λ v i. elim i [
-          | inl e ↦ omega (arith, e, there.1)
-          | inr j ↦ rest.below v j
-        ];
-      }
-  ]
+  | inl here ↦ record {
+    number = n;
+    is = found ∙ ap Some here.0;
+    has = inl refl;
+    below = λ v i. elim i [
+      | inl e ↦ omega (arith, e)
+      | inr j ↦ let le = rest.below v j in omega (arith, here.1, le)
+    ];
+  }
+  | inr there ↦ record {
+    number = rest.number;
+    is = found ∙ ap Some there.0;
+    has = inr rest.has;
+    below = λ v i. elim i [
+      | inl e ↦ omega (arith, e, there.1)
+      | inr j ↦ rest.below v j
+    ];
+  }
+]
   where
     found : least (n ∷ k ∷ ms) ≡ Some (min n rest.number)
     found = ap (λ o. Some (min n (unwrap_or o n))) rest.is
@@ -181,17 +181,17 @@ record HasOne (heading : Heading) (first : List Event) (p : ℕ) (kind : Kind) (
 module _ (heading : Heading) (law : CoreLaw) (h first : List Event) (p : ℕ) (kind : Kind) where
   one_least : (level : ℕ) (r : Read) → (g : HasGoal heading h first p kind level r) → HasOne heading first p kind level g.held r
   one_least level r g = record {
-      value = found.number;
-      is = found.is;
-      like = record {
-        place = refl;
-        desc = sym (means_same law kind level g.held r.value g.held_valid g.valid g.same_core)
-            ∙ means_same law kind level g.held found.number g.held_valid b.0 (not-true (needs kind level g.held found.number) b.1);
-        readable = a.1;
-        valid = b.0;
-      };
-      not_above = found.below r.value own;
-    }
+    value = found.number;
+    is = found.is;
+    like = record {
+      place = refl;
+      desc = sym (means_same law kind level g.held r.value g.held_valid g.valid g.same_core)
+          ∙ means_same law kind level g.held found.number g.held_valid b.0 (not-true (needs kind level g.held found.number) b.1);
+      readable = a.1;
+      valid = b.0;
+    };
+    not_above = found.below r.value own;
+  }
     where
       goal : Goal
       goal = record { place = r.place; kind = kind; level = level; value = g.held }
@@ -244,6 +244,8 @@ first_if_least (r ∷ rs) [] next c e = absurd c
 first_if_least (r ∷ rs) (l ∷ ls) next c e =
     let a = not_less r.place l.place (by_number r.value l.value (by_reads rs ls next)) (omega (arith, c.0)) e in
     let b = not_less r.value l.value (by_reads rs ls next) c.1 a.1 in
-    let rest = first_if_least rs ls next c.2 b.1 in
-    (ap (λ place. record { place = place; value = r.value } ∷ rs) a.0
-    ∙ ap (λ value. record { place = l.place; value = value } ∷ rs) b.0 ∙ ap (λ (others : List Read). l ∷ others) rest.0, rest.1)
+    let rest = first_if_least rs ls next c.2 b.1 in (
+      ap (λ place. record { place = place; value = r.value } ∷ rs) a.0
+          ∙ ap (λ value. record { place = l.place; value = value } ∷ rs) b.0 ∙ ap (λ (others : List Read). l ∷ others) rest.0,
+      rest.1,
+    )

@@ -76,9 +76,10 @@ module _ (heading : Heading) (laws : WayLaws heading) (h : List Event) (kept : k
         let b = and_parts (reads heading first x.pe (tag_of_entry x) x.root && has_number heading.world first x.pe x.last.kind plan.number
         && is_readable heading first x.last.place x.pe x.last.value) (is_valid x.last.kind x.last.level x.last.value) a.0 in
         let c = and_parts (reads heading first x.pe (tag_of_entry x) x.root && has_number heading.world first x.pe x.last.kind plan.number)
-        (is_readable heading first x.last.place x.pe x.last.value) b.0 in
-        ((first_goal heading laws h kept first plan.pe x.last (w.on x.last (parts_stay x plan.rest x.last (inl refl))) c.1 b.1).0,
-        walk_goals heading laws h kept first x plan.rest w.on a.1)
+        (is_readable heading first x.last.place x.pe x.last.value) b.0 in (
+          (first_goal heading laws h kept first plan.pe x.last (w.on x.last (parts_stay x plan.rest x.last (inl refl))) c.1 b.1).0,
+          walk_goals heading laws h kept first x plan.rest w.on a.1,
+        )
 
     module _ (place value : ℕ) (leaf : holds_leaf heading h place ≡ true) (meets : any (is_stale place value) (parts_of (walked_by heading plan)) ≡ true) where
       last_stale : is_stale place value (walked_by heading plan).last ≡ true

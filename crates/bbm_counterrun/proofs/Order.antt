@@ -27,25 +27,28 @@ number_then : (m n k : ℕ) (p q r : Bool) → by_number m n p ≡ true → by_n
     → by_number m k r ≡ true
 number_then m n k p q r a b next = elim (number_cases m n p a) [
   | inl less ↦ elim (number_cases n k q b) [
-      | inl more ↦ number_less m k r (omega (arith, less, more))
-      | inr same ↦ number_less m k r (omega (arith, less, same.0))
-    ]
+    | inl more ↦ number_less m k r (omega (arith, less, more))
+    | inr same ↦ number_less m k r (omega (arith, less, same.0))
+  ]
   | inr same ↦ elim (number_cases n k q b) [
-      | inl more ↦ number_less m k r (omega (arith, same.0, more))
-      | inr too ↦ number_next m k r (same.0 ∙ too.0) (next same.1 too.1)
-    ]
+    | inl more ↦ number_less m k r (omega (arith, same.0, more))
+    | inr too ↦ number_next m k r (same.0 ∙ too.0) (next same.1 too.1)
+  ]
 ]
 
 -- where neither of two is before the other they are equal, and what comes next decides
 number_same : (m n : ℕ) (p q : Bool) → by_number m n p ≡ false → by_number n m q ≡ false
     → (m ≡ n) × (p ≡ false) × (q ≡ false)
 number_same m n p q a b = elim (cases_order m n) [
-  | inl same ↦ (same, false_from_ne_true p (λ e. true≢false (sym (number_next m n p same e) ∙ a)),
-      false_from_ne_true q (λ e. true≢false (sym (number_next n m q (sym same) e) ∙ b)))
+  | inl same ↦ (
+    same,
+    false_from_ne_true p (λ e. true≢false (sym (number_next m n p same e) ∙ a)),
+    false_from_ne_true q (λ e. true≢false (sym (number_next n m q (sym same) e) ∙ b)),
+  )
   | inr other ↦ elim other [
-      | inl less ↦ absurd (true≢false (sym (number_less m n p less) ∙ a))
-      | inr more ↦ absurd (true≢false (sym (number_less n m q more) ∙ b))
-    ]
+    | inl less ↦ absurd (true≢false (sym (number_less m n p less) ∙ a))
+    | inr more ↦ absurd (true≢false (sym (number_less n m q more) ∙ b))
+  ]
 ]
 
 -- ---- lists of reads
@@ -81,9 +84,12 @@ reads_same (r ∷ rs) [] p q a b = absurd (true≢false b)
 reads_same (r ∷ rs) (s ∷ ss) p q a b =
     let c = number_same r.place s.place (by_number r.value s.value (by_reads rs ss p)) (by_number s.value r.value (by_reads ss rs q)) a b in
     let d = number_same r.value s.value (by_reads rs ss p) (by_reads ss rs q) c.1 c.2 in
-    let rest = reads_same rs ss p q d.1 d.2 in
-    (ap (λ (place : ℕ). with_place place r.value ∷ rs) c.0 ∙ ap (λ (value : ℕ). with_place s.place value ∷ rs) d.0
-    ∙ ap (λ (others : List Read). s ∷ others) rest.0, rest.1, rest.2)
+    let rest = reads_same rs ss p q d.1 d.2 in (
+      ap (λ (place : ℕ). with_place place r.value ∷ rs) c.0 ∙ ap (λ (value : ℕ). with_place s.place value ∷ rs) d.0
+          ∙ ap (λ (others : List Read). s ∷ others) rest.0,
+      rest.1,
+      rest.2,
+    )
 
 -- ---- combines
 

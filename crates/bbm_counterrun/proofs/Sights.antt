@@ -185,9 +185,11 @@ module _ (heading : Heading) where
   walks_same h x y (r ∷ rs) [] k c m = absurd c
   walks_same h x y (r ∷ rs) (l ∷ ls) k c m =
       let a = and_parts (may_extend heading h x r.place r.value) (may_extend_by heading h (extended x r.place r.value) rs) m in
-      let rest = walks_same h (extended x r.place r.value) (extended y l.place l.value) rs ls (extended_same h x y r l k c.0) c.1 a.1 in
-      (and_from (may_extend heading h y l.place l.value) (may_extend_by heading h (extended y l.place l.value) ls)
-      (extend_same h x y r l k c.0 a.0) rest.0, rest.1)
+      let rest = walks_same h (extended x r.place r.value) (extended y l.place l.value) rs ls (extended_same h x y r l k c.0) c.1 a.1 in (
+        and_from (may_extend heading h y l.place l.value) (may_extend_by heading h (extended y l.place l.value) ls)
+            (extend_same h x y r l k c.0 a.0) rest.0,
+        rest.1,
+      )
 
   -- a start can be made with the one where it can with the other
   start_same : (h : List Event) (x y : Entry) (number : ℕ) → sight_of x ≡ sight_of y → may_start heading h x number ≡ true
@@ -216,7 +218,9 @@ module _ (heading : Heading) where
   plan_same h plan l ls c m =
       let a = and_parts (may_start heading h (started_by heading plan) plan.number) (may_extend_by heading h (started_by heading plan) plan.rest) m in
       let k = started_same plan.starts plan.pe plan.kind plan.number plan.first l c.0.place c.0.desc in
-      let w = walks_same h (started_by heading plan) (started_by heading (with_reads plan l ls)) plan.rest ls k c.1 a.1 in
-      (and_from (may_start heading h (started_by heading (with_reads plan l ls)) plan.number)
-      (may_extend_by heading h (started_by heading (with_reads plan l ls)) ls)
-      (start_same h (started_by heading plan) (started_by heading (with_reads plan l ls)) plan.number k a.0 c.0.readable c.0.valid) w.0, w.1)
+      let w = walks_same h (started_by heading plan) (started_by heading (with_reads plan l ls)) plan.rest ls k c.1 a.1 in (
+        and_from (may_start heading h (started_by heading (with_reads plan l ls)) plan.number)
+            (may_extend_by heading h (started_by heading (with_reads plan l ls)) ls)
+            (start_same h (started_by heading plan) (started_by heading (with_reads plan l ls)) plan.number k a.0 c.0.readable c.0.valid) w.0,
+        w.1,
+      )

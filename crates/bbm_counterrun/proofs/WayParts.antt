@@ -238,14 +238,17 @@ module _ (heading : Heading) (laws : WayLaws heading) (h : List Event) (kept : k
   pub first_goal : (first : List Event) (p : ℕ) (part : Part) → IsOnWay heading h part
       → is_readable heading first part.place p part.value ≡ true → is_valid part.kind part.level part.value ≡ true
       → HaveGoals heading h first p part.kind part.level (record { place = part.place; value = part.value } ∷ [])
-  first_goal first p part w readable valid = (record {
-    held = w.value;
-    goal = goal_is part w;
-    held_valid = w.valid;
-    same_core = w.same_core;
-    readable = readable;
-    valid = valid;
-  }, tt)
+  first_goal first p part w readable valid = (
+    record {
+      held = w.value;
+      goal = goal_is part w;
+      held_valid = w.valid;
+      same_core = w.same_core;
+      readable = readable;
+      valid = valid;
+    },
+    tt,
+  )
 
   pub walk_goals : (first : List Event) (x : Entry) (rs : List Read)
       → ((q : Part) → In (parts_of (extended_by x rs)) q → IsOnWay heading h q) → may_extend_by heading first x rs ≡ true
