@@ -2,29 +2,30 @@
 use Rattle.std.proofs.Common.{◌≡◌, ℕ, Bool, true, false, not, ◌&&◌, ◌||◌, ◌==◌, List, [], ◌∷◌, Option, Some, None, find, is_none, is_some, Contains, refl, sym, ◌∙◌, ap, subst, true≢false}
 use Rattle.std.proofs.lemmas.Bool.{and_parts, false_from_ne_true, not-true}
 use Rattle.bbm_lists.proofs.Elements.{none_of}
-use Rattle.bbm_alike.specs.rules.Broken.{broken, keeps}
-use Rattle.bbm_alike.specs.rules.Changes.{changes}
-use Rattle.bbm_alike.specs.rules.Claims.{Patterns}
-use Rattle.bbm_alike.specs.rules.Cleansing.{cleansed, half, seen}
-use Rattle.bbm_alike.specs.rules.Covers.{note, noted}
-use Rattle.bbm_alike.specs.rules.Held.{ValidWrite, last_valid}
-use Rattle.bbm_alike.specs.rules.Lists.{any, below}
-use Rattle.bbm_alike.specs.rules.Notes.{Noted, events_of}
-use Rattle.bbm_alike.specs.rules.Pages.{is_fresh, may_be_fresh}
-use Rattle.bbm_alike.specs.rules.Places.{page_of}
-use Rattle.bbm_alike.specs.rules.Prelude.{Barrier, Heading, Event, Dsb, Dmb, Isb, Tlbi, Reg}
-use Rattle.bbm_alike.specs.rules.Reach.{reaches, unanswered}
-use Rattle.bbm_alike.specs.rules.Registers.{register_values}
-use Rattle.bbm_alike.specs.rules.Roots.{roots_of}
-use Rattle.bbm_alike.specs.rules.Tags.{itself}
-use Rattle.bbm_alike.specs.rules.Tree.{Node, held_at, in_tree, node_of, tree}
-use Rattle.bbm_alike.specs.rules.Values.{written_places}
+use Rattle.bbm_rules.specs.Broken.{broken, keeps}
+use Rattle.bbm_rules.specs.Changes.{changes}
+use Rattle.bbm_rules.specs.Claims.{Patterns}
+use Rattle.bbm_rules.specs.Cleansing.{cleansed, half, seen}
+use Rattle.bbm_rules.specs.Covers.{note, noted}
+use Rattle.bbm_rules.specs.Held.{ValidWrite, last_valid}
+use Rattle.bbm_rules.specs.Lists.{any}
+use Rattle.bbm_rules.specs.Notes.{Noted, events_of}
+use Rattle.bbm_rules.specs.Pages.{is_fresh, may_be_fresh}
+use Rattle.bbm_rules.specs.Places.{page_of}
+use Rattle.bbm_rules.specs.Prelude.{Barrier, Heading, Event, Dsb, Dmb, Isb, Tlbi, Reg}
+use Rattle.bbm_rules.specs.Reach.{reaches, unanswered}
+use Rattle.bbm_rules.specs.Registers.{register_values}
+use Rattle.bbm_rules.specs.Roots.{roots_of}
+use Rattle.bbm_rules.specs.Tags.{itself}
+use Rattle.bbm_rules.specs.Tree.{Node, held_at, in_tree, node_of, tree}
+use Rattle.bbm_rules.specs.Values.{written_places}
 use Rattle.bbm_alike.specs.Alike.{Alike, SamePatterns}
 use Rattle.bbm_alike.specs.SameTags.{AnswersNone, SameTags, TakesNone}
 use Rattle.bbm_idle.specs.Idle.{adds, adds_at, answers_needed, is_idle, is_needed, is_needed_at, keeps_phases, takes_of, wrote_register}
 use Rattle.bbm_idle.specs.Known.{Known}
 use Rattle.bbm_idle.proofs.DsbBase.{same_held, same_patterns, same_tree}
-use Rattle.bbm_idle.proofs.Needed.{adds_needed, in_below}
+use Rattle.bbm_idle.proofs.FindLists.{one_pe}
+use Rattle.bbm_idle.proofs.Needed.{adds_needed}
 use Rattle.bbm_idle.proofs.Registers.{idle_isb}
 use Rattle.bbm_idle.proofs.Waits.{changeless, of_dmb, of_isb, of_tlbi}
 use Rattle.bbm_idle.proofs.Written.{was_some}
@@ -36,7 +37,8 @@ module _ (heading : Heading) where
   takes_none : (h : List Event) (e : Event) → is_needed heading h e ≡ false → TakesNone heading h e
   takes_none h e needless p less =
       by (reaches heading e p) (any (adds_at heading (noted heading Patterns h) e p) (written_places h)) (any (takes_of heading h e p) (roots_of h))
-      (none_of (is_needed_at heading h e) (below heading.pes) needless p (in_below heading.pes p less))
+      (false_from_ne_true (is_needed_at heading h e p) (λ needed. true≢false (sym (one_pe heading.pes (is_needed_at heading h e) p less needed)
+      ∙ needless)))
     where
       by : (r a b : Bool) → (r && (a || b)) ≡ false → (r && b) ≡ false
       by false a b e = refl

@@ -4,24 +4,24 @@ use Rattle.std.proofs.Common.{◌≡◌, ℕ, ◌<◌, Bool, true, false, cond, 
 use Rattle.std.proofs.lemmas.Bool.{and_parts, not-true}
 use Rattle.bbm_lists.specs.Elements.{In}
 use Rattle.bbm_regimes.proofs.Every.{every_at}
-use Rattle.bbm_alike.specs.rules.descriptor.Descriptor.{is_valid}
-use Rattle.bbm_alike.specs.rules.regimes.EveryPe.{every_pe}
-use Rattle.bbm_alike.specs.rules.declared.phase.Phase.{Phase}
-use Rattle.bbm_alike.specs.rules.declared.phase.Phase.TheVariants.{Clean, Live}
-use Rattle.bbm_alike.specs.rules.Broken.{broken, keeps}
-use Rattle.bbm_alike.specs.rules.Claims.{Patterns}
-use Rattle.bbm_alike.specs.rules.Cleansing.{cleansed, half, seen}
-use Rattle.bbm_alike.specs.rules.Covers.{cover_at, note, noted}
-use Rattle.bbm_alike.specs.rules.Held.{ValidWrite, cleansed_everywhere, held, last_valid}
-use Rattle.bbm_alike.specs.rules.Lists.{any, every}
-use Rattle.bbm_alike.specs.rules.Notes.{Noted}
-use Rattle.bbm_alike.specs.rules.Phases.{broken_phase, phase_of}
-use Rattle.bbm_alike.specs.rules.Places.{page_of}
-use Rattle.bbm_alike.specs.rules.Prelude.{Barrier, Kind, Heading, Event, Write, Dsb}
-use Rattle.bbm_alike.specs.rules.Reach.{unanswered}
-use Rattle.bbm_alike.specs.rules.Tags.{itself}
-use Rattle.bbm_alike.specs.rules.Tree.{Node, held_at, node_of, tree}
-use Rattle.bbm_alike.specs.rules.Values.{value_of, written_places}
+use Rattle.bbm_rules.specs.descriptor.Descriptor.{is_valid}
+use Rattle.bbm_rules.specs.regimes.EveryPe.{every_pe}
+use Rattle.bbm_rules.specs.declared.phase.Phase.{Phase}
+use Rattle.bbm_rules.specs.declared.phase.Phase.TheVariants.{Clean, Live}
+use Rattle.bbm_rules.specs.Broken.{broken, keeps}
+use Rattle.bbm_rules.specs.Claims.{Patterns}
+use Rattle.bbm_rules.specs.Cleansing.{cleansed, half, seen}
+use Rattle.bbm_rules.specs.Covers.{cover_at, note, noted}
+use Rattle.bbm_rules.specs.Held.{ValidWrite, cleansed_everywhere, held, last_valid}
+use Rattle.bbm_rules.specs.Lists.{any, every}
+use Rattle.bbm_rules.specs.Notes.{Noted}
+use Rattle.bbm_rules.specs.Phases.{broken_phase, phase_of}
+use Rattle.bbm_rules.specs.Places.{page_of}
+use Rattle.bbm_rules.specs.Prelude.{Barrier, Kind, Heading, Event, Write, Dsb}
+use Rattle.bbm_rules.specs.Reach.{unanswered}
+use Rattle.bbm_rules.specs.Tags.{itself}
+use Rattle.bbm_rules.specs.Tree.{Node, held_at, node_of, tree}
+use Rattle.bbm_rules.specs.Values.{value_of, written_places}
 use Rattle.bbm_alike.specs.histories.Tree.{HeldChange}
 use Rattle.bbm_alike.specs.histories.TreeSteps.{holds_above, node_where}
 use Rattle.bbm_alike.specs.Alike.{SamePatterns}

@@ -3,35 +3,36 @@ use Rattle.std.proofs.Common.{◌≡◌, ℕ, zero, suc, ◌<◌, Bool, false, c
 use Rattle.std.specs.Result.{result_ok}
 use Rattle.bbm_lists.specs.Elements.{In}
 use Rattle.bbm_regimes.proofs.Every.{every_same}
-use Rattle.bbm_alike.specs.rules.tlbi_scope.Operations.{scoped_by_vmid}
-use Rattle.bbm_alike.specs.rules.tlbi_scope.declared.entry.Cover.{Cover}
-use Rattle.bbm_alike.specs.rules.tlbi_scope.declared.entry.Cover.TheVariants.{None as NoCover}
-use Rattle.bbm_alike.specs.rules.tlbi_scope.declared.entry.PlaceView.{PlaceView}
-use Rattle.bbm_alike.specs.rules.tlbi_scope.Covers.{cover_of}
-use Rattle.bbm_alike.specs.rules.tlbi_scope.Tags.{takes_whole_tag}
-use Rattle.bbm_alike.specs.rules.descriptor.Descriptor.{desc_of}
-use Rattle.bbm_alike.specs.rules.regimes.EveryPe.{every_pe}
-use Rattle.bbm_alike.specs.rules.declared.phase.Phase.{Phase}
-use Rattle.bbm_alike.specs.rules.Claims.{Patterns}
-use Rattle.bbm_alike.specs.rules.Cleansing.{cleansed, half, seen}
-use Rattle.bbm_alike.specs.rules.Covers.{cover_at, is_global, noted, view_at}
-use Rattle.bbm_alike.specs.rules.Held.{ValidWrite, last_valid}
-use Rattle.bbm_alike.specs.rules.Lists.{any, below, every, one_number}
-use Rattle.bbm_alike.specs.rules.Notes.{Noted, events_of}
-use Rattle.bbm_alike.specs.rules.Phases.{phase_of}
-use Rattle.bbm_alike.specs.rules.Places.{page_of}
-use Rattle.bbm_alike.specs.rules.Prelude.{Heading, Event, Tlbi, Tag, World, Hyp, Kernel, VttbrEl2, Scope, scope_of}
-use Rattle.bbm_alike.specs.rules.Reach.{reaches}
-use Rattle.bbm_alike.specs.rules.Registers.{named_scope, tag_number, vmid_in, vmid_of}
-use Rattle.bbm_alike.specs.rules.Roots.{Declared, roots_of}
-use Rattle.bbm_alike.specs.rules.Tags.{distinct, ever_read, holds_at, tag_set, tags_of, takes_tag}
-use Rattle.bbm_alike.specs.rules.Tree.{Node, held_at, is_childless, next_of, node_of, region_of, tree}
-use Rattle.bbm_alike.specs.rules.Values.{written_places}
+use Rattle.bbm_rules.specs.tlbi_scope.Operations.{scoped_by_vmid}
+use Rattle.bbm_rules.specs.tlbi_scope.declared.entry.Cover.{Cover}
+use Rattle.bbm_rules.specs.tlbi_scope.declared.entry.Cover.TheVariants.{None as NoCover}
+use Rattle.bbm_rules.specs.tlbi_scope.declared.entry.PlaceView.{PlaceView}
+use Rattle.bbm_rules.specs.tlbi_scope.Covers.{cover_of}
+use Rattle.bbm_rules.specs.tlbi_scope.Tags.{takes_whole_tag}
+use Rattle.bbm_rules.specs.descriptor.Descriptor.{desc_of}
+use Rattle.bbm_rules.specs.regimes.EveryPe.{every_pe}
+use Rattle.bbm_rules.specs.declared.phase.Phase.{Phase}
+use Rattle.bbm_rules.specs.Claims.{Patterns}
+use Rattle.bbm_rules.specs.Cleansing.{cleansed, half, seen}
+use Rattle.bbm_rules.specs.Covers.{cover_at, is_global, noted, view_at}
+use Rattle.bbm_rules.specs.Held.{ValidWrite, last_valid}
+use Rattle.bbm_rules.specs.Lists.{any, below, every, one_number}
+use Rattle.bbm_rules.specs.Notes.{Noted, events_of}
+use Rattle.bbm_rules.specs.Phases.{phase_of}
+use Rattle.bbm_rules.specs.Places.{page_of}
+use Rattle.bbm_rules.specs.Prelude.{Heading, Event, Tlbi, Tag, World, Hyp, Kernel, VttbrEl2, Scope, scope_of}
+use Rattle.bbm_rules.specs.Reach.{reaches}
+use Rattle.bbm_rules.specs.Registers.{named_scope, tag_number, vmid_in, vmid_of}
+use Rattle.bbm_rules.specs.Roots.{Declared, roots_of}
+use Rattle.bbm_rules.specs.Tags.{distinct, ever_read, holds_at, tag_set, tags_of, takes_tag}
+use Rattle.bbm_rules.specs.Tree.{Node, held_at, is_childless, next_of, node_of, region_of, tree}
+use Rattle.bbm_rules.specs.Values.{written_places}
 use Rattle.bbm_alike.specs.Alike.{Alike, SamePatterns}
 use Rattle.bbm_idle.specs.Idle.{adds, adds_at, is_needed, is_needed_at, keeps_phases, takes_of}
 use Rattle.bbm_idle.specs.Known.{Known}
 use Rattle.bbm_idle.specs.Same.{same_phase}
 use Rattle.bbm_idle.proofs.DsbBase.{held_last}
+use Rattle.bbm_idle.proofs.FindLists.{every_alike}
 
 -- ---- tests that say the same
 
@@ -40,11 +41,6 @@ any_same f g [] same = refl
 any_same f g (x ∷ xs) same =
     ap (λ (b : Bool). b || any f xs) (same x (inl refl))
     ∙ ap (λ (b : Bool). g x || b) (any_same f g xs (λ y there. same y (inr there)))
-
-all_same : {A : Type 0} (f g : A → Bool) (xs : List A) → ((x : A) → f x ≡ g x) → every f xs ≡ every g xs
-all_same f g [] same = refl
-all_same f g (x ∷ xs) same =
-    ap (λ (b : Bool). b && every f xs) (same x) ∙ ap (λ (b : Bool). g x && b) (all_same f g xs same)
 
 below_in : (n p : ℕ) → In (below n) p → p < n
 below_in zero p i = absurd i
@@ -195,7 +191,7 @@ module _ (heading : Heading) (h h' : List Event) (a : Alike heading Patterns Pat
   pub same_kept : Known heading → (e : Event) → Alike heading Patterns Patterns (e ∷ h) (e ∷ h')
       → keeps_phases heading h e ≡ keeps_phases heading h' e
   same_kept k e on =
-      ap (every (test h)) a.places ∙ all_same (test h) (test h') (written_places h') (λ place.
+      ap (every (test h)) a.places ∙ every_alike (test h) (test h') (written_places h') (λ place.
       every_same heading.pes (λ p. same_phase (phase_of heading Patterns (e ∷ h) place p) (phase_of heading Patterns h place p))
       (λ p. same_phase (phase_of heading Patterns (e ∷ h') place p) (phase_of heading Patterns h' place p))
       (λ p less. ap (λ (x : Phase). same_phase x (phase_of heading Patterns h place p)) (k.phases (e ∷ h) (e ∷ h') place p on less)

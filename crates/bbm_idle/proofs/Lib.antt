@@ -1,5 +1,12 @@
 pub mod Registers
 pub mod CasesIdle
+pub mod CasesLeft
+pub mod FindLists
+pub mod FindTags
+pub mod FindWaiting
+pub mod FindPlaces
+pub mod FindPhases
+pub mod FindMarks
 pub mod Since
 pub mod Written
 pub mod Waits
@@ -9,5 +16,4 @@ pub mod DsbBase
 pub mod Base
 pub mod Thinned
 pub mod Judged
-pub mod NeededWaits
 pub mod Rest

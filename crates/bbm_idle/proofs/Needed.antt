@@ -1,45 +1,38 @@
 -- What it says of a TLBI that it is needed, or isn't.
-use Rattle.std.proofs.Common.{◌≡◌, ℕ, zero, suc, ◌<◌, Bool, true, false, not, ◌&&◌, ◌||◌, ◌==◌, List, [], ◌∷◌, ◌++◌, Option, Some, option_and_then, Contains, is_none, unwrap_or, ◌⊎◌, refl, sym, ◌∙◌, ap, subst, inl, inr, true≢false, arith}
-use Rattle.std.proofs.lemmas.Bool.{and_from, and_parts, eq-eqb, eqb-true, false_from_ne_true, or_left, or_right}
+use Rattle.std.proofs.Common.{◌≡◌, ℕ, ◌<◌, Bool, true, false, not, ◌&&◌, ◌||◌, List, [], ◌∷◌, ◌++◌, Option, Some, option_and_then, Contains, is_none, unwrap_or, refl, sym, ◌∙◌, ap, subst, true≢false}
+use Rattle.std.proofs.lemmas.Bool.{and_from, and_parts, false_from_ne_true, or_left, or_right}
 use Rattle.std.proofs.lemmas.List.{append_assoc}
 use Rattle.bbm_lists.specs.Elements.{In}
 use Rattle.bbm_lists.proofs.Elements.{any_finds, any_found, from_contains, none_of, to_contains}
-use Rattle.bbm_alike.specs.rules.barriers.Options.{answers}
-use Rattle.bbm_alike.specs.rules.descriptor.Descriptor.{same_bool}
-use Rattle.bbm_alike.specs.rules.tlbi_scope.Operations.{operation}
-use Rattle.bbm_alike.specs.rules.tlbi_scope.declared.entry.Cover.{Cover}
-use Rattle.bbm_alike.specs.rules.tlbi_scope.declared.entry.Cover.TheVariants.{None as NoCover, Half, Second, Full}
-use Rattle.bbm_alike.specs.rules.Broken.{broken, keeps}
-use Rattle.bbm_alike.specs.rules.Claims.{Patterns}
-use Rattle.bbm_alike.specs.rules.Cleansing.{cleansed, flushes, half, same_cover, seen}
-use Rattle.bbm_alike.specs.rules.Covers.{cover_at, noted}
-use Rattle.bbm_alike.specs.rules.Held.{ValidWrite, last_valid}
-use Rattle.bbm_alike.specs.rules.Lists.{any, below}
-use Rattle.bbm_alike.specs.rules.Notes.{Noted, event_of, events_of}
-use Rattle.bbm_alike.specs.rules.Places.{page_of}
-use Rattle.bbm_alike.specs.rules.Prelude.{Barrier, Heading, Event, Dsb, Tlbi}
-use Rattle.bbm_alike.specs.rules.Reach.{Issued, completes, reaches, unanswered}
-use Rattle.bbm_alike.specs.rules.Roots.{Declared, roots_of}
-use Rattle.bbm_alike.specs.rules.Sentences.{Open, completes_for}
-use Rattle.bbm_alike.specs.rules.Tags.{itself}
-use Rattle.bbm_alike.specs.rules.Tree.{Node, node_of, tree}
-use Rattle.bbm_alike.specs.rules.Values.{written_places}
+use Rattle.bbm_rules.specs.barriers.Options.{answers}
+use Rattle.bbm_rules.specs.descriptor.Descriptor.{same_bool}
+use Rattle.bbm_rules.specs.tlbi_scope.Operations.{operation}
+use Rattle.bbm_rules.specs.tlbi_scope.declared.entry.Cover.{Cover}
+use Rattle.bbm_rules.specs.tlbi_scope.declared.entry.Cover.TheVariants.{None as NoCover, Half, Second, Full}
+use Rattle.bbm_rules.specs.Broken.{broken, keeps}
+use Rattle.bbm_rules.specs.Claims.{Patterns}
+use Rattle.bbm_rules.specs.Cleansing.{cleansed, flushes, half, same_cover, seen}
+use Rattle.bbm_rules.specs.Covers.{cover_at, noted}
+use Rattle.bbm_rules.specs.Held.{ValidWrite, last_valid}
+use Rattle.bbm_rules.specs.Lists.{any}
+use Rattle.bbm_rules.specs.Notes.{Noted, event_of, events_of}
+use Rattle.bbm_rules.specs.Places.{page_of}
+use Rattle.bbm_rules.specs.Prelude.{Barrier, Heading, Event, Dsb, Tlbi}
+use Rattle.bbm_rules.specs.Reach.{Issued, completes, reaches, unanswered}
+use Rattle.bbm_rules.specs.Roots.{Declared, roots_of}
+use Rattle.bbm_rules.specs.Sentences.{Open, completes_for}
+use Rattle.bbm_rules.specs.Tags.{itself}
+use Rattle.bbm_rules.specs.Tree.{Node, node_of, tree}
+use Rattle.bbm_rules.specs.Values.{written_places}
 use Rattle.bbm_alike.specs.histories.Steps.{answered_by, half_after, half_waits, is_tlbi}
 use Rattle.bbm_alike.specs.histories.Tree.{HeldBy, View}
 use Rattle.bbm_idle.specs.Idle.{adds, adds_at, answers_needed, is_needed, is_needed_at, takes_of}
 use Rattle.bbm_idle.specs.Known.{Known}
+use Rattle.bbm_idle.proofs.FindLists.{one_pe}
 use Rattle.bbm_idle.proofs.Since.{answered_waits, half_later}
 use Rattle.bbm_idle.proofs.Written.{written}
 
 -- ---- words
-
-pub in_below : (n p : ℕ) → p < n → In (below n) p
-in_below zero p less = absurd (omega arith)
-in_below (suc n) p less = by (p == n) refl (λ lower. in_below n p lower)
-  where
-    by : (c : Bool) → (p == n) ≡ c → (p < n → In (below n) p) → (n ≡ p) ⊎ In (below n) p
-    by true c rest = inl (sym (eqb-true p n c))
-    by false c rest = let apart : p ≡ n → ⊥ = λ x. true≢false (sym (eq-eqb p n x) ∙ c) in inr (rest (omega arith))
 
 pub cover_equal : (c d : Cover) → same_cover c d ≡ true → c ≡ d
 cover_equal NoCover NoCover e = refl
@@ -103,7 +96,7 @@ module _ (heading : Heading) where
           (cleansed heading Patterns place p v.since))
 
   needs_at : (h : List Event) (e : Event) (p : ℕ) → p < heading.pes → is_needed_at heading h e p ≡ true → is_needed heading h e ≡ true
-  needs_at h e p less needed = any_finds (is_needed_at heading h e) (below heading.pes) p (in_below heading.pes p less) needed
+  needs_at h e p less needed = one_pe heading.pes (is_needed_at heading h e) p less needed
 
   -- a TLBI that adds something at a place of a tree is needed
   pub adds_needed : Known heading → (h : List Event) (e : Event) (p place : ℕ) (n : Node) (w : ValidWrite) → p < heading.pes

@@ -1,12 +1,12 @@
 -- What two places of the same phase have in common.
 use Rattle.std.proofs.Common.{◌≡◌, ℕ, Bool, true, false, cond, List, refl, sym, true≢false}
-use Rattle.bbm_alike.specs.rules.declared.phase.Phase.{Phase}
-use Rattle.bbm_alike.specs.rules.declared.phase.Phase.TheVariants.{Clean, Live, Broken, Seen, Half, Cleansed}
-use Rattle.bbm_alike.specs.rules.Prelude.{Heading}
-use Rattle.bbm_alike.specs.rules.Claims.{Patterns}
-use Rattle.bbm_alike.specs.rules.Cleansing.{cleansed, half, seen}
-use Rattle.bbm_alike.specs.rules.Notes.{Noted}
-use Rattle.bbm_alike.specs.rules.Phases.{broken_phase}
+use Rattle.bbm_rules.specs.declared.phase.Phase.{Phase}
+use Rattle.bbm_rules.specs.declared.phase.Phase.TheVariants.{Clean, Live, Broken, Seen, Half, Cleansed}
+use Rattle.bbm_rules.specs.Prelude.{Heading}
+use Rattle.bbm_rules.specs.Claims.{Patterns}
+use Rattle.bbm_rules.specs.Cleansing.{cleansed, half, seen}
+use Rattle.bbm_rules.specs.Notes.{Noted}
+use Rattle.bbm_rules.specs.Phases.{broken_phase}
 use Rattle.bbm_idle.specs.Known.{Known}
 use Rattle.bbm_idle.specs.Same.{same_phase}
 use Rattle.bbm_idle.proofs.Since.{cleansed_seen, half_seen}

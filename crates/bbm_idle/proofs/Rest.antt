@@ -1,32 +1,72 @@
 -- What is left without the idle events has no idle event.
-use Rattle.std.proofs.Common.{◌≡◌, Bool, true, false, cond, not, ◌&&◌, List, [], ◌∷◌, ◌++◌, is_none, refl, sym, ◌∙◌, ap, subst, true≢false}
+use Rattle.std.proofs.Common.{◌≡◌, ℕ, Bool, true, false, cond, not, ◌&&◌, ◌||◌, ◌==◌, List, [], ◌∷◌, ◌++◌, is_none, refl, sym, ◌∙◌, ap, subst}
 use Rattle.std.proofs.lemmas.Bool.{and_parts, not-true}
-use Rattle.bbm_alike.specs.rules.Broken.{broken, keeps}
-use Rattle.bbm_alike.specs.rules.Claims.{Patterns}
-use Rattle.bbm_alike.specs.rules.Lists.{any}
-use Rattle.bbm_alike.specs.rules.Prelude.{Heading, Event, Dsb, Dmb, Isb, Tlbi}
-use Rattle.bbm_alike.specs.rules.Reach.{unanswered}
-use Rattle.bbm_alike.specs.rules.Tags.{itself}
+use Rattle.bbm_rules.specs.barriers.Options.{answers}
+use Rattle.bbm_rules.specs.Broken.{broken, keeps}
+use Rattle.bbm_rules.specs.Claims.{Patterns}
+use Rattle.bbm_rules.specs.Lists.{any}
+use Rattle.bbm_rules.specs.Prelude.{Barrier, Heading, Event, Dsb, Isb, Tlbi}
+use Rattle.bbm_rules.specs.Reach.{unanswered}
+use Rattle.bbm_rules.specs.Tags.{itself}
+use Rattle.bbm_oracle_tags.specs.Watches.{is_cast}
 use Rattle.bbm_alike.specs.Alike.{Alike}
-use Rattle.bbm_idle.specs.Idle.{answers_needed, is_idle, is_needed, keeps_phases, without_idle}
+use Rattle.bbm_idle.specs.Finding.{waits, waits_after}
+use Rattle.bbm_idle.specs.Idle.{answers_needed, is_idle, keeps_phases, without_idle}
 use Rattle.bbm_idle.specs.Known.{Known}
+use Rattle.bbm_idle.proofs.FindWaiting.{answered, waits_next}
 use Rattle.bbm_idle.proofs.Judged.{same_kept, same_needed}
-use Rattle.bbm_idle.proofs.NeededWaits.{WaitAlike, answers_alike, left_dsb, left_tlbi, needed_step, taken_on}
 use Rattle.bbm_idle.proofs.Registers.{wrote_alike}
 use Rattle.bbm_idle.proofs.Thinned.{Thin, thinned}
+use Rattle.bbm_idle.proofs.Waits.{dropped, left_alone}
+
+module _ (heading : Heading) where
+  -- ---- TLBIs that were needed at their issue and aren't answered yet
+
+  abbrev pub WaitAlike : List Event → List Event → Type 0
+  WaitAlike h h' = (cast : Bool) (q : ℕ) → waits heading cast q h ≡ waits heading cast q h'
+
+  answers_alike : (q : ℕ) (dsb : Barrier) (h h' : List Event) → WaitAlike h h'
+      → any (answers_needed heading dsb) (unanswered itself q h) ≡ any (answers_needed heading dsb) (unanswered itself q h')
+  answers_alike q dsb h h' alike =
+      answered heading dsb (unanswered itself q h)
+      ∙ (ap (λ (x : Bool). (answers dsb true && x) || (answers dsb false && waits heading false q h)) (alike true q)
+      ∙ (ap (λ (x : Bool). (answers dsb true && waits heading true q h') || (answers dsb false && x)) (alike false q)
+      ∙ sym (answered heading dsb (unanswered itself q h'))))
+
+  -- an idle event leaves them
+  left_out : (h : List Event) (e : Event) (cast : Bool) (q : ℕ) → is_idle heading h e ≡ true
+      → waits_after cast true e q (waits heading cast q h) ≡ waits heading cast q h
+  unfolding is_idle
+  left_out h (Tlbi pe op xt) cast q idle =
+      dropped (pe == q) (is_cast cast (Tlbi pe op xt)) false (waits heading cast q h) refl
+  left_out h (Dsb pe dsb) cast q idle =
+      by (waits heading cast q h) (pe == q && answers dsb cast)
+      ∙ left_alone pe q cast dsb (λ x c. waits heading c x h) (sym (answered heading dsb (unanswered itself pe h))
+      ∙ not-true (any (answers_needed heading dsb) (unanswered itself pe h))
+      (and_parts (keeps_phases heading h (Dsb pe dsb)) (not (any (answers_needed heading dsb) (unanswered itself pe h))) idle).1)
+    where
+      by : (b t : Bool) → (b && not t) ≡ cond t false b
+      by true true = refl
+      by true false = refl
+      by false true = refl
+      by false false = refl
+  left_out h e cast q idle = refl
+
+  idle_out : (h : List Event) (e : Event) → is_idle heading h e ≡ true → WaitAlike (e ∷ h) h
+  idle_out h e idle cast q =
+      waits_next heading e h cast q
+      ∙ (ap (λ (x : Bool). waits_after cast x e q (waits heading cast q h)) idle ∙ left_out h e cast q idle)
+
+  -- and an event that both histories have leaves them alike, where both take it for idle or neither does
+  taken_on : (e : Event) (h h' : List Event) → WaitAlike h h' → is_idle heading h e ≡ is_idle heading h' e
+      → WaitAlike (e ∷ h) (e ∷ h')
+  taken_on e h h' alike same cast q =
+      waits_next heading e h cast q
+      ∙ (ap (λ (x : Bool). waits_after cast x e q (waits heading cast q h)) same
+      ∙ (ap (λ (x : Bool). waits_after cast (is_idle heading h' e) e q x) (alike cast q) ∙ sym (waits_next heading e h' cast q)))
 
 module _ (heading : Heading) (k : Known heading) where
-  -- an idle event is no TLBI that is needed, and no DSB that answers one
-  idle_out : (h : List Event) (e : Event) → is_idle heading h e ≡ true → WaitAlike heading (e ∷ h) h
-  unfolding is_idle
-  idle_out h (Dmb pe dsb) idle = λ q b. needed_step heading q b (Dmb pe dsb) h
-  idle_out h (Isb pe) idle = λ q b. needed_step heading q b (Isb pe) h
-  idle_out h (Tlbi pe op xt) idle = left_tlbi heading pe op xt h (not-true (is_needed heading h (Tlbi pe op xt)) idle)
-  idle_out h (Dsb pe dsb) idle = left_dsb heading pe dsb h (not-true (any (answers_needed heading dsb) (unanswered itself pe h))
-      (and_parts (keeps_phases heading h (Dsb pe dsb)) (not (any (answers_needed heading dsb) (unanswered itself pe h))) idle).1)
-  idle_out h e idle = absurd (true≢false (sym idle))
-
-  -- histories that are alike, in which what was needed waits alike, take the same events for idle
+  -- histories that are alike, in which such TLBIs wait alike, take the same events for idle
   same_idle : (h h' : List Event) (e : Event) → Alike heading Patterns Patterns h h' → WaitAlike heading h h'
       → Alike heading Patterns Patterns (e ∷ h) (e ∷ h') → is_idle heading h e ≡ is_idle heading h' e
   unfolding is_idle
@@ -68,20 +108,23 @@ module _ (heading : Heading) (k : Known heading) where
       by : Left h → (b : Bool) → is_idle heading h e ≡ b → Alike heading Patterns Patterns (e ∷ h) (without_idle heading (e ∷ h))
           → WaitAlike heading (e ∷ h) (cond b rest (e ∷ rest))
           × ((newer older : List Event) (x : Event) → cond b rest (e ∷ rest) ≡ newer ++ x ∷ older → is_idle heading older x ≡ false)
-      by l true b on = (λ q d. idle_out h e b q d ∙ l.waits q d, l.none_idle)
+      by l true b on = (λ cast q. idle_out heading h e b cast q ∙ l.waits cast q, l.none_idle)
       by l false b on = (
-        taken_on heading e h rest l.waits (same_needed heading h rest l.thin.alike k e),
+        taken_on heading e h rest l.waits same,
         λ newer older x split. first newer older x split,
       )
         where
           on_both : Alike heading Patterns Patterns (e ∷ h) (e ∷ rest)
           on_both = subst (λ (x : Bool). Alike heading Patterns Patterns (e ∷ h) (cond x rest (e ∷ rest))) b on
 
+          same : is_idle heading h e ≡ is_idle heading rest e
+          same = same_idle h rest e l.thin.alike l.waits on_both
+
           first : (newer older : List Event) (x : Event) → e ∷ rest ≡ newer ++ x ∷ older → is_idle heading older x ≡ false
           first [] older x split =
-              let same : e ≡ x = cc in
+              let one : e ≡ x = cc in
               let tail : rest ≡ older = cc in
-              subst (λ (y : Event). is_idle heading older y ≡ false) same
+              subst (λ (y : Event). is_idle heading older y ≡ false) one
               (subst (λ (es : List Event). is_idle heading es e ≡ false) tail
-              (sym (same_idle h rest e l.thin.alike l.waits on_both) ∙ b))
+              (sym same ∙ b))
           first (y ∷ newer) older x split = let tail : rest ≡ newer ++ x ∷ older = cc in l.none_idle newer older x tail

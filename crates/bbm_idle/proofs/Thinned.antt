@@ -1,36 +1,34 @@
 -- A history that keeps the rules is alike to itself without idle events, and that keeps them, too.
 use Rattle.std.proofs.Common.{◌≡◌, Bool, true, false, cond, List, [], ◌∷◌, Option, is_none, refl, sym, ◌∙◌, ap}
 use Rattle.std.proofs.lemmas.Bool.{and_from, and_parts}
-use Rattle.bbm_alike.specs.rules.Broken.{Breach, broken, keeps}
-use Rattle.bbm_alike.specs.rules.Claims.{Patterns}
-use Rattle.bbm_alike.specs.rules.Prelude.{Heading, Event}
+use Rattle.bbm_rules.specs.Broken.{Breach, broken, keeps}
+use Rattle.bbm_rules.specs.Claims.{Patterns}
+use Rattle.bbm_rules.specs.Prelude.{Heading, Event}
 use Rattle.bbm_alike.specs.Alike.{Alike}
-use Rattle.bbm_idle.specs.Idle.{is_idle, without}
+use Rattle.bbm_idle.specs.Idle.{ChoosesIdle, without}
 use Rattle.bbm_idle.specs.Known.{Known}
 use Rattle.bbm_idle.proofs.Base.{base}
 
-module _ (heading : Heading) where
-  module _ (k : Known heading) (chosen : List Event → Event → Bool)
-      (idle : (older : List Event) (e : Event) → chosen older e ≡ true → is_idle heading older e ≡ true) where
-    pub record Thin (h : List Event) : Type 0 where
-      pub alike : Alike heading Patterns Patterns h (without chosen h)
-      pub kept : keeps heading Patterns (without chosen h) ≡ true
+module _ (heading : Heading) (k : Known heading) (chosen : List Event → Event → Bool) (idle : ChoosesIdle heading chosen) where
+  pub record Thin (h : List Event) : Type 0 where
+    pub alike : Alike heading Patterns Patterns h (without chosen h)
+    pub kept : keeps heading Patterns (without chosen h) ≡ true
 
-    pub thinned : (h : List Event) → keeps heading Patterns h ≡ true → Thin h
-    thinned [] kept = record { alike = k.start; kept = refl }
-    thinned (e ∷ h) kept = let r = by (thinned h parts.0) (chosen h e) refl in record { alike = r.0; kept = r.1 }
-      where
-        parts : (keeps heading Patterns h ≡ true) × (is_none (broken heading Patterns h e) ≡ true)
-        parts = and_parts (keeps heading Patterns h) (is_none (broken heading Patterns h e)) kept
+  pub thinned : (h : List Event) → keeps heading Patterns h ≡ true → Thin h
+  thinned [] kept = record { alike = k.start; kept = refl }
+  thinned (e ∷ h) kept = let r = by (thinned h parts.0) (chosen h e) refl in record { alike = r.0; kept = r.1 }
+    where
+      parts : (keeps heading Patterns h ≡ true) × (is_none (broken heading Patterns h e) ≡ true)
+      parts = and_parts (keeps heading Patterns h) (is_none (broken heading Patterns h e)) kept
 
-        rest : List Event
-        rest = without chosen h
+      rest : List Event
+      rest = without chosen h
 
-        by : Thin h → (b : Bool) → chosen h e ≡ b → Alike heading Patterns Patterns (e ∷ h) (cond b rest (e ∷ rest))
-            × (keeps heading Patterns (cond b rest (e ∷ rest)) ≡ true)
-        by t true b = (k.joined (e ∷ h) h rest (base heading k h e kept (idle h e b)) t.alike, t.kept)
-        by t false b =
-            let on : keeps heading Patterns (e ∷ rest) ≡ true
-            = and_from (keeps heading Patterns rest) (is_none (broken heading Patterns rest e)) t.kept
-            (ap (λ (x : Option Breach). is_none x) (sym (k.judges h rest e t.alike)) ∙ parts.1) in
-            (k.step h rest e kept on t.alike, on)
+      by : Thin h → (b : Bool) → chosen h e ≡ b → Alike heading Patterns Patterns (e ∷ h) (cond b rest (e ∷ rest))
+          × (keeps heading Patterns (cond b rest (e ∷ rest)) ≡ true)
+      by t true b = (k.joined (e ∷ h) h rest (base heading k h e kept (idle h e b)) t.alike, t.kept)
+      by t false b =
+          let on : keeps heading Patterns (e ∷ rest) ≡ true
+          = and_from (keeps heading Patterns rest) (is_none (broken heading Patterns rest e)) t.kept
+          (ap (λ (x : Option Breach). is_none x) (sym (k.judges h rest e t.alike)) ∙ parts.1) in
+          (k.step h rest e kept on t.alike, on)

@@ -1,14 +1,14 @@
 -- What is seen, half and cleansed, and what waits and still counts, after an event that is idle.
 use Rattle.std.proofs.Common.{◌≡◌, ℕ, ◌<◌, Bool, true, false, cond, not, ◌&&◌, ◌||◌, ◌==◌, List, ◌∷◌, refl, sym, ◌∙◌, ap, true≢false}
 use Rattle.std.proofs.lemmas.Bool.{and_parts, eqb-true, false_from_ne_true, or_parts}
-use Rattle.bbm_alike.specs.rules.barriers.Options.{answers}
-use Rattle.bbm_alike.specs.rules.tlbi_scope.declared.entry.Cover.{Cover}
-use Rattle.bbm_alike.specs.rules.tlbi_scope.declared.entry.Cover.TheVariants.{Half, Second, Full}
-use Rattle.bbm_alike.specs.rules.Prelude.{Barrier, Heading, Event, Dsb, Dmb, Isb, Tlbi, TlbiOp}
-use Rattle.bbm_alike.specs.rules.Claims.{Patterns}
-use Rattle.bbm_alike.specs.rules.Cleansing.{cleansed, flushes, half, same_cover, seen, writes}
-use Rattle.bbm_alike.specs.rules.Notes.{Noted, event_of}
-use Rattle.bbm_alike.specs.rules.Reach.{Issued, reaches}
+use Rattle.bbm_rules.specs.barriers.Options.{answers}
+use Rattle.bbm_rules.specs.tlbi_scope.declared.entry.Cover.{Cover}
+use Rattle.bbm_rules.specs.tlbi_scope.declared.entry.Cover.TheVariants.{Half, Second, Full}
+use Rattle.bbm_rules.specs.Prelude.{Barrier, Heading, Event, Dsb, Dmb, Isb, Tlbi, TlbiOp}
+use Rattle.bbm_rules.specs.Claims.{Patterns}
+use Rattle.bbm_rules.specs.Cleansing.{cleansed, flushes, half, same_cover, seen, writes}
+use Rattle.bbm_rules.specs.Notes.{Noted, event_of}
+use Rattle.bbm_rules.specs.Reach.{Issued, reaches}
 use Rattle.bbm_alike.specs.histories.Steps.{answered_by, cleansed_after, full_waits, half_after, half_waits, is_tlbi, second_waits, seen_after, waits_after, wrote}
 use Rattle.bbm_alike.specs.Alike.{SamePatterns}
 use Rattle.bbm_idle.specs.Idle.{adds}
@@ -48,7 +48,7 @@ no_second true Second s h d needless yet = by h d yet (needless refl)
 no_second true c s h d needless yet = refl
 
 -- what doesn't count adds nothing
-dropped : (a t x w : Bool) → x ≡ false → ((a && (t && x)) || w) ≡ w
+pub dropped : (a t x w : Bool) → x ≡ false → ((a && (t && x)) || w) ≡ w
 dropped a t x w none = ap (λ (y : Bool). (a && (t && y)) || w) none ∙ by a t
   where
     by : (a t : Bool) → ((a && (t && false)) || w) ≡ w
@@ -57,7 +57,7 @@ dropped a t x w none = ap (λ (y : Bool). (a && (t && y)) || w) none ∙ by a t
     by false t = refl
 
 -- what a DSB would answer, where it answers nothing
-left_alone : (pe q : ℕ) (b : Bool) (dsb : Barrier) (waiting : ℕ → Bool → Bool) → answered_by dsb (λ c. waiting pe c) ≡ false
+pub left_alone : (pe q : ℕ) (b : Bool) (dsb : Barrier) (waiting : ℕ → Bool → Bool) → answered_by dsb (λ c. waiting pe c) ≡ false
     → cond (pe == q && answers dsb b) false (waiting q b) ≡ waiting q b
 left_alone pe q b dsb waiting none = by (pe == q && answers dsb b) refl
   where

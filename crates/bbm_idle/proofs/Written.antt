@@ -3,13 +3,13 @@ use Rattle.std.proofs.Common.{◌≡◌, ℕ, Bool, true, false, cond, ◌==◌,
 use Rattle.std.proofs.lemmas.Bool.{and_parts, eqb-true}
 use Rattle.bbm_lists.specs.Elements.{In}
 use Rattle.bbm_lists.proofs.Elements.{any_found}
-use Rattle.bbm_alike.specs.rules.descriptor.Descriptor.{is_valid}
-use Rattle.bbm_alike.specs.rules.Prelude.{Kind, Event, Init, Write}
-use Rattle.bbm_alike.specs.rules.Held.{ValidWrite, last_valid, last_valid_after, later}
-use Rattle.bbm_alike.specs.rules.Lists.{among, with_number}
-use Rattle.bbm_alike.specs.rules.Notes.{Noted, events_of}
-use Rattle.bbm_alike.specs.rules.Places.{page_of}
-use Rattle.bbm_alike.specs.rules.Values.{written_places}
+use Rattle.bbm_rules.specs.descriptor.Descriptor.{is_valid}
+use Rattle.bbm_rules.specs.Prelude.{Kind, Event, Init, Write}
+use Rattle.bbm_rules.specs.Held.{ValidWrite, last_valid, last_valid_after, later}
+use Rattle.bbm_rules.specs.Lists.{among, with_number}
+use Rattle.bbm_rules.specs.Notes.{Noted, events_of}
+use Rattle.bbm_rules.specs.Places.{page_of}
+use Rattle.bbm_rules.specs.Values.{written_places}
 
 in_with : (n : ℕ) (ms : List ℕ) → In (with_number n ms) n
 in_with n ms = by (among n ms) refl

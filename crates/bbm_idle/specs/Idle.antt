@@ -1,24 +1,24 @@
 -- Idle events: those that a log can do without, and still keep the rules. A history is newest first, so whether an
 -- event is idle goes by the events before it alone. Source: project's own choice.
-use Rattle.std.specs.Prelude.{ℕ, Bool, true, false, not, ◌&&◌, ◌||◌, ◌==◌, List, [], ◌∷◌, Some, unwrap_or}
+use Rattle.std.specs.Prelude.{◌≡◌, ℕ, Bool, true, false, not, ◌&&◌, ◌||◌, ◌==◌, List, [], ◌∷◌, Some, unwrap_or}
 use Rattle.std.specs.Prelude.{if◌then◌else◌}
-use Rattle.bbm_alike.specs.rules.regimes.EveryPe.{every_pe}
-use Rattle.bbm_alike.specs.rules.tlbi_scope.declared.entry.Cover.{Cover}
-use Rattle.bbm_alike.specs.rules.tlbi_scope.declared.entry.Cover.TheVariants.{None as NoCover, Half, Second, Full}
-use Rattle.bbm_alike.specs.rules.Claims.{Patterns}
-use Rattle.bbm_alike.specs.rules.Cleansing.{cleansed, half, seen}
-use Rattle.bbm_alike.specs.rules.Covers.{cover_at, noted}
-use Rattle.bbm_alike.specs.rules.Held.{last_valid}
-use Rattle.bbm_alike.specs.rules.Lists.{◌>>=◌, any, every, some_pe}
-use Rattle.bbm_alike.specs.rules.Notes.{Noted}
-use Rattle.bbm_alike.specs.rules.Phases.{phase_of}
-use Rattle.bbm_alike.specs.rules.Places.{page_of}
-use Rattle.bbm_alike.specs.rules.Prelude.{Barrier, Heading, Event, Dsb, Dmb, Isb, Tlbi, Msr}
-use Rattle.bbm_alike.specs.rules.Reach.{Issued, completes, reaches, unanswered}
-use Rattle.bbm_alike.specs.rules.Roots.{Declared, roots_of}
-use Rattle.bbm_alike.specs.rules.Tags.{distinct, ever_read, holds_at, itself, takes_tag}
-use Rattle.bbm_alike.specs.rules.Tree.{node_of}
-use Rattle.bbm_alike.specs.rules.Values.{written_places}
+use Rattle.bbm_rules.specs.regimes.EveryPe.{every_pe}
+use Rattle.bbm_rules.specs.tlbi_scope.declared.entry.Cover.{Cover}
+use Rattle.bbm_rules.specs.tlbi_scope.declared.entry.Cover.TheVariants.{None as NoCover, Half, Second, Full}
+use Rattle.bbm_rules.specs.Claims.{Patterns}
+use Rattle.bbm_rules.specs.Cleansing.{cleansed, half, seen}
+use Rattle.bbm_rules.specs.Covers.{cover_at, noted}
+use Rattle.bbm_rules.specs.Held.{last_valid}
+use Rattle.bbm_rules.specs.Lists.{◌>>=◌, any, every, some_pe}
+use Rattle.bbm_rules.specs.Notes.{Noted}
+use Rattle.bbm_rules.specs.Phases.{phase_of}
+use Rattle.bbm_rules.specs.Places.{page_of}
+use Rattle.bbm_rules.specs.Prelude.{Barrier, Heading, Event, Dsb, Dmb, Isb, Tlbi, Msr}
+use Rattle.bbm_rules.specs.Reach.{Issued, completes, reaches, unanswered}
+use Rattle.bbm_rules.specs.Roots.{Declared, roots_of}
+use Rattle.bbm_rules.specs.Tags.{distinct, ever_read, holds_at, itself, takes_tag}
+use Rattle.bbm_rules.specs.Tree.{node_of}
+use Rattle.bbm_rules.specs.Values.{written_places}
 use Rattle.bbm_idle.specs.Same.{same_phase}
 
 -- whether p wrote a register since its last ISB
@@ -88,6 +88,11 @@ module _ (heading : Heading) where
 abbrev pub without : (List Event → Event → Bool) → List Event → List Event
 without chosen [] = []
 without chosen (e ∷ h) = if chosen h e then without chosen h else e ∷ without chosen h
+
+-- each event that is chosen is idle
+abbrev pub ChoosesIdle : Heading → (List Event → Event → Bool) → Type 0
+ChoosesIdle heading chosen =
+    (older : List Event) (e : Event) → chosen older e ≡ true → is_idle heading older e ≡ true
 
 -- the log without its idle events
 abbrev pub without_idle : Heading → List Event → List Event

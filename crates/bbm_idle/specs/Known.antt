@@ -1,27 +1,27 @@
 -- What the crates below prove, as one record, so that each proof here takes it as one hypothesis.
 use Rattle.std.specs.Prelude.{◌≡◌, ℕ, suc, ◌<◌, Bool, true, false, List, [], ◌∷◌, ◌++◌, length, Some, None, Contains}
 use Rattle.std.specs.Prelude.{if◌then◌else◌}
-use Rattle.bbm_alike.specs.rules.descriptor.Descriptor.{is_valid}
-use Rattle.bbm_alike.specs.rules.declared.phase.Phase.TheVariants.{Clean, Live}
-use Rattle.bbm_alike.specs.rules.Broken.{broken, keeps}
-use Rattle.bbm_alike.specs.rules.Changes.{changes}
-use Rattle.bbm_alike.specs.rules.Claims.{Patterns}
-use Rattle.bbm_alike.specs.rules.Cleansing.{cleansed, half, seen}
-use Rattle.bbm_alike.specs.rules.Covers.{cover_at, noted}
-use Rattle.bbm_alike.specs.rules.Held.{ValidWrite, held, last_valid, later}
-use Rattle.bbm_alike.specs.rules.Locks.{holder_of}
-use Rattle.bbm_alike.specs.rules.Notes.{Noted, event_of, events_of}
-use Rattle.bbm_alike.specs.rules.Pages.{is_null, may_be_fresh}
-use Rattle.bbm_alike.specs.rules.Phases.{broken_phase, phase_of}
-use Rattle.bbm_alike.specs.rules.Places.{page_of}
-use Rattle.bbm_alike.specs.rules.Prelude.{Barrier, Kind, Heading, Event, Write, Dsb, Dmb, Isb, Tlbi, Reg, TlbiOp}
-use Rattle.bbm_alike.specs.rules.Reach.{Issued, unanswered}
-use Rattle.bbm_alike.specs.rules.Registers.{register_values}
-use Rattle.bbm_alike.specs.rules.Roots.{roots_of}
-use Rattle.bbm_alike.specs.rules.Sentences.{Open}
-use Rattle.bbm_alike.specs.rules.Tags.{itself}
-use Rattle.bbm_alike.specs.rules.Tree.{Node, held_at, node_of, tree}
-use Rattle.bbm_alike.specs.rules.Values.{value_of, written_places}
+use Rattle.bbm_rules.specs.descriptor.Descriptor.{is_valid}
+use Rattle.bbm_rules.specs.declared.phase.Phase.TheVariants.{Clean, Live}
+use Rattle.bbm_rules.specs.Broken.{broken, keeps}
+use Rattle.bbm_rules.specs.Changes.{changes}
+use Rattle.bbm_rules.specs.Claims.{Patterns}
+use Rattle.bbm_rules.specs.Cleansing.{cleansed, half, seen}
+use Rattle.bbm_rules.specs.Covers.{cover_at, noted}
+use Rattle.bbm_rules.specs.Held.{ValidWrite, held, last_valid, later}
+use Rattle.bbm_rules.specs.Locks.{holder_of}
+use Rattle.bbm_rules.specs.Notes.{Noted, event_of, events_of}
+use Rattle.bbm_rules.specs.Pages.{is_null, may_be_fresh}
+use Rattle.bbm_rules.specs.Phases.{broken_phase, phase_of}
+use Rattle.bbm_rules.specs.Places.{page_of}
+use Rattle.bbm_rules.specs.Prelude.{Barrier, Kind, Heading, Event, Write, Dsb, Dmb, Isb, Tlbi, Reg, TlbiOp}
+use Rattle.bbm_rules.specs.Reach.{Issued, unanswered}
+use Rattle.bbm_rules.specs.Registers.{register_values}
+use Rattle.bbm_rules.specs.Roots.{roots_of}
+use Rattle.bbm_rules.specs.Sentences.{Open}
+use Rattle.bbm_rules.specs.Tags.{itself}
+use Rattle.bbm_rules.specs.Tree.{Node, held_at, node_of, tree}
+use Rattle.bbm_rules.specs.Values.{value_of, written_places}
 use Rattle.bbm_alike.specs.histories.Steps.{cleansed_after, half_after, held_after, seen_after, waits, waits_after}
 use Rattle.bbm_alike.specs.histories.Tree.{HeldBy, HeldChange, Proper, View}
 use Rattle.bbm_alike.specs.histories.TreeSteps.{holds_above, node_where}

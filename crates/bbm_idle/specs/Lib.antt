@@ -1,3 +1,4 @@
 pub mod Same
 pub mod Idle
 pub mod Known
+pub mod Finding

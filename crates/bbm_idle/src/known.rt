@@ -1,7 +1,7 @@
 //! What the crates below prove, gathered for the proofs here.
 
 ghost use Rattle.std.specs.Prelude.{◌≡◌, true};
-ghost use Rattle.bbm_alike.specs.events.Heading.{Heading, heading_ok};
+ghost use Rattle.bbm_rules.specs.events.Heading.{Heading, heading_ok};
 ghost use Rattle.bbm_idle.specs.Known.{Known};
 
 use bbm_alike::histories::{

@@ -1,33 +1,34 @@
 //! The law of the events that a log can do without.
 
 ghost use Rattle.std.specs.Prelude.{◌≡◌, ◌<◌, ℕ, Bool, false, true, List, ◌∷◌, ◌++◌};
-ghost use Rattle.bbm_alike.specs.events.Heading.{Heading, heading_ok};
-ghost use Rattle.bbm_alike.specs.events.declared.event.Event.{Event};
-ghost use Rattle.bbm_alike.specs.rules.Broken.{broken, keeps};
-ghost use Rattle.bbm_alike.specs.rules.Claims.Trust.{Patterns};
-ghost use Rattle.bbm_alike.specs.rules.Phases.{phase_of};
-ghost use Rattle.bbm_idle.specs.Idle.{is_idle, without, without_idle};
+ghost use Rattle.bbm_rules.specs.events.Heading.{Heading, heading_ok};
+ghost use Rattle.bbm_rules.specs.events.declared.event.Event.{Event};
+ghost use Rattle.bbm_rules.specs.Broken.{broken, keeps};
+ghost use Rattle.bbm_rules.specs.Claims.Trust.{Patterns};
+ghost use Rattle.bbm_rules.specs.Phases.{phase_of};
+ghost use Rattle.bbm_alike.specs.Alike.{Alike};
+ghost use Rattle.bbm_idle.specs.Idle.{ChoosesIdle, is_idle, without, without_idle};
 
 use crate::known::known;
 
-/// A log that keeps the rules keeps them without its idle events, all of them or any. Each place then has the same phase
-/// at each PE, and each further event is judged alike. Without all of them no event that is left is idle. The law is the
-/// contract.
+/// A log that keeps the rules keeps them without its idle events, all of them or any. It is then alike to what it was:
+/// each place has the same phase at each PE, and each further event is judged alike. Without all of them no event that is
+/// left is idle. The law is the contract.
 pub fn law_idle()
     ensures all { (heading : Heading) (h : List Event) → heading_ok heading ≡ true →
         keeps heading Patterns h ≡ true → keeps heading Patterns (without_idle heading h) ≡ true }
     ensures any { (heading : Heading) (h : List Event) (chosen : List Event → Event → Bool) →
-        heading_ok heading ≡ true →
-        ((older : List Event) (e : Event) → chosen older e ≡ true → is_idle heading older e ≡ true) →
+        heading_ok heading ≡ true → ChoosesIdle heading chosen →
         keeps heading Patterns h ≡ true → keeps heading Patterns (without chosen h) ≡ true }
+    ensures alike { (heading : Heading) (h : List Event) (chosen : List Event → Event → Bool) →
+        heading_ok heading ≡ true → ChoosesIdle heading chosen →
+        keeps heading Patterns h ≡ true → Alike heading Patterns Patterns h (without chosen h) }
     ensures phases { (heading : Heading) (h : List Event) (chosen : List Event → Event → Bool) (place p : ℕ) →
-        heading_ok heading ≡ true →
-        ((older : List Event) (e : Event) → chosen older e ≡ true → is_idle heading older e ≡ true) →
+        heading_ok heading ≡ true → ChoosesIdle heading chosen →
         keeps heading Patterns h ≡ true → p < heading.pes →
         phase_of heading Patterns (without chosen h) place p ≡ phase_of heading Patterns h place p }
     ensures judged { (heading : Heading) (h : List Event) (chosen : List Event → Event → Bool) (e : Event) →
-        heading_ok heading ≡ true →
-        ((older : List Event) (e : Event) → chosen older e ≡ true → is_idle heading older e ≡ true) →
+        heading_ok heading ≡ true → ChoosesIdle heading chosen →
         keeps heading Patterns h ≡ true →
         broken heading Patterns (without chosen h) e ≡ broken heading Patterns h e }
     ensures rest { (heading : Heading) (h newer older : List Event) (e : Event) → heading_ok heading ≡ true →

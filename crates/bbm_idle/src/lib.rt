@@ -1,8 +1,15 @@
 //! The events that a log can do without.
 #![tactic(auto)]
 
+mod find_needed;
+mod find_phases;
+mod find_places;
+mod find_registers;
+mod find_tags;
+mod find_waiting;
+pub mod finding;
 mod known;
 pub mod laws;
 
-pub use bbm_alike::{histories, regimes, rules};
+pub use finding::find;
 pub use laws::law_idle;

@@ -12,6 +12,10 @@ pub returns-clause-any : goal.returns-clause-any
 returns-clause-any c heading h chosen ok idle kept =
     let t = thinned heading (c.known.ensures heading ok) chosen idle h kept in t.kept
 
+pub returns-clause-alike : goal.returns-clause-alike
+returns-clause-alike c heading h chosen ok idle kept =
+    let t = thinned heading (c.known.ensures heading ok) chosen idle h kept in t.alike
+
 pub returns-clause-phases : goal.returns-clause-phases
 returns-clause-phases c heading h chosen place p ok idle kept less =
     let k = c.known.ensures heading ok in

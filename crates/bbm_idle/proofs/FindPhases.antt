@@ -1,0 +1,149 @@
+-- The phases of places at all PEs.
+use Rattle.std.proofs.Common.{◌≡◌, ℕ, ◌<◌, Bool, true, false, not, cond, ◌&&◌, ◌||◌, nat_lt, List, Option, Some, None, refl, sym, ap, ◌∙◌}
+use Rattle.std.specs.Option.{unwrap_or}
+use Rattle.std.proofs.lemmas.Bool.{lt-ltb}
+use Rattle.bbm_rules.specs.descriptor.Descriptor.{is_valid}
+use Rattle.bbm_rules.specs.regimes.EveryPe.{every_pe}
+use Rattle.bbm_rules.specs.regimes.PeMask.{pe_in}
+use Rattle.bbm_rules.specs.declared.phase.Phase.{Phase}
+use Rattle.bbm_rules.specs.declared.phase.Phase.TheVariants.{Clean, Live}
+use Rattle.bbm_rules.specs.Claims.{Patterns, Trust}
+use Rattle.bbm_rules.specs.Cleansing.{cleansed, half, seen}
+use Rattle.bbm_rules.specs.Covers.{noted}
+use Rattle.bbm_rules.specs.Held.{ValidWrite, cleansed_everywhere, last_valid}
+use Rattle.bbm_rules.specs.Lists.{◌>>=◌}
+use Rattle.bbm_rules.specs.Notes.{Noted, events_of}
+use Rattle.bbm_rules.specs.Phases.{broken_phase, phase_of}
+use Rattle.bbm_rules.specs.Places.{page_of}
+use Rattle.bbm_rules.specs.Prelude.{Heading, Event, Kind}
+use Rattle.bbm_rules.specs.Tree.{Node, node_of}
+use Rattle.bbm_rules.specs.Values.{value_of}
+use Rattle.bbm_oracle_patterns.specs.Phases.{furthest, phase_at}
+use Rattle.bbm_oracle_patterns.specs.declared.trace.Trace.{Trace}
+use Rattle.bbm_oracle_trees.specs.Past.{Past, notes}
+use Rattle.bbm_oracle_trees.specs.Phases.{phase_among}
+use Rattle.bbm_idle.specs.Finding.{Stands, phase_by, phase_since}
+use Rattle.bbm_idle.specs.Same.{same_phase}
+
+-- ---- by the last valid write
+
+pub since_found : (heading : Heading) (kind : Kind) (level place value p : ℕ) (h since : List Noted) (old : ℕ) (valid : Bool)
+    → last_valid kind level place h ≡ Some (record { value = old; since = since }) → valid ≡ is_valid kind level value
+    → phase_since heading valid place p since ≡ phase_at heading Patterns kind level place value p h
+since_found heading kind level place value p h since old valid found is =
+    ap (λ (b : Bool). phase_since heading b place p since) is
+    ∙ by_case (cleansed_everywhere heading Patterns place since)
+    ∙ ap (λ (o : Option ValidWrite). unwrap_or (o >>= (λ w. cond (cleansed_everywhere heading Patterns place w.since) None
+    (Some (cond (is_valid kind level value) Live (broken_phase heading Patterns place p w.since))))) Clean) (sym found)
+  where
+    by_case : (b : Bool) → cond b Clean (cond (is_valid kind level value) Live (broken_phase heading Patterns place p since))
+        ≡ unwrap_or (cond b None (Some (cond (is_valid kind level value) Live (broken_phase heading Patterns place p since)))) Clean
+    by_case true = refl
+    by_case false = refl
+
+pub since_broken : (heading : Heading) (place p : ℕ) (since : List Noted) (t : Trace) → cleansed_everywhere heading Patterns place since ≡ false
+    → pe_in t.seen p ≡ seen heading place p since → pe_in t.half p ≡ half heading place p since
+    → pe_in t.cleansed p ≡ cleansed heading Patterns place p since → phase_by t p ≡ phase_since heading false place p since
+since_broken heading place p since t some seen_is half_is cleansed_is =
+    ap (λ (b : Bool). furthest b (pe_in t.half p) (pe_in t.seen p)) cleansed_is
+    ∙ ap (λ (b : Bool). furthest (cleansed heading Patterns place p since) b (pe_in t.seen p)) half_is
+    ∙ ap (λ (b : Bool). furthest (cleansed heading Patterns place p since) (half heading place p since) b) seen_is
+    ∙ sym (ap (λ (b : Bool). cond b Clean (broken_phase heading Patterns place p since)) some)
+
+-- ---- of a history
+
+-- where the search of the node found one
+pub at_node : (heading : Heading) (trust : Trust) (h : List Noted) (place p : ℕ) (n : Node) → trust ≡ Patterns
+    → node_of heading trust h (page_of place) ≡ Some n
+    → phase_at heading Patterns n.kind n.level place (value_of (events_of h) place) p h ≡ phase_among heading trust h place p
+at_node heading trust h place p n is found =
+    ap (λ (t : Trust). phase_at heading t n.kind n.level place (value_of (events_of h) place) p h) (sym is)
+    ∙ sym (ap (λ (o : Option Node). unwrap_or (o >>= (λ m. last_valid m.kind m.level place h >>= (λ w.
+    cond (cleansed_everywhere heading trust place w.since) None
+    (Some (cond (is_valid m.kind m.level (value_of (events_of h) place)) Live (broken_phase heading trust place p w.since)))))) Clean) found)
+
+-- where it found none
+pub at_no_node : (heading : Heading) (trust : Trust) (h : List Noted) (place p : ℕ)
+    → node_of heading trust h (page_of place) ≡ None → Clean ≡ phase_among heading trust h place p
+at_no_node heading trust h place p none =
+    sym (ap (λ (o : Option Node). unwrap_or (o >>= (λ m. last_valid m.kind m.level place h >>= (λ w.
+    cond (cleansed_everywhere heading trust place w.since) None
+    (Some (cond (is_valid m.kind m.level (value_of (events_of h) place)) Live (broken_phase heading trust place p w.since)))))) Clean) none)
+
+noted_phase : (heading : Heading) (h : List Event) (place p : ℕ) → events_of (noted heading Patterns h) ≡ h
+    → phase_among heading Patterns (noted heading Patterns h) place p ≡ phase_of heading Patterns h place p
+unfolding phase_of
+noted_phase heading h place p e = rw e refl
+
+-- that of the events that the history stands for
+pub phase_stands : (past : Past) (heading : Heading) (h : List Event) → Stands past heading h → (place p : ℕ)
+    → phase_among past.heading past.trust (notes past) place p ≡ phase_of heading Patterns h place p
+phase_stands past heading h s place p =
+    let are : notes past ≡ noted heading Patterns h = s.kept.notes_are ∙ ap (λ (t : Trust). noted heading t h) s.trust_is in
+    ap (λ (t : Trust). phase_among past.heading t (notes past) place p) s.trust_is
+    ∙ ap (λ (g : Heading). phase_among g Patterns (notes past) place p) s.kept.heading_is
+    ∙ ap (λ (n : List Noted). phase_among heading Patterns n place p) are
+    ∙ noted_phase heading h place p (ap (λ (n : List Noted). events_of n) (sym are) ∙ s.kept.events_are)
+
+-- ---- two phases
+
+-- the PEs that are in one of the sets and not in both
+abbrev differ : Bool → Bool → Bool
+differ a b = (a && not b) || (b && not a)
+
+-- the PEs at which two broken places have the same phase
+same_furthest : (c c' h h' s s' : Bool)
+    → not ((differ c c' || differ (c || h) (c' || h')) || differ ((c || h) || s) ((c' || h') || s'))
+    ≡ same_phase (furthest c h s) (furthest c' h' s')
+same_furthest true true h h' s s' = refl
+same_furthest true false h true s s' = refl
+same_furthest true false h false s true = refl
+same_furthest true false h false s false = refl
+same_furthest false true true h' s s' = refl
+same_furthest false true false h' true s' = refl
+same_furthest false true false h' false s' = refl
+same_furthest false false true true s s' = refl
+same_furthest false false true false s true = refl
+same_furthest false false true false s false = refl
+same_furthest false false false true true s' = refl
+same_furthest false false false true false s' = refl
+same_furthest false false false false true true = refl
+same_furthest false false false false true false = refl
+same_furthest false false false false false true = refl
+same_furthest false false false false false false = refl
+
+pub alike_at : (pes p : ℕ) (new old : Trace) (here cleansed half seen : Bool) → p < pes
+    → here ≡ (nat_lt p pes && not ((cleansed || half) || seen))
+    → cleansed ≡ differ (pe_in new.cleansed p) (pe_in old.cleansed p)
+    → half ≡ differ (pe_in new.cleansed p || pe_in new.half p) (pe_in old.cleansed p || pe_in old.half p)
+    → seen ≡ differ ((pe_in new.cleansed p || pe_in new.half p) || pe_in new.seen p) ((pe_in old.cleansed p || pe_in old.half p) || pe_in old.seen p)
+    → here ≡ same_phase (phase_by new p) (phase_by old p)
+alike_at pes p new old here cleansed half seen below is c h s =
+    is
+    ∙ ap (λ (b : Bool). b && not ((cleansed || half) || seen)) (lt-ltb p pes below)
+    ∙ rw (c, h, s) (same_furthest (pe_in new.cleansed p) (pe_in old.cleansed p) (pe_in new.half p) (pe_in old.half p) (pe_in new.seen p) (pe_in old.seen p))
+
+-- a broken place has another phase than a clean or a live one
+pub never_clean : (c h s : Bool) → false ≡ same_phase (furthest c h s) Clean
+never_clean true h s = refl
+never_clean false true s = refl
+never_clean false false true = refl
+never_clean false false false = refl
+
+pub clean_never : (c h s : Bool) → false ≡ same_phase Clean (furthest c h s)
+clean_never true h s = refl
+clean_never false true s = refl
+clean_never false false true = refl
+clean_never false false false = refl
+
+pub never_live : (c h s : Bool) → false ≡ same_phase (furthest c h s) Live
+never_live true h s = refl
+never_live false true s = refl
+never_live false false true = refl
+never_live false false false = refl
+
+pub live_never : (c h s : Bool) → false ≡ same_phase Live (furthest c h s)
+live_never true h s = refl
+live_never false true s = refl
+live_never false false true = refl
+live_never false false false = refl

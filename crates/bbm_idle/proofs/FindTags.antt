@@ -1,0 +1,209 @@
+-- The tags that were ever readable, and those of them that a TLBI takes whole.
+use Rattle.std.proofs.Common.{◌≡◌, ℕ, ◌+◌, add-one, Bool, true, false, cond, ◌&&◌, ◌||◌, eqb, List, [], ◌∷◌, ◌++◌, Option, Some, None, refl, sym, ap, ◌∙◌, flat_map, filter_map, true≢false}
+use Rattle.std.specs.List.{list_any, cons_option}
+use Rattle.std.proofs.lemmas.Bool.{and_parts, eqb-true, or_left, or_right}
+use Rattle.std.proofs.lemmas.List.Folds.{list_any-append}
+use Rattle.bbm_lists.specs.Elements.{In}
+use Rattle.bbm_lists.proofs.Elements.{any_finds, any_found}
+use Rattle.bbm_rules.specs.Prelude.{AsidFrom, FromTtbr0, FromTtbr1, Ttbr0El1, Ttbr1El1, Ttbr1Tag, World, Hyp, Kernel, Heading, Event, Root, Unroot, Isb, Msr, Tag, Tlbi, TlbiOp, Scope}
+use Rattle.bbm_rules.specs.tlbi_scope.Tags.{takes_whole_tag}
+use Rattle.bbm_rules.specs.Changes.{changes}
+use Rattle.bbm_rules.specs.Claims.{Patterns, same_tag}
+use Rattle.bbm_rules.specs.Lists.{any, below, if_so}
+use Rattle.bbm_rules.specs.Registers.{named_scope, vmid_of}
+use Rattle.bbm_rules.specs.Roots.{Declared, roots_of}
+use Rattle.bbm_rules.specs.Tags.{Reading, asid_readings, distinct, ever_read, holds_at, readings, readings_in, readings_of, tag_for, takes_tag}
+use Rattle.bbm_idle.specs.Finding.{AreTaken, IsKnown, is_taken, passes, taken_passes}
+use Rattle.bbm_idle.specs.Idle.{takes_of}
+use Rattle.bbm_idle.proofs.FindLists.{any_alike, any_flat, any_never, or_assoc, or_false, or_same, or_swap, and_false}
+
+-- ---- one more reading
+
+module _ (decides : (g k : Tag) → same_tag g k ≡ true → g ≡ k) where
+  same_reading : (s r : Reading) → (same_tag s.tag r.tag && eqb s.root r.root) ≡ true → s ≡ r
+  same_reading s r k =
+      let parts = and_parts (same_tag s.tag r.tag) (eqb s.root r.root) k in
+      ap (λ (g : Tag). record { tag = g; root = s.root }) (decides s.tag r.tag parts.0)
+      ∙ ap (λ (n : ℕ). record { tag = r.tag; root = n }) (eqb-true s.root r.root parts.1)
+
+  -- a reading that is in the list adds nothing
+  pub known_already : (test : Reading → Bool) (rs : List Reading) (r : Reading)
+      → any (λ s. same_tag s.tag r.tag && eqb s.root r.root) rs ≡ true → any test rs ≡ (any test rs || test r)
+  known_already test rs r k = by_case (test r) refl
+    where
+      by_case : (b : Bool) → test r ≡ b → any test rs ≡ (any test rs || b)
+      by_case true e =
+          let f = any_found (λ s. same_tag s.tag r.tag && eqb s.root r.root) rs k in
+          let here : any test rs ≡ true = any_finds test rs f.0 f.1 (ap test (same_reading f.0 r f.2) ∙ e) in
+          here ∙ sym (or_left (any test rs) true here)
+      by_case false e = sym (or_false (any test rs))
+
+  -- each tag once: a test of some tag says the same
+  pub any_distinct : (test : Tag → Bool) (tags : List Tag) → any test (distinct tags) ≡ any test tags
+  any_distinct test [] = refl
+  any_distinct test (tag ∷ tags) = by_case (any (same_tag tag) tags) refl (any_distinct test tags)
+    where
+      there : any (same_tag tag) tags ≡ true → (b : Bool) → test tag ≡ b → any test tags ≡ (b || any test tags)
+      there k true e =
+          let f = any_found (same_tag tag) tags k in
+          any_finds test tags f.0 f.1 (ap test (sym (decides tag f.0 f.2)) ∙ e)
+      there k false e = refl
+
+      by_case : (b : Bool) → any (same_tag tag) tags ≡ b → any test (distinct tags) ≡ any test tags
+          → any test (cond b (distinct tags) (tag ∷ distinct tags)) ≡ (test tag || any test tags)
+      by_case true k rest = rest ∙ there k (test tag) refl
+      by_case false k rest = ap (λ (b : Bool). test tag || b) rest
+
+-- ---- what was ever readable, after one more event
+
+any_for : (root : ℕ) (test : Tag → Bool) (rs : List Reading) → any test (filter_map (tag_for root) rs) ≡ any (passes root test) rs
+any_for root test [] = refl
+any_for root test (r ∷ rs) = by_case (eqb r.root root) (any_for root test rs)
+  where
+    by_case : (b : Bool) → any test (filter_map (tag_for root) rs) ≡ any (passes root test) rs
+        → any test (cons_option (if_so b r.tag) (filter_map (tag_for root) rs)) ≡ ((b && test r.tag) || any (passes root test) rs)
+    by_case true rest = ap (λ (b : Bool). test r.tag || b) rest
+    by_case false rest = rest
+
+-- what is readable at some PE
+abbrev read_now : Heading → List Event → (Reading → Bool) → Bool
+read_now heading h test = any (λ p. any test (readings heading h p)) (below heading.pes)
+
+-- one more PE
+pub read_more : (heading : Heading) (h : List Event) (number : ℕ) (test : Reading → Bool) (start before now : Bool)
+    → before ≡ (start || any (λ p. any test (readings heading h p)) (below number))
+    → now ≡ (before || any test (readings heading h number))
+    → now ≡ (start || any (λ p. any test (readings heading h p)) (below (number + 1)))
+read_more heading h number test start before now old new =
+    rw add-one (new ∙ ap (λ (b : Bool). b || any test (readings heading h number)) old
+    ∙ or_assoc start (any (λ p. any test (readings heading h p)) (below number)) (any test (readings heading h number))
+    ∙ ap (λ (b : Bool). start || b)
+    (or_swap (any (λ p. any test (readings heading h p)) (below number)) (any test (readings heading h number))))
+
+ever_more : (heading : Heading) (e : Event) (h : List Event) (root : ℕ) (test : Tag → Bool)
+    → any test (ever_read heading root (e ∷ h)) ≡ (read_now heading (e ∷ h) (passes root test) || any test (ever_read heading root h))
+ever_more heading e h root test =
+    list_any-append test (flat_map (λ p. filter_map (tag_for root) (readings heading (e ∷ h) p)) (below heading.pes)) (ever_read heading root h)
+    ∙ ap (λ (b : Bool). b || any test (ever_read heading root h))
+    (any_flat (λ p. filter_map (tag_for root) (readings heading (e ∷ h) p)) test (below heading.pes)
+    ∙ any_alike (λ p. any test (filter_map (tag_for root) (readings heading (e ∷ h) p))) (λ p. any (passes root test) (readings heading (e ∷ h) p))
+    (below heading.pes) (λ p. any_for root test (readings heading (e ∷ h) p)))
+
+-- where what is readable at each PE is added
+pub known_more : (heading : Heading) (e : Event) (h : List Event) (events : List Event) (old new : List Reading) → events ≡ e ∷ h
+    → IsKnown heading h old
+    → ((test : Reading → Bool) → any test new ≡ (any test old || read_now heading events test))
+    → IsKnown heading (e ∷ h) new
+known_more heading e h events old new are known added = λ root test.
+    added (passes root test)
+    ∙ ap (λ (b : Bool). b || read_now heading events (passes root test)) (known root test)
+    ∙ ap (λ (es : List Event). any test (ever_read heading root h) || read_now heading es (passes root test)) are
+    ∙ or_swap (any test (ever_read heading root h)) (read_now heading (e ∷ h) (passes root test))
+    ∙ sym (ever_more heading e h root test)
+
+-- where the event changes nothing of it
+same_asids : (from : AsidFrom) (e : Event) (h : List Event) (p : ℕ) → ((changes e).roots || (changes e).registers) ≡ false
+    → asid_readings from (e ∷ h) p ≡ asid_readings from h p
+same_asids from (Root pe kind lock page) h p k = absurd (true≢false k)
+same_asids from (Unroot pe page) h p k = absurd (true≢false k)
+same_asids from (Isb pe) h p k = absurd (true≢false k)
+same_asids from (Msr pe r value) h p k = absurd (true≢false k)
+same_asids FromTtbr0 e h p k = refl
+same_asids FromTtbr1 e h p k = refl
+
+same_readings : (world : World) (e : Event) (h : List Event) (p : ℕ) → ((changes e).roots || (changes e).registers) ≡ false
+    → readings_in world (e ∷ h) p ≡ readings_in world h p
+same_readings world (Root pe kind lock page) h p k = absurd (true≢false k)
+same_readings world (Unroot pe page) h p k = absurd (true≢false k)
+same_readings world (Isb pe) h p k = absurd (true≢false k)
+same_readings world (Msr pe r value) h p k = absurd (true≢false k)
+same_readings (Hyp world) e h p k = refl
+same_readings (Kernel world) e h p k =
+    ap (λ (rs : List Reading). rs ++ readings_of h p Ttbr1El1 (λ value. Ttbr1Tag)) (same_asids world.asid_from e h p k)
+
+nothing_read : (world : World) (p : ℕ) → readings_in world [] p ≡ []
+nothing_read (Hyp world) p = refl
+nothing_read (Kernel world) p = by_register world.asid_from
+  where
+    by_register : (from : AsidFrom) → asid_readings from [] p ++ readings_of [] p Ttbr1El1 (λ value. Ttbr1Tag) ≡ []
+    by_register FromTtbr0 = refl
+    by_register FromTtbr1 = refl
+
+read_before : (heading : Heading) (h : List Event) (root : ℕ) (test : Tag → Bool)
+    → (read_now heading h (passes root test) || any test (ever_read heading root h)) ≡ any test (ever_read heading root h)
+read_before heading [] root test =
+    ap (λ (b : Bool). b || false)
+    (any_alike (λ p. any (passes root test) (readings heading [] p)) (λ p. false) (below heading.pes)
+    (λ p. ap (λ (rs : List Reading). any (passes root test) rs) (nothing_read heading.world p)) ∙ any_never (below heading.pes))
+read_before heading (e ∷ h) root test =
+    ap (λ (b : Bool). read_now heading (e ∷ h) (passes root test) || b) (ever_more heading e h root test)
+    ∙ or_same (read_now heading (e ∷ h) (passes root test)) (any test (ever_read heading root h))
+    ∙ sym (ever_more heading e h root test)
+
+pub known_still : (heading : Heading) (e : Event) (h : List Event) (known : List Reading)
+    → ((changes e).roots || (changes e).registers) ≡ false → IsKnown heading h known → IsKnown heading (e ∷ h) known
+known_still heading e h known k is = λ root test.
+    is root test ∙ sym (read_before heading h root test)
+    ∙ ap (λ (b : Bool). b || any test (ever_read heading root h))
+    (any_alike (λ p. any (passes root test) (readings heading h p)) (λ p. any (passes root test) (readings heading (e ∷ h) p)) (below heading.pes)
+    (λ p. ap (λ (rs : List Reading). any (passes root test) rs) (sym (same_readings heading.world e h p k))))
+    ∙ sym (ever_more heading e h root test)
+
+-- ---- what a TLBI takes
+
+of_root : (scope : Scope) (vmid : Option ℕ) (root : ℕ) (test : ℕ → Tag → Bool) (r : Reading)
+    → is_taken scope vmid root (λ s. test s.root s.tag) r ≡ passes root (λ tag. takes_whole_tag scope vmid tag && test root tag) r
+of_root scope vmid root test r = by_case (eqb r.root root) refl (takes_whole_tag scope vmid r.tag)
+  where
+    by_case : (b : Bool) → eqb r.root root ≡ b → (t : Bool) → ((b && t) && test r.root r.tag) ≡ (b && (t && test root r.tag))
+    by_case true e true = ap (λ (n : ℕ). test n r.tag) (eqb-true r.root root e)
+    by_case true e false = refl
+    by_case false e t = refl
+
+-- where it names a scope
+pub taken_of : (heading : Heading) (h : List Event) (pe : ℕ) (op : TlbiOp) (xt : ℕ) (scope : Scope) (vmid : Option ℕ)
+    (roots : List Declared) (known taken : List Reading) → IsKnown heading h known
+    → named_scope heading h pe op xt ≡ Some scope → vmid ≡ vmid_of heading h pe → roots ≡ roots_of h
+    → ((test : Reading → Bool) → any test taken ≡ any (λ r. any (is_taken scope vmid r.page test) known) roots)
+    → AreTaken heading h (Tlbi pe op xt) taken
+taken_of heading h pe op xt scope vmid roots known taken is named under are told = λ test.
+    told (λ r. test r.root r.tag)
+    ∙ any_alike (λ r. any (is_taken scope vmid r.page (λ s. test s.root s.tag)) known) (taken_passes heading h (Tlbi pe op xt) test) roots
+    (λ r. any_alike (is_taken scope vmid r.page (λ s. test s.root s.tag)) (passes r.page (λ tag. takes_whole_tag scope vmid tag && test r.page tag)) known
+    (of_root scope vmid r.page test)
+    ∙ is r.page (λ tag. takes_whole_tag scope vmid tag && test r.page tag)
+    ∙ any_alike (λ tag. takes_whole_tag scope vmid tag && test r.page tag) (λ tag. takes_tag heading (Tlbi pe op xt) h tag && test r.page tag)
+    (ever_read heading r.page h) (λ tag. ap (λ (b : Bool). b && test r.page tag) (whole tag)))
+    ∙ ap (λ (rs : List Declared). any (taken_passes heading h (Tlbi pe op xt) test) rs) are
+  where
+    whole : (tag : Tag) → takes_whole_tag scope vmid tag ≡ takes_tag heading (Tlbi pe op xt) h tag
+    whole tag =
+        ap (λ (v : Option ℕ). takes_whole_tag scope v tag) under
+        ∙ sym (ap (λ (o : Option Scope). elim o [ None ↦ false | Some s ↦ takes_whole_tag s (vmid_of heading h pe) tag ]) named)
+
+-- an event that takes no tag
+untaken : (heading : Heading) (h : List Event) (e : Event) (test : ℕ → Tag → Bool) (rs : List Declared)
+    → ((tag : Tag) → takes_tag heading e h tag ≡ false) → false ≡ any (taken_passes heading h e test) rs
+untaken heading h e test rs none =
+    sym (any_alike (taken_passes heading h e test) (λ r. false) rs
+    (λ r. any_alike (λ tag. takes_tag heading e h tag && test r.page tag) (λ tag. false) (ever_read heading r.page h)
+    (λ tag. ap (λ (b : Bool). b && test r.page tag) (none tag)) ∙ any_never (ever_read heading r.page h)) ∙ any_never rs)
+
+pub taken_unnamed : (heading : Heading) (h : List Event) (pe : ℕ) (op : TlbiOp) (xt : ℕ) → named_scope heading h pe op xt ≡ None
+    → AreTaken heading h (Tlbi pe op xt) []
+taken_unnamed heading h pe op xt named = λ test. untaken heading h (Tlbi pe op xt) test (roots_of h)
+    (λ tag. ap (λ (o : Option Scope). elim o [ None ↦ false | Some s ↦ takes_whole_tag s (vmid_of heading h pe) tag ]) named)
+
+pub taken_other : (heading : Heading) (h : List Event) (e : Event) → ((pe : ℕ) (op : TlbiOp) (xt : ℕ) → e ≡ Tlbi pe op xt → ⊥)
+    → AreTaken heading h e []
+taken_other heading h (Tlbi pe op xt) none = absurd (none pe op xt refl)
+taken_other heading h e none = λ test. untaken heading h e test (roots_of h) (λ tag. refl)
+
+-- what is held of it
+pub takes_held : ((g k : Tag) → same_tag g k ≡ true → g ≡ k) → (heading : Heading) (h : List Event) (e : Event) (p : ℕ) (taken : List Reading)
+    → AreTaken heading h e taken
+    → any (λ r. holds_at heading Patterns p r.root r.tag h) taken ≡ any (takes_of heading h e p) (roots_of h)
+takes_held decides heading h e p taken are =
+    are (λ root tag. holds_at heading Patterns p root tag h)
+    ∙ any_alike (taken_passes heading h e (λ root tag. holds_at heading Patterns p root tag h)) (takes_of heading h e p) (roots_of h)
+    (λ r. sym (any_distinct decides (λ tag. takes_tag heading e h tag && holds_at heading Patterns p r.page tag h) (ever_read heading r.page h)))

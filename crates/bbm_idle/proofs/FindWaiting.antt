@@ -1,0 +1,139 @@
+-- Needed TLBIs that aren't answered, after one more event.
+use Rattle.std.proofs.Common.{◌≡◌, ℕ, Bool, true, false, not, cond, ◌&&◌, ◌||◌, ◌==◌, List, [], ◌∷◌, refl, sym, ap, ◌∙◌, true≢false}
+use Rattle.std.proofs.lemmas.Bool.{and_parts}
+use Rattle.std.proofs.lemmas.Map.Views.{any-filter_same}
+use Rattle.bbm_rules.specs.barriers.Options.{answers}
+use Rattle.bbm_rules.specs.tlbi_scope.Operations.{operation}
+use Rattle.bbm_rules.specs.regimes.PeMask.{pe_in}
+use Rattle.bbm_rules.specs.Lists.{any}
+use Rattle.bbm_rules.specs.Prelude.{Barrier, Heading, Event, Dsb, Tlbi}
+use Rattle.bbm_rules.specs.Reach.{Issued, completes, left_open, unanswered}
+use Rattle.bbm_rules.specs.Tags.{itself}
+use Rattle.bbm_oracle_tags.specs.Watches.{is_cast}
+use Rattle.bbm_idle.specs.Finding.{IsWaiting, waits, waits_after, waits_for}
+use Rattle.bbm_idle.specs.Idle.{answers_needed, is_idle, is_needed}
+use Rattle.bbm_idle.specs.declared.find_waiting.Waiting.{Waiting}
+use Rattle.bbm_idle.proofs.FindLists.{and_true, and_swap}
+
+-- a DSB completes all TLBIs of a sort, or none
+sorted : (cast : Bool) (dsb : Barrier) (e : Event) → is_cast cast e ≡ true → not (completes dsb e) ≡ not (answers dsb cast)
+sorted true dsb (Tlbi pe op xt) k = ap (λ (b : Bool). not (answers dsb b)) k
+sorted false dsb (Tlbi pe op xt) k = by_case (operation op).broadcast k
+  where
+    by_case : (b : Bool) → not b ≡ true → not (answers dsb b) ≡ not (answers dsb false)
+    by_case true k = absurd (true≢false (sym k))
+    by_case false k = refl
+sorted true dsb e k = absurd (true≢false (sym k))
+sorted false dsb e k = absurd (true≢false (sym k))
+
+not_twice : (b : Bool) → b ≡ not (not b)
+not_twice true = refl
+not_twice false = refl
+
+module _ (heading : Heading) where
+  left_waiting : (dsb : Barrier) (cast : Bool) (ts : List (Issued Event))
+      → any (waits_for heading cast) (left_open itself dsb ts) ≡ (any (waits_for heading cast) ts && not (answers dsb cast))
+  left_waiting dsb cast ts =
+      any-filter_same (waits_for heading cast) (λ t. not (completes dsb t.tlbi)) (not (answers dsb cast))
+      (λ t k. sorted cast dsb t.tlbi (and_parts (is_cast cast t.tlbi) (is_needed heading t.before t.tlbi) k).0) ts
+      ∙ and_swap (not (answers dsb cast)) (any (waits_for heading cast) ts)
+
+  pub waits_next : (e : Event) (h : List Event) (cast : Bool) (q : ℕ)
+      → waits heading cast q (e ∷ h) ≡ waits_after cast (is_idle heading h e) e q (waits heading cast q h)
+  unfolding is_idle
+  waits_next (Tlbi pe op xt) h cast q = by_case (pe == q)
+    where
+      by_case : (b : Bool) → any (waits_for heading cast)
+          (cond b (record { tlbi = Tlbi pe op xt; before = h } ∷ unanswered itself q h) (unanswered itself q h))
+          ≡ ((b && (is_cast cast (Tlbi pe op xt) && not (not (is_needed heading h (Tlbi pe op xt))))) || waits heading cast q h)
+      by_case true = ap (λ (b : Bool). (is_cast cast (Tlbi pe op xt) && b) || waits heading cast q h) (not_twice (is_needed heading h (Tlbi pe op xt)))
+      by_case false = refl
+  waits_next (Dsb pe dsb) h cast q = by_case (pe == q)
+    where
+      by_case : (b : Bool) → any (waits_for heading cast) (cond b (left_open itself dsb (unanswered itself q h)) (unanswered itself q h))
+          ≡ (waits heading cast q h && not (b && answers dsb cast))
+      by_case true = left_waiting dsb cast (unanswered itself q h)
+      by_case false = sym (and_true (waits heading cast q h))
+  waits_next e h cast q = refl
+
+  pub waits_kept : (e : Event) (h : List Event) (cast : Bool) (q : ℕ) (idle before now : Bool) → idle ≡ is_idle heading h e
+      → before ≡ waits heading cast q h → now ≡ waits_after cast idle e q before → now ≡ waits heading cast q (e ∷ h)
+  waits_kept e h cast q idle before now told old new =
+      new ∙ ap (λ (b : Bool). waits_after cast b e q before) told
+      ∙ ap (λ (b : Bool). waits_after cast (is_idle heading h e) e q b) old
+      ∙ sym (waits_next e h cast q)
+
+  -- ---- what a DSB answers
+
+  answered_one : (dsb : Barrier) (t : Issued Event)
+      → answers_needed heading dsb t ≡ ((answers dsb true && waits_for heading true t) || (answers dsb false && waits_for heading false t))
+  answered_one dsb t = by_event t.tlbi (is_needed heading t.before t.tlbi)
+    where
+      cast : (a f n : Bool) → (b : Bool) → (cond b a f && n) ≡ ((a && (b && n)) || (f && (not b && n)))
+      cast true true true true = refl
+      cast true true true false = refl
+      cast true true false true = refl
+      cast true true false false = refl
+      cast true false true true = refl
+      cast true false true false = refl
+      cast true false false true = refl
+      cast true false false false = refl
+      cast false true true true = refl
+      cast false true true false = refl
+      cast false true false true = refl
+      cast false true false false = refl
+      cast false false true true = refl
+      cast false false true false = refl
+      cast false false false true = refl
+      cast false false false false = refl
+
+      never : (a f n : Bool) → false ≡ ((a && (false && n)) || (f && (false && n)))
+      never true true n = refl
+      never true false n = refl
+      never false true n = refl
+      never false false n = refl
+
+      either_of : (b : Bool) → answers dsb b ≡ cond b (answers dsb true) (answers dsb false)
+      either_of true = refl
+      either_of false = refl
+
+      by_event : (e : Event) (n : Bool) → (completes dsb e && n)
+          ≡ ((answers dsb true && (is_cast true e && n)) || (answers dsb false && (is_cast false e && n)))
+      by_event (Tlbi pe op xt) n =
+          ap (λ (b : Bool). b && n) (either_of (operation op).broadcast)
+          ∙ cast (answers dsb true) (answers dsb false) n (operation op).broadcast
+      by_event e n = never (answers dsb true) (answers dsb false) n
+
+  both : (a f x y v w : Bool) → (((a && x) || (f && y)) || ((a && v) || (f && w))) ≡ ((a && (x || v)) || (f && (y || w)))
+  both true true true y v w = refl
+  both true true false true true w = refl
+  both true true false true false w = refl
+  both true true false false v w = refl
+  both true false true y v w = refl
+  both true false false y v w = refl
+  both false true x true v w = refl
+  both false true x false v w = refl
+  both false false x y v w = refl
+
+  pub answered : (dsb : Barrier) (ts : List (Issued Event)) → any (answers_needed heading dsb) ts
+      ≡ ((answers dsb true && any (waits_for heading true) ts) || (answers dsb false && any (waits_for heading false) ts))
+  answered dsb [] = by_case (answers dsb true) (answers dsb false)
+    where
+      by_case : (a f : Bool) → false ≡ ((a && false) || (f && false))
+      by_case true true = refl
+      by_case true false = refl
+      by_case false true = refl
+      by_case false false = refl
+  answered dsb (t ∷ ts) =
+      ap (λ (b : Bool). b || any (answers_needed heading dsb) ts) (answered_one dsb t)
+      ∙ ap (λ (b : Bool). ((answers dsb true && waits_for heading true t) || (answers dsb false && waits_for heading false t)) || b) (answered dsb ts)
+      ∙ both (answers dsb true) (answers dsb false) (waits_for heading true t) (waits_for heading false t)
+      (any (waits_for heading true) ts) (any (waits_for heading false) ts)
+
+  pub answered_by : (h : List Event) (pe : ℕ) (dsb : Barrier) (w : Waiting) (broadcast local : Bool) → IsWaiting w heading h
+      → broadcast ≡ (answers dsb true && pe_in w.broadcast pe) → local ≡ (answers dsb false && pe_in w.local pe)
+      → (broadcast || local) ≡ any (answers_needed heading dsb) (unanswered itself pe h)
+  answered_by h pe dsb w broadcast local is b l =
+      ap (λ (x : Bool). x || local) (b ∙ ap (λ (x : Bool). answers dsb true && x) (is.broadcast pe))
+      ∙ ap (λ (x : Bool). (answers dsb true && waits heading true pe h) || x) (l ∙ ap (λ (x : Bool). answers dsb false && x) (is.local pe))
+      ∙ sym (answered dsb (unanswered itself pe h))

@@ -1,0 +1,8 @@
+use Rattle.std.proofs.Common.{◌≡◌, ℕ, ◌<◌, false, reverse}
+use Rattle.bbm_rules.specs.regimes.PeMask.{pe_in}
+use Rattle.bbm_idle.specs.Finding.{needed_by}
+use Rattle.bbm_idle.proofs.find_needed.is_needed.Given as goal
+
+abbrev pub invariant-loop-number : goal.invariant-loop-number
+invariant-loop-number l =
+    (p : ℕ) → p < l.number → needed_by l.header (reverse l.before) l.event (pe_in l.added) p ≡ false

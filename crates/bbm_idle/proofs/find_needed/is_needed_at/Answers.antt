@@ -1,0 +1,24 @@
+use Rattle.std.proofs.Common.{◌≡◌, Bool, ◌&&◌, ◌||◌, reverse, sym, ap, ◌∙◌}
+use Rattle.std.proofs.lemmas.Result.{IfOk-weaker}
+use Rattle.bbm_rules.specs.regimes.PeMask.{pe_in}
+use Rattle.bbm_rules.specs.Claims.{Patterns}
+use Rattle.bbm_rules.specs.Lists.{any}
+use Rattle.bbm_rules.specs.Roots.{roots_of}
+use Rattle.bbm_rules.specs.Tags.{holds_at}
+use Rattle.bbm_idle.specs.Finding.{needed_by}
+use Rattle.bbm_idle.specs.Idle.{takes_of}
+use Rattle.bbm_idle.proofs.FindTags.{takes_held}
+use Rattle.bbm_idle.proofs.find_needed.is_needed_at.Goals as goal
+
+pub returns-else-has : goal.returns-else-has
+returns-else-has c =
+    let h = reverse c.args.before.now in
+    let takes : Bool = any (takes_of c.args.header.now h c.args.event.now c.args.pe) (roots_of h) in
+    IfOk-weaker c.holds_some.result
+    (λ (b : Bool). b ≡ any (λ r. holds_at c.args.header.now Patterns c.args.pe r.root r.tag h) c.args.taken.now)
+    (λ (b : Bool). b ≡ needed_by c.args.header.now h c.args.event.now (pe_in c.args.added) c.args.pe)
+    (λ b e. e
+    ∙ takes_held (λ g k e. (c.law_equality_tests.ensures.tags g k).0 e) c.args.header.now h c.args.event.now c.args.pe c.args.taken.now c.requires
+    ∙ ap (λ (b : Bool). b || takes) c.if-has.ensures
+    ∙ ap (λ (b : Bool). b && (pe_in c.args.added c.args.pe || takes)) c.if-reaches.ensures)
+    c.holds_some.ensures

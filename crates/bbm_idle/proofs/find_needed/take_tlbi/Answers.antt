@@ -1,0 +1,27 @@
+use Rattle.std.proofs.Common.{◌≡◌, ℕ, Bool, List, reverse, ap, ◌∙◌}
+use Rattle.std.proofs.lemmas.Result.{IfOk-weaker}
+use Rattle.bbm_rules.specs.regimes.PeMask.{pe_in}
+use Rattle.bbm_rules.specs.tlbi_scope.declared.entry.Cover.{Cover}
+use Rattle.bbm_rules.specs.Covers.{cover_at, note}
+use Rattle.bbm_rules.specs.Lists.{any, some_pe}
+use Rattle.bbm_oracle_trees.specs.Past.{notes}
+use Rattle.bbm_idle.specs.Finding.{needed_by, place_adds}
+use Rattle.bbm_idle.specs.Idle.{is_needed}
+use Rattle.bbm_idle.specs.declared.find_places.PlaceTrace.{PlaceTrace}
+use Rattle.bbm_idle.proofs.FindPlaces.{adds_stand, needed_is}
+use Rattle.bbm_idle.proofs.find_needed.take_tlbi.Goals as goal
+
+pub returns-clause-needed : goal.returns-clause-needed
+returns-clause-needed c =
+    let h = reverse c.args.before.now in
+    let past = c.args.history.now in
+    let covers : ℕ → Cover = cover_at past.heading past.trust (notes past) c.args.event.now in
+    IfOk-weaker c.is_needed.result
+    (λ (b : Bool). b ≡ some_pe c.args.header.now.pes (needed_by c.args.header.now h c.args.event.now (pe_in c.newest_adds-added.result)))
+    (λ (b : Bool). b ≡ is_needed c.args.header.now h c.args.event.now)
+    (λ b k. k ∙ needed_is c.args.header.now h c.args.event.now (pe_in c.newest_adds-added.result)
+    (λ p. c.newest_adds-added.ensures (note past.heading past.trust (notes past) c.args.event.now) (notes past) c.in_ok-take.ensures.taken p
+    ∙ ap (λ (ts : List PlaceTrace). any (place_adds covers p) ts) c.deref.ensures.value
+    ∙ c.in_ok-traces.ensures p covers
+    ∙ adds_stand past c.args.header.now h c.args.event.now p c.args.written.now c.requires.stands c.requires.written))
+    c.is_needed.ensures

@@ -1,0 +1,18 @@
+use Rattle.std.proofs.Common.{◌≡◌, Bool, not, ◌&&◌, ◌||◌, nat_lt, refl, ap, ◌∙◌, arith}
+use Rattle.bbm_rules.specs.events.Heading.{Heading}
+use Rattle.bbm_rules.specs.regimes.PeMask.{pe_in}
+use Rattle.bbm_idle.proofs.FindPhases.{alike_at}
+use Rattle.bbm_idle.proofs.find_phases.alike_broken.Goals as goal
+
+pub returns : goal.returns
+returns c = λ p below.
+    let pes : c.header.inside.pes ≡ c.args.header.now.pes = ap (λ (h : Heading). h.pes) c.header.view_is in
+    alike_at c.header.inside.pes p c.args.new.now c.args.old.now (pe_in c.minus.result p)
+    (pe_in c.differing-cleansed.result p) (pe_in c.differing-half.result p) (pe_in c.differing-seen.result p)
+    (omega (arith, pes, below))
+    (c.minus.ensures p ∙ ap (λ (b : Bool). b && not (pe_in c.or-8.result p)) (c.all.ensures p)
+    ∙ ap (λ (b : Bool). nat_lt p c.header.inside.pes && not b)
+    (c.or-8.ensures p ∙ ap (λ (b : Bool). b || pe_in c.differing-seen.result p) (c.or-7.ensures p)))
+    (c.differing-cleansed.ensures p)
+    (c.differing-half.ensures p ∙ rw (c.or.ensures p, c.or-2.ensures p) refl)
+    (c.differing-seen.ensures p ∙ rw (c.or-4.ensures p, c.or-6.ensures p, c.or-3.ensures p, c.or-5.ensures p) refl)

@@ -1,0 +1,20 @@
+use Rattle.std.proofs.Common.{◌≡◌, ℕ, ap, ◌∙◌}
+use Rattle.bbm_regimes.proofs.Every.{every_same}
+use Rattle.bbm_rules.specs.regimes.EveryPe.{every_pe}
+use Rattle.bbm_rules.specs.regimes.PeMask.{pe_in}
+use Rattle.bbm_rules.specs.declared.phase.Phase.{Phase}
+use Rattle.bbm_rules.specs.events.Heading.{Heading}
+use Rattle.bbm_rules.specs.Claims.{Patterns}
+use Rattle.bbm_rules.specs.Phases.{phase_of}
+use Rattle.bbm_idle.specs.Finding.{phase_from}
+use Rattle.bbm_idle.specs.Same.{same_phase}
+use Rattle.bbm_idle.proofs.find_phases.has_still.Goals as goal
+
+pub returns : goal.returns
+returns c = λ h s.
+    c.has_all.ensures
+    ∙ ap (λ (g : Heading). every_pe g.pes (λ p. pe_in c.alike.result p)) c.header.view_is
+    ∙ every_same c.args.header.now.pes (λ p. pe_in c.alike.result p)
+    (λ p. same_phase (phase_of c.args.header.now Patterns h c.args.old.now.place p) (phase_from c.args.old.now.phases p))
+    (λ p below. c.alike.ensures p below
+    ∙ ap (λ (x : Phase). same_phase x (phase_from c.args.old.now.phases p)) (c.phases_at-new.ensures c.args.header.now h s p))

@@ -1,0 +1,8 @@
+use Rattle.std.proofs.Common.{◌≡◌, Bool, ◌||◌, take}
+use Rattle.bbm_rules.specs.Lists.{any}
+use Rattle.bbm_rules.specs.Tags.{Reading}
+use Rattle.bbm_idle.proofs.find_tags.add_readings.Given as goal
+
+abbrev pub invariant-loop-reading : goal.invariant-loop-reading
+invariant-loop-reading l = (test : Reading → Bool) → any test l.known.items
+    ≡ (any test l.initial.known.items || any test (take l.reading-index l.readings))

@@ -1,0 +1,9 @@
+use Rattle.std.proofs.Common.{◌≡◌, Bool, take}
+use Rattle.bbm_rules.specs.Lists.{any}
+use Rattle.bbm_rules.specs.Tags.{Reading}
+use Rattle.bbm_idle.specs.Finding.{is_taken}
+use Rattle.bbm_idle.proofs.find_tags.taken_under.Given as goal
+
+abbrev pub invariant-loop-root : goal.invariant-loop-root
+invariant-loop-root l = (test : Reading → Bool) → any test l.taken.items
+    ≡ any (λ r. any (is_taken l.scope l.vmid r.page test) l.known) (take l.root-index l.roots)

@@ -1,0 +1,31 @@
+use Rattle.std.proofs.Common.{◌≡◌, ◌<◌, ◌+◌, ◌∷◌, List, length, take, get_or, reverse, true, ap, sym, ◌∙◌, subst, arith}
+use Rattle.bbm_rules.specs.Prelude.{Event}
+use Rattle.bbm_rules.specs.events.Fits.{fits_heading}
+use Rattle.bbm_idle.specs.Finding.{IsSearch}
+use Rattle.bbm_idle.specs.Idle.{is_idle}
+use Rattle.bbm_idle.proofs.FindLists.{passes_at, reverse_more}
+use Rattle.bbm_idle.proofs.FindMarks.{marks_more}
+use Rattle.bbm_idle.proofs.finding.find.Goals as goal
+
+pub take-requires-clause-fits : goal.take-requires-clause-fits
+take-requires-clause-fits c =
+    passes_at (fits_heading c.args.header.now) c.args.log.now c.loop-index.index c.event-item.result c.requires
+    (c.loop-index-test.true) (c.event-item.is)
+
+pub loop-index-preserved : goal.loop-index-preserved
+loop-index-preserved c =
+    let items = c.args.log.now in
+    let i = c.loop-index.index in
+    let h = reverse (take i items) in
+    let more : c.event-item.result ∷ h ≡ reverse (take (i + 1) items) =
+    reverse_more items i c.event-item.result (c.loop-index-test.true)
+    (c.event-item.is) in
+    let stands : IsSearch c.take.new.self c.args.header.now (c.event-item.result ∷ h) =
+    c.in_ok-is_idle.ensures.stands in
+    let told : c.in_ok-is_idle.is_idle ≡ is_idle c.args.header.now h c.event-item.result =
+    c.in_ok-is_idle.ensures.idle in
+    record {
+      search = subst (λ (es : List Event). IsSearch c.take.new.self c.args.header.now es) more stands;
+      marks = marks_more c.args.header.now c.event-item.result h (reverse (take (i + 1) items)) c.in_ok-is_idle.is_idle
+          c.loop-index.marks.items c.push_mark.new.marks.items more c.loop-index.invariant.marks told c.in_ok-push_mark.ensures;
+    }

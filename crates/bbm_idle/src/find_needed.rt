@@ -1,0 +1,109 @@
+//! Whether a TLBI is needed.
+//! Source: project's own choice.
+
+ghost use Rattle.std.specs.Prelude.{◌≡◌, ℕ, ◌&&◌, ◌||◌, true, List, ◌∷◌, reverse, IfOk, OnOk};
+ghost use Rattle.bbm_rules.specs.events.Fits.{fits_heading};
+ghost use Rattle.bbm_rules.specs.regimes.PeMask.{pe_in};
+ghost use Rattle.bbm_rules.specs.Lists.{any, some_pe};
+ghost use Rattle.bbm_rules.specs.Notes.{Noted};
+ghost use Rattle.bbm_rules.specs.Reach as reach;
+ghost use Rattle.bbm_rules.specs.Roots.{roots_of};
+ghost use Rattle.bbm_rules.specs.Values.{written_places};
+ghost use Rattle.bbm_oracle_trees.specs.Past.{notes};
+ghost use Rattle.bbm_idle.specs.Finding as spec;
+ghost use Rattle.bbm_idle.specs.Idle as idle;
+
+use crate::find_places::{PlaceTrace, added_by, traces_of};
+use crate::find_tags::{holds_some, taken_by};
+use bbm_oracle_trees::History;
+use bbm_oracle_trees::oracle_tags::{AllPatterns, Reading, reaches};
+use bbm_rules::events::{Event, Header};
+use bbm_rules::law_equality_tests;
+use bbm_rules::regimes::{NoMemory, Pe, PeMask, Place};
+use std::alloc::Global;
+
+/// The PEs at which the newest event, a TLBI, adds something at a place of these traces.
+fn newest_adds(history: &History<AllPatterns>, traces: &[PlaceTrace]) -> PeMask
+    ensures { (n : Noted) (older : List Noted) → notes history.now ≡ n ∷ older
+        → (p : ℕ) → pe_in result p ≡ any (spec.place_adds n.covers p) traces.now }
+{
+    let log = history.log();
+    if log.is_empty() {
+        PeMask::none()
+    } else {
+        added_by(&log[log.len() - 1], traces)
+    }
+}
+
+/// Whether the TLBI, coming after the events, reaches the PE, and adds something there at a place or takes a whole tag
+/// that a root holds there.
+fn is_needed_at(
+    alloc: Global,
+    header: &Header,
+    before: &[Event],
+    event: &Event,
+    pe: Pe,
+    added: PeMask,
+    taken: &[Reading],
+) -> Result<bool, NoMemory>
+    requires { spec.AreTaken header.now (reverse before.now) event.now taken.now }
+    ensures { IfOk result (λ needed. needed
+        ≡ spec.needed_by header.now (reverse before.now) event.now (pe_in added) pe) }
+{
+    law_equality_tests();
+    if reaches(header, event, pe) {
+        if added.has(pe) {
+            Ok(true)
+        } else {
+            holds_some(alloc, header, before, pe, taken)
+        }
+    } else {
+        Ok(false)
+    }
+}
+
+/// Whether it is needed at some PE.
+fn is_needed(
+    alloc: Global,
+    header: &Header,
+    before: &[Event],
+    event: &Event,
+    added: PeMask,
+    taken: &[Reading],
+) -> Result<bool, NoMemory>
+    requires { spec.AreTaken header.now (reverse before.now) event.now taken.now }
+    ensures { IfOk result (λ needed. needed ≡ some_pe header.now.pes
+        (spec.needed_by header.now (reverse before.now) event.now (pe_in added))) }
+{
+    for number in 0..header.pes {
+        let pe = Pe::new(number).unwrap();
+        if is_needed_at(alloc, header, before, event, pe, added, taken)? {
+            return Ok(true);
+        }
+    }
+    Ok(false)
+}
+
+/// Takes a TLBI, which fits the header: whether it is needed. `NoMemory` where there is none.
+pub fn take_tlbi(
+    alloc: Global,
+    header: &Header,
+    history: &mut History<AllPatterns>,
+    written: &[Place],
+    known: &[Reading],
+    before: &[Event],
+    event: &Event,
+) -> Result<bool, NoMemory>
+    requires stands { spec.Stands history.old header.now (reverse before.now) }
+    requires written { written.now ≡ written_places (reverse before.now) }
+    requires known { spec.IsKnown header.now (reverse before.now) known.now }
+    requires fits { fits_heading header.now event.now ≡ true }
+    ensures needed { IfOk result (λ needed. needed ≡ idle.is_needed header.now (reverse before.now) event.now) }
+    ensures stands { OnOk result (spec.Stands history.new header.now (event.now ∷ reverse before.now)) }
+{
+    let traces = traces_of(alloc, history, written)?;
+    let taken = taken_by(alloc, header, before, event, known)?;
+    history.take(alloc, *event)?;
+    let added = newest_adds(history, &traces);
+    is_needed(alloc, header, before, event, added, &taken)
+}

@@ -1,0 +1,217 @@
+//! The phases of places at all PEs, and whether a DSB keeps them.
+//! Source: project's own choice.
+
+ghost use Rattle.std.specs.Prelude.{◌≡◌, ℕ, ◌<◌, ◌&&◌, ◌||◌, not, true, List, ◌∷◌, reverse, IfOk, OnOk};
+ghost use Rattle.bbm_rules.specs.descriptor.Descriptor.{is_valid};
+ghost use Rattle.bbm_rules.specs.events.declared.event.Event.{Event as TheEvent};
+ghost use Rattle.bbm_rules.specs.events.Fits.{fits_heading};
+ghost use Rattle.bbm_rules.specs.events.Heading.{Heading};
+ghost use Rattle.bbm_rules.specs.regimes.EveryPe.{every_pe};
+ghost use Rattle.bbm_rules.specs.regimes.PeMask.{pe_in};
+ghost use Rattle.bbm_rules.specs.declared.phase.Phase.{Phase};
+ghost use Rattle.bbm_rules.specs.Claims.{Patterns};
+ghost use Rattle.bbm_rules.specs.Lists.{every};
+ghost use Rattle.bbm_rules.specs.Phases.{phase_of};
+ghost use Rattle.bbm_rules.specs.Values.{value_of as value_in, written_places};
+ghost use Rattle.bbm_oracle_patterns.specs.Kept.{notes_behind, notes_of};
+ghost use Rattle.bbm_oracle_patterns.specs.Phases.{phase_at};
+ghost use Rattle.bbm_oracle_trees.specs.Past.{notes};
+ghost use Rattle.bbm_idle.specs.Finding as spec;
+ghost use Rattle.bbm_idle.specs.Idle as idle;
+ghost use Rattle.bbm_idle.specs.Same.{same_phase};
+
+use bbm_oracle_trees::History;
+use bbm_oracle_trees::oracle_patterns::{Kept, Trace, cleansed_everywhere, last_valid, trace_of};
+use bbm_oracle_trees::oracle_tags::{AllPatterns, value_of};
+use bbm_rules::descriptor::core;
+use bbm_rules::events::{Event, Header};
+use bbm_rules::regimes::{Kind, NoMemory, PeMask, Place};
+use std::alloc::Global;
+
+/// The phases of a place at all PEs.
+#[derive(Clone, Copy, Debug)]
+pub enum Phases {
+    /// It is clean at each.
+    Clean,
+    /// It is live at each.
+    Live,
+    /// It is broken, and at these PEs seen, half and cleansed.
+    Broken(Trace),
+}
+
+/// A place and its phases.
+#[derive(Clone, Copy, Debug)]
+pub struct PlacePhases {
+    /// The place.
+    pub place: Place,
+    /// Its phases.
+    pub phases: Phases,
+}
+
+/// Whether the value is valid at this kind and level, 0 to 3.
+fn is_valid_at(kind: Kind, level: u8, value: u64) -> bool
+    ensures { result ≡ is_valid kind level value }
+{
+    let level = if level < 3 { level } else { 3 };
+    core(kind, level, value).is_some()
+}
+
+/// The phases of a place whose last valid write stands before these events, and whose value is valid or isn't.
+fn phases_since(header: &Header, later: &[Kept], place: Place, valid: bool) -> Phases
+    ensures { (before p : ℕ) → spec.phase_from result p
+        ≡ spec.phase_since header.now valid place p (notes_behind before (reverse later.now)) }
+{
+    if valid {
+        if cleansed_everywhere(header, later, place) {
+            return Phases::Clean;
+        }
+        return Phases::Live;
+    }
+    let trace = trace_of(header, later, place);
+    if trace.cleansed.has_all(header.pes) {
+        Phases::Clean
+    } else {
+        Phases::Broken(trace)
+    }
+}
+
+/// The phases of a place of a tree that has this kind, this level and this value. The log is oldest first.
+fn phases_in(
+    header: &Header,
+    log: &[Kept],
+    kind: Kind,
+    level: u8,
+    place: Place,
+    value: u64,
+) -> Phases
+    ensures { (p : ℕ) → spec.phase_from result p
+        ≡ phase_at header.now Patterns kind level place value p (notes_of (reverse log.now)) }
+{
+    match last_valid(log, kind, level, place) {
+        Some(write) => {
+            let valid = is_valid_at(kind, level, value);
+            phases_since(header, &log[write.index + 1..], place, valid)
+        }
+        None => Phases::Clean,
+    }
+}
+
+/// The phases of a place.
+fn phases_at(history: &History<AllPatterns>, place: Place) -> Phases
+    ensures { (heading : Heading) (h : List TheEvent) → spec.Stands history.now heading h
+        → (p : ℕ) → spec.phase_from result p ≡ phase_of heading Patterns h place p }
+{
+    match history.node_of(place.page()) {
+        Some(node) => {
+            let value = value_of(history.events(), place);
+            phases_in(
+                history.header(),
+                history.log(),
+                node.kind,
+                node.level,
+                place,
+                value,
+            )
+        }
+        None => Phases::Clean,
+    }
+}
+
+/// The phases of each of the places. `NoMemory` where there is none.
+fn phases_of(
+    alloc: Global,
+    history: &History<AllPatterns>,
+    places: &[Place],
+) -> Result<Vec<PlacePhases>, NoMemory>
+    ensures { IfOk result (λ old. (heading : Heading) (h : List TheEvent) → spec.Stands history.now heading h
+        → (pes : ℕ) (new : ℕ → ℕ → Phase) → every (spec.is_kept_by pes new) old.items
+        ≡ every (spec.is_kept pes new (phase_of heading Patterns h)) places.now) }
+{
+    let mut old = Vec::new(alloc);
+    for place in places {
+        let phases = phases_at(history, *place);
+        old.push(PlacePhases {
+            place: *place,
+            phases,
+        })
+        .map_err(|_| NoMemory)?;
+    }
+    Ok(old)
+}
+
+/// The PEs that are in one of the sets and not in both.
+fn differing(one: PeMask, other: PeMask) -> PeMask
+    ensures { (p : ℕ) → pe_in result p
+        ≡ ((pe_in one p && not (pe_in other p)) || (pe_in other p && not (pe_in one p))) }
+{
+    one.minus(other).or(other.minus(one))
+}
+
+/// The PEs of the header at which two broken places have the same phase.
+fn alike_broken(header: &Header, new: &Trace, old: &Trace) -> PeMask
+    ensures { (p : ℕ) → p < header.now.pes → pe_in result p
+        ≡ same_phase (spec.phase_by new.now p) (spec.phase_by old.now p) }
+{
+    let cleansed = differing(new.cleansed, old.cleansed);
+    let half = differing(new.cleansed.or(new.half), old.cleansed.or(old.half));
+    let seen = differing(
+        new.cleansed.or(new.half).or(new.seen),
+        old.cleansed.or(old.half).or(old.seen),
+    );
+    PeMask::all(header.pes).minus(cleansed.or(half).or(seen))
+}
+
+/// The PEs of the header at which the phases are the same.
+fn alike(header: &Header, new: &Phases, old: &Phases) -> PeMask
+    ensures { (p : ℕ) → p < header.now.pes → pe_in result p
+        ≡ same_phase (spec.phase_from new.now p) (spec.phase_from old.now p) }
+{
+    match (new, old) {
+        (Phases::Clean, Phases::Clean) | (Phases::Live, Phases::Live) => PeMask::all(header.pes),
+        (Phases::Broken(new), Phases::Broken(old)) => alike_broken(header, new, old),
+        _ => PeMask::none(),
+    }
+}
+
+/// Whether the place has the phases still.
+fn has_still(history: &History<AllPatterns>, header: &Header, old: &PlacePhases) -> bool
+    ensures { (h : List TheEvent) → spec.Stands history.now header.now h
+        → result ≡ spec.is_kept_by header.now.pes (phase_of header.now Patterns h) old.now }
+{
+    let new = phases_at(history, old.place);
+    alike(header, &new, &old.phases).has_all(header.pes)
+}
+
+/// Whether each of the places has its phases still.
+fn have_still(history: &History<AllPatterns>, header: &Header, old: &[PlacePhases]) -> bool
+    ensures { (h : List TheEvent) → spec.Stands history.now header.now h
+        → result ≡ every (spec.is_kept_by header.now.pes (phase_of header.now Patterns h)) old.now }
+{
+    for place in old {
+        if !has_still(history, header, place) {
+            return false;
+        }
+    }
+    true
+}
+
+/// Takes a DSB, which fits the header: whether it keeps each phase of each of the places, those that were ever written.
+/// `NoMemory` where there is none.
+pub fn take_keeping(
+    alloc: Global,
+    header: &Header,
+    history: &mut History<AllPatterns>,
+    written: &[Place],
+    event: &Event,
+) -> Result<bool, NoMemory>
+    requires heading { history.old.heading ≡ header.now }
+    requires fits { fits_heading header.now event.now ≡ true }
+    ensures keeps { IfOk result (λ keeps. (h : List TheEvent) → spec.Stands history.old header.now h
+        → written.now ≡ written_places h → keeps ≡ idle.keeps_phases header.now h event.now) }
+    ensures stands { OnOk result ((h : List TheEvent) → spec.Stands history.old header.now h
+        → spec.Stands history.new header.now (event.now ∷ h)) }
+{
+    let old = phases_of(alloc, history, written)?;
+    history.take(alloc, *event)?;
+    Ok(have_still(history, header, &old))
+}

@@ -1,0 +1,103 @@
+//! Which PEs have a needed TLBI that isn't answered.
+
+ghost use Rattle.std.specs.Prelude.{◌≡◌, ℕ, ◌==◌, ◌&&◌, ◌||◌, not, List, [], ◌∷◌};
+ghost use Rattle.bbm_rules.specs.barriers.Options as options;
+ghost use Rattle.bbm_rules.specs.events.declared.event.Event.{Event as TheEvent};
+ghost use Rattle.bbm_rules.specs.events.Heading.{Heading};
+ghost use Rattle.bbm_rules.specs.regimes.PeMask.{pe_in};
+ghost use Rattle.bbm_rules.specs.Lists.{any};
+ghost use Rattle.bbm_rules.specs.Reach.{unanswered};
+ghost use Rattle.bbm_rules.specs.Tags.{itself};
+ghost use Rattle.bbm_idle.specs.Finding as spec;
+ghost use Rattle.bbm_idle.specs.Idle as idle;
+
+use bbm_rules::barriers::{Dsb, completes_broadcast, completes_local};
+use bbm_rules::events::Event;
+use bbm_rules::regimes::{Pe, PeMask};
+
+/// The PEs that have a TLBI which was needed at its issue and isn't answered yet. Source: project's own choice.
+#[derive(Drop)]
+pub struct Waiting {
+    /// Those with such a TLBI that isn't broadcast.
+    pub local: PeMask,
+    /// Those with one that is.
+    pub broadcast: PeMask,
+}
+
+/// Whether the DSB completes TLBIs of this sort, broadcast or not.
+fn completes(dsb: Dsb, cast: bool) -> bool
+    ensures { result ≡ options.answers dsb cast }
+{
+    if cast {
+        completes_broadcast(dsb)
+    } else {
+        completes_local(dsb)
+    }
+}
+
+/// The set with the PE, where it is to be added.
+fn with_pe(pes: PeMask, pe: Pe, added: bool) -> PeMask
+    ensures { (q : ℕ) → pe_in result q ≡ ((pe == q && added) || pe_in pes q) }
+{
+    if added { pes.or(PeMask::one(pe)) } else { pes }
+}
+
+/// The set without the PE, where it is to be removed.
+fn without_pe(pes: PeMask, pe: Pe, removed: bool) -> PeMask
+    ensures { (q : ℕ) → pe_in result q ≡ (pe_in pes q && not (pe == q && removed)) }
+{
+    if removed {
+        pes.minus(PeMask::one(pe))
+    } else {
+        pes
+    }
+}
+
+/// The PEs with a TLBI of this sort after the event, of which is told whether it is idle.
+fn waiting_after(pes: PeMask, event: &Event, cast: bool, is_idle: bool) -> PeMask
+    ensures { (q : ℕ) → pe_in result q ≡ spec.waits_after cast is_idle event.now q (pe_in pes q) }
+{
+    match *event {
+        Event::Tlbi { pe, op, .. } => with_pe(pes, pe, op.is_broadcast() == cast && !is_idle),
+        Event::Dsb { pe, dsb } => without_pe(pes, pe, completes(dsb, cast)),
+        _ => pes,
+    }
+}
+
+/// Whether a DSB of the PE answers one of the TLBIs of a sort, which these PEs have.
+fn answered(pes: PeMask, pe: Pe, completes: bool) -> bool
+    ensures { result ≡ (completes && pe_in pes pe) }
+{
+    completes && pes.has(pe)
+}
+
+impl Waiting {
+    /// Before any event.
+    pub fn none() -> Waiting
+        ensures { (heading : Heading) → spec.IsWaiting result heading [] }
+    {
+        Waiting {
+            local: PeMask::none(),
+            broadcast: PeMask::none(),
+        }
+    }
+
+    /// Whether a DSB of the PE answers one of the TLBIs.
+    pub fn answers(&self, pe: Pe, dsb: Dsb) -> bool
+        ensures { (heading : Heading) (h : List TheEvent) → spec.IsWaiting self.now heading h
+            → result ≡ any (idle.answers_needed heading dsb) (unanswered itself pe h) }
+    {
+        let broadcast = answered(self.broadcast, pe, completes(dsb, true));
+        let local = answered(self.local, pe, completes(dsb, false));
+        broadcast || local
+    }
+
+    /// Takes one more event, of which is told whether it is idle.
+    pub fn take(&mut self, event: &Event, is_idle: bool)
+        ensures { (heading : Heading) (h : List TheEvent) → spec.IsWaiting self.old heading h
+            → is_idle ≡ idle.is_idle heading h event.now → spec.IsWaiting self.new heading (event.now ∷ h) }
+    {
+        self.local = waiting_after(self.local, event, false, is_idle);
+        self.broadcast = waiting_after(self.broadcast, event, true, is_idle);
+    }
+}
