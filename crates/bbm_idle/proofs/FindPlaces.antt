@@ -1,7 +1,7 @@
 -- What a TLBI adds at a place, by the sets of PEs at which it is seen, half and cleansed.
-use Rattle.std.proofs.Common.{◌≡◌, ℕ, ◌-◌, ◌<◌, Bool, false, ◌&&◌, ◌||◌, List, [], ◌∷◌, Option, Some, None, length, get_or, reverse, refl, sym, ap, ◌∙◌, arith}
+use Rattle.std.proofs.Common.{◌≡◌, ℕ, ◌+◌, ◌-◌, ◌<◌, ◌≤◌, Bool, false, ◌&&◌, ◌||◌, List, [], ◌∷◌, Option, Some, None, length, get_or, take, reverse, refl, sym, ap, ◌∙◌, arith}
 use Rattle.std.specs.Option.{unwrap_or}
-use Rattle.std.proofs.lemmas.List.{get_or-reverse}
+use Rattle.std.proofs.lemmas.List.{take_all}
 use Rattle.bbm_rules.specs.regimes.PeMask.{pe_in}
 use Rattle.bbm_rules.specs.tlbi_scope.declared.entry.Cover.{Cover}
 use Rattle.bbm_rules.specs.tlbi_scope.declared.entry.Cover.TheVariants.{None as NoCover}
@@ -21,9 +21,10 @@ use Rattle.bbm_oracle_patterns.specs.Kept.{cover_in, notes_of}
 use Rattle.bbm_oracle_patterns.specs.declared.kept.Kept.{Kept}
 use Rattle.bbm_oracle_patterns.specs.declared.trace.Trace.{Trace}
 use Rattle.bbm_oracle_trees.specs.Past.{Past, notes}
-use Rattle.bbm_idle.specs.Finding.{Stands, adds_since, adds_with, needed_by, trace_adds}
+use Rattle.bbm_idle.specs.Finding.{Stands, adds_since, adds_with, needed_by, place_adds, trace_adds}
 use Rattle.bbm_idle.specs.Idle.{adds, adds_at, is_needed, is_needed_at, takes_of}
-use Rattle.bbm_idle.proofs.FindLists.{any_alike}
+use Rattle.bbm_idle.specs.declared.find_places.Seat.{Seat}
+use Rattle.bbm_idle.proofs.FindLists.{any_alike, reverse_more}
 
 -- ---- one place
 
@@ -52,6 +53,34 @@ pub adds_nowhere : (heading : Heading) (h : List Noted) (cover : Cover) (p place
 adds_nowhere heading h cover p place none = sym (ap (λ (o : Option Node). unwrap_or (o >>= (λ m.
     last_valid m.kind m.level place h >>= (λ w. Some (adds cover (seen heading place p w.since) (half heading place p w.since)
     (cleansed heading Patterns place p w.since))))) false) none)
+
+-- a TLBI that doesn't cover the place adds nothing
+pub adds_nothing : (heading : Heading) (p place : ℕ) (found : Option ValidWrite) → adds_since heading NoCover p place found ≡ false
+adds_nothing heading p place None = refl
+adds_nothing heading p place (Some w) = refl
+
+-- ---- the newest event
+
+abbrev tail_of : List Noted → List Noted
+tail_of [] = []
+tail_of (n ∷ older) = older
+
+abbrev covers_of : List Noted → ℕ → Cover
+covers_of [] = λ place. NoCover
+covers_of (n ∷ older) = n.covers
+
+pub newest_added : (heading : Heading) (log : List Kept) (k : Kept) (seats : List Seat) (p : ℕ) (n : Noted) (older : List Noted)
+    → 0 < length log → k ≡ get_or log (length log - 1) k → notes_of (reverse log) ≡ n ∷ older
+    → any (place_adds heading (notes_of (reverse (take (length log - 1) log))) (cover_in k.covers.items) p) seats
+    ≡ any (place_adds heading older n.covers p) seats
+newest_added heading log k seats p n older some is noted_is =
+    let last : length log - 1 < length log = omega arith in
+    let whole : length log ≤ length log - 1 + 1 = omega arith in
+    let split : k ∷ reverse (take (length log - 1) log) ≡ reverse log =
+    reverse_more log (length log - 1) k last is ∙ ap (λ (ks : List Kept). reverse ks) (take_all (length log - 1 + 1) log whole) in
+    let all : notes_of (k ∷ reverse (take (length log - 1) log)) ≡ n ∷ older = ap notes_of split ∙ noted_is in
+    ap (λ (h : List Noted). any (place_adds heading h (cover_in k.covers.items) p) seats) (ap tail_of all)
+    ∙ ap (λ (c : ℕ → Cover). any (place_adds heading older c p) seats) (ap covers_of all)
 
 -- ---- a TLBI
 

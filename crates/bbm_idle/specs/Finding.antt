@@ -28,7 +28,7 @@ use Rattle.bbm_oracle_trees.specs.Past.{Past}
 use Rattle.bbm_oracle_trees.specs.StandsFor.{StandsFor}
 use Rattle.bbm_idle.specs.Idle.{adds, is_needed, takes_of}
 use Rattle.bbm_idle.specs.Same.{same_phase}
-use Rattle.bbm_idle.specs.declared.find_places.PlaceTrace.{PlaceTrace}
+use Rattle.bbm_idle.specs.declared.find_places.Seat.{Seat}
 use Rattle.bbm_idle.specs.declared.find_phases.Phases.{Phases}
 use Rattle.bbm_idle.specs.declared.find_phases.Phases.TheVariants.{Clean as AllClean, Live as AllLive, Broken as Marked}
 use Rattle.bbm_idle.specs.declared.find_phases.PlacePhases.{PlacePhases}
@@ -61,8 +61,13 @@ abbrev pub trace_adds : Cover → ℕ → Option Trace → Bool
 trace_adds cover p None = false
 trace_adds cover p (Some t) = adds cover (pe_in t.seen p) (pe_in t.half p) (pe_in t.cleansed p)
 
-abbrev pub place_adds : (ℕ → Cover) → ℕ → PlaceTrace → Bool
-place_adds cover p t = trace_adds (cover t.place) p (Some t.trace)
+-- the same of a seat, a place with the kind and the level that it has in its tree
+abbrev pub place_adds : Heading → List Noted → (ℕ → Cover) → ℕ → Seat → Bool
+place_adds heading h cover p s = adds_since heading (cover s.place) p s.place (last_valid s.kind s.level s.place h)
+
+abbrev pub seat_adds : Heading → List Noted → (ℕ → Cover) → ℕ → Option Seat → Bool
+seat_adds heading h cover p None = false
+seat_adds heading h cover p (Some s) = place_adds heading h cover p s
 
 -- ---- tags
 

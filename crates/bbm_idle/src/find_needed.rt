@@ -9,29 +9,30 @@ ghost use Rattle.bbm_rules.specs.Notes.{Noted};
 ghost use Rattle.bbm_rules.specs.Reach as reach;
 ghost use Rattle.bbm_rules.specs.Roots.{roots_of};
 ghost use Rattle.bbm_rules.specs.Values.{written_places};
-ghost use Rattle.bbm_oracle_trees.specs.Past.{notes};
+ghost use Rattle.bbm_oracle_patterns.specs.Kept.{notes_of};
 ghost use Rattle.bbm_idle.specs.Finding as spec;
 ghost use Rattle.bbm_idle.specs.Idle as idle;
 
-use crate::find_places::{PlaceTrace, added_by, traces_of};
+use crate::find_places::{Seat, added_by, seats_of};
 use crate::find_tags::{holds_some, taken_by};
 use bbm_oracle_trees::History;
+use bbm_oracle_trees::oracle_patterns::Kept;
 use bbm_oracle_trees::oracle_tags::{AllPatterns, Reading, reaches};
 use bbm_rules::events::{Event, Header};
 use bbm_rules::law_equality_tests;
 use bbm_rules::regimes::{NoMemory, Pe, PeMask, Place};
 use std::alloc::Global;
 
-/// The PEs at which the newest event, a TLBI, adds something at a place of these traces.
-fn newest_adds(history: &History<AllPatterns>, traces: &[PlaceTrace]) -> PeMask
-    ensures { (n : Noted) (older : List Noted) → notes history.now ≡ n ∷ older
-        → (p : ℕ) → pe_in result p ≡ any (spec.place_adds n.covers p) traces.now }
+/// The PEs at which the newest event, a TLBI, adds something at one of the places, by what came before it.
+fn newest_adds(header: &Header, log: &[Kept], seats: &[Seat]) -> PeMask
+    ensures { (n : Noted) (older : List Noted) → notes_of (reverse log.now) ≡ n ∷ older
+        → (p : ℕ) → pe_in result p ≡ any (spec.place_adds header.now older n.covers p) seats.now }
 {
-    let log = history.log();
     if log.is_empty() {
         PeMask::none()
     } else {
-        added_by(&log[log.len() - 1], traces)
+        let last = log.len() - 1;
+        added_by(header, &log[..last], &log[last], seats)
     }
 }
 
@@ -101,9 +102,9 @@ pub fn take_tlbi(
     ensures needed { IfOk result (λ needed. needed ≡ idle.is_needed header.now (reverse before.now) event.now) }
     ensures stands { OnOk result (spec.Stands history.new header.now (event.now ∷ reverse before.now)) }
 {
-    let traces = traces_of(alloc, history, written)?;
+    let seats = seats_of(alloc, history, written)?;
     let taken = taken_by(alloc, header, before, event, known)?;
     history.take(alloc, *event)?;
-    let added = newest_adds(history, &traces);
+    let added = newest_adds(header, history.log(), &seats);
     is_needed(alloc, header, before, event, added, &taken)
 }

@@ -61,17 +61,12 @@ fn phases_since(header: &Header, later: &[Kept], place: Place, valid: bool) -> P
     ensures { (before p : ℕ) → spec.phase_from result p
         ≡ spec.phase_since header.now valid place p (notes_behind before (reverse later.now)) }
 {
-    if valid {
-        if cleansed_everywhere(header, later, place) {
-            return Phases::Clean;
-        }
-        return Phases::Live;
-    }
-    let trace = trace_of(header, later, place);
-    if trace.cleansed.has_all(header.pes) {
+    if cleansed_everywhere(header, later, place) {
         Phases::Clean
+    } else if valid {
+        Phases::Live
     } else {
-        Phases::Broken(trace)
+        Phases::Broken(trace_of(header, later, place))
     }
 }
 

@@ -3,16 +3,17 @@
 
 ghost use Rattle.std.specs.Prelude.{◌≡◌, ℕ, ◌||◌, List, ◌∷◌, reverse, IfOk, OnOk, Some};
 ghost use Rattle.bbm_rules.specs.events.declared.event.Event.{Event as TheEvent};
+ghost use Rattle.bbm_rules.specs.events.Heading.{Heading};
 ghost use Rattle.bbm_rules.specs.regimes.PeMask.{pe_in};
 ghost use Rattle.bbm_rules.specs.tlbi_scope.declared.entry.Cover.{Cover as Grade};
 ghost use Rattle.bbm_rules.specs.Claims.{Patterns};
 ghost use Rattle.bbm_rules.specs.Held as holding;
 ghost use Rattle.bbm_rules.specs.Lists.{among, any, with_number};
+ghost use Rattle.bbm_rules.specs.Notes.{Noted};
 ghost use Rattle.bbm_rules.specs.Values as values;
 ghost use Rattle.bbm_oracle_patterns.specs.Kept.{cover_in, notes_of};
 ghost use Rattle.bbm_oracle_trees.specs.Past.{notes};
 ghost use Rattle.bbm_idle.specs.Finding as spec;
-ghost use Rattle.bbm_idle.specs.Idle as idle;
 
 use bbm_oracle_trees::History;
 use bbm_oracle_trees::oracle_patterns::{Kept, Trace, last_valid, trace_of};
@@ -22,13 +23,15 @@ use bbm_rules::regimes::{Kind, NoMemory, PeMask, Place};
 use bbm_rules::tlbi_scope::Cover;
 use std::alloc::Global;
 
-/// At which PEs a place is seen, half and cleansed since its last valid write.
+/// A place of a tree.
 #[derive(Clone, Copy, Debug)]
-pub struct PlaceTrace {
+pub struct Seat {
     /// The place.
     pub place: Place,
-    /// The PEs.
-    pub trace: Trace,
+    /// The kind of its tree.
+    pub kind: Kind,
+    /// The level of its page.
+    pub level: u8,
 }
 
 /// Whether the place is in the list.
@@ -76,56 +79,50 @@ fn trace_in(header: &Header, log: &[Kept], kind: Kind, level: u8, place: Place) 
     }
 }
 
-/// The trace of the place since its last valid write; None where it is in no tree, or there is no such write.
-fn trace_at(history: &History<AllPatterns>, place: Place) -> Option<Trace>
+/// The place with its kind and level; None where it is in no tree.
+fn seat_at(history: &History<AllPatterns>, place: Place) -> Option<Seat>
     requires { history.now.trust ≡ Patterns }
-    ensures { (p : ℕ) (cover : Grade) → spec.trace_adds cover p result
-        ≡ spec.adds_with history.now.heading (notes history.now) cover p place }
+    ensures { (p : ℕ) (cover : ℕ → Grade) → spec.seat_adds history.now.heading (notes history.now) cover p result
+        ≡ spec.adds_with history.now.heading (notes history.now) (cover place) p place }
 {
     match history.node_of(place.page()) {
-        Some(node) => trace_in(
-            history.header(),
-            history.log(),
-            node.kind,
-            node.level,
+        Some(node) => Some(Seat {
             place,
-        ),
+            kind: node.kind,
+            level: node.level,
+        }),
         None => None,
     }
 }
 
-/// Adds the trace of the place, where it has one.
-fn add_trace(
-    traces: &mut Vec<PlaceTrace>,
-    place: Place,
-    found: Option<Trace>,
-) -> Result<(), NoMemory>
-    ensures { OnOk result ((p : ℕ) (cover : ℕ → Grade) → any (spec.place_adds cover p) traces.new.items
-        ≡ (any (spec.place_adds cover p) traces.old.items || spec.trace_adds (cover place) p found)) }
+/// Adds the seat, where there is one.
+fn add_seat(seats: &mut Vec<Seat>, found: Option<Seat>) -> Result<(), NoMemory>
+    ensures { OnOk result ((heading : Heading) (h : List Noted) (p : ℕ) (cover : ℕ → Grade)
+        → any (spec.place_adds heading h cover p) seats.new.items
+        ≡ (any (spec.place_adds heading h cover p) seats.old.items || spec.seat_adds heading h cover p found)) }
 {
     match found {
-        Some(trace) => traces
-            .push(PlaceTrace { place, trace })
-            .map_err(|_| NoMemory),
+        Some(seat) => seats.push(seat).map_err(|_| NoMemory),
         None => Ok(()),
     }
 }
 
-/// The traces of those of the places that are in a tree and have had a valid write. `NoMemory` where there is none.
-pub fn traces_of(
+/// The seats of those of the places that are in a tree. `NoMemory` where there is none.
+pub fn seats_of(
     alloc: Global,
     history: &History<AllPatterns>,
     places: &[Place],
-) -> Result<Vec<PlaceTrace>, NoMemory>
+) -> Result<Vec<Seat>, NoMemory>
     requires { history.now.trust ≡ Patterns }
-    ensures { IfOk result (λ traces. (p : ℕ) (cover : ℕ → Grade) → any (spec.place_adds cover p) traces.items
+    ensures { IfOk result (λ seats. (p : ℕ) (cover : ℕ → Grade)
+        → any (spec.place_adds history.now.heading (notes history.now) cover p) seats.items
         ≡ any (λ place. spec.adds_with history.now.heading (notes history.now) (cover place) p place) places.now) }
 {
-    let mut traces = Vec::new(alloc);
+    let mut seats = Vec::new(alloc);
     for place in places {
-        add_trace(&mut traces, *place, trace_at(history, *place))?;
+        add_seat(&mut seats, seat_at(history, *place))?;
     }
-    Ok(traces)
+    Ok(seats)
 }
 
 /// The PEs at which a TLBI that covers a place so far adds something to this trace.
@@ -140,14 +137,32 @@ fn added(cover: Cover, trace: &Trace) -> PeMask
     }
 }
 
-/// The PEs at which the event, a TLBI, adds something at a place of these traces.
-pub fn added_by(newest: &Kept, traces: &[PlaceTrace]) -> PeMask
+/// The PEs at which a TLBI that comes after the log and covers the place so far adds something. Where it doesn't cover
+/// the place nothing is searched.
+#[tactic(auto, using(crate::proofs::FindPlaces::adds_nothing))]
+fn added_at(header: &Header, log: &[Kept], cover: Cover, seat: &Seat) -> PeMask
+    ensures { (p : ℕ) → pe_in result p ≡ spec.adds_since header.now cover p seat.now.place
+        (holding.last_valid seat.now.kind seat.now.level seat.now.place (notes_of (reverse log.now))) }
+{
+    match cover {
+        Cover::None => PeMask::none(),
+        Cover::Half | Cover::Second | Cover::Full => {
+            match trace_in(header, log, seat.kind, seat.level, seat.place) {
+                Some(trace) => added(cover, &trace),
+                None => PeMask::none(),
+            }
+        }
+    }
+}
+
+/// The PEs at which the newest event, a TLBI that comes after the log, adds something at one of the places.
+pub fn added_by(header: &Header, log: &[Kept], newest: &Kept, seats: &[Seat]) -> PeMask
     ensures { (p : ℕ) → pe_in result p
-        ≡ any (spec.place_adds (cover_in newest.now.covers.items) p) traces.now }
+        ≡ any (spec.place_adds header.now (notes_of (reverse log.now)) (cover_in newest.now.covers.items) p) seats.now }
 {
     let mut pes = PeMask::none();
-    for place in traces {
-        pes = pes.or(added(newest.cover(place.place), &place.trace));
+    for seat in seats {
+        pes = pes.or(added_at(header, log, newest.cover(seat.place), seat));
     }
     pes
 }

@@ -1,13 +1,15 @@
-use Rattle.std.proofs.Common.{◌≡◌, ℕ, Bool, List, reverse, ap, ◌∙◌}
+use Rattle.std.proofs.Common.{◌≡◌, ℕ, Bool, List, reverse, sym, ap, ◌∙◌}
 use Rattle.std.proofs.lemmas.Result.{IfOk-weaker}
 use Rattle.bbm_rules.specs.regimes.PeMask.{pe_in}
 use Rattle.bbm_rules.specs.tlbi_scope.declared.entry.Cover.{Cover}
 use Rattle.bbm_rules.specs.Covers.{cover_at, note}
 use Rattle.bbm_rules.specs.Lists.{any, some_pe}
+use Rattle.bbm_rules.specs.Prelude.{Heading}
+use Rattle.bbm_oracle_patterns.specs.Kept.{notes_of}
 use Rattle.bbm_oracle_trees.specs.Past.{notes}
 use Rattle.bbm_idle.specs.Finding.{needed_by, place_adds}
 use Rattle.bbm_idle.specs.Idle.{is_needed}
-use Rattle.bbm_idle.specs.declared.find_places.PlaceTrace.{PlaceTrace}
+use Rattle.bbm_idle.specs.declared.find_places.Seat.{Seat}
 use Rattle.bbm_idle.proofs.FindPlaces.{adds_stand, needed_is}
 use Rattle.bbm_idle.proofs.find_needed.take_tlbi.Goals as goal
 
@@ -20,8 +22,10 @@ returns-clause-needed c =
     (λ (b : Bool). b ≡ some_pe c.args.header.now.pes (needed_by c.args.header.now h c.args.event.now (pe_in c.newest_adds-added.result)))
     (λ (b : Bool). b ≡ is_needed c.args.header.now h c.args.event.now)
     (λ b k. k ∙ needed_is c.args.header.now h c.args.event.now (pe_in c.newest_adds-added.result)
-    (λ p. c.newest_adds-added.ensures (note past.heading past.trust (notes past) c.args.event.now) (notes past) c.in_ok-take.ensures.taken p
-    ∙ ap (λ (ts : List PlaceTrace). any (place_adds covers p) ts) c.deref.ensures.value
-    ∙ c.in_ok-traces.ensures p covers
+    (λ p. c.newest_adds-added.ensures (note past.heading past.trust (notes past) c.args.event.now) (notes past)
+    (ap notes_of c.log.ensures ∙ c.in_ok-take.ensures.taken) p
+    ∙ ap (λ (g : Heading). any (place_adds g (notes past) covers p) c.deref.result.now) (sym c.requires.stands.kept.heading_is)
+    ∙ ap (λ (ss : List Seat). any (place_adds past.heading (notes past) covers p) ss) c.deref.ensures.value
+    ∙ c.in_ok-seats.ensures p covers
     ∙ adds_stand past c.args.header.now h c.args.event.now p c.args.written.now c.requires.stands c.requires.written))
     c.is_needed.ensures

@@ -3,8 +3,8 @@ use Rattle.bbm_rules.specs.tlbi_scope.declared.entry.Cover.{Cover}
 use Rattle.bbm_rules.specs.Lists.{any}
 use Rattle.bbm_oracle_trees.specs.Past.{notes}
 use Rattle.bbm_idle.specs.Finding.{adds_with, place_adds}
-use Rattle.bbm_idle.proofs.find_places.traces_of.Given as goal
+use Rattle.bbm_idle.proofs.find_places.seats_of.Given as goal
 
 abbrev pub invariant-loop-place : goal.invariant-loop-place
-invariant-loop-place l = (p : ℕ) (cover : ℕ → Cover) → any (place_adds cover p) l.traces.items
+invariant-loop-place l = (p : ℕ) (cover : ℕ → Cover) → any (place_adds l.history.heading (notes l.history) cover p) l.seats.items
     ≡ any (λ place. adds_with l.history.heading (notes l.history) (cover place) p place) (take l.place-index l.places)
