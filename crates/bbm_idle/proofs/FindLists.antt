@@ -1,12 +1,10 @@
 -- Tests over lists and over PEs.
-use Rattle.std.proofs.Common.{◌≡◌, ℕ, zero, suc, ◌+◌, ◌-◌, ◌<◌, ◌≤◌, Bool, true, false, cond, ◌&&◌, ◌||◌, eqb, List, [], ◌∷◌, ◌++◌, length, take, get_or, reverse, refl, sym, ap, ◌∙◌, arith, filter, flat_map, filter_map, true≢false, add-one}
-use Rattle.std.specs.List.{list_any, list_all, cons_option}
+use Rattle.std.proofs.Common.{◌≡◌, ℕ, zero, suc, ◌+◌, ◌<◌, Bool, true, false, ◌&&◌, ◌||◌, eqb, List, [], ◌∷◌, length, take, get_or, reverse, refl, sym, ap, ◌∙◌, arith, flat_map, true≢false}
+use Rattle.std.specs.List.{list_any, list_all}
 use Rattle.std.proofs.lemmas.Bool.{eqb-true, eqb-false, or_right}
 use Rattle.std.proofs.lemmas.List.{reverse-append, take_more}
-use Rattle.std.proofs.lemmas.List.Folds.{list_any-append, list_all-append, list_any_more, list_all_at}
-use Rattle.bbm_lists.specs.Elements.{In}
-use Rattle.bbm_lists.proofs.Elements.{any_finds, any_found}
-use Rattle.bbm_rules.specs.Lists.{below, if_so, some_pe}
+use Rattle.std.proofs.lemmas.List.Folds.{list_any-append, list_all-append, list_all_at}
+use Rattle.bbm_rules.specs.Lists.{some_pe}
 
 -- ---- tests
 
@@ -28,10 +26,6 @@ pub or_same : (a b : Bool) → (a || (a || b)) ≡ (a || b)
 or_same true b = refl
 or_same false b = refl
 
-pub and_false : (a : Bool) → (a && false) ≡ false
-and_false true = refl
-and_false false = refl
-
 pub and_true : (a : Bool) → (a && true) ≡ a
 and_true true = refl
 and_true false = refl
@@ -49,11 +43,6 @@ any_alike f g [] same = refl
 any_alike f g (x ∷ xs) same =
     ap (λ (b : Bool). b || list_any f xs) (same x) ∙ ap (λ (b : Bool). g x || b) (any_alike f g xs same)
 
-pub every_alike : {A : Type 0} (f g : A → Bool) (xs : List A) → ((x : A) → f x ≡ g x) → list_all f xs ≡ list_all g xs
-every_alike f g [] same = refl
-every_alike f g (x ∷ xs) same =
-    ap (λ (b : Bool). b && list_all f xs) (same x) ∙ ap (λ (b : Bool). g x && b) (every_alike f g xs same)
-
 pub any_never : {A : Type 0} (xs : List A) → list_any (λ x. false) xs ≡ false
 any_never [] = refl
 any_never (x ∷ xs) = any_never xs
@@ -70,14 +59,6 @@ pub reverse_more : {A : Type 0} (xs : List A) (i : ℕ) (x : A) → i < length x
 reverse_more {A} xs i x lt is =
     ap (λ (y : A). y ∷ reverse (take i xs)) is
     ∙ sym (ap (λ (ys : List A). reverse ys) (take_more xs i x lt) ∙ reverse-append (take i xs) (get_or xs i x ∷ []))
-
--- one more item, of which each list of two is told
-pub any_next : {A : Type 0} (test : A → Bool) (xs : List A) (i : ℕ) (x : A) (before now now' : Bool) → i < length xs
-    → x ≡ get_or xs i x → before ≡ list_any test (take i xs) → now ≡ (before || now') → now' ≡ test x
-    → now ≡ list_any test (take (i + 1) xs)
-any_next test xs i x before now now' lt is old new told =
-    new ∙ ap (λ (b : Bool). b || now') old ∙ ap (λ (b : Bool). list_any test (take i xs) || b) (told ∙ ap test is)
-    ∙ sym (list_any_more test xs i x lt)
 
 -- ---- an item that every item passes with
 

@@ -3,52 +3,25 @@ use Rattle.std.proofs.Common.{◌≡◌, ℕ, ◌<◌, Bool, true, false, not, c
 use Rattle.std.specs.Option.{unwrap_or}
 use Rattle.std.proofs.lemmas.Bool.{lt-ltb}
 use Rattle.bbm_rules.specs.descriptor.Descriptor.{is_valid}
-use Rattle.bbm_rules.specs.regimes.EveryPe.{every_pe}
 use Rattle.bbm_rules.specs.regimes.PeMask.{pe_in}
-use Rattle.bbm_rules.specs.declared.phase.Phase.{Phase}
 use Rattle.bbm_rules.specs.declared.phase.Phase.TheVariants.{Clean, Live}
 use Rattle.bbm_rules.specs.Claims.{Patterns, Trust}
 use Rattle.bbm_rules.specs.Cleansing.{cleansed, half, seen}
 use Rattle.bbm_rules.specs.Covers.{noted}
-use Rattle.bbm_rules.specs.Held.{ValidWrite, cleansed_everywhere, last_valid}
+use Rattle.bbm_rules.specs.Held.{cleansed_everywhere, last_valid}
 use Rattle.bbm_rules.specs.Lists.{◌>>=◌}
 use Rattle.bbm_rules.specs.Notes.{Noted, events_of}
 use Rattle.bbm_rules.specs.Phases.{broken_phase, phase_of}
 use Rattle.bbm_rules.specs.Places.{page_of}
-use Rattle.bbm_rules.specs.Prelude.{Heading, Event, Kind}
+use Rattle.bbm_rules.specs.Prelude.{Heading, Event}
 use Rattle.bbm_rules.specs.Tree.{Node, node_of}
 use Rattle.bbm_rules.specs.Values.{value_of}
 use Rattle.bbm_oracle_patterns.specs.Phases.{furthest, phase_at}
 use Rattle.bbm_oracle_patterns.specs.declared.trace.Trace.{Trace}
 use Rattle.bbm_oracle_trees.specs.Past.{Past, notes}
 use Rattle.bbm_oracle_trees.specs.Phases.{phase_among}
-use Rattle.bbm_idle.specs.Finding.{Stands, phase_by, phase_since}
+use Rattle.bbm_idle.specs.Finding.{Stands, phase_by}
 use Rattle.bbm_idle.specs.Same.{same_phase}
-
--- ---- by the last valid write
-
-pub since_found : (heading : Heading) (kind : Kind) (level place value p : ℕ) (h since : List Noted) (old : ℕ) (valid : Bool)
-    → last_valid kind level place h ≡ Some (record { value = old; since = since }) → valid ≡ is_valid kind level value
-    → phase_since heading valid place p since ≡ phase_at heading Patterns kind level place value p h
-since_found heading kind level place value p h since old valid found is =
-    ap (λ (b : Bool). phase_since heading b place p since) is
-    ∙ by_case (cleansed_everywhere heading Patterns place since)
-    ∙ ap (λ (o : Option ValidWrite). unwrap_or (o >>= (λ w. cond (cleansed_everywhere heading Patterns place w.since) None
-    (Some (cond (is_valid kind level value) Live (broken_phase heading Patterns place p w.since))))) Clean) (sym found)
-  where
-    by_case : (b : Bool) → cond b Clean (cond (is_valid kind level value) Live (broken_phase heading Patterns place p since))
-        ≡ unwrap_or (cond b None (Some (cond (is_valid kind level value) Live (broken_phase heading Patterns place p since)))) Clean
-    by_case true = refl
-    by_case false = refl
-
-pub since_broken : (heading : Heading) (place p : ℕ) (since : List Noted) (t : Trace) → cleansed_everywhere heading Patterns place since ≡ false
-    → pe_in t.seen p ≡ seen heading place p since → pe_in t.half p ≡ half heading place p since
-    → pe_in t.cleansed p ≡ cleansed heading Patterns place p since → phase_by t p ≡ phase_since heading false place p since
-since_broken heading place p since t some seen_is half_is cleansed_is =
-    ap (λ (b : Bool). furthest b (pe_in t.half p) (pe_in t.seen p)) cleansed_is
-    ∙ ap (λ (b : Bool). furthest (cleansed heading Patterns place p since) b (pe_in t.seen p)) half_is
-    ∙ ap (λ (b : Bool). furthest (cleansed heading Patterns place p since) (half heading place p since) b) seen_is
-    ∙ sym (ap (λ (b : Bool). cond b Clean (broken_phase heading Patterns place p since)) some)
 
 -- ---- of a history
 
@@ -88,7 +61,7 @@ phase_stands past heading h s place p =
 -- ---- two phases
 
 -- the PEs that are in one of the sets and not in both
-abbrev differ : Bool → Bool → Bool
+abbrev pub differ : Bool → Bool → Bool
 differ a b = (a && not b) || (b && not a)
 
 -- the PEs at which two broken places have the same phase
@@ -122,28 +95,3 @@ alike_at pes p new old here cleansed half seen below is c h s =
     is
     ∙ ap (λ (b : Bool). b && not ((cleansed || half) || seen)) (lt-ltb p pes below)
     ∙ rw (c, h, s) (same_furthest (pe_in new.cleansed p) (pe_in old.cleansed p) (pe_in new.half p) (pe_in old.half p) (pe_in new.seen p) (pe_in old.seen p))
-
--- a broken place has another phase than a clean or a live one
-pub never_clean : (c h s : Bool) → false ≡ same_phase (furthest c h s) Clean
-never_clean true h s = refl
-never_clean false true s = refl
-never_clean false false true = refl
-never_clean false false false = refl
-
-pub clean_never : (c h s : Bool) → false ≡ same_phase Clean (furthest c h s)
-clean_never true h s = refl
-clean_never false true s = refl
-clean_never false false true = refl
-clean_never false false false = refl
-
-pub never_live : (c h s : Bool) → false ≡ same_phase (furthest c h s) Live
-never_live true h s = refl
-never_live false true s = refl
-never_live false false true = refl
-never_live false false false = refl
-
-pub live_never : (c h s : Bool) → false ≡ same_phase Live (furthest c h s)
-live_never true h s = refl
-live_never false true s = refl
-live_never false false true = refl
-live_never false false false = refl

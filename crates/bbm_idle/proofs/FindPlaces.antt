@@ -1,58 +1,24 @@
 -- What a TLBI adds at a place, by the sets of PEs at which it is seen, half and cleansed.
-use Rattle.std.proofs.Common.{◌≡◌, ℕ, ◌+◌, ◌-◌, ◌<◌, ◌≤◌, Bool, false, ◌&&◌, ◌||◌, List, [], ◌∷◌, Option, Some, None, length, get_or, take, reverse, refl, sym, ap, ◌∙◌, arith}
-use Rattle.std.specs.Option.{unwrap_or}
+use Rattle.std.proofs.Common.{◌≡◌, ℕ, ◌+◌, ◌-◌, ◌<◌, ◌≤◌, Bool, false, ◌&&◌, ◌||◌, List, [], ◌∷◌, Option, Some, None, length, get_or, take, reverse, refl, ap, ◌∙◌, arith}
 use Rattle.std.proofs.lemmas.List.{take_all}
-use Rattle.bbm_rules.specs.regimes.PeMask.{pe_in}
 use Rattle.bbm_rules.specs.tlbi_scope.declared.entry.Cover.{Cover}
 use Rattle.bbm_rules.specs.tlbi_scope.declared.entry.Cover.TheVariants.{None as NoCover}
 use Rattle.bbm_rules.specs.Claims.{Patterns, Trust}
-use Rattle.bbm_rules.specs.Cleansing.{cleansed, half, seen}
 use Rattle.bbm_rules.specs.Covers.{cover_at, noted}
-use Rattle.bbm_rules.specs.Held.{ValidWrite, last_valid}
-use Rattle.bbm_rules.specs.Lists.{◌>>=◌, any, below, some_pe}
+use Rattle.bbm_rules.specs.Held.{ValidWrite}
+use Rattle.bbm_rules.specs.Lists.{any, below, some_pe}
 use Rattle.bbm_rules.specs.Notes.{Noted}
-use Rattle.bbm_rules.specs.Places.{page_of}
 use Rattle.bbm_rules.specs.Prelude.{Heading, Event}
 use Rattle.bbm_rules.specs.Reach.{reaches}
 use Rattle.bbm_rules.specs.Roots.{roots_of}
-use Rattle.bbm_rules.specs.Tree.{Node, node_of}
 use Rattle.bbm_rules.specs.Values.{written_places}
 use Rattle.bbm_oracle_patterns.specs.Kept.{cover_in, notes_of}
 use Rattle.bbm_oracle_patterns.specs.declared.kept.Kept.{Kept}
-use Rattle.bbm_oracle_patterns.specs.declared.trace.Trace.{Trace}
 use Rattle.bbm_oracle_trees.specs.Past.{Past, notes}
-use Rattle.bbm_idle.specs.Finding.{Stands, adds_since, adds_with, needed_by, place_adds, trace_adds}
-use Rattle.bbm_idle.specs.Idle.{adds, adds_at, is_needed, is_needed_at, takes_of}
+use Rattle.bbm_idle.specs.Finding.{Stands, adds_since, adds_with, needed_by, place_adds}
+use Rattle.bbm_idle.specs.Idle.{adds_at, is_needed, is_needed_at, takes_of}
 use Rattle.bbm_idle.specs.declared.find_places.Seat.{Seat}
 use Rattle.bbm_idle.proofs.FindLists.{any_alike, reverse_more}
-
--- ---- one place
-
-pub adds_found : (heading : Heading) (cover : Cover) (p place old : ℕ) (since : List Noted) (t : Trace) (found : Option ValidWrite)
-    → found ≡ Some (record { value = old; since = since })
-    → pe_in t.seen p ≡ seen heading place p since → pe_in t.half p ≡ half heading place p since
-    → pe_in t.cleansed p ≡ cleansed heading Patterns place p since
-    → trace_adds cover p (Some t) ≡ adds_since heading cover p place found
-adds_found heading cover p place old since t found is seen_is half_is cleansed_is =
-    ap (λ (b : Bool). adds cover b (pe_in t.half p) (pe_in t.cleansed p)) seen_is
-    ∙ ap (λ (b : Bool). adds cover (seen heading place p since) b (pe_in t.cleansed p)) half_is
-    ∙ ap (λ (b : Bool). adds cover (seen heading place p since) (half heading place p since) b) cleansed_is
-    ∙ sym (ap (λ (o : Option ValidWrite). adds_since heading cover p place o) is)
-
--- where the search of the node found one
-pub adds_node : (heading : Heading) (h : List Noted) (cover : Cover) (p place : ℕ) (n : Node)
-    → node_of heading Patterns h (page_of place) ≡ Some n
-    → adds_since heading cover p place (last_valid n.kind n.level place h) ≡ adds_with heading h cover p place
-adds_node heading h cover p place n found = sym (ap (λ (o : Option Node). unwrap_or (o >>= (λ m.
-    last_valid m.kind m.level place h >>= (λ w. Some (adds cover (seen heading place p w.since) (half heading place p w.since)
-    (cleansed heading Patterns place p w.since))))) false) found)
-
--- where it found none
-pub adds_nowhere : (heading : Heading) (h : List Noted) (cover : Cover) (p place : ℕ)
-    → node_of heading Patterns h (page_of place) ≡ None → false ≡ adds_with heading h cover p place
-adds_nowhere heading h cover p place none = sym (ap (λ (o : Option Node). unwrap_or (o >>= (λ m.
-    last_valid m.kind m.level place h >>= (λ w. Some (adds cover (seen heading place p w.since) (half heading place p w.since)
-    (cleansed heading Patterns place p w.since))))) false) none)
 
 -- a TLBI that doesn't cover the place adds nothing
 pub adds_nothing : (heading : Heading) (p place : ℕ) (found : Option ValidWrite) → adds_since heading NoCover p place found ≡ false

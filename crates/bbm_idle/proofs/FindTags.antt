@@ -1,11 +1,10 @@
 -- The tags that were ever readable, and those of them that a TLBI takes whole.
 use Rattle.std.proofs.Common.{◌≡◌, ℕ, ◌+◌, add-one, Bool, true, false, cond, ◌&&◌, ◌||◌, eqb, List, [], ◌∷◌, ◌++◌, Option, Some, None, refl, sym, ap, ◌∙◌, flat_map, filter_map, true≢false}
-use Rattle.std.specs.List.{list_any, cons_option}
-use Rattle.std.proofs.lemmas.Bool.{and_parts, eqb-true, or_left, or_right}
+use Rattle.std.specs.List.{cons_option}
+use Rattle.std.proofs.lemmas.Bool.{and_parts, eqb-true, or_left}
 use Rattle.std.proofs.lemmas.List.Folds.{list_any-append}
-use Rattle.bbm_lists.specs.Elements.{In}
 use Rattle.bbm_lists.proofs.Elements.{any_finds, any_found}
-use Rattle.bbm_rules.specs.Prelude.{AsidFrom, FromTtbr0, FromTtbr1, Ttbr0El1, Ttbr1El1, Ttbr1Tag, World, Hyp, Kernel, Heading, Event, Root, Unroot, Isb, Msr, Tag, Tlbi, TlbiOp, Scope}
+use Rattle.bbm_rules.specs.Prelude.{AsidFrom, FromTtbr0, FromTtbr1, Ttbr1El1, Ttbr1Tag, World, Hyp, Kernel, Heading, Event, Root, Unroot, Isb, Msr, Tag, Tlbi, TlbiOp, Scope}
 use Rattle.bbm_rules.specs.tlbi_scope.Tags.{takes_whole_tag}
 use Rattle.bbm_rules.specs.Changes.{changes}
 use Rattle.bbm_rules.specs.Claims.{Patterns, same_tag}
@@ -15,7 +14,7 @@ use Rattle.bbm_rules.specs.Roots.{Declared, roots_of}
 use Rattle.bbm_rules.specs.Tags.{Reading, asid_readings, distinct, ever_read, holds_at, readings, readings_in, readings_of, tag_for, takes_tag}
 use Rattle.bbm_idle.specs.Finding.{AreTaken, IsKnown, is_taken, passes, taken_passes}
 use Rattle.bbm_idle.specs.Idle.{takes_of}
-use Rattle.bbm_idle.proofs.FindLists.{any_alike, any_flat, any_never, or_assoc, or_false, or_same, or_swap, and_false}
+use Rattle.bbm_idle.proofs.FindLists.{any_alike, any_flat, any_never, or_assoc, or_false, or_same, or_swap}
 
 -- ---- one more reading
 

@@ -1,6 +1,6 @@
 -- What is kept beside a history, and asked of it, while the idle events of a log are found. No public contract cites
 -- these words. Source: project's own choice.
-use Rattle.std.specs.Prelude.{◌≡◌, ℕ, Bool, true, false, not, ◌&&◌, ◌||◌, ◌==◌, List, ◌∷◌, Option, Some, None, unwrap_or, if◌then◌else◌}
+use Rattle.std.specs.Prelude.{◌≡◌, ℕ, Bool, true, false, not, ◌&&◌, ◌||◌, ◌==◌, List, Option, Some, None, unwrap_or, if◌then◌else◌}
 use Rattle.bbm_rules.specs.regimes.EveryPe.{every_pe}
 use Rattle.bbm_rules.specs.regimes.PeMask.{pe_in}
 use Rattle.bbm_rules.specs.barriers.Options.{answers}

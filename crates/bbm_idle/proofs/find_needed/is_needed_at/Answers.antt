@@ -1,4 +1,4 @@
-use Rattle.std.proofs.Common.{◌≡◌, Bool, ◌&&◌, ◌||◌, reverse, sym, ap, ◌∙◌}
+use Rattle.std.proofs.Common.{◌≡◌, Bool, ◌&&◌, ◌||◌, reverse, ap, ◌∙◌}
 use Rattle.std.proofs.lemmas.Result.{IfOk-weaker}
 use Rattle.bbm_rules.specs.regimes.PeMask.{pe_in}
 use Rattle.bbm_rules.specs.Claims.{Patterns}

@@ -1,7 +1,7 @@
-use Rattle.std.proofs.Common.{◌≡◌, Bool, not, ◌&&◌, ◌||◌, nat_lt, refl, ap, ◌∙◌, arith}
+use Rattle.std.proofs.Common.{◌≡◌, Bool, not, ◌&&◌, ◌||◌, nat_lt, ap, ◌∙◌, arith}
 use Rattle.bbm_rules.specs.events.Heading.{Heading}
 use Rattle.bbm_rules.specs.regimes.PeMask.{pe_in}
-use Rattle.bbm_idle.proofs.FindPhases.{alike_at}
+use Rattle.bbm_idle.proofs.FindPhases.{alike_at, differ}
 use Rattle.bbm_idle.proofs.find_phases.alike_broken.Goals as goal
 
 pub returns : goal.returns
@@ -14,5 +14,11 @@ returns c = λ p below.
     ∙ ap (λ (b : Bool). nat_lt p c.header.inside.pes && not b)
     (c.or-8.ensures p ∙ ap (λ (b : Bool). b || pe_in c.differing-seen.result p) (c.or-7.ensures p)))
     (c.differing-cleansed.ensures p)
-    (c.differing-half.ensures p ∙ rw (c.or.ensures p, c.or-2.ensures p) refl)
-    (c.differing-seen.ensures p ∙ rw (c.or-4.ensures p, c.or-6.ensures p, c.or-3.ensures p, c.or-5.ensures p) refl)
+    (c.differing-half.ensures p
+    ∙ ap (λ (b : Bool). differ b (pe_in c.or-2.result p)) (c.or.ensures p)
+    ∙ ap (λ (b : Bool). differ (pe_in c.args.new.now.cleansed p || pe_in c.args.new.now.half p) b) (c.or-2.ensures p))
+    (c.differing-seen.ensures p
+    ∙ ap (λ (b : Bool). differ b (pe_in c.or-6.result p))
+    (c.or-4.ensures p ∙ ap (λ (b : Bool). b || pe_in c.args.new.now.seen p) (c.or-3.ensures p))
+    ∙ ap (λ (b : Bool). differ ((pe_in c.args.new.now.cleansed p || pe_in c.args.new.now.half p) || pe_in c.args.new.now.seen p) b)
+    (c.or-6.ensures p ∙ ap (λ (b : Bool). b || pe_in c.args.old.now.seen p) (c.or-5.ensures p)))

@@ -1,4 +1,4 @@
-use Rattle.std.proofs.Common.{◌≡◌, ℕ, ap, ◌∙◌}
+use Rattle.std.proofs.Common.{ap, ◌∙◌}
 use Rattle.bbm_regimes.proofs.Every.{every_same}
 use Rattle.bbm_rules.specs.regimes.EveryPe.{every_pe}
 use Rattle.bbm_rules.specs.regimes.PeMask.{pe_in}

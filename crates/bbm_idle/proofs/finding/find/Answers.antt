@@ -1,4 +1,4 @@
-use Rattle.std.proofs.Common.{◌≡◌, ◌<◌, ◌+◌, ◌∷◌, List, length, take, get_or, reverse, true, ap, sym, ◌∙◌, subst, arith}
+use Rattle.std.proofs.Common.{◌≡◌, ◌+◌, ◌∷◌, List, take, reverse, subst}
 use Rattle.bbm_rules.specs.Prelude.{Event}
 use Rattle.bbm_rules.specs.events.Fits.{fits_heading}
 use Rattle.bbm_idle.specs.Finding.{IsSearch}
