@@ -43,6 +43,11 @@ any_alike f g [] same = refl
 any_alike f g (x ∷ xs) same =
     ap (λ (b : Bool). b || list_any f xs) (same x) ∙ ap (λ (b : Bool). g x || b) (any_alike f g xs same)
 
+pub every_alike : {A : Type 0} (f g : A → Bool) (xs : List A) → ((x : A) → f x ≡ g x) → list_all f xs ≡ list_all g xs
+every_alike f g [] same = refl
+every_alike f g (x ∷ xs) same =
+    ap (λ (b : Bool). b && list_all f xs) (same x) ∙ ap (λ (b : Bool). g x && b) (every_alike f g xs same)
+
 pub any_never : {A : Type 0} (xs : List A) → list_any (λ x. false) xs ≡ false
 any_never [] = refl
 any_never (x ∷ xs) = any_never xs
