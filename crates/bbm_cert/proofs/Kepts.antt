@@ -5,13 +5,17 @@ use Rattle.std.proofs.lemmas.List.{get_or_default, length-append, length-reverse
 use Rattle.bbm_oracle_patterns.specs.Kept.{note_of, notes_behind, notes_of}
 use Rattle.bbm_oracle_patterns.specs.declared.kept.Kept.{Kept}
 use Rattle.bbm_histories.specs.rules.Cleansing.{writes}
-use Rattle.bbm_histories.specs.rules.Notes.{Noted}
+use Rattle.bbm_histories.specs.rules.Notes.{Noted, events_of}
 use Rattle.bbm_cert.specs.Marks.{mark_at, wrote_mark}
 use Rattle.bbm_cert.proofs.Marked.{Numbered, mark_none}
 
 pub length_notes : (ks : List Kept) → length (notes_of ks) ≡ length ks
 length_notes [] = refl
 length_notes (k ∷ ks) = ap suc (length_notes ks)
+
+pub length_events : (ks : List Kept) → length (events_of (notes_of ks)) ≡ length ks
+length_events [] = refl
+length_events (k ∷ ks) = ap suc (length_events ks)
 
 pub numbered : (ks : List Kept) → Numbered (notes_of ks)
 numbered [] = tt

@@ -5,5 +5,6 @@ pub mod Kepts
 pub mod Flushed
 pub mod Cleansed
 pub mod TagSteps
+pub mod HeldTags
 pub mod JudgedLaw
 pub mod Verified

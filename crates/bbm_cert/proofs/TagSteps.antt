@@ -1,6 +1,7 @@
 -- A TLBI that waits to take a tag away, after one more event; a tag that is held, after one more event.
 use Rattle.std.proofs.Common.{◌≡◌, ℕ, suc, ◌+◌, ◌<◌, Bool, true, false, cond, not, ◌&&◌, ◌||◌, ◌==◌, List, [], ◌∷◌, ◌++◌, length, take, get_or, reverse, refl, sym, ◌∙◌, ap}
-use Rattle.std.proofs.lemmas.List.{reverse-append, take_more}
+use Rattle.std.proofs.lemmas.List.{length-reverse, reverse-append, reverse-reverse, take_more}
+use Rattle.std.proofs.Math.Seq.{take-append_seam}
 use Rattle.bbm_histories.specs.barriers.Options.{answers}
 use Rattle.bbm_histories.specs.events.declared.claim.Claim.{Claim}
 use Rattle.bbm_histories.specs.rules.Claims.Trust.{Listed}
@@ -89,3 +90,14 @@ module _ (heading : Heading) (known : Known heading) (claims : List Claim) (p ro
       (holds_at heading (Listed claims) p root tag (reverse (take i events))) h) at
       ∙ holds_step (get_or events i d) (reverse (take i events))
       ∙ ap (λ (h : List Event). holds_at heading (Listed claims) p root tag h) (sym at)
+
+-- the older of some events, from the list that has the oldest first
+pub first_of : (events newer older : List Event) (n : ℕ) → reverse events ≡ newer ++ older → n ≡ length older
+    → reverse (take n events) ≡ older
+first_of events newer older n is count =
+    let whole : events ≡ reverse older ++ reverse newer
+    = sym (reverse-reverse events) ∙ ap (λ (h : List Event). reverse h) is ∙ reverse-append newer older in
+    ap (λ (m : ℕ). reverse (take m events)) (count ∙ sym (length-reverse older))
+    ∙ ap (λ (xs : List Event). reverse (take (length (reverse older)) xs)) whole
+    ∙ ap (λ (xs : List Event). reverse xs) (take-append_seam (reverse older) (reverse newer))
+    ∙ reverse-reverse older

@@ -1,7 +1,8 @@
 -- What the crates below prove, as one record, so that each proof here takes it as one hypothesis. No public contract
 -- cites these words. Source: project's own choice.
-use Rattle.std.specs.Prelude.{◌≡◌, ℕ, Bool, not, ◌&&◌, List, ◌∷◌}
+use Rattle.std.specs.Prelude.{◌≡◌, ℕ, Bool, true, not, ◌&&◌, List, ◌∷◌}
 use Rattle.bbm_histories.specs.events.declared.claim.Claim.{Claim}
+use Rattle.bbm_histories.specs.rules.Claims.{same_tag}
 use Rattle.bbm_histories.specs.rules.Claims.Trust.{Listed}
 use Rattle.bbm_histories.specs.rules.Cleansing.{cleansed}
 use Rattle.bbm_histories.specs.rules.Lists.{any}
@@ -14,6 +15,7 @@ use Rattle.bbm_histories.specs.ClaimSteps.{tag_waits_at_after}
 use Rattle.bbm_histories.specs.Steps.{waits, waits_after}
 
 pub record Known (heading : Heading) : Type 0 where
+  pub tag_equal : (g k : Tag) → same_tag g k ≡ true → g ≡ k
   pub waits_step : (q : ℕ) (k : Bool) (test : Issued Noted → Bool) (n : Noted) (since : List Noted)
       → waits event_of q k test (n ∷ since) ≡ waits_after event_of q k test n.event n since
   pub half_step : (place p b t d : ℕ) (n : Noted) (since : List Noted)

@@ -3,4 +3,5 @@ pub mod Marks
 pub mod Flushes
 pub mod Cleansings
 pub mod Takings
+pub mod Holdings
 pub mod Known

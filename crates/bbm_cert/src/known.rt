@@ -3,6 +3,7 @@
 ghost use Rattle.bbm_histories.specs.events.Heading.{Heading};
 ghost use Rattle.bbm_cert.specs.Known.{Known};
 
+use bbm_histories::rules::law_equality_tests;
 use bbm_histories::{law_claim_steps, law_pattern_steps, law_tag_claim_steps};
 
 /// The laws that the proofs here stand on.
@@ -10,6 +11,7 @@ pub(crate) fn known()
     ensures { (heading : Heading) → Known heading }
 {
     law_claim_steps();
+    law_equality_tests();
     law_pattern_steps();
     law_tag_claim_steps();
 }

@@ -3,6 +3,7 @@
 
 pub mod by_claims;
 pub mod cleansings;
+pub mod holdings;
 pub mod judged;
 mod known;
 pub mod laws;

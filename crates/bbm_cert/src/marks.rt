@@ -271,14 +271,3 @@ pub fn end_of(claim: &Claim) -> u32
         Claim::Taken { d, .. } => d,
     }
 }
-
-/// How many events of the log there are up to the write since which the claim is true; 0 where the claim isn't true of
-/// the log, or is one of a tag.
-pub fn true_since(header: &Header, log: &[Kept], claim: &Claim) -> usize
-    ensures { result ≡ spec.claim_mark header.now claim.now (notes_of (reverse log.now)) }
-{
-    match index_of(log, end_of(claim)) {
-        Some(i) => completed_since(header, &log[..i], &log[i].event, claim),
-        None => 0,
-    }
-}

@@ -2,10 +2,9 @@
 
 ghost use Rattle.std.specs.Prelude.{◌≡◌, ◌<◌, ◌+◌, ◌&&◌, length, take, reverse, IfOk};
 ghost use Rattle.bbm_histories.specs.barriers.Options.{answers as answers_it};
-ghost use Rattle.bbm_histories.specs.rules.Claims.Trust.{Listed};
 ghost use Rattle.bbm_histories.specs.rules.Prelude.{Tlbi as TheTlbi};
 ghost use Rattle.bbm_histories.specs.rules.Lists.{any};
-ghost use Rattle.bbm_histories.specs.rules.Tags.{holds_at as is_held, reads_for_some, takes_tag as takes_it};
+ghost use Rattle.bbm_histories.specs.rules.Tags.{reads_for_some, takes_tag as takes_it};
 ghost use Rattle.bbm_histories.specs.ClaimSteps.{completes_taken, tag_waits_at};
 ghost use Rattle.bbm_histories.specs.Steps.{answered_by};
 ghost use Rattle.bbm_cert.specs.Marks.{answers_for};
@@ -52,8 +51,8 @@ fn takes_tag(
     }
 }
 
-/// Whether the tag is readable at the PE for some root after these events.
-fn is_readable(
+/// Whether the tag is readable at the PE for some root after these events. `NoMemory` where there is none.
+pub fn is_readable(
     alloc: Global,
     header: &Header,
     events: &[Event],
@@ -168,8 +167,8 @@ fn waits(
 }
 
 /// Whether the DSB of the issuer, which comes behind these events, answers the TLBI at the position, which reaches the PE
-/// and takes the whole tag, and the tag wasn't readable there since.
-fn takes_away(
+/// and takes the whole tag, and the tag wasn't readable there since. `NoMemory` where there is none.
+pub fn takes_away(
     alloc: Global,
     header: &Header,
     before: &[Event],
@@ -290,8 +289,9 @@ fn loses(
     }
 }
 
-/// Whether the root holds the tag at the PE after the event of this index, where it did or didn't before.
-fn holds_through(
+/// Whether the root holds the tag at the PE after the event of this index, where it did or didn't before, by the claims
+/// alone. `NoMemory` where there is none.
+pub fn holds_through(
     alloc: Global,
     header: &Header,
     events: &[Event],
@@ -325,26 +325,4 @@ fn holds_through(
     } else {
         Ok(false)
     }
-}
-
-/// Whether the root with this first page, by its address in bytes, holds the tag at the PE after the events, by the
-/// claims alone. `NoMemory` where there is none.
-pub fn holds_at(
-    alloc: Global,
-    header: &Header,
-    events: &[Event],
-    pe: Pe,
-    root: u64,
-    tag: Tag,
-    claims: &[Claim],
-) -> Result<bool, NoMemory>
-    ensures { IfOk result (λ holds. holds
-        ≡ is_held header.now (Listed claims.now) pe root tag (reverse events.now)) }
-{
-    known();
-    let mut holds = false;
-    for i in 0..events.len() {
-        holds = holds_through(alloc, header, events, i, pe, root, tag, claims, holds)?;
-    }
-    Ok(holds)
 }

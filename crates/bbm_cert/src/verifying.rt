@@ -52,6 +52,8 @@ pub fn verify(
     let evidence = ByClaims {
         claims: claims.as_slice(),
         cleansings: Vec::new(alloc),
+        held: Vec::new(alloc),
+        taken: 0,
     };
     let mut history = History::new(alloc, header, evidence);
     for (i, event) in log.iter().enumerate() {

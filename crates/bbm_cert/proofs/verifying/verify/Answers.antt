@@ -1,15 +1,20 @@
-use Rattle.std.proofs.Common.{◌≡◌, ◌<◌, List, length, get_or, take, reverse, ◌∙◌, ap, arith}
+use Rattle.std.proofs.Common.{◌≡◌, ◌<◌, List, length, get_or, take, reverse, refl, ◌∙◌, ap, arith}
 use Rattle.bbm_histories.specs.rules.Prelude.{Event}
 use Rattle.bbm_cert.specs.Cleansings.{tells}
+use Rattle.bbm_cert.specs.Holdings.{has}
 use Rattle.bbm_cert.specs.declared.cleansings.Cleansing.{Cleansing}
+use Rattle.bbm_cert.specs.declared.holdings.Holding.{Holding}
 use Rattle.bbm_cert.proofs.Cleansed.{tell_nothing}
 use Rattle.bbm_cert.proofs.Verified.{going_next, going_start, stopped}
 use Rattle.bbm_cert.proofs.verifying.verify.Goals as goal
 
 pub new-history-requires : goal.new-history-requires
-new-history-requires c = λ place p n.
-    ap (λ (xs : List Cleansing). tells xs place p n) c.new.ensures.items
-    ∙ tell_nothing c.args.header.now c.as_slice.result.now place p n
+new-history-requires c = (
+  (λ place p n. ap (λ (xs : List Cleansing). tells xs place p n) c.new.ensures.items
+      ∙ tell_nothing c.args.header.now c.as_slice.result.now place p n),
+  (λ p root tag below. ap (λ (xs : List Holding). has xs p root tag) c.new-2.ensures.items),
+  refl,
+)
 
 pub loop-i-init : goal.loop-i-init
 loop-i-init c =

@@ -23,4 +23,4 @@ returns c =
     (λ p below. c.cleansed_since.ensures p
     ∙ ap (λ (xs : List Cleansing). tells xs c.args.place p c.args.from) c.deref.ensures.value
     ∙ kept_cleansed header (c.known.ensures header) c.args.self.now.claims.now
-    c.args.self.now.cleansings.items c.args._log.now c.args.from c.args.place p c.requires.within c.requires.taken)
+    c.args.self.now.cleansings.items c.args._log.now c.args.from c.args.place p c.requires.within c.requires.taken.0)

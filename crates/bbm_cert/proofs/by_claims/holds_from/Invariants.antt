@@ -1,7 +1,7 @@
 use Rattle.std.proofs.Common.{◌≡◌, take, reverse}
 use Rattle.bbm_histories.specs.rules.Claims.Trust.{Listed}
 use Rattle.bbm_histories.specs.rules.Tags.{holds_at}
-use Rattle.bbm_cert.proofs.taken.holds_at.Given as goal
+use Rattle.bbm_cert.proofs.by_claims.holds_from.Given as goal
 
 abbrev pub invariant-loop-i : goal.invariant-loop-i
 invariant-loop-i l = l.holds ≡ holds_at l.header (Listed l.claims) l.pe l.root l.tag (reverse (take l.i l.events))

@@ -1,0 +1,7 @@
+use Rattle.std.proofs.Common.{◌≡◌, take, reverse}
+use Rattle.bbm_histories.specs.rules.Notes.{events_of}
+use Rattle.bbm_oracle_patterns.specs.Kept.{notes_of}
+use Rattle.bbm_cert.proofs.holdings.events_in.Given as goal
+
+abbrev pub invariant-loop-kept : goal.invariant-loop-kept
+invariant-loop-kept l = reverse l.events.items ≡ events_of (notes_of (reverse (take l.kept-index l.log)))

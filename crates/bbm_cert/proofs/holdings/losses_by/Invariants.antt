@@ -1,0 +1,10 @@
+use Rattle.std.proofs.Common.{◌≡◌, ℕ, take, reverse}
+use Rattle.std.specs.List.{list_any}
+use Rattle.bbm_histories.specs.regimes.declared.regime.Tag.{Tag}
+use Rattle.bbm_histories.specs.ClaimSteps.{completes_taken}
+use Rattle.bbm_cert.specs.Holdings.{is_lost}
+use Rattle.bbm_cert.proofs.holdings.losses_by.Given as goal
+
+abbrev pub invariant-loop-claim : goal.invariant-loop-claim
+invariant-loop-claim l = (p : ℕ) (tag : Tag) → is_lost l.losses.items p tag
+    ≡ list_any (completes_taken l.header p tag l.issuer l.dsb (reverse l.before)) (take l.claim-index l.claims)

@@ -1,0 +1,46 @@
+-- Which roots hold which tags, as it is kept from event to event. No public contract cites these words.
+-- Source: project's own choice.
+use Rattle.std.specs.Prelude.{◌≡◌, ◌<◌, ℕ, Bool, false, not, ◌&&◌, ◌||◌, ◌==◌, List, [], ◌∷◌}
+use Rattle.bbm_histories.specs.events.declared.claim.Claim.{Claim}
+use Rattle.bbm_histories.specs.rules.Changes.{changes}
+use Rattle.bbm_histories.specs.rules.Claims.{same_tag}
+use Rattle.bbm_histories.specs.rules.Claims.Trust.{Listed}
+use Rattle.bbm_histories.specs.rules.Lists.{any}
+use Rattle.bbm_histories.specs.rules.Prelude.{Tag, Heading, Event, Dsb}
+use Rattle.bbm_histories.specs.rules.Tags.{holds_at, reads, reads_for_some}
+use Rattle.bbm_histories.specs.ClaimSteps.{completes_taken}
+use Rattle.bbm_cert.specs.declared.holdings.Holding.{Holding}
+use Rattle.bbm_cert.specs.declared.holdings.Loss.{Loss}
+
+-- whether one of them is of this tag, which the root holds at p
+abbrev pub is_holding : ℕ → ℕ → Tag → Holding → Bool
+is_holding p root tag x = (x.pe == p && x.root == root) && same_tag x.tag tag
+
+abbrev pub has : List Holding → ℕ → ℕ → Tag → Bool
+has xs p root tag = any (is_holding p root tag) xs
+
+-- they are what the roots hold after these events, by the claims alone
+abbrev pub Hold : Heading → List Claim → List Event → List Holding → Type 0
+Hold heading claims h xs =
+    (p root : ℕ) (tag : Tag) → p < 128 → has xs p root tag ≡ holds_at heading (Listed claims) p root tag h
+
+-- whether the tag is one of these that are lost at p
+abbrev pub is_loss : ℕ → Tag → Loss → Bool
+is_loss p tag x = x.pe == p && same_tag x.tag tag
+
+abbrev pub is_lost : List Loss → ℕ → Tag → Bool
+is_lost xs p tag = any (is_loss p tag) xs
+
+-- whether the event, which comes behind h, completes a claim that the tag is taken away at p
+abbrev pub ends_some : Heading → List Claim → ℕ → Tag → Event → List Event → Bool
+ends_some heading claims p tag (Dsb q dsb) h = any (completes_taken heading p tag q dsb h) claims
+ends_some heading claims p tag _ h = false
+
+-- whether a tag that was held at p isn't lost, after these events
+abbrev pub stays_held : Heading → List Event → List Loss → ℕ → Tag → Bool
+stays_held heading h losses p tag = not (is_lost losses p tag && not (reads_for_some heading h p tag))
+
+-- what a root holds at p after h, whose last event is e, where these were held before it
+abbrev pub next_has : Heading → Event → List Event → List Loss → List Holding → ℕ → ℕ → Tag → Bool
+next_has heading e h losses held p root tag = (has held p root tag && stays_held heading h losses p tag)
+    || (((changes e).roots || (changes e).registers) && reads heading h p tag root)

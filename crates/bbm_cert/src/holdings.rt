@@ -1,0 +1,309 @@
+//! Which roots hold which tags, by claims alone, as it is kept from event to event.
+
+ghost use Rattle.std.specs.Prelude.{◌≡◌, ◌<◌, ◌∷◌, [], ◌&&◌, ◌||◌, ◌==◌, ℕ, reverse, IfOk, OnOk};
+ghost use Rattle.bbm_histories.specs.regimes.declared.regime.Tag.{Tag as TheTag};
+ghost use Rattle.bbm_histories.specs.rules.Claims.{same_tag as is_same_tag};
+ghost use Rattle.bbm_histories.specs.rules.Lists.{any};
+ghost use Rattle.bbm_histories.specs.rules.Tags.{reads};
+ghost use Rattle.bbm_histories.specs.ClaimSteps.{completes_taken};
+ghost use Rattle.bbm_histories.specs.rules.Changes.{changes};
+ghost use Rattle.bbm_histories.specs.rules.Notes.{events_of};
+ghost use Rattle.bbm_oracle_patterns.specs.Kept.{notes_of};
+ghost use Rattle.bbm_cert.specs.Holdings.{Hold, ends_some, has as has_it, is_lost, next_has, stays_held};
+
+use crate::known::known;
+use crate::taken::{is_readable, takes_away};
+use bbm_histories::barriers::Dsb;
+use bbm_judge::events::{Claim, Event, Header};
+use bbm_judge::oracle_tags::{Reading, readings_at};
+use bbm_judge::regimes::{NoMemory, Pe, Tag, same_tag};
+use bbm_oracle_patterns::Kept;
+use std::alloc::Global;
+
+/// A tag that a root holds at a PE. Source: project's own choice.
+#[derive(Clone, Copy, Debug)]
+pub struct Holding {
+    /// The PE.
+    pub pe: Pe,
+    /// The address of the root's first page, in bytes.
+    pub root: u64,
+    /// The tag.
+    pub tag: Tag,
+}
+
+/// A tag that a claim takes away at a PE.
+#[derive(Clone, Copy, Debug)]
+pub struct Loss {
+    /// The PE.
+    pub pe: Pe,
+    /// The tag.
+    pub tag: Tag,
+}
+
+/// Adds the tag of the claim, where a DSB of the issuer that comes behind these events completes it.
+fn add_loss(
+    alloc: Global,
+    header: &Header,
+    before: &[Event],
+    issuer: Pe,
+    dsb: Dsb,
+    claim: &Claim,
+    losses: &mut Vec<Loss>,
+) -> Result<(), NoMemory>
+    ensures { OnOk result ((p : ℕ) (tag : TheTag) → is_lost losses.new.items p tag
+        ≡ (is_lost losses.old.items p tag || completes_taken header.now p tag issuer dsb (reverse before.now) claim.now)) }
+{
+    known();
+    match *claim {
+        Claim::Taken { pe, tag, t, d } => {
+            if d as usize == before.len() + 1
+                && takes_away(alloc, header, before, issuer, dsb, pe, tag, t)?
+            {
+                losses.push(Loss { pe, tag }).map_err(|_| NoMemory)
+            } else {
+                Ok(())
+            }
+        }
+        _ => Ok(()),
+    }
+}
+
+/// The tags of the claims that a DSB of the issuer completes, which comes behind these events.
+fn losses_by(
+    alloc: Global,
+    header: &Header,
+    before: &[Event],
+    issuer: Pe,
+    dsb: Dsb,
+    claims: &[Claim],
+) -> Result<Vec<Loss>, NoMemory>
+    ensures { IfOk result (λ losses. (p : ℕ) (tag : TheTag) → is_lost losses.items p tag
+        ≡ any (completes_taken header.now p tag issuer dsb (reverse before.now)) claims.now) }
+{
+    let mut losses = Vec::new(alloc);
+    for claim in claims {
+        add_loss(alloc, header, before, issuer, dsb, claim, &mut losses)?;
+    }
+    Ok(losses)
+}
+
+/// The tags of the claims that the event completes, which comes behind these.
+fn losses_at(
+    alloc: Global,
+    header: &Header,
+    before: &[Event],
+    event: &Event,
+    claims: &[Claim],
+) -> Result<Vec<Loss>, NoMemory>
+    ensures { IfOk result (λ losses. (p : ℕ) (tag : TheTag) → is_lost losses.items p tag
+        ≡ ends_some header.now claims.now p tag event.now (reverse before.now)) }
+{
+    match *event {
+        Event::Dsb { pe, dsb } => losses_by(alloc, header, before, pe, dsb, claims),
+        _ => Ok(Vec::new(alloc)),
+    }
+}
+
+/// Whether the tag is one of these at the PE.
+fn has_loss(losses: &[Loss], pe: Pe, tag: Tag) -> bool
+    ensures { result ≡ is_lost losses.now pe tag }
+{
+    losses
+        .iter()
+        .any(|loss| loss.pe == pe && same_tag(loss.tag, tag))
+}
+
+/// Whether a tag that was held at the PE still is, after these events, the last of which completes claims of these tags.
+fn stays(
+    alloc: Global,
+    header: &Header,
+    events: &[Event],
+    losses: &[Loss],
+    pe: Pe,
+    tag: Tag,
+) -> Result<bool, NoMemory>
+    ensures { IfOk result (λ stays. stays
+        ≡ stays_held header.now (reverse events.now) losses.now pe tag) }
+{
+    if has_loss(losses, pe, tag) {
+        is_readable(alloc, header, events, pe, tag)
+    } else {
+        Ok(true)
+    }
+}
+
+/// Adds what was held, where it still is.
+fn keep(
+    alloc: Global,
+    header: &Header,
+    events: &[Event],
+    losses: &[Loss],
+    holding: &Holding,
+    kept: &mut Vec<Holding>,
+) -> Result<(), NoMemory>
+    ensures { OnOk result ((p root : ℕ) (tag : TheTag) → has_it kept.new.items p root tag
+        ≡ (has_it kept.old.items p root tag || (has_it (holding.now ∷ []) p root tag
+        && stays_held header.now (reverse events.now) losses.now p tag))) }
+{
+    known();
+    if stays(alloc, header, events, losses, holding.pe, holding.tag)? {
+        kept.push(*holding).map_err(|_| NoMemory)
+    } else {
+        Ok(())
+    }
+}
+
+/// What was held and still is, after these events, the last of which completes claims of these tags.
+fn keep_all(
+    alloc: Global,
+    header: &Header,
+    events: &[Event],
+    losses: &[Loss],
+    held: &[Holding],
+) -> Result<Vec<Holding>, NoMemory>
+    ensures { IfOk result (λ kept. (p root : ℕ) (tag : TheTag) → has_it kept.items p root tag
+        ≡ (has_it held.now p root tag && stays_held header.now (reverse events.now) losses.now p tag)) }
+{
+    let mut kept = Vec::new(alloc);
+    for holding in held {
+        keep(alloc, header, events, losses, holding, &mut kept)?;
+    }
+    Ok(kept)
+}
+
+/// Whether the root holds the tag at the PE.
+pub fn has(held: &[Holding], pe: Pe, root: u64, tag: Tag) -> bool
+    ensures is { result ≡ has_it held.now pe root tag }
+    ensures below { pe < 128 }
+{
+    let number = pe.get();
+    held.iter().any(|holding| {
+        holding.pe.get() == number && holding.root == root && same_tag(holding.tag, tag)
+    })
+}
+
+/// Adds that the root holds the tag at the PE, unless it is there already.
+fn add(held: &mut Vec<Holding>, pe: Pe, root: u64, tag: Tag) -> Result<(), NoMemory>
+    ensures { OnOk result ((p r : ℕ) (g : TheTag) → has_it held.new.items p r g
+        ≡ (has_it held.old.items p r g || (pe == p && (is_same_tag tag g && root == r)))) }
+{
+    known();
+    if has(held, pe, root, tag) {
+        Ok(())
+    } else {
+        held.push(Holding { pe, root, tag }).map_err(|_| NoMemory)
+    }
+}
+
+/// Adds what is readable at the PE.
+fn add_readings(held: &mut Vec<Holding>, pe: Pe, readings: &[Reading]) -> Result<(), NoMemory>
+    ensures { OnOk result ((p root : ℕ) (tag : TheTag) → has_it held.new.items p root tag
+        ≡ (has_it held.old.items p root tag
+        || (pe == p && any (λ r. is_same_tag r.tag tag && r.root == root) readings.now))) }
+{
+    for reading in readings {
+        add(held, pe, reading.root, reading.tag)?;
+    }
+    Ok(())
+}
+
+/// Adds what is readable at the PE after these events.
+fn add_read_at(
+    alloc: Global,
+    header: &Header,
+    events: &[Event],
+    held: &mut Vec<Holding>,
+    pe: Pe,
+) -> Result<(), NoMemory>
+    ensures { OnOk result ((p root : ℕ) (tag : TheTag) → has_it held.new.items p root tag
+        ≡ (has_it held.old.items p root tag
+        || (pe == p && reads header.now (reverse events.now) pe tag root))) }
+{
+    let readings = readings_at(alloc, header, events, pe)?;
+    add_readings(held, pe, &readings)
+}
+
+/// Adds what is readable at some PE after these events.
+fn add_read(
+    alloc: Global,
+    header: &Header,
+    events: &[Event],
+    held: &mut Vec<Holding>,
+) -> Result<(), NoMemory>
+    ensures { OnOk result ((p root : ℕ) (tag : TheTag) → p < 128 → has_it held.new.items p root tag
+        ≡ (has_it held.old.items p root tag || reads header.now (reverse events.now) p tag root)) }
+{
+    for number in 0..128 {
+        let pe = Pe::new(number).unwrap();
+        add_read_at(alloc, header, events, held, pe)?;
+    }
+    Ok(())
+}
+
+/// Whether the event may change what is readable.
+fn may_change(event: &Event) -> bool
+    ensures { result ≡ ((changes event.now).roots || (changes event.now).registers) }
+{
+    matches!(
+        *event,
+        Event::Root { .. } | Event::Unroot { .. } | Event::Isb { .. } | Event::Msr { .. }
+    )
+}
+
+/// The events that are kept.
+fn events_in(alloc: Global, log: &[Kept]) -> Result<Vec<Event>, NoMemory>
+    ensures { IfOk result (λ events. reverse events.items ≡ events_of (notes_of (reverse log.now))) }
+{
+    let mut events = Vec::new(alloc);
+    for kept in log {
+        events.push(kept.event).map_err(|_| NoMemory)?;
+    }
+    Ok(events)
+}
+
+/// Puts the event behind the others.
+fn add_event(events: &mut Vec<Event>, event: &Event) -> Result<(), NoMemory>
+    ensures { OnOk result (reverse events.new.items ≡ event.now ∷ reverse events.old.items) }
+{
+    events.push(*event).map_err(|_| NoMemory)
+}
+
+/// What was held and still is after these events, the last of which completes claims of these tags, and what is readable
+/// then, where that event may change it.
+fn next(
+    alloc: Global,
+    header: &Header,
+    events: &[Event],
+    newest: &Event,
+    losses: &[Loss],
+    held: &[Holding],
+) -> Result<Vec<Holding>, NoMemory>
+    ensures { IfOk result (λ next. (p root : ℕ) (tag : TheTag) → p < 128 → has_it next.items p root tag
+        ≡ next_has header.now newest.now (reverse events.now) losses.now held.now p root tag) }
+{
+    let mut next = keep_all(alloc, header, events, losses, held)?;
+    if may_change(newest) {
+        add_read(alloc, header, events, &mut next)?;
+    }
+    Ok(next)
+}
+
+/// What the roots hold after one more event, by the claims alone, where this is what they held before it. `NoMemory`
+/// where there is none.
+pub fn held_after(
+    alloc: Global,
+    header: &Header,
+    log: &[Kept],
+    newest: &Event,
+    held: &[Holding],
+    claims: &[Claim],
+) -> Result<Vec<Holding>, NoMemory>
+    ensures { Hold header.now claims.now (events_of (notes_of (reverse log.now))) held.now
+        → IfOk result (λ next. Hold header.now claims.now (newest.now ∷ events_of (notes_of (reverse log.now))) next.items) }
+{
+    known();
+    let mut events = events_in(alloc, log)?;
+    let losses = losses_at(alloc, header, &events, newest, claims)?;
+    add_event(&mut events, newest)?;
+    next(alloc, header, &events, newest, &losses, held)
+}
