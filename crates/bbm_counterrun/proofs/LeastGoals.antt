@@ -1,5 +1,5 @@
 -- The least reads of a way: of each place the least value that means the same, at most what a walk read there.
-use Rattle.std.proofs.Common.{◌≡◌, ℕ, suc, ◌<◌, ◌≤◌, arith, min, Bool, true, false, ◌&&◌, ◌||◌, not, ◌==◌, nat_lt, cond, List, [], ◌∷◌, map, filter, filter_map, Option, Some, None, unwrap_or, ◌⊎◌, inl, inr, refl, sym, ◌∙◌, ap, subst, true≢false}
+use Rattle.std.proofs.Common.{◌≡◌, ℕ, suc, ◌≤◌, arith, min, Bool, true, false, ◌&&◌, not, ◌==◌, nat_lt, cond, List, [], ◌∷◌, map, filter, filter_map, Option, Some, unwrap_or, ◌⊎◌, inl, inr, refl, sym, ◌∙◌, ap, true≢false}
 use Rattle.std.proofs.lemmas.Bool.{and_from, and_parts, cases_lt, eqb-true, ltb-true, not-false, not-true, not_from_false, or_cases}
 use Rattle.std.specs.List.{cons_option}
 use Rattle.bbm_lists.specs.Elements.{In}
@@ -10,7 +10,7 @@ use Rattle.bbm_histories.specs.descriptor.declared.desc.Core.{Core}
 use Rattle.bbm_histories.specs.descriptor.declared.desc.Core.TheVariants.{Table as CoreTable, Leaf as CoreLeaf}
 use Rattle.bbm_histories.specs.descriptor.declared.desc.Desc.{Desc}
 use Rattle.bbm_histories.specs.descriptor.declared.desc.Desc.TheVariants.{Invalid, Table, Leaf}
-use Rattle.bbm_tlb_machine.specs.rules.Lists.{◌>>=◌, any, among, least}
+use Rattle.bbm_tlb_machine.specs.rules.Lists.{◌>>=◌, among, least}
 use Rattle.bbm_tlb_machine.specs.rules.Places.{page_of}
 use Rattle.bbm_tlb_machine.specs.rules.Prelude.{Heading, Event, Init, Write}
 use Rattle.bbm_tlb_machine.specs.rules.Values.{is_readable, published, readable_before}

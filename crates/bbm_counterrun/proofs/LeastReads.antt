@@ -1,6 +1,6 @@
 -- A plain conflict run at a place that holds a leaf is plain with the least reads of the way to the place, too, and these
 -- come before its own, or are its own.
-use Rattle.std.proofs.Common.{◌≡◌, ℕ, ◌<◌, Bool, true, ◌&&◌, ◌==◌, List, [], ◌∷◌, ◌++◌, length, map, filter_map, reverse, Option, Some, None, Contains, inl, inr, refl, sym, ◌∙◌, ap, subst}
+use Rattle.std.proofs.Common.{◌≡◌, ℕ, ◌<◌, Bool, true, ◌&&◌, ◌==◌, List, [], ◌∷◌, ◌++◌, length, map, filter_map, reverse, Option, Some, None, inl, inr, refl, sym, ◌∙◌, ap, subst}
 use Rattle.std.proofs.lemmas.Bool.{and_from, and_parts, eqb-true, or_left}
 use Rattle.bbm_lists.specs.Elements.{In}
 use Rattle.bbm_histories.specs.descriptor.Descriptor.{core_in, core_of, differ, is_valid, needs}
@@ -11,20 +11,20 @@ use Rattle.bbm_tlb_machine.specs.rules.Lists.{any}
 use Rattle.bbm_tlb_machine.specs.rules.Places.{page_of}
 use Rattle.bbm_tlb_machine.specs.rules.Prelude.{Heading, Event, Write, start_of}
 use Rattle.bbm_tlb_machine.specs.rules.Tags.{reads}
-use Rattle.bbm_tlb_machine.specs.rules.Tree.{Above, Node, node_of}
+use Rattle.bbm_tlb_machine.specs.rules.Tree.{Node, node_of}
 use Rattle.bbm_tlb_machine.specs.rules.Values.{is_readable}
 use Rattle.bbm_tlb_machine.specs.Entry.{Entry, Part, parts_of, tag_of_entry}
 use Rattle.bbm_tlb_machine.specs.Invariant.{Begins, Chained, Fine}
 use Rattle.bbm_tlb_machine.specs.Safe.{IsLog, conflicts_with, is_stale}
 use Rattle.bbm_tlb_machine.specs.Step.{combined, has_number, may_start}
 use Rattle.bbm_counterrun.specs.LeastList.{HasLeastReads}
-use Rattle.bbm_counterrun.specs.Plans.{Plan, Read, by_reads, reads_of}
+use Rattle.bbm_counterrun.specs.Plans.{Plan, Read, reads_of}
 use Rattle.bbm_counterrun.specs.Refused.{holds_leaf}
 use Rattle.bbm_counterrun.specs.Tested.{combined_by, first_events, is_plain, is_within, may_extend_by, may_walk, outlives, started_by, walked_by}
 use Rattle.bbm_counterrun.specs.Ways.{goal_at, least_reads, places_to, way_to}
 use Rattle.bbm_counterrun.proofs.LeastGoals.{HasLeast, HaveGoals, NotAbove, all_least, first_if_least}
 use Rattle.bbm_counterrun.proofs.PlainTest.{KeptAt, plain_is_kept}
-use Rattle.bbm_counterrun.proofs.Sights.{LikeReads, Sight, outlives_same, plan_same, sight_of, with_reads}
+use Rattle.bbm_counterrun.proofs.Sights.{LikeReads, Sight, outlives_same, plan_same, with_reads}
 use Rattle.bbm_counterrun.proofs.WayParts.{IsOnWay, WayLaws, first_goal, is_leaf_there, kind_stays, last_is_stale, node_at, on_way, parts_stay, pe_stays, places_above, read_places, walk_goals, walk_places}
 
 -- what is known of the entry that a walk leaves, where it is kept at the event

@@ -1,4 +1,5 @@
 mod CasesRuns
+mod FirstOfLeast
 mod Following
 mod LastStep
 mod LeastGoals

@@ -1,29 +1,29 @@
 -- The order of plans is a total one, for plans of one kind: none comes before itself, what comes before one that comes
 -- before a third comes before the third, and of two different ones one comes before the other.
-use Rattle.std.proofs.Common.{◌≡◌, ℕ, ◌<◌, ◌≤◌, arith, Bool, true, false, ◌&&◌, ◌||◌, ◌==◌, nat_lt, List, [], ◌∷◌, Option, Some, None, ◌⊎◌, inl, inr, refl, sym, ◌∙◌, ap, true≢false}
-use Rattle.std.proofs.lemmas.Bool.{and_from, and_parts, cases_order, eq-eqb, eqb-true, false_from_ne_true, le-ltb, lt-ltb, ltb-false, ltb-true, or_cases, or_left, or_parts, or_right}
+use Rattle.std.proofs.Common.{◌≡◌, ℕ, ◌<◌, arith, Bool, true, false, ◌&&◌, ◌||◌, ◌==◌, nat_lt, List, [], ◌∷◌, Option, Some, None, ◌⊎◌, inl, inr, refl, sym, ◌∙◌, ap, true≢false}
+use Rattle.std.proofs.lemmas.Bool.{and_from, and_parts, cases_order, eq-eqb, eqb-true, false_from_ne_true, le-ltb, lt-ltb, ltb-false, ltb-true, or_cases, or_left, or_right}
 use Rattle.bbm_tlb_machine.specs.rules.Prelude.{Kind}
 use Rattle.bbm_counterrun.specs.Plans.{Plan, Read, by_combine, by_number, by_reads, comes_before, reads_of}
 
 -- ---- numbers
 
-number_less : (m n : ℕ) (next : Bool) → m < n → by_number m n next ≡ true
+pub number_less : (m n : ℕ) (next : Bool) → m < n → by_number m n next ≡ true
 number_less m n next less = or_left (nat_lt m n) (m == n && next) (lt-ltb m n less)
 
-number_next : (m n : ℕ) (next : Bool) → m ≡ n → next ≡ true → by_number m n next ≡ true
+pub number_next : (m n : ℕ) (next : Bool) → m ≡ n → next ≡ true → by_number m n next ≡ true
 number_next m n next same e = or_right (nat_lt m n) (m == n && next) (and_from (m == n) next (eq-eqb m n same) e)
 
-number_cases : (m n : ℕ) (next : Bool) → by_number m n next ≡ true → (m < n) ⊎ ((m ≡ n) × (next ≡ true))
+pub number_cases : (m n : ℕ) (next : Bool) → by_number m n next ≡ true → (m < n) ⊎ ((m ≡ n) × (next ≡ true))
 number_cases m n next e = elim (or_cases (nat_lt m n) (m == n && next) e) [
   | inl less ↦ inl (ltb-true m n less)
   | inr same ↦ let a = and_parts (m == n) next same in inr (eqb-true m n a.0, a.1)
 ]
 
-number_itself : (m : ℕ) (next : Bool) → by_number m m next ≡ next
+pub number_itself : (m : ℕ) (next : Bool) → by_number m m next ≡ next
 number_itself m next =
     ap (λ b. b || (m == m && next)) (le-ltb m m (omega arith)) ∙ ap (λ b. false || (b && next)) (eq-eqb m m refl)
 
-number_then : (m n k : ℕ) (p q r : Bool) → by_number m n p ≡ true → by_number n k q ≡ true → (p ≡ true → q ≡ true → r ≡ true)
+pub number_then : (m n k : ℕ) (p q r : Bool) → by_number m n p ≡ true → by_number n k q ≡ true → (p ≡ true → q ≡ true → r ≡ true)
     → by_number m k r ≡ true
 number_then m n k p q r a b next = elim (number_cases m n p a) [
   | inl less ↦ elim (number_cases n k q b) [
@@ -37,7 +37,7 @@ number_then m n k p q r a b next = elim (number_cases m n p a) [
 ]
 
 -- where neither of two is before the other they are equal, and what comes next decides
-number_same : (m n : ℕ) (p q : Bool) → by_number m n p ≡ false → by_number n m q ≡ false
+pub number_same : (m n : ℕ) (p q : Bool) → by_number m n p ≡ false → by_number n m q ≡ false
     → (m ≡ n) × (p ≡ false) × (q ≡ false)
 number_same m n p q a b = elim (cases_order m n) [
   | inl same ↦ (
@@ -53,13 +53,13 @@ number_same m n p q a b = elim (cases_order m n) [
 
 -- ---- lists of reads
 
-reads_itself : (rs : List Read) (next : Bool) → by_reads rs rs next ≡ next
+pub reads_itself : (rs : List Read) (next : Bool) → by_reads rs rs next ≡ next
 reads_itself [] next = refl
 reads_itself (r ∷ rs) next =
     number_itself r.place (by_number r.value r.value (by_reads rs rs next))
     ∙ number_itself r.value (by_reads rs rs next) ∙ reads_itself rs next
 
-reads_then : (rs ss ts : List Read) (p q r : Bool) → by_reads rs ss p ≡ true → by_reads ss ts q ≡ true
+pub reads_then : (rs ss ts : List Read) (p q r : Bool) → by_reads rs ss p ≡ true → by_reads ss ts q ≡ true
     → (p ≡ true → q ≡ true → r ≡ true) → by_reads rs ts r ≡ true
 reads_then [] [] [] p q r a b next = next a b
 reads_then [] [] (t ∷ ts) p q r a b next = refl
@@ -76,7 +76,7 @@ reads_then (x ∷ rs) (s ∷ ss) (t ∷ ts) p q r a b next =
 abbrev with_place : ℕ → ℕ → Read
 with_place place value = record { place = place; value = value }
 
-reads_same : (rs ss : List Read) (p q : Bool) → by_reads rs ss p ≡ false → by_reads ss rs q ≡ false
+pub reads_same : (rs ss : List Read) (p q : Bool) → by_reads rs ss p ≡ false → by_reads ss rs q ≡ false
     → (rs ≡ ss) × (p ≡ false) × (q ≡ false)
 reads_same [] [] p q a b = (refl, a, b)
 reads_same [] (s ∷ ss) p q a b = absurd (true≢false a)
@@ -93,11 +93,11 @@ reads_same (r ∷ rs) (s ∷ ss) p q a b =
 
 -- ---- combines
 
-combine_itself : (o : Option ℕ) → by_combine o o ≡ false
+pub combine_itself : (o : Option ℕ) → by_combine o o ≡ false
 combine_itself None = refl
 combine_itself (Some n) = le-ltb n n (omega arith)
 
-combine_then : (o p q : Option ℕ) → by_combine o p ≡ true → by_combine p q ≡ true → by_combine o q ≡ true
+pub combine_then : (o p q : Option ℕ) → by_combine o p ≡ true → by_combine p q ≡ true → by_combine o q ≡ true
 combine_then None None q a b = absurd (true≢false (sym a))
 combine_then None (Some n) None a b = absurd (true≢false (sym b))
 combine_then None (Some n) (Some k) a b = refl
@@ -108,7 +108,7 @@ combine_then (Some m) (Some n) (Some k) a b =
     let more = ltb-true n k b in
     lt-ltb m k (omega (arith, less, more))
 
-combine_same : (o p : Option ℕ) → by_combine o p ≡ false → by_combine p o ≡ false → o ≡ p
+pub combine_same : (o p : Option ℕ) → by_combine o p ≡ false → by_combine p o ≡ false → o ≡ p
 combine_same None None a b = refl
 combine_same None (Some n) a b = absurd (true≢false a)
 combine_same (Some m) None a b = absurd (true≢false b)

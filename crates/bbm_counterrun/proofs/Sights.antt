@@ -1,5 +1,5 @@
 -- What is seen of an entry: walks that read values which mean the same at the same places can't be told apart by it.
-use Rattle.std.proofs.Common.{◌≡◌, ℕ, suc, ◌+◌, ◌-◌, ◌*◌, Bool, true, false, ◌&&◌, ◌||◌, not, nat_le, nat_lt, List, [], ◌∷◌, length, Option, Some, None, refl, sym, ◌∙◌, ap}
+use Rattle.std.proofs.Common.{◌≡◌, ℕ, suc, ◌+◌, ◌-◌, ◌*◌, Bool, true, ◌&&◌, ◌||◌, not, nat_le, nat_lt, List, [], ◌∷◌, length, Option, Some, None, refl, sym, ◌∙◌, ap}
 use Rattle.std.proofs.lemmas.Bool.{and_from, and_parts}
 use Rattle.bbm_histories.specs.regimes.declared.regime.Kind.{Kind}
 use Rattle.bbm_histories.specs.descriptor.Descriptor.{desc_of, is_valid}
@@ -22,7 +22,7 @@ use Rattle.bbm_tlb_machine.specs.rules.Values.{is_readable}
 use Rattle.bbm_tlb_machine.specs.Entry.{Entry, age_by, desc_in, is_leaf}
 use Rattle.bbm_tlb_machine.specs.Step.{combined, extended, has_number, is_older, is_stage2, may_extend, may_start, must_go, started, takes, takes_by}
 use Rattle.bbm_counterrun.specs.Plans.{Plan, Read}
-use Rattle.bbm_counterrun.specs.Tested.{combined_by, extended_by, forbids, is_forbidden, may_extend_by, may_walk, outlives, started_by, walked_by}
+use Rattle.bbm_counterrun.specs.Tested.{extended_by, forbids, is_forbidden, may_extend_by, may_walk, outlives, started_by, walked_by}
 
 -- all of an entry but the value of its last part, which it has by its meaning alone, and the parts above
 pub record Sight : Type 0 where

@@ -1,5 +1,5 @@
 -- The parts of an entry that conflicts with a write over a leaf stand on the way to the place of the write.
-use Rattle.std.proofs.Common.{◌≡◌, ℕ, suc, ◌+◌, ◌<◌, arith, Bool, true, false, ◌&&◌, ◌||◌, ◌==◌, List, [], ◌∷◌, ◌++◌, length, map, filter_map, reverse, Option, Some, None, unwrap_or, Contains, inl, inr, refl, sym, ◌∙◌, ap, subst, true≢false}
+use Rattle.std.proofs.Common.{◌≡◌, ℕ, suc, ◌+◌, arith, Bool, true, false, ◌&&◌, ◌||◌, ◌==◌, List, [], ◌∷◌, ◌++◌, length, map, reverse, Option, Some, None, unwrap_or, Contains, inl, inr, refl, sym, ◌∙◌, ap, true≢false}
 use Rattle.std.proofs.lemmas.Bool.{and_parts, eqb-true, or_cases}
 use Rattle.std.proofs.lemmas.List.{append_assoc, reverse-append}
 use Rattle.bbm_lists.specs.Elements.{In}
@@ -29,7 +29,7 @@ use Rattle.bbm_tlb_machine.specs.Step.{extended, may_extend}
 use Rattle.bbm_counterrun.specs.Plans.{Read}
 use Rattle.bbm_counterrun.specs.Refused.{holds_leaf, leaf_among, leaf_in}
 use Rattle.bbm_counterrun.specs.Tested.{extended_by, may_extend_by}
-use Rattle.bbm_counterrun.specs.Ways.{Goal, goal_at, places_to}
+use Rattle.bbm_counterrun.specs.Ways.{Goal, goal_at}
 use Rattle.bbm_counterrun.proofs.Following.{StepLaw}
 use Rattle.bbm_counterrun.proofs.LeastGoals.{CoreLaw, HaveGoals, means_same}
 
