@@ -1,4 +1,5 @@
 mod CasesRuns
+mod CasesWays
 mod FirstOfLeast
 mod Following
 mod LastStep
