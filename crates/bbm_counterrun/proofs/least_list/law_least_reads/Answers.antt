@@ -11,5 +11,5 @@ returns c heading = least_list heading (record {
   tree_below = c.law_tree.ensures.below heading Patterns;
   root_nodes = c.law_root_pages.ensures.fields heading;
   first_node = c.law_one_node.ensures.the_first heading Patterns;
-  fine = c.law_fine.ensures heading Patterns;
+  fine = c.law_fine.ensures.fine heading Patterns;
 })
