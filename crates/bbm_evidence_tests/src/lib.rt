@@ -3,6 +3,4 @@
 #![tactic(auto)]
 
 #[cfg(test)]
-mod certificates;
-#[cfg(test)]
 mod idle;

@@ -7,7 +7,6 @@ pub mod Stages
 pub mod ReadBytes
 pub mod Judgements
 pub mod RunLines
-pub mod GeneratedLogs
 pub mod ShownLogs
 pub mod Served
 pub mod Selftests

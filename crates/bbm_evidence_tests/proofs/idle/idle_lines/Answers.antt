@@ -20,4 +20,7 @@ every_reverse {A} test (x ∷ xs) =
     ∙ both (test x) (list_all test xs)
 
 pub find-requires : goal.find-requires
-find-requires c = every_reverse (fits_heading c.in_ok-header.header) c.in_ok-events.events.items ∙ c.in_ok-events.ensures
+find-requires c = record {
+  fit = rw c.deref.ensures.value
+      (every_reverse (fits_heading c.in_ok-header.header) c.in_ok-events.events.items ∙ c.in_ok-events.ensures);
+}
