@@ -75,6 +75,6 @@ fn names_the_idle_events(rt: HostRuntime) -> Result<(), Fail> {
 fn keeps_the_limit_of_idle(rt: HostRuntime) -> Result<(), Fail> {
     let bytes = log(rt.alloc(), HEADER, b"isb 0\n", 2001, b"end 2001\n")?;
     let (_, sink) = judged_by(rt.alloc(), "idle", bytes)?;
-    assert_eq!(rt; sink.bytes(), b"limit line 2002 events\n");
+    assert_eq!(rt; sink.bytes(), b"limit line 2002 events\n".as_slice());
     Ok(())
 }
