@@ -1,0 +1,2 @@
+pub mod Reading
+pub use Rattle.bbm_cert.specs as cert

@@ -1,0 +1,16 @@
+//! A log and right behind it its certificate, line by line: which events and claims they are, and what the claims alone
+//! make of the log.
+#![tactic(auto)]
+
+pub mod judging;
+pub mod kept;
+pub mod laws;
+mod taking;
+pub mod turn;
+
+pub use bbm_cert as cert;
+pub use judging::judge_kept;
+pub use kept::{Kept, Part};
+pub use laws::law_read_whole;
+pub use taking::take_line;
+pub use turn::{LineFault, Turn};
