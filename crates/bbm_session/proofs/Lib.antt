@@ -10,3 +10,4 @@ pub mod RunLines
 pub mod ShownLogs
 pub mod Served
 pub mod Selftests
+pub mod GeneratedLogs

@@ -8,6 +8,7 @@ mod following;
 mod generating;
 mod judgement;
 mod judging;
+pub mod laws;
 mod line;
 mod obeying;
 mod reading;
@@ -21,5 +22,6 @@ mod top;
 
 pub use bbm_io as io;
 pub use command::{Command, Evidence, Request};
+pub use laws::law_generated_is_accepted;
 pub use status::{Status, number};
 pub use top::run;

@@ -1,0 +1,117 @@
+-- The text of a generated log: each line is read as what was written, and the log is accepted.
+use Rattle.std.proofs.Common.{◌≡◌, ℕ, zero, suc, ◌+◌, ◌<◌, ◌≤◌, ◌==◌, nat_le, true, false, List, [], ◌∷◌, ◌++◌, length, None, Ok, refl, ap, sym, ◌∙◌, subst, arith, append_assoc}
+use Rattle.std.proofs.lemmas.Bool.Decides.{nat_tests}
+use Rattle.bbm_io.specs.Flow.{plain}
+use Rattle.bbm_gen.specs.Generated.{heading, event_at, log_of}
+use Rattle.bbm_report.specs.events.Fits.{fits_heading, item_fits}
+use Rattle.bbm_report.specs.events.Lines.{header_line, header_of, item_line, item_of}
+use Rattle.bbm_report.specs.events.Spelling.{is_plain}
+use Rattle.bbm_report.specs.events.declared.event.Item.{Item}
+use Rattle.bbm_report.specs.events.declared.event.Item.TheVariants.{Event, End}
+use Rattle.bbm_report.specs.rules.Broken.{broken}
+use Rattle.bbm_report.specs.rules.Claims.{Patterns}
+use Rattle.bbm_report.specs.rules.Limits.{limit_of}
+use Rattle.bbm_report.specs.rules.Outcome.{AtHeader, AtEvents, AtEnd, Outcome, Progress, check_limits, outcome_of}
+use Rattle.bbm_report.specs.rules.declared.verdict.Verdict.TheVariants.{Accepted}
+use Rattle.bbm_session.specs.Fold.{Ending, Fold, Passes, alone, end_by, ending_at}
+use Rattle.bbm_session.specs.Folds.{Judged, judged_at, judging}
+use Rattle.bbm_session.specs.Generating.{gen_begin, gen_text}
+use Rattle.bbm_session.proofs.Judgements.{outcome_said, outcome-said}
+use Rattle.bbm_session.proofs.Stages.{ending-line}
+
+-- what the crates below say of the events of a generated log, and of written lines
+pub record Facts (n count : ℕ) : Type 0 where
+  pub unbroken : (i : ℕ) → i < count → broken heading Patterns (log_of n i) (event_at n i) ≡ None
+  pub fits : (i : ℕ) → i < count → fits_heading heading (event_at n i) ≡ true
+  pub limits : (i : ℕ) → i < count → limit_of (log_of n i) (event_at n i) ≡ None
+  pub header_plain : is_plain (header_line heading) ≡ true
+  pub header_short : length (header_line heading) ≤ 200
+  pub header_read : header_of (header_line heading) ≡ Ok heading
+  pub item_plain : (item : Item) → item_fits heading item ≡ true → is_plain (item_line item) ≡ true
+  pub item_short : (item : Item) → item_fits heading item ≡ true → length (item_line item) ≤ 200
+  pub item_read : (item : Item) → item_fits heading item ≡ true → item_of heading (item_line item) ≡ Ok item
+
+plain_is : (line : List ℕ) → plain line ≡ is_plain line
+plain_is [] = refl
+plain_is (byte ∷ bytes) = rw (plain_is bytes) refl
+
+log_length : (n i : ℕ) → length (log_of n i) ≡ i
+log_length n zero = refl
+log_length n (suc i) = ap suc (log_length n i)
+
+module _ (n count : ℕ) (few : count ≤ 4294967293) (facts : Facts n count) where
+  abbrev fold : Fold Progress Judged
+  fold = judging true check_limits
+
+  -- the text behind the first events
+  abbrev rest : ℕ → ℕ → List ℕ
+  rest i zero = item_line (End count) ++ 10 ∷ []
+  rest i (suc k) = item_line (Event (event_at n i) None) ++ 10 ∷ rest (suc i) k
+
+  begins : (i k : ℕ) → i + k ≡ count → gen_begin n i ++ rest i k ≡ gen_text n count
+  unfolding gen_begin
+  begins i zero is =
+      let same : i ≡ count = omega (arith, is) in
+      ap (λ (j : ℕ). gen_begin n j ++ (item_line (End count) ++ 10 ∷ [])) same
+  begins i (suc k) is =
+      let line = item_line (Event (event_at n i) None) in
+      sym (append_assoc (gen_begin n i) (line ++ 10 ∷ []) (rest (suc i) k) ∙ ap (λ (text : List ℕ). gen_begin n i ++ text) (append_assoc line (10 ∷ []) (rest (suc i) k)))
+      ∙ begins (suc i) k (omega (arith, is))
+
+  abbrev item : ℕ → Item
+  item i = Event (event_at n i) None
+
+  item_ok : (i : ℕ) → i < count → item_fits heading (item i) ≡ true
+  item_ok i below = rw (facts.fits i below) refl
+
+  end_ok : item_fits heading (End count) ≡ true
+  end_ok = grind (arith, nat_tests, few)
+
+  event_line : (i : ℕ) → i < count
+      → fold.line (i + 2) (AtEvents heading (log_of n i)) (item_line (item i)) ≡ Passes (AtEvents heading (log_of n (suc i)))
+  event_line i below =
+      let low : nat_le 4294967295 (i + 2) ≡ false = grind (arith, nat_tests, few, below) in
+      rw (facts.item_read (item i) (item_ok i below), facts.unbroken i below, facts.limits i below, low) refl
+
+  end_line : fold.line (count + 2) (AtEvents heading (log_of n count)) (item_line (End count)) ≡ Passes (AtEnd (log_of n count))
+  end_line =
+      let all = log_length n count in
+      let same : (count == length (log_of n count)) ≡ true = grind (arith, nat_tests, all) in
+      rw (facts.item_read (End count) end_ok, same) refl
+
+  abbrev done : Ending Judged
+  done = record { says = judged_at (AtEnd (log_of n count)) (alone (Accepted count)); unread = [] }
+
+  at_end : ending_at fold (count + 2) (AtEvents heading (log_of n count)) (item_line (End count) ++ 10 ∷ []) ≡ done
+  unfolding end_by
+  at_end =
+      ending-line fold (count + 2) (AtEvents heading (log_of n count)) (item_line (End count)) []
+      (plain_is (item_line (End count)) ∙ facts.item_plain (End count) end_ok) (facts.item_short (End count) end_ok)
+      ∙ rw end_line (ap (λ (events : ℕ). record { says = judged_at (AtEnd (log_of n count)) (alone (Accepted events)); unread = [] }) (log_length n count))
+
+  read_rest : (i k : ℕ) → i + k ≡ count → ending_at fold (i + 2) (AtEvents heading (log_of n i)) (rest i k) ≡ done
+  read_rest i zero is =
+      let same : count ≡ i = omega (arith, is) in
+      subst (λ (j : ℕ). ending_at fold (j + 2) (AtEvents heading (log_of n j)) (item_line (End count) ++ 10 ∷ []) ≡ done) same at_end
+  read_rest i (suc k) is =
+      let below : i < count = omega (arith, is) in
+      let next : suc i + 2 ≡ suc (i + 2) = omega arith in
+      let line = item_line (item i) in
+      ending-line fold (i + 2) (AtEvents heading (log_of n i)) line (rest (suc i) k)
+      (plain_is line ∙ facts.item_plain (item i) (item_ok i below)) (facts.item_short (item i) (item_ok i below))
+      ∙ rw (event_line i below) (subst (λ (m : ℕ). ending_at fold m (AtEvents heading (log_of n (suc i))) (rest (suc i) k) ≡ done)
+      next (read_rest (suc i) k (omega (arith, is))))
+
+  whole_text : header_line heading ++ 10 ∷ rest 0 count ≡ gen_text n count
+  unfolding gen_begin
+  whole_text = sym (append_assoc (header_line heading) (10 ∷ []) (rest 0 count)) ∙ begins 0 count (omega arith)
+
+  read_whole : ending_at fold 1 AtHeader (gen_text n count) ≡ done
+  read_whole =
+      ap (ending_at fold 1 AtHeader) (sym whole_text)
+      ∙ ending-line fold 1 AtHeader (header_line heading) (rest 0 count) (plain_is (header_line heading) ∙ facts.header_plain) facts.header_short
+      ∙ rw facts.header_read (read_rest 0 count (omega arith))
+
+  pub accepted : outcome_of Patterns check_limits (gen_text n count)
+      ≡ record { verdict = Accepted count; unread = []; log = log_of n count }
+  accepted = outcome-said true check_limits (gen_text n count) ∙ ap outcome_said read_whole

@@ -1,0 +1,29 @@
+use Rattle.std.proofs.Common.{◌++◌, length, refl, sym, ap}
+use Rattle.bbm_gen.specs.Generated.{heading}
+use Rattle.bbm_report.specs.rules.Claims.{Patterns}
+use Rattle.bbm_report.specs.rules.Outcome.{Outcome}
+use Rattle.bbm_report.specs.rules.Pages.{initialised}
+use Rattle.bbm_report.specs.rules.Phases.{restless_of}
+use Rattle.bbm_report.specs.rules.Texts.{verdict_text}
+use Rattle.bbm_session.specs.Generating.{counts_text, selftest_text}
+use Rattle.bbm_session.proofs.GeneratedLogs.{Facts, accepted}
+use Rattle.bbm_session.proofs.laws.law_generated_is_accepted.Goals as goal
+
+pub returns-clause-accepted : goal.returns-clause-accepted
+returns-clause-accepted c = accepted c.args.n c.args.count c.requires.lines (record {
+  unbroken = c.law_gen.ensures.unbroken;
+  fits = c.law_gen.ensures.fits;
+  limits = c.law_gen.ensures.limits;
+  header_plain = c.law_written_is_a_line.ensures.header_plain heading;
+  header_short = c.law_written_is_a_line.ensures.header_short heading refl;
+  header_read = c.law_written_is_read.ensures.header heading refl;
+  item_plain = c.law_written_is_a_line.ensures.item_plain heading;
+  item_short = λ item. c.law_written_is_a_line.ensures.item_short heading item refl;
+  item_read = λ item. c.law_written_is_read.ensures.item heading item refl;
+})
+
+pub returns-clause-selftest : goal.returns-clause-selftest
+unfolding selftest_text
+returns-clause-selftest c =
+    ap (λ (o : Outcome). verdict_text o.verdict ++ counts_text (length (initialised o.log)) (restless_of heading Patterns o.log))
+    (sym (returns-clause-accepted c))
