@@ -2,18 +2,18 @@
 use Rattle.std.specs.Option.{option_map_or}
 use Rattle.std.proofs.Common.{◌≡◌, ℕ, ◌<◌, Bool, false, not, ◌&&◌, cond, List, Option, Some, None, count_by, is_some, refl, sym, ◌∙◌, ap}
 use Rattle.std.proofs.Math.Path.{fun_ext}
-use Rattle.bbm_histories.specs.descriptor.Descriptor.{is_valid}
-use Rattle.bbm_histories.specs.rules.declared.phase.Phase.{Phase}
-use Rattle.bbm_histories.specs.rules.declared.phase.Phase.TheVariants.{Live}
-use Rattle.bbm_histories.specs.rules.Claims.{Trust}
-use Rattle.bbm_histories.specs.rules.Covers.{noted}
-use Rattle.bbm_histories.specs.rules.Held.{last_valid}
-use Rattle.bbm_histories.specs.rules.Notes.{Noted, events_of}
-use Rattle.bbm_histories.specs.rules.Phases.{broken_phase, is_restless, phase_of, restless_of}
-use Rattle.bbm_histories.specs.rules.Places.{page_of}
-use Rattle.bbm_histories.specs.rules.Prelude.{Heading, Event}
-use Rattle.bbm_histories.specs.rules.Tree.{Node, held_at, node_of}
-use Rattle.bbm_histories.specs.rules.Values.{value_of, written_places}
+use Rattle.bbm_descriptor.specs.Descriptor.{is_valid}
+use Rattle.bbm_rules.specs.declared.phase.Phase.{Phase}
+use Rattle.bbm_rules.specs.declared.phase.Phase.TheVariants.{Live}
+use Rattle.bbm_rules.specs.Claims.{Trust}
+use Rattle.bbm_rules.specs.Covers.{noted}
+use Rattle.bbm_rules.specs.Held.{last_valid}
+use Rattle.bbm_rules.specs.Notes.{Noted, events_of}
+use Rattle.bbm_rules.specs.Phases.{broken_phase, is_restless, phase_of, restless_of}
+use Rattle.bbm_rules.specs.Places.{page_of}
+use Rattle.bbm_rules.specs.Prelude.{Heading, Event}
+use Rattle.bbm_rules.specs.Tree.{Node, held_at, node_of}
+use Rattle.bbm_rules.specs.Values.{value_of, written_places}
 use Rattle.bbm_alike.specs.Alike.{Alike, SamePatterns}
 use Rattle.bbm_alike.specs.Known.{Known}
 use Rattle.bbm_alike.proofs.CoverAlike.{held_alike, node_alike, values_alike}

@@ -1,10 +1,10 @@
 -- After the same event, histories that are alike are so still.
 use Rattle.std.proofs.Common.{◌≡◌, ℕ, ◌<◌, true, List, ◌∷◌}
-use Rattle.bbm_histories.specs.rules.Prelude.{Heading, Event}
-use Rattle.bbm_histories.specs.rules.Broken.{keeps}
-use Rattle.bbm_histories.specs.rules.Claims.{Trust}
-use Rattle.bbm_histories.specs.rules.Roots.{roots_of}
-use Rattle.bbm_histories.specs.rules.Values.{value_of, written_places}
+use Rattle.bbm_rules.specs.Prelude.{Heading, Event}
+use Rattle.bbm_rules.specs.Broken.{keeps}
+use Rattle.bbm_rules.specs.Claims.{Trust}
+use Rattle.bbm_rules.specs.Roots.{roots_of}
+use Rattle.bbm_rules.specs.Values.{value_of, written_places}
 use Rattle.bbm_alike.specs.Alike.{Alike, TakesAlike}
 use Rattle.bbm_alike.specs.Known.{Known}
 use Rattle.bbm_alike.specs.SameTags.{SameTags}

@@ -1,21 +1,21 @@
 -- In histories that are alike, a TLBI covers each place as far.
 use Rattle.std.proofs.Common.{◌≡◌, ℕ, suc, Bool, List, Option, Some, None, filter, is_some, option_and_then, unwrap_or, Contains, refl, sym, ◌∙◌, ap}
-use Rattle.bbm_histories.specs.descriptor.Descriptor.{desc_of}
-use Rattle.bbm_histories.specs.tlbi_scope.Covers.{cover_of}
-use Rattle.bbm_histories.specs.tlbi_scope.declared.entry.Cover.{Cover}
-use Rattle.bbm_histories.specs.tlbi_scope.declared.entry.Cover.TheVariants.{None as NoCover}
-use Rattle.bbm_histories.specs.tlbi_scope.declared.entry.PlaceView.{PlaceView}
-use Rattle.bbm_histories.specs.tlbi_scope.declared.entry.TagSet.{TagSet}
-use Rattle.bbm_histories.specs.rules.Prelude.{Heading, Event, Tlbi, Tag, Scope}
-use Rattle.bbm_histories.specs.rules.Claims.{Trust}
-use Rattle.bbm_histories.specs.rules.Covers.{cover_at, is_global, noted, view_at}
-use Rattle.bbm_histories.specs.rules.Held.{held}
-use Rattle.bbm_histories.specs.rules.Notes.{Noted, events_of}
-use Rattle.bbm_histories.specs.rules.Places.{page_of}
-use Rattle.bbm_histories.specs.rules.Registers.{named_scope, vmid_of}
-use Rattle.bbm_histories.specs.rules.Tags.{distinct, ever_read, holds_at, holds_tag, tag_set, tags_of}
-use Rattle.bbm_histories.specs.rules.Tree.{Node, held_at, in_tree, is_childless, next_of, node_below, node_of, region_of, tree}
-use Rattle.bbm_histories.specs.rules.Values.{value_of}
+use Rattle.bbm_descriptor.specs.Descriptor.{desc_of}
+use Rattle.bbm_tlbi_scope.specs.Covers.{cover_of}
+use Rattle.bbm_tlbi_scope.specs.declared.entry.Cover.{Cover}
+use Rattle.bbm_tlbi_scope.specs.declared.entry.Cover.TheVariants.{None as NoCover}
+use Rattle.bbm_tlbi_scope.specs.declared.entry.PlaceView.{PlaceView}
+use Rattle.bbm_tlbi_scope.specs.declared.entry.TagSet.{TagSet}
+use Rattle.bbm_rules.specs.Prelude.{Heading, Event, Tlbi, Tag, Scope}
+use Rattle.bbm_rules.specs.Claims.{Trust}
+use Rattle.bbm_rules.specs.Covers.{cover_at, is_global, noted, view_at}
+use Rattle.bbm_rules.specs.Held.{held}
+use Rattle.bbm_rules.specs.Notes.{Noted, events_of}
+use Rattle.bbm_rules.specs.Places.{page_of}
+use Rattle.bbm_rules.specs.Registers.{named_scope, vmid_of}
+use Rattle.bbm_rules.specs.Tags.{distinct, ever_read, holds_at, holds_tag, tag_set, tags_of}
+use Rattle.bbm_rules.specs.Tree.{Node, held_at, in_tree, is_childless, next_of, node_below, node_of, region_of, tree}
+use Rattle.bbm_rules.specs.Values.{value_of}
 use Rattle.bbm_alike.specs.Alike.{Alike}
 use Rattle.bbm_alike.specs.Known.{Known}
 use Rattle.bbm_alike.proofs.ListsAlike.{same_filter, same_some_pe, same_truth}

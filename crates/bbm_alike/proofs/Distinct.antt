@@ -2,10 +2,10 @@
 use Rattle.std.proofs.Common.{◌≡◌, ◌↔◌, Bool, true, false, cond, ◌||◌, List, [], ◌∷◌, ◌++◌, refl, sym, ◌∙◌, ap, subst, inl, inr}
 use Rattle.bbm_lists.specs.Elements.{In}
 use Rattle.bbm_lists.proofs.Elements.{any_finds, any_found, in_right}
-use Rattle.bbm_histories.specs.rules.Claims.{same_tag}
-use Rattle.bbm_histories.specs.rules.Lists.{any}
-use Rattle.bbm_histories.specs.rules.Prelude.{Tag}
-use Rattle.bbm_histories.specs.rules.Tags.{distinct}
+use Rattle.bbm_rules.specs.Claims.{same_tag}
+use Rattle.bbm_rules.specs.Lists.{any}
+use Rattle.bbm_rules.specs.Prelude.{Tag}
+use Rattle.bbm_rules.specs.Tags.{distinct}
 
 module _ (equal : (g k : Tag) → (same_tag g k ≡ true) ↔ (g ≡ k)) where
   -- the list with each tag once has the same tags

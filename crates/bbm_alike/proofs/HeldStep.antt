@@ -2,15 +2,15 @@
 -- tree before and is so still.
 use Rattle.std.proofs.Common.{◌≡◌, ℕ, ◌<◌, ◌&&◌, Bool, true, false, cond, ◌==◌, List, [], ◌∷◌, Option, Some, None, is_some, option_and_then, Contains, refl, sym, ◌∙◌, ap, subst, true≢false}
 use Rattle.bbm_regimes.proofs.Every.{every_same, every_wider}
-use Rattle.bbm_histories.specs.descriptor.Descriptor.{is_valid}
-use Rattle.bbm_histories.specs.rules.Prelude.{Heading, Event, Init, Write, Dsb}
-use Rattle.bbm_histories.specs.rules.Claims.{Trust}
-use Rattle.bbm_histories.specs.rules.Cleansing.{cleansed}
-use Rattle.bbm_histories.specs.rules.Covers.{cover_at, note, noted}
-use Rattle.bbm_histories.specs.rules.Held.{ValidWrite, cleansed_everywhere, last_valid, last_valid_after, later}
-use Rattle.bbm_histories.specs.rules.Notes.{Noted}
-use Rattle.bbm_histories.specs.rules.Places.{page_of}
-use Rattle.bbm_histories.specs.rules.Tree.{Node, held_at, tree}
+use Rattle.bbm_descriptor.specs.Descriptor.{is_valid}
+use Rattle.bbm_rules.specs.Prelude.{Heading, Event, Init, Write, Dsb}
+use Rattle.bbm_rules.specs.Claims.{Trust}
+use Rattle.bbm_rules.specs.Cleansing.{cleansed}
+use Rattle.bbm_rules.specs.Covers.{cover_at, note, noted}
+use Rattle.bbm_rules.specs.Held.{ValidWrite, cleansed_everywhere, last_valid, last_valid_after, later}
+use Rattle.bbm_rules.specs.Notes.{Noted}
+use Rattle.bbm_rules.specs.Places.{page_of}
+use Rattle.bbm_rules.specs.Tree.{Node, held_at, tree}
 use Rattle.bbm_histories.specs.Steps.{held_after}
 use Rattle.bbm_alike.specs.Alike.{Alike, SamePatterns, TakesAlike}
 use Rattle.bbm_alike.specs.Known.{Known}

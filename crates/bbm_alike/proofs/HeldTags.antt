@@ -5,12 +5,12 @@ use Rattle.std.proofs.lemmas.Bool.{and_parts, cases_eq, le-leb, or_cases, or_lef
 use Rattle.std.proofs.lemmas.List.{length-append}
 use Rattle.bbm_lists.specs.Elements.{In}
 use Rattle.bbm_lists.proofs.Elements.{any_found, in_left, in_right, to_flat, to_filter_map}
-use Rattle.bbm_histories.specs.rules.Claims.{Trust, same_tag}
-use Rattle.bbm_histories.specs.rules.Lists.{any, below, if_so}
-use Rattle.bbm_histories.specs.rules.Prelude.{AsidFrom, FromTtbr0, FromTtbr1, World, Hyp, Kernel, Heading, Event, Tag}
-use Rattle.bbm_histories.specs.rules.Reach.{Issued, reaches}
-use Rattle.bbm_histories.specs.rules.Sentences.{Open}
-use Rattle.bbm_histories.specs.rules.Tags.{Reading, asid_readings, distinct, ever_read, holds_at, itself, loses, read_since, readings, readings_in, reads, reads_for_some, tag_for, takes_tag}
+use Rattle.bbm_rules.specs.Claims.{Trust, same_tag}
+use Rattle.bbm_rules.specs.Lists.{any, below, if_so}
+use Rattle.bbm_rules.specs.Prelude.{AsidFrom, FromTtbr0, FromTtbr1, World, Hyp, Kernel, Heading, Event, Tag}
+use Rattle.bbm_rules.specs.Reach.{Issued, reaches}
+use Rattle.bbm_rules.specs.Sentences.{Open}
+use Rattle.bbm_rules.specs.Tags.{Reading, asid_readings, distinct, ever_read, holds_at, itself, loses, read_since, readings, readings_in, reads, reads_for_some, tag_for, takes_tag}
 use Rattle.bbm_histories.specs.Steps.{takes}
 use Rattle.bbm_alike.proofs.Distinct.{distinct_keeps}
 use Rattle.bbm_alike.proofs.TagSteps.{held_before}

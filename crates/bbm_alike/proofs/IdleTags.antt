@@ -3,19 +3,19 @@ use Rattle.std.proofs.Common.{◌≡◌, ◌↔◌, ℕ, ◌<◌, Bool, true, fa
 use Rattle.std.proofs.lemmas.Bool.{and_from, and_parts, eqb-true, false_from_ne_true}
 use Rattle.bbm_lists.specs.Elements.{In}
 use Rattle.bbm_lists.proofs.Elements.{any_finds, any_found, in_left, is_none_of, to_contains}
-use Rattle.bbm_histories.specs.barriers.Options.{answers}
-use Rattle.bbm_histories.specs.descriptor.Descriptor.{same_bool}
-use Rattle.bbm_histories.specs.tlbi_scope.declared.op.TlbiOp.{TlbiOp}
-use Rattle.bbm_histories.specs.tlbi_scope.Operations.{operation}
-use Rattle.bbm_histories.specs.rules.Claims.{Trust, same_tag}
-use Rattle.bbm_histories.specs.rules.Claims.Trust.{Patterns}
-use Rattle.bbm_histories.specs.rules.Lists.{any, below}
-use Rattle.bbm_histories.specs.rules.Prelude.{Barrier, Heading, Event, Dmb, Dsb, Isb, Tlbi, Reg, Tag}
-use Rattle.bbm_histories.specs.rules.Reach.{Issued, completes, reaches, unanswered}
-use Rattle.bbm_histories.specs.rules.Registers.{register_values}
-use Rattle.bbm_histories.specs.rules.Roots.{Declared, is_at, is_root, roots_of, same_kind}
-use Rattle.bbm_histories.specs.rules.Sentences.{Open}
-use Rattle.bbm_histories.specs.rules.Tags.{Reading, distinct, ever_read, holds_at, holds_tag, itself, loses, readings, reads, reads_for_some, tag_for, takes_tag}
+use Rattle.bbm_barriers.specs.Options.{answers}
+use Rattle.bbm_descriptor.specs.Descriptor.{same_bool}
+use Rattle.bbm_tlbi_scope.specs.declared.op.TlbiOp.{TlbiOp}
+use Rattle.bbm_tlbi_scope.specs.Operations.{operation}
+use Rattle.bbm_rules.specs.Claims.{Trust, same_tag}
+use Rattle.bbm_rules.specs.Claims.Trust.{Patterns}
+use Rattle.bbm_rules.specs.Lists.{any, below}
+use Rattle.bbm_rules.specs.Prelude.{Barrier, Heading, Event, Dmb, Dsb, Isb, Tlbi, Reg, Tag}
+use Rattle.bbm_rules.specs.Reach.{Issued, completes, reaches, unanswered}
+use Rattle.bbm_rules.specs.Registers.{register_values}
+use Rattle.bbm_rules.specs.Roots.{Declared, is_at, is_root, roots_of, same_kind}
+use Rattle.bbm_rules.specs.Sentences.{Open}
+use Rattle.bbm_rules.specs.Tags.{Reading, distinct, ever_read, holds_at, holds_tag, itself, loses, readings, reads, reads_for_some, tag_for, takes_tag}
 use Rattle.bbm_histories.specs.Steps.{answered_by, is_tlbi, tag_waits, tag_waits_after, takes}
 use Rattle.bbm_histories.specs.Tags.{kind_of_tag}
 use Rattle.bbm_alike.specs.SameTags.{AnswersNone, SameTags, TakesNone}

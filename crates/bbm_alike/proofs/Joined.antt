@@ -1,12 +1,12 @@
 -- The relation holds of the start by any two trusts, of a history and itself, both ways, and through a third.
 use Rattle.std.proofs.Common.{[], true≢false, ◌≡◌, ℕ, true, false, List, Option, Some, None, is_some, Contains, refl, sym, ◌∙◌, ap, subst}
-use Rattle.bbm_histories.specs.rules.Prelude.{Heading, Event}
-use Rattle.bbm_histories.specs.rules.Claims.{Trust}
-use Rattle.bbm_histories.specs.rules.Covers.{noted}
-use Rattle.bbm_histories.specs.rules.Held.{ValidWrite, last_valid}
-use Rattle.bbm_histories.specs.rules.Notes.{Noted}
-use Rattle.bbm_histories.specs.rules.Places.{page_of}
-use Rattle.bbm_histories.specs.rules.Tree.{Node, held_at, tree}
+use Rattle.bbm_rules.specs.Prelude.{Heading, Event}
+use Rattle.bbm_rules.specs.Claims.{Trust}
+use Rattle.bbm_rules.specs.Covers.{noted}
+use Rattle.bbm_rules.specs.Held.{ValidWrite, last_valid}
+use Rattle.bbm_rules.specs.Notes.{Noted}
+use Rattle.bbm_rules.specs.Places.{page_of}
+use Rattle.bbm_rules.specs.Tree.{Node, held_at, tree}
 use Rattle.bbm_alike.specs.Alike.{Alike, SamePatterns}
 use Rattle.bbm_alike.proofs.HeldStep.{last_of}
 

@@ -1,7 +1,7 @@
 -- Lists and tests that are made alike.
 use Rattle.std.proofs.Common.{◌≡◌, ℕ, zero, suc, ◌<◌, ◌||◌, Bool, true, false, cond, List, [], ◌∷◌, Option, filter, filter_map, flat_map, refl, sym, ◌∙◌, ap, inl, inr, arith}
 use Rattle.bbm_lists.specs.Elements.{In}
-use Rattle.bbm_histories.specs.rules.Lists.{some_pe}
+use Rattle.bbm_rules.specs.Lists.{some_pe}
 
 pub same_flat : {A B : Type 0} (f g : A → List B) (xs : List A) → ((x : A) → In xs x → f x ≡ g x)
     → flat_map f xs ≡ flat_map g xs

@@ -1,14 +1,14 @@
 -- The rules on locks, registers and operands judge alike.
 use Rattle.std.proofs.Common.{◌≡◌, ℕ, Bool, List, refl, ap}
-use Rattle.bbm_histories.specs.rules.Claims.{Trust}
-use Rattle.bbm_histories.specs.rules.Lists.{if_so}
-use Rattle.bbm_histories.specs.rules.Locks.{holder_of}
-use Rattle.bbm_histories.specs.rules.Notes.{Noted, events_of}
-use Rattle.bbm_histories.specs.rules.Pages.{is_null}
-use Rattle.bbm_histories.specs.rules.Prelude.{Heading, Event, Null, Root, Unroot, Tlbi, Msr, Lock, Unlock, Reg}
-use Rattle.bbm_histories.specs.rules.Registers.{register_values}
-use Rattle.bbm_histories.specs.rules.Roots.{roots_of}
-use Rattle.bbm_histories.specs.rules.Rules.{bad_operand, lock_busy, lock_not_mine, no_root, unsynced_vmid, wrong_world}
+use Rattle.bbm_rules.specs.Claims.{Trust}
+use Rattle.bbm_rules.specs.Lists.{if_so}
+use Rattle.bbm_rules.specs.Locks.{holder_of}
+use Rattle.bbm_rules.specs.Notes.{Noted, events_of}
+use Rattle.bbm_rules.specs.Pages.{is_null}
+use Rattle.bbm_rules.specs.Prelude.{Heading, Event, Null, Root, Unroot, Tlbi, Msr, Lock, Unlock, Reg}
+use Rattle.bbm_rules.specs.Registers.{register_values}
+use Rattle.bbm_rules.specs.Roots.{roots_of}
+use Rattle.bbm_rules.specs.Rules.{bad_operand, lock_busy, lock_not_mine, no_root, unsynced_vmid, wrong_world}
 use Rattle.bbm_alike.proofs.ReadingsAlike.{lacks_alike}
 
 module _ (heading : Heading) (one other : Trust) (h h' : List Noted) where

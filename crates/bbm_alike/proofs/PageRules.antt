@@ -1,19 +1,19 @@
 -- The rules on pages that are attached, initialised, declared or written judge alike.
 use Rattle.std.proofs.Common.{◌≡◌, ℕ, Bool, not, ◌&&◌, List, ◌++◌, Option, Some, option_and_then, option_to_list, flat_map, refl, ◌∙◌, ap}
-use Rattle.bbm_histories.specs.descriptor.Descriptor.{desc_of}
-use Rattle.bbm_histories.specs.descriptor.declared.desc.Desc.{Desc}
-use Rattle.bbm_histories.specs.rules.Attach.{Attached, End, all_ends, attached_by, pages_of}
-use Rattle.bbm_histories.specs.rules.Claims.{Trust}
-use Rattle.bbm_histories.specs.rules.Covers.{is_global}
-use Rattle.bbm_histories.specs.rules.Lists.{if_so, least, repeated}
-use Rattle.bbm_histories.specs.rules.Notes.{Noted, events_of}
-use Rattle.bbm_histories.specs.rules.Pages.{is_fresh, is_null}
-use Rattle.bbm_histories.specs.rules.Places.{page_of}
-use Rattle.bbm_histories.specs.rules.Prelude.{Kind, Ttbr0, Heading, Event, Init, Null, Root, Write}
-use Rattle.bbm_histories.specs.rules.Roots.{root_pages, same_kind}
-use Rattle.bbm_histories.specs.rules.Rules.{attached_with, bad_ends, bad_kind, global_user, is_contiguous, judged_ends, made_with, not_fresh, page_in_use, places_with, unfresh, untracked_page, written_with}
-use Rattle.bbm_histories.specs.rules.Tree.{Node, held_at, node_of, tree}
-use Rattle.bbm_histories.specs.rules.Values.{value_of, written_places}
+use Rattle.bbm_descriptor.specs.Descriptor.{desc_of}
+use Rattle.bbm_descriptor.specs.declared.desc.Desc.{Desc}
+use Rattle.bbm_rules.specs.Attach.{Attached, End, all_ends, attached_by, pages_of}
+use Rattle.bbm_rules.specs.Claims.{Trust}
+use Rattle.bbm_rules.specs.Covers.{is_global}
+use Rattle.bbm_rules.specs.Lists.{if_so, least, repeated}
+use Rattle.bbm_rules.specs.Notes.{Noted, events_of}
+use Rattle.bbm_rules.specs.Pages.{is_fresh, is_null}
+use Rattle.bbm_rules.specs.Places.{page_of}
+use Rattle.bbm_rules.specs.Prelude.{Kind, Ttbr0, Heading, Event, Init, Null, Root, Write}
+use Rattle.bbm_rules.specs.Roots.{root_pages, same_kind}
+use Rattle.bbm_rules.specs.Rules.{attached_with, bad_ends, bad_kind, global_user, is_contiguous, judged_ends, made_with, not_fresh, page_in_use, places_with, unfresh, untracked_page, written_with}
+use Rattle.bbm_rules.specs.Tree.{Node, held_at, node_of, tree}
+use Rattle.bbm_rules.specs.Values.{value_of, written_places}
 use Rattle.bbm_alike.proofs.PartsAlike.{same_attached_by, same_node}
 use Rattle.bbm_alike.proofs.ListsAlike.{same_filter, same_flat}
 

@@ -1,14 +1,14 @@
 -- What the definitions say of two annotated histories is the same where that of which they are made is the same.
 use Rattle.std.proofs.Common.{◌≡◌, ℕ, zero, suc, ◌-◌, Bool, cond, ◌==◌, List, [], ◌∷◌, Option, Some, None, is_none, option_and_then, find, filter_map, flat_map, map, refl, ◌∙◌, ap}
-use Rattle.bbm_histories.specs.rules.Attach.{Attached, End, attached_by, attached_from, end_at, ends_below}
-use Rattle.bbm_histories.specs.rules.Claims.{Trust}
-use Rattle.bbm_histories.specs.rules.Notes.{Noted, events_of}
-use Rattle.bbm_histories.specs.rules.Pages.{is_fresh}
-use Rattle.bbm_histories.specs.rules.Places.{page_of}
-use Rattle.bbm_histories.specs.rules.Prelude.{Kind, Heading, Event, Root, Write}
-use Rattle.bbm_histories.specs.rules.Roots.{root_pages, start_of}
-use Rattle.bbm_histories.specs.rules.Tree.{Node, held_at, in_limbo, next_of, node_of, tree}
-use Rattle.bbm_histories.specs.rules.Values.{places_in, value_of, written_places}
+use Rattle.bbm_rules.specs.Attach.{Attached, End, attached_by, attached_from, end_at, ends_below}
+use Rattle.bbm_rules.specs.Claims.{Trust}
+use Rattle.bbm_rules.specs.Notes.{Noted, events_of}
+use Rattle.bbm_rules.specs.Pages.{is_fresh}
+use Rattle.bbm_rules.specs.Places.{page_of}
+use Rattle.bbm_rules.specs.Prelude.{Kind, Heading, Event, Root, Write}
+use Rattle.bbm_rules.specs.Roots.{root_pages, start_of}
+use Rattle.bbm_rules.specs.Tree.{Node, held_at, in_limbo, next_of, node_of, tree}
+use Rattle.bbm_rules.specs.Values.{places_in, value_of, written_places}
 use Rattle.bbm_alike.proofs.ListsAlike.{same_flat}
 use Rattle.bbm_alike.proofs.SameThen.{same_then}
 

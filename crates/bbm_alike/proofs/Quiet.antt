@@ -2,16 +2,16 @@
 use Rattle.std.proofs.Common.{◌≡◌, ℕ, ◌&&◌, Bool, true, false, cond, ◌==◌, List, [], ◌∷◌, ◌++◌, refl, sym, ◌∙◌, ap, true≢false, inl, inr}
 use Rattle.std.proofs.Math.Bool.{and-false}
 use Rattle.std.proofs.lemmas.Bool.{and_right, eqb-true, false_from_ne_true, or_from, or_parts}
-use Rattle.bbm_histories.specs.barriers.Options.{answers}
-use Rattle.bbm_histories.specs.tlbi_scope.declared.entry.Cover.{Cover}
-use Rattle.bbm_histories.specs.tlbi_scope.declared.entry.Cover.TheVariants.{Half, Second, Full}
-use Rattle.bbm_histories.specs.rules.Prelude.{Heading, Event, Write, Dsb, Tlbi}
-use Rattle.bbm_histories.specs.rules.Claims.{Trust}
-use Rattle.bbm_histories.specs.rules.Cleansing.{cleansed, flushes, half, same_cover, seen, writes}
-use Rattle.bbm_histories.specs.rules.Notes.{Noted, event_of}
-use Rattle.bbm_histories.specs.rules.PatternSentences.{Cleansed, Flush, IsHalf}
-use Rattle.bbm_histories.specs.rules.Reach.{Issued, reaches}
-use Rattle.bbm_histories.specs.rules.Values.{publishes_to}
+use Rattle.bbm_barriers.specs.Options.{answers}
+use Rattle.bbm_tlbi_scope.specs.declared.entry.Cover.{Cover}
+use Rattle.bbm_tlbi_scope.specs.declared.entry.Cover.TheVariants.{Half, Second, Full}
+use Rattle.bbm_rules.specs.Prelude.{Heading, Event, Write, Dsb, Tlbi}
+use Rattle.bbm_rules.specs.Claims.{Trust}
+use Rattle.bbm_rules.specs.Cleansing.{cleansed, flushes, half, same_cover, seen, writes}
+use Rattle.bbm_rules.specs.Notes.{Noted, event_of}
+use Rattle.bbm_rules.specs.PatternSentences.{Cleansed, Flush, IsHalf}
+use Rattle.bbm_rules.specs.Reach.{Issued, reaches}
+use Rattle.bbm_rules.specs.Values.{publishes_to}
 use Rattle.bbm_histories.specs.Steps.{full_waits, half_waits, is_tlbi, second_waits, seen_after, waits, waits_after, wrote}
 use Rattle.bbm_alike.specs.Alike.{SamePatterns}
 use Rattle.bbm_alike.specs.Known.{Known}

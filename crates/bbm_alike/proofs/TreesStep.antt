@@ -1,17 +1,17 @@
 -- The trees after an event, which pages are fresh, and what places hold, in histories that are alike.
 use Rattle.std.proofs.Common.{◌≡◌, ℕ, ◌<◌, ◌&&◌, not, Bool, true, false, cond, List, [], ◌∷◌, Option, Some, None, is_some, find, Contains, ◌++◌, ◌==◌, refl, sym, ◌∙◌, ap, inl, inr}
-use Rattle.bbm_histories.specs.descriptor.Descriptor.{is_valid}
-use Rattle.bbm_histories.specs.rules.Prelude.{Heading, Event, Root, Write}
-use Rattle.bbm_histories.specs.rules.Broken.{keeps}
-use Rattle.bbm_histories.specs.rules.Claims.{Trust}
-use Rattle.bbm_histories.specs.rules.Covers.{noted}
-use Rattle.bbm_histories.specs.rules.Held.{ValidWrite, last_valid}
-use Rattle.bbm_histories.specs.rules.Notes.{Noted, events_of}
-use Rattle.bbm_histories.specs.rules.Pages.{is_fresh, may_be_fresh}
-use Rattle.bbm_histories.specs.rules.Places.{page_of}
-use Rattle.bbm_histories.specs.rules.Roots.{roots_of}
-use Rattle.bbm_histories.specs.rules.Tree.{Node, held_at, in_tree, next_of, node_below, tree}
-use Rattle.bbm_histories.specs.rules.Values.{value_of, written_places}
+use Rattle.bbm_descriptor.specs.Descriptor.{is_valid}
+use Rattle.bbm_rules.specs.Prelude.{Heading, Event, Root, Write}
+use Rattle.bbm_rules.specs.Broken.{keeps}
+use Rattle.bbm_rules.specs.Claims.{Trust}
+use Rattle.bbm_rules.specs.Covers.{noted}
+use Rattle.bbm_rules.specs.Held.{ValidWrite, last_valid}
+use Rattle.bbm_rules.specs.Notes.{Noted, events_of}
+use Rattle.bbm_rules.specs.Pages.{is_fresh, may_be_fresh}
+use Rattle.bbm_rules.specs.Places.{page_of}
+use Rattle.bbm_rules.specs.Roots.{roots_of}
+use Rattle.bbm_rules.specs.Tree.{Node, held_at, in_tree, next_of, node_below, tree}
+use Rattle.bbm_rules.specs.Values.{value_of, written_places}
 use Rattle.bbm_histories.specs.Tree.{Attaches, Through}
 use Rattle.bbm_histories.specs.Values.{HoldsPresent}
 use Rattle.bbm_alike.specs.Alike.{Alike, SamePatterns, TakesAlike}

@@ -1,24 +1,24 @@
 -- What the crates below prove, as one record, so that each proof here takes it as one hypothesis.
 use Rattle.std.specs.Prelude.{◌≡◌, ◌↔◌, ◌⊎◌, ℕ, suc, ◌<◌, Bool, true, not, ◌&&◌, List, ◌∷◌, ◌++◌, Some, None, Contains}
 use Rattle.std.specs.Prelude.{if◌then◌else◌}
-use Rattle.bbm_histories.specs.descriptor.Descriptor.{is_valid}
-use Rattle.bbm_histories.specs.rules.declared.phase.Phase.TheVariants.{Clean, Live}
-use Rattle.bbm_histories.specs.rules.Prelude.{Barrier, Kind, Tag, Heading, Event, Write, Dsb}
-use Rattle.bbm_histories.specs.rules.Broken.{keeps}
-use Rattle.bbm_histories.specs.rules.Claims.{Trust, same_tag}
-use Rattle.bbm_histories.specs.rules.Claims.Trust.{Patterns}
-use Rattle.bbm_histories.specs.rules.Cleansing.{cleansed, half, seen}
-use Rattle.bbm_histories.specs.rules.Covers.{noted}
-use Rattle.bbm_histories.specs.rules.Held.{ValidWrite, held, last_valid}
-use Rattle.bbm_histories.specs.rules.Notes.{Noted, event_of, events_of}
-use Rattle.bbm_histories.specs.rules.Pages.{is_fresh}
-use Rattle.bbm_histories.specs.rules.PatternSentences.{Cleansed, IsHalf, Seen}
-use Rattle.bbm_histories.specs.rules.Phases.{broken_phase, phase_of}
-use Rattle.bbm_histories.specs.rules.Places.{page_of}
-use Rattle.bbm_histories.specs.rules.Reach.{Issued}
-use Rattle.bbm_histories.specs.rules.Tags.{loses, reads_for_some}
-use Rattle.bbm_histories.specs.rules.Tree.{Node, held_at, is_childless, next_of, node_below, node_of, tree}
-use Rattle.bbm_histories.specs.rules.Values.{value_of}
+use Rattle.bbm_descriptor.specs.Descriptor.{is_valid}
+use Rattle.bbm_rules.specs.declared.phase.Phase.TheVariants.{Clean, Live}
+use Rattle.bbm_rules.specs.Prelude.{Barrier, Kind, Tag, Heading, Event, Write, Dsb}
+use Rattle.bbm_rules.specs.Broken.{keeps}
+use Rattle.bbm_rules.specs.Claims.{Trust, same_tag}
+use Rattle.bbm_rules.specs.Claims.Trust.{Patterns}
+use Rattle.bbm_rules.specs.Cleansing.{cleansed, half, seen}
+use Rattle.bbm_rules.specs.Covers.{noted}
+use Rattle.bbm_rules.specs.Held.{ValidWrite, held, last_valid}
+use Rattle.bbm_rules.specs.Notes.{Noted, event_of, events_of}
+use Rattle.bbm_rules.specs.Pages.{is_fresh}
+use Rattle.bbm_rules.specs.PatternSentences.{Cleansed, IsHalf, Seen}
+use Rattle.bbm_rules.specs.Phases.{broken_phase, phase_of}
+use Rattle.bbm_rules.specs.Places.{page_of}
+use Rattle.bbm_rules.specs.Reach.{Issued}
+use Rattle.bbm_rules.specs.Tags.{loses, reads_for_some}
+use Rattle.bbm_rules.specs.Tree.{Node, held_at, is_childless, next_of, node_below, node_of, tree}
+use Rattle.bbm_rules.specs.Values.{value_of}
 use Rattle.bbm_histories.specs.ClaimSteps.{cleansed_under}
 use Rattle.bbm_histories.specs.Steps.{answered_by, cleansed_after, half_after, held_after, seen_after, tag_waits, waits}
 use Rattle.bbm_histories.specs.Steps.{tag_waits_after, waits_after}

@@ -1,13 +1,13 @@
 -- When two histories have the same tags, each read by what it trusts, and when a TLBI takes a tag that a root holds.
 -- Source: project's own choice.
 use Rattle.std.specs.Prelude.{◌≡◌, ℕ, ◌<◌, Bool, true, false, ◌&&◌, List}
-use Rattle.bbm_histories.specs.rules.Claims.{Trust}
-use Rattle.bbm_histories.specs.rules.Claims.Trust.{Patterns}
-use Rattle.bbm_histories.specs.rules.Lists.{any}
-use Rattle.bbm_histories.specs.rules.Prelude.{Barrier, Heading, Event, Tag}
-use Rattle.bbm_histories.specs.rules.Reach.{Issued, completes, reaches, unanswered}
-use Rattle.bbm_histories.specs.rules.Roots.{roots_of}
-use Rattle.bbm_histories.specs.rules.Tags.{distinct, ever_read, holds_at, itself, takes_tag}
+use Rattle.bbm_rules.specs.Claims.{Trust}
+use Rattle.bbm_rules.specs.Claims.Trust.{Patterns}
+use Rattle.bbm_rules.specs.Lists.{any}
+use Rattle.bbm_rules.specs.Prelude.{Barrier, Heading, Event, Tag}
+use Rattle.bbm_rules.specs.Reach.{Issued, completes, reaches, unanswered}
+use Rattle.bbm_rules.specs.Roots.{roots_of}
+use Rattle.bbm_rules.specs.Tags.{distinct, ever_read, holds_at, itself, takes_tag}
 use Rattle.bbm_histories.specs.Steps.{tag_waits}
 use Rattle.bbm_lists.specs.Elements.{In}
 

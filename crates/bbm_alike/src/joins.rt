@@ -1,9 +1,9 @@
 //! The relation joins histories: it holds at the start, of each and itself, both ways, and through a third.
 
 ghost use Rattle.std.specs.Prelude.{List, []};
-ghost use Rattle.bbm_histories.specs.events.Heading.{Heading};
-ghost use Rattle.bbm_histories.specs.events.declared.event.Event.{Event};
-ghost use Rattle.bbm_histories.specs.rules.Claims.{Trust};
+ghost use Rattle.bbm_events.specs.Heading.{Heading};
+ghost use Rattle.bbm_events.specs.declared.event.Event.{Event};
+ghost use Rattle.bbm_rules.specs.Claims.{Trust};
 ghost use Rattle.bbm_alike.specs.Alike.{Alike};
 
 /// Before the first event all is alike, by any two trusts. Each history is alike itself by the same trust; two that are

@@ -1,11 +1,11 @@
 //! After two histories that are alike every event is judged alike.
 
 ghost use Rattle.std.specs.Prelude.{◌≡◌, ℕ, ◌<◌, List, ◌∷◌};
-ghost use Rattle.bbm_histories.specs.events.Heading.{Heading};
-ghost use Rattle.bbm_histories.specs.events.declared.event.Event.{Event};
-ghost use Rattle.bbm_histories.specs.rules.Broken.{broken, keeps};
-ghost use Rattle.bbm_histories.specs.rules.Claims.{Trust};
-ghost use Rattle.bbm_histories.specs.rules.Phases.{phase_of, restless_of};
+ghost use Rattle.bbm_events.specs.Heading.{Heading};
+ghost use Rattle.bbm_events.specs.declared.event.Event.{Event};
+ghost use Rattle.bbm_rules.specs.Broken.{broken, keeps};
+ghost use Rattle.bbm_rules.specs.Claims.{Trust};
+ghost use Rattle.bbm_rules.specs.Phases.{phase_of, restless_of};
 ghost use Rattle.bbm_alike.specs.Alike.{Alike};
 
 use crate::known::known;

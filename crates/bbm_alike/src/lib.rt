@@ -10,8 +10,6 @@ pub mod steps;
 pub mod takes;
 pub mod trees;
 
-pub use bbm_histories as histories;
-pub use bbm_histories::{events, regimes, rules};
 pub use covers::law_covers_alike;
 pub use joins::law_alike_joins;
 pub use judges::law_alike_judges;

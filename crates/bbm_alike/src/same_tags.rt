@@ -1,17 +1,17 @@
 //! What leaves the tags of a history as they were.
 
 ghost use Rattle.std.specs.Prelude.{◌≡◌, ℕ, true, List, ◌∷◌};
-ghost use Rattle.bbm_histories.specs.regimes.declared.regime.Reg.{Reg};
-ghost use Rattle.bbm_histories.specs.rules.Prelude.{Barrier, Heading, Event, Dmb, Dsb, Isb, Tlbi, TlbiOp};
-ghost use Rattle.bbm_histories.specs.rules.Broken.{keeps};
-ghost use Rattle.bbm_histories.specs.rules.Claims.{Trust};
-ghost use Rattle.bbm_histories.specs.rules.Claims.Trust.{Patterns};
-ghost use Rattle.bbm_histories.specs.rules.Registers.{register_values};
+ghost use Rattle.bbm_regimes.specs.declared.regime.Reg.{Reg};
+ghost use Rattle.bbm_rules.specs.Prelude.{Barrier, Heading, Event, Dmb, Dsb, Isb, Tlbi, TlbiOp};
+ghost use Rattle.bbm_rules.specs.Broken.{keeps};
+ghost use Rattle.bbm_rules.specs.Claims.{Trust};
+ghost use Rattle.bbm_rules.specs.Claims.Trust.{Patterns};
+ghost use Rattle.bbm_rules.specs.Registers.{register_values};
 ghost use Rattle.bbm_histories.specs.Tree.{Proper};
 ghost use Rattle.bbm_alike.specs.SameTags.{AnswersNone, SameTags, TakesNone};
 
-use bbm_histories::rules::{law_answered, law_equality_tests};
 use bbm_histories::{law_frozen, law_tag_steps, law_tags};
+use bbm_rules::{law_answered, law_equality_tests};
 
 /// Which events leave the tags of a history that keeps the rules as they were: a DMB; an ISB after which the registers
 /// have the values that they had; a TLBI that takes no whole tag that a declared root holds at a PE that it reaches; and a

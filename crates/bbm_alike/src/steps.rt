@@ -1,11 +1,11 @@
 //! The same events in two histories that are alike.
 
 ghost use Rattle.std.specs.Prelude.{◌≡◌, ◌<◌, true, List, ◌∷◌, ◌++◌};
-ghost use Rattle.bbm_histories.specs.events.Heading.{Heading};
-ghost use Rattle.bbm_histories.specs.events.declared.event.Event.{Event};
-ghost use Rattle.bbm_histories.specs.rules.Broken.{keeps};
-ghost use Rattle.bbm_histories.specs.rules.Claims.{Trust};
-ghost use Rattle.bbm_histories.specs.rules.Claims.Trust.{Patterns};
+ghost use Rattle.bbm_events.specs.Heading.{Heading};
+ghost use Rattle.bbm_events.specs.declared.event.Event.{Event};
+ghost use Rattle.bbm_rules.specs.Broken.{keeps};
+ghost use Rattle.bbm_rules.specs.Claims.{Trust};
+ghost use Rattle.bbm_rules.specs.Claims.Trust.{Patterns};
 ghost use Rattle.bbm_alike.specs.Alike.{Alike, TakesAlike};
 
 use crate::known::known;

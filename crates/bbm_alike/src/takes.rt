@@ -1,12 +1,12 @@
 //! What an event takes away is alike in histories that are alike.
 
 ghost use Rattle.std.specs.Prelude.{◌≡◌, ℕ, List};
-ghost use Rattle.bbm_histories.specs.barriers.declared.Dsb.{Dsb as Barrier};
-ghost use Rattle.bbm_histories.specs.events.Heading.{Heading};
-ghost use Rattle.bbm_histories.specs.events.declared.event.Event.{Event};
-ghost use Rattle.bbm_histories.specs.events.declared.event.Event.TheVariants.{Dsb};
-ghost use Rattle.bbm_histories.specs.rules.Claims.{Trust};
-ghost use Rattle.bbm_histories.specs.rules.Claims.Trust.{Patterns};
+ghost use Rattle.bbm_barriers.specs.declared.Dsb.{Dsb as Barrier};
+ghost use Rattle.bbm_events.specs.Heading.{Heading};
+ghost use Rattle.bbm_events.specs.declared.event.Event.{Event};
+ghost use Rattle.bbm_events.specs.declared.event.Event.TheVariants.{Dsb};
+ghost use Rattle.bbm_rules.specs.Claims.{Trust};
+ghost use Rattle.bbm_rules.specs.Claims.Trust.{Patterns};
 ghost use Rattle.bbm_alike.specs.Alike.{Alike, TakesAlike};
 
 use crate::known::known;

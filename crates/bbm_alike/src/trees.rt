@@ -1,13 +1,13 @@
 //! Two annotated histories with the same trees.
 
 ghost use Rattle.std.specs.Prelude.{◌≡◌, ℕ, List, Contains};
-ghost use Rattle.bbm_histories.specs.events.Heading.{Heading};
-ghost use Rattle.bbm_histories.specs.rules.Claims.{Trust};
-ghost use Rattle.bbm_histories.specs.rules.Notes.{Noted, events_of};
-ghost use Rattle.bbm_histories.specs.rules.Places.{page_of};
-ghost use Rattle.bbm_histories.specs.rules.Roots.{roots_of};
-ghost use Rattle.bbm_histories.specs.rules.Tree.{Node, held_at, tree};
-ghost use Rattle.bbm_histories.specs.rules.Values.{written_places};
+ghost use Rattle.bbm_events.specs.Heading.{Heading};
+ghost use Rattle.bbm_rules.specs.Claims.{Trust};
+ghost use Rattle.bbm_rules.specs.Notes.{Noted, events_of};
+ghost use Rattle.bbm_rules.specs.Places.{page_of};
+ghost use Rattle.bbm_rules.specs.Roots.{roots_of};
+ghost use Rattle.bbm_rules.specs.Tree.{Node, held_at, tree};
+ghost use Rattle.bbm_rules.specs.Values.{written_places};
 
 /// Two annotated histories with the same roots and the same written places, in which each place of a tree holds the
 /// same, have the same trees, each read by its trust. The call does nothing; the law is its contract.

@@ -6,7 +6,6 @@ ghost use Rattle.bbm_regimes.specs.PeMask.{pe_in};
 ghost use Rattle.bbm_barriers.specs.Options.{publishes, answers_broadcast, answers_local};
 ghost use Rattle.bbm_barriers.specs.Options as options;
 
-pub use bbm_regimes as regimes;
 use bbm_regimes::{Pe, PeMask};
 
 /// The shareability domain of a barrier. `Full` is the domain of the options `sy`, `st` and `ld`.

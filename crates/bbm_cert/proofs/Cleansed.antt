@@ -5,15 +5,15 @@ use Rattle.std.proofs.Math.Seq.{drop-cons}
 use Rattle.std.proofs.lemmas.Bool.{cases_eq, eq-eqb, eqb-true, ne_eqb}
 use Rattle.std.proofs.lemmas.List.{length-append, length-reverse, reverse-append, set_split, take-append-drop}
 use Rattle.std.proofs.lemmas.List.Folds.{list_any-append}
-use Rattle.bbm_histories.specs.events.declared.claim.Claim.{Claim}
-use Rattle.bbm_histories.specs.events.declared.claim.Claim.TheVariants.{Place, Two, Taken}
-use Rattle.bbm_histories.specs.regimes.PeMask.{pe_in}
-use Rattle.bbm_histories.specs.regimes.declared.pe.PeMask.{PeMask}
-use Rattle.bbm_histories.specs.rules.Claims.Trust.{Listed}
-use Rattle.bbm_histories.specs.rules.Cleansing.{cleansed}
-use Rattle.bbm_histories.specs.rules.Lists.{any}
-use Rattle.bbm_histories.specs.rules.Notes.{Noted}
-use Rattle.bbm_histories.specs.rules.Prelude.{Heading, Event, Dsb}
+use Rattle.bbm_events.specs.declared.claim.Claim.{Claim}
+use Rattle.bbm_events.specs.declared.claim.Claim.TheVariants.{Place, Two, Taken}
+use Rattle.bbm_regimes.specs.PeMask.{pe_in}
+use Rattle.bbm_regimes.specs.declared.pe.PeMask.{PeMask}
+use Rattle.bbm_rules.specs.Claims.Trust.{Listed}
+use Rattle.bbm_rules.specs.Cleansing.{cleansed}
+use Rattle.bbm_rules.specs.Lists.{any}
+use Rattle.bbm_rules.specs.Notes.{Noted}
+use Rattle.bbm_rules.specs.Prelude.{Heading, Event, Dsb}
 use Rattle.bbm_oracle_patterns.specs.Kept.{note_of, notes_behind, notes_of}
 use Rattle.bbm_oracle_patterns.specs.declared.kept.Kept.{Kept}
 use Rattle.bbm_cert.specs.Cleansings.{Tell, counts, ends_now, is_barrier, tells}

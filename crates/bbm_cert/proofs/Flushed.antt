@@ -5,15 +5,15 @@ use Rattle.std.proofs.lemmas.Bool.{and_right, eq-eqb, ne_eqb}
 use Rattle.std.proofs.lemmas.List.{get_or_default, length-drop, reverse-append, take_all}
 use Rattle.std.proofs.lemmas.List.Folds.{list_any-append}
 use Rattle.std.specs.List.{list_any}
-use Rattle.bbm_histories.specs.barriers.Options.{answers}
-use Rattle.bbm_histories.specs.tlbi_scope.declared.entry.Cover.{Cover}
-use Rattle.bbm_histories.specs.tlbi_scope.Operations.{operation}
-use Rattle.bbm_histories.specs.rules.Cleansing.{same_cover}
-use Rattle.bbm_histories.specs.rules.Notes.{Noted}
-use Rattle.bbm_histories.specs.descriptor.Descriptor.{same_bool}
-use Rattle.bbm_histories.specs.rules.Prelude.{Barrier, Heading, Event, Dsb, Tlbi, TlbiOp}
-use Rattle.bbm_histories.specs.rules.Reach.{completes, reaches}
-use Rattle.bbm_histories.specs.rules.Sentences.{completes_for, issues}
+use Rattle.bbm_barriers.specs.Options.{answers}
+use Rattle.bbm_tlbi_scope.specs.declared.entry.Cover.{Cover}
+use Rattle.bbm_tlbi_scope.specs.Operations.{operation}
+use Rattle.bbm_rules.specs.Cleansing.{same_cover}
+use Rattle.bbm_rules.specs.Notes.{Noted}
+use Rattle.bbm_descriptor.specs.Descriptor.{same_bool}
+use Rattle.bbm_rules.specs.Prelude.{Barrier, Heading, Event, Dsb, Tlbi, TlbiOp}
+use Rattle.bbm_rules.specs.Reach.{completes, reaches}
+use Rattle.bbm_rules.specs.Sentences.{completes_for, issues}
 use Rattle.bbm_histories.specs.Steps.{answered_by, is_tlbi}
 use Rattle.bbm_oracle_patterns.specs.Kept.{cover_in, note_of, notes_of}
 use Rattle.bbm_oracle_patterns.specs.declared.kept.Kept.{Kept}

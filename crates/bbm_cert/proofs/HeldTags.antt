@@ -4,12 +4,12 @@ use Rattle.std.proofs.Math.Bool.{and-false, or_comm, or-false}
 use Rattle.std.proofs.lemmas.Bool.{or_left}
 use Rattle.std.proofs.lemmas.List.Folds.{list_any_more}
 use Rattle.std.specs.List.{list_any}
-use Rattle.bbm_histories.specs.events.declared.claim.Claim.{Claim}
-use Rattle.bbm_histories.specs.rules.Changes.{changes}
-use Rattle.bbm_histories.specs.rules.Claims.{same_tag}
-use Rattle.bbm_histories.specs.rules.Claims.Trust.{Listed}
-use Rattle.bbm_histories.specs.rules.Prelude.{AsidFrom, FromTtbr0, FromTtbr1, World, Hyp, Kernel, Tag, Heading, Event, Dsb, Root, Unroot, Isb, Msr, Ttbr1El1, Ttbr1Tag}
-use Rattle.bbm_histories.specs.rules.Tags.{Reading, asid_readings, holds_at, loses, reads, reads_for_some, readings_in, readings_of}
+use Rattle.bbm_events.specs.declared.claim.Claim.{Claim}
+use Rattle.bbm_rules.specs.Changes.{changes}
+use Rattle.bbm_rules.specs.Claims.{same_tag}
+use Rattle.bbm_rules.specs.Claims.Trust.{Listed}
+use Rattle.bbm_rules.specs.Prelude.{AsidFrom, FromTtbr0, FromTtbr1, World, Hyp, Kernel, Tag, Heading, Event, Dsb, Root, Unroot, Isb, Msr, Ttbr1El1, Ttbr1Tag}
+use Rattle.bbm_rules.specs.Tags.{Reading, asid_readings, holds_at, loses, reads, reads_for_some, readings_in, readings_of}
 use Rattle.bbm_cert.specs.Holdings.{ends_some, has, is_holding, is_lost, next_has, stays_held}
 use Rattle.bbm_cert.specs.Known.{Known}
 use Rattle.bbm_cert.specs.declared.holdings.Holding.{Holding}

@@ -1,11 +1,11 @@
 -- What claims make of a log, and the logs that keep the rules by them.
 use Rattle.std.proofs.Common.{◌≡◌, ℕ, suc, Bool, true, false, List, [], ◌∷◌, ◌++◌, length, Option, Some, None, is_none, refl, sym, ◌∙◌, ap, subst}
 use Rattle.std.proofs.lemmas.Bool.{and_parts}
-use Rattle.bbm_histories.specs.rules.Broken.{Breach, broken, keeps}
-use Rattle.bbm_histories.specs.rules.Claims.Trust.{Listed}
-use Rattle.bbm_histories.specs.rules.Prelude.{Heading, Event}
-use Rattle.bbm_histories.specs.events.declared.claim.Claim.{Claim}
-use Rattle.bbm_histories.specs.rules.declared.rule.Rule.{Rule}
+use Rattle.bbm_rules.specs.Broken.{Breach, broken, keeps}
+use Rattle.bbm_rules.specs.Claims.Trust.{Listed}
+use Rattle.bbm_rules.specs.Prelude.{Heading, Event}
+use Rattle.bbm_events.specs.declared.claim.Claim.{Claim}
+use Rattle.bbm_rules.specs.declared.rule.Rule.{Rule}
 use Rattle.bbm_cert.specs.declared.judged.Judged.{Judged}
 use Rattle.bbm_cert.specs.declared.judged.Judged.TheVariants.{Yes, No}
 use Rattle.bbm_cert.specs.Judged.{FirstBroken, judged, judged_with}

@@ -4,8 +4,8 @@ use Rattle.std.proofs.lemmas.Bool.{eq-eqb, ne_eqb}
 use Rattle.std.proofs.lemmas.List.{get_or_default, length-append, length-reverse, length-take-le, reverse-append, take-append-drop, take_more}
 use Rattle.bbm_oracle_patterns.specs.Kept.{note_of, notes_behind, notes_of}
 use Rattle.bbm_oracle_patterns.specs.declared.kept.Kept.{Kept}
-use Rattle.bbm_histories.specs.rules.Cleansing.{writes}
-use Rattle.bbm_histories.specs.rules.Notes.{Noted, events_of}
+use Rattle.bbm_rules.specs.Cleansing.{writes}
+use Rattle.bbm_rules.specs.Notes.{Noted, events_of}
 use Rattle.bbm_cert.specs.Marks.{mark_at, wrote_mark}
 use Rattle.bbm_cert.proofs.Marked.{Numbered, mark_none}
 

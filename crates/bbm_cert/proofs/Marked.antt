@@ -3,16 +3,16 @@
 use Rattle.std.proofs.Common.{◌≡◌, ℕ, zero, suc, ◌≤◌, ◌<◌, Bool, true, false, cond, ◌&&◌, ◌||◌, not, nat_lt, ◌==◌, List, [], ◌∷◌, ◌++◌, length, refl, sym, ◌∙◌, ap, subst, zero-le, arith, inl, inr, length-append}
 use Rattle.std.proofs.Math.Bool.{and_comm}
 use Rattle.std.proofs.lemmas.Bool.{and_left, and_right, cond_both, eqb-true, le-ltb, lt-ltb, ne_eqb}
-use Rattle.bbm_histories.specs.barriers.Options.{answers}
-use Rattle.bbm_histories.specs.tlbi_scope.declared.entry.Cover.{Cover}
-use Rattle.bbm_histories.specs.tlbi_scope.declared.entry.Cover.TheVariants.{Half}
-use Rattle.bbm_histories.specs.rules.Cleansing.{flushes, publishes_write, same_cover, writes}
-use Rattle.bbm_histories.specs.rules.Lists.{some}
-use Rattle.bbm_histories.specs.rules.Notes.{Noted, event_of}
-use Rattle.bbm_histories.specs.rules.Prelude.{Barrier, Heading, Event, Dsb, Tlbi}
-use Rattle.bbm_histories.specs.rules.Reach.{Issued, reaches}
-use Rattle.bbm_histories.specs.rules.Sentences.{issues}
-use Rattle.bbm_histories.specs.rules.Values.{publishes_to}
+use Rattle.bbm_barriers.specs.Options.{answers}
+use Rattle.bbm_tlbi_scope.specs.declared.entry.Cover.{Cover}
+use Rattle.bbm_tlbi_scope.specs.declared.entry.Cover.TheVariants.{Half}
+use Rattle.bbm_rules.specs.Cleansing.{flushes, publishes_write, same_cover, writes}
+use Rattle.bbm_rules.specs.Lists.{some}
+use Rattle.bbm_rules.specs.Notes.{Noted, event_of}
+use Rattle.bbm_rules.specs.Prelude.{Barrier, Heading, Event, Dsb, Tlbi}
+use Rattle.bbm_rules.specs.Reach.{Issued, reaches}
+use Rattle.bbm_rules.specs.Sentences.{issues}
+use Rattle.bbm_rules.specs.Values.{publishes_to}
 use Rattle.bbm_histories.specs.ClaimSteps.{half_at, half_by, half_by_after, seen_by}
 use Rattle.bbm_histories.specs.Steps.{answered_by, is_tlbi, waits, waits_after}
 use Rattle.bbm_cert.specs.Known.{Known}

@@ -2,12 +2,12 @@
 use Rattle.std.proofs.Common.{◌≡◌, ℕ, suc, ◌+◌, ◌<◌, Bool, true, false, cond, not, ◌&&◌, ◌||◌, ◌==◌, List, [], ◌∷◌, ◌++◌, length, take, get_or, reverse, refl, sym, ◌∙◌, ap}
 use Rattle.std.proofs.lemmas.List.{length-reverse, reverse-append, reverse-reverse, take_more}
 use Rattle.std.proofs.Math.Seq.{take-append_seam}
-use Rattle.bbm_histories.specs.barriers.Options.{answers}
-use Rattle.bbm_histories.specs.events.declared.claim.Claim.{Claim}
-use Rattle.bbm_histories.specs.rules.Claims.Trust.{Listed}
-use Rattle.bbm_histories.specs.rules.Prelude.{Tag, Heading, Event, Dsb, Tlbi}
-use Rattle.bbm_histories.specs.rules.Reach.{reaches}
-use Rattle.bbm_histories.specs.rules.Tags.{holds_at, loses, reads, reads_for_some, takes_tag}
+use Rattle.bbm_barriers.specs.Options.{answers}
+use Rattle.bbm_events.specs.declared.claim.Claim.{Claim}
+use Rattle.bbm_rules.specs.Claims.Trust.{Listed}
+use Rattle.bbm_rules.specs.Prelude.{Tag, Heading, Event, Dsb, Tlbi}
+use Rattle.bbm_rules.specs.Reach.{reaches}
+use Rattle.bbm_rules.specs.Tags.{holds_at, loses, reads, reads_for_some, takes_tag}
 use Rattle.bbm_histories.specs.ClaimSteps.{tag_waits_at, tag_waits_at_after}
 use Rattle.bbm_histories.specs.Steps.{is_tlbi}
 use Rattle.bbm_cert.specs.Known.{Known}

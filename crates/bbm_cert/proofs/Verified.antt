@@ -1,13 +1,13 @@
 -- A log that keeps the rules by claims so far, and its next event.
 use Rattle.std.proofs.Common.{◌≡◌, ℕ, suc, ◌+◌, ◌<◌, ◌≤◌, Option, Some, None, List, [], ◌∷◌, ◌++◌, length, take, drop, get_or, reverse, refl, sym, ◌∙◌, ap, subst, arith}
 use Rattle.std.proofs.lemmas.List.{length-reverse, length-take-le, reverse-append, take-append-drop, take_all}
-use Rattle.bbm_histories.specs.events.declared.claim.Claim.{Claim}
-use Rattle.bbm_histories.specs.rules.Broken.{Breach, broken}
-use Rattle.bbm_histories.specs.rules.Claims.{Trust}
-use Rattle.bbm_histories.specs.rules.Claims.Trust.{Listed}
-use Rattle.bbm_histories.specs.rules.Prelude.{Heading, Event}
-use Rattle.bbm_judge.specs.oracle_trees.Past.{Past}
-use Rattle.bbm_judge.specs.oracle_trees.StandsFor.{StandsFor}
+use Rattle.bbm_events.specs.declared.claim.Claim.{Claim}
+use Rattle.bbm_rules.specs.Broken.{Breach, broken}
+use Rattle.bbm_rules.specs.Claims.{Trust}
+use Rattle.bbm_rules.specs.Claims.Trust.{Listed}
+use Rattle.bbm_rules.specs.Prelude.{Heading, Event}
+use Rattle.bbm_oracle_trees.specs.Past.{Past}
+use Rattle.bbm_oracle_trees.specs.StandsFor.{StandsFor}
 use Rattle.bbm_cert.specs.declared.judged.Judged.{Judged}
 use Rattle.bbm_cert.specs.declared.judged.Judged.TheVariants.{Yes, No}
 use Rattle.bbm_cert.specs.Judged.{judged, judged_with, judges_as}

@@ -1,11 +1,11 @@
 -- What is kept of the claims that are true of a log so far, and what the next event adds to it. No public contract cites
 -- these words. Source: project's own choice.
 use Rattle.std.specs.Prelude.{◌≡◌, ℕ, suc, length, Bool, true, false, ◌&&◌, ◌==◌, nat_lt, List}
-use Rattle.bbm_histories.specs.events.declared.claim.Claim.{Claim}
-use Rattle.bbm_histories.specs.regimes.PeMask.{pe_in}
-use Rattle.bbm_histories.specs.rules.Lists.{any}
-use Rattle.bbm_histories.specs.rules.Notes.{Noted}
-use Rattle.bbm_histories.specs.rules.Prelude.{Heading, Event, Dsb}
+use Rattle.bbm_events.specs.declared.claim.Claim.{Claim}
+use Rattle.bbm_regimes.specs.PeMask.{pe_in}
+use Rattle.bbm_rules.specs.Lists.{any}
+use Rattle.bbm_rules.specs.Notes.{Noted}
+use Rattle.bbm_rules.specs.Prelude.{Heading, Event, Dsb}
 use Rattle.bbm_cert.specs.Marks.{completed_mark, end_of, is_of, is_true_of}
 use Rattle.bbm_cert.specs.declared.cleansings.Cleansing.{Cleansing}
 

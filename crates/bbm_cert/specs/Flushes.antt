@@ -1,11 +1,11 @@
 -- What a TLBI has to do for a claim, by the event as it is kept. No public contract cites these words.
 -- Source: project's own choice.
 use Rattle.std.specs.Prelude.{ℕ, Bool, ◌&&◌}
-use Rattle.bbm_histories.specs.tlbi_scope.declared.entry.Cover.{Cover}
-use Rattle.bbm_histories.specs.rules.Cleansing.{same_cover}
-use Rattle.bbm_histories.specs.rules.Prelude.{Barrier, Heading, Event}
-use Rattle.bbm_histories.specs.rules.Reach.{completes, reaches}
-use Rattle.bbm_histories.specs.rules.Sentences.{completes_for, issues}
+use Rattle.bbm_tlbi_scope.specs.declared.entry.Cover.{Cover}
+use Rattle.bbm_rules.specs.Cleansing.{same_cover}
+use Rattle.bbm_rules.specs.Prelude.{Barrier, Heading, Event}
+use Rattle.bbm_rules.specs.Reach.{completes, reaches}
+use Rattle.bbm_rules.specs.Sentences.{completes_for, issues}
 use Rattle.bbm_oracle_patterns.specs.Kept.{cover_in}
 use Rattle.bbm_oracle_patterns.specs.declared.kept.Kept.{Kept}
 

@@ -1,13 +1,13 @@
 -- Which roots hold which tags, as it is kept from event to event. No public contract cites these words.
 -- Source: project's own choice.
 use Rattle.std.specs.Prelude.{◌≡◌, ◌<◌, ℕ, Bool, false, not, ◌&&◌, ◌||◌, ◌==◌, List, [], ◌∷◌}
-use Rattle.bbm_histories.specs.events.declared.claim.Claim.{Claim}
-use Rattle.bbm_histories.specs.rules.Changes.{changes}
-use Rattle.bbm_histories.specs.rules.Claims.{same_tag}
-use Rattle.bbm_histories.specs.rules.Claims.Trust.{Listed}
-use Rattle.bbm_histories.specs.rules.Lists.{any}
-use Rattle.bbm_histories.specs.rules.Prelude.{Tag, Heading, Event, Dsb}
-use Rattle.bbm_histories.specs.rules.Tags.{holds_at, reads, reads_for_some}
+use Rattle.bbm_events.specs.declared.claim.Claim.{Claim}
+use Rattle.bbm_rules.specs.Changes.{changes}
+use Rattle.bbm_rules.specs.Claims.{same_tag}
+use Rattle.bbm_rules.specs.Claims.Trust.{Listed}
+use Rattle.bbm_rules.specs.Lists.{any}
+use Rattle.bbm_rules.specs.Prelude.{Tag, Heading, Event, Dsb}
+use Rattle.bbm_rules.specs.Tags.{holds_at, reads, reads_for_some}
 use Rattle.bbm_histories.specs.ClaimSteps.{completes_taken}
 use Rattle.bbm_cert.specs.declared.holdings.Holding.{Holding}
 use Rattle.bbm_cert.specs.declared.holdings.Loss.{Loss}

@@ -1,10 +1,10 @@
 -- What claims alone make of a log, by the rules. A history is newest first. Source: project's own choice.
 use Rattle.std.specs.Prelude.{◌≡◌, ℕ, suc, true, List, [], ◌∷◌, ◌++◌, length, Option, Some, None}
-use Rattle.bbm_histories.specs.rules.Broken.{Breach, broken, keeps}
-use Rattle.bbm_histories.specs.rules.Claims.Trust.{Listed}
-use Rattle.bbm_histories.specs.rules.Prelude.{Heading, Event}
-use Rattle.bbm_histories.specs.events.declared.claim.Claim.{Claim}
-use Rattle.bbm_histories.specs.rules.declared.rule.Rule.{Rule}
+use Rattle.bbm_rules.specs.Broken.{Breach, broken, keeps}
+use Rattle.bbm_rules.specs.Claims.Trust.{Listed}
+use Rattle.bbm_rules.specs.Prelude.{Heading, Event}
+use Rattle.bbm_events.specs.declared.claim.Claim.{Claim}
+use Rattle.bbm_rules.specs.declared.rule.Rule.{Rule}
 use Rattle.bbm_cert.specs.declared.judged.Judged.{Judged}
 use Rattle.bbm_cert.specs.declared.judged.Judged.TheVariants.{Yes, No}
 

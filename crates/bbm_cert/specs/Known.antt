@@ -1,15 +1,15 @@
 -- What the crates below prove, as one record, so that each proof here takes it as one hypothesis. No public contract
 -- cites these words. Source: project's own choice.
 use Rattle.std.specs.Prelude.{◌≡◌, ℕ, Bool, true, not, ◌&&◌, List, ◌∷◌}
-use Rattle.bbm_histories.specs.events.declared.claim.Claim.{Claim}
-use Rattle.bbm_histories.specs.rules.Claims.{same_tag}
-use Rattle.bbm_histories.specs.rules.Claims.Trust.{Listed}
-use Rattle.bbm_histories.specs.rules.Cleansing.{cleansed}
-use Rattle.bbm_histories.specs.rules.Lists.{any}
-use Rattle.bbm_histories.specs.rules.Notes.{Noted, event_of}
-use Rattle.bbm_histories.specs.rules.Prelude.{Barrier, Tag, Heading, Event, Dsb}
-use Rattle.bbm_histories.specs.rules.Reach.{Issued}
-use Rattle.bbm_histories.specs.rules.Tags.{loses, reads_for_some}
+use Rattle.bbm_events.specs.declared.claim.Claim.{Claim}
+use Rattle.bbm_rules.specs.Claims.{same_tag}
+use Rattle.bbm_rules.specs.Claims.Trust.{Listed}
+use Rattle.bbm_rules.specs.Cleansing.{cleansed}
+use Rattle.bbm_rules.specs.Lists.{any}
+use Rattle.bbm_rules.specs.Notes.{Noted, event_of}
+use Rattle.bbm_rules.specs.Prelude.{Barrier, Tag, Heading, Event, Dsb}
+use Rattle.bbm_rules.specs.Reach.{Issued}
+use Rattle.bbm_rules.specs.Tags.{loses, reads_for_some}
 use Rattle.bbm_histories.specs.ClaimSteps.{cleansed_listed, completes_taken, half_by, half_by_after, tag_waits_at}
 use Rattle.bbm_histories.specs.ClaimSteps.{tag_waits_at_after}
 use Rattle.bbm_histories.specs.Steps.{waits, waits_after}

@@ -4,17 +4,17 @@
 -- newest first, and the position of an event is the number of notes from it on. No public contract cites these words.
 -- Source: project's own choice.
 use Rattle.std.specs.Prelude.{ℕ, suc, length, Bool, false, not, ◌&&◌, ◌==◌, nat_lt, List, [], ◌∷◌, if◌then◌else◌}
-use Rattle.bbm_histories.specs.barriers.Options.{answers}
-use Rattle.bbm_histories.specs.tlbi_scope.declared.entry.Cover.{Cover}
-use Rattle.bbm_histories.specs.tlbi_scope.declared.entry.Cover.TheVariants.{Half, Second, Full}
-use Rattle.bbm_histories.specs.events.declared.claim.Claim.{Claim}
-use Rattle.bbm_histories.specs.events.declared.claim.Claim.TheVariants.{Place, Two, Taken}
-use Rattle.bbm_histories.specs.rules.Prelude.{Heading, Event, Dsb}
-use Rattle.bbm_histories.specs.rules.Cleansing.{same_cover, writes}
-use Rattle.bbm_histories.specs.rules.Notes.{Noted}
-use Rattle.bbm_histories.specs.rules.Reach.{reaches}
-use Rattle.bbm_histories.specs.rules.Sentences.{issues}
-use Rattle.bbm_histories.specs.rules.Values.{publishes_to}
+use Rattle.bbm_barriers.specs.Options.{answers}
+use Rattle.bbm_tlbi_scope.specs.declared.entry.Cover.{Cover}
+use Rattle.bbm_tlbi_scope.specs.declared.entry.Cover.TheVariants.{Half, Second, Full}
+use Rattle.bbm_events.specs.declared.claim.Claim.{Claim}
+use Rattle.bbm_events.specs.declared.claim.Claim.TheVariants.{Place, Two, Taken}
+use Rattle.bbm_rules.specs.Prelude.{Heading, Event, Dsb}
+use Rattle.bbm_rules.specs.Cleansing.{same_cover, writes}
+use Rattle.bbm_rules.specs.Notes.{Noted}
+use Rattle.bbm_rules.specs.Reach.{reaches}
+use Rattle.bbm_rules.specs.Sentences.{issues}
+use Rattle.bbm_rules.specs.Values.{publishes_to}
 use Rattle.bbm_histories.specs.Steps.{answered_by, is_tlbi}
 
 -- what is marked by the note at a position and those before it; 0 where there is no note

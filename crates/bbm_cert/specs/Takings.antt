@@ -1,12 +1,12 @@
 -- What is asked of a TLBI that is to take a tag away, event by event. No public contract cites these words.
 -- Source: project's own choice.
 use Rattle.std.specs.Prelude.{ℕ, suc, length, Bool, false, not, ◌&&◌, ◌||◌, ◌==◌, List, [], ◌∷◌}
-use Rattle.bbm_histories.specs.events.declared.claim.Claim.{Claim}
-use Rattle.bbm_histories.specs.rules.Lists.{any}
-use Rattle.bbm_histories.specs.rules.Prelude.{Tag, Heading, Event, Dsb}
-use Rattle.bbm_histories.specs.rules.Reach.{reaches}
-use Rattle.bbm_histories.specs.rules.Sentences.{issues}
-use Rattle.bbm_histories.specs.rules.Tags.{reads, reads_for_some, takes_tag}
+use Rattle.bbm_events.specs.declared.claim.Claim.{Claim}
+use Rattle.bbm_rules.specs.Lists.{any}
+use Rattle.bbm_rules.specs.Prelude.{Tag, Heading, Event, Dsb}
+use Rattle.bbm_rules.specs.Reach.{reaches}
+use Rattle.bbm_rules.specs.Sentences.{issues}
+use Rattle.bbm_rules.specs.Tags.{reads, reads_for_some, takes_tag}
 use Rattle.bbm_histories.specs.ClaimSteps.{completes_taken}
 use Rattle.bbm_histories.specs.Steps.{is_tlbi}
 use Rattle.bbm_cert.specs.Marks.{answers_for}

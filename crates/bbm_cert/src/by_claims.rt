@@ -1,19 +1,19 @@
 //! A list of claims is trusted, and nothing else.
 
 ghost use Rattle.std.specs.Prelude.{◌≡◌, ◌++◌, List, length, reverse, IfOk};
-ghost use Rattle.bbm_histories.specs.events.declared.event.Event.{Event as TheEvent};
-ghost use Rattle.bbm_histories.specs.rules.Claims.Trust.{Listed};
-ghost use Rattle.bbm_histories.specs.rules.Tags.{holds_at as is_held};
+ghost use Rattle.bbm_events.specs.declared.event.Event.{Event as TheEvent};
+ghost use Rattle.bbm_rules.specs.Claims.Trust.{Listed};
+ghost use Rattle.bbm_rules.specs.Tags.{holds_at as is_held};
 ghost use Rattle.bbm_cert.specs.Holdings.{Hold};
 
 use crate::cleansings::{Cleansing, add_completed, cleansed_since, copied};
 use crate::holdings::{Holding, has, held_after};
 use crate::known::known;
 use crate::taken::holds_through;
-use bbm_judge::events::{Claim, Event, Header};
-use bbm_judge::oracle_tags::TagEvidence;
-use bbm_judge::regimes::{NoMemory, Pe, PeMask, Place, Tag};
+use bbm_events::{Claim, Event, Header};
 use bbm_oracle_patterns::{Evidence, Kept};
+use bbm_oracle_tags::TagEvidence;
+use bbm_regimes::{NoMemory, Pe, PeMask, Place, Tag};
 use std::alloc::Global;
 
 /// A list of claims is trusted, and nothing else: a place is cleansed, and a tag taken away, only by a pattern of events
@@ -59,8 +59,8 @@ fn holds_from(
 impl<'a> TagEvidence for ByClaims<'a> {
     ghost use Rattle.std.specs.Prelude.{◌≡◌, ◌++◌, ◌∷◌, List, length};
     ghost use Rattle.std.proofs.Common.{ap};
-    ghost use Rattle.bbm_histories.specs.rules.Claims.Trust.{Listed};
-    ghost use Rattle.bbm_histories.specs.rules.Prelude.{Event, Msr};
+    ghost use Rattle.bbm_rules.specs.Claims.Trust.{Listed};
+    ghost use Rattle.bbm_rules.specs.Prelude.{Event, Msr};
     ghost use Rattle.bbm_cert.specs.Holdings.{Hold};
 
     ghost trust = { λ evidence. Listed evidence.claims.now };
@@ -97,7 +97,7 @@ impl<'a> TagEvidence for ByClaims<'a> {
 
 impl<'a> Evidence for ByClaims<'a> {
     ghost use Rattle.std.specs.Prelude.{◌≡◌, [], length, refl};
-    ghost use Rattle.bbm_histories.specs.rules.Notes.{events_of};
+    ghost use Rattle.bbm_rules.specs.Notes.{events_of};
     ghost use Rattle.bbm_cert.specs.Cleansings.{Tell};
     ghost use Rattle.bbm_cert.specs.Holdings.{Hold};
 

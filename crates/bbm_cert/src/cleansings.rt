@@ -1,16 +1,16 @@
 //! What is kept of the claims that are true of a log: by the write of a place since which they are.
 
 ghost use Rattle.std.specs.Prelude.{◌≡◌, ◌<◌, ◌&&◌, ◌||◌, ◌==◌, nat_lt, ℕ, length, reverse, get_or, IfSome, IfOk, OnOk};
-ghost use Rattle.bbm_histories.specs.regimes.PeMask.{pe_in};
-ghost use Rattle.bbm_histories.specs.rules.Lists.{any};
+ghost use Rattle.bbm_regimes.specs.PeMask.{pe_in};
+ghost use Rattle.bbm_rules.specs.Lists.{any};
 ghost use Rattle.bbm_oracle_patterns.specs.Kept.{notes_of};
 ghost use Rattle.bbm_cert.specs.declared.cleansings.Cleansing.{Cleansing as Entry};
 ghost use Rattle.bbm_cert.specs.Cleansings.{ends_now, is_barrier, tells};
 
 use crate::marks::{completed_since, end_of};
-use bbm_judge::events::{Claim, Event, Header};
-use bbm_judge::regimes::{NoMemory, Pe, PeMask, Place};
+use bbm_events::{Claim, Event, Header};
 use bbm_oracle_patterns::Kept;
+use bbm_regimes::{NoMemory, Pe, PeMask, Place};
 use std::alloc::Global;
 
 /// The PEs at which a place is cleansed since a write of it, by claims that are true. Source: project's own choice.

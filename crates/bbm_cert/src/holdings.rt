@@ -1,23 +1,23 @@
 //! Which roots hold which tags, by claims alone, as it is kept from event to event.
 
 ghost use Rattle.std.specs.Prelude.{◌≡◌, ◌<◌, ◌∷◌, [], ◌&&◌, ◌||◌, ◌==◌, ℕ, reverse, IfOk, OnOk};
-ghost use Rattle.bbm_histories.specs.regimes.declared.regime.Tag.{Tag as TheTag};
-ghost use Rattle.bbm_histories.specs.rules.Claims.{same_tag as is_same_tag};
-ghost use Rattle.bbm_histories.specs.rules.Lists.{any};
-ghost use Rattle.bbm_histories.specs.rules.Tags.{reads};
+ghost use Rattle.bbm_regimes.specs.declared.regime.Tag.{Tag as TheTag};
+ghost use Rattle.bbm_rules.specs.Claims.{same_tag as is_same_tag};
+ghost use Rattle.bbm_rules.specs.Lists.{any};
+ghost use Rattle.bbm_rules.specs.Tags.{reads};
 ghost use Rattle.bbm_histories.specs.ClaimSteps.{completes_taken};
-ghost use Rattle.bbm_histories.specs.rules.Changes.{changes};
-ghost use Rattle.bbm_histories.specs.rules.Notes.{events_of};
+ghost use Rattle.bbm_rules.specs.Changes.{changes};
+ghost use Rattle.bbm_rules.specs.Notes.{events_of};
 ghost use Rattle.bbm_oracle_patterns.specs.Kept.{notes_of};
 ghost use Rattle.bbm_cert.specs.Holdings.{Hold, ends_some, has as has_it, is_lost, next_has, stays_held};
 
 use crate::known::known;
 use crate::taken::{is_readable, takes_away};
-use bbm_histories::barriers::Dsb;
-use bbm_judge::events::{Claim, Event, Header};
-use bbm_judge::oracle_tags::{Reading, readings_at};
-use bbm_judge::regimes::{NoMemory, Pe, Tag, same_tag};
+use bbm_barriers::Dsb;
+use bbm_events::{Claim, Event, Header};
 use bbm_oracle_patterns::Kept;
+use bbm_oracle_tags::{Reading, readings_at};
+use bbm_regimes::{NoMemory, Pe, Tag, same_tag};
 use std::alloc::Global;
 
 /// A tag that a root holds at a PE. Source: project's own choice.

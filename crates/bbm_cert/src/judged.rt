@@ -1,6 +1,6 @@
 //! What claims alone make of a log.
 
-use bbm_judge::rules::Rule;
+use bbm_rules::Rule;
 
 /// What claims alone make of a log.
 #[derive(Clone, Copy, Debug, PartialEq, Eq)]

@@ -1,10 +1,10 @@
 //! What the crates below prove, gathered for the proofs here.
 
-ghost use Rattle.bbm_histories.specs.events.Heading.{Heading};
+ghost use Rattle.bbm_events.specs.Heading.{Heading};
 ghost use Rattle.bbm_cert.specs.Known.{Known};
 
-use bbm_histories::rules::law_equality_tests;
 use bbm_histories::{law_claim_steps, law_pattern_steps, law_tag_claim_steps};
+use bbm_rules::law_equality_tests;
 
 /// The laws that the proofs here stand on.
 pub(crate) fn known()

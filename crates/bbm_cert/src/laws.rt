@@ -1,12 +1,12 @@
 //! Laws of what claims alone make of a log.
 
 ghost use Rattle.std.specs.Prelude.{◌≡◌, ℕ, true, List};
-ghost use Rattle.bbm_histories.specs.events.Heading.{Heading};
-ghost use Rattle.bbm_histories.specs.events.declared.claim.Claim.{Claim};
-ghost use Rattle.bbm_histories.specs.events.declared.event.Event.{Event};
-ghost use Rattle.bbm_histories.specs.rules.Broken.{keeps};
-ghost use Rattle.bbm_histories.specs.rules.Claims.Trust.{Listed};
-ghost use Rattle.bbm_histories.specs.rules.declared.rule.Rule.{Rule as TheRule};
+ghost use Rattle.bbm_events.specs.Heading.{Heading};
+ghost use Rattle.bbm_events.specs.declared.claim.Claim.{Claim};
+ghost use Rattle.bbm_events.specs.declared.event.Event.{Event};
+ghost use Rattle.bbm_rules.specs.Broken.{keeps};
+ghost use Rattle.bbm_rules.specs.Claims.Trust.{Listed};
+ghost use Rattle.bbm_rules.specs.declared.rule.Rule.{Rule as TheRule};
 ghost use Rattle.bbm_cert.specs.declared.judged.Judged.TheVariants.{Yes, No};
 ghost use Rattle.bbm_cert.specs.Judged.{FirstBroken, judged};
 

@@ -6,21 +6,21 @@
 
 ghost use Rattle.std.specs.Prelude.{◌≡◌, ◌<◌, ◌≤◌, ◌⊎◌, ℕ, suc, None, List, take, length, reverse, IfSome};
 ghost use Rattle.std.specs.Option.{option_map_or};
-ghost use Rattle.bbm_histories.specs.rules.Cleansing.{same_cover as are_same, writes as is_write};
-ghost use Rattle.bbm_histories.specs.rules.Lists.{any};
-ghost use Rattle.bbm_histories.specs.rules.Notes.{Noted};
-ghost use Rattle.bbm_histories.specs.rules.Prelude.{Dsb as TheDsb};
-ghost use Rattle.bbm_histories.specs.rules.Sentences.{completes_for as completes_it, issues as issues_it};
+ghost use Rattle.bbm_rules.specs.Cleansing.{same_cover as are_same, writes as is_write};
+ghost use Rattle.bbm_rules.specs.Lists.{any};
+ghost use Rattle.bbm_rules.specs.Notes.{Noted};
+ghost use Rattle.bbm_rules.specs.Prelude.{Dsb as TheDsb};
+ghost use Rattle.bbm_rules.specs.Sentences.{completes_for as completes_it, issues as issues_it};
 ghost use Rattle.bbm_oracle_patterns.specs.Kept.{notes_of};
 ghost use Rattle.bbm_cert.specs.Marks as spec;
 ghost use Rattle.bbm_cert.specs.Flushes.{is_flush_of, completed_by};
 
-use bbm_histories::barriers::Dsb;
-use bbm_judge::events::{Claim, Event, Header};
-use bbm_judge::oracle_tags::{completes, publishes_for, reaches};
-use bbm_judge::regimes::{Pe, Place};
+use bbm_barriers::Dsb;
+use bbm_events::{Claim, Event, Header};
 use bbm_oracle_patterns::Kept;
-use bbm_oracle_patterns::tlbi_scope::Cover;
+use bbm_oracle_tags::{completes, publishes_for, reaches};
+use bbm_regimes::{Pe, Place};
+use bbm_tlbi_scope::Cover;
 
 /// What a TLBI at a position has to do: reach the PE, and cover the place so far.
 #[derive(Drop)]

@@ -1,22 +1,22 @@
 //! Which tags are taken away by claims.
 
 ghost use Rattle.std.specs.Prelude.{◌≡◌, ◌<◌, ◌+◌, ◌&&◌, length, take, reverse, IfOk};
-ghost use Rattle.bbm_histories.specs.barriers.Options.{answers as answers_it};
-ghost use Rattle.bbm_histories.specs.rules.Prelude.{Tlbi as TheTlbi};
-ghost use Rattle.bbm_histories.specs.rules.Lists.{any};
-ghost use Rattle.bbm_histories.specs.rules.Tags.{reads_for_some, takes_tag as takes_it};
+ghost use Rattle.bbm_barriers.specs.Options.{answers as answers_it};
+ghost use Rattle.bbm_rules.specs.Prelude.{Tlbi as TheTlbi};
+ghost use Rattle.bbm_rules.specs.Lists.{any};
+ghost use Rattle.bbm_rules.specs.Tags.{reads_for_some, takes_tag as takes_it};
 ghost use Rattle.bbm_histories.specs.ClaimSteps.{completes_taken, tag_waits_at};
 ghost use Rattle.bbm_histories.specs.Steps.{answered_by};
 ghost use Rattle.bbm_cert.specs.Marks.{answers_for};
 ghost use Rattle.bbm_cert.specs.Takings.{holds_next, is_taking, lost_with, waits_next};
 
 use crate::known::known;
-use bbm_histories::barriers::{Dsb, completes_broadcast, completes_local};
-use bbm_judge::events::{Claim, Event, Header};
-use bbm_judge::oracle_tags::readings::{is_read, is_read_for_some};
-use bbm_judge::oracle_tags::{named_scope, reaches, readings_at, vmid_of};
-use bbm_judge::regimes::{NoMemory, Pe, Tag, same_tag};
-use bbm_oracle_patterns::tlbi_scope::{TlbiOp, whole_tag};
+use bbm_barriers::{Dsb, completes_broadcast, completes_local};
+use bbm_events::{Claim, Event, Header};
+use bbm_oracle_tags::readings::{is_read, is_read_for_some};
+use bbm_oracle_tags::{named_scope, reaches, readings_at, vmid_of};
+use bbm_regimes::{NoMemory, Pe, Tag, same_tag};
+use bbm_tlbi_scope::{TlbiOp, whole_tag};
 use std::alloc::Global;
 
 /// A TLBI that is to take a tag away at a PE: its position, its issuer, and whether it is broadcast.

@@ -1,20 +1,20 @@
 //! The judgement on a log by claims alone.
 
 ghost use Rattle.std.specs.Prelude.{◌≡◌, ◌<◌, ◌^◌, List, length, true, reverse, All, IfOk};
-ghost use Rattle.bbm_histories.specs.events.declared.event.Event.{Event as TheEvent};
-ghost use Rattle.bbm_histories.specs.events.Fits.{fits_heading};
-ghost use Rattle.bbm_histories.specs.events.Heading.{Heading};
-ghost use Rattle.bbm_histories.specs.rules.Broken.{broken};
-ghost use Rattle.bbm_judge.specs.oracle_trees.StandsFor.{StandsFor};
+ghost use Rattle.bbm_events.specs.declared.event.Event.{Event as TheEvent};
+ghost use Rattle.bbm_events.specs.Fits.{fits_heading};
+ghost use Rattle.bbm_events.specs.Heading.{Heading};
+ghost use Rattle.bbm_rules.specs.Broken.{broken};
+ghost use Rattle.bbm_oracle_trees.specs.StandsFor.{StandsFor};
 ghost use Rattle.bbm_cert.specs.Judged.{judged, judges_as};
 
 use crate::by_claims::ByClaims;
 use crate::judged::Judged;
-use bbm_judge::events::{Claim, Event, Header};
+use bbm_events::{Claim, Event, Header};
 use bbm_judge::judge;
-use bbm_judge::oracle_trees::History;
-use bbm_judge::regimes::NoMemory;
-use bbm_judge::rules::StepFault;
+use bbm_oracle_trees::History;
+use bbm_regimes::NoMemory;
+use bbm_rules::StepFault;
 use std::alloc::Global;
 
 /// Judges the next event of a log whose events so far keep the rules by the claims: Yes where it keeps them too.

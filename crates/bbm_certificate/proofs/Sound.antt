@@ -4,21 +4,21 @@ use Rattle.std.proofs.lemmas.Bool.{and_parts, leb-false}
 use Rattle.std.proofs.lemmas.List.{get_or_default, length-append, reverse-append}
 use Rattle.bbm_lists.specs.Elements.{In}
 use Rattle.bbm_lists.proofs.Elements.{from_contains, to_contains, in_left, in_right}
-use Rattle.bbm_histories.specs.events.declared.certificate.ClaimItem.{ClaimItem}
-use Rattle.bbm_histories.specs.events.declared.certificate.ClaimItem.TheVariants as claim_item
-use Rattle.bbm_histories.specs.events.declared.claim.Claim.{Claim}
-use Rattle.bbm_histories.specs.events.declared.event.Event.{Event}
-use Rattle.bbm_histories.specs.events.declared.event.Item.{Item}
-use Rattle.bbm_histories.specs.events.declared.event.Item.TheVariants as item
-use Rattle.bbm_log_grammar.specs.regimes.declared.regime.Which.TheVariants.{Events, Claims}
-use Rattle.bbm_histories.specs.events.declared.malformed.Malformed.{Malformed as Cause}
-use Rattle.bbm_histories.specs.events.declared.malformed.Malformed.TheVariants.{WrongCount}
-use Rattle.bbm_histories.specs.rules.declared.verdict.Verdict.TheVariants.{Malformed, Limit}
-use Rattle.bbm_histories.specs.events.Certificate.{certificate_of, claim_of}
-use Rattle.bbm_histories.specs.events.Fits.{fits_heading, item_fits, label_fits}
-use Rattle.bbm_histories.specs.events.Heading.{Heading, heading_ok}
-use Rattle.bbm_histories.specs.events.Lines.{header_of, item_of}
-use Rattle.bbm_histories.specs.rules.Outcome.{is_too_long, text_of}
+use Rattle.bbm_events.specs.declared.certificate.ClaimItem.{ClaimItem}
+use Rattle.bbm_events.specs.declared.certificate.ClaimItem.TheVariants as claim_item
+use Rattle.bbm_events.specs.declared.claim.Claim.{Claim}
+use Rattle.bbm_events.specs.declared.event.Event.{Event}
+use Rattle.bbm_events.specs.declared.event.Item.{Item}
+use Rattle.bbm_events.specs.declared.event.Item.TheVariants as item
+use Rattle.bbm_regimes.specs.declared.regime.Which.TheVariants.{Events, Claims}
+use Rattle.bbm_events.specs.declared.malformed.Malformed.{Malformed as Cause}
+use Rattle.bbm_events.specs.declared.malformed.Malformed.TheVariants.{WrongCount}
+use Rattle.bbm_rules.specs.declared.verdict.Verdict.TheVariants.{Malformed, Limit}
+use Rattle.bbm_events.specs.Certificate.{certificate_of, claim_of}
+use Rattle.bbm_events.specs.Fits.{fits_heading, item_fits, label_fits}
+use Rattle.bbm_events.specs.Heading.{Heading, heading_ok}
+use Rattle.bbm_events.specs.Lines.{header_of, item_of}
+use Rattle.bbm_rules.specs.Outcome.{is_too_long, text_of}
 use Rattle.bbm_certificate.specs.Reading.{AreRead, AtClaims, AtEnd, AtEvents, AtHeader, BehindLog, GoesOn, IsSound, Reached, Said, Stopped, Stops, Turned, Whole, after_claim, after_claim_item, after_claims, after_event, after_first, after_header, after_item, after_line, after_log, claim_limit, cut_at, end_of, event_limit, next_number, read_after, read_from, read_of, too_long_at, turned_by}
 
 -- what is known of the lines of a log

@@ -1,2 +1,1 @@
 pub mod Reading
-pub use Rattle.bbm_cert.specs as cert

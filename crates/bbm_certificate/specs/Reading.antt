@@ -4,22 +4,22 @@
 use Rattle.std.specs.Prelude.{◌≡◌, ◌≤◌, ℕ, suc, ◌+◌, Bool, true, false, ◌==◌, nat_le, List, [], ◌∷◌, ◌++◌, length, drop, reverse}
 use Rattle.std.specs.Prelude.{Contains}
 use Rattle.std.specs.Prelude.{Result, Ok, Err, if◌then◌else◌}
-use Rattle.bbm_log_grammar.specs.regimes.declared.regime.Which.TheVariants.{LineBytes, Events, Claims}
-use Rattle.bbm_histories.specs.events.declared.certificate.ClaimItem.{ClaimItem}
-use Rattle.bbm_histories.specs.events.declared.certificate.ClaimItem.TheVariants as claim_item
-use Rattle.bbm_histories.specs.events.declared.claim.Claim.{Claim}
-use Rattle.bbm_histories.specs.events.declared.event.Event.{Event}
-use Rattle.bbm_histories.specs.events.declared.event.Item.{Item}
-use Rattle.bbm_histories.specs.events.declared.event.Item.TheVariants as item
-use Rattle.bbm_histories.specs.events.declared.malformed.Malformed.{Malformed as Cause}
-use Rattle.bbm_histories.specs.events.declared.malformed.Malformed.TheVariants.{NoEnd, WrongCount, AfterEnd}
-use Rattle.bbm_histories.specs.events.Certificate.{certificate_of, claim_of}
-use Rattle.bbm_histories.specs.events.Heading.{Heading, heading_ok}
-use Rattle.bbm_histories.specs.events.Fits.{fits_heading}
-use Rattle.bbm_histories.specs.events.Lines.{header_of, item_of}
-use Rattle.bbm_histories.specs.rules.declared.verdict.Verdict.{Verdict}
-use Rattle.bbm_histories.specs.rules.declared.verdict.Verdict.TheVariants.{Malformed, Limit}
-use Rattle.bbm_histories.specs.rules.Outcome.{text_of, is_too_long, unread_after}
+use Rattle.bbm_regimes.specs.declared.regime.Which.TheVariants.{LineBytes, Events, Claims}
+use Rattle.bbm_events.specs.declared.certificate.ClaimItem.{ClaimItem}
+use Rattle.bbm_events.specs.declared.certificate.ClaimItem.TheVariants as claim_item
+use Rattle.bbm_events.specs.declared.claim.Claim.{Claim}
+use Rattle.bbm_events.specs.declared.event.Event.{Event}
+use Rattle.bbm_events.specs.declared.event.Item.{Item}
+use Rattle.bbm_events.specs.declared.event.Item.TheVariants as item
+use Rattle.bbm_events.specs.declared.malformed.Malformed.{Malformed as Cause}
+use Rattle.bbm_events.specs.declared.malformed.Malformed.TheVariants.{NoEnd, WrongCount, AfterEnd}
+use Rattle.bbm_events.specs.Certificate.{certificate_of, claim_of}
+use Rattle.bbm_events.specs.Heading.{Heading, heading_ok}
+use Rattle.bbm_events.specs.Fits.{fits_heading}
+use Rattle.bbm_events.specs.Lines.{header_of, item_of}
+use Rattle.bbm_rules.specs.declared.verdict.Verdict.{Verdict}
+use Rattle.bbm_rules.specs.declared.verdict.Verdict.TheVariants.{Malformed, Limit}
+use Rattle.bbm_rules.specs.Outcome.{text_of, is_too_long, unread_after}
 use Rattle.bbm_certificate.specs.declared.kept.Kept.{Kept}
 use Rattle.bbm_certificate.specs.declared.kept.Part.{Part}
 use Rattle.bbm_certificate.specs.declared.kept.Part.TheVariants as part

@@ -6,8 +6,8 @@ ghost use Rattle.bbm_certificate.specs.Reading.{AreRead};
 
 use crate::kept::Kept;
 use bbm_cert::{Judged, verify};
-use bbm_histories::events::Header;
-use bbm_log_grammar::regimes::NoMemory;
+use bbm_events::Header;
+use bbm_regimes::NoMemory;
 use std::alloc::Global;
 
 /// Judges the events of a log that was read, by the claims of its certificate alone: `Yes` where each event keeps the

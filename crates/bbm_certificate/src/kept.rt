@@ -2,7 +2,7 @@
 
 ghost use Rattle.std.specs.Prelude.{◌≡◌, []};
 
-use bbm_histories::events::{Claim, Event};
+use bbm_events::{Claim, Event};
 use std::alloc::Global;
 
 /// Which part of the text the next line belongs to.

@@ -1,12 +1,12 @@
 //! The law of a log and its certificate that are read whole.
 
 ghost use Rattle.std.specs.Prelude.{◌≡◌, ℕ, List};
-ghost use Rattle.bbm_histories.specs.events.declared.claim.Claim.{Claim};
-ghost use Rattle.bbm_histories.specs.events.declared.event.Event.{Event};
-ghost use Rattle.bbm_histories.specs.events.Heading.{Heading};
+ghost use Rattle.bbm_events.specs.declared.claim.Claim.{Claim};
+ghost use Rattle.bbm_events.specs.declared.event.Event.{Event};
+ghost use Rattle.bbm_events.specs.Heading.{Heading};
 ghost use Rattle.bbm_certificate.specs.Reading.{AreRead, Whole, read_of};
 
-use bbm_histories::events::{law_header_in_range, law_item_fits};
+use bbm_events::{law_header_in_range, law_item_fits};
 
 /// Where bytes are read whole, each event fits the header, and there are no more events and claims than the limits. The
 /// call does nothing; the law is its contract.

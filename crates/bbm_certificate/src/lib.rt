@@ -8,7 +8,6 @@ pub mod laws;
 mod taking;
 pub mod turn;
 
-pub use bbm_cert as cert;
 pub use judging::judge_kept;
 pub use kept::{Kept, Part};
 pub use laws::law_read_whole;

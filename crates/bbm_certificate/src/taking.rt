@@ -1,19 +1,19 @@
 //! A line of a log or of its certificate, taken.
 
 ghost use Rattle.std.specs.Prelude.{◌≡◌, suc, List, [], Ok, reverse};
-ghost use Rattle.bbm_histories.specs.events.Heading.{Heading};
-ghost use Rattle.bbm_histories.specs.events.declared.event.Event.{Event as TheEvent};
+ghost use Rattle.bbm_events.specs.Heading.{Heading};
+ghost use Rattle.bbm_events.specs.declared.event.Event.{Event as TheEvent};
 ghost use Rattle.bbm_certificate.specs.Reading.{AtClaims, AtEvents, TakesLine, after_claim, after_claim_item, after_event};
 ghost use Rattle.bbm_certificate.specs.Reading.{IsSound, after_first, after_item, after_line, claims_by, kept_at, next_number};
 
 use crate::kept::{Kept, Part};
 use crate::turn::{LineFault, Turn};
-use bbm_histories::events::{
+use bbm_events::{
     Claim, ClaimItem, Event, Header, Item, Malformed, law_header_in_range, law_item_fits,
 };
-use bbm_histories::rules::Verdict;
-use bbm_log_grammar::regimes::Which;
 use bbm_log_grammar::{read_certificate_line, read_claim, read_event};
+use bbm_regimes::Which;
+use bbm_rules::Verdict;
 
 /// The most events of a log that has a certificate.
 const EVENTS: usize = 2000;

@@ -1,6 +1,6 @@
 //! What a line decides.
 
-use bbm_histories::rules::Verdict;
+use bbm_rules::Verdict;
 
 /// What a line was that decides nothing.
 #[derive(Clone, Copy, Debug, PartialEq, Eq)]

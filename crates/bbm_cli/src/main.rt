@@ -1,7 +1,7 @@
 //! The program: it gathers its words, and does what they ask for, from standard input to standard output.
 #![tactic(auto)]
 
-use bbm_session::io::{StdSink, StdSource};
+use bbm_io::{StdSink, StdSource};
 use bbm_session::{Status, number, run};
 use std::io::ErrorKind;
 use std::process::ExitCode;

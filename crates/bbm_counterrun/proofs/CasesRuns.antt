@@ -1,9 +1,9 @@
 -- Worked cases: logs that end with a refused write, plans of conflict runs over them, and their runs.
 use Rattle.std.specs.Prelude.{◌≡◌, ℕ, Bool, true, false, List, [], ◌∷◌, Option, Some, None, reverse, refl}
 use Prim.Native.String.{String}
-use Rattle.bbm_tlb_machine.specs.rules.Prelude.{El2, S2}
+use Rattle.bbm_rules.specs.Prelude.{El2, S2}
 use Rattle.bbm_tlb_machine.specs.declared.step.Step.{Step}
-use Rattle.bbm_tlb_machine.specs.rules.Tree.{tree}
+use Rattle.bbm_rules.specs.Tree.{tree}
 use Rattle.bbm_tlb_machine.specs.Safe.{first_conflict}
 use Rattle.bbm_counterrun.specs.Plans.{Plan, comes_before, run_of}
 use Rattle.bbm_counterrun.specs.Refused.{ends_at_leaf}

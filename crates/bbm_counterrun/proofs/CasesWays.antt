@@ -1,8 +1,8 @@
 -- Worked cases: the way to the place of a refused write, and the least reads of it.
 use Rattle.std.specs.Prelude.{◌≡◌, ℕ, true, List, [], ◌∷◌, Option, Some, None, reverse, refl}
 use Prim.Native.String.{String}
-use Rattle.bbm_tlb_machine.specs.rules.Prelude.{El2}
-use Rattle.bbm_tlb_machine.specs.rules.Tree.{tree}
+use Rattle.bbm_rules.specs.Prelude.{El2}
+use Rattle.bbm_rules.specs.Tree.{tree}
 use Rattle.bbm_counterrun.specs.Plans.{Read}
 use Rattle.bbm_counterrun.specs.Tested.{first_events}
 use Rattle.bbm_counterrun.specs.Ways.{Goal, least_reads, way_to}

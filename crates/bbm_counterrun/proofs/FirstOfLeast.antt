@@ -2,7 +2,7 @@
 -- first of all.
 use Rattle.std.proofs.Common.{◌≡◌, ℕ, Bool, true, false, List, ◌∷◌, refl, sym, ◌∙◌, ap, true≢false}
 use Rattle.std.proofs.lemmas.Bool.{false_from_ne_true}
-use Rattle.bbm_tlb_machine.specs.rules.Prelude.{Heading, Event}
+use Rattle.bbm_rules.specs.Prelude.{Heading, Event}
 use Rattle.bbm_counterrun.specs.LeastList.{HasLeastReads}
 use Rattle.bbm_counterrun.specs.Plans.{IsFirst, IsPlain, Plan, by_combine, by_number, by_reads, comes_before, reads_of}
 use Rattle.bbm_counterrun.specs.Tested.{is_plain}

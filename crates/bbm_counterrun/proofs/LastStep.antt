@@ -1,10 +1,10 @@
 -- A conflict run over events that keep the rules conflicts at its last step alone.
 use Rattle.std.proofs.Common.{◌≡◌, ℕ, ◌↔◌, true, false, List, [], ◌∷◌, ◌++◌, length, Option, Some, None, Result, Ok, refl, sym, ◌∙◌, ap, subst, true≢false}
 use Rattle.std.proofs.lemmas.List.{append_assoc}
-use Rattle.bbm_tlb_machine.specs.events.declared.machine.MachineLine.TheVariants.{Start, Extend, Combine, Share, Drop}
-use Rattle.bbm_tlb_machine.specs.rules.Broken.{keeps}
-use Rattle.bbm_tlb_machine.specs.rules.Claims.{Trust}
-use Rattle.bbm_tlb_machine.specs.rules.Prelude.{Heading, Event, Write}
+use Rattle.bbm_events.specs.declared.machine.MachineLine.TheVariants.{Start, Extend, Combine, Share, Drop}
+use Rattle.bbm_rules.specs.Broken.{keeps}
+use Rattle.bbm_rules.specs.Claims.{Trust}
+use Rattle.bbm_rules.specs.Prelude.{Heading, Event, Write}
 use Rattle.bbm_tlb_machine.specs.declared.step.Step.{Step}
 use Rattle.bbm_tlb_machine.specs.declared.step.Step.TheVariants.{Machine, Event as Taken}
 use Rattle.bbm_tlb_machine.specs.First.{IsFirstConflict}

@@ -4,16 +4,16 @@ use Rattle.std.proofs.lemmas.Bool.{and_from, and_parts, cases_lt, eqb-true, ltb-
 use Rattle.std.specs.List.{cons_option}
 use Rattle.bbm_lists.specs.Elements.{In}
 use Rattle.bbm_lists.proofs.Elements.{from_filter, to_filter}
-use Rattle.bbm_histories.specs.regimes.declared.regime.Kind.{Kind}
-use Rattle.bbm_histories.specs.descriptor.Descriptor.{Form, core_in, desc_as, desc_of, desc_with, differ, form_of, is_valid, needs, same_core, valid_form}
-use Rattle.bbm_histories.specs.descriptor.declared.desc.Core.{Core}
-use Rattle.bbm_histories.specs.descriptor.declared.desc.Core.TheVariants.{Table as CoreTable, Leaf as CoreLeaf}
-use Rattle.bbm_histories.specs.descriptor.declared.desc.Desc.{Desc}
-use Rattle.bbm_histories.specs.descriptor.declared.desc.Desc.TheVariants.{Invalid, Table, Leaf}
-use Rattle.bbm_tlb_machine.specs.rules.Lists.{◌>>=◌, among, least}
-use Rattle.bbm_tlb_machine.specs.rules.Places.{page_of}
-use Rattle.bbm_tlb_machine.specs.rules.Prelude.{Heading, Event, Init, Write}
-use Rattle.bbm_tlb_machine.specs.rules.Values.{is_readable, published, readable_before}
+use Rattle.bbm_regimes.specs.declared.regime.Kind.{Kind}
+use Rattle.bbm_descriptor.specs.Descriptor.{Form, core_in, desc_as, desc_of, desc_with, differ, form_of, is_valid, needs, same_core, valid_form}
+use Rattle.bbm_descriptor.specs.declared.desc.Core.{Core}
+use Rattle.bbm_descriptor.specs.declared.desc.Core.TheVariants.{Table as CoreTable, Leaf as CoreLeaf}
+use Rattle.bbm_descriptor.specs.declared.desc.Desc.{Desc}
+use Rattle.bbm_descriptor.specs.declared.desc.Desc.TheVariants.{Invalid, Table, Leaf}
+use Rattle.bbm_rules.specs.Lists.{◌>>=◌, among, least}
+use Rattle.bbm_rules.specs.Places.{page_of}
+use Rattle.bbm_rules.specs.Prelude.{Heading, Event, Init, Write}
+use Rattle.bbm_rules.specs.Values.{is_readable, published, readable_before}
 use Rattle.bbm_counterrun.specs.Plans.{Read, by_number, by_reads}
 use Rattle.bbm_counterrun.specs.Ways.{Goal, goal_at, is_like, least_read, least_reads, written_at}
 use Rattle.bbm_counterrun.proofs.Sights.{IsLikeRead, LikeReads}

@@ -3,16 +3,16 @@
 use Rattle.std.proofs.Common.{◌≡◌, ℕ, ◌<◌, Bool, true, ◌&&◌, ◌==◌, List, [], ◌∷◌, ◌++◌, length, map, filter_map, reverse, Option, Some, None, inl, inr, refl, sym, ◌∙◌, ap, subst}
 use Rattle.std.proofs.lemmas.Bool.{and_from, and_parts, eqb-true, or_left}
 use Rattle.bbm_lists.specs.Elements.{In}
-use Rattle.bbm_histories.specs.descriptor.Descriptor.{core_in, core_of, differ, is_valid, needs}
-use Rattle.bbm_tlb_machine.specs.rules.Broken.{keeps}
-use Rattle.bbm_tlb_machine.specs.rules.Claims.{Patterns}
-use Rattle.bbm_tlb_machine.specs.rules.Covers.{noted}
-use Rattle.bbm_tlb_machine.specs.rules.Lists.{any}
-use Rattle.bbm_tlb_machine.specs.rules.Places.{page_of}
-use Rattle.bbm_tlb_machine.specs.rules.Prelude.{Heading, Event, Write, start_of}
-use Rattle.bbm_tlb_machine.specs.rules.Tags.{reads}
-use Rattle.bbm_tlb_machine.specs.rules.Tree.{Node, node_of}
-use Rattle.bbm_tlb_machine.specs.rules.Values.{is_readable}
+use Rattle.bbm_descriptor.specs.Descriptor.{core_in, core_of, differ, is_valid, needs}
+use Rattle.bbm_rules.specs.Broken.{keeps}
+use Rattle.bbm_rules.specs.Claims.{Patterns}
+use Rattle.bbm_rules.specs.Covers.{noted}
+use Rattle.bbm_rules.specs.Lists.{any}
+use Rattle.bbm_rules.specs.Places.{page_of}
+use Rattle.bbm_rules.specs.Prelude.{Heading, Event, Write, start_of}
+use Rattle.bbm_rules.specs.Tags.{reads}
+use Rattle.bbm_rules.specs.Tree.{Node, node_of}
+use Rattle.bbm_rules.specs.Values.{is_readable}
 use Rattle.bbm_tlb_machine.specs.Entry.{Entry, Part, parts_of, tag_of_entry}
 use Rattle.bbm_tlb_machine.specs.Invariant.{Begins, Chained, Fine}
 use Rattle.bbm_tlb_machine.specs.Safe.{IsLog, conflicts_with, is_stale}

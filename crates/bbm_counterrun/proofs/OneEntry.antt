@@ -2,10 +2,10 @@
 use Rattle.std.proofs.Common.{◌≡◌, ℕ, ◌+◌, ◌<◌, ◌≤◌, arith, Bool, true, false, ◌&&◌, ◌||◌, not, ◌==◌, nat_lt, nat_le, List, [], ◌∷◌, ◌++◌, length, map, reverse, Option, Some, refl, sym, ◌∙◌, ap}
 use Rattle.std.proofs.lemmas.Bool.{and_left, and_right, eq-eqb, le-leb, le-ltb, lt-leb, lt-ltb, or_from}
 use Rattle.std.proofs.lemmas.List.{length-append, map-append, reverse-append}
-use Rattle.bbm_tlb_machine.specs.rules.Lists.{◌>>=◌, any, if_so}
-use Rattle.bbm_tlb_machine.specs.rules.Prelude.{Heading, Event, Dsb}
-use Rattle.bbm_tlb_machine.specs.rules.Reach.{Issued, completes, unanswered}
-use Rattle.bbm_tlb_machine.specs.rules.Tags.{itself}
+use Rattle.bbm_rules.specs.Lists.{◌>>=◌, any, if_so}
+use Rattle.bbm_rules.specs.Prelude.{Heading, Event, Dsb}
+use Rattle.bbm_rules.specs.Reach.{Issued, completes, unanswered}
+use Rattle.bbm_rules.specs.Tags.{itself}
 use Rattle.bbm_tlb_machine.specs.declared.step.Step.TheVariants.{Event as Taken}
 use Rattle.bbm_tlb_machine.specs.Entry.{Entry}
 use Rattle.bbm_tlb_machine.specs.Run.{State, leaves_some}

@@ -2,8 +2,8 @@
 use Rattle.std.proofs.Common.{◌≡◌, ℕ, suc, ◌+◌, ◌-◌, ◌≤◌, arith, Bool, true, false, ◌&&◌, not, nat_lt, nat_le, ◌↔◌, List, [], ◌∷◌, ◌++◌, length, map, take, drop, reverse, Option, Contains, zero-le, Some, None, refl, sym, ◌∙◌, ap, subst, suc-le-suc, le_of_suc-le-suc}
 use Rattle.std.proofs.lemmas.Bool.{and_from, and_parts, le-leb, leb-true, lt-ltb, ltb-true}
 use Rattle.std.proofs.lemmas.List.{append-nil, append_assoc, drop-append-le, drop_at, length-append, length-drop, length-reverse, map-append, reverse-append, take-append-drop, take-append-le, take_at}
-use Rattle.bbm_tlb_machine.specs.rules.Lists.{◌>>=◌, if_so}
-use Rattle.bbm_tlb_machine.specs.rules.Prelude.{Heading, Event}
+use Rattle.bbm_rules.specs.Lists.{◌>>=◌, if_so}
+use Rattle.bbm_rules.specs.Prelude.{Heading, Event}
 use Rattle.bbm_tlb_machine.specs.declared.step.Step.{Step}
 use Rattle.bbm_tlb_machine.specs.declared.step.Step.TheVariants.{Event as Taken}
 use Rattle.bbm_tlb_machine.specs.Entry.{Entry}

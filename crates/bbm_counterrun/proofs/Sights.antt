@@ -1,24 +1,24 @@
 -- What is seen of an entry: walks that read values which mean the same at the same places can't be told apart by it.
 use Rattle.std.proofs.Common.{◌≡◌, ℕ, suc, ◌+◌, ◌-◌, ◌*◌, Bool, true, ◌&&◌, ◌||◌, not, nat_le, nat_lt, List, [], ◌∷◌, length, Option, Some, None, refl, sym, ◌∙◌, ap}
 use Rattle.std.proofs.lemmas.Bool.{and_from, and_parts}
-use Rattle.bbm_histories.specs.regimes.declared.regime.Kind.{Kind}
-use Rattle.bbm_histories.specs.descriptor.Descriptor.{desc_of, is_valid}
-use Rattle.bbm_histories.specs.descriptor.declared.desc.Desc.{Desc}
-use Rattle.bbm_histories.specs.tlbi_scope.declared.entry.EntryHead.{EntryHead}
-use Rattle.bbm_histories.specs.tlbi_scope.declared.entry.EntryKind.{EntryKind}
-use Rattle.bbm_histories.specs.tlbi_scope.declared.entry.EntryKind.TheVariants.{Combined}
-use Rattle.bbm_histories.specs.tlbi_scope.Agreement.{tag_of}
-use Rattle.bbm_histories.specs.tlbi_scope.Operations.{family_of}
-use Rattle.bbm_histories.specs.tlbi_scope.Takes.{taken}
-use Rattle.bbm_tlb_machine.specs.rules.Covers.{is_global}
-use Rattle.bbm_tlb_machine.specs.rules.Lists.{any, is_that, some}
-use Rattle.bbm_tlb_machine.specs.rules.Places.{index_of, page_of}
-use Rattle.bbm_tlb_machine.specs.rules.Prelude.{Heading, Event, Dsb, Scope, Tlbi, input_pages, start_of}
-use Rattle.bbm_tlb_machine.specs.rules.Reach.{Issued, completes, reaches, unanswered}
-use Rattle.bbm_tlb_machine.specs.rules.Registers.{named_scope, vmid_of}
-use Rattle.bbm_tlb_machine.specs.rules.Tags.{itself, reads}
-use Rattle.bbm_tlb_machine.specs.rules.Tree.{next_in}
-use Rattle.bbm_tlb_machine.specs.rules.Values.{is_readable}
+use Rattle.bbm_regimes.specs.declared.regime.Kind.{Kind}
+use Rattle.bbm_descriptor.specs.Descriptor.{desc_of, is_valid}
+use Rattle.bbm_descriptor.specs.declared.desc.Desc.{Desc}
+use Rattle.bbm_tlbi_scope.specs.declared.entry.EntryHead.{EntryHead}
+use Rattle.bbm_tlbi_scope.specs.declared.entry.EntryKind.{EntryKind}
+use Rattle.bbm_tlbi_scope.specs.declared.entry.EntryKind.TheVariants.{Combined}
+use Rattle.bbm_tlbi_scope.specs.Agreement.{tag_of}
+use Rattle.bbm_tlbi_scope.specs.Operations.{family_of}
+use Rattle.bbm_tlbi_scope.specs.Takes.{taken}
+use Rattle.bbm_rules.specs.Covers.{is_global}
+use Rattle.bbm_rules.specs.Lists.{any, is_that, some}
+use Rattle.bbm_rules.specs.Places.{index_of, page_of}
+use Rattle.bbm_rules.specs.Prelude.{Heading, Event, Dsb, Scope, Tlbi, input_pages, start_of}
+use Rattle.bbm_rules.specs.Reach.{Issued, completes, reaches, unanswered}
+use Rattle.bbm_rules.specs.Registers.{named_scope, vmid_of}
+use Rattle.bbm_rules.specs.Tags.{itself, reads}
+use Rattle.bbm_rules.specs.Tree.{next_in}
+use Rattle.bbm_rules.specs.Values.{is_readable}
 use Rattle.bbm_tlb_machine.specs.Entry.{Entry, age_by, desc_in, is_leaf}
 use Rattle.bbm_tlb_machine.specs.Step.{combined, extended, has_number, is_older, is_stage2, may_extend, may_start, must_go, started, takes, takes_by}
 use Rattle.bbm_counterrun.specs.Plans.{Plan, Read}

@@ -1,9 +1,9 @@
 -- What a walk leaves: one entry, where each of its steps can be taken.
 use Rattle.std.proofs.Common.{◌≡◌, ℕ, suc, ◌+◌, ◌<◌, arith, Bool, true, false, not, ◌==◌, cond, List, [], ◌∷◌, ◌++◌, length, find, filter, Option, Some, None, option_map, refl, ◌∙◌, ap}
 use Rattle.std.proofs.lemmas.Bool.{ne_eqb}
-use Rattle.bbm_tlb_machine.specs.rules.Lists.{◌>>=◌, if_so}
-use Rattle.bbm_tlb_machine.specs.rules.Prelude.{Heading, Event}
-use Rattle.bbm_tlb_machine.specs.events.declared.machine.MachineLine.TheVariants.{Drop}
+use Rattle.bbm_rules.specs.Lists.{◌>>=◌, if_so}
+use Rattle.bbm_rules.specs.Prelude.{Heading, Event}
+use Rattle.bbm_events.specs.declared.machine.MachineLine.TheVariants.{Drop}
 use Rattle.bbm_tlb_machine.specs.declared.step.Step.TheVariants.{Machine}
 use Rattle.bbm_tlb_machine.specs.Entry.{Entry}
 use Rattle.bbm_tlb_machine.specs.Run.{Living, State, entry_at, step_to, with_entry, without}

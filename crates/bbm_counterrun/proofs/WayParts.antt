@@ -4,22 +4,22 @@ use Rattle.std.proofs.lemmas.Bool.{and_parts, eqb-true, or_cases}
 use Rattle.std.proofs.lemmas.List.{append_assoc, reverse-append}
 use Rattle.bbm_lists.specs.Elements.{In}
 use Rattle.bbm_lists.proofs.Elements.{to_contains}
-use Rattle.bbm_histories.specs.regimes.declared.regime.Kind.{Kind}
-use Rattle.bbm_histories.specs.descriptor.Descriptor.{desc_of, is_valid, needs}
-use Rattle.bbm_histories.specs.descriptor.declared.desc.Desc.{Desc}
-use Rattle.bbm_histories.specs.descriptor.declared.desc.Desc.TheVariants.{Invalid, Table, Leaf}
-use Rattle.bbm_tlb_machine.specs.rules.Broken.{keeps}
-use Rattle.bbm_tlb_machine.specs.rules.Claims.{Patterns}
-use Rattle.bbm_tlb_machine.specs.rules.Covers.{noted}
-use Rattle.bbm_tlb_machine.specs.rules.Held.{held}
-use Rattle.bbm_tlb_machine.specs.rules.Lists.{◌>>=◌, any, is_that}
-use Rattle.bbm_tlb_machine.specs.rules.Notes.{Noted}
-use Rattle.bbm_tlb_machine.specs.rules.Places.{page_of}
-use Rattle.bbm_tlb_machine.specs.rules.Prelude.{Heading, Event, start_of}
-use Rattle.bbm_tlb_machine.specs.rules.Roots.{Declared, root_pages}
-use Rattle.bbm_tlb_machine.specs.rules.Tree.{Above, Node, held_at, next_in, next_of, node_below, node_of, nodes_of_root, tree}
-use Rattle.bbm_tlb_machine.specs.rules.TreeSentences.{Down, IsNode}
-use Rattle.bbm_tlb_machine.specs.rules.Values.{is_readable}
+use Rattle.bbm_regimes.specs.declared.regime.Kind.{Kind}
+use Rattle.bbm_descriptor.specs.Descriptor.{desc_of, is_valid, needs}
+use Rattle.bbm_descriptor.specs.declared.desc.Desc.{Desc}
+use Rattle.bbm_descriptor.specs.declared.desc.Desc.TheVariants.{Invalid, Table, Leaf}
+use Rattle.bbm_rules.specs.Broken.{keeps}
+use Rattle.bbm_rules.specs.Claims.{Patterns}
+use Rattle.bbm_rules.specs.Covers.{noted}
+use Rattle.bbm_rules.specs.Held.{held}
+use Rattle.bbm_rules.specs.Lists.{◌>>=◌, any, is_that}
+use Rattle.bbm_rules.specs.Notes.{Noted}
+use Rattle.bbm_rules.specs.Places.{page_of}
+use Rattle.bbm_rules.specs.Prelude.{Heading, Event, start_of}
+use Rattle.bbm_rules.specs.Roots.{Declared, root_pages}
+use Rattle.bbm_rules.specs.Tree.{Above, Node, held_at, next_in, next_of, node_below, node_of, nodes_of_root, tree}
+use Rattle.bbm_rules.specs.TreeSentences.{Down, IsNode}
+use Rattle.bbm_rules.specs.Values.{is_readable}
 use Rattle.bbm_tlb_machine.specs.declared.step.Step.{Step}
 use Rattle.bbm_tlb_machine.specs.Entry.{Entry, Part, desc_in, is_leaf, parts_of}
 use Rattle.bbm_tlb_machine.specs.Invariant.{Begins, Chained, Fine, Holding, Placed}

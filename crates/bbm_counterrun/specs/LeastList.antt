@@ -2,11 +2,11 @@
 -- are the least of the way to the place of the event. `law_least_reads` says so. A history is newest first.
 -- Source: project's own choice.
 use Rattle.std.specs.Prelude.{◌≡◌, ℕ, ◌<◌, Bool, true, List, ◌∷◌, Some}
-use Rattle.bbm_tlb_machine.specs.rules.Claims.{Patterns}
-use Rattle.bbm_tlb_machine.specs.rules.Covers.{noted}
-use Rattle.bbm_tlb_machine.specs.rules.Places.{page_of}
-use Rattle.bbm_tlb_machine.specs.rules.Prelude.{Heading, Event}
-use Rattle.bbm_tlb_machine.specs.rules.Tree.{Node, node_of}
+use Rattle.bbm_rules.specs.Claims.{Patterns}
+use Rattle.bbm_rules.specs.Covers.{noted}
+use Rattle.bbm_rules.specs.Places.{page_of}
+use Rattle.bbm_rules.specs.Prelude.{Heading, Event}
+use Rattle.bbm_rules.specs.Tree.{Node, node_of}
 use Rattle.bbm_counterrun.specs.Plans.{Plan, Read, by_reads, reads_of}
 use Rattle.bbm_counterrun.specs.Tested.{first_events, is_plain}
 use Rattle.bbm_counterrun.specs.Ways.{least_reads, way_to}

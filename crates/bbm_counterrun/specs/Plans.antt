@@ -3,8 +3,8 @@
 -- Source: project's own choice.
 use Rattle.std.specs.Prelude.{◌≡◌, ℕ, zero, suc, ◌<◌, ◌≤◌, Bool, true, false, ◌&&◌, ◌||◌, ◌==◌, nat_lt, List, [], ◌∷◌}
 use Rattle.std.specs.Prelude.{◌++◌, length, map, take, drop, reverse, Option, Some, None, Ok}
-use Rattle.bbm_tlb_machine.specs.events.declared.machine.MachineLine.TheVariants.{Start, Extend, Combine, Drop}
-use Rattle.bbm_tlb_machine.specs.rules.Prelude.{Kind, Heading, Event}
+use Rattle.bbm_events.specs.declared.machine.MachineLine.TheVariants.{Start, Extend, Combine, Drop}
+use Rattle.bbm_rules.specs.Prelude.{Kind, Heading, Event}
 use Rattle.bbm_tlb_machine.specs.declared.step.Step.{Step}
 use Rattle.bbm_tlb_machine.specs.declared.step.Step.TheVariants.{Machine, Event as Taken}
 use Rattle.bbm_tlb_machine.specs.Run.{IsRun, State, follow_steps}

@@ -1,16 +1,16 @@
 -- A write that the rule of break-before-make refuses, and what its place holds. A history is newest first.
 -- Source: project's own choice.
 use Rattle.std.specs.Prelude.{◌≡◌, ℕ, Bool, false, true, List, ◌∷◌, Option, Some, unwrap_or}
-use Rattle.bbm_oracle_trees.specs.descriptor.Descriptor.{desc_of}
-use Rattle.bbm_tlb_machine.specs.rules.Broken.{broken, keeps}
-use Rattle.bbm_tlb_machine.specs.rules.Claims.{Trust, Patterns}
-use Rattle.bbm_tlb_machine.specs.rules.Covers.{noted}
-use Rattle.bbm_tlb_machine.specs.rules.Lists.{◌>>=◌}
-use Rattle.bbm_tlb_machine.specs.rules.Notes.{Noted}
-use Rattle.bbm_tlb_machine.specs.rules.Places.{page_of}
-use Rattle.bbm_tlb_machine.specs.rules.Prelude.{Heading, Event, Write}
-use Rattle.bbm_tlb_machine.specs.rules.Tree.{Node, held_at, node_of}
-use Rattle.bbm_tlb_machine.specs.rules.declared.rule.Rule.TheVariants.{BreakBeforeMake}
+use Rattle.bbm_descriptor.specs.Descriptor.{desc_of}
+use Rattle.bbm_rules.specs.Broken.{broken, keeps}
+use Rattle.bbm_rules.specs.Claims.{Trust, Patterns}
+use Rattle.bbm_rules.specs.Covers.{noted}
+use Rattle.bbm_rules.specs.Lists.{◌>>=◌}
+use Rattle.bbm_rules.specs.Notes.{Noted}
+use Rattle.bbm_rules.specs.Places.{page_of}
+use Rattle.bbm_rules.specs.Prelude.{Heading, Event, Write}
+use Rattle.bbm_rules.specs.Tree.{Node, held_at, node_of}
+use Rattle.bbm_rules.specs.declared.rule.Rule.TheVariants.{BreakBeforeMake}
 use Rattle.bbm_tlb_machine.specs.Entry.{is_leaf}
 
 -- the events of h keep the rules, and the write after them breaks this one

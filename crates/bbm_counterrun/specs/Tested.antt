@@ -5,10 +5,10 @@
 -- Source: project's own choice.
 use Rattle.std.specs.Prelude.{ℕ, ◌-◌, Bool, true, false, ◌&&◌, not, nat_le, nat_lt, List, [], ◌∷◌, length, drop, Option}
 use Rattle.std.specs.Prelude.{Some, None}
-use Rattle.bbm_tlb_machine.specs.rules.Lists.{any, some}
-use Rattle.bbm_tlb_machine.specs.rules.Prelude.{Heading, Event, Dsb}
-use Rattle.bbm_tlb_machine.specs.rules.Reach.{completes, unanswered}
-use Rattle.bbm_tlb_machine.specs.rules.Tags.{itself}
+use Rattle.bbm_rules.specs.Lists.{any, some}
+use Rattle.bbm_rules.specs.Prelude.{Heading, Event, Dsb}
+use Rattle.bbm_rules.specs.Reach.{completes, unanswered}
+use Rattle.bbm_rules.specs.Tags.{itself}
 use Rattle.bbm_tlb_machine.specs.Entry.{Entry}
 use Rattle.bbm_tlb_machine.specs.Safe.{conflicts_with}
 use Rattle.bbm_tlb_machine.specs.Step.{combined, extended, is_stage2, may_extend, may_start, must_go, started}

@@ -3,14 +3,14 @@
 -- Source: project's own choice.
 use Rattle.std.specs.Prelude.{ℕ, Bool, ◌&&◌, not, ◌==◌, List, [], ◌∷◌, ◌++◌, map, filter, filter_map, reverse, Option, Some}
 use Rattle.std.specs.Prelude.{None, if◌then◌else◌}
-use Rattle.bbm_oracle_trees.specs.descriptor.Descriptor.{is_valid, needs}
-use Rattle.bbm_tlb_machine.specs.rules.Claims.{Patterns}
-use Rattle.bbm_tlb_machine.specs.rules.Covers.{noted}
-use Rattle.bbm_tlb_machine.specs.rules.Lists.{◌>>=◌, least}
-use Rattle.bbm_tlb_machine.specs.rules.Places.{page_of}
-use Rattle.bbm_tlb_machine.specs.rules.Prelude.{Kind, Heading, Event, Write}
-use Rattle.bbm_tlb_machine.specs.rules.Tree.{Node, held_at, node_of}
-use Rattle.bbm_tlb_machine.specs.rules.Values.{is_readable}
+use Rattle.bbm_descriptor.specs.Descriptor.{is_valid, needs}
+use Rattle.bbm_rules.specs.Claims.{Patterns}
+use Rattle.bbm_rules.specs.Covers.{noted}
+use Rattle.bbm_rules.specs.Lists.{◌>>=◌, least}
+use Rattle.bbm_rules.specs.Places.{page_of}
+use Rattle.bbm_rules.specs.Prelude.{Kind, Heading, Event, Write}
+use Rattle.bbm_rules.specs.Tree.{Node, held_at, node_of}
+use Rattle.bbm_rules.specs.Values.{is_readable}
 use Rattle.bbm_counterrun.specs.Plans.{Read}
 
 -- a place of a tree, its kind and level there, and what it holds

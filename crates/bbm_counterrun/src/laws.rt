@@ -3,11 +3,11 @@
 ghost use Rattle.std.specs.Prelude.{◌≡◌, ◌↔◌, ℕ, true, List};
 ghost use Rattle.bbm_counterrun.specs.Plans.{EndsInConflict, IsConflictRun, IsPlain, Plan};
 ghost use Rattle.bbm_counterrun.specs.Tested.{is_plain};
-ghost use Rattle.bbm_tlb_machine.specs.events.Heading.{Heading};
-ghost use Rattle.bbm_tlb_machine.specs.events.declared.event.Event.{Event};
-ghost use Rattle.bbm_tlb_machine.specs.events.declared.event.Event.TheVariants.{Write};
-ghost use Rattle.bbm_tlb_machine.specs.rules.Broken.{keeps};
-ghost use Rattle.bbm_tlb_machine.specs.rules.Claims.{Trust};
+ghost use Rattle.bbm_events.specs.Heading.{Heading};
+ghost use Rattle.bbm_events.specs.declared.event.Event.{Event};
+ghost use Rattle.bbm_events.specs.declared.event.Event.TheVariants.{Write};
+ghost use Rattle.bbm_rules.specs.Broken.{keeps};
+ghost use Rattle.bbm_rules.specs.Claims.{Trust};
 ghost use Rattle.bbm_tlb_machine.specs.Safe.{IsLog};
 ghost use Rattle.bbm_tlb_machine.specs.declared.step.Step.{Step};
 

@@ -4,14 +4,14 @@ ghost use Rattle.std.specs.Prelude.{◌≡◌, true, false, reverse, All, IfOk, 
 ghost use Rattle.bbm_counterrun.specs.Refused as spec;
 ghost use Rattle.bbm_oracle_trees.specs.Past.{notes};
 ghost use Rattle.bbm_oracle_trees.specs.StandsFor.{StandsFor};
-ghost use Rattle.bbm_tlb_machine.specs.events.Fits.{fits_heading};
-ghost use Rattle.bbm_tlb_machine.specs.rules.Claims.{Patterns};
+ghost use Rattle.bbm_events.specs.Fits.{fits_heading};
+ghost use Rattle.bbm_rules.specs.Claims.{Patterns};
 
-use bbm_oracle_trees::descriptor::{Desc, read};
-use bbm_oracle_trees::events::{Event, Header};
-use bbm_oracle_trees::oracle_tags::AllPatterns;
-use bbm_oracle_trees::regimes::{NoMemory, Place};
+use bbm_descriptor::{Desc, read};
+use bbm_events::{Event, Header};
+use bbm_oracle_tags::AllPatterns;
 use bbm_oracle_trees::{History, Node};
+use bbm_regimes::{NoMemory, Place};
 use std::alloc::Global;
 
 /// The history of these events, the oldest first.

@@ -5,16 +5,16 @@ ghost use Rattle.bbm_counterrun.specs.LeastList.{HasLeastReads};
 ghost use Rattle.bbm_counterrun.specs.Plans.{Plan};
 ghost use Rattle.bbm_counterrun.specs.Refused.{holds_leaf as holds_leaf_at};
 ghost use Rattle.bbm_counterrun.specs.Tested.{is_plain};
-ghost use Rattle.bbm_tlb_machine.specs.events.Heading.{Heading};
-ghost use Rattle.bbm_tlb_machine.specs.events.declared.event.Event.{Event};
-ghost use Rattle.bbm_tlb_machine.specs.events.declared.event.Event.TheVariants.{Write};
-ghost use Rattle.bbm_tlb_machine.specs.rules.Broken.{keeps};
-ghost use Rattle.bbm_tlb_machine.specs.rules.Claims.{Patterns};
+ghost use Rattle.bbm_events.specs.Heading.{Heading};
+ghost use Rattle.bbm_events.specs.declared.event.Event.{Event};
+ghost use Rattle.bbm_events.specs.declared.event.Event.TheVariants.{Write};
+ghost use Rattle.bbm_rules.specs.Broken.{keeps};
+ghost use Rattle.bbm_rules.specs.Claims.{Patterns};
 ghost use Rattle.bbm_tlb_machine.specs.Safe.{IsLog};
 
+use bbm_descriptor::laws::law_same_core_is_equal;
 use bbm_histories::law_one_node;
-use bbm_oracle_trees::descriptor::laws::law_same_core_is_equal;
-use bbm_tlb_machine::rules::{law_held, law_root_pages, law_tree};
+use bbm_rules::{law_held, law_root_pages, law_tree};
 use bbm_tlb_machine::{law_fine, law_run};
 
 /// Where a plan's run is a plain conflict run at a write over a leaf, after events that keep the rules, its PE is one of

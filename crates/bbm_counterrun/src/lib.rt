@@ -5,8 +5,6 @@ mod laws;
 mod leaf;
 mod least_list;
 
-pub use bbm_oracle_trees as oracle_trees;
-pub use bbm_tlb_machine as tlb_machine;
 pub use laws::{law_conflict_at_the_end, law_plain_is_tested};
 pub use leaf::holds_leaf;
 pub use least_list::law_least_reads;

@@ -8,7 +8,6 @@ pub mod laws;
 pub mod memory;
 pub mod walk;
 
-pub use bbm_regimes as regimes;
 pub use decode::{core, needs_bbm, read};
 pub use desc::{Core, Desc};
 pub use memory::{Memory, Pairs};

@@ -26,10 +26,6 @@ pub mod marks;
 pub mod pending;
 pub mod state;
 
-pub use bbm_barriers as barriers;
-pub use bbm_descriptor as descriptor;
-pub use bbm_regimes as regimes;
-pub use bbm_tlbi_scope as tlbi_scope;
 pub use example::break_before_make;
 pub use laws::{law_completes, law_steps};
 pub use marks::Marks;

@@ -4,8 +4,8 @@ use Rattle.std.proofs.Common.{◌≡◌, ℕ, ◌^◌, ◌<◌, List, [], ◌∷
 use Rattle.std.specs.Prelude.{IfErr, codes, decimal, bytes_eq}
 use Rattle.std.proofs.lemmas.Bool.{and_parts, ltb-true, eqb-true}
 use Rattle.std.proofs.lemmas.Slice.Eq.{bytes_eq-Decides}
-use Rattle.bbm_barriers.specs.regimes.declared.regime.Tag.{Tag}
-use Rattle.bbm_barriers.specs.regimes.declared.regime.Tag.TheVariants as tag
+use Rattle.bbm_regimes.specs.declared.regime.Tag.{Tag}
+use Rattle.bbm_regimes.specs.declared.regime.Tag.TheVariants as tag
 use Rattle.bbm_events.specs.declared.claim.Claim.{Claim}
 use Rattle.bbm_events.specs.declared.claim.Claim.TheVariants.{Place, Two, Taken}
 use Rattle.bbm_events.specs.declared.certificate.ClaimItem.{ClaimItem}

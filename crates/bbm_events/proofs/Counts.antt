@@ -1,10 +1,10 @@
 -- The number of pages of a root is 1 to 16.
 use Rattle.std.proofs.Common.{◌≡◌, ℕ, ◌≤◌, Bool, true, false, cond, ◌||◌, ◌==◌, IsTrue, subst, sym, arith, inl, inr, true≢false}
 use Rattle.std.proofs.lemmas.Bool.{and_parts, eqb-true, or_cases}
-use Rattle.bbm_barriers.specs.regimes.declared.regime.HypWorld.{HypWorld}
-use Rattle.bbm_barriers.specs.regimes.declared.regime.World.TheVariants.{Hyp}
-use Rattle.bbm_barriers.specs.regimes.declared.regime.World.{World}
-use Rattle.bbm_barriers.specs.regimes.World.{world_ok}
+use Rattle.bbm_regimes.specs.declared.regime.HypWorld.{HypWorld}
+use Rattle.bbm_regimes.specs.declared.regime.World.TheVariants.{Hyp}
+use Rattle.bbm_regimes.specs.declared.regime.World.{World}
+use Rattle.bbm_regimes.specs.World.{world_ok}
 use Rattle.bbm_events.specs.Heading.{Heading, heading_ok}
 
 one_or : (n m : ℕ) (rest : Bool) → (rest ≡ true → (1 ≤ n) × (n ≤ 16)) → 1 ≤ m → m ≤ 16 → (rest || n == m) ≡ true → (1 ≤ n) × (n ≤ 16)

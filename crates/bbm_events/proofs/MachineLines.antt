@@ -3,8 +3,8 @@
 use Rattle.std.proofs.Common.{◌≡◌, ℕ, ◌^◌, ◌<◌, List, [], ◌∷◌, true, ◌&&◌, refl, ap, ◌∙◌, Result, Ok, arith}
 use Rattle.std.specs.Prelude.{IfErr, codes, decimal}
 use Rattle.std.proofs.lemmas.Bool.{and_parts, ltb-true, eqb-true}
-use Rattle.bbm_barriers.specs.regimes.declared.regime.Kind.{Kind}
-use Rattle.bbm_barriers.specs.regimes.declared.regime.Kind.TheVariants.{El2, S2, Ttbr0, Ttbr1}
+use Rattle.bbm_regimes.specs.declared.regime.Kind.{Kind}
+use Rattle.bbm_regimes.specs.declared.regime.Kind.TheVariants.{El2, S2, Ttbr0, Ttbr1}
 use Rattle.bbm_events.specs.declared.machine.MachineLine.{MachineLine}
 use Rattle.bbm_events.specs.declared.machine.MachineLine.TheVariants.{Start, Extend, Combine, Share, Drop}
 use Rattle.bbm_events.specs.declared.machine.MachineWord.{MachineWord}

@@ -8,7 +8,7 @@ use Rattle.bbm_events.specs.declared.malformed.Malformed.{Malformed}
 use Rattle.bbm_events.specs.declared.malformed.Malformed.TheVariants.{BadHeader, UnknownWord, BadNumber, BadPe, BadAddress, MissingField, BadLabel}
 use Rattle.std.specs.Prelude.{bytes_eq, codes, drop, ◌==◌, ◌||◌}
 use Rattle.std.specs.Str.Parse.{digits_value}
-use Rattle.bbm_barriers.specs.regimes.declared.regime.World.TheVariants.{Hyp, Kernel}
+use Rattle.bbm_regimes.specs.declared.regime.World.TheVariants.{Hyp, Kernel}
 use Rattle.std.specs.Option.{option_map}
 use Rattle.bbm_events.specs.declared.keyword.Keyword.{Keyword}
 use Rattle.bbm_events.specs.declared.keyword.Keyword.TheVariants as first

@@ -1,11 +1,11 @@
 -- Each word is read as its value again, and each byte of it shows.
 use Rattle.std.proofs.Common.{◌≡◌, Bool, true, false, refl, Some}
-use Rattle.bbm_barriers.specs.regimes.declared.regime.Kind.{Kind}
-use Rattle.bbm_barriers.specs.regimes.declared.regime.Kind.TheVariants.{El2, S2, Ttbr0, Ttbr1}
-use Rattle.bbm_barriers.specs.regimes.declared.regime.Reg.{Reg}
-use Rattle.bbm_barriers.specs.regimes.declared.regime.Reg.TheVariants.{Ttbr0El2, VttbrEl2, Ttbr0El1, Ttbr1El1}
-use Rattle.bbm_barriers.specs.regimes.declared.regime.AsidFrom.{AsidFrom}
-use Rattle.bbm_barriers.specs.regimes.declared.regime.AsidFrom.TheVariants as from
+use Rattle.bbm_regimes.specs.declared.regime.Kind.{Kind}
+use Rattle.bbm_regimes.specs.declared.regime.Kind.TheVariants.{El2, S2, Ttbr0, Ttbr1}
+use Rattle.bbm_regimes.specs.declared.regime.Reg.{Reg}
+use Rattle.bbm_regimes.specs.declared.regime.Reg.TheVariants.{Ttbr0El2, VttbrEl2, Ttbr0El1, Ttbr1El1}
+use Rattle.bbm_regimes.specs.declared.regime.AsidFrom.{AsidFrom}
+use Rattle.bbm_regimes.specs.declared.regime.AsidFrom.TheVariants as from
 use Rattle.bbm_barriers.specs.declared.Dsb.{Dsb}
 use Rattle.bbm_barriers.specs.declared.Domain.{Domain}
 use Rattle.bbm_barriers.specs.declared.Domain.TheVariants.{Full, Inner, Outer, Non}

@@ -6,13 +6,13 @@ use Rattle.std.specs.Fmt.{digits}
 use Rattle.std.proofs.lemmas.Slice.Eq.{bytes_eq-Decides}
 use Rattle.std.proofs.lemmas.Bool.{and_parts, ltb-true, leb-true, eqb-true}
 use Rattle.std.proofs.lemmas.Bool.Decides.{nat_tests}
-use Rattle.bbm_barriers.specs.regimes.declared.regime.World.{World}
-use Rattle.bbm_barriers.specs.regimes.declared.regime.HypWorld.{HypWorld}
-use Rattle.bbm_barriers.specs.regimes.declared.regime.KernelWorld.{KernelWorld}
-use Rattle.bbm_barriers.specs.regimes.declared.regime.World.TheVariants.{Hyp, Kernel}
-use Rattle.bbm_barriers.specs.regimes.World.{world_ok, page_count}
-use Rattle.bbm_barriers.specs.regimes.declared.regime.Kind.{Kind}
-use Rattle.bbm_barriers.specs.regimes.declared.regime.Reg.{Reg}
+use Rattle.bbm_regimes.specs.declared.regime.World.{World}
+use Rattle.bbm_regimes.specs.declared.regime.HypWorld.{HypWorld}
+use Rattle.bbm_regimes.specs.declared.regime.KernelWorld.{KernelWorld}
+use Rattle.bbm_regimes.specs.declared.regime.World.TheVariants.{Hyp, Kernel}
+use Rattle.bbm_regimes.specs.World.{world_ok, page_count}
+use Rattle.bbm_regimes.specs.declared.regime.Kind.{Kind}
+use Rattle.bbm_regimes.specs.declared.regime.Reg.{Reg}
 use Rattle.bbm_barriers.specs.declared.Dsb.{Dsb}
 use Rattle.bbm_tlbi_scope.specs.declared.op.TlbiOp.{TlbiOp}
 use Rattle.bbm_events.specs.declared.event.Event.{Event}

@@ -3,8 +3,8 @@
 -- Source: project's own choice.
 use Rattle.std.specs.Prelude.{ℕ, ◌^◌, List, [], ◌∷◌, Bool, ◌&&◌, nat_lt, ◌==◌, if◌then◌else◌, Result, Ok, Err}
 use Rattle.std.specs.Prelude.{codes, decimal, bytes_eq}
-use Rattle.bbm_barriers.specs.regimes.declared.regime.Tag.{Tag}
-use Rattle.bbm_barriers.specs.regimes.declared.regime.Tag.TheVariants as tag
+use Rattle.bbm_regimes.specs.declared.regime.Tag.{Tag}
+use Rattle.bbm_regimes.specs.declared.regime.Tag.TheVariants as tag
 use Rattle.bbm_events.specs.declared.claim.Claim.{Claim}
 use Rattle.bbm_events.specs.declared.claim.Claim.TheVariants.{Place, Two, Taken}
 use Rattle.bbm_events.specs.declared.certificate.ClaimItem.{ClaimItem}

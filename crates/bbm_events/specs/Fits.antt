@@ -1,9 +1,9 @@
 -- Which events and items can stand in a log with a header.
 -- Source: project's own choice, but for the alignments.
 use Rattle.std.specs.Prelude.{ℕ, List, ◌^◌, ◌*◌, ◌%◌, Bool, true, ◌&&◌, ◌||◌, nat_lt, ◌==◌, Option, Some, None}
-use Rattle.bbm_barriers.specs.regimes.declared.regime.World.{World}
-use Rattle.bbm_barriers.specs.regimes.declared.regime.Kind.{Kind}
-use Rattle.bbm_barriers.specs.regimes.World.{page_count}
+use Rattle.bbm_regimes.specs.declared.regime.World.{World}
+use Rattle.bbm_regimes.specs.declared.regime.Kind.{Kind}
+use Rattle.bbm_regimes.specs.World.{page_count}
 use Rattle.bbm_tlbi_scope.specs.declared.op.TlbiOp.{TlbiOp}
 use Rattle.bbm_tlbi_scope.specs.Operations.{has_operand}
 use Rattle.bbm_events.specs.declared.event.Event.{Event}

@@ -1,8 +1,8 @@
 -- What a log's header says.
 -- Source: project's own choice.
 use Rattle.std.specs.Prelude.{ℕ, Bool, ◌&&◌, ◌||◌, not, nat_le, nat_lt, if◌then◌else◌}
-use Rattle.bbm_barriers.specs.regimes.declared.regime.World.{World}
-use Rattle.bbm_barriers.specs.regimes.World.{world_ok}
+use Rattle.bbm_regimes.specs.declared.regime.World.{World}
+use Rattle.bbm_regimes.specs.World.{world_ok}
 use Rattle.bbm_tlbi_scope.specs.declared.op.TlbiOp.{TlbiOp}
 use Rattle.bbm_tlbi_scope.specs.Operations.{operation}
 

@@ -2,12 +2,12 @@
 -- Source: project's own choice, where no other is named.
 use Rattle.std.specs.Prelude.{ℕ, List, [], ◌∷◌, Bool, true, false, Option, codes, bytes_eq}
 use Rattle.std.specs.List.{find}
-use Rattle.bbm_barriers.specs.regimes.declared.regime.Kind.{Kind}
-use Rattle.bbm_barriers.specs.regimes.declared.regime.Kind.TheVariants.{El2, S2, Ttbr0, Ttbr1}
-use Rattle.bbm_barriers.specs.regimes.declared.regime.Reg.{Reg}
-use Rattle.bbm_barriers.specs.regimes.declared.regime.Reg.TheVariants.{Ttbr0El2, VttbrEl2, Ttbr0El1, Ttbr1El1}
-use Rattle.bbm_barriers.specs.regimes.declared.regime.AsidFrom.{AsidFrom}
-use Rattle.bbm_barriers.specs.regimes.declared.regime.AsidFrom.TheVariants as from
+use Rattle.bbm_regimes.specs.declared.regime.Kind.{Kind}
+use Rattle.bbm_regimes.specs.declared.regime.Kind.TheVariants.{El2, S2, Ttbr0, Ttbr1}
+use Rattle.bbm_regimes.specs.declared.regime.Reg.{Reg}
+use Rattle.bbm_regimes.specs.declared.regime.Reg.TheVariants.{Ttbr0El2, VttbrEl2, Ttbr0El1, Ttbr1El1}
+use Rattle.bbm_regimes.specs.declared.regime.AsidFrom.{AsidFrom}
+use Rattle.bbm_regimes.specs.declared.regime.AsidFrom.TheVariants as from
 use Rattle.bbm_barriers.specs.declared.Dsb.{Dsb}
 use Rattle.bbm_barriers.specs.declared.Domain.{Domain}
 use Rattle.bbm_barriers.specs.declared.Domain.TheVariants.{Full, Inner, Outer, Non}

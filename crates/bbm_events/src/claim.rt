@@ -1,6 +1,6 @@
 //! The claims of a certificate.
 
-use bbm_barriers::regimes::{Pe, Place, Tag};
+use bbm_regimes::{Pe, Place, Tag};
 
 /// A claim that a place is cleansed, or a tag taken away, at a PE, with the positions of the events that make it so. A
 /// position is the number of an event of the log, counted from 1: a claim that is true has positions 1 to 4294967295, in

@@ -3,7 +3,7 @@
 
 use crate::label::Label;
 use bbm_barriers::Dsb;
-use bbm_barriers::regimes::{Kind, Page, Pe, Place, Reg};
+use bbm_regimes::{Kind, Page, Pe, Place, Reg};
 use bbm_tlbi_scope::TlbiOp;
 
 /// One line of a log between its header and its `end`: one atomic action of one PE.

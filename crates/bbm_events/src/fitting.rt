@@ -11,7 +11,7 @@ use crate::certificate::ClaimItem;
 use crate::claim::Claim;
 use crate::event::Event;
 use crate::header::Header;
-use bbm_barriers::regimes::{Kind, Page, Pe, Place, Tag};
+use bbm_regimes::{Kind, Page, Pe, Place, Tag};
 use bbm_tlbi_scope::TlbiOp;
 
 /// Locks have numbers below 1,024.

@@ -1,6 +1,6 @@
 //! The header of a log.
 
-use bbm_barriers::regimes::World;
+use bbm_regimes::World;
 use std::marker::Model;
 
 /// The first line of a log: its version, the number of PEs, whether their TLBs may copy entries from one

@@ -13,9 +13,6 @@ pub mod machine;
 pub mod malformed;
 pub mod roots;
 
-pub use bbm_barriers as barriers;
-pub use bbm_barriers::regimes;
-pub use bbm_tlbi_scope as tlbi_scope;
 pub use certificate::{CertificateWord, ClaimItem, ClaimWord, TagWord};
 pub use claim::Claim;
 pub use event::{Event, Item};

@@ -1,7 +1,7 @@
 //! The lines of machine steps.
 //! Source: project's own choice, where no other is named.
 
-use bbm_barriers::regimes::{Kind, Pe, Place};
+use bbm_regimes::{Kind, Pe, Place};
 
 /// One line of a run that isn't a line of its log: a step of a TLB, which makes an entry or drops one.
 /// Entries have numbers in the order in which they are made, from 1.

@@ -3,11 +3,11 @@
 //! Source: project's own choice, where no other is named.
 
 ghost use Rattle.std.specs.Prelude.{◌≡◌, ◌≤◌, ◌/◌, ◌^◌, true};
-ghost use Rattle.bbm_barriers.specs.regimes.World as spec;
+ghost use Rattle.bbm_regimes.specs.World as spec;
 ghost use Rattle.bbm_events.specs.Heading.{heading_ok};
 
 use crate::header::Header;
-use bbm_barriers::regimes::{Kind, World};
+use bbm_regimes::{Kind, World};
 
 impl Header {
     /// The numbers of a header are in their ranges. The call does nothing; what it tells is its contract.

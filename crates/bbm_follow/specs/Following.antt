@@ -3,19 +3,19 @@
 -- first. Source: project's own choice.
 use Rattle.std.specs.Prelude.{◌≡◌, ℕ, zero, suc, ◌+◌, Bool, true, false, ◌&&◌, ◌==◌, nat_le, List, [], ◌∷◌, ◌++◌, length}
 use Rattle.std.specs.Prelude.{drop, Option, Some, None, Result, Ok, Err, codes, decimal, if◌then◌else◌, option_map}
-use Rattle.bbm_log_grammar.specs.regimes.declared.regime.Which.TheVariants.{LineBytes, Steps}
-use Rattle.bbm_tlb_machine.specs.events.declared.event.Item.{Item}
-use Rattle.bbm_tlb_machine.specs.events.declared.event.Item.TheVariants as item
-use Rattle.bbm_tlb_machine.specs.events.declared.machine.MachineLine.{MachineLine}
-use Rattle.bbm_tlb_machine.specs.events.declared.malformed.Malformed.{Malformed as Cause}
-use Rattle.bbm_tlb_machine.specs.events.declared.malformed.Malformed.TheVariants.{NoEnd, WrongCount, AfterEnd}
-use Rattle.bbm_tlb_machine.specs.events.Heading.{Heading}
-use Rattle.bbm_tlb_machine.specs.events.Lines.{header_of, item_of}
-use Rattle.bbm_tlb_machine.specs.events.Machine.{machine_of}
-use Rattle.bbm_tlb_machine.specs.rules.declared.verdict.Verdict.{Verdict}
-use Rattle.bbm_tlb_machine.specs.rules.declared.verdict.Verdict.TheVariants.{Malformed, Limit}
-use Rattle.bbm_tlb_machine.specs.rules.Outcome.{text_of, is_too_long, unread_after}
-use Rattle.bbm_tlb_machine.specs.rules.Texts.{verdict_text}
+use Rattle.bbm_regimes.specs.declared.regime.Which.TheVariants.{LineBytes, Steps}
+use Rattle.bbm_events.specs.declared.event.Item.{Item}
+use Rattle.bbm_events.specs.declared.event.Item.TheVariants as item
+use Rattle.bbm_events.specs.declared.machine.MachineLine.{MachineLine}
+use Rattle.bbm_events.specs.declared.malformed.Malformed.{Malformed as Cause}
+use Rattle.bbm_events.specs.declared.malformed.Malformed.TheVariants.{NoEnd, WrongCount, AfterEnd}
+use Rattle.bbm_events.specs.Heading.{Heading}
+use Rattle.bbm_events.specs.Lines.{header_of, item_of}
+use Rattle.bbm_events.specs.Machine.{machine_of}
+use Rattle.bbm_rules.specs.declared.verdict.Verdict.{Verdict}
+use Rattle.bbm_rules.specs.declared.verdict.Verdict.TheVariants.{Malformed, Limit}
+use Rattle.bbm_rules.specs.Outcome.{text_of, is_too_long, unread_after}
+use Rattle.bbm_rules.specs.Texts.{verdict_text}
 use Rattle.bbm_tlb_machine.specs.declared.step.Step.{Step}
 use Rattle.bbm_tlb_machine.specs.declared.step.Step.TheVariants as step
 use Rattle.bbm_tlb_machine.specs.Run.{State, follow_steps}

@@ -7,9 +7,9 @@ ghost use Rattle.bbm_follow.specs.Following.{conflict_text, line_of as spec_line
 ghost use Rattle.bbm_follow.specs.Following.{followed_text as text_of_followed};
 
 use arrayvec::ArrayVec;
-use bbm_log_grammar::regimes::NoMemory;
+use bbm_events::Header;
 use bbm_log_grammar::{add, add_decimal};
-use bbm_tlb_machine::events::Header;
+use bbm_regimes::NoMemory;
 use bbm_tlb_machine::{FollowFault, Step, follow};
 use std::alloc::Global;
 

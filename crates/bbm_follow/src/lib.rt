@@ -6,7 +6,6 @@ pub mod followed;
 mod taking;
 pub mod turn;
 
-pub use bbm_tlb_machine as tlb_machine;
 pub use followed::{Followed, follow_run, followed_text};
 pub use taking::take_line;
 pub use turn::{LineFault, Turn};

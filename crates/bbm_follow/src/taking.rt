@@ -2,16 +2,16 @@
 //! Source: project's own choice, where no other is named.
 
 ghost use Rattle.std.specs.Prelude.{◌≡◌, ◌≤◌, ◌+◌, Ok, reverse, length};
-ghost use Rattle.bbm_tlb_machine.specs.events.Heading.{Heading};
+ghost use Rattle.bbm_events.specs.Heading.{Heading};
 ghost use Rattle.bbm_follow.specs.Following.{TakesLine, after_item, after_line, after_machine, after_step, event_count};
 ghost use Rattle.bbm_follow.specs.Following as following;
 
 use crate::turn::{LineFault, Turn};
-use bbm_log_grammar::regimes::Which;
+use bbm_events::{Header, Item, MachineLine, Malformed};
 use bbm_log_grammar::{read_event, read_machine};
+use bbm_regimes::Which;
+use bbm_rules::Verdict;
 use bbm_tlb_machine::Step;
-use bbm_tlb_machine::events::{Header, Item, MachineLine, Malformed};
-use bbm_tlb_machine::rules::Verdict;
 
 /// The most events and machine steps of a run.
 const STEPS: usize = 2000;

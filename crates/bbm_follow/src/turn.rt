@@ -1,6 +1,6 @@
 //! What a line of a run decides.
 
-use bbm_tlb_machine::rules::Verdict;
+use bbm_rules::Verdict;
 
 /// What a line was that decides nothing.
 #[derive(Clone, Copy, Debug, PartialEq, Eq)]

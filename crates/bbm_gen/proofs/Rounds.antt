@@ -2,30 +2,30 @@
 use Rattle.std.proofs.Common.{◌≡◌, ℕ, suc, ◌<◌, Bool, true, false, ◌==◌, ◌&&◌, List, [], ◌∷◌, length, Some, None, refl, sym, ap, ◌∙◌, subst, arith, if◌then◌else◌, true≢false}
 use Rattle.std.proofs.lemmas.Bool.{eq-eqb, eqb-true}
 use Rattle.std.specs.Result.{result_ok}
-use Rattle.bbm_histories.specs.regimes.declared.regime.Kind.{Kind}
-use Rattle.bbm_histories.specs.regimes.declared.regime.Kind.TheVariants.{El2, S2}
-use Rattle.bbm_histories.specs.regimes.Extent.{meets}
-use Rattle.bbm_histories.specs.descriptor.Descriptor.{Form, core_of, desc_of, form_of, is_valid, needs}
-use Rattle.bbm_histories.specs.descriptor.Fields.{contiguous_of}
-use Rattle.bbm_histories.specs.tlbi_scope.Covers.{vmid_matches}
-use Rattle.bbm_histories.specs.tlbi_scope.declared.scope.Family.TheVariants.{VmAll1}
-use Rattle.bbm_histories.specs.tlbi_scope.Operations.{of_world, scoped_by_vmid}
-use Rattle.bbm_histories.specs.tlbi_scope.Decode.{scope_of, one_page}
-use Rattle.bbm_histories.specs.tlbi_scope.declared.entry.Cover.TheVariants.{Half, Second, Full}
-use Rattle.bbm_histories.specs.tlbi_scope.declared.op.TlbiOp.TheVariants.{Vae2is, Ipas2e1is, Vmalle1is}
-use Rattle.bbm_histories.specs.rules.Prelude.{Barrier, Event, TlbiOp, Scope, Write, Dsb, Dmb, Isb, Tlbi, VttbrEl2}
-use Rattle.bbm_histories.specs.rules.Broken.{broken}
-use Rattle.bbm_histories.specs.rules.Claims.{Patterns}
-use Rattle.bbm_histories.specs.rules.Covers.{cover_at, note}
-use Rattle.bbm_histories.specs.rules.Held.{ValidWrite, cleansed_everywhere, held, last_valid}
-use Rattle.bbm_histories.specs.rules.Notes.{Noted, events_of}
-use Rattle.bbm_histories.specs.rules.Places.{page_of}
-use Rattle.bbm_histories.specs.rules.Registers.{vmid_of, lacks_vmid, tag_number}
-use Rattle.bbm_histories.specs.rules.Pages.{is_fresh, is_null}
-use Rattle.bbm_histories.specs.rules.Roots.{lock_of, roots_of}
-use Rattle.bbm_histories.specs.rules.Rules.{is_contiguous}
-use Rattle.bbm_histories.specs.rules.Tags.{tag_set, tags_of}
-use Rattle.bbm_histories.specs.rules.Tree.{held_at, next_of, node_of, region_of}
+use Rattle.bbm_regimes.specs.declared.regime.Kind.{Kind}
+use Rattle.bbm_regimes.specs.declared.regime.Kind.TheVariants.{El2, S2}
+use Rattle.bbm_regimes.specs.Extent.{meets}
+use Rattle.bbm_descriptor.specs.Descriptor.{Form, core_of, desc_of, form_of, is_valid, needs}
+use Rattle.bbm_descriptor.specs.Fields.{contiguous_of}
+use Rattle.bbm_tlbi_scope.specs.Covers.{vmid_matches}
+use Rattle.bbm_tlbi_scope.specs.declared.scope.Family.TheVariants.{VmAll1}
+use Rattle.bbm_tlbi_scope.specs.Operations.{of_world, scoped_by_vmid}
+use Rattle.bbm_tlbi_scope.specs.Decode.{scope_of, one_page}
+use Rattle.bbm_tlbi_scope.specs.declared.entry.Cover.TheVariants.{Half, Second, Full}
+use Rattle.bbm_tlbi_scope.specs.declared.op.TlbiOp.TheVariants.{Vae2is, Ipas2e1is, Vmalle1is}
+use Rattle.bbm_rules.specs.Prelude.{Barrier, Event, TlbiOp, Scope, Write, Dsb, Dmb, Isb, Tlbi, VttbrEl2}
+use Rattle.bbm_rules.specs.Broken.{broken}
+use Rattle.bbm_rules.specs.Claims.{Patterns}
+use Rattle.bbm_rules.specs.Covers.{cover_at, note}
+use Rattle.bbm_rules.specs.Held.{ValidWrite, cleansed_everywhere, held, last_valid}
+use Rattle.bbm_rules.specs.Notes.{Noted, events_of}
+use Rattle.bbm_rules.specs.Places.{page_of}
+use Rattle.bbm_rules.specs.Registers.{vmid_of, lacks_vmid, tag_number}
+use Rattle.bbm_rules.specs.Pages.{is_fresh, is_null}
+use Rattle.bbm_rules.specs.Roots.{lock_of, roots_of}
+use Rattle.bbm_rules.specs.Rules.{is_contiguous}
+use Rattle.bbm_rules.specs.Tags.{tag_set, tags_of}
+use Rattle.bbm_rules.specs.Tree.{held_at, next_of, node_of, region_of}
 use Rattle.bbm_gen.specs.Below.{Below, notes}
 use Rattle.bbm_gen.specs.Generated.{heading, el2_root, s2_root, ish, ishst}
 use Rattle.bbm_gen.proofs.Numbers.{el2_node, s2_node, el2_scope, s2_scope}

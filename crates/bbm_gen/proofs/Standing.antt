@@ -1,18 +1,18 @@
 -- What stands after the opening, and after each event of a round.
 use Rattle.std.proofs.Common.{◌≡◌, ℕ, zero, suc, ◌<◌, Bool, true, false, ◌==◌, ◌&&◌, inl, inr, List, [], ◌∷◌, ◌++◌, Option, Some, None, take, flat_map, filter_map, refl, ap, ◌∙◌, subst, Contains, arith, if◌then◌else◌}
-use Rattle.bbm_histories.specs.regimes.declared.regime.Kind.{Kind}
-use Rattle.bbm_histories.specs.regimes.declared.regime.Kind.TheVariants.{El2, S2}
-use Rattle.bbm_histories.specs.tlbi_scope.Covers.{vmid_matches}
-use Rattle.bbm_histories.specs.rules.Prelude.{Event, Init, Null, Root, Unroot, Write, Dsb, Dmb, Isb, Tlbi, Msr, Lock, Unlock, Reg, Ttbr0El2, VttbrEl2, Ttbr0El1, Ttbr1El1, Tag, Vmid, same_tag}
-use Rattle.bbm_histories.specs.rules.Broken.{broken, keeps}
-use Rattle.bbm_histories.specs.rules.Claims.{Patterns}
-use Rattle.bbm_histories.specs.rules.Lists.{any, below}
-use Rattle.bbm_histories.specs.rules.Pages.{is_fresh, is_null, may_be_fresh}
-use Rattle.bbm_histories.specs.rules.Places.{page_of}
-use Rattle.bbm_histories.specs.rules.Registers.{register_values}
-use Rattle.bbm_histories.specs.rules.Roots.{Declared, roots_of}
-use Rattle.bbm_histories.specs.rules.Tags.{distinct, ever_read, readings, tag_for, tag_set, tags_of, holds_tag}
-use Rattle.bbm_histories.specs.rules.Tree.{Above, Node, held_at, node_of, tree}
+use Rattle.bbm_regimes.specs.declared.regime.Kind.{Kind}
+use Rattle.bbm_regimes.specs.declared.regime.Kind.TheVariants.{El2, S2}
+use Rattle.bbm_tlbi_scope.specs.Covers.{vmid_matches}
+use Rattle.bbm_rules.specs.Prelude.{Event, Init, Null, Root, Unroot, Write, Dsb, Dmb, Isb, Tlbi, Msr, Lock, Unlock, Reg, Ttbr0El2, VttbrEl2, Ttbr0El1, Ttbr1El1, Tag, Vmid, same_tag}
+use Rattle.bbm_rules.specs.Broken.{broken, keeps}
+use Rattle.bbm_rules.specs.Claims.{Patterns}
+use Rattle.bbm_rules.specs.Lists.{any, below}
+use Rattle.bbm_rules.specs.Pages.{is_fresh, is_null, may_be_fresh}
+use Rattle.bbm_rules.specs.Places.{page_of}
+use Rattle.bbm_rules.specs.Registers.{register_values}
+use Rattle.bbm_rules.specs.Roots.{Declared, roots_of}
+use Rattle.bbm_rules.specs.Tags.{distinct, ever_read, readings, tag_for, tag_set, tags_of, holds_tag}
+use Rattle.bbm_rules.specs.Tree.{Above, Node, held_at, node_of, tree}
 use Rattle.bbm_histories.specs.Tree.{HeldChange}
 use Rattle.bbm_gen.specs.Below.{Below, notes}
 use Rattle.bbm_gen.specs.Generated.{heading, el2_root, s2_root, vttbr, log_of}

@@ -2,28 +2,28 @@
 use Rattle.std.proofs.Common.{◌≡◌, ℕ, Bool, true, false, ◌&&◌, List, [], ◌∷◌, Option, Some, None, option_and_then, is_none, refl, ap, ◌∙◌, if◌then◌else◌}
 use Rattle.std.specs.Option.{option_map_or}
 use Rattle.std.specs.Result.{result_ok}
-use Rattle.bbm_histories.specs.regimes.declared.regime.Kind.{Kind}
-use Rattle.bbm_histories.specs.regimes.declared.regime.Kind.TheVariants.{Ttbr0}
-use Rattle.bbm_histories.specs.descriptor.Descriptor.{desc_of, differ, needs}
-use Rattle.bbm_histories.specs.descriptor.declared.desc.Core.{Core}
-use Rattle.bbm_histories.specs.tlbi_scope.Decode.{scope_of}
-use Rattle.bbm_histories.specs.tlbi_scope.Operations.{of_world}
-use Rattle.bbm_histories.specs.tlbi_scope.declared.op.TlbiOp.{TlbiOp}
-use Rattle.bbm_histories.specs.tlbi_scope.declared.scope.Scope.{Scope}
-use Rattle.bbm_histories.specs.rules.Prelude.{Barrier, Event, Write, Dsb, Dmb, Isb, Tlbi, same_kind}
-use Rattle.bbm_histories.specs.rules.declared.rule.Rule.{Rule}
-use Rattle.bbm_histories.specs.rules.declared.rule.Rule.TheVariants.{WrongWorld, NoLock, NullWritten, BreakBeforeMake, LimboMake, NotFresh, RewrittenFresh, BadKind, GlobalUser, PageInUse, NoRoot, TagConflict, RootInUse, UnsyncedVmid, BadOperand, LockBusy, LockNotMine}
-use Rattle.bbm_histories.specs.rules.Attach.{attached_by, attached_from}
-use Rattle.bbm_histories.specs.rules.Broken.{Breach, breaks, broken, first_broken, rules}
-use Rattle.bbm_histories.specs.rules.Claims.{Patterns}
-use Rattle.bbm_histories.specs.rules.Lists.{if_so}
-use Rattle.bbm_histories.specs.rules.Notes.{Noted, events_of}
-use Rattle.bbm_histories.specs.rules.Pages.{is_fresh, is_null}
-use Rattle.bbm_histories.specs.rules.Places.{page_of}
-use Rattle.bbm_histories.specs.rules.Registers.{lacks_vmid}
-use Rattle.bbm_histories.specs.rules.Roots.{lock_of}
-use Rattle.bbm_histories.specs.rules.Rules.{is_contiguous}
-use Rattle.bbm_histories.specs.rules.Tree.{Node, held_at, next_of, node_of}
+use Rattle.bbm_regimes.specs.declared.regime.Kind.{Kind}
+use Rattle.bbm_regimes.specs.declared.regime.Kind.TheVariants.{Ttbr0}
+use Rattle.bbm_descriptor.specs.Descriptor.{desc_of, differ, needs}
+use Rattle.bbm_descriptor.specs.declared.desc.Core.{Core}
+use Rattle.bbm_tlbi_scope.specs.Decode.{scope_of}
+use Rattle.bbm_tlbi_scope.specs.Operations.{of_world}
+use Rattle.bbm_tlbi_scope.specs.declared.op.TlbiOp.{TlbiOp}
+use Rattle.bbm_tlbi_scope.specs.declared.scope.Scope.{Scope}
+use Rattle.bbm_rules.specs.Prelude.{Barrier, Event, Write, Dsb, Dmb, Isb, Tlbi, same_kind}
+use Rattle.bbm_rules.specs.declared.rule.Rule.{Rule}
+use Rattle.bbm_rules.specs.declared.rule.Rule.TheVariants.{WrongWorld, NoLock, NullWritten, BreakBeforeMake, LimboMake, NotFresh, RewrittenFresh, BadKind, GlobalUser, PageInUse, NoRoot, TagConflict, RootInUse, UnsyncedVmid, BadOperand, LockBusy, LockNotMine}
+use Rattle.bbm_rules.specs.Attach.{attached_by, attached_from}
+use Rattle.bbm_rules.specs.Broken.{Breach, breaks, broken, first_broken, rules}
+use Rattle.bbm_rules.specs.Claims.{Patterns}
+use Rattle.bbm_rules.specs.Lists.{if_so}
+use Rattle.bbm_rules.specs.Notes.{Noted, events_of}
+use Rattle.bbm_rules.specs.Pages.{is_fresh, is_null}
+use Rattle.bbm_rules.specs.Places.{page_of}
+use Rattle.bbm_rules.specs.Registers.{lacks_vmid}
+use Rattle.bbm_rules.specs.Roots.{lock_of}
+use Rattle.bbm_rules.specs.Rules.{is_contiguous}
+use Rattle.bbm_rules.specs.Tree.{Node, held_at, next_of, node_of}
 use Rattle.bbm_gen.specs.Generated.{heading}
 use Rattle.bbm_gen.specs.Below.{notes}
 

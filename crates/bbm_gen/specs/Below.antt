@@ -1,13 +1,13 @@
 -- What the crates of the rules and of the histories prove, as far as the proof here needs it, under the header of the
 -- generated logs.
 use Rattle.std.specs.Prelude.{◌≡◌, ℕ, ◌↔◌, true, List, ◌∷◌, Some, Contains}
-use Rattle.bbm_histories.specs.rules.Prelude.{Barrier, Event, Dsb}
-use Rattle.bbm_histories.specs.rules.Broken.{keeps}
-use Rattle.bbm_histories.specs.rules.Claims.{Patterns}
-use Rattle.bbm_histories.specs.rules.Covers.{noted}
-use Rattle.bbm_histories.specs.rules.Notes.{Noted, events_of}
-use Rattle.bbm_histories.specs.rules.Places.{page_of}
-use Rattle.bbm_histories.specs.rules.Tree.{Node, held_at, node_of, tree}
+use Rattle.bbm_rules.specs.Prelude.{Barrier, Event, Dsb}
+use Rattle.bbm_rules.specs.Broken.{keeps}
+use Rattle.bbm_rules.specs.Claims.{Patterns}
+use Rattle.bbm_rules.specs.Covers.{noted}
+use Rattle.bbm_rules.specs.Notes.{Noted, events_of}
+use Rattle.bbm_rules.specs.Places.{page_of}
+use Rattle.bbm_rules.specs.Tree.{Node, held_at, node_of, tree}
 use Rattle.bbm_histories.specs.Tree.{HeldChange, InTreeAfter, InTreeAfterDsb}
 use Rattle.bbm_gen.specs.Generated.{heading}
 

@@ -3,17 +3,17 @@
 -- in the EL2 tree and in the stage 2 tree. Source: project's own choice.
 use Rattle.std.specs.Prelude.{ℕ, zero, suc, ◌+◌, ◌-◌, ◌*◌, ◌/◌, ◌%◌, ◌^◌, List, [], ◌∷◌, None, false, ◌==◌, nat_lt}
 use Rattle.std.specs.Prelude.{if◌then◌else◌}
-use Rattle.bbm_histories.specs.regimes.declared.regime.HypWorld.{HypWorld}
-use Rattle.bbm_histories.specs.regimes.declared.regime.World.TheVariants.{Hyp}
-use Rattle.bbm_histories.specs.regimes.declared.regime.Kind.TheVariants.{El2, S2}
-use Rattle.bbm_histories.specs.regimes.declared.regime.Reg.TheVariants.{Ttbr0El2, VttbrEl2}
-use Rattle.bbm_histories.specs.barriers.declared.Dsb.{Dsb as Barrier}
-use Rattle.bbm_histories.specs.barriers.declared.Domain.TheVariants.{Inner}
-use Rattle.bbm_histories.specs.barriers.declared.Types.TheVariants.{All, Stores}
-use Rattle.bbm_histories.specs.tlbi_scope.declared.op.TlbiOp.TheVariants.{Vae2is, Ipas2e1is, Vmalle1is}
-use Rattle.bbm_histories.specs.events.Heading.{Heading}
-use Rattle.bbm_histories.specs.events.declared.event.Event.{Event}
-use Rattle.bbm_histories.specs.events.declared.event.Event.TheVariants.{Init, Root, Write, Dsb, Dmb, Isb, Tlbi, Msr}
+use Rattle.bbm_regimes.specs.declared.regime.HypWorld.{HypWorld}
+use Rattle.bbm_regimes.specs.declared.regime.World.TheVariants.{Hyp}
+use Rattle.bbm_regimes.specs.declared.regime.Kind.TheVariants.{El2, S2}
+use Rattle.bbm_regimes.specs.declared.regime.Reg.TheVariants.{Ttbr0El2, VttbrEl2}
+use Rattle.bbm_barriers.specs.declared.Dsb.{Dsb as Barrier}
+use Rattle.bbm_barriers.specs.declared.Domain.TheVariants.{Inner}
+use Rattle.bbm_barriers.specs.declared.Types.TheVariants.{All, Stores}
+use Rattle.bbm_tlbi_scope.specs.declared.op.TlbiOp.TheVariants.{Vae2is, Ipas2e1is, Vmalle1is}
+use Rattle.bbm_events.specs.Heading.{Heading}
+use Rattle.bbm_events.specs.declared.event.Event.{Event}
+use Rattle.bbm_events.specs.declared.event.Event.TheVariants.{Init, Root, Write, Dsb, Dmb, Isb, Tlbi, Msr}
 
 -- four PEs of version 1; walks of both kinds start at level 1, and a stage 2 root has one page
 abbrev pub small_world : HypWorld

@@ -2,8 +2,8 @@
 
 ghost use Rattle.bbm_gen.specs.Below.{Below};
 
-use bbm_histories::rules::law_notes_keep_the_events;
 use bbm_histories::{law_held_changes, law_one_node, law_proper, law_tree_step};
+use bbm_rules::law_notes_keep_the_events;
 
 /// The laws of the rules and of the histories that the laws here stand on.
 pub(crate) fn below()

@@ -2,13 +2,13 @@
 //! Source: project's own choice, where no other is named.
 
 ghost use Rattle.std.specs.Prelude.{◌≡◌, ◌<◌, ◌+◌, ◌*◌, ◌%◌, ◌/◌, true};
-ghost use Rattle.bbm_histories.specs.events.Fits.{fits_heading};
+ghost use Rattle.bbm_events.specs.Fits.{fits_heading};
 ghost use Rattle.bbm_gen.specs.Generated as log;
 
-use bbm_histories::barriers::{Domain, Dsb, Types};
-use bbm_histories::events::{Event, Header};
-use bbm_histories::regimes::{HypWorld, Kind, Page, Pe, Place, Reg, World};
-use bbm_histories::tlbi_scope::TlbiOp;
+use bbm_barriers::{Domain, Dsb, Types};
+use bbm_events::{Event, Header};
+use bbm_regimes::{HypWorld, Kind, Page, Pe, Place, Reg, World};
+use bbm_tlbi_scope::TlbiOp;
 
 /// The first page of the EL2 root.
 const EL2_ROOT: u64 = 0x4000_0000;

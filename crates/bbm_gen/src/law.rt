@@ -1,10 +1,10 @@
 //! The law of the generated logs.
 
 ghost use Rattle.std.specs.Prelude.{◌≡◌, ℕ, ◌<◌, true, None};
-ghost use Rattle.bbm_histories.specs.events.Fits.{fits_heading};
-ghost use Rattle.bbm_histories.specs.rules.Broken.{broken, keeps};
-ghost use Rattle.bbm_histories.specs.rules.Claims.{Patterns};
-ghost use Rattle.bbm_histories.specs.rules.Limits.{limit_of};
+ghost use Rattle.bbm_events.specs.Fits.{fits_heading};
+ghost use Rattle.bbm_rules.specs.Broken.{broken, keeps};
+ghost use Rattle.bbm_rules.specs.Claims.{Patterns};
+ghost use Rattle.bbm_rules.specs.Limits.{limit_of};
 ghost use Rattle.bbm_gen.specs.Generated as log;
 
 use crate::below::below;

@@ -1,6 +1,6 @@
 -- What the bases of readable register values are.
 use Rattle.std.proofs.Common.{◌≡◌, ℕ, ◌<◌, ◌⊎◌, Bool, true, false, not, ◌||◌, ◌==◌, List, [], ◌∷◌, Option, Some, refl, sym, ◌∙◌, ap, subst, inl, inr, true≢false}
-use Rattle.bbm_rules.specs.events.Heading.{Heading}
+use Rattle.bbm_events.specs.Heading.{Heading}
 use Rattle.bbm_rules.specs.Prelude.{Kind, Reg, Event, Root, Unroot, Null}
 use Rattle.bbm_rules.specs.declared.rule.Rule.TheVariants.{PageInUse}
 use Rattle.bbm_rules.specs.Broken.{keeps}

@@ -1,11 +1,11 @@
 -- The step equations of cleansed, claim by claim.
 use Rattle.std.proofs.Common.{◌≡◌, ℕ, ◌&&◌, ◌||◌, Bool, true, false, ◌==◌, List, ◌∷◌, refl, sym, ◌∙◌, ap}
 use Rattle.std.proofs.Math.Bool.{and-false, and_comm, or-false}
-use Rattle.bbm_rules.specs.tlbi_scope.declared.entry.Cover.TheVariants.{Half, Second, Full}
-use Rattle.bbm_rules.specs.events.Heading.{Heading}
+use Rattle.bbm_tlbi_scope.specs.declared.entry.Cover.TheVariants.{Half, Second, Full}
+use Rattle.bbm_events.specs.Heading.{Heading}
 use Rattle.bbm_rules.specs.Prelude.{Barrier, Event, Dsb}
-use Rattle.bbm_rules.specs.events.declared.claim.Claim.{Claim}
-use Rattle.bbm_rules.specs.events.declared.claim.Claim.TheVariants.{Place, Two, Taken}
+use Rattle.bbm_events.specs.declared.claim.Claim.{Claim}
+use Rattle.bbm_events.specs.declared.claim.Claim.TheVariants.{Place, Two, Taken}
 use Rattle.bbm_rules.specs.Claims.{same_claim}
 use Rattle.bbm_rules.specs.Claims.Trust.{Listed}
 use Rattle.bbm_rules.specs.Cleansing.{answers_one, cleansed, flushes, full_step, half_where, publishes_write, same_cover, second_step, seen_where}

@@ -1,11 +1,11 @@
 -- In a fresh page a value with bit 0 set stays, so what a place holds there is its present value.
 use Rattle.std.proofs.Common.{◌≡◌, ℕ, ◌%◌, ◌&&◌, ◌||◌, not, Bool, true, false, cond, ◌==◌, List, [], ◌∷◌, ◌++◌, Some, refl, sym, ◌∙◌, ap, subst, true≢false}
 use Rattle.std.proofs.lemmas.Bool.{and_parts, eq-eqb, eqb-true, not-true}
-use Rattle.bbm_rules.specs.regimes.declared.regime.Kind.{Kind}
-use Rattle.bbm_rules.specs.descriptor.Descriptor.{is_valid}
-use Rattle.bbm_rules.specs.events.Heading.{Heading}
-use Rattle.bbm_rules.specs.events.declared.event.Event.{Event}
-use Rattle.bbm_rules.specs.events.declared.event.Event.TheVariants.{Init, Null, Write}
+use Rattle.bbm_regimes.specs.declared.regime.Kind.{Kind}
+use Rattle.bbm_descriptor.specs.Descriptor.{is_valid}
+use Rattle.bbm_events.specs.Heading.{Heading}
+use Rattle.bbm_events.specs.declared.event.Event.{Event}
+use Rattle.bbm_events.specs.declared.event.Event.TheVariants.{Init, Null, Write}
 use Rattle.bbm_rules.specs.declared.rule.Rule.TheVariants.{RewrittenFresh}
 use Rattle.bbm_rules.specs.Claims.{Trust}
 use Rattle.bbm_rules.specs.Cleansing.{seen}

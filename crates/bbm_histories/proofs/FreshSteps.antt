@@ -1,6 +1,6 @@
 -- Which pages are fresh after an event that breaks no rule.
 use Rattle.std.proofs.Common.{◌≡◌, ℕ, ◌&&◌, not, ◌⊎◌, Bool, true, false, List, ◌∷◌, Option, Some, None, is_some, refl, sym, ◌∙◌, ap, subst, inl, inr, true≢false}
-use Rattle.bbm_rules.specs.events.Heading.{Heading}
+use Rattle.bbm_events.specs.Heading.{Heading}
 use Rattle.bbm_rules.specs.Prelude.{Event}
 use Rattle.bbm_rules.specs.Claims.{Trust}
 use Rattle.bbm_rules.specs.Covers.{note}

@@ -1,11 +1,11 @@
 -- No place of a tree of the lower range holds a leaf for every ASID.
 use Rattle.std.proofs.Common.{◌≡◌, ℕ, suc, ◌+◌, ◌<◌, true, false, List, [], ◌∷◌, length, Some, refl, sym, ◌∙◌, ap, subst, inl, inr, arith, suc-le-suc, zero-le}
-use Rattle.bbm_rules.specs.regimes.declared.regime.Kind.{Kind}
-use Rattle.bbm_rules.specs.regimes.declared.regime.Kind.TheVariants.{Ttbr0}
-use Rattle.bbm_rules.specs.descriptor.Descriptor.{desc_of}
-use Rattle.bbm_rules.specs.events.Heading.{Heading}
-use Rattle.bbm_rules.specs.events.declared.event.Event.{Event}
-use Rattle.bbm_rules.specs.events.declared.event.Event.TheVariants.{Root, Write}
+use Rattle.bbm_regimes.specs.declared.regime.Kind.{Kind}
+use Rattle.bbm_regimes.specs.declared.regime.Kind.TheVariants.{Ttbr0}
+use Rattle.bbm_descriptor.specs.Descriptor.{desc_of}
+use Rattle.bbm_events.specs.Heading.{Heading}
+use Rattle.bbm_events.specs.declared.event.Event.{Event}
+use Rattle.bbm_events.specs.declared.event.Event.TheVariants.{Root, Write}
 use Rattle.bbm_rules.specs.declared.rule.Rule.TheVariants.{GlobalUser}
 use Rattle.bbm_rules.specs.Attach.{attached_by, attached_from, end_at}
 use Rattle.bbm_rules.specs.Broken.{keeps}

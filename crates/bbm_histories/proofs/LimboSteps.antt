@@ -1,7 +1,7 @@
 -- Whether a node is in limbo after an event.
 use Rattle.std.proofs.Common.{◌≡◌, not, Bool, true, false, cond, ◌==◌, List, ◌∷◌, refl}
-use Rattle.bbm_rules.specs.regimes.declared.regime.Kind.{Kind}
-use Rattle.bbm_rules.specs.descriptor.Descriptor.{is_valid}
+use Rattle.bbm_regimes.specs.declared.regime.Kind.{Kind}
+use Rattle.bbm_descriptor.specs.Descriptor.{is_valid}
 use Rattle.bbm_rules.specs.Prelude.{Event, Init, Write}
 use Rattle.bbm_rules.specs.Lists.{any}
 use Rattle.bbm_rules.specs.Notes.{Noted, events_of}

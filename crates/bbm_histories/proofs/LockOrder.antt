@@ -1,7 +1,7 @@
 -- Between two writes under one lock by different PEs the lock changes hands.
 use Rattle.std.proofs.Common.{◌≡◌, ◌≢◌, ℕ, Bool, true, false, cond, not, ◌⊎◌, ◌&&◌, ◌==◌, List, [], ◌∷◌, ◌++◌, Option, Some, None, refl, sym, ◌∙◌, ap, subst, inl, inr, true≢false}
 use Rattle.std.proofs.lemmas.Bool.{and_parts, eqb-true}
-use Rattle.bbm_rules.specs.events.Heading.{Heading}
+use Rattle.bbm_events.specs.Heading.{Heading}
 use Rattle.bbm_rules.specs.Prelude.{Event, Lock, Unlock, Write}
 use Rattle.bbm_rules.specs.declared.rule.Rule.TheVariants.{NoLock, LockBusy}
 use Rattle.bbm_rules.specs.Broken.{keeps}

@@ -3,7 +3,7 @@ use Rattle.std.proofs.Common.{◌≡◌, ℕ, suc, ◌⊎◌, not, Bool, true, f
 use Rattle.std.proofs.lemmas.Bool.{and_from, eq-eqb, eqb-true, not-true, not_from_false}
 use Rattle.std.proofs.lemmas.List.Elements.{All-contains}
 use Rattle.std.proofs.lemmas.List.Sums.{AllPass-from_list_all}
-use Rattle.bbm_rules.specs.events.Heading.{Heading}
+use Rattle.bbm_events.specs.Heading.{Heading}
 use Rattle.bbm_rules.specs.Prelude.{Event, Root, Unroot, Write, Dsb}
 use Rattle.bbm_rules.specs.Attach.{attached_by, attached_from}
 use Rattle.bbm_rules.specs.Claims.{Trust}

@@ -1,12 +1,12 @@
 -- Later events keep a pattern.
 use Rattle.std.proofs.Common.{◌≡◌, ℕ, ◌⊎◌, Bool, true, false, List, [], ◌∷◌, ◌++◌, Some, refl, sym, ◌∙◌, ap, subst, inl, inr}
 use Rattle.std.proofs.lemmas.List.{append_assoc}
-use Rattle.bbm_rules.specs.regimes.declared.regime.Kind.{Kind}
-use Rattle.bbm_rules.specs.descriptor.Descriptor.{is_valid}
-use Rattle.bbm_rules.specs.events.Heading.{Heading}
-use Rattle.bbm_rules.specs.events.declared.event.Event.TheVariants.{Write}
-use Rattle.bbm_rules.specs.tlbi_scope.declared.entry.Cover.{Cover}
-use Rattle.bbm_rules.specs.tlbi_scope.declared.entry.Cover.TheVariants.{Half, Second, Full}
+use Rattle.bbm_regimes.specs.declared.regime.Kind.{Kind}
+use Rattle.bbm_descriptor.specs.Descriptor.{is_valid}
+use Rattle.bbm_events.specs.Heading.{Heading}
+use Rattle.bbm_events.specs.declared.event.Event.TheVariants.{Write}
+use Rattle.bbm_tlbi_scope.specs.declared.entry.Cover.{Cover}
+use Rattle.bbm_tlbi_scope.specs.declared.entry.Cover.TheVariants.{Half, Second, Full}
 use Rattle.bbm_rules.specs.Claims.{Trust}
 use Rattle.bbm_rules.specs.Cleansing.{seen}
 use Rattle.bbm_rules.specs.Held.{ValidWrite, last_valid}

@@ -1,10 +1,10 @@
 -- The tags that a DSB takes away, claim by claim.
 use Rattle.std.proofs.Common.{◌≡◌, ℕ, suc, length, ◌&&◌, not, Bool, true, false, ◌==◌, List, ◌∷◌, refl, sym, ◌∙◌, ap}
 use Rattle.std.proofs.Math.Bool.{and_assoc, and_comm}
-use Rattle.bbm_rules.specs.events.Heading.{Heading}
+use Rattle.bbm_events.specs.Heading.{Heading}
 use Rattle.bbm_rules.specs.Prelude.{Barrier, Tag, Event, Dsb, Tlbi}
-use Rattle.bbm_rules.specs.events.declared.claim.Claim.{Claim}
-use Rattle.bbm_rules.specs.events.declared.claim.Claim.TheVariants.{Place, Two, Taken}
+use Rattle.bbm_events.specs.declared.claim.Claim.{Claim}
+use Rattle.bbm_events.specs.declared.claim.Claim.TheVariants.{Place, Two, Taken}
 use Rattle.bbm_rules.specs.Claims.{same_claim, same_tag}
 use Rattle.bbm_rules.specs.Claims.Trust.{Listed}
 use Rattle.bbm_rules.specs.Lists.{any}

@@ -1,11 +1,11 @@
 -- The trees after an event, exactly.
 use Rattle.std.proofs.Common.{◌≡◌, ℕ, zero, suc, ◌<◌, ◌⊎◌, not, Bool, true, false, cond, ◌==◌, List, [], ◌∷◌, length, Option, Some, None, is_some, Contains, slice_index_or, refl, sym, ◌∙◌, ap, subst, inl, inr, arith, true≢false, not-suc-le-zero, le_of_suc-le-suc, suc-le-suc, zero-le}
 use Rattle.std.proofs.lemmas.Bool.{eq-eqb, eqb-true, not-false}
-use Rattle.bbm_rules.specs.regimes.declared.regime.Kind.{Kind}
-use Rattle.bbm_rules.specs.descriptor.Descriptor.{is_valid}
-use Rattle.bbm_rules.specs.events.Heading.{Heading}
-use Rattle.bbm_rules.specs.events.declared.event.Event.{Event}
-use Rattle.bbm_rules.specs.events.declared.event.Event.TheVariants.{Root, Unroot, Write, Dsb}
+use Rattle.bbm_regimes.specs.declared.regime.Kind.{Kind}
+use Rattle.bbm_descriptor.specs.Descriptor.{is_valid}
+use Rattle.bbm_events.specs.Heading.{Heading}
+use Rattle.bbm_events.specs.declared.event.Event.{Event}
+use Rattle.bbm_events.specs.declared.event.Event.TheVariants.{Root, Unroot, Write, Dsb}
 use Rattle.bbm_rules.specs.declared.rule.Rule.TheVariants.{PageInUse, WrongWorld}
 use Rattle.bbm_rules.specs.Claims.{Trust}
 use Rattle.bbm_rules.specs.Covers.{note}

@@ -1,9 +1,9 @@
 -- What one more event adds to the trees.
 use Rattle.std.proofs.Common.{◌≡◌, ℕ, suc, ◌+◌, ◌<◌, ◌⊎◌, true, List, [], ◌∷◌, length, Option, Some, None, is_some, Contains, refl, sym, ◌∙◌, ap, subst, inl, inr, arith, true≢false, suc-le-suc, zero-le}
-use Rattle.bbm_rules.specs.regimes.declared.regime.Kind.{Kind}
-use Rattle.bbm_rules.specs.events.Heading.{Heading}
-use Rattle.bbm_rules.specs.events.declared.event.Event.{Event}
-use Rattle.bbm_rules.specs.events.declared.event.Event.TheVariants.{Root, Unroot, Write}
+use Rattle.bbm_regimes.specs.declared.regime.Kind.{Kind}
+use Rattle.bbm_events.specs.Heading.{Heading}
+use Rattle.bbm_events.specs.declared.event.Event.{Event}
+use Rattle.bbm_events.specs.declared.event.Event.TheVariants.{Root, Unroot, Write}
 use Rattle.bbm_rules.specs.declared.rule.Rule.TheVariants.{NotFresh, PageInUse}
 use Rattle.bbm_rules.specs.Attach.{End, attached_by, attached_from, end_at}
 use Rattle.bbm_rules.specs.Claims.{Trust}

@@ -1,25 +1,25 @@
 -- Under `cnp` all PEs are alike.
 use Rattle.std.proofs.Common.{◌≡◌, ℕ, ◌<◌, Bool, true, false, ◌&&◌, ◌||◌, not, ◌==◌, nat_lt, List, refl, sym, ◌∙◌, ap, true≢false}
 use Rattle.std.proofs.lemmas.Bool.{and_from, and_parts, lt-ltb}
-use Rattle.bbm_rules.specs.barriers.declared.Dsb.{Dsb as Barrier}
-use Rattle.bbm_rules.specs.barriers.declared.Domain.{Domain}
-use Rattle.bbm_rules.specs.barriers.declared.Domain.TheVariants.{Full as FullDomain, Inner, Outer, Non}
-use Rattle.bbm_rules.specs.barriers.declared.Types.{Types}
-use Rattle.bbm_rules.specs.barriers.declared.Types.TheVariants.{All, Stores, Loads}
-use Rattle.bbm_rules.specs.barriers.Options.{audience, hears}
-use Rattle.bbm_rules.specs.tlbi_scope.declared.entry.Cover.{Cover}
-use Rattle.bbm_rules.specs.tlbi_scope.declared.entry.Cover.TheVariants.{Half}
-use Rattle.bbm_rules.specs.tlbi_scope.Operations.{operation}
-use Rattle.bbm_rules.specs.events.Heading.{Heading}
-use Rattle.bbm_rules.specs.events.declared.event.Event.{Event}
-use Rattle.bbm_rules.specs.events.declared.event.Event.TheVariants.{Tlbi}
+use Rattle.bbm_barriers.specs.declared.Dsb.{Dsb as Barrier}
+use Rattle.bbm_barriers.specs.declared.Domain.{Domain}
+use Rattle.bbm_barriers.specs.declared.Domain.TheVariants.{Full as FullDomain, Inner, Outer, Non}
+use Rattle.bbm_barriers.specs.declared.Types.{Types}
+use Rattle.bbm_barriers.specs.declared.Types.TheVariants.{All, Stores, Loads}
+use Rattle.bbm_barriers.specs.Options.{audience, hears}
+use Rattle.bbm_tlbi_scope.specs.declared.entry.Cover.{Cover}
+use Rattle.bbm_tlbi_scope.specs.declared.entry.Cover.TheVariants.{Half}
+use Rattle.bbm_tlbi_scope.specs.Operations.{operation}
+use Rattle.bbm_events.specs.Heading.{Heading}
+use Rattle.bbm_events.specs.declared.event.Event.{Event}
+use Rattle.bbm_events.specs.declared.event.Event.TheVariants.{Tlbi}
 use Rattle.bbm_rules.specs.Claims.{Trust}
 use Rattle.bbm_rules.specs.Cleansing.{half, seen}
 use Rattle.bbm_rules.specs.Notes.{Noted}
 use Rattle.bbm_rules.specs.PatternSentences.{Flush, HalfBy, Publication}
 use Rattle.bbm_rules.specs.Reach.{Issued, reaches}
 use Rattle.bbm_rules.specs.Sentences.{Published}
-use Rattle.bbm_rules.specs.barriers.Options.{is_non}
+use Rattle.bbm_barriers.specs.Options.{is_non}
 use Rattle.bbm_rules.specs.Values.{published, publishes_to}
 use Rattle.bbm_histories.specs.Below.{Below}
 

@@ -1,8 +1,8 @@
 -- What the crates below prove of their definitions, as one record, so that each proof here takes it as one hypothesis.
 use Rattle.std.specs.Prelude.{◌≡◌, ◌↔◌, ℕ, ◌+◌, ◌%◌, ◌<◌, true, false, List, [], ◌∷◌, ◌++◌, length, Option, Some, None}
 use Rattle.std.specs.Prelude.{is_some, Contains}
-use Rattle.bbm_rules.specs.descriptor.Descriptor.{core_of, desc_of, is_valid, needs, same_core}
-use Rattle.bbm_rules.specs.descriptor.declared.desc.Core.{Core}
+use Rattle.bbm_descriptor.specs.Descriptor.{core_of, desc_of, is_valid, needs, same_core}
+use Rattle.bbm_descriptor.specs.declared.desc.Core.{Core}
 use Rattle.bbm_rules.specs.Prelude.{Kind, Ttbr0, Reg, Tag, Heading, Event, Root, Unroot, Write, Msr}
 use Rattle.bbm_rules.specs.declared.rule.Rule.{Rule}
 use Rattle.bbm_rules.specs.Attach.{End, attached_by, attached_from}

@@ -2,11 +2,11 @@
 -- claim by claim, and keep of each pattern only the positions that a claim names. As in the other step equations,
 -- `since` are the events after the last valid write of a place. Source: project's own choice.
 use Rattle.std.specs.Prelude.{ℕ, suc, length, Bool, false, ◌&&◌, ◌||◌, ◌==◌, List, if◌then◌else◌}
-use Rattle.bbm_rules.specs.barriers.Options.{answers}
-use Rattle.bbm_rules.specs.tlbi_scope.declared.entry.Cover.TheVariants.{Half, Second, Full}
+use Rattle.bbm_barriers.specs.Options.{answers}
+use Rattle.bbm_tlbi_scope.specs.declared.entry.Cover.TheVariants.{Half, Second, Full}
 use Rattle.bbm_rules.specs.Prelude.{Barrier, Tag, Heading, Event, Dsb, Tlbi}
-use Rattle.bbm_rules.specs.events.declared.claim.Claim.{Claim}
-use Rattle.bbm_rules.specs.events.declared.claim.Claim.TheVariants.{Place, Two, Taken}
+use Rattle.bbm_events.specs.declared.claim.Claim.{Claim}
+use Rattle.bbm_events.specs.declared.claim.Claim.TheVariants.{Place, Two, Taken}
 use Rattle.bbm_rules.specs.Claims.{Trust, same_tag}
 use Rattle.bbm_rules.specs.Claims.Trust.{Listed}
 use Rattle.bbm_rules.specs.Cleansing.{cleansed, flushes, full_step, half_where, second_step, seen_where}

@@ -1,7 +1,7 @@
 -- What is known of publications, answers and the patterns that cleanse. An annotated history is newest first; `since`
 -- is its part after the last valid write of a place. Source: project's own choice.
 use Rattle.std.specs.Prelude.{◌≡◌, ℕ, false, List, ◌∷◌, ◌++◌, Some}
-use Rattle.bbm_rules.specs.descriptor.Descriptor.{is_valid}
+use Rattle.bbm_descriptor.specs.Descriptor.{is_valid}
 use Rattle.bbm_rules.specs.Prelude.{Kind, Init, Write}
 use Rattle.bbm_rules.specs.Held.{ValidWrite, last_valid}
 use Rattle.bbm_rules.specs.Notes.{Noted}

@@ -3,10 +3,10 @@
 -- patterns. Source: project's own choice.
 use Rattle.std.specs.Prelude.{ℕ, length, Bool, true, false, not, ◌&&◌, ◌||◌, ◌==◌, List, ◌∷◌, Option, Some, None}
 use Rattle.std.specs.Prelude.{if◌then◌else◌}
-use Rattle.bbm_rules.specs.barriers.Options.{answers}
-use Rattle.bbm_rules.specs.descriptor.Descriptor.{is_valid, same_bool}
-use Rattle.bbm_rules.specs.tlbi_scope.Operations.{operation}
-use Rattle.bbm_rules.specs.tlbi_scope.declared.entry.Cover.TheVariants.{Half, Second, Full}
+use Rattle.bbm_barriers.specs.Options.{answers}
+use Rattle.bbm_descriptor.specs.Descriptor.{is_valid, same_bool}
+use Rattle.bbm_tlbi_scope.specs.Operations.{operation}
+use Rattle.bbm_tlbi_scope.specs.declared.entry.Cover.TheVariants.{Half, Second, Full}
 use Rattle.bbm_rules.specs.Prelude.{Barrier, Kind, Tag, Heading, Event, Init, Write, Dsb, Tlbi}
 use Rattle.bbm_rules.specs.Claims.{Trust}
 use Rattle.bbm_rules.specs.Claims.Trust.{Patterns}

@@ -1,6 +1,6 @@
 -- What one event does to the trees, and to what their places hold. Source: project's own choice.
 use Rattle.std.specs.Prelude.{◌≡◌, ℕ, ◌<◌, ◌⊎◌, true, false, List, [], ◌∷◌, ◌++◌, Option, Some, None, is_some, Contains}
-use Rattle.bbm_rules.specs.descriptor.Descriptor.{desc_of, is_valid, needs}
+use Rattle.bbm_descriptor.specs.Descriptor.{desc_of, is_valid, needs}
 use Rattle.bbm_rules.specs.Prelude.{Kind, Ttbr0, Heading, Event, Root, Unroot, Write, Dsb, Barrier}
 use Rattle.bbm_rules.specs.Claims.{Trust}
 use Rattle.bbm_rules.specs.Covers.{is_global, note}

@@ -2,7 +2,7 @@
 -- an event, by what was so before it at the same places. Source: project's own choice.
 use Rattle.std.specs.Prelude.{◌≡◌, ℕ, Bool, true, false, not, ◌&&◌, ◌==◌, List, ◌∷◌, Option, Some, None, is_some}
 use Rattle.std.specs.Prelude.{if◌then◌else◌}
-use Rattle.bbm_rules.specs.descriptor.Descriptor.{is_valid}
+use Rattle.bbm_descriptor.specs.Descriptor.{is_valid}
 use Rattle.bbm_rules.specs.Prelude.{Kind, Heading, Event, Init, Write}
 use Rattle.bbm_rules.specs.Claims.{Trust}
 use Rattle.bbm_rules.specs.Held.{held}

@@ -2,7 +2,7 @@
 -- after those of `older`; an annotated history is split the same way.
 -- Source: project's own choice.
 use Rattle.std.specs.Prelude.{◌≡◌, ℕ, ◌%◌, ◌⊎◌, true, false, List, ◌∷◌, ◌++◌, Some, None, if◌then◌else◌}
-use Rattle.bbm_rules.specs.descriptor.Descriptor.{is_valid, needs}
+use Rattle.bbm_descriptor.specs.Descriptor.{is_valid, needs}
 use Rattle.bbm_rules.specs.Prelude.{Kind, Heading, Event, Init, Write}
 use Rattle.bbm_rules.specs.Claims.{Trust}
 use Rattle.bbm_rules.specs.Cleansing.{seen}

@@ -1,10 +1,10 @@
 //! What the crates below prove, gathered for the proofs here.
 
-ghost use Rattle.bbm_rules.specs.events.Heading.{Heading};
+ghost use Rattle.bbm_events.specs.Heading.{Heading};
 ghost use Rattle.bbm_rules.specs.Claims.{Trust};
 ghost use Rattle.bbm_histories.specs.Below.{Below};
 
-use bbm_rules::descriptor::laws::{
+use bbm_descriptor::laws::{
     law_core_where_valid, law_no_need_of_equal_cores, law_same_core_is_equal,
 };
 use bbm_rules::{

@@ -1,12 +1,12 @@
 //! Step equations of cleansed, and of the tags that are taken away, under a list of claims.
 
 ghost use Rattle.std.specs.Prelude.{◌≡◌, ℕ, Bool, not, ◌&&◌, List, ◌∷◌};
-ghost use Rattle.bbm_rules.specs.barriers.declared.Dsb.{Dsb as Barrier};
-ghost use Rattle.bbm_rules.specs.regimes.declared.regime.Tag.{Tag};
-ghost use Rattle.bbm_rules.specs.events.Heading.{Heading};
-ghost use Rattle.bbm_rules.specs.events.declared.event.Event.{Event};
-ghost use Rattle.bbm_rules.specs.events.declared.event.Event.TheVariants.{Dsb};
-ghost use Rattle.bbm_rules.specs.events.declared.claim.Claim.{Claim};
+ghost use Rattle.bbm_barriers.specs.declared.Dsb.{Dsb as Barrier};
+ghost use Rattle.bbm_regimes.specs.declared.regime.Tag.{Tag};
+ghost use Rattle.bbm_events.specs.Heading.{Heading};
+ghost use Rattle.bbm_events.specs.declared.event.Event.{Event};
+ghost use Rattle.bbm_events.specs.declared.event.Event.TheVariants.{Dsb};
+ghost use Rattle.bbm_events.specs.declared.claim.Claim.{Claim};
 ghost use Rattle.bbm_rules.specs.Claims.{Trust};
 ghost use Rattle.bbm_rules.specs.Claims.Trust.{Listed};
 ghost use Rattle.bbm_rules.specs.Cleansing.{cleansed};

@@ -14,8 +14,6 @@ pub mod value_steps;
 pub mod values;
 pub mod versions;
 
-pub use bbm_rules as rules;
-pub use bbm_rules::{barriers, descriptor, events, regimes, tlbi_scope};
 pub use claim_steps::{law_claim_steps, law_tag_claim_steps};
 pub use locks::law_lock_order;
 pub use patterns::{law_patterns_begin, law_patterns_stay, law_uniform};

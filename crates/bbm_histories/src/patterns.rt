@@ -1,9 +1,9 @@
 //! Laws of publications, answers and the patterns that cleanse.
 
 ghost use Rattle.std.specs.Prelude.{◌≡◌, ℕ, ◌<◌, ◌⊎◌, true, List, ◌∷◌, ◌++◌};
-ghost use Rattle.bbm_rules.specs.tlbi_scope.declared.entry.Cover.{Cover};
-ghost use Rattle.bbm_rules.specs.events.Heading.{Heading};
-ghost use Rattle.bbm_rules.specs.events.declared.event.Event.{Event};
+ghost use Rattle.bbm_tlbi_scope.specs.declared.entry.Cover.{Cover};
+ghost use Rattle.bbm_events.specs.Heading.{Heading};
+ghost use Rattle.bbm_events.specs.declared.event.Event.{Event};
 ghost use Rattle.bbm_rules.specs.Claims.{Trust};
 ghost use Rattle.bbm_rules.specs.Cleansing.{half, seen};
 ghost use Rattle.bbm_rules.specs.Notes.{Noted};

@@ -1,9 +1,9 @@
 //! The phase of a place by the words that have step equations.
 
 ghost use Rattle.std.specs.Prelude.{◌≡◌, ℕ, List, Some, None, if◌then◌else◌};
-ghost use Rattle.bbm_rules.specs.descriptor.Descriptor.{is_valid};
-ghost use Rattle.bbm_rules.specs.events.Heading.{Heading};
-ghost use Rattle.bbm_rules.specs.events.declared.event.Event.{Event};
+ghost use Rattle.bbm_descriptor.specs.Descriptor.{is_valid};
+ghost use Rattle.bbm_events.specs.Heading.{Heading};
+ghost use Rattle.bbm_events.specs.declared.event.Event.{Event};
 ghost use Rattle.bbm_rules.specs.declared.phase.Phase.TheVariants.{Clean, Live};
 ghost use Rattle.bbm_rules.specs.Claims.{Trust};
 ghost use Rattle.bbm_rules.specs.Covers.{noted};

@@ -1,12 +1,12 @@
 //! Step equations of the definitions that search: what they give after an event, by what they gave before it.
 
 ghost use Rattle.std.specs.Prelude.{◌≡◌, ℕ, ◌<◌, Bool, not, ◌&&◌, List, ◌∷◌};
-ghost use Rattle.bbm_rules.specs.barriers.declared.Dsb.{Dsb as Barrier};
-ghost use Rattle.bbm_rules.specs.regimes.declared.regime.Kind.{Kind};
-ghost use Rattle.bbm_rules.specs.regimes.declared.regime.Tag.{Tag};
-ghost use Rattle.bbm_rules.specs.events.Heading.{Heading};
-ghost use Rattle.bbm_rules.specs.events.declared.event.Event.{Event};
-ghost use Rattle.bbm_rules.specs.events.declared.event.Event.TheVariants.{Dsb};
+ghost use Rattle.bbm_barriers.specs.declared.Dsb.{Dsb as Barrier};
+ghost use Rattle.bbm_regimes.specs.declared.regime.Kind.{Kind};
+ghost use Rattle.bbm_regimes.specs.declared.regime.Tag.{Tag};
+ghost use Rattle.bbm_events.specs.Heading.{Heading};
+ghost use Rattle.bbm_events.specs.declared.event.Event.{Event};
+ghost use Rattle.bbm_events.specs.declared.event.Event.TheVariants.{Dsb};
 ghost use Rattle.bbm_rules.specs.Claims.{Trust};
 ghost use Rattle.bbm_rules.specs.Claims.Trust.{Patterns};
 ghost use Rattle.bbm_rules.specs.Cleansing.{cleansed, half, seen};

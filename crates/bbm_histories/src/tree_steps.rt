@@ -1,11 +1,11 @@
 //! Step equations of the trees: what is childless, what is in limbo, and which node a page has after an event.
 
 ghost use Rattle.std.specs.Prelude.{◌≡◌, ℕ, ◌<◌, suc, ◌↔◌, true, false, not, List, ◌∷◌, Some, None};
-ghost use Rattle.bbm_rules.specs.barriers.declared.Dsb.{Dsb as Barrier};
-ghost use Rattle.bbm_rules.specs.regimes.declared.regime.Kind.{Kind};
-ghost use Rattle.bbm_rules.specs.events.Heading.{Heading};
-ghost use Rattle.bbm_rules.specs.events.declared.event.Event.{Event};
-ghost use Rattle.bbm_rules.specs.events.declared.event.Event.TheVariants.{Dsb, Unroot};
+ghost use Rattle.bbm_barriers.specs.declared.Dsb.{Dsb as Barrier};
+ghost use Rattle.bbm_regimes.specs.declared.regime.Kind.{Kind};
+ghost use Rattle.bbm_events.specs.Heading.{Heading};
+ghost use Rattle.bbm_events.specs.declared.event.Event.{Event};
+ghost use Rattle.bbm_events.specs.declared.event.Event.TheVariants.{Dsb, Unroot};
 ghost use Rattle.bbm_rules.specs.Attach.{attached_by};
 ghost use Rattle.bbm_rules.specs.Broken.{keeps};
 ghost use Rattle.bbm_rules.specs.Claims.{Trust};

@@ -1,12 +1,12 @@
 //! Laws of the trees, and of what their places hold.
 
 ghost use Rattle.std.specs.Prelude.{◌≡◌, ℕ, ◌<◌, ◌⊎◌, ◌↔◌, true, false, List, ◌∷◌, ◌++◌, Some, None, Contains};
-ghost use Rattle.bbm_rules.specs.barriers.declared.Dsb.{Dsb as Barrier};
-ghost use Rattle.bbm_rules.specs.regimes.declared.regime.Kind.{Kind};
-ghost use Rattle.bbm_rules.specs.descriptor.Descriptor.{is_valid};
-ghost use Rattle.bbm_rules.specs.events.Heading.{Heading, heading_ok};
-ghost use Rattle.bbm_rules.specs.events.declared.event.Event.{Event};
-ghost use Rattle.bbm_rules.specs.events.declared.event.Event.TheVariants.{Dsb, Init, Unroot};
+ghost use Rattle.bbm_barriers.specs.declared.Dsb.{Dsb as Barrier};
+ghost use Rattle.bbm_regimes.specs.declared.regime.Kind.{Kind};
+ghost use Rattle.bbm_descriptor.specs.Descriptor.{is_valid};
+ghost use Rattle.bbm_events.specs.Heading.{Heading, heading_ok};
+ghost use Rattle.bbm_events.specs.declared.event.Event.{Event};
+ghost use Rattle.bbm_events.specs.declared.event.Event.TheVariants.{Dsb, Init, Unroot};
 ghost use Rattle.bbm_rules.specs.Broken.{keeps};
 ghost use Rattle.bbm_rules.specs.Claims.{Trust};
 ghost use Rattle.bbm_rules.specs.Cleansing.{seen};

@@ -1,9 +1,9 @@
 //! Laws of the values of places.
 
 ghost use Rattle.std.specs.Prelude.{◌≡◌, ℕ, ◌<◌, true, List, ◌∷◌, ◌++◌, Contains};
-ghost use Rattle.bbm_rules.specs.descriptor.Descriptor.{is_valid};
-ghost use Rattle.bbm_rules.specs.events.Heading.{Heading};
-ghost use Rattle.bbm_rules.specs.events.declared.event.Event.{Event};
+ghost use Rattle.bbm_descriptor.specs.Descriptor.{is_valid};
+ghost use Rattle.bbm_events.specs.Heading.{Heading};
+ghost use Rattle.bbm_events.specs.declared.event.Event.{Event};
 ghost use Rattle.bbm_rules.specs.Broken.{keeps};
 ghost use Rattle.bbm_rules.specs.Claims.{Trust};
 ghost use Rattle.bbm_rules.specs.Covers.{note, noted};

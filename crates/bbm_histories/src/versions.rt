@@ -1,8 +1,8 @@
 //! What two versions of the log's language have in common.
 
 ghost use Rattle.std.specs.Prelude.{◌≡◌, false, List};
-ghost use Rattle.bbm_rules.specs.events.Heading.{Heading};
-ghost use Rattle.bbm_rules.specs.events.declared.event.Event.{Event};
+ghost use Rattle.bbm_events.specs.Heading.{Heading};
+ghost use Rattle.bbm_events.specs.declared.event.Event.{Event};
 ghost use Rattle.bbm_rules.specs.Broken.{keeps};
 ghost use Rattle.bbm_rules.specs.Claims.{Trust};
 ghost use Rattle.bbm_rules.specs.Lists.{any};

@@ -4,8 +4,8 @@ use Rattle.std.proofs.Common.{◌≡◌, ℕ, ◌<◌, Bool, true, false, cond, 
 use Rattle.std.proofs.lemmas.Bool.{and_parts, not-true}
 use Rattle.bbm_lists.specs.Elements.{In}
 use Rattle.bbm_regimes.proofs.Every.{every_at}
-use Rattle.bbm_rules.specs.descriptor.Descriptor.{is_valid}
-use Rattle.bbm_rules.specs.regimes.EveryPe.{every_pe}
+use Rattle.bbm_descriptor.specs.Descriptor.{is_valid}
+use Rattle.bbm_regimes.specs.EveryPe.{every_pe}
 use Rattle.bbm_rules.specs.declared.phase.Phase.{Phase}
 use Rattle.bbm_rules.specs.declared.phase.Phase.TheVariants.{Clean, Live}
 use Rattle.bbm_rules.specs.Broken.{broken, keeps}
@@ -22,8 +22,8 @@ use Rattle.bbm_rules.specs.Reach.{unanswered}
 use Rattle.bbm_rules.specs.Tags.{itself}
 use Rattle.bbm_rules.specs.Tree.{Node, held_at, node_of, tree}
 use Rattle.bbm_rules.specs.Values.{value_of, written_places}
-use Rattle.bbm_alike.specs.histories.Tree.{HeldChange}
-use Rattle.bbm_alike.specs.histories.TreeSteps.{holds_above, node_where}
+use Rattle.bbm_histories.specs.Tree.{HeldChange}
+use Rattle.bbm_histories.specs.TreeSteps.{holds_above, node_where}
 use Rattle.bbm_alike.specs.Alike.{SamePatterns}
 use Rattle.bbm_idle.specs.Idle.{answers_needed, is_idle, keeps_phases}
 use Rattle.bbm_idle.specs.Known.{Known}

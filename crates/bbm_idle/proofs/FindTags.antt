@@ -5,7 +5,7 @@ use Rattle.std.proofs.lemmas.Bool.{and_parts, eqb-true, or_left}
 use Rattle.std.proofs.lemmas.List.Folds.{list_any-append}
 use Rattle.bbm_lists.proofs.Elements.{any_finds, any_found}
 use Rattle.bbm_rules.specs.Prelude.{AsidFrom, FromTtbr0, FromTtbr1, Ttbr1El1, Ttbr1Tag, World, Hyp, Kernel, Heading, Event, Root, Unroot, Isb, Msr, Tag, Tlbi, TlbiOp, Scope}
-use Rattle.bbm_rules.specs.tlbi_scope.Tags.{takes_whole_tag}
+use Rattle.bbm_tlbi_scope.specs.Tags.{takes_whole_tag}
 use Rattle.bbm_rules.specs.Changes.{changes}
 use Rattle.bbm_rules.specs.Claims.{Patterns, same_tag}
 use Rattle.bbm_rules.specs.Lists.{any, below, if_so}

@@ -3,14 +3,14 @@ use Rattle.std.proofs.Common.{◌≡◌, ℕ, zero, suc, ◌<◌, Bool, false, c
 use Rattle.std.specs.Result.{result_ok}
 use Rattle.bbm_lists.specs.Elements.{In}
 use Rattle.bbm_regimes.proofs.Every.{every_same}
-use Rattle.bbm_rules.specs.tlbi_scope.Operations.{scoped_by_vmid}
-use Rattle.bbm_rules.specs.tlbi_scope.declared.entry.Cover.{Cover}
-use Rattle.bbm_rules.specs.tlbi_scope.declared.entry.Cover.TheVariants.{None as NoCover}
-use Rattle.bbm_rules.specs.tlbi_scope.declared.entry.PlaceView.{PlaceView}
-use Rattle.bbm_rules.specs.tlbi_scope.Covers.{cover_of}
-use Rattle.bbm_rules.specs.tlbi_scope.Tags.{takes_whole_tag}
-use Rattle.bbm_rules.specs.descriptor.Descriptor.{desc_of}
-use Rattle.bbm_rules.specs.regimes.EveryPe.{every_pe}
+use Rattle.bbm_tlbi_scope.specs.Operations.{scoped_by_vmid}
+use Rattle.bbm_tlbi_scope.specs.declared.entry.Cover.{Cover}
+use Rattle.bbm_tlbi_scope.specs.declared.entry.Cover.TheVariants.{None as NoCover}
+use Rattle.bbm_tlbi_scope.specs.declared.entry.PlaceView.{PlaceView}
+use Rattle.bbm_tlbi_scope.specs.Covers.{cover_of}
+use Rattle.bbm_tlbi_scope.specs.Tags.{takes_whole_tag}
+use Rattle.bbm_descriptor.specs.Descriptor.{desc_of}
+use Rattle.bbm_regimes.specs.EveryPe.{every_pe}
 use Rattle.bbm_rules.specs.declared.phase.Phase.{Phase}
 use Rattle.bbm_rules.specs.Claims.{Patterns}
 use Rattle.bbm_rules.specs.Cleansing.{cleansed, half, seen}

@@ -4,11 +4,11 @@ use Rattle.std.proofs.lemmas.Bool.{and_from, and_parts, false_from_ne_true, or_l
 use Rattle.std.proofs.lemmas.List.{append_assoc}
 use Rattle.bbm_lists.specs.Elements.{In}
 use Rattle.bbm_lists.proofs.Elements.{any_finds, any_found, from_contains, none_of, to_contains}
-use Rattle.bbm_rules.specs.barriers.Options.{answers}
-use Rattle.bbm_rules.specs.descriptor.Descriptor.{same_bool}
-use Rattle.bbm_rules.specs.tlbi_scope.Operations.{operation}
-use Rattle.bbm_rules.specs.tlbi_scope.declared.entry.Cover.{Cover}
-use Rattle.bbm_rules.specs.tlbi_scope.declared.entry.Cover.TheVariants.{None as NoCover, Half, Second, Full}
+use Rattle.bbm_barriers.specs.Options.{answers}
+use Rattle.bbm_descriptor.specs.Descriptor.{same_bool}
+use Rattle.bbm_tlbi_scope.specs.Operations.{operation}
+use Rattle.bbm_tlbi_scope.specs.declared.entry.Cover.{Cover}
+use Rattle.bbm_tlbi_scope.specs.declared.entry.Cover.TheVariants.{None as NoCover, Half, Second, Full}
 use Rattle.bbm_rules.specs.Broken.{broken, keeps}
 use Rattle.bbm_rules.specs.Claims.{Patterns}
 use Rattle.bbm_rules.specs.Cleansing.{cleansed, flushes, half, same_cover, seen}
@@ -24,8 +24,8 @@ use Rattle.bbm_rules.specs.Sentences.{Open, completes_for}
 use Rattle.bbm_rules.specs.Tags.{itself}
 use Rattle.bbm_rules.specs.Tree.{Node, node_of, tree}
 use Rattle.bbm_rules.specs.Values.{written_places}
-use Rattle.bbm_alike.specs.histories.Steps.{answered_by, half_after, half_waits, is_tlbi}
-use Rattle.bbm_alike.specs.histories.Tree.{HeldBy, View}
+use Rattle.bbm_histories.specs.Steps.{answered_by, half_after, half_waits, is_tlbi}
+use Rattle.bbm_histories.specs.Tree.{HeldBy, View}
 use Rattle.bbm_idle.specs.Idle.{adds, adds_at, answers_needed, is_needed, is_needed_at, takes_of}
 use Rattle.bbm_idle.specs.Known.{Known}
 use Rattle.bbm_idle.proofs.FindLists.{one_pe}

@@ -2,16 +2,16 @@
 use Rattle.std.proofs.Common.{◌≡◌, ℕ, Bool, true, false, cond, ◌&&◌, ◌||◌, ◌==◌, List, [], ◌∷◌, ◌++◌, refl, sym, ◌∙◌, ap, inl, inr, true≢false}
 use Rattle.std.proofs.Math.Bool.{and-false}
 use Rattle.std.proofs.lemmas.Bool.{and_from, and_parts, eqb-true, false_from_ne_true, or_cases, or_left, or_right}
-use Rattle.bbm_rules.specs.barriers.Options.{answers}
-use Rattle.bbm_rules.specs.tlbi_scope.declared.entry.Cover.{Cover}
-use Rattle.bbm_rules.specs.tlbi_scope.declared.entry.Cover.TheVariants.{Half, Second, Full}
+use Rattle.bbm_barriers.specs.Options.{answers}
+use Rattle.bbm_tlbi_scope.specs.declared.entry.Cover.{Cover}
+use Rattle.bbm_tlbi_scope.specs.declared.entry.Cover.TheVariants.{Half, Second, Full}
 use Rattle.bbm_rules.specs.Prelude.{Barrier, Heading, Event, Write, Dsb, Tlbi}
 use Rattle.bbm_rules.specs.Claims.{Patterns}
 use Rattle.bbm_rules.specs.Cleansing.{cleansed, flushes, half, same_cover, seen, writes}
 use Rattle.bbm_rules.specs.Notes.{Noted, event_of}
 use Rattle.bbm_rules.specs.Reach.{reaches}
 use Rattle.bbm_rules.specs.Values.{publishes_to}
-use Rattle.bbm_alike.specs.histories.Steps.{answered_by, cleansed_after, full_waits, half_after, half_waits, is_tlbi, second_waits, seen_after, waits, waits_after, wrote}
+use Rattle.bbm_histories.specs.Steps.{answered_by, cleansed_after, full_waits, half_after, half_waits, is_tlbi, second_waits, seen_after, waits, waits_after, wrote}
 use Rattle.bbm_idle.specs.Known.{Known}
 
 -- ---- what a DSB answers

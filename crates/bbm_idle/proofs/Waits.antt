@@ -1,15 +1,15 @@
 -- What is seen, half and cleansed, and what waits and still counts, after an event that is idle.
 use Rattle.std.proofs.Common.{◌≡◌, ℕ, ◌<◌, Bool, true, false, cond, not, ◌&&◌, ◌||◌, ◌==◌, List, ◌∷◌, refl, sym, ◌∙◌, ap, true≢false}
 use Rattle.std.proofs.lemmas.Bool.{and_parts, eqb-true, false_from_ne_true, or_parts}
-use Rattle.bbm_rules.specs.barriers.Options.{answers}
-use Rattle.bbm_rules.specs.tlbi_scope.declared.entry.Cover.{Cover}
-use Rattle.bbm_rules.specs.tlbi_scope.declared.entry.Cover.TheVariants.{Half, Second, Full}
+use Rattle.bbm_barriers.specs.Options.{answers}
+use Rattle.bbm_tlbi_scope.specs.declared.entry.Cover.{Cover}
+use Rattle.bbm_tlbi_scope.specs.declared.entry.Cover.TheVariants.{Half, Second, Full}
 use Rattle.bbm_rules.specs.Prelude.{Barrier, Heading, Event, Dsb, Dmb, Isb, Tlbi, TlbiOp}
 use Rattle.bbm_rules.specs.Claims.{Patterns}
 use Rattle.bbm_rules.specs.Cleansing.{cleansed, flushes, half, same_cover, seen, writes}
 use Rattle.bbm_rules.specs.Notes.{Noted, event_of}
 use Rattle.bbm_rules.specs.Reach.{Issued, reaches}
-use Rattle.bbm_alike.specs.histories.Steps.{answered_by, cleansed_after, full_waits, half_after, half_waits, is_tlbi, second_waits, seen_after, waits_after, wrote}
+use Rattle.bbm_histories.specs.Steps.{answered_by, cleansed_after, full_waits, half_after, half_waits, is_tlbi, second_waits, seen_after, waits_after, wrote}
 use Rattle.bbm_alike.specs.Alike.{SamePatterns}
 use Rattle.bbm_idle.specs.Idle.{adds}
 use Rattle.bbm_idle.specs.Known.{Known}

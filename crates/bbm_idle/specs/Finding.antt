@@ -1,11 +1,11 @@
 -- What is kept beside a history, and asked of it, while the idle events of a log are found. No public contract cites
 -- these words. Source: project's own choice.
 use Rattle.std.specs.Prelude.{◌≡◌, ℕ, Bool, true, false, not, ◌&&◌, ◌||◌, ◌==◌, List, Option, Some, None, unwrap_or, if◌then◌else◌}
-use Rattle.bbm_rules.specs.regimes.EveryPe.{every_pe}
-use Rattle.bbm_rules.specs.regimes.PeMask.{pe_in}
-use Rattle.bbm_rules.specs.barriers.Options.{answers}
-use Rattle.bbm_rules.specs.tlbi_scope.declared.entry.Cover.{Cover}
-use Rattle.bbm_rules.specs.tlbi_scope.Tags.{takes_whole_tag}
+use Rattle.bbm_regimes.specs.EveryPe.{every_pe}
+use Rattle.bbm_regimes.specs.PeMask.{pe_in}
+use Rattle.bbm_barriers.specs.Options.{answers}
+use Rattle.bbm_tlbi_scope.specs.declared.entry.Cover.{Cover}
+use Rattle.bbm_tlbi_scope.specs.Tags.{takes_whole_tag}
 use Rattle.bbm_rules.specs.declared.phase.Phase.{Phase}
 use Rattle.bbm_rules.specs.declared.phase.Phase.TheVariants.{Clean, Live}
 use Rattle.bbm_rules.specs.Claims.{Patterns}

@@ -1,7 +1,7 @@
 -- What the crates below prove, as one record, so that each proof here takes it as one hypothesis.
 use Rattle.std.specs.Prelude.{◌≡◌, ℕ, suc, ◌<◌, Bool, true, false, List, [], ◌∷◌, ◌++◌, length, Some, None, Contains}
 use Rattle.std.specs.Prelude.{if◌then◌else◌}
-use Rattle.bbm_rules.specs.descriptor.Descriptor.{is_valid}
+use Rattle.bbm_descriptor.specs.Descriptor.{is_valid}
 use Rattle.bbm_rules.specs.declared.phase.Phase.TheVariants.{Clean, Live}
 use Rattle.bbm_rules.specs.Broken.{broken, keeps}
 use Rattle.bbm_rules.specs.Changes.{changes}
@@ -22,9 +22,9 @@ use Rattle.bbm_rules.specs.Sentences.{Open}
 use Rattle.bbm_rules.specs.Tags.{itself}
 use Rattle.bbm_rules.specs.Tree.{Node, held_at, node_of, tree}
 use Rattle.bbm_rules.specs.Values.{value_of, written_places}
-use Rattle.bbm_alike.specs.histories.Steps.{cleansed_after, half_after, held_after, seen_after, waits, waits_after}
-use Rattle.bbm_alike.specs.histories.Tree.{HeldBy, HeldChange, Proper, View}
-use Rattle.bbm_alike.specs.histories.TreeSteps.{holds_above, node_where}
+use Rattle.bbm_histories.specs.Steps.{cleansed_after, half_after, held_after, seen_after, waits, waits_after}
+use Rattle.bbm_histories.specs.Tree.{HeldBy, HeldChange, Proper, View}
+use Rattle.bbm_histories.specs.TreeSteps.{holds_above, node_where}
 use Rattle.bbm_alike.specs.Alike.{Alike}
 use Rattle.bbm_alike.specs.SameTags.{AnswersNone, SameTags, TakesNone}
 

@@ -2,8 +2,8 @@
 //! Source: project's own choice.
 
 ghost use Rattle.std.specs.Prelude.{◌≡◌, ℕ, ◌&&◌, ◌||◌, true, List, ◌∷◌, reverse, IfOk, OnOk};
-ghost use Rattle.bbm_rules.specs.events.Fits.{fits_heading};
-ghost use Rattle.bbm_rules.specs.regimes.PeMask.{pe_in};
+ghost use Rattle.bbm_events.specs.Fits.{fits_heading};
+ghost use Rattle.bbm_regimes.specs.PeMask.{pe_in};
 ghost use Rattle.bbm_rules.specs.Lists.{any, some_pe};
 ghost use Rattle.bbm_rules.specs.Notes.{Noted};
 ghost use Rattle.bbm_rules.specs.Reach as reach;
@@ -15,12 +15,12 @@ ghost use Rattle.bbm_idle.specs.Idle as idle;
 
 use crate::find_places::{Seat, added_by, seats_of};
 use crate::find_tags::{holds_some, taken_by};
+use bbm_events::{Event, Header};
+use bbm_oracle_patterns::Kept;
+use bbm_oracle_tags::{AllPatterns, Reading, reaches};
 use bbm_oracle_trees::History;
-use bbm_oracle_trees::oracle_patterns::Kept;
-use bbm_oracle_trees::oracle_tags::{AllPatterns, Reading, reaches};
-use bbm_rules::events::{Event, Header};
+use bbm_regimes::{NoMemory, Pe, PeMask, Place};
 use bbm_rules::law_equality_tests;
-use bbm_rules::regimes::{NoMemory, Pe, PeMask, Place};
 use std::alloc::Global;
 
 /// The PEs at which the newest event, a TLBI, adds something at one of the places, by what came before it.

@@ -2,12 +2,12 @@
 //! Source: project's own choice.
 
 ghost use Rattle.std.specs.Prelude.{◌≡◌, ℕ, ◌<◌, ◌&&◌, ◌||◌, not, true, List, ◌∷◌, reverse, IfOk, OnOk};
-ghost use Rattle.bbm_rules.specs.descriptor.Descriptor.{is_valid};
-ghost use Rattle.bbm_rules.specs.events.declared.event.Event.{Event as TheEvent};
-ghost use Rattle.bbm_rules.specs.events.Fits.{fits_heading};
-ghost use Rattle.bbm_rules.specs.events.Heading.{Heading};
-ghost use Rattle.bbm_rules.specs.regimes.EveryPe.{every_pe};
-ghost use Rattle.bbm_rules.specs.regimes.PeMask.{pe_in};
+ghost use Rattle.bbm_descriptor.specs.Descriptor.{is_valid};
+ghost use Rattle.bbm_events.specs.declared.event.Event.{Event as TheEvent};
+ghost use Rattle.bbm_events.specs.Fits.{fits_heading};
+ghost use Rattle.bbm_events.specs.Heading.{Heading};
+ghost use Rattle.bbm_regimes.specs.EveryPe.{every_pe};
+ghost use Rattle.bbm_regimes.specs.PeMask.{pe_in};
 ghost use Rattle.bbm_rules.specs.declared.phase.Phase.{Phase};
 ghost use Rattle.bbm_rules.specs.Claims.{Patterns};
 ghost use Rattle.bbm_rules.specs.Lists.{every};
@@ -20,12 +20,12 @@ ghost use Rattle.bbm_idle.specs.Finding as spec;
 ghost use Rattle.bbm_idle.specs.Idle as idle;
 ghost use Rattle.bbm_idle.specs.Same.{same_phase};
 
+use bbm_descriptor::core;
+use bbm_events::{Event, Header};
+use bbm_oracle_patterns::{Kept, Trace, cleansed_everywhere, last_valid, trace_of};
+use bbm_oracle_tags::{AllPatterns, value_of};
 use bbm_oracle_trees::History;
-use bbm_oracle_trees::oracle_patterns::{Kept, Trace, cleansed_everywhere, last_valid, trace_of};
-use bbm_oracle_trees::oracle_tags::{AllPatterns, value_of};
-use bbm_rules::descriptor::core;
-use bbm_rules::events::{Event, Header};
-use bbm_rules::regimes::{Kind, NoMemory, PeMask, Place};
+use bbm_regimes::{Kind, NoMemory, PeMask, Place};
 use std::alloc::Global;
 
 /// The phases of a place at all PEs.

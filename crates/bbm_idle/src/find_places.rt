@@ -2,10 +2,10 @@
 //! Source: project's own choice.
 
 ghost use Rattle.std.specs.Prelude.{◌≡◌, ℕ, ◌||◌, List, ◌∷◌, reverse, IfOk, OnOk, Some};
-ghost use Rattle.bbm_rules.specs.events.declared.event.Event.{Event as TheEvent};
-ghost use Rattle.bbm_rules.specs.events.Heading.{Heading};
-ghost use Rattle.bbm_rules.specs.regimes.PeMask.{pe_in};
-ghost use Rattle.bbm_rules.specs.tlbi_scope.declared.entry.Cover.{Cover as Grade};
+ghost use Rattle.bbm_events.specs.declared.event.Event.{Event as TheEvent};
+ghost use Rattle.bbm_events.specs.Heading.{Heading};
+ghost use Rattle.bbm_regimes.specs.PeMask.{pe_in};
+ghost use Rattle.bbm_tlbi_scope.specs.declared.entry.Cover.{Cover as Grade};
 ghost use Rattle.bbm_rules.specs.Claims.{Patterns};
 ghost use Rattle.bbm_rules.specs.Held as holding;
 ghost use Rattle.bbm_rules.specs.Lists.{among, any, with_number};
@@ -15,12 +15,12 @@ ghost use Rattle.bbm_oracle_patterns.specs.Kept.{cover_in, notes_of};
 ghost use Rattle.bbm_oracle_trees.specs.Past.{notes};
 ghost use Rattle.bbm_idle.specs.Finding as spec;
 
+use bbm_events::{Event, Header};
+use bbm_oracle_patterns::{Kept, Trace, last_valid, trace_of};
+use bbm_oracle_tags::AllPatterns;
 use bbm_oracle_trees::History;
-use bbm_oracle_trees::oracle_patterns::{Kept, Trace, last_valid, trace_of};
-use bbm_oracle_trees::oracle_tags::AllPatterns;
-use bbm_rules::events::{Event, Header};
-use bbm_rules::regimes::{Kind, NoMemory, PeMask, Place};
-use bbm_rules::tlbi_scope::Cover;
+use bbm_regimes::{Kind, NoMemory, PeMask, Place};
+use bbm_tlbi_scope::Cover;
 use std::alloc::Global;
 
 /// A place of a tree.

@@ -1,11 +1,11 @@
 //! Whether a PE wrote a register since its last ISB.
 
 ghost use Rattle.std.specs.Prelude.{◌≡◌, List, ◌∷◌, reverse};
-ghost use Rattle.bbm_rules.specs.events.declared.event.Event.{Event as TheEvent};
+ghost use Rattle.bbm_events.specs.declared.event.Event.{Event as TheEvent};
 ghost use Rattle.bbm_idle.specs.Idle as spec;
 
-use bbm_rules::events::Event;
-use bbm_rules::regimes::Pe;
+use bbm_events::Event;
+use bbm_regimes::Pe;
 
 /// Whether the PE wrote a register since its last ISB, after one more event.
 fn wrote_after(before: bool, event: &Event, pe: Pe) -> bool

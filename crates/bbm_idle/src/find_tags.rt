@@ -2,22 +2,20 @@
 //! Source: project's own choice, after Arm ARM (DDI 0487), "Translation Lookaside Buffers".
 
 ghost use Rattle.std.specs.Prelude.{◌≡◌, ℕ, Bool, ◌==◌, ◌&&◌, ◌||◌, List, ◌∷◌, reverse, IfOk, OnOk};
-ghost use Rattle.bbm_rules.specs.events.declared.event.Event.{Event as TheEvent};
-ghost use Rattle.bbm_rules.specs.tlbi_scope.Tags.{takes_whole_tag};
+ghost use Rattle.bbm_events.specs.declared.event.Event.{Event as TheEvent};
+ghost use Rattle.bbm_tlbi_scope.specs.Tags.{takes_whole_tag};
 ghost use Rattle.bbm_rules.specs.Changes.{changes};
 ghost use Rattle.bbm_rules.specs.Claims.{Patterns};
 ghost use Rattle.bbm_rules.specs.Lists.{any, below};
 ghost use Rattle.bbm_rules.specs.Tags as tags;
 ghost use Rattle.bbm_idle.specs.Finding as spec;
 
-use bbm_oracle_trees::oracle_tags::readings::is_read;
-use bbm_oracle_trees::oracle_tags::{
-    Declared, Reading, holds_at, named_scope, readings_at, roots_of, vmid_of,
-};
-use bbm_rules::events::{Event, Header};
+use bbm_events::{Event, Header};
+use bbm_oracle_tags::readings::is_read;
+use bbm_oracle_tags::{Declared, Reading, holds_at, named_scope, readings_at, roots_of, vmid_of};
+use bbm_regimes::{NoMemory, Page, Pe};
 use bbm_rules::law_equality_tests;
-use bbm_rules::regimes::{NoMemory, Page, Pe};
-use bbm_rules::tlbi_scope::{Scope, TlbiOp, whole_tag};
+use bbm_tlbi_scope::{Scope, TlbiOp, whole_tag};
 use std::alloc::Global;
 
 /// Adds the reading, unless it is there already.

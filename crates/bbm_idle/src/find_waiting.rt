@@ -1,19 +1,19 @@
 //! Which PEs have a needed TLBI that isn't answered.
 
 ghost use Rattle.std.specs.Prelude.{◌≡◌, ℕ, ◌==◌, ◌&&◌, ◌||◌, not, List, [], ◌∷◌};
-ghost use Rattle.bbm_rules.specs.barriers.Options as options;
-ghost use Rattle.bbm_rules.specs.events.declared.event.Event.{Event as TheEvent};
-ghost use Rattle.bbm_rules.specs.events.Heading.{Heading};
-ghost use Rattle.bbm_rules.specs.regimes.PeMask.{pe_in};
+ghost use Rattle.bbm_barriers.specs.Options as options;
+ghost use Rattle.bbm_events.specs.declared.event.Event.{Event as TheEvent};
+ghost use Rattle.bbm_events.specs.Heading.{Heading};
+ghost use Rattle.bbm_regimes.specs.PeMask.{pe_in};
 ghost use Rattle.bbm_rules.specs.Lists.{any};
 ghost use Rattle.bbm_rules.specs.Reach.{unanswered};
 ghost use Rattle.bbm_rules.specs.Tags.{itself};
 ghost use Rattle.bbm_idle.specs.Finding as spec;
 ghost use Rattle.bbm_idle.specs.Idle as idle;
 
-use bbm_rules::barriers::{Dsb, completes_broadcast, completes_local};
-use bbm_rules::events::Event;
-use bbm_rules::regimes::{Pe, PeMask};
+use bbm_barriers::{Dsb, completes_broadcast, completes_local};
+use bbm_events::Event;
+use bbm_regimes::{Pe, PeMask};
 
 /// The PEs that have a TLBI which was needed at its issue and isn't answered yet. Source: project's own choice.
 #[derive(Drop)]

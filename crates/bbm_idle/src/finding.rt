@@ -2,7 +2,7 @@
 //! Source: project's own choice.
 
 ghost use Rattle.std.specs.Prelude.{◌≡◌, ◌++◌, true, [], ◌∷◌, reverse, IfOk, OnOk};
-ghost use Rattle.bbm_rules.specs.events.Fits.{fits_heading};
+ghost use Rattle.bbm_events.specs.Fits.{fits_heading};
 ghost use Rattle.bbm_rules.specs.Lists.{every};
 ghost use Rattle.bbm_idle.specs.Finding as spec;
 ghost use Rattle.bbm_idle.specs.Idle as idle;
@@ -13,11 +13,11 @@ use crate::find_places::add_written;
 use crate::find_registers::wrote_register;
 use crate::find_tags::add_known;
 use crate::find_waiting::Waiting;
+use bbm_barriers::Dsb;
+use bbm_events::{Event, Header};
+use bbm_oracle_tags::{AllPatterns, Reading};
 use bbm_oracle_trees::History;
-use bbm_oracle_trees::oracle_tags::{AllPatterns, Reading};
-use bbm_rules::barriers::Dsb;
-use bbm_rules::events::{Event, Header};
-use bbm_rules::regimes::{NoMemory, Pe, Place};
+use bbm_regimes::{NoMemory, Pe, Place};
 use std::alloc::Global;
 
 /// The events of a log that were taken, and what is kept of them so that nothing is asked twice.
@@ -35,7 +35,7 @@ pub struct Search {
 
 #[tactic(auto, unfolding(crate::specs::Idle::is_idle))]
 impl Search {
-    ghost use Rattle.bbm_rules.specs.events.declared.event.Event.TheVariants.{Dsb as TheDsb};
+    ghost use Rattle.bbm_events.specs.declared.event.Event.TheVariants.{Dsb as TheDsb};
 
     /// No event yet.
     fn new(alloc: Global, header: &Header) -> Search

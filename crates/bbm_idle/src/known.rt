@@ -1,19 +1,19 @@
 //! What the crates below prove, gathered for the proofs here.
 
 ghost use Rattle.std.specs.Prelude.{◌≡◌, true};
-ghost use Rattle.bbm_rules.specs.events.Heading.{Heading, heading_ok};
+ghost use Rattle.bbm_events.specs.Heading.{Heading, heading_ok};
 ghost use Rattle.bbm_idle.specs.Known.{Known};
 
-use bbm_alike::histories::{
-    law_frozen, law_frozen_view, law_held_changes, law_held_step, law_node_step, law_one_node,
-    law_pattern_steps, law_phase_parts, law_proper,
-};
-use bbm_alike::rules::{
-    law_answered, law_changes, law_last_valid, law_notes, law_notes_keep_the_events, law_tree,
-};
 use bbm_alike::{
     law_alike_joins, law_alike_judges, law_alike_step, law_covers_alike, law_same_tags,
     law_takes_alike, law_trees_alike,
+};
+use bbm_histories::{
+    law_frozen, law_frozen_view, law_held_changes, law_held_step, law_node_step, law_one_node,
+    law_pattern_steps, law_phase_parts, law_proper,
+};
+use bbm_rules::{
+    law_answered, law_changes, law_last_valid, law_notes, law_notes_keep_the_events, law_tree,
 };
 
 /// The laws that the laws here stand on.

@@ -1,8 +1,8 @@
 //! The law of the events that a log can do without.
 
 ghost use Rattle.std.specs.Prelude.{◌≡◌, ◌<◌, ℕ, Bool, false, true, List, ◌∷◌, ◌++◌};
-ghost use Rattle.bbm_rules.specs.events.Heading.{Heading, heading_ok};
-ghost use Rattle.bbm_rules.specs.events.declared.event.Event.{Event};
+ghost use Rattle.bbm_events.specs.Heading.{Heading, heading_ok};
+ghost use Rattle.bbm_events.specs.declared.event.Event.{Event};
 ghost use Rattle.bbm_rules.specs.Broken.{broken, keeps};
 ghost use Rattle.bbm_rules.specs.Claims.Trust.{Patterns};
 ghost use Rattle.bbm_rules.specs.Phases.{phase_of};

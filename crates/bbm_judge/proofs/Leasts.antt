@@ -4,7 +4,7 @@ use Rattle.std.proofs.lemmas.Bool.Decides.{nat_tests}
 use Rattle.std.proofs.lemmas.Grind.{flat_map-append}
 use Rattle.std.proofs.lemmas.List.{append-nil}
 use Rattle.std.proofs.lemmas.List.Elements.{filter-append}
-use Rattle.bbm_oracle_trees.specs.rules.Lists.{among, if_so, least, repeated}
+use Rattle.bbm_rules.specs.Lists.{among, if_so, least, repeated}
 use Rattle.bbm_judge.specs.Least.{is_at_most, lesser}
 use Rattle.bbm_judge.proofs.Lists.{taken_more}
 

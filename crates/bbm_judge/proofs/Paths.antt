@@ -1,13 +1,13 @@
 -- Ends of paths and pages of roots, one after another.
 use Rattle.std.proofs.Common.{◌≡◌, ℕ, zero, suc, ◌+◌, ◌-◌, ◌*◌, ◌++◌, ◌∷◌, [], Bool, true, cond, List, filter_map, flat_map, refl, sym, ◌∙◌, ap, add-one, arith}
-use Rattle.bbm_oracle_trees.specs.rules.Prelude.{Kind, Heading}
-use Rattle.bbm_oracle_trees.specs.rules.Attach.{End, end_at, ends_below}
-use Rattle.bbm_oracle_trees.specs.rules.Claims.{Trust}
-use Rattle.bbm_oracle_trees.specs.rules.Notes.{Noted, events_of}
-use Rattle.bbm_oracle_trees.specs.rules.Pages.{is_fresh}
-use Rattle.bbm_oracle_trees.specs.rules.Roots.{pages_from}
-use Rattle.bbm_oracle_trees.specs.rules.Tree.{next_of}
-use Rattle.bbm_oracle_trees.specs.rules.Values.{places_in, value_of}
+use Rattle.bbm_rules.specs.Prelude.{Kind, Heading}
+use Rattle.bbm_rules.specs.Attach.{End, end_at, ends_below}
+use Rattle.bbm_rules.specs.Claims.{Trust}
+use Rattle.bbm_rules.specs.Notes.{Noted, events_of}
+use Rattle.bbm_rules.specs.Pages.{is_fresh}
+use Rattle.bbm_rules.specs.Roots.{pages_from}
+use Rattle.bbm_rules.specs.Tree.{next_of}
+use Rattle.bbm_rules.specs.Values.{places_in, value_of}
 
 -- the ends of the paths that go on through a next page
 abbrev pub through : Heading → Trust → List Noted → Kind → ℕ → ℕ → ℕ → List End

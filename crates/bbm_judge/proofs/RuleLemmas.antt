@@ -1,15 +1,15 @@
 -- The first broken rule, one rule after another, and the answers that tell it.
 use Rattle.std.proofs.Common.{◌≡◌, ℕ, ◌+◌, ◌<◌, ◌∷◌, [], List, Option, Some, None, Result, Ok, Err, length, drop, get_or, refl}
 use Rattle.std.specs.Option.{option_map_or}
-use Rattle.bbm_oracle_trees.specs.regimes.declared.regime.Which.{Which}
-use Rattle.bbm_oracle_trees.specs.rules.Prelude.{Heading, Event}
-use Rattle.bbm_oracle_trees.specs.rules.declared.rule.Rule.{Rule}
-use Rattle.bbm_oracle_trees.specs.rules.declared.step_fault.StepFault.{StepFault}
-use Rattle.bbm_oracle_trees.specs.rules.declared.step_fault.StepFault.TheVariants.{Broken, Limit, NoMemory}
-use Rattle.bbm_oracle_trees.specs.rules.Answers.{Answers}
-use Rattle.bbm_oracle_trees.specs.rules.Broken.{Breach, breaks, first_broken}
-use Rattle.bbm_oracle_trees.specs.rules.Claims.{Trust}
-use Rattle.bbm_oracle_trees.specs.rules.Notes.{Noted}
+use Rattle.bbm_regimes.specs.declared.regime.Which.{Which}
+use Rattle.bbm_rules.specs.Prelude.{Heading, Event}
+use Rattle.bbm_rules.specs.declared.rule.Rule.{Rule}
+use Rattle.bbm_rules.specs.declared.step_fault.StepFault.{StepFault}
+use Rattle.bbm_rules.specs.declared.step_fault.StepFault.TheVariants.{Broken, Limit, NoMemory}
+use Rattle.bbm_rules.specs.Answers.{Answers}
+use Rattle.bbm_rules.specs.Broken.{Breach, breaks, first_broken}
+use Rattle.bbm_rules.specs.Claims.{Trust}
+use Rattle.bbm_rules.specs.Notes.{Noted}
 use Rattle.bbm_judge.specs.Judges.{Judges, Reaches}
 use Rattle.bbm_judge.proofs.Lists.{dropped_less}
 

@@ -1,11 +1,11 @@
 -- What a kept history that stands for a history tells of it.
 use Rattle.std.proofs.Common.{◌≡◌, ℕ, List, count_by, ◌∙◌, ap}
-use Rattle.bbm_oracle_trees.specs.rules.Prelude.{Heading, Event}
-use Rattle.bbm_oracle_trees.specs.rules.Broken.{broken, first_broken, rules}
-use Rattle.bbm_oracle_trees.specs.rules.Claims.{Trust}
-use Rattle.bbm_oracle_trees.specs.rules.Notes.{Noted, events_of}
-use Rattle.bbm_oracle_trees.specs.rules.Phases.{is_restless, restless_of}
-use Rattle.bbm_oracle_trees.specs.rules.Values.{written_places}
+use Rattle.bbm_rules.specs.Prelude.{Heading, Event}
+use Rattle.bbm_rules.specs.Broken.{broken, first_broken, rules}
+use Rattle.bbm_rules.specs.Claims.{Trust}
+use Rattle.bbm_rules.specs.Notes.{Noted, events_of}
+use Rattle.bbm_rules.specs.Phases.{is_restless, restless_of}
+use Rattle.bbm_rules.specs.Values.{written_places}
 use Rattle.bbm_oracle_trees.specs.Past.{Past, notes}
 use Rattle.bbm_oracle_trees.specs.StandsFor.{StandsFor}
 

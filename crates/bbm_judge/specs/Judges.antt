@@ -1,9 +1,9 @@
 -- What the parts of a step answer. Source: project's own choice.
 use Rattle.std.specs.Prelude.{◌≡◌, Option, Some, None, Result, Ok, Err}
-use Rattle.bbm_oracle_trees.specs.regimes.declared.regime.Which.{Which}
-use Rattle.bbm_oracle_trees.specs.rules.declared.step_fault.StepFault.{StepFault}
-use Rattle.bbm_oracle_trees.specs.rules.declared.step_fault.StepFault.TheVariants.{Broken, Limit, NoMemory}
-use Rattle.bbm_oracle_trees.specs.rules.Broken.{Breach}
+use Rattle.bbm_regimes.specs.declared.regime.Which.{Which}
+use Rattle.bbm_rules.specs.declared.step_fault.StepFault.{StepFault}
+use Rattle.bbm_rules.specs.declared.step_fault.StepFault.TheVariants.{Broken, Limit, NoMemory}
+use Rattle.bbm_rules.specs.Broken.{Breach}
 
 -- the answer where this is the least broken rule, or none is broken
 abbrev pub Judges : Result (Unit {0}) StepFault → Option Breach → Type 0

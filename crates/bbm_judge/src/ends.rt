@@ -3,21 +3,21 @@
 
 ghost use Rattle.std.specs.Prelude.{◌≡◌, ◌≤◌, ◌<◌, ◌+◌, ◌-◌, ◌++◌, ℕ, true, IfOk, IfSome, OnOk};
 ghost use Rattle.std.specs.Prelude.{filter_map, flat_map, map, option_to_list};
-ghost use Rattle.bbm_oracle_trees.specs.events.declared.event.Event.{Event};
-ghost use Rattle.bbm_oracle_trees.specs.events.Fits.{fits_heading};
-ghost use Rattle.bbm_oracle_trees.specs.rules.Attach as spec;
-ghost use Rattle.bbm_oracle_trees.specs.rules.Notes.{events_of};
-ghost use Rattle.bbm_oracle_trees.specs.rules.Tree as trees;
-ghost use Rattle.bbm_oracle_trees.specs.rules.Values.{value_of as value_at, places_in as places_at};
+ghost use Rattle.bbm_events.specs.declared.event.Event.{Event};
+ghost use Rattle.bbm_events.specs.Fits.{fits_heading};
+ghost use Rattle.bbm_rules.specs.Attach as spec;
+ghost use Rattle.bbm_rules.specs.Notes.{events_of};
+ghost use Rattle.bbm_rules.specs.Tree as trees;
+ghost use Rattle.bbm_rules.specs.Values.{value_of as value_at, places_in as places_at};
 ghost use Rattle.bbm_oracle_trees.specs.Past.{notes};
 
 use crate::starts::root_pages;
+use bbm_descriptor::{Desc, read};
+use bbm_events::Event;
+use bbm_oracle_patterns::Evidence;
+use bbm_oracle_tags::values::{places_in, value_of};
 use bbm_oracle_trees::History;
-use bbm_oracle_trees::descriptor::{Desc, read};
-use bbm_oracle_trees::events::Event;
-use bbm_oracle_trees::oracle_patterns::Evidence;
-use bbm_oracle_trees::oracle_tags::values::{places_in, value_of};
-use bbm_oracle_trees::regimes::{Kind, NoMemory, Page, Place};
+use bbm_regimes::{Kind, NoMemory, Page, Place};
 use std::alloc::Global;
 use std::marker::Model;
 
@@ -32,7 +32,7 @@ pub struct End {
 
 impl Model for End {
     ghost use Rattle.std.specs.Prelude.{◌≤◌};
-    ghost use Rattle.bbm_oracle_trees.specs.rules.Attach as spec;
+    ghost use Rattle.bbm_rules.specs.Attach as spec;
 
     ghost Value = { spec.End };
 
@@ -55,7 +55,7 @@ pub struct Attached {
 }
 
 impl Model for Attached {
-    ghost use Rattle.bbm_oracle_trees.specs.rules.Attach as spec;
+    ghost use Rattle.bbm_rules.specs.Attach as spec;
 
     ghost Value = { spec.Attached };
 

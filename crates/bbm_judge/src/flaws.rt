@@ -2,25 +2,25 @@
 //! Source: project's own choice, where no other is named.
 
 ghost use Rattle.std.specs.Prelude.{◌≡◌, ◌≤◌, ℕ, true, IfOk, flat_map};
-ghost use Rattle.bbm_oracle_trees.specs.descriptor.Descriptor.{desc_of};
-ghost use Rattle.bbm_oracle_trees.specs.events.declared.event.Event.{Event};
-ghost use Rattle.bbm_oracle_trees.specs.events.Fits.{fits_heading};
-ghost use Rattle.bbm_oracle_trees.specs.rules.Lists as lists;
-ghost use Rattle.bbm_oracle_trees.specs.rules.Lists.{if_so};
-ghost use Rattle.bbm_oracle_trees.specs.rules.Notes.{events_of};
-ghost use Rattle.bbm_oracle_trees.specs.rules.Rules as rules;
-ghost use Rattle.bbm_oracle_trees.specs.rules.Values.{value_of as value_at};
+ghost use Rattle.bbm_descriptor.specs.Descriptor.{desc_of};
+ghost use Rattle.bbm_events.specs.declared.event.Event.{Event};
+ghost use Rattle.bbm_events.specs.Fits.{fits_heading};
+ghost use Rattle.bbm_rules.specs.Lists as lists;
+ghost use Rattle.bbm_rules.specs.Lists.{if_so};
+ghost use Rattle.bbm_rules.specs.Notes.{events_of};
+ghost use Rattle.bbm_rules.specs.Rules as rules;
+ghost use Rattle.bbm_rules.specs.Values.{value_of as value_at};
 ghost use Rattle.bbm_judge.specs.Flaws as spec;
 ghost use Rattle.bbm_oracle_trees.specs.Past.{notes};
 
 use crate::ends::{Attached, End, attached_by};
 use crate::least::lesser;
+use bbm_descriptor::{Desc, read};
+use bbm_events::Event;
+use bbm_oracle_patterns::Evidence;
+use bbm_oracle_tags::values::{places_in, value_of};
 use bbm_oracle_trees::History;
-use bbm_oracle_trees::descriptor::{Desc, read};
-use bbm_oracle_trees::events::Event;
-use bbm_oracle_trees::oracle_patterns::Evidence;
-use bbm_oracle_trees::oracle_tags::values::{places_in, value_of};
-use bbm_oracle_trees::regimes::{Kind, NoMemory, Place};
+use bbm_regimes::{Kind, NoMemory, Place};
 use std::alloc::Global;
 
 /// What is wrong with a descriptor of a tree.

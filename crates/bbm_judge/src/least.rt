@@ -1,15 +1,15 @@
 //! The least of numbers and pages.
 
 ghost use Rattle.std.specs.Prelude.{◌≡◌, ◌∷◌, not};
-ghost use Rattle.bbm_oracle_trees.specs.rules.Lists as lists;
-ghost use Rattle.bbm_oracle_trees.specs.rules.Pages.{is_fresh};
-ghost use Rattle.bbm_oracle_trees.specs.rules.Rules as rules;
+ghost use Rattle.bbm_rules.specs.Lists as lists;
+ghost use Rattle.bbm_rules.specs.Pages.{is_fresh};
+ghost use Rattle.bbm_rules.specs.Rules as rules;
 ghost use Rattle.bbm_judge.specs.Least as spec;
 ghost use Rattle.bbm_oracle_trees.specs.Past.{notes};
 
+use bbm_oracle_patterns::Evidence;
 use bbm_oracle_trees::History;
-use bbm_oracle_trees::oracle_patterns::Evidence;
-use bbm_oracle_trees::regimes::Page;
+use bbm_regimes::Page;
 
 /// The lesser of two numbers, where one or both may be missing.
 pub fn lesser(one: Option<u64>, other: Option<u64>) -> Option<u64>

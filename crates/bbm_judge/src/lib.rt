@@ -11,7 +11,5 @@ pub mod restless;
 mod starts;
 mod tree_rules;
 
-pub use bbm_oracle_trees as oracle_trees;
-pub use bbm_oracle_trees::{descriptor, events, oracle_tags, regimes, rules};
 pub use order::{admit, check_limit, judge};
 pub use restless::count_restless;

@@ -3,12 +3,12 @@
 
 ghost use Rattle.std.specs.Option.{option_map_or};
 ghost use Rattle.std.specs.Prelude.{◌≡◌, List, ◌∷◌, [], true, IfOk};
-ghost use Rattle.bbm_oracle_trees.specs.events.declared.event.Event.{Event as TheEvent};
-ghost use Rattle.bbm_oracle_trees.specs.events.Fits.{fits_heading};
-ghost use Rattle.bbm_oracle_trees.specs.events.Heading.{Heading};
-ghost use Rattle.bbm_oracle_trees.specs.rules.Answers.{Answers};
-ghost use Rattle.bbm_oracle_trees.specs.rules.Broken as spec;
-ghost use Rattle.bbm_oracle_trees.specs.rules.Limits as limits;
+ghost use Rattle.bbm_events.specs.declared.event.Event.{Event as TheEvent};
+ghost use Rattle.bbm_events.specs.Fits.{fits_heading};
+ghost use Rattle.bbm_events.specs.Heading.{Heading};
+ghost use Rattle.bbm_rules.specs.Answers.{Answers};
+ghost use Rattle.bbm_rules.specs.Broken as spec;
+ghost use Rattle.bbm_rules.specs.Limits as limits;
 ghost use Rattle.bbm_judge.specs.Judges.{Judges, Reaches};
 ghost use Rattle.bbm_oracle_trees.specs.Past.{notes};
 ghost use Rattle.bbm_oracle_trees.specs.StandsFor.{StandsFor};
@@ -16,13 +16,13 @@ ghost use Rattle.bbm_oracle_trees.specs.StandsFor.{StandsFor};
 use crate::flaws::{Flaw, made_with};
 use crate::page_rules::{not_fresh, page_in_use};
 use crate::tree_rules::{break_before_make, limbo_make, no_lock, rewritten_fresh};
+use bbm_events::Event;
+use bbm_oracle_patterns::Evidence;
+use bbm_oracle_tags::limits::limit_of;
+use bbm_oracle_tags::rules;
 use bbm_oracle_trees::History;
-use bbm_oracle_trees::events::Event;
-use bbm_oracle_trees::oracle_patterns::Evidence;
-use bbm_oracle_trees::oracle_tags::limits::limit_of;
-use bbm_oracle_trees::oracle_tags::rules;
-use bbm_oracle_trees::regimes::NoMemory;
-use bbm_oracle_trees::rules::{Rule, StepFault};
+use bbm_regimes::NoMemory;
+use bbm_rules::{Rule, StepFault};
 use std::alloc::Global;
 
 /// The rules in the order of their numbers.

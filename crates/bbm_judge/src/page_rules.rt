@@ -2,23 +2,23 @@
 //! Source: project's own choice, where no other is named.
 
 ghost use Rattle.std.specs.Prelude.{◌≡◌, ◌++◌, ℕ, true, IfOk, OnOk};
-ghost use Rattle.bbm_oracle_trees.specs.events.declared.event.Event.{Event};
-ghost use Rattle.bbm_oracle_trees.specs.events.Fits.{fits_heading};
-ghost use Rattle.bbm_oracle_trees.specs.rules.Attach as attach;
-ghost use Rattle.bbm_oracle_trees.specs.rules.Lists.{least};
-ghost use Rattle.bbm_oracle_trees.specs.rules.Places.{page_of};
-ghost use Rattle.bbm_oracle_trees.specs.rules.Rules as rules;
-ghost use Rattle.bbm_oracle_trees.specs.rules.Tree as trees;
+ghost use Rattle.bbm_events.specs.declared.event.Event.{Event};
+ghost use Rattle.bbm_events.specs.Fits.{fits_heading};
+ghost use Rattle.bbm_rules.specs.Attach as attach;
+ghost use Rattle.bbm_rules.specs.Lists.{least};
+ghost use Rattle.bbm_rules.specs.Places.{page_of};
+ghost use Rattle.bbm_rules.specs.Rules as rules;
+ghost use Rattle.bbm_rules.specs.Tree as trees;
 ghost use Rattle.bbm_oracle_trees.specs.Past.{notes};
 
 use crate::ends::{Attached, End, attached_by};
 use crate::least::{least_repeated, least_unfresh, lesser};
 use crate::starts::root_pages;
+use bbm_events::Event;
+use bbm_oracle_patterns::Evidence;
+use bbm_oracle_tags::pages::{has_values, is_null};
 use bbm_oracle_trees::History;
-use bbm_oracle_trees::events::Event;
-use bbm_oracle_trees::oracle_patterns::Evidence;
-use bbm_oracle_trees::oracle_tags::pages::{has_values, is_null};
-use bbm_oracle_trees::regimes::{NoMemory, Page};
+use bbm_regimes::{NoMemory, Page};
 use std::alloc::Global;
 
 /// Whether the page is in a tree.

@@ -1,21 +1,21 @@
 //! The places of trees that hold a value and whose value is invalid.
 
 ghost use Rattle.std.specs.Prelude.{◌≡◌, suc, ◌||◌, List, ◌∷◌, reverse, count_by, if◌then◌else◌};
-ghost use Rattle.bbm_oracle_trees.specs.events.declared.event.Event.{Event};
-ghost use Rattle.bbm_oracle_trees.specs.events.Heading.{Heading};
-ghost use Rattle.bbm_oracle_trees.specs.rules.Lists.{among};
-ghost use Rattle.bbm_oracle_trees.specs.rules.Notes.{events_of};
-ghost use Rattle.bbm_oracle_trees.specs.rules.Phases as phases;
-ghost use Rattle.bbm_oracle_trees.specs.rules.Values as values;
+ghost use Rattle.bbm_events.specs.declared.event.Event.{Event};
+ghost use Rattle.bbm_events.specs.Heading.{Heading};
+ghost use Rattle.bbm_rules.specs.Lists.{among};
+ghost use Rattle.bbm_rules.specs.Notes.{events_of};
+ghost use Rattle.bbm_rules.specs.Phases as phases;
+ghost use Rattle.bbm_rules.specs.Values as values;
 ghost use Rattle.bbm_oracle_trees.specs.Past.{notes};
 ghost use Rattle.bbm_oracle_trees.specs.StandsFor.{StandsFor};
 
 use crate::tree_rules::is_valid;
+use bbm_events::Event;
+use bbm_oracle_patterns::Evidence;
+use bbm_oracle_tags::values::value_of;
 use bbm_oracle_trees::History;
-use bbm_oracle_trees::events::Event;
-use bbm_oracle_trees::oracle_patterns::Evidence;
-use bbm_oracle_trees::oracle_tags::values::value_of;
-use bbm_oracle_trees::regimes::Place;
+use bbm_regimes::Place;
 
 /// Whether the place is one of a tree, holds a value and has an invalid one.
 fn is_restless<E: Evidence>(history: &History<E>, place: Place) -> bool

@@ -1,11 +1,11 @@
 //! The pages of a root.
 
 ghost use Rattle.std.specs.Prelude.{◌≡◌, ◌≤◌, ◌<◌, ◌+◌, ◌*◌, ◌^◌, true, IfOk};
-ghost use Rattle.bbm_oracle_trees.specs.events.Fits.{is_root_page};
-ghost use Rattle.bbm_oracle_trees.specs.rules.Roots as roots;
+ghost use Rattle.bbm_events.specs.Fits.{is_root_page};
+ghost use Rattle.bbm_rules.specs.Roots as roots;
 
-use bbm_oracle_trees::events::Header;
-use bbm_oracle_trees::regimes::{Kind, NoMemory, Page};
+use bbm_events::Header;
+use bbm_regimes::{Kind, NoMemory, Page};
 use std::alloc::Global;
 
 /// The page so many pages behind the first.

@@ -2,18 +2,18 @@
 //! Source: project's own choice, where no other is named.
 
 ghost use Rattle.std.specs.Prelude.{◌≡◌, ◌≤◌, ℕ};
-ghost use Rattle.bbm_oracle_trees.specs.descriptor.Descriptor as descriptor;
-ghost use Rattle.bbm_oracle_trees.specs.events.declared.event.Event.{Event};
-ghost use Rattle.bbm_oracle_trees.specs.rules.Rules as rules;
+ghost use Rattle.bbm_descriptor.specs.Descriptor as descriptor;
+ghost use Rattle.bbm_events.specs.declared.event.Event.{Event};
+ghost use Rattle.bbm_rules.specs.Rules as rules;
 ghost use Rattle.bbm_oracle_trees.specs.Past.{notes};
 
+use bbm_descriptor::{core, needs_bbm};
+use bbm_events::Event;
+use bbm_oracle_patterns::Evidence;
+use bbm_oracle_tags::rules::without_lock;
+use bbm_oracle_tags::values::value_of;
 use bbm_oracle_trees::History;
-use bbm_oracle_trees::descriptor::{core, needs_bbm};
-use bbm_oracle_trees::events::Event;
-use bbm_oracle_trees::oracle_patterns::Evidence;
-use bbm_oracle_trees::oracle_tags::rules::without_lock;
-use bbm_oracle_trees::oracle_tags::values::value_of;
-use bbm_oracle_trees::regimes::{Kind, Pe, Place};
+use bbm_regimes::{Kind, Pe, Place};
 
 /// Whether a value is valid at this kind and level, 0 to 3.
 pub fn is_valid(kind: Kind, level: u8, value: u64) -> bool

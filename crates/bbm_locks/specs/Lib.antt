@@ -1,2 +1,1 @@
 pub mod Holders
-pub use Rattle.bbm_regimes.specs as regimes

@@ -5,5 +5,4 @@
 pub mod laws;
 pub mod locks;
 
-pub use bbm_regimes as regimes;
 pub use locks::{Busy, Locks, NotHolder};

@@ -2,11 +2,11 @@
 use Rattle.std.proofs.Common.{◌≡◌, ℕ, suc, ◌-◌, ◌<◌, ◌≤◌, List, [], ◌∷◌, ◌++◌, length, take, drop, get_or, codes, refl, ap, ◌∙◌, Ok, arith}
 use Rattle.std.specs.Bool.{⊤}
 use Rattle.std.proofs.lemmas.List.{take_rest}
-use Rattle.bbm_events.specs.tlbi_scope.declared.op.TlbiOp.{TlbiOp}
-use Rattle.bbm_events.specs.tlbi_scope.declared.op.TlbiOp.TheVariants.{Vae2is, Vale2is, Vae1is, Vale1is, Ipas2e1is, Vmalle1is, Alle2is}
-use Rattle.bbm_events.specs.barriers.declared.Dsb.{Dsb}
-use Rattle.bbm_events.specs.barriers.declared.Domain.TheVariants.{Inner}
-use Rattle.bbm_events.specs.barriers.declared.Types.TheVariants.{All, Stores}
+use Rattle.bbm_tlbi_scope.specs.declared.op.TlbiOp.{TlbiOp}
+use Rattle.bbm_tlbi_scope.specs.declared.op.TlbiOp.TheVariants.{Vae2is, Vale2is, Vae1is, Vale1is, Ipas2e1is, Vmalle1is, Alle2is}
+use Rattle.bbm_barriers.specs.declared.Dsb.{Dsb}
+use Rattle.bbm_barriers.specs.declared.Domain.TheVariants.{Inner}
+use Rattle.bbm_barriers.specs.declared.Types.TheVariants.{All, Stores}
 use Rattle.bbm_events.specs.Spelling.{fields}
 use Rattle.bbm_events.specs.declared.keyword.Keyword.{Keyword}
 use Rattle.bbm_events.specs.declared.keyword.Keyword.TheVariants as first

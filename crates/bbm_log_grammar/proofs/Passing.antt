@@ -5,7 +5,7 @@ use Rattle.bbm_events.specs.declared.malformed.Malformed.{Malformed}
 use Rattle.bbm_events.specs.declared.malformed.Malformed.TheVariants.{MissingField, UnknownWord}
 use Rattle.bbm_events.specs.Lines.{Fields, next_field, line_field, found, passing}
 use Rattle.bbm_events.specs.Words.{with_word, op_word, ops}
-use Rattle.bbm_events.specs.tlbi_scope.declared.op.TlbiOp.{TlbiOp}
+use Rattle.bbm_tlbi_scope.specs.declared.op.TlbiOp.{TlbiOp}
 use Rattle.bbm_log_grammar.specs.Front.{named_op}
 
 passed : {A : Type 0} (absent unreadable : Malformed) (read : List ℕ → Option A) (test : A → Bool) (fields : Fields) {n : A} {rest : Fields}

@@ -1,6 +1,6 @@
 -- A header whose world isn't in its ranges is none, whatever follows.
 use Rattle.std.proofs.Common.{◌≡◌, [], ◌∷◌, Bool, true, false, ◌&&◌, cond, refl, ap, Ok, Err}
-use Rattle.bbm_events.specs.regimes.World.{world_ok}
+use Rattle.bbm_regimes.specs.World.{world_ok}
 use Rattle.bbm_events.specs.Heading.{Heading, heading_ok}
 use Rattle.bbm_events.specs.declared.malformed.Malformed.TheVariants.{BadHeader}
 use Rattle.bbm_events.specs.Lines.{Fields, checked}

@@ -1,7 +1,7 @@
 -- The first field of a line, read from its left up to the first space.
 use Rattle.std.specs.Prelude.{ℕ, List, [], ◌∷◌, ◌==◌, if◌then◌else◌, Option, Some, None}
 use Rattle.std.specs.Option.{option_and_then}
-use Rattle.bbm_events.specs.tlbi_scope.declared.op.TlbiOp.{TlbiOp}
+use Rattle.bbm_tlbi_scope.specs.declared.op.TlbiOp.{TlbiOp}
 use Rattle.bbm_events.specs.declared.malformed.Malformed.TheVariants.{UnknownWord}
 use Rattle.bbm_events.specs.Spelling.{fields}
 use Rattle.bbm_events.specs.Words.{with_word, op_word, ops}

@@ -12,8 +12,8 @@ use crate::machine_writing::begin;
 use crate::spell::add;
 use crate::write::{add_decimal_field, add_hex_field, add_word_field};
 use arrayvec::ArrayVec;
-use bbm_events::regimes::{Pe, Place, Tag};
 use bbm_events::{Claim, ClaimItem, law_claim_written_is_read};
+use bbm_regimes::{Pe, Place, Tag};
 
 /// The word of a tag.
 fn tag_word(tag: Tag) -> &'static [u8]

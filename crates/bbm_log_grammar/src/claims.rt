@@ -11,11 +11,11 @@ use crate::fields::Fields;
 use crate::readers::{count_field, pe_field, place_field, whole};
 use crate::values::tag_number_of;
 use crate::words::{certificate_word_of, claim_word_of, tag_word_of};
-use bbm_events::regimes::Tag;
 use bbm_events::{
     CertificateWord, Claim, ClaimItem, ClaimWord, Header, Malformed, TagWord, law_claim_causes,
     law_claim_fits,
 };
+use bbm_regimes::Tag;
 
 /// The word of a tag.
 fn tag_word_field<'a>(fields: Fields<'a>) -> Result<(TagWord, Fields<'a>), Malformed>

@@ -8,9 +8,9 @@ ghost use Rattle.bbm_events.specs.Lines as lines;
 ghost use Rattle.bbm_log_grammar.specs.Front.{named_op};
 
 use crate::firsts::{first_decimal, first_dsb, first_hex, first_op};
+use bbm_barriers::Dsb;
 use bbm_events::Malformed;
-use bbm_events::barriers::Dsb;
-use bbm_events::tlbi_scope::TlbiOp;
+use bbm_tlbi_scope::TlbiOp;
 use std::marker::Model;
 
 /// The fields of a line that aren't read yet. A clause sees the list of them.

@@ -1,7 +1,7 @@
 //! The first field of a line, read from its left, and the fields after it.
 
 ghost use Rattle.std.specs.Prelude.{◌≡◌, ◌+◌, ◌*◌, ◌^◌, ◌<◌, ◌≤◌, get_or, length};
-ghost use Rattle.bbm_events.specs.barriers.declared.Domain.TheVariants.{Inner};
+ghost use Rattle.bbm_barriers.specs.declared.Domain.TheVariants.{Inner};
 ghost use Rattle.bbm_events.specs.Spelling.{decimal_value, fields, hex_value};
 ghost use Rattle.bbm_log_grammar.specs.Digits.{next_number, number_of};
 ghost use Rattle.bbm_log_grammar.specs.Front.{first_value, named_op, only_zero, run, with_rest};
@@ -10,9 +10,9 @@ ghost use Rattle.bbm_events.specs.Lines as lines;
 use crate::fields::Fields;
 use crate::numbers::{four_hex, low_hex, next_decimal, next_hex};
 use crate::words::{dsb_of, keyword_of, op_of};
-use bbm_events::barriers::{Domain, Dsb, Types};
-use bbm_events::tlbi_scope::TlbiOp;
+use bbm_barriers::{Domain, Dsb, Types};
 use bbm_events::{Keyword, Malformed};
+use bbm_tlbi_scope::TlbiOp;
 
 /// The number that the bytes up to the first space write as decimal digits, and the fields after it.
 #[inline]

@@ -1,8 +1,8 @@
 //! The first line.
 
 ghost use Rattle.std.specs.Prelude.{◌≡◌, ◌||◌, not, true, if◌then◌else◌, Some, None, Ok, Err, IfOk, IfErr, MatchResult};
-ghost use Rattle.bbm_events.specs.regimes.declared.regime.World.TheVariants.{Hyp, Kernel};
-ghost use Rattle.bbm_events.specs.regimes.World.{world_ok};
+ghost use Rattle.bbm_regimes.specs.declared.regime.World.TheVariants.{Hyp, Kernel};
+ghost use Rattle.bbm_regimes.specs.World.{world_ok};
 ghost use Rattle.bbm_events.specs.Causes.{IsHeaderCause};
 ghost use Rattle.bbm_events.specs.Heading as heading;
 ghost use Rattle.bbm_events.specs.Spelling.{decimal_value};
@@ -14,8 +14,8 @@ use crate::fields::Fields;
 use crate::numbers::read_decimal;
 use crate::values::version_of;
 use crate::words::{asid_from_of, cnp_of};
-use bbm_events::regimes::{AsidFrom, HypWorld, KernelWorld, World};
 use bbm_events::{Header, Malformed, law_header_causes};
+use bbm_regimes::{AsidFrom, HypWorld, KernelWorld, World};
 
 /// A field that is this word.
 fn magic_field<'a>(word: &[u8], fields: Fields<'a>) -> Result<(&'a [u8], Fields<'a>), Malformed>

@@ -19,7 +19,7 @@ pub mod write;
 
 pub use bbm_events::{
     ClaimItem, Item, MachineLine, Malformed, law_claim_one_line, law_claim_written_is_read,
-    law_machine_one_line, law_machine_written_is_read, law_one_line, law_written_is_read, regimes,
+    law_machine_one_line, law_machine_written_is_read, law_one_line, law_written_is_read,
 };
 pub use claim_writing::{write_certificate_line, write_claim};
 pub use claims::{read_certificate_line, read_claim};

@@ -10,10 +10,10 @@ use crate::fields::Fields;
 use crate::readers::{kind_field, pe_field, place_field, value_field, whole};
 use crate::values::{entry_of, tag_of};
 use crate::words::machine_word_of;
-use bbm_events::regimes::Kind;
 use bbm_events::{
     Header, MachineLine, MachineWord, Malformed, law_machine_causes, law_machine_fits,
 };
+use bbm_regimes::Kind;
 
 /// The VMID or ASID of an entry of the kind.
 #[tactic(auto, using(crate::proofs::Passing::passing_fields))]

@@ -11,8 +11,8 @@ use crate::spell::add;
 use crate::words::kind_word;
 use crate::write::{add_decimal_field, add_hex_field, add_word_field};
 use arrayvec::ArrayVec;
-use bbm_events::regimes::{Kind, Pe, Place};
 use bbm_events::{MachineLine, law_machine_written_is_read};
+use bbm_regimes::{Kind, Pe, Place};
 
 /// The mark of a line, its second word and a number, which is a PE or an entry.
 pub(crate) fn begin(out: &mut ArrayVec<u8, 200>, mark: &[u8], word: &[u8], number: u64)

@@ -8,10 +8,10 @@ use crate::fields::Fields;
 use crate::line::LineItem;
 use crate::values::{count_of, is_marked, label_of, lock_of, pe_of, root_lock_of, root_page_of};
 use crate::words::{kind_named, reg_of};
-use bbm_events::barriers::Dsb;
-use bbm_events::regimes::{Kind, Page, Pe, Place, Reg};
-use bbm_events::tlbi_scope::TlbiOp;
+use bbm_barriers::Dsb;
 use bbm_events::{Event, Header, Malformed, has_op};
+use bbm_regimes::{Kind, Page, Pe, Place, Reg};
+use bbm_tlbi_scope::TlbiOp;
 
 /// A PE.
 #[tactic(auto, using(crate::proofs::Passing::passing_fields))]

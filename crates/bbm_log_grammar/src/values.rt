@@ -10,8 +10,8 @@ ghost use Rattle.bbm_events.specs.Machine as machine;
 
 use crate::line::LabelText;
 use crate::numbers::{read_decimal, read_hex};
-use bbm_events::regimes::{Kind, Page, Pe};
 use bbm_events::{Header, TagWord};
+use bbm_regimes::{Kind, Page, Pe};
 
 /// Locks have numbers below 1,024.
 const LOCKS: u64 = 1024;

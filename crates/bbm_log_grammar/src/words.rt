@@ -5,10 +5,10 @@ ghost use Rattle.bbm_events.specs.Certificate as certificate;
 ghost use Rattle.bbm_events.specs.Machine as machine;
 ghost use Rattle.bbm_events.specs.Words as words;
 
-use bbm_events::barriers::{Domain, Dsb, Types};
-use bbm_events::regimes::{AsidFrom, Kind, Reg};
-use bbm_events::tlbi_scope::TlbiOp;
+use bbm_barriers::{Domain, Dsb, Types};
 use bbm_events::{CertificateWord, ClaimWord, Keyword, MachineWord, TagWord};
+use bbm_regimes::{AsidFrom, Kind, Reg};
+use bbm_tlbi_scope::TlbiOp;
 
 /// The word of a line's first field.
 pub(crate) fn keyword_word(keyword: Keyword) -> &'static [u8]

@@ -9,15 +9,15 @@ ghost use Rattle.bbm_events.specs.Spelling.{hex, joined};
 ghost use Rattle.bbm_events.specs.Words as words;
 ghost use Rattle.bbm_events.specs.Fits.{item_fits};
 ghost use Rattle.bbm_events.specs.Lines.{header_of, item_of, header_fields, cnp_fields, header_line, item_line, lock_text, event_fields, label_fields};
-ghost use Rattle.bbm_events.specs.regimes.declared.regime.World.TheVariants.{Hyp, Kernel};
+ghost use Rattle.bbm_regimes.specs.declared.regime.World.TheVariants.{Hyp, Kernel};
 
 use crate::spell::{add, add_decimal, add_digits};
 use crate::words::{asid_from_word, cnp_word, dsb_word, kind_word, op_word, reg_word};
 use arrayvec::ArrayVec;
-use bbm_events::barriers::{Domain, Dsb, Types};
-use bbm_events::regimes::{HypWorld, KernelWorld, Kind, Page, Pe, Place, Reg, World};
-use bbm_events::tlbi_scope::TlbiOp;
+use bbm_barriers::{Domain, Dsb, Types};
 use bbm_events::{Event, Header, Item, Label, law_written_is_read};
+use bbm_regimes::{HypWorld, KernelWorld, Kind, Page, Pe, Place, Reg, World};
+use bbm_tlbi_scope::TlbiOp;
 
 /// A space and a word of at most 12 bytes.
 pub(crate) fn add_word_field<const N: usize>(out: &mut ArrayVec<u8, N>, word: &[u8])

@@ -1,9 +1,9 @@
 -- What the oracle stands for. Source: project's own choice.
 use Rattle.std.specs.Prelude.{◌≡◌, List}
-use Rattle.bbm_judge.specs.rules.Prelude.{Heading, Event}
-use Rattle.bbm_judge.specs.rules.Claims.{Patterns}
-use Rattle.bbm_judge.specs.oracle_trees.Past.{Past}
-use Rattle.bbm_judge.specs.oracle_trees.StandsFor as trees
+use Rattle.bbm_rules.specs.Prelude.{Heading, Event}
+use Rattle.bbm_rules.specs.Claims.{Patterns}
+use Rattle.bbm_oracle_trees.specs.Past.{Past}
+use Rattle.bbm_oracle_trees.specs.StandsFor as trees
 
 -- Its history stands for this one, and every pattern of events is trusted.
 pub record StandsFor (past : Past) (heading : Heading) (h : List Event) : Type 0 where

@@ -2,26 +2,26 @@
 
 ghost use Rattle.std.specs.Prelude.{◌≡◌, List, [], true, false, IsOk, IfOk};
 ghost use Rattle.std.proofs.Common.{ap};
-ghost use Rattle.bbm_judge.specs.events.declared.event.Event.{Event};
-ghost use Rattle.bbm_judge.specs.events.Fits.{fits_heading};
-ghost use Rattle.bbm_judge.specs.events.Heading.{Heading};
-ghost use Rattle.bbm_judge.specs.rules.Answers.{Answers};
-ghost use Rattle.bbm_judge.specs.rules.Broken.{broken};
-ghost use Rattle.bbm_judge.specs.rules.Claims.{Patterns};
-ghost use Rattle.bbm_judge.specs.rules.Limits.{limit_of};
-ghost use Rattle.bbm_judge.specs.rules.Notes.{events_of};
-ghost use Rattle.bbm_judge.specs.rules.Values as values;
-ghost use Rattle.bbm_judge.specs.oracle_trees.Past.{notes};
+ghost use Rattle.bbm_events.specs.declared.event.Event.{Event};
+ghost use Rattle.bbm_events.specs.Fits.{fits_heading};
+ghost use Rattle.bbm_events.specs.Heading.{Heading};
+ghost use Rattle.bbm_rules.specs.Answers.{Answers};
+ghost use Rattle.bbm_rules.specs.Broken.{broken};
+ghost use Rattle.bbm_rules.specs.Claims.{Patterns};
+ghost use Rattle.bbm_rules.specs.Limits.{limit_of};
+ghost use Rattle.bbm_rules.specs.Notes.{events_of};
+ghost use Rattle.bbm_rules.specs.Values as values;
+ghost use Rattle.bbm_oracle_trees.specs.Past.{notes};
 ghost use Rattle.bbm_oracle.specs.StandsFor.{StandsFor};
 
-use bbm_judge::descriptor::Memory;
-use bbm_judge::events::{Event, Header};
-use bbm_judge::oracle_tags::pages::count_initialised;
-use bbm_judge::oracle_tags::{AllPatterns, roots, values};
-use bbm_judge::oracle_trees::History;
-use bbm_judge::regimes::{Kind, NoMemory, Page, Pe, Place};
-use bbm_judge::rules::{Checker, Fresh, Logged, Phase, StepFault};
+use bbm_descriptor::Memory;
+use bbm_events::{Event, Header};
 use bbm_judge::{admit, count_restless};
+use bbm_oracle_tags::pages::count_initialised;
+use bbm_oracle_tags::{AllPatterns, roots, values};
+use bbm_oracle_trees::History;
+use bbm_regimes::{Kind, NoMemory, Page, Pe, Place};
+use bbm_rules::{Checker, Fresh, Logged, Phase, StepFault};
 use std::alloc::Global;
 
 /// A checker that keeps the header and the events that it took, with each TLBI the places that it covered, and searches

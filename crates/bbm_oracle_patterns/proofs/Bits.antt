@@ -2,13 +2,13 @@
 use Rattle.std.proofs.Common.{◌≡◌, ℕ, ◌≤◌, Bool, true, false, ◌&&◌, ◌||◌, not, nat_eq, nat_lt, refl, sym, ◌∙◌, ap, arith}
 use Rattle.std.proofs.lemmas.Bool.{false≢true, true≢false}
 use Rattle.std.proofs.lemmas.Bool.Decides.{nat_tests}
-use Rattle.bbm_oracle_tags.specs.barriers.Options.{publishes}
-use Rattle.bbm_oracle_tags.specs.barriers.declared.Dsb.{Dsb}
-use Rattle.bbm_oracle_tags.specs.barriers.declared.Domain.{Domain}
-use Rattle.bbm_oracle_tags.specs.barriers.declared.Domain.TheVariants.{Full, Inner, Outer, Non}
-use Rattle.bbm_oracle_tags.specs.barriers.declared.Types.{Types}
-use Rattle.bbm_oracle_tags.specs.barriers.declared.Types.TheVariants.{All, Stores, Loads}
-use Rattle.bbm_oracle_tags.specs.barriers.Options.{is_non}
+use Rattle.bbm_barriers.specs.Options.{publishes}
+use Rattle.bbm_barriers.specs.declared.Dsb.{Dsb}
+use Rattle.bbm_barriers.specs.declared.Domain.{Domain}
+use Rattle.bbm_barriers.specs.declared.Domain.TheVariants.{Full, Inner, Outer, Non}
+use Rattle.bbm_barriers.specs.declared.Types.{Types}
+use Rattle.bbm_barriers.specs.declared.Types.TheVariants.{All, Stores, Loads}
+use Rattle.bbm_barriers.specs.Options.{is_non}
 use Rattle.bbm_oracle_patterns.specs.Relation.{same_flag}
 
 pub and-true : (a : Bool) → (a && true) ≡ a

@@ -2,10 +2,10 @@
 use Rattle.std.proofs.Common.{◌≡◌, ℕ, Bool, true, false, cond, ◌&&◌, ◌||◌, not, nat_eq, List, [], ◌∷◌, refl, sym, ◌∙◌, ap}
 use Rattle.std.proofs.lemmas.Bool.{false≢true}
 use Rattle.std.proofs.lemmas.Map.Views.{any-filter_same}
-use Rattle.bbm_oracle_tags.specs.barriers.Options.{answers}
-use Rattle.bbm_oracle_tags.specs.tlbi_scope.declared.entry.Cover.{Cover}
-use Rattle.bbm_oracle_tags.specs.tlbi_scope.declared.op.TlbiOp.{TlbiOp}
-use Rattle.bbm_oracle_tags.specs.tlbi_scope.Operations.{operation}
+use Rattle.bbm_barriers.specs.Options.{answers}
+use Rattle.bbm_tlbi_scope.specs.declared.entry.Cover.{Cover}
+use Rattle.bbm_tlbi_scope.specs.declared.op.TlbiOp.{TlbiOp}
+use Rattle.bbm_tlbi_scope.specs.Operations.{operation}
 use Rattle.bbm_rules.specs.Cleansing.{answers_one, is_completed}
 use Rattle.bbm_rules.specs.Lists.{any}
 use Rattle.bbm_rules.specs.Notes.{Noted, event_of}

@@ -1,6 +1,6 @@
 -- The phase of a place, by the trace of its last valid write.
 use Rattle.std.proofs.Common.{◌≡◌, ℕ, Bool, true, false, refl, cond, List, Option, Some, None, sym, ◌∙◌, ap, option_and_then, unwrap_or}
-use Rattle.bbm_rules.specs.descriptor.Descriptor.{is_valid}
+use Rattle.bbm_descriptor.specs.Descriptor.{is_valid}
 use Rattle.bbm_rules.specs.Claims.{Trust}
 use Rattle.bbm_rules.specs.Cleansing.{cleansed, half, seen}
 use Rattle.bbm_rules.specs.Held.{ValidWrite, cleansed_everywhere, last_valid}

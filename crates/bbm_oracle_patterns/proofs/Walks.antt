@@ -3,13 +3,13 @@ use Rattle.std.proofs.Common.{◌≡◌, ℕ, suc, subst, reverse, ◌+◌, leng
 use Rattle.std.proofs.lemmas.Bool.{false≢true, eq-eqb, or_parts}
 use Rattle.std.proofs.lemmas.List.{reverse-append}
 use Rattle.std.proofs.lemmas.List.Folds.{list_any-append}
-use Rattle.bbm_oracle_tags.specs.barriers.Options.{answers}
+use Rattle.bbm_barriers.specs.Options.{answers}
 use Rattle.bbm_regimes.specs.PeMask.{pe_in}
 use Rattle.bbm_regimes.specs.declared.pe.PeMask.{PeMask}
-use Rattle.bbm_oracle_tags.specs.tlbi_scope.declared.entry.Cover.{Cover}
-use Rattle.bbm_oracle_tags.specs.tlbi_scope.declared.entry.Cover.TheVariants.{Half, Second, Full}
-use Rattle.bbm_oracle_tags.specs.tlbi_scope.declared.op.TlbiOp.{TlbiOp}
-use Rattle.bbm_oracle_tags.specs.tlbi_scope.Operations.{operation}
+use Rattle.bbm_tlbi_scope.specs.declared.entry.Cover.{Cover}
+use Rattle.bbm_tlbi_scope.specs.declared.entry.Cover.TheVariants.{Half, Second, Full}
+use Rattle.bbm_tlbi_scope.specs.declared.op.TlbiOp.{TlbiOp}
+use Rattle.bbm_tlbi_scope.specs.Operations.{operation}
 use Rattle.bbm_rules.specs.Cleansing.{answers_one, publishes_write, same_cover, writes}
 use Rattle.bbm_rules.specs.Cleansing as spec
 use Rattle.bbm_rules.specs.Claims.{Patterns}

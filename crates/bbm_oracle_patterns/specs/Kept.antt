@@ -2,8 +2,8 @@
 -- Source: project's own choice.
 use Rattle.std.specs.Prelude.{ℕ, suc, ◌+◌, ◌==◌, List, [], ◌∷◌, length, drop, reverse, Option, Some, None}
 use Rattle.std.specs.Prelude.{if◌then◌else◌}
-use Rattle.bbm_oracle_tags.specs.tlbi_scope.declared.entry.Cover.{Cover}
-use Rattle.bbm_oracle_tags.specs.tlbi_scope.declared.entry.Cover.TheVariants.{None as NoCover}
+use Rattle.bbm_tlbi_scope.specs.declared.entry.Cover.{Cover}
+use Rattle.bbm_tlbi_scope.specs.declared.entry.Cover.TheVariants.{None as NoCover}
 use Rattle.bbm_rules.specs.Held.{ValidWrite}
 use Rattle.bbm_rules.specs.Notes.{Noted}
 use Rattle.bbm_oracle_patterns.specs.declared.kept.Covered.{Covered}

@@ -1,7 +1,7 @@
 -- The phase of a place of a tree.
 -- Source: project's own choice.
 use Rattle.std.specs.Prelude.{ℕ, Bool, List, Some, None, unwrap_or, if◌then◌else◌}
-use Rattle.bbm_rules.specs.descriptor.Descriptor.{is_valid}
+use Rattle.bbm_descriptor.specs.Descriptor.{is_valid}
 use Rattle.bbm_rules.specs.Prelude.{Heading, Kind}
 use Rattle.bbm_rules.specs.declared.phase.Phase.{Phase}
 use Rattle.bbm_rules.specs.declared.phase.Phase.TheVariants.{Clean, Live, Broken, Seen, Half, Cleansed}

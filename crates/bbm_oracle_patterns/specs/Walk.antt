@@ -1,8 +1,8 @@
 -- What a walk keeps of the events after the last valid write of a place. No public contract cites these words.
 use Rattle.std.specs.Prelude.{◌≡◌, ℕ, Bool, false, not, ◌&&◌, ◌==◌, true, List, ◌∷◌}
 use Rattle.bbm_regimes.specs.PeMask.{pe_in}
-use Rattle.bbm_oracle_tags.specs.tlbi_scope.Operations.{operation}
-use Rattle.bbm_oracle_tags.specs.tlbi_scope.declared.entry.Cover.TheVariants.{Half, Second, Full}
+use Rattle.bbm_tlbi_scope.specs.Operations.{operation}
+use Rattle.bbm_tlbi_scope.specs.declared.entry.Cover.TheVariants.{Half, Second, Full}
 use Rattle.bbm_rules.specs.Claims.{Patterns}
 use Rattle.bbm_rules.specs.Cleansing.{cleansed, flushes, half, seen, writes}
 use Rattle.bbm_rules.specs.Lists.{any, some}

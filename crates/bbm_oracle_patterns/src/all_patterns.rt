@@ -5,9 +5,9 @@ ghost use Rattle.std.specs.Prelude.{IfOk};
 use crate::evidence::Evidence;
 use crate::kept::Kept;
 use crate::trace::{cleansed_everywhere, trace_of};
+use bbm_events::Header;
 use bbm_oracle_tags::AllPatterns;
 use bbm_regimes::{NoMemory, PeMask, Place};
-use bbm_rules::events::Header;
 use std::alloc::Global;
 
 impl Evidence for AllPatterns {

@@ -2,16 +2,16 @@
 
 ghost use Rattle.std.specs.Prelude.{◌≡◌, ◌≤◌, ℕ, List, ◌∷◌, length, drop, reverse, IfOk};
 ghost use Rattle.bbm_regimes.specs.PeMask.{pe_in};
-ghost use Rattle.bbm_rules.specs.events.Heading.{Heading};
+ghost use Rattle.bbm_events.specs.Heading.{Heading};
 ghost use Rattle.bbm_rules.specs.Cleansing as cleansing;
 ghost use Rattle.bbm_rules.specs.Held as holding;
 ghost use Rattle.bbm_rules.specs.Notes.{Noted, events_of};
 ghost use Rattle.bbm_oracle_patterns.specs.Kept.{note_of, notes_behind, notes_of};
 
 use crate::kept::Kept;
+use bbm_events::Header;
 use bbm_oracle_tags::TagEvidence;
 use bbm_regimes::{NoMemory, PeMask, Place};
-use bbm_rules::events::Header;
 use std::alloc::Global;
 
 /// It tells at which PEs a place is cleansed, and which tags a root holds, by what is trusted. It goes along with a log:

@@ -4,9 +4,9 @@
 ghost use Rattle.std.specs.Prelude.{◌≡◌};
 ghost use Rattle.bbm_oracle_patterns.specs.Kept.{cover_in};
 
-use bbm_oracle_tags::tlbi_scope::Cover;
+use bbm_events::Event;
 use bbm_regimes::Place;
-use bbm_rules::events::Event;
+use bbm_tlbi_scope::Cover;
 
 /// How far a TLBI covers a place.
 #[derive(Clone, Copy, Debug, PartialEq, Eq)]

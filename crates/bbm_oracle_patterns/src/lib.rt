@@ -17,11 +17,6 @@ pub mod search;
 pub mod trace;
 mod walk;
 
-pub use bbm_oracle_tags as oracle_tags;
-pub use bbm_oracle_tags::tlbi_scope;
-pub use bbm_regimes as regimes;
-pub use bbm_rules as rules;
-pub use bbm_rules::{descriptor, events};
 pub use evidence::Evidence;
 pub use kept::{Covered, Kept};
 pub use search::{ValidWrite, held, last_valid, phase_in};

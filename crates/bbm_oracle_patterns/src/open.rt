@@ -1,12 +1,12 @@
 //! The TLBIs that no DSB has answered yet.
 
 ghost use Rattle.std.specs.Prelude.{◌≡◌, ℕ, Bool, true, false, ◌&&◌, ◌||◌, not, nat_eq};
-ghost use Rattle.bbm_oracle_tags.specs.barriers.Options.{answers};
+ghost use Rattle.bbm_barriers.specs.Options.{answers};
 ghost use Rattle.bbm_regimes.specs.PeMask.{pe_in};
 ghost use Rattle.bbm_oracle_patterns.specs.Relation.{is_open, related, same_flag};
 
 use crate::relation::Relation;
-use bbm_oracle_tags::barriers::{Dsb, completes_broadcast, completes_local};
+use bbm_barriers::{Dsb, completes_broadcast, completes_local};
 use bbm_regimes::{Pe, PeMask};
 
 /// Of the TLBIs of each issuer that no DSB has answered yet: the PEs at which they count for a place, those of

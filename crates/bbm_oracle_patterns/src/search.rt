@@ -1,7 +1,7 @@
 //! The last valid write of a place, and what the place holds.
 
 ghost use Rattle.std.specs.Prelude.{◌≡◌, ◌<◌, length, reverse, IfSome};
-ghost use Rattle.bbm_rules.specs.descriptor.Descriptor.{is_valid};
+ghost use Rattle.bbm_descriptor.specs.Descriptor.{is_valid};
 ghost use Rattle.bbm_regimes.specs.PeMask.{pe_in};
 ghost use Rattle.bbm_rules.specs.Held as spec;
 ghost use Rattle.bbm_oracle_patterns.specs.Kept.{notes_of, write_in};
@@ -11,10 +11,10 @@ ghost use Rattle.bbm_oracle_patterns.specs.Phases.{phase_at, furthest};
 use crate::evidence::Evidence;
 use crate::kept::Kept;
 use crate::trace::trace_of;
+use bbm_descriptor::core;
+use bbm_events::{Event, Header};
 use bbm_regimes::{Kind, Pe, PeMask, Place};
 use bbm_rules::Phase;
-use bbm_rules::descriptor::core;
-use bbm_rules::events::{Event, Header};
 
 /// A valid write in a log. Source: project's own choice.
 #[derive(Clone, Copy, Debug, PartialEq, Eq)]

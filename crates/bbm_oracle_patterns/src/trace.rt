@@ -12,8 +12,8 @@ ghost use Rattle.bbm_oracle_patterns.specs.Walk.{writes_place, some_writes, Trac
 
 use crate::kept::Kept;
 use crate::walk::Walk;
+use bbm_events::{Event, Header};
 use bbm_regimes::{PeMask, Place};
-use bbm_rules::events::{Event, Header};
 
 /// At which PEs a place is seen, half and cleansed by the events after its last valid write. Source: project's own
 /// choice, after Arm ARM (DDI 0487), "Using break-before-make when updating translation table entries".

@@ -2,9 +2,9 @@
 
 ghost use Rattle.std.specs.Prelude.{◌≡◌, ℕ, false, ◌&&◌, ◌||◌, not, nat_eq, nat_lt, ◌≤◌, List, [], ◌∷◌};
 ghost use Rattle.bbm_regimes.specs.PeMask.{pe_in};
-ghost use Rattle.bbm_oracle_tags.specs.tlbi_scope.declared.entry.Cover.{Cover as Grade};
-ghost use Rattle.bbm_rules.specs.events.declared.event.Event.{Event};
-ghost use Rattle.bbm_rules.specs.events.Heading.{Heading};
+ghost use Rattle.bbm_tlbi_scope.specs.declared.entry.Cover.{Cover as Grade};
+ghost use Rattle.bbm_events.specs.declared.event.Event.{Event};
+ghost use Rattle.bbm_events.specs.Heading.{Heading};
 ghost use Rattle.bbm_rules.specs.Cleansing.{same_cover};
 ghost use Rattle.bbm_rules.specs.Values as values;
 ghost use Rattle.bbm_oracle_patterns.specs.Kept.{note_of};
@@ -13,10 +13,10 @@ ghost use Rattle.bbm_oracle_patterns.specs.Walk.{IsWalk, Steps};
 use crate::kept::Kept;
 use crate::open::Open;
 use crate::trace::Trace;
-use bbm_oracle_tags::barriers::{Dsb, is_non, publishes_to};
-use bbm_oracle_tags::tlbi_scope::{Cover, TlbiOp};
+use bbm_barriers::{Dsb, is_non, publishes_to};
+use bbm_events::{Event, Header};
 use bbm_regimes::{Pe, PeMask, Place};
-use bbm_rules::events::{Event, Header};
+use bbm_tlbi_scope::{Cover, TlbiOp};
 
 /// What a walk has found in the events so far. Source: project's own choice.
 #[derive(Drop)]

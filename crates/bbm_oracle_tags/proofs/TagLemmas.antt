@@ -2,8 +2,8 @@
 use Rattle.std.proofs.Common.{◌≡◌, ℕ, zero, suc, ◌+◌, ◌<◌, take, get_or, Bool, true, false, not, ◌&&◌, ◌||◌, eqb, List, [], ◌∷◌, length, refl, sym, ap, ◌∙◌, arith, true≢false}
 use Rattle.std.proofs.lemmas.Bool.{eqb-true, eqb-false, and_from}
 use Rattle.std.proofs.lemmas.List.Folds.{list_any_more}
-use Rattle.bbm_rules.specs.tlbi_scope.declared.entry.TagSet.{TagSet}
-use Rattle.bbm_rules.specs.tlbi_scope.declared.entry.TagSet.TheVariants.{None as NoTag, One, Many}
+use Rattle.bbm_tlbi_scope.specs.declared.entry.TagSet.{TagSet}
+use Rattle.bbm_tlbi_scope.specs.declared.entry.TagSet.TheVariants.{None as NoTag, One, Many}
 use Rattle.bbm_rules.specs.Prelude.{Heading, Event, Tag}
 use Rattle.bbm_rules.specs.Changes.{changes}
 use Rattle.bbm_rules.specs.Claims.{Trust, same_tag}

@@ -1,6 +1,6 @@
 -- Which tags a root holds, as a set, and which tags it may hold at all.
 use Rattle.std.specs.Prelude.{ℕ, Bool, false, ◌||◌, List, [], ◌∷◌}
-pub use Rattle.bbm_rules.specs.tlbi_scope.TagSets.{HasTags}
+pub use Rattle.bbm_tlbi_scope.specs.TagSets.{HasTags}
 use Rattle.bbm_rules.specs.Prelude.{Tag, Heading, Event}
 use Rattle.bbm_rules.specs.Claims.{same_tag}
 use Rattle.bbm_rules.specs.Lists.{any}

@@ -1,8 +1,8 @@
 -- What a walk over a history keeps of one tag at one PE, to tell when a root holds it.
 use Rattle.std.specs.Prelude.{◌≡◌, ℕ, Bool, true, false, not, ◌&&◌, ◌||◌, ◌==◌, List, length}
-use Rattle.bbm_rules.specs.regimes.PeMask.{pe_in}
-use Rattle.bbm_rules.specs.barriers.Options.{answers}
-use Rattle.bbm_rules.specs.tlbi_scope.Operations.{operation}
+use Rattle.bbm_regimes.specs.PeMask.{pe_in}
+use Rattle.bbm_barriers.specs.Options.{answers}
+use Rattle.bbm_tlbi_scope.specs.Operations.{operation}
 use Rattle.bbm_rules.specs.Prelude.{Tag, Heading, Event, Dsb, Tlbi}
 use Rattle.bbm_rules.specs.Claims.{Patterns}
 use Rattle.bbm_rules.specs.Lists.{any}

@@ -5,8 +5,8 @@ ghost use Rattle.bbm_rules.specs.Claims.{Patterns};
 
 use crate::evidence::TagEvidence;
 use crate::tags::holds_at;
-use bbm_rules::events::{Event, Header};
-use bbm_rules::regimes::{NoMemory, Pe, Tag};
+use bbm_events::{Event, Header};
+use bbm_regimes::{NoMemory, Pe, Tag};
 use std::alloc::Global;
 
 /// Every pattern of events is trusted. It keeps nothing: each answer is searched in the events. Source: project's own

@@ -1,14 +1,14 @@
 //! What is trusted to take tags away.
 
 ghost use Rattle.std.specs.Prelude.{◌≡◌, ℕ, List, ◌∷◌, reverse, IfOk};
-ghost use Rattle.bbm_rules.specs.regimes.declared.regime.Reg.{Reg};
-ghost use Rattle.bbm_rules.specs.events.declared.event.Event.{Event};
-ghost use Rattle.bbm_rules.specs.events.Heading.{Heading};
+ghost use Rattle.bbm_regimes.specs.declared.regime.Reg.{Reg};
+ghost use Rattle.bbm_events.specs.declared.event.Event.{Event};
+ghost use Rattle.bbm_events.specs.Heading.{Heading};
 ghost use Rattle.bbm_rules.specs.Claims.{Trust};
 ghost use Rattle.bbm_rules.specs.Tags as tags;
 
-use bbm_rules::events::{Event, Header};
-use bbm_rules::regimes::{NoMemory, Pe, Tag};
+use bbm_events::{Event, Header};
+use bbm_regimes::{NoMemory, Pe, Tag};
 use std::alloc::Global;
 
 /// It tells which tags a root holds after the events of a log, by what is trusted to take a tag away. Source: project's

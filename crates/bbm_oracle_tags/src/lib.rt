@@ -20,7 +20,6 @@ pub mod values;
 mod watch;
 
 pub use all_patterns::AllPatterns;
-pub use bbm_rules::{barriers, tlbi_scope};
 pub use evidence::TagEvidence;
 pub use limits::limit_of;
 pub use locks::{holder_of, lacks};

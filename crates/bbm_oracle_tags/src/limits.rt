@@ -6,8 +6,8 @@ ghost use Rattle.bbm_rules.specs.Limits as spec;
 use crate::pages::{count_initialised, is_initialised};
 use crate::registers::register_values;
 use crate::roots::roots_of;
-use bbm_rules::events::Event;
-use bbm_rules::regimes::{NoMemory, Which};
+use bbm_events::Event;
+use bbm_regimes::{NoMemory, Which};
 use std::alloc::Global;
 
 /// The limit that the event reaches after these events, or none: an `init` of a page that was never initialised

@@ -2,13 +2,13 @@
 //! Source: project's own choice, where no other is named.
 
 ghost use Rattle.std.specs.Prelude.{◌≡◌, List, ◌∷◌, None, reverse, if◌then◌else◌};
-ghost use Rattle.bbm_rules.specs.events.declared.event.Event.{Event};
+ghost use Rattle.bbm_events.specs.declared.event.Event.{Event};
 ghost use Rattle.bbm_rules.specs.Lists.{is_that};
 ghost use Rattle.bbm_rules.specs.Locks as spec;
 ghost use Rattle.bbm_rules.specs.Rules.{lacks as pe_lacks};
 
-use bbm_rules::events::Event;
-use bbm_rules::regimes::Pe;
+use bbm_events::Event;
+use bbm_regimes::Pe;
 
 /// The holder after an unlock by the PE.
 fn released(holder: Option<Pe>, pe: Pe) -> Option<Pe>

@@ -1,8 +1,8 @@
 //! What one PE may use at a moment of a walk over the events.
 
 ghost use Rattle.std.specs.Prelude.{◌≡◌, ◌++◌, List, [], ◌∷◌, filter_map, flat_map, option_to_list, IfOk, OnOk};
-ghost use Rattle.bbm_rules.specs.regimes.declared.regime.Kind.TheVariants.{Ttbr0};
-ghost use Rattle.bbm_rules.specs.events.declared.event.Event.{Event};
+ghost use Rattle.bbm_regimes.specs.declared.regime.Kind.TheVariants.{Ttbr0};
+ghost use Rattle.bbm_events.specs.declared.event.Event.{Event};
 ghost use Rattle.bbm_rules.specs.Registers.{register_values};
 ghost use Rattle.bbm_rules.specs.Roots.{roots_of};
 ghost use Rattle.bbm_oracle_tags.specs.Moments as spec;
@@ -10,8 +10,8 @@ ghost use Rattle.bbm_oracle_tags.specs.Moments as spec;
 use crate::readings::Reading;
 use crate::registers::take_value;
 use crate::roots::{Declared, same_kind, take_root};
-use bbm_rules::events::{Event, Header};
-use bbm_rules::regimes::{AsidFrom, Kind, NoMemory, Pe, Reg, Tag, World, base_of, tag_number};
+use bbm_events::{Event, Header};
+use bbm_regimes::{AsidFrom, Kind, NoMemory, Pe, Reg, Tag, World, base_of, tag_number};
 use std::alloc::Global;
 
 /// What one PE may use at a moment: the declared roots, and the readable values of the root registers of its world.
@@ -169,7 +169,7 @@ fn add_each(
 
 impl Moment {
     ghost use Rattle.std.specs.Prelude.{ℕ};
-    ghost use Rattle.bbm_rules.specs.events.Heading.{Heading};
+    ghost use Rattle.bbm_events.specs.Heading.{Heading};
 
     /// The moment before any event. `NoMemory` where there is none.
     pub fn new(alloc: Global) -> Result<Moment, NoMemory>

@@ -2,14 +2,14 @@
 //! Source: project's own choice, where no other is named.
 
 ghost use Rattle.std.specs.Prelude.{◌≡◌, not, ◌==◌, ◌+◌, List, ◌∷◌, reverse, length, IfOk, if◌then◌else◌};
-ghost use Rattle.bbm_rules.specs.events.declared.event.Event.{Event};
+ghost use Rattle.bbm_events.specs.declared.event.Event.{Event};
 ghost use Rattle.bbm_rules.specs.Lists.{among, any};
 ghost use Rattle.bbm_rules.specs.Pages as spec;
 ghost use Rattle.bbm_rules.specs.Values as values;
 
 use crate::values::{places_in, value_of};
-use bbm_rules::events::Event;
-use bbm_rules::regimes::{NoMemory, Page, Place};
+use bbm_events::Event;
+use bbm_regimes::{NoMemory, Page, Place};
 use std::alloc::Global;
 
 /// Whether the page is a null page after one more event.

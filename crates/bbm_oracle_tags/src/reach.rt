@@ -4,9 +4,9 @@ ghost use Rattle.std.specs.Prelude.{◌≡◌};
 ghost use Rattle.bbm_rules.specs.Reach as spec;
 ghost use Rattle.bbm_rules.specs.Values as values;
 
-use bbm_rules::barriers::{Domain, Dsb, Types, completes_broadcast, completes_local, is_non};
-use bbm_rules::events::{Event, Header};
-use bbm_rules::regimes::Pe;
+use bbm_barriers::{Domain, Dsb, Types, completes_broadcast, completes_local, is_non};
+use bbm_events::{Event, Header};
+use bbm_regimes::Pe;
 
 /// Whether the event is a TLBI that reaches the PE: a broadcast one, or one of the PE itself unless the TLBs share
 /// entries. Source: Arm ARM (DDI 0487), "TLB maintenance instructions"; where TLBs share entries it is the project's

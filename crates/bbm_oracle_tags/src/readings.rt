@@ -5,8 +5,8 @@ ghost use Rattle.bbm_rules.specs.Tags as spec;
 ghost use Rattle.bbm_oracle_tags.specs.Moments as moments;
 
 use crate::moment::Moment;
-use bbm_rules::events::{Event, Header};
-use bbm_rules::regimes::{NoMemory, Pe, Tag, same_tag};
+use bbm_events::{Event, Header};
+use bbm_regimes::{NoMemory, Pe, Tag, same_tag};
 use std::alloc::Global;
 use std::marker::Model;
 

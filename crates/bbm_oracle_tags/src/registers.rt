@@ -2,13 +2,13 @@
 //! Source: project's own choice, where no other is named.
 
 ghost use Rattle.std.specs.Prelude.{◌≡◌, ℕ, ◌==◌, List, ◌∷◌, reverse, map, IfOk, OnOk};
-ghost use Rattle.bbm_rules.specs.events.declared.event.Event.{Event};
+ghost use Rattle.bbm_events.specs.declared.event.Event.{Event};
 ghost use Rattle.bbm_rules.specs.Lists.{every, one_number as only_number};
 ghost use Rattle.bbm_rules.specs.Registers as spec;
 
-use bbm_rules::events::{Event, Header};
-use bbm_rules::regimes::{NoMemory, Pe, Reg, World, same_reg, tag_number};
-use bbm_rules::tlbi_scope::{Scope, TlbiOp, decode, lacks_vmid};
+use bbm_events::{Event, Header};
+use bbm_regimes::{NoMemory, Pe, Reg, World, same_reg, tag_number};
+use bbm_tlbi_scope::{Scope, TlbiOp, decode, lacks_vmid};
 use std::alloc::Global;
 
 /// Puts the value in front.

@@ -2,11 +2,11 @@
 //! Source: project's own choice, where no other is named.
 
 ghost use Rattle.std.specs.Prelude.{◌≡◌, List, ◌∷◌, reverse, IfOk, OnOk};
-ghost use Rattle.bbm_rules.specs.events.declared.event.Event.{Event};
+ghost use Rattle.bbm_events.specs.declared.event.Event.{Event};
 ghost use Rattle.bbm_rules.specs.Roots as spec;
 
-use bbm_rules::events::Event;
-use bbm_rules::regimes::{Kind, NoMemory, Page};
+use bbm_events::Event;
+use bbm_regimes::{Kind, NoMemory, Page};
 use std::alloc::Global;
 use std::marker::Model;
 

@@ -4,10 +4,10 @@
 //! Source: project's own choice, where no other is named.
 
 ghost use Rattle.std.specs.Prelude.{◌≡◌, not, ◌&&◌, ◌||◌, nat_le, nat_lt, ◌==◌, ◌%◌, length, flat_map, option_and_then, ◌∷◌, ◌++◌, [], List, reverse, IfOk, OnOk};
-ghost use Rattle.bbm_rules.specs.regimes.declared.regime.Reg.TheVariants.{Ttbr0El1};
-ghost use Rattle.bbm_rules.specs.regimes.declared.regime.Tag.{Tag as TheTag};
-ghost use Rattle.bbm_rules.specs.events.Heading.{Heading};
-ghost use Rattle.bbm_rules.specs.events.declared.event.Event.{Event};
+ghost use Rattle.bbm_regimes.specs.declared.regime.Reg.TheVariants.{Ttbr0El1};
+ghost use Rattle.bbm_regimes.specs.declared.regime.Tag.{Tag as TheTag};
+ghost use Rattle.bbm_events.specs.Heading.{Heading};
+ghost use Rattle.bbm_events.specs.declared.event.Event.{Event};
 ghost use Rattle.bbm_rules.specs.Claims.{Trust};
 ghost use Rattle.bbm_rules.specs.Lists as lists;
 ghost use Rattle.bbm_rules.specs.Lists.{any, is_that, some_pe};
@@ -27,9 +27,9 @@ use crate::readings::{Reading, readings_at};
 use crate::registers::{register_values, vmid_of};
 use crate::roots::{Declared, is_root, lock_of, root_at, roots_of};
 use crate::tags::{holds_tag, tag_set_of};
-use bbm_rules::events::{Event, Header};
-use bbm_rules::regimes::{Kind, NoMemory, Pe, Reg, base_of, kind_of};
-use bbm_rules::tlbi_scope::{TagSet, decode, lacks_vmid};
+use bbm_events::{Event, Header};
+use bbm_regimes::{Kind, NoMemory, Pe, Reg, base_of, kind_of};
+use bbm_tlbi_scope::{TagSet, decode, lacks_vmid};
 use std::alloc::Global;
 
 /// The number, where the test holds.

@@ -1,8 +1,8 @@
 //! Which tags a root holds.
 
 ghost use Rattle.std.specs.Prelude.{◌≡◌, ℕ, List, ◌∷◌, ◌==◌, ◌&&◌, ◌||◌, Bool, true, reverse, IfOk, OnOk};
-ghost use Rattle.bbm_rules.specs.regimes.declared.regime.Tag.{Tag as TheTag};
-ghost use Rattle.bbm_rules.specs.events.declared.event.Event.{Event as TheEvent};
+ghost use Rattle.bbm_regimes.specs.declared.regime.Tag.{Tag as TheTag};
+ghost use Rattle.bbm_events.specs.declared.event.Event.{Event as TheEvent};
 ghost use Rattle.bbm_rules.specs.Claims.{Patterns, Trust, same_tag as is_same_tag};
 ghost use Rattle.bbm_rules.specs.Tags as spec;
 ghost use Rattle.bbm_oracle_tags.specs.Moments as moments;
@@ -12,10 +12,10 @@ use crate::evidence::TagEvidence;
 use crate::moment::Moment;
 use crate::readings::Reading;
 use crate::watch::{Watch, changes_readings};
-use bbm_rules::events::{Event, Header};
-use bbm_rules::regimes::{NoMemory, Pe, Tag, same_tag};
-use bbm_rules::tlbi_scope::{TagSet, with_tag};
+use bbm_events::{Event, Header};
+use bbm_regimes::{NoMemory, Pe, Tag, same_tag};
 use bbm_rules::{law_equality_tests, law_tag_set};
+use bbm_tlbi_scope::{TagSet, with_tag};
 use std::alloc::Global;
 
 /// Whether the root with this first page, by its address in bytes, holds the tag at the PE. `NoMemory` where there is

@@ -2,12 +2,12 @@
 //! Source: project's own choice, where no other is named.
 
 ghost use Rattle.std.specs.Prelude.{◌≡◌, List, ◌∷◌, reverse, IfOk, OnOk};
-ghost use Rattle.bbm_rules.specs.events.declared.event.Event.{Event};
+ghost use Rattle.bbm_events.specs.declared.event.Event.{Event};
 ghost use Rattle.bbm_rules.specs.Lists.{among, with_number};
 ghost use Rattle.bbm_rules.specs.Values as spec;
 
-use bbm_rules::events::Event;
-use bbm_rules::regimes::{NoMemory, Page, Place};
+use bbm_events::Event;
+use bbm_regimes::{NoMemory, Page, Place};
 use std::alloc::Global;
 
 /// The value of the place after one more event.

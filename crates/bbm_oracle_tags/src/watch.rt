@@ -1,14 +1,14 @@
 //! A walk over the events that watches one tag at one PE.
 
 ghost use Rattle.std.specs.Prelude.{◌≡◌, ℕ, not, ◌==◌, ◌&&◌, ◌||◌, false, Option, List, [], ◌∷◌, reverse, IfOk, OnOk};
-ghost use Rattle.bbm_rules.specs.regimes.PeMask.{pe_in};
-ghost use Rattle.bbm_rules.specs.regimes.declared.regime.Tag.{Tag as TheTag};
-ghost use Rattle.bbm_rules.specs.barriers.Options as options;
-ghost use Rattle.bbm_rules.specs.tlbi_scope.Tags.{takes_whole_tag};
-ghost use Rattle.bbm_rules.specs.tlbi_scope.declared.scope.Scope.{Scope as TheScope};
-ghost use Rattle.bbm_rules.specs.events.Heading.{Heading};
-ghost use Rattle.bbm_rules.specs.events.declared.event.Event.{Event};
-ghost use Rattle.bbm_rules.specs.events.declared.event.Event.TheVariants.{Tlbi};
+ghost use Rattle.bbm_regimes.specs.PeMask.{pe_in};
+ghost use Rattle.bbm_regimes.specs.declared.regime.Tag.{Tag as TheTag};
+ghost use Rattle.bbm_barriers.specs.Options as options;
+ghost use Rattle.bbm_tlbi_scope.specs.Tags.{takes_whole_tag};
+ghost use Rattle.bbm_tlbi_scope.specs.declared.scope.Scope.{Scope as TheScope};
+ghost use Rattle.bbm_events.specs.Heading.{Heading};
+ghost use Rattle.bbm_events.specs.declared.event.Event.{Event};
+ghost use Rattle.bbm_events.specs.declared.event.Event.TheVariants.{Tlbi};
 ghost use Rattle.bbm_rules.specs.Changes.{changes};
 ghost use Rattle.bbm_rules.specs.Reach as reach;
 ghost use Rattle.bbm_rules.specs.Registers as registers;
@@ -19,10 +19,10 @@ use crate::moment::Moment;
 use crate::reach::reaches;
 use crate::readings::{is_read, is_read_for_some};
 use crate::registers::vmid_of;
-use bbm_rules::barriers::{Dsb, completes_broadcast, completes_local};
-use bbm_rules::events::{Event, Header};
-use bbm_rules::regimes::{NoMemory, Pe, PeMask, Tag};
-use bbm_rules::tlbi_scope::{Family, Scope, TlbiOp, decode, whole_tag};
+use bbm_barriers::{Dsb, completes_broadcast, completes_local};
+use bbm_events::{Event, Header};
+use bbm_regimes::{NoMemory, Pe, PeMask, Tag};
+use bbm_tlbi_scope::{Family, Scope, TlbiOp, decode, whole_tag};
 use std::alloc::Global;
 
 /// One tag of a root at one PE, at a moment of a walk over the events. Source: project's own choice.

@@ -3,18 +3,18 @@ use Rattle.std.proofs.Common.{◌≡◌, ℕ, Bool, true, false, ◌&&◌, ◌||
 use Rattle.std.proofs.lemmas.Bool.{eqb-true, eq-eqb}
 use Rattle.std.specs.List.{flat_map}
 use Rattle.std.specs.Option.{option_map_or}
-use Rattle.bbm_oracle_patterns.specs.descriptor.Descriptor.{is_valid}
-use Rattle.bbm_oracle_patterns.specs.tlbi_scope.declared.entry.Cover.{Cover}
-use Rattle.bbm_oracle_patterns.specs.tlbi_scope.declared.entry.Cover.TheVariants.{None as NoCover, Half, Second, Full}
-use Rattle.bbm_oracle_patterns.specs.tlbi_scope.Covers.{cover_of}
-use Rattle.bbm_oracle_patterns.specs.rules.Prelude.{Kind, Scope, Heading, Event, Init, Null, Root, Unroot, Write, Dsb, Dmb, Isb, Tlbi, Msr, Lock, Unlock}
-use Rattle.bbm_oracle_patterns.specs.rules.Claims.{Trust}
-use Rattle.bbm_oracle_patterns.specs.rules.Held.{ValidWrite, cleansed_everywhere, held, last_valid, last_valid_after, later}
-use Rattle.bbm_oracle_patterns.specs.rules.Lists.{◌>>=◌, among, any, with_number}
-use Rattle.bbm_oracle_patterns.specs.rules.Notes.{Noted, events_of}
-use Rattle.bbm_oracle_patterns.specs.rules.Places.{page_of}
-use Rattle.bbm_oracle_patterns.specs.rules.Tree.{Node, held_at, node_of, tree}
-use Rattle.bbm_oracle_patterns.specs.rules.Values.{places_in, written_places}
+use Rattle.bbm_descriptor.specs.Descriptor.{is_valid}
+use Rattle.bbm_tlbi_scope.specs.declared.entry.Cover.{Cover}
+use Rattle.bbm_tlbi_scope.specs.declared.entry.Cover.TheVariants.{None as NoCover, Half, Second, Full}
+use Rattle.bbm_tlbi_scope.specs.Covers.{cover_of}
+use Rattle.bbm_rules.specs.Prelude.{Kind, Scope, Heading, Event, Init, Null, Root, Unroot, Write, Dsb, Dmb, Isb, Tlbi, Msr, Lock, Unlock}
+use Rattle.bbm_rules.specs.Claims.{Trust}
+use Rattle.bbm_rules.specs.Held.{ValidWrite, cleansed_everywhere, held, last_valid, last_valid_after, later}
+use Rattle.bbm_rules.specs.Lists.{◌>>=◌, among, any, with_number}
+use Rattle.bbm_rules.specs.Notes.{Noted, events_of}
+use Rattle.bbm_rules.specs.Places.{page_of}
+use Rattle.bbm_rules.specs.Tree.{Node, held_at, node_of, tree}
+use Rattle.bbm_rules.specs.Values.{places_in, written_places}
 use Rattle.bbm_oracle_patterns.specs.Kept.{cover_in}
 use Rattle.bbm_oracle_patterns.specs.declared.kept.Covered.{Covered}
 use Rattle.bbm_oracle_trees.specs.Views.{cover_under, covers_of_page, entry_of, view_of}

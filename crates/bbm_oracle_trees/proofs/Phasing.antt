@@ -1,18 +1,18 @@
 -- The phase of a place of a tree.
 use Rattle.std.proofs.Common.{◌≡◌, ℕ, cond, List, Option, Some, None, refl, sym, ◌∙◌, ap}
 use Rattle.std.specs.Option.{unwrap_or}
-use Rattle.bbm_oracle_patterns.specs.descriptor.Descriptor.{is_valid}
-use Rattle.bbm_oracle_patterns.specs.rules.Prelude.{Heading, Event}
-use Rattle.bbm_oracle_patterns.specs.rules.declared.phase.Phase.TheVariants.{Clean, Live}
-use Rattle.bbm_oracle_patterns.specs.rules.Claims.{Trust}
-use Rattle.bbm_oracle_patterns.specs.rules.Held.{cleansed_everywhere, last_valid}
-use Rattle.bbm_oracle_patterns.specs.rules.Lists.{◌>>=◌}
-use Rattle.bbm_oracle_patterns.specs.rules.Notes.{Noted, events_of}
-use Rattle.bbm_oracle_patterns.specs.rules.Phases.{broken_phase, phase_of}
-use Rattle.bbm_oracle_patterns.specs.rules.Covers.{noted}
-use Rattle.bbm_oracle_patterns.specs.rules.Places.{page_of}
-use Rattle.bbm_oracle_patterns.specs.rules.Tree.{Node, node_of}
-use Rattle.bbm_oracle_patterns.specs.rules.Values.{value_of}
+use Rattle.bbm_descriptor.specs.Descriptor.{is_valid}
+use Rattle.bbm_rules.specs.Prelude.{Heading, Event}
+use Rattle.bbm_rules.specs.declared.phase.Phase.TheVariants.{Clean, Live}
+use Rattle.bbm_rules.specs.Claims.{Trust}
+use Rattle.bbm_rules.specs.Held.{cleansed_everywhere, last_valid}
+use Rattle.bbm_rules.specs.Lists.{◌>>=◌}
+use Rattle.bbm_rules.specs.Notes.{Noted, events_of}
+use Rattle.bbm_rules.specs.Phases.{broken_phase, phase_of}
+use Rattle.bbm_rules.specs.Covers.{noted}
+use Rattle.bbm_rules.specs.Places.{page_of}
+use Rattle.bbm_rules.specs.Tree.{Node, node_of}
+use Rattle.bbm_rules.specs.Values.{value_of}
 use Rattle.bbm_oracle_patterns.specs.Phases.{phase_at}
 use Rattle.bbm_oracle_trees.specs.Past.{Past, notes}
 use Rattle.bbm_oracle_trees.specs.Phases.{phase_among}

@@ -1,9 +1,9 @@
 -- Which events and which roots can stand in a log with a header. Source: project's own choice.
 use Rattle.std.specs.Prelude.{Bool, List}
-use Rattle.bbm_oracle_patterns.specs.events.Fits.{fits_heading, is_root_page}
-use Rattle.bbm_oracle_patterns.specs.rules.Prelude.{Heading, Event}
-use Rattle.bbm_oracle_patterns.specs.rules.Lists.{every}
-use Rattle.bbm_oracle_patterns.specs.rules.Roots.{Declared}
+use Rattle.bbm_events.specs.Fits.{fits_heading, is_root_page}
+use Rattle.bbm_rules.specs.Prelude.{Heading, Event}
+use Rattle.bbm_rules.specs.Lists.{every}
+use Rattle.bbm_rules.specs.Roots.{Declared}
 
 -- each event can
 abbrev pub all_fit : Heading → List Event → Bool

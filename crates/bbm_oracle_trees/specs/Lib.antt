@@ -3,7 +3,3 @@ pub mod Past
 pub mod Phases
 pub mod StandsFor
 pub mod Views
-pub use Rattle.bbm_oracle_patterns.specs.descriptor
-pub use Rattle.bbm_oracle_patterns.specs.events
-pub use Rattle.bbm_oracle_patterns.specs.regimes
-pub use Rattle.bbm_oracle_patterns.specs.rules

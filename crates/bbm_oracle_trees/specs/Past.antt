@@ -1,8 +1,8 @@
 -- What a history stands for. Source: project's own choice.
 use Rattle.std.specs.Prelude.{List}
-use Rattle.bbm_oracle_patterns.specs.rules.Prelude.{Heading}
-use Rattle.bbm_oracle_patterns.specs.rules.Claims.{Trust}
-use Rattle.bbm_oracle_patterns.specs.rules.Notes.{Noted}
+use Rattle.bbm_rules.specs.Prelude.{Heading}
+use Rattle.bbm_rules.specs.Claims.{Trust}
+use Rattle.bbm_rules.specs.Notes.{Noted}
 use Rattle.bbm_oracle_patterns.specs.Kept.{notes_of}
 use Rattle.bbm_oracle_patterns.specs.declared.kept.Kept.{Kept}
 

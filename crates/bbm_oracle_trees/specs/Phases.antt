@@ -1,18 +1,18 @@
 -- The phase of a place over an annotated history.
 -- Source: project's own choice.
 use Rattle.std.specs.Prelude.{ℕ, List, Some, None, unwrap_or, if◌then◌else◌}
-use Rattle.bbm_oracle_patterns.specs.descriptor.Descriptor.{is_valid}
-use Rattle.bbm_oracle_patterns.specs.rules.Prelude.{Heading}
-use Rattle.bbm_oracle_patterns.specs.rules.declared.phase.Phase.{Phase}
-use Rattle.bbm_oracle_patterns.specs.rules.declared.phase.Phase.TheVariants.{Clean, Live}
-use Rattle.bbm_oracle_patterns.specs.rules.Claims.{Trust}
-use Rattle.bbm_oracle_patterns.specs.rules.Held.{cleansed_everywhere, last_valid}
-use Rattle.bbm_oracle_patterns.specs.rules.Lists.{◌>>=◌}
-use Rattle.bbm_oracle_patterns.specs.rules.Notes.{Noted, events_of}
-use Rattle.bbm_oracle_patterns.specs.rules.Phases.{broken_phase}
-use Rattle.bbm_oracle_patterns.specs.rules.Places.{page_of}
-use Rattle.bbm_oracle_patterns.specs.rules.Tree.{node_of}
-use Rattle.bbm_oracle_patterns.specs.rules.Values.{value_of}
+use Rattle.bbm_descriptor.specs.Descriptor.{is_valid}
+use Rattle.bbm_rules.specs.Prelude.{Heading}
+use Rattle.bbm_rules.specs.declared.phase.Phase.{Phase}
+use Rattle.bbm_rules.specs.declared.phase.Phase.TheVariants.{Clean, Live}
+use Rattle.bbm_rules.specs.Claims.{Trust}
+use Rattle.bbm_rules.specs.Held.{cleansed_everywhere, last_valid}
+use Rattle.bbm_rules.specs.Lists.{◌>>=◌}
+use Rattle.bbm_rules.specs.Notes.{Noted, events_of}
+use Rattle.bbm_rules.specs.Phases.{broken_phase}
+use Rattle.bbm_rules.specs.Places.{page_of}
+use Rattle.bbm_rules.specs.Tree.{node_of}
+use Rattle.bbm_rules.specs.Values.{value_of}
 
 -- as `phase_of` has it of the events whose notes these are
 abbrev pub phase_among : Heading → Trust → List Noted → ℕ → ℕ → Phase

@@ -1,8 +1,8 @@
 -- What a history with its notes stands for. Source: project's own choice.
 use Rattle.std.specs.Prelude.{◌≡◌, List}
-use Rattle.bbm_oracle_patterns.specs.rules.Prelude.{Heading, Event}
-use Rattle.bbm_oracle_patterns.specs.rules.Covers.{noted}
-use Rattle.bbm_oracle_patterns.specs.rules.Notes.{events_of}
+use Rattle.bbm_rules.specs.Prelude.{Heading, Event}
+use Rattle.bbm_rules.specs.Covers.{noted}
+use Rattle.bbm_rules.specs.Notes.{events_of}
 use Rattle.bbm_oracle_trees.specs.Past.{Past, notes}
 
 -- It keeps the header and the events of this history, and with each event the notes that the definitions give by what it

@@ -2,18 +2,18 @@
 -- public contract cites these words. Source: project's own choice.
 use Rattle.std.specs.Option.{option_map_or}
 use Rattle.std.specs.Prelude.{◌≡◌, ℕ, List, [], ◌∷◌, Option, is_some, flat_map, All}
-use Rattle.bbm_oracle_patterns.specs.descriptor.Descriptor.{desc_of}
-use Rattle.bbm_oracle_patterns.specs.tlbi_scope.declared.entry.Cover.{Cover}
-use Rattle.bbm_oracle_patterns.specs.tlbi_scope.declared.entry.Cover.TheVariants.{None as NoCover}
-use Rattle.bbm_oracle_patterns.specs.tlbi_scope.declared.entry.PlaceView.{PlaceView}
-use Rattle.bbm_oracle_patterns.specs.tlbi_scope.Covers.{cover_of}
-use Rattle.bbm_oracle_patterns.specs.rules.Prelude.{Heading, Event, Scope}
-use Rattle.bbm_oracle_patterns.specs.rules.Claims.{Trust}
-use Rattle.bbm_oracle_patterns.specs.rules.Covers.{is_global, view_at}
-use Rattle.bbm_oracle_patterns.specs.rules.Notes.{Noted, events_of}
-use Rattle.bbm_oracle_patterns.specs.rules.Tags.{tag_set, tags_of}
-use Rattle.bbm_oracle_patterns.specs.rules.Tree.{Node, is_childless, next_of, region_of}
-use Rattle.bbm_oracle_patterns.specs.rules.Values.{places_in}
+use Rattle.bbm_descriptor.specs.Descriptor.{desc_of}
+use Rattle.bbm_tlbi_scope.specs.declared.entry.Cover.{Cover}
+use Rattle.bbm_tlbi_scope.specs.declared.entry.Cover.TheVariants.{None as NoCover}
+use Rattle.bbm_tlbi_scope.specs.declared.entry.PlaceView.{PlaceView}
+use Rattle.bbm_tlbi_scope.specs.Covers.{cover_of}
+use Rattle.bbm_rules.specs.Prelude.{Heading, Event, Scope}
+use Rattle.bbm_rules.specs.Claims.{Trust}
+use Rattle.bbm_rules.specs.Covers.{is_global, view_at}
+use Rattle.bbm_rules.specs.Notes.{Noted, events_of}
+use Rattle.bbm_rules.specs.Tags.{tag_set, tags_of}
+use Rattle.bbm_rules.specs.Tree.{Node, is_childless, next_of, region_of}
+use Rattle.bbm_rules.specs.Values.{places_in}
 use Rattle.bbm_oracle_patterns.specs.declared.kept.Covered.{Covered}
 use Rattle.bbm_oracle_trees.specs.declared.covers.RootTags.{RootTags}
 

@@ -2,15 +2,15 @@
 
 ghost use Rattle.std.specs.Prelude.{◌≡◌, ◌≤◌, ℕ, ◌++◌, flat_map, Option, IfOk, OnOk};
 ghost use Rattle.std.specs.Option.{option_map_or};
-ghost use Rattle.bbm_oracle_patterns.specs.descriptor.Descriptor.{desc_of};
-ghost use Rattle.bbm_oracle_patterns.specs.tlbi_scope.declared.entry.Cover.TheVariants.{None as NoCover};
-ghost use Rattle.bbm_oracle_patterns.specs.tlbi_scope.Covers.{cover_of};
-ghost use Rattle.bbm_oracle_patterns.specs.rules.Covers as covering;
-ghost use Rattle.bbm_oracle_patterns.specs.rules.Notes.{events_of};
-ghost use Rattle.bbm_oracle_patterns.specs.rules.Registers.{vmid_of};
-ghost use Rattle.bbm_oracle_patterns.specs.rules.Tags.{tag_set, tags_of};
-ghost use Rattle.bbm_oracle_patterns.specs.rules.Tree as trees;
-ghost use Rattle.bbm_oracle_patterns.specs.rules.Values.{places_in};
+ghost use Rattle.bbm_descriptor.specs.Descriptor.{desc_of};
+ghost use Rattle.bbm_tlbi_scope.specs.declared.entry.Cover.TheVariants.{None as NoCover};
+ghost use Rattle.bbm_tlbi_scope.specs.Covers.{cover_of};
+ghost use Rattle.bbm_rules.specs.Covers as covering;
+ghost use Rattle.bbm_rules.specs.Notes.{events_of};
+ghost use Rattle.bbm_rules.specs.Registers.{vmid_of};
+ghost use Rattle.bbm_rules.specs.Tags.{tag_set, tags_of};
+ghost use Rattle.bbm_rules.specs.Tree as trees;
+ghost use Rattle.bbm_rules.specs.Values.{places_in};
 ghost use Rattle.bbm_oracle_patterns.specs.Kept.{cover_in};
 ghost use Rattle.bbm_oracle_trees.specs.Past.{notes};
 ghost use Rattle.bbm_oracle_trees.specs.Views.{AreTags, cover_under, covered_under, entry_of, view_of};
@@ -18,11 +18,11 @@ ghost use Rattle.bbm_oracle_trees.specs.Views.{AreTags, cover_under, covered_und
 use crate::log::Log;
 use crate::node::Node;
 use crate::tree::{first_of, is_childless, next_page};
-use bbm_oracle_patterns::descriptor::{Desc, read};
-use bbm_oracle_patterns::events::Event;
-use bbm_oracle_patterns::regimes::{Kind, NoMemory, Page, Pe, Place};
-use bbm_oracle_patterns::tlbi_scope::{Cover, PlaceView, Scope, TagSet, cover};
+use bbm_descriptor::{Desc, read};
+use bbm_events::Event;
 use bbm_oracle_patterns::{Covered, Evidence};
+use bbm_regimes::{Kind, NoMemory, Page, Pe, Place};
+use bbm_tlbi_scope::{Cover, PlaceView, Scope, TagSet, cover};
 use std::alloc::Global;
 
 /// The tags that a root holds. Source: project's own choice.

@@ -1,13 +1,13 @@
 //! The fresh pages.
 
 ghost use Rattle.std.specs.Prelude.{◌≡◌, ◌==◌, ◌&&◌, ◌||◌, ℕ, not, find, is_some, IfOk};
-ghost use Rattle.bbm_oracle_patterns.specs.rules.Lists.{among};
-ghost use Rattle.bbm_oracle_patterns.specs.rules.Pages.{may_be_fresh};
+ghost use Rattle.bbm_rules.specs.Lists.{among};
+ghost use Rattle.bbm_rules.specs.Pages.{may_be_fresh};
 
 use crate::node::Node;
 use crate::tree::has_page;
-use bbm_oracle_patterns::events::Event;
-use bbm_oracle_patterns::regimes::{NoMemory, Page};
+use bbm_events::Event;
+use bbm_regimes::{NoMemory, Page};
 use std::alloc::Global;
 
 /// The pages but for this one.

@@ -2,17 +2,17 @@
 //! Source: project's own choice, where no other is named.
 
 ghost use Rattle.std.specs.Prelude.{◌≡◌, ◌∷◌, ◌&&◌, ℕ, List, [], true, not, reverse, IfOk, OnOk, OnErr, option_copied};
-ghost use Rattle.bbm_oracle_patterns.specs.events.declared.event.Event.{Event as TheEvent};
-ghost use Rattle.bbm_oracle_patterns.specs.events.Fits.{fits_heading};
-ghost use Rattle.bbm_oracle_patterns.specs.events.Heading.{Heading};
-ghost use Rattle.bbm_oracle_patterns.specs.rules.Covers.{note};
-ghost use Rattle.bbm_oracle_patterns.specs.rules.Lists.{among};
-ghost use Rattle.bbm_oracle_patterns.specs.rules.Notes.{events_of};
-ghost use Rattle.bbm_oracle_patterns.specs.rules.Pages as pages;
-ghost use Rattle.bbm_oracle_patterns.specs.rules.Phases as phases;
-ghost use Rattle.bbm_oracle_patterns.specs.rules.Tags as tags;
-ghost use Rattle.bbm_oracle_patterns.specs.rules.Tree as trees;
-ghost use Rattle.bbm_oracle_patterns.specs.rules.Values.{value_of};
+ghost use Rattle.bbm_events.specs.declared.event.Event.{Event as TheEvent};
+ghost use Rattle.bbm_events.specs.Fits.{fits_heading};
+ghost use Rattle.bbm_events.specs.Heading.{Heading};
+ghost use Rattle.bbm_rules.specs.Covers.{note};
+ghost use Rattle.bbm_rules.specs.Lists.{among};
+ghost use Rattle.bbm_rules.specs.Notes.{events_of};
+ghost use Rattle.bbm_rules.specs.Pages as pages;
+ghost use Rattle.bbm_rules.specs.Phases as phases;
+ghost use Rattle.bbm_rules.specs.Tags as tags;
+ghost use Rattle.bbm_rules.specs.Tree as trees;
+ghost use Rattle.bbm_rules.specs.Values.{value_of};
 ghost use Rattle.bbm_oracle_patterns.specs.Phases.{phase_at};
 ghost use Rattle.bbm_oracle_trees.specs.Past.{notes};
 ghost use Rattle.bbm_oracle_trees.specs.Phases.{phase_among};
@@ -24,11 +24,11 @@ use crate::limbo::in_limbo;
 use crate::log::Log;
 use crate::node::Node;
 use crate::tree::{first_of, is_childless, tree_of};
-use bbm_oracle_patterns::events::{Event, Header};
-use bbm_oracle_patterns::regimes::{NoMemory, Page, Pe, Place, Tag};
-use bbm_oracle_patterns::rules::Phase;
-use bbm_oracle_patterns::tlbi_scope::TagSet;
+use bbm_events::{Event, Header};
 use bbm_oracle_patterns::{Evidence, Kept};
+use bbm_regimes::{NoMemory, Page, Pe, Place, Tag};
+use bbm_rules::Phase;
+use bbm_tlbi_scope::TagSet;
 use std::alloc::Global;
 use std::marker::Model;
 
@@ -51,9 +51,9 @@ pub struct History<E: Evidence> {
 
 impl<E: Evidence> Model for History<E> {
     ghost use Rattle.std.specs.Prelude.{◌≡◌, ℕ};
-    ghost use Rattle.bbm_oracle_patterns.specs.rules.Lists.{among};
-    ghost use Rattle.bbm_oracle_patterns.specs.rules.Pages.{is_fresh};
-    ghost use Rattle.bbm_oracle_patterns.specs.rules.Tree.{tree};
+    ghost use Rattle.bbm_rules.specs.Lists.{among};
+    ghost use Rattle.bbm_rules.specs.Pages.{is_fresh};
+    ghost use Rattle.bbm_rules.specs.Tree.{tree};
     ghost use Rattle.bbm_oracle_trees.specs.Past.{Past, notes};
 
     ghost Value = { Past };

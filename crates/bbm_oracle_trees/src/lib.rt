@@ -10,7 +10,5 @@ mod node;
 mod starts;
 mod tree;
 
-pub use bbm_oracle_patterns as oracle_patterns;
-pub use bbm_oracle_patterns::{descriptor, events, oracle_tags, regimes, rules};
 pub use history::History;
 pub use node::{Above, Node};

@@ -1,17 +1,17 @@
 //! Limbo.
 
 ghost use Rattle.std.specs.Prelude.{◌≡◌, not};
-ghost use Rattle.bbm_oracle_patterns.specs.descriptor.Descriptor.{is_valid};
-ghost use Rattle.bbm_oracle_patterns.specs.rules.Notes.{events_of};
-ghost use Rattle.bbm_oracle_patterns.specs.rules.Tree as trees;
-ghost use Rattle.bbm_oracle_patterns.specs.rules.Values.{value_of};
+ghost use Rattle.bbm_descriptor.specs.Descriptor.{is_valid};
+ghost use Rattle.bbm_rules.specs.Notes.{events_of};
+ghost use Rattle.bbm_rules.specs.Tree as trees;
+ghost use Rattle.bbm_rules.specs.Values.{value_of};
 ghost use Rattle.bbm_oracle_trees.specs.Past.{notes};
 
 use crate::log::Log;
 use crate::node::{Above, Node};
+use bbm_descriptor::core;
 use bbm_oracle_patterns::Evidence;
-use bbm_oracle_patterns::descriptor::core;
-use bbm_oracle_patterns::regimes::Kind;
+use bbm_regimes::Kind;
 
 /// Whether the present value of the place is invalid, at this kind and its level.
 fn is_broken<E: Evidence>(log: &Log<E>, kind: Kind, above: &Above) -> bool

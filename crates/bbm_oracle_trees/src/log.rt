@@ -1,25 +1,23 @@
 //! The events taken.
 
 ghost use Rattle.std.specs.Prelude.{◌≡◌, ◌∷◌, [], true, reverse, drop, All, IfOk, OnOk, OnErr};
-ghost use Rattle.bbm_oracle_patterns.specs.events.Fits.{fits_heading};
-ghost use Rattle.bbm_oracle_patterns.specs.rules.Held as holding;
-ghost use Rattle.bbm_oracle_patterns.specs.rules.Notes.{events_of};
-ghost use Rattle.bbm_oracle_patterns.specs.rules.Registers as registers;
-ghost use Rattle.bbm_oracle_patterns.specs.rules.Roots as roots;
-ghost use Rattle.bbm_oracle_patterns.specs.rules.Tags as tags;
-ghost use Rattle.bbm_oracle_patterns.specs.rules.Values as values;
+ghost use Rattle.bbm_events.specs.Fits.{fits_heading};
+ghost use Rattle.bbm_rules.specs.Held as holding;
+ghost use Rattle.bbm_rules.specs.Notes.{events_of};
+ghost use Rattle.bbm_rules.specs.Registers as registers;
+ghost use Rattle.bbm_rules.specs.Roots as roots;
+ghost use Rattle.bbm_rules.specs.Tags as tags;
+ghost use Rattle.bbm_rules.specs.Values as values;
 ghost use Rattle.bbm_oracle_patterns.specs.Kept.{notes_of};
 ghost use Rattle.bbm_oracle_patterns.specs.Phases.{phase_at};
 ghost use Rattle.bbm_oracle_trees.specs.Fits.{fits_root};
 
-use bbm_oracle_patterns::events::{Event, Header};
-use bbm_oracle_patterns::oracle_tags::{
-    Declared, named_scope, places_in, roots_of, tag_set_of, value_of, vmid_of,
-};
-use bbm_oracle_patterns::regimes::{Kind, NoMemory, Page, Pe, Place};
-use bbm_oracle_patterns::rules::Phase;
-use bbm_oracle_patterns::tlbi_scope::{Scope, TagSet, TlbiOp};
+use bbm_events::{Event, Header};
 use bbm_oracle_patterns::{Covered, Evidence, Kept, held, phase_in};
+use bbm_oracle_tags::{Declared, named_scope, places_in, roots_of, tag_set_of, value_of, vmid_of};
+use bbm_regimes::{Kind, NoMemory, Page, Pe, Place};
+use bbm_rules::Phase;
+use bbm_tlbi_scope::{Scope, TagSet, TlbiOp};
 use std::alloc::Global;
 use std::marker::Model;
 use std::mem;
@@ -36,7 +34,7 @@ pub struct Log<E: Evidence> {
 
 impl<E: Evidence> Model for Log<E> {
     ghost use Rattle.std.specs.Prelude.{◌≡◌, true, reverse};
-    ghost use Rattle.bbm_oracle_patterns.specs.rules.Notes.{events_of};
+    ghost use Rattle.bbm_rules.specs.Notes.{events_of};
     ghost use Rattle.bbm_oracle_patterns.specs.Kept.{notes_of};
     ghost use Rattle.bbm_oracle_trees.specs.Fits.{all_fit};
     ghost use Rattle.bbm_oracle_trees.specs.Past.{Past};

@@ -2,10 +2,10 @@
 //! Source: project's own choice, where no other is named.
 
 ghost use Rattle.std.specs.Prelude.{◌≡◌, ◌<◌, ◌∷◌, IfOk};
-ghost use Rattle.bbm_oracle_patterns.specs.rules.Tree as trees;
+ghost use Rattle.bbm_rules.specs.Tree as trees;
 
-use bbm_oracle_patterns::events::input_pages;
-use bbm_oracle_patterns::regimes::{Interval, Kind, NoMemory, Page, Place};
+use bbm_events::input_pages;
+use bbm_regimes::{Interval, Kind, NoMemory, Page, Place};
 use std::alloc::Global;
 use std::marker::Model;
 
@@ -20,7 +20,7 @@ pub struct Above {
 
 impl Model for Above {
     ghost use Rattle.std.specs.Prelude.{◌≤◌};
-    ghost use Rattle.bbm_oracle_patterns.specs.rules.Tree as trees;
+    ghost use Rattle.bbm_rules.specs.Tree as trees;
 
     ghost Value = { trees.Above };
 
@@ -50,8 +50,8 @@ pub struct Node {
 
 impl Model for Node {
     ghost use Rattle.std.specs.Prelude.{◌≤◌, ◌+◌, ◌*◌, ◌^◌};
-    ghost use Rattle.bbm_oracle_patterns.specs.regimes.World.{input_pages};
-    ghost use Rattle.bbm_oracle_patterns.specs.rules.Tree as trees;
+    ghost use Rattle.bbm_regimes.specs.World.{input_pages};
+    ghost use Rattle.bbm_rules.specs.Tree as trees;
 
     ghost Value = { trees.Node };
 

@@ -2,15 +2,15 @@
 
 ghost use Rattle.std.specs.Prelude.{◌≡◌, ◌∷◌, [], ◌++◌, ◌≤◌, ◌+◌, ◌*◌, ◌^◌, ◌<◌, OnOk, All, true, flat_map};
 ghost use Rattle.std.specs.Prelude.{if◌then◌else◌};
-ghost use Rattle.bbm_oracle_patterns.specs.regimes.World as worlds;
-ghost use Rattle.bbm_oracle_patterns.specs.rules.Tree.{nodes_of_pages, nodes_of_root, starts_at};
-ghost use Rattle.bbm_oracle_patterns.specs.rules.Roots.{pages_from};
+ghost use Rattle.bbm_regimes.specs.World as worlds;
+ghost use Rattle.bbm_rules.specs.Tree.{nodes_of_pages, nodes_of_root, starts_at};
+ghost use Rattle.bbm_rules.specs.Roots.{pages_from};
 ghost use Rattle.bbm_oracle_trees.specs.Fits.{fits_root};
 
 use crate::node::Node;
-use bbm_oracle_patterns::events::{Header, input_pages};
-use bbm_oracle_patterns::oracle_tags::Declared;
-use bbm_oracle_patterns::regimes::{Kind, NoMemory, Page};
+use bbm_events::{Header, input_pages};
+use bbm_oracle_tags::Declared;
+use bbm_regimes::{Kind, NoMemory, Page};
 use std::alloc::Global;
 
 /// The number of pages of a root of the kind, 1 to 16; 0 where the kind isn't one of the header's world.

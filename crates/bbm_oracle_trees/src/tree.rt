@@ -1,18 +1,18 @@
 //! The trees of the declared roots.
 
 ghost use Rattle.std.specs.Prelude.{◌≡◌, ◌≤◌, ◌<◌, ◌==◌, ◌++◌, suc, true, All, find, flat_map, is_some, IfOk, OnOk, IfSome, option_copied, option_to_list};
-ghost use Rattle.bbm_oracle_patterns.specs.rules.Lists.{any};
-ghost use Rattle.bbm_oracle_patterns.specs.rules.Tree as trees;
+ghost use Rattle.bbm_rules.specs.Lists.{any};
+ghost use Rattle.bbm_rules.specs.Tree as trees;
 ghost use Rattle.bbm_oracle_trees.specs.Fits.{fits_root};
 ghost use Rattle.bbm_oracle_trees.specs.Past.{notes};
 
 use crate::log::Log;
 use crate::node::Node;
 use crate::starts::{add, add_starts};
+use bbm_descriptor::{Desc, read};
 use bbm_oracle_patterns::Evidence;
-use bbm_oracle_patterns::descriptor::{Desc, read};
-use bbm_oracle_patterns::oracle_tags::Declared;
-use bbm_oracle_patterns::regimes::{Kind, NoMemory, Page, Place};
+use bbm_oracle_tags::Declared;
+use bbm_regimes::{Kind, NoMemory, Page, Place};
 use std::alloc::Global;
 
 /// The next page of a value at this kind and level, 0 to 3; None where it is no table. Source: Arm ARM (DDI 0487),

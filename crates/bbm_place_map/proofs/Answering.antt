@@ -2,7 +2,7 @@
 use Rattle.std.proofs.Common.{◌≡◌, ◌≢◌, ℕ, Bool, true, false, ◌&&◌, nat_eq, List, [], length, Option, Some, None, refl, ap, sym, subst, ◌∙◌, if◌then◌else◌, slice_get}
 use Rattle.std.specs.Option.{option_map}
 use Rattle.std.proofs.lemmas.Bool.{eq-eqb, ne_eqb, cond-true, cond-false}
-use Rattle.bbm_entry_state.specs.barriers.declared.Dsb.{Dsb}
+use Rattle.bbm_barriers.specs.declared.Dsb.{Dsb}
 use Rattle.bbm_entry_state.specs.Calls.{Completed}
 use Rattle.bbm_entry_state.specs.Points.{waits}
 use Rattle.bbm_entry_state.specs.declared.pending.Pends.{Pends}

@@ -3,8 +3,8 @@ use Rattle.std.proofs.Common.{◌≡◌, ◌≢◌, ℕ, Bool, true, false, ◌&
 use Rattle.std.specs.Option.{option_map}
 use Rattle.std.proofs.lemmas.Bool.{false≢true}
 use Rattle.std.proofs.lemmas.Option.{same_Some}
-use Rattle.bbm_entry_state.specs.barriers.declared.Dsb.{Dsb}
-use Rattle.bbm_entry_state.specs.tlbi_scope.declared.entry.Cover.{Cover}
+use Rattle.bbm_barriers.specs.declared.Dsb.{Dsb}
+use Rattle.bbm_tlbi_scope.specs.declared.entry.Cover.{Cover}
 use Rattle.bbm_entry_state.specs.Calls.{Completed}
 use Rattle.bbm_entry_state.specs.Points.{waits}
 use Rattle.bbm_entry_state.specs.declared.marks.Marks.{Marks}

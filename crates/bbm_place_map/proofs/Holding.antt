@@ -2,8 +2,8 @@
 use Rattle.std.proofs.Common.{◌≡◌, ◌≢◌, ℕ, ◌<◌, ◌⊎◌, Bool, true, false, not, ◌&&◌, nat_eq, List, [], ◌∷◌, ◌++◌, length, Some, refl, ap, sym, subst, ◌∙◌, inl, inr, slice_get, set, get_or}
 use Rattle.std.proofs.lemmas.Bool.{cases_eq, eq-eqb, ne_eqb, cond-true, cond-false}
 use Rattle.std.proofs.lemmas.Option.{same_Some, slice_get_read}
-use Rattle.bbm_entry_state.specs.regimes.PeMask.{pe_in}
-use Rattle.bbm_entry_state.specs.regimes.declared.pe.PeMask.{PeMask}
+use Rattle.bbm_regimes.specs.PeMask.{pe_in}
+use Rattle.bbm_regimes.specs.declared.pe.PeMask.{PeMask}
 use Rattle.bbm_place_map.specs.Works.{Holds, HoldsFor}
 use Rattle.bbm_place_map.specs.declared.work.WorkList.{WorkList}
 use Rattle.bbm_place_map.proofs.Lists.{set_get, push_get}

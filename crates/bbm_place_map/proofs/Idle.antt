@@ -1,11 +1,11 @@
 -- Where nothing waits.
 use Rattle.std.proofs.Common.{◌≡◌, ℕ, ◌+◌, ◌<◌, Bool, true, false, not, ◌&&◌, ◌||◌, nat_eq, ◌==◌, suc, List, [], length, drop, get_or, Option, Some, None, refl, ap, sym, ◌∙◌, if◌then◌else◌, add-one, drop-cons, slice_get}
 use Rattle.std.proofs.lemmas.Nat.Bits.{bit_at-zero}
-use Rattle.bbm_entry_state.specs.regimes.PeMask.{pe_in}
-use Rattle.bbm_entry_state.specs.tlbi_scope.declared.entry.Cover.{Cover}
-use Rattle.bbm_entry_state.specs.tlbi_scope.declared.entry.Cover.TheVariants.{None as NoCover, Half, Second, Full}
-use Rattle.bbm_entry_state.specs.barriers.declared.Dsb.{Dsb}
-use Rattle.bbm_entry_state.specs.barriers.Options.{answers}
+use Rattle.bbm_regimes.specs.PeMask.{pe_in}
+use Rattle.bbm_tlbi_scope.specs.declared.entry.Cover.{Cover}
+use Rattle.bbm_tlbi_scope.specs.declared.entry.Cover.TheVariants.{None as NoCover, Half, Second, Full}
+use Rattle.bbm_barriers.specs.declared.Dsb.{Dsb}
+use Rattle.bbm_barriers.specs.Options.{answers}
 use Rattle.bbm_entry_state.specs.Points.{waits, waits_in}
 use Rattle.bbm_entry_state.specs.Standing.{IsIdle}
 use Rattle.bbm_entry_state.specs.declared.pending.Pend.{Pend}

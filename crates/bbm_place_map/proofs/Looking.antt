@@ -3,7 +3,7 @@ use Rattle.std.proofs.Common.{◌≡◌, ◌≢◌, ℕ, ◌+◌, ◌<◌, ◌�
 use Rattle.std.specs.Option.{option_map}
 use Rattle.std.proofs.lemmas.Bool.{cases_eq, lt-ltb, ltb-true, both_ways, false_from_ne_true}
 use Rattle.std.proofs.lemmas.Option.{same_Some}
-use Rattle.bbm_entry_state.specs.barriers.declared.Dsb.{Dsb}
+use Rattle.bbm_barriers.specs.declared.Dsb.{Dsb}
 use Rattle.bbm_place_map.specs.Cells.{slot_in}
 use Rattle.bbm_place_map.specs.Each.{Completes, loses_table}
 use Rattle.bbm_place_map.specs.Entries.{cell_at, entry_of, entry_in, marks_of}

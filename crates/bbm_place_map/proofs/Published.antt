@@ -1,9 +1,9 @@
 -- What a DSB publishes, of a place.
 use Rattle.std.proofs.Common.{◌≡◌, ℕ, Bool, true, false, ◌&&◌, ◌||◌, List, Option, Some, None, refl, ap, slice_get}
 use Rattle.smallvec.specs.SmallVec.{SmallVec}
-use Rattle.bbm_entry_state.specs.barriers.declared.Dsb.{Dsb}
-use Rattle.bbm_entry_state.specs.barriers.Options.{publishes}
-use Rattle.bbm_entry_state.specs.descriptor.declared.desc.Core.{Core}
+use Rattle.bbm_barriers.specs.declared.Dsb.{Dsb}
+use Rattle.bbm_barriers.specs.Options.{publishes}
+use Rattle.bbm_descriptor.specs.declared.desc.Core.{Core}
 use Rattle.bbm_entry_state.specs.Calls.{Published}
 use Rattle.bbm_place_map.specs.Cells.{slot_in}
 use Rattle.bbm_place_map.specs.Each.{Advances, Publishes}

@@ -3,14 +3,14 @@ use Rattle.std.proofs.Common.{◌≡◌, ◌≢◌, ℕ, Bool, true, false, not,
 use Rattle.std.proofs.lemmas.Bool.{cases_Bool, false≢true}
 use Rattle.std.proofs.lemmas.Option.{same_Some, none-some}
 use mathlib.Core.Path.{fun_ext}
-use Rattle.bbm_entry_state.specs.barriers.declared.Dsb.{Dsb}
-use Rattle.bbm_entry_state.specs.barriers.Options.{answers, answers_broadcast, answers_local, completed, has_broadcast, has_local, Completed as Answers}
-use Rattle.bbm_entry_state.specs.barriers.Options.Completed.{EveryTlbi, LocalTlbis, NoTlbi}
-use Rattle.bbm_entry_state.specs.descriptor.declared.desc.Core.{Core}
-use Rattle.bbm_entry_state.specs.regimes.EveryPe.{every_pe}
-use Rattle.bbm_entry_state.specs.regimes.PeMask.{pe_in}
-use Rattle.bbm_entry_state.specs.tlbi_scope.declared.entry.Cover.{Cover}
-use Rattle.bbm_entry_state.specs.tlbi_scope.declared.entry.Cover.TheVariants.{Half, Second, Full}
+use Rattle.bbm_barriers.specs.declared.Dsb.{Dsb}
+use Rattle.bbm_barriers.specs.Options.{answers, answers_broadcast, answers_local, completed, has_broadcast, has_local, Completed as Answers}
+use Rattle.bbm_barriers.specs.Options.Completed.{EveryTlbi, LocalTlbis, NoTlbi}
+use Rattle.bbm_descriptor.specs.declared.desc.Core.{Core}
+use Rattle.bbm_regimes.specs.EveryPe.{every_pe}
+use Rattle.bbm_regimes.specs.PeMask.{pe_in}
+use Rattle.bbm_tlbi_scope.specs.declared.entry.Cover.{Cover}
+use Rattle.bbm_tlbi_scope.specs.declared.entry.Cover.TheVariants.{Half, Second, Full}
 use Rattle.bbm_entry_state.specs.Answered.{answered_at}
 use Rattle.bbm_entry_state.specs.Calls.{half_after, clean_after}
 use Rattle.bbm_entry_state.specs.Points.{waits, core_in}

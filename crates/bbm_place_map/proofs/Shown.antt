@@ -1,13 +1,13 @@
 -- What the calls of break-before-make come to at their place.
 use Rattle.std.proofs.Common.{◌≡◌, ℕ, Bool, true, false, ◌&&◌, ◌||◌, nat_eq, nat_lt, ◌<◌, Option, Some, None, is_some, zero, suc, refl, ap, ◌∙◌, arith, if◌then◌else◌}
 use Rattle.std.proofs.lemmas.Bool.{and_from, or_left, or_right, eq-eqb, lt-ltb}
-use Rattle.bbm_entry_state.specs.regimes.EveryPe.{every_pe}
-use Rattle.bbm_entry_state.specs.regimes.PeMask.{pe_in}
-use Rattle.bbm_entry_state.specs.regimes.declared.pe.PeMask.{PeMask}
-use Rattle.bbm_entry_state.specs.descriptor.declared.desc.Core.{Core}
-use Rattle.bbm_entry_state.specs.barriers.declared.Dsb.{Dsb}
-use Rattle.bbm_entry_state.specs.barriers.Options.{publishes, answers}
-use Rattle.bbm_entry_state.specs.tlbi_scope.declared.entry.Cover.TheVariants.{Full, Second}
+use Rattle.bbm_regimes.specs.EveryPe.{every_pe}
+use Rattle.bbm_regimes.specs.PeMask.{pe_in}
+use Rattle.bbm_regimes.specs.declared.pe.PeMask.{PeMask}
+use Rattle.bbm_descriptor.specs.declared.desc.Core.{Core}
+use Rattle.bbm_barriers.specs.declared.Dsb.{Dsb}
+use Rattle.bbm_barriers.specs.Options.{publishes, answers}
+use Rattle.bbm_tlbi_scope.specs.declared.entry.Cover.TheVariants.{Full, Second}
 use Rattle.bbm_entry_state.specs.declared.marks.Marks.{Marks}
 use Rattle.bbm_entry_state.specs.declared.pending.Pends.{Pends}
 use Rattle.bbm_entry_state.specs.declared.state.EntryState.{EntryState}

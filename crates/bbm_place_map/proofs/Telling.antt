@@ -2,10 +2,10 @@
 use Rattle.std.proofs.Common.{◌≡◌, ℕ, ◌<◌, ◌⊎◌, Bool, true, false, ◌&&◌, ◌||◌, Option, Some, None, refl, arith, ap, sym, subst, ◌∙◌, inl, inr}
 use Rattle.std.proofs.lemmas.Bool.{cases_eq, ltb-true, eqb-true, and_from, false≢true}
 use Rattle.std.proofs.lemmas.Option.{same_Some}
-use Rattle.bbm_entry_state.specs.barriers.declared.Dsb.{Dsb}
-use Rattle.bbm_entry_state.specs.barriers.Options.{publishes, hears, audience, Audience}
-use Rattle.bbm_entry_state.specs.barriers.Options.Audience.{EveryPe, IssuerAlone, NoPe}
-use Rattle.bbm_entry_state.specs.regimes.PeMask.{pe_in}
+use Rattle.bbm_barriers.specs.declared.Dsb.{Dsb}
+use Rattle.bbm_barriers.specs.Options.{publishes, hears, audience, Audience}
+use Rattle.bbm_barriers.specs.Options.Audience.{EveryPe, IssuerAlone, NoPe}
+use Rattle.bbm_regimes.specs.PeMask.{pe_in}
 use Rattle.bbm_entry_state.specs.declared.marks.Marks.{Marks}
 use Rattle.bbm_place_map.specs.Each.{Advances, Publishes}
 use Rattle.bbm_place_map.specs.Works.{IsTold, MayPublish}

@@ -3,8 +3,8 @@ use Rattle.std.proofs.Common.{◌≡◌, ◌≢◌, ℕ, Bool, true, false, nat_
 use Rattle.std.specs.Option.{option_map}
 use Rattle.std.proofs.lemmas.Bool.{cases_eq, cases_Bool, eq-eqb, ne_eqb, eqb-true, false≢true, cond-true, cond-false}
 use Rattle.std.proofs.lemmas.Option.{same_Some, none-some, slice_get-map}
-use Rattle.bbm_entry_state.specs.regimes.declared.pe.PeMask.{PeMask}
-use Rattle.bbm_entry_state.specs.tlbi_scope.declared.entry.Cover.{Cover}
+use Rattle.bbm_regimes.specs.declared.pe.PeMask.{PeMask}
+use Rattle.bbm_tlbi_scope.specs.declared.entry.Cover.{Cover}
 use Rattle.bbm_place_map.specs.Cells.{slot_in}
 use Rattle.bbm_place_map.specs.Each.{Advances}
 use Rattle.bbm_place_map.specs.Entries.{seat}

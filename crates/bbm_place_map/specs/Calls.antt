@@ -3,12 +3,12 @@
 use Rattle.std.specs.Prelude.{◌≡◌, ℕ, Bool, false, Some, nat_eq, not, ◌&&◌, if◌then◌else◌}
 use Rattle.std.specs.Fn.{FnReturns, Shared}
 use denote.Ref.{Bor}
-use Rattle.bbm_entry_state.specs.descriptor.declared.desc.Core.{Core}
+use Rattle.bbm_descriptor.specs.declared.desc.Core.{Core}
 use Rattle.bbm_entry_state.specs.Points.{is_broken}
 use Rattle.bbm_entry_state.specs.Standing.{IsIdle}
 use Rattle.bbm_entry_state.specs.declared.marks.Marks.{Marks}
 use Rattle.bbm_entry_state.specs.declared.state.EntryState.{EntryState}
-use Rattle.bbm_entry_state.specs.tlbi_scope.declared.entry.Cover.{Cover}
+use Rattle.bbm_tlbi_scope.specs.declared.entry.Cover.{Cover}
 use Rattle.bbm_place_map.specs.Each.{loses_table}
 use Rattle.bbm_place_map.specs.Map.{value_at, marks_at, pends_at, is_tracked, restless_in, restless_place}
 use Rattle.bbm_place_map.specs.States.{marks_of_state}

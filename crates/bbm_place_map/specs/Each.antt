@@ -1,12 +1,12 @@
 -- How each entry changes in a call that concerns all of them.
 -- Source: project's own choice.
 use Rattle.std.specs.Prelude.{◌≡◌, ◌≢◌, ℕ, Bool, true, false, Option, Some, None, is_none, is_some, ◌&&◌}
-use Rattle.bbm_entry_state.specs.barriers.declared.Dsb.{Dsb}
+use Rattle.bbm_barriers.specs.declared.Dsb.{Dsb}
 use Rattle.bbm_entry_state.specs.Calls.{Published, Completed}
 use Rattle.bbm_entry_state.specs.Points.{waits}
-use Rattle.bbm_entry_state.specs.descriptor.declared.desc.Core.{Core}
-use Rattle.bbm_entry_state.specs.descriptor.declared.desc.Core.TheVariants.{Table, Leaf}
-use Rattle.bbm_entry_state.specs.tlbi_scope.declared.entry.Cover.{Cover}
+use Rattle.bbm_descriptor.specs.declared.desc.Core.{Core}
+use Rattle.bbm_descriptor.specs.declared.desc.Core.TheVariants.{Table, Leaf}
+use Rattle.bbm_tlbi_scope.specs.declared.entry.Cover.{Cover}
 use Rattle.bbm_entry_state.specs.declared.marks.Marks.{Marks}
 use Rattle.bbm_entry_state.specs.declared.state.EntryState.TheVariants.{Broken}
 use Rattle.bbm_place_map.specs.Entries.{seat, marks_of, pends_of}

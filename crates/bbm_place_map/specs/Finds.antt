@@ -1,8 +1,8 @@
 -- Places that a TLBI covers, each as far as stands beside it.
 -- Source: project's own choice.
 use Rattle.std.specs.Prelude.{◌≡◌, ℕ, Bool, false, List, [], ◌∷◌, All, nat_eq, ◌||◌, if◌then◌else◌}
-use Rattle.bbm_entry_state.specs.tlbi_scope.declared.entry.Cover.{Cover}
-use Rattle.bbm_entry_state.specs.tlbi_scope.declared.entry.Cover.TheVariants.{None as NoCover}
+use Rattle.bbm_tlbi_scope.specs.declared.entry.Cover.{Cover}
+use Rattle.bbm_tlbi_scope.specs.declared.entry.Cover.TheVariants.{None as NoCover}
 use Rattle.bbm_place_map.specs.declared.found.Found.{Found}
 
 -- whether a place is among them

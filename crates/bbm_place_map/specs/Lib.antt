@@ -11,4 +11,3 @@ pub mod Finds
 pub mod Notes
 pub mod Map
 pub mod Calls
-pub use Rattle.bbm_entry_state.specs as entry_state

@@ -1,7 +1,7 @@
 -- States of places.
 -- Source: project's own choice.
 use Rattle.std.specs.Prelude.{Option, Some, None}
-use Rattle.bbm_entry_state.specs.descriptor.declared.desc.Core.{Core}
+use Rattle.bbm_descriptor.specs.declared.desc.Core.{Core}
 use Rattle.bbm_entry_state.specs.declared.marks.Marks.{Marks}
 use Rattle.bbm_entry_state.specs.declared.state.EntryState.{EntryState}
 use Rattle.bbm_entry_state.specs.declared.state.EntryState.TheVariants.{Clean, Live, Broken}

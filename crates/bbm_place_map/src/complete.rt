@@ -18,10 +18,10 @@ use crate::entry::{Entry, is_idle, pends_of, take_answered};
 use crate::links::unlink;
 use crate::read::slot_of;
 use crate::work::{WorkList, add, restart};
-use bbm_entry_state::barriers::{Dsb, completes_broadcast, completes_local};
-use bbm_entry_state::descriptor::Core;
+use bbm_barriers::{Dsb, completes_broadcast, completes_local};
+use bbm_descriptor::Core;
 use bbm_entry_state::law_completes;
-use bbm_entry_state::regimes::Pe;
+use bbm_regimes::Pe;
 
 fn is_table(core: Core) -> bool
     ensures { result ≡ spec_is_table core }

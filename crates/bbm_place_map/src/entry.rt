@@ -10,12 +10,12 @@ ghost use Rattle.bbm_entry_state.specs.Calls.{Noted};
 ghost use Rattle.bbm_entry_state.specs.Points.{waits_in};
 ghost use Rattle.bbm_entry_state.specs.Standing.{IsIdle};
 ghost use Rattle.bbm_entry_state.specs.declared.state.EntryState.TheVariants as state;
-ghost use Rattle.bbm_entry_state.specs.tlbi_scope.declared.entry.Cover.{Cover as TheCover};
+ghost use Rattle.bbm_tlbi_scope.specs.declared.entry.Cover.{Cover as TheCover};
 
-use bbm_entry_state::barriers::Dsb;
-use bbm_entry_state::regimes::{NoMemory, Pe, PeMask, Place};
-use bbm_entry_state::tlbi_scope::Cover;
+use bbm_barriers::Dsb;
 use bbm_entry_state::{Marks, Pend, Pends};
+use bbm_regimes::{NoMemory, Pe, PeMask, Place};
+use bbm_tlbi_scope::Cover;
 use smallvec::SmallVec;
 
 /// What waits at a place for the answers of one issuer's TLBIs.

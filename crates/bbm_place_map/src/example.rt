@@ -4,10 +4,10 @@ ghost use Rattle.std.specs.Prelude.{◌≡◌, ◌≤◌, ◌<◌, ℕ, None, On
 ghost use Rattle.bbm_place_map.specs.Map.{value_at, marks_at, is_tracked, page_of};
 
 use crate::map::PlaceMap;
-use bbm_entry_state::barriers::{Domain, Dsb, Types};
-use bbm_entry_state::descriptor::Core;
-use bbm_entry_state::regimes::{NoMemory, Pe, PeMask, Place};
-use bbm_entry_state::tlbi_scope::Cover;
+use bbm_barriers::{Domain, Dsb, Types};
+use bbm_descriptor::Core;
+use bbm_regimes::{NoMemory, Pe, PeMask, Place};
+use bbm_tlbi_scope::Cover;
 use std::alloc::Global;
 
 /// A DSB of the inner shareable domain, for stores. It completes no TLBI.

@@ -1,8 +1,8 @@
 //! How far a TLBI covers a place.
 //! Source: project's own choice, where no other is named.
 
-use bbm_entry_state::regimes::Place;
-use bbm_entry_state::tlbi_scope::Cover;
+use bbm_regimes::Place;
+use bbm_tlbi_scope::Cover;
 use std::marker::Model;
 
 /// A place, and how far a TLBI covers it.
@@ -21,7 +21,7 @@ pub struct Answer {
 }
 
 impl Model for Answer {
-    ghost use Rattle.bbm_entry_state.specs.tlbi_scope.declared.entry.Cover.{Cover as TheCover};
+    ghost use Rattle.bbm_tlbi_scope.specs.declared.entry.Cover.{Cover as TheCover};
 
     ghost Value = { TheCover };
 

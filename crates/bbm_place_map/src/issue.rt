@@ -4,7 +4,7 @@ ghost use Rattle.std.specs.Prelude.{◌≡◌, ◌≢◌, ◌<◌, ◌+◌, ◌^
 ghost use Rattle.bbm_entry_state.specs.Calls.{Noted};
 ghost use Rattle.bbm_entry_state.specs.Standing.{IsIdle};
 ghost use Rattle.bbm_entry_state.specs.declared.state.EntryState.TheVariants as state;
-ghost use Rattle.bbm_entry_state.specs.tlbi_scope.declared.entry.Cover.{Cover as TheCover};
+ghost use Rattle.bbm_tlbi_scope.specs.declared.entry.Cover.{Cover as TheCover};
 ghost use Rattle.bbm_place_map.specs.Each.{Advances};
 ghost use Rattle.bbm_place_map.specs.Entries.{seat, pends_in, HasRoom};
 ghost use Rattle.bbm_place_map.specs.Finds.{is_found};
@@ -19,8 +19,8 @@ use crate::entry::{Entry, make_room_for_issuer, note_pends};
 use crate::found::{Answer, Found};
 use crate::read::entry_at;
 use crate::work::{WorkList, add_for};
-use bbm_entry_state::regimes::{NoMemory, Pe, PeMask, Place};
-use bbm_entry_state::tlbi_scope::Cover;
+use bbm_regimes::{NoMemory, Pe, PeMask, Place};
+use bbm_tlbi_scope::Cover;
 use indexmap::IndexMap;
 
 /// Whether a TLBI covers a place at all.

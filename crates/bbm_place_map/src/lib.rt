@@ -32,7 +32,6 @@ mod seat;
 mod work;
 mod write;
 
-pub use bbm_entry_state as entry_state;
 pub use example::break_before_make;
 pub use found::Found;
 pub use map::PlaceMap;

@@ -9,7 +9,7 @@ ghost use Rattle.bbm_place_map.specs.Sound.{Linked, Placed};
 use crate::cell::Cell;
 use crate::entry::Entry;
 use bbm_entry_state::Marks;
-use bbm_entry_state::regimes::Place;
+use bbm_regimes::Place;
 use smallvec::SmallVec;
 use std::alloc::Global;
 

@@ -15,9 +15,9 @@ use crate::entry::Entry;
 use crate::read::{broken_marks, slot_of};
 use crate::work::{WorkList, add, restart};
 use crate::write::remark;
-use bbm_entry_state::barriers::{Dsb, publishes_to};
-use bbm_entry_state::regimes::{Pe, PeMask};
+use bbm_barriers::{Dsb, publishes_to};
 use bbm_entry_state::{EntryState, Marks};
+use bbm_regimes::{Pe, PeMask};
 
 /// The marks after a DSB of the issuer published its writes.
 fn published(marks: Marks, issuer: Pe, dsb: Dsb, n: u8) -> Marks

@@ -12,9 +12,9 @@ ghost use Rattle.bbm_place_map.specs.States.{state_from};
 
 use crate::cell::Cell;
 use crate::entry::{Entry, pends_of};
-use bbm_entry_state::descriptor::Core;
-use bbm_entry_state::regimes::{Pe, Place};
+use bbm_descriptor::Core;
 use bbm_entry_state::{EntryState, Marks, Pends};
+use bbm_regimes::{Pe, Place};
 use indexmap::IndexMap;
 
 /// The state of a place that isn't broken: live with this core, or clean without one.

@@ -1,6 +1,6 @@
 //! Where a place is kept.
 
-use bbm_entry_state::regimes::Place;
+use bbm_regimes::Place;
 
 /// Where a place of a tracked page is kept, for calls before the map changes. Source: project's own choice.
 #[derive(Clone, Copy, Debug)]

@@ -2,11 +2,11 @@
 //! Source: project's own choice, where no other is named.
 
 ghost use Rattle.std.specs.Prelude.{◌≡◌, ◌≢◌, ◌≤◌, ◌<◌, ◌⊎◌, ℕ, Some, true, false, Contains, vec_len, length, slice_get};
-ghost use Rattle.bbm_entry_state.specs.regimes.PeMask.{pe_in};
+ghost use Rattle.bbm_regimes.specs.PeMask.{pe_in};
 ghost use Rattle.bbm_place_map.specs.Works.{GivesUp, Holds, HoldsFor, is_clean, IsToldAsBefore};
 
 use bbm_entry_state::Marks;
-use bbm_entry_state::regimes::{Pe, PeMask};
+use bbm_regimes::{Pe, PeMask};
 use std::alloc::Global;
 
 /// The numbers of cells at whose places something may be left to do, unless there were too many. A cell may stand here

@@ -12,7 +12,7 @@ use crate::cell::Cell;
 use crate::entry::Entry;
 use crate::links::{link, put_value, unlink};
 use bbm_entry_state::Marks;
-use bbm_entry_state::regimes::Place;
+use bbm_regimes::Place;
 use std::alloc::Global;
 
 /// Changes the marks of an entry.

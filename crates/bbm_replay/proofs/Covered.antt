@@ -1,32 +1,32 @@
 -- How far a TLBI covers a broken place.
 use Rattle.std.proofs.Common.{◌≡◌, ℕ, suc, Bool, true, false, List, Option, Some, None, is_some, option_and_then, refl, sym, ◌∙◌, ap}
 use Rattle.std.specs.Prelude.{unwrap_or}
-use Rattle.bbm_replay_entries.specs.descriptor.Descriptor.{core_of, desc_of}
-use Rattle.bbm_replay_entries.specs.descriptor.Descriptor as descriptor
-use Rattle.bbm_replay_entries.specs.descriptor.declared.desc.Core.{Core}
-use Rattle.bbm_replay_entries.specs.descriptor.declared.desc.Core.TheVariants as core
-use Rattle.bbm_replay_entries.specs.descriptor.declared.desc.Desc.{Desc}
-use Rattle.bbm_replay_entries.specs.descriptor.declared.desc.Desc.TheVariants.{Invalid, Table, Leaf}
-use Rattle.bbm_replay_entries.specs.entry_state.Points.{core_in}
-use Rattle.bbm_replay_entries.specs.entry_state.declared.marks.Marks.{Marks}
-use Rattle.bbm_replay_entries.specs.entry_state.declared.state.EntryState.TheVariants.{Broken, Clean, Live}
-use Rattle.bbm_replay_trees.specs.place_map.Each.{is_table}
-use Rattle.bbm_replay_trees.specs.place_map.Map.{marks_at, value_at}
-use Rattle.bbm_replay_trees.specs.place_map.States.{state_from}
-use Rattle.bbm_replay_trees.specs.place_map.declared.map.PlaceMap.{PlaceMap}
-use Rattle.bbm_replay_entries.specs.tlbi_scope.Covers as scopes
-use Rattle.bbm_replay_entries.specs.tlbi_scope.declared.entry.Cover.TheVariants.{None as NoCover}
-use Rattle.bbm_replay_entries.specs.tlbi_scope.declared.entry.PlaceView.{PlaceView}
-use Rattle.bbm_replay_entries.specs.tlbi_scope.declared.entry.TagSet.{TagSet}
-use Rattle.bbm_replay_entries.specs.rules.Claims.Trust.{Patterns}
-use Rattle.bbm_replay_entries.specs.rules.Covers.{cover_at, is_global, view_at}
-use Rattle.bbm_replay_entries.specs.rules.Notes.{events_of}
-use Rattle.bbm_replay_entries.specs.rules.Places.{page_of}
-use Rattle.bbm_replay_entries.specs.rules.Prelude.{Kind, Heading, Event, Scope, TlbiOp, Tlbi}
-use Rattle.bbm_replay_entries.specs.rules.Registers.{named_scope, vmid_of}
-use Rattle.bbm_replay_entries.specs.rules.Tags.{tag_set, tags_of}
-use Rattle.bbm_replay_entries.specs.rules.Tree.{Node, held_at, is_childless, next_in, next_of, node_of, region_of}
-use Rattle.bbm_replay_trees.specs.tree_index.Held as index
+use Rattle.bbm_descriptor.specs.Descriptor.{core_of, desc_of}
+use Rattle.bbm_descriptor.specs.Descriptor as descriptor
+use Rattle.bbm_descriptor.specs.declared.desc.Core.{Core}
+use Rattle.bbm_descriptor.specs.declared.desc.Core.TheVariants as core
+use Rattle.bbm_descriptor.specs.declared.desc.Desc.{Desc}
+use Rattle.bbm_descriptor.specs.declared.desc.Desc.TheVariants.{Invalid, Table, Leaf}
+use Rattle.bbm_entry_state.specs.Points.{core_in}
+use Rattle.bbm_entry_state.specs.declared.marks.Marks.{Marks}
+use Rattle.bbm_entry_state.specs.declared.state.EntryState.TheVariants.{Broken, Clean, Live}
+use Rattle.bbm_place_map.specs.Each.{is_table}
+use Rattle.bbm_place_map.specs.Map.{marks_at, value_at}
+use Rattle.bbm_place_map.specs.States.{state_from}
+use Rattle.bbm_place_map.specs.declared.map.PlaceMap.{PlaceMap}
+use Rattle.bbm_tlbi_scope.specs.Covers as scopes
+use Rattle.bbm_tlbi_scope.specs.declared.entry.Cover.TheVariants.{None as NoCover}
+use Rattle.bbm_tlbi_scope.specs.declared.entry.PlaceView.{PlaceView}
+use Rattle.bbm_tlbi_scope.specs.declared.entry.TagSet.{TagSet}
+use Rattle.bbm_rules.specs.Claims.Trust.{Patterns}
+use Rattle.bbm_rules.specs.Covers.{cover_at, is_global, view_at}
+use Rattle.bbm_rules.specs.Notes.{events_of}
+use Rattle.bbm_rules.specs.Places.{page_of}
+use Rattle.bbm_rules.specs.Prelude.{Kind, Heading, Event, Scope, TlbiOp, Tlbi}
+use Rattle.bbm_rules.specs.Registers.{named_scope, vmid_of}
+use Rattle.bbm_rules.specs.Tags.{tag_set, tags_of}
+use Rattle.bbm_rules.specs.Tree.{Node, held_at, is_childless, next_in, next_of, node_of, region_of}
+use Rattle.bbm_tree_index.specs.Held as index
 use Rattle.bbm_replay_trees.specs.Told.{Childless, notes}
 use Rattle.bbm_replay.specs.Leaves.{is_global_core}
 

@@ -2,28 +2,28 @@
 use Rattle.std.proofs.Common.{◌≡◌, ℕ, zero, suc, ◌+◌, ◌*◌, ◌%◌, ◌<◌, ◌≤◌, ◌&&◌, ◌==◌, nat_le, Bool, true, false, cond, List, [], ◌∷◌, length, Option, Some, is_none, not, refl, sym, ◌∙◌, ap, subst, arith, true≢false}
 use Rattle.std.proofs.Math.Nat.{mul-le-mul_right}
 use Rattle.std.proofs.lemmas.Bool.{eq-eqb}
-use Rattle.bbm_replay_entries.specs.descriptor.declared.desc.Core.{Core}
-use Rattle.bbm_replay_entries.specs.regimes.Extent.{Extent, holds, meets}
-use Rattle.bbm_replay_entries.specs.regimes.World.{input_pages}
-use Rattle.bbm_replay_entries.specs.regimes.declared.regime.Kind.{Kind}
-use Rattle.bbm_replay_entries.specs.regimes.declared.regime.Kind.TheVariants.{El2, S2, Ttbr0, Ttbr1}
-use Rattle.bbm_replay_entries.specs.tlbi_scope.Covers.{cover_by, cover_of, fits_place}
-use Rattle.bbm_replay_entries.specs.tlbi_scope.Numbers.{hint_allows, lacks_vmid, names_all, names_some}
-use Rattle.bbm_replay_entries.specs.tlbi_scope.Operations.{has_page}
-use Rattle.bbm_replay_entries.specs.tlbi_scope.declared.entry.Cover.TheVariants.{None as NoCover}
-use Rattle.bbm_replay_entries.specs.tlbi_scope.declared.entry.PlaceView.{PlaceView}
-use Rattle.bbm_replay_entries.specs.tlbi_scope.declared.scope.Family.{Family}
-use Rattle.bbm_replay_entries.specs.tlbi_scope.declared.scope.Family.TheVariants.{El2All, El2Va, E1All, VmAll1, VmAll12, Ipa, Va, VaAll, Asid}
-use Rattle.bbm_replay_entries.specs.tlbi_scope.declared.scope.Scope.{Scope}
-use Rattle.bbm_replay_entries.specs.events.Heading.{Heading}
-use Rattle.bbm_replay_entries.specs.rules.Broken.{keeps}
-use Rattle.bbm_replay_entries.specs.rules.Claims.Trust.{Patterns}
-use Rattle.bbm_replay_entries.specs.rules.Places.{index_of, page_of}
-use Rattle.bbm_replay_entries.specs.rules.Prelude.{Event}
-use Rattle.bbm_replay_entries.specs.rules.Tree.{Above, Node, region_start}
+use Rattle.bbm_descriptor.specs.declared.desc.Core.{Core}
+use Rattle.bbm_regimes.specs.Extent.{Extent, holds, meets}
+use Rattle.bbm_regimes.specs.World.{input_pages}
+use Rattle.bbm_regimes.specs.declared.regime.Kind.{Kind}
+use Rattle.bbm_regimes.specs.declared.regime.Kind.TheVariants.{El2, S2, Ttbr0, Ttbr1}
+use Rattle.bbm_tlbi_scope.specs.Covers.{cover_by, cover_of, fits_place}
+use Rattle.bbm_tlbi_scope.specs.Numbers.{hint_allows, lacks_vmid, names_all, names_some}
+use Rattle.bbm_tlbi_scope.specs.Operations.{has_page}
+use Rattle.bbm_tlbi_scope.specs.declared.entry.Cover.TheVariants.{None as NoCover}
+use Rattle.bbm_tlbi_scope.specs.declared.entry.PlaceView.{PlaceView}
+use Rattle.bbm_tlbi_scope.specs.declared.scope.Family.{Family}
+use Rattle.bbm_tlbi_scope.specs.declared.scope.Family.TheVariants.{El2All, El2Va, E1All, VmAll1, VmAll12, Ipa, Va, VaAll, Asid}
+use Rattle.bbm_tlbi_scope.specs.declared.scope.Scope.{Scope}
+use Rattle.bbm_events.specs.Heading.{Heading}
+use Rattle.bbm_rules.specs.Broken.{keeps}
+use Rattle.bbm_rules.specs.Claims.Trust.{Patterns}
+use Rattle.bbm_rules.specs.Places.{index_of, page_of}
+use Rattle.bbm_rules.specs.Prelude.{Event}
+use Rattle.bbm_rules.specs.Tree.{Above, Node, region_start}
 use Rattle.bbm_replay_trees.specs.Told.{AllFit, SameCores, SameNodes}
-use Rattle.bbm_replay_trees.specs.tree_index.Descent.{IsWay, Translates}
-use Rattle.bbm_replay_trees.specs.tree_index.Held.{is_at, next_in}
+use Rattle.bbm_tree_index.specs.Descent.{IsWay, Translates}
+use Rattle.bbm_tree_index.specs.Held.{is_at, next_in}
 use Rattle.bbm_replay.specs.Laws.{Laws}
 use Rattle.bbm_replay.specs.OnePage.{NamesOne, covers_kind}
 use Rattle.bbm_replay.proofs.Extents.{holds_meets}

@@ -1,10 +1,10 @@
 -- A view of nothing, for the empty history.
 use Rattle.std.proofs.Common.{◌≡◌, ℕ, true, false, [], Some, None, refl, sym, ◌∙◌, true≢false}
-use Rattle.bbm_replay_entries.specs.events.Heading.{heading_ok}
-use Rattle.bbm_replay_entries.specs.rules.Claims.Trust.{Patterns}
-use Rattle.bbm_replay_entries.specs.rules.Places.{page_of}
-use Rattle.bbm_replay_entries.specs.rules.Prelude.{Heading}
-use Rattle.bbm_replay_entries.specs.rules.Tree.{node_of, tree}
+use Rattle.bbm_events.specs.Heading.{heading_ok}
+use Rattle.bbm_rules.specs.Claims.Trust.{Patterns}
+use Rattle.bbm_rules.specs.Places.{page_of}
+use Rattle.bbm_rules.specs.Prelude.{Heading}
+use Rattle.bbm_rules.specs.Tree.{node_of, tree}
 use Rattle.bbm_replay.specs.Told.{Told}
 use Rattle.bbm_replay.specs.View.{View}
 

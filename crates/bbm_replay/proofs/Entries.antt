@@ -1,17 +1,17 @@
 -- One place after an event that leaves it.
 use Rattle.std.proofs.Common.{◌≡◌, ℕ, ◌<◌, Bool, true, false, ◌&&◌, List, ◌∷◌, Option, Some, None, refl, sym, ◌∙◌, ap, subst}
-use Rattle.bbm_replay_entries.specs.descriptor.Descriptor.{core_of}
-use Rattle.bbm_replay_entries.specs.entry_state.Points.{is_broken, waits}
-use Rattle.bbm_replay_entries.specs.entry_state.declared.marks.Marks.{Marks}
-use Rattle.bbm_replay_entries.specs.entry_state.declared.pending.Pends.{Pends}
-use Rattle.bbm_replay_entries.specs.entry_state.declared.state.EntryState.{EntryState}
-use Rattle.bbm_replay_trees.specs.place_map.States.{state_from}
-use Rattle.bbm_replay_entries.specs.events.Fits.{fits_heading}
-use Rattle.bbm_replay_entries.specs.rules.Broken.{broken, keeps}
-use Rattle.bbm_replay_entries.specs.rules.Claims.Trust.{Patterns}
-use Rattle.bbm_replay_entries.specs.rules.Places.{page_of}
-use Rattle.bbm_replay_entries.specs.rules.Prelude.{Kind, Heading, Event}
-use Rattle.bbm_replay_entries.specs.rules.Tree.{Node}
+use Rattle.bbm_descriptor.specs.Descriptor.{core_of}
+use Rattle.bbm_entry_state.specs.Points.{is_broken, waits}
+use Rattle.bbm_entry_state.specs.declared.marks.Marks.{Marks}
+use Rattle.bbm_entry_state.specs.declared.pending.Pends.{Pends}
+use Rattle.bbm_entry_state.specs.declared.state.EntryState.{EntryState}
+use Rattle.bbm_place_map.specs.States.{state_from}
+use Rattle.bbm_events.specs.Fits.{fits_heading}
+use Rattle.bbm_rules.specs.Broken.{broken, keeps}
+use Rattle.bbm_rules.specs.Claims.Trust.{Patterns}
+use Rattle.bbm_rules.specs.Places.{page_of}
+use Rattle.bbm_rules.specs.Prelude.{Kind, Heading, Event}
+use Rattle.bbm_rules.specs.Tree.{Node}
 use Rattle.bbm_replay_entries.specs.Events.{touches}
 use Rattle.bbm_replay_entries.specs.Stands.{EntryStands}
 use Rattle.bbm_replay_trees.specs.Told.{AllFit}

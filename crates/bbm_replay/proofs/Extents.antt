@@ -2,7 +2,7 @@
 use Rattle.std.proofs.Common.{◌≡◌, ◌≤◌, nat_le, Bool, true, false, refl, sym, ◌∙◌, arith, true≢false}
 use Rattle.std.proofs.lemmas.Bool.{and_parts, leb-true, le-leb}
 use Rattle.std.specs.Cmp.Derive.{both_true}
-use Rattle.bbm_replay_entries.specs.regimes.Extent.{Extent, holds, meets}
+use Rattle.bbm_regimes.specs.Extent.{Extent, holds, meets}
 
 -- an interval that holds all of another, which is not empty, meets it
 pub holds_meets : (i r : Extent) → r.lo ≤ r.hi → meets i r ≡ false → holds i r ≡ false

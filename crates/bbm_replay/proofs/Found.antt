@@ -1,12 +1,12 @@
 -- The path of a place, by the node of its page.
 use Rattle.std.proofs.Common.{◌≡◌, ℕ, ◌≤◌, ◌<◌, List, Option, Some, None, refl, sym, ◌∙◌, ap, arith}
 use Rattle.std.specs.Option.{option_map}
-use Rattle.bbm_replay_entries.specs.rules.Places.{page_of}
-use Rattle.bbm_replay_entries.specs.rules.Prelude.{Heading, Event}
-use Rattle.bbm_replay_entries.specs.rules.Tree.{Node}
-use Rattle.bbm_replay_trees.specs.tree_index.Index.{node_in}
-use Rattle.bbm_replay_trees.specs.tree_index.Nodes.{path_at}
-use Rattle.bbm_replay_trees.specs.tree_index.declared.role.Path.{Path}
+use Rattle.bbm_rules.specs.Places.{page_of}
+use Rattle.bbm_rules.specs.Prelude.{Heading, Event}
+use Rattle.bbm_rules.specs.Tree.{Node}
+use Rattle.bbm_tree_index.specs.Index.{node_in}
+use Rattle.bbm_tree_index.specs.Nodes.{path_at}
+use Rattle.bbm_tree_index.specs.declared.role.Path.{Path}
 use Rattle.bbm_replay.specs.Laws.{Laws}
 use Rattle.bbm_replay.specs.Standing.{IsAt, Stands}
 use Rattle.bbm_replay.specs.declared.parts.Parts.{Parts}

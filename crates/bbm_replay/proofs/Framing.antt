@@ -1,12 +1,12 @@
 -- The parts after an event, by what their objects say.
 use Rattle.std.proofs.Common.{List, ◌∙◌, ap}
-use Rattle.bbm_replay_entries.specs.rules.Prelude.{Heading, Event}
-use Rattle.bbm_replay_entries.specs.entry_state.Points.{waits}
-use Rattle.bbm_replay_entries.specs.entry_state.declared.pending.Pends.{Pends}
-use Rattle.bbm_replay_trees.specs.place_map.Calls.{IsSame}
-use Rattle.bbm_replay_trees.specs.place_map.declared.map.PlaceMap.{PlaceMap}
-use Rattle.bbm_replay_trees.specs.tree_index.Index.{SamePages, SameTracked}
-use Rattle.bbm_replay_trees.specs.tree_index.declared.index.TreeIndex.{TreeIndex}
+use Rattle.bbm_rules.specs.Prelude.{Heading, Event}
+use Rattle.bbm_entry_state.specs.Points.{waits}
+use Rattle.bbm_entry_state.specs.declared.pending.Pends.{Pends}
+use Rattle.bbm_place_map.specs.Calls.{IsSame}
+use Rattle.bbm_place_map.specs.declared.map.PlaceMap.{PlaceMap}
+use Rattle.bbm_tree_index.specs.Index.{SamePages, SameTracked}
+use Rattle.bbm_tree_index.specs.declared.index.TreeIndex.{TreeIndex}
 use Rattle.bbm_replay_roots.specs.Stands as roots
 use Rattle.bbm_replay.specs.Laws.{Laws}
 use Rattle.bbm_replay.proofs.Moves.{Same}

@@ -1,15 +1,15 @@
 -- Pages that leave, as the index tells it; and a retired root at the parts.
 use Rattle.std.proofs.Common.{◌≡◌, ℕ, Bool, true, false, cond, not, ◌==◌, List, ◌∷◌, Option, Some, None, Ok, Err, refl, sym, ◌∙◌, ap}
-use Rattle.bbm_replay_entries.specs.entry_state.Points.{waits}
-use Rattle.bbm_replay_entries.specs.entry_state.declared.marks.Marks.{Marks}
-use Rattle.bbm_replay_entries.specs.entry_state.declared.pending.Pends.{Pends}
-use Rattle.bbm_replay_entries.specs.rules.Broken.{broken}
-use Rattle.bbm_replay_entries.specs.rules.Claims.Trust.{Patterns}
-use Rattle.bbm_replay_entries.specs.rules.Places.{page_of}
-use Rattle.bbm_replay_entries.specs.rules.Prelude.{Heading, Event, Unroot}
-use Rattle.bbm_replay_entries.specs.rules.Tree.{Node}
-use Rattle.bbm_replay_entries.specs.rules.declared.step_fault.StepFault.{StepFault}
-use Rattle.bbm_replay_trees.specs.tree_index.Held.{leaves}
+use Rattle.bbm_entry_state.specs.Points.{waits}
+use Rattle.bbm_entry_state.specs.declared.marks.Marks.{Marks}
+use Rattle.bbm_entry_state.specs.declared.pending.Pends.{Pends}
+use Rattle.bbm_rules.specs.Broken.{broken}
+use Rattle.bbm_rules.specs.Claims.Trust.{Patterns}
+use Rattle.bbm_rules.specs.Places.{page_of}
+use Rattle.bbm_rules.specs.Prelude.{Heading, Event, Unroot}
+use Rattle.bbm_rules.specs.Tree.{Node}
+use Rattle.bbm_rules.specs.declared.step_fault.StepFault.{StepFault}
+use Rattle.bbm_tree_index.specs.Held.{leaves}
 use Rattle.bbm_replay_roots.specs.Stands as roots
 use Rattle.bbm_replay_trees.specs.Told.{kept}
 use Rattle.bbm_replay.specs.Laws.{Laws}

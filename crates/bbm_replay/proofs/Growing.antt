@@ -1,21 +1,21 @@
 -- Pages that are attached.
 use Rattle.std.proofs.Common.{◌≡◌, ℕ, Bool, true, false, ◌⊎◌, List, [], ◌∷◌, Option, Some, None, refl, sym, ◌∙◌, ap, subst, inl, inr}
-use Rattle.bbm_replay_entries.specs.descriptor.Descriptor.{core_of}
-use Rattle.bbm_replay_entries.specs.descriptor.declared.desc.Core.{Core}
-use Rattle.bbm_replay_entries.specs.entry_state.Points.{core_in, is_broken}
-use Rattle.bbm_replay_entries.specs.entry_state.Standing.{IsIdle}
-use Rattle.bbm_replay_entries.specs.entry_state.declared.marks.Marks.{Marks}
-use Rattle.bbm_replay_trees.specs.place_map.States.{state_from}
-use Rattle.bbm_replay_entries.specs.events.Fits.{fits_heading}
-use Rattle.bbm_replay_entries.specs.rules.Broken.{broken}
-use Rattle.bbm_replay_entries.specs.rules.Claims.Trust.{Patterns}
-use Rattle.bbm_replay_entries.specs.rules.Places.{page_of}
-use Rattle.bbm_replay_entries.specs.rules.Prelude.{Kind, Heading, Event, Root}
-use Rattle.bbm_replay_entries.specs.rules.Tree.{Node, node_below, nodes_of_root}
-use Rattle.bbm_replay_entries.specs.rules.Values.{value_of}
+use Rattle.bbm_descriptor.specs.Descriptor.{core_of}
+use Rattle.bbm_descriptor.specs.declared.desc.Core.{Core}
+use Rattle.bbm_entry_state.specs.Points.{core_in, is_broken}
+use Rattle.bbm_entry_state.specs.Standing.{IsIdle}
+use Rattle.bbm_entry_state.specs.declared.marks.Marks.{Marks}
+use Rattle.bbm_place_map.specs.States.{state_from}
+use Rattle.bbm_events.specs.Fits.{fits_heading}
+use Rattle.bbm_rules.specs.Broken.{broken}
+use Rattle.bbm_rules.specs.Claims.Trust.{Patterns}
+use Rattle.bbm_rules.specs.Places.{page_of}
+use Rattle.bbm_rules.specs.Prelude.{Kind, Heading, Event, Root}
+use Rattle.bbm_rules.specs.Tree.{Node, node_below, nodes_of_root}
+use Rattle.bbm_rules.specs.Values.{value_of}
 use Rattle.bbm_replay_entries.specs.Events.{touches}
 use Rattle.bbm_replay_entries.specs.Stands.{EntryStands}
-use Rattle.bbm_replay_trees.specs.tree_index.Paths.{Attached, Through}
+use Rattle.bbm_tree_index.specs.Paths.{Attached, Through}
 use Rattle.bbm_replay.specs.Laws.{Laws}
 use Rattle.bbm_replay.proofs.Moves.{Alike, Attaches, Grown, SameMap}
 use Rattle.bbm_replay.specs.Told.{Told}

@@ -1,35 +1,35 @@
 -- A write at a place of a tree, at the parts.
 use Rattle.std.proofs.Common.{◌≡◌, ℕ, zero, suc, ◌<◌, arith, ◌%◌, Bool, true, false, cond, not, ◌&&◌, ◌⊎◌, ◌==◌, List, [], ◌∷◌, Option, Some, None, is_none, is_some, option_and_then, Result, Ok, Err, refl, sym, ◌∙◌, ap, subst, true≢false, inl, inr}
 use Rattle.std.specs.Option.{option_map_or}
-use Rattle.bbm_replay_entries.specs.descriptor.Fields.{type_bits}
-use Rattle.bbm_replay_entries.specs.descriptor.Descriptor.{core_of, desc_as, desc_of, differ, invalid, is_valid, leaf}
-use Rattle.bbm_replay_entries.specs.descriptor.Descriptor as descriptor
-use Rattle.bbm_replay_entries.specs.descriptor.declared.desc.Core.{Core}
-use Rattle.bbm_replay_entries.specs.descriptor.declared.desc.Desc.{Desc}
-use Rattle.bbm_replay_entries.specs.descriptor.declared.desc.Desc.TheVariants.{Invalid, Table, Leaf}
-use Rattle.bbm_replay_entries.specs.entry_state.Calls.{Written}
-use Rattle.bbm_replay_entries.specs.entry_state.Standing.{IsIdle}
-use Rattle.bbm_replay_entries.specs.entry_state.declared.state.EntryState.{EntryState}
-use Rattle.bbm_replay_entries.specs.regimes.Same.{same_kind}
-use Rattle.bbm_replay_entries.specs.rules.Answers.{is_written, rewrites}
-use Rattle.bbm_replay_entries.specs.rules.Attach.{attached_by}
-use Rattle.bbm_replay_entries.specs.rules.Broken.{broken}
-use Rattle.bbm_replay_entries.specs.rules.Claims.Trust.{Patterns}
-use Rattle.bbm_replay_entries.specs.rules.Covers.{is_global}
-use Rattle.bbm_replay_entries.specs.rules.Lists.{if_so}
-use Rattle.bbm_replay_entries.specs.rules.Places.{page_of}
-use Rattle.bbm_replay_entries.specs.rules.Prelude.{Kind, Ttbr0, Heading, Event, Write}
-use Rattle.bbm_replay_entries.specs.rules.Roots.{lock_of}
-use Rattle.bbm_replay_entries.specs.rules.Rules.{bad_kind, break_before_make, global_user, is_contiguous, lacks, limbo_make, no_lock}
-use Rattle.bbm_replay_entries.specs.rules.Rules.{not_fresh, null_written, rewritten_fresh}
-use Rattle.bbm_replay_entries.specs.rules.Tree.{Node, held_at, next_in, next_of, node_below, node_of}
-use Rattle.bbm_replay_entries.specs.rules.declared.rule.Rule.TheVariants.{NoLock, NullWritten, BreakBeforeMake, LimboMake}
-use Rattle.bbm_replay_entries.specs.rules.declared.rule.Rule.TheVariants.{NotFresh, RewrittenFresh, BadKind, GlobalUser}
-use Rattle.bbm_replay_entries.specs.rules.declared.step_fault.StepFault.TheVariants.{Broken}
-use Rattle.bbm_replay_trees.specs.place_map.Map.{marks_at, pends_at, value_at}
-use Rattle.bbm_replay_trees.specs.tree_index.Held.{limbo_at}
-use Rattle.bbm_replay_trees.specs.tree_index.Index.{fresh_in, node_in, null_in}
-use Rattle.bbm_replay_trees.specs.tree_index.declared.role.Path.{Path}
+use Rattle.bbm_descriptor.specs.Fields.{type_bits}
+use Rattle.bbm_descriptor.specs.Descriptor.{core_of, desc_as, desc_of, differ, invalid, is_valid, leaf}
+use Rattle.bbm_descriptor.specs.Descriptor as descriptor
+use Rattle.bbm_descriptor.specs.declared.desc.Core.{Core}
+use Rattle.bbm_descriptor.specs.declared.desc.Desc.{Desc}
+use Rattle.bbm_descriptor.specs.declared.desc.Desc.TheVariants.{Invalid, Table, Leaf}
+use Rattle.bbm_entry_state.specs.Calls.{Written}
+use Rattle.bbm_entry_state.specs.Standing.{IsIdle}
+use Rattle.bbm_entry_state.specs.declared.state.EntryState.{EntryState}
+use Rattle.bbm_regimes.specs.Same.{same_kind}
+use Rattle.bbm_rules.specs.Answers.{is_written, rewrites}
+use Rattle.bbm_rules.specs.Attach.{attached_by}
+use Rattle.bbm_rules.specs.Broken.{broken}
+use Rattle.bbm_rules.specs.Claims.Trust.{Patterns}
+use Rattle.bbm_rules.specs.Covers.{is_global}
+use Rattle.bbm_rules.specs.Lists.{if_so}
+use Rattle.bbm_rules.specs.Places.{page_of}
+use Rattle.bbm_rules.specs.Prelude.{Kind, Ttbr0, Heading, Event, Write}
+use Rattle.bbm_rules.specs.Roots.{lock_of}
+use Rattle.bbm_rules.specs.Rules.{bad_kind, break_before_make, global_user, is_contiguous, lacks, limbo_make, no_lock}
+use Rattle.bbm_rules.specs.Rules.{not_fresh, null_written, rewritten_fresh}
+use Rattle.bbm_rules.specs.Tree.{Node, held_at, next_in, next_of, node_below, node_of}
+use Rattle.bbm_rules.specs.declared.rule.Rule.TheVariants.{NoLock, NullWritten, BreakBeforeMake, LimboMake}
+use Rattle.bbm_rules.specs.declared.rule.Rule.TheVariants.{NotFresh, RewrittenFresh, BadKind, GlobalUser}
+use Rattle.bbm_rules.specs.declared.step_fault.StepFault.TheVariants.{Broken}
+use Rattle.bbm_place_map.specs.Map.{marks_at, pends_at, value_at}
+use Rattle.bbm_tree_index.specs.Held.{limbo_at}
+use Rattle.bbm_tree_index.specs.Index.{fresh_in, node_in, null_in}
+use Rattle.bbm_tree_index.specs.declared.role.Path.{Path}
 use Rattle.bbm_replay_roots.specs.Stands as roots
 use Rattle.bbm_replay_roots.specs.declared.state.RootState.{RootState}
 use Rattle.bbm_replay_trees.specs.Told.{notes}
@@ -37,11 +37,11 @@ use Rattle.bbm_replay.specs.Laws.{Laws}
 use Rattle.bbm_replay.specs.Leaves.{attached_next, is_contiguous_core, is_global_core}
 use Rattle.bbm_replay.specs.Faults.{step_fault}
 use Rattle.bbm_replay.proofs.Moves.{Attaches, Writes}
-use Rattle.bbm_replay_trees.specs.tree_index.Judged as index
-use Rattle.bbm_replay_trees.specs.tree_index.Paths as index_paths
-use Rattle.bbm_replay_trees.specs.tree_index.declared.role.Attach.TheVariants as attach
-use Rattle.bbm_replay_trees.specs.tree_index.declared.fault.TreeFault.{TreeFault}
-use Rattle.bbm_replay_trees.specs.tree_index.declared.fault.TreeFault.TheVariants as tree
+use Rattle.bbm_tree_index.specs.Judged as index
+use Rattle.bbm_tree_index.specs.Paths as index_paths
+use Rattle.bbm_tree_index.specs.declared.role.Attach.TheVariants as attach
+use Rattle.bbm_tree_index.specs.declared.fault.TreeFault.{TreeFault}
+use Rattle.bbm_tree_index.specs.declared.fault.TreeFault.TheVariants as tree
 use Rattle.bbm_replay.specs.Rules.{Rules}
 use Rattle.bbm_replay.specs.Standing.{Clears, Holds, IsAt, MayMeet, Meets, SameFrame, Stands, view_of}
 use Rattle.bbm_replay.specs.Told.{Told}

@@ -1,20 +1,20 @@
 -- A TLBI at the parts.
 use Rattle.std.proofs.Common.{◌≡◌, ℕ, ◌<◌, Bool, true, false, not, ◌&&◌, ◌||◌, nat_eq, List, ◌∷◌, Option, Some, None, is_some, Ok, refl, sym, ◌∙◌, ap, subst}
-use Rattle.bbm_replay_entries.specs.entry_state.Calls.{Noted}
-use Rattle.bbm_replay_entries.specs.entry_state.Points.{waits}
-use Rattle.bbm_replay_entries.specs.entry_state.Standing.{IsIdle}
-use Rattle.bbm_replay_entries.specs.entry_state.declared.marks.Marks.{Marks}
-use Rattle.bbm_replay_entries.specs.entry_state.declared.pending.Pends.{Pends}
-use Rattle.bbm_replay_trees.specs.place_map.Map.{is_tracked, marks_at, pends_at, value_at}
-use Rattle.bbm_replay_trees.specs.place_map.States.{state_from}
-use Rattle.bbm_replay_trees.specs.place_map.declared.map.PlaceMap.{PlaceMap}
-use Rattle.bbm_replay_entries.specs.regimes.PeMask.{pe_in}
-use Rattle.bbm_replay_entries.specs.regimes.declared.pe.PeMask.{PeMask}
-use Rattle.bbm_replay_entries.specs.tlbi_scope.Operations.{operation}
-use Rattle.bbm_replay_entries.specs.rules.Broken.{broken}
-use Rattle.bbm_replay_entries.specs.rules.Claims.Trust.{Patterns}
-use Rattle.bbm_replay_entries.specs.rules.Covers.{cover_at}
-use Rattle.bbm_replay_entries.specs.rules.Prelude.{Heading, Event, Tlbi, TlbiOp}
+use Rattle.bbm_entry_state.specs.Calls.{Noted}
+use Rattle.bbm_entry_state.specs.Points.{waits}
+use Rattle.bbm_entry_state.specs.Standing.{IsIdle}
+use Rattle.bbm_entry_state.specs.declared.marks.Marks.{Marks}
+use Rattle.bbm_entry_state.specs.declared.pending.Pends.{Pends}
+use Rattle.bbm_place_map.specs.Map.{is_tracked, marks_at, pends_at, value_at}
+use Rattle.bbm_place_map.specs.States.{state_from}
+use Rattle.bbm_place_map.specs.declared.map.PlaceMap.{PlaceMap}
+use Rattle.bbm_regimes.specs.PeMask.{pe_in}
+use Rattle.bbm_regimes.specs.declared.pe.PeMask.{PeMask}
+use Rattle.bbm_tlbi_scope.specs.Operations.{operation}
+use Rattle.bbm_rules.specs.Broken.{broken}
+use Rattle.bbm_rules.specs.Claims.Trust.{Patterns}
+use Rattle.bbm_rules.specs.Covers.{cover_at}
+use Rattle.bbm_rules.specs.Prelude.{Heading, Event, Tlbi, TlbiOp}
 use Rattle.bbm_replay_roots.specs.Stands as roots
 use Rattle.bbm_replay_roots.specs.declared.state.RootState.{RootState}
 use Rattle.bbm_replay_trees.specs.Told.{notes}

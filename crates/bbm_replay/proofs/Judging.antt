@@ -3,22 +3,22 @@
 use Rattle.std.proofs.Common.{◌≡◌, ℕ, ◌≤◌, Bool, true, false, not, ◌&&◌, ◌||◌, nat_le, List, Option, Some, None, Result, Ok, Err, is_some, filter, refl, ◌∙◌, ap}
 use Rattle.std.specs.Option.{option_map_or}
 use Rattle.std.proofs.lemmas.Bool.{le-leb, leb-true}
-use Rattle.bbm_replay_entries.specs.regimes.declared.regime.Which.TheVariants.{Pages}
-use Rattle.bbm_replay_entries.specs.rules.Broken.{Breach, broken}
-use Rattle.bbm_replay_entries.specs.rules.Claims.Trust.{Patterns}
-use Rattle.bbm_replay_entries.specs.rules.Limits.{limit_of}
-use Rattle.bbm_replay_entries.specs.rules.Lists.{if_so, least}
-use Rattle.bbm_replay_entries.specs.rules.Prelude.{Kind, S2, kind_in_world, Heading, Event, Init, Null, Root, Write}
-use Rattle.bbm_replay_entries.specs.rules.Roots.{root_pages}
-use Rattle.bbm_replay_entries.specs.rules.Rules.{bad_kind, break_before_make, global_user, limbo_make, no_lock, not_fresh}
-use Rattle.bbm_replay_entries.specs.rules.Rules.{null_written, page_in_use, rewritten_fresh}
-use Rattle.bbm_replay_entries.specs.rules.declared.rule.Rule.{Rule}
-use Rattle.bbm_replay_entries.specs.rules.declared.rule.Rule.TheVariants.{WrongWorld, NoLock, NullWritten, BreakBeforeMake, LimboMake}
-use Rattle.bbm_replay_entries.specs.rules.declared.rule.Rule.TheVariants.{NotFresh, RewrittenFresh, BadKind, GlobalUser, PageInUse}
-use Rattle.bbm_replay_entries.specs.rules.Tree.{Node}
-use Rattle.bbm_replay_trees.specs.tree_index.Judged.{Judges}
-use Rattle.bbm_replay_trees.specs.tree_index.declared.fault.TreeFault.{TreeFault}
-use Rattle.bbm_replay_trees.specs.tree_index.declared.fault.TreeFault.TheVariants as tree
+use Rattle.bbm_regimes.specs.declared.regime.Which.TheVariants.{Pages}
+use Rattle.bbm_rules.specs.Broken.{Breach, broken}
+use Rattle.bbm_rules.specs.Claims.Trust.{Patterns}
+use Rattle.bbm_rules.specs.Limits.{limit_of}
+use Rattle.bbm_rules.specs.Lists.{if_so, least}
+use Rattle.bbm_rules.specs.Prelude.{Kind, S2, kind_in_world, Heading, Event, Init, Null, Root, Write}
+use Rattle.bbm_rules.specs.Roots.{root_pages}
+use Rattle.bbm_rules.specs.Rules.{bad_kind, break_before_make, global_user, limbo_make, no_lock, not_fresh}
+use Rattle.bbm_rules.specs.Rules.{null_written, page_in_use, rewritten_fresh}
+use Rattle.bbm_rules.specs.declared.rule.Rule.{Rule}
+use Rattle.bbm_rules.specs.declared.rule.Rule.TheVariants.{WrongWorld, NoLock, NullWritten, BreakBeforeMake, LimboMake}
+use Rattle.bbm_rules.specs.declared.rule.Rule.TheVariants.{NotFresh, RewrittenFresh, BadKind, GlobalUser, PageInUse}
+use Rattle.bbm_rules.specs.Tree.{Node}
+use Rattle.bbm_tree_index.specs.Judged.{Judges}
+use Rattle.bbm_tree_index.specs.declared.fault.TreeFault.{TreeFault}
+use Rattle.bbm_tree_index.specs.declared.fault.TreeFault.TheVariants as tree
 use Rattle.bbm_replay_trees.specs.Judging.{Judging}
 use Rattle.bbm_replay_trees.specs.Told.{notes}
 use Rattle.bbm_replay.specs.Rules.{Rules}

@@ -1,11 +1,11 @@
 -- Pages that leave the trees with their root.
 use Rattle.std.proofs.Common.{◌≡◌, ℕ, Bool, true, false, cond, not, ◌==◌, List, ◌∷◌, Option, Some, None, refl, sym, ◌∙◌, ap}
-use Rattle.bbm_replay_entries.specs.events.Fits.{fits_heading}
-use Rattle.bbm_replay_entries.specs.rules.Broken.{broken, keeps}
-use Rattle.bbm_replay_entries.specs.rules.Claims.Trust.{Patterns}
-use Rattle.bbm_replay_entries.specs.rules.Places.{page_of}
-use Rattle.bbm_replay_entries.specs.rules.Prelude.{Heading, Event, Unroot}
-use Rattle.bbm_replay_entries.specs.rules.Tree.{Node}
+use Rattle.bbm_events.specs.Fits.{fits_heading}
+use Rattle.bbm_rules.specs.Broken.{broken, keeps}
+use Rattle.bbm_rules.specs.Claims.Trust.{Patterns}
+use Rattle.bbm_rules.specs.Places.{page_of}
+use Rattle.bbm_rules.specs.Prelude.{Heading, Event, Unroot}
+use Rattle.bbm_rules.specs.Tree.{Node}
 use Rattle.bbm_replay_trees.specs.Told.{kept}
 use Rattle.bbm_replay.specs.Laws.{Laws}
 use Rattle.bbm_replay.proofs.Moves.{Leaves}

@@ -1,17 +1,17 @@
 -- Events that concern the roots, registers and locks alone.
 use Rattle.std.proofs.Common.{◌≡◌, ℕ, ◌<◌, Bool, true, false, ◌||◌, ◌==◌, nat_lt, List, [], ◌∷◌, Option, None, Result, Ok, Err, OnOk, OnErr, refl, sym, ◌∙◌, ap, subst}
 use Rattle.std.proofs.lemmas.Bool.{and_parts, eqb-true}
-use Rattle.bbm_replay_entries.specs.regimes.declared.regime.Reg.{Reg}
-use Rattle.bbm_replay_entries.specs.regimes.declared.regime.Which.{Which}
-use Rattle.bbm_replay_entries.specs.events.Fits.{fits_heading, is_page}
-use Rattle.bbm_replay_entries.specs.rules.Answers.{Answers, MayAsk, rewrites, takes_no_memory}
-use Rattle.bbm_replay_entries.specs.rules.Broken.{Breach, broken}
-use Rattle.bbm_replay_entries.specs.rules.Claims.Trust.{Patterns}
-use Rattle.bbm_replay_entries.specs.rules.Limits.{limit_of}
-use Rattle.bbm_replay_entries.specs.rules.Pages.{is_null}
-use Rattle.bbm_replay_entries.specs.rules.Prelude.{Heading, Event, Init, Null, Root, Unroot, Write, Dsb, Dmb, Isb, Tlbi, Msr, Lock, Unlock}
-use Rattle.bbm_replay_entries.specs.rules.declared.step_fault.StepFault.{StepFault}
-use Rattle.bbm_replay_entries.specs.rules.declared.step_fault.StepFault.TheVariants.{Broken, Limit, NoMemory}
+use Rattle.bbm_regimes.specs.declared.regime.Reg.{Reg}
+use Rattle.bbm_regimes.specs.declared.regime.Which.{Which}
+use Rattle.bbm_events.specs.Fits.{fits_heading, is_page}
+use Rattle.bbm_rules.specs.Answers.{Answers, MayAsk, rewrites, takes_no_memory}
+use Rattle.bbm_rules.specs.Broken.{Breach, broken}
+use Rattle.bbm_rules.specs.Claims.Trust.{Patterns}
+use Rattle.bbm_rules.specs.Limits.{limit_of}
+use Rattle.bbm_rules.specs.Pages.{is_null}
+use Rattle.bbm_rules.specs.Prelude.{Heading, Event, Init, Null, Root, Unroot, Write, Dsb, Dmb, Isb, Tlbi, Msr, Lock, Unlock}
+use Rattle.bbm_rules.specs.declared.step_fault.StepFault.{StepFault}
+use Rattle.bbm_rules.specs.declared.step_fault.StepFault.TheVariants.{Broken, Limit, NoMemory}
 use Rattle.bbm_replay_roots.specs.Bridge.{has_null_base}
 use Rattle.bbm_replay_roots.specs.Stands as roots
 use Rattle.bbm_replay_roots.specs.declared.state.RootState.{RootState}

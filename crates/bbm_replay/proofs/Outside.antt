@@ -1,18 +1,18 @@
 -- A write at a place of no tree, at the parts.
 use Rattle.std.proofs.Common.{◌≡◌, ℕ, ◌%◌, Bool, true, false, not, ◌&&◌, ◌||◌, ◌==◌, List, ◌∷◌, Some, None, Ok, Err, refl, sym, ◌∙◌, ap, subst}
-use Rattle.bbm_replay_entries.specs.entry_state.declared.state.EntryState.TheVariants as state
-use Rattle.bbm_replay_entries.specs.rules.Broken.{broken}
-use Rattle.bbm_replay_entries.specs.rules.Claims.Trust.{Patterns}
-use Rattle.bbm_replay_entries.specs.rules.Lists.{if_so}
-use Rattle.bbm_replay_entries.specs.rules.Places.{page_of}
-use Rattle.bbm_replay_entries.specs.rules.Prelude.{Heading, Event, Write}
-use Rattle.bbm_replay_entries.specs.rules.Rules.{null_written}
-use Rattle.bbm_replay_entries.specs.rules.Rules.{rewritten_fresh}
-use Rattle.bbm_replay_entries.specs.rules.declared.rule.Rule.TheVariants.{NoLock, NullWritten, BreakBeforeMake, LimboMake}
-use Rattle.bbm_replay_entries.specs.rules.declared.rule.Rule.TheVariants.{NotFresh, RewrittenFresh, BadKind, GlobalUser}
-use Rattle.bbm_replay_entries.specs.rules.declared.step_fault.StepFault.TheVariants.{Broken}
-use Rattle.bbm_replay_trees.specs.place_map.Map.{value_at}
-use Rattle.bbm_replay_trees.specs.tree_index.Index.{fresh_in, node_in, null_in}
+use Rattle.bbm_entry_state.specs.declared.state.EntryState.TheVariants as state
+use Rattle.bbm_rules.specs.Broken.{broken}
+use Rattle.bbm_rules.specs.Claims.Trust.{Patterns}
+use Rattle.bbm_rules.specs.Lists.{if_so}
+use Rattle.bbm_rules.specs.Places.{page_of}
+use Rattle.bbm_rules.specs.Prelude.{Heading, Event, Write}
+use Rattle.bbm_rules.specs.Rules.{null_written}
+use Rattle.bbm_rules.specs.Rules.{rewritten_fresh}
+use Rattle.bbm_rules.specs.declared.rule.Rule.TheVariants.{NoLock, NullWritten, BreakBeforeMake, LimboMake}
+use Rattle.bbm_rules.specs.declared.rule.Rule.TheVariants.{NotFresh, RewrittenFresh, BadKind, GlobalUser}
+use Rattle.bbm_rules.specs.declared.step_fault.StepFault.TheVariants.{Broken}
+use Rattle.bbm_place_map.specs.Map.{value_at}
+use Rattle.bbm_tree_index.specs.Index.{fresh_in, node_in, null_in}
 use Rattle.bbm_replay_roots.specs.Stands as roots
 use Rattle.bbm_replay_roots.specs.declared.state.RootState.{RootState}
 use Rattle.bbm_replay_trees.specs.Told.{notes}

@@ -1,13 +1,13 @@
 -- Events that change nothing in a view.
 use Rattle.std.proofs.Common.{◌≡◌, ℕ, true, false, List, ◌∷◌, length, None, refl, sym, ◌∙◌, true≢false}
-use Rattle.bbm_replay_entries.specs.events.Fits.{fits_heading}
-use Rattle.bbm_replay_entries.specs.rules.Attach.{attached_by}
-use Rattle.bbm_replay_entries.specs.rules.Broken.{broken, keeps}
-use Rattle.bbm_replay_entries.specs.rules.Changes.{changes}
-use Rattle.bbm_replay_entries.specs.rules.Claims.Trust.{Patterns}
-use Rattle.bbm_replay_entries.specs.rules.Notes.{Noted}
-use Rattle.bbm_replay_entries.specs.rules.Pages.{initialised}
-use Rattle.bbm_replay_entries.specs.rules.Prelude.{Heading, Event, Init, Null, Root, Unroot, Write, Dsb, Dmb, Isb, Tlbi, Msr, Lock, Unlock}
+use Rattle.bbm_events.specs.Fits.{fits_heading}
+use Rattle.bbm_rules.specs.Attach.{attached_by}
+use Rattle.bbm_rules.specs.Broken.{broken, keeps}
+use Rattle.bbm_rules.specs.Changes.{changes}
+use Rattle.bbm_rules.specs.Claims.Trust.{Patterns}
+use Rattle.bbm_rules.specs.Notes.{Noted}
+use Rattle.bbm_rules.specs.Pages.{initialised}
+use Rattle.bbm_rules.specs.Prelude.{Heading, Event, Init, Null, Root, Unroot, Write, Dsb, Dmb, Isb, Tlbi, Msr, Lock, Unlock}
 use Rattle.bbm_replay_entries.specs.Events.{touches}
 use Rattle.bbm_replay_trees.specs.Events.{leaves_trees}
 use Rattle.bbm_replay_trees.specs.Told.{SameKnown, SameNull, SameValues}

@@ -1,27 +1,27 @@
 -- A root that is declared, at the parts.
 use Rattle.std.proofs.Common.{◌≡◌, ℕ, ◌⊎◌, ◌↔◌, Bool, true, false, cond, not, ◌&&◌, List, [], ◌∷◌, length, Option, Some, None, is_none, filter, Result, Ok, Err, refl, sym, ◌∙◌, ap, subst, nat_le}
-use Rattle.bbm_replay_entries.specs.entry_state.Standing.{IsIdle}
-use Rattle.bbm_replay_entries.specs.regimes.declared.regime.Which.TheVariants.{Roots}
-use Rattle.bbm_replay_entries.specs.rules.Answers.{Answers}
-use Rattle.bbm_replay_entries.specs.rules.Broken.{broken}
-use Rattle.bbm_replay_entries.specs.rules.Claims.Trust.{Patterns}
-use Rattle.bbm_replay_entries.specs.rules.Limits.{limit_of}
-use Rattle.bbm_replay_entries.specs.rules.Lists.{if_so, least}
-use Rattle.bbm_replay_entries.specs.rules.Prelude.{Kind, kind_in_world, Heading, Event, Root}
-use Rattle.bbm_replay_entries.specs.events.Fits.{fits_heading, is_pe, is_root_lock, is_root_page}
-use Rattle.bbm_replay_entries.specs.rules.Roots.{page_count, pages_from, root_pages, roots_of}
+use Rattle.bbm_entry_state.specs.Standing.{IsIdle}
+use Rattle.bbm_regimes.specs.declared.regime.Which.TheVariants.{Roots}
+use Rattle.bbm_rules.specs.Answers.{Answers}
+use Rattle.bbm_rules.specs.Broken.{broken}
+use Rattle.bbm_rules.specs.Claims.Trust.{Patterns}
+use Rattle.bbm_rules.specs.Limits.{limit_of}
+use Rattle.bbm_rules.specs.Lists.{if_so, least}
+use Rattle.bbm_rules.specs.Prelude.{Kind, kind_in_world, Heading, Event, Root}
+use Rattle.bbm_events.specs.Fits.{fits_heading, is_pe, is_root_lock, is_root_page}
+use Rattle.bbm_rules.specs.Roots.{page_count, pages_from, root_pages, roots_of}
 use Rattle.bbm_replay.specs.View.{View}
-use Rattle.bbm_replay_entries.specs.rules.Rules.{bad_kind, global_user, not_fresh}
-use Rattle.bbm_replay_entries.specs.rules.Tree.{Node, nodes_of_root}
-use Rattle.bbm_replay_entries.specs.rules.declared.rule.Rule.TheVariants.{WrongWorld, NotFresh, BadKind, GlobalUser, PageInUse}
-use Rattle.bbm_replay_entries.specs.rules.declared.step_fault.StepFault.{StepFault}
-use Rattle.bbm_replay_entries.specs.rules.declared.step_fault.StepFault.TheVariants.{Broken, Limit, NoMemory}
-use Rattle.bbm_replay_trees.specs.place_map.Map.{marks_at, pends_at, value_at}
-use Rattle.bbm_replay_trees.specs.tree_index.Index.{fresh_in, heading_of}
-use Rattle.bbm_replay_trees.specs.tree_index.Judged as index
-use Rattle.bbm_replay_trees.specs.tree_index.Paths as index_paths
-use Rattle.bbm_replay_trees.specs.tree_index.declared.fault.TreeFault.{TreeFault}
-use Rattle.bbm_replay_trees.specs.tree_index.declared.fault.TreeFault.TheVariants as tree
+use Rattle.bbm_rules.specs.Rules.{bad_kind, global_user, not_fresh}
+use Rattle.bbm_rules.specs.Tree.{Node, nodes_of_root}
+use Rattle.bbm_rules.specs.declared.rule.Rule.TheVariants.{WrongWorld, NotFresh, BadKind, GlobalUser, PageInUse}
+use Rattle.bbm_rules.specs.declared.step_fault.StepFault.{StepFault}
+use Rattle.bbm_rules.specs.declared.step_fault.StepFault.TheVariants.{Broken, Limit, NoMemory}
+use Rattle.bbm_place_map.specs.Map.{marks_at, pends_at, value_at}
+use Rattle.bbm_tree_index.specs.Index.{fresh_in, heading_of}
+use Rattle.bbm_tree_index.specs.Judged as index
+use Rattle.bbm_tree_index.specs.Paths as index_paths
+use Rattle.bbm_tree_index.specs.declared.fault.TreeFault.{TreeFault}
+use Rattle.bbm_tree_index.specs.declared.fault.TreeFault.TheVariants as tree
 use Rattle.bbm_replay_roots.specs.Stands as roots
 use Rattle.bbm_replay_roots.specs.declared.state.RootState.{RootState}
 use Rattle.bbm_replay_trees.specs.Told.{notes}

@@ -1,27 +1,27 @@
 -- A DSB at the parts.
 use Rattle.std.proofs.Common.{◌≡◌, ℕ, Bool, true, false, cond, ◌&&◌, List, [], ◌∷◌, Option, Some, None, is_some, nat_eq, Ok, refl, sym, ◌∙◌, ap, subst}
-use Rattle.bbm_replay_entries.specs.barriers.Options.{is_non}
-use Rattle.bbm_replay_entries.specs.descriptor.Descriptor.{core_of}
-use Rattle.bbm_replay_entries.specs.descriptor.declared.desc.Core.{Core}
-use Rattle.bbm_replay_entries.specs.descriptor.declared.desc.Core.TheVariants.{Table, Leaf}
-use Rattle.bbm_replay_entries.specs.entry_state.Calls.{Completed, Published}
-use Rattle.bbm_replay_entries.specs.entry_state.Points.{core_in, waits}
-use Rattle.bbm_replay_entries.specs.entry_state.declared.pending.Pends.{Pends}
-use Rattle.bbm_replay_entries.specs.tlbi_scope.declared.entry.Cover.{Cover}
-use Rattle.bbm_replay_entries.specs.entry_state.declared.marks.Marks.{Marks}
-use Rattle.bbm_replay_trees.specs.place_map.Calls.{lost_table}
-use Rattle.bbm_replay_trees.specs.place_map.Each.{is_table, loses_table}
-use Rattle.bbm_replay_trees.specs.place_map.Map.{is_tracked, marks_at, pends_at, value_at}
-use Rattle.bbm_replay_trees.specs.place_map.States.{state_from}
-use Rattle.bbm_replay_trees.specs.place_map.declared.map.PlaceMap.{PlaceMap}
-use Rattle.bbm_replay_entries.specs.rules.Broken.{broken}
-use Rattle.bbm_replay_entries.specs.rules.Claims.Trust.{Patterns}
-use Rattle.bbm_replay_entries.specs.rules.Limits.{limit_of}
-use Rattle.bbm_replay_entries.specs.rules.Lists.{every}
-use Rattle.bbm_replay_entries.specs.rules.Places.{page_of}
-use Rattle.bbm_replay_entries.specs.rules.Prelude.{Barrier, Kind, Heading, Event, Dsb}
-use Rattle.bbm_replay_entries.specs.rules.Tree.{Above, Node}
-use Rattle.bbm_replay_trees.specs.tree_index.Held.{core_with, is_held}
+use Rattle.bbm_barriers.specs.Options.{is_non}
+use Rattle.bbm_descriptor.specs.Descriptor.{core_of}
+use Rattle.bbm_descriptor.specs.declared.desc.Core.{Core}
+use Rattle.bbm_descriptor.specs.declared.desc.Core.TheVariants.{Table, Leaf}
+use Rattle.bbm_entry_state.specs.Calls.{Completed, Published}
+use Rattle.bbm_entry_state.specs.Points.{core_in, waits}
+use Rattle.bbm_entry_state.specs.declared.pending.Pends.{Pends}
+use Rattle.bbm_tlbi_scope.specs.declared.entry.Cover.{Cover}
+use Rattle.bbm_entry_state.specs.declared.marks.Marks.{Marks}
+use Rattle.bbm_place_map.specs.Calls.{lost_table}
+use Rattle.bbm_place_map.specs.Each.{is_table, loses_table}
+use Rattle.bbm_place_map.specs.Map.{is_tracked, marks_at, pends_at, value_at}
+use Rattle.bbm_place_map.specs.States.{state_from}
+use Rattle.bbm_place_map.specs.declared.map.PlaceMap.{PlaceMap}
+use Rattle.bbm_rules.specs.Broken.{broken}
+use Rattle.bbm_rules.specs.Claims.Trust.{Patterns}
+use Rattle.bbm_rules.specs.Limits.{limit_of}
+use Rattle.bbm_rules.specs.Lists.{every}
+use Rattle.bbm_rules.specs.Places.{page_of}
+use Rattle.bbm_rules.specs.Prelude.{Barrier, Kind, Heading, Event, Dsb}
+use Rattle.bbm_rules.specs.Tree.{Above, Node}
+use Rattle.bbm_tree_index.specs.Held.{core_with, is_held}
 use Rattle.bbm_replay_roots.specs.Stands as roots
 use Rattle.bbm_replay_trees.specs.Told.{is_held_by, kept, next_in}
 use Rattle.bbm_replay.specs.Laws.{Laws}

@@ -1,25 +1,25 @@
 -- A page that is made zero, or declared null, at the parts.
 use Rattle.std.proofs.Common.{◌≡◌, ℕ, ◌≤◌, Bool, true, false, ◌||◌, List, ◌∷◌, Option, Some, None, Ok, Err, is_some, refl, sym, ◌∙◌, ap, subst, true≢false}
-use Rattle.bbm_replay_entries.specs.regimes.declared.regime.Which.{Which}
-use Rattle.bbm_replay_entries.specs.regimes.declared.regime.Which.TheVariants.{Pages}
-use Rattle.bbm_replay_entries.specs.rules.Answers.{Answers}
-use Rattle.bbm_replay_entries.specs.rules.Broken.{broken}
-use Rattle.bbm_replay_entries.specs.rules.Claims.Trust.{Patterns}
-use Rattle.bbm_replay_entries.specs.rules.Limits.{limit_of}
-use Rattle.bbm_replay_entries.specs.rules.Prelude.{S2, kind_in_world, Heading, Event, Init, Null}
-use Rattle.bbm_replay_entries.specs.rules.declared.rule.Rule.{Rule}
-use Rattle.bbm_replay_entries.specs.rules.declared.rule.Rule.TheVariants.{BadKind, GlobalUser, NotFresh, PageInUse, WrongWorld}
-use Rattle.bbm_replay_entries.specs.rules.declared.step_fault.StepFault.{StepFault}
-use Rattle.bbm_replay_entries.specs.rules.declared.step_fault.StepFault.TheVariants.{Broken, Limit, NoMemory}
-use Rattle.bbm_replay_trees.specs.place_map.Map.{value_at}
-use Rattle.bbm_replay_trees.specs.tree_index.Index.{fresh_in, known_in, node_in, null_in, pages_in}
+use Rattle.bbm_regimes.specs.declared.regime.Which.{Which}
+use Rattle.bbm_regimes.specs.declared.regime.Which.TheVariants.{Pages}
+use Rattle.bbm_rules.specs.Answers.{Answers}
+use Rattle.bbm_rules.specs.Broken.{broken}
+use Rattle.bbm_rules.specs.Claims.Trust.{Patterns}
+use Rattle.bbm_rules.specs.Limits.{limit_of}
+use Rattle.bbm_rules.specs.Prelude.{S2, kind_in_world, Heading, Event, Init, Null}
+use Rattle.bbm_rules.specs.declared.rule.Rule.{Rule}
+use Rattle.bbm_rules.specs.declared.rule.Rule.TheVariants.{BadKind, GlobalUser, NotFresh, PageInUse, WrongWorld}
+use Rattle.bbm_rules.specs.declared.step_fault.StepFault.{StepFault}
+use Rattle.bbm_rules.specs.declared.step_fault.StepFault.TheVariants.{Broken, Limit, NoMemory}
+use Rattle.bbm_place_map.specs.Map.{value_at}
+use Rattle.bbm_tree_index.specs.Index.{fresh_in, known_in, node_in, null_in, pages_in}
 use Rattle.bbm_replay_roots.specs.Stands as roots
 use Rattle.bbm_replay_roots.specs.Stands.{concerns_roots}
 use Rattle.bbm_replay_roots.specs.declared.state.RootState.{RootState}
 use Rattle.bbm_replay_trees.specs.Told.{is_at}
-use Rattle.bbm_replay_entries.specs.rules.Tree.{Node}
-use Rattle.bbm_replay_trees.specs.tree_index.declared.fault.TreeFault.{TreeFault}
-use Rattle.bbm_replay_trees.specs.tree_index.declared.fault.TreeFault.TheVariants as tree
+use Rattle.bbm_rules.specs.Tree.{Node}
+use Rattle.bbm_tree_index.specs.declared.fault.TreeFault.{TreeFault}
+use Rattle.bbm_tree_index.specs.declared.fault.TreeFault.TheVariants as tree
 use Rattle.bbm_replay.specs.Faults.{step_fault}
 use Rattle.bbm_replay.specs.Laws.{Laws}
 use Rattle.bbm_replay.proofs.Moves.{Begins, Nullifies, Same}

@@ -2,43 +2,43 @@
 use Rattle.std.proofs.Common.{◌≡◌, ℕ, zero, suc, ◌+◌, ◌-◌, ◌*◌, ◌/◌, ◌%◌, nat_eq, ◌<◌, ◌≤◌, ◌&&◌, ◌||◌, ◌==◌, nat_le, Bool, true, false, cond, List, [], length, Option, Some, None, Contains, slice_index_or, is_some, option_and_then, refl, sym, ◌∙◌, ap, subst, arith, true≢false, not-suc-le-zero, le_of_suc-le-suc}
 use Rattle.std.specs.Prelude.{unwrap_or}
 use Rattle.std.proofs.lemmas.Bool.{and_parts, eqb-true, leb-true}
-use Rattle.bbm_replay_entries.specs.descriptor.Descriptor.{desc_of, same_bool}
-use Rattle.bbm_replay_entries.specs.entry_state.Calls.{Noted, counts_at}
-use Rattle.bbm_replay_entries.specs.entry_state.Points.{waits}
-use Rattle.bbm_replay_entries.specs.entry_state.declared.marks.Marks.{Marks}
-use Rattle.bbm_replay_entries.specs.entry_state.declared.pending.Pends.{Pends}
-use Rattle.bbm_replay_entries.specs.entry_state.declared.state.EntryState.{EntryState}
-use Rattle.bbm_replay_entries.specs.entry_state.declared.state.EntryState.TheVariants.{Clean, Live, Broken}
-use Rattle.bbm_replay_entries.specs.events.Heading.{Heading}
+use Rattle.bbm_descriptor.specs.Descriptor.{desc_of, same_bool}
+use Rattle.bbm_entry_state.specs.Calls.{Noted, counts_at}
+use Rattle.bbm_entry_state.specs.Points.{waits}
+use Rattle.bbm_entry_state.specs.declared.marks.Marks.{Marks}
+use Rattle.bbm_entry_state.specs.declared.pending.Pends.{Pends}
+use Rattle.bbm_entry_state.specs.declared.state.EntryState.{EntryState}
+use Rattle.bbm_entry_state.specs.declared.state.EntryState.TheVariants.{Clean, Live, Broken}
+use Rattle.bbm_events.specs.Heading.{Heading}
 use Rattle.std.specs.HashMap.{get}
 use Rattle.std.specs.Option.{option_map}
-use Rattle.bbm_replay_trees.specs.place_map.Map.{marks_at, value_at}
-use Rattle.bbm_replay_trees.specs.place_map.Parts.{marks_in}
-use Rattle.bbm_replay_trees.specs.place_map.Sound.{at_index}
-use Rattle.bbm_replay_trees.specs.place_map.declared.map.PlaceMap.{PlaceMap}
-use Rattle.bbm_replay_entries.specs.regimes.PeMask.{pe_in}
-use Rattle.bbm_replay_entries.specs.regimes.World.{input_pages, page_count}
-use Rattle.bbm_replay_entries.specs.regimes.declared.pe.PeMask.{PeMask}
-use Rattle.bbm_replay_entries.specs.regimes.declared.regime.Kind.{Kind}
-use Rattle.bbm_replay_entries.specs.tlbi_scope.Covers as scopes
-use Rattle.bbm_replay_entries.specs.tlbi_scope.Same.{same_cover}
-use Rattle.bbm_replay_entries.specs.tlbi_scope.declared.entry.Cover.{Cover}
-use Rattle.bbm_replay_entries.specs.tlbi_scope.declared.entry.Cover.TheVariants.{None as NoCover, Half, Second, Full}
-use Rattle.bbm_replay_entries.specs.tlbi_scope.declared.entry.PlaceView.{PlaceView}
-use Rattle.bbm_replay_entries.specs.rules.Claims.Trust.{Patterns}
-use Rattle.bbm_replay_entries.specs.rules.Covers.{cover_at, is_global, view_at}
-use Rattle.bbm_replay_entries.specs.rules.Notes.{events_of}
-use Rattle.bbm_replay_entries.specs.rules.Places.{page_of}
-use Rattle.bbm_replay_entries.specs.rules.Prelude.{Event, Scope, TlbiOp, Tlbi}
-use Rattle.bbm_replay_entries.specs.rules.Registers.{named_scope, vmid_of}
-use Rattle.bbm_replay_entries.specs.rules.Roots.{Declared, kind_in_world, pages_from, root_at, root_pages}
-use Rattle.bbm_replay_entries.specs.rules.Tags.{tag_set, tags_of}
-use Rattle.bbm_replay_entries.specs.rules.Tree.{Node, held_at, is_childless, next_of, node_of, region_of, region_start}
-use Rattle.bbm_replay_trees.specs.tree_index.Agreement.{IsSound}
-use Rattle.bbm_replay_trees.specs.tree_index.Descent.{IsWay}
-use Rattle.bbm_replay_trees.specs.tree_index.Held.{core_at}
-use Rattle.bbm_replay_trees.specs.tree_index.Index.{node_in}
-use Rattle.bbm_replay_trees.specs.tree_index.declared.index.TreeIndex.{TreeIndex}
+use Rattle.bbm_place_map.specs.Map.{marks_at, value_at}
+use Rattle.bbm_place_map.specs.Parts.{marks_in}
+use Rattle.bbm_place_map.specs.Sound.{at_index}
+use Rattle.bbm_place_map.specs.declared.map.PlaceMap.{PlaceMap}
+use Rattle.bbm_regimes.specs.PeMask.{pe_in}
+use Rattle.bbm_regimes.specs.World.{input_pages, page_count}
+use Rattle.bbm_regimes.specs.declared.pe.PeMask.{PeMask}
+use Rattle.bbm_regimes.specs.declared.regime.Kind.{Kind}
+use Rattle.bbm_tlbi_scope.specs.Covers as scopes
+use Rattle.bbm_tlbi_scope.specs.Same.{same_cover}
+use Rattle.bbm_tlbi_scope.specs.declared.entry.Cover.{Cover}
+use Rattle.bbm_tlbi_scope.specs.declared.entry.Cover.TheVariants.{None as NoCover, Half, Second, Full}
+use Rattle.bbm_tlbi_scope.specs.declared.entry.PlaceView.{PlaceView}
+use Rattle.bbm_rules.specs.Claims.Trust.{Patterns}
+use Rattle.bbm_rules.specs.Covers.{cover_at, is_global, view_at}
+use Rattle.bbm_rules.specs.Notes.{events_of}
+use Rattle.bbm_rules.specs.Places.{page_of}
+use Rattle.bbm_rules.specs.Prelude.{Event, Scope, TlbiOp, Tlbi}
+use Rattle.bbm_rules.specs.Registers.{named_scope, vmid_of}
+use Rattle.bbm_rules.specs.Roots.{Declared, kind_in_world, pages_from, root_at, root_pages}
+use Rattle.bbm_rules.specs.Tags.{tag_set, tags_of}
+use Rattle.bbm_rules.specs.Tree.{Node, held_at, is_childless, next_of, node_of, region_of, region_start}
+use Rattle.bbm_tree_index.specs.Agreement.{IsSound}
+use Rattle.bbm_tree_index.specs.Descent.{IsWay}
+use Rattle.bbm_tree_index.specs.Held.{core_at}
+use Rattle.bbm_tree_index.specs.Index.{node_in}
+use Rattle.bbm_tree_index.specs.declared.index.TreeIndex.{TreeIndex}
 use Rattle.bbm_replay_roots.specs.declared.state.RootState.{RootState}
 use Rattle.bbm_replay_trees.specs.Told.{SameCores, SameNodes, notes}
 use Rattle.bbm_replay.specs.Covering.{MayBeIssued}

@@ -1,19 +1,19 @@
 -- Where no place is broken, no place is in limbo.
 use Rattle.std.proofs.Common.{◌≡◌, ℕ, Bool, true, false, not, ◌||◌, List, [], ◌∷◌, Option, Some, None, is_some, refl, sym, ◌∙◌, ap}
 use Rattle.std.specs.Option.{option_map_or}
-use Rattle.bbm_replay_entries.specs.descriptor.Descriptor.{core_of, is_valid}
-use Rattle.bbm_replay_entries.specs.descriptor.declared.desc.Core.{Core}
-use Rattle.bbm_replay_entries.specs.entry_state.declared.marks.Marks.{Marks}
-use Rattle.bbm_replay_trees.specs.place_map.Map.{marks_at, value_at}
-use Rattle.bbm_replay_trees.specs.place_map.declared.map.PlaceMap.{PlaceMap}
-use Rattle.bbm_replay_entries.specs.rules.Lists.{any}
-use Rattle.bbm_replay_entries.specs.rules.Places.{page_of}
-use Rattle.bbm_replay_entries.specs.rules.Prelude.{Kind, Heading, Event}
-use Rattle.bbm_replay_entries.specs.rules.Tree.{Above, Node}
+use Rattle.bbm_descriptor.specs.Descriptor.{core_of, is_valid}
+use Rattle.bbm_descriptor.specs.declared.desc.Core.{Core}
+use Rattle.bbm_entry_state.specs.declared.marks.Marks.{Marks}
+use Rattle.bbm_place_map.specs.Map.{marks_at, value_at}
+use Rattle.bbm_place_map.specs.declared.map.PlaceMap.{PlaceMap}
+use Rattle.bbm_rules.specs.Lists.{any}
+use Rattle.bbm_rules.specs.Places.{page_of}
+use Rattle.bbm_rules.specs.Prelude.{Kind, Heading, Event}
+use Rattle.bbm_rules.specs.Tree.{Above, Node}
 use Rattle.bbm_replay_trees.specs.Told.{SameCores}
-use Rattle.bbm_replay_trees.specs.tree_index.Held.{core_at, core_with, limbo_at, next_in}
-use Rattle.bbm_replay_trees.specs.tree_index.Index.{node_in}
-use Rattle.bbm_replay_trees.specs.tree_index.declared.index.TreeIndex.{TreeIndex}
+use Rattle.bbm_tree_index.specs.Held.{core_at, core_with, limbo_at, next_in}
+use Rattle.bbm_tree_index.specs.Index.{node_in}
+use Rattle.bbm_tree_index.specs.declared.index.TreeIndex.{TreeIndex}
 use Rattle.bbm_replay.specs.Laws.{Laws}
 use Rattle.bbm_replay.specs.Standing.{view_of}
 use Rattle.bbm_replay.specs.Told.{Told}

@@ -1,22 +1,22 @@
 -- Writes.
 use Rattle.std.proofs.Common.{◌≡◌, ℕ, Bool, true, false, cond, ◌&&◌, not, ◌⊎◌, ◌==◌, List, [], ◌∷◌, Option, Some, None, is_some, refl, sym, ◌∙◌, ap, subst, inl, true≢false}
 use Rattle.std.proofs.lemmas.Bool.{eq-eqb, eqb-true, ne_eqb}
-use Rattle.bbm_replay_entries.specs.descriptor.Descriptor.{core_of}
-use Rattle.bbm_replay_entries.specs.descriptor.declared.desc.Core.{Core}
-use Rattle.bbm_replay_entries.specs.entry_state.Calls.{Written}
-use Rattle.bbm_replay_entries.specs.entry_state.Points.{core_in, is_broken, waits}
-use Rattle.bbm_replay_entries.specs.entry_state.Standing.{IsIdle, KeepsPends}
-use Rattle.bbm_replay_entries.specs.entry_state.declared.marks.Marks.{Marks}
-use Rattle.bbm_replay_entries.specs.entry_state.declared.state.EntryState.{EntryState}
-use Rattle.bbm_replay_entries.specs.entry_state.declared.state.EntryState.TheVariants.{Clean, Live, Broken}
-use Rattle.bbm_replay_trees.specs.place_map.States.{marks_of_state, state_from}
-use Rattle.bbm_replay_entries.specs.events.Fits.{fits_heading}
-use Rattle.bbm_replay_entries.specs.rules.Attach.{attached_by}
-use Rattle.bbm_replay_entries.specs.rules.Broken.{broken}
-use Rattle.bbm_replay_entries.specs.rules.Claims.Trust.{Patterns}
-use Rattle.bbm_replay_entries.specs.rules.Places.{page_of}
-use Rattle.bbm_replay_entries.specs.rules.Prelude.{Heading, Event, Write}
-use Rattle.bbm_replay_entries.specs.rules.Tree.{Node, next_of, node_below}
+use Rattle.bbm_descriptor.specs.Descriptor.{core_of}
+use Rattle.bbm_descriptor.specs.declared.desc.Core.{Core}
+use Rattle.bbm_entry_state.specs.Calls.{Written}
+use Rattle.bbm_entry_state.specs.Points.{core_in, is_broken, waits}
+use Rattle.bbm_entry_state.specs.Standing.{IsIdle, KeepsPends}
+use Rattle.bbm_entry_state.specs.declared.marks.Marks.{Marks}
+use Rattle.bbm_entry_state.specs.declared.state.EntryState.{EntryState}
+use Rattle.bbm_entry_state.specs.declared.state.EntryState.TheVariants.{Clean, Live, Broken}
+use Rattle.bbm_place_map.specs.States.{marks_of_state, state_from}
+use Rattle.bbm_events.specs.Fits.{fits_heading}
+use Rattle.bbm_rules.specs.Attach.{attached_by}
+use Rattle.bbm_rules.specs.Broken.{broken}
+use Rattle.bbm_rules.specs.Claims.Trust.{Patterns}
+use Rattle.bbm_rules.specs.Places.{page_of}
+use Rattle.bbm_rules.specs.Prelude.{Heading, Event, Write}
+use Rattle.bbm_rules.specs.Tree.{Node, next_of, node_below}
 use Rattle.bbm_replay_entries.specs.Stands.{EntryStands}
 use Rattle.bbm_replay_trees.specs.Told.{SameCores, notes}
 use Rattle.bbm_replay_trees.specs.Told as told

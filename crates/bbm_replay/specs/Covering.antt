@@ -1,22 +1,22 @@
 -- What a TLBI covers, asked of the parts. Source: project's own choice.
 use Rattle.std.specs.Prelude.{◌≡◌, ℕ, Bool, true, false, List, Option, Some}
-use Rattle.bbm_replay_entries.specs.descriptor.declared.desc.Core.{Core}
-use Rattle.bbm_replay_entries.specs.entry_state.declared.marks.Marks.{Marks}
-use Rattle.bbm_replay_trees.specs.place_map.Finds.{FoundAs}
-use Rattle.bbm_replay_trees.specs.place_map.Map.{marks_at}
-use Rattle.bbm_replay_trees.specs.place_map.declared.found.Found.{Found}
-use Rattle.bbm_replay_trees.specs.place_map.declared.map.PlaceMap.{PlaceMap}
-use Rattle.bbm_replay_entries.specs.regimes.declared.regime.Kind.{Kind}
-use Rattle.bbm_replay_entries.specs.regimes.declared.regime.Kind.TheVariants.{S2, Ttbr0}
-use Rattle.bbm_replay_entries.specs.tlbi_scope.declared.scope.Family.{Family}
-use Rattle.bbm_replay_entries.specs.tlbi_scope.declared.scope.Family.TheVariants.{VmAll1, VmAll12, Ipa, Va, Asid}
-use Rattle.bbm_replay_trees.specs.tree_index.declared.index.TreeIndex.{TreeIndex}
+use Rattle.bbm_descriptor.specs.declared.desc.Core.{Core}
+use Rattle.bbm_entry_state.specs.declared.marks.Marks.{Marks}
+use Rattle.bbm_place_map.specs.Finds.{FoundAs}
+use Rattle.bbm_place_map.specs.Map.{marks_at}
+use Rattle.bbm_place_map.specs.declared.found.Found.{Found}
+use Rattle.bbm_place_map.specs.declared.map.PlaceMap.{PlaceMap}
+use Rattle.bbm_regimes.specs.declared.regime.Kind.{Kind}
+use Rattle.bbm_regimes.specs.declared.regime.Kind.TheVariants.{S2, Ttbr0}
+use Rattle.bbm_tlbi_scope.specs.declared.scope.Family.{Family}
+use Rattle.bbm_tlbi_scope.specs.declared.scope.Family.TheVariants.{VmAll1, VmAll12, Ipa, Va, Asid}
+use Rattle.bbm_tree_index.specs.declared.index.TreeIndex.{TreeIndex}
 use Rattle.bbm_replay_roots.specs.Stands as roots
 use Rattle.bbm_replay_roots.specs.declared.state.RootState.{RootState}
-use Rattle.bbm_replay_entries.specs.rules.Claims.Trust.{Patterns}
-use Rattle.bbm_replay_entries.specs.rules.Covers.{cover_at}
-use Rattle.bbm_replay_entries.specs.rules.Prelude.{Heading, Event, Scope, Tlbi, TlbiOp}
-use Rattle.bbm_replay_entries.specs.rules.Registers.{named_scope, vmid_of}
+use Rattle.bbm_rules.specs.Claims.Trust.{Patterns}
+use Rattle.bbm_rules.specs.Covers.{cover_at}
+use Rattle.bbm_rules.specs.Prelude.{Heading, Event, Scope, Tlbi, TlbiOp}
+use Rattle.bbm_rules.specs.Registers.{named_scope, vmid_of}
 use Rattle.bbm_replay_trees.specs.Told.{notes}
 use Rattle.bbm_replay.specs.Standing.{view_of}
 use Rattle.bbm_replay.specs.Told.{Told}

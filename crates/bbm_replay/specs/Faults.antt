@@ -1,9 +1,9 @@
 -- Why a checker doesn't take an event, by why the index of the trees refuses a call. Source: project's own choice.
-use Rattle.bbm_replay_entries.specs.rules.declared.rule.Rule.TheVariants as rule
-use Rattle.bbm_replay_entries.specs.rules.declared.step_fault.StepFault.{StepFault}
-use Rattle.bbm_replay_entries.specs.rules.declared.step_fault.StepFault.TheVariants as step
-use Rattle.bbm_replay_trees.specs.tree_index.declared.fault.TreeFault.{TreeFault}
-use Rattle.bbm_replay_trees.specs.tree_index.declared.fault.TreeFault.TheVariants.{NoMemory, Limit, NotFresh, BadKind, GlobalUser}
+use Rattle.bbm_rules.specs.declared.rule.Rule.TheVariants as rule
+use Rattle.bbm_rules.specs.declared.step_fault.StepFault.{StepFault}
+use Rattle.bbm_rules.specs.declared.step_fault.StepFault.TheVariants as step
+use Rattle.bbm_tree_index.specs.declared.fault.TreeFault.{TreeFault}
+use Rattle.bbm_tree_index.specs.declared.fault.TreeFault.TheVariants.{NoMemory, Limit, NotFresh, BadKind, GlobalUser}
 
 abbrev pub step_fault : TreeFault → StepFault
 step_fault NoMemory = step.NoMemory

@@ -2,40 +2,40 @@
 -- one event more, as records, so that each proof takes them as one hypothesis. The clause of `laws` promises them.
 use Rattle.std.specs.Prelude.{◌≡◌, ℕ, ◌+◌, ◌<◌, ◌⊎◌, ◌↔◌, Bool, true, false, not, ◌&&◌, ◌||◌, ◌==◌, List, [], ◌∷◌}
 use Rattle.std.specs.Prelude.{length, Contains, Option, Some, None, is_none, is_some, if◌then◌else◌}
-use Rattle.bbm_replay_entries.specs.descriptor.Descriptor.{core_of, is_valid}
-use Rattle.bbm_replay_entries.specs.descriptor.declared.desc.Core.{Core}
-use Rattle.bbm_replay_entries.specs.entry_state.Calls.{Completed, Noted, Written}
-use Rattle.bbm_replay_entries.specs.entry_state.Points.{is_broken, waits}
-use Rattle.bbm_replay_entries.specs.entry_state.Standing.{KeepsPends}
-use Rattle.bbm_replay_entries.specs.entry_state.declared.pending.Pends.{Pends}
-use Rattle.bbm_replay_entries.specs.entry_state.declared.state.EntryState.{EntryState}
-use Rattle.bbm_replay_entries.specs.regimes.PeMask.{pe_in}
-use Rattle.bbm_replay_entries.specs.regimes.declared.pe.PeMask.{PeMask}
-use Rattle.bbm_replay_entries.specs.tlbi_scope.Operations.{operation}
-use Rattle.bbm_replay_entries.specs.tlbi_scope.declared.entry.Cover.{Cover}
-use Rattle.bbm_replay_entries.specs.tlbi_scope.declared.entry.Cover.TheVariants.{None as NoCover}
-use Rattle.bbm_replay_entries.specs.events.Heading.{heading_ok}
-use Rattle.bbm_replay_entries.specs.histories.Tree.{Proper}
-use Rattle.bbm_replay_entries.specs.rules.Attach.{attached_by}
-use Rattle.bbm_replay_entries.specs.rules.Broken.{keeps}
-use Rattle.bbm_replay_entries.specs.rules.Changes.{changes}
-use Rattle.bbm_replay_entries.specs.rules.Claims.Trust.{Patterns}
-use Rattle.bbm_replay_entries.specs.rules.Covers.{cover_at}
-use Rattle.bbm_replay_entries.specs.rules.Held.{held}
-use Rattle.bbm_replay_entries.specs.rules.Pages.{initialised, is_fresh}
-use Rattle.bbm_replay_entries.specs.rules.Places.{page_of}
-use Rattle.bbm_replay_entries.specs.rules.Prelude.{Barrier, Kind, Heading, Event, Init, Null, Root, Unroot, Write, Dsb, Tlbi, TlbiOp}
-use Rattle.bbm_replay_entries.specs.rules.Reach.{reaches}
-use Rattle.bbm_replay_entries.specs.rules.Tree.{Above, Node, next_of, node_below, nodes_of_root}
-use Rattle.bbm_replay_entries.specs.rules.Values.{value_of}
+use Rattle.bbm_descriptor.specs.Descriptor.{core_of, is_valid}
+use Rattle.bbm_descriptor.specs.declared.desc.Core.{Core}
+use Rattle.bbm_entry_state.specs.Calls.{Completed, Noted, Written}
+use Rattle.bbm_entry_state.specs.Points.{is_broken, waits}
+use Rattle.bbm_entry_state.specs.Standing.{KeepsPends}
+use Rattle.bbm_entry_state.specs.declared.pending.Pends.{Pends}
+use Rattle.bbm_entry_state.specs.declared.state.EntryState.{EntryState}
+use Rattle.bbm_regimes.specs.PeMask.{pe_in}
+use Rattle.bbm_regimes.specs.declared.pe.PeMask.{PeMask}
+use Rattle.bbm_tlbi_scope.specs.Operations.{operation}
+use Rattle.bbm_tlbi_scope.specs.declared.entry.Cover.{Cover}
+use Rattle.bbm_tlbi_scope.specs.declared.entry.Cover.TheVariants.{None as NoCover}
+use Rattle.bbm_events.specs.Heading.{heading_ok}
+use Rattle.bbm_histories.specs.Tree.{Proper}
+use Rattle.bbm_rules.specs.Attach.{attached_by}
+use Rattle.bbm_rules.specs.Broken.{keeps}
+use Rattle.bbm_rules.specs.Changes.{changes}
+use Rattle.bbm_rules.specs.Claims.Trust.{Patterns}
+use Rattle.bbm_rules.specs.Covers.{cover_at}
+use Rattle.bbm_rules.specs.Held.{held}
+use Rattle.bbm_rules.specs.Pages.{initialised, is_fresh}
+use Rattle.bbm_rules.specs.Places.{page_of}
+use Rattle.bbm_rules.specs.Prelude.{Barrier, Kind, Heading, Event, Init, Null, Root, Unroot, Write, Dsb, Tlbi, TlbiOp}
+use Rattle.bbm_rules.specs.Reach.{reaches}
+use Rattle.bbm_rules.specs.Tree.{Above, Node, next_of, node_below, nodes_of_root}
+use Rattle.bbm_rules.specs.Values.{value_of}
 use Rattle.bbm_replay_entries.specs.Events.{Heard, OthersStay, OthersWait, touches}
 use Rattle.bbm_replay_entries.specs.Stands.{ByValue, EntryStands, held_now}
 use Rattle.bbm_replay_trees.specs.Events.{leaves_trees}
-use Rattle.bbm_replay_trees.specs.tree_index.Paths.{Attached}
+use Rattle.bbm_tree_index.specs.Paths.{Attached}
 use Rattle.bbm_replay_trees.specs.Told.{AllFit, SameCores, SameFresh, SameKnown}
 use Rattle.bbm_replay_trees.specs.Told.{SameNodes, SameNull, SameValues, is_held_by}
 use Rattle.bbm_replay_trees.specs.Told.{Hangs, kept, notes}
-use Rattle.bbm_replay_entries.specs.entry_state.Points.{core_in}
+use Rattle.bbm_entry_state.specs.Points.{core_in}
 
 -- the nodes of the trees after an event
 pub record NodeLaws (heading : Heading) : Type 0 where

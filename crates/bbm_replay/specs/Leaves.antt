@@ -1,7 +1,7 @@
 -- What the core of a written value says. Source: project's own choice.
 use Rattle.std.specs.Prelude.{ℕ, Bool, false, Option, Some, None}
-use Rattle.bbm_replay_entries.specs.descriptor.declared.desc.Core.{Core}
-use Rattle.bbm_replay_entries.specs.descriptor.declared.desc.Core.TheVariants.{Table, Leaf}
+use Rattle.bbm_descriptor.specs.declared.desc.Core.{Core}
+use Rattle.bbm_descriptor.specs.declared.desc.Core.TheVariants.{Table, Leaf}
 
 -- whether it is a leaf with the Contiguous hint, and whether a leaf for every ASID
 abbrev pub is_contiguous_core : Option Core → Bool

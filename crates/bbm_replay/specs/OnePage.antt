@@ -1,19 +1,19 @@
 -- A TLBI that names one input page, and the places that it can cover. Source: project's own choice; which kinds an
 -- operation by address covers is that of the table of covers.
 use Rattle.std.specs.Prelude.{◌≡◌, ℕ, ◌+◌, ◌*◌, ◌<◌, ◌%◌, ◌^◌, Bool, true, false, List, Option, Some, is_some, length}
-use Rattle.bbm_replay_entries.specs.descriptor.declared.desc.Core.{Core}
-use Rattle.bbm_replay_trees.specs.place_map.Finds.{is_found}
-use Rattle.bbm_replay_trees.specs.place_map.Map.{marks_at}
-use Rattle.bbm_replay_trees.specs.place_map.declared.found.Found.{Found}
-use Rattle.bbm_replay_trees.specs.place_map.declared.map.PlaceMap.{PlaceMap}
-use Rattle.bbm_replay_entries.specs.regimes.declared.regime.Kind.{Kind}
-use Rattle.bbm_replay_entries.specs.regimes.declared.regime.Kind.TheVariants.{El2, S2, Ttbr0, Ttbr1}
-use Rattle.bbm_replay_entries.specs.tlbi_scope.Operations.{has_page}
-use Rattle.bbm_replay_entries.specs.tlbi_scope.declared.scope.Family.{Family}
-use Rattle.bbm_replay_entries.specs.tlbi_scope.declared.scope.Family.TheVariants.{El2Va, Ipa, Va, VaAll}
-use Rattle.bbm_replay_entries.specs.tlbi_scope.declared.scope.Scope.{Scope}
-use Rattle.bbm_replay_entries.specs.rules.Tree.{Node}
-use Rattle.bbm_replay_trees.specs.tree_index.Descent.{IsWay}
+use Rattle.bbm_descriptor.specs.declared.desc.Core.{Core}
+use Rattle.bbm_place_map.specs.Finds.{is_found}
+use Rattle.bbm_place_map.specs.Map.{marks_at}
+use Rattle.bbm_place_map.specs.declared.found.Found.{Found}
+use Rattle.bbm_place_map.specs.declared.map.PlaceMap.{PlaceMap}
+use Rattle.bbm_regimes.specs.declared.regime.Kind.{Kind}
+use Rattle.bbm_regimes.specs.declared.regime.Kind.TheVariants.{El2, S2, Ttbr0, Ttbr1}
+use Rattle.bbm_tlbi_scope.specs.Operations.{has_page}
+use Rattle.bbm_tlbi_scope.specs.declared.scope.Family.{Family}
+use Rattle.bbm_tlbi_scope.specs.declared.scope.Family.TheVariants.{El2Va, Ipa, Va, VaAll}
+use Rattle.bbm_tlbi_scope.specs.declared.scope.Scope.{Scope}
+use Rattle.bbm_rules.specs.Tree.{Node}
+use Rattle.bbm_tree_index.specs.Descent.{IsWay}
 
 -- whether an operation by address of this family can cover places of a root of this kind
 abbrev pub covers_kind : Family → Kind → Bool

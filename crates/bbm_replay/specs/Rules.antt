@@ -3,24 +3,24 @@
 -- of `rules` promises it.
 use Rattle.std.specs.Prelude.{◌≡◌, ℕ, ◌%◌, Bool, true, false, not, ◌&&◌, ◌||◌, ◌==◌, nat_le, List, [], ◌∷◌, length}
 use Rattle.std.specs.Prelude.{Option, Some, None, is_some, filter, option_and_then}
-use Rattle.bbm_replay_entries.specs.descriptor.Descriptor.{core_of, desc_of, differ, is_valid}
-use Rattle.bbm_replay_entries.specs.descriptor.declared.desc.Core.{Core}
-use Rattle.bbm_replay_entries.specs.histories.Tree.{Proper}
-use Rattle.bbm_replay_entries.specs.regimes.declared.regime.Which.TheVariants.{Pages}
-use Rattle.bbm_replay_entries.specs.rules.Attach.{attached_by}
-use Rattle.bbm_replay_entries.specs.rules.Broken.{broken, first_broken}
-use Rattle.bbm_replay_entries.specs.rules.Claims.Trust.{Patterns}
-use Rattle.bbm_replay_entries.specs.rules.Limits.{limit_of}
-use Rattle.bbm_replay_entries.specs.rules.Lists.{among, if_so, least}
-use Rattle.bbm_replay_entries.specs.rules.Pages.{initialised}
-use Rattle.bbm_replay_entries.specs.rules.Places.{page_of}
-use Rattle.bbm_replay_entries.specs.rules.Prelude.{Kind, Heading, Event, Init, Null, Root, Write}
-use Rattle.bbm_replay_entries.specs.rules.Roots.{lock_of, root_pages}
-use Rattle.bbm_replay_entries.specs.rules.Rules.{bad_kind, break_before_make, global_user, lacks, limbo_make, no_lock, not_fresh}
-use Rattle.bbm_replay_entries.specs.rules.Rules.{null_written, page_in_use, rewritten_fresh}
-use Rattle.bbm_replay_entries.specs.rules.Tree.{Node, next_of, node_below, nodes_of_root}
+use Rattle.bbm_descriptor.specs.Descriptor.{core_of, desc_of, differ, is_valid}
+use Rattle.bbm_descriptor.specs.declared.desc.Core.{Core}
+use Rattle.bbm_histories.specs.Tree.{Proper}
+use Rattle.bbm_regimes.specs.declared.regime.Which.TheVariants.{Pages}
+use Rattle.bbm_rules.specs.Attach.{attached_by}
+use Rattle.bbm_rules.specs.Broken.{broken, first_broken}
+use Rattle.bbm_rules.specs.Claims.Trust.{Patterns}
+use Rattle.bbm_rules.specs.Limits.{limit_of}
+use Rattle.bbm_rules.specs.Lists.{among, if_so, least}
+use Rattle.bbm_rules.specs.Pages.{initialised}
+use Rattle.bbm_rules.specs.Places.{page_of}
+use Rattle.bbm_rules.specs.Prelude.{Kind, Heading, Event, Init, Null, Root, Write}
+use Rattle.bbm_rules.specs.Roots.{lock_of, root_pages}
+use Rattle.bbm_rules.specs.Rules.{bad_kind, break_before_make, global_user, lacks, limbo_make, no_lock, not_fresh}
+use Rattle.bbm_rules.specs.Rules.{null_written, page_in_use, rewritten_fresh}
+use Rattle.bbm_rules.specs.Tree.{Node, next_of, node_below, nodes_of_root}
 use Rattle.bbm_replay_trees.specs.Events.{may_reach_limit, rules_of}
-use Rattle.bbm_replay_trees.specs.tree_index.Judged.{is_bad, is_user_global}
+use Rattle.bbm_tree_index.specs.Judged.{is_bad, is_user_global}
 use Rattle.bbm_replay_trees.specs.Judging.{Judging}
 use Rattle.bbm_replay_trees.specs.Told.{AllFit, SameCores, SameFresh, SameNodes, SameNull, SameValues, is_at, limbo_by}
 use Rattle.bbm_replay_trees.specs.Told.{notes}

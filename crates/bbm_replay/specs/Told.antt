@@ -1,12 +1,12 @@
 -- When a view is what the definitions say after a history. A history is newest first. Source: project's own choice.
 use Rattle.std.specs.Prelude.{◌≡◌, ℕ, true, false, List, length, Some, None}
-use Rattle.bbm_replay_entries.specs.events.Heading.{heading_ok}
-use Rattle.bbm_replay_entries.specs.rules.Prelude.{Heading, Event}
-use Rattle.bbm_replay_entries.specs.rules.Broken.{keeps}
-use Rattle.bbm_replay_entries.specs.rules.Claims.Trust.{Patterns}
-use Rattle.bbm_replay_entries.specs.rules.Pages.{initialised}
-use Rattle.bbm_replay_entries.specs.rules.Places.{page_of}
-use Rattle.bbm_replay_entries.specs.rules.Tree.{Node}
+use Rattle.bbm_events.specs.Heading.{heading_ok}
+use Rattle.bbm_rules.specs.Prelude.{Heading, Event}
+use Rattle.bbm_rules.specs.Broken.{keeps}
+use Rattle.bbm_rules.specs.Claims.Trust.{Patterns}
+use Rattle.bbm_rules.specs.Pages.{initialised}
+use Rattle.bbm_rules.specs.Places.{page_of}
+use Rattle.bbm_rules.specs.Tree.{Node}
 use Rattle.bbm_replay_entries.specs.Stands.{EntryStands}
 use Rattle.bbm_replay_trees.specs.Told.{AllFit, SameFresh, SameKnown, SameNodes, SameNull, SameValues}
 use Rattle.bbm_replay.specs.View.{View, state_of, waiting}

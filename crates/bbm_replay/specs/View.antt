@@ -1,14 +1,14 @@
 -- What a checker that keeps no history says of each page and place, by plain functions. Source: project's own choice.
 use Rattle.std.specs.Prelude.{ℕ, Bool, Option}
-use Rattle.bbm_replay_entries.specs.descriptor.Descriptor.{core_of}
-use Rattle.bbm_replay_entries.specs.descriptor.declared.desc.Core.{Core}
-use Rattle.bbm_replay_entries.specs.entry_state.Points.{core_in}
-use Rattle.bbm_replay_entries.specs.entry_state.declared.marks.Marks.{Marks}
-use Rattle.bbm_replay_entries.specs.entry_state.declared.pending.Pends.{Pends}
-use Rattle.bbm_replay_entries.specs.entry_state.declared.state.EntryState.{EntryState}
-use Rattle.bbm_replay_trees.specs.place_map.States.{state_from}
-use Rattle.bbm_replay_entries.specs.rules.Prelude.{Kind}
-use Rattle.bbm_replay_entries.specs.rules.Tree.{Node}
+use Rattle.bbm_descriptor.specs.Descriptor.{core_of}
+use Rattle.bbm_descriptor.specs.declared.desc.Core.{Core}
+use Rattle.bbm_entry_state.specs.Points.{core_in}
+use Rattle.bbm_entry_state.specs.declared.marks.Marks.{Marks}
+use Rattle.bbm_entry_state.specs.declared.pending.Pends.{Pends}
+use Rattle.bbm_entry_state.specs.declared.state.EntryState.{EntryState}
+use Rattle.bbm_place_map.specs.States.{state_from}
+use Rattle.bbm_rules.specs.Prelude.{Kind}
+use Rattle.bbm_rules.specs.Tree.{Node}
 
 pub record View : Type 0 where
   -- of a place: its value, how far each PE is cleansed where it is broken, and what waits for the TLBIs of an issuer

@@ -1,20 +1,20 @@
 //! Barriers.
 
 ghost use Rattle.std.specs.Prelude.{◌≡◌, ◌≤◌, ◌<◌, ◌&&◌, ℕ, Option, Ok, true, false};
-ghost use Rattle.bbm_replay_entries.specs.barriers.Options as options;
-ghost use Rattle.bbm_replay_entries.specs.descriptor.declared.desc.Core.{Core};
-ghost use Rattle.bbm_replay_entries.specs.entry_state.Calls.{Published};
-ghost use Rattle.bbm_replay_entries.specs.events.declared.event.Event.TheVariants.{Dmb, Dsb as DsbEvent};
-ghost use Rattle.bbm_replay_trees.specs.place_map.Map.{is_tracked, marks_at, pends_at, state_at, value_at};
+ghost use Rattle.bbm_barriers.specs.Options as options;
+ghost use Rattle.bbm_descriptor.specs.declared.desc.Core.{Core};
+ghost use Rattle.bbm_entry_state.specs.Calls.{Published};
+ghost use Rattle.bbm_events.specs.declared.event.Event.TheVariants.{Dmb, Dsb as DsbEvent};
+ghost use Rattle.bbm_place_map.specs.Map.{is_tracked, marks_at, pends_at, state_at, value_at};
 ghost use Rattle.bbm_replay.specs.Standing.{MayMeet, Meets};
 
 use crate::laws::laws;
 use crate::parts::Parts;
-use bbm_replay_entries::barriers::{Dsb, is_non};
-use bbm_replay_entries::events::Header;
-use bbm_replay_entries::regimes::Pe;
+use bbm_barriers::{Dsb, is_non};
+use bbm_events::Header;
+use bbm_place_map::PlaceMap;
+use bbm_regimes::Pe;
 use bbm_replay_roots::{law_barriers, law_others};
-use bbm_replay_trees::place_map::PlaceMap;
 
 /// Whether the DSB publishes nothing, since TLBs may share entries and its domain is the non-shareable one.
 fn is_silent(header: &Header, dsb: Dsb) -> bool

@@ -1,36 +1,36 @@
 //! The TLBIs of one input page: they look at the places on the way down to it alone.
 
 ghost use Rattle.std.specs.Prelude.{◌≡◌, ◌++◌, [], ◌∷◌, ◌+◌, ◌*◌, ◌<◌, ℕ, true, List, Some, length, is_some, OnOk, IfOk, IfSome};
-ghost use Rattle.bbm_replay_entries.specs.descriptor.Descriptor.{core_of};
-ghost use Rattle.bbm_replay_entries.specs.entry_state.Points.{core_in};
-ghost use Rattle.bbm_replay_entries.specs.events.Heading.{Heading};
-ghost use Rattle.bbm_replay_entries.specs.events.declared.event.Event.{Event};
-ghost use Rattle.bbm_replay_trees.specs.place_map.Finds.{is_found};
-ghost use Rattle.bbm_replay_trees.specs.place_map.Map.{marks_at, state_at, value_at};
-ghost use Rattle.bbm_replay_entries.specs.regimes.World as spec;
-ghost use Rattle.bbm_replay_entries.specs.regimes.declared.regime.Kind.{Kind as TheKind};
-ghost use Rattle.bbm_replay_entries.specs.rules.Places.{page_of};
-ghost use Rattle.bbm_replay_entries.specs.rules.Roots.{Declared, root_at};
-ghost use Rattle.bbm_replay_entries.specs.rules.Tree.{Node};
-ghost use Rattle.bbm_replay_trees.specs.tree_index.Agreement.{IsSound};
-ghost use Rattle.bbm_replay_trees.specs.tree_index.Descent.{IsWay};
-ghost use Rattle.bbm_replay_trees.specs.tree_index.Held.{core_at, next_in};
-ghost use Rattle.bbm_replay_trees.specs.tree_index.Index.{node_in};
-ghost use Rattle.bbm_replay_trees.specs.tree_index.Nodes.{path_at};
+ghost use Rattle.bbm_descriptor.specs.Descriptor.{core_of};
+ghost use Rattle.bbm_entry_state.specs.Points.{core_in};
+ghost use Rattle.bbm_events.specs.Heading.{Heading};
+ghost use Rattle.bbm_events.specs.declared.event.Event.{Event};
+ghost use Rattle.bbm_place_map.specs.Finds.{is_found};
+ghost use Rattle.bbm_place_map.specs.Map.{marks_at, state_at, value_at};
+ghost use Rattle.bbm_regimes.specs.World as spec;
+ghost use Rattle.bbm_regimes.specs.declared.regime.Kind.{Kind as TheKind};
+ghost use Rattle.bbm_rules.specs.Places.{page_of};
+ghost use Rattle.bbm_rules.specs.Roots.{Declared, root_at};
+ghost use Rattle.bbm_rules.specs.Tree.{Node};
+ghost use Rattle.bbm_tree_index.specs.Agreement.{IsSound};
+ghost use Rattle.bbm_tree_index.specs.Descent.{IsWay};
+ghost use Rattle.bbm_tree_index.specs.Held.{core_at, next_in};
+ghost use Rattle.bbm_tree_index.specs.Index.{node_in};
+ghost use Rattle.bbm_tree_index.specs.Nodes.{path_at};
 ghost use Rattle.bbm_replay_roots.specs.Listed.{nth_in};
 ghost use Rattle.bbm_replay_roots.specs.Stands.{Stands};
 ghost use Rattle.bbm_replay.specs.Covering.{AreCovered};
 ghost use Rattle.bbm_replay.specs.OnePage.{IsFoundIn, MetFrom, MetFromAll, NamesOne, covers_kind as spec_covers_kind};
 
 use crate::covers::cover_met;
-use bbm_replay_entries::descriptor::Core;
-use bbm_replay_entries::entry_state::EntryState;
-use bbm_replay_entries::events::Header;
-use bbm_replay_entries::regimes::{Kind, NoMemory, Page, Place};
-use bbm_replay_entries::tlbi_scope::{Family, Scope};
+use bbm_descriptor::Core;
+use bbm_entry_state::EntryState;
+use bbm_events::Header;
+use bbm_place_map::{Found, PlaceMap};
+use bbm_regimes::{Kind, NoMemory, Page, Place};
 use bbm_replay_roots::RootState;
-use bbm_replay_trees::place_map::{Found, PlaceMap};
-use bbm_replay_trees::tree_index::{Path, TreeIndex};
+use bbm_tlbi_scope::{Family, Scope};
+use bbm_tree_index::{Path, TreeIndex};
 use std::alloc::Global;
 
 /// The one input page that the scope names by its address, None where it names none or more.

@@ -1,38 +1,38 @@
 //! How far a TLBI covers a broken place.
 
 ghost use Rattle.std.specs.Prelude.{◌≡◌, ◌↔◌, ◌&&◌, not, is_none, ℕ, true, List};
-ghost use Rattle.bbm_replay_entries.specs.events.Heading.{Heading};
-ghost use Rattle.bbm_replay_entries.specs.events.declared.event.Event.{Event};
-ghost use Rattle.bbm_replay_entries.specs.events.declared.event.Event.TheVariants.{Tlbi};
-ghost use Rattle.bbm_replay_entries.specs.tlbi_scope.declared.op.TlbiOp.{TlbiOp};
-ghost use Rattle.bbm_replay_entries.specs.rules.Claims.Trust.{Patterns};
-ghost use Rattle.bbm_replay_entries.specs.rules.Covers.{cover_at};
+ghost use Rattle.bbm_events.specs.Heading.{Heading};
+ghost use Rattle.bbm_events.specs.declared.event.Event.{Event};
+ghost use Rattle.bbm_events.specs.declared.event.Event.TheVariants.{Tlbi};
+ghost use Rattle.bbm_tlbi_scope.specs.declared.op.TlbiOp.{TlbiOp};
+ghost use Rattle.bbm_rules.specs.Claims.Trust.{Patterns};
+ghost use Rattle.bbm_rules.specs.Covers.{cover_at};
 ghost use Rattle.bbm_replay_trees.specs.Told.{notes};
 ghost use Rattle.bbm_replay.specs.Covering.{IsBrokenOver, MayBeCovered, MayBeIssued, asks_tags as spec_asks_tags};
 ghost use Rattle.bbm_replay_roots.specs.Stands.{Stands};
-ghost use Rattle.bbm_replay_entries.specs.rules.Places.{page_of};
-ghost use Rattle.bbm_replay_entries.specs.rules.Tags.{tag_set, tags_of};
-ghost use Rattle.bbm_replay_entries.specs.rules.Tree.{Node};
-ghost use Rattle.bbm_replay_entries.specs.tlbi_scope.Numbers.{names_some};
-ghost use Rattle.bbm_replay_entries.specs.tlbi_scope.Operations.{has_page};
-ghost use Rattle.bbm_replay_trees.specs.tree_index.Held.{Childless};
-ghost use Rattle.bbm_replay_trees.specs.tree_index.Index.{node_in};
-ghost use Rattle.bbm_replay_trees.specs.tree_index.Nodes.{path_at};
-ghost use Rattle.bbm_replay_trees.specs.place_map.Each.{is_table as is_table_core};
+ghost use Rattle.bbm_rules.specs.Places.{page_of};
+ghost use Rattle.bbm_rules.specs.Tags.{tag_set, tags_of};
+ghost use Rattle.bbm_rules.specs.Tree.{Node};
+ghost use Rattle.bbm_tlbi_scope.specs.Numbers.{names_some};
+ghost use Rattle.bbm_tlbi_scope.specs.Operations.{has_page};
+ghost use Rattle.bbm_tree_index.specs.Held.{Childless};
+ghost use Rattle.bbm_tree_index.specs.Index.{node_in};
+ghost use Rattle.bbm_tree_index.specs.Nodes.{path_at};
+ghost use Rattle.bbm_place_map.specs.Each.{is_table as is_table_core};
 ghost use Rattle.bbm_replay.specs.Leaves.{is_global_core};
 ghost use Rattle.std.specs.Prelude.{Some};
-ghost use Rattle.bbm_replay_trees.specs.tree_index.Agreement.{IsSound};
+ghost use Rattle.bbm_tree_index.specs.Agreement.{IsSound};
 
 use crate::laws::laws;
-use bbm_replay_entries::descriptor::Core;
+use bbm_descriptor::Core;
+use bbm_place_map::PlaceMap;
+use bbm_regimes::{Interval, Kind, Page, Place};
 use bbm_replay_entries::law_entry_holds;
-use bbm_replay_entries::regimes::{Interval, Kind, Page, Place};
-use bbm_replay_entries::rules::law_notes_keep_the_events;
-use bbm_replay_entries::tlbi_scope::{Cover, Family, PlaceView, Scope, TagSet, cover};
 use bbm_replay_roots::RootState;
 use bbm_replay_trees::law_childless_by_cores;
-use bbm_replay_trees::place_map::PlaceMap;
-use bbm_replay_trees::tree_index::{Path, TreeIndex};
+use bbm_rules::law_notes_keep_the_events;
+use bbm_tlbi_scope::{Cover, Family, PlaceView, Scope, TagSet, cover};
+use bbm_tree_index::{Path, TreeIndex};
 
 /// Whether the core is that of a table.
 fn is_table(core: &Core) -> bool

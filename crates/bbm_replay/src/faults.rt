@@ -3,8 +3,8 @@
 ghost use Rattle.std.specs.Prelude.{◌≡◌};
 ghost use Rattle.bbm_replay.specs.Faults as spec;
 
-use bbm_replay_entries::rules::{Rule, StepFault};
-use bbm_replay_trees::tree_index::TreeFault;
+use bbm_rules::{Rule, StepFault};
+use bbm_tree_index::TreeFault;
 
 /// Why an event isn't taken, by why the index of the trees refuses a call.
 pub(crate) fn step_fault(fault: TreeFault) -> StepFault

@@ -1,18 +1,18 @@
 //! What the issue of a TLBI leaves to its answer.
 
 ghost use Rattle.std.specs.Prelude.{◌≡◌, ℕ, true, false, List, None, OnOk, OnErr, is_some, nat_eq};
-ghost use Rattle.bbm_replay_entries.specs.entry_state.Calls.{Noted};
-ghost use Rattle.bbm_replay_entries.specs.events.Heading.{Heading};
-ghost use Rattle.bbm_replay_entries.specs.events.declared.event.Event.{Event};
-ghost use Rattle.bbm_replay_entries.specs.events.declared.event.Event.TheVariants.{Tlbi};
-ghost use Rattle.bbm_replay_trees.specs.place_map.Calls.{IsSame};
-ghost use Rattle.bbm_replay_trees.specs.place_map.Map.{is_tracked, marks_at, pends_at, value_at};
-ghost use Rattle.bbm_replay_trees.specs.place_map.States.{state_from};
-ghost use Rattle.bbm_replay_entries.specs.tlbi_scope.Operations as operations;
-ghost use Rattle.bbm_replay_entries.specs.tlbi_scope.declared.op.TlbiOp.{TlbiOp as TheOp};
-ghost use Rattle.bbm_replay_trees.specs.tree_index.Agreement.{IsSound};
-ghost use Rattle.bbm_replay_entries.specs.rules.Claims.Trust.{Patterns};
-ghost use Rattle.bbm_replay_entries.specs.rules.Covers.{cover_at};
+ghost use Rattle.bbm_entry_state.specs.Calls.{Noted};
+ghost use Rattle.bbm_events.specs.Heading.{Heading};
+ghost use Rattle.bbm_events.specs.declared.event.Event.{Event};
+ghost use Rattle.bbm_events.specs.declared.event.Event.TheVariants.{Tlbi};
+ghost use Rattle.bbm_place_map.specs.Calls.{IsSame};
+ghost use Rattle.bbm_place_map.specs.Map.{is_tracked, marks_at, pends_at, value_at};
+ghost use Rattle.bbm_place_map.specs.States.{state_from};
+ghost use Rattle.bbm_tlbi_scope.specs.Operations as operations;
+ghost use Rattle.bbm_tlbi_scope.specs.declared.op.TlbiOp.{TlbiOp as TheOp};
+ghost use Rattle.bbm_tree_index.specs.Agreement.{IsSound};
+ghost use Rattle.bbm_rules.specs.Claims.Trust.{Patterns};
+ghost use Rattle.bbm_rules.specs.Covers.{cover_at};
 ghost use Rattle.bbm_replay_trees.specs.Told.{notes};
 ghost use Rattle.bbm_replay.specs.Covering.{MayBeIssued};
 ghost use Rattle.bbm_replay.specs.OnePage.{NamesOne};
@@ -20,14 +20,14 @@ ghost use Rattle.bbm_replay.specs.OnePage.{NamesOne};
 use crate::by_page::{found_on_ways, one_page};
 use crate::covers::cover_of;
 use crate::laws::laws;
-use bbm_replay_entries::events::Header;
-use bbm_replay_entries::regimes::{NoMemory, Pe, PeMask};
-use bbm_replay_entries::rules::law_notes_keep_the_events;
-use bbm_replay_entries::tlbi_scope::{Scope, TlbiOp};
+use bbm_events::Header;
+use bbm_place_map::PlaceMap;
+use bbm_regimes::{NoMemory, Pe, PeMask};
 use bbm_replay_roots::RootState;
-use bbm_replay_trees::place_map::PlaceMap;
 use bbm_replay_trees::starts::law_starts;
-use bbm_replay_trees::tree_index::TreeIndex;
+use bbm_rules::law_notes_keep_the_events;
+use bbm_tlbi_scope::{Scope, TlbiOp};
+use bbm_tree_index::TreeIndex;
 use std::alloc::Global;
 
 /// How many places may be broken for a TLBI of one page to look at each of them. Source: project's own choice.

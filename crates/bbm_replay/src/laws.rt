@@ -1,11 +1,11 @@
 //! What the crates below prove of histories, gathered for the proofs here.
 
-ghost use Rattle.bbm_replay_entries.specs.events.Heading.{Heading};
+ghost use Rattle.bbm_events.specs.Heading.{Heading};
 ghost use Rattle.bbm_replay.specs.Laws.{Laws};
 ghost use Rattle.bbm_replay.specs.Rules.{Rules};
 
-use bbm_replay_entries::descriptor::laws::law_core_where_valid;
-use bbm_replay_entries::histories::law_proper;
+use bbm_descriptor::laws::law_core_where_valid;
+use bbm_histories::law_proper;
 use bbm_replay_entries::{
     law_entry_alike, law_entry_begins, law_entry_dsb, law_entry_holds, law_entry_stays,
     law_entry_tlbi, law_entry_write,

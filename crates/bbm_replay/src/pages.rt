@@ -1,20 +1,20 @@
 //! Pages that are made zero, or declared null.
 
 ghost use Rattle.std.specs.Prelude.{◌≡◌, ℕ, ◌||◌, true, false, is_some};
-ghost use Rattle.bbm_replay_trees.specs.tree_index.Index.{node_in, null_in};
-ghost use Rattle.bbm_replay_entries.specs.events.declared.event.Event.TheVariants.{Init, Null};
-ghost use Rattle.bbm_replay_trees.specs.place_map.Map.{value_at};
+ghost use Rattle.bbm_tree_index.specs.Index.{node_in, null_in};
+ghost use Rattle.bbm_events.specs.declared.event.Event.TheVariants.{Init, Null};
+ghost use Rattle.bbm_place_map.specs.Map.{value_at};
 ghost use Rattle.bbm_replay_trees.specs.Told.{is_at};
 ghost use Rattle.bbm_replay.specs.Standing.{MayMeet, Meets};
 
 use crate::faults::step_fault;
 use crate::laws::{laws, rules};
 use crate::parts::Parts;
-use bbm_replay_entries::descriptor::Memory;
-use bbm_replay_entries::regimes::{Kind, Page, Pe, Place};
-use bbm_replay_entries::rules::{Rule, StepFault};
+use bbm_descriptor::Memory;
+use bbm_place_map::PlaceMap;
+use bbm_regimes::{Kind, Page, Pe, Place};
 use bbm_replay_roots::law_others;
-use bbm_replay_trees::place_map::PlaceMap;
+use bbm_rules::{Rule, StepFault};
 use std::alloc::Global;
 
 /// Whether each place of the page has the value 0.

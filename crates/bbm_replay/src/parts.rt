@@ -3,12 +3,12 @@
 ghost use Rattle.std.specs.Prelude.{IfOk, []};
 ghost use Rattle.bbm_replay.specs.Standing.{MayMeet, Meets, Stands};
 
-use bbm_replay_entries::events::{Event, Header};
-use bbm_replay_entries::regimes::NoMemory;
-use bbm_replay_entries::rules::StepFault;
+use bbm_events::{Event, Header};
+use bbm_place_map::PlaceMap;
+use bbm_regimes::NoMemory;
 use bbm_replay_roots::RootState;
-use bbm_replay_trees::place_map::PlaceMap;
-use bbm_replay_trees::tree_index::TreeIndex;
+use bbm_rules::StepFault;
+use bbm_tree_index::TreeIndex;
 use std::alloc::Global;
 
 /// The header of a log, the places, the trees, and the roots with registers, tags and locks. Clauses speak of the history

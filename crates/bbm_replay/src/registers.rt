@@ -1,20 +1,20 @@
 //! Register writes, ISBs, DMBs and locks.
 
 ghost use Rattle.std.specs.Prelude.{◌≡◌, ℕ, List, true};
-ghost use Rattle.bbm_replay_entries.specs.events.Heading.{Heading};
-ghost use Rattle.bbm_replay_entries.specs.events.declared.event.Event.{Event};
-ghost use Rattle.bbm_replay_entries.specs.events.declared.event.Event.TheVariants.{Dmb, Isb, Lock, Msr, Unlock};
+ghost use Rattle.bbm_events.specs.Heading.{Heading};
+ghost use Rattle.bbm_events.specs.declared.event.Event.{Event};
+ghost use Rattle.bbm_events.specs.declared.event.Event.TheVariants.{Dmb, Isb, Lock, Msr, Unlock};
 ghost use Rattle.std.specs.Prelude.{Ok};
 ghost use Rattle.bbm_replay_roots.specs.Bridge.{has_null_base};
 ghost use Rattle.bbm_replay.specs.Standing.{MayMeet, Meets, Stands};
-ghost use Rattle.bbm_replay_entries.specs.barriers.declared.Dsb.{Dsb as Barrier};
+ghost use Rattle.bbm_barriers.specs.declared.Dsb.{Dsb as Barrier};
 
 use crate::laws::laws;
 use crate::parts::Parts;
-use bbm_replay_entries::barriers::Dsb;
-use bbm_replay_entries::regimes::{Page, Pe, Reg, base_of};
-use bbm_replay_entries::rules::StepFault;
+use bbm_barriers::Dsb;
+use bbm_regimes::{Page, Pe, Reg, base_of};
 use bbm_replay_roots::law_barriers;
+use bbm_rules::StepFault;
 use std::alloc::Global;
 
 impl Parts {

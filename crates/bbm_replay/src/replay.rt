@@ -1,17 +1,17 @@
 //! The checker.
 
 ghost use Rattle.std.specs.Prelude.{◌≡◌, ℕ, List, [], true, IfOk};
-ghost use Rattle.bbm_replay_entries.specs.events.declared.event.Event.{Event as TheEvent};
-ghost use Rattle.bbm_replay_entries.specs.events.Heading.{Heading};
-ghost use Rattle.bbm_replay_trees.specs.place_map.Map as map;
-ghost use Rattle.bbm_replay_entries.specs.rules.Values as values;
+ghost use Rattle.bbm_events.specs.declared.event.Event.{Event as TheEvent};
+ghost use Rattle.bbm_events.specs.Heading.{Heading};
+ghost use Rattle.bbm_place_map.specs.Map as map;
+ghost use Rattle.bbm_rules.specs.Values as values;
 ghost use Rattle.bbm_replay.specs.Standing.{StandsFor};
 
 use crate::parts::Parts;
-use bbm_replay_entries::descriptor::Memory;
-use bbm_replay_entries::events::{Event, Header};
-use bbm_replay_entries::regimes::{Kind, NoMemory, Page, Pe, Place};
-use bbm_replay_entries::rules::{Checker, Fresh, Phase, StepFault};
+use bbm_descriptor::Memory;
+use bbm_events::{Event, Header};
+use bbm_regimes::{Kind, NoMemory, Page, Pe, Place};
+use bbm_rules::{Checker, Fresh, Phase, StepFault};
 use std::alloc::Global;
 
 /// A checker of events that keeps no history: it keeps the values and marks of places, the trees, the roots and locks,

@@ -1,24 +1,24 @@
 //! What the parts tell of places.
 
 ghost use Rattle.std.specs.Prelude.{◌≡◌, ◌≤◌, ◌<◌, ℕ, List};
-ghost use Rattle.bbm_replay_entries.specs.events.Heading.{Heading};
-ghost use Rattle.bbm_replay_entries.specs.events.declared.event.Event.{Event};
+ghost use Rattle.bbm_events.specs.Heading.{Heading};
+ghost use Rattle.bbm_events.specs.declared.event.Event.{Event};
 ghost use Rattle.bbm_replay_entries.specs.Phases.{phase_in};
-ghost use Rattle.bbm_replay_entries.specs.rules.Answers.{MayAsk};
-ghost use Rattle.bbm_replay_entries.specs.rules.Claims.{Patterns};
-ghost use Rattle.bbm_replay_entries.specs.rules.Phases as rules;
+ghost use Rattle.bbm_rules.specs.Answers.{MayAsk};
+ghost use Rattle.bbm_rules.specs.Claims.{Patterns};
+ghost use Rattle.bbm_rules.specs.Phases as rules;
 ghost use Rattle.bbm_replay.specs.Standing.{Stands, view_of};
 ghost use Rattle.bbm_replay.specs.View.{state_of};
-ghost use Rattle.bbm_replay_entries.specs.entry_state.declared.state.EntryState.{EntryState as TheState};
+ghost use Rattle.bbm_entry_state.specs.declared.state.EntryState.{EntryState as TheState};
 
 use crate::laws::laws;
 use crate::parts::Parts;
-use bbm_replay_entries::entry_state::{EntryState, Marks};
+use bbm_entry_state::{EntryState, Marks};
+use bbm_regimes::{Pe, Place};
 use bbm_replay_entries::law_entry_phase;
-use bbm_replay_entries::regimes::{Pe, Place};
-use bbm_replay_entries::rules::Phase;
 use bbm_replay_trees::law_restless_places;
-use bbm_replay_trees::tree_index::Path;
+use bbm_rules::Phase;
+use bbm_tree_index::Path;
 
 /// How far the PE has come with a broken place.
 fn phase_of_marks(marks: &Marks, pe: Pe) -> Phase

@@ -1,19 +1,19 @@
 //! TLBIs.
 
 ghost use Rattle.std.specs.Prelude.{◌≡◌, ◌<◌, ◌&&◌, ◌||◌, not, nat_eq, ℕ};
-ghost use Rattle.bbm_replay_entries.specs.events.declared.event.Event.TheVariants.{Tlbi};
-ghost use Rattle.bbm_replay_entries.specs.regimes.PeMask.{pe_in};
-ghost use Rattle.bbm_replay_entries.specs.tlbi_scope.Operations as operations;
-ghost use Rattle.bbm_replay_trees.specs.tree_index.Agreement.{IsSound};
+ghost use Rattle.bbm_events.specs.declared.event.Event.TheVariants.{Tlbi};
+ghost use Rattle.bbm_regimes.specs.PeMask.{pe_in};
+ghost use Rattle.bbm_tlbi_scope.specs.Operations as operations;
+ghost use Rattle.bbm_tree_index.specs.Agreement.{IsSound};
 ghost use Rattle.bbm_replay.specs.Standing.{MayMeet, Meets};
 
 use crate::issues::issue;
 use crate::laws::{laws, rules};
 use crate::parts::Parts;
-use bbm_replay_entries::events::Header;
-use bbm_replay_entries::regimes::{Pe, PeMask};
-use bbm_replay_entries::rules::StepFault;
-use bbm_replay_entries::tlbi_scope::TlbiOp;
+use bbm_events::Header;
+use bbm_regimes::{Pe, PeMask};
+use bbm_rules::StepFault;
+use bbm_tlbi_scope::TlbiOp;
 use std::alloc::Global;
 
 /// The PEs that the TLBI reaches.

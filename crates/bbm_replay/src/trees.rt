@@ -1,18 +1,18 @@
 //! Roots that are declared and retired.
 
 ghost use Rattle.std.specs.Prelude.{◌≡◌, ◌+◌, ◌*◌, ◌≤◌, ◌<◌, ◌%◌, ◌^◌, ℕ, not, filter};
-ghost use Rattle.bbm_replay_entries.specs.events.declared.event.Event.TheVariants.{Root, Unroot};
-ghost use Rattle.bbm_replay_entries.specs.rules.Lists.{least};
-ghost use Rattle.bbm_replay_entries.specs.rules.Roots.{pages_from};
-ghost use Rattle.bbm_replay_trees.specs.tree_index.Index.{fresh_in};
+ghost use Rattle.bbm_events.specs.declared.event.Event.TheVariants.{Root, Unroot};
+ghost use Rattle.bbm_rules.specs.Lists.{least};
+ghost use Rattle.bbm_rules.specs.Roots.{pages_from};
+ghost use Rattle.bbm_tree_index.specs.Index.{fresh_in};
 ghost use Rattle.bbm_replay.specs.Standing.{MayMeet, Meets};
 
 use crate::faults::step_fault;
 use crate::laws::{laws, rules};
 use crate::parts::Parts;
-use bbm_replay_entries::regimes::{Kind, Page, Pe};
-use bbm_replay_entries::rules::{Rule, StepFault};
-use bbm_replay_trees::tree_index::{Attach, Detach, TreeIndex};
+use bbm_regimes::{Kind, Page, Pe};
+use bbm_rules::{Rule, StepFault};
+use bbm_tree_index::{Attach, Detach, TreeIndex};
 use std::alloc::Global;
 
 /// Whether the page at the address, in bytes, is fresh.

@@ -2,35 +2,35 @@
 
 ghost use Rattle.std.specs.Prelude.{◌≡◌, ◌≤◌, ◌%◌, ◌==◌, ◌&&◌, not, ℕ, List, true, false, Some, None, is_some};
 ghost use Rattle.std.specs.Option.{option_map, option_map_or};
-ghost use Rattle.bbm_replay_trees.specs.tree_index.Held.{limbo_at};
-ghost use Rattle.bbm_replay_entries.specs.descriptor.Descriptor as spec;
-ghost use Rattle.bbm_replay_entries.specs.entry_state.Points as points;
-ghost use Rattle.bbm_replay_trees.specs.place_map.Map.{IsSeat, marks_at, value_at};
+ghost use Rattle.bbm_tree_index.specs.Held.{limbo_at};
+ghost use Rattle.bbm_descriptor.specs.Descriptor as spec;
+ghost use Rattle.bbm_entry_state.specs.Points as points;
+ghost use Rattle.bbm_place_map.specs.Map.{IsSeat, marks_at, value_at};
 ghost use Rattle.bbm_replay.specs.Leaves as leaves;
 ghost use Rattle.bbm_replay.specs.Standing.{Stands, view_of};
-ghost use Rattle.bbm_replay_entries.specs.events.Heading.{Heading};
-ghost use Rattle.bbm_replay_entries.specs.events.declared.event.Event.{Event};
+ghost use Rattle.bbm_events.specs.Heading.{Heading};
+ghost use Rattle.bbm_events.specs.declared.event.Event.{Event};
 ghost use Rattle.bbm_replay.specs.View.{state_of};
-ghost use Rattle.bbm_replay_entries.specs.regimes.Same.{same_kind};
+ghost use Rattle.bbm_regimes.specs.Same.{same_kind};
 ghost use Rattle.std.specs.Prelude.{Ok};
 ghost use Rattle.bbm_replay.specs.Standing.{Clears, Holds, IsAt};
-ghost use Rattle.bbm_replay_entries.specs.events.declared.event.Event.TheVariants.{Write};
-ghost use Rattle.bbm_replay_entries.specs.rules.Places.{page_of};
-ghost use Rattle.bbm_replay_entries.specs.rules.Tree.{Node};
-ghost use Rattle.bbm_replay_trees.specs.tree_index.Index.{node_in};
-ghost use Rattle.bbm_replay_trees.specs.tree_index.Nodes.{path_at};
+ghost use Rattle.bbm_events.specs.declared.event.Event.TheVariants.{Write};
+ghost use Rattle.bbm_rules.specs.Places.{page_of};
+ghost use Rattle.bbm_rules.specs.Tree.{Node};
+ghost use Rattle.bbm_tree_index.specs.Index.{node_in};
+ghost use Rattle.bbm_tree_index.specs.Nodes.{path_at};
 ghost use Rattle.bbm_replay.specs.Standing.{MayMeet, Meets};
 
 use crate::faults::step_fault;
 use crate::laws::{laws, rules};
 use crate::parts::Parts;
-use bbm_replay_entries::descriptor::{Core, Memory, core};
-use bbm_replay_entries::entry_state::EntryState;
-use bbm_replay_entries::regimes::{Kind, Page, Pe, Place};
-use bbm_replay_entries::rules::{Rule, StepFault};
+use bbm_descriptor::{Core, Memory, core};
+use bbm_entry_state::EntryState;
+use bbm_place_map::{PlaceMap, Seat};
+use bbm_regimes::{Kind, Page, Pe, Place};
 use bbm_replay_roots::law_others;
-use bbm_replay_trees::place_map::{PlaceMap, Seat};
-use bbm_replay_trees::tree_index::{Attach, Path};
+use bbm_rules::{Rule, StepFault};
+use bbm_tree_index::{Attach, Path};
 use std::alloc::Global;
 
 /// Whether both are cores, and they differ.

@@ -2,15 +2,15 @@
 use Rattle.std.proofs.Common.{◌≡◌, ℕ, ◌<◌, Bool, true, false, cond, not, ◌&&◌, ◌||◌, ◌==◌, nat_eq, List, ◌∷◌, is_some, refl, sym, ◌∙◌, ap, inl, inr, true≢false}
 use Rattle.std.proofs.Math.Bool.{and-false, and-true, and_assoc, or-false, or-true}
 use Rattle.std.proofs.lemmas.Bool.{and_parts, eq-eqb, eqb-true, or_cases}
-use Rattle.bbm_entry_state.specs.barriers.Options.{answers, is_non, publishes}
-use Rattle.bbm_entry_state.specs.barriers.declared.Dsb.{Dsb as Barrier}
-use Rattle.bbm_entry_state.specs.descriptor.Descriptor.{same_bool}
+use Rattle.bbm_barriers.specs.Options.{answers, is_non, publishes}
+use Rattle.bbm_barriers.specs.declared.Dsb.{Dsb as Barrier}
+use Rattle.bbm_descriptor.specs.Descriptor.{same_bool}
 use Rattle.bbm_regimes.specs.PeMask.{pe_in}
 use Rattle.bbm_regimes.specs.declared.pe.PeMask.{PeMask}
-use Rattle.bbm_entry_state.specs.tlbi_scope.Operations.{operation}
-use Rattle.bbm_entry_state.specs.tlbi_scope.declared.entry.Cover.{Cover}
-use Rattle.bbm_entry_state.specs.tlbi_scope.declared.entry.Cover.TheVariants.{None as NoCover, Half, Second, Full}
-use Rattle.bbm_entry_state.specs.tlbi_scope.declared.op.TlbiOp.{TlbiOp}
+use Rattle.bbm_tlbi_scope.specs.Operations.{operation}
+use Rattle.bbm_tlbi_scope.specs.declared.entry.Cover.{Cover}
+use Rattle.bbm_tlbi_scope.specs.declared.entry.Cover.TheVariants.{None as NoCover, Half, Second, Full}
+use Rattle.bbm_tlbi_scope.specs.declared.op.TlbiOp.{TlbiOp}
 use Rattle.bbm_entry_state.specs.Answered.{answered_at}
 use Rattle.bbm_entry_state.specs.Calls.{Completed, Noted as Issues, clean_after, counts_at}
 use Rattle.bbm_entry_state.specs.Marking.{counts_for}
@@ -20,14 +20,14 @@ use Rattle.bbm_entry_state.specs.declared.marks.Marks.{Marks}
 use Rattle.bbm_entry_state.specs.declared.pending.Pends.{Pends}
 use Rattle.bbm_entry_state.specs.declared.state.EntryState.{EntryState}
 use Rattle.bbm_entry_state.specs.declared.state.EntryState.TheVariants.{Clean, Live, Broken}
-use Rattle.bbm_histories.specs.events.Heading.{Heading}
-use Rattle.bbm_histories.specs.events.declared.event.Event.{Event}
-use Rattle.bbm_histories.specs.events.declared.event.Event.TheVariants.{Dsb, Tlbi}
-use Rattle.bbm_histories.specs.rules.Claims.Trust.{Patterns}
-use Rattle.bbm_histories.specs.rules.Cleansing.{cleansed, flushes, half, same_cover, seen, writes}
-use Rattle.bbm_histories.specs.rules.Notes.{Noted, event_of}
-use Rattle.bbm_histories.specs.rules.Reach.{reaches}
-use Rattle.bbm_histories.specs.rules.Values.{publishes_to}
+use Rattle.bbm_events.specs.Heading.{Heading}
+use Rattle.bbm_events.specs.declared.event.Event.{Event}
+use Rattle.bbm_events.specs.declared.event.Event.TheVariants.{Dsb, Tlbi}
+use Rattle.bbm_rules.specs.Claims.Trust.{Patterns}
+use Rattle.bbm_rules.specs.Cleansing.{cleansed, flushes, half, same_cover, seen, writes}
+use Rattle.bbm_rules.specs.Notes.{Noted, event_of}
+use Rattle.bbm_rules.specs.Reach.{reaches}
+use Rattle.bbm_rules.specs.Values.{publishes_to}
 use Rattle.bbm_histories.specs.Steps.{answered_by, cleansed_after, full_waits, half_after, half_waits, second_waits, seen_after, waits_after, wrote}
 use Rattle.bbm_replay_entries.specs.Events.{Heard, OthersStay, OthersWait}
 use Rattle.bbm_replay_entries.specs.Known.{Known}

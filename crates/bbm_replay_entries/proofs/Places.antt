@@ -3,29 +3,29 @@ use Rattle.std.proofs.Common.{◌≡◌, ℕ, ◌<◌, Bool, true, false, cond, 
 use Rattle.std.proofs.Math.Bool.{and-false, and-true}
 use Rattle.std.proofs.lemmas.Bool.{and_parts, eq-eqb, eqb-true, false_from_ne_true}
 use Rattle.std.proofs.lemmas.Option.{option_and_then_some}
-use Rattle.bbm_entry_state.specs.barriers.Options.{answers}
-use Rattle.bbm_entry_state.specs.barriers.declared.Dsb.{Dsb as Barrier}
-use Rattle.bbm_entry_state.specs.descriptor.Descriptor.{core_of, is_valid}
-use Rattle.bbm_entry_state.specs.descriptor.declared.desc.Core.{Core}
+use Rattle.bbm_barriers.specs.Options.{answers}
+use Rattle.bbm_barriers.specs.declared.Dsb.{Dsb as Barrier}
+use Rattle.bbm_descriptor.specs.Descriptor.{core_of, is_valid}
+use Rattle.bbm_descriptor.specs.declared.desc.Core.{Core}
 use Rattle.bbm_regimes.specs.EveryPe.{every_pe}
 use Rattle.bbm_regimes.proofs.Every.{every_none, every_same, every_wider}
 use Rattle.bbm_regimes.specs.declared.regime.Kind.{Kind}
-use Rattle.bbm_entry_state.specs.tlbi_scope.declared.entry.Cover.{Cover}
+use Rattle.bbm_tlbi_scope.specs.declared.entry.Cover.{Cover}
 use Rattle.bbm_entry_state.specs.Calls.{Completed, Written, clean_after, core_after}
 use Rattle.bbm_entry_state.specs.Points.{clean_at, core_in, half_at, is_broken, seen_at, waits as waits_at, writer_at}
 use Rattle.bbm_entry_state.specs.Standing.{IsIdle, KeepsPends}
 use Rattle.bbm_entry_state.specs.declared.pending.Pends.{Pends}
 use Rattle.bbm_entry_state.specs.declared.state.EntryState.{EntryState}
 use Rattle.bbm_entry_state.specs.declared.state.EntryState.TheVariants.{Clean, Live, Broken}
-use Rattle.bbm_histories.specs.events.Heading.{Heading}
-use Rattle.bbm_histories.specs.events.declared.event.Event.{Event}
-use Rattle.bbm_histories.specs.events.declared.event.Event.TheVariants.{Init, Write, Dsb, Tlbi}
-use Rattle.bbm_histories.specs.rules.Claims.Trust.{Patterns}
-use Rattle.bbm_histories.specs.rules.Cleansing.{cleansed, writes}
-use Rattle.bbm_histories.specs.rules.Covers.{note, noted}
-use Rattle.bbm_histories.specs.rules.Held.{ValidWrite, cleansed_everywhere, held, last_valid, last_valid_after, later}
-use Rattle.bbm_histories.specs.rules.Notes.{Noted, events_of}
-use Rattle.bbm_histories.specs.rules.Values.{value_of}
+use Rattle.bbm_events.specs.Heading.{Heading}
+use Rattle.bbm_events.specs.declared.event.Event.{Event}
+use Rattle.bbm_events.specs.declared.event.Event.TheVariants.{Init, Write, Dsb, Tlbi}
+use Rattle.bbm_rules.specs.Claims.Trust.{Patterns}
+use Rattle.bbm_rules.specs.Cleansing.{cleansed, writes}
+use Rattle.bbm_rules.specs.Covers.{note, noted}
+use Rattle.bbm_rules.specs.Held.{ValidWrite, cleansed_everywhere, held, last_valid, last_valid_after, later}
+use Rattle.bbm_rules.specs.Notes.{Noted, events_of}
+use Rattle.bbm_rules.specs.Values.{value_of}
 use Rattle.bbm_histories.specs.Steps.{held_after, wrote}
 use Rattle.bbm_replay_entries.specs.Events.{Heard, OthersStay, touches}
 use Rattle.bbm_replay_entries.specs.Known.{Known}

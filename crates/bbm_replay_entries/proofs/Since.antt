@@ -2,19 +2,19 @@
 use Rattle.std.proofs.Common.{◌≡◌, ℕ, Bool, true, false, cond, ◌&&◌, ◌||◌, ◌==◌, List, [], ◌∷◌, ◌++◌, refl, sym, ◌∙◌, ap, inl, inr, true≢false}
 use Rattle.std.proofs.Math.Bool.{and-false}
 use Rattle.std.proofs.lemmas.Bool.{and_parts, eqb-true, false_from_ne_true, or_cases, or_right}
-use Rattle.bbm_entry_state.specs.barriers.Options.{answers}
-use Rattle.bbm_entry_state.specs.barriers.declared.Dsb.{Dsb as Barrier}
-use Rattle.bbm_entry_state.specs.tlbi_scope.declared.entry.Cover.{Cover}
-use Rattle.bbm_entry_state.specs.tlbi_scope.declared.entry.Cover.TheVariants.{None as NoCover, Half, Second, Full}
-use Rattle.bbm_histories.specs.events.Heading.{Heading}
-use Rattle.bbm_histories.specs.events.declared.event.Event.{Event}
-use Rattle.bbm_histories.specs.events.declared.event.Event.TheVariants.{Write, Dsb, Tlbi}
-use Rattle.bbm_histories.specs.rules.Claims.Trust.{Patterns}
-use Rattle.bbm_histories.specs.rules.Cleansing.{cleansed, flushes, half, same_cover, seen, writes}
-use Rattle.bbm_histories.specs.rules.Lists.{any}
-use Rattle.bbm_histories.specs.rules.Notes.{Noted, event_of}
-use Rattle.bbm_histories.specs.rules.Reach.{Issued, reaches, unanswered}
-use Rattle.bbm_histories.specs.rules.Values.{publishes_to}
+use Rattle.bbm_barriers.specs.Options.{answers}
+use Rattle.bbm_barriers.specs.declared.Dsb.{Dsb as Barrier}
+use Rattle.bbm_tlbi_scope.specs.declared.entry.Cover.{Cover}
+use Rattle.bbm_tlbi_scope.specs.declared.entry.Cover.TheVariants.{None as NoCover, Half, Second, Full}
+use Rattle.bbm_events.specs.Heading.{Heading}
+use Rattle.bbm_events.specs.declared.event.Event.{Event}
+use Rattle.bbm_events.specs.declared.event.Event.TheVariants.{Write, Dsb, Tlbi}
+use Rattle.bbm_rules.specs.Claims.Trust.{Patterns}
+use Rattle.bbm_rules.specs.Cleansing.{cleansed, flushes, half, same_cover, seen, writes}
+use Rattle.bbm_rules.specs.Lists.{any}
+use Rattle.bbm_rules.specs.Notes.{Noted, event_of}
+use Rattle.bbm_rules.specs.Reach.{Issued, reaches, unanswered}
+use Rattle.bbm_rules.specs.Values.{publishes_to}
 use Rattle.bbm_histories.specs.Steps.{answered_by, cleansed_after, full_waits, half_after, half_waits, is_tlbi, second_waits, seen_after, waits, waits_after, wrote}
 use Rattle.bbm_replay_entries.specs.Known.{Known}
 use Rattle.bbm_replay_entries.specs.Marked.{cover_waits}

@@ -1,14 +1,14 @@
 -- What an event is to one place. Source: project's own choice.
 use Rattle.std.specs.Prelude.{◌≡◌, ℕ, Bool, true, false, ◌&&◌, ◌==◌, nat_eq}
-use Rattle.bbm_entry_state.specs.barriers.declared.Dsb.{Dsb as Barrier}
+use Rattle.bbm_barriers.specs.declared.Dsb.{Dsb as Barrier}
 use Rattle.bbm_entry_state.specs.Calls.{Published}
 use Rattle.bbm_entry_state.specs.Points.{is_broken, waits}
 use Rattle.bbm_entry_state.specs.declared.pending.Pends.{Pends}
 use Rattle.bbm_entry_state.specs.declared.state.EntryState.{EntryState}
-use Rattle.bbm_entry_state.specs.tlbi_scope.declared.entry.Cover.{Cover}
-use Rattle.bbm_histories.specs.rules.Prelude.{Heading, Event, Init, Write, Dsb, Tlbi}
-use Rattle.bbm_histories.specs.rules.Places.{page_of}
-use Rattle.bbm_entry_state.specs.barriers.Options.{is_non}
+use Rattle.bbm_tlbi_scope.specs.declared.entry.Cover.{Cover}
+use Rattle.bbm_rules.specs.Prelude.{Heading, Event, Init, Write, Dsb, Tlbi}
+use Rattle.bbm_rules.specs.Places.{page_of}
+use Rattle.bbm_barriers.specs.Options.{is_non}
 
 -- Whether the event may change the state of the place, or what waits there: it is a write of the place, an init of its
 -- page, a DSB or a TLBI.

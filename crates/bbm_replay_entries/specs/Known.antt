@@ -1,18 +1,18 @@
 -- What the crates below prove, as one record, so that each proof here takes it as one hypothesis.
 use Rattle.std.specs.Prelude.{◌≡◌, ℕ, ◌<◌, Bool, true, List, ◌∷◌, ◌++◌, Some, is_some}
-use Rattle.bbm_entry_state.specs.descriptor.Descriptor.{core_of, is_valid}
-use Rattle.bbm_histories.specs.rules.Prelude.{Kind, Heading, Event, Write}
-use Rattle.bbm_histories.specs.rules.Broken.{keeps}
-use Rattle.bbm_histories.specs.rules.Claims.Trust.{Patterns}
-use Rattle.bbm_histories.specs.rules.Cleansing.{cleansed, half, seen}
-use Rattle.bbm_histories.specs.rules.Covers.{noted}
-use Rattle.bbm_histories.specs.rules.Held.{ValidWrite, held, last_valid}
-use Rattle.bbm_histories.specs.rules.Notes.{Noted, event_of, events_of}
-use Rattle.bbm_histories.specs.rules.Pages.{is_fresh}
-use Rattle.bbm_histories.specs.rules.Places.{page_of}
-use Rattle.bbm_histories.specs.rules.Reach.{Issued}
-use Rattle.bbm_histories.specs.rules.Tree.{Node}
-use Rattle.bbm_histories.specs.rules.Values.{value_of}
+use Rattle.bbm_descriptor.specs.Descriptor.{core_of, is_valid}
+use Rattle.bbm_rules.specs.Prelude.{Kind, Heading, Event, Write}
+use Rattle.bbm_rules.specs.Broken.{keeps}
+use Rattle.bbm_rules.specs.Claims.Trust.{Patterns}
+use Rattle.bbm_rules.specs.Cleansing.{cleansed, half, seen}
+use Rattle.bbm_rules.specs.Covers.{noted}
+use Rattle.bbm_rules.specs.Held.{ValidWrite, held, last_valid}
+use Rattle.bbm_rules.specs.Notes.{Noted, event_of, events_of}
+use Rattle.bbm_rules.specs.Pages.{is_fresh}
+use Rattle.bbm_rules.specs.Places.{page_of}
+use Rattle.bbm_rules.specs.Reach.{Issued}
+use Rattle.bbm_rules.specs.Tree.{Node}
+use Rattle.bbm_rules.specs.Values.{value_of}
 use Rattle.bbm_histories.specs.Steps.{cleansed_after, half_after, held_after, seen_after, waits, waits_after}
 use Rattle.bbm_histories.specs.Tree.{Attaches}
 use Rattle.bbm_histories.specs.Values.{HoldsPresent}

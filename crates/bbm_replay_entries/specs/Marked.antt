@@ -1,15 +1,15 @@
 -- What the masks of a broken place and the pendings of each issuer say of the events since its last valid write.
 -- Source: project's own choice.
 use Rattle.std.specs.Prelude.{◌≡◌, ℕ, ◌<◌, Bool, false, List}
-use Rattle.bbm_entry_state.specs.tlbi_scope.declared.entry.Cover.{Cover}
-use Rattle.bbm_entry_state.specs.tlbi_scope.declared.entry.Cover.TheVariants.{None as NoCover, Half, Second, Full}
+use Rattle.bbm_tlbi_scope.specs.declared.entry.Cover.{Cover}
+use Rattle.bbm_tlbi_scope.specs.declared.entry.Cover.TheVariants.{None as NoCover, Half, Second, Full}
 use Rattle.bbm_entry_state.specs.Points.{clean_at, half_at, seen_at, waits, writer_at}
 use Rattle.bbm_entry_state.specs.declared.pending.Pends.{Pends}
 use Rattle.bbm_entry_state.specs.declared.state.EntryState.{EntryState}
-use Rattle.bbm_histories.specs.rules.Prelude.{Heading}
-use Rattle.bbm_histories.specs.rules.Claims.Trust.{Patterns}
-use Rattle.bbm_histories.specs.rules.Cleansing.{cleansed, half, seen}
-use Rattle.bbm_histories.specs.rules.Notes.{Noted}
+use Rattle.bbm_rules.specs.Prelude.{Heading}
+use Rattle.bbm_rules.specs.Claims.Trust.{Patterns}
+use Rattle.bbm_rules.specs.Cleansing.{cleansed, half, seen}
+use Rattle.bbm_rules.specs.Notes.{Noted}
 use Rattle.bbm_histories.specs.Steps.{full_waits, half_waits, second_waits, wrote}
 
 module _ (heading : Heading) (place : ℕ) where

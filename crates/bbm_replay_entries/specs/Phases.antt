@@ -5,8 +5,8 @@ use Rattle.bbm_regimes.specs.PeMask.{pe_in}
 use Rattle.bbm_entry_state.specs.declared.marks.Marks.{Marks}
 use Rattle.bbm_entry_state.specs.declared.state.EntryState.{EntryState}
 use Rattle.bbm_entry_state.specs.declared.state.EntryState.TheVariants as state
-use Rattle.bbm_histories.specs.rules.declared.phase.Phase.{Phase}
-use Rattle.bbm_histories.specs.rules.declared.phase.Phase.TheVariants.{Clean, Live, Broken, Seen, Half, Cleansed}
+use Rattle.bbm_rules.specs.declared.phase.Phase.{Phase}
+use Rattle.bbm_rules.specs.declared.phase.Phase.TheVariants.{Clean, Live, Broken, Seen, Half, Cleansed}
 
 -- the furthest that the PE has come
 abbrev pub marks_phase : Marks → ℕ → Phase

@@ -1,20 +1,20 @@
 -- What the state of a place and its pendings are to a history. Trust is in all patterns.
 -- Source: project's own choice.
 use Rattle.std.specs.Prelude.{◌≡◌, ℕ, true, false, not, ◌&&◌, List, Option, Some, None, is_some}
-use Rattle.bbm_entry_state.specs.descriptor.Descriptor.{core_of, is_valid}
-use Rattle.bbm_entry_state.specs.descriptor.declared.desc.Core.{Core}
-use Rattle.bbm_entry_state.specs.descriptor.declared.desc.Core.TheVariants.{Table}
+use Rattle.bbm_descriptor.specs.Descriptor.{core_of, is_valid}
+use Rattle.bbm_descriptor.specs.declared.desc.Core.{Core}
+use Rattle.bbm_descriptor.specs.declared.desc.Core.TheVariants.{Table}
 use Rattle.bbm_entry_state.specs.Points.{core_in, is_broken}
 use Rattle.bbm_entry_state.specs.Standing.{IsIdle}
 use Rattle.bbm_entry_state.specs.declared.pending.Pends.{Pends}
 use Rattle.bbm_entry_state.specs.declared.state.EntryState.{EntryState}
-use Rattle.bbm_histories.specs.rules.Prelude.{Kind, Heading, Event}
-use Rattle.bbm_histories.specs.rules.Claims.Trust.{Patterns}
-use Rattle.bbm_histories.specs.rules.Covers.{noted}
-use Rattle.bbm_histories.specs.rules.Held.{ValidWrite, held, last_valid}
-use Rattle.bbm_histories.specs.rules.Lists.{◌>>=◌}
-use Rattle.bbm_histories.specs.rules.Tree.{next_of}
-use Rattle.bbm_histories.specs.rules.Values.{value_of}
+use Rattle.bbm_rules.specs.Prelude.{Kind, Heading, Event}
+use Rattle.bbm_rules.specs.Claims.Trust.{Patterns}
+use Rattle.bbm_rules.specs.Covers.{noted}
+use Rattle.bbm_rules.specs.Held.{ValidWrite, held, last_valid}
+use Rattle.bbm_rules.specs.Lists.{◌>>=◌}
+use Rattle.bbm_rules.specs.Tree.{next_of}
+use Rattle.bbm_rules.specs.Values.{value_of}
 use Rattle.bbm_replay_entries.specs.Marked.{Marked}
 
 -- the next page of a core that is a table

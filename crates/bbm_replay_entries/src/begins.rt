@@ -2,19 +2,19 @@
 
 ghost use Rattle.std.specs.Prelude.{◌≡◌, ℕ, ◌<◌, Bool, true, ◌&&◌, List, ◌∷◌};
 ghost use Rattle.bbm_regimes.specs.declared.regime.Kind.{Kind};
-ghost use Rattle.bbm_entry_state.specs.tlbi_scope.declared.entry.Cover.{Cover};
+ghost use Rattle.bbm_tlbi_scope.specs.declared.entry.Cover.{Cover};
 ghost use Rattle.bbm_entry_state.specs.Points.{is_broken, waits};
 ghost use Rattle.bbm_entry_state.specs.declared.pending.Pends.{Pends};
 ghost use Rattle.bbm_entry_state.specs.declared.state.EntryState.{EntryState};
-ghost use Rattle.bbm_histories.specs.events.Heading.{Heading};
-ghost use Rattle.bbm_histories.specs.events.declared.event.Event.{Event};
-ghost use Rattle.bbm_histories.specs.rules.Broken.{keeps};
-ghost use Rattle.bbm_histories.specs.rules.Claims.Trust.{Patterns};
-ghost use Rattle.bbm_histories.specs.rules.Covers.{noted};
-ghost use Rattle.bbm_histories.specs.rules.Pages.{is_fresh};
-ghost use Rattle.bbm_histories.specs.rules.Places.{page_of};
-ghost use Rattle.bbm_histories.specs.rules.Tree.{Node};
-ghost use Rattle.bbm_histories.specs.rules.Values.{value_of};
+ghost use Rattle.bbm_events.specs.Heading.{Heading};
+ghost use Rattle.bbm_events.specs.declared.event.Event.{Event};
+ghost use Rattle.bbm_rules.specs.Broken.{keeps};
+ghost use Rattle.bbm_rules.specs.Claims.Trust.{Patterns};
+ghost use Rattle.bbm_rules.specs.Covers.{noted};
+ghost use Rattle.bbm_rules.specs.Pages.{is_fresh};
+ghost use Rattle.bbm_rules.specs.Places.{page_of};
+ghost use Rattle.bbm_rules.specs.Tree.{Node};
+ghost use Rattle.bbm_rules.specs.Values.{value_of};
 ghost use Rattle.bbm_histories.specs.Tree.{Attaches};
 ghost use Rattle.bbm_replay_entries.specs.Stands.{ByValue, EntryStands};
 

@@ -1,11 +1,11 @@
 //! What the crates below prove, gathered for the proofs here.
 
-ghost use Rattle.bbm_histories.specs.events.Heading.{Heading};
+ghost use Rattle.bbm_events.specs.Heading.{Heading};
 ghost use Rattle.bbm_replay_entries.specs.Known.{Known};
 
-use bbm_entry_state::descriptor::laws::law_core_where_valid;
-use bbm_histories::rules::{law_held, law_last_valid, law_notes_keep_the_events};
+use bbm_descriptor::laws::law_core_where_valid;
 use bbm_histories::{law_fresh_content, law_held_changes, law_held_step, law_pattern_steps};
+use bbm_rules::{law_held, law_last_valid, law_notes_keep_the_events};
 
 /// The laws that the laws here stand on.
 pub(crate) fn known()

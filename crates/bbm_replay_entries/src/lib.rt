@@ -7,11 +7,6 @@ mod known;
 pub mod steps;
 pub mod tells;
 
-pub use bbm_entry_state as entry_state;
-pub use bbm_entry_state::{barriers, descriptor, tlbi_scope};
-pub use bbm_histories as histories;
-pub use bbm_histories::{events, rules};
-pub use bbm_regimes as regimes;
 pub use begins::{law_entry_alike, law_entry_begins};
 pub use steps::{law_entry_dsb, law_entry_stays, law_entry_tlbi, law_entry_write};
 pub use tells::{law_entry_holds, law_entry_need, law_entry_phase};

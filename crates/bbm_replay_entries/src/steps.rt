@@ -1,25 +1,25 @@
 //! Laws of the state of a place after an event, by its state before it.
 
 ghost use Rattle.std.specs.Prelude.{◌≡◌, ℕ, ◌<◌, ◌⊎◌, false, List, ◌∷◌};
-ghost use Rattle.bbm_entry_state.specs.barriers.declared.Dsb.{Dsb as Barrier};
-ghost use Rattle.bbm_entry_state.specs.descriptor.Descriptor.{core_of};
+ghost use Rattle.bbm_barriers.specs.declared.Dsb.{Dsb as Barrier};
+ghost use Rattle.bbm_descriptor.specs.Descriptor.{core_of};
 ghost use Rattle.bbm_regimes.specs.PeMask.{pe_in};
 ghost use Rattle.bbm_regimes.specs.declared.pe.PeMask.{PeMask};
 ghost use Rattle.bbm_regimes.specs.declared.regime.Kind.{Kind};
-ghost use Rattle.bbm_entry_state.specs.tlbi_scope.Operations.{operation};
-ghost use Rattle.bbm_entry_state.specs.tlbi_scope.declared.entry.Cover.{Cover};
-ghost use Rattle.bbm_entry_state.specs.tlbi_scope.declared.op.TlbiOp.{TlbiOp};
+ghost use Rattle.bbm_tlbi_scope.specs.Operations.{operation};
+ghost use Rattle.bbm_tlbi_scope.specs.declared.entry.Cover.{Cover};
+ghost use Rattle.bbm_tlbi_scope.specs.declared.op.TlbiOp.{TlbiOp};
 ghost use Rattle.bbm_entry_state.specs.Calls.{Completed, Noted, Written};
 ghost use Rattle.bbm_entry_state.specs.Points.{is_broken};
 ghost use Rattle.bbm_entry_state.specs.Standing.{KeepsPends};
 ghost use Rattle.bbm_entry_state.specs.declared.pending.Pends.{Pends};
 ghost use Rattle.bbm_entry_state.specs.declared.state.EntryState.{EntryState};
-ghost use Rattle.bbm_histories.specs.events.Heading.{Heading};
-ghost use Rattle.bbm_histories.specs.events.declared.event.Event.{Event};
-ghost use Rattle.bbm_histories.specs.events.declared.event.Event.TheVariants.{Dsb, Tlbi, Write};
-ghost use Rattle.bbm_histories.specs.rules.Claims.Trust.{Patterns};
-ghost use Rattle.bbm_histories.specs.rules.Covers.{cover_at, noted};
-ghost use Rattle.bbm_histories.specs.rules.Reach.{reaches};
+ghost use Rattle.bbm_events.specs.Heading.{Heading};
+ghost use Rattle.bbm_events.specs.declared.event.Event.{Event};
+ghost use Rattle.bbm_events.specs.declared.event.Event.TheVariants.{Dsb, Tlbi, Write};
+ghost use Rattle.bbm_rules.specs.Claims.Trust.{Patterns};
+ghost use Rattle.bbm_rules.specs.Covers.{cover_at, noted};
+ghost use Rattle.bbm_rules.specs.Reach.{reaches};
 ghost use Rattle.bbm_replay_entries.specs.Events.{Heard, OthersStay, OthersWait, touches};
 ghost use Rattle.bbm_replay_entries.specs.Stands.{EntryStands};
 

@@ -2,24 +2,24 @@
 
 ghost use Rattle.std.specs.Prelude.{◌≡◌, ℕ, ◌<◌, false, List, Some, None, is_some};
 ghost use Rattle.std.specs.Option.{option_map_or};
-ghost use Rattle.bbm_entry_state.specs.descriptor.Descriptor.{core_of, desc_of, desc_with, differ, needs};
-ghost use Rattle.bbm_entry_state.specs.descriptor.declared.desc.Core.{Core};
+ghost use Rattle.bbm_descriptor.specs.Descriptor.{core_of, desc_of, desc_with, differ, needs};
+ghost use Rattle.bbm_descriptor.specs.declared.desc.Core.{Core};
 ghost use Rattle.bbm_regimes.specs.declared.regime.Kind.{Kind};
 ghost use Rattle.bbm_entry_state.specs.Points.{core_in, is_broken};
 ghost use Rattle.bbm_entry_state.specs.declared.pending.Pends.{Pends};
 ghost use Rattle.bbm_entry_state.specs.declared.state.EntryState.{EntryState};
-ghost use Rattle.bbm_histories.specs.events.Heading.{Heading};
-ghost use Rattle.bbm_histories.specs.events.declared.event.Event.{Event};
-ghost use Rattle.bbm_histories.specs.events.declared.event.Event.TheVariants.{Write};
-ghost use Rattle.bbm_histories.specs.rules.Claims.Trust.{Patterns};
-ghost use Rattle.bbm_histories.specs.rules.Covers.{noted};
-ghost use Rattle.bbm_histories.specs.rules.Lists.{if_so};
-ghost use Rattle.bbm_histories.specs.rules.Phases.{is_restless, phase_of};
-ghost use Rattle.bbm_histories.specs.rules.Places.{page_of};
-ghost use Rattle.bbm_histories.specs.rules.Rules.{break_before_make};
-ghost use Rattle.bbm_histories.specs.rules.Tree.{Node, node_of};
-ghost use Rattle.bbm_histories.specs.rules.Values.{value_of};
-ghost use Rattle.bbm_histories.specs.rules.declared.phase.Phase.{Phase};
+ghost use Rattle.bbm_events.specs.Heading.{Heading};
+ghost use Rattle.bbm_events.specs.declared.event.Event.{Event};
+ghost use Rattle.bbm_events.specs.declared.event.Event.TheVariants.{Write};
+ghost use Rattle.bbm_rules.specs.Claims.Trust.{Patterns};
+ghost use Rattle.bbm_rules.specs.Covers.{noted};
+ghost use Rattle.bbm_rules.specs.Lists.{if_so};
+ghost use Rattle.bbm_rules.specs.Phases.{is_restless, phase_of};
+ghost use Rattle.bbm_rules.specs.Places.{page_of};
+ghost use Rattle.bbm_rules.specs.Rules.{break_before_make};
+ghost use Rattle.bbm_rules.specs.Tree.{Node, node_of};
+ghost use Rattle.bbm_rules.specs.Values.{value_of};
+ghost use Rattle.bbm_rules.specs.declared.phase.Phase.{Phase};
 ghost use Rattle.bbm_replay_entries.specs.Phases.{phase_in};
 ghost use Rattle.bbm_replay_entries.specs.Stands.{EntryStands, held_now, next_now, next_of_core};
 

@@ -3,28 +3,28 @@ use Rattle.std.proofs.Common.{◌≡◌, ℕ, ◌<◌, Bool, true, false, not, �
 use Rattle.std.specs.Option.{is_none, option_map, option_map_or}
 use Rattle.std.proofs.lemmas.Bool.{and_from, eq-eqb, eqb-true, le-leb, leb-true, ne_eqb}
 use Rattle.std.specs.Result.{result_ok}
-use Rattle.bbm_roots.specs.barriers.declared.Dsb.{Dsb as Barrier}
+use Rattle.bbm_barriers.specs.declared.Dsb.{Dsb as Barrier}
 use Rattle.bbm_locks.specs.Holders.{holder_at}
-use Rattle.bbm_locks.specs.regimes.declared.regime.Which.{Which}
-use Rattle.bbm_histories.specs.rules.declared.step_fault.StepFault.TheVariants.{Limit}
+use Rattle.bbm_regimes.specs.declared.regime.Which.{Which}
+use Rattle.bbm_rules.specs.declared.step_fault.StepFault.TheVariants.{Limit}
 use Rattle.bbm_roots.specs.declared.fault.RootFault.{RootFault}
 use Rattle.bbm_roots.specs.declared.fault.RootFault.TheVariants as roots
 use Rattle.bbm_replay_roots.specs.Faults.{room_fault}
-use Rattle.bbm_locks.specs.regimes.declared.regime.Which.TheVariants.{Roots as Roots'}
-use Rattle.bbm_roots.specs.tlbi_scope.Decode.{scope_of}
-use Rattle.bbm_roots.specs.tlbi_scope.Operations.{of_world}
-use Rattle.bbm_roots.specs.tlbi_scope.declared.scope.BadOperand.{BadOperand as BadOperandOf}
-use Rattle.bbm_histories.specs.rules.Registers.{lacks_vmid, named_scope, vmid_of}
-use Rattle.bbm_histories.specs.rules.Prelude.{World, Scope, Init, Null, Root, Write, Kind, Reg, TlbiOp, Heading, Event, Dsb, Dmb, Isb, Tlbi, Msr, Lock, Unlock, Unroot}
-use Rattle.bbm_histories.specs.rules.Broken.{Breach, broken, keeps}
-use Rattle.bbm_histories.specs.rules.Claims.{Patterns}
-use Rattle.bbm_histories.specs.rules.Covers.{noted}
-use Rattle.bbm_histories.specs.rules.Locks.{holder_of}
-use Rattle.bbm_histories.specs.rules.Lists.{if_so, is_that}
-use Rattle.bbm_histories.specs.rules.Roots.{Declared, is_root, root_at, roots_of}
-use Rattle.bbm_histories.specs.rules.Rules as rules
-use Rattle.bbm_histories.specs.rules.declared.rule.Rule.{Rule}
-use Rattle.bbm_histories.specs.rules.declared.rule.Rule.TheVariants.{WrongWorld, NoLock, NoRoot, TagConflict, RootInUse, UnsyncedVmid, BadOperand, LockBusy, LockNotMine}
+use Rattle.bbm_regimes.specs.declared.regime.Which.TheVariants.{Roots as Roots'}
+use Rattle.bbm_tlbi_scope.specs.Decode.{scope_of}
+use Rattle.bbm_tlbi_scope.specs.Operations.{of_world}
+use Rattle.bbm_tlbi_scope.specs.declared.scope.BadOperand.{BadOperand as BadOperandOf}
+use Rattle.bbm_rules.specs.Registers.{lacks_vmid, named_scope, vmid_of}
+use Rattle.bbm_rules.specs.Prelude.{World, Scope, Init, Null, Root, Write, Kind, Reg, TlbiOp, Heading, Event, Dsb, Dmb, Isb, Tlbi, Msr, Lock, Unlock, Unroot}
+use Rattle.bbm_rules.specs.Broken.{Breach, broken, keeps}
+use Rattle.bbm_rules.specs.Claims.{Patterns}
+use Rattle.bbm_rules.specs.Covers.{noted}
+use Rattle.bbm_rules.specs.Locks.{holder_of}
+use Rattle.bbm_rules.specs.Lists.{if_so, is_that}
+use Rattle.bbm_rules.specs.Roots.{Declared, is_root, root_at, roots_of}
+use Rattle.bbm_rules.specs.Rules as rules
+use Rattle.bbm_rules.specs.declared.rule.Rule.{Rule}
+use Rattle.bbm_rules.specs.declared.rule.Rule.TheVariants.{WrongWorld, NoLock, NoRoot, TagConflict, RootInUse, UnsyncedVmid, BadOperand, LockBusy, LockNotMine}
 use Rattle.bbm_roots.specs.Stands.{pes_of, world_of}
 use Rattle.bbm_roots.specs.Stands as lower
 use Rattle.bbm_roots.specs.Calls.{Call, Issue}

@@ -2,10 +2,10 @@
 use Rattle.std.proofs.Common.{◌≡◌, ℕ, suc, Bool, true, false, not, ◌||◌, ◌==◌, cond, List, [], ◌∷◌, map, length, Option, Some, None, refl, sym, ap, ◌∙◌, true≢false}
 use Rattle.std.specs.List.{find}
 use Rattle.std.specs.Option.{is_some, option_map, option_and_then}
-use Rattle.bbm_histories.specs.rules.Prelude.{Kind, Scope, Heading, Event, Root, Unroot, Tlbi}
-use Rattle.bbm_histories.specs.rules.Registers.{named_scope, vmid_of}
-use Rattle.bbm_histories.specs.rules.Roots as rules
-use Rattle.bbm_histories.specs.rules.Roots.{is_at, root_at, roots_of, same_kind}
+use Rattle.bbm_rules.specs.Prelude.{Kind, Scope, Heading, Event, Root, Unroot, Tlbi}
+use Rattle.bbm_rules.specs.Registers.{named_scope, vmid_of}
+use Rattle.bbm_rules.specs.Roots as rules
+use Rattle.bbm_rules.specs.Roots.{is_at, root_at, roots_of, same_kind}
 use Rattle.bbm_roots.specs.Calls.{Call, Issue}
 use Rattle.bbm_roots.specs.Roots as calls
 use Rattle.bbm_roots.specs.declared.root.Declared.{Declared}

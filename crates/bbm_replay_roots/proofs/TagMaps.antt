@@ -4,24 +4,24 @@ use Rattle.std.specs.List.{flat_map}
 use Rattle.std.specs.Option.{is_none}
 use Rattle.std.specs.Result.{result_ok}
 use Rattle.std.proofs.lemmas.Bool.{and_parts}
-use Rattle.bbm_roots.specs.barriers.Options.{answers}
-use Rattle.bbm_roots.specs.barriers.declared.Dsb.{Dsb as Barrier}
-use Rattle.bbm_histories.specs.descriptor.Descriptor.{same_bool}
-use Rattle.bbm_roots.specs.range.declared.BadRange.{BadRange}
-use Rattle.bbm_roots.specs.range.declared.BadRange.TheVariants.{Granule, Unaligned}
-use Rattle.bbm_roots.specs.range.declared.Range.{Range}
-use Rattle.bbm_roots.specs.range.Pages.{range_of}
-use Rattle.bbm_roots.specs.tlbi_scope.Decode.{canonical, decoded, granule_known, hint_field, interval_field, page_scope, range_canonical, range_scope, scope_of, scope_over}
-use Rattle.bbm_roots.specs.tlbi_scope.Operations.{Operation, operation}
-use Rattle.bbm_roots.specs.tlbi_scope.Tags.{takes_whole_tag}
-use Rattle.bbm_histories.specs.rules.Prelude.{AsidFrom, FromTtbr0, FromTtbr1, Ttbr1, Scope, TlbiOp, Tag, World, Hyp, Kernel, Heading, Event, Root, Unroot, Dsb, Isb, Tlbi, Msr}
-use Rattle.bbm_histories.specs.rules.declared.rule.Rule.TheVariants.{NoRoot}
-use Rattle.bbm_histories.specs.rules.Broken.{broken, keeps}
-use Rattle.bbm_histories.specs.rules.Claims.{Patterns}
-use Rattle.bbm_histories.specs.rules.Registers.{lacks_vmid, named_scope, vmid_of}
-use Rattle.bbm_histories.specs.rules.Tags as rules
-use Rattle.bbm_histories.specs.rules.Tags.{takes_tag}
-use Rattle.bbm_histories.specs.rules.Lists as lists
+use Rattle.bbm_barriers.specs.Options.{answers}
+use Rattle.bbm_barriers.specs.declared.Dsb.{Dsb as Barrier}
+use Rattle.bbm_descriptor.specs.Descriptor.{same_bool}
+use Rattle.bbm_range.specs.declared.BadRange.{BadRange}
+use Rattle.bbm_range.specs.declared.BadRange.TheVariants.{Granule, Unaligned}
+use Rattle.bbm_range.specs.declared.Range.{Range}
+use Rattle.bbm_range.specs.Pages.{range_of}
+use Rattle.bbm_tlbi_scope.specs.Decode.{canonical, decoded, granule_known, hint_field, interval_field, page_scope, range_canonical, range_scope, scope_of, scope_over}
+use Rattle.bbm_tlbi_scope.specs.Operations.{Operation, operation}
+use Rattle.bbm_tlbi_scope.specs.Tags.{takes_whole_tag}
+use Rattle.bbm_rules.specs.Prelude.{AsidFrom, FromTtbr0, FromTtbr1, Ttbr1, Scope, TlbiOp, Tag, World, Hyp, Kernel, Heading, Event, Root, Unroot, Dsb, Isb, Tlbi, Msr}
+use Rattle.bbm_rules.specs.declared.rule.Rule.TheVariants.{NoRoot}
+use Rattle.bbm_rules.specs.Broken.{broken, keeps}
+use Rattle.bbm_rules.specs.Claims.{Patterns}
+use Rattle.bbm_rules.specs.Registers.{lacks_vmid, named_scope, vmid_of}
+use Rattle.bbm_rules.specs.Tags as rules
+use Rattle.bbm_rules.specs.Tags.{takes_tag}
+use Rattle.bbm_rules.specs.Lists as lists
 use Rattle.bbm_histories.specs.Steps.{tag_waits, tag_waits_after}
 use Rattle.bbm_histories.specs.Tree.{Proper}
 use Rattle.bbm_roots.specs.Calls.{Call, Issue, Complete}
@@ -30,8 +30,8 @@ use Rattle.bbm_roots.specs.Pendings.{same_flag}
 use Rattle.bbm_roots.specs.Readings.{asid_readings, has_reading, own_reading}
 use Rattle.bbm_roots.specs.Registers.{at_start}
 use Rattle.bbm_roots.specs.declared.reading.Reading.{Reading}
-use Rattle.bbm_roots.specs.tlbi_scope.declared.scope.BadOperand.TheVariants.{NonCanonical, TtlGranule}
-use Rattle.bbm_roots.specs.tlbi_scope.Operand.{hint_of}
+use Rattle.bbm_tlbi_scope.specs.declared.scope.BadOperand.TheVariants.{NonCanonical, TtlGranule}
+use Rattle.bbm_tlbi_scope.specs.Operand.{hint_of}
 use Rattle.bbm_roots.specs.Tags.{answered_by, readings, awaited, holds_at, holds_tag, issues, loses, reads, reads_for_some}
 use Rattle.bbm_replay_roots.specs.Bridge.{call_of, calls_of, issue_of, with_call}
 use Rattle.bbm_replay_roots.specs.Laws.{Laws}

@@ -6,20 +6,20 @@ use Rattle.std.specs.Option.{is_none, option_and_then, option_map}
 use Rattle.std.proofs.lemmas.Bool.{cases_lt, lt-ltb, eqb-true, eq-eqb, not-false, or_cases, or_left, or_right}
 use Rattle.std.proofs.lemmas.List.Folds.{list_any-append}
 use Rattle.bbm_lists.proofs.Elements.{any_finds, any_found}
-use Rattle.bbm_roots.specs.tlbi_scope.declared.entry.TagSet.{TagSet}
-use Rattle.bbm_roots.specs.tlbi_scope.declared.entry.TagSet.TheVariants.{None as NoTag, One, Many}
-use Rattle.bbm_histories.specs.rules.Prelude.{Kind, Reg, Ttbr0El2, VttbrEl2, Ttbr0El1, Ttbr1El1, Tag, World, Hyp, Kernel, Heading, Event, Root, Unroot}
-use Rattle.bbm_histories.specs.rules.Broken.{Breach, broken, keeps}
-use Rattle.bbm_histories.specs.rules.Claims.{Patterns, same_tag}
-use Rattle.bbm_histories.specs.rules.Covers.{noted}
-use Rattle.bbm_histories.specs.rules.Lists.{among, if_so, is_that, some_pe}
-use Rattle.bbm_histories.specs.rules.Registers.{base_of, kind_of_reg}
-use Rattle.bbm_histories.specs.rules.Registers as rules
-use Rattle.bbm_histories.specs.rules.Roots.{Declared, is_root, kind_in_world, lock_of, root_at}
-use Rattle.bbm_histories.specs.rules.Rules.{is_base_at, lacks, no_lock, no_root, root_in_use}
-use Rattle.bbm_histories.specs.rules.Tags.{holds_tag, tag_set, tags_of}
-use Rattle.bbm_histories.specs.rules.declared.rule.Rule.TheVariants.{NoLock, NoRoot, RootInUse, WrongWorld}
-use Rattle.bbm_roots.specs.tlbi_scope.TagSets.{HasTags}
+use Rattle.bbm_tlbi_scope.specs.declared.entry.TagSet.{TagSet}
+use Rattle.bbm_tlbi_scope.specs.declared.entry.TagSet.TheVariants.{None as NoTag, One, Many}
+use Rattle.bbm_rules.specs.Prelude.{Kind, Reg, Ttbr0El2, VttbrEl2, Ttbr0El1, Ttbr1El1, Tag, World, Hyp, Kernel, Heading, Event, Root, Unroot}
+use Rattle.bbm_rules.specs.Broken.{Breach, broken, keeps}
+use Rattle.bbm_rules.specs.Claims.{Patterns, same_tag}
+use Rattle.bbm_rules.specs.Covers.{noted}
+use Rattle.bbm_rules.specs.Lists.{among, if_so, is_that, some_pe}
+use Rattle.bbm_rules.specs.Registers.{base_of, kind_of_reg}
+use Rattle.bbm_rules.specs.Registers as rules
+use Rattle.bbm_rules.specs.Roots.{Declared, is_root, kind_in_world, lock_of, root_at}
+use Rattle.bbm_rules.specs.Rules.{is_base_at, lacks, no_lock, no_root, root_in_use}
+use Rattle.bbm_rules.specs.Tags.{holds_tag, tag_set, tags_of}
+use Rattle.bbm_rules.specs.declared.rule.Rule.TheVariants.{NoLock, NoRoot, RootInUse, WrongWorld}
+use Rattle.bbm_tlbi_scope.specs.TagSets.{HasTags}
 use Rattle.bbm_roots.specs.Refusals.{JudgesRetire}
 use Rattle.bbm_roots.specs.Registers.{at_start, first_reg, names_in, names_page, register_values, second_reg, uses}
 use Rattle.bbm_roots.specs.Registers as named

@@ -4,17 +4,17 @@ use Rattle.std.specs.List.{filter_map, flat_map, cons_option, list_any}
 use Rattle.std.specs.Option.{option_and_then, option_map_or}
 use Rattle.std.proofs.lemmas.Bool.{and_parts, eqb-true, eq-eqb}
 use Rattle.std.proofs.lemmas.List.{map-append}
-use Rattle.bbm_histories.specs.rules.Prelude.{AsidFrom, FromTtbr0, FromTtbr1, Kind, El2, S2, Ttbr0, Ttbr1, Reg, Ttbr0El2, VttbrEl2, Ttbr0El1, Ttbr1El1, Tag, El2Tag, Vmid, Asid, Ttbr1Tag}
-use Rattle.bbm_histories.specs.rules.Prelude.{World, Hyp, Kernel, Heading, Event, Root, Unroot, Tlbi, Msr, Isb}
-use Rattle.bbm_histories.specs.rules.Claims.{Patterns, same_tag}
-use Rattle.bbm_histories.specs.rules.Covers.{noted}
-use Rattle.bbm_histories.specs.rules.Lists.{among, every, if_so, one_number}
-use Rattle.bbm_histories.specs.rules.Pages.{is_null}
-use Rattle.bbm_histories.specs.rules.Registers.{base_of, kind_of_reg, named_scope, same_reg, tag_number, vmid_of}
-use Rattle.bbm_histories.specs.rules.Registers as rules
-use Rattle.bbm_histories.specs.rules.Roots.{is_root}
-use Rattle.bbm_histories.specs.rules.Rules.{no_root}
-use Rattle.bbm_histories.specs.rules.Tags as tags
+use Rattle.bbm_rules.specs.Prelude.{AsidFrom, FromTtbr0, FromTtbr1, Kind, El2, S2, Ttbr0, Ttbr1, Reg, Ttbr0El2, VttbrEl2, Ttbr0El1, Ttbr1El1, Tag, El2Tag, Vmid, Asid, Ttbr1Tag}
+use Rattle.bbm_rules.specs.Prelude.{World, Hyp, Kernel, Heading, Event, Root, Unroot, Tlbi, Msr, Isb}
+use Rattle.bbm_rules.specs.Claims.{Patterns, same_tag}
+use Rattle.bbm_rules.specs.Covers.{noted}
+use Rattle.bbm_rules.specs.Lists.{among, every, if_so, one_number}
+use Rattle.bbm_rules.specs.Pages.{is_null}
+use Rattle.bbm_rules.specs.Registers.{base_of, kind_of_reg, named_scope, same_reg, tag_number, vmid_of}
+use Rattle.bbm_rules.specs.Registers as rules
+use Rattle.bbm_rules.specs.Roots.{is_root}
+use Rattle.bbm_rules.specs.Rules.{no_root}
+use Rattle.bbm_rules.specs.Tags as tags
 use Rattle.bbm_roots.specs.Calls.{Call}
 use Rattle.bbm_roots.specs.Readings.{has_other, has_reading, has_tag, own_reading, reading_at, reading_under, readings_with, tag_of}
 use Rattle.bbm_roots.specs.Readings as calls

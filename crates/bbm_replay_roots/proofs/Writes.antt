@@ -4,23 +4,23 @@ use Rattle.std.specs.List.{filter, flat_map, list_any}
 use Rattle.std.specs.Option.{option_and_then, option_map_or, unwrap_or}
 use Rattle.std.proofs.lemmas.Bool.{and_from, and_parts, eqb-true, eq-eqb, le-leb, lt-leb, or_cases, or_left, or_right}
 use Rattle.std.proofs.lemmas.List.Folds.{list_any-append}
-use Rattle.bbm_locks.specs.regimes.declared.regime.Which.{Which}
-use Rattle.bbm_locks.specs.regimes.declared.regime.Which.TheVariants.{Values as ValuesLimit}
-use Rattle.bbm_histories.specs.rules.Prelude.{Kind, Reg, Ttbr0El2, VttbrEl2, Ttbr0El1, Ttbr1El1, Tag, El2Tag, Vmid, Asid, Ttbr1Tag, World, Hyp, Kernel, Heading, Event, Msr}
-use Rattle.bbm_histories.specs.rules.Answers.{Answers}
-use Rattle.bbm_histories.specs.rules.Broken.{broken, keeps}
-use Rattle.bbm_histories.specs.rules.Claims.{Patterns, same_tag}
-use Rattle.bbm_histories.specs.rules.Covers.{noted}
-use Rattle.bbm_histories.specs.rules.Lists.{among, if_so, least, some_pe}
-use Rattle.bbm_histories.specs.rules.Notes.{Noted}
-use Rattle.bbm_histories.specs.rules.Pages.{is_null}
-use Rattle.bbm_histories.specs.rules.Registers.{base_of, kind_of_reg, same_reg}
-use Rattle.bbm_histories.specs.rules.Registers as rules
-use Rattle.bbm_histories.specs.rules.Roots.{Declared, is_at, is_root, kind_in_world, roots_of, same_kind}
-use Rattle.bbm_histories.specs.rules.Rules.{no_root, tag_conflict, wrong_world}
-use Rattle.bbm_histories.specs.rules.TagSentences.{ReadsTag}
-use Rattle.bbm_histories.specs.rules.Tags.{Reading, holds_at, holds_tag, loses, readings, reads}
-use Rattle.bbm_histories.specs.rules.declared.rule.Rule.TheVariants.{NoRoot, TagConflict, WrongWorld}
+use Rattle.bbm_regimes.specs.declared.regime.Which.{Which}
+use Rattle.bbm_regimes.specs.declared.regime.Which.TheVariants.{Values as ValuesLimit}
+use Rattle.bbm_rules.specs.Prelude.{Kind, Reg, Ttbr0El2, VttbrEl2, Ttbr0El1, Ttbr1El1, Tag, El2Tag, Vmid, Asid, Ttbr1Tag, World, Hyp, Kernel, Heading, Event, Msr}
+use Rattle.bbm_rules.specs.Answers.{Answers}
+use Rattle.bbm_rules.specs.Broken.{broken, keeps}
+use Rattle.bbm_rules.specs.Claims.{Patterns, same_tag}
+use Rattle.bbm_rules.specs.Covers.{noted}
+use Rattle.bbm_rules.specs.Lists.{among, if_so, least, some_pe}
+use Rattle.bbm_rules.specs.Notes.{Noted}
+use Rattle.bbm_rules.specs.Pages.{is_null}
+use Rattle.bbm_rules.specs.Registers.{base_of, kind_of_reg, same_reg}
+use Rattle.bbm_rules.specs.Registers as rules
+use Rattle.bbm_rules.specs.Roots.{Declared, is_at, is_root, kind_in_world, roots_of, same_kind}
+use Rattle.bbm_rules.specs.Rules.{no_root, tag_conflict, wrong_world}
+use Rattle.bbm_rules.specs.TagSentences.{ReadsTag}
+use Rattle.bbm_rules.specs.Tags.{Reading, holds_at, holds_tag, loses, readings, reads}
+use Rattle.bbm_rules.specs.declared.rule.Rule.TheVariants.{NoRoot, TagConflict, WrongWorld}
 use Rattle.bbm_roots.specs.Calls.{WriteReg}
 use Rattle.bbm_roots.specs.Least.{IsLeast, ReadingUpTo}
 use Rattle.bbm_roots.specs.Readings.{has_other}

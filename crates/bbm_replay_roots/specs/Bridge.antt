@@ -2,9 +2,9 @@
 -- Source: project's own choice.
 use Rattle.std.specs.Option.{option_map_or}
 use Rattle.std.specs.Prelude.{ℕ, Bool, false, ◌||◌, not, List, [], ◌∷◌, Option, Some, None, if◌then◌else◌}
-use Rattle.bbm_histories.specs.rules.Prelude.{Scope, Heading, Event, Root, Unroot, Dsb, Isb, Tlbi, Msr}
-use Rattle.bbm_histories.specs.rules.Pages.{is_null}
-use Rattle.bbm_histories.specs.rules.Registers.{base_of, named_scope, vmid_of}
+use Rattle.bbm_rules.specs.Prelude.{Scope, Heading, Event, Root, Unroot, Dsb, Isb, Tlbi, Msr}
+use Rattle.bbm_rules.specs.Pages.{is_null}
+use Rattle.bbm_rules.specs.Registers.{base_of, named_scope, vmid_of}
 use Rattle.bbm_roots.specs.Calls.{Call, Declare, Retire, WriteReg, Issue, Complete}
 use Rattle.bbm_roots.specs.Calls as calls
 

@@ -1,8 +1,8 @@
 -- What the faults of the roots are as answers of a checker. Source: project's own choice.
-use Rattle.bbm_histories.specs.rules.declared.rule.Rule.{Rule}
-use Rattle.bbm_histories.specs.rules.declared.rule.Rule.TheVariants.{NoRoot, RootInUse, TagConflict}
-use Rattle.bbm_histories.specs.rules.declared.step_fault.StepFault.{StepFault}
-use Rattle.bbm_histories.specs.rules.declared.step_fault.StepFault.TheVariants.{Broken, Limit, NoMemory}
+use Rattle.bbm_rules.specs.declared.rule.Rule.{Rule}
+use Rattle.bbm_rules.specs.declared.rule.Rule.TheVariants.{NoRoot, RootInUse, TagConflict}
+use Rattle.bbm_rules.specs.declared.step_fault.StepFault.{StepFault}
+use Rattle.bbm_rules.specs.declared.step_fault.StepFault.TheVariants.{Broken, Limit, NoMemory}
 use Rattle.bbm_roots.specs.declared.fault.RootFault.{RootFault}
 use Rattle.bbm_roots.specs.declared.fault.RootFault.TheVariants as roots
 

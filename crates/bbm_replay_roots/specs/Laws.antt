@@ -1,20 +1,20 @@
 -- What the crates below prove of their definitions, as one record, so that each proof here takes it as one hypothesis.
 use Rattle.std.specs.Prelude.{◌≡◌, ◌↔◌, ℕ, Bool, true, false, not, ◌&&◌, List, ◌∷◌, ◌++◌, Option, Some, None}
-use Rattle.bbm_roots.specs.tlbi_scope.declared.entry.TagSet.TheVariants.{None as NoTag, One, Many}
-use Rattle.bbm_roots.specs.barriers.declared.Dsb.{Dsb as Barrier}
-use Rattle.bbm_roots.specs.events.Heading.{heading_ok}
-use Rattle.bbm_histories.specs.rules.Prelude.{Kind, Reg, Tag, Heading, Event, Root, Dsb}
-use Rattle.bbm_histories.specs.rules.declared.rule.Rule.{Rule}
-use Rattle.bbm_histories.specs.rules.Broken.{breaks, keeps}
-use Rattle.bbm_histories.specs.rules.Claims.{Patterns, same_tag}
-use Rattle.bbm_histories.specs.rules.Covers.{noted}
-use Rattle.bbm_histories.specs.rules.Notes.{events_of}
-use Rattle.bbm_histories.specs.rules.Pages.{is_null}
-use Rattle.bbm_histories.specs.rules.Registers.{same_reg}
-use Rattle.bbm_histories.specs.rules.Roots.{Declared, is_root, root_at, same_kind}
-use Rattle.bbm_histories.specs.rules.Sentences.{IsDeclared}
-use Rattle.bbm_histories.specs.rules.TagSentences.{ReadsTag}
-use Rattle.bbm_histories.specs.rules.Tags.{holds_tag, loses, reads, reads_for_some, tag_set, tags_of}
+use Rattle.bbm_tlbi_scope.specs.declared.entry.TagSet.TheVariants.{None as NoTag, One, Many}
+use Rattle.bbm_barriers.specs.declared.Dsb.{Dsb as Barrier}
+use Rattle.bbm_events.specs.Heading.{heading_ok}
+use Rattle.bbm_rules.specs.Prelude.{Kind, Reg, Tag, Heading, Event, Root, Dsb}
+use Rattle.bbm_rules.specs.declared.rule.Rule.{Rule}
+use Rattle.bbm_rules.specs.Broken.{breaks, keeps}
+use Rattle.bbm_rules.specs.Claims.{Patterns, same_tag}
+use Rattle.bbm_rules.specs.Covers.{noted}
+use Rattle.bbm_rules.specs.Notes.{events_of}
+use Rattle.bbm_rules.specs.Pages.{is_null}
+use Rattle.bbm_rules.specs.Registers.{same_reg}
+use Rattle.bbm_rules.specs.Roots.{Declared, is_root, root_at, same_kind}
+use Rattle.bbm_rules.specs.Sentences.{IsDeclared}
+use Rattle.bbm_rules.specs.TagSentences.{ReadsTag}
+use Rattle.bbm_rules.specs.Tags.{holds_tag, loses, reads, reads_for_some, tag_set, tags_of}
 use Rattle.bbm_histories.specs.Steps.{answered_by, tag_waits, tag_waits_after}
 use Rattle.bbm_histories.specs.Tags.{BasesStay, NamesRoots, kind_of_tag}
 use Rattle.bbm_histories.specs.Tree.{Proper}

@@ -4,16 +4,16 @@ use Rattle.std.specs.Prelude.{◌≡◌, ℕ, Bool, true, false, List, Option, N
 use Rattle.bbm_locks.specs.Holders.{holder_at}
 use Rattle.bbm_roots.specs.Stands.{IsPrepared, pes_of, world_of}
 use Rattle.bbm_roots.specs.Stands as lower
-use Rattle.bbm_roots.specs.events.Fits.{fits_heading}
-use Rattle.bbm_roots.specs.events.Heading.{heading_ok}
-use Rattle.bbm_histories.specs.rules.Prelude.{Heading, Event, Root, Unroot, Dsb, Isb, Tlbi, Msr, Lock, Unlock}
-use Rattle.bbm_histories.specs.rules.Broken.{Breach, broken, keeps}
-use Rattle.bbm_histories.specs.rules.Claims.{Patterns}
-use Rattle.bbm_histories.specs.rules.Locks.{holder_of}
-use Rattle.bbm_histories.specs.rules.Prelude.{TlbiOp}
-use Rattle.bbm_histories.specs.rules.Registers.{named_scope, vmid_of}
-use Rattle.bbm_histories.specs.rules.declared.step_fault.StepFault.{StepFault}
-use Rattle.bbm_histories.specs.rules.declared.step_fault.StepFault.TheVariants.{Broken, Limit, NoMemory}
+use Rattle.bbm_events.specs.Fits.{fits_heading}
+use Rattle.bbm_events.specs.Heading.{heading_ok}
+use Rattle.bbm_rules.specs.Prelude.{Heading, Event, Root, Unroot, Dsb, Isb, Tlbi, Msr, Lock, Unlock}
+use Rattle.bbm_rules.specs.Broken.{Breach, broken, keeps}
+use Rattle.bbm_rules.specs.Claims.{Patterns}
+use Rattle.bbm_rules.specs.Locks.{holder_of}
+use Rattle.bbm_rules.specs.Prelude.{TlbiOp}
+use Rattle.bbm_rules.specs.Registers.{named_scope, vmid_of}
+use Rattle.bbm_rules.specs.declared.step_fault.StepFault.{StepFault}
+use Rattle.bbm_rules.specs.declared.step_fault.StepFault.TheVariants.{Broken, Limit, NoMemory}
 use Rattle.bbm_replay_roots.specs.Bridge.{calls_of}
 use Rattle.bbm_replay_roots.specs.declared.named.NamedTlbi.{NamedTlbi}
 use Rattle.bbm_replay_roots.specs.declared.state.RootState.{RootState}

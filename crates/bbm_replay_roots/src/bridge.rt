@@ -1,13 +1,13 @@
 //! What the crates below prove of histories, gathered for the proofs here.
 
-ghost use Rattle.bbm_roots.specs.events.Heading.{Heading};
+ghost use Rattle.bbm_events.specs.Heading.{Heading};
 ghost use Rattle.bbm_replay_roots.specs.Laws.{Laws};
 
-use bbm_histories::rules::{
+use bbm_histories::{law_bases, law_proper, law_tag_steps, law_tags};
+use bbm_rules::{
     law_each_rule, law_equality_tests, law_notes_keep_the_events, law_readable_tag, law_root,
     law_tag_set,
 };
-use bbm_histories::{law_bases, law_proper, law_tag_steps, law_tags};
 
 /// The laws that the proofs here stand on.
 pub(crate) fn bridge()

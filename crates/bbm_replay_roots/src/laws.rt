@@ -1,13 +1,13 @@
 //! Laws of what stands for a history, for proofs above. Each function does nothing; its contract is the law.
 
 ghost use Rattle.std.specs.Prelude.{◌≡◌, ℕ, false, List, ◌∷◌, None};
-ghost use Rattle.bbm_roots.specs.barriers.declared.Dsb.{Dsb as Barrier};
-ghost use Rattle.bbm_roots.specs.events.Heading.{Heading};
-ghost use Rattle.bbm_roots.specs.events.declared.event.Event.{Event};
-ghost use Rattle.bbm_roots.specs.events.declared.event.Event.TheVariants.{Dsb, Dmb, Isb};
-ghost use Rattle.bbm_histories.specs.rules.Broken.{broken};
-ghost use Rattle.bbm_histories.specs.rules.Claims.{Patterns};
-ghost use Rattle.bbm_histories.specs.rules.Limits.{limit_of};
+ghost use Rattle.bbm_barriers.specs.declared.Dsb.{Dsb as Barrier};
+ghost use Rattle.bbm_events.specs.Heading.{Heading};
+ghost use Rattle.bbm_events.specs.declared.event.Event.{Event};
+ghost use Rattle.bbm_events.specs.declared.event.Event.TheVariants.{Dsb, Dmb, Isb};
+ghost use Rattle.bbm_rules.specs.Broken.{broken};
+ghost use Rattle.bbm_rules.specs.Claims.{Patterns};
+ghost use Rattle.bbm_rules.specs.Limits.{limit_of};
 ghost use Rattle.bbm_replay_roots.specs.Stands.{Stands, concerns_roots};
 ghost use Rattle.bbm_replay_roots.specs.declared.state.RootState.{RootState as TheState};
 

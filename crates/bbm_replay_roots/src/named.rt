@@ -1,6 +1,6 @@
 //! What a TLBI names.
 
-use bbm_roots::tlbi_scope::Scope;
+use bbm_tlbi_scope::Scope;
 
 /// What a TLBI names at its issue. Source: project's own choice.
 #[derive(Clone, Copy, Debug, PartialEq, Eq)]

@@ -5,14 +5,14 @@ ghost use Rattle.bbm_replay_roots.specs.Faults as faults;
 
 use crate::bridge::bridge;
 use crate::named::NamedTlbi;
-use bbm_histories::rules::{Rule, StepFault};
+use bbm_barriers::Dsb;
+use bbm_events::{Event, Header};
 use bbm_locks::Locks;
-use bbm_locks::regimes::{Kind, NoMemory, Page, Pe, Reg, Which};
 use bbm_oracle_tags::wrong_world;
-use bbm_roots::barriers::Dsb;
-use bbm_roots::events::{Event, Header};
-use bbm_roots::tlbi_scope::{TagSet, TlbiOp, decode, lacks_vmid};
+use bbm_regimes::{Kind, NoMemory, Page, Pe, Reg, Which};
 use bbm_roots::{RootFault, Roots};
+use bbm_rules::{Rule, StepFault};
+use bbm_tlbi_scope::{TagSet, TlbiOp, decode, lacks_vmid};
 use std::alloc::Global;
 
 /// The header of a log, its declared roots, the register values of each PE that may still be in use, the tags that each
@@ -64,20 +64,20 @@ fn retire_rule(fault: RootFault) -> Rule
 
 impl RootState {
     ghost use Rattle.std.specs.Prelude.{◌≡◌, ◌≢◌, ◌<◌, ◌≤◌, ◌↔◌, ℕ, Bool, true, List, [], ◌∷◌, Option, Some, None, Err, is_some, length, option_and_then, IsOk, IfOk, IfErr, OnOk, OnErr};
-    ghost use Rattle.bbm_roots.specs.events.Fits.{fits_heading};
-    ghost use Rattle.bbm_roots.specs.events.Heading.{Heading};
-    ghost use Rattle.bbm_roots.specs.events.declared.event.Event.{Event as TheEvent};
-    ghost use Rattle.bbm_histories.specs.rules.Answers.{Answers, MayAsk};
-    ghost use Rattle.bbm_histories.specs.rules.Broken.{broken};
-    ghost use Rattle.bbm_histories.specs.rules.Claims.{Patterns};
-    ghost use Rattle.bbm_histories.specs.rules.Limits.{limit_of};
-    ghost use Rattle.bbm_histories.specs.rules.Lists.{if_so};
-    ghost use Rattle.bbm_histories.specs.rules.Locks as locks;
-    ghost use Rattle.bbm_histories.specs.rules.Registers as registers;
-    ghost use Rattle.bbm_histories.specs.rules.Roots as spec;
-    ghost use Rattle.bbm_histories.specs.rules.Rules as rules;
-    ghost use Rattle.bbm_histories.specs.rules.Tags as tags;
-    ghost use Rattle.bbm_roots.specs.tlbi_scope.declared.op.TlbiOp.{TlbiOp as TheOp};
+    ghost use Rattle.bbm_events.specs.Fits.{fits_heading};
+    ghost use Rattle.bbm_events.specs.Heading.{Heading};
+    ghost use Rattle.bbm_events.specs.declared.event.Event.{Event as TheEvent};
+    ghost use Rattle.bbm_rules.specs.Answers.{Answers, MayAsk};
+    ghost use Rattle.bbm_rules.specs.Broken.{broken};
+    ghost use Rattle.bbm_rules.specs.Claims.{Patterns};
+    ghost use Rattle.bbm_rules.specs.Limits.{limit_of};
+    ghost use Rattle.bbm_rules.specs.Lists.{if_so};
+    ghost use Rattle.bbm_rules.specs.Locks as locks;
+    ghost use Rattle.bbm_rules.specs.Registers as registers;
+    ghost use Rattle.bbm_rules.specs.Roots as spec;
+    ghost use Rattle.bbm_rules.specs.Rules as rules;
+    ghost use Rattle.bbm_rules.specs.Tags as tags;
+    ghost use Rattle.bbm_tlbi_scope.specs.declared.op.TlbiOp.{TlbiOp as TheOp};
     ghost use Rattle.bbm_replay_roots.specs.Bridge.{has_null_base};
     ghost use Rattle.bbm_replay_roots.specs.Listed.{nth_in};
     ghost use Rattle.bbm_replay_roots.specs.Stands.{Stands, MayFollow, HasRoom, IsNamed, IsReady, Judges, JudgesTlbi};

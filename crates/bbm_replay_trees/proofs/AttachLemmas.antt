@@ -1,21 +1,21 @@
 -- The events that attach pages, and the writes that attach none.
 use Rattle.std.proofs.Common.{◌≡◌, ℕ, zero, suc, ◌<◌, ◌⊎◌, not, Bool, true, false, cond, ◌||◌, ◌==◌, List, [], ◌∷◌, ◌++◌, Option, Some, None, is_some, is_none, Contains, flat_map, option_and_then, option_to_list, refl, sym, ◌∙◌, ap, inl, inr, true≢false, arith}
-use Rattle.bbm_histories.specs.regimes.declared.regime.Kind.{Kind}
-use Rattle.bbm_histories.specs.descriptor.Descriptor.{core_of, desc_of, form_of, form_11, form_01, desc_as}
-use Rattle.bbm_histories.specs.descriptor.Fields.{type_bits}
-use Rattle.bbm_histories.specs.descriptor.declared.desc.Desc.{Desc}
-use Rattle.bbm_histories.specs.events.Heading.{Heading}
+use Rattle.bbm_regimes.specs.declared.regime.Kind.{Kind}
+use Rattle.bbm_descriptor.specs.Descriptor.{core_of, desc_of, form_of, form_11, form_01, desc_as}
+use Rattle.bbm_descriptor.specs.Fields.{type_bits}
+use Rattle.bbm_descriptor.specs.declared.desc.Desc.{Desc}
+use Rattle.bbm_events.specs.Heading.{Heading}
 use Rattle.bbm_histories.specs.Tree.{Proper}
-use Rattle.bbm_histories.specs.rules.Prelude.{Event, Root, Write}
-use Rattle.bbm_histories.specs.rules.Attach.{Attached, attached_by, attached_from}
-use Rattle.bbm_histories.specs.rules.Claims.Trust.{Patterns}
-use Rattle.bbm_histories.specs.rules.Lists.{if_so, least}
-use Rattle.bbm_histories.specs.rules.Notes.{Noted, events_of}
-use Rattle.bbm_histories.specs.rules.Pages.{is_fresh, is_null}
-use Rattle.bbm_histories.specs.rules.Places.{page_of}
-use Rattle.bbm_histories.specs.rules.Roots.{root_pages, start_of}
-use Rattle.bbm_histories.specs.rules.Rules.{attached_with, bad_ends, made_with, not_fresh, untracked_page, written_with}
-use Rattle.bbm_histories.specs.rules.Tree.{Node, held_at, in_tree, next_in, next_of, node_below, node_of, nodes_of_root}
+use Rattle.bbm_rules.specs.Prelude.{Event, Root, Write}
+use Rattle.bbm_rules.specs.Attach.{Attached, attached_by, attached_from}
+use Rattle.bbm_rules.specs.Claims.Trust.{Patterns}
+use Rattle.bbm_rules.specs.Lists.{if_so, least}
+use Rattle.bbm_rules.specs.Notes.{Noted, events_of}
+use Rattle.bbm_rules.specs.Pages.{is_fresh, is_null}
+use Rattle.bbm_rules.specs.Places.{page_of}
+use Rattle.bbm_rules.specs.Roots.{root_pages, start_of}
+use Rattle.bbm_rules.specs.Rules.{attached_with, bad_ends, made_with, not_fresh, untracked_page, written_with}
+use Rattle.bbm_rules.specs.Tree.{Node, held_at, in_tree, next_in, next_of, node_below, node_of, nodes_of_root}
 use Rattle.bbm_replay_trees.specs.Below.{Below}
 use Rattle.bbm_replay_trees.specs.Judging.{Judging}
 use Rattle.bbm_replay_trees.specs.Told.{AllFit, SameFresh, SameNull, SameValues, notes}
@@ -34,7 +34,7 @@ table_level kind (suc (suc (suc level))) value next e = absurd (by (type_bits va
     deep : ℕ
     deep = suc (suc (suc level))
 
-    by : (c d : Bool) → next_in (desc_as (cond c (form_11 (suc (suc (suc level)))) (cond d (form_01 (suc (suc (suc level)))) Rattle.bbm_histories.specs.descriptor.Descriptor.invalid)) kind (suc (suc (suc level))) value) ≡ Some next → ⊥
+    by : (c d : Bool) → next_in (desc_as (cond c (form_11 (suc (suc (suc level)))) (cond d (form_01 (suc (suc (suc level)))) Rattle.bbm_descriptor.specs.Descriptor.invalid)) kind (suc (suc (suc level))) value) ≡ Some next → ⊥
     by true d k = let none : None ≡ Some next = k in cc
     by false true k = let none : None ≡ Some next = k in cc
     by false false k = let none : None ≡ Some next = k in cc

@@ -1,22 +1,22 @@
 -- The cores of what the places of trees hold after an event.
 use Rattle.std.proofs.Common.{◌≡◌, ℕ, ◌⊎◌, Bool, true, false, cond, ◌&&◌, ◌==◌, List, ◌∷◌, Option, Some, None, is_some, Contains, option_and_then, refl, sym, ◌∙◌, ap, inl, inr, true≢false}
 use Rattle.std.proofs.lemmas.Bool.{and_parts, eqb-true}
-use Rattle.bbm_histories.specs.regimes.declared.regime.Kind.{Kind}
-use Rattle.bbm_histories.specs.descriptor.Descriptor.{core_of, is_valid}
-use Rattle.bbm_histories.specs.descriptor.declared.desc.Core.{Core}
-use Rattle.bbm_histories.specs.events.Heading.{Heading}
+use Rattle.bbm_regimes.specs.declared.regime.Kind.{Kind}
+use Rattle.bbm_descriptor.specs.Descriptor.{core_of, is_valid}
+use Rattle.bbm_descriptor.specs.declared.desc.Core.{Core}
+use Rattle.bbm_events.specs.Heading.{Heading}
 use Rattle.bbm_histories.specs.Steps.{held_after}
 use Rattle.bbm_histories.specs.Tree.{Attaches, HeldChange, Proper}
-use Rattle.bbm_histories.specs.rules.Prelude.{Barrier, Event, Init, Write, Dsb}
-use Rattle.bbm_histories.specs.rules.Broken.{keeps}
-use Rattle.bbm_histories.specs.rules.Claims.Trust.{Patterns}
-use Rattle.bbm_histories.specs.rules.Covers.{note}
-use Rattle.bbm_histories.specs.rules.Held.{held}
-use Rattle.bbm_histories.specs.rules.Notes.{Noted, events_of}
-use Rattle.bbm_histories.specs.rules.Pages.{is_fresh}
-use Rattle.bbm_histories.specs.rules.Places.{page_of}
-use Rattle.bbm_histories.specs.rules.Tree.{Node, held_at, in_tree, node_of, tree}
-use Rattle.bbm_histories.specs.rules.Values.{value_of}
+use Rattle.bbm_rules.specs.Prelude.{Barrier, Event, Init, Write, Dsb}
+use Rattle.bbm_rules.specs.Broken.{keeps}
+use Rattle.bbm_rules.specs.Claims.Trust.{Patterns}
+use Rattle.bbm_rules.specs.Covers.{note}
+use Rattle.bbm_rules.specs.Held.{held}
+use Rattle.bbm_rules.specs.Notes.{Noted, events_of}
+use Rattle.bbm_rules.specs.Pages.{is_fresh}
+use Rattle.bbm_rules.specs.Places.{page_of}
+use Rattle.bbm_rules.specs.Tree.{Node, held_at, in_tree, node_of, tree}
+use Rattle.bbm_rules.specs.Values.{value_of}
 use Rattle.bbm_replay_trees.specs.Below.{Below}
 use Rattle.bbm_replay_trees.specs.Told.{SameCores, SameNodes, SameValues, core_after, notes}
 use Rattle.bbm_replay_trees.proofs.NodeLemmas.{fresh_outside}

@@ -1,21 +1,21 @@
 -- Where the pages of trees hang.
 use Rattle.std.proofs.Common.{◌≡◌, ℕ, suc, ◌+◌, ◌<◌, ◌⊎◌, Bool, true, false, cond, ◌&&◌, ◌==◌, List, [], ◌∷◌, length, Option, Some, None, is_some, Contains, option_and_then, refl, sym, ◌∙◌, ap, subst, inl, inr, true≢false, arith}
 use Rattle.std.proofs.lemmas.Bool.{eqb-true}
-use Rattle.bbm_histories.specs.regimes.declared.regime.Kind.{Kind}
-use Rattle.bbm_histories.specs.descriptor.Descriptor.{core_in, core_of, desc_of, is_valid}
-use Rattle.bbm_histories.specs.descriptor.declared.desc.Core.{Core}
-use Rattle.bbm_histories.specs.descriptor.declared.desc.Desc.{Desc}
-use Rattle.bbm_histories.specs.descriptor.declared.desc.Desc.TheVariants.{Invalid, Table, Leaf}
-use Rattle.bbm_histories.specs.events.Heading.{Heading}
-use Rattle.bbm_histories.specs.rules.Prelude.{Event, Init, Null, Root, Unroot, Write, Dsb, Dmb, Isb, Tlbi, Msr, Lock, Unlock}
-use Rattle.bbm_histories.specs.rules.Broken.{keeps}
-use Rattle.bbm_histories.specs.rules.Claims.Trust.{Patterns}
-use Rattle.bbm_histories.specs.rules.Held.{ValidWrite, cleansed_everywhere, held, last_valid, last_valid_after, later}
-use Rattle.bbm_histories.specs.rules.Notes.{Noted, events_of}
-use Rattle.bbm_histories.specs.rules.Places.{page_of}
-use Rattle.bbm_histories.specs.rules.Tree.{Above, Node, held_at, next_in as next_in_desc, next_of, node_below, node_of, tree}
-use Rattle.bbm_histories.specs.rules.TreeSentences.{Down, IsNode}
-use Rattle.bbm_histories.specs.rules.Values.{written_places}
+use Rattle.bbm_regimes.specs.declared.regime.Kind.{Kind}
+use Rattle.bbm_descriptor.specs.Descriptor.{core_in, core_of, desc_of, is_valid}
+use Rattle.bbm_descriptor.specs.declared.desc.Core.{Core}
+use Rattle.bbm_descriptor.specs.declared.desc.Desc.{Desc}
+use Rattle.bbm_descriptor.specs.declared.desc.Desc.TheVariants.{Invalid, Table, Leaf}
+use Rattle.bbm_events.specs.Heading.{Heading}
+use Rattle.bbm_rules.specs.Prelude.{Event, Init, Null, Root, Unroot, Write, Dsb, Dmb, Isb, Tlbi, Msr, Lock, Unlock}
+use Rattle.bbm_rules.specs.Broken.{keeps}
+use Rattle.bbm_rules.specs.Claims.Trust.{Patterns}
+use Rattle.bbm_rules.specs.Held.{ValidWrite, cleansed_everywhere, held, last_valid, last_valid_after, later}
+use Rattle.bbm_rules.specs.Notes.{Noted, events_of}
+use Rattle.bbm_rules.specs.Places.{page_of}
+use Rattle.bbm_rules.specs.Tree.{Above, Node, held_at, next_in as next_in_desc, next_of, node_below, node_of, tree}
+use Rattle.bbm_rules.specs.TreeSentences.{Down, IsNode}
+use Rattle.bbm_rules.specs.Values.{written_places}
 use Rattle.bbm_replay_trees.specs.Below.{Below}
 use Rattle.bbm_replay_trees.specs.Told.{AllFit, Hangs, SameCores, SameNodes, next_in, notes}
 use Rattle.bbm_lists.specs.Elements.{In}

@@ -1,21 +1,21 @@
 -- What the three rules on attached pages say, by paths through fresh pages and present values.
 use Rattle.std.proofs.Common.{◌≡◌, ℕ, ◌+◌, ◌<◌, not, Bool, true, false, ◌&&◌, List, [], ◌∷◌, ◌++◌, length, Option, Some, None, flat_map, option_to_list, refl, sym, ◌∙◌, ap, subst, inl, inr, true≢false, append-nil, arith}
 use Rattle.std.proofs.lemmas.Bool.{not-true, not_from_false}
-use Rattle.bbm_histories.specs.regimes.declared.regime.Kind.{Kind}
-use Rattle.bbm_histories.specs.descriptor.Descriptor.{desc_of}
-use Rattle.bbm_histories.specs.descriptor.declared.desc.Desc.{Desc}
-use Rattle.bbm_histories.specs.descriptor.declared.desc.Desc.TheVariants.{Invalid, Table, Leaf}
-use Rattle.bbm_histories.specs.events.Heading.{Heading}
-use Rattle.bbm_histories.specs.rules.Prelude.{Event}
-use Rattle.bbm_histories.specs.rules.Attach.{Attached, End, all_ends, attached_by, attached_from, pages_of}
-use Rattle.bbm_histories.specs.rules.Claims.Trust.{Patterns}
-use Rattle.bbm_histories.specs.rules.Lists.{least, repeated}
-use Rattle.bbm_histories.specs.rules.Notes.{Noted, events_of}
-use Rattle.bbm_histories.specs.rules.Pages.{is_fresh}
-use Rattle.bbm_histories.specs.rules.PathSentences.{TwoPaths}
-use Rattle.bbm_histories.specs.rules.Rules.{attached_with, bad_ends, judged_ends, made_with, not_fresh, places_with, unfresh, untracked_page, written_with}
-use Rattle.bbm_histories.specs.rules.Tree.{Node, next_in}
-use Rattle.bbm_histories.specs.rules.Values.{places_in, value_of}
+use Rattle.bbm_regimes.specs.declared.regime.Kind.{Kind}
+use Rattle.bbm_descriptor.specs.Descriptor.{desc_of}
+use Rattle.bbm_descriptor.specs.declared.desc.Desc.{Desc}
+use Rattle.bbm_descriptor.specs.declared.desc.Desc.TheVariants.{Invalid, Table, Leaf}
+use Rattle.bbm_events.specs.Heading.{Heading}
+use Rattle.bbm_rules.specs.Prelude.{Event}
+use Rattle.bbm_rules.specs.Attach.{Attached, End, all_ends, attached_by, attached_from, pages_of}
+use Rattle.bbm_rules.specs.Claims.Trust.{Patterns}
+use Rattle.bbm_rules.specs.Lists.{least, repeated}
+use Rattle.bbm_rules.specs.Notes.{Noted, events_of}
+use Rattle.bbm_rules.specs.Pages.{is_fresh}
+use Rattle.bbm_rules.specs.PathSentences.{TwoPaths}
+use Rattle.bbm_rules.specs.Rules.{attached_with, bad_ends, judged_ends, made_with, not_fresh, places_with, unfresh, untracked_page, written_with}
+use Rattle.bbm_rules.specs.Tree.{Node, next_in}
+use Rattle.bbm_rules.specs.Values.{places_in, value_of}
 use Rattle.bbm_replay_trees.specs.Below.{Below}
 use Rattle.bbm_tree_index.specs.Judged.{EndsTwice, HasPlace, IsPath, IsUnfresh, UnfreshEnd, is_bad, is_user_global}
 use Rattle.bbm_replay_trees.specs.Judging.{Finds, Judging}

@@ -1,7 +1,7 @@
 -- The least number of a list, by what is in it.
 use Rattle.std.proofs.Common.{◌≡◌, ℕ, ◌<◌, ◌≤◌, min, true, ◌⊎◌, ◌==◌, List, [], ◌∷◌, Option, Some, None, unwrap_or, refl, ap, subst, inl, inr, arith}
 use Rattle.std.proofs.lemmas.Bool.{cases_lt, eq-eqb, eqb-true}
-use Rattle.bbm_histories.specs.rules.Lists.{among, least}
+use Rattle.bbm_rules.specs.Lists.{among, least}
 use Rattle.bbm_replay_trees.specs.Judging.{Finds}
 use Rattle.bbm_lists.specs.Elements.{In}
 use Rattle.bbm_lists.proofs.Elements.{any_finds, any_found}

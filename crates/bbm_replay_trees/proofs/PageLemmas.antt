@@ -1,13 +1,13 @@
 -- The fresh pages after an event.
 use Rattle.std.proofs.Common.{◌≡◌, ℕ, not, Bool, true, false, ◌&&◌, ◌||◌, ◌==◌, List, ◌∷◌, None, refl, sym, ◌∙◌, ap, true≢false}
 use Rattle.std.proofs.lemmas.Bool.{eq-eqb, eqb-true}
-use Rattle.bbm_histories.specs.events.Heading.{Heading}
-use Rattle.bbm_histories.specs.rules.Prelude.{Event, Init, Null, Root, Unroot, Write, Dsb, Dmb, Isb, Tlbi, Msr, Lock, Unlock}
-use Rattle.bbm_histories.specs.rules.Attach.{attached_by}
-use Rattle.bbm_histories.specs.rules.Broken.{keeps}
-use Rattle.bbm_histories.specs.rules.Changes.{changes}
-use Rattle.bbm_histories.specs.rules.Claims.Trust.{Patterns}
-use Rattle.bbm_histories.specs.rules.Pages.{is_fresh, may_be_fresh}
+use Rattle.bbm_events.specs.Heading.{Heading}
+use Rattle.bbm_rules.specs.Prelude.{Event, Init, Null, Root, Unroot, Write, Dsb, Dmb, Isb, Tlbi, Msr, Lock, Unlock}
+use Rattle.bbm_rules.specs.Attach.{attached_by}
+use Rattle.bbm_rules.specs.Broken.{keeps}
+use Rattle.bbm_rules.specs.Changes.{changes}
+use Rattle.bbm_rules.specs.Claims.Trust.{Patterns}
+use Rattle.bbm_rules.specs.Pages.{is_fresh, may_be_fresh}
 use Rattle.bbm_replay_trees.specs.Below.{Below}
 use Rattle.bbm_replay_trees.specs.Told.{SameFresh, notes}
 

@@ -1,16 +1,16 @@
 -- The paths of attached pages, by fresh pages and present values, are those of the definitions.
 use Rattle.std.proofs.Common.{◌≡◌, ℕ, zero, suc, ◌+◌, ◌-◌, ◌<◌, ◌≤◌, Bool, true, false, cond, List, [], ◌∷◌, length, Some, None, Contains, flat_map, filter_map, refl, sym, ◌∙◌, ap, subst, inl, inr, arith}
-use Rattle.bbm_histories.specs.regimes.declared.regime.Kind.{Kind}
-use Rattle.bbm_histories.specs.events.Heading.{Heading}
-use Rattle.bbm_histories.specs.rules.Prelude.{Event}
-use Rattle.bbm_histories.specs.rules.Attach.{Attached, End, all_ends, attached_from, end_at, ends_below}
-use Rattle.bbm_histories.specs.rules.Claims.Trust.{Patterns}
-use Rattle.bbm_histories.specs.rules.Notes.{Noted, events_of}
-use Rattle.bbm_histories.specs.rules.Pages.{is_fresh}
-use Rattle.bbm_histories.specs.rules.Places.{page_of}
-use Rattle.bbm_histories.specs.rules.Tree.{Node, next_of}
-use Rattle.bbm_histories.specs.rules.TreeSentences.{Leads as LeadsIn}
-use Rattle.bbm_histories.specs.rules.Values.{places_in, value_of}
+use Rattle.bbm_regimes.specs.declared.regime.Kind.{Kind}
+use Rattle.bbm_events.specs.Heading.{Heading}
+use Rattle.bbm_rules.specs.Prelude.{Event}
+use Rattle.bbm_rules.specs.Attach.{Attached, End, all_ends, attached_from, end_at, ends_below}
+use Rattle.bbm_rules.specs.Claims.Trust.{Patterns}
+use Rattle.bbm_rules.specs.Notes.{Noted, events_of}
+use Rattle.bbm_rules.specs.Pages.{is_fresh}
+use Rattle.bbm_rules.specs.Places.{page_of}
+use Rattle.bbm_rules.specs.Tree.{Node, next_of}
+use Rattle.bbm_rules.specs.TreeSentences.{Leads as LeadsIn}
+use Rattle.bbm_rules.specs.Values.{places_in, value_of}
 use Rattle.bbm_replay_trees.specs.Below.{Below}
 use Rattle.bbm_tree_index.specs.Judged.{IsPath}
 use Rattle.bbm_tree_index.specs.Paths.{Leads}

@@ -2,24 +2,24 @@
 use Rattle.std.proofs.Common.{◌≡◌, ℕ, ◌%◌, not, Bool, true, false, ◌&&◌, ◌||◌, ◌==◌, List, [], ◌∷◌, Option, Some, None, is_some, filter, option_and_then, refl, sym, ◌∙◌, ap, subst, true≢false}
 use Rattle.std.proofs.lemmas.Bool.{eqb-true, or_right}
 use Rattle.std.proofs.lemmas.List.Elements.{filter_agree}
-use Rattle.bbm_histories.specs.regimes.declared.regime.Kind.{Kind}
-use Rattle.bbm_histories.specs.descriptor.Descriptor.{core_of, differ, is_valid}
-use Rattle.bbm_histories.specs.descriptor.declared.desc.Core.{Core}
-use Rattle.bbm_histories.specs.events.Heading.{Heading}
-use Rattle.bbm_histories.specs.rules.Prelude.{Event, Init, Null, Root, Unroot, Write, Dsb, Dmb, Isb, Tlbi, Msr, Lock, Unlock}
-use Rattle.bbm_histories.specs.rules.Broken.{broken, first_broken}
-use Rattle.bbm_histories.specs.rules.Claims.{Trust}
-use Rattle.bbm_histories.specs.rules.Claims.Trust.{Patterns}
-use Rattle.bbm_histories.specs.rules.Covers.{noted}
-use Rattle.bbm_histories.specs.rules.Limits.{limit_of}
-use Rattle.bbm_histories.specs.rules.Lists.{any, if_so, least}
-use Rattle.bbm_histories.specs.rules.Notes.{events_of}
-use Rattle.bbm_histories.specs.rules.Pages.{is_fresh, is_null}
-use Rattle.bbm_histories.specs.rules.Places.{page_of}
-use Rattle.bbm_histories.specs.rules.Roots.{lock_of, root_pages}
-use Rattle.bbm_histories.specs.rules.Rules.{break_before_make, lacks, limbo_make, no_lock, null_written, page_in_use, rewritten_fresh}
-use Rattle.bbm_histories.specs.rules.Tree.{Above, Node, held_at, in_limbo, node_of}
-use Rattle.bbm_histories.specs.rules.Values.{places_in, value_of}
+use Rattle.bbm_regimes.specs.declared.regime.Kind.{Kind}
+use Rattle.bbm_descriptor.specs.Descriptor.{core_of, differ, is_valid}
+use Rattle.bbm_descriptor.specs.declared.desc.Core.{Core}
+use Rattle.bbm_events.specs.Heading.{Heading}
+use Rattle.bbm_rules.specs.Prelude.{Event, Init, Null, Root, Unroot, Write, Dsb, Dmb, Isb, Tlbi, Msr, Lock, Unlock}
+use Rattle.bbm_rules.specs.Broken.{broken, first_broken}
+use Rattle.bbm_rules.specs.Claims.{Trust}
+use Rattle.bbm_rules.specs.Claims.Trust.{Patterns}
+use Rattle.bbm_rules.specs.Covers.{noted}
+use Rattle.bbm_rules.specs.Limits.{limit_of}
+use Rattle.bbm_rules.specs.Lists.{any, if_so, least}
+use Rattle.bbm_rules.specs.Notes.{events_of}
+use Rattle.bbm_rules.specs.Pages.{is_fresh, is_null}
+use Rattle.bbm_rules.specs.Places.{page_of}
+use Rattle.bbm_rules.specs.Roots.{lock_of, root_pages}
+use Rattle.bbm_rules.specs.Rules.{break_before_make, lacks, limbo_make, no_lock, null_written, page_in_use, rewritten_fresh}
+use Rattle.bbm_rules.specs.Tree.{Above, Node, held_at, in_limbo, node_of}
+use Rattle.bbm_rules.specs.Values.{places_in, value_of}
 use Rattle.bbm_replay_trees.specs.Events.{may_reach_limit, rules_of}
 use Rattle.bbm_replay_trees.specs.Told.{AllFit, SameCores, SameFresh, SameNodes, SameNull, SameValues, is_at, limbo_by, notes}
 use Rattle.bbm_lists.specs.Elements.{In}

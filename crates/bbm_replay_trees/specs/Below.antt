@@ -1,22 +1,22 @@
 -- What the crates below prove of their definitions, as one record, so that each proof here takes it as one hypothesis.
 use Rattle.std.specs.Prelude.{◌≡◌, ℕ, suc, ◌<◌, ◌≤◌, ◌⊎◌, ◌↔◌, true, false, not, List, ◌∷◌, [], length, Some, None}
 use Rattle.std.specs.Prelude.{Contains, is_some}
-use Rattle.bbm_histories.specs.descriptor.Descriptor.{core_of, is_valid}
-use Rattle.bbm_histories.specs.rules.Prelude.{Barrier, Kind, Heading, Event, Init, Unroot, Dsb}
-use Rattle.bbm_histories.specs.rules.Attach.{End, all_ends, attached_by, attached_from, end_at, ends_below, pages_of}
-use Rattle.bbm_histories.specs.rules.Broken.{keeps}
-use Rattle.bbm_histories.specs.rules.Claims.Trust.{Patterns}
-use Rattle.bbm_histories.specs.rules.Covers.{noted}
-use Rattle.bbm_histories.specs.rules.Held.{held}
-use Rattle.bbm_histories.specs.rules.Lists.{among, repeated}
-use Rattle.bbm_histories.specs.rules.Notes.{Noted, events_of}
-use Rattle.bbm_histories.specs.rules.Pages.{is_fresh, is_null, may_be_fresh}
-use Rattle.bbm_histories.specs.rules.Places.{page_of}
-use Rattle.bbm_histories.specs.rules.Roots.{Declared, root_pages, start_of}
-use Rattle.bbm_histories.specs.rules.PathSentences.{TwoPaths}
-use Rattle.bbm_histories.specs.rules.Tree.{Node, held_at, in_tree, is_childless, next_of, node_below, node_of, nodes_of_root}
-use Rattle.bbm_histories.specs.rules.Tree.{tree}
-use Rattle.bbm_histories.specs.rules.TreeSentences.{IsNode, Leads}
+use Rattle.bbm_descriptor.specs.Descriptor.{core_of, is_valid}
+use Rattle.bbm_rules.specs.Prelude.{Barrier, Kind, Heading, Event, Init, Unroot, Dsb}
+use Rattle.bbm_rules.specs.Attach.{End, all_ends, attached_by, attached_from, end_at, ends_below, pages_of}
+use Rattle.bbm_rules.specs.Broken.{keeps}
+use Rattle.bbm_rules.specs.Claims.Trust.{Patterns}
+use Rattle.bbm_rules.specs.Covers.{noted}
+use Rattle.bbm_rules.specs.Held.{held}
+use Rattle.bbm_rules.specs.Lists.{among, repeated}
+use Rattle.bbm_rules.specs.Notes.{Noted, events_of}
+use Rattle.bbm_rules.specs.Pages.{is_fresh, is_null, may_be_fresh}
+use Rattle.bbm_rules.specs.Places.{page_of}
+use Rattle.bbm_rules.specs.Roots.{Declared, root_pages, start_of}
+use Rattle.bbm_rules.specs.PathSentences.{TwoPaths}
+use Rattle.bbm_rules.specs.Tree.{Node, held_at, in_tree, is_childless, next_of, node_below, node_of, nodes_of_root}
+use Rattle.bbm_rules.specs.Tree.{tree}
+use Rattle.bbm_rules.specs.TreeSentences.{IsNode, Leads}
 use Rattle.bbm_histories.specs.Steps.{held_after}
 use Rattle.bbm_histories.specs.Tree.{Attaches, HeldChange, Proper}
 use Rattle.bbm_histories.specs.TreeSteps.{HoldsNone, holds_above, is_under, node_where}

@@ -1,9 +1,9 @@
 -- What a judge of attached pages finds is what the rules say of the event. Source: project's own choice.
 use Rattle.std.specs.Prelude.{◌≡◌, ℕ, Bool, List, Option, Some, None}
-use Rattle.bbm_histories.specs.rules.Prelude.{Heading, Event}
-use Rattle.bbm_histories.specs.rules.Claims.Trust.{Patterns}
-use Rattle.bbm_histories.specs.rules.Rules.{bad_kind, global_user, not_fresh}
-use Rattle.bbm_histories.specs.rules.Tree.{Node}
+use Rattle.bbm_rules.specs.Prelude.{Heading, Event}
+use Rattle.bbm_rules.specs.Claims.Trust.{Patterns}
+use Rattle.bbm_rules.specs.Rules.{bad_kind, global_user, not_fresh}
+use Rattle.bbm_rules.specs.Tree.{Node}
 use Rattle.bbm_tree_index.specs.Judged.{HasPlace, IsLeast, IsUnfresh, Never, is_bad, is_user_global}
 use Rattle.bbm_replay_trees.specs.Told.{notes}
 

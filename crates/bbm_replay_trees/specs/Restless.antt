@@ -1,8 +1,8 @@
 -- The restless places, as a numbering has each of them once. Source: project's own choice.
 use Rattle.std.specs.Prelude.{◌≡◌, ℕ, ◌<◌, true, List}
-use Rattle.bbm_histories.specs.rules.Prelude.{Heading, Event}
-use Rattle.bbm_histories.specs.rules.Claims.Trust.{Patterns}
-use Rattle.bbm_histories.specs.rules.Phases.{is_restless}
+use Rattle.bbm_rules.specs.Prelude.{Heading, Event}
+use Rattle.bbm_rules.specs.Claims.Trust.{Patterns}
+use Rattle.bbm_rules.specs.Phases.{is_restless}
 use Rattle.bbm_replay_trees.specs.Told.{notes}
 
 -- the restless places by a number below the count, each once

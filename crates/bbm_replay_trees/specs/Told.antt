@@ -2,18 +2,18 @@
 -- definitions say after a history. A history is newest first. Source: project's own choice.
 use Rattle.std.specs.Prelude.{◌≡◌, ℕ, suc, Bool, true, false, not, ◌&&◌, ◌==◌, List, Option, Some}
 use Rattle.std.specs.Prelude.{is_some, option_and_then, if◌then◌else◌}
-use Rattle.bbm_histories.specs.descriptor.Descriptor.{core_of, is_valid}
-use Rattle.bbm_histories.specs.descriptor.declared.desc.Core.{Core}
-use Rattle.bbm_histories.specs.events.Fits.{fits_heading}
-use Rattle.bbm_histories.specs.rules.Prelude.{Kind, Heading, Event, Write}
-use Rattle.bbm_histories.specs.rules.Claims.Trust.{Patterns}
-use Rattle.bbm_histories.specs.rules.Covers.{noted}
-use Rattle.bbm_histories.specs.rules.Lists.{among, any, every}
-use Rattle.bbm_histories.specs.rules.Notes.{Noted}
-use Rattle.bbm_histories.specs.rules.Pages.{initialised, is_fresh, is_null}
-use Rattle.bbm_histories.specs.rules.Places.{page_of}
-use Rattle.bbm_histories.specs.rules.Tree.{Node, held_at, node_below, node_of}
-use Rattle.bbm_histories.specs.rules.Values.{value_of}
+use Rattle.bbm_descriptor.specs.Descriptor.{core_of, is_valid}
+use Rattle.bbm_descriptor.specs.declared.desc.Core.{Core}
+use Rattle.bbm_events.specs.Fits.{fits_heading}
+use Rattle.bbm_rules.specs.Prelude.{Kind, Heading, Event, Write}
+use Rattle.bbm_rules.specs.Claims.Trust.{Patterns}
+use Rattle.bbm_rules.specs.Covers.{noted}
+use Rattle.bbm_rules.specs.Lists.{among, any, every}
+use Rattle.bbm_rules.specs.Notes.{Noted}
+use Rattle.bbm_rules.specs.Pages.{initialised, is_fresh, is_null}
+use Rattle.bbm_rules.specs.Places.{page_of}
+use Rattle.bbm_rules.specs.Tree.{Node, held_at, node_below, node_of}
+use Rattle.bbm_rules.specs.Values.{value_of}
 -- whether an address is that of a descriptor of a page, the next page of a core that is a table, and the node where a
 -- test keeps it
 pub use Rattle.bbm_tree_index.specs.Held.{is_at, next_in, kept}

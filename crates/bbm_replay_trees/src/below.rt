@@ -1,15 +1,15 @@
 //! What the crates below prove, gathered for the proofs here.
 
-ghost use Rattle.bbm_histories.specs.events.Heading.{Heading};
+ghost use Rattle.bbm_events.specs.Heading.{Heading};
 ghost use Rattle.bbm_replay_trees.specs.Below.{Below};
 
-use bbm_histories::descriptor::laws::law_core_where_valid;
-use bbm_histories::rules::{
-    law_held, law_notes_keep_the_events, law_paths, law_repeated, law_root_pages, law_tree,
-};
+use bbm_descriptor::laws::law_core_where_valid;
 use bbm_histories::{
     law_childless_step, law_fresh_content, law_fresh_step, law_held_changes, law_held_step,
     law_node_step, law_one_node, law_one_position,
+};
+use bbm_rules::{
+    law_held, law_notes_keep_the_events, law_paths, law_repeated, law_root_pages, law_tree,
 };
 
 /// The laws that the laws here stand on.

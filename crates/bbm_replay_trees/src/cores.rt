@@ -1,18 +1,18 @@
 //! Laws of the cores of what the places of trees hold.
 
 ghost use Rattle.std.specs.Prelude.{◌≡◌, ℕ, Bool, true, List, ◌∷◌, Option, Some, None, is_some, if◌then◌else◌};
-ghost use Rattle.bbm_histories.specs.barriers.declared.Dsb.{Dsb as Barrier};
-ghost use Rattle.bbm_histories.specs.regimes.declared.regime.Kind.{Kind};
-ghost use Rattle.bbm_histories.specs.descriptor.Descriptor.{core_of};
-ghost use Rattle.bbm_histories.specs.descriptor.declared.desc.Core.{Core};
-ghost use Rattle.bbm_histories.specs.events.Heading.{Heading};
-ghost use Rattle.bbm_histories.specs.events.declared.event.Event.{Event};
-ghost use Rattle.bbm_histories.specs.events.declared.event.Event.TheVariants.{Dsb};
+ghost use Rattle.bbm_barriers.specs.declared.Dsb.{Dsb as Barrier};
+ghost use Rattle.bbm_regimes.specs.declared.regime.Kind.{Kind};
+ghost use Rattle.bbm_descriptor.specs.Descriptor.{core_of};
+ghost use Rattle.bbm_descriptor.specs.declared.desc.Core.{Core};
+ghost use Rattle.bbm_events.specs.Heading.{Heading};
+ghost use Rattle.bbm_events.specs.declared.event.Event.{Event};
+ghost use Rattle.bbm_events.specs.declared.event.Event.TheVariants.{Dsb};
 ghost use Rattle.bbm_histories.specs.Tree.{Proper};
-ghost use Rattle.bbm_histories.specs.rules.Broken.{keeps};
-ghost use Rattle.bbm_histories.specs.rules.Claims.Trust.{Patterns};
-ghost use Rattle.bbm_histories.specs.rules.Places.{page_of};
-ghost use Rattle.bbm_histories.specs.rules.Tree.{Node, held_at};
+ghost use Rattle.bbm_rules.specs.Broken.{keeps};
+ghost use Rattle.bbm_rules.specs.Claims.Trust.{Patterns};
+ghost use Rattle.bbm_rules.specs.Places.{page_of};
+ghost use Rattle.bbm_rules.specs.Tree.{Node, held_at};
 ghost use Rattle.bbm_replay_trees.specs.Told.{SameCores, SameNodes, SameValues, core_after, notes};
 
 use crate::below::below;

@@ -10,8 +10,6 @@ pub mod places;
 pub mod rules;
 pub mod starts;
 
-pub use bbm_tree_index as tree_index;
-pub use bbm_tree_index::place_map;
 pub use cores::law_cores;
 pub use judging::{law_judging, law_unattached};
 pub use nodes::{law_neighbours, law_nodes};

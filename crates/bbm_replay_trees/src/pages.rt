@@ -2,16 +2,16 @@
 
 ghost use Rattle.std.specs.Prelude.{◌≡◌, ℕ, ◌+◌, Bool, true, false, not, ◌&&◌, ◌||◌, ◌==◌, List, ◌∷◌, length};
 ghost use Rattle.std.specs.Prelude.{Option, None, is_none, if◌then◌else◌};
-ghost use Rattle.bbm_histories.specs.events.Heading.{Heading};
-ghost use Rattle.bbm_histories.specs.events.declared.event.Event.{Event};
-ghost use Rattle.bbm_histories.specs.events.declared.event.Event.TheVariants.{Init, Null, Write};
-ghost use Rattle.bbm_histories.specs.rules.Attach.{attached_by};
-ghost use Rattle.bbm_histories.specs.rules.Broken.{keeps};
-ghost use Rattle.bbm_histories.specs.rules.Changes.{changes};
-ghost use Rattle.bbm_histories.specs.rules.Claims.Trust.{Patterns};
-ghost use Rattle.bbm_histories.specs.rules.Pages.{initialised};
-ghost use Rattle.bbm_histories.specs.rules.Places.{page_of};
-ghost use Rattle.bbm_histories.specs.rules.Tree.{Node};
+ghost use Rattle.bbm_events.specs.Heading.{Heading};
+ghost use Rattle.bbm_events.specs.declared.event.Event.{Event};
+ghost use Rattle.bbm_events.specs.declared.event.Event.TheVariants.{Init, Null, Write};
+ghost use Rattle.bbm_rules.specs.Attach.{attached_by};
+ghost use Rattle.bbm_rules.specs.Broken.{keeps};
+ghost use Rattle.bbm_rules.specs.Changes.{changes};
+ghost use Rattle.bbm_rules.specs.Claims.Trust.{Patterns};
+ghost use Rattle.bbm_rules.specs.Pages.{initialised};
+ghost use Rattle.bbm_rules.specs.Places.{page_of};
+ghost use Rattle.bbm_rules.specs.Tree.{Node};
 ghost use Rattle.bbm_replay_trees.specs.Told.{SameFresh, SameKnown, SameNodes, SameNull, SameValues, notes};
 
 use crate::below::below;

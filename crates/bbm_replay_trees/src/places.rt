@@ -1,16 +1,16 @@
 //! Laws of places in limbo, of childless tables, and of restless places.
 
 ghost use Rattle.std.specs.Prelude.{◌≡◌, ℕ, ◌↔◌, Bool, true, List, [], length, Option, Some, Contains};
-ghost use Rattle.bbm_histories.specs.regimes.declared.regime.Kind.{Kind};
-ghost use Rattle.bbm_histories.specs.descriptor.declared.desc.Core.{Core};
-ghost use Rattle.bbm_histories.specs.events.Heading.{Heading};
-ghost use Rattle.bbm_histories.specs.events.declared.event.Event.{Event};
-ghost use Rattle.bbm_histories.specs.rules.Broken.{keeps};
-ghost use Rattle.bbm_histories.specs.rules.Claims.Trust.{Patterns};
-ghost use Rattle.bbm_histories.specs.rules.Lists.{repeated};
-ghost use Rattle.bbm_histories.specs.rules.Phases.{is_restless, restless_of};
-ghost use Rattle.bbm_histories.specs.rules.Places.{page_of};
-ghost use Rattle.bbm_histories.specs.rules.Tree.{Node, held_at, in_limbo, is_childless};
+ghost use Rattle.bbm_regimes.specs.declared.regime.Kind.{Kind};
+ghost use Rattle.bbm_descriptor.specs.declared.desc.Core.{Core};
+ghost use Rattle.bbm_events.specs.Heading.{Heading};
+ghost use Rattle.bbm_events.specs.declared.event.Event.{Event};
+ghost use Rattle.bbm_rules.specs.Broken.{keeps};
+ghost use Rattle.bbm_rules.specs.Claims.Trust.{Patterns};
+ghost use Rattle.bbm_rules.specs.Lists.{repeated};
+ghost use Rattle.bbm_rules.specs.Phases.{is_restless, restless_of};
+ghost use Rattle.bbm_rules.specs.Places.{page_of};
+ghost use Rattle.bbm_rules.specs.Tree.{Node, held_at, in_limbo, is_childless};
 ghost use Rattle.bbm_replay_trees.specs.Restless.{Numbers};
 ghost use Rattle.bbm_replay_trees.specs.Told.{AllFit, Childless, SameCores, SameNodes, SameValues, limbo_by, notes};
 

@@ -3,16 +3,16 @@ use Rattle.std.specs.List.{list_all}
 use Rattle.std.proofs.Common.{◌≡◌, ℕ, ◌*◌, ◌%◌, Bool, true, false, cond, not, ◌&&◌, ◌==◌, List, [], ◌∷◌, Some, filter, refl, sym, ap, subst, inl, inr, ◌∙◌, true≢false}
 use Rattle.std.proofs.Math.Path.{fun_ext}
 use Rattle.std.proofs.lemmas.Bool.{and_from, and_parts, eqb-true, or_cases}
-use Rattle.bbm_walk_s1.specs.regimes.declared.regime.Kind.{Kind}
-use Rattle.bbm_walk_s1.specs.regimes.declared.regime.Kind.TheVariants.{El2, S2, Ttbr0, Ttbr1}
-use Rattle.bbm_walk_s1.specs.regimes.declared.regime.World.{World}
-use Rattle.bbm_walk_s1.specs.regimes.World.{page_count, start_of}
+use Rattle.bbm_regimes.specs.declared.regime.Kind.{Kind}
+use Rattle.bbm_regimes.specs.declared.regime.Kind.TheVariants.{El2, S2, Ttbr0, Ttbr1}
+use Rattle.bbm_regimes.specs.declared.regime.World.{World}
+use Rattle.bbm_regimes.specs.World.{page_count, start_of}
 use Rattle.bbm_walk_s1.specs.Ranges.{stage1_root}
 use Rattle.bbm_walk_s2.specs.Joined.{stage2_root}
-use Rattle.bbm_walk_s1.specs.descriptor.Listing.{WalkRoot, IsAnswer}
-use Rattle.bbm_walk_s1.specs.descriptor.declared.walk.Walk.{Walk}
-use Rattle.bbm_rules.specs.events.Heading.{Heading}
-use Rattle.bbm_rules.specs.events.Fits.{fits_heading, is_page, is_pe, is_root_lock, is_root_page}
+use Rattle.bbm_descriptor.specs.Listing.{WalkRoot, IsAnswer}
+use Rattle.bbm_descriptor.specs.declared.walk.Walk.{Walk}
+use Rattle.bbm_events.specs.Heading.{Heading}
+use Rattle.bbm_events.specs.Fits.{fits_heading, is_page, is_pe, is_root_lock, is_root_page}
 use Rattle.bbm_rules.specs.Prelude.{Event, Root, Unroot}
 use Rattle.bbm_rules.specs.Lists.{any}
 use Rattle.bbm_rules.specs.Values.{value_of}

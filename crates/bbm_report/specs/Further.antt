@@ -2,17 +2,17 @@
 -- Source: project's own choice.
 use Rattle.std.specs.Prelude.{◌≡◌, ℕ, zero, suc, true, false, List, [], ◌∷◌, ◌++◌, Option, Some, None}
 use Rattle.std.specs.Result.{result_ok}
-use Rattle.bbm_walk_s1.specs.regimes.declared.regime.World.{World}
-use Rattle.bbm_walk_s1.specs.regimes.declared.regime.Kind.{Kind}
-use Rattle.bbm_walk_s1.specs.regimes.declared.regime.Kind.TheVariants.{El2, S2, Ttbr0, Ttbr1}
-use Rattle.bbm_walk_s1.specs.regimes.World.{page_count, start_of}
-use Rattle.bbm_walk_s1.specs.descriptor.Listing.{WalkRoot, IsAnswer}
-use Rattle.bbm_walk_s1.specs.descriptor.declared.walk.Walk.{Walk}
+use Rattle.bbm_regimes.specs.declared.regime.World.{World}
+use Rattle.bbm_regimes.specs.declared.regime.Kind.{Kind}
+use Rattle.bbm_regimes.specs.declared.regime.Kind.TheVariants.{El2, S2, Ttbr0, Ttbr1}
+use Rattle.bbm_regimes.specs.World.{page_count, start_of}
+use Rattle.bbm_descriptor.specs.Listing.{WalkRoot, IsAnswer}
+use Rattle.bbm_descriptor.specs.declared.walk.Walk.{Walk}
 use Rattle.bbm_walk_s1.specs.Ranges.{stage1_root}
 use Rattle.bbm_walk_s2.specs.Joined.{stage2_root}
-use Rattle.bbm_rules.specs.events.Heading.{Heading}
-use Rattle.bbm_rules.specs.events.Lines.{header_of}
-use Rattle.bbm_rules.specs.events.declared.event.Event.{Event}
+use Rattle.bbm_events.specs.Heading.{Heading}
+use Rattle.bbm_events.specs.Lines.{header_of}
+use Rattle.bbm_events.specs.declared.event.Event.{Event}
 use Rattle.bbm_rules.specs.declared.rule.Rule.{Rule}
 use Rattle.bbm_rules.specs.declared.rule.Rule.TheVariants.{BreakBeforeMake}
 use Rattle.bbm_rules.specs.declared.verdict.Verdict.{Verdict}

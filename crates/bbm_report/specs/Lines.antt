@@ -1,9 +1,9 @@
 -- The lines that stand beside that of a verdict, each with its newline.
 -- Source: project's own choice.
 use Rattle.std.specs.Prelude.{ℕ, List, ◌++◌, Option, Some, None, codes, decimal}
-use Rattle.bbm_rules.specs.events.Spelling.{hex}
-use Rattle.bbm_walk_s1.specs.descriptor.declared.walk.Walk.{Walk}
-use Rattle.bbm_walk_s1.specs.descriptor.declared.walk.Walk.TheVariants.{Out, Fault}
+use Rattle.bbm_events.specs.Spelling.{hex}
+use Rattle.bbm_descriptor.specs.declared.walk.Walk.{Walk}
+use Rattle.bbm_descriptor.specs.declared.walk.Walk.TheVariants.{Out, Fault}
 use Rattle.bbm_rules.specs.declared.phase.Phase.{Phase}
 use Rattle.bbm_rules.specs.declared.phase.Phase.TheVariants.{Clean, Live, Broken, Seen, Half, Cleansed}
 

@@ -1,10 +1,10 @@
 -- What the command `walk` is asked.
 -- Source: project's own choice.
 use Rattle.std.specs.Prelude.{ℕ, List, [], ◌∷◌, Option, Some, None, codes, bytes_eq, if◌then◌else◌}
-use Rattle.bbm_rules.specs.events.Fits.{is_page}
-use Rattle.bbm_rules.specs.events.Lines.{passing}
-use Rattle.bbm_rules.specs.events.Spelling.{hex_value}
-use Rattle.bbm_rules.specs.events.Words.{with_word, kind_word, kinds}
+use Rattle.bbm_events.specs.Fits.{is_page}
+use Rattle.bbm_events.specs.Lines.{passing}
+use Rattle.bbm_events.specs.Spelling.{hex_value}
+use Rattle.bbm_events.specs.Words.{with_word, kind_word, kinds}
 use Rattle.bbm_rules.specs.Lists.{◌>>=◌}
 use Rattle.bbm_report.specs.declared.questions.Question.{Question}
 

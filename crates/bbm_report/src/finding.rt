@@ -2,20 +2,20 @@
 
 ghost use Rattle.std.specs.Prelude.{◌≡◌, ℕ, ◌*◌, ◌%◌, ◌↔◌, List, true, IsTrue, IsSome, IfSome};
 ghost use Rattle.std.specs.List.{list_all};
-ghost use Rattle.bbm_walk_s1.specs.regimes.declared.regime.Kind.TheVariants.{S2, Ttbr1};
-ghost use Rattle.bbm_walk_s1.specs.regimes.Same.{same_kind};
-ghost use Rattle.bbm_walk_s1.specs.regimes.World as worlds;
+ghost use Rattle.bbm_regimes.specs.declared.regime.Kind.TheVariants.{S2, Ttbr1};
+ghost use Rattle.bbm_regimes.specs.Same.{same_kind};
+ghost use Rattle.bbm_regimes.specs.World as worlds;
 ghost use Rattle.bbm_walk_s2.specs.Joined.{can_join};
-ghost use Rattle.bbm_rules.specs.events.Fits.{fits_heading};
-ghost use Rattle.bbm_rules.specs.events.declared.event.Event.{Event};
+ghost use Rattle.bbm_events.specs.Fits.{fits_heading};
+ghost use Rattle.bbm_events.specs.declared.event.Event.{Event};
 ghost use Rattle.bbm_report.specs.Further.{Found};
 
 use crate::questions::Question;
+use bbm_descriptor::Walk;
+use bbm_events::Header;
+use bbm_regimes::{Kind, Page};
 use bbm_rules::Checker;
-use bbm_rules::events::Header;
 use bbm_walk_s1::S1Root;
-use bbm_walk_s1::descriptor::Walk;
-use bbm_walk_s1::regimes::{Kind, Page};
 use bbm_walk_s2::S2Root;
 
 /// Whether the input range of the kind is the high one.

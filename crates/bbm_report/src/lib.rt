@@ -10,10 +10,6 @@ pub mod questions;
 pub mod verdicts;
 pub mod walks;
 
-pub use bbm_log_grammar as log_grammar;
-pub use bbm_rules as rules;
-pub use bbm_rules::events;
-pub use bbm_walk_s1::{descriptor, regimes};
 pub use finding::find;
 pub use idle::idle_text;
 pub use phases::phase_text;

@@ -4,9 +4,9 @@ ghost use Rattle.std.specs.Prelude.{◌≡◌, ◌≤◌, length};
 ghost use Rattle.bbm_rules.specs.Texts.{rule_text, cause_text, limit_text};
 ghost use Rattle.bbm_report.specs.Lines.{phase_word as word_of};
 
-use bbm_rules::events::Malformed;
+use bbm_events::Malformed;
+use bbm_regimes::Which;
 use bbm_rules::{Phase, Rule};
-use bbm_walk_s1::regimes::Which;
 
 /// The number and the name of a rule.
 pub(crate) fn rule_words(rule: Rule) -> &'static [u8]

@@ -6,8 +6,8 @@ ghost use Rattle.bbm_report.specs.Lines.{phase_text as text_of_phase};
 use crate::names::phase_word;
 use arrayvec::ArrayVec;
 use bbm_log_grammar::{add, add_decimal};
+use bbm_regimes::Pe;
 use bbm_rules::Phase;
-use bbm_walk_s1::regimes::Pe;
 
 /// Puts the line of a PE and of the phase of a place there, with its newline, into `out`, which is empty. Source:
 /// project's own choice.

@@ -6,7 +6,7 @@ ghost use Rattle.std.specs.String.{string_bytes};
 ghost use Rattle.bbm_report.specs.Questions.{question_of, walk_asked};
 
 use bbm_log_grammar::{kind_named, page_of, read_hex};
-use bbm_walk_s1::regimes::{Kind, Page};
+use bbm_regimes::{Kind, Page};
 
 /// Where the tables of a root map an address.
 #[derive(Clone, Copy, Debug, PartialEq, Eq)]

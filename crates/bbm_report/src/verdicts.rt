@@ -6,10 +6,10 @@ ghost use Rattle.bbm_rules.specs.Texts.{label_text, verdict_text as text_of_verd
 
 use crate::names::{cause_words, limit_words, rule_words};
 use arrayvec::ArrayVec;
+use bbm_events::{Label, Malformed};
 use bbm_log_grammar::{add, add_decimal, add_hex};
-use bbm_rules::events::{Label, Malformed};
+use bbm_regimes::Which;
 use bbm_rules::{Rule, Verdict};
-use bbm_walk_s1::regimes::Which;
 
 /// A space, the mark `@` and the label, where there is one.
 #[tactic(auto, using(bbm_log_grammar::proofs::Parts::label_length))]

@@ -2,12 +2,12 @@
 //! Source: project's own choice, where no other is named.
 
 ghost use Rattle.std.specs.Prelude.{◌≡◌, []};
-ghost use Rattle.bbm_walk_s1.specs.descriptor.declared.walk.Walk.{Walk as WalkOf};
+ghost use Rattle.bbm_descriptor.specs.declared.walk.Walk.{Walk as WalkOf};
 ghost use Rattle.bbm_report.specs.Lines.{found_text as text_of_found, walk_text as text_of_walk};
 
 use arrayvec::ArrayVec;
+use bbm_descriptor::Walk;
 use bbm_log_grammar::{add, add_decimal, add_hex};
-use bbm_walk_s1::descriptor::Walk;
 
 /// Puts the line of a walk's answer, with its newline, into `out`, which is empty.
 #[tactic(auto, unfolding(crate::specs::Lines::walk_text))]

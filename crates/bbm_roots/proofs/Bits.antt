@@ -1,8 +1,8 @@
 -- Tests of tags and sets of PEs.
 use Rattle.std.proofs.Common.{◌≡◌, ℕ, zero, suc, ◌<◌, ◌≤◌, Bool, true, false, ◌&&◌, ◌||◌, not, nat_lt, nat_eq, refl, sym, ◌∙◌, ap, arith, IsTrue, ⊎_elim}
 use Rattle.std.proofs.lemmas.Bool.{true_from_ne_false, cases_lt, false≢true, lt-ltb, ltb-true, eqb-true, eq-eqb}
-use Rattle.bbm_events.specs.regimes.declared.regime.Tag.{Tag}
-use Rattle.bbm_events.specs.regimes.declared.regime.Tag.TheVariants.{El2, Vmid, Asid, Ttbr1}
+use Rattle.bbm_regimes.specs.declared.regime.Tag.{Tag}
+use Rattle.bbm_regimes.specs.declared.regime.Tag.TheVariants.{El2, Vmid, Asid, Ttbr1}
 use Rattle.bbm_roots.specs.Holds.{some_pe, is_hold}
 use Rattle.bbm_roots.specs.Pendings.{same_flag}
 use Rattle.bbm_roots.specs.Readings.{same_tag}

@@ -6,8 +6,8 @@ use Rattle.std.proofs.lemmas.Bool.{false≢true, eqb-true, eq-eqb}
 use Rattle.std.proofs.lemmas.List.{take_all}
 use Rattle.std.proofs.lemmas.Option.{get_or_from_slice_get}
 use Rattle.indexmap.specs.IndexMap.{IndexMap, values}
-use Rattle.bbm_events.specs.regimes.PeMask.{pe_in}
-use Rattle.bbm_events.specs.regimes.declared.regime.Tag.{Tag}
+use Rattle.bbm_regimes.specs.PeMask.{pe_in}
+use Rattle.bbm_regimes.specs.declared.regime.Tag.{Tag}
 use Rattle.bbm_roots.specs.Holds.{is_hold, entry_bit, entry_held, is_held_by, is_held_under, has_hold, hold_in, tag_in, tag_key}
 use Rattle.bbm_roots.specs.Readings.{same_tag, has_other, is_reading, is_other}
 use Rattle.bbm_roots.specs.declared.hold.Held.{Held}

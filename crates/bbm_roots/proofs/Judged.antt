@@ -2,10 +2,10 @@
 use Rattle.std.proofs.Common.{◌≡◌, ℕ, ◌<◌, Bool, true, List, ◌∷◌, Option, None, Result, length, refl, sym, ◌∙◌, ap, cond, subst}
 use Rattle.std.proofs.Math.Path.{fun_ext}
 use Rattle.indexmap.specs.IndexMap.{IndexMap}
-use Rattle.bbm_events.specs.regimes.declared.regime.Reg.{Reg}
-use Rattle.bbm_events.specs.regimes.declared.regime.Tag.{Tag}
-use Rattle.bbm_events.specs.regimes.declared.regime.World.{World}
-use Rattle.bbm_events.specs.regimes.declared.regime.World.TheVariants.{Hyp, Kernel}
+use Rattle.bbm_regimes.specs.declared.regime.Reg.{Reg}
+use Rattle.bbm_regimes.specs.declared.regime.Tag.{Tag}
+use Rattle.bbm_regimes.specs.declared.regime.World.{World}
+use Rattle.bbm_regimes.specs.declared.regime.World.TheVariants.{Hyp, Kernel}
 use Rattle.bbm_roots.specs.Calls.{Call, WriteReg}
 use Rattle.bbm_roots.specs.Holds.{hold_in, conflict_in}
 use Rattle.bbm_roots.specs.Readings.{readings_of}

@@ -1,10 +1,10 @@
 -- The least of what passes a test, where one more thing passes.
 use Rattle.std.proofs.Common.{◌≡◌, Bool, true, false, ◌||◌, Option, Some, None, refl, sym, ◌∙◌, ap, arith}
 use Rattle.std.proofs.lemmas.Bool.{false≢true}
-use Rattle.bbm_events.specs.regimes.declared.regime.Tag.{Tag}
-use Rattle.bbm_events.specs.tlbi_scope.declared.entry.TagSet.{TagSet}
-use Rattle.bbm_events.specs.tlbi_scope.declared.entry.TagSet.TheVariants.{None as NoTag, One, Many}
-use Rattle.bbm_events.specs.tlbi_scope.TagSets.{HasTags}
+use Rattle.bbm_regimes.specs.declared.regime.Tag.{Tag}
+use Rattle.bbm_tlbi_scope.specs.declared.entry.TagSet.{TagSet}
+use Rattle.bbm_tlbi_scope.specs.declared.entry.TagSet.TheVariants.{None as NoTag, One, Many}
+use Rattle.bbm_tlbi_scope.specs.TagSets.{HasTags}
 use Rattle.bbm_roots.specs.Least.{IsLeast, ReadingUpTo}
 use Rattle.bbm_roots.specs.declared.reading.Reading.{Reading}
 

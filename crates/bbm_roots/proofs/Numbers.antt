@@ -1,7 +1,7 @@
 -- The numbers of a list of values: one, or several.
 use Rattle.std.proofs.Common.{◌≡◌, ℕ, ◌<◌, ◌≤◌, Bool, true, false, ◌&&◌, not, nat_eq, nat_lt, List, [], ◌∷◌, Option, Some, None, length, refl, sym, ◌∙◌, ap, cond, arith, ⊎_elim}
 use Rattle.std.proofs.lemmas.Bool.{false≢true, eqb-true, eq-eqb, lt-ltb, ltb-true, cases_lt}
-use Rattle.bbm_events.specs.regimes.declared.regime.Reg.{Reg}
+use Rattle.bbm_regimes.specs.declared.regime.Reg.{Reg}
 use Rattle.bbm_roots.specs.Calls.{Call, Declare, Retire, WriteReg, Isb, Issue, Complete}
 use Rattle.bbm_roots.specs.Least.{IsLeast, UpTo}
 use Rattle.bbm_roots.specs.Refusals.{is_other_number, other_number}

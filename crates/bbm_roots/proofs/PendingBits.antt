@@ -2,10 +2,10 @@
 use Rattle.std.proofs.Common.{◌≡◌, ℕ, Bool, true, false, ◌&&◌, ◌||◌, not, nat_eq, List, [], ◌∷◌, filter, refl, sym, ◌∙◌, ap}
 use Rattle.std.specs.List.{list_any}
 use Rattle.std.proofs.lemmas.Bool.{eqb-true}
-use Rattle.bbm_events.specs.barriers.Options.{answers}
-use Rattle.bbm_events.specs.barriers.declared.Dsb.{Dsb}
-use Rattle.bbm_events.specs.regimes.PeMask.{pe_in}
-use Rattle.bbm_events.specs.regimes.declared.regime.Tag.{Tag}
+use Rattle.bbm_barriers.specs.Options.{answers}
+use Rattle.bbm_barriers.specs.declared.Dsb.{Dsb}
+use Rattle.bbm_regimes.specs.PeMask.{pe_in}
+use Rattle.bbm_regimes.specs.declared.regime.Tag.{Tag}
 use Rattle.bbm_roots.specs.Pendings.{is_open, is_pending, pending_bit, pending_in, answered_in, answered_bit, is_answered, has_pending, same_flag}
 use Rattle.bbm_roots.specs.Readings.{same_tag}
 use Rattle.std.proofs.lemmas.Map.Views.{any-filter_same}

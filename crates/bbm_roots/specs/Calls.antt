@@ -1,9 +1,9 @@
 -- The calls that were accepted.
 use Rattle.std.specs.Prelude.{ℕ, Bool, Option}
-use Rattle.bbm_events.specs.barriers.declared.Dsb.{Dsb}
-use Rattle.bbm_events.specs.regimes.declared.regime.Kind.{Kind}
-use Rattle.bbm_events.specs.regimes.declared.regime.Reg.{Reg}
-use Rattle.bbm_events.specs.tlbi_scope.declared.scope.Scope.{Scope}
+use Rattle.bbm_barriers.specs.declared.Dsb.{Dsb}
+use Rattle.bbm_regimes.specs.declared.regime.Kind.{Kind}
+use Rattle.bbm_regimes.specs.declared.regime.Reg.{Reg}
+use Rattle.bbm_tlbi_scope.specs.declared.scope.Scope.{Scope}
 
 -- A call that was accepted, with its arguments. A list of calls is newest first.
 -- Source: project's own choice.

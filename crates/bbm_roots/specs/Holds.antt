@@ -2,10 +2,10 @@
 use Rattle.std.specs.Prelude.{◌≡◌, ℕ, zero, suc, ◌+◌, ◌*◌, Bool, true, false, ◌&&◌, ◌||◌, nat_eq, ◌==◌, List}
 use Rattle.std.specs.Prelude.{Option, Some, None, is_some}
 use Rattle.std.specs.List.{list_any}
-use Rattle.bbm_events.specs.regimes.PeMask.{pe_in}
+use Rattle.bbm_regimes.specs.PeMask.{pe_in}
 use Rattle.indexmap.specs.IndexMap.{IndexMap, get}
-use Rattle.bbm_events.specs.regimes.declared.regime.Tag.{Tag}
-use Rattle.bbm_events.specs.regimes.declared.regime.Tag.TheVariants.{El2 as El2Tag, Vmid, Asid, Ttbr1 as Ttbr1Tag}
+use Rattle.bbm_regimes.specs.declared.regime.Tag.{Tag}
+use Rattle.bbm_regimes.specs.declared.regime.Tag.TheVariants.{El2 as El2Tag, Vmid, Asid, Ttbr1 as Ttbr1Tag}
 use Rattle.bbm_roots.specs.declared.hold.Held.{Held}
 use Rattle.bbm_roots.specs.Readings.{same_tag, has_reading, has_other, is_reading, is_other}
 use Rattle.bbm_roots.specs.declared.reading.Reading.{Reading}

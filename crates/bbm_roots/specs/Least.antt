@@ -1,7 +1,7 @@
 -- The least of what passes a test.
 -- Source: project's own choice.
 use Rattle.std.specs.Prelude.{◌≡◌, ◌≤◌, ℕ, Bool, true, false, Option, Some, None}
-use Rattle.bbm_events.specs.regimes.declared.regime.Tag.{Tag}
+use Rattle.bbm_regimes.specs.declared.regime.Tag.{Tag}
 use Rattle.bbm_roots.specs.Readings.{tag_rank}
 use Rattle.bbm_roots.specs.declared.reading.Reading.{Reading}
 

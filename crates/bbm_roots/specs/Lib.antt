@@ -10,7 +10,3 @@ pub mod Roots
 pub mod Stands
 pub mod Listed
 pub mod Tags
-pub use Rattle.bbm_events.specs.barriers
-pub use Rattle.bbm_events.specs as events
-pub use Rattle.bbm_events.specs.range
-pub use Rattle.bbm_events.specs.tlbi_scope

@@ -2,10 +2,10 @@
 -- the answer.
 use Rattle.std.specs.Prelude.{ℕ, Bool, true, false, not, ◌&&◌, ◌==◌, List}
 use Rattle.std.specs.List.{list_any}
-use Rattle.bbm_events.specs.barriers.Options.{answers}
-use Rattle.bbm_events.specs.barriers.declared.Dsb.{Dsb}
-use Rattle.bbm_events.specs.regimes.PeMask.{pe_in}
-use Rattle.bbm_events.specs.regimes.declared.regime.Tag.{Tag}
+use Rattle.bbm_barriers.specs.Options.{answers}
+use Rattle.bbm_barriers.specs.declared.Dsb.{Dsb}
+use Rattle.bbm_regimes.specs.PeMask.{pe_in}
+use Rattle.bbm_regimes.specs.declared.regime.Tag.{Tag}
 use Rattle.bbm_roots.specs.declared.pending.Pending.{Pending}
 use Rattle.bbm_roots.specs.Readings.{same_tag}
 

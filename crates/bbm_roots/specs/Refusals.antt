@@ -3,11 +3,11 @@
 use Rattle.std.specs.Prelude.{◌≡◌, ◌<◌, ◌≤◌, ℕ, Bool, not, ◌==◌, ◌&&◌, Option, Some, None, IsSome, Result, Ok, Err}
 use Rattle.std.specs.Prelude.{List, if◌then◌else◌}
 use Rattle.std.specs.List.{list_any}
-use Rattle.bbm_events.specs.regimes.declared.regime.Kind.{Kind}
-use Rattle.bbm_events.specs.regimes.declared.regime.Reg.{Reg}
-use Rattle.bbm_events.specs.regimes.declared.regime.Tag.{Tag}
-use Rattle.bbm_events.specs.regimes.declared.regime.Which.TheVariants.{Values}
-use Rattle.bbm_events.specs.regimes.declared.regime.World.{World}
+use Rattle.bbm_regimes.specs.declared.regime.Kind.{Kind}
+use Rattle.bbm_regimes.specs.declared.regime.Reg.{Reg}
+use Rattle.bbm_regimes.specs.declared.regime.Tag.{Tag}
+use Rattle.bbm_regimes.specs.declared.regime.Which.TheVariants.{Values}
+use Rattle.bbm_regimes.specs.declared.regime.World.{World}
 use Rattle.bbm_roots.specs.Calls.{Call}
 use Rattle.bbm_roots.specs.Least.{IsLeast, UpTo, TagUpTo, ReadingUpTo}
 use Rattle.bbm_roots.specs.Readings.{has_other}

@@ -3,12 +3,12 @@
 use Rattle.std.specs.Prelude.{ℕ, Bool, true, false, ◌&&◌, ◌||◌, ◌==◌, List, [], ◌∷◌, Option, Some}
 use Rattle.std.specs.Prelude.{None, if◌then◌else◌}
 use Rattle.std.specs.List.{list_any}
-use Rattle.bbm_events.specs.regimes.Registers.{base_of, tag_number}
-pub use Rattle.bbm_events.specs.regimes.Same.{kind_of_reg, same_reg}
-use Rattle.bbm_events.specs.regimes.declared.regime.Reg.{Reg}
-use Rattle.bbm_events.specs.regimes.declared.regime.Reg.TheVariants.{Ttbr0El2, VttbrEl2, Ttbr0El1, Ttbr1El1}
-use Rattle.bbm_events.specs.regimes.declared.regime.World.{World}
-use Rattle.bbm_events.specs.regimes.declared.regime.World.TheVariants.{Hyp, Kernel}
+use Rattle.bbm_regimes.specs.Registers.{base_of, tag_number}
+pub use Rattle.bbm_regimes.specs.Same.{kind_of_reg, same_reg}
+use Rattle.bbm_regimes.specs.declared.regime.Reg.{Reg}
+use Rattle.bbm_regimes.specs.declared.regime.Reg.TheVariants.{Ttbr0El2, VttbrEl2, Ttbr0El1, Ttbr1El1}
+use Rattle.bbm_regimes.specs.declared.regime.World.{World}
+use Rattle.bbm_regimes.specs.declared.regime.World.TheVariants.{Hyp, Kernel}
 use Rattle.bbm_roots.specs.Calls.{Call, Isb, WriteReg}
 use Rattle.bbm_roots.specs.declared.load.Load.{Load}
 

@@ -2,8 +2,8 @@
 use Rattle.std.specs.Prelude.{ℕ, Bool, true, false, not, ◌&&◌, ◌==◌, List, [], ◌∷◌, Option, Some, None, find}
 use Rattle.std.specs.Prelude.{if◌then◌else◌}
 use Rattle.std.specs.List.{list_any}
-pub use Rattle.bbm_events.specs.regimes.Same.{same_kind}
-use Rattle.bbm_events.specs.regimes.declared.regime.Kind.{Kind}
+pub use Rattle.bbm_regimes.specs.Same.{same_kind}
+use Rattle.bbm_regimes.specs.declared.regime.Kind.{Kind}
 use Rattle.bbm_roots.specs.Calls.{Call, Declare, Retire}
 use Rattle.bbm_roots.specs.declared.root.Declared.{Declared}
 

@@ -2,12 +2,12 @@
 -- Source: project's own choice, where no other is named.
 use Rattle.std.specs.Prelude.{ℕ, Bool, true, false, ◌&&◌, ◌||◌, not, nat_eq, ◌==◌, List, [], ◌∷◌, Option, Some, None}
 use Rattle.std.specs.Prelude.{if◌then◌else◌}
-use Rattle.bbm_events.specs.barriers.Options.{answers}
-use Rattle.bbm_events.specs.regimes.declared.regime.Tag.{Tag}
-use Rattle.bbm_events.specs.regimes.declared.regime.World.{World}
-use Rattle.bbm_events.specs.regimes.declared.regime.World.TheVariants.{Hyp, Kernel}
-use Rattle.bbm_events.specs.tlbi_scope.Tags.{takes_whole_tag}
-use Rattle.bbm_events.specs.tlbi_scope.declared.scope.Scope.{Scope}
+use Rattle.bbm_barriers.specs.Options.{answers}
+use Rattle.bbm_regimes.specs.declared.regime.Tag.{Tag}
+use Rattle.bbm_regimes.specs.declared.regime.World.{World}
+use Rattle.bbm_regimes.specs.declared.regime.World.TheVariants.{Hyp, Kernel}
+use Rattle.bbm_tlbi_scope.specs.Tags.{takes_whole_tag}
+use Rattle.bbm_tlbi_scope.specs.declared.scope.Scope.{Scope}
 use Rattle.bbm_roots.specs.Calls.{Call, Issue, Complete}
 use Rattle.bbm_roots.specs.Holds.{some_pe}
 use Rattle.bbm_roots.specs.Pendings.{same_flag}

@@ -8,7 +8,7 @@ ghost use Rattle.bbm_roots.specs.Stands.{Stands};
 use crate::fault::RootFault;
 use crate::roots::Roots;
 use bbm_events::Header;
-use bbm_events::regimes::{Kind, Page, Pe, Reg};
+use bbm_regimes::{Kind, Page, Pe, Reg};
 use std::alloc::Global;
 
 /// The roots of a log of the Hyp world after its first two calls: a root of the EL2 regime with this first page is

@@ -1,7 +1,7 @@
 //! Why a call is refused.
 //! Source: project's own choice, where no other is named.
 
-use bbm_events::regimes::{NoMemory, Page, Pe, Tag, Which};
+use bbm_regimes::{NoMemory, Page, Pe, Tag, Which};
 use thiserror::Error;
 
 /// What keeps a root from being retired.

@@ -3,16 +3,16 @@
 
 ghost use Rattle.std.specs.Prelude.{◌≡◌, ℕ, ◌≤◌, Bool, ◌&&◌, ◌||◌, not, nat_eq, true, false, Option, Some, None, is_some, OnOk, if◌then◌else◌};
 ghost use Rattle.indexmap.specs.IndexMap.{get, values};
-ghost use Rattle.bbm_events.specs.regimes.PeMask.{pe_in};
-ghost use Rattle.bbm_events.specs.regimes.declared.regime.Tag.{Tag as TheTag};
+ghost use Rattle.bbm_regimes.specs.PeMask.{pe_in};
+ghost use Rattle.bbm_regimes.specs.declared.regime.Tag.{Tag as TheTag};
 ghost use Rattle.bbm_roots.specs.Holds as spec;
 ghost use Rattle.bbm_roots.specs.Pendings.{answered_bit, answered_in};
 ghost use Rattle.bbm_roots.specs.Readings.{same_tag as spec_same_tag, has_reading as spec_has_reading, has_tag as spec_has_tag};
 
 use crate::pending::{Pending, is_answered};
 use crate::reading::Reading;
-use bbm_events::barriers::Dsb;
-use bbm_events::regimes::{NoMemory, Page, Pe, PeMask, Tag, same_tag};
+use bbm_barriers::Dsb;
+use bbm_regimes::{NoMemory, Page, Pe, PeMask, Tag, same_tag};
 use indexmap::IndexMap;
 
 /// The tags that are held, each with its root and the PEs, by the key of the tag.

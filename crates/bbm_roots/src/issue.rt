@@ -1,10 +1,10 @@
 //! What the issue of a whole-tag TLBI leaves to its answer.
 
 ghost use Rattle.std.specs.Prelude.{◌≡◌, ℕ, Bool, ◌&&◌, ◌||◌, not, nat_eq, nat_lt, true, false, Option, OnOk, IfSome};
-ghost use Rattle.bbm_events.specs.regimes.PeMask.{pe_in};
-ghost use Rattle.bbm_events.specs.regimes.declared.regime.Tag.{Tag as TheTag};
-ghost use Rattle.bbm_events.specs.tlbi_scope.Operations.{has_page};
-ghost use Rattle.bbm_events.specs.tlbi_scope.Tags.{takes_whole_tag};
+ghost use Rattle.bbm_regimes.specs.PeMask.{pe_in};
+ghost use Rattle.bbm_regimes.specs.declared.regime.Tag.{Tag as TheTag};
+ghost use Rattle.bbm_tlbi_scope.specs.Operations.{has_page};
+ghost use Rattle.bbm_tlbi_scope.specs.Tags.{takes_whole_tag};
 ghost use Rattle.bbm_roots.specs.Columns.{loads_in};
 ghost use Rattle.bbm_roots.specs.Holds.{hold_in};
 ghost use Rattle.bbm_roots.specs.Pendings as spec;
@@ -13,8 +13,8 @@ ghost use Rattle.bbm_roots.specs.Readings.{same_tag as spec_same_tag, reads_tag 
 use crate::hold::{Holds, entries, tag_key};
 use crate::pending::{Pending, has_pending};
 use crate::registers::Registers;
-use bbm_events::regimes::{NoMemory, Pe, PeMask, Tag};
-use bbm_events::tlbi_scope::{Family, Scope, whole_tag};
+use bbm_regimes::{NoMemory, Pe, PeMask, Tag};
+use bbm_tlbi_scope::{Family, Scope, whole_tag};
 
 /// Whether a TLBI of this scope, under this VMID, takes the whole tag.
 fn takes(scope: &Scope, vmid: Option<u16>, tag: Tag) -> bool

@@ -29,8 +29,6 @@ mod roots;
 mod search;
 mod vmid;
 
-pub use bbm_events as events;
-pub use bbm_events::{barriers, tlbi_scope};
 pub use example::first_root;
 pub use fault::{InUse, RootFault, Unsynced};
 pub use load::is_of_world;

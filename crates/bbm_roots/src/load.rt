@@ -4,7 +4,7 @@
 ghost use Rattle.std.specs.Prelude.{◌≡◌};
 ghost use Rattle.bbm_roots.specs.Registers as spec;
 
-use bbm_events::regimes::{Page, Reg, World};
+use bbm_regimes::{Page, Reg, World};
 
 /// What the value of a root register names. Source: Arm ARM (DDI 0487), "AArch64 System register
 /// descriptions", TTBR0_EL2, VTTBR_EL2, TTBR0_EL1 and TTBR1_EL1.

@@ -2,15 +2,15 @@
 
 ghost use Rattle.std.specs.Prelude.{◌≡◌, ℕ, Bool, ◌&&◌, ◌||◌, not, nat_eq, IsTrue, IsSome, OnOk};
 ghost use Rattle.std.specs.List.{list_any};
-ghost use Rattle.bbm_events.specs.barriers.Options.{answers as dsb_answers};
-ghost use Rattle.bbm_events.specs.regimes.PeMask.{pe_in};
-ghost use Rattle.bbm_events.specs.regimes.declared.regime.Tag.{Tag as TheTag};
+ghost use Rattle.bbm_barriers.specs.Options.{answers as dsb_answers};
+ghost use Rattle.bbm_regimes.specs.PeMask.{pe_in};
+ghost use Rattle.bbm_regimes.specs.declared.regime.Tag.{Tag as TheTag};
 ghost use Rattle.bbm_roots.specs.Pendings as spec;
 ghost use Rattle.bbm_roots.specs.Readings.{has_tag as spec_has_tag};
 
 use crate::reading::{Reading, has_tag};
-use bbm_events::barriers::{Dsb, completes_broadcast, completes_local};
-use bbm_events::regimes::{Pe, PeMask, Tag, same_tag};
+use bbm_barriers::{Dsb, completes_broadcast, completes_local};
+use bbm_regimes::{Pe, PeMask, Tag, same_tag};
 
 /// The whole-tag TLBIs of an issuer for one tag, broadcast or not, that no DSB has answered yet. Source: project's
 /// own choice.

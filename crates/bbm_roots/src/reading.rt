@@ -5,7 +5,7 @@ ghost use Rattle.std.specs.Prelude.{◌≡◌, ℕ, ◌++◌, flat_map, OnOk, If
 ghost use Rattle.bbm_roots.specs.Readings as spec;
 
 use crate::load::Load;
-use bbm_events::regimes::{AsidFrom, Kind, NoMemory, Page, Tag, World, same_tag};
+use bbm_regimes::{AsidFrom, Kind, NoMemory, Page, Tag, World, same_tag};
 use smallvec::SmallVec;
 use std::alloc::Global;
 

@@ -3,7 +3,7 @@
 #![tactic(auto)]
 
 ghost use Rattle.std.specs.Prelude.{◌≡◌, ℕ, ◌<◌, ◌≤◌, ◌+◌, ◌∷◌, ◌++◌, [], nat_eq, nat_le, length, vec_len, ◌&&◌, ◌||◌, IfOk, OnOk, if◌then◌else◌};
-ghost use Rattle.bbm_events.specs.regimes.PeMask.{pe_in};
+ghost use Rattle.bbm_regimes.specs.PeMask.{pe_in};
 ghost use Rattle.bbm_roots.specs.Columns.{Column, loads_in};
 ghost use Rattle.bbm_roots.specs.Registers.{at_start, newest};
 
@@ -11,7 +11,7 @@ use crate::load::{self, Load, is_first};
 use crate::reading::{Readings, readings, reads_tag};
 use arrayvec::ArrayVec;
 use bbm_events::Header;
-use bbm_events::regimes::{NoMemory, Page, Pe, PeMask, Reg, Tag, World};
+use bbm_regimes::{NoMemory, Page, Pe, PeMask, Reg, Tag, World};
 use std::alloc::Global;
 
 /// The values of one register that may still be in use, the newest first: one that every PE starts with or

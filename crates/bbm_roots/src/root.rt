@@ -3,7 +3,7 @@
 ghost use Rattle.std.specs.Prelude.{◌≡◌};
 ghost use Rattle.bbm_roots.specs.Roots.{same_kind as spec_same_kind};
 
-use bbm_events::regimes::{Kind, Page};
+use bbm_regimes::{Kind, Page};
 
 /// A declared root: its first page, its kind, and the lock that its writers hold or none. Source: project's own
 /// choice.

@@ -9,12 +9,12 @@ use crate::reading::{Reading, Readings};
 use crate::registers::Registers;
 use crate::root::{Declared, same_kind};
 use crate::{hold, issue, pending, registers, search, vmid};
+use bbm_barriers::Dsb;
 use bbm_events::Header;
-use bbm_events::barriers::Dsb;
-use bbm_events::regimes::{
+use bbm_regimes::{
     Kind, NoMemory, Page, Pe, PeMask, Reg, Which, World, base_of, kind_of, tag_number,
 };
-use bbm_events::tlbi_scope::{Scope, TagSet};
+use bbm_tlbi_scope::{Scope, TagSet};
 use indexmap::IndexMap;
 use std::alloc::Global;
 
@@ -35,21 +35,21 @@ pub struct Roots {
 
 impl Roots {
     ghost use Rattle.std.specs.Prelude.{◌≡◌, ◌≢◌, ◌||◌, ◌&&◌, not, true, false, Bool, if◌then◌else◌, Some, IfSome, nat_eq, ℕ, ◌<◌, ◌≤◌, ◌↔◌, List, [], ◌∷◌, Err, None, length, IsOk, IfOk, OnOk, OnErr, IfErr, is_some};
-    ghost use Rattle.bbm_events.specs.regimes.PeMask.{pe_in};
+    ghost use Rattle.bbm_regimes.specs.PeMask.{pe_in};
     ghost use Rattle.bbm_roots.specs.Calls as call;
     ghost use Rattle.bbm_roots.specs.Calls.{Call};
     ghost use Rattle.bbm_roots.specs.Roots as spec;
     ghost use Rattle.bbm_roots.specs.Columns.{loads_in};
     ghost use Rattle.bbm_roots.specs.Listed.{count_in, nth_in};
     ghost use Rattle.bbm_roots.specs.declared.root.Declared.{Declared as TheRoot};
-    ghost use Rattle.bbm_events.specs.tlbi_scope.TagSets.{HasTags};
+    ghost use Rattle.bbm_tlbi_scope.specs.TagSets.{HasTags};
     ghost use Rattle.bbm_roots.specs.Holds.{hold_in, has_entry, conflict_in, IsCalm};
     ghost use Rattle.bbm_roots.specs.Pendings.{pending_in, answered_in};
-    ghost use Rattle.bbm_events.specs.barriers.Options.{answers as dsb_answers};
+    ghost use Rattle.bbm_barriers.specs.Options.{answers as dsb_answers};
     ghost use Rattle.bbm_roots.specs.Readings.{has_reading, has_tag, readings_of};
     ghost use Rattle.bbm_roots.specs.Refusals.{missing_root, conflicts, JudgesWrite, JudgesRetire, JudgesVmid};
     ghost use Rattle.bbm_roots.specs.Registers.{is_first as spec_is_first, is_of_world, register_values, root_of, second_reg, uses};
-    ghost use Rattle.bbm_events.specs.regimes.declared.regime.Tag.{Tag as TheTag};
+    ghost use Rattle.bbm_regimes.specs.declared.regime.Tag.{Tag as TheTag};
     ghost use Rattle.bbm_roots.specs.Tags.{holds_tag, vmid_of};
     ghost use Rattle.bbm_roots.specs.Stands.{IsReady, Stands, IsPrepared, pes_of, world_of};
 

@@ -1,8 +1,8 @@
 //! Searches among the entries of the roots that hold tags.
 
 ghost use Rattle.std.specs.Prelude.{◌≡◌, ℕ, ◌≤◌, Bool, ◌&&◌, ◌||◌, nat_eq, true, false, Option, Some, None};
-ghost use Rattle.bbm_events.specs.regimes.declared.regime.Tag.{Tag as TheTag};
-ghost use Rattle.bbm_events.specs.tlbi_scope.TagSets.{HasTags};
+ghost use Rattle.bbm_regimes.specs.declared.regime.Tag.{Tag as TheTag};
+ghost use Rattle.bbm_tlbi_scope.specs.TagSets.{HasTags};
 ghost use Rattle.bbm_roots.specs.declared.reading.Reading.{Reading as TheReading};
 ghost use Rattle.bbm_roots.specs.Holds as spec;
 ghost use Rattle.bbm_roots.specs.Readings.{is_other, is_reading, has_other as spec_has_other, same_tag as spec_same_tag};
@@ -11,8 +11,8 @@ ghost use Rattle.bbm_roots.specs.Least.{IsLeast, ReadingUpTo, TagUpTo};
 
 use crate::hold::{Held, Holds, some_pe, tag_key};
 use crate::reading::{Reading, has_other, tag_rank};
-use bbm_events::regimes::{Page, Tag, same_tag};
-use bbm_events::tlbi_scope::{TagSet, with_tag};
+use bbm_regimes::{Page, Tag, same_tag};
+use bbm_tlbi_scope::{TagSet, with_tag};
 
 /// Whether the first comes no later than the second: by the root's first page, then by the tag.
 fn is_up_to(tag: Tag, root: Page, other: Tag, page: Page) -> bool

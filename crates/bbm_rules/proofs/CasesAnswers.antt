@@ -2,7 +2,7 @@
 use Rattle.std.proofs.Common.{◌≡◌, ℕ, Bool, true, false, List, [], ◌∷◌, Option, Some, None, Err, refl, ap, sym}
 use Rattle.std.proofs.lemmas.Option.{none-some}
 use Prim.Native.String.{String}
-use Rattle.bbm_descriptor.specs.regimes.declared.regime.Which.{Which}
+use Rattle.bbm_regimes.specs.declared.regime.Which.{Which}
 use Rattle.bbm_events.specs.declared.event.Event.TheVariants.{Write}
 use Rattle.bbm_rules.specs.declared.rule.Rule.{Rule}
 use Rattle.bbm_rules.specs.declared.step_fault.StepFault.TheVariants.{Broken, Limit}

@@ -2,12 +2,12 @@
 -- events that break a rule.
 use Rattle.std.specs.Prelude.{◌≡◌, ℕ, List, [], ◌∷◌, Bool, true, false, Option, Some, None, refl}
 use Prim.Native.String.{String}
-use Rattle.bbm_descriptor.specs.regimes.declared.regime.Kind.TheVariants.{Ttbr0}
-use Rattle.bbm_descriptor.specs.regimes.declared.regime.Tag.TheVariants.{Vmid}
-use Rattle.bbm_events.specs.tlbi_scope.declared.op.TlbiOp.{TlbiOp}
-use Rattle.bbm_events.specs.tlbi_scope.declared.op.TlbiOp.TheVariants.{Vmalls12e1is, Alle1is}
-use Rattle.bbm_events.specs.tlbi_scope.declared.entry.Cover.{Cover}
-use Rattle.bbm_events.specs.tlbi_scope.declared.entry.Cover.TheVariants.{None as NoCover, Full}
+use Rattle.bbm_regimes.specs.declared.regime.Kind.TheVariants.{Ttbr0}
+use Rattle.bbm_regimes.specs.declared.regime.Tag.TheVariants.{Vmid}
+use Rattle.bbm_tlbi_scope.specs.declared.op.TlbiOp.{TlbiOp}
+use Rattle.bbm_tlbi_scope.specs.declared.op.TlbiOp.TheVariants.{Vmalls12e1is, Alle1is}
+use Rattle.bbm_tlbi_scope.specs.declared.entry.Cover.{Cover}
+use Rattle.bbm_tlbi_scope.specs.declared.entry.Cover.TheVariants.{None as NoCover, Full}
 use Rattle.bbm_events.specs.declared.event.Event.{Event}
 use Rattle.bbm_events.specs.declared.event.Event.TheVariants.{Root, Tlbi, Unlock}
 use Rattle.bbm_rules.specs.Claims.{Patterns}

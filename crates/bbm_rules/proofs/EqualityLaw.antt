@@ -1,12 +1,12 @@
 -- The tests for equality of tags, registers, kinds and claims decide equality.
 use Rattle.std.proofs.Common.{◌≡◌, ◌↔◌, ℕ, true, ◌&&◌, ◌==◌, refl, sym, ◌∙◌, ap, true≢false}
 use Rattle.std.proofs.lemmas.Bool.{and_parts, eqb-true, eq-eqb}
-use Rattle.bbm_descriptor.specs.regimes.declared.regime.Kind.{Kind}
-use Rattle.bbm_descriptor.specs.regimes.declared.regime.Kind.TheVariants.{El2 as El2Kind, S2, Ttbr0, Ttbr1 as Ttbr1Kind}
-use Rattle.bbm_descriptor.specs.regimes.declared.regime.Reg.{Reg}
-use Rattle.bbm_descriptor.specs.regimes.declared.regime.Reg.TheVariants.{Ttbr0El2, VttbrEl2, Ttbr0El1, Ttbr1El1}
-use Rattle.bbm_descriptor.specs.regimes.declared.regime.Tag.{Tag}
-use Rattle.bbm_descriptor.specs.regimes.declared.regime.Tag.TheVariants.{El2, Vmid, Asid, Ttbr1}
+use Rattle.bbm_regimes.specs.declared.regime.Kind.{Kind}
+use Rattle.bbm_regimes.specs.declared.regime.Kind.TheVariants.{El2 as El2Kind, S2, Ttbr0, Ttbr1 as Ttbr1Kind}
+use Rattle.bbm_regimes.specs.declared.regime.Reg.{Reg}
+use Rattle.bbm_regimes.specs.declared.regime.Reg.TheVariants.{Ttbr0El2, VttbrEl2, Ttbr0El1, Ttbr1El1}
+use Rattle.bbm_regimes.specs.declared.regime.Tag.{Tag}
+use Rattle.bbm_regimes.specs.declared.regime.Tag.TheVariants.{El2, Vmid, Asid, Ttbr1}
 use Rattle.bbm_events.specs.declared.claim.Claim.{Claim}
 use Rattle.bbm_events.specs.declared.claim.Claim.TheVariants.{Place, Two, Taken}
 use Rattle.bbm_rules.specs.Claims.{same_claim, same_tag}

@@ -1,7 +1,7 @@
 -- The last valid write of a place, and what it leaves held.
 use Rattle.std.proofs.Common.{◌≡◌, ℕ, ◌%◌, ◌&&◌, Bool, true, false, cond, ◌⊎◌, ◌==◌, List, [], ◌∷◌, Option, Some, None, option_and_then, if◌then◌else◌, refl, sym, ◌∙◌, ap, subst, inl, inr, arith, true≢false}
 use Rattle.std.proofs.lemmas.Bool.{and_parts, eq-eqb, eqb-true, or_cases}
-use Rattle.bbm_descriptor.specs.regimes.declared.regime.Kind.{Kind}
+use Rattle.bbm_regimes.specs.declared.regime.Kind.{Kind}
 use Rattle.bbm_descriptor.specs.Descriptor.{Form, form_01, form_11, is_valid, valid_form}
 use Rattle.bbm_descriptor.specs.Fields.{type_bits}
 use Rattle.bbm_events.specs.Heading.{Heading}

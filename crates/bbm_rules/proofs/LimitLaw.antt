@@ -1,8 +1,8 @@
 -- An event reaches a limit exactly where the number that the limit counts is there.
 use Rattle.std.proofs.Common.{◌≡◌, ◌↔◌, ℕ, ◌≤◌, Bool, true, false, not, ◌&&◌, nat_le, List, length, Option, Some, refl, ap}
 use Rattle.std.proofs.lemmas.Bool.{and_from, and_parts, le-leb, leb-true, not-true, not_from_false}
-use Rattle.bbm_descriptor.specs.regimes.declared.regime.Which.{Which}
-use Rattle.bbm_descriptor.specs.regimes.declared.regime.Which.TheVariants.{Pages, Roots, Values}
+use Rattle.bbm_regimes.specs.declared.regime.Which.{Which}
+use Rattle.bbm_regimes.specs.declared.regime.Which.TheVariants.{Pages, Roots, Values}
 use Rattle.bbm_rules.specs.Limits.{limit_of}
 use Rattle.bbm_rules.specs.Lists.{among, if_so}
 use Rattle.bbm_rules.specs.Pages.{initialised}

@@ -2,9 +2,9 @@
 -- patterns cleanse.
 use Rattle.std.proofs.Common.{◌≡◌, ℕ, Bool, true, ◌&&◌, List, [], ◌∷◌, ◌++◌, refl, sym, subst, inl, inr, true≢false}
 use Rattle.std.proofs.lemmas.Bool.{or_cases, or_left, or_right, and_parts, and_from}
-use Rattle.bbm_events.specs.barriers.declared.Dsb.{Dsb as Barrier}
-use Rattle.bbm_events.specs.tlbi_scope.declared.entry.Cover.{Cover}
-use Rattle.bbm_events.specs.tlbi_scope.declared.entry.Cover.TheVariants.{Half, Second, Full}
+use Rattle.bbm_barriers.specs.declared.Dsb.{Dsb as Barrier}
+use Rattle.bbm_tlbi_scope.specs.declared.entry.Cover.{Cover}
+use Rattle.bbm_tlbi_scope.specs.declared.entry.Cover.TheVariants.{Half, Second, Full}
 use Rattle.bbm_events.specs.Heading.{Heading}
 use Rattle.bbm_events.specs.declared.event.Event.{Event}
 use Rattle.bbm_events.specs.declared.event.Event.TheVariants.{Dsb}

@@ -1,8 +1,8 @@
 -- Where `slow` reaches no limit of events, `check` says the same of every input; and `check` reaches none.
 use Rattle.std.proofs.Common.{◌≡◌, ◌≢◌, ◌⊎◌, ℕ, suc, Bool, true, false, not, ◌&&◌, ◌==◌, nat_le, List, [], ◌∷◌, length}
 use Rattle.std.proofs.Common.{Option, Some, None, if◌then◌else◌, Result, Ok, Err, refl, ap, ◌∙◌, inl, inr}
-use Rattle.bbm_descriptor.specs.regimes.declared.regime.Which.{Which}
-use Rattle.bbm_descriptor.specs.regimes.declared.regime.Which.TheVariants.{Events, Lines, Pages, Roots, Values}
+use Rattle.bbm_regimes.specs.declared.regime.Which.{Which}
+use Rattle.bbm_regimes.specs.declared.regime.Which.TheVariants.{Events, Lines, Pages, Roots, Values}
 use Rattle.bbm_events.specs.declared.event.Event.{Event}
 use Rattle.bbm_events.specs.declared.event.Item.{Item}
 use Rattle.bbm_events.specs.declared.event.Item.TheVariants as item

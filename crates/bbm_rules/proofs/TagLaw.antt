@@ -2,14 +2,14 @@
 -- each of them once.
 use Rattle.std.proofs.Common.{◌≡◌, ℕ, suc, ◌+◌, ◌<◌, ◌≤◌, Bool, true, false, not, ◌&&◌, ◌==◌, nat_le, List, [], ◌∷◌, ◌++◌, length, refl, sym, ◌∙◌, ap, subst, inl, inr, arith, true≢false, length-append}
 use Rattle.std.proofs.lemmas.Bool.{or_cases, or_left, or_right, and_parts, and_from, leb-true, leb-false, le-leb, not-true, not_from_false}
-use Rattle.bbm_events.specs.barriers.declared.Dsb.{Dsb as Barrier}
-use Rattle.bbm_descriptor.specs.regimes.declared.regime.AsidFrom.{AsidFrom}
-use Rattle.bbm_descriptor.specs.regimes.declared.regime.AsidFrom.TheVariants.{Ttbr0 as FromTtbr0, Ttbr1 as FromTtbr1}
-use Rattle.bbm_descriptor.specs.regimes.declared.regime.Reg.TheVariants.{Ttbr1El1}
-use Rattle.bbm_descriptor.specs.regimes.declared.regime.Tag.{Tag}
-use Rattle.bbm_descriptor.specs.regimes.declared.regime.Tag.TheVariants.{Ttbr1 as Ttbr1Tag}
-use Rattle.bbm_descriptor.specs.regimes.declared.regime.World.{World}
-use Rattle.bbm_descriptor.specs.regimes.declared.regime.World.TheVariants.{Hyp, Kernel}
+use Rattle.bbm_barriers.specs.declared.Dsb.{Dsb as Barrier}
+use Rattle.bbm_regimes.specs.declared.regime.AsidFrom.{AsidFrom}
+use Rattle.bbm_regimes.specs.declared.regime.AsidFrom.TheVariants.{Ttbr0 as FromTtbr0, Ttbr1 as FromTtbr1}
+use Rattle.bbm_regimes.specs.declared.regime.Reg.TheVariants.{Ttbr1El1}
+use Rattle.bbm_regimes.specs.declared.regime.Tag.{Tag}
+use Rattle.bbm_regimes.specs.declared.regime.Tag.TheVariants.{Ttbr1 as Ttbr1Tag}
+use Rattle.bbm_regimes.specs.declared.regime.World.{World}
+use Rattle.bbm_regimes.specs.declared.regime.World.TheVariants.{Hyp, Kernel}
 use Rattle.bbm_events.specs.Heading.{Heading}
 use Rattle.bbm_events.specs.declared.event.Event.{Event}
 use Rattle.bbm_events.specs.declared.event.Event.TheVariants.{Dsb}

@@ -1,7 +1,7 @@
 -- The list of the tags that a root holds has each of them once, so the tag set says whether there is none, one or more.
 use Rattle.std.proofs.Common.{◌≡◌, ℕ, Bool, true, false, cond, not, ◌&&◌, ◌==◌, List, [], ◌∷◌, filter, filter_map, flat_map, Some, refl, sym, ◌∙◌, ap, subst, inl, inr, true≢false}
 use Rattle.std.proofs.lemmas.Bool.{and_parts, false_from_ne_true, or_cases}
-use Rattle.bbm_events.specs.tlbi_scope.declared.entry.TagSet.TheVariants.{None as NoTag, One, Many}
+use Rattle.bbm_tlbi_scope.specs.declared.entry.TagSet.TheVariants.{None as NoTag, One, Many}
 use Rattle.bbm_rules.specs.Prelude.{Tag, Heading, Event}
 use Rattle.bbm_rules.proofs.EqualityLaw.{tag_equal, tag_self}
 use Rattle.bbm_lists.specs.Elements.{In}

@@ -2,7 +2,7 @@
 use Rattle.std.specs.Option.{option_map_or}
 use Rattle.std.proofs.Common.{◌≡◌, ℕ, zero, suc, ◌<◌, ◌≤◌, not, Bool, true, false, cond, ◌==◌, List, [], ◌∷◌, ◌++◌, length, Option, Some, None, is_some, Contains, flat_map, filter_map, refl, sym, ◌∙◌, ap, subst, inl, inr, true≢false, arith}
 use Rattle.std.proofs.lemmas.Bool.{and_from, and_parts, eq-eqb, eqb-true, or_cases, or_left, or_right, not-true, not_from_false}
-use Rattle.bbm_descriptor.specs.regimes.declared.regime.Kind.{Kind}
+use Rattle.bbm_regimes.specs.declared.regime.Kind.{Kind}
 use Rattle.bbm_descriptor.specs.Descriptor.{Form, desc_as, is_valid}
 use Rattle.bbm_descriptor.specs.Fields.{type_bits}
 use Rattle.bbm_events.specs.Heading.{Heading}

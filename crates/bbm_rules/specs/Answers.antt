@@ -2,7 +2,7 @@
 -- Source: project's own choice, where no other is named.
 use Rattle.std.specs.Prelude.{◌≡◌, ℕ, ◌<◌, ◌-◌, ◌^◌, Bool, true, false, ◌&&◌, ◌||◌, ◌==◌, List, [], ◌∷◌, length}
 use Rattle.std.specs.Prelude.{Option, Some, None, is_none, Result, Ok, Err, if◌then◌else◌}
-use Rattle.bbm_descriptor.specs.regimes.declared.regime.Which.{Which}
+use Rattle.bbm_regimes.specs.declared.regime.Which.{Which}
 use Rattle.bbm_events.specs.Fits.{fits_heading}
 use Rattle.bbm_rules.specs.Prelude.{Heading, Event, Init, Write, Dsb, Dmb, Isb, Lock, Unlock}
 use Rattle.bbm_rules.specs.declared.step_fault.StepFault.{StepFault}

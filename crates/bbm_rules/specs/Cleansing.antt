@@ -4,9 +4,9 @@
 -- Source: Arm ARM (DDI 0487), "Using break-before-make when updating translation table entries", and "TLB
 -- maintenance instructions".
 use Rattle.std.specs.Prelude.{ℕ, Bool, true, false, ◌&&◌, ◌||◌, ◌==◌, List}
-use Rattle.bbm_events.specs.tlbi_scope.declared.entry.Cover.{Cover}
-use Rattle.bbm_events.specs.tlbi_scope.declared.entry.Cover.TheVariants.{Half, Second, Full}
-pub use Rattle.bbm_events.specs.tlbi_scope.Same.{same_cover}
+use Rattle.bbm_tlbi_scope.specs.declared.entry.Cover.{Cover}
+use Rattle.bbm_tlbi_scope.specs.declared.entry.Cover.TheVariants.{Half, Second, Full}
+pub use Rattle.bbm_tlbi_scope.specs.Same.{same_cover}
 use Rattle.bbm_rules.specs.Prelude.{Barrier, Heading, Event, Write, Dsb}
 use Rattle.bbm_events.specs.declared.claim.Claim.TheVariants.{Place, Two}
 use Rattle.bbm_rules.specs.Claims.{Trust, allows}

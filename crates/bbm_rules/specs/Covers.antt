@@ -3,10 +3,10 @@ use Rattle.std.specs.Prelude.{ℕ, suc, Bool, false, List, [], ◌∷◌, length
 use Rattle.bbm_descriptor.specs.Descriptor.{desc_of}
 use Rattle.bbm_descriptor.specs.declared.desc.Desc.{Desc}
 use Rattle.bbm_descriptor.specs.declared.desc.Desc.TheVariants.{Leaf}
-use Rattle.bbm_events.specs.tlbi_scope.declared.entry.Cover.{Cover}
-use Rattle.bbm_events.specs.tlbi_scope.declared.entry.Cover.TheVariants.{None as NoCover}
-use Rattle.bbm_events.specs.tlbi_scope.declared.entry.PlaceView.{PlaceView}
-use Rattle.bbm_events.specs.tlbi_scope.Covers.{cover_of}
+use Rattle.bbm_tlbi_scope.specs.declared.entry.Cover.{Cover}
+use Rattle.bbm_tlbi_scope.specs.declared.entry.Cover.TheVariants.{None as NoCover}
+use Rattle.bbm_tlbi_scope.specs.declared.entry.PlaceView.{PlaceView}
+use Rattle.bbm_tlbi_scope.specs.Covers.{cover_of}
 use Rattle.bbm_rules.specs.Prelude.{Heading, Event, Tlbi}
 use Rattle.bbm_rules.specs.Claims.{Trust}
 use Rattle.bbm_rules.specs.Lists.{◌>>=◌}

@@ -28,9 +28,3 @@ pub mod Texts
 pub mod Tree
 pub mod TreeSentences
 pub mod Values
-pub use Rattle.bbm_events.specs.barriers
-pub use Rattle.bbm_descriptor.specs as descriptor
-pub use Rattle.bbm_events.specs as events
-pub use Rattle.bbm_events.specs.range
-pub use Rattle.bbm_descriptor.specs.regimes
-pub use Rattle.bbm_events.specs.tlbi_scope

@@ -1,8 +1,8 @@
 -- The limits that a history reaches. The limits on bytes, events, steps and lines are those of the reader.
 -- Source: project's own choice.
 use Rattle.std.specs.Prelude.{◌&&◌, not, nat_le, List, length, Option, None}
-use Rattle.bbm_descriptor.specs.regimes.declared.regime.Which.{Which}
-use Rattle.bbm_descriptor.specs.regimes.declared.regime.Which.TheVariants.{Pages, Roots, Values}
+use Rattle.bbm_regimes.specs.declared.regime.Which.{Which}
+use Rattle.bbm_regimes.specs.declared.regime.Which.TheVariants.{Pages, Roots, Values}
 use Rattle.bbm_rules.specs.Prelude.{Event, Init, Root, Msr}
 use Rattle.bbm_rules.specs.Pages.{initialised}
 use Rattle.bbm_rules.specs.Lists.{among, if_so}

@@ -2,7 +2,7 @@
 -- depends on the TLBIs that covered it before. So each event stands in a list, the newest first, with what the
 -- definitions say of it from the older part of the list alone. Source: project's own choice.
 use Rattle.std.specs.Prelude.{ℕ, List, [], ◌∷◌}
-use Rattle.bbm_events.specs.tlbi_scope.declared.entry.Cover.{Cover}
+use Rattle.bbm_tlbi_scope.specs.declared.entry.Cover.{Cover}
 use Rattle.bbm_rules.specs.Prelude.{Event}
 
 pub record Noted : Type 0 where

@@ -3,8 +3,8 @@
 use Rattle.std.specs.Option.{option_map_or}
 use Rattle.std.specs.Prelude.{◌≡◌, ℕ, suc, Bool, false, ◌==◌, nat_lt, nat_le, List, [], ◌∷◌, ◌++◌, length, drop}
 use Rattle.std.specs.Prelude.{Option, Some, None, Result, Ok, Err, if◌then◌else◌}
-use Rattle.bbm_descriptor.specs.regimes.declared.regime.Which.{Which}
-use Rattle.bbm_descriptor.specs.regimes.declared.regime.Which.TheVariants.{LineBytes, Events, Lines}
+use Rattle.bbm_regimes.specs.declared.regime.Which.{Which}
+use Rattle.bbm_regimes.specs.declared.regime.Which.TheVariants.{LineBytes, Events, Lines}
 use Rattle.bbm_events.specs.declared.event.Event.{Event}
 use Rattle.bbm_events.specs.declared.event.Item.{Item}
 use Rattle.bbm_events.specs.declared.event.Item.TheVariants as item

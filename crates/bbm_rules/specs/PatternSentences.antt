@@ -5,8 +5,8 @@
 -- maintenance instructions".
 use Rattle.std.specs.Prelude.{◌≡◌, ℕ, ◌<◌, ◌⊎◌, true, false, List, ◌∷◌, ◌++◌}
 use Rattle.bbm_descriptor.specs.Descriptor.{is_valid}
-use Rattle.bbm_events.specs.tlbi_scope.declared.entry.Cover.{Cover}
-use Rattle.bbm_events.specs.tlbi_scope.declared.entry.Cover.TheVariants.{Half, Second, Full}
+use Rattle.bbm_tlbi_scope.specs.declared.entry.Cover.{Cover}
+use Rattle.bbm_tlbi_scope.specs.declared.entry.Cover.TheVariants.{Half, Second, Full}
 use Rattle.bbm_rules.specs.Prelude.{Barrier, Kind, Heading, Init, Write, Dsb}
 use Rattle.bbm_events.specs.declared.claim.Claim.TheVariants.{Place, Two}
 use Rattle.bbm_rules.specs.Claims.{Trust, allows}

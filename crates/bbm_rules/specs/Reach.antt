@@ -1,7 +1,7 @@
 -- Which PEs a TLBI reaches, and which DSB answers it. A history is newest first.
 use Rattle.std.specs.Prelude.{ℕ, Bool, false, ◌&&◌, ◌||◌, not, ◌==◌, List, [], ◌∷◌, filter, if◌then◌else◌}
-use Rattle.bbm_events.specs.barriers.Options.{answers}
-use Rattle.bbm_events.specs.tlbi_scope.Operations.{operation}
+use Rattle.bbm_barriers.specs.Options.{answers}
+use Rattle.bbm_tlbi_scope.specs.Operations.{operation}
 use Rattle.bbm_rules.specs.Prelude.{Barrier, Heading, Event, Dsb, Tlbi}
 
 -- Reach: a broadcast TLBI reaches every PE. Any other reaches its issuer alone, or no PE where the header has `cnp`,

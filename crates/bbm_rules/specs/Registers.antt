@@ -3,9 +3,9 @@
 use Rattle.std.specs.Prelude.{ℕ, Bool, ◌&&◌, ◌==◌, List, [], ◌∷◌, Option, Some, None, is_none, map}
 use Rattle.std.specs.Prelude.{take, if◌then◌else◌}
 use Rattle.std.specs.Result.{result_ok}
-pub use Rattle.bbm_descriptor.specs.regimes.Registers.{base_of, tag_number}
-pub use Rattle.bbm_descriptor.specs.regimes.Same.{kind_of_reg, same_reg}
-use Rattle.bbm_events.specs.tlbi_scope.Operations.{scoped_by_vmid}
+pub use Rattle.bbm_regimes.specs.Registers.{base_of, tag_number}
+pub use Rattle.bbm_regimes.specs.Same.{kind_of_reg, same_reg}
+use Rattle.bbm_tlbi_scope.specs.Operations.{scoped_by_vmid}
 use Rattle.bbm_rules.specs.Prelude.{Reg, VttbrEl2, World, Hyp, Kernel, TlbiOp, Scope, scope_of, Heading, Event, Isb}
 use Rattle.bbm_rules.specs.Prelude.{Msr}
 use Rattle.bbm_rules.specs.Lists.{one_number}

@@ -7,7 +7,7 @@ use Rattle.std.specs.Prelude.{Option, None, is_none, filter, flat_map, map, opti
 use Rattle.bbm_descriptor.specs.Descriptor.{desc_of, is_valid, needs}
 use Rattle.bbm_descriptor.specs.declared.desc.Desc.{Desc}
 use Rattle.bbm_descriptor.specs.declared.desc.Desc.TheVariants.{Leaf}
-use Rattle.bbm_events.specs.tlbi_scope.Operations.{of_world}
+use Rattle.bbm_tlbi_scope.specs.Operations.{of_world}
 use Rattle.bbm_rules.specs.Prelude.{Kind, S2, Ttbr0, Ttbr0El2, VttbrEl2, Ttbr0El1, Ttbr1El1, scope_of, Heading, Event}
 use Rattle.bbm_rules.specs.Prelude.{Init, Null, Root, Unroot, Write, Tlbi, Msr, Lock, Unlock}
 use Rattle.bbm_rules.specs.Attach.{Attached, End, all_ends, attached_by, pages_of}

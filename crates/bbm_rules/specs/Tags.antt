@@ -2,9 +2,9 @@
 -- Source: project's own choice, but where another is named.
 use Rattle.std.specs.Prelude.{ℕ, suc, Bool, false, ◌&&◌, ◌||◌, not, nat_le, ◌==◌, List, [], ◌∷◌, ◌++◌, length, Option}
 use Rattle.std.specs.Prelude.{Some, None, filter, filter_map, flat_map, if◌then◌else◌}
-use Rattle.bbm_events.specs.tlbi_scope.declared.entry.TagSet.{TagSet}
-use Rattle.bbm_events.specs.tlbi_scope.declared.entry.TagSet.TheVariants.{None as NoTag, One, Many}
-use Rattle.bbm_events.specs.tlbi_scope.Tags.{takes_whole_tag}
+use Rattle.bbm_tlbi_scope.specs.declared.entry.TagSet.{TagSet}
+use Rattle.bbm_tlbi_scope.specs.declared.entry.TagSet.TheVariants.{None as NoTag, One, Many}
+use Rattle.bbm_tlbi_scope.specs.Tags.{takes_whole_tag}
 use Rattle.bbm_rules.specs.Prelude.{Barrier, AsidFrom, FromTtbr0, FromTtbr1, Reg, Ttbr0El2, VttbrEl2, Ttbr0El1}
 use Rattle.bbm_rules.specs.Prelude.{Ttbr1El1, Tag, El2Tag, Vmid, Asid, Ttbr1Tag, World, Hyp, Kernel, Heading, Event}
 use Rattle.bbm_rules.specs.Prelude.{Dsb, Tlbi}

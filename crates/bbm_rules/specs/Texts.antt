@@ -2,9 +2,9 @@
 -- Source: project's own choice.
 use Rattle.std.specs.Option.{option_map_or}
 use Rattle.std.specs.Prelude.{ℕ, List, [], ◌++◌, Option, codes, decimal}
-use Rattle.bbm_descriptor.specs.regimes.declared.regime.Which.{Which}
-use Rattle.bbm_descriptor.specs.regimes.declared.regime.Which.TheVariants.{LineBytes, Pages, Roots, Values, Events, Steps, Lines}
-use Rattle.bbm_descriptor.specs.regimes.declared.regime.Which.TheVariants.{Claims}
+use Rattle.bbm_regimes.specs.declared.regime.Which.{Which}
+use Rattle.bbm_regimes.specs.declared.regime.Which.TheVariants.{LineBytes, Pages, Roots, Values, Events, Steps, Lines}
+use Rattle.bbm_regimes.specs.declared.regime.Which.TheVariants.{Claims}
 use Rattle.bbm_events.specs.declared.malformed.Malformed.{Malformed as Cause}
 use Rattle.bbm_events.specs.declared.malformed.Malformed.TheVariants.{NoMagic, BadHeader, UnknownWord, BadNumber}
 use Rattle.bbm_events.specs.declared.malformed.Malformed.TheVariants.{BadPe, BadAddress, MissingField, ExtraField}

@@ -5,7 +5,7 @@
 use Rattle.std.specs.Option.{option_map_or}
 use Rattle.std.specs.Prelude.{ℕ, zero, suc, ◌+◌, ◌*◌, ◌-◌, Bool, false, not, ◌==◌, List, [], ◌∷◌, ◌++◌, Option, Some}
 use Rattle.std.specs.Prelude.{None, is_some, find, flat_map, filter_map, if◌then◌else◌}
-use Rattle.bbm_descriptor.specs.regimes.Extent.{Extent}
+use Rattle.bbm_regimes.specs.Extent.{Extent}
 use Rattle.bbm_descriptor.specs.Descriptor.{desc_of, is_valid}
 use Rattle.bbm_descriptor.specs.declared.desc.Desc.{Desc}
 use Rattle.bbm_descriptor.specs.declared.desc.Desc.TheVariants.{Table}

@@ -1,7 +1,7 @@
 -- The values of a place, and which of them a PE may still read. A history is newest first.
 -- Source: project's own choice, but where another is named.
 use Rattle.std.specs.Prelude.{ℕ, Bool, false, not, ◌&&◌, ◌==◌, List, [], ◌∷◌, filter, if◌then◌else◌}
-use Rattle.bbm_events.specs.barriers.Options.{is_non, publishes}
+use Rattle.bbm_barriers.specs.Options.{is_non, publishes}
 use Rattle.bbm_rules.specs.Prelude.{Barrier, Heading, Event, Init, Write, Dsb}
 use Rattle.bbm_rules.specs.Lists.{among, any, with_number}
 use Rattle.bbm_rules.specs.Places.{page_of}

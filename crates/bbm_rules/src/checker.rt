@@ -15,8 +15,8 @@ ghost use Rattle.bbm_rules.specs.Values.{value_of};
 use crate::phase::Phase;
 use crate::step_fault::StepFault;
 use bbm_descriptor::Memory;
-use bbm_descriptor::regimes::{Kind, NoMemory, Page, Pe, Place};
 use bbm_events::{Event, Header};
+use bbm_regimes::{Kind, NoMemory, Page, Pe, Place};
 use std::alloc::Global;
 
 /// A checker takes the events of a log one by one. It stands for a history of a header, the newest event

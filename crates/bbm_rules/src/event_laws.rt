@@ -3,14 +3,14 @@
 
 ghost use Rattle.std.specs.Prelude.{◌≡◌, ◌↔◌, ℕ, ◌≤◌, Bool, true, false, length, Option, None, List, ◌==◌, ◌∷◌, Some};
 ghost use Rattle.std.specs.Prelude.{Contains, ◌++◌};
-ghost use Rattle.bbm_descriptor.specs.regimes.declared.regime.Kind.{Kind};
-ghost use Rattle.bbm_descriptor.specs.regimes.declared.regime.Reg.{Reg};
-ghost use Rattle.bbm_descriptor.specs.regimes.declared.regime.Reg.TheVariants.{VttbrEl2};
-ghost use Rattle.bbm_descriptor.specs.regimes.declared.regime.Tag.{Tag};
-ghost use Rattle.bbm_descriptor.specs.regimes.declared.regime.Which.TheVariants.{Pages, Roots, Values};
-ghost use Rattle.bbm_descriptor.specs.regimes.declared.regime.HypWorld.{HypWorld};
-ghost use Rattle.bbm_descriptor.specs.regimes.declared.regime.World.TheVariants.{Hyp};
-ghost use Rattle.bbm_events.specs.tlbi_scope.declared.entry.TagSet.TheVariants.{None as NoTag, One, Many};
+ghost use Rattle.bbm_regimes.specs.declared.regime.Kind.{Kind};
+ghost use Rattle.bbm_regimes.specs.declared.regime.Reg.{Reg};
+ghost use Rattle.bbm_regimes.specs.declared.regime.Reg.TheVariants.{VttbrEl2};
+ghost use Rattle.bbm_regimes.specs.declared.regime.Tag.{Tag};
+ghost use Rattle.bbm_regimes.specs.declared.regime.Which.TheVariants.{Pages, Roots, Values};
+ghost use Rattle.bbm_regimes.specs.declared.regime.HypWorld.{HypWorld};
+ghost use Rattle.bbm_regimes.specs.declared.regime.World.TheVariants.{Hyp};
+ghost use Rattle.bbm_tlbi_scope.specs.declared.entry.TagSet.TheVariants.{None as NoTag, One, Many};
 ghost use Rattle.bbm_events.specs.Heading.{Heading};
 ghost use Rattle.bbm_events.specs.declared.event.Event.{Event};
 ghost use Rattle.bbm_events.specs.declared.event.Event.TheVariants.{Init, Msr, Null, Root};

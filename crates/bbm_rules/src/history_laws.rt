@@ -3,8 +3,8 @@
 
 ghost use Rattle.std.specs.Prelude.{◌≡◌, ℕ, suc, ◌<◌, ◌≤◌, ◌+◌, ◌%◌, true, false, List, [], ◌∷◌, ◌++◌, length, Option};
 ghost use Rattle.std.specs.Prelude.{Some, None, Contains, ◌≢◌};
-ghost use Rattle.bbm_descriptor.specs.regimes.declared.regime.Kind.{Kind};
-ghost use Rattle.bbm_descriptor.specs.regimes.declared.regime.Kind.TheVariants.{Ttbr0};
+ghost use Rattle.bbm_regimes.specs.declared.regime.Kind.{Kind};
+ghost use Rattle.bbm_regimes.specs.declared.regime.Kind.TheVariants.{Ttbr0};
 ghost use Rattle.bbm_descriptor.specs.Descriptor.{desc_of, is_valid};
 ghost use Rattle.bbm_events.specs.Heading.{Heading};
 ghost use Rattle.bbm_events.specs.declared.event.Event.{Event};

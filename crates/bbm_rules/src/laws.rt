@@ -2,7 +2,7 @@
 //! history keeps the events.
 
 ghost use Rattle.std.specs.Prelude.{◌≡◌, ℕ, true, List, Contains};
-ghost use Rattle.bbm_descriptor.specs.regimes.declared.regime.Tag.{Tag};
+ghost use Rattle.bbm_regimes.specs.declared.regime.Tag.{Tag};
 ghost use Rattle.bbm_events.specs.Heading.{Heading};
 ghost use Rattle.bbm_events.specs.declared.event.Event.{Event};
 ghost use Rattle.bbm_rules.specs.Broken.{keeps};

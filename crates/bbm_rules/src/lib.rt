@@ -13,10 +13,7 @@ pub mod step_fault;
 pub mod tag_laws;
 pub mod verdict;
 
-pub use bbm_descriptor as descriptor;
-pub use bbm_descriptor::regimes;
-pub use bbm_events as events;
-pub use bbm_events::{Claim, barriers, tlbi_scope};
+pub use bbm_events::Claim;
 pub use checker::{Checker, Fresh, Logged};
 pub use event_laws::{
     law_changes, law_equality_tests, law_limits, law_lock_held, law_null, law_published,

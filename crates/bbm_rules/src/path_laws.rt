@@ -1,7 +1,7 @@
 //! Laws of the paths of attached pages.
 
 ghost use Rattle.std.specs.Prelude.{◌≡◌, ℕ, true, List, Some};
-ghost use Rattle.bbm_descriptor.specs.regimes.declared.regime.Kind.{Kind};
+ghost use Rattle.bbm_regimes.specs.declared.regime.Kind.{Kind};
 ghost use Rattle.bbm_events.specs.Heading.{Heading};
 ghost use Rattle.bbm_events.specs.declared.event.Event.{Event};
 ghost use Rattle.bbm_rules.specs.Attach.{all_ends, attached_by, attached_from, pages_of};

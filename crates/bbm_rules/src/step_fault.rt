@@ -1,7 +1,7 @@
 //! Why a checker didn't take an event.
 
 use crate::rule::Rule;
-use bbm_descriptor::regimes::Which;
+use bbm_regimes::Which;
 use thiserror::Error;
 
 /// Why a checker didn't take an event.

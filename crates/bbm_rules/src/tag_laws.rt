@@ -1,8 +1,8 @@
 //! Laws of readable tags, and of the rules on tags and roots.
 
 ghost use Rattle.std.specs.Prelude.{◌≡◌, ℕ, ◌<◌, true, false, List, ◌∷◌, Some, None, Contains};
-ghost use Rattle.bbm_descriptor.specs.regimes.declared.regime.Reg.{Reg};
-ghost use Rattle.bbm_descriptor.specs.regimes.declared.regime.Tag.{Tag};
+ghost use Rattle.bbm_regimes.specs.declared.regime.Reg.{Reg};
+ghost use Rattle.bbm_regimes.specs.declared.regime.Tag.{Tag};
 ghost use Rattle.bbm_events.specs.Heading.{Heading};
 ghost use Rattle.bbm_events.specs.declared.event.Event.{Event};
 ghost use Rattle.bbm_events.specs.declared.event.Event.TheVariants.{Msr, Unroot};

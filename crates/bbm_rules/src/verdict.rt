@@ -1,7 +1,7 @@
 //! The verdict on a log.
 
 ghost use Rattle.std.specs.Prelude.{◌≡◌, ◌≢◌, ◌⊎◌, ℕ, List};
-ghost use Rattle.bbm_descriptor.specs.regimes.declared.regime.Which.TheVariants.{Events};
+ghost use Rattle.bbm_regimes.specs.declared.regime.Which.TheVariants.{Events};
 ghost use Rattle.bbm_rules.specs.Claims.{Trust};
 ghost use Rattle.bbm_rules.specs.declared.limits.Limits.{Limits as LimitsOf};
 ghost use Rattle.bbm_rules.specs.Outcome.{DecidedByEnd, DecidedByLine, check_limits, outcome_of, slow_limits};
@@ -10,8 +10,8 @@ ghost use Rattle.bbm_rules.specs.declared.verdict.Verdict.{Verdict as VerdictOf}
 ghost use Rattle.bbm_rules.specs.declared.verdict.Verdict.TheVariants.{Limit};
 
 use crate::rule::Rule;
-use bbm_descriptor::regimes::Which;
 use bbm_events::{Label, Malformed};
+use bbm_regimes::Which;
 
 /// What a checker says of a log. A line's number counts from 1, and line 1 is the header. Source:
 /// project's own choice.

@@ -3,16 +3,16 @@ use Rattle.std.proofs.Common.{◌≡◌, ℕ, zero, suc, ◌+◌, ◌<◌, ◌�
 use Rattle.std.proofs.lemmas.Bool.Decides.{nat_tests}
 use Rattle.bbm_io.specs.Flow.{plain}
 use Rattle.bbm_gen.specs.Generated.{heading, event_at, log_of}
-use Rattle.bbm_report.specs.events.Fits.{fits_heading, item_fits}
-use Rattle.bbm_report.specs.events.Lines.{header_line, header_of, item_line, item_of}
-use Rattle.bbm_report.specs.events.Spelling.{is_plain}
-use Rattle.bbm_report.specs.events.declared.event.Item.{Item}
-use Rattle.bbm_report.specs.events.declared.event.Item.TheVariants.{Event, End}
-use Rattle.bbm_report.specs.rules.Broken.{broken}
-use Rattle.bbm_report.specs.rules.Claims.{Patterns}
-use Rattle.bbm_report.specs.rules.Limits.{limit_of}
-use Rattle.bbm_report.specs.rules.Outcome.{AtHeader, AtEvents, AtEnd, Outcome, Progress, check_limits, outcome_of}
-use Rattle.bbm_report.specs.rules.declared.verdict.Verdict.TheVariants.{Accepted}
+use Rattle.bbm_events.specs.Fits.{fits_heading, item_fits}
+use Rattle.bbm_events.specs.Lines.{header_line, header_of, item_line, item_of}
+use Rattle.bbm_events.specs.Spelling.{is_plain}
+use Rattle.bbm_events.specs.declared.event.Item.{Item}
+use Rattle.bbm_events.specs.declared.event.Item.TheVariants.{Event, End}
+use Rattle.bbm_rules.specs.Broken.{broken}
+use Rattle.bbm_rules.specs.Claims.{Patterns}
+use Rattle.bbm_rules.specs.Limits.{limit_of}
+use Rattle.bbm_rules.specs.Outcome.{AtHeader, AtEvents, AtEnd, Outcome, Progress, check_limits, outcome_of}
+use Rattle.bbm_rules.specs.declared.verdict.Verdict.TheVariants.{Accepted}
 use Rattle.bbm_session.specs.Fold.{Ending, Fold, Passes, alone, end_by, ending_at}
 use Rattle.bbm_session.specs.Folds.{Judged, judged_at, judging}
 use Rattle.bbm_session.specs.Generating.{gen_begin, gen_text}

@@ -1,26 +1,26 @@
 -- The fold that judges events: its parts, its lines, and that what it says is the outcome of the bytes.
 use Rattle.std.proofs.Common.{◌≡◌, ◌≢◌, not, ℕ, suc, ◌<◌, ◌+◌, Bool, true, false, if◌then◌else◌, List, [], ◌∷◌, length, Option, Some, None, refl, ap, sym, ◌∙◌, arith, subst, ◌^◌, Result, Ok, Err, IfOk, IfErr, OnOk, ◌==◌, ◌⊎◌, inl, inr}
 use Rattle.std.proofs.lemmas.Bool.{and_parts}
-use Rattle.bbm_report.specs.regimes.declared.regime.Which.{Which}
-use Rattle.bbm_report.specs.events.declared.event.Event.{Event as EventOf}
-use Rattle.bbm_report.specs.events.declared.event.Item.{Item}
-use Rattle.bbm_report.specs.events.declared.event.Item.TheVariants as item
-use Rattle.bbm_report.specs.events.Fits.{fits_heading, item_fits, label_fits}
-use Rattle.bbm_report.specs.events.Heading.{Heading}
-use Rattle.bbm_report.specs.events.declared.malformed.Malformed.{Malformed as Cause}
-use Rattle.bbm_report.specs.events.declared.malformed.Malformed.TheVariants.{WrongCount}
-use Rattle.bbm_report.specs.events.Lines.{header_of, item_of}
-use Rattle.bbm_report.specs.rules.declared.rule.Rule.{Rule}
-use Rattle.bbm_report.specs.rules.declared.verdict.Verdict.{Verdict}
-use Rattle.bbm_report.specs.rules.declared.verdict.Verdict.TheVariants.{Accepted, Refused, Malformed, Limit}
-use Rattle.bbm_report.specs.rules.declared.step_fault.StepFault.{StepFault}
-use Rattle.bbm_report.specs.rules.declared.step_fault.StepFault.TheVariants as step_fault
-use Rattle.bbm_report.specs.rules.Answers.{rewrites, takes_no_memory}
-use Rattle.bbm_report.specs.rules.Broken.{Breach, broken}
-use Rattle.bbm_report.specs.rules.Claims.{Patterns}
-use Rattle.bbm_report.specs.rules.Limits.{limit_of}
-use Rattle.bbm_report.specs.rules.declared.limits.Limits.{Limits}
-use Rattle.bbm_report.specs.rules.Outcome.{Text, is_too_long, limit_after, limit_at, AtHeader, AtEvents, AtEnd, after_header, after_item, after_event, after_judged, after_kept, after_line, too_long_at, cut_at, Progress, Step, Decides, GoesOn, Outcome, outcome_from, outcome_of, outcome_after, verdict_of_bytes, read_from, read_lines, goes_on_to, step_of, end_of, events_in, text_of}
+use Rattle.bbm_regimes.specs.declared.regime.Which.{Which}
+use Rattle.bbm_events.specs.declared.event.Event.{Event as EventOf}
+use Rattle.bbm_events.specs.declared.event.Item.{Item}
+use Rattle.bbm_events.specs.declared.event.Item.TheVariants as item
+use Rattle.bbm_events.specs.Fits.{fits_heading, item_fits, label_fits}
+use Rattle.bbm_events.specs.Heading.{Heading}
+use Rattle.bbm_events.specs.declared.malformed.Malformed.{Malformed as Cause}
+use Rattle.bbm_events.specs.declared.malformed.Malformed.TheVariants.{WrongCount}
+use Rattle.bbm_events.specs.Lines.{header_of, item_of}
+use Rattle.bbm_rules.specs.declared.rule.Rule.{Rule}
+use Rattle.bbm_rules.specs.declared.verdict.Verdict.{Verdict}
+use Rattle.bbm_rules.specs.declared.verdict.Verdict.TheVariants.{Accepted, Refused, Malformed, Limit}
+use Rattle.bbm_rules.specs.declared.step_fault.StepFault.{StepFault}
+use Rattle.bbm_rules.specs.declared.step_fault.StepFault.TheVariants as step_fault
+use Rattle.bbm_rules.specs.Answers.{rewrites, takes_no_memory}
+use Rattle.bbm_rules.specs.Broken.{Breach, broken}
+use Rattle.bbm_rules.specs.Claims.{Patterns}
+use Rattle.bbm_rules.specs.Limits.{limit_of}
+use Rattle.bbm_rules.specs.declared.limits.Limits.{Limits}
+use Rattle.bbm_rules.specs.Outcome.{Text, is_too_long, limit_after, limit_at, AtHeader, AtEvents, AtEnd, after_header, after_item, after_event, after_judged, after_kept, after_line, too_long_at, cut_at, Progress, Step, Decides, GoesOn, Outcome, outcome_from, outcome_of, outcome_after, verdict_of_bytes, read_from, read_lines, goes_on_to, step_of, end_of, events_in, text_of}
 use Rattle.bbm_session.specs.declared.command.Command.{Command}
 use Rattle.bbm_session.specs.declared.command.Command.TheVariants.{Check, Slow, Explain, Walk, Show}
 use Rattle.bbm_session.specs.declared.stop.Decision.{Decision}

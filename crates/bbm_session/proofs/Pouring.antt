@@ -1,8 +1,8 @@
 -- A text that is written through a buffer.
 use Rattle.std.proofs.Common.{◌≡◌, ℕ, zero, suc, ◌+◌, ◌-◌, ◌≤◌, List, [], ◌++◌, Option, None, Result, Ok, Err, refl, ap, sym, ◌∙◌, subst, arith, append_assoc, append-nil}
 use Rattle.bbm_io.specs.declared.source.Failed.{Failed}
-use Rattle.bbm_report.specs.events.declared.event.Item.TheVariants.{Event}
-use Rattle.bbm_report.specs.events.Lines.{item_line}
+use Rattle.bbm_events.specs.declared.event.Item.TheVariants.{Event}
+use Rattle.bbm_events.specs.Lines.{item_line}
 use Rattle.bbm_gen.specs.Generated.{event_at}
 use Rattle.bbm_session.specs.Generating.{ended, gen_first, gen_begin}
 use Rattle.bbm_session.specs.Writing.{Buffered, Pours, Puts}

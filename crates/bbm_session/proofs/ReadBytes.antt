@@ -4,7 +4,7 @@ use Rattle.std.proofs.Math.ListN.{drop_of_length-le}
 use Rattle.std.proofs.lemmas.Bool.{and_parts}
 use Rattle.std.proofs.lemmas.Bool.Decides.{nat_tests}
 use Rattle.bbm_io.specs.Flow.{plain}
-use Rattle.bbm_report.specs.rules.Outcome.{Text, before_text, text_of, bytes_of, is_too_long}
+use Rattle.bbm_rules.specs.Outcome.{Text, before_text, text_of, bytes_of, is_too_long}
 use Rattle.bbm_session.specs.Fold.{Fold, Turned, Halts, Passes, Ending, end_by, ending_after, ending_from, ending_at, lines_from}
 use Rattle.bbm_session.specs.Run.{ReadPart}
 use Rattle.bbm_session.specs.Stages.{plain_lines, Broke, Breaks, Starved, Starves}

@@ -2,22 +2,22 @@
 use Rattle.std.specs.Option.{option_map_or}
 use Rattle.std.proofs.Common.{◌≡◌, ◌⊎◌, ℕ, Bool, true, false, ◌&&◌, List, [], ◌∷◌, Option, Some, None, refl, ap, ◌∙◌, subst, inl, inr}
 use Rattle.std.proofs.lemmas.Bool.{false≢true}
-use Rattle.bbm_report.specs.events.declared.event.Event.{Event as EventOf}
-use Rattle.bbm_report.specs.events.declared.event.Event.TheVariants.{Init, Null, Root, Unroot, Write, Dsb, Dmb, Isb, Tlbi, Msr, Lock, Unlock}
-use Rattle.bbm_report.specs.events.Fits.{fits_heading, is_pe, is_place, is_value}
-use Rattle.bbm_report.specs.events.Heading.{Heading}
-use Rattle.bbm_report.specs.rules.declared.rule.Rule.{Rule}
-use Rattle.bbm_report.specs.rules.declared.verdict.Verdict.{Verdict}
-use Rattle.bbm_report.specs.rules.declared.verdict.Verdict.TheVariants.{Accepted, Refused, Malformed, Limit}
-use Rattle.bbm_report.specs.rules.declared.rule.Rule.TheVariants.{WrongWorld, NoLock, NullWritten, BreakBeforeMake, LimboMake, NotFresh, RewrittenFresh, BadKind, GlobalUser, PageInUse, NoRoot, TagConflict, RootInUse, UnsyncedVmid, BadOperand, LockBusy, LockNotMine}
-use Rattle.bbm_report.specs.rules.Broken.{Breach, rules, breaks, first_broken, broken}
-use Rattle.bbm_report.specs.rules.Claims.{Patterns}
-use Rattle.bbm_report.specs.rules.Covers.{noted}
-use Rattle.bbm_report.specs.rules.Lists.{◌>>=◌, if_so}
-use Rattle.bbm_report.specs.rules.Notes.{Noted}
-use Rattle.bbm_report.specs.rules.Places.{page_of}
-use Rattle.bbm_report.specs.rules.Rules.{break_before_make}
-use Rattle.bbm_report.specs.rules.Tree.{node_of, held_at}
+use Rattle.bbm_events.specs.declared.event.Event.{Event as EventOf}
+use Rattle.bbm_events.specs.declared.event.Event.TheVariants.{Init, Null, Root, Unroot, Write, Dsb, Dmb, Isb, Tlbi, Msr, Lock, Unlock}
+use Rattle.bbm_events.specs.Fits.{fits_heading, is_pe, is_place, is_value}
+use Rattle.bbm_events.specs.Heading.{Heading}
+use Rattle.bbm_rules.specs.declared.rule.Rule.{Rule}
+use Rattle.bbm_rules.specs.declared.verdict.Verdict.{Verdict}
+use Rattle.bbm_rules.specs.declared.verdict.Verdict.TheVariants.{Accepted, Refused, Malformed, Limit}
+use Rattle.bbm_rules.specs.declared.rule.Rule.TheVariants.{WrongWorld, NoLock, NullWritten, BreakBeforeMake, LimboMake, NotFresh, RewrittenFresh, BadKind, GlobalUser, PageInUse, NoRoot, TagConflict, RootInUse, UnsyncedVmid, BadOperand, LockBusy, LockNotMine}
+use Rattle.bbm_rules.specs.Broken.{Breach, rules, breaks, first_broken, broken}
+use Rattle.bbm_rules.specs.Claims.{Patterns}
+use Rattle.bbm_rules.specs.Covers.{noted}
+use Rattle.bbm_rules.specs.Lists.{◌>>=◌, if_so}
+use Rattle.bbm_rules.specs.Notes.{Noted}
+use Rattle.bbm_rules.specs.Places.{page_of}
+use Rattle.bbm_rules.specs.Rules.{break_before_make}
+use Rattle.bbm_rules.specs.Tree.{node_of, held_at}
 use Rattle.bbm_session.specs.Stages.{Keeps, Knows, KnowsThat, NamesPlace, TellsEvent}
 
 module _ (heading : Heading) (h : List Noted) (e : EventOf) where

@@ -1,22 +1,22 @@
 -- The line of a text that refuses an event.
 use Rattle.std.proofs.Common.{◌≡◌, ℕ, suc, ◌+◌, Bool, true, false, if◌then◌else◌, List, [], ◌∷◌, ◌++◌, length, Option, Some, None, refl, ap, sym, ◌∙◌, arith, subst, Result, Ok, Err, ◌==◌}
 use Rattle.std.specs.Result.{result_ok}
-use Rattle.bbm_report.specs.regimes.declared.regime.Which.{Which}
-use Rattle.bbm_report.specs.events.declared.event.Event.{Event as EventOf}
-use Rattle.bbm_report.specs.events.declared.event.Item.{Item}
-use Rattle.bbm_report.specs.events.declared.event.Item.TheVariants as item
-use Rattle.bbm_report.specs.events.Heading.{Heading}
-use Rattle.bbm_report.specs.events.declared.malformed.Malformed.{Malformed as Cause}
-use Rattle.bbm_report.specs.events.declared.malformed.Malformed.TheVariants.{WrongCount}
-use Rattle.bbm_report.specs.events.Lines.{header_of, item_of}
-use Rattle.bbm_report.specs.rules.declared.verdict.Verdict.{Verdict}
-use Rattle.bbm_report.specs.rules.declared.verdict.Verdict.TheVariants.{Accepted, Refused, Malformed, Limit}
-use Rattle.bbm_report.specs.rules.declared.rule.Rule.{Rule}
-use Rattle.bbm_report.specs.rules.Broken.{Breach, broken}
-use Rattle.bbm_report.specs.rules.Claims.{Patterns}
-use Rattle.bbm_report.specs.rules.Limits.{limit_of}
-use Rattle.bbm_report.specs.rules.declared.limits.Limits.{Limits}
-use Rattle.bbm_report.specs.rules.Outcome.{AtHeader, AtEvents, AtEnd, Decides, GoesOn, Progress, Step, after_header, after_item, after_judged, after_kept, after_line, cut_at, end_of, events_in, goes_on_to, is_too_long, limit_at, read_from, step_of, text_of, too_long_at}
+use Rattle.bbm_regimes.specs.declared.regime.Which.{Which}
+use Rattle.bbm_events.specs.declared.event.Event.{Event as EventOf}
+use Rattle.bbm_events.specs.declared.event.Item.{Item}
+use Rattle.bbm_events.specs.declared.event.Item.TheVariants as item
+use Rattle.bbm_events.specs.Heading.{Heading}
+use Rattle.bbm_events.specs.declared.malformed.Malformed.{Malformed as Cause}
+use Rattle.bbm_events.specs.declared.malformed.Malformed.TheVariants.{WrongCount}
+use Rattle.bbm_events.specs.Lines.{header_of, item_of}
+use Rattle.bbm_rules.specs.declared.verdict.Verdict.{Verdict}
+use Rattle.bbm_rules.specs.declared.verdict.Verdict.TheVariants.{Accepted, Refused, Malformed, Limit}
+use Rattle.bbm_rules.specs.declared.rule.Rule.{Rule}
+use Rattle.bbm_rules.specs.Broken.{Breach, broken}
+use Rattle.bbm_rules.specs.Claims.{Patterns}
+use Rattle.bbm_rules.specs.Limits.{limit_of}
+use Rattle.bbm_rules.specs.declared.limits.Limits.{Limits}
+use Rattle.bbm_rules.specs.Outcome.{AtHeader, AtEvents, AtEnd, Decides, GoesOn, Progress, Step, after_header, after_item, after_judged, after_kept, after_line, cut_at, end_of, events_in, goes_on_to, is_too_long, limit_at, read_from, step_of, text_of, too_long_at}
 use Rattle.bbm_report.specs.Further.{heading_in}
 use Rattle.bbm_session.specs.declared.stop.Decision.{Decision}
 use Rattle.bbm_session.specs.declared.stop.Stop.{Stop}

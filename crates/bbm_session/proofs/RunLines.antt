@@ -1,17 +1,17 @@
 -- The fold that keeps the steps of a run: its parts, its lines, and that what it says is what comes of the run.
 use Rattle.std.proofs.Common.{◌≡◌, ℕ, suc, ◌<◌, ◌≤◌, ◌+◌, Bool, true, false, if◌then◌else◌, List, [], ◌∷◌, length, reverse, Option, Some, None, refl, ap, sym, ◌∙◌, arith, subst, nat_le, Result, Ok, Err, ◌==◌, ◌⊎◌, inl, inr}
 use Rattle.std.proofs.lemmas.List.{length-reverse}
-use Rattle.bbm_report.specs.events.declared.event.Item.{Item}
-use Rattle.bbm_report.specs.events.declared.event.Item.TheVariants as item
-use Rattle.bbm_report.specs.events.declared.machine.MachineLine.{MachineLine}
-use Rattle.bbm_report.specs.events.declared.malformed.Malformed.{Malformed as Cause}
-use Rattle.bbm_report.specs.events.Heading.{Heading}
-use Rattle.bbm_report.specs.events.Lines.{header_of, item_of}
-use Rattle.bbm_report.specs.events.Machine.{machine_of}
-use Rattle.bbm_report.specs.rules.declared.verdict.Verdict.{Verdict}
-use Rattle.bbm_report.specs.rules.declared.verdict.Verdict.TheVariants.{Accepted, Refused, Malformed, Limit}
-use Rattle.bbm_report.specs.rules.Outcome.{Text, is_too_long, text_of}
-use Rattle.bbm_follow.specs.tlb_machine.declared.step.Step.{Step}
+use Rattle.bbm_events.specs.declared.event.Item.{Item}
+use Rattle.bbm_events.specs.declared.event.Item.TheVariants as item
+use Rattle.bbm_events.specs.declared.machine.MachineLine.{MachineLine}
+use Rattle.bbm_events.specs.declared.malformed.Malformed.{Malformed as Cause}
+use Rattle.bbm_events.specs.Heading.{Heading}
+use Rattle.bbm_events.specs.Lines.{header_of, item_of}
+use Rattle.bbm_events.specs.Machine.{machine_of}
+use Rattle.bbm_rules.specs.declared.verdict.Verdict.{Verdict}
+use Rattle.bbm_rules.specs.declared.verdict.Verdict.TheVariants.{Accepted, Refused, Malformed, Limit}
+use Rattle.bbm_rules.specs.Outcome.{Text, is_too_long, text_of}
+use Rattle.bbm_tlb_machine.specs.declared.step.Step.{Step}
 use Rattle.bbm_follow.specs.declared.turn.LineFault.{LineFault}
 use Rattle.bbm_follow.specs.declared.turn.LineFault.TheVariants as line_fault
 use Rattle.bbm_follow.specs.declared.turn.Turn.{Turn as RunTurn}

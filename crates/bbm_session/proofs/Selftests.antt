@@ -1,16 +1,16 @@
 -- A generated log, event by event.
 use Rattle.std.proofs.Common.{◌≡◌, ℕ, zero, suc, ◌+◌, ◌∷◌, ◌++◌, List, length, Option, None, Err, refl, ap, sym, ◌∙◌, subst, arith}
-use Rattle.bbm_report.specs.regimes.declared.regime.Which.{Which}
-use Rattle.bbm_report.specs.events.declared.event.Event.{Event}
-use Rattle.bbm_report.specs.rules.declared.step_fault.StepFault.{StepFault}
-use Rattle.bbm_report.specs.rules.Answers.{Answers}
-use Rattle.bbm_report.specs.rules.Broken.{Breach, broken}
-use Rattle.bbm_report.specs.rules.Claims.{Patterns}
-use Rattle.bbm_report.specs.rules.Limits.{limit_of}
-use Rattle.bbm_report.specs.rules.Pages.{initialised}
-use Rattle.bbm_report.specs.rules.Phases.{restless_of}
-use Rattle.bbm_report.specs.rules.Texts.{verdict_text}
-use Rattle.bbm_report.specs.rules.declared.verdict.Verdict.TheVariants.{Accepted}
+use Rattle.bbm_regimes.specs.declared.regime.Which.{Which}
+use Rattle.bbm_events.specs.declared.event.Event.{Event}
+use Rattle.bbm_rules.specs.declared.step_fault.StepFault.{StepFault}
+use Rattle.bbm_rules.specs.Answers.{Answers}
+use Rattle.bbm_rules.specs.Broken.{Breach, broken}
+use Rattle.bbm_rules.specs.Claims.{Patterns}
+use Rattle.bbm_rules.specs.Limits.{limit_of}
+use Rattle.bbm_rules.specs.Pages.{initialised}
+use Rattle.bbm_rules.specs.Phases.{restless_of}
+use Rattle.bbm_rules.specs.Texts.{verdict_text}
+use Rattle.bbm_rules.specs.declared.verdict.Verdict.TheVariants.{Accepted}
 use Rattle.bbm_gen.specs.Generated.{event_at, heading, log_of}
 use Rattle.bbm_session.specs.Generating.{counts_text, selftest_text}
 use Rattle.bbm_session.specs.Writing.{Part}

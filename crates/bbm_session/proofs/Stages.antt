@@ -8,14 +8,14 @@ use Rattle.std.proofs.lemmas.Bool.{and_parts}
 use Rattle.std.proofs.lemmas.Bool.Decides.{nat_tests}
 use Rattle.bbm_io.specs.Faults.{Rose}
 use Rattle.bbm_io.specs.Flow.{preceded, plain}
-use Rattle.bbm_report.specs.regimes.declared.regime.Which.TheVariants.{LineBytes}
-use Rattle.bbm_report.specs.events.Heading.{Heading}
-use Rattle.bbm_report.specs.events.declared.malformed.Malformed.{Malformed as Cause}
-use Rattle.bbm_report.specs.events.declared.malformed.Malformed.TheVariants.{NoEnd, AfterEnd}
-use Rattle.bbm_report.specs.events.Lines.{header_of}
-use Rattle.bbm_report.specs.rules.declared.verdict.Verdict.{Verdict}
-use Rattle.bbm_report.specs.rules.declared.verdict.Verdict.TheVariants.{Accepted, Refused, Malformed, Limit}
-use Rattle.bbm_report.specs.rules.Outcome.{text_of, bytes_of, is_too_long}
+use Rattle.bbm_regimes.specs.declared.regime.Which.TheVariants.{LineBytes}
+use Rattle.bbm_events.specs.Heading.{Heading}
+use Rattle.bbm_events.specs.declared.malformed.Malformed.{Malformed as Cause}
+use Rattle.bbm_events.specs.declared.malformed.Malformed.TheVariants.{NoEnd, AfterEnd}
+use Rattle.bbm_events.specs.Lines.{header_of}
+use Rattle.bbm_rules.specs.declared.verdict.Verdict.{Verdict}
+use Rattle.bbm_rules.specs.declared.verdict.Verdict.TheVariants.{Accepted, Refused, Malformed, Limit}
+use Rattle.bbm_rules.specs.Outcome.{text_of, bytes_of, is_too_long}
 use Rattle.bbm_report.specs.Further.{heading_in}
 use Rattle.bbm_session.specs.declared.line.Piece.{Piece}
 use Rattle.bbm_session.specs.declared.line.Piece.TheVariants as piece

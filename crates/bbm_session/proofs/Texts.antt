@@ -3,7 +3,7 @@ use Rattle.std.proofs.Common.{◌≡◌, ℕ, Bool, true, false, if◌then◌els
 use Rattle.std.proofs.lemmas.Bool.{false≢true}
 use Rattle.std.proofs.lemmas.Bool.Decides.{nat_tests}
 use Rattle.bbm_io.specs.Flow.{plain}
-use Rattle.bbm_report.specs.rules.Outcome.{Text, before_text, text_of, bytes_of}
+use Rattle.bbm_rules.specs.Outcome.{Text, before_text, text_of, bytes_of}
 
 both : (x y : Bool) → (not x && y) ≡ true → (x ≡ false) × (y ≡ true)
 both false y h = (refl, h)

@@ -2,15 +2,15 @@
 -- a reader. Source: project's own choice.
 use Rattle.std.specs.Prelude.{◌≡◌, ℕ, suc, Bool, List, [], ◌∷◌, drop, Option, Some, None, Result, Ok, Err}
 use Rattle.std.specs.Prelude.{if◌then◌else◌}
-use Rattle.bbm_report.specs.regimes.declared.regime.Which.TheVariants.{LineBytes}
-use Rattle.bbm_report.specs.events.declared.event.Event.{Event}
-use Rattle.bbm_report.specs.events.declared.malformed.Malformed.{Malformed as Cause}
-use Rattle.bbm_report.specs.events.declared.malformed.Malformed.TheVariants.{NoEnd, AfterEnd}
-use Rattle.bbm_report.specs.events.Heading.{Heading}
-use Rattle.bbm_report.specs.events.Lines.{header_of}
-use Rattle.bbm_report.specs.rules.declared.verdict.Verdict.{Verdict}
-use Rattle.bbm_report.specs.rules.declared.verdict.Verdict.TheVariants.{Refused, Malformed, Limit}
-use Rattle.bbm_report.specs.rules.Outcome.{text_of, is_too_long, unread_after}
+use Rattle.bbm_regimes.specs.declared.regime.Which.TheVariants.{LineBytes}
+use Rattle.bbm_events.specs.declared.event.Event.{Event}
+use Rattle.bbm_events.specs.declared.malformed.Malformed.{Malformed as Cause}
+use Rattle.bbm_events.specs.declared.malformed.Malformed.TheVariants.{NoEnd, AfterEnd}
+use Rattle.bbm_events.specs.Heading.{Heading}
+use Rattle.bbm_events.specs.Lines.{header_of}
+use Rattle.bbm_rules.specs.declared.verdict.Verdict.{Verdict}
+use Rattle.bbm_rules.specs.declared.verdict.Verdict.TheVariants.{Refused, Malformed, Limit}
+use Rattle.bbm_rules.specs.Outcome.{text_of, is_too_long, unread_after}
 use Rattle.bbm_session.specs.declared.stop.Decision.{Decision}
 
 -- a verdict that refuses no event

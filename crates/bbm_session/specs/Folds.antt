@@ -2,20 +2,20 @@
 -- cites these words.
 use Rattle.std.specs.Prelude.{◌≡◌, ℕ, ◌+◌, ◌≤◌, Bool, true, false, not, ◌&&◌, is_ok, List, length, reverse, Option, None}
 use Rattle.std.specs.Prelude.{Result, Ok, Err}
-use Rattle.bbm_report.specs.events.declared.event.Event.{Event}
-use Rattle.bbm_report.specs.events.declared.event.Item.{Item}
-use Rattle.bbm_report.specs.events.declared.event.Item.TheVariants as item
-use Rattle.bbm_report.specs.events.declared.malformed.Malformed.{Malformed as Cause}
-use Rattle.bbm_report.specs.events.Heading.{Heading}
-use Rattle.bbm_report.specs.events.Lines.{header_of, item_of}
-use Rattle.bbm_report.specs.rules.Answers.{rewrites, takes_no_memory}
-use Rattle.bbm_report.specs.rules.Claims.{Patterns}
-use Rattle.bbm_report.specs.rules.declared.limits.Limits.{Limits}
-use Rattle.bbm_report.specs.rules.declared.verdict.Verdict.{Verdict}
-use Rattle.bbm_report.specs.rules.declared.verdict.Verdict.TheVariants.{Accepted}
-use Rattle.bbm_report.specs.rules.Outcome.{Progress, AtHeader, AtEvents, AtEnd, Step, Decides, GoesOn, after_line}
-use Rattle.bbm_report.specs.rules.Outcome.{cut_at, events_in, too_long_at}
-use Rattle.bbm_follow.specs.tlb_machine.declared.step.Step.{Step as MachineStep}
+use Rattle.bbm_events.specs.declared.event.Event.{Event}
+use Rattle.bbm_events.specs.declared.event.Item.{Item}
+use Rattle.bbm_events.specs.declared.event.Item.TheVariants as item
+use Rattle.bbm_events.specs.declared.malformed.Malformed.{Malformed as Cause}
+use Rattle.bbm_events.specs.Heading.{Heading}
+use Rattle.bbm_events.specs.Lines.{header_of, item_of}
+use Rattle.bbm_rules.specs.Answers.{rewrites, takes_no_memory}
+use Rattle.bbm_rules.specs.Claims.{Patterns}
+use Rattle.bbm_rules.specs.declared.limits.Limits.{Limits}
+use Rattle.bbm_rules.specs.declared.verdict.Verdict.{Verdict}
+use Rattle.bbm_rules.specs.declared.verdict.Verdict.TheVariants.{Accepted}
+use Rattle.bbm_rules.specs.Outcome.{Progress, AtHeader, AtEvents, AtEnd, Step, Decides, GoesOn, after_line}
+use Rattle.bbm_rules.specs.Outcome.{cut_at, events_in, too_long_at}
+use Rattle.bbm_tlb_machine.specs.declared.step.Step.{Step as MachineStep}
 use Rattle.bbm_follow.specs.declared.turn.LineFault.{LineFault}
 use Rattle.bbm_follow.specs.declared.turn.LineFault.TheVariants as line_fault
 use Rattle.bbm_follow.specs.declared.turn.Turn.{Turn as RunTurn}

@@ -1,14 +1,14 @@
 -- The text of a generated log: its header, its first events, and the end. The text of a self-test, which judges one.
 -- Source: project's own choice.
 use Rattle.std.specs.Prelude.{ℕ, zero, suc, List, [], ◌∷◌, ◌++◌, length, None, codes, decimal}
-use Rattle.bbm_report.specs.events.declared.event.Item.TheVariants.{Event, End}
-use Rattle.bbm_report.specs.events.Lines.{header_line, item_line}
+use Rattle.bbm_events.specs.declared.event.Item.TheVariants.{Event, End}
+use Rattle.bbm_events.specs.Lines.{header_line, item_line}
 use Rattle.bbm_gen.specs.Generated.{heading, event_at, log_of}
-use Rattle.bbm_report.specs.rules.declared.verdict.Verdict.TheVariants.{Accepted}
-use Rattle.bbm_report.specs.rules.Claims.{Patterns}
-use Rattle.bbm_report.specs.rules.Pages.{initialised}
-use Rattle.bbm_report.specs.rules.Phases.{restless_of}
-use Rattle.bbm_report.specs.rules.Texts.{verdict_text}
+use Rattle.bbm_rules.specs.declared.verdict.Verdict.TheVariants.{Accepted}
+use Rattle.bbm_rules.specs.Claims.{Patterns}
+use Rattle.bbm_rules.specs.Pages.{initialised}
+use Rattle.bbm_rules.specs.Phases.{restless_of}
+use Rattle.bbm_rules.specs.Texts.{verdict_text}
 
 -- a line with its newline
 abbrev pub ended : List ℕ → List ℕ

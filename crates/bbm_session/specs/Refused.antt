@@ -1,16 +1,16 @@
 -- The event that a verdict refuses.
 -- Source: project's own choice.
 use Rattle.std.specs.Prelude.{◌≡◌, ℕ, suc, true, List, ◌∷◌, ◌++◌, length, Option, Some, Ok}
-use Rattle.bbm_report.specs.events.declared.event.Event.{Event}
-use Rattle.bbm_report.specs.events.declared.event.Item.TheVariants as item
-use Rattle.bbm_report.specs.events.Fits.{fits_heading}
-use Rattle.bbm_report.specs.events.Heading.{Heading}
-use Rattle.bbm_report.specs.events.Lines.{item_of}
-use Rattle.bbm_report.specs.rules.declared.limits.Limits.{Limits}
-use Rattle.bbm_report.specs.rules.declared.rule.Rule.{Rule}
-use Rattle.bbm_report.specs.rules.Broken.{broken}
-use Rattle.bbm_report.specs.rules.Claims.{Patterns}
-use Rattle.bbm_report.specs.rules.Outcome.{AtEvents, read_lines, text_of}
+use Rattle.bbm_events.specs.declared.event.Event.{Event}
+use Rattle.bbm_events.specs.declared.event.Item.TheVariants as item
+use Rattle.bbm_events.specs.Fits.{fits_heading}
+use Rattle.bbm_events.specs.Heading.{Heading}
+use Rattle.bbm_events.specs.Lines.{item_of}
+use Rattle.bbm_rules.specs.declared.limits.Limits.{Limits}
+use Rattle.bbm_rules.specs.declared.rule.Rule.{Rule}
+use Rattle.bbm_rules.specs.Broken.{broken}
+use Rattle.bbm_rules.specs.Claims.{Patterns}
+use Rattle.bbm_rules.specs.Outcome.{AtEvents, read_lines, text_of}
 
 -- A refused event: it fits the header, and this is the least rule that it breaks after the history, with the number that
 -- the rule names.

@@ -3,13 +3,13 @@
 -- Source: project's own choice.
 use Rattle.std.specs.Prelude.{◌≡◌, ℕ, nat_le, Bool, true, false, List, [], ◌∷◌, Option, Some, None, option_map, codes}
 use Rattle.std.specs.Prelude.{bytes_eq, if◌then◌else◌}
-use Rattle.bbm_report.specs.events.Lines.{passing}
-use Rattle.bbm_report.specs.events.Spelling.{decimal_value}
+use Rattle.bbm_events.specs.Lines.{passing}
+use Rattle.bbm_events.specs.Spelling.{decimal_value}
 use Rattle.bbm_follow.specs.Following.{RunSays, run_of, run_text}
-use Rattle.bbm_report.specs.rules.Claims.{Patterns}
-use Rattle.bbm_report.specs.rules.Lists.{◌>>=◌}
-use Rattle.bbm_report.specs.rules.declared.verdict.Verdict.{Verdict}
-use Rattle.bbm_report.specs.rules.Outcome.{outcome_of, verdict_of_bytes}
+use Rattle.bbm_rules.specs.Claims.{Patterns}
+use Rattle.bbm_rules.specs.Lists.{◌>>=◌}
+use Rattle.bbm_rules.specs.declared.verdict.Verdict.{Verdict}
+use Rattle.bbm_rules.specs.Outcome.{outcome_of, verdict_of_bytes}
 use Rattle.bbm_session.specs.declared.command.Request.{Request}
 use Rattle.bbm_session.specs.declared.command.Request.TheVariants.{Judge, Follow, Generate, Selftest}
 use Rattle.bbm_session.specs.declared.status.Status.{Status}

@@ -2,20 +2,20 @@
 -- Source: project's own choice.
 use Rattle.std.specs.Prelude.{◌≡◌, ◌⊎◌, ℕ, suc, ◌≤◌, List, [], ◌∷◌, ◌++◌, length, Option, Some, None, option_map}
 use Rattle.std.specs.Prelude.{Result, Ok, IsOk, Bool, true, false, codes, bytes_eq, if◌then◌else◌}
-use Rattle.bbm_report.specs.rules.declared.verdict.Verdict.{Verdict}
-use Rattle.bbm_report.specs.rules.declared.verdict.Verdict.TheVariants.{Accepted, Refused, Malformed, Limit}
-use Rattle.bbm_report.specs.events.declared.event.Item.{Item}
-use Rattle.bbm_report.specs.events.declared.event.Item.TheVariants as item
-use Rattle.bbm_report.specs.events.declared.malformed.Malformed.{Malformed as Cause}
-use Rattle.bbm_report.specs.events.declared.event.Event.{Event}
-use Rattle.bbm_report.specs.events.Heading.{Heading}
-use Rattle.bbm_report.specs.events.Lines.{header_of, item_of}
-use Rattle.bbm_report.specs.rules.Answers.{rewrites, takes_no_memory}
-use Rattle.bbm_report.specs.rules.Claims.{Patterns}
-use Rattle.bbm_report.specs.rules.declared.limits.Limits.{Limits}
-use Rattle.bbm_report.specs.rules.Outcome.{check_limits, slow_limits, Outcome, outcome_of, verdict_of_bytes, Progress}
-use Rattle.bbm_report.specs.rules.Outcome.{AtHeader, AtEvents, AtEnd, Text, text_of, read_lines}
-use Rattle.bbm_report.specs.rules.Texts.{verdict_text}
+use Rattle.bbm_rules.specs.declared.verdict.Verdict.{Verdict}
+use Rattle.bbm_rules.specs.declared.verdict.Verdict.TheVariants.{Accepted, Refused, Malformed, Limit}
+use Rattle.bbm_events.specs.declared.event.Item.{Item}
+use Rattle.bbm_events.specs.declared.event.Item.TheVariants as item
+use Rattle.bbm_events.specs.declared.malformed.Malformed.{Malformed as Cause}
+use Rattle.bbm_events.specs.declared.event.Event.{Event}
+use Rattle.bbm_events.specs.Heading.{Heading}
+use Rattle.bbm_events.specs.Lines.{header_of, item_of}
+use Rattle.bbm_rules.specs.Answers.{rewrites, takes_no_memory}
+use Rattle.bbm_rules.specs.Claims.{Patterns}
+use Rattle.bbm_rules.specs.declared.limits.Limits.{Limits}
+use Rattle.bbm_rules.specs.Outcome.{check_limits, slow_limits, Outcome, outcome_of, verdict_of_bytes, Progress}
+use Rattle.bbm_rules.specs.Outcome.{AtHeader, AtEvents, AtEnd, Text, text_of, read_lines}
+use Rattle.bbm_rules.specs.Texts.{verdict_text}
 use Rattle.bbm_report.specs.Further.{Walked, explained, heading_in}
 use Rattle.bbm_report.specs.Questions.{walk_asked}
 use Rattle.bbm_session.specs.declared.command.Command.{Command}

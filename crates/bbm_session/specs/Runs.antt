@@ -1,9 +1,9 @@
 -- What the program says of a run, and which bytes it reads for it.
 -- Source: project's own choice.
 use Rattle.std.specs.Prelude.{◌≡◌, ◌⊎◌, ℕ, suc, ◌≤◌, Bool, true, false, List, [], ◌∷◌, ◌++◌, length, Option, Some, None}
-use Rattle.bbm_report.specs.events.Heading.{Heading}
-use Rattle.bbm_report.specs.rules.Outcome.{Text, text_of}
-use Rattle.bbm_follow.specs.tlb_machine.declared.step.Step.{Step}
+use Rattle.bbm_events.specs.Heading.{Heading}
+use Rattle.bbm_rules.specs.Outcome.{Text, text_of}
+use Rattle.bbm_tlb_machine.specs.declared.step.Step.{Step}
 use Rattle.bbm_follow.specs.declared.followed.Followed.{Followed}
 use Rattle.bbm_follow.specs.declared.followed.Followed.TheVariants.{Run, BadStep}
 use Rattle.bbm_follow.specs.Following.{Reached, AtHeader, AtSteps, Turned, Stops, GoesOn, turned_by, after_line}

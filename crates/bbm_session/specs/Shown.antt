@@ -2,11 +2,11 @@
 -- Source: project's own choice.
 use Rattle.std.specs.Prelude.{ℕ, ◌+◌, Bool, List, [], ◌∷◌, ◌++◌, length, if◌then◌else◌}
 use Rattle.bbm_idle.specs.Idle.{idle_marks}
-use Rattle.bbm_report.specs.events.declared.event.Event.{Event}
-use Rattle.bbm_report.specs.events.Heading.{Heading}
+use Rattle.bbm_events.specs.declared.event.Event.{Event}
+use Rattle.bbm_events.specs.Heading.{Heading}
 use Rattle.bbm_report.specs.Lines.{idle_text}
-use Rattle.bbm_report.specs.rules.declared.verdict.Verdict.{Verdict}
-use Rattle.bbm_report.specs.rules.declared.verdict.Verdict.TheVariants.{Accepted}
+use Rattle.bbm_rules.specs.declared.verdict.Verdict.{Verdict}
+use Rattle.bbm_rules.specs.declared.verdict.Verdict.TheVariants.{Accepted}
 use Rattle.bbm_session.specs.declared.command.Evidence.{Evidence}
 use Rattle.bbm_session.specs.declared.command.Evidence.TheVariants.{Idle}
 

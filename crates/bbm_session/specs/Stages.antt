@@ -5,23 +5,23 @@ use Rattle.std.specs.Prelude.{Option, Some, None, Result, Ok, Err}
 use Rattle.bbm_io.specs.Faults.{Rose}
 use Rattle.bbm_io.specs.Flow.{preceded, plain}
 use Rattle.bbm_io.specs.Reading.{Reading}
-use Rattle.bbm_report.specs.regimes.declared.regime.Which.{Which}
-use Rattle.bbm_report.specs.events.Heading.{Heading}
-use Rattle.bbm_report.specs.events.Lines.{header_of}
-use Rattle.bbm_report.specs.events.declared.event.Event.{Event as EventOf}
-use Rattle.bbm_report.specs.events.declared.event.Item.{Item}
-use Rattle.bbm_report.specs.events.declared.event.Item.TheVariants as item
-use Rattle.bbm_report.specs.events.declared.malformed.Malformed.{Malformed as Cause}
-use Rattle.bbm_report.specs.events.Fits.{fits_heading, is_place}
-use Rattle.bbm_report.specs.rules.declared.rule.Rule.{Rule}
-use Rattle.bbm_report.specs.rules.declared.rule.Rule.TheVariants.{BreakBeforeMake}
-use Rattle.bbm_report.specs.rules.declared.verdict.Verdict.{Verdict}
-use Rattle.bbm_report.specs.rules.declared.verdict.Verdict.TheVariants.{Accepted, Refused, Malformed, Limit}
-use Rattle.bbm_report.specs.rules.Answers.{MayTake}
-use Rattle.bbm_report.specs.rules.Broken.{Breach, keeps}
-use Rattle.bbm_report.specs.rules.Claims.{Patterns}
-use Rattle.bbm_report.specs.rules.Lists.{every}
-use Rattle.bbm_report.specs.rules.Outcome.{AtEvents, AtEnd, Step, Decides, GoesOn, bytes_of}
+use Rattle.bbm_regimes.specs.declared.regime.Which.{Which}
+use Rattle.bbm_events.specs.Heading.{Heading}
+use Rattle.bbm_events.specs.Lines.{header_of}
+use Rattle.bbm_events.specs.declared.event.Event.{Event as EventOf}
+use Rattle.bbm_events.specs.declared.event.Item.{Item}
+use Rattle.bbm_events.specs.declared.event.Item.TheVariants as item
+use Rattle.bbm_events.specs.declared.malformed.Malformed.{Malformed as Cause}
+use Rattle.bbm_events.specs.Fits.{fits_heading, is_place}
+use Rattle.bbm_rules.specs.declared.rule.Rule.{Rule}
+use Rattle.bbm_rules.specs.declared.rule.Rule.TheVariants.{BreakBeforeMake}
+use Rattle.bbm_rules.specs.declared.verdict.Verdict.{Verdict}
+use Rattle.bbm_rules.specs.declared.verdict.Verdict.TheVariants.{Accepted, Refused, Malformed, Limit}
+use Rattle.bbm_rules.specs.Answers.{MayTake}
+use Rattle.bbm_rules.specs.Broken.{Breach, keeps}
+use Rattle.bbm_rules.specs.Claims.{Patterns}
+use Rattle.bbm_rules.specs.Lists.{every}
+use Rattle.bbm_rules.specs.Outcome.{AtEvents, AtEnd, Step, Decides, GoesOn, bytes_of}
 use Rattle.bbm_session.specs.Fold.{Fold, Halts, Passes, alone, refusing, ending_at, lines_from, IsInside, IsEnd}
 use Rattle.bbm_session.specs.Refused.{IsRefused}
 use Rattle.bbm_session.specs.declared.stop.Decision.{Decision}

@@ -1,10 +1,10 @@
 -- What is said behind the line of a verdict, by the place that it names. No public contract cites these words.
 use Rattle.std.specs.Prelude.{ℕ, Option, Some, None, if◌then◌else◌}
-use Rattle.bbm_report.specs.events.Fits.{is_place}
-use Rattle.bbm_report.specs.rules.declared.rule.Rule.{Rule}
-use Rattle.bbm_report.specs.rules.declared.rule.Rule.TheVariants.{BreakBeforeMake}
-use Rattle.bbm_report.specs.rules.declared.verdict.Verdict.{Verdict}
-use Rattle.bbm_report.specs.rules.declared.verdict.Verdict.TheVariants.{Refused}
+use Rattle.bbm_events.specs.Fits.{is_place}
+use Rattle.bbm_rules.specs.declared.rule.Rule.{Rule}
+use Rattle.bbm_rules.specs.declared.rule.Rule.TheVariants.{BreakBeforeMake}
+use Rattle.bbm_rules.specs.declared.verdict.Verdict.{Verdict}
+use Rattle.bbm_rules.specs.declared.verdict.Verdict.TheVariants.{Refused}
 
 -- the place at which break-before-make is broken, None where the verdict is another
 abbrev pub place_of_rule : Rule → ℕ → Option ℕ

@@ -3,16 +3,16 @@ use Rattle.std.specs.Prelude.{◌≡◌, ℕ, ◌<◌, List, ◌++◌, length, t
 use Rattle.bbm_io.specs.Faults.{Rose}
 use Rattle.bbm_io.specs.Flow.{extended}
 use Rattle.bbm_io.specs.declared.source.Failed.{Failed}
-use Rattle.bbm_report.specs.events.declared.event.Event.{Event}
-use Rattle.bbm_report.specs.events.Heading.{Heading}
+use Rattle.bbm_events.specs.declared.event.Event.{Event}
+use Rattle.bbm_events.specs.Heading.{Heading}
 use Rattle.bbm_follow.specs.Following as run
 use Rattle.bbm_idle.specs.Idle.{idle_marks}
 use Rattle.bbm_follow.specs.declared.followed.Followed.{Followed}
-use Rattle.bbm_report.specs.rules.declared.verdict.Verdict.{Verdict}
-use Rattle.bbm_report.specs.rules.Outcome.{AtHeader, text_of}
-use Rattle.bbm_report.specs.rules.Texts.{verdict_text}
+use Rattle.bbm_rules.specs.declared.verdict.Verdict.{Verdict}
+use Rattle.bbm_rules.specs.Outcome.{AtHeader, text_of}
+use Rattle.bbm_rules.specs.Texts.{verdict_text}
 use Rattle.bbm_report.specs.Further.{heading_in}
-use Rattle.bbm_follow.specs.tlb_machine.declared.step.Step.{Step}
+use Rattle.bbm_tlb_machine.specs.declared.step.Step.{Step}
 use Rattle.bbm_session.specs.declared.command.Command.{Command}
 use Rattle.bbm_session.specs.declared.command.Request.{Request}
 use Rattle.bbm_session.specs.declared.command.Request.TheVariants.{Judge, Follow, Generate, Selftest}

@@ -1,8 +1,8 @@
 //! How what is said of a text is written.
 
 ghost use Rattle.std.specs.Prelude.{◌≡◌, ℕ, List, Option};
-ghost use Rattle.bbm_report.specs.events.declared.event.Event.{Event};
-ghost use Rattle.bbm_report.specs.events.Heading.{Heading as HeadingOf};
+ghost use Rattle.bbm_events.specs.declared.event.Event.{Event};
+ghost use Rattle.bbm_events.specs.Heading.{Heading as HeadingOf};
 ghost use Rattle.bbm_session.specs.declared.command.Command.{Command as CommandOf};
 ghost use Rattle.bbm_session.specs.Run.{status_of};
 ghost use Rattle.bbm_session.specs.Stages.{IsBrief};
@@ -12,7 +12,7 @@ use crate::status::Status;
 use crate::stop::Stop;
 use crate::telling::tell_verdict;
 use bbm_io::{Failed, Sink};
-use bbm_report::rules::Verdict;
+use bbm_rules::Verdict;
 
 /// The status of a verdict.
 pub fn status(verdict: &Verdict) -> Status

@@ -6,9 +6,9 @@ ghost use Rattle.std.specs.String.{string_bytes};
 ghost use Rattle.bbm_session.specs.Requests.{event_count, follow_of, gen_of, log_after, log_asked, request_of, selftest_of};
 ghost use Rattle.bbm_session.specs.Run.{command_alone, command_of, limits_of, or_else};
 
-use bbm_report::log_grammar::read_decimal;
-use bbm_report::rules::Limits;
+use bbm_log_grammar::read_decimal;
 use bbm_report::{Question, asked};
+use bbm_rules::Limits;
 
 /// The most events of a log that the oracle judges.
 const ORACLE_EVENTS: u64 = 2000;

@@ -16,11 +16,11 @@ use crate::stop::{Stop, Turn, decided};
 use crate::taker::Taker;
 use crate::telling::tell;
 use arrayvec::ArrayVec;
-use bbm_follow::tlb_machine::Step;
+use bbm_events::Header;
 use bbm_follow::{Followed, LineFault, Turn as RunTurn, follow_run, followed_text, take_line};
 use bbm_io::{Lines, Sink, Source};
-use bbm_report::events::Header;
-use bbm_report::regimes::NoMemory;
+use bbm_regimes::NoMemory;
+use bbm_tlb_machine::Step;
 use std::alloc::Global;
 
 /// What a line decides that was taken or not.

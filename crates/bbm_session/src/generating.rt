@@ -3,8 +3,8 @@
 
 ghost use Rattle.std.specs.Prelude.{◌≡◌, ◌≤◌, ◌+◌, ◌++◌, ℕ, List, [], Option, OnOk, true};
 ghost use Rattle.arrayvec.specs.ArrayVec.{array_vec_len};
-ghost use Rattle.bbm_report.specs.events.Fits.{item_fits};
-ghost use Rattle.bbm_report.specs.events.Lines.{item_line};
+ghost use Rattle.bbm_events.specs.Fits.{item_fits};
+ghost use Rattle.bbm_events.specs.Lines.{item_line};
 ghost use Rattle.bbm_gen.specs.Generated.{heading};
 ghost use Rattle.bbm_session.specs.Generating.{ended, gen_begin, gen_first, gen_text};
 ghost use Rattle.bbm_session.specs.Writing.{Buffered, Pours, Puts, Wrote};
@@ -13,10 +13,10 @@ use crate::answering::settled;
 use crate::status::Status;
 use crate::telling::tell;
 use arrayvec::ArrayVec;
+use bbm_events::{Header, Item};
 use bbm_gen::{gen_event, gen_header};
 use bbm_io::{Failed, Sink};
-use bbm_report::events::{Header, Item};
-use bbm_report::log_grammar::{append_event, write_event, write_header};
+use bbm_log_grammar::{append_event, write_event, write_header};
 
 /// The bytes that are written at once.
 const BUFFER_BYTES: usize = 65536;

@@ -1,9 +1,9 @@
 //! The judging of a whole log.
 
 ghost use Rattle.std.specs.Prelude.{◌≡◌, ◌*◌, [], Bool, List, MatchResult, length, OnOk, IfErr};
-ghost use Rattle.bbm_report.specs.events.declared.event.Event.{Event};
-ghost use Rattle.bbm_report.specs.events.Heading.{Heading};
-ghost use Rattle.bbm_report.specs.rules.Outcome.{AtEvents};
+ghost use Rattle.bbm_events.specs.declared.event.Event.{Event};
+ghost use Rattle.bbm_events.specs.Heading.{Heading};
+ghost use Rattle.bbm_rules.specs.Outcome.{AtEvents};
 ghost use Rattle.bbm_session.specs.Fold.{alone};
 ghost use Rattle.bbm_session.specs.Folds.{StopsKnown};
 ghost use Rattle.bbm_session.specs.JudgedLog.{JudgedLog, Unjudged};
@@ -12,9 +12,9 @@ ghost use Rattle.bbm_session.specs.Stages.{Ready, Shrinks};
 use crate::judging::Judging;
 use crate::reading::{header_line, read_log};
 use crate::stop::{Stop, decided};
+use bbm_events::{Header, law_item_fits};
 use bbm_io::{Lines, Source};
-use bbm_report::events::{Header, law_item_fits};
-use bbm_report::rules::{Checker, Fresh, Limits, Verdict};
+use bbm_rules::{Checker, Fresh, Limits, Verdict};
 use std::alloc::Global;
 
 /// A log that was judged by a checker up to the line that decides.

@@ -1,15 +1,15 @@
 //! The events of a log, judged one after another.
 
 ghost use Rattle.std.specs.Prelude.{◌≡◌, ◌<◌, ℕ, suc, List, length, Option, Some, IfOk, Err, ok_or, true};
-ghost use Rattle.bbm_report.specs.regimes.declared.regime.Which.{Which as WhichOf};
-ghost use Rattle.bbm_report.specs.events.declared.event.Event.{Event};
-ghost use Rattle.bbm_report.specs.events.Fits.{fits_heading, item_fits};
-ghost use Rattle.bbm_report.specs.events.Heading.{Heading};
-ghost use Rattle.bbm_report.specs.rules.Answers.{Answers, MayTake};
-ghost use Rattle.bbm_report.specs.rules.Broken.{Breach};
-ghost use Rattle.bbm_report.specs.rules.Claims.{Patterns};
-ghost use Rattle.bbm_report.specs.rules.Outcome.{Progress, is_reached, limit_after, after_event, after_item};
-ghost use Rattle.bbm_report.specs.log_grammar.InLine.{read_in};
+ghost use Rattle.bbm_regimes.specs.declared.regime.Which.{Which as WhichOf};
+ghost use Rattle.bbm_events.specs.declared.event.Event.{Event};
+ghost use Rattle.bbm_events.specs.Fits.{fits_heading, item_fits};
+ghost use Rattle.bbm_events.specs.Heading.{Heading};
+ghost use Rattle.bbm_rules.specs.Answers.{Answers, MayTake};
+ghost use Rattle.bbm_rules.specs.Broken.{Breach};
+ghost use Rattle.bbm_rules.specs.Claims.{Patterns};
+ghost use Rattle.bbm_rules.specs.Outcome.{Progress, is_reached, limit_after, after_event, after_item};
+ghost use Rattle.bbm_log_grammar.specs.InLine.{read_in};
 ghost use Rattle.bbm_session.specs.Fold.{Fold};
 ghost use Rattle.bbm_session.specs.Folds.{Judged, Judges, event_needs, item_needs};
 ghost use Rattle.bbm_session.specs.Stages.{StopsAt, MayJudge, Keeps, JudgesLine, MayTakeLine, TakesLine, event_in};
@@ -17,10 +17,10 @@ ghost use Rattle.bbm_session.specs.Stages.{StopsAt, MayJudge, Keeps, JudgesLine,
 use crate::reading::{limit, stop_limit, stop_malformed};
 use crate::stop::{Decision, Stop, Turn};
 use crate::taker::Taker;
-use bbm_report::events::{Event, Header, Malformed};
-use bbm_report::log_grammar::{LabelText, LineItem, kept_label, read_line};
-use bbm_report::regimes::Which;
-use bbm_report::rules::{Checker, Limits, StepFault, Verdict};
+use bbm_events::{Event, Header, Malformed};
+use bbm_log_grammar::{LabelText, LineItem, kept_label, read_line};
+use bbm_regimes::Which;
+use bbm_rules::{Checker, Limits, StepFault, Verdict};
 use std::alloc::Global;
 
 /// Why reading stops at an event with this label that the checker didn't take.
@@ -188,7 +188,7 @@ pub struct Judging<C> {
 }
 
 impl<C: Checker> Taker for Judging<C> {
-    ghost use Rattle.bbm_report.specs.rules.Outcome.{Progress};
+    ghost use Rattle.bbm_rules.specs.Outcome.{Progress};
     ghost use Rattle.bbm_session.specs.Folds.{Judged, Judges};
 
     ghost Reached = { Progress };

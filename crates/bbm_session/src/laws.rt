@@ -2,16 +2,16 @@
 
 ghost use Rattle.std.specs.Prelude.{◌≡◌, ◌≤◌, ◌++◌, [], length};
 ghost use Rattle.bbm_gen.specs.Generated.{heading, log_of};
-ghost use Rattle.bbm_report.specs.rules.Claims.{Patterns};
-ghost use Rattle.bbm_report.specs.rules.Outcome.{check_limits, outcome_of, verdict_of_bytes};
-ghost use Rattle.bbm_report.specs.rules.Pages.{initialised};
-ghost use Rattle.bbm_report.specs.rules.Phases.{restless_of};
-ghost use Rattle.bbm_report.specs.rules.Texts.{verdict_text};
-ghost use Rattle.bbm_report.specs.rules.declared.verdict.Verdict.TheVariants.{Accepted};
+ghost use Rattle.bbm_rules.specs.Claims.{Patterns};
+ghost use Rattle.bbm_rules.specs.Outcome.{check_limits, outcome_of, verdict_of_bytes};
+ghost use Rattle.bbm_rules.specs.Pages.{initialised};
+ghost use Rattle.bbm_rules.specs.Phases.{restless_of};
+ghost use Rattle.bbm_rules.specs.Texts.{verdict_text};
+ghost use Rattle.bbm_rules.specs.declared.verdict.Verdict.TheVariants.{Accepted};
 ghost use Rattle.bbm_session.specs.Generating.{counts_text, gen_text, selftest_text};
 
+use bbm_events::{law_written_is_a_line, law_written_is_read};
 use bbm_gen::law_gen;
-use bbm_report::events::{law_written_is_a_line, law_written_is_read};
 
 /// What `check` says of the text that `gen` writes for the number n and `count` events, at most 4,294,967,293: it is
 /// accepted, and read whole, and its events are those of the generated log. So what `selftest` writes is the line of that

@@ -20,7 +20,6 @@ mod taker;
 mod telling;
 mod top;
 
-pub use bbm_io as io;
 pub use command::{Command, Evidence, Request};
 pub use laws::law_generated_is_accepted;
 pub use status::{Status, number};

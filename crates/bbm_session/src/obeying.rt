@@ -1,7 +1,7 @@
 //! The commands that judge a log.
 
 ghost use Rattle.std.specs.Prelude.{◌≡◌, ◌*◌, false, List, Some};
-ghost use Rattle.bbm_report.specs.events.declared.event.Event.{Event};
+ghost use Rattle.bbm_events.specs.declared.event.Event.{Event};
 ghost use Rattle.bbm_session.specs.Folds.{is_frugal};
 ghost use Rattle.bbm_session.specs.Run.{shows};
 ghost use Rattle.bbm_session.specs.Stages.{KnowsAt, Shrinks};
@@ -13,9 +13,9 @@ use crate::judgement::judge_log;
 use crate::status::Status;
 use crate::stop::Stop;
 use crate::telling::tell_all;
+use bbm_events::Header;
 use bbm_io::{Sink, Source};
-use bbm_report::events::Header;
-use bbm_report::rules::{Checker, Fresh};
+use bbm_rules::{Checker, Fresh};
 use std::alloc::Global;
 
 /// Says why reading stopped behind the header.

@@ -1,7 +1,7 @@
 //! The lines of a log, read one after another.
 
 ghost use Rattle.std.specs.Prelude.{◌≡◌, ◌+◌, ◌*◌, ◌≤◌, ◌<◌, ℕ, OnOk, IfOk, IfErr, Some, OnSome, ok_or};
-ghost use Rattle.bbm_report.specs.events.Heading.{Heading};
+ghost use Rattle.bbm_events.specs.Heading.{Heading};
 ghost use Rattle.bbm_session.specs.Fold.{Fold, IsStart, IsInside, IsEnd, alone};
 ghost use Rattle.bbm_session.specs.Stages.{Shrinks, Ready, IsBrief, ReadsHeader, Starts, MayGoOn, Advances, Reaches};
 ghost use Rattle.bbm_session.specs.Stages.{Closes, Ends};
@@ -9,11 +9,11 @@ ghost use Rattle.bbm_session.specs.Stages.{Closes, Ends};
 use crate::line::{Piece, find_piece, next_piece, take_found};
 use crate::stop::{Stop, Turn, decided};
 use crate::taker::Taker;
+use bbm_events::{Header, Malformed};
 use bbm_io::{Lines, Source};
-use bbm_report::events::{Header, Malformed};
-use bbm_report::log_grammar::read_header;
-use bbm_report::regimes::Which;
-use bbm_report::rules::Verdict;
+use bbm_log_grammar::read_header;
+use bbm_regimes::Which;
+use bbm_rules::Verdict;
 use std::alloc::Global;
 
 /// Why reading stops at a malformed line.

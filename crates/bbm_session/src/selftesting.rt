@@ -1,10 +1,10 @@
 //! A generated log, judged event by event and never stored.
 
 ghost use Rattle.std.specs.Prelude.{◌≡◌, ◌≤◌, ◌+◌, ℕ, [], None, OnOk, IfOk, Err};
-ghost use Rattle.bbm_report.specs.rules.Answers.{Answers};
-ghost use Rattle.bbm_report.specs.rules.Broken.{broken};
-ghost use Rattle.bbm_report.specs.rules.Claims.{Patterns};
-ghost use Rattle.bbm_report.specs.rules.Limits.{limit_of};
+ghost use Rattle.bbm_rules.specs.Answers.{Answers};
+ghost use Rattle.bbm_rules.specs.Broken.{broken};
+ghost use Rattle.bbm_rules.specs.Claims.{Patterns};
+ghost use Rattle.bbm_rules.specs.Limits.{limit_of};
 ghost use Rattle.bbm_gen.specs.Generated as log;
 ghost use Rattle.bbm_session.specs.Generating.{counts_text as text_of_counts, selftest_text};
 ghost use Rattle.bbm_session.specs.Writing.{Puts, Tested};
@@ -15,9 +15,9 @@ use crate::telling::{tell, tell_verdict};
 use arrayvec::ArrayVec;
 use bbm_gen::{gen_event, gen_header, law_gen};
 use bbm_io::{Failed, Sink};
-use bbm_report::log_grammar::{add, add_decimal};
-use bbm_report::regimes::NoMemory;
-use bbm_report::rules::{Checker, Fresh, StepFault, Verdict};
+use bbm_log_grammar::{add, add_decimal};
+use bbm_regimes::NoMemory;
+use bbm_rules::{Checker, Fresh, StepFault, Verdict};
 use std::alloc::Global;
 
 /// Why an event wasn't taken that breaks no rule and reaches no limit.

@@ -1,8 +1,8 @@
 //! The commands that show more of the events of a log.
 
 ghost use Rattle.std.specs.Prelude.{◌≡◌, ◌*◌, ◌<◌, ◌^◌, ◌++◌, false, List, Some, reverse};
-ghost use Rattle.bbm_report.specs.events.declared.event.Event.{Event};
-ghost use Rattle.bbm_report.specs.rules.Texts.{verdict_text as text_of_verdict};
+ghost use Rattle.bbm_events.specs.declared.event.Event.{Event};
+ghost use Rattle.bbm_rules.specs.Texts.{verdict_text as text_of_verdict};
 ghost use Rattle.bbm_report.specs.Lines.{idle_text as text_of_idle};
 ghost use Rattle.bbm_session.specs.declared.command.Command.TheVariants as command_of;
 ghost use Rattle.bbm_session.specs.Shown.{marked_line, marked_lines};
@@ -16,11 +16,11 @@ use crate::status::Status;
 use crate::stop::Stop;
 use crate::telling::{tell, tell_verdict};
 use arrayvec::ArrayVec;
+use bbm_events::Header;
 use bbm_idle::find;
 use bbm_io::{Failed, Sink, Source};
-use bbm_report::events::Header;
 use bbm_report::idle_text;
-use bbm_report::rules::{Fresh, Logged, Verdict};
+use bbm_rules::{Fresh, Logged, Verdict};
 use std::alloc::Global;
 
 /// Writes the line of the event behind so many others, where it is marked.

@@ -3,8 +3,8 @@
 ghost use Rattle.std.specs.Prelude.{◌≡◌};
 ghost use Rattle.bbm_session.specs.Fold.{alone};
 
-use bbm_report::events::Event;
-use bbm_report::rules::Verdict;
+use bbm_events::Event;
+use bbm_rules::Verdict;
 
 /// What is decided.
 #[derive(Clone, Copy, Debug)]

@@ -1,12 +1,12 @@
 //! What takes the lines of a log.
 
 ghost use Rattle.std.specs.Prelude.{◌≡◌, ◌<◌, ℕ, Some, ok_or};
-ghost use Rattle.bbm_report.specs.events.Heading.{Heading};
+ghost use Rattle.bbm_events.specs.Heading.{Heading};
 ghost use Rattle.bbm_session.specs.Fold.{Fold};
 ghost use Rattle.bbm_session.specs.Stages.{MayTakeLine, TakesLine};
 
 use crate::stop::{Stop, Turn};
-use bbm_report::events::Header;
+use bbm_events::Header;
 use std::alloc::Global;
 
 /// It takes the lines between the header of a log and its end one by one, as a fold over the lines says. Source:

@@ -1,11 +1,11 @@
 //! The texts of a command.
 
 ghost use Rattle.std.specs.Prelude.{◌≡◌, ◌<◌, ◌++◌, ℕ, false, List, Option, Some, None};
-ghost use Rattle.bbm_report.specs.events.declared.event.Event.{Event};
-ghost use Rattle.bbm_report.specs.events.Heading.{Heading};
-ghost use Rattle.bbm_report.specs.rules.Phases.{phase_of};
-ghost use Rattle.bbm_report.specs.rules.Claims.{Patterns};
-ghost use Rattle.bbm_report.specs.rules.Texts.{verdict_text as text_of_verdict};
+ghost use Rattle.bbm_events.specs.declared.event.Event.{Event};
+ghost use Rattle.bbm_events.specs.Heading.{Heading};
+ghost use Rattle.bbm_rules.specs.Phases.{phase_of};
+ghost use Rattle.bbm_rules.specs.Claims.{Patterns};
+ghost use Rattle.bbm_rules.specs.Texts.{verdict_text as text_of_verdict};
 ghost use Rattle.bbm_report.specs.Lines.{found_text as text_of_found, phase_text as text_of_phase};
 ghost use Rattle.bbm_report.specs.Further.{explained, phase_lines as lines_of_phases};
 ghost use Rattle.bbm_session.specs.declared.command.Command.TheVariants as command_of;
@@ -16,12 +16,12 @@ ghost use Rattle.bbm_session.specs.Writing.{Puts};
 
 use crate::command::Command;
 use arrayvec::ArrayVec;
+use bbm_descriptor::Walk;
+use bbm_events::Header;
 use bbm_io::{Failed, Sink, put};
-use bbm_report::descriptor::Walk;
-use bbm_report::events::Header;
-use bbm_report::regimes::{Pe, Place};
-use bbm_report::rules::{Checker, Rule, Verdict};
+use bbm_regimes::{Pe, Place};
 use bbm_report::{Question, find, found_text, phase_text, verdict_text};
+use bbm_rules::{Checker, Rule, Verdict};
 
 /// Writes a text.
 pub fn tell<K: Sink>(text: &[u8], out: &mut K) -> Result<(), Failed>

@@ -4,8 +4,8 @@ ghost use Rattle.std.specs.Prelude.{◌≡◌, ◌*◌, ◌<◌, ◌^◌, ◌⊎
 ghost use Rattle.std.specs.String.{string_bytes};
 ghost use Rattle.bbm_io.specs.Faults.{Rose};
 ghost use Rattle.bbm_io.specs.Flow.{preceded, extended};
-ghost use Rattle.bbm_report.specs.rules.Claims.{Patterns};
-ghost use Rattle.bbm_follow.specs.tlb_machine.Accepted.{SafeBytes};
+ghost use Rattle.bbm_rules.specs.Claims.{Patterns};
+ghost use Rattle.bbm_tlb_machine.specs.Accepted.{SafeBytes};
 ghost use Rattle.bbm_session.specs.declared.command.Command.{Command as CommandOf};
 ghost use Rattle.bbm_session.specs.declared.command.Request.{Request as RequestOf};
 ghost use Rattle.bbm_session.specs.declared.command.Request.TheVariants.{Generate, Selftest};
@@ -25,10 +25,10 @@ use crate::selftesting::selftest;
 use crate::showing::show;
 use crate::status::Status;
 use crate::telling::tell;
-use bbm_follow::tlb_machine::law_accepted_is_safe;
 use bbm_io::{Sink, Source};
 use bbm_oracle::Oracle;
 use bbm_replay::Replay;
+use bbm_tlb_machine::law_accepted_is_safe;
 use std::alloc::Global;
 
 /// The usage line, which names all commands.

@@ -1,14 +1,14 @@
 -- What one more event does to the last valid write of a place and to the patterns after it.
 use Rattle.std.proofs.Common.{◌≡◌, ℕ, ◌⊎◌, ◌&&◌, Bool, true, false, cond, ◌==◌, List, [], ◌∷◌, ◌++◌, Some, None, sym, ◌∙◌, ap, subst, inl, inr}
-use Rattle.bbm_histories.specs.descriptor.Descriptor.{is_valid}
-use Rattle.bbm_histories.specs.rules.Claims.{Trust}
-use Rattle.bbm_histories.specs.rules.Held.{ValidWrite, last_valid, last_valid_after, later}
-use Rattle.bbm_histories.specs.rules.Notes.{Noted, event_of}
-use Rattle.bbm_histories.specs.rules.PatternSentences.{Answer, HalfBy, Publication}
-use Rattle.bbm_histories.specs.rules.Places.{page_of}
-use Rattle.bbm_histories.specs.rules.Prelude.{Barrier, Heading, Kind, Event, Init, Write, Dsb}
-use Rattle.bbm_histories.specs.rules.Reach.{Issued, completes}
-use Rattle.bbm_histories.specs.rules.Sentences.{Open}
+use Rattle.bbm_descriptor.specs.Descriptor.{is_valid}
+use Rattle.bbm_rules.specs.Claims.{Trust}
+use Rattle.bbm_rules.specs.Held.{ValidWrite, last_valid, last_valid_after, later}
+use Rattle.bbm_rules.specs.Notes.{Noted, event_of}
+use Rattle.bbm_rules.specs.PatternSentences.{Answer, HalfBy, Publication}
+use Rattle.bbm_rules.specs.Places.{page_of}
+use Rattle.bbm_rules.specs.Prelude.{Barrier, Heading, Kind, Event, Init, Write, Dsb}
+use Rattle.bbm_rules.specs.Reach.{Issued, completes}
+use Rattle.bbm_rules.specs.Sentences.{Open}
 use Rattle.bbm_tlb_machine.specs.Known.{Known}
 use Rattle.bbm_tlb_machine.proofs.ListWords.{bind_some}
 

@@ -1,9 +1,9 @@
 -- Elements of lists, splits, and PEs of a header.
 use Rattle.std.proofs.Common.{◌≡◌, ℕ, zero, suc, ◌+◌, ◌<◌, ◌≤◌, ◌⊎◌, ◌||◌, Bool, true, false, ◌==◌, List, [], ◌∷◌, ◌++◌, length, Contains, slice_index_or, refl, sym, ◌∙◌, ap, inl, inr, arith, true≢false, not-suc-le-zero, le_of_suc-le-suc, suc-le-suc, zero-le, length-append}
 use Rattle.std.proofs.lemmas.Bool.{eq-eqb, eqb-true, or_left, or_right}
-use Rattle.bbm_histories.specs.rules.Lists.{some_pe}
-use Rattle.bbm_histories.specs.rules.Notes.{Noted, events_of}
-use Rattle.bbm_histories.specs.rules.Prelude.{Event}
+use Rattle.bbm_rules.specs.Lists.{some_pe}
+use Rattle.bbm_rules.specs.Notes.{Noted, events_of}
+use Rattle.bbm_rules.specs.Prelude.{Event}
 
 pub contains_head : {X : Type 0} (xs : List X) (x : X) → Contains (x ∷ xs) x
 contains_head xs x = (0, suc-le-suc zero-le, refl)

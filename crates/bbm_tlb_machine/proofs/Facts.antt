@@ -1,20 +1,20 @@
 -- What a fine entry gives at once: the node, the value and the tag of its parts, in one place.
 use Rattle.std.proofs.Common.{◌≡◌, ℕ, ◌≤◌, ◌&&◌, Bool, true, false, List, [], ◌∷◌, ◌++◌, length, Some, is_none, refl, sym, ◌∙◌, ap, arith, true≢false}
 use Rattle.std.proofs.lemmas.Bool.{and_parts}
-use Rattle.bbm_histories.specs.regimes.declared.regime.Kind.{Kind}
-use Rattle.bbm_histories.specs.descriptor.Descriptor.{desc_of, is_valid}
-use Rattle.bbm_histories.specs.tlbi_scope.Agreement.{HasTag}
-use Rattle.bbm_histories.specs.tlbi_scope.declared.entry.TagSet.{TagSet}
-use Rattle.bbm_histories.specs.tlbi_scope.declared.entry.TagSet.TheVariants.{None as NoTag, One, Many}
-use Rattle.bbm_histories.specs.tlbi_scope.Takes.{is_global_leaf}
-use Rattle.bbm_histories.specs.rules.Broken.{broken, keeps}
-use Rattle.bbm_histories.specs.rules.Claims.{Trust}
-use Rattle.bbm_histories.specs.rules.Covers.{is_global, noted}
-use Rattle.bbm_histories.specs.rules.Held.{held}
-use Rattle.bbm_histories.specs.rules.Notes.{Noted}
-use Rattle.bbm_histories.specs.rules.Prelude.{Heading, Ttbr0, Event}
-use Rattle.bbm_histories.specs.rules.Tags.{holds_at, holds_tag, tag_set, tags_of}
-use Rattle.bbm_histories.specs.rules.Tree.{Node, held_at}
+use Rattle.bbm_regimes.specs.declared.regime.Kind.{Kind}
+use Rattle.bbm_descriptor.specs.Descriptor.{desc_of, is_valid}
+use Rattle.bbm_tlbi_scope.specs.Agreement.{HasTag}
+use Rattle.bbm_tlbi_scope.specs.declared.entry.TagSet.{TagSet}
+use Rattle.bbm_tlbi_scope.specs.declared.entry.TagSet.TheVariants.{None as NoTag, One, Many}
+use Rattle.bbm_tlbi_scope.specs.Takes.{is_global_leaf}
+use Rattle.bbm_rules.specs.Broken.{broken, keeps}
+use Rattle.bbm_rules.specs.Claims.{Trust}
+use Rattle.bbm_rules.specs.Covers.{is_global, noted}
+use Rattle.bbm_rules.specs.Held.{held}
+use Rattle.bbm_rules.specs.Notes.{Noted}
+use Rattle.bbm_rules.specs.Prelude.{Heading, Ttbr0, Event}
+use Rattle.bbm_rules.specs.Tags.{holds_at, holds_tag, tag_set, tags_of}
+use Rattle.bbm_rules.specs.Tree.{Node, held_at}
 use Rattle.bbm_tlb_machine.specs.Entry.{Entry, Part, desc_in, head_of, is_leaf, tag_of_entry}
 use Rattle.bbm_tlb_machine.specs.Invariant.{Fine, Holding, IsAt, Placed, Tagged}
 use Rattle.bbm_tlb_machine.specs.Known.{Known}

@@ -1,16 +1,16 @@
 -- The places of the parts of an entry lie in pages of the trees, where its root is declared and each place holds the core
 -- of what was read.
 use Rattle.std.proofs.Common.{◌≡◌, ℕ, suc, ◌+◌, ◌*◌, ◌<◌, true, List, [], ◌∷◌, Some, Contains, refl, sym, ◌∙◌, ap, subst, inl, inr}
-use Rattle.bbm_histories.specs.regimes.declared.regime.Kind.{Kind}
-use Rattle.bbm_histories.specs.descriptor.Descriptor.{is_valid}
-use Rattle.bbm_histories.specs.rules.Broken.{keeps}
-use Rattle.bbm_histories.specs.rules.Claims.{Trust}
-use Rattle.bbm_histories.specs.rules.Covers.{noted}
-use Rattle.bbm_histories.specs.rules.Notes.{Noted}
-use Rattle.bbm_histories.specs.rules.Places.{index_of, page_of}
-use Rattle.bbm_histories.specs.rules.Prelude.{Heading, Event, input_pages}
-use Rattle.bbm_histories.specs.rules.Roots.{is_root, roots_of}
-use Rattle.bbm_histories.specs.rules.Tree.{Node, next_in, next_of, node_below, nodes_of_root}
+use Rattle.bbm_regimes.specs.declared.regime.Kind.{Kind}
+use Rattle.bbm_descriptor.specs.Descriptor.{is_valid}
+use Rattle.bbm_rules.specs.Broken.{keeps}
+use Rattle.bbm_rules.specs.Claims.{Trust}
+use Rattle.bbm_rules.specs.Covers.{noted}
+use Rattle.bbm_rules.specs.Notes.{Noted}
+use Rattle.bbm_rules.specs.Places.{index_of, page_of}
+use Rattle.bbm_rules.specs.Prelude.{Heading, Event, input_pages}
+use Rattle.bbm_rules.specs.Roots.{is_root, roots_of}
+use Rattle.bbm_rules.specs.Tree.{Node, next_in, next_of, node_below, nodes_of_root}
 use Rattle.bbm_tlb_machine.specs.Entry.{Entry, Part}
 use Rattle.bbm_tlb_machine.specs.Invariant.{Begins, Chained, Holding, IsAt, IsBelow, Placed, start_nodes}
 use Rattle.bbm_tlb_machine.specs.Known.{Known}

@@ -4,10 +4,10 @@ use Rattle.std.proofs.lemmas.Bool.{eq-eqb, eqb-true, false_from_ne_true, or_left
 use Rattle.std.proofs.Math.Bool.{or_comm}
 use Rattle.std.proofs.Common.{add-one, drop-cons}
 use Rattle.std.proofs.lemmas.List.{reverse-append, take_more}
-use Rattle.bbm_histories.specs.rules.Lists.{among}
-use Rattle.bbm_histories.specs.rules.Places.{page_of}
-use Rattle.bbm_histories.specs.rules.Prelude.{Barrier, Heading, Event, Init, Write, Dsb}
-use Rattle.bbm_histories.specs.rules.Values.{published, publishes_for, publishes_to, readable_before}
+use Rattle.bbm_rules.specs.Lists.{among}
+use Rattle.bbm_rules.specs.Places.{page_of}
+use Rattle.bbm_rules.specs.Prelude.{Barrier, Heading, Event, Init, Write, Dsb}
+use Rattle.bbm_rules.specs.Values.{published, publishes_for, publishes_to, readable_before}
 
 -- a write at the place
 at_write : (v value : ℕ) (rest : List ℕ) (gone : Bool) → (v == value) ≡ false

@@ -1,27 +1,27 @@
 -- What a step of the machine makes of fine entries is fine: an entry that is started, extended, joined or copied.
 use Rattle.std.proofs.Common.{◌≡◌, ℕ, suc, ◌+◌, ◌<◌, ◌≤◌, nat_lt, true, false, List, [], ◌∷◌, length, Option, Some, None, Contains, refl, sym, ◌∙◌, ap, subst, inl, inr, arith, true≢false, length-append}
 use Rattle.std.proofs.lemmas.Bool.{and_parts, eqb-true, ltb-true}
-use Rattle.bbm_histories.specs.regimes.declared.regime.Kind.{Kind}
-use Rattle.bbm_histories.specs.descriptor.Descriptor.{is_valid, needs}
-use Rattle.bbm_histories.specs.tlbi_scope.Agreement.{read_through, tag_of}
-use Rattle.bbm_histories.specs.tlbi_scope.declared.entry.EntryKind.{EntryKind}
-use Rattle.bbm_histories.specs.tlbi_scope.declared.entry.EntryKind.TheVariants.{El2 as El2Entry, Stage2, Combined, El1}
-use Rattle.bbm_histories.specs.rules.Broken.{keeps}
-use Rattle.bbm_histories.specs.rules.Claims.{Trust}
-use Rattle.bbm_histories.specs.rules.Cleansing.{seen}
-use Rattle.bbm_histories.specs.rules.Covers.{noted}
-use Rattle.bbm_histories.specs.rules.Held.{ValidWrite, held, last_valid}
-use Rattle.bbm_histories.specs.rules.Lists.{is_that}
-use Rattle.bbm_histories.specs.rules.Notes.{Noted}
-use Rattle.bbm_histories.specs.rules.PatternSentences.{Cleansed, HalfBy, Publication}
-use Rattle.bbm_histories.specs.rules.Places.{page_of}
-use Rattle.bbm_histories.specs.rules.Prelude.{Heading, El2, S2, Ttbr0, Ttbr1, Tag, Vmid, Asid, Event, Dsb, kind_in_world}
-use Rattle.bbm_histories.specs.rules.Reach.{Issued}
-use Rattle.bbm_histories.specs.rules.Roots.{is_root}
-use Rattle.bbm_histories.specs.rules.Sentences.{HoldsTag, TakenAway}
-use Rattle.bbm_histories.specs.rules.Tags.{reads}
-use Rattle.bbm_histories.specs.rules.Tree.{Node, next_of}
-use Rattle.bbm_histories.specs.rules.Values.{is_readable}
+use Rattle.bbm_regimes.specs.declared.regime.Kind.{Kind}
+use Rattle.bbm_descriptor.specs.Descriptor.{is_valid, needs}
+use Rattle.bbm_tlbi_scope.specs.Agreement.{read_through, tag_of}
+use Rattle.bbm_tlbi_scope.specs.declared.entry.EntryKind.{EntryKind}
+use Rattle.bbm_tlbi_scope.specs.declared.entry.EntryKind.TheVariants.{El2 as El2Entry, Stage2, Combined, El1}
+use Rattle.bbm_rules.specs.Broken.{keeps}
+use Rattle.bbm_rules.specs.Claims.{Trust}
+use Rattle.bbm_rules.specs.Cleansing.{seen}
+use Rattle.bbm_rules.specs.Covers.{noted}
+use Rattle.bbm_rules.specs.Held.{ValidWrite, held, last_valid}
+use Rattle.bbm_rules.specs.Lists.{is_that}
+use Rattle.bbm_rules.specs.Notes.{Noted}
+use Rattle.bbm_rules.specs.PatternSentences.{Cleansed, HalfBy, Publication}
+use Rattle.bbm_rules.specs.Places.{page_of}
+use Rattle.bbm_rules.specs.Prelude.{Heading, El2, S2, Ttbr0, Ttbr1, Tag, Vmid, Asid, Event, Dsb, kind_in_world}
+use Rattle.bbm_rules.specs.Reach.{Issued}
+use Rattle.bbm_rules.specs.Roots.{is_root}
+use Rattle.bbm_rules.specs.Sentences.{HoldsTag, TakenAway}
+use Rattle.bbm_rules.specs.Tags.{reads}
+use Rattle.bbm_rules.specs.Tree.{Node, next_of}
+use Rattle.bbm_rules.specs.Values.{is_readable}
 use Rattle.bbm_histories.specs.Values.{Window}
 use Rattle.bbm_tlb_machine.specs.Entry.{Entry, Part, head_of, parts_of, tag_of_entry}
 use Rattle.bbm_tlb_machine.specs.Invariant.{Fine, Holding, IsAt, IsBelow, IsNear, Placed, Tagged, start_nodes}

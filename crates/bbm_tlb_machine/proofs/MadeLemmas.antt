@@ -1,8 +1,8 @@
 -- The entry that a line makes of an entry that was found.
 use Rattle.std.proofs.Common.{◌≡◌, ℕ, List, Option, Some, None, ◌∙◌, ap}
-use Rattle.bbm_histories.specs.rules.Lists.{◌>>=◌, if_so}
-use Rattle.bbm_histories.specs.rules.Prelude.{Heading, Event}
-use Rattle.bbm_histories.specs.events.declared.machine.MachineLine.TheVariants.{Extend, Share}
+use Rattle.bbm_rules.specs.Lists.{◌>>=◌, if_so}
+use Rattle.bbm_rules.specs.Prelude.{Heading, Event}
+use Rattle.bbm_events.specs.declared.machine.MachineLine.TheVariants.{Extend, Share}
 use Rattle.bbm_tlb_machine.specs.Entry.{Entry}
 use Rattle.bbm_tlb_machine.specs.Followed.{entry_made, found}
 use Rattle.bbm_tlb_machine.specs.Run.{Living}

@@ -3,28 +3,28 @@
 use Rattle.std.proofs.Common.{◌≡◌, ℕ, suc, ◌<◌, ◌≤◌, not, true, false, List, [], ◌∷◌, ◌++◌, length, Option, Some, None, Contains, refl, sym, ◌∙◌, ap, subst, inl, inr, arith, true≢false}
 use Rattle.std.proofs.lemmas.Bool.{and_parts}
 use Rattle.std.proofs.lemmas.List.{append_assoc}
-use Rattle.bbm_histories.specs.regimes.declared.regime.Kind.{Kind}
-use Rattle.bbm_histories.specs.tlbi_scope.Agreement.{read_through, tag_of}
-use Rattle.bbm_histories.specs.tlbi_scope.Numbers.{lacks_vmid as scope_lacks_vmid}
-use Rattle.bbm_histories.specs.tlbi_scope.Tags.{takes_whole_tag, whole_tag_by}
-use Rattle.bbm_histories.specs.tlbi_scope.Takes.{taken}
-use Rattle.bbm_histories.specs.tlbi_scope.declared.op.TlbiOp.{TlbiOp}
-use Rattle.bbm_histories.specs.tlbi_scope.declared.scope.Scope.{Scope}
-use Rattle.bbm_histories.specs.tlbi_scope.declared.entry.Cover.{Cover}
-use Rattle.bbm_histories.specs.tlbi_scope.declared.entry.Cover.TheVariants.{Half, Second, Full}
-use Rattle.bbm_histories.specs.tlbi_scope.declared.entry.EntryKind.{EntryKind}
-use Rattle.bbm_histories.specs.tlbi_scope.declared.entry.EntryKind.TheVariants.{Combined}
-use Rattle.bbm_histories.specs.rules.Broken.{keeps}
-use Rattle.bbm_histories.specs.rules.Claims.{Trust}
-use Rattle.bbm_histories.specs.rules.Covers.{note, noted}
-use Rattle.bbm_histories.specs.rules.Held.{ValidWrite, last_valid}
-use Rattle.bbm_histories.specs.rules.Notes.{Noted, events_of}
-use Rattle.bbm_histories.specs.rules.PatternSentences.{Answer, HalfBy, IsLastValid, Publication}
-use Rattle.bbm_histories.specs.rules.Prelude.{Barrier, Heading, El2, S2, Ttbr0, Ttbr1, Tag, Event, Dsb, Tlbi}
-use Rattle.bbm_histories.specs.rules.Reach.{Issued, completes, reaches, unanswered}
-use Rattle.bbm_histories.specs.rules.Registers.{named_scope, vmid_of}
-use Rattle.bbm_histories.specs.rules.Sentences.{Open, TakenAway}
-use Rattle.bbm_histories.specs.rules.Tags.{itself, takes_tag}
+use Rattle.bbm_regimes.specs.declared.regime.Kind.{Kind}
+use Rattle.bbm_tlbi_scope.specs.Agreement.{read_through, tag_of}
+use Rattle.bbm_tlbi_scope.specs.Numbers.{lacks_vmid as scope_lacks_vmid}
+use Rattle.bbm_tlbi_scope.specs.Tags.{takes_whole_tag, whole_tag_by}
+use Rattle.bbm_tlbi_scope.specs.Takes.{taken}
+use Rattle.bbm_tlbi_scope.specs.declared.op.TlbiOp.{TlbiOp}
+use Rattle.bbm_tlbi_scope.specs.declared.scope.Scope.{Scope}
+use Rattle.bbm_tlbi_scope.specs.declared.entry.Cover.{Cover}
+use Rattle.bbm_tlbi_scope.specs.declared.entry.Cover.TheVariants.{Half, Second, Full}
+use Rattle.bbm_tlbi_scope.specs.declared.entry.EntryKind.{EntryKind}
+use Rattle.bbm_tlbi_scope.specs.declared.entry.EntryKind.TheVariants.{Combined}
+use Rattle.bbm_rules.specs.Broken.{keeps}
+use Rattle.bbm_rules.specs.Claims.{Trust}
+use Rattle.bbm_rules.specs.Covers.{note, noted}
+use Rattle.bbm_rules.specs.Held.{ValidWrite, last_valid}
+use Rattle.bbm_rules.specs.Notes.{Noted, events_of}
+use Rattle.bbm_rules.specs.PatternSentences.{Answer, HalfBy, IsLastValid, Publication}
+use Rattle.bbm_rules.specs.Prelude.{Barrier, Heading, El2, S2, Ttbr0, Ttbr1, Tag, Event, Dsb, Tlbi}
+use Rattle.bbm_rules.specs.Reach.{Issued, completes, reaches, unanswered}
+use Rattle.bbm_rules.specs.Registers.{named_scope, vmid_of}
+use Rattle.bbm_rules.specs.Sentences.{Open, TakenAway}
+use Rattle.bbm_rules.specs.Tags.{itself, takes_tag}
 use Rattle.bbm_tlb_machine.specs.Entry.{Entry, Part, age_by, head_of, parts_of, tag_of_entry}
 use Rattle.bbm_tlb_machine.specs.Invariant.{Fine, Goes, IsNear, JoinedBefore, MadeBefore, Tagged, Taken, Unanswered, Uncleansed}
 use Rattle.bbm_tlb_machine.specs.Known.{Known}

@@ -1,9 +1,9 @@
 -- The parts of an entry one below the other: their kinds, and their regions, each inside that of a part above.
 use Rattle.std.proofs.Common.{◌≡◌, ℕ, suc, ◌+◌, ◌-◌, ◌*◌, ◌≤◌, ◌⊎◌, nat_le, true, List, [], ◌∷◌, Contains, sym, ◌∙◌, ap, subst, inl, inr, arith, mul-le-mul_right}
 use Rattle.std.proofs.lemmas.Bool.{and_from, le-leb}
-use Rattle.bbm_histories.specs.regimes.Extent.{holds}
-use Rattle.bbm_histories.specs.rules.Places.{index_of, page_of}
-use Rattle.bbm_histories.specs.rules.Prelude.{input_pages}
+use Rattle.bbm_regimes.specs.Extent.{holds}
+use Rattle.bbm_rules.specs.Places.{index_of, page_of}
+use Rattle.bbm_rules.specs.Prelude.{input_pages}
 use Rattle.bbm_tlb_machine.specs.Entry.{Part, region_in}
 use Rattle.bbm_tlb_machine.specs.Invariant.{Chained, IsBelow}
 use Rattle.bbm_tlb_machine.proofs.Descs.{pages_below, some_pages}

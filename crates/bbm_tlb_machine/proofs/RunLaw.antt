@@ -1,11 +1,11 @@
 -- The run that is computed is the run that the relation names.
 use Rattle.std.proofs.Common.{◌≡◌, ℕ, Bool, true, false, ◌&&◌, not, ◌↔◌, List, [], ◌∷◌, ◌++◌, length, Option, Some, None, Result, Ok, Err, Contains, refl, sym, ◌∙◌, ap, true≢false}
 use Rattle.std.proofs.lemmas.Bool.{and_from, and_left, and_parts, and_right, not_from_false}
-use Rattle.bbm_histories.specs.events.declared.machine.MachineLine.TheVariants.{Start, Extend, Combine, Share, Drop}
-use Rattle.bbm_histories.specs.rules.Lists.{◌>>=◌, any, if_so}
-use Rattle.bbm_histories.specs.rules.Prelude.{Barrier, Heading, Event, Dsb}
-use Rattle.bbm_histories.specs.rules.Reach.{Issued, completes, unanswered}
-use Rattle.bbm_histories.specs.rules.Tags.{itself}
+use Rattle.bbm_events.specs.declared.machine.MachineLine.TheVariants.{Start, Extend, Combine, Share, Drop}
+use Rattle.bbm_rules.specs.Lists.{◌>>=◌, any, if_so}
+use Rattle.bbm_rules.specs.Prelude.{Barrier, Heading, Event, Dsb}
+use Rattle.bbm_rules.specs.Reach.{Issued, completes, unanswered}
+use Rattle.bbm_rules.specs.Tags.{itself}
 use Rattle.bbm_tlb_machine.specs.declared.step.Step.{Step}
 use Rattle.bbm_tlb_machine.specs.declared.step.Step.TheVariants.{Machine, Event as Taken}
 use Rattle.bbm_tlb_machine.specs.Entry.{Entry}

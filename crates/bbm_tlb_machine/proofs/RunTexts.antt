@@ -2,13 +2,13 @@
 use Rattle.std.specs.Prelude.{ℕ, ◌+◌, List, [], ◌∷◌, ◌++◌, length, reverse, filter_map, Option, Some, None, Result, Ok, Err, codes, decimal}
 use Rattle.std.specs.Fmt.{digits}
 use Prim.Native.String.{String}
-use Rattle.bbm_histories.specs.events.declared.event.Item.{Item}
-use Rattle.bbm_histories.specs.events.declared.event.Item.TheVariants as item
-use Rattle.bbm_histories.specs.events.declared.malformed.Malformed.{Malformed}
-use Rattle.bbm_histories.specs.events.Heading.{Heading}
-use Rattle.bbm_histories.specs.events.Lines.{header_of, item_of}
-use Rattle.bbm_histories.specs.events.Machine.{machine_of}
-use Rattle.bbm_histories.specs.events.Spelling.{decimal_value, hex_value}
+use Rattle.bbm_events.specs.declared.event.Item.{Item}
+use Rattle.bbm_events.specs.declared.event.Item.TheVariants as item
+use Rattle.bbm_events.specs.declared.malformed.Malformed.{Malformed}
+use Rattle.bbm_events.specs.Heading.{Heading}
+use Rattle.bbm_events.specs.Lines.{header_of, item_of}
+use Rattle.bbm_events.specs.Machine.{machine_of}
+use Rattle.bbm_events.specs.Spelling.{decimal_value, hex_value}
 use Rattle.bbm_tlb_machine.specs.declared.step.Step.{Step}
 use Rattle.bbm_tlb_machine.specs.declared.step.Step.TheVariants.{Machine, Event as Taken}
 use Rattle.bbm_tlb_machine.specs.Run.{State, follow_steps}

@@ -1,20 +1,20 @@
 -- In each run over a log that keeps the rules each entry that is kept is fine; so the log is safe.
 use Rattle.std.proofs.Common.{◌≡◌, ℕ, suc, ◌<◌, ◌≤◌, arith, not, ◌&&◌, ◌==◌, nat_lt, Bool, true, false, cond, List, [], ◌∷◌, length, Option, Some, None, option_map, find, filter, Contains, refl, sym, ◌∙◌, ap, subst, inl, inr, true≢false}
 use Rattle.std.proofs.lemmas.Bool.{and_from, and_parts, eq-eqb, ltb-true, or_left, or_right}
-use Rattle.bbm_histories.specs.regimes.declared.regime.Kind.{Kind}
-use Rattle.bbm_histories.specs.descriptor.Descriptor.{needs}
-use Rattle.bbm_histories.specs.events.Fits.{fits_heading, is_value}
-use Rattle.bbm_histories.specs.events.declared.machine.MachineLine.TheVariants.{Start, Extend, Combine, Share, Drop}
-use Rattle.bbm_histories.specs.rules.declared.rule.Rule.TheVariants.{BreakBeforeMake}
-use Rattle.bbm_histories.specs.rules.Broken.{keeps}
-use Rattle.bbm_histories.specs.rules.Claims.{Trust, same_tag}
-use Rattle.bbm_histories.specs.rules.Covers.{noted}
-use Rattle.bbm_histories.specs.rules.Lists.{◌>>=◌, any, if_so}
-use Rattle.bbm_histories.specs.rules.Places.{page_of}
-use Rattle.bbm_histories.specs.rules.Prelude.{Barrier, Reg, Tag, Heading, Event, Init, Write, Dsb, Msr}
-use Rattle.bbm_histories.specs.rules.Reach.{completes, unanswered}
-use Rattle.bbm_histories.specs.rules.Tags.{Reading, holds_at, holds_tag, itself, reads, readings}
-use Rattle.bbm_histories.specs.rules.Tree.{Node, held_at, in_tree, node_of}
+use Rattle.bbm_regimes.specs.declared.regime.Kind.{Kind}
+use Rattle.bbm_descriptor.specs.Descriptor.{needs}
+use Rattle.bbm_events.specs.Fits.{fits_heading, is_value}
+use Rattle.bbm_events.specs.declared.machine.MachineLine.TheVariants.{Start, Extend, Combine, Share, Drop}
+use Rattle.bbm_rules.specs.declared.rule.Rule.TheVariants.{BreakBeforeMake}
+use Rattle.bbm_rules.specs.Broken.{keeps}
+use Rattle.bbm_rules.specs.Claims.{Trust, same_tag}
+use Rattle.bbm_rules.specs.Covers.{noted}
+use Rattle.bbm_rules.specs.Lists.{◌>>=◌, any, if_so}
+use Rattle.bbm_rules.specs.Places.{page_of}
+use Rattle.bbm_rules.specs.Prelude.{Barrier, Reg, Tag, Heading, Event, Init, Write, Dsb, Msr}
+use Rattle.bbm_rules.specs.Reach.{completes, unanswered}
+use Rattle.bbm_rules.specs.Tags.{Reading, holds_at, holds_tag, itself, reads, readings}
+use Rattle.bbm_rules.specs.Tree.{Node, held_at, in_tree, node_of}
 use Rattle.bbm_tlb_machine.specs.declared.step.Step.{Step}
 use Rattle.bbm_tlb_machine.specs.declared.step.Step.TheVariants.{Machine, Event as Taken}
 use Rattle.bbm_tlb_machine.specs.Entry.{Entry, Part, parts_of, tag_of_entry}

@@ -1,12 +1,12 @@
 -- The tests for conflicts say the same as the clauses of a safe log.
 use Rattle.std.proofs.Common.{◌≡◌, ℕ, Bool, true, false, ◌&&◌, not, ◌==◌, ◌↔◌, List, [], ◌∷◌, ◌++◌, length, Option, Some, None, Result, Ok, Err, Contains, refl, sym, ◌∙◌, ap, true≢false}
 use Rattle.std.proofs.lemmas.Bool.{eq-eqb, eqb-true, false_from_ne_true}
-use Rattle.bbm_histories.specs.descriptor.Descriptor.{needs}
-use Rattle.bbm_histories.specs.regimes.Same.{same_tag}
-use Rattle.bbm_histories.specs.rules.Lists.{any, if_so}
-use Rattle.bbm_histories.specs.rules.Places.{page_of}
-use Rattle.bbm_histories.specs.rules.Prelude.{Reg, Tag, El2Tag, Vmid, Asid, Ttbr1Tag, Heading, Event, Init, Write, Msr}
-use Rattle.bbm_histories.specs.rules.Tags.{Reading, readings}
+use Rattle.bbm_descriptor.specs.Descriptor.{needs}
+use Rattle.bbm_regimes.specs.Same.{same_tag}
+use Rattle.bbm_rules.specs.Lists.{any, if_so}
+use Rattle.bbm_rules.specs.Places.{page_of}
+use Rattle.bbm_rules.specs.Prelude.{Reg, Tag, El2Tag, Vmid, Asid, Ttbr1Tag, Heading, Event, Init, Write, Msr}
+use Rattle.bbm_rules.specs.Tags.{Reading, readings}
 use Rattle.bbm_tlb_machine.specs.declared.step.Step.{Step}
 use Rattle.bbm_tlb_machine.specs.declared.step.Step.TheVariants.{Machine, Event as Taken}
 use Rattle.bbm_tlb_machine.specs.Entry.{Entry, Part, parts_of, tag_of_entry}

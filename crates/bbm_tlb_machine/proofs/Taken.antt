@@ -1,23 +1,23 @@
 -- An unanswered TLBI that covers a place of a part, behind a barrier that publishes a write of it, takes the entry.
 use Rattle.std.proofs.Common.{◌≡◌, ℕ, ◌<◌, ◌≤◌, true, false, List, ◌∷◌, length, Some, Contains, sym, ◌∙◌, ap, subst, inl, inr, arith}
-use Rattle.bbm_histories.specs.tlbi_scope.Agreement.{read_through}
-use Rattle.bbm_histories.specs.tlbi_scope.Covers.{cover_by, fits_place}
-use Rattle.bbm_histories.specs.tlbi_scope.Takes.{taken as taken_by_scope}
-use Rattle.bbm_histories.specs.tlbi_scope.declared.entry.Cover.{Cover}
-use Rattle.bbm_histories.specs.tlbi_scope.declared.entry.Cover.TheVariants.{None as NoCover, Half, Second, Full}
-use Rattle.bbm_histories.specs.tlbi_scope.declared.entry.EntryKind.{EntryKind}
-use Rattle.bbm_histories.specs.tlbi_scope.declared.entry.EntryKind.TheVariants.{Stage2, Combined}
-use Rattle.bbm_histories.specs.rules.Broken.{keeps}
-use Rattle.bbm_histories.specs.rules.Claims.{Trust}
-use Rattle.bbm_histories.specs.rules.Covers.{noted}
-use Rattle.bbm_histories.specs.rules.Held.{ValidWrite, last_valid}
-use Rattle.bbm_histories.specs.rules.Notes.{Noted, events_of}
-use Rattle.bbm_histories.specs.rules.PatternSentences.{HalfBy, Publication}
-use Rattle.bbm_histories.specs.rules.Prelude.{Heading, Event, S2}
-use Rattle.bbm_histories.specs.rules.Reach.{Issued, reaches}
-use Rattle.bbm_histories.specs.rules.Registers.{vmid_of}
-use Rattle.bbm_histories.specs.rules.Sentences.{Open, completes_for}
-use Rattle.bbm_histories.specs.rules.Tags.{itself}
+use Rattle.bbm_tlbi_scope.specs.Agreement.{read_through}
+use Rattle.bbm_tlbi_scope.specs.Covers.{cover_by, fits_place}
+use Rattle.bbm_tlbi_scope.specs.Takes.{taken as taken_by_scope}
+use Rattle.bbm_tlbi_scope.specs.declared.entry.Cover.{Cover}
+use Rattle.bbm_tlbi_scope.specs.declared.entry.Cover.TheVariants.{None as NoCover, Half, Second, Full}
+use Rattle.bbm_tlbi_scope.specs.declared.entry.EntryKind.{EntryKind}
+use Rattle.bbm_tlbi_scope.specs.declared.entry.EntryKind.TheVariants.{Stage2, Combined}
+use Rattle.bbm_rules.specs.Broken.{keeps}
+use Rattle.bbm_rules.specs.Claims.{Trust}
+use Rattle.bbm_rules.specs.Covers.{noted}
+use Rattle.bbm_rules.specs.Held.{ValidWrite, last_valid}
+use Rattle.bbm_rules.specs.Notes.{Noted, events_of}
+use Rattle.bbm_rules.specs.PatternSentences.{HalfBy, Publication}
+use Rattle.bbm_rules.specs.Prelude.{Heading, Event, S2}
+use Rattle.bbm_rules.specs.Reach.{Issued, reaches}
+use Rattle.bbm_rules.specs.Registers.{vmid_of}
+use Rattle.bbm_rules.specs.Sentences.{Open, completes_for}
+use Rattle.bbm_rules.specs.Tags.{itself}
 use Rattle.bbm_tlb_machine.specs.Entry.{Entry, Part, age_by, head_of, parts_of}
 use Rattle.bbm_tlb_machine.specs.Invariant.{Fine, Goes, IsNear, Taken, Unanswered}
 use Rattle.bbm_tlb_machine.specs.Known.{Known}

@@ -1,10 +1,10 @@
 -- Bytes whose first line is a header, with a log that is safe under it.
 use Rattle.std.specs.Prelude.{◌≡◌, ℕ, List, ◌∷◌, Ok}
-use Rattle.bbm_histories.specs.events.Lines.{header_of}
-use Rattle.bbm_histories.specs.rules.Claims.{Trust}
-use Rattle.bbm_histories.specs.rules.Outcome.{outcome_of, text_of}
-use Rattle.bbm_histories.specs.rules.Prelude.{Heading}
-use Rattle.bbm_histories.specs.rules.declared.limits.Limits.{Limits}
+use Rattle.bbm_events.specs.Lines.{header_of}
+use Rattle.bbm_rules.specs.Claims.{Trust}
+use Rattle.bbm_rules.specs.Outcome.{outcome_of, text_of}
+use Rattle.bbm_rules.specs.Prelude.{Heading}
+use Rattle.bbm_rules.specs.declared.limits.Limits.{Limits}
 use Rattle.bbm_tlb_machine.specs.Safe.{Safe}
 
 -- Safe bytes: the first line is this header, and the log of all events that were read under it is safe.

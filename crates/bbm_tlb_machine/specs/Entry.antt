@@ -1,19 +1,19 @@
 -- What a TLB keeps: an entry, made by reading descriptors one after the other, from a root down.
 -- Source: Arm ARM (DDI 0487), "Translation Lookaside Buffers"; the form of an entry is the project's own choice.
 use Rattle.std.specs.Prelude.{ℕ, ◌+◌, ◌-◌, Bool, true, false, List, ◌∷◌}
-use Rattle.bbm_histories.specs.regimes.Extent.{Extent}
-use Rattle.bbm_histories.specs.descriptor.Descriptor.{desc_of}
-use Rattle.bbm_histories.specs.descriptor.declared.desc.Desc.{Desc}
-use Rattle.bbm_histories.specs.descriptor.declared.desc.Desc.TheVariants.{Leaf}
-use Rattle.bbm_histories.specs.tlbi_scope.declared.entry.EntryHead.{EntryHead}
-use Rattle.bbm_histories.specs.tlbi_scope.declared.entry.EntryKind.{EntryKind}
-use Rattle.bbm_histories.specs.tlbi_scope.declared.entry.EntryKind.TheVariants.{Combined}
-use Rattle.bbm_histories.specs.tlbi_scope.declared.scope.Family.{Family}
-use Rattle.bbm_histories.specs.tlbi_scope.declared.scope.Family.TheVariants.{VmAll1}
-use Rattle.bbm_histories.specs.tlbi_scope.Agreement.{tag_of}
-use Rattle.bbm_histories.specs.rules.Covers.{is_global}
-use Rattle.bbm_histories.specs.rules.Prelude.{Kind, Tag}
-use Rattle.bbm_histories.specs.rules.Roots.{input_pages}
+use Rattle.bbm_regimes.specs.Extent.{Extent}
+use Rattle.bbm_descriptor.specs.Descriptor.{desc_of}
+use Rattle.bbm_descriptor.specs.declared.desc.Desc.{Desc}
+use Rattle.bbm_descriptor.specs.declared.desc.Desc.TheVariants.{Leaf}
+use Rattle.bbm_tlbi_scope.specs.declared.entry.EntryHead.{EntryHead}
+use Rattle.bbm_tlbi_scope.specs.declared.entry.EntryKind.{EntryKind}
+use Rattle.bbm_tlbi_scope.specs.declared.entry.EntryKind.TheVariants.{Combined}
+use Rattle.bbm_tlbi_scope.specs.declared.scope.Family.{Family}
+use Rattle.bbm_tlbi_scope.specs.declared.scope.Family.TheVariants.{VmAll1}
+use Rattle.bbm_tlbi_scope.specs.Agreement.{tag_of}
+use Rattle.bbm_rules.specs.Covers.{is_global}
+use Rattle.bbm_rules.specs.Prelude.{Kind, Tag}
+use Rattle.bbm_rules.specs.Roots.{input_pages}
 
 -- Part: a descriptor as it was read: its place, the value that was read, the kind and the level at which it was read,
 -- and the first input page that its place translates.

@@ -1,7 +1,7 @@
 -- The first step that is none, and the first event at which a clause of Safe fails, as what `follow` and `conflict`
 -- name. Lists are newest first. Source: project's own choice.
 use Rattle.std.specs.Prelude.{◌≡◌, ℕ, true, List, ◌∷◌, ◌++◌, length, None}
-use Rattle.bbm_histories.specs.rules.Prelude.{Heading, Event}
+use Rattle.bbm_rules.specs.Prelude.{Heading, Event}
 use Rattle.bbm_tlb_machine.specs.declared.step.Step.{Step}
 use Rattle.bbm_tlb_machine.specs.declared.step.Step.TheVariants.{Event as Taken}
 use Rattle.bbm_tlb_machine.specs.Run.{IsRun, Leads, State}

@@ -1,9 +1,9 @@
 -- What `follow` has where it stands in a run.
 use Rattle.std.specs.Prelude.{◌≡◌, ℕ, Bool, true, false, ◌==◌, List, Option, None, Ok, Err, length, find, option_map}
-use Rattle.bbm_histories.specs.events.declared.machine.MachineLine.{MachineLine}
-use Rattle.bbm_histories.specs.events.declared.machine.MachineLine.TheVariants.{Start, Extend, Combine, Share, Drop}
-use Rattle.bbm_histories.specs.rules.Lists.{◌>>=◌, if_so}
-use Rattle.bbm_histories.specs.rules.Prelude.{Heading, Event}
+use Rattle.bbm_events.specs.declared.machine.MachineLine.{MachineLine}
+use Rattle.bbm_events.specs.declared.machine.MachineLine.TheVariants.{Start, Extend, Combine, Share, Drop}
+use Rattle.bbm_rules.specs.Lists.{◌>>=◌, if_so}
+use Rattle.bbm_rules.specs.Prelude.{Heading, Event}
 use Rattle.bbm_tlb_machine.specs.declared.step.Step.{Step}
 use Rattle.bbm_tlb_machine.specs.Entry.{Entry}
 use Rattle.bbm_tlb_machine.specs.Pendings.{IsPending, Pending}

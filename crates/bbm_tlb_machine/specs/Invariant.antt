@@ -3,22 +3,22 @@
 -- Source: project's own choice.
 use Rattle.std.specs.Prelude.{◌≡◌, ℕ, suc, ◌+◌, ◌*◌, ◌<◌, ◌≤◌, ◌⊎◌, true, false, List, [], ◌∷◌, ◌++◌, length, Some}
 use Rattle.std.specs.Prelude.{Contains}
-use Rattle.bbm_histories.specs.descriptor.Descriptor.{is_valid, needs}
-use Rattle.bbm_histories.specs.tlbi_scope.Agreement.{read_through}
-use Rattle.bbm_histories.specs.tlbi_scope.declared.entry.Cover.{Cover}
-use Rattle.bbm_histories.specs.tlbi_scope.declared.entry.Cover.TheVariants.{Half, Second, Full}
-use Rattle.bbm_histories.specs.tlbi_scope.declared.entry.EntryKind.TheVariants.{Stage2, Combined}
-use Rattle.bbm_histories.specs.rules.Claims.{Trust}
-use Rattle.bbm_histories.specs.rules.Covers.{noted}
-use Rattle.bbm_histories.specs.rules.Held.{ValidWrite, held, last_valid}
-use Rattle.bbm_histories.specs.rules.Notes.{Noted, event_of, events_of}
-use Rattle.bbm_histories.specs.rules.PatternSentences.{Cleansed, HalfBy, Publication}
-use Rattle.bbm_histories.specs.rules.Places.{index_of, page_of}
-use Rattle.bbm_histories.specs.rules.Prelude.{Heading, Kind, Event, first_input_page, input_pages, start_of}
-use Rattle.bbm_histories.specs.rules.Reach.{Issued, reaches}
-use Rattle.bbm_histories.specs.rules.Roots.{root_pages}
-use Rattle.bbm_histories.specs.rules.Sentences.{HoldsTag, Open}
-use Rattle.bbm_histories.specs.rules.Tree.{Node, next_of, nodes_of_pages, region_start, tree}
+use Rattle.bbm_descriptor.specs.Descriptor.{is_valid, needs}
+use Rattle.bbm_tlbi_scope.specs.Agreement.{read_through}
+use Rattle.bbm_tlbi_scope.specs.declared.entry.Cover.{Cover}
+use Rattle.bbm_tlbi_scope.specs.declared.entry.Cover.TheVariants.{Half, Second, Full}
+use Rattle.bbm_tlbi_scope.specs.declared.entry.EntryKind.TheVariants.{Stage2, Combined}
+use Rattle.bbm_rules.specs.Claims.{Trust}
+use Rattle.bbm_rules.specs.Covers.{noted}
+use Rattle.bbm_rules.specs.Held.{ValidWrite, held, last_valid}
+use Rattle.bbm_rules.specs.Notes.{Noted, event_of, events_of}
+use Rattle.bbm_rules.specs.PatternSentences.{Cleansed, HalfBy, Publication}
+use Rattle.bbm_rules.specs.Places.{index_of, page_of}
+use Rattle.bbm_rules.specs.Prelude.{Heading, Kind, Event, first_input_page, input_pages, start_of}
+use Rattle.bbm_rules.specs.Reach.{Issued, reaches}
+use Rattle.bbm_rules.specs.Roots.{root_pages}
+use Rattle.bbm_rules.specs.Sentences.{HoldsTag, Open}
+use Rattle.bbm_rules.specs.Tree.{Node, next_of, nodes_of_pages, region_start, tree}
 use Rattle.bbm_tlb_machine.specs.Entry.{Entry, Part, parts_of, tag_of_entry}
 use Rattle.bbm_tlb_machine.specs.Step.{must_go}
 

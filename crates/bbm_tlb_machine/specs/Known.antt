@@ -1,36 +1,36 @@
 -- What the crates below prove of their definitions, as one record, so that each proof here takes it as one hypothesis.
 use Rattle.std.specs.Prelude.{◌≡◌, ℕ, suc, ◌<◌, true, false, List, ◌∷◌, ◌++◌, length, Option, Some, None, Contains}
-use Rattle.bbm_histories.specs.descriptor.Descriptor.{core_of, is_valid, needs, same_core}
-use Rattle.bbm_histories.specs.descriptor.declared.desc.Core.{Core}
-use Rattle.bbm_histories.specs.tlbi_scope.Agreement.{Agrees, read_through, tag_of}
-use Rattle.bbm_histories.specs.tlbi_scope.Covers.{cover_of}
-use Rattle.bbm_histories.specs.tlbi_scope.declared.entry.Cover.TheVariants.{Half, Second, Full}
-use Rattle.bbm_histories.specs.tlbi_scope.declared.entry.EntryHead.{EntryHead}
-use Rattle.bbm_histories.specs.tlbi_scope.declared.entry.EntryKind.TheVariants.{Stage2, Combined}
-use Rattle.bbm_histories.specs.tlbi_scope.declared.entry.PlaceView.{PlaceView}
-use Rattle.bbm_histories.specs.tlbi_scope.declared.entry.TagSet.TheVariants.{None as NoTag, One}
-use Rattle.bbm_histories.specs.tlbi_scope.declared.scope.Scope.{Scope}
-use Rattle.bbm_histories.specs.tlbi_scope.Tags.{takes_whole_tag}
-use Rattle.bbm_histories.specs.tlbi_scope.Takes.{is_global_leaf, taken}
-use Rattle.bbm_histories.specs.rules.declared.rule.Rule.{Rule}
-use Rattle.bbm_histories.specs.rules.Broken.{breaks, keeps}
-use Rattle.bbm_histories.specs.rules.Claims.{Trust, same_tag}
-use Rattle.bbm_histories.specs.rules.Cleansing.{seen}
-use Rattle.bbm_histories.specs.rules.Covers.{cover_at, noted}
-use Rattle.bbm_histories.specs.rules.Held.{ValidWrite, held, last_valid}
-use Rattle.bbm_histories.specs.rules.Notes.{Noted, events_of}
-use Rattle.bbm_histories.specs.rules.PatternSentences.{HalfBy, Holds, IsLastValid, Publication, Seen}
-use Rattle.bbm_histories.specs.rules.Places.{page_of}
-use Rattle.bbm_histories.specs.rules.Prelude.{Heading, Kind, Ttbr0, Tag, Event, Init}
-use Rattle.bbm_histories.specs.rules.Reach.{Issued, reaches, unanswered}
-use Rattle.bbm_histories.specs.rules.Roots.{Declared, is_root, roots_of, start_of}
-use Rattle.bbm_histories.specs.rules.Sentences.{IsDeclared, Open}
-use Rattle.bbm_histories.specs.rules.Tags.{holds_tag, itself, reads, tag_set, tags_of}
-use Rattle.bbm_histories.specs.rules.TagSentences.{ReadsTag}
-use Rattle.bbm_histories.specs.rules.Tree.{Node, held_at, in_tree, is_childless, next_of, node_below, node_of, nodes_of_root}
-use Rattle.bbm_histories.specs.rules.Tree.{tree}
-use Rattle.bbm_histories.specs.rules.TreeSentences.{Childless, IsNode}
-use Rattle.bbm_histories.specs.rules.Values.{is_readable}
+use Rattle.bbm_descriptor.specs.Descriptor.{core_of, is_valid, needs, same_core}
+use Rattle.bbm_descriptor.specs.declared.desc.Core.{Core}
+use Rattle.bbm_tlbi_scope.specs.Agreement.{Agrees, read_through, tag_of}
+use Rattle.bbm_tlbi_scope.specs.Covers.{cover_of}
+use Rattle.bbm_tlbi_scope.specs.declared.entry.Cover.TheVariants.{Half, Second, Full}
+use Rattle.bbm_tlbi_scope.specs.declared.entry.EntryHead.{EntryHead}
+use Rattle.bbm_tlbi_scope.specs.declared.entry.EntryKind.TheVariants.{Stage2, Combined}
+use Rattle.bbm_tlbi_scope.specs.declared.entry.PlaceView.{PlaceView}
+use Rattle.bbm_tlbi_scope.specs.declared.entry.TagSet.TheVariants.{None as NoTag, One}
+use Rattle.bbm_tlbi_scope.specs.declared.scope.Scope.{Scope}
+use Rattle.bbm_tlbi_scope.specs.Tags.{takes_whole_tag}
+use Rattle.bbm_tlbi_scope.specs.Takes.{is_global_leaf, taken}
+use Rattle.bbm_rules.specs.declared.rule.Rule.{Rule}
+use Rattle.bbm_rules.specs.Broken.{breaks, keeps}
+use Rattle.bbm_rules.specs.Claims.{Trust, same_tag}
+use Rattle.bbm_rules.specs.Cleansing.{seen}
+use Rattle.bbm_rules.specs.Covers.{cover_at, noted}
+use Rattle.bbm_rules.specs.Held.{ValidWrite, held, last_valid}
+use Rattle.bbm_rules.specs.Notes.{Noted, events_of}
+use Rattle.bbm_rules.specs.PatternSentences.{HalfBy, Holds, IsLastValid, Publication, Seen}
+use Rattle.bbm_rules.specs.Places.{page_of}
+use Rattle.bbm_rules.specs.Prelude.{Heading, Kind, Ttbr0, Tag, Event, Init}
+use Rattle.bbm_rules.specs.Reach.{Issued, reaches, unanswered}
+use Rattle.bbm_rules.specs.Roots.{Declared, is_root, roots_of, start_of}
+use Rattle.bbm_rules.specs.Sentences.{IsDeclared, Open}
+use Rattle.bbm_rules.specs.Tags.{holds_tag, itself, reads, tag_set, tags_of}
+use Rattle.bbm_rules.specs.TagSentences.{ReadsTag}
+use Rattle.bbm_rules.specs.Tree.{Node, held_at, in_tree, is_childless, next_of, node_below, node_of, nodes_of_root}
+use Rattle.bbm_rules.specs.Tree.{tree}
+use Rattle.bbm_rules.specs.TreeSentences.{Childless, IsNode}
+use Rattle.bbm_rules.specs.Values.{is_readable}
 use Rattle.bbm_histories.specs.Tags.{HeldBetween, kind_of_tag}
 use Rattle.bbm_histories.specs.Tree.{HeldBy, HeldChange, NoGlobalLeaf, Proper, StaysChildless, View}
 use Rattle.bbm_histories.specs.Values.{Window}

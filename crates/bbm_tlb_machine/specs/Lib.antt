@@ -10,5 +10,3 @@ pub mod Registers
 pub mod Run
 pub mod Safe
 pub mod Step
-pub use Rattle.bbm_histories.specs.events
-pub use Rattle.bbm_histories.specs.rules

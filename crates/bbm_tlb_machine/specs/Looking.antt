@@ -1,10 +1,10 @@
 -- What a look at one event tells of the readable values of a place, on the way back through a history.
 use Rattle.std.specs.Prelude.{◌≡◌, ℕ, true, false, List, ◌∷◌}
-use Rattle.bbm_histories.specs.regimes.declared.pe.PeMask.{PeMask}
-use Rattle.bbm_histories.specs.regimes.PeMask.{pe_in}
-use Rattle.bbm_histories.specs.rules.Lists.{among}
-use Rattle.bbm_histories.specs.rules.Prelude.{Heading, Event}
-use Rattle.bbm_histories.specs.rules.Values.{published, readable_before}
+use Rattle.bbm_regimes.specs.declared.pe.PeMask.{PeMask}
+use Rattle.bbm_regimes.specs.PeMask.{pe_in}
+use Rattle.bbm_rules.specs.Lists.{among}
+use Rattle.bbm_rules.specs.Prelude.{Heading, Event}
+use Rattle.bbm_rules.specs.Values.{published, readable_before}
 use Rattle.bbm_tlb_machine.specs.declared.looking.Look.{Look}
 use Rattle.bbm_tlb_machine.specs.declared.looking.Look.TheVariants.{Found, Gone, Further}
 

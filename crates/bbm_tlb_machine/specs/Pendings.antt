@@ -2,14 +2,14 @@
 use Rattle.std.specs.Prelude.{◌≡◌, ℕ, Bool, ◌&&◌, ◌==◌, nat_le, List, length, map, filter, Option, None, is_none}
 use Rattle.std.specs.Prelude.{if◌then◌else◌}
 use Rattle.std.specs.Result.{result_ok}
-use Rattle.bbm_histories.specs.tlbi_scope.declared.scope.Family.{Family}
-use Rattle.bbm_histories.specs.tlbi_scope.declared.scope.Family.TheVariants.{El2All}
-use Rattle.bbm_histories.specs.tlbi_scope.Operations.{family_of, scoped_by_vmid}
-use Rattle.bbm_histories.specs.rules.Lists.{any}
-use Rattle.bbm_histories.specs.rules.Prelude.{Barrier, TlbiOp, Scope, scope_of, Heading, Event, Tlbi}
-use Rattle.bbm_histories.specs.rules.Reach.{Issued, completes, reaches, unanswered}
-use Rattle.bbm_histories.specs.rules.Registers.{named_scope, vmid_of}
-use Rattle.bbm_histories.specs.rules.Tags.{itself}
+use Rattle.bbm_tlbi_scope.specs.declared.scope.Family.{Family}
+use Rattle.bbm_tlbi_scope.specs.declared.scope.Family.TheVariants.{El2All}
+use Rattle.bbm_tlbi_scope.specs.Operations.{family_of, scoped_by_vmid}
+use Rattle.bbm_rules.specs.Lists.{any}
+use Rattle.bbm_rules.specs.Prelude.{Barrier, TlbiOp, Scope, scope_of, Heading, Event, Tlbi}
+use Rattle.bbm_rules.specs.Reach.{Issued, completes, reaches, unanswered}
+use Rattle.bbm_rules.specs.Registers.{named_scope, vmid_of}
+use Rattle.bbm_rules.specs.Tags.{itself}
 use Rattle.bbm_tlb_machine.specs.Entry.{Entry, age_for}
 use Rattle.bbm_tlb_machine.specs.Run.{Living}
 use Rattle.bbm_tlb_machine.specs.Step.{takes_by}

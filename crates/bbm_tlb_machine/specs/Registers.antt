@@ -1,7 +1,7 @@
 -- The current ASIDs by the register that names them.
 use Rattle.std.specs.Prelude.{ℕ, List, [], map, Option, Some, None}
-use Rattle.bbm_histories.specs.rules.Prelude.{Reg, Event}
-use Rattle.bbm_histories.specs.rules.Registers.{register_values, tag_number}
+use Rattle.bbm_rules.specs.Prelude.{Reg, Event}
+use Rattle.bbm_rules.specs.Registers.{register_values, tag_number}
 
 abbrev pub asids_by : Option Reg → List Event → ℕ → List ℕ
 asids_by None h p = []

@@ -2,11 +2,11 @@
 -- Source: project's own choice.
 use Rattle.std.specs.Prelude.{◌≡◌, ℕ, suc, Bool, true, false, ◌&&◌, not, ◌==◌, List, [], ◌∷◌, length, Option}
 use Rattle.std.specs.Prelude.{Some, None, Result, Ok, Err, filter, find, option_map, Contains}
-use Rattle.bbm_histories.specs.events.declared.machine.MachineLine.TheVariants.{Start, Extend, Combine, Share, Drop}
-use Rattle.bbm_histories.specs.rules.Lists.{◌>>=◌, any, if_so}
-use Rattle.bbm_histories.specs.rules.Prelude.{Heading, Event, Dsb}
-use Rattle.bbm_histories.specs.rules.Reach.{Issued, completes, unanswered}
-use Rattle.bbm_histories.specs.rules.Tags.{itself}
+use Rattle.bbm_events.specs.declared.machine.MachineLine.TheVariants.{Start, Extend, Combine, Share, Drop}
+use Rattle.bbm_rules.specs.Lists.{◌>>=◌, any, if_so}
+use Rattle.bbm_rules.specs.Prelude.{Heading, Event, Dsb}
+use Rattle.bbm_rules.specs.Reach.{Issued, completes, unanswered}
+use Rattle.bbm_rules.specs.Tags.{itself}
 use Rattle.bbm_tlb_machine.specs.declared.step.Step.{Step}
 use Rattle.bbm_tlb_machine.specs.declared.step.Step.TheVariants.{Machine, Event as Taken}
 use Rattle.bbm_tlb_machine.specs.Entry.{Entry}

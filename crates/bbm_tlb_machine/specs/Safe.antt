@@ -3,14 +3,14 @@
 -- Lookaside Buffers"; what counts as a conflict is the project's own choice.
 use Rattle.std.specs.Prelude.{◌≡◌, ℕ, Bool, true, false, ◌&&◌, not, ◌==◌, List, [], ◌∷◌, ◌++◌, length, Option, Some}
 use Rattle.std.specs.Prelude.{None, Result, Ok, Contains}
-use Rattle.bbm_histories.specs.descriptor.Descriptor.{needs}
-use Rattle.bbm_histories.specs.events.Fits.{fits_heading}
-use Rattle.bbm_histories.specs.events.Heading.{heading_ok}
-use Rattle.bbm_histories.specs.rules.Lists.{any, if_so}
-use Rattle.bbm_histories.specs.rules.Places.{page_of}
-use Rattle.bbm_histories.specs.rules.Prelude.{Reg, Heading, Event, Init, Write, Msr}
-use Rattle.bbm_histories.specs.rules.Tags.{Reading, readings}
-use Rattle.bbm_histories.specs.regimes.Same.{same_tag}
+use Rattle.bbm_descriptor.specs.Descriptor.{needs}
+use Rattle.bbm_events.specs.Fits.{fits_heading}
+use Rattle.bbm_events.specs.Heading.{heading_ok}
+use Rattle.bbm_rules.specs.Lists.{any, if_so}
+use Rattle.bbm_rules.specs.Places.{page_of}
+use Rattle.bbm_rules.specs.Prelude.{Reg, Heading, Event, Init, Write, Msr}
+use Rattle.bbm_rules.specs.Tags.{Reading, readings}
+use Rattle.bbm_regimes.specs.Same.{same_tag}
 use Rattle.bbm_tlb_machine.specs.declared.step.Step.{Step}
 use Rattle.bbm_tlb_machine.specs.declared.step.Step.TheVariants.{Event as Taken}
 use Rattle.bbm_tlb_machine.specs.Entry.{Entry, Part, parts_of, tag_of_entry}

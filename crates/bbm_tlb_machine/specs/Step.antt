@@ -5,21 +5,21 @@
 -- project's own choice is named.
 use Rattle.std.specs.Prelude.{◌≡◌, ℕ, suc, ◌+◌, ◌-◌, ◌*◌, ◌/◌, Bool, true, false, ◌&&◌, ◌==◌, nat_le, nat_lt, List}
 use Rattle.std.specs.Prelude.{[], length, map, Option, Some, None}
-use Rattle.bbm_histories.specs.descriptor.Descriptor.{is_valid}
-use Rattle.bbm_histories.specs.tlbi_scope.declared.entry.EntryKind.{EntryKind}
-use Rattle.bbm_histories.specs.tlbi_scope.declared.entry.EntryKind.TheVariants.{El2 as El2Entry, Stage2, Combined, El1}
-use Rattle.bbm_histories.specs.tlbi_scope.Operations.{family_of}
-use Rattle.bbm_histories.specs.tlbi_scope.Takes.{taken}
-use Rattle.bbm_histories.specs.rules.Lists.{among, is_that}
-use Rattle.bbm_histories.specs.rules.Places.{index_of, page_of}
-use Rattle.bbm_histories.specs.rules.Prelude.{AsidFrom, FromTtbr0, FromTtbr1, Kind, El2, S2, Ttbr0, Ttbr1, Reg, Ttbr0El1}
-use Rattle.bbm_histories.specs.rules.Prelude.{Ttbr1El1, World, Hyp, Kernel, Scope, Heading, Event, Tlbi}
-use Rattle.bbm_histories.specs.rules.Reach.{Issued, reaches}
-use Rattle.bbm_histories.specs.rules.Registers.{named_scope, register_values, tag_number, vmid_of}
-use Rattle.bbm_histories.specs.rules.Roots.{first_input_page, input_pages, page_count, start_of}
-use Rattle.bbm_histories.specs.rules.Tags.{reads}
-use Rattle.bbm_histories.specs.rules.Tree.{next_of}
-use Rattle.bbm_histories.specs.rules.Values.{is_readable}
+use Rattle.bbm_descriptor.specs.Descriptor.{is_valid}
+use Rattle.bbm_tlbi_scope.specs.declared.entry.EntryKind.{EntryKind}
+use Rattle.bbm_tlbi_scope.specs.declared.entry.EntryKind.TheVariants.{El2 as El2Entry, Stage2, Combined, El1}
+use Rattle.bbm_tlbi_scope.specs.Operations.{family_of}
+use Rattle.bbm_tlbi_scope.specs.Takes.{taken}
+use Rattle.bbm_rules.specs.Lists.{among, is_that}
+use Rattle.bbm_rules.specs.Places.{index_of, page_of}
+use Rattle.bbm_rules.specs.Prelude.{AsidFrom, FromTtbr0, FromTtbr1, Kind, El2, S2, Ttbr0, Ttbr1, Reg, Ttbr0El1}
+use Rattle.bbm_rules.specs.Prelude.{Ttbr1El1, World, Hyp, Kernel, Scope, Heading, Event, Tlbi}
+use Rattle.bbm_rules.specs.Reach.{Issued, reaches}
+use Rattle.bbm_rules.specs.Registers.{named_scope, register_values, tag_number, vmid_of}
+use Rattle.bbm_rules.specs.Roots.{first_input_page, input_pages, page_count, start_of}
+use Rattle.bbm_rules.specs.Tags.{reads}
+use Rattle.bbm_rules.specs.Tree.{next_of}
+use Rattle.bbm_rules.specs.Values.{is_readable}
 use Rattle.bbm_tlb_machine.specs.Entry.{Entry, Part, age_for, head_of, parts_of, tag_of_entry}
 
 -- Start: the first part of an entry.

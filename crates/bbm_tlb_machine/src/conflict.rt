@@ -1,17 +1,17 @@
 //! The entries that conflict with an event.
 
 ghost use Rattle.std.specs.Prelude.{◌≡◌, ◌==◌, List, ◌∷◌, reverse, IfOk};
-ghost use Rattle.bbm_histories.specs.events.declared.event.Event.{Event as TheEvent};
-ghost use Rattle.bbm_histories.specs.rules.Lists.{any};
-ghost use Rattle.bbm_histories.specs.rules.Places.{page_of};
+ghost use Rattle.bbm_events.specs.declared.event.Event.{Event as TheEvent};
+ghost use Rattle.bbm_rules.specs.Lists.{any};
+ghost use Rattle.bbm_rules.specs.Places.{page_of};
 ghost use Rattle.bbm_tlb_machine.specs.Entry.{parts_of};
 ghost use Rattle.bbm_tlb_machine.specs.Safe as spec;
 
 use crate::entry::Entry;
 use crate::living::Living;
-use bbm_histories::events::{Event, Header};
-use bbm_histories::regimes::{NoMemory, Page, Place, same_tag};
+use bbm_events::{Event, Header};
 use bbm_oracle_tags::{Reading, readings_at};
+use bbm_regimes::{NoMemory, Page, Place, same_tag};
 use std::alloc::Global;
 
 /// Whether an entry has a part at the place from which the value needs break-before-make.

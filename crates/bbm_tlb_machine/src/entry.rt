@@ -1,17 +1,17 @@
 //! What a TLB keeps.
 
 ghost use Rattle.std.specs.Prelude.{◌≡◌, ◌≤◌, ◌<◌, ◌==◌, ◌++◌, true, IfOk, OnOk};
-ghost use Rattle.bbm_histories.specs.descriptor.Descriptor.{is_valid as is_valid_value};
-ghost use Rattle.bbm_histories.specs.rules.Lists.{any, is_that};
-ghost use Rattle.bbm_histories.specs.rules.Tree.{next_of};
-ghost use Rattle.bbm_histories.specs.rules.Places.{page_of};
+ghost use Rattle.bbm_descriptor.specs.Descriptor.{is_valid as is_valid_value};
+ghost use Rattle.bbm_rules.specs.Lists.{any, is_that};
+ghost use Rattle.bbm_rules.specs.Tree.{next_of};
+ghost use Rattle.bbm_rules.specs.Places.{page_of};
 ghost use Rattle.bbm_tlb_machine.specs.Entry as spec;
 ghost use Rattle.bbm_tlb_machine.specs.Safe.{is_stale as is_stale_part};
 
-use bbm_histories::descriptor::{Desc, core, needs_bbm, read};
-use bbm_histories::events::input_pages;
-use bbm_histories::regimes::{Interval, Kind, NoMemory, Page, Pe, Place, Tag};
-use bbm_histories::tlbi_scope::{EntryHead, EntryKind, Family};
+use bbm_descriptor::{Desc, core, needs_bbm, read};
+use bbm_events::input_pages;
+use bbm_regimes::{Interval, Kind, NoMemory, Page, Pe, Place, Tag};
+use bbm_tlbi_scope::{EntryHead, EntryKind, Family};
 use std::alloc::Global;
 use std::marker::Model;
 

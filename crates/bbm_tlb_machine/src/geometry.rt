@@ -1,11 +1,11 @@
 //! Where the pages of a root begin, and which input pages its descriptors translate.
 
 ghost use Rattle.std.specs.Prelude.{◌≡◌, ◌+◌, ◌<◌, ◌≤◌, ◌^◌, ◌/◌, ◌*◌, ◌-◌};
-ghost use Rattle.bbm_histories.specs.regimes.World as spec;
+ghost use Rattle.bbm_regimes.specs.World as spec;
 ghost use Rattle.bbm_tlb_machine.specs.Step.{root_of as root_with};
 
-use bbm_histories::events::{Header, input_pages};
-use bbm_histories::regimes::{Kind, Place};
+use bbm_events::{Header, input_pages};
+use bbm_regimes::{Kind, Place};
 
 /// The bytes of all pages of a root of the kind.
 fn root_size(header: &Header, kind: Kind) -> u64

@@ -1,8 +1,8 @@
 //! Laws of the machine: what computes says the same as the sentences.
 
 ghost use Rattle.std.specs.Prelude.{◌≡◌, ◌↔◌, ℕ, false, List, ◌∷◌, ◌++◌, Some, None, Ok, Err};
-ghost use Rattle.bbm_histories.specs.events.Heading.{Heading};
-ghost use Rattle.bbm_histories.specs.events.declared.event.Event.{Event};
+ghost use Rattle.bbm_events.specs.Heading.{Heading};
+ghost use Rattle.bbm_events.specs.declared.event.Event.{Event};
 ghost use Rattle.bbm_tlb_machine.specs.declared.step.Step.{Step};
 ghost use Rattle.bbm_tlb_machine.specs.declared.step.Step.TheVariants.{Event as Taken};
 ghost use Rattle.bbm_tlb_machine.specs.First.{IsFirstConflict, IsFirstBad};

@@ -14,7 +14,6 @@ pub mod safety;
 mod starting;
 pub mod step;
 
-pub use bbm_histories::{events, rules};
 pub use entry::{Entry, Part};
 pub use laws::{law_conflict, law_run};
 pub use looking::can_read;

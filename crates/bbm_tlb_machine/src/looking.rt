@@ -1,13 +1,13 @@
 //! Which values of a place a PE may still read.
 
 ghost use Rattle.std.specs.Prelude.{◌≡◌, List, reverse};
-ghost use Rattle.bbm_histories.specs.events.declared.event.Event.{Event};
-ghost use Rattle.bbm_histories.specs.rules.Values.{is_readable};
+ghost use Rattle.bbm_events.specs.declared.event.Event.{Event};
+ghost use Rattle.bbm_rules.specs.Values.{is_readable};
 ghost use Rattle.bbm_tlb_machine.specs.Looking.{Marks, Says};
 
-use bbm_histories::events::{Event, Header};
-use bbm_histories::regimes::{Pe, PeMask, Place};
+use bbm_events::{Event, Header};
 use bbm_oracle_tags::publishes_for;
+use bbm_regimes::{Pe, PeMask, Place};
 
 /// What a look at one event tells, on the way back through the events.
 #[derive(Clone, Copy, Debug)]

@@ -2,10 +2,10 @@
 //! Source: project's own choice, where no other is named.
 
 ghost use Rattle.std.specs.Prelude.{◌≡◌, ℕ, ◌+◌, ◌-◌, ◌<◌, ◌≤◌, ◌^◌, true, List, [], ◌∷◌, None, Some, Err, length, reverse, IfOk, OnOk, is_some};
-ghost use Rattle.bbm_histories.specs.events.Heading.{Heading};
-ghost use Rattle.bbm_histories.specs.events.declared.event.Event.{Event as TheEvent};
-ghost use Rattle.bbm_histories.specs.events.declared.machine.MachineLine.TheVariants.{Drop as DropLine};
-ghost use Rattle.bbm_histories.specs.rules.Lists.{any, if_so};
+ghost use Rattle.bbm_events.specs.Heading.{Heading};
+ghost use Rattle.bbm_events.specs.declared.event.Event.{Event as TheEvent};
+ghost use Rattle.bbm_events.specs.declared.machine.MachineLine.TheVariants.{Drop as DropLine};
+ghost use Rattle.bbm_rules.specs.Lists.{any, if_so};
 ghost use Rattle.bbm_tlb_machine.specs.declared.step.Step.{Step as TheStep};
 ghost use Rattle.bbm_tlb_machine.specs.declared.step.Step.TheVariants.{Machine as MachineStep, Event as EventStep};
 ghost use Rattle.bbm_tlb_machine.specs.Followed.{Follows, GoesOn, entry_made};
@@ -19,9 +19,9 @@ use crate::living::{Living, drop_at, living_at};
 use crate::making::made_by;
 use crate::pending::{Pending, leaves_any, take_event};
 use crate::step::Step;
-use bbm_histories::barriers::Dsb;
-use bbm_histories::events::{Event, Header, MachineLine};
-use bbm_histories::regimes::{NoMemory, Pe};
+use bbm_barriers::Dsb;
+use bbm_events::{Event, Header, MachineLine};
+use bbm_regimes::{NoMemory, Pe};
 use std::alloc::Global;
 use std::marker::Model;
 

@@ -1,14 +1,14 @@
 //! The entry that a line of a run makes.
 
 ghost use Rattle.std.specs.Prelude.{◌≡◌, reverse, IfOk};
-ghost use Rattle.bbm_histories.specs.events.declared.machine.MachineLine.TheVariants as lines;
+ghost use Rattle.bbm_events.specs.declared.machine.MachineLine.TheVariants as lines;
 ghost use Rattle.bbm_tlb_machine.specs.Followed.{entry_made};
 
 use crate::entry::Entry;
 use crate::living::{Living, entry_at};
 use crate::starting::{combine, extend, share, start};
-use bbm_histories::events::{Event, Header, MachineLine};
-use bbm_histories::regimes::{NoMemory, Pe, Place};
+use bbm_events::{Event, Header, MachineLine};
+use bbm_regimes::{NoMemory, Pe, Place};
 use std::alloc::Global;
 
 /// The entry that has one part more than the one with this number.

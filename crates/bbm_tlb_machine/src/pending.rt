@@ -1,16 +1,16 @@
 //! The TLBIs that no DSB has answered yet, and the entries that they must have taken by then.
 
 ghost use Rattle.std.specs.Prelude.{◌≡◌, ◌∷◌, not, filter, reverse, OnOk};
-ghost use Rattle.bbm_histories.specs.rules.Prelude.{Tlbi};
+ghost use Rattle.bbm_rules.specs.Prelude.{Tlbi};
 ghost use Rattle.bbm_tlb_machine.specs.Pendings as spec;
 
 use crate::entry::Entry;
 use crate::living::Living;
-use bbm_histories::barriers::Dsb;
-use bbm_histories::events::{Event, Header};
-use bbm_histories::regimes::{NoMemory, Pe};
-use bbm_histories::tlbi_scope::{Scope, TlbiOp, decode, takes};
+use bbm_barriers::Dsb;
+use bbm_events::{Event, Header};
 use bbm_oracle_tags::{completes, reaches, vmid_of};
+use bbm_regimes::{NoMemory, Pe};
+use bbm_tlbi_scope::{Scope, TlbiOp, decode, takes};
 use std::alloc::Global;
 use std::marker::Model;
 

@@ -1,13 +1,13 @@
 //! The law of safe logs: no TLB keeps what a write, an init or a new root needs gone.
 
 ghost use Rattle.std.specs.Prelude.{◌≡◌, ℕ, true, List, Contains};
-ghost use Rattle.bbm_histories.specs.events.Heading.{Heading, heading_ok};
-ghost use Rattle.bbm_histories.specs.events.declared.event.Event.{Event};
-ghost use Rattle.bbm_histories.specs.rules.Broken.{keeps};
-ghost use Rattle.bbm_histories.specs.rules.Claims.{Trust};
-ghost use Rattle.bbm_histories.specs.rules.Outcome.{verdict_of_bytes};
-ghost use Rattle.bbm_histories.specs.rules.declared.limits.Limits.{Limits};
-ghost use Rattle.bbm_histories.specs.rules.declared.verdict.Verdict.TheVariants.{Accepted};
+ghost use Rattle.bbm_events.specs.Heading.{Heading, heading_ok};
+ghost use Rattle.bbm_events.specs.declared.event.Event.{Event};
+ghost use Rattle.bbm_rules.specs.Broken.{keeps};
+ghost use Rattle.bbm_rules.specs.Claims.{Trust};
+ghost use Rattle.bbm_rules.specs.Outcome.{verdict_of_bytes};
+ghost use Rattle.bbm_rules.specs.declared.limits.Limits.{Limits};
+ghost use Rattle.bbm_rules.specs.declared.verdict.Verdict.TheVariants.{Accepted};
 ghost use Rattle.bbm_tlb_machine.specs.Accepted.{SafeBytes};
 ghost use Rattle.bbm_tlb_machine.specs.declared.step.Step.{Step};
 ghost use Rattle.bbm_tlb_machine.specs.Invariant.{Fine, Taken};
@@ -15,18 +15,18 @@ ghost use Rattle.bbm_tlb_machine.specs.Known.{Known};
 ghost use Rattle.bbm_tlb_machine.specs.Run.{IsRun, Living, State};
 ghost use Rattle.bbm_tlb_machine.specs.Safe.{IsLog, Safe};
 
-use bbm_histories::descriptor::laws::{law_need, law_same_core_is_equal};
-use bbm_histories::events::{law_header_in_range, law_item_fits};
-use bbm_histories::rules::{
-    law_answered, law_childless, law_each_rule, law_equality_tests, law_held, law_last_valid,
-    law_notes, law_notes_keep_the_events, law_readable_tag, law_root, law_root_pages, law_seen,
-    law_tag_set, law_tree,
-};
-use bbm_histories::tlbi_scope::{law_cover_takes, law_whole_tag_takes};
+use bbm_descriptor::laws::{law_need, law_same_core_is_equal};
+use bbm_events::{law_header_in_range, law_item_fits};
 use bbm_histories::{
     law_frozen_view, law_held_changes, law_limbo_is_empty, law_lower_leaves, law_one_node,
     law_one_position, law_patterns_stay, law_proper, law_tags, law_uniform, law_window,
 };
+use bbm_rules::{
+    law_answered, law_childless, law_each_rule, law_equality_tests, law_held, law_last_valid,
+    law_notes, law_notes_keep_the_events, law_readable_tag, law_root, law_root_pages, law_seen,
+    law_tag_set, law_tree,
+};
+use bbm_tlbi_scope::{law_cover_takes, law_whole_tag_takes};
 
 /// The laws of the crates below that the law of safe logs stands on.
 fn known()

@@ -1,12 +1,12 @@
 //! The entries that a step makes.
 
 ghost use Rattle.std.specs.Prelude.{◌≡◌, ℕ, ◌+◌, ◌<◌, ◌&&◌, ◌==◌, List, length, reverse, IfOk};
-ghost use Rattle.bbm_histories.specs.events.declared.event.Event.{Event as TheEvent};
-ghost use Rattle.bbm_histories.specs.rules.Lists.{among, any, if_so};
-ghost use Rattle.bbm_histories.specs.rules.Registers.{tag_number as number_in};
-ghost use Rattle.bbm_histories.specs.rules.Tags.{reads};
-ghost use Rattle.bbm_histories.specs.rules.Values.{is_readable};
-ghost use Rattle.bbm_histories.specs.descriptor.Descriptor.{is_valid as is_valid_value};
+ghost use Rattle.bbm_events.specs.declared.event.Event.{Event as TheEvent};
+ghost use Rattle.bbm_rules.specs.Lists.{among, any, if_so};
+ghost use Rattle.bbm_rules.specs.Registers.{tag_number as number_in};
+ghost use Rattle.bbm_rules.specs.Tags.{reads};
+ghost use Rattle.bbm_rules.specs.Values.{is_readable};
+ghost use Rattle.bbm_descriptor.specs.Descriptor.{is_valid as is_valid_value};
 ghost use Rattle.bbm_tlb_machine.specs.Entry.{tag_of_entry};
 ghost use Rattle.bbm_tlb_machine.specs.Step as spec;
 ghost use Rattle.bbm_tlb_machine.specs.Registers.{asids_by};
@@ -14,11 +14,11 @@ ghost use Rattle.bbm_tlb_machine.specs.Registers.{asids_by};
 use crate::entry::{Entry, Part, is_valid};
 use crate::geometry::{first_of, root_of};
 use crate::looking::can_read;
-use bbm_histories::events::{Event, Header, input_pages};
-use bbm_histories::regimes::{AsidFrom, Kind, NoMemory, Pe, Place, Reg, World, tag_number};
-use bbm_histories::tlbi_scope::EntryKind;
+use bbm_events::{Event, Header, input_pages};
 use bbm_oracle_tags::readings::is_read;
 use bbm_oracle_tags::{readings_at, register_values};
+use bbm_regimes::{AsidFrom, Kind, NoMemory, Pe, Place, Reg, World, tag_number};
+use bbm_tlbi_scope::EntryKind;
 use std::alloc::Global;
 
 /// The kind of the entries that are read through tables of the kind.

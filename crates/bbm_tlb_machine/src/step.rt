@@ -1,6 +1,6 @@
 //! The steps of a run.
 
-use bbm_histories::events::{Event, MachineLine};
+use bbm_events::{Event, MachineLine};
 
 /// One step of a run: an event of its log, or what a TLB does between two events. Source: project's own
 /// choice.

@@ -9,4 +9,3 @@ pub mod TagSets
 pub mod Agreement
 pub mod Ranges
 pub mod Same
-pub use Rattle.bbm_range.specs as range

@@ -3,8 +3,8 @@ use Rattle.std.proofs.Common.{◌≡◌, ℕ, ◌<◌, ◌⊎◌, ◌&&◌, Bool
 use Rattle.indexmap.specs.IndexMap.{IndexMap, get}
 use Rattle.bbm_place_map.specs.Map.{value_at}
 use Rattle.bbm_place_map.specs.declared.map.PlaceMap.{PlaceMap}
-use Rattle.bbm_rules.specs.regimes.World.{first_input_page, kind_in_world, page_count, start_of}
-use Rattle.bbm_rules.specs.regimes.declared.regime.Kind.{Kind}
+use Rattle.bbm_regimes.specs.World.{first_input_page, kind_in_world, page_count, start_of}
+use Rattle.bbm_regimes.specs.declared.regime.Kind.{Kind}
 use Rattle.bbm_rules.specs.Places.{page_of}
 use Rattle.bbm_rules.specs.Roots.{pages_from}
 use Rattle.bbm_rules.specs.Tree.{Node, node_below, nodes_of_pages}

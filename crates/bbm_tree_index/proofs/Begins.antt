@@ -2,10 +2,10 @@
 use Rattle.std.proofs.Common.{◌≡◌, ℕ, suc, ◌≤◌, ◌<◌, ◌+◌, ◌*◌, ◌^◌, true, List, [], ◌∷◌, Option, Some, None, Contains, length, sym, ap, ◌∙◌, subst, arith}
 use Rattle.std.proofs.lemmas.Option.{none-some, same_Some}
 use Rattle.indexmap.specs.IndexMap.{IndexMap}
-use Rattle.bbm_rules.specs.events.Heading.{heading_ok}
+use Rattle.bbm_events.specs.Heading.{heading_ok}
 use Rattle.bbm_place_map.specs.Map.{value_at}
 use Rattle.bbm_place_map.specs.declared.map.PlaceMap.{PlaceMap}
-use Rattle.bbm_rules.specs.regimes.declared.regime.Kind.{Kind}
+use Rattle.bbm_regimes.specs.declared.regime.Kind.{Kind}
 use Rattle.bbm_rules.specs.Places.{page_of}
 use Rattle.bbm_rules.specs.Roots.{page_count, start_of}
 use Rattle.bbm_rules.specs.Tree.{Node, node_below}

@@ -1,8 +1,8 @@
 -- Nodes depend on the roles of the pages of trees alone.
 use Rattle.std.proofs.Common.{◌≡◌, ℕ, zero, suc, List, ◌∷◌, Some, None, refl, sym, ap, ◌∙◌, Bool, true, false, ◌==◌, if◌then◌else◌}
 use Rattle.std.proofs.lemmas.Bool.{eqb-true}
-use Rattle.bbm_rules.specs.events.Heading.{Heading}
-use Rattle.bbm_rules.specs.regimes.declared.regime.Kind.{Kind}
+use Rattle.bbm_events.specs.Heading.{Heading}
+use Rattle.bbm_regimes.specs.declared.regime.Kind.{Kind}
 use Rattle.bbm_rules.specs.Places.{page_of}
 use Rattle.bbm_rules.specs.Tree.{Above}
 use Rattle.bbm_tree_index.specs.Nodes.{above_by, is_fresh_role, node_by, node_with}

@@ -5,7 +5,7 @@ use Rattle.indexmap.specs.IndexMap.{get}
 use Rattle.bbm_place_map.specs.declared.map.PlaceMap.{PlaceMap}
 use Rattle.bbm_rules.specs.Lists.{any}
 use Rattle.bbm_rules.specs.Tree.{Node}
-use Rattle.bbm_rules.specs.regimes.declared.regime.Kind.{Kind}
+use Rattle.bbm_regimes.specs.declared.regime.Kind.{Kind}
 use Rattle.bbm_tree_index.specs.Climbs.{cut_by}
 use Rattle.bbm_tree_index.proofs.Cutting.{cut_node}
 use Rattle.bbm_tree_index.specs.Agreement.{Agrees, IsSound, Sound}

@@ -1,6 +1,6 @@
 -- Whether a place is in limbo, by the role of its page.
 use Rattle.std.proofs.Common.{◌≡◌, ℕ, ◌<◌, ◌≤◌, Some, refl, ap, arith}
-use Rattle.bbm_rules.specs.regimes.declared.regime.Kind.{Kind}
+use Rattle.bbm_regimes.specs.declared.regime.Kind.{Kind}
 use Rattle.bbm_rules.specs.Tree.{Node}
 use Rattle.bbm_tree_index.specs.Agreement.{IsSound}
 use Rattle.bbm_tree_index.specs.Index.{heading_of, node_in, role_in}

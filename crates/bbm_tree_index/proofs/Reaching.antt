@@ -2,9 +2,9 @@
 use Rattle.std.proofs.Common.{◌≡◌, ℕ, zero, suc, ◌<◌, ◌+◌, ◌==◌, Bool, true, false, List, [], ◌∷◌, Some, None, Contains, length, inl, inr, refl, sym, ap, ◌∙◌, subst, true≢false, arith}
 use Rattle.std.proofs.lemmas.Bool.{eqb-true, eq-eqb}
 use Rattle.std.proofs.lemmas.Option.{none-some}
-use Rattle.bbm_rules.specs.descriptor.Descriptor.{desc_as, invalid, leaf}
-use Rattle.bbm_rules.specs.descriptor.Fields.{type_bits}
-use Rattle.bbm_rules.specs.regimes.declared.regime.Kind.{Kind}
+use Rattle.bbm_descriptor.specs.Descriptor.{desc_as, invalid, leaf}
+use Rattle.bbm_descriptor.specs.Fields.{type_bits}
+use Rattle.bbm_regimes.specs.declared.regime.Kind.{Kind}
 use Rattle.bbm_rules.specs.Attach.{end_at}
 use Rattle.bbm_rules.specs.Tree.{Node, next_in, next_of, node_below}
 use Rattle.bbm_tree_index.specs.Judged.{IsUnfresh, Never}

@@ -2,13 +2,13 @@
 use Rattle.std.proofs.Common.{◌≡◌, ℕ, zero, suc, ◌<◌, ◌≤◌, ◌+◌, ◌-◌, ◌*◌, ◌%◌, ◌^◌, Bool, true, false, cond, ◌||◌, ◌==◌, arith, inl, inr, subst, sym}
 use Rattle.std.proofs.lemmas.Bool.{and_parts, eqb-true, leb-true, ltb-true, or_cases}
 use Rattle.std.proofs.lemmas.Option.{same_Some}
-use Rattle.bbm_rules.specs.events.Fits.{is_root_page}
-use Rattle.bbm_rules.specs.events.Heading.{Heading, heading_ok}
-use Rattle.bbm_rules.specs.regimes.World.{first_input_page, input_pages, page_count, start_of, world_ok}
-use Rattle.bbm_rules.specs.regimes.declared.regime.Kind.{Kind}
-use Rattle.bbm_rules.specs.regimes.declared.regime.Kind.TheVariants.{El2, S2, Ttbr0, Ttbr1}
-use Rattle.bbm_rules.specs.regimes.declared.regime.World.{World}
-use Rattle.bbm_rules.specs.regimes.declared.regime.World.TheVariants.{Hyp, Kernel}
+use Rattle.bbm_events.specs.Fits.{is_root_page}
+use Rattle.bbm_events.specs.Heading.{Heading, heading_ok}
+use Rattle.bbm_regimes.specs.World.{first_input_page, input_pages, page_count, start_of, world_ok}
+use Rattle.bbm_regimes.specs.declared.regime.Kind.{Kind}
+use Rattle.bbm_regimes.specs.declared.regime.Kind.TheVariants.{El2, S2, Ttbr0, Ttbr1}
+use Rattle.bbm_regimes.specs.declared.regime.World.{World}
+use Rattle.bbm_regimes.specs.declared.regime.World.TheVariants.{Hyp, Kernel}
 use Rattle.bbm_tree_index.specs.Spots.{Fits, RoleFits}
 use Rattle.bbm_tree_index.specs.declared.role.Role.TheVariants.{RootPage}
 

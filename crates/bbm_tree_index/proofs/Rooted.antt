@@ -2,8 +2,8 @@
 use Rattle.std.proofs.Common.{◌≡◌, ℕ, zero, suc, ◌<◌, ◌≤◌, ◌+◌, ◌-◌, ◌*◌, ◌/◌, ◌%◌, ◌^◌, ◌==◌, Bool, true, false, List, [], Option, Some, None, Contains, is_some, refl, sym, ap, ◌∙◌, subst, true≢false, if◌then◌else◌, arith, add-one}
 use Rattle.std.proofs.lemmas.Bool.{eqb-true, eq-eqb}
 use Rattle.std.proofs.lemmas.Option.{none-some, same_Some}
-use Rattle.bbm_rules.specs.events.Heading.{Heading}
-use Rattle.bbm_rules.specs.regimes.declared.regime.Kind.{Kind}
+use Rattle.bbm_events.specs.Heading.{Heading}
+use Rattle.bbm_regimes.specs.declared.regime.Kind.{Kind}
 use Rattle.bbm_rules.specs.Roots.{first_input_page, input_pages, kind_in_world, page_count, pages_from, start_of}
 use Rattle.bbm_rules.specs.Tree.{Node, nodes_of_pages, nodes_of_root}
 use Rattle.bbm_tree_index.specs.Spots.{RoleFits, spot_with}

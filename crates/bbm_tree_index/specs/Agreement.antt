@@ -1,9 +1,9 @@
 -- Which tree indexes are sound, and when one agrees with a map. Source: project's own choice.
 use Rattle.std.specs.Prelude.{◌≡◌, ℕ, suc, ◌+◌, ◌*◌, ◌<◌, ◌≤◌, ◌%◌, ◌^◌, true, List, ◌∷◌, Some, None}
-use Rattle.bbm_rules.specs.events.Heading.{Heading}
+use Rattle.bbm_events.specs.Heading.{Heading}
 use Rattle.bbm_place_map.specs.Map.{marks_at}
 use Rattle.bbm_place_map.specs.declared.map.PlaceMap.{PlaceMap}
-use Rattle.bbm_rules.specs.regimes.declared.regime.Kind.{Kind}
+use Rattle.bbm_regimes.specs.declared.regime.Kind.{Kind}
 use Rattle.bbm_rules.specs.Places.{page_of}
 use Rattle.bbm_rules.specs.Roots.{input_pages}
 use Rattle.bbm_rules.specs.Tree.{Above, Node, node_below, region_start}

@@ -1,9 +1,9 @@
 -- What the code asks of the places above a page, by the roles alone. Source: project's own choice.
 use Rattle.std.specs.Prelude.{ℕ, zero, suc, Bool, true, false, not, ◌||◌, ◌==◌}
-use Rattle.bbm_rules.specs.descriptor.Descriptor.{is_valid}
+use Rattle.bbm_descriptor.specs.Descriptor.{is_valid}
 use Rattle.bbm_place_map.specs.Map.{value_at}
 use Rattle.bbm_place_map.specs.declared.map.PlaceMap.{PlaceMap}
-use Rattle.bbm_rules.specs.regimes.declared.regime.Kind.{Kind}
+use Rattle.bbm_regimes.specs.declared.regime.Kind.{Kind}
 use Rattle.bbm_rules.specs.Places.{page_of}
 use Rattle.bbm_tree_index.specs.Held.{holds_at}
 use Rattle.bbm_tree_index.specs.declared.climb.Asked.{Asked}

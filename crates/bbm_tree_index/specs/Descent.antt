@@ -1,7 +1,7 @@
 -- Going down a tree along an input page. Source: Arm ARM (DDI 0487), "VMSAv8-64 translation table walks".
 use Rattle.std.specs.Prelude.{◌≡◌, ℕ, ◌+◌, ◌<◌, ◌≤◌, true, List, [], ◌∷◌, Option, Some}
-use Rattle.bbm_rules.specs.descriptor.declared.desc.Core.{Core}
-use Rattle.bbm_rules.specs.regimes.declared.regime.Kind.{Kind}
+use Rattle.bbm_descriptor.specs.declared.desc.Core.{Core}
+use Rattle.bbm_regimes.specs.declared.regime.Kind.{Kind}
 use Rattle.bbm_rules.specs.Roots.{input_pages}
 use Rattle.bbm_rules.specs.Tree.{Node, region_start}
 use Rattle.bbm_tree_index.specs.Held.{is_at, next_in}

@@ -1,7 +1,7 @@
 -- What a tree index says of each page. Source: project's own choice.
 use Rattle.std.specs.Prelude.{◌≡◌, ℕ, Bool, Option, is_some, unwrap_or, nat_eq}
 use Rattle.indexmap.specs.IndexMap.{get, index_map_len}
-use Rattle.bbm_rules.specs.events.Heading.{Heading}
+use Rattle.bbm_events.specs.Heading.{Heading}
 use Rattle.bbm_rules.specs.Tree.{Node}
 use Rattle.bbm_tree_index.specs.Nodes.{is_fresh_role, is_null_role, node_by}
 use Rattle.bbm_tree_index.specs.declared.index.TreeIndex.{TreeIndex}

@@ -1,13 +1,13 @@
 -- Whether pages can be attached. Source: project's own choice.
 use Rattle.std.specs.Prelude.{◌≡◌, ℕ, ◌+◌, ◌<◌, ◌≤◌, ◌⊎◌, Bool, true, false, ◌&&◌, List, [], length, Some}
 use Rattle.std.specs.Prelude.{Contains, Result, Ok, Err}
-use Rattle.bbm_rules.specs.descriptor.Descriptor.{desc_of}
-use Rattle.bbm_rules.specs.descriptor.declared.desc.Desc.{Desc}
-use Rattle.bbm_rules.specs.events.Fits.{is_root_page}
-use Rattle.bbm_rules.specs.regimes.Same.{same_kind}
-use Rattle.bbm_rules.specs.regimes.World.{kind_in_world}
-use Rattle.bbm_rules.specs.regimes.declared.regime.Kind.{Kind}
-use Rattle.bbm_rules.specs.regimes.declared.regime.Kind.TheVariants.{Ttbr0}
+use Rattle.bbm_descriptor.specs.Descriptor.{desc_of}
+use Rattle.bbm_descriptor.specs.declared.desc.Desc.{Desc}
+use Rattle.bbm_events.specs.Fits.{is_root_page}
+use Rattle.bbm_regimes.specs.Same.{same_kind}
+use Rattle.bbm_regimes.specs.World.{kind_in_world}
+use Rattle.bbm_regimes.specs.declared.regime.Kind.{Kind}
+use Rattle.bbm_regimes.specs.declared.regime.Kind.TheVariants.{Ttbr0}
 use Rattle.bbm_rules.specs.Attach.{End}
 use Rattle.bbm_rules.specs.Covers.{is_global}
 use Rattle.bbm_rules.specs.Places.{page_of}

@@ -12,4 +12,3 @@ pub mod Hanging
 pub mod Least
 pub mod Descent
 pub mod Prepared
-pub use Rattle.bbm_place_map.specs as place_map

@@ -1,7 +1,7 @@
 -- What the roles of all pages say of the trees. A role stands for a page, and a table of roles is read as a function of
 -- the page. Source: project's own choice.
 use Rattle.std.specs.Prelude.{ℕ, suc, ◌+◌, ◌*◌, Bool, true, false, List, [], ◌∷◌, Option, Some, None}
-use Rattle.bbm_rules.specs.events.Heading.{Heading}
+use Rattle.bbm_events.specs.Heading.{Heading}
 use Rattle.bbm_rules.specs.Places.{page_of}
 use Rattle.bbm_rules.specs.Roots.{first_input_page, input_pages, start_of}
 use Rattle.bbm_rules.specs.Tree.{Above, Node, region_of}

@@ -1,7 +1,7 @@
 -- Paths through fresh pages, and what attaching adds to the trees. Source: project's own choice.
 use Rattle.std.specs.Prelude.{◌≡◌, ℕ, suc, true, List, [], ◌∷◌, Option, Some, None, Contains}
 use Rattle.std.specs.Prelude.{Bool}
-use Rattle.bbm_rules.specs.regimes.declared.regime.Kind.{Kind}
+use Rattle.bbm_regimes.specs.declared.regime.Kind.{Kind}
 use Rattle.bbm_rules.specs.Attach.{End, end_at}
 use Rattle.bbm_rules.specs.Places.{page_of}
 use Rattle.bbm_rules.specs.Tree.{Node, next_of, node_below, nodes_of_root}

@@ -1,6 +1,6 @@
 -- Where a page of a tree stands, by its role alone. Source: project's own choice.
 use Rattle.std.specs.Prelude.{◌≡◌, ◌+◌, ◌*◌, ◌<◌, ◌≤◌, ◌^◌, Option, Some, None}
-use Rattle.bbm_rules.specs.events.Heading.{Heading}
+use Rattle.bbm_events.specs.Heading.{Heading}
 use Rattle.bbm_rules.specs.Roots.{first_input_page, input_pages, start_of}
 use Rattle.bbm_rules.specs.Tree.{Node}
 use Rattle.bbm_tree_index.specs.declared.role.Role.{Role}

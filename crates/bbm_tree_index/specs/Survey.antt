@@ -3,9 +3,9 @@ use Rattle.std.specs.Prelude.{◌≡◌, ℕ, ◌-◌, ◌/◌, Bool, true, fals
 use Rattle.std.specs.Prelude.{Option, Some, None, Contains}
 use Rattle.std.specs.Prelude.{if◌then◌else◌}
 use Rattle.std.specs.Prelude.{zero, suc, ◌+◌, ◌*◌, ◌<◌, ◌%◌, ◌^◌, is_some, nat_eq, slice_get}
-use Rattle.bbm_rules.specs.regimes.declared.regime.Kind.{Kind}
+use Rattle.bbm_regimes.specs.declared.regime.Kind.{Kind}
 use Rattle.indexmap.specs.IndexMap.{IndexMap, get}
-use Rattle.bbm_rules.specs.events.Heading.{Heading}
+use Rattle.bbm_events.specs.Heading.{Heading}
 use Rattle.bbm_rules.specs.Tree.{Above, Node, next_of, node_below}
 use Rattle.bbm_tree_index.specs.Leaving.{roles_of}
 use Rattle.bbm_tree_index.specs.Nodes.{is_fresh_role}

@@ -7,9 +7,9 @@ ghost use Rattle.bbm_tree_index.specs.Climbs.{cut_by, passes_at};
 use crate::held::core_at;
 use crate::role::Role;
 use crate::table::role_of;
+use bbm_descriptor::{Memory, core};
 use bbm_place_map::PlaceMap;
-use bbm_rules::descriptor::{Memory, core};
-use bbm_rules::regimes::{Kind, Place};
+use bbm_regimes::{Kind, Place};
 use indexmap::IndexMap;
 
 /// What is asked of a place above a page. Source: project's own choice.

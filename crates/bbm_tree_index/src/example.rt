@@ -7,9 +7,9 @@ ghost use Rattle.bbm_tree_index.specs.Index.{fresh_in, node_in, null_in};
 
 use crate::fault::TreeFault;
 use crate::index::TreeIndex;
+use bbm_events::Header;
 use bbm_place_map::PlaceMap;
-use bbm_rules::events::Header;
-use bbm_rules::regimes::Page;
+use bbm_regimes::Page;
 use std::alloc::Global;
 
 /// An index in which one page was tracked and declared null: it is a null page, in no tree and not fresh.

@@ -1,6 +1,6 @@
 //! Why a call is refused.
 
-use bbm_rules::regimes::{NoMemory, Page, Place, Which};
+use bbm_regimes::{NoMemory, Page, Place, Which};
 use thiserror::Error;
 
 /// Why a call of `TreeIndex` is refused. Source: project's own choice.

@@ -3,10 +3,10 @@
 ghost use Rattle.std.specs.Prelude.{◌≡◌, ◌≤◌, ◌<◌, ◌+◌, ◌*◌, ◌↔◌, ℕ, true, false, Some};
 ghost use Rattle.bbm_tree_index.specs.Held.{core_at, holds_at, is_at, next_in};
 
+use bbm_descriptor::Core;
+use bbm_entry_state::EntryState;
 use bbm_place_map::PlaceMap;
-use bbm_place_map::entry_state::EntryState;
-use bbm_rules::descriptor::Core;
-use bbm_rules::regimes::{Kind, Page, Place};
+use bbm_regimes::{Kind, Page, Place};
 
 /// The number of places of a page.
 const PLACES: u64 = 512;

@@ -12,9 +12,9 @@ use crate::spot::{Spot, spot_of};
 use crate::start::{start_below, start_root};
 use crate::survey::survey;
 use crate::table::put;
+use bbm_events::Header;
 use bbm_place_map::PlaceMap;
-use bbm_rules::events::Header;
-use bbm_rules::regimes::{Kind, NoMemory, Page, Place, Which};
+use bbm_regimes::{Kind, NoMemory, Page, Place, Which};
 use indexmap::IndexMap;
 use std::alloc::Global;
 
@@ -41,7 +41,7 @@ impl TreeIndex {
     ghost use Rattle.std.specs.Option.{option_map, option_map_or};
     ghost use Rattle.bbm_rules.specs.Places.{page_of};
     ghost use Rattle.bbm_place_map.specs.Map.{value_at, marks_at, pends_at, is_tracked};
-    ghost use Rattle.bbm_place_map.specs.entry_state.Standing.{IsIdle};
+    ghost use Rattle.bbm_entry_state.specs.Standing.{IsIdle};
     ghost use Rattle.bbm_place_map.specs.Calls.{IsSame};
     ghost use Rattle.bbm_place_map.specs.declared.map.PlaceMap.{PlaceMap as TheMap};
     ghost use Rattle.bbm_tree_index.specs.Agreement.{Agrees, IsSound};

@@ -2,9 +2,9 @@
 
 ghost use Rattle.std.specs.Prelude.{◌≡◌, ◌≤◌, ◌<◌, ◌+◌, ◌*◌, ◌↔◌, ℕ, List, true, Some, length, nat_eq, slice_get};
 ghost use Rattle.indexmap.specs.IndexMap.{get, index_map_len, keys};
-ghost use Rattle.bbm_rules.specs.descriptor.Descriptor.{desc_of};
+ghost use Rattle.bbm_descriptor.specs.Descriptor.{desc_of};
 ghost use Rattle.bbm_place_map.specs.Map.{value_at};
-ghost use Rattle.bbm_rules.specs.regimes.Same.{same_kind};
+ghost use Rattle.bbm_regimes.specs.Same.{same_kind};
 ghost use Rattle.bbm_rules.specs.Tree.{Node};
 ghost use Rattle.bbm_tree_index.specs.Judged.{Judges, names_pages};
 ghost use Rattle.bbm_tree_index.specs.Least.{Elsewhere, HasPages, HavePages, LeafIn, LeafOf, LeafPlace, LeastOf, Told, Wrong, WrongIn, WrongPage, asks, lesser};
@@ -16,9 +16,9 @@ use crate::mark::Mark;
 use crate::role::{Attach, Role};
 use crate::survey::entry_at;
 use crate::table::is_fresh;
+use bbm_descriptor::{Desc, Memory, read};
 use bbm_place_map::PlaceMap;
-use bbm_rules::descriptor::{Desc, Memory, read};
-use bbm_rules::regimes::{Kind, Page, Place};
+use bbm_regimes::{Kind, Page, Place};
 use indexmap::IndexMap;
 
 /// Which leaves are asked for. Source: project's own choice.

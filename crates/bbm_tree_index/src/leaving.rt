@@ -2,10 +2,10 @@
 
 ghost use Rattle.std.specs.Prelude.{◌≡◌, ◌==◌, ◌&&◌, ◌≤◌, ◌<◌, ◌%◌, ◌^◌, ℕ, Some, None, is_some, nat_eq, true, false, slice_get, if◌then◌else◌};
 ghost use Rattle.indexmap.specs.IndexMap.{get, index_map_len, keys};
-ghost use Rattle.bbm_rules.specs.events.Heading.{Heading};
+ghost use Rattle.bbm_events.specs.Heading.{Heading};
 ghost use Rattle.bbm_place_map.specs.Map.{marks_at, pends_at, value_at, is_tracked};
-ghost use Rattle.bbm_place_map.specs.entry_state.Standing.{IsIdle};
-ghost use Rattle.bbm_rules.specs.regimes.declared.regime.Kind.{Kind};
+ghost use Rattle.bbm_entry_state.specs.Standing.{IsIdle};
+ghost use Rattle.bbm_regimes.specs.declared.regime.Kind.{Kind};
 ghost use Rattle.bbm_rules.specs.Places.{page_of};
 ghost use Rattle.bbm_tree_index.specs.Agreement.{Sound};
 ghost use Rattle.bbm_tree_index.specs.Leaving.{leaves_role, leaves_root as spec_leaves_root, roles_of};
@@ -14,7 +14,7 @@ use crate::climb::{Asked, is_cut};
 use crate::role::Role;
 use crate::table::{put, role_of};
 use bbm_place_map::PlaceMap;
-use bbm_rules::regimes::{Page, Place};
+use bbm_regimes::{Page, Place};
 use indexmap::IndexMap;
 
 /// Which pages leave the trees. Source: project's own choice.

@@ -29,7 +29,6 @@ mod start;
 mod survey;
 mod table;
 
-pub use bbm_place_map as place_map;
 pub use example::null_page;
 pub use fault::TreeFault;
 pub use index::{Prepared, TreeIndex};

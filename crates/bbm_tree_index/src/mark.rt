@@ -5,7 +5,7 @@ ghost use Rattle.indexmap.specs.IndexMap.{get};
 ghost use Rattle.bbm_tree_index.specs.Survey.{joined};
 
 use crate::role::Role;
-use bbm_rules::regimes::{NoMemory, Page};
+use bbm_regimes::{NoMemory, Page};
 use indexmap::IndexMap;
 
 /// How a page is reached: the role that it has by the first path that was found, and whether there are others.

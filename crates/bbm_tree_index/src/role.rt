@@ -1,7 +1,7 @@
 //! Roles of pages, what a path says of a place, and what is attached.
 //! Source: project's own choice, where no other is named.
 
-use bbm_rules::regimes::{Interval, Kind, Page, Place};
+use bbm_regimes::{Interval, Kind, Page, Place};
 
 /// What a page is used for.
 #[derive(Clone, Copy, Debug, PartialEq, Eq)]

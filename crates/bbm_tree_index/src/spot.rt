@@ -2,16 +2,16 @@
 
 ghost use Rattle.std.specs.Prelude.{◌≡◌, ◌≤◌, ◌+◌, ◌-◌, ◌*◌, ℕ, suc};
 ghost use Rattle.bbm_place_map.specs.declared.map.PlaceMap.{PlaceMap as TheMap};
-ghost use Rattle.bbm_rules.specs.regimes.declared.regime.Kind.{Kind as TheKind};
+ghost use Rattle.bbm_regimes.specs.declared.regime.Kind.{Kind as TheKind};
 ghost use Rattle.bbm_tree_index.specs.Held.{holds_at};
-ghost use Rattle.bbm_rules.specs.regimes.World.{input_pages as input_pages_of};
+ghost use Rattle.bbm_regimes.specs.World.{input_pages as input_pages_of};
 ghost use Rattle.bbm_tree_index.specs.Spots.{spot_with, Fits, RoleFits};
 
 use crate::held::{holds_none, next_at, place_of};
 use crate::role::{Path, Role};
+use bbm_events::{Header, input_pages, regions_in};
 use bbm_place_map::PlaceMap;
-use bbm_rules::events::{Header, input_pages, regions_in};
-use bbm_rules::regimes::{Interval, Kind, Page, Place};
+use bbm_regimes::{Interval, Kind, Page, Place};
 
 /// Where a page of a tree stands: its kind and level, the input page number at which its region begins, and the first
 /// page of the root. Source: project's own choice.

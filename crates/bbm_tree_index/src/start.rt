@@ -2,7 +2,7 @@
 
 ghost use Rattle.std.specs.Prelude.{◌≡◌, ◌≤◌, ◌<◌, ◌+◌, ◌*◌, ◌==◌, ◌^◌, ℕ, Some, None, suc, nat_eq, OnOk, IfOk, if◌then◌else◌};
 ghost use Rattle.indexmap.specs.IndexMap.{get};
-ghost use Rattle.bbm_rules.specs.events.Heading.{Heading};
+ghost use Rattle.bbm_events.specs.Heading.{Heading};
 ghost use Rattle.bbm_rules.specs.Tree.{Node, node_below};
 ghost use Rattle.bbm_tree_index.specs.Spots.{Fits, StandsAt};
 ghost use Rattle.bbm_tree_index.specs.Survey.{Starting, Well, root_marks};
@@ -11,7 +11,7 @@ ghost use Rattle.std.specs.Prelude.{List, [], ◌∷◌};
 use crate::mark::{Mark, add};
 use crate::role::Role;
 use crate::spot::Spot;
-use bbm_rules::regimes::{Kind, NoMemory, Page, Place};
+use bbm_regimes::{Kind, NoMemory, Page, Place};
 use indexmap::IndexMap;
 use std::alloc::Global;
 

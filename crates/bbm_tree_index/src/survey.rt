@@ -2,11 +2,11 @@
 
 ghost use Rattle.std.specs.Prelude.{◌≡◌, ◌≤◌, ◌<◌, ◌+◌, ◌*◌, ◌&&◌, ◌||◌, ◌==◌, ℕ, suc, Bool, true, false, List, [], ◌∷◌, ◌++◌, Option, Some, is_some, nat_eq, slice_get, ◌%◌, ◌^◌, length, OnOk, IfOk, IfSome};
 ghost use Rattle.indexmap.specs.IndexMap.{get, keys, index_map_len, IsUnique};
-ghost use Rattle.bbm_rules.specs.events.Heading.{Heading};
+ghost use Rattle.bbm_events.specs.Heading.{Heading};
 ghost use Rattle.bbm_place_map.specs.Map.{value_at};
 ghost use Rattle.bbm_rules.specs.Places.{index_of, page_of};
 ghost use Rattle.bbm_rules.specs.Tree.{Node, next_of};
-ghost use Rattle.bbm_rules.specs.regimes.World.{input_pages};
+ghost use Rattle.bbm_regimes.specs.World.{input_pages};
 ghost use Rattle.bbm_tree_index.specs.Spots.{Fits, RoleFits, StandsAt};
 ghost use Rattle.bbm_tree_index.specs.Survey.{Counts, Found, Partly, Plain, Reached, Surveyed, Uniform, Well, fresh_of, grown};
 ghost use Rattle.bbm_tree_index.specs.declared.mark.Mark.{Mark as TheMark};
@@ -16,10 +16,10 @@ use crate::mark::{Mark, add};
 use crate::role::Role;
 use crate::spot::{Spot, spot_of};
 use crate::table::is_fresh;
+use bbm_descriptor::{Desc, Memory, read};
+use bbm_events::Header;
 use bbm_place_map::PlaceMap;
-use bbm_rules::descriptor::{Desc, Memory, read};
-use bbm_rules::events::Header;
-use bbm_rules::regimes::{Kind, NoMemory, Page, Place};
+use bbm_regimes::{Kind, NoMemory, Page, Place};
 use indexmap::IndexMap;
 use std::alloc::Global;
 

@@ -5,7 +5,7 @@ ghost use Rattle.indexmap.specs.IndexMap.{get, index_map_len, keys};
 ghost use Rattle.bbm_tree_index.specs.Survey.{fresh_of};
 
 use crate::role::Role;
-use bbm_rules::regimes::Page;
+use bbm_regimes::Page;
 use indexmap::IndexMap;
 
 /// Gives a page that has a role another one.

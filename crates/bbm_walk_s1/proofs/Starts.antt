@@ -1,6 +1,6 @@
 -- Where a walk begins: the input range of a root, and the place that its first nine bits select.
 use Rattle.std.proofs.Common.{◌≡◌, ℕ, zero, suc, ◌+◌, ◌-◌, ◌*◌, ◌/◌, ◌%◌, ◌^◌, ◌<◌, ◌≤◌, Bool, true, false, [], refl, ap, sym, ◌∙◌, subst, arith}
-use Rattle.bbm_descriptor.specs.regimes.Extent.{span_of}
+use Rattle.bbm_regimes.specs.Extent.{span_of}
 use Rattle.bbm_descriptor.specs.Listing.{RegionHolds, IsAligned, ComesTo}
 use Rattle.bbm_walk_s1.specs.Ranges.{first_address, stage1_root}
 

@@ -1,6 +1,6 @@
 -- The input range of a stage 1 root.
 use Rattle.std.specs.Prelude.{ℕ, ◌-◌, ◌*◌, ◌^◌, Bool, true, false}
-use Rattle.bbm_descriptor.specs.regimes.Extent.{span_of}
+use Rattle.bbm_regimes.specs.Extent.{span_of}
 use Rattle.bbm_descriptor.specs.Listing.{WalkRoot}
 
 -- The first input address of a root, by its start level and whether its range is the high one. A low range begins at

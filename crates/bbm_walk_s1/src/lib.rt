@@ -12,7 +12,6 @@
 pub mod root;
 pub mod walking;
 
-pub use bbm_descriptor as descriptor;
-pub use bbm_descriptor::{Memory, Pairs, Walk, regimes};
+pub use bbm_descriptor::{Memory, Pairs, Walk};
 pub use root::S1Root;
 pub use walking::walk;

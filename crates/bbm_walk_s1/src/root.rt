@@ -2,7 +2,7 @@
 
 ghost use Rattle.std.specs.Prelude.{◌≤◌};
 
-use bbm_descriptor::regimes::Page;
+use bbm_regimes::Page;
 
 /// What a stage 1 walk begins with. Source: Arm ARM (DDI 0487), "VMSAv8-64 translation table walks".
 #[derive(Clone, Copy, Debug, PartialEq, Eq)]

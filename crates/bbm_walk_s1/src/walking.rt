@@ -7,8 +7,8 @@ ghost use Rattle.bbm_walk_s1.specs.Ranges.{first_address, stage1_root};
 
 use crate::root::S1Root;
 use bbm_descriptor::laws::{law_one_answer, law_outside, law_walk_begins};
-use bbm_descriptor::regimes::{Kind, span};
 use bbm_descriptor::{Memory, Walk, place_for, walk_from};
+use bbm_regimes::{Kind, span};
 
 /// The first input address of a root, by its start level and whether its range is the high one.
 fn first_input(start: u8, high: bool) -> u64

@@ -1,7 +1,7 @@
 -- Where a walk begins: the input range of a root, and the place of its joined pages that an address selects.
 use Rattle.std.proofs.Common.{◌≡◌, ℕ, ◌+◌, ◌-◌, ◌*◌, ◌/◌, ◌%◌, ◌<◌, [], ap, sym, ◌∙◌, subst, mul_assoc, pow_pos, arith}
 use Rattle.std.proofs.lemmas.Nat.{div_below}
-use Rattle.bbm_descriptor.specs.regimes.Extent.{span_of}
+use Rattle.bbm_regimes.specs.Extent.{span_of}
 use Rattle.bbm_descriptor.specs.Listing.{RegionHolds, IsAligned, ComesTo}
 use Rattle.bbm_walk_s2.specs.Joined.{stage2_root}
 

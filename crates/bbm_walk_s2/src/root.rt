@@ -3,7 +3,7 @@
 ghost use Rattle.std.specs.Prelude.{◌≡◌, ◌*◌, ◌%◌, ◌≤◌, IsTrue};
 ghost use Rattle.bbm_walk_s2.specs.Joined.{can_join};
 
-use bbm_descriptor::regimes::Page;
+use bbm_regimes::Page;
 
 /// What a stage 2 walk begins with. Source: Arm ARM (DDI 0487), "VMSAv8-64 translation table walks", concatenated
 /// tables.

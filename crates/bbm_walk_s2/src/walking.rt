@@ -7,8 +7,8 @@ ghost use Rattle.bbm_walk_s2.specs.Joined.{stage2_root};
 
 use crate::root::S2Root;
 use bbm_descriptor::laws::{law_one_answer, law_outside, law_walk_begins};
-use bbm_descriptor::regimes::{Kind, Page, Place, span};
 use bbm_descriptor::{Memory, Walk, walk_from};
+use bbm_regimes::{Kind, Page, Place, span};
 
 /// Whether the address is in the input range of a root.
 fn is_in_range(start: u8, pages: u8, ipa: u64) -> bool

@@ -1,7 +1,7 @@
 use Rattle.std.proofs.Common.{List, sym, ◌∙◌, ap}
-use Rattle.bbm_histories.specs.rules.Claims.Trust.{Listed}
-use Rattle.bbm_histories.specs.rules.Prelude.{Event, Isb}
-use Rattle.bbm_histories.specs.rules.Tags.{holds_at}
+use Rattle.bbm_rules.specs.Claims.Trust.{Listed}
+use Rattle.bbm_rules.specs.Prelude.{Event, Isb}
+use Rattle.bbm_rules.specs.Tags.{holds_at}
 use Rattle.bbm_cert.proofs.TagSteps.{first_of, holds_more}
 use Rattle.bbm_cert.proofs.by_claims.holds_from.Goals as goal
 

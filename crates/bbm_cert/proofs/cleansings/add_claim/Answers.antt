@@ -1,6 +1,6 @@
 use Rattle.std.proofs.Common.{ℕ, Bool, ◌||◌, ◌&&◌, nat_lt, ◌==◌, reverse, sym, ◌∙◌, ap}
 use Rattle.std.proofs.lemmas.Result.{on_ok_weaker}
-use Rattle.bbm_histories.specs.events.declared.claim.Claim.{Claim}
+use Rattle.bbm_events.specs.declared.claim.Claim.{Claim}
 use Rattle.bbm_cert.specs.Cleansings.{tells}
 use Rattle.bbm_cert.specs.Marks.{is_of}
 use Rattle.bbm_cert.proofs.Cleansed.{ends_elsewhere, ends_here}

@@ -1,5 +1,5 @@
 use Rattle.std.proofs.Common.{◌≡◌, ℕ, take}
-use Rattle.bbm_histories.specs.regimes.PeMask.{pe_in}
+use Rattle.bbm_regimes.specs.PeMask.{pe_in}
 use Rattle.bbm_cert.specs.Cleansings.{tells}
 use Rattle.bbm_cert.proofs.cleansings.cleansed_since.Given as goal
 

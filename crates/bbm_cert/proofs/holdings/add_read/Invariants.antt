@@ -1,6 +1,6 @@
 use Rattle.std.proofs.Common.{◌≡◌, ℕ, ◌&&◌, ◌||◌, nat_lt, reverse}
-use Rattle.bbm_histories.specs.regimes.declared.regime.Tag.{Tag}
-use Rattle.bbm_histories.specs.rules.Tags.{reads}
+use Rattle.bbm_regimes.specs.declared.regime.Tag.{Tag}
+use Rattle.bbm_rules.specs.Tags.{reads}
 use Rattle.bbm_cert.specs.Holdings.{has}
 use Rattle.bbm_cert.proofs.holdings.add_read.Given as goal
 

@@ -1,7 +1,7 @@
 use Rattle.std.proofs.Common.{◌≡◌, ℕ, ◌&&◌, ◌||◌, ◌==◌, take}
 use Rattle.std.specs.List.{list_any}
-use Rattle.bbm_histories.specs.regimes.declared.regime.Tag.{Tag}
-use Rattle.bbm_histories.specs.rules.Claims.{same_tag}
+use Rattle.bbm_regimes.specs.declared.regime.Tag.{Tag}
+use Rattle.bbm_rules.specs.Claims.{same_tag}
 use Rattle.bbm_cert.specs.Holdings.{has}
 use Rattle.bbm_cert.proofs.holdings.add_readings.Given as goal
 

@@ -1,5 +1,5 @@
 use Rattle.std.proofs.Common.{◌≡◌, take, reverse}
-use Rattle.bbm_histories.specs.rules.Notes.{events_of}
+use Rattle.bbm_rules.specs.Notes.{events_of}
 use Rattle.bbm_oracle_patterns.specs.Kept.{notes_of}
 use Rattle.bbm_cert.proofs.holdings.events_in.Given as goal
 

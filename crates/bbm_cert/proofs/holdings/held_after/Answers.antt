@@ -1,7 +1,7 @@
 use Rattle.std.proofs.Common.{◌≡◌, ◌∷◌, List, reverse, sym, ◌∙◌, ap}
 use Rattle.std.proofs.lemmas.Result.{IfOk-weaker}
-use Rattle.bbm_histories.specs.rules.Notes.{events_of}
-use Rattle.bbm_histories.specs.rules.Prelude.{Event}
+use Rattle.bbm_rules.specs.Notes.{events_of}
+use Rattle.bbm_rules.specs.Prelude.{Event}
 use Rattle.bbm_oracle_patterns.specs.Kept.{notes_of}
 use Rattle.bbm_cert.specs.Holdings.{ends_some, has}
 use Rattle.bbm_cert.proofs.HeldTags.{held_then}

@@ -1,6 +1,6 @@
 use Rattle.std.proofs.Common.{◌≡◌, ℕ, take, reverse}
 use Rattle.std.specs.List.{list_any}
-use Rattle.bbm_histories.specs.regimes.declared.regime.Tag.{Tag}
+use Rattle.bbm_regimes.specs.declared.regime.Tag.{Tag}
 use Rattle.bbm_histories.specs.ClaimSteps.{completes_taken}
 use Rattle.bbm_cert.specs.Holdings.{is_lost}
 use Rattle.bbm_cert.proofs.holdings.losses_by.Given as goal

@@ -1,4 +1,4 @@
-use Rattle.bbm_histories.specs.rules.Prelude.{Isb}
+use Rattle.bbm_rules.specs.Prelude.{Isb}
 use Rattle.bbm_cert.proofs.TagSteps.{waits_more}
 use Rattle.bbm_cert.proofs.taken.waits.Goals as goal
 

@@ -1,5 +1,5 @@
 use Rattle.std.proofs.Common.{◌≡◌, ◌<◌, List, length, get_or, take, reverse, refl, ◌∙◌, ap, arith}
-use Rattle.bbm_histories.specs.rules.Prelude.{Event}
+use Rattle.bbm_rules.specs.Prelude.{Event}
 use Rattle.bbm_cert.specs.Cleansings.{tells}
 use Rattle.bbm_cert.specs.Holdings.{has}
 use Rattle.bbm_cert.specs.declared.cleansings.Cleansing.{Cleansing}

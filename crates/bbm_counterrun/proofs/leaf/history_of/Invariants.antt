@@ -1,6 +1,6 @@
 use Rattle.std.proofs.Common.{◌≡◌, take, reverse}
 use Rattle.bbm_oracle_trees.specs.StandsFor.{StandsFor}
-use Rattle.bbm_tlb_machine.specs.rules.Claims.{Patterns}
+use Rattle.bbm_rules.specs.Claims.{Patterns}
 use Rattle.bbm_counterrun.proofs.leaf.history_of.Given as goal
 
 abbrev pub invariant-loop-event : goal.invariant-loop-event

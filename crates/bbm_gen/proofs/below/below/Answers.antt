@@ -1,5 +1,5 @@
 use Rattle.std.proofs.Common.{refl, arith}
-use Rattle.bbm_histories.specs.rules.Claims.{Patterns}
+use Rattle.bbm_rules.specs.Claims.{Patterns}
 use Rattle.bbm_gen.specs.Generated.{heading}
 use Rattle.bbm_gen.proofs.below.below.Goals as goal
 

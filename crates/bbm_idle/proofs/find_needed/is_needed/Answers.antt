@@ -1,7 +1,7 @@
 use Rattle.std.proofs.Common.{◌≡◌, reverse, sym, ap, ◌∙◌, arith, rules, inl, inr}
 use Rattle.std.proofs.lemmas.Bool.{cases_lt}
-use Rattle.bbm_rules.specs.events.Heading.{Heading}
-use Rattle.bbm_rules.specs.regimes.PeMask.{pe_in}
+use Rattle.bbm_events.specs.Heading.{Heading}
+use Rattle.bbm_regimes.specs.PeMask.{pe_in}
 use Rattle.bbm_idle.specs.Finding.{needed_by}
 use Rattle.bbm_idle.proofs.FindLists.{no_pe, one_pe}
 use Rattle.bbm_idle.proofs.find_needed.is_needed.Goals as goal

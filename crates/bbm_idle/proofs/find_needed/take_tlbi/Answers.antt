@@ -1,7 +1,7 @@
 use Rattle.std.proofs.Common.{◌≡◌, ℕ, Bool, List, reverse, sym, ap, ◌∙◌}
 use Rattle.std.proofs.lemmas.Result.{IfOk-weaker}
-use Rattle.bbm_rules.specs.regimes.PeMask.{pe_in}
-use Rattle.bbm_rules.specs.tlbi_scope.declared.entry.Cover.{Cover}
+use Rattle.bbm_regimes.specs.PeMask.{pe_in}
+use Rattle.bbm_tlbi_scope.specs.declared.entry.Cover.{Cover}
 use Rattle.bbm_rules.specs.Covers.{cover_at, note}
 use Rattle.bbm_rules.specs.Lists.{any, some_pe}
 use Rattle.bbm_rules.specs.Prelude.{Heading}

@@ -1,9 +1,9 @@
 use Rattle.std.proofs.Common.{ap, ◌∙◌}
 use Rattle.bbm_regimes.proofs.Every.{every_same}
-use Rattle.bbm_rules.specs.regimes.EveryPe.{every_pe}
-use Rattle.bbm_rules.specs.regimes.PeMask.{pe_in}
+use Rattle.bbm_regimes.specs.EveryPe.{every_pe}
+use Rattle.bbm_regimes.specs.PeMask.{pe_in}
 use Rattle.bbm_rules.specs.declared.phase.Phase.{Phase}
-use Rattle.bbm_rules.specs.events.Heading.{Heading}
+use Rattle.bbm_events.specs.Heading.{Heading}
 use Rattle.bbm_rules.specs.Claims.{Patterns}
 use Rattle.bbm_rules.specs.Phases.{phase_of}
 use Rattle.bbm_idle.specs.Finding.{phase_from}

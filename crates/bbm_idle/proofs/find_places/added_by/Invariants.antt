@@ -1,5 +1,5 @@
 use Rattle.std.proofs.Common.{◌≡◌, ℕ, take, reverse}
-use Rattle.bbm_rules.specs.regimes.PeMask.{pe_in}
+use Rattle.bbm_regimes.specs.PeMask.{pe_in}
 use Rattle.bbm_rules.specs.Lists.{any}
 use Rattle.bbm_oracle_patterns.specs.Kept.{cover_in, notes_of}
 use Rattle.bbm_idle.specs.Finding.{place_adds}

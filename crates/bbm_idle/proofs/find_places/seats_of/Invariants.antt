@@ -1,5 +1,5 @@
 use Rattle.std.proofs.Common.{◌≡◌, ℕ, take}
-use Rattle.bbm_rules.specs.tlbi_scope.declared.entry.Cover.{Cover}
+use Rattle.bbm_tlbi_scope.specs.declared.entry.Cover.{Cover}
 use Rattle.bbm_rules.specs.Lists.{any}
 use Rattle.bbm_oracle_trees.specs.Past.{notes}
 use Rattle.bbm_idle.specs.Finding.{adds_with, place_adds}

@@ -1,6 +1,6 @@
 use Rattle.std.proofs.Common.{◌≡◌, take}
-use Rattle.bbm_oracle_trees.specs.rules.Lists.{least}
-use Rattle.bbm_oracle_trees.specs.rules.Rules.{unfresh}
+use Rattle.bbm_rules.specs.Lists.{least}
+use Rattle.bbm_rules.specs.Rules.{unfresh}
 use Rattle.bbm_oracle_trees.specs.Past.{notes}
 use Rattle.bbm_judge.proofs.least.least_unfresh.Given as goal
 

@@ -1,5 +1,5 @@
 use Rattle.std.proofs.Common.{◌≡◌, drop}
-use Rattle.bbm_oracle_trees.specs.rules.Broken.{first_broken}
+use Rattle.bbm_rules.specs.Broken.{first_broken}
 use Rattle.bbm_oracle_trees.specs.Past.{notes}
 use Rattle.bbm_judge.proofs.order.first_broken.Given as goal
 

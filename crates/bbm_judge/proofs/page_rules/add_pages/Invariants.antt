@@ -1,5 +1,5 @@
 use Rattle.std.proofs.Common.{◌≡◌, ◌++◌, take}
-use Rattle.bbm_oracle_trees.specs.rules.Attach.{pages_of}
+use Rattle.bbm_rules.specs.Attach.{pages_of}
 use Rattle.bbm_judge.proofs.page_rules.add_pages.Given as goal
 
 abbrev pub invariant-loop-end : goal.invariant-loop-end

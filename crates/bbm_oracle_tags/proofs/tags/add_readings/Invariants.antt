@@ -1,5 +1,5 @@
 use Rattle.std.proofs.Common.{◌≡◌, true, take}
-use Rattle.bbm_rules.specs.regimes.declared.regime.Tag.{Tag}
+use Rattle.bbm_regimes.specs.declared.regime.Tag.{Tag}
 use Rattle.bbm_oracle_tags.specs.Moments.{is_read}
 use Rattle.bbm_oracle_tags.specs.TagSets.{has_tag}
 use Rattle.bbm_oracle_tags.proofs.tags.add_readings.Given as goal

@@ -1,7 +1,7 @@
 use Rattle.std.proofs.Common.{◌&&◌, ◌||◌, ◌+◌, take, get_or, reverse, arith}
 use Rattle.std.proofs.lemmas.List.{get_or_default}
-use Rattle.bbm_rules.specs.regimes.declared.regime.Tag.{Tag}
-use Rattle.bbm_rules.specs.regimes.declared.regime.Tag.TheVariants.{El2}
+use Rattle.bbm_regimes.specs.declared.regime.Tag.{Tag}
+use Rattle.bbm_regimes.specs.declared.regime.Tag.TheVariants.{El2}
 use Rattle.bbm_rules.specs.Claims.{Trust, same_tag}
 use Rattle.bbm_rules.specs.Tags.{holds_tag}
 use Rattle.bbm_oracle_tags.specs.TagSets.{has_tag}

@@ -1,6 +1,6 @@
 use Rattle.std.proofs.Common.{◌≡◌, ℕ, ◌==◌, ◌&&◌, not, is_some, take}
 use Rattle.std.specs.List.{find}
-use Rattle.bbm_oracle_patterns.specs.rules.Lists.{among}
+use Rattle.bbm_rules.specs.Lists.{among}
 use Rattle.bbm_oracle_trees.proofs.fresh.unused.Given as goal
 
 abbrev pub invariant-loop-page : goal.invariant-loop-page

@@ -1,6 +1,6 @@
 use Rattle.std.proofs.Common.{◌≡◌, ◌++◌, take}
 use Rattle.std.specs.List.{flat_map}
-use Rattle.bbm_oracle_patterns.specs.rules.Tree.{children}
+use Rattle.bbm_rules.specs.Tree.{children}
 use Rattle.bbm_oracle_trees.specs.Past.{notes}
 use Rattle.bbm_oracle_trees.proofs.tree.add_below.Given as goal
 

@@ -1,6 +1,6 @@
 use Rattle.std.proofs.Common.{◌≡◌, ◌++◌, take}
 use Rattle.std.specs.List.{filter_map}
-use Rattle.bbm_oracle_patterns.specs.rules.Tree.{child_at}
+use Rattle.bbm_rules.specs.Tree.{child_at}
 use Rattle.bbm_oracle_trees.specs.Past.{notes}
 use Rattle.bbm_oracle_trees.proofs.tree.add_children.Given as goal
 

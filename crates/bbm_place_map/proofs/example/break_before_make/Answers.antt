@@ -1,9 +1,9 @@
 use Rattle.std.proofs.Common.{◌≡◌, rules, true, Some, None, refl, ap, subst, ◌∙◌, if◌then◌else◌}
 use Rattle.std.proofs.lemmas.Bool.{eq-eqb}
-use Rattle.bbm_entry_state.specs.barriers.declared.Dsb.{Dsb}
-use Rattle.bbm_entry_state.specs.barriers.declared.Domain.TheVariants.{Inner}
-use Rattle.bbm_entry_state.specs.barriers.declared.Types.TheVariants.{All, Stores}
-use Rattle.bbm_entry_state.specs.tlbi_scope.declared.entry.Cover.TheVariants.{Full}
+use Rattle.bbm_barriers.specs.declared.Dsb.{Dsb}
+use Rattle.bbm_barriers.specs.declared.Domain.TheVariants.{Inner}
+use Rattle.bbm_barriers.specs.declared.Types.TheVariants.{All, Stores}
+use Rattle.bbm_tlbi_scope.specs.declared.entry.Cover.TheVariants.{Full}
 use Rattle.bbm_entry_state.specs.Calls.{Written, Noted, Published, Completed}
 use Rattle.bbm_place_map.specs.Map.{marks_at, pends_at}
 use Rattle.bbm_place_map.specs.States.{state_from, marks_of_state}

@@ -1,6 +1,6 @@
 use Rattle.std.proofs.Common.{sym, ◌∙◌, inr}
 use Rattle.std.proofs.lemmas.Bool.{lt-ltb}
-use Rattle.bbm_entry_state.specs.regimes.PeMask.{pe_in}
+use Rattle.bbm_regimes.specs.PeMask.{pe_in}
 use Rattle.bbm_place_map.specs.Works.{Holds}
 use Rattle.bbm_place_map.proofs.Holding.{still_in}
 use Rattle.bbm_place_map.proofs.Publishing.{none_untold, known_kept}

@@ -1,6 +1,6 @@
 use Rattle.std.proofs.Common.{inl, inr}
 use Rattle.std.proofs.lemmas.Bool.{cases_Bool}
-use Rattle.bbm_entry_state.specs.regimes.PeMask.{pe_in}
+use Rattle.bbm_regimes.specs.PeMask.{pe_in}
 use Rattle.bbm_place_map.proofs.work.add_broken.Goals as goal
 
 pub returns-then-not-is_empty-clause-told : goal.returns-then-not-is_empty-clause-told

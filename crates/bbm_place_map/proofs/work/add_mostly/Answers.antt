@@ -1,6 +1,6 @@
 use Rattle.std.proofs.Common.{ℕ, Bool, not, ◌&&◌, nat_eq, inl, inr, ap, subst, sym, ◌∙◌}
 use Rattle.std.proofs.lemmas.Bool.{cases_Bool, eqb-true}
-use Rattle.bbm_entry_state.specs.regimes.PeMask.{pe_in}
+use Rattle.bbm_regimes.specs.PeMask.{pe_in}
 use Rattle.bbm_place_map.specs.Works.{HoldsFor}
 use Rattle.bbm_place_map.proofs.work.add_mostly.Goals as goal
 

@@ -1,5 +1,5 @@
 use Rattle.std.proofs.Common.{◌≡◌, ◌<◌, ℕ, true}
-use Rattle.bbm_entry_state.specs.regimes.PeMask.{pe_in}
+use Rattle.bbm_regimes.specs.PeMask.{pe_in}
 use Rattle.bbm_place_map.specs.Works.{HoldsFor}
 use Rattle.bbm_place_map.proofs.work.add_writers.Given as goal
 

@@ -1,9 +1,9 @@
 use Rattle.std.proofs.Common.{◌≡◌, ℕ, suc, ◌-◌, ◌<◌, Some, length, subst, arith}
-use Rattle.bbm_replay_trees.specs.tree_index.Held.{core_at, next_in}
-use Rattle.bbm_replay_trees.specs.tree_index.Index.{node_in}
-use Rattle.bbm_replay_entries.specs.rules.Tree.{Node}
-use Rattle.bbm_replay_trees.specs.tree_index.Nodes.{path_at}
-use Rattle.bbm_replay_trees.specs.tree_index.declared.role.Path.{Path}
+use Rattle.bbm_tree_index.specs.Held.{core_at, next_in}
+use Rattle.bbm_tree_index.specs.Index.{node_in}
+use Rattle.bbm_rules.specs.Tree.{Node}
+use Rattle.bbm_tree_index.specs.Nodes.{path_at}
+use Rattle.bbm_tree_index.specs.declared.role.Path.{Path}
 use Rattle.bbm_replay.specs.OnePage.{IsFoundIn}
 use Rattle.bbm_replay.proofs.Findings.{if_some, on_both, on_ok}
 use Rattle.bbm_replay.proofs.Ways.{goes_on, met_last, met_more, met_none}

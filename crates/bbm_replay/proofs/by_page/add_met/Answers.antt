@@ -1,11 +1,11 @@
 use Rattle.std.proofs.Common.{◌≡◌, true, refl, sym, ◌∙◌, subst}
-use Rattle.bbm_replay_entries.specs.descriptor.Descriptor.{core_of}
-use Rattle.bbm_replay_trees.specs.place_map.Finds.{FoundAs, is_found}
-use Rattle.bbm_replay_trees.specs.place_map.Map.{marks_at, value_at}
-use Rattle.bbm_replay_trees.specs.place_map.declared.found.Found.{Found}
-use Rattle.bbm_replay_entries.specs.rules.Claims.Trust.{Patterns}
-use Rattle.bbm_replay_entries.specs.rules.Covers.{cover_at}
-use Rattle.bbm_replay_entries.specs.rules.Prelude.{Tlbi}
+use Rattle.bbm_descriptor.specs.Descriptor.{core_of}
+use Rattle.bbm_place_map.specs.Finds.{FoundAs, is_found}
+use Rattle.bbm_place_map.specs.Map.{marks_at, value_at}
+use Rattle.bbm_place_map.specs.declared.found.Found.{Found}
+use Rattle.bbm_rules.specs.Claims.Trust.{Patterns}
+use Rattle.bbm_rules.specs.Covers.{cover_at}
+use Rattle.bbm_rules.specs.Prelude.{Tlbi}
 use Rattle.bbm_replay_trees.specs.Told.{notes}
 use Rattle.bbm_replay.proofs.Covered.{marks_of}
 use Rattle.bbm_replay.proofs.Findings.{as_end, found_before, found_end, on_ok}

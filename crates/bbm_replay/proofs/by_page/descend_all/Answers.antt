@@ -1,7 +1,7 @@
 use Rattle.std.proofs.Common.{◌+◌, ◌*◌, ℕ, subst}
 use borrow.Author.Count.{below_more}
-use Rattle.bbm_replay_trees.specs.tree_index.Held.{core_at}
-use Rattle.bbm_replay_trees.specs.tree_index.Index.{node_in}
+use Rattle.bbm_tree_index.specs.Held.{core_at}
+use Rattle.bbm_tree_index.specs.Index.{node_in}
 use Rattle.bbm_replay.specs.OnePage.{IsFoundIn, MetFrom}
 use Rattle.bbm_replay.proofs.by_page.descend_all.Goals as goal
 

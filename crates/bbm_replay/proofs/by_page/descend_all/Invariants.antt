@@ -1,7 +1,7 @@
 use Rattle.std.proofs.Common.{◌≡◌, ℕ, true}
-use Rattle.bbm_replay_trees.specs.place_map.Finds.{is_found}
-use Rattle.bbm_replay_trees.specs.tree_index.Held.{core_at}
-use Rattle.bbm_replay_trees.specs.tree_index.Index.{node_in}
+use Rattle.bbm_place_map.specs.Finds.{is_found}
+use Rattle.bbm_tree_index.specs.Held.{core_at}
+use Rattle.bbm_tree_index.specs.Index.{node_in}
 use Rattle.bbm_replay.specs.Covering.{AreCovered}
 use Rattle.bbm_replay.specs.OnePage.{IsFoundIn, MetFromAll}
 use Rattle.bbm_replay.proofs.by_page.descend_all.Given as goal

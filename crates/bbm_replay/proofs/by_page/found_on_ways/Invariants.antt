@@ -1,8 +1,8 @@
 use Rattle.std.proofs.Common.{◌≡◌, ℕ, ◌<◌, true, Some}
-use Rattle.bbm_replay_entries.specs.regimes.World.{page_count}
-use Rattle.bbm_replay_entries.specs.regimes.declared.regime.Kind.{Kind}
-use Rattle.bbm_replay_trees.specs.tree_index.Held.{core_at}
-use Rattle.bbm_replay_trees.specs.tree_index.Index.{node_in}
+use Rattle.bbm_regimes.specs.World.{page_count}
+use Rattle.bbm_regimes.specs.declared.regime.Kind.{Kind}
+use Rattle.bbm_tree_index.specs.Held.{core_at}
+use Rattle.bbm_tree_index.specs.Index.{node_in}
 use Rattle.bbm_replay_roots.specs.Listed.{nth_in}
 use Rattle.bbm_replay.specs.Covering.{AreCovered}
 use Rattle.bbm_replay.specs.OnePage.{IsFoundIn, MetFromAll, covers_kind}

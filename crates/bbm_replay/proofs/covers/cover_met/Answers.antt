@@ -1,18 +1,18 @@
 use Rattle.std.proofs.Common.{◌≡◌, ◌≤◌, ◌<◌, ◌+◌, ◌-◌, ℕ, Bool, true, Some, ◌&&◌, not, is_none, refl, sym, ◌∙◌, ap, arith}
-use Rattle.bbm_replay_entries.specs.descriptor.Descriptor.{core_of, desc_of}
-use Rattle.bbm_replay_entries.specs.descriptor.declared.desc.Core.{Core}
-use Rattle.bbm_replay_trees.specs.place_map.Map.{marks_at, value_at}
-use Rattle.bbm_replay_entries.specs.tlbi_scope.Covers as scopes
-use Rattle.bbm_replay_trees.specs.place_map.Each.{is_table}
-use Rattle.bbm_replay_entries.specs.regimes.World.{input_pages}
-use Rattle.bbm_replay_entries.specs.tlbi_scope.Numbers.{names_some}
-use Rattle.bbm_replay_entries.specs.tlbi_scope.Operations.{has_page}
-use Rattle.bbm_replay_entries.specs.rules.Claims.Trust.{Patterns}
-use Rattle.bbm_replay_entries.specs.rules.Places.{page_of}
-use Rattle.bbm_replay_entries.specs.rules.Tags.{tag_set, tags_of}
-use Rattle.bbm_replay_entries.specs.rules.Tree.{held_at, is_childless, region_of, region_start}
-use Rattle.bbm_replay_trees.specs.tree_index.Index.{node_in}
-use Rattle.bbm_replay_trees.specs.tree_index.declared.role.Path.{Path}
+use Rattle.bbm_descriptor.specs.Descriptor.{core_of, desc_of}
+use Rattle.bbm_descriptor.specs.declared.desc.Core.{Core}
+use Rattle.bbm_place_map.specs.Map.{marks_at, value_at}
+use Rattle.bbm_tlbi_scope.specs.Covers as scopes
+use Rattle.bbm_place_map.specs.Each.{is_table}
+use Rattle.bbm_regimes.specs.World.{input_pages}
+use Rattle.bbm_tlbi_scope.specs.Numbers.{names_some}
+use Rattle.bbm_tlbi_scope.specs.Operations.{has_page}
+use Rattle.bbm_rules.specs.Claims.Trust.{Patterns}
+use Rattle.bbm_rules.specs.Places.{page_of}
+use Rattle.bbm_rules.specs.Tags.{tag_set, tags_of}
+use Rattle.bbm_rules.specs.Tree.{held_at, is_childless, region_of, region_start}
+use Rattle.bbm_tree_index.specs.Index.{node_in}
+use Rattle.bbm_tree_index.specs.declared.role.Path.{Path}
 use Rattle.bbm_replay_trees.specs.Told.{notes}
 use Rattle.bbm_replay.specs.Covering.{asks_tags}
 use Rattle.bbm_replay.specs.Standing.{view_of}

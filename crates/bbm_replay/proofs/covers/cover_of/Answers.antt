@@ -1,7 +1,7 @@
 use Rattle.std.proofs.Common.{sym, ◌∙◌}
 use Rattle.std.proofs.lemmas.Option.{none-some}
-use Rattle.bbm_replay_entries.specs.rules.Places.{page_of}
-use Rattle.bbm_replay_trees.specs.tree_index.Index.{node_in}
+use Rattle.bbm_rules.specs.Places.{page_of}
+use Rattle.bbm_tree_index.specs.Index.{node_in}
 use Rattle.bbm_replay.proofs.Findings.{issued}
 use Rattle.bbm_replay.proofs.Found.{found_at, none_at}
 use Rattle.bbm_replay.proofs.covers.cover_of.Goals as goal

@@ -1,13 +1,13 @@
 use Rattle.std.proofs.Common.{◌≡◌, None, refl, sym, subst, rules}
-use Rattle.bbm_replay_entries.specs.entry_state.Calls.{Noted}
-use Rattle.bbm_replay_trees.specs.place_map.Map.{marks_at, pends_at}
-use Rattle.bbm_replay_trees.specs.place_map.States.{state_from}
-use Rattle.bbm_replay_trees.specs.place_map.declared.map.PlaceMap.{PlaceMap}
-use Rattle.bbm_replay_entries.specs.tlbi_scope.Operations.{operation}
-use Rattle.bbm_replay_entries.specs.tlbi_scope.declared.entry.Cover.{Cover}
-use Rattle.bbm_replay_entries.specs.rules.Claims.Trust.{Patterns}
-use Rattle.bbm_replay_entries.specs.rules.Covers.{cover_at}
-use Rattle.bbm_replay_entries.specs.rules.Prelude.{Tlbi}
+use Rattle.bbm_entry_state.specs.Calls.{Noted}
+use Rattle.bbm_place_map.specs.Map.{marks_at, pends_at}
+use Rattle.bbm_place_map.specs.States.{state_from}
+use Rattle.bbm_place_map.specs.declared.map.PlaceMap.{PlaceMap}
+use Rattle.bbm_tlbi_scope.specs.Operations.{operation}
+use Rattle.bbm_tlbi_scope.specs.declared.entry.Cover.{Cover}
+use Rattle.bbm_rules.specs.Claims.Trust.{Patterns}
+use Rattle.bbm_rules.specs.Covers.{cover_at}
+use Rattle.bbm_rules.specs.Prelude.{Tlbi}
 use Rattle.bbm_replay_trees.specs.Told.{notes}
 use Rattle.bbm_replay.specs.Covering.{MayBeCovered}
 use Rattle.bbm_replay.proofs.Findings.{may_cover, on_ok}

@@ -1,20 +1,20 @@
 use Rattle.std.proofs.Common.{◌≡◌, Bool, true, false, List, None, refl, sym, ◌∙◌, ap, subst, true≢false}
-use Rattle.bbm_replay_entries.specs.entry_state.Calls.{Noted}
-use Rattle.bbm_replay_entries.specs.entry_state.declared.pending.Pends.{Pends}
-use Rattle.bbm_replay_entries.specs.events.Heading.{Heading}
-use Rattle.bbm_replay_trees.specs.place_map.Finds.{FoundAs, is_found}
-use Rattle.bbm_replay_trees.specs.place_map.Map.{marks_at, pends_at}
-use Rattle.bbm_replay_trees.specs.place_map.States.{state_from}
-use Rattle.bbm_replay_trees.specs.place_map.declared.found.Found.{Found}
-use Rattle.bbm_replay_entries.specs.regimes.World.{page_count}
-use Rattle.bbm_replay_entries.specs.tlbi_scope.Operations.{operation}
-use Rattle.bbm_replay_entries.specs.tlbi_scope.declared.entry.Cover.{Cover}
-use Rattle.bbm_replay_entries.specs.tlbi_scope.declared.entry.Cover.TheVariants as cover
-use Rattle.bbm_replay_entries.specs.rules.Claims.Trust.{Patterns}
-use Rattle.bbm_replay_entries.specs.rules.Covers.{cover_at}
-use Rattle.bbm_replay_entries.specs.rules.Prelude.{Tlbi}
-use Rattle.bbm_replay_trees.specs.tree_index.Held.{core_at}
-use Rattle.bbm_replay_trees.specs.tree_index.Index.{node_in}
+use Rattle.bbm_entry_state.specs.Calls.{Noted}
+use Rattle.bbm_entry_state.specs.declared.pending.Pends.{Pends}
+use Rattle.bbm_events.specs.Heading.{Heading}
+use Rattle.bbm_place_map.specs.Finds.{FoundAs, is_found}
+use Rattle.bbm_place_map.specs.Map.{marks_at, pends_at}
+use Rattle.bbm_place_map.specs.States.{state_from}
+use Rattle.bbm_place_map.specs.declared.found.Found.{Found}
+use Rattle.bbm_regimes.specs.World.{page_count}
+use Rattle.bbm_tlbi_scope.specs.Operations.{operation}
+use Rattle.bbm_tlbi_scope.specs.declared.entry.Cover.{Cover}
+use Rattle.bbm_tlbi_scope.specs.declared.entry.Cover.TheVariants as cover
+use Rattle.bbm_rules.specs.Claims.Trust.{Patterns}
+use Rattle.bbm_rules.specs.Covers.{cover_at}
+use Rattle.bbm_rules.specs.Prelude.{Tlbi}
+use Rattle.bbm_tree_index.specs.Held.{core_at}
+use Rattle.bbm_tree_index.specs.Index.{node_in}
 use Rattle.bbm_replay_trees.specs.Told.{notes}
 use Rattle.bbm_replay.specs.OnePage.{IsFoundIn, MetFromAll}
 use Rattle.bbm_replay.proofs.Findings.{on_ok}

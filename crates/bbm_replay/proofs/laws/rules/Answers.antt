@@ -1,4 +1,4 @@
-use Rattle.bbm_replay_entries.specs.rules.Claims.Trust.{Patterns}
+use Rattle.bbm_rules.specs.Claims.Trust.{Patterns}
 use Rattle.bbm_replay.proofs.laws.rules.Goals as goal
 
 pub returns : goal.returns

@@ -1,7 +1,7 @@
 use Rattle.std.proofs.Common.{◌∙◌, ap, cond, List, ◌∷◌, Some, None}
-use Rattle.bbm_entry_state.specs.descriptor.Descriptor.{is_valid}
-use Rattle.bbm_histories.specs.events.declared.event.Event.{Event}
-use Rattle.bbm_histories.specs.rules.Values.{value_of}
+use Rattle.bbm_descriptor.specs.Descriptor.{is_valid}
+use Rattle.bbm_events.specs.declared.event.Event.{Event}
+use Rattle.bbm_rules.specs.Values.{value_of}
 use Rattle.bbm_replay_entries.proofs.Places.{fresh_holds, value_stands}
 use Rattle.bbm_replay_entries.proofs.begins.law_entry_begins.Goals as goal
 

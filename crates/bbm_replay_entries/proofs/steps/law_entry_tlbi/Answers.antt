@@ -1,11 +1,11 @@
 use Rattle.std.proofs.Common.{refl, sym, ◌∙◌, subst, inl, inr, true≢false}
-use Rattle.bbm_entry_state.specs.tlbi_scope.Operations.{operation}
-use Rattle.bbm_entry_state.specs.tlbi_scope.declared.entry.Cover.{Cover}
+use Rattle.bbm_tlbi_scope.specs.Operations.{operation}
+use Rattle.bbm_tlbi_scope.specs.declared.entry.Cover.{Cover}
 use Rattle.bbm_entry_state.specs.Calls.{Noted as Issues}
-use Rattle.bbm_histories.specs.events.declared.event.Event.TheVariants.{Tlbi}
-use Rattle.bbm_histories.specs.rules.Claims.Trust.{Patterns}
-use Rattle.bbm_histories.specs.rules.Covers.{note, noted}
-use Rattle.bbm_histories.specs.rules.Notes.{Noted}
+use Rattle.bbm_events.specs.declared.event.Event.TheVariants.{Tlbi}
+use Rattle.bbm_rules.specs.Claims.Trust.{Patterns}
+use Rattle.bbm_rules.specs.Covers.{note, noted}
+use Rattle.bbm_rules.specs.Notes.{Noted}
 use Rattle.bbm_replay_entries.proofs.Marks.{issued_idle, marked_tlbi, marked_uncovered, marked_unreached}
 use Rattle.bbm_replay_entries.proofs.Places.{tlbi_stands}
 use Rattle.bbm_replay_entries.proofs.steps.law_entry_tlbi.Goals as goal

@@ -1,11 +1,11 @@
 use Rattle.std.proofs.Common.{◌≡◌, ℕ, refl, ap, ◌∙◌, sym, option_and_then, Option, Some, None}
-use Rattle.bbm_entry_state.specs.descriptor.Descriptor.{core_in as core_of_desc, core_of, desc_of, desc_with}
-use Rattle.bbm_entry_state.specs.descriptor.declared.desc.Core.{Core}
-use Rattle.bbm_entry_state.specs.descriptor.declared.desc.Core.TheVariants.{Table as CoreTable, Leaf as CoreLeaf}
-use Rattle.bbm_entry_state.specs.descriptor.declared.desc.Desc.{Desc}
-use Rattle.bbm_entry_state.specs.descriptor.declared.desc.Desc.TheVariants.{Invalid, Table, Leaf}
+use Rattle.bbm_descriptor.specs.Descriptor.{core_in as core_of_desc, core_of, desc_of, desc_with}
+use Rattle.bbm_descriptor.specs.declared.desc.Core.{Core}
+use Rattle.bbm_descriptor.specs.declared.desc.Core.TheVariants.{Table as CoreTable, Leaf as CoreLeaf}
+use Rattle.bbm_descriptor.specs.declared.desc.Desc.{Desc}
+use Rattle.bbm_descriptor.specs.declared.desc.Desc.TheVariants.{Invalid, Table, Leaf}
 use Rattle.bbm_regimes.specs.declared.regime.Kind.{Kind}
-use Rattle.bbm_histories.specs.rules.Tree.{next_in, next_of}
+use Rattle.bbm_rules.specs.Tree.{next_in, next_of}
 use Rattle.bbm_replay_entries.specs.Stands.{held_now, next_of_core}
 use Rattle.bbm_replay_entries.proofs.Places.{holds_core, present_core}
 use Rattle.bbm_replay_entries.proofs.tells.law_entry_holds.Goals as goal

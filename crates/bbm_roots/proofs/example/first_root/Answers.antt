@@ -1,6 +1,6 @@
 use Rattle.std.proofs.Common.{◌≡◌, ℕ, List, [], ◌∷◌, None, false, refl, subst, rules}
-use Rattle.bbm_events.specs.regimes.declared.regime.Kind.TheVariants.{El2}
-use Rattle.bbm_events.specs.regimes.declared.regime.Reg.TheVariants.{Ttbr0El2}
+use Rattle.bbm_regimes.specs.declared.regime.Kind.TheVariants.{El2}
+use Rattle.bbm_regimes.specs.declared.regime.Reg.TheVariants.{Ttbr0El2}
 use Rattle.bbm_roots.specs.Calls as call
 use Rattle.bbm_roots.specs.Calls.{Call}
 use Rattle.bbm_roots.specs.Stands.{Stands}

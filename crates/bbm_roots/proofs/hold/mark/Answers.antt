@@ -1,6 +1,6 @@
 use Rattle.std.proofs.Common.{◌≡◌, ◌+◌, ◌∙◌, ◌&&◌, ◌||◌, nat_eq, not, take, arith, ap, sym, cond, ℕ, List, Bool, true, false}
 use Rattle.std.specs.List.{list_any}
-use Rattle.bbm_events.specs.regimes.declared.regime.Tag.{Tag}
+use Rattle.bbm_regimes.specs.declared.regime.Tag.{Tag}
 use Rattle.bbm_roots.specs.Holds.{hold_in}
 use Rattle.bbm_roots.specs.Readings.{has_reading, is_reading, is_other, is_of_tag, same_tag}
 use Rattle.bbm_roots.specs.declared.reading.Reading.{Reading}

@@ -1,5 +1,5 @@
 use Rattle.std.proofs.Common.{◌≡◌, ℕ, ◌&&◌, ◌||◌, nat_eq, take}
-use Rattle.bbm_events.specs.regimes.declared.regime.Tag.{Tag}
+use Rattle.bbm_regimes.specs.declared.regime.Tag.{Tag}
 use Rattle.bbm_roots.specs.Holds.{hold_in, has_entry, IsCalm}
 use Rattle.bbm_roots.specs.Readings.{has_reading}
 use Rattle.bbm_roots.proofs.hold.mark.Given as goal

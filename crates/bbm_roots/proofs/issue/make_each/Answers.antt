@@ -1,7 +1,7 @@
 use Rattle.std.proofs.Common.{◌≡◌, ℕ, take, arith, ap, sym, ◌∙◌, ◌||◌, ◌&&◌, nat_eq, Bool, true, refl, ◌+◌, Vec, Global}
 use Rattle.std.proofs.lemmas.Bool.{false≢true, eq-eqb}
-use Rattle.bbm_events.specs.regimes.declared.regime.Tag.{Tag}
-use Rattle.bbm_events.specs.tlbi_scope.Tags.{takes_whole_tag}
+use Rattle.bbm_regimes.specs.declared.regime.Tag.{Tag}
+use Rattle.bbm_tlbi_scope.specs.Tags.{takes_whole_tag}
 use Rattle.bbm_roots.specs.Pendings.{has_pending, pending_in, same_flag}
 use Rattle.bbm_roots.specs.Readings.{same_tag}
 use Rattle.bbm_roots.specs.declared.pending.Pending.{Pending}

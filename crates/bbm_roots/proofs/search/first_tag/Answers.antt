@@ -1,6 +1,6 @@
 use Rattle.std.proofs.Common.{◌+◌, ℕ, Option, arith, subst, sym, ◌||◌}
 use Rattle.std.proofs.lemmas.Bool.{false≢true}
-use Rattle.bbm_events.specs.regimes.declared.regime.Tag.{Tag}
+use Rattle.bbm_regimes.specs.declared.regime.Tag.{Tag}
 use Rattle.bbm_roots.specs.Holds.{tag_in}
 use Rattle.bbm_roots.specs.Least.{IsLeast, TagUpTo}
 use Rattle.bbm_roots.specs.declared.hold.Held.{Held}

@@ -1,7 +1,7 @@
 use Rattle.std.proofs.Common.{◌+◌, ℕ, arith, subst, sym, ◌||◌}
 use Rattle.std.proofs.lemmas.Bool.{false≢true}
-use Rattle.bbm_events.specs.tlbi_scope.declared.entry.TagSet.{TagSet}
-use Rattle.bbm_events.specs.tlbi_scope.TagSets.{HasTags}
+use Rattle.bbm_tlbi_scope.specs.declared.entry.TagSet.{TagSet}
+use Rattle.bbm_tlbi_scope.specs.TagSets.{HasTags}
 use Rattle.bbm_roots.specs.Holds.{tag_in}
 use Rattle.bbm_roots.specs.declared.hold.Held.{Held}
 use Rattle.bbm_roots.proofs.Entries.{shows, shows_before, shown, shown-next}

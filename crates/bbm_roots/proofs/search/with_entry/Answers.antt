@@ -1,5 +1,5 @@
 use Rattle.std.proofs.Common.{◌≡◌, ℕ, ◌&&◌, ap, ◌∙◌, sym, Bool}
-use Rattle.bbm_events.specs.regimes.declared.regime.Tag.{Tag}
+use Rattle.bbm_regimes.specs.declared.regime.Tag.{Tag}
 use Rattle.bbm_roots.specs.Holds.{is_hold, is_held_under}
 use Rattle.bbm_roots.proofs.Bits.{and-true, hold-tag, hold-self}
 use Rattle.bbm_roots.proofs.search.with_entry.Goals as goal

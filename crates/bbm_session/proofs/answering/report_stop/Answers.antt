@@ -1,5 +1,5 @@
 use Rattle.std.proofs.Common.{sym, subst}
-use Rattle.bbm_report.specs.rules.Texts.{verdict_text}
+use Rattle.bbm_rules.specs.Texts.{verdict_text}
 use Rattle.bbm_session.specs.declared.status.Status.{Status}
 use Rattle.bbm_session.specs.declared.stop.Stop.{Stop}
 use Rattle.bbm_session.specs.Stages.{IsBrief}

@@ -1,7 +1,7 @@
 use Rattle.std.proofs.Common.{◌≡◌, ◌+◌, ◌++◌, ℕ, suc, List, None, arith, subst, sym, ap, ◌∙◌}
-use Rattle.bbm_report.specs.events.declared.event.Event.{Event as EventOf}
-use Rattle.bbm_report.specs.events.declared.event.Item.TheVariants.{Event}
-use Rattle.bbm_report.specs.events.Lines.{item_line}
+use Rattle.bbm_events.specs.declared.event.Event.{Event as EventOf}
+use Rattle.bbm_events.specs.declared.event.Item.TheVariants.{Event}
+use Rattle.bbm_events.specs.Lines.{item_line}
 use Rattle.bbm_gen.specs.Generated.{event_at}
 use Rattle.bbm_session.specs.Generating.{ended, gen_begin}
 use Rattle.bbm_session.specs.Writing.{Buffered}

@@ -1,5 +1,5 @@
 use Rattle.std.proofs.Common.{[], List, ℕ, ap, subst, ◌∙◌}
-use Rattle.bbm_report.specs.events.Lines.{header_line}
+use Rattle.bbm_events.specs.Lines.{header_line}
 use Rattle.bbm_session.specs.Generating.{ended}
 use Rattle.bbm_session.specs.Writing.{Pours}
 use Rattle.bbm_session.proofs.Pouring.{buffered-none}

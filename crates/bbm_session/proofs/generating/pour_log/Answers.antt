@@ -1,8 +1,8 @@
 use Rattle.std.proofs.Common.{◌≡◌, ◌++◌, ℕ, List, Result, Err, ap, subst, sym, ◌∙◌, arith}
 use Rattle.std.proofs.lemmas.Result.{err_from_is_err_and}
 use Rattle.bbm_io.specs.declared.source.Failed.{Failed}
-use Rattle.bbm_report.specs.events.declared.event.Item.TheVariants.{End}
-use Rattle.bbm_report.specs.events.Lines.{item_line}
+use Rattle.bbm_events.specs.declared.event.Item.TheVariants.{End}
+use Rattle.bbm_events.specs.Lines.{item_line}
 use Rattle.bbm_session.specs.Generating.{ended, gen_begin}
 use Rattle.bbm_session.specs.Writing.{Pours}
 use Rattle.bbm_session.proofs.Pouring.{begin-none, cut-short, pours-longer}

@@ -1,5 +1,5 @@
 use Rattle.std.proofs.Common.{[], refl}
-use Rattle.bbm_report.specs.rules.Outcome.{AtEvents}
+use Rattle.bbm_rules.specs.Outcome.{AtEvents}
 use Rattle.bbm_session.specs.Folds.{Judges, judging as judging_of}
 use Rattle.bbm_session.proofs.Judgements.{judging-inside, judged-ends}
 use Rattle.bbm_session.proofs.judgement.judge_lines.Goals as goal

@@ -1,5 +1,5 @@
 use Rattle.std.proofs.Common.{[], ◌*◌, ap, is_ok, lit≤}
-use Rattle.bbm_report.specs.rules.Outcome.{AtHeader, AtEvents}
+use Rattle.bbm_rules.specs.Outcome.{AtHeader, AtEvents}
 use Rattle.bbm_session.specs.Folds.{judging as judging_of}
 use Rattle.bbm_session.proofs.Judgements.{judging-start}
 use Rattle.bbm_session.proofs.RefusedLines.{stops-in}

@@ -1,5 +1,5 @@
 use Rattle.std.proofs.Common.{◌≡◌, ◌∷◌, suc, length, None, Err, true, ap, sym, arith}
-use Rattle.bbm_report.specs.rules.Outcome.{limit_after}
+use Rattle.bbm_rules.specs.Outcome.{limit_after}
 use Rattle.bbm_session.specs.declared.stop.Stop.TheVariants.{NoMemory}
 use Rattle.bbm_session.specs.Folds.{event_needs}
 use Rattle.bbm_session.specs.Stages.{Keeps}

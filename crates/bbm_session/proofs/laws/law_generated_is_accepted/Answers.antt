@@ -1,10 +1,10 @@
 use Rattle.std.proofs.Common.{◌++◌, length, refl, sym, ap}
 use Rattle.bbm_gen.specs.Generated.{heading}
-use Rattle.bbm_report.specs.rules.Claims.{Patterns}
-use Rattle.bbm_report.specs.rules.Outcome.{Outcome}
-use Rattle.bbm_report.specs.rules.Pages.{initialised}
-use Rattle.bbm_report.specs.rules.Phases.{restless_of}
-use Rattle.bbm_report.specs.rules.Texts.{verdict_text}
+use Rattle.bbm_rules.specs.Claims.{Patterns}
+use Rattle.bbm_rules.specs.Outcome.{Outcome}
+use Rattle.bbm_rules.specs.Pages.{initialised}
+use Rattle.bbm_rules.specs.Phases.{restless_of}
+use Rattle.bbm_rules.specs.Texts.{verdict_text}
 use Rattle.bbm_session.specs.Generating.{counts_text, selftest_text}
 use Rattle.bbm_session.proofs.GeneratedLogs.{Facts, accepted}
 use Rattle.bbm_session.proofs.laws.law_generated_is_accepted.Goals as goal

@@ -1,5 +1,5 @@
 use Rattle.std.proofs.Common.{◌≡◌, ap, ◌∙◌, subst}
-use Rattle.bbm_report.specs.events.Lines.{header_of}
+use Rattle.bbm_events.specs.Lines.{header_of}
 use Rattle.bbm_session.specs.declared.line.Piece.TheVariants as piece
 use Rattle.bbm_session.specs.Stages.{ReadsHeader}
 use Rattle.bbm_session.proofs.Stages.{header-starts, header-rest, header-long, header-fault, takes-shrinks}

@@ -1,6 +1,6 @@
 use Rattle.std.proofs.Common.{◌≡◌, ℕ, List, subst}
-use Rattle.bbm_report.specs.rules.declared.verdict.Verdict.TheVariants.{Accepted}
-use Rattle.bbm_report.specs.rules.Texts.{verdict_text}
+use Rattle.bbm_rules.specs.declared.verdict.Verdict.TheVariants.{Accepted}
+use Rattle.bbm_rules.specs.Texts.{verdict_text}
 use Rattle.bbm_gen.specs.Generated.{heading, log_of}
 use Rattle.bbm_session.specs.Generating.{counts_text}
 use Rattle.bbm_session.specs.Writing.{Puts}

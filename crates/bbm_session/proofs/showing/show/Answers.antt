@@ -1,6 +1,6 @@
 use Rattle.std.proofs.Common.{[], Bool, Some, refl, subst, inl}
-use Rattle.bbm_report.specs.rules.declared.limits.Limits.{Limits}
-use Rattle.bbm_report.specs.rules.Outcome.{AtHeader, events_in}
+use Rattle.bbm_rules.specs.declared.limits.Limits.{Limits}
+use Rattle.bbm_rules.specs.Outcome.{AtHeader, events_in}
 use Rattle.bbm_session.specs.declared.command.Command.TheVariants as command_of
 use Rattle.bbm_session.specs.Folds.{is_frugal, judging_for}
 use Rattle.bbm_session.specs.JudgedLog.{JudgedLog, Unjudged}

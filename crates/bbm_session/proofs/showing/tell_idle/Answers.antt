@@ -1,5 +1,5 @@
 use Rattle.std.proofs.Common.{reverse}
-use Rattle.bbm_report.specs.rules.Texts.{verdict_text as text_of_verdict}
+use Rattle.bbm_rules.specs.Texts.{verdict_text as text_of_verdict}
 use Rattle.bbm_session.specs.Shown.{marked_lines}
 use Rattle.bbm_session.proofs.Puts.{puts-then}
 use Rattle.bbm_session.proofs.showing.tell_idle.Goals as goal

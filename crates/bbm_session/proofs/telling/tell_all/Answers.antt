@@ -1,5 +1,5 @@
 use Rattle.std.proofs.Common.{Some, ◌++◌, refl, sym, subst}
-use Rattle.bbm_report.specs.rules.Texts.{verdict_text as text_of_verdict}
+use Rattle.bbm_rules.specs.Texts.{verdict_text as text_of_verdict}
 use Rattle.bbm_report.specs.Further.{explained}
 use Rattle.bbm_session.specs.declared.command.Command.{Command}
 use Rattle.bbm_session.specs.Run.{Further, Says}

@@ -1,5 +1,5 @@
 use Rattle.std.proofs.Common.{◌≡◌, ℕ, List, ◌++◌, Some, sym, subst}
-use Rattle.bbm_report.specs.rules.Texts.{verdict_text as text_of_verdict}
+use Rattle.bbm_rules.specs.Texts.{verdict_text as text_of_verdict}
 use Rattle.bbm_report.specs.Further.{phase_lines as lines_of_phases}
 use Rattle.bbm_session.specs.Telling.{place_named}
 use Rattle.bbm_session.specs.Writing.{Puts}

@@ -1,5 +1,5 @@
 use Rattle.std.proofs.Common.{◌≡◌, ℕ, List, subst}
-use Rattle.bbm_report.specs.rules.Texts.{verdict_text as text_of_verdict}
+use Rattle.bbm_rules.specs.Texts.{verdict_text as text_of_verdict}
 use Rattle.bbm_report.specs.Lines.{found_text as text_of_found}
 use Rattle.bbm_session.specs.Writing.{Puts}
 use Rattle.bbm_session.proofs.Puts.{puts-then}

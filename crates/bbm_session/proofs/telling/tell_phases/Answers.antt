@@ -1,5 +1,5 @@
 use Rattle.std.proofs.Common.{◌<◌, arith, subst}
-use Rattle.bbm_report.specs.events.Heading.{Heading}
+use Rattle.bbm_events.specs.Heading.{Heading}
 use Rattle.bbm_session.proofs.Puts.{lines-failed}
 use Rattle.bbm_session.proofs.telling.tell_phases.Goals as goal
 

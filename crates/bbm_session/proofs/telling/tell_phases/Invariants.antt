@@ -1,5 +1,5 @@
 use Rattle.std.proofs.Common.{◌-◌, ◌≤◌, List, Ok}
-use Rattle.bbm_report.specs.events.declared.event.Event.{Event}
+use Rattle.bbm_events.specs.declared.event.Event.{Event}
 use Rattle.bbm_report.specs.Further.{phase_lines as lines_of_phases}
 use Rattle.bbm_session.specs.Stages.{Keeps}
 use Rattle.bbm_session.specs.Writing.{Puts}

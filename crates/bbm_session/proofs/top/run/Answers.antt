@@ -1,6 +1,6 @@
 use Rattle.std.proofs.Common.{◌≡◌, ℕ, List, Some, Option, true, false, ap, sym, subst, option_map, map}
 use Rattle.bbm_io.specs.Flow.{extended}
-use Rattle.bbm_report.specs.rules.Claims.{Patterns}
+use Rattle.bbm_rules.specs.Claims.{Patterns}
 use Rattle.std.specs.String.{string_bytes}
 use Rattle.bbm_session.specs.declared.command.Command.{Command}
 use Rattle.bbm_session.specs.declared.command.Request.{Request}

@@ -1,8 +1,8 @@
 use Rattle.std.proofs.Common.{◌≡◌, ℕ, None, Some, List, Bool, subst, Option}
 use Rattle.indexmap.specs.IndexMap.{IndexMap}
-use Rattle.bbm_rules.specs.descriptor.declared.desc.Desc.{Desc}
+use Rattle.bbm_descriptor.specs.declared.desc.Desc.{Desc}
 use Rattle.bbm_place_map.specs.Map.{value_at}
-use Rattle.bbm_rules.specs.regimes.declared.regime.Kind.{Kind}
+use Rattle.bbm_regimes.specs.declared.regime.Kind.{Kind}
 use Rattle.bbm_rules.specs.Tree.{Node}
 use Rattle.bbm_tree_index.specs.Judged.{HasPlace, IsUnfresh, is_bad, is_user_global}
 use Rattle.bbm_tree_index.specs.Least.{LeafPlace, LeastOf, Told, WrongPage}

@@ -1,7 +1,7 @@
 use Rattle.std.proofs.Common.{sym, ◌∙◌, true≢false}
 use Rattle.std.proofs.lemmas.Bool.{and_parts}
-use Rattle.bbm_rules.specs.regimes.Same.{same_kind}
-use Rattle.bbm_rules.specs.regimes.declared.regime.Kind.TheVariants.{Ttbr0}
+use Rattle.bbm_regimes.specs.Same.{same_kind}
+use Rattle.bbm_regimes.specs.declared.regime.Kind.TheVariants.{Ttbr0}
 use Rattle.bbm_tree_index.proofs.judge.least_global.Goals as goal
 
 pub returns-else-is_lower : goal.returns-else-is_lower

@@ -5,7 +5,7 @@ use Rattle.bbm_rules.specs.Places.{index_of, page_of}
 use Rattle.bbm_rules.specs.Tree.{Node}
 use Rattle.bbm_tree_index.specs.Spots.{StandsAt}
 use Rattle.bbm_tree_index.specs.Survey.{Counts, Found, Partly, Reached, Uniform, Well}
-use Rattle.bbm_rules.specs.events.Heading.{Heading}
+use Rattle.bbm_events.specs.Heading.{Heading}
 use Rattle.bbm_tree_index.specs.declared.mark.Mark.{Mark}
 use Rattle.bbm_tree_index.proofs.survey.expand_page.Given as goal
 

@@ -1,9 +1,9 @@
 use Rattle.std.proofs.Common.{◌≡◌, ℕ, List, reverse, drop, ◌∙◌, ap}
-use Rattle.bbm_histories.specs.events.Heading.{Heading}
-use Rattle.bbm_histories.specs.regimes.EveryPe.{every_pe}
-use Rattle.bbm_histories.specs.regimes.PeMask.{pe_in}
-use Rattle.bbm_histories.specs.rules.Claims.Trust.{Listed}
-use Rattle.bbm_histories.specs.rules.Cleansing.{cleansed}
+use Rattle.bbm_events.specs.Heading.{Heading}
+use Rattle.bbm_regimes.specs.EveryPe.{every_pe}
+use Rattle.bbm_regimes.specs.PeMask.{pe_in}
+use Rattle.bbm_rules.specs.Claims.Trust.{Listed}
+use Rattle.bbm_rules.specs.Cleansing.{cleansed}
 use Rattle.bbm_oracle_patterns.specs.Kept.{notes_behind}
 use Rattle.bbm_regimes.proofs.Every.{every_same}
 use Rattle.bbm_cert.specs.Cleansings.{tells}

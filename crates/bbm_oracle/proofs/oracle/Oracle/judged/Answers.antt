@@ -1,8 +1,8 @@
 use Rattle.std.proofs.Common.{subst}
-use Rattle.bbm_judge.specs.rules.Answers.{Answers}
-use Rattle.bbm_judge.specs.rules.Broken.{broken}
-use Rattle.bbm_judge.specs.rules.Claims.{Trust}
-use Rattle.bbm_judge.specs.rules.Limits.{limit_of}
+use Rattle.bbm_rules.specs.Answers.{Answers}
+use Rattle.bbm_rules.specs.Broken.{broken}
+use Rattle.bbm_rules.specs.Claims.{Trust}
+use Rattle.bbm_rules.specs.Limits.{limit_of}
 use Rattle.bbm_oracle.proofs.oracle.Oracle.judged.Goals as goal
 
 pub returns : goal.returns

@@ -1,6 +1,6 @@
 use Rattle.std.proofs.Common.{◌∙◌, ap}
-use Rattle.bbm_judge.specs.rules.Claims.{Trust}
-use Rattle.bbm_judge.specs.rules.Phases.{restless_of}
+use Rattle.bbm_rules.specs.Claims.{Trust}
+use Rattle.bbm_rules.specs.Phases.{restless_of}
 use Rattle.bbm_oracle.proofs.oracle.OracleChecker.restless.Goals as goal
 
 pub returns : goal.returns

@@ -1,5 +1,5 @@
 use Rattle.std.proofs.Common.{refl}
-use Rattle.bbm_oracle_patterns.specs.rules.Tree.{tree}
+use Rattle.bbm_rules.specs.Tree.{tree}
 use Rattle.bbm_oracle_trees.proofs.history.History.new.Goals as goal
 
 pub invariant_of-result : goal.invariant_of-result

@@ -1,9 +1,9 @@
 use Rattle.std.proofs.Common.{◌≡◌, Some, None, ap, sym, ◌∙◌}
 use Rattle.std.specs.Option.{option_copied}
-use Rattle.bbm_oracle_patterns.specs.rules.Notes.{events_of}
-use Rattle.bbm_oracle_patterns.specs.rules.Places.{page_of}
-use Rattle.bbm_oracle_patterns.specs.rules.Tree.{Node, node_of}
-use Rattle.bbm_oracle_patterns.specs.rules.Values.{value_of}
+use Rattle.bbm_rules.specs.Notes.{events_of}
+use Rattle.bbm_rules.specs.Places.{page_of}
+use Rattle.bbm_rules.specs.Tree.{Node, node_of}
+use Rattle.bbm_rules.specs.Values.{value_of}
 use Rattle.bbm_oracle_patterns.specs.Phases.{phase_at}
 use Rattle.bbm_oracle_trees.specs.Past.{notes}
 use Rattle.bbm_oracle_trees.proofs.Phasing.{phase_at_node, phase_nowhere, phase_stands}

@@ -1,6 +1,6 @@
 use Rattle.std.proofs.Common.{◌≡◌, ◌<◌, ◌+◌, ◌*◌, arith}
-use Rattle.bbm_oracle_patterns.specs.rules.Places.{index_of}
-use Rattle.bbm_oracle_patterns.specs.regimes.World.{input_pages}
+use Rattle.bbm_rules.specs.Places.{index_of}
+use Rattle.bbm_regimes.specs.World.{input_pages}
 use Rattle.bbm_oracle_trees.proofs.Pages.{below_fits}
 use Rattle.bbm_oracle_trees.proofs.node.Node.below.Goals as goal
 

@@ -1,6 +1,6 @@
 use Rattle.std.proofs.Common.{ℕ, refl, nat_eq, ap, sym, arith, ◌∙◌, vec_len, slice_get, List, length}
 use Rattle.indexmap.specs.IndexMap.{get}
-use Rattle.bbm_entry_state.specs.tlbi_scope.declared.entry.Cover.{Cover}
+use Rattle.bbm_tlbi_scope.specs.declared.entry.Cover.{Cover}
 use Rattle.bbm_place_map.specs.Calls.{MayCover}
 use Rattle.bbm_place_map.specs.Map.{marks_at, pends_at}
 use Rattle.bbm_place_map.specs.Notes.{Keeps, NotesAt}

@@ -1,6 +1,6 @@
 use Rattle.std.proofs.Common.{ℕ, nat_eq, ap, sym, ◌∙◌, arith}
 use Rattle.indexmap.specs.IndexMap.{get}
-use Rattle.bbm_entry_state.specs.descriptor.Descriptor.{core_of}
+use Rattle.bbm_descriptor.specs.Descriptor.{core_of}
 use Rattle.bbm_place_map.specs.Cells.{value_in}
 use Rattle.bbm_place_map.specs.Map.{value_at, IsSeat}
 use Rattle.bbm_place_map.specs.Sound.{at_index}

@@ -1,6 +1,6 @@
 use Rattle.std.proofs.Common.{ℕ, nat_eq, arith, slice_get, ◌≡◌, ◌⊎◌, ◌<◌, List, Some, refl, subst}
 use Rattle.indexmap.specs.IndexMap.{get}
-use Rattle.bbm_entry_state.specs.barriers.declared.Dsb.{Dsb}
+use Rattle.bbm_barriers.specs.declared.Dsb.{Dsb}
 use Rattle.bbm_place_map.specs.Each.{Advances, Publishes}
 use Rattle.bbm_place_map.specs.Map.{marks_at, pends_at, restless_in, restless_place}
 use Rattle.bbm_entry_state.specs.declared.marks.Marks.{Marks}

@@ -1,5 +1,5 @@
 use Rattle.std.proofs.Common.{refl, Ok}
-use Rattle.bbm_replay_entries.specs.rules.Prelude.{Dmb}
+use Rattle.bbm_rules.specs.Prelude.{Dmb}
 use Rattle.bbm_replay.proofs.Meeting.{meets_judged}
 use Rattle.bbm_replay.proofs.parts.Parts.dmb.Goals as goal
 

@@ -1,5 +1,5 @@
 use Rattle.std.proofs.Common.{refl, ◌∙◌}
-use Rattle.bbm_replay_trees.specs.tree_index.Held.{is_held}
+use Rattle.bbm_tree_index.specs.Held.{is_held}
 use Rattle.bbm_replay_trees.specs.Told.{is_held_by}
 use Rattle.bbm_replay.specs.Standing.{view_of}
 use Rattle.bbm_replay.specs.declared.parts.Parts.{Parts}

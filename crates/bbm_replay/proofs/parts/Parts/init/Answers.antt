@@ -1,7 +1,7 @@
 use Rattle.std.proofs.Common.{refl, sym, ◌∙◌, ap, Err}
-use Rattle.bbm_replay_entries.specs.entry_state.Points.{waits}
-use Rattle.bbm_replay_trees.specs.tree_index.Index.{node_in, null_in}
-use Rattle.bbm_replay_trees.specs.tree_index.declared.fault.TreeFault.{TreeFault}
+use Rattle.bbm_entry_state.specs.Points.{waits}
+use Rattle.bbm_tree_index.specs.Index.{node_in, null_in}
+use Rattle.bbm_tree_index.specs.declared.fault.TreeFault.{TreeFault}
 use Rattle.bbm_replay.specs.declared.parts.Parts.{Parts}
 use Rattle.bbm_replay.proofs.Framing.{same_of}
 use Rattle.bbm_replay.proofs.Starting.{else_by, free_parts, full_by, init_err, init_ok, init_refused}

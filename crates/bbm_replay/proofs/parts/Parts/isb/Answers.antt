@@ -1,5 +1,5 @@
 use Rattle.std.proofs.Common.{refl, Ok}
-use Rattle.bbm_replay_entries.specs.rules.Prelude.{Isb}
+use Rattle.bbm_rules.specs.Prelude.{Isb}
 use Rattle.bbm_replay.proofs.Meeting.{meets_judged}
 use Rattle.bbm_replay.proofs.parts.Parts.isb.Goals as goal
 

@@ -1,11 +1,11 @@
 use Rattle.std.specs.Option.{option_map_or}
-use Rattle.bbm_replay_entries.specs.rules.Places.{page_of}
-use Rattle.bbm_replay_trees.specs.tree_index.Held.{limbo_at}
-use Rattle.bbm_replay_trees.specs.tree_index.Index.{node_in}
+use Rattle.bbm_rules.specs.Places.{page_of}
+use Rattle.bbm_tree_index.specs.Held.{limbo_at}
+use Rattle.bbm_tree_index.specs.Index.{node_in}
 use Rattle.std.proofs.Common.{◌≡◌, ℕ, false, ◌&&◌, Some, None, Option, option_and_then, refl, sym, ◌∙◌, ap}
-use Rattle.bbm_replay_entries.specs.rules.Lists.{if_so}
-use Rattle.bbm_replay_entries.specs.rules.Roots.{lock_of}
-use Rattle.bbm_replay_entries.specs.rules.Rules.{lacks}
+use Rattle.bbm_rules.specs.Lists.{if_so}
+use Rattle.bbm_rules.specs.Roots.{lock_of}
+use Rattle.bbm_rules.specs.Rules.{lacks}
 use Rattle.bbm_replay.proofs.Inside.{entry_clear, entry_differs, entry_limbo, entry_locked}
 use Rattle.bbm_replay.proofs.parts.Parts.judge_entry.Goals as goal
 

@@ -1,5 +1,5 @@
 use Rattle.std.proofs.Common.{refl}
-use Rattle.bbm_replay_entries.specs.rules.Prelude.{Lock}
+use Rattle.bbm_rules.specs.Prelude.{Lock}
 use Rattle.bbm_replay.proofs.Meeting.{meets_judged}
 use Rattle.bbm_replay.proofs.parts.Parts.lock.Goals as goal
 

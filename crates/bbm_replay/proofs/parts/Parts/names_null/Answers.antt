@@ -1,8 +1,8 @@
 use Rattle.std.proofs.Common.{◌≡◌, ℕ, ◌<◌, ◌%◌, ◌==◌, ◌^◌, true, false, nat_lt, Option, Some, None, IsSome, sym, ◌∙◌, ap, true≢false}
 use Rattle.std.proofs.lemmas.Bool.{and_parts, eqb-true, ltb-true}
 use Rattle.std.specs.Option.{option_map_or}
-use Rattle.bbm_replay_entries.specs.events.Fits.{is_page}
-use Rattle.bbm_replay_entries.specs.rules.Pages.{is_null}
+use Rattle.bbm_events.specs.Fits.{is_page}
+use Rattle.bbm_rules.specs.Pages.{is_null}
 use Rattle.bbm_replay.proofs.Meeting.{never_null}
 use Rattle.bbm_replay.proofs.parts.Parts.names_null.Goals as goal
 

@@ -1,5 +1,5 @@
 use Rattle.std.proofs.Common.{refl, sym, ◌∙◌, ap}
-use Rattle.bbm_replay_entries.specs.rules.Prelude.{S2, kind_in_world, Heading}
+use Rattle.bbm_rules.specs.Prelude.{S2, kind_in_world, Heading}
 use Rattle.bbm_replay.specs.declared.parts.Parts.{Parts}
 use Rattle.bbm_replay.proofs.Starting.{null_nonzero, null_ok, null_unfresh, null_world}
 use Rattle.bbm_replay.proofs.parts.Parts.null.Goals as goal

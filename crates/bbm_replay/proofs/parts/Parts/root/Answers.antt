@@ -1,14 +1,14 @@
 use Rattle.std.proofs.Common.{◌≡◌, ℕ, not, filter, None, ◌+◌, ◌*◌, ◌≤◌, ◌^◌, refl, sym, ◌∙◌, ap, subst, Err, Contains}
-use Rattle.bbm_replay_entries.specs.regimes.World.{page_count}
-use Rattle.bbm_replay_entries.specs.rules.Prelude.{Heading, kind_in_world}
-use Rattle.bbm_replay_entries.specs.rules.declared.step_fault.StepFault.{StepFault}
-use Rattle.bbm_replay_entries.specs.rules.Roots.{root_pages}
-use Rattle.bbm_replay_trees.specs.tree_index.Index.{fresh_in, heading_of}
-use Rattle.bbm_replay_trees.specs.tree_index.Prepared.{AreNamedFresh}
-use Rattle.bbm_replay_trees.specs.tree_index.declared.index.TreeIndex.{TreeIndex}
-use Rattle.bbm_replay_entries.specs.regimes.declared.regime.Kind.{Kind}
-use Rattle.bbm_replay_entries.specs.rules.Lists.{least}
-use Rattle.bbm_replay_trees.specs.tree_index.declared.role.Attach.TheVariants as attach
+use Rattle.bbm_regimes.specs.World.{page_count}
+use Rattle.bbm_rules.specs.Prelude.{Heading, kind_in_world}
+use Rattle.bbm_rules.specs.declared.step_fault.StepFault.{StepFault}
+use Rattle.bbm_rules.specs.Roots.{root_pages}
+use Rattle.bbm_tree_index.specs.Index.{fresh_in, heading_of}
+use Rattle.bbm_tree_index.specs.Prepared.{AreNamedFresh}
+use Rattle.bbm_tree_index.specs.declared.index.TreeIndex.{TreeIndex}
+use Rattle.bbm_regimes.specs.declared.regime.Kind.{Kind}
+use Rattle.bbm_rules.specs.Lists.{least}
+use Rattle.bbm_tree_index.specs.declared.role.Attach.TheVariants as attach
 use Rattle.bbm_replay.specs.Standing.{view_of}
 use Rattle.bbm_replay.specs.declared.parts.Parts.{Parts}
 use Rattle.bbm_replay.proofs.RootPages.{named_fresh, room_for}

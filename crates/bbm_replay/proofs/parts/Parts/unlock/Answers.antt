@@ -1,5 +1,5 @@
 use Rattle.std.proofs.Common.{refl}
-use Rattle.bbm_replay_entries.specs.rules.Prelude.{Unlock}
+use Rattle.bbm_rules.specs.Prelude.{Unlock}
 use Rattle.bbm_replay.proofs.Meeting.{meets_judged}
 use Rattle.bbm_replay.proofs.parts.Parts.unlock.Goals as goal
 

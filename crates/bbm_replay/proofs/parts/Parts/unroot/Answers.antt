@@ -1,5 +1,5 @@
 use Rattle.std.proofs.Common.{not, ◌==◌, refl}
-use Rattle.bbm_replay_entries.specs.rules.Tree.{Node}
+use Rattle.bbm_rules.specs.Tree.{Node}
 use Rattle.bbm_replay.specs.Standing.{view_of}
 use Rattle.bbm_replay.specs.declared.parts.Parts.{Parts}
 use Rattle.bbm_replay.proofs.Gone.{leaves_of, unroot_err, unroot_ok}

@@ -1,7 +1,7 @@
 use Rattle.std.proofs.Common.{◌≡◌, sym, subst}
-use Rattle.bbm_replay_trees.specs.place_map.Map.{IsSeat}
-use Rattle.bbm_replay_trees.specs.place_map.declared.seat.Seat.{Seat}
-use Rattle.bbm_replay_entries.specs.rules.Prelude.{Write}
+use Rattle.bbm_place_map.specs.Map.{IsSeat}
+use Rattle.bbm_place_map.specs.declared.seat.Seat.{Seat}
+use Rattle.bbm_rules.specs.Prelude.{Write}
 use Rattle.bbm_replay.specs.Standing.{IsAt, MayMeet, Meets}
 use Rattle.bbm_replay.proofs.Findings.{if_some}
 use Rattle.bbm_replay.proofs.Found.{at_path, no_path}

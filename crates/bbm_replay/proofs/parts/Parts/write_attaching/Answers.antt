@@ -1,13 +1,13 @@
 use Rattle.std.proofs.Common.{ℕ, Option, refl, ap, subst}
-use Rattle.bbm_replay_entries.specs.descriptor.declared.desc.Core.{Core}
-use Rattle.bbm_replay_entries.specs.entry_state.Calls.{Written}
-use Rattle.bbm_replay_entries.specs.entry_state.Points.{core_in, waits}
-use Rattle.bbm_replay_entries.specs.entry_state.declared.pending.Pends.{Pends}
-use Rattle.bbm_replay_entries.specs.entry_state.declared.state.EntryState.{EntryState}
-use Rattle.bbm_replay_trees.specs.place_map.Map.{state_at}
-use Rattle.bbm_replay_trees.specs.tree_index.declared.role.Path.{Path}
-use Rattle.bbm_replay_trees.specs.tree_index.Paths.{starts_of}
-use Rattle.bbm_replay_trees.specs.tree_index.declared.role.Attach.TheVariants as attach
+use Rattle.bbm_descriptor.specs.declared.desc.Core.{Core}
+use Rattle.bbm_entry_state.specs.Calls.{Written}
+use Rattle.bbm_entry_state.specs.Points.{core_in, waits}
+use Rattle.bbm_entry_state.specs.declared.pending.Pends.{Pends}
+use Rattle.bbm_entry_state.specs.declared.state.EntryState.{EntryState}
+use Rattle.bbm_place_map.specs.Map.{state_at}
+use Rattle.bbm_tree_index.specs.declared.role.Path.{Path}
+use Rattle.bbm_tree_index.specs.Paths.{starts_of}
+use Rattle.bbm_tree_index.specs.declared.role.Attach.TheVariants as attach
 use Rattle.bbm_replay.specs.Standing.{view_of}
 use Rattle.bbm_replay.specs.View.{state_of}
 use Rattle.bbm_replay.specs.declared.parts.Parts.{Parts}

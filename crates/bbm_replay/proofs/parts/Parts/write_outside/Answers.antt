@@ -1,11 +1,11 @@
 use Rattle.std.proofs.Common.{ℕ, ◌%◌, ◌==◌, ◌&&◌, not, refl, sym, ◌∙◌, ap, subst}
-use Rattle.bbm_replay_entries.specs.entry_state.declared.pending.Pends.{Pends}
-use Rattle.bbm_replay_entries.specs.entry_state.declared.state.EntryState.{EntryState}
+use Rattle.bbm_entry_state.specs.declared.pending.Pends.{Pends}
+use Rattle.bbm_entry_state.specs.declared.state.EntryState.{EntryState}
 use Rattle.bbm_replay.proofs.Moves.{Writes}
 use Rattle.bbm_replay.specs.Standing.{view_of}
-use Rattle.bbm_replay_trees.specs.tree_index.Index.{fresh_in, null_in}
-use Rattle.bbm_replay_entries.specs.entry_state.Points.{waits}
-use Rattle.bbm_replay_entries.specs.rules.Places.{page_of}
+use Rattle.bbm_tree_index.specs.Index.{fresh_in, null_in}
+use Rattle.bbm_entry_state.specs.Points.{waits}
+use Rattle.bbm_rules.specs.Places.{page_of}
 use Rattle.bbm_replay.specs.declared.parts.Parts.{Parts}
 use Rattle.bbm_replay.proofs.Outside.{outside_null, outside_ok, outside_rewritten, outside_unfresh}
 use Rattle.bbm_replay.proofs.parts.Parts.write_outside.Goals as goal

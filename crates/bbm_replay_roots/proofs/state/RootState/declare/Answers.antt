@@ -1,5 +1,5 @@
 use Rattle.std.proofs.Common.{refl}
-use Rattle.bbm_histories.specs.rules.Prelude.{Root}
+use Rattle.bbm_rules.specs.Prelude.{Root}
 use Rattle.bbm_replay_roots.specs.Bridge.{calls_of}
 use Rattle.bbm_replay_roots.proofs.Judge.{free_page, stays, stood, undeclared}
 use Rattle.bbm_replay_roots.proofs.state.RootState.declare.Goals as goal

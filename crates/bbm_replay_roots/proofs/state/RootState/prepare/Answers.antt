@@ -1,8 +1,8 @@
 use Rattle.std.proofs.Common.{◌≡◌, Err, refl, sym, ap, ◌∙◌}
 use Rattle.bbm_replay_roots.specs.Bridge.{calls_of}
-use Rattle.bbm_histories.specs.rules.declared.step_fault.StepFault.{StepFault}
-use Rattle.bbm_locks.specs.regimes.declared.regime.Which.TheVariants.{Roots}
-use Rattle.bbm_histories.specs.rules.declared.step_fault.StepFault.TheVariants.{Limit}
+use Rattle.bbm_rules.specs.declared.step_fault.StepFault.{StepFault}
+use Rattle.bbm_regimes.specs.declared.regime.Which.TheVariants.{Roots}
+use Rattle.bbm_rules.specs.declared.step_fault.StepFault.TheVariants.{Limit}
 use Rattle.bbm_roots.specs.declared.fault.RootFault.{RootFault}
 use Rattle.bbm_roots.specs.declared.fault.RootFault.TheVariants as faults
 use Rattle.bbm_replay_roots.specs.Faults.{room_fault}

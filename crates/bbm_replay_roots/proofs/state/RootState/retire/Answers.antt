@@ -1,5 +1,5 @@
 use Rattle.std.proofs.Common.{refl, Err}
-use Rattle.bbm_histories.specs.rules.Prelude.{Unroot}
+use Rattle.bbm_rules.specs.Prelude.{Unroot}
 use Rattle.bbm_replay_roots.specs.Bridge.{calls_of}
 use Rattle.bbm_replay_roots.proofs.Judge.{agrees_by, stood}
 use Rattle.bbm_replay_roots.proofs.Unroots.{judged_by, outside_by, unroot_taken}

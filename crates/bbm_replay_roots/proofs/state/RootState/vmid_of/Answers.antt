@@ -1,5 +1,5 @@
 use Rattle.std.proofs.Common.{sym, ap, ◌∙◌}
-use Rattle.bbm_histories.specs.rules.Prelude.{World}
+use Rattle.bbm_rules.specs.Prelude.{World}
 use Rattle.bbm_roots.specs.Tags as held
 use Rattle.bbm_replay_roots.specs.Bridge.{calls_of}
 use Rattle.bbm_replay_roots.proofs.Judge.{agrees_by, in_range, of_state}

@@ -1,11 +1,11 @@
 use Rattle.std.proofs.Common.{Bool, [], ◌∷◌, Ok, Err, refl, sym, ap, ◌∙◌, subst}
-use Rattle.bbm_histories.specs.rules.Prelude.{Msr, World}
-use Rattle.bbm_histories.specs.rules.Answers.{Answers}
-use Rattle.bbm_histories.specs.rules.Broken.{broken}
-use Rattle.bbm_histories.specs.rules.Claims.{Patterns}
-use Rattle.bbm_histories.specs.rules.Covers.{noted}
-use Rattle.bbm_histories.specs.rules.Limits.{limit_of}
-use Rattle.bbm_histories.specs.rules.declared.step_fault.StepFault.{StepFault}
+use Rattle.bbm_rules.specs.Prelude.{Msr, World}
+use Rattle.bbm_rules.specs.Answers.{Answers}
+use Rattle.bbm_rules.specs.Broken.{broken}
+use Rattle.bbm_rules.specs.Claims.{Patterns}
+use Rattle.bbm_rules.specs.Covers.{noted}
+use Rattle.bbm_rules.specs.Limits.{limit_of}
+use Rattle.bbm_rules.specs.declared.step_fault.StepFault.{StepFault}
 use Rattle.bbm_roots.specs.Calls.{WriteReg}
 use Rattle.bbm_roots.specs.Registers.{is_of_world}
 use Rattle.bbm_roots.specs.Stands as lower

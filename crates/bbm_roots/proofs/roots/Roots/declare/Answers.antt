@@ -1,6 +1,6 @@
 use Rattle.std.proofs.Common.{◌≡◌, ◌∙◌, ap, sym, refl, nat_eq, ◌+◌, true, cond, ℕ, Option, Some, None, is_some, IsSome, length, subst, arith, rules}
 use Rattle.indexmap.specs.IndexMap.{get, index_map_len}
-use Rattle.bbm_events.specs.regimes.declared.regime.Tag.{Tag}
+use Rattle.bbm_regimes.specs.declared.regime.Tag.{Tag}
 use Rattle.bbm_roots.specs.Calls.{Declare}
 use Rattle.bbm_roots.specs.Registers.{kind_of_reg}
 use Rattle.bbm_roots.specs.Roots.{roots_of, root_at, is_root, is_of_kind, retired}

@@ -1,5 +1,5 @@
 use Rattle.std.proofs.Common.{◌≡◌, ◌∙◌, ap, sym, refl, nat_eq, List, ◌∷◌, true, cond, ℕ}
-use Rattle.bbm_events.specs.regimes.declared.regime.Tag.{Tag}
+use Rattle.bbm_regimes.specs.declared.regime.Tag.{Tag}
 use Rattle.bbm_roots.specs.Calls.{Isb}
 use Rattle.bbm_roots.specs.Readings.{is_reading, is_of_tag}
 use Rattle.bbm_roots.specs.Registers.{newest, at_start, register_values, first_reg, second_reg}

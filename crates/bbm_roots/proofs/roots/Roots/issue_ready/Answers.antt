@@ -1,9 +1,9 @@
 use Rattle.std.proofs.Common.{◌≡◌, ◌<◌, ◌≤◌, ◌∙◌, ap, sym, refl, Bool, ◌&&◌, nat_eq, nat_lt, List, true, ℕ, arith, ⊎_elim}
 use Rattle.std.proofs.lemmas.Bool.{false≢true, cases_lt, lt-ltb}
 use Rattle.std.proofs.lemmas.List.{with_items_is}
-use Rattle.bbm_events.specs.regimes.PeMask.{pe_in}
-use Rattle.bbm_events.specs.regimes.declared.regime.Tag.{Tag}
-use Rattle.bbm_events.specs.tlbi_scope.Tags.{takes_whole_tag}
+use Rattle.bbm_regimes.specs.PeMask.{pe_in}
+use Rattle.bbm_regimes.specs.declared.regime.Tag.{Tag}
+use Rattle.bbm_tlbi_scope.specs.Tags.{takes_whole_tag}
 use Rattle.bbm_roots.specs.Calls.{Call, Issue}
 use Rattle.bbm_roots.specs.Columns.{loads_in}
 use Rattle.bbm_roots.specs.Pendings.{pending_in, has_pending, same_flag}

@@ -1,6 +1,6 @@
 use Rattle.std.proofs.Common.{◌≡◌, ◌∙◌, ap, sym, refl, Bool, nat_eq, ◌+◌, true, cond, ℕ, Option, None, is_some, IsSome, subst, arith}
 use Rattle.indexmap.specs.IndexMap.{get, index_map_len}
-use Rattle.bbm_events.specs.regimes.declared.regime.Tag.{Tag}
+use Rattle.bbm_regimes.specs.declared.regime.Tag.{Tag}
 use Rattle.bbm_roots.specs.Calls.{Call, Retire}
 use Rattle.bbm_roots.specs.Registers.{kind_of_reg}
 use Rattle.bbm_roots.specs.Roots.{roots_of, root_at, is_of_kind}

@@ -1,6 +1,6 @@
 use Rattle.std.proofs.Common.{◌≡◌, ◌∙◌, sym, ap, subst, List, ◌<◌, length}
-use Rattle.bbm_events.specs.regimes.declared.regime.World.{World}
-use Rattle.bbm_events.specs.regimes.declared.regime.Reg.TheVariants.{VttbrEl2}
+use Rattle.bbm_regimes.specs.declared.regime.World.{World}
+use Rattle.bbm_regimes.specs.declared.regime.Reg.TheVariants.{VttbrEl2}
 use Rattle.bbm_roots.specs.Refusals.{JudgesVmid}
 use Rattle.bbm_roots.specs.Registers.{register_values, second_reg}
 use Rattle.bbm_roots.specs.Tags.{vmid_of, one_number}

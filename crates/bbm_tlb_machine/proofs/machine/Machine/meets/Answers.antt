@@ -1,5 +1,5 @@
 use Rattle.std.proofs.Common.{◌≡◌, List, reverse, ◌∙◌, ap, rules}
-use Rattle.bbm_histories.specs.rules.Lists.{any}
+use Rattle.bbm_rules.specs.Lists.{any}
 use Rattle.bbm_tlb_machine.specs.Run.{Living}
 use Rattle.bbm_tlb_machine.specs.Safe.{conflicts_with}
 use Rattle.bbm_tlb_machine.proofs.FollowSteps.{if_ok}
