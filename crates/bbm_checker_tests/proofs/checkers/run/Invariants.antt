@@ -1,6 +1,6 @@
 use Rattle.std.proofs.Common.{◌≤◌, List, length}
 use Rattle.bbm_rules.specs.Prelude.{Event}
-use Rattle.bbm_state_tests.proofs.checkers.run.Given as goal
+use Rattle.bbm_checker_tests.proofs.checkers.run.Given as goal
 
 abbrev pub invariant-loop-line : goal.invariant-loop-line
 invariant-loop-line g l =
