@@ -9,7 +9,8 @@ ghost use Rattle.bbm_alike.specs.Alike.{Alike};
 
 use crate::known::known;
 
-/// After histories that are alike, each read by its trust, every event covers each place alike. The law is the contract.
+/// After histories that are alike, each read by its trust, every event covers each place alike. The law is the
+/// contract.
 pub fn law_covers_alike()
     ensures { (heading : Heading) (one other : Trust) (h h' : List Event) (e : Event) (place : ℕ) →
         Alike heading one other h h' →

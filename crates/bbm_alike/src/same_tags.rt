@@ -14,8 +14,8 @@ use bbm_histories::{law_frozen, law_tag_steps, law_tags};
 use bbm_rules::{law_answered, law_equality_tests};
 
 /// Which events leave the tags of a history that keeps the rules as they were: a DMB; an ISB after which the registers
-/// have the values that they had; a TLBI that takes no whole tag that a declared root holds at a PE that it reaches; and a
-/// DSB that answers no TLBI that did so at its issue. The law is the contract.
+/// have the values that they had; a TLBI that takes no whole tag that a declared root holds at a PE that it reaches;
+/// and a DSB that answers no TLBI that did so at its issue. The law is the contract.
 pub fn law_same_tags()
     ensures dmb { (heading : Heading) (trust : Trust) (p : ℕ) (dsb : Barrier) (h : List Event) →
         SameTags heading trust trust (Dmb p dsb ∷ h) h }

@@ -13,7 +13,8 @@ ghost use Rattle.bbm_rules.specs.Values.{written_places};
 /// same, have the same trees, each read by its trust. The call does nothing; the law is its contract.
 pub fn law_trees_alike()
     ensures { (heading : Heading) (one other : Trust) (h h' : List Noted) →
-        roots_of (events_of h) ≡ roots_of (events_of h') → written_places (events_of h) ≡ written_places (events_of h') →
+        roots_of (events_of h) ≡ roots_of (events_of h') → written_places (events_of h)
+        ≡ written_places (events_of h') →
         ((n : Node) (place : ℕ) → Contains (tree heading one h) n → page_of place ≡ n.page →
         held_at heading one h n place ≡ held_at heading other h' n place) →
         tree heading one h ≡ tree heading other h' }

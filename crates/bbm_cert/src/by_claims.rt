@@ -16,9 +16,9 @@ use bbm_oracle_tags::TagEvidence;
 use bbm_regimes::{NoMemory, Pe, PeMask, Place, Tag};
 use std::alloc::Global;
 
-/// A list of claims is trusted, and nothing else: a place is cleansed, and a tag taken away, only by a pattern of events
-/// that a claim of the list names. A claim that isn't true of the log counts for nothing. It keeps what the claims say of
-/// the events taken, so that no answer searches them. Source: project's own choice.
+/// A list of claims is trusted, and nothing else: a place is cleansed, and a tag taken away, only by a pattern of
+/// events that a claim of the list names. A claim that isn't true of the log counts for nothing. It keeps what the
+/// claims say of the events taken, so that no answer searches them. Source: project's own choice.
 #[derive(Drop)]
 pub struct ByClaims<'a> {
     /// The claims, in any order.

@@ -97,7 +97,8 @@ fn add_claims(
     kept: &mut Vec<Cleansing>,
 ) -> Result<(), NoMemory>
     ensures { OnOk result ((a p n : ℕ) → tells kept.new.items a p n
-        ≡ (tells kept.old.items a p n || any (ends_now header.now newest.now (notes_of (reverse log.now)) a p n) claims.now)) }
+        ≡ (tells kept.old.items a p n
+        || any (ends_now header.now newest.now (notes_of (reverse log.now)) a p n) claims.now)) }
 {
     for claim in claims {
         add_claim(header, log, newest, claim, kept)?;
@@ -122,7 +123,8 @@ pub fn add_completed(
     kept: &mut Vec<Cleansing>,
 ) -> Result<(), NoMemory>
     ensures { OnOk result ((a p n : ℕ) → tells kept.new.items a p n
-        ≡ (tells kept.old.items a p n || any (ends_now header.now newest.now (notes_of (reverse log.now)) a p n) claims.now)) }
+        ≡ (tells kept.old.items a p n
+        || any (ends_now header.now newest.now (notes_of (reverse log.now)) a p n) claims.now)) }
 {
     if is_dsb(newest) {
         add_claims(header, log, newest, claims, kept)

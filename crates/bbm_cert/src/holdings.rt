@@ -51,7 +51,8 @@ fn add_loss(
     losses: &mut Vec<Loss>,
 ) -> Result<(), NoMemory>
     ensures { OnOk result ((p : ℕ) (tag : TheTag) → is_lost losses.new.items p tag
-        ≡ (is_lost losses.old.items p tag || completes_taken header.now p tag issuer dsb (reverse before.now) claim.now)) }
+        ≡ (is_lost losses.old.items p tag
+        || completes_taken header.now p tag issuer dsb (reverse before.now) claim.now)) }
 {
     known();
     match *claim {
@@ -113,7 +114,8 @@ fn has_loss(losses: &[Loss], pe: Pe, tag: Tag) -> bool
         .any(|loss| loss.pe == pe && same_tag(loss.tag, tag))
 }
 
-/// Whether a tag that was held at the PE still is, after these events, the last of which completes claims of these tags.
+/// Whether a tag that was held at the PE still is, after these events, the last of which completes claims of these
+/// tags.
 fn stays(
     alloc: Global,
     header: &Header,
@@ -268,8 +270,8 @@ fn add_event(events: &mut Vec<Event>, event: &Event) -> Result<(), NoMemory>
     events.push(*event).map_err(|_| NoMemory)
 }
 
-/// What was held and still is after these events, the last of which completes claims of these tags, and what is readable
-/// then, where that event may change it.
+/// What was held and still is after these events, the last of which completes claims of these tags, and what is
+/// readable then, where that event may change it.
 fn next(
     alloc: Global,
     header: &Header,

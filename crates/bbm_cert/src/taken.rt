@@ -76,8 +76,8 @@ fn answers(dsb: Dsb, broadcast: bool) -> bool
     }
 }
 
-/// Whether the event, which comes behind these, is a TLBI at the position, of the issuer, broadcast or not, that reaches
-/// the PE.
+/// Whether the event, which comes behind these, is a TLBI at the position, of the issuer, broadcast or not, that
+/// reaches the PE.
 fn is_named(header: &Header, before: &[Event], event: &Event, taking: &Taking) -> bool
     ensures { result ≡ is_taking header.now taking.now.pe taking.now.t taking.now.issuer taking.now.broadcast event.now
         (reverse before.now) }
@@ -124,8 +124,8 @@ fn ends(event: &Event, taking: &Taking) -> bool
     }
 }
 
-/// Whether the TLBI waits for its answer after the event of this index, where it did or didn't before, and the tag isn't
-/// readable at the PE then.
+/// Whether the TLBI waits for its answer after the event of this index, where it did or didn't before, and the tag
+/// isn't readable at the PE then.
 fn waits_through(
     alloc: Global,
     header: &Header,
@@ -166,8 +166,8 @@ fn waits(
     Ok(waits)
 }
 
-/// Whether the DSB of the issuer, which comes behind these events, answers the TLBI at the position, which reaches the PE
-/// and takes the whole tag, and the tag wasn't readable there since. `NoMemory` where there is none.
+/// Whether the DSB of the issuer, which comes behind these events, answers the TLBI at the position, which reaches the
+/// PE and takes the whole tag, and the tag wasn't readable there since. `NoMemory` where there is none.
 pub fn takes_away(
     alloc: Global,
     header: &Header,
@@ -209,7 +209,8 @@ pub fn takes_away(
     }
 }
 
-/// Whether the DSB of the issuer, which comes behind these events, completes the claim, and it is one of this tag and PE.
+/// Whether the DSB of the issuer, which comes behind these events, completes the claim, and it is one of this tag and
+/// PE.
 fn completes(
     alloc: Global,
     header: &Header,

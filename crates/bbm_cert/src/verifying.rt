@@ -36,9 +36,9 @@ fn judge_next(
 }
 
 /// Judges a log by a list of claims alone: Yes where each of its events keeps the rules by them; else No with the
-/// position of the first event that breaks one, counted from 1, the least rule that it breaks, and the address or number
-/// that is reported with it. A claim that isn't true of the log counts for nothing. There are no limits but the number of
-/// events, and no checker is asked. `NoMemory` where there is none.
+/// position of the first event that breaks one, counted from 1, the least rule that it breaks, and the address or
+/// number that is reported with it. A claim that isn't true of the log counts for nothing. There are no limits but the
+/// number of events, and no checker is asked. `NoMemory` where there is none.
 pub fn verify(
     alloc: Global,
     header: &Header,

@@ -14,7 +14,8 @@ use std::alloc::Global;
 /// rules, else the first that breaks one. `NoMemory` where there is none.
 pub fn judge_kept(alloc: Global, header: &Header, kept: &Kept) -> Result<Judged, NoMemory>
     requires read { AreRead header.now (reverse kept.now.events.items) kept.now.claims.items }
-    ensures judged { IfOk result (λ said. said ≡ judged header.now kept.now.claims.items (reverse kept.now.events.items)) }
+    ensures judged { IfOk result (λ said. said
+        ≡ judged header.now kept.now.claims.items (reverse kept.now.events.items)) }
 {
     verify(alloc, header, &kept.events, &kept.claims)
 }

@@ -3,8 +3,10 @@
 ghost use Rattle.std.specs.Prelude.{◌≡◌, suc, List, [], Ok, reverse};
 ghost use Rattle.bbm_events.specs.Heading.{Heading};
 ghost use Rattle.bbm_events.specs.declared.event.Event.{Event as TheEvent};
-ghost use Rattle.bbm_certificate.specs.Reading.{AtClaims, AtEvents, TakesLine, after_claim, after_claim_item, after_event};
-ghost use Rattle.bbm_certificate.specs.Reading.{IsSound, after_first, after_item, after_line, claims_by, kept_at, next_number};
+ghost use Rattle.bbm_certificate.specs.Reading.{AtClaims, AtEvents, TakesLine, after_claim, after_claim_item};
+ghost use Rattle.bbm_certificate.specs.Reading.{after_event};
+ghost use Rattle.bbm_certificate.specs.Reading.{IsSound, after_first, after_item, after_line, claims_by, kept_at};
+ghost use Rattle.bbm_certificate.specs.Reading.{next_number};
 
 use crate::kept::{Kept, Part};
 use crate::turn::{LineFault, Turn};
@@ -143,12 +145,12 @@ fn take_part(number: u64, header: &Header, kept: &mut Kept, line: &[u8]) -> Resu
 }
 
 /// Takes line `number`, of at most 200 bytes and without its newline, that stands behind the header of a log and before
-/// the end of its certificate. `kept` is what is kept of the lines before it. `Taken`: the line is an event or the end of
-/// the log, with the right count of its events, or the first line or a claim of the certificate, and `kept` goes on behind
-/// it. `End`: the line is the end of the certificate, with the right count of its claims, and `kept` is as before.
-/// `Decided`: the line is malformed, by the first cause, or is an event behind 2,000 others or a claim behind 300,000
-/// others. `NoMemory`: the line is an event or a claim, for which there was none. Labels say nothing here, and no event is
-/// judged.
+/// the end of its certificate. `kept` is what is kept of the lines before it. `Taken`: the line is an event or the end
+/// of the log, with the right count of its events, or the first line or a claim of the certificate, and `kept` goes on
+/// behind it. `End`: the line is the end of the certificate, with the right count of its claims, and `kept` is as
+/// before. `Decided`: the line is malformed, by the first cause, or is an event behind 2,000 others or a claim behind
+/// 300,000 others. `NoMemory`: the line is an event or a claim, for which there was none. Labels say nothing here, and
+/// no event is judged.
 pub fn take_line(
     number: u64,
     header: &Header,
@@ -157,7 +159,8 @@ pub fn take_line(
 ) -> Result<Turn, LineFault>
     ensures says { TakesLine (kept_at header.now kept.old) (kept_at header.now kept.new) result
         (after_line number (kept_at header.now kept.old) line.now) }
-    ensures sound { result ≡ Ok Turn.Taken → IsSound (kept_at header.now kept.old) → IsSound (kept_at header.now kept.new) }
+    ensures sound { result ≡ Ok Turn.Taken → IsSound (kept_at header.now kept.old)
+        → IsSound (kept_at header.now kept.new) }
     ensures counted { result ≡ Ok Turn.Taken → IsSound (kept_at header.now kept.old)
         → next_number (kept_at header.now kept.new) ≡ suc (next_number (kept_at header.now kept.old)) }
     ensures listed { claims_by kept.old.part kept.old.claims.items ≡ kept.old.claims.items

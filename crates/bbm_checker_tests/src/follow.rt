@@ -195,7 +195,8 @@ const BLOCK_REPLACED_BY_TABLE_WITHOUT_BREAK: [&[u8]; 10] = [
     b"end 7",
 ];
 
-// Both TLBIs are issued before one DSB answers them; the stages are joined after the second, so the entry outlives both.
+// Both TLBIs are issued before one DSB answers them; the stages are joined after the second, so the entry outlives
+// both.
 const STAGE2_TWO_STEPS_UNDER_ONE_DSB: [&[u8]; 16] = [
     b"bbmlog 1 hyp 2 1 1 1",
     b"init 0 0x40002000",

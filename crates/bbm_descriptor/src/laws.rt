@@ -4,7 +4,8 @@
 ghost use Rattle.std.specs.Prelude.{◌≡◌, ◌≢◌, ℕ, true, false, ◌+◌, ◌-◌, ◌*◌, ◌/◌, ◌≤◌, ◌↔◌, List, [], ◌∷◌, is_some};
 ghost use Rattle.bbm_regimes.specs.declared.regime.Kind.{Kind};
 ghost use Rattle.bbm_descriptor.specs.declared.desc.Core.{Core};
-ghost use Rattle.bbm_descriptor.specs.Descriptor.{leaf, desc_of, core_of, core_in, desc_with, is_valid, same_core, needs, Fits};
+ghost use Rattle.bbm_descriptor.specs.Descriptor.{leaf, desc_of, core_of, core_in, desc_with, is_valid, same_core};
+ghost use Rattle.bbm_descriptor.specs.Descriptor.{needs, Fits};
 ghost use Rattle.bbm_descriptor.specs.Listing.{WalkRoot, RegionHolds, EndsIn, IsAnswer, IsAligned, ComesTo};
 ghost use Rattle.bbm_regimes.specs.Extent.{span_of};
 ghost use Rattle.bbm_descriptor.specs.declared.walk.Walk.{Walk};

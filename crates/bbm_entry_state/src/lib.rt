@@ -12,9 +12,9 @@
 //! - At a DSB call `dsb`, then `complete` with the pendings of its issuer, and keep both results. Where the
 //!   state is then not broken, set the pendings of each issuer to `Pends::none()`.
 //!
-//! Who keeps the marks of broken places and the pendings of their issuers can change both in place: by `Pends::note` at a
-//! TLBI, and at a DSB by `Marks::answer` of what `Pends::answered` says, and then `Pends::drop_answered`; `law_completes`
-//! says that this is `complete`.
+//! Who keeps the marks of broken places and the pendings of their issuers can change both in place: by `Pends::note` at
+//! a TLBI, and at a DSB by `Marks::answer` of what `Pends::answered` says, and then `Pends::drop_answered`;
+//! `law_completes` says that this is `complete`.
 //!
 //! `law_steps` says what the masks then are: the sets of the PEs at which the patterns of the steps hold.
 //! `break_before_make` is an example of the calls, with its proof.

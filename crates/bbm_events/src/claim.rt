@@ -3,9 +3,9 @@
 use bbm_regimes::{Pe, Place, Tag};
 
 /// A claim that a place is cleansed, or a tag taken away, at a PE, with the positions of the events that make it so. A
-/// position is the number of an event of the log, counted from 1: a claim that is true has positions 1 to 4294967295, in
-/// the order in which they are named here, each above the one before; where one is 0, no event has it, and the claim is
-/// true of no log. Source: project's own choice.
+/// position is the number of an event of the log, counted from 1: a claim that is true has positions 1 to 4294967295,
+/// in the order in which they are named here, each above the one before; where one is 0, no event has it, and the claim
+/// is true of no log. Source: project's own choice.
 #[derive(Clone, Copy, Debug, PartialEq, Eq)]
 pub enum Claim {
     /// The place is cleansed at the PE in one step: the DSB at `b` publishes a write of it to the PE, then the TLBI at
@@ -23,8 +23,8 @@ pub enum Claim {
         d: u32,
     },
     /// The place is cleansed at the PE in two steps: the DSB at `b` publishes a write of it to the PE, then the TLBI at
-    /// `t1` reaches the PE and covers the place half, then the DSB at `d1` answers it, then the TLBI at `t2` reaches the
-    /// PE and covers what is left, then the DSB at `d2` answers that one.
+    /// `t1` reaches the PE and covers the place half, then the DSB at `d1` answers it, then the TLBI at `t2` reaches
+    /// the PE and covers what is left, then the DSB at `d2` answers that one.
     Two {
         /// The PE at which the place is cleansed.
         pe: Pe,

@@ -140,9 +140,9 @@ fn is_claim(header: &Header, claim: Claim) -> bool
     }
 }
 
-/// Whether the claim, or the count of the last line, can stand in a certificate beside a log with this header: the PE of
-/// a claim is below the header's number. The rest is as it has to be by its type; that the header's world has the tag
-/// isn't asked.
+/// Whether the claim, or the count of the last line, can stand in a certificate beside a log with this header: the PE
+/// of a claim is below the header's number. The rest is as it has to be by its type; that the header's world has the
+/// tag isn't asked.
 pub fn claim_fits(header: &Header, item: ClaimItem) -> bool
     ensures { result ≡ certificate.claim_fits header.now item }
 {

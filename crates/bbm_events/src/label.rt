@@ -23,7 +23,8 @@ impl Model for Label {
 
     ghost view = { λ l. take l.len l.bytes };
 
-    ghost invariant = { λ l. (is_label (take l.len l.bytes) ≡ true) × (length (take l.len l.bytes) ≡ l.len) × (padded (take l.len l.bytes) ≡ l.bytes) };
+    ghost invariant = { λ l. (is_label (take l.len l.bytes) ≡ true) × (length (take l.len l.bytes) ≡ l.len)
+        × (padded (take l.len l.bytes) ≡ l.bytes) };
 
     ghost inverse = { λ text. record { bytes = padded text; len = length text } };
 

@@ -21,7 +21,8 @@ pub fn law_header_in_range()
 /// Each item that a line spells fits the header under which the line is read.
 #[tactic(auto, using(crate::proofs::Readings::item_of_fits))]
 pub fn law_item_fits()
-    ensures { (heading : Heading) (line : List ℕ) (item : Item) → item_of heading line ≡ Ok item → item_fits heading item ≡ true }
+    ensures { (heading : Heading) (line : List ℕ) (item : Item) → item_of heading line ≡ Ok item
+        → item_fits heading item ≡ true }
 {}
 
 /// A line that spells no header has a cause of line 1.
@@ -40,7 +41,8 @@ pub fn law_item_causes()
 #[tactic(auto, using(crate::proofs::Written::header_written_is_read, crate::proofs::Written::item_written_is_read))]
 pub fn law_written_is_read()
     ensures header { (heading : Heading) → heading_ok heading ≡ true → header_of (header_line heading) ≡ Ok heading }
-    ensures item { (heading : Heading) (item : Item) → heading_ok heading ≡ true → item_fits heading item ≡ true → item_of heading (item_line item) ≡ Ok item }
+    ensures item { (heading : Heading) (item : Item) → heading_ok heading ≡ true → item_fits heading item ≡ true
+        → item_of heading (item_line item) ≡ Ok item }
 {}
 
 /// A written header, and a written item that fits, is one line: no byte of it is a newline, byte 10, and it has at most
@@ -49,21 +51,25 @@ pub fn law_written_is_read()
 pub fn law_written_is_a_line()
     ensures header_plain { (heading : Heading) → is_plain (header_line heading) ≡ true }
     ensures header_short { (heading : Heading) → heading_ok heading ≡ true → length (header_line heading) ≤ 200 }
-    ensures item_plain { (heading : Heading) (item : Item) → item_fits heading item ≡ true → is_plain (item_line item) ≡ true }
-    ensures item_short { (heading : Heading) (item : Item) → heading_ok heading ≡ true → item_fits heading item ≡ true → length (item_line item) ≤ 200 }
+    ensures item_plain { (heading : Heading) (item : Item) → item_fits heading item ≡ true → is_plain (item_line item)
+        ≡ true }
+    ensures item_short { (heading : Heading) (item : Item) → heading_ok heading ≡ true → item_fits heading item ≡ true
+        → length (item_line item) ≤ 200 }
 {}
 
 /// Each header and each item has one line: what a line is read as is written as that line.
 #[tactic(auto, using(crate::proofs::OneLine::header_one_line, crate::proofs::OneLine::item_one_line))]
 pub fn law_one_line()
     ensures header { (line : List ℕ) (heading : Heading) → header_of line ≡ Ok heading → line ≡ header_line heading }
-    ensures item { (heading : Heading) (line : List ℕ) (item : Item) → item_of heading line ≡ Ok item → line ≡ item_line item }
+    ensures item { (heading : Heading) (line : List ℕ) (item : Item) → item_of heading line ≡ Ok item → line
+        ≡ item_line item }
 {}
 
 /// Each step that a machine line spells fits the header under which the line is read.
 #[tactic(auto, using(crate::proofs::MachineLines::machine_of_fits))]
 pub fn law_machine_fits()
-    ensures { (heading : Heading) (line : List ℕ) (step : MachineLine) → machine_of heading line ≡ Ok step → machine_fits heading step ≡ true }
+    ensures { (heading : Heading) (line : List ℕ) (step : MachineLine) → machine_of heading line ≡ Ok step
+        → machine_fits heading step ≡ true }
 {}
 
 /// A line that spells no step has a cause of a line after the header.
@@ -75,19 +81,22 @@ pub fn law_machine_causes()
 /// A written step is read as the same step under each header that it fits.
 #[tactic(auto, using(crate::proofs::MachineLines::machine_written_is_read))]
 pub fn law_machine_written_is_read()
-    ensures { (heading : Heading) (step : MachineLine) → heading_ok heading ≡ true → machine_fits heading step ≡ true → machine_of heading (machine_line step) ≡ Ok step }
+    ensures { (heading : Heading) (step : MachineLine) → heading_ok heading ≡ true → machine_fits heading step ≡ true
+        → machine_of heading (machine_line step) ≡ Ok step }
 {}
 
 /// Each step has one line: what a machine line is read as is written as that line.
 #[tactic(auto, using(crate::proofs::MachineLines::machine_one_line))]
 pub fn law_machine_one_line()
-    ensures { (heading : Heading) (line : List ℕ) (step : MachineLine) → machine_of heading line ≡ Ok step → line ≡ machine_line step }
+    ensures { (heading : Heading) (line : List ℕ) (step : MachineLine) → machine_of heading line ≡ Ok step → line
+        ≡ machine_line step }
 {}
 
 /// Each claim and each count that a line of a certificate spells fits the header under which the line is read.
 #[tactic(auto, using(crate::proofs::CertificateLines::claim_of_fits))]
 pub fn law_claim_fits()
-    ensures { (heading : Heading) (line : List ℕ) (item : ClaimItem) → claim_of heading line ≡ Ok item → claim_fits heading item ≡ true }
+    ensures { (heading : Heading) (line : List ℕ) (item : ClaimItem) → claim_of heading line ≡ Ok item
+        → claim_fits heading item ≡ true }
 {}
 
 /// A line of a certificate that spells no claim and no count has a cause of a field, 3 to 8.
@@ -101,7 +110,8 @@ pub fn law_claim_causes()
 #[tactic(auto, using(crate::proofs::CertificateLines::first_line_read, crate::proofs::CertificateLines::claim_written_is_read))]
 pub fn law_claim_written_is_read()
     ensures first { certificate_of certificate_line ≡ Ok tt }
-    ensures item { (heading : Heading) (item : ClaimItem) → heading_ok heading ≡ true → claim_fits heading item ≡ true → claim_of heading (claim_line item) ≡ Ok item }
+    ensures item { (heading : Heading) (item : ClaimItem) → heading_ok heading ≡ true → claim_fits heading item ≡ true
+        → claim_of heading (claim_line item) ≡ Ok item }
 {}
 
 /// A certificate has one first line, and each claim and each count has one line: what a line is read as is written as
@@ -109,5 +119,6 @@ pub fn law_claim_written_is_read()
 #[tactic(auto, using(crate::proofs::CertificateLines::first_line_once, crate::proofs::CertificateLines::claim_one_line))]
 pub fn law_claim_one_line()
     ensures first { (line : List ℕ) → certificate_of line ≡ Ok tt → line ≡ certificate_line }
-    ensures item { (heading : Heading) (line : List ℕ) (item : ClaimItem) → claim_of heading line ≡ Ok item → line ≡ claim_line item }
+    ensures item { (heading : Heading) (line : List ℕ) (item : ClaimItem) → claim_of heading line ≡ Ok item → line
+        ≡ claim_line item }
 {}

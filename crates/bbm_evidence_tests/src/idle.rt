@@ -92,8 +92,8 @@ const BARRIERS: [&[u8]; 2] = [b"dmb 0 ish", b"isb 0"];
 // An ISB of the PE that wrote a register, another one of it, and one of another PE.
 const SYNCHRONISED: [&[u8]; 4] = [b"msr 0 ttbr0_el2 0x40000000", b"isb 1", b"isb 0", b"isb 0"];
 
-// A TLBI that isn't broadcast reaches its own PE alone. The clear is published to PE 0, so that of PE 1 adds nothing; nor
-// does the second one of PE 0, and the barrier behind it answers nothing that was needed.
+// A TLBI that isn't broadcast reaches its own PE alone. The clear is published to PE 0, so that of PE 1 adds nothing;
+// nor does the second one of PE 0, and the barrier behind it answers nothing that was needed.
 const LOCAL: [&[u8]; 10] = [
     b"init 0 0x40000000",
     b"root 0 el2 - 0x40000000",

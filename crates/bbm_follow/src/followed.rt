@@ -42,8 +42,8 @@ fn conflict_line(conflict: Option<u64>) -> Option<u64>
     }
 }
 
-/// Follows the steps of a run, at most 2,000, the oldest first, under its header: what comes of them, or `NoMemory`. Step
-/// i, counted from 0, stands on line i + 2.
+/// Follows the steps of a run, at most 2,000, the oldest first, under its header: what comes of them, or `NoMemory`.
+/// Step i, counted from 0, stands on line i + 2.
 #[tactic(auto, using(crate::proofs::Runs::bad_index, crate::proofs::Runs::conflict_index))]
 pub fn follow_run(alloc: Global, header: &Header, steps: &Vec<Step>) -> Result<Followed, NoMemory>
     requires few { length steps.now.items ≤ 2000 }

@@ -205,8 +205,8 @@ fn round_step(n: u64, round: u32, k: u32) -> Event
 }
 
 /// The event of index i, from 0, of the generated log of the number n. The first seven declare an EL2 root and a
-/// stage 2 root and put them into the registers of PE 0. Then come rounds of eight events: each makes a 1 GiB block at a
-/// place of a root, clears it, publishes the clear, flushes the block and waits for the flush; even rounds in the EL2
+/// stage 2 root and put them into the registers of PE 0. Then come rounds of eight events: each makes a 1 GiB block at
+/// a place of a root, clears it, publishes the clear, flushes the block and waits for the flush; even rounds in the EL2
 /// tree by the four PEs in turn, odd rounds in the stage 2 tree by PE 0. The number n moves the places.
 pub fn gen_event(n: u64, i: u32) -> Event
     ensures value { result ≡ log.event_at n i }

@@ -10,9 +10,9 @@ ghost use Rattle.bbm_histories.specs.Locks.{HandsOver, lock_at};
 
 use crate::below::below;
 
-/// Between two writes of different PEs at places of trees whose roots name the same lock, each at the time of its write,
-/// the first PE gives the lock back, and later the second takes it. It holds of every history that keeps the rules. The
-/// law is the contract.
+/// Between two writes of different PEs at places of trees whose roots name the same lock, each at the time of its
+/// write, the first PE gives the lock back, and later the second takes it. It holds of every history that keeps the
+/// rules. The law is the contract.
 pub fn law_lock_order()
     ensures { (heading : Heading) (trust : Trust) (h newer between older : List Event)
         (p q place other value later lock : ℕ) → keeps heading trust h ≡ true → p ≢ q →

@@ -43,8 +43,8 @@ pub fn law_tags()
     below();
 }
 
-/// In a history that keeps the rules, the base of a readable register value is a declared root of the register's kind or
-/// a null page, and no event changes which; no null page is a declared root, and a `root` names none. The law is the
+/// In a history that keeps the rules, the base of a readable register value is a declared root of the register's kind
+/// or a null page, and no event changes which; no null page is a declared root, and a `root` names none. The law is the
 /// contract.
 pub fn law_bases()
     ensures named { (heading : Heading) (trust : Trust) (h : List Event) → Proper heading →

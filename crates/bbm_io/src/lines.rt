@@ -1,7 +1,8 @@
 //! Lines of a source, one after another.
 //! Source: project's own choice, where no other is named.
 
-ghost use Rattle.std.specs.Prelude.{◌≡◌, ◌+◌, ◌-◌, ◌<◌, ◌≤◌, ◌^◌, ◌≢◌, [], ◌∷◌, ◌++◌, take, drop, IfSome, length, true, false, is_err, Ok, Err, OnErr};
+ghost use Rattle.std.specs.Prelude.{◌≡◌, ◌+◌, ◌-◌, ◌<◌, ◌≤◌, ◌^◌, ◌≢◌, [], ◌∷◌, ◌++◌, take, drop, IfSome, length, true};
+ghost use Rattle.std.specs.Prelude.{false, is_err, Ok, Err, OnErr};
 ghost use Rattle.bbm_io.specs.Faults.{Rose};
 ghost use Rattle.bbm_io.specs.Flow.{preceded, plain};
 ghost use Rattle.bbm_io.specs.Reading.{Reading, Took, Counts, LiesWhole, shown};

@@ -1,6 +1,8 @@
 //! Sinks of bytes: the trait, two sinks in memory, and writing a whole piece.
 
-ghost use Rattle.std.specs.Prelude.{◌≡◌, ℕ, ◌+◌, ◌-◌, ◌^◌, ◌<◌, ◌≤◌, ◌||◌, ◌&&◌, List, [], ◌++◌, if◌then◌else◌, length, take, min, nat_lt, nat_le, is_err, IsOk, IfOk, OnOk, OnErr, Option, None, Some, Ok, vec_len, vec_capacity};
+ghost use Rattle.std.specs.Prelude.{◌≡◌, ℕ, ◌+◌, ◌-◌, ◌^◌, ◌<◌, ◌≤◌, ◌||◌, ◌&&◌, List, [], ◌++◌, if◌then◌else◌, length};
+ghost use Rattle.std.specs.Prelude.{take, min, nat_lt, nat_le, is_err, IsOk, IfOk, OnOk, OnErr, Option, None, Some, Ok};
+ghost use Rattle.std.specs.Prelude.{vec_len, vec_capacity};
 ghost use Rattle.bbm_io.specs.Faults.{Rose};
 ghost use Rattle.bbm_io.specs.Flow.{extended};
 ghost use Rattle.bbm_io.specs.Memory.{fails_next};
@@ -140,7 +142,8 @@ impl Sink for MemSink {
 #[tactic(auto, using(crate::proofs::Flow::flow))]
 pub fn put<K: Sink>(out: &mut K, piece: &[u8]) -> Result<(), Failed>
     ensures whole { OnOk result (K.held out.new ≡ extended (K.held out.old) piece.now) }
-    ensures part { OnErr result ((n : ℕ) × (n < length piece.now) × (K.held out.new ≡ extended (K.held out.old) (take n piece.now))) }
+    ensures part { OnErr result ((n : ℕ) × (n < length piece.now)
+        × (K.held out.new ≡ extended (K.held out.old) (take n piece.now))) }
     ensures failed { OnErr result (Rose (K.faults out.old) (K.faults out.new)) }
     ensures sound { OnOk result (K.faults out.new ≡ K.faults out.old) }
     ensures quiet { ¬ (Rose (K.faults out.old) (K.faults out.new)) → IsOk result }

@@ -1,6 +1,7 @@
 //! Sources of bytes: the trait, and two sources in memory.
 
-ghost use Rattle.std.specs.Prelude.{◌≡◌, ℕ, ◌+◌, ◌-◌, ◌^◌, ◌<◌, ◌≤◌, ◌⊎◌, List, [], ◌++◌, if◌then◌else◌, length, take, drop, min, true, false, is_err, IfOk, OnOk, OnErr, Option, Some, Ok, vec_len};
+ghost use Rattle.std.specs.Prelude.{◌≡◌, ℕ, ◌+◌, ◌-◌, ◌^◌, ◌<◌, ◌≤◌, ◌⊎◌, List, [], ◌++◌, if◌then◌else◌, length, take};
+ghost use Rattle.std.specs.Prelude.{drop, min, true, false, is_err, IfOk, OnOk, OnErr, Option, Some, Ok, vec_len};
 ghost use Rattle.bbm_io.specs.Faults.{Rose};
 ghost use Rattle.bbm_io.specs.Flow.{preceded, AtEnd, IsAllOf};
 ghost use Rattle.bbm_io.specs.Memory.{fails_next};

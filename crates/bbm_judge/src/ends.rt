@@ -119,7 +119,8 @@ fn add_ends<E: Evidence>(
 ) -> Result<(), NoMemory>
     requires { level + left ≤ 3 }
     ensures { OnOk result (ends.new.items
-        ≡ ends.old.items ++ spec.ends_below history.now.heading history.now.trust (notes history.now) kind left level page) }
+        ≡ ends.old.items
+        ++ spec.ends_below history.now.heading history.now.trust (notes history.now) kind left level page) }
 {
     if left == 0 {
         return Ok(());

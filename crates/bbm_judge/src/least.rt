@@ -26,7 +26,8 @@ pub fn lesser(one: Option<u64>, other: Option<u64>) -> Option<u64>
 
 /// The page, where it isn't fresh.
 fn unfresh<E: Evidence>(history: &History<E>, page: Page) -> Option<u64>
-    ensures { result ≡ lists.if_so (not (is_fresh history.now.heading history.now.trust (notes history.now) page)) page }
+    ensures { result
+        ≡ lists.if_so (not (is_fresh history.now.heading history.now.trust (notes history.now) page)) page }
 {
     if history.is_fresh(page) {
         None

@@ -46,8 +46,8 @@ const RULES: [Rule; 17] = [
     Rule::LockNotMine,
 ];
 
-/// Whether an event that fits the header breaks the rule: the number that is reported with it, or None. `NoMemory` where
-/// there is none.
+/// Whether an event that fits the header breaks the rule: the number that is reported with it, or None. `NoMemory`
+/// where there is none.
 fn breaks<E: Evidence>(
     alloc: Global,
     history: &History<E>,
@@ -55,7 +55,8 @@ fn breaks<E: Evidence>(
     rule: Rule,
 ) -> Result<Option<u64>, NoMemory>
     requires { fits_heading history.now.heading event.now ≡ true }
-    ensures { IfOk result (λ at. at ≡ spec.breaks history.now.heading history.now.trust (notes history.now) event.now rule) }
+    ensures { IfOk result (λ at. at
+        ≡ spec.breaks history.now.heading history.now.trust (notes history.now) event.now rule) }
 {
     let header = history.header();
     let events = history.events();

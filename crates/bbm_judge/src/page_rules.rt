@@ -95,7 +95,8 @@ fn untracked<E: Evidence>(history: &History<E>, page: Page) -> Option<u64>
 
 /// The page of the place that the event writes, where it is in no tree, isn't fresh and isn't a null page.
 fn untracked_page<E: Evidence>(history: &History<E>, event: &Event) -> Option<u64>
-    ensures { result ≡ least (rules.untracked_page history.now.heading history.now.trust (notes history.now) event.now) }
+    ensures { result
+        ≡ least (rules.untracked_page history.now.heading history.now.trust (notes history.now) event.now) }
 {
     match *event {
         Event::Write {
@@ -116,7 +117,8 @@ pub fn not_fresh<E: Evidence>(
     event: &Event,
 ) -> Result<Option<u64>, NoMemory>
     requires { fits_heading history.now.heading event.now ≡ true }
-    ensures { IfOk result (λ at. at ≡ rules.not_fresh history.now.heading history.now.trust (notes history.now) event.now) }
+    ensures { IfOk result (λ at. at
+        ≡ rules.not_fresh history.now.heading history.now.trust (notes history.now) event.now) }
 {
     let untracked = untracked_page(history, event);
     match attached_by(alloc, history, event)? {
@@ -166,7 +168,8 @@ pub fn page_in_use<E: Evidence>(
     event: &Event,
 ) -> Result<Option<u64>, NoMemory>
     requires { fits_heading history.now.heading event.now ≡ true }
-    ensures { IfOk result (λ at. at ≡ rules.page_in_use history.now.heading history.now.trust (notes history.now) event.now) }
+    ensures { IfOk result (λ at. at
+        ≡ rules.page_in_use history.now.heading history.now.trust (notes history.now) event.now) }
 {
     match *event {
         Event::Init { pe: _, page } => Ok(used_by_init(history, page)),

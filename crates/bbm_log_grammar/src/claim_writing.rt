@@ -5,7 +5,8 @@ ghost use Rattle.arrayvec.specs.ArrayVec.{array_vec_len};
 ghost use Rattle.bbm_events.specs.declared.claim.Claim.TheVariants as claims;
 ghost use Rattle.bbm_events.specs.Spelling.{joined};
 ghost use Rattle.bbm_events.specs.Heading.{Heading, heading_ok};
-ghost use Rattle.bbm_events.specs.Certificate.{certificate_line, certificate_of, claim_fields, claim_fits, claim_line, claim_of};
+ghost use Rattle.bbm_events.specs.Certificate.{certificate_line, certificate_of, claim_fields, claim_fits, claim_line};
+ghost use Rattle.bbm_events.specs.Certificate.{claim_of};
 ghost use Rattle.bbm_events.specs.Certificate as certificate;
 
 use crate::machine_writing::begin;
@@ -115,7 +116,8 @@ fn any_line(out: &mut ArrayVec<u8, 200>, claim: Claim)
 pub fn write_claim(item: ClaimItem, out: &mut ArrayVec<u8, 200>)
     requires empty { out.old.items ≡ [] }
     ensures line { out.new.items ≡ claim_line item }
-    ensures read_again { (heading : Heading) → heading_ok heading ≡ true → claim_fits heading item ≡ true → claim_of heading out.new.items ≡ Ok item }
+    ensures read_again { (heading : Heading) → heading_ok heading ≡ true → claim_fits heading item ≡ true
+        → claim_of heading out.new.items ≡ Ok item }
 {
     law_claim_written_is_read();
     match item {

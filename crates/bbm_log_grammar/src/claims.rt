@@ -172,10 +172,10 @@ fn claim_on(header: &Header, line: &[u8]) -> Result<ClaimItem, Malformed>
 }
 
 /// The claim or the count that a line of a certificate after its first says; the bytes are the line's without its
-/// newline. Where the line isn't the one spelling of an item, the answer is the first cause, 3 to 8: `UnknownWord` where
-/// the first field is neither `c` nor `end`, and then, from left to right, `MissingField` where a field is absent and
-/// else the cause of its kind where it can't be read: `UnknownWord` for the word of a claim or of a tag, `BadPe` for a
-/// PE, `BadAddress` for a place, and `BadNumber` for the number of a tag, which is 0 to 65535 and 0 for `el2` and
+/// newline. Where the line isn't the one spelling of an item, the answer is the first cause, 3 to 8: `UnknownWord`
+/// where the first field is neither `c` nor `end`, and then, from left to right, `MissingField` where a field is absent
+/// and else the cause of its kind where it can't be read: `UnknownWord` for the word of a claim or of a tag, `BadPe`
+/// for a PE, `BadAddress` for a place, and `BadNumber` for the number of a tag, which is 0 to 65535 and 0 for `el2` and
 /// `ttbr1`, and for a position or a count, 0 to 4294967295. At last `ExtraField` where a further field follows. Source:
 /// project's own choice.
 pub fn read_claim(header: &Header, line: &[u8]) -> Result<ClaimItem, Malformed>

@@ -165,8 +165,8 @@ fn item_on<'a, R>(header: &Header, line: &'a [u8]) -> Result<LineItem<'a>, Malfo
     line_after::<R>(header, keyword, fields)
 }
 
-/// What `read_event` answers, with the bytes of a label where they stand in the line. Each reader `R` has code of its own, so
-/// that it can be made part of the reader's loop; the answer doesn't depend on it.
+/// What `read_event` answers, with the bytes of a label where they stand in the line. Each reader `R` has code of its
+/// own, so that it can be made part of the reader's loop; the answer doesn't depend on it.
 pub fn read_line<'a, R>(header: &Header, line: &'a [u8]) -> Result<LineItem<'a>, Malformed>
     ensures item { read_in result ≡ item_of header.now line.now }
     ensures fits { IfOk (read_in result) (λ item. item_fits header.now item ≡ true) }

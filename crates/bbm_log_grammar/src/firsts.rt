@@ -46,8 +46,8 @@ fn hex_rest<'a>(start: u64, line: &'a [u8]) -> Option<(u64, Fields<'a>)>
     Some((n, Fields::none()))
 }
 
-/// The number `start`, which is below 2^48, with all hex digits more up to the first space, and the fields after it. The
-/// first 3 of them can't pass 2^60.
+/// The number `start`, which is below 2^48, with all hex digits more up to the first space, and the fields after it.
+/// The first 3 of them can't pass 2^60.
 #[inline(always)]
 #[tactic(auto, using(crate::proofs::Fitting::fitting))]
 fn hex_tail<'a>(start: u64, line: &'a [u8]) -> Option<(u64, Fields<'a>)>
@@ -70,8 +70,8 @@ fn hex_tail<'a>(start: u64, line: &'a [u8]) -> Option<(u64, Fields<'a>)>
     }
 }
 
-/// The number that the bytes up to the first space write as hex digits, and the fields after it. Up to 12 digits are taken
-/// four at a time.
+/// The number that the bytes up to the first space write as hex digits, and the fields after it. Up to 12 digits are
+/// taken four at a time.
 #[inline(always)]
 fn hex_run<'a>(line: &'a [u8]) -> Option<(u64, Fields<'a>)>
     ensures { result ≡ run 16 0 line.now }

@@ -19,7 +19,8 @@ use bbm_regimes::{AsidFrom, HypWorld, KernelWorld, World};
 
 /// A field that is this word.
 fn magic_field<'a>(word: &[u8], fields: Fields<'a>) -> Result<(&'a [u8], Fields<'a>), Malformed>
-    ensures { MatchResult result (λ x. lines.magic_field word.now fields.entry ≡ Ok (x.0.now, x.1)) (λ cause. lines.magic_field word.now fields.entry ≡ Err cause) }
+    ensures { MatchResult result (λ x. lines.magic_field word.now fields.entry
+        ≡ Ok (x.0.now, x.1)) (λ cause. lines.magic_field word.now fields.entry ≡ Err cause) }
 {
     let (text, rest) = fields.next_or(Malformed::NoMagic)?;
     if word == text {
@@ -80,7 +81,8 @@ fn are_pes(version: u8, pes: u64) -> bool
 
 /// The Hyp world with these numbers, where they are in their ranges.
 fn hyp_world(el2_start: u64, s2_start: u64, s2_pages: u64) -> Option<World>
-    ensures { result ≡ lines.passing world_ok (Some (Hyp (record { el2_start = el2_start; s2_start = s2_start; s2_pages = s2_pages }))) }
+    ensures { result
+        ≡ lines.passing world_ok (Some (Hyp (record { el2_start = el2_start; s2_start = s2_start; s2_pages = s2_pages }))) }
 {
     let pages_fit = match s2_pages {
         1 => true,
@@ -100,7 +102,8 @@ fn hyp_world(el2_start: u64, s2_start: u64, s2_pages: u64) -> Option<World>
 
 /// The Kernel world with these numbers, where they are in their ranges.
 fn kernel_world(start0: u64, start1: u64, asid_from: AsidFrom) -> Option<World>
-    ensures { result ≡ lines.passing world_ok (Some (Kernel (record { start0 = start0; start1 = start1; asid_from = asid_from }))) }
+    ensures { result
+        ≡ lines.passing world_ok (Some (Kernel (record { start0 = start0; start1 = start1; asid_from = asid_from }))) }
 {
     if start0 <= 2 && start1 <= 2 {
         Some(World::Kernel(KernelWorld {

@@ -112,7 +112,8 @@ fn machine_after(
 
 /// The word `m`.
 fn mark_field<'a>(fields: Fields<'a>) -> Result<(&'a [u8], Fields<'a>), Malformed>
-    ensures { MatchResult result (λ x. machine.mark_field fields.entry ≡ Ok (x.0.now, x.1)) (λ cause. machine.mark_field fields.entry ≡ Err cause) }
+    ensures { MatchResult result (λ x. machine.mark_field fields.entry
+        ≡ Ok (x.0.now, x.1)) (λ cause. machine.mark_field fields.entry ≡ Err cause) }
 {
     let (text, rest) = fields.next_or(Malformed::MissingField)?;
     if b"m".as_slice() == text {

@@ -66,7 +66,8 @@ fn share_line(out: &mut ArrayVec<u8, 200>, entry: u32, pe: Pe)
 pub fn write_machine(line: MachineLine, out: &mut ArrayVec<u8, 200>)
     requires empty { out.old.items ≡ [] }
     ensures line { out.new.items ≡ machine_line line }
-    ensures read_again { (heading : Heading) → heading_ok heading ≡ true → machine_fits heading line ≡ true → machine_of heading out.new.items ≡ Ok line }
+    ensures read_again { (heading : Heading) → heading_ok heading ≡ true → machine_fits heading line ≡ true
+        → machine_of heading out.new.items ≡ Ok line }
 {
     law_machine_written_is_read();
     match line {

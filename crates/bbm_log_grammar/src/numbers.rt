@@ -50,7 +50,8 @@ fn hex_worth(byte: u8) -> u32
 #[inline]
 #[tactic(auto, using(crate::proofs::Fitting::worth_bounded))]
 pub(crate) fn four_hex(a: u8, b: u8, c: u8, d: u8) -> u32
-    ensures { result ≡ digits.hex_worth a * 4096 + digits.hex_worth b * 256 + digits.hex_worth c * 16 + digits.hex_worth d }
+    ensures { result
+        ≡ digits.hex_worth a * 4096 + digits.hex_worth b * 256 + digits.hex_worth c * 16 + digits.hex_worth d }
 {
     hex_worth(a) * 4096 + hex_worth(b) * 256 + hex_worth(c) * 16 + hex_worth(d)
 }

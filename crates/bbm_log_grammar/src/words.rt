@@ -136,7 +136,8 @@ pub(crate) fn kind_word(kind: Kind) -> &'static [u8]
     }
 }
 
-/// The kind of a root whose word the field is. None where it is no such word. Source: project's own choice of the words.
+/// The kind of a root whose word the field is. None where it is no such word. Source: project's own choice of the
+/// words.
 pub fn kind_named(field: &[u8]) -> Option<Kind>
     ensures { result ≡ words.with_word words.kind_word words.kinds field.now }
 {

@@ -8,7 +8,8 @@ ghost use Rattle.bbm_events.specs.declared.event.Event.TheVariants as event;
 ghost use Rattle.bbm_events.specs.Spelling.{hex, joined};
 ghost use Rattle.bbm_events.specs.Words as words;
 ghost use Rattle.bbm_events.specs.Fits.{item_fits};
-ghost use Rattle.bbm_events.specs.Lines.{header_of, item_of, header_fields, cnp_fields, header_line, item_line, lock_text, event_fields, label_fields};
+ghost use Rattle.bbm_events.specs.Lines.{header_of, item_of, header_fields, cnp_fields, header_line, item_line};
+ghost use Rattle.bbm_events.specs.Lines.{lock_text, event_fields, label_fields};
 ghost use Rattle.bbm_regimes.specs.declared.regime.World.TheVariants.{Hyp, Kernel};
 
 use crate::spell::{add, add_decimal, add_digits};
@@ -240,7 +241,8 @@ fn begin_header(out: &mut ArrayVec<u8, 200>, version: u8, world: &[u8])
 #[tactic(auto, using(crate::proofs::Short::cnp_word_short))]
 fn hyp_line(out: &mut ArrayVec<u8, 200>, header: &Header, world: HypWorld)
     requires empty { out.old.items ≡ [] }
-    ensures { out.new.items ≡ joined (codes "bbmlog" ∷ decimal header.now.version ∷ header_fields header.now.pes (Hyp world) (cnp_fields header.now.version header.now.cnp)) }
+    ensures { out.new.items
+        ≡ joined (codes "bbmlog" ∷ decimal header.now.version ∷ header_fields header.now.pes (Hyp world) (cnp_fields header.now.version header.now.cnp)) }
 {
     begin_header(out, header.version, b"hyp");
     add_decimal_field(out, header.pes as u64);
@@ -256,7 +258,8 @@ fn hyp_line(out: &mut ArrayVec<u8, 200>, header: &Header, world: HypWorld)
 #[tactic(auto, using(crate::proofs::Short::asid_from_word_short, crate::proofs::Short::cnp_word_short))]
 fn kernel_line(out: &mut ArrayVec<u8, 200>, header: &Header, world: KernelWorld)
     requires empty { out.old.items ≡ [] }
-    ensures { out.new.items ≡ joined (codes "bbmlog" ∷ decimal header.now.version ∷ header_fields header.now.pes (Kernel world) (cnp_fields header.now.version header.now.cnp)) }
+    ensures { out.new.items
+        ≡ joined (codes "bbmlog" ∷ decimal header.now.version ∷ header_fields header.now.pes (Kernel world) (cnp_fields header.now.version header.now.cnp)) }
 {
     begin_header(out, header.version, b"kernel");
     add_decimal_field(out, header.pes as u64);
@@ -287,7 +290,8 @@ pub fn write_header(header: &Header, out: &mut ArrayVec<u8, 200>)
 #[tactic(auto, using(crate::proofs::Parts::parts))]
 fn add_label_field<const N: usize>(out: &mut ArrayVec<u8, N>, label: Option<Label>)
     requires room { array_vec_len out.old + 100 ≤ N }
-    ensures appended { (front : List ℕ) (event : Event) → out.old.items ≡ front ++ joined (event_fields event) → out.new.items ≡ front ++ joined (event_fields event ++ label_fields label) }
+    ensures appended { (front : List ℕ) (event : Event) → out.old.items ≡ front ++ joined (event_fields event)
+        → out.new.items ≡ front ++ joined (event_fields event ++ label_fields label) }
     ensures longer { array_vec_len out.new ≤ array_vec_len out.old + 34 }
 {
     if let Some(label) = label {

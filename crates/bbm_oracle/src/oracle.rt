@@ -43,7 +43,8 @@ impl Oracle {
         })
     }
 
-    /// Judges an event that fits the header: Ok where it breaks no rule and reaches no limit. A broken rule comes first.
+    /// Judges an event that fits the header: Ok where it breaks no rule and reaches no limit. A broken rule comes
+    /// first.
     fn judged(&self, alloc: Global, event: &Event) -> Result<(), StepFault>
         requires { fits_heading self.now.history.heading event.now ≡ true }
         ensures { (heading : Heading) (h : List Event) → StandsFor self.now.history heading h

@@ -14,8 +14,8 @@ use bbm_oracle_tags::TagEvidence;
 use bbm_regimes::{NoMemory, PeMask, Place};
 use std::alloc::Global;
 
-/// It tells at which PEs a place is cleansed, and which tags a root holds, by what is trusted. It goes along with a log:
-/// whoever keeps the log asks it of the events that it has taken, and no others. Source: project's own choice.
+/// It tells at which PEs a place is cleansed, and which tags a root holds, by what is trusted. It goes along with a
+/// log: whoever keeps the log asks it of the events that it has taken, and no others. Source: project's own choice.
 pub trait Evidence: TagEvidence + Drop {
     /// It has taken the events of a log of this header: these are their notes, the newest first.
     ghost has_taken: { Self → Heading → List Noted → Type 0 };
@@ -35,7 +35,8 @@ pub trait Evidence: TagEvidence + Drop {
         ensures { result ≡ holding.cleansed_everywhere header.now (Self.trust self.now) place
             (notes_behind from (reverse (drop from log.now))) };
 
-    /// What it is once it has taken one more event, which comes behind those of the log. `NoMemory` where there is none.
+    /// What it is once it has taken one more event, which comes behind those of the log. `NoMemory` where there is
+    /// none.
     fn after(
         &self,
         alloc: Global,

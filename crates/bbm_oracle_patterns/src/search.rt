@@ -143,7 +143,8 @@ pub fn phase_in<E: Evidence>(
     pe: Pe,
 ) -> Phase
     requires { E.has_taken evidence.now header.now (notes_of (reverse log.now)) }
-    ensures { result ≡ phase_at header.now (E.trust evidence.now) kind level place value pe (notes_of (reverse log.now)) }
+    ensures { result
+        ≡ phase_at header.now (E.trust evidence.now) kind level place value pe (notes_of (reverse log.now)) }
 {
     match last_valid(log, kind, level, place) {
         Some(write) => {

@@ -3,7 +3,8 @@
 //! events.
 //! Source: project's own choice, where no other is named.
 
-ghost use Rattle.std.specs.Prelude.{◌≡◌, not, ◌&&◌, ◌||◌, nat_le, nat_lt, ◌==◌, ◌%◌, length, flat_map, option_and_then, ◌∷◌, ◌++◌, [], List, reverse, IfOk, OnOk};
+ghost use Rattle.std.specs.Prelude.{◌≡◌, not, ◌&&◌, ◌||◌, nat_le, nat_lt, ◌==◌, ◌%◌, length, flat_map, option_and_then};
+ghost use Rattle.std.specs.Prelude.{◌∷◌, ◌++◌, [], List, reverse, IfOk, OnOk};
 ghost use Rattle.bbm_regimes.specs.declared.regime.Reg.TheVariants.{Ttbr0El1};
 ghost use Rattle.bbm_regimes.specs.declared.regime.Tag.{Tag as TheTag};
 ghost use Rattle.bbm_events.specs.Heading.{Heading};
@@ -216,7 +217,8 @@ fn conflicts<E: TagEvidence>(
     pe: Pe,
 ) -> Result<Vec<u64>, NoMemory>
     requires { E.knows evidence.now header.now (reverse after.now) }
-    ensures { IfOk result (λ pages. pages.items ≡ clashes.conflict_pages header.now (E.trust evidence.now) (reverse after.now) pe) }
+    ensures { IfOk result (λ pages. pages.items
+        ≡ clashes.conflict_pages header.now (E.trust evidence.now) (reverse after.now) pe) }
 {
     let roots = roots_of(alloc, after)?;
     let readings = readings_at(alloc, header, after, pe)?;

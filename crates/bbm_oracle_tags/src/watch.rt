@@ -102,8 +102,8 @@ fn takes_by(
     }
 }
 
-/// Whether the event, after these, is a TLBI that reaches the PE and takes the whole tag. Where the tag is readable, any
-/// answer will do.
+/// Whether the event, after these, is a TLBI that reaches the PE and takes the whole tag. Where the tag is readable,
+/// any answer will do.
 fn takes(
     alloc: Global,
     header: &Header,

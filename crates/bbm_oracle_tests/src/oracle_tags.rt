@@ -182,8 +182,8 @@ fn tag_events(pe: Pe, page: Page, other: Page) -> [Event; 7] {
     ]
 }
 
-/// What the first events tell of the first root: how many tags are readable at PE 0, what the root holds, and what makes
-/// a register write of the other root, and its own `unroot`, break a rule.
+/// What the first events tell of the first root: how many tags are readable at PE 0, what the root holds, and what
+/// makes a register write of the other root, and its own `unroot`, break a rule.
 #[derive(Clone, Copy, Debug, PartialEq, Eq)]
 struct Told {
     readable: usize,

@@ -59,7 +59,8 @@ fn tags_at<E: Evidence>(
     root: Page,
 ) -> Result<TagSet, NoMemory>
     requires { AreTags log.now.heading log.now.trust (events_of (notes log.now)) known.now }
-    ensures { IfOk result (λ tags. tags ≡ tag_set (tags_of log.now.heading log.now.trust root (events_of (notes log.now)))) }
+    ensures { IfOk result (λ tags. tags
+        ≡ tag_set (tags_of log.now.heading log.now.trust root (events_of (notes log.now)))) }
 {
     for held in known {
         if held.root == root {
@@ -141,7 +142,8 @@ fn cover_at<E: Evidence>(
 ) -> Result<Cover, NoMemory>
     requires tree { tree.now ≡ trees.tree log.now.heading log.now.trust (notes log.now) }
     requires known { AreTags log.now.heading log.now.trust (events_of (notes log.now)) known.now }
-    ensures { IfOk result (λ cover. cover ≡ cover_under log.now.heading log.now.trust (notes log.now) scope.now vmid place) }
+    ensures { IfOk result (λ cover. cover
+        ≡ cover_under log.now.heading log.now.trust (notes log.now) scope.now vmid place) }
 {
     match first_of(tree, place.page()) {
         Some(node) => cover_in_node(alloc, log, known, scope, vmid, node, place),
@@ -231,8 +233,9 @@ fn tlbi_covers<E: Evidence>(
     }
 }
 
-/// The places of the trees that the event, coming after those of the log, covers, and how far. `NoMemory` where there is
-/// none. Source: Arm ARM (DDI 0487), "TLB maintenance instructions"; the grades of cover are the project's own choice.
+/// The places of the trees that the event, coming after those of the log, covers, and how far. `NoMemory` where there
+/// is none. Source: Arm ARM (DDI 0487), "TLB maintenance instructions"; the grades of cover are the project's own
+/// choice.
 pub fn covers_of<E: Evidence>(
     alloc: Global,
     log: &Log<E>,

@@ -164,8 +164,8 @@ impl<E: Evidence> History<E> {
         in_limbo(&self.log, node)
     }
 
-    /// Whether the value, at the kind and the level of the page, is a table no place of which holds anything. `NoMemory`
-    /// where there is none.
+    /// Whether the value, at the kind and the level of the page, is a table no place of which holds anything.
+    /// `NoMemory` where there is none.
     pub fn is_childless(&self, alloc: Global, node: &Node, value: u64) -> Result<bool, NoMemory>
         ensures { IfOk result (λ childless. childless
             ≡ trees.is_childless self.now.heading self.now.trust (notes self.now) node.now value) }

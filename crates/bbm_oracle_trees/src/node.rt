@@ -88,7 +88,8 @@ impl Node {
 
     /// The places above the page below the place, the nearest first.
     fn above_next(&self, alloc: Global, place: Place) -> Result<Vec<Above>, NoMemory>
-        ensures { IfOk result (λ above. above.items ≡ record { place = place; level = self.now.level } ∷ self.now.above) }
+        ensures { IfOk result (λ above. above.items
+            ≡ record { place = place; level = self.now.level } ∷ self.now.above) }
     {
         let level = self.level;
         let mut above = Vec::new(alloc);

@@ -15,7 +15,8 @@ use std::alloc::Global;
 
 /// The number of pages of a root of the kind, 1 to 16; 0 where the kind isn't one of the header's world.
 fn root_page_count(header: &Header, kind: Kind) -> u8
-    ensures { result ≡ (if worlds.kind_in_world header.now.world kind then worlds.page_count header.now.world kind else 0) }
+    ensures { result
+        ≡ (if worlds.kind_in_world header.now.world kind then worlds.page_count header.now.world kind else 0) }
 {
     if header.has_kind(kind) {
         header.page_count(kind)

@@ -1,6 +1,7 @@
 //! The trees of the declared roots.
 
-ghost use Rattle.std.specs.Prelude.{◌≡◌, ◌≤◌, ◌<◌, ◌==◌, ◌++◌, suc, true, All, find, flat_map, is_some, IfOk, OnOk, IfSome, option_copied, option_to_list};
+ghost use Rattle.std.specs.Prelude.{◌≡◌, ◌≤◌, ◌<◌, ◌==◌, ◌++◌, suc, true, All, find, flat_map, is_some, IfOk, OnOk};
+ghost use Rattle.std.specs.Prelude.{IfSome, option_copied, option_to_list};
 ghost use Rattle.bbm_rules.specs.Lists.{any};
 ghost use Rattle.bbm_rules.specs.Tree as trees;
 ghost use Rattle.bbm_oracle_trees.specs.Fits.{fits_root};
@@ -35,7 +36,8 @@ fn child_at<E: Evidence>(
     node: &Node,
     place: Place,
 ) -> Result<Option<Node>, NoMemory>
-    ensures { IfOk result (λ child. child ≡ trees.child_at log.now.heading log.now.trust (notes log.now) node.now place) }
+    ensures { IfOk result (λ child. child
+        ≡ trees.child_at log.now.heading log.now.trust (notes log.now) node.now place) }
 {
     match log.held(node.kind, node.level, place) {
         Some(value) => match next_page(node.kind, node.level, value) {

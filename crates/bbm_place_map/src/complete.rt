@@ -1,6 +1,7 @@
 //! What a DSB answers.
 
-ghost use Rattle.std.specs.Prelude.{◌≡◌, ◌≢◌, ◌≤◌, ◌<◌, ◌+◌, ◌^◌, ◌⊎◌, ℕ, Some, Option, vec_len, vec_capacity, length, slice_get, slice_index, nat_eq, true, false, if◌then◌else◌};
+ghost use Rattle.std.specs.Prelude.{◌≡◌, ◌≢◌, ◌≤◌, ◌<◌, ◌+◌, ◌^◌, ◌⊎◌, ℕ, Some, Option, vec_len, vec_capacity, length};
+ghost use Rattle.std.specs.Prelude.{slice_get, slice_index, nat_eq, true, false, if◌then◌else◌};
 ghost use Rattle.bbm_entry_state.specs.Calls.{Completed};
 ghost use Rattle.bbm_entry_state.specs.Standing.{IsIdle};
 ghost use Rattle.bbm_entry_state.specs.declared.state.EntryState.TheVariants as state;
@@ -53,8 +54,8 @@ fn answer_at(broken: &mut Vec<Entry>, k: usize, issuer: Pe, dsb: Dsb, n: u8) -> 
     entry.marks.is_clean(n)
 }
 
-/// A DSB of the issuer answered its TLBIs at one entry, which leaves where its place is cleansed at every PE. Whether it
-/// left, and its core is a table.
+/// A DSB of the issuer answered its TLBIs at one entry, which leaves where its place is cleansed at every PE. Whether
+/// it left, and its core is a table.
 #[inline(always)]
 fn complete_at(
     cells: &mut Vec<Cell>,
@@ -260,8 +261,8 @@ fn complete_by(
 }
 
 /// A DSB of the issuer answered its TLBIs. An entry whose place is cleansed at every PE leaves. Whether one over a
-/// table left. Where it is settled that no other place waits to leave, and the issuer's list has all cells at which something
-/// waits, only these are visited.
+/// table left. Where it is settled that no other place waits to leave, and the issuer's list has all cells at which
+/// something waits, only these are visited.
 pub fn complete(
     cells: &mut Vec<Cell>,
     broken: &mut Vec<Entry>,

@@ -117,7 +117,8 @@ fn note_here(
 fn take_here(pendings: &mut [Pending], i: usize, dsb: Dsb) -> Pend
     requires { i < length pendings.old }
     ensures done { (q : ℕ) → IsFirst pendings.old i q → AreAnswered dsb (pends_in pendings.old q) result }
-    ensures left { (q : ℕ) → IsFirst pendings.old i q → WaitsOn dsb (pends_in pendings.old q) (pends_in pendings.new q) }
+    ensures left { (q : ℕ) → IsFirst pendings.old i q
+        → WaitsOn dsb (pends_in pendings.old q) (pends_in pendings.new q) }
     ensures others { (q r : ℕ) → IsFirst pendings.old i q → r ≢ q
         → pends_in pendings.new r ≡ pends_in pendings.old r }
     ensures len { length pendings.new ≡ length pendings.old }

@@ -4,11 +4,12 @@
 //! It can be used by itself by anyone who sees the writes, DSBs and TLBIs of a log, and who knows which pages are in
 //! trees and how far each TLBI covers a place:
 //!
-//! - Keep one `PlaceMap`, at first `PlaceMap::new`, and call `track` for each page of descriptors, whose values are 0 then.
+//! - Keep one `PlaceMap`, at first `PlaceMap::new`, and call `track` for each page of descriptors, whose values are 0
+//!   then.
 //! - At a write call `state`, with the core of the value that the place has, or with None where that is invalid or the
 //!   page is in no tree. Call `write` of that state, with the core of the new value, and `set` with its result. Both
-//!   look the page up. Where it is tracked, `seat` does so once for `live_at`, `core_at` and `write_at`, which makes the
-//!   new state by itself.
+//!   look the page up. Where it is tracked, `seat` does so once for `live_at`, `core_at` and `write_at`, which makes
+//!   the new state by itself.
 //! - At a TLBI call `issue`, with a closure that says how far it covers a place that is broken over a core. It is asked
 //!   of the broken places alone. Where the few places that it can cover are known call `issue_at` with these.
 //! - At a DSB call `publish`, then `complete`. They visit the places where the DSB may change something, seldom all.

@@ -1,6 +1,7 @@
 //! Edits of the cells and the entries, which keep naming each other.
 
-ghost use Rattle.std.specs.Prelude.{◌≡◌, ◌≤◌, ◌<◌, ◌+◌, ◌^◌, ℕ, Option, Some, None, is_some, nat_eq, vec_len, vec_capacity, count_by, slice_get, cond, if◌then◌else◌};
+ghost use Rattle.std.specs.Prelude.{◌≡◌, ◌≤◌, ◌<◌, ◌+◌, ◌^◌, ℕ, Option, Some, None, is_some, nat_eq, vec_len};
+ghost use Rattle.std.specs.Prelude.{vec_capacity, count_by, slice_get, cond, if◌then◌else◌};
 ghost use Rattle.bbm_place_map.specs.Cells.{value_in, slot_in, is_listed};
 ghost use Rattle.bbm_place_map.specs.Entries.{cell_at, entry_in};
 ghost use Rattle.bbm_place_map.specs.Puts.{Breaks};

@@ -43,7 +43,8 @@ pub struct PlaceMap {
 
 #[tactic(auto, unfolding(crate::specs::Map::value_at, crate::specs::Map::marks_at, crate::specs::Map::pends_at, crate::specs::Map::is_tracked, crate::specs::Map::IsSeat, crate::specs::Map::restless_in, crate::specs::Map::restless_place))]
 impl PlaceMap {
-    ghost use Rattle.std.specs.Prelude.{ℕ, Bool, Some, None, [], true, false, Option, IsSome, IfSome, IfOk, length, slice_get, is_some, OnOk, OnErr, ◌||◌, not, ◌&&◌, ◌+◌, if◌then◌else◌};
+    ghost use Rattle.std.specs.Prelude.{ℕ, Bool, Some, None, [], true, false, Option, IsSome, IfSome, IfOk, length};
+    ghost use Rattle.std.specs.Prelude.{slice_get, is_some, OnOk, OnErr, ◌||◌, not, ◌&&◌, ◌+◌, if◌then◌else◌};
     ghost use Rattle.bbm_entry_state.specs.Points.{core_in, is_broken, waits};
     ghost use Rattle.bbm_entry_state.specs.declared.state.EntryState.{EntryState as TheState};
     ghost use Rattle.bbm_tlbi_scope.specs.declared.entry.Cover.{Cover as TheCover};
@@ -54,7 +55,8 @@ impl PlaceMap {
     ghost use Rattle.bbm_descriptor.specs.Descriptor.{core_of};
     ghost use Rattle.bbm_descriptor.specs.declared.desc.Core.{Core as TheCore};
     ghost use Rattle.bbm_entry_state.specs.Standing.{IsIdle};
-    ghost use Rattle.bbm_place_map.specs.Map.{value_at, marks_at, pends_at, is_tracked, IsSeat, page_of, restless_in, restless_place, state_at};
+    ghost use Rattle.bbm_place_map.specs.Map.{value_at, marks_at, pends_at, is_tracked, IsSeat, page_of, restless_in};
+    ghost use Rattle.bbm_place_map.specs.Map.{restless_place, state_at};
     ghost use Rattle.bbm_place_map.specs.Entries.{WaitsAlike};
     ghost use Rattle.bbm_place_map.specs.Sound.{index_of};
     ghost use Rattle.bbm_place_map.specs.States.{marks_of_state};
@@ -179,9 +181,9 @@ impl PlaceMap {
         self.broken[i as usize].place
     }
 
-    /// The PE writes a value at a seat's place, the core of which is `new`, None where it is invalid; `live` is the core
-    /// of the value before. The state is after what the write leaves of the one before. What waits there stays where the
-    /// place is broken, and else is dropped. Nothing else changes.
+    /// The PE writes a value at a seat's place, the core of which is `new`, None where it is invalid; `live` is the
+    /// core of the value before. The state is after what the write leaves of the one before. What waits there stays
+    /// where the place is broken, and else is dropped. Nothing else changes.
     #[inline(always)]
     pub fn write_at(
         &mut self,
@@ -194,7 +196,8 @@ impl PlaceMap {
         requires { IsSeat self.old seat.now }
         ensures written { (state : TheState) × Written (state_at self.old live.now seat.now.place) pe new.now state
             × Leaves state seat.now.place self.old self.new }
-        ensures values { (a : ℕ) → value_at self.new a ≡ (if nat_eq a seat.now.place then value else value_at self.old a) }
+        ensures values { (a : ℕ) → value_at self.new a
+            ≡ (if nat_eq a seat.now.place then value else value_at self.old a) }
         ensures pages { (page : ℕ) → is_tracked self.new page ≡ is_tracked self.old page }
     {
         match new {
@@ -203,13 +206,14 @@ impl PlaceMap {
         }
     }
 
-    /// The same for an invalid value. Each state has an arm of its own, so that the code of a live place carries no marks
-    /// about.
+    /// The same for an invalid value. Each state has an arm of its own, so that the code of a live place carries no
+    /// marks about.
     fn clear_at(&mut self, seat: &Seat, pe: Pe, value: u64, live: &Option<Core>)
         requires { IsSeat self.old seat.now }
         ensures written { (state : TheState) × Written (state_at self.old live.now seat.now.place) pe None state
             × Leaves state seat.now.place self.old self.new }
-        ensures values { (a : ℕ) → value_at self.new a ≡ (if nat_eq a seat.now.place then value else value_at self.old a) }
+        ensures values { (a : ℕ) → value_at self.new a
+            ≡ (if nat_eq a seat.now.place then value else value_at self.old a) }
         ensures pages { (page : ℕ) → is_tracked self.new page ≡ is_tracked self.old page }
     {
         match read::state(&self.cells, &self.broken, seat.index, *live) {
@@ -227,8 +231,10 @@ impl PlaceMap {
     #[inline(always)]
     fn clear_from(&mut self, seat: &Seat, pe: Pe, value: u64, state: EntryState)
         requires { IsSeat self.old seat.now }
-        ensures written { (after : TheState) × Written state pe None after × Leaves after seat.now.place self.old self.new }
-        ensures values { (a : ℕ) → value_at self.new a ≡ (if nat_eq a seat.now.place then value else value_at self.old a) }
+        ensures written { (after : TheState) × Written state pe None after
+            × Leaves after seat.now.place self.old self.new }
+        ensures values { (a : ℕ) → value_at self.new a
+            ≡ (if nat_eq a seat.now.place then value else value_at self.old a) }
         ensures pages { (page : ℕ) → is_tracked self.new page ≡ is_tracked self.old page }
     {
         match state.write(pe, None) {
@@ -241,8 +247,10 @@ impl PlaceMap {
     /// Writes a value at a seat's place, which isn't broken after. What waits there is dropped. Nothing else changes.
     fn put_whole(&mut self, seat: &Seat, value: u64)
         requires { IsSeat self.old seat.now }
-        ensures values { (a : ℕ) → value_at self.new a ≡ (if nat_eq a seat.now.place then value else value_at self.old a) }
-        ensures marks { (a : ℕ) → marks_at self.new a ≡ (if nat_eq a seat.now.place then None else marks_at self.old a) }
+        ensures values { (a : ℕ) → value_at self.new a
+            ≡ (if nat_eq a seat.now.place then value else value_at self.old a) }
+        ensures marks { (a : ℕ) → marks_at self.new a
+            ≡ (if nat_eq a seat.now.place then None else marks_at self.old a) }
         ensures pends { (q a : ℕ) → nat_eq a seat.now.place ≡ false → pends_at self.new q a ≡ pends_at self.old q a }
         ensures dropped { (q : ℕ) → IsIdle (pends_at self.new q seat.now.place) }
         ensures pages { (page : ℕ) → is_tracked self.new page ≡ is_tracked self.old page }
@@ -255,7 +263,8 @@ impl PlaceMap {
     #[inline(always)]
     fn put_broken(&mut self, seat: &Seat, mostly: Pe, value: u64, marks: Marks)
         requires { IsSeat self.old seat.now }
-        ensures values { (a : ℕ) → value_at self.new a ≡ (if nat_eq a seat.now.place then value else value_at self.old a) }
+        ensures values { (a : ℕ) → value_at self.new a
+            ≡ (if nat_eq a seat.now.place then value else value_at self.old a) }
         ensures marks { (a : ℕ) → marks_at self.new a
             ≡ (if nat_eq a seat.now.place then Some marks else marks_at self.old a) }
         ensures pends { (q a : ℕ) → pends_at self.new q a ≡ pends_at self.old q a }
@@ -431,8 +440,8 @@ impl PlaceMap {
         self.broken.reserve(wanted).is_ok() && self.cells.reserve(512).is_ok()
     }
 
-    /// Adds to an empty list how far the closure says that a TLBI covers each broken place, over its core. `NoMemory` where
-    /// there is none.
+    /// Adds to an empty list how far the closure says that a TLBI covers each broken place, over its core. `NoMemory`
+    /// where there is none.
     fn add_covers<F: Fn(&PlaceMap, Place, Core) -> Cover>(
         &self,
         cover: &F,

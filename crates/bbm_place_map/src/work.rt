@@ -1,7 +1,8 @@
 //! Lists of the broken places that a DSB has to visit.
 //! Source: project's own choice, where no other is named.
 
-ghost use Rattle.std.specs.Prelude.{◌≡◌, ◌≢◌, ◌≤◌, ◌<◌, ◌⊎◌, ℕ, Some, true, false, Contains, vec_len, length, slice_get};
+ghost use Rattle.std.specs.Prelude.{◌≡◌, ◌≢◌, ◌≤◌, ◌<◌, ◌⊎◌, ℕ, Some, true, false, Contains, vec_len, length};
+ghost use Rattle.std.specs.Prelude.{slice_get};
 ghost use Rattle.bbm_regimes.specs.PeMask.{pe_in};
 ghost use Rattle.bbm_place_map.specs.Works.{GivesUp, Holds, HoldsFor, is_clean, IsToldAsBefore};
 
@@ -167,8 +168,8 @@ fn add_broken(
     }
 }
 
-/// The place of a cell, with the marks before if it was broken, is broken with these now. Most often this PE is the only
-/// one that wrote there since.
+/// The place of a cell, with the marks before if it was broken, is broken with these now. Most often this PE is the
+/// only one that wrote there since.
 #[inline(always)]
 pub fn note_write(
     work: &mut Work,

@@ -1,6 +1,7 @@
 //! Writes of a cell and its entry.
 
-ghost use Rattle.std.specs.Prelude.{◌≡◌, ◌≤◌, ◌<◌, ◌+◌, ◌^◌, ℕ, Option, Some, None, nat_eq, vec_len, vec_capacity, slice_get, length, List, if◌then◌else◌};
+ghost use Rattle.std.specs.Prelude.{◌≡◌, ◌≤◌, ◌<◌, ◌+◌, ◌^◌, ℕ, Option, Some, None, nat_eq, vec_len, vec_capacity};
+ghost use Rattle.std.specs.Prelude.{slice_get, length, List, if◌then◌else◌};
 ghost use Rattle.bbm_place_map.specs.Cells.{value_in, slot_in, in_page};
 ghost use Rattle.bbm_place_map.specs.Entries.{no_pends};
 ghost use Rattle.bbm_place_map.specs.Parts.{marks_in, pends_for};

@@ -1,7 +1,8 @@
 //! Processing elements and sets of them.
 //! Source: project's own choice, where no other is named.
 
-ghost use Rattle.std.specs.Prelude.{◌≡◌, ℕ, ◌<◌, ◌≤◌, ◌↔◌, ◌&&◌, ◌||◌, not, nat_eq, nat_lt, false, IsTrue, IsSome, IfSome};
+ghost use Rattle.std.specs.Prelude.{◌≡◌, ℕ, ◌<◌, ◌≤◌, ◌↔◌, ◌&&◌, ◌||◌, not, nat_eq, nat_lt, false, IsTrue, IsSome};
+ghost use Rattle.std.specs.Prelude.{IfSome};
 ghost use Rattle.std.specs.List.{list_any};
 
 use std::marker::Model;

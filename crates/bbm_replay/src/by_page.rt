@@ -1,6 +1,7 @@
 //! The TLBIs of one input page: they look at the places on the way down to it alone.
 
-ghost use Rattle.std.specs.Prelude.{◌≡◌, ◌++◌, [], ◌∷◌, ◌+◌, ◌*◌, ◌<◌, ℕ, true, List, Some, length, is_some, OnOk, IfOk, IfSome};
+ghost use Rattle.std.specs.Prelude.{◌≡◌, ◌++◌, [], ◌∷◌, ◌+◌, ◌*◌, ◌<◌, ℕ, true, List, Some, length, is_some, OnOk};
+ghost use Rattle.std.specs.Prelude.{IfOk, IfSome};
 ghost use Rattle.bbm_descriptor.specs.Descriptor.{core_of};
 ghost use Rattle.bbm_entry_state.specs.Points.{core_in};
 ghost use Rattle.bbm_events.specs.Heading.{Heading};
@@ -85,7 +86,8 @@ fn add_met(
 ) -> Result<(), NoMemory>
     requires sound { IsSound index.now }
     requires path { (n : Node) × (node_in index.now (page_of place) ≡ Some n) × (path.now ≡ path_at n place) }
-    requires state { state.now ≡ state_at map.now (core_of path.now.kind path.now.level (value_at map.now place)) place }
+    requires state { state.now
+        ≡ state_at map.now (core_of path.now.kind path.now.level (value_at map.now place)) place }
     ensures covers { OnOk result (AreCovered map.now index.now roots.now scope.now vmid.now found.old.items
         → AreCovered map.now index.now roots.now scope.now vmid.now found.new.items) }
     ensures kept { OnOk result ((a : ℕ) → is_found found.old.items a ≡ true → is_found found.new.items a ≡ true) }
@@ -121,8 +123,8 @@ fn next_of(state: &EntryState) -> Option<Page>
     }
 }
 
-/// Adds the broken places that are met on the way down from the page along the input page, of so many pages at most, each
-/// with its cover.
+/// Adds the broken places that are met on the way down from the page along the input page, of so many pages at most,
+/// each with its cover.
 fn descend(
     map: &PlaceMap,
     index: &TreeIndex,
@@ -206,8 +208,8 @@ fn descend_all(
     Ok(())
 }
 
-/// Adds those that are met on the way down from the pages of the root with this number, if there is one and the operation
-/// can cover places of its kind.
+/// Adds those that are met on the way down from the pages of the root with this number, if there is one and the
+/// operation can cover places of its kind.
 fn visit(
     header: &Header,
     map: &PlaceMap,
@@ -255,7 +257,8 @@ pub(crate) fn found_on_ways(
 ) -> Result<Vec<Found>, NoMemory>
     requires { IsSound index.now }
     ensures covers { IfOk result (λ found. AreCovered map.now index.now roots.now scope.now vmid.now found.items) }
-    ensures met { IfOk result (λ found. (heading : Heading) (h : List Event) (root : Declared) → Stands roots.now heading h
+    ensures met { IfOk result (λ found. (heading : Heading) (h : List Event) (root : Declared)
+        → Stands roots.now heading h
         → root_at h root.page ≡ Some root → spec_covers_kind scope.now.family root.kind ≡ true
         → MetFromAll (node_in index.now) (core_at map.now) at root.page (spec.page_count header.now.world root.kind)
         (IsFoundIn map.now found.items)) }

@@ -54,8 +54,8 @@ fn is_global(core: &Core) -> bool
     }
 }
 
-/// Whether the cover of a place of this region with this core depends on whether its table is childless: where the scope
-/// names pages of any level, and some of the region.
+/// Whether the cover of a place of this region with this core depends on whether its table is childless: where the
+/// scope names pages of any level, and some of the region.
 fn asks_childless(scope: &Scope, region: Interval, core: &Core) -> bool
     ensures { result ≡ (has_page scope.now.family && (is_table_core core.now && (not scope.now.last_only
         && is_none scope.now.level && names_some scope.now.interval region))) }

@@ -47,7 +47,8 @@ fn issue_all(
 ) -> Result<(), NoMemory>
     requires { IsSound index.now }
     ensures noted { OnOk result ((heading : Heading) (h : List Event) (xt : ℕ)
-        → MayBeIssued heading h map.old index.now roots.now pe op xt scope.now vmid.now → (a : ℕ) → is_some (marks_at map.old a) ≡ true
+        → MayBeIssued heading h map.old index.now roots.now pe op xt scope.now vmid.now → (a : ℕ)
+        → is_some (marks_at map.old a) ≡ true
         → Noted (state_from None (marks_at map.old a)) (pends_at map.old pe a) reach (operations.operation op).broadcast
         (cover_at heading Patterns (notes heading h) (Tlbi pe op xt) a) (pends_at map.new pe a)) }
     ensures others { (q a : ℕ) → nat_eq q pe ≡ false → pends_at map.new q a ≡ pends_at map.old q a }
@@ -78,7 +79,8 @@ fn issue_page(
     requires sound { IsSound index.now }
     requires one { NamesOne scope.now at }
     ensures noted { OnOk result ((heading : Heading) (h : List Event) (xt : ℕ) → header.now ≡ heading
-        → MayBeIssued heading h map.old index.now roots.now pe op xt scope.now vmid.now → (a : ℕ) → is_some (marks_at map.old a) ≡ true
+        → MayBeIssued heading h map.old index.now roots.now pe op xt scope.now vmid.now → (a : ℕ)
+        → is_some (marks_at map.old a) ≡ true
         → Noted (state_from None (marks_at map.old a)) (pends_at map.old pe a) reach (operations.operation op).broadcast
         (cover_at heading Patterns (notes heading h) (Tlbi pe op xt) a) (pends_at map.new pe a)) }
     ensures others { (q a : ℕ) → nat_eq q pe ≡ false → pends_at map.new q a ≡ pends_at map.old q a }
@@ -110,7 +112,8 @@ pub(crate) fn issue(
 ) -> Result<(), NoMemory>
     requires { IsSound index.now }
     ensures noted { OnOk result ((heading : Heading) (h : List Event) (xt : ℕ) → header.now ≡ heading
-        → MayBeIssued heading h map.old index.now roots.now pe op xt scope.now vmid.now → (a : ℕ) → is_some (marks_at map.old a) ≡ true
+        → MayBeIssued heading h map.old index.now roots.now pe op xt scope.now vmid.now → (a : ℕ)
+        → is_some (marks_at map.old a) ≡ true
         → Noted (state_from None (marks_at map.old a)) (pends_at map.old pe a) reach (operations.operation op).broadcast
         (cover_at heading Patterns (notes heading h) (Tlbi pe op xt) a) (pends_at map.new pe a)) }
     ensures others { (q a : ℕ) → nat_eq q pe ≡ false → pends_at map.new q a ≡ pends_at map.old q a }

@@ -11,8 +11,8 @@ use bbm_rules::StepFault;
 use bbm_tree_index::TreeIndex;
 use std::alloc::Global;
 
-/// The header of a log, the places, the trees, and the roots with registers, tags and locks. Clauses speak of the history
-/// that they stand for. Source: project's own choice.
+/// The header of a log, the places, the trees, and the roots with registers, tags and locks. Clauses speak of the
+/// history that they stand for. Source: project's own choice.
 #[derive(Drop)]
 pub struct Parts {
     /// The header.

@@ -23,8 +23,10 @@ pub fn law_others()
 
 /// A DSB, a DMB and an ISB break no rule and reach no limit.
 pub fn law_barriers()
-    ensures dsb { (heading : Heading) (h : List Event) (pe : ℕ) (dsb : Barrier) → broken heading Patterns h (Dsb pe dsb) ≡ None }
-    ensures dmb { (heading : Heading) (h : List Event) (pe : ℕ) (dsb : Barrier) → broken heading Patterns h (Dmb pe dsb) ≡ None }
+    ensures dsb { (heading : Heading) (h : List Event) (pe : ℕ) (dsb : Barrier) → broken heading Patterns h (Dsb pe dsb)
+        ≡ None }
+    ensures dmb { (heading : Heading) (h : List Event) (pe : ℕ) (dsb : Barrier) → broken heading Patterns h (Dmb pe dsb)
+        ≡ None }
     ensures isb { (heading : Heading) (h : List Event) (pe : ℕ) → broken heading Patterns h (Isb pe) ≡ None }
     ensures dsb_limit { (h : List Event) (pe : ℕ) (dsb : Barrier) → limit_of h (Dsb pe dsb) ≡ None }
     ensures dmb_limit { (h : List Event) (pe : ℕ) (dsb : Barrier) → limit_of h (Dmb pe dsb) ≡ None }

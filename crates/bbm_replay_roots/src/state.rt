@@ -63,7 +63,8 @@ fn retire_rule(fault: RootFault) -> Rule
 }
 
 impl RootState {
-    ghost use Rattle.std.specs.Prelude.{◌≡◌, ◌≢◌, ◌<◌, ◌≤◌, ◌↔◌, ℕ, Bool, true, List, [], ◌∷◌, Option, Some, None, Err, is_some, length, option_and_then, IsOk, IfOk, IfErr, OnOk, OnErr};
+    ghost use Rattle.std.specs.Prelude.{◌≡◌, ◌≢◌, ◌<◌, ◌≤◌, ◌↔◌, ℕ, Bool, true, List, [], ◌∷◌, Option, Some, None, Err};
+    ghost use Rattle.std.specs.Prelude.{is_some, length, option_and_then, IsOk, IfOk, IfErr, OnOk, OnErr};
     ghost use Rattle.bbm_events.specs.Fits.{fits_heading};
     ghost use Rattle.bbm_events.specs.Heading.{Heading};
     ghost use Rattle.bbm_events.specs.declared.event.Event.{Event as TheEvent};
@@ -101,7 +102,8 @@ impl RootState {
 
     /// Whether the page is the first page of a declared root of the kind.
     pub fn is_root(&self, kind: Kind, page: Page) -> bool
-        ensures { (heading : Heading) (h : List TheEvent) → Stands self.now heading h → result ≡ spec.is_root h kind page }
+        ensures { (heading : Heading) (h : List TheEvent) → Stands self.now heading h → result
+            ≡ spec.is_root h kind page }
     {
         bridge();
         self.roots.is_root(kind, page)
@@ -127,7 +129,8 @@ impl RootState {
 
     /// The PE that took the lock, 0 to 65535, last and hasn't given it back; None where it is free.
     pub fn holder_of(&self, lock: u16) -> Option<Pe>
-        ensures { (heading : Heading) (h : List TheEvent) → Stands self.now heading h → result ≡ locks.holder_of h lock }
+        ensures { (heading : Heading) (h : List TheEvent) → Stands self.now heading h → result
+            ≡ locks.holder_of h lock }
     {
         self.locks.holder(lock)
     }
@@ -243,8 +246,10 @@ impl RootState {
     /// comes between.
     pub fn prepare(&mut self, alloc: Global) -> Result<(), StepFault>
         ensures room { OnOk result (HasRoom self.new) }
-        ensures limit { (heading : Heading) (h : List TheEvent) (pe : ℕ) (kind : Kind) (lock : Option ℕ) (page : ℕ) → Stands self.old heading h
-            → (result ≡ Err (StepFault.Limit Which.Roots)) ↔ (limit_of h (TheEvent.Root pe kind lock page) ≡ Some Which.Roots) }
+        ensures limit { (heading : Heading) (h : List TheEvent) (pe : ℕ) (kind : Kind) (lock : Option ℕ) (page : ℕ)
+            → Stands self.old heading h
+            → (result ≡ Err (StepFault.Limit Which.Roots))
+            ↔ (limit_of h (TheEvent.Root pe kind lock page) ≡ Some Which.Roots) }
         ensures fault { IfErr result (λ fault. fault ≢ StepFault.Limit Which.Roots → fault ≡ StepFault.NoMemory) }
         ensures same { (heading : Heading) (h : List TheEvent) → Stands self.old heading h → Stands self.new heading h }
     {
@@ -306,7 +311,8 @@ impl RootState {
         null: bool,
     ) -> Result<(), StepFault>
         requires { MayAsk (Stands self.old) pe }
-        ensures judged { (heading : Heading) (h : List TheEvent) → Stands self.old heading h → null ≡ has_null_base h value
+        ensures judged { (heading : Heading) (h : List TheEvent) → Stands self.old heading h → null
+            ≡ has_null_base h value
             → Answers result (broken heading Patterns h (TheEvent.Msr pe reg value)) (limit_of h (TheEvent.Msr pe reg value)) }
         ensures taken { OnOk result ((heading : Heading) (h : List TheEvent) → Stands self.old heading h
             → null ≡ has_null_base h value → Stands self.new heading (TheEvent.Msr pe reg value ∷ h)) }

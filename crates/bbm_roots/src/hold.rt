@@ -1,13 +1,15 @@
 //! Which PEs hold a tag for a root.
 //! Source: project's own choice, where no other is named.
 
-ghost use Rattle.std.specs.Prelude.{◌≡◌, ℕ, ◌≤◌, Bool, ◌&&◌, ◌||◌, not, nat_eq, true, false, Option, Some, None, is_some, OnOk, if◌then◌else◌};
+ghost use Rattle.std.specs.Prelude.{◌≡◌, ℕ, ◌≤◌, Bool, ◌&&◌, ◌||◌, not, nat_eq, true, false, Option, Some, None};
+ghost use Rattle.std.specs.Prelude.{is_some, OnOk, if◌then◌else◌};
 ghost use Rattle.indexmap.specs.IndexMap.{get, values};
 ghost use Rattle.bbm_regimes.specs.PeMask.{pe_in};
 ghost use Rattle.bbm_regimes.specs.declared.regime.Tag.{Tag as TheTag};
 ghost use Rattle.bbm_roots.specs.Holds as spec;
 ghost use Rattle.bbm_roots.specs.Pendings.{answered_bit, answered_in};
-ghost use Rattle.bbm_roots.specs.Readings.{same_tag as spec_same_tag, has_reading as spec_has_reading, has_tag as spec_has_tag};
+ghost use Rattle.bbm_roots.specs.Readings.{same_tag as spec_same_tag, has_reading as spec_has_reading};
+ghost use Rattle.bbm_roots.specs.Readings.{has_tag as spec_has_tag};
 
 use crate::pending::{Pending, is_answered};
 use crate::reading::Reading;
@@ -67,7 +69,8 @@ pub fn entries(holds: &Holds) -> &[Held]
 /// Makes an entry of the tag and the root, with no PE in it, where the tag has none.
 fn make_entry(holds: &mut Holds, tag: Tag, root: Page) -> Result<(), NoMemory>
     ensures same { (g : TheTag) (r p : ℕ) → spec.hold_in holds.new g r p ≡ spec.hold_in holds.old g r p }
-    ensures made { OnOk result ((g : TheTag) → spec.has_entry holds.new g ≡ (spec.has_entry holds.old g || spec_same_tag tag g)) }
+    ensures made { OnOk result ((g : TheTag) → spec.has_entry holds.new g
+        ≡ (spec.has_entry holds.old g || spec_same_tag tag g)) }
 {
     let key = tag_key(tag);
     if holds.contains_key(&key) {
@@ -93,7 +96,8 @@ pub fn make_room(holds: &mut Holds, readings: &[Reading]) -> Result<(), NoMemory
 
 /// The entry of the tag with the PE in it: for this root, where another may have been there before.
 fn entered(held: Held, tag: Tag, root: Page, pe: Pe) -> Held
-    ensures { (r p : ℕ) → spec.holds_bit tag r p result ≡ (nat_eq root r && (spec.holds_bit tag r p held || nat_eq p pe)) }
+    ensures { (r p : ℕ) → spec.holds_bit tag r p result
+        ≡ (nat_eq root r && (spec.holds_bit tag r p held || nat_eq p pe)) }
 {
     let one = PeMask::one(pe);
     let pes = if is_hold(&held, tag, root) {

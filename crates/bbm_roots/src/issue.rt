@@ -23,8 +23,8 @@ fn takes(scope: &Scope, vmid: Option<u16>, tag: Tag) -> bool
     whole_tag(*scope, vmid, tag)
 }
 
-/// Whether TLBIs of the scope's family take whole tags: those that name no pages. Where they don't, this one takes none. Source: Arm ARM (DDI
-/// 0487), "TLB maintenance instructions".
+/// Whether TLBIs of the scope's family take whole tags: those that name no pages. Where they don't, this one takes
+/// none. Source: Arm ARM (DDI 0487), "TLB maintenance instructions".
 pub fn takes_tags(scope: &Scope) -> bool
     ensures family { result ≡ not (has_page scope.now.family) }
     ensures none { result ≡ false → (vmid : Option ℕ) (tag : TheTag) → takes_whole_tag scope.now vmid tag ≡ false }

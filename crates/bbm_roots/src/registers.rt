@@ -2,7 +2,8 @@
 //! Source: project's own choice, where no other is named.
 #![tactic(auto)]
 
-ghost use Rattle.std.specs.Prelude.{◌≡◌, ℕ, ◌<◌, ◌≤◌, ◌+◌, ◌∷◌, ◌++◌, [], nat_eq, nat_le, length, vec_len, ◌&&◌, ◌||◌, IfOk, OnOk, if◌then◌else◌};
+ghost use Rattle.std.specs.Prelude.{◌≡◌, ℕ, ◌<◌, ◌≤◌, ◌+◌, ◌∷◌, ◌++◌, [], nat_eq, nat_le, length, vec_len, ◌&&◌, ◌||◌};
+ghost use Rattle.std.specs.Prelude.{IfOk, OnOk, if◌then◌else◌};
 ghost use Rattle.bbm_regimes.specs.PeMask.{pe_in};
 ghost use Rattle.bbm_roots.specs.Columns.{Column, loads_in};
 ghost use Rattle.bbm_roots.specs.Registers.{at_start, newest};

@@ -34,7 +34,9 @@ pub struct Roots {
 }
 
 impl Roots {
-    ghost use Rattle.std.specs.Prelude.{◌≡◌, ◌≢◌, ◌||◌, ◌&&◌, not, true, false, Bool, if◌then◌else◌, Some, IfSome, nat_eq, ℕ, ◌<◌, ◌≤◌, ◌↔◌, List, [], ◌∷◌, Err, None, length, IsOk, IfOk, OnOk, OnErr, IfErr, is_some};
+    ghost use Rattle.std.specs.Prelude.{◌≡◌, ◌≢◌, ◌||◌, ◌&&◌, not, true, false, Bool, if◌then◌else◌, Some, IfSome};
+    ghost use Rattle.std.specs.Prelude.{nat_eq, ℕ, ◌<◌, ◌≤◌, ◌↔◌, List, [], ◌∷◌, Err, None, length, IsOk, IfOk, OnOk};
+    ghost use Rattle.std.specs.Prelude.{OnErr, IfErr, is_some};
     ghost use Rattle.bbm_regimes.specs.PeMask.{pe_in};
     ghost use Rattle.bbm_roots.specs.Calls as call;
     ghost use Rattle.bbm_roots.specs.Calls.{Call};
@@ -48,7 +50,8 @@ impl Roots {
     ghost use Rattle.bbm_barriers.specs.Options.{answers as dsb_answers};
     ghost use Rattle.bbm_roots.specs.Readings.{has_reading, has_tag, readings_of};
     ghost use Rattle.bbm_roots.specs.Refusals.{missing_root, conflicts, JudgesWrite, JudgesRetire, JudgesVmid};
-    ghost use Rattle.bbm_roots.specs.Registers.{is_first as spec_is_first, is_of_world, register_values, root_of, second_reg, uses};
+    ghost use Rattle.bbm_roots.specs.Registers.{is_first as spec_is_first, is_of_world, register_values, root_of};
+    ghost use Rattle.bbm_roots.specs.Registers.{second_reg, uses};
     ghost use Rattle.bbm_regimes.specs.declared.regime.Tag.{Tag as TheTag};
     ghost use Rattle.bbm_roots.specs.Tags.{holds_tag, vmid_of};
     ghost use Rattle.bbm_roots.specs.Stands.{IsReady, Stands, IsPrepared, pes_of, world_of};
@@ -425,10 +428,12 @@ impl Roots {
             else loads_in self.old.registers.second.items pe) < 9 }
         requires entries { (g : TheTag) → has_tag g seen.now ≡ true → has_entry self.old.holds g ≡ true }
         ensures first { (p : ℕ) → loads_in self.new.registers.first.items p
-            ≡ (if nat_eq p pe && spec_is_first reg then record { number = number; root = root } ∷ loads_in self.old.registers.first.items p
+            ≡ (if nat_eq p pe
+            && spec_is_first reg then record { number = number; root = root } ∷ loads_in self.old.registers.first.items p
             else loads_in self.old.registers.first.items p) }
         ensures second { (p : ℕ) → loads_in self.new.registers.second.items p
-            ≡ (if nat_eq p pe && not (spec_is_first reg) then record { number = number; root = root } ∷ loads_in self.old.registers.second.items p
+            ≡ (if nat_eq p pe
+            && not (spec_is_first reg) then record { number = number; root = root } ∷ loads_in self.old.registers.second.items p
             else loads_in self.old.registers.second.items p) }
         ensures holds { IsCalm self.old.holds seen.now → (g : TheTag) (r p : ℕ) → hold_in self.new.holds g r p
             ≡ (hold_in self.old.holds g r p || (nat_eq p pe && has_reading g r seen.now)) }
@@ -444,13 +449,13 @@ impl Roots {
         self.registers.put(pe, reg, Load { number, root });
     }
 
-    /// The PE writes the register, which is one of the world. `null` tells whether the base of the value is a null page,
-    /// which counts in TTBR0_EL1 alone: such a value names no root, as 0 does. `NoRoot` with the base exactly where the
-    /// value names another base than that of a declared root of the register's kind. Else `TagConflict` exactly where
-    /// after the write a tag would be readable at the PE for one root while another holds it: with the least first page
-    /// of such another root, and its first such tag in the order `El2`, VMIDs, ASIDs, `Ttbr1`. Else `Limit(Values)`
-    /// exactly where it is the ninth write without an ISB between. `NoMemory` may come in the place of the last two
-    /// and of Ok. A refusal changes nothing.
+    /// The PE writes the register, which is one of the world. `null` tells whether the base of the value is a null
+    /// page, which counts in TTBR0_EL1 alone: such a value names no root, as 0 does. `NoRoot` with the base exactly
+    /// where the value names another base than that of a declared root of the register's kind. Else `TagConflict`
+    /// exactly where after the write a tag would be readable at the PE for one root while another holds it: with the
+    /// least first page of such another root, and its first such tag in the order `El2`, VMIDs, ASIDs, `Ttbr1`. Else
+    /// `Limit(Values)` exactly where it is the ninth write without an ISB between. `NoMemory` may come in the place of
+    /// the last two and of Ok. A refusal changes nothing.
     pub fn write_reg(
         &mut self,
         alloc: Global,

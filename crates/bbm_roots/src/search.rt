@@ -5,7 +5,8 @@ ghost use Rattle.bbm_regimes.specs.declared.regime.Tag.{Tag as TheTag};
 ghost use Rattle.bbm_tlbi_scope.specs.TagSets.{HasTags};
 ghost use Rattle.bbm_roots.specs.declared.reading.Reading.{Reading as TheReading};
 ghost use Rattle.bbm_roots.specs.Holds as spec;
-ghost use Rattle.bbm_roots.specs.Readings.{is_other, is_reading, has_other as spec_has_other, same_tag as spec_same_tag};
+ghost use Rattle.bbm_roots.specs.Readings.{is_other, is_reading, has_other as spec_has_other};
+ghost use Rattle.bbm_roots.specs.Readings.{same_tag as spec_same_tag};
 ghost use Rattle.bbm_roots.specs.Registers.{is_that};
 ghost use Rattle.bbm_roots.specs.Least.{IsLeast, ReadingUpTo, TagUpTo};
 
@@ -16,8 +17,10 @@ use bbm_tlbi_scope::{TagSet, with_tag};
 
 /// Whether the first comes no later than the second: by the root's first page, then by the tag.
 fn is_up_to(tag: Tag, root: Page, other: Tag, page: Page) -> bool
-    ensures yes { result ≡ true → ReadingUpTo (record { tag = tag; root = root }) (record { tag = other; root = page }) }
-    ensures no { result ≡ false → ReadingUpTo (record { tag = other; root = page }) (record { tag = tag; root = root }) }
+    ensures yes { result ≡ true
+        → ReadingUpTo (record { tag = tag; root = root }) (record { tag = other; root = page }) }
+    ensures no { result ≡ false
+        → ReadingUpTo (record { tag = other; root = page }) (record { tag = tag; root = root }) }
 {
     if root == page {
         tag_rank(tag) <= tag_rank(other)
@@ -121,8 +124,8 @@ pub fn least_conflict(holds: &Holds, n: u8, seen: &[Reading]) -> Option<Reading>
     least
 }
 
-/// Whether the root holds the tag of the entry under this key at one of the first n PEs. Under the key of another tag it
-/// says nothing.
+/// Whether the root holds the tag of the entry under this key at one of the first n PEs. Under the key of another tag
+/// it says nothing.
 fn is_held_under(key: u32, held: &Held, n: u8, root: Page) -> bool
     requires some { 1 ≤ n }
     requires within { n ≤ 128 }

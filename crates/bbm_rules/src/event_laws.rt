@@ -41,8 +41,8 @@ pub fn law_equality_tests()
     ensures claims { (c k : Claim) → (same_claim c k ≡ true) ↔ (c ≡ k) }
 {}
 
-/// A PE holds a lock exactly where it took it, nobody took it since, and the PE didn't give it back since. The call does
-/// nothing; the law is its contract.
+/// A PE holds a lock exactly where it took it, nobody took it since, and the PE didn't give it back since. The call
+/// does nothing; the law is its contract.
 #[tactic(auto, using(crate::proofs::LockLaw::laws))]
 pub fn law_lock_held()
     ensures sound { (h : List Event) (p lock : ℕ) → holder_of h lock ≡ Some p → HoldsLock h p lock }
@@ -57,7 +57,8 @@ pub fn law_root()
     ensures sound { (h : List Event) (r : Declared) → Contains (roots_of h) r → IsDeclared h r }
     ensures complete { (h : List Event) (r : Declared) → IsDeclared h r → Contains (roots_of h) r }
     ensures found { (h : List Event) (r : Declared) → IsDeclared h r → root_at h r.page ≡ Some r }
-    ensures of_page { (h : List Event) (page : ℕ) (r : Declared) → root_at h page ≡ Some r → IsDeclared h r × (r.page ≡ page) }
+    ensures of_page { (h : List Event) (page : ℕ) (r : Declared) → root_at h page ≡ Some r → IsDeclared h r
+        × (r.page ≡ page) }
     ensures of_kind { (h : List Event) (kind : Kind) (page : ℕ) → is_root h kind page ≡ true →
         (r : Declared) × IsDeclared h r × (r.page ≡ page) × (r.kind ≡ kind) }
     ensures is_of_kind { (h : List Event) (r : Declared) → IsDeclared h r → is_root h r.kind r.page ≡ true }
@@ -83,8 +84,8 @@ pub fn law_readable_register()
         ReadableRegister h p reg value → among value (register_values h p reg) ≡ true }
 {}
 
-/// A write is published to a PE exactly where a later DSB of its own PE publishes to that PE. The call does nothing; the
-/// law is its contract.
+/// A write is published to a PE exactly where a later DSB of its own PE publishes to that PE. The call does nothing;
+/// the law is its contract.
 #[tactic(auto, using(crate::proofs::ReadableLaw::published_laws))]
 pub fn law_published()
     ensures sound { (heading : Heading) (q p : ℕ) (later : List Event) →
@@ -99,7 +100,8 @@ pub fn law_published()
 pub fn law_changes()
     ensures values { (e : Event) (h : List Event) (place : ℕ) → (changes e).values ≡ false →
         value_of (e ∷ h) place ≡ value_of h place }
-    ensures written { (e : Event) (h : List Event) → (changes e).values ≡ false → written_places (e ∷ h) ≡ written_places h }
+    ensures written { (e : Event) (h : List Event) → (changes e).values ≡ false → written_places (e ∷ h)
+        ≡ written_places h }
     ensures publications { (heading : Heading) (q p : ℕ) (e : Event) (later : List Event) →
         (changes e).publications ≡ false → published heading q p (e ∷ later) ≡ published heading q p later }
     ensures inits { (e : Event) (h : List Event) → (changes e).inits ≡ false → initialised (e ∷ h) ≡ initialised h }

@@ -232,7 +232,8 @@ pub fn law_each_rule()
 #[tactic(auto, using(crate::proofs::PhaseLaw::laws))]
 pub fn law_refused_place()
     ensures { (heading : Heading) (trust : Trust) (h : List Event) (e : Event) (at p : ℕ) →
-        breaks heading trust (noted heading trust h) e BreakBeforeMake ≡ Some at → phase_of heading trust h at p ≢ Clean }
+        breaks heading trust (noted heading trust h) e BreakBeforeMake ≡ Some at
+        → phase_of heading trust h at p ≢ Clean }
 {}
 
 /// The annotated history of a history ends in that of its older part. Each event in it stands with what it covered by

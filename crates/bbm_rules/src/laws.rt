@@ -1,5 +1,5 @@
-//! Laws of the definitions: three of them say the same as a sentence over all ways to split a history, and the annotated
-//! history keeps the events.
+//! Laws of the definitions: three of them say the same as a sentence over all ways to split a history, and the
+//! annotated history keeps the events.
 
 ghost use Rattle.std.specs.Prelude.{◌≡◌, ℕ, true, List, Contains};
 ghost use Rattle.bbm_regimes.specs.declared.regime.Tag.{Tag};
@@ -30,8 +30,10 @@ pub fn law_readable_value()
 /// nothing; the law is its contract.
 #[tactic(auto, using(crate::proofs::OpenLaw::laws))]
 pub fn law_answered()
-    ensures sound { (q : ℕ) (h : List Event) (t : Issued Event) → Contains (unanswered itself q h) t → Open itself q h t }
-    ensures complete { (q : ℕ) (h : List Event) (t : Issued Event) → Open itself q h t → Contains (unanswered itself q h) t }
+    ensures sound { (q : ℕ) (h : List Event) (t : Issued Event) → Contains (unanswered itself q h) t
+        → Open itself q h t }
+    ensures complete { (q : ℕ) (h : List Event) (t : Issued Event) → Open itself q h t
+        → Contains (unanswered itself q h) t }
     ensures noted_sound { (q : ℕ) (h : List Noted) (t : Issued Noted) →
         Contains (unanswered event_of q h) t → Open event_of q h t }
     ensures noted_complete { (q : ℕ) (h : List Noted) (t : Issued Noted) →

@@ -48,7 +48,8 @@ fn any_other_root(living: &[Living], readings: &[Reading]) -> bool
         .any(|living| has_other_root(readings, &living.entry))
 }
 
-/// Whether one of the entries conflicts with the event, which is the last of the events. `NoMemory` where there is none.
+/// Whether one of the entries conflicts with the event, which is the last of the events. `NoMemory` where there is
+/// none.
 /// Source: project's own choice.
 pub fn in_conflict(
     alloc: Global,

@@ -210,8 +210,8 @@ impl Entry {
         }
     }
 
-    /// Its age for a TLBI of the family: how many events had been taken when it was joined, for one of all stage 1 entries
-    /// of a VMID and a combined entry, and else when its first part was read.
+    /// Its age for a TLBI of the family: how many events had been taken when it was joined, for one of all stage 1
+    /// entries of a VMID and a combined entry, and else when its first part was read.
     pub fn age_for(&self, family: Family) -> u64
         ensures { result ≡ spec.age_for family self.now }
     {

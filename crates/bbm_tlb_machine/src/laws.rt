@@ -22,8 +22,9 @@ pub fn law_run()
         IsFirstBad heading steps i ↔ (follow_steps heading steps ≡ Err i) }
 {}
 
-/// A log is safe exactly where in no run over it the test for a conflict finds one at the next event. A step is the first
-/// at which a clause fails exactly where that test first finds one there. The call does nothing; the law is its contract.
+/// A log is safe exactly where in no run over it the test for a conflict finds one at the next event. A step is the
+/// first at which a clause fails exactly where that test first finds one there. The call does nothing; the law is its
+/// contract.
 #[tactic(auto, using(crate::proofs::SafeLaw::laws))]
 pub fn law_conflict()
     ensures safe { (heading : Heading) (log : List Event) →

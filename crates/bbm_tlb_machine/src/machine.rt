@@ -1,7 +1,8 @@
 //! The machine of TLBs, and the runs that it follows.
 //! Source: project's own choice, where no other is named.
 
-ghost use Rattle.std.specs.Prelude.{◌≡◌, ℕ, ◌+◌, ◌-◌, ◌<◌, ◌≤◌, ◌^◌, true, List, [], ◌∷◌, None, Some, Err, length, reverse, IfOk, OnOk, is_some};
+ghost use Rattle.std.specs.Prelude.{◌≡◌, ℕ, ◌+◌, ◌-◌, ◌<◌, ◌≤◌, ◌^◌, true, List, [], ◌∷◌, None, Some, Err, length};
+ghost use Rattle.std.specs.Prelude.{reverse, IfOk, OnOk, is_some};
 ghost use Rattle.bbm_events.specs.Heading.{Heading};
 ghost use Rattle.bbm_events.specs.declared.event.Event.{Event as TheEvent};
 ghost use Rattle.bbm_events.specs.declared.machine.MachineLine.TheVariants.{Drop as DropLine};
@@ -10,7 +11,8 @@ ghost use Rattle.bbm_tlb_machine.specs.declared.step.Step.{Step as TheStep};
 ghost use Rattle.bbm_tlb_machine.specs.declared.step.Step.TheVariants.{Machine as MachineStep, Event as EventStep};
 ghost use Rattle.bbm_tlb_machine.specs.Followed.{Follows, GoesOn, entry_made};
 ghost use Rattle.bbm_tlb_machine.specs.Pendings.{IsPending, leaves_any as spec_leaves};
-ghost use Rattle.bbm_tlb_machine.specs.Run.{State, after_event, at_start, follow_steps, leaves_some, step_to, with_entry};
+ghost use Rattle.bbm_tlb_machine.specs.Run.{State, after_event, at_start, follow_steps, leaves_some, step_to};
+ghost use Rattle.bbm_tlb_machine.specs.Run.{with_entry};
 ghost use Rattle.bbm_tlb_machine.specs.Safe.{conflicts_with, earlier, in_conflict as spec_conflict};
 
 use crate::conflict::in_conflict;
@@ -72,10 +74,10 @@ impl Machine {
         }
     }
 
-    /// The index of the first step, counted from 0, at which a clause of a safe log fails: a write of a value at a place
-    /// of which some TLB keeps one that needs break-before-make, an `init` of a page that an entry was read through, or a
-    /// register write that makes a tag readable for another root than that of an entry under it. None where it fails at no
-    /// step of the run.
+    /// The index of the first step, counted from 0, at which a clause of a safe log fails: a write of a value at a
+    /// place of which some TLB keeps one that needs break-before-make, an `init` of a page that an entry was read
+    /// through, or a register write that makes a tag readable for another root than that of an entry under it. None
+    /// where it fails at no step of the run.
     pub fn conflict(&self) -> Option<u64>
         ensures { result ≡ self.now.conflict }
     {
@@ -135,7 +137,8 @@ impl Machine {
         line: &MachineLine,
     ) -> Result<bool, NoMemory>
         requires { self.old.state.made < 2 ^ 64 - 1 }
-        ensures step { IfOk result (λ done. step_to header.now self.old.state (MachineStep line.now) ≡ if_so done self.new.state) }
+        ensures step { IfOk result (λ done. step_to header.now self.old.state (MachineStep line.now)
+            ≡ if_so done self.new.state) }
         ensures log { OnOk result (self.new.state.log ≡ self.old.state.log) }
         ensures made { OnOk result (self.new.state.made ≤ self.old.state.made + 1) }
         ensures pending { self.new.pending ≡ self.old.pending }
@@ -249,7 +252,8 @@ impl Machine {
         index: u64,
     ) -> Result<bool, NoMemory>
         requires { IsPending header.now self.old.state.log self.old.pending }
-        ensures step { IfOk result (λ done. step_to header.now self.old.state (EventStep event.now) ≡ if_so done self.new.state) }
+        ensures step { IfOk result (λ done. step_to header.now self.old.state (EventStep event.now)
+            ≡ if_so done self.new.state) }
         ensures pending { IfOk result (λ done. done ≡ true → IsPending header.now self.new.state.log self.new.pending) }
         ensures conflict { IfOk result (λ done. done ≡ true → self.new.conflict
             ≡ earlier self.old.conflict (if_so (spec_conflict header.now self.old.state event.now) index)) }
@@ -296,7 +300,8 @@ impl Machine {
         requires unanswered { IsPending header.now self.old.state.log self.old.pending }
         ensures follows { OnOk result ((older : List TheStep) → length older ≡ index
             → Follows header.now older self.old → Follows header.now (step.now ∷ older) self.new) }
-        ensures bad_step { (i : ℕ) → result ≡ Err (FollowFault.BadStep i) → (older : List TheStep) → length older ≡ index
+        ensures bad_step { (i : ℕ) → result ≡ Err (FollowFault.BadStep i) → (older : List TheStep) → length older
+            ≡ index
             → Follows header.now older self.old → follow_steps header.now (step.now ∷ older) ≡ Err i }
         ensures made { OnOk result (self.new.state.made ≤ self.old.state.made + 1) }
     {
@@ -311,9 +316,9 @@ impl Machine {
     }
 }
 
-/// Follows a run: its events and what the TLBs do between them, under the header. `BadStep` exactly where a step is none
-/// of the machine's, with the index of the first such, counted from 0. The work for a step grows with the number of the
-/// entries that are living, and with that of the events taken.
+/// Follows a run: its events and what the TLBs do between them, under the header. `BadStep` exactly where a step is
+/// none of the machine's, with the index of the first such, counted from 0. The work for a step grows with the number
+/// of the entries that are living, and with that of the events taken.
 #[tactic(auto, using(crate::proofs::FollowSteps::ends))]
 pub fn follow(alloc: Global, header: &Header, steps: &Vec<Step>) -> Result<Machine, FollowFault>
     ensures followed { IfOk result (λ machine. Follows header.now (reverse steps.now.items) machine) }

@@ -70,8 +70,8 @@ fn share_at(
     }
 }
 
-/// The entry that the line makes after these events, where the TLBs keep these; None where it makes none. `NoMemory` where
-/// there is none.
+/// The entry that the line makes after these events, where the TLBs keep these; None where it makes none. `NoMemory`
+/// where there is none.
 pub fn made_by(
     alloc: Global,
     header: &Header,

@@ -64,8 +64,8 @@ fn known()
 }
 
 /// In each run over a log that keeps the rules, each entry that some TLB keeps is fine, point by point, whatever the
-/// rules trust; and so each unanswered TLBI that covers a place of a part of it takes it. A log has a header that can be
-/// said, and each event fits it. The law is the contract.
+/// rules trust; and so each unanswered TLBI that covers a place of a part of it takes it. A log has a header that can
+/// be said, and each event fits it. The law is the contract.
 pub fn law_fine()
     ensures fine { (heading : Heading) (trust : Trust) (steps : List Step) (s : State) → IsLog heading s.log →
         keeps heading trust s.log ≡ true → IsRun heading steps s → (l : Living) → Contains s.living l →

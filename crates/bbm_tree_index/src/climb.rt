@@ -45,7 +45,8 @@ pub fn is_cut(
     role: &Role,
 ) -> bool
     requires { left ≤ 4 }
-    ensures { result ≡ cut_by (passes_at map.now asked.now) (λ p. unwrap_or (get nat_eq roles.now p) Role.Untracked) left role.now }
+    ensures { result
+        ≡ cut_by (passes_at map.now asked.now) (λ p. unwrap_or (get nat_eq roles.now p) Role.Untracked) left role.now }
 {
     match *role {
         Role::RootPage { .. } => false,

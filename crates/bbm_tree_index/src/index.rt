@@ -21,8 +21,8 @@ use std::alloc::Global;
 /// The number of pages that may be tracked.
 const MAX_PAGES: usize = 16384;
 
-/// What each page of a log is used for, and where it hangs in a tree. Clauses speak of the node of each page, and of the
-/// fresh pages and the null pages.
+/// What each page of a log is used for, and where it hangs in a tree. Clauses speak of the node of each page, and of
+/// the fresh pages and the null pages.
 #[derive(Drop)]
 pub struct TreeIndex {
     header: Header,
@@ -37,7 +37,8 @@ pub struct Prepared {
 
 #[tactic(auto, unfolding(crate::specs::Index::heading_of, crate::specs::Index::role_in, crate::specs::Index::node_in, crate::specs::Index::fresh_in, crate::specs::Index::null_in, crate::specs::Index::known_in, crate::specs::Index::pages_in))]
 impl TreeIndex {
-    ghost use Rattle.std.specs.Prelude.{◌≡◌, ◌==◌, ◌+◌, ◌≤◌, ◌↔◌, ◌&&◌, ◌||◌, not, true, false, ℕ, None, Some, is_some, nat_eq, IfOk, IfErr, IfSome, OnOk, OnErr, Err, if◌then◌else◌, ◌≢◌};
+    ghost use Rattle.std.specs.Prelude.{◌≡◌, ◌==◌, ◌+◌, ◌≤◌, ◌↔◌, ◌&&◌, ◌||◌, not, true, false, ℕ, None, Some, is_some};
+    ghost use Rattle.std.specs.Prelude.{nat_eq, IfOk, IfErr, IfSome, OnOk, OnErr, Err, if◌then◌else◌, ◌≢◌};
     ghost use Rattle.std.specs.Option.{option_map, option_map_or};
     ghost use Rattle.bbm_rules.specs.Places.{page_of};
     ghost use Rattle.bbm_place_map.specs.Map.{value_at, marks_at, pends_at, is_tracked};
@@ -45,7 +46,8 @@ impl TreeIndex {
     ghost use Rattle.bbm_place_map.specs.Calls.{IsSame};
     ghost use Rattle.bbm_place_map.specs.declared.map.PlaceMap.{PlaceMap as TheMap};
     ghost use Rattle.bbm_tree_index.specs.Agreement.{Agrees, IsSound};
-    ghost use Rattle.bbm_tree_index.specs.Index.{heading_of, role_in, node_in, fresh_in, null_in, known_in, pages_in, SamePages, SameTracked};
+    ghost use Rattle.bbm_tree_index.specs.Index.{heading_of, role_in, node_in, fresh_in, null_in, known_in, pages_in};
+    ghost use Rattle.bbm_tree_index.specs.Index.{SamePages, SameTracked};
     ghost use Rattle.bbm_tree_index.specs.Nodes.{path_at};
     ghost use Rattle.bbm_tree_index.specs.Spots.{Fits, StandsAt, spot_with};
     ghost use Rattle.bbm_rules.specs.Tree.{Node};
@@ -143,12 +145,14 @@ impl TreeIndex {
         }
     }
 
-    /// The place of a page that translates the input page, with what is known of it: where one goes on the way down from
-    /// the page along the input page. None where the page is in no tree, or no place of it translates the input page.
+    /// The place of a page that translates the input page, with what is known of it: where one goes on the way down
+    /// from the page along the input page. None where the page is in no tree, or no place of it translates the input
+    /// page.
     pub fn meet(&self, page: Page, at: u64) -> Option<(Place, Path)>
         requires { IsSound self.now }
         ensures inside { IfSome result (λ met. is_at page met.0 ≡ true) }
-        ensures path { IfSome result (λ met. (n : Node) × (node_in self.now page ≡ Some n) × (met.1 ≡ path_at n met.0)) }
+        ensures path { IfSome result (λ met. (n : Node) × (node_in self.now page ≡ Some n)
+            × (met.1 ≡ path_at n met.0)) }
         ensures low { IfSome result (λ met. met.1.level ≤ 3) }
         ensures met { (n : Node) (a : ℕ) → node_in self.now page ≡ Some n → Translates page n at a
             → option_map (λ met. met.0) result ≡ Some a }
@@ -245,8 +249,8 @@ impl TreeIndex {
         self.leave(map, &Leaving::Unheld);
     }
 
-    /// Takes the pages of the root with this first page out of the trees, or those below this place. No place of them is
-    /// broken any more, and nothing waits there. All else stays.
+    /// Takes the pages of the root with this first page out of the trees, or those below this place. No place of them
+    /// is broken any more, and nothing waits there. All else stays.
     pub fn detach(&mut self, map: &mut PlaceMap, at: Detach)
         requires { IsSound self.old }
         ensures node { (p : ℕ) → node_in self.new p ≡ kept (stays_without at) (node_in self.old p) }
@@ -279,16 +283,20 @@ impl TreeIndex {
         ensures fresh { OnOk result ((p : ℕ) → fresh_in self.new p ≡ (p == page || fresh_in self.old p)) }
         ensures null { (p : ℕ) → null_in self.new p ≡ null_in self.old p }
         ensures known { OnOk result ((p : ℕ) → known_in self.new p ≡ (p == page || known_in self.old p)) }
-        ensures pages { OnOk result (pages_in self.new ≡ pages_in self.old + (if known_in self.old page then 0 else 1)) }
+        ensures pages { OnOk result (pages_in self.new
+            ≡ pages_in self.old + (if known_in self.old page then 0 else 1)) }
         ensures heading { heading_of self.new ≡ heading_of self.old }
         ensures limit { (result ≡ Err (TreeFault.Limit Which.Pages))
             ↔ ((known_in self.old page ≡ false) × (16384 ≤ pages_in self.old)) }
         ensures fault { IfErr result (λ fault. fault ≢ TreeFault.Limit Which.Pages → fault ≡ TreeFault.NoMemory) }
         ensures same_pages { OnErr result (SamePages self.old self.new) }
         ensures same_tracked { OnErr result (SameTracked self.old self.new) }
-        ensures values { OnOk result ((a : ℕ) → value_at map.new a ≡ (if page_of a == page then 0 else value_at map.old a)) }
-        ensures marks { OnOk result ((a : ℕ) → marks_at map.new a ≡ (if page_of a == page then None else marks_at map.old a)) }
-        ensures pends { OnOk result ((q a : ℕ) → nat_eq (page_of a) page ≡ false → pends_at map.new q a ≡ pends_at map.old q a) }
+        ensures values { OnOk result ((a : ℕ) → value_at map.new a
+            ≡ (if page_of a == page then 0 else value_at map.old a)) }
+        ensures marks { OnOk result ((a : ℕ) → marks_at map.new a
+            ≡ (if page_of a == page then None else marks_at map.old a)) }
+        ensures pends { OnOk result ((q a : ℕ) → nat_eq (page_of a) page ≡ false → pends_at map.new q a
+            ≡ pends_at map.old q a) }
         ensures map_pages { OnOk result ((p : ℕ) → is_tracked map.new p ≡ (nat_eq p page || is_tracked map.old p)) }
         ensures same_map { OnErr result (IsSame map.old map.new) }
         ensures sound { IsSound self.old → IsSound self.new }
@@ -317,7 +325,8 @@ impl TreeIndex {
         requires sound { IsSound self.now }
         requires may { MayJudge self.now at.now }
         ensures low { result.1 ≤ 3 }
-        ensures same { (s : Node) → Contains (starts_of self.now at.now) s → (s.kind ≡ result.0) × (s.level ≡ result.1) }
+        ensures same { (s : Node) → Contains (starts_of self.now at.now) s → (s.kind ≡ result.0)
+            × (s.level ≡ result.1) }
         ensures some { (s : Node) × Contains (starts_of self.now at.now) s }
     {
         self.header.in_ranges();
@@ -386,9 +395,9 @@ impl TreeIndex {
     /// Whether these pages can be attached: `NotFresh` with the least page exactly where a path of the attached pages
     /// ends in a page that isn't fresh, where the named pages of a root don't count, or two different paths end in one
     /// page; else `BadKind` with the least place exactly where an attached page has a leaf with the Contiguous hint;
-    /// else `GlobalUser` with the least place exactly where, in a tree of the lower range, it has a leaf for every ASID.
-    /// Or `NoMemory` where there is none. It takes time by the number of pages, not of paths. After Ok, what `hang`
-    /// attaches.
+    /// else `GlobalUser` with the least place exactly where, in a tree of the lower range, it has a leaf for every
+    /// ASID. Or `NoMemory` where there is none. It takes time by the number of pages, not of paths. After Ok, what
+    /// `hang` attaches.
     pub fn prepare(&self, alloc: Global, map: &PlaceMap, at: Attach) -> Result<Prepared, TreeFault>
         requires sound { IsSound self.now }
         requires may { MayJudge self.now at }
@@ -408,7 +417,8 @@ impl TreeIndex {
         requires sound { IsSound self.old }
         requires prepared { (map : TheMap) × (at : TheAttach) × IsPrepared prepared.now self.old map at
             × AreNamedFresh self.old at }
-        ensures node { (map : TheMap) (at : TheAttach) → IsPrepared prepared.now self.old map at → AreNamedFresh self.old at
+        ensures node { (map : TheMap) (at : TheAttach) → IsPrepared prepared.now self.old map at
+            → AreNamedFresh self.old at
             → (p : ℕ) (m : Node) → (node_in self.new p ≡ Some m) ↔ ((node_in self.old p ≡ Some m)
             ⊎ ((m.page ≡ p) × Attached (fresh_in self.old) (value_at map) (starts_of self.old at) m)) }
         ensures fresh { (p : ℕ) → fresh_in self.new p ≡ (fresh_in self.old p && is_none (node_in self.new p)) }

@@ -7,7 +7,8 @@ ghost use Rattle.bbm_place_map.specs.Map.{value_at};
 ghost use Rattle.bbm_regimes.specs.Same.{same_kind};
 ghost use Rattle.bbm_rules.specs.Tree.{Node};
 ghost use Rattle.bbm_tree_index.specs.Judged.{Judges, names_pages};
-ghost use Rattle.bbm_tree_index.specs.Least.{Elsewhere, HasPages, HavePages, LeafIn, LeafOf, LeafPlace, LeastOf, Told, Wrong, WrongIn, WrongPage, asks, lesser};
+ghost use Rattle.bbm_tree_index.specs.Least.{Elsewhere, HasPages, HavePages, LeafIn, LeafOf, LeafPlace, LeastOf, Told};
+ghost use Rattle.bbm_tree_index.specs.Least.{Wrong, WrongIn, WrongPage, asks, lesser};
 ghost use Rattle.bbm_tree_index.specs.Survey.{fresh_of};
 
 use crate::fault::TreeFault;
@@ -194,7 +195,8 @@ fn leaf_at(
 ) -> Option<Place>
     requires low { level ≤ 3 }
     requires within { index < 512 }
-    ensures { LeastOf (λ a. (a ≡ page + 8 * index) × LeafOf (value_at map.now) (asks leaf.now) kind level page a) result }
+    ensures { LeastOf (λ a. (a ≡ page + 8 * index)
+        × LeafOf (value_at map.now) (asks leaf.now) kind level page a) result }
 {
     let place = place_of(page, index);
     if is_leaf(leaf, kind, level, map.value(place)) {

@@ -1,6 +1,7 @@
 //! Pages that leave the trees.
 
-ghost use Rattle.std.specs.Prelude.{◌≡◌, ◌==◌, ◌&&◌, ◌≤◌, ◌<◌, ◌%◌, ◌^◌, ℕ, Some, None, is_some, nat_eq, true, false, slice_get, if◌then◌else◌};
+ghost use Rattle.std.specs.Prelude.{◌≡◌, ◌==◌, ◌&&◌, ◌≤◌, ◌<◌, ◌%◌, ◌^◌, ℕ, Some, None, is_some, nat_eq, true, false};
+ghost use Rattle.std.specs.Prelude.{slice_get, if◌then◌else◌};
 ghost use Rattle.indexmap.specs.IndexMap.{get, index_map_len, keys};
 ghost use Rattle.bbm_events.specs.Heading.{Heading};
 ghost use Rattle.bbm_place_map.specs.Map.{marks_at, pends_at, value_at, is_tracked};
@@ -30,7 +31,8 @@ pub enum Leaving {
 
 /// Whether a page with this role, of a level of at most 4, leaves.
 pub fn leaves(roles: &IndexMap<u64, Role>, map: &PlaceMap, leaving: &Leaving, role: &Role) -> bool
-    requires { (parent level base first : ℕ) (kind : Kind) → role.now ≡ Role.Hangs parent kind level base first → level ≤ 4 }
+    requires { (parent level base first : ℕ) (kind : Kind) → role.now ≡ Role.Hangs parent kind level base first
+        → level ≤ 4 }
     ensures { result ≡ leaves_role map.now (roles_of roles.now) leaving.now role.now }
 {
     match *role {
@@ -60,15 +62,19 @@ pub fn step(roles: &mut IndexMap<u64, Role>, map: &mut PlaceMap, leaving: &Leavi
     requires shallow { (parent level base first : ℕ) (kind : Kind) →
         roles_of roles.old page ≡ Role.Hangs parent kind level base first → level ≤ 4 }
     ensures roles { (p : ℕ) → roles_of roles.new p
-        ≡ (if p == page && leaves_role map.old (roles_of roles.old) leaving.now (roles_of roles.old page) then Role.Gone else roles_of roles.old p) }
+        ≡ (if p == page
+        && leaves_role map.old (roles_of roles.old) leaving.now (roles_of roles.old page) then Role.Gone else roles_of roles.old p) }
     ensures known { (p : ℕ) → is_some (get nat_eq roles.new p) ≡ is_some (get nat_eq roles.old p) }
     ensures keys { keys roles.new ≡ keys roles.old }
     ensures values { (a : ℕ) → value_at map.new a ≡ value_at map.old a }
     ensures marks { (a : ℕ) → marks_at map.new a
-        ≡ (if page_of a == page && leaves_role map.old (roles_of roles.old) leaving.now (roles_of roles.old page) then None else marks_at map.old a) }
-    ensures pends { (q a : ℕ) → (page_of a == page && leaves_role map.old (roles_of roles.old) leaving.now (roles_of roles.old page)) ≡ false
+        ≡ (if page_of a == page
+        && leaves_role map.old (roles_of roles.old) leaving.now (roles_of roles.old page) then None else marks_at map.old a) }
+    ensures pends { (q a : ℕ)
+        → (page_of a == page && leaves_role map.old (roles_of roles.old) leaving.now (roles_of roles.old page)) ≡ false
         → pends_at map.new q a ≡ pends_at map.old q a }
-    ensures dropped { (q a : ℕ) → (page_of a == page && leaves_role map.old (roles_of roles.old) leaving.now (roles_of roles.old page)) ≡ true
+    ensures dropped { (q a : ℕ)
+        → (page_of a == page && leaves_role map.old (roles_of roles.old) leaving.now (roles_of roles.old page)) ≡ true
         → IsIdle (pends_at map.new q a) }
     ensures tracked { (p : ℕ) → is_tracked map.new p ≡ is_tracked map.old p }
 {
@@ -101,9 +107,11 @@ pub fn sweep(roles: &mut IndexMap<u64, Role>, map: &mut PlaceMap, leaving: &Leav
     ensures values { (a : ℕ) → value_at map.new a ≡ value_at map.old a }
     ensures marks { (a : ℕ) → marks_at map.new a
         ≡ (if leaves_role map.old (roles_of roles.old) leaving.now (roles_of roles.old (page_of a)) then None else marks_at map.old a) }
-    ensures pends { (q a : ℕ) → leaves_role map.old (roles_of roles.old) leaving.now (roles_of roles.old (page_of a)) ≡ false
+    ensures pends { (q a : ℕ) → leaves_role map.old (roles_of roles.old) leaving.now (roles_of roles.old (page_of a))
+        ≡ false
         → pends_at map.new q a ≡ pends_at map.old q a }
-    ensures dropped { (q a : ℕ) → leaves_role map.old (roles_of roles.old) leaving.now (roles_of roles.old (page_of a)) ≡ true
+    ensures dropped { (q a : ℕ) → leaves_role map.old (roles_of roles.old) leaving.now (roles_of roles.old (page_of a))
+        ≡ true
         → IsIdle (pends_at map.new q a) }
     ensures tracked { (p : ℕ) → is_tracked map.new p ≡ is_tracked map.old p }
 {

@@ -4,11 +4,12 @@
 //! It can be used by itself, with the map, by anyone who sees which pages are tracked and which leave their trees:
 //!
 //! - Keep one `TreeIndex`, at first `TreeIndex::new` of the header, and one `PlaceMap`.
-//! - Call `track` at each page that is initialised, `nullify` at each that is declared null, `prune` after a DSB by which
-//!   a table's place came to hold nothing, and `detach` where a root goes.
-//! - `prepare` tells whether pages can be attached, and which page or place is in the way; `hang` attaches them. `attach`
-//!   does both.
-//! - `role`, `is_fresh`, `is_null`, `is_in_tree`, `pages`, `path`, `in_limbo` and `childless` tell what the calls come to.
+//! - Call `track` at each page that is initialised, `nullify` at each that is declared null, `prune` after a DSB by
+//!   which a table's place came to hold nothing, and `detach` where a root goes.
+//! - `prepare` tells whether pages can be attached, and which page or place is in the way; `hang` attaches them.
+//!   `attach` does both.
+//! - `role`, `is_fresh`, `is_null`, `is_in_tree`, `pages`, `path`, `in_limbo` and `childless` tell what the calls come
+//!   to.
 //!
 //! Each contract speaks of the node of each page, by the words of `specs/Index.antt`. `null_page` is an example of the
 //! calls, with its proof.

@@ -62,7 +62,8 @@ pub fn spot_of(header: &Header, role: &Role) -> Option<Spot>
 fn deeper(level: u8) -> u8
     requires { level ≤ 3 }
     ensures low { result ≤ 3 }
-    ensures same { (map : TheMap) (kind : TheKind) (a : ℕ) → holds_at map kind result a ≡ holds_at map kind (suc level) a }
+    ensures same { (map : TheMap) (kind : TheKind) (a : ℕ) → holds_at map kind result a
+        ≡ holds_at map kind (suc level) a }
 {
     if level < 3 { level + 1 } else { 3 }
 }

@@ -1,6 +1,8 @@
 //! The pages that paths through fresh pages reach, level by level.
 
-ghost use Rattle.std.specs.Prelude.{◌≡◌, ◌≤◌, ◌<◌, ◌+◌, ◌*◌, ◌&&◌, ◌||◌, ◌==◌, ℕ, suc, Bool, true, false, List, [], ◌∷◌, ◌++◌, Option, Some, is_some, nat_eq, slice_get, ◌%◌, ◌^◌, length, OnOk, IfOk, IfSome};
+ghost use Rattle.std.specs.Prelude.{◌≡◌, ◌≤◌, ◌<◌, ◌+◌, ◌*◌, ◌&&◌, ◌||◌, ◌==◌, ℕ, suc, Bool, true, false, List, []};
+ghost use Rattle.std.specs.Prelude.{◌∷◌, ◌++◌, Option, Some, is_some, nat_eq, slice_get, ◌%◌, ◌^◌, length, OnOk, IfOk};
+ghost use Rattle.std.specs.Prelude.{IfSome};
 ghost use Rattle.indexmap.specs.IndexMap.{get, keys, index_map_len, IsUnique};
 ghost use Rattle.bbm_events.specs.Heading.{Heading};
 ghost use Rattle.bbm_place_map.specs.Map.{value_at};
@@ -8,7 +10,8 @@ ghost use Rattle.bbm_rules.specs.Places.{index_of, page_of};
 ghost use Rattle.bbm_rules.specs.Tree.{Node, next_of};
 ghost use Rattle.bbm_regimes.specs.World.{input_pages};
 ghost use Rattle.bbm_tree_index.specs.Spots.{Fits, RoleFits, StandsAt};
-ghost use Rattle.bbm_tree_index.specs.Survey.{Counts, Found, Partly, Plain, Reached, Surveyed, Uniform, Well, fresh_of, grown};
+ghost use Rattle.bbm_tree_index.specs.Survey.{Counts, Found, Partly, Plain, Reached, Surveyed, Uniform, Well, fresh_of};
+ghost use Rattle.bbm_tree_index.specs.Survey.{grown};
 ghost use Rattle.bbm_tree_index.specs.declared.mark.Mark.{Mark as TheMark};
 
 use crate::held::place_of;
@@ -45,8 +48,10 @@ fn expand_place(
     below: &mut IndexMap<u64, Mark>,
 ) -> Result<(), NoMemory>
     requires { Fits spot.now }
-    ensures well { OnOk result ((heading : Heading) → Well heading (get nat_eq below.old) → Well heading (get nat_eq below.new)) }
-    ensures grown { OnOk result ((q : ℕ) → get nat_eq below.new q ≡ grown (next_of spot.now.kind spot.now.level (value_at map.now place))
+    ensures well { OnOk result ((heading : Heading) → Well heading (get nat_eq below.old)
+        → Well heading (get nat_eq below.new)) }
+    ensures grown { OnOk result ((q : ℕ) → get nat_eq below.new q
+        ≡ grown (next_of spot.now.kind spot.now.level (value_at map.now place))
         (record {
           role = Role.Hangs place spot.now.kind (suc spot.now.level)
               (spot.now.base + index_of place * input_pages spot.now.level) spot.now.first;
@@ -77,12 +82,15 @@ fn expand_page(
     below: &mut IndexMap<u64, Mark>,
 ) -> Result<(), NoMemory>
     requires { Fits spot.now }
-    ensures well { OnOk result ((heading : Heading) → Well heading (get nat_eq below.old) → Well heading (get nat_eq below.new)) }
+    ensures well { OnOk result ((heading : Heading) → Well heading (get nat_eq below.old)
+        → Well heading (get nat_eq below.new)) }
     ensures level { OnOk result ((fresh : ℕ → Bool) (starts : List Node) (k : ℕ) (done : ℕ → Bool) (mark : TheMark) →
-        Uniform fresh (value_at map.now) starts k → fresh page ≡ true → ((a : ℕ) → page_of a ≡ page → done a ≡ false) → mark.many ≡ many →
+        Uniform fresh (value_at map.now) starts k → fresh page ≡ true → ((a : ℕ) → page_of a ≡ page → done a ≡ false)
+        → mark.many ≡ many →
         (found : Found (Reached fresh (value_at map.now) starts k) page mark) → StandsAt spot.now found.node →
         ((q : ℕ) → Counts (Partly fresh (value_at map.now) starts k done) q (get nat_eq below.old q)) →
-        (q : ℕ) → Counts (Partly fresh (value_at map.now) starts k (λ a. done a || page_of a == page)) q (get nat_eq below.new q)) }
+        (q : ℕ) → Counts (Partly fresh (value_at map.now) starts k (λ a. done a
+        || page_of a == page)) q (get nat_eq below.new q)) }
 {
     for index in 0..512 {
         expand_place(map, spot, many, place_of(page, index), below)?;
@@ -113,14 +121,16 @@ fn expand_entry(
     below: &mut IndexMap<u64, Mark>,
 ) -> Result<(), NoMemory>
     requires { RoleFits header.now mark.now.role }
-    ensures well { OnOk result ((heading : Heading) → Well heading (get nat_eq below.old) → Well heading (get nat_eq below.new)) }
+    ensures well { OnOk result ((heading : Heading) → Well heading (get nat_eq below.old)
+        → Well heading (get nat_eq below.new)) }
     ensures level { OnOk result ((starts : List Node) (k : ℕ) (done : ℕ → Bool) →
         Uniform (fresh_of roles.now) (value_at map.now) starts k →
         Plain header.now (Reached (fresh_of roles.now) (value_at map.now) starts k) →
         ((a : ℕ) → page_of a ≡ page → done a ≡ false) →
         Found (Reached (fresh_of roles.now) (value_at map.now) starts k) page mark.now →
         ((q : ℕ) → Counts (Partly (fresh_of roles.now) (value_at map.now) starts k done) q (get nat_eq below.old q)) →
-        (q : ℕ) → Counts (Partly (fresh_of roles.now) (value_at map.now) starts k (λ a. done a || page_of a == page)) q (get nat_eq below.new q)) }
+        (q : ℕ) → Counts (Partly (fresh_of roles.now) (value_at map.now) starts k (λ a. done a
+        || page_of a == page)) q (get nat_eq below.new q)) }
 {
     if !is_fresh(roles, page) {
         return Ok(());
@@ -178,7 +188,8 @@ fn push_level(
     last: usize,
 ) -> Result<(), NoMemory>
     requires count { length tables.old.items ≡ suc last }
-    requires tables { (first : ℕ → Option TheMark) × Surveyed header.now (fresh_of roles.now) (value_at map.now) first tables.old.items }
+    requires tables { (first : ℕ → Option TheMark)
+        × Surveyed header.now (fresh_of roles.now) (value_at map.now) first tables.old.items }
     ensures count { OnOk result (length tables.new.items ≡ suc (suc last)) }
     ensures tables { OnOk result ((first : ℕ → Option TheMark) →
         Surveyed header.now (fresh_of roles.now) (value_at map.now) first tables.old.items →
@@ -188,8 +199,8 @@ fn push_level(
     push_table(tables, next)
 }
 
-/// The pages that the paths from the starts reach, a table for each level from the start level to 3. The first is given,
-/// and the number of levels behind it.
+/// The pages that the paths from the starts reach, a table for each level from the start level to 3. The first is
+/// given, and the number of levels behind it.
 pub fn survey(
     alloc: Global,
     header: &Header,

@@ -1,5 +1,5 @@
-//! Tests of the crates of types, tables and automata: what no clause says. They stand in a crate of their own, so that each
-//! crate is proved once.
+//! Tests of the crates of types, tables and automata: what no clause says. They stand in a crate of their own, so that
+//! each crate is proved once.
 #![tactic(auto)]
 
 #[cfg(test)]

@@ -85,7 +85,8 @@ fn el2_entries(rt: HostRuntime) {
     }
 }
 
-/// Whether a TLBI takes an entry of ASID 7 that ends at level 2, in a leaf for that ASID alone or for each, or in a table.
+/// Whether a TLBI takes an entry of ASID 7 that ends at level 2, in a leaf for that ASID alone or for each, or in a
+/// table.
 fn kernel_taken(op: TlbiOp, xt: u64, last: bool, global: bool) -> Option<bool> {
     let scope = decode(op, xt).ok()?;
     let entry = EntryHead {
