@@ -91,8 +91,13 @@ impl<'a> TagEvidence for ByClaims<'a> {
         )
     }
 
-    ghost knows_write = { λ evidence heading h pe reg value known.
-        (Msr pe reg value ∷ known.0, known.1, ap (λ (xs : List Event). Msr pe reg value ∷ xs) known.2, known.3, known.4) };
+    ghost knows_write = { λ evidence heading h pe reg value known. (
+      Msr pe reg value ∷ known.0,
+      known.1,
+      ap (λ (xs : List Event). Msr pe reg value ∷ xs) known.2,
+      known.3,
+      known.4,
+    ) };
 }
 
 impl<'a> Evidence for ByClaims<'a> {

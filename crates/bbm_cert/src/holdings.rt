@@ -301,7 +301,8 @@ pub fn held_after(
     claims: &[Claim],
 ) -> Result<Vec<Holding>, NoMemory>
     ensures { Hold header.now claims.now (events_of (notes_of (reverse log.now))) held.now
-        → IfOk result (λ next. Hold header.now claims.now (newest.now ∷ events_of (notes_of (reverse log.now))) next.items) }
+        → IfOk result
+        (λ next. Hold header.now claims.now (newest.now ∷ events_of (notes_of (reverse log.now))) next.items) }
 {
     known();
     let mut events = events_in(alloc, log)?;

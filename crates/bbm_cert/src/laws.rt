@@ -18,7 +18,8 @@ pub fn law_judged()
         keeps heading (Listed claims) log ≡ true → judged heading claims log ≡ Yes }
     ensures only { (heading : Heading) (claims : List Claim) (log : List Event) →
         judged heading claims log ≡ Yes → keeps heading (Listed claims) log ≡ true }
-    ensures names { (heading : Heading) (claims : List Claim) (log : List Event) (position : ℕ) (rule : TheRule) (at : ℕ) →
+    ensures names { (heading : Heading) (claims : List Claim) (log : List Event) (position : ℕ) (rule : TheRule)
+        (at : ℕ) →
         judged heading claims log ≡ No position rule at → FirstBroken heading claims log position rule at }
     ensures no { (heading : Heading) (claims : List Claim) (log : List Event) (position : ℕ) (rule : TheRule) (at : ℕ) →
         FirstBroken heading claims log position rule at → judged heading claims log ≡ No position rule at }

@@ -102,7 +102,8 @@ fn begins(
     taking: &Taking,
 ) -> Result<bool, NoMemory>
     ensures { IfOk result (λ begins. begins
-        ≡ (is_taking header.now taking.now.pe taking.now.t taking.now.issuer taking.now.broadcast event.now (reverse before.now)
+        ≡ (is_taking header.now taking.now.pe taking.now.t taking.now.issuer taking.now.broadcast event.now
+        (reverse before.now)
         && takes_it header.now event.now (reverse before.now) taking.now.tag)) }
 {
     if !is_named(header, before, event, taking) {

@@ -86,7 +86,8 @@ fn read_behind<R: Read>(reader: &mut R, buffer: &mut [u8], end: usize) -> Result
     requires within { end ≤ length buffer.old }
     ensures within { IfOk result (λ now. now ≤ length buffer.new) }
     ensures front { take end buffer.new ≡ take end buffer.old }
-    ensures bytes { IfOk result (λ now. Consumes (R.remaining reader.old) (R.remaining reader.new) (slice_range buffer.new end now)) }
+    ensures bytes { IfOk result
+        (λ now. Consumes (R.remaining reader.old) (R.remaining reader.new) (slice_range buffer.new end now)) }
     ensures grows { IfOk result (λ now. end ≤ now) }
     ensures end { IfOk result (λ now. now ≡ end → end < length buffer.old → IsAtEnd (R.remaining reader.new)) }
     ensures unread { OnErr result (Keeps (R.remaining reader.old) (R.remaining reader.new)) }
@@ -153,7 +154,8 @@ impl<R: Read> Source for StdSource<R> {
     #[tactic(auto, using(crate::proofs::Readers::readers))]
     fn read(&mut self, buf: &mut [u8]) -> Result<usize, Failed>
         ensures bound { IfOk result (λ n. n ≤ length buf.new) }
-        ensures taken { IfOk result (λ n. Consumes (unread R.remaining self.old) (unread R.remaining self.new) (take n buf.new)) }
+        ensures taken { IfOk result
+            (λ n. Consumes (unread R.remaining self.old) (unread R.remaining self.new) (take n buf.new)) }
         ensures end { result ≡ Ok 0 → 0 < length buf.new → IsAtEnd (unread R.remaining self.new) }
         ensures kept { OnErr result (Keeps (unread R.remaining self.old) (unread R.remaining self.new)) }
         ensures spared { 0 < length self.old.at_hand → self.new.reader ≡ self.old.reader }
@@ -255,7 +257,8 @@ impl<W: Write> Sink for StdSink<W> {
     fn write(&mut self, piece: &[u8]) -> Result<usize, Failed>
         ensures bound { IfOk result (λ n. n ≤ length piece.now) }
         ensures some { 0 < length piece.now → IfOk result (λ n. 1 ≤ n) }
-        ensures added { IfOk result (λ n. Appends (W.contents self.old.writer) (W.contents self.new.writer) (take n piece.now)) }
+        ensures added { IfOk result
+            (λ n. Appends (W.contents self.old.writer) (W.contents self.new.writer) (take n piece.now)) }
         ensures kept { OnErr result (Keeps (W.contents self.old.writer) (W.contents self.new.writer)) }
         ensures failed { OnErr result (Rose self.old.faults self.new.faults) }
         ensures sound { OnOk result (self.new.faults ≡ self.old.faults) }

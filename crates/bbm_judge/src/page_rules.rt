@@ -81,7 +81,8 @@ fn least_bad_end<E: Evidence>(
 /// The page, where it is in no tree, isn't fresh and isn't a null page.
 fn untracked<E: Evidence>(history: &History<E>, page: Page) -> Option<u64>
     ensures { (pe place value : ℕ) → page_of place ≡ page → result
-        ≡ least (rules.untracked_page history.now.heading history.now.trust (notes history.now) (Event.Write pe place value)) }
+        ≡ least (rules.untracked_page history.now.heading history.now.trust (notes history.now)
+        (Event.Write pe place value)) }
 {
     if is_in_tree(history, page)
         || history.is_fresh(page)

@@ -82,7 +82,8 @@ fn are_pes(version: u8, pes: u64) -> bool
 /// The Hyp world with these numbers, where they are in their ranges.
 fn hyp_world(el2_start: u64, s2_start: u64, s2_pages: u64) -> Option<World>
     ensures { result
-        ≡ lines.passing world_ok (Some (Hyp (record { el2_start = el2_start; s2_start = s2_start; s2_pages = s2_pages }))) }
+        ≡ lines.passing world_ok
+        (Some (Hyp (record { el2_start = el2_start; s2_start = s2_start; s2_pages = s2_pages }))) }
 {
     let pages_fit = match s2_pages {
         1 => true,

@@ -242,7 +242,8 @@ fn begin_header(out: &mut ArrayVec<u8, 200>, version: u8, world: &[u8])
 fn hyp_line(out: &mut ArrayVec<u8, 200>, header: &Header, world: HypWorld)
     requires empty { out.old.items ≡ [] }
     ensures { out.new.items
-        ≡ joined (codes "bbmlog" ∷ decimal header.now.version ∷ header_fields header.now.pes (Hyp world) (cnp_fields header.now.version header.now.cnp)) }
+        ≡ joined (codes "bbmlog" ∷ decimal header.now.version ∷ header_fields header.now.pes (Hyp world)
+        (cnp_fields header.now.version header.now.cnp)) }
 {
     begin_header(out, header.version, b"hyp");
     add_decimal_field(out, header.pes as u64);
@@ -259,7 +260,8 @@ fn hyp_line(out: &mut ArrayVec<u8, 200>, header: &Header, world: HypWorld)
 fn kernel_line(out: &mut ArrayVec<u8, 200>, header: &Header, world: KernelWorld)
     requires empty { out.old.items ≡ [] }
     ensures { out.new.items
-        ≡ joined (codes "bbmlog" ∷ decimal header.now.version ∷ header_fields header.now.pes (Kernel world) (cnp_fields header.now.version header.now.cnp)) }
+        ≡ joined (codes "bbmlog" ∷ decimal header.now.version ∷ header_fields header.now.pes (Kernel world)
+        (cnp_fields header.now.version header.now.cnp)) }
 {
     begin_header(out, header.version, b"kernel");
     add_decimal_field(out, header.pes as u64);

@@ -200,7 +200,8 @@ fn add_conflicts<E: TagEvidence>(
 ) -> Result<(), NoMemory>
     requires { E.knows evidence.now header.now (reverse after.now) }
     ensures { OnOk result (pages.new.items ≡ pages.old.items
-        ++ flat_map (λ reading. clashes.holder_pages header.now (E.trust evidence.now) (reverse after.now) reading roots.now) readings.now) }
+        ++ flat_map (λ reading. clashes.holder_pages header.now (E.trust evidence.now)
+        (reverse after.now) reading roots.now) readings.now) }
 {
     for reading in readings {
         add_holders(alloc, pages, evidence, header, after, reading, roots)?;

@@ -177,7 +177,8 @@ fn add_covers<E: Evidence>(
     requires tree { tree.now ≡ trees.tree log.now.heading log.now.trust (notes log.now) }
     requires known { AreTags log.now.heading log.now.trust (events_of (notes log.now)) known.now }
     ensures { OnOk result (covers.new.items ≡ covers.old.items
-        ++ flat_map (covered_under log.now.heading log.now.trust (notes log.now) scope.now vmid) (places_in (events_of (notes log.now)) page)) }
+        ++ flat_map (covered_under log.now.heading log.now.trust (notes log.now) scope.now vmid)
+        (places_in (events_of (notes log.now)) page)) }
 {
     for place in &log.places_in(alloc, page)? {
         let cover = cover_at(alloc, log, tree, known, scope, vmid, *place)?;
@@ -225,7 +226,8 @@ fn tlbi_covers<E: Evidence>(
 ) -> Result<Vec<Covered>, NoMemory>
     requires { tree.now ≡ trees.tree log.now.heading log.now.trust (notes log.now) }
     ensures { IfOk result (λ covers. (place : ℕ) → cover_in covers.items place
-        ≡ cover_under log.now.heading log.now.trust (notes log.now) scope.now (vmid_of log.now.heading (events_of (notes log.now)) pe) place) }
+        ≡ cover_under log.now.heading log.now.trust (notes log.now) scope.now
+        (vmid_of log.now.heading (events_of (notes log.now)) pe) place) }
 {
     match log.vmid_of(alloc, pe) {
         Ok(vmid) => covers_under(alloc, log, tree, scope, vmid),

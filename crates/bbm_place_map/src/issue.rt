@@ -64,7 +64,8 @@ fn note_at(
     requires ready { (e : TheEntry) → slice_get broken.old.items k ≡ Some e → HasRoom e.pends issuer }
     ensures entry { (e : TheEntry) → slice_get broken.old.items k ≡ Some e → (f : TheEntry) × (seat f ≡ seat e)
         × (f.marks ≡ e.marks) × ((q : ℕ) → q ≢ issuer → pends_in f.pends.items q ≡ pends_in e.pends.items q)
-        × Noted (state.Broken e.marks) (pends_in e.pends.items issuer) reach broadcast cover (pends_in f.pends.items issuer)
+        × Noted (state.Broken e.marks) (pends_in e.pends.items issuer) reach broadcast cover
+        (pends_in f.pends.items issuer)
         × (result ≡ false → IsIdle (pends_in e.pends.items issuer) → IsIdle (pends_in f.pends.items issuer))
         × ((i : ℕ) → slice_get broken.new.items i ≡ (if nat_eq i k then Some f else slice_get broken.old.items i)) }
     ensures len { length broken.new.items ≡ length broken.old.items }
@@ -134,7 +135,8 @@ pub fn note(
     requires ready { (m : ℕ) (e : TheEntry) → slice_get broken.old.items m ≡ Some e → (c : TheCover)
         → slice_get covers.now m ≡ Some c → spec_is_cover c ≡ true → HasRoom e.pends issuer }
     ensures each { (m : ℕ)
-        → Advances (NotesAt covers.now issuer reach broadcast m) (slice_get broken.old.items m) (slice_get broken.new.items m) }
+        → Advances (NotesAt covers.now issuer reach broadcast m) (slice_get broken.old.items m)
+        (slice_get broken.new.items m) }
     ensures waits { (m : ℕ)
         → Advances (Waits lists.new.items issuer) (slice_get broken.old.items m) (slice_get broken.new.items m) }
     ensures kept { (q j : ℕ) → HoldsFor lists.old.items q j → HoldsFor lists.new.items q j }

@@ -479,7 +479,8 @@ impl PlaceMap {
         requires { F.IsAlwaysCallable cover }
         ensures noted { OnOk result ((a : ℕ) → is_some (marks_at self.old a) ≡ true → (c : TheCover)
             × MayCover F.Fn cover self.old a c
-            × Noted (state_at self.old None a) (pends_at self.old issuer a) reach broadcast c (pends_at self.new issuer a)) }
+            × Noted (state_at self.old None a) (pends_at self.old issuer a) reach broadcast c
+            (pends_at self.new issuer a)) }
         ensures others { (q a : ℕ) → nat_eq q issuer ≡ false → pends_at self.new q a ≡ pends_at self.old q a }
         ensures kept { OnErr result (IsSame self.old self.new) }
         ensures values { (a : ℕ) → value_at self.new a ≡ value_at self.old a }
@@ -516,7 +517,8 @@ impl PlaceMap {
     ) -> Result<(), NoMemory>
         ensures noted { OnOk result ((f : ℕ → TheCover) → FoundAs found.now f → (a : ℕ) → is_found found.now a ≡ true
             → is_some (marks_at self.old a) ≡ true
-            → Noted (state_at self.old None a) (pends_at self.old issuer a) reach broadcast (f a) (pends_at self.new issuer a)) }
+            → Noted (state_at self.old None a) (pends_at self.old issuer a) reach broadcast (f a)
+            (pends_at self.new issuer a)) }
         ensures unnoted { (a : ℕ) → is_found found.now a ≡ false → pends_at self.new issuer a
             ≡ pends_at self.old issuer a }
         ensures others { (q a : ℕ) → nat_eq q issuer ≡ false → pends_at self.new q a ≡ pends_at self.old q a }

@@ -174,7 +174,8 @@ fn descend_at(
     ensures covers { OnOk result (AreCovered map.now index.now roots.now scope.now vmid.now found.old.items
         → AreCovered map.now index.now roots.now scope.now vmid.now found.new.items) }
     ensures kept { OnOk result ((a : ℕ) → is_found found.old.items a ≡ true → is_found found.new.items a ≡ true) }
-    ensures met { OnOk result (MetFrom (node_in index.now) (core_at map.now) at addr (IsFoundIn map.now found.new.items)) }
+    ensures met { OnOk result
+        (MetFrom (node_in index.now) (core_at map.now) at addr (IsFoundIn map.now found.new.items)) }
 {
     match Page::new(addr) {
         Some(page) => descend(map, index, roots, scope, vmid, at, page, 4, found),

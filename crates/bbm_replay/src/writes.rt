@@ -193,7 +193,8 @@ impl Parts {
         requires new { new.now ≡ spec.core_of path.now.kind path.now.level value }
         requires clear { Clears self.old (Write pe seat.now.place value) (Ok tt) }
         requires plain { leaves.attached_next
-            (points.core_in (state_of (view_of self.old.map self.old.index) path.now.kind path.now.level seat.now.place)) new.now ≡ None }
+            (points.core_in (state_of (view_of self.old.map self.old.index) path.now.kind path.now.level
+            seat.now.place)) new.now ≡ None }
         ensures { Meets self.old self.new (Write pe seat.now.place value) result }
     {
         laws();
@@ -229,7 +230,8 @@ impl Parts {
         requires table { table.now ≡ spec.core_of path.now.kind path.now.level value }
         requires clear { Clears self.old (Write pe seat.now.place value) (Ok tt) }
         requires attaches { leaves.attached_next
-            (points.core_in (state_of (view_of self.old.map self.old.index) path.now.kind path.now.level seat.now.place)) table.now ≡ Some next }
+            (points.core_in (state_of (view_of self.old.map self.old.index) path.now.kind path.now.level
+            seat.now.place)) table.now ≡ Some next }
         ensures { Meets self.old self.new (Write pe seat.now.place value) result }
     {
         laws();

@@ -313,7 +313,8 @@ impl RootState {
         requires { MayAsk (Stands self.old) pe }
         ensures judged { (heading : Heading) (h : List TheEvent) → Stands self.old heading h → null
             ≡ has_null_base h value
-            → Answers result (broken heading Patterns h (TheEvent.Msr pe reg value)) (limit_of h (TheEvent.Msr pe reg value)) }
+            → Answers result (broken heading Patterns h (TheEvent.Msr pe reg value))
+            (limit_of h (TheEvent.Msr pe reg value)) }
         ensures taken { OnOk result ((heading : Heading) (h : List TheEvent) → Stands self.old heading h
             → null ≡ has_null_base h value → Stands self.new heading (TheEvent.Msr pe reg value ∷ h)) }
         ensures same { OnErr result ((heading : Heading) (h : List TheEvent) → Stands self.old heading h

@@ -162,7 +162,8 @@ impl Registers {
     /// The PEs of the set at which the tag is readable for no root.
     pub fn unread(&self, reach: PeMask, tag: Tag) -> PeMask
         ensures { (p : ℕ) → pe_in result p ≡ (nat_lt p self.now.pes && (pe_in reach p
-            && not (spec_reads_tag self.now.world (loads_in self.now.first.items p) (loads_in self.now.second.items p) tag))) }
+            && not (spec_reads_tag self.now.world (loads_in self.now.first.items p)
+            (loads_in self.now.second.items p) tag))) }
     {
         let mut unread = PeMask::none();
         for number in 0..self.pes {
@@ -197,7 +198,8 @@ impl Registers {
         requires known { pe < self.now.pes }
         ensures { IfOk result (λ readings. readings.items ≡ readings_of self.now.world
             (if spec_is_first reg then load ∷ loads_in self.now.first.items pe else loads_in self.now.first.items pe)
-            (if spec_is_first reg then loads_in self.now.second.items pe else load ∷ loads_in self.now.second.items pe)) }
+            (if spec_is_first reg then loads_in self.now.second.items pe
+            else load ∷ loads_in self.now.second.items pe)) }
     {
         let first = loads_at(&self.first, pe);
         let second = loads_at(&self.second, pe);

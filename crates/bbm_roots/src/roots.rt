@@ -428,12 +428,12 @@ impl Roots {
             else loads_in self.old.registers.second.items pe) < 9 }
         requires entries { (g : TheTag) → has_tag g seen.now ≡ true → has_entry self.old.holds g ≡ true }
         ensures first { (p : ℕ) → loads_in self.new.registers.first.items p
-            ≡ (if nat_eq p pe
-            && spec_is_first reg then record { number = number; root = root } ∷ loads_in self.old.registers.first.items p
+            ≡ (if nat_eq p pe && spec_is_first reg
+            then record { number = number; root = root } ∷ loads_in self.old.registers.first.items p
             else loads_in self.old.registers.first.items p) }
         ensures second { (p : ℕ) → loads_in self.new.registers.second.items p
-            ≡ (if nat_eq p pe
-            && not (spec_is_first reg) then record { number = number; root = root } ∷ loads_in self.old.registers.second.items p
+            ≡ (if nat_eq p pe && not (spec_is_first reg)
+            then record { number = number; root = root } ∷ loads_in self.old.registers.second.items p
             else loads_in self.old.registers.second.items p) }
         ensures holds { IsCalm self.old.holds seen.now → (g : TheTag) (r p : ℕ) → hold_in self.new.holds g r p
             ≡ (hold_in self.old.holds g r p || (nat_eq p pe && has_reading g r seen.now)) }
@@ -497,7 +497,8 @@ impl Roots {
     ) -> Result<Readings, RootFault>
         requires known { pe < pes_of self.now }
         ensures seen { IfOk result (λ seen. seen.items ≡ readings_of (world_of self.now)
-            (if spec_is_first reg then record { number = number; root = root.now } ∷ loads_in self.now.registers.first.items pe
+            (if spec_is_first reg then record { number = number; root = root.now }
+            ∷ loads_in self.now.registers.first.items pe
             else loads_in self.now.registers.first.items pe)
             (if spec_is_first reg then loads_in self.now.registers.second.items pe
             else record { number = number; root = root.now } ∷ loads_in self.now.registers.second.items pe)) }

@@ -46,7 +46,8 @@ pub enum Verdict {
 /// contract.
 #[tactic(auto, using(crate::proofs::FirstLineLaw::laws))]
 pub fn law_first_line_decides()
-    ensures by_line { (trust : Trust) (limits : LimitsOf) (lines : List (List ℕ)) (rest : List ℕ) (verdict : VerdictOf) →
+    ensures by_line { (trust : Trust) (limits : LimitsOf) (lines : List (List ℕ)) (rest : List ℕ)
+        (verdict : VerdictOf) →
         DecidedByLine trust limits lines verdict → verdict_of_lines trust limits lines rest ≡ verdict }
     ensures by_end { (trust : Trust) (limits : LimitsOf) (lines : List (List ℕ)) (rest : List ℕ) (verdict : VerdictOf) →
         DecidedByEnd trust limits lines rest verdict → verdict_of_lines trust limits lines rest ≡ verdict }

@@ -40,7 +40,13 @@ impl Model for Part {
 
     ghost invariant = { (λ p. (p.level ≤ 3) × (p.first < 2 ^ 46 + p.level * 2 ^ 36)) };
 
-    ghost inverse = { λ p. record { place = p.place; value = p.value; kind = p.kind; level = p.level; first = p.first } };
+    ghost inverse = { λ p. record {
+      place = p.place;
+      value = p.value;
+      kind = p.kind;
+      level = p.level;
+      first = p.first;
+    } };
 }
 
 impl Part {

@@ -127,7 +127,8 @@ fn issue(
     xt: u64,
 ) -> Result<(), NoMemory>
     ensures { OnOk result (pendings.new.items
-        ≡ spec.pending_of header.now (record { tlbi = Tlbi pe op xt; before = reverse events.now }) ∷ pendings.old.items) }
+        ≡ spec.pending_of header.now (record { tlbi = Tlbi pe op xt; before = reverse events.now })
+        ∷ pendings.old.items) }
 {
     let vmid = vmid_of(alloc, header, events, pe)?;
     let pending = Pending {

@@ -344,7 +344,8 @@ impl TreeIndex {
         requires sound { IsSound self.now }
         requires may { MayJudge self.now at.now }
         ensures well { IfOk result (λ table. Well (heading_of self.now) (get nat_eq table)) }
-        ensures start { IfOk result (λ table. Starting (heading_of self.now) (get nat_eq table) (starts_of self.now at.now)) }
+        ensures start { IfOk result
+            (λ table. Starting (heading_of self.now) (get nat_eq table) (starts_of self.now at.now)) }
     {
         self.header.in_ranges();
         match *at {
@@ -386,7 +387,8 @@ impl TreeIndex {
         requires sound { IsSound self.now }
         requires may { MayJudge self.now at.now }
         requires survey { IsSurvey tables.now self.now map.now at.now }
-        ensures { Judges (fresh_in self.now) (value_at map.now) (starts_of self.now at.now) (names_pages at.now) result }
+        ensures { Judges (fresh_in self.now) (value_at map.now) (starts_of self.now at.now)
+            (names_pages at.now) result }
     {
         let (kind, level) = self.begin(at);
         judge_tables(&self.roles, map, tables, is_named(at), kind, level)

@@ -63,13 +63,15 @@ pub fn step(roles: &mut IndexMap<u64, Role>, map: &mut PlaceMap, leaving: &Leavi
         roles_of roles.old page ≡ Role.Hangs parent kind level base first → level ≤ 4 }
     ensures roles { (p : ℕ) → roles_of roles.new p
         ≡ (if p == page
-        && leaves_role map.old (roles_of roles.old) leaving.now (roles_of roles.old page) then Role.Gone else roles_of roles.old p) }
+        && leaves_role map.old (roles_of roles.old) leaving.now (roles_of roles.old page) then Role.Gone
+        else roles_of roles.old p) }
     ensures known { (p : ℕ) → is_some (get nat_eq roles.new p) ≡ is_some (get nat_eq roles.old p) }
     ensures keys { keys roles.new ≡ keys roles.old }
     ensures values { (a : ℕ) → value_at map.new a ≡ value_at map.old a }
     ensures marks { (a : ℕ) → marks_at map.new a
         ≡ (if page_of a == page
-        && leaves_role map.old (roles_of roles.old) leaving.now (roles_of roles.old page) then None else marks_at map.old a) }
+        && leaves_role map.old (roles_of roles.old) leaving.now (roles_of roles.old page) then None
+        else marks_at map.old a) }
     ensures pends { (q a : ℕ)
         → (page_of a == page && leaves_role map.old (roles_of roles.old) leaving.now (roles_of roles.old page)) ≡ false
         → pends_at map.new q a ≡ pends_at map.old q a }
@@ -101,12 +103,14 @@ pub fn sweep(roles: &mut IndexMap<u64, Role>, map: &mut PlaceMap, leaving: &Leav
     requires sound { (heading : Heading) × Sound (roles_of roles.old) heading }
     requires pages { (p : ℕ) → is_some (get nat_eq roles.old p) ≡ true → (p < 2 ^ 48) × (p % 4096 ≡ 0) }
     ensures roles { (p : ℕ) → roles_of roles.new p
-        ≡ (if leaves_role map.old (roles_of roles.old) leaving.now (roles_of roles.old p) then Role.Gone else roles_of roles.old p) }
+        ≡ (if leaves_role map.old (roles_of roles.old) leaving.now (roles_of roles.old p) then Role.Gone
+        else roles_of roles.old p) }
     ensures known { (p : ℕ) → is_some (get nat_eq roles.new p) ≡ is_some (get nat_eq roles.old p) }
     ensures keys { keys roles.new ≡ keys roles.old }
     ensures values { (a : ℕ) → value_at map.new a ≡ value_at map.old a }
     ensures marks { (a : ℕ) → marks_at map.new a
-        ≡ (if leaves_role map.old (roles_of roles.old) leaving.now (roles_of roles.old (page_of a)) then None else marks_at map.old a) }
+        ≡ (if leaves_role map.old (roles_of roles.old) leaving.now (roles_of roles.old (page_of a)) then None
+        else marks_at map.old a) }
     ensures pends { (q a : ℕ) → leaves_role map.old (roles_of roles.old) leaving.now (roles_of roles.old (page_of a))
         ≡ false
         → pends_at map.new q a ≡ pends_at map.old q a }

@@ -211,7 +211,8 @@ pub fn survey(
 ) -> Result<Vec<IndexMap<u64, Mark>>, NoMemory>
     requires { Well header.now (get nat_eq first) }
     ensures count { IfOk result (λ tables. length tables.items ≡ suc behind) }
-    ensures tables { IfOk result (λ tables. Surveyed header.now (fresh_of roles.now) (value_at map.now) (get nat_eq first) tables.items) }
+    ensures tables { IfOk result
+        (λ tables. Surveyed header.now (fresh_of roles.now) (value_at map.now) (get nat_eq first) tables.items) }
 {
     let mut tables = Vec::new(alloc);
     push_table(&mut tables, first)?;
