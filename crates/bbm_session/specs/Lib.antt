@@ -2,6 +2,7 @@ pub mod Fold
 pub mod Folds
 pub mod Generating
 pub mod JudgedLog
+pub mod Keeping
 pub mod Pieces
 pub mod Refused
 pub mod Requests

@@ -8,6 +8,7 @@ mod following;
 mod generating;
 mod judgement;
 mod judging;
+mod keeping;
 pub mod laws;
 mod line;
 mod obeying;

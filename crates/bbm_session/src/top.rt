@@ -20,6 +20,7 @@ use crate::answering::settled;
 use crate::command::{Command, Request, said};
 use crate::following::follow;
 use crate::generating::generate;
+use crate::keeping::Keeping;
 use crate::obeying::obey;
 use crate::selftesting::selftest;
 use crate::showing::show;
@@ -46,7 +47,8 @@ fn say_usage<K: Sink>(out: &mut K) -> Status
     settled(tell(usage(), out), Status::Usage)
 }
 
-/// Judges a log: for `slow` by the oracle, which searches the whole history, and else by the checker that keeps none.
+/// Judges a log: for `slow` by the oracle, which searches the whole history, and else by the checker that keeps none, with
+/// a list of the events beside it where more of them is shown.
 fn judge<S: Source, K: Sink>(alloc: Global, command: &Command, log: &mut S, out: &mut K) -> Status
     ensures obeys { Obeys command.now result (S.left log.old) (S.left log.new) (S.faults log.old) (S.faults log.new)
         (K.held out.old) (K.held out.new) (K.faults out.old) (K.faults out.new) }
@@ -54,7 +56,7 @@ fn judge<S: Source, K: Sink>(alloc: Global, command: &Command, log: &mut S, out:
 {
     match command {
         Command::Slow => obey::<Oracle, S, K>(alloc, command, log, out),
-        Command::Show(evidence) => show::<Oracle, S, K>(alloc, evidence, log, out),
+        Command::Show(evidence) => show::<Keeping<Replay>, S, K>(alloc, evidence, log, out),
         Command::Check | Command::Explain | Command::Walk(_) => {
             obey::<Replay, S, K>(alloc, command, log, out)
         }
