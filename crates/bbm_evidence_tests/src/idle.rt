@@ -1,48 +1,9 @@
 //! Which events of a log are idle. The first three logs come from outside; the others were worked out by hand.
 
-ghost use Rattle.std.specs.Prelude.{◌≡◌, true, IfSome};
-ghost use Rattle.bbm_events.specs.Fits.{fits_heading};
-ghost use Rattle.bbm_rules.specs.Lists.{every};
-
-use bbm_events::{Event, Header, Item, fits};
+use crate::lines::events_of;
 use bbm_idle::find;
-use bbm_log_grammar::{read_event, read_header};
+use bbm_log_grammar::read_header;
 use std::alloc::Global;
-
-/// Whether the event fits the header.
-fn is_event(header: &Header, event: &Event) -> bool
-    ensures { result ≡ fits_heading header.now event.now }
-{
-    fits(header, *event)
-}
-
-/// The event of the line, where it fits the header; None where it is none.
-fn event_of(header: &Header, line: &[u8]) -> Option<Event>
-    ensures { IfSome result (λ event. fits_heading header.now event ≡ true) }
-{
-    match read_event(header, line) {
-        Ok(Item::Event(event, _)) => {
-            if is_event(header, &event) {
-                Some(event)
-            } else {
-                None
-            }
-        }
-        _ => None,
-    }
-}
-
-/// The events of the lines; None where one is none.
-fn events_of(alloc: Global, header: &Header, lines: &[&[u8]]) -> Option<Vec<Event>>
-    ensures { IfSome result (λ events. every (fits_heading header.now) events.items ≡ true) }
-{
-    let mut events = Vec::new(alloc);
-    for line in lines {
-        let event = event_of(header, line)?;
-        events.push(event).ok()?;
-    }
-    Some(events)
-}
 
 /// The numbers of the lines of the idle events; the header is line 1.
 fn idle_lines(alloc: Global, header: &[u8], lines: &[&[u8]]) -> Option<Vec<usize>> {

@@ -6,6 +6,8 @@ use Rattle.bbm_descriptor.specs.declared.walk.Walk.{Walk}
 use Rattle.bbm_descriptor.specs.declared.walk.Walk.TheVariants.{Out, Fault}
 use Rattle.bbm_rules.specs.declared.phase.Phase.{Phase}
 use Rattle.bbm_rules.specs.declared.phase.Phase.TheVariants.{Clean, Live, Broken, Seen, Half, Cleansed}
+use Rattle.bbm_rules.specs.declared.rule.Rule.{Rule}
+use Rattle.bbm_rules.specs.Texts.{rule_text}
 
 -- a phase's name
 abbrev pub phase_word : Phase → List ℕ
@@ -23,6 +25,16 @@ phase_text pe phase = codes "pe " ++ decimal pe ++ codes " " ++ phase_word phase
 -- the line that names the line of an event which a log can do without
 unfoldable pub idle_text : ℕ → List ℕ
 idle_text line = codes "idle line " ++ decimal line ++ codes "\n"
+
+-- the line of a log that keeps the rules by the claims of its certificate: how many events and claims there are
+unfoldable pub verified_text : ℕ → ℕ → List ℕ
+verified_text events claims =
+    codes "verified " ++ decimal events ++ codes " events " ++ decimal claims ++ codes " claims\n"
+
+-- the line of a log that doesn't: the line of the first event that breaks a rule, the rule, and what it reports
+unfoldable pub unverified_text : ℕ → Rule → ℕ → List ℕ
+unverified_text line rule at =
+    codes "unverified line " ++ decimal line ++ codes " rule " ++ rule_text rule ++ codes " at " ++ hex at ++ codes "\n"
 
 -- the line of a walk's answer
 unfoldable pub walk_text : Walk → List ℕ

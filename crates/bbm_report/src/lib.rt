@@ -1,5 +1,5 @@
-//! The texts that the program prints: the line of a verdict, of a phase, of a walk and of an idle event; and what
-//! `explain` and `walk` say behind the line of the verdict.
+//! The texts that the program prints: the line of a verdict, of a phase, of a walk, of an idle event and of a log with
+//! a certificate; and what `explain` and `walk` say behind the line of the verdict.
 #![tactic(auto)]
 
 pub mod finding;
@@ -8,6 +8,7 @@ mod names;
 pub mod phases;
 pub mod questions;
 pub mod verdicts;
+pub mod verified;
 pub mod walks;
 
 pub use finding::find;
@@ -15,4 +16,5 @@ pub use idle::idle_text;
 pub use phases::phase_text;
 pub use questions::{Question, asked};
 pub use verdicts::verdict_text;
+pub use verified::{unverified_text, verified_text};
 pub use walks::{found_text, walk_text};

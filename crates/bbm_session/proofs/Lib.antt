@@ -7,6 +7,7 @@ pub mod Stages
 pub mod ReadBytes
 pub mod Judgements
 pub mod RunLines
+pub mod CertificateLines
 pub mod ShownLogs
 pub mod Served
 pub mod Selftests

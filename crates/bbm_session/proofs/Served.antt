@@ -1,9 +1,16 @@
 -- What a text that was read says of a call of the program: the bytes that were read and written, and the status.
-use Rattle.std.proofs.Common.{◌≡◌, ◌⊎◌, ℕ, ◌<◌, true, false, List, [], Option, Some, None, Result, Ok, Err, refl, ap, sym, ◌∙◌, subst, inl, inr, arith, reverse, IfOk}
+use Rattle.std.proofs.Common.{◌≡◌, ◌⊎◌, ℕ, ◌<◌, true, false, List, [], Option, Some, None, Result, Ok, Err, refl, ap, sym, ◌∙◌, subst, inl, inr, arith, reverse, length, IfOk}
 use Rattle.std.proofs.lemmas.Bool.{false≢true}
 use Rattle.bbm_io.specs.Faults.{Rose}
 use Rattle.bbm_io.specs.Flow.{extended}
 use Rattle.bbm_events.specs.Heading.{Heading}
+use Rattle.bbm_events.specs.declared.claim.Claim.{Claim}
+use Rattle.bbm_events.specs.declared.event.Event.{Event}
+use Rattle.bbm_cert.specs.declared.judged.Judged.{Judged as JudgedBy}
+use Rattle.bbm_cert.specs.declared.judged.Judged.TheVariants.{Yes, No}
+use Rattle.bbm_cert.specs.Judged.{judged}
+use Rattle.bbm_certificate.specs.declared.kept.Kept.{Kept}
+use Rattle.bbm_certificate.specs.Reading as read
 use Rattle.bbm_follow.specs.declared.followed.Followed.{Followed}
 use Rattle.bbm_follow.specs.declared.followed.Followed.TheVariants.{Run, BadStep}
 use Rattle.bbm_follow.specs.Following as run
@@ -15,20 +22,22 @@ use Rattle.bbm_report.specs.Further.{heading_in}
 use Rattle.bbm_tlb_machine.specs.declared.step.Step.{Step}
 use Rattle.bbm_session.specs.declared.command.Command.{Command}
 use Rattle.bbm_session.specs.declared.command.Request.{Request}
-use Rattle.bbm_session.specs.declared.command.Request.TheVariants.{Judge, Follow, Generate, Selftest}
+use Rattle.bbm_session.specs.declared.command.Request.TheVariants.{Judge, Follow, Verify, Generate, Selftest}
 use Rattle.bbm_session.specs.declared.status.Status.{Status}
 use Rattle.bbm_session.specs.declared.status.Status.TheVariants as status
 use Rattle.bbm_session.specs.declared.stop.Decision.{Decision}
 use Rattle.bbm_session.specs.declared.stop.Stop.{Stop}
 use Rattle.bbm_session.specs.declared.stop.Stop.TheVariants.{Decided, ReadFault, NoMemory}
+use Rattle.bbm_session.specs.Certificates.{CertifiedReadFor, judged_status as status_judged, judged_text as text_judged, read_status, read_text}
 use Rattle.bbm_session.specs.Fold.{Fold, ending_at}
-use Rattle.bbm_session.specs.Folds.{Follows, Judged, is_frugal, judging_for, following, whole_run}
+use Rattle.bbm_session.specs.Folds.{Certifies, Follows, Judged, certifying, is_frugal, judging_for, following, whole_read, whole_run}
 use Rattle.bbm_session.specs.Requests.{status_for, IsTextFor, IsSomeTextFor, unread_for, ReadForAll, FaultAt, WantAt, reads_input}
 use Rattle.bbm_session.specs.Generating.{gen_text, selftest_text}
 use Rattle.bbm_session.specs.Run.{IsTextOf, Says, ReadFor, ShowsMore, Wants, limits_of, status_of, tells_verdict}
 use Rattle.bbm_session.specs.Runs.{RunReadFor, followed_status, run_status}
 use Rattle.bbm_session.specs.Stages.{Breaks, Concludes, Continues, Ends, HeaderLine, Starts, Starves, Stops}
-use Rattle.bbm_session.specs.Writing.{Answered, Heads, IsLine, Obeys, FollowsRun, ReportsRun, Part, Reports, Serves, Silent, Told, WantsJudged, WantsRun, Wrote}
+use Rattle.bbm_session.specs.Writing.{Answered, Heads, IsLine, Obeys, FollowsRun, ReportsJudged, ReportsRun, Part, Reports, Serves, Silent, Told, Verifies, WantsJudged, WantsRead, WantsRun, Wrote}
+use Rattle.bbm_session.proofs.CertificateLines.{NotAccepted, certifying-start, certified-whole, certified-fault, certified-read-to, certified-want, read-said, not-accepted}
 use Rattle.bbm_session.proofs.RunLines.{following-start, run-said, run-read-to, run-fault, run-want}
 use Rattle.bbm_session.proofs.Judgements.{outcome-said, read-to, fault-is, want-is}
 use Rattle.bbm_session.proofs.ReadBytes.{to_fault, to_want}
@@ -47,6 +56,14 @@ tells_followed (BadStep line) = refl
 tells_run : (says : run.RunSays) → tells_verdict (run_status says) ≡ true
 tells_run (run.Stopped verdict) = tells_of verdict
 tells_run (run.Whole heading steps) = tells_followed (run.followed heading steps)
+
+tells_judged : (j : JudgedBy) → tells_verdict (status_judged j) ≡ true
+tells_judged Yes = refl
+tells_judged (No position rule at) = refl
+
+tells_read : (says : read.Said) → tells_verdict (read_status says) ≡ true
+tells_read (read.Stopped verdict) = tells_of verdict
+tells_read (read.Whole heading h claims) = tells_judged (judged heading claims h)
 
 quiet : (result other : Status) → tells_verdict other ≡ false → result ≡ other → tells_verdict result ≡ true → ⊥
 quiet result other untold same tells = false≢true (sym untold ∙ ap tells_verdict (sym same) ∙ tells)
@@ -238,6 +255,56 @@ followed-unread stop result old new f f' held held' w w' starts reports =
     answered following run.AtHeader run.AtHeader (λ says text. text ≡ run.run_text says) run_status WantsRun IsLine stop result old new f f' held held' w w'
     (λ v text is. is) (λ v. refl) (λ starves. inl starves) starts reports
 
+-- a log that was read whole with its certificate, and judged if there was memory
+pub verified-whole : {E : Type 0} (heading : Heading) (kept : Kept) (events claims : ℕ) (told : Result JudgedBy E) (result : Status) (old mid new : Option (List ℕ)) (f f' f'' : ℕ) (held held' : Option (List ℕ)) (w w' : ℕ)
+    → HeaderLine heading old mid → f' ≡ f
+    → Ends certifying (Certifies kept certifying heading) (read.AtEvents heading []) (Ok tt) mid new f' f''
+    → events ≡ length (reverse kept.events.items) → claims ≡ length kept.claims.items
+    → IfOk told (λ t. t ≡ judged heading kept.claims.items (reverse kept.events.items)) → ReportsJudged events claims told result held held' w w'
+    → Verifies result old new f f'' held held' w w'
+verified-whole {E = E} heading kept events claims told result old mid new f f' f'' held held' w w' header same ends counts claimed is reports = by told is reports
+  where
+    passes : Continues certifying 1 read.AtHeader old 2 (read.AtEvents heading []) mid
+    passes = header-passes certifying read.AtHeader (λ h. read.AtEvents h []) certifying-start heading old mid header
+
+    concludes : Concludes certifying 1 read.AtHeader old (read.Whole heading (reverse kept.events.items) kept.claims.items) new
+    concludes = continues-concludes certifying 1 2 read.AtHeader (read.AtEvents heading []) (read.Whole heading (reverse kept.events.items) kept.claims.items) old mid new passes
+        (subst (λ (v : read.Said). Concludes certifying 2 (read.AtEvents heading []) mid v new) (certified-whole heading kept certifying ends.0 ends.1 ends.3) ends.2)
+
+    by : (t : Result JudgedBy E) → IfOk t (λ x. x ≡ judged heading kept.claims.items (reverse kept.events.items)) → ReportsJudged events claims t result held held' w w' → Verifies result old new f f'' held held' w w'
+    by (Ok t) same_told wrote = inl (record {
+      says = read.Whole heading (reverse kept.events.items) kept.claims.items;
+      concludes = concludes;
+      sound = ends.4 ∙ same;
+      text = text_judged events claims t;
+      is = ap (λ (n : ℕ). text_judged n claims t) counts ∙ ap (λ (n : ℕ). text_judged (length (reverse kept.events.items)) n t) claimed ∙ ap (text_judged (length (reverse kept.events.items)) (length kept.claims.items)) same_told;
+      wrote = subst (λ (s : Status). ((result ≡ s) × (held' ≡ extended held (text_judged events claims t)) × (w' ≡ w)) ⊎ ((result ≡ status.WriteFault) × Rose w w' × Part (text_judged events claims t) held held')) (ap status_judged same_told) wrote;
+    })
+    by (Err e) same_told silent = inr (inr (record {
+      wants = inr (record { heading = heading; log = reverse kept.events.items; claims = kept.claims.items; concludes = concludes });
+      sound = ends.4 ∙ same;
+      silent = silent;
+    }))
+
+-- a log and its certificate that were read up to a line that stops reading, or to a fault
+pub verified-stopped : (heading : Heading) (kept : Kept) (stop : Stop) (result : Status) (old mid new : Option (List ℕ)) (f f' f'' : ℕ) (held held' : Option (List ℕ)) (w w' : ℕ)
+    → HeaderLine heading old mid → f' ≡ f
+    → Ends certifying (Certifies kept certifying heading) (read.AtEvents heading []) (Err stop) mid new f' f''
+    → Reports IsLine stop result held held' w w' → Verifies result old new f f'' held held' w w'
+verified-stopped heading kept stop result old mid new f f' f'' held held' w w' header same ends reports =
+    let passes = header-passes certifying read.AtHeader (λ h. read.AtEvents h []) certifying-start heading old mid header in
+    answered certifying read.AtHeader ends.0 (λ says text. text ≡ read_text says) read_status WantsRead IsLine stop result old new f f'' held held' w w'
+    (λ v text is. is) (λ v. refl) (λ starves. inl starves)
+    (continues-stops certifying 1 2 read.AtHeader (read.AtEvents heading []) ends.0 stop old mid new f f' f'' passes same ends.2) reports
+
+-- a log and its certificate whose header was not read
+pub verified-unread : (stop : Stop) (result : Status) (old new : Option (List ℕ)) (f f' : ℕ) (held held' : Option (List ℕ)) (w w' : ℕ)
+    → Starts certifying read.AtHeader (Err stop) old new f f' → Reports IsLine stop result held held' w w'
+    → Verifies result old new f f' held held' w w'
+verified-unread stop result old new f f' held held' w w' starts reports =
+    answered certifying read.AtHeader read.AtHeader (λ says text. text ≡ read_text says) read_status WantsRead IsLine stop result old new f f' held held' w w'
+    (λ v text is. is) (λ v. refl) (λ starves. inl starves) starts reports
+
 -- ---- a log that was judged
 
 module _ (command : Command) where
@@ -272,11 +339,19 @@ none_left_run : (says : run.RunSays) (read : Text) (unread : List ℕ) → run_s
 none_left_run (run.Stopped verdict) read unread accepted f = none_left verdict read unread accepted f
 none_left_run (run.Whole heading steps) read unread accepted f = f
 
+yes_is : (j : JudgedBy) → status_judged j ≡ status.Accepted → j ≡ Yes
+yes_is Yes accepted = refl
+yes_is (No position rule at) accepted = cc
+
 accepted_is : (v : Verdict) → status_of v ≡ status.Accepted → (count : ℕ) × (v ≡ Accepted count)
 accepted_is (Accepted events) accepted = (events, refl)
 accepted_is (Refused line rule at label) accepted = cc
 accepted_is (Malformed line cause) accepted = cc
 accepted_is (Limit line which) accepted = cc
+
+none_left_read : (says : read.Said) (text : Text) (unread : List ℕ) → read_status says ≡ status.Accepted → CertifiedReadFor says text unread → unread ≡ []
+none_left_read (read.Stopped verdict) text unread accepted f = none_left verdict text unread accepted f
+none_left_read (read.Whole heading h claims) text unread accepted f = f
 
 whole_left : (bytes : List ℕ) (left : Option (List ℕ)) (heading : Heading) (steps : List Step) → (run.run_of bytes).says ≡ run.Whole heading steps → left ≡ Some (run.run_of bytes).unread → left ≡ Some []
 whole_left bytes left heading steps whole is =
@@ -295,6 +370,34 @@ run_wants bytes left (inr whole) =
       whole = says;
       now = whole_left bytes left whole.heading whole.steps says (is.1 ∙ ap (λ (o : run.RunOutcome). Some o.unread) (sym said));
     })
+
+both_left : (bytes : List ℕ) (left : Option (List ℕ)) (heading : Heading) (h : List Event) (claims : List Claim) → (read.read_of bytes).says ≡ read.Whole heading h claims → left ≡ Some (read.read_of bytes).unread → left ≡ Some []
+both_left bytes left heading h claims whole is =
+    let r = certified-read-to bytes left is in
+    r.3 ∙ ap Some (subst (λ (s : read.Said). CertifiedReadFor s (text_of r.0) r.1) whole r.4)
+
+read_wants : (bytes : List ℕ) (left : Option (List ℕ)) → WantsRead (Some bytes) left → WantAt Verify bytes left
+read_wants bytes left (inl starves) = inl (certified-want bytes left (to_want certifying read.AtHeader bytes left starves))
+read_wants bytes left (inr whole) =
+    let is = unread_is certifying read.AtHeader bytes left (read.Whole whole.heading whole.log whole.claims) whole.concludes in
+    let said = read-said bytes in
+    let says = ap (λ (o : read.Read). o.says) said ∙ is.0 in
+    inr (record {
+      heading = whole.heading;
+      log = whole.log;
+      claims = whole.claims;
+      whole = says;
+      now = both_left bytes left whole.heading whole.log whole.claims says (is.1 ∙ ap (λ (o : read.Read). Some o.unread) (sym said));
+    })
+
+-- what is accepted is read whole, and judged so
+accepted_whole : (says : read.Said) → read_status says ≡ status.Accepted → NotAccepted says
+    → (heading : Heading) × (h : List Event) × (claims : List Claim) × (says ≡ read.Whole heading h claims) × (judged heading claims h ≡ Yes)
+accepted_whole (read.Stopped (Accepted events)) accepted apart = absurd apart
+accepted_whole (read.Stopped (Refused line rule at label)) accepted apart = cc
+accepted_whole (read.Stopped (Malformed line cause)) accepted apart = cc
+accepted_whole (read.Stopped (Limit line which)) accepted apart = cc
+accepted_whole (read.Whole heading h claims) accepted apart = (heading, h, claims, refl, yes_is (judged heading claims h) accepted)
 
 -- ---- what is known where the request was served
 
@@ -317,6 +420,17 @@ module _ (result : Status) (old new : Option (List ℕ)) (f f' : ℕ) (held held
   run_cut : FollowsRun result old new f f' held held' w w' → result ≡ status.WriteFault
       → Cut following run.AtHeader RunText run_status tells_run WantsRun result old new f f' held held' w w'
   run_cut o is = cut following run.AtHeader RunText run_status tells_run WantsRun result old new f f' held held' w w' o is
+
+  abbrev ReadText : read.Said → List ℕ → Type 0
+  ReadText says text = text ≡ read_text says
+
+  read_heard : Verifies result old new f f' held held' w w' → tells_verdict result ≡ true
+      → Heard certifying read.AtHeader ReadText read_status tells_read WantsRead result old new f f' held held' w w'
+  read_heard o tell = heard certifying read.AtHeader ReadText read_status tells_read WantsRead result old new f f' held held' w w' o tell
+
+  read_cut : Verifies result old new f f' held held' w w' → result ≡ status.WriteFault
+      → Cut certifying read.AtHeader ReadText read_status tells_read WantsRead result old new f f' held held' w w'
+  read_cut o is = cut certifying read.AtHeader ReadText read_status tells_read WantsRead result old new f f' held held' w w' o is
 
   -- a text that is told by Accepted was written, or a write failed
   module _ (text : List ℕ) where
@@ -391,6 +505,9 @@ module _ (result : Status) (old new : Option (List ℕ)) (f f' : ℕ) (held held
   served-some Follow o tell =
       let k = run_heard o tell in
       (k.text, (k.says, k.is, k.has), k.written)
+  served-some Verify o tell =
+      let k = read_heard o tell in
+      (k.text, (k.says, k.is, k.has), k.written)
   served-some (Generate n count) o tell =
       let k = wrote_heard (gen_text n count) o.2 tell in
       (gen_text n count, (k.0, refl), k.1)
@@ -405,48 +522,58 @@ module _ (result : Status) (old new : Option (List ℕ)) (f f' : ℕ) (held held
   served-part_of_some Follow o is =
       let k = run_cut o is in
       (run_status k.says, k.text, (k.says, refl, k.has), k.part)
+  served-part_of_some Verify o is =
+      let k = read_cut o is in
+      (read_status k.says, k.text, (k.says, refl, k.has), k.part)
   served-part_of_some (Generate n count) o is = (status.Accepted, gen_text n count, (refl, refl), (wrote_cut (gen_text n count) o.2 is).1)
   served-part_of_some (Selftest n count) o is = (status.Accepted, selftest_text n count, (refl, refl), (tested_cut (selftest_text n count) o.2 is).1)
 
   pub served-read_fault : (request : Request) → ServesIt request → result ≡ status.ReadFault → Rose f f'
   served-read_fault (Judge command) o is = (broke _ _ _ _ (λ (v : Judged). tells_of v.verdict) _ _ _ _ _ _ _ _ _ _ o.answered is).1
   served-read_fault Follow o is = (broke following run.AtHeader RunText run_status tells_run WantsRun result old new f f' held held' w w' o is).1
+  served-read_fault Verify o is = (broke certifying read.AtHeader ReadText read_status tells_read WantsRead result old new f f' held held' w w' o is).1
   served-read_fault (Generate n count) o is = absurd (wrote_sound (gen_text n count) o.2 (inl is))
   served-read_fault (Selftest n count) o is = absurd (tested_only (selftest_text n count) o.2 status.ReadFault (λ same. cc) (λ same. cc) (λ same. cc) is)
 
   pub served-write_fault : (request : Request) → ServesIt request → result ≡ status.WriteFault → Rose w w'
   served-write_fault (Judge command) o is = (judged_cut command o is).rose
   served-write_fault Follow o is = (run_cut o is).rose
+  served-write_fault Verify o is = (read_cut o is).rose
   served-write_fault (Generate n count) o is = (wrote_cut (gen_text n count) o.2 is).0
   served-write_fault (Selftest n count) o is = (tested_cut (selftest_text n count) o.2 is).0
 
   pub served-unwritten : (request : Request) → ServesIt request → (result ≡ status.ReadFault) ⊎ (result ≡ status.NoMemory) → held' ≡ held
   served-unwritten (Judge command) o is = unwritten _ _ _ _ (λ (v : Judged). tells_of v.verdict) _ _ _ _ _ _ _ _ _ _ o.answered is
   served-unwritten Follow o is = unwritten following run.AtHeader RunText run_status tells_run WantsRun result old new f f' held held' w w' o is
+  served-unwritten Verify o is = unwritten certifying read.AtHeader ReadText read_status tells_read WantsRead result old new f f' held held' w w' o is
   served-unwritten (Generate n count) o is = absurd (wrote_sound (gen_text n count) o.2 is)
   served-unwritten (Selftest n count) o is = tested_unwritten (selftest_text n count) o.2 is
 
   pub served-read_rose : (request : Request) → ServesIt request → f < f' → result ≡ status.ReadFault
   served-read_rose (Judge command) o rose = read_rose _ _ _ _ (λ (v : Judged). tells_of v.verdict) _ _ _ _ _ _ _ _ _ _ o.answered rose
   served-read_rose Follow o rose = read_rose following run.AtHeader RunText run_status tells_run WantsRun result old new f f' held held' w w' o rose
+  served-read_rose Verify o rose = read_rose certifying read.AtHeader ReadText read_status tells_read WantsRead result old new f f' held held' w w' o rose
   served-read_rose (Generate n count) o rose = let same = o.1 in absurd (omega (arith, rose, same))
   served-read_rose (Selftest n count) o rose = let same = o.1 in absurd (omega (arith, rose, same))
 
   pub served-write_rose : (request : Request) → ServesIt request → w < w' → result ≡ status.WriteFault
   served-write_rose (Judge command) o rose = write_rose _ _ _ _ (λ (v : Judged). tells_of v.verdict) _ _ _ _ _ _ _ _ _ _ o.answered rose
   served-write_rose Follow o rose = write_rose following run.AtHeader RunText run_status tells_run WantsRun result old new f f' held held' w w' o rose
+  served-write_rose Verify o rose = write_rose certifying read.AtHeader ReadText read_status tells_read WantsRead result old new f f' held held' w w' o rose
   served-write_rose (Generate n count) o rose = wrote_rose (gen_text n count) o.2 rose
   served-write_rose (Selftest n count) o rose = tested_rose (selftest_text n count) o.2 rose
 
   pub served-complete : (request : Request) → ServesIt request → ¬ Rose f f' → ¬ Rose w w' → (tells_verdict result ≡ true) ⊎ (result ≡ status.NoMemory)
   served-complete (Judge command) o reads writes = complete _ _ _ _ (λ (v : Judged). tells_of v.verdict) _ _ _ _ _ _ _ _ _ _ o.answered reads writes
   served-complete Follow o reads writes = complete following run.AtHeader RunText run_status tells_run WantsRun result old new f f' held held' w w' o reads writes
+  served-complete Verify o reads writes = complete certifying read.AtHeader ReadText read_status tells_read WantsRead result old new f f' held held' w w' o reads writes
   served-complete (Generate n count) o reads writes = inl (wrote_whole (gen_text n count) o.2 writes)
   served-complete (Selftest n count) o reads writes = tested_complete (selftest_text n count) o.2 writes
 
   pub served-usage : (request : Request) → ServesIt request → result ≡ status.Usage → ⊥
   served-usage (Judge command) o is = usage_not _ _ _ _ (λ (v : Judged). tells_of v.verdict) _ _ _ _ _ _ _ _ _ _ o.answered is
   served-usage Follow o is = usage_not following run.AtHeader RunText run_status tells_run WantsRun result old new f f' held held' w w' o is
+  served-usage Verify o is = usage_not certifying read.AtHeader ReadText read_status tells_read WantsRead result old new f f' held held' w w' o is
   served-usage (Generate n count) o is = wrote_only (gen_text n count) o.2 status.Usage (λ same. cc) (λ same. cc) is
   served-usage (Selftest n count) o is = tested_only (selftest_text n count) o.2 status.Usage (λ same. cc) (λ same. cc) (λ same. cc) is
 
@@ -454,6 +581,7 @@ module _ (result : Status) (old new : Option (List ℕ)) (f f' : ℕ) (held held
   pub served-untouched : (request : Request) → ServesIt request → reads_input request ≡ false → new ≡ old
   served-untouched (Judge command) o is = cc
   served-untouched Follow o is = cc
+  served-untouched Verify o is = cc
   served-untouched (Generate n count) o is = o.0
   served-untouched (Selftest n count) o is = o.0
 
@@ -485,6 +613,13 @@ module _ (result : Status) (old new : Option (List ℕ)) (f f' : ℕ) (held held
         let said = run-said bytes in
         (ap (λ (o : run.RunOutcome). o.says) said ∙ k.0, k.1 ∙ ap (λ (o : run.RunOutcome). Some o.unread) (sym said))
 
+    read_concluded : (says : read.Said) → Concludes certifying 1 read.AtHeader old says new
+        → ((read.read_of bytes).says ≡ says) × (new ≡ Some (read.read_of bytes).unread)
+    read_concluded says concludes =
+        let k = concluded certifying read.AtHeader says concludes in
+        let said = read-said bytes in
+        (ap (λ (o : read.Read). o.says) said ∙ k.0, k.1 ∙ ap (λ (o : read.Read). Some o.unread) (sym said))
+
     pub served-status : (request : Request) → ServesIt request → tells_verdict result ≡ true → result ≡ status_for request bytes
     served-status (Judge command) o tell =
         let k = judged_heard command o tell in
@@ -492,6 +627,9 @@ module _ (result : Status) (old new : Option (List ℕ)) (f f' : ℕ) (held held
     served-status Follow o tell =
         let k = run_heard o tell in
         k.is ∙ ap run_status (sym (run_concluded k.says k.concludes).0)
+    served-status Verify o tell =
+        let k = read_heard o tell in
+        k.is ∙ ap read_status (sym (read_concluded k.says k.concludes).0)
     served-status (Generate n count) o tell = (wrote_heard (gen_text n count) o.2 tell).0
     served-status (Selftest n count) o tell = (tested_heard (selftest_text n count) o.2 tell).0
 
@@ -503,6 +641,9 @@ module _ (result : Status) (old new : Option (List ℕ)) (f f' : ℕ) (held held
     served-text Follow o tell =
         let k = run_heard o tell in
         (k.text, k.has ∙ ap run.run_text (sym (run_concluded k.says k.concludes).0), k.written)
+    served-text Verify o tell =
+        let k = read_heard o tell in
+        (k.text, k.has ∙ ap read_text (sym (read_concluded k.says k.concludes).0), k.written)
     served-text (Generate n count) o tell = (gen_text n count, refl, (wrote_heard (gen_text n count) o.2 tell).1)
     served-text (Selftest n count) o tell = (selftest_text n count, refl, (tested_heard (selftest_text n count) o.2 tell).1)
 
@@ -514,24 +655,30 @@ module _ (result : Status) (old new : Option (List ℕ)) (f f' : ℕ) (held held
     served-part Follow o cuts =
         let k = run_cut o cuts in
         (k.text, k.has ∙ ap run.run_text (sym (run_concluded k.says k.concludes).0), k.part)
+    served-part Verify o cuts =
+        let k = read_cut o cuts in
+        (k.text, k.has ∙ ap read_text (sym (read_concluded k.says k.concludes).0), k.part)
     served-part (Generate n count) o cuts = (gen_text n count, refl, (wrote_cut (gen_text n count) o.2 cuts).1)
     served-part (Selftest n count) o cuts = (selftest_text n count, refl, (tested_cut (selftest_text n count) o.2 cuts).1)
 
     pub served-unread : (request : Request) → ServesIt request → tells_verdict result ≡ true → new ≡ Some (unread_for request bytes)
     served-unread (Judge command) o tell = let k = judged_heard command o tell in (judged_concluded command k.says k.concludes).1
     served-unread Follow o tell = let k = run_heard o tell in (run_concluded k.says k.concludes).1
+    served-unread Verify o tell = let k = read_heard o tell in (read_concluded k.says k.concludes).1
     served-unread (Generate n count) o tell = o.0 ∙ is
     served-unread (Selftest n count) o tell = o.0 ∙ is
 
     pub served-untold : (request : Request) → ServesIt request → result ≡ status.WriteFault → new ≡ Some (unread_for request bytes)
     served-untold (Judge command) o cuts = let k = judged_cut command o cuts in (judged_concluded command k.says k.concludes).1
     served-untold Follow o cuts = let k = run_cut o cuts in (run_concluded k.says k.concludes).1
+    served-untold Verify o cuts = let k = read_cut o cuts in (read_concluded k.says k.concludes).1
     served-untold (Generate n count) o cuts = o.0 ∙ is
     served-untold (Selftest n count) o cuts = o.0 ∙ is
 
     pub served-read : (request : Request) → ServesIt request → tells_verdict result ≡ true → ReadForAll request bytes new
     served-read (Judge command) o tell = read-to (is_frugal command) (limits_of command) bytes new (served-unread (Judge command) o tell)
     served-read Follow o tell = run-read-to bytes new (served-unread Follow o tell)
+    served-read Verify o tell = certified-read-to bytes new (served-unread Verify o tell)
     served-read (Generate n count) o tell = o.0 ∙ is
     served-read (Selftest n count) o tell = o.0 ∙ is
 
@@ -544,12 +691,21 @@ module _ (result : Status) (old new : Option (List ℕ)) (f f' : ℕ) (held held
         let tell = ap tells_verdict accepted in
         let r = served-read Follow o tell in
         r.3 ∙ ap Some (none_left_run (run.run_of bytes).says (text_of r.0) r.1 (sym (served-status Follow o tell) ∙ accepted) r.4)
+    served-accepted Verify o reads accepted =
+        let tell = ap tells_verdict accepted in
+        let r = served-read Verify o tell in
+        r.3 ∙ ap Some (none_left_read (read.read_of bytes).says (text_of r.0) r.1 (sym (served-status Verify o tell) ∙ accepted) r.4)
     served-accepted (Generate n count) o reads accepted = cc
     served-accepted (Selftest n count) o reads accepted = cc
 
     pub served-accepts : (command : Command) → ServesIt (Judge command) → result ≡ status.Accepted → (count : ℕ) × (verdict_of_bytes Patterns (limits_of command) bytes ≡ Accepted count)
     served-accepts command o accepted =
         accepted_is (verdict_of_bytes Patterns (limits_of command) bytes) (sym (served-status (Judge command) o (ap tells_verdict accepted)) ∙ accepted)
+
+    pub served-verified : ServesIt Verify → result ≡ status.Accepted
+        → (heading : Heading) × (h : List Event) × (claims : List Claim) × ((read.read_of bytes).says ≡ read.Whole heading h claims) × (judged heading claims h ≡ Yes)
+    served-verified o accepted =
+        accepted_whole (read.read_of bytes).says (sym (served-status Verify o (ap tells_verdict accepted)) ∙ accepted) (not-accepted bytes)
 
     pub served-fault : (request : Request) → ServesIt request → result ≡ status.ReadFault → FaultAt request bytes new
     served-fault (Judge command) o fault =
@@ -559,6 +715,9 @@ module _ (result : Status) (old new : Option (List ℕ)) (f f' : ℕ) (held held
     served-fault Follow o fault =
         let breaks = (broke following run.AtHeader RunText run_status tells_run WantsRun result old new f f' held held' w w' o fault).0 in
         run-fault bytes new (to_fault following run.AtHeader bytes new (subst (λ (x : Option (List ℕ)). Breaks following 1 run.AtHeader x new) is breaks))
+    served-fault Verify o fault =
+        let breaks = (broke certifying read.AtHeader ReadText read_status tells_read WantsRead result old new f f' held held' w w' o fault).0 in
+        certified-fault bytes new (to_fault certifying read.AtHeader bytes new (subst (λ (x : Option (List ℕ)). Breaks certifying 1 read.AtHeader x new) is breaks))
     served-fault (Generate n count) o fault = wrote_sound (gen_text n count) o.2 (inl fault)
     served-fault (Selftest n count) o fault = tested_only (selftest_text n count) o.2 status.ReadFault (λ same. cc) (λ same. cc) (λ same. cc) fault
 
@@ -580,5 +739,8 @@ module _ (result : Status) (old new : Option (List ℕ)) (f f' : ℕ) (held held
     served-want Follow o want =
         let wants = starved following run.AtHeader RunText run_status tells_run WantsRun result old new f f' held held' w w' o want in
         run_wants bytes new (subst (λ (x : Option (List ℕ)). WantsRun x new) is wants)
+    served-want Verify o want =
+        let wants = starved certifying read.AtHeader ReadText read_status tells_read WantsRead result old new f f' held held' w w' o want in
+        read_wants bytes new (subst (λ (x : Option (List ℕ)). WantsRead x new) is wants)
     served-want (Generate n count) o want = wrote_sound (gen_text n count) o.2 (inr want)
     served-want (Selftest n count) o want = o.0 ∙ is

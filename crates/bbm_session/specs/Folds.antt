@@ -1,6 +1,6 @@
--- The two folds over the lines of a log: one judges its events, the other keeps the steps of a run. No public contract
--- cites these words.
-use Rattle.std.specs.Prelude.{◌≡◌, ℕ, ◌+◌, ◌≤◌, Bool, true, false, not, ◌&&◌, is_ok, List, length, reverse, Option, None}
+-- The folds over the lines of a log: one judges its events, one keeps the steps of a run, and one keeps the events and
+-- the claims of a certificate behind them. No public contract cites these words.
+use Rattle.std.specs.Prelude.{◌≡◌, ℕ, ◌+◌, ◌≤◌, Bool, true, false, not, ◌&&◌, is_ok, List, [], length, reverse, Option, None}
 use Rattle.std.specs.Prelude.{Result, Ok, Err}
 use Rattle.bbm_events.specs.declared.event.Event.{Event}
 use Rattle.bbm_events.specs.declared.event.Item.{Item}
@@ -21,6 +21,13 @@ use Rattle.bbm_follow.specs.declared.turn.LineFault.TheVariants as line_fault
 use Rattle.bbm_follow.specs.declared.turn.Turn.{Turn as RunTurn}
 use Rattle.bbm_follow.specs.declared.turn.Turn.TheVariants as turn
 use Rattle.bbm_follow.specs.Following as run
+use Rattle.bbm_certificate.specs.declared.kept.Kept.{Kept}
+use Rattle.bbm_certificate.specs.declared.turn.LineFault.{LineFault as ReadFaultOf}
+use Rattle.bbm_certificate.specs.declared.turn.LineFault.TheVariants as read_fault
+use Rattle.bbm_certificate.specs.declared.turn.Turn.{Turn as ReadTurn}
+use Rattle.bbm_certificate.specs.declared.turn.Turn.TheVariants as read_turn
+use Rattle.bbm_certificate.specs.Reading as read
+use Rattle.bbm_session.specs.Certificates.{certified_needs}
 use Rattle.bbm_session.specs.declared.command.Command.{Command}
 use Rattle.bbm_session.specs.declared.command.Command.TheVariants.{Check, Slow, Explain, Walk, Show}
 use Rattle.bbm_session.specs.Fold.{Fold, Turned, Halts, Passes, alone, refusing}
@@ -138,3 +145,41 @@ Turns (Ok turn.Step) result = result ≡ Ok Taken
 Turns (Ok turn.End) result = result ≡ Ok End
 Turns (Err (line_fault.Decided verdict)) result = result ≡ Err (Decided (alone verdict))
 Turns (Err line_fault.NoMemory) result = result ≡ Err NoMemory
+
+abbrev pub certified_by : read.Turned → Turned read.Reached read.Said
+certified_by (read.Stops verdict) = Halts (read.Stopped verdict)
+certified_by (read.GoesOn next) = Passes next
+
+abbrev pub whole_read : read.Reached → read.Said
+whole_read (read.AtEvents heading h) = read.Whole heading h []
+whole_read (read.BehindLog heading h) = read.Whole heading h []
+whole_read (read.AtClaims heading h claims) = read.Whole heading h claims
+whole_read (read.AtEnd heading h claims) = read.Whole heading h claims
+whole_read read.AtHeader = read.Stopped (Accepted 0)
+
+-- the events of a log and the claims of its certificate are kept
+abbrev pub certifying : Fold read.Reached read.Said
+certifying = record {
+  line = λ n p line. certified_by (read.after_line n p line);
+  long = λ n p. read.Stopped (read.too_long_at n p);
+  cut = read.cut_at;
+  stopped = λ p decision. read.Stopped decision.verdict;
+  whole = whole_read;
+  needs = certified_needs;
+}
+
+-- what is kept of the lines before this one, which are a log and claims
+pub record Certifies (kept : Kept) (fold : Fold read.Reached read.Said) (heading : Heading) (p : read.Reached) (n : ℕ)
+    : Type 0 where
+  pub fold_is : fold ≡ certifying
+  pub is : p ≡ read.kept_at heading kept
+  pub sound : read.IsSound (read.kept_at heading kept)
+  pub number : n ≡ read.next_number (read.kept_at heading kept)
+  pub listed : read.claims_by kept.part kept.claims.items ≡ kept.claims.items
+
+-- what the session makes of a line of those that was taken or not
+abbrev pub TurnsRead : Result ReadTurn ReadFaultOf → Result Turn Stop → Type 0
+TurnsRead (Ok read_turn.Taken) result = result ≡ Ok Taken
+TurnsRead (Ok read_turn.End) result = result ≡ Ok End
+TurnsRead (Err (read_fault.Decided verdict)) result = result ≡ Err (Decided (alone verdict))
+TurnsRead (Err read_fault.NoMemory) result = result ≡ Err NoMemory

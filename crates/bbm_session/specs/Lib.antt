@@ -1,3 +1,4 @@
+pub mod Certificates
 pub mod Fold
 pub mod Folds
 pub mod Generating
@@ -11,4 +12,5 @@ pub mod Runs
 pub mod Shown
 pub mod Stages
 pub mod Telling
+pub mod Verified
 pub mod Writing

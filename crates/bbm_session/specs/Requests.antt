@@ -1,28 +1,35 @@
--- What the program's words ask for, and what it does for each: a log is judged, a run is followed, a generated log is
--- written, or one is judged without being stored.
+-- What the program's words ask for, and what it does for each: a log is judged, a run is followed, a log is judged by its
+-- certificate, a generated log is written, or one is judged without being stored.
 -- Source: project's own choice.
 use Rattle.std.specs.Prelude.{◌≡◌, ℕ, nat_le, Bool, true, false, List, [], ◌∷◌, Option, Some, None, option_map, codes}
 use Rattle.std.specs.Prelude.{bytes_eq, if◌then◌else◌}
 use Rattle.bbm_events.specs.Lines.{passing}
 use Rattle.bbm_events.specs.Spelling.{decimal_value}
+use Rattle.bbm_certificate.specs.Reading.{Said, read_of}
 use Rattle.bbm_follow.specs.Following.{RunSays, run_of, run_text}
 use Rattle.bbm_rules.specs.Claims.{Patterns}
 use Rattle.bbm_rules.specs.Lists.{◌>>=◌}
 use Rattle.bbm_rules.specs.declared.verdict.Verdict.{Verdict}
 use Rattle.bbm_rules.specs.Outcome.{outcome_of, verdict_of_bytes}
 use Rattle.bbm_session.specs.declared.command.Request.{Request}
-use Rattle.bbm_session.specs.declared.command.Request.TheVariants.{Judge, Follow, Generate, Selftest}
+use Rattle.bbm_session.specs.declared.command.Request.TheVariants.{Judge, Follow, Verify, Generate, Selftest}
 use Rattle.bbm_session.specs.declared.status.Status.{Status}
 use Rattle.bbm_session.specs.declared.status.Status.TheVariants as status
+use Rattle.bbm_session.specs.Certificates.{CertifiedReadFor, CertifiedToFault, CertifiedWants, read_status, read_text}
 use Rattle.bbm_session.specs.Generating.{gen_text, selftest_text}
 use Rattle.bbm_session.specs.Run.{IsTextOf, IsSomeText, ReadAs, ReadTo, ReadToFault, Wants, command_of, limits_of}
 use Rattle.bbm_session.specs.Run.{or_else, status_of}
 use Rattle.bbm_session.specs.Runs.{RunReadFor, RunToFault, RunWants, run_status}
 
 -- the request of one word that isn't a command
-abbrev pub follow_of : List (List ℕ) → Option Request
-follow_of (word ∷ []) = if bytes_eq word (codes "follow") then Some Follow else None
-follow_of _ = None
+abbrev pub request_at : List ℕ → Option Request
+request_at word =
+    if bytes_eq word (codes "follow") then Some Follow
+    else (if bytes_eq word (codes "verify") then Some Verify else None)
+
+abbrev pub request_alone : List (List ℕ) → Option Request
+request_alone (word ∷ []) = request_at word
+request_alone _ = None
 
 -- The number of events of a generated log: with its header and its end it has at most 2^32 - 1 lines.
 abbrev pub event_count : List ℕ → Option ℕ
@@ -48,11 +55,11 @@ gen_of words = option_map (λ log. Generate log.0 log.1) (log_after (codes "gen"
 abbrev pub selftest_of : List (List ℕ) → Option Request
 selftest_of words = option_map (λ log. Selftest log.0 log.1) (log_after (codes "selftest") words)
 
--- What the words ask for, None where they ask for nothing: a command, to follow a run, to write a generated log, or to
--- judge one.
+-- What the words ask for, None where they ask for nothing: a command, to follow a run, to judge a log by its
+-- certificate, to write a generated log, or to judge one.
 abbrev pub request_of : List (List ℕ) → Option Request
 request_of words = or_else (option_map Judge (command_of words))
-    (or_else (follow_of words) (or_else (gen_of words) (selftest_of words)))
+    (or_else (request_alone words) (or_else (gen_of words) (selftest_of words)))
 
 -- whether a request reads its input
 abbrev pub reads_input : Request → Bool
@@ -64,6 +71,7 @@ reads_input _ = true
 abbrev pub status_for : Request → List ℕ → Status
 status_for (Judge command) bytes = status_of (verdict_of_bytes Patterns (limits_of command) bytes)
 status_for Follow bytes = run_status (run_of bytes).says
+status_for Verify bytes = read_status (read_of bytes).says
 status_for (Generate n count) bytes = status.Accepted
 status_for (Selftest n count) bytes = status.Accepted
 
@@ -71,6 +79,7 @@ status_for (Selftest n count) bytes = status.Accepted
 abbrev pub IsTextFor : Request → List ℕ → List ℕ → Type 0
 IsTextFor (Judge command) bytes text = IsTextOf command bytes text
 IsTextFor Follow bytes text = text ≡ run_text (run_of bytes).says
+IsTextFor Verify bytes text = text ≡ read_text (read_of bytes).says
 IsTextFor (Generate n count) bytes text = text ≡ gen_text n count
 IsTextFor (Selftest n count) bytes text = text ≡ selftest_text n count
 
@@ -79,6 +88,7 @@ abbrev pub IsSomeTextFor : Request → Status → List ℕ → Type 0
 IsSomeTextFor (Judge command) tells text =
     (verdict : Verdict) × (tells ≡ status_of verdict) × IsSomeText command verdict text
 IsSomeTextFor Follow tells text = (says : RunSays) × (tells ≡ run_status says) × (text ≡ run_text says)
+IsSomeTextFor Verify tells text = (says : Said) × (tells ≡ read_status says) × (text ≡ read_text says)
 IsSomeTextFor (Generate n count) tells text = (tells ≡ status.Accepted) × (text ≡ gen_text n count)
 IsSomeTextFor (Selftest n count) tells text = (tells ≡ status.Accepted) × (text ≡ selftest_text n count)
 
@@ -86,6 +96,7 @@ IsSomeTextFor (Selftest n count) tells text = (tells ≡ status.Accepted) × (te
 abbrev pub unread_for : Request → List ℕ → List ℕ
 unread_for (Judge command) bytes = (outcome_of Patterns (limits_of command) bytes).unread
 unread_for Follow bytes = (run_of bytes).unread
+unread_for Verify bytes = (read_of bytes).unread
 unread_for (Generate n count) bytes = bytes
 unread_for (Selftest n count) bytes = bytes
 
@@ -93,6 +104,7 @@ unread_for (Selftest n count) bytes = bytes
 abbrev pub ReadForAll : Request → List ℕ → Option (List ℕ) → Type 0
 ReadForAll (Judge command) bytes left = ReadTo bytes (verdict_of_bytes Patterns (limits_of command) bytes) left
 ReadForAll Follow bytes left = ReadAs (RunReadFor (run_of bytes).says) bytes left
+ReadForAll Verify bytes left = ReadAs (CertifiedReadFor (read_of bytes).says) bytes left
 ReadForAll (Generate n count) bytes left = left ≡ Some bytes
 ReadForAll (Selftest n count) bytes left = left ≡ Some bytes
 
@@ -100,6 +112,7 @@ ReadForAll (Selftest n count) bytes left = left ≡ Some bytes
 abbrev pub FaultAt : Request → List ℕ → Option (List ℕ) → Type 0
 FaultAt (Judge command) bytes left = ReadToFault (limits_of command) bytes left
 FaultAt Follow bytes left = RunToFault bytes left
+FaultAt Verify bytes left = CertifiedToFault bytes left
 FaultAt (Generate n count) bytes left = ⊥
 FaultAt (Selftest n count) bytes left = ⊥
 
@@ -107,5 +120,6 @@ FaultAt (Selftest n count) bytes left = ⊥
 abbrev pub WantAt : Request → List ℕ → Option (List ℕ) → Type 0
 WantAt (Judge command) bytes left = Wants command bytes left
 WantAt Follow bytes left = RunWants bytes left
+WantAt Verify bytes left = CertifiedWants bytes left
 WantAt (Generate n count) bytes left = ⊥
 WantAt (Selftest n count) bytes left = left ≡ Some bytes

@@ -84,7 +84,7 @@ IsSomeText command verdict text = (heading : Option Heading) × (h : List Event)
 
 -- the usage line, which names all commands
 abbrev pub usage_text : List ℕ
-usage_text = codes "usage: bbm check | slow | explain | walk KIND ROOT ADDR | gen N COUNT | selftest N COUNT | follow | idle\n"
+usage_text = codes "usage: bbm check | slow | explain | walk KIND ROOT ADDR | gen N COUNT | selftest N COUNT | follow | verify | idle\n"
 
 -- the status of a verdict
 abbrev pub status_of : Verdict → Status

@@ -3,9 +3,12 @@ use Rattle.std.specs.Prelude.{◌≡◌, ℕ, ◌<◌, List, ◌++◌, length, t
 use Rattle.bbm_io.specs.Faults.{Rose}
 use Rattle.bbm_io.specs.Flow.{extended}
 use Rattle.bbm_io.specs.declared.source.Failed.{Failed}
+use Rattle.bbm_events.specs.declared.claim.Claim.{Claim}
 use Rattle.bbm_events.specs.declared.event.Event.{Event}
 use Rattle.bbm_events.specs.Heading.{Heading}
 use Rattle.bbm_follow.specs.Following as run
+use Rattle.bbm_certificate.specs.Reading as read
+use Rattle.bbm_cert.specs.declared.judged.Judged.{Judged as JudgedBy}
 use Rattle.bbm_idle.specs.Idle.{idle_marks}
 use Rattle.bbm_follow.specs.declared.followed.Followed.{Followed}
 use Rattle.bbm_rules.specs.declared.verdict.Verdict.{Verdict}
@@ -15,14 +18,15 @@ use Rattle.bbm_report.specs.Further.{heading_in}
 use Rattle.bbm_tlb_machine.specs.declared.step.Step.{Step}
 use Rattle.bbm_session.specs.declared.command.Command.{Command}
 use Rattle.bbm_session.specs.declared.command.Request.{Request}
-use Rattle.bbm_session.specs.declared.command.Request.TheVariants.{Judge, Follow, Generate, Selftest}
+use Rattle.bbm_session.specs.declared.command.Request.TheVariants.{Judge, Follow, Verify, Generate, Selftest}
 use Rattle.bbm_session.specs.declared.status.Status.{Status}
 use Rattle.bbm_session.specs.declared.status.Status.TheVariants as status
 use Rattle.bbm_session.specs.declared.stop.Decision.{Decision}
 use Rattle.bbm_session.specs.declared.stop.Stop.{Stop}
 use Rattle.bbm_session.specs.declared.stop.Stop.TheVariants.{Decided, ReadFault, NoMemory}
+use Rattle.bbm_session.specs.Certificates.{judged_status, judged_text, read_status, read_text}
 use Rattle.bbm_session.specs.Fold.{Fold}
-use Rattle.bbm_session.specs.Folds.{Judged, judging_for, following}
+use Rattle.bbm_session.specs.Folds.{Judged, judging_for, following, certifying}
 use Rattle.bbm_session.specs.Generating.{gen_text, selftest_text}
 use Rattle.bbm_session.specs.Run.{Says, ShowsMore, status_of}
 use Rattle.bbm_session.specs.Runs.{followed_status, run_status}
@@ -63,6 +67,14 @@ abbrev pub ReportsRun : {E : Type 0} → Result Followed E → Status → Option
 ReportsRun (Ok told) result old new faults faults' =
     Wrote (followed_status told) (run.followed_text told) result old new faults faults'
 ReportsRun (Err _) result old new faults faults' = Silent status.NoMemory result old new faults faults'
+
+-- the same of a log that was read whole with its certificate, with so many events and claims, if there was memory to
+-- judge it
+abbrev pub ReportsJudged : {E : Type 0} → ℕ → ℕ → Result JudgedBy E → Status → Option (List ℕ) → Option (List ℕ) → ℕ → ℕ
+    → Type 0
+ReportsJudged events claims (Ok told) result old new faults faults' =
+    Wrote (judged_status told) (judged_text events claims told) result old new faults faults'
+ReportsJudged events claims (Err _) result old new faults faults' = Silent status.NoMemory result old new faults faults'
 
 -- the line of a verdict alone
 abbrev pub IsLine : Decision → List ℕ → Type 0
@@ -120,6 +132,17 @@ pub record ReadWhole (left left' : Option (List ℕ)) : Type 0 where
 abbrev pub WantsRun : Option (List ℕ) → Option (List ℕ) → Type 0
 WantsRun left left' = Starves following 1 run.AtHeader left left' ⊎ ReadWhole left left'
 
+-- a log was read whole with its certificate
+pub record ReadBoth (left left' : Option (List ℕ)) : Type 0 where
+  pub heading : Heading
+  pub log : List Event
+  pub claims : List Claim
+  pub concludes : Concludes certifying 1 read.AtHeader left (read.Whole heading log claims) left'
+
+-- what was left and is left where there was no memory for a log and its certificate
+abbrev pub WantsRead : Option (List ℕ) → Option (List ℕ) → Type 0
+WantsRead left left' = Starves certifying 1 read.AtHeader left left' ⊎ ReadBoth left left'
+
 -- The text of a command for a verdict was to be written, or there was no memory for what it shows behind it.
 abbrev pub ReportsVerdict : Command → Option Heading → List Event → Verdict → Status → Option (List ℕ)
     → Option (List ℕ) → ℕ → ℕ → Type 0
@@ -170,6 +193,13 @@ FollowsRun result left left' reads reads' held held' writes writes' =
     Answered following run.AtHeader (λ says text. text ≡ run.run_text says) run_status WantsRun result left left'
     reads reads' held held' writes writes'
 
+-- a log was judged by its certificate
+abbrev pub Verifies : Status → Option (List ℕ) → Option (List ℕ) → ℕ → ℕ → Option (List ℕ) → Option (List ℕ) → ℕ → ℕ
+    → Type 0
+Verifies result left left' reads reads' held held' writes writes' =
+    Answered certifying read.AtHeader (λ says text. text ≡ read_text says) read_status WantsRead result left left'
+    reads reads' held held' writes writes'
+
 -- a generated log was written, and the source is as before
 abbrev pub Generates : ℕ → ℕ → Status → Option (List ℕ) → Option (List ℕ) → ℕ → ℕ → Option (List ℕ) → Option (List ℕ)
     → ℕ → ℕ → Type 0
@@ -195,6 +225,8 @@ Serves (Judge command) result left left' reads reads' held held' writes writes' 
     Obeys command result left left' reads reads' held held' writes writes'
 Serves Follow result left left' reads reads' held held' writes writes' =
     FollowsRun result left left' reads reads' held held' writes writes'
+Serves Verify result left left' reads reads' held held' writes writes' =
+    Verifies result left left' reads reads' held held' writes writes'
 Serves (Generate n count) result left left' reads reads' held held' writes writes' =
     Generates n count result left left' reads reads' held held' writes writes'
 Serves (Selftest n count) result left left' reads reads' held held' writes writes' =

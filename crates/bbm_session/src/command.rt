@@ -3,7 +3,7 @@
 
 ghost use Rattle.std.specs.Prelude.{◌≡◌, map};
 ghost use Rattle.std.specs.String.{string_bytes};
-ghost use Rattle.bbm_session.specs.Requests.{event_count, follow_of, gen_of, log_after, log_asked, request_of, selftest_of};
+ghost use Rattle.bbm_session.specs.Requests.{event_count, gen_of, log_after, log_asked, request_alone, request_of, selftest_of};
 ghost use Rattle.bbm_session.specs.Run.{command_alone, command_of, limits_of, or_else};
 
 use bbm_log_grammar::read_decimal;
@@ -46,6 +46,8 @@ pub enum Request {
     Judge(Command),
     /// A log with lines of machine steps between its events is read, and the run of the machine of TLBs is followed.
     Follow,
+    /// A log and right behind it its certificate are read, and the log is judged by the certificate's claims alone.
+    Verify,
     /// A generated log is written, and nothing is read.
     Generate {
         /// The number of the log.
@@ -96,13 +98,15 @@ fn said_command(words: &[String]) -> Option<Command>
 }
 
 /// The request of one word that isn't a command.
-fn said_follow(words: &[String]) -> Option<Request>
-    ensures { result ≡ follow_of (map string_bytes words.now) }
+fn said_request(words: &[String]) -> Option<Request>
+    ensures { result ≡ request_alone (map string_bytes words.now) }
 {
     if words.len() != 1 {
         None
     } else if words[0].as_bytes() == b"follow".as_slice() {
         Some(Request::Follow)
+    } else if words[0].as_bytes() == b"verify".as_slice() {
+        Some(Request::Verify)
     } else {
         None
     }
@@ -173,10 +177,10 @@ fn said_generated(words: &[String]) -> Option<Request>
 
 /// The request of words that are no command.
 fn said_other(words: &[String]) -> Option<Request>
-    ensures { result ≡ or_else (follow_of (map string_bytes words.now))
+    ensures { result ≡ or_else (request_alone (map string_bytes words.now))
         (or_else (gen_of (map string_bytes words.now)) (selftest_of (map string_bytes words.now))) }
 {
-    match said_follow(words) {
+    match said_request(words) {
         Some(request) => Some(request),
         None => said_generated(words),
     }

@@ -1,7 +1,16 @@
-//! The law of the text of a generated log.
+//! Laws of the text of a generated log, and of a log that keeps the rules by a certificate.
 
-ghost use Rattle.std.specs.Prelude.{◌≡◌, ◌≤◌, ◌++◌, [], length};
+ghost use Rattle.std.specs.Prelude.{◌≡◌, ◌≤◌, ◌++◌, ℕ, List, [], length, true};
+ghost use Rattle.bbm_certificate.specs.Reading.{Whole, read_of};
+ghost use Rattle.bbm_cert.specs.Judged.{judged};
+ghost use Rattle.bbm_cert.specs.declared.judged.Judged.TheVariants.{Yes};
+ghost use Rattle.bbm_tlb_machine.specs.Safe.{IsLog, Safe};
 ghost use Rattle.bbm_gen.specs.Generated.{heading, log_of};
+ghost use Rattle.bbm_events.specs.Heading.{Heading};
+ghost use Rattle.bbm_events.specs.declared.claim.Claim.{Claim};
+ghost use Rattle.bbm_events.specs.declared.event.Event.{Event};
+ghost use Rattle.bbm_rules.specs.Broken.{keeps};
+ghost use Rattle.bbm_rules.specs.Claims.Trust.{Listed};
 ghost use Rattle.bbm_rules.specs.Claims.{Patterns};
 ghost use Rattle.bbm_rules.specs.Outcome.{check_limits, outcome_of, verdict_of_bytes};
 ghost use Rattle.bbm_rules.specs.Pages.{initialised};
@@ -9,9 +18,13 @@ ghost use Rattle.bbm_rules.specs.Phases.{restless_of};
 ghost use Rattle.bbm_rules.specs.Texts.{verdict_text};
 ghost use Rattle.bbm_rules.specs.declared.verdict.Verdict.TheVariants.{Accepted};
 ghost use Rattle.bbm_session.specs.Generating.{counts_text, gen_text, selftest_text};
+ghost use Rattle.bbm_session.specs.Verified.{IsVerified};
 
+use bbm_cert::law_judged;
+use bbm_certificate::law_read_whole;
 use bbm_events::{law_written_is_a_line, law_written_is_read};
 use bbm_gen::law_gen;
+use bbm_tlb_machine::law_safe;
 
 /// What `check` says of the text that `gen` writes for the number n and `count` events, at most 4,294,967,293: it is
 /// accepted, and read whole, and its events are those of the generated log. So what `selftest` writes is the line of that
@@ -27,4 +40,25 @@ pub fn law_generated_is_accepted(n: u64, count: u32)
     law_gen(n, count);
     law_written_is_a_line();
     law_written_is_read();
+}
+
+/// A log, newest first, that keeps the rules by a list of claims alone is safe: no TLB keeps what a write, an init or
+/// a register write needs gone, in any run of the machine over it. The header is one that can be said, and each event
+/// fits it. The call does nothing; the law is its contract.
+pub fn law_cert()
+    ensures { (heading : Heading) (claims : List Claim) (log : List Event) → IsLog heading log →
+        keeps heading (Listed claims) log ≡ true → Safe heading log }
+{
+    law_safe();
+}
+
+/// Where bytes are a log and its certificate, and the claims say yes of the log, it keeps the rules by them alone, and
+/// it is safe. The call does nothing; the law is its contract.
+pub fn law_verified_is_safe()
+    ensures { (bytes : List ℕ) (heading : Heading) (claims : List Claim) (log : List Event) →
+        (read_of bytes).says ≡ Whole heading log claims → judged heading claims log ≡ Yes → IsVerified bytes }
+{
+    law_read_whole();
+    law_judged();
+    law_cert();
 }

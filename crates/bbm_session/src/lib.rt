@@ -1,5 +1,5 @@
 //! The top call: a log is read from a source and judged, and the verdict is written to a sink, with what a command says
-//! behind it; or a run is read and followed.
+//! behind it; or a run is read and followed; or a log is judged by its certificate.
 #![tactic(auto)]
 
 mod answering;
@@ -20,8 +20,9 @@ mod stop;
 mod taker;
 mod telling;
 mod top;
+mod verifying;
 
 pub use command::{Command, Evidence, Request};
-pub use laws::law_generated_is_accepted;
+pub use laws::{law_cert, law_generated_is_accepted, law_verified_is_safe};
 pub use status::{Status, number};
 pub use top::run;

@@ -5,10 +5,11 @@ ghost use Rattle.std.specs.String.{string_bytes};
 ghost use Rattle.bbm_io.specs.Faults.{Rose};
 ghost use Rattle.bbm_io.specs.Flow.{preceded, extended};
 ghost use Rattle.bbm_rules.specs.Claims.{Patterns};
+ghost use Rattle.bbm_session.specs.Verified.{IsVerified};
 ghost use Rattle.bbm_tlb_machine.specs.Accepted.{SafeBytes};
 ghost use Rattle.bbm_session.specs.declared.command.Command.{Command as CommandOf};
 ghost use Rattle.bbm_session.specs.declared.command.Request.{Request as RequestOf};
-ghost use Rattle.bbm_session.specs.declared.command.Request.TheVariants.{Generate, Selftest};
+ghost use Rattle.bbm_session.specs.declared.command.Request.TheVariants.{Generate, Selftest, Verify};
 ghost use Rattle.bbm_session.specs.declared.status.Status.{Status as StatusOf};
 ghost use Rattle.bbm_session.specs.Requests.{FaultAt, IsSomeTextFor, IsTextFor, ReadForAll, WantAt, reads_input};
 ghost use Rattle.bbm_session.specs.Requests.{request_of, status_for, unread_for};
@@ -21,11 +22,13 @@ use crate::command::{Command, Request, said};
 use crate::following::follow;
 use crate::generating::generate;
 use crate::keeping::Keeping;
+use crate::laws::law_verified_is_safe;
 use crate::obeying::obey;
 use crate::selftesting::selftest;
 use crate::showing::show;
 use crate::status::Status;
 use crate::telling::tell;
+use crate::verifying::verify;
 use bbm_io::{Sink, Source};
 use bbm_oracle::Oracle;
 use bbm_replay::Replay;
@@ -36,7 +39,7 @@ use std::alloc::Global;
 fn usage() -> &'static [u8]
     ensures { result.now ≡ usage_text }
 {
-    b"usage: bbm check | slow | explain | walk KIND ROOT ADDR | gen N COUNT | selftest N COUNT | follow | idle\n"
+    b"usage: bbm check | slow | explain | walk KIND ROOT ADDR | gen N COUNT | selftest N COUNT | follow | verify | idle\n"
 }
 
 /// Writes the usage line.
@@ -72,6 +75,7 @@ fn serve<S: Source, K: Sink>(alloc: Global, request: &Request, log: &mut S, out:
     match request {
         Request::Judge(command) => judge(alloc, command, log, out),
         Request::Follow => follow(alloc, log, out),
+        Request::Verify => verify(alloc, log, out),
         Request::Generate { number, events } => generate(*number, *events, out),
         Request::Selftest { number, events } => selftest::<Replay, K>(alloc, *number, *events, out),
     }
@@ -83,12 +87,14 @@ fn serve<S: Source, K: Sink>(alloc: Global, request: &Request, log: &mut S, out:
 /// a line for each PE where break-before-make is broken, how far the place has come there; and `walk` writes where an
 /// accepted log maps the address ADDR at its end, by the tables of the root of KIND whose first page is ROOT. With
 /// `follow` it reads a log with lines of machine steps between its events, judges no event, and writes the line of what
-/// comes of that run. With `gen N COUNT` it writes the generated log of the number N with COUNT events, at most
-/// 4,294,967,293, and reads nothing. With `selftest N COUNT` it judges that log event by event, stores and reads
-/// nothing, and writes that its events are accepted, and how many pages and restless places there are at its end. Any
-/// other words are answered with the usage line. Nothing else is written. `log` is read up to the line that decides,
-/// and an accepted log and a run without such a line to its end. Where the source tells what it has left and the sink
-/// what it holds, the clauses say which bytes are read and written. Source: project's own choice.
+/// comes of that run. With `verify` it reads a log of at most 2,000 events and right behind it its certificate of at
+/// most 300,000 claims, then judges the events by the claims alone, and writes the line of that. With `gen N COUNT` it
+/// writes the generated log of the number N with COUNT events, at most 4,294,967,293, and reads nothing. With
+/// `selftest N COUNT` it judges that log event by event, stores and reads nothing, and writes that its events are
+/// accepted, and how many pages and restless places there are at its end. Any other words are answered with the usage
+/// line. Nothing else is written. `log` is read up to the line that decides, and an accepted log, a run and a log with
+/// its certificate without such a line to their end. Where the source tells what it has left and the sink what it
+/// holds, the clauses say which bytes are read and written. Source: project's own choice.
 pub fn run<S: Source, K: Sink>(
     alloc: Global,
     words: &Vec<String>,
@@ -103,8 +109,9 @@ pub fn run<S: Source, K: Sink>(
     ensures usage_reads_nothing { request_of (map string_bytes words.now.items) ≡ None
         → S.left log.new ≡ S.left log.old }
 
-    // A verdict, or what comes of a run: the status is that of the bytes that were left, the whole text of the request
-    // and nothing else is written, and the bytes that it doesn't need stay unread, also where the write fails.
+    // A verdict, or what comes of a run or of a certificate: the status is that of the bytes that were left, the whole
+    // text of the request and nothing else is written, and the bytes that it doesn't need stay unread, also where the
+    // write fails.
     ensures status { (request : RequestOf) → request_of (map string_bytes words.now.items) ≡ Some request
         → (bytes : List ℕ) → S.left log.old ≡ Some bytes → tells_verdict result ≡ true
         → result ≡ status_for request bytes }
@@ -137,6 +144,10 @@ pub fn run<S: Source, K: Sink>(
     ensures no_stale_entry { (command : CommandOf) → command_of (map string_bytes words.now.items) ≡ Some command
         → (bytes : List ℕ) → S.left log.old ≡ Some bytes → result ≡ Status.Accepted
         → SafeBytes Patterns (limits_of command) bytes }
+    // Where a log is judged by its certificate and accepted, it keeps the rules by the claims of that alone, and no TLB
+    // keeps what a write, an init or a register write needs gone, in any run of the machine over it.
+    ensures verified_is_safe { request_of (map string_bytes words.now.items) ≡ Some Verify
+        → (bytes : List ℕ) → S.left log.old ≡ Some bytes → result ≡ Status.Accepted → IsVerified bytes }
     ensures unread_untold { (request : RequestOf) → request_of (map string_bytes words.now.items) ≡ Some request
         → (bytes : List ℕ) → S.left log.old ≡ Some bytes → result ≡ Status.WriteFault
         → S.left log.new ≡ Some (unread_for request bytes) }
@@ -158,8 +169,9 @@ pub fn run<S: Source, K: Sink>(
         → K.held out.new ≡ K.held out.old }
 
     // Nothing is read that isn't needed: up to a fault or for want of memory only lines that decide nothing, and of the
-    // next one at most 200 bytes. There is want of memory only at a line that needs memory, or for a run that was read
-    // whole. With `check`, `explain` and `walk` neither a barrier nor a line on a lock needs memory.
+    // next one at most 200 bytes. There is want of memory only at a line that needs memory, or for a run, or a log with
+    // its certificate, that was read whole. With `check`, `explain` and `walk` neither a barrier nor a line on a lock
+    // needs memory.
     ensures read_to_fault { (request : RequestOf) → request_of (map string_bytes words.now.items) ≡ Some request
         → (bytes : List ℕ) → S.left log.old ≡ Some bytes → result ≡ Status.ReadFault
         → FaultAt request bytes (S.left log.new) }
@@ -178,6 +190,7 @@ pub fn run<S: Source, K: Sink>(
     match said(words) {
         Some(request) => {
             law_accepted_is_safe();
+            law_verified_is_safe();
             serve(alloc, &request, log, out)
         }
         None => say_usage(out),

@@ -15,6 +15,7 @@ mod selftest;
 mod slow;
 mod told_logs;
 mod usage;
+mod verify;
 
 use bbm_io::{MemSink, MemSource};
 use bbm_session::{number, run};

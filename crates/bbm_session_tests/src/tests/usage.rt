@@ -6,10 +6,10 @@ use std::test::Fail;
 
 /// The usage line.
 const USAGE: &[u8] =
-    b"usage: bbm check | slow | explain | walk KIND ROOT ADDR | gen N COUNT | selftest N COUNT | follow | idle\n";
+    b"usage: bbm check | slow | explain | walk KIND ROOT ADDR | gen N COUNT | selftest N COUNT | follow | verify | idle\n";
 
 /// Words that ask for nothing.
-const NO_REQUESTS: [&str; 49] = [
+const NO_REQUESTS: [&str; 51] = [
     "",
     "check check",
     "check -",
@@ -22,6 +22,8 @@ const NO_REQUESTS: [&str; 49] = [
     "follow follow",
     "Follow",
     "follows",
+    "verify verify",
+    "Verify",
     "Explain",
     "walk",
     "walk el2 0x40000000",

@@ -4,13 +4,13 @@ use Rattle.bbm_rules.specs.Claims.{Patterns}
 use Rattle.std.specs.String.{string_bytes}
 use Rattle.bbm_session.specs.declared.command.Command.{Command}
 use Rattle.bbm_session.specs.declared.command.Request.{Request}
-use Rattle.bbm_session.specs.declared.command.Request.TheVariants.{Judge, Generate, Selftest}
+use Rattle.bbm_session.specs.declared.command.Request.TheVariants.{Judge, Verify, Generate, Selftest}
 use Rattle.bbm_session.specs.declared.status.Status.{Status}
 use Rattle.bbm_session.specs.Requests.{FaultAt, IsSomeTextFor, IsTextFor, ReadForAll, WantAt, reads_input, status_for, unread_for}
 use Rattle.bbm_session.specs.Requests as requests
 use Rattle.bbm_session.specs.Run.{or_else}
 use Rattle.bbm_session.specs.Writing.{Part, Serves}
-use Rattle.bbm_session.proofs.Served.{served-some, served-part_of_some, served-status, served-text, served-part, served-unread, served-untold, served-read, served-accepted, served-accepts, served-untouched, served-generated, served-selftested, served-fault, served-want}
+use Rattle.bbm_session.proofs.Served.{served-some, served-part_of_some, served-status, served-text, served-part, served-unread, served-untold, served-read, served-accepted, served-accepts, served-verified, served-untouched, served-generated, served-selftested, served-fault, served-want}
 use Rattle.bbm_session.proofs.top.run.Goals as goal
 
 pub returns-in-Some-clause-status : goal.returns-in-Some-clause-status
@@ -65,11 +65,18 @@ returns-in-Some-clause-selftested g c = λ n count says.
 
 pub returns-in-Some-clause-no_stale_entry : goal.returns-in-Some-clause-no_stale_entry
 returns-in-Some-clause-no_stale_entry g c = λ command says bytes left accepted.
-    let asked = ap (λ (o : Option Command). or_else (option_map Judge o) (or_else (requests.follow_of (map string_bytes c.args.words.now.items)) (or_else (requests.gen_of (map string_bytes c.args.words.now.items)) (requests.selftest_of (map string_bytes c.args.words.now.items))))) says in
+    let asked = ap (λ (o : Option Command). or_else (option_map Judge o) (or_else (requests.request_alone (map string_bytes c.args.words.now.items)) (or_else (requests.gen_of (map string_bytes c.args.words.now.items)) (requests.selftest_of (map string_bytes c.args.words.now.items))))) says in
     let same : c.in-Some.request ≡ Judge command = cc in
     let serves = subst (λ (r : Request). Serves r c.serve.result (g.S.Source.left c.args.log.now) (g.S.Source.left c.serve.new.log) (g.S.Source.faults c.args.log.now) (g.S.Source.faults c.serve.new.log) (g.K.Sink.held c.args.out.now) (g.K.Sink.held c.serve.new.out) (g.K.Sink.faults c.args.out.now) (g.K.Sink.faults c.serve.new.out)) same c.serve.ensures.serves in
     let accepts = served-accepts _ _ _ _ _ _ _ _ _ bytes left command serves accepted in
     c.law_accepted_is_safe.ensures Patterns _ bytes accepts.0 accepts.1
+
+pub returns-in-Some-clause-verified_is_safe : goal.returns-in-Some-clause-verified_is_safe
+returns-in-Some-clause-verified_is_safe g c = λ says bytes left accepted.
+    let same : c.in-Some.request ≡ Verify = cc in
+    let serves = subst (λ (r : Request). Serves r c.serve.result (g.S.Source.left c.args.log.now) (g.S.Source.left c.serve.new.log) (g.S.Source.faults c.args.log.now) (g.S.Source.faults c.serve.new.log) (g.K.Sink.held c.args.out.now) (g.K.Sink.held c.serve.new.out) (g.K.Sink.faults c.args.out.now) (g.K.Sink.faults c.serve.new.out)) same c.serve.ensures.serves in
+    let k = served-verified _ _ _ _ _ _ _ _ _ bytes left serves accepted in
+    c.law_verified_is_safe.ensures bytes k.0 k.2 k.1 k.3 k.4
 
 pub returns-in-Some-clause-unread_untold : goal.returns-in-Some-clause-unread_untold
 returns-in-Some-clause-unread_untold g c = λ request says bytes left cuts.

@@ -1,0 +1,171 @@
+//! A log and its certificate, taken line after line and judged by it.
+
+ghost use Rattle.std.specs.Prelude.{◌≡◌, ◌*◌, ◌<◌, Some, length, ok_or};
+ghost use Rattle.bbm_certificate.specs.Reading.{Reached, Said};
+ghost use Rattle.bbm_session.specs.Certificates.{judged_status as status_of_judged, judged_text};
+ghost use Rattle.bbm_session.specs.Fold.{Fold};
+ghost use Rattle.bbm_session.specs.Folds.{Certifies, TurnsRead};
+ghost use Rattle.bbm_session.specs.Stages.{MayTakeLine, Shrinks, TakesLine};
+ghost use Rattle.bbm_session.specs.Writing.{ReportsJudged, Verifies, Wrote};
+
+use crate::answering::{report_stop, settled};
+use crate::reading::{header_line, read_log};
+use crate::status::Status;
+use crate::stop::{Stop, Turn, decided};
+use crate::taker::Taker;
+use crate::telling::tell;
+use arrayvec::ArrayVec;
+use bbm_cert::Judged;
+use bbm_certificate::{Kept, LineFault, Turn as ReadTurn, judge_kept, take_line};
+use bbm_events::{Header, law_header_in_range};
+use bbm_io::{Lines, Sink, Source};
+use bbm_regimes::NoMemory;
+use bbm_report::{unverified_text, verified_text};
+use std::alloc::Global;
+
+/// What a line decides that was taken or not.
+fn turned(taken: Result<ReadTurn, LineFault>, stop: &mut Stop) -> Option<Turn>
+    ensures { TurnsRead taken (ok_or result stop.new) }
+{
+    match taken {
+        Ok(ReadTurn::Taken) => Some(Turn::Taken),
+        Ok(ReadTurn::End) => Some(Turn::End),
+        Err(LineFault::Decided(verdict)) => {
+            *stop = decided(verdict);
+            None
+        }
+        Err(LineFault::NoMemory) => {
+            *stop = Stop::NoMemory;
+            None
+        }
+    }
+}
+
+/// What a line after the header decides.
+fn verify_line(
+    number: u64,
+    kept: &mut Kept,
+    header: &Header,
+    line: &[u8],
+    stop: &mut Stop,
+) -> Option<Turn>
+    requires { MayTakeLine (Certifies kept.old) header.now number }
+    ensures takes { (fold : Fold Reached Said) (p : Reached) → Certifies kept.old fold header.now p number
+        → TakesLine fold (Certifies kept.new fold header.now) number p line.now
+        (ok_or result stop.new) }
+    ensures few { result ≡ Some Turn.Taken → number < 4294967295 }
+{
+    turned(take_line(number, header, kept, line), stop)
+}
+
+/// A log and its certificate that are kept.
+#[derive(Drop)]
+pub struct Verifying {
+    /// What is kept of the lines so far.
+    pub kept: Kept,
+}
+
+impl Taker for Verifying {
+    ghost use Rattle.bbm_certificate.specs.Reading.{Reached, Said as SaidOfBoth};
+    ghost use Rattle.bbm_session.specs.Folds.{Certifies};
+
+    ghost Reached = { Reached };
+
+    ghost Said = { SaidOfBoth };
+
+    ghost stands = { λ verifying. Certifies verifying.kept };
+
+    fn take(
+        &mut self,
+        _alloc: Global,
+        number: u64,
+        header: &Header,
+        line: &[u8],
+        stop: &mut Stop,
+    ) -> Option<Turn> {
+        verify_line(number, &mut self.kept, header, line, stop)
+    }
+}
+
+/// The status of a log that was judged by its certificate.
+fn judged_status(told: &Judged) -> Status
+    ensures { result ≡ status_of_judged told.now }
+{
+    match *told {
+        Judged::Yes => Status::Accepted,
+        Judged::No { .. } => Status::Refused,
+    }
+}
+
+/// Writes what was judged of a log with so many events by its certificate with so many claims.
+fn tell_judged<K: Sink>(told: Judged, events: u64, claims: u64, out: &mut K) -> Status
+    ensures wrote { Wrote (status_of_judged told) (judged_text events claims told) result
+        (K.held out.old) (K.held out.new) (K.faults out.old) (K.faults out.new) }
+{
+    let mut text = ArrayVec::new();
+    match told {
+        Judged::Yes => verified_text(events, claims, &mut text),
+        Judged::No { position, rule, at } => {
+            unverified_text(u64::from(position) + 1, rule, at, &mut text)
+        }
+    }
+    settled(tell(&text, out), judged_status(&told))
+}
+
+/// Says what was judged, if there was memory for it.
+fn report_judged<K: Sink>(
+    told: Result<Judged, NoMemory>,
+    events: u64,
+    claims: u64,
+    out: &mut K,
+) -> Status
+    ensures reports { ReportsJudged events claims told result
+        (K.held out.old) (K.held out.new) (K.faults out.old) (K.faults out.new) }
+{
+    match told {
+        Ok(judged) => tell_judged(judged, events, claims, out),
+        Err(_) => Status::NoMemory,
+    }
+}
+
+/// How many events are kept.
+fn event_count(kept: &Kept) -> u64
+    ensures { result ≡ length kept.now.events.items }
+{
+    kept.events.len() as u64
+}
+
+/// How many claims are kept.
+fn claim_count(kept: &Kept) -> u64
+    ensures { result ≡ length kept.now.claims.items }
+{
+    kept.claims.len() as u64
+}
+
+/// Reads a log and its certificate, judges the one by the other, and writes the line of that. All lines are read before
+/// anything is judged.
+pub fn verify<S: Source, K: Sink>(alloc: Global, log: &mut S, out: &mut K) -> Status
+    ensures verifies { Verifies result (S.left log.old) (S.left log.new) (S.faults log.old) (S.faults log.new)
+        (K.held out.old) (K.held out.new) (K.faults out.old) (K.faults out.new) }
+    ensures shrinks { Shrinks (201 * 4294967298) (S.left log.old) (S.left log.new) }
+{
+    law_header_in_range();
+    let mut lines = Lines::new();
+    match header_line::<Verifying, S>(&mut lines, log) {
+        Ok(header) => {
+            let mut verifying = Verifying {
+                kept: Kept::new(alloc),
+            };
+            match read_log(alloc, &header, &mut verifying, &mut lines, log) {
+                Ok(()) => report_judged(
+                    judge_kept(alloc, &header, &verifying.kept),
+                    event_count(&verifying.kept),
+                    claim_count(&verifying.kept),
+                    out,
+                ),
+                Err(stop) => report_stop(stop, out),
+            }
+        }
+        Err(stop) => report_stop(stop, out),
+    }
+}
