@@ -5,7 +5,7 @@ Each try is what stands before the TLBI, the TLBI, and what stands behind it; ea
 from __future__ import annotations
 
 from collections.abc import Iterator
-from dataclasses import dataclass
+from dataclasses import dataclass, replace
 
 import words
 from changes import NOTHING, Change, Kind, Put, Swap, one, puts
@@ -17,11 +17,17 @@ SWITCHING = 5
 
 @dataclass(frozen=True)
 class Family:
-    """Changes of one size, the least first; the first that passes stands for all. `probe` is tried before them: where that
-    doesn't pass, less doesn't."""
+    """Changes of one size, the least first; the first that passes stands for all, or with `furthest` the one with which the
+    whole log gets furthest. `probe` is tried before them: where that doesn't pass, less doesn't."""
 
     choices: tuple[Change, ...]
     probe: Change | None = None
+    furthest: bool = False
+
+    def __add__(self, more: Change) -> Family:
+        """The family with more edits behind each change."""
+        probe = None if self.probe is None else self.probe + more
+        return replace(self, choices=tuple(change + more for change in self.choices), probe=probe)
 
 
 @dataclass(frozen=True)
@@ -84,7 +90,8 @@ def operand_for(scene: Scene, event: Event, operation: str) -> tuple[str, ...]:
         return (hex(asid << words.ASID_SHIFT),)
     if words.is_range(event.operation) and not words.is_range(operation):
         return (hex(words.Operand(operation, 0).at(words.Operand(event.operation, event.operand).address)),)
-    return (hex(event.operand or 0),)
+    operand = event.operand or 0
+    return (hex(operand if base in words.BY_ASID else operand & (1 << words.ASID_SHIFT) - 1),)
 
 
 def changes_of_tlbi(scene: Scene, line: Line) -> tuple[Change, ...]:
@@ -243,16 +250,30 @@ def sequences(scene: Scene, size: int) -> Iterator[Family]:
 def whole_sequences(scene: Scene) -> Iterator[Family]:
     """All four steps at once before the refused line: where the log has none of them."""
     behind, event = scene.refused.at - 1, scene.event
+    pes = loading(scene) if is_about_tags(scene) else [event.pe]
     for kind in scene.kinds:
         if is_about_tags(scene):
-            heads = [(f"msr {event.pe} {register} {value}", f"isb {event.pe}") for register, value in elsewhere(scene)]
-            texts, tail = tlbis_for_tags(scene, kind), ()
+            heads, tail = switched_away(scene, pes), ()
         else:
             heads, tail = places_broken(scene), (f"init {event.pe} {hex(event.page)}",) if scene.refusal.name == "limbo-make" else ()
-            texts = tlbis_for_places(scene, kind)
         for head in heads:
-            for text in texts:
-                yield Family((puts(behind, *head, f"tlbi {event.pe} {text}", f"dsb {event.pe} {words.COMPLETING}", *tail),))
+            for text in tlbis_for(scene, kind):
+                yield Family((puts(behind, *head, f"tlbi {pes[-1]} {text}", f"dsb {pes[-1]} {words.COMPLETING}", *tail),))
+
+
+def loading(scene: Scene) -> list[int]:
+    """The PEs that have the reported root in a register, or where that is the new one another root under its tag; else that
+    of the refused line."""
+    event, at = scene.event, scene.refusal.at
+    last = {(line.event.pe, line.event.rest[0]): line.event for line in scene.of_word("msr") if line is not scene.refused}
+    tag_of = lambda event: (event.rest[0], event.value >> words.ASID_SHIFT)
+    is_left = lambda old: tag_of(old) == tag_of(event) and old.base not in (0, at) if event.base == at else old.base == at
+    return [pe for (pe, _), old in last.items() if is_left(old)][-SWITCHING:] or [event.pe]
+
+
+def switched_away(scene: Scene, pes: list[int]) -> list[tuple[str, ...]]:
+    """Another root, and an ISB, at each of these PEs."""
+    return [tuple(text for pe in pes for text in (f"msr {pe} {register} {value}", f"isb {pe}")) for register, value in elsewhere(scene)]
 
 
 def places_broken(scene: Scene) -> list[tuple[str, ...]]:

@@ -2,7 +2,7 @@
 from __future__ import annotations
 
 from collections.abc import Iterable
-from dataclasses import dataclass
+from dataclasses import dataclass, replace
 from itertools import islice
 
 from changes import Change, Move, applied, changed, changed_header, position_of
@@ -57,16 +57,17 @@ class Repairer:
         return self.program.check(written(changed_header(self.scene.header_text, change), left)).accepted
 
     def repair_of(self, family: Family) -> Repair | None:
-        """The first change of a family that passes, in the whole log too where one does."""
+        """The first change of a family that passes, in the whole log too where one does; or that which gets furthest there."""
         if family.probe is not None and not self.passes(family.probe):
             return None
         passing = (change for change in family.choices if self.passes(change) and self.is_needed(change))
+        enough = ACCEPTED_ALL if family.furthest else self.scene.refused.at + 1
         repairs = []
         for change in islice(passing, CHOICES):
             repairs.append(self.in_whole(change))
-            if repairs[-1].holds_in_whole(self.scene.refused.at):
-                return repairs[-1]
-        return repairs[0] if repairs else None
+            if repairs[-1].reach >= enough:
+                break
+        return max(repairs, key=lambda repair: repair.reach, default=None)
 
     def is_needed(self, change: Change) -> bool:
         """Whether no edit of the change can be left out."""
@@ -81,7 +82,7 @@ class Repairer:
         for family in tries:
             known = [repair.change for repair in (*before, *found)]
             new = tuple(change for change in family.choices if not any(old.shares(change) for old in known))
-            repair = self.repair_of(Family(new, family.probe)) if new else None
+            repair = self.repair_of(replace(family, choices=new)) if new else None
             if repair is not None:
                 found.append(repair)
             if len(found) == RANKED:

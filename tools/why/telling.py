@@ -3,7 +3,7 @@ from __future__ import annotations
 
 import words
 from changes import Change, Edit, Head, Kind, Move, Put, Swap
-from log import Event, Line, Log, event_of
+from log import Event, Header, Line, Log, event_of, header_of
 from repair import Repair
 
 CONTIGUOUS = 1 << 52
@@ -29,16 +29,23 @@ def fault_of_operand(old: Event, new: Event, kind: Kind) -> str:
         return f"names ASID {was.asid}, and this is about ASID {is_now.asid}"
     if kind is Kind.RANGE:
         return f"has {was.pages} pages ({is_now.pages} are needed)"
+    if was.value != was.aligned():
+        return f"begins at {hex(was.address)}, inside an entry of its level hint {was.hint}"
     if old.operand >> 44 and words.shifted(old.operand) == new.operand:
         return "has the address where its page number belongs"
     return "has an operand that no TLBI has"
 
 
-def told_swap(old: Event, new: Event, kind: Kind) -> str:
+def reach_of(event: Event, shares: bool) -> str:
+    """Which PEs a TLBI that isn't broadcast reaches; none where PEs may share their TLBs."""
+    return "no PE where the header has `cnp`" if shares else f"PE {event.pe} alone"
+
+
+def told_swap(old: Event, new: Event, kind: Kind, shares: bool) -> str:
     """What is wrong with a line, and what would do in its place."""
     quoted, instead = f"`{old.plain}`", f"`{new.plain}`"
     if kind is Kind.BROADCAST:
-        return f"{quoted} reaches PE {old.pe} alone; `{new.operation}`"
+        return f"{quoted} reaches {reach_of(old, shares)}; `{new.operation}`"
     if kind is Kind.OPTION:
         return f"{quoted} {fault_of_option(old)}; `{new.rest[0]}`"
     if kind is Kind.PE:
@@ -48,7 +55,7 @@ def told_swap(old: Event, new: Event, kind: Kind) -> str:
     if kind is Kind.OPERATION and words.is_of_el2(old.operation) != words.is_of_el2(new.operation):
         return f"{quoted} is for another regime; `{' '.join(new.rest)}`"
     if kind is Kind.OPERATION:
-        reach = f" and reaches PE {old.pe} alone" if not words.is_broadcast(old.operation) else ""
+        reach = f" and reaches {reach_of(old, shares)}" if not words.is_broadcast(old.operation) else ""
         last = words.base_of(old.operation) in words.LAST_LEVEL
         return f"{quoted} takes {'the last level alone' if last else 'too little'}{reach}; `{' '.join(new.rest)}`"
     if kind is Kind.VALUE:
@@ -69,6 +76,10 @@ def fault_of_value(old: Event, new: Event) -> str:
     return "doesn't fit"
 
 
+def fault_of_header(old: Header, new: Header) -> str:
+    return "lacks `cnp`" if old.world == new.world else "isn't the world of this log"
+
+
 def between(after: int, log: Log) -> str:
     """Where an event is put in."""
     return f"between {after} and {after + 1}" if after + 1 <= log.last_event else f"behind line {after}"
@@ -78,14 +89,14 @@ class Teller:
     """Tells the changes of one log."""
 
     def __init__(self, log: Log, refused: Line):
-        self.log, self.refused = log, refused
+        self.log, self.refused, self.header = log, refused, header_of(log.header)
 
     def edit(self, edit: Edit) -> str:
         if isinstance(edit, Head):
-            return f"line 1: `{self.log.header}` isn't the world of this log, or lacks `cnp`; `{edit.text}`"
+            return f"line 1: `{self.log.header}` {fault_of_header(self.header, header_of(edit.text))}; `{edit.text}`"
         line = self.log.line(edit.at)
         if isinstance(edit, Swap):
-            return f"{line.name}: {told_swap(line.event, event_of(edit.text), edit.kind)}"
+            return f"{line.name}: {told_swap(line.event, event_of(edit.text), edit.kind, self.header.shares)}"
         if isinstance(edit, Move):
             return f"{line.name}: `{line.event.plain}` moved {self.goal(edit)}"
         return f"{line.name}: `{line.event.plain}` left out"

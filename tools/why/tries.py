@@ -127,10 +127,11 @@ def other_value(line: Line, value: int, kind: Kind = Kind.VALUE) -> Change:
 
 
 def linking(scene: Scene) -> list[Line]:
-    """The writes that link a page, those first that link the page which is reported, and the last first."""
+    """The writes that link a page, the last first; before them those that link the page which is reported, and before all
+    one of that page itself."""
     at = scene.refusal.at & ~(PAGE_BYTES - 1)
     lines = [line for line in scene.lines[::-1] if line.event.next_page is not None]
-    return sorted(lines, key=lambda line: line.event.next_page != at)[:NEAR]
+    return sorted(lines, key=lambda line: (line.event.next_page != at, line.event.page != at))[:NEAR]
 
 
 def with_link(scene: Scene, line: Line, page: int) -> Change:
@@ -158,13 +159,16 @@ def was_used(scene: Scene, page: int) -> bool:
 
 
 def not_fresh(scene: Scene, size: int) -> Iterator[Family]:
-    pe = scene.event.pe
+    """An `init`, behind a flush where the page still hangs; or another page linked."""
+    at = scene.refusal.at & ~(PAGE_BYTES - 1)
+    pages = [page for page in made_zero(scene) if was_used(scene, page)]
+    zeroed = [puts(scene.refused.at - 1, f"init {scene.event.pe} {hex(page)}") for page in pages]
     if size == 1:
-        pages = [page for page in made_zero(scene) if was_used(scene, page)]
-        yield from each(puts(scene.refused.at - 1, f"init {pe} {hex(page)}") for page in pages)
+        yield from each(zeroed)
+    elif at in pages:
+        yield from (flushed + zeroed[0] for flushed in sequences(scene, size - 1))
     if size == 2:
         yield from each(linked_elsewhere(scene))
-    yield from sequences(scene, size)
 
 
 def rewritten_fresh(scene: Scene, size: int) -> Iterator[Family]:
@@ -246,15 +250,17 @@ def bad_operand(scene: Scene, size: int) -> Iterator[Family]:
     event = scene.event
     operand = words.Operand(event.operation, event.operand)
     tried = {operand.without_hint(): Kind.HINT, words.shifted(event.operand): Kind.OPERAND}
-    if operand.asid == words.SIGN:
+    if operand.asid == words.SIGN or not operand.address:
         tried = {words.shifted(event.operand): Kind.OPERAND}
     if words.is_range(event.operation):
-        tried = {event.operand & ~(3 << 46) | words.GRANULE_4K: Kind.OPERAND,
+        aligned = operand.aligned()
+        tried = {aligned: Kind.OPERAND, aligned & ~words.RANGE_HINT: Kind.OPERAND,
+                 event.operand & ~(3 << 46) | words.GRANULE_4K: Kind.OPERAND,
                  event.operand & ~(3 << 46) & ~words.RANGE_HINT | words.GRANULE_4K: Kind.HINT, **tried}
     bare = operand.without_hint()
     tried |= {value: Kind.OPERAND for value in (bare & ~(0xFF << 36), bare & words.VA_BITS, bare & words.IPA_BITS) if value not in tried}
     choices = [(value, kind) for value, kind in (*tried.items(), *operands(scene, event)) if value != event.operand]
-    yield Family(tuple(with_words(scene.refused, (event.operation, hex(value)), kind) for value, kind in choices))
+    yield Family(tuple(with_words(scene.refused, (event.operation, hex(value)), kind) for value, kind in choices), furthest=True)
 
 
 def other_world(scene: Scene) -> str:
@@ -311,7 +317,7 @@ def families(scene: Scene, size: int) -> Iterator[Family]:
 
 def largest(scene: Scene) -> Iterator[Family]:
     """Whole sequences, which have more than three edits: tried where nothing smaller passes."""
-    if scene.refusal.name in ("break-before-make", "limbo-make", "tag-conflict"):
+    if scene.refusal.name in ("break-before-make", "limbo-make", "tag-conflict", "root-in-use"):
         yield from whole_sequences(scene)
     if scene.refusal.name == "not-fresh":
         yield from each(both_linked_elsewhere(scene))

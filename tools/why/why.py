@@ -57,7 +57,7 @@ class Pages:
     def repairs(self) -> list[str]:
         teller = Teller(self.study.log, self.study.refused)
         if not self.study.repairs:
-            return [self.head("What would do: nothing found with up to three events put in, or a line changed or moved")]
+            return [self.head("What would do: nothing of what is tried (docs/WHY.md)")]
         told = [self.head("What would do, tried and judged by bbm")]
         for count, repair in enumerate(self.study.repairs, 1):
             first, *rest = teller.repair(repair)

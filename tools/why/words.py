@@ -104,6 +104,10 @@ class Operand:
             return self.value & ~RANGE_HINT | level << 37
         return self.value & ~HINT | GRANULE_4K | level << 44
 
+    def aligned(self) -> int:
+        """The operand of a range with the address at which an entry of its hint's level begins."""
+        return self.at(self.address & -(1 << 39 - 9 * self.hint)) if is_range(self.operation) and self.hint else self.value
+
     def of_asid(self, asid: int) -> int:
         return self.value & (1 << ASID_SHIFT) - 1 | asid << ASID_SHIFT
 
