@@ -30,7 +30,7 @@ use Rattle.bbm_idle.specs.Known.{Known}
 use Rattle.bbm_idle.specs.Same.{same_phase}
 use Rattle.bbm_idle.proofs.Needed.{half_stays}
 use Rattle.bbm_idle.proofs.Phases.{SameMarks, never_clean, same_marks}
-use Rattle.bbm_idle.proofs.Since.{Untouched, Unwritten, untouched, unwrote}
+use Rattle.bbm_idle.proofs.Since.{Untouched, Unwritten, untouched, unwritten_on}
 use Rattle.bbm_idle.proofs.Waits.{changeless, of_dsb}
 use Rattle.bbm_idle.proofs.Written.{written}
 
@@ -173,8 +173,10 @@ module _ (heading : Heading) where
               → same_phase (cond c Live (broken_phase heading Patterns place p (item ∷ w.since))) (cond c Live (broken_phase heading Patterns place p w.since)) ≡ true
               → SameMarks heading k place p (item ∷ w.since) w.since
           by true c e =
-              let none = unwrote heading k place p w.since (live c) in
-              let now : Untouched heading k place p (item ∷ w.since) = untouched heading k place p (item ∷ w.since) none in
+              let none = live c in
+              let none_now = unwritten_on heading k place p item w.since
+              (λ q v is. let apart : Dsb pe dsb ≡ Write q place v = is in cc) none in
+              let now : Untouched heading k place p (item ∷ w.since) = untouched heading k place p (item ∷ w.since) none_now in
               let old : Untouched heading k place p w.since = untouched heading k place p w.since none in
               record {
                 seen_same = now.unseen ∙ sym old.unseen;

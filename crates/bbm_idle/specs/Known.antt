@@ -13,6 +13,7 @@ use Rattle.bbm_rules.specs.Locks.{holder_of}
 use Rattle.bbm_rules.specs.Notes.{Noted, event_of, events_of}
 use Rattle.bbm_rules.specs.Pages.{is_null, may_be_fresh}
 use Rattle.bbm_rules.specs.Phases.{broken_phase, phase_of}
+use Rattle.bbm_rules.specs.PatternSentences.{Cleansed, HalfBy, IsHalf, Publication, Seen}
 use Rattle.bbm_rules.specs.Places.{page_of}
 use Rattle.bbm_rules.specs.Prelude.{Barrier, Kind, Heading, Event, Write, Dsb, Dmb, Isb, Tlbi, Reg, TlbiOp}
 use Rattle.bbm_rules.specs.Reach.{Issued, unanswered}
@@ -40,6 +41,13 @@ pub record Known (heading : Heading) : Type 0 where
       → (w : ValidWrite) × (last_valid kind level place h ≡ Some w)
       × (w.value ≡ value_of (events_of h) place) × ((q v : ℕ) (n : Noted) (after before : List Noted)
       → w.since ≡ after ++ n ∷ before → n.event ≡ Write q place v → ⊥)
+  pub seen_sound : (place p : ℕ) (since : List Noted) → seen heading place p since ≡ true → Seen heading place p since
+  pub seen_complete : (place p : ℕ) (since : List Noted) → Seen heading place p since → seen heading place p since ≡ true
+  pub half_sound : (place p : ℕ) (since : List Noted) → half heading place p since ≡ true → IsHalf heading place p since
+  pub half_complete : (place p : ℕ) (since : List Noted) → IsHalf heading place p since
+      → half heading place p since ≡ true
+  pub cleansed_sound : (place p : ℕ) (since : List Noted) → cleansed heading Patterns place p since ≡ true
+      → Cleansed heading Patterns place p since
   pub node_taken : (h : List Noted) (page : ℕ) (n : Node) → node_of heading Patterns h page ≡ Some n
       → Contains (tree heading Patterns h) n × (n.page ≡ page)
   pub open_sound : (q : ℕ) (h : List Noted) (t : Issued Noted) → Contains (unanswered event_of q h) t
@@ -49,6 +57,10 @@ pub record Known (heading : Heading) : Type 0 where
   -- histories
   pub kept : (newer older : List Event) → keeps heading Patterns (newer ++ older) ≡ true
       → keeps heading Patterns older ≡ true
+  pub publication_kept : (place p : ℕ) (newer since : List Noted) (b : Noted) → Publication heading place p since b
+      → Publication heading place p (newer ++ since) b
+  pub half_kept : (place p : ℕ) (newer since : List Noted) (b : Noted) (t : Issued Noted) (d : Noted)
+      → HalfBy heading place p since b t d → HalfBy heading place p (newer ++ since) b t d
   pub waits_step : (q : ℕ) (b : Bool) (test : Issued Noted → Bool) (n : Noted) (since : List Noted)
       → waits event_of q b test (n ∷ since) ≡ waits_after event_of q b test n.event n since
   pub seen_step : (place p : ℕ) (n : Noted) (since : List Noted)

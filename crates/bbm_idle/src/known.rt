@@ -10,10 +10,11 @@ use bbm_alike::{
 };
 use bbm_histories::{
     law_frozen, law_frozen_view, law_held_changes, law_held_step, law_node_step, law_one_node,
-    law_pattern_steps, law_phase_parts, law_proper,
+    law_pattern_steps, law_patterns_stay, law_phase_parts, law_proper,
 };
 use bbm_rules::{
-    law_answered, law_changes, law_last_valid, law_notes, law_notes_keep_the_events, law_tree,
+    law_answered, law_changes, law_cleansed, law_half, law_last_valid, law_notes,
+    law_notes_keep_the_events, law_seen, law_tree,
 };
 
 /// The laws that the laws here stand on.
@@ -25,9 +26,11 @@ pub(crate) fn known()
     law_alike_step();
     law_answered();
     law_changes();
+    law_cleansed();
     law_covers_alike();
     law_frozen();
     law_frozen_view();
+    law_half();
     law_held_changes();
     law_held_step();
     law_last_valid();
@@ -36,8 +39,10 @@ pub(crate) fn known()
     law_notes_keep_the_events();
     law_one_node();
     law_pattern_steps();
+    law_patterns_stay();
     law_phase_parts();
     law_proper();
+    law_seen();
     law_same_tags();
     law_takes_alike();
     law_tree();

@@ -7,10 +7,17 @@ returns c heading ok = let proper = c.law_proper.ensures heading ok in record {
   events_noted = c.law_notes_keep_the_events.ensures heading Patterns;
   each_noted = c.law_notes.ensures.each heading Patterns;
   last_live = c.law_last_valid.ensures.live;
+  seen_sound = c.law_seen.ensures.sound heading;
+  seen_complete = c.law_seen.ensures.complete heading;
+  half_sound = c.law_half.ensures.sound heading;
+  half_complete = c.law_half.ensures.complete heading;
+  cleansed_sound = c.law_cleansed.ensures.sound heading Patterns;
   node_taken = c.law_tree.ensures.taken heading Patterns;
   open_sound = c.law_answered.ensures.noted_sound;
   open_complete = c.law_answered.ensures.complete;
   kept = c.law_frozen.ensures.kept heading Patterns;
+  publication_kept = c.law_patterns_stay.ensures.publication heading;
+  half_kept = c.law_patterns_stay.ensures.half heading;
   waits_step = c.law_pattern_steps.ensures.waits;
   seen_step = c.law_pattern_steps.ensures.seen heading;
   half_step = c.law_pattern_steps.ensures.half heading;
