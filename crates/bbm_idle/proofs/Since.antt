@@ -1,5 +1,5 @@
--- What is known of the events since the last valid write of a place: what is half or cleansed was seen, what is half stays
--- so, and where nothing was written there is nothing of these.
+-- What is known of the events since the last valid write of a place: what is half or cleansed was seen, what is half
+-- stays so, and where nothing was written there is nothing of these.
 use Rattle.std.proofs.Common.{◌≡◌, ℕ, Bool, true, false, ◌&&◌, List, [], ◌∷◌, ◌++◌, sym, ◌∙◌, ap, subst, inl, inr, append_assoc, true≢false}
 use Rattle.std.proofs.lemmas.Bool.{and_from, and_parts, false_from_ne_true, or_cases, or_left, or_right}
 use Rattle.bbm_barriers.specs.Options.{answers}

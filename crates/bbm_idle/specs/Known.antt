@@ -41,9 +41,12 @@ pub record Known (heading : Heading) : Type 0 where
       → (w : ValidWrite) × (last_valid kind level place h ≡ Some w)
       × (w.value ≡ value_of (events_of h) place) × ((q v : ℕ) (n : Noted) (after before : List Noted)
       → w.since ≡ after ++ n ∷ before → n.event ≡ Write q place v → ⊥)
-  pub seen_sound : (place p : ℕ) (since : List Noted) → seen heading place p since ≡ true → Seen heading place p since
-  pub seen_complete : (place p : ℕ) (since : List Noted) → Seen heading place p since → seen heading place p since ≡ true
-  pub half_sound : (place p : ℕ) (since : List Noted) → half heading place p since ≡ true → IsHalf heading place p since
+  pub seen_sound : (place p : ℕ) (since : List Noted) → seen heading place p since ≡ true
+      → Seen heading place p since
+  pub seen_complete : (place p : ℕ) (since : List Noted) → Seen heading place p since
+      → seen heading place p since ≡ true
+  pub half_sound : (place p : ℕ) (since : List Noted) → half heading place p since ≡ true
+      → IsHalf heading place p since
   pub half_complete : (place p : ℕ) (since : List Noted) → IsHalf heading place p since
       → half heading place p since ≡ true
   pub cleansed_sound : (place p : ℕ) (since : List Noted) → cleansed heading Patterns place p since ≡ true

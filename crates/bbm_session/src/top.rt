@@ -50,8 +50,8 @@ fn say_usage<K: Sink>(out: &mut K) -> Status
     settled(tell(usage(), out), Status::Usage)
 }
 
-/// Judges a log: for `slow` by the oracle, which searches the whole history, and else by the checker that keeps none, with
-/// a list of the events beside it where more of them is shown.
+/// Judges a log: for `slow` by the oracle, which searches the whole history, and else by the checker that keeps none,
+/// with a list of the events beside it where more of them is shown.
 fn judge<S: Source, K: Sink>(alloc: Global, command: &Command, log: &mut S, out: &mut K) -> Status
     ensures obeys { Obeys command.now result (S.left log.old) (S.left log.new) (S.faults log.old) (S.faults log.new)
         (K.held out.old) (K.held out.new) (K.faults out.old) (K.faults out.new) }
