@@ -1,5 +1,9 @@
+pub mod Answers
+pub mod Goals
 pub mod LeastList
+pub mod Numbers
 pub mod Plans
 pub mod Refused
+pub mod Searching
 pub mod Tested
 pub mod Ways

@@ -5,8 +5,8 @@
 -- Source: project's own choice.
 use Rattle.std.specs.Prelude.{ℕ, ◌-◌, Bool, true, false, ◌&&◌, not, nat_le, nat_lt, List, [], ◌∷◌, length, drop, Option}
 use Rattle.std.specs.Prelude.{Some, None}
-use Rattle.bbm_rules.specs.Lists.{any, some}
-use Rattle.bbm_rules.specs.Prelude.{Heading, Event, Dsb}
+use Rattle.bbm_rules.specs.Lists.{◌>>=◌, any, if_so, some}
+use Rattle.bbm_rules.specs.Prelude.{Kind, Heading, Event, Dsb}
 use Rattle.bbm_rules.specs.Reach.{completes, unanswered}
 use Rattle.bbm_rules.specs.Tags.{itself}
 use Rattle.bbm_tlb_machine.specs.Entry.{Entry}
@@ -50,9 +50,19 @@ module _ (heading : Heading) where
   may_extend_by h x (r ∷ rs) =
       may_extend heading h x r.place r.value && may_extend_by h (extended x r.place r.value) rs
 
+  -- the entry that a start makes when these events were taken
+  abbrev pub first_by : List Event → ℕ → Kind → ℕ → Read → Entry
+  first_by h p kind number r = started heading (length h) p kind number r.place r.value
+
   -- whether the walk can be made when these events were taken
   abbrev pub may_walk : List Event → Plan → Bool
   may_walk h plan = may_start heading h (started_by plan) plan.number && may_extend_by h (started_by plan) plan.rest
+
+  -- the entry that a walk over these reads leaves when these events were taken, None where it can't be made
+  abbrev pub walk_by : List Event → ℕ → Kind → ℕ → List Read → Option Entry
+  walk_by h p kind number [] = None
+  walk_by h p kind number (r ∷ rs) = if_so (may_start heading h (first_by h p kind number r) number) (first_by h p kind number r)
+      >>= (λ x. if_so (may_extend_by h x rs) (extended_by x rs))
 
   -- whether the event, after h, is a DSB that answers a TLBI which must have taken the entry
   abbrev pub forbids : Entry → Event → List Event → Bool

@@ -15,7 +15,7 @@ use bbm_regimes::{NoMemory, Place};
 use std::alloc::Global;
 
 /// The history of these events, the oldest first.
-fn history_of(
+pub fn history_of(
     alloc: Global,
     header: &Header,
     events: &[Event],

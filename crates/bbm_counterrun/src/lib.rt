@@ -1,10 +1,23 @@
 //! Runs of the machine of TLBs that end in a conflict at a write which the rule of break-before-make refuses.
 #![tactic(auto)]
 
+mod answers;
+mod combining;
+mod finding;
+mod first_run;
 mod laws;
 mod leaf;
 mod least_list;
+mod numbers;
+mod read;
+mod reads;
+mod runs;
+mod search;
+mod trying;
+mod walk;
+mod way;
 
+pub use first_run::find;
 pub use laws::{law_conflict_at_the_end, law_plain_is_tested};
 pub use leaf::holds_leaf;
 pub use least_list::law_least_reads;

@@ -1,0 +1,262 @@
+-- Claims of places that are added spot by spot, place by place.
+use Rattle.std.proofs.Common.{◌≡◌, ◌⊎◌, ℕ, suc, ◌+◌, ◌<◌, ◌≤◌, Bool, true, false, List, [], ◌∷◌, ◌++◌, length, take, drop, get_or, reverse, Option, Some, None, refl, sym, ◌∙◌, ap, subst, inl, inr, true≢false, arith, length-append}
+use Rattle.std.proofs.lemmas.Bool.{cases_eq}
+use Rattle.std.proofs.lemmas.List.{length-drop, take_all, take_more}
+use Rattle.bbm_events.specs.declared.claim.Claim.{Claim}
+use Rattle.bbm_events.specs.declared.claim.Claim.TheVariants.{Place, Two, Taken}
+use Rattle.bbm_regimes.specs.PeMask.{pe_in}
+use Rattle.bbm_regimes.specs.declared.pe.PeMask.{PeMask}
+use Rattle.bbm_rules.specs.Claims.{Trust}
+use Rattle.bbm_rules.specs.Claims.Trust.{Patterns}
+use Rattle.bbm_rules.specs.Cleansing.{cleansed}
+use Rattle.bbm_rules.specs.Held.{ValidWrite, last_valid}
+use Rattle.bbm_rules.specs.Notes.{Noted}
+use Rattle.bbm_rules.specs.PatternSentences.{Cleansed}
+use Rattle.bbm_rules.specs.Places.{page_of}
+use Rattle.bbm_rules.specs.Prelude.{Heading, Event}
+use Rattle.bbm_rules.specs.Tree.{Node, node_of}
+use Rattle.bbm_oracle_patterns.specs.Kept.{notes_behind, notes_of, write_in}
+use Rattle.bbm_oracle_patterns.specs.declared.kept.Kept.{Kept}
+use Rattle.bbm_oracle_patterns.specs.declared.search.ValidWrite.{ValidWrite as Found}
+use Rattle.bbm_lists.proofs.Elements.{in_append, in_left, in_right}
+use Rattle.bbm_lists.specs.Elements.{In}
+use Rattle.bbm_certify.specs.DueAt.{IsDueAt, IsDueHere, IsDueIn, IsDueSince, IsNewest, IsUncleansed, Told}
+use Rattle.bbm_certify.specs.Least.{claim_key}
+use Rattle.bbm_certify.specs.Making.{IsInside, IsLeastClaim, IsPattern, claim_of}
+use Rattle.bbm_certify.specs.Orders.{Adds}
+use Rattle.bbm_certify.specs.declared.patterns.Pattern.{Pattern}
+use Rattle.bbm_certify.specs.declared.patterns.Pattern.TheVariants.{One, Two as Both}
+use Rattle.bbm_certify.proofs.Adding.{adds_more, adds_none, adds_same}
+use Rattle.bbm_certify.proofs.Leasts.{claim_found, claim_none}
+
+-- the key of such a claim
+key_of_place : (heading : Heading) (place p : ℕ) (since : List Noted) (c : Claim) → IsLeastClaim heading place p since c
+    → claim_key c ≡ 0 ∷ place ∷ 0 ∷ p ∷ []
+key_of_place heading place p since (Place r a b t d) k =
+    ap (λ (n : ℕ). 0 ∷ n ∷ 0 ∷ r ∷ []) k.1 ∙ ap (λ (n : ℕ). 0 ∷ place ∷ 0 ∷ n ∷ []) k.0
+key_of_place heading place p since (Two r a b t1 d1 t2 d2) k =
+    ap (λ (n : ℕ). 0 ∷ n ∷ 0 ∷ r ∷ []) k.1 ∙ ap (λ (n : ℕ). 0 ∷ place ∷ 0 ∷ n ∷ []) k.0
+key_of_place heading place p since (Taken r tag t d) k = absurd k
+
+-- such a claim is one of a place that is cleansed
+cleansed_by : (heading : Heading) (place p : ℕ) (since : List Noted) (c : Claim) → IsLeastClaim heading place p since c
+    → Cleansed heading Patterns place p since
+cleansed_by heading place p since (Place r a b t d) k = inl k.2.holds.0
+cleansed_by heading place p since (Two r a b t1 d1 t2 d2) k = inr k.3.holds.0
+cleansed_by heading place p since (Taken r tag t d) k = absurd k
+
+-- a pattern that was found is one of the log
+pub inside_of : (heading : Heading) (place p : ℕ) (e : Event) (log : List Kept) (x : Pattern)
+    → IsPattern heading place p e log (Some x) → IsInside (length log) x
+inside_of heading place p e log x (inl k) = absurd (some_none x k.1)
+  where
+    is_found : Option Pattern → Bool
+    is_found None = false
+    is_found (Some y) = true
+
+    some_none : (y : Pattern) → Some y ≡ None → ⊥
+    some_none y e = true≢false (ap is_found e)
+inside_of heading place p e log (One c t) (inr k) = (omega (arith, k.2.0, k.1.1), k.2.1.1)
+inside_of heading place p e log (Both c h) (inr k) =
+    let x = k.2.2.1 in (
+      omega (arith, k.2.0, k.1.1),
+      omega (
+        arith,
+        x.at,
+        x.begins.waits,
+        x.begins.gaps,
+        ap length x.split,
+        length-append x.before (x.tlbi ∷ x.later),
+        ap length x.begins.split,
+        length-append x.begins.mid (x.begins.d ∷ (x.begins.between ++ x.begins.t ∷ x.begins.after)),
+        length-append x.begins.between (x.begins.t ∷ x.begins.after),
+      ),
+    )
+
+module _ (heading : Heading) (place p from : ℕ) (log : List Kept) (newest : Noted)
+    (sound : (since : List Noted) → cleansed heading Patterns place p since ≡ true → Cleansed heading Patterns place p since)
+    (complete : (since : List Noted) → Cleansed heading Patterns place p since
+    → cleansed heading Patterns place p since ≡ true) where
+  abbrev since : List Noted
+  since = notes_behind from (reverse log)
+
+  -- a place that was cleansed before
+  pub spot_cleansed : (pes : PeMask) (due : List Claim) → pe_in pes p ≡ true → Told heading pes place p since
+      → Adds (IsDueHere heading place newest since p) due due
+  spot_cleansed pes due has told =
+      adds_none (IsDueHere heading place newest since p) due (λ c k. true≢false (sym has ∙ (told ∙ k.0)))
+
+  -- one that wasn't, and is by a pattern
+  pub spot_found : (pes : PeMask) (e : Event) (x : Pattern) (old new : List Claim) → pe_in pes p ≡ false
+      → Told heading pes place p since → IsNewest newest e (from + length log) → IsPattern heading place p e log (Some x)
+      → Adds (λ c. c ≡ claim_of p place from (length log) x) old new
+      → Adds (IsDueHere heading place newest since p) old new
+  spot_found pes e x old new hasnt told k pattern adds = record {
+    sorted = adds.sorted;
+    from = λ c i. elim (adds.from c i) [ inl o ↦ inl o | inr same ↦ inr (here c same) ];
+    kept = adds.kept;
+    has = λ c d. let h = adds.has the_claim refl in (
+      h.0,
+      h.1,
+      h.2 ∙ (key_of_place heading place p (newest ∷ since) the_claim least
+          ∙ sym (key_of_place heading place p (newest ∷ since) c d.1)),
+    );
+  }
+    where
+      unclean : cleansed heading Patterns place p since ≡ false
+      unclean = sym told ∙ hasnt
+
+      the_claim : Claim
+      the_claim = claim_of p place from (length log) x
+
+      least : IsLeastClaim heading place p (newest ∷ since) (claim_of p place from (length log) x)
+      least =
+          claim_found heading place p from log newest k.0 k.1 k.3 sound complete unclean k.4 x
+          (subst (λ (y : Event). IsPattern heading place p y log (Some x)) k.2 pattern)
+
+      here : (c : Claim) → c ≡ claim_of p place from (length log) x → IsDueHere heading place newest since p c
+      here c same = (unclean, subst (λ (y : Claim). IsLeastClaim heading place p (newest ∷ since) y) (sym same) least)
+
+  -- one that isn't
+  pub spot_none : (pes : PeMask) (e : Event) (due : List Claim) → pe_in pes p ≡ false → Told heading pes place p since
+      → IsNewest newest e (from + length log) → IsPattern heading place p e log None
+      → Adds (IsDueHere heading place newest since p) due due
+  spot_none pes e due hasnt told k pattern =
+      adds_none (IsDueHere heading place newest since p) due (λ c d.
+      true≢false (sym (complete (newest ∷ since) (cleansed_by heading place p (newest ∷ since) c d.1))
+      ∙ claim_none heading place p from log newest k.0 k.1 k.3 sound complete (sym told ∙ hasnt)
+      (subst (λ (y : Event). IsPattern heading place p y log None) k.2 pattern)))
+
+-- ---- every PE
+
+module _ (heading : Heading) (place : ℕ) (newest : Noted) (since : List Noted) where
+  pub since_none : (due : List Claim) → Adds (IsDueSince heading place newest since 0) due due
+  since_none due = adds_none (IsDueSince heading place newest since 0) due (λ c k. absurd (omega (arith, k.1)))
+
+  pub since_more : (n p : ℕ) (xs ys zs : List Claim) → p ≡ n → Adds (IsDueSince heading place newest since n) xs ys
+      → Adds (IsDueHere heading place newest since p) ys zs → Adds (IsDueSince heading place newest since (n + 1)) xs zs
+  since_more n p xs ys zs at a b =
+      adds_more (IsDueSince heading place newest since n) (IsDueHere heading place newest since p)
+      (IsDueSince heading place newest since (n + 1)) xs ys zs a b
+      (λ c k. (k.0, omega (arith, k.1), k.2, k.3)) (λ c k. (p, omega (arith, at), k.0, k.1)) parts
+    where
+      parts : (c : Claim) → IsDueSince heading place newest since (n + 1) c
+          → IsDueSince heading place newest since n c ⊎ IsDueHere heading place newest since p c
+      parts c k =
+          elim (cases_eq k.0 p) [
+            | inl same ↦ inr (
+              subst (λ (r : ℕ). IsUncleansed heading place r since) same k.2,
+              subst (λ (r : ℕ). IsLeastClaim heading place r (newest ∷ since) c) same k.3,
+            )
+            | inr other ↦ inl (k.0, omega (arith, k.1, other, at), k.2, k.3)
+          ]
+
+-- ---- the place as one of a page
+
+-- the events behind an index
+pub newest_part : (newest : Noted) (e : Event) (log part : List Kept) (i : ℕ) → i < length log → part ≡ drop (i + 1) log
+    → IsNewest newest e (length log) → IsNewest newest e (i + 1 + length part)
+newest_part newest e log part i below at k =
+    let count : length log ≡ i + 1 + length part = omega (arith, below, ap length at, length-drop (i + 1) log) in
+    (k.0, k.1, k.2, k.3, k.4 ∙ ap suc count)
+
+module _ (heading : Heading) (n : Node) (place : ℕ) (newest : Noted) (log : List Kept) where
+  same_write : (w v : ValidWrite) → Some w ≡ Some v → w ≡ v
+  same_write w v e = cc
+
+  pub in_found : (f : Found) (part : List Kept) (old new : List Claim)
+      → last_valid n.kind n.level place (notes_of (reverse log)) ≡ write_in log (Some f)
+      → part ≡ drop (f.index + 1) log
+      → Adds (IsDueSince heading place newest (notes_behind (f.index + 1) (reverse part)) heading.pes) old new
+      → Adds (IsDueIn heading n place newest (notes_of (reverse log))) old new
+  in_found f part old new is at adds =
+      adds_same (IsDueSince heading place newest (notes_behind (f.index + 1) (reverse part)) heading.pes)
+      (IsDueIn heading n place newest (notes_of (reverse log))) old new adds
+      (λ c k. (
+        the_write,
+        is,
+        subst (λ (ks : List Kept). IsDueSince heading place newest (notes_behind (f.index + 1) (reverse ks))
+            heading.pes c) at k,
+      ))
+      (λ c k. back c k.0 k.1 k.2)
+    where
+      the_write : ValidWrite
+      the_write = record { value = f.value; since = notes_behind (f.index + 1) (reverse (drop (f.index + 1) log)) }
+
+      back : (c : Claim) (w : ValidWrite) → last_valid n.kind n.level place (notes_of (reverse log)) ≡ Some w
+          → IsDueSince heading place newest w.since heading.pes c
+          → IsDueSince heading place newest (notes_behind (f.index + 1) (reverse part)) heading.pes c
+      back c w other k =
+          let same : w ≡ the_write = same_write w the_write (sym other ∙ is) in
+          subst (λ (ks : List Kept). IsDueSince heading place newest (notes_behind (f.index + 1) (reverse ks)) heading.pes c) (sym at)
+          (subst (λ (x : ValidWrite). IsDueSince heading place newest x.since heading.pes c) same k)
+
+  pub in_none : (due : List Claim) → last_valid n.kind n.level place (notes_of (reverse log)) ≡ None
+      → Adds (IsDueIn heading n place newest (notes_of (reverse log))) due due
+  in_none due none =
+      adds_none (IsDueIn heading n place newest (notes_of (reverse log))) due (λ c k. none_some k.0 (sym none ∙ k.1))
+    where
+      is_there : Option ValidWrite → Bool
+      is_there None = false
+      is_there (Some v) = true
+
+      none_some : (w : ValidWrite) → None ≡ Some w → ⊥
+      none_some w e = true≢false (sym (ap is_there e))
+
+-- ---- the place as one of a tree
+
+module _ (heading : Heading) (trust : Trust) (after : List Noted) (newest : Noted) (h : List Noted) (place : ℕ) where
+  same_node : (n m : Node) → Some n ≡ Some m → n ≡ m
+  same_node n m e = cc
+
+  pub at_found : (n : Node) (old new : List Claim) → node_of heading trust after (page_of place) ≡ Some n
+      → Adds (IsDueIn heading n place newest h) old new → Adds (IsDueAt heading trust after newest h place) old new
+  at_found n old new is adds =
+      adds_same (IsDueIn heading n place newest h) (IsDueAt heading trust after newest h place) old new adds
+      (λ c k. (n, is, k))
+      (λ c k. subst (λ (m : Node). IsDueIn heading m place newest h c) (same_node k.0 n (sym k.1 ∙ is)) k.2)
+
+  pub at_none : (due : List Claim) → node_of heading trust after (page_of place) ≡ None
+      → Adds (IsDueAt heading trust after newest h place) due due
+  at_none due none = adds_none (IsDueAt heading trust after newest h place) due (λ c k. none_some k.0 (sym none ∙ k.1))
+    where
+      is_there : Option Node → Bool
+      is_there None = false
+      is_there (Some v) = true
+
+      none_some : (n : Node) → None ≡ Some n → ⊥
+      none_some n e = true≢false (sym (ap is_there e))
+
+-- what is due for the items of a list, item by item
+abbrev pub Each : {A : Type 0} → (A → Claim → Type 0) → List A → Claim → Type 0
+Each {A} Due xs c = (a : A) × In xs a × Due a c
+
+pub each_none : {A : Type 0} (Due : A → Claim → Type 0) (cs : List Claim) → Adds (Each Due []) cs cs
+each_none Due cs = adds_none (Each Due []) cs (λ c k. absurd k.1)
+
+module _ {A : Type 0} (Due : A → Claim → Type 0) (xs : List A) (i : ℕ) (x : A) (below : i < length xs) (is : x ≡ get_or xs i x) where
+  whole : take (i + 1) xs ≡ take i xs ++ x ∷ []
+  whole = take_more xs i x below ∙ ap (λ (y : A). take i xs ++ y ∷ []) (sym is)
+
+  pub each_more : (as' bs cs : List Claim) → Adds (Each Due (take i xs)) as' bs → Adds (Due x) bs cs
+      → Adds (Each Due (take (i + 1) xs)) as' cs
+  each_more as' bs cs a b = adds_more (Each Due (take i xs)) (Due x) (Each Due (take (i + 1) xs)) as' bs cs a b left right parts
+    where
+      left : (c : Claim) → Each Due (take i xs) c → Each Due (take (i + 1) xs) c
+      left c k = (k.0, subst (λ (ys : List A). In ys k.0) (sym whole) (in_left (take i xs) (x ∷ []) k.0 k.1), k.2)
+
+      right : (c : Claim) → Due x c → Each Due (take (i + 1) xs) c
+      right c k = (x, subst (λ (ys : List A). In ys x) (sym whole) (in_right (take i xs) (x ∷ []) x (inl refl)), k)
+
+      by : (c : Claim) (y : A) → Due y c → In (take i xs) y ⊎ In (x ∷ []) y → Each Due (take i xs) c ⊎ Due x c
+      by c y k (inl old) = inl (y, old, k)
+      by c y k (inr (inl same)) = inr (subst (λ (z : A). Due z c) (sym same) k)
+      by c y k (inr (inr none)) = absurd none
+
+      parts : (c : Claim) → Each Due (take (i + 1) xs) c → Each Due (take i xs) c ⊎ Due x c
+      parts c k = by c k.0 k.2 (in_append (take i xs) (x ∷ []) k.0 (subst (λ (ys : List A). In ys k.0) whole k.1))
+
+-- all of them
+pub each_all : {A : Type 0} (Due : A → Claim → Type 0) (xs : List A) (i : ℕ) (as' bs : List Claim) → length xs ≤ i
+    → Adds (Each Due (take i xs)) as' bs → Adds (Each Due xs) as' bs
+each_all {A} Due xs i as' bs end a = subst (λ (ys : List A). Adds (Each Due ys) as' bs) (take_all i xs end) a

@@ -1,0 +1,171 @@
+-- A certificate that is made event by event.
+use Rattle.std.proofs.Common.{◌≡◌, ℕ, suc, ◌+◌, ◌-◌, ◌<◌, ◌≤◌, Bool, true, ◌||◌, List, [], ◌∷◌, ◌++◌, length, take, drop, get_or, reverse, is_none, refl, sym, ◌∙◌, ap, subst, arith, inl, inr, length-append}
+use Rattle.std.proofs.lemmas.Bool.{and_parts}
+use Rattle.std.proofs.lemmas.List.{length-reverse, length-take-le, reverse-append, reverse-reverse, take-append-drop, take_at, take_more}
+use Rattle.std.specs.List.{list_all}
+use Rattle.bbm_events.specs.declared.claim.Claim.{Claim}
+use Rattle.bbm_rules.specs.Broken.{broken, keeps}
+use Rattle.bbm_rules.specs.Claims.{Trust}
+use Rattle.bbm_rules.specs.Claims.Trust.{Patterns}
+use Rattle.bbm_rules.specs.Covers.{note, noted}
+use Rattle.bbm_rules.specs.Lists.{among}
+use Rattle.bbm_rules.specs.Notes.{Noted, events_of}
+use Rattle.bbm_rules.specs.Prelude.{Barrier, Heading, Event, Dsb}
+use Rattle.bbm_oracle_patterns.specs.Kept.{note_of, notes_of}
+use Rattle.bbm_oracle_patterns.specs.declared.kept.Kept.{Kept}
+use Rattle.bbm_oracle_trees.specs.Past.{Past, notes}
+use Rattle.bbm_lists.proofs.Elements.{in_split}
+use Rattle.bbm_lists.specs.Elements.{In}
+use Rattle.bbm_certify.specs.DueAt.{AreDue as ArePlaces, IsNewest, writes_at}
+use Rattle.bbm_certify.specs.Known.{Known}
+use Rattle.bbm_certify.specs.Least.{IsCertificate}
+use Rattle.bbm_certify.specs.Made.{AreDue, HasTaken, IsMaking, Stands}
+use Rattle.bbm_certify.specs.Orders.{Adds}
+use Rattle.bbm_certify.specs.Taken.{AreTaken, IsKnown, ReadsAreWritten}
+use Rattle.bbm_certify.specs.declared.making.Making.{Making}
+use Rattle.bbm_certify.proofs.Knowing.{held_now, reads_written}
+use Rattle.bbm_certify.proofs.Whole.{due_at_dsb, written_next}
+
+-- ---- lists
+
+-- a list without its last item, from its end
+pub without_last : {A : Type 0} (xs : List A) (x : A) (rest : List A) → reverse xs ≡ x ∷ rest
+    → reverse (take (length xs - 1) xs) ≡ rest
+without_last {A} xs x rest split =
+    let whole : xs ≡ reverse rest ++ x ∷ []
+    = sym (reverse-reverse xs) ∙ (ap (λ (ys : List A). reverse ys) split ∙ reverse-append (x ∷ []) rest) in
+    let count : length (reverse rest) ≡ length xs - 1
+    = omega (arith, ap length whole, length-append (reverse rest) (x ∷ [])) in
+    ap (λ (ys : List A). reverse (take (length xs - 1) ys)) whole
+    ∙ (ap (λ (ys : List A). reverse ys) (take_at (reverse rest) (x ∷ []) (length xs - 1) count) ∙ reverse-reverse rest)
+
+-- one more item, from the end
+pub reverse_more : {A : Type 0} (xs : List A) (i : ℕ) (x : A) → i < length xs → x ≡ get_or xs i x
+    → x ∷ reverse (take i xs) ≡ reverse (take (i + 1) xs)
+reverse_more {A} xs i x below is =
+    ap (λ (y : A). y ∷ reverse (take i xs)) is
+    ∙ sym (ap (λ (ys : List A). reverse ys) (take_more xs i x below) ∙ reverse-append (take i xs) (get_or xs i x ∷ []))
+
+pub length_notes : (ks : List Kept) → length (notes_of ks) ≡ length ks
+length_notes [] = refl
+length_notes (k ∷ ks) = ap suc (length_notes ks)
+
+pub length_events : (ks : List Kept) → length (events_of (notes_of ks)) ≡ length ks
+length_events [] = refl
+length_events (k ∷ ks) = ap suc (length_events ks)
+
+-- ---- what is kept
+
+keeps_older : (heading : Heading) (newer h : List Event) → keeps heading Patterns (newer ++ h) ≡ true → keeps heading Patterns h ≡ true
+keeps_older heading [] h kept = kept
+keeps_older heading (e ∷ newer) h kept =
+    keeps_older heading newer h
+    (and_parts (keeps heading Patterns (newer ++ h)) (is_none (broken heading Patterns (newer ++ h) e)) kept).0
+
+pub keeps_first : (heading : Heading) (log : List Event) (i : ℕ) → keeps heading Patterns (reverse log) ≡ true
+    → keeps heading Patterns (reverse (take i log)) ≡ true
+keeps_first heading log i kept =
+    keeps_older heading (reverse (drop i log)) (reverse (take i log))
+    (ap (λ (h : List Event). keeps heading Patterns h)
+    (sym (ap (λ (xs : List Event). reverse xs) (sym (take-append-drop i log)) ∙ reverse-append (take i log) (drop i log))) ∙ kept)
+
+-- how many events a history has
+pub count_is : (past : Past) (heading : Heading) (h : List Event) → Stands past heading h → length past.kept ≡ length h
+count_is past heading h s = sym (length_events past.kept) ∙ ap length s.kept.events_are
+
+-- ---- one event
+
+module _ (heading : Heading) (known : Known heading) (m : Making) (h : List Event) where
+  module _ (q : ℕ) (dsb : Barrier) (taken : HasTaken m heading h (Dsb q dsb)) (log : List Kept)
+      (log_is : reverse log ≡ m.history.kept) where
+    abbrev before : List Noted
+    before = noted heading Patterns h
+
+    abbrev newest : Noted
+    newest = note heading Patterns before (Dsb q dsb)
+
+    notes_are : notes_of (reverse log) ≡ newest ∷ before
+    notes_are =
+        ap (λ (ks : List Kept). notes_of ks) log_is
+        ∙ (taken.history.kept.notes_are ∙ ap (λ (t : Trust). noted heading t (Dsb q dsb ∷ h)) taken.history.trust_is)
+
+    tail_is : (x y : Noted) (xs ys : List Noted) → x ∷ xs ≡ y ∷ ys → xs ≡ ys
+    tail_is x y xs ys e = cc
+
+    before_by : (ks : List Kept) → reverse log ≡ ks → notes_of ks ≡ newest ∷ before
+        → notes_of (reverse (take (length log - 1) log)) ≡ before
+    before_by [] is e = absurd (omega (arith, ap length e))
+    before_by (k ∷ older) is e =
+        ap (λ (ks : List Kept). notes_of ks) (without_last log k older is)
+        ∙ tail_is (note_of (length older) k) newest (notes_of older) before e
+
+    pub before_is : notes_of (reverse (take (length log - 1) log)) ≡ before
+    before_is = before_by (reverse log) refl notes_are
+
+    pub newest_is : IsNewest newest (Dsb q dsb) (length (take (length log - 1) log))
+    newest_is =
+        let count : length (take (length log - 1) log) ≡ length before
+        = sym (length-reverse (take (length log - 1) log))
+        ∙ (sym (length_notes (reverse (take (length log - 1) log))) ∙ ap length before_is) in
+        (q, dsb, refl, refl, ap suc (sym count))
+
+    pub due_here : (none xs ys : List Claim) → none ≡ []
+        → Adds (ArePlaces m.history.heading m.history.trust (notes m.history) newest (notes_of (reverse (take (length log - 1) log)))
+        m.places.items) none xs
+        → Adds (AreTaken heading h (Dsb q dsb) m.known.items) xs ys → AreDue heading h (Dsb q dsb) ys
+    due_here none xs ys empty a b =
+        due_at_dsb heading known h q dsb taken.keeps_rules m.places.items taken.places m.known.items taken.known xs ys
+        (subst (λ (ns : List Noted). Adds (ArePlaces heading Patterns (noted heading Patterns (Dsb q dsb ∷ h)) newest ns m.places.items)
+        [] xs) before_is
+        (subst (λ (ns : List Noted). Adds (ArePlaces heading Patterns ns newest
+        (notes_of (reverse (take (length log - 1) log))) m.places.items) [] xs)
+        (taken.history.kept.notes_are ∙ ap (λ (t : Trust). noted heading t (Dsb q dsb ∷ h)) taken.history.trust_is)
+        (subst (λ (t : Trust). Adds (ArePlaces heading t (notes m.history) newest
+        (notes_of (reverse (take (length log - 1) log))) m.places.items) [] xs) taken.history.trust_is
+        (subst (λ (g : Heading). Adds (ArePlaces g m.history.trust (notes m.history) newest
+        (notes_of (reverse (take (length log - 1) log))) m.places.items) [] xs) taken.history.kept.heading_is
+        (subst (λ (cs : List Claim). Adds (ArePlaces m.history.heading m.history.trust (notes m.history) newest
+        (notes_of (reverse (take (length log - 1) log))) m.places.items) cs xs) empty a))))) b
+
+  -- what is kept for the next event
+  pub making_next : (e : Event) (new : Making) → IsMaking m heading h → keeps heading Patterns (e ∷ h) ≡ true
+      → Stands new.history heading (e ∷ h)
+      → ((a : ℕ) → among a new.places.items ≡ (writes_at a e || among a m.places.items))
+      → (ReadsAreWritten heading h e → IsKnown heading h m.known.items → IsKnown heading (e ∷ h) new.known.items)
+      → IsMaking new heading (e ∷ h)
+  making_next e new was kept stands places readable = record {
+    history = stands;
+    places = written_next heading h e m.places.items new.places.items was.places places;
+    known = readable (reads_written heading h e (known.becomes h e kept) (held_now heading h (known.held_complete h))) was.known;
+  }
+
+-- ---- the certificate
+
+pub certificate_next : (heading : Heading) (h h' : List Event) (e : Event) (before due after : List Claim) → e ∷ h ≡ h'
+    → IsCertificate heading h before → AreDue heading h e due → after ≡ before ++ due → IsCertificate heading h' after
+certificate_next heading h h' e before due after is cert d whole =
+    subst (λ (x : List Event). IsCertificate heading x after) is
+    (before, due, whole, cert, d.sorted, d.sound, d.complete)
+
+-- ---- each event of a log
+
+all_in : {A : Type 0} (test : A → Bool) (xs : List A) (x : A) → list_all test xs ≡ true → In xs x → test x ≡ true
+all_in test [] x e i = absurd i
+all_in {A} test (y ∷ ys) x e (inl same) = ap test (sym same) ∙ (and_parts (test y) (list_all test ys) e).0
+all_in test (y ∷ ys) x e (inr i) = all_in test ys x (and_parts (test y) (list_all test ys) e).1 i
+
+pub passes_at : {A : Type 0} (test : A → Bool) (xs : List A) (i : ℕ) (x : A) → list_all test (reverse xs) ≡ true
+    → i < length xs → x ≡ get_or xs i x → test x ≡ true
+passes_at {A} test xs i x all below is =
+    let split : reverse xs ≡ reverse (drop (i + 1) xs) ++ x ∷ reverse (take i xs)
+    = ap (λ (ys : List A). reverse ys) (sym (take-append-drop (i + 1) xs))
+    ∙ (reverse-append (take (i + 1) xs) (drop (i + 1) xs)
+    ∙ ap (λ (ys : List A). reverse (drop (i + 1) xs) ++ ys) (sym (reverse_more xs i x below is))) in
+    all_in test (reverse xs) x all
+    (subst (λ (ys : List A). In ys x) (sym split) (in_split (reverse (drop (i + 1) xs)) (reverse (take i xs)) x))
+
+-- how many events a history of the first of a log has
+pub first_count : (past : Past) (heading : Heading) (log : List Event) (i : ℕ) → i ≤ length log
+    → Stands past heading (reverse (take i log)) → length past.kept ≡ i
+first_count past heading log i within s =
+    count_is past heading (reverse (take i log)) s ∙ (length-reverse (take i log) ∙ length-take-le i log within)

@@ -1,0 +1,218 @@
+-- Publications and answers, by the events of a log that is kept. Everywhere `from` events came before the log.
+use Rattle.std.proofs.Common.{◌≡◌, ℕ, suc, ◌+◌, true, false, not, ◌&&◌, ◌==◌, List, ◌∷◌, ◌++◌, length, reverse, refl, sym, ◌∙◌, ap, subst, true≢false}
+use Rattle.std.proofs.lemmas.Bool.{and_from, and_parts, eq-eqb, eqb-true, not-true, not_from_false}
+use Rattle.bbm_tlbi_scope.specs.declared.entry.Cover.{Cover}
+use Rattle.bbm_tlbi_scope.specs.declared.entry.Cover.TheVariants.{None as NoCover, Half, Second, Full}
+use Rattle.bbm_rules.specs.Cleansing.{same_cover, writes}
+use Rattle.bbm_rules.specs.Lists.{any}
+use Rattle.bbm_rules.specs.Notes.{Noted, event_of}
+use Rattle.bbm_rules.specs.PatternSentences.{Publication}
+use Rattle.bbm_rules.specs.Prelude.{Barrier, Heading, Event, Dsb, Write}
+use Rattle.bbm_rules.specs.Reach.{Issued, completes, reaches}
+use Rattle.bbm_rules.specs.Sentences.{Open, completes_for, issues}
+use Rattle.bbm_rules.specs.Values.{publishes_to}
+use Rattle.bbm_oracle_patterns.specs.Kept.{cover_in, note_of, notes_behind}
+use Rattle.bbm_oracle_patterns.specs.declared.kept.Kept.{Kept}
+use Rattle.bbm_cert.specs.Flushes.{completed_by, is_flush_of}
+use Rattle.bbm_lists.proofs.Elements.{any_finds, any_found, in_split, is_none_of, none_of, split_in}
+use Rattle.bbm_lists.specs.Elements.{In}
+use Rattle.bbm_certify.specs.Making.{answers, publishes}
+use Rattle.bbm_certify.proofs.Spots.{Seat, notes_split, seat}
+
+pub same_covers : (c d : Cover) → same_cover c d ≡ true → c ≡ d
+same_covers NoCover NoCover e = refl
+same_covers NoCover Half e = absurd (true≢false (sym e))
+same_covers NoCover Second e = absurd (true≢false (sym e))
+same_covers NoCover Full e = absurd (true≢false (sym e))
+same_covers Half NoCover e = absurd (true≢false (sym e))
+same_covers Half Half e = refl
+same_covers Half Second e = absurd (true≢false (sym e))
+same_covers Half Full e = absurd (true≢false (sym e))
+same_covers Second NoCover e = absurd (true≢false (sym e))
+same_covers Second Half e = absurd (true≢false (sym e))
+same_covers Second Second e = refl
+same_covers Second Full e = absurd (true≢false (sym e))
+same_covers Full NoCover e = absurd (true≢false (sym e))
+same_covers Full Half e = absurd (true≢false (sym e))
+same_covers Full Second e = absurd (true≢false (sym e))
+same_covers Full Full e = refl
+
+cover_itself : (c : Cover) → same_cover c c ≡ true
+cover_itself NoCover = refl
+cover_itself Half = refl
+cover_itself Second = refl
+cover_itself Full = refl
+
+writes_it : (q place value : ℕ) → writes q place (Write q place value) ≡ true
+writes_it q place value = and_from (q == q) (place == place) (eq-eqb q q refl) (eq-eqb place place refl)
+
+-- a write of the place by q
+written_by : (q place : ℕ) (e : Event) → writes q place e ≡ true → (value : ℕ) × (e ≡ Write q place value)
+written_by q place (Write pe at value) k =
+    let parts = and_parts (pe == q) (at == place) k in (
+      value,
+      ap (λ (x : ℕ). Write x at value) (eqb-true pe q parts.0) ∙ ap (λ (x : ℕ). Write q x value) (eqb-true at place parts.1),
+    )
+written_by q place e k = absurd (true≢false (sym k))
+
+module _ (heading : Heading) (place p from : ℕ) where
+  -- ---- publications
+
+  -- an event of a log that publishes a write of the place to p
+  pub record Published (log : List Kept) (b : Noted) : Type 0 where
+    pub before : List Kept
+    pub after : List Kept
+    pub k : Kept
+    pub split : log ≡ before ++ k ∷ after
+    pub is : b ≡ note_of (from + length before) k
+    pub does : publishes heading place p k.event before ≡ true
+
+  pub published_in : (log : List Kept) (b : Noted) → Publication heading place p (notes_behind from (reverse log)) b
+      → Published log b
+  published_in log b k = one (seat from log k.newer (k.between ++ k.write ∷ k.older) b k.split)
+    where
+      one : Seat from log k.newer (k.between ++ k.write ∷ k.older) b → Published log b
+      one s = two (seat from s.before k.between k.older k.write (sym s.older_is))
+        where
+          two : Seat from s.before k.between k.older k.write → Published log b
+          two w =
+              let wrote : w.k.event ≡ Write k.q place k.value = ap (λ (n : Noted). n.event) (sym w.is) ∙ k.wrote in
+              let in_before : In s.before w.k
+              = subst (λ (xs : List Kept). In xs w.k) (sym w.split) (in_split w.before w.after w.k) in
+              let barrier : s.k.event ≡ Dsb k.q k.dsb = ap (λ (n : Noted). n.event) (sym s.is) ∙ k.barrier in
+              record {
+                before = s.before;
+                after = s.after;
+                k = s.k;
+                split = s.split;
+                is = s.is;
+                does = ap (λ (e : Event). publishes heading place p e s.before) barrier
+                    ∙ and_from (publishes_to heading k.dsb k.q p) (any (λ x. writes k.q place x.event) s.before) k.publishes
+                    (any_finds (λ (x : Kept). writes k.q place x.event) s.before w.k in_before
+                    (ap (λ (e : Event). writes k.q place e) wrote ∙ writes_it k.q place k.value));
+              }
+
+  pub publication_of : (log before after : List Kept) (k : Kept) → log ≡ before ++ k ∷ after
+      → publishes heading place p k.event before ≡ true
+      → Publication heading place p (notes_behind from (reverse log)) (note_of (from + length before) k)
+  publication_of log before after k split does = by k.event refl does
+    where
+      by : (e : Event) → k.event ≡ e → publishes heading place p e before ≡ true
+          → Publication heading place p (notes_behind from (reverse log)) (note_of (from + length before) k)
+      by (Dsb q dsb) is told = two parts.0 (any_found (λ (x : Kept). writes q place x.event) before parts.1)
+        where
+          parts : (publishes_to heading dsb q p ≡ true) × (any (λ (x : Kept). writes q place x.event) before ≡ true)
+          parts = and_parts (publishes_to heading dsb q p) (any (λ (x : Kept). writes q place x.event) before) told
+
+          two : publishes_to heading dsb q p ≡ true → (x : Kept) × In before x × (writes q place x.event ≡ true)
+              → Publication heading place p (notes_behind from (reverse log)) (note_of (from + length before) k)
+          two reach found =
+              let w = split_in before found.0 found.1 in
+              let wrote = written_by q place found.0.event found.2 in
+              record {
+                q = q;
+                dsb = dsb;
+                value = wrote.0;
+                write = note_of (from + length w.0) found.0;
+                newer = notes_behind (from + suc (length before)) (reverse after);
+                between = notes_behind (from + suc (length w.0)) (reverse w.1);
+                older = notes_behind from (reverse w.0);
+                split = notes_split from log before after k split
+                    ∙ ap (λ (ns : List Noted). notes_behind (from + suc (length before)) (reverse after)
+                    ++ note_of (from + length before) k ∷ ns) (notes_split from before w.0 w.1 found.0 w.2);
+                wrote = wrote.1;
+                barrier = is;
+                publishes = reach;
+              }
+      by e is told = absurd (true≢false (sym told))
+
+  -- ---- answers
+
+  -- a TLBI of a log that reaches p, covers the place so far, and is answered by the event
+  pub record Waiting (cover : Cover) (e : Event) (log : List Kept) (t : Issued Noted) : Type 0 where
+    pub before : List Kept
+    pub after : List Kept
+    pub k : Kept
+    pub split : log ≡ before ++ k ∷ after
+    pub is : t.tlbi ≡ note_of (from + length before) k
+    pub before_is : t.before ≡ notes_behind from (reverse before)
+    pub does : answers heading place p cover e k after ≡ true
+
+  module _ (cover : Cover) (q : ℕ) (dsb : Barrier) where
+    -- the same by the notes
+    pub record Answered (since : List Noted) (t : Issued Noted) : Type 0 where
+      pub is_open : Open event_of q since t
+      pub completed : completes dsb t.tlbi.event ≡ true
+      pub reached : reaches heading t.tlbi.event p ≡ true
+      pub covered : t.tlbi.covers place ≡ cover
+
+    pub waiting_in : (log : List Kept) (t : Issued Noted) → Answered (notes_behind from (reverse log)) t
+        → Waiting cover (Dsb q dsb) log t
+    waiting_in log t a = one (seat from log a.is_open.newer t.before t.tlbi a.is_open.split)
+      where
+        one : Seat from log a.is_open.newer t.before t.tlbi → Waiting cover (Dsb q dsb) log t
+        one s =
+            let same : t.tlbi.event ≡ s.k.event = ap (λ (n : Noted). n.event) s.is in
+            let covers : t.tlbi.covers place ≡ cover_in s.k.covers.items place
+            = ap (λ (n : Noted). n.covers place) s.is in
+            record {
+              before = s.before;
+              after = s.after;
+              k = s.k;
+              split = s.split;
+              is = s.is;
+              before_is = s.older_is;
+              does = and_from (is_flush_of heading q dsb cover place p s.k) (not (any (completed_by q s.k.event) s.after))
+                  (and_from (issues q s.k.event) (completes dsb s.k.event
+                  && (reaches heading s.k.event p && same_cover (cover_in s.k.covers.items place) cover))
+                  (ap (λ (e : Event). issues q e) (sym same) ∙ a.is_open.issued)
+                  (and_from (completes dsb s.k.event) (reaches heading s.k.event p && same_cover (cover_in s.k.covers.items place) cover)
+                  (ap (λ (e : Event). completes dsb e) (sym same) ∙ a.completed)
+                  (and_from (reaches heading s.k.event p) (same_cover (cover_in s.k.covers.items place) cover)
+                  (ap (λ (e : Event). reaches heading e p) (sym same) ∙ a.reached)
+                  (ap (λ (c : Cover). same_cover c cover) (sym covers ∙ a.covered) ∙ cover_itself cover))))
+                  (not_from_false (any (completed_by q s.k.event) s.after)
+                  (is_none_of (completed_by q s.k.event) s.after (λ x i. uncompleted x i same)));
+            }
+          where
+            uncompleted : (x : Kept) → In s.after x → t.tlbi.event ≡ s.k.event → completed_by q s.k.event x ≡ false
+            uncompleted x i same =
+                let r = split_in s.after x i in
+                ap (λ (e : Event). completes_for q e x.event) (sym same)
+                ∙ a.is_open.uncompleted (note_of (from + suc (length s.before) + length r.0) x)
+                (notes_behind (from + suc (length s.before) + suc (length r.0)) (reverse r.1))
+                (notes_behind (from + suc (length s.before)) (reverse r.0))
+                (s.newer_is ∙ notes_split (from + suc (length s.before)) s.after r.0 r.1 x r.2)
+
+    pub answered_of : (log before after : List Kept) (k : Kept) → log ≡ before ++ k ∷ after
+        → answers heading place p cover (Dsb q dsb) k after ≡ true
+        → Answered (notes_behind from (reverse log))
+        (record { tlbi = note_of (from + length before) k; before = notes_behind from (reverse before) })
+    answered_of log before after k split does =
+        let parts = and_parts (is_flush_of heading q dsb cover place p k) (not (any (completed_by q k.event) after)) does in
+        let a = and_parts (issues q k.event)
+        (completes dsb k.event && (reaches heading k.event p && same_cover (cover_in k.covers.items place) cover)) parts.0 in
+        let b = and_parts (completes dsb k.event) (reaches heading k.event p && same_cover (cover_in k.covers.items place) cover) a.1 in
+        let c = and_parts (reaches heading k.event p) (same_cover (cover_in k.covers.items place) cover) b.1 in
+        record {
+          is_open = record {
+            newer = notes_behind (from + suc (length before)) (reverse after);
+            split = notes_split from log before after k split;
+            issued = a.0;
+            uncompleted = uncompleted (not-true (any (completed_by q k.event) after) parts.1);
+          };
+          completed = b.0;
+          reached = c.0;
+          covered = same_covers (cover_in k.covers.items place) cover c.1;
+        }
+      where
+        uncompleted : any (completed_by q k.event) after ≡ false → (x : Noted) (newer older : List Noted)
+            → notes_behind (from + suc (length before)) (reverse after) ≡ newer ++ x ∷ older
+            → completes_for q k.event x.event ≡ false
+        uncompleted none x newer older e = one (seat (from + suc (length before)) after newer older x e)
+          where
+            one : Seat (from + suc (length before)) after newer older x → completes_for q k.event x.event ≡ false
+            one s =
+                ap (λ (n : Noted). completes_for q k.event n.event) s.is
+                ∙ none_of (completed_by q k.event) after none s.k
+                (subst (λ (xs : List Kept). In xs s.k) (sym s.split) (in_split s.before s.after s.k))

@@ -1,0 +1,32 @@
+-- What a list of claims allows, and the positions that a claim names.
+use Rattle.std.proofs.Common.{◌≡◌, ℕ, true, false, List, [], ◌∷◌, Contains, refl, sym, inl, inr, true≢false}
+use Rattle.std.proofs.lemmas.Bool.{or_cases, or_left}
+use Rattle.bbm_events.specs.declared.claim.Claim.{Claim}
+use Rattle.bbm_events.specs.declared.claim.Claim.TheVariants.{Place, Two, Taken}
+use Rattle.bbm_rules.specs.Claims.{allows, same_claim}
+use Rattle.bbm_rules.specs.Claims.Trust.{Listed}
+use Rattle.bbm_rules.specs.Prelude.{Heading}
+use Rattle.bbm_lists.proofs.Elements.{any_finds, from_contains}
+use Rattle.bbm_certify.specs.Known.{Known}
+
+-- the positions that a claim names, but the last of a tag
+abbrev pub named : Claim → List ℕ
+named (Place p a b t d) = b ∷ t ∷ d ∷ []
+named (Two p a b t1 d1 t2 d2) = b ∷ t1 ∷ d1 ∷ t2 ∷ d2 ∷ []
+named (Taken p tag t d) = t ∷ []
+
+module _ (heading : Heading) (known : Known heading) where
+  -- a list with one claim allows this claim alone
+  pub only_this : (c d : Claim) → allows (Listed (c ∷ [])) d ≡ true → c ≡ d
+  only_this c d e =
+      elim (or_cases (same_claim c d) false e) [
+        | inl same ↦ (known.same_claims c d).0 same
+        | inr none ↦ absurd (true≢false (sym none))
+      ]
+
+  pub this : (c : Claim) → allows (Listed (c ∷ [])) c ≡ true
+  this c = or_left (same_claim c c) false ((known.same_claims c c).1 refl)
+
+  pub listed : (cs : List Claim) (c d : Claim) → Contains cs c → c ≡ d → allows (Listed cs) d ≡ true
+  listed cs c d has same =
+      any_finds (λ (x : Claim). same_claim x d) cs c (from_contains cs c has) ((known.same_claims c d).1 same)

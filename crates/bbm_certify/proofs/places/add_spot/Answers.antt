@@ -1,0 +1,36 @@
+use Rattle.std.proofs.Common.{◌≡◌, sym, subst, ◌∙◌}
+use Rattle.std.proofs.lemmas.Result.{on_ok_weaker}
+use Rattle.bbm_events.specs.declared.claim.Claim.{Claim}
+use Rattle.bbm_rules.specs.Claims.Trust.{Patterns}
+use Rattle.bbm_certify.specs.Orders.{Adds}
+use Rattle.bbm_certify.proofs.DueAdds.{inside_of, spot_cleansed, spot_found, spot_none}
+use Rattle.bbm_certify.proofs.places.add_spot.Goals as goal
+
+pub returns-then-has : goal.returns-then-has
+returns-then-has c = λ newest k told.
+    spot_cleansed c.args.header.now c.args.spot.now.place c.args.spot.now.pe c.args.spot.now.before c.args.log.now newest
+    (c.law_cleansed.ensures.sound c.args.header.now Patterns c.args.spot.now.place c.args.spot.now.pe)
+    (c.law_cleansed.ensures.complete c.args.header.now Patterns c.args.spot.now.place c.args.spot.now.pe)
+    c.args.cleansed c.args.due.now.items (sym c.has.ensures ∙ c.if-has.true) told
+
+pub claim_of-claim-requires-clause-inside : goal.claim_of-claim-requires-clause-inside
+claim_of-claim-requires-clause-inside c =
+    inside_of c.args.header.now c.args.spot.now.place c.args.spot.now.pe c.args.answer.now c.args.log.now c.in-Some.pattern
+    c.in-Some.ensures
+
+pub returns-in-Some : goal.returns-in-Some
+returns-in-Some c = on_ok_weaker c.add_claim.result (λ adds newest k told.
+    spot_found c.args.header.now c.args.spot.now.place c.args.spot.now.pe c.args.spot.now.before c.args.log.now newest
+    (c.law_cleansed.ensures.sound c.args.header.now Patterns c.args.spot.now.place c.args.spot.now.pe)
+    (c.law_cleansed.ensures.complete c.args.header.now Patterns c.args.spot.now.place c.args.spot.now.pe)
+    c.args.cleansed c.args.answer.now c.in-Some.pattern c.args.due.now.items c.add_claim.new.claims.items
+    (sym c.has.ensures ∙ c.if-has.false) told k c.in-Some.ensures
+    (subst (λ (y : Claim). Adds (λ x. x ≡ y) c.args.due.now.items c.add_claim.new.claims.items) c.claim_of-claim.ensures adds))
+    c.add_claim.ensures
+
+pub returns-in-None : goal.returns-in-None
+returns-in-None c = λ newest k told.
+    spot_none c.args.header.now c.args.spot.now.place c.args.spot.now.pe c.args.spot.now.before c.args.log.now newest
+    (c.law_cleansed.ensures.sound c.args.header.now Patterns c.args.spot.now.place c.args.spot.now.pe)
+    (c.law_cleansed.ensures.complete c.args.header.now Patterns c.args.spot.now.place c.args.spot.now.pe)
+    c.args.cleansed c.args.answer.now c.args.due.now.items (sym c.has.ensures ∙ c.if-has.false) told k c.in-None.ensures

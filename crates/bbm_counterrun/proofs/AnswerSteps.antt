@@ -1,0 +1,136 @@
+-- What one event more answers.
+use Rattle.std.proofs.Common.{◌≡◌, ℕ, ◌+◌, ◌<◌, Bool, true, false, ◌&&◌, ◌||◌, ◌==◌, nat_le, nat_lt, cond, List, [], ◌∷◌, ◌++◌, length, map, filter, get_or, take, reverse, refl, sym, ◌∙◌, ap, subst}
+use Rattle.std.proofs.lemmas.List.Folds.{list_any-append}
+use Rattle.bbm_rules.specs.Lists.{any}
+use Rattle.bbm_rules.specs.Prelude.{Barrier, Heading, Event, Dsb, Tlbi}
+use Rattle.bbm_rules.specs.Reach.{Issued, completes, unanswered}
+use Rattle.bbm_rules.specs.Tags.{itself}
+use Rattle.bbm_tlb_machine.specs.Entry.{Entry}
+use Rattle.bbm_tlb_machine.specs.Pendings.{IsPending, Pending, is_answered, must_leave, pending_of}
+use Rattle.bbm_tlb_machine.specs.Step.{must_go}
+use Rattle.bbm_counterrun.specs.Answers.{Answer, IsAnswers, answer_at, forbids_by}
+use Rattle.bbm_counterrun.specs.Tested.{forbids, is_forbidden}
+use Rattle.bbm_counterrun.proofs.WalkCode.{newest_first}
+
+any_map : {X Y : Type 0} (test : Y → Bool) (f : X → Y) (xs : List X) → any test (map f xs) ≡ any (λ x. test (f x)) xs
+any_map test f [] = refl
+any_map test f (x ∷ xs) = ap (λ b. test (f x) || b) (any_map test f xs)
+
+any_filter : {X : Type 0} (test keep : X → Bool) (xs : List X) → any test (filter keep xs) ≡ any (λ x. keep x && test x) xs
+any_filter {X} test keep [] = refl
+any_filter {X} test keep (x ∷ xs) = by (keep x) ∙ ap (λ b. (keep x && test x) || b) (any_filter test keep xs)
+  where
+    by : (b : Bool) → any test (cond b (x ∷ filter keep xs) (filter keep xs)) ≡ ((b && test x) || any test (filter keep xs))
+    by true = refl
+    by false = refl
+
+any_alike : {X : Type 0} (one other : X → Bool) (xs : List X) → ((x : X) → one x ≡ other x) → any one xs ≡ any other xs
+any_alike one other [] all = refl
+any_alike one other (x ∷ xs) all =
+    ap (λ b. b || any one xs) (all x) ∙ ap (λ b. other x || b) (any_alike one other xs all)
+
+-- a test that every item passes or fails alike comes out
+any_and : {X : Type 0} (b : Bool) (test : X → Bool) (xs : List X) → any (λ x. b && test x) xs ≡ (b && any test xs)
+any_and true test xs = refl
+any_and false test [] = refl
+any_and false test (x ∷ xs) = any_and false test xs
+
+swap : (a b c : Bool) → (a && b && c) ≡ (b && (a && c))
+swap true true c = refl
+swap true false c = refl
+swap false true c = refl
+swap false false c = refl
+
+must_is : (heading : Heading) (t : Issued Event) (x : Entry) → must_leave heading (pending_of heading t) x ≡ must_go heading t x
+must_is heading t x = by t.tlbi
+  where
+    by : (e : Event) → must_leave heading (pending_of heading (record t { tlbi = e })) x ≡ must_go heading (record t { tlbi = e }) x
+    by (Tlbi pe op xt) = refl
+    by _ = refl
+
+-- those that the DSB answers forbid an entry where it forbids it
+forbidden_now : (heading : Heading) (h : List Event) (q : ℕ) (dsb : Barrier) (pending : List Pending) (x : Entry) → IsPending heading h pending
+    → any (λ p. is_answered q dsb p && must_leave heading p x) pending ≡ forbids heading x (Dsb q dsb) h
+forbidden_now heading h q dsb pending x is =
+    any_alike _ _ pending (λ (p : Pending). and_assoc (p.issuer == q) (completes dsb p.tlbi) (must_leave heading p x))
+    ∙ sym (any_filter (λ (p : Pending). completes dsb p.tlbi && must_leave heading p x) (λ (p : Pending). p.issuer == q) pending)
+    ∙ ap (any (λ (p : Pending). completes dsb p.tlbi && must_leave heading p x)) (is q)
+    ∙ any_map (λ (p : Pending). completes dsb p.tlbi && must_leave heading p x) (pending_of heading) (unanswered itself q h)
+    ∙ any_alike _ _ (unanswered itself q h) (λ (t : Issued Event). ap (λ b. completes dsb t.tlbi && b) (must_is heading t x))
+  where
+    and_assoc : (a b c : Bool) → (a && b && c) ≡ (a && (b && c))
+    and_assoc true b c = refl
+    and_assoc false b c = refl
+
+dsb_answers : (heading : Heading) (h : List Event) (q : ℕ) (dsb : Barrier) (pending : List Pending) (old : List Answer)
+    → IsPending heading h pending → IsAnswers heading h old
+    → IsAnswers heading (Dsb q dsb ∷ h) (old ++ map (answer_at (length h)) (filter (is_answered q dsb) pending))
+dsb_answers heading h q dsb pending old is was from to x =
+    let within : Bool = nat_le from (length h) && nat_lt (length h) to in
+    list_any-append (forbids_by heading from to x) old (map (answer_at (length h)) (filter (is_answered q dsb) pending))
+    ∙ ap (λ b. any (forbids_by heading from to x) old || b)
+    (any_map (forbids_by heading from to x) (answer_at (length h)) (filter (is_answered q dsb) pending)
+    ∙ any_filter (λ (p : Pending). within && must_leave heading p x) (is_answered q dsb) pending
+    ∙ any_alike _ _ pending (λ (p : Pending). and_swap (is_answered q dsb p) within (must_leave heading p x))
+    ∙ any_and within (λ (p : Pending). is_answered q dsb p && must_leave heading p x) pending
+    ∙ ap (λ b. within && b) (forbidden_now heading h q dsb pending x is))
+    ∙ or_swap (any (forbids_by heading from to x) old) (within && forbids heading x (Dsb q dsb) h)
+    ∙ ap (λ b. (within && forbids heading x (Dsb q dsb) h) || b) (was from to x)
+  where
+    and_swap : (a b c : Bool) → (a && (b && c)) ≡ (b && (a && c))
+    and_swap true b c = refl
+    and_swap false true c = refl
+    and_swap false false c = refl
+
+    or_swap : (a b : Bool) → (a || b) ≡ (b || a)
+    or_swap true true = refl
+    or_swap true false = refl
+    or_swap false true = refl
+    or_swap false false = refl
+
+-- an event that answers nothing
+other_answers : (heading : Heading) (h : List Event) (e : Event) (old : List Answer) → ((q : ℕ) (dsb : Barrier) → e ≡ Dsb q dsb → ⊥)
+    → IsAnswers heading h old → IsAnswers heading (e ∷ h) old
+other_answers heading h e old none was from to x = was from to x ∙ sym (by e none)
+  where
+    and_false : (a : Bool) → (a && false) ≡ false
+    and_false true = refl
+    and_false false = refl
+
+    quiet : (e : Event) → ((q : ℕ) (dsb : Barrier) → e ≡ Dsb q dsb → ⊥) → forbids heading x e h ≡ false
+    quiet (Dsb q dsb) none = absurd (none q dsb refl)
+    quiet _ none = refl
+
+    by : (e : Event) → ((q : ℕ) (dsb : Barrier) → e ≡ Dsb q dsb → ⊥) → is_forbidden heading from to x (e ∷ h) ≡ is_forbidden heading from to x h
+    by e none =
+        ap (λ b. (nat_le from (length h) && nat_lt (length h) to && b) || is_forbidden heading from to x h) (quiet e none)
+        ∙ ap (λ b. b || is_forbidden heading from to x h) (and_false (nat_le from (length h) && nat_lt (length h) to))
+
+pub dsb_step : (heading : Heading) (h : List Event) (q before : ℕ) (dsb : Barrier) (pending : List Pending) (old new : List Answer)
+    → new ≡ old ++ map (answer_at before) (filter (is_answered q dsb) pending) → length h ≡ before
+    → IsPending heading h pending → IsAnswers heading h old → IsAnswers heading (Dsb q dsb ∷ h) new
+dsb_step heading h q before dsb pending old new e count is was from to x =
+    ap (any (forbids_by heading from to x)) (e ∙ ap (λ k. old ++ map (answer_at k) (filter (is_answered q dsb) pending)) (sym count))
+    ∙ dsb_answers heading h q dsb pending old is was from to x
+
+pub other_step : (heading : Heading) (h : List Event) (e : Event) (old : List Answer) → ((q : ℕ) (dsb : Barrier) → e ≡ Dsb q dsb → ⊥)
+    → IsAnswers heading h old → IsAnswers heading (e ∷ h) old
+other_step = other_answers
+
+pub ruleset steps = (dsb_step, other_step)
+
+-- ---- the loop over the events of a slice
+
+module _ (heading : Heading) (events : List Event) (n : ℕ) (e : Event) (within : n < length events) (at : e ≡ get_or events n e) where
+  pub pending_on : (old new : List Pending) → (IsPending heading (reverse (take n events)) old → IsPending heading (e ∷ reverse (take n events)) new)
+      → IsPending heading (reverse (take n events)) old → IsPending heading (reverse (take (n + 1) events)) new
+  pending_on old new step was =
+      subst (λ (h : List Event). IsPending heading h new) (sym (newest_first events n e within at)) (step was)
+
+  pub answers_on : (pending : List Pending) (old new : List Answer)
+      → (IsPending heading (reverse (take n events)) pending → IsAnswers heading (reverse (take n events)) old
+      → IsAnswers heading (e ∷ reverse (take n events)) new)
+      → IsPending heading (reverse (take n events)) pending → IsAnswers heading (reverse (take n events)) old
+      → IsAnswers heading (reverse (take (n + 1) events)) new
+  answers_on pending old new step is was =
+      subst (λ (h : List Event). IsAnswers heading h new) (sym (newest_first events n e within at)) (step is was)

@@ -1,0 +1,100 @@
+-- The numbers under which walks may be made are among those that are looked at.
+use Rattle.std.proofs.Common.{◌≡◌, ℕ, ◌+◌, ◌<◌, true, ◌==◌, List, ◌++◌, length, get_or, take, Some, option_to_list, refl, sym, ◌∙◌, ap, subst, true≢false}
+use Rattle.std.proofs.lemmas.Bool.{and_parts, eq-eqb, eqb-true}
+use Rattle.bbm_lists.proofs.Elements.{any_finds, any_found, to_filter_map}
+use Rattle.bbm_rules.specs.Lists.{among}
+use Rattle.bbm_rules.specs.Prelude.{Kind, El2, S2, Ttbr0, Ttbr1, Tag, El2Tag, Vmid, Asid, Ttbr1Tag, Heading, Event, same_tag}
+use Rattle.bbm_rules.specs.Tags.{Reading, readings, reads}
+use Rattle.bbm_tlb_machine.specs.Entry.{Entry, tag_of_entry}
+use Rattle.bbm_tlb_machine.specs.Step.{current_asids, has_number, may_start, started}
+use Rattle.bbm_counterrun.proofs.WayCode.{filter_more}
+use Rattle.bbm_counterrun.specs.Numbers.{number_of, numbers_of}
+
+of_el2 : (tag : Tag) → same_tag tag El2Tag ≡ true → number_of tag ≡ Some 0
+of_el2 El2Tag k = refl
+of_el2 (Vmid m) k = absurd (true≢false (sym k))
+of_el2 (Asid m) k = absurd (true≢false (sym k))
+of_el2 Ttbr1Tag k = absurd (true≢false (sym k))
+
+of_vmid : (tag : Tag) (n : ℕ) → same_tag tag (Vmid n) ≡ true → number_of tag ≡ Some n
+of_vmid El2Tag n k = absurd (true≢false (sym k))
+of_vmid (Vmid m) n k = ap (λ i. Some i) (eqb-true m n k)
+of_vmid (Asid m) n k = absurd (true≢false (sym k))
+of_vmid Ttbr1Tag n k = absurd (true≢false (sym k))
+
+of_asid : (tag : Tag) (n : ℕ) → same_tag tag (Asid n) ≡ true → number_of tag ≡ Some n
+of_asid El2Tag n k = absurd (true≢false (sym k))
+of_asid (Vmid m) n k = absurd (true≢false (sym k))
+of_asid (Asid m) n k = ap (λ i. Some i) (eqb-true m n k)
+of_asid Ttbr1Tag n k = absurd (true≢false (sym k))
+
+module _ (heading : Heading) (h : List Event) (p : ℕ) where
+  is_among : (tag : Tag) (root number : ℕ) → ((other : Tag) → same_tag other tag ≡ true → number_of other ≡ Some number)
+      → reads heading h p tag root ≡ true → among number (numbers_of (readings heading h p)) ≡ true
+  is_among tag root number all k =
+      let f = any_found _ (readings heading h p) k in
+      let same = (and_parts (same_tag f.0.tag tag) (f.0.root == root) f.2).0 in
+      any_finds (λ m. m == number) (numbers_of (readings heading h p)) number
+      (to_filter_map (λ (r : Reading). number_of r.tag) (readings heading h p) f.0 number f.1 (all f.0.tag same)) (eq-eqb number number refl)
+
+  parts : (x : Entry) (number : ℕ) → may_start heading h x number ≡ true
+      → (reads heading h x.pe (tag_of_entry x) x.root ≡ true) × (has_number heading.world h x.pe x.last.kind number ≡ true)
+  parts x number k =
+      let a = and_parts _ _ k in
+      let b = and_parts _ _ a.0 in
+      and_parts _ _ b.0
+
+  el2_numbered : (items : List ℕ) → items ≡ numbers_of (readings heading h p) → (number now place value : ℕ)
+      → may_start heading h (started heading now p El2 number place value) number ≡ true → among number items ≡ true
+  el2_numbered items e number now place value k =
+      let s = parts (started heading now p El2 number place value) number k in
+      let none : number ≡ 0 = eqb-true number 0 s.1 in
+      ap (among number) e ∙ is_among El2Tag _ number (λ other same. of_el2 other same ∙ ap (λ i. Some i) (sym none)) s.0
+
+  s2_numbered : (items : List ℕ) → items ≡ numbers_of (readings heading h p) → (number now place value : ℕ)
+      → may_start heading h (started heading now p S2 number place value) number ≡ true → among number items ≡ true
+  s2_numbered items e number now place value k =
+      ap (among number) e ∙ is_among (Vmid number) _ number (λ other same. of_vmid other number same)
+      (parts (started heading now p S2 number place value) number k).0
+
+  ttbr0_numbered : (items : List ℕ) → items ≡ numbers_of (readings heading h p) → (number now place value : ℕ)
+      → may_start heading h (started heading now p Ttbr0 number place value) number ≡ true → among number items ≡ true
+  ttbr0_numbered items e number now place value k =
+      ap (among number) e ∙ is_among (Asid number) _ number (λ other same. of_asid other number same)
+      (parts (started heading now p Ttbr0 number place value) number k).0
+
+  ttbr1_numbered : (items : List ℕ) → items ≡ current_asids heading.world h p → (number now place value : ℕ)
+      → may_start heading h (started heading now p Ttbr1 number place value) number ≡ true → among number items ≡ true
+  ttbr1_numbered items e number now place value k =
+      ap (among number) e ∙ (parts (started heading now p Ttbr1 number place value) number k).1
+
+  pub numbered_el2 : (kind : Kind) (items : List ℕ) → kind ≡ El2 → items ≡ numbers_of (readings heading h p) → (number now place value : ℕ)
+      → may_start heading h (started heading now p kind number place value) number ≡ true → among number items ≡ true
+  numbered_el2 kind items same e number now place value k =
+      el2_numbered items e number now place value
+      (subst (λ (l : Kind). may_start heading h (started heading now p l number place value) number ≡ true) same k)
+
+  pub numbered_s2 : (kind : Kind) (items : List ℕ) → kind ≡ S2 → items ≡ numbers_of (readings heading h p) → (number now place value : ℕ)
+      → may_start heading h (started heading now p kind number place value) number ≡ true → among number items ≡ true
+  numbered_s2 kind items same e number now place value k =
+      s2_numbered items e number now place value
+      (subst (λ (l : Kind). may_start heading h (started heading now p l number place value) number ≡ true) same k)
+
+  pub numbered_ttbr0 : (kind : Kind) (items : List ℕ) → kind ≡ Ttbr0 → items ≡ numbers_of (readings heading h p) → (number now place value : ℕ)
+      → may_start heading h (started heading now p kind number place value) number ≡ true → among number items ≡ true
+  numbered_ttbr0 kind items same e number now place value k =
+      ttbr0_numbered items e number now place value
+      (subst (λ (l : Kind). may_start heading h (started heading now p l number place value) number ≡ true) same k)
+
+  pub numbered_ttbr1 : (kind : Kind) (items : List ℕ) → kind ≡ Ttbr1 → items ≡ current_asids heading.world h p → (number now place value : ℕ)
+      → may_start heading h (started heading now p kind number place value) number ≡ true → among number items ≡ true
+  numbered_ttbr1 kind items same e number now place value k =
+      ttbr1_numbered items e number now place value
+      (subst (λ (l : Kind). may_start heading h (started heading now p l number place value) number ≡ true) same k)
+
+-- one number more
+pub number_more : (rs : List Reading) (i : ℕ) (r : Reading) (old new : List ℕ) → i < length rs → r ≡ get_or rs i r
+    → old ≡ numbers_of (take i rs) → new ≡ old ++ option_to_list (number_of r.tag) → new ≡ numbers_of (take (i + 1) rs)
+number_more rs i r old new within at was is = filter_more (λ (s : Reading). number_of s.tag) rs i r old new within at was is
+
+pub ruleset numbered = (numbered_el2, numbered_s2, numbered_ttbr0, numbered_ttbr1)

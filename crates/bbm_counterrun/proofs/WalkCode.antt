@@ -1,0 +1,55 @@
+-- The steps of the loops that make a walk and a list of answers.
+use Rattle.std.proofs.Common.{◌≡◌, ℕ, ◌+◌, ◌<◌, Bool, true, false, ◌&&◌, cond, List, [], ◌∷◌, ◌++◌, length, map, filter, drop, get_or, take, reverse, Option, Some, refl, sym, ◌∙◌, ap}
+use Rattle.std.proofs.lemmas.List.{append_assoc, drop_more, reverse-append, take_more}
+use Rattle.bbm_rules.specs.Lists.{if_so}
+use Rattle.bbm_rules.specs.Prelude.{Heading, Event}
+use Rattle.bbm_tlb_machine.specs.Entry.{Entry}
+use Rattle.bbm_tlb_machine.specs.Step.{extended, may_extend}
+use Rattle.bbm_counterrun.specs.Plans.{Read}
+use Rattle.bbm_counterrun.specs.Tested.{extended_by, may_extend_by}
+
+made : {A : Type 0} (b : Bool) (x y : A) → if_so b x ≡ Some y → (b ≡ true) × (x ≡ y)
+made true x y k = (refl, cc)
+made false x y k = cc
+
+pub next_item : {X : Type 0} (xs : List X) (i : ℕ) (x : X) → i < length xs → x ≡ get_or xs i x → drop i xs ≡ x ∷ drop (i + 1) xs
+next_item xs i x within at = drop_more xs i x within ∙ ap (λ y. y ∷ drop (i + 1) xs) (sym at)
+
+pub extend_may : (heading : Heading) (h : List Event) (x next : Entry) (reads : List Read) (i : ℕ) (r : Read) (start : Bool) (o : Option Entry)
+    → i < length reads → r ≡ get_or reads i r → o ≡ if_so (may_extend heading h x r.place r.value) (extended x r.place r.value) → o ≡ Some next
+    → may_extend_by heading h x (drop i reads) ≡ start → may_extend_by heading h next (drop (i + 1) reads) ≡ start
+extend_may heading h x next reads i r start o within at k is e =
+    let m = made _ _ next (sym k ∙ is) in
+    ap (λ y. may_extend_by heading h y (drop (i + 1) reads)) (sym m.1)
+    ∙ sym (ap (may_extend_by heading h x) (next_item reads i r within at)
+    ∙ ap (λ b. b && may_extend_by heading h (extended x r.place r.value) (drop (i + 1) reads)) m.0) ∙ e
+
+pub extend_same : (heading : Heading) (h : List Event) (x next : Entry) (reads : List Read) (i : ℕ) (r : Read) (end : Entry) (o : Option Entry)
+    → i < length reads → r ≡ get_or reads i r → o ≡ if_so (may_extend heading h x r.place r.value) (extended x r.place r.value) → o ≡ Some next
+    → extended_by x (drop i reads) ≡ end → extended_by next (drop (i + 1) reads) ≡ end
+extend_same heading h x next reads i r end o within at k is e =
+    let m = made _ _ next (sym k ∙ is) in
+    ap (λ y. extended_by y (drop (i + 1) reads)) (sym m.1) ∙ sym (ap (extended_by x) (next_item reads i r within at)) ∙ e
+
+-- a loop that puts some items of a list behind others, each changed
+pub kept_more : {X Y : Type 0} (f : X → Y) (keep : X → Bool) (xs : List X) (i : ℕ) (x : X) (ys end : List Y) → i < length xs → x ≡ get_or xs i x
+    → keep x ≡ true → ys ++ map f (filter keep (drop i xs)) ≡ end → (ys ++ f x ∷ []) ++ map f (filter keep (drop (i + 1) xs)) ≡ end
+kept_more {X} {Y} f keep xs i x ys end within at k e =
+    append_assoc ys (f x ∷ []) (map f (filter keep (drop (i + 1) xs)))
+    ∙ sym (ap (λ (zs : List X). ys ++ map f (filter keep zs)) (next_item xs i x within at)
+    ∙ ap (λ b. ys ++ map f (cond b (x ∷ filter keep (drop (i + 1) xs)) (filter keep (drop (i + 1) xs)))) k) ∙ e
+
+pub left_more : {X Y : Type 0} (f : X → Y) (keep : X → Bool) (xs : List X) (i : ℕ) (x : X) (ys end : List Y) → i < length xs → x ≡ get_or xs i x
+    → keep x ≡ false → ys ++ map f (filter keep (drop i xs)) ≡ end → ys ++ map f (filter keep (drop (i + 1) xs)) ≡ end
+left_more {X} {Y} f keep xs i x ys end within at k e =
+    sym (ap (λ (zs : List X). ys ++ map f (filter keep zs)) (next_item xs i x within at)
+    ∙ ap (λ b. ys ++ map f (cond b (x ∷ filter keep (drop (i + 1) xs)) (filter keep (drop (i + 1) xs)))) k) ∙ e
+
+pub ruleset extending = (extend_may, extend_same)
+
+pub ruleset keeping = (kept_more, left_more)
+
+-- the first so many items, the newest first, of which one more comes in front
+pub newest_first : {X : Type 0} (xs : List X) (i : ℕ) (x : X) → i < length xs → x ≡ get_or xs i x → reverse (take (i + 1) xs) ≡ x ∷ reverse (take i xs)
+newest_first {X} xs i x within at =
+    ap (reverse {A = X}) (take_more xs i x within) ∙ reverse-append (take i xs) (get_or xs i x ∷ []) ∙ ap (λ y. y ∷ reverse (take i xs)) (sym at)

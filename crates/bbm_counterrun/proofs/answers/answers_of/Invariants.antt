@@ -1,0 +1,10 @@
+use Rattle.std.proofs.Common.{take, reverse}
+use Rattle.bbm_counterrun.specs.Answers.{IsAnswers}
+use Rattle.bbm_tlb_machine.specs.Pendings.{IsPending}
+use Rattle.bbm_counterrun.proofs.answers.answers_of.Given as goal
+
+abbrev pub invariant-loop-n : goal.invariant-loop-n
+invariant-loop-n l = record {
+  pending : IsPending l.header (reverse (take l.n l.events)) l.pendings.items;
+  answers : IsAnswers l.header (reverse (take l.n l.events)) l.answers.items;
+}

@@ -1,0 +1,25 @@
+use Rattle.std.proofs.Common.{List, option_map, reverse, subst, sym, ◌∙◌}
+use Rattle.bbm_counterrun.specs.Answers.{Answer, IsAnswers}
+use Rattle.bbm_counterrun.proofs.FindRun.{no_tree_found, run_found}
+use Rattle.bbm_counterrun.proofs.first_run.find_at.Goals as goal
+
+pub run_found-requires : goal.run_found-requires
+run_found-requires c = record {
+  proper = (c.law_proper.ensures c.args.header.now c.said.ensures).start c.in-Some.kind;
+  answers = subst (λ (answers : List Answer). IsAnswers c.args.header.now (reverse c.args.before.now) answers) (sym c.deref.ensures.value)
+      c.in_ok-answers-in-Some.ensures;
+}
+
+pub returns-in-Some : goal.returns-in-Some
+returns-in-Some c pe same refused leaf =
+    run_found (record { tested = c.law_plain_is_tested.ensures; least = c.law_least_reads.ensures }) c.args.header.now c.args.before.now
+    c.said.ensures c.requires.fits c.in_ok-history.history c.in_ok-history.ensures.trust c.in_ok-history.ensures.stands pe c.args.place
+    c.args.value refused leaf c.args.log.now same c.in-Some.kind (sym c.in-Some.is ∙ c.kind_at.ensures) c.deref-in-Some.result.now
+    (c.deref-in-Some.ensures.value ∙ c.in_ok-way-in-Some.ensures) (option_map (λ v. v.items) c.in_ok-found-in-Some.found)
+    c.in_ok-found-in-Some.ensures
+
+pub returns : goal.returns
+returns c pe same refused leaf plan plain =
+    no_tree_found (record { tested = c.law_plain_is_tested.ensures; least = c.law_least_reads.ensures }) c.args.header.now c.args.before.now
+    c.said.ensures c.requires.fits c.in_ok-history.history c.in_ok-history.ensures.trust c.in_ok-history.ensures.stands pe c.args.place
+    c.args.value refused leaf (sym c.in-None.is ∙ c.kind_at.ensures) plan plain

@@ -1,0 +1,10 @@
+use Rattle.std.proofs.Common.{◌≡◌, filter, take, reverse}
+use Rattle.bbm_rules.specs.Lists.{least}
+use Rattle.bbm_counterrun.specs.Ways.{is_like, written_at}
+use Rattle.bbm_counterrun.proofs.reads.least_read.Given as goal
+
+abbrev pub invariant-loop-event : goal.invariant-loop-event
+invariant-loop-event l = record {
+  best : l.best ≡ least (filter (is_like l.header (reverse l.events) l.pe l.goal)
+      (written_at (reverse (take l.event-index l.events)) l.goal.place));
+}

@@ -1,0 +1,148 @@
+//! The run of the first plain conflict run.
+
+ghost use Rattle.std.specs.Prelude.{◌≡◌, ℕ, ◌<◌, ◌≤◌, ◌∷◌, true, List, length, reverse, option_map, All, IfOk};
+ghost use Rattle.bbm_counterrun.specs.Answers.{IsAnswers};
+ghost use Rattle.bbm_counterrun.specs.Plans.{Finds, run_of as plan_run};
+ghost use Rattle.bbm_counterrun.specs.Refused as spec;
+ghost use Rattle.bbm_counterrun.specs.Searching.{FindsRun, plan_found};
+ghost use Rattle.bbm_events.specs.declared.event.Event.{Event as TheEvent};
+ghost use Rattle.bbm_events.specs.declared.event.Event.TheVariants.{Write};
+ghost use Rattle.bbm_events.specs.Fits.{fits_heading};
+ghost use Rattle.bbm_events.specs.Heading.{heading_ok};
+ghost use Rattle.bbm_oracle_trees.specs.Past.{notes};
+ghost use Rattle.bbm_rules.specs.Places.{page_of};
+ghost use Rattle.bbm_rules.specs.Roots.{start_of};
+ghost use Rattle.bbm_rules.specs.Tree as trees;
+
+use crate::answers::answers_of;
+use crate::finding::first_found;
+use crate::laws::law_plain_is_tested;
+use crate::leaf::history_of;
+use crate::least_list::law_least_reads;
+use crate::runs::run_of;
+use crate::search::{Found, Search};
+use crate::way::way_to;
+use bbm_events::{Event, Header};
+use bbm_histories::law_proper;
+use bbm_oracle_tags::AllPatterns;
+use bbm_oracle_trees::History;
+use bbm_regimes::{Kind, NoMemory, Place};
+use bbm_tlb_machine::Step;
+use std::alloc::Global;
+
+/// The kind of the tree of the place, None where it is in no tree.
+fn kind_at(history: &History<AllPatterns>, place: Place) -> Option<Kind>
+    ensures { result ≡ option_map (λ n. n.kind)
+        (trees.node_of history.now.heading history.now.trust (notes history.now) (page_of place)) }
+{
+    match history.node_of(place.page()) {
+        Some(node) => Some(node.kind),
+        None => None,
+    }
+}
+
+/// The run over the log of what is found. `NoMemory` where there is none.
+fn run_by(search: &Search, found: &Found, log: &[Event]) -> Result<Vec<Step>, NoMemory>
+    requires { length found.now.reads ≤ 4 }
+    ensures { IfOk result (λ steps. steps.items ≡ plan_run (plan_found search.now.kind found.now) log.now) }
+{
+    run_of(
+        search.alloc,
+        found.starts,
+        found.pe,
+        search.kind,
+        found.choice.number,
+        &found.reads,
+        found.choice.combines,
+        log,
+    )
+}
+
+/// The run over the log of what a search finds, None where that is nothing. `NoMemory` where there is none.
+fn run_found(search: &Search, log: &[Event]) -> Result<Option<Vec<Step>>, NoMemory>
+    requires proper { start_of search.now.header.now.world search.now.kind < 4 }
+    requires answers { IsAnswers search.now.header.now (reverse search.now.events.now) search.now.answers.now }
+    ensures { IfOk result (λ found. FindsRun search.now.header.now (reverse search.now.events.now)
+        (Write 0 search.now.place search.now.value) search.now.kind search.now.way.now log.now (option_map (λ v. v.items) found)) }
+{
+    match first_found(search)? {
+        Some(found) => {
+            let steps = run_by(search, &found, log)?;
+            Ok(Some(steps))
+        }
+        None => Ok(None),
+    }
+}
+
+/// The header is one that can be said: what its number of PEs is.
+fn said(header: &Header) -> u8
+    ensures { heading_ok header.now ≡ true }
+{
+    header.pes
+}
+
+/// The run over the log of the first plain conflict run at a write after the events, None where there is none.
+/// `NoMemory` where there is no memory.
+fn find_at(
+    alloc: Global,
+    header: &Header,
+    log: &[Event],
+    before: &[Event],
+    place: Place,
+    value: u64,
+) -> Result<Option<Vec<Step>>, NoMemory>
+    requires fits { All (λ event. fits_heading header.now event ≡ true) before.now }
+    ensures { IfOk result (λ found. (pe : ℕ) → reverse log.now ≡ Write pe place value ∷ reverse before.now
+        → spec.IsRefused header.now (reverse before.now) pe place value → spec.holds_leaf header.now (reverse before.now) place ≡ true
+        → Finds header.now (reverse before.now) (Write pe place value) (option_map (λ v. v.items) found)) }
+{
+    law_plain_is_tested();
+    law_least_reads();
+    law_proper();
+    said(header);
+    let history = history_of(alloc, header, before)?;
+    match kind_at(&history, place) {
+        Some(kind) => {
+            let answers = answers_of(alloc, header, before)?;
+            let way = way_to(alloc, &history, place)?;
+            let search = Search {
+                alloc,
+                header,
+                events: before,
+                answers: &answers,
+                way: &way,
+                kind,
+                place,
+                value,
+            };
+            let found = run_found(&search, log)?;
+            Ok(found)
+        }
+        None => Ok(None),
+    }
+}
+
+/// The run of the first plain conflict run at the last event of a log, where that is a write which the rule of
+/// break-before-make refuses at a place that holds a leaf, after events that keep the rules: the steps, the oldest first,
+/// with that write as the last one. None exactly where no conflict run is plain. First is the run with the fewest events
+/// before its start; then that of the least PE; then of the least VMID or ASID; then that with the least list of pairs of
+/// place and value that it reads; then the one without a combine; then that with the fewest events before its combine.
+/// `NoMemory` where there is none.
+pub fn find(alloc: Global, header: &Header, log: &Vec<Event>) -> Result<Option<Vec<Step>>, NoMemory>
+    requires fits { All (λ event. fits_heading header.now event ≡ true) log.now.items }
+    ensures { IfOk result (λ found. (h : List TheEvent) (pe place value : ℕ) → reverse log.now.items ≡ Write pe place value ∷ h
+        → spec.IsRefused header.now h pe place value → spec.holds_leaf header.now h place ≡ true
+        → Finds header.now h (Write pe place value) (option_map (λ v. v.items) found)) }
+{
+    let events = log.as_slice();
+    let [before @ .., last] = events else {
+        return Ok(None);
+    };
+    match *last {
+        Event::Write { place, value, .. } => {
+            let found = find_at(alloc, header, events, before, place, value)?;
+            Ok(found)
+        }
+        _ => Ok(None),
+    }
+}
