@@ -31,8 +31,8 @@ use Rattle.bbm_session.specs.declared.stop.Turn.TheVariants.{Taken, End}
 use Rattle.bbm_session.specs.Fold.{Fold, Turned, Halts, alone, refusing, Ending, turned_by, end_by, ending_after, ending_from, ending_at, passes_to, lines_from, header_by, IsStart, IsInside, IsEnd}
 use Rattle.bbm_session.specs.Folds.{Judged, Judges, StopsKnown, judged_at, judged_by, event_on, event_needs, item_needs, line_needs, is_frugal, judging, judging_for}
 use Rattle.bbm_session.specs.Run.{EventNeeds, ItemNeeds, NeedsMemory, NeedsRoom, ReadFor, ReadTo, ReadToFault, ReadToWant, UpTo, limits_of}
-use Rattle.bbm_session.specs.Refused.{IsRefused}
-use Rattle.bbm_session.specs.Stages.{StopsAt, MayJudge, MayTakeLine, Keeps, KnowsAt, KnowsThat, KnowsWhy, RefusedOn, TellsEvent, JudgesLine, TakesLine, Ends, event_in}
+use Rattle.bbm_session.specs.Refused.{IsRefused, event_in}
+use Rattle.bbm_session.specs.Stages.{StopsAt, MayJudge, MayTakeLine, Keeps, KnowsAt, KnowsThat, KnowsWhy, RefusedOn, TellsEvent, JudgesLine, TakesLine, Ends}
 use Rattle.bbm_session.proofs.ReadBytes.{ByName, Named, ToFault, ToWant, read-by}
 
 -- ---- an event

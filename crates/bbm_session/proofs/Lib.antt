@@ -3,12 +3,15 @@ pub mod RefusedLines
 pub mod Refusals
 pub mod Puts
 pub mod Pouring
+pub mod ManyLines
+pub mod ConflictRuns
 pub mod Stages
 pub mod ReadBytes
 pub mod Judgements
 pub mod RunLines
 pub mod CertificateLines
 pub mod ShownLogs
+pub mod RefusedEvents
 pub mod Served
 pub mod Selftests
 pub mod GeneratedLogs

@@ -19,8 +19,8 @@ use Rattle.bbm_report.specs.Further.{explained, lines_of_rule, phase_lines}
 use Rattle.bbm_report.specs.Lines.{phase_text}
 use Rattle.bbm_session.specs.declared.command.Command.{Command}
 use Rattle.bbm_session.specs.declared.command.Command.TheVariants.{Check, Slow, Explain, Walk, Show}
-use Rattle.bbm_session.specs.declared.command.Evidence.TheVariants.{Idle}
-use Rattle.bbm_session.specs.Run.{FurtherIn, Says}
+use Rattle.bbm_session.specs.declared.command.Evidence.TheVariants.{Idle, Counterrun, Cert}
+use Rattle.bbm_session.specs.Run.{Says, SaysIn}
 use Rattle.bbm_session.specs.Stages.{EndsThere, Keeps, Knows}
 use Rattle.bbm_session.specs.Telling.{place_named, place_of_rule}
 use Rattle.bbm_session.specs.Writing.{Part, Puts}
@@ -133,21 +133,24 @@ knows-keeps stands heading h (Malformed line cause) place is knows = cc
 knows-keeps stands heading h (Limit line which) place is knows = cc
 
 -- a verdict behind which nothing is said
-nothing-further : (command : Command) (heading : Option Heading) (h : List EventOf) (v : Verdict) → EndsThere v → FurtherIn command heading h v []
-nothing-further command heading h (Accepted events) ends = absurd ends
-nothing-further command heading h (Refused line rule at label) ends = absurd ends
-nothing-further command None h (Malformed line cause) ends = refl
-nothing-further Check (Some heading) h (Malformed line cause) ends = refl
-nothing-further Slow (Some heading) h (Malformed line cause) ends = refl
-nothing-further Explain (Some heading) h (Malformed line cause) ends = refl
-nothing-further (Walk question) (Some heading) h (Malformed line cause) ends = refl
-nothing-further (Show Idle) (Some heading) h (Malformed line cause) ends = refl
-nothing-further command None h (Limit line which) ends = refl
-nothing-further Check (Some heading) h (Limit line which) ends = refl
-nothing-further Slow (Some heading) h (Limit line which) ends = refl
-nothing-further Explain (Some heading) h (Limit line which) ends = refl
-nothing-further (Walk question) (Some heading) h (Limit line which) ends = refl
-nothing-further (Show Idle) (Some heading) h (Limit line which) ends = refl
+line-alone : (command : Command) (heading : Heading) (h : List EventOf) (refused : Option EventOf) (v : Verdict) → EndsThere v → SaysIn command heading h refused v (verdict_text v)
+line-alone command heading h refused (Accepted events) ends = absurd ends
+line-alone command heading h refused (Refused line rule at label) ends = absurd ends
+line-alone Check heading h refused (Malformed line cause) ends = refl
+line-alone Slow heading h refused (Malformed line cause) ends = refl
+line-alone Explain heading h refused (Malformed line cause) ends = sym (append-nil (verdict_text (Malformed line cause)))
+line-alone (Walk question) heading h refused (Malformed line cause) ends = ([], sym (append-nil (verdict_text (Malformed line cause))), refl)
+line-alone (Show Idle) heading h refused (Malformed line cause) ends = sym (append-nil (verdict_text (Malformed line cause)))
+line-alone (Show Counterrun) heading h refused (Malformed line cause) ends = refl
+line-alone (Show Cert) heading h refused (Malformed line cause) ends = refl
+line-alone Check heading h refused (Limit line which) ends = refl
+line-alone Slow heading h refused (Limit line which) ends = refl
+line-alone Explain heading h refused (Limit line which) ends = sym (append-nil (verdict_text (Limit line which)))
+line-alone (Walk question) heading h refused (Limit line which) ends = ([], sym (append-nil (verdict_text (Limit line which))), refl)
+line-alone (Show Idle) heading h refused (Limit line which) ends = sym (append-nil (verdict_text (Limit line which)))
+line-alone (Show Counterrun) heading h refused (Limit line which) ends = refl
+line-alone (Show Cert) heading h refused (Limit line which) ends = refl
 
-pub says-line : (command : Command) (heading : Option Heading) (h : List EventOf) (v : Verdict) → EndsThere v → Says command heading h v (verdict_text v)
-says-line command heading h v ends = ([], sym (append-nil (verdict_text v)), nothing-further command heading h v ends)
+pub says-line : (command : Command) (heading : Option Heading) (h : List EventOf) (refused : Option EventOf) (v : Verdict) → EndsThere v → Says command heading h refused v (verdict_text v)
+says-line command None h refused v ends = refl
+says-line command (Some heading) h refused v ends = line-alone command heading h refused v ends

@@ -54,10 +54,14 @@ middle true true c is = refl
 middle true false c is = is
 middle false b c is = absurd (false≢true is)
 
+same-place : (heading : Heading) (h : List Noted) (pe place value at : ℕ) → break_before_make heading Patterns h (Write pe place value) ≡ Some at → place ≡ at
+same-place heading h pe place value at is =
+    bound (node_of heading Patterns h (page_of place)) place at _ (λ n. bound (held_at heading Patterns h n place) place at _ (λ old. only-so _ place at)) is
+
 place-of : (heading : Heading) (h : List Noted) (e : EventOf) (at : ℕ) → fits_heading heading e ≡ true
     → break_before_make heading Patterns h e ≡ Some at → is_place at ≡ true
 place-of heading h (Write pe place value) at fits is =
-    let same : place ≡ at = bound (node_of heading Patterns h (page_of place)) place at _ (λ n. bound (held_at heading Patterns h n place) place at _ (λ old. only-so _ place at)) is in
+    let same = same-place heading h pe place value at is in
     subst (λ (x : ℕ). is_place x ≡ true) same (middle (is_pe heading pe) (is_place place) (is_value value) fits)
 place-of heading h (Init pe page) at fits is = cc
 place-of heading h (Null pe page) at fits is = cc
@@ -106,3 +110,11 @@ names-it stands heading h (Refused line rule at label) refused kept tells =
     (kept, names-place heading h tells.0 (record { rule = rule; at = at }) tells.2.fits tells.2.breaks)
 names-it stands heading h (Malformed line cause) refused kept tells = tt
 names-it stands heading h (Limit line which) refused kept tells = tt
+
+-- a write that breaks the rule of break-before-make is named by its place
+pub write-place : (heading : Heading) (h : List EventOf) (pe place value at : ℕ)
+    → broken heading Patterns h (Write pe place value) ≡ Some (record { rule = BreakBeforeMake; at = at }) → place ≡ at
+unfolding broken
+write-place heading h pe place value at is =
+    let notes = noted heading Patterns h in
+    same-place heading notes pe place value at (first-named heading notes (Write pe place value) rules (record { rule = BreakBeforeMake; at = at }) is)

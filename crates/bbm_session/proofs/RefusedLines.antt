@@ -24,8 +24,8 @@ use Rattle.bbm_session.specs.declared.stop.Stop.TheVariants.{Decided, ReadFault,
 use Rattle.bbm_session.specs.Fold.{Turned, Halts, refusing, ending_after, ending_at, ending_from}
 use Rattle.bbm_session.specs.Folds.{Judged, event_on, judged_at, judged_by, judging}
 use Rattle.bbm_session.specs.JudgedLog.{RefusesIn, StopsIn}
-use Rattle.bbm_session.specs.Refused.{IsRefused, RefusedIn}
-use Rattle.bbm_session.specs.Stages.{Stops, event_in}
+use Rattle.bbm_session.specs.Refused.{IsRefused, RefusedIn, event_in}
+use Rattle.bbm_session.specs.Stages.{Stops}
 use Rattle.bbm_session.specs.Writing.{Heads}
 use Rattle.bbm_session.proofs.Judgements.{AllFit, decided-by, end-is, fits-read, refuses-item, step-is}
 

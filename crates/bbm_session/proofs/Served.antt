@@ -34,12 +34,14 @@ use Rattle.bbm_session.specs.Folds.{Certifies, Follows, Judged, certifying, is_f
 use Rattle.bbm_session.specs.Requests.{status_for, IsTextFor, IsSomeTextFor, unread_for, ReadForAll, FaultAt, WantAt, reads_input}
 use Rattle.bbm_session.specs.Generating.{gen_text, selftest_text}
 use Rattle.bbm_session.specs.Run.{IsTextOf, Says, ReadFor, ShowsMore, Wants, limits_of, status_of, tells_verdict}
+use Rattle.bbm_session.specs.Refused.{refused_in}
 use Rattle.bbm_session.specs.Runs.{RunReadFor, followed_status, run_status}
 use Rattle.bbm_session.specs.Stages.{Breaks, Concludes, Continues, Ends, HeaderLine, Starts, Starves, Stops}
 use Rattle.bbm_session.specs.Writing.{Answered, Heads, IsLine, Obeys, FollowsRun, ReportsJudged, ReportsRun, Part, Reports, Serves, Silent, Told, Verifies, WantsJudged, WantsRead, WantsRun, Wrote}
 use Rattle.bbm_session.proofs.CertificateLines.{NotAccepted, certifying-start, certified-whole, certified-fault, certified-read-to, certified-want, read-said, not-accepted}
 use Rattle.bbm_session.proofs.RunLines.{following-start, run-said, run-read-to, run-fault, run-want}
-use Rattle.bbm_session.proofs.Judgements.{outcome-said, read-to, fault-is, want-is}
+use Rattle.bbm_session.proofs.Judgements.{AllFit, outcome-said, read-to, fault-is, want-is}
+use Rattle.bbm_session.proofs.RefusedEvents.{says-refused}
 use Rattle.bbm_session.proofs.ReadBytes.{to_fault, to_want}
 use Rattle.bbm_session.proofs.Stages.{continues-concludes, continues-stops, header-passes}
 
@@ -309,7 +311,7 @@ verified-unread stop result old new f f' held held' w w' starts reports =
 
 module _ (command : Command) where
   abbrev JudgedText : Option Heading → Judged → List ℕ → Type 0
-  JudgedText heading said text = Says command heading said.log said.verdict text
+  JudgedText heading said text = Says command heading said.log said.refused said.verdict text
 
   abbrev judged_status : Judged → Status
   judged_status said = status_of said.verdict
@@ -320,14 +322,16 @@ unread_is : {P V : Type 0} (fold : Fold P V) (start : P) (bytes : List ℕ) (lef
 unread_is fold start bytes None v concludes = absurd concludes
 unread_is fold start bytes (Some rest) v concludes = (concludes.0, ap Some (sym concludes.1))
 
-judged_text : (command : Command) (heading : Option Heading) (bytes : List ℕ) (v : Judged) (text : List ℕ) → (ending_at (judging_for command) 1 AtHeader bytes).says ≡ v
-    → Heads (Some bytes) heading → Says command heading v.log v.verdict text → IsTextOf command bytes text
-judged_text command heading bytes v text is heads says =
+judged_text : AllFit → (command : Command) (heading : Option Heading) (bytes : List ℕ) (v : Judged) (text : List ℕ) → (ending_at (judging_for command) 1 AtHeader bytes).says ≡ v
+    → Heads (Some bytes) heading → Says command heading v.log v.refused v.verdict text → IsTextOf command bytes text
+judged_text all command heading bytes v text is heads says =
     let limits = limits_of command in
+    let lines = (text_of bytes).lines in
     let o = ending_at (judging_for command) 1 AtHeader bytes in
-    let said : Says command heading o.says.log o.says.verdict text = subst (λ (x : Judged). Says command heading x.log x.verdict text) (sym is) says in
-    subst (λ (k : Outcome). Says command (heading_in (text_of bytes).lines) k.log k.verdict text) (sym (outcome-said (is_frugal command) limits bytes))
-    (subst (λ (x : Option Heading). Says command x o.says.log o.says.verdict text) (sym heads) said)
+    let told = says-refused all command heading bytes v text is heads says in
+    let said : Says command heading o.says.log (refused_in heading lines o.says.verdict) o.says.verdict text = subst (λ (x : Judged). Says command heading x.log (refused_in heading lines x.verdict) x.verdict text) (sym is) told in
+    subst (λ (k : Outcome). Says command (heading_in lines) k.log (refused_in (heading_in lines) lines k.verdict) k.verdict text) (sym (outcome-said (is_frugal command) limits bytes))
+    (subst (λ (x : Option Heading). Says command x o.says.log (refused_in x lines o.says.verdict) o.says.verdict text) (sym heads) said)
 
 none_left : (v : Verdict) (read : Text) (unread : List ℕ) → status_of v ≡ status.Accepted → ReadFor v read unread → unread ≡ []
 none_left (Accepted events) read unread accepted f = f
@@ -501,7 +505,7 @@ module _ (result : Status) (old new : Option (List ℕ)) (f f' : ℕ) (held held
   pub served-some : (request : Request) → ServesIt request → tells_verdict result ≡ true → (text : List ℕ) × IsSomeTextFor request result text × (held' ≡ extended held text)
   served-some (Judge command) o tell =
       let k = judged_heard command o tell in
-      (k.text, (k.says.verdict, k.is, (o.heading, k.says.log, k.has)), k.written)
+      (k.text, (k.says.verdict, k.is, (o.heading, k.says.log, k.says.refused, k.has)), k.written)
   served-some Follow o tell =
       let k = run_heard o tell in
       (k.text, (k.says, k.is, k.has), k.written)
@@ -518,7 +522,7 @@ module _ (result : Status) (old new : Option (List ℕ)) (f f' : ℕ) (held held
   pub served-part_of_some : (request : Request) → ServesIt request → result ≡ status.WriteFault → (wanted : Status) × (text : List ℕ) × IsSomeTextFor request wanted text × Part text held held'
   served-part_of_some (Judge command) o is =
       let k = judged_cut command o is in
-      (status_of k.says.verdict, k.text, (k.says.verdict, refl, (o.heading, k.says.log, k.has)), k.part)
+      (status_of k.says.verdict, k.text, (k.says.verdict, refl, (o.heading, k.says.log, k.says.refused, k.has)), k.part)
   served-part_of_some Follow o is =
       let k = run_cut o is in
       (run_status k.says, k.text, (k.says, refl, k.has), k.part)
@@ -633,33 +637,33 @@ module _ (result : Status) (old new : Option (List ℕ)) (f f' : ℕ) (held held
     served-status (Generate n count) o tell = (wrote_heard (gen_text n count) o.2 tell).0
     served-status (Selftest n count) o tell = (tested_heard (selftest_text n count) o.2 tell).0
 
-    pub served-text : (request : Request) → ServesIt request → tells_verdict result ≡ true → (text : List ℕ) × IsTextFor request bytes text × (held' ≡ extended held text)
-    served-text (Judge command) o tell =
+    pub served-text : AllFit → (request : Request) → ServesIt request → tells_verdict result ≡ true → (text : List ℕ) × IsTextFor request bytes text × (held' ≡ extended held text)
+    served-text all (Judge command) o tell =
         let k = judged_heard command o tell in
         let c = concluded (judging_for command) AtHeader k.says k.concludes in
-        (k.text, judged_text command o.heading bytes k.says k.text c.0 (heads_at o.heading o.heads) k.has, k.written)
-    served-text Follow o tell =
+        (k.text, judged_text all command o.heading bytes k.says k.text c.0 (heads_at o.heading o.heads) k.has, k.written)
+    served-text all Follow o tell =
         let k = run_heard o tell in
         (k.text, k.has ∙ ap run.run_text (sym (run_concluded k.says k.concludes).0), k.written)
-    served-text Verify o tell =
+    served-text all Verify o tell =
         let k = read_heard o tell in
         (k.text, k.has ∙ ap read_text (sym (read_concluded k.says k.concludes).0), k.written)
-    served-text (Generate n count) o tell = (gen_text n count, refl, (wrote_heard (gen_text n count) o.2 tell).1)
-    served-text (Selftest n count) o tell = (selftest_text n count, refl, (tested_heard (selftest_text n count) o.2 tell).1)
+    served-text all (Generate n count) o tell = (gen_text n count, refl, (wrote_heard (gen_text n count) o.2 tell).1)
+    served-text all (Selftest n count) o tell = (selftest_text n count, refl, (tested_heard (selftest_text n count) o.2 tell).1)
 
-    pub served-part : (request : Request) → ServesIt request → result ≡ status.WriteFault → (text : List ℕ) × IsTextFor request bytes text × Part text held held'
-    served-part (Judge command) o cuts =
+    pub served-part : AllFit → (request : Request) → ServesIt request → result ≡ status.WriteFault → (text : List ℕ) × IsTextFor request bytes text × Part text held held'
+    served-part all (Judge command) o cuts =
         let k = judged_cut command o cuts in
         let c = concluded (judging_for command) AtHeader k.says k.concludes in
-        (k.text, judged_text command o.heading bytes k.says k.text c.0 (heads_at o.heading o.heads) k.has, k.part)
-    served-part Follow o cuts =
+        (k.text, judged_text all command o.heading bytes k.says k.text c.0 (heads_at o.heading o.heads) k.has, k.part)
+    served-part all Follow o cuts =
         let k = run_cut o cuts in
         (k.text, k.has ∙ ap run.run_text (sym (run_concluded k.says k.concludes).0), k.part)
-    served-part Verify o cuts =
+    served-part all Verify o cuts =
         let k = read_cut o cuts in
         (k.text, k.has ∙ ap read_text (sym (read_concluded k.says k.concludes).0), k.part)
-    served-part (Generate n count) o cuts = (gen_text n count, refl, (wrote_cut (gen_text n count) o.2 cuts).1)
-    served-part (Selftest n count) o cuts = (selftest_text n count, refl, (tested_cut (selftest_text n count) o.2 cuts).1)
+    served-part all (Generate n count) o cuts = (gen_text n count, refl, (wrote_cut (gen_text n count) o.2 cuts).1)
+    served-part all (Selftest n count) o cuts = (selftest_text n count, refl, (tested_cut (selftest_text n count) o.2 cuts).1)
 
     pub served-unread : (request : Request) → ServesIt request → tells_verdict result ≡ true → new ≡ Some (unread_for request bytes)
     served-unread (Judge command) o tell = let k = judged_heard command o tell in (judged_concluded command k.says k.concludes).1

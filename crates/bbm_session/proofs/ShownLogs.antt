@@ -56,7 +56,7 @@ pub answered-shown : (command : Command) (heading : Option Heading) (reached : P
     (old new : Option (List ℕ)) (f f' : ℕ) (held held' : Option (List ℕ)) (w w' : ℕ)
     → Stops (judging_for command) 1 AtHeader old stop reached new f f'
     → ReportsShown command heading (events_in reached) stop result held held' w w'
-    → Answered (judging_for command) AtHeader (λ said text. Says command heading said.log said.verdict text)
+    → Answered (judging_for command) AtHeader (λ said text. Says command heading said.log said.refused said.verdict text)
     (λ said. status_of said.verdict) (WantsJudged command) result old new f f' held held' w w'
 answered-shown command heading reached (Decided decision) result old new f f' held held' w w' stops (inl told) = inl (record {
   says = judged_at reached decision;

@@ -33,7 +33,8 @@ use Rattle.bbm_session.specs.declared.command.Command.TheVariants.{Check, Slow, 
 use Rattle.bbm_session.specs.Fold.{Fold, Turned, Halts, Passes, alone, refusing}
 use Rattle.bbm_session.specs.Run.{limits_of}
 use Rattle.bbm_session.specs.Runs.{step_needs}
-use Rattle.bbm_session.specs.Stages.{Keeps, KnowsAt, Stops, event_in}
+use Rattle.bbm_session.specs.Refused.{event_in}
+use Rattle.bbm_session.specs.Stages.{Keeps, KnowsAt, Stops}
 use Rattle.bbm_session.specs.declared.stop.Decision.{Decision}
 use Rattle.bbm_session.specs.declared.stop.Stop.{Stop}
 use Rattle.bbm_session.specs.declared.stop.Stop.TheVariants.{Decided, NoMemory}

@@ -14,6 +14,11 @@ use Rattle.bbm_rules.specs.Texts.{verdict_text}
 abbrev pub ended : List ℕ → List ℕ
 ended line = line ++ 10 ∷ []
 
+-- the lines of things, one behind the other
+abbrev pub lines_of : {A : Type 0} → (A → List ℕ) → List A → List ℕ
+lines_of line [] = []
+lines_of line (a ∷ more) = ended (line a) ++ lines_of line more
+
 -- the line of the header
 abbrev pub gen_first : List ℕ
 gen_first = ended (header_line heading)

@@ -1,4 +1,6 @@
 pub mod Certificates
+pub mod CertTexts
+pub mod Counterruns
 pub mod Fold
 pub mod Folds
 pub mod Generating
@@ -6,6 +8,7 @@ pub mod JudgedLog
 pub mod Keeping
 pub mod Pieces
 pub mod Refused
+pub mod RefusedLogs
 pub mod Requests
 pub mod Run
 pub mod Runs

@@ -2,6 +2,7 @@
 -- Source: project's own choice.
 use Rattle.std.specs.Prelude.{◌≡◌, ◌⊎◌, ℕ, suc, ◌≤◌, List, [], ◌∷◌, ◌++◌, length, Option, Some, None, option_map}
 use Rattle.std.specs.Prelude.{Result, Ok, IsOk, Bool, true, false, codes, bytes_eq, if◌then◌else◌}
+use Rattle.bbm_rules.specs.declared.rule.Rule.TheVariants.{BreakBeforeMake}
 use Rattle.bbm_rules.specs.declared.verdict.Verdict.{Verdict}
 use Rattle.bbm_rules.specs.declared.verdict.Verdict.TheVariants.{Accepted, Refused, Malformed, Limit}
 use Rattle.bbm_events.specs.declared.event.Item.{Item}
@@ -20,8 +21,9 @@ use Rattle.bbm_report.specs.Further.{Walked, explained, heading_in}
 use Rattle.bbm_report.specs.Questions.{walk_asked}
 use Rattle.bbm_session.specs.declared.command.Command.{Command}
 use Rattle.bbm_session.specs.declared.command.Command.TheVariants.{Check, Slow, Explain, Walk, Show}
-use Rattle.bbm_session.specs.declared.command.Evidence.TheVariants.{Idle}
-use Rattle.bbm_session.specs.Shown.{shown}
+use Rattle.bbm_session.specs.declared.command.Evidence.TheVariants.{Idle, Counterrun, Cert}
+use Rattle.bbm_session.specs.Refused.{refused_in}
+use Rattle.bbm_session.specs.Shown.{Shown}
 use Rattle.bbm_session.specs.declared.status.Status.{Status}
 use Rattle.bbm_session.specs.declared.status.Status.TheVariants as status
 
@@ -31,7 +33,9 @@ command_at word =
     if bytes_eq word (codes "check") then Some Check
     else (if bytes_eq word (codes "slow") then Some Slow
     else (if bytes_eq word (codes "explain") then Some Explain
-    else (if bytes_eq word (codes "idle") then Some (Show Idle) else None)))
+    else (if bytes_eq word (codes "counterrun") then Some (Show Counterrun)
+    else (if bytes_eq word (codes "cert") then Some (Show Cert)
+    else (if bytes_eq word (codes "idle") then Some (Show Idle) else None)))))
 
 abbrev pub command_alone : List (List ℕ) → Option Command
 command_alone (word ∷ []) = command_at word
@@ -54,37 +58,37 @@ limits_of Explain = check_limits
 limits_of (Walk question) = check_limits
 limits_of (Show evidence) = slow_limits
 
--- What a command says behind the line of a verdict, after these events of a log with this heading. Nothing is said
--- where the log has no heading.
-abbrev pub Further : Command → Heading → List Event → Verdict → List ℕ → Type 0
-Further Check heading h verdict further = further ≡ []
-Further Slow heading h verdict further = further ≡ []
-Further Explain heading h verdict further = further ≡ explained heading h verdict
-Further (Walk question) heading h verdict further = Walked heading h question verdict further
-Further (Show evidence) heading h verdict further = further ≡ shown evidence heading h verdict
+-- The text of a command for a verdict, after these events of a log with this heading, and for the event that the verdict
+-- refuses, if there is one: the line of the verdict, and what is said behind it; or what the command shows.
+abbrev pub SaysIn : Command → Heading → List Event → Option Event → Verdict → List ℕ → Type 0
+SaysIn Check heading h refused verdict text = text ≡ verdict_text verdict
+SaysIn Slow heading h refused verdict text = text ≡ verdict_text verdict
+SaysIn Explain heading h refused verdict text = text ≡ verdict_text verdict ++ explained heading h verdict
+SaysIn (Walk question) heading h refused verdict text =
+    (further : List ℕ) × (text ≡ verdict_text verdict ++ further) × Walked heading h question verdict further
+SaysIn (Show evidence) heading h refused verdict text = Shown evidence heading h refused verdict text
 
-abbrev pub FurtherIn : Command → Option Heading → List Event → Verdict → List ℕ → Type 0
-FurtherIn command None h verdict further = further ≡ []
-FurtherIn command (Some heading) h verdict further = Further command heading h verdict further
+-- The same; where the log has no heading it is the line of the verdict.
+abbrev pub Says : Command → Option Heading → List Event → Option Event → Verdict → List ℕ → Type 0
+Says command None h refused verdict text = text ≡ verdict_text verdict
+Says command (Some heading) h refused verdict text = SaysIn command heading h refused verdict text
 
--- the text of a command: the line of a verdict, and what is said behind it
-abbrev pub Says : Command → Option Heading → List Event → Verdict → List ℕ → Type 0
-Says command heading h verdict text =
-    (further : List ℕ) × (text ≡ verdict_text verdict ++ further) × FurtherIn command heading h verdict further
-
--- The text of a command for these bytes: their verdict, and what is said of the events before the line that decides.
+-- The text of a command for these bytes: by their verdict, the events before the line that decides, and the event of that
+-- line where it is refused.
 abbrev pub IsTextOf : Command → List ℕ → List ℕ → Type 0
 IsTextOf command bytes text =
     let outcome : Outcome = outcome_of Patterns (limits_of command) bytes in
-    Says command (heading_in (text_of bytes).lines) outcome.log outcome.verdict text
+    let lines = (text_of bytes).lines in
+    Says command (heading_in lines) outcome.log (refused_in (heading_in lines) lines outcome.verdict) outcome.verdict text
 
 -- the text of a command for a verdict, where it isn't told what was read
 abbrev pub IsSomeText : Command → Verdict → List ℕ → Type 0
-IsSomeText command verdict text = (heading : Option Heading) × (h : List Event) × Says command heading h verdict text
+IsSomeText command verdict text =
+    (heading : Option Heading) × (h : List Event) × (refused : Option Event) × Says command heading h refused verdict text
 
 -- the usage line, which names all commands
 abbrev pub usage_text : List ℕ
-usage_text = codes "usage: bbm check | slow | explain | walk KIND ROOT ADDR | gen N COUNT | selftest N COUNT | follow | verify | idle\n"
+usage_text = codes "usage: bbm check | slow | explain | walk KIND ROOT ADDR | gen N COUNT | selftest N COUNT | follow | counterrun | cert | verify | idle\n"
 
 -- the status of a verdict
 abbrev pub status_of : Verdict → Status
@@ -189,9 +193,11 @@ abbrev pub shows : Command → Bool
 shows (Show evidence) = true
 shows _ = false
 
--- A command shows more of the events behind this verdict.
+-- A command may show more of the events for this verdict.
 abbrev pub ShowsMore : Command → Verdict → Type 0
 ShowsMore (Show Idle) (Accepted events) = Unit {0}
+ShowsMore (Show Counterrun) (Refused line BreakBeforeMake at label) = Unit {0}
+ShowsMore (Show Cert) (Accepted events) = Unit {0}
 ShowsMore _ _ = ⊥
 
 -- There was no memory for what is shown: all was read that the verdict needs.

@@ -1,6 +1,6 @@
--- What a command shows of the events of a log, behind the line of the verdict. A history is newest first.
+-- What a command shows of the events of a log. A history is newest first.
 -- Source: project's own choice.
-use Rattle.std.specs.Prelude.{ℕ, ◌+◌, Bool, List, [], ◌∷◌, ◌++◌, length, if◌then◌else◌}
+use Rattle.std.specs.Prelude.{◌≡◌, ℕ, ◌+◌, Bool, List, [], ◌∷◌, ◌++◌, length, Option, if◌then◌else◌}
 use Rattle.bbm_idle.specs.Idle.{idle_marks}
 use Rattle.bbm_events.specs.declared.event.Event.{Event}
 use Rattle.bbm_events.specs.Heading.{Heading}
@@ -8,7 +8,10 @@ use Rattle.bbm_report.specs.Lines.{idle_text}
 use Rattle.bbm_rules.specs.declared.verdict.Verdict.{Verdict}
 use Rattle.bbm_rules.specs.declared.verdict.Verdict.TheVariants.{Accepted}
 use Rattle.bbm_session.specs.declared.command.Evidence.{Evidence}
-use Rattle.bbm_session.specs.declared.command.Evidence.TheVariants.{Idle}
+use Rattle.bbm_rules.specs.Texts.{verdict_text}
+use Rattle.bbm_session.specs.CertTexts.{CertOf}
+use Rattle.bbm_session.specs.Counterruns.{RunOf, refused_write}
+use Rattle.bbm_session.specs.declared.command.Evidence.TheVariants.{Idle, Counterrun, Cert}
 
 -- the line of an event behind so many others, where it is marked: the first event stands on line 2
 abbrev pub marked_line : Bool → ℕ → List ℕ
@@ -19,7 +22,14 @@ abbrev pub marked_lines : List Bool → List ℕ
 marked_lines [] = []
 marked_lines (marked ∷ older) = marked_lines older ++ marked_line marked (length older)
 
--- Shown: of an accepted log the lines of its idle events.
-abbrev pub shown : Evidence → Heading → List Event → Verdict → List ℕ
-shown Idle heading h (Accepted events) = marked_lines (idle_marks heading h)
-shown Idle heading h _ = []
+-- of an accepted log the lines of its idle events
+abbrev pub idle_lines : Heading → List Event → Verdict → List ℕ
+idle_lines heading h (Accepted events) = marked_lines (idle_marks heading h)
+idle_lines heading h _ = []
+
+-- Shown: the line of the verdict, and behind it those of idle events; or where break-before-make refuses an event, a run;
+-- or of an accepted log its certificate.
+abbrev pub Shown : Evidence → Heading → List Event → Option Event → Verdict → List ℕ → Type 0
+Shown Idle heading h refused verdict text = text ≡ verdict_text verdict ++ idle_lines heading h verdict
+Shown Counterrun heading h refused verdict text = RunOf heading h verdict text (refused_write refused verdict)
+Shown Cert heading h refused verdict text = CertOf heading h verdict text

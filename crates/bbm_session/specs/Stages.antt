@@ -228,9 +228,13 @@ TellsEvent heading h _ refused = Unit {0}
 
 -- Where a log is accepted, or an event of it refused, the checker stands for the events before the line that decides,
 -- which keep the rules; and the event that is refused is told.
-abbrev pub KnowsAt : (Heading → List EventOf → Type 0) → Heading → List EventOf → Stop → Type 0
-KnowsAt stands heading h (Decided decision) =
+abbrev pub KnowsDecided : (Heading → List EventOf → Type 0) → Heading → List EventOf → Decision → Type 0
+KnowsDecided stands heading h decision =
     KnowsThat (Keeps stands heading h) decision.verdict × TellsEvent heading h decision.verdict decision.refused
+
+-- the same by why reading stopped
+abbrev pub KnowsAt : (Heading → List EventOf → Type 0) → Heading → List EventOf → Stop → Type 0
+KnowsAt stands heading h (Decided decision) = KnowsDecided stands heading h decision
 KnowsAt stands heading h _ = Unit {0}
 
 -- break-before-make names a place
@@ -244,11 +248,6 @@ abbrev pub Knows : (Heading → List EventOf → Type 0) → Heading → List Ev
 Knows stands heading h (Accepted events) = Keeps stands heading h
 Knows stands heading h (Refused line rule at label) = Keeps stands heading h × NamesPlace rule at
 Knows stands heading h _ = Unit {0}
-
--- the event of an item
-abbrev pub event_in : Result Item Cause → Option EventOf
-event_in (Ok (item.Event event label)) = Some event
-event_in _ = None
 
 -- why reading stops at this event with this label that breaks this rule, or else reaches this limit of a history, or for
 -- which there was no memory

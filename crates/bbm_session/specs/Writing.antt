@@ -82,7 +82,7 @@ IsLine decision text = text ≡ verdict_text decision.verdict
 
 -- the text of a command for what was decided
 abbrev pub SaysFor : Command → Option Heading → List Event → Decision → List ℕ → Type 0
-SaysFor command heading h decision text = Says command heading h decision.verdict text
+SaysFor command heading h decision text = Says command heading h decision.refused decision.verdict text
 
 -- the heading of what is left, where that is told
 abbrev pub Heads : Option (List ℕ) → Option Heading → Type 0
@@ -143,19 +143,25 @@ pub record ReadBoth (left left' : Option (List ℕ)) : Type 0 where
 abbrev pub WantsRead : Option (List ℕ) → Option (List ℕ) → Type 0
 WantsRead left left' = Starves certifying 1 read.AtHeader left left' ⊎ ReadBoth left left'
 
--- The text of a command for a verdict was to be written, or there was no memory for what it shows behind it.
-abbrev pub ReportsVerdict : Command → Option Heading → List Event → Verdict → Status → Option (List ℕ)
+-- a text like this was to be written with this status, or there was no memory for it
+abbrev pub ReportsText : (List ℕ → Type 0) → Status → Status → Option (List ℕ) → Option (List ℕ) → ℕ → ℕ → Type 0
+ReportsText Text wanted result old new faults faults' =
+    ((text : List ℕ) × Text text × Wrote wanted text result old new faults faults')
+    ⊎ Silent status.NoMemory result old new faults faults'
+
+-- The text of a command for what was decided was to be written, or there was no memory for what it shows.
+abbrev pub ReportsDecided : Command → Option Heading → List Event → Decision → Status → Option (List ℕ)
     → Option (List ℕ) → ℕ → ℕ → Type 0
-ReportsVerdict command heading h verdict result old new faults faults' =
-    ((text : List ℕ) × Says command heading h verdict text
-    × Wrote (status_of verdict) text result old new faults faults')
-    ⊎ (ShowsMore command verdict × Silent status.NoMemory result old new faults faults')
+ReportsDecided command heading h decision result old new faults faults' =
+    ((text : List ℕ) × SaysFor command heading h decision text
+    × Wrote (status_of decision.verdict) text result old new faults faults')
+    ⊎ (ShowsMore command decision.verdict × Silent status.NoMemory result old new faults faults')
 
 -- the same by why reading stopped
 abbrev pub ReportsShown : Command → Option Heading → List Event → Stop → Status → Option (List ℕ) → Option (List ℕ)
     → ℕ → ℕ → Type 0
 ReportsShown command heading h (Decided decision) result old new faults faults' =
-    ReportsVerdict command heading h decision.verdict result old new faults faults'
+    ReportsDecided command heading h decision result old new faults faults'
 ReportsShown command heading h ReadFault result old new faults faults' =
     Silent status.ReadFault result old new faults faults'
 ReportsShown command heading h NoMemory result old new faults faults' =
@@ -183,7 +189,7 @@ pub record Obeys (command : Command) (result : Status) (left left' : Option (Lis
   pub heading : Option Heading
   pub heads : Heads left heading
   pub answered : Answered (judging_for command) AtHeader
-      (λ said text. Says command heading said.log said.verdict text) (λ said. status_of said.verdict)
+      (λ said text. Says command heading said.log said.refused said.verdict text) (λ said. status_of said.verdict)
       (WantsJudged command) result left left' reads reads' held held' writes writes'
 
 -- a run was followed

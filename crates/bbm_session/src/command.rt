@@ -28,7 +28,7 @@ pub enum Command {
     Explain,
     /// The same as `Check`; where the log is accepted, behind it the line of a walk over the values at its end.
     Walk(Question),
-    /// The same as `Slow`; where the log is accepted, behind it what its events show.
+    /// The same as `Slow`, with what the events of the log show.
     Show(Evidence),
 }
 
@@ -37,6 +37,11 @@ pub enum Command {
 pub enum Evidence {
     /// The events of an accepted log that it can do without.
     Idle,
+    /// Where break-before-make refuses a write at a place that holds a leaf, in place of the line of the verdict a run of
+    /// the machine of TLBs that ends in a conflict at it.
+    Counterrun,
+    /// In place of the line of an accepted log its certificate: the claims by which alone it keeps the rules.
+    Cert,
 }
 
 /// What the program is asked for.
@@ -77,6 +82,10 @@ fn said_alone(words: &[String]) -> Option<Command>
         Some(Command::Slow)
     } else if words[0].as_bytes() == b"explain".as_slice() {
         Some(Command::Explain)
+    } else if words[0].as_bytes() == b"counterrun".as_slice() {
+        Some(Command::Show(Evidence::Counterrun))
+    } else if words[0].as_bytes() == b"cert".as_slice() {
+        Some(Command::Show(Evidence::Cert))
     } else if words[0].as_bytes() == b"idle".as_slice() {
         Some(Command::Show(Evidence::Idle))
     } else {

@@ -12,7 +12,8 @@ ghost use Rattle.bbm_rules.specs.Outcome.{Progress, is_reached, limit_after, aft
 ghost use Rattle.bbm_log_grammar.specs.InLine.{read_in};
 ghost use Rattle.bbm_session.specs.Fold.{Fold};
 ghost use Rattle.bbm_session.specs.Folds.{Judged, Judges, event_needs, item_needs};
-ghost use Rattle.bbm_session.specs.Stages.{StopsAt, MayJudge, Keeps, JudgesLine, MayTakeLine, TakesLine, event_in};
+ghost use Rattle.bbm_session.specs.Stages.{StopsAt, MayJudge, Keeps, JudgesLine, MayTakeLine, TakesLine};
+ghost use Rattle.bbm_session.specs.Refused.{event_in};
 
 use crate::reading::{limit, stop_limit, stop_malformed};
 use crate::stop::{Decision, Stop, Turn};

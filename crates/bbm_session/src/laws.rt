@@ -6,7 +6,8 @@ ghost use Rattle.bbm_cert.specs.Judged.{judged};
 ghost use Rattle.bbm_cert.specs.declared.judged.Judged.TheVariants.{Yes};
 ghost use Rattle.bbm_tlb_machine.specs.Safe.{IsLog, Safe};
 ghost use Rattle.bbm_gen.specs.Generated.{heading, log_of};
-ghost use Rattle.bbm_events.specs.Heading.{Heading};
+ghost use Rattle.bbm_certify.specs.Least.{IsCertificate};
+ghost use Rattle.bbm_events.specs.Heading.{Heading, heading_ok};
 ghost use Rattle.bbm_events.specs.declared.claim.Claim.{Claim};
 ghost use Rattle.bbm_events.specs.declared.event.Event.{Event};
 ghost use Rattle.bbm_rules.specs.Broken.{keeps};
@@ -22,6 +23,7 @@ ghost use Rattle.bbm_session.specs.Verified.{IsVerified};
 
 use bbm_cert::law_judged;
 use bbm_certificate::law_read_whole;
+use bbm_certify::law_certificate_is_verified;
 use bbm_events::{law_written_is_a_line, law_written_is_read};
 use bbm_gen::law_gen;
 use bbm_tlb_machine::law_safe;
@@ -61,4 +63,14 @@ pub fn law_verified_is_safe()
     law_read_whole();
     law_judged();
     law_cert();
+}
+
+/// Of a log, newest first, that keeps the rules its certificate, as `cert` writes it, says yes: by its claims alone the
+/// log keeps them. The header is one that can be said. The call does nothing; the law is its contract.
+pub fn law_certificate_says_yes()
+    ensures { (heading : Heading) (log : List Event) (claims : List Claim) → heading_ok heading ≡ true →
+        keeps heading Patterns log ≡ true → IsCertificate heading log claims → judged heading claims log ≡ Yes }
+{
+    law_certificate_is_verified();
+    law_judged();
 }

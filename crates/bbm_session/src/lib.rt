@@ -3,7 +3,10 @@
 #![tactic(auto)]
 
 mod answering;
+mod buffering;
+mod certifying;
 mod command;
+mod counterrun;
 mod following;
 mod generating;
 mod judgement;
@@ -23,6 +26,8 @@ mod top;
 mod verifying;
 
 pub use command::{Command, Evidence, Request};
-pub use laws::{law_cert, law_generated_is_accepted, law_verified_is_safe};
+pub use laws::{
+    law_cert, law_certificate_says_yes, law_generated_is_accepted, law_verified_is_safe,
+};
 pub use status::{Status, number};
 pub use top::run;

@@ -5,15 +5,18 @@ ghost use Rattle.bbm_events.specs.declared.event.Event.{Event};
 ghost use Rattle.bbm_rules.specs.Texts.{verdict_text as text_of_verdict};
 ghost use Rattle.bbm_report.specs.Lines.{idle_text as text_of_idle};
 ghost use Rattle.bbm_session.specs.declared.command.Command.TheVariants as command_of;
+ghost use Rattle.bbm_session.specs.declared.command.Evidence.TheVariants.{Idle};
 ghost use Rattle.bbm_session.specs.Shown.{marked_line, marked_lines};
-ghost use Rattle.bbm_session.specs.Stages.{Keeps, KnowsAt, KnowsThat, Shrinks};
-ghost use Rattle.bbm_session.specs.Writing.{Obeys, Puts, ReportsIdle, ReportsShown, ReportsVerdict};
+ghost use Rattle.bbm_session.specs.Stages.{Keeps, KnowsAt, KnowsDecided, KnowsThat, Shrinks};
+ghost use Rattle.bbm_session.specs.Writing.{Obeys, Puts, ReportsDecided, ReportsIdle, ReportsShown};
 
 use crate::answering::{report_stop, settled, status};
+use crate::certifying::report_cert;
 use crate::command::{Command, Evidence, limits};
+use crate::counterrun::report_counterrun;
 use crate::judgement::judge_log;
 use crate::status::Status;
-use crate::stop::Stop;
+use crate::stop::{Decision, Stop};
 use crate::telling::{tell, tell_verdict};
 use arrayvec::ArrayVec;
 use bbm_events::Header;
@@ -82,25 +85,46 @@ fn report_idle<C: Logged, K: Sink>(
     }
 }
 
+/// Says what was decided, and of an accepted log which events it can do without.
+fn report_idles<C: Logged, K: Sink>(
+    alloc: Global,
+    header: &Header,
+    checker: &C,
+    decision: &Decision,
+    out: &mut K,
+) -> Status
+    requires { (h : List Event) × KnowsThat (Keeps (C.stands checker.now) header.now h) decision.now.verdict }
+    ensures { (h : List Event) → KnowsThat (Keeps (C.stands checker.now) header.now h) decision.now.verdict
+        → ReportsDecided (command_of.Show Idle) (Some header.now) h decision.now result
+        (K.held out.old) (K.held out.new) (K.faults out.old) (K.faults out.new) }
+{
+    match &decision.verdict {
+        Verdict::Accepted { .. } => report_idle(alloc, header, checker, &decision.verdict, out),
+        _ => settled(
+            tell_verdict(&decision.verdict, out),
+            status(&decision.verdict),
+        ),
+    }
+}
+
 /// Says what was decided, and shows what there is to show.
 fn report_decided<C: Logged, K: Sink>(
     alloc: Global,
     evidence: &Evidence,
     header: &Header,
     checker: &C,
-    verdict: &Verdict,
+    decision: &Decision,
     out: &mut K,
 ) -> Status
-    requires { (h : List Event) × KnowsThat (Keeps (C.stands checker.now) header.now h) verdict.now }
-    ensures { (h : List Event) → KnowsThat (Keeps (C.stands checker.now) header.now h) verdict.now
-        → ReportsVerdict (command_of.Show evidence.now) (Some header.now) h verdict.now result
+    requires { (h : List Event) × KnowsDecided (C.stands checker.now) header.now h decision.now }
+    ensures { (h : List Event) → KnowsDecided (C.stands checker.now) header.now h decision.now
+        → ReportsDecided (command_of.Show evidence.now) (Some header.now) h decision.now result
         (K.held out.old) (K.held out.new) (K.faults out.old) (K.faults out.new) }
 {
-    match verdict {
-        Verdict::Accepted { .. } => match evidence {
-            Evidence::Idle => report_idle(alloc, header, checker, verdict, out),
-        },
-        _ => settled(tell_verdict(verdict, out), status(verdict)),
+    match evidence {
+        Evidence::Idle => report_idles(alloc, header, checker, decision, out),
+        Evidence::Counterrun => report_counterrun(alloc, header, checker, decision, out),
+        Evidence::Cert => report_cert(alloc, header, checker, decision, out),
     }
 }
 
@@ -120,7 +144,7 @@ fn report_shown<C: Logged, K: Sink>(
 {
     match stop {
         Stop::Decided(decision) => {
-            report_decided(alloc, evidence, header, checker, &decision.verdict, out)
+            report_decided(alloc, evidence, header, checker, &decision, out)
         }
         Stop::ReadFault => Status::ReadFault,
         Stop::NoMemory => Status::NoMemory,

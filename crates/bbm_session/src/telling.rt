@@ -144,8 +144,8 @@ fn tell_walked<C: Checker, K: Sink>(
     out: &mut K,
 ) -> Result<(), Failed>
     requires { (h : List Event) × Knows (C.stands checker.now) header.now h verdict.now }
-    ensures puts { (h : List Event) → Knows (C.stands checker.now) header.now h verdict.now
-        → (text : List ℕ) × Says (command_of.Walk question.now) (Some header.now) h verdict.now text
+    ensures puts { (h : List Event) (refused : Option Event) → Knows (C.stands checker.now) header.now h verdict.now
+        → (text : List ℕ) × Says (command_of.Walk question.now) (Some header.now) h refused verdict.now text
         × Puts text result (K.held out.old) (K.held out.new) (K.faults out.old) (K.faults out.new) }
 {
     match *verdict {
@@ -165,8 +165,8 @@ pub fn tell_all<C: Checker, K: Sink>(
 ) -> Result<(), Failed>
     requires known { (h : List Event) × Knows (C.stands checker.now) header.now h verdict.now }
     requires plain { shows command.now ≡ false }
-    ensures puts { (h : List Event) → Knows (C.stands checker.now) header.now h verdict.now
-        → (text : List ℕ) × Says command.now (Some header.now) h verdict.now text
+    ensures puts { (h : List Event) (refused : Option Event) → Knows (C.stands checker.now) header.now h verdict.now
+        → (text : List ℕ) × Says command.now (Some header.now) h refused verdict.now text
         × Puts text result (K.held out.old) (K.held out.new) (K.faults out.old) (K.faults out.new) }
 {
     match command {

@@ -29,6 +29,7 @@ use crate::showing::show;
 use crate::status::Status;
 use crate::telling::tell;
 use crate::verifying::verify;
+use bbm_events::law_item_fits;
 use bbm_io::{Sink, Source};
 use bbm_oracle::Oracle;
 use bbm_replay::Replay;
@@ -39,7 +40,7 @@ use std::alloc::Global;
 fn usage() -> &'static [u8]
     ensures { result.now ≡ usage_text }
 {
-    b"usage: bbm check | slow | explain | walk KIND ROOT ADDR | gen N COUNT | selftest N COUNT | follow | verify | idle\n"
+    b"usage: bbm check | slow | explain | walk KIND ROOT ADDR | gen N COUNT | selftest N COUNT | follow | counterrun | cert | verify | idle\n"
 }
 
 /// Writes the usage line.
@@ -190,6 +191,7 @@ pub fn run<S: Source, K: Sink>(
     match said(words) {
         Some(request) => {
             law_accepted_is_safe();
+            law_item_fits();
             law_verified_is_safe();
             serve(alloc, &request, log, out)
         }

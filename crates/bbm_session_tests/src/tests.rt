@@ -2,7 +2,9 @@
 //! files of logs.
 
 mod boot_log;
+mod cert;
 mod check;
+mod counterrun;
 mod el2_logs;
 mod explain;
 mod failing;

@@ -6,10 +6,10 @@ use std::test::Fail;
 
 /// The usage line.
 const USAGE: &[u8] =
-    b"usage: bbm check | slow | explain | walk KIND ROOT ADDR | gen N COUNT | selftest N COUNT | follow | verify | idle\n";
+    b"usage: bbm check | slow | explain | walk KIND ROOT ADDR | gen N COUNT | selftest N COUNT | follow | counterrun | cert | verify | idle\n";
 
 /// Words that ask for nothing.
-const NO_REQUESTS: [&str; 51] = [
+const NO_REQUESTS: [&str; 54] = [
     "",
     "check check",
     "check -",
@@ -22,6 +22,9 @@ const NO_REQUESTS: [&str; 51] = [
     "follow follow",
     "Follow",
     "follows",
+    "cert cert",
+    "Cert",
+    "certs",
     "verify verify",
     "Verify",
     "Explain",

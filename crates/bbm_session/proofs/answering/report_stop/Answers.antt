@@ -13,4 +13,4 @@ returns-in-Decided-clause-brief g c = λ brief command heading h.
     let ends = subst (λ (s : Stop). IsBrief s) c.in-Decided.is brief in
     let wrote = subst (λ (s : Status). Wrote s (verdict_text verdict) c.settled.result (g.K.Sink.held c.args.out.now) (g.K.Sink.held c.tell_verdict.new.out) (g.K.Sink.faults c.args.out.now) (g.K.Sink.faults c.tell_verdict.new.out)) c.status.ensures (c.settled.ensures (verdict_text verdict) _ _ _ _ c.tell_verdict.ensures.puts) in
     subst (λ (s : Stop). Reports (SaysFor command heading h) s c.settled.result (g.K.Sink.held c.args.out.now) (g.K.Sink.held c.tell_verdict.new.out) (g.K.Sink.faults c.args.out.now) (g.K.Sink.faults c.tell_verdict.new.out)) (sym c.in-Decided.is)
-    (verdict_text verdict, says-line command heading h verdict ends, wrote)
+    (verdict_text verdict, says-line command heading h c.in-Decided.decision.refused verdict ends, wrote)

@@ -1,8 +1,9 @@
-use Rattle.std.proofs.Common.{◌≡◌, ◌++◌, ℕ, List, Result, Err, ap, subst, sym, ◌∙◌, arith}
+use Rattle.std.proofs.Common.{◌≡◌, ◌++◌, ℕ, List, Result, Ok, Err, ap, subst, sym, ◌∙◌, arith}
 use Rattle.std.proofs.lemmas.Result.{err_from_is_err_and}
 use Rattle.bbm_io.specs.declared.source.Failed.{Failed}
 use Rattle.bbm_events.specs.declared.event.Item.TheVariants.{End}
-use Rattle.bbm_events.specs.Lines.{item_line}
+use Rattle.bbm_events.specs.Heading.{Heading}
+use Rattle.bbm_events.specs.Lines.{header_line, item_line}
 use Rattle.bbm_session.specs.Generating.{ended, gen_begin}
 use Rattle.bbm_session.specs.Writing.{Pours}
 use Rattle.bbm_session.proofs.Pouring.{begin-none, cut-short, pours-longer}
@@ -18,7 +19,7 @@ returns-in_err-add_header g c =
       poured = subst (λ (r : Result (Unit {0}) Failed). Pours (gen_begin c.args.n c.args.count ++ end) r c.add_header.new.buffer.items (g.K.Sink.held c.args.out.now) (g.K.Sink.held c.add_header.new.out) (g.K.Sink.faults c.args.out.now) (g.K.Sink.faults c.add_header.new.out)) is
           (pours-longer (gen_begin c.args.n c.args.count) end e c.add_header.new.buffer.items (g.K.Sink.held c.args.out.now) (g.K.Sink.held c.add_header.new.out) (g.K.Sink.faults c.args.out.now) (g.K.Sink.faults c.add_header.new.out)
           (cut-short c.args.n 0 c.args.count e c.add_header.new.buffer.items (g.K.Sink.held c.args.out.now) (g.K.Sink.held c.add_header.new.out) (g.K.Sink.faults c.args.out.now) (g.K.Sink.faults c.add_header.new.out) (omega arith)
-          (subst (λ (t : List ℕ). Pours t (Err e) c.add_header.new.buffer.items (g.K.Sink.held c.args.out.now) (g.K.Sink.held c.add_header.new.out) (g.K.Sink.faults c.args.out.now) (g.K.Sink.faults c.add_header.new.out)) (sym (begin-none c.args.n)) c.in_err-add_header.ensures.poured)));
+          (subst (λ (t : List ℕ). Pours t (Err e) c.add_header.new.buffer.items (g.K.Sink.held c.args.out.now) (g.K.Sink.held c.add_header.new.out) (g.K.Sink.faults c.args.out.now) (g.K.Sink.faults c.add_header.new.out)) (sym (begin-none c.args.n)) (subst (λ (h : Heading). Pours (ended (header_line h)) (Err e) c.add_header.new.buffer.items (g.K.Sink.held c.args.out.now) (g.K.Sink.held c.add_header.new.out) (g.K.Sink.faults c.args.out.now) (g.K.Sink.faults c.add_header.new.out)) c.gen_header-header.ensures c.in_err-add_header.ensures.poured))));
     }
 
 pub returns-in_err-add_events : goal.returns-in_err-add_events
@@ -30,5 +31,13 @@ returns-in_err-add_events g c =
     record {
       poured = subst (λ (r : Result (Unit {0}) Failed). Pours (gen_begin c.args.n c.args.count ++ end) r c.add_events.new.buffer.items (g.K.Sink.held c.args.out.now) (g.K.Sink.held c.add_events.new.out) (g.K.Sink.faults c.args.out.now) (g.K.Sink.faults c.add_events.new.out)) is
           (pours-longer (gen_begin c.args.n c.args.count) end e c.add_events.new.buffer.items (g.K.Sink.held c.args.out.now) (g.K.Sink.held c.add_events.new.out) (g.K.Sink.faults c.args.out.now) (g.K.Sink.faults c.add_events.new.out)
-          (c.in_err-add_events.ensures.poured (g.K.Sink.held c.args.out.now) (g.K.Sink.faults c.args.out.now) c.in_ok-add_header.ensures.poured));
+          (c.in_err-add_events.ensures.poured (g.K.Sink.held c.args.out.now) (g.K.Sink.faults c.args.out.now) (subst (λ (h : Heading). Pours (ended (header_line h)) (Ok tt) c.add_header.new.buffer.items (g.K.Sink.held c.args.out.now) (g.K.Sink.held c.add_header.new.out) (g.K.Sink.faults c.args.out.now) (g.K.Sink.faults c.add_header.new.out)) c.gen_header-header.ensures c.in_ok-add_header.ensures.poured)));
+    }
+
+pub returns : goal.returns
+returns g c =
+    let begun = subst (λ (h : Heading). Pours (ended (header_line h)) (Ok tt) c.add_header.new.buffer.items (g.K.Sink.held c.args.out.now) (g.K.Sink.held c.add_header.new.out) (g.K.Sink.faults c.args.out.now) (g.K.Sink.faults c.add_header.new.out)) c.gen_header-header.ensures c.in_ok-add_header.ensures.poured in
+    record {
+      poured = c.add_item.ensures.poured (gen_begin c.args.n c.args.count) (g.K.Sink.held c.args.out.now) (g.K.Sink.faults c.args.out.now)
+          (c.in_ok-add_events.ensures.poured (g.K.Sink.held c.args.out.now) (g.K.Sink.faults c.args.out.now) begun);
     }

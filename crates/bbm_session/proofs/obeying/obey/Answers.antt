@@ -27,7 +27,7 @@ returns-in-Ok-clause-obeys g c = λ frugal.
     record {
       heading = Some header;
       heads = judged.heads;
-      answered = answered fold AtHeader judged.reached (λ said text. Says command (Some header) said.log said.verdict text) (λ said. status_of said.verdict) (WantsJudged command) (SaysFor command (Some header) (events_in judged.reached)) stop c.report.result _ _ _ _ _ _ _ _
+      answered = answered fold AtHeader judged.reached (λ said text. Says command (Some header) said.log said.refused said.verdict text) (λ said. status_of said.verdict) (WantsJudged command) (SaysFor command (Some header) (events_in judged.reached)) stop c.report.result _ _ _ _ _ _ _ _
           (λ v text says. says) (λ v. refl) (λ starves. inl starves) judged.stops (c.report.ensures (events_in judged.reached) judged.known);
     }
 
@@ -40,6 +40,6 @@ returns-in-Err-clause-obeys g c = λ frugal.
     record {
       heading = heads.0;
       heads = heads.1;
-      answered = answered fold AtHeader AtHeader (λ said text. Says command heads.0 said.log said.verdict text) (λ said. status_of said.verdict) (WantsJudged command) (SaysFor command heads.0 []) c.in-Err.stop c.report_stop.result _ _ _ _ _ _ _ _
+      answered = answered fold AtHeader AtHeader (λ said text. Says command heads.0 said.log said.refused said.verdict text) (λ said. status_of said.verdict) (WantsJudged command) (SaysFor command heads.0 []) c.in-Err.stop c.report_stop.result _ _ _ _ _ _ _ _
           (λ v text says. says) (λ v. refl) (λ starves. inl starves) unjudged.stops (c.report_stop.ensures.brief unjudged.brief command heads.0 []);
     }

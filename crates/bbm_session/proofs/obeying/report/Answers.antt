@@ -20,7 +20,7 @@ returns-in-Decided g c = λ h knows.
     let decision = c.in-Decided.decision in
     let stands = g.C.Checker.stands c.args.checker.now in
     let known = subst (λ (s : Stop). KnowsAt stands header h s) c.in-Decided.is knows in
-    let told = c.tell_all.ensures.puts h (names-it stands header h decision.verdict decision.refused known.0 known.1) in
+    let told = c.tell_all.ensures.puts h decision.refused (names-it stands header h decision.verdict decision.refused known.0 known.1) in
     let wrote = subst (λ (s : Status). Wrote s told.0 c.settled.result (g.K.Sink.held c.args.out.now) (g.K.Sink.held c.tell_all.new.out) (g.K.Sink.faults c.args.out.now) (g.K.Sink.faults c.tell_all.new.out)) c.status.ensures (c.settled.ensures told.0 _ _ _ _ told.2) in
     subst (λ (s : Stop). Reports (SaysFor c.args.command.now (Some header) h) s c.settled.result (g.K.Sink.held c.args.out.now) (g.K.Sink.held c.tell_all.new.out) (g.K.Sink.faults c.args.out.now) (g.K.Sink.faults c.tell_all.new.out)) (sym c.in-Decided.is)
     (told.0, told.1, wrote)

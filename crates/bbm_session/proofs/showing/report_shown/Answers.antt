@@ -11,4 +11,4 @@ returns-in-Decided g c = λ h knows.
     let stands = g.C.Checker.stands c.args.checker.now in
     let known = subst (λ (s : Stop). KnowsAt stands header h s) c.in-Decided.is knows in
     subst (λ (s : Stop). ReportsShown (command_of.Show c.args.evidence.now) (Some header) h s c.report_decided.result (g.K.Sink.held c.args.out.now) (g.K.Sink.held c.report_decided.new.out) (g.K.Sink.faults c.args.out.now) (g.K.Sink.faults c.report_decided.new.out)) (sym c.in-Decided.is)
-    (c.report_decided.ensures h known.0)
+    (c.report_decided.ensures h known)

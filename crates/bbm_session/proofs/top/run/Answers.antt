@@ -23,7 +23,7 @@ pub returns-in-Some-clause-text : goal.returns-in-Some-clause-text
 returns-in-Some-clause-text g c = λ request says bytes left tells.
     let same : c.in-Some.request ≡ request = cc in
     subst (λ (r : Request). (text : List ℕ) × IsTextFor r bytes text × (g.K.Sink.held c.serve.new.out ≡ extended (g.K.Sink.held c.args.out.now) text)) same
-    (served-text _ _ _ _ _ _ _ _ _ bytes left c.in-Some.request c.serve.ensures.serves tells)
+    (served-text _ _ _ _ _ _ _ _ _ bytes left c.law_item_fits.ensures c.in-Some.request c.serve.ensures.serves tells)
 
 pub returns-in-Some-clause-some_verdict : goal.returns-in-Some-clause-some_verdict
 returns-in-Some-clause-some_verdict g c = λ request says tells.
@@ -88,7 +88,7 @@ pub returns-in-Some-clause-part_of_text : goal.returns-in-Some-clause-part_of_te
 returns-in-Some-clause-part_of_text g c = λ request says bytes left cuts.
     let same : c.in-Some.request ≡ request = cc in
     subst (λ (r : Request). (text : List ℕ) × IsTextFor r bytes text × Part text (g.K.Sink.held c.args.out.now) (g.K.Sink.held c.serve.new.out)) same
-    (served-part _ _ _ _ _ _ _ _ _ bytes left c.in-Some.request c.serve.ensures.serves cuts)
+    (served-part _ _ _ _ _ _ _ _ _ bytes left c.law_item_fits.ensures c.in-Some.request c.serve.ensures.serves cuts)
 
 pub returns-in-Some-clause-part_of_some : goal.returns-in-Some-clause-part_of_some
 returns-in-Some-clause-part_of_some g c = λ request says cuts.
