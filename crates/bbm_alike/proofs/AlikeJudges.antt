@@ -4,7 +4,10 @@
 use Rattle.std.specs.Option.{option_map_or}
 use Rattle.std.proofs.Common.{◌≡◌, ℕ, ◌<◌, Bool, ◌&&◌, List, [], ◌∷◌, Option, Some, is_none, refl, ◌∙◌, ap}
 use Rattle.bbm_rules.specs.declared.rule.Rule.{Rule}
-use Rattle.bbm_rules.specs.declared.rule.Rule.TheVariants.{WrongWorld, NoLock, NullWritten, BreakBeforeMake, LimboMake, NotFresh, RewrittenFresh, BadKind, GlobalUser, PageInUse, NoRoot, TagConflict, RootInUse, UnsyncedVmid, BadOperand, LockBusy, LockNotMine}
+use Rattle.bbm_rules.specs.declared.rule.Rule.TheVariants.{WrongWorld, NoLock, NullWritten, BreakBeforeMake, LimboMake}
+use Rattle.bbm_rules.specs.declared.rule.Rule.TheVariants.{NotFresh, RewrittenFresh, BadKind, GlobalUser, PageInUse}
+use Rattle.bbm_rules.specs.declared.rule.Rule.TheVariants.{NoRoot, TagConflict, RootInUse, UnsyncedVmid, BadOperand}
+use Rattle.bbm_rules.specs.declared.rule.Rule.TheVariants.{LockBusy, LockNotMine}
 use Rattle.bbm_rules.specs.Broken.{Breach, breaks, broken, first_broken, keeps, rules}
 use Rattle.bbm_rules.specs.Claims.{Trust}
 use Rattle.bbm_rules.specs.Covers.{noted}
@@ -13,18 +16,20 @@ use Rattle.bbm_rules.specs.Notes.{Noted, events_of}
 use Rattle.bbm_rules.specs.Pages.{is_null}
 use Rattle.bbm_rules.specs.Places.{page_of}
 use Rattle.bbm_rules.specs.Prelude.{Heading, Event, Reg, Tag}
-use Rattle.bbm_rules.specs.Registers.{register_values}
+use Rattle.bbm_rules.specs.RegisterValues.{register_values}
 use Rattle.bbm_rules.specs.Roots.{roots_of}
 use Rattle.bbm_rules.specs.Tags.{holds_at, tags_of}
 use Rattle.bbm_rules.specs.Tree.{Node, held_at, node_of}
 use Rattle.bbm_rules.specs.Values.{value_of, written_places}
 use Rattle.bbm_alike.specs.Alike.{Alike}
-use Rattle.bbm_alike.specs.Known.{Known}
+use Rattle.bbm_alike.specs.KnownOfHistories.{Known}
 use Rattle.bbm_alike.proofs.CoverAlike.{held_alike, of_events, tags_alike, values_alike}
-use Rattle.bbm_alike.proofs.LockRules.{same_bad_operand, same_lock_busy, same_lock_not_mine, same_no_root, same_unsynced_vmid, same_wrong_world}
+use Rattle.bbm_alike.proofs.LockRules.{same_bad_operand, same_lock_busy, same_lock_not_mine, same_no_root}
+use Rattle.bbm_alike.proofs.LockRules.{same_unsynced_vmid, same_wrong_world}
 use Rattle.bbm_alike.proofs.PageRules.{same_bad_kind, same_global_user, same_not_fresh, same_page_in_use}
 use Rattle.bbm_alike.proofs.TagRules.{same_root_in_use, same_tag_conflict}
-use Rattle.bbm_alike.proofs.WriteRules.{same_break_before_make, same_limbo_make, same_no_lock, same_null_written, same_rewritten_fresh}
+use Rattle.bbm_alike.proofs.WriteRules.{same_break_before_make, same_limbo_make, same_no_lock, same_null_written}
+use Rattle.bbm_alike.proofs.WriteRules.{same_rewritten_fresh}
 
 module _ (heading : Heading) (k : Known heading) (one other : Trust) (h h' : List Event)
     (a : Alike heading one other h h') where

@@ -1,6 +1,7 @@
 -- Where two histories are alike, each place has the same phase at each PE of the header, and the same are restless.
 use Rattle.std.specs.Option.{option_map_or}
-use Rattle.std.proofs.Common.{◌≡◌, ℕ, ◌<◌, Bool, false, not, ◌&&◌, cond, List, Option, Some, None, count_by, is_some, refl, sym, ◌∙◌, ap}
+use Rattle.std.proofs.Common.{◌≡◌, ℕ, ◌<◌, Bool, false, not, ◌&&◌, cond, List, Option, Some, None, count_by, is_some}
+use Rattle.std.proofs.Common.{refl, sym, ◌∙◌, ap}
 use Rattle.std.proofs.Math.Path.{fun_ext}
 use Rattle.bbm_descriptor.specs.Descriptor.{is_valid}
 use Rattle.bbm_rules.specs.declared.phase.Phase.{Phase}
@@ -15,7 +16,7 @@ use Rattle.bbm_rules.specs.Prelude.{Heading, Event}
 use Rattle.bbm_rules.specs.Tree.{Node, held_at, node_of}
 use Rattle.bbm_rules.specs.Values.{value_of, written_places}
 use Rattle.bbm_alike.specs.Alike.{Alike, SamePatterns}
-use Rattle.bbm_alike.specs.Known.{Known}
+use Rattle.bbm_alike.specs.KnownOfHistories.{Known}
 use Rattle.bbm_alike.proofs.CoverAlike.{held_alike, node_alike, values_alike}
 use Rattle.bbm_alike.proofs.HeldStep.{last_of}
 

@@ -6,7 +6,7 @@ use Rattle.bbm_rules.specs.Claims.{Trust}
 use Rattle.bbm_rules.specs.Roots.{roots_of}
 use Rattle.bbm_rules.specs.Values.{value_of, written_places}
 use Rattle.bbm_alike.specs.Alike.{Alike, TakesAlike}
-use Rattle.bbm_alike.specs.Known.{Known}
+use Rattle.bbm_alike.specs.KnownOfHistories.{Known}
 use Rattle.bbm_alike.specs.SameTags.{SameTags}
 use Rattle.bbm_alike.proofs.PlainSteps.{locks_step, nulls_step, places_step, registers_step, roots_step, values_step}
 use Rattle.bbm_alike.proofs.TagSteps.{same_tags_step}

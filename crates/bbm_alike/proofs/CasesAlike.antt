@@ -12,7 +12,7 @@ use Rattle.bbm_rules.specs.Tags.{holds_at}
 use Rattle.bbm_rules.specs.Tree.{tree}
 use Rattle.bbm_tlbi_scope.specs.declared.op.TlbiOp.TheVariants.{Alle2is, Vae2is}
 use Rattle.bbm_alike.specs.Alike.{Alike}
-use Rattle.bbm_alike.specs.Known.{Known}
+use Rattle.bbm_alike.specs.KnownOfHistories.{Known}
 use Rattle.bbm_alike.proofs.AlikePhases.{same_phase}
 use Rattle.bbm_alike.proofs.CasesSameTags.{left_a_root, two_pes}
 use Rattle.bbm_alike.proofs.Onward.{onward}

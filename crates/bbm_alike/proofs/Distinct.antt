@@ -1,7 +1,8 @@
 -- A list with each tag once, by what the list has.
-use Rattle.std.proofs.Common.{◌≡◌, ◌↔◌, Bool, true, false, cond, ◌||◌, List, [], ◌∷◌, ◌++◌, refl, sym, ◌∙◌, ap, subst, inl, inr}
-use Rattle.bbm_lists.specs.Elements.{In}
-use Rattle.bbm_lists.proofs.Elements.{any_finds, any_found, in_right}
+use Rattle.std.proofs.Common.{◌≡◌, ◌↔◌, Bool, true, false, cond, ◌||◌, List, [], ◌∷◌, ◌++◌, refl, sym, ◌∙◌, ap, subst}
+use Rattle.std.proofs.Common.{inl, inr}
+use Rattle.bbm_lemmas.specs.Elements.{In}
+use Rattle.bbm_lemmas.proofs.Elements.{any_finds, any_found, in_right}
 use Rattle.bbm_rules.specs.Claims.{same_tag}
 use Rattle.bbm_rules.specs.Lists.{any}
 use Rattle.bbm_rules.specs.Prelude.{Tag}

@@ -1,7 +1,8 @@
 -- What a place of a tree holds after an event, and its patterns, in histories that are alike: where its page was in a
 -- tree before and is so still.
-use Rattle.std.proofs.Common.{◌≡◌, ℕ, ◌<◌, ◌&&◌, Bool, true, false, cond, ◌==◌, List, [], ◌∷◌, Option, Some, None, is_some, option_and_then, Contains, refl, sym, ◌∙◌, ap, subst, true≢false}
-use Rattle.bbm_regimes.proofs.Every.{every_same, every_wider}
+use Rattle.std.proofs.Common.{◌≡◌, ℕ, ◌<◌, ◌&&◌, Bool, true, false, cond, ◌==◌, List, [], ◌∷◌, Option, Some, None}
+use Rattle.std.proofs.Common.{is_some, option_and_then, Contains, refl, sym, ◌∙◌, ap, subst, true≢false}
+use Rattle.bbm_lemmas.proofs.Every.{every_same, every_wider}
 use Rattle.bbm_descriptor.specs.Descriptor.{is_valid}
 use Rattle.bbm_rules.specs.Prelude.{Heading, Event, Init, Write, Dsb}
 use Rattle.bbm_rules.specs.Claims.{Trust}
@@ -11,9 +12,9 @@ use Rattle.bbm_rules.specs.Held.{ValidWrite, cleansed_everywhere, last_valid, la
 use Rattle.bbm_rules.specs.Notes.{Noted}
 use Rattle.bbm_rules.specs.Places.{page_of}
 use Rattle.bbm_rules.specs.Tree.{Node, held_at, tree}
-use Rattle.bbm_histories.specs.Steps.{held_after}
+use Rattle.bbm_histories.specs.HistorySteps.{held_after}
 use Rattle.bbm_alike.specs.Alike.{Alike, SamePatterns, TakesAlike}
-use Rattle.bbm_alike.specs.Known.{Known}
+use Rattle.bbm_alike.specs.KnownOfHistories.{Known}
 use Rattle.bbm_alike.proofs.CoverAlike.{cover_alike}
 use Rattle.bbm_alike.proofs.PatternsStep.{cleansed_before, patterns_step}
 

@@ -1,8 +1,9 @@
 -- An event that leaves what is readable, and takes no tag that a root holds, leaves all tags.
-use Rattle.std.proofs.Common.{◌≡◌, ◌↔◌, ℕ, ◌<◌, Bool, true, false, cond, not, ◌&&◌, ◌||◌, ◌==◌, List, [], ◌∷◌, ◌++◌, Contains, filter_map, flat_map, refl, sym, ◌∙◌, ap, subst, true≢false}
+use Rattle.std.proofs.Common.{◌≡◌, ◌↔◌, ℕ, ◌<◌, Bool, true, false, cond, not, ◌&&◌, ◌||◌, ◌==◌, List, [], ◌∷◌, ◌++◌}
+use Rattle.std.proofs.Common.{Contains, filter_map, flat_map, refl, sym, ◌∙◌, ap, subst, true≢false}
 use Rattle.std.proofs.lemmas.Bool.{and_from, and_parts, eqb-true, false_from_ne_true}
-use Rattle.bbm_lists.specs.Elements.{In}
-use Rattle.bbm_lists.proofs.Elements.{any_finds, any_found, in_left, is_none_of, to_contains}
+use Rattle.bbm_lemmas.specs.Elements.{In}
+use Rattle.bbm_lemmas.proofs.Elements.{any_finds, any_found, in_left, is_none_of, to_contains}
 use Rattle.bbm_barriers.specs.Options.{answers}
 use Rattle.bbm_descriptor.specs.Descriptor.{same_bool}
 use Rattle.bbm_tlbi_scope.specs.declared.op.TlbiOp.{TlbiOp}
@@ -12,18 +13,20 @@ use Rattle.bbm_rules.specs.Claims.Trust.{Patterns}
 use Rattle.bbm_rules.specs.Lists.{any, below}
 use Rattle.bbm_rules.specs.Prelude.{Barrier, Heading, Event, Dmb, Dsb, Isb, Tlbi, Reg, Tag}
 use Rattle.bbm_rules.specs.Reach.{Issued, completes, reaches, unanswered}
-use Rattle.bbm_rules.specs.Registers.{register_values}
+use Rattle.bbm_rules.specs.RegisterValues.{register_values}
 use Rattle.bbm_rules.specs.Roots.{Declared, is_at, is_root, roots_of, same_kind}
 use Rattle.bbm_rules.specs.Sentences.{Open}
-use Rattle.bbm_rules.specs.Tags.{Reading, distinct, ever_read, holds_at, holds_tag, itself, loses, readings, reads, reads_for_some, tag_for, takes_tag}
-use Rattle.bbm_histories.specs.Steps.{answered_by, is_tlbi, tag_waits, tag_waits_after, takes}
-use Rattle.bbm_histories.specs.Tags.{kind_of_tag}
+use Rattle.bbm_rules.specs.Tags.{Reading, distinct, ever_read, holds_at, holds_tag, itself, loses, readings, reads}
+use Rattle.bbm_rules.specs.Tags.{reads_for_some, tag_for, takes_tag}
+use Rattle.bbm_histories.specs.HistorySteps.{answered_by, is_tlbi, tag_waits, tag_waits_after, takes}
+use Rattle.bbm_histories.specs.TagSteps.{kind_of_tag}
 use Rattle.bbm_alike.specs.SameTags.{AnswersNone, SameTags, TakesNone}
 use Rattle.bbm_alike.proofs.Distinct.{distinct_again}
 use Rattle.bbm_alike.proofs.HeldTags.{held_at_issue, held_is_listed, in_below, no_readings, read_is_held}
 use Rattle.bbm_alike.proofs.ReadingsAlike.{readings_alike}
 use Rattle.bbm_alike.proofs.TagSteps.{WaitsStep}
 use Rattle.bbm_alike.proofs.ListsAlike.{same_flat}
+use Rattle.bbm_lemmas.proofs.Bools.{not_twice}
 
 -- what a DSB takes away, in all patterns, by what waits
 abbrev pub LostStep : Heading → Type 0
@@ -78,12 +81,7 @@ module _ (heading : Heading) (e : Event) (h : List Event) (same : (p : ℕ) → 
       → (tag_waits heading p tag q b hs && not (reads_for_some heading hs p tag)) ≡ tag_waits heading p tag q b hs
   waits_unread waits p q b tag [] = refl
   waits_unread waits p q b tag (x ∷ hs) =
-      rw (waits p tag q b x hs) (again (tag_waits_after heading p tag q b x hs) (reads_for_some heading (x ∷ hs) p tag))
-    where
-      again : (w r : Bool) → ((w && not r) && not r) ≡ (w && not r)
-      again true true = refl
-      again true false = refl
-      again false r = refl
+      rw (waits p tag q b x hs) (not_twice (tag_waits_after heading p tag q b x hs) (reads_for_some heading (x ∷ hs) p tag))
 
   idle_wait : WaitsStep heading → (p q : ℕ) (b : Bool) (tag : Tag)
       → tag_waits_after heading p tag q b e h ≡ tag_waits heading p tag q b h

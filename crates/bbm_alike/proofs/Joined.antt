@@ -1,5 +1,6 @@
 -- The relation holds of the start by any two trusts, of a history and itself, both ways, and through a third.
-use Rattle.std.proofs.Common.{[], true≢false, ◌≡◌, ℕ, true, false, List, Option, Some, None, is_some, Contains, refl, sym, ◌∙◌, ap, subst}
+use Rattle.std.proofs.Common.{[], true≢false, ◌≡◌, ℕ, true, false, List, Option, Some, None, is_some, Contains, refl}
+use Rattle.std.proofs.Common.{sym, ◌∙◌, ap, subst}
 use Rattle.bbm_rules.specs.Prelude.{Heading, Event}
 use Rattle.bbm_rules.specs.Claims.{Trust}
 use Rattle.bbm_rules.specs.Covers.{noted}

@@ -1,6 +1,7 @@
 -- Lists and tests that are made alike.
-use Rattle.std.proofs.Common.{◌≡◌, ℕ, zero, suc, ◌<◌, ◌||◌, Bool, true, false, cond, List, [], ◌∷◌, Option, filter, filter_map, flat_map, refl, sym, ◌∙◌, ap, inl, inr, arith}
-use Rattle.bbm_lists.specs.Elements.{In}
+use Rattle.std.proofs.Common.{◌≡◌, ℕ, zero, suc, ◌<◌, ◌||◌, Bool, true, false, cond, List, [], ◌∷◌, Option, filter}
+use Rattle.std.proofs.Common.{filter_map, flat_map, refl, sym, ◌∙◌, ap, inl, inr, arith}
+use Rattle.bbm_lemmas.specs.Elements.{In}
 use Rattle.bbm_rules.specs.Lists.{some_pe}
 
 pub same_flat : {A B : Type 0} (f g : A → List B) (xs : List A) → ((x : A) → In xs x → f x ≡ g x)
@@ -26,9 +27,3 @@ same_some_pe zero f g same = refl
 same_some_pe (suc n) f g same =
     ap (λ (b : Bool). b || some_pe n f) (same n (omega arith))
     ∙ ap (λ (b : Bool). g n || b) (same_some_pe n f g (λ p below. same p (omega arith)))
-
--- two tests that imply each other
-pub same_truth : (a b : Bool) → (a ≡ true → b ≡ true) → (b ≡ true → a ≡ true) → a ≡ b
-same_truth true b to from = sym (to refl)
-same_truth false true to from = from refl
-same_truth false false to from = refl

@@ -6,7 +6,7 @@ use Rattle.bbm_rules.specs.Locks.{holder_of}
 use Rattle.bbm_rules.specs.Notes.{Noted, events_of}
 use Rattle.bbm_rules.specs.Pages.{is_null}
 use Rattle.bbm_rules.specs.Prelude.{Heading, Event, Null, Root, Unroot, Tlbi, Msr, Lock, Unlock, Reg}
-use Rattle.bbm_rules.specs.Registers.{register_values}
+use Rattle.bbm_rules.specs.RegisterValues.{register_values}
 use Rattle.bbm_rules.specs.Roots.{roots_of}
 use Rattle.bbm_rules.specs.Rules.{bad_operand, lock_busy, lock_not_mine, no_root, unsynced_vmid, wrong_world}
 use Rattle.bbm_alike.proofs.ReadingsAlike.{lacks_alike}

@@ -5,7 +5,7 @@ use Rattle.bbm_rules.specs.Prelude.{Heading, Event}
 use Rattle.bbm_rules.specs.Broken.{broken, keeps}
 use Rattle.bbm_rules.specs.Claims.Trust.{Patterns}
 use Rattle.bbm_alike.specs.Alike.{Alike}
-use Rattle.bbm_alike.specs.Known.{Known}
+use Rattle.bbm_alike.specs.KnownOfHistories.{Known}
 use Rattle.bbm_alike.proofs.AlikeJudges.{same_keeps}
 use Rattle.bbm_alike.proofs.AlikeStep.{alike_step}
 use Rattle.bbm_alike.proofs.TakesLemmas.{takes_patterns}

@@ -1,5 +1,6 @@
 -- The rules on pages that are attached, initialised, declared or written judge alike.
-use Rattle.std.proofs.Common.{◌≡◌, ℕ, Bool, not, ◌&&◌, List, ◌++◌, Option, Some, option_and_then, option_to_list, flat_map, refl, ◌∙◌, ap}
+use Rattle.std.proofs.Common.{◌≡◌, ℕ, Bool, not, ◌&&◌, List, ◌++◌, Option, Some, option_and_then, option_to_list}
+use Rattle.std.proofs.Common.{flat_map, refl, ◌∙◌, ap}
 use Rattle.bbm_descriptor.specs.Descriptor.{desc_of}
 use Rattle.bbm_descriptor.specs.declared.desc.Desc.{Desc}
 use Rattle.bbm_rules.specs.Attach.{Attached, End, all_ends, attached_by, pages_of}
@@ -11,7 +12,8 @@ use Rattle.bbm_rules.specs.Pages.{is_fresh, is_null}
 use Rattle.bbm_rules.specs.Places.{page_of}
 use Rattle.bbm_rules.specs.Prelude.{Kind, Ttbr0, Heading, Event, Init, Null, Root, Write}
 use Rattle.bbm_rules.specs.Roots.{root_pages, same_kind}
-use Rattle.bbm_rules.specs.Rules.{attached_with, bad_ends, bad_kind, global_user, is_contiguous, judged_ends, made_with, not_fresh, page_in_use, places_with, unfresh, untracked_page, written_with}
+use Rattle.bbm_rules.specs.Rules.{attached_with, bad_ends, bad_kind, global_user, is_contiguous, judged_ends, made_with}
+use Rattle.bbm_rules.specs.Rules.{not_fresh, page_in_use, places_with, unfresh, untracked_page, written_with}
 use Rattle.bbm_rules.specs.Tree.{Node, held_at, node_of, tree}
 use Rattle.bbm_rules.specs.Values.{value_of, written_places}
 use Rattle.bbm_alike.proofs.PartsAlike.{same_attached_by, same_node}

@@ -1,5 +1,6 @@
 -- What the definitions say of two annotated histories is the same where that of which they are made is the same.
-use Rattle.std.proofs.Common.{◌≡◌, ℕ, zero, suc, ◌-◌, Bool, cond, ◌==◌, List, [], ◌∷◌, Option, Some, None, is_none, option_and_then, find, filter_map, flat_map, map, refl, ◌∙◌, ap}
+use Rattle.std.proofs.Common.{◌≡◌, ℕ, zero, suc, ◌-◌, Bool, cond, ◌==◌, List, [], ◌∷◌, Option, Some, None, is_none}
+use Rattle.std.proofs.Common.{option_and_then, find, filter_map, flat_map, map, refl, ◌∙◌, ap}
 use Rattle.bbm_rules.specs.Attach.{Attached, End, attached_by, attached_from, end_at, ends_below}
 use Rattle.bbm_rules.specs.Claims.{Trust}
 use Rattle.bbm_rules.specs.Notes.{Noted, events_of}

@@ -11,9 +11,10 @@ use Rattle.bbm_rules.specs.Notes.{Noted, event_of}
 use Rattle.bbm_rules.specs.Reach.{reaches}
 use Rattle.bbm_rules.specs.Values.{publishes_to}
 use Rattle.bbm_histories.specs.ClaimSteps.{cleansed_under}
-use Rattle.bbm_histories.specs.Steps.{answered_by, half_after, half_waits, is_tlbi, seen_after, waits, waits_after, wrote}
+use Rattle.bbm_histories.specs.HistorySteps.{answered_by, half_after, half_waits, is_tlbi, seen_after, waits}
+use Rattle.bbm_histories.specs.HistorySteps.{waits_after, wrote}
 use Rattle.bbm_alike.specs.Alike.{SamePatterns}
-use Rattle.bbm_alike.specs.Known.{Known}
+use Rattle.bbm_alike.specs.KnownOfHistories.{Known}
 
 -- what a DSB answers, by what waits
 pub answers_alike : (dsb : Barrier) (waiting waiting' : Bool → Bool) → ((b : Bool) → waiting b ≡ waiting' b)

@@ -3,7 +3,7 @@ use Rattle.std.proofs.Common.{◌≡◌, ℕ, List, ◌∷◌, refl}
 use Rattle.bbm_rules.specs.Locks.{holder_of}
 use Rattle.bbm_rules.specs.Pages.{is_null}
 use Rattle.bbm_rules.specs.Prelude.{Event, Init, Null, Root, Unroot, Write, Isb, Msr, Lock, Unlock, Reg}
-use Rattle.bbm_rules.specs.Registers.{register_values}
+use Rattle.bbm_rules.specs.RegisterValues.{register_values}
 use Rattle.bbm_rules.specs.Roots.{roots_of}
 use Rattle.bbm_rules.specs.Values.{value_of, written_places}
 

@@ -1,5 +1,6 @@
 -- Where no write of a place is seen after its last valid write, nothing is half, cleansed or waits.
-use Rattle.std.proofs.Common.{◌≡◌, ℕ, ◌&&◌, Bool, true, false, cond, ◌==◌, List, [], ◌∷◌, ◌++◌, refl, sym, ◌∙◌, ap, true≢false, inl, inr}
+use Rattle.std.proofs.Common.{◌≡◌, ℕ, ◌&&◌, Bool, true, false, cond, ◌==◌, List, [], ◌∷◌, ◌++◌, refl, sym, ◌∙◌, ap}
+use Rattle.std.proofs.Common.{true≢false, inl, inr}
 use Rattle.std.proofs.Math.Bool.{and-false}
 use Rattle.std.proofs.lemmas.Bool.{and_right, eqb-true, false_from_ne_true, or_from, or_parts}
 use Rattle.bbm_barriers.specs.Options.{answers}
@@ -12,9 +13,11 @@ use Rattle.bbm_rules.specs.Notes.{Noted, event_of}
 use Rattle.bbm_rules.specs.PatternSentences.{Cleansed, Flush, IsHalf}
 use Rattle.bbm_rules.specs.Reach.{Issued, reaches}
 use Rattle.bbm_rules.specs.Values.{publishes_to}
-use Rattle.bbm_histories.specs.Steps.{full_waits, half_waits, is_tlbi, second_waits, seen_after, waits, waits_after, wrote}
+use Rattle.bbm_histories.specs.HistorySteps.{full_waits, half_waits, is_tlbi, second_waits, seen_after, waits}
+use Rattle.bbm_histories.specs.HistorySteps.{waits_after, wrote}
 use Rattle.bbm_alike.specs.Alike.{SamePatterns}
-use Rattle.bbm_alike.specs.Known.{Known}
+use Rattle.bbm_alike.specs.KnownOfHistories.{Known}
+use Rattle.bbm_lemmas.proofs.Bools.{neither}
 
 -- ---- places that weren't written
 
@@ -44,17 +47,13 @@ module _ (heading : Heading) (k : Known heading) where
     Fails since = (n : Noted) (after before : List Noted) → since ≡ after ++ n ∷ before
         → test (record { tlbi = n; before = before }) ≡ false
 
-    unless : (c x : Bool) → x ≡ false → cond c false x ≡ false
-    unless true x none = refl
-    unless false x none = none
-
     none_after : (e : Event) (n : Noted) (since : List Noted) → test (record { tlbi = n; before = since }) ≡ false
         → waits event_of q b test since ≡ false → waits_after event_of q b test e n since ≡ false
     none_after (Tlbi pe op xt) n since here rest =
         or_from (pe == q && (is_tlbi b (Tlbi pe op xt) && test (record { tlbi = n; before = since }))) (waits event_of q b test since)
         (and_right (pe == q) (is_tlbi b (Tlbi pe op xt) && test (record { tlbi = n; before = since }))
         (and_right (is_tlbi b (Tlbi pe op xt)) (test (record { tlbi = n; before = since })) here)) rest
-    none_after (Dsb pe dsb) n since here rest = unless (pe == q && answers dsb b) (waits event_of q b test since) rest
+    none_after (Dsb pe dsb) n since here rest = neither (pe == q && answers dsb b) (waits event_of q b test since) rest
     none_after e n since here rest = rest
 
     pub no_waits : (since : List Noted) → Fails since → waits event_of q b test since ≡ false

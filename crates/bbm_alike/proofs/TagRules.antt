@@ -1,10 +1,11 @@
 -- The rules on tags and on roots in use judge alike.
-use Rattle.std.proofs.Common.{◌≡◌, ℕ, ◌<◌, Bool, not, ◌&&◌, ◌||◌, ◌==◌, nat_lt, List, ◌∷◌, length, Option, is_none, filter, find, flat_map, map, refl, ◌∙◌, ap}
+use Rattle.std.proofs.Common.{◌≡◌, ℕ, ◌<◌, Bool, not, ◌&&◌, ◌||◌, ◌==◌, nat_lt, List, ◌∷◌, length, Option, is_none}
+use Rattle.std.proofs.Common.{filter, find, flat_map, map, refl, ◌∙◌, ap}
 use Rattle.bbm_rules.specs.Claims.{Trust}
 use Rattle.bbm_rules.specs.Lists.{if_so, least, some_pe}
 use Rattle.bbm_rules.specs.Notes.{Noted, events_of}
 use Rattle.bbm_rules.specs.Prelude.{Heading, Event, Unroot, Msr, Reg, Tag}
-use Rattle.bbm_rules.specs.Registers.{register_values}
+use Rattle.bbm_rules.specs.RegisterValues.{register_values}
 use Rattle.bbm_rules.specs.Roots.{Declared, root_at, roots_of}
 use Rattle.bbm_rules.specs.Rules.{is_base_at, is_used, other_holders, root_in_use, tag_conflict}
 use Rattle.bbm_rules.specs.Tags.{Reading, holds_at, holds_tag, readings, tags_of}

@@ -10,9 +10,9 @@ use Rattle.bbm_rules.specs.Covers.{note, noted}
 use Rattle.bbm_rules.specs.Notes.{Noted}
 use Rattle.bbm_rules.specs.Tags.{holds_at, loses, reads_for_some}
 use Rattle.bbm_histories.specs.ClaimSteps.{cleansed_under}
-use Rattle.bbm_histories.specs.Steps.{answered_by, cleansed_after, full_waits, second_waits, tag_waits}
+use Rattle.bbm_histories.specs.HistorySteps.{answered_by, cleansed_after, full_waits, second_waits, tag_waits}
 use Rattle.bbm_alike.specs.Alike.{Alike, SamePatterns, TakesAlike}
-use Rattle.bbm_alike.specs.Known.{Known}
+use Rattle.bbm_alike.specs.KnownOfHistories.{Known}
 use Rattle.bbm_alike.proofs.PatternsStep.{answers_alike}
 use Rattle.bbm_alike.proofs.ReadingsAlike.{reads_some_alike}
 

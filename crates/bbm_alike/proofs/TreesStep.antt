@@ -1,5 +1,6 @@
 -- The trees after an event, which pages are fresh, and what places hold, in histories that are alike.
-use Rattle.std.proofs.Common.{◌≡◌, ℕ, ◌<◌, ◌&&◌, not, Bool, true, false, cond, List, [], ◌∷◌, Option, Some, None, is_some, find, Contains, ◌++◌, ◌==◌, refl, sym, ◌∙◌, ap, inl, inr}
+use Rattle.std.proofs.Common.{◌≡◌, ℕ, ◌<◌, ◌&&◌, not, Bool, true, false, cond, List, [], ◌∷◌, Option, Some, None}
+use Rattle.std.proofs.Common.{is_some, find, Contains, ◌++◌, ◌==◌, refl, sym, ◌∙◌, ap, inl, inr}
 use Rattle.bbm_descriptor.specs.Descriptor.{is_valid}
 use Rattle.bbm_rules.specs.Prelude.{Heading, Event, Root, Write}
 use Rattle.bbm_rules.specs.Broken.{keeps}
@@ -12,10 +13,10 @@ use Rattle.bbm_rules.specs.Places.{page_of}
 use Rattle.bbm_rules.specs.Roots.{roots_of}
 use Rattle.bbm_rules.specs.Tree.{Node, held_at, in_tree, next_of, node_below, tree}
 use Rattle.bbm_rules.specs.Values.{value_of, written_places}
-use Rattle.bbm_histories.specs.Tree.{Attaches, Through}
-use Rattle.bbm_histories.specs.Values.{HoldsPresent}
+use Rattle.bbm_histories.specs.TreeChanges.{Attaches, Through}
+use Rattle.bbm_histories.specs.ValueChanges.{HoldsPresent}
 use Rattle.bbm_alike.specs.Alike.{Alike, SamePatterns, TakesAlike}
-use Rattle.bbm_alike.specs.Known.{Known}
+use Rattle.bbm_alike.specs.KnownOfHistories.{Known}
 use Rattle.bbm_alike.proofs.CoverAlike.{held_alike, node_alike, values_alike}
 use Rattle.bbm_alike.proofs.HeldStep.{held_old, patterns_old}
 use Rattle.bbm_alike.proofs.Quiet.{quiet_alike, unwritten}

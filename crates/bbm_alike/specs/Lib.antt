@@ -1,3 +1,3 @@
 pub mod Alike
-pub mod Known
+pub mod KnownOfHistories
 pub mod SameTags

@@ -8,8 +8,8 @@ use Rattle.bbm_rules.specs.Prelude.{Barrier, Heading, Event, Tag}
 use Rattle.bbm_rules.specs.Reach.{Issued, completes, reaches, unanswered}
 use Rattle.bbm_rules.specs.Roots.{roots_of}
 use Rattle.bbm_rules.specs.Tags.{distinct, ever_read, holds_at, itself, takes_tag}
-use Rattle.bbm_histories.specs.Steps.{tag_waits}
-use Rattle.bbm_lists.specs.Elements.{In}
+use Rattle.bbm_histories.specs.HistorySteps.{tag_waits}
+use Rattle.bbm_lemmas.specs.Elements.{In}
 
 module _ (heading : Heading) where
   -- The same tags were ever readable for each root; the same roots hold the same ones; and of those that are held the

@@ -1,7 +1,7 @@
 //! What the crates below prove, gathered for the proofs here.
 
 ghost use Rattle.bbm_events.specs.Heading.{Heading};
-ghost use Rattle.bbm_alike.specs.Known.{Known};
+ghost use Rattle.bbm_alike.specs.KnownOfHistories.{Known};
 
 use bbm_histories::{
     law_childless_step, law_claim_steps, law_fresh_content, law_held_step, law_one_position,

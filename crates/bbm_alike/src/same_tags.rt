@@ -6,8 +6,8 @@ ghost use Rattle.bbm_rules.specs.Prelude.{Barrier, Heading, Event, Dmb, Dsb, Isb
 ghost use Rattle.bbm_rules.specs.Broken.{keeps};
 ghost use Rattle.bbm_rules.specs.Claims.{Trust};
 ghost use Rattle.bbm_rules.specs.Claims.Trust.{Patterns};
-ghost use Rattle.bbm_rules.specs.Registers.{register_values};
-ghost use Rattle.bbm_histories.specs.Tree.{Proper};
+ghost use Rattle.bbm_rules.specs.RegisterValues.{register_values};
+ghost use Rattle.bbm_histories.specs.TreeChanges.{Proper};
 ghost use Rattle.bbm_alike.specs.SameTags.{AnswersNone, SameTags, TakesNone};
 
 use bbm_histories::{law_frozen, law_tag_steps, law_tags};

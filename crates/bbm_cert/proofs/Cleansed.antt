@@ -1,5 +1,7 @@
 -- What is kept of the claims that are true, after one more claim and after one more event, and what it says.
-use Rattle.std.proofs.Common.{◌≡◌, ℕ, zero, suc, ◌+◌, ◌≤◌, ◌<◌, ◌≢◌, Bool, true, false, cond, ◌&&◌, ◌||◌, nat_eq, nat_lt, ◌==◌, ◌⊎◌, inl, inr, true≢false, List, [], ◌∷◌, ◌++◌, length, take, drop, get_or, slice_set, reverse, refl, sym, ◌∙◌, ap, subst, arith}
+use Rattle.std.proofs.Common.{◌≡◌, ℕ, zero, suc, ◌+◌, ◌≤◌, ◌<◌, ◌≢◌, Bool, true, false, cond, ◌&&◌, ◌||◌, nat_eq}
+use Rattle.std.proofs.Common.{nat_lt, ◌==◌, ◌⊎◌, inl, inr, true≢false, List, [], ◌∷◌, ◌++◌, length, take, drop, get_or}
+use Rattle.std.proofs.Common.{slice_set, reverse, refl, sym, ◌∙◌, ap, subst, arith}
 use Rattle.std.proofs.Math.Bool.{and-false, and_comm, or_comm, or-false}
 use Rattle.std.proofs.Math.Seq.{drop-cons}
 use Rattle.std.proofs.lemmas.Bool.{cases_eq, eq-eqb, eqb-true, ne_eqb}
@@ -17,7 +19,7 @@ use Rattle.bbm_rules.specs.Prelude.{Heading, Event, Dsb}
 use Rattle.bbm_oracle_patterns.specs.Kept.{note_of, notes_behind, notes_of}
 use Rattle.bbm_oracle_patterns.specs.declared.kept.Kept.{Kept}
 use Rattle.bbm_cert.specs.Cleansings.{Tell, counts, ends_now, is_barrier, tells}
-use Rattle.bbm_cert.specs.Known.{Known}
+use Rattle.bbm_cert.specs.KnownOfClaims.{Known}
 use Rattle.bbm_cert.specs.Marks.{claim_mark, completed_mark, end_of, is_of, is_true_of, mark_at}
 use Rattle.bbm_cert.specs.declared.cleansings.Cleansing.{Cleansing}
 use Rattle.bbm_cert.proofs.Claimed.{cleansed_is}

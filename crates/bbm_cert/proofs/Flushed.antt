@@ -1,5 +1,7 @@
 -- The TLBI at a position of a log that is kept, and the barrier behind the log that answers it.
-use Rattle.std.proofs.Common.{◌≡◌, ℕ, suc, ◌+◌, ◌-◌, ◌<◌, ◌⊎◌, Bool, true, false, cond, ◌&&◌, ◌||◌, not, ◌==◌, List, [], ◌∷◌, ◌++◌, length, take, drop, get_or, reverse, refl, sym, ◌∙◌, ap, arith, inl, inr, length-append}
+use Rattle.std.proofs.Common.{◌≡◌, ℕ, suc, ◌+◌, ◌-◌, ◌<◌, ◌⊎◌, Bool, true, false, cond, ◌&&◌, ◌||◌, not, ◌==◌, List, []}
+use Rattle.std.proofs.Common.{◌∷◌, ◌++◌, length, take, drop, get_or, reverse, refl, sym, ◌∙◌, ap, arith, inl, inr}
+use Rattle.std.proofs.Common.{length-append}
 use Rattle.std.proofs.Math.Bool.{or_comm, or-false}
 use Rattle.std.proofs.lemmas.Bool.{and_right, eq-eqb, ne_eqb}
 use Rattle.std.proofs.lemmas.List.{get_or_default, length-drop, reverse-append, take_all}
@@ -14,7 +16,7 @@ use Rattle.bbm_descriptor.specs.Descriptor.{same_bool}
 use Rattle.bbm_rules.specs.Prelude.{Barrier, Heading, Event, Dsb, Tlbi, TlbiOp}
 use Rattle.bbm_rules.specs.Reach.{completes, reaches}
 use Rattle.bbm_rules.specs.Sentences.{completes_for, issues}
-use Rattle.bbm_histories.specs.Steps.{answered_by, is_tlbi}
+use Rattle.bbm_histories.specs.HistorySteps.{answered_by, is_tlbi}
 use Rattle.bbm_oracle_patterns.specs.Kept.{cover_in, note_of, notes_of}
 use Rattle.bbm_oracle_patterns.specs.declared.kept.Kept.{Kept}
 use Rattle.bbm_cert.specs.Flushes.{completed_by, is_flush_of}
@@ -23,7 +25,7 @@ use Rattle.bbm_cert.proofs.Kepts.{length_before, length_notes, mark_found, mark_
 
 -- ---- tests
 
-any_reverse : {X : Type 0} (f : X → Bool) (xs : List X) → list_any f (reverse xs) ≡ list_any f xs
+pub any_reverse : {X : Type 0} (f : X → Bool) (xs : List X) → list_any f (reverse xs) ≡ list_any f xs
 any_reverse f [] = refl
 any_reverse f (x ∷ xs) =
     ap (list_any f) (reverse-append (x ∷ []) xs)
@@ -82,16 +84,53 @@ pick_none false true n true = refl
 pick_none false true n false = refl
 pick_none false false n m = refl
 
+-- ---- what is answered
+
+module _ {A : Type 0} (event : A → Event) (q : ℕ) where
+  -- whether some of these barriers answers TLBIs of q, broadcast or not as told
+  abbrev pub answered : Bool → List A → Bool
+  answered b xs = list_any (λ x. answers_for q b (event x)) xs
+
+  same_answers : (pe : ℕ) (op : TlbiOp) (xt : ℕ) (x : A)
+      → answers_for q (operation op).broadcast (event x) ≡ completes_for q (Tlbi pe op xt) (event x)
+  same_answers pe op xt x = one (event x)
+    where
+      one : (e : Event) → answers_for q (operation op).broadcast e ≡ completes_for q (Tlbi pe op xt) e
+      one (Dsb q' dsb) = refl
+      one _ = refl
+
+  pub answered_is : (dsb : Barrier) (later : List A) (e : Event) (r : Bool)
+      → answered_by dsb (λ b. not (answered b later) && ((issues q e && is_tlbi b e) && r))
+      ≡ ((issues q e && (completes dsb e && r)) && not (list_any (λ x. completes_for q e (event x)) later))
+  answered_is dsb later (Tlbi pe op xt) r =
+      by (operation op).broadcast
+      (any_same (λ x. answers_for q (operation op).broadcast (event x)) (λ x. completes_for q (Tlbi pe op xt) (event x))
+      later
+      (same_answers pe op xt))
+    where
+      by : (c : Bool) → answered c later ≡ list_any (λ x. completes_for q (Tlbi pe op xt) (event x)) later
+          → answered_by dsb (λ b. not (answered b later) && ((pe == q && same_bool c b) && r))
+          ≡ ((pe == q && (answers dsb c && r)) && not (list_any (λ x. completes_for q (Tlbi pe op xt) (event x)) later))
+      by true same =
+          pick_true (answers dsb true) (answers dsb false) (not (answered true later)) (not (answered false later)) (pe
+          == q) r
+          ∙ ap (λ (b : Bool). (pe == q && (answers dsb true && r)) && not b) same
+      by false same =
+          pick_false (answers dsb true) (answers dsb false) (not (answered true later)) (not (answered false later)) (pe
+          == q) r
+          ∙ ap (λ (b : Bool). (pe == q && (answers dsb false && r)) && not b) same
+  answered_is dsb later _ r =
+      pick_none (answers dsb true) (answers dsb false) (not (answered true later)) (not (answered false later))
+
 -- ---- what waits
 
 module _ (heading : Heading) (place p q : ℕ) (cover : Cover) where
-  -- whether some of these barriers answers TLBIs of q, broadcast or not as told
-  abbrev answered : Bool → List Kept → Bool
-  answered b ks = list_any (λ x. answers_for q b x.event) ks
+  abbrev answers_of : Bool → List Kept → Bool
+  answers_of b ks = answered (λ (x : Kept). x.event) q b ks
 
   waits_kept : (b : Bool) (newer older : List Kept) (k : Kept)
       → waits_at heading place p q b cover (suc (length older)) (notes_of (newer ++ k ∷ older))
-      ≡ (not (answered b newer) && flushes_for heading place p q b cover (note_of (length older) k))
+      ≡ (not (answers_of b newer) && flushes_for heading place p q b cover (note_of (length older) k))
   waits_kept b [] older k =
       let here : (suc (length older) == suc (length (notes_of older))) ≡ true
       = eq-eqb (suc (length older)) (suc (length (notes_of older))) (ap suc (sym (length_notes older))) in
@@ -102,7 +141,8 @@ module _ (heading : Heading) (place p q : ℕ) (cover : Cover) where
       (λ e. omega (arith, length_notes (newer ++ k ∷ older), length-append newer (k ∷ older))) in
       rw there
       (ap (λ (w : Bool). not (answers_for q b x.event) && w) (waits_kept b newer older k)
-      ∙ both (answers_for q b x.event) (answered b newer) (flushes_for heading place p q b cover (note_of (length older) k)))
+      ∙ both (answers_for q b x.event) (answers_of b newer) (flushes_for heading place p q b cover
+      (note_of (length older) k)))
     where
       both : (a n f : Bool) → (not a && (not n && f)) ≡ (not (a || n) && f)
       both true n f = refl
@@ -110,44 +150,17 @@ module _ (heading : Heading) (place p q : ℕ) (cover : Cover) where
 
   waits_found : (b : Bool) (log : List Kept) (t i : ℕ) (k : Kept) → i < length log → t ≡ suc i → k ≡ get_or log i k
       → waits_at heading place p q b cover t (notes_of (reverse log))
-      ≡ (not (answered b (drop (i + 1) log)) && flushes_for heading place p q b cover (note_of i k))
+      ≡ (not (answers_of b (drop (i + 1) log)) && flushes_for heading place p q b cover (note_of i k))
   waits_found b log t i k below at is =
       let before : length (reverse (take i log)) ≡ i = length_before log i (omega arith) in
       ap (λ (n : ℕ). waits_at heading place p q b cover n (notes_of (reverse log))) (at ∙ ap suc (sym before))
       ∙ ap (λ (ks : List Kept). waits_at heading place p q b cover (suc (length (reverse (take i log)))) (notes_of ks))
       (split log i k below ∙ ap (λ (x : Kept). reverse (drop (i + 1) log) ++ x ∷ reverse (take i log)) (sym is))
       ∙ waits_kept b (reverse (drop (i + 1) log)) (reverse (take i log)) k
-      ∙ ap (λ (n : ℕ). not (answered b (reverse (drop (i + 1) log))) && flushes_for heading place p q b cover (note_of n k)) before
+      ∙ ap (λ (n : ℕ). not (answers_of b (reverse (drop (i + 1) log))) && flushes_for heading place p q b cover
+      (note_of n k)) before
       ∙ ap (λ (x : Bool). not x && flushes_for heading place p q b cover (note_of i k))
       (any_reverse (λ x. answers_for q b x.event) (drop (i + 1) log))
-
-  -- ---- what is answered
-
-  same_answers : (pe : ℕ) (op : TlbiOp) (xt : ℕ) (x : Kept)
-      → answers_for q (operation op).broadcast x.event ≡ completed_by q (Tlbi pe op xt) x
-  same_answers pe op xt x = one x.event
-    where
-      one : (e : Event) → answers_for q (operation op).broadcast e ≡ completes_for q (Tlbi pe op xt) e
-      one (Dsb q' dsb) = refl
-      one _ = refl
-
-  answered_is : (dsb : Barrier) (later : List Kept) (e : Event) (r : Bool)
-      → answered_by dsb (λ b. not (answered b later) && ((issues q e && is_tlbi b e) && r))
-      ≡ ((issues q e && (completes dsb e && r)) && not (list_any (completed_by q e) later))
-  answered_is dsb later (Tlbi pe op xt) r =
-      by (operation op).broadcast (any_same (λ x. answers_for q (operation op).broadcast x.event) (completed_by q (Tlbi pe op xt)) later (same_answers pe op xt))
-    where
-      by : (c : Bool) → answered c later ≡ list_any (completed_by q (Tlbi pe op xt)) later
-          → answered_by dsb (λ b. not (answered b later) && ((pe == q && same_bool c b) && r))
-          ≡ ((pe == q && (answers dsb c && r)) && not (list_any (completed_by q (Tlbi pe op xt)) later))
-      by true same =
-          pick_true (answers dsb true) (answers dsb false) (not (answered true later)) (not (answered false later)) (pe == q) r
-          ∙ ap (λ (b : Bool). (pe == q && (answers dsb true && r)) && not b) same
-      by false same =
-          pick_false (answers dsb true) (answers dsb false) (not (answered true later)) (not (answered false later)) (pe == q) r
-          ∙ ap (λ (b : Bool). (pe == q && (answers dsb false && r)) && not b) same
-  answered_is dsb later _ r =
-      pick_none (answers dsb true) (answers dsb false) (not (answered true later)) (not (answered false later))
 
   pub flush_found : (dsb : Barrier) (mark : List Noted → ℕ) (log : List Kept) (t i : ℕ) (k : Kept) → i < length log
       → t ≡ suc i → k ≡ get_or log i k
@@ -156,13 +169,17 @@ module _ (heading : Heading) (place p q : ℕ) (cover : Cover) where
       (mark (notes_of (reverse (take i log)))) 0
   flush_found dsb mark log t i k below at is =
       ap (λ (b : Bool). cond b (mark_at t (λ n before. mark before) (notes_of (reverse log))) 0)
-      (ap (λ (w : Bool). (answers dsb true && w) || (answers dsb false && waits_at heading place p q false cover t (notes_of (reverse log))))
+      (ap (λ (w : Bool). (answers dsb true && w) || (answers dsb false && waits_at heading place p q false cover t
+      (notes_of (reverse log))))
       (waits_found true log t i k below at is)
-      ∙ ap (λ (w : Bool). (answers dsb true && (not (answered true (drop (i + 1) log)) && flushes_for heading place p q true cover (note_of i k)))
+      ∙ ap (λ (w : Bool). (answers dsb true && (not (answers_of true (drop (i + 1) log))
+      && flushes_for heading place p q true cover (note_of i k)))
       || (answers dsb false && w))
       (waits_found false log t i k below at is)
-      ∙ answered_is dsb (drop (i + 1) log) k.event (reaches heading k.event p && same_cover (cover_in k.covers.items place) cover))
-      ∙ ap (λ (m : ℕ). cond (is_flush_of heading q dsb cover place p k && not (list_any (completed_by q k.event) (drop (i + 1) log))) m 0)
+      ∙ answered_is (λ (x : Kept). x.event) q dsb (drop (i + 1) log) k.event (reaches heading k.event p
+      && same_cover (cover_in k.covers.items place) cover))
+      ∙ ap (λ (m : ℕ). cond (is_flush_of heading q dsb cover place p k
+      && not (list_any (completed_by q k.event) (drop (i + 1) log))) m 0)
       (mark_found (λ n before. mark before) log t i k below at is)
 
   -- where the code has asked whether the TLBI does what it has to, and then whether it is answered
@@ -174,7 +191,8 @@ module _ (heading : Heading) (place p q : ℕ) (cover : Cover) where
         ≡ cond (x && not y) (mark (notes_of (reverse (take i log)))) 0
     flush_by x y is_x is_y =
         flush_found dsb mark log t i k found.0 found.1 is
-        ∙ ap (λ (b : Bool). cond (b && not (list_any (completed_by q k.event) (drop (i + 1) log))) (mark (notes_of (reverse (take i log)))) 0) is_x
+        ∙ ap (λ (b : Bool). cond (b && not (list_any (completed_by q k.event) (drop (i + 1) log)))
+        (mark (notes_of (reverse (take i log)))) 0) is_x
         ∙ ap (λ (b : Bool). cond (x && not b) (mark (notes_of (reverse (take i log)))) 0) is_y
 
     pub flush_not : is_flush_of heading q dsb cover place p k ≡ false
@@ -182,16 +200,19 @@ module _ (heading : Heading) (place p q : ℕ) (cover : Cover) where
     flush_not none = flush_by false (list_any (completed_by q k.event) (drop (i + 1) log)) none refl
 
     -- the events behind it, as the code has them
-    later_is : (k' : Kept) → list_any (completed_by q (get_or log i k').event) (take (length log - (i + 1)) (drop (i + 1) log))
+    later_is : (k' : Kept) → list_any (completed_by q (get_or log i k').event)
+        (take (length log - (i + 1)) (drop (i + 1) log))
         ≡ list_any (completed_by q k.event) (drop (i + 1) log)
     later_is k' =
         let same : get_or log i k' ≡ k = get_or_default log i k' k found.0 ∙ sym is in
         ap (λ (x : Kept). list_any (completed_by q x.event) (take (length log - (i + 1)) (drop (i + 1) log))) same
-        ∙ ap (list_any (completed_by q k.event)) (take_all (length log - (i + 1)) (drop (i + 1) log) (omega (arith, length-drop (i + 1) log)))
+        ∙ ap (list_any (completed_by q k.event)) (take_all (length log - (i + 1)) (drop (i + 1) log)
+        (omega (arith, length-drop (i + 1) log)))
 
     pub flush_yes : (k' : Kept) → is_flush_of heading q dsb cover place p k ≡ true
         → list_any (completed_by q (get_or log i k').event) (take (length log - (i + 1)) (drop (i + 1) log)) ≡ false
-        → flush_mark heading place p cover t mark (Dsb q dsb) (notes_of (reverse log)) ≡ mark (notes_of (reverse (take i log)))
+        → flush_mark heading place p cover t mark (Dsb q dsb) (notes_of (reverse log))
+        ≡ mark (notes_of (reverse (take i log)))
     flush_yes k' does none = flush_by true false does (sym (later_is k') ∙ none)
 
     pub flush_answered : (k' : Kept)
@@ -199,7 +220,8 @@ module _ (heading : Heading) (place p q : ℕ) (cover : Cover) where
         → flush_mark heading place p cover t mark (Dsb q dsb) (notes_of (reverse log)) ≡ 0
     flush_answered k' answered =
         flush_by (is_flush_of heading q dsb cover place p k) true refl (sym (later_is k') ∙ answered)
-        ∙ ap (λ (b : Bool). cond b (mark (notes_of (reverse (take i log)))) 0) (and_right (is_flush_of heading q dsb cover place p k) false refl)
+        ∙ ap (λ (b : Bool). cond b (mark (notes_of (reverse (take i log)))) 0)
+        (and_right (is_flush_of heading q dsb cover place p k) false refl)
 
   pub flush_lost : (dsb : Barrier) (mark : List Noted → ℕ) (log : List Kept) (t : ℕ)
       → (t ≡ 0) ⊎ (length log < t)

@@ -1,5 +1,6 @@
 -- What is kept of the tags that roots hold: one more of them, and one more event.
-use Rattle.std.proofs.Common.{◌≡◌, ℕ, suc, ◌<◌, ◌+◌, Bool, true, false, not, ◌&&◌, ◌||◌, ◌==◌, List, [], ◌∷◌, ◌++◌, length, take, get_or, refl, sym, ◌∙◌, ap, true≢false}
+use Rattle.std.proofs.Common.{◌≡◌, ℕ, suc, ◌<◌, ◌+◌, Bool, true, false, not, ◌&&◌, ◌||◌, ◌==◌, List, [], ◌∷◌, ◌++◌}
+use Rattle.std.proofs.Common.{length, take, get_or, refl, sym, ◌∙◌, ap, true≢false}
 use Rattle.std.proofs.Math.Bool.{and-false, or_comm, or-false}
 use Rattle.std.proofs.lemmas.Bool.{or_left}
 use Rattle.std.proofs.lemmas.List.Folds.{list_any_more}
@@ -8,16 +9,19 @@ use Rattle.bbm_events.specs.declared.claim.Claim.{Claim}
 use Rattle.bbm_rules.specs.Changes.{changes}
 use Rattle.bbm_rules.specs.Claims.{same_tag}
 use Rattle.bbm_rules.specs.Claims.Trust.{Listed}
-use Rattle.bbm_rules.specs.Prelude.{AsidFrom, FromTtbr0, FromTtbr1, World, Hyp, Kernel, Tag, Heading, Event, Dsb, Root, Unroot, Isb, Msr, Ttbr1El1, Ttbr1Tag}
-use Rattle.bbm_rules.specs.Tags.{Reading, asid_readings, holds_at, loses, reads, reads_for_some, readings_in, readings_of}
+use Rattle.bbm_rules.specs.Prelude.{AsidFrom, FromTtbr0, FromTtbr1, World, Hyp, Kernel, Tag, Heading, Event, Dsb, Root}
+use Rattle.bbm_rules.specs.Prelude.{Unroot, Isb, Msr, Ttbr1El1, Ttbr1Tag}
+use Rattle.bbm_rules.specs.Tags.{Reading, asid_readings, holds_at, loses, reads, reads_for_some, readings_in}
+use Rattle.bbm_rules.specs.Tags.{readings_of}
 use Rattle.bbm_cert.specs.Holdings.{ends_some, has, is_holding, is_lost, next_has, stays_held}
-use Rattle.bbm_cert.specs.Known.{Known}
+use Rattle.bbm_cert.specs.KnownOfClaims.{Known}
 use Rattle.bbm_cert.specs.declared.holdings.Holding.{Holding}
 use Rattle.bbm_cert.specs.declared.holdings.Loss.{Loss}
 
 -- ---- one more of the tags that were held
 
-pub keep_more : (heading : Heading) (h : List Event) (losses : List Loss) (held : List Holding) (i : ℕ) (x : Holding) (p root : ℕ) (tag : Tag)
+pub keep_more : (heading : Heading) (h : List Event) (losses : List Loss) (held : List Holding) (i : ℕ) (x : Holding)
+    (p root : ℕ) (tag : Tag)
     (before after : Bool) → i < length held → x ≡ get_or held i x
     → before ≡ (has (take i held) p root tag && stays_held heading h losses p tag)
     → after ≡ (before || (has (x ∷ []) p root tag && stays_held heading h losses p tag))
@@ -26,8 +30,10 @@ keep_more heading h losses held i x p root tag before after below is is_before i
     is_after
     ∙ ap (λ (b : Bool). b || (has (x ∷ []) p root tag && stays_held heading h losses p tag)) is_before
     ∙ spread (has (take i held) p root tag) (is_holding p root tag x) (stays_held heading h losses p tag)
-    ∙ ap (λ (y : Holding). (has (take i held) p root tag || is_holding p root tag y) && stays_held heading h losses p tag) is
-    ∙ ap (λ (b : Bool). b && stays_held heading h losses p tag) (sym (list_any_more (is_holding p root tag) held i x below))
+    ∙ ap (λ (y : Holding). (has (take i held) p root tag || is_holding p root tag y)
+    && stays_held heading h losses p tag) is
+    ∙ ap (λ (b : Bool). b && stays_held heading h losses p tag)
+    (sym (list_any_more (is_holding p root tag) held i x below))
   where
     spread : (a b s : Bool) → ((a && s) || ((b || false) && s)) ≡ ((a || b) && s)
     spread true true true = refl
@@ -39,7 +45,8 @@ keep_more heading h losses held i x p root tag before after below is is_before i
 
 -- ---- what is readable where nothing changes it
 
-unchanged_from : (from : AsidFrom) (e : Event) (h : List Event) (p : ℕ) → ((changes e).roots || (changes e).registers) ≡ false
+unchanged_from : (from : AsidFrom) (e : Event) (h : List Event) (p : ℕ) → ((changes e).roots || (changes e).registers)
+    ≡ false
     → asid_readings from (e ∷ h) p ≡ asid_readings from h p
 unchanged_from FromTtbr0 (Root pe kind lock page) h p k = absurd (true≢false k)
 unchanged_from FromTtbr0 (Unroot pe page) h p k = absurd (true≢false k)
@@ -60,7 +67,8 @@ unchanged_second (Isb pe) h p k = absurd (true≢false k)
 unchanged_second (Msr pe r value) h p k = absurd (true≢false k)
 unchanged_second e h p k = refl
 
-unchanged : (world : World) (e : Event) (h : List Event) (p : ℕ) → ((changes e).roots || (changes e).registers) ≡ false
+pub unchanged : (world : World) (e : Event) (h : List Event) (p : ℕ) → ((changes e).roots || (changes e).registers)
+    ≡ false
     → readings_in world (e ∷ h) p ≡ readings_in world h p
 unchanged (Hyp w) (Root pe kind lock page) h p k = absurd (true≢false k)
 unchanged (Hyp w) (Unroot pe page) h p k = absurd (true≢false k)
@@ -68,31 +76,39 @@ unchanged (Hyp w) (Isb pe) h p k = absurd (true≢false k)
 unchanged (Hyp w) (Msr pe r value) h p k = absurd (true≢false k)
 unchanged (Hyp w) e h p k = refl
 unchanged (Kernel w) e h p k =
-    ap (λ (rs : List Reading). rs ++ readings_of (e ∷ h) p Ttbr1El1 (λ value. Ttbr1Tag)) (unchanged_from w.asid_from e h p k)
+    ap (λ (rs : List Reading). rs ++ readings_of (e ∷ h) p Ttbr1El1 (λ value. Ttbr1Tag))
+    (unchanged_from w.asid_from e h p k)
     ∙ ap (λ (rs : List Reading). asid_readings w.asid_from h p ++ rs) (unchanged_second e h p k)
 
 nothing_from : (from : AsidFrom) (p : ℕ) → asid_readings from [] p ++ readings_of [] p Ttbr1El1 (λ value. Ttbr1Tag) ≡ []
 nothing_from FromTtbr0 p = refl
 nothing_from FromTtbr1 p = refl
 
-nothing_yet : (world : World) (p : ℕ) → readings_in world [] p ≡ []
+pub nothing_yet : (world : World) (p : ℕ) → readings_in world [] p ≡ []
 nothing_yet (Hyp w) p = refl
 nothing_yet (Kernel w) p = nothing_from w.asid_from p
 
 module _ (heading : Heading) (known : Known heading) (claims : List Claim) (p root : ℕ) (tag : Tag) where
   -- what is readable is held
-  read_held : (h : List Event) → reads heading h p tag root ≡ true → holds_at heading (Listed claims) p root tag h ≡ true
-  read_held [] k = absurd (true≢false (sym k ∙ ap (λ (rs : List Reading). list_any (λ r. same_tag r.tag tag && r.root == root) rs) (nothing_yet heading.world p)))
+  read_held : (h : List Event) → reads heading h p tag root ≡ true → holds_at heading (Listed claims) p root tag h
+      ≡ true
+  read_held [] k =
+      absurd (true≢false (sym k
+      ∙ ap (λ (rs : List Reading). list_any (λ r. same_tag r.tag tag && r.root == root) rs)
+      (nothing_yet heading.world p)))
   read_held (e ∷ h) k =
-      or_left (reads heading (e ∷ h) p tag root) (holds_at heading (Listed claims) p root tag h && not (loses heading (Listed claims) p tag e h)) k
+      or_left (reads heading (e ∷ h) p tag root) (holds_at heading (Listed claims) p root tag h
+      && not (loses heading (Listed claims) p tag e h)) k
 
   -- and is read for some root
-  read_some : (rs : List Reading) → list_any (λ r. same_tag r.tag tag && r.root == root) rs ≡ true → list_any (λ r. same_tag r.tag tag) rs ≡ true
+  read_some : (rs : List Reading) → list_any (λ r. same_tag r.tag tag && r.root == root) rs ≡ true
+      → list_any (λ r. same_tag r.tag tag) rs ≡ true
   read_some [] k = k
   read_some (r ∷ rs) k = by (same_tag r.tag tag) k (read_some rs)
     where
       by : (b : Bool) → ((b && r.root == root) || list_any (λ r. same_tag r.tag tag && r.root == root) rs) ≡ true
-          → (list_any (λ r. same_tag r.tag tag && r.root == root) rs ≡ true → list_any (λ r. same_tag r.tag tag) rs ≡ true)
+          → (list_any (λ r. same_tag r.tag tag && r.root == root) rs ≡ true → list_any (λ r. same_tag r.tag tag) rs
+          ≡ true)
           → (b || list_any (λ r. same_tag r.tag tag) rs) ≡ true
       by true k rest = refl
       by false k rest = rest k
@@ -115,15 +131,18 @@ module _ (heading : Heading) (known : Known heading) (claims : List Claim) (p ro
       ∙ ap (λ (b : Bool). (before && not (b && not some)) || (change && read)) is_lost_there
       ∙ ap (λ (b : Bool). (before && not b) || (change && read)) (sym (lost_is e h))
       ∙ together change read before (loses heading (Listed claims) p tag e h)
-      (λ c r. read_held h (sym (ap (λ (rs : List Reading). list_any (λ r. same_tag r.tag tag && r.root == root) rs) (unchanged heading.world e h p c)) ∙ r))
-      (λ r. lost_is e h ∙ ap (λ (b : Bool). ends_some heading claims p tag e h && not b) (read_some (readings_in heading.world (e ∷ h) p) r)
+      (λ c r. read_held h (sym (ap (λ (rs : List Reading). list_any (λ r. same_tag r.tag tag && r.root == root) rs)
+      (unchanged heading.world e h p c)) ∙ r))
+      (λ r. lost_is e h ∙ ap (λ (b : Bool). ends_some heading claims p tag e h && not b)
+      (read_some (readings_in heading.world (e ∷ h) p) r)
       ∙ and-false (ends_some heading claims p tag e h))
     where
       together : (c r b l : Bool) → (c ≡ false → r ≡ true → b ≡ true) → (r ≡ true → l ≡ false)
           → ((b && not l) || (c && r)) ≡ (r || (b && not l))
       together true true b l held kept = or_comm (b && not l) true
       together true false b l held kept = or-false (b && not l)
-      together false true b l held kept = ap (λ (x : Bool). (x && not l) || false) (held refl refl) ∙ ap (λ (x : Bool). (true && not x) || false) (kept refl)
+      together false true b l held kept = ap (λ (x : Bool). (x && not l) || false) (held refl refl)
+          ∙ ap (λ (x : Bool). (true && not x) || false) (kept refl)
       together false false b l held kept = or-false (b && not l)
 
   -- the same where the code has the lists in other words

@@ -1,7 +1,10 @@
 -- The note at a position of a log that is kept, oldest first.
-use Rattle.std.proofs.Common.{◌≡◌, ℕ, zero, suc, ◌+◌, ◌-◌, ◌≤◌, ◌<◌, ◌⊎◌, Bool, true, false, cond, ◌&&◌, ◌||◌, not, ◌==◌, List, [], ◌∷◌, ◌++◌, length, take, drop, get_or, reverse, refl, sym, ◌∙◌, ap, subst, arith, inl, inr}
+use Rattle.std.proofs.Common.{◌≡◌, ℕ, zero, suc, ◌+◌, ◌-◌, ◌≤◌, ◌<◌, ◌⊎◌, Bool, true, false, cond, ◌&&◌, ◌||◌, not}
+use Rattle.std.proofs.Common.{◌==◌, List, [], ◌∷◌, ◌++◌, length, take, drop, get_or, reverse, refl, sym, ◌∙◌, ap, subst}
+use Rattle.std.proofs.Common.{arith, inl, inr}
 use Rattle.std.proofs.lemmas.Bool.{eq-eqb, ne_eqb}
-use Rattle.std.proofs.lemmas.List.{get_or_default, length-append, length-reverse, length-take-le, reverse-append, take-append-drop, take_more}
+use Rattle.std.proofs.lemmas.List.{get_or_default, length-append, length-reverse, length-take-le, reverse-append}
+use Rattle.std.proofs.lemmas.List.{take-append-drop, take_more}
 use Rattle.bbm_oracle_patterns.specs.Kept.{note_of, notes_behind, notes_of}
 use Rattle.bbm_oracle_patterns.specs.declared.kept.Kept.{Kept}
 use Rattle.bbm_rules.specs.Cleansing.{writes}
@@ -22,15 +25,15 @@ numbered [] = tt
 numbered (k ∷ ks) = (ap suc (sym (length_notes ks)), numbered ks)
 
 -- the newest events, the one at index i, and those before it
-pub split : (log : List Kept) (i : ℕ) (k : Kept) → i < length log
+pub split : {X : Type 0} (log : List X) (i : ℕ) (k : X) → i < length log
     → reverse log ≡ reverse (drop (i + 1) log) ++ get_or log i k ∷ reverse (take i log)
-split log i k below =
+split {X} log i k below =
     ap reverse (sym (take-append-drop (i + 1) log))
     ∙ reverse-append (take (i + 1) log) (drop (i + 1) log)
-    ∙ ap (λ (xs : List Kept). reverse (drop (i + 1) log) ++ reverse xs) (take_more log i k below)
-    ∙ ap (λ (xs : List Kept). reverse (drop (i + 1) log) ++ xs) (reverse-append (take i log) (get_or log i k ∷ []))
+    ∙ ap (λ (xs : List X). reverse (drop (i + 1) log) ++ reverse xs) (take_more log i k below)
+    ∙ ap (λ (xs : List X). reverse (drop (i + 1) log) ++ xs) (reverse-append (take i log) (get_or log i k ∷ []))
 
-pub length_before : (log : List Kept) (i : ℕ) → i ≤ length log → length (reverse (take i log)) ≡ i
+pub length_before : {X : Type 0} (log : List X) (i : ℕ) → i ≤ length log → length (reverse (take i log)) ≡ i
 length_before log i within = length-reverse (take i log) ∙ length-take-le i log within
 
 -- ---- marks
@@ -87,7 +90,8 @@ notes_next log i k below is =
     ∙ ap (λ (x : Kept). note_of (length (reverse (take i log))) x ∷ notes_of (reverse (take i log))) (sym is)
     ∙ ap (λ (n : ℕ). note_of n k ∷ notes_of (reverse (take i log))) before
 
-module _ (place q : ℕ) (log : List Kept) (i : ℕ) (k : Kept) (count : ℕ) (below : i < length log) (is : k ≡ get_or log i k)
+module _ (place q : ℕ) (log : List Kept) (i : ℕ) (k : Kept) (count : ℕ) (below : i < length log) (is : k
+    ≡ get_or log i k)
     (before : count ≡ wrote_mark place q (notes_of (reverse (take i log)))) where
   wrote_next : cond (writes q place k.event) (i + 1) count ≡ wrote_mark place q (notes_of (reverse (take (i + 1) log)))
   wrote_next =

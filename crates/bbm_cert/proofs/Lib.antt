@@ -5,6 +5,8 @@ pub mod Kepts
 pub mod Flushed
 pub mod Cleansed
 pub mod TagSteps
+pub mod Takers
 pub mod HeldTags
+pub mod Lasting
 pub mod JudgedLaw
 pub mod Verified

@@ -1,6 +1,7 @@
 -- The marks of claims, and what they say of the newer part of a log. Everywhere `newer` are the events after the first
 -- `length older`, and a mark is above that number exactly where the definition holds of `newer`.
-use Rattle.std.proofs.Common.{◌≡◌, ℕ, zero, suc, ◌≤◌, ◌<◌, Bool, true, false, cond, ◌&&◌, ◌||◌, not, nat_lt, ◌==◌, List, [], ◌∷◌, ◌++◌, length, refl, sym, ◌∙◌, ap, subst, zero-le, arith, inl, inr, length-append}
+use Rattle.std.proofs.Common.{◌≡◌, ℕ, zero, suc, ◌≤◌, ◌<◌, Bool, true, false, cond, ◌&&◌, ◌||◌, not, nat_lt, ◌==◌, List}
+use Rattle.std.proofs.Common.{[], ◌∷◌, ◌++◌, length, refl, sym, ◌∙◌, ap, subst, zero-le, arith, inl, inr, length-append}
 use Rattle.std.proofs.Math.Bool.{and_comm}
 use Rattle.std.proofs.lemmas.Bool.{and_left, and_right, cond_both, eqb-true, le-ltb, lt-ltb, ne_eqb}
 use Rattle.bbm_barriers.specs.Options.{answers}
@@ -14,9 +15,10 @@ use Rattle.bbm_rules.specs.Reach.{Issued, reaches}
 use Rattle.bbm_rules.specs.Sentences.{issues}
 use Rattle.bbm_rules.specs.Values.{publishes_to}
 use Rattle.bbm_histories.specs.ClaimSteps.{half_at, half_by, half_by_after, seen_by}
-use Rattle.bbm_histories.specs.Steps.{answered_by, is_tlbi, waits, waits_after}
-use Rattle.bbm_cert.specs.Known.{Known}
-use Rattle.bbm_cert.specs.Marks.{answers_for, flush_mark, half_mark, mark_at, publication_mark, seen_mark, waits_at, wrote_mark}
+use Rattle.bbm_histories.specs.HistorySteps.{answered_by, is_tlbi, waits, waits_after}
+use Rattle.bbm_cert.specs.KnownOfClaims.{Known}
+use Rattle.bbm_cert.specs.Marks.{answers_for, flush_mark, half_mark, mark_at, publication_mark, seen_mark, waits_at}
+use Rattle.bbm_cert.specs.Marks.{wrote_mark}
 use Rattle.bbm_cert.proofs.Tests.{and_or, dsb_case, lt_at, lt_cond, none_below, tlbi_case}
 
 -- the position of each note is the number of notes from it on

@@ -1,18 +1,15 @@
--- A TLBI that waits to take a tag away, after one more event; a tag that is held, after one more event.
-use Rattle.std.proofs.Common.{◌≡◌, ℕ, suc, ◌+◌, ◌<◌, Bool, true, false, cond, not, ◌&&◌, ◌||◌, ◌==◌, List, [], ◌∷◌, ◌++◌, length, take, get_or, reverse, refl, sym, ◌∙◌, ap}
-use Rattle.std.proofs.lemmas.List.{length-reverse, reverse-append, reverse-reverse, take_more}
+-- A tag that is held, after one more event; the register writes behind the events that a history has taken.
+use Rattle.std.proofs.Common.{◌≡◌, ℕ, zero, suc, ◌+◌, ◌-◌, ◌<◌, ◌≤◌, Bool, false, not, ◌&&◌, ◌||◌, List, [], ◌∷◌, ◌++◌}
+use Rattle.std.proofs.Common.{length, take, get_or, reverse, refl, sym, ◌∙◌, ap, arith, length-append}
+use Rattle.std.proofs.Math.Bool.{or_comm}
+use Rattle.std.proofs.lemmas.List.{get_or-reverse, get_or_append_left, length-reverse, reverse-append, reverse-reverse}
+use Rattle.std.proofs.lemmas.List.{take_more}
 use Rattle.std.proofs.Math.Seq.{take-append_seam}
-use Rattle.bbm_barriers.specs.Options.{answers}
-use Rattle.bbm_events.specs.declared.claim.Claim.{Claim}
-use Rattle.bbm_rules.specs.Claims.Trust.{Listed}
-use Rattle.bbm_rules.specs.Prelude.{Tag, Heading, Event, Dsb, Tlbi}
-use Rattle.bbm_rules.specs.Reach.{reaches}
-use Rattle.bbm_rules.specs.Tags.{holds_at, loses, reads, reads_for_some, takes_tag}
-use Rattle.bbm_histories.specs.ClaimSteps.{tag_waits_at, tag_waits_at_after}
-use Rattle.bbm_histories.specs.Steps.{is_tlbi}
-use Rattle.bbm_cert.specs.Known.{Known}
-use Rattle.bbm_cert.specs.Marks.{answers_for}
-use Rattle.bbm_cert.specs.Takings.{holds_next, is_taking, lost_with, waits_next}
+use Rattle.bbm_rules.specs.Claims.{Trust}
+use Rattle.bbm_rules.specs.Prelude.{Tag, Heading, Event, Msr}
+use Rattle.bbm_rules.specs.Tags.{holds_at, loses, reads}
+use Rattle.bbm_cert.specs.Takings.{AreWrites}
+use Rattle.bbm_cert.proofs.Tests.{and_true}
 
 -- one more event of a list that is read from its end
 pub next : {X : Type 0} (xs : List X) (i : ℕ) (x : X) → i < length xs
@@ -20,76 +17,50 @@ pub next : {X : Type 0} (xs : List X) (i : ℕ) (x : X) → i < length xs
 next {X} xs i x below =
     ap (λ (ys : List X). reverse ys) (take_more xs i x below) ∙ reverse-append (take i xs) (get_or xs i x ∷ [])
 
-regroup : (a i c r t : Bool) → (a && (i && (c && (r && t)))) ≡ ((a && (i && (c && r))) && t)
-regroup true true true r t = refl
-regroup true true false r t = refl
-regroup true false c r t = refl
-regroup false i c r t = refl
+-- ---- register writes behind the events that were taken
 
-stops : (w c : Bool) → cond c false w ≡ (w && not c)
-stops true true = refl
-stops true false = refl
-stops false true = refl
-stops false false = refl
+-- the event at an index behind them
+write_at : (newer : List Event) (j : ℕ) (d : Event) → AreWrites newer → j < length newer
+    → (heading : Heading) (trust : Trust) (p : ℕ) (tag : Tag) (h : List Event)
+    → loses heading trust p tag (get_or newer j d) h ≡ false
+write_at [] j d writes below heading trust p tag h = absurd (omega arith)
+write_at (Msr pe reg value ∷ newer) zero d writes below heading trust p tag h = refl
+write_at (Msr pe reg value ∷ newer) (suc j) d writes below heading trust p tag h =
+    write_at newer j d writes (omega (arith, below)) heading trust p tag h
+write_at (e ∷ newer) j d writes below heading trust p tag h = absurd writes
 
-stays : (w : Bool) → w ≡ (w && true)
-stays true = refl
-stays false = refl
+module _ (heading : Heading) (trust : Trust) (p root : ℕ) (tag : Tag) (events newer older : List Event) (i : ℕ)
+    (d : Event)
+    (is : reverse events ≡ newer ++ older) (writes : AreWrites newer) (behind : length older ≤ i)
+    (below : i < length events) where
+  kept_behind : (h : List Event) → loses heading trust p tag (get_or events i d) h ≡ false
+  kept_behind h =
+      let count : length events ≡ length newer + length older
+      = sym (length-reverse events) ∙ ap length is ∙ length-append newer older in
+      let j : ℕ = length (reverse events) - 1 - i in
+      let within : j < length newer = omega (arith, length-reverse events, count, below, behind) in
+      let at : get_or events i d ≡ get_or newer j d
+      = ap (λ (xs : List Event). get_or xs i d) (sym (reverse-reverse events))
+      ∙ get_or-reverse (reverse events) i d (omega (arith, length-reverse events, below))
+      ∙ ap (λ (xs : List Event). get_or xs j d) is ∙ get_or_append_left newer older d j within in
+      ap (λ (e : Event). loses heading trust p tag e h) at ∙ write_at newer j d writes within heading trust p tag h
 
-module _ (heading : Heading) (known : Known heading) (p : ℕ) (tag : Tag) (t q : ℕ) (k : Bool) where
-  after_is : (e : Event) (h : List Event) → tag_waits_at_after heading p tag t q k e h
-      ≡ ((is_taking heading p t q k e h && takes_tag heading e h tag) || (tag_waits_at heading p tag t q k h && not (answers_for q k e)))
-  after_is (Tlbi pe op xt) h =
-      ap (λ (b : Bool). b || tag_waits_at heading p tag t q k h)
-      (regroup (pe == q) (is_tlbi k (Tlbi pe op xt)) (t == suc (length h)) (reaches heading (Tlbi pe op xt) p)
-      (takes_tag heading (Tlbi pe op xt) h tag))
-      ∙ ap (λ (b : Bool). (is_taking heading p t q k (Tlbi pe op xt) h && takes_tag heading (Tlbi pe op xt) h tag) || b)
-      (stays (tag_waits_at heading p tag t q k h))
-  after_is (Dsb pe dsb) h = stops (tag_waits_at heading p tag t q k h) (pe == q && answers dsb k)
-  after_is e h = stays (tag_waits_at heading p tag t q k h)
-
-  waits_step : (e : Event) (h : List Event)
-      → waits_next heading p tag t q k (tag_waits_at heading p tag t q k h) (e ∷ h) ≡ tag_waits_at heading p tag t q k (e ∷ h)
-  waits_step e h =
-      ap (λ (b : Bool). b && not (reads_for_some heading (e ∷ h) p tag)) (sym (after_is e h))
-      ∙ sym (known.tag_waits_step p tag t q k e h)
-
-  pub waits_more : (events : List Event) (i : ℕ) (d : Event) (before after : Bool) → i < length events
-      → before ≡ tag_waits_at heading p tag t q k (reverse (take i events))
-      → after ≡ waits_next heading p tag t q k before (reverse (take (i + 1) events))
-      → after ≡ tag_waits_at heading p tag t q k (reverse (take (i + 1) events))
-  waits_more events i d before after below is_before is_after =
-      let at : reverse (take (i + 1) events) ≡ get_or events i d ∷ reverse (take i events) = next events i d below in
+  pub holds_more : (before after : Bool)
+      → before ≡ holds_at heading trust p root tag (reverse (take i events))
+      → after ≡ (before || reads heading (reverse (take (i + 1) events)) p tag root)
+      → after ≡ holds_at heading trust p root tag (reverse (take (i + 1) events))
+  holds_more before after is_before is_after =
+      let e : Event = get_or events i d in
+      let h : List Event = reverse (take i events) in
+      let now : reverse (take (i + 1) events) ≡ e ∷ h = next events i d below in
       is_after
-      ∙ ap (λ (b : Bool). waits_next heading p tag t q k b (reverse (take (i + 1) events))) is_before
-      ∙ ap (λ (h : List Event). waits_next heading p tag t q k (tag_waits_at heading p tag t q k (reverse (take i events))) h) at
-      ∙ waits_step (get_or events i d) (reverse (take i events))
-      ∙ ap (λ (h : List Event). tag_waits_at heading p tag t q k h) (sym at)
-
-module _ (heading : Heading) (known : Known heading) (claims : List Claim) (p root : ℕ) (tag : Tag) where
-  lost_is : (e : Event) (h : List Event) → lost_with heading claims p tag (reads_for_some heading (e ∷ h) p tag) e h
-      ≡ loses heading (Listed claims) p tag e h
-  lost_is (Dsb q dsb) h = sym (known.lost claims p tag q dsb h)
-  lost_is e h = refl
-
-  pub holds_step : (e : Event) (h : List Event)
-      → holds_next heading claims p root tag (holds_at heading (Listed claims) p root tag h) (e ∷ h)
-      ≡ holds_at heading (Listed claims) p root tag (e ∷ h)
-  holds_step e h =
-      ap (λ (b : Bool). reads heading (e ∷ h) p tag root || (holds_at heading (Listed claims) p root tag h && not b)) (lost_is e h)
-
-  pub holds_more : (events : List Event) (i : ℕ) (d : Event) (before after : Bool) → i < length events
-      → before ≡ holds_at heading (Listed claims) p root tag (reverse (take i events))
-      → after ≡ holds_next heading claims p root tag before (reverse (take (i + 1) events))
-      → after ≡ holds_at heading (Listed claims) p root tag (reverse (take (i + 1) events))
-  holds_more events i d before after below is_before is_after =
-      let at : reverse (take (i + 1) events) ≡ get_or events i d ∷ reverse (take i events) = next events i d below in
-      is_after
-      ∙ ap (λ (b : Bool). holds_next heading claims p root tag b (reverse (take (i + 1) events))) is_before
-      ∙ ap (λ (h : List Event). holds_next heading claims p root tag
-      (holds_at heading (Listed claims) p root tag (reverse (take i events))) h) at
-      ∙ holds_step (get_or events i d) (reverse (take i events))
-      ∙ ap (λ (h : List Event). holds_at heading (Listed claims) p root tag h) (sym at)
+      ∙ ap (λ (b : Bool). b || reads heading (reverse (take (i + 1) events)) p tag root) is_before
+      ∙ ap (λ (xs : List Event). holds_at heading trust p root tag h || reads heading xs p tag root) now
+      ∙ or_comm (holds_at heading trust p root tag h) (reads heading (e ∷ h) p tag root)
+      ∙ ap (λ (b : Bool). reads heading (e ∷ h) p tag root || b) (sym (and_true (holds_at heading trust p root tag h)))
+      ∙ ap (λ (b : Bool). reads heading (e ∷ h) p tag root || (holds_at heading trust p root tag h && not b))
+      (sym (kept_behind h))
+      ∙ ap (λ (xs : List Event). holds_at heading trust p root tag xs) (sym now)
 
 -- the older of some events, from the list that has the oldest first
 pub first_of : (events newer older : List Event) (n : ℕ) → reverse events ≡ newer ++ older → n ≡ length older

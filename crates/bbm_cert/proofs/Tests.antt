@@ -1,5 +1,6 @@
 -- Tests that are combined, and numbers that are compared. None of them speaks of events.
-use Rattle.std.proofs.Common.{◌≡◌, ℕ, zero, suc, ◌≤◌, ◌<◌, Bool, true, false, cond, ◌&&◌, ◌||◌, not, nat_lt, List, [], ◌∷◌, refl, sym, ◌∙◌, ap, zero-le}
+use Rattle.std.proofs.Common.{◌≡◌, ℕ, zero, suc, ◌≤◌, ◌<◌, Bool, true, false, cond, ◌&&◌, ◌||◌, not, nat_lt, List, []}
+use Rattle.std.proofs.Common.{◌∷◌, refl, sym, ◌∙◌, ap, zero-le}
 use Rattle.std.proofs.Math.Bool.{and-false, or-false}
 use Rattle.std.proofs.lemmas.Bool.{le-ltb, or_from}
 use Rattle.std.specs.List.{list_any}

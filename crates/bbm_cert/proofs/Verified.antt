@@ -1,5 +1,6 @@
 -- A log that keeps the rules by claims so far, and its next event.
-use Rattle.std.proofs.Common.{◌≡◌, ℕ, suc, ◌+◌, ◌<◌, ◌≤◌, Option, Some, None, List, [], ◌∷◌, ◌++◌, length, take, drop, get_or, reverse, refl, sym, ◌∙◌, ap, subst, arith}
+use Rattle.std.proofs.Common.{◌≡◌, ℕ, suc, ◌+◌, ◌<◌, ◌≤◌, Option, Some, None, List, [], ◌∷◌, ◌++◌, length, take, drop}
+use Rattle.std.proofs.Common.{get_or, reverse, refl, sym, ◌∙◌, ap, subst, arith}
 use Rattle.std.proofs.lemmas.List.{length-reverse, length-take-le, reverse-append, take-append-drop, take_all}
 use Rattle.bbm_events.specs.declared.claim.Claim.{Claim}
 use Rattle.bbm_rules.specs.Broken.{Breach, broken}
@@ -7,7 +8,7 @@ use Rattle.bbm_rules.specs.Claims.{Trust}
 use Rattle.bbm_rules.specs.Claims.Trust.{Listed}
 use Rattle.bbm_rules.specs.Prelude.{Heading, Event}
 use Rattle.bbm_oracle_trees.specs.Past.{Past}
-use Rattle.bbm_oracle_trees.specs.StandsFor.{StandsFor}
+use Rattle.bbm_oracle_trees.specs.HistoryStandsFor.{StandsFor}
 use Rattle.bbm_cert.specs.declared.judged.Judged.{Judged}
 use Rattle.bbm_cert.specs.declared.judged.Judged.TheVariants.{Yes, No}
 use Rattle.bbm_cert.specs.Judged.{judged, judged_with, judges_as}

@@ -1,6 +1,7 @@
 -- Which roots hold which tags, as it is kept from event to event. No public contract cites these words.
 -- Source: project's own choice.
-use Rattle.std.specs.Prelude.{◌≡◌, ◌<◌, ℕ, Bool, false, not, ◌&&◌, ◌||◌, ◌==◌, List, [], ◌∷◌}
+use Rattle.std.specs.Prelude.{◌≡◌, ◌<◌, ℕ, ◌-◌, Bool, false, not, ◌&&◌, ◌||◌, ◌==◌, nat_lt, List, [], ◌∷◌, length}
+use Rattle.std.specs.Prelude.{if◌then◌else◌}
 use Rattle.bbm_events.specs.declared.claim.Claim.{Claim}
 use Rattle.bbm_rules.specs.Changes.{changes}
 use Rattle.bbm_rules.specs.Claims.{same_tag}
@@ -11,6 +12,8 @@ use Rattle.bbm_rules.specs.Tags.{holds_at, reads, reads_for_some}
 use Rattle.bbm_histories.specs.ClaimSteps.{completes_taken}
 use Rattle.bbm_cert.specs.declared.holdings.Holding.{Holding}
 use Rattle.bbm_cert.specs.declared.holdings.Loss.{Loss}
+use Rattle.bbm_cert.specs.declared.spans.Span.{Span}
+use Rattle.bbm_cert.specs.Spans.{lasts}
 
 -- whether one of them is of this tag, which the root holds at p
 abbrev pub is_holding : ℕ → ℕ → Tag → Holding → Bool
@@ -44,3 +47,15 @@ stays_held heading h losses p tag = not (is_lost losses p tag && not (reads_for_
 abbrev pub next_has : Heading → Event → List Event → List Loss → List Holding → ℕ → ℕ → Tag → Bool
 next_has heading e h losses held p root tag = (has held p root tag && stays_held heading h losses p tag)
     || (((changes e).roots || (changes e).registers) && reads heading h p tag root)
+
+-- whether the tag goes on after the first n events by what was so before e, the newest of h, where nothing is readable
+-- any more if it may change that
+abbrev pub before_lasts : Event → List Event → List Span → ℕ → Tag → ℕ → Bool
+before_lasts e h spans p tag n =
+    if (changes e).roots || (changes e).registers then lasts spans p tag n && nat_lt n (length h - 1)
+    else lasts spans p tag n
+
+-- and by what is readable then
+abbrev pub next_lasts : Heading → Event → List Event → List Span → ℕ → Tag → ℕ → Bool
+next_lasts heading e h spans p tag n = before_lasts e h spans p tag n
+    || (((changes e).roots || (changes e).registers) && reads_for_some heading h p tag)

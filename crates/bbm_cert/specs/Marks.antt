@@ -15,7 +15,7 @@ use Rattle.bbm_rules.specs.Notes.{Noted}
 use Rattle.bbm_rules.specs.Reach.{reaches}
 use Rattle.bbm_rules.specs.Sentences.{issues}
 use Rattle.bbm_rules.specs.Values.{publishes_to}
-use Rattle.bbm_histories.specs.Steps.{answered_by, is_tlbi}
+use Rattle.bbm_histories.specs.HistorySteps.{answered_by, is_tlbi}
 
 -- what is marked by the note at a position and those before it; 0 where there is no note
 abbrev pub mark_at : ℕ → (Noted → List Noted → ℕ) → List Noted → ℕ

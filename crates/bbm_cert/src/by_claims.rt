@@ -1,18 +1,19 @@
 //! A list of claims is trusted, and nothing else.
 
-ghost use Rattle.std.specs.Prelude.{◌≡◌, ◌++◌, List, length, reverse, IfOk};
+ghost use Rattle.std.specs.Prelude.{◌≡◌, ◌++◌, ◌||◌, List, length, reverse, IfOk};
 ghost use Rattle.bbm_events.specs.declared.event.Event.{Event as TheEvent};
 ghost use Rattle.bbm_rules.specs.Claims.Trust.{Listed};
-ghost use Rattle.bbm_rules.specs.Tags.{holds_at as is_held};
+ghost use Rattle.bbm_rules.specs.Tags.{holds_at as is_held, reads};
 ghost use Rattle.bbm_cert.specs.Holdings.{Hold};
+ghost use Rattle.bbm_cert.specs.Takings.{AreWrites};
 
 use crate::cleansings::{Cleansing, add_completed, cleansed_since, copied};
-use crate::holdings::{Holding, has, held_after};
+use crate::holdings::{Holding, Tags, has, tags_after};
 use crate::known::known;
-use crate::taken::holds_through;
 use bbm_events::{Claim, Event, Header};
 use bbm_oracle_patterns::{Evidence, Kept};
-use bbm_oracle_tags::TagEvidence;
+use bbm_oracle_tags::readings::is_read;
+use bbm_oracle_tags::{TagEvidence, readings_at};
 use bbm_regimes::{NoMemory, Pe, PeMask, Place, Tag};
 use std::alloc::Global;
 
@@ -25,33 +26,45 @@ pub struct ByClaims<'a> {
     pub claims: &'a [Claim],
     /// What the claims of places say that are true of the events taken.
     pub cleansings: Vec<Cleansing>,
-    /// What the roots hold after the events taken.
-    pub held: Vec<Holding>,
+    /// What the roots hold after the events taken, and until when tags are readable in them.
+    pub tags: Tags,
     /// How many events were taken.
     pub taken: usize,
 }
 
-/// Whether the root holds the tag at the PE after the events, where this is what the roots hold after so many of them.
+/// Whether the root held the tag at the PE before the last of the events, or it is readable there for the root now.
+fn holds_through(
+    alloc: Global,
+    header: &Header,
+    events: &[Event],
+    asked: &Holding,
+    holds: bool,
+) -> Result<bool, NoMemory>
+    ensures { IfOk result (λ after. after
+        ≡ (holds || reads header.now (reverse events.now) asked.now.pe asked.now.tag asked.now.root)) }
+{
+    let readings = readings_at(alloc, header, events, asked.pe)?;
+    Ok(holds || is_read(&readings, asked.tag, asked.root))
+}
+
+/// Whether the root holds the tag at the PE after the events, of which those behind the events taken are register
+/// writes.
 fn holds_from(
     alloc: Global,
     header: &Header,
     events: &[Event],
-    pe: Pe,
-    root: u64,
-    tag: Tag,
-    claims: &[Claim],
-    held: &[Holding],
-    taken: usize,
+    asked: &Holding,
+    evidence: &ByClaims<'_>,
 ) -> Result<bool, NoMemory>
-    requires { (newer older : List TheEvent) × (reverse events.now ≡ newer ++ older)
-        × Hold header.now claims.now older held.now × (taken ≡ length older) }
-    ensures { IfOk result (λ holds. holds
-        ≡ is_held header.now (Listed claims.now) pe root tag (reverse events.now)) }
+    requires { (newer older : List TheEvent) × (reverse events.now ≡ newer ++ older) × AreWrites newer
+        × Hold header.now evidence.now.claims.now older evidence.now.tags.held.items
+        × (evidence.now.taken ≡ length older) }
+    ensures { IfOk result (λ holds. holds ≡ is_held header.now (Listed evidence.now.claims.now) asked.now.pe
+        asked.now.root asked.now.tag (reverse events.now)) }
 {
-    known();
-    let mut holds = has(held, pe, root, tag);
-    for i in taken..events.len() {
-        holds = holds_through(alloc, header, events, i, pe, root, tag, claims, holds)?;
+    let mut holds = has(&evidence.tags.held, asked.pe, asked.root, asked.tag);
+    for i in evidence.taken..events.len() {
+        holds = holds_through(alloc, header, &events[..i + 1], asked, holds)?;
     }
     Ok(holds)
 }
@@ -62,11 +75,12 @@ impl<'a> TagEvidence for ByClaims<'a> {
     ghost use Rattle.bbm_rules.specs.Claims.Trust.{Listed};
     ghost use Rattle.bbm_rules.specs.Prelude.{Event, Msr};
     ghost use Rattle.bbm_cert.specs.Holdings.{Hold};
+    ghost use Rattle.bbm_cert.specs.Takings.{AreWrites};
 
     ghost trust = { λ evidence. Listed evidence.claims.now };
 
-    ghost knows = { λ evidence heading h. (newer older : List Event) × (h ≡ newer ++ older)
-        × Hold heading evidence.claims.now older evidence.held.items × (evidence.taken ≡ length older) };
+    ghost knows = { λ evidence heading h. (newer older : List Event) × (h ≡ newer ++ older) × AreWrites newer
+        × Hold heading evidence.claims.now older evidence.tags.held.items × (evidence.taken ≡ length older) };
 
     fn holds_at(
         &self,
@@ -77,18 +91,8 @@ impl<'a> TagEvidence for ByClaims<'a> {
         root: u64,
         tag: Tag,
     ) -> Result<bool, NoMemory> {
-        let taken = self.taken;
-        holds_from(
-            alloc,
-            header,
-            events,
-            pe,
-            root,
-            tag,
-            self.claims,
-            &self.held,
-            taken,
-        )
+        let asked = Holding { pe, root, tag };
+        holds_from(alloc, header, events, &asked, self)
     }
 
     ghost knows_write = { λ evidence heading h pe reg value known. (
@@ -97,6 +101,7 @@ impl<'a> TagEvidence for ByClaims<'a> {
       ap (λ (xs : List Event). Msr pe reg value ∷ xs) known.2,
       known.3,
       known.4,
+      known.5,
     ) };
 }
 
@@ -105,9 +110,11 @@ impl<'a> Evidence for ByClaims<'a> {
     ghost use Rattle.bbm_rules.specs.Notes.{events_of};
     ghost use Rattle.bbm_cert.specs.Cleansings.{Tell};
     ghost use Rattle.bbm_cert.specs.Holdings.{Hold};
+    ghost use Rattle.bbm_cert.specs.Spans.{AreSpans};
 
     ghost has_taken = { λ evidence heading notes. Tell heading evidence.claims.now notes evidence.cleansings.items
-        × Hold heading evidence.claims.now (events_of notes) evidence.held.items
+        × Hold heading evidence.claims.now (events_of notes) evidence.tags.held.items
+        × AreSpans heading (events_of notes) evidence.tags.spans.items
         × (evidence.taken ≡ length (events_of notes)) };
 
     fn cleansed(&self, _header: &Header, _log: &[Kept], from: usize, place: Place) -> PeMask {
@@ -129,14 +136,21 @@ impl<'a> Evidence for ByClaims<'a> {
     ) -> Result<ByClaims<'a>, NoMemory> {
         let mut cleansings = copied(alloc, &self.cleansings)?;
         add_completed(header, log, &newest.event, self.claims, &mut cleansings)?;
-        let held = held_after(alloc, header, log, &newest.event, &self.held, self.claims)?;
+        let tags = tags_after(alloc, header, log, &newest.event, &self.tags, self.claims)?;
         Ok(ByClaims {
             claims: self.claims,
             cleansings,
-            held,
+            tags,
             taken: log.len() + 1,
         })
     }
 
-    ghost knows_taken = { λ evidence heading notes taken. ([], events_of notes, refl, taken.1, taken.2) };
+    ghost knows_taken = { λ evidence heading notes taken. (
+      [],
+      events_of notes,
+      refl,
+      tt,
+      taken.1,
+      taken.3,
+    ) };
 }

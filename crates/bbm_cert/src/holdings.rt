@@ -1,19 +1,21 @@
 //! Which roots hold which tags, by claims alone, as it is kept from event to event.
 
-ghost use Rattle.std.specs.Prelude.{◌≡◌, ◌<◌, ◌∷◌, [], ◌&&◌, ◌||◌, ◌==◌, ℕ, reverse, IfOk, OnOk};
+ghost use Rattle.std.specs.Prelude.{◌≡◌, ◌<◌, ◌∷◌, [], ◌&&◌, ◌||◌, ◌==◌, ℕ, length, reverse, IfOk, OnOk};
 ghost use Rattle.bbm_regimes.specs.declared.regime.Tag.{Tag as TheTag};
 ghost use Rattle.bbm_rules.specs.Claims.{same_tag as is_same_tag};
 ghost use Rattle.bbm_rules.specs.Lists.{any};
-ghost use Rattle.bbm_rules.specs.Tags.{reads};
+ghost use Rattle.bbm_rules.specs.Tags.{reads, reads_for_some};
 ghost use Rattle.bbm_histories.specs.ClaimSteps.{completes_taken};
 ghost use Rattle.bbm_rules.specs.Changes.{changes};
 ghost use Rattle.bbm_rules.specs.Notes.{events_of};
 ghost use Rattle.bbm_oracle_patterns.specs.Kept.{notes_of};
-ghost use Rattle.bbm_cert.specs.Holdings.{Hold, ends_some, has as has_it, is_lost, next_has, stays_held};
+ghost use Rattle.bbm_cert.specs.Holdings.{Hold, before_lasts, ends_some, has as has_it, is_lost, next_has, next_lasts};
+ghost use Rattle.bbm_cert.specs.Holdings.{stays_held};
+ghost use Rattle.bbm_cert.specs.Spans.{AreSpans, lasts};
 
 use crate::known::known;
-use crate::taken::{is_readable, takes_away};
-use bbm_barriers::Dsb;
+use crate::spans::{Span, all_ended, show_all, spans_copied};
+use crate::taken::{Answer, Before, Taking, is_readable, takes_unread};
 use bbm_events::{Claim, Event, Header};
 use bbm_oracle_patterns::Kept;
 use bbm_oracle_tags::{Reading, readings_at};
@@ -40,25 +42,35 @@ pub struct Loss {
     pub tag: Tag,
 }
 
-/// Adds the tag of the claim, where a DSB of the issuer that comes behind these events completes it.
+/// What the roots hold, and until when tags are readable. Source: project's own choice.
+#[derive(Debug, Drop)]
+pub struct Tags {
+    /// What the roots hold.
+    pub held: Vec<Holding>,
+    /// The tags that were readable.
+    pub spans: Vec<Span>,
+}
+
+/// Adds the tag of the claim, where the DSB, which comes behind these events, completes it.
 fn add_loss(
     alloc: Global,
     header: &Header,
-    before: &[Event],
-    issuer: Pe,
-    dsb: Dsb,
+    before: &Before<'_>,
+    answer: &Answer,
     claim: &Claim,
     losses: &mut Vec<Loss>,
 ) -> Result<(), NoMemory>
+    requires { AreSpans header.now (reverse before.now.events.now) before.now.spans.now }
     ensures { OnOk result ((p : ℕ) (tag : TheTag) → is_lost losses.new.items p tag
-        ≡ (is_lost losses.old.items p tag
-        || completes_taken header.now p tag issuer dsb (reverse before.now) claim.now)) }
+        ≡ (is_lost losses.old.items p tag || completes_taken header.now p tag answer.now.issuer answer.now.dsb
+        (reverse before.now.events.now) claim.now)) }
 {
     known();
     match *claim {
         Claim::Taken { pe, tag, t, d } => {
-            if d as usize == before.len() + 1
-                && takes_away(alloc, header, before, issuer, dsb, pe, tag, t)?
+            let taking = Taking { pe, tag, t };
+            if d as usize == before.events.len() + 1
+                && takes_unread(alloc, header, before, answer, &taking)?
             {
                 losses.push(Loss { pe, tag }).map_err(|_| NoMemory)
             } else {
@@ -69,21 +81,22 @@ fn add_loss(
     }
 }
 
-/// The tags of the claims that a DSB of the issuer completes, which comes behind these events.
+/// The tags of the claims that the DSB completes, which comes behind these events.
 fn losses_by(
     alloc: Global,
     header: &Header,
-    before: &[Event],
-    issuer: Pe,
-    dsb: Dsb,
+    before: &Before<'_>,
+    answer: &Answer,
     claims: &[Claim],
 ) -> Result<Vec<Loss>, NoMemory>
+    requires { AreSpans header.now (reverse before.now.events.now) before.now.spans.now }
     ensures { IfOk result (λ losses. (p : ℕ) (tag : TheTag) → is_lost losses.items p tag
-        ≡ any (completes_taken header.now p tag issuer dsb (reverse before.now)) claims.now) }
+        ≡ any (completes_taken header.now p tag answer.now.issuer answer.now.dsb (reverse before.now.events.now))
+        claims.now) }
 {
     let mut losses = Vec::new(alloc);
     for claim in claims {
-        add_loss(alloc, header, before, issuer, dsb, claim, &mut losses)?;
+        add_loss(alloc, header, before, answer, claim, &mut losses)?;
     }
     Ok(losses)
 }
@@ -92,15 +105,19 @@ fn losses_by(
 fn losses_at(
     alloc: Global,
     header: &Header,
-    before: &[Event],
+    before: &Before<'_>,
     event: &Event,
     claims: &[Claim],
 ) -> Result<Vec<Loss>, NoMemory>
+    requires { AreSpans header.now (reverse before.now.events.now) before.now.spans.now }
     ensures { IfOk result (λ losses. (p : ℕ) (tag : TheTag) → is_lost losses.items p tag
-        ≡ ends_some header.now claims.now p tag event.now (reverse before.now)) }
+        ≡ ends_some header.now claims.now p tag event.now (reverse before.now.events.now)) }
 {
     match *event {
-        Event::Dsb { pe, dsb } => losses_by(alloc, header, before, pe, dsb, claims),
+        Event::Dsb { pe: issuer, dsb } => {
+            let answer = Answer { issuer, dsb };
+            losses_by(alloc, header, before, &answer, claims)
+        }
         _ => Ok(Vec::new(alloc)),
     }
 }
@@ -214,15 +231,19 @@ fn add_read_at(
     alloc: Global,
     header: &Header,
     events: &[Event],
-    held: &mut Vec<Holding>,
+    tags: &mut Tags,
     pe: Pe,
 ) -> Result<(), NoMemory>
-    ensures { OnOk result ((p root : ℕ) (tag : TheTag) → has_it held.new.items p root tag
-        ≡ (has_it held.old.items p root tag
+    ensures held { OnOk result ((p root : ℕ) (tag : TheTag) → has_it tags.new.held.items p root tag
+        ≡ (has_it tags.old.held.items p root tag
         || (pe == p && reads header.now (reverse events.now) pe tag root))) }
+    ensures spans { OnOk result ((p n : ℕ) (tag : TheTag) → lasts tags.new.spans.items p tag n
+        ≡ (lasts tags.old.spans.items p tag n
+        || (pe == p && reads_for_some header.now (reverse events.now) pe tag))) }
 {
     let readings = readings_at(alloc, header, events, pe)?;
-    add_readings(held, pe, &readings)
+    add_readings(&mut tags.held, pe, &readings)?;
+    show_all(&mut tags.spans, pe, &readings)
 }
 
 /// Adds what is readable at some PE after these events.
@@ -230,14 +251,16 @@ fn add_read(
     alloc: Global,
     header: &Header,
     events: &[Event],
-    held: &mut Vec<Holding>,
+    tags: &mut Tags,
 ) -> Result<(), NoMemory>
-    ensures { OnOk result ((p root : ℕ) (tag : TheTag) → p < 128 → has_it held.new.items p root tag
-        ≡ (has_it held.old.items p root tag || reads header.now (reverse events.now) p tag root)) }
+    ensures held { OnOk result ((p root : ℕ) (tag : TheTag) → p < 128 → has_it tags.new.held.items p root tag
+        ≡ (has_it tags.old.held.items p root tag || reads header.now (reverse events.now) p tag root)) }
+    ensures spans { OnOk result ((p n : ℕ) (tag : TheTag) → p < 128 → lasts tags.new.spans.items p tag n
+        ≡ (lasts tags.old.spans.items p tag n || reads_for_some header.now (reverse events.now) p tag)) }
 {
     for number in 0..128 {
         let pe = Pe::new(number).unwrap();
-        add_read_at(alloc, header, events, held, pe)?;
+        add_read_at(alloc, header, events, tags, pe)?;
     }
     Ok(())
 }
@@ -270,6 +293,25 @@ fn add_event(events: &mut Vec<Event>, event: &Event) -> Result<(), NoMemory>
     events.push(*event).map_err(|_| NoMemory)
 }
 
+/// The tags that were readable before the event, the last of these, where nothing is readable any more if it may change
+/// that.
+fn spans_before(
+    alloc: Global,
+    events: &[Event],
+    newest: &Event,
+    spans: &[Span],
+) -> Result<Vec<Span>, NoMemory>
+    requires { 0 < length events.now }
+    ensures { IfOk result (λ before. (p n : ℕ) (tag : TheTag) → lasts before.items p tag n
+        ≡ before_lasts newest.now (reverse events.now) spans.now p tag n) }
+{
+    if may_change(newest) {
+        all_ended(alloc, spans, events.len() - 1)
+    } else {
+        spans_copied(alloc, spans)
+    }
+}
+
 /// What was held and still is after these events, the last of which completes claims of these tags, and what is
 /// readable then, where that event may change it.
 fn next(
@@ -278,35 +320,46 @@ fn next(
     events: &[Event],
     newest: &Event,
     losses: &[Loss],
-    held: &[Holding],
-) -> Result<Vec<Holding>, NoMemory>
-    ensures { IfOk result (λ next. (p root : ℕ) (tag : TheTag) → p < 128 → has_it next.items p root tag
-        ≡ next_has header.now newest.now (reverse events.now) losses.now held.now p root tag) }
+    tags: &Tags,
+) -> Result<Tags, NoMemory>
+    requires { 0 < length events.now }
+    ensures held { IfOk result (λ next. (p root : ℕ) (tag : TheTag) → p < 128 → has_it next.held.items p root tag
+        ≡ next_has header.now newest.now (reverse events.now) losses.now tags.now.held.items p root tag) }
+    ensures spans { IfOk result (λ next. (p n : ℕ) (tag : TheTag) → p < 128 → lasts next.spans.items p tag n
+        ≡ next_lasts header.now newest.now (reverse events.now) tags.now.spans.items p tag n) }
 {
-    let mut next = keep_all(alloc, header, events, losses, held)?;
+    let held = keep_all(alloc, header, events, losses, &tags.held)?;
+    let spans = spans_before(alloc, events, newest, &tags.spans)?;
+    let mut next = Tags { held, spans };
     if may_change(newest) {
         add_read(alloc, header, events, &mut next)?;
     }
     Ok(next)
 }
 
-/// What the roots hold after one more event, by the claims alone, where this is what they held before it. `NoMemory`
-/// where there is none.
-pub fn held_after(
+/// The same after one more event, by the claims alone, where this is so before it. `NoMemory` where there is none.
+pub fn tags_after(
     alloc: Global,
     header: &Header,
     log: &[Kept],
     newest: &Event,
-    held: &[Holding],
+    tags: &Tags,
     claims: &[Claim],
-) -> Result<Vec<Holding>, NoMemory>
-    ensures { Hold header.now claims.now (events_of (notes_of (reverse log.now))) held.now
-        → IfOk result
-        (λ next. Hold header.now claims.now (newest.now ∷ events_of (notes_of (reverse log.now))) next.items) }
+) -> Result<Tags, NoMemory>
+    requires { AreSpans header.now (events_of (notes_of (reverse log.now))) tags.now.spans.items }
+    ensures held { Hold header.now claims.now (events_of (notes_of (reverse log.now))) tags.now.held.items
+        → IfOk result (λ next. Hold header.now claims.now
+        (newest.now ∷ events_of (notes_of (reverse log.now))) next.held.items) }
+    ensures spans { IfOk result (λ next. AreSpans header.now
+        (newest.now ∷ events_of (notes_of (reverse log.now))) next.spans.items) }
 {
     known();
     let mut events = events_in(alloc, log)?;
-    let losses = losses_at(alloc, header, &events, newest, claims)?;
+    let before = Before {
+        events: &events,
+        spans: &tags.spans,
+    };
+    let losses = losses_at(alloc, header, &before, newest, claims)?;
     add_event(&mut events, newest)?;
-    next(alloc, header, &events, newest, &losses, held)
+    next(alloc, header, &events, newest, &losses, tags)
 }

@@ -1,7 +1,7 @@
 //! What the crates below prove, gathered for the proofs here.
 
 ghost use Rattle.bbm_events.specs.Heading.{Heading};
-ghost use Rattle.bbm_cert.specs.Known.{Known};
+ghost use Rattle.bbm_cert.specs.KnownOfClaims.{Known};
 
 use bbm_histories::{law_claim_steps, law_pattern_steps, law_tag_claim_steps};
 use bbm_rules::law_equality_tests;

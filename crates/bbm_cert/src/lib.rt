@@ -8,6 +8,7 @@ pub mod judged;
 mod known;
 pub mod laws;
 pub mod marks;
+pub mod spans;
 pub mod taken;
 pub mod verifying;
 

@@ -31,8 +31,18 @@ struct Flush {
     pe: Pe,
 }
 
+/// The first of the two steps of a claim: the place, the PE, and the positions of its DSB, its TLBI and its answer.
+#[derive(Drop)]
+struct FirstStep {
+    place: Place,
+    pe: Pe,
+    b: u32,
+    t: u32,
+    d: u32,
+}
+
 /// The index in the log of the event at the position, which counts from 1; None where the log has no such event.
-fn index_of(log: &[Kept], position: u32) -> Option<usize>
+pub fn index_of<T>(log: &[T], position: u32) -> Option<usize>
     ensures found { IfSome result (λ i. (i < length log.now) × (position ≡ suc i)) }
     ensures none { result ≡ None → (position ≡ 0) ⊎ (length log.now < position) }
 {
@@ -44,7 +54,7 @@ fn index_of(log: &[Kept], position: u32) -> Option<usize>
 }
 
 /// Whether the event is a write of the place by the PE.
-fn writes(event: &Event, pe: Pe, place: Place) -> bool
+pub fn writes(event: &Event, pe: Pe, place: Place) -> bool
     ensures { result ≡ is_write pe place event.now }
 {
     match *event {
@@ -97,7 +107,7 @@ fn published_at(header: &Header, log: &[Kept], place: Place, pe: Pe, b: u32) -> 
 }
 
 /// Whether the covers are the same.
-fn same_cover(cover: Cover, asked: Cover) -> bool
+pub fn same_cover(cover: Cover, asked: Cover) -> bool
     ensures { result ≡ are_same cover asked }
 {
     match (cover, asked) {
@@ -110,7 +120,7 @@ fn same_cover(cover: Cover, asked: Cover) -> bool
 }
 
 /// Whether the event is a TLBI of the issuer.
-fn issues(event: &Event, issuer: Pe) -> bool
+pub fn issues(event: &Event, issuer: Pe) -> bool
     ensures { result ≡ issues_it issuer event.now }
 {
     match *event {
@@ -130,7 +140,7 @@ fn is_flush(header: &Header, kept: &Kept, issuer: Pe, dsb: Dsb, flush: &Flush) -
 }
 
 /// Whether the event is a DSB of the issuer that completes this TLBI of it.
-fn completes_for(event: &Event, issuer: Pe, tlbi: &Event) -> bool
+pub fn completes_for(event: &Event, issuer: Pe, tlbi: &Event) -> bool
     ensures { result ≡ completes_it issuer tlbi.now event.now }
 {
     match *event {
@@ -140,7 +150,7 @@ fn completes_for(event: &Event, issuer: Pe, tlbi: &Event) -> bool
 }
 
 /// Whether one of the later events answers this TLBI of the issuer.
-fn is_answered(later: &[Kept], issuer: Pe, tlbi: &Event) -> bool
+pub fn is_answered(later: &[Kept], issuer: Pe, tlbi: &Event) -> bool
     ensures { result ≡ any (completed_by issuer tlbi.now) later.now }
 {
     for kept in later {
@@ -187,23 +197,22 @@ fn flush_index(header: &Header, log: &[Kept], answer: &Event, flush: &Flush) -> 
     }
 }
 
-/// How many events there are up to the write by which the events at these positions make the place half; 0 where they
-/// don't.
-fn half_by(header: &Header, log: &[Kept], place: Place, pe: Pe, b: u32, t: u32, d: u32) -> usize
-    ensures { result ≡ spec.half_mark header.now place pe b t d (notes_of (reverse log.now)) }
+/// How many events there are up to the write by which the events of this step make the place half; 0 where they don't.
+fn half_by(header: &Header, log: &[Kept], step: &FirstStep) -> usize
+    ensures { result ≡ spec.half_mark header.now step.now.place step.now.pe step.now.b step.now.t step.now.d
+        (notes_of (reverse log.now)) }
 {
-    match index_of(log, d) {
+    match index_of(log, step.d) {
         Some(i) => {
-            let cover = Cover::Half;
             let flush = Flush {
-                t,
-                cover,
-                place,
-                pe,
+                t: step.t,
+                cover: Cover::Half,
+                place: step.place,
+                pe: step.pe,
             };
             let before = &log[..i];
             match flush_index(header, before, &log[i].event, &flush) {
-                Some(j) => published_at(header, &before[..j], place, pe, b),
+                Some(j) => published_at(header, &before[..j], step.place, step.pe, step.b),
                 None => 0,
             }
         }
@@ -253,7 +262,16 @@ pub fn completed_since(header: &Header, log: &[Kept], answer: &Event, claim: &Cl
                 pe,
             };
             match flush_index(header, log, answer, &flush) {
-                Some(i) => half_by(header, &log[..i], place, pe, b, t1, d1),
+                Some(i) => {
+                    let step = FirstStep {
+                        place,
+                        pe,
+                        b,
+                        t: t1,
+                        d: d1,
+                    };
+                    half_by(header, &log[..i], &step)
+                }
                 None => 0,
             }
         }

@@ -5,10 +5,11 @@ ghost use Rattle.bbm_events.specs.declared.event.Event.{Event as TheEvent};
 ghost use Rattle.bbm_events.specs.Fits.{fits_heading};
 ghost use Rattle.bbm_events.specs.Heading.{Heading};
 ghost use Rattle.bbm_rules.specs.Broken.{broken};
-ghost use Rattle.bbm_oracle_trees.specs.StandsFor.{StandsFor};
+ghost use Rattle.bbm_oracle_trees.specs.HistoryStandsFor.{StandsFor};
 ghost use Rattle.bbm_cert.specs.Judged.{judged, judges_as};
 
 use crate::by_claims::ByClaims;
+use crate::holdings::Tags;
 use crate::judged::Judged;
 use bbm_events::{Claim, Event, Header};
 use bbm_judge::judge;
@@ -52,7 +53,10 @@ pub fn verify(
     let evidence = ByClaims {
         claims: claims.as_slice(),
         cleansings: Vec::new(alloc),
-        held: Vec::new(alloc),
+        tags: Tags {
+            held: Vec::new(alloc),
+            spans: Vec::new(alloc),
+        },
         taken: 0,
     };
     let mut history = History::new(alloc, header, evidence);

@@ -1,9 +1,11 @@
 -- The events that are read from lines fit the header of the first line, and aren't more than the limits.
-use Rattle.std.proofs.Common.{◌≡◌, ℕ, suc, ◌<◌, ◌==◌, Bool, true, false, if◌then◌else◌, nat_le, List, [], ◌∷◌, ◌++◌, length, reverse, Contains, Result, Ok, Err, refl, subst, arith, All, inl, inr, slice_index_or}
+use Rattle.std.proofs.Common.{◌≡◌, ℕ, suc, ◌<◌, ◌==◌, Bool, true, false, if◌then◌else◌, nat_le, List, [], ◌∷◌, ◌++◌}
+use Rattle.std.proofs.Common.{length, reverse, Contains, Result, Ok, Err, refl, subst, arith, All, inl, inr}
+use Rattle.std.proofs.Common.{slice_index_or}
 use Rattle.std.proofs.lemmas.Bool.{and_parts, leb-false}
 use Rattle.std.proofs.lemmas.List.{get_or_default, length-append, reverse-append}
-use Rattle.bbm_lists.specs.Elements.{In}
-use Rattle.bbm_lists.proofs.Elements.{from_contains, to_contains, in_left, in_right}
+use Rattle.bbm_lemmas.specs.Elements.{In}
+use Rattle.bbm_lemmas.proofs.Elements.{from_contains, to_contains, in_left, in_right}
 use Rattle.bbm_events.specs.declared.certificate.ClaimItem.{ClaimItem}
 use Rattle.bbm_events.specs.declared.certificate.ClaimItem.TheVariants as claim_item
 use Rattle.bbm_events.specs.declared.claim.Claim.{Claim}
@@ -19,7 +21,12 @@ use Rattle.bbm_events.specs.Fits.{fits_heading, item_fits, label_fits}
 use Rattle.bbm_events.specs.Heading.{Heading, heading_ok}
 use Rattle.bbm_events.specs.Lines.{header_of, item_of}
 use Rattle.bbm_rules.specs.Outcome.{is_too_long, text_of}
-use Rattle.bbm_certificate.specs.Reading.{AreRead, AtClaims, AtEnd, AtEvents, AtHeader, BehindLog, GoesOn, IsSound, Reached, Said, Stopped, Stops, Turned, Whole, after_claim, after_claim_item, after_claims, after_event, after_first, after_header, after_item, after_line, after_log, claim_limit, cut_at, end_of, event_limit, next_number, read_after, read_from, read_of, too_long_at, turned_by}
+use Rattle.bbm_certificate.specs.CertificateReading.{AreRead, AtClaims, AtEnd, AtEvents, AtHeader, BehindLog, GoesOn}
+use Rattle.bbm_certificate.specs.CertificateReading.{IsSound, Reached, Said, Stopped, Stops, Turned, Whole, after_claim}
+use Rattle.bbm_certificate.specs.CertificateReading.{after_claim_item, after_claims, after_event, after_first}
+use Rattle.bbm_certificate.specs.CertificateReading.{after_header, after_item, after_line, after_log, claim_limit}
+use Rattle.bbm_certificate.specs.CertificateReading.{cut_at, end_of, event_limit, next_number, read_after, read_from}
+use Rattle.bbm_certificate.specs.CertificateReading.{read_of, too_long_at, turned_by}
 
 -- what is known of the lines of a log
 pub record LineLaws : Type 0 where

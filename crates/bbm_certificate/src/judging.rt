@@ -2,7 +2,7 @@
 
 ghost use Rattle.std.specs.Prelude.{◌≡◌, reverse, IfOk};
 ghost use Rattle.bbm_cert.specs.Judged.{judged};
-ghost use Rattle.bbm_certificate.specs.Reading.{AreRead};
+ghost use Rattle.bbm_certificate.specs.CertificateReading.{AreRead};
 
 use crate::kept::Kept;
 use bbm_cert::{Judged, verify};

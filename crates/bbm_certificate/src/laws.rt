@@ -4,7 +4,7 @@ ghost use Rattle.std.specs.Prelude.{◌≡◌, ℕ, List};
 ghost use Rattle.bbm_events.specs.declared.claim.Claim.{Claim};
 ghost use Rattle.bbm_events.specs.declared.event.Event.{Event};
 ghost use Rattle.bbm_events.specs.Heading.{Heading};
-ghost use Rattle.bbm_certificate.specs.Reading.{AreRead, Whole, read_of};
+ghost use Rattle.bbm_certificate.specs.CertificateReading.{AreRead, Whole, read_of};
 
 use bbm_events::{law_header_in_range, law_item_fits};
 

@@ -3,10 +3,12 @@
 ghost use Rattle.std.specs.Prelude.{◌≡◌, suc, List, [], Ok, reverse};
 ghost use Rattle.bbm_events.specs.Heading.{Heading};
 ghost use Rattle.bbm_events.specs.declared.event.Event.{Event as TheEvent};
-ghost use Rattle.bbm_certificate.specs.Reading.{AtClaims, AtEvents, TakesLine, after_claim, after_claim_item};
-ghost use Rattle.bbm_certificate.specs.Reading.{after_event};
-ghost use Rattle.bbm_certificate.specs.Reading.{IsSound, after_first, after_item, after_line, claims_by, kept_at};
-ghost use Rattle.bbm_certificate.specs.Reading.{next_number};
+ghost use Rattle.bbm_certificate.specs.CertificateReading.{AtClaims, AtEvents, TakesLine, after_claim};
+ghost use Rattle.bbm_certificate.specs.CertificateReading.{after_claim_item};
+ghost use Rattle.bbm_certificate.specs.CertificateReading.{after_event};
+ghost use Rattle.bbm_certificate.specs.CertificateReading.{IsSound, after_first, after_item, after_line, claims_by};
+ghost use Rattle.bbm_certificate.specs.CertificateReading.{kept_at};
+ghost use Rattle.bbm_certificate.specs.CertificateReading.{next_number};
 
 use crate::kept::{Kept, Part};
 use crate::turn::{LineFault, Turn};

@@ -1,11 +1,12 @@
 -- Claims that are put in their order, one after the other.
-use Rattle.std.proofs.Common.{◌≡◌, ◌⊎◌, ℕ, ◌+◌, ◌<◌, ◌≤◌, true, false, List, [], ◌∷◌, ◌++◌, length, take, drop, get_or, refl, sym, ◌∙◌, ap, subst, inl, inr, arith, insert, length-append}
+use Rattle.std.proofs.Common.{◌≡◌, ◌⊎◌, ℕ, ◌+◌, ◌<◌, ◌≤◌, true, false, List, [], ◌∷◌, ◌++◌, length, take, drop, get_or}
+use Rattle.std.proofs.Common.{refl, sym, ◌∙◌, ap, subst, inl, inr, arith, insert, length-append}
 use Rattle.std.proofs.lemmas.List.{get_or_at, get_or_default, length-take-le, take-append-drop}
 use Rattle.bbm_events.specs.declared.claim.Claim.{Claim}
 use Rattle.bbm_rules.specs.Prelude.{Heading, Event}
-use Rattle.bbm_lists.proofs.Elements.{from_contains, in_append, in_left, in_right, in_split, to_contains}
-use Rattle.bbm_lists.specs.Elements.{In}
-use Rattle.bbm_certify.specs.Least.{Ascending, IsDue, claim_key, less}
+use Rattle.bbm_lemmas.proofs.Elements.{from_contains, in_append, in_left, in_right, in_split, to_contains}
+use Rattle.bbm_lemmas.specs.Elements.{In}
+use Rattle.bbm_certify.specs.LeastClaims.{Ascending, IsDue, claim_key, less}
 use Rattle.bbm_certify.specs.Made.{AreDue}
 use Rattle.bbm_certify.specs.Orders.{Adds, HasKey}
 use Rattle.bbm_certify.proofs.OneDue.{key_size, less_neither}

@@ -2,7 +2,7 @@
 use Rattle.std.specs.Prelude.{◌≡◌, true, false, [], ◌∷◌, refl}
 use Rattle.bbm_events.specs.declared.claim.Claim.TheVariants.{Place, Two, Taken}
 use Rattle.bbm_rules.specs.Prelude.{El2Tag, Vmid, Asid, Ttbr1Tag}
-use Rattle.bbm_certify.specs.Least.{Ascending, claim_key, less}
+use Rattle.bbm_certify.specs.LeastClaims.{Ascending, claim_key, less}
 
 -- Two places and then their PEs, whatever the form, and behind them the tags.
 pub places_first : Ascending (

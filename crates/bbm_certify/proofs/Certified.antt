@@ -1,6 +1,7 @@
 -- A log that keeps the rules keeps them by the claims of its certificate alone: at each of its prefixes the rules tell the
 -- two ways to read it not apart.
-use Rattle.std.proofs.Common.{◌≡◌, ℕ, suc, ◌<◌, Bool, true, false, ◌⊎◌, List, [], ◌∷◌, ◌++◌, length, Some, is_none, is_some, Contains, refl, sym, ◌∙◌, ap, subst, inl, inr, true≢false}
+use Rattle.std.proofs.Common.{◌≡◌, ℕ, suc, ◌<◌, Bool, true, false, ◌⊎◌, List, [], ◌∷◌, ◌++◌, length, Some, is_none}
+use Rattle.std.proofs.Common.{is_some, Contains, refl, sym, ◌∙◌, ap, subst, inl, inr, true≢false}
 use Rattle.std.proofs.Math.Path.{fun_ext}
 use Rattle.std.proofs.lemmas.Bool.{and_parts, or_cases, or_left, or_right}
 use Rattle.bbm_events.specs.declared.claim.Claim.{Claim}
@@ -18,17 +19,13 @@ use Rattle.bbm_rules.specs.Prelude.{Barrier, Heading, Event, Dsb, Tag}
 use Rattle.bbm_rules.specs.Tags.{holds_at, loses}
 use Rattle.bbm_rules.specs.Tree.{Node, held_at, tree}
 use Rattle.bbm_alike.specs.Alike.{Alike, TakesAlike}
-use Rattle.bbm_lists.proofs.Elements.{from_contains, in_left, in_right, to_contains}
-use Rattle.bbm_lists.specs.Elements.{In}
-use Rattle.bbm_certify.specs.Known.{Known}
-use Rattle.bbm_certify.specs.Least.{IsCertificate, IsCleansed, IsDue}
+use Rattle.bbm_lemmas.proofs.Elements.{from_contains, in_left, in_right, to_contains}
+use Rattle.bbm_lemmas.specs.Elements.{In}
+use Rattle.bbm_certify.specs.KnownOfCertificates.{Known}
+use Rattle.bbm_certify.specs.LeastClaims.{IsCertificate, IsCleansed, IsDue}
 use Rattle.bbm_certify.proofs.PlaceClaims.{LeastClaim, forgotten, least_claim, listed_one, listed_two}
 use Rattle.bbm_certify.proofs.TagClaims as tags
-
-same_truth : (a b : Bool) → (a ≡ true → b ≡ true) → (b ≡ true → a ≡ true) → a ≡ b
-same_truth true b to from = sym (to refl)
-same_truth false true to from = from refl
-same_truth false false to from = refl
+use Rattle.bbm_lemmas.proofs.Bools.{same_truth}
 
 same_some : {A : Type 0} (x y : A) → Some x ≡ Some y → x ≡ y
 same_some x y e = cc

@@ -1,5 +1,7 @@
 -- Claims of places that are added spot by spot, place by place.
-use Rattle.std.proofs.Common.{◌≡◌, ◌⊎◌, ℕ, suc, ◌+◌, ◌<◌, ◌≤◌, Bool, true, false, List, [], ◌∷◌, ◌++◌, length, take, drop, get_or, reverse, Option, Some, None, refl, sym, ◌∙◌, ap, subst, inl, inr, true≢false, arith, length-append}
+use Rattle.std.proofs.Common.{◌≡◌, ◌⊎◌, ℕ, suc, ◌+◌, ◌<◌, ◌≤◌, Bool, true, false, List, [], ◌∷◌, ◌++◌, length, take}
+use Rattle.std.proofs.Common.{drop, get_or, reverse, Option, Some, None, refl, sym, ◌∙◌, ap, subst, inl, inr}
+use Rattle.std.proofs.Common.{true≢false, arith, length-append}
 use Rattle.std.proofs.lemmas.Bool.{cases_eq}
 use Rattle.std.proofs.lemmas.List.{length-drop, take_all, take_more}
 use Rattle.bbm_events.specs.declared.claim.Claim.{Claim}
@@ -8,26 +10,27 @@ use Rattle.bbm_regimes.specs.PeMask.{pe_in}
 use Rattle.bbm_regimes.specs.declared.pe.PeMask.{PeMask}
 use Rattle.bbm_rules.specs.Claims.{Trust}
 use Rattle.bbm_rules.specs.Claims.Trust.{Patterns}
-use Rattle.bbm_rules.specs.Cleansing.{cleansed}
+use Rattle.bbm_rules.specs.Cleansing.{cleansed, seen}
 use Rattle.bbm_rules.specs.Held.{ValidWrite, last_valid}
 use Rattle.bbm_rules.specs.Notes.{Noted}
-use Rattle.bbm_rules.specs.PatternSentences.{Cleansed}
+use Rattle.bbm_rules.specs.PatternSentences.{Cleansed, Seen}
 use Rattle.bbm_rules.specs.Places.{page_of}
 use Rattle.bbm_rules.specs.Prelude.{Heading, Event}
 use Rattle.bbm_rules.specs.Tree.{Node, node_of}
-use Rattle.bbm_oracle_patterns.specs.Kept.{notes_behind, notes_of, write_in}
+use Rattle.bbm_oracle_patterns.specs.Kept.{note_of, notes_behind, notes_of, write_in}
 use Rattle.bbm_oracle_patterns.specs.declared.kept.Kept.{Kept}
 use Rattle.bbm_oracle_patterns.specs.declared.search.ValidWrite.{ValidWrite as Found}
-use Rattle.bbm_lists.proofs.Elements.{in_append, in_left, in_right}
-use Rattle.bbm_lists.specs.Elements.{In}
+use Rattle.bbm_lemmas.proofs.Elements.{in_append, in_left, in_right}
+use Rattle.bbm_lemmas.specs.Elements.{In}
 use Rattle.bbm_certify.specs.DueAt.{IsDueAt, IsDueHere, IsDueIn, IsDueSince, IsNewest, IsUncleansed, Told}
-use Rattle.bbm_certify.specs.Least.{claim_key}
-use Rattle.bbm_certify.specs.Making.{IsInside, IsLeastClaim, IsPattern, claim_of}
+use Rattle.bbm_certify.specs.LeastClaims.{claim_key}
+use Rattle.bbm_certify.specs.Making.{IsFirst, IsInside, IsLeastClaim, IsPattern, claim_of, finishing, publishes}
 use Rattle.bbm_certify.specs.Orders.{Adds}
 use Rattle.bbm_certify.specs.declared.patterns.Pattern.{Pattern}
 use Rattle.bbm_certify.specs.declared.patterns.Pattern.TheVariants.{One, Two as Both}
 use Rattle.bbm_certify.proofs.Adding.{adds_more, adds_none, adds_same}
-use Rattle.bbm_certify.proofs.Leasts.{claim_found, claim_none}
+use Rattle.bbm_certify.proofs.Kepts.{publication_of}
+use Rattle.bbm_certify.proofs.Leasts.{claim_found, claim_none, none_finishes}
 
 -- the key of such a claim
 key_of_place : (heading : Heading) (place p : ℕ) (since : List Noted) (c : Claim) → IsLeastClaim heading place p since c
@@ -127,6 +130,33 @@ module _ (heading : Heading) (place p from : ℕ) (log : List Kept) (newest : No
       ∙ claim_none heading place p from log newest k.0 k.1 k.3 sound complete (sym told ∙ hasnt)
       (subst (λ (y : Event). IsPattern heading place p y log None) k.2 pattern)))
 
+-- no pattern, whatever is told of the place
+pub spot_without : (heading : Heading) (place p from : ℕ) (log : List Kept) (newest : Noted)
+    → ((since : List Noted) → cleansed heading Patterns place p since ≡ true → Cleansed heading Patterns place p since)
+    → ((since : List Noted) → Cleansed heading Patterns place p since → cleansed heading Patterns place p since ≡ true)
+    → (e : Event) (due : List Claim) → IsNewest newest e (from + length log) → IsPattern heading place p e log None
+    → Adds (IsDueHere heading place newest (notes_behind from (reverse log)) p) due due
+spot_without heading place p from log newest sound complete e due k pattern =
+    let since = notes_behind from (reverse log) in
+    adds_none (IsDueHere heading place newest since p) due (λ c d.
+    true≢false (sym (complete (newest ∷ since) (cleansed_by heading place p (newest ∷ since) c d.1))
+    ∙ claim_none heading place p from log newest k.0 k.1 k.3 sound complete d.0
+    (subst (λ (y : Event). IsPattern heading place p y log None) k.2 pattern)))
+
+-- no write of the place is published to p
+pub unseen_none : (heading : Heading) (place p from : ℕ) (log : List Kept) (e : Event)
+    → ((since : List Noted) → Seen heading place p since → seen heading place p since ≡ true)
+    → seen heading place p (notes_behind from (reverse log)) ≡ false → IsPattern heading place p e log None
+unseen_none heading place p from log e complete unseen =
+    inl ((λ before after k split above below. by before after k split (publishes heading place p k.event before) refl), refl)
+  where
+    by : (before after : List Kept) (k : Kept) → log ≡ before ++ k ∷ after → (b : Bool)
+        → publishes heading place p k.event before ≡ b → publishes heading place p k.event before ≡ false
+    by before after k split false does = does
+    by before after k split true does =
+        absurd (true≢false (sym (complete (notes_behind from (reverse log))
+        (note_of (from + length before) k, publication_of heading place p from log before after k split does)) ∙ unseen))
+
 -- ---- every PE
 
 module _ (heading : Heading) (place : ℕ) (newest : Noted) (since : List Noted) where
@@ -150,6 +180,20 @@ module _ (heading : Heading) (place : ℕ) (newest : Noted) (since : List Noted)
             )
             | inr other ↦ inl (k.0, omega (arith, k.1, other, at), k.2, k.3)
           ]
+
+-- no TLBI that covers the rest of the place
+pub since_unfinished : (heading : Heading) (place from : ℕ) (log : List Kept) (newest : Noted)
+    → ((p : ℕ) (since : List Noted) → cleansed heading Patterns place p since ≡ true → Cleansed heading Patterns place p since)
+    → ((p : ℕ) (since : List Noted) → Cleansed heading Patterns place p since → cleansed heading Patterns place p since ≡ true)
+    → (e : Event) (n : ℕ) (due : List Claim) → IsNewest newest e (from + length log)
+    → IsFirst (finishing place e) 0 log None
+    → Adds (IsDueSince heading place newest (notes_behind from (reverse log)) n) due due
+since_unfinished heading place from log newest sound complete e n due k absent =
+    let since = notes_behind from (reverse log) in
+    adds_none (IsDueSince heading place newest since n) due (λ c d.
+    true≢false (sym (complete d.0 (newest ∷ since) (cleansed_by heading place d.0 (newest ∷ since) c d.3))
+    ∙ none_finishes heading place d.0 from log newest k.0 k.1 k.3 (sound d.0) (complete d.0) d.2
+    (subst (λ (y : Event). IsFirst (finishing place y) 0 log None) k.2 absent)))
 
 -- ---- the place as one of a page
 

@@ -1,5 +1,6 @@
 -- No claim is due at an event that is no DSB.
-use Rattle.std.proofs.Common.{◌≡◌, ◌⊎◌, ℕ, Bool, true, false, not, ◌&&◌, ◌==◌, cond, List, [], ◌∷◌, ◌++◌, Option, Some, None, Contains, refl, sym, ◌∙◌, ap, subst, inl, inr, true≢false, append_assoc}
+use Rattle.std.proofs.Common.{◌≡◌, ◌⊎◌, ℕ, Bool, true, false, not, ◌&&◌, ◌==◌, cond, List, [], ◌∷◌, ◌++◌, Option, Some}
+use Rattle.std.proofs.Common.{None, Contains, refl, sym, ◌∙◌, ap, subst, inl, inr, true≢false, append_assoc}
 use Rattle.std.proofs.lemmas.Bool.{and_from, not_from_false, or_right}
 use Rattle.bbm_descriptor.specs.Descriptor.{is_valid}
 use Rattle.bbm_events.specs.declared.claim.Claim.{Claim}
@@ -15,10 +16,10 @@ use Rattle.bbm_rules.specs.Prelude.{Barrier, Heading, Event, Init, Write, Dsb, K
 use Rattle.bbm_rules.specs.Reach.{Issued}
 use Rattle.bbm_rules.specs.Tags.{holds_at, loses, reads}
 use Rattle.bbm_rules.specs.Tree.{Node, tree}
-use Rattle.bbm_histories.specs.Steps.{cleansed_after}
-use Rattle.bbm_histories.specs.Tree.{Attaches}
-use Rattle.bbm_histories.specs.Values.{HoldsPresent}
-use Rattle.bbm_certify.specs.Least.{IsCleansed, IsDue}
+use Rattle.bbm_histories.specs.HistorySteps.{cleansed_after}
+use Rattle.bbm_histories.specs.TreeChanges.{Attaches}
+use Rattle.bbm_histories.specs.ValueChanges.{HoldsPresent}
+use Rattle.bbm_certify.specs.LeastClaims.{IsCleansed, IsDue}
 use Rattle.bbm_certify.proofs.DuePlaces.{Was, was}
 
 -- ---- what is cleansed was seen

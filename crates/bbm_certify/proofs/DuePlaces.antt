@@ -1,5 +1,6 @@
 -- The claims of places that are due at a DSB are those that are found, place by place and PE by PE.
-use Rattle.std.proofs.Common.{◌≡◌, ℕ, ◌<◌, Bool, true, false, List, ◌∷◌, Option, Some, None, Contains, refl, sym, ◌∙◌, ap, subst, inl, inr, true≢false}
+use Rattle.std.proofs.Common.{◌≡◌, ℕ, ◌<◌, Bool, true, false, List, ◌∷◌, Option, Some, None, Contains, refl, sym, ◌∙◌}
+use Rattle.std.proofs.Common.{ap, subst, inl, inr, true≢false}
 use Rattle.bbm_events.specs.declared.claim.Claim.{Claim}
 use Rattle.bbm_events.specs.declared.claim.Claim.TheVariants.{Place, Two, Taken}
 use Rattle.bbm_rules.specs.Claims.Trust.{Patterns}
@@ -11,7 +12,7 @@ use Rattle.bbm_rules.specs.PatternSentences.{Cleansed}
 use Rattle.bbm_rules.specs.Places.{page_of}
 use Rattle.bbm_rules.specs.Prelude.{Barrier, Heading, Event, Dsb}
 use Rattle.bbm_rules.specs.Tree.{Node, node_of, tree}
-use Rattle.bbm_certify.specs.Least.{IsCleansed, IsDue}
+use Rattle.bbm_certify.specs.LeastClaims.{IsCleansed, IsDue}
 use Rattle.bbm_certify.specs.DueAt.{IsDueAt, IsLeastClaim, IsUncleansed}
 
 -- the write before one more event

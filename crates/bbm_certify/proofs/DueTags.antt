@@ -1,6 +1,8 @@
 -- The claims of tags that are due at a DSB are those that are found among what was ever readable.
-use Rattle.std.proofs.Common.{◌≡◌, ℕ, suc, ◌<◌, Bool, true, false, not, ◌&&◌, ◌||◌, ◌==◌, nat_lt, List, [], ◌∷◌, length, refl, sym, ◌∙◌, ap, subst, true≢false, arith}
-use Rattle.std.proofs.lemmas.Bool.{and_from, and_parts, eq-eqb, eqb-true, lt-ltb, ltb-true, not-true, not_from_false, or_left, or_parts}
+use Rattle.std.proofs.Common.{◌≡◌, ℕ, suc, ◌<◌, Bool, true, false, not, ◌&&◌, ◌||◌, ◌==◌, nat_lt, List, [], ◌∷◌, length}
+use Rattle.std.proofs.Common.{refl, sym, ◌∙◌, ap, subst, true≢false, arith}
+use Rattle.std.proofs.lemmas.Bool.{and_from, and_parts, eq-eqb, eqb-true, lt-ltb, ltb-true, not-true, not_from_false}
+use Rattle.std.proofs.lemmas.Bool.{or_left, or_parts}
 use Rattle.bbm_events.specs.declared.claim.Claim.{Claim}
 use Rattle.bbm_events.specs.declared.claim.Claim.TheVariants.{Taken}
 use Rattle.bbm_rules.specs.Claims.{same_tag}
@@ -11,20 +13,13 @@ use Rattle.bbm_rules.specs.Tags.{Reading, holds_at, loses, reads, reads_for_some
 use Rattle.bbm_histories.specs.ClaimSteps.{completes_taken}
 use Rattle.bbm_cert.specs.Holdings.{is_holding}
 use Rattle.bbm_cert.specs.declared.holdings.Holding.{Holding}
-use Rattle.bbm_lists.proofs.Elements.{any_finds, any_found}
-use Rattle.bbm_lists.specs.Elements.{In}
-use Rattle.bbm_certify.specs.Known.{Known}
-use Rattle.bbm_certify.specs.Least.{IsDue, IsLeast, TakenAt, less}
+use Rattle.bbm_lemmas.proofs.Elements.{any_finds, any_found}
+use Rattle.bbm_lemmas.specs.Elements.{In}
+use Rattle.bbm_certify.specs.KnownOfCertificates.{Known}
+use Rattle.bbm_certify.specs.LeastClaims.{IsDue, IsLeast, TakenAt, less}
 use Rattle.bbm_certify.specs.Taken.{AreTaken, IsKnown, IsTaken, takes}
 use Rattle.bbm_certify.proofs.TagClaims as tags
-
-and_true : (a : Bool) → (a && true) ≡ a
-and_true true = refl
-and_true false = refl
-
-or_false : (a : Bool) → (a || false) ≡ a
-or_false true = refl
-or_false false = refl
+use mathlib.Core.Bool.{and-true, or-false, and-false}
 
 module _ (heading : Heading) (known : Known heading) (h : List Event) (q : ℕ) (dsb : Barrier)
     (tag_equal : (g k : Tag) → same_tag g k ≡ true → g ≡ k) (tag_itself : (g : Tag) → same_tag g g ≡ true)
@@ -43,7 +38,7 @@ module _ (heading : Heading) (known : Known heading) (h : List Event) (q : ℕ) 
         let here : (p == p && (same_tag tag tag && end == end)) ≡ true
         = and_from (p == p) (same_tag tag tag && end == end) (eq-eqb p p refl)
         (and_from (same_tag tag tag) (end == end) (tag_itself tag) (eq-eqb end end refl)) in
-        ap (λ (b : Bool). (b && takes heading p tag q dsb h t) || false) here ∙ or_false (takes heading p tag q dsb h t)
+        ap (λ (b : Bool). (b && takes heading p tag q dsb h t) || false) here ∙ or-false (takes heading p tag q dsb h t)
 
     -- the DSB takes the tag away by the TLBI at the position exactly where the claim of it is true
     test_is : (t : ℕ) → reads_for_some heading now p tag ≡ false
@@ -51,7 +46,7 @@ module _ (heading : Heading) (known : Known heading) (h : List Event) (q : ℕ) 
     test_is t unread =
         listed (Taken p tag t end ∷ []) p tag
         ∙ (ap (λ (b : Bool). b && not (reads_for_some heading now p tag)) (one_claim t)
-        ∙ (ap (λ (b : Bool). takes heading p tag q dsb h t && not b) unread ∙ and_true (takes heading p tag q dsb h t)))
+        ∙ (ap (λ (b : Bool). takes heading p tag q dsb h t && not b) unread ∙ and-true (takes heading p tag q dsb h t)))
 
     -- the least position is the first
     least_is_first : (t : ℕ) → reads_for_some heading now p tag ≡ false → takes heading p tag q dsb h t ≡ true
@@ -70,11 +65,7 @@ module _ (heading : Heading) (known : Known heading) (h : List Event) (q : ℕ) 
           where
             by : (n : ℕ) → takes heading p tag q dsb h n ≡ true → (b : Bool) → nat_lt n t ≡ b → less (n ∷ []) (t ∷ []) ≡ false
             by n told true e = absurd (true≢false (sym told ∙ none n (ltb-true n t e)))
-            by n told false e = ap (λ (b : Bool). b || (n == t && false)) e ∙ never (n == t)
-              where
-                never : (b : Bool) → (b && false) ≡ false
-                never true = refl
-                never false = refl
+            by n told false e = ap (λ (b : Bool). b || (n == t && false)) e ∙ and-false (n == t)
 
     first_is_least : (t n : ℕ) → IsLeast (TakenAt heading p tag now) (t ∷ []) → reads_for_some heading now p tag ≡ false
         → n < t → takes heading p tag q dsb h n ≡ false

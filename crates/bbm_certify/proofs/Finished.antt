@@ -1,7 +1,9 @@
 -- A certificate that is made event by event.
-use Rattle.std.proofs.Common.{◌≡◌, ℕ, suc, ◌+◌, ◌-◌, ◌<◌, ◌≤◌, Bool, true, ◌||◌, List, [], ◌∷◌, ◌++◌, length, take, drop, get_or, reverse, is_none, refl, sym, ◌∙◌, ap, subst, arith, inl, inr, length-append}
+use Rattle.std.proofs.Common.{◌≡◌, ℕ, suc, ◌+◌, ◌-◌, ◌<◌, ◌≤◌, Bool, true, ◌||◌, List, [], ◌∷◌, ◌++◌, length, take}
+use Rattle.std.proofs.Common.{drop, get_or, reverse, is_none, refl, sym, ◌∙◌, ap, subst, arith, inl, inr, length-append}
 use Rattle.std.proofs.lemmas.Bool.{and_parts}
-use Rattle.std.proofs.lemmas.List.{length-reverse, length-take-le, reverse-append, reverse-reverse, take-append-drop, take_at, take_more}
+use Rattle.std.proofs.lemmas.List.{length-reverse, length-take-le, reverse-append, reverse-reverse, take-append-drop}
+use Rattle.std.proofs.lemmas.List.{take_at, take_more}
 use Rattle.std.specs.List.{list_all}
 use Rattle.bbm_events.specs.declared.claim.Claim.{Claim}
 use Rattle.bbm_rules.specs.Broken.{broken, keeps}
@@ -14,11 +16,11 @@ use Rattle.bbm_rules.specs.Prelude.{Barrier, Heading, Event, Dsb}
 use Rattle.bbm_oracle_patterns.specs.Kept.{note_of, notes_of}
 use Rattle.bbm_oracle_patterns.specs.declared.kept.Kept.{Kept}
 use Rattle.bbm_oracle_trees.specs.Past.{Past, notes}
-use Rattle.bbm_lists.proofs.Elements.{in_split}
-use Rattle.bbm_lists.specs.Elements.{In}
+use Rattle.bbm_lemmas.proofs.Elements.{in_split}
+use Rattle.bbm_lemmas.specs.Elements.{In}
 use Rattle.bbm_certify.specs.DueAt.{AreDue as ArePlaces, IsNewest, writes_at}
-use Rattle.bbm_certify.specs.Known.{Known}
-use Rattle.bbm_certify.specs.Least.{IsCertificate}
+use Rattle.bbm_certify.specs.KnownOfCertificates.{Known}
+use Rattle.bbm_certify.specs.LeastClaims.{IsCertificate}
 use Rattle.bbm_certify.specs.Made.{AreDue, HasTaken, IsMaking, Stands}
 use Rattle.bbm_certify.specs.Orders.{Adds}
 use Rattle.bbm_certify.specs.Taken.{AreTaken, IsKnown, ReadsAreWritten}

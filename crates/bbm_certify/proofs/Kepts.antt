@@ -1,5 +1,6 @@
 -- Publications and answers, by the events of a log that is kept. Everywhere `from` events came before the log.
-use Rattle.std.proofs.Common.{◌≡◌, ℕ, suc, ◌+◌, true, false, not, ◌&&◌, ◌==◌, List, ◌∷◌, ◌++◌, length, reverse, refl, sym, ◌∙◌, ap, subst, true≢false}
+use Rattle.std.proofs.Common.{◌≡◌, ℕ, suc, ◌+◌, true, false, not, ◌&&◌, ◌==◌, List, ◌∷◌, ◌++◌, length, reverse, refl}
+use Rattle.std.proofs.Common.{sym, ◌∙◌, ap, subst, true≢false}
 use Rattle.std.proofs.lemmas.Bool.{and_from, and_parts, eq-eqb, eqb-true, not-true, not_from_false}
 use Rattle.bbm_tlbi_scope.specs.declared.entry.Cover.{Cover}
 use Rattle.bbm_tlbi_scope.specs.declared.entry.Cover.TheVariants.{None as NoCover, Half, Second, Full}
@@ -14,8 +15,8 @@ use Rattle.bbm_rules.specs.Values.{publishes_to}
 use Rattle.bbm_oracle_patterns.specs.Kept.{cover_in, note_of, notes_behind}
 use Rattle.bbm_oracle_patterns.specs.declared.kept.Kept.{Kept}
 use Rattle.bbm_cert.specs.Flushes.{completed_by, is_flush_of}
-use Rattle.bbm_lists.proofs.Elements.{any_finds, any_found, in_split, is_none_of, none_of, split_in}
-use Rattle.bbm_lists.specs.Elements.{In}
+use Rattle.bbm_lemmas.proofs.Elements.{any_finds, any_found, in_split, is_none_of, none_of, split_in}
+use Rattle.bbm_lemmas.specs.Elements.{In}
 use Rattle.bbm_certify.specs.Making.{answers, publishes}
 use Rattle.bbm_certify.proofs.Spots.{Seat, notes_split, seat}
 

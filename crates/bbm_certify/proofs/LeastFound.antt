@@ -1,10 +1,11 @@
 -- The least list of numbers that passes a test, among those that are made of the numbers of a list.
-use Rattle.std.proofs.Common.{◌≡◌, ℕ, zero, suc, ◌<◌, ◌≤◌, Bool, true, false, ◌&&◌, ◌||◌, ◌==◌, nat_lt, List, [], ◌∷◌, refl, sym, ◌∙◌, ap, subst, inl, inr, true≢false, arith}
+use Rattle.std.proofs.Common.{◌≡◌, ℕ, zero, suc, ◌<◌, ◌≤◌, Bool, true, false, ◌&&◌, ◌||◌, ◌==◌, nat_lt, List, [], ◌∷◌}
+use Rattle.std.proofs.Common.{refl, sym, ◌∙◌, ap, subst, inl, inr, true≢false, arith}
 use Rattle.std.proofs.lemmas.Bool.{and_left, and_right, cases_eq, le-ltb, ltb-false, ltb-true, ne_eqb, or_from}
 use Rattle.std.specs.List.{list_any}
-use Rattle.bbm_lists.proofs.Elements.{any_finds, none_of}
-use Rattle.bbm_lists.specs.Elements.{In}
-use Rattle.bbm_certify.specs.Least.{less}
+use Rattle.bbm_lemmas.proofs.Elements.{any_finds, none_of}
+use Rattle.bbm_lemmas.specs.Elements.{In}
+use Rattle.bbm_certify.specs.LeastClaims.{less}
 
 -- ---- one number
 

@@ -1,21 +1,30 @@
 -- The least pattern that a search finds in a log that is kept is the least of all that end with the newest event.
-use Rattle.std.proofs.Common.{◌≡◌, ◌⊎◌, ℕ, zero, suc, ◌+◌, ◌<◌, ◌≤◌, Bool, true, false, nat_lt, List, [], ◌∷◌, ◌++◌, length, Option, Some, None, reverse, refl, sym, ◌∙◌, ap, subst, inl, inr, true≢false, arith, append_assoc, length-append}
-use Rattle.std.proofs.lemmas.Bool.{le-ltb, ltb-false, ltb-true}
-use Rattle.bbm_tlbi_scope.specs.declared.entry.Cover.TheVariants.{Full}
+use Rattle.std.proofs.Common.{◌≡◌, ◌⊎◌, ℕ, zero, suc, ◌+◌, ◌<◌, ◌≤◌, Bool, true, false, ◌&&◌, not, nat_lt, List, []}
+use Rattle.std.proofs.Common.{◌∷◌, ◌++◌, length, Option, Some, None, reverse, refl, sym, ◌∙◌, ap, subst, inl, inr}
+use Rattle.std.proofs.Common.{true≢false, arith, append_assoc, length-append}
+use Rattle.std.proofs.lemmas.Bool.{and_from, and_parts, le-ltb, ltb-false, ltb-true, or_left, or_right}
+use Rattle.bbm_tlbi_scope.specs.declared.entry.Cover.{Cover}
+use Rattle.bbm_tlbi_scope.specs.declared.entry.Cover.TheVariants.{Second, Full}
 use Rattle.bbm_rules.specs.Claims.Trust.{Patterns}
-use Rattle.bbm_rules.specs.Cleansing.{cleansed}
+use Rattle.bbm_rules.specs.Cleansing.{cleansed, same_cover}
+use Rattle.bbm_rules.specs.Lists.{any}
 use Rattle.bbm_rules.specs.Notes.{Noted}
 use Rattle.bbm_rules.specs.PatternSentences.{Cleansed, OneStep, TwoSteps}
 use Rattle.bbm_rules.specs.Prelude.{Barrier, Heading, Dsb}
-use Rattle.bbm_oracle_patterns.specs.Kept.{notes_behind}
+use Rattle.bbm_rules.specs.Reach.{completes, reaches}
+use Rattle.bbm_rules.specs.Sentences.{issues}
+use Rattle.bbm_cert.specs.Flushes.{completed_by, is_flush_of}
+use Rattle.bbm_oracle_patterns.specs.Kept.{cover_in, notes_behind}
 use Rattle.bbm_oracle_patterns.specs.declared.kept.Kept.{Kept}
-use Rattle.bbm_certify.specs.Least.{IsLeast, OneAt, TwoAt, less}
-use Rattle.bbm_certify.specs.Making.{AreHalves, BeginsAt, IsFirst, IsLeastClaim, IsPattern, IsPatternBehind, claim_of, publishing, waiting}
+use Rattle.bbm_certify.specs.LeastClaims.{IsLeast, OneAt, TwoAt, less}
+use Rattle.bbm_certify.specs.Making.{AreHalves, BeginsAt, IsFirst, IsLeastClaim, IsPattern, IsPatternBehind, answers}
+use Rattle.bbm_certify.specs.Making.{claim_of, covers_rest, finishes, finishing, may_finish, publishing, waiting}
 use Rattle.bbm_certify.specs.declared.patterns.Halves.{Halves}
 use Rattle.bbm_certify.specs.declared.patterns.Pattern.{Pattern}
 use Rattle.bbm_certify.specs.declared.patterns.Pattern.TheVariants.{One, Two as Both}
 use Rattle.bbm_certify.proofs.LeastFound.{not_less}
-use Rattle.bbm_certify.proofs.TwoSteps.{OnePositions, OneStepAt, TwoPositions, TwoStepsAt, count_in_two, one_in, one_of, split_in_two, two_in, two_of}
+use Rattle.bbm_certify.proofs.TwoSteps.{OnePositions, OneStepAt, TwoPositions, TwoStepsAt, count_in_two, one_in, one_of}
+use Rattle.bbm_certify.proofs.TwoSteps.{split_in_two, two_in, two_of}
 
 -- ---- numbers and lists
 
@@ -44,6 +53,21 @@ five a b c d e v w x y z i j k l m =
 
 assoc : (xs : List Kept) (k : Kept) (ys zs : List Kept) → (xs ++ k ∷ ys) ++ zs ≡ xs ++ k ∷ (ys ++ zs)
 assoc xs k ys zs = append_assoc xs (k ∷ ys) zs
+
+-- a TLBI that covers the place in full, or the rest of it, reaches p, and is answered
+finishes_by : (heading : Heading) (place p q : ℕ) (dsb : Barrier) (cover : Cover) (k : Kept) (later : List Kept)
+    → (same_cover (cover_in k.covers.items place) cover ≡ true → covers_rest place k ≡ true)
+    → answers heading place p cover (Dsb q dsb) k later ≡ true → finishes place (Dsb q dsb) k later ≡ true
+finishes_by heading place p q dsb cover k later rest e =
+    let does = same_cover (cover_in k.covers.items place) cover in
+    let unanswered = not (any (completed_by q k.event) later) in
+    let w = and_parts (is_flush_of heading q dsb cover place p k) unanswered e in
+    let x = and_parts (issues q k.event) (completes dsb k.event && (reaches heading k.event p && does)) w.0 in
+    let y = and_parts (completes dsb k.event) (reaches heading k.event p && does) x.1 in
+    let z = and_parts (reaches heading k.event p) does y.1 in
+    and_from (may_finish q dsb place k) unanswered
+    (and_from (issues q k.event) (completes dsb k.event && covers_rest place k) x.0
+    (and_from (completes dsb k.event) (covers_rest place k) y.0 (rest z.1))) w.1
 
 -- the event of an index
 pub record At (log : List Kept) (i : ℕ) : Type 0 where
@@ -115,6 +139,45 @@ module _ (heading : Heading) (place p from : ℕ) (log : List Kept) (newest : No
           let split = split_in_two log s.begins.before s.begins.later s.before s.after s.begins.tlbi s.kb s.begins.split s.split in
           true≢false (sym s.does ∙ absent s.before (s.after ++ s.begins.tlbi ∷ s.begins.later) s.kb split (omega arith)
           (omega (arith, ap length split, length-append s.before (s.kb ∷ (s.after ++ s.begins.tlbi ∷ s.begins.later)))))
+
+      by : (c : Bool) → cleansed heading Patterns place p (newest ∷ since) ≡ c → c ≡ false
+      by false e = refl
+      by true e = elim (sound (newest ∷ since) e) [
+        | inl k ↦ let s = one_positions k in absurd (one s.b s.t s.step)
+        | inr k ↦ let s = two_positions k in absurd (two s.b s.i s.wait s.gap s.steps)
+      ]
+
+  -- ---- no TLBI that covers the rest of the place
+
+  pub none_finishes : IsFirst (finishing place (Dsb q dsb)) 0 log None
+      → cleansed heading Patterns place p (newest ∷ since) ≡ false
+  none_finishes absent = by (cleansed heading Patterns place p (newest ∷ since)) refl
+    where
+      not_at : (before after : List Kept) (k : Kept) → log ≡ before ++ k ∷ after
+          → finishes place (Dsb q dsb) k after ≡ true → ⊥
+      not_at before after k split e =
+          true≢false (sym e ∙ absent before after k split (omega arith)
+          (omega (arith, ap length split, length-append before (k ∷ after))))
+
+      one : (b t : ℕ) → One' b t → ⊥
+      one b t s =
+          not_at (s.before ++ s.kb ∷ s.mid) s.after s.kt (s.split ∙ sym (assoc s.before s.kb s.mid (s.kt ∷ s.after)))
+          (finishes_by heading place p q dsb Full s.kt s.after
+          (or_left (same_cover (cover_in s.kt.covers.items place) Full) (same_cover (cover_in s.kt.covers.items place) Second))
+          s.waits)
+
+      two : (b i wait gap : ℕ) → Two' b i wait gap → ⊥
+      two b i wait gap s =
+          let g = s.begins in
+          let x = s.begins.begins in
+          let inner = x.mid ++ x.d ∷ x.between in
+          let split : log ≡ (g.before ++ g.tlbi ∷ inner) ++ x.t ∷ x.after =
+          g.split ∙ (ap (λ (xs : List Kept). g.before ++ g.tlbi ∷ xs)
+          (x.split ∙ sym (assoc x.mid x.d x.between (x.t ∷ x.after))) ∙ sym (assoc g.before g.tlbi inner (x.t ∷ x.after))) in
+          not_at (g.before ++ g.tlbi ∷ inner) x.after x.t split
+          (finishes_by heading place p q dsb Second x.t x.after
+          (or_right (same_cover (cover_in x.t.covers.items place) Full) (same_cover (cover_in x.t.covers.items place) Second))
+          x.second)
 
       by : (c : Bool) → cleansed heading Patterns place p (newest ∷ since) ≡ c → c ≡ false
       by false e = refl

@@ -6,8 +6,8 @@ use Rattle.bbm_events.specs.declared.claim.Claim.TheVariants.{Place, Two, Taken}
 use Rattle.bbm_rules.specs.Claims.{allows, same_claim}
 use Rattle.bbm_rules.specs.Claims.Trust.{Listed}
 use Rattle.bbm_rules.specs.Prelude.{Heading}
-use Rattle.bbm_lists.proofs.Elements.{any_finds, from_contains}
-use Rattle.bbm_certify.specs.Known.{Known}
+use Rattle.bbm_lemmas.proofs.Elements.{any_finds, from_contains}
+use Rattle.bbm_certify.specs.KnownOfCertificates.{Known}
 
 -- the positions that a claim names, but the last of a tag
 abbrev pub named : Claim → List ℕ

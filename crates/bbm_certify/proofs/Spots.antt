@@ -1,5 +1,6 @@
 -- The events of a log that is kept, oldest first, and their notes, newest first.
-use Rattle.std.proofs.Common.{◌≡◌, ℕ, suc, ◌+◌, List, [], ◌∷◌, ◌++◌, length, reverse, refl, sym, ◌∙◌, ap, arith, append_assoc, length-append}
+use Rattle.std.proofs.Common.{◌≡◌, ℕ, suc, ◌+◌, List, [], ◌∷◌, ◌++◌, length, reverse, refl, sym, ◌∙◌, ap, arith}
+use Rattle.std.proofs.Common.{append_assoc, length-append}
 use Rattle.std.proofs.lemmas.List.{length-reverse, reverse-append, reverse-reverse}
 use Rattle.bbm_oracle_patterns.specs.Kept.{note_of, notes_behind}
 use Rattle.bbm_oracle_patterns.specs.declared.kept.Kept.{Kept}

@@ -1,5 +1,6 @@
 -- The patterns that end with the newest event, by the events of a log that is kept.
-use Rattle.std.proofs.Common.{◌≡◌, ◌⊎◌, ℕ, suc, ◌+◌, true, List, [], ◌∷◌, ◌++◌, length, reverse, refl, sym, ◌∙◌, ap, subst, inl, inr, true≢false, arith, append_assoc, length-append}
+use Rattle.std.proofs.Common.{◌≡◌, ◌⊎◌, ℕ, suc, ◌+◌, true, List, [], ◌∷◌, ◌++◌, length, reverse, refl, sym, ◌∙◌, ap}
+use Rattle.std.proofs.Common.{subst, inl, inr, true≢false, arith, append_assoc, length-append}
 use Rattle.bbm_tlbi_scope.specs.declared.entry.Cover.{Cover}
 use Rattle.bbm_tlbi_scope.specs.declared.entry.Cover.TheVariants.{Half, Second, Full}
 use Rattle.bbm_rules.specs.Claims.Trust.{Patterns}
@@ -11,7 +12,8 @@ use Rattle.bbm_rules.specs.Sentences.{Open}
 use Rattle.bbm_oracle_patterns.specs.Kept.{note_of, notes_behind}
 use Rattle.bbm_oracle_patterns.specs.declared.kept.Kept.{Kept}
 use Rattle.bbm_certify.specs.Making.{BeginsAt, answers, publishes}
-use Rattle.bbm_certify.proofs.Kepts.{Answered, Published, Waiting, answered_of, publication_of, published_in, waiting_in}
+use Rattle.bbm_certify.proofs.Kepts.{Answered, Published, Waiting, answered_of, publication_of, published_in}
+use Rattle.bbm_certify.proofs.Kepts.{waiting_in}
 use Rattle.bbm_certify.proofs.Spots.{Seat, notes_split, seat}
 
 same_barrier : (q q' : ℕ) (dsb dsb' : Barrier) → Dsb q dsb ≡ Dsb q' dsb' → (q ≡ q') × (dsb ≡ dsb')

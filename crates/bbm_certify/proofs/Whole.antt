@@ -1,5 +1,6 @@
 -- All claims that are due at an event, and what is kept for the next one.
-use Rattle.std.proofs.Common.{◌≡◌, ◌⊎◌, ℕ, ◌<◌, Bool, true, false, cond, ◌&&◌, ◌||◌, ◌==◌, List, [], ◌∷◌, Option, Some, None, is_none, refl, sym, ◌∙◌, ap, subst, inl, inr, true≢false}
+use Rattle.std.proofs.Common.{◌≡◌, ◌⊎◌, ℕ, ◌<◌, Bool, true, false, cond, ◌&&◌, ◌||◌, ◌==◌, List, [], ◌∷◌, Option, Some}
+use Rattle.std.proofs.Common.{None, is_none, refl, sym, ◌∙◌, ap, subst, inl, inr, true≢false}
 use Rattle.std.proofs.lemmas.Bool.{and_parts, eqb-true, or_parts}
 use Rattle.bbm_descriptor.specs.Descriptor.{is_valid}
 use Rattle.bbm_events.specs.declared.claim.Claim.{Claim}
@@ -13,11 +14,11 @@ use Rattle.bbm_rules.specs.Notes.{Noted}
 use Rattle.bbm_rules.specs.Places.{page_of}
 use Rattle.bbm_rules.specs.Prelude.{Barrier, Heading, Event, Init, Write, Dsb, Kind}
 use Rattle.bbm_cert.specs.declared.holdings.Holding.{Holding}
-use Rattle.bbm_lists.proofs.Elements.{any_found}
-use Rattle.bbm_lists.specs.Elements.{In}
+use Rattle.bbm_lemmas.proofs.Elements.{any_found}
+use Rattle.bbm_lemmas.specs.Elements.{In}
 use Rattle.bbm_certify.specs.DueAt.{AreDue as ArePlaces, writes_at}
-use Rattle.bbm_certify.specs.Known.{Known}
-use Rattle.bbm_certify.specs.Least.{IsCleansed, IsDue}
+use Rattle.bbm_certify.specs.KnownOfCertificates.{Known}
+use Rattle.bbm_certify.specs.LeastClaims.{IsCleansed, IsDue}
 use Rattle.bbm_certify.specs.Made.{AreDue, AreWritten}
 use Rattle.bbm_certify.specs.Orders.{Adds}
 use Rattle.bbm_certify.specs.Taken.{AreTaken, IsKnown}

@@ -3,7 +3,7 @@ use Rattle.std.specs.Prelude.{◌≡◌, ℕ, suc, ◌<◌, Bool, false, ◌==�
 use Rattle.bbm_events.specs.declared.claim.Claim.{Claim}
 use Rattle.bbm_rules.specs.Claims.{Trust}
 use Rattle.bbm_rules.specs.Claims.Trust.{Patterns}
-use Rattle.bbm_rules.specs.Cleansing.{cleansed}
+use Rattle.bbm_rules.specs.Cleansing.{cleansed, seen}
 use Rattle.bbm_rules.specs.Held.{ValidWrite, last_valid}
 use Rattle.bbm_rules.specs.Notes.{Noted}
 use Rattle.bbm_rules.specs.Places.{page_of}
@@ -11,7 +11,7 @@ use Rattle.bbm_regimes.specs.PeMask.{pe_in}
 use Rattle.bbm_regimes.specs.declared.pe.PeMask.{PeMask}
 use Rattle.bbm_rules.specs.Prelude.{Barrier, Heading, Event, Write, Dsb}
 use Rattle.bbm_rules.specs.Tree.{Node, node_of}
-use Rattle.bbm_lists.specs.Elements.{In}
+use Rattle.bbm_lemmas.specs.Elements.{In}
 pub use Rattle.bbm_certify.specs.Making.{IsLeastClaim}
 
 -- the place isn't cleansed at p by these events
@@ -21,6 +21,10 @@ IsUncleansed heading place p since = cleansed heading Patterns place p since ≡
 -- the PEs are told at which it is cleansed by them
 abbrev pub Told : Heading → PeMask → ℕ → ℕ → List Noted → Type 0
 Told heading pes place p since = pe_in pes p ≡ cleansed heading Patterns place p since
+
+-- the PEs are told to which a write of it is published by them
+abbrev pub ToldSeen : Heading → PeMask → ℕ → ℕ → List Noted → Type 0
+ToldSeen heading pes place p since = pe_in pes p ≡ seen heading place p since
 
 -- a DSB that comes behind so many events
 abbrev pub IsNewest : Noted → Event → ℕ → Type 0

@@ -1,5 +1,5 @@
-pub mod Least
-pub mod Known
+pub mod LeastClaims
+pub mod KnownOfCertificates
 pub mod Making
 pub mod Orders
 pub mod DueAt

@@ -9,8 +9,8 @@ use Rattle.bbm_rules.specs.Held.{last_valid}
 use Rattle.bbm_rules.specs.Lists.{among}
 use Rattle.bbm_rules.specs.Prelude.{Heading, Event, Kind}
 use Rattle.bbm_oracle_trees.specs.Past.{Past}
-use Rattle.bbm_oracle_trees.specs.StandsFor.{StandsFor}
-use Rattle.bbm_certify.specs.Least.{Ascending, IsDue}
+use Rattle.bbm_oracle_trees.specs.HistoryStandsFor.{StandsFor}
+use Rattle.bbm_certify.specs.LeastClaims.{Ascending, IsDue}
 use Rattle.bbm_certify.specs.Taken.{IsKnown}
 use Rattle.bbm_certify.specs.declared.making.Making.{Making}
 

@@ -1,6 +1,7 @@
 -- What is asked of a log while its certificate is made, event by event as it is kept. Lists of events are oldest first
 -- here. No public contract cites these words. Source: project's own choice.
-use Rattle.std.specs.Prelude.{◌≡◌, ◌⊎◌, ℕ, ◌+◌, ◌<◌, ◌≤◌, Bool, true, false, ◌&&◌, not, List, [], ◌∷◌, ◌++◌, length, Option, Some, None}
+use Rattle.std.specs.Prelude.{◌≡◌, ◌⊎◌, ℕ, ◌+◌, ◌<◌, ◌≤◌, Bool, true, false, ◌&&◌, ◌||◌, not, List, [], ◌∷◌, ◌++◌}
+use Rattle.std.specs.Prelude.{length, Option, Some, None}
 use Rattle.bbm_tlbi_scope.specs.declared.entry.Cover.{Cover}
 use Rattle.bbm_tlbi_scope.specs.declared.entry.Cover.TheVariants.{Half, Second, Full}
 use Rattle.bbm_events.specs.declared.claim.Claim.{Claim}
@@ -10,13 +11,14 @@ use Rattle.bbm_rules.specs.Claims.Trust.{Patterns}
 use Rattle.bbm_rules.specs.Lists.{any}
 use Rattle.bbm_rules.specs.Notes.{Noted}
 use Rattle.bbm_rules.specs.PatternSentences.{OneStep}
-use Rattle.bbm_rules.specs.Prelude.{Heading, Event, Dsb}
-use Rattle.bbm_rules.specs.Reach.{reaches}
+use Rattle.bbm_rules.specs.Prelude.{Barrier, Heading, Event, Dsb}
+use Rattle.bbm_rules.specs.Reach.{completes, reaches}
+use Rattle.bbm_rules.specs.Sentences.{issues}
 use Rattle.bbm_rules.specs.Values.{publishes_to}
 use Rattle.bbm_oracle_patterns.specs.Kept.{cover_in}
 use Rattle.bbm_oracle_patterns.specs.declared.kept.Kept.{Kept}
 use Rattle.bbm_cert.specs.Flushes.{completed_by, is_flush_of}
-use Rattle.bbm_certify.specs.Least.{IsLeast, OneAt, TwoAt}
+use Rattle.bbm_certify.specs.LeastClaims.{IsLeast, OneAt, TwoAt}
 use Rattle.bbm_certify.specs.declared.patterns.Ends.{Ends}
 use Rattle.bbm_certify.specs.declared.patterns.Halves.{Halves}
 use Rattle.bbm_certify.specs.declared.patterns.Pattern.{Pattern}
@@ -40,6 +42,23 @@ IsFirst test lo log None = NoneBelow test lo (length log) log
 IsFirst test lo log (Some i) = (lo ≤ i) × (i < length log) × HoldsAt test i log × NoneBelow test lo i log
 
 -- ---- tests
+
+-- the event is a TLBI that covers the place in full, or the rest of it
+abbrev pub covers_rest : ℕ → Kept → Bool
+covers_rest place k = same_cover (cover_in k.covers.items place) Full || same_cover (cover_in k.covers.items place) Second
+
+-- such a TLBI of q that this barrier of q completes
+abbrev pub may_finish : ℕ → Barrier → ℕ → Kept → Bool
+may_finish q dsb place k = issues q k.event && (completes dsb k.event && covers_rest place k)
+
+-- and behind it came these events, and then one that answers it
+abbrev pub finishes : ℕ → Event → Kept → List Kept → Bool
+finishes place (Dsb q dsb) k later = may_finish q dsb place k && not (any (completed_by q k.event) later)
+finishes place _ k later = false
+
+-- such a TLBI in a log behind which this event comes
+abbrev pub finishing : ℕ → Event → List Kept → Kept → List Kept → Bool
+finishing place e before k after = finishes place e k after
 
 module _ (heading : Heading) (place p : ℕ) where
   -- the event publishes to p a write of the place that is among those before it

@@ -1,8 +1,8 @@
 -- Claims of one event that are put in their order. No public contract cites these words. Source: project's own choice.
 use Rattle.std.specs.Prelude.{◌≡◌, ◌⊎◌, ℕ, List, [], ◌∷◌}
 use Rattle.bbm_events.specs.declared.claim.Claim.{Claim}
-use Rattle.bbm_lists.specs.Elements.{In}
-use Rattle.bbm_certify.specs.Least.{Ascending, claim_key}
+use Rattle.bbm_lemmas.specs.Elements.{In}
+use Rattle.bbm_certify.specs.LeastClaims.{Ascending, claim_key}
 use Rattle.bbm_certify.specs.declared.sorted.Key.{Key}
 use Rattle.bbm_certify.specs.declared.sorted.TagKey.{TagKey}
 

@@ -8,10 +8,10 @@ use Rattle.bbm_rules.specs.Prelude.{Barrier, Heading, Event, Dsb, Msr, Reg, Tag}
 use Rattle.bbm_rules.specs.Sentences.{completes_for, issues}
 use Rattle.bbm_rules.specs.Tags.{holds_at, reads, reads_for_some}
 use Rattle.bbm_histories.specs.ClaimSteps.{tag_waits_at}
-use Rattle.bbm_histories.specs.Steps.{answered_by}
+use Rattle.bbm_histories.specs.HistorySteps.{answered_by}
 use Rattle.bbm_cert.specs.Holdings.{has}
 use Rattle.bbm_cert.specs.declared.holdings.Holding.{Holding}
-use Rattle.bbm_lists.specs.Elements.{In}
+use Rattle.bbm_lemmas.specs.Elements.{In}
 
 -- a TLBI of q, behind which these events came, and none of them a DSB of q that completes it
 abbrev pub is_open : ℕ → Event → List Event → Bool

@@ -6,7 +6,7 @@ ghost use Rattle.bbm_events.specs.declared.claim.Claim.{Claim};
 ghost use Rattle.bbm_events.specs.declared.event.Event.{Event};
 ghost use Rattle.bbm_rules.specs.Broken.{keeps};
 ghost use Rattle.bbm_rules.specs.Claims.Trust.{Patterns, Listed};
-ghost use Rattle.bbm_certify.specs.Least.{IsCertificate};
+ghost use Rattle.bbm_certify.specs.LeastClaims.{IsCertificate};
 
 use crate::known::known;
 

@@ -8,7 +8,7 @@ ghost use Rattle.bbm_rules.specs.Broken.{keeps};
 ghost use Rattle.bbm_rules.specs.Claims.Trust.{Patterns};
 ghost use Rattle.bbm_rules.specs.Lists.{every};
 ghost use Rattle.bbm_rules.specs.Prelude.{Barrier, Dsb as TheDsb};
-ghost use Rattle.bbm_certify.specs.Least.{IsCertificate};
+ghost use Rattle.bbm_certify.specs.LeastClaims.{IsCertificate};
 ghost use Rattle.bbm_certify.specs.Made as spec;
 
 use crate::known::known;

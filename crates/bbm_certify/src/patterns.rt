@@ -9,9 +9,10 @@ ghost use Rattle.std.specs.Prelude.{◌≡◌, ◌<◌, ◌+◌, ◌^◌, ℕ, l
 ghost use Rattle.bbm_tlbi_scope.specs.declared.entry.Cover.TheVariants.{Half as HalfCover, Full as FullCover};
 ghost use Rattle.bbm_certify.specs.Making as spec;
 
-use crate::steps::{Spot, answers, flushes, publishes};
+use crate::steps::{Spot, answers, finishes, flushes, publishes};
 use bbm_events::{Claim, Event, Header};
 use bbm_oracle_patterns::Kept;
+use bbm_regimes::Place;
 use bbm_tlbi_scope::Cover;
 
 /// The second part of two steps: how many events stand between the first TLBI and its answer, and how many between that
@@ -58,6 +59,19 @@ fn first_publication(header: &Header, log: &[Kept], spot: &Spot) -> Option<usize
 {
     for i in 0..log.len() {
         if publishes(header, &log[i].event, &log[..i], spot) {
+            return Some(i);
+        }
+    }
+    None
+}
+
+/// The index of the first TLBI that covers the place in full, or the rest of it, and that the event, which comes behind
+/// the log, answers, whatever PEs it reaches; None where there is none, and then the event cleanses the place at no PE.
+pub fn first_finishing(log: &[Kept], answer: &Event, place: Place) -> Option<usize>
+    ensures { spec.IsFirst (spec.finishing place answer.now) 0 log.now result }
+{
+    for i in 0..log.len() {
+        if finishes(&log[i], &log[i + 1..], answer, place) {
             return Some(i);
         }
     }

@@ -9,15 +9,15 @@ ghost use Rattle.bbm_oracle_trees.specs.Past.{notes};
 ghost use Rattle.bbm_certify.specs.DueAt as spec;
 ghost use Rattle.bbm_certify.specs.Orders.{Adds};
 
-use crate::patterns::{claim_of, least_pattern};
+use crate::patterns::{claim_of, first_finishing, least_pattern};
 use crate::sorted::add_claim;
 use crate::steps::Spot;
 use bbm_events::{Claim, Event, Header};
-use bbm_oracle_patterns::{Kept, last_valid, trace_of};
+use bbm_oracle_patterns::{Kept, Trace, last_valid, trace_of};
 use bbm_oracle_tags::AllPatterns;
 use bbm_oracle_trees::{History, Node};
 use bbm_regimes::{NoMemory, Pe, PeMask, Place};
-use bbm_rules::law_cleansed;
+use bbm_rules::{law_cleansed, law_seen};
 
 /// Adds the claim of the place at the PE that is due at the event, which comes behind the log, where the place was
 /// cleansed at these PEs before it. The log begins behind the last valid write of the place.
@@ -48,8 +48,33 @@ fn add_spot(
     }
 }
 
-/// Adds the claims of the place that are due at the event, at every PE, where so many events came before the log.
-fn add_since(
+/// The same with all that is told of the place before the event. None is due at a PE to which no write of it is published.
+fn add_where_seen(
+    header: &Header,
+    log: &[Kept],
+    answer: &Event,
+    spot: &Spot,
+    trace: &Trace,
+    due: &mut Vec<Claim>,
+) -> Result<(), NoMemory>
+    requires { spot.now.before + length log.now + 1 < 2 ^ 32 }
+    ensures { OnOk result ((newest : Noted) → spec.IsNewest newest answer.now (spot.now.before + length log.now)
+        → spec.ToldSeen header.now trace.now.seen spot.now.place spot.now.pe (notes_behind spot.now.before (reverse log.now))
+        → spec.Told header.now trace.now.cleansed spot.now.place spot.now.pe (notes_behind spot.now.before (reverse log.now))
+        → Adds (spec.IsDueHere header.now spot.now.place newest (notes_behind spot.now.before (reverse log.now)) spot.now.pe)
+        due.old.items due.new.items) }
+{
+    law_cleansed();
+    law_seen();
+    if trace.seen.has(spot.pe) {
+        add_spot(header, log, answer, spot, trace.cleansed, due)
+    } else {
+        Ok(())
+    }
+}
+
+/// Adds the claims of the place that are due at the event, PE by PE, where so many events came before the log.
+fn add_everywhere(
     header: &Header,
     log: &[Kept],
     answer: &Event,
@@ -66,9 +91,31 @@ fn add_since(
     for number in 0..header.pes {
         let pe = Pe::new(number).unwrap();
         let spot = Spot { place, pe, before };
-        add_spot(header, log, answer, &spot, trace.cleansed, due)?;
+        add_where_seen(header, log, answer, &spot, &trace, due)?;
     }
     Ok(())
+}
+
+/// Adds the claims of the place that are due at the event, at every PE, where so many events came before the log. There
+/// are none where no TLBI that covers the place waits for the event.
+fn add_since(
+    header: &Header,
+    log: &[Kept],
+    answer: &Event,
+    before: usize,
+    place: Place,
+    due: &mut Vec<Claim>,
+) -> Result<(), NoMemory>
+    requires { before + length log.now + 1 < 2 ^ 32 }
+    ensures { OnOk result ((newest : Noted) → spec.IsNewest newest answer.now (before + length log.now)
+        → Adds (spec.IsDueSince header.now place newest (notes_behind before (reverse log.now)) header.now.pes)
+        due.old.items due.new.items) }
+{
+    law_cleansed();
+    match first_finishing(log, answer, place) {
+        Some(_) => add_everywhere(header, log, answer, before, place, due),
+        None => Ok(()),
+    }
 }
 
 /// Adds the claims of the place of the page that are due at the event, which comes behind the log.

@@ -3,7 +3,7 @@
 
 ghost use Rattle.std.specs.Prelude.{◌≡◌, ◌≤◌, ◌+◌, ◌∷◌, ◌++◌, true, false, List, insert, length, OnOk};
 ghost use Rattle.bbm_events.specs.declared.claim.Claim.{Claim as TheClaim};
-ghost use Rattle.bbm_certify.specs.Least as spec;
+ghost use Rattle.bbm_certify.specs.LeastClaims as spec;
 ghost use Rattle.bbm_certify.specs.Orders.{Adds, key_list, tag_keys};
 
 use bbm_events::Claim;

@@ -2,13 +2,13 @@
 //! Source: project's own choice.
 
 ghost use Rattle.std.specs.Prelude.{◌≡◌};
-ghost use Rattle.bbm_rules.specs.Cleansing.{same_cover as are_same, writes as is_write};
+ghost use Rattle.bbm_rules.specs.Cleansing.{writes as is_write};
 ghost use Rattle.bbm_rules.specs.Lists.{any};
-ghost use Rattle.bbm_rules.specs.Sentences.{completes_for as completes_it, issues as issues_it};
-ghost use Rattle.bbm_cert.specs.Flushes.{completed_by, is_flush_of};
+ghost use Rattle.bbm_cert.specs.Flushes.{is_flush_of};
 ghost use Rattle.bbm_certify.specs.Making as spec;
 
 use bbm_barriers::Dsb;
+use bbm_cert::marks::{is_answered, issues, same_cover, writes};
 use bbm_events::{Event, Header};
 use bbm_oracle_patterns::Kept;
 use bbm_oracle_tags::{completes, publishes_for, reaches};
@@ -24,20 +24,6 @@ pub struct Spot {
     pub pe: Pe,
     /// How many events there are up to the last valid write of the place.
     pub before: usize,
-}
-
-/// Whether the event is a write of the place by the PE.
-fn writes(event: &Event, pe: Pe, place: Place) -> bool
-    ensures { result ≡ is_write pe place event.now }
-{
-    match *event {
-        Event::Write {
-            pe: by,
-            place: at,
-            value: _,
-        } => by == pe && at == place,
-        _ => false,
-    }
 }
 
 /// Whether the PE wrote the place in these events.
@@ -59,29 +45,6 @@ pub fn publishes(header: &Header, event: &Event, before: &[Kept], spot: &Spot) -
     }
 }
 
-/// Whether the covers are the same.
-fn same_cover(cover: Cover, asked: Cover) -> bool
-    ensures { result ≡ are_same cover asked }
-{
-    match (cover, asked) {
-        (Cover::None, Cover::None)
-        | (Cover::Half, Cover::Half)
-        | (Cover::Second, Cover::Second)
-        | (Cover::Full, Cover::Full) => true,
-        _ => false,
-    }
-}
-
-/// Whether the event is a TLBI of the issuer.
-pub fn issues(event: &Event, issuer: Pe) -> bool
-    ensures { result ≡ issues_it issuer event.now }
-{
-    match *event {
-        Event::Tlbi { pe, op: _, xt: _ } => pe == issuer,
-        _ => false,
-    }
-}
-
 /// Whether the event is a TLBI that reaches the PE and covers the place so far.
 pub fn flushes(header: &Header, kept: &Kept, cover: Cover, spot: &Spot) -> bool
     ensures { result ≡ spec.flushes header.now spot.now.place spot.now.pe cover kept.now }
@@ -97,23 +60,34 @@ fn is_flush(header: &Header, kept: &Kept, issuer: Pe, dsb: Dsb, cover: Cover, sp
     issues(&kept.event, issuer) && completes(dsb, &kept.event) && flushes(header, kept, cover, spot)
 }
 
-/// Whether the event is a DSB of the issuer that completes this TLBI of it.
-pub fn completes_for(event: &Event, issuer: Pe, tlbi: &Event) -> bool
-    ensures { result ≡ completes_it issuer tlbi.now event.now }
+/// Whether the event is a TLBI that covers the place in full, or the rest of it.
+fn covers_rest(kept: &Kept, place: Place) -> bool
+    ensures { result ≡ spec.covers_rest place kept.now }
 {
-    match *event {
-        Event::Dsb { pe, dsb } => pe == issuer && completes(dsb, tlbi),
-        _ => false,
-    }
+    let cover = kept.cover(place);
+    same_cover(cover, Cover::Full) || same_cover(cover, Cover::Second)
 }
 
-/// Whether one of the later events answers this TLBI of the issuer.
-fn is_answered(later: &[Kept], issuer: Pe, tlbi: &Event) -> bool
-    ensures { result ≡ any (completed_by issuer tlbi.now) later.now }
+/// Whether the event is a TLBI of the issuer that this DSB of it completes, and that covers the place in full, or the rest
+/// of it.
+fn may_finish(kept: &Kept, issuer: Pe, dsb: Dsb, place: Place) -> bool
+    ensures { result ≡ spec.may_finish issuer dsb place kept.now }
 {
-    later
-        .iter()
-        .any(|kept| completes_for(&kept.event, issuer, tlbi))
+    let event = &kept.event;
+    issues(event, issuer) && completes(dsb, event) && covers_rest(kept, place)
+}
+
+/// Whether the event is a TLBI that covers the place in full, or the rest of it, whatever PEs it reaches, after which came
+/// these events, and then the answer to it.
+pub fn finishes(kept: &Kept, later: &[Kept], answer: &Event, place: Place) -> bool
+    ensures { result ≡ spec.finishes place answer.now kept.now later.now }
+{
+    match *answer {
+        Event::Dsb { pe: issuer, dsb } => {
+            may_finish(kept, issuer, dsb, place) && !is_answered(later, issuer, &kept.event)
+        }
+        _ => false,
+    }
 }
 
 /// Whether the event is a TLBI that reaches the PE and covers the place so far, after which came these events, and then

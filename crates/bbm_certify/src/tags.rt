@@ -6,29 +6,20 @@ ghost use Rattle.bbm_regimes.specs.declared.regime.Tag.{Tag as TheTag};
 ghost use Rattle.bbm_events.specs.declared.event.Event.{Event as TheEvent};
 ghost use Rattle.bbm_rules.specs.Claims.{same_tag as is_same_tag};
 ghost use Rattle.bbm_rules.specs.Lists.{any};
-ghost use Rattle.bbm_rules.specs.Sentences.{completes_for as completes_it};
 ghost use Rattle.bbm_rules.specs.Tags.{reads};
 ghost use Rattle.bbm_cert.specs.Holdings.{has as has_it};
 ghost use Rattle.bbm_certify.specs.Orders.{Adds};
 ghost use Rattle.bbm_certify.specs.Taken as spec;
 
 use crate::sorted::add_claim;
-use crate::steps::{completes_for, issues};
-use bbm_barriers::Dsb;
 use bbm_cert::holdings::{Holding, has};
-use bbm_cert::taken::{is_readable, takes_away};
+use bbm_cert::marks::issues;
+use bbm_cert::taken::{Answer, Taking, is_answered, is_readable, takes_away};
 use bbm_events::{Claim, Event, Header};
 use bbm_oracle_tags::{Reading, holds_at, readings_at};
 use bbm_regimes::{NoMemory, Pe};
 use bbm_rules::{law_answered, law_equality_tests};
 use std::alloc::Global;
-
-/// Whether one of the later events answers this TLBI of the issuer.
-fn is_answered(later: &[Event], issuer: Pe, tlbi: &Event) -> bool
-    ensures { result ≡ any (completes_it issuer tlbi.now) later.now }
-{
-    later.iter().any(|event| completes_for(event, issuer, tlbi))
-}
 
 /// Whether the event is a TLBI of the issuer, and none of the later events answers it.
 fn is_open(event: &Event, later: &[Event], issuer: Pe) -> bool
@@ -37,56 +28,49 @@ fn is_open(event: &Event, later: &[Event], issuer: Pe) -> bool
     issues(event, issuer) && !is_answered(later, issuer, event)
 }
 
-/// Whether the event of this index is a TLBI that takes the tag away by the DSB of the issuer, which comes behind these
-/// events.
+/// Whether the event of this index is a TLBI that takes the tag away by the DSB, which comes behind these events.
 fn is_taking(
     alloc: Global,
     header: &Header,
     before: &[Event],
     i: usize,
-    issuer: Pe,
-    dsb: Dsb,
+    answer: &Answer,
     holding: &Holding,
 ) -> Result<bool, NoMemory>
     requires inside { i < length before.now }
     requires few { length before.now < 2 ^ 32 - 1 }
-    ensures { IfOk result (λ does. does
-        ≡ spec.takes header.now holding.now.pe holding.now.tag issuer dsb (reverse before.now) (i + 1)) }
+    ensures { IfOk result (λ does. does ≡ spec.takes header.now holding.now.pe holding.now.tag answer.now.issuer
+        answer.now.dsb (reverse before.now) (i + 1)) }
 {
     law_answered();
-    if is_open(&before[i], &before[i + 1..], issuer) {
-        let t = i as u32 + 1;
-        takes_away(
-            alloc,
-            header,
-            before,
-            issuer,
-            dsb,
-            holding.pe,
-            holding.tag,
-            t,
-        )
+    if is_open(&before[i], &before[i + 1..], answer.issuer) {
+        let taking = Taking {
+            pe: holding.pe,
+            tag: holding.tag,
+            t: i as u32 + 1,
+        };
+        takes_away(alloc, header, before, answer, &taking)
     } else {
         Ok(false)
     }
 }
 
-/// The position of the first TLBI that takes the tag away by the DSB of the issuer, which comes behind these events; 0
-/// where there is none.
+/// The position of the first TLBI that takes the tag away by the DSB, which comes behind these events; 0 where there is
+/// none.
 fn first_taking(
     alloc: Global,
     header: &Header,
     before: &[Event],
-    issuer: Pe,
-    dsb: Dsb,
+    answer: &Answer,
     holding: &Holding,
 ) -> Result<u32, NoMemory>
     requires { length before.now < 2 ^ 32 - 1 }
-    ensures { IfOk result (λ t. spec.IsFirstTaking header.now holding.now.pe holding.now.tag issuer dsb (reverse before.now) t) }
+    ensures { IfOk result (λ t. spec.IsFirstTaking header.now holding.now.pe holding.now.tag answer.now.issuer
+        answer.now.dsb (reverse before.now) t) }
 {
     law_answered();
     for i in 0..before.len() {
-        let does = is_taking(alloc, header, before, i, issuer, dsb, holding)?;
+        let does = is_taking(alloc, header, before, i, answer, holding)?;
         if does {
             return Ok(i as u32 + 1);
         }
@@ -129,8 +113,9 @@ fn add_lost(
 {
     let last = events.len() - 1;
     match events[last] {
-        Event::Dsb { pe, dsb } => {
-            let t = first_taking(alloc, header, before, pe, dsb, holding)?;
+        Event::Dsb { pe: issuer, dsb } => {
+            let answer = Answer { issuer, dsb };
+            let t = first_taking(alloc, header, before, &answer, holding)?;
             if t == 0 {
                 return Ok(());
             }

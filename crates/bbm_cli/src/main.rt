@@ -2,7 +2,8 @@
 #![tactic(auto)]
 
 use bbm_io::{StdSink, StdSource};
-use bbm_session::{Status, number, run};
+use bbm_session::run;
+use bbm_texts::{Status, number};
 use std::io::ErrorKind;
 use std::process::ExitCode;
 use std::rt::Env;

@@ -1,16 +1,18 @@
 -- What one event more answers.
-use Rattle.std.proofs.Common.{◌≡◌, ℕ, ◌+◌, ◌<◌, Bool, true, false, ◌&&◌, ◌||◌, ◌==◌, nat_le, nat_lt, cond, List, [], ◌∷◌, ◌++◌, length, map, filter, get_or, take, reverse, refl, sym, ◌∙◌, ap, subst}
+use Rattle.std.proofs.Common.{◌≡◌, ℕ, ◌+◌, ◌<◌, Bool, true, false, ◌&&◌, ◌||◌, ◌==◌, nat_le, nat_lt, cond, List, []}
+use Rattle.std.proofs.Common.{◌∷◌, ◌++◌, length, map, filter, get_or, take, reverse, refl, sym, ◌∙◌, ap, subst}
 use Rattle.std.proofs.lemmas.List.Folds.{list_any-append}
 use Rattle.bbm_rules.specs.Lists.{any}
 use Rattle.bbm_rules.specs.Prelude.{Barrier, Heading, Event, Dsb, Tlbi}
 use Rattle.bbm_rules.specs.Reach.{Issued, completes, unanswered}
 use Rattle.bbm_rules.specs.Tags.{itself}
 use Rattle.bbm_tlb_machine.specs.Entry.{Entry}
-use Rattle.bbm_tlb_machine.specs.Pendings.{IsPending, Pending, is_answered, must_leave, pending_of}
+use Rattle.bbm_tlb_machine.specs.MachinePendings.{IsPending, Pending, is_answered, must_leave, pending_of}
 use Rattle.bbm_tlb_machine.specs.Step.{must_go}
-use Rattle.bbm_counterrun.specs.Answers.{Answer, IsAnswers, answer_at, forbids_by}
+use Rattle.bbm_counterrun.specs.TlbiAnswers.{Answer, IsAnswers, answer_at, forbids_by}
 use Rattle.bbm_counterrun.specs.Tested.{forbids, is_forbidden}
 use Rattle.bbm_counterrun.proofs.WalkCode.{newest_first}
+use mathlib.Core.Bool.{or_comm, and-false}
 
 any_map : {X Y : Type 0} (test : Y → Bool) (f : X → Y) (xs : List X) → any test (map f xs) ≡ any (λ x. test (f x)) xs
 any_map test f [] = refl
@@ -34,12 +36,6 @@ any_and : {X : Type 0} (b : Bool) (test : X → Bool) (xs : List X) → any (λ 
 any_and true test xs = refl
 any_and false test [] = refl
 any_and false test (x ∷ xs) = any_and false test xs
-
-swap : (a b c : Bool) → (a && b && c) ≡ (b && (a && c))
-swap true true c = refl
-swap true false c = refl
-swap false true c = refl
-swap false false c = refl
 
 must_is : (heading : Heading) (t : Issued Event) (x : Entry) → must_leave heading (pending_of heading t) x ≡ must_go heading t x
 must_is heading t x = by t.tlbi
@@ -74,7 +70,7 @@ dsb_answers heading h q dsb pending old is was from to x =
     ∙ any_alike _ _ pending (λ (p : Pending). and_swap (is_answered q dsb p) within (must_leave heading p x))
     ∙ any_and within (λ (p : Pending). is_answered q dsb p && must_leave heading p x) pending
     ∙ ap (λ b. within && b) (forbidden_now heading h q dsb pending x is))
-    ∙ or_swap (any (forbids_by heading from to x) old) (within && forbids heading x (Dsb q dsb) h)
+    ∙ or_comm (any (forbids_by heading from to x) old) (within && forbids heading x (Dsb q dsb) h)
     ∙ ap (λ b. (within && forbids heading x (Dsb q dsb) h) || b) (was from to x)
   where
     and_swap : (a b c : Bool) → (a && (b && c)) ≡ (b && (a && c))
@@ -82,21 +78,11 @@ dsb_answers heading h q dsb pending old is was from to x =
     and_swap false true c = refl
     and_swap false false c = refl
 
-    or_swap : (a b : Bool) → (a || b) ≡ (b || a)
-    or_swap true true = refl
-    or_swap true false = refl
-    or_swap false true = refl
-    or_swap false false = refl
-
 -- an event that answers nothing
 other_answers : (heading : Heading) (h : List Event) (e : Event) (old : List Answer) → ((q : ℕ) (dsb : Barrier) → e ≡ Dsb q dsb → ⊥)
     → IsAnswers heading h old → IsAnswers heading (e ∷ h) old
 other_answers heading h e old none was from to x = was from to x ∙ sym (by e none)
   where
-    and_false : (a : Bool) → (a && false) ≡ false
-    and_false true = refl
-    and_false false = refl
-
     quiet : (e : Event) → ((q : ℕ) (dsb : Barrier) → e ≡ Dsb q dsb → ⊥) → forbids heading x e h ≡ false
     quiet (Dsb q dsb) none = absurd (none q dsb refl)
     quiet _ none = refl
@@ -104,7 +90,7 @@ other_answers heading h e old none was from to x = was from to x ∙ sym (by e n
     by : (e : Event) → ((q : ℕ) (dsb : Barrier) → e ≡ Dsb q dsb → ⊥) → is_forbidden heading from to x (e ∷ h) ≡ is_forbidden heading from to x h
     by e none =
         ap (λ b. (nat_le from (length h) && nat_lt (length h) to && b) || is_forbidden heading from to x h) (quiet e none)
-        ∙ ap (λ b. b || is_forbidden heading from to x h) (and_false (nat_le from (length h) && nat_lt (length h) to))
+        ∙ ap (λ b. b || is_forbidden heading from to x h) (and-false (nat_le from (length h) && nat_lt (length h) to))
 
 pub dsb_step : (heading : Heading) (h : List Event) (q before : ℕ) (dsb : Barrier) (pending : List Pending) (old new : List Answer)
     → new ≡ old ++ map (answer_at before) (filter (is_answered q dsb) pending) → length h ≡ before

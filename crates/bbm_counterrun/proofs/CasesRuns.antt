@@ -6,7 +6,7 @@ use Rattle.bbm_tlb_machine.specs.declared.step.Step.{Step}
 use Rattle.bbm_rules.specs.Tree.{tree}
 use Rattle.bbm_tlb_machine.specs.Safe.{first_conflict}
 use Rattle.bbm_counterrun.specs.Plans.{Plan, comes_before, run_of}
-use Rattle.bbm_counterrun.specs.Refused.{ends_at_leaf}
+use Rattle.bbm_counterrun.specs.RefusedWrite.{ends_at_leaf}
 use Rattle.bbm_counterrun.specs.Tested.{is_plain}
 use Rattle.bbm_counterrun.proofs.RunTexts.{before_last, of_events, steps_of}
 

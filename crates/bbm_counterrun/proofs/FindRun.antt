@@ -1,13 +1,15 @@
 -- What a search over the events before a write finds is what the definitions ask for.
-use Rattle.std.proofs.Common.{◌≡◌, ℕ, ◌+◌, ◌-◌, ◌≤◌, arith, length, get_or, take, true, ◌↔◌, List, [], ◌∷◌, reverse, option_map, All, Option, Some, None, inl, inr, sym, ◌∙◌, ap, subst, refl}
+use Rattle.std.proofs.Common.{◌≡◌, ℕ, ◌+◌, ◌-◌, ◌≤◌, arith, length, get_or, take, Bool, true, false, true≢false, ◌↔◌}
+use Rattle.std.proofs.Common.{List, [], ◌∷◌, reverse, option_map, All, IfSome, Option, Some, None, inl, inr, sym, ◌∙◌}
+use Rattle.std.proofs.Common.{ap, subst, refl}
 use Rattle.std.proofs.lemmas.List.{reverse-append, reverse-reverse, take_all}
 use Rattle.std.proofs.lemmas.List.Elements.{All-contains}
-use Rattle.bbm_lists.specs.Elements.{In}
-use Rattle.bbm_lists.proofs.Elements.{from_contains, in_append, to_contains}
+use Rattle.bbm_lemmas.specs.Elements.{In}
+use Rattle.bbm_lemmas.proofs.Elements.{from_contains, in_append, to_contains}
 use Rattle.bbm_events.specs.Fits.{fits_heading}
 use Rattle.bbm_events.specs.Heading.{heading_ok}
 use Rattle.bbm_oracle_trees.specs.Past.{Past, notes}
-use Rattle.bbm_oracle_trees.specs.StandsFor.{StandsFor}
+use Rattle.bbm_oracle_trees.specs.HistoryStandsFor.{StandsFor}
 use Rattle.bbm_rules.specs.Broken.{keeps}
 use Rattle.bbm_rules.specs.Claims.{Trust, Patterns}
 use Rattle.bbm_rules.specs.Covers.{noted}
@@ -20,7 +22,7 @@ use Rattle.bbm_tlb_machine.specs.Safe.{IsLog}
 use Rattle.bbm_counterrun.specs.Goals.{goals_among, places_by, way_among}
 use Rattle.bbm_counterrun.specs.LeastList.{HasLeastReads}
 use Rattle.bbm_counterrun.specs.Plans.{Finds, IsPlain, Plan, run_of}
-use Rattle.bbm_counterrun.specs.Refused.{IsRefused, holds_leaf}
+use Rattle.bbm_counterrun.specs.RefusedWrite.{IsRefused, ends_at_leaf, holds_leaf}
 use Rattle.bbm_counterrun.specs.Searching.{FindsRun, plan_found}
 use Rattle.bbm_counterrun.specs.Tested.{is_plain}
 use Rattle.bbm_counterrun.specs.Ways.{Goal, places_to, way_to}
@@ -179,3 +181,24 @@ module _ (heading : Heading) (log before : List Event) (e : Event) (p place valu
       (subst (λ (n : ℕ). Says (reverse before) pe a n) (same_value pe a v h k)
       (subst (λ (n : ℕ). Says (reverse before) pe n value) (same_place pe a v h k)
       (told pe (whole ∙ ap (λ (q : ℕ). Write q place value ∷ reverse before) (same_pe pe a v h k)))))
+
+module _ (heading : Heading) (log before : List Event) (e : Event) (p place value : ℕ) (is : e ≡ Write p place value)
+    (split : reverse log ≡ e ∷ reverse before) (whole : List Event) (same : log ≡ whole) where
+  pub leaf_at_last : (leaf : Bool) → leaf ≡ holds_leaf heading (reverse before) place → leaf ≡ ends_at_leaf heading (reverse whole)
+  leaf_at_last leaf holds =
+      holds ∙ ap (ends_at_leaf heading) (sym (ap (λ (x : Event). x ∷ reverse before) is) ∙ sym split ∙ ap (reverse {A = Event}) same)
+
+  -- what is told of the last event, in any form
+  pub some_at_last : {V : Type 0} (steps : V → Option (List Step)) (found : Option V)
+      → IfSome found (λ v. (pe : ℕ) → reverse log ≡ Write pe place value ∷ reverse before → IsRefused heading (reverse before) pe place value
+      → holds_leaf heading (reverse before) place ≡ true → Finds heading (reverse before) (Write pe place value) (steps v))
+      → IfSome found (λ v. (h : List Event) (pe a n : ℕ) → reverse whole ≡ Write pe a n ∷ h → IsRefused heading h pe a n
+      → holds_leaf heading h a ≡ true → Finds heading h (Write pe a n) (steps v))
+  some_at_last steps None told = tt
+  some_at_last steps (Some v) told = λ h pe a n last.
+      at_last heading log before e p place value (steps v) is told split h pe a n (ap (reverse {A = Event}) same ∙ last)
+
+pub no_leaf_at_last : (heading : Heading) (h : List Event) (pe place value : ℕ) (log : List Event) → reverse log ≡ Write pe place value ∷ h
+    → holds_leaf heading h place ≡ true → false ≡ ends_at_leaf heading (reverse log) → {X : Type 0} → X
+no_leaf_at_last heading h pe place value log same leaf none =
+    absurd (true≢false (sym leaf ∙ sym (none ∙ ap (ends_at_leaf heading) same)))

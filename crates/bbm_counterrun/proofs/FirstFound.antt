@@ -1,5 +1,6 @@
 -- What a search with the least reads finds is the first plain conflict run of all.
-use Rattle.std.proofs.Common.{◌≡◌, ℕ, suc, ◌+◌, ◌<◌, ◌≤◌, arith, Bool, true, ◌↔◌, ◌==◌, List, [], ◌∷◌, length, Option, Some, None, inl, inr, refl, sym, ◌∙◌, ap, true≢false}
+use Rattle.std.proofs.Common.{◌≡◌, ℕ, suc, ◌+◌, ◌<◌, ◌≤◌, arith, Bool, true, ◌↔◌, ◌==◌, List, [], ◌∷◌, length, Option}
+use Rattle.std.proofs.Common.{Some, None, inl, inr, refl, sym, ◌∙◌, ap, true≢false}
 use Rattle.std.proofs.lemmas.Bool.{and_parts, false_from_ne_true, leb-true, ltb-true}
 use Rattle.bbm_descriptor.specs.Descriptor.{desc_of}
 use Rattle.bbm_descriptor.specs.declared.desc.Desc.{Desc}
@@ -13,7 +14,8 @@ use Rattle.bbm_tlb_machine.specs.Entry.{Entry}
 use Rattle.bbm_tlb_machine.specs.Step.{extended, may_extend}
 use Rattle.bbm_tlb_machine.proofs.PartLemmas.{table_above}
 use Rattle.bbm_counterrun.specs.LeastList.{HasLeastReads}
-use Rattle.bbm_counterrun.specs.Plans.{IsFirst, IsPlain, Plan, Read, by_combine, by_number, by_reads, comes_before, reads_of}
+use Rattle.bbm_counterrun.specs.Plans.{IsFirst, IsPlain, Plan, Read, by_combine, by_number, by_reads, comes_before}
+use Rattle.bbm_counterrun.specs.Plans.{reads_of}
 use Rattle.bbm_counterrun.specs.Searching.{FindsAll, Found, plain_at, plain_with, plan_found, plan_of}
 use Rattle.bbm_counterrun.specs.Tested.{first_events, is_plain, may_extend_by, started_by}
 use Rattle.bbm_counterrun.specs.Ways.{Goal, least_reads, way_to}

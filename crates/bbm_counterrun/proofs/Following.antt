@@ -1,10 +1,11 @@
 -- The state to which steps lead, oldest first, and the runs that it stands for.
-use Rattle.std.proofs.Common.{◌≡◌, Bool, true, false, ◌&&◌, ◌↔◌, List, [], ◌∷◌, ◌++◌, Option, Some, None, refl, ◌∙◌, ap, subst}
+use Rattle.std.proofs.Common.{◌≡◌, Bool, true, false, ◌&&◌, ◌↔◌, List, [], ◌∷◌, ◌++◌, Option, Some, None, refl, ◌∙◌, ap}
+use Rattle.std.proofs.Common.{subst}
 use mathlib.Core.List.{reverse_aux}
 use Rattle.bbm_rules.specs.Lists.{◌>>=◌, if_so}
 use Rattle.bbm_rules.specs.Prelude.{Heading}
 use Rattle.bbm_tlb_machine.specs.declared.step.Step.{Step}
-use Rattle.bbm_tlb_machine.specs.Run.{IsRun, Leads, State, step_to}
+use Rattle.bbm_tlb_machine.specs.MachineRun.{IsRun, Leads, State, step_to}
 
 -- what the law of runs says of one step
 abbrev pub StepLaw : Type 0

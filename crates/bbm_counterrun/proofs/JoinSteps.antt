@@ -1,17 +1,21 @@
 -- The steps of the search for the first moment at which an entry can be combined.
-use Rattle.std.proofs.Common.{◌≡◌, ℕ, ◌+◌, ◌<◌, ◌≤◌, arith, Bool, true, false, ◌&&◌, not, nat_le, nat_lt, List, [], ◌∷◌, length, get_or, take, Option, Some, None, inl, inr, refl, sym, ◌∙◌, ap, true≢false}
-use Rattle.std.proofs.lemmas.Bool.{and_from, and_left, and_parts, and_right, false_from_ne_true, le-leb, leb-true, lt-ltb, ltb-false, ltb-true, not_from_false, not_from_true, or_cases, or_from, or_left, or_parts, or_right}
+use Rattle.std.proofs.Common.{◌≡◌, ℕ, ◌+◌, ◌<◌, ◌≤◌, arith, Bool, true, false, ◌&&◌, not, nat_le, nat_lt, List, [], ◌∷◌}
+use Rattle.std.proofs.Common.{length, get_or, take, Option, Some, None, inl, inr, refl, sym, ◌∙◌, ap, true≢false}
+use Rattle.std.proofs.lemmas.Bool.{and_from, and_left, and_parts, and_right, false_from_ne_true, le-leb, leb-true}
+use Rattle.std.proofs.lemmas.Bool.{lt-ltb, ltb-false, ltb-true, not_from_false, not_from_true, or_cases, or_from}
+use Rattle.std.proofs.lemmas.Bool.{or_left, or_parts, or_right}
 use Rattle.std.proofs.lemmas.List.Folds.{list_any_at, list_any_more}
 use Rattle.bbm_tlbi_scope.specs.declared.entry.EntryKind.TheVariants.{Combined}
 use Rattle.bbm_tlbi_scope.specs.declared.scope.Family.{Family}
-use Rattle.bbm_tlbi_scope.specs.declared.scope.Family.TheVariants.{El2All, El2Va, E1All, VmAll1, VmAll12, Ipa, Va, VaAll, Asid}
+use Rattle.bbm_tlbi_scope.specs.declared.scope.Family.TheVariants.{El2All, El2Va, E1All, VmAll1, VmAll12, Ipa, Va}
+use Rattle.bbm_tlbi_scope.specs.declared.scope.Family.TheVariants.{VaAll, Asid}
 use Rattle.bbm_rules.specs.Lists.{any}
 use Rattle.bbm_rules.specs.Prelude.{Heading, Scope}
 use Rattle.bbm_rules.specs.Reach.{reaches}
 use Rattle.bbm_tlb_machine.specs.Entry.{Entry, age_by}
-use Rattle.bbm_tlb_machine.specs.Pendings.{must_leave}
+use Rattle.bbm_tlb_machine.specs.MachinePendings.{must_leave}
 use Rattle.bbm_tlb_machine.specs.Step.{combined, takes_by}
-use Rattle.bbm_counterrun.specs.Answers.{Answer, forbids_by}
+use Rattle.bbm_counterrun.specs.TlbiAnswers.{Answer, forbids_by}
 use Rattle.bbm_counterrun.specs.Searching.{FirstIn, blocks, forbidden_by, joins}
 
 -- ---- what is forbidden where the entry is combined later

@@ -1,5 +1,6 @@
 -- A conflict run over events that keep the rules conflicts at its last step alone.
-use Rattle.std.proofs.Common.{◌≡◌, ℕ, ◌↔◌, true, false, List, [], ◌∷◌, ◌++◌, length, Option, Some, None, Result, Ok, refl, sym, ◌∙◌, ap, subst, true≢false}
+use Rattle.std.proofs.Common.{◌≡◌, ℕ, ◌↔◌, true, false, List, [], ◌∷◌, ◌++◌, length, Option, Some, None, Result, Ok}
+use Rattle.std.proofs.Common.{refl, sym, ◌∙◌, ap, subst, true≢false}
 use Rattle.std.proofs.lemmas.List.{append_assoc}
 use Rattle.bbm_events.specs.declared.machine.MachineLine.TheVariants.{Start, Extend, Combine, Share, Drop}
 use Rattle.bbm_rules.specs.Broken.{keeps}
@@ -8,7 +9,7 @@ use Rattle.bbm_rules.specs.Prelude.{Heading, Event, Write}
 use Rattle.bbm_tlb_machine.specs.declared.step.Step.{Step}
 use Rattle.bbm_tlb_machine.specs.declared.step.Step.TheVariants.{Machine, Event as Taken}
 use Rattle.bbm_tlb_machine.specs.First.{IsFirstConflict}
-use Rattle.bbm_tlb_machine.specs.Run.{IsRun, Leads, State, after_event, follow_steps, next_in}
+use Rattle.bbm_tlb_machine.specs.MachineRun.{IsRun, Leads, State, after_event, follow_steps, next_in}
 use Rattle.bbm_tlb_machine.specs.Safe.{ComesTo, IsLog, Safe, first_conflict, in_conflict}
 use Rattle.bbm_counterrun.specs.Plans.{EndsInConflict, IsConflictRun}
 

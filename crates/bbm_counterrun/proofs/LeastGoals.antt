@@ -1,11 +1,15 @@
 -- The least reads of a way: of each place the least value that means the same, at most what a walk read there.
-use Rattle.std.proofs.Common.{◌≡◌, ℕ, suc, ◌≤◌, arith, min, Bool, true, false, ◌&&◌, not, ◌==◌, nat_lt, cond, List, [], ◌∷◌, map, filter, filter_map, Option, Some, unwrap_or, ◌⊎◌, inl, inr, refl, sym, ◌∙◌, ap, true≢false}
-use Rattle.std.proofs.lemmas.Bool.{and_from, and_parts, cases_lt, eqb-true, ltb-true, not-false, not-true, not_from_false, or_cases}
+use Rattle.std.proofs.Common.{◌≡◌, ℕ, suc, ◌≤◌, arith, min, Bool, true, false, ◌&&◌, not, ◌==◌, nat_lt, cond, List, []}
+use Rattle.std.proofs.Common.{◌∷◌, map, filter, filter_map, Option, Some, unwrap_or, ◌⊎◌, inl, inr, refl, sym, ◌∙◌, ap}
+use Rattle.std.proofs.Common.{true≢false}
+use Rattle.std.proofs.lemmas.Bool.{and_from, and_parts, cases_lt, eqb-true, ltb-true, not-false, not-true}
+use Rattle.std.proofs.lemmas.Bool.{not_from_false, or_cases}
 use Rattle.std.specs.List.{cons_option}
-use Rattle.bbm_lists.specs.Elements.{In}
-use Rattle.bbm_lists.proofs.Elements.{from_filter, to_filter}
+use Rattle.bbm_lemmas.specs.Elements.{In}
+use Rattle.bbm_lemmas.proofs.Elements.{from_filter, to_filter}
 use Rattle.bbm_regimes.specs.declared.regime.Kind.{Kind}
-use Rattle.bbm_descriptor.specs.Descriptor.{Form, core_in, desc_as, desc_of, desc_with, differ, form_of, is_valid, needs, same_core, valid_form}
+use Rattle.bbm_descriptor.specs.Descriptor.{Form, core_in, desc_as, desc_of, desc_with, differ, form_of, is_valid}
+use Rattle.bbm_descriptor.specs.Descriptor.{needs, same_core, valid_form}
 use Rattle.bbm_descriptor.specs.declared.desc.Core.{Core}
 use Rattle.bbm_descriptor.specs.declared.desc.Core.TheVariants.{Table as CoreTable, Leaf as CoreLeaf}
 use Rattle.bbm_descriptor.specs.declared.desc.Desc.{Desc}

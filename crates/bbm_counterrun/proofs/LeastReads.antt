@@ -1,8 +1,9 @@
 -- A plain conflict run at a place that holds a leaf is plain with the least reads of the way to the place, too, and these
 -- come before its own, or are its own.
-use Rattle.std.proofs.Common.{◌≡◌, ℕ, ◌<◌, Bool, true, ◌&&◌, ◌==◌, List, [], ◌∷◌, ◌++◌, length, map, filter_map, reverse, Option, Some, None, inl, inr, refl, sym, ◌∙◌, ap, subst}
+use Rattle.std.proofs.Common.{◌≡◌, ℕ, ◌<◌, Bool, true, ◌&&◌, ◌==◌, List, [], ◌∷◌, ◌++◌, length, map, filter_map}
+use Rattle.std.proofs.Common.{reverse, Option, Some, None, inl, inr, refl, sym, ◌∙◌, ap, subst}
 use Rattle.std.proofs.lemmas.Bool.{and_from, and_parts, eqb-true, or_left}
-use Rattle.bbm_lists.specs.Elements.{In}
+use Rattle.bbm_lemmas.specs.Elements.{In}
 use Rattle.bbm_descriptor.specs.Descriptor.{core_in, core_of, differ, is_valid, needs}
 use Rattle.bbm_rules.specs.Broken.{keeps}
 use Rattle.bbm_rules.specs.Claims.{Patterns}
@@ -19,13 +20,16 @@ use Rattle.bbm_tlb_machine.specs.Safe.{IsLog, conflicts_with, is_stale}
 use Rattle.bbm_tlb_machine.specs.Step.{combined, has_number, may_start}
 use Rattle.bbm_counterrun.specs.LeastList.{HasLeastReads}
 use Rattle.bbm_counterrun.specs.Plans.{Plan, Read, reads_of}
-use Rattle.bbm_counterrun.specs.Refused.{holds_leaf}
-use Rattle.bbm_counterrun.specs.Tested.{combined_by, first_events, is_plain, is_within, may_extend_by, may_walk, outlives, started_by, walked_by}
+use Rattle.bbm_counterrun.specs.RefusedWrite.{holds_leaf}
+use Rattle.bbm_counterrun.specs.Tested.{combined_by, first_events, is_plain, is_within, may_extend_by, may_walk}
+use Rattle.bbm_counterrun.specs.Tested.{outlives, started_by, walked_by}
 use Rattle.bbm_counterrun.specs.Ways.{goal_at, least_reads, places_to, way_to}
 use Rattle.bbm_counterrun.proofs.LeastGoals.{HasLeast, HaveGoals, NotAbove, all_least, first_if_least}
 use Rattle.bbm_counterrun.proofs.PlainTest.{KeptAt, plain_is_kept}
 use Rattle.bbm_counterrun.proofs.Sights.{LikeReads, Sight, outlives_same, plan_same, with_reads}
-use Rattle.bbm_counterrun.proofs.WayParts.{IsOnWay, WayLaws, first_goal, is_leaf_there, kind_stays, last_is_stale, node_at, on_way, parts_stay, pe_stays, places_above, read_places, walk_goals, walk_places}
+use Rattle.bbm_counterrun.proofs.WayParts.{IsOnWay, WayLaws, first_goal, is_leaf_there, kind_stays, last_is_stale}
+use Rattle.bbm_counterrun.proofs.WayParts.{node_at, on_way, parts_stay, pe_stays, places_above, read_places, walk_goals}
+use Rattle.bbm_counterrun.proofs.WayParts.{walk_places}
 
 -- what is known of the entry that a walk leaves, where it is kept at the event
 record IsFineWalk (heading : Heading) (h : List Event) (x : Entry) : Type 0 where

@@ -1,5 +1,6 @@
 -- What becomes of the state where no entry is kept, and where one is.
-use Rattle.std.proofs.Common.{◌≡◌, ℕ, ◌+◌, ◌<◌, ◌≤◌, arith, Bool, true, false, ◌&&◌, ◌||◌, not, ◌==◌, nat_lt, nat_le, List, [], ◌∷◌, ◌++◌, length, map, reverse, Option, Some, refl, sym, ◌∙◌, ap}
+use Rattle.std.proofs.Common.{◌≡◌, ℕ, ◌+◌, ◌<◌, ◌≤◌, arith, Bool, true, false, ◌&&◌, ◌||◌, not, ◌==◌, nat_lt, nat_le}
+use Rattle.std.proofs.Common.{List, [], ◌∷◌, ◌++◌, length, map, reverse, Option, Some, refl, sym, ◌∙◌, ap}
 use Rattle.std.proofs.lemmas.Bool.{and_left, and_right, eq-eqb, le-leb, le-ltb, lt-leb, lt-ltb, or_from}
 use Rattle.std.proofs.lemmas.List.{length-append, map-append, reverse-append}
 use Rattle.bbm_rules.specs.Lists.{◌>>=◌, any, if_so}
@@ -8,11 +9,12 @@ use Rattle.bbm_rules.specs.Reach.{Issued, completes, unanswered}
 use Rattle.bbm_rules.specs.Tags.{itself}
 use Rattle.bbm_tlb_machine.specs.declared.step.Step.TheVariants.{Event as Taken}
 use Rattle.bbm_tlb_machine.specs.Entry.{Entry}
-use Rattle.bbm_tlb_machine.specs.Run.{State, leaves_some}
+use Rattle.bbm_tlb_machine.specs.MachineRun.{State, leaves_some}
 use Rattle.bbm_tlb_machine.specs.Safe.{conflicts_with, in_conflict}
 use Rattle.bbm_tlb_machine.specs.Step.{must_go}
 use Rattle.bbm_counterrun.specs.Tested.{forbids, is_forbidden}
 use Rattle.bbm_counterrun.proofs.Following.{run_after, run_append, run_to, then_so}
+use mathlib.Core.Bool.{or-false}
 
 -- ---- the two states
 
@@ -32,10 +34,6 @@ any_same : {X : Type 0} (one other : X → Bool) (xs : List X) → ((x : X) → 
 any_same one other [] all = refl
 any_same one other (x ∷ xs) all =
     ap (λ b. b || any one xs) (all x) ∙ ap (λ b. other x || b) (any_same one other xs all)
-
-pub or_false : (b : Bool) → (b || false) ≡ b
-or_false true = refl
-or_false false = refl
 
 so_some : {A : Type 0} (b : Bool) (x : A) → (if_so b x >>= (λ y. Some y)) ≡ if_so b x
 so_some true x = refl
@@ -59,11 +57,11 @@ module _ (heading : Heading) where
 
   one_left : (h : List Event) (n : ℕ) (x : Entry) (e : Event) → leaves_some heading (one_kept h n x) e ≡ forbids heading x e h
   one_left h n x (Dsb q dsb) =
-      any_same _ _ (unanswered itself q h) (λ (t : Issued Event). ap (λ b. completes dsb t.tlbi && b) (or_false (must_go heading t x)))
+      any_same _ _ (unanswered itself q h) (λ (t : Issued Event). ap (λ b. completes dsb t.tlbi && b) (or-false (must_go heading t x)))
   one_left h n x _ = refl
 
   pub one_meets : (h : List Event) (n : ℕ) (x : Entry) (e : Event) → in_conflict heading (one_kept h n x) e ≡ conflicts_with heading h e x
-  one_meets h n x e = or_false (conflicts_with heading h e x)
+  one_meets h n x e = or-false (conflicts_with heading h e x)
 
   -- the steps of events, of which one more comes last
   taken_more : (e : Event) (newer : List Event) → map Taken (reverse (e ∷ newer)) ≡ map Taken (reverse newer) ++ Taken e ∷ []

@@ -1,19 +1,25 @@
 -- A plan's run is a plain conflict run exactly where the test of the plan says so.
-use Rattle.std.proofs.Common.{◌≡◌, ℕ, suc, ◌+◌, ◌-◌, ◌≤◌, arith, Bool, true, false, ◌&&◌, not, nat_lt, nat_le, ◌↔◌, List, [], ◌∷◌, ◌++◌, length, map, take, drop, reverse, Option, Contains, zero-le, Some, None, refl, sym, ◌∙◌, ap, subst, suc-le-suc, le_of_suc-le-suc}
+use Rattle.std.proofs.Common.{◌≡◌, ℕ, suc, ◌+◌, ◌-◌, ◌≤◌, arith, Bool, true, false, ◌&&◌, not, nat_lt, nat_le, ◌↔◌}
+use Rattle.std.proofs.Common.{List, [], ◌∷◌, ◌++◌, length, map, take, drop, reverse, Option, Contains, zero-le, Some}
+use Rattle.std.proofs.Common.{None, refl, sym, ◌∙◌, ap, subst, suc-le-suc, le_of_suc-le-suc}
 use Rattle.std.proofs.lemmas.Bool.{and_from, and_parts, le-leb, leb-true, lt-ltb, ltb-true}
-use Rattle.std.proofs.lemmas.List.{append-nil, append_assoc, drop-append-le, drop_at, length-append, length-drop, length-reverse, map-append, reverse-append, take-append-drop, take-append-le, take_at}
+use Rattle.std.proofs.lemmas.List.{append-nil, append_assoc, drop-append-le, drop_at, length-append, length-drop}
+use Rattle.std.proofs.lemmas.List.{length-reverse, map-append, reverse-append, take-append-drop, take-append-le}
+use Rattle.std.proofs.lemmas.List.{take_at}
 use Rattle.bbm_rules.specs.Lists.{◌>>=◌, if_so}
 use Rattle.bbm_rules.specs.Prelude.{Heading, Event}
 use Rattle.bbm_tlb_machine.specs.declared.step.Step.{Step}
 use Rattle.bbm_tlb_machine.specs.declared.step.Step.TheVariants.{Event as Taken}
 use Rattle.bbm_tlb_machine.specs.Entry.{Entry}
-use Rattle.bbm_tlb_machine.specs.Run.{IsRun, Living, State, at_start}
+use Rattle.bbm_tlb_machine.specs.MachineRun.{IsRun, Living, State, at_start}
 use Rattle.bbm_tlb_machine.specs.Safe.{conflicts_with, in_conflict}
 use Rattle.bbm_tlb_machine.specs.Step.{combined, is_stage2}
 use Rattle.bbm_counterrun.specs.Plans.{Fits, IsPlain, Plan, behind, combine_fits, combine_of, made_by, run_of, walk_of}
-use Rattle.bbm_counterrun.specs.Tested.{combine_within, combined_by, first_events, is_forbidden, is_plain, is_within, may_walk, outlives, walked_by}
+use Rattle.bbm_counterrun.specs.Tested.{combine_within, combined_by, first_events, is_forbidden, is_plain, is_within}
+use Rattle.bbm_counterrun.specs.Tested.{may_walk, outlives, walked_by}
 use Rattle.bbm_counterrun.proofs.Following.{StepLaw, run_after, run_append, run_back, run_from, run_to, then_so}
-use Rattle.bbm_counterrun.proofs.OneEntry.{forbidden_in, forbidden_is, none_kept, one_kept, one_meets, past_none, past_one}
+use Rattle.bbm_counterrun.proofs.OneEntry.{forbidden_in, forbidden_is, none_kept, one_kept, one_meets, past_none}
+use Rattle.bbm_counterrun.proofs.OneEntry.{past_one}
 use Rattle.bbm_counterrun.proofs.WalkSteps.{past_combine, past_walk}
 
 tail_is : {X : Type 0} (x : X) (xs ys : List X) → x ∷ xs ≡ x ∷ ys → xs ≡ ys

@@ -1,5 +1,6 @@
 -- The steps of the loops that look for the least reads of a way.
-use Rattle.std.proofs.Common.{◌≡◌, ℕ, ◌+◌, ◌<◌, min, Bool, true, false, ◌==◌, cond, List, [], ◌∷◌, ◌++◌, length, filter, drop, get_or, take, reverse, Option, Some, None, refl, sym, ◌∙◌, ap}
+use Rattle.std.proofs.Common.{◌≡◌, ℕ, ◌+◌, ◌<◌, min, Bool, true, false, ◌==◌, cond, List, [], ◌∷◌, ◌++◌, length, filter}
+use Rattle.std.proofs.Common.{drop, get_or, take, reverse, Option, Some, None, refl, sym, ◌∙◌, ap}
 use Rattle.std.specs.Prelude.{unwrap_or}
 use Rattle.std.proofs.lemmas.List.{append_assoc}
 use Rattle.bbm_rules.specs.Lists.{◌>>=◌, least}

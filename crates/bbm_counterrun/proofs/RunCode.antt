@@ -1,5 +1,6 @@
 -- The steps of the loops that make the run of a plan, and how its parts join.
-use Rattle.std.proofs.Common.{◌≡◌, ℕ, suc, ◌+◌, ◌-◌, ◌<◌, min, arith, List, [], ◌∷◌, ◌++◌, length, map, take, drop, get_or, Option, Some, None, refl, sym, ◌∙◌, ap}
+use Rattle.std.proofs.Common.{◌≡◌, ℕ, suc, ◌+◌, ◌-◌, ◌<◌, min, arith, List, [], ◌∷◌, ◌++◌, length, map, take, drop}
+use Rattle.std.proofs.Common.{get_or, Option, Some, None, refl, sym, ◌∙◌, ap}
 use Rattle.std.proofs.lemmas.List.{append-nil, append_assoc, drop_min, length-drop, take_all}
 use Rattle.bbm_events.specs.declared.machine.MachineLine.TheVariants.{Extend, Combine, Drop}
 use Rattle.bbm_rules.specs.Prelude.{Kind, Event}

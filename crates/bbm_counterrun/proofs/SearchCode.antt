@@ -1,13 +1,15 @@
 -- The steps of the search over combines.
-use Rattle.std.proofs.Common.{◌≡◌, ℕ, ◌≤◌, Bool, true, false, ◌&&◌, not, nat_le, List, Option, Some, None, refl, sym, ◌∙◌, ap, true≢false}
+use Rattle.std.proofs.Common.{◌≡◌, ℕ, ◌≤◌, Bool, true, false, ◌&&◌, not, nat_le, List, Option, Some, None, refl, sym}
+use Rattle.std.proofs.Common.{◌∙◌, ap, true≢false}
 use Rattle.std.proofs.lemmas.Bool.{and_from, and_parts, le-leb, leb-true, ltb-true, not_from_false, not_from_true}
 use Rattle.bbm_rules.specs.Prelude.{Heading}
 use Rattle.bbm_tlb_machine.specs.Entry.{Entry}
 use Rattle.bbm_tlb_machine.specs.Step.{combined, is_stage2}
-use Rattle.bbm_counterrun.specs.Answers.{Answer}
+use Rattle.bbm_counterrun.specs.TlbiAnswers.{Answer}
 use Rattle.bbm_counterrun.specs.Plans.{by_combine}
 use Rattle.bbm_counterrun.specs.Searching.{FirstCombine, FirstIn, forbidden_by, joins, outlives_by}
 use Rattle.bbm_counterrun.specs.Tested.{combine_within}
+use Rattle.bbm_lemmas.proofs.Bools.{and_exchange}
 
 module _ (heading : Heading) (answers : List Answer) (x : Entry) (from count : ℕ) where
   -- the test of a combine
@@ -17,15 +19,9 @@ module _ (heading : Heading) (answers : List Answer) (x : Entry) (from count : �
   abbrev joins_so : ℕ → Bool
   joins_so n = is_stage2 x.kind && joins heading answers x from count n
 
-  regroup : (a b c : Bool) → (a && b && c) ≡ (b && (a && c))
-  regroup true true c = refl
-  regroup true false c = refl
-  regroup false true c = refl
-  regroup false false c = refl
-
   fits_some : (n : ℕ) → fits (Some n) ≡ (nat_le from n && nat_le n count && joins_so n)
   fits_some n = ap (λ b. nat_le from n && nat_le n count && b)
-      (regroup (not (forbidden_by heading answers from n x)) (is_stage2 x.kind) (not (forbidden_by heading answers n count (combined n x))))
+      (and_exchange (not (forbidden_by heading answers from n x)) (is_stage2 x.kind) (not (forbidden_by heading answers n count (combined n x))))
 
   not_fits : (n : ℕ) → (from ≤ n → n ≤ count → joins_so n ≡ false) → fits (Some n) ≡ false
   not_fits n unfit = fits_some n ∙ by (nat_le from n && nat_le n count) refl

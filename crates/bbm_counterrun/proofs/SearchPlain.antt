@@ -1,16 +1,18 @@
 -- What the search of one number finds is what the test of the plans says.
-use Rattle.std.proofs.Common.{◌≡◌, ℕ, ◌-◌, ◌<◌, ◌≤◌, arith, Bool, true, false, ◌&&◌, not, nat_le, List, [], ◌∷◌, ◌++◌, length, take, drop, reverse, Option, Some, None, refl, sym, ◌∙◌, ap, subst, ◌⊎◌, inl, inr}
-use Rattle.std.proofs.lemmas.Bool.{and_left, and_right, le-leb, lt-ltb}
+use Rattle.std.proofs.Common.{◌≡◌, ℕ, ◌-◌, ◌<◌, ◌≤◌, arith, Bool, true, false, ◌&&◌, not, nat_le, List, [], ◌∷◌, ◌++◌}
+use Rattle.std.proofs.Common.{length, take, drop, reverse, Option, Some, None, refl, sym, ◌∙◌, ap, subst, ◌⊎◌, inl, inr}
+use Rattle.std.proofs.lemmas.Bool.{and_left, and_right, le-leb, lt-ltb, and_from}
 use Rattle.std.proofs.lemmas.List.{drop_at, length-drop, length-reverse, reverse-append, take-append-drop}
 use Rattle.bbm_rules.specs.Lists.{◌>>=◌, any, if_so}
 use Rattle.bbm_rules.specs.Prelude.{Kind, Heading, Event, Write}
 use Rattle.bbm_tlb_machine.specs.Entry.{Entry, parts_of}
 use Rattle.bbm_tlb_machine.specs.Safe.{conflicts_with, is_stale}
 use Rattle.bbm_tlb_machine.specs.Step.{combined, is_stage2, may_start, started}
-use Rattle.bbm_counterrun.specs.Answers.{Answer, IsAnswers}
+use Rattle.bbm_counterrun.specs.TlbiAnswers.{Answer, IsAnswers}
 use Rattle.bbm_counterrun.specs.Plans.{Plan, Read}
 use Rattle.bbm_counterrun.specs.Searching.{FirstCombine, forbidden_by, outlives_by, plain_by, plan_of}
-use Rattle.bbm_counterrun.specs.Tested.{combine_within, combined_by, extended_by, first_events, is_forbidden, is_plain, is_within, may_extend_by, may_walk, outlives, walk_by, walked_by}
+use Rattle.bbm_counterrun.specs.Tested.{combine_within, combined_by, extended_by, first_events, is_forbidden, is_plain}
+use Rattle.bbm_counterrun.specs.Tested.{is_within, may_extend_by, may_walk, outlives, walk_by, walked_by}
 
 -- the events that were taken at a moment
 pub first_is : (es : List Event) (k : ℕ) → k ≤ length es → reverse (take k es) ≡ first_events k (reverse es)
@@ -77,12 +79,7 @@ module _ (heading : Heading) (h : List Event) (place value k p : ℕ) (kind : Ki
   entry_is r rs x o e =
       let s = some_made _ _ (λ x. if_so (may_extend_by heading (first_events k h) x rs) (extended_by x rs)) x (sym (walk_is r rs o) ∙ e) in
       let m = made _ _ x s.1 in
-      (and_both _ _ s.0 m.0, m.1)
-    where
-      and_both : (a b : Bool) → a ≡ true → b ≡ true → (a && b) ≡ true
-      and_both true true c d = refl
-      and_both true false c d = d
-      and_both false b c d = c
+      (and_from _ _ s.0 m.0, m.1)
 
   -- the combine changes no part
   stale_is : (x : Entry) (o : Option ℕ) → conflicts_with heading h (Write 0 place value) (combined_by o x) ≡ any (is_stale place value) (parts_of x)

@@ -1,12 +1,13 @@
 -- What a walk leaves: one entry, where each of its steps can be taken.
-use Rattle.std.proofs.Common.{◌≡◌, ℕ, suc, ◌+◌, ◌<◌, arith, Bool, true, false, not, ◌==◌, cond, List, [], ◌∷◌, ◌++◌, length, find, filter, Option, Some, None, option_map, refl, ◌∙◌, ap}
+use Rattle.std.proofs.Common.{◌≡◌, ℕ, suc, ◌+◌, ◌<◌, arith, Bool, true, false, not, ◌==◌, cond, List, [], ◌∷◌, ◌++◌}
+use Rattle.std.proofs.Common.{length, find, filter, Option, Some, None, option_map, refl, ◌∙◌, ap}
 use Rattle.std.proofs.lemmas.Bool.{ne_eqb}
 use Rattle.bbm_rules.specs.Lists.{◌>>=◌, if_so}
 use Rattle.bbm_rules.specs.Prelude.{Heading, Event}
 use Rattle.bbm_events.specs.declared.machine.MachineLine.TheVariants.{Drop}
 use Rattle.bbm_tlb_machine.specs.declared.step.Step.TheVariants.{Machine}
 use Rattle.bbm_tlb_machine.specs.Entry.{Entry}
-use Rattle.bbm_tlb_machine.specs.Run.{Living, State, entry_at, step_to, with_entry, without}
+use Rattle.bbm_tlb_machine.specs.MachineRun.{Living, State, entry_at, step_to, with_entry, without}
 use Rattle.bbm_tlb_machine.specs.Step.{combined, extended, is_stage2, may_extend, may_start, started}
 use Rattle.bbm_counterrun.specs.Plans.{Plan, Read, combine_of, drops, extends, made_by, walk_of}
 use Rattle.bbm_counterrun.specs.Tested.{extended_by, may_extend_by, may_walk, started_by, walked_by}

@@ -1,9 +1,11 @@
 -- The parts of an entry that conflicts with a write over a leaf stand on the way to the place of the write.
-use Rattle.std.proofs.Common.{◌≡◌, ℕ, suc, ◌+◌, arith, Bool, true, false, ◌&&◌, ◌||◌, ◌==◌, List, [], ◌∷◌, ◌++◌, length, map, reverse, Option, Some, None, unwrap_or, Contains, inl, inr, refl, sym, ◌∙◌, ap, true≢false}
+use Rattle.std.proofs.Common.{◌≡◌, ℕ, suc, ◌+◌, arith, Bool, true, false, ◌&&◌, ◌||◌, ◌==◌, List, [], ◌∷◌, ◌++◌, length}
+use Rattle.std.proofs.Common.{map, reverse, Option, Some, None, unwrap_or, Contains, inl, inr, refl, sym, ◌∙◌, ap}
+use Rattle.std.proofs.Common.{true≢false}
 use Rattle.std.proofs.lemmas.Bool.{and_parts, eqb-true, or_cases}
 use Rattle.std.proofs.lemmas.List.{append_assoc, reverse-append}
-use Rattle.bbm_lists.specs.Elements.{In}
-use Rattle.bbm_lists.proofs.Elements.{to_contains}
+use Rattle.bbm_lemmas.specs.Elements.{In}
+use Rattle.bbm_lemmas.proofs.Elements.{to_contains}
 use Rattle.bbm_regimes.specs.declared.regime.Kind.{Kind}
 use Rattle.bbm_descriptor.specs.Descriptor.{desc_of, is_valid, needs}
 use Rattle.bbm_descriptor.specs.declared.desc.Desc.{Desc}
@@ -23,11 +25,11 @@ use Rattle.bbm_rules.specs.Values.{is_readable}
 use Rattle.bbm_tlb_machine.specs.declared.step.Step.{Step}
 use Rattle.bbm_tlb_machine.specs.Entry.{Entry, Part, desc_in, is_leaf, parts_of}
 use Rattle.bbm_tlb_machine.specs.Invariant.{Begins, Chained, Fine, Holding, Placed}
-use Rattle.bbm_tlb_machine.specs.Run.{IsRun, Living, State}
+use Rattle.bbm_tlb_machine.specs.MachineRun.{IsRun, Living, State}
 use Rattle.bbm_tlb_machine.specs.Safe.{IsLog, is_stale}
 use Rattle.bbm_tlb_machine.specs.Step.{extended, may_extend}
 use Rattle.bbm_counterrun.specs.Plans.{Read}
-use Rattle.bbm_counterrun.specs.Refused.{holds_leaf, leaf_among, leaf_in}
+use Rattle.bbm_counterrun.specs.RefusedWrite.{holds_leaf, leaf_among, leaf_in}
 use Rattle.bbm_counterrun.specs.Tested.{extended_by, may_extend_by}
 use Rattle.bbm_counterrun.specs.Ways.{Goal, goal_at}
 use Rattle.bbm_counterrun.proofs.Following.{StepLaw}

@@ -1,9 +1,9 @@
-pub mod Answers
+pub mod TlbiAnswers
 pub mod Goals
 pub mod LeastList
-pub mod Numbers
+pub mod RunNumbers
 pub mod Plans
-pub mod Refused
+pub mod RefusedWrite
 pub mod Searching
 pub mod Tested
 pub mod Ways

@@ -7,7 +7,7 @@ use Rattle.bbm_events.specs.declared.machine.MachineLine.TheVariants.{Start, Ext
 use Rattle.bbm_rules.specs.Prelude.{Kind, Heading, Event}
 use Rattle.bbm_tlb_machine.specs.declared.step.Step.{Step}
 use Rattle.bbm_tlb_machine.specs.declared.step.Step.TheVariants.{Machine, Event as Taken}
-use Rattle.bbm_tlb_machine.specs.Run.{IsRun, State, follow_steps}
+use Rattle.bbm_tlb_machine.specs.MachineRun.{IsRun, State, follow_steps}
 use Rattle.bbm_tlb_machine.specs.Safe.{first_conflict, in_conflict}
 
 -- Conflict run: a run over a log that ends with an event of it, and as the event comes some TLB keeps what it needs

@@ -1,12 +1,13 @@
 -- What a search over the plans finds, key by key. A history is newest first. Source: project's own choice.
-use Rattle.std.specs.Prelude.{◌≡◌, ℕ, ◌<◌, ◌≤◌, Bool, true, false, ◌&&◌, not, nat_le, List, [], ◌∷◌, length, Option, Some}
+use Rattle.std.specs.Prelude.{◌≡◌, ℕ, ◌<◌, ◌≤◌, Bool, true, false, ◌&&◌, not, nat_le, List, [], ◌∷◌, length, Option}
+use Rattle.std.specs.Prelude.{Some}
 use Rattle.std.specs.Prelude.{None}
 use Rattle.bbm_rules.specs.Lists.{among, any}
 use Rattle.bbm_rules.specs.Prelude.{Kind, Heading, Event}
 use Rattle.bbm_tlb_machine.specs.Entry.{Entry}
 use Rattle.bbm_tlb_machine.specs.Step.{combined, is_stage2}
 use Rattle.bbm_tlb_machine.specs.declared.step.Step.{Step}
-use Rattle.bbm_counterrun.specs.Answers.{Answer, forbids_by}
+use Rattle.bbm_counterrun.specs.TlbiAnswers.{Answer, forbids_by}
 use Rattle.bbm_counterrun.specs.Plans.{Plan, Read, by_combine, run_of}
 use Rattle.bbm_counterrun.specs.Tested.{first_events, is_plain}
 use Rattle.bbm_counterrun.specs.Ways.{Goal, least_reads}

@@ -1,7 +1,8 @@
 -- The way to a place: the places that a walk reads to come to it, from the root down, each with what it holds; and of
 -- each the least value that a walk can read there at some moment with the same meaning. A history is newest first.
 -- Source: project's own choice.
-use Rattle.std.specs.Prelude.{ℕ, Bool, ◌&&◌, not, ◌==◌, List, [], ◌∷◌, ◌++◌, map, filter, filter_map, reverse, Option, Some}
+use Rattle.std.specs.Prelude.{ℕ, Bool, ◌&&◌, not, ◌==◌, List, [], ◌∷◌, ◌++◌, map, filter, filter_map, reverse, Option}
+use Rattle.std.specs.Prelude.{Some}
 use Rattle.std.specs.Prelude.{None, if◌then◌else◌}
 use Rattle.bbm_descriptor.specs.Descriptor.{is_valid, needs}
 use Rattle.bbm_rules.specs.Claims.{Patterns}

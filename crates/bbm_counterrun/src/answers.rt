@@ -1,11 +1,11 @@
 //! The TLBIs of a log that a DSB answers, and the entries that they must have taken by then.
 
 ghost use Rattle.std.specs.Prelude.{◌≡◌, ℕ, ◌++◌, ◌∷◌, List, length, map, filter, reverse, IfOk, OnOk};
-ghost use Rattle.bbm_counterrun.specs.Answers as spec;
+ghost use Rattle.bbm_counterrun.specs.TlbiAnswers as spec;
 ghost use Rattle.bbm_events.specs.Heading.{Heading};
 ghost use Rattle.bbm_events.specs.declared.event.Event.{Event as TheEvent};
 ghost use Rattle.bbm_rules.specs.Lists.{any};
-ghost use Rattle.bbm_tlb_machine.specs.Pendings.{IsPending, is_answered as answered};
+ghost use Rattle.bbm_tlb_machine.specs.MachinePendings.{IsPending, is_answered as answered};
 
 use bbm_barriers::Dsb;
 use bbm_events::{Event, Header};
@@ -24,7 +24,7 @@ pub struct Answer {
 }
 
 impl Model for Answer {
-    ghost use Rattle.bbm_counterrun.specs.Answers.{Answer};
+    ghost use Rattle.bbm_counterrun.specs.TlbiAnswers.{Answer};
 
     ghost Value = { Answer };
 

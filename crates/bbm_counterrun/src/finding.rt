@@ -1,7 +1,7 @@
 //! The first plan, key by key.
 
 ghost use Rattle.std.specs.Prelude.{◌≡◌, ◌<◌, ◌≤◌, length, reverse, IfOk};
-ghost use Rattle.bbm_counterrun.specs.Answers.{IsAnswers};
+ghost use Rattle.bbm_counterrun.specs.TlbiAnswers.{IsAnswers};
 ghost use Rattle.bbm_counterrun.specs.Searching as spec;
 ghost use Rattle.bbm_events.specs.declared.event.Event.TheVariants.{Write};
 

@@ -1,15 +1,17 @@
 //! The run of the first plain conflict run.
 
-ghost use Rattle.std.specs.Prelude.{◌≡◌, ℕ, ◌<◌, ◌≤◌, ◌∷◌, true, List, length, reverse, option_map, All, IfOk};
-ghost use Rattle.bbm_counterrun.specs.Answers.{IsAnswers};
+ghost use Rattle.std.specs.Prelude.{◌≡◌, ℕ, ◌<◌, ◌≤◌, ◌∷◌, true, List, length, is_some, reverse, option_map, All, IfOk, IfSome};
+ghost use Rattle.bbm_counterrun.specs.TlbiAnswers.{IsAnswers};
 ghost use Rattle.bbm_counterrun.specs.Plans.{Finds, run_of as plan_run};
-ghost use Rattle.bbm_counterrun.specs.Refused as spec;
+ghost use Rattle.bbm_counterrun.specs.RefusedWrite as spec;
 ghost use Rattle.bbm_counterrun.specs.Searching.{FindsRun, plan_found};
 ghost use Rattle.bbm_events.specs.declared.event.Event.{Event as TheEvent};
 ghost use Rattle.bbm_events.specs.declared.event.Event.TheVariants.{Write};
 ghost use Rattle.bbm_events.specs.Fits.{fits_heading};
 ghost use Rattle.bbm_events.specs.Heading.{heading_ok};
 ghost use Rattle.bbm_oracle_trees.specs.Past.{notes};
+ghost use Rattle.bbm_oracle_trees.specs.HistoryStandsFor.{StandsFor};
+ghost use Rattle.bbm_rules.specs.Claims.{Patterns};
 ghost use Rattle.bbm_rules.specs.Places.{page_of};
 ghost use Rattle.bbm_rules.specs.Roots.{start_of};
 ghost use Rattle.bbm_rules.specs.Tree as trees;
@@ -17,7 +19,7 @@ ghost use Rattle.bbm_rules.specs.Tree as trees;
 use crate::answers::answers_of;
 use crate::finding::first_found;
 use crate::laws::law_plain_is_tested;
-use crate::leaf::history_of;
+use crate::leaf::{history_of, is_leaf_at};
 use crate::least_list::law_least_reads;
 use crate::runs::run_of;
 use crate::search::{Found, Search};
@@ -81,17 +83,20 @@ fn said(header: &Header) -> u8
     header.pes
 }
 
-/// The run over the log of the first plain conflict run at a write after the events, None where there is none.
-/// `NoMemory` where there is no memory.
+/// The run over the log of the first plain conflict run at a write after the events, for which the history stands; None
+/// where there is none. `NoMemory` where there is no memory.
 fn find_at(
     alloc: Global,
     header: &Header,
+    history: &History<AllPatterns>,
     log: &[Event],
     before: &[Event],
     place: Place,
     value: u64,
 ) -> Result<Option<Vec<Step>>, NoMemory>
     requires fits { All (λ event. fits_heading header.now event ≡ true) before.now }
+    requires trust { history.now.trust ≡ Patterns }
+    requires stands { StandsFor history.now header.now (reverse before.now) }
     ensures { IfOk result (λ found. (pe : ℕ) → reverse log.now ≡ Write pe place value ∷ reverse before.now
         → spec.IsRefused header.now (reverse before.now) pe place value → spec.holds_leaf header.now (reverse before.now) place ≡ true
         → Finds header.now (reverse before.now) (Write pe place value) (option_map (λ v. v.items) found)) }
@@ -100,11 +105,10 @@ fn find_at(
     law_least_reads();
     law_proper();
     said(header);
-    let history = history_of(alloc, header, before)?;
-    match kind_at(&history, place) {
+    match kind_at(history, place) {
         Some(kind) => {
             let answers = answers_of(alloc, header, before)?;
-            let way = way_to(alloc, &history, place)?;
+            let way = way_to(alloc, history, place)?;
             let search = Search {
                 alloc,
                 header,
@@ -122,17 +126,48 @@ fn find_at(
     }
 }
 
+/// The same, None where the place holds no leaf after the events. `NoMemory` where there is no memory.
+fn find_leaf(
+    alloc: Global,
+    header: &Header,
+    log: &[Event],
+    before: &[Event],
+    place: Place,
+    value: u64,
+) -> Result<Option<Option<Vec<Step>>>, NoMemory>
+    requires fits { All (λ event. fits_heading header.now event ≡ true) before.now }
+    ensures leaf { IfOk result (λ found. is_some found ≡ spec.holds_leaf header.now (reverse before.now) place) }
+    ensures finds { IfOk result (λ found. IfSome found (λ run. (pe : ℕ) → reverse log.now ≡ Write pe place value ∷ reverse before.now
+        → spec.IsRefused header.now (reverse before.now) pe place value → spec.holds_leaf header.now (reverse before.now) place ≡ true
+        → Finds header.now (reverse before.now) (Write pe place value) (option_map (λ v. v.items) run))) }
+{
+    let history = history_of(alloc, header, before)?;
+    if is_leaf_at(&history, place) {
+        let found = find_at(alloc, header, &history, log, before, place, value)?;
+        Ok(Some(found))
+    } else {
+        Ok(None)
+    }
+}
+
 /// The run of the first plain conflict run at the last event of a log, where that is a write which the rule of
 /// break-before-make refuses at a place that holds a leaf, after events that keep the rules: the steps, the oldest first,
-/// with that write as the last one. None exactly where no conflict run is plain. First is the run with the fewest events
-/// before its start; then that of the least PE; then of the least VMID or ASID; then that with the least list of pairs of
-/// place and value that it reads; then the one without a combine; then that with the fewest events before its combine.
+/// with that write as the last one. The inner None exactly where no conflict run is plain, the outer one exactly where
+/// the last event is no write at a place that holds a leaf before it. First is the run with the fewest events before its
+/// start; then that of the least PE; then of the least VMID or ASID; then that with the least list of pairs of place and
+/// value that it reads; then the one without a combine; then that with the fewest events before its combine.
 /// `NoMemory` where there is none.
-pub fn find(alloc: Global, header: &Header, log: &Vec<Event>) -> Result<Option<Vec<Step>>, NoMemory>
+pub fn find_over_leaf(
+    alloc: Global,
+    header: &Header,
+    log: &Vec<Event>,
+) -> Result<Option<Option<Vec<Step>>>, NoMemory>
     requires fits { All (λ event. fits_heading header.now event ≡ true) log.now.items }
-    ensures { IfOk result (λ found. (h : List TheEvent) (pe place value : ℕ) → reverse log.now.items ≡ Write pe place value ∷ h
+    ensures leaf { IfOk result (λ found. is_some found ≡ spec.ends_at_leaf header.now (reverse log.now.items)) }
+    ensures finds { IfOk result (λ found. IfSome found (λ run. (h : List TheEvent) (pe place value : ℕ)
+        → reverse log.now.items ≡ Write pe place value ∷ h
         → spec.IsRefused header.now h pe place value → spec.holds_leaf header.now h place ≡ true
-        → Finds header.now h (Write pe place value) (option_map (λ v. v.items) found)) }
+        → Finds header.now h (Write pe place value) (option_map (λ v. v.items) run))) }
 {
     let events = log.as_slice();
     let [before @ .., last] = events else {
@@ -140,9 +175,22 @@ pub fn find(alloc: Global, header: &Header, log: &Vec<Event>) -> Result<Option<V
     };
     match *last {
         Event::Write { place, value, .. } => {
-            let found = find_at(alloc, header, events, before, place, value)?;
+            let found = find_leaf(alloc, header, events, before, place, value)?;
             Ok(found)
         }
         _ => Ok(None),
+    }
+}
+
+/// The same, None also where there is no write at a place that holds a leaf. `NoMemory` where there is none.
+pub fn find(alloc: Global, header: &Header, log: &Vec<Event>) -> Result<Option<Vec<Step>>, NoMemory>
+    requires fits { All (λ event. fits_heading header.now event ≡ true) log.now.items }
+    ensures { IfOk result (λ found. (h : List TheEvent) (pe place value : ℕ) → reverse log.now.items ≡ Write pe place value ∷ h
+        → spec.IsRefused header.now h pe place value → spec.holds_leaf header.now h place ≡ true
+        → Finds header.now h (Write pe place value) (option_map (λ v. v.items) found)) }
+{
+    match find_over_leaf(alloc, header, log)? {
+        Some(found) => Ok(found),
+        None => Ok(None),
     }
 }

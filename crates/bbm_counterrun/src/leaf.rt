@@ -1,9 +1,9 @@
 //! Whether a refused write stands at a place that holds a leaf.
 
 ghost use Rattle.std.specs.Prelude.{◌≡◌, true, false, reverse, All, IfOk, unwrap_or};
-ghost use Rattle.bbm_counterrun.specs.Refused as spec;
+ghost use Rattle.bbm_counterrun.specs.RefusedWrite as spec;
 ghost use Rattle.bbm_oracle_trees.specs.Past.{notes};
-ghost use Rattle.bbm_oracle_trees.specs.StandsFor.{StandsFor};
+ghost use Rattle.bbm_oracle_trees.specs.HistoryStandsFor.{StandsFor};
 ghost use Rattle.bbm_events.specs.Fits.{fits_heading};
 ghost use Rattle.bbm_rules.specs.Claims.{Patterns};
 
@@ -42,7 +42,7 @@ fn is_leaf_in(history: &History<AllPatterns>, node: &Node, place: Place) -> bool
 }
 
 /// Whether the place holds a leaf.
-fn is_leaf_at(history: &History<AllPatterns>, place: Place) -> bool
+pub fn is_leaf_at(history: &History<AllPatterns>, place: Place) -> bool
     ensures { result ≡ unwrap_or (spec.leaf_among history.now.heading history.now.trust (notes history.now) place) false }
 {
     match history.node_of(place.page()) {

@@ -3,7 +3,7 @@
 ghost use Rattle.std.specs.Prelude.{◌≡◌, ℕ, true, List};
 ghost use Rattle.bbm_counterrun.specs.LeastList.{HasLeastReads};
 ghost use Rattle.bbm_counterrun.specs.Plans.{Plan};
-ghost use Rattle.bbm_counterrun.specs.Refused.{holds_leaf as holds_leaf_at};
+ghost use Rattle.bbm_counterrun.specs.RefusedWrite.{holds_leaf as holds_leaf_at};
 ghost use Rattle.bbm_counterrun.specs.Tested.{is_plain};
 ghost use Rattle.bbm_events.specs.Heading.{Heading};
 ghost use Rattle.bbm_events.specs.declared.event.Event.{Event};

@@ -17,7 +17,7 @@ mod trying;
 mod walk;
 mod way;
 
-pub use first_run::find;
+pub use first_run::{find, find_over_leaf};
 pub use laws::{law_conflict_at_the_end, law_plain_is_tested};
 pub use leaf::holds_leaf;
 pub use least_list::law_least_reads;

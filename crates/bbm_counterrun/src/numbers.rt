@@ -1,9 +1,9 @@
 //! The VMIDs and ASIDs under which a walk may be made.
 
 ghost use Rattle.std.specs.Prelude.{◌≡◌, ℕ, ◌++◌, true, map, length, reverse, option_to_list, IfOk, OnOk};
-ghost use Rattle.bbm_counterrun.specs.Numbers as spec;
+ghost use Rattle.bbm_counterrun.specs.RunNumbers as spec;
 ghost use Rattle.bbm_rules.specs.Lists.{among};
-ghost use Rattle.bbm_rules.specs.Registers.{tag_number as number_in};
+ghost use Rattle.bbm_rules.specs.RegisterValues.{tag_number as number_in};
 ghost use Rattle.bbm_tlb_machine.specs.Step.{asid_register as asid_register_of, current_asids, may_start, started};
 ghost use Rattle.bbm_rules.specs.Tags.{readings};
 

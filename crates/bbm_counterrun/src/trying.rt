@@ -1,7 +1,7 @@
 //! The VMIDs and ASIDs with which a plan is plain.
 
 ghost use Rattle.std.specs.Prelude.{◌≡◌, ℕ, ◌<◌, ◌≤◌, ◌++◌, ◌∷◌, [], List, length, reverse, IfOk};
-ghost use Rattle.bbm_counterrun.specs.Answers.{IsAnswers};
+ghost use Rattle.bbm_counterrun.specs.TlbiAnswers.{IsAnswers};
 ghost use Rattle.bbm_counterrun.specs.Searching as spec;
 ghost use Rattle.bbm_events.specs.declared.event.Event.TheVariants.{Write};
 

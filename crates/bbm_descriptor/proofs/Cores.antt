@@ -1,10 +1,13 @@
 -- Equality of cores, and the need of break-before-make over any two of them.
-use Rattle.std.proofs.Common.{◌≡◌, ◌≢◌, ℕ, Bool, true, false, not, ◌↔◌, Option, Some, None, is_some, refl, ap, sym, ◌∙◌, subst, arith}
+use Rattle.std.proofs.Common.{◌≡◌, ◌≢◌, ℕ, Bool, true, false, not, ◌↔◌, Option, Some, None, is_some, refl, ap, sym, ◌∙◌}
+use Rattle.std.proofs.Common.{subst, arith}
 use Rattle.std.proofs.lemmas.Bool.Decides.{nat_tests}
 use Rattle.bbm_regimes.specs.declared.regime.Kind.{Kind}
 use Rattle.bbm_descriptor.specs.declared.desc.Core.{Core}
 use Rattle.bbm_descriptor.specs.declared.desc.Core.TheVariants.{Table as CoreTable, Leaf as CoreLeaf}
-use Rattle.bbm_descriptor.specs.Descriptor.{Form, invalid, table, leaf, form_of, desc_as, core_of, core_in, is_valid, valid_form, same_bool, same_core, differ, needs}
+use Rattle.bbm_descriptor.specs.Descriptor.{Form, invalid, table, leaf, form_of, desc_as, core_of, core_in, is_valid}
+use Rattle.bbm_descriptor.specs.Descriptor.{valid_form, same_bool, same_core, differ, needs}
+use Rattle.bbm_lemmas.proofs.Bools.{same_truth, not_from}
 
 pub same_bool-refl : (b : Bool) → same_bool b b ≡ true
 same_bool-refl true = refl
@@ -36,15 +39,9 @@ same_core-eq (CoreLeaf out attrs share global contiguous) (CoreTable next' ns') 
 same_core-eq (CoreLeaf out attrs share global contiguous) (CoreLeaf out' attrs' share' global' contiguous') h =
     grind (arith, nat_tests, same_bool-eq global global', same_bool-eq contiguous contiguous')
 
-both_ways : (a b : Bool) → (a ≡ true → b ≡ true) → (b ≡ true → a ≡ true) → a ≡ b
-both_ways true true there back = refl
-both_ways true false there back = sym (there refl)
-both_ways false true there back = back refl
-both_ways false false there back = refl
-
 same_core-comm : (c d : Core) → same_core c d ≡ same_core d c
 same_core-comm c d =
-    both_ways (same_core c d) (same_core d c)
+    same_truth (same_core c d) (same_core d c)
     (λ h. subst (λ x. same_core x c ≡ true) (same_core-eq c d h) (same_core-refl c))
     (λ h. subst (λ x. same_core x d ≡ true) (same_core-eq d c h) (same_core-refl d))
 
@@ -59,10 +56,6 @@ some-eq c d h = cc
 
 not_true : (b : Bool) → not b ≡ true → b ≡ true → ⊥
 not_true b is_false is_true = cc
-
-not_from : (b : Bool) → (b ≡ true → ⊥) → not b ≡ true
-not_from true never = absurd (never refl)
-not_from false never = refl
 
 -- two cores differ where both are there and they aren't equal
 pub differ-tells : (one other : Option Core) → (differ one other ≡ true) ↔ ((is_some one ≡ true) × (is_some other ≡ true) × (one ≢ other))

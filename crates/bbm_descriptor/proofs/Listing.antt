@@ -1,9 +1,11 @@
 -- Which places the regions that hold an address select, and that at most one list of places ends below them.
-use Rattle.std.proofs.Common.{◌≡◌, ℕ, zero, suc, ◌+◌, ◌-◌, ◌*◌, ◌/◌, ◌%◌, ◌<◌, inl, inr, List, [], ◌∷◌, length, refl, ap, sym, ◌∙◌, subst, arith}
+use Rattle.std.proofs.Common.{◌≡◌, ℕ, zero, suc, ◌+◌, ◌-◌, ◌*◌, ◌/◌, ◌%◌, ◌<◌, inl, inr, List, [], ◌∷◌, length, refl}
+use Rattle.std.proofs.Common.{ap, sym, ◌∙◌, subst, arith}
 use Rattle.std.proofs.lemmas.Bool.{cases_lt, cases_eq}
 use Rattle.bbm_regimes.specs.Extent.{span_of}
 use Rattle.bbm_descriptor.specs.Descriptor.{Form, table, form_of}
-use Rattle.bbm_descriptor.specs.Listing.{WalkRoot, level_after, page_after, pages_after, StandsAfter, region_from, region_bytes, RegionHolds, EachHolds, Tables, EndsIn, IsAligned}
+use Rattle.bbm_descriptor.specs.Listing.{WalkRoot, level_after, page_after, pages_after, StandsAfter, region_from}
+use Rattle.bbm_descriptor.specs.Listing.{region_bytes, RegionHolds, EachHolds, Tables, EndsIn, IsAligned}
 use Rattle.bbm_descriptor.proofs.Regions.{span_step, table_level, next_aligned, place_told, region_fits}
 
 -- the place after these tables that the address selects

@@ -1,5 +1,7 @@
 -- Numbers, spans and regions: where the part of a region begins that holds an address.
-use Rattle.std.proofs.Common.{◌≡◌, ℕ, zero, suc, ◌+◌, ◌-◌, ◌*◌, ◌/◌, ◌%◌, ◌<◌, ◌≤◌, Bool, true, false, ◌==◌, if◌then◌else◌, mul_assoc, suc-mul, add-mul, mul-le-mul_right, div-add-mod', mod-lt, pow_pos, refl, ap, sym, ◌∙◌, subst, arith}
+use Rattle.std.proofs.Common.{◌≡◌, ℕ, zero, suc, ◌+◌, ◌-◌, ◌*◌, ◌/◌, ◌%◌, ◌<◌, ◌≤◌, Bool, true, false, ◌==◌}
+use Rattle.std.proofs.Common.{if◌then◌else◌, mul_assoc, suc-mul, add-mul, mul-le-mul_right, div-add-mod', mod-lt}
+use Rattle.std.proofs.Common.{pow_pos, refl, ap, sym, ◌∙◌, subst, arith}
 use Rattle.std.proofs.Math.Nat.{mul-mod_left}
 use Rattle.std.proofs.lemmas.Nat.{div-mul-add, mod-mul-add, div_below}
 use Rattle.bbm_regimes.specs.Extent.{span_of}

@@ -1,14 +1,17 @@
 -- The steps of a walk, and the answers that it ends with.
-use Rattle.std.proofs.Common.{◌≡◌, ℕ, Bool, suc, ◌+◌, ◌-◌, ◌*◌, ◌/◌, ◌%◌, ◌<◌, ◌≤◌, inl, inr, List, [], ◌∷◌, refl, ap, sym, ◌∙◌, subst, mul_assoc, add-one, arith}
+use Rattle.std.proofs.Common.{◌≡◌, ℕ, Bool, suc, ◌+◌, ◌-◌, ◌*◌, ◌/◌, ◌%◌, ◌<◌, ◌≤◌, inl, inr, List, [], ◌∷◌, refl, ap}
+use Rattle.std.proofs.Common.{sym, ◌∙◌, subst, mul_assoc, add-one, arith}
 use Rattle.bbm_regimes.specs.Extent.{span_of}
 use Rattle.bbm_descriptor.specs.Fields.{next_of, out_of}
 use Rattle.bbm_regimes.specs.declared.regime.Kind.{Kind}
 use Rattle.bbm_descriptor.specs.declared.desc.Desc.TheVariants.{Invalid, Table, Leaf}
 use Rattle.bbm_descriptor.specs.Descriptor.{Form, invalid, table, leaf, form_of, desc_of}
-use Rattle.bbm_descriptor.specs.Listing.{WalkRoot, level_after, place_number, region_from, RegionHolds, EachHolds, Tables, EndsIn, NoLeaf, AtLeaf, IsAnswer, IsAligned, ComesTo}
+use Rattle.bbm_descriptor.specs.Listing.{WalkRoot, level_after, place_number, region_from, RegionHolds, EachHolds}
+use Rattle.bbm_descriptor.specs.Listing.{Tables, EndsIn, NoLeaf, AtLeaf, IsAnswer, IsAligned, ComesTo}
 use Rattle.bbm_descriptor.specs.declared.walk.Walk.{Walk}
 use Rattle.bbm_descriptor.specs.declared.walk.Walk.TheVariants.{Out, Fault}
-use Rattle.bbm_descriptor.proofs.Regions.{span_pos, span_step, table_level, next_aligned, part_aligned, smaller_aligned, offset, nine_bits, in_part, part_number, number_back}
+use Rattle.bbm_descriptor.proofs.Regions.{span_pos, span_step, table_level, next_aligned, part_aligned, smaller_aligned}
+use Rattle.bbm_descriptor.proofs.Regions.{offset, nine_bits, in_part, part_number, number_back}
 use Rattle.bbm_descriptor.proofs.Forms.{as_invalid, as_leaf, as_table}
 use Rattle.bbm_descriptor.proofs.Listing.{each_holds, one_list}
 

@@ -1,6 +1,6 @@
 -- What the answers of a DSB make of a broken place.
 use Rattle.std.proofs.Common.{◌≡◌, ℕ, Bool, true, false, ◌&&◌, ◌||◌, not, Some, None, refl, ap, sym, ◌∙◌, if◌then◌else◌}
-use Rattle.bbm_regimes.specs.EveryPe.{every_pe}
+use Rattle.bbm_lemmas.specs.EveryPe.{every_pe}
 use Rattle.bbm_regimes.specs.PeMask.{pe_in}
 use Rattle.bbm_descriptor.specs.declared.desc.Core.{Core}
 use Rattle.bbm_barriers.specs.declared.Dsb.{Dsb}
@@ -13,8 +13,8 @@ use Rattle.bbm_entry_state.specs.declared.pending.Pends.{Pends}
 use Rattle.bbm_entry_state.specs.declared.state.EntryState.TheVariants.{Clean, Broken}
 use Rattle.bbm_entry_state.specs.Points.{waits}
 use Rattle.bbm_entry_state.specs.Answered.{Answered, answered_at}
-use Rattle.bbm_entry_state.specs.Calls.{half_after, clean_after, Completed}
-use Rattle.bbm_regimes.proofs.Every.{every_same}
+use Rattle.bbm_entry_state.specs.EntryCalls.{half_after, clean_after, Completed}
+use Rattle.bbm_lemmas.proofs.Every.{every_same}
 
 module _ (old new : Marks) (pends left : Pends) (dsb : Dsb) (done : Pend) (n : ℕ) (a : Answered old pends dsb done new) where
   half_is : (p : ℕ) → pe_in new.half p ≡ half_after (Broken old) pends dsb p

@@ -1,5 +1,6 @@
 -- Searches through the steps of a place.
-use Rattle.std.proofs.Common.{◌≡◌, ℕ, Bool, true, false, ◌&&◌, ◌||◌, ◌==◌, List, [], ◌∷◌, refl, ap, sym, ◌∙◌, inl, inr, if◌then◌else◌}
+use Rattle.std.proofs.Common.{◌≡◌, ℕ, Bool, true, false, ◌&&◌, ◌||◌, ◌==◌, List, [], ◌∷◌, refl, ap, sym, ◌∙◌, inl, inr}
+use Rattle.std.proofs.Common.{if◌then◌else◌}
 use Rattle.std.proofs.lemmas.Bool.{and_from, and_parts, or_cases, or_left, or_right, eqb-true, false_from_ne_true}
 use Rattle.std.proofs.Math.Bool.{or-true, or-false}
 use Rattle.bbm_descriptor.specs.Descriptor.{same_bool}
@@ -7,9 +8,11 @@ use Rattle.bbm_barriers.specs.declared.Dsb.{Dsb}
 use Rattle.bbm_barriers.specs.Options.{publishes, answers}
 use Rattle.bbm_tlbi_scope.specs.declared.entry.Cover.{Cover}
 use Rattle.bbm_tlbi_scope.specs.declared.entry.Cover.TheVariants.{None as NoCover, Half, Second, Full}
-use Rattle.bbm_tlbi_scope.specs.Same.{same_cover}
-use Rattle.bbm_entry_state.specs.Steps.{Step, Wrote, Barrier, Flush, some, is_write, writes, issues, answers_one, answered, still_waits}
-use Rattle.bbm_entry_state.specs.Patterns.{publishes_write, seen, flushes, half, earned}
+use Rattle.bbm_tlbi_scope.specs.SameCover.{same_cover}
+use Rattle.bbm_entry_state.specs.EntrySteps.{Step, Wrote, Barrier, Flush, some, is_write, writes, issues, answers_one}
+use Rattle.bbm_entry_state.specs.EntrySteps.{answered, still_waits}
+use Rattle.bbm_entry_state.specs.EntryPatterns.{publishes_write, seen, flushes, half, earned}
+use Rattle.bbm_lemmas.proofs.Bools.{and_implied}
 
 -- where a test passes, the PE had seen the break
 pub record NeedsSeen (n p : ℕ) (test : Step → List Step → Bool) : Type 0 where
@@ -130,12 +133,6 @@ module _ (test : Step → List Step → Bool) where
   issued_waits q b (Barrier pe dsb ∷ older) =
       barrier_waits (pe == q && answers dsb b) (some (issues q b test) older) (still_waits test q b older) (answers_one test (Barrier pe dsb) older) (answered test older)
       (answer_at q b pe dsb older) (issued_waits q b older)
-
--- what a DSB adds to what was answered: what waited for it
-and_implied : (s z : Bool) → (z ≡ true → s ≡ true) → (s && z) ≡ z
-and_implied true z h = refl
-and_implied false true h = h refl
-and_implied false false h = refl
 
 answer_bits : (wide local issued issued' waits waits' rest seen : Bool) → (issued || rest) ≡ (waits || rest) → (issued' || rest) ≡ (waits' || rest)
     → (waits ≡ true → seen ≡ true) → (waits' ≡ true → seen ≡ true)

@@ -1,5 +1,6 @@
 -- What the calls of break-before-make come to.
-use Rattle.std.proofs.Common.{◌≡◌, ℕ, Bool, true, false, ◌&&◌, ◌||◌, nat_eq, nat_lt, ◌<◌, Option, Some, None, is_some, refl, ap, ◌∙◌, if◌then◌else◌}
+use Rattle.std.proofs.Common.{◌≡◌, ℕ, Bool, true, false, ◌&&◌, ◌||◌, nat_eq, nat_lt, ◌<◌, Option, Some, None, is_some}
+use Rattle.std.proofs.Common.{refl, ap, ◌∙◌, if◌then◌else◌}
 use Rattle.std.proofs.lemmas.Bool.{and_from, or_left, or_right, eq-eqb, lt-ltb}
 use Rattle.bbm_regimes.specs.PeMask.{pe_in}
 use Rattle.bbm_regimes.specs.declared.pe.PeMask.{PeMask}
@@ -12,8 +13,8 @@ use Rattle.bbm_entry_state.specs.declared.state.EntryState.{EntryState}
 use Rattle.bbm_entry_state.specs.declared.state.EntryState.TheVariants.{Clean, Live, Broken}
 use Rattle.bbm_entry_state.specs.Points.{core_in, is_broken, writer_at, seen_at, clean_at, waits}
 use Rattle.bbm_entry_state.specs.Answered.{answered_at}
-use Rattle.bbm_entry_state.specs.Calls.{counts_at, clean_after, Written, Published, Noted, Completed}
-use Rattle.bbm_regimes.proofs.Every.{every_from}
+use Rattle.bbm_entry_state.specs.EntryCalls.{counts_at, clean_after, Written, Published, Noted, Completed}
+use Rattle.bbm_lemmas.proofs.Every.{every_from}
 
 clean_from : (state : EntryState) → core_in state ≡ None → state ≡ Clean
 clean_from Clean none = refl

@@ -1,8 +1,9 @@
 -- Each call keeps that a state and its pendings stand for the steps of their place.
-use Rattle.std.proofs.Common.{◌≡◌, ℕ, Bool, true, false, ◌&&◌, ◌||◌, ◌==◌, nat_eq, not, ◌≤◌, List, [], ◌∷◌, Option, Some, None, is_some, refl, ap, sym, ◌∙◌, inl, inr, if◌then◌else◌}
+use Rattle.std.proofs.Common.{◌≡◌, ℕ, Bool, true, false, ◌&&◌, ◌||◌, ◌==◌, nat_eq, not, ◌≤◌, List, [], ◌∷◌, Option}
+use Rattle.std.proofs.Common.{Some, None, is_some, refl, ap, sym, ◌∙◌, inl, inr, if◌then◌else◌}
 use Rattle.std.proofs.lemmas.Bool.{or_cases, or_left, or_right, cases_Bool, eqb-true}
 use Rattle.std.proofs.Math.Bool.{or-true}
-use Rattle.bbm_regimes.specs.EveryPe.{every_pe}
+use Rattle.bbm_lemmas.specs.EveryPe.{every_pe}
 use Rattle.bbm_regimes.specs.PeMask.{pe_in}
 use Rattle.bbm_regimes.specs.declared.pe.PeMask.{PeMask}
 use Rattle.bbm_descriptor.specs.declared.desc.Core.{Core}
@@ -14,15 +15,17 @@ use Rattle.bbm_tlbi_scope.specs.declared.entry.Cover.TheVariants.{None as NoCove
 use Rattle.bbm_entry_state.specs.declared.pending.Pends.{Pends}
 use Rattle.bbm_entry_state.specs.declared.state.EntryState.{EntryState}
 use Rattle.bbm_entry_state.specs.declared.state.EntryState.TheVariants.{Clean, Live, Broken}
-use Rattle.bbm_tlbi_scope.specs.Same.{same_cover}
+use Rattle.bbm_tlbi_scope.specs.SameCover.{same_cover}
 use Rattle.bbm_entry_state.specs.Points.{core_in, is_broken, writer_at, seen_at, half_at, waits}
 use Rattle.bbm_entry_state.specs.Answered.{answered_at}
-use Rattle.bbm_entry_state.specs.Calls.{counts_at, half_after, clean_after, Written, Published, Noted, Completed}
-use Rattle.bbm_entry_state.specs.Steps.{Step, Wrote, Barrier, Flush, since, last_core, some, writes, answers_one, answered, still_waits}
-use Rattle.bbm_entry_state.specs.Patterns.{seen, half, cleansed, flushes, earned}
-use Rattle.bbm_entry_state.specs.Standing.{IsIdle, Marked, Between, Stands, KeepsPends, SetsPends}
-use Rattle.bbm_regimes.proofs.Every.{every_same, every_wider, every_none}
+use Rattle.bbm_entry_state.specs.EntryCalls.{counts_at, half_after, clean_after, Written, Published, Noted, Completed}
+use Rattle.bbm_entry_state.specs.EntrySteps.{Step, Wrote, Barrier, Flush, since, last_core, some, writes, answers_one}
+use Rattle.bbm_entry_state.specs.EntrySteps.{answered, still_waits}
+use Rattle.bbm_entry_state.specs.EntryPatterns.{seen, half, cleansed, flushes, earned}
+use Rattle.bbm_entry_state.specs.EntryStanding.{IsIdle, Marked, Between, Stands, KeepsPends, SetsPends}
+use Rattle.bbm_lemmas.proofs.Every.{every_same, every_wider, every_none}
 use Rattle.bbm_entry_state.proofs.Searches.{counted_seen, answer_adds, unwritten_waits}
+use Rattle.bbm_lemmas.proofs.Bools.{and_no_third}
 
 -- no core is a core
 none_some : (core : Option Core) → core ≡ None → is_some core ≡ true → ⊥
@@ -133,12 +136,6 @@ counts_none Clean c p none = refl
 counts_none (Live core) c p none = cc
 counts_none (Broken marks) c p none = cc
 
-never : (a b c : Bool) → (a && (b && (c && false))) ≡ false
-never true true true = refl
-never true true false = refl
-never true false c = refl
-never false b c = refl
-
 -- pendings of which those of one issuer were set
 set_there : (t : Bool) (mine other target : Bool) → (t ≡ true → mine ≡ target) → (t ≡ false → other ≡ target) → (if t then mine else other) ≡ target
 set_there true mine other target same differs = same refl
@@ -181,7 +178,7 @@ tlbi_stands n state pends pends' left steps q reach r broadcast cover noted reac
       ∙ set_there (q == i) (waits left b c p) (waits (pends i) b c p) false
       (λ here. noted b c p
       ∙ ap (λ (x : Bool). (same_bool broadcast b && (pe_in reach p && (same_cover c cover && x))) || waits (pends q) b c p) (counts_none state c p none)
-      ∙ ap (λ (x : Bool). x || waits (pends q) b c p) (never (same_bool broadcast b) (pe_in reach p) (same_cover c cover))
+      ∙ ap (λ (x : Bool). x || waits (pends q) b c p) (and_no_third (same_bool broadcast b) (pe_in reach p) (same_cover c cover))
       ∙ s.idle none q b c p)
       (λ away. s.idle none i b c p);
 }

@@ -1,7 +1,7 @@
 pub mod Marking
 pub mod Points
 pub mod Answered
-pub mod Calls
-pub mod Steps
-pub mod Patterns
-pub mod Standing
+pub mod EntryCalls
+pub mod EntrySteps
+pub mod EntryPatterns
+pub mod EntryStanding

@@ -1,7 +1,7 @@
 //! What a state and its pendings are after any steps of their place.
 
 ghost use Rattle.std.specs.Prelude.{◌≡◌, ℕ, Bool, true, false, ◌&&◌, not, ◌≤◌, Option, None, List, [], ◌∷◌};
-ghost use Rattle.bbm_regimes.specs.EveryPe.{every_pe};
+ghost use Rattle.bbm_lemmas.specs.EveryPe.{every_pe};
 ghost use Rattle.bbm_barriers.specs.Options.{answers};
 ghost use Rattle.bbm_regimes.specs.PeMask.{pe_in};
 ghost use Rattle.bbm_regimes.specs.declared.pe.PeMask.{PeMask};
@@ -15,9 +15,9 @@ ghost use Rattle.bbm_entry_state.specs.declared.state.EntryState.{EntryState};
 ghost use Rattle.bbm_entry_state.specs.declared.state.EntryState.TheVariants as state;
 ghost use Rattle.bbm_entry_state.specs.Points.{core_in, waits};
 ghost use Rattle.bbm_entry_state.specs.Answered.{Answered};
-ghost use Rattle.bbm_entry_state.specs.Calls.{Written, Published, Noted, Completed};
-ghost use Rattle.bbm_entry_state.specs.Steps.{Step, Wrote, Barrier, Flush};
-ghost use Rattle.bbm_entry_state.specs.Standing.{IsIdle, Between, Stands, KeepsPends, SetsPends};
+ghost use Rattle.bbm_entry_state.specs.EntryCalls.{Written, Published, Noted, Completed};
+ghost use Rattle.bbm_entry_state.specs.EntrySteps.{Step, Wrote, Barrier, Flush};
+ghost use Rattle.bbm_entry_state.specs.EntryStanding.{IsIdle, Between, Stands, KeepsPends, SetsPends};
 
 /// After any list of steps of one place its masks are the sets of the PEs at which the patterns of these steps
 /// hold: `Stands` says so by points. It holds of a clean state with nothing waiting before any step, and each

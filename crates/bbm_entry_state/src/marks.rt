@@ -27,11 +27,11 @@ pub struct Marks {
 
 impl Marks {
     ghost use Rattle.std.specs.Prelude.{false, nat_eq, ◌&&◌, ◌||◌, ◌≤◌};
-    ghost use Rattle.bbm_regimes.specs.EveryPe.{every_pe};
+    ghost use Rattle.bbm_lemmas.specs.EveryPe.{every_pe};
     ghost use Rattle.bbm_tlbi_scope.specs.declared.entry.Cover.{Cover};
     ghost use Rattle.bbm_entry_state.specs.Points.{waits_in};
     ghost use Rattle.bbm_entry_state.specs.Marking.{counts_for};
-    ghost use Rattle.bbm_tlbi_scope.specs.Same.{same_cover};
+    ghost use Rattle.bbm_tlbi_scope.specs.SameCover.{same_cover};
 
     /// The masks of a place whose core this PE just broke.
     pub fn broken_by(core: Core, pe: Pe) -> Marks

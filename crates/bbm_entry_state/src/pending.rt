@@ -7,9 +7,9 @@ ghost use Rattle.bbm_descriptor.specs.Descriptor.{same_bool};
 ghost use Rattle.bbm_barriers.specs.Options.{answers};
 ghost use Rattle.bbm_tlbi_scope.specs.declared.entry.Cover.{Cover as TheCover};
 ghost use Rattle.bbm_entry_state.specs.Points.{waits, waits_in};
-ghost use Rattle.bbm_tlbi_scope.specs.Same.{same_cover};
+ghost use Rattle.bbm_tlbi_scope.specs.SameCover.{same_cover};
 ghost use Rattle.bbm_entry_state.specs.Answered.{answered_at};
-ghost use Rattle.bbm_entry_state.specs.Calls.{Noted};
+ghost use Rattle.bbm_entry_state.specs.EntryCalls.{Noted};
 ghost use Rattle.bbm_entry_state.specs.Marking.{counts_for};
 ghost use Rattle.bbm_entry_state.specs.declared.state.EntryState.TheVariants as state;
 

@@ -26,7 +26,7 @@ pub enum EntryState {
 
 impl EntryState {
     ghost use Rattle.std.specs.Prelude.{◌≡◌, ◌≤◌, ◌<◌};
-    ghost use Rattle.bbm_entry_state.specs.Calls.{Written, Published, Noted, Completed};
+    ghost use Rattle.bbm_entry_state.specs.EntryCalls.{Written, Published, Noted, Completed};
 
     /// The state of a place that never had a valid value.
     pub fn new() -> EntryState

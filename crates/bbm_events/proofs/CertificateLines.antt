@@ -1,6 +1,7 @@
 -- Lines of a certificate: what is read of one fits the header and has a cause of a field where it says nothing, what
 -- is written is read again, and no other line is read as it.
-use Rattle.std.proofs.Common.{◌≡◌, ℕ, ◌^◌, ◌<◌, List, [], ◌∷◌, Bool, true, false, ◌&&◌, cond, refl, ap, sym, ◌∙◌, Result, Ok, Err, arith}
+use Rattle.std.proofs.Common.{◌≡◌, ℕ, ◌^◌, ◌<◌, List, [], ◌∷◌, Bool, true, false, ◌&&◌, cond, refl, ap, sym, ◌∙◌}
+use Rattle.std.proofs.Common.{Result, Ok, Err, arith}
 use Rattle.std.specs.Prelude.{IfErr, codes, decimal, bytes_eq}
 use Rattle.std.proofs.lemmas.Bool.{and_parts, ltb-true, eqb-true}
 use Rattle.std.proofs.lemmas.Slice.Eq.{bytes_eq-Decides}
@@ -24,12 +25,21 @@ use Rattle.bbm_events.specs.Spelling.{fields, hex, decimal_value}
 use Rattle.bbm_events.specs.Words.{with_word}
 use Rattle.bbm_events.specs.Fits.{is_pe, is_place}
 use Rattle.bbm_events.specs.Lines.{◌>>=◌, Fields, passing, pe_field, place_field, count_field}
-use Rattle.bbm_events.specs.Certificate.{certificate_line, certificate_of, certificate_word, certificate_words, claim_word, claim_words, tag_word, tag_words, word_of_tag, number_of_tag, tag_with, has_number, is_tag, is_position, is_claim, claim_fits, certificate_word_field, claim_word_field, tag_word_field, tag_number_field, tag_fields, flush_fields, place_line, two_line, tag_line, claim_after, any_claim, certificate_after, claim_of, claim_fields, claim_item_fields, claim_line}
-use Rattle.bbm_events.proofs.Causes.{Ends, then_ends, field_ends, whole_ends, pe_ends, place_ends, count_ends, count_line_ends, word_ends}
+use Rattle.bbm_events.specs.Certificate.{certificate_line, certificate_of, certificate_word, certificate_words}
+use Rattle.bbm_events.specs.Certificate.{claim_word, claim_words, tag_word, tag_words, word_of_tag, number_of_tag}
+use Rattle.bbm_events.specs.Certificate.{tag_with, has_number, is_tag, is_position, is_claim, claim_fits}
+use Rattle.bbm_events.specs.Certificate.{certificate_word_field, claim_word_field, tag_word_field, tag_number_field}
+use Rattle.bbm_events.specs.Certificate.{tag_fields, flush_fields, place_line, two_line, tag_line, claim_after}
+use Rattle.bbm_events.specs.Certificate.{any_claim, certificate_after, claim_of, claim_fields, claim_item_fields}
+use Rattle.bbm_events.specs.Certificate.{claim_line}
+use Rattle.bbm_events.proofs.Causes.{Ends, then_ends, field_ends, whole_ends, pe_ends, place_ends, count_ends}
+use Rattle.bbm_events.proofs.Causes.{count_line_ends, word_ends}
 use Rattle.bbm_events.proofs.Readings.{bind_ok, passing_field_ok, both, pe_kept, count_kept, place_kept}
 use Rattle.bbm_events.proofs.Joining.{visible, all_visible, joined_fields, fields_joined}
-use Rattle.bbm_events.proofs.OneLine.{IsRead, as_read, count_line_read_as, whole_end, decimal_field_once, word_field_once, count_once, pe_once, place_once}
-use Rattle.bbm_events.proofs.Written.{on, decimal_field_read, count_read, count_line_read, pe_read, place_read, one_more, dec, hexa}
+use Rattle.bbm_events.proofs.OneLine.{IsRead, as_read, count_line_read_as, whole_end, decimal_field_once}
+use Rattle.bbm_events.proofs.OneLine.{word_field_once, count_once, pe_once, place_once}
+use Rattle.bbm_events.proofs.Written.{on, decimal_field_read, count_read, count_line_read, pe_read, place_read}
+use Rattle.bbm_events.proofs.Written.{one_more, dec, hexa}
 
 -- The first line.
 

@@ -1,5 +1,6 @@
 -- The number of pages of a root is 1 to 16.
-use Rattle.std.proofs.Common.{◌≡◌, ℕ, ◌≤◌, Bool, true, false, cond, ◌||◌, ◌==◌, IsTrue, subst, sym, arith, inl, inr, true≢false}
+use Rattle.std.proofs.Common.{◌≡◌, ℕ, ◌≤◌, Bool, true, false, cond, ◌||◌, ◌==◌, IsTrue, subst, sym, arith, inl, inr}
+use Rattle.std.proofs.Common.{true≢false}
 use Rattle.std.proofs.lemmas.Bool.{and_parts, eqb-true, or_cases}
 use Rattle.bbm_regimes.specs.declared.regime.HypWorld.{HypWorld}
 use Rattle.bbm_regimes.specs.declared.regime.World.TheVariants.{Hyp}

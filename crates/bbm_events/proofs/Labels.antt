@@ -1,5 +1,6 @@
 -- A label that is kept in 32 bytes is the front of them, and each byte of it shows.
-use Rattle.std.proofs.Common.{◌≡◌, ℕ, List, [], ◌∷◌, true, false, ◌==◌, ◌&&◌, nat_le, ◌≤◌, length, take, drop, refl, arith, nat_lt}
+use Rattle.std.proofs.Common.{◌≡◌, ℕ, List, [], ◌∷◌, true, false, ◌==◌, ◌&&◌, nat_le, ◌≤◌, length, take, drop, refl}
+use Rattle.std.proofs.Common.{arith, nat_lt}
 use Rattle.std.proofs.Math.ListN.{replicate}
 use Rattle.std.proofs.Math.Seq.{take-append_seam}
 use Rattle.std.proofs.lemmas.Bool.{and_parts, leb-true}

@@ -17,14 +17,21 @@ use Rattle.bbm_events.specs.Spelling.{fields, hex, decimal_value}
 use Rattle.bbm_events.specs.Words.{with_word, kind_word, kinds}
 use Rattle.bbm_events.specs.Fits.{is_pe, is_place, is_value}
 use Rattle.bbm_events.specs.Lines.{◌>>=◌, Fields, passing, exactly, pe_field, kind_field, place_field, value_field}
-use Rattle.bbm_events.specs.Machine.{machine_word, machine_words, has_machine_word, is_tag, is_entry, machine_fits, mark_field, machine_word_field, tag_field, entry_field, start_line, extend_line, share_line, machine_after, machine_of, machine_fields, machine_line}
-use Rattle.bbm_events.proofs.Causes.{Ends, then_ends, field_ends, whole_ends, pe_ends, place_ends, value_ends, count_ends, count_line_ends, word_ends, of_fields}
-use Rattle.bbm_events.proofs.Readings.{bind_ok, field_ok, passing_field_ok, both, pe_kept, count_kept, place_kept, value_kept}
+use Rattle.bbm_events.specs.Machine.{machine_word, machine_words, has_machine_word, is_tag, is_entry, machine_fits}
+use Rattle.bbm_events.specs.Machine.{mark_field, machine_word_field, tag_field, entry_field, start_line, extend_line}
+use Rattle.bbm_events.specs.Machine.{share_line, machine_after, machine_of, machine_fields, machine_line}
+use Rattle.bbm_events.proofs.Causes.{Ends, then_ends, field_ends, whole_ends, pe_ends, place_ends, value_ends}
+use Rattle.bbm_events.proofs.Causes.{count_ends, count_line_ends, word_ends, of_fields}
+use Rattle.bbm_events.proofs.Readings.{bind_ok, field_ok, passing_field_ok, both, pe_kept, count_kept, place_kept}
+use Rattle.bbm_events.proofs.Readings.{value_kept}
 use Rattle.bbm_events.proofs.Joining.{joined_fields, fields_joined, all_visible}
 use Rattle.bbm_events.proofs.OneSpelling.{word_once}
-use Rattle.bbm_events.proofs.OneLine.{IsRead, as_read, count_line_read_as, exactly_once, passing_from, whole_end, field_once, decimal_field_once, count_once, pe_once, kind_once, place_once, value_once}
+use Rattle.bbm_events.proofs.OneLine.{IsRead, as_read, count_line_read_as, exactly_once, passing_from, whole_end}
+use Rattle.bbm_events.proofs.OneLine.{field_once, decimal_field_once, count_once, pe_once, kind_once, place_once}
+use Rattle.bbm_events.proofs.OneLine.{value_once}
 use Rattle.bbm_events.proofs.WordsRead.{kind_word_visible}
-use Rattle.bbm_events.proofs.Written.{on, field_read, passing_read, decimal_field_read, count_read, count_line_read, pe_read, kind_read, place_read, value_read, one_more, dec, hexa}
+use Rattle.bbm_events.proofs.Written.{on, field_read, passing_read, decimal_field_read, count_read, count_line_read}
+use Rattle.bbm_events.proofs.Written.{pe_read, kind_read, place_read, value_read, one_more, dec, hexa}
 
 -- The causes.
 

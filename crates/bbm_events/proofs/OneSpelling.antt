@@ -1,5 +1,6 @@
 -- A number that is spelled is read again, and no other text is read as it; the same of a word.
-use Rattle.std.proofs.Common.{◌≡◌, ℕ, ◌^◌, ◌<◌, List, [], ◌∷◌, Bool, true, false, ◌&&◌, cond, nat_lt, drop, refl, ap, sym, ◌∙◌, Option, Some, None, arith}
+use Rattle.std.proofs.Common.{◌≡◌, ℕ, ◌^◌, ◌<◌, List, [], ◌∷◌, Bool, true, false, ◌&&◌, cond, nat_lt, drop, refl, ap}
+use Rattle.std.proofs.Common.{sym, ◌∙◌, Option, Some, None, arith}
 use Rattle.std.specs.Prelude.{bytes_eq, decimal}
 use Rattle.std.specs.Fmt.{digits}
 use Rattle.std.specs.Str.Parse.{digits_value}

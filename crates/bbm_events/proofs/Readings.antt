@@ -1,11 +1,13 @@
 -- What is read of a line fits the header, and a header that is read keeps its ranges.
-use Rattle.std.proofs.Common.{◌≡◌, ℕ, List, [], ◌∷◌, Bool, true, false, ◌&&◌, cond, refl, Option, Some, None, Result, Ok, Err}
+use Rattle.std.proofs.Common.{◌≡◌, ℕ, List, [], ◌∷◌, Bool, true, false, ◌&&◌, cond, refl, Option, Some, None, Result}
+use Rattle.std.proofs.Common.{Ok, Err}
 use Rattle.bbm_events.specs.declared.event.Event.{Event}
 use Rattle.bbm_events.specs.declared.event.Event.TheVariants as event
 use Rattle.bbm_events.specs.declared.event.Item.{Item}
 use Rattle.bbm_events.specs.declared.event.Item.TheVariants as item
 use Rattle.bbm_events.specs.declared.malformed.Malformed.{Malformed}
-use Rattle.bbm_events.specs.declared.malformed.Malformed.TheVariants.{BadHeader, UnknownWord, BadNumber, BadPe, BadAddress, MissingField, BadLabel}
+use Rattle.bbm_events.specs.declared.malformed.Malformed.TheVariants.{BadHeader, UnknownWord, BadNumber, BadPe}
+use Rattle.bbm_events.specs.declared.malformed.Malformed.TheVariants.{BadAddress, MissingField, BadLabel}
 use Rattle.std.specs.Prelude.{bytes_eq, codes, drop, ◌==◌, ◌||◌}
 use Rattle.std.specs.Str.Parse.{digits_value}
 use Rattle.bbm_regimes.specs.declared.regime.World.TheVariants.{Hyp, Kernel}
@@ -18,8 +20,15 @@ use Rattle.bbm_events.specs.Heading.{Heading, heading_ok, has_op, may_label}
 use Rattle.bbm_events.specs.Label.{is_label}
 use Rattle.bbm_events.specs.Spelling.{fields, hex, decimal_value, hex_value, where_spelled}
 use Rattle.bbm_events.specs.Words.{with_word, asid_from_word, asid_froms, op_word, ops}
-use Rattle.bbm_events.specs.Fits.{fits_heading, item_fits, is_pe, is_page, is_place, is_value, is_lock, is_count, is_root_page, is_root_lock, is_operand, label_fits}
-use Rattle.bbm_events.specs.Lines.{◌>>=◌, Fields, magic_field, version_field, cnp_field, header_field, FieldRead, found, next_field, passing, checked, hyp_fields, kernel_fields, world_fields, header_of, item_of, line_after, keyword_field, pe_field, page_field, place_field, root_page_field, value_field, operand_field, lock_field, lock_value, root_lock, root_lock_field, count_field, kind_field, dsb_field, op_field, reg_field, whole, is_marked, label_field, event_item, pe_alone, pe_and, pe_and_two, root_line, tlbi_line, count_line}
+use Rattle.bbm_events.specs.Fits.{fits_heading, item_fits, is_pe, is_page, is_place, is_value, is_lock, is_count}
+use Rattle.bbm_events.specs.Fits.{is_root_page, is_root_lock, is_operand, label_fits}
+use Rattle.bbm_events.specs.Lines.{◌>>=◌, Fields, magic_field, version_field, cnp_field, header_field, FieldRead, found}
+use Rattle.bbm_events.specs.Lines.{next_field, passing, checked, hyp_fields, kernel_fields, world_fields, header_of}
+use Rattle.bbm_events.specs.Lines.{item_of, line_after, keyword_field, pe_field, page_field, place_field}
+use Rattle.bbm_events.specs.Lines.{root_page_field, value_field, operand_field, lock_field, lock_value, root_lock}
+use Rattle.bbm_events.specs.Lines.{root_lock_field, count_field, kind_field, dsb_field, op_field, reg_field, whole}
+use Rattle.bbm_events.specs.Lines.{is_marked, label_field, event_item, pe_alone, pe_and, pe_and_two, root_line}
+use Rattle.bbm_events.specs.Lines.{tlbi_line, count_line}
 
 -- where two steps give a value, the first gave one that leads the second to it
 pub bind_ok : {A B : Type 0} (r : Result A Malformed) (f : A → Result B Malformed) {y : B} → (r >>= f) ≡ Ok y → (x : A) × (r ≡ Ok x) × (f x ≡ Ok y)

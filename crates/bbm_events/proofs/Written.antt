@@ -1,5 +1,6 @@
 -- A line that is written is read as what was written.
-use Rattle.std.proofs.Common.{◌≡◌, ℕ, ◌^◌, ◌<◌, ◌≤◌, List, [], ◌∷◌, ◌++◌, Bool, true, false, not, ◌&&◌, cond, nat_lt, ◌%◌, ◌*◌, ◌==◌, refl, ap, sym, ◌∙◌, Option, Some, None, Result, Ok, Err, arith}
+use Rattle.std.proofs.Common.{◌≡◌, ℕ, ◌^◌, ◌<◌, ◌≤◌, List, [], ◌∷◌, ◌++◌, Bool, true, false, not, ◌&&◌, cond, nat_lt}
+use Rattle.std.proofs.Common.{◌%◌, ◌*◌, ◌==◌, refl, ap, sym, ◌∙◌, Option, Some, None, Result, Ok, Err, arith}
 use Rattle.std.specs.Prelude.{◌||◌, nat_le, codes, decimal, bytes_eq}
 use Rattle.std.specs.Option.{option_map}
 use Rattle.std.specs.Fmt.{digits}
@@ -20,18 +21,30 @@ use Rattle.bbm_events.specs.declared.event.Event.TheVariants as event
 use Rattle.bbm_events.specs.declared.event.Item.{Item}
 use Rattle.bbm_events.specs.declared.event.Item.TheVariants as item
 use Rattle.bbm_events.specs.declared.malformed.Malformed.{Malformed}
-use Rattle.bbm_events.specs.declared.malformed.Malformed.TheVariants.{NoMagic, BadHeader, UnknownWord, BadNumber, BadPe, BadAddress, MissingField, BadLabel}
+use Rattle.bbm_events.specs.declared.malformed.Malformed.TheVariants.{NoMagic, BadHeader, UnknownWord, BadNumber, BadPe}
+use Rattle.bbm_events.specs.declared.malformed.Malformed.TheVariants.{BadAddress, MissingField, BadLabel}
 use Rattle.bbm_events.specs.Heading.{Heading, heading_ok, is_version, are_pes, has_op, may_label, may_share}
 use Rattle.bbm_events.specs.Label.{is_label}
 use Rattle.bbm_events.specs.Spelling.{fields, joined, hex, decimal_value, hex_value}
 use Rattle.bbm_tlbi_scope.specs.Operations.{has_operand}
-use Rattle.bbm_events.specs.Words.{with_word, keyword_word, keywords, cnp_word, cnps, kind_word, kinds, reg_word, regs, asid_from_word, asid_froms, dsb_word, dsbs, op_word, ops}
-use Rattle.bbm_events.specs.Fits.{fits_heading, item_fits, is_pe, is_page, is_place, is_value, is_lock, is_count, is_root_page, is_root_lock, is_operand, label_fits}
-use Rattle.bbm_events.specs.Lines.{◌>>=◌, Fields, FieldRead, found, next_field, passing, checked, version_field, cnp_field, cnp_fields, header_field, world_fields, header_of, item_of, line_after, line_field, pe_field, page_field, place_field, root_page_field, value_field, operand_field, lock_field, lock_value, root_lock, root_lock_field, count_field, kind_field, dsb_field, op_field, reg_field, label_value, label_field, label_fields, event_item, pe_alone, pe_and, pe_and_two, root_line, tlbi_line, count_line, header_fields, header_line, lock_text, operand_fields, event_fields, item_fields, item_line, magic_field}
+use Rattle.bbm_events.specs.Words.{with_word, keyword_word, keywords, cnp_word, cnps, kind_word, kinds, reg_word, regs}
+use Rattle.bbm_events.specs.Words.{asid_from_word, asid_froms, dsb_word, dsbs, op_word, ops}
+use Rattle.bbm_events.specs.Fits.{fits_heading, item_fits, is_pe, is_page, is_place, is_value, is_lock, is_count}
+use Rattle.bbm_events.specs.Fits.{is_root_page, is_root_lock, is_operand, label_fits}
+use Rattle.bbm_events.specs.Lines.{◌>>=◌, Fields, FieldRead, found, next_field, passing, checked, version_field}
+use Rattle.bbm_events.specs.Lines.{cnp_field, cnp_fields, header_field, world_fields, header_of, item_of, line_after}
+use Rattle.bbm_events.specs.Lines.{line_field, pe_field, page_field, place_field, root_page_field, value_field}
+use Rattle.bbm_events.specs.Lines.{operand_field, lock_field, lock_value, root_lock, root_lock_field, count_field}
+use Rattle.bbm_events.specs.Lines.{kind_field, dsb_field, op_field, reg_field, label_value, label_field, label_fields}
+use Rattle.bbm_events.specs.Lines.{event_item, pe_alone, pe_and, pe_and_two, root_line, tlbi_line, count_line}
+use Rattle.bbm_events.specs.Lines.{header_fields, header_line, lock_text, operand_fields, event_fields, item_fields}
+use Rattle.bbm_events.specs.Lines.{item_line, magic_field}
 use Rattle.bbm_events.proofs.Joining.{visible, all_visible, fields_joined, digits_visible}
 use Rattle.bbm_events.proofs.OneSpelling.{decimal_read, hex_read}
 use Rattle.bbm_events.proofs.Labels.{label_visible}
-use Rattle.bbm_events.proofs.WordsRead.{cnp_word_read, cnp_word_visible, kind_word_read, reg_word_read, asid_from_word_read, dsb_word_read, op_word_read, kind_word_visible, reg_word_visible, asid_from_word_visible, dsb_word_visible, op_word_visible}
+use Rattle.bbm_events.proofs.WordsRead.{cnp_word_read, cnp_word_visible, kind_word_read, reg_word_read}
+use Rattle.bbm_events.proofs.WordsRead.{asid_from_word_read, dsb_word_read, op_word_read, kind_word_visible}
+use Rattle.bbm_events.proofs.WordsRead.{reg_word_visible, asid_from_word_visible, dsb_word_visible, op_word_visible}
 
 -- a step that gives a value leads on with it
 pub on : {A B : Type 0} (r : Result A Malformed) (f : A → Result B Malformed) {x : A} → r ≡ Ok x → (r >>= f) ≡ f x

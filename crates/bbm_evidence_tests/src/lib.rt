@@ -5,6 +5,8 @@
 #[cfg(test)]
 mod certificates;
 #[cfg(test)]
+mod counterrun;
+#[cfg(test)]
 mod idle;
 #[cfg(test)]
 mod lines;

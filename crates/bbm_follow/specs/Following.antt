@@ -1,7 +1,8 @@
 -- What a run says: a log in which lines of machine steps stand between the header and the end. A fold over its lines,
 -- which knows nothing of a reader. The whole text is read before a step that is none is named. Steps are listed newest
 -- first. Source: project's own choice.
-use Rattle.std.specs.Prelude.{◌≡◌, ℕ, zero, suc, ◌+◌, Bool, true, false, ◌&&◌, ◌==◌, nat_le, List, [], ◌∷◌, ◌++◌, length}
+use Rattle.std.specs.Prelude.{◌≡◌, ℕ, zero, suc, ◌+◌, Bool, true, false, ◌&&◌, ◌==◌, nat_le, List, [], ◌∷◌, ◌++◌}
+use Rattle.std.specs.Prelude.{length}
 use Rattle.std.specs.Prelude.{drop, Option, Some, None, Result, Ok, Err, codes, decimal, if◌then◌else◌, option_map}
 use Rattle.bbm_regimes.specs.declared.regime.Which.TheVariants.{LineBytes, Steps}
 use Rattle.bbm_events.specs.declared.event.Item.{Item}
@@ -18,7 +19,7 @@ use Rattle.bbm_rules.specs.Outcome.{text_of, is_too_long, unread_after}
 use Rattle.bbm_rules.specs.Texts.{verdict_text}
 use Rattle.bbm_tlb_machine.specs.declared.step.Step.{Step}
 use Rattle.bbm_tlb_machine.specs.declared.step.Step.TheVariants as step
-use Rattle.bbm_tlb_machine.specs.Run.{State, follow_steps}
+use Rattle.bbm_tlb_machine.specs.MachineRun.{State, follow_steps}
 use Rattle.bbm_tlb_machine.specs.Safe.{first_conflict}
 use Rattle.bbm_follow.specs.declared.followed.Followed.{Followed}
 use Rattle.bbm_follow.specs.declared.followed.Followed.TheVariants.{Run, BadStep}

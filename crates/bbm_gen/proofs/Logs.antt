@@ -1,5 +1,7 @@
 -- The generated logs keep the rules: after each whole round all stands as before it.
-use Rattle.std.proofs.Common.{◌≡◌, ℕ, zero, suc, ◌+◌, ◌-◌, ◌*◌, ◌/◌, ◌%◌, ◌<◌, ◌≤◌, Bool, true, false, ◌==◌, nat_lt, List, ◌∷◌, None, is_none, refl, sym, ◌∙◌, subst, arith, if◌then◌else◌, true≢false, Option, Some}
+use Rattle.std.proofs.Common.{◌≡◌, ℕ, zero, suc, ◌+◌, ◌-◌, ◌*◌, ◌/◌, ◌%◌, ◌<◌, ◌≤◌, Bool, true, false, ◌==◌, nat_lt}
+use Rattle.std.proofs.Common.{List, ◌∷◌, None, is_none, refl, sym, ◌∙◌, subst, arith, if◌then◌else◌, true≢false, Option}
+use Rattle.std.proofs.Common.{Some}
 use Rattle.std.proofs.lemmas.Bool.{and_parts, eq-eqb, eqb-true}
 use Rattle.bbm_regimes.specs.declared.regime.Kind.{Kind}
 use Rattle.bbm_regimes.specs.declared.regime.Kind.TheVariants.{El2, S2}
@@ -8,9 +10,11 @@ use Rattle.bbm_rules.specs.Prelude.{Event, Init, Null, Root, Unroot, Write, Dsb,
 use Rattle.bbm_rules.specs.Broken.{Breach, broken, keeps}
 use Rattle.bbm_rules.specs.Claims.{Patterns}
 use Rattle.bbm_rules.specs.Limits.{limit_of}
-use Rattle.bbm_gen.specs.Below.{Below}
-use Rattle.bbm_gen.specs.Generated.{heading, el2_root, s2_root, slot, place_in, first_page, block, el2_step, s2_step, round_step, event_at, log_of}
-use Rattle.bbm_gen.proofs.Numbers.{inside_el2, inside_s2, decoded_el2, decoded_s2, meets_el2, meets_s2, block_is_leaf, block_is_alone, el2_is_place, s2_is_place, page_is_value, block_is_value, is_writer}
+use Rattle.bbm_gen.specs.BelowGen.{Below}
+use Rattle.bbm_gen.specs.Generated.{heading, el2_root, s2_root, slot, place_in, first_page, block, el2_step, s2_step}
+use Rattle.bbm_gen.specs.Generated.{round_step, event_at, log_of}
+use Rattle.bbm_gen.proofs.Numbers.{inside_el2, inside_s2, decoded_el2, decoded_s2, meets_el2, meets_s2, block_is_leaf}
+use Rattle.bbm_gen.proofs.Numbers.{block_is_alone, el2_is_place, s2_is_place, page_is_value, block_is_value, is_writer}
 use Rattle.bbm_gen.proofs.Standing.{of_round, opened, opened_clear}
 use Rattle.bbm_gen.proofs.Rounds.{Made, Whole, el2_round, el2_whole, s2_round, s2_whole}
 

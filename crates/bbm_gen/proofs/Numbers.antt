@@ -1,5 +1,6 @@
 -- What holds of each of the 512 descriptors of a root, and of each block, by looking at them all.
-use Rattle.std.proofs.Common.{◌≡◌, ℕ, zero, suc, ◌+◌, ◌*◌, ◌^◌, ◌<◌, Bool, true, false, ◌==◌, [], Some, None, map, refl, sym, ◌∙◌, subst, true≢false, nat_lt, arith}
+use Rattle.std.proofs.Common.{◌≡◌, ℕ, zero, suc, ◌+◌, ◌*◌, ◌^◌, ◌<◌, Bool, true, false, ◌==◌, [], Some, None, map, refl}
+use Rattle.std.proofs.Common.{sym, ◌∙◌, subst, true≢false, nat_lt, arith}
 use Rattle.std.proofs.lemmas.Bool.{eq-eqb, eqb-true}
 use Rattle.std.specs.Result.{result_ok}
 use Rattle.bbm_regimes.specs.declared.regime.Kind.TheVariants.{El2, S2}

@@ -1,5 +1,6 @@
 -- A round takes away what it makes.
-use Rattle.std.proofs.Common.{◌≡◌, ℕ, suc, ◌<◌, Bool, true, false, ◌==◌, ◌&&◌, List, [], ◌∷◌, length, Some, None, refl, sym, ap, ◌∙◌, subst, arith, if◌then◌else◌, true≢false}
+use Rattle.std.proofs.Common.{◌≡◌, ℕ, suc, ◌<◌, Bool, true, false, ◌==◌, ◌&&◌, List, [], ◌∷◌, length, Some, None, refl}
+use Rattle.std.proofs.Common.{sym, ap, ◌∙◌, subst, arith, if◌then◌else◌, true≢false}
 use Rattle.std.proofs.lemmas.Bool.{eq-eqb, eqb-true}
 use Rattle.std.specs.Result.{result_ok}
 use Rattle.bbm_regimes.specs.declared.regime.Kind.{Kind}
@@ -7,7 +8,7 @@ use Rattle.bbm_regimes.specs.declared.regime.Kind.TheVariants.{El2, S2}
 use Rattle.bbm_regimes.specs.Extent.{meets}
 use Rattle.bbm_descriptor.specs.Descriptor.{Form, core_of, desc_of, form_of, is_valid, needs}
 use Rattle.bbm_descriptor.specs.Fields.{contiguous_of}
-use Rattle.bbm_tlbi_scope.specs.Covers.{vmid_matches}
+use Rattle.bbm_tlbi_scope.specs.ScopeCovers.{vmid_matches}
 use Rattle.bbm_tlbi_scope.specs.declared.scope.Family.TheVariants.{VmAll1}
 use Rattle.bbm_tlbi_scope.specs.Operations.{of_world, scoped_by_vmid}
 use Rattle.bbm_tlbi_scope.specs.Decode.{scope_of, one_page}
@@ -20,18 +21,20 @@ use Rattle.bbm_rules.specs.Covers.{cover_at, note}
 use Rattle.bbm_rules.specs.Held.{ValidWrite, cleansed_everywhere, held, last_valid}
 use Rattle.bbm_rules.specs.Notes.{Noted, events_of}
 use Rattle.bbm_rules.specs.Places.{page_of}
-use Rattle.bbm_rules.specs.Registers.{vmid_of, lacks_vmid, tag_number}
+use Rattle.bbm_rules.specs.RegisterValues.{vmid_of, lacks_vmid, tag_number}
 use Rattle.bbm_rules.specs.Pages.{is_fresh, is_null}
 use Rattle.bbm_rules.specs.Roots.{lock_of, roots_of}
 use Rattle.bbm_rules.specs.Rules.{is_contiguous}
 use Rattle.bbm_rules.specs.Tags.{tag_set, tags_of}
 use Rattle.bbm_rules.specs.Tree.{held_at, next_of, node_of, region_of}
-use Rattle.bbm_gen.specs.Below.{Below, notes}
+use Rattle.bbm_gen.specs.BelowGen.{Below, notes}
 use Rattle.bbm_gen.specs.Generated.{heading, el2_root, s2_root, ish, ishst}
 use Rattle.bbm_gen.proofs.Numbers.{el2_node, s2_node, el2_scope, s2_scope}
 use Rattle.bbm_gen.proofs.Flushed.{not_before, el2_after, s2_not_half, s2_after}
 use Rattle.bbm_gen.proofs.Unbroken.{no_core, tlbi_free, unbroken, write_free, dsb_unbroken, dmb_unbroken, isb_unbroken}
-use Rattle.bbm_gen.proofs.Standing.{Stands, Clear, WritesAt, of_round, declared, loaded, stands_on, clear_on, matches, stays_none}
+use Rattle.bbm_gen.proofs.Standing.{Stands, Clear, WritesAt, of_round, declared, loaded, stands_on, clear_on, matches}
+use Rattle.bbm_gen.proofs.Standing.{stays_none}
+use mathlib.Core.Bool.{and-false}
 
 -- the state after a whole round: all stands, and no place of the roots holds anything
 pub record Whole (h : List Event) : Type 0 where
@@ -54,10 +57,6 @@ rest_scope = record {
   level = None;
   broadcast = true;
 }
-
-and_false : (b : Bool) → (b && false) ≡ false
-and_false true = refl
-and_false false = refl
 
 -- ---- what is known of the place, the block and the page that a round names
 
@@ -389,7 +388,7 @@ module _ (b : Below) (h : List Event) (w : Whole h) (place block page : ℕ) (in
       met (s_vmid f4 s4.stands) (matches_noted b f4 s4.stands)
 
   has_vmid : (k : List Event) (op : TlbiOp) → Stands k → lacks_vmid heading (events_of (notes k)) 0 op ≡ false
-  has_vmid k op s = rw (s_vmid k s) (and_false (scoped_by_vmid op))
+  has_vmid k op s = rw (s_vmid k s) (and-false (scoped_by_vmid op))
 
   s6 : Mid f6 place
   s6 = by_dsb b f5 0 place ish

@@ -1,22 +1,26 @@
 -- What stands after the opening, and after each event of a round.
-use Rattle.std.proofs.Common.{◌≡◌, ℕ, zero, suc, ◌<◌, Bool, true, false, ◌==◌, ◌&&◌, inl, inr, List, [], ◌∷◌, ◌++◌, Option, Some, None, take, flat_map, filter_map, refl, ap, ◌∙◌, subst, Contains, arith, if◌then◌else◌}
+use Rattle.std.proofs.Common.{◌≡◌, ℕ, zero, suc, ◌<◌, Bool, true, false, ◌==◌, ◌&&◌, inl, inr, List, [], ◌∷◌, ◌++◌}
+use Rattle.std.proofs.Common.{Option, Some, None, take, flat_map, filter_map, refl, ap, ◌∙◌, subst, Contains, arith}
+use Rattle.std.proofs.Common.{if◌then◌else◌}
 use Rattle.bbm_regimes.specs.declared.regime.Kind.{Kind}
 use Rattle.bbm_regimes.specs.declared.regime.Kind.TheVariants.{El2, S2}
-use Rattle.bbm_tlbi_scope.specs.Covers.{vmid_matches}
-use Rattle.bbm_rules.specs.Prelude.{Event, Init, Null, Root, Unroot, Write, Dsb, Dmb, Isb, Tlbi, Msr, Lock, Unlock, Reg, Ttbr0El2, VttbrEl2, Ttbr0El1, Ttbr1El1, Tag, Vmid, same_tag}
+use Rattle.bbm_tlbi_scope.specs.ScopeCovers.{vmid_matches}
+use Rattle.bbm_rules.specs.Prelude.{Event, Init, Null, Root, Unroot, Write, Dsb, Dmb, Isb, Tlbi, Msr, Lock, Unlock, Reg}
+use Rattle.bbm_rules.specs.Prelude.{Ttbr0El2, VttbrEl2, Ttbr0El1, Ttbr1El1, Tag, Vmid, same_tag}
 use Rattle.bbm_rules.specs.Broken.{broken, keeps}
 use Rattle.bbm_rules.specs.Claims.{Patterns}
 use Rattle.bbm_rules.specs.Lists.{any, below}
 use Rattle.bbm_rules.specs.Pages.{is_fresh, is_null, may_be_fresh}
 use Rattle.bbm_rules.specs.Places.{page_of}
-use Rattle.bbm_rules.specs.Registers.{register_values}
+use Rattle.bbm_rules.specs.RegisterValues.{register_values}
 use Rattle.bbm_rules.specs.Roots.{Declared, roots_of}
 use Rattle.bbm_rules.specs.Tags.{distinct, ever_read, readings, tag_for, tag_set, tags_of, holds_tag}
 use Rattle.bbm_rules.specs.Tree.{Above, Node, held_at, node_of, tree}
-use Rattle.bbm_histories.specs.Tree.{HeldChange}
-use Rattle.bbm_gen.specs.Below.{Below, notes}
+use Rattle.bbm_histories.specs.TreeChanges.{HeldChange}
+use Rattle.bbm_gen.specs.BelowGen.{Below, notes}
 use Rattle.bbm_gen.specs.Generated.{heading, el2_root, s2_root, vttbr, log_of}
 use Rattle.bbm_gen.proofs.Numbers.{el2_node, s2_node}
+use mathlib.Core.Bool.{and-false}
 
 -- the events of rounds
 abbrev pub of_round : Event → Bool
@@ -61,13 +65,9 @@ keeps_on : (h : List Event) (e : Event) → keeps heading Patterns h ≡ true �
     → keeps heading Patterns (e ∷ h) ≡ true
 keeps_on h e k free = rw (k, free) refl
 
-and_false : (b : Bool) → (b && false) ≡ false
-and_false true = refl
-and_false false = refl
-
 not_old : (h : List Event) (e : Event) (page : ℕ) (n : Node) → node_of heading Patterns (notes (e ∷ h)) page ≡ Some n
     → is_fresh heading Patterns (notes (e ∷ h)) page ≡ false
-not_old h e page n node = rw node (and_false (may_be_fresh e page (is_fresh heading Patterns (notes h) page)))
+not_old h e page n node = rw node (and-false (may_be_fresh e page (is_fresh heading Patterns (notes h) page)))
 
 none_above : (above : Above) → Contains [] above → ⊥
 none_above above c = omega (arith, c.1)

@@ -1,5 +1,6 @@
 -- Which events break no rule.
-use Rattle.std.proofs.Common.{◌≡◌, ℕ, Bool, true, false, ◌&&◌, List, [], ◌∷◌, Option, Some, None, option_and_then, is_none, refl, ap, ◌∙◌, if◌then◌else◌}
+use Rattle.std.proofs.Common.{◌≡◌, ℕ, Bool, true, false, ◌&&◌, List, [], ◌∷◌, Option, Some, None, option_and_then}
+use Rattle.std.proofs.Common.{is_none, refl, ap, ◌∙◌, if◌then◌else◌}
 use Rattle.std.specs.Option.{option_map_or}
 use Rattle.std.specs.Result.{result_ok}
 use Rattle.bbm_regimes.specs.declared.regime.Kind.{Kind}
@@ -12,7 +13,10 @@ use Rattle.bbm_tlbi_scope.specs.declared.op.TlbiOp.{TlbiOp}
 use Rattle.bbm_tlbi_scope.specs.declared.scope.Scope.{Scope}
 use Rattle.bbm_rules.specs.Prelude.{Barrier, Event, Write, Dsb, Dmb, Isb, Tlbi, same_kind}
 use Rattle.bbm_rules.specs.declared.rule.Rule.{Rule}
-use Rattle.bbm_rules.specs.declared.rule.Rule.TheVariants.{WrongWorld, NoLock, NullWritten, BreakBeforeMake, LimboMake, NotFresh, RewrittenFresh, BadKind, GlobalUser, PageInUse, NoRoot, TagConflict, RootInUse, UnsyncedVmid, BadOperand, LockBusy, LockNotMine}
+use Rattle.bbm_rules.specs.declared.rule.Rule.TheVariants.{WrongWorld, NoLock, NullWritten, BreakBeforeMake, LimboMake}
+use Rattle.bbm_rules.specs.declared.rule.Rule.TheVariants.{NotFresh, RewrittenFresh, BadKind, GlobalUser, PageInUse}
+use Rattle.bbm_rules.specs.declared.rule.Rule.TheVariants.{NoRoot, TagConflict, RootInUse, UnsyncedVmid, BadOperand}
+use Rattle.bbm_rules.specs.declared.rule.Rule.TheVariants.{LockBusy, LockNotMine}
 use Rattle.bbm_rules.specs.Attach.{attached_by, attached_from}
 use Rattle.bbm_rules.specs.Broken.{Breach, breaks, broken, first_broken, rules}
 use Rattle.bbm_rules.specs.Claims.{Patterns}
@@ -20,12 +24,13 @@ use Rattle.bbm_rules.specs.Lists.{if_so}
 use Rattle.bbm_rules.specs.Notes.{Noted, events_of}
 use Rattle.bbm_rules.specs.Pages.{is_fresh, is_null}
 use Rattle.bbm_rules.specs.Places.{page_of}
-use Rattle.bbm_rules.specs.Registers.{lacks_vmid}
+use Rattle.bbm_rules.specs.RegisterValues.{lacks_vmid}
 use Rattle.bbm_rules.specs.Roots.{lock_of}
 use Rattle.bbm_rules.specs.Rules.{is_contiguous}
 use Rattle.bbm_rules.specs.Tree.{Node, held_at, next_of, node_of}
 use Rattle.bbm_gen.specs.Generated.{heading}
-use Rattle.bbm_gen.specs.Below.{notes}
+use Rattle.bbm_gen.specs.BelowGen.{notes}
+use mathlib.Core.Bool.{and-false}
 
 abbrev pub Free : List Noted → Event → Type 0
 Free h e = (r : Rule) → breaks heading Patterns h e r ≡ None
@@ -80,10 +85,6 @@ tlbi_free h p xt op scope world vmid decoded LockNotMine = refl
 abbrev pub root_node : Kind → ℕ → Node
 root_node kind root = record { page = root; kind = kind; level = 1; root = root; base = 0; above = [] }
 
-and_false : (b : Bool) → (b && false) ≡ false
-and_false true = refl
-and_false false = refl
-
 pub no_core : (c : Option Core) → differ c None ≡ false
 no_core None = refl
 no_core (Some c) = refl
@@ -120,7 +121,7 @@ module _ (h : List Noted) (kind : Kind) (root pe place value : ℕ) (k : Plain h
   write_free NoLock = rw (k.node, k.lock) refl
   write_free NullWritten = rw k.null refl
   write_free BreakBeforeMake = rw k.node (core_kept (held_at heading Patterns h (root_node kind root) place) refl)
-  write_free LimboMake = rw (k.node, and_false) refl
+  write_free LimboMake = rw (k.node, and-false) refl
   write_free NotFresh = rw (attaches, k.node) refl
   write_free RewrittenFresh = rw k.old refl
   write_free BadKind = rw (attaches, k.node, k.alone) refl

@@ -1,6 +1,6 @@
 //! What the crates below prove, gathered for the proofs here.
 
-ghost use Rattle.bbm_gen.specs.Below.{Below};
+ghost use Rattle.bbm_gen.specs.BelowGen.{Below};
 
 use bbm_histories::{law_held_changes, law_one_node, law_proper, law_tree_step};
 use bbm_rules::law_notes_keep_the_events;

@@ -1,5 +1,6 @@
 -- What the places of a page hold when an event attaches it.
-use Rattle.std.proofs.Common.{◌≡◌, ℕ, ◌<◌, Bool, true, false, cond, ◌==◌, List, [], ◌∷◌, ◌++◌, Option, Some, None, refl, sym, ◌∙◌, ap, subst, inl, inr, true≢false}
+use Rattle.std.proofs.Common.{◌≡◌, ℕ, ◌<◌, Bool, true, false, cond, ◌==◌, List, [], ◌∷◌, ◌++◌, Option, Some, None, refl}
+use Rattle.std.proofs.Common.{sym, ◌∙◌, ap, subst, inl, inr, true≢false}
 use Rattle.std.proofs.lemmas.Bool.{eqb-true}
 use Rattle.bbm_descriptor.specs.Descriptor.{is_valid}
 use Rattle.bbm_events.specs.Heading.{Heading}
@@ -14,10 +15,10 @@ use Rattle.bbm_rules.specs.Places.{page_of}
 use Rattle.bbm_rules.specs.PatternSentences.{IsLastValid}
 use Rattle.bbm_rules.specs.Tree.{Node, held_at}
 use Rattle.bbm_rules.specs.Values.{value_of}
-use Rattle.bbm_histories.specs.Below.{Below}
-use Rattle.bbm_histories.specs.Steps.{seen_after}
-use Rattle.bbm_histories.specs.Tree.{Attaches}
-use Rattle.bbm_histories.specs.Values.{HoldsPresent}
+use Rattle.bbm_histories.specs.BelowHistories.{Below}
+use Rattle.bbm_histories.specs.HistorySteps.{seen_after}
+use Rattle.bbm_histories.specs.TreeChanges.{Attaches}
+use Rattle.bbm_histories.specs.ValueChanges.{HoldsPresent}
 use Rattle.bbm_histories.proofs.FreshLemmas.{content, held_is_present}
 use Rattle.bbm_histories.proofs.HeldSteps.{held_back, held_valid}
 use Rattle.bbm_histories.proofs.Invariants.{Invariants}

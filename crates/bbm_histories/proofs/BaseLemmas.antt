@@ -1,5 +1,6 @@
 -- What the bases of readable register values are.
-use Rattle.std.proofs.Common.{◌≡◌, ℕ, ◌<◌, ◌⊎◌, Bool, true, false, not, ◌||◌, ◌==◌, List, [], ◌∷◌, Option, Some, refl, sym, ◌∙◌, ap, subst, inl, inr, true≢false}
+use Rattle.std.proofs.Common.{◌≡◌, ℕ, ◌<◌, ◌⊎◌, Bool, true, false, not, ◌||◌, ◌==◌, List, [], ◌∷◌, Option, Some, refl}
+use Rattle.std.proofs.Common.{sym, ◌∙◌, ap, subst, inl, inr, true≢false}
 use Rattle.bbm_events.specs.Heading.{Heading}
 use Rattle.bbm_rules.specs.Prelude.{Kind, Reg, Event, Root, Unroot, Null}
 use Rattle.bbm_rules.specs.declared.rule.Rule.TheVariants.{PageInUse}
@@ -9,23 +10,16 @@ use Rattle.bbm_rules.specs.Covers.{noted}
 use Rattle.bbm_rules.specs.Lists.{among}
 use Rattle.bbm_rules.specs.Notes.{events_of}
 use Rattle.bbm_rules.specs.Pages.{is_fresh, is_null}
-use Rattle.bbm_rules.specs.Registers.{base_of, kind_of_reg, register_values}
+use Rattle.bbm_rules.specs.RegisterValues.{base_of, kind_of_reg, register_values}
 use Rattle.bbm_rules.specs.Roots.{is_root}
-use Rattle.bbm_histories.specs.Below.{Below}
-use Rattle.bbm_histories.specs.Tags.{BasesStay, NamesRoots}
-use Rattle.bbm_histories.specs.Tree.{Proper}
+use Rattle.bbm_histories.specs.BelowHistories.{Below}
+use Rattle.bbm_histories.specs.TagSteps.{BasesStay, NamesRoots}
+use Rattle.bbm_histories.specs.TreeChanges.{Proper}
 use Rattle.bbm_histories.proofs.Induction.{Unbroken, if_none, last_kept}
-use Rattle.bbm_histories.proofs.TagLemmas.{Named, named, noted_too, null_not_fresh, planted_fresh, root_back, root_not_fresh, root_on, unroot_misses}
-use Rattle.std.proofs.lemmas.Bool.{eqb-true, not-false, or_cases}
-
--- a test that isn't true
-not_true : (b : Bool) → (b ≡ true → ⊥) → b ≡ false
-not_true true apart = absurd (apart refl)
-not_true false apart = refl
-
-first_false : (a c : Bool) → (a || c) ≡ false → a ≡ false
-first_false true c e = absurd (true≢false e)
-first_false false c e = refl
+use Rattle.bbm_histories.proofs.TagLemmas.{Named, named, noted_too, null_not_fresh, planted_fresh, root_back}
+use Rattle.bbm_histories.proofs.TagLemmas.{root_not_fresh, root_on, unroot_misses}
+use Rattle.std.proofs.lemmas.Bool.{eqb-true, not-false, or_cases, false_from_ne_true}
+use Rattle.bbm_lemmas.proofs.Bools.{first_none}
 
 module _ (heading : Heading) (trust : Trust) (b : Below heading trust) where
   pub names_roots : Proper heading → (h : List Event) → keeps heading trust h ≡ true → NamesRoots heading h
@@ -35,7 +29,7 @@ module _ (heading : Heading) (trust : Trust) (b : Below heading trust) where
   -- no declared root is a page that a `root` may name
   pub new_root : Proper heading → (h : List Event) (pe page : ℕ) (kind other : Kind) (lock : Option ℕ)
       → keeps heading trust (Root pe kind lock page ∷ h) ≡ true → is_root h other page ≡ false
-  new_root proper h pe page kind other lock kept = not_true (is_root h other page) (λ k.
+  new_root proper h pe page kind other lock kept = false_from_ne_true (is_root h other page) (λ k.
       let parts = last_kept heading trust b h (Root pe kind lock page) kept in
       let r = b.root_of_kind h other page k in
       root_not_fresh heading trust b proper h r.0 parts.0 r.1
@@ -62,7 +56,7 @@ module _ (heading : Heading) (trust : Trust) (b : Below heading trust) where
       root_not_fresh heading trust b proper h r.0 parts.0 r.1
       (subst (λ (x : ℕ). is_fresh heading trust (noted heading trust h) x ≡ true) (sym r.2)
       (not-false (is_fresh heading trust (noted heading trust h) page)
-      (first_false (not (is_fresh heading trust (noted heading trust h) page)) _
+      (first_none (not (is_fresh heading trust (noted heading trust h) page)) _
       (if_none _ page (parts.1 PageInUse)))))
 
   no_null_root : Proper heading → (h : List Event) → keeps heading trust h ≡ true → (kind : Kind) (page : ℕ)
@@ -76,12 +70,12 @@ module _ (heading : Heading) (trust : Trust) (b : Below heading trust) where
       ]
   no_null_root proper (e ∷ h) kept kind page null root =
       null_on proper h e kind page kept
-      (λ before. not_true (is_root h kind page) (no_null_root proper h (last_kept heading trust b h e kept).0 kind page before))
+      (λ before. false_from_ne_true (is_root h kind page) (no_null_root proper h (last_kept heading trust b h e kept).0 kind page before))
       null root
 
   pub null_root : Proper heading → (h : List Event) → keeps heading trust h ≡ true → (kind : Kind) (page : ℕ)
       → is_null h page ≡ true → is_root h kind page ≡ false
-  null_root proper h kept kind page null = not_true (is_root h kind page) (no_null_root proper h kept kind page null)
+  null_root proper h kept kind page null = false_from_ne_true (is_root h kind page) (no_null_root proper h kept kind page null)
 
   -- what the base of a readable value is stays
   stays : Proper heading → (h : List Event) (e : Event) → keeps heading trust (e ∷ h) ≡ true → (p value base : ℕ) (reg : Reg) → p < heading.pes
@@ -93,7 +87,7 @@ module _ (heading : Heading) (trust : Trust) (b : Below heading trust) where
         | inl root ↦ root_on heading trust b proper h e (kind_of_reg reg) base parts.0 parts.1
             (unroot_misses heading trust b h e p reg value base parts.1 is_pe readable names) root ∙ sym root
         | inr null ↦
-            not_true (is_root (e ∷ h) (kind_of_reg reg) base)
+            false_from_ne_true (is_root (e ∷ h) (kind_of_reg reg) base)
             (null_on proper h e (kind_of_reg reg) base kept (null_root proper h parts.0 (kind_of_reg reg) base) null)
             ∙ sym (null_root proper h parts.0 (kind_of_reg reg) base null)
       ]

@@ -1,5 +1,6 @@
 -- Whether a table is childless after an event.
-use Rattle.std.proofs.Common.{◌≡◌, ℕ, suc, ◌<◌, ◌&&◌, Bool, true, false, cond, ◌==◌, List, ◌∷◌, Option, Some, None, is_some, refl, sym, ◌∙◌, ap, inl, inr, true≢false}
+use Rattle.std.proofs.Common.{◌≡◌, ℕ, suc, ◌<◌, ◌&&◌, Bool, true, false, cond, ◌==◌, List, ◌∷◌, Option, Some, None}
+use Rattle.std.proofs.Common.{is_some, refl, sym, ◌∙◌, ap, inl, inr, true≢false}
 use Rattle.std.proofs.lemmas.Bool.{eq-eqb, eqb-true}
 use Rattle.bbm_descriptor.specs.Descriptor.{is_valid}
 use Rattle.bbm_events.specs.Heading.{Heading}
@@ -10,8 +11,8 @@ use Rattle.bbm_rules.specs.Notes.{Noted}
 use Rattle.bbm_rules.specs.Places.{page_of}
 use Rattle.bbm_rules.specs.Tree.{Node, is_childless, next_of}
 use Rattle.bbm_rules.specs.TreeSentences.{Childless}
-use Rattle.bbm_histories.specs.Below.{Below}
-use Rattle.bbm_histories.specs.Steps.{held_after}
+use Rattle.bbm_histories.specs.BelowHistories.{Below}
+use Rattle.bbm_histories.specs.HistorySteps.{held_after}
 use Rattle.bbm_histories.specs.TreeSteps.{EndsAll, HoldsNone, childless_after}
 use Rattle.bbm_histories.proofs.HeldSteps.{IsDsb, held_after_dsb}
 use Rattle.bbm_histories.proofs.StepLemmas.{held_step}

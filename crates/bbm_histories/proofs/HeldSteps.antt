@@ -1,5 +1,6 @@
 -- What one more event does to what a place holds.
-use Rattle.std.proofs.Common.{◌≡◌, ℕ, ◌<◌, ◌⊎◌, ◌||◌, Bool, true, false, cond, ◌==◌, List, [], ◌∷◌, ◌++◌, Option, Some, None, option_and_then, refl, sym, ◌∙◌, ap, subst, inl, inr, true≢false}
+use Rattle.std.proofs.Common.{◌≡◌, ℕ, ◌<◌, ◌⊎◌, ◌||◌, Bool, true, false, cond, ◌==◌, List, [], ◌∷◌, ◌++◌, Option, Some}
+use Rattle.std.proofs.Common.{None, option_and_then, refl, sym, ◌∙◌, ap, subst, inl, inr, true≢false}
 use Rattle.std.proofs.lemmas.Bool.{eq-eqb, eqb-true, or_parts}
 use Rattle.bbm_barriers.specs.declared.Dsb.{Dsb as Barrier}
 use Rattle.bbm_regimes.specs.declared.regime.Kind.{Kind}
@@ -18,8 +19,8 @@ use Rattle.bbm_rules.specs.PatternSentences.{Cleansed, Holds}
 use Rattle.bbm_rules.specs.Places.{page_of}
 use Rattle.bbm_rules.specs.Tree.{Node, held_at, in_tree, node_of}
 use Rattle.bbm_rules.specs.Values.{value_of}
-use Rattle.bbm_histories.specs.Below.{Below}
-use Rattle.bbm_histories.specs.Tree.{HeldChange}
+use Rattle.bbm_histories.specs.BelowHistories.{Below}
+use Rattle.bbm_histories.specs.TreeChanges.{HeldChange}
 use Rattle.bbm_histories.proofs.Induction.{Unbroken, if_none}
 use Rattle.bbm_histories.proofs.PatternLemmas.{cleansed_stays, one_begins, two_begin}
 

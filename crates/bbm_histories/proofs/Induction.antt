@@ -9,7 +9,7 @@ use Rattle.bbm_rules.specs.Claims.{Trust}
 use Rattle.bbm_rules.specs.Covers.{note, noted}
 use Rattle.bbm_rules.specs.Lists.{if_so}
 use Rattle.bbm_rules.specs.Notes.{Noted, events_of}
-use Rattle.bbm_histories.specs.Below.{Below}
+use Rattle.bbm_histories.specs.BelowHistories.{Below}
 
 pub if_none : (b : Bool) (n : ℕ) → if_so b n ≡ None → b ≡ false
 if_none true n e = cc

@@ -8,9 +8,9 @@ use Rattle.bbm_rules.specs.Covers.{noted}
 use Rattle.bbm_rules.specs.Notes.{Noted}
 use Rattle.bbm_rules.specs.Tree.{Node}
 use Rattle.bbm_rules.specs.TreeSentences.{IsNode}
-use Rattle.bbm_histories.specs.Below.{Below}
-use Rattle.bbm_histories.specs.Tree.{InTree}
-use Rattle.bbm_histories.specs.Values.{OddStays}
+use Rattle.bbm_histories.specs.BelowHistories.{Below}
+use Rattle.bbm_histories.specs.TreeChanges.{InTree}
+use Rattle.bbm_histories.specs.ValueChanges.{OddStays}
 use Rattle.bbm_histories.proofs.FreshLemmas.{odd_step}
 use Rattle.bbm_histories.proofs.Induction.{throughout}
 use Rattle.bbm_histories.proofs.TreeSteps.{OneNode, one_step}

@@ -1,5 +1,6 @@
 -- No place of a tree of the lower range holds a leaf for every ASID.
-use Rattle.std.proofs.Common.{◌≡◌, ℕ, suc, ◌+◌, ◌<◌, true, false, List, [], ◌∷◌, length, Some, refl, sym, ◌∙◌, ap, subst, inl, inr, arith, suc-le-suc, zero-le}
+use Rattle.std.proofs.Common.{◌≡◌, ℕ, suc, ◌+◌, ◌<◌, true, false, List, [], ◌∷◌, length, Some, refl, sym, ◌∙◌, ap}
+use Rattle.std.proofs.Common.{subst, inl, inr, arith, suc-le-suc, zero-le}
 use Rattle.bbm_regimes.specs.declared.regime.Kind.{Kind}
 use Rattle.bbm_regimes.specs.declared.regime.Kind.TheVariants.{Ttbr0}
 use Rattle.bbm_descriptor.specs.Descriptor.{desc_of}
@@ -18,13 +19,14 @@ use Rattle.bbm_rules.specs.Roots.{root_pages, start_of}
 use Rattle.bbm_rules.specs.Tree.{Node, node_below}
 use Rattle.bbm_rules.specs.TreeSentences.{IsNode, Leads}
 use Rattle.bbm_rules.specs.Values.{value_of}
-use Rattle.bbm_histories.specs.Below.{Below}
-use Rattle.bbm_histories.specs.Tree.{Attaches, InTree, NoGlobalLeaf}
+use Rattle.bbm_histories.specs.BelowHistories.{Below}
+use Rattle.bbm_histories.specs.TreeChanges.{Attaches, InTree, NoGlobalLeaf}
 use Rattle.bbm_histories.proofs.FreshLemmas.{content, held_is_present}
 use Rattle.bbm_histories.proofs.HeldSteps.{held_back}
 use Rattle.bbm_histories.proofs.Induction.{Unbroken, throughout}
 use Rattle.bbm_histories.proofs.Invariants.{Invariants, invariants, none_at_start}
-use Rattle.bbm_histories.proofs.TreeSteps.{added, attached_fresh, node_is, not_fresh_there, start_leads, through_kind, through_leads, through_level, write_attaches}
+use Rattle.bbm_histories.proofs.TreeSteps.{added, attached_fresh, node_is, not_fresh_there, start_leads, through_kind}
+use Rattle.bbm_histories.proofs.TreeSteps.{through_leads, through_level, write_attaches}
 
 module _ (heading : Heading) (trust : Trust) (b : Below heading trust) (h : List Noted) (i : Invariants heading trust h) where
   -- a value of an attached page of the lower range

@@ -1,5 +1,6 @@
 -- Between two writes under one lock by different PEs the lock changes hands.
-use Rattle.std.proofs.Common.{◌≡◌, ◌≢◌, ℕ, Bool, true, false, cond, not, ◌⊎◌, ◌&&◌, ◌==◌, List, [], ◌∷◌, ◌++◌, Option, Some, None, refl, sym, ◌∙◌, ap, subst, inl, inr, true≢false}
+use Rattle.std.proofs.Common.{◌≡◌, ◌≢◌, ℕ, Bool, true, false, cond, not, ◌⊎◌, ◌&&◌, ◌==◌, List, [], ◌∷◌, ◌++◌, Option}
+use Rattle.std.proofs.Common.{Some, None, refl, sym, ◌∙◌, ap, subst, inl, inr, true≢false}
 use Rattle.std.proofs.lemmas.Bool.{and_parts, eqb-true}
 use Rattle.bbm_events.specs.Heading.{Heading}
 use Rattle.bbm_rules.specs.Prelude.{Event, Lock, Unlock, Write}
@@ -13,8 +14,8 @@ use Rattle.bbm_rules.specs.Places.{page_of}
 use Rattle.bbm_rules.specs.Roots.{lock_of}
 use Rattle.bbm_rules.specs.Rules.{lacks}
 use Rattle.bbm_rules.specs.Tree.{Node, node_of}
-use Rattle.bbm_histories.specs.Below.{Below}
-use Rattle.bbm_histories.specs.Locks.{HandsOver, lock_at}
+use Rattle.bbm_histories.specs.BelowHistories.{Below}
+use Rattle.bbm_histories.specs.LockChanges.{HandsOver, lock_at}
 use Rattle.bbm_histories.proofs.Induction.{Unbroken, if_none, kept_before, last_kept}
 
 is_that_pe : (o : Option ℕ) (p : ℕ) → not (is_that o p) ≡ false → o ≡ Some p

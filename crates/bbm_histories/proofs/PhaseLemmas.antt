@@ -1,5 +1,6 @@
 -- The phase of a place by its node, what it holds, its value, and what is cleansed, half and seen.
-use Rattle.std.proofs.Common.{◌≡◌, ℕ, Bool, true, false, cond, List, Option, Some, None, option_and_then, unwrap_or, refl, sym, ◌∙◌, ap}
+use Rattle.std.proofs.Common.{◌≡◌, ℕ, Bool, true, false, cond, List, Option, Some, None, option_and_then, unwrap_or}
+use Rattle.std.proofs.Common.{refl, sym, ◌∙◌, ap}
 use Rattle.bbm_descriptor.specs.Descriptor.{is_valid}
 use Rattle.bbm_events.specs.Heading.{Heading}
 use Rattle.bbm_rules.specs.Prelude.{Event}

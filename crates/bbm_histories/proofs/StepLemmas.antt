@@ -1,5 +1,7 @@
 -- The step equations of the definitions that search.
-use Rattle.std.proofs.Common.{◌≡◌, ℕ, ◌<◌, ◌≤◌, ◌&&◌, ◌||◌, not, Bool, true, false, cond, ◌==◌, nat_le, List, [], ◌∷◌, length, Option, Some, None, filter, option_and_then, refl, sym, ◌∙◌, ap, subst, true≢false, arith}
+use Rattle.std.proofs.Common.{◌≡◌, ℕ, ◌<◌, ◌≤◌, ◌&&◌, ◌||◌, not, Bool, true, false, cond, ◌==◌, nat_le, List, [], ◌∷◌}
+use Rattle.std.proofs.Common.{length, Option, Some, None, filter, option_and_then, refl, sym, ◌∙◌, ap, subst}
+use Rattle.std.proofs.Common.{true≢false, arith}
 use Rattle.std.proofs.Math.Bool.{and-false, and-true, and_assoc, and_comm, or-false}
 use Rattle.std.proofs.lemmas.Bool.{eq-eqb, le-leb, leb-true}
 use Rattle.bbm_barriers.specs.Options.{answers}
@@ -12,7 +14,8 @@ use Rattle.bbm_events.specs.Heading.{Heading}
 use Rattle.bbm_rules.specs.Prelude.{Barrier, Event, Init, Write, Dsb, Tlbi}
 use Rattle.bbm_rules.specs.Claims.{Trust}
 use Rattle.bbm_rules.specs.Claims.Trust.{Patterns}
-use Rattle.bbm_rules.specs.Cleansing.{answered_where, answers_one, cleansed, flushes, full_step, half, publishes_write, second_step, seen}
+use Rattle.bbm_rules.specs.Cleansing.{answered_where, answers_one, cleansed, flushes, full_step, half, publishes_write}
+use Rattle.bbm_rules.specs.Cleansing.{second_step, seen}
 use Rattle.bbm_rules.specs.Held.{ValidWrite, cleansed_everywhere, held, last_valid, last_valid_after, later}
 use Rattle.bbm_rules.specs.Lists.{any}
 use Rattle.bbm_rules.specs.Notes.{Noted, event_of, events_of}
@@ -20,10 +23,12 @@ use Rattle.bbm_rules.specs.Places.{page_of}
 use Rattle.bbm_rules.specs.Reach.{Issued, completes, left_open, reaches, still_open, unanswered}
 use Rattle.bbm_rules.specs.Tags.{itself, loses, read_since, reads_for_some, takes_tag}
 use Rattle.bbm_rules.specs.Values.{publishes_to, value_of}
-use Rattle.bbm_histories.specs.Below.{Below}
+use Rattle.bbm_histories.specs.BelowHistories.{Below}
 use Rattle.bbm_histories.specs.ClaimSteps.{cleansed_under}
-use Rattle.bbm_histories.specs.Steps.{answered_by, cleansed_after, half_after, held_after, is_tlbi, seen_after, tag_waits, tag_waits_after, takes, waits, waits_after, wrote}
+use Rattle.bbm_histories.specs.HistorySteps.{answered_by, cleansed_after, half_after, held_after, is_tlbi, seen_after}
+use Rattle.bbm_histories.specs.HistorySteps.{tag_waits, tag_waits_after, takes, waits, waits_after, wrote}
 use Rattle.bbm_histories.proofs.HeldSteps.{held_same}
+use Rattle.bbm_lemmas.proofs.Bools.{or_middle}
 
 -- ---- tests
 
@@ -48,13 +53,6 @@ any_never (x ∷ xs) = any_never xs
 pub any_both : {A : Type 0} (f : A → Bool) (c : Bool) (xs : List A) → any (λ x. f x && c) xs ≡ (any f xs && c)
 any_both f true xs = same_test (λ x. f x && true) f xs (λ x. and-true (f x)) ∙ sym (and-true (any f xs))
 any_both f false xs = same_test (λ x. f x && false) (λ x. false) xs (λ x. and-false (f x)) ∙ (any_never xs ∙ sym (and-false (any f xs)))
-
-pub or_middle : (a b c d : Bool) → ((a || b) || (c || d)) ≡ ((a || c) || (b || d))
-or_middle true b c d = refl
-or_middle false true true d = refl
-or_middle false true false d = refl
-or_middle false false true d = refl
-or_middle false false false d = refl
 
 pub any_or : {A : Type 0} (f g : A → Bool) (xs : List A) → any (λ x. f x || g x) xs ≡ (any f xs || any g xs)
 any_or f g [] = refl

@@ -11,7 +11,7 @@ use Rattle.bbm_rules.specs.Lists.{any}
 use Rattle.bbm_rules.specs.Reach.{Issued, unanswered}
 use Rattle.bbm_rules.specs.Tags.{itself, loses, reads_for_some}
 use Rattle.bbm_histories.specs.ClaimSteps.{completes_taken, tag_waits_at, tag_waits_at_after}
-use Rattle.bbm_histories.specs.Steps.{answered_by}
+use Rattle.bbm_histories.specs.HistorySteps.{answered_by}
 use Rattle.bbm_histories.proofs.Searches.{Search, apart_from, each_test, search_any, search_at, search_where}
 use Rattle.bbm_histories.proofs.StepLemmas.{any_both, is_taken, lost_of, same_test, waits_of_after, waits_of_step}
 

@@ -1,9 +1,13 @@
 -- When tags are readable, and which root holds them.
-use Rattle.std.proofs.Common.{◌≡◌, ℕ, zero, suc, ◌<◌, ◌⊎◌, ◌&&◌, ◌||◌, not, Bool, true, false, cond, ◌==◌, List, [], ◌∷◌, ◌++◌, Option, Some, None, option_and_then, take, Contains, refl, sym, ◌∙◌, ap, subst, inl, inr, true≢false, arith}
+use Rattle.std.proofs.Common.{◌≡◌, ℕ, zero, suc, ◌<◌, ◌⊎◌, ◌&&◌, ◌||◌, not, Bool, true, false, cond, ◌==◌, List, []}
+use Rattle.std.proofs.Common.{◌∷◌, ◌++◌, Option, Some, None, option_and_then, take, Contains, refl, sym, ◌∙◌, ap, subst}
+use Rattle.std.proofs.Common.{inl, inr, true≢false, arith}
 use Rattle.std.proofs.lemmas.List.{append_assoc}
 use Rattle.std.proofs.lemmas.Bool.{and_parts, eq-eqb, eqb-true, not-false, or_cases, or_left, or_right}
 use Rattle.bbm_events.specs.Heading.{Heading}
-use Rattle.bbm_rules.specs.Prelude.{AsidFrom, FromTtbr0, FromTtbr1, Kind, Reg, Ttbr0El2, VttbrEl2, Ttbr0El1, Ttbr1El1, Tag, El2Tag, Vmid, Asid, Ttbr1Tag, World, Hyp, Kernel, Event, Init, Null, Root, Unroot, Dsb, Isb, Msr}
+use Rattle.bbm_rules.specs.Prelude.{AsidFrom, FromTtbr0, FromTtbr1, Kind, Reg, Ttbr0El2, VttbrEl2, Ttbr0El1, Ttbr1El1}
+use Rattle.bbm_rules.specs.Prelude.{Tag, El2Tag, Vmid, Asid, Ttbr1Tag, World, Hyp, Kernel, Event, Init, Null, Root}
+use Rattle.bbm_rules.specs.Prelude.{Unroot, Dsb, Isb, Msr}
 use Rattle.bbm_rules.specs.declared.rule.Rule.TheVariants.{NoRoot, PageInUse, RootInUse, TagConflict, WrongWorld}
 use Rattle.bbm_rules.specs.Broken.{keeps}
 use Rattle.bbm_rules.specs.Claims.{Trust}
@@ -12,15 +16,15 @@ use Rattle.bbm_rules.specs.Lists.{among, if_so, some_pe}
 use Rattle.bbm_rules.specs.Notes.{Noted, events_of}
 use Rattle.bbm_rules.specs.Pages.{is_fresh, is_null, may_be_fresh}
 use Rattle.bbm_rules.specs.Reach.{Issued}
-use Rattle.bbm_rules.specs.Registers.{base_of, kind_of_reg, register_values, same_reg}
+use Rattle.bbm_rules.specs.RegisterValues.{base_of, kind_of_reg, register_values, same_reg}
 use Rattle.bbm_rules.specs.Roots.{Declared, is_root, kind_in_world, roots_of}
 use Rattle.bbm_rules.specs.Sentences.{IsDeclared, TakenAway}
 use Rattle.bbm_rules.specs.TagSentences.{GivesAsid, Names, ReadsTag}
 use Rattle.bbm_rules.specs.Tags.{holds_at, holds_tag, loses, reads}
 use Rattle.bbm_rules.specs.Tree.{in_tree}
-use Rattle.bbm_histories.specs.Below.{Below}
-use Rattle.bbm_histories.specs.Tags.{BecomesReadable, HeldBetween, StopsToBeReadable, kind_of_tag}
-use Rattle.bbm_histories.specs.Tree.{Proper}
+use Rattle.bbm_histories.specs.BelowHistories.{Below}
+use Rattle.bbm_histories.specs.TagSteps.{BecomesReadable, HeldBetween, StopsToBeReadable, kind_of_tag}
+use Rattle.bbm_histories.specs.TreeChanges.{Proper}
 use Rattle.bbm_histories.proofs.HeldSteps.{init_outside}
 use Rattle.bbm_histories.proofs.Induction.{Unbroken, if_none, last_kept, throughout}
 use Rattle.bbm_histories.proofs.PatternLemmas.{later_split}

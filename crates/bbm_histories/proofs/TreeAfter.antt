@@ -1,5 +1,7 @@
 -- The trees after an event, exactly.
-use Rattle.std.proofs.Common.{◌≡◌, ℕ, zero, suc, ◌<◌, ◌⊎◌, not, Bool, true, false, cond, ◌==◌, List, [], ◌∷◌, length, Option, Some, None, is_some, Contains, slice_index_or, refl, sym, ◌∙◌, ap, subst, inl, inr, arith, true≢false, not-suc-le-zero, le_of_suc-le-suc, suc-le-suc, zero-le}
+use Rattle.std.proofs.Common.{◌≡◌, ℕ, zero, suc, ◌<◌, ◌⊎◌, not, Bool, true, false, cond, ◌==◌, List, [], ◌∷◌, length}
+use Rattle.std.proofs.Common.{Option, Some, None, is_some, Contains, slice_index_or, refl, sym, ◌∙◌, ap, subst, inl}
+use Rattle.std.proofs.Common.{inr, arith, true≢false, not-suc-le-zero, le_of_suc-le-suc, suc-le-suc, zero-le}
 use Rattle.std.proofs.lemmas.Bool.{eq-eqb, eqb-true, not-false}
 use Rattle.bbm_regimes.specs.declared.regime.Kind.{Kind}
 use Rattle.bbm_descriptor.specs.Descriptor.{is_valid}
@@ -17,29 +19,19 @@ use Rattle.bbm_rules.specs.Roots.{Declared, kind_in_world, roots_of, start_of}
 use Rattle.bbm_rules.specs.Tree.{Above, Node, held_at, in_tree, next_of, node_below, node_of}
 use Rattle.bbm_rules.specs.TreeSentences.{Down, IsNode}
 use Rattle.bbm_rules.specs.Values.{value_of}
-use Rattle.bbm_histories.specs.Below.{Below}
-use Rattle.bbm_histories.specs.Tree.{Attaches, InTree, InTreeAfter, InTreeAfterDsb, Linked, Planted, Proper, StillHeld, Through}
+use Rattle.bbm_histories.specs.BelowHistories.{Below}
+use Rattle.bbm_histories.specs.TreeChanges.{Attaches, InTree, InTreeAfter, InTreeAfterDsb, Linked, Planted, Proper}
+use Rattle.bbm_histories.specs.TreeChanges.{StillHeld, Through}
 use Rattle.bbm_histories.proofs.CoreLemmas.{table_is_valid, table_on}
 use Rattle.bbm_histories.proofs.HeldSteps.{IsDsb, held_after_dsb, held_change}
 use Rattle.bbm_histories.proofs.Induction.{Unbroken, if_none}
 use Rattle.bbm_histories.proofs.Invariants.{Invariants}
 use Rattle.bbm_histories.proofs.RootLemmas.{declared_on}
-use Rattle.bbm_histories.proofs.TreeSteps.{Link, added, is_tracked, link_in_tree, node_is, not_fresh_there, roots_after_unroot, start_below, start_in_tree}
+use Rattle.bbm_histories.proofs.TreeSteps.{Link, added, is_tracked, link_in_tree, node_is, not_fresh_there}
+use Rattle.bbm_histories.proofs.TreeSteps.{roots_after_unroot, start_below, start_in_tree}
+use Rattle.bbm_lemmas.proofs.Elements.{contains_head, contains_more, contains_cases}
 
 -- ---- elements
-
-pub contains_head : {X : Type 0} (xs : List X) (x : X) → Contains (x ∷ xs) x
-contains_head xs x = (0, suc-le-suc zero-le, refl)
-
-pub contains_more : {X : Type 0} (xs : List X) (y x : X) → Contains xs x → Contains (y ∷ xs) x
-contains_more xs y x c = (suc c.0, suc-le-suc c.1, c.2)
-
-pub contains_cases : {X : Type 0} (xs : List X) (y x : X) → Contains (y ∷ xs) x → (y ≡ x) ⊎ Contains xs x
-contains_cases {X} xs y x c = by c.0 c.1 c.2
-  where
-    by : (k : ℕ) → k < length (y ∷ xs) → slice_index_or (y ∷ xs) k x ≡ x → (y ≡ x) ⊎ Contains xs x
-    by zero below e = inl e
-    by (suc k) below e = inr (k, le_of_suc-le-suc below, e)
 
 -- ---- what a path keeps
 

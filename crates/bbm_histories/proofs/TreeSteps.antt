@@ -1,5 +1,6 @@
 -- What one more event adds to the trees.
-use Rattle.std.proofs.Common.{◌≡◌, ℕ, suc, ◌+◌, ◌<◌, ◌⊎◌, true, List, [], ◌∷◌, length, Option, Some, None, is_some, Contains, refl, sym, ◌∙◌, ap, subst, inl, inr, arith, true≢false, suc-le-suc, zero-le}
+use Rattle.std.proofs.Common.{◌≡◌, ℕ, suc, ◌+◌, ◌<◌, ◌⊎◌, true, List, [], ◌∷◌, length, Option, Some, None, is_some}
+use Rattle.std.proofs.Common.{Contains, refl, sym, ◌∙◌, ap, subst, inl, inr, arith, true≢false, suc-le-suc, zero-le}
 use Rattle.bbm_regimes.specs.declared.regime.Kind.{Kind}
 use Rattle.bbm_events.specs.Heading.{Heading}
 use Rattle.bbm_events.specs.declared.event.Event.{Event}
@@ -16,9 +17,9 @@ use Rattle.bbm_rules.specs.Sentences.{IsDeclared}
 use Rattle.bbm_rules.specs.Tree.{Node, held_at, in_tree, next_of, node_below, node_of, nodes_of_root}
 use Rattle.bbm_rules.specs.TreeSentences.{Down, IsNode, Leads}
 use Rattle.bbm_rules.specs.Values.{value_of}
-use Rattle.bbm_histories.specs.Below.{Below}
-use Rattle.bbm_histories.specs.Tree.{Attaches, InTree, Linked, Planted, Through}
-use Rattle.bbm_histories.specs.Values.{OddStays}
+use Rattle.bbm_histories.specs.BelowHistories.{Below}
+use Rattle.bbm_histories.specs.TreeChanges.{Attaches, InTree, Linked, Planted, Through}
+use Rattle.bbm_histories.specs.ValueChanges.{OddStays}
 use Rattle.bbm_histories.proofs.CoreLemmas.{table_back}
 use Rattle.bbm_histories.proofs.FreshLemmas.{content, fresh_is_outside, held_is_present}
 use Rattle.bbm_histories.proofs.HeldSteps.{held_back, held_valid, same_core}

@@ -1,5 +1,6 @@
 -- Under `cnp` all PEs are alike.
-use Rattle.std.proofs.Common.{◌≡◌, ℕ, ◌<◌, Bool, true, false, ◌&&◌, ◌||◌, not, ◌==◌, nat_lt, List, refl, sym, ◌∙◌, ap, true≢false}
+use Rattle.std.proofs.Common.{◌≡◌, ℕ, ◌<◌, Bool, true, false, ◌&&◌, ◌||◌, not, ◌==◌, nat_lt, List, refl, sym, ◌∙◌, ap}
+use Rattle.std.proofs.Common.{true≢false}
 use Rattle.std.proofs.lemmas.Bool.{and_from, and_parts, lt-ltb}
 use Rattle.bbm_barriers.specs.declared.Dsb.{Dsb as Barrier}
 use Rattle.bbm_barriers.specs.declared.Domain.{Domain}
@@ -21,7 +22,8 @@ use Rattle.bbm_rules.specs.Reach.{Issued, reaches}
 use Rattle.bbm_rules.specs.Sentences.{Published}
 use Rattle.bbm_barriers.specs.Options.{is_non}
 use Rattle.bbm_rules.specs.Values.{published, publishes_to}
-use Rattle.bbm_histories.specs.Below.{Below}
+use Rattle.bbm_histories.specs.BelowHistories.{Below}
+use Rattle.bbm_lemmas.proofs.Bools.{same_truth}
 
 -- a barrier of another domain than the non-shareable one is heard by each PE where it is by one
 heard : (domain : Domain) (types : Types) (q pes p r : ℕ) → not (is_non domain) ≡ true → nat_lt r pes ≡ true
@@ -93,15 +95,10 @@ module _ (heading : Heading) (cnp : heading.cnp ≡ true) where
       })
 
   -- two tests that follow from each other are the same
-  same_tests : (x y : Bool) → (x ≡ true → y ≡ true) → (y ≡ true → x ≡ true) → x ≡ y
-  same_tests true y there back = sym (there refl)
-  same_tests false true there back = back refl
-  same_tests false false there back = refl
-
   pub seen_alike : (trust : Trust) → Below heading trust → (place p r : ℕ) (since : List Noted) → p < heading.pes → r < heading.pes
       → seen heading place p since ≡ seen heading place r since
   seen_alike trust b place p r since is_pe is_pe' =
-      same_tests (seen heading place p since) (seen heading place r since) (go p r is_pe') (go r p is_pe)
+      same_truth (seen heading place p since) (seen heading place r since) (go p r is_pe') (go r p is_pe)
     where
       go : (p r : ℕ) → r < heading.pes → seen heading place p since ≡ true → seen heading place r since ≡ true
       go p r below s =
@@ -111,7 +108,7 @@ module _ (heading : Heading) (cnp : heading.cnp ≡ true) where
   pub half_test_alike : (trust : Trust) → Below heading trust → (place p r : ℕ) (since : List Noted) → p < heading.pes → r < heading.pes
       → half heading place p since ≡ half heading place r since
   half_test_alike trust b place p r since is_pe is_pe' =
-      same_tests (half heading place p since) (half heading place r since) (go p r is_pe') (go r p is_pe)
+      same_truth (half heading place p since) (half heading place r since) (go p r is_pe') (go r p is_pe)
     where
       go : (p r : ℕ) → r < heading.pes → half heading place p since ≡ true → half heading place r since ≡ true
       go p r below s =

@@ -1,6 +1,7 @@
 -- While the last valid write of a place stays and a PE has seen the place, its node stays and what it holds does, and its
 -- table stays childless.
-use Rattle.std.proofs.Common.{◌≡◌, ℕ, suc, ◌&&◌, ◌⊎◌, Bool, true, false, List, [], ◌∷◌, ◌++◌, Option, Some, None, option_and_then, refl, sym, ◌∙◌, ap, subst, inl, inr, true≢false}
+use Rattle.std.proofs.Common.{◌≡◌, ℕ, suc, ◌&&◌, ◌⊎◌, Bool, true, false, List, [], ◌∷◌, ◌++◌, Option, Some, None}
+use Rattle.std.proofs.Common.{option_and_then, refl, sym, ◌∙◌, ap, subst, inl, inr, true≢false}
 use Rattle.std.proofs.lemmas.List.{append_assoc}
 use Rattle.std.proofs.lemmas.Bool.{and_from}
 use Rattle.bbm_regimes.specs.declared.regime.Kind.{Kind}
@@ -22,15 +23,15 @@ use Rattle.bbm_rules.specs.Places.{page_of}
 use Rattle.bbm_rules.specs.Tree.{Node, held_at, in_limbo, is_childless, node_below, node_of}
 use Rattle.bbm_rules.specs.TreeSentences.{Childless}
 use Rattle.bbm_rules.specs.Values.{value_of}
-use Rattle.bbm_histories.specs.Below.{Below}
-use Rattle.bbm_histories.specs.Tree.{Attaches, HeldBy, InTree, View}
+use Rattle.bbm_histories.specs.BelowHistories.{Below}
+use Rattle.bbm_histories.specs.TreeChanges.{Attaches, HeldBy, InTree, View}
 use Rattle.bbm_histories.proofs.FreshLemmas.{content, holds_last}
 use Rattle.bbm_histories.proofs.HeldSteps.{held_back, held_valid}
 use Rattle.bbm_histories.proofs.Induction.{Unbroken, if_none, last_kept}
 use Rattle.bbm_histories.proofs.Invariants.{Invariants, invariants}
 use Rattle.bbm_histories.proofs.PatternLemmas.{last_one_before, seen_stays, unseen}
-use Rattle.bbm_histories.proofs.TreeAfter.{contains_head}
 use Rattle.bbm_histories.proofs.TreeSteps.{added, attached_fresh, node_is}
+use Rattle.bbm_lemmas.proofs.Elements.{contains_head}
 
 module _ (heading : Heading) (trust : Trust) (b : Below heading trust) where
   -- a place that is seen after its last valid write has an invalid value

@@ -1,5 +1,6 @@
 -- What a PE can still read at a place of a tree has the core of what the place holds.
-use Rattle.std.proofs.Common.{◌≡◌, ℕ, ◌<◌, ◌%◌, ◌⊎◌, Bool, true, false, cond, ◌==◌, List, [], ◌∷◌, ◌++◌, Some, refl, sym, ◌∙◌, ap, subst, inl, inr, true≢false}
+use Rattle.std.proofs.Common.{◌≡◌, ℕ, ◌<◌, ◌%◌, ◌⊎◌, Bool, true, false, cond, ◌==◌, List, [], ◌∷◌, ◌++◌, Some, refl}
+use Rattle.std.proofs.Common.{sym, ◌∙◌, ap, subst, inl, inr, true≢false}
 use Rattle.std.proofs.lemmas.List.{append_assoc}
 use Rattle.std.proofs.lemmas.Bool.{eq-eqb, eqb-true}
 use Rattle.bbm_regimes.specs.declared.regime.Kind.{Kind}
@@ -19,10 +20,10 @@ use Rattle.bbm_rules.specs.Places.{page_of}
 use Rattle.bbm_rules.specs.Sentences.{Readable}
 use Rattle.bbm_rules.specs.Tree.{Node, held_at}
 use Rattle.bbm_rules.specs.Values.{is_readable, published, value_of}
-use Rattle.bbm_histories.specs.Below.{Below}
-use Rattle.bbm_histories.specs.Patterns.{Quiet}
-use Rattle.bbm_histories.specs.Tree.{Attaches, InTree}
-use Rattle.bbm_histories.specs.Values.{MakesReadable, NoInit, OddStays, Window}
+use Rattle.bbm_histories.specs.BelowHistories.{Below}
+use Rattle.bbm_histories.specs.PatternSteps.{Quiet}
+use Rattle.bbm_histories.specs.TreeChanges.{Attaches, InTree}
+use Rattle.bbm_histories.specs.ValueChanges.{MakesReadable, NoInit, OddStays, Window}
 use Rattle.bbm_histories.proofs.CoreLemmas.{core_same}
 use Rattle.bbm_histories.proofs.HeldSteps.{init_outside, same_core}
 use Rattle.bbm_histories.proofs.Induction.{NotesSplit, Unbroken, events_append, notes_split, throughout}

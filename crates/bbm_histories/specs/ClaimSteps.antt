@@ -15,7 +15,7 @@ use Rattle.bbm_rules.specs.Notes.{Noted, event_of}
 use Rattle.bbm_rules.specs.Reach.{Issued, reaches}
 use Rattle.bbm_rules.specs.Tags.{itself, takes_tag}
 use Rattle.bbm_rules.specs.Values.{publishes_to}
-use Rattle.bbm_histories.specs.Steps.{answered_by, is_tlbi, takes, waits, wrote}
+use Rattle.bbm_histories.specs.HistorySteps.{answered_by, is_tlbi, takes, waits, wrote}
 
 module _ (heading : Heading) (place p : ℕ) where
   -- Cleansed after an event of position d: a DSB answers a TLBI that waits and that makes, with d as the last position,

@@ -2,7 +2,7 @@
 
 ghost use Rattle.bbm_events.specs.Heading.{Heading};
 ghost use Rattle.bbm_rules.specs.Claims.{Trust};
-ghost use Rattle.bbm_histories.specs.Below.{Below};
+ghost use Rattle.bbm_histories.specs.BelowHistories.{Below};
 
 use bbm_descriptor::laws::{
     law_core_where_valid, law_no_need_of_equal_cores, law_same_core_is_equal,

@@ -6,7 +6,7 @@ ghost use Rattle.bbm_events.specs.declared.event.Event.{Event};
 ghost use Rattle.bbm_events.specs.declared.event.Event.TheVariants.{Write};
 ghost use Rattle.bbm_rules.specs.Broken.{keeps};
 ghost use Rattle.bbm_rules.specs.Claims.{Trust};
-ghost use Rattle.bbm_histories.specs.Locks.{HandsOver, lock_at};
+ghost use Rattle.bbm_histories.specs.LockChanges.{HandsOver, lock_at};
 
 use crate::below::below;
 

@@ -10,7 +10,7 @@ ghost use Rattle.bbm_rules.specs.Notes.{Noted};
 ghost use Rattle.bbm_rules.specs.PatternSentences.{Cleansed, Flush, HalfBy, OneStep, Publication, TwoSteps};
 ghost use Rattle.bbm_rules.specs.Reach.{Issued, reaches};
 ghost use Rattle.bbm_rules.specs.Values.{published};
-ghost use Rattle.bbm_histories.specs.Patterns.{LastStays};
+ghost use Rattle.bbm_histories.specs.PatternSteps.{LastStays};
 
 use crate::below::below;
 use bbm_rules::law_last_valid;

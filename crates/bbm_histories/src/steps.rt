@@ -14,8 +14,9 @@ ghost use Rattle.bbm_rules.specs.Held.{held};
 ghost use Rattle.bbm_rules.specs.Notes.{Noted, event_of};
 ghost use Rattle.bbm_rules.specs.Reach.{Issued};
 ghost use Rattle.bbm_rules.specs.Tags.{itself, loses, reads_for_some};
-ghost use Rattle.bbm_histories.specs.Steps.{answered_by, cleansed_after, half_after, held_after, seen_after, tag_waits};
-ghost use Rattle.bbm_histories.specs.Steps.{tag_waits_after, waits, waits_after};
+ghost use Rattle.bbm_histories.specs.HistorySteps.{answered_by, cleansed_after, half_after, held_after, seen_after};
+ghost use Rattle.bbm_histories.specs.HistorySteps.{tag_waits};
+ghost use Rattle.bbm_histories.specs.HistorySteps.{tag_waits_after, waits, waits_after};
 
 use crate::below::below;
 

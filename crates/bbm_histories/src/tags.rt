@@ -13,9 +13,9 @@ ghost use Rattle.bbm_rules.specs.Roots.{is_root};
 ghost use Rattle.bbm_rules.specs.Reach.{Issued};
 ghost use Rattle.bbm_rules.specs.Sentences.{TakenAway};
 ghost use Rattle.bbm_rules.specs.Tags.{holds_tag};
-ghost use Rattle.bbm_histories.specs.Tree.{Proper};
-ghost use Rattle.bbm_histories.specs.Tags.{BasesStay, BecomesReadable, HeldBetween, NamesRoots, StopsToBeReadable};
-ghost use Rattle.bbm_histories.specs.Tags.{kind_of_tag};
+ghost use Rattle.bbm_histories.specs.TreeChanges.{Proper};
+ghost use Rattle.bbm_histories.specs.TagSteps.{BasesStay, BecomesReadable, HeldBetween, NamesRoots, StopsToBeReadable};
+ghost use Rattle.bbm_histories.specs.TagSteps.{kind_of_tag};
 
 use crate::below::below;
 

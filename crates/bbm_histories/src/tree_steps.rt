@@ -13,7 +13,7 @@ ghost use Rattle.bbm_rules.specs.Covers.{noted};
 ghost use Rattle.bbm_rules.specs.Lists.{any};
 ghost use Rattle.bbm_rules.specs.Notes.{Noted};
 ghost use Rattle.bbm_rules.specs.Tree.{Above, Node, in_limbo, is_childless, next_of, node_of};
-ghost use Rattle.bbm_histories.specs.Tree.{Attaches, Proper};
+ghost use Rattle.bbm_histories.specs.TreeChanges.{Attaches, Proper};
 ghost use Rattle.bbm_histories.specs.TreeSteps.{EndsAll, HoldsNone, childless_after, holds_above, invalid_after};
 ghost use Rattle.bbm_histories.specs.TreeSteps.{invalid_at, is_under, node_where};
 

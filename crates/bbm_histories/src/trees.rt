@@ -17,9 +17,10 @@ ghost use Rattle.bbm_rules.specs.Pages.{is_fresh, is_null};
 ghost use Rattle.bbm_rules.specs.Places.{page_of};
 ghost use Rattle.bbm_rules.specs.Tree.{Node, held_at, in_tree, node_of, tree};
 ghost use Rattle.bbm_rules.specs.Values.{value_of};
-ghost use Rattle.bbm_histories.specs.Values.{NoInit};
-ghost use Rattle.bbm_histories.specs.Tree.{Attaches, HeldBy, HeldChange, InTreeAfter, InTreeAfterDsb, NoGlobalLeaf};
-ghost use Rattle.bbm_histories.specs.Tree.{Proper, StaysChildless, View};
+ghost use Rattle.bbm_histories.specs.ValueChanges.{NoInit};
+ghost use Rattle.bbm_histories.specs.TreeChanges.{Attaches, HeldBy, HeldChange, InTreeAfter, InTreeAfterDsb};
+ghost use Rattle.bbm_histories.specs.TreeChanges.{NoGlobalLeaf};
+ghost use Rattle.bbm_histories.specs.TreeChanges.{Proper, StaysChildless, View};
 
 use crate::below::below;
 

@@ -11,7 +11,7 @@ ghost use Rattle.bbm_rules.specs.Pages.{is_fresh, may_be_fresh};
 ghost use Rattle.bbm_rules.specs.Roots.{is_root, root_at};
 ghost use Rattle.bbm_rules.specs.Tree.{Node};
 ghost use Rattle.bbm_rules.specs.Values.{readable_before};
-ghost use Rattle.bbm_histories.specs.Tree.{Attaches, Proper};
+ghost use Rattle.bbm_histories.specs.TreeChanges.{Attaches, Proper};
 ghost use Rattle.bbm_histories.specs.ValueSteps.{Written, is_root_after, readable_writes, root_after};
 
 use crate::below::below;

@@ -13,8 +13,8 @@ ghost use Rattle.bbm_rules.specs.Places.{page_of};
 ghost use Rattle.bbm_rules.specs.Reach.{Issued};
 ghost use Rattle.bbm_rules.specs.Tree.{Node, tree};
 ghost use Rattle.bbm_rules.specs.Values.{is_readable, published};
-ghost use Rattle.bbm_histories.specs.Tree.{Attaches};
-ghost use Rattle.bbm_histories.specs.Values.{FreshContent, HoldsPresent, MakesReadable, OddStays, Window};
+ghost use Rattle.bbm_histories.specs.TreeChanges.{Attaches};
+ghost use Rattle.bbm_histories.specs.ValueChanges.{FreshContent, HoldsPresent, MakesReadable, OddStays, Window};
 
 use crate::below::below;
 

@@ -1,7 +1,8 @@
 -- A history is alike to what came before its last event, where that event is idle.
-use Rattle.std.proofs.Common.{◌≡◌, ℕ, Bool, true, false, not, ◌&&◌, ◌||◌, ◌==◌, List, [], ◌∷◌, Option, Some, None, find, is_none, is_some, Contains, refl, sym, ◌∙◌, ap, subst, true≢false}
+use Rattle.std.proofs.Common.{◌≡◌, ℕ, Bool, true, false, not, ◌&&◌, ◌||◌, ◌==◌, List, [], ◌∷◌, Option, Some, None, find}
+use Rattle.std.proofs.Common.{is_none, is_some, Contains, refl, sym, ◌∙◌, ap, subst, true≢false}
 use Rattle.std.proofs.lemmas.Bool.{and_parts, false_from_ne_true, not-true}
-use Rattle.bbm_lists.proofs.Elements.{none_of}
+use Rattle.bbm_lemmas.proofs.Elements.{none_of}
 use Rattle.bbm_rules.specs.Broken.{broken, keeps}
 use Rattle.bbm_rules.specs.Changes.{changes}
 use Rattle.bbm_rules.specs.Claims.{Patterns}
@@ -14,15 +15,16 @@ use Rattle.bbm_rules.specs.Pages.{is_fresh, may_be_fresh}
 use Rattle.bbm_rules.specs.Places.{page_of}
 use Rattle.bbm_rules.specs.Prelude.{Barrier, Heading, Event, Dsb, Dmb, Isb, Tlbi, Reg}
 use Rattle.bbm_rules.specs.Reach.{reaches, unanswered}
-use Rattle.bbm_rules.specs.Registers.{register_values}
+use Rattle.bbm_rules.specs.RegisterValues.{register_values}
 use Rattle.bbm_rules.specs.Roots.{roots_of}
 use Rattle.bbm_rules.specs.Tags.{itself}
 use Rattle.bbm_rules.specs.Tree.{Node, held_at, in_tree, node_of, tree}
 use Rattle.bbm_rules.specs.Values.{written_places}
 use Rattle.bbm_alike.specs.Alike.{Alike, SamePatterns}
 use Rattle.bbm_alike.specs.SameTags.{AnswersNone, SameTags, TakesNone}
-use Rattle.bbm_idle.specs.Idle.{adds, adds_at, answers_needed, is_idle, is_needed, is_needed_at, keeps_phases, takes_of, wrote_register}
-use Rattle.bbm_idle.specs.Known.{Known}
+use Rattle.bbm_idle.specs.Idle.{adds, adds_at, answers_needed, is_idle, is_needed, is_needed_at, keeps_phases, takes_of}
+use Rattle.bbm_idle.specs.Idle.{wrote_register}
+use Rattle.bbm_idle.specs.KnownOfIdle.{Known}
 use Rattle.bbm_idle.proofs.DsbBase.{same_held, same_patterns, same_tree}
 use Rattle.bbm_idle.proofs.FindLists.{one_pe}
 use Rattle.bbm_idle.proofs.Needed.{adds_needed}

@@ -1,11 +1,12 @@
 -- After a DSB that changes no phase and answers no TLBI that was needed, the places of trees hold what they held, with
 -- the same patterns.
-use Rattle.std.proofs.Common.{◌≡◌, ℕ, ◌<◌, Bool, true, false, cond, not, List, [], ◌∷◌, Option, Some, None, option_and_then, is_none, Contains, refl, sym, ◌∙◌, ap, subst, inl, inr}
+use Rattle.std.proofs.Common.{◌≡◌, ℕ, ◌<◌, Bool, true, false, cond, not, List, [], ◌∷◌, Option, Some, None}
+use Rattle.std.proofs.Common.{option_and_then, is_none, Contains, refl, sym, ◌∙◌, ap, subst, inl, inr}
 use Rattle.std.proofs.lemmas.Bool.{and_parts, not-true}
-use Rattle.bbm_lists.specs.Elements.{In}
-use Rattle.bbm_regimes.proofs.Every.{every_at}
+use Rattle.bbm_lemmas.specs.Elements.{In}
+use Rattle.bbm_lemmas.proofs.Every.{every_at}
 use Rattle.bbm_descriptor.specs.Descriptor.{is_valid}
-use Rattle.bbm_regimes.specs.EveryPe.{every_pe}
+use Rattle.bbm_lemmas.specs.EveryPe.{every_pe}
 use Rattle.bbm_rules.specs.declared.phase.Phase.{Phase}
 use Rattle.bbm_rules.specs.declared.phase.Phase.TheVariants.{Clean, Live}
 use Rattle.bbm_rules.specs.Broken.{broken, keeps}
@@ -22,12 +23,12 @@ use Rattle.bbm_rules.specs.Reach.{unanswered}
 use Rattle.bbm_rules.specs.Tags.{itself}
 use Rattle.bbm_rules.specs.Tree.{Node, held_at, node_of, tree}
 use Rattle.bbm_rules.specs.Values.{value_of, written_places}
-use Rattle.bbm_histories.specs.Tree.{HeldChange}
+use Rattle.bbm_histories.specs.TreeChanges.{HeldChange}
 use Rattle.bbm_histories.specs.TreeSteps.{holds_above, node_where}
 use Rattle.bbm_alike.specs.Alike.{SamePatterns}
 use Rattle.bbm_idle.specs.Idle.{answers_needed, is_idle, keeps_phases}
-use Rattle.bbm_idle.specs.Known.{Known}
-use Rattle.bbm_idle.specs.Same.{same_phase}
+use Rattle.bbm_idle.specs.KnownOfIdle.{Known}
+use Rattle.bbm_idle.specs.SamePhase.{same_phase}
 use Rattle.bbm_idle.proofs.Needed.{half_stays}
 use Rattle.bbm_idle.proofs.Phases.{SameMarks, never_clean, same_marks}
 use Rattle.bbm_idle.proofs.Since.{Untouched, Unwritten, untouched, unwritten_on}

@@ -1,40 +1,14 @@
 -- Tests over lists and over PEs.
-use Rattle.std.proofs.Common.{◌≡◌, ℕ, zero, suc, ◌+◌, ◌<◌, Bool, true, false, ◌&&◌, ◌||◌, eqb, List, [], ◌∷◌, length, take, get_or, reverse, refl, sym, ap, ◌∙◌, arith, flat_map, true≢false}
+use Rattle.std.proofs.Common.{◌≡◌, ℕ, zero, suc, ◌+◌, ◌<◌, Bool, true, false, ◌&&◌, ◌||◌, eqb, List, [], ◌∷◌, length}
+use Rattle.std.proofs.Common.{take, get_or, reverse, refl, sym, ap, ◌∙◌, arith, flat_map, true≢false}
 use Rattle.std.specs.List.{list_any, list_all}
 use Rattle.std.proofs.lemmas.Bool.{eqb-true, eqb-false, or_right}
 use Rattle.std.proofs.lemmas.List.{reverse-append, take_more}
 use Rattle.std.proofs.lemmas.List.Folds.{list_any-append, list_all-append, list_all_at}
 use Rattle.bbm_rules.specs.Lists.{some_pe}
+use mathlib.Core.Bool.{and-true, and_comm}
 
 -- ---- tests
-
-pub or_false : (a : Bool) → (a || false) ≡ a
-or_false true = refl
-or_false false = refl
-
-pub or_swap : (a b : Bool) → (a || b) ≡ (b || a)
-or_swap true true = refl
-or_swap true false = refl
-or_swap false true = refl
-or_swap false false = refl
-
-pub or_assoc : (a b c : Bool) → ((a || b) || c) ≡ (a || (b || c))
-or_assoc true b c = refl
-or_assoc false b c = refl
-
-pub or_same : (a b : Bool) → (a || (a || b)) ≡ (a || b)
-or_same true b = refl
-or_same false b = refl
-
-pub and_true : (a : Bool) → (a && true) ≡ a
-and_true true = refl
-and_true false = refl
-
-pub and_swap : (a b : Bool) → (a && b) ≡ (b && a)
-and_swap true true = refl
-and_swap true false = refl
-and_swap false true = refl
-and_swap false false = refl
 
 -- ---- lists
 
@@ -72,8 +46,8 @@ every_reverse test [] = refl
 every_reverse test (x ∷ xs) =
     ap (λ (ys : List _). list_all test ys) (reverse-append (x ∷ []) xs)
     ∙ list_all-append test (reverse xs) (x ∷ [])
-    ∙ ap (λ (b : Bool). list_all test (reverse xs) && b) (and_true (test x))
-    ∙ and_swap (list_all test (reverse xs)) (test x)
+    ∙ ap (λ (b : Bool). list_all test (reverse xs) && b) (and-true (test x))
+    ∙ and_comm (list_all test (reverse xs)) (test x)
     ∙ ap (λ (b : Bool). test x && b) (every_reverse test xs)
 
 pub passes_at : {A : Type 0} (test : A → Bool) (xs : List A) (i : ℕ) (x : A) → list_all test (reverse xs) ≡ true

@@ -1,5 +1,6 @@
 -- The phases of places at all PEs.
-use Rattle.std.proofs.Common.{◌≡◌, ℕ, ◌<◌, Bool, true, false, not, cond, ◌&&◌, ◌||◌, nat_lt, List, Option, Some, None, refl, sym, ap, ◌∙◌}
+use Rattle.std.proofs.Common.{◌≡◌, ℕ, ◌<◌, Bool, true, false, not, cond, ◌&&◌, ◌||◌, nat_lt, List, Option, Some, None}
+use Rattle.std.proofs.Common.{refl, sym, ap, ◌∙◌}
 use Rattle.std.specs.Option.{unwrap_or}
 use Rattle.std.proofs.lemmas.Bool.{lt-ltb}
 use Rattle.bbm_descriptor.specs.Descriptor.{is_valid}
@@ -16,12 +17,12 @@ use Rattle.bbm_rules.specs.Places.{page_of}
 use Rattle.bbm_rules.specs.Prelude.{Heading, Event}
 use Rattle.bbm_rules.specs.Tree.{Node, node_of}
 use Rattle.bbm_rules.specs.Values.{value_of}
-use Rattle.bbm_oracle_patterns.specs.Phases.{furthest, phase_at}
+use Rattle.bbm_oracle_patterns.specs.PlacePhases.{furthest, phase_at}
 use Rattle.bbm_oracle_patterns.specs.declared.trace.Trace.{Trace}
 use Rattle.bbm_oracle_trees.specs.Past.{Past, notes}
-use Rattle.bbm_oracle_trees.specs.Phases.{phase_among}
+use Rattle.bbm_oracle_trees.specs.TreePhases.{phase_among}
 use Rattle.bbm_idle.specs.Finding.{Stands, phase_by}
-use Rattle.bbm_idle.specs.Same.{same_phase}
+use Rattle.bbm_idle.specs.SamePhase.{same_phase}
 
 -- ---- of a history
 

@@ -1,20 +1,24 @@
 -- The tags that were ever readable, and those of them that a TLBI takes whole.
-use Rattle.std.proofs.Common.{◌≡◌, ℕ, ◌+◌, add-one, Bool, true, false, cond, ◌&&◌, ◌||◌, eqb, List, [], ◌∷◌, ◌++◌, Option, Some, None, refl, sym, ap, ◌∙◌, flat_map, filter_map, true≢false}
+use Rattle.std.proofs.Common.{◌≡◌, ℕ, ◌+◌, add-one, Bool, true, false, cond, ◌&&◌, ◌||◌, eqb, List, [], ◌∷◌, ◌++◌}
+use Rattle.std.proofs.Common.{Option, Some, None, refl, sym, ap, ◌∙◌, flat_map, filter_map, true≢false}
 use Rattle.std.specs.List.{cons_option}
 use Rattle.std.proofs.lemmas.Bool.{and_parts, eqb-true, or_left}
 use Rattle.std.proofs.lemmas.List.Folds.{list_any-append}
-use Rattle.bbm_lists.proofs.Elements.{any_finds, any_found}
-use Rattle.bbm_rules.specs.Prelude.{AsidFrom, FromTtbr0, FromTtbr1, Ttbr1El1, Ttbr1Tag, World, Hyp, Kernel, Heading, Event, Root, Unroot, Isb, Msr, Tag, Tlbi, TlbiOp, Scope}
-use Rattle.bbm_tlbi_scope.specs.Tags.{takes_whole_tag}
+use Rattle.bbm_lemmas.proofs.Elements.{any_finds, any_found}
+use Rattle.bbm_rules.specs.Prelude.{AsidFrom, FromTtbr0, FromTtbr1, Ttbr1El1, Ttbr1Tag, World, Hyp, Kernel, Heading}
+use Rattle.bbm_rules.specs.Prelude.{Event, Root, Unroot, Isb, Msr, Tag, Tlbi, TlbiOp, Scope}
+use Rattle.bbm_tlbi_scope.specs.ScopeTags.{takes_whole_tag}
 use Rattle.bbm_rules.specs.Changes.{changes}
 use Rattle.bbm_rules.specs.Claims.{Patterns, same_tag}
 use Rattle.bbm_rules.specs.Lists.{any, below, if_so}
-use Rattle.bbm_rules.specs.Registers.{named_scope, vmid_of}
+use Rattle.bbm_rules.specs.RegisterValues.{named_scope, vmid_of}
 use Rattle.bbm_rules.specs.Roots.{Declared, roots_of}
-use Rattle.bbm_rules.specs.Tags.{Reading, asid_readings, distinct, ever_read, holds_at, readings, readings_in, readings_of, tag_for, takes_tag}
+use Rattle.bbm_rules.specs.Tags.{Reading, asid_readings, distinct, ever_read, holds_at, readings, readings_in}
+use Rattle.bbm_rules.specs.Tags.{readings_of, tag_for, takes_tag}
 use Rattle.bbm_idle.specs.Finding.{AreTaken, IsKnown, is_taken, passes, taken_passes}
 use Rattle.bbm_idle.specs.Idle.{takes_of}
-use Rattle.bbm_idle.proofs.FindLists.{any_alike, any_flat, any_never, or_assoc, or_false, or_same, or_swap}
+use Rattle.bbm_idle.proofs.FindLists.{any_alike, any_flat, any_never}
+use mathlib.Core.Bool.{or_assoc, or-false, or_self_left, or_comm}
 
 -- ---- one more reading
 
@@ -35,7 +39,7 @@ module _ (decides : (g k : Tag) → same_tag g k ≡ true → g ≡ k) where
           let f = any_found (λ s. same_tag s.tag r.tag && eqb s.root r.root) rs k in
           let here : any test rs ≡ true = any_finds test rs f.0 f.1 (ap test (same_reading f.0 r f.2) ∙ e) in
           here ∙ sym (or_left (any test rs) true here)
-      by_case false e = sym (or_false (any test rs))
+      by_case false e = sym (or-false (any test rs))
 
   -- each tag once: a test of some tag says the same
   pub any_distinct : (test : Tag → Bool) (tags : List Tag) → any test (distinct tags) ≡ any test tags
@@ -77,7 +81,7 @@ read_more heading h number test start before now old new =
     rw add-one (new ∙ ap (λ (b : Bool). b || any test (readings heading h number)) old
     ∙ or_assoc start (any (λ p. any test (readings heading h p)) (below number)) (any test (readings heading h number))
     ∙ ap (λ (b : Bool). start || b)
-    (or_swap (any (λ p. any test (readings heading h p)) (below number)) (any test (readings heading h number))))
+    (or_comm (any (λ p. any test (readings heading h p)) (below number)) (any test (readings heading h number))))
 
 ever_more : (heading : Heading) (e : Event) (h : List Event) (root : ℕ) (test : Tag → Bool)
     → any test (ever_read heading root (e ∷ h)) ≡ (read_now heading (e ∷ h) (passes root test) || any test (ever_read heading root h))
@@ -97,7 +101,7 @@ known_more heading e h events old new are known added = λ root test.
     added (passes root test)
     ∙ ap (λ (b : Bool). b || read_now heading events (passes root test)) (known root test)
     ∙ ap (λ (es : List Event). any test (ever_read heading root h) || read_now heading es (passes root test)) are
-    ∙ or_swap (any test (ever_read heading root h)) (read_now heading (e ∷ h) (passes root test))
+    ∙ or_comm (any test (ever_read heading root h)) (read_now heading (e ∷ h) (passes root test))
     ∙ sym (ever_more heading e h root test)
 
 -- where the event changes nothing of it
@@ -136,7 +140,7 @@ read_before heading [] root test =
     (λ p. ap (λ (rs : List Reading). any (passes root test) rs) (nothing_read heading.world p)) ∙ any_never (below heading.pes))
 read_before heading (e ∷ h) root test =
     ap (λ (b : Bool). read_now heading (e ∷ h) (passes root test) || b) (ever_more heading e h root test)
-    ∙ or_same (read_now heading (e ∷ h) (passes root test)) (any test (ever_read heading root h))
+    ∙ or_self_left (read_now heading (e ∷ h) (passes root test)) (any test (ever_read heading root h))
     ∙ sym (ever_more heading e h root test)
 
 pub known_still : (heading : Heading) (e : Event) (h : List Event) (known : List Reading)

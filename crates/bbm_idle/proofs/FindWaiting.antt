@@ -1,5 +1,6 @@
 -- Needed TLBIs that aren't answered, after one more event.
-use Rattle.std.proofs.Common.{◌≡◌, ℕ, Bool, true, false, not, cond, ◌&&◌, ◌||◌, ◌==◌, List, [], ◌∷◌, refl, sym, ap, ◌∙◌, true≢false}
+use Rattle.std.proofs.Common.{◌≡◌, ℕ, Bool, true, false, not, cond, ◌&&◌, ◌||◌, ◌==◌, List, [], ◌∷◌, refl, sym, ap, ◌∙◌}
+use Rattle.std.proofs.Common.{true≢false}
 use Rattle.std.proofs.lemmas.Bool.{and_parts}
 use Rattle.std.proofs.lemmas.Map.Views.{any-filter_same}
 use Rattle.bbm_barriers.specs.Options.{answers}
@@ -13,7 +14,8 @@ use Rattle.bbm_oracle_tags.specs.Watches.{is_cast}
 use Rattle.bbm_idle.specs.Finding.{IsWaiting, waits, waits_after, waits_for}
 use Rattle.bbm_idle.specs.Idle.{answers_needed, is_idle, is_needed}
 use Rattle.bbm_idle.specs.declared.find_waiting.Waiting.{Waiting}
-use Rattle.bbm_idle.proofs.FindLists.{and_true, and_swap}
+use mathlib.Core.Bool.{and-true, and_comm}
+use Rattle.bbm_lemmas.proofs.Bools.{never_of_two, both_of_two}
 
 -- a DSB completes all TLBIs of a sort, or none
 sorted : (cast : Bool) (dsb : Barrier) (e : Event) → is_cast cast e ≡ true → not (completes dsb e) ≡ not (answers dsb cast)
@@ -36,7 +38,7 @@ module _ (heading : Heading) where
   left_waiting dsb cast ts =
       any-filter_same (waits_for heading cast) (λ t. not (completes dsb t.tlbi)) (not (answers dsb cast))
       (λ t k. sorted cast dsb t.tlbi (and_parts (is_cast cast t.tlbi) (is_needed heading t.before t.tlbi) k).0) ts
-      ∙ and_swap (not (answers dsb cast)) (any (waits_for heading cast) ts)
+      ∙ and_comm (not (answers dsb cast)) (any (waits_for heading cast) ts)
 
   pub waits_next : (e : Event) (h : List Event) (cast : Bool) (q : ℕ)
       → waits heading cast q (e ∷ h) ≡ waits_after cast (is_idle heading h e) e q (waits heading cast q h)
@@ -53,7 +55,7 @@ module _ (heading : Heading) where
       by_case : (b : Bool) → any (waits_for heading cast) (cond b (left_open itself dsb (unanswered itself q h)) (unanswered itself q h))
           ≡ (waits heading cast q h && not (b && answers dsb cast))
       by_case true = left_waiting dsb cast (unanswered itself q h)
-      by_case false = sym (and_true (waits heading cast q h))
+      by_case false = sym (and-true (waits heading cast q h))
   waits_next e h cast q = refl
 
   pub waits_kept : (e : Event) (h : List Event) (cast : Bool) (q : ℕ) (idle before now : Bool) → idle ≡ is_idle heading h e
@@ -87,12 +89,6 @@ module _ (heading : Heading) where
       cast false false false true = refl
       cast false false false false = refl
 
-      never : (a f n : Bool) → false ≡ ((a && (false && n)) || (f && (false && n)))
-      never true true n = refl
-      never true false n = refl
-      never false true n = refl
-      never false false n = refl
-
       either_of : (b : Bool) → answers dsb b ≡ cond b (answers dsb true) (answers dsb false)
       either_of true = refl
       either_of false = refl
@@ -102,18 +98,7 @@ module _ (heading : Heading) where
       by_event (Tlbi pe op xt) n =
           ap (λ (b : Bool). b && n) (either_of (operation op).broadcast)
           ∙ cast (answers dsb true) (answers dsb false) n (operation op).broadcast
-      by_event e n = never (answers dsb true) (answers dsb false) n
-
-  both : (a f x y v w : Bool) → (((a && x) || (f && y)) || ((a && v) || (f && w))) ≡ ((a && (x || v)) || (f && (y || w)))
-  both true true true y v w = refl
-  both true true false true true w = refl
-  both true true false true false w = refl
-  both true true false false v w = refl
-  both true false true y v w = refl
-  both true false false y v w = refl
-  both false true x true v w = refl
-  both false true x false v w = refl
-  both false false x y v w = refl
+      by_event e n = never_of_two (answers dsb true) (answers dsb false) n
 
   pub answered : (dsb : Barrier) (ts : List (Issued Event)) → any (answers_needed heading dsb) ts
       ≡ ((answers dsb true && any (waits_for heading true) ts) || (answers dsb false && any (waits_for heading false) ts))
@@ -127,7 +112,7 @@ module _ (heading : Heading) where
   answered dsb (t ∷ ts) =
       ap (λ (b : Bool). b || any (answers_needed heading dsb) ts) (answered_one dsb t)
       ∙ ap (λ (b : Bool). ((answers dsb true && waits_for heading true t) || (answers dsb false && waits_for heading false t)) || b) (answered dsb ts)
-      ∙ both (answers dsb true) (answers dsb false) (waits_for heading true t) (waits_for heading false t)
+      ∙ both_of_two (answers dsb true) (answers dsb false) (waits_for heading true t) (waits_for heading false t)
       (any (waits_for heading true) ts) (any (waits_for heading false) ts)
 
   pub answered_by : (h : List Event) (pe : ℕ) (dsb : Barrier) (w : Waiting) (broadcast local : Bool) → IsWaiting w heading h

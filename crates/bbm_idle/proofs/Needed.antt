@@ -1,9 +1,10 @@
 -- What it says of a TLBI that it is needed, or isn't.
-use Rattle.std.proofs.Common.{◌≡◌, ℕ, ◌<◌, Bool, true, false, not, ◌&&◌, ◌||◌, List, [], ◌∷◌, ◌++◌, Option, Some, option_and_then, Contains, is_none, unwrap_or, refl, sym, ◌∙◌, ap, subst, true≢false}
+use Rattle.std.proofs.Common.{◌≡◌, ℕ, ◌<◌, Bool, true, false, not, ◌&&◌, ◌||◌, List, [], ◌∷◌, ◌++◌, Option, Some}
+use Rattle.std.proofs.Common.{option_and_then, Contains, is_none, unwrap_or, refl, sym, ◌∙◌, ap, subst, true≢false}
 use Rattle.std.proofs.lemmas.Bool.{and_from, and_parts, false_from_ne_true, or_left, or_right}
 use Rattle.std.proofs.lemmas.List.{append_assoc}
-use Rattle.bbm_lists.specs.Elements.{In}
-use Rattle.bbm_lists.proofs.Elements.{any_finds, any_found, from_contains, none_of, to_contains}
+use Rattle.bbm_lemmas.specs.Elements.{In}
+use Rattle.bbm_lemmas.proofs.Elements.{any_finds, any_found, from_contains, none_of, to_contains}
 use Rattle.bbm_barriers.specs.Options.{answers}
 use Rattle.bbm_descriptor.specs.Descriptor.{same_bool}
 use Rattle.bbm_tlbi_scope.specs.Operations.{operation}
@@ -24,10 +25,10 @@ use Rattle.bbm_rules.specs.Sentences.{Open, completes_for}
 use Rattle.bbm_rules.specs.Tags.{itself}
 use Rattle.bbm_rules.specs.Tree.{Node, node_of, tree}
 use Rattle.bbm_rules.specs.Values.{written_places}
-use Rattle.bbm_histories.specs.Steps.{answered_by, half_after, half_waits, is_tlbi}
-use Rattle.bbm_histories.specs.Tree.{HeldBy, View}
+use Rattle.bbm_histories.specs.HistorySteps.{answered_by, half_after, half_waits, is_tlbi}
+use Rattle.bbm_histories.specs.TreeChanges.{HeldBy, View}
 use Rattle.bbm_idle.specs.Idle.{adds, adds_at, answers_needed, is_needed, is_needed_at, takes_of}
-use Rattle.bbm_idle.specs.Known.{Known}
+use Rattle.bbm_idle.specs.KnownOfIdle.{Known}
 use Rattle.bbm_idle.proofs.FindLists.{one_pe}
 use Rattle.bbm_idle.proofs.Since.{answered_waits, half_later}
 use Rattle.bbm_idle.proofs.Written.{written}

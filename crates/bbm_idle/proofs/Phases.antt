@@ -7,8 +7,8 @@ use Rattle.bbm_rules.specs.Claims.{Patterns}
 use Rattle.bbm_rules.specs.Cleansing.{cleansed, half, seen}
 use Rattle.bbm_rules.specs.Notes.{Noted}
 use Rattle.bbm_rules.specs.Phases.{broken_phase}
-use Rattle.bbm_idle.specs.Known.{Known}
-use Rattle.bbm_idle.specs.Same.{same_phase}
+use Rattle.bbm_idle.specs.KnownOfIdle.{Known}
+use Rattle.bbm_idle.specs.SamePhase.{same_phase}
 use Rattle.bbm_idle.proofs.Since.{cleansed_seen, half_seen}
 
 -- the phase of a broken place that is cleansed, half and seen as told

@@ -1,5 +1,6 @@
 -- What is left without the idle events has no idle event.
-use Rattle.std.proofs.Common.{◌≡◌, ℕ, Bool, true, false, cond, not, ◌&&◌, ◌||◌, ◌==◌, List, [], ◌∷◌, ◌++◌, is_none, refl, sym, ◌∙◌, ap, subst}
+use Rattle.std.proofs.Common.{◌≡◌, ℕ, Bool, true, false, cond, not, ◌&&◌, ◌||◌, ◌==◌, List, [], ◌∷◌, ◌++◌, is_none}
+use Rattle.std.proofs.Common.{refl, sym, ◌∙◌, ap, subst}
 use Rattle.std.proofs.lemmas.Bool.{and_parts, not-true}
 use Rattle.bbm_barriers.specs.Options.{answers}
 use Rattle.bbm_rules.specs.Broken.{broken, keeps}
@@ -12,7 +13,7 @@ use Rattle.bbm_oracle_tags.specs.Watches.{is_cast}
 use Rattle.bbm_alike.specs.Alike.{Alike}
 use Rattle.bbm_idle.specs.Finding.{waits, waits_after}
 use Rattle.bbm_idle.specs.Idle.{answers_needed, is_idle, keeps_phases, without_idle}
-use Rattle.bbm_idle.specs.Known.{Known}
+use Rattle.bbm_idle.specs.KnownOfIdle.{Known}
 use Rattle.bbm_idle.proofs.FindWaiting.{answered, waits_next}
 use Rattle.bbm_idle.proofs.Judged.{same_kept, same_needed}
 use Rattle.bbm_idle.proofs.Registers.{wrote_alike}

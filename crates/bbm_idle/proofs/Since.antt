@@ -1,6 +1,7 @@
 -- What is known of the events since the last valid write of a place: what is half or cleansed was seen, what is half
 -- stays so, and where nothing was written there is nothing of these.
-use Rattle.std.proofs.Common.{◌≡◌, ℕ, Bool, true, false, ◌&&◌, List, [], ◌∷◌, ◌++◌, sym, ◌∙◌, ap, subst, inl, inr, append_assoc, true≢false}
+use Rattle.std.proofs.Common.{◌≡◌, ℕ, Bool, true, false, ◌&&◌, List, [], ◌∷◌, ◌++◌, sym, ◌∙◌, ap, subst, inl, inr}
+use Rattle.std.proofs.Common.{append_assoc, true≢false}
 use Rattle.std.proofs.lemmas.Bool.{and_from, and_parts, false_from_ne_true, or_cases, or_left, or_right}
 use Rattle.bbm_barriers.specs.Options.{answers}
 use Rattle.bbm_tlbi_scope.specs.declared.entry.Cover.{Cover}
@@ -11,8 +12,8 @@ use Rattle.bbm_rules.specs.Cleansing.{cleansed, half, seen}
 use Rattle.bbm_rules.specs.Notes.{Noted}
 use Rattle.bbm_rules.specs.PatternSentences.{Cleansed, Flush, Publication}
 use Rattle.bbm_rules.specs.Reach.{Issued}
-use Rattle.bbm_histories.specs.Steps.{answered_by}
-use Rattle.bbm_idle.specs.Known.{Known}
+use Rattle.bbm_histories.specs.HistorySteps.{answered_by}
+use Rattle.bbm_idle.specs.KnownOfIdle.{Known}
 
 -- ---- what a DSB answers
 

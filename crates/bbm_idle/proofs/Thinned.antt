@@ -6,7 +6,7 @@ use Rattle.bbm_rules.specs.Claims.{Patterns}
 use Rattle.bbm_rules.specs.Prelude.{Heading, Event}
 use Rattle.bbm_alike.specs.Alike.{Alike}
 use Rattle.bbm_idle.specs.Idle.{ChoosesIdle, without}
-use Rattle.bbm_idle.specs.Known.{Known}
+use Rattle.bbm_idle.specs.KnownOfIdle.{Known}
 use Rattle.bbm_idle.proofs.Base.{base}
 
 module _ (heading : Heading) (k : Known heading) (chosen : List Event → Event → Bool) (idle : ChoosesIdle heading chosen) where

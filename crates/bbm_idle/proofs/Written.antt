@@ -1,8 +1,9 @@
 -- A place with a last valid write was written.
-use Rattle.std.proofs.Common.{◌≡◌, ℕ, Bool, true, false, cond, ◌==◌, ◌&&◌, List, [], ◌∷◌, Option, Some, None, refl, ap, subst, inl, inr}
+use Rattle.std.proofs.Common.{◌≡◌, ℕ, Bool, true, false, cond, ◌==◌, ◌&&◌, List, [], ◌∷◌, Option, Some, None, refl, ap}
+use Rattle.std.proofs.Common.{subst, inl, inr}
 use Rattle.std.proofs.lemmas.Bool.{and_parts, eqb-true}
-use Rattle.bbm_lists.specs.Elements.{In}
-use Rattle.bbm_lists.proofs.Elements.{any_found}
+use Rattle.bbm_lemmas.specs.Elements.{In}
+use Rattle.bbm_lemmas.proofs.Elements.{any_found}
 use Rattle.bbm_descriptor.specs.Descriptor.{is_valid}
 use Rattle.bbm_rules.specs.Prelude.{Kind, Event, Init, Write}
 use Rattle.bbm_rules.specs.Held.{ValidWrite, last_valid, last_valid_after, later}

@@ -1,11 +1,12 @@
 -- What is kept beside a history, and asked of it, while the idle events of a log are found. No public contract cites
 -- these words. Source: project's own choice.
-use Rattle.std.specs.Prelude.{◌≡◌, ℕ, Bool, true, false, not, ◌&&◌, ◌||◌, ◌==◌, List, Option, Some, None, unwrap_or, if◌then◌else◌}
-use Rattle.bbm_regimes.specs.EveryPe.{every_pe}
+use Rattle.std.specs.Prelude.{◌≡◌, ℕ, Bool, true, false, not, ◌&&◌, ◌||◌, ◌==◌, List, Option, Some, None, unwrap_or}
+use Rattle.std.specs.Prelude.{if◌then◌else◌}
+use Rattle.bbm_lemmas.specs.EveryPe.{every_pe}
 use Rattle.bbm_regimes.specs.PeMask.{pe_in}
 use Rattle.bbm_barriers.specs.Options.{answers}
 use Rattle.bbm_tlbi_scope.specs.declared.entry.Cover.{Cover}
-use Rattle.bbm_tlbi_scope.specs.Tags.{takes_whole_tag}
+use Rattle.bbm_tlbi_scope.specs.ScopeTags.{takes_whole_tag}
 use Rattle.bbm_rules.specs.declared.phase.Phase.{Phase}
 use Rattle.bbm_rules.specs.declared.phase.Phase.TheVariants.{Clean, Live}
 use Rattle.bbm_rules.specs.Claims.{Patterns}
@@ -22,12 +23,12 @@ use Rattle.bbm_rules.specs.Tags.{Reading, ever_read, itself, takes_tag}
 use Rattle.bbm_rules.specs.Tree.{node_of}
 use Rattle.bbm_rules.specs.Values.{written_places}
 use Rattle.bbm_oracle_tags.specs.Watches.{is_cast}
-use Rattle.bbm_oracle_patterns.specs.Phases.{furthest}
+use Rattle.bbm_oracle_patterns.specs.PlacePhases.{furthest}
 use Rattle.bbm_oracle_patterns.specs.declared.trace.Trace.{Trace}
 use Rattle.bbm_oracle_trees.specs.Past.{Past}
-use Rattle.bbm_oracle_trees.specs.StandsFor.{StandsFor}
+use Rattle.bbm_oracle_trees.specs.HistoryStandsFor.{StandsFor}
 use Rattle.bbm_idle.specs.Idle.{adds, is_needed, takes_of}
-use Rattle.bbm_idle.specs.Same.{same_phase}
+use Rattle.bbm_idle.specs.SamePhase.{same_phase}
 use Rattle.bbm_idle.specs.declared.find_places.Seat.{Seat}
 use Rattle.bbm_idle.specs.declared.find_phases.Phases.{Phases}
 use Rattle.bbm_idle.specs.declared.find_phases.Phases.TheVariants.{Clean as AllClean, Live as AllLive, Broken as Marked}

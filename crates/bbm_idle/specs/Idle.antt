@@ -2,7 +2,7 @@
 -- event is idle goes by the events before it alone. Source: project's own choice.
 use Rattle.std.specs.Prelude.{◌≡◌, ℕ, Bool, true, false, not, ◌&&◌, ◌||◌, ◌==◌, List, [], ◌∷◌, Some, unwrap_or}
 use Rattle.std.specs.Prelude.{if◌then◌else◌}
-use Rattle.bbm_regimes.specs.EveryPe.{every_pe}
+use Rattle.bbm_lemmas.specs.EveryPe.{every_pe}
 use Rattle.bbm_tlbi_scope.specs.declared.entry.Cover.{Cover}
 use Rattle.bbm_tlbi_scope.specs.declared.entry.Cover.TheVariants.{None as NoCover, Half, Second, Full}
 use Rattle.bbm_rules.specs.Claims.{Patterns}
@@ -19,7 +19,7 @@ use Rattle.bbm_rules.specs.Roots.{Declared, roots_of}
 use Rattle.bbm_rules.specs.Tags.{distinct, ever_read, holds_at, itself, takes_tag}
 use Rattle.bbm_rules.specs.Tree.{node_of}
 use Rattle.bbm_rules.specs.Values.{written_places}
-use Rattle.bbm_idle.specs.Same.{same_phase}
+use Rattle.bbm_idle.specs.SamePhase.{same_phase}
 
 -- whether p wrote a register since its last ISB
 abbrev pub wrote_register : ℕ → List Event → Bool

@@ -1,4 +1,4 @@
-pub mod Same
+pub mod SamePhase
 pub mod Idle
-pub mod Known
+pub mod KnownOfIdle
 pub mod Finding

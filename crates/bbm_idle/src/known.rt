@@ -2,7 +2,7 @@
 
 ghost use Rattle.std.specs.Prelude.{◌≡◌, true};
 ghost use Rattle.bbm_events.specs.Heading.{Heading, heading_ok};
-ghost use Rattle.bbm_idle.specs.Known.{Known};
+ghost use Rattle.bbm_idle.specs.KnownOfIdle.{Known};
 
 use bbm_alike::{
     law_alike_joins, law_alike_judges, law_alike_step, law_covers_alike, law_same_tags,

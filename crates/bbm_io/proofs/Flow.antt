@@ -1,5 +1,6 @@
 -- Bytes taken one after another, and bytes added one after another.
-use Rattle.std.proofs.Common.{◌≡◌, ◌≢◌, ℕ, ◌+◌, ◌-◌, List, [], ◌∷◌, ◌++◌, length, take, drop, Bool, true, false, ◌&&◌, not, nat_eq, Option, None, Some, refl, ap, sym, ◌∙◌, append_assoc}
+use Rattle.std.proofs.Common.{◌≡◌, ◌≢◌, ℕ, ◌+◌, ◌-◌, List, [], ◌∷◌, ◌++◌, length, take, drop, Bool, true, false, ◌&&◌}
+use Rattle.std.proofs.Common.{not, nat_eq, Option, None, Some, refl, ap, sym, ◌∙◌, append_assoc}
 use Rattle.std.proofs.lemmas.Bool.{ne_eqb}
 use Rattle.std.proofs.lemmas.List.{append-nil, take_rest, drop-drop, take-append-drop}
 use Rattle.std.proofs.Math.Seq.{take-add}

@@ -1,5 +1,7 @@
 -- The bytes before the first newline.
-use Rattle.std.proofs.Common.{◌≡◌, ℕ, zero, suc, ◌+◌, ◌-◌, ◌<◌, ◌≤◌, List, [], ◌∷◌, length, take, min, Option, None, Some, IfSome, Bool, true, false, cond, nat_eq, slice_index, get_or, refl, sym, ap, subst, ◌∙◌, inl, inr, arith}
+use Rattle.std.proofs.Common.{◌≡◌, ℕ, zero, suc, ◌+◌, ◌-◌, ◌<◌, ◌≤◌, List, [], ◌∷◌, length, take, min, Option, None}
+use Rattle.std.proofs.Common.{Some, IfSome, Bool, true, false, cond, nat_eq, slice_index, get_or, refl, sym, ap, subst}
+use Rattle.std.proofs.Common.{◌∙◌, inl, inr, arith}
 use Rattle.std.proofs.lemmas.Bool.{cases_eq, false≢true}
 use Rattle.std.proofs.lemmas.List.{length-take, take-take}
 use Rattle.memchr.specs.Find.{IsFirstByte, NoneBefore, Nowhere, Passes, TakesFirst, is_byte, places, places_from}

@@ -1,5 +1,6 @@
 -- One more item of a list.
-use Rattle.std.proofs.Common.{◌≡◌, ℕ, ◌+◌, ◌-◌, ◌<◌, ◌++◌, ◌∷◌, [], List, Option, Some, None, option_to_list, length, take, drop, get_or, filter_map, refl, sym, ◌∙◌, ap, add-one, length-drop, arith}
+use Rattle.std.proofs.Common.{◌≡◌, ℕ, ◌+◌, ◌-◌, ◌<◌, ◌++◌, ◌∷◌, [], List, Option, Some, None, option_to_list, length}
+use Rattle.std.proofs.Common.{take, drop, get_or, filter_map, refl, sym, ◌∙◌, ap, add-one, length-drop, arith}
 use Rattle.std.specs.List.{cons_option}
 use Rattle.std.proofs.lemmas.List.{take_all, take_more}
 use Rattle.std.proofs.lemmas.List.Elements.{filter_map-append}

@@ -1,5 +1,6 @@
 -- Ends of paths and pages of roots, one after another.
-use Rattle.std.proofs.Common.{◌≡◌, ℕ, zero, suc, ◌+◌, ◌-◌, ◌*◌, ◌++◌, ◌∷◌, [], Bool, true, cond, List, filter_map, flat_map, refl, sym, ◌∙◌, ap, add-one, arith}
+use Rattle.std.proofs.Common.{◌≡◌, ℕ, zero, suc, ◌+◌, ◌-◌, ◌*◌, ◌++◌, ◌∷◌, [], Bool, true, cond, List, filter_map}
+use Rattle.std.proofs.Common.{flat_map, refl, sym, ◌∙◌, ap, add-one, arith}
 use Rattle.bbm_rules.specs.Prelude.{Kind, Heading}
 use Rattle.bbm_rules.specs.Attach.{End, end_at, ends_below}
 use Rattle.bbm_rules.specs.Claims.{Trust}

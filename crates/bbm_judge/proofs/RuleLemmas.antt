@@ -1,5 +1,6 @@
 -- The first broken rule, one rule after another, and the answers that tell it.
-use Rattle.std.proofs.Common.{◌≡◌, ℕ, ◌+◌, ◌<◌, ◌∷◌, [], List, Option, Some, None, Result, Ok, Err, length, drop, get_or, refl}
+use Rattle.std.proofs.Common.{◌≡◌, ℕ, ◌+◌, ◌<◌, ◌∷◌, [], List, Option, Some, None, Result, Ok, Err, length, drop}
+use Rattle.std.proofs.Common.{get_or, refl}
 use Rattle.std.specs.Option.{option_map_or}
 use Rattle.bbm_regimes.specs.declared.regime.Which.{Which}
 use Rattle.bbm_rules.specs.Prelude.{Heading, Event}

@@ -7,7 +7,7 @@ use Rattle.bbm_rules.specs.Notes.{Noted, events_of}
 use Rattle.bbm_rules.specs.Phases.{is_restless, restless_of}
 use Rattle.bbm_rules.specs.Values.{written_places}
 use Rattle.bbm_oracle_trees.specs.Past.{Past, notes}
-use Rattle.bbm_oracle_trees.specs.StandsFor.{StandsFor}
+use Rattle.bbm_oracle_trees.specs.HistoryStandsFor.{StandsFor}
 
 abbrev count_at : Heading → Trust → List Noted → List Event → ℕ
 count_at heading trust n h = count_by (is_restless heading trust n) (written_places h)

@@ -1,3 +1,3 @@
 pub mod Flaws
 pub mod Judges
-pub mod Least
+pub mod Lesser

@@ -4,7 +4,7 @@ ghost use Rattle.std.specs.Prelude.{◌≡◌, ◌∷◌, not};
 ghost use Rattle.bbm_rules.specs.Lists as lists;
 ghost use Rattle.bbm_rules.specs.Pages.{is_fresh};
 ghost use Rattle.bbm_rules.specs.Rules as rules;
-ghost use Rattle.bbm_judge.specs.Least as spec;
+ghost use Rattle.bbm_judge.specs.Lesser as spec;
 ghost use Rattle.bbm_oracle_trees.specs.Past.{notes};
 
 use bbm_oracle_patterns::Evidence;

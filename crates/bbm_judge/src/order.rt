@@ -11,7 +11,7 @@ ghost use Rattle.bbm_rules.specs.Broken as spec;
 ghost use Rattle.bbm_rules.specs.Limits as limits;
 ghost use Rattle.bbm_judge.specs.Judges.{Judges, Reaches};
 ghost use Rattle.bbm_oracle_trees.specs.Past.{notes};
-ghost use Rattle.bbm_oracle_trees.specs.StandsFor.{StandsFor};
+ghost use Rattle.bbm_oracle_trees.specs.HistoryStandsFor.{StandsFor};
 
 use crate::flaws::{Flaw, made_with};
 use crate::page_rules::{not_fresh, page_in_use};

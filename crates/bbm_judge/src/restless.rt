@@ -8,7 +8,7 @@ ghost use Rattle.bbm_rules.specs.Notes.{events_of};
 ghost use Rattle.bbm_rules.specs.Phases as phases;
 ghost use Rattle.bbm_rules.specs.Values as values;
 ghost use Rattle.bbm_oracle_trees.specs.Past.{notes};
-ghost use Rattle.bbm_oracle_trees.specs.StandsFor.{StandsFor};
+ghost use Rattle.bbm_oracle_trees.specs.HistoryStandsFor.{StandsFor};
 
 use crate::tree_rules::is_valid;
 use bbm_events::Event;

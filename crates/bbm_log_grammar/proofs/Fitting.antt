@@ -1,6 +1,8 @@
 -- A number of at most 15 hex digits has room for one more; the table of the values of hex digits, and four of them read
 -- at once.
-use Rattle.std.proofs.Common.{◌≡◌, ℕ, zero, suc, ◌+◌, ◌*◌, ◌^◌, ◌<◌, ◌≤◌, Bool, true, false, ◌&&◌, ◌==◌, nat_lt, cond, List, [], ◌∷◌, ◌-◌, length, take, drop, get_or, ap, sym, ◌∙◌, Option, Some, None, slice_index_or, subst, inl, inr, refl, arith}
+use Rattle.std.proofs.Common.{◌≡◌, ℕ, zero, suc, ◌+◌, ◌*◌, ◌^◌, ◌<◌, ◌≤◌, Bool, true, false, ◌&&◌, ◌==◌, nat_lt, cond}
+use Rattle.std.proofs.Common.{List, [], ◌∷◌, ◌-◌, length, take, drop, get_or, ap, sym, ◌∙◌, Option, Some, None}
+use Rattle.std.proofs.Common.{slice_index_or, subst, inl, inr, refl, arith}
 use Rattle.std.proofs.lemmas.Bool.{eqb-true, ltb-true, lt-ltb, cases_lt, and_parts}
 use Rattle.std.proofs.Math.Nat.{pow-suc, pow-le-pow_right}
 use Rattle.std.proofs.lemmas.List.{take_all}

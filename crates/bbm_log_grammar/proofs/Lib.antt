@@ -6,6 +6,7 @@ pub mod Passing
 pub mod Fronts
 pub mod Fitting
 pub mod Begun
+pub mod Named
 pub mod Parts
 pub mod Short
 pub mod Spelled

@@ -1,5 +1,6 @@
 -- A label is one part more of a line.
-use Rattle.std.proofs.Common.{◌≡◌, ℕ, List, [], ◌∷◌, ◌++◌, length, ◌≤◌, true, ◌&&◌, nat_le, refl, ap, sym, ◌∙◌, Some, None}
+use Rattle.std.proofs.Common.{◌≡◌, ℕ, List, [], ◌∷◌, ◌++◌, length, ◌≤◌, true, ◌&&◌, nat_le, refl, ap, sym, ◌∙◌, Some}
+use Rattle.std.proofs.Common.{None}
 use Rattle.std.proofs.lemmas.Bool.{and_parts, leb-true}
 use Rattle.std.proofs.lemmas.List.{append_assoc, append-nil}
 use Rattle.std.specs.List.{list_all}

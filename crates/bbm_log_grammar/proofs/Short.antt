@@ -12,7 +12,14 @@ use Rattle.bbm_barriers.specs.declared.Domain.TheVariants.{Full, Inner, Outer, N
 use Rattle.bbm_barriers.specs.declared.Types.{Types}
 use Rattle.bbm_barriers.specs.declared.Types.TheVariants.{All, Stores, Loads}
 use Rattle.bbm_tlbi_scope.specs.declared.op.TlbiOp.{TlbiOp}
-use Rattle.bbm_tlbi_scope.specs.declared.op.TlbiOp.TheVariants.{Alle2, Alle2is, Vae2, Vae2is, Vale2, Vale2is, Alle1, Alle1is, Vmalle1, Vmalle1is, Vmalls12e1, Vmalls12e1is, Ipas2e1, Ipas2e1is, Ipas2le1, Ipas2le1is, Vae1, Vae1is, Vale1, Vale1is, Vaae1, Vaae1is, Vaale1, Vaale1is, Aside1, Aside1is, Rvae2, Rvae2is, Rvale2, Rvale2is, Ripas2e1, Ripas2e1is, Ripas2le1, Ripas2le1is, Rvae1, Rvae1is, Rvale1, Rvale1is, Rvaae1, Rvaae1is, Rvaale1, Rvaale1is}
+use Rattle.bbm_tlbi_scope.specs.declared.op.TlbiOp.TheVariants.{Alle2, Alle2is, Vae2, Vae2is, Vale2, Vale2is, Alle1}
+use Rattle.bbm_tlbi_scope.specs.declared.op.TlbiOp.TheVariants.{Alle1is, Vmalle1, Vmalle1is, Vmalls12e1, Vmalls12e1is}
+use Rattle.bbm_tlbi_scope.specs.declared.op.TlbiOp.TheVariants.{Ipas2e1, Ipas2e1is, Ipas2le1, Ipas2le1is, Vae1, Vae1is}
+use Rattle.bbm_tlbi_scope.specs.declared.op.TlbiOp.TheVariants.{Vale1, Vale1is, Vaae1, Vaae1is, Vaale1, Vaale1is}
+use Rattle.bbm_tlbi_scope.specs.declared.op.TlbiOp.TheVariants.{Aside1, Aside1is, Rvae2, Rvae2is, Rvale2, Rvale2is}
+use Rattle.bbm_tlbi_scope.specs.declared.op.TlbiOp.TheVariants.{Ripas2e1, Ripas2e1is, Ripas2le1, Ripas2le1is, Rvae1}
+use Rattle.bbm_tlbi_scope.specs.declared.op.TlbiOp.TheVariants.{Rvae1is, Rvale1, Rvale1is, Rvaae1, Rvaae1is, Rvaale1}
+use Rattle.bbm_tlbi_scope.specs.declared.op.TlbiOp.TheVariants.{Rvaale1is}
 use Rattle.bbm_events.specs.Words.{cnp_word, kind_word, reg_word, asid_from_word, option_word, dsb_word, op_word}
 
 pub cnp_word_short : (cnp : Bool) → length (cnp_word cnp) ≤ 12

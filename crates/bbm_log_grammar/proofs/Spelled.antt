@@ -1,5 +1,6 @@
 -- The digits of a number, two, four and eight at a time.
-use Rattle.std.proofs.Common.{◌≡◌, ℕ, ◌+◌, ◌*◌, ◌/◌, ◌%◌, ◌^◌, ◌<◌, ◌≤◌, Bool, ◌==◌, slice_index_or, List, [], ◌∷◌, ◌++◌, false, decimal, refl, rules, tests, ap, sym, ◌∙◌, arith}
+use Rattle.std.proofs.Common.{◌≡◌, ℕ, ◌+◌, ◌*◌, ◌/◌, ◌%◌, ◌^◌, ◌<◌, ◌≤◌, Bool, ◌==◌, slice_index_or, List, [], ◌∷◌}
+use Rattle.std.proofs.Common.{◌++◌, false, decimal, refl, rules, tests, ap, sym, ◌∙◌, arith}
 use Rattle.std.specs.Fmt.{digit_glyph, digits}
 use Rattle.std.proofs.lemmas.Bool.{eqb-true}
 use Rattle.std.proofs.lemmas.List.{append_assoc}

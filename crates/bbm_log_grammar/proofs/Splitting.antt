@@ -1,5 +1,6 @@
 -- The first field of a line ends at its first space.
-use Rattle.std.proofs.Common.{◌≡◌, ℕ, ◌+◌, ◌-◌, ◌<◌, ◌≤◌, length-drop, List, [], ◌∷◌, Bool, true, false, cond, length, take, drop, ◌==◌, nat_lt, refl, ap, sym, ◌∙◌, Some, None, arith}
+use Rattle.std.proofs.Common.{◌≡◌, ℕ, ◌+◌, ◌-◌, ◌<◌, ◌≤◌, length-drop, List, [], ◌∷◌, Bool, true, false, cond, length}
+use Rattle.std.proofs.Common.{take, drop, ◌==◌, nat_lt, refl, ap, sym, ◌∙◌, Some, None, arith}
 use Rattle.std.specs.List.{position, position_or_len}
 use Rattle.std.proofs.lemmas.Bool.{ltb-true, ltb-false}
 use Rattle.std.proofs.lemmas.List.{take_all}

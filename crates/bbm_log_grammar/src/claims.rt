@@ -7,10 +7,10 @@ ghost use Rattle.bbm_events.specs.Certificate as certificate;
 ghost use Rattle.bbm_events.specs.declared.certificate.CertificateWord.TheVariants as first;
 ghost use Rattle.bbm_events.specs.declared.certificate.ClaimWord.TheVariants as second;
 
-use crate::fields::Fields;
+use crate::fields::{Fields, found};
 use crate::readers::{count_field, pe_field, place_field, whole};
 use crate::values::tag_number_of;
-use crate::words::{certificate_word_of, claim_word_of, tag_word_of};
+use crate::words::{CERTIFICATE_WORDS, CLAIM_WORDS, TAG_WORDS};
 use bbm_events::{
     CertificateWord, Claim, ClaimItem, ClaimWord, Header, Malformed, TagWord, law_claim_causes,
     law_claim_fits,
@@ -21,9 +21,7 @@ use bbm_regimes::Tag;
 fn tag_word_field<'a>(fields: Fields<'a>) -> Result<(TagWord, Fields<'a>), Malformed>
     ensures { result ≡ certificate.tag_word_field fields.entry }
 {
-    let (text, rest) = fields.next_or(Malformed::MissingField)?;
-    let word = tag_word_of(text).ok_or(Malformed::UnknownWord)?;
-    Ok((word, rest))
+    fields.word_or(&TAG_WORDS, Malformed::MissingField, Malformed::UnknownWord)
 }
 
 /// The number of a tag with this word.
@@ -31,9 +29,10 @@ fn tag_word_field<'a>(fields: Fields<'a>) -> Result<(TagWord, Fields<'a>), Malfo
 fn tag_number_field<'a>(word: TagWord, fields: Fields<'a>) -> Result<(u16, Fields<'a>), Malformed>
     ensures { result ≡ certificate.tag_number_field word fields.entry }
 {
-    let (number, rest) = fields.decimal_or(Malformed::MissingField, Malformed::BadNumber)?;
-    let value = tag_number_of(word, number).ok_or(Malformed::BadNumber)?;
-    Ok((value, rest))
+    match fields.decimal_or(Malformed::MissingField, Malformed::BadNumber) {
+        Ok((number, rest)) => found(tag_number_of(word, number), Malformed::BadNumber, rest),
+        Err(cause) => Err(cause),
+    }
 }
 
 /// The tag with this word and this number.
@@ -129,9 +128,11 @@ fn claim_after(header: &Header, word: ClaimWord, fields: Fields) -> Result<Claim
 fn claim_word_field<'a>(fields: Fields<'a>) -> Result<(ClaimWord, Fields<'a>), Malformed>
     ensures { result ≡ certificate.claim_word_field fields.entry }
 {
-    let (text, rest) = fields.next_or(Malformed::MissingField)?;
-    let word = claim_word_of(text).ok_or(Malformed::UnknownWord)?;
-    Ok((word, rest))
+    fields.word_or(
+        &CLAIM_WORDS,
+        Malformed::MissingField,
+        Malformed::UnknownWord,
+    )
 }
 
 fn any_claim(header: &Header, fields: Fields) -> Result<ClaimItem, Malformed>
@@ -154,9 +155,11 @@ fn certificate_word_field<'a>(
 ) -> Result<(CertificateWord, Fields<'a>), Malformed>
     ensures { result ≡ certificate.certificate_word_field fields.entry }
 {
-    let (text, rest) = fields.next_or(Malformed::MissingField)?;
-    let word = certificate_word_of(text).ok_or(Malformed::UnknownWord)?;
-    Ok((word, rest))
+    fields.word_or(
+        &CERTIFICATE_WORDS,
+        Malformed::MissingField,
+        Malformed::UnknownWord,
+    )
 }
 
 /// What a line says, or the first cause for which it says nothing.

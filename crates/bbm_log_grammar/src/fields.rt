@@ -1,13 +1,15 @@
 //! The fields of a line.
 
-ghost use Rattle.std.specs.Prelude.{◌≡◌, ℕ, [], ◌∷◌, ◌==◌, MatchOption, MatchResult, slice_get};
+ghost use Rattle.std.specs.Prelude.{◌≡◌, ℕ, [], ◌∷◌, ◌==◌, MatchOption, MatchResult, Ok, Err, slice_get};
 ghost use Rattle.std.specs.List.{position};
 ghost use Rattle.std.specs.Option.{option_copied};
 ghost use Rattle.bbm_events.specs.Spelling.{decimal_value, fields, hex_value};
 ghost use Rattle.bbm_events.specs.Lines as lines;
+ghost use Rattle.bbm_events.specs.Words.{with_word};
 ghost use Rattle.bbm_log_grammar.specs.Front.{named_op};
 
 use crate::firsts::{first_decimal, first_dsb, first_hex, first_op};
+use crate::words::{Worded, named};
 use bbm_barriers::Dsb;
 use bbm_events::Malformed;
 use bbm_tlbi_scope::TlbiOp;
@@ -57,7 +59,10 @@ impl<'a> Fields<'a> {
     pub(crate) fn dsb(self) -> Result<(Dsb, Fields<'a>), Malformed>
         ensures { result ≡ lines.dsb_field self.entry }
     {
-        first_dsb(self.rest.ok_or(Malformed::MissingField)?)
+        match self.rest {
+            Some(line) => first_dsb(line),
+            None => Err(Malformed::MissingField),
+        }
     }
 
     /// The operation of a TLBI that the next field is, and the fields after it.
@@ -65,7 +70,10 @@ impl<'a> Fields<'a> {
     pub(crate) fn op(self) -> Result<(TlbiOp, Fields<'a>), Malformed>
         ensures { result ≡ named_op self.entry }
     {
-        first_op(self.rest.ok_or(Malformed::MissingField)?)
+        match self.rest {
+            Some(line) => first_op(line),
+            None => Err(Malformed::MissingField),
+        }
     }
 
     /// The number in decimal that the next field spells, and the fields after it; the first cause where no field is
@@ -94,6 +102,40 @@ impl<'a> Fields<'a> {
         first_hex(self.rest.ok_or(absent)?).ok_or(unreadable)
     }
 
+    /// The value, among these, whose word the next field is, and the fields after it; the first cause where no field is
+    /// left, and the other where it is no such word.
+    pub(crate) fn word_or<T: Worded>(
+        self,
+        values: &[T],
+        absent: Malformed,
+        unknown: Malformed,
+    ) -> Result<(T, Fields<'a>), Malformed>
+        ensures { result ≡ lines.next_field absent unknown (with_word T.word_of values.now) self.entry }
+    {
+        match self.next() {
+            Some((text, rest)) => found(named(values, text), unknown, rest),
+            None => Err(absent),
+        }
+    }
+
+    /// The fields after the next one, where that is the word; the first cause where no field is left, and the other
+    /// where it is another field.
+    pub(crate) fn behind(
+        self,
+        word: &[u8],
+        absent: Malformed,
+        other: Malformed,
+    ) -> Result<Fields<'a>, Malformed>
+        ensures { MatchResult result (λ rest. lines.next_field absent other (lines.exactly word.now) self.entry
+            ≡ Ok (word.now, rest)) (λ cause. lines.next_field absent other (lines.exactly word.now) self.entry
+            ≡ Err cause) }
+    {
+        match self.next() {
+            Some((text, rest)) => { if word == text { Ok(rest) } else { Err(other) } }
+            None => Err(absent),
+        }
+    }
+
     /// The next field, and those after it; None where no field is left.
     pub(crate) fn next(self) -> Option<(&'a [u8], Fields<'a>)>
         ensures { MatchOption result (self.entry ≡ []) (λ x. self.entry ≡ x.0.now ∷ x.1) }
@@ -115,6 +157,21 @@ impl<'a> Fields<'a> {
         ensures { MatchResult result (λ x. self.entry ≡ x.0.now ∷ x.1) (λ cause. (self.entry ≡ []) × (cause ≡ absent)) }
     {
         self.next().ok_or(absent)
+    }
+}
+
+/// The value with the fields after it; the cause where there is none.
+#[inline(always)]
+pub(crate) fn found<'a, T: Copy>(
+    value: Option<T>,
+    cause: Malformed,
+    rest: Fields<'a>,
+) -> Result<(T, Fields<'a>), Malformed>
+    ensures { result ≡ lines.found cause value rest.entry }
+{
+    match value {
+        Some(value) => Ok((value, rest)),
+        None => Err(cause),
     }
 }
 

@@ -1,6 +1,6 @@
 //! The first line.
 
-ghost use Rattle.std.specs.Prelude.{◌≡◌, ◌||◌, not, true, if◌then◌else◌, Some, None, Ok, Err, IfOk, IfErr, MatchResult};
+ghost use Rattle.std.specs.Prelude.{◌≡◌, ◌||◌, not, true, if◌then◌else◌, Some, None, IfOk, IfErr};
 ghost use Rattle.bbm_regimes.specs.declared.regime.World.TheVariants.{Hyp, Kernel};
 ghost use Rattle.bbm_regimes.specs.World.{world_ok};
 ghost use Rattle.bbm_events.specs.Causes.{IsHeaderCause};
@@ -10,42 +10,24 @@ ghost use Rattle.bbm_events.specs.Words.{with_word, asid_from_word, asid_froms};
 ghost use Rattle.bbm_events.specs.Lines.{header_of};
 ghost use Rattle.bbm_events.specs.Lines as lines;
 
-use crate::fields::Fields;
-use crate::numbers::read_decimal;
+use crate::fields::{Fields, found};
 use crate::values::version_of;
-use crate::words::{asid_from_of, cnp_of};
+use crate::words::{ASID_FROMS, CNPS};
 use bbm_events::{Header, Malformed, law_header_causes};
 use bbm_regimes::{AsidFrom, HypWorld, KernelWorld, World};
-
-/// A field that is this word.
-fn magic_field<'a>(word: &[u8], fields: Fields<'a>) -> Result<(&'a [u8], Fields<'a>), Malformed>
-    ensures { MatchResult result (λ x. lines.magic_field word.now fields.entry
-        ≡ Ok (x.0.now, x.1)) (λ cause. lines.magic_field word.now fields.entry ≡ Err cause) }
-{
-    let (text, rest) = fields.next_or(Malformed::NoMagic)?;
-    if word == text {
-        Ok((text, rest))
-    } else {
-        Err(Malformed::NoMagic)
-    }
-}
 
 /// A number of the header.
 fn number_field<'a>(fields: Fields<'a>) -> Result<(u64, Fields<'a>), Malformed>
     ensures { result ≡ lines.header_field decimal_value fields.entry }
 {
-    let (text, rest) = fields.next_or(Malformed::BadHeader)?;
-    let number = read_decimal(text).ok_or(Malformed::BadHeader)?;
-    Ok((number, rest))
+    fields.decimal_or(Malformed::BadHeader, Malformed::BadHeader)
 }
 
 /// The register for the current ASID.
 fn asid_from_field<'a>(fields: Fields<'a>) -> Result<(AsidFrom, Fields<'a>), Malformed>
     ensures { result ≡ lines.header_field (with_word asid_from_word asid_froms) fields.entry }
 {
-    let (text, rest) = fields.next_or(Malformed::BadHeader)?;
-    let asid_from = asid_from_of(text).ok_or(Malformed::BadHeader)?;
-    Ok((asid_from, rest))
+    fields.word_or(&ASID_FROMS, Malformed::BadHeader, Malformed::BadHeader)
 }
 
 /// The version of the log.
@@ -53,9 +35,10 @@ fn version_field<'a>(fields: Fields<'a>) -> Result<(u8, Fields<'a>), Malformed>
     ensures version { result ≡ lines.version_field fields.entry }
     ensures in_range { IfOk result (λ x. heading.is_version x.0 ≡ true) }
 {
-    let (text, rest) = fields.next_or(Malformed::NoMagic)?;
-    let version = version_of(text).ok_or(Malformed::NoMagic)?;
-    Ok((version, rest))
+    match fields.next() {
+        Some((text, rest)) => found(version_of(text), Malformed::NoMagic, rest),
+        None => Err(Malformed::NoMagic),
+    }
 }
 
 /// Whether TLBs are shared, which version 1 doesn't say.
@@ -66,9 +49,7 @@ fn cnp_field<'a>(version: u8, fields: Fields<'a>) -> Result<(bool, Fields<'a>), 
     if version < 2 {
         return Ok((false, fields));
     }
-    let (text, rest) = fields.next_or(Malformed::BadHeader)?;
-    let cnp = cnp_of(text).ok_or(Malformed::BadHeader)?;
-    Ok((cnp, rest))
+    fields.word_or(&CNPS, Malformed::BadHeader, Malformed::BadHeader)
 }
 
 /// Whether a log of this version can have so many PEs.
@@ -141,7 +122,56 @@ fn checked(
     })
 }
 
+/// The header of the Hyp world with these numbers, where they are in their ranges.
 #[tactic(auto, using(crate::proofs::WorldFaults::unfit_world))]
+fn hyp_header(
+    version: u8,
+    pes: u64,
+    cnp: bool,
+    numbers: (u64, u64, u64),
+    fields: Fields,
+) -> Result<Header, Malformed>
+    requires version { heading.is_version version ≡ true }
+    requires shares { (heading.may_share version || not cnp) ≡ true }
+    ensures { result ≡ lines.checked (record {
+      version = version;
+      pes = pes;
+      cnp = cnp;
+      world
+          = Hyp (record { el2_start = numbers.0; s2_start = numbers.1; s2_pages = numbers.2 });
+    }) fields.entry }
+{
+    match hyp_world(numbers.0, numbers.1, numbers.2) {
+        Some(world) => checked(version, pes, cnp, world, fields),
+        None => Err(Malformed::BadHeader),
+    }
+}
+
+/// The header of the Kernel world with these numbers, where they are in their ranges.
+#[tactic(auto, using(crate::proofs::WorldFaults::unfit_world))]
+fn kernel_header(
+    version: u8,
+    pes: u64,
+    cnp: bool,
+    starts: (u64, u64, AsidFrom),
+    fields: Fields,
+) -> Result<Header, Malformed>
+    requires version { heading.is_version version ≡ true }
+    requires shares { (heading.may_share version || not cnp) ≡ true }
+    ensures { result ≡ lines.checked (record {
+      version = version;
+      pes = pes;
+      cnp = cnp;
+      world
+          = Kernel (record { start0 = starts.0; start1 = starts.1; asid_from = starts.2 });
+    }) fields.entry }
+{
+    match kernel_world(starts.0, starts.1, starts.2) {
+        Some(world) => checked(version, pes, cnp, world, fields),
+        None => Err(Malformed::BadHeader),
+    }
+}
+
 fn hyp_fields(version: u8, fields: Fields) -> Result<Header, Malformed>
     requires { heading.is_version version ≡ true }
     ensures { result ≡ lines.hyp_fields version fields.entry }
@@ -151,11 +181,9 @@ fn hyp_fields(version: u8, fields: Fields) -> Result<Header, Malformed>
     let (s2_start, fields) = number_field(fields)?;
     let (s2_pages, fields) = number_field(fields)?;
     let (cnp, fields) = cnp_field(version, fields)?;
-    let world = hyp_world(el2_start, s2_start, s2_pages).ok_or(Malformed::BadHeader)?;
-    checked(version, pes, cnp, world, fields)
+    hyp_header(version, pes, cnp, (el2_start, s2_start, s2_pages), fields)
 }
 
-#[tactic(auto, using(crate::proofs::WorldFaults::unfit_world))]
 fn kernel_fields(version: u8, fields: Fields) -> Result<Header, Malformed>
     requires { heading.is_version version ≡ true }
     ensures { result ≡ lines.kernel_fields version fields.entry }
@@ -165,8 +193,7 @@ fn kernel_fields(version: u8, fields: Fields) -> Result<Header, Malformed>
     let (start1, fields) = number_field(fields)?;
     let (asid_from, fields) = asid_from_field(fields)?;
     let (cnp, fields) = cnp_field(version, fields)?;
-    let world = kernel_world(start0, start1, asid_from).ok_or(Malformed::BadHeader)?;
-    checked(version, pes, cnp, world, fields)
+    kernel_header(version, pes, cnp, (start0, start1, asid_from), fields)
 }
 
 /// The fields after the word of the world.
@@ -188,7 +215,7 @@ fn world_fields(version: u8, word: &[u8], fields: Fields) -> Result<Header, Malf
 fn header_on(line: &[u8]) -> Result<Header, Malformed>
     ensures { result ≡ header_of line.now }
 {
-    let (_, fields) = magic_field(b"bbmlog", Fields::of(line))?;
+    let fields = Fields::of(line).behind(b"bbmlog", Malformed::NoMagic, Malformed::NoMagic)?;
     let (version, fields) = version_field(fields)?;
     let (world, fields) = fields.next_or(Malformed::BadHeader)?;
     world_fields(version, world, fields)

@@ -1,15 +1,17 @@
 //! The lines of machine steps.
 
-ghost use Rattle.std.specs.Prelude.{◌≡◌, true, Ok, Err, IfOk, IfErr, MatchResult};
+ghost use Rattle.std.specs.Prelude.{◌≡◌, true, IfOk, IfErr};
 ghost use Rattle.bbm_events.specs.Causes.{IsLineCause};
 ghost use Rattle.bbm_events.specs.Machine.{machine_of, machine_fits};
 ghost use Rattle.bbm_events.specs.Machine as machine;
+ghost use Rattle.bbm_events.specs.Lines as lines;
+ghost use Rattle.bbm_events.specs.Words.{with_word};
 ghost use Rattle.bbm_events.specs.declared.machine.MachineWord.TheVariants as second;
 
-use crate::fields::Fields;
-use crate::readers::{kind_field, pe_field, place_field, value_field, whole};
-use crate::values::{entry_of, tag_of};
-use crate::words::machine_word_of;
+use crate::fields::{Fields, found};
+use crate::readers::{count_field, kind_field, pe_field, place_field, value_field, whole};
+use crate::values::tag_of;
+use crate::words::{MACHINE_WORDS, named};
 use bbm_events::{
     Header, MachineLine, MachineWord, Malformed, law_machine_causes, law_machine_fits,
 };
@@ -20,19 +22,17 @@ use bbm_regimes::Kind;
 fn tag_field<'a>(kind: Kind, fields: Fields<'a>) -> Result<(u16, Fields<'a>), Malformed>
     ensures { result ≡ machine.tag_field kind fields.entry }
 {
-    let (number, rest) = fields.decimal_or(Malformed::MissingField, Malformed::BadNumber)?;
-    let value = tag_of(kind, number).ok_or(Malformed::BadNumber)?;
-    Ok((value, rest))
+    match fields.decimal_or(Malformed::MissingField, Malformed::BadNumber) {
+        Ok((number, rest)) => found(tag_of(kind, number), Malformed::BadNumber, rest),
+        Err(cause) => Err(cause),
+    }
 }
 
-/// The number of an entry.
-#[tactic(auto, using(crate::proofs::Passing::passing_fields))]
+/// The number of an entry, which is spelled as a count is.
 fn entry_field<'a>(fields: Fields<'a>) -> Result<(u32, Fields<'a>), Malformed>
     ensures { result ≡ machine.entry_field fields.entry }
 {
-    let (number, rest) = fields.decimal_or(Malformed::MissingField, Malformed::BadNumber)?;
-    let value = entry_of(number).ok_or(Malformed::BadNumber)?;
-    Ok((value, rest))
+    count_field(fields)
 }
 
 fn start_line(header: &Header, fields: Fields) -> Result<MachineLine, Malformed>
@@ -110,19 +110,6 @@ fn machine_after(
     }
 }
 
-/// The word `m`.
-fn mark_field<'a>(fields: Fields<'a>) -> Result<(&'a [u8], Fields<'a>), Malformed>
-    ensures { MatchResult result (λ x. machine.mark_field fields.entry
-        ≡ Ok (x.0.now, x.1)) (λ cause. machine.mark_field fields.entry ≡ Err cause) }
-{
-    let (text, rest) = fields.next_or(Malformed::MissingField)?;
-    if b"m".as_slice() == text {
-        Ok((text, rest))
-    } else {
-        Err(Malformed::UnknownWord)
-    }
-}
-
 /// Whether the header's version has the word.
 fn has_machine_word(header: &Header, word: MachineWord) -> bool
     ensures { result ≡ machine.has_machine_word header.now.version word }
@@ -136,6 +123,20 @@ fn has_machine_word(header: &Header, word: MachineWord) -> bool
     }
 }
 
+/// The word of a step that the field is, where the header's version has it.
+fn machine_word_of(header: &Header, field: &[u8]) -> Option<MachineWord>
+    ensures { result
+        ≡ lines.passing (machine.has_machine_word header.now.version)
+        (with_word machine.machine_word machine.machine_words field.now) }
+{
+    let word = named(&MACHINE_WORDS, field)?;
+    if has_machine_word(header, word) {
+        Some(word)
+    } else {
+        None
+    }
+}
+
 /// The word of the step.
 fn machine_word_field<'a>(
     header: &Header,
@@ -143,12 +144,9 @@ fn machine_word_field<'a>(
 ) -> Result<(MachineWord, Fields<'a>), Malformed>
     ensures { result ≡ machine.machine_word_field header.now.version fields.entry }
 {
-    let (text, rest) = fields.next_or(Malformed::MissingField)?;
-    let word = machine_word_of(text).ok_or(Malformed::UnknownWord)?;
-    if has_machine_word(header, word) {
-        Ok((word, rest))
-    } else {
-        Err(Malformed::UnknownWord)
+    match fields.next() {
+        Some((text, rest)) => found(machine_word_of(header, text), Malformed::UnknownWord, rest),
+        None => Err(Malformed::MissingField),
     }
 }
 
@@ -157,7 +155,7 @@ fn machine_word_field<'a>(
 fn machine_on(header: &Header, line: &[u8]) -> Result<MachineLine, Malformed>
     ensures { result ≡ machine_of header.now line.now }
 {
-    let (_, fields) = mark_field(Fields::of(line))?;
+    let fields = Fields::of(line).behind(b"m", Malformed::MissingField, Malformed::UnknownWord)?;
     let (word, fields) = machine_word_field(header, fields)?;
     machine_after(header, word, fields)
 }

@@ -8,7 +8,7 @@ ghost use Rattle.bbm_events.specs.Heading.{Heading, heading_ok};
 ghost use Rattle.bbm_events.specs.Machine.{machine_fields, machine_fits, machine_line, machine_of};
 
 use crate::spell::add;
-use crate::words::kind_word;
+use crate::words::Worded;
 use crate::write::{add_decimal_field, add_hex_field, add_word_field};
 use arrayvec::ArrayVec;
 use bbm_events::{MachineLine, law_machine_written_is_read};
@@ -34,7 +34,7 @@ fn start_line(out: &mut ArrayVec<u8, 200>, pe: Pe, kind: Kind, tag: u16, place: 
     ensures { out.new.items ≡ joined (codes "m" ∷ machine_fields (step.Start pe kind tag place value)) }
 {
     begin(out, b"m", b"start", pe.get() as u64);
-    add_word_field(out, kind_word(kind));
+    add_word_field(out, kind.word());
     add_decimal_field(out, tag as u64);
     add_hex_field(out, place.get());
     add_hex_field(out, value);

@@ -1,7 +1,7 @@
 //! The two spellings of a number.
 //! Source: project's own choice, where no other is named.
 
-ghost use Rattle.std.specs.Prelude.{◌≡◌, ◌+◌, ◌*◌, ◌^◌, ◌<◌, if◌then◌else◌, Some, None, IfSome};
+ghost use Rattle.std.specs.Prelude.{◌≡◌, ◌+◌, ◌*◌, ◌^◌, ◌<◌, ◌≤◌, if◌then◌else◌, Some, None, IfSome};
 ghost use Rattle.std.specs.Char.{digit_value};
 ghost use Rattle.bbm_events.specs.Spelling.{decimal_value, hex_value};
 ghost use Rattle.bbm_log_grammar.specs.Digits as digits;
@@ -41,14 +41,14 @@ const HEX_VALUES: [u32; 256] = [
 /// The value of a lower-case hex digit, 0 to 15; 65536 where the byte is none.
 #[inline]
 fn hex_worth(byte: u8) -> u32
-    ensures { result ≡ digits.hex_worth byte }
+    ensures worth { result ≡ digits.hex_worth byte }
+    ensures bound { result ≤ 65536 }
 {
     HEX_VALUES[byte as usize]
 }
 
 /// The number that four lower-case hex digits write; 65536 or more where a byte is none.
 #[inline]
-#[tactic(auto, using(crate::proofs::Fitting::worth_bounded))]
 pub(crate) fn four_hex(a: u8, b: u8, c: u8, d: u8) -> u32
     ensures { result
         ≡ digits.hex_worth a * 4096 + digits.hex_worth b * 256 + digits.hex_worth c * 16 + digits.hex_worth d }

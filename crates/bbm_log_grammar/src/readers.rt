@@ -4,10 +4,10 @@ ghost use Rattle.std.specs.Prelude.{◌≡◌, ◌∷◌};
 ghost use Rattle.bbm_events.specs.Lines as lines;
 ghost use Rattle.bbm_log_grammar.specs.InLine.{item_in, read_in};
 
-use crate::fields::Fields;
+use crate::fields::{Fields, found};
 use crate::line::LineItem;
 use crate::values::{count_of, is_marked, label_of, lock_of, pe_of, root_lock_of, root_page_of};
-use crate::words::{kind_named, reg_of};
+use crate::words::{KINDS, REGS};
 use bbm_barriers::Dsb;
 use bbm_events::{Event, Header, Malformed, has_op};
 use bbm_regimes::{Kind, Page, Pe, Place, Reg};
@@ -21,9 +21,10 @@ pub(crate) fn pe_field<'a>(
 ) -> Result<(Pe, Fields<'a>), Malformed>
     ensures { result ≡ lines.pe_field header.now fields.entry }
 {
-    let (number, rest) = fields.decimal_or(Malformed::MissingField, Malformed::BadPe)?;
-    let value = pe_of(header, number).ok_or(Malformed::BadPe)?;
-    Ok((value, rest))
+    match fields.decimal_or(Malformed::MissingField, Malformed::BadPe) {
+        Ok((number, rest)) => found(pe_of(header, number), Malformed::BadPe, rest),
+        Err(cause) => Err(cause),
+    }
 }
 
 /// A page.
@@ -31,9 +32,10 @@ pub(crate) fn pe_field<'a>(
 pub(crate) fn page_field<'a>(fields: Fields<'a>) -> Result<(Page, Fields<'a>), Malformed>
     ensures { result ≡ lines.page_field fields.entry }
 {
-    let (number, rest) = fields.hex_or(Malformed::MissingField, Malformed::BadAddress)?;
-    let value = Page::new(number).ok_or(Malformed::BadAddress)?;
-    Ok((value, rest))
+    match fields.hex_or(Malformed::MissingField, Malformed::BadAddress) {
+        Ok((number, rest)) => found(Page::new(number), Malformed::BadAddress, rest),
+        Err(cause) => Err(cause),
+    }
 }
 
 /// A place.
@@ -42,9 +44,10 @@ pub(crate) fn page_field<'a>(fields: Fields<'a>) -> Result<(Page, Fields<'a>), M
 pub(crate) fn place_field<'a>(fields: Fields<'a>) -> Result<(Place, Fields<'a>), Malformed>
     ensures { result ≡ lines.place_field fields.entry }
 {
-    let (number, rest) = fields.hex_or(Malformed::MissingField, Malformed::BadAddress)?;
-    let value = Place::new(number).ok_or(Malformed::BadAddress)?;
-    Ok((value, rest))
+    match fields.hex_or(Malformed::MissingField, Malformed::BadAddress) {
+        Ok((number, rest)) => found(Place::new(number), Malformed::BadAddress, rest),
+        Err(cause) => Err(cause),
+    }
 }
 
 /// The first page of a root of the kind.
@@ -56,9 +59,14 @@ pub(crate) fn root_page_field<'a>(
 ) -> Result<(Page, Fields<'a>), Malformed>
     ensures { result ≡ lines.root_page_field header.now kind fields.entry }
 {
-    let (number, rest) = fields.hex_or(Malformed::MissingField, Malformed::BadAddress)?;
-    let value = root_page_of(header, kind, number).ok_or(Malformed::BadAddress)?;
-    Ok((value, rest))
+    match fields.hex_or(Malformed::MissingField, Malformed::BadAddress) {
+        Ok((number, rest)) => found(
+            root_page_of(header, kind, number),
+            Malformed::BadAddress,
+            rest,
+        ),
+        Err(cause) => Err(cause),
+    }
 }
 
 /// A value.
@@ -74,9 +82,10 @@ pub(crate) fn value_field<'a>(fields: Fields<'a>) -> Result<(u64, Fields<'a>), M
 pub(crate) fn lock_field<'a>(fields: Fields<'a>) -> Result<(u16, Fields<'a>), Malformed>
     ensures { result ≡ lines.lock_field fields.entry }
 {
-    let (number, rest) = fields.decimal_or(Malformed::MissingField, Malformed::BadNumber)?;
-    let value = lock_of(number).ok_or(Malformed::BadNumber)?;
-    Ok((value, rest))
+    match fields.decimal_or(Malformed::MissingField, Malformed::BadNumber) {
+        Ok((number, rest)) => found(lock_of(number), Malformed::BadNumber, rest),
+        Err(cause) => Err(cause),
+    }
 }
 
 /// The lock of a root.
@@ -85,9 +94,10 @@ pub(crate) fn root_lock_field<'a>(
 ) -> Result<(Option<u16>, Fields<'a>), Malformed>
     ensures { result ≡ lines.root_lock_field fields.entry }
 {
-    let (text, rest) = fields.next_or(Malformed::MissingField)?;
-    let value = root_lock_of(text).ok_or(Malformed::BadNumber)?;
-    Ok((value, rest))
+    match fields.next() {
+        Some((text, rest)) => found(root_lock_of(text), Malformed::BadNumber, rest),
+        None => Err(Malformed::MissingField),
+    }
 }
 
 /// A number of event lines.
@@ -95,18 +105,17 @@ pub(crate) fn root_lock_field<'a>(
 pub(crate) fn count_field<'a>(fields: Fields<'a>) -> Result<(u32, Fields<'a>), Malformed>
     ensures { result ≡ lines.count_field fields.entry }
 {
-    let (number, rest) = fields.decimal_or(Malformed::MissingField, Malformed::BadNumber)?;
-    let value = count_of(number).ok_or(Malformed::BadNumber)?;
-    Ok((value, rest))
+    match fields.decimal_or(Malformed::MissingField, Malformed::BadNumber) {
+        Ok((number, rest)) => found(count_of(number), Malformed::BadNumber, rest),
+        Err(cause) => Err(cause),
+    }
 }
 
 /// A kind.
 pub(crate) fn kind_field<'a>(fields: Fields<'a>) -> Result<(Kind, Fields<'a>), Malformed>
     ensures { result ≡ lines.kind_field fields.entry }
 {
-    let (text, rest) = fields.next_or(Malformed::MissingField)?;
-    let value = kind_named(text).ok_or(Malformed::UnknownWord)?;
-    Ok((value, rest))
+    fields.word_or(&KINDS, Malformed::MissingField, Malformed::UnknownWord)
 }
 
 /// The option of a barrier.
@@ -137,9 +146,7 @@ pub(crate) fn op_field<'a>(
 pub(crate) fn reg_field<'a>(fields: Fields<'a>) -> Result<(Reg, Fields<'a>), Malformed>
     ensures { result ≡ lines.reg_field fields.entry }
 {
-    let (text, rest) = fields.next_or(Malformed::MissingField)?;
-    let value = reg_of(text).ok_or(Malformed::UnknownWord)?;
-    Ok((value, rest))
+    fields.word_or(&REGS, Malformed::MissingField, Malformed::UnknownWord)
 }
 
 /// The operand of a TLBI, where the operation has one.

@@ -137,13 +137,6 @@ pub(crate) fn tag_number_of(word: TagWord, number: u64) -> Option<u16>
     }
 }
 
-/// The number of an entry.
-pub(crate) fn entry_of(number: u64) -> Option<u32>
-    ensures { result ≡ lines.passing machine.is_entry (Some number) }
-{
-    u32::try_from(number).ok()
-}
-
 /// Whether the field is marked as a label.
 pub(crate) fn is_marked(field: &[u8]) -> bool
     ensures { result ≡ lines.is_marked field.now }

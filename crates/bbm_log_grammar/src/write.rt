@@ -13,7 +13,7 @@ ghost use Rattle.bbm_events.specs.Lines.{lock_text, event_fields, label_fields};
 ghost use Rattle.bbm_regimes.specs.declared.regime.World.TheVariants.{Hyp, Kernel};
 
 use crate::spell::{add, add_decimal, add_digits};
-use crate::words::{asid_from_word, cnp_word, dsb_word, kind_word, op_word, reg_word};
+use crate::words::Worded;
 use arrayvec::ArrayVec;
 use bbm_barriers::{Domain, Dsb, Types};
 use bbm_events::{Event, Header, Item, Label, law_written_is_read};
@@ -57,7 +57,7 @@ pub(crate) fn add_hex_field<const N: usize>(out: &mut ArrayVec<u8, N>, n: u64)
 fn begin<const N: usize>(out: &mut ArrayVec<u8, N>, word: &[u8], pe: Pe)
     requires room { array_vec_len out.old + 200 ≤ N }
     requires short { length word.now ≤ 13 }
-    ensures written { out.new.items ≡ out.old.items ++ word.now ++ decimal pe }
+    ensures written { out.new.items ≡ out.old.items ++ (word.now ++ decimal pe) }
     ensures longer { array_vec_len out.new ≤ array_vec_len out.old + 33 }
 {
     add(out, word);
@@ -81,7 +81,7 @@ fn add_lock_field<const N: usize>(out: &mut ArrayVec<u8, N>, lock: Option<u16>)
 fn page_line<const N: usize>(out: &mut ArrayVec<u8, N>, word: &[u8], pe: Pe, page: Page)
     requires room { array_vec_len out.old + 200 ≤ N }
     requires short { length word.now ≤ 13 }
-    ensures line { out.new.items ≡ out.old.items ++ word.now ++ joined (decimal pe ∷ hex page ∷ []) }
+    ensures line { out.new.items ≡ out.old.items ++ (word.now ++ joined (decimal pe ∷ hex page ∷ [])) }
     ensures longer { array_vec_len out.new ≤ array_vec_len out.old + 100 }
 {
     begin(out, word, pe);
@@ -102,7 +102,7 @@ fn root_line<const N: usize>(
     ensures longer { array_vec_len out.new ≤ array_vec_len out.old + 100 }
 {
     begin(out, b"root ", pe);
-    add_word_field(out, kind_word(kind));
+    add_word_field(out, kind.word());
     add_lock_field(out, lock);
     add_hex_field(out, page.get());
 }
@@ -129,7 +129,7 @@ fn add_dsb_field<const N: usize>(out: &mut ArrayVec<u8, N>, dsb: Dsb)
     match (dsb.domain, dsb.types) {
         (Domain::Inner, Types::All) => add(out, b" ish"),
         (Domain::Inner, Types::Stores) => add(out, b" ishst"),
-        _ => add_word_field(out, dsb_word(dsb)),
+        _ => add_word_field(out, dsb.word()),
     }
 }
 
@@ -138,7 +138,7 @@ fn add_dsb_field<const N: usize>(out: &mut ArrayVec<u8, N>, dsb: Dsb)
 fn barrier_line<const N: usize>(out: &mut ArrayVec<u8, N>, word: &[u8], pe: Pe, dsb: Dsb)
     requires room { array_vec_len out.old + 200 ≤ N }
     requires short { length word.now ≤ 13 }
-    ensures line { out.new.items ≡ out.old.items ++ word.now ++ joined (decimal pe ∷ words.dsb_word dsb ∷ []) }
+    ensures line { out.new.items ≡ out.old.items ++ (word.now ++ joined (decimal pe ∷ words.dsb_word dsb ∷ [])) }
     ensures longer { array_vec_len out.new ≤ array_vec_len out.old + 100 }
 {
     begin(out, word, pe);
@@ -157,7 +157,7 @@ fn add_op_field<const N: usize>(out: &mut ArrayVec<u8, N>, op: TlbiOp)
         TlbiOp::Vae2is => add(out, b" vae2is"),
         TlbiOp::Ipas2e1is => add(out, b" ipas2e1is"),
         TlbiOp::Vmalle1is => add(out, b" vmalle1is"),
-        _ => add_word_field(out, op_word(op)),
+        _ => add_word_field(out, op.word()),
     }
 }
 
@@ -182,7 +182,7 @@ fn register_line<const N: usize>(out: &mut ArrayVec<u8, N>, pe: Pe, reg: Reg, va
     ensures longer { array_vec_len out.new ≤ array_vec_len out.old + 100 }
 {
     begin(out, b"msr ", pe);
-    add_word_field(out, reg_word(reg));
+    add_word_field(out, reg.word());
     add_hex_field(out, value);
 }
 
@@ -191,7 +191,7 @@ fn register_line<const N: usize>(out: &mut ArrayVec<u8, N>, pe: Pe, reg: Reg, va
 fn lock_line<const N: usize>(out: &mut ArrayVec<u8, N>, word: &[u8], pe: Pe, lock: u16)
     requires room { array_vec_len out.old + 200 ≤ N }
     requires short { length word.now ≤ 13 }
-    ensures line { out.new.items ≡ out.old.items ++ word.now ++ joined (decimal pe ∷ decimal lock ∷ []) }
+    ensures line { out.new.items ≡ out.old.items ++ (word.now ++ joined (decimal pe ∷ decimal lock ∷ [])) }
     ensures longer { array_vec_len out.new ≤ array_vec_len out.old + 100 }
 {
     begin(out, word, pe);
@@ -251,7 +251,7 @@ fn hyp_line(out: &mut ArrayVec<u8, 200>, header: &Header, world: HypWorld)
     add_decimal_field(out, world.s2_start as u64);
     add_decimal_field(out, world.s2_pages as u64);
     if header.version >= 2 {
-        add_word_field(out, cnp_word(header.cnp));
+        add_word_field(out, header.cnp.word());
     }
 }
 
@@ -267,9 +267,9 @@ fn kernel_line(out: &mut ArrayVec<u8, 200>, header: &Header, world: KernelWorld)
     add_decimal_field(out, header.pes as u64);
     add_decimal_field(out, world.start0 as u64);
     add_decimal_field(out, world.start1 as u64);
-    add_word_field(out, asid_from_word(world.asid_from));
+    add_word_field(out, world.asid_from.word());
     if header.version >= 2 {
-        add_word_field(out, cnp_word(header.cnp));
+        add_word_field(out, header.cnp.word());
     }
 }
 

@@ -1,1 +1,1 @@
-pub mod StandsFor
+pub mod OracleStandsFor

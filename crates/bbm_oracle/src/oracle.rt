@@ -12,7 +12,7 @@ ghost use Rattle.bbm_rules.specs.Limits.{limit_of};
 ghost use Rattle.bbm_rules.specs.Notes.{events_of};
 ghost use Rattle.bbm_rules.specs.Values as values;
 ghost use Rattle.bbm_oracle_trees.specs.Past.{notes};
-ghost use Rattle.bbm_oracle.specs.StandsFor.{StandsFor};
+ghost use Rattle.bbm_oracle.specs.OracleStandsFor.{StandsFor};
 
 use bbm_descriptor::Memory;
 use bbm_events::{Event, Header};

@@ -1,5 +1,6 @@
 -- Tests of flags, covers and barriers.
-use Rattle.std.proofs.Common.{◌≡◌, ℕ, ◌≤◌, Bool, true, false, ◌&&◌, ◌||◌, not, nat_eq, nat_lt, refl, sym, ◌∙◌, ap, arith}
+use Rattle.std.proofs.Common.{◌≡◌, ℕ, ◌≤◌, Bool, true, false, ◌&&◌, ◌||◌, not, nat_eq, nat_lt, refl, sym, ◌∙◌, ap}
+use Rattle.std.proofs.Common.{arith}
 use Rattle.std.proofs.lemmas.Bool.{false≢true, true≢false}
 use Rattle.std.proofs.lemmas.Bool.Decides.{nat_tests}
 use Rattle.bbm_barriers.specs.Options.{publishes}
@@ -10,37 +11,7 @@ use Rattle.bbm_barriers.specs.declared.Types.{Types}
 use Rattle.bbm_barriers.specs.declared.Types.TheVariants.{All, Stores, Loads}
 use Rattle.bbm_barriers.specs.Options.{is_non}
 use Rattle.bbm_oracle_patterns.specs.Relation.{same_flag}
-
-pub and-true : (a : Bool) → (a && true) ≡ a
-and-true true = refl
-and-true false = refl
-
-pub and-false : (a : Bool) → (a && false) ≡ false
-and-false true = refl
-and-false false = refl
-
-pub or-false : (a : Bool) → (a || false) ≡ a
-or-false true = refl
-or-false false = refl
-
-pub or-comm : (a b : Bool) → (a || b) ≡ (b || a)
-or-comm true true = refl
-or-comm true false = refl
-or-comm false true = refl
-or-comm false false = refl
-
-pub and-comm : (a b : Bool) → (a && b) ≡ (b && a)
-and-comm true true = refl
-and-comm true false = refl
-and-comm false true = refl
-and-comm false false = refl
-
--- what is answered, and what was before
-pub or-pairs : (a b f s : Bool) → ((a || b) || (f || s)) ≡ ((a || f) || (b || s))
-or-pairs true b f s = refl
-or-pairs false true true s = refl
-or-pairs false true false s = refl
-or-pairs false false f s = refl
+use mathlib.Core.Bool.{and-true, and-false}
 
 pub same_flag-true : (a b : Bool) → same_flag a b ≡ true → b ≡ a
 same_flag-true true b e = e

@@ -1,5 +1,6 @@
 -- Unanswered TLBIs after one more event.
-use Rattle.std.proofs.Common.{◌≡◌, ℕ, Bool, true, false, cond, ◌&&◌, ◌||◌, not, nat_eq, List, [], ◌∷◌, refl, sym, ◌∙◌, ap}
+use Rattle.std.proofs.Common.{◌≡◌, ℕ, Bool, true, false, cond, ◌&&◌, ◌||◌, not, nat_eq, List, [], ◌∷◌, refl, sym, ◌∙◌}
+use Rattle.std.proofs.Common.{ap}
 use Rattle.std.proofs.lemmas.Bool.{false≢true}
 use Rattle.std.proofs.lemmas.Map.Views.{any-filter_same}
 use Rattle.bbm_barriers.specs.Options.{answers}
@@ -14,15 +15,11 @@ use Rattle.bbm_rules.specs.Reach.{Issued, completes, left_open, unanswered}
 use Rattle.bbm_oracle_patterns.specs.Relation.{is_open, same_flag}
 use Rattle.bbm_oracle_patterns.specs.Walk.{IsOpen, is_of, open_to}
 use Rattle.bbm_oracle_patterns.specs.declared.open.Open.{Open}
-use Rattle.bbm_oracle_patterns.proofs.Bits.{and-comm, and-true, or-comm, or-false, same_flag-true}
+use Rattle.bbm_oracle_patterns.proofs.Bits.{same_flag-true}
+use mathlib.Core.Bool.{and_comm, and-true, or_comm, or-false}
+use Rattle.bbm_lemmas.proofs.Bools.{is_none_of_two, first_true}
 
 -- ---- tests
-
-pub both_false : (a c : Bool) → false ≡ ((a && false) || (c && false))
-both_false true true = refl
-both_false true false = refl
-both_false false true = refl
-both_false false false = refl
 
 pick : (answer : Bool → Bool) (b : Bool) → answer b ≡ ((answer true && b) || (answer false && not b))
 pick answer true = first (answer true) (answer false)
@@ -58,7 +55,7 @@ mix true true false false k u v = refl
 
 completes_is : (dsb : Barrier) (e : Event) → completes dsb e ≡ ((answers dsb true && is_of true e) || (answers dsb false && is_of false e))
 completes_is dsb (Tlbi pe op xt) = pick (answers dsb) (operation op).broadcast
-completes_is dsb _ = both_false (answers dsb true) (answers dsb false)
+completes_is dsb _ = is_none_of_two (answers dsb true) (answers dsb false)
 
 completes_by : (dsb : Barrier) (b : Bool) (e : Event) → is_of b e ≡ true → completes dsb e ≡ answers dsb b
 completes_by dsb b (Tlbi pe op xt) k = ap (answers dsb) (same_flag-true b (operation op).broadcast k)
@@ -70,7 +67,7 @@ test_of b test t = is_of b t.tlbi.event && test t
 
 answered_split : (dsb : Barrier) (test : Issued Noted → Bool) (ts : List (Issued Noted)) → any (is_completed dsb test) ts
     ≡ ((answers dsb true && any (test_of true test) ts) || (answers dsb false && any (test_of false test) ts))
-answered_split dsb test [] = both_false (answers dsb true) (answers dsb false)
+answered_split dsb test [] = is_none_of_two (answers dsb true) (answers dsb false)
 answered_split dsb test (t ∷ ts) =
     ap (λ (b : Bool). (b && test t) || any (is_completed dsb test) ts) (completes_is dsb t.tlbi.event)
     ∙ ap (λ (b : Bool). (((answers dsb true && is_of true t.tlbi.event) || (answers dsb false && is_of false t.tlbi.event)) && test t) || b) (answered_split dsb test ts)
@@ -81,12 +78,8 @@ left_any : (dsb : Barrier) (test : Issued Noted → Bool) (b : Bool) (ts : List 
     any (test_of b test) (left_open event_of dsb ts) ≡ (any (test_of b test) ts && not (answers dsb b))
 left_any dsb test b ts =
     any-filter_same (test_of b test) (λ t. not (completes dsb (event_of t.tlbi))) (not (answers dsb b))
-    (λ t k. ap not (completes_by dsb b t.tlbi.event (front (is_of b t.tlbi.event) (test t) k))) ts
-    ∙ and-comm (not (answers dsb b)) (any (test_of b test) ts)
-  where
-    front : (x y : Bool) → (x && y) ≡ true → x ≡ true
-    front true y e = refl
-    front false y e = e
+    (λ t k. ap not (completes_by dsb b t.tlbi.event (first_true (is_of b t.tlbi.event) (test t) k))) ts
+    ∙ and_comm (not (answers dsb b)) (any (test_of b test) ts)
 
 module _ (o : Open) (test : ℕ → Issued Noted → Bool) (since : List Noted) (is : IsOpen o test since) (covers : ℕ → Cover) (position pe : ℕ) where
   -- what the DSB answers
@@ -134,5 +127,5 @@ module _ (o : Open) (test : ℕ → Issued Noted → Bool) (since : List Noted) 
       at : (q : ℕ) (b : Bool) (p : ℕ) (k : Bool) →
           (any (test_of b (test p)) (unanswered event_of q since) || (k && test_of b (test p) issued))
           ≡ any (test_of b (test p)) (cond k (issued ∷ unanswered event_of q since) (unanswered event_of q since))
-      at q b p true = or-comm (any (test_of b (test p)) (unanswered event_of q since)) (test_of b (test p) issued)
+      at q b p true = or_comm (any (test_of b (test p)) (unanswered event_of q since)) (test_of b (test p) issued)
       at q b p false = or-false (any (test_of b (test p)) (unanswered event_of q since))

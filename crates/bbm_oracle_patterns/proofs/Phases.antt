@@ -1,5 +1,6 @@
 -- The phase of a place, by the trace of its last valid write.
-use Rattle.std.proofs.Common.{◌≡◌, ℕ, Bool, true, false, refl, cond, List, Option, Some, None, sym, ◌∙◌, ap, option_and_then, unwrap_or}
+use Rattle.std.proofs.Common.{◌≡◌, ℕ, Bool, true, false, refl, cond, List, Option, Some, None, sym, ◌∙◌, ap}
+use Rattle.std.proofs.Common.{option_and_then, unwrap_or}
 use Rattle.bbm_descriptor.specs.Descriptor.{is_valid}
 use Rattle.bbm_rules.specs.Claims.{Trust}
 use Rattle.bbm_rules.specs.Cleansing.{cleansed, half, seen}
@@ -8,7 +9,7 @@ use Rattle.bbm_rules.specs.Notes.{Noted}
 use Rattle.bbm_rules.specs.Phases.{broken_phase}
 use Rattle.bbm_rules.specs.Prelude.{Heading, Kind}
 use Rattle.bbm_rules.specs.declared.phase.Phase.TheVariants.{Clean, Live}
-use Rattle.bbm_oracle_patterns.specs.Phases.{furthest, phase_at}
+use Rattle.bbm_oracle_patterns.specs.PlacePhases.{furthest, phase_at}
 
 module _ (heading : Heading) (trust : Trust) (kind : Kind) (level place value p : ℕ) (h since : List Noted) (old : ℕ) where
   -- the last valid write is found, and it is known what is cleansed, half and seen since

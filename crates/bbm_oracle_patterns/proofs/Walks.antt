@@ -1,6 +1,7 @@
 -- A walk after one more event.
-use Rattle.std.proofs.Common.{◌≡◌, ℕ, suc, subst, reverse, ◌+◌, length, Bool, true, false, ◌&&◌, ◌||◌, not, nat_eq, ◌==◌, List, [], ◌∷◌, refl, sym, ◌∙◌, ap}
-use Rattle.std.proofs.lemmas.Bool.{false≢true, eq-eqb, or_parts}
+use Rattle.std.proofs.Common.{◌≡◌, ℕ, suc, subst, reverse, ◌+◌, length, Bool, true, false, ◌&&◌, ◌||◌, not, nat_eq}
+use Rattle.std.proofs.Common.{◌==◌, List, [], ◌∷◌, refl, sym, ◌∙◌, ap}
+use Rattle.std.proofs.lemmas.Bool.{false≢true, eq-eqb, or_parts, and_right, not-true}
 use Rattle.std.proofs.lemmas.List.{reverse-append}
 use Rattle.std.proofs.lemmas.List.Folds.{list_any-append}
 use Rattle.bbm_barriers.specs.Options.{answers}
@@ -19,14 +20,17 @@ use Rattle.bbm_rules.specs.Prelude.{Barrier, Event, Heading, Dsb, Tlbi, Write}
 use Rattle.bbm_rules.specs.Reach.{Issued, still_open, unanswered}
 use Rattle.bbm_rules.specs.Values.{publishes_to}
 use Rattle.bbm_oracle_patterns.specs.Relation.{is_open, related, same_flag}
-use Rattle.bbm_oracle_patterns.specs.Walk.{IsOpen, IsWalk, Traces, full_test, half_test, second_test, is_idle, is_write_of, some_writes, writes_place}
+use Rattle.bbm_oracle_patterns.specs.Walk.{IsOpen, IsWalk, Traces, full_test, half_test, second_test, is_idle}
+use Rattle.bbm_oracle_patterns.specs.Walk.{is_write_of, some_writes, writes_place}
 use Rattle.bbm_oracle_patterns.specs.Kept.{cover_in, note_of, notes_behind}
 use Rattle.bbm_oracle_patterns.specs.declared.kept.Kept.{Kept}
 use Rattle.bbm_oracle_patterns.specs.declared.open.Open.{Open}
 use Rattle.bbm_oracle_patterns.specs.declared.trace.Trace.{Trace}
 use Rattle.bbm_oracle_patterns.specs.declared.walk.Walk.{Walk}
-use Rattle.bbm_oracle_patterns.proofs.Bits.{or-comm, or-false, or-pairs, and-true, and-false, eq-comm}
-use Rattle.bbm_oracle_patterns.proofs.Opens.{both_false, answered_by, after_dsb, after_tlbi}
+use Rattle.bbm_oracle_patterns.proofs.Bits.{eq-comm}
+use Rattle.bbm_oracle_patterns.proofs.Opens.{answered_by, after_dsb, after_tlbi}
+use mathlib.Core.Bool.{or_comm, or-false, and-true, and-false}
+use Rattle.bbm_lemmas.proofs.Bools.{or_middle, is_none_of_two}
 
 -- ---- tests
 
@@ -48,17 +52,10 @@ no_more false true true = refl
 no_more false true false = refl
 no_more false false f = refl
 
-second-false : (a b : Bool) → b ≡ false → (a && b) ≡ false
-second-false a b e = ap (λ (x : Bool). a && x) e ∙ and-false a
-
-not-true : (b : Bool) → not b ≡ true → b ≡ false
-not-true true e = sym e
-not-true false e = refl
-
 -- ---- an event that changes nothing
 
 unwritten : (q place : ℕ) (e : Event) → is_idle e place ≡ true → writes q place e ≡ false
-unwritten q place (Write pe at value) k = second-false (pe == q) (at == place) (not-true (at == place) k)
+unwritten q place (Write pe at value) k = and_right (pe == q) (at == place) (not-true (at == place) k)
 unwritten q place _ k = refl
 
 unpublished : (heading : Heading) (place p : ℕ) (e : Event) (older : List Noted) → is_idle e place ≡ true → publishes_write heading place p e older ≡ false
@@ -100,7 +97,7 @@ module _ (w : Walk) (heading : Heading) (place : ℕ) (since : List Noted) (x : 
     writers = λ q.
         e q
         ∙ ap (λ (b : Bool). b || nat_eq q pe) (x.writers q)
-        ∙ or-comm (some (λ n before. writes q place n.event) since) (nat_eq q pe)
+        ∙ or_comm (some (λ n before. writes q place n.event) since) (nat_eq q pe)
         ∙ ap (λ (b : Bool). b || some (λ n before. writes q place n.event) since) (here q);
     seen_at = x.seen_at;
     half_at = x.half_at;
@@ -150,7 +147,7 @@ module _ (w : Walk) (heading : Heading) (place : ℕ) (since : List Noted) (x : 
           ∙ ap (λ (b : Bool). (a || b) || pe_in w.trace.cleansed p)
           (answered_by w.second (second_test heading place) since x.second_open covers position pe dsb p)
           ∙ ap (λ (b : Bool). (a || c) || b) (x.cleansed_at p)
-          ∙ or-pairs a c (some (λ n older. answers_one (full_test heading place p) n.event older) since) (some (λ n older. answers_one (second_test heading place p) n.event older) since)
+          ∙ or_middle a c (some (λ n older. answers_one (full_test heading place p) n.event older) since) (some (λ n older. answers_one (second_test heading place p) n.event older) since)
 
   pub walk_tlbi : (op : TlbiOp) (xt : ℕ) (cover : Cover) (broadcast : Bool) (full half second : Open) (seens halfs fulls halves seconds : PeMask) →
       broadcast ≡ (operation op).broadcast → covers place ≡ cover →
@@ -229,7 +226,7 @@ any_reverse place [] = refl
 any_reverse place (k ∷ ks) =
     ap (some_writes place) (reverse-append (k ∷ []) ks)
     ∙ list_any-append (writes_place place) (reverse ks) (k ∷ [])
-    ∙ or-comm (some_writes place (reverse ks)) (some_writes place (k ∷ []))
+    ∙ or_comm (some_writes place (reverse ks)) (some_writes place (k ∷ []))
     ∙ ap (λ (b : Bool). b || some_writes place (reverse ks)) (or-false (is_write_of place k.event))
     ∙ ap (λ (b : Bool). is_write_of place k.event || b) (any_reverse place ks)
 
@@ -254,7 +251,7 @@ module _ (heading : Heading) (place : ℕ) (m : PeMask) (none : (p : ℕ) → pe
   nothing_answered dsb pe p =
       ap (λ (b : Bool). (answers dsb true && b) || (answers dsb false && is_open (found_nothing m).full pe false p)) (nothing_open pe true p)
       ∙ ap (λ (b : Bool). (answers dsb true && false) || (answers dsb false && b)) (nothing_open pe false p)
-      ∙ sym (both_false (answers dsb true) (answers dsb false))
+      ∙ sym (is_none_of_two (answers dsb true) (answers dsb false))
 
   nothing_left : (dsb : Barrier) (pe q : ℕ) (b : Bool) (p : ℕ) →
       is_open (found_nothing m).full q b p ≡ (is_open (found_nothing m).full q b p && not (nat_eq pe q && answers dsb b))

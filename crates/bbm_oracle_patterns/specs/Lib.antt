@@ -1,5 +1,5 @@
 pub mod Kept
 pub mod Lasts
-pub mod Phases
+pub mod PlacePhases
 pub mod Relation
 pub mod Walk

@@ -6,7 +6,7 @@ ghost use Rattle.bbm_regimes.specs.PeMask.{pe_in};
 ghost use Rattle.bbm_rules.specs.Held as spec;
 ghost use Rattle.bbm_oracle_patterns.specs.Kept.{notes_of, write_in};
 ghost use Rattle.bbm_oracle_patterns.specs.Lasts.{TellsOf};
-ghost use Rattle.bbm_oracle_patterns.specs.Phases.{phase_at, furthest};
+ghost use Rattle.bbm_oracle_patterns.specs.PlacePhases.{phase_at, furthest};
 
 use crate::evidence::Evidence;
 use crate::kept::Kept;

@@ -1,7 +1,7 @@
 //! At which PEs a place is seen, half and cleansed.
 
 ghost use Rattle.std.specs.Prelude.{◌≡◌, ℕ, reverse};
-ghost use Rattle.bbm_regimes.specs.EveryPe.{every_pe};
+ghost use Rattle.bbm_lemmas.specs.EveryPe.{every_pe};
 ghost use Rattle.bbm_regimes.specs.PeMask.{pe_in};
 ghost use Rattle.bbm_rules.specs.Claims.{Patterns};
 ghost use Rattle.bbm_rules.specs.Cleansing as spec;

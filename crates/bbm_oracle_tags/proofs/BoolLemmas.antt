@@ -1,18 +1,6 @@
 -- Equations of tests.
 use Rattle.std.proofs.Common.{◌≡◌, Bool, true, false, not, ◌&&◌, ◌||◌, refl}
 
-pub and-false : (a : Bool) → (a && false) ≡ false
-and-false true = refl
-and-false false = refl
-
-pub and-true : (a : Bool) → (a && true) ≡ a
-and-true true = refl
-and-true false = refl
-
-pub or-false : (a : Bool) → (a || false) ≡ a
-or-false true = refl
-or-false false = refl
-
 -- one moment more at which the tag is readable
 pub read-later : (c r k s u : Bool) → (c && (r && (k && not (s || u)))) ≡ (not s && (c && (r && (k && not u))))
 read-later true true true true u = refl
@@ -33,20 +21,6 @@ read-now true false k true = refl
 read-now true false k false = refl
 read-now false r k true = refl
 read-now false r k false = refl
-
-pub and-or : (n a b : Bool) → ((n && a) || (n && b)) ≡ (n && (a || b))
-and-or true a b = refl
-and-or false a b = refl
-
-pub and-swap : (a b : Bool) → (a && b) ≡ (b && a)
-and-swap true true = refl
-and-swap true false = refl
-and-swap false true = refl
-and-swap false false = refl
-
-pub told-twice : (s u : Bool) → (s || (s || u)) ≡ (s || u)
-told-twice true u = refl
-told-twice false u = refl
 
 -- a broadcast TLBI, one that isn't, and no TLBI
 pub taken-broadcast : (a f r k n : Bool) → ((((a && r) && k) && n) && true) ≡ ((a && (true && (r && (k && n)))) || (f && (false && (r && (k && n)))))
@@ -72,20 +46,3 @@ taken-local false true true true false = refl
 taken-local false true true false n = refl
 taken-local false true false k n = refl
 taken-local false false r k n = refl
-
-pub taken-never : (a f x : Bool) → false ≡ ((a && (false && x)) || (f && (false && x)))
-taken-never true true x = refl
-taken-never true false x = refl
-taken-never false true x = refl
-taken-never false false x = refl
-
-pub taken-both : (a f x y v w : Bool) → (((a && x) || (f && y)) || ((a && v) || (f && w))) ≡ ((a && (x || v)) || (f && (y || w)))
-taken-both true true true y v w = refl
-taken-both true true false true true w = refl
-taken-both true true false true false w = refl
-taken-both true true false false v w = refl
-taken-both true false true y v w = refl
-taken-both true false false y v w = refl
-taken-both false true x true v w = refl
-taken-both false true x false v w = refl
-taken-both false false x y v w = refl

@@ -1,5 +1,6 @@
 -- What the rules add to the questions that they ask.
-use Rattle.std.proofs.Common.{◌≡◌, ℕ, Bool, true, false, not, ◌&&◌, ◌||◌, ◌==◌, nat_lt, List, [], ◌∷◌, ◌++◌, length, reverse, map, filter, Option, refl, sym, ap, ◌∙◌, arith}
+use Rattle.std.proofs.Common.{◌≡◌, ℕ, Bool, true, false, not, ◌&&◌, ◌||◌, ◌==◌, nat_lt, List, [], ◌∷◌, ◌++◌, length}
+use Rattle.std.proofs.Common.{reverse, map, filter, Option, refl, sym, ap, ◌∙◌, arith}
 use Rattle.std.specs.List.{list_any}
 use Rattle.std.proofs.lemmas.Bool.{lt-ltb}
 use Rattle.std.proofs.lemmas.List.{map-append, reverse-append}
@@ -11,12 +12,12 @@ use Rattle.bbm_rules.specs.Prelude.{Heading, Event, Msr, Reg, Ttbr0El2, VttbrEl2
 use Rattle.bbm_rules.specs.Claims.{Trust}
 use Rattle.bbm_rules.specs.Lists.{is_that, least}
 use Rattle.bbm_rules.specs.Notes.{Noted, events_of}
-use Rattle.bbm_rules.specs.Registers.{base_of, register_values}
+use Rattle.bbm_rules.specs.RegisterValues.{base_of, register_values}
 use Rattle.bbm_rules.specs.Roots.{Declared}
 use Rattle.bbm_rules.specs.Rules.{is_base_at, tag_conflict}
 use Rattle.bbm_rules.specs.Tags.{Reading, holds_tag, tag_set}
 use Rattle.bbm_oracle_tags.specs.Conflicts.{conflict_pages, holder_pages}
-use Rattle.bbm_oracle_tags.proofs.BoolLemmas.{or-false}
+use mathlib.Core.Bool.{or-false}
 
 -- a base in one of the four registers
 abbrev has-base : ℕ → List ℕ → Bool

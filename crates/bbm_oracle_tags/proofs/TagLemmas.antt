@@ -1,5 +1,6 @@
 -- Which tags a root may hold, those that it holds, and the set of them.
-use Rattle.std.proofs.Common.{◌≡◌, ℕ, zero, suc, ◌+◌, ◌<◌, take, get_or, Bool, true, false, not, ◌&&◌, ◌||◌, eqb, List, [], ◌∷◌, length, refl, sym, ap, ◌∙◌, arith, true≢false}
+use Rattle.std.proofs.Common.{◌≡◌, ℕ, zero, suc, ◌+◌, ◌<◌, take, get_or, Bool, true, false, not, ◌&&◌, ◌||◌, eqb, List}
+use Rattle.std.proofs.Common.{[], ◌∷◌, length, refl, sym, ap, ◌∙◌, arith, true≢false}
 use Rattle.std.proofs.lemmas.Bool.{eqb-true, eqb-false, and_from}
 use Rattle.std.proofs.lemmas.List.Folds.{list_any_more}
 use Rattle.bbm_tlbi_scope.specs.declared.entry.TagSet.{TagSet}
@@ -9,8 +10,9 @@ use Rattle.bbm_rules.specs.Changes.{changes}
 use Rattle.bbm_rules.specs.Claims.{Trust, same_tag}
 use Rattle.bbm_rules.specs.Lists.{some_pe}
 use Rattle.bbm_rules.specs.Tags.{holds_at, loses, reads}
-use Rattle.bbm_oracle_tags.specs.TagSets.{HasTags, has_tag, was_read}
+use Rattle.bbm_oracle_tags.specs.HeldTagSets.{HasTags, has_tag, was_read}
 use Rattle.bbm_oracle_tags.proofs.MomentLemmas.{same-reads, reads-nothing}
+use Rattle.bbm_lemmas.proofs.Bools.{first_true, ands_of_last}
 
 -- ---- tests of some PE
 
@@ -43,10 +45,6 @@ found-pe (suc n) test k = by_case (test n) refl k (λ l. found-pe n test l)
 
 -- ---- tags that were read
 
-first-part : (a b : Bool) → (a && b) ≡ true → a ≡ true
-first-part true b k = refl
-first-part false b k = k
-
 -- a held tag was readable for the root
 pub held-was-read : (heading : Heading) (trust : Trust) (p root : ℕ) (tag : Tag) (h : List Event) → holds_at heading trust p root tag h ≡ true
     → was_read heading p root tag h ≡ true
@@ -58,7 +56,7 @@ held-was-read heading trust p root tag (e ∷ h) k =
         → (holds_at heading trust p root tag h ≡ true → was_read heading p root tag h ≡ true)
         → (b || was_read heading p root tag h) ≡ true
     by_case true k rest = refl
-    by_case false k rest = rest (first-part (holds_at heading trust p root tag h) (not (loses heading trust p tag e h)) k)
+    by_case false k rest = rest (first_true (holds_at heading trust p root tag h) (not (loses heading trust p tag e h)) k)
 
 -- what is read now was read
 pub reads-was-read : (heading : Heading) (p root : ℕ) (tag : Tag) (h : List Event) → reads heading h p tag root ≡ true
@@ -118,7 +116,7 @@ module _ (decides : (g k : Tag) → same_tag g k ≡ true → g ≡ k) where
   hit-held holds tag same held = and_from (same_tag tag tag) (holds tag) same held
 
   pub hit-same : (holds : Tag → Bool) (tag g : Tag) → (same_tag tag g && holds g) ≡ true → g ≡ tag
-  hit-same holds tag g k = sym (decides tag g (first-part (same_tag tag g) (holds g) k))
+  hit-same holds tag g k = sym (decides tag g (first_true (same_tag tag g) (holds g) k))
 
   -- it isn't
   pub missed : (test holds : Tag → Bool) (tag : Tag) → holds tag ≡ false → (g : Tag) → test g ≡ (test g || (same_tag tag g && holds g))
@@ -136,19 +134,6 @@ module _ (decides : (g k : Tag) → same_tag g k ≡ true → g ≡ k) where
 pub one-more : (holds : Tag → Bool) (tags : List Tag) (i : ℕ) (tag g : Tag) → i < length tags → tag ≡ get_or tags i tag
     → ((has_tag g (take i tags) && holds g) || (same_tag tag g && holds g)) ≡ (has_tag g (take (i + 1) tags) && holds g)
 one-more holds tags i tag g lt is =
-    both (has_tag g (take i tags)) (same_tag tag g) (holds g)
+    ands_of_last (has_tag g (take i tags)) (same_tag tag g) (holds g)
     ∙ ap (λ (b : Bool). b && holds g) (ap (λ (t : Tag). has_tag g (take i tags) || same_tag t g) is
     ∙ sym (list_any_more (λ t. same_tag t g) tags i tag lt))
-  where
-    both : (a b c : Bool) → ((a && c) || (b && c)) ≡ ((a || b) && c)
-    both true true true = refl
-    both true true false = refl
-    both true false true = refl
-    both true false false = refl
-    both false b c = refl
-
--- a test that follows from the other
-pub implied : (a b : Bool) → (b ≡ true → a ≡ true) → (a && b) ≡ b
-implied true b k = refl
-implied false true k = k refl
-implied false false k = refl

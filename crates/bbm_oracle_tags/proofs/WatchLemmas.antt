@@ -1,5 +1,6 @@
 -- One more event, and the TLBIs that the PEs await of it.
-use Rattle.std.proofs.Common.{◌≡◌, ℕ, suc, ◌<◌, ◌≤◌, Bool, true, false, not, ◌&&◌, ◌||◌, cond, ◌==◌, nat_le, List, [], ◌∷◌, length, refl, sym, ap, ◌∙◌, arith, true≢false}
+use Rattle.std.proofs.Common.{◌≡◌, ℕ, suc, ◌<◌, ◌≤◌, Bool, true, false, not, ◌&&◌, ◌||◌, cond, ◌==◌, nat_le, List, []}
+use Rattle.std.proofs.Common.{◌∷◌, length, refl, sym, ap, ◌∙◌, arith, true≢false}
 use Rattle.std.proofs.lemmas.Bool.{le-leb, leb-true}
 use Rattle.std.proofs.lemmas.Map.Views.{any-filter_same}
 use Rattle.bbm_regimes.specs.PeMask.{pe_in}
@@ -12,8 +13,10 @@ use Rattle.bbm_rules.specs.Reach.{Issued, completes, left_open, reaches, unanswe
 use Rattle.bbm_rules.specs.Tags.{holds_at, is_taken_by, itself, loses, read_since, reads, reads_for_some, takes_tag}
 use Rattle.bbm_oracle_tags.specs.Watches.{IsWatch, Looks, awaits, awaits_after, is_cast, loses_by, would_take}
 use Rattle.bbm_oracle_tags.specs.declared.watch.Watch.{Watch}
-use Rattle.bbm_oracle_tags.proofs.BoolLemmas.{and-false, and-true, read-later, read-now, and-or, and-swap, told-twice, taken-broadcast, taken-local, taken-never, taken-both}
+use Rattle.bbm_oracle_tags.proofs.BoolLemmas.{read-later, read-now, taken-broadcast, taken-local}
 use Rattle.bbm_oracle_tags.proofs.MomentLemmas.{same-reads-some}
+use mathlib.Core.Bool.{and-false, and-true, and_comm, or_self_left}
+use Rattle.bbm_lemmas.proofs.Bools.{first_true, ands_of_first, never_of_two, both_of_two}
 
 -- each of the TLBIs was issued before so many events had come
 abbrev older : ℕ → List (Issued Event) → Type 0
@@ -75,7 +78,7 @@ module _ (heading : Heading) (p : ℕ) (tag : Tag) where
   read-present n (e ∷ h) lt =
       let next = read-next n e h (omega arith) in
       ap (λ (b : Bool). reads_for_some heading (e ∷ h) p tag || b) next
-      ∙ told-twice (reads_for_some heading (e ∷ h) p tag) (read_since heading n p tag h) ∙ sym next
+      ∙ or_self_left (reads_for_some heading (e ∷ h) p tag) (read_since heading n p tag h) ∙ sym next
 
   takes-next : (e : Event) (h : List Event) (cast : Bool) (t : Issued Event) → length t.before ≤ length h
       → would_take heading p tag (e ∷ h) cast t ≡ (not (reads_for_some heading (e ∷ h) p tag) && would_take heading p tag h cast t)
@@ -92,7 +95,7 @@ module _ (heading : Heading) (p : ℕ) (tag : Tag) where
       let lt : length t.before < length h = k.0 in
       ap (λ (b : Bool). b || any (would_take heading p tag (e ∷ h) cast) ts) (takes-next e h cast t (omega arith))
       ∙ ap (λ (b : Bool). (not (reads_for_some heading (e ∷ h) p tag) && would_take heading p tag h cast t) || b) (all-next e h cast ts k.1)
-      ∙ and-or (not (reads_for_some heading (e ∷ h) p tag)) (would_take heading p tag h cast t) (any (would_take heading p tag h cast) ts)
+      ∙ ands_of_first (not (reads_for_some heading (e ∷ h) p tag)) (would_take heading p tag h cast t) (any (would_take heading p tag h cast) ts)
 
   takes-first : (e : Event) (h : List Event) (cast : Bool) → would_take heading p tag (e ∷ h) cast (record { tlbi = e; before = h })
       ≡ (not (reads_for_some heading (e ∷ h) p tag) && (is_cast cast e && (reaches heading e p && takes_tag heading e h tag)))
@@ -112,17 +115,13 @@ module _ (heading : Heading) (p : ℕ) (tag : Tag) where
   sorted true dsb e k = absurd (true≢false (sym k))
   sorted false dsb e k = absurd (true≢false (sym k))
 
-  first-part : (a b : Bool) → (a && b) ≡ true → a ≡ true
-  first-part true b k = refl
-  first-part false b k = k
-
   left-taking : (dsb : Barrier) (h : List Event) (cast : Bool) (ts : List (Issued Event))
       → any (would_take heading p tag h cast) (left_open itself dsb ts) ≡ (any (would_take heading p tag h cast) ts && not (answers dsb cast))
   left-taking dsb h cast ts =
       any-filter_same (would_take heading p tag h cast) (λ t. not (completes dsb t.tlbi)) (not (answers dsb cast))
-      (λ t k. sorted cast dsb t.tlbi (first-part (is_cast cast t.tlbi) (reaches heading t.tlbi p && (takes_tag heading t.tlbi t.before tag
+      (λ t k. sorted cast dsb t.tlbi (first_true (is_cast cast t.tlbi) (reaches heading t.tlbi p && (takes_tag heading t.tlbi t.before tag
       && not (read_since heading (length t.before) p tag h))) k)) ts
-      ∙ and-swap (not (answers dsb cast)) (any (would_take heading p tag h cast) ts)
+      ∙ and_comm (not (answers dsb cast)) (any (would_take heading p tag h cast) ts)
 
   pub awaits-next : (e : Event) (h : List Event) (cast : Bool) (q : ℕ) → awaits heading p tag (e ∷ h) cast q
       ≡ awaits_after cast (reaches heading e p && takes_tag heading e h tag) (reads_for_some heading (e ∷ h) p tag) e q (awaits heading p tag h cast q)
@@ -140,7 +139,7 @@ module _ (heading : Heading) (p : ℕ) (tag : Tag) where
           ap (λ (b : Bool). b || any (would_take heading p tag (Tlbi pe op xt ∷ h) cast) (unanswered itself q h)) (takes-first (Tlbi pe op xt) h cast)
           ∙ ap (λ (b : Bool). (not (reads_for_some heading (Tlbi pe op xt ∷ h) p tag) && (is_cast cast (Tlbi pe op xt)
           && (reaches heading (Tlbi pe op xt) p && takes_tag heading (Tlbi pe op xt) h tag))) || b) before
-          ∙ and-or (not (reads_for_some heading (Tlbi pe op xt ∷ h) p tag)) (is_cast cast (Tlbi pe op xt)
+          ∙ ands_of_first (not (reads_for_some heading (Tlbi pe op xt ∷ h) p tag)) (is_cast cast (Tlbi pe op xt)
           && (reaches heading (Tlbi pe op xt) p && takes_tag heading (Tlbi pe op xt) h tag)) (awaits heading p tag h cast q)
       by_case false = before
   awaits-next (Dsb pe dsb) h cast q = by_case (pe == q)
@@ -179,7 +178,7 @@ module _ (heading : Heading) (p : ℕ) (tag : Tag) where
               ≡ ((answers dsb true && (b && (r && (k && n)))) || (answers dsb false && (not b && (r && (k && n)))))
           by_case true = taken-broadcast (answers dsb true) (answers dsb false) r k n
           by_case false = taken-local (answers dsb true) (answers dsb false) r k n
-      by_event e r k n = taken-never (answers dsb true) (answers dsb false) (r && (k && n))
+      by_event e r k n = never_of_two (answers dsb true) (answers dsb false) (r && (k && n))
 
   all-taken : (q : ℕ) (dsb : Barrier) (h : List Event) (ts : List (Issued Event)) → older (length h) ts
       → any (is_taken_by heading Patterns p tag q dsb h) ts
@@ -195,7 +194,7 @@ module _ (heading : Heading) (p : ℕ) (tag : Tag) where
       ap (λ (b : Bool). b || any (is_taken_by heading Patterns p tag q dsb h) ts) (taken-by q dsb h t k.0)
       ∙ ap (λ (b : Bool). ((answers dsb true && would_take heading p tag h true t) || (answers dsb false && would_take heading p tag h false t)) || b)
       (all-taken q dsb h ts k.1)
-      ∙ taken-both (answers dsb true) (answers dsb false) (would_take heading p tag h true t) (would_take heading p tag h false t)
+      ∙ both_of_two (answers dsb true) (answers dsb false) (would_take heading p tag h true t) (would_take heading p tag h false t)
       (any (would_take heading p tag h true) ts) (any (would_take heading p tag h false) ts)
 
   pub loses-next : (e : Event) (h : List Event) → loses heading Patterns p tag e h

@@ -1,4 +1,4 @@
 pub mod Conflicts
 pub mod Moments
-pub mod TagSets
+pub mod HeldTagSets
 pub mod Watches

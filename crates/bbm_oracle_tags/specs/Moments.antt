@@ -5,7 +5,7 @@ use Rattle.bbm_rules.specs.Prelude.{VttbrEl2, Ttbr0El1, Ttbr1El1, Tag, El2Tag, V
 use Rattle.bbm_rules.specs.Prelude.{Kernel, Event}
 use Rattle.bbm_rules.specs.Claims.{same_tag}
 use Rattle.bbm_rules.specs.Lists.{◌>>=◌, if_so, any}
-use Rattle.bbm_rules.specs.Registers.{base_of, register_values, tag_number}
+use Rattle.bbm_rules.specs.RegisterValues.{base_of, register_values, tag_number}
 use Rattle.bbm_rules.specs.Roots.{Declared, is_at, roots_of, same_kind}
 use Rattle.bbm_rules.specs.Tags.{Reading}
 use Rattle.bbm_oracle_tags.specs.declared.moment.Moment.{Moment}

@@ -3,7 +3,7 @@
 ghost use Rattle.std.specs.Prelude.{◌≡◌, ◌++◌, List, [], ◌∷◌, filter_map, flat_map, option_to_list, IfOk, OnOk};
 ghost use Rattle.bbm_regimes.specs.declared.regime.Kind.TheVariants.{Ttbr0};
 ghost use Rattle.bbm_events.specs.declared.event.Event.{Event};
-ghost use Rattle.bbm_rules.specs.Registers.{register_values};
+ghost use Rattle.bbm_rules.specs.RegisterValues.{register_values};
 ghost use Rattle.bbm_rules.specs.Roots.{roots_of};
 ghost use Rattle.bbm_oracle_tags.specs.Moments as spec;
 

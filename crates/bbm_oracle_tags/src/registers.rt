@@ -4,7 +4,7 @@
 ghost use Rattle.std.specs.Prelude.{◌≡◌, ℕ, ◌==◌, List, ◌∷◌, reverse, map, IfOk, OnOk};
 ghost use Rattle.bbm_events.specs.declared.event.Event.{Event};
 ghost use Rattle.bbm_rules.specs.Lists.{every, one_number as only_number};
-ghost use Rattle.bbm_rules.specs.Registers as spec;
+ghost use Rattle.bbm_rules.specs.RegisterValues as spec;
 
 use bbm_events::{Event, Header};
 use bbm_regimes::{NoMemory, Pe, Reg, World, same_reg, tag_number};

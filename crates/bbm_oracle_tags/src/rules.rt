@@ -14,7 +14,7 @@ ghost use Rattle.bbm_rules.specs.Lists as lists;
 ghost use Rattle.bbm_rules.specs.Lists.{any, is_that, some_pe};
 ghost use Rattle.bbm_rules.specs.Notes.{Noted, events_of};
 ghost use Rattle.bbm_rules.specs.Pages as pages;
-ghost use Rattle.bbm_rules.specs.Registers as registers;
+ghost use Rattle.bbm_rules.specs.RegisterValues as registers;
 ghost use Rattle.bbm_rules.specs.Roots as roots;
 ghost use Rattle.bbm_rules.specs.Rules as spec;
 ghost use Rattle.bbm_rules.specs.Tags as tags;

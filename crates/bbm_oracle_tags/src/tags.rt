@@ -6,7 +6,7 @@ ghost use Rattle.bbm_events.specs.declared.event.Event.{Event as TheEvent};
 ghost use Rattle.bbm_rules.specs.Claims.{Patterns, Trust, same_tag as is_same_tag};
 ghost use Rattle.bbm_rules.specs.Tags as spec;
 ghost use Rattle.bbm_oracle_tags.specs.Moments as moments;
-ghost use Rattle.bbm_oracle_tags.specs.TagSets as sets;
+ghost use Rattle.bbm_oracle_tags.specs.HeldTagSets as sets;
 
 use crate::evidence::TagEvidence;
 use crate::moment::Moment;

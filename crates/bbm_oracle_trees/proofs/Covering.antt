@@ -1,13 +1,15 @@
 -- What a TLBI covers, of the places of the trees page by page.
-use Rattle.std.proofs.Common.{◌≡◌, ℕ, Bool, true, false, ◌&&◌, ◌||◌, ◌==◌, cond, List, [], ◌∷◌, ◌++◌, filter, Option, Some, None, refl, sym, ◌∙◌, ap, subst, append_assoc}
+use Rattle.std.proofs.Common.{◌≡◌, ℕ, Bool, true, false, ◌&&◌, ◌||◌, ◌==◌, cond, List, [], ◌∷◌, ◌++◌, filter, Option}
+use Rattle.std.proofs.Common.{Some, None, refl, sym, ◌∙◌, ap, subst, append_assoc}
 use Rattle.std.proofs.lemmas.Bool.{eqb-true, eq-eqb}
 use Rattle.std.specs.List.{flat_map}
 use Rattle.std.specs.Option.{option_map_or}
 use Rattle.bbm_descriptor.specs.Descriptor.{is_valid}
 use Rattle.bbm_tlbi_scope.specs.declared.entry.Cover.{Cover}
 use Rattle.bbm_tlbi_scope.specs.declared.entry.Cover.TheVariants.{None as NoCover, Half, Second, Full}
-use Rattle.bbm_tlbi_scope.specs.Covers.{cover_of}
-use Rattle.bbm_rules.specs.Prelude.{Kind, Scope, Heading, Event, Init, Null, Root, Unroot, Write, Dsb, Dmb, Isb, Tlbi, Msr, Lock, Unlock}
+use Rattle.bbm_tlbi_scope.specs.ScopeCovers.{cover_of}
+use Rattle.bbm_rules.specs.Prelude.{Kind, Scope, Heading, Event, Init, Null, Root, Unroot, Write, Dsb, Dmb, Isb, Tlbi}
+use Rattle.bbm_rules.specs.Prelude.{Msr, Lock, Unlock}
 use Rattle.bbm_rules.specs.Claims.{Trust}
 use Rattle.bbm_rules.specs.Held.{ValidWrite, cleansed_everywhere, held, last_valid, last_valid_after, later}
 use Rattle.bbm_rules.specs.Lists.{◌>>=◌, among, any, with_number}
@@ -88,7 +90,7 @@ module _ (kind : Kind) (level q : ℕ) where
   none_after (Lock pe lock) n es found before none = no_later n found (before none)
   none_after (Unlock pe lock) n es found before none = no_later n found (before none)
 
-  none_valid : (h : List Noted) → among q (written_places (events_of h)) ≡ false → last_valid kind level q h ≡ None
+  pub none_valid : (h : List Noted) → among q (written_places (events_of h)) ≡ false → last_valid kind level q h ≡ None
   none_valid [] none = refl
   none_valid (n ∷ h) none = none_after n.event n (events_of h) (last_valid kind level q h) (none_valid h) none
 

@@ -5,9 +5,10 @@ use Rattle.std.proofs.lemmas.Bool.{and_parts}
 use Rattle.std.proofs.lemmas.List.Elements.{All-nil, All-cons, All-filter, All-same}
 use Rattle.std.proofs.lemmas.Result.{IfOk-weaker}
 use Rattle.bbm_events.specs.Fits.{fits_heading, is_pe, is_root_lock, is_root_page}
-use Rattle.bbm_rules.specs.Prelude.{Heading, Event, Init, Null, Root, Unroot, Write, Dsb, Dmb, Isb, Tlbi, Msr, Lock, Unlock}
+use Rattle.bbm_rules.specs.Prelude.{Heading, Event, Init, Null, Root, Unroot, Write, Dsb, Dmb, Isb, Tlbi, Msr, Lock}
+use Rattle.bbm_rules.specs.Prelude.{Unlock}
 use Rattle.bbm_rules.specs.Roots.{Declared, is_at, retired, roots_of}
-use Rattle.bbm_oracle_trees.specs.Fits.{all_fit, fits_root}
+use Rattle.bbm_oracle_trees.specs.HistoryFits.{all_fit, fits_root}
 
 module _ (heading : Heading) where
   abbrev Fit : Declared → Type 0

@@ -1,6 +1,7 @@
 pub mod Covering
 pub mod Finds
 pub mod Fitting
+pub mod Linking
 pub mod Noting
 pub mod Pages
 pub mod Phasing

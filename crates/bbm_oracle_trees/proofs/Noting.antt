@@ -9,7 +9,7 @@ use Rattle.bbm_rules.specs.Notes.{Noted, events_of}
 use Rattle.bbm_oracle_patterns.specs.Kept.{cover_in, notes_of}
 use Rattle.bbm_oracle_patterns.specs.declared.kept.Kept.{Kept}
 use Rattle.bbm_oracle_trees.specs.Past.{Past, notes}
-use Rattle.bbm_oracle_trees.specs.StandsFor.{StandsFor}
+use Rattle.bbm_oracle_trees.specs.HistoryStandsFor.{StandsFor}
 
 length-notes_of : (kept : List Kept) → length (notes_of kept) ≡ length kept
 length-notes_of [] = refl

@@ -13,10 +13,10 @@ use Rattle.bbm_rules.specs.Covers.{noted}
 use Rattle.bbm_rules.specs.Places.{page_of}
 use Rattle.bbm_rules.specs.Tree.{Node, node_of}
 use Rattle.bbm_rules.specs.Values.{value_of}
-use Rattle.bbm_oracle_patterns.specs.Phases.{phase_at}
+use Rattle.bbm_oracle_patterns.specs.PlacePhases.{phase_at}
 use Rattle.bbm_oracle_trees.specs.Past.{Past, notes}
-use Rattle.bbm_oracle_trees.specs.Phases.{phase_among}
-use Rattle.bbm_oracle_trees.specs.StandsFor.{StandsFor}
+use Rattle.bbm_oracle_trees.specs.TreePhases.{phase_among}
+use Rattle.bbm_oracle_trees.specs.HistoryStandsFor.{StandsFor}
 
 -- where the search of the node found one
 pub phase_at_node : (heading : Heading) (trust : Trust) (h : List Noted) (place p : ℕ) (n : Node) →

@@ -1,5 +1,6 @@
-pub mod Fits
+pub mod HistoryFits
+pub mod Links
 pub mod Past
-pub mod Phases
-pub mod StandsFor
+pub mod TreePhases
+pub mod HistoryStandsFor
 pub mod Views

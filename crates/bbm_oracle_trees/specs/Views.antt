@@ -6,7 +6,7 @@ use Rattle.bbm_descriptor.specs.Descriptor.{desc_of}
 use Rattle.bbm_tlbi_scope.specs.declared.entry.Cover.{Cover}
 use Rattle.bbm_tlbi_scope.specs.declared.entry.Cover.TheVariants.{None as NoCover}
 use Rattle.bbm_tlbi_scope.specs.declared.entry.PlaceView.{PlaceView}
-use Rattle.bbm_tlbi_scope.specs.Covers.{cover_of}
+use Rattle.bbm_tlbi_scope.specs.ScopeCovers.{cover_of}
 use Rattle.bbm_rules.specs.Prelude.{Heading, Event, Scope}
 use Rattle.bbm_rules.specs.Claims.{Trust}
 use Rattle.bbm_rules.specs.Covers.{is_global, view_at}

@@ -1,13 +1,14 @@
 //! Which places an event covers, and how far.
 
-ghost use Rattle.std.specs.Prelude.{◌≡◌, ◌≤◌, ℕ, ◌++◌, flat_map, Option, IfOk, OnOk};
+ghost use Rattle.std.specs.Prelude.{◌≡◌, ◌≤◌, ℕ, true, ◌++◌, flat_map, Option, IfOk, OnOk};
 ghost use Rattle.std.specs.Option.{option_map_or};
 ghost use Rattle.bbm_descriptor.specs.Descriptor.{desc_of};
 ghost use Rattle.bbm_tlbi_scope.specs.declared.entry.Cover.TheVariants.{None as NoCover};
-ghost use Rattle.bbm_tlbi_scope.specs.Covers.{cover_of};
+ghost use Rattle.bbm_tlbi_scope.specs.declared.entry.PlaceView.{PlaceView as SeenPlace};
+ghost use Rattle.bbm_tlbi_scope.specs.ScopeCovers.{cover_of};
 ghost use Rattle.bbm_rules.specs.Covers as covering;
 ghost use Rattle.bbm_rules.specs.Notes.{events_of};
-ghost use Rattle.bbm_rules.specs.Registers.{vmid_of};
+ghost use Rattle.bbm_rules.specs.RegisterValues.{vmid_of};
 ghost use Rattle.bbm_rules.specs.Tags.{tag_set, tags_of};
 ghost use Rattle.bbm_rules.specs.Tree as trees;
 ghost use Rattle.bbm_rules.specs.Values.{places_in};
@@ -21,7 +22,7 @@ use crate::tree::{first_of, is_childless, next_page};
 use bbm_descriptor::{Desc, read};
 use bbm_events::Event;
 use bbm_oracle_patterns::{Covered, Evidence};
-use bbm_regimes::{Kind, NoMemory, Page, Pe, Place};
+use bbm_regimes::{Interval, Kind, NoMemory, Page, Pe, Place};
 use bbm_tlbi_scope::{Cover, PlaceView, Scope, TagSet, cover};
 use std::alloc::Global;
 
@@ -106,7 +107,16 @@ fn view<E: Evidence>(
     })
 }
 
-/// How far a TLBI of this scope, under this VMID, covers a place of the page.
+/// Whether a TLBI of this scope is for pages, and none of them is one of the region.
+fn misses(scope: &Scope, region: Interval) -> bool
+    ensures { result ≡ true → (vmid : Option ℕ) (v : SeenPlace) → v.region ≡ region
+        → cover_of scope.now vmid v ≡ NoCover }
+{
+    scope.family.has_page() && !scope.names_some(region) && !scope.names_all(region)
+}
+
+/// How far a TLBI of this scope, under this VMID, covers a place of the page. What the place holds is asked only where
+/// the TLBI is for a page of its region.
 fn cover_in_node<E: Evidence>(
     alloc: Global,
     log: &Log<E>,
@@ -121,6 +131,9 @@ fn cover_in_node<E: Evidence>(
         (λ value. cover_of scope.now vmid (view_of log.now.heading log.now.trust (notes log.now) node.now place value))
         (trees.held_at log.now.heading log.now.trust (notes log.now) node.now place) NoCover) }
 {
+    if misses(scope, node.region(place)) {
+        return Ok(Cover::None);
+    }
     match log.held(node.kind, node.level, place) {
         Some(value) => match view(alloc, log, known, node, place, value) {
             Ok(view) => Ok(cover(*scope, vmid, view)),

@@ -13,14 +13,15 @@ ghost use Rattle.bbm_rules.specs.Phases as phases;
 ghost use Rattle.bbm_rules.specs.Tags as tags;
 ghost use Rattle.bbm_rules.specs.Tree as trees;
 ghost use Rattle.bbm_rules.specs.Values.{value_of};
-ghost use Rattle.bbm_oracle_patterns.specs.Phases.{phase_at};
+ghost use Rattle.bbm_oracle_patterns.specs.PlacePhases.{phase_at};
 ghost use Rattle.bbm_oracle_trees.specs.Past.{notes};
-ghost use Rattle.bbm_oracle_trees.specs.Phases.{phase_among};
-ghost use Rattle.bbm_oracle_trees.specs.StandsFor.{StandsFor};
+ghost use Rattle.bbm_oracle_trees.specs.TreePhases.{phase_among};
+ghost use Rattle.bbm_oracle_trees.specs.HistoryStandsFor.{StandsFor};
 
 use crate::covers::covers_of;
 use crate::fresh::{fresh_after, has};
 use crate::limbo::in_limbo;
+use crate::links::leaves_trees;
 use crate::log::Log;
 use crate::node::Node;
 use crate::tree::{first_of, is_childless, tree_of};
@@ -222,6 +223,9 @@ impl<E: Evidence> History<E> {
     {
         let covers = covers_of(alloc, &self.log, &self.trees.nodes, &event)?;
         let before = self.log.take(alloc, &event, covers)?;
+        if leaves_trees(&self.log, &self.trees.nodes, &event) {
+            return Ok(());
+        }
         match trees_after(alloc, &self.log, &self.trees.fresh, &event) {
             Ok(trees) => {
                 self.trees = trees;

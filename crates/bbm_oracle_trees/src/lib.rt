@@ -5,6 +5,7 @@ mod covers;
 mod fresh;
 mod history;
 mod limbo;
+mod links;
 mod log;
 mod node;
 mod starts;

@@ -4,13 +4,13 @@ ghost use Rattle.std.specs.Prelude.{◌≡◌, ◌∷◌, [], true, reverse, dro
 ghost use Rattle.bbm_events.specs.Fits.{fits_heading};
 ghost use Rattle.bbm_rules.specs.Held as holding;
 ghost use Rattle.bbm_rules.specs.Notes.{events_of};
-ghost use Rattle.bbm_rules.specs.Registers as registers;
+ghost use Rattle.bbm_rules.specs.RegisterValues as registers;
 ghost use Rattle.bbm_rules.specs.Roots as roots;
 ghost use Rattle.bbm_rules.specs.Tags as tags;
 ghost use Rattle.bbm_rules.specs.Values as values;
 ghost use Rattle.bbm_oracle_patterns.specs.Kept.{notes_of};
-ghost use Rattle.bbm_oracle_patterns.specs.Phases.{phase_at};
-ghost use Rattle.bbm_oracle_trees.specs.Fits.{fits_root};
+ghost use Rattle.bbm_oracle_patterns.specs.PlacePhases.{phase_at};
+ghost use Rattle.bbm_oracle_trees.specs.HistoryFits.{fits_root};
 
 use bbm_events::{Event, Header};
 use bbm_oracle_patterns::{Covered, Evidence, Kept, held, phase_in};
@@ -36,7 +36,7 @@ impl<E: Evidence> Model for Log<E> {
     ghost use Rattle.std.specs.Prelude.{◌≡◌, true, reverse};
     ghost use Rattle.bbm_rules.specs.Notes.{events_of};
     ghost use Rattle.bbm_oracle_patterns.specs.Kept.{notes_of};
-    ghost use Rattle.bbm_oracle_trees.specs.Fits.{all_fit};
+    ghost use Rattle.bbm_oracle_trees.specs.HistoryFits.{all_fit};
     ghost use Rattle.bbm_oracle_trees.specs.Past.{Past};
 
     ghost Value = { Past };

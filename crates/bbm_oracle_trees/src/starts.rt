@@ -5,7 +5,7 @@ ghost use Rattle.std.specs.Prelude.{if◌then◌else◌};
 ghost use Rattle.bbm_regimes.specs.World as worlds;
 ghost use Rattle.bbm_rules.specs.Tree.{nodes_of_pages, nodes_of_root, starts_at};
 ghost use Rattle.bbm_rules.specs.Roots.{pages_from};
-ghost use Rattle.bbm_oracle_trees.specs.Fits.{fits_root};
+ghost use Rattle.bbm_oracle_trees.specs.HistoryFits.{fits_root};
 
 use crate::node::Node;
 use bbm_events::{Header, input_pages};

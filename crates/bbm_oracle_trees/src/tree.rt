@@ -4,7 +4,7 @@ ghost use Rattle.std.specs.Prelude.{◌≡◌, ◌≤◌, ◌<◌, ◌==◌, ◌
 ghost use Rattle.std.specs.Prelude.{IfSome, option_copied, option_to_list};
 ghost use Rattle.bbm_rules.specs.Lists.{any};
 ghost use Rattle.bbm_rules.specs.Tree as trees;
-ghost use Rattle.bbm_oracle_trees.specs.Fits.{fits_root};
+ghost use Rattle.bbm_oracle_trees.specs.HistoryFits.{fits_root};
 ghost use Rattle.bbm_oracle_trees.specs.Past.{notes};
 
 use crate::log::Log;

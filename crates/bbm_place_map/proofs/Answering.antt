@@ -1,9 +1,10 @@
 -- One entry that a DSB answered, among the others.
-use Rattle.std.proofs.Common.{◌≡◌, ◌≢◌, ℕ, Bool, true, false, ◌&&◌, nat_eq, List, [], length, Option, Some, None, refl, ap, sym, subst, ◌∙◌, if◌then◌else◌, slice_get}
+use Rattle.std.proofs.Common.{◌≡◌, ◌≢◌, ℕ, Bool, true, false, ◌&&◌, nat_eq, List, [], length, Option, Some, None, refl}
+use Rattle.std.proofs.Common.{ap, sym, subst, ◌∙◌, if◌then◌else◌, slice_get}
 use Rattle.std.specs.Option.{option_map}
 use Rattle.std.proofs.lemmas.Bool.{eq-eqb, ne_eqb, cond-true, cond-false}
 use Rattle.bbm_barriers.specs.declared.Dsb.{Dsb}
-use Rattle.bbm_entry_state.specs.Calls.{Completed}
+use Rattle.bbm_entry_state.specs.EntryCalls.{Completed}
 use Rattle.bbm_entry_state.specs.Points.{waits}
 use Rattle.bbm_entry_state.specs.declared.pending.Pends.{Pends}
 use Rattle.bbm_entry_state.specs.declared.state.EntryState.TheVariants.{Clean, Broken}
@@ -17,6 +18,7 @@ use Rattle.bbm_place_map.specs.declared.entry.Entry.{Entry}
 use Rattle.bbm_place_map.proofs.Completing.{completes_none}
 use Rattle.bbm_place_map.proofs.Idle.{nothing_waits}
 use Rattle.bbm_place_map.proofs.Seats.{cells_same, linked_seated, placed_seated, seats_changed, entries_changed}
+use Rattle.bbm_lemmas.proofs.Bools.{with_true}
 
 pub completes_at : (issuer : ℕ) (dsb : Dsb) (n : ℕ) (o o' p p' : Option Entry) → o ≡ o' → p ≡ p'
     → Completes issuer dsb n o' p' → Completes issuer dsb n o p
@@ -35,10 +37,6 @@ pub completes_whole : (issuer : ℕ) (dsb : Dsb) (n : ℕ) (cells : List Cell) (
 completes_whole issuer dsb n cells entries none j =
     let is = none_broken entries none (slot_in cells j) in
     completes_at issuer dsb n (entry_in cells entries j) None (entry_in cells entries j) None is is (completes_none issuer dsb n)
-
-and_true : (b : Bool) → b ≡ (b && true)
-and_true true = refl
-and_true false = refl
 
 none_twice : (b : Bool) (x y : Option Entry) → (if b then None else if b then x else y) ≡ (if b then None else y)
 none_twice true x y = refl
@@ -104,7 +102,7 @@ module _ (issuer n : ℕ) (dsb : Dsb) (cells : List Cell) (entries : List Entry)
 
         pub answer_gone : is_table e.marks.core ≡ loses_table (marks_in cells entries j) (marks_in cells' entries' j)
         answer_gone =
-            and_true (is_table e.marks.core)
+            with_true (is_table e.marks.core)
             ∙ sym (ap (λ (o : Option Entry). loses_table (marks_of o) (marks_in cells' entries' j)) (old_entry j at)
             ∙ ap (λ (o : Option Entry). loses_table (Some e.marks) (marks_of o)) none_here)
 

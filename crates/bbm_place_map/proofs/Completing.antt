@@ -2,8 +2,8 @@
 use Rattle.std.proofs.Common.{◌≡◌, ℕ, Bool, true, false, Option, None, refl, if◌then◌else◌}
 use Rattle.bbm_descriptor.specs.declared.desc.Core.{Core}
 use Rattle.bbm_barriers.specs.declared.Dsb.{Dsb}
-use Rattle.bbm_regimes.specs.EveryPe.{every_pe}
-use Rattle.bbm_entry_state.specs.Calls.{clean_after}
+use Rattle.bbm_lemmas.specs.EveryPe.{every_pe}
+use Rattle.bbm_entry_state.specs.EntryCalls.{clean_after}
 use Rattle.bbm_entry_state.specs.declared.state.EntryState.TheVariants.{Clean}
 use Rattle.bbm_place_map.specs.Entries.{no_pends}
 use Rattle.bbm_place_map.specs.Each.{Completes}

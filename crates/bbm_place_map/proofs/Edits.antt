@@ -1,5 +1,6 @@
 -- Numbers of entries within the cells.
-use Rattle.std.proofs.Common.{◌≡◌, ℕ, ◌+◌, ◌<◌, ◌≤◌, List, length, Bool, Option, Some, None, is_some, refl, ap, sym, ◌∙◌, arith, inl, inr, cond, count_by, set, get_or}
+use Rattle.std.proofs.Common.{◌≡◌, ℕ, ◌+◌, ◌<◌, ◌≤◌, List, length, Bool, Option, Some, None, is_some, refl, ap, sym}
+use Rattle.std.proofs.Common.{◌∙◌, arith, inl, inr, cond, count_by, set, get_or}
 use Rattle.std.proofs.lemmas.Bool.{cases_lt}
 use Rattle.std.proofs.lemmas.List.{length-set, get_or_past}
 use Rattle.std.proofs.lemmas.List.Sums.{sum_by-set, count_by-le-length}

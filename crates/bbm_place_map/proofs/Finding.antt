@@ -1,5 +1,6 @@
 -- How far items cover a place.
-use Rattle.std.proofs.Common.{◌≡◌, ℕ, ◌+◌, ◌<◌, Bool, true, false, nat_eq, suc, List, [], ◌∷◌, length, ◌++◌, drop, take, get_or, refl, arith, ap, sym, ◌∙◌, inl, inr, ◌||◌, if◌then◌else◌, add-one, drop-cons}
+use Rattle.std.proofs.Common.{◌≡◌, ℕ, ◌+◌, ◌<◌, Bool, true, false, nat_eq, suc, List, [], ◌∷◌, length, ◌++◌, drop, take}
+use Rattle.std.proofs.Common.{get_or, refl, arith, ap, sym, ◌∙◌, inl, inr, ◌||◌, if◌then◌else◌, add-one, drop-cons}
 use Rattle.std.proofs.Math.Seq.{take-suc}
 use Rattle.std.proofs.lemmas.Bool.{cases_Bool, cond-true, cond-false, eq-eqb, eqb-true, false≢true}
 use Rattle.std.proofs.lemmas.List.{take-append-drop}
@@ -7,6 +8,7 @@ use Rattle.bbm_tlbi_scope.specs.declared.entry.Cover.{Cover}
 use Rattle.bbm_tlbi_scope.specs.declared.entry.Cover.TheVariants.{None as NoCover}
 use Rattle.bbm_place_map.specs.Finds.{cover_in, is_found, FoundAs}
 use Rattle.bbm_place_map.specs.declared.found.Found.{Found}
+use mathlib.Core.Bool.{or-false, or-true}
 
 pub cover_step : (xs : List Found) (i : ℕ) (x : Found) (a : ℕ) → i < length xs → x ≡ get_or xs i x
     → cover_in (drop i xs) a ≡ (if nat_eq x.place a then x.cover else cover_in (drop (i + 1) xs) a)
@@ -56,20 +58,12 @@ pub take_more : (xs : List Found) (i : ℕ) (x : Found) → i < length xs → x 
 take_more xs i x within is =
     ap (λ (n : ℕ). take n xs) (add-one i) ∙ take-suc xs i x within ∙ ap (λ (y : Found). take i xs ++ y ∷ []) (sym is)
 
-or_none : (b : Bool) → (b || false) ≡ b
-or_none true = refl
-or_none false = refl
-
-or_true : (b : Bool) → (b || true) ≡ true
-or_true true = refl
-or_true false = refl
-
 module _ (xs : List Found) (x : Found) (a : ℕ) where
   pub found_off : nat_eq x.place a ≡ false → is_found (xs ++ x ∷ []) a ≡ is_found xs a
-  found_off off = found_append xs (x ∷ []) a ∙ ap (λ (b : Bool). is_found xs a || (b || false)) off ∙ or_none (is_found xs a)
+  found_off off = found_append xs (x ∷ []) a ∙ ap (λ (b : Bool). is_found xs a || (b || false)) off ∙ or-false (is_found xs a)
 
   pub found_here : nat_eq x.place a ≡ true → is_found (xs ++ x ∷ []) a ≡ true
-  found_here is = found_append xs (x ∷ []) a ∙ ap (λ (b : Bool). is_found xs a || (b || false)) is ∙ or_true (is_found xs a)
+  found_here is = found_append xs (x ∷ []) a ∙ ap (λ (b : Bool). is_found xs a || (b || false)) is ∙ or-true (is_found xs a)
 
   pub found_old : is_found xs a ≡ true → is_found (xs ++ x ∷ []) a ≡ true
   found_old old = found_append xs (x ∷ []) a ∙ ap (λ (b : Bool). b || is_found (x ∷ []) a) old

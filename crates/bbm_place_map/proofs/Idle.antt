@@ -1,5 +1,7 @@
 -- Where nothing waits.
-use Rattle.std.proofs.Common.{◌≡◌, ℕ, ◌+◌, ◌<◌, Bool, true, false, not, ◌&&◌, ◌||◌, nat_eq, ◌==◌, suc, List, [], length, drop, get_or, Option, Some, None, refl, ap, sym, ◌∙◌, if◌then◌else◌, add-one, drop-cons, slice_get}
+use Rattle.std.proofs.Common.{◌≡◌, ℕ, ◌+◌, ◌<◌, Bool, true, false, not, ◌&&◌, ◌||◌, nat_eq, ◌==◌, suc, List, [], length}
+use Rattle.std.proofs.Common.{drop, get_or, Option, Some, None, refl, ap, sym, ◌∙◌, if◌then◌else◌, add-one, drop-cons}
+use Rattle.std.proofs.Common.{slice_get}
 use Rattle.std.proofs.lemmas.Nat.Bits.{bit_at-zero}
 use Rattle.bbm_regimes.specs.PeMask.{pe_in}
 use Rattle.bbm_tlbi_scope.specs.declared.entry.Cover.{Cover}
@@ -7,7 +9,7 @@ use Rattle.bbm_tlbi_scope.specs.declared.entry.Cover.TheVariants.{None as NoCove
 use Rattle.bbm_barriers.specs.declared.Dsb.{Dsb}
 use Rattle.bbm_barriers.specs.Options.{answers}
 use Rattle.bbm_entry_state.specs.Points.{waits, waits_in}
-use Rattle.bbm_entry_state.specs.Standing.{IsIdle}
+use Rattle.bbm_entry_state.specs.EntryStanding.{IsIdle}
 use Rattle.bbm_entry_state.specs.declared.pending.Pend.{Pend}
 use Rattle.bbm_entry_state.specs.declared.pending.Pends.{Pends}
 use Rattle.bbm_place_map.specs.Dsbs.{AreAnswered, WaitsOn}
@@ -18,6 +20,8 @@ use Rattle.bbm_place_map.specs.declared.cell.Cell.{Cell}
 use Rattle.bbm_place_map.specs.declared.entry.Entry.{Entry}
 use Rattle.bbm_place_map.specs.Sound.{at_index}
 use Rattle.bbm_place_map.specs.declared.entry.Pending.{Pending}
+use mathlib.Core.Bool.{and-false}
+use Rattle.bbm_lemmas.proofs.Bools.{none_of_two}
 
 no_pe : (p : ℕ) → pe_in (record { bits = 0 }) p ≡ false
 unfolding pe_in
@@ -36,14 +40,6 @@ nothing_waits false Full p = no_pe p
 pub idle_from : (x : Pends) → x ≡ no_pends → IsIdle x
 idle_from x is b c p = ap (λ (y : Pends). waits y b c p) is ∙ nothing_waits b c p
 
-and_false : (x : Bool) → (x && false) ≡ false
-and_false true = refl
-and_false false = refl
-
-no_answers : (x y : Bool) → ((x && false) || (y && false)) ≡ false
-no_answers true y = and_false y
-no_answers false y = and_false y
-
 -- a DSB answers nothing there
 module _ (x : Pends) (dsb : Dsb) (idle : IsIdle x) where
   pub idle_answered : (done : Pend) → ((c : Cover) (p : ℕ) → waits_in done c p ≡ false) → AreAnswered dsb x done
@@ -51,10 +47,10 @@ module _ (x : Pends) (dsb : Dsb) (idle : IsIdle x) where
       none c p
       ∙ sym (ap (λ (w : Bool). (answers dsb true && w) || (answers dsb false && waits x false c p)) (idle true c p)
       ∙ ap (λ (w : Bool). (answers dsb true && false) || (answers dsb false && w)) (idle false c p)
-      ∙ no_answers (answers dsb true) (answers dsb false))
+      ∙ none_of_two (answers dsb true) (answers dsb false))
 
   pub idle_on : WaitsOn dsb x x
-  idle_on b c p = idle b c p ∙ sym (ap (λ (w : Bool). not (answers dsb b) && w) (idle b c p) ∙ and_false (not (answers dsb b)))
+  idle_on b c p = idle b c p ∙ sym (ap (λ (w : Bool). not (answers dsb b) && w) (idle b c p) ∙ and-false (not (answers dsb b)))
 
 pub pends_step : (ps : List Pending) (i : ℕ) (x : Pending) (q : ℕ) → i < length ps → x ≡ get_or ps i x
     → pends_in (drop i ps) q ≡ (if nat_eq x.issuer q then x.pends else pends_in (drop (i + 1) ps) q)

@@ -5,49 +5,39 @@ use Rattle.bbm_regimes.specs.declared.pe.PeMask.{PeMask}
 use Rattle.bbm_tlbi_scope.specs.declared.entry.Cover.{Cover}
 use Rattle.bbm_tlbi_scope.specs.declared.entry.Cover.TheVariants.{None as NoCover, Half, Second, Full}
 use Rattle.bbm_entry_state.specs.Points.{waits, waits_in}
-use Rattle.bbm_entry_state.specs.Standing.{IsIdle}
+use Rattle.bbm_entry_state.specs.EntryStanding.{IsIdle}
 use Rattle.bbm_entry_state.specs.declared.pending.Pend.{Pend}
 use Rattle.bbm_entry_state.specs.declared.pending.Pends.{Pends}
-
-left_false : (x y : Bool) → (x || y) ≡ false → x ≡ false
-left_false true y h = h
-left_false false y h = refl
-
-right_false : (x y : Bool) → (x || y) ≡ false → y ≡ false
-right_false true y h = cc
-right_false false y h = h
-
-both_false : (x y : Bool) → x ≡ false → y ≡ false → (x || y) ≡ false
-both_false true y h k = cc
-both_false false y h k = k
+use Rattle.std.proofs.lemmas.Bool.{or_from}
+use Rattle.bbm_lemmas.proofs.Bools.{first_none, second_none}
 
 module _ (pend : Pend) (m m' : PeMask) (is : (p : ℕ) → pe_in m p ≡ (pe_in pend.half p || pe_in pend.second p))
     (is' : (p : ℕ) → pe_in m' p ≡ (pe_in m p || pe_in pend.full p)) where
   two_none : ((p : ℕ) → pe_in m' p ≡ false) → (p : ℕ) → (pe_in pend.half p || pe_in pend.second p) ≡ false
-  two_none none p = sym (is p) ∙ left_false (pe_in m p) (pe_in pend.full p) (sym (is' p) ∙ none p)
+  two_none none p = sym (is p) ∙ first_none (pe_in m p) (pe_in pend.full p) (sym (is' p) ∙ none p)
 
   each_none : ((p : ℕ) → pe_in m' p ≡ false) → (c : Cover) (p : ℕ) → waits_in pend c p ≡ false
   each_none none NoCover p = refl
-  each_none none Half p = left_false (pe_in pend.half p) (pe_in pend.second p) (two_none none p)
-  each_none none Second p = right_false (pe_in pend.half p) (pe_in pend.second p) (two_none none p)
-  each_none none Full p = right_false (pe_in m p) (pe_in pend.full p) (sym (is' p) ∙ none p)
+  each_none none Half p = first_none (pe_in pend.half p) (pe_in pend.second p) (two_none none p)
+  each_none none Second p = second_none (pe_in pend.half p) (pe_in pend.second p) (two_none none p)
+  each_none none Full p = second_none (pe_in m p) (pe_in pend.full p) (sym (is' p) ∙ none p)
 
   pub none_iff : (r : Bool) → (IsTrue r ↔ ((p : ℕ) → pe_in m' p ≡ false)) → IsTrue r ↔ ((c : Cover) (p : ℕ) → waits_in pend c p ≡ false)
   none_iff r tells = (
     λ t. each_none (tells.0 t),
     λ h. tells.1 (λ p.
         is' p
-        ∙ both_false (pe_in m p) (pe_in pend.full p) (is p ∙ both_false (pe_in pend.half p) (pe_in pend.second p) (h Half p) (h Second p)) (h Full p)),
+        ∙ or_from (pe_in m p) (pe_in pend.full p) (is p ∙ or_from (pe_in pend.half p) (pe_in pend.second p) (h Half p) (h Second p)) (h Full p)),
   )
 
 module _ (pends : Pends) (both : Pend)
     (is : (c : Cover) (p : ℕ) → waits_in both c p ≡ (waits_in pends.broadcast c p || waits_in pends.local c p)) where
   each_idle : ((c : Cover) (p : ℕ) → waits_in both c p ≡ false) → (b : Bool) (c : Cover) (p : ℕ) → waits pends b c p ≡ false
-  each_idle none true c p = left_false (waits_in pends.broadcast c p) (waits_in pends.local c p) (sym (is c p) ∙ none c p)
-  each_idle none false c p = right_false (waits_in pends.broadcast c p) (waits_in pends.local c p) (sym (is c p) ∙ none c p)
+  each_idle none true c p = first_none (waits_in pends.broadcast c p) (waits_in pends.local c p) (sym (is c p) ∙ none c p)
+  each_idle none false c p = second_none (waits_in pends.broadcast c p) (waits_in pends.local c p) (sym (is c p) ∙ none c p)
 
   pub idle_iff : (r : Bool) → (IsTrue r ↔ ((c : Cover) (p : ℕ) → waits_in both c p ≡ false)) → IsTrue r ↔ IsIdle pends
   idle_iff r tells = (
     λ t. each_idle (tells.0 t),
-    λ h. tells.1 (λ c p. is c p ∙ both_false (waits_in pends.broadcast c p) (waits_in pends.local c p) (h true c p) (h false c p)),
+    λ h. tells.1 (λ c p. is c p ∙ or_from (waits_in pends.broadcast c p) (waits_in pends.local c p) (h true c p) (h false c p)),
   )

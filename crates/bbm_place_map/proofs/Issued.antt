@@ -1,10 +1,11 @@
 -- What the issue of a TLBI notes, of a place.
-use Rattle.std.proofs.Common.{◌≡◌, ℕ, Bool, true, false, ◌<◌, List, length, Option, Some, None, is_some, refl, ap, sym, subst, ◌∙◌, arith, inl, inr, slice_get, unwrap_or, get_or}
+use Rattle.std.proofs.Common.{◌≡◌, ℕ, Bool, true, false, ◌<◌, List, length, Option, Some, None, is_some, refl, ap, sym}
+use Rattle.std.proofs.Common.{subst, ◌∙◌, arith, inl, inr, slice_get, unwrap_or, get_or}
 use Rattle.std.specs.Option.{option_map}
 use Rattle.std.proofs.lemmas.Option.{slice_get_cases, slice_get_within, same_Some, slice_get-get_or}
 use Rattle.bbm_regimes.specs.declared.pe.PeMask.{PeMask}
 use Rattle.bbm_tlbi_scope.specs.declared.entry.Cover.{Cover}
-use Rattle.bbm_entry_state.specs.Calls.{Noted}
+use Rattle.bbm_entry_state.specs.EntryCalls.{Noted}
 use Rattle.bbm_entry_state.specs.Points.{waits}
 use Rattle.bbm_entry_state.specs.declared.marks.Marks.{Marks}
 use Rattle.bbm_entry_state.specs.declared.state.EntryState.TheVariants.{Broken}
@@ -12,7 +13,7 @@ use Rattle.bbm_place_map.specs.Cells.{slot_in}
 use Rattle.bbm_place_map.specs.Each.{Advances}
 use Rattle.bbm_place_map.specs.Entries.{no_pends, entry_of, pends_in, pends_of}
 use Rattle.bbm_place_map.specs.Finds.{cover_in, is_found, FoundAs}
-use Rattle.bbm_place_map.specs.Notes.{Keeps, NotesAt, NotesFound, is_cover}
+use Rattle.bbm_place_map.specs.PlaceNotes.{Keeps, NotesAt, NotesFound, is_cover}
 use Rattle.bbm_place_map.specs.Parts.{marks_in, pends_for}
 use Rattle.bbm_place_map.specs.Sound.{Linked, Numbered, Placed, index_of, at_index}
 use Rattle.bbm_place_map.specs.States.{state_from}

@@ -1,9 +1,11 @@
 -- What the lists of work tell of each cell.
-use Rattle.std.proofs.Common.{◌≡◌, ℕ, ◌<◌, ◌⊎◌, Bool, true, false, ◌||◌, nat_eq, zero, suc, List, [], ◌∷◌, length, get_or, Option, Some, None, Contains, refl, ap, sym, subst, ◌∙◌, arith, inl, inr, slice_get}
+use Rattle.std.proofs.Common.{◌≡◌, ℕ, ◌<◌, ◌⊎◌, Bool, true, false, ◌||◌, nat_eq, zero, suc, List, [], ◌∷◌, length}
+use Rattle.std.proofs.Common.{get_or, Option, Some, None, Contains, refl, ap, sym, subst, ◌∙◌, arith, inl, inr}
+use Rattle.std.proofs.Common.{slice_get}
 use Rattle.std.specs.Option.{option_map}
-use Rattle.std.proofs.lemmas.Bool.{cases_Bool, eq-eqb, eqb-true, false≢true}
+use Rattle.std.proofs.lemmas.Bool.{cases_Bool, eq-eqb, eqb-true, false≢true, or_left, or_right, or_cases}
 use Rattle.std.proofs.lemmas.Option.{same_Some}
-use Rattle.bbm_entry_state.specs.Standing.{IsIdle}
+use Rattle.bbm_entry_state.specs.EntryStanding.{IsIdle}
 use Rattle.bbm_entry_state.specs.declared.marks.Marks.{Marks}
 use Rattle.bbm_place_map.specs.Cells.{slot_in}
 use Rattle.bbm_place_map.specs.Entries.{entry_of, entry_in, marks_of, pends_of, pends_in, no_pends}
@@ -15,27 +17,15 @@ use Rattle.bbm_place_map.specs.declared.entry.Entry.{Entry}
 use Rattle.bbm_place_map.specs.declared.work.WorkList.{WorkList}
 use Rattle.bbm_place_map.proofs.Idle.{idle_from}
 
-left_or : (x y : Bool) → x ≡ true → (x || y) ≡ true
-left_or true y h = refl
-left_or false y h = cc
-
-right_or : (x y : Bool) → y ≡ true → (x || y) ≡ true
-right_or true y h = refl
-right_or false y h = h
-
-one_or : (x y : Bool) → (x || y) ≡ true → (x ≡ true) ⊎ (y ≡ true)
-one_or true y h = inl refl
-one_or false y h = inr h
-
 in_from : (xs : List ℕ) (k d j : ℕ) → k < length xs → get_or xs k d ≡ j → is_in xs j ≡ true
 in_from [] k d j within is = absurd (omega arith)
-in_from (x ∷ xs) zero d j within is = left_or (nat_eq x j) (is_in xs j) (eq-eqb x j is)
-in_from (x ∷ xs) (suc k) d j within is = right_or (nat_eq x j) (is_in xs j) (in_from xs k d j (omega arith) is)
+in_from (x ∷ xs) zero d j within is = or_left (nat_eq x j) (is_in xs j) (eq-eqb x j is)
+in_from (x ∷ xs) (suc k) d j within is = or_right (nat_eq x j) (is_in xs j) (in_from xs k d j (omega arith) is)
 
 in_to : (xs : List ℕ) (j : ℕ) → is_in xs j ≡ true → Contains xs j
 in_to [] j h = absurd (false≢true h)
 in_to (x ∷ xs) j h =
-    elim (one_or (nat_eq x j) (is_in xs j) h) [
+    elim (or_cases (nat_eq x j) (is_in xs j) h) [
       | inl same ↦ (0, omega arith, eqb-true x j same)
       | inr more ↦ let c = in_to xs j more in (suc c.0, (let within : c.0 < length xs = c.1 in omega arith), c.2)
     ]
@@ -43,13 +33,13 @@ in_to (x ∷ xs) j h =
 holds_from : (list : WorkList) (j : ℕ) → Holds list j → holds list j ≡ true
 holds_from list j h =
     elim h [
-      | inl up ↦ left_or list.given_up (is_in list.cells.items j) up
-      | inr c ↦ right_or list.given_up (is_in list.cells.items j) (in_from list.cells.items c.0 j j c.1 c.2)
+      | inl up ↦ or_left list.given_up (is_in list.cells.items j) up
+      | inr c ↦ or_right list.given_up (is_in list.cells.items j) (in_from list.cells.items c.0 j j c.1 c.2)
     ]
 
 holds_to : (list : WorkList) (j : ℕ) → holds list j ≡ true → Holds list j
 holds_to list j h =
-    elim (one_or list.given_up (is_in list.cells.items j) h) [
+    elim (or_cases list.given_up (is_in list.cells.items j) h) [
       | inl up ↦ inl up
       | inr c ↦ inr (in_to list.cells.items j c)
     ]

@@ -1,17 +1,18 @@
 -- The lists of work after each call.
-use Rattle.std.proofs.Common.{◌≡◌, ◌≢◌, ℕ, ◌≤◌, ◌<◌, ◌⊎◌, Bool, true, false, not, ◌&&◌, nat_eq, List, [], ◌∷◌, length, Option, Some, None, refl, ap, sym, subst, ◌∙◌, arith, inl, inr, slice_get, if◌then◌else◌}
+use Rattle.std.proofs.Common.{◌≡◌, ◌≢◌, ℕ, ◌≤◌, ◌<◌, ◌⊎◌, Bool, true, false, not, ◌&&◌, nat_eq, List, [], ◌∷◌, length}
+use Rattle.std.proofs.Common.{Option, Some, None, refl, ap, sym, subst, ◌∙◌, arith, inl, inr, slice_get, if◌then◌else◌}
 use Rattle.std.specs.Option.{option_map}
 use Rattle.std.proofs.lemmas.Bool.{cases_Bool, cases_eq, cond-true, cond-false, eq-eqb, ne_eqb, false≢true}
 use Rattle.std.proofs.lemmas.Option.{same_Some, none-some}
 use Rattle.smallvec.specs.SmallVec.{SmallVec}
 use mathlib.Core.Path.{fun_ext}
 use Rattle.bbm_barriers.specs.declared.Dsb.{Dsb}
-use Rattle.bbm_regimes.specs.EveryPe.{every_pe}
+use Rattle.bbm_lemmas.specs.EveryPe.{every_pe}
 use Rattle.bbm_regimes.specs.PeMask.{pe_in}
 use Rattle.bbm_regimes.specs.declared.pe.PeMask.{PeMask}
 use Rattle.bbm_tlbi_scope.specs.declared.entry.Cover.{Cover}
 use Rattle.bbm_entry_state.specs.Points.{is_broken}
-use Rattle.bbm_entry_state.specs.Standing.{IsIdle}
+use Rattle.bbm_entry_state.specs.EntryStanding.{IsIdle}
 use Rattle.bbm_entry_state.specs.declared.marks.Marks.{Marks}
 use Rattle.bbm_entry_state.specs.declared.pending.Pends.{Pends}
 use Rattle.bbm_entry_state.specs.declared.state.EntryState.{EntryState}
@@ -19,7 +20,7 @@ use Rattle.bbm_entry_state.specs.declared.state.EntryState.TheVariants.{Clean, B
 use Rattle.bbm_place_map.specs.Cells.{slot_in}
 use Rattle.bbm_place_map.specs.Each.{Advances, Publishes, Completes}
 use Rattle.bbm_place_map.specs.Entries.{entry_of, entry_in, marks_of, pends_of, pends_in, no_pends}
-use Rattle.bbm_place_map.specs.Notes.{Keeps, NotesAt}
+use Rattle.bbm_place_map.specs.PlaceNotes.{Keeps, NotesAt}
 use Rattle.bbm_place_map.specs.Parts.{marks_in, pends_for}
 use Rattle.bbm_place_map.specs.Sound.{Linked}
 use Rattle.bbm_place_map.specs.States.{marks_of_state}
@@ -35,6 +36,7 @@ use Rattle.bbm_place_map.proofs.Knowing.{known_or, or_known, told_by_cell, told_
 use Rattle.bbm_place_map.proofs.Publishing.{known_kept}
 use Rattle.bbm_place_map.proofs.Resting.{completes_unclean, idle_others, told_completed}
 use Rattle.bbm_place_map.proofs.Telling.{told_no_writer, told_after_write}
+use Rattle.bbm_lemmas.proofs.Bools.{with_true}
 
 pub told_of : (w : Work) (cells : List Cell) (entries : List Entry) → Listed w cells entries → (q j : ℕ) (marks : Marks) → q < w.pes
     → marks_in cells entries j ≡ Some marks → HoldsFor w.unpublished.items q j ⊎ IsTold w.pes q marks
@@ -212,12 +214,8 @@ listed_whole w cells cells' entries entries' j marks_are pends_are listed =
     listed_set w w cells cells' entries entries' j Clean (marks_in cells entries j) refl refl
     (λ marks is. absurd (none-some marks is)) (λ q i holds. holds) refl (λ settled. settled) (λ marks is. absurd (none-some marks is))
     marks_are
-    (λ q i. pends_are q i ∙ ap (λ (b : Bool). if b then no_pends else pends_for cells entries q i) (whole (nat_eq i j)))
+    (λ q i. pends_are q i ∙ ap (λ (b : Bool). if b then no_pends else pends_for cells entries q i) (with_true (nat_eq i j)))
     listed
-  where
-    whole : (b : Bool) → b ≡ (b && true)
-    whole true = refl
-    whole false = refl
 
 -- a place is written that is broken after
 pub listed_broken : (w w' : Work) (cells cells' : List Cell) (entries entries' : List Entry) (j : ℕ) (marks : Marks) (before : Option Marks)

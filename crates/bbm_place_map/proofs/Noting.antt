@@ -1,5 +1,6 @@
 -- What the issue of a TLBI notes at an entry.
-use Rattle.std.proofs.Common.{◌≡◌, ℕ, Bool, true, false, List, Some, slice_get, inl, inr, nat_eq, if◌then◌else◌, ◌&&◌, ◌||◌, refl, ap, sym, subst, ◌∙◌}
+use Rattle.std.proofs.Common.{◌≡◌, ℕ, Bool, true, false, List, Some, slice_get, inl, inr, nat_eq, if◌then◌else◌, ◌&&◌}
+use Rattle.std.proofs.Common.{◌||◌, refl, ap, sym, subst, ◌∙◌}
 use Rattle.std.proofs.lemmas.Bool.{cases_eq, eq-eqb, ne_eqb, cond-true, cond-false}
 use Rattle.std.proofs.lemmas.Option.{same_Some}
 use Rattle.bbm_descriptor.specs.Descriptor.{same_bool}
@@ -7,14 +8,14 @@ use Rattle.bbm_regimes.specs.PeMask.{pe_in}
 use Rattle.bbm_regimes.specs.declared.pe.PeMask.{PeMask}
 use Rattle.bbm_tlbi_scope.specs.declared.entry.Cover.{Cover}
 use Rattle.bbm_tlbi_scope.specs.declared.entry.Cover.TheVariants.{None as NoCover, Half, Second, Full}
-use Rattle.bbm_entry_state.specs.Calls.{Noted, counts_at}
-use Rattle.bbm_tlbi_scope.specs.Same.{same_cover}
+use Rattle.bbm_entry_state.specs.EntryCalls.{Noted, counts_at}
+use Rattle.bbm_tlbi_scope.specs.SameCover.{same_cover}
 use Rattle.bbm_entry_state.specs.Points.{waits}
 use Rattle.bbm_entry_state.specs.declared.marks.Marks.{Marks}
 use Rattle.bbm_entry_state.specs.declared.pending.Pends.{Pends}
 use Rattle.bbm_entry_state.specs.declared.state.EntryState.TheVariants.{Broken}
 use Rattle.bbm_place_map.specs.Entries.{WaitsAlike, pends_in}
-use Rattle.bbm_place_map.specs.Notes.{NotesAs, NotesAt, is_cover}
+use Rattle.bbm_place_map.specs.PlaceNotes.{NotesAs, NotesAt, is_cover}
 use Rattle.bbm_place_map.specs.Works.{HoldsFor, Waits}
 use Rattle.bbm_place_map.specs.declared.entry.Entry.{Entry}
 use Rattle.bbm_place_map.specs.declared.work.WorkList.{WorkList}

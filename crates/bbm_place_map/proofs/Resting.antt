@@ -1,20 +1,22 @@
 -- What a DSB answers at an entry, once and twice, and where it answers nothing.
-use Rattle.std.proofs.Common.{◌≡◌, ◌≢◌, ℕ, Bool, true, false, not, ◌&&◌, ◌||◌, Option, Some, None, is_some, is_none, refl, ap, sym, ◌∙◌, if◌then◌else◌, inl, inr}
+use Rattle.std.proofs.Common.{◌≡◌, ◌≢◌, ℕ, Bool, true, false, not, ◌&&◌, ◌||◌, Option, Some, None, is_some, is_none}
+use Rattle.std.proofs.Common.{refl, ap, sym, ◌∙◌, if◌then◌else◌, inl, inr}
 use Rattle.std.proofs.lemmas.Bool.{cases_Bool, false≢true}
 use Rattle.std.proofs.lemmas.Option.{same_Some, none-some}
 use mathlib.Core.Path.{fun_ext}
 use Rattle.bbm_barriers.specs.declared.Dsb.{Dsb}
-use Rattle.bbm_barriers.specs.Options.{answers, answers_broadcast, answers_local, completed, has_broadcast, has_local, Completed as Answers}
+use Rattle.bbm_barriers.specs.Options.{answers, answers_broadcast, answers_local, completed, has_broadcast, has_local}
+use Rattle.bbm_barriers.specs.Options.{Completed as Answers}
 use Rattle.bbm_barriers.specs.Options.Completed.{EveryTlbi, LocalTlbis, NoTlbi}
 use Rattle.bbm_descriptor.specs.declared.desc.Core.{Core}
-use Rattle.bbm_regimes.specs.EveryPe.{every_pe}
+use Rattle.bbm_lemmas.specs.EveryPe.{every_pe}
 use Rattle.bbm_regimes.specs.PeMask.{pe_in}
 use Rattle.bbm_tlbi_scope.specs.declared.entry.Cover.{Cover}
 use Rattle.bbm_tlbi_scope.specs.declared.entry.Cover.TheVariants.{Half, Second, Full}
 use Rattle.bbm_entry_state.specs.Answered.{answered_at}
-use Rattle.bbm_entry_state.specs.Calls.{half_after, clean_after}
+use Rattle.bbm_entry_state.specs.EntryCalls.{half_after, clean_after}
 use Rattle.bbm_entry_state.specs.Points.{waits, core_in}
-use Rattle.bbm_entry_state.specs.Standing.{IsIdle}
+use Rattle.bbm_entry_state.specs.EntryStanding.{IsIdle}
 use Rattle.bbm_entry_state.specs.declared.marks.Marks.{Marks}
 use Rattle.bbm_entry_state.specs.declared.pending.Pends.{Pends}
 use Rattle.bbm_entry_state.specs.declared.state.EntryState.TheVariants.{Broken}
@@ -25,6 +27,8 @@ use Rattle.bbm_place_map.specs.Works.{IsTold, MayComplete, is_clean}
 use Rattle.bbm_place_map.specs.declared.entry.Entry.{Entry}
 use Rattle.bbm_place_map.proofs.Answering.{completes_at}
 use Rattle.bbm_place_map.proofs.Completing.{completes_none}
+use mathlib.Core.Bool.{and-false, and_self_left}
+use Rattle.bbm_lemmas.proofs.Bools.{and_none}
 
 none_answered : (a w : Bool) → (a && (not a && w)) ≡ false
 none_answered true w = refl
@@ -35,23 +39,10 @@ or_none true y = refl
 or_none false true = refl
 or_none false false = refl
 
-and_none : (x y : Bool) → (x && (y && false)) ≡ false
-and_none true true = refl
-and_none true false = refl
-and_none false y = refl
-
-false_and : (x : Bool) → (x && false) ≡ false
-false_and true = refl
-false_and false = refl
-
-and_twice : (a w : Bool) → (a && (a && w)) ≡ (a && w)
-and_twice true w = refl
-and_twice false w = refl
-
 -- an entry that stays is no table that left
 pub stays_kept : (o : Option Entry) → loses_table (marks_of o) (marks_of o) ≡ false
 stays_kept None = refl
-stays_kept (Some e) = false_and (is_table e.marks.core)
+stays_kept (Some e) = and-false (is_table e.marks.core)
 
 has_both : (c : Answers) → has_broadcast c ≡ true → has_local c ≡ true
 has_both EveryTlbi h = refl
@@ -90,7 +81,7 @@ module _ (issuer : ℕ) (dsb : Dsb) (n : ℕ) where
   idle_none r idle c p =
       ap (λ (b : Bool). (answers dsb true && b) || (answers dsb false && waits r false c p)) (idle true c p)
       ∙ ap (λ (b : Bool). (answers dsb true && false) || (answers dsb false && b)) (idle false c p)
-      ∙ ap (λ (b : Bool). b || (answers dsb false && false)) (false_and (answers dsb true)) ∙ false_and (answers dsb false)
+      ∙ ap (λ (b : Bool). b || (answers dsb false && false)) (and-false (answers dsb true)) ∙ and-false (answers dsb false)
 
   unanswered : (r : Pends) → answers dsb true ≡ false → answers dsb false ≡ false → (c : Cover) (p : ℕ) → answered_at r dsb c p ≡ false
   unanswered r none none' c p =
@@ -119,7 +110,7 @@ module _ (issuer : ℕ) (dsb : Dsb) (n : ℕ) where
   idle_same None idle unclean = completes_none issuer dsb n
   idle_same (Some e) idle unclean =
       still e (idle_none (pends_in e.pends.items issuer) idle) (unclean e.marks refl)
-      (λ b c p. idle b c p ∙ sym (ap (λ (x : Bool). not (answers dsb b) && x) (idle b c p) ∙ false_and (not (answers dsb b))))
+      (λ b c p. idle b c p ∙ sym (ap (λ (x : Bool). not (answers dsb b) && x) (idle b c p) ∙ and-false (not (answers dsb b))))
 
   not_answered : (none : answers dsb true ≡ false) (none' : answers dsb false ≡ false) (b : Bool) (w : Bool) → w ≡ (not (answers dsb b) && w)
   not_answered none none' true w = sym (ap (λ (x : Bool). not x && w) none)
@@ -179,7 +170,7 @@ module _ (issuer : ℕ) (dsb : Dsb) (n : ℕ) where
       clean = λ p. h'.own.clean p ∙ clean_still f (left_none e f h) p ∙ h.own.clean p;
       waiting = λ b c p.
           h'.own.waiting b c p ∙ ap (λ (x : Bool). not (answers dsb b) && x) (h.own.waiting b c p)
-          ∙ and_twice (not (answers dsb b)) (waits (pends_in e.pends.items issuer) b c p);
+          ∙ and_self_left (not (answers dsb b)) (waits (pends_in e.pends.items issuer) b c p);
     };
     others = λ q other b c p. h'.others q other b c p ∙ h.others q other b c p;
   }
@@ -205,13 +196,13 @@ module _ (issuer : ℕ) (dsb : Dsb) (n : ℕ) where
       → loses_table (marks_of s) (marks_of r) ≡ true
   lost_stays s None None h lost = lost
   lost_stays s None (Some g) h lost = absurd (none_stays g h)
-  lost_stays s (Some f) r h lost = absurd (false≢true (sym (false_and (has_table (marks_of s))) ∙ lost))
+  lost_stays s (Some f) r h lost = absurd (false≢true (sym (and-false (has_table (marks_of s))) ∙ lost))
 
   pub none_lost : (s p r : Option Entry) → MayComplete issuer dsb n s p → Completes issuer dsb n p r
       → loses_table (marks_of s) (marks_of p) ≡ false → loses_table (marks_of p) (marks_of r) ≡ false
       → loses_table (marks_of s) (marks_of r) ≡ false
   none_lost None p r may h none none' = refl
-  none_lost (Some e) p (Some g) may h none none' = false_and (is_table e.marks.core)
+  none_lost (Some e) p (Some g) may h none none' = and-false (is_table e.marks.core)
   none_lost (Some e) None None may h none none' = none
   none_lost (Some e) (Some f) None may h none none' =
       elim may [
@@ -242,7 +233,7 @@ module _ (issuer : ℕ) (dsb : Dsb) (n : ℕ) where
 
   pub idle_others : (q : ℕ) → q ≢ issuer → (o p : Option Entry) → Completes issuer dsb n o p → IsIdle (pends_of q o) → IsIdle (pends_of q p)
   idle_others q other o p h idle b c x =
-      h.others q other b c x ∙ ap (λ (w : Bool). is_some (marks_of p) && w) (idle b c x) ∙ false_and (is_some (marks_of p))
+      h.others q other b c x ∙ ap (λ (w : Bool). is_some (marks_of p) && w) (idle b c x) ∙ and-false (is_some (marks_of p))
 
   off : (answers dsb true ≡ true) → (answers dsb false ≡ true) → (b : Bool) → not (answers dsb b) ≡ false
   off all all' true = ap not all
@@ -253,7 +244,7 @@ module _ (issuer : ℕ) (dsb : Dsb) (n : ℕ) where
   idle_answered all all' o p h b c x =
       h.own.waiting b c x
       ∙ ap (λ (w : Bool). is_some (core_in (state_from None (marks_of p))) && (w && waits (pends_of issuer o) b c x)) (off all all' b)
-      ∙ false_and (is_some (core_in (state_from None (marks_of p))))
+      ∙ and-false (is_some (core_in (state_from None (marks_of p))))
 
   -- of any PE, where nothing more was published nothing more is
   pub told_completed : (m q : ℕ) (o : Option Entry) (f : Entry) → Completes issuer dsb n o (Some f)

@@ -1,7 +1,8 @@
 -- What the calls of break-before-make come to at their place.
-use Rattle.std.proofs.Common.{◌≡◌, ℕ, Bool, true, false, ◌&&◌, ◌||◌, nat_eq, nat_lt, ◌<◌, Option, Some, None, is_some, zero, suc, refl, ap, ◌∙◌, arith, if◌then◌else◌}
+use Rattle.std.proofs.Common.{◌≡◌, ℕ, Bool, true, false, ◌&&◌, ◌||◌, nat_eq, nat_lt, ◌<◌, Option, Some, None, is_some}
+use Rattle.std.proofs.Common.{zero, suc, refl, ap, ◌∙◌, arith, if◌then◌else◌}
 use Rattle.std.proofs.lemmas.Bool.{and_from, or_left, or_right, eq-eqb, lt-ltb}
-use Rattle.bbm_regimes.specs.EveryPe.{every_pe}
+use Rattle.bbm_lemmas.specs.EveryPe.{every_pe}
 use Rattle.bbm_regimes.specs.PeMask.{pe_in}
 use Rattle.bbm_regimes.specs.declared.pe.PeMask.{PeMask}
 use Rattle.bbm_descriptor.specs.declared.desc.Core.{Core}
@@ -14,7 +15,7 @@ use Rattle.bbm_entry_state.specs.declared.state.EntryState.{EntryState}
 use Rattle.bbm_entry_state.specs.declared.state.EntryState.TheVariants.{Clean, Live, Broken}
 use Rattle.bbm_entry_state.specs.Points.{core_in, is_broken, writer_at, seen_at, clean_at, waits}
 use Rattle.bbm_entry_state.specs.Answered.{answered_at}
-use Rattle.bbm_entry_state.specs.Calls.{counts_at, clean_after, Written, Published, Noted, Completed}
+use Rattle.bbm_entry_state.specs.EntryCalls.{counts_at, clean_after, Written, Published, Noted, Completed}
 use Rattle.bbm_place_map.specs.States.{state_from, marks_of_state}
 
 marks_again : (state : EntryState) → is_broken state ≡ true → state_from None (marks_of_state state) ≡ state

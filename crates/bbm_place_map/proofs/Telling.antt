@@ -1,6 +1,7 @@
 -- What DSBs of a PE publish, and where they publish no more.
-use Rattle.std.proofs.Common.{◌≡◌, ℕ, ◌<◌, ◌⊎◌, Bool, true, false, ◌&&◌, ◌||◌, Option, Some, None, refl, arith, ap, sym, subst, ◌∙◌, inl, inr}
-use Rattle.std.proofs.lemmas.Bool.{cases_eq, ltb-true, eqb-true, and_from, false≢true}
+use Rattle.std.proofs.Common.{◌≡◌, ℕ, ◌<◌, ◌⊎◌, Bool, true, false, ◌&&◌, ◌||◌, Option, Some, None, refl, arith, ap, sym}
+use Rattle.std.proofs.Common.{subst, ◌∙◌, inl, inr}
+use Rattle.std.proofs.lemmas.Bool.{cases_eq, ltb-true, eqb-true, and_from, false≢true, or_left, or_right}
 use Rattle.std.proofs.lemmas.Option.{same_Some}
 use Rattle.bbm_barriers.specs.declared.Dsb.{Dsb}
 use Rattle.bbm_barriers.specs.Options.{publishes, hears, audience, Audience}
@@ -10,6 +11,7 @@ use Rattle.bbm_entry_state.specs.declared.marks.Marks.{Marks}
 use Rattle.bbm_place_map.specs.Each.{Advances, Publishes}
 use Rattle.bbm_place_map.specs.Works.{IsTold, MayPublish}
 use Rattle.bbm_place_map.specs.declared.entry.Entry.{Entry}
+use mathlib.Core.Bool.{or_self_left}
 
 hears_within : (a : Audience) (issuer n p : ℕ) → issuer < n → hears a issuer n p ≡ true → p < n
 hears_within EveryPe issuer n p below h = ltb-true p n h
@@ -19,22 +21,10 @@ hears_within NoPe issuer n p below h = absurd (false≢true h)
 pub publishes_within : (dsb : Dsb) (issuer n p : ℕ) → issuer < n → publishes dsb issuer n p ≡ true → p < n
 publishes_within dsb issuer n p below h = hears_within (audience dsb.domain dsb.types) issuer n p below h
 
-twice : (x y : Bool) → (x || (x || y)) ≡ (x || y)
-twice true y = refl
-twice false y = refl
-
 once : (x y s : Bool) → (x ≡ true → y ≡ true → s ≡ true) → s ≡ ((x && y) || s)
 once true true s h = h refl refl
 once true false s h = refl
 once false y s h = refl
-
-left_true : (x y : Bool) → x ≡ true → (x || y) ≡ true
-left_true true y h = refl
-left_true false y h = cc
-
-right_true : (x y : Bool) → y ≡ true → (x || y) ≡ true
-right_true true y h = refl
-right_true false y h = h
 
 module _ (issuer : ℕ) (dsb : Dsb) (n : ℕ) where
   again_entry : (e f g : Entry) → Publishes issuer dsb n e f → Publishes issuer dsb n f g → Publishes issuer dsb n e g
@@ -47,7 +37,7 @@ module _ (issuer : ℕ) (dsb : Dsb) (n : ℕ) where
       seen = λ p.
           h'.1.seen p ∙ ap (λ (b : Bool). (publishes dsb issuer n p && b) || pe_in f.marks.seen p) (h.1.writers issuer)
           ∙ ap (λ (b : Bool). (publishes dsb issuer n p && pe_in e.marks.writers issuer) || b) (h.1.seen p)
-          ∙ twice (publishes dsb issuer n p && pe_in e.marks.writers issuer) (pe_in e.marks.seen p);
+          ∙ or_self_left (publishes dsb issuer n p && pe_in e.marks.writers issuer) (pe_in e.marks.seen p);
       half = λ p. h'.1.half p ∙ h.1.half p;
       clean = λ p. h'.1.clean p ∙ h.1.clean p;
     },
@@ -61,7 +51,7 @@ module _ (issuer : ℕ) (dsb : Dsb) (n : ℕ) where
   again_both (Some e) (Some f) None h h' = absurd h'
   again_both (Some e) (Some f) (Some g) h h' = (h'.0 ∙ h.0, again_entry e f g h.1 h'.1)
 
-  -- a DSB that publishes twice publishes the same once
+  -- a DSB that publishes or_self_left publishes the same once
   pub again : (o p r : Option Entry) → MayPublish issuer dsb n o p → Advances (Publishes issuer dsb n) p r
       → Advances (Publishes issuer dsb n) o r
   again o p r may h =
@@ -109,7 +99,7 @@ module _ (issuer : ℕ) (dsb : Dsb) (n : ℕ) where
       → IsTold n issuer f.marks
   told_after e f below all h dsb' p heard wrote =
       h.1.seen p
-      ∙ left_true (publishes dsb issuer n p && pe_in e.marks.writers issuer) (pe_in e.marks.seen p)
+      ∙ or_left (publishes dsb issuer n p && pe_in e.marks.writers issuer) (pe_in e.marks.seen p)
       (and_from (publishes dsb issuer n p) (pe_in e.marks.writers issuer) (all p (publishes_within dsb' issuer n p below heard))
       (sym (h.1.writers issuer) ∙ wrote))
 
@@ -117,7 +107,7 @@ module _ (issuer : ℕ) (dsb : Dsb) (n : ℕ) where
   pub told_kept : (q : ℕ) (e f : Entry) → Publishes issuer dsb n e f → IsTold n q e.marks → IsTold n q f.marks
   told_kept q e f h told dsb' p heard wrote =
       h.1.seen p
-      ∙ right_true (publishes dsb issuer n p && pe_in e.marks.writers issuer) (pe_in e.marks.seen p)
+      ∙ or_right (publishes dsb issuer n p && pe_in e.marks.writers issuer) (pe_in e.marks.seen p)
       (told dsb' p heard (sym (h.1.writers q) ∙ wrote))
 
 pub told_no_writer : (n q : ℕ) (marks : Marks) → pe_in marks.writers q ≡ false → IsTold n q marks

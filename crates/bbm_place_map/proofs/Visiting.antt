@@ -1,5 +1,6 @@
 -- Where a TLBI is noted at the places of a few items, and at no others.
-use Rattle.std.proofs.Common.{◌≡◌, ◌≢◌, ℕ, Bool, true, false, nat_eq, List, [], ◌∷◌, ◌++◌, Option, Some, None, refl, ap, sym, subst, ◌∙◌, inl, inr, if◌then◌else◌, slice_get, map}
+use Rattle.std.proofs.Common.{◌≡◌, ◌≢◌, ℕ, Bool, true, false, nat_eq, List, [], ◌∷◌, ◌++◌, Option, Some, None, refl, ap}
+use Rattle.std.proofs.Common.{sym, subst, ◌∙◌, inl, inr, if◌then◌else◌, slice_get, map}
 use Rattle.std.specs.Option.{option_map}
 use Rattle.std.proofs.lemmas.Bool.{cases_eq, cases_Bool, eq-eqb, ne_eqb, eqb-true, false≢true, cond-true, cond-false}
 use Rattle.std.proofs.lemmas.Option.{same_Some, none-some, slice_get-map}
@@ -9,7 +10,7 @@ use Rattle.bbm_place_map.specs.Cells.{slot_in}
 use Rattle.bbm_place_map.specs.Each.{Advances}
 use Rattle.bbm_place_map.specs.Entries.{seat}
 use Rattle.bbm_place_map.specs.Finds.{cover_in, is_found}
-use Rattle.bbm_place_map.specs.Notes.{Keeps, NotesAs, NotesAt, NotesOne, NotesFound}
+use Rattle.bbm_place_map.specs.PlaceNotes.{Keeps, NotesAs, NotesAt, NotesOne, NotesFound}
 use Rattle.bbm_place_map.specs.Sound.{Linked, Numbered, Placed, index_of, at_index, slot_at}
 use Rattle.bbm_place_map.specs.Works.{HoldsFor, Waits}
 use Rattle.bbm_place_map.specs.declared.cell.Cell.{Cell}

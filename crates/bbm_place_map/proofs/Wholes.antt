@@ -1,17 +1,19 @@
 -- What a write leaves at a place that isn't broken after.
-use Rattle.std.proofs.Common.{◌≡◌, ℕ, Bool, true, false, not, ◌&&◌, nat_eq, Option, Some, None, refl, ap, sym, ◌∙◌, if◌then◌else◌}
+use Rattle.std.proofs.Common.{◌≡◌, ℕ, Bool, true, false, not, ◌&&◌, nat_eq, Option, Some, None, refl, ap, sym, ◌∙◌}
+use Rattle.std.proofs.Common.{if◌then◌else◌}
 use Rattle.std.proofs.lemmas.Bool.{true≢false}
 use Rattle.bbm_descriptor.specs.declared.desc.Core.{Core}
-use Rattle.bbm_entry_state.specs.Calls.{Written}
+use Rattle.bbm_entry_state.specs.EntryCalls.{Written}
 use Rattle.bbm_entry_state.specs.Points.{is_broken}
-use Rattle.bbm_entry_state.specs.Standing.{IsIdle}
+use Rattle.bbm_entry_state.specs.EntryStanding.{IsIdle}
 use Rattle.bbm_entry_state.specs.declared.marks.Marks.{Marks}
 use Rattle.bbm_entry_state.specs.declared.state.EntryState.{EntryState}
 use Rattle.bbm_entry_state.specs.declared.state.EntryState.TheVariants.{Live}
-use Rattle.bbm_place_map.specs.Calls.{Leaves}
+use Rattle.bbm_place_map.specs.MapCalls.{Leaves}
 use Rattle.bbm_place_map.specs.Map.{marks_at, pends_at}
 use Rattle.bbm_place_map.specs.States.{marks_of_state}
 use Rattle.bbm_place_map.specs.declared.map.PlaceMap.{PlaceMap}
+use Rattle.bbm_lemmas.proofs.Bools.{none_unless}
 
 -- a valid value makes it live
 pub made : (old : EntryState) (pe : ℕ) (core : Core) → Written old pe (Some core) (Live core)
@@ -24,17 +26,12 @@ made old pe core = record {
   clean = λ p. refl;
 }
 
-apart : (here broken : Bool) → broken ≡ false → (here && not broken) ≡ false → here ≡ false
-apart false broken whole k = refl
-apart true false whole k = absurd (true≢false k)
-apart true true whole k = absurd (true≢false whole)
-
 pub leaves_whole : (state : EntryState) (place : ℕ) (old new : PlaceMap) → marks_of_state state ≡ None → is_broken state ≡ false
     → ((a : ℕ) → marks_at new a ≡ (if nat_eq a place then None else marks_at old a))
     → ((q a : ℕ) → nat_eq a place ≡ false → pends_at new q a ≡ pends_at old q a)
     → ((q : ℕ) → IsIdle (pends_at new q place)) → Leaves state place old new
 leaves_whole state place old new none whole marks pends dropped = record {
   marks = λ a. marks a ∙ ap (λ (m : Option Marks). if nat_eq a place then m else marks_at old a) (sym none);
-  pends = λ q a k. pends q a (apart (nat_eq a place) (is_broken state) whole k);
+  pends = λ q a k. pends q a (none_unless (nat_eq a place) (is_broken state) whole k);
   dropped = λ q is. dropped q;
 }

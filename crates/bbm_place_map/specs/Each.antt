@@ -2,7 +2,7 @@
 -- Source: project's own choice.
 use Rattle.std.specs.Prelude.{◌≡◌, ◌≢◌, ℕ, Bool, true, false, Option, Some, None, is_none, is_some, ◌&&◌}
 use Rattle.bbm_barriers.specs.declared.Dsb.{Dsb}
-use Rattle.bbm_entry_state.specs.Calls.{Published, Completed}
+use Rattle.bbm_entry_state.specs.EntryCalls.{Published, Completed}
 use Rattle.bbm_entry_state.specs.Points.{waits}
 use Rattle.bbm_descriptor.specs.declared.desc.Core.{Core}
 use Rattle.bbm_descriptor.specs.declared.desc.Core.TheVariants.{Table, Leaf}

@@ -8,6 +8,6 @@ pub mod Works
 pub mod Dsbs
 pub mod Puts
 pub mod Finds
-pub mod Notes
+pub mod PlaceNotes
 pub mod Map
-pub mod Calls
+pub mod MapCalls

@@ -2,8 +2,8 @@
 
 ghost use Rattle.std.specs.Prelude.{◌≡◌, ◌≢◌, ◌≤◌, ◌<◌, ◌+◌, ◌^◌, ◌⊎◌, ℕ, Some, Option, vec_len, vec_capacity, length};
 ghost use Rattle.std.specs.Prelude.{slice_get, slice_index, nat_eq, true, false, if◌then◌else◌};
-ghost use Rattle.bbm_entry_state.specs.Calls.{Completed};
-ghost use Rattle.bbm_entry_state.specs.Standing.{IsIdle};
+ghost use Rattle.bbm_entry_state.specs.EntryCalls.{Completed};
+ghost use Rattle.bbm_entry_state.specs.EntryStanding.{IsIdle};
 ghost use Rattle.bbm_entry_state.specs.declared.state.EntryState.TheVariants as state;
 ghost use Rattle.bbm_place_map.specs.Cells.{value_in, slot_in};
 ghost use Rattle.bbm_place_map.specs.Dsbs.{CanAnswer, CompletesAll, HoldWaiting, IsSettled};

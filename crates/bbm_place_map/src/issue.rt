@@ -2,8 +2,8 @@
 
 ghost use Rattle.std.specs.Prelude.{◌≡◌, ◌≢◌, ◌<◌, ◌+◌, ◌^◌, ℕ, take, vec_len, vec_capacity, length, slice_get, Some};
 ghost use Rattle.std.specs.Prelude.{OnOk, List, nat_eq, true, false, if◌then◌else◌};
-ghost use Rattle.bbm_entry_state.specs.Calls.{Noted};
-ghost use Rattle.bbm_entry_state.specs.Standing.{IsIdle};
+ghost use Rattle.bbm_entry_state.specs.EntryCalls.{Noted};
+ghost use Rattle.bbm_entry_state.specs.EntryStanding.{IsIdle};
 ghost use Rattle.bbm_entry_state.specs.declared.state.EntryState.TheVariants as state;
 ghost use Rattle.bbm_tlbi_scope.specs.declared.entry.Cover.{Cover as TheCover};
 ghost use Rattle.bbm_place_map.specs.Each.{Advances};
@@ -11,8 +11,8 @@ ghost use Rattle.bbm_place_map.specs.Entries.{seat, pends_in, HasRoom};
 ghost use Rattle.bbm_place_map.specs.Finds.{is_found};
 ghost use Rattle.indexmap.specs.IndexMap.{get};
 ghost use Rattle.bbm_place_map.specs.Sound.{Linked, Numbered, Placed};
-ghost use Rattle.bbm_place_map.specs.Notes.{Keeps, Readies, NotesAs, NotesAt, NotesFound, NotesOne};
-ghost use Rattle.bbm_place_map.specs.Notes.{is_cover as spec_is_cover};
+ghost use Rattle.bbm_place_map.specs.PlaceNotes.{Keeps, Readies, NotesAs, NotesAt, NotesFound, NotesOne};
+ghost use Rattle.bbm_place_map.specs.PlaceNotes.{is_cover as spec_is_cover};
 ghost use Rattle.bbm_place_map.specs.Works.{HoldsFor, Waits};
 ghost use Rattle.bbm_place_map.specs.declared.entry.Entry.{Entry as TheEntry};
 

@@ -49,12 +49,12 @@ impl PlaceMap {
     ghost use Rattle.bbm_entry_state.specs.declared.state.EntryState.{EntryState as TheState};
     ghost use Rattle.bbm_tlbi_scope.specs.declared.entry.Cover.{Cover as TheCover};
     ghost use Rattle.bbm_place_map.specs.Finds.{is_found, FoundAs};
-    ghost use Rattle.bbm_place_map.specs.Calls.{lost_table, IsSame, Leaves, MayCover};
+    ghost use Rattle.bbm_place_map.specs.MapCalls.{lost_table, IsSame, Leaves, MayCover};
     ghost use Rattle.bbm_place_map.specs.declared.entry.Entry.{Entry as TheEntry};
-    ghost use Rattle.bbm_entry_state.specs.Calls.{Written, Published, Noted, Completed};
+    ghost use Rattle.bbm_entry_state.specs.EntryCalls.{Written, Published, Noted, Completed};
     ghost use Rattle.bbm_descriptor.specs.Descriptor.{core_of};
     ghost use Rattle.bbm_descriptor.specs.declared.desc.Core.{Core as TheCore};
-    ghost use Rattle.bbm_entry_state.specs.Standing.{IsIdle};
+    ghost use Rattle.bbm_entry_state.specs.EntryStanding.{IsIdle};
     ghost use Rattle.bbm_place_map.specs.Map.{value_at, marks_at, pends_at, is_tracked, IsSeat, page_of, restless_in};
     ghost use Rattle.bbm_place_map.specs.Map.{restless_place, state_at};
     ghost use Rattle.bbm_place_map.specs.Entries.{WaitsAlike};

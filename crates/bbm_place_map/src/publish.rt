@@ -2,7 +2,7 @@
 
 ghost use Rattle.std.specs.Prelude.{◌≡◌, ◌≢◌, ◌≤◌, ◌<◌, ◌⊎◌, ℕ, Some, true, false, vec_len, vec_capacity, length};
 ghost use Rattle.std.specs.Prelude.{slice_get, slice_index, nat_eq, if◌then◌else◌};
-ghost use Rattle.bbm_entry_state.specs.Calls.{Published};
+ghost use Rattle.bbm_entry_state.specs.EntryCalls.{Published};
 ghost use Rattle.bbm_place_map.specs.Cells.{slot_in};
 ghost use Rattle.bbm_place_map.specs.Dsbs.{HoldUntold, InLog, PublishesAll};
 ghost use Rattle.bbm_place_map.specs.Each.{Advances, Publishes};

@@ -1,2 +1,2 @@
-pub mod Operand
-pub mod Pages
+pub mod RangeOperand
+pub mod RangePages

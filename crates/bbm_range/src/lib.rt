@@ -3,8 +3,8 @@
 #![tactic(auto)]
 
 ghost use Rattle.std.specs.Prelude.{◌≡◌, ℕ, ◌^◌, ◌<◌, ◌≤◌, ◌↔◌, IfOk};
-ghost use Rattle.bbm_range.specs.Operand as fields;
-ghost use Rattle.bbm_range.specs.Pages as range;
+ghost use Rattle.bbm_range.specs.RangeOperand as fields;
+ghost use Rattle.bbm_range.specs.RangePages as range;
 
 /// The pages that the operand of a range TLBI names, and its level hint. A page number is an address
 /// without its 12 lowest bits.

@@ -1,3 +1,2 @@
-pub mod Every
 pub mod Intervals
 pub mod Masks

@@ -1,6 +1,5 @@
 pub mod Extent
 pub mod PeMask
 pub mod Registers
-pub mod Same
+pub mod SameRegister
 pub mod World
-pub mod EveryPe

@@ -1,7 +1,7 @@
 //! Laws of tests of every PE.
 
 ghost use Rattle.std.specs.Prelude.{◌≡◌, ℕ, ◌<◌, Bool, true, false};
-ghost use Rattle.bbm_regimes.specs.EveryPe.{every_pe};
+ghost use Rattle.bbm_lemmas.specs.EveryPe.{every_pe};
 
 /// A test of every PE of a log with n PEs holds exactly where it holds of each; what two tests say of each, they say of
 /// every one; a weaker test holds where a stronger one does; and a test of no PE doesn't hold where there is one. The

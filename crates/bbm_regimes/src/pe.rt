@@ -54,7 +54,7 @@ pub struct PeMask {
 
 #[tactic(auto, using(crate::proofs::Masks::masks), unfolding(crate::specs::PeMask::pe_in))]
 impl PeMask {
-    ghost use Rattle.bbm_regimes.specs.EveryPe.{every_pe};
+    ghost use Rattle.bbm_lemmas.specs.EveryPe.{every_pe};
     ghost use Rattle.bbm_regimes.specs.PeMask.{pe_in};
 
     /// The set of no PE.

@@ -2,7 +2,7 @@
 
 ghost use Rattle.std.specs.Prelude.{◌≡◌};
 ghost use Rattle.bbm_regimes.specs.Registers as spec;
-ghost use Rattle.bbm_regimes.specs.Same as same;
+ghost use Rattle.bbm_regimes.specs.SameRegister as same;
 
 use crate::regime::{Kind, Reg, Tag};
 

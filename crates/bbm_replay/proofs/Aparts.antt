@@ -1,10 +1,11 @@
 -- The pages of trees, the fresh pages and the null pages stay apart, and the first two tracked.
-use Rattle.std.proofs.Common.{◌≡◌, ℕ, Bool, true, false, not, ◌&&◌, ◌||◌, ◌==◌, Option, Some, None, is_none, refl, sym, ◌∙◌, ap, subst, inl, inr, true≢false}
+use Rattle.std.proofs.Common.{◌≡◌, ℕ, Bool, true, false, not, ◌&&◌, ◌||◌, ◌==◌, Option, Some, None, is_none, refl, sym}
+use Rattle.std.proofs.Common.{◌∙◌, ap, subst, inl, inr, true≢false}
 use Rattle.std.proofs.lemmas.Bool.{and_parts, eqb-true, not-true}
 use Rattle.bbm_rules.specs.Tree.{Node}
 use Rattle.bbm_replay_trees.specs.Told.{kept}
 use Rattle.bbm_replay.proofs.Moves.{Begins, Grown, Leaves, Nullifies, SameNodes, SamePages}
-use Rattle.bbm_replay.specs.Told.{Apart}
+use Rattle.bbm_replay.specs.ReplayTold.{Apart}
 use Rattle.bbm_replay.specs.View.{View}
 
 pub apart_same : (old new : View) → Apart old → SameNodes old new → SamePages old new

@@ -1,9 +1,10 @@
 -- What the cover of a place doesn't depend on.
-use Rattle.std.proofs.Common.{◌≡◌, ◌≤◌, ℕ, Bool, true, false, cond, ◌&&◌, not, is_none, Option, Some, None, refl, sym, ◌∙◌, ap, true≢false}
+use Rattle.std.proofs.Common.{◌≡◌, ◌≤◌, ℕ, Bool, true, false, cond, ◌&&◌, not, is_none, Option, Some, None, refl, sym}
+use Rattle.std.proofs.Common.{◌∙◌, ap, true≢false}
 use Rattle.bbm_regimes.specs.Extent.{Extent}
 use Rattle.bbm_regimes.specs.declared.regime.Kind.{Kind}
 use Rattle.bbm_regimes.specs.declared.regime.Kind.TheVariants.{El2, S2, Ttbr0, Ttbr1}
-use Rattle.bbm_tlbi_scope.specs.Covers.{cover_by, cover_of, fits_leaf, fits_place, fits_table}
+use Rattle.bbm_tlbi_scope.specs.ScopeCovers.{cover_by, cover_of, fits_leaf, fits_place, fits_table}
 use Rattle.bbm_tlbi_scope.specs.Numbers.{lacks_vmid, names_all, names_some}
 use Rattle.bbm_tlbi_scope.specs.Operations.{has_page}
 use Rattle.bbm_tlbi_scope.specs.declared.entry.Cover.{Cover}
@@ -11,7 +12,8 @@ use Rattle.bbm_tlbi_scope.specs.declared.entry.Cover.TheVariants.{None as NoCove
 use Rattle.bbm_tlbi_scope.specs.declared.entry.PlaceView.{PlaceView}
 use Rattle.bbm_tlbi_scope.specs.declared.entry.TagSet.{TagSet}
 use Rattle.bbm_tlbi_scope.specs.declared.scope.Family.{Family}
-use Rattle.bbm_tlbi_scope.specs.declared.scope.Family.TheVariants.{El2All, El2Va, E1All, VmAll1, VmAll12, Ipa, Va, VaAll, Asid}
+use Rattle.bbm_tlbi_scope.specs.declared.scope.Family.TheVariants.{El2All, El2Va, E1All, VmAll1, VmAll12, Ipa, Va}
+use Rattle.bbm_tlbi_scope.specs.declared.scope.Family.TheVariants.{VaAll, Asid}
 use Rattle.bbm_tlbi_scope.specs.declared.scope.Scope.{Scope}
 use Rattle.bbm_replay.specs.Covering.{asks_tags}
 use Rattle.bbm_replay.proofs.Extents.{holds_meets}

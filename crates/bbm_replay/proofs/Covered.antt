@@ -1,5 +1,6 @@
 -- How far a TLBI covers a broken place.
-use Rattle.std.proofs.Common.{◌≡◌, ℕ, suc, Bool, true, false, List, Option, Some, None, is_some, option_and_then, refl, sym, ◌∙◌, ap}
+use Rattle.std.proofs.Common.{◌≡◌, ℕ, suc, Bool, true, false, List, Option, Some, None, is_some, option_and_then, refl}
+use Rattle.std.proofs.Common.{sym, ◌∙◌, ap}
 use Rattle.std.specs.Prelude.{unwrap_or}
 use Rattle.bbm_descriptor.specs.Descriptor.{core_of, desc_of}
 use Rattle.bbm_descriptor.specs.Descriptor as descriptor
@@ -14,7 +15,7 @@ use Rattle.bbm_place_map.specs.Each.{is_table}
 use Rattle.bbm_place_map.specs.Map.{marks_at, value_at}
 use Rattle.bbm_place_map.specs.States.{state_from}
 use Rattle.bbm_place_map.specs.declared.map.PlaceMap.{PlaceMap}
-use Rattle.bbm_tlbi_scope.specs.Covers as scopes
+use Rattle.bbm_tlbi_scope.specs.ScopeCovers as scopes
 use Rattle.bbm_tlbi_scope.specs.declared.entry.Cover.TheVariants.{None as NoCover}
 use Rattle.bbm_tlbi_scope.specs.declared.entry.PlaceView.{PlaceView}
 use Rattle.bbm_tlbi_scope.specs.declared.entry.TagSet.{TagSet}
@@ -23,10 +24,10 @@ use Rattle.bbm_rules.specs.Covers.{cover_at, is_global, view_at}
 use Rattle.bbm_rules.specs.Notes.{events_of}
 use Rattle.bbm_rules.specs.Places.{page_of}
 use Rattle.bbm_rules.specs.Prelude.{Kind, Heading, Event, Scope, TlbiOp, Tlbi}
-use Rattle.bbm_rules.specs.Registers.{named_scope, vmid_of}
+use Rattle.bbm_rules.specs.RegisterValues.{named_scope, vmid_of}
 use Rattle.bbm_rules.specs.Tags.{tag_set, tags_of}
 use Rattle.bbm_rules.specs.Tree.{Node, held_at, is_childless, next_in, next_of, node_of, region_of}
-use Rattle.bbm_tree_index.specs.Held as index
+use Rattle.bbm_tree_index.specs.HeldCores as index
 use Rattle.bbm_replay_trees.specs.Told.{Childless, notes}
 use Rattle.bbm_replay.specs.Leaves.{is_global_core}
 

@@ -1,19 +1,22 @@
 -- What a TLBI of one page covers lies on the way down to the page.
-use Rattle.std.proofs.Common.{◌≡◌, ℕ, zero, suc, ◌+◌, ◌*◌, ◌%◌, ◌<◌, ◌≤◌, ◌&&◌, ◌==◌, nat_le, Bool, true, false, cond, List, [], ◌∷◌, length, Option, Some, is_none, not, refl, sym, ◌∙◌, ap, subst, arith, true≢false}
+use Rattle.std.proofs.Common.{◌≡◌, ℕ, zero, suc, ◌+◌, ◌*◌, ◌%◌, ◌<◌, ◌≤◌, ◌&&◌, ◌==◌, nat_le, Bool, true, false, cond}
+use Rattle.std.proofs.Common.{List, [], ◌∷◌, length, Option, Some, is_none, not, refl, sym, ◌∙◌, ap, subst, arith}
+use Rattle.std.proofs.Common.{true≢false}
 use Rattle.std.proofs.Math.Nat.{mul-le-mul_right}
-use Rattle.std.proofs.lemmas.Bool.{eq-eqb}
+use Rattle.std.proofs.lemmas.Bool.{eq-eqb, and_right, and_left, and_from}
 use Rattle.bbm_descriptor.specs.declared.desc.Core.{Core}
 use Rattle.bbm_regimes.specs.Extent.{Extent, holds, meets}
 use Rattle.bbm_regimes.specs.World.{input_pages}
 use Rattle.bbm_regimes.specs.declared.regime.Kind.{Kind}
 use Rattle.bbm_regimes.specs.declared.regime.Kind.TheVariants.{El2, S2, Ttbr0, Ttbr1}
-use Rattle.bbm_tlbi_scope.specs.Covers.{cover_by, cover_of, fits_place}
+use Rattle.bbm_tlbi_scope.specs.ScopeCovers.{cover_by, cover_of, fits_place}
 use Rattle.bbm_tlbi_scope.specs.Numbers.{hint_allows, lacks_vmid, names_all, names_some}
 use Rattle.bbm_tlbi_scope.specs.Operations.{has_page}
 use Rattle.bbm_tlbi_scope.specs.declared.entry.Cover.TheVariants.{None as NoCover}
 use Rattle.bbm_tlbi_scope.specs.declared.entry.PlaceView.{PlaceView}
 use Rattle.bbm_tlbi_scope.specs.declared.scope.Family.{Family}
-use Rattle.bbm_tlbi_scope.specs.declared.scope.Family.TheVariants.{El2All, El2Va, E1All, VmAll1, VmAll12, Ipa, Va, VaAll, Asid}
+use Rattle.bbm_tlbi_scope.specs.declared.scope.Family.TheVariants.{El2All, El2Va, E1All, VmAll1, VmAll12, Ipa, Va}
+use Rattle.bbm_tlbi_scope.specs.declared.scope.Family.TheVariants.{VaAll, Asid}
 use Rattle.bbm_tlbi_scope.specs.declared.scope.Scope.{Scope}
 use Rattle.bbm_events.specs.Heading.{Heading}
 use Rattle.bbm_rules.specs.Broken.{keeps}
@@ -23,8 +26,8 @@ use Rattle.bbm_rules.specs.Prelude.{Event}
 use Rattle.bbm_rules.specs.Tree.{Above, Node, region_start}
 use Rattle.bbm_replay_trees.specs.Told.{AllFit, SameCores, SameNodes}
 use Rattle.bbm_tree_index.specs.Descent.{IsWay, Translates}
-use Rattle.bbm_tree_index.specs.Held.{is_at, next_in}
-use Rattle.bbm_replay.specs.Laws.{Laws}
+use Rattle.bbm_tree_index.specs.HeldCores.{is_at, next_in}
+use Rattle.bbm_replay.specs.ReplayLaws.{Laws}
 use Rattle.bbm_replay.specs.OnePage.{NamesOne, covers_kind}
 use Rattle.bbm_replay.proofs.Extents.{holds_meets}
 
@@ -115,14 +118,6 @@ away s at one vmid v some k =
     all_none : names_all s.interval v.region ≡ false
     all_none = ap (λ (o : Option Extent). names_all o v.region) one.page ∙ names_not_all at v.region some k
 
-    and_none : (a b : Bool) → b ≡ false → (a && b) ≡ false
-    and_none true b e = e
-    and_none false b e = refl
-
-    none_and : (a b : Bool) → a ≡ false → (a && b) ≡ false
-    none_and true b e = absurd (true≢false e)
-    none_and false b e = refl
-
     either : (childless : Bool) → cond childless (names_some s.interval v.region) (names_all s.interval v.region) ≡ false
     either true = some_none
     either false = all_none
@@ -132,9 +127,9 @@ away s at one vmid v some k =
         && cond childless (names_some s.interval v.region) (names_all s.interval v.region))
         (names_some s.interval v.region && hint_allows s.level v.level) ≡ false
     no_fit true childless =
-        and_none (not s.last_only && is_none s.level)
+        and_right (not s.last_only && is_none s.level)
         (cond childless (names_some s.interval v.region) (names_all s.interval v.region)) (either childless)
-    no_fit false childless = none_and (names_some s.interval v.region) (hint_allows s.level v.level) some_none
+    no_fit false childless = and_left (names_some s.interval v.region) (hint_allows s.level v.level) some_none
 
 pub foreign : (s : Scope) (at : ℕ) → NamesOne s at → (vmid : Option ℕ) (v : PlaceView) → covers_kind s.family v.kind ≡ false
     → cover_of s vmid v ≡ NoCover
@@ -242,9 +237,4 @@ module _ (heading : Heading) (laws : Laws heading) (h : List Event) (node : ℕ 
       (n, is, record { inside = at_own (page_of a) a refl eighth; from = from; to = to })
     where
       at_own : (page a : ℕ) → page_of a ≡ page → a % 8 ≡ 0 → is_at page a ≡ true
-      at_own page a e f = and_both (page_of a == page) (a % 8 == 0) (eq-eqb (page_of a) page e) (eq-eqb (a % 8) 0 f)
-        where
-          and_both : (a b : Bool) → a ≡ true → b ≡ true → (a && b) ≡ true
-          and_both true true p q = refl
-          and_both true false p q = q
-          and_both false b p q = p
+      at_own page a e f = and_from (page_of a == page) (a % 8 == 0) (eq-eqb (page_of a) page e) (eq-eqb (a % 8) 0 f)

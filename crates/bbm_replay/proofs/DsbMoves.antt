@@ -1,10 +1,11 @@
 -- DSBs.
-use Rattle.std.proofs.Common.{◌≡◌, ℕ, Bool, true, false, cond, ◌&&◌, nat_eq, List, [], ◌∷◌, Contains, Option, Some, None, is_some, refl, sym, ◌∙◌, ap, subst, true≢false}
-use Rattle.std.proofs.lemmas.Bool.{and_parts, eqb-true, not-true}
+use Rattle.std.proofs.Common.{◌≡◌, ℕ, Bool, true, false, cond, ◌&&◌, nat_eq, List, [], ◌∷◌, Contains, Option, Some}
+use Rattle.std.proofs.Common.{None, is_some, refl, sym, ◌∙◌, ap, subst, true≢false}
+use Rattle.std.proofs.lemmas.Bool.{and_parts, eqb-true, not-true, and_right}
 use Rattle.bbm_barriers.specs.Options.{is_non}
 use Rattle.bbm_descriptor.specs.Descriptor.{core_of, is_valid}
 use Rattle.bbm_descriptor.specs.declared.desc.Core.{Core}
-use Rattle.bbm_entry_state.specs.Calls.{Published}
+use Rattle.bbm_entry_state.specs.EntryCalls.{Published}
 use Rattle.bbm_entry_state.specs.Points.{core_in, is_broken, waits}
 use Rattle.bbm_entry_state.specs.declared.marks.Marks.{Marks}
 use Rattle.bbm_entry_state.specs.declared.state.EntryState.{EntryState}
@@ -18,12 +19,12 @@ use Rattle.bbm_rules.specs.Lists.{every}
 use Rattle.bbm_rules.specs.Places.{page_of}
 use Rattle.bbm_rules.specs.Prelude.{Barrier, Kind, Heading, Event, Dsb}
 use Rattle.bbm_rules.specs.Tree.{Above, Node}
-use Rattle.bbm_replay_entries.specs.Events.{Heard}
-use Rattle.bbm_replay_entries.specs.Stands.{EntryStands}
+use Rattle.bbm_replay_entries.specs.EntryEvents.{Heard}
+use Rattle.bbm_replay_entries.specs.EntryStands.{EntryStands}
 use Rattle.bbm_replay_trees.specs.Told.{is_held_by, kept, next_in, notes}
-use Rattle.bbm_replay.specs.Laws.{Laws}
+use Rattle.bbm_replay.specs.ReplayLaws.{Laws}
 use Rattle.bbm_replay.proofs.Moves.{Completes, Hears, Leaves}
-use Rattle.bbm_replay.specs.Told.{Told}
+use Rattle.bbm_replay.specs.ReplayTold.{Told}
 use Rattle.bbm_replay.specs.View.{View, core_at, state_of, waiting}
 use Rattle.bbm_replay.proofs.Aparts.{apart_leaves, apart_same}
 use Rattle.bbm_replay.proofs.Entries.{entry_same, fit_more, keeps_more, some_pe, state_same}
@@ -57,10 +58,6 @@ same_state None (Some c) (Some m) k = refl
 same_state (Some c) None (Some m) k = refl
 same_state (Some c) (Some c') (Some m) k = refl
 
-and_false : (x y : Bool) → y ≡ false → (x && y) ≡ false
-and_false true y k = k
-and_false false y k = refl
-
 module _ (heading : Heading) (laws : Laws heading) (h : List Event) (old mid new : View) (t : Told heading h old)
     (q : ℕ) (dsb : Barrier) (hears : Hears old mid (heading.cnp && is_non dsb.domain) q dsb heading.pes)
     (completes : Completes mid new q dsb heading.pes) where
@@ -83,7 +80,7 @@ module _ (heading : Heading) (laws : Laws heading) (h : List Event) (old mid new
 
   pub whole_stays : (a : ℕ) → old.marks a ≡ None → new.marks a ≡ None
   whole_stays a k = no_marks (new.marks a) (completed_marks a
-      ∙ and_false (is_some (core_in (state_from None (new.marks a)))) (is_some (mid.marks a))
+      ∙ and_right (is_some (core_in (state_from None (new.marks a)))) (is_some (mid.marks a))
       (heard_marks a ∙ ap (λ (m : Option Marks). is_some m) k))
 
   -- what waits where nothing is broken any more

@@ -1,5 +1,6 @@
 -- One place after an event that leaves it.
-use Rattle.std.proofs.Common.{◌≡◌, ℕ, ◌<◌, Bool, true, false, ◌&&◌, List, ◌∷◌, Option, Some, None, refl, sym, ◌∙◌, ap, subst}
+use Rattle.std.proofs.Common.{◌≡◌, ℕ, ◌<◌, Bool, true, false, ◌&&◌, List, ◌∷◌, Option, Some, None, refl, sym, ◌∙◌, ap}
+use Rattle.std.proofs.Common.{subst}
 use Rattle.bbm_descriptor.specs.Descriptor.{core_of}
 use Rattle.bbm_entry_state.specs.Points.{is_broken, waits}
 use Rattle.bbm_entry_state.specs.declared.marks.Marks.{Marks}
@@ -12,12 +13,12 @@ use Rattle.bbm_rules.specs.Claims.Trust.{Patterns}
 use Rattle.bbm_rules.specs.Places.{page_of}
 use Rattle.bbm_rules.specs.Prelude.{Kind, Heading, Event}
 use Rattle.bbm_rules.specs.Tree.{Node}
-use Rattle.bbm_replay_entries.specs.Events.{touches}
-use Rattle.bbm_replay_entries.specs.Stands.{EntryStands}
+use Rattle.bbm_replay_entries.specs.EntryEvents.{touches}
+use Rattle.bbm_replay_entries.specs.EntryStands.{EntryStands}
 use Rattle.bbm_replay_trees.specs.Told.{AllFit}
-use Rattle.bbm_replay.specs.Laws.{Laws}
+use Rattle.bbm_replay.specs.ReplayLaws.{Laws}
 use Rattle.bbm_replay.proofs.Moves.{Alike}
-use Rattle.bbm_replay.specs.Told.{Told}
+use Rattle.bbm_replay.specs.ReplayTold.{Told}
 use Rattle.bbm_replay.specs.View.{View, state_of, waiting}
 
 pub keeps_more : (heading : Heading) (h : List Event) (e : Event) → keeps heading Patterns h ≡ true

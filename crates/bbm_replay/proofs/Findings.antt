@@ -1,7 +1,8 @@
 -- Places that are found, each with its cover.
 use Rattle.std.specs.Prelude.{IfSome, OnOk}
-use Rattle.std.proofs.Common.{◌≡◌, ℕ, zero, suc, Bool, true, false, ◌||◌, List, [], ◌∷◌, ◌++◌, Option, Some, nat_eq, Result, Ok, Err, refl, ap, subst, not-suc-le-zero, le_of_suc-le-suc}
-use Rattle.std.proofs.lemmas.Bool.{eq-eqb}
+use Rattle.std.proofs.Common.{◌≡◌, ℕ, zero, suc, Bool, true, false, ◌||◌, List, [], ◌∷◌, ◌++◌, Option, Some, nat_eq}
+use Rattle.std.proofs.Common.{Result, Ok, Err, refl, ap, subst, not-suc-le-zero, le_of_suc-le-suc}
+use Rattle.std.proofs.lemmas.Bool.{eq-eqb, or_right}
 use Rattle.std.proofs.lemmas.List.Elements.{All-append}
 use Rattle.bbm_descriptor.specs.declared.desc.Core.{Core}
 use Rattle.bbm_place_map.specs.Finds.{FoundAs, is_found}
@@ -10,7 +11,8 @@ use Rattle.bbm_place_map.specs.declared.map.PlaceMap.{PlaceMap}
 use Rattle.bbm_tree_index.specs.declared.index.TreeIndex.{TreeIndex}
 use Rattle.bbm_tlbi_scope.specs.declared.entry.Cover.{Cover}
 use Rattle.bbm_replay_roots.specs.declared.state.RootState.{RootState}
-use Rattle.bbm_rules.specs.Prelude.{Heading, Event, Scope, TlbiOp}
+use Rattle.bbm_rules.specs.Prelude.{Heading, Event, TlbiOp}
+use Rattle.bbm_replay_roots.specs.declared.named.NamedTlbi.{NamedTlbi}
 use Rattle.bbm_replay.specs.Covering.{IsBrokenOver, MayBeCovered, MayBeIssued}
 
 pub on_ok : {A E : Type 0} (r : Result A E) {P Q : Type 0} → OnOk r P → (P → Q) → OnOk r Q
@@ -26,25 +28,25 @@ on_both (Ok x) p q f = f p q
 on_both (Err x) p q f = tt
 
 pub may_cover : (heading : Heading) (h : List Event) (map : PlaceMap) (index : TreeIndex) (state : RootState) (pe : ℕ)
-    (op : TlbiOp) (xt : ℕ) (scope : Scope) (vmid : Option ℕ) (place : ℕ) (core : Core)
-    → MayBeIssued heading h map index state pe op xt scope vmid → IsBrokenOver map place core
-    → MayBeCovered heading h map index state pe op xt scope vmid place core
-may_cover heading h map index state pe op xt scope vmid place core m over = record {
+    (op : TlbiOp) (xt : ℕ) (named : NamedTlbi) (place : ℕ) (core : Core)
+    → MayBeIssued heading h map index state pe op xt named → IsBrokenOver map place core
+    → MayBeCovered heading h map index state pe op xt named place core
+may_cover heading h map index state pe op xt named place core m over = record {
   told = m.told;
   stands = m.stands;
-  named = m.named;
+  names = m.names;
   vmid_is = m.vmid_is;
   over = over;
 }
 
 pub issued : (heading : Heading) (h : List Event) (map : PlaceMap) (index : TreeIndex) (state : RootState) (pe : ℕ)
-    (op : TlbiOp) (xt : ℕ) (scope : Scope) (vmid : Option ℕ) (place : ℕ) (core : Core)
-    → MayBeCovered heading h map index state pe op xt scope vmid place core
-    → MayBeIssued heading h map index state pe op xt scope vmid
-issued heading h map index state pe op xt scope vmid place core m = record {
+    (op : TlbiOp) (xt : ℕ) (named : NamedTlbi) (place : ℕ) (core : Core)
+    → MayBeCovered heading h map index state pe op xt named place core
+    → MayBeIssued heading h map index state pe op xt named
+issued heading h map index state pe op xt named place core m = record {
   told = m.told;
   stands = m.stands;
-  named = m.named;
+  names = m.names;
   vmid_is = m.vmid_is;
 }
 
@@ -60,11 +62,7 @@ found_end [] x = ap (λ b. b || false) (same x.place)
   where
     same : (n : ℕ) → nat_eq n n ≡ true
     same n = eq-eqb n n refl
-found_end (y ∷ ys) x = or_true (nat_eq y.place x.place) (is_found (ys ++ x ∷ []) x.place) (found_end ys x)
-  where
-    or_true : (a b : Bool) → b ≡ true → (a || b) ≡ true
-    or_true true b e = refl
-    or_true false b e = e
+found_end (y ∷ ys) x = or_right (nat_eq y.place x.place) (is_found (ys ++ x ∷ []) x.place) (found_end ys x)
 
 pub found_before : (xs : List Found) (x : Found) (a : ℕ) → is_found xs a ≡ true → is_found (xs ++ x ∷ []) a ≡ true
 found_before [] x a e = let bad : false ≡ true = e in absurd cc

@@ -7,8 +7,8 @@ use Rattle.bbm_rules.specs.Tree.{Node}
 use Rattle.bbm_tree_index.specs.Index.{node_in}
 use Rattle.bbm_tree_index.specs.Nodes.{path_at}
 use Rattle.bbm_tree_index.specs.declared.role.Path.{Path}
-use Rattle.bbm_replay.specs.Laws.{Laws}
-use Rattle.bbm_replay.specs.Standing.{IsAt, Stands}
+use Rattle.bbm_replay.specs.ReplayLaws.{Laws}
+use Rattle.bbm_replay.specs.ReplayStanding.{IsAt, Stands}
 use Rattle.bbm_replay.specs.declared.parts.Parts.{Parts}
 
 pub at_path : (p : Parts) (place : ℕ) (r : Option Path) (path : Path) → r ≡ Some path

@@ -3,15 +3,15 @@ use Rattle.std.proofs.Common.{List, ◌∙◌, ap}
 use Rattle.bbm_rules.specs.Prelude.{Heading, Event}
 use Rattle.bbm_entry_state.specs.Points.{waits}
 use Rattle.bbm_entry_state.specs.declared.pending.Pends.{Pends}
-use Rattle.bbm_place_map.specs.Calls.{IsSame}
+use Rattle.bbm_place_map.specs.MapCalls.{IsSame}
 use Rattle.bbm_place_map.specs.declared.map.PlaceMap.{PlaceMap}
 use Rattle.bbm_tree_index.specs.Index.{SamePages, SameTracked}
 use Rattle.bbm_tree_index.specs.declared.index.TreeIndex.{TreeIndex}
-use Rattle.bbm_replay_roots.specs.Stands as roots
-use Rattle.bbm_replay.specs.Laws.{Laws}
+use Rattle.bbm_replay_roots.specs.RootStateStands as roots
+use Rattle.bbm_replay.specs.ReplayLaws.{Laws}
 use Rattle.bbm_replay.proofs.Moves.{Same}
-use Rattle.bbm_replay.specs.Standing.{SameFrame, Stands, view_of}
-use Rattle.bbm_replay.specs.Told.{Told}
+use Rattle.bbm_replay.specs.ReplayStanding.{SameFrame, Stands, view_of}
+use Rattle.bbm_replay.specs.ReplayTold.{Told}
 use Rattle.bbm_replay.specs.declared.parts.Parts.{Parts}
 use Rattle.bbm_replay.proofs.Quiet.{told_same}
 

@@ -1,5 +1,6 @@
 -- Pages that leave, as the index tells it; and a retired root at the parts.
-use Rattle.std.proofs.Common.{◌≡◌, ℕ, Bool, true, false, cond, not, ◌==◌, List, ◌∷◌, Option, Some, None, Ok, Err, refl, sym, ◌∙◌, ap}
+use Rattle.std.proofs.Common.{◌≡◌, ℕ, Bool, true, false, cond, not, ◌==◌, List, ◌∷◌, Option, Some, None, Ok, Err, refl}
+use Rattle.std.proofs.Common.{sym, ◌∙◌, ap}
 use Rattle.bbm_entry_state.specs.Points.{waits}
 use Rattle.bbm_entry_state.specs.declared.marks.Marks.{Marks}
 use Rattle.bbm_entry_state.specs.declared.pending.Pends.{Pends}
@@ -9,13 +10,13 @@ use Rattle.bbm_rules.specs.Places.{page_of}
 use Rattle.bbm_rules.specs.Prelude.{Heading, Event, Unroot}
 use Rattle.bbm_rules.specs.Tree.{Node}
 use Rattle.bbm_rules.specs.declared.step_fault.StepFault.{StepFault}
-use Rattle.bbm_tree_index.specs.Held.{leaves}
-use Rattle.bbm_replay_roots.specs.Stands as roots
+use Rattle.bbm_tree_index.specs.HeldCores.{leaves}
+use Rattle.bbm_replay_roots.specs.RootStateStands as roots
 use Rattle.bbm_replay_trees.specs.Told.{kept}
-use Rattle.bbm_replay.specs.Laws.{Laws}
+use Rattle.bbm_replay.specs.ReplayLaws.{Laws}
 use Rattle.bbm_replay.proofs.Moves.{Leaves, SamePages, SameTracked}
-use Rattle.bbm_replay.specs.Rules.{Rules}
-use Rattle.bbm_replay.specs.Standing.{MayMeet, Meets, SameFrame, Stands, view_of}
+use Rattle.bbm_replay.specs.ReplayRules.{Rules}
+use Rattle.bbm_replay.specs.ReplayStanding.{MayMeet, Meets, SameFrame, Stands, view_of}
 use Rattle.bbm_replay.specs.View.{View}
 use Rattle.bbm_replay.specs.declared.parts.Parts.{Parts}
 use Rattle.bbm_replay.proofs.Framing.{stands_next}

@@ -1,5 +1,7 @@
 -- A write at a place of a tree, at the parts.
-use Rattle.std.proofs.Common.{◌≡◌, ℕ, zero, suc, ◌<◌, arith, ◌%◌, Bool, true, false, cond, not, ◌&&◌, ◌⊎◌, ◌==◌, List, [], ◌∷◌, Option, Some, None, is_none, is_some, option_and_then, Result, Ok, Err, refl, sym, ◌∙◌, ap, subst, true≢false, inl, inr}
+use Rattle.std.proofs.Common.{◌≡◌, ℕ, zero, suc, ◌<◌, arith, ◌%◌, Bool, true, false, cond, not, ◌&&◌, ◌⊎◌, ◌==◌, List}
+use Rattle.std.proofs.Common.{[], ◌∷◌, Option, Some, None, is_none, is_some, option_and_then, Result, Ok, Err, refl}
+use Rattle.std.proofs.Common.{sym, ◌∙◌, ap, subst, true≢false, inl, inr}
 use Rattle.std.specs.Option.{option_map_or}
 use Rattle.bbm_descriptor.specs.Fields.{type_bits}
 use Rattle.bbm_descriptor.specs.Descriptor.{core_of, desc_as, desc_of, differ, invalid, is_valid, leaf}
@@ -7,10 +9,10 @@ use Rattle.bbm_descriptor.specs.Descriptor as descriptor
 use Rattle.bbm_descriptor.specs.declared.desc.Core.{Core}
 use Rattle.bbm_descriptor.specs.declared.desc.Desc.{Desc}
 use Rattle.bbm_descriptor.specs.declared.desc.Desc.TheVariants.{Invalid, Table, Leaf}
-use Rattle.bbm_entry_state.specs.Calls.{Written}
-use Rattle.bbm_entry_state.specs.Standing.{IsIdle}
+use Rattle.bbm_entry_state.specs.EntryCalls.{Written}
+use Rattle.bbm_entry_state.specs.EntryStanding.{IsIdle}
 use Rattle.bbm_entry_state.specs.declared.state.EntryState.{EntryState}
-use Rattle.bbm_regimes.specs.Same.{same_kind}
+use Rattle.bbm_regimes.specs.SameRegister.{same_kind}
 use Rattle.bbm_rules.specs.Answers.{is_written, rewrites}
 use Rattle.bbm_rules.specs.Attach.{attached_by}
 use Rattle.bbm_rules.specs.Broken.{broken}
@@ -27,24 +29,24 @@ use Rattle.bbm_rules.specs.declared.rule.Rule.TheVariants.{NoLock, NullWritten, 
 use Rattle.bbm_rules.specs.declared.rule.Rule.TheVariants.{NotFresh, RewrittenFresh, BadKind, GlobalUser}
 use Rattle.bbm_rules.specs.declared.step_fault.StepFault.TheVariants.{Broken}
 use Rattle.bbm_place_map.specs.Map.{marks_at, pends_at, value_at}
-use Rattle.bbm_tree_index.specs.Held.{limbo_at}
+use Rattle.bbm_tree_index.specs.HeldCores.{limbo_at}
 use Rattle.bbm_tree_index.specs.Index.{fresh_in, node_in, null_in}
 use Rattle.bbm_tree_index.specs.declared.role.Path.{Path}
-use Rattle.bbm_replay_roots.specs.Stands as roots
+use Rattle.bbm_replay_roots.specs.RootStateStands as roots
 use Rattle.bbm_replay_roots.specs.declared.state.RootState.{RootState}
 use Rattle.bbm_replay_trees.specs.Told.{notes}
-use Rattle.bbm_replay.specs.Laws.{Laws}
+use Rattle.bbm_replay.specs.ReplayLaws.{Laws}
 use Rattle.bbm_replay.specs.Leaves.{attached_next, is_contiguous_core, is_global_core}
-use Rattle.bbm_replay.specs.Faults.{step_fault}
+use Rattle.bbm_replay.specs.ReplayFaults.{step_fault}
 use Rattle.bbm_replay.proofs.Moves.{Attaches, Writes}
-use Rattle.bbm_tree_index.specs.Judged as index
+use Rattle.bbm_tree_index.specs.Attaching as index
 use Rattle.bbm_tree_index.specs.Paths as index_paths
 use Rattle.bbm_tree_index.specs.declared.role.Attach.TheVariants as attach
 use Rattle.bbm_tree_index.specs.declared.fault.TreeFault.{TreeFault}
 use Rattle.bbm_tree_index.specs.declared.fault.TreeFault.TheVariants as tree
-use Rattle.bbm_replay.specs.Rules.{Rules}
-use Rattle.bbm_replay.specs.Standing.{Clears, Holds, IsAt, MayMeet, Meets, SameFrame, Stands, view_of}
-use Rattle.bbm_replay.specs.Told.{Told}
+use Rattle.bbm_replay.specs.ReplayRules.{Rules}
+use Rattle.bbm_replay.specs.ReplayStanding.{Clears, Holds, IsAt, MayMeet, Meets, SameFrame, Stands, view_of}
+use Rattle.bbm_replay.specs.ReplayTold.{Told}
 use Rattle.bbm_replay.specs.View.{View, core_at, state_of}
 use Rattle.bbm_replay.specs.declared.parts.Parts.{Parts}
 use Rattle.bbm_replay.proofs.Framing.{stands_next}
@@ -52,6 +54,7 @@ use Rattle.bbm_replay.proofs.Judging.{Verdict, passes, stops, verdict, where_fal
 use Rattle.bbm_replay.proofs.Meeting.{fits_all}
 use Rattle.bbm_replay.proofs.Starting.{Others, meets_broken}
 use Rattle.bbm_replay.proofs.Writing.{after_attaching_write, after_plain_write, cores}
+use Rattle.std.proofs.lemmas.Bool.{and_right}
 
 -- ---- what the core of a descriptor says
 
@@ -296,7 +299,7 @@ module _ (laws : (heading : Heading) → Laws heading) (rules : (heading : Headi
 
     -- so it may take memory
     attaching : (heading : Heading) (h : List Event) → Stands old heading h → rewrites heading h e ≡ false
-    attaching heading h s = spends (is_written h place) _ (some_attached held_none)
+    attaching heading h s = and_right (is_written h place) _ (some_attached held_none)
       where
         node_is : node_of heading Patterns (notes heading h) (page_of place) ≡ Some n
         node_is = sym (s.told.nodes (page_of place)) ∙ at.1
@@ -313,10 +316,6 @@ module _ (laws : (heading : Heading) → Laws heading) (rules : (heading : Headi
         some_attached : held_at heading Patterns (notes heading h) n place ≡ None
             → is_none (attached_by heading Patterns (notes heading h) e) ≡ false
         some_attached empty = rw (node_is, empty, both.1) refl
-
-        spends : (x y : Bool) → y ≡ false → (x && y) ≡ false
-        spends false y k = refl
-        spends true y k = k
 
     pub attach_fault : (last : Parts) → ((heading : Heading) (h : List Event) → Stands old heading h → Stands last heading h)
         → (fault : TreeFault)

@@ -1,6 +1,7 @@
 -- Which rule an event breaks, and which limit it reaches, by a view; and what the index answers of pages to attach, in
 -- the words of the rules.
-use Rattle.std.proofs.Common.{◌≡◌, ℕ, ◌≤◌, Bool, true, false, not, ◌&&◌, ◌||◌, nat_le, List, Option, Some, None, Result, Ok, Err, is_some, filter, refl, ◌∙◌, ap}
+use Rattle.std.proofs.Common.{◌≡◌, ℕ, ◌≤◌, Bool, true, false, not, ◌&&◌, ◌||◌, nat_le, List, Option, Some, None, Result}
+use Rattle.std.proofs.Common.{Ok, Err, is_some, filter, refl, ◌∙◌, ap}
 use Rattle.std.specs.Option.{option_map_or}
 use Rattle.std.proofs.lemmas.Bool.{le-leb, leb-true}
 use Rattle.bbm_regimes.specs.declared.regime.Which.TheVariants.{Pages}
@@ -16,13 +17,13 @@ use Rattle.bbm_rules.specs.declared.rule.Rule.{Rule}
 use Rattle.bbm_rules.specs.declared.rule.Rule.TheVariants.{WrongWorld, NoLock, NullWritten, BreakBeforeMake, LimboMake}
 use Rattle.bbm_rules.specs.declared.rule.Rule.TheVariants.{NotFresh, RewrittenFresh, BadKind, GlobalUser, PageInUse}
 use Rattle.bbm_rules.specs.Tree.{Node}
-use Rattle.bbm_tree_index.specs.Judged.{Judges}
+use Rattle.bbm_tree_index.specs.Attaching.{Judges}
 use Rattle.bbm_tree_index.specs.declared.fault.TreeFault.{TreeFault}
 use Rattle.bbm_tree_index.specs.declared.fault.TreeFault.TheVariants as tree
 use Rattle.bbm_replay_trees.specs.Judging.{Judging}
 use Rattle.bbm_replay_trees.specs.Told.{notes}
-use Rattle.bbm_replay.specs.Rules.{Rules}
-use Rattle.bbm_replay.specs.Told.{Told}
+use Rattle.bbm_replay.specs.ReplayRules.{Rules}
+use Rattle.bbm_replay.specs.ReplayTold.{Told}
 use Rattle.bbm_replay.specs.View.{View}
 
 -- the rule is the least broken one where it is broken, and else what the others say counts

@@ -7,14 +7,15 @@ use Rattle.bbm_rules.specs.Changes.{changes}
 use Rattle.bbm_rules.specs.Claims.Trust.{Patterns}
 use Rattle.bbm_rules.specs.Notes.{Noted}
 use Rattle.bbm_rules.specs.Pages.{initialised}
-use Rattle.bbm_rules.specs.Prelude.{Heading, Event, Init, Null, Root, Unroot, Write, Dsb, Dmb, Isb, Tlbi, Msr, Lock, Unlock}
-use Rattle.bbm_replay_entries.specs.Events.{touches}
-use Rattle.bbm_replay_trees.specs.Events.{leaves_trees}
+use Rattle.bbm_rules.specs.Prelude.{Heading, Event, Init, Null, Root, Unroot, Write, Dsb, Dmb, Isb, Tlbi, Msr, Lock}
+use Rattle.bbm_rules.specs.Prelude.{Unlock}
+use Rattle.bbm_replay_entries.specs.EntryEvents.{touches}
+use Rattle.bbm_replay_trees.specs.TreeEvents.{leaves_trees}
 use Rattle.bbm_replay_trees.specs.Told.{SameKnown, SameNull, SameValues}
 use Rattle.bbm_replay_trees.specs.Told as told
-use Rattle.bbm_replay.specs.Laws.{Laws}
+use Rattle.bbm_replay.specs.ReplayLaws.{Laws}
 use Rattle.bbm_replay.proofs.Moves.{Same, SameTracked, is_quiet}
-use Rattle.bbm_replay.specs.Told.{Told}
+use Rattle.bbm_replay.specs.ReplayTold.{Told}
 use Rattle.bbm_replay.specs.View.{View, state_of, waiting}
 use Rattle.bbm_replay.proofs.Aparts.{apart_same}
 use Rattle.bbm_replay.proofs.Entries.{carried, entry_same, fit_more, keeps_more, state_same}

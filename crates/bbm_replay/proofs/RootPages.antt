@@ -1,5 +1,7 @@
 -- The pages of a root: they lie below 2 ^ 48, and where none is found that isn't fresh, each is fresh.
-use Rattle.std.proofs.Common.{◌≡◌, ℕ, zero, suc, ◌+◌, ◌*◌, ◌%◌, ◌^◌, ◌<◌, ◌≤◌, ◌⊎◌, Bool, true, false, cond, not, ◌&&◌, ◌||◌, ◌==◌, nat_le, nat_lt, List, [], ◌∷◌, length, Contains, slice_index_or, None, filter, refl, sym, ◌∙◌, ap, subst, inl, inr, arith, not-suc-le-zero, le_of_suc-le-suc}
+use Rattle.std.proofs.Common.{◌≡◌, ℕ, zero, suc, ◌+◌, ◌*◌, ◌%◌, ◌^◌, ◌<◌, ◌≤◌, ◌⊎◌, Bool, true, false, cond, not, ◌&&◌}
+use Rattle.std.proofs.Common.{◌||◌, ◌==◌, nat_le, nat_lt, List, [], ◌∷◌, length, Contains, slice_index_or, None, filter}
+use Rattle.std.proofs.Common.{refl, sym, ◌∙◌, ap, subst, inl, inr, arith, not-suc-le-zero, le_of_suc-le-suc}
 use Rattle.std.proofs.lemmas.Bool.{and_parts, eqb-true, ltb-true}
 use Rattle.bbm_regimes.specs.World.{are_s2_pages, input_pages, page_count, world_ok}
 use Rattle.bbm_regimes.specs.declared.regime.Kind.{Kind}
@@ -10,17 +12,13 @@ use Rattle.bbm_events.specs.Fits.{is_page, is_root_page}
 use Rattle.bbm_events.specs.Heading.{Heading, are_pes, heading_ok, is_version, may_share}
 use Rattle.bbm_rules.specs.Lists.{least}
 use Rattle.bbm_rules.specs.Tree.{Node, nodes_of_pages}
+use Rattle.bbm_lemmas.proofs.Bools.{third_true}
 
 last4 : (a b c d : Bool) → (a && b && c && d) ≡ true → d ≡ true
 last4 true true true d k = k
 last4 true true false d k = let bad : false ≡ true = k in absurd cc
 last4 true false c d k = let bad : false ≡ true = k in absurd cc
 last4 false b c d k = let bad : false ≡ true = k in absurd cc
-
-last3 : (a b c : Bool) → (a && b && c) ≡ true → c ≡ true
-last3 true true c k = k
-last3 true false c k = let bad : false ≡ true = k in absurd cc
-last3 false b c k = let bad : false ≡ true = k in absurd cc
 
 -- a stage 2 root has 1, 2, 4, 8 or 16 pages
 few : (start pages : ℕ) → are_s2_pages start pages ≡ true
@@ -59,7 +57,7 @@ many page n a b c = elim c [
 
 counted : (world : World) (kind : Kind) → world_ok world ≡ true → (page_count world kind ≡ 1) ⊎ ((page_count world kind ≡ 2)
     ⊎ ((page_count world kind ≡ 4) ⊎ ((page_count world kind ≡ 8) ⊎ (page_count world kind ≡ 16))))
-counted (Hyp w) S2 k = few w.s2_start w.s2_pages (last3 (nat_le w.el2_start 2) (nat_le w.s2_start 2) (are_s2_pages w.s2_start w.s2_pages) k)
+counted (Hyp w) S2 k = few w.s2_start w.s2_pages (third_true (nat_le w.el2_start 2) (nat_le w.s2_start 2) (are_s2_pages w.s2_start w.s2_pages) k)
 counted (Hyp w) El2 k = inl refl
 counted (Hyp w) Ttbr0 k = inl refl
 counted (Hyp w) Ttbr1 k = inl refl

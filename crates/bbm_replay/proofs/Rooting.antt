@@ -1,6 +1,7 @@
 -- A root that is declared, at the parts.
-use Rattle.std.proofs.Common.{◌≡◌, ℕ, ◌⊎◌, ◌↔◌, Bool, true, false, cond, not, ◌&&◌, List, [], ◌∷◌, length, Option, Some, None, is_none, filter, Result, Ok, Err, refl, sym, ◌∙◌, ap, subst, nat_le}
-use Rattle.bbm_entry_state.specs.Standing.{IsIdle}
+use Rattle.std.proofs.Common.{◌≡◌, ℕ, ◌⊎◌, ◌↔◌, Bool, true, false, cond, not, ◌&&◌, List, [], ◌∷◌, length, Option, Some}
+use Rattle.std.proofs.Common.{None, is_none, filter, Result, Ok, Err, refl, sym, ◌∙◌, ap, subst, nat_le}
+use Rattle.bbm_entry_state.specs.EntryStanding.{IsIdle}
 use Rattle.bbm_regimes.specs.declared.regime.Which.TheVariants.{Roots}
 use Rattle.bbm_rules.specs.Answers.{Answers}
 use Rattle.bbm_rules.specs.Broken.{broken}
@@ -18,24 +19,25 @@ use Rattle.bbm_rules.specs.declared.step_fault.StepFault.{StepFault}
 use Rattle.bbm_rules.specs.declared.step_fault.StepFault.TheVariants.{Broken, Limit, NoMemory}
 use Rattle.bbm_place_map.specs.Map.{marks_at, pends_at, value_at}
 use Rattle.bbm_tree_index.specs.Index.{fresh_in, heading_of}
-use Rattle.bbm_tree_index.specs.Judged as index
+use Rattle.bbm_tree_index.specs.Attaching as index
 use Rattle.bbm_tree_index.specs.Paths as index_paths
 use Rattle.bbm_tree_index.specs.declared.fault.TreeFault.{TreeFault}
 use Rattle.bbm_tree_index.specs.declared.fault.TreeFault.TheVariants as tree
-use Rattle.bbm_replay_roots.specs.Stands as roots
+use Rattle.bbm_replay_roots.specs.RootStateStands as roots
 use Rattle.bbm_replay_roots.specs.declared.state.RootState.{RootState}
 use Rattle.bbm_replay_trees.specs.Told.{notes}
-use Rattle.bbm_replay.specs.Faults.{step_fault}
-use Rattle.bbm_replay.specs.Laws.{Laws}
+use Rattle.bbm_replay.specs.ReplayFaults.{step_fault}
+use Rattle.bbm_replay.specs.ReplayLaws.{Laws}
 use Rattle.bbm_replay.proofs.Moves.{Attaches, SameMap, SameTracked}
-use Rattle.bbm_replay.specs.Rules.{Rules}
-use Rattle.bbm_replay.specs.Standing.{MayMeet, Meets, SameFrame, Stands, view_of}
+use Rattle.bbm_replay.specs.ReplayRules.{Rules}
+use Rattle.bbm_replay.specs.ReplayStanding.{MayMeet, Meets, SameFrame, Stands, view_of}
 use Rattle.bbm_replay.specs.declared.parts.Parts.{Parts}
 use Rattle.bbm_replay.proofs.Framing.{stands_next}
 use Rattle.bbm_replay.proofs.Growing.{after_root}
 use Rattle.bbm_replay.proofs.Judging.{Verdict, passes, root_is, stops, verdict, where_false, where_true}
 use Rattle.bbm_replay.proofs.Meeting.{fits_all, frugal_else, stands_same, with_roots}
 use Rattle.bbm_replay.proofs.Starting.{meets_broken}
+use Rattle.bbm_lemmas.proofs.Bools.{third_true}
 
 -- the nodes of the pages of a root
 abbrev pub starts : Heading → Kind → ℕ → List Node
@@ -172,12 +174,7 @@ module _ (laws : (heading : Heading) → Laws heading) (rules : (heading : Headi
 -- the page of a root fits
 pub root_page : (heading : Heading) (pe : ℕ) (lock : Option ℕ) (kind : Kind) (page : ℕ)
     → fits_heading heading (Root pe kind lock page) ≡ true → is_root_page heading.world kind page ≡ true
-root_page heading pe lock kind page fits = last (is_pe heading pe) (is_root_lock lock) (is_root_page heading.world kind page) fits
-  where
-    last : (a b c : Bool) → (a && b && c) ≡ true → c ≡ true
-    last true true c k = k
-    last true false c k = let bad : false ≡ true = k in absurd cc
-    last false b c k = let bad : false ≡ true = k in absurd cc
+root_page heading pe lock kind page fits = third_true (is_pe heading pe) (is_root_lock lock) (is_root_page heading.world kind page) fits
 
 -- the pages of a root are consecutive ones
 pub unfresh_is : (p : Parts) (kind : Kind) (page count : ℕ) (heading : Heading) → p.header ≡ heading

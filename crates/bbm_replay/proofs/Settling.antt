@@ -1,15 +1,16 @@
 -- A DSB at the parts.
-use Rattle.std.proofs.Common.{◌≡◌, ℕ, Bool, true, false, cond, ◌&&◌, List, [], ◌∷◌, Option, Some, None, is_some, nat_eq, Ok, refl, sym, ◌∙◌, ap, subst}
+use Rattle.std.proofs.Common.{◌≡◌, ℕ, Bool, true, false, cond, ◌&&◌, List, [], ◌∷◌, Option, Some, None, is_some, nat_eq}
+use Rattle.std.proofs.Common.{Ok, refl, sym, ◌∙◌, ap, subst}
 use Rattle.bbm_barriers.specs.Options.{is_non}
 use Rattle.bbm_descriptor.specs.Descriptor.{core_of}
 use Rattle.bbm_descriptor.specs.declared.desc.Core.{Core}
 use Rattle.bbm_descriptor.specs.declared.desc.Core.TheVariants.{Table, Leaf}
-use Rattle.bbm_entry_state.specs.Calls.{Completed, Published}
+use Rattle.bbm_entry_state.specs.EntryCalls.{Completed, Published}
 use Rattle.bbm_entry_state.specs.Points.{core_in, waits}
 use Rattle.bbm_entry_state.specs.declared.pending.Pends.{Pends}
 use Rattle.bbm_tlbi_scope.specs.declared.entry.Cover.{Cover}
 use Rattle.bbm_entry_state.specs.declared.marks.Marks.{Marks}
-use Rattle.bbm_place_map.specs.Calls.{lost_table}
+use Rattle.bbm_place_map.specs.MapCalls.{lost_table}
 use Rattle.bbm_place_map.specs.Each.{is_table, loses_table}
 use Rattle.bbm_place_map.specs.Map.{is_tracked, marks_at, pends_at, value_at}
 use Rattle.bbm_place_map.specs.States.{state_from}
@@ -21,12 +22,12 @@ use Rattle.bbm_rules.specs.Lists.{every}
 use Rattle.bbm_rules.specs.Places.{page_of}
 use Rattle.bbm_rules.specs.Prelude.{Barrier, Kind, Heading, Event, Dsb}
 use Rattle.bbm_rules.specs.Tree.{Above, Node}
-use Rattle.bbm_tree_index.specs.Held.{core_with, is_held}
-use Rattle.bbm_replay_roots.specs.Stands as roots
+use Rattle.bbm_tree_index.specs.HeldCores.{core_with, is_held}
+use Rattle.bbm_replay_roots.specs.RootStateStands as roots
 use Rattle.bbm_replay_trees.specs.Told.{is_held_by, kept, next_in}
-use Rattle.bbm_replay.specs.Laws.{Laws}
+use Rattle.bbm_replay.specs.ReplayLaws.{Laws}
 use Rattle.bbm_replay.proofs.Moves.{Completes, Hears, Leaves}
-use Rattle.bbm_replay.specs.Standing.{MayMeet, Meets, SameFrame, Stands, view_of}
+use Rattle.bbm_replay.specs.ReplayStanding.{MayMeet, Meets, SameFrame, Stands, view_of}
 use Rattle.bbm_replay.specs.View.{View, core_at}
 use Rattle.bbm_replay.specs.declared.parts.Parts.{Parts}
 use Rattle.bbm_replay.proofs.DsbMoves.{after_dsb, all_held, whole_stays}

@@ -1,7 +1,8 @@
 -- TLBIs.
-use Rattle.std.proofs.Common.{◌≡◌, ℕ, ◌<◌, Bool, true, false, ◌&&◌, nat_eq, List, ◌∷◌, Option, Some, None, is_some, refl, sym, ◌∙◌, ap, subst, inl}
+use Rattle.std.proofs.Common.{◌≡◌, ℕ, ◌<◌, Bool, true, false, ◌&&◌, nat_eq, List, ◌∷◌, Option, Some, None, is_some}
+use Rattle.std.proofs.Common.{refl, sym, ◌∙◌, ap, subst, inl}
 use Rattle.bbm_descriptor.specs.Descriptor.{core_of}
-use Rattle.bbm_entry_state.specs.Calls.{Noted}
+use Rattle.bbm_entry_state.specs.EntryCalls.{Noted}
 use Rattle.bbm_entry_state.specs.Points.{is_broken}
 use Rattle.bbm_entry_state.specs.declared.marks.Marks.{Marks}
 use Rattle.bbm_entry_state.specs.declared.state.EntryState.{EntryState}
@@ -16,11 +17,11 @@ use Rattle.bbm_rules.specs.Places.{page_of}
 use Rattle.bbm_rules.specs.Prelude.{Heading, Event, Tlbi, TlbiOp}
 use Rattle.bbm_rules.specs.Reach.{reaches}
 use Rattle.bbm_rules.specs.Tree.{Node}
-use Rattle.bbm_replay_entries.specs.Stands.{EntryStands}
+use Rattle.bbm_replay_entries.specs.EntryStands.{EntryStands}
 use Rattle.bbm_replay_trees.specs.Told.{notes}
-use Rattle.bbm_replay.specs.Laws.{Laws}
+use Rattle.bbm_replay.specs.ReplayLaws.{Laws}
 use Rattle.bbm_replay.proofs.Moves.{Issues}
-use Rattle.bbm_replay.specs.Told.{Told}
+use Rattle.bbm_replay.specs.ReplayTold.{Told}
 use Rattle.bbm_replay.specs.View.{View, state_of, waiting}
 use Rattle.bbm_replay.proofs.DsbMoves.{broken_marks, same_state}
 use Rattle.bbm_replay.proofs.Aparts.{apart_same}

@@ -1,9 +1,12 @@
 -- A broken place that isn't met on the way down to an input page isn't covered by a TLBI of that page.
-use Rattle.std.proofs.Common.{◌≡◌, ℕ, zero, suc, ◌+◌, ◌-◌, ◌*◌, ◌/◌, ◌%◌, nat_eq, ◌<◌, ◌≤◌, ◌&&◌, ◌||◌, ◌==◌, nat_le, Bool, true, false, cond, List, [], length, Option, Some, None, Contains, slice_index_or, is_some, option_and_then, refl, sym, ◌∙◌, ap, subst, arith, true≢false, not-suc-le-zero, le_of_suc-le-suc}
+use Rattle.std.proofs.Common.{◌≡◌, ℕ, zero, suc, ◌+◌, ◌-◌, ◌*◌, ◌/◌, ◌%◌, nat_eq, ◌<◌, ◌≤◌, ◌&&◌, ◌||◌, ◌==◌, nat_le}
+use Rattle.std.proofs.Common.{Bool, true, false, cond, List, [], length, Option, Some, None, Contains, slice_index_or}
+use Rattle.std.proofs.Common.{is_some, option_and_then, refl, sym, ◌∙◌, ap, subst, arith, true≢false, not-suc-le-zero}
+use Rattle.std.proofs.Common.{le_of_suc-le-suc}
 use Rattle.std.specs.Prelude.{unwrap_or}
 use Rattle.std.proofs.lemmas.Bool.{and_parts, eqb-true, leb-true}
 use Rattle.bbm_descriptor.specs.Descriptor.{desc_of, same_bool}
-use Rattle.bbm_entry_state.specs.Calls.{Noted, counts_at}
+use Rattle.bbm_entry_state.specs.EntryCalls.{Noted, counts_at}
 use Rattle.bbm_entry_state.specs.Points.{waits}
 use Rattle.bbm_entry_state.specs.declared.marks.Marks.{Marks}
 use Rattle.bbm_entry_state.specs.declared.pending.Pends.{Pends}
@@ -20,8 +23,8 @@ use Rattle.bbm_regimes.specs.PeMask.{pe_in}
 use Rattle.bbm_regimes.specs.World.{input_pages, page_count}
 use Rattle.bbm_regimes.specs.declared.pe.PeMask.{PeMask}
 use Rattle.bbm_regimes.specs.declared.regime.Kind.{Kind}
-use Rattle.bbm_tlbi_scope.specs.Covers as scopes
-use Rattle.bbm_tlbi_scope.specs.Same.{same_cover}
+use Rattle.bbm_tlbi_scope.specs.ScopeCovers as scopes
+use Rattle.bbm_tlbi_scope.specs.SameCover.{same_cover}
 use Rattle.bbm_tlbi_scope.specs.declared.entry.Cover.{Cover}
 use Rattle.bbm_tlbi_scope.specs.declared.entry.Cover.TheVariants.{None as NoCover, Half, Second, Full}
 use Rattle.bbm_tlbi_scope.specs.declared.entry.PlaceView.{PlaceView}
@@ -30,24 +33,26 @@ use Rattle.bbm_rules.specs.Covers.{cover_at, is_global, view_at}
 use Rattle.bbm_rules.specs.Notes.{events_of}
 use Rattle.bbm_rules.specs.Places.{page_of}
 use Rattle.bbm_rules.specs.Prelude.{Event, Scope, TlbiOp, Tlbi}
-use Rattle.bbm_rules.specs.Registers.{named_scope, vmid_of}
+use Rattle.bbm_rules.specs.RegisterValues.{named_scope, vmid_of}
 use Rattle.bbm_rules.specs.Roots.{Declared, kind_in_world, pages_from, root_at, root_pages}
 use Rattle.bbm_rules.specs.Tags.{tag_set, tags_of}
 use Rattle.bbm_rules.specs.Tree.{Node, held_at, is_childless, next_of, node_of, region_of, region_start}
-use Rattle.bbm_tree_index.specs.Agreement.{IsSound}
+use Rattle.bbm_tree_index.specs.IndexAgreement.{IsSound}
 use Rattle.bbm_tree_index.specs.Descent.{IsWay}
-use Rattle.bbm_tree_index.specs.Held.{core_at}
+use Rattle.bbm_tree_index.specs.HeldCores.{core_at}
 use Rattle.bbm_tree_index.specs.Index.{node_in}
 use Rattle.bbm_tree_index.specs.declared.index.TreeIndex.{TreeIndex}
 use Rattle.bbm_replay_roots.specs.declared.state.RootState.{RootState}
 use Rattle.bbm_replay_trees.specs.Told.{SameCores, SameNodes, notes}
 use Rattle.bbm_replay.specs.Covering.{MayBeIssued}
-use Rattle.bbm_replay.specs.Laws.{Laws}
+use Rattle.bbm_replay_roots.specs.declared.named.NamedTlbi.{NamedTlbi}
+use Rattle.bbm_replay.specs.ReplayLaws.{Laws}
 use Rattle.bbm_replay.specs.OnePage.{IsPage, MetFromAll, NamesOne, covers_kind}
-use Rattle.bbm_replay.specs.Standing.{view_of}
+use Rattle.bbm_replay.specs.ReplayStanding.{view_of}
 use Rattle.bbm_replay.proofs.Descents.{Top, away, foreign, lies_in, top}
 use Rattle.bbm_replay.proofs.Settling.{core_with_is}
 use Rattle.bbm_replay.proofs.Writing.{cores}
+use Rattle.bbm_lemmas.proofs.Bools.{and_none, or_nothing}
 
 -- a broken place is an address of a descriptor
 pub broken_eighth : (map : PlaceMap) (a : ℕ) → is_some (marks_at map a) ≡ true → a % 8 ≡ 0
@@ -93,44 +98,36 @@ part_of heading kind page q c = by (kind_in_world heading.world kind) c
 pub noted_none : (state : EntryState) (p : Pends) (reach : PeMask) (broadcast : Bool) → Noted state p reach broadcast NoCover p
 noted_none state p reach broadcast b c q = sym (by c)
   where
-    and_false : (x y : Bool) → (x && (y && false)) ≡ false
-    and_false true true = refl
-    and_false true false = refl
-    and_false false y = refl
-
     uncounted : (state : EntryState) → counts_at state NoCover q ≡ false
     uncounted Clean = refl
     uncounted (Live core) = refl
     uncounted (Broken marks) = refl
 
-    none : (x y w : Bool) → ((x && (y && false)) || w) ≡ w
-    none x y w = ap (λ z. z || w) (and_false x y)
-
     by : (c : Cover) → ((same_bool broadcast b && (pe_in reach q && (same_cover c NoCover && counts_at state c q))) || waits p b c q)
         ≡ waits p b c q
     by NoCover = ap (λ z. (same_bool broadcast b && (pe_in reach q && z)) || waits p b NoCover q) (uncounted state)
-        ∙ none (same_bool broadcast b) (pe_in reach q) (waits p b NoCover q)
-    by Half = none (same_bool broadcast b) (pe_in reach q) (waits p b Half q)
-    by Second = none (same_bool broadcast b) (pe_in reach q) (waits p b Second q)
-    by Full = none (same_bool broadcast b) (pe_in reach q) (waits p b Full q)
+        ∙ or_nothing (same_bool broadcast b) (pe_in reach q) (waits p b NoCover q)
+    by Half = or_nothing (same_bool broadcast b) (pe_in reach q) (waits p b Half q)
+    by Second = or_nothing (same_bool broadcast b) (pe_in reach q) (waits p b Second q)
+    by Full = or_nothing (same_bool broadcast b) (pe_in reach q) (waits p b Full q)
 
 module _ (heading : Heading) (laws : Laws heading) (h : List Event)
     (starts : (node : ℕ → Option Node) (p : ℕ) (m : Node) → SameNodes heading h node → node p ≡ Some m → m.above ≡ []
     → (r : Declared) × (root_at h r.page ≡ Some r) × (m.root ≡ r.page) × (m.kind ≡ r.kind)
     × Contains (root_pages heading.world r.kind r.page) m.page)
     (ev : events_of (notes heading h) ≡ h) (map : PlaceMap) (index : TreeIndex) (state : RootState) (pe : ℕ) (op : TlbiOp)
-    (xt : ℕ) (scope : Scope) (vmid : Option ℕ) (m : MayBeIssued heading h map index state pe op xt scope vmid) where
+    (xt : ℕ) (named : NamedTlbi) (m : MayBeIssued heading h map index state pe op xt named) where
   -- a place isn't covered where the scope covers no view of its kind and region
   cover_none : (n : Node) (a : ℕ) → node_of heading Patterns (notes heading h) (page_of a) ≡ Some n
-      → ((v : PlaceView) (own : Option ℕ) → v.kind ≡ n.kind → v.region ≡ region_of n a → scopes.cover_of scope own v ≡ NoCover)
+      → ((v : PlaceView) (own : Option ℕ) → v.kind ≡ n.kind → v.region ≡ region_of n a → scopes.cover_of named.scope own v ≡ NoCover)
       → cover_at heading Patterns (notes heading h) (Tlbi pe op xt) a ≡ NoCover
   cover_none n a node none =
       ap (λ (o : Option Scope). unwrap_or (option_and_then (λ (x : Scope). option_and_then (λ (w : PlaceView).
       Some (scopes.cover_of x (vmid_of heading (events_of (notes heading h)) pe) w))
       (view_at heading Patterns (notes heading h) a)) o) NoCover)
-      (ap (λ (es : List Event). named_scope heading es pe op xt) ev ∙ m.named)
+      (ap (λ (es : List Event). named_scope heading es pe op xt) ev ∙ m.names)
       ∙ ap (λ (o : Option PlaceView). unwrap_or (option_and_then (λ (w : PlaceView).
-      Some (scopes.cover_of scope (vmid_of heading (events_of (notes heading h)) pe) w)) o) NoCover)
+      Some (scopes.cover_of named.scope (vmid_of heading (events_of (notes heading h)) pe) w)) o) NoCover)
       (ap (λ (o : Option Node). option_and_then (λ (k : Node). option_and_then (λ (v : ℕ). Some (told k v))
       (held_at heading Patterns (notes heading h) k a)) o) node)
       ∙ by (held_at heading Patterns (notes heading h) n a)
@@ -147,13 +144,13 @@ module _ (heading : Heading) (laws : Laws heading) (h : List Event)
       }
 
       by : (o : Option ℕ) → unwrap_or (option_and_then (λ (w : PlaceView).
-          Some (scopes.cover_of scope (vmid_of heading (events_of (notes heading h)) pe) w))
+          Some (scopes.cover_of named.scope (vmid_of heading (events_of (notes heading h)) pe) w))
           (option_and_then (λ (v : ℕ). Some (told n v)) o)) NoCover ≡ NoCover
       by None = refl
       by (Some v) = none (told n v) (vmid_of heading (events_of (notes heading h)) pe) refl refl
 
-  module _ (sound : IsSound index) (at : ℕ) (one : NamesOne scope at) (Has : ℕ → Type 0)
-      (met : (r : Declared) → root_at h r.page ≡ Some r → covers_kind scope.family r.kind ≡ true
+  module _ (sound : IsSound index) (at : ℕ) (one : NamesOne named.scope at) (Has : ℕ → Type 0)
+      (met : (r : Declared) → root_at h r.page ≡ Some r → covers_kind named.scope.family r.kind ≡ true
       → MetFromAll (node_in index) (core_at map) at r.page (page_count heading.world r.kind) Has) where
     same_cores : SameCores heading h (core_at map)
     same_cores n a is = core_with_is (marks_at map a) n.kind n.level (value_at map a) ∙ cores heading h (view_of map index) m.told n a is
@@ -161,7 +158,7 @@ module _ (heading : Heading) (laws : Laws heading) (h : List Event)
     is_page : (p : ℕ) (n : Node) → node_in index p ≡ Some n → IsPage p
     is_page p n is = sound.pages p (sym (m.told.tracked p) ∙ m.told.apart.node_tracked p n is)
 
-    found_top : (n : Node) (a : ℕ) → covers_kind scope.family n.kind ≡ true
+    found_top : (n : Node) (a : ℕ) → covers_kind named.scope.family n.kind ≡ true
         → (t : Top heading laws h (node_in index) (core_at map) m.told.kept m.told.fit m.told.nodes same_cores at a n 0)
         → n.level < 4 → Has a
     found_top n a covers t low =
@@ -171,7 +168,7 @@ module _ (heading : Heading) (laws : Laws heading) (h : List Event)
         let part = part_of heading r.kind r.page t.start.page st.4 in
         let here : t.page ≡ r.page + 4096 * part.0 = sym own.0 ∙ part.2 in
         let same : n.kind ≡ r.kind = sym t.kind ∙ st.3 in
-        let right : covers_kind scope.family r.kind ≡ true = ap (λ (k : Kind). covers_kind scope.family k) (sym same) ∙ covers in
+        let right : covers_kind named.scope.family r.kind ≡ true = ap (λ (k : Kind). covers_kind named.scope.family k) (sym same) ∙ covers in
         met r st.1 right part.0 part.1 (subst IsPage here (is_page t.page t.start t.is_start)) t.way a
         (short (length t.way) t.start.level n.level t.count low)
         (subst (λ p. IsWay (node_in index) (core_at map) at p t.way a) here t.leads)
@@ -185,7 +182,7 @@ module _ (heading : Heading) (laws : Laws heading) (h : List Event)
       where
         by : (o : Option Node) → node_in index (page_of a) ≡ o → cover_at heading Patterns (notes heading h) (Tlbi pe op xt) a ≡ NoCover
         by None is = absurd (true≢false (sym broken ∙ ap (λ (x : Option Marks). is_some x) (m.told.outside a is)))
-        by (Some n) is = inside (lies_in at (region_of n a)) (covers_kind scope.family n.kind) refl refl
+        by (Some n) is = inside (lies_in at (region_of n a)) (covers_kind named.scope.family n.kind) refl refl
           where
             node : node_of heading Patterns (notes heading h) (page_of a) ≡ Some n
             node = sym (m.told.nodes (page_of a)) ∙ is
@@ -196,16 +193,16 @@ module _ (heading : Heading) (laws : Laws heading) (h : List Event)
             width : 1 ≤ input_pages n.level
             width = some_width n.level low
 
-            inside : (b k : Bool) → lies_in at (region_of n a) ≡ b → covers_kind scope.family n.kind ≡ k
+            inside : (b k : Bool) → lies_in at (region_of n a) ≡ b → covers_kind named.scope.family n.kind ≡ k
                 → cover_at heading Patterns (notes heading h) (Tlbi pe op xt) a ≡ NoCover
-            inside false k e f = cover_none n a node (λ v own kind region. away scope at one own v
+            inside false k e f = cover_none n a node (λ v own kind region. away named.scope at one own v
                 (subst (λ x. x.lo ≤ x.hi) (sym region) (ends (region_start n a) (input_pages n.level) width))
                 (ap (λ x. lies_in at x) region ∙ e))
               where
                 ends : (start w : ℕ) → 1 ≤ w → start ≤ start + w - 1
                 ends start w k = omega arith
-            inside true false e f = cover_none n a node (λ v own kind region. foreign scope at one own v
-                (ap (λ (x : Kind). covers_kind scope.family x) kind ∙ f))
+            inside true false e f = cover_none n a node (λ v own kind region. foreign named.scope at one own v
+                (ap (λ (x : Kind). covers_kind named.scope.family x) kind ∙ f))
             inside true true e f =
                 let both = and_parts (nat_le (region_start n a) at) (nat_le at (region_start n a + input_pages n.level - 1)) e in
                 let from = leb-true (region_start n a) at both.0 in

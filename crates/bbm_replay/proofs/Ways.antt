@@ -1,5 +1,6 @@
 -- Going down a tree along an input page.
-use Rattle.std.proofs.Common.{◌≡◌, ℕ, suc, ◌<◌, List, [], ◌∷◌, Option, Some, None, length, refl, sym, ap, ◌∙◌, subst, arith}
+use Rattle.std.proofs.Common.{◌≡◌, ℕ, suc, ◌<◌, List, [], ◌∷◌, Option, Some, None, length, refl, sym, ap, ◌∙◌, subst}
+use Rattle.std.proofs.Common.{arith}
 use Rattle.std.specs.Option.{option_map}
 use Rattle.bbm_descriptor.specs.declared.desc.Core.{Core}
 use Rattle.bbm_descriptor.specs.Descriptor.{core_of}
@@ -12,7 +13,7 @@ use Rattle.bbm_place_map.specs.declared.map.PlaceMap.{PlaceMap}
 use Rattle.bbm_regimes.specs.declared.regime.Kind.{Kind}
 use Rattle.bbm_rules.specs.Tree.{Node}
 use Rattle.bbm_tree_index.specs.Descent.{IsWay, Translates}
-use Rattle.bbm_tree_index.specs.Held.{core_at, core_with, next_in}
+use Rattle.bbm_tree_index.specs.HeldCores.{core_at, core_with, next_in}
 use Rattle.bbm_tree_index.specs.Nodes.{path_at}
 use Rattle.bbm_tree_index.specs.declared.role.Path.{Path}
 

@@ -1,5 +1,6 @@
 -- Where no place is broken, no place is in limbo.
-use Rattle.std.proofs.Common.{◌≡◌, ℕ, Bool, true, false, not, ◌||◌, List, [], ◌∷◌, Option, Some, None, is_some, refl, sym, ◌∙◌, ap}
+use Rattle.std.proofs.Common.{◌≡◌, ℕ, Bool, true, false, not, ◌||◌, List, [], ◌∷◌, Option, Some, None, is_some, refl}
+use Rattle.std.proofs.Common.{sym, ◌∙◌, ap}
 use Rattle.std.specs.Option.{option_map_or}
 use Rattle.bbm_descriptor.specs.Descriptor.{core_of, is_valid}
 use Rattle.bbm_descriptor.specs.declared.desc.Core.{Core}
@@ -11,14 +12,15 @@ use Rattle.bbm_rules.specs.Places.{page_of}
 use Rattle.bbm_rules.specs.Prelude.{Kind, Heading, Event}
 use Rattle.bbm_rules.specs.Tree.{Above, Node}
 use Rattle.bbm_replay_trees.specs.Told.{SameCores}
-use Rattle.bbm_tree_index.specs.Held.{core_at, core_with, limbo_at, next_in}
+use Rattle.bbm_tree_index.specs.HeldCores.{core_at, core_with, limbo_at, next_in}
 use Rattle.bbm_tree_index.specs.Index.{node_in}
 use Rattle.bbm_tree_index.specs.declared.index.TreeIndex.{TreeIndex}
-use Rattle.bbm_replay.specs.Laws.{Laws}
-use Rattle.bbm_replay.specs.Standing.{view_of}
-use Rattle.bbm_replay.specs.Told.{Told}
+use Rattle.bbm_replay.specs.ReplayLaws.{Laws}
+use Rattle.bbm_replay.specs.ReplayStanding.{view_of}
+use Rattle.bbm_replay.specs.ReplayTold.{Told}
 use Rattle.bbm_replay.proofs.Settling.{core_with_is}
 use Rattle.bbm_replay.proofs.Writing.{cores}
+use Rattle.std.proofs.lemmas.Bool.{or_from}
 
 some_next : (o : Option Core) (p : ℕ) → next_in o ≡ Some p → is_some o ≡ true
 some_next None p k = let bad : None ≡ Some p = k in absurd cc
@@ -27,10 +29,6 @@ some_next (Some c) p k = refl
 none_marked : (o : Option Marks) → (is_some o ≡ true → ⊥) → o ≡ None
 none_marked None k = refl
 none_marked (Some x) k = absurd (k refl)
-
-or_false : (a b : Bool) → a ≡ false → b ≡ false → (a || b) ≡ false
-or_false true b p q = p
-or_false false b p q = q
 
 module _ (heading : Heading) (laws : Laws heading) (h : List Event) (map : PlaceMap) (index : TreeIndex)
     (told : Told heading h (view_of map index)) (whole : (a : ℕ) → is_some (marks_at map a) ≡ true → ⊥) where
@@ -55,7 +53,7 @@ module _ (heading : Heading) (laws : Laws heading) (h : List Event) (map : Place
       ∙ ap (λ l. is_valid parent.kind l value) (sym (ap (λ (y : Above). y.level) both.0))
       ∙ sym (laws.entries.core_where_valid parent.kind parent.level value)
       ∙ some_next (core_of parent.kind parent.level value) m.page bare in
-      or_false (not (is_valid kind x.level value)) (any (λ a. not (is_valid kind a.level (value_at map a.place))) above)
+      or_from (not (is_valid kind x.level value)) (any (λ a. not (is_valid kind a.level (value_at map a.place))) above)
       (ap (λ b. not b) good) (above_valid kind above (page_of x.place) parent hangs.is_parent own both.1)
     where
       parts : (y z : Above) (ys zs : List Above) → y ∷ ys ≡ z ∷ zs → (y ≡ z) × (ys ≡ zs)

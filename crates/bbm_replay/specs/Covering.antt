@@ -1,53 +1,70 @@
 -- What a TLBI covers, asked of the parts. Source: project's own choice.
-use Rattle.std.specs.Prelude.{◌≡◌, ℕ, Bool, true, false, List, Option, Some}
+use Rattle.std.specs.Prelude.{◌≡◌, ℕ, Bool, true, false, List, Option, Some, None, is_some}
 use Rattle.bbm_descriptor.specs.declared.desc.Core.{Core}
 use Rattle.bbm_entry_state.specs.declared.marks.Marks.{Marks}
 use Rattle.bbm_place_map.specs.Finds.{FoundAs}
-use Rattle.bbm_place_map.specs.Map.{marks_at}
+use Rattle.bbm_entry_state.specs.EntryCalls.{Noted}
+use Rattle.bbm_place_map.specs.Map.{marks_at, pends_at}
+use Rattle.bbm_place_map.specs.States.{state_from}
 use Rattle.bbm_place_map.specs.declared.found.Found.{Found}
 use Rattle.bbm_place_map.specs.declared.map.PlaceMap.{PlaceMap}
+use Rattle.bbm_regimes.specs.declared.pe.PeMask.{PeMask}
 use Rattle.bbm_regimes.specs.declared.regime.Kind.{Kind}
 use Rattle.bbm_regimes.specs.declared.regime.Kind.TheVariants.{S2, Ttbr0}
+use Rattle.bbm_tlbi_scope.specs.Operations.{operation}
 use Rattle.bbm_tlbi_scope.specs.declared.scope.Family.{Family}
 use Rattle.bbm_tlbi_scope.specs.declared.scope.Family.TheVariants.{VmAll1, VmAll12, Ipa, Va, Asid}
 use Rattle.bbm_tree_index.specs.declared.index.TreeIndex.{TreeIndex}
-use Rattle.bbm_replay_roots.specs.Stands as roots
+use Rattle.bbm_replay_roots.specs.RootStateStands as roots
+use Rattle.bbm_replay_roots.specs.declared.named.NamedTlbi.{NamedTlbi}
 use Rattle.bbm_replay_roots.specs.declared.state.RootState.{RootState}
 use Rattle.bbm_rules.specs.Claims.Trust.{Patterns}
 use Rattle.bbm_rules.specs.Covers.{cover_at}
-use Rattle.bbm_rules.specs.Prelude.{Heading, Event, Scope, Tlbi, TlbiOp}
-use Rattle.bbm_rules.specs.Registers.{named_scope, vmid_of}
+use Rattle.bbm_rules.specs.Prelude.{Heading, Event, Tlbi, TlbiOp}
+use Rattle.bbm_rules.specs.RegisterValues.{named_scope, vmid_of}
 use Rattle.bbm_replay_trees.specs.Told.{notes}
-use Rattle.bbm_replay.specs.Standing.{view_of}
-use Rattle.bbm_replay.specs.Told.{Told}
+use Rattle.bbm_replay.specs.ReplayStanding.{view_of}
+use Rattle.bbm_replay.specs.ReplayTold.{Told}
 
 -- the place is broken over this core
 abbrev pub IsBrokenOver : PlaceMap → ℕ → Core → Type 0
 IsBrokenOver map place core = (marks : Marks) × (marks_at map place ≡ Some marks) × (marks.core ≡ core)
 
--- The map, the index and the roots stand for the history, this is what the TLBI names and the VMID of its issuer, and
+-- The map, the index and the roots stand for the history, this is what the TLBI names with the VMID of its issuer, and
 -- the place is broken over the core.
 pub record MayBeCovered (heading : Heading) (h : List Event) (map : PlaceMap) (index : TreeIndex) (state : RootState)
-    (pe : ℕ) (op : TlbiOp) (xt : ℕ) (scope : Scope) (vmid : Option ℕ) (place : ℕ) (core : Core) : Type 0 where
+    (pe : ℕ) (op : TlbiOp) (xt : ℕ) (named : NamedTlbi) (place : ℕ) (core : Core) : Type 0 where
   pub told : Told heading h (view_of map index)
   pub stands : roots.Stands state heading h
-  pub named : named_scope heading h pe op xt ≡ Some scope
-  pub vmid_is : vmid ≡ vmid_of heading h pe
+  pub names : named_scope heading h pe op xt ≡ Some named.scope
+  pub vmid_is : named.vmid ≡ vmid_of heading h pe
   pub over : IsBrokenOver map place core
 
 -- the same of any place
 pub record MayBeIssued (heading : Heading) (h : List Event) (map : PlaceMap) (index : TreeIndex) (state : RootState)
-    (pe : ℕ) (op : TlbiOp) (xt : ℕ) (scope : Scope) (vmid : Option ℕ) : Type 0 where
+    (pe : ℕ) (op : TlbiOp) (xt : ℕ) (named : NamedTlbi) : Type 0 where
   pub told : Told heading h (view_of map index)
   pub stands : roots.Stands state heading h
-  pub named : named_scope heading h pe op xt ≡ Some scope
-  pub vmid_is : vmid ≡ vmid_of heading h pe
+  pub names : named_scope heading h pe op xt ≡ Some named.scope
+  pub vmid_is : named.vmid ≡ vmid_of heading h pe
 
 -- each place that was found is covered as far as stands beside it
-abbrev pub AreCovered : PlaceMap → TreeIndex → RootState → Scope → Option ℕ → List Found → Type 0
-AreCovered map index state scope vmid found = (heading : Heading) (h : List Event) (pe : ℕ) (op : TlbiOp) (xt : ℕ)
-    → MayBeIssued heading h map index state pe op xt scope vmid
+abbrev pub AreCovered : PlaceMap → TreeIndex → RootState → NamedTlbi → List Found → Type 0
+AreCovered map index state named found = (heading : Heading) (h : List Event) (pe : ℕ) (op : TlbiOp) (xt : ℕ)
+    → MayBeIssued heading h map index state pe op xt named
     → FoundAs found (cover_at heading Patterns (notes heading h) (Tlbi pe op xt))
+
+-- what was found stays covered as said beside it
+abbrev pub StayCovered : PlaceMap → TreeIndex → RootState → NamedTlbi → List Found → List Found → Type 0
+StayCovered map index state named old new = AreCovered map index state named old → AreCovered map index state named new
+
+-- What the issue of a TLBI by a PE, which reaches these PEs, leaves of a map: it is noted at each broken place, as far as
+-- it covers it.
+abbrev pub IsNoted : Heading → TreeIndex → RootState → NamedTlbi → ℕ → TlbiOp → PeMask → PlaceMap → PlaceMap → Type 0
+IsNoted its index state named pe op reach old new = (heading : Heading) (h : List Event) (xt : ℕ) → its ≡ heading
+    → MayBeIssued heading h old index state pe op xt named → (a : ℕ) → is_some (marks_at old a) ≡ true
+    → Noted (state_from None (marks_at old a)) (pends_at old pe a) reach (operation op).broadcast
+    (cover_at heading Patterns (notes heading h) (Tlbi pe op xt) a) (pends_at new pe a)
 
 -- whether the cover of a place of this kind depends on the tags of its root
 abbrev pub asks_tags : Family → Kind → Bool

@@ -1,9 +1,9 @@
 pub mod View
-pub mod Told
-pub mod Laws
-pub mod Rules
-pub mod Standing
-pub mod Faults
+pub mod ReplayTold
+pub mod ReplayLaws
+pub mod ReplayRules
+pub mod ReplayStanding
+pub mod ReplayFaults
 pub mod Leaves
 pub mod Covering
 pub mod OnePage

@@ -3,10 +3,10 @@
 ghost use Rattle.std.specs.Prelude.{◌≡◌, ◌≤◌, ◌<◌, ◌&&◌, ℕ, Option, Ok, true, false};
 ghost use Rattle.bbm_barriers.specs.Options as options;
 ghost use Rattle.bbm_descriptor.specs.declared.desc.Core.{Core};
-ghost use Rattle.bbm_entry_state.specs.Calls.{Published};
+ghost use Rattle.bbm_entry_state.specs.EntryCalls.{Published};
 ghost use Rattle.bbm_events.specs.declared.event.Event.TheVariants.{Dmb, Dsb as DsbEvent};
 ghost use Rattle.bbm_place_map.specs.Map.{is_tracked, marks_at, pends_at, state_at, value_at};
-ghost use Rattle.bbm_replay.specs.Standing.{MayMeet, Meets};
+ghost use Rattle.bbm_replay.specs.ReplayStanding.{MayMeet, Meets};
 
 use crate::laws::laws;
 use crate::parts::Parts;

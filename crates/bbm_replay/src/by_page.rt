@@ -13,25 +13,24 @@ ghost use Rattle.bbm_regimes.specs.declared.regime.Kind.{Kind as TheKind};
 ghost use Rattle.bbm_rules.specs.Places.{page_of};
 ghost use Rattle.bbm_rules.specs.Roots.{Declared, root_at};
 ghost use Rattle.bbm_rules.specs.Tree.{Node};
-ghost use Rattle.bbm_tree_index.specs.Agreement.{IsSound};
+ghost use Rattle.bbm_tree_index.specs.IndexAgreement.{IsSound};
 ghost use Rattle.bbm_tree_index.specs.Descent.{IsWay};
-ghost use Rattle.bbm_tree_index.specs.Held.{core_at, next_in};
+ghost use Rattle.bbm_tree_index.specs.HeldCores.{core_at, next_in};
 ghost use Rattle.bbm_tree_index.specs.Index.{node_in};
 ghost use Rattle.bbm_tree_index.specs.Nodes.{path_at};
-ghost use Rattle.bbm_replay_roots.specs.Listed.{nth_in};
-ghost use Rattle.bbm_replay_roots.specs.Stands.{Stands};
-ghost use Rattle.bbm_replay.specs.Covering.{AreCovered};
+ghost use Rattle.bbm_replay_roots.specs.RootsByNumber.{nth_in};
+ghost use Rattle.bbm_replay_roots.specs.RootStateStands.{Stands};
+ghost use Rattle.bbm_replay.specs.Covering.{AreCovered, StayCovered};
 ghost use Rattle.bbm_replay.specs.OnePage.{IsFoundIn, MetFrom, MetFromAll, NamesOne, covers_kind as spec_covers_kind};
 
+use crate::covering::Covering;
 use crate::covers::cover_met;
 use bbm_descriptor::Core;
 use bbm_entry_state::EntryState;
-use bbm_events::Header;
 use bbm_place_map::{Found, PlaceMap};
 use bbm_regimes::{Kind, NoMemory, Page, Place};
-use bbm_replay_roots::RootState;
 use bbm_tlbi_scope::{Family, Scope};
-use bbm_tree_index::{Path, TreeIndex};
+use bbm_tree_index::Path;
 use std::alloc::Global;
 
 /// The one input page that the scope names by its address, None where it names none or more.
@@ -74,28 +73,26 @@ fn push_found(found: &mut Vec<Found>, item: Found) -> Result<(), NoMemory>
 
 /// Adds the place, which has this path and this state, with its cover, where it is broken.
 fn add_met(
+    by: &Covering,
     map: &PlaceMap,
-    index: &TreeIndex,
-    roots: &RootState,
-    scope: &Scope,
-    vmid: &Option<u16>,
     place: Place,
     path: &Path,
     state: &EntryState,
     found: &mut Vec<Found>,
 ) -> Result<(), NoMemory>
-    requires sound { IsSound index.now }
-    requires path { (n : Node) × (node_in index.now (page_of place) ≡ Some n) × (path.now ≡ path_at n place) }
+    requires sound { IsSound by.now.index.now }
+    requires path { (n : Node) × (node_in by.now.index.now (page_of place) ≡ Some n)
+        × (path.now ≡ path_at n place) }
     requires state { state.now
         ≡ state_at map.now (core_of path.now.kind path.now.level (value_at map.now place)) place }
-    ensures covers { OnOk result (AreCovered map.now index.now roots.now scope.now vmid.now found.old.items
-        → AreCovered map.now index.now roots.now scope.now vmid.now found.new.items) }
+    ensures covers { OnOk result (StayCovered map.now by.now.index.now by.now.roots.now by.now.named.now
+        found.old.items found.new.items) }
     ensures kept { OnOk result ((a : ℕ) → is_found found.old.items a ≡ true → is_found found.new.items a ≡ true) }
     ensures added { OnOk result (IsFoundIn map.now found.new.items place) }
 {
     match state {
         EntryState::Broken { marks } => {
-            let cover = cover_met(map, index, roots, scope, vmid, place, path, &marks.core);
+            let cover = cover_met(by, map, place, path, &marks.core);
             push_found(found, Found { place, cover })
         }
         EntryState::Clean | EntryState::Live { .. } => Ok(()),
@@ -126,32 +123,29 @@ fn next_of(state: &EntryState) -> Option<Page>
 /// Adds the broken places that are met on the way down from the page along the input page, of so many pages at most,
 /// each with its cover.
 fn descend(
+    by: &Covering,
     map: &PlaceMap,
-    index: &TreeIndex,
-    roots: &RootState,
-    scope: &Scope,
-    vmid: &Option<u16>,
     at: u64,
     page: Page,
     left: u8,
     found: &mut Vec<Found>,
 ) -> Result<(), NoMemory>
-    requires { IsSound index.now }
-    ensures covers { OnOk result (AreCovered map.now index.now roots.now scope.now vmid.now found.old.items
-        → AreCovered map.now index.now roots.now scope.now vmid.now found.new.items) }
+    requires { IsSound by.now.index.now }
+    ensures covers { OnOk result (StayCovered map.now by.now.index.now by.now.roots.now by.now.named.now
+        found.old.items found.new.items) }
     ensures kept { OnOk result ((a : ℕ) → is_found found.old.items a ≡ true → is_found found.new.items a ≡ true) }
     ensures met { OnOk result ((way : List ℕ) (a : ℕ) → length way < left
-        → IsWay (node_in index.now) (core_at map.now) at page way a → IsFoundIn map.now found.new.items a) }
+        → IsWay (node_in by.now.index.now) (core_at map.now) at page way a → IsFoundIn map.now found.new.items a) }
 {
     if left == 0 {
         return Ok(());
     }
-    match index.meet(page, at) {
+    match by.index.meet(page, at) {
         Some(met) => {
             let state = map.state_by(met.0, met.1.kind, met.1.level);
-            add_met(map, index, roots, scope, vmid, met.0, &met.1, &state, found)?;
+            add_met(by, map, met.0, &met.1, &state, found)?;
             match next_of(&state) {
-                Some(next) => descend(map, index, roots, scope, vmid, at, next, left - 1, found),
+                Some(next) => descend(by, map, at, next, left - 1, found),
                 None => Ok(()),
             }
         }
@@ -161,50 +155,44 @@ fn descend(
 
 /// Adds those that are met on the way down from the page at this address, in bytes.
 fn descend_at(
+    by: &Covering,
     map: &PlaceMap,
-    index: &TreeIndex,
-    roots: &RootState,
-    scope: &Scope,
-    vmid: &Option<u16>,
     at: u64,
     addr: u64,
     found: &mut Vec<Found>,
 ) -> Result<(), NoMemory>
-    requires { IsSound index.now }
-    ensures covers { OnOk result (AreCovered map.now index.now roots.now scope.now vmid.now found.old.items
-        → AreCovered map.now index.now roots.now scope.now vmid.now found.new.items) }
+    requires { IsSound by.now.index.now }
+    ensures covers { OnOk result (StayCovered map.now by.now.index.now by.now.roots.now by.now.named.now
+        found.old.items found.new.items) }
     ensures kept { OnOk result ((a : ℕ) → is_found found.old.items a ≡ true → is_found found.new.items a ≡ true) }
     ensures met { OnOk result
-        (MetFrom (node_in index.now) (core_at map.now) at addr (IsFoundIn map.now found.new.items)) }
+        (MetFrom (node_in by.now.index.now) (core_at map.now) at addr (IsFoundIn map.now found.new.items)) }
 {
     match Page::new(addr) {
-        Some(page) => descend(map, index, roots, scope, vmid, at, page, 4, found),
+        Some(page) => descend(by, map, at, page, 4, found),
         None => Ok(()),
     }
 }
 
 /// Adds those that are met on the way down from so many consecutive pages.
 fn descend_all(
+    by: &Covering,
     map: &PlaceMap,
-    index: &TreeIndex,
-    roots: &RootState,
-    scope: &Scope,
-    vmid: &Option<u16>,
     at: u64,
     first: Page,
     count: u8,
     found: &mut Vec<Found>,
 ) -> Result<(), NoMemory>
-    requires { IsSound index.now }
-    ensures covers { OnOk result (AreCovered map.now index.now roots.now scope.now vmid.now found.old.items
-        → AreCovered map.now index.now roots.now scope.now vmid.now found.new.items) }
+    requires { IsSound by.now.index.now }
+    ensures covers { OnOk result (StayCovered map.now by.now.index.now by.now.roots.now by.now.named.now
+        found.old.items found.new.items) }
     ensures kept { OnOk result ((a : ℕ) → is_found found.old.items a ≡ true → is_found found.new.items a ≡ true) }
-    ensures met { OnOk result (MetFromAll (node_in index.now) (core_at map.now) at first count
+    ensures met { OnOk result (MetFromAll (node_in by.now.index.now) (core_at map.now) at first count
         (IsFoundIn map.now found.new.items)) }
 {
     for part in 0..count {
         let addr = first.get() + 4096 * part as u64;
-        descend_at(map, index, roots, scope, vmid, at, addr, found)?;
+        descend_at(by, map, at, addr, found)?;
     }
     Ok(())
 }
@@ -212,30 +200,26 @@ fn descend_all(
 /// Adds those that are met on the way down from the pages of the root with this number, if there is one and the
 /// operation can cover places of its kind.
 fn visit(
-    header: &Header,
+    by: &Covering,
     map: &PlaceMap,
-    index: &TreeIndex,
-    roots: &RootState,
-    scope: &Scope,
-    vmid: &Option<u16>,
     at: u64,
     number: usize,
     found: &mut Vec<Found>,
 ) -> Result<(), NoMemory>
-    requires { IsSound index.now }
-    ensures covers { OnOk result (AreCovered map.now index.now roots.now scope.now vmid.now found.old.items
-        → AreCovered map.now index.now roots.now scope.now vmid.now found.new.items) }
+    requires { IsSound by.now.index.now }
+    ensures covers { OnOk result (StayCovered map.now by.now.index.now by.now.roots.now by.now.named.now
+        found.old.items found.new.items) }
     ensures kept { OnOk result ((a : ℕ) → is_found found.old.items a ≡ true → is_found found.new.items a ≡ true) }
-    ensures met { OnOk result ((kind : TheKind) (first : ℕ) → nth_in roots.now number ≡ Some (kind, first)
-        → spec_covers_kind scope.now.family kind ≡ true
-        → MetFromAll (node_in index.now) (core_at map.now) at first (spec.page_count header.now.world kind)
-        (IsFoundIn map.now found.new.items)) }
+    ensures met { OnOk result ((kind : TheKind) (first : ℕ) → nth_in by.now.roots.now number ≡ Some (kind, first)
+        → spec_covers_kind by.now.named.now.scope.family kind ≡ true
+        → MetFromAll (node_in by.now.index.now) (core_at map.now) at first
+        (spec.page_count by.now.header.now.world kind) (IsFoundIn map.now found.new.items)) }
 {
-    match roots.nth(number) {
+    match by.roots.nth(number) {
         Some((kind, first)) => {
-            if covers_kind(scope.family, kind) {
-                let count = header.page_count(kind);
-                descend_all(map, index, roots, scope, vmid, at, first, count, found)
+            if covers_kind(by.named.scope.family, kind) {
+                let count = by.header.page_count(kind);
+                descend_all(by, map, at, first, count, found)
             } else {
                 Ok(())
             }
@@ -248,27 +232,22 @@ fn visit(
 /// operation can cover places, each with its cover. `NoMemory` where there is none.
 pub(crate) fn found_on_ways(
     alloc: Global,
-    header: &Header,
+    by: &Covering,
     map: &PlaceMap,
-    index: &TreeIndex,
-    roots: &RootState,
-    scope: &Scope,
-    vmid: &Option<u16>,
     at: u64,
 ) -> Result<Vec<Found>, NoMemory>
-    requires { IsSound index.now }
-    ensures covers { IfOk result (λ found. AreCovered map.now index.now roots.now scope.now vmid.now found.items) }
+    requires { IsSound by.now.index.now }
+    ensures covers { IfOk result (λ found. AreCovered map.now by.now.index.now by.now.roots.now
+        by.now.named.now found.items) }
     ensures met { IfOk result (λ found. (heading : Heading) (h : List Event) (root : Declared)
-        → Stands roots.now heading h
-        → root_at h root.page ≡ Some root → spec_covers_kind scope.now.family root.kind ≡ true
-        → MetFromAll (node_in index.now) (core_at map.now) at root.page (spec.page_count header.now.world root.kind)
-        (IsFoundIn map.now found.items)) }
+        → Stands by.now.roots.now heading h
+        → root_at h root.page ≡ Some root → spec_covers_kind by.now.named.now.scope.family root.kind ≡ true
+        → MetFromAll (node_in by.now.index.now) (core_at map.now) at root.page
+        (spec.page_count by.now.header.now.world root.kind) (IsFoundIn map.now found.items)) }
 {
     let mut found = Vec::new(alloc);
-    for number in 0..roots.count() {
-        visit(
-            header, map, index, roots, scope, vmid, at, number, &mut found,
-        )?;
+    for number in 0..by.roots.count() {
+        visit(by, map, at, number, &mut found)?;
     }
     Ok(found)
 }

@@ -9,20 +9,21 @@ ghost use Rattle.bbm_rules.specs.Claims.Trust.{Patterns};
 ghost use Rattle.bbm_rules.specs.Covers.{cover_at};
 ghost use Rattle.bbm_replay_trees.specs.Told.{notes};
 ghost use Rattle.bbm_replay.specs.Covering.{IsBrokenOver, MayBeCovered, MayBeIssued, asks_tags as spec_asks_tags};
-ghost use Rattle.bbm_replay_roots.specs.Stands.{Stands};
+ghost use Rattle.bbm_replay_roots.specs.RootStateStands.{Stands};
 ghost use Rattle.bbm_rules.specs.Places.{page_of};
 ghost use Rattle.bbm_rules.specs.Tags.{tag_set, tags_of};
 ghost use Rattle.bbm_rules.specs.Tree.{Node};
 ghost use Rattle.bbm_tlbi_scope.specs.Numbers.{names_some};
 ghost use Rattle.bbm_tlbi_scope.specs.Operations.{has_page};
-ghost use Rattle.bbm_tree_index.specs.Held.{Childless};
+ghost use Rattle.bbm_tree_index.specs.HeldCores.{Childless};
 ghost use Rattle.bbm_tree_index.specs.Index.{node_in};
 ghost use Rattle.bbm_tree_index.specs.Nodes.{path_at};
 ghost use Rattle.bbm_place_map.specs.Each.{is_table as is_table_core};
 ghost use Rattle.bbm_replay.specs.Leaves.{is_global_core};
 ghost use Rattle.std.specs.Prelude.{Some};
-ghost use Rattle.bbm_tree_index.specs.Agreement.{IsSound};
+ghost use Rattle.bbm_tree_index.specs.IndexAgreement.{IsSound};
 
+use crate::covering::Covering;
 use crate::laws::laws;
 use bbm_descriptor::Core;
 use bbm_place_map::PlaceMap;
@@ -101,62 +102,52 @@ fn tags_where(asked: bool, roots: &RootState, first: Page) -> TagSet
     }
 }
 
-/// How far a TLBI of this scope, under this VMID, covers the place, which has this path, where it is broken over this
-/// core.
+/// How far the TLBI covers the place, which has this path, where it is broken over this core.
 pub(crate) fn cover_met(
+    by: &Covering,
     map: &PlaceMap,
-    index: &TreeIndex,
-    roots: &RootState,
-    scope: &Scope,
-    vmid: &Option<u16>,
     place: Place,
     path: &Path,
     core: &Core,
 ) -> Cover
-    requires sound { IsSound index.now }
-    requires path { (n : Node) × (node_in index.now (page_of place) ≡ Some n) × (path.now ≡ path_at n place) }
+    requires sound { IsSound by.now.index.now }
+    requires path { (n : Node) × (node_in by.now.index.now (page_of place) ≡ Some n)
+        × (path.now ≡ path_at n place) }
     ensures { IsBrokenOver map.now place core.now → (heading : Heading) (h : List Event) (pe : ℕ) (op : TlbiOp) (xt : ℕ)
-        → MayBeIssued heading h map.now index.now roots.now pe op xt scope.now vmid.now
+        → MayBeIssued heading h map.now by.now.index.now by.now.roots.now pe op xt by.now.named.now
         → result ≡ cover_at heading Patterns (notes heading h) (Tlbi pe op xt) place }
 {
     laws();
     law_entry_holds();
     law_childless_by_cores();
     law_notes_keep_the_events();
-    let childless = asks_childless(scope, path.region, core);
+    let scope = by.named.scope;
+    let childless = asks_childless(&scope, path.region, core);
     let tags = asks_tags(scope.family, path.kind);
     cover(
-        *scope,
-        *vmid,
+        scope,
+        by.named.vmid,
         PlaceView {
             kind: path.kind,
             region: path.region,
             level: path.level,
             table: is_table(core),
             global: is_global(core),
-            childless: childless_where(childless, map, index, place),
-            tags: tags_where(tags, roots, path.first),
+            childless: childless_where(childless, map, by.index, place),
+            tags: tags_where(tags, by.roots, path.first),
         },
     )
 }
 
-/// How far a TLBI of this scope, under this VMID, covers the place, where it is broken over this core.
-pub(crate) fn cover_of(
-    map: &PlaceMap,
-    index: &TreeIndex,
-    roots: &RootState,
-    scope: &Scope,
-    vmid: &Option<u16>,
-    place: Place,
-    core: Core,
-) -> Cover
-    requires { IsSound index.now }
+/// How far the TLBI covers the place, where it is broken over this core.
+pub(crate) fn cover_of(by: &Covering, map: &PlaceMap, place: Place, core: Core) -> Cover
+    requires { IsSound by.now.index.now }
     ensures { (heading : Heading) (h : List Event) (pe : ℕ) (op : TlbiOp) (xt : ℕ)
-        → MayBeCovered heading h map.now index.now roots.now pe op xt scope.now vmid.now place core
+        → MayBeCovered heading h map.now by.now.index.now by.now.roots.now pe op xt by.now.named.now place core
         → result ≡ cover_at heading Patterns (notes heading h) (Tlbi pe op xt) place }
 {
-    match index.path(place) {
-        Some(path) => cover_met(map, index, roots, scope, vmid, place, &path, &core),
+    match by.index.path(place) {
+        Some(path) => cover_met(by, map, place, &path, &core),
         None => Cover::None,
     }
 }

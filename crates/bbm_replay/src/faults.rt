@@ -1,7 +1,7 @@
 //! Why an event isn't taken.
 
 ghost use Rattle.std.specs.Prelude.{◌≡◌};
-ghost use Rattle.bbm_replay.specs.Faults as spec;
+ghost use Rattle.bbm_replay.specs.ReplayFaults as spec;
 
 use bbm_rules::{Rule, StepFault};
 use bbm_tree_index::TreeFault;

@@ -1,8 +1,8 @@
 //! What the crates below prove of histories, gathered for the proofs here.
 
 ghost use Rattle.bbm_events.specs.Heading.{Heading};
-ghost use Rattle.bbm_replay.specs.Laws.{Laws};
-ghost use Rattle.bbm_replay.specs.Rules.{Rules};
+ghost use Rattle.bbm_replay.specs.ReplayLaws.{Laws};
+ghost use Rattle.bbm_replay.specs.ReplayRules.{Rules};
 
 use bbm_descriptor::laws::law_core_where_valid;
 use bbm_histories::law_proper;

@@ -4,6 +4,7 @@
 
 mod barriers;
 mod by_page;
+mod covering;
 mod covers;
 mod faults;
 mod issues;

@@ -5,7 +5,7 @@ ghost use Rattle.bbm_tree_index.specs.Index.{node_in, null_in};
 ghost use Rattle.bbm_events.specs.declared.event.Event.TheVariants.{Init, Null};
 ghost use Rattle.bbm_place_map.specs.Map.{value_at};
 ghost use Rattle.bbm_replay_trees.specs.Told.{is_at};
-ghost use Rattle.bbm_replay.specs.Standing.{MayMeet, Meets};
+ghost use Rattle.bbm_replay.specs.ReplayStanding.{MayMeet, Meets};
 
 use crate::faults::step_fault;
 use crate::laws::{laws, rules};

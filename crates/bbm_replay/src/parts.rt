@@ -1,7 +1,7 @@
 //! The parts of the checker.
 
 ghost use Rattle.std.specs.Prelude.{IfOk, []};
-ghost use Rattle.bbm_replay.specs.Standing.{MayMeet, Meets, Stands};
+ghost use Rattle.bbm_replay.specs.ReplayStanding.{MayMeet, Meets, Stands};
 
 use bbm_events::{Event, Header};
 use bbm_place_map::PlaceMap;

@@ -6,7 +6,7 @@ ghost use Rattle.bbm_events.specs.declared.event.Event.{Event};
 ghost use Rattle.bbm_events.specs.declared.event.Event.TheVariants.{Dmb, Isb, Lock, Msr, Unlock};
 ghost use Rattle.std.specs.Prelude.{Ok};
 ghost use Rattle.bbm_replay_roots.specs.Bridge.{has_null_base};
-ghost use Rattle.bbm_replay.specs.Standing.{MayMeet, Meets, Stands};
+ghost use Rattle.bbm_replay.specs.ReplayStanding.{MayMeet, Meets, Stands};
 ghost use Rattle.bbm_barriers.specs.declared.Dsb.{Dsb as Barrier};
 
 use crate::laws::laws;

@@ -5,7 +5,7 @@ ghost use Rattle.bbm_events.specs.declared.event.Event.{Event as TheEvent};
 ghost use Rattle.bbm_events.specs.Heading.{Heading};
 ghost use Rattle.bbm_place_map.specs.Map as map;
 ghost use Rattle.bbm_rules.specs.Values as values;
-ghost use Rattle.bbm_replay.specs.Standing.{StandsFor};
+ghost use Rattle.bbm_replay.specs.ReplayStanding.{StandsFor};
 
 use crate::parts::Parts;
 use bbm_descriptor::Memory;

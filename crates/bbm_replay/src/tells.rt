@@ -3,11 +3,11 @@
 ghost use Rattle.std.specs.Prelude.{◌≡◌, ◌≤◌, ◌<◌, ℕ, List};
 ghost use Rattle.bbm_events.specs.Heading.{Heading};
 ghost use Rattle.bbm_events.specs.declared.event.Event.{Event};
-ghost use Rattle.bbm_replay_entries.specs.Phases.{phase_in};
+ghost use Rattle.bbm_replay_entries.specs.EntryPhases.{phase_in};
 ghost use Rattle.bbm_rules.specs.Answers.{MayAsk};
 ghost use Rattle.bbm_rules.specs.Claims.{Patterns};
 ghost use Rattle.bbm_rules.specs.Phases as rules;
-ghost use Rattle.bbm_replay.specs.Standing.{Stands, view_of};
+ghost use Rattle.bbm_replay.specs.ReplayStanding.{Stands, view_of};
 ghost use Rattle.bbm_replay.specs.View.{state_of};
 ghost use Rattle.bbm_entry_state.specs.declared.state.EntryState.{EntryState as TheState};
 

@@ -4,9 +4,10 @@ ghost use Rattle.std.specs.Prelude.{◌≡◌, ◌<◌, ◌&&◌, ◌||◌, not,
 ghost use Rattle.bbm_events.specs.declared.event.Event.TheVariants.{Tlbi};
 ghost use Rattle.bbm_regimes.specs.PeMask.{pe_in};
 ghost use Rattle.bbm_tlbi_scope.specs.Operations as operations;
-ghost use Rattle.bbm_tree_index.specs.Agreement.{IsSound};
-ghost use Rattle.bbm_replay.specs.Standing.{MayMeet, Meets};
+ghost use Rattle.bbm_tree_index.specs.IndexAgreement.{IsSound};
+ghost use Rattle.bbm_replay.specs.ReplayStanding.{MayMeet, Meets};
 
+use crate::covering::Covering;
 use crate::issues::issue;
 use crate::laws::{laws, rules};
 use crate::parts::Parts;
@@ -54,18 +55,13 @@ impl Parts {
         }
         let reach = reach_of(&self.header, pe, op);
         self.map.law_idle();
-        match issue(
-            alloc,
-            &self.header,
-            &mut self.map,
-            &self.index,
-            &self.roots,
-            pe,
-            op,
-            reach,
-            &named.scope,
-            &named.vmid,
-        ) {
+        let covering = Covering {
+            header: &self.header,
+            index: &self.index,
+            roots: &self.roots,
+            named: &named,
+        };
+        match issue(alloc, &covering, &mut self.map, pe, op, reach) {
             Ok(()) => {
                 self.map.law_idle();
                 self.roots.issue_ready(pe, &named);

@@ -5,7 +5,7 @@ ghost use Rattle.bbm_events.specs.declared.event.Event.TheVariants.{Root, Unroot
 ghost use Rattle.bbm_rules.specs.Lists.{least};
 ghost use Rattle.bbm_rules.specs.Roots.{pages_from};
 ghost use Rattle.bbm_tree_index.specs.Index.{fresh_in};
-ghost use Rattle.bbm_replay.specs.Standing.{MayMeet, Meets};
+ghost use Rattle.bbm_replay.specs.ReplayStanding.{MayMeet, Meets};
 
 use crate::faults::step_fault;
 use crate::laws::{laws, rules};

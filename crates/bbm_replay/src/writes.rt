@@ -2,24 +2,24 @@
 
 ghost use Rattle.std.specs.Prelude.{◌≡◌, ◌≤◌, ◌%◌, ◌==◌, ◌&&◌, not, ℕ, List, true, false, Some, None, is_some};
 ghost use Rattle.std.specs.Option.{option_map, option_map_or};
-ghost use Rattle.bbm_tree_index.specs.Held.{limbo_at};
+ghost use Rattle.bbm_tree_index.specs.HeldCores.{limbo_at};
 ghost use Rattle.bbm_descriptor.specs.Descriptor as spec;
 ghost use Rattle.bbm_entry_state.specs.Points as points;
 ghost use Rattle.bbm_place_map.specs.Map.{IsSeat, marks_at, value_at};
 ghost use Rattle.bbm_replay.specs.Leaves as leaves;
-ghost use Rattle.bbm_replay.specs.Standing.{Stands, view_of};
+ghost use Rattle.bbm_replay.specs.ReplayStanding.{Stands, view_of};
 ghost use Rattle.bbm_events.specs.Heading.{Heading};
 ghost use Rattle.bbm_events.specs.declared.event.Event.{Event};
 ghost use Rattle.bbm_replay.specs.View.{state_of};
-ghost use Rattle.bbm_regimes.specs.Same.{same_kind};
+ghost use Rattle.bbm_regimes.specs.SameRegister.{same_kind};
 ghost use Rattle.std.specs.Prelude.{Ok};
-ghost use Rattle.bbm_replay.specs.Standing.{Clears, Holds, IsAt};
+ghost use Rattle.bbm_replay.specs.ReplayStanding.{Clears, Holds, IsAt};
 ghost use Rattle.bbm_events.specs.declared.event.Event.TheVariants.{Write};
 ghost use Rattle.bbm_rules.specs.Places.{page_of};
 ghost use Rattle.bbm_rules.specs.Tree.{Node};
 ghost use Rattle.bbm_tree_index.specs.Index.{node_in};
 ghost use Rattle.bbm_tree_index.specs.Nodes.{path_at};
-ghost use Rattle.bbm_replay.specs.Standing.{MayMeet, Meets};
+ghost use Rattle.bbm_replay.specs.ReplayStanding.{MayMeet, Meets};
 
 use crate::faults::step_fault;
 use crate::laws::{laws, rules};
@@ -107,6 +107,19 @@ fn attached_next(old: &Option<Core>, new: &Option<Core>) -> Option<Page>
     }
 }
 
+/// A write at a place of a tree.
+#[derive(Clone, Copy)]
+struct TreeWrite<'a> {
+    /// The PE that writes.
+    pe: Pe,
+    /// Where the place is kept.
+    seat: &'a Seat,
+    /// The value that is written.
+    value: u64,
+    /// Where the place stands in its tree.
+    path: &'a Path,
+}
+
 impl Parts {
     /// A write at a place of no tree.
     fn write_outside(&mut self, pe: Pe, place: Place, value: u64) -> Result<(), StepFault>
@@ -149,22 +162,24 @@ impl Parts {
     /// The rules that come first of a write in a tree.
     fn judge_entry(
         &self,
-        pe: Pe,
-        place: Place,
-        value: u64,
-        path: &Path,
+        write: &TreeWrite,
         old: &Option<Core>,
         new: &Option<Core>,
     ) -> Result<(), StepFault>
-        requires may { MayMeet self.now (Write pe place value) }
-        requires at { IsAt self.now place path.now }
-        requires old { Holds self.now place path.now old.now }
-        requires new { new.now ≡ spec.core_of path.now.kind path.now.level value }
-        ensures { Clears self.now (Write pe place value) result }
+        requires may { MayMeet self.now (Write write.now.pe write.now.seat.now.place write.now.value) }
+        requires at { IsAt self.now write.now.seat.now.place write.now.path.now }
+        requires old { Holds self.now write.now.seat.now.place write.now.path.now old.now }
+        requires new { new.now
+            ≡ spec.core_of write.now.path.now.kind write.now.path.now.level write.now.value }
+        ensures { Clears self.now (Write write.now.pe write.now.seat.now.place write.now.value) result }
     {
         laws();
         rules();
-        if let Some(at) = self.roots.without_lock(pe, path.first, place.get()) {
+        let place = write.seat.place;
+        if let Some(at) = self
+            .roots
+            .without_lock(write.pe, write.path.first, place.get())
+        {
             return Err(StepFault::Broken(Rule::NoLock, at));
         }
         if differ(old, new) {
@@ -179,34 +194,35 @@ impl Parts {
     /// A write in a tree that attaches nothing, after the rules that come first.
     fn write_plain(
         &mut self,
-        pe: Pe,
-        seat: &Seat,
-        value: u64,
-        path: &Path,
+        write: &TreeWrite,
         live: &Option<Core>,
         new: &Option<Core>,
     ) -> Result<(), StepFault>
-        requires may { MayMeet self.old (Write pe seat.now.place value) }
-        requires seat { IsSeat self.old.map seat.now }
-        requires at { IsAt self.old seat.now.place path.now }
-        requires live { live.now ≡ spec.core_of path.now.kind path.now.level (value_at self.old.map seat.now.place) }
-        requires new { new.now ≡ spec.core_of path.now.kind path.now.level value }
-        requires clear { Clears self.old (Write pe seat.now.place value) (Ok tt) }
+        requires may { MayMeet self.old (Write write.now.pe write.now.seat.now.place write.now.value) }
+        requires seat { IsSeat self.old.map write.now.seat.now }
+        requires at { IsAt self.old write.now.seat.now.place write.now.path.now }
+        requires live { live.now ≡ spec.core_of write.now.path.now.kind write.now.path.now.level
+            (value_at self.old.map write.now.seat.now.place) }
+        requires new { new.now
+            ≡ spec.core_of write.now.path.now.kind write.now.path.now.level write.now.value }
+        requires clear { Clears self.old (Write write.now.pe write.now.seat.now.place write.now.value) (Ok tt) }
         requires plain { leaves.attached_next
-            (points.core_in (state_of (view_of self.old.map self.old.index) path.now.kind path.now.level
-            seat.now.place)) new.now ≡ None }
-        ensures { Meets self.old self.new (Write pe seat.now.place value) result }
+            (points.core_in (state_of (view_of self.old.map self.old.index) write.now.path.now.kind
+            write.now.path.now.level write.now.seat.now.place)) new.now ≡ None }
+        ensures { Meets self.old self.new (Write write.now.pe write.now.seat.now.place write.now.value) result }
     {
         laws();
         rules();
         law_others();
+        let place = write.seat.place.get();
         if is_contiguous(new) {
-            return Err(StepFault::Broken(Rule::BadKind, seat.place.get()));
+            return Err(StepFault::Broken(Rule::BadKind, place));
         }
-        if is_user_global(path.kind, new) {
-            return Err(StepFault::Broken(Rule::GlobalUser, seat.place.get()));
+        if is_user_global(write.path.kind, new) {
+            return Err(StepFault::Broken(Rule::GlobalUser, place));
         }
-        self.map.write_at(seat, pe, value, live, new);
+        let (pe, value) = (write.pe, write.value);
+        self.map.write_at(write.seat, pe, value, live, new);
         self.map.law_idle();
         Ok(())
     }
@@ -215,35 +231,35 @@ impl Parts {
     fn write_attaching(
         &mut self,
         alloc: Global,
-        pe: Pe,
-        seat: &Seat,
-        value: u64,
-        path: &Path,
+        write: &TreeWrite,
         live: &Option<Core>,
-        table: &Option<Core>,
+        new: &Option<Core>,
         next: Page,
     ) -> Result<(), StepFault>
-        requires may { MayMeet self.old (Write pe seat.now.place value) }
-        requires seat { IsSeat self.old.map seat.now }
-        requires at { IsAt self.old seat.now.place path.now }
-        requires live { live.now ≡ spec.core_of path.now.kind path.now.level (value_at self.old.map seat.now.place) }
-        requires table { table.now ≡ spec.core_of path.now.kind path.now.level value }
-        requires clear { Clears self.old (Write pe seat.now.place value) (Ok tt) }
+        requires may { MayMeet self.old (Write write.now.pe write.now.seat.now.place write.now.value) }
+        requires seat { IsSeat self.old.map write.now.seat.now }
+        requires at { IsAt self.old write.now.seat.now.place write.now.path.now }
+        requires live { live.now ≡ spec.core_of write.now.path.now.kind write.now.path.now.level
+            (value_at self.old.map write.now.seat.now.place) }
+        requires new { new.now
+            ≡ spec.core_of write.now.path.now.kind write.now.path.now.level write.now.value }
+        requires clear { Clears self.old (Write write.now.pe write.now.seat.now.place write.now.value) (Ok tt) }
         requires attaches { leaves.attached_next
-            (points.core_in (state_of (view_of self.old.map self.old.index) path.now.kind path.now.level
-            seat.now.place)) table.now ≡ Some next }
-        ensures { Meets self.old self.new (Write pe seat.now.place value) result }
+            (points.core_in (state_of (view_of self.old.map self.old.index) write.now.path.now.kind
+            write.now.path.now.level write.now.seat.now.place)) new.now ≡ Some next }
+        ensures { Meets self.old self.new (Write write.now.pe write.now.seat.now.place write.now.value) result }
     {
         laws();
         rules();
         law_others();
-        let place = seat.place;
+        let place = write.seat.place;
         match self
             .index
             .attach(alloc, &self.map, Attach::Below { place, next })
         {
             Ok(()) => {
-                self.map.write_at(seat, pe, value, live, table);
+                self.map
+                    .write_at(write.seat, write.pe, write.value, live, new);
                 self.map.law_idle();
                 Ok(())
             }
@@ -252,13 +268,13 @@ impl Parts {
     }
 
     /// A write at a place of a tree, which is kept at this seat.
-    fn write_inside(
+    fn write_inside<'a>(
         &mut self,
         alloc: Global,
         pe: Pe,
-        seat: &Seat,
+        seat: &'a Seat,
         value: u64,
-        path: &Path,
+        path: &'a Path,
     ) -> Result<(), StepFault>
         requires may { MayMeet self.old (Write pe seat.now.place value) }
         requires seat { IsSeat self.old.map seat.now }
@@ -269,12 +285,16 @@ impl Parts {
         let live = self.map.live_at(seat, path.kind, path.level);
         let old = self.map.core_at(seat, live);
         let new = core(path.kind, path.level, value);
-        match self.judge_entry(pe, seat.place, value, path, &old, &new) {
+        let write = TreeWrite {
+            pe,
+            seat,
+            value,
+            path,
+        };
+        match self.judge_entry(&write, &old, &new) {
             Ok(()) => match attached_next(&old, &new) {
-                Some(next) => {
-                    self.write_attaching(alloc, pe, seat, value, path, &live, &new, next)
-                }
-                None => self.write_plain(pe, seat, value, path, &live, &new),
+                Some(next) => self.write_attaching(alloc, &write, &live, &new, next),
+                None => self.write_plain(&write, &live, &new),
             },
             Err(fault) => Err(fault),
         }

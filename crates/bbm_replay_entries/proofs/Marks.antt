@@ -1,5 +1,6 @@
 -- What one more event does to the masks and the pendings of a broken place.
-use Rattle.std.proofs.Common.{◌≡◌, ℕ, ◌<◌, Bool, true, false, cond, not, ◌&&◌, ◌||◌, ◌==◌, nat_eq, List, ◌∷◌, is_some, refl, sym, ◌∙◌, ap, inl, inr, true≢false}
+use Rattle.std.proofs.Common.{◌≡◌, ℕ, ◌<◌, Bool, true, false, cond, not, ◌&&◌, ◌||◌, ◌==◌, nat_eq, List, ◌∷◌, is_some}
+use Rattle.std.proofs.Common.{refl, sym, ◌∙◌, ap, inl, inr, true≢false}
 use Rattle.std.proofs.Math.Bool.{and-false, and-true, and_assoc, or-false, or-true}
 use Rattle.std.proofs.lemmas.Bool.{and_parts, eq-eqb, eqb-true, or_cases}
 use Rattle.bbm_barriers.specs.Options.{answers, is_non, publishes}
@@ -12,10 +13,10 @@ use Rattle.bbm_tlbi_scope.specs.declared.entry.Cover.{Cover}
 use Rattle.bbm_tlbi_scope.specs.declared.entry.Cover.TheVariants.{None as NoCover, Half, Second, Full}
 use Rattle.bbm_tlbi_scope.specs.declared.op.TlbiOp.{TlbiOp}
 use Rattle.bbm_entry_state.specs.Answered.{answered_at}
-use Rattle.bbm_entry_state.specs.Calls.{Completed, Noted as Issues, clean_after, counts_at}
+use Rattle.bbm_entry_state.specs.EntryCalls.{Completed, Noted as Issues, clean_after, counts_at}
 use Rattle.bbm_entry_state.specs.Marking.{counts_for}
 use Rattle.bbm_entry_state.specs.Points.{clean_at, core_in, half_at, is_broken, seen_at, waits as waits_at, writer_at}
-use Rattle.bbm_entry_state.specs.Standing.{IsIdle}
+use Rattle.bbm_entry_state.specs.EntryStanding.{IsIdle}
 use Rattle.bbm_entry_state.specs.declared.marks.Marks.{Marks}
 use Rattle.bbm_entry_state.specs.declared.pending.Pends.{Pends}
 use Rattle.bbm_entry_state.specs.declared.state.EntryState.{EntryState}
@@ -28,11 +29,13 @@ use Rattle.bbm_rules.specs.Cleansing.{cleansed, flushes, half, same_cover, seen,
 use Rattle.bbm_rules.specs.Notes.{Noted, event_of}
 use Rattle.bbm_rules.specs.Reach.{reaches}
 use Rattle.bbm_rules.specs.Values.{publishes_to}
-use Rattle.bbm_histories.specs.Steps.{answered_by, cleansed_after, full_waits, half_after, half_waits, second_waits, seen_after, waits_after, wrote}
-use Rattle.bbm_replay_entries.specs.Events.{Heard, OthersStay, OthersWait}
-use Rattle.bbm_replay_entries.specs.Known.{Known}
+use Rattle.bbm_histories.specs.HistorySteps.{answered_by, cleansed_after, full_waits, half_after, half_waits}
+use Rattle.bbm_histories.specs.HistorySteps.{second_waits, seen_after, waits_after, wrote}
+use Rattle.bbm_replay_entries.specs.EntryEvents.{Heard, OthersStay, OthersWait}
+use Rattle.bbm_replay_entries.specs.KnownOfEntries.{Known}
 use Rattle.bbm_replay_entries.specs.Marked.{Marked, cover_waits}
-use Rattle.bbm_replay_entries.proofs.Since.{Untouched, answered_seen, counted, counts, cover_counted, seen_on, untouched}
+use Rattle.bbm_replay_entries.proofs.Since.{Untouched, answered_seen, counted, counts, cover_counted, seen_on}
+use Rattle.bbm_replay_entries.proofs.Since.{untouched}
 
 -- ---- the points of a state that isn't broken
 

@@ -1,5 +1,6 @@
 -- The phase that a state tells.
-use Rattle.std.proofs.Common.{◌≡◌, ℕ, ◌<◌, Bool, true, false, cond, not, ◌&&◌, List, Option, Some, None, is_some, option_and_then, refl, sym, ◌∙◌, ap, true≢false}
+use Rattle.std.proofs.Common.{◌≡◌, ℕ, ◌<◌, Bool, true, false, cond, not, ◌&&◌, List, Option, Some, None, is_some}
+use Rattle.std.proofs.Common.{option_and_then, refl, sym, ◌∙◌, ap, true≢false}
 use Rattle.std.specs.Option.{option_map_or}
 use Rattle.std.specs.Prelude.{unwrap_or}
 use Rattle.bbm_descriptor.specs.Descriptor.{is_valid}
@@ -22,10 +23,10 @@ use Rattle.bbm_rules.specs.Places.{page_of}
 use Rattle.bbm_rules.specs.Notes.{events_of}
 use Rattle.bbm_rules.specs.Tree.{Node, held_at, node_of}
 use Rattle.bbm_rules.specs.Values.{value_of}
-use Rattle.bbm_replay_entries.specs.Known.{Known}
+use Rattle.bbm_replay_entries.specs.KnownOfEntries.{Known}
 use Rattle.bbm_replay_entries.specs.Marked.{Marked}
-use Rattle.bbm_replay_entries.specs.Phases.{phase_in}
-use Rattle.bbm_replay_entries.specs.Stands.{EntryStands, held_now}
+use Rattle.bbm_replay_entries.specs.EntryPhases.{phase_in}
+use Rattle.bbm_replay_entries.specs.EntryStands.{EntryStands, held_now}
 use Rattle.bbm_replay_entries.proofs.Places.{holds_core}
 
 -- a state without a core

@@ -1,5 +1,6 @@
 -- What is known of the events since the last valid write of a place.
-use Rattle.std.proofs.Common.{◌≡◌, ℕ, Bool, true, false, cond, ◌&&◌, ◌||◌, ◌==◌, List, [], ◌∷◌, ◌++◌, refl, sym, ◌∙◌, ap, inl, inr, true≢false}
+use Rattle.std.proofs.Common.{◌≡◌, ℕ, Bool, true, false, cond, ◌&&◌, ◌||◌, ◌==◌, List, [], ◌∷◌, ◌++◌, refl, sym, ◌∙◌}
+use Rattle.std.proofs.Common.{ap, inl, inr, true≢false}
 use Rattle.std.proofs.Math.Bool.{and-false}
 use Rattle.std.proofs.lemmas.Bool.{and_parts, eqb-true, false_from_ne_true, or_cases, or_right}
 use Rattle.bbm_barriers.specs.Options.{answers}
@@ -15,8 +16,9 @@ use Rattle.bbm_rules.specs.Lists.{any}
 use Rattle.bbm_rules.specs.Notes.{Noted, event_of}
 use Rattle.bbm_rules.specs.Reach.{Issued, reaches, unanswered}
 use Rattle.bbm_rules.specs.Values.{publishes_to}
-use Rattle.bbm_histories.specs.Steps.{answered_by, cleansed_after, full_waits, half_after, half_waits, is_tlbi, second_waits, seen_after, waits, waits_after, wrote}
-use Rattle.bbm_replay_entries.specs.Known.{Known}
+use Rattle.bbm_histories.specs.HistorySteps.{answered_by, cleansed_after, full_waits, half_after, half_waits, is_tlbi}
+use Rattle.bbm_histories.specs.HistorySteps.{second_waits, seen_after, waits, waits_after, wrote}
+use Rattle.bbm_replay_entries.specs.KnownOfEntries.{Known}
 use Rattle.bbm_replay_entries.specs.Marked.{cover_waits}
 
 -- what a DSB answers waited

@@ -1,5 +1,5 @@
-pub mod Known
-pub mod Events
+pub mod KnownOfEntries
+pub mod EntryEvents
 pub mod Marked
-pub mod Phases
-pub mod Stands
+pub mod EntryPhases
+pub mod EntryStands

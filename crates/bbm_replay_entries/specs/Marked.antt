@@ -10,7 +10,7 @@ use Rattle.bbm_rules.specs.Prelude.{Heading}
 use Rattle.bbm_rules.specs.Claims.Trust.{Patterns}
 use Rattle.bbm_rules.specs.Cleansing.{cleansed, half, seen}
 use Rattle.bbm_rules.specs.Notes.{Noted}
-use Rattle.bbm_histories.specs.Steps.{full_waits, half_waits, second_waits, wrote}
+use Rattle.bbm_histories.specs.HistorySteps.{full_waits, half_waits, second_waits, wrote}
 
 module _ (heading : Heading) (place : ℕ) where
   -- whether p waits for the answer of a TLBI of q, broadcast or not as told, that covers the place so far and counts

@@ -15,8 +15,8 @@ ghost use Rattle.bbm_rules.specs.Pages.{is_fresh};
 ghost use Rattle.bbm_rules.specs.Places.{page_of};
 ghost use Rattle.bbm_rules.specs.Tree.{Node};
 ghost use Rattle.bbm_rules.specs.Values.{value_of};
-ghost use Rattle.bbm_histories.specs.Tree.{Attaches};
-ghost use Rattle.bbm_replay_entries.specs.Stands.{ByValue, EntryStands};
+ghost use Rattle.bbm_histories.specs.TreeChanges.{Attaches};
+ghost use Rattle.bbm_replay_entries.specs.EntryStands.{ByValue, EntryStands};
 
 use crate::known::known;
 

@@ -1,7 +1,7 @@
 //! What the crates below prove, gathered for the proofs here.
 
 ghost use Rattle.bbm_events.specs.Heading.{Heading};
-ghost use Rattle.bbm_replay_entries.specs.Known.{Known};
+ghost use Rattle.bbm_replay_entries.specs.KnownOfEntries.{Known};
 
 use bbm_descriptor::laws::law_core_where_valid;
 use bbm_histories::{law_fresh_content, law_held_changes, law_held_step, law_pattern_steps};

@@ -9,9 +9,9 @@ ghost use Rattle.bbm_regimes.specs.declared.regime.Kind.{Kind};
 ghost use Rattle.bbm_tlbi_scope.specs.Operations.{operation};
 ghost use Rattle.bbm_tlbi_scope.specs.declared.entry.Cover.{Cover};
 ghost use Rattle.bbm_tlbi_scope.specs.declared.op.TlbiOp.{TlbiOp};
-ghost use Rattle.bbm_entry_state.specs.Calls.{Completed, Noted, Written};
+ghost use Rattle.bbm_entry_state.specs.EntryCalls.{Completed, Noted, Written};
 ghost use Rattle.bbm_entry_state.specs.Points.{is_broken};
-ghost use Rattle.bbm_entry_state.specs.Standing.{KeepsPends};
+ghost use Rattle.bbm_entry_state.specs.EntryStanding.{KeepsPends};
 ghost use Rattle.bbm_entry_state.specs.declared.pending.Pends.{Pends};
 ghost use Rattle.bbm_entry_state.specs.declared.state.EntryState.{EntryState};
 ghost use Rattle.bbm_events.specs.Heading.{Heading};
@@ -20,8 +20,8 @@ ghost use Rattle.bbm_events.specs.declared.event.Event.TheVariants.{Dsb, Tlbi, W
 ghost use Rattle.bbm_rules.specs.Claims.Trust.{Patterns};
 ghost use Rattle.bbm_rules.specs.Covers.{cover_at, noted};
 ghost use Rattle.bbm_rules.specs.Reach.{reaches};
-ghost use Rattle.bbm_replay_entries.specs.Events.{Heard, OthersStay, OthersWait, touches};
-ghost use Rattle.bbm_replay_entries.specs.Stands.{EntryStands};
+ghost use Rattle.bbm_replay_entries.specs.EntryEvents.{Heard, OthersStay, OthersWait, touches};
+ghost use Rattle.bbm_replay_entries.specs.EntryStands.{EntryStands};
 
 use crate::known::known;
 

@@ -20,8 +20,8 @@ ghost use Rattle.bbm_rules.specs.Rules.{break_before_make};
 ghost use Rattle.bbm_rules.specs.Tree.{Node, node_of};
 ghost use Rattle.bbm_rules.specs.Values.{value_of};
 ghost use Rattle.bbm_rules.specs.declared.phase.Phase.{Phase};
-ghost use Rattle.bbm_replay_entries.specs.Phases.{phase_in};
-ghost use Rattle.bbm_replay_entries.specs.Stands.{EntryStands, held_now, next_now, next_of_core};
+ghost use Rattle.bbm_replay_entries.specs.EntryPhases.{phase_in};
+ghost use Rattle.bbm_replay_entries.specs.EntryStands.{EntryStands, held_now, next_now, next_of_core};
 
 use crate::known::known;
 

@@ -1,5 +1,6 @@
 -- The least rule that an event breaks, and what stands after one that breaks none.
-use Rattle.std.proofs.Common.{◌≡◌, ℕ, ◌<◌, Bool, true, false, not, ◌&&◌, ◌||◌, ◌==◌, cond, nat_le, length, ◌≤◌, ◌↔◌, Result, Ok, List, ◌∷◌, Option, Some, None, refl, sym, ap, ◌∙◌, arith, true≢false}
+use Rattle.std.proofs.Common.{◌≡◌, ℕ, ◌<◌, Bool, true, false, not, ◌&&◌, ◌||◌, ◌==◌, cond, nat_le, length, ◌≤◌, ◌↔◌}
+use Rattle.std.proofs.Common.{Result, Ok, List, ◌∷◌, Option, Some, None, refl, sym, ap, ◌∙◌, arith, true≢false}
 use Rattle.std.specs.Option.{is_none, option_map, option_map_or}
 use Rattle.std.proofs.lemmas.Bool.{and_from, eq-eqb, eqb-true, le-leb, leb-true, ne_eqb}
 use Rattle.std.specs.Result.{result_ok}
@@ -9,13 +10,14 @@ use Rattle.bbm_regimes.specs.declared.regime.Which.{Which}
 use Rattle.bbm_rules.specs.declared.step_fault.StepFault.TheVariants.{Limit}
 use Rattle.bbm_roots.specs.declared.fault.RootFault.{RootFault}
 use Rattle.bbm_roots.specs.declared.fault.RootFault.TheVariants as roots
-use Rattle.bbm_replay_roots.specs.Faults.{room_fault}
+use Rattle.bbm_replay_roots.specs.RootFaults.{room_fault}
 use Rattle.bbm_regimes.specs.declared.regime.Which.TheVariants.{Roots as Roots'}
 use Rattle.bbm_tlbi_scope.specs.Decode.{scope_of}
 use Rattle.bbm_tlbi_scope.specs.Operations.{of_world}
 use Rattle.bbm_tlbi_scope.specs.declared.scope.BadOperand.{BadOperand as BadOperandOf}
-use Rattle.bbm_rules.specs.Registers.{lacks_vmid, named_scope, vmid_of}
-use Rattle.bbm_rules.specs.Prelude.{World, Scope, Init, Null, Root, Write, Kind, Reg, TlbiOp, Heading, Event, Dsb, Dmb, Isb, Tlbi, Msr, Lock, Unlock, Unroot}
+use Rattle.bbm_rules.specs.RegisterValues.{lacks_vmid, named_scope, vmid_of}
+use Rattle.bbm_rules.specs.Prelude.{World, Scope, Init, Null, Root, Write, Kind, Reg, TlbiOp, Heading, Event, Dsb, Dmb}
+use Rattle.bbm_rules.specs.Prelude.{Isb, Tlbi, Msr, Lock, Unlock, Unroot}
 use Rattle.bbm_rules.specs.Broken.{Breach, broken, keeps}
 use Rattle.bbm_rules.specs.Claims.{Patterns}
 use Rattle.bbm_rules.specs.Covers.{noted}
@@ -24,15 +26,16 @@ use Rattle.bbm_rules.specs.Lists.{if_so, is_that}
 use Rattle.bbm_rules.specs.Roots.{Declared, is_root, root_at, roots_of}
 use Rattle.bbm_rules.specs.Rules as rules
 use Rattle.bbm_rules.specs.declared.rule.Rule.{Rule}
-use Rattle.bbm_rules.specs.declared.rule.Rule.TheVariants.{WrongWorld, NoLock, NoRoot, TagConflict, RootInUse, UnsyncedVmid, BadOperand, LockBusy, LockNotMine}
-use Rattle.bbm_roots.specs.Stands.{pes_of, world_of}
-use Rattle.bbm_roots.specs.Stands as lower
-use Rattle.bbm_roots.specs.Calls.{Call, Issue}
-use Rattle.bbm_roots.specs.Roots as called
+use Rattle.bbm_rules.specs.declared.rule.Rule.TheVariants.{WrongWorld, NoLock, NoRoot, TagConflict, RootInUse}
+use Rattle.bbm_rules.specs.declared.rule.Rule.TheVariants.{UnsyncedVmid, BadOperand, LockBusy, LockNotMine}
+use Rattle.bbm_roots.specs.RootsStand.{pes_of, world_of}
+use Rattle.bbm_roots.specs.RootsStand as lower
+use Rattle.bbm_roots.specs.RootCalls.{Call, Issue}
+use Rattle.bbm_roots.specs.DeclaredRoots as called
 use Rattle.bbm_replay_roots.proofs.RootMaps.{as_root, root_same}
 use Rattle.bbm_replay_roots.specs.Bridge.{calls_of, issue_of, with_call}
-use Rattle.bbm_replay_roots.specs.Laws.{Laws}
-use Rattle.bbm_replay_roots.specs.Stands.{IsNamed, Stands, concerns_roots}
+use Rattle.bbm_replay_roots.specs.RootLaws.{Laws}
+use Rattle.bbm_replay_roots.specs.RootStateStands.{IsNamed, Stands, concerns_roots}
 use Rattle.bbm_replay_roots.specs.declared.named.NamedTlbi.{NamedTlbi}
 use Rattle.bbm_replay_roots.specs.declared.state.RootState.{RootState}
 use Rattle.bbm_replay_roots.proofs.TagMaps.{Agrees, agrees}

@@ -1,5 +1,6 @@
 -- The tags that roots hold after a history, and after its calls.
-use Rattle.std.proofs.Common.{◌≡◌, ℕ, zero, suc, ◌<◌, Bool, true, false, not, ◌&&◌, ◌||◌, ◌==◌, cond, List, [], ◌∷◌, Option, Some, None, Result, Ok, Err, ◌++◌, refl, sym, ap, ◌∙◌, arith}
+use Rattle.std.proofs.Common.{◌≡◌, ℕ, zero, suc, ◌<◌, Bool, true, false, not, ◌&&◌, ◌||◌, ◌==◌, cond, List, [], ◌∷◌}
+use Rattle.std.proofs.Common.{Option, Some, None, Result, Ok, Err, ◌++◌, refl, sym, ap, ◌∙◌, arith}
 use Rattle.std.specs.List.{flat_map}
 use Rattle.std.specs.Option.{is_none}
 use Rattle.std.specs.Result.{result_ok}
@@ -10,42 +11,39 @@ use Rattle.bbm_descriptor.specs.Descriptor.{same_bool}
 use Rattle.bbm_range.specs.declared.BadRange.{BadRange}
 use Rattle.bbm_range.specs.declared.BadRange.TheVariants.{Granule, Unaligned}
 use Rattle.bbm_range.specs.declared.Range.{Range}
-use Rattle.bbm_range.specs.Pages.{range_of}
-use Rattle.bbm_tlbi_scope.specs.Decode.{canonical, decoded, granule_known, hint_field, interval_field, page_scope, range_canonical, range_scope, scope_of, scope_over}
+use Rattle.bbm_range.specs.RangePages.{range_of}
+use Rattle.bbm_tlbi_scope.specs.Decode.{canonical, decoded, granule_known, hint_field, interval_field, page_scope}
+use Rattle.bbm_tlbi_scope.specs.Decode.{range_canonical, range_scope, scope_of, scope_over}
 use Rattle.bbm_tlbi_scope.specs.Operations.{Operation, operation}
-use Rattle.bbm_tlbi_scope.specs.Tags.{takes_whole_tag}
-use Rattle.bbm_rules.specs.Prelude.{AsidFrom, FromTtbr0, FromTtbr1, Ttbr1, Scope, TlbiOp, Tag, World, Hyp, Kernel, Heading, Event, Root, Unroot, Dsb, Isb, Tlbi, Msr}
+use Rattle.bbm_tlbi_scope.specs.ScopeTags.{takes_whole_tag}
+use Rattle.bbm_rules.specs.Prelude.{AsidFrom, FromTtbr0, FromTtbr1, Ttbr1, Scope, TlbiOp, Tag, World, Hyp, Kernel}
+use Rattle.bbm_rules.specs.Prelude.{Heading, Event, Root, Unroot, Dsb, Isb, Tlbi, Msr}
 use Rattle.bbm_rules.specs.declared.rule.Rule.TheVariants.{NoRoot}
 use Rattle.bbm_rules.specs.Broken.{broken, keeps}
 use Rattle.bbm_rules.specs.Claims.{Patterns}
-use Rattle.bbm_rules.specs.Registers.{lacks_vmid, named_scope, vmid_of}
+use Rattle.bbm_rules.specs.RegisterValues.{lacks_vmid, named_scope, vmid_of}
 use Rattle.bbm_rules.specs.Tags as rules
 use Rattle.bbm_rules.specs.Tags.{takes_tag}
 use Rattle.bbm_rules.specs.Lists as lists
-use Rattle.bbm_histories.specs.Steps.{tag_waits, tag_waits_after}
-use Rattle.bbm_histories.specs.Tree.{Proper}
-use Rattle.bbm_roots.specs.Calls.{Call, Issue, Complete}
+use Rattle.bbm_histories.specs.HistorySteps.{tag_waits, tag_waits_after}
+use Rattle.bbm_histories.specs.TreeChanges.{Proper}
+use Rattle.bbm_roots.specs.RootCalls.{Call, Issue, Complete}
 use Rattle.bbm_roots.specs.Holds as holds
-use Rattle.bbm_roots.specs.Pendings.{same_flag}
+use Rattle.bbm_roots.specs.RootPendings.{same_flag}
 use Rattle.bbm_roots.specs.Readings.{asid_readings, has_reading, own_reading}
-use Rattle.bbm_roots.specs.Registers.{at_start}
+use Rattle.bbm_roots.specs.RootRegisters.{at_start}
 use Rattle.bbm_roots.specs.declared.reading.Reading.{Reading}
 use Rattle.bbm_tlbi_scope.specs.declared.scope.BadOperand.TheVariants.{NonCanonical, TtlGranule}
 use Rattle.bbm_tlbi_scope.specs.Operand.{hint_of}
-use Rattle.bbm_roots.specs.Tags.{answered_by, readings, awaited, holds_at, holds_tag, issues, loses, reads, reads_for_some}
+use Rattle.bbm_roots.specs.RootTags.{answered_by, readings, awaited, holds_at, holds_tag, issues, loses, reads}
+use Rattle.bbm_roots.specs.RootTags.{reads_for_some}
 use Rattle.bbm_replay_roots.specs.Bridge.{call_of, calls_of, issue_of, with_call}
-use Rattle.bbm_replay_roots.specs.Laws.{Laws}
-use Rattle.bbm_replay_roots.proofs.ValueMaps.{Values, reads_same, reads_some_same, swap, values_next, values_start, values_written}
+use Rattle.bbm_replay_roots.specs.RootLaws.{Laws}
+use Rattle.bbm_replay_roots.proofs.ValueMaps.{Values, reads_same, reads_some_same, swap, values_next, values_start}
+use Rattle.bbm_replay_roots.proofs.ValueMaps.{values_written}
+use mathlib.Core.Bool.{and-true}
 
 -- ---- tests
-
-or-false : (a : Bool) → (a || false) ≡ a
-or-false true = refl
-or-false false = refl
-
-and-true : (a : Bool) → (a && true) ≡ a
-and-true true = refl
-and-true false = refl
 
 -- what follows from the other adds nothing
 implied-or : (a b : Bool) → (a ≡ true → b ≡ true) → b ≡ (a || b)

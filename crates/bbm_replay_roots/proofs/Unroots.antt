@@ -1,41 +1,44 @@
 -- Whether a root may be retired, by the history and by its calls.
-use Rattle.std.proofs.Common.{◌≡◌, ℕ, zero, suc, ◌<◌, ◌≤◌, Bool, true, false, not, ◌&&◌, ◌||◌, ◌==◌, nat_lt, List, [], ◌∷◌, map, length, Option, Some, None, Result, Ok, Err, refl, sym, ap, ◌∙◌, subst, true≢false, inl, inr, arith}
+use Rattle.std.proofs.Common.{◌≡◌, ℕ, zero, suc, ◌<◌, ◌≤◌, Bool, true, false, not, ◌&&◌, ◌||◌, ◌==◌, nat_lt, List, []}
+use Rattle.std.proofs.Common.{◌∷◌, map, length, Option, Some, None, Result, Ok, Err, refl, sym, ap, ◌∙◌, subst}
+use Rattle.std.proofs.Common.{true≢false, inl, inr, arith}
 use Rattle.std.specs.Cmp.{both_ways}
 use Rattle.std.specs.List.{list_any}
 use Rattle.std.specs.Option.{is_none, option_and_then, option_map}
 use Rattle.std.proofs.lemmas.Bool.{cases_lt, lt-ltb, eqb-true, eq-eqb, not-false, or_cases, or_left, or_right}
 use Rattle.std.proofs.lemmas.List.Folds.{list_any-append}
-use Rattle.bbm_lists.proofs.Elements.{any_finds, any_found}
+use Rattle.bbm_lemmas.proofs.Elements.{any_finds, any_found}
 use Rattle.bbm_tlbi_scope.specs.declared.entry.TagSet.{TagSet}
 use Rattle.bbm_tlbi_scope.specs.declared.entry.TagSet.TheVariants.{None as NoTag, One, Many}
-use Rattle.bbm_rules.specs.Prelude.{Kind, Reg, Ttbr0El2, VttbrEl2, Ttbr0El1, Ttbr1El1, Tag, World, Hyp, Kernel, Heading, Event, Root, Unroot}
+use Rattle.bbm_rules.specs.Prelude.{Kind, Reg, Ttbr0El2, VttbrEl2, Ttbr0El1, Ttbr1El1, Tag, World, Hyp, Kernel, Heading}
+use Rattle.bbm_rules.specs.Prelude.{Event, Root, Unroot}
 use Rattle.bbm_rules.specs.Broken.{Breach, broken, keeps}
 use Rattle.bbm_rules.specs.Claims.{Patterns, same_tag}
 use Rattle.bbm_rules.specs.Covers.{noted}
 use Rattle.bbm_rules.specs.Lists.{among, if_so, is_that, some_pe}
-use Rattle.bbm_rules.specs.Registers.{base_of, kind_of_reg}
-use Rattle.bbm_rules.specs.Registers as rules
+use Rattle.bbm_rules.specs.RegisterValues.{base_of, kind_of_reg}
+use Rattle.bbm_rules.specs.RegisterValues as rules
 use Rattle.bbm_rules.specs.Roots.{Declared, is_root, kind_in_world, lock_of, root_at}
 use Rattle.bbm_rules.specs.Rules.{is_base_at, lacks, no_lock, no_root, root_in_use}
 use Rattle.bbm_rules.specs.Tags.{holds_tag, tag_set, tags_of}
 use Rattle.bbm_rules.specs.declared.rule.Rule.TheVariants.{NoLock, NoRoot, RootInUse, WrongWorld}
 use Rattle.bbm_tlbi_scope.specs.TagSets.{HasTags}
 use Rattle.bbm_roots.specs.Refusals.{JudgesRetire}
-use Rattle.bbm_roots.specs.Registers.{at_start, first_reg, names_in, names_page, register_values, second_reg, uses}
-use Rattle.bbm_roots.specs.Registers as named
-use Rattle.bbm_roots.specs.Roots as calls
-use Rattle.bbm_roots.specs.Stands.{pes_of, world_of}
-use Rattle.bbm_roots.specs.Tags as held
+use Rattle.bbm_roots.specs.RootRegisters.{at_start, first_reg, names_in, names_page, register_values, second_reg, uses}
+use Rattle.bbm_roots.specs.RootRegisters as named
+use Rattle.bbm_roots.specs.DeclaredRoots as calls
+use Rattle.bbm_roots.specs.RootsStand.{pes_of, world_of}
+use Rattle.bbm_roots.specs.RootTags as held
 use Rattle.bbm_roots.specs.declared.fault.InUse.TheVariants.{Pe as ByPe, Tag as ByTag}
 use Rattle.bbm_roots.specs.declared.fault.RootFault.{RootFault}
 use Rattle.bbm_roots.specs.declared.fault.RootFault.TheVariants as faults
 use Rattle.bbm_roots.specs.declared.load.Load.{Load}
 use Rattle.bbm_roots.specs.declared.root.Declared.{Declared as CallRoot}
-use Rattle.bbm_histories.specs.Tree.{Proper}
+use Rattle.bbm_histories.specs.TreeChanges.{Proper}
 use Rattle.bbm_replay_roots.specs.Bridge.{calls_of}
-use Rattle.bbm_replay_roots.specs.Faults.{unroot_rule}
-use Rattle.bbm_replay_roots.specs.Laws.{Laws}
-use Rattle.bbm_replay_roots.specs.Stands.{Stands}
+use Rattle.bbm_replay_roots.specs.RootFaults.{unroot_rule}
+use Rattle.bbm_replay_roots.specs.RootLaws.{Laws}
+use Rattle.bbm_replay_roots.specs.RootStateStands.{Stands}
 use Rattle.bbm_replay_roots.specs.declared.state.RootState.{RootState}
 use Rattle.bbm_replay_roots.proofs.Judge.{agrees_by, broken_unroot, or_rule}
 use Rattle.bbm_replay_roots.proofs.RootMaps.{as_root, root_same}

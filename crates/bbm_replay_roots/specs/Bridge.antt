@@ -4,9 +4,9 @@ use Rattle.std.specs.Option.{option_map_or}
 use Rattle.std.specs.Prelude.{ℕ, Bool, false, ◌||◌, not, List, [], ◌∷◌, Option, Some, None, if◌then◌else◌}
 use Rattle.bbm_rules.specs.Prelude.{Scope, Heading, Event, Root, Unroot, Dsb, Isb, Tlbi, Msr}
 use Rattle.bbm_rules.specs.Pages.{is_null}
-use Rattle.bbm_rules.specs.Registers.{base_of, named_scope, vmid_of}
-use Rattle.bbm_roots.specs.Calls.{Call, Declare, Retire, WriteReg, Issue, Complete}
-use Rattle.bbm_roots.specs.Calls as calls
+use Rattle.bbm_rules.specs.RegisterValues.{base_of, named_scope, vmid_of}
+use Rattle.bbm_roots.specs.RootCalls.{Call, Declare, Retire, WriteReg, Issue, Complete}
+use Rattle.bbm_roots.specs.RootCalls as calls
 
 -- whether the base of a register value is a null page
 abbrev pub has_null_base : List Event → ℕ → Bool

@@ -1,5 +1,5 @@
 pub mod Bridge
-pub mod Faults
-pub mod Laws
-pub mod Stands
-pub mod Listed
+pub mod RootFaults
+pub mod RootLaws
+pub mod RootStateStands
+pub mod RootsByNumber

@@ -1,7 +1,7 @@
 //! What the crates below prove of histories, gathered for the proofs here.
 
 ghost use Rattle.bbm_events.specs.Heading.{Heading};
-ghost use Rattle.bbm_replay_roots.specs.Laws.{Laws};
+ghost use Rattle.bbm_replay_roots.specs.RootLaws.{Laws};
 
 use bbm_histories::{law_bases, law_proper, law_tag_steps, law_tags};
 use bbm_rules::{

@@ -8,7 +8,7 @@ ghost use Rattle.bbm_events.specs.declared.event.Event.TheVariants.{Dsb, Dmb, Is
 ghost use Rattle.bbm_rules.specs.Broken.{broken};
 ghost use Rattle.bbm_rules.specs.Claims.{Patterns};
 ghost use Rattle.bbm_rules.specs.Limits.{limit_of};
-ghost use Rattle.bbm_replay_roots.specs.Stands.{Stands, concerns_roots};
+ghost use Rattle.bbm_replay_roots.specs.RootStateStands.{Stands, concerns_roots};
 ghost use Rattle.bbm_replay_roots.specs.declared.state.RootState.{RootState as TheState};
 
 use crate::bridge::bridge;

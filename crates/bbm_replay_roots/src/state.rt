@@ -1,7 +1,7 @@
 //! The roots, registers, tags and locks of a log.
 
 ghost use Rattle.std.specs.Prelude.{◌≡◌};
-ghost use Rattle.bbm_replay_roots.specs.Faults as faults;
+ghost use Rattle.bbm_replay_roots.specs.RootFaults as faults;
 
 use crate::bridge::bridge;
 use crate::named::NamedTlbi;
@@ -74,14 +74,15 @@ impl RootState {
     ghost use Rattle.bbm_rules.specs.Limits.{limit_of};
     ghost use Rattle.bbm_rules.specs.Lists.{if_so};
     ghost use Rattle.bbm_rules.specs.Locks as locks;
-    ghost use Rattle.bbm_rules.specs.Registers as registers;
+    ghost use Rattle.bbm_rules.specs.RegisterValues as registers;
     ghost use Rattle.bbm_rules.specs.Roots as spec;
     ghost use Rattle.bbm_rules.specs.Rules as rules;
     ghost use Rattle.bbm_rules.specs.Tags as tags;
     ghost use Rattle.bbm_tlbi_scope.specs.declared.op.TlbiOp.{TlbiOp as TheOp};
     ghost use Rattle.bbm_replay_roots.specs.Bridge.{has_null_base};
-    ghost use Rattle.bbm_replay_roots.specs.Listed.{nth_in};
-    ghost use Rattle.bbm_replay_roots.specs.Stands.{Stands, MayFollow, HasRoom, IsNamed, IsReady, Judges, JudgesTlbi};
+    ghost use Rattle.bbm_replay_roots.specs.RootsByNumber.{nth_in};
+    ghost use Rattle.bbm_replay_roots.specs.RootStateStands.{Stands, MayFollow, HasRoom, IsNamed, IsReady, Judges};
+    ghost use Rattle.bbm_replay_roots.specs.RootStateStands.{JudgesTlbi};
 
     /// What stands for the empty history of the header. `NoMemory` where there is none.
     pub fn new(alloc: Global, header: &Header) -> Result<RootState, NoMemory>

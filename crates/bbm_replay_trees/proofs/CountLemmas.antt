@@ -1,5 +1,7 @@
 -- The number of restless places.
-use Rattle.std.proofs.Common.{◌≡◌, ℕ, zero, suc, ◌<◌, ◌≤◌, ◌⊎◌, not, Bool, true, false, cond, ◌&&◌, List, [], ◌∷◌, length, Option, Some, None, is_some, filter, map, refl, sym, ◌∙◌, ap, subst, inl, inr, true≢false, arith}
+use Rattle.std.proofs.Common.{◌≡◌, ℕ, zero, suc, ◌<◌, ◌≤◌, ◌⊎◌, not, Bool, true, false, cond, ◌&&◌, List, [], ◌∷◌}
+use Rattle.std.proofs.Common.{length, Option, Some, None, is_some, filter, map, refl, sym, ◌∙◌, ap, subst, inl, inr}
+use Rattle.std.proofs.Common.{true≢false, arith}
 use Rattle.std.proofs.lemmas.Bool.{and_parts, cases_eq}
 use Rattle.std.proofs.lemmas.List.Sums.{length-filter}
 use Rattle.std.specs.Option.{option_map_or}
@@ -13,11 +15,11 @@ use Rattle.bbm_rules.specs.Phases.{is_restless, restless_of}
 use Rattle.bbm_rules.specs.Places.{page_of}
 use Rattle.bbm_rules.specs.Tree.{Node, held_at, node_of}
 use Rattle.bbm_rules.specs.Values.{value_of, written_places}
-use Rattle.bbm_replay_trees.specs.Below.{Below}
+use Rattle.bbm_replay_trees.specs.BelowTrees.{Below}
 use Rattle.bbm_replay_trees.specs.Restless.{Numbers}
 use Rattle.bbm_replay_trees.specs.Told.{notes}
-use Rattle.bbm_lists.specs.Elements.{In}
-use Rattle.bbm_lists.proofs.Elements.{from_filter, from_map, in_map, to_filter}
+use Rattle.bbm_lemmas.specs.Elements.{In}
+use Rattle.bbm_lemmas.proofs.Elements.{from_filter, from_map, in_map, to_filter}
 use Rattle.bbm_replay_trees.proofs.HangLemmas.{held_written}
 use Rattle.bbm_replay_trees.proofs.LeastLemmas.{among_in}
 

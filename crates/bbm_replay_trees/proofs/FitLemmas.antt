@@ -1,5 +1,6 @@
 -- The places that were written in a history whose events fit the header.
-use Rattle.std.proofs.Common.{◌≡◌, ℕ, ◌%◌, ◌^◌, ◌&&◌, Bool, true, false, cond, ◌⊎◌, ◌==◌, nat_lt, List, [], ◌∷◌, refl, subst, inl, inr}
+use Rattle.std.proofs.Common.{◌≡◌, ℕ, ◌%◌, ◌^◌, ◌&&◌, Bool, true, false, cond, ◌⊎◌, ◌==◌, nat_lt, List, [], ◌∷◌, refl}
+use Rattle.std.proofs.Common.{subst, inl, inr}
 use Rattle.std.proofs.lemmas.Bool.{and_from, and_parts, eq-eqb, eqb-true}
 use Rattle.bbm_events.specs.Heading.{Heading}
 use Rattle.bbm_events.specs.Fits.{fits_heading, is_pe, is_place, is_value}
@@ -8,8 +9,8 @@ use Rattle.bbm_rules.specs.Lists.{among, every, with_number}
 use Rattle.bbm_rules.specs.Places.{page_of}
 use Rattle.bbm_rules.specs.Values.{places_in, value_of, written_places}
 use Rattle.bbm_replay_trees.specs.Told.{is_at}
-use Rattle.bbm_lists.specs.Elements.{In}
-use Rattle.bbm_lists.proofs.Elements.{any_found, from_filter, to_filter}
+use Rattle.bbm_lemmas.specs.Elements.{In}
+use Rattle.bbm_lemmas.proofs.Elements.{any_found, from_filter, to_filter}
 
 -- ---- lists without repeats
 

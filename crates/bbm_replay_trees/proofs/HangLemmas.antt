@@ -1,5 +1,7 @@
 -- Where the pages of trees hang.
-use Rattle.std.proofs.Common.{◌≡◌, ℕ, suc, ◌+◌, ◌<◌, ◌⊎◌, Bool, true, false, cond, ◌&&◌, ◌==◌, List, [], ◌∷◌, length, Option, Some, None, is_some, Contains, option_and_then, refl, sym, ◌∙◌, ap, subst, inl, inr, true≢false, arith}
+use Rattle.std.proofs.Common.{◌≡◌, ℕ, suc, ◌+◌, ◌<◌, ◌⊎◌, Bool, true, false, cond, ◌&&◌, ◌==◌, List, [], ◌∷◌, length}
+use Rattle.std.proofs.Common.{Option, Some, None, is_some, Contains, option_and_then, refl, sym, ◌∙◌, ap, subst, inl}
+use Rattle.std.proofs.Common.{inr, true≢false, arith}
 use Rattle.std.proofs.lemmas.Bool.{eqb-true}
 use Rattle.bbm_regimes.specs.declared.regime.Kind.{Kind}
 use Rattle.bbm_descriptor.specs.Descriptor.{core_in, core_of, desc_of, is_valid}
@@ -16,10 +18,10 @@ use Rattle.bbm_rules.specs.Places.{page_of}
 use Rattle.bbm_rules.specs.Tree.{Above, Node, held_at, next_in as next_in_desc, next_of, node_below, node_of, tree}
 use Rattle.bbm_rules.specs.TreeSentences.{Down, IsNode}
 use Rattle.bbm_rules.specs.Values.{written_places}
-use Rattle.bbm_replay_trees.specs.Below.{Below}
+use Rattle.bbm_replay_trees.specs.BelowTrees.{Below}
 use Rattle.bbm_replay_trees.specs.Told.{AllFit, Hangs, SameCores, SameNodes, next_in, notes}
-use Rattle.bbm_lists.specs.Elements.{In}
-use Rattle.bbm_lists.proofs.Elements.{from_contains}
+use Rattle.bbm_lemmas.specs.Elements.{In}
+use Rattle.bbm_lemmas.proofs.Elements.{from_contains}
 use Rattle.bbm_replay_trees.proofs.FitLemmas.{is_at_page, with_has, with_keeps}
 
 -- ---- the core of a table

@@ -1,10 +1,11 @@
 -- The least number of a list, by what is in it.
-use Rattle.std.proofs.Common.{◌≡◌, ℕ, ◌<◌, ◌≤◌, min, true, ◌⊎◌, ◌==◌, List, [], ◌∷◌, Option, Some, None, unwrap_or, refl, ap, subst, inl, inr, arith}
+use Rattle.std.proofs.Common.{◌≡◌, ℕ, ◌<◌, ◌≤◌, min, true, ◌⊎◌, ◌==◌, List, [], ◌∷◌, Option, Some, None, unwrap_or}
+use Rattle.std.proofs.Common.{refl, ap, subst, inl, inr, arith}
 use Rattle.std.proofs.lemmas.Bool.{cases_lt, eq-eqb, eqb-true}
 use Rattle.bbm_rules.specs.Lists.{among, least}
 use Rattle.bbm_replay_trees.specs.Judging.{Finds}
-use Rattle.bbm_lists.specs.Elements.{In}
-use Rattle.bbm_lists.proofs.Elements.{any_finds, any_found}
+use Rattle.bbm_lemmas.specs.Elements.{In}
+use Rattle.bbm_lemmas.proofs.Elements.{any_finds, any_found}
 
 pub in_among : (n : ℕ) (ms : List ℕ) → among n ms ≡ true → In ms n
 in_among n ms e = let f = any_found (λ (m : ℕ). m == n) ms e in subst (In ms) (eqb-true f.0 n f.2) f.1

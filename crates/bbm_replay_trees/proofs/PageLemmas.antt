@@ -1,5 +1,6 @@
 -- The fresh pages after an event.
-use Rattle.std.proofs.Common.{◌≡◌, ℕ, not, Bool, true, false, ◌&&◌, ◌||◌, ◌==◌, List, ◌∷◌, None, refl, sym, ◌∙◌, ap, true≢false}
+use Rattle.std.proofs.Common.{◌≡◌, ℕ, not, Bool, true, false, ◌&&◌, ◌||◌, ◌==◌, List, ◌∷◌, None, refl, sym, ◌∙◌, ap}
+use Rattle.std.proofs.Common.{true≢false}
 use Rattle.std.proofs.lemmas.Bool.{eq-eqb, eqb-true}
 use Rattle.bbm_events.specs.Heading.{Heading}
 use Rattle.bbm_rules.specs.Prelude.{Event, Init, Null, Root, Unroot, Write, Dsb, Dmb, Isb, Tlbi, Msr, Lock, Unlock}
@@ -8,8 +9,9 @@ use Rattle.bbm_rules.specs.Broken.{keeps}
 use Rattle.bbm_rules.specs.Changes.{changes}
 use Rattle.bbm_rules.specs.Claims.Trust.{Patterns}
 use Rattle.bbm_rules.specs.Pages.{is_fresh, may_be_fresh}
-use Rattle.bbm_replay_trees.specs.Below.{Below}
+use Rattle.bbm_replay_trees.specs.BelowTrees.{Below}
 use Rattle.bbm_replay_trees.specs.Told.{SameFresh, notes}
+use mathlib.Core.Bool.{and_comm}
 
 -- numbers by either side
 pub eq_swap : (a b : ℕ) → (a == b) ≡ (b == a)
@@ -58,10 +60,4 @@ module _ (heading : Heading) (b : Below heading) (h : List Event) (fresh : ℕ �
       → ((p : ℕ) → next_fresh p ≡ (fresh p && not (p == page))) → SameFresh heading (Null pe page ∷ h) next_fresh
   after_null next_fresh pe page kept is p =
       is p ∙ (ap (λ c. fresh p && not c) (eq_swap p page)
-      ∙ (swap (fresh p) (not (page == p)) ∙ fresh_by (Null pe page) kept refl p))
-    where
-      swap : (c d : Bool) → (c && d) ≡ (d && c)
-      swap true true = refl
-      swap true false = refl
-      swap false true = refl
-      swap false false = refl
+      ∙ (and_comm (fresh p) (not (page == p)) ∙ fresh_by (Null pe page) kept refl p))

@@ -1,5 +1,6 @@
 -- The paths of attached pages, by fresh pages and present values, are those of the definitions.
-use Rattle.std.proofs.Common.{◌≡◌, ℕ, zero, suc, ◌+◌, ◌-◌, ◌<◌, ◌≤◌, Bool, true, false, cond, List, [], ◌∷◌, length, Some, None, Contains, flat_map, filter_map, refl, sym, ◌∙◌, ap, subst, inl, inr, arith}
+use Rattle.std.proofs.Common.{◌≡◌, ℕ, zero, suc, ◌+◌, ◌-◌, ◌<◌, ◌≤◌, Bool, true, false, cond, List, [], ◌∷◌, length}
+use Rattle.std.proofs.Common.{Some, None, Contains, flat_map, filter_map, refl, sym, ◌∙◌, ap, subst, inl, inr, arith}
 use Rattle.bbm_regimes.specs.declared.regime.Kind.{Kind}
 use Rattle.bbm_events.specs.Heading.{Heading}
 use Rattle.bbm_rules.specs.Prelude.{Event}
@@ -11,13 +12,13 @@ use Rattle.bbm_rules.specs.Places.{page_of}
 use Rattle.bbm_rules.specs.Tree.{Node, next_of}
 use Rattle.bbm_rules.specs.TreeSentences.{Leads as LeadsIn}
 use Rattle.bbm_rules.specs.Values.{places_in, value_of}
-use Rattle.bbm_replay_trees.specs.Below.{Below}
-use Rattle.bbm_tree_index.specs.Judged.{IsPath}
+use Rattle.bbm_replay_trees.specs.BelowTrees.{Below}
+use Rattle.bbm_tree_index.specs.Attaching.{IsPath}
 use Rattle.bbm_tree_index.specs.Paths.{Leads}
 use Rattle.bbm_replay_trees.specs.Told.{AllFit, SameFresh, SameValues, is_at, notes}
-use Rattle.bbm_lists.specs.Elements.{In}
-use Rattle.bbm_lists.proofs.Elements.{from_contains, from_flat, from_map, in_append, in_left, in_map, in_right}
-use Rattle.bbm_lists.proofs.Elements.{to_contains, to_flat}
+use Rattle.bbm_lemmas.specs.Elements.{In}
+use Rattle.bbm_lemmas.proofs.Elements.{from_contains, from_flat, from_map, in_append, in_left, in_map, in_right}
+use Rattle.bbm_lemmas.proofs.Elements.{to_contains, to_flat}
 use Rattle.bbm_replay_trees.proofs.FitLemmas.{at_page, is_at_page, written}
 
 -- the nodes at which paths begin are those of these pages, of the kind and at the level

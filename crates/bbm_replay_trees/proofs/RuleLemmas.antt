@@ -1,5 +1,6 @@
 -- What the rules say of an event by its kind.
-use Rattle.std.proofs.Common.{◌≡◌, ℕ, ◌%◌, not, Bool, true, false, ◌&&◌, ◌||◌, ◌==◌, List, [], ◌∷◌, Option, Some, None, is_some, filter, option_and_then, refl, sym, ◌∙◌, ap, subst, true≢false}
+use Rattle.std.proofs.Common.{◌≡◌, ℕ, ◌%◌, not, Bool, true, false, ◌&&◌, ◌||◌, ◌==◌, List, [], ◌∷◌, Option, Some, None}
+use Rattle.std.proofs.Common.{is_some, filter, option_and_then, refl, sym, ◌∙◌, ap, subst, true≢false}
 use Rattle.std.proofs.lemmas.Bool.{eqb-true, or_right}
 use Rattle.std.proofs.lemmas.List.Elements.{filter_agree}
 use Rattle.bbm_regimes.specs.declared.regime.Kind.{Kind}
@@ -17,13 +18,15 @@ use Rattle.bbm_rules.specs.Notes.{events_of}
 use Rattle.bbm_rules.specs.Pages.{is_fresh, is_null}
 use Rattle.bbm_rules.specs.Places.{page_of}
 use Rattle.bbm_rules.specs.Roots.{lock_of, root_pages}
-use Rattle.bbm_rules.specs.Rules.{break_before_make, lacks, limbo_make, no_lock, null_written, page_in_use, rewritten_fresh}
+use Rattle.bbm_rules.specs.Rules.{break_before_make, lacks, limbo_make, no_lock, null_written, page_in_use}
+use Rattle.bbm_rules.specs.Rules.{rewritten_fresh}
 use Rattle.bbm_rules.specs.Tree.{Above, Node, held_at, in_limbo, node_of}
 use Rattle.bbm_rules.specs.Values.{places_in, value_of}
-use Rattle.bbm_replay_trees.specs.Events.{may_reach_limit, rules_of}
-use Rattle.bbm_replay_trees.specs.Told.{AllFit, SameCores, SameFresh, SameNodes, SameNull, SameValues, is_at, limbo_by, notes}
-use Rattle.bbm_lists.specs.Elements.{In}
-use Rattle.bbm_lists.proofs.Elements.{any_finds, is_none_of, to_filter}
+use Rattle.bbm_replay_trees.specs.TreeEvents.{may_reach_limit, rules_of}
+use Rattle.bbm_replay_trees.specs.Told.{AllFit, SameCores, SameFresh, SameNodes, SameNull, SameValues, is_at, limbo_by}
+use Rattle.bbm_replay_trees.specs.Told.{notes}
+use Rattle.bbm_lemmas.specs.Elements.{In}
+use Rattle.bbm_lemmas.proofs.Elements.{any_finds, is_none_of, to_filter}
 use Rattle.bbm_replay_trees.proofs.FitLemmas.{at_page, in_page, is_at_page, to_page, written}
 
 pub few : (heading : Heading) (trust : Trust) (h : List Event) (e : Event)

@@ -4,7 +4,7 @@ use Rattle.bbm_rules.specs.Prelude.{Heading, Event}
 use Rattle.bbm_rules.specs.Claims.Trust.{Patterns}
 use Rattle.bbm_rules.specs.Rules.{bad_kind, global_user, not_fresh}
 use Rattle.bbm_rules.specs.Tree.{Node}
-use Rattle.bbm_tree_index.specs.Judged.{HasPlace, IsLeast, IsUnfresh, Never, is_bad, is_user_global}
+use Rattle.bbm_tree_index.specs.Attaching.{HasPlace, IsLeast, IsUnfresh, Never, is_bad, is_user_global}
 use Rattle.bbm_replay_trees.specs.Told.{notes}
 
 -- the least number that passes, or none where none does

@@ -1,5 +1,5 @@
 pub mod Told
-pub mod Below
-pub mod Events
+pub mod BelowTrees
+pub mod TreeEvents
 pub mod Judging
 pub mod Restless

@@ -16,7 +16,7 @@ use Rattle.bbm_rules.specs.Tree.{Node, held_at, node_below, node_of}
 use Rattle.bbm_rules.specs.Values.{value_of}
 -- whether an address is that of a descriptor of a page, the next page of a core that is a table, and the node where a
 -- test keeps it
-pub use Rattle.bbm_tree_index.specs.Held.{is_at, next_in, kept}
+pub use Rattle.bbm_tree_index.specs.HeldCores.{is_at, next_in, kept}
 
 -- whether each page is a null page
 abbrev pub SameNull : List Event → (ℕ → Bool) → Type 0

@@ -1,7 +1,7 @@
 //! What the crates below prove, gathered for the proofs here.
 
 ghost use Rattle.bbm_events.specs.Heading.{Heading};
-ghost use Rattle.bbm_replay_trees.specs.Below.{Below};
+ghost use Rattle.bbm_replay_trees.specs.BelowTrees.{Below};
 
 use bbm_descriptor::laws::law_core_where_valid;
 use bbm_histories::{

@@ -8,7 +8,7 @@ ghost use Rattle.bbm_descriptor.specs.declared.desc.Core.{Core};
 ghost use Rattle.bbm_events.specs.Heading.{Heading};
 ghost use Rattle.bbm_events.specs.declared.event.Event.{Event};
 ghost use Rattle.bbm_events.specs.declared.event.Event.TheVariants.{Dsb};
-ghost use Rattle.bbm_histories.specs.Tree.{Proper};
+ghost use Rattle.bbm_histories.specs.TreeChanges.{Proper};
 ghost use Rattle.bbm_rules.specs.Broken.{keeps};
 ghost use Rattle.bbm_rules.specs.Claims.Trust.{Patterns};
 ghost use Rattle.bbm_rules.specs.Places.{page_of};

@@ -8,14 +8,14 @@ ghost use Rattle.bbm_descriptor.specs.declared.desc.Core.{Core};
 ghost use Rattle.bbm_events.specs.Heading.{Heading};
 ghost use Rattle.bbm_events.specs.declared.event.Event.{Event};
 ghost use Rattle.bbm_events.specs.declared.event.Event.TheVariants.{Root, Write};
-ghost use Rattle.bbm_histories.specs.Tree.{Proper};
+ghost use Rattle.bbm_histories.specs.TreeChanges.{Proper};
 ghost use Rattle.bbm_rules.specs.Attach.{attached_by};
 ghost use Rattle.bbm_rules.specs.Claims.Trust.{Patterns};
 ghost use Rattle.bbm_rules.specs.Lists.{if_so};
 ghost use Rattle.bbm_rules.specs.Places.{page_of};
 ghost use Rattle.bbm_rules.specs.Rules.{bad_kind, global_user, not_fresh};
 ghost use Rattle.bbm_rules.specs.Tree.{Node, next_of, node_below, nodes_of_root};
-ghost use Rattle.bbm_tree_index.specs.Judged.{is_bad, is_user_global};
+ghost use Rattle.bbm_tree_index.specs.Attaching.{is_bad, is_user_global};
 ghost use Rattle.bbm_replay_trees.specs.Judging.{Judging};
 ghost use Rattle.bbm_replay_trees.specs.Told.{AllFit, SameCores, SameFresh, SameNodes, SameNull, SameValues, notes};
 

@@ -19,12 +19,12 @@ ghost use Rattle.bbm_rules.specs.Limits.{limit_of};
 ghost use Rattle.bbm_rules.specs.Lists.{among, if_so, least};
 ghost use Rattle.bbm_rules.specs.Pages.{initialised};
 ghost use Rattle.bbm_rules.specs.Places.{page_of};
-ghost use Rattle.bbm_rules.specs.Registers.{register_values};
+ghost use Rattle.bbm_rules.specs.RegisterValues.{register_values};
 ghost use Rattle.bbm_rules.specs.Roots.{lock_of, root_pages, roots_of};
 ghost use Rattle.bbm_rules.specs.Rules.{break_before_make, lacks, limbo_make, no_lock, null_written, page_in_use};
 ghost use Rattle.bbm_rules.specs.Rules.{rewritten_fresh};
 ghost use Rattle.bbm_rules.specs.Tree.{Node, nodes_of_root};
-ghost use Rattle.bbm_replay_trees.specs.Events.{may_reach_limit, rules_of};
+ghost use Rattle.bbm_replay_trees.specs.TreeEvents.{may_reach_limit, rules_of};
 ghost use Rattle.bbm_replay_trees.specs.Told.{AllFit, SameCores, SameFresh, SameNodes, SameNull, SameValues};
 ghost use Rattle.bbm_replay_trees.specs.Told.{is_at, limbo_by, notes};
 

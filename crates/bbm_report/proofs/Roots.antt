@@ -1,13 +1,14 @@
 -- The roots of events that fit their header, and what a walk finds by the values after them.
 use Rattle.std.specs.List.{list_all}
-use Rattle.std.proofs.Common.{◌≡◌, ℕ, ◌*◌, ◌%◌, Bool, true, false, cond, not, ◌&&◌, ◌==◌, List, [], ◌∷◌, Some, filter, refl, sym, ap, subst, inl, inr, ◌∙◌, true≢false}
+use Rattle.std.proofs.Common.{◌≡◌, ℕ, ◌*◌, ◌%◌, Bool, true, false, cond, not, ◌&&◌, ◌==◌, List, [], ◌∷◌, Some, filter}
+use Rattle.std.proofs.Common.{refl, sym, ap, subst, inl, inr, ◌∙◌, true≢false}
 use Rattle.std.proofs.Math.Path.{fun_ext}
 use Rattle.std.proofs.lemmas.Bool.{and_from, and_parts, eqb-true, or_cases}
 use Rattle.bbm_regimes.specs.declared.regime.Kind.{Kind}
 use Rattle.bbm_regimes.specs.declared.regime.Kind.TheVariants.{El2, S2, Ttbr0, Ttbr1}
 use Rattle.bbm_regimes.specs.declared.regime.World.{World}
 use Rattle.bbm_regimes.specs.World.{page_count, start_of}
-use Rattle.bbm_walk_s1.specs.Ranges.{stage1_root}
+use Rattle.bbm_walk_s1.specs.InputRanges.{stage1_root}
 use Rattle.bbm_walk_s2.specs.Joined.{stage2_root}
 use Rattle.bbm_descriptor.specs.Listing.{WalkRoot, IsAnswer}
 use Rattle.bbm_descriptor.specs.declared.walk.Walk.{Walk}

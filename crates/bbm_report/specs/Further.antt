@@ -8,7 +8,7 @@ use Rattle.bbm_regimes.specs.declared.regime.Kind.TheVariants.{El2, S2, Ttbr0, T
 use Rattle.bbm_regimes.specs.World.{page_count, start_of}
 use Rattle.bbm_descriptor.specs.Listing.{WalkRoot, IsAnswer}
 use Rattle.bbm_descriptor.specs.declared.walk.Walk.{Walk}
-use Rattle.bbm_walk_s1.specs.Ranges.{stage1_root}
+use Rattle.bbm_walk_s1.specs.InputRanges.{stage1_root}
 use Rattle.bbm_walk_s2.specs.Joined.{stage2_root}
 use Rattle.bbm_events.specs.Heading.{Heading}
 use Rattle.bbm_events.specs.Lines.{header_of}
@@ -21,7 +21,7 @@ use Rattle.bbm_rules.specs.Claims.{Patterns}
 use Rattle.bbm_rules.specs.Phases.{phase_of}
 use Rattle.bbm_rules.specs.Roots.{is_root}
 use Rattle.bbm_rules.specs.Values.{value_of}
-use Rattle.bbm_report.specs.Lines.{found_text, phase_text}
+use Rattle.bbm_report.specs.ReportLines.{found_text, phase_text}
 use Rattle.bbm_report.specs.declared.questions.Question.{Question}
 
 -- What a walk of a root of a kind begins with, in a world. The range of TTBR1 tables is the high one, and stage 2 roots

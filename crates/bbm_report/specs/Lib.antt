@@ -1,3 +1,3 @@
 pub mod Further
-pub mod Lines
+pub mod ReportLines
 pub mod Questions

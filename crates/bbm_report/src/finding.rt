@@ -3,7 +3,7 @@
 ghost use Rattle.std.specs.Prelude.{◌≡◌, ℕ, ◌*◌, ◌%◌, ◌↔◌, List, true, IsTrue, IsSome, IfSome};
 ghost use Rattle.std.specs.List.{list_all};
 ghost use Rattle.bbm_regimes.specs.declared.regime.Kind.TheVariants.{S2, Ttbr1};
-ghost use Rattle.bbm_regimes.specs.Same.{same_kind};
+ghost use Rattle.bbm_regimes.specs.SameRegister.{same_kind};
 ghost use Rattle.bbm_regimes.specs.World as worlds;
 ghost use Rattle.bbm_walk_s2.specs.Joined.{can_join};
 ghost use Rattle.bbm_events.specs.Fits.{fits_heading};

@@ -2,7 +2,7 @@
 
 ghost use Rattle.std.specs.Prelude.{◌≡◌, ◌≤◌, length};
 ghost use Rattle.bbm_rules.specs.Texts.{rule_text, cause_text, limit_text};
-ghost use Rattle.bbm_report.specs.Lines.{phase_word as word_of};
+ghost use Rattle.bbm_report.specs.ReportLines.{phase_word as word_of};
 
 use bbm_events::Malformed;
 use bbm_regimes::Which;

@@ -1,7 +1,7 @@
 //! The line of a phase.
 
 ghost use Rattle.std.specs.Prelude.{◌≡◌, []};
-ghost use Rattle.bbm_report.specs.Lines.{phase_text as text_of_phase};
+ghost use Rattle.bbm_report.specs.ReportLines.{phase_text as text_of_phase};
 
 use crate::names::phase_word;
 use arrayvec::ArrayVec;
@@ -11,7 +11,7 @@ use bbm_rules::Phase;
 
 /// Puts the line of a PE and of the phase of a place there, with its newline, into `out`, which is empty. Source:
 /// project's own choice.
-#[tactic(auto, unfolding(crate::specs::Lines::phase_text))]
+#[tactic(auto, unfolding(crate::specs::ReportLines::phase_text))]
 pub fn phase_text(pe: Pe, phase: Phase, out: &mut ArrayVec<u8, 200>)
     requires { out.old.items ≡ [] }
     ensures { out.new.items ≡ text_of_phase pe phase }

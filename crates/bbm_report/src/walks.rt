@@ -3,14 +3,14 @@
 
 ghost use Rattle.std.specs.Prelude.{◌≡◌, []};
 ghost use Rattle.bbm_descriptor.specs.declared.walk.Walk.{Walk as WalkOf};
-ghost use Rattle.bbm_report.specs.Lines.{found_text as text_of_found, walk_text as text_of_walk};
+ghost use Rattle.bbm_report.specs.ReportLines.{found_text as text_of_found, walk_text as text_of_walk};
 
 use arrayvec::ArrayVec;
 use bbm_descriptor::Walk;
 use bbm_log_grammar::{add, add_decimal, add_hex};
 
 /// Puts the line of a walk's answer, with its newline, into `out`, which is empty.
-#[tactic(auto, unfolding(crate::specs::Lines::walk_text))]
+#[tactic(auto, unfolding(crate::specs::ReportLines::walk_text))]
 pub fn walk_text(walk: Walk, out: &mut ArrayVec<u8, 200>)
     requires { out.old.items ≡ [] }
     ensures { out.new.items ≡ text_of_walk walk }
@@ -31,7 +31,7 @@ pub fn walk_text(walk: Walk, out: &mut ArrayVec<u8, 200>)
 }
 
 /// The same of what `walk` found: the answer, or None where there is no such root.
-#[tactic(auto, unfolding(crate::specs::Lines::found_text))]
+#[tactic(auto, unfolding(crate::specs::ReportLines::found_text))]
 pub fn found_text(found: Option<Walk>, out: &mut ArrayVec<u8, 200>)
     requires { out.old.items ≡ [] }
     ensures { out.new.items ≡ text_of_found found }

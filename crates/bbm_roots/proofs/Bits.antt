@@ -1,21 +1,15 @@
 -- Tests of tags and sets of PEs.
-use Rattle.std.proofs.Common.{◌≡◌, ℕ, zero, suc, ◌<◌, ◌≤◌, Bool, true, false, ◌&&◌, ◌||◌, not, nat_lt, nat_eq, refl, sym, ◌∙◌, ap, arith, IsTrue, ⊎_elim}
+use Rattle.std.proofs.Common.{◌≡◌, ℕ, zero, suc, ◌<◌, ◌≤◌, Bool, true, false, ◌&&◌, ◌||◌, not, nat_lt, nat_eq, refl}
+use Rattle.std.proofs.Common.{sym, ◌∙◌, ap, arith, IsTrue, ⊎_elim}
 use Rattle.std.proofs.lemmas.Bool.{true_from_ne_false, cases_lt, false≢true, lt-ltb, ltb-true, eqb-true, eq-eqb}
 use Rattle.bbm_regimes.specs.declared.regime.Tag.{Tag}
 use Rattle.bbm_regimes.specs.declared.regime.Tag.TheVariants.{El2, Vmid, Asid, Ttbr1}
 use Rattle.bbm_roots.specs.Holds.{some_pe, is_hold}
-use Rattle.bbm_roots.specs.Pendings.{same_flag}
+use Rattle.bbm_roots.specs.RootPendings.{same_flag}
 use Rattle.bbm_roots.specs.Readings.{same_tag}
 use Rattle.bbm_roots.specs.declared.hold.Held.{Held}
-
-pub or-left : (a b : Bool) → (a || b) ≡ false → a ≡ false
-or-left true b e = e
-or-left false b e = refl
-
-pub or-right : (a b : Bool) → (a || b) ≡ false → b ≡ false
-or-right true true e = e
-or-right true false e = refl
-or-right false b e = e
+use mathlib.Core.Bool.{and-true, and-false}
+use Rattle.bbm_lemmas.proofs.Bools.{first_none, second_none, first_true}
 
 -- no PE below n passes
 pub none_below : (n : ℕ) (test : ℕ → Bool) → ((p : ℕ) → p < n → test p ≡ false) → some_pe n test ≡ false
@@ -26,19 +20,11 @@ none_below (suc n) test h =
 pub none_at : (n : ℕ) (test : ℕ → Bool) (p : ℕ) → some_pe n test ≡ false → p < n → test p ≡ false
 none_at zero test p e lt = absurd (omega arith)
 none_at (suc n) test p e lt =
-    ⊎_elim (λ (less : p < n). none_at n test p (or-right (test n) (some_pe n test) e) less)
+    ⊎_elim (λ (less : p < n). none_at n test p (second_none (test n) (some_pe n test) e) less)
     (λ (last : n ≤ p).
     let same : p ≡ n = omega arith in
-    ap test same ∙ or-left (test n) (some_pe n test) e)
+    ap test same ∙ first_none (test n) (some_pe n test) e)
     (cases_lt p n)
-
-pub and-true : (b : Bool) → (b && true) ≡ b
-and-true true = refl
-and-true false = refl
-
-pub and-false : (b : Bool) → (b && false) ≡ false
-and-false true = refl
-and-false false = refl
 
 -- whether the common part with the first n PEs is empty
 pub some_pe-empty : (n : ℕ) (test both : ℕ → Bool) (r : Bool) → ((p : ℕ) → both p ≡ (test p && nat_lt p n)) →
@@ -58,22 +44,10 @@ some_pe-empty n test both false same none all =
             ap (λ (b : Bool). b && nat_lt p n) (none_at n test p e (ltb-true p n within))
         by_test false beyond = ap (λ (b : Bool). test p && b) beyond ∙ and-false (test p)
 
-pub or-false : (b : Bool) → (b || false) ≡ b
-or-false true = refl
-or-false false = refl
-
-pub and_left : (a b : Bool) → (a && b) ≡ true → a ≡ true
-and_left true b e = refl
-and_left false b e = e
-
 pub and_right : (a b : Bool) → (a && b) ≡ true → b ≡ true
 and_right true b e = e
 and_right false true e = refl
 and_right false false e = e
-
-pub and_comm : (a b : Bool) → (a && b) ≡ (b && a)
-and_comm true b = sym (and-true b)
-and_comm false b = sym (and-false b)
 
 pub same_flag-true : (a b : Bool) → same_flag a b ≡ true → a ≡ b
 same_flag-true true true e = refl
@@ -102,7 +76,7 @@ same_tag-self Ttbr1 = refl
 
 -- the entry of a tag and a root is its own tag's and root's
 pub hold-tag : (g : Tag) (r : ℕ) (x : Held) → is_hold g r x ≡ true → x.tag ≡ g
-hold-tag g r x e = same_tag-true x.tag g (and_left (same_tag x.tag g) (nat_eq x.root r) e)
+hold-tag g r x e = same_tag-true x.tag g (first_true (same_tag x.tag g) (nat_eq x.root r) e)
 
 pub hold-root : (g : Tag) (r : ℕ) (x : Held) → is_hold g r x ≡ true → x.root ≡ r
 hold-root g r x e = eqb-true x.root r (and_right (same_tag x.tag g) (nat_eq x.root r) e)

@@ -1,11 +1,12 @@
 -- A column of registers at one PE, read and written.
-use Rattle.std.proofs.Common.{◌≡◌, ℕ, ⊎_elim, ◌++◌, ◌+◌, zero, suc, ◌<◌, ◌≤◌, ◌∷◌, [], List, nat_eq, length, set, get_or, take, refl, arith, cond, nat_le, ◌==◌, sym, ◌∙◌, ap, subst}
+use Rattle.std.proofs.Common.{◌≡◌, ℕ, ⊎_elim, ◌++◌, ◌+◌, zero, suc, ◌<◌, ◌≤◌, ◌∷◌, [], List, nat_eq, length, set}
+use Rattle.std.proofs.Common.{get_or, take, refl, arith, cond, nat_le, ◌==◌, sym, ◌∙◌, ap, subst}
 use Rattle.std.proofs.lemmas.Bool.{cases_lt}
 use Rattle.std.proofs.lemmas.Bool.Decides.{nat_tests}
 use Rattle.std.proofs.Math.Dec.{eqb-suc-zero, eqb-zero-suc, eqb-suc-suc}
 use Rattle.arrayvec.specs.ArrayVec.{ArrayVec}
 use Rattle.bbm_roots.specs.Columns.{Column, loads_in}
-use Rattle.bbm_roots.specs.Registers.{newest}
+use Rattle.bbm_roots.specs.RootRegisters.{newest}
 use Rattle.bbm_roots.specs.declared.load.Load.{Load}
 
 pub loads_in-get_or : (vs : Column) (p : ℕ) (d : ArrayVec Load) → p < length vs → loads_in vs p ≡ (get_or vs p d).items

@@ -1,5 +1,6 @@
 -- What the entries say of the roots that hold tags is what the calls say.
-use Rattle.std.proofs.Common.{◌≡◌, ℕ, zero, suc, ◌<◌, ◌≤◌, ⊎_elim, Option, Some, None, Bool, true, false, ◌&&◌, ◌||◌, nat_eq, List, [], ◌∷◌, refl, sym, ◌∙◌, ap}
+use Rattle.std.proofs.Common.{◌≡◌, ℕ, zero, suc, ◌<◌, ◌≤◌, ⊎_elim, Option, Some, None, Bool, true, false, ◌&&◌, ◌||◌}
+use Rattle.std.proofs.Common.{nat_eq, List, [], ◌∷◌, refl, sym, ◌∙◌, ap}
 use Rattle.std.specs.List.{list_any}
 use Rattle.indexmap.specs.IndexMap.{IndexMap, get}
 use Rattle.std.proofs.Math.Path.{fun_ext}
@@ -7,15 +8,18 @@ use Rattle.std.proofs.lemmas.Bool.{cases_lt, false≢true, eq-eqb, true_from_ne_
 use Rattle.bbm_regimes.specs.PeMask.{pe_in}
 use Rattle.bbm_regimes.specs.declared.regime.Tag.{Tag}
 use Rattle.bbm_regimes.specs.declared.regime.World.{World}
-use Rattle.bbm_roots.specs.Calls.{Call}
-use Rattle.bbm_roots.specs.Holds.{some_pe, is_hold, hold_in, tag_in, entry_bit, entry_held, tag_key, conflict_in, is_clash, IsCalm}
+use Rattle.bbm_roots.specs.RootCalls.{Call}
+use Rattle.bbm_roots.specs.Holds.{some_pe, is_hold, hold_in, tag_in, entry_bit, entry_held, tag_key, conflict_in}
+use Rattle.bbm_roots.specs.Holds.{is_clash, IsCalm}
 use Rattle.bbm_roots.specs.Readings.{has_reading, has_other, is_reading, is_other}
 use Rattle.bbm_roots.specs.Refusals.{conflicts}
-use Rattle.bbm_roots.specs.Tags.{readings, loses, holds_at, holds_tag}
+use Rattle.bbm_roots.specs.RootTags.{readings, loses, holds_at, holds_tag}
 use Rattle.bbm_roots.specs.declared.hold.Held.{Held}
 use Rattle.bbm_roots.specs.declared.reading.Reading.{Reading}
-use Rattle.bbm_roots.proofs.Bits.{or-left, or-right, none_below, none_at, and-false}
+use Rattle.bbm_roots.proofs.Bits.{none_below, none_at}
 use Rattle.bbm_roots.proofs.Steps.{holds-written}
+use mathlib.Core.Bool.{or_comm, and-false}
+use Rattle.bbm_lemmas.proofs.Bools.{ands_of_last, first_none, second_none}
 
 some_pe-or : (n : ℕ) (f g : ℕ → Bool) → some_pe n (λ p. f p || g p) ≡ (some_pe n f || some_pe n g)
 some_pe-or zero f g = refl
@@ -65,12 +69,6 @@ module _ {S : Type 0} (hs : IndexMap ℕ Held S) where
       split (has_other x.tag x.root seen) (tag_in hs n x.tag x.root) seen
       ∙ turn (has_reading x.tag x.root seen) (has_other x.tag x.root seen) (tag_in hs n x.tag x.root)
     where
-      right : (b d t : Bool) → ((b && t) || (d && t)) ≡ ((b || d) && t)
-      right true d true = refl
-      right true true false = refl
-      right true false false = refl
-      right false d t = refl
-
       swap : (a b c d o t : Bool) → (((a && o) || (b && t)) || ((c && o) || (d && t))) ≡ (((a || c) && o) || ((b || d) && t))
       swap true b c d true t = refl
       swap false true true d true true = refl
@@ -80,10 +78,10 @@ module _ {S : Type 0} (hs : IndexMap ℕ Held S) where
       swap false true false true true false = refl
       swap false true false false true false = refl
       swap false false false d true t = refl
-      swap true b true d false t = right b d t
-      swap true b false d false t = right b d t
-      swap false b true d false t = right b d t
-      swap false b false d false t = right b d t
+      swap true b true d false t = ands_of_last b d t
+      swap true b false d false t = ands_of_last b d t
+      swap false b true d false t = ands_of_last b d t
+      swap false b false d false t = ands_of_last b d t
 
       split : (o t : Bool) (xs : List Reading) →
           list_any (λ y. (is_reading x.tag x.root y && o) || (is_other x.tag x.root y && t)) xs
@@ -116,15 +114,9 @@ module _ {S : Type 0} (world : World) (c : Call) (cs : List Call) (pe : ℕ) (se
 
   pub conflict-is : (x : Reading) → conflict_in hs pes seen x ≡ conflicts world pes (c ∷ cs) pe x
   conflict-is x =
-      ap (λ (b : Bool). has_other x.tag x.root seen && b) (turned (has_reading x.tag x.root seen) (tag_in hs pes x.tag x.root))
+      ap (λ (b : Bool). has_other x.tag x.root seen && b) (or_comm (has_reading x.tag x.root seen) (tag_in hs pes x.tag x.root))
       ∙ ap (λ (b : Bool). has_other x.tag x.root seen && b) (sym (tag-written x.tag x.root))
       ∙ ap (λ (xs : List Reading). has_other x.tag x.root xs && holds_tag world pes (c ∷ cs) x.tag x.root) (sym (here pe (eq-eqb pe pe refl)))
-    where
-      turned : (a b : Bool) → (a || b) ≡ (b || a)
-      turned true true = refl
-      turned true false = refl
-      turned false true = refl
-      turned false false = refl
 
 -- where nothing is in conflict at the first n PEs, and no other PE holds a tag, no tag is to be taken from another root
 pub calm-from : {S : Type 0} (hs : IndexMap ℕ Held S) (n : ℕ) (seen : List Reading) →
@@ -135,7 +127,7 @@ calm-from hs n seen past none g r other =
     let both : (has_reading g r seen || tag_in hs n g r) ≡ false =
     sym (ap (λ (b : Bool). b && (has_reading g r seen || tag_in hs n g r)) other) ∙ none x in
     let no_tag : some_pe n (hold_in hs g r) ≡ false =
-    sym (tag_in-is hs n g r) ∙ or-right (has_reading g r seen) (tag_in hs n g r) both in (
-      or-left (has_reading g r seen) (tag_in hs n g r) both,
+    sym (tag_in-is hs n g r) ∙ second_none (has_reading g r seen) (tag_in hs n g r) both in (
+      first_none (has_reading g r seen) (tag_in hs n g r) both,
       λ p. ⊎_elim (λ (lt : p < n). none_at n (hold_in hs g r) p no_tag lt) (λ (le : n ≤ p). past g r p le) (cases_lt p n),
     )

@@ -1,20 +1,23 @@
 -- The entries of the tags that are held, found by the key of a tag or one after another.
-use Rattle.std.proofs.Common.{◌≡◌, ◌+◌, ◌<◌, ◌≤◌, ℕ, Bool, true, false, ◌&&◌, ◌||◌, not, nat_eq, List, [], ◌∷◌, Option, Some, None, cond, refl, sym, ◌∙◌, ap, take, length}
+use Rattle.std.proofs.Common.{◌≡◌, ◌+◌, ◌<◌, ◌≤◌, ℕ, Bool, true, false, ◌&&◌, ◌||◌, not, nat_eq, List, [], ◌∷◌, Option}
+use Rattle.std.proofs.Common.{Some, None, cond, refl, sym, ◌∙◌, ap, take, length}
 use Rattle.std.specs.List.{list_any, AllByRecursion, IsDistinct, slice_get}
 use Rattle.std.specs.Map.{lookup, keys_of, values_of}
-use Rattle.std.proofs.lemmas.Bool.{false≢true, eqb-true, eq-eqb}
+use Rattle.std.proofs.lemmas.Bool.{false≢true, eqb-true, eq-eqb, or_left, or_right}
 use Rattle.std.proofs.lemmas.List.{take_all}
 use Rattle.std.proofs.lemmas.Option.{get_or_from_slice_get}
 use Rattle.indexmap.specs.IndexMap.{IndexMap, values}
 use Rattle.bbm_regimes.specs.PeMask.{pe_in}
 use Rattle.bbm_regimes.specs.declared.regime.Tag.{Tag}
-use Rattle.bbm_roots.specs.Holds.{is_hold, entry_bit, entry_held, is_held_by, is_held_under, has_hold, hold_in, tag_in, tag_key}
+use Rattle.bbm_roots.specs.Holds.{is_hold, entry_bit, entry_held, is_held_by, is_held_under, has_hold, hold_in, tag_in}
+use Rattle.bbm_roots.specs.Holds.{tag_key}
 use Rattle.bbm_roots.specs.Readings.{same_tag, has_other, is_reading, is_other}
 use Rattle.bbm_roots.specs.declared.hold.Held.{Held}
 use Rattle.bbm_roots.specs.declared.reading.Reading.{Reading}
-use Rattle.bbm_roots.proofs.Bits.{and_left, and_right, or-false, same_tag-true}
-use Rattle.bbm_roots.proofs.Leasts.{or-true, true-or}
+use Rattle.bbm_roots.proofs.Bits.{and_right, same_tag-true}
 use Rattle.bbm_roots.proofs.Lists.{any-next}
+use mathlib.Core.Bool.{or-false}
+use Rattle.bbm_lemmas.proofs.Bools.{first_true}
 
 -- what an entry that a key finds passes, one of the entries does
 found-among : (entry : Option Held → Bool) (test : Held → Bool) → entry None ≡ false → ((x : Held) → entry (Some x) ≡ true → test x ≡ true) →
@@ -24,13 +27,13 @@ found-among entry test none some key (x ∷ xs) e = by_key (found-among entry te
   where
     by_key : (entry (lookup key xs) ≡ true → list_any test (values_of xs) ≡ true) → (b : Bool) →
         entry (cond b (Some x.1) (lookup key xs)) ≡ true → (test x.1 || list_any test (values_of xs)) ≡ true
-    by_key rest true e = or-true (test x.1) (list_any test (values_of xs)) (some x.1 e)
-    by_key rest false e = true-or (test x.1) (list_any test (values_of xs)) (rest e)
+    by_key rest true e = or_left (test x.1) (list_any test (values_of xs)) (some x.1 e)
+    by_key rest false e = or_right (test x.1) (list_any test (values_of xs)) (rest e)
 
 -- a tag that is held has an entry for its root
 pub held-among : {S : Type 0} (hs : IndexMap ℕ Held S) (g : Tag) (r p : ℕ) → hold_in hs g r p ≡ true → has_hold g r (values hs) ≡ true
 held-among hs g r p =
-    found-among (entry_bit g r p) (is_hold g r) refl (λ (x : Held) e. and_left (is_hold g r x) (pe_in x.pes p) e)
+    found-among (entry_bit g r p) (is_hold g r) refl (λ (x : Held) e. first_true (is_hold g r x) (pe_in x.pes p) e)
     (nat_eq (tag_key g)) hs.entries
 
 module _ (n root : ℕ) where
@@ -94,7 +97,7 @@ reading-clash y seen other x = by_case (is_reading x.tag x.root y) refl
     by_case : (b : Bool) → is_reading x.tag x.root y ≡ b → (b && has_other x.tag x.root seen) ≡ b
     by_case false e = refl
     by_case true e =
-        ap (λ (g : Tag). has_other g x.root seen) (sym (same_tag-true y.tag x.tag (and_left (same_tag y.tag x.tag) (nat_eq y.root x.root) e)))
+        ap (λ (g : Tag). has_other g x.root seen) (sym (same_tag-true y.tag x.tag (first_true (same_tag y.tag x.tag) (nat_eq y.root x.root) e)))
         ∙ ap (λ (r : ℕ). has_other y.tag r seen) (sym (eqb-true y.root x.root (and_right (same_tag y.tag x.tag) (nat_eq y.root x.root) e)))
         ∙ other
 

@@ -1,5 +1,6 @@
 -- Tests of the readings of a PE: what the values in front alone give, all values give; and the test by cases.
-use Rattle.std.proofs.Common.{◌≡◌, ℕ, Bool, true, false, ◌&&◌, ◌||◌, ◌==◌, List, [], ◌∷◌, ◌++◌, refl, sym, ◌∙◌, ap, cond, Option, Some, None, is_some}
+use Rattle.std.proofs.Common.{◌≡◌, ℕ, Bool, true, false, ◌&&◌, ◌||◌, ◌==◌, List, [], ◌∷◌, ◌++◌, refl, sym, ◌∙◌, ap}
+use Rattle.std.proofs.Common.{cond, Option, Some, None, is_some}
 use Rattle.std.specs.List.{list_any, flat_map}
 use Rattle.std.proofs.lemmas.List.Folds.{list_any-append}
 use Rattle.bbm_regimes.specs.declared.regime.AsidFrom.{AsidFrom}
@@ -10,12 +11,14 @@ use Rattle.bbm_regimes.specs.declared.regime.Tag.{Tag}
 use Rattle.bbm_regimes.specs.declared.regime.Tag.TheVariants.{El2 as El2Tag, Vmid, Asid, Ttbr1 as Ttbr1Tag}
 use Rattle.bbm_regimes.specs.declared.regime.World.{World}
 use Rattle.bbm_regimes.specs.declared.regime.World.TheVariants.{Hyp, Kernel}
-use Rattle.bbm_roots.specs.Readings.{asid_readings, readings_of, readings_with, own_reading, reading_under, reading_at, tag_of, has_tag, is_of_tag, same_tag, reads_asid, reads_tag, names_some, names_root, names_root_with, numbered}
-use Rattle.bbm_roots.specs.Registers.{newest}
+use Rattle.bbm_roots.specs.Readings.{asid_readings, readings_of, readings_with, own_reading, reading_under, reading_at}
+use Rattle.bbm_roots.specs.Readings.{tag_of, has_tag, is_of_tag, same_tag, reads_asid, reads_tag, names_some}
+use Rattle.bbm_roots.specs.Readings.{names_root, names_root_with, numbered}
+use Rattle.bbm_roots.specs.RootRegisters.{newest}
 use Rattle.bbm_roots.specs.declared.load.Load.{Load}
 use Rattle.bbm_roots.specs.declared.reading.Reading.{Reading}
 use Rattle.bbm_roots.proofs.Lists.{any-weaker}
-use Rattle.bbm_roots.proofs.Bits.{or-false}
+use mathlib.Core.Bool.{and-false, and-true, or-false}
 
 -- a test of what each element gives
 pub any-flat_map : {X Y : Type 0} (t : Y → Bool) (f : X → List Y) (xs : List X) →
@@ -102,14 +105,6 @@ any-same p q h (x ∷ xs) = ap (λ (b : Bool). b || list_any p xs) (h x) ∙ ap 
 any-none : {X : Type 0} (xs : List X) → list_any (λ x. false) xs ≡ false
 any-none [] = refl
 any-none (x ∷ xs) = any-none xs
-
-and-false : (a : Bool) → (a && false) ≡ false
-and-false true = refl
-and-false false = refl
-
-and-true : (a : Bool) → (a && true) ≡ a
-and-true true = refl
-and-true false = refl
 
 -- the readings of a kind have a tag that isn't of the kind nowhere, one that always is where a root is named, and one
 -- with a number where a root is named with it

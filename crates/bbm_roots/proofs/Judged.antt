@@ -1,17 +1,18 @@
 -- The judgement of a register write by the entries is that by the calls.
-use Rattle.std.proofs.Common.{◌≡◌, ℕ, ◌<◌, Bool, true, List, ◌∷◌, Option, None, Result, length, refl, sym, ◌∙◌, ap, cond, subst}
+use Rattle.std.proofs.Common.{◌≡◌, ℕ, ◌<◌, Bool, true, List, ◌∷◌, Option, None, Result, length, refl, sym, ◌∙◌, ap}
+use Rattle.std.proofs.Common.{cond, subst}
 use Rattle.std.proofs.Math.Path.{fun_ext}
 use Rattle.indexmap.specs.IndexMap.{IndexMap}
 use Rattle.bbm_regimes.specs.declared.regime.Reg.{Reg}
 use Rattle.bbm_regimes.specs.declared.regime.Tag.{Tag}
 use Rattle.bbm_regimes.specs.declared.regime.World.{World}
 use Rattle.bbm_regimes.specs.declared.regime.World.TheVariants.{Hyp, Kernel}
-use Rattle.bbm_roots.specs.Calls.{Call, WriteReg}
+use Rattle.bbm_roots.specs.RootCalls.{Call, WriteReg}
 use Rattle.bbm_roots.specs.Holds.{hold_in, conflict_in}
 use Rattle.bbm_roots.specs.Readings.{readings_of}
 use Rattle.bbm_roots.specs.Refusals.{missing_root, conflicts, JudgesWrite}
-use Rattle.bbm_roots.specs.Registers.{register_values, first_reg, second_reg, is_first, is_of_world, load_of}
-use Rattle.bbm_roots.specs.Tags.{holds_at}
+use Rattle.bbm_roots.specs.RootRegisters.{register_values, first_reg, second_reg, is_first, is_of_world, load_of}
+use Rattle.bbm_roots.specs.RootTags.{holds_at}
 use Rattle.bbm_roots.specs.declared.fault.RootFault.{RootFault}
 use Rattle.bbm_roots.specs.declared.hold.Held.{Held}
 use Rattle.bbm_roots.specs.declared.load.Load.{Load}

@@ -1,24 +1,16 @@
 -- The least of what passes a test, where one more thing passes.
 use Rattle.std.proofs.Common.{◌≡◌, Bool, true, false, ◌||◌, Option, Some, None, refl, sym, ◌∙◌, ap, arith}
-use Rattle.std.proofs.lemmas.Bool.{false≢true}
+use Rattle.std.proofs.lemmas.Bool.{false≢true, or_left, or_right}
 use Rattle.bbm_regimes.specs.declared.regime.Tag.{Tag}
 use Rattle.bbm_tlbi_scope.specs.declared.entry.TagSet.{TagSet}
 use Rattle.bbm_tlbi_scope.specs.declared.entry.TagSet.TheVariants.{None as NoTag, One, Many}
 use Rattle.bbm_tlbi_scope.specs.TagSets.{HasTags}
-use Rattle.bbm_roots.specs.Least.{IsLeast, ReadingUpTo}
+use Rattle.bbm_roots.specs.LeastOf.{IsLeast, ReadingUpTo}
 use Rattle.bbm_roots.specs.declared.reading.Reading.{Reading}
 
 pub or-split : (a b : Bool) → (P : Type 0) → (a ≡ true → P) → (b ≡ true → P) → (a || b) ≡ true → P
 or-split true b P f g e = f refl
 or-split false b P f g e = g e
-
-pub or-true : (a b : Bool) → a ≡ true → (a || b) ≡ true
-or-true true b e = refl
-or-true false b e = absurd (false≢true e)
-
-pub true-or : (a b : Bool) → b ≡ true → (a || b) ≡ true
-true-or true b e = refl
-true-or false b e = e
 
 module _ {X : Type 0} (before : X → X → Type 0) where
   pub least-same : (test other : X → Bool) → ((x : X) → other x ≡ test x) → (o : Option X) →
@@ -31,15 +23,15 @@ module _ {X : Type 0} (before : X → X → Type 0) where
         IsLeast before (λ x. test x || hit x) o
     least-miss none None h = λ x. ap (λ (b : Bool). b || hit x) (h x) ∙ none x
     least-miss none (Some x) h =
-        (or-true (test x) (hit x) h.0, λ y e. or-split (test y) (hit y) (before x y) (h.1 y) (λ k. absurd (false≢true (sym (none y) ∙ k))) e)
+        (or_left (test x) (hit x) h.0, λ y e. or-split (test y) (hit y) (before x y) (h.1 y) (λ k. absurd (false≢true (sym (none y) ∙ k))) e)
 
     pub least-keep : (x : X) → IsLeast before test (Some x) → ((y : X) → hit y ≡ true → before x y) →
         IsLeast before (λ y. test y || hit y) (Some x)
-    least-keep x h past = (or-true (test x) (hit x) h.0, λ y e. or-split (test y) (hit y) (before x y) (h.1 y) (past y) e)
+    least-keep x h past = (or_left (test x) (hit x) h.0, λ y e. or-split (test y) (hit y) (before x y) (h.1 y) (past y) e)
 
     pub least-take : (x : X) → hit x ≡ true → ((y : X) → test y ≡ true → before x y) → ((y : X) → hit y ≡ true → before x y) →
         IsLeast before (λ y. test y || hit y) (Some x)
-    least-take x at past other = (true-or (test x) (hit x) at, λ y e. or-split (test y) (hit y) (before x y) (past y) (other y) e)
+    least-take x at past other = (or_right (test x) (hit x) at, λ y e. or-split (test y) (hit y) (before x y) (past y) (other y) e)
 
     pub least-first : (x : X) → hit x ≡ true → IsLeast before test None → ((y : X) → hit y ≡ true → before x y) →
         IsLeast before (λ y. test y || hit y) (Some x)

@@ -1,9 +1,11 @@
 -- Lists changed in place, one element after another, and what a test finds in them.
-use Rattle.std.proofs.Common.{◌≡◌, ℕ, zero, suc, ◌<◌, ◌≤◌, ◌+◌, Bool, true, false, ◌&&◌, ◌||◌, List, [], ◌∷◌, length, take, set, get_or, refl, sym, ◌∙◌, ap, arith}
+use Rattle.std.proofs.Common.{◌≡◌, ℕ, zero, suc, ◌<◌, ◌≤◌, ◌+◌, Bool, true, false, ◌&&◌, ◌||◌, List, [], ◌∷◌, length}
+use Rattle.std.proofs.Common.{take, set, get_or, refl, sym, ◌∙◌, ap, arith}
 use Rattle.std.specs.List.{list_any}
 use Rattle.std.proofs.lemmas.Bool.{false≢true}
 use Rattle.std.proofs.lemmas.List.{take_more_set, get_or-set_other}
 use Rattle.std.proofs.lemmas.List.Folds.{list_any_more, list_any-append}
+use Rattle.bbm_lemmas.proofs.Bools.{ands_of_last}
 
 module _ {X : Type 0} (bit : X → Bool) where
   -- the front of a list whose i-th element was just written
@@ -17,14 +19,6 @@ module _ {X : Type 0} (bit : X → Bool) where
       or-false true = refl
       or-false false = refl
 
-  and-or : (a b c : Bool) → ((a && c) || (b && c)) ≡ ((a || b) && c)
-  and-or true true true = refl
-  and-or true true false = refl
-  and-or true false true = refl
-  and-or true false false = refl
-  and-or false true c = refl
-  and-or false false c = refl
-
   -- each element loses its bit unless c holds
   pub cleared-more : (c : Bool) (now old : List X) (i : ℕ) (d y : X) → i < length now → i < length old →
       get_or now i d ≡ get_or old i d →
@@ -34,7 +28,7 @@ module _ {X : Type 0} (bit : X → Bool) where
       any-take-set now i y in_now
       ∙ ap (λ (b : Bool). b || bit y) front
       ∙ ap (λ (b : Bool). (list_any bit (take i old) && c) || b) (here ∙ ap (λ (x : X). bit x && c) same)
-      ∙ and-or (list_any bit (take i old)) (bit (get_or old i d)) c
+      ∙ ands_of_last (list_any bit (take i old)) (bit (get_or old i d)) c
       ∙ ap (λ (b : Bool). b && c) (sym (list_any_more bit old i d in_old))
 
   module _ (key : X → Bool) where

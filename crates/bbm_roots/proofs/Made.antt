@@ -1,17 +1,19 @@
 -- What roots stand for, with the number of PEs and the world named apart.
-use Rattle.std.proofs.Common.{◌≡◌, ◌<◌, ◌≤◌, ℕ, Bool, true, false, List, [], ◌∷◌, None, nat_eq, length, sym, subst, IsSome}
+use Rattle.std.proofs.Common.{◌≡◌, ◌<◌, ◌≤◌, ℕ, Bool, true, false, List, [], ◌∷◌, None, nat_eq, length, sym, subst}
+use Rattle.std.proofs.Common.{IsSome}
 use Rattle.indexmap.specs.IndexMap.{get, index_map_len}
 use Rattle.bbm_regimes.specs.declared.regime.Reg.{Reg}
 use Rattle.bbm_regimes.specs.declared.regime.Tag.{Tag}
 use Rattle.bbm_regimes.specs.declared.regime.World.{World}
-use Rattle.bbm_roots.specs.Calls.{Call}
+use Rattle.bbm_roots.specs.RootCalls.{Call}
 use Rattle.bbm_roots.specs.Columns.{loads_in}
 use Rattle.bbm_roots.specs.Holds.{hold_in}
-use Rattle.bbm_roots.specs.Pendings.{pending_in}
-use Rattle.bbm_roots.specs.Registers.{at_start, first_reg, second_reg, register_values, is_of_world, kind_of_reg, names_in}
-use Rattle.bbm_roots.specs.Roots.{root_at, roots_of, is_root, are_apart, lock_of}
-use Rattle.bbm_roots.specs.Stands.{Stands, pes_of, world_of}
-use Rattle.bbm_roots.specs.Tags.{holds_at, awaited}
+use Rattle.bbm_roots.specs.RootPendings.{pending_in}
+use Rattle.bbm_roots.specs.RootRegisters.{at_start, first_reg, second_reg, register_values, is_of_world, kind_of_reg}
+use Rattle.bbm_roots.specs.RootRegisters.{names_in}
+use Rattle.bbm_roots.specs.DeclaredRoots.{root_at, roots_of, is_root, are_apart, lock_of}
+use Rattle.bbm_roots.specs.RootsStand.{Stands, pes_of, world_of}
+use Rattle.bbm_roots.specs.RootTags.{holds_at, awaited}
 use Rattle.bbm_roots.specs.declared.roots.Roots.{Roots}
 
 pub record Made (world : World) (pes : ℕ) (roots : Roots) (cs : List Call) : Type 0 where

@@ -1,15 +1,17 @@
 -- The numbers of a list of values: one, or several.
-use Rattle.std.proofs.Common.{◌≡◌, ℕ, ◌<◌, ◌≤◌, Bool, true, false, ◌&&◌, not, nat_eq, nat_lt, List, [], ◌∷◌, Option, Some, None, length, refl, sym, ◌∙◌, ap, cond, arith, ⊎_elim}
-use Rattle.std.proofs.lemmas.Bool.{false≢true, eqb-true, eq-eqb, lt-ltb, ltb-true, cases_lt}
+use Rattle.std.proofs.Common.{◌≡◌, ℕ, ◌<◌, ◌≤◌, Bool, true, false, ◌&&◌, not, nat_eq, nat_lt, List, [], ◌∷◌, Option}
+use Rattle.std.proofs.Common.{Some, None, length, refl, sym, ◌∙◌, ap, cond, arith, ⊎_elim}
+use Rattle.std.proofs.lemmas.Bool.{false≢true, eqb-true, eq-eqb, lt-ltb, ltb-true, cases_lt, or_left}
 use Rattle.bbm_regimes.specs.declared.regime.Reg.{Reg}
-use Rattle.bbm_roots.specs.Calls.{Call, Declare, Retire, WriteReg, Isb, Issue, Complete}
-use Rattle.bbm_roots.specs.Least.{IsLeast, UpTo}
+use Rattle.bbm_roots.specs.RootCalls.{Call, Declare, Retire, WriteReg, Isb, Issue, Complete}
+use Rattle.bbm_roots.specs.LeastOf.{IsLeast, UpTo}
 use Rattle.bbm_roots.specs.Refusals.{is_other_number, other_number}
-use Rattle.bbm_roots.specs.Registers.{register_values, newest, is_that, same_reg, load_of}
-use Rattle.bbm_roots.specs.Tags.{one_number, all_are}
+use Rattle.bbm_roots.specs.RootRegisters.{register_values, newest, is_that, same_reg, load_of}
+use Rattle.bbm_roots.specs.RootTags.{one_number, all_are}
 use Rattle.bbm_roots.specs.declared.load.Load.{Load}
-use Rattle.bbm_roots.proofs.Bits.{or-left, or-right, and_left, and_right}
-use Rattle.bbm_roots.proofs.Leasts.{or-split, or-true}
+use Rattle.bbm_roots.proofs.Bits.{and_right}
+use Rattle.bbm_roots.proofs.Leasts.{or-split}
+use Rattle.bbm_lemmas.proofs.Bools.{first_none, second_none, first_true}
 
 -- the first PE below a number at which a test holds
 pub first-found : (n pes : ℕ) (f : ℕ → Bool) → n < pes → f n ≡ true → ((p : ℕ) → p < n → f p ≡ false) →
@@ -39,24 +41,24 @@ module _ (a : ℕ) where
   all-same [] none = refl
   all-same (l ∷ ls) none =
       ap (λ (b : Bool). b && all_are a ls)
-      (eq-eqb l.number a (sym (not-same a l.number (or-left (is_other_number (Some a) l.number l) (other_number ls (Some a) l.number) (none l.number)))))
-      ∙ all-same ls (λ n. or-right (is_other_number (Some a) n l) (other_number ls (Some a) n) (none n))
+      (eq-eqb l.number a (sym (not-same a l.number (first_none (is_other_number (Some a) l.number l) (other_number ls (Some a) l.number) (none l.number)))))
+      ∙ all-same ls (λ n. second_none (is_other_number (Some a) n l) (other_number ls (Some a) n) (none n))
 
   pub numbers-one : (loads : List Load) → 0 < length loads → ((n : ℕ) → other_number loads (Some a) n ≡ false) → one_number loads ≡ Some a
   numbers-one [] some none = absurd (omega arith)
   numbers-one (l ∷ ls) some none =
       let same : l.number ≡ a =
-      sym (not-same a l.number (or-left (is_other_number (Some a) l.number l) (other_number ls (Some a) l.number) (none l.number))) in
+      sym (not-same a l.number (first_none (is_other_number (Some a) l.number l) (other_number ls (Some a) l.number) (none l.number))) in
       ap (λ (n : ℕ). cond (all_are n ls) (Some n) None) same
       ∙ ap (λ (b : Bool). cond b (Some a) None)
-      (all-same ls (λ n. or-right (is_other_number (Some a) n l) (other_number ls (Some a) n) (none n)))
+      (all-same ls (λ n. second_none (is_other_number (Some a) n l) (other_number ls (Some a) n) (none n)))
 
 the-number : (m : ℕ) (than : Option ℕ) (n : ℕ) (loads : List Load) → all_are m loads ≡ true → other_number loads than n ≡ true → n ≡ m
 the-number m than n [] all e = absurd (false≢true e)
 the-number m than n (l ∷ ls) all e =
     or-split (is_other_number than n l) (other_number ls than n) (n ≡ m)
-    (λ k. sym (eqb-true l.number n (and_left (nat_eq l.number n) (not (is_that than n)) k))
-    ∙ eqb-true l.number m (and_left (nat_eq l.number m) (all_are m ls) all))
+    (λ k. sym (eqb-true l.number n (first_true (nat_eq l.number n) (not (is_that than n)) k))
+    ∙ eqb-true l.number m (first_true (nat_eq l.number m) (all_are m ls) all))
     (the-number m than n ls (and_right (nat_eq l.number m) (all_are m ls) all)) e
 
 left-out : (than : Option ℕ) (n : ℕ) (loads : List Load) → other_number loads than n ≡ true → not (is_that than n) ≡ true
@@ -83,7 +85,7 @@ pub some-number : (loads : List Load) → 0 < length loads → IsLeast UpTo (oth
 some-number [] some none = absurd (omega arith)
 some-number (l ∷ ls) some none =
     false≢true (sym (none l.number)
-    ∙ or-true (is_other_number None l.number l) (other_number ls None l.number)
+    ∙ or_left (is_other_number None l.number l) (other_number ls None l.number)
     (ap (λ (b : Bool). b && true) (eq-eqb l.number l.number refl)))
 
 -- a register has some readable value

@@ -1,24 +1,28 @@
 -- What the entries of unanswered TLBIs say after a filter.
-use Rattle.std.proofs.Common.{◌≡◌, ℕ, Bool, true, false, ◌&&◌, ◌||◌, not, nat_eq, List, [], ◌∷◌, filter, refl, sym, ◌∙◌, ap}
+use Rattle.std.proofs.Common.{◌≡◌, ℕ, Bool, true, false, ◌&&◌, ◌||◌, not, nat_eq, List, [], ◌∷◌, filter, refl, sym, ◌∙◌}
+use Rattle.std.proofs.Common.{ap}
 use Rattle.std.specs.List.{list_any}
 use Rattle.std.proofs.lemmas.Bool.{eqb-true}
 use Rattle.bbm_barriers.specs.Options.{answers}
 use Rattle.bbm_barriers.specs.declared.Dsb.{Dsb}
 use Rattle.bbm_regimes.specs.PeMask.{pe_in}
 use Rattle.bbm_regimes.specs.declared.regime.Tag.{Tag}
-use Rattle.bbm_roots.specs.Pendings.{is_open, is_pending, pending_bit, pending_in, answered_in, answered_bit, is_answered, has_pending, same_flag}
+use Rattle.bbm_roots.specs.RootPendings.{is_open, is_pending, pending_bit, pending_in, answered_in, answered_bit}
+use Rattle.bbm_roots.specs.RootPendings.{is_answered, has_pending, same_flag}
 use Rattle.bbm_roots.specs.Readings.{same_tag}
 use Rattle.std.proofs.lemmas.Map.Views.{any-filter_same}
 use Rattle.bbm_roots.proofs.Lists.{any-none}
-use Rattle.bbm_roots.proofs.Bits.{or-left, or-right, and_left, and_right, and_comm, same_flag-true, same_flag-comm, same_tag-true}
+use Rattle.bbm_roots.proofs.Bits.{and_right, same_flag-true, same_flag-comm, same_tag-true}
 use Rattle.bbm_roots.specs.declared.pending.Pending.{Pending}
+use mathlib.Core.Bool.{and_comm}
+use Rattle.bbm_lemmas.proofs.Bools.{is_none_of_two, first_none, second_none, first_true}
 
 open-same : (issuer : ℕ) (dsb : Dsb) (q : ℕ) (b : Bool) (g : Tag) (p : ℕ) (x : Pending) →
     pending_bit q b g p x ≡ true → is_open issuer dsb x ≡ not (nat_eq q issuer && answers dsb b)
 open-same issuer dsb q b g p x found =
-    let key : is_pending q b g x ≡ true = and_left (is_pending q b g x) (pe_in x.pes p) found in
-    let front : (nat_eq x.issuer q && same_flag x.broadcast b) ≡ true = and_left (nat_eq x.issuer q && same_flag x.broadcast b) (same_tag x.tag g) key in
-    let at : x.issuer ≡ q = eqb-true x.issuer q (and_left (nat_eq x.issuer q) (same_flag x.broadcast b) front) in
+    let key : is_pending q b g x ≡ true = first_true (is_pending q b g x) (pe_in x.pes p) found in
+    let front : (nat_eq x.issuer q && same_flag x.broadcast b) ≡ true = first_true (nat_eq x.issuer q && same_flag x.broadcast b) (same_tag x.tag g) key in
+    let at : x.issuer ≡ q = eqb-true x.issuer q (first_true (nat_eq x.issuer q) (same_flag x.broadcast b) front) in
     let flag : x.broadcast ≡ b = same_flag-true x.broadcast b (and_right (nat_eq x.issuer q) (same_flag x.broadcast b) front) in
     ap (λ (n : ℕ). not (nat_eq n issuer && answers dsb x.broadcast)) at
     ∙ ap (λ (f : Bool). not (nat_eq q issuer && answers dsb f)) flag
@@ -34,13 +38,13 @@ any-open issuer dsb q b g p xs =
 module _ (q : ℕ) (b : Bool) (g : Tag) (x : Pending) (found : is_pending q b g x ≡ true) where
   pub key-issuer : x.issuer ≡ q
   key-issuer =
-      eqb-true x.issuer q (and_left (nat_eq x.issuer q) (same_flag x.broadcast b)
-      (and_left (nat_eq x.issuer q && same_flag x.broadcast b) (same_tag x.tag g) found))
+      eqb-true x.issuer q (first_true (nat_eq x.issuer q) (same_flag x.broadcast b)
+      (first_true (nat_eq x.issuer q && same_flag x.broadcast b) (same_tag x.tag g) found))
 
   pub key-flag : x.broadcast ≡ b
   key-flag =
       same_flag-true x.broadcast b (and_right (nat_eq x.issuer q) (same_flag x.broadcast b)
-      (and_left (nat_eq x.issuer q && same_flag x.broadcast b) (same_tag x.tag g) found))
+      (first_true (nat_eq x.issuer q && same_flag x.broadcast b) (same_tag x.tag g) found))
 
   pub key-tag : x.tag ≡ g
   key-tag = same_tag-true x.tag g (and_right (nat_eq x.issuer q && same_flag x.broadcast b) (same_tag x.tag g) found)
@@ -67,8 +71,8 @@ pub none-answered : (q : ℕ) (dsb : Dsb) (g : Tag) (p : ℕ) (xs : List Pending
     list_any (is_answered q dsb) xs ≡ false → answered_in xs q dsb g p ≡ false
 none-answered q dsb g p xs none =
     any-none (answered_bit q dsb g p) (is_answered q dsb)
-    (λ (x : Pending) e. and_left (is_answered q dsb x) (same_tag x.tag g)
-    (and_left (is_answered q dsb x && same_tag x.tag g) (pe_in x.pes p) e)) xs none
+    (λ (x : Pending) e. first_true (is_answered q dsb x) (same_tag x.tag g)
+    (first_true (is_answered q dsb x && same_tag x.tag g) (pe_in x.pes p) e)) xs none
 
 pub all-open : (issuer : ℕ) (dsb : Dsb) (q : ℕ) (b : Bool) (g : Tag) (p : ℕ) (xs : List Pending) →
     list_any (is_answered issuer dsb) xs ≡ false →
@@ -76,8 +80,8 @@ pub all-open : (issuer : ℕ) (dsb : Dsb) (q : ℕ) (b : Bool) (g : Tag) (p : �
 all-open issuer dsb q b g p [] none = refl
 all-open issuer dsb q b g p (x ∷ xs) none =
     by_bit (pending_bit q b g p x) (not (nat_eq q issuer && answers dsb b)) (pending_in xs q b g p)
-    (λ found. sym (open-same issuer dsb q b g p x found) ∙ ap not (or-left (is_answered issuer dsb x) (list_any (is_answered issuer dsb) xs) none))
-    (all-open issuer dsb q b g p xs (or-right (is_answered issuer dsb x) (list_any (is_answered issuer dsb) xs) none))
+    (λ found. sym (open-same issuer dsb q b g p x found) ∙ ap not (first_none (is_answered issuer dsb x) (list_any (is_answered issuer dsb) xs) none))
+    (all-open issuer dsb q b g p xs (second_none (is_answered issuer dsb x) (list_any (is_answered issuer dsb) xs) none))
   where
     by_bit : (k o rest : Bool) → (k ≡ true → o ≡ true) → rest ≡ (rest && o) → (k || rest) ≡ ((k || rest) && o)
     by_bit true o rest f e = sym (f refl)
@@ -87,13 +91,7 @@ all-open issuer dsb q b g p (x ∷ xs) none =
 pub answered-split : (q : ℕ) (dsb : Dsb) (g : Tag) (p : ℕ) (xs : List Pending) →
     answered_in xs q dsb g p
     ≡ ((answers dsb true && pending_in xs q true g p) || (answers dsb false && pending_in xs q false g p))
-answered-split q dsb g p [] = none (answers dsb true) (answers dsb false)
-  where
-    none : (a b : Bool) → false ≡ ((a && false) || (b && false))
-    none true true = refl
-    none true false = refl
-    none false true = refl
-    none false false = refl
+answered-split q dsb g p [] = is_none_of_two (answers dsb true) (answers dsb false)
 answered-split q dsb g p (x ∷ xs) =
     by_flag x.broadcast (nat_eq x.issuer q) (same_tag x.tag g) (pe_in x.pes p)
     (pending_in xs q true g p) (pending_in xs q false g p) (answered_in xs q dsb g p) (answered-split q dsb g p xs)
@@ -131,8 +129,8 @@ pub entry-there : (q issuer : ℕ) (flag b takes : Bool) (g : Tag) (xs : List Pe
     (nat_eq q issuer && same_flag flag b && takes) ≡ true → (takes ≡ true → has_pending issuer flag g xs ≡ true) →
     has_pending q b g xs ≡ true
 entry-there q issuer flag b takes g xs key there =
-    let front : (nat_eq q issuer && same_flag flag b) ≡ true = and_left (nat_eq q issuer && same_flag flag b) takes key in
-    ap (λ (n : ℕ). has_pending n b g xs) (eqb-true q issuer (and_left (nat_eq q issuer) (same_flag flag b) front))
+    let front : (nat_eq q issuer && same_flag flag b) ≡ true = first_true (nat_eq q issuer && same_flag flag b) takes key in
+    ap (λ (n : ℕ). has_pending n b g xs) (eqb-true q issuer (first_true (nat_eq q issuer) (same_flag flag b) front))
     ∙ ap (λ (f : Bool). has_pending issuer f g xs)
     (sym (same_flag-true flag b (and_right (nat_eq q issuer) (same_flag flag b) front)))
     ∙ there (and_right (nat_eq q issuer && same_flag flag b) takes key)

@@ -1,10 +1,12 @@
 -- The list of the declared roots: found, put in front, and taken out.
-use Rattle.std.proofs.Common.{◌≡◌, ℕ, ◌+◌, Bool, true, false, not, ◌&&◌, ◌||◌, nat_eq, List, [], ◌∷◌, Option, Some, None, find, length, cond, refl, sym, ◌∙◌, ap, subst, IsSome, arith}
+use Rattle.std.proofs.Common.{◌≡◌, ℕ, ◌+◌, Bool, true, false, not, ◌&&◌, ◌||◌, nat_eq, List, [], ◌∷◌, Option, Some}
+use Rattle.std.proofs.Common.{None, find, length, cond, refl, sym, ◌∙◌, ap, subst, IsSome, arith}
 use Rattle.std.specs.List.{list_any}
-use Rattle.std.proofs.lemmas.Bool.{eqb-true, eq-eqb, false≢true}
-use Rattle.bbm_roots.specs.Roots.{retired, is_at, are_apart, lock_in}
+use Rattle.std.proofs.lemmas.Bool.{eqb-true, eq-eqb, false≢true, not-true}
+use Rattle.bbm_roots.specs.DeclaredRoots.{retired, is_at, are_apart, lock_in}
 use Rattle.bbm_roots.specs.declared.root.Declared.{Declared}
-use Rattle.bbm_roots.proofs.Bits.{or-left, or-right, and_left, and_right}
+use Rattle.bbm_roots.proofs.Bits.{and_right}
+use Rattle.bbm_lemmas.proofs.Bools.{first_none, second_none, first_true}
 
 pub absent-retired : (page : ℕ) (rs : List Declared) → find (is_at page) rs ≡ None → retired page rs ≡ rs
 absent-retired page [] e = refl
@@ -85,8 +87,8 @@ found-page q (x ∷ rs) r e = by_case (nat_eq x.page q) refl e (λ (k : find (is
 out-retired : (page q : ℕ) (rs : List Declared) → list_any (is_at q) rs ≡ false → list_any (is_at q) (retired page rs) ≡ false
 out-retired page q [] e = refl
 out-retired page q (r ∷ rs) e =
-    by_case (nat_eq r.page page) (or-left (nat_eq r.page q) (list_any (is_at q) rs) e)
-    (out-retired page q rs (or-right (nat_eq r.page q) (list_any (is_at q) rs) e))
+    by_case (nat_eq r.page page) (first_none (nat_eq r.page q) (list_any (is_at q) rs) e)
+    (out-retired page q rs (second_none (nat_eq r.page q) (list_any (is_at q) rs) e))
   where
     by_case : (b : Bool) → nat_eq r.page q ≡ false → list_any (is_at q) (retired page rs) ≡ false →
         list_any (is_at q) (cond b (retired page rs) (r ∷ retired page rs)) ≡ false
@@ -102,15 +104,11 @@ gone-retired page (r ∷ rs) = by_case (nat_eq r.page page) refl (gone-retired p
     by_case true at h = h
     by_case false at h = ap (λ (x : Bool). x || list_any (is_at page) (retired page rs)) at ∙ h
 
-not-false : (b : Bool) → not b ≡ true → b ≡ false
-not-false true e = sym e
-not-false false e = refl
-
 pub apart-retired : (page : ℕ) (rs : List Declared) → are_apart rs ≡ true → are_apart (retired page rs) ≡ true
 apart-retired page [] e = refl
 apart-retired page (r ∷ rs) e =
     by_case (nat_eq r.page page)
-    (out-retired page r.page rs (not-false (list_any (is_at r.page) rs) (and_left (not (list_any (is_at r.page) rs)) (are_apart rs) e)))
+    (out-retired page r.page rs (not-true (list_any (is_at r.page) rs) (first_true (not (list_any (is_at r.page) rs)) (are_apart rs) e)))
     (apart-retired page rs (and_right (not (list_any (is_at r.page) rs)) (are_apart rs) e))
   where
     by_case : (b : Bool) → list_any (is_at r.page) (retired page rs) ≡ false → are_apart (retired page rs) ≡ true →
@@ -125,8 +123,8 @@ apart-declared r rs e =
 none-found : (page : ℕ) (rs : List Declared) → list_any (is_at page) rs ≡ false → find (is_at page) rs ≡ None
 none-found page [] e = refl
 none-found page (r ∷ rs) e =
-    ap (λ (b : Bool). cond b (Some r) (find (is_at page) rs)) (or-left (nat_eq r.page page) (list_any (is_at page) rs) e)
-    ∙ none-found page rs (or-right (nat_eq r.page page) (list_any (is_at page) rs) e)
+    ap (λ (b : Bool). cond b (Some r) (find (is_at page) rs)) (first_none (nat_eq r.page page) (list_any (is_at page) rs) e)
+    ∙ none-found page rs (second_none (nat_eq r.page page) (list_any (is_at page) rs) e)
 
 -- one root is taken out
 pub retired-length : (page : ℕ) (rs : List Declared) → are_apart rs ≡ true → IsSome (find (is_at page) rs) →
@@ -139,7 +137,7 @@ retired-length page (r ∷ rs) e f =
     rest at =
         ap (length {A = Declared}) (absent-retired page rs (none-found page rs
         (subst (λ (n : ℕ). list_any (is_at n) rs ≡ false) at
-        (not-false (list_any (is_at r.page) rs) (and_left (not (list_any (is_at r.page) rs)) (are_apart rs) e)))))
+        (not-true (list_any (is_at r.page) rs) (first_true (not (list_any (is_at r.page) rs)) (are_apart rs) e)))))
 
     by_case : (b : Bool) → nat_eq r.page page ≡ b → IsSome (cond b (Some r) (find (is_at page) rs)) →
         (IsSome (find (is_at page) rs) → length (retired page rs) + 1 ≡ length rs) →

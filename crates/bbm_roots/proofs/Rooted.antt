@@ -1,7 +1,8 @@
 -- Readable values name declared roots, and roots that hold tags are declared: what one more call leaves of it.
-use Rattle.std.proofs.Common.{◌≡◌, ℕ, ◌<◌, ◌≤◌, Bool, true, false, ◌&&◌, ◌||◌, not, nat_eq, List, [], ◌∷◌, ◌++◌, Option, Some, None, IsSome, refl, sym, ◌∙◌, ap, cond, subst, ⊎_elim}
+use Rattle.std.proofs.Common.{◌≡◌, ℕ, ◌<◌, ◌≤◌, Bool, true, false, ◌&&◌, ◌||◌, not, nat_eq, List, [], ◌∷◌, ◌++◌, Option}
+use Rattle.std.proofs.Common.{Some, None, IsSome, refl, sym, ◌∙◌, ap, cond, subst, ⊎_elim}
 use Rattle.std.specs.List.{list_any, flat_map}
-use Rattle.std.proofs.lemmas.Bool.{false≢true, eqb-true, cases_lt}
+use Rattle.std.proofs.lemmas.Bool.{false≢true, eqb-true, cases_lt, or_left, or_right}
 use Rattle.std.proofs.lemmas.List.Folds.{list_any-append}
 use Rattle.bbm_regimes.specs.declared.regime.AsidFrom.{AsidFrom}
 use Rattle.bbm_regimes.specs.declared.regime.AsidFrom.TheVariants.{Ttbr0 as FromTtbr0, Ttbr1 as FromTtbr1}
@@ -13,19 +14,22 @@ use Rattle.bbm_regimes.specs.declared.regime.Tag.{Tag}
 use Rattle.bbm_regimes.specs.declared.regime.Tag.TheVariants.{Asid}
 use Rattle.bbm_regimes.specs.declared.regime.World.{World}
 use Rattle.bbm_regimes.specs.declared.regime.World.TheVariants.{Hyp, Kernel}
-use Rattle.bbm_roots.specs.Calls.{Call, WriteReg}
-use Rattle.bbm_roots.specs.Readings.{asid_readings, readings_of, readings_with, own_reading, reading_under, reading_at, tag_of, has_reading, is_reading, same_tag}
+use Rattle.bbm_roots.specs.RootCalls.{Call, WriteReg}
+use Rattle.bbm_roots.specs.Readings.{asid_readings, readings_of, readings_with, own_reading, reading_under, reading_at}
+use Rattle.bbm_roots.specs.Readings.{tag_of, has_reading, is_reading, same_tag}
 use Rattle.bbm_roots.specs.Refusals.{unless_root, missing_root}
-use Rattle.bbm_roots.specs.Registers.{register_values, first_reg, second_reg, is_of_world, same_reg, names_in, names_page, is_that, newest, root_of, load_of, kind_of_reg, uses}
-use Rattle.bbm_roots.specs.Roots.{is_root, is_of_kind, root_at}
-use Rattle.bbm_roots.specs.Tags.{reads, holds_at, holds_tag, loses}
+use Rattle.bbm_roots.specs.RootRegisters.{register_values, first_reg, second_reg, is_of_world, same_reg, names_in}
+use Rattle.bbm_roots.specs.RootRegisters.{names_page, is_that, newest, root_of, load_of, kind_of_reg, uses}
+use Rattle.bbm_roots.specs.DeclaredRoots.{is_root, is_of_kind, root_at}
+use Rattle.bbm_roots.specs.RootTags.{reads, holds_at, holds_tag, loses}
 use Rattle.bbm_roots.specs.declared.load.Load.{Load}
 use Rattle.bbm_roots.specs.declared.reading.Reading.{Reading}
 use Rattle.bbm_roots.specs.declared.root.Declared.{Declared}
-use Rattle.bbm_roots.proofs.Bits.{and_left, and_right, or-left, or-right, none_at}
+use Rattle.bbm_roots.proofs.Bits.{and_right, none_at}
 use Rattle.bbm_roots.proofs.Flat.{any-flat_map}
-use Rattle.bbm_roots.proofs.Leasts.{or-split, or-true, true-or}
+use Rattle.bbm_roots.proofs.Leasts.{or-split}
 use Rattle.bbm_roots.proofs.Lists.{any-weaker}
+use Rattle.bbm_lemmas.proofs.Bools.{first_true, first_none, second_none}
 
 -- a register of the world is its first or its second
 pub by_register : (world : World) (reg : Reg) (P : Reg → Type 0) → P (first_reg world) → P (second_reg world) →
@@ -51,7 +55,7 @@ second-of_world (Kernel w) = refl
 pub names-isb : (b : Bool) (xs : List Load) (page : ℕ) → names_in (cond b (newest xs) xs) page ≡ true → names_in xs page ≡ true
 names-isb true [] page e = e
 names-isb true (x ∷ xs) page e =
-    or-true (names_page page x) (names_in xs page)
+    or_left (names_page page x) (names_in xs page)
     (or-split (names_page page x) false (names_page page x ≡ true) (λ k. k) (λ k. absurd (false≢true k)) e)
 names-isb false xs page e = e
 
@@ -84,7 +88,7 @@ both-named : (g : Tag) (r : ℕ) (ls bs : List Reading) (xs ys : List Load) → 
     (has_reading g r bs ≡ true → names_in ys r ≡ true) → has_reading g r (ls ++ bs) ≡ true → (names_in xs r || names_in ys r) ≡ true
 both-named g r ls bs xs ys f h e =
     or-split (has_reading g r ls) (has_reading g r bs) ((names_in xs r || names_in ys r) ≡ true)
-    (λ k. or-true (names_in xs r) (names_in ys r) (f k)) (λ k. true-or (names_in xs r) (names_in ys r) (h k))
+    (λ k. or_left (names_in xs r) (names_in ys r) (f k)) (λ k. or_right (names_in xs r) (names_in ys r) (h k))
     (sym (list_any-append (is_reading g r) ls bs) ∙ e)
 
 pub reading-named : (world : World) (g : Tag) (r : ℕ) (xs ys : List Load) → has_reading g r (readings_of world xs ys) ≡ true →
@@ -114,7 +118,7 @@ holders-next world c cs g r p named kept e =
     (λ k. or-split (names_in (register_values (c ∷ cs) p (first_reg world)) r) (names_in (register_values (c ∷ cs) p (second_reg world)) r)
     (IsSome (root_at (c ∷ cs) r)) (named (first_reg world) (first-of_world world)) (named (second_reg world) (second-of_world world))
     (reading-named world g r (register_values (c ∷ cs) p (first_reg world)) (register_values (c ∷ cs) p (second_reg world)) k))
-    (λ k. kept (and_left (holds_at world cs g r p) (not (loses world c cs g p)) k)) e
+    (λ k. kept (first_true (holds_at world cs g r p) (not (loses world c cs g p)) k)) e
 
 -- a value whose root isn't missing names a declared root
 pub value-named : (cs : List Call) (kind : Kind) (o : Option ℕ) (page : ℕ) → unless_root cs kind o ≡ None → is_that o page ≡ true →
@@ -156,8 +160,8 @@ retired-named world cs page p reg q of_world unused e = by_case (nat_eq page q) 
     by_case : (b : Bool) → nat_eq page q ≡ b → b ≡ false
     by_case true at =
         absurd (false≢true (sym (by_register world reg (λ r. names_in (register_values cs p r) page ≡ false)
-        (or-left (names_in (register_values cs p (first_reg world)) page) (names_in (register_values cs p (second_reg world)) page) unused)
-        (or-right (names_in (register_values cs p (first_reg world)) page) (names_in (register_values cs p (second_reg world)) page) unused)
+        (first_none (names_in (register_values cs p (first_reg world)) page) (names_in (register_values cs p (second_reg world)) page) unused)
+        (second_none (names_in (register_values cs p (first_reg world)) page) (names_in (register_values cs p (second_reg world)) page) unused)
         of_world)
         ∙ ap (λ (n : ℕ). names_in (register_values cs p reg) n) (eqb-true page q at) ∙ e))
     by_case false at = refl

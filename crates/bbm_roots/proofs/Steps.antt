@@ -1,6 +1,7 @@
 -- What one more call does to the tags that are held and to the TLBIs that are awaited.
-use Rattle.std.proofs.Common.{◌≡◌, ℕ, Bool, true, false, ◌&&◌, ◌||◌, not, nat_eq, List, [], ◌∷◌, ◌++◌, refl, sym, ◌∙◌, ap, Option}
-use Rattle.std.proofs.lemmas.Bool.{false≢true}
+use Rattle.std.proofs.Common.{◌≡◌, ℕ, Bool, true, false, ◌&&◌, ◌||◌, not, nat_eq, List, [], ◌∷◌, ◌++◌, refl, sym, ◌∙◌}
+use Rattle.std.proofs.Common.{ap, Option}
+use Rattle.std.proofs.lemmas.Bool.{false≢true, not-true}
 use Rattle.bbm_barriers.specs.Options.{answers}
 use Rattle.bbm_barriers.specs.declared.Dsb.{Dsb}
 use Rattle.bbm_regimes.specs.declared.regime.AsidFrom.{AsidFrom}
@@ -9,15 +10,17 @@ use Rattle.bbm_regimes.specs.declared.regime.Tag.{Tag}
 use Rattle.bbm_regimes.specs.declared.regime.World.{World}
 use Rattle.bbm_regimes.specs.declared.regime.World.TheVariants.{Hyp, Kernel}
 use Rattle.bbm_tlbi_scope.specs.declared.scope.Scope.{Scope}
-use Rattle.bbm_tlbi_scope.specs.Tags.{takes_whole_tag}
-use Rattle.bbm_roots.specs.Calls.{Call, Complete, Issue}
-use Rattle.bbm_roots.specs.Pendings.{same_flag}
+use Rattle.bbm_tlbi_scope.specs.ScopeTags.{takes_whole_tag}
+use Rattle.bbm_roots.specs.RootCalls.{Call, Complete, Issue}
+use Rattle.bbm_roots.specs.RootPendings.{same_flag}
 use Rattle.bbm_roots.specs.Readings.{asid_readings, has_reading, has_tag, is_reading, is_of_tag, same_tag}
-use Rattle.bbm_roots.specs.Registers.{at_start}
-use Rattle.bbm_roots.specs.Tags.{readings, reads, reads_for_some, awaited, loses, holds_at, issues, answered_by}
+use Rattle.bbm_roots.specs.RootRegisters.{at_start}
+use Rattle.bbm_roots.specs.RootTags.{readings, reads, reads_for_some, awaited, loses, holds_at, issues, answered_by}
 use Rattle.bbm_roots.specs.declared.reading.Reading.{Reading}
 use Rattle.bbm_roots.proofs.Lists.{any-weaker}
-use Rattle.bbm_roots.proofs.Bits.{and_left, and_right, and-true, and-false}
+use Rattle.bbm_roots.proofs.Bits.{and_right}
+use mathlib.Core.Bool.{and-true, and-false}
+use Rattle.bbm_lemmas.proofs.Bools.{first_true}
 
 -- where a tag is readable for a root, the root holds it
 pub reads-holds : (world : World) (cs : List Call) (g : Tag) (r p : ℕ) → reads world cs p g r ≡ true →
@@ -33,12 +36,8 @@ reads-holds world (c ∷ cs) g r p e = ap (λ (b : Bool). b || (holds_at world c
 pub reads-some : (world : World) (cs : List Call) (g : Tag) (r p : ℕ) → reads world cs p g r ≡ true →
     reads_for_some world cs p g ≡ true
 reads-some world cs g r p e =
-    any-weaker (is_reading g r) (is_of_tag g) (λ (x : Reading) k. and_left (same_tag x.tag g) (nat_eq x.root r) k)
+    any-weaker (is_reading g r) (is_of_tag g) (λ (x : Reading) k. first_true (same_tag x.tag g) (nat_eq x.root r) k)
     (readings world cs p) e
-
-not-true : (b : Bool) → not b ≡ true → b ≡ false
-not-true true e = sym e
-not-true false e = refl
 
 -- where an answer is awaited, the tag is readable for no root
 pub awaited-unread : (world : World) (cs : List Call) (q : ℕ) (b : Bool) (g : Tag) (p : ℕ) →
@@ -148,7 +147,7 @@ holds-completed world pe dsb cs g r p h t f same all local =
 pub held-before : (world : World) (pe : ℕ) (dsb : Dsb) (cs : List Call) (g : Tag) (r p : ℕ) →
     holds_at world (Complete pe dsb ∷ cs) g r p ≡ true → holds_at world cs g r p ≡ true
 held-before world pe dsb cs g r p e =
-    and_left (holds_at world cs g r p) (not (loses world (Complete pe dsb) cs g p))
+    first_true (holds_at world cs g r p) (not (loses world (Complete pe dsb) cs g p))
     (sym (holds-complete world pe dsb cs g r p) ∙ e)
 
 pub not-before : (world : World) (pe : ℕ) (dsb : Dsb) (cs : List Call) (g : Tag) (r p : ℕ) →

@@ -5,10 +5,11 @@ use Rattle.bbm_regimes.specs.declared.regime.Reg.{Reg}
 use Rattle.bbm_regimes.specs.declared.regime.Reg.TheVariants.{Ttbr0El2, VttbrEl2, Ttbr0El1, Ttbr1El1}
 use Rattle.bbm_regimes.specs.declared.regime.World.{World}
 use Rattle.bbm_regimes.specs.declared.regime.World.TheVariants.{Hyp, Kernel}
-use Rattle.bbm_roots.specs.Calls.{Call, WriteReg}
+use Rattle.bbm_roots.specs.RootCalls.{Call, WriteReg}
 use Rattle.bbm_roots.specs.Readings.{readings_of}
-use Rattle.bbm_roots.specs.Registers.{register_values, first_reg, second_reg, is_first, is_of_world, same_reg, load_of}
-use Rattle.bbm_roots.specs.Tags.{readings}
+use Rattle.bbm_roots.specs.RootRegisters.{register_values, first_reg, second_reg, is_first, is_of_world, same_reg}
+use Rattle.bbm_roots.specs.RootRegisters.{load_of}
+use Rattle.bbm_roots.specs.RootTags.{readings}
 use Rattle.bbm_roots.specs.declared.load.Load.{Load}
 
 -- a register of the world is its first or its second

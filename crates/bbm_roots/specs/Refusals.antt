@@ -8,12 +8,12 @@ use Rattle.bbm_regimes.specs.declared.regime.Reg.{Reg}
 use Rattle.bbm_regimes.specs.declared.regime.Tag.{Tag}
 use Rattle.bbm_regimes.specs.declared.regime.Which.TheVariants.{Values}
 use Rattle.bbm_regimes.specs.declared.regime.World.{World}
-use Rattle.bbm_roots.specs.Calls.{Call}
-use Rattle.bbm_roots.specs.Least.{IsLeast, UpTo, TagUpTo, ReadingUpTo}
+use Rattle.bbm_roots.specs.RootCalls.{Call}
+use Rattle.bbm_roots.specs.LeastOf.{IsLeast, UpTo, TagUpTo, ReadingUpTo}
 use Rattle.bbm_roots.specs.Readings.{has_other}
-use Rattle.bbm_roots.specs.Registers.{kind_of_reg, root_of, is_that}
-use Rattle.bbm_roots.specs.Roots.{is_root}
-use Rattle.bbm_roots.specs.Tags.{readings, holds_tag}
+use Rattle.bbm_roots.specs.RootRegisters.{kind_of_reg, root_of, is_that}
+use Rattle.bbm_roots.specs.DeclaredRoots.{is_root}
+use Rattle.bbm_roots.specs.RootTags.{readings, holds_tag}
 use Rattle.bbm_roots.specs.declared.fault.InUse.TheVariants.{Pe as ByPe, Tag as ByTag}
 use Rattle.bbm_roots.specs.declared.fault.RootFault.{RootFault}
 use Rattle.bbm_roots.specs.declared.fault.RootFault.TheVariants.{NoMemory, Limit, NoRoot, TagConflict, RootInUse}

@@ -1,9 +1,9 @@
 //! The first root of a log, put to use.
 
 ghost use Rattle.std.specs.Prelude.{◌≡◌, true, false, [], ◌∷◌, None, IfOk};
-ghost use Rattle.bbm_roots.specs.Calls as call;
-ghost use Rattle.bbm_roots.specs.Registers.{is_of_world};
-ghost use Rattle.bbm_roots.specs.Stands.{Stands};
+ghost use Rattle.bbm_roots.specs.RootCalls as call;
+ghost use Rattle.bbm_roots.specs.RootRegisters.{is_of_world};
+ghost use Rattle.bbm_roots.specs.RootsStand.{Stands};
 
 use crate::fault::RootFault;
 use crate::roots::Roots;

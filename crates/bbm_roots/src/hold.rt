@@ -7,7 +7,7 @@ ghost use Rattle.indexmap.specs.IndexMap.{get, values};
 ghost use Rattle.bbm_regimes.specs.PeMask.{pe_in};
 ghost use Rattle.bbm_regimes.specs.declared.regime.Tag.{Tag as TheTag};
 ghost use Rattle.bbm_roots.specs.Holds as spec;
-ghost use Rattle.bbm_roots.specs.Pendings.{answered_bit, answered_in};
+ghost use Rattle.bbm_roots.specs.RootPendings.{answered_bit, answered_in};
 ghost use Rattle.bbm_roots.specs.Readings.{same_tag as spec_same_tag, has_reading as spec_has_reading};
 ghost use Rattle.bbm_roots.specs.Readings.{has_tag as spec_has_tag};
 

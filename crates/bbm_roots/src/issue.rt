@@ -4,10 +4,10 @@ ghost use Rattle.std.specs.Prelude.{◌≡◌, ℕ, Bool, ◌&&◌, ◌||◌, no
 ghost use Rattle.bbm_regimes.specs.PeMask.{pe_in};
 ghost use Rattle.bbm_regimes.specs.declared.regime.Tag.{Tag as TheTag};
 ghost use Rattle.bbm_tlbi_scope.specs.Operations.{has_page};
-ghost use Rattle.bbm_tlbi_scope.specs.Tags.{takes_whole_tag};
+ghost use Rattle.bbm_tlbi_scope.specs.ScopeTags.{takes_whole_tag};
 ghost use Rattle.bbm_roots.specs.Columns.{loads_in};
 ghost use Rattle.bbm_roots.specs.Holds.{hold_in};
-ghost use Rattle.bbm_roots.specs.Pendings as spec;
+ghost use Rattle.bbm_roots.specs.RootPendings as spec;
 ghost use Rattle.bbm_roots.specs.Readings.{same_tag as spec_same_tag, reads_tag as spec_reads_tag};
 
 use crate::hold::{Holds, entries, tag_key};

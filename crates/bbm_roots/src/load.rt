@@ -2,7 +2,7 @@
 //! Source: project's own choice, where no other is named.
 
 ghost use Rattle.std.specs.Prelude.{◌≡◌};
-ghost use Rattle.bbm_roots.specs.Registers as spec;
+ghost use Rattle.bbm_roots.specs.RootRegisters as spec;
 
 use bbm_regimes::{Page, Reg, World};
 

@@ -5,7 +5,7 @@ ghost use Rattle.std.specs.List.{list_any};
 ghost use Rattle.bbm_barriers.specs.Options.{answers as dsb_answers};
 ghost use Rattle.bbm_regimes.specs.PeMask.{pe_in};
 ghost use Rattle.bbm_regimes.specs.declared.regime.Tag.{Tag as TheTag};
-ghost use Rattle.bbm_roots.specs.Pendings as spec;
+ghost use Rattle.bbm_roots.specs.RootPendings as spec;
 ghost use Rattle.bbm_roots.specs.Readings.{has_tag as spec_has_tag};
 
 use crate::reading::{Reading, has_tag};

@@ -6,7 +6,7 @@ ghost use Rattle.std.specs.Prelude.{◌≡◌, ℕ, ◌<◌, ◌≤◌, ◌+◌,
 ghost use Rattle.std.specs.Prelude.{IfOk, OnOk, if◌then◌else◌};
 ghost use Rattle.bbm_regimes.specs.PeMask.{pe_in};
 ghost use Rattle.bbm_roots.specs.Columns.{Column, loads_in};
-ghost use Rattle.bbm_roots.specs.Registers.{at_start, newest};
+ghost use Rattle.bbm_roots.specs.RootRegisters.{at_start, newest};
 
 use crate::load::{self, Load, is_first};
 use crate::reading::{Readings, readings, reads_tag};
@@ -126,8 +126,8 @@ pub struct Registers {
 impl Registers {
     ghost use Rattle.std.specs.Prelude.{not, nat_lt};
     ghost use Rattle.bbm_roots.specs.Readings.{readings_of, reads_tag as spec_reads_tag};
-    ghost use Rattle.bbm_roots.specs.Least.{IsLeast, UpTo};
-    ghost use Rattle.bbm_roots.specs.Registers.{is_first as spec_is_first, names_in};
+    ghost use Rattle.bbm_roots.specs.LeastOf.{IsLeast, UpTo};
+    ghost use Rattle.bbm_roots.specs.RootRegisters.{is_first as spec_is_first, names_in};
 
     /// The registers of the header's PEs, each with the value 0.
     pub fn new(alloc: Global, header: &Header) -> Result<Registers, NoMemory>

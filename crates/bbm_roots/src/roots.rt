@@ -38,23 +38,23 @@ impl Roots {
     ghost use Rattle.std.specs.Prelude.{nat_eq, ℕ, ◌<◌, ◌≤◌, ◌↔◌, List, [], ◌∷◌, Err, None, length, IsOk, IfOk, OnOk};
     ghost use Rattle.std.specs.Prelude.{OnErr, IfErr, is_some};
     ghost use Rattle.bbm_regimes.specs.PeMask.{pe_in};
-    ghost use Rattle.bbm_roots.specs.Calls as call;
-    ghost use Rattle.bbm_roots.specs.Calls.{Call};
-    ghost use Rattle.bbm_roots.specs.Roots as spec;
+    ghost use Rattle.bbm_roots.specs.RootCalls as call;
+    ghost use Rattle.bbm_roots.specs.RootCalls.{Call};
+    ghost use Rattle.bbm_roots.specs.DeclaredRoots as spec;
     ghost use Rattle.bbm_roots.specs.Columns.{loads_in};
     ghost use Rattle.bbm_roots.specs.Listed.{count_in, nth_in};
     ghost use Rattle.bbm_roots.specs.declared.root.Declared.{Declared as TheRoot};
     ghost use Rattle.bbm_tlbi_scope.specs.TagSets.{HasTags};
     ghost use Rattle.bbm_roots.specs.Holds.{hold_in, has_entry, conflict_in, IsCalm};
-    ghost use Rattle.bbm_roots.specs.Pendings.{pending_in, answered_in};
+    ghost use Rattle.bbm_roots.specs.RootPendings.{pending_in, answered_in};
     ghost use Rattle.bbm_barriers.specs.Options.{answers as dsb_answers};
     ghost use Rattle.bbm_roots.specs.Readings.{has_reading, has_tag, readings_of};
     ghost use Rattle.bbm_roots.specs.Refusals.{missing_root, conflicts, JudgesWrite, JudgesRetire, JudgesVmid};
-    ghost use Rattle.bbm_roots.specs.Registers.{is_first as spec_is_first, is_of_world, register_values, root_of};
-    ghost use Rattle.bbm_roots.specs.Registers.{second_reg, uses};
+    ghost use Rattle.bbm_roots.specs.RootRegisters.{is_first as spec_is_first, is_of_world, register_values, root_of};
+    ghost use Rattle.bbm_roots.specs.RootRegisters.{second_reg, uses};
     ghost use Rattle.bbm_regimes.specs.declared.regime.Tag.{Tag as TheTag};
-    ghost use Rattle.bbm_roots.specs.Tags.{holds_tag, vmid_of};
-    ghost use Rattle.bbm_roots.specs.Stands.{IsReady, Stands, IsPrepared, pes_of, world_of};
+    ghost use Rattle.bbm_roots.specs.RootTags.{holds_tag, vmid_of};
+    ghost use Rattle.bbm_roots.specs.RootsStand.{IsReady, Stands, IsPrepared, pes_of, world_of};
 
     /// The roots of a log with this header before any call. `NoMemory` where there is none.
     pub fn new(alloc: Global, header: &Header) -> Result<Roots, RootFault>

@@ -7,8 +7,8 @@ ghost use Rattle.bbm_roots.specs.declared.reading.Reading.{Reading as TheReading
 ghost use Rattle.bbm_roots.specs.Holds as spec;
 ghost use Rattle.bbm_roots.specs.Readings.{is_other, is_reading, has_other as spec_has_other};
 ghost use Rattle.bbm_roots.specs.Readings.{same_tag as spec_same_tag};
-ghost use Rattle.bbm_roots.specs.Registers.{is_that};
-ghost use Rattle.bbm_roots.specs.Least.{IsLeast, ReadingUpTo, TagUpTo};
+ghost use Rattle.bbm_roots.specs.RootRegisters.{is_that};
+ghost use Rattle.bbm_roots.specs.LeastOf.{IsLeast, ReadingUpTo, TagUpTo};
 
 use crate::hold::{Held, Holds, some_pe, tag_key};
 use crate::reading::{Reading, has_other, tag_rank};

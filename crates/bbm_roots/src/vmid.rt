@@ -1,10 +1,10 @@
 //! The VMID that a PE uses.
 
 ghost use Rattle.std.specs.Prelude.{◌≡◌, ℕ, ◌<◌, Bool, ◌&&◌, ◌||◌, not, nat_eq, length, []};
-ghost use Rattle.bbm_roots.specs.Least.{IsLeast, UpTo};
+ghost use Rattle.bbm_roots.specs.LeastOf.{IsLeast, UpTo};
 ghost use Rattle.bbm_roots.specs.Refusals.{other_number, JudgesVmid};
-ghost use Rattle.bbm_roots.specs.Registers.{is_that};
-ghost use Rattle.bbm_roots.specs.Tags as spec;
+ghost use Rattle.bbm_roots.specs.RootRegisters.{is_that};
+ghost use Rattle.bbm_roots.specs.RootTags as spec;
 
 use crate::fault::Unsynced;
 use crate::load::Load;

@@ -1,5 +1,7 @@
 -- What the rules on fresh pages say of an event that attaches pages, by paths.
-use Rattle.std.proofs.Common.{◌≡◌, ℕ, zero, suc, ◌+◌, ◌-◌, ◌<◌, ◌≤◌, Bool, true, false, not, List, [], ◌∷◌, ◌++◌, length, Option, Some, None, Contains, flat_map, filter_map, map, option_and_then, option_to_list, true≢false, ◌&&◌, ◌==◌, refl, sym, ◌∙◌, ap, subst, inl, inr, arith}
+use Rattle.std.proofs.Common.{◌≡◌, ℕ, zero, suc, ◌+◌, ◌-◌, ◌<◌, ◌≤◌, Bool, true, false, not, List, [], ◌∷◌, ◌++◌}
+use Rattle.std.proofs.Common.{length, Option, Some, None, Contains, flat_map, filter_map, map, option_and_then}
+use Rattle.std.proofs.Common.{option_to_list, true≢false, ◌&&◌, ◌==◌, refl, sym, ◌∙◌, ap, subst, inl, inr, arith}
 use Rattle.std.proofs.lemmas.Bool.{and_from, eq-eqb, not_from_false}
 use Rattle.bbm_regimes.specs.declared.regime.Kind.{Kind}
 use Rattle.bbm_regimes.specs.declared.regime.Kind.TheVariants.{Ttbr0}
@@ -8,9 +10,10 @@ use Rattle.bbm_descriptor.specs.declared.desc.Desc.{Desc}
 use Rattle.bbm_events.specs.Heading.{Heading}
 use Rattle.bbm_events.specs.declared.event.Event.{Event}
 use Rattle.bbm_events.specs.declared.event.Event.TheVariants.{Root, Write}
-use Rattle.bbm_lists.specs.Elements.{In}
-use Rattle.bbm_lists.proofs.Elements.{from_contains, in_left, in_right, none_in, to_filter, to_flat}
-use Rattle.bbm_rules.proofs.ListLemmas.{Apart, Parted, append_none, apart, in_pages, least_none, parted, place_apart, same_place}
+use Rattle.bbm_lemmas.specs.Elements.{In}
+use Rattle.bbm_lemmas.proofs.Elements.{from_contains, in_left, in_right, none_in, to_filter, to_flat}
+use Rattle.bbm_rules.proofs.ListLemmas.{Apart, Parted, append_none, apart, in_pages, least_none, parted, place_apart}
+use Rattle.bbm_rules.proofs.ListLemmas.{same_place}
 use Rattle.bbm_rules.proofs.TreeLaw.{below_fresh, ends_from, one_more, path_to_end, place_of_table, written_by}
 use Rattle.bbm_rules.specs.Attach.{Attached, End, all_ends, attached_by, attached_from, end_at, ends_below, pages_of}
 use Rattle.bbm_rules.specs.Claims.{Trust}
@@ -20,7 +23,8 @@ use Rattle.bbm_rules.specs.Places.{page_of}
 use Rattle.bbm_rules.specs.Notes.{Noted, events_of}
 use Rattle.bbm_rules.specs.Pages.{is_fresh}
 use Rattle.bbm_rules.specs.Roots.{root_pages, same_kind}
-use Rattle.bbm_rules.specs.Rules.{attached_with, bad_ends, global_user, judged_ends, not_fresh, page_in_use, places_with, unfresh, untracked_page, written_with}
+use Rattle.bbm_rules.specs.Rules.{attached_with, bad_ends, global_user, judged_ends, not_fresh, page_in_use}
+use Rattle.bbm_rules.specs.Rules.{places_with, unfresh, untracked_page, written_with}
 use Rattle.bbm_rules.specs.Tree.{Node, next_of, node_of}
 use Rattle.bbm_rules.specs.TreeSentences.{Leads}
 use Rattle.bbm_rules.specs.Values.{places_in, value_of, written_places}

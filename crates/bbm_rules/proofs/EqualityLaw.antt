@@ -10,7 +10,7 @@ use Rattle.bbm_regimes.specs.declared.regime.Tag.TheVariants.{El2, Vmid, Asid, T
 use Rattle.bbm_events.specs.declared.claim.Claim.{Claim}
 use Rattle.bbm_events.specs.declared.claim.Claim.TheVariants.{Place, Two, Taken}
 use Rattle.bbm_rules.specs.Claims.{same_claim, same_tag}
-use Rattle.bbm_rules.specs.Registers.{same_reg}
+use Rattle.bbm_rules.specs.RegisterValues.{same_reg}
 use Rattle.bbm_rules.specs.Roots.{same_kind}
 
 pub same_number : (n : ℕ) → (n == n) ≡ true

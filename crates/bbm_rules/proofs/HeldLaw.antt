@@ -1,13 +1,15 @@
 -- What a place holds is what the sentence says, and a valid value that a place has is held.
-use Rattle.std.proofs.Common.{◌≡◌, ℕ, zero, suc, ◌<◌, ◌%◌, ◌&&◌, Bool, true, false, cond, ◌==◌, List, [], ◌∷◌, ◌++◌, Option, Some, None, option_and_then, refl, sym, ◌∙◌, ap, subst, true≢false, arith}
+use Rattle.std.proofs.Common.{◌≡◌, ℕ, zero, suc, ◌<◌, ◌%◌, ◌&&◌, Bool, true, false, cond, ◌==◌, List, [], ◌∷◌, ◌++◌}
+use Rattle.std.proofs.Common.{Option, Some, None, option_and_then, refl, sym, ◌∙◌, ap, subst, true≢false, arith}
 use Rattle.std.proofs.lemmas.Bool.{and_from, and_parts, eq-eqb, eqb-true, or_from}
-use Rattle.bbm_regimes.specs.EveryPe.{every_pe}
+use Rattle.bbm_lemmas.specs.EveryPe.{every_pe}
 use Rattle.bbm_regimes.specs.declared.regime.Kind.{Kind}
 use Rattle.bbm_descriptor.specs.Descriptor.{is_valid}
 use Rattle.bbm_events.specs.Heading.{Heading}
 use Rattle.bbm_events.specs.declared.event.Event.{Event}
 use Rattle.bbm_events.specs.declared.event.Event.TheVariants.{Init, Write}
-use Rattle.bbm_rules.proofs.HeldLemmas.{Holding, Older, holding, older as older_of, valid_is_odd, uncleansed as left_held}
+use Rattle.bbm_rules.proofs.HeldLemmas.{Holding, Older, holding, older as older_of, valid_is_odd}
+use Rattle.bbm_rules.proofs.HeldLemmas.{uncleansed as left_held}
 use Rattle.bbm_rules.proofs.PatternLaw.{cleansed_complete, cleansed_sound, seen_sound}
 use Rattle.bbm_rules.proofs.Patterns.{cleansed_is_seen, is_write}
 use Rattle.bbm_rules.proofs.SearchLemmas.{none_before, some_finds, some_later}
@@ -19,6 +21,7 @@ use Rattle.bbm_rules.specs.Notes.{Noted, events_of}
 use Rattle.bbm_rules.specs.PatternSentences.{Holds, IsLastValid, Publication, Seen}
 use Rattle.bbm_rules.specs.Places.{page_of}
 use Rattle.bbm_rules.specs.Values.{value_of}
+use mathlib.Core.Bool.{and-false}
 
 -- ---- PEs
 
@@ -35,15 +38,11 @@ not_everywhere : (n p : ℕ) (test : ℕ → Bool) → p < n → test p ≡ fals
 not_everywhere zero p test below e = absurd (omega arith)
 not_everywhere (suc n) p test below e = by (p == n) refl (λ lower. not_everywhere n p test lower e)
   where
-    right : (b : Bool) → (b && false) ≡ false
-    right true = refl
-    right false = refl
-
     by : (b : Bool) → (p == n) ≡ b → (p < n → every_pe n test ≡ false) → (test n && every_pe n test) ≡ false
     by true same before = ap (λ (b : Bool). b && every_pe n test) (sym (ap test (eqb-true p n same)) ∙ e)
     by false other before =
         let apart : p ≡ n → ⊥ = λ i. true≢false (sym (eq-eqb p n i) ∙ other) in
-        ap (λ (b : Bool). test n && b) (before (omega arith)) ∙ right (test n)
+        ap (λ (b : Bool). test n && b) (before (omega arith)) ∙ and-false (test n)
 
 -- ---- the last valid write
 
@@ -227,10 +226,6 @@ module _ (kind : Kind) (level place : ℕ) where
   zero_is_invalid : is_valid kind level 0 ≡ true → ⊥
   zero_is_invalid v = true≢false (sym (valid_is_odd kind level 0 v))
 
-  and_false : (b : Bool) → (b && false) ≡ false
-  and_false true = refl
-  and_false false = refl
-
   live_after : (e : Event) (n : Noted) (h : List Noted) → n.event ≡ e
       → (is_valid kind level (value_of (events_of h) place) ≡ true → Live h)
       → is_valid kind level (value_of (e ∷ events_of h) place) ≡ true
@@ -251,7 +246,7 @@ module _ (kind : Kind) (level place : ℕ) where
           }
       by false there =
           longer (Write pe at value) n h (value_of (Write pe at value ∷ events_of h) place) change
-          (λ q. ap (λ (b : Bool). pe == q && b) there ∙ and_false (pe == q))
+          (λ q. ap (λ (b : Bool). pe == q && b) there ∙ and-false (pe == q))
           (ap (λ (b : Bool). cond (b && is_valid kind level value) (Some (record { value = value; since = [] }))
           (later n (last_valid kind level place h))) there)
           (ap (λ (b : Bool). cond b value (value_of (events_of h) place)) there)

@@ -1,9 +1,10 @@
 -- What `find` finds, lists of numbers, and lists of ends that lie in pages of their own.
-use Rattle.std.proofs.Common.{◌≡◌, ℕ, Bool, true, false, cond, ◌⊎◌, ◌==◌, List, [], ◌∷◌, ◌++◌, Option, Some, None, is_some, find, flat_map, filter_map, refl, sym, ◌∙◌, ap, subst, inl, inr, true≢false}
+use Rattle.std.proofs.Common.{◌≡◌, ℕ, Bool, true, false, cond, ◌⊎◌, ◌==◌, List, [], ◌∷◌, ◌++◌, Option, Some, None}
+use Rattle.std.proofs.Common.{is_some, find, flat_map, filter_map, refl, sym, ◌∙◌, ap, subst, inl, inr, true≢false}
 use Rattle.std.proofs.lemmas.Bool.{eq-eqb, or_left, or_right}
 use Rattle.std.specs.List.{cons_option}
-use Rattle.bbm_lists.specs.Elements.{In}
-use Rattle.bbm_lists.proofs.Elements.{in_left, in_right, to_filter_map, to_flat}
+use Rattle.bbm_lemmas.specs.Elements.{In}
+use Rattle.bbm_lemmas.proofs.Elements.{in_left, in_right, to_filter_map, to_flat}
 use Rattle.bbm_rules.specs.Attach.{End, pages_of}
 use Rattle.bbm_rules.specs.Lists.{among, least, repeated, with_number}
 

@@ -1,7 +1,8 @@
 -- The unanswered TLBIs of a PE are those that no later DSB of it completes.
-use Rattle.std.proofs.Common.{◌≡◌, ℕ, Bool, true, false, cond, ◌&&◌, ◌⊎◌, ◌==◌, List, [], ◌∷◌, ◌++◌, Contains, refl, sym, ◌∙◌, ap, subst, inl, inr, true≢false, not}
-use Rattle.bbm_lists.specs.Elements.{In}
-use Rattle.bbm_lists.proofs.Elements.{from_contains, to_contains}
+use Rattle.std.proofs.Common.{◌≡◌, ℕ, Bool, true, false, cond, ◌&&◌, ◌⊎◌, ◌==◌, List, [], ◌∷◌, ◌++◌, Contains, refl}
+use Rattle.std.proofs.Common.{sym, ◌∙◌, ap, subst, inl, inr, true≢false, not}
+use Rattle.bbm_lemmas.specs.Elements.{In}
+use Rattle.bbm_lemmas.proofs.Elements.{from_contains, to_contains}
 use Rattle.bbm_rules.specs.Prelude.{Barrier, Event, Dsb, Tlbi}
 use Rattle.bbm_rules.specs.Notes.{Noted, event_of}
 use Rattle.bbm_rules.specs.Reach.{Issued, completes, left_open, still_open, unanswered}
@@ -78,10 +79,6 @@ module _ (A : Type 0) (event : A → Event) (q : ℕ) where
       left_kept dsb u ts t (completes dsb (event u.tlbi)) refl (inl same) k
   left_complete dsb (u ∷ ts) t (inr i) k =
       left_kept dsb u ts t (completes dsb (event u.tlbi)) refl (inr (left_complete dsb ts t i k)) k
-
-  and_false : (b c : Bool) → (b ≡ true → c ≡ false) → (b && c) ≡ false
-  and_false true c k = k refl
-  and_false false c k = refl
 
   -- one item more: each TLBI of the list is open
   at_tlbi : (x : A) (h : List A) (ts : List (Issued A)) (t : Issued A) (b : Bool)

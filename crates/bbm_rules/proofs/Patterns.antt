@@ -9,12 +9,13 @@ use Rattle.bbm_events.specs.Heading.{Heading}
 use Rattle.bbm_events.specs.declared.event.Event.{Event}
 use Rattle.bbm_events.specs.declared.event.Event.TheVariants.{Dsb}
 use Rattle.bbm_events.specs.declared.claim.Claim.TheVariants.{Place, Two}
-use Rattle.bbm_lists.proofs.Elements.{any_found, to_contains}
+use Rattle.bbm_lemmas.proofs.Elements.{any_found, to_contains}
 use Rattle.bbm_rules.proofs.OpenLaw.{open_note_sound}
 use Rattle.bbm_rules.proofs.SearchLemmas.{Found, any_weaker, some_found, some_later, some_weaker}
 use Rattle.bbm_rules.specs.Claims.{Trust, allows}
 use Rattle.bbm_rules.specs.Claims.Trust.{Patterns}
-use Rattle.bbm_rules.specs.Cleansing.{answered_where, answers_one, cleansed, flushes, full_step, half, half_where, is_completed, publishes_write, same_cover, second_step, seen, seen_where, writes}
+use Rattle.bbm_rules.specs.Cleansing.{answered_where, answers_one, cleansed, flushes, full_step, half, half_where}
+use Rattle.bbm_rules.specs.Cleansing.{is_completed, publishes_write, same_cover, second_step, seen, seen_where, writes}
 use Rattle.bbm_rules.specs.Notes.{Noted, event_of}
 use Rattle.bbm_rules.specs.Reach.{Issued, completes, reaches, unanswered}
 use Rattle.bbm_rules.specs.Sentences.{Open}

@@ -1,15 +1,18 @@
 -- A page that is repeated among the ends of the paths of attached pages is one in which two different paths end.
-use Rattle.std.proofs.Common.{◌≡◌, ℕ, zero, suc, ◌-◌, ◌≤◌, Bool, true, false, ◌==◌, List, [], ◌∷◌, length, Option, Some, None, option_and_then, is_none, cond, flat_map, map, refl, sym, ◌∙◌, ap, subst, inl, inr, arith, true≢false}
+use Rattle.std.proofs.Common.{◌≡◌, ℕ, zero, suc, ◌-◌, ◌≤◌, Bool, true, false, ◌==◌, List, [], ◌∷◌, length, Option, Some}
+use Rattle.std.proofs.Common.{None, option_and_then, is_none, cond, flat_map, map, refl, sym, ◌∙◌, ap, subst, inl, inr}
+use Rattle.std.proofs.Common.{arith, true≢false}
 use Rattle.std.proofs.lemmas.Bool.{eq-eqb, eqb-true}
 use Rattle.bbm_regimes.specs.declared.regime.Kind.{Kind}
 use Rattle.bbm_events.specs.Heading.{Heading}
 use Rattle.bbm_rules.specs.Prelude.{Event, Root, Write}
-use Rattle.bbm_lists.specs.Elements.{In}
-use Rattle.bbm_lists.proofs.Elements.{from_contains, from_filter, from_flat, to_contains}
+use Rattle.bbm_lemmas.specs.Elements.{In}
+use Rattle.bbm_lemmas.proofs.Elements.{from_contains, from_filter, from_flat, to_contains}
 use Rattle.bbm_rules.proofs.ListLemmas.{Apart}
 use Rattle.bbm_rules.proofs.RootPages.{apart_pages}
 use Rattle.bbm_rules.proofs.TreeLaw.{below_fresh, ends_from, one_more, path_from, path_to_end, place_of_table}
-use Rattle.bbm_rules.proofs.Twice.{InPage, Parts, Twice, apart_places, flat_via, from_repeated, of_flat, of_one, of_two, to_page, to_repeated, twice_each, twice_parts, twice_right, via}
+use Rattle.bbm_rules.proofs.Twice.{InPage, Parts, Twice, apart_places, flat_via, from_repeated, of_flat, of_one, of_two}
+use Rattle.bbm_rules.proofs.Twice.{to_page, to_repeated, twice_each, twice_parts, twice_right, via}
 use Rattle.bbm_rules.specs.Attach.{Attached, End, all_ends, attached_by, attached_from, end_at, ends_below, pages_of}
 use Rattle.bbm_rules.specs.Claims.{Trust}
 use Rattle.bbm_rules.specs.Lists.{among, repeated}

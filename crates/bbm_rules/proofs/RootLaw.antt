@@ -1,10 +1,12 @@
 -- The roots of a history are those that the sentence names, and a page has one at most.
-use Rattle.std.proofs.Common.{◌≡◌, ℕ, Bool, true, false, cond, not, ◌&&◌, ◌==◌, List, [], ◌∷◌, ◌++◌, Option, Some, Contains, find, refl, sym, ◌∙◌, ap, subst, inl, inr, true≢false}
-use Rattle.std.proofs.lemmas.Bool.{and_from, and_parts, eqb-true, false_from_ne_true, not-true, not_from_false, or_from, or_parts}
+use Rattle.std.proofs.Common.{◌≡◌, ℕ, Bool, true, false, cond, not, ◌&&◌, ◌==◌, List, [], ◌∷◌, ◌++◌, Option, Some}
+use Rattle.std.proofs.Common.{Contains, find, refl, sym, ◌∙◌, ap, subst, inl, inr, true≢false}
+use Rattle.std.proofs.lemmas.Bool.{and_from, and_parts, eqb-true, false_from_ne_true, not-true, not_from_false, or_from}
+use Rattle.std.proofs.lemmas.Bool.{or_parts}
 use Rattle.bbm_rules.specs.Prelude.{Kind, Event, Root, Unroot}
 use Rattle.bbm_rules.proofs.EqualityLaw.{kind_equal, kind_self, same_number}
-use Rattle.bbm_lists.specs.Elements.{In}
-use Rattle.bbm_lists.proofs.Elements.{any_finds, any_found, from_contains, from_filter, to_contains, to_filter}
+use Rattle.bbm_lemmas.specs.Elements.{In}
+use Rattle.bbm_lemmas.proofs.Elements.{any_finds, any_found, from_contains, from_filter, to_contains, to_filter}
 use Rattle.bbm_rules.proofs.ListLemmas.{found}
 use Rattle.bbm_rules.proofs.SearchLemmas.{is_none_at, none_at}
 use Rattle.bbm_rules.specs.Lists.{any}

@@ -1,11 +1,13 @@
 -- The pages of a root: their nodes, and that no page has two.
-use Rattle.std.proofs.Common.{◌≡◌, ℕ, zero, suc, ◌+◌, ◌*◌, ◌<◌, ◌≤◌, Bool, true, false, cond, List, [], ◌∷◌, Contains, refl, sym, ◌∙◌, ap, subst, inl, inr, arith}
+use Rattle.std.proofs.Common.{◌≡◌, ℕ, zero, suc, ◌+◌, ◌*◌, ◌<◌, ◌≤◌, Bool, true, false, cond, List, [], ◌∷◌, Contains}
+use Rattle.std.proofs.Common.{refl, sym, ◌∙◌, ap, subst, inl, inr, arith}
 use Rattle.bbm_regimes.specs.declared.regime.Kind.{Kind}
 use Rattle.bbm_events.specs.Heading.{Heading}
 use Rattle.bbm_rules.proofs.ListLemmas.{Apart}
-use Rattle.bbm_lists.specs.Elements.{In}
-use Rattle.bbm_lists.proofs.Elements.{from_contains, to_contains}
-use Rattle.bbm_rules.specs.Roots.{Declared, first_input_page, input_pages, kind_in_world, page_count, pages_from, root_pages, start_of}
+use Rattle.bbm_lemmas.specs.Elements.{In}
+use Rattle.bbm_lemmas.proofs.Elements.{from_contains, to_contains}
+use Rattle.bbm_rules.specs.Roots.{Declared, first_input_page, input_pages, kind_in_world, page_count, pages_from}
+use Rattle.bbm_rules.specs.Roots.{root_pages, start_of}
 use Rattle.bbm_rules.specs.Tree.{Node, nodes_of_pages, nodes_of_root}
 
 -- what each node of the pages has

@@ -22,7 +22,7 @@ use Rattle.bbm_rules.specs.Outcome.{is_too_long, limit_after, limit_at, outcome_
 use Rattle.bbm_rules.specs.Outcome.{slow_limits, step_of, text_of, too_long_at, verdict_of_bytes}
 use Rattle.bbm_rules.specs.Pages.{initialised}
 use Rattle.bbm_rules.specs.Prelude.{Init, Msr, Root}
-use Rattle.bbm_rules.specs.Registers.{register_values}
+use Rattle.bbm_rules.specs.RegisterValues.{register_values}
 use Rattle.bbm_rules.specs.Roots.{roots_of}
 
 -- one line says the same under both, or reaches the limit of events under the second

@@ -1,8 +1,9 @@
 -- What a search finds, and that it finds what is there; later items keep what it found.
-use Rattle.std.proofs.Common.{◌≡◌, Bool, true, false, List, [], ◌∷◌, ◌++◌, refl, sym, ◌∙◌, ap, subst, inl, inr, true≢false}
+use Rattle.std.proofs.Common.{◌≡◌, Bool, true, false, List, [], ◌∷◌, ◌++◌, refl, sym, ◌∙◌, ap, subst, inl, inr}
+use Rattle.std.proofs.Common.{true≢false}
 use Rattle.std.proofs.lemmas.Bool.{or_cases, or_left, or_right, or_from}
-use Rattle.bbm_lists.specs.Elements.{In}
-use Rattle.bbm_lists.proofs.Elements.{any_finds, any_found, in_split, is_none_of, none_of, split_in}
+use Rattle.bbm_lemmas.specs.Elements.{In}
+use Rattle.bbm_lemmas.proofs.Elements.{any_finds, any_found, in_split, is_none_of, none_of, split_in}
 use Rattle.bbm_rules.specs.Lists.{any, some}
 
 -- where none of the newer items passes, in the words of a sentence

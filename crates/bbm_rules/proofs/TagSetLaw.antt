@@ -1,15 +1,17 @@
 -- The list of the tags that a root holds has each of them once, so the tag set says whether there is none, one or more.
-use Rattle.std.proofs.Common.{◌≡◌, ℕ, Bool, true, false, cond, not, ◌&&◌, ◌==◌, List, [], ◌∷◌, filter, filter_map, flat_map, Some, refl, sym, ◌∙◌, ap, subst, inl, inr, true≢false}
+use Rattle.std.proofs.Common.{◌≡◌, ℕ, Bool, true, false, cond, not, ◌&&◌, ◌==◌, List, [], ◌∷◌, filter, filter_map}
+use Rattle.std.proofs.Common.{flat_map, Some, refl, sym, ◌∙◌, ap, subst, inl, inr, true≢false}
 use Rattle.std.proofs.lemmas.Bool.{and_parts, false_from_ne_true, or_cases}
 use Rattle.bbm_tlbi_scope.specs.declared.entry.TagSet.TheVariants.{None as NoTag, One, Many}
 use Rattle.bbm_rules.specs.Prelude.{Tag, Heading, Event}
 use Rattle.bbm_rules.proofs.EqualityLaw.{tag_equal, tag_self}
-use Rattle.bbm_lists.specs.Elements.{In}
-use Rattle.bbm_lists.proofs.Elements.{any_finds, any_found, from_filter, in_left, in_right, to_filter, to_filter_map}
-use Rattle.bbm_lists.proofs.Elements.{to_flat}
+use Rattle.bbm_lemmas.specs.Elements.{In}
+use Rattle.bbm_lemmas.proofs.Elements.{any_finds, any_found, from_filter, in_left, in_right, to_filter, to_filter_map}
+use Rattle.bbm_lemmas.proofs.Elements.{to_flat}
 use Rattle.bbm_rules.specs.Claims.{Trust, same_tag}
 use Rattle.bbm_rules.specs.Lists.{any, below, if_so}
-use Rattle.bbm_rules.specs.Tags.{Reading, distinct, ever_read, holds_at, holds_tag, loses, readings, reads, tag_set, tag_for, tags_of}
+use Rattle.bbm_rules.specs.Tags.{Reading, distinct, ever_read, holds_at, holds_tag, loses, readings, reads, tag_set}
+use Rattle.bbm_rules.specs.Tags.{tag_for, tags_of}
 
 -- ---- a list with each tag once
 

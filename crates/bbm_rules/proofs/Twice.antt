@@ -1,8 +1,9 @@
 -- Pages in which two ends of a list lie.
-use Rattle.std.proofs.Common.{◌≡◌, ℕ, ◌⊎◌, Bool, true, false, cond, ◌==◌, List, [], ◌∷◌, ◌++◌, Option, Some, None, filter, flat_map, filter_map, refl, sym, ◌∙◌, ap, subst, inl, inr, true≢false}
+use Rattle.std.proofs.Common.{◌≡◌, ℕ, ◌⊎◌, Bool, true, false, cond, ◌==◌, List, [], ◌∷◌, ◌++◌, Option, Some, None}
+use Rattle.std.proofs.Common.{filter, flat_map, filter_map, refl, sym, ◌∙◌, ap, subst, inl, inr, true≢false}
 use Rattle.std.proofs.lemmas.Bool.{eqb-true}
-use Rattle.bbm_lists.specs.Elements.{In}
-use Rattle.bbm_lists.proofs.Elements.{any_found, from_filter, from_flat, in_append, in_left, in_right}
+use Rattle.bbm_lemmas.specs.Elements.{In}
+use Rattle.bbm_lemmas.proofs.Elements.{any_found, from_filter, from_flat, in_append, in_left, in_right}
 use Rattle.bbm_rules.proofs.ListLemmas.{Apart, among_in, in_pages, from_pages}
 use Rattle.bbm_rules.specs.Prelude.{Event, Write}
 use Rattle.bbm_rules.specs.Attach.{End, pages_of}

@@ -1,7 +1,7 @@
 -- What the rules trust: every pattern of events that is there, or the patterns that a certificate names.
 -- Source: project's own choice.
 use Rattle.std.specs.Prelude.{Bool, true, false, ◌&&◌, ◌==◌, List}
-pub use Rattle.bbm_regimes.specs.Same.{same_tag}
+pub use Rattle.bbm_regimes.specs.SameRegister.{same_tag}
 use Rattle.bbm_events.specs.declared.claim.Claim.{Claim}
 use Rattle.bbm_events.specs.declared.claim.Claim.TheVariants.{Place, Two, Taken}
 use Rattle.bbm_rules.specs.Lists.{any}

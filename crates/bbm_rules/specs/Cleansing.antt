@@ -6,7 +6,7 @@
 use Rattle.std.specs.Prelude.{ℕ, Bool, true, false, ◌&&◌, ◌||◌, ◌==◌, List}
 use Rattle.bbm_tlbi_scope.specs.declared.entry.Cover.{Cover}
 use Rattle.bbm_tlbi_scope.specs.declared.entry.Cover.TheVariants.{Half, Second, Full}
-pub use Rattle.bbm_tlbi_scope.specs.Same.{same_cover}
+pub use Rattle.bbm_tlbi_scope.specs.SameCover.{same_cover}
 use Rattle.bbm_rules.specs.Prelude.{Barrier, Heading, Event, Write, Dsb}
 use Rattle.bbm_events.specs.declared.claim.Claim.TheVariants.{Place, Two}
 use Rattle.bbm_rules.specs.Claims.{Trust, allows}

@@ -6,7 +6,7 @@ use Rattle.bbm_rules.specs.Prelude.{Kind, Heading, Event, Init, Write}
 use Rattle.bbm_rules.specs.Claims.{Trust}
 use Rattle.bbm_rules.specs.Cleansing.{cleansed}
 use Rattle.bbm_rules.specs.Notes.{Noted}
-use Rattle.bbm_regimes.specs.EveryPe.{every_pe}
+use Rattle.bbm_lemmas.specs.EveryPe.{every_pe}
 use Rattle.bbm_rules.specs.Lists.{◌>>=◌}
 use Rattle.bbm_rules.specs.Places.{page_of}
 

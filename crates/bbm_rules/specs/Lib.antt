@@ -18,7 +18,7 @@ pub mod Phases
 pub mod Places
 pub mod Prelude
 pub mod Reach
-pub mod Registers
+pub mod RegisterValues
 pub mod Roots
 pub mod Rules
 pub mod Sentences

@@ -6,7 +6,7 @@ use Rattle.bbm_regimes.specs.declared.regime.Which.TheVariants.{Pages, Roots, Va
 use Rattle.bbm_rules.specs.Prelude.{Event, Init, Root, Msr}
 use Rattle.bbm_rules.specs.Pages.{initialised}
 use Rattle.bbm_rules.specs.Lists.{among, if_so}
-use Rattle.bbm_rules.specs.Registers.{register_values}
+use Rattle.bbm_rules.specs.RegisterValues.{register_values}
 use Rattle.bbm_rules.specs.Roots.{roots_of}
 
 -- The limit that an event reaches after a history, or none: an init of a page that was never initialised before, after

@@ -12,7 +12,7 @@ pub use Rattle.bbm_regimes.specs.declared.regime.HypWorld.{HypWorld}
 pub use Rattle.bbm_regimes.specs.declared.regime.KernelWorld.{KernelWorld}
 pub use Rattle.bbm_regimes.specs.declared.regime.World.{World}
 pub use Rattle.bbm_regimes.specs.declared.regime.World.TheVariants.{Hyp, Kernel}
-pub use Rattle.bbm_regimes.specs.Same.{kind_of_reg, same_kind, same_reg, same_tag}
+pub use Rattle.bbm_regimes.specs.SameRegister.{kind_of_reg, same_kind, same_reg, same_tag}
 pub use Rattle.bbm_regimes.specs.World.{first_input_page, input_pages, kind_in_world, page_count, start_of}
 pub use Rattle.bbm_tlbi_scope.specs.declared.op.TlbiOp.{TlbiOp}
 pub use Rattle.bbm_tlbi_scope.specs.declared.scope.Scope.{Scope}

@@ -2,7 +2,7 @@
 -- Source: project's own choice, but where another is named.
 use Rattle.std.specs.Prelude.{ℕ, zero, suc, ◌+◌, Bool, not, ◌&&◌, ◌==◌, List, [], ◌∷◌, Option, filter, find}
 use Rattle.std.specs.Prelude.{if◌then◌else◌}
-pub use Rattle.bbm_regimes.specs.Same.{same_kind}
+pub use Rattle.bbm_regimes.specs.SameRegister.{same_kind}
 pub use Rattle.bbm_regimes.specs.World.{first_input_page, input_pages, kind_in_world, page_count, start_of}
 use Rattle.bbm_rules.specs.Prelude.{Kind, World, Event, Root, Unroot}
 use Rattle.bbm_rules.specs.Lists.{◌>>=◌, any}

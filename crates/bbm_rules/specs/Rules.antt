@@ -18,7 +18,7 @@ use Rattle.bbm_rules.specs.Notes.{Noted, events_of}
 use Rattle.bbm_rules.specs.Pages.{is_fresh, is_null}
 use Rattle.bbm_rules.specs.Lists.{◌>>=◌, any, if_so, is_that, least, repeated, some_pe}
 use Rattle.bbm_rules.specs.Places.{page_of}
-use Rattle.bbm_rules.specs.Registers.{base_of, kind_of_reg, lacks_vmid, register_values, same_reg}
+use Rattle.bbm_rules.specs.RegisterValues.{base_of, kind_of_reg, lacks_vmid, register_values, same_reg}
 use Rattle.bbm_rules.specs.Roots.{is_root, kind_in_world, lock_of, root_at, root_pages, roots_of, same_kind}
 use Rattle.bbm_rules.specs.Tags.{Reading, holds_tag, readings, tags_of}
 use Rattle.bbm_rules.specs.Tree.{held_at, in_limbo, in_tree, node_of}

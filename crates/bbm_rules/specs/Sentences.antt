@@ -9,7 +9,7 @@ use Rattle.bbm_events.specs.declared.claim.Claim.TheVariants.{Taken}
 use Rattle.bbm_rules.specs.Claims.{Trust, allows}
 use Rattle.bbm_rules.specs.Places.{page_of}
 use Rattle.bbm_rules.specs.Reach.{Issued, completes, reaches}
-use Rattle.bbm_rules.specs.Registers.{same_reg}
+use Rattle.bbm_rules.specs.RegisterValues.{same_reg}
 use Rattle.bbm_rules.specs.Roots.{Declared}
 use Rattle.bbm_rules.specs.Tags.{itself, reads, reads_for_some, takes_tag}
 use Rattle.bbm_rules.specs.Values.{published, publishes_to, value_of}

@@ -4,7 +4,7 @@ use Rattle.std.specs.Prelude.{ℕ, suc, Bool, false, ◌&&◌, ◌||◌, not, na
 use Rattle.std.specs.Prelude.{Some, None, filter, filter_map, flat_map, if◌then◌else◌}
 use Rattle.bbm_tlbi_scope.specs.declared.entry.TagSet.{TagSet}
 use Rattle.bbm_tlbi_scope.specs.declared.entry.TagSet.TheVariants.{None as NoTag, One, Many}
-use Rattle.bbm_tlbi_scope.specs.Tags.{takes_whole_tag}
+use Rattle.bbm_tlbi_scope.specs.ScopeTags.{takes_whole_tag}
 use Rattle.bbm_rules.specs.Prelude.{Barrier, AsidFrom, FromTtbr0, FromTtbr1, Reg, Ttbr0El2, VttbrEl2, Ttbr0El1}
 use Rattle.bbm_rules.specs.Prelude.{Ttbr1El1, Tag, El2Tag, Vmid, Asid, Ttbr1Tag, World, Hyp, Kernel, Heading, Event}
 use Rattle.bbm_rules.specs.Prelude.{Dsb, Tlbi}
@@ -12,7 +12,7 @@ use Rattle.bbm_events.specs.declared.claim.Claim.TheVariants.{Taken}
 use Rattle.bbm_rules.specs.Claims.{Trust, allows, same_tag}
 use Rattle.bbm_rules.specs.Lists.{◌>>=◌, any, below, if_so, some, some_pe}
 use Rattle.bbm_rules.specs.Reach.{Issued, completes, reaches, unanswered}
-use Rattle.bbm_rules.specs.Registers.{base_of, kind_of_reg, named_scope, register_values, tag_number, vmid_of}
+use Rattle.bbm_rules.specs.RegisterValues.{base_of, kind_of_reg, named_scope, register_values, tag_number, vmid_of}
 use Rattle.bbm_rules.specs.Roots.{is_root}
 
 -- a tag that is readable for a root

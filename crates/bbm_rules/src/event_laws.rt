@@ -25,7 +25,7 @@ ghost use Rattle.bbm_rules.specs.Locks.{holder_of};
 ghost use Rattle.bbm_rules.specs.Notes.{Noted};
 ghost use Rattle.bbm_rules.specs.Pages.{initialised, is_null, may_be_fresh};
 ghost use Rattle.bbm_rules.specs.Reach.{unanswered};
-ghost use Rattle.bbm_rules.specs.Registers.{register_values, same_reg, tag_number, vmid_of};
+ghost use Rattle.bbm_rules.specs.RegisterValues.{register_values, same_reg, tag_number, vmid_of};
 ghost use Rattle.bbm_rules.specs.Roots.{Declared, is_root, root_at, roots_of, same_kind};
 ghost use Rattle.bbm_rules.specs.Sentences.{HoldsLock, IsDeclared, Published, ReadableRegister};
 ghost use Rattle.bbm_rules.specs.Tags.{holds_tag, itself, tag_set, tags_of};

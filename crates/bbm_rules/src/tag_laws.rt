@@ -9,7 +9,7 @@ ghost use Rattle.bbm_events.specs.declared.event.Event.TheVariants.{Msr, Unroot}
 ghost use Rattle.bbm_rules.specs.Claims.{Trust};
 ghost use Rattle.bbm_rules.specs.Lists.{among};
 ghost use Rattle.bbm_rules.specs.Notes.{Noted, events_of};
-ghost use Rattle.bbm_rules.specs.Registers.{base_of, register_values};
+ghost use Rattle.bbm_rules.specs.RegisterValues.{base_of, register_values};
 ghost use Rattle.bbm_rules.specs.Roots.{Declared, roots_of};
 ghost use Rattle.bbm_rules.specs.Rules.{no_root, root_in_use, tag_conflict};
 ghost use Rattle.bbm_rules.specs.TagSentences.{ReadsTag};

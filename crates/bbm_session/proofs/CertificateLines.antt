@@ -1,5 +1,7 @@
 -- The fold that keeps a log and its certificate: its parts, its lines, and that what it says is what is said of the text.
-use Rattle.std.proofs.Common.{◌≡◌, ℕ, suc, ◌<◌, ◌≤◌, ◌+◌, Bool, true, false, if◌then◌else◌, List, [], ◌∷◌, length, reverse, Option, Some, None, refl, ap, sym, ◌∙◌, arith, subst, nat_le, Result, Ok, Err, ◌==◌, ◌⊎◌, inl, inr, Contains, not-suc-le-zero}
+use Rattle.std.proofs.Common.{◌≡◌, ℕ, suc, ◌<◌, ◌≤◌, ◌+◌, Bool, true, false, if◌then◌else◌, List, [], ◌∷◌, length}
+use Rattle.std.proofs.Common.{reverse, Option, Some, None, option_and_then, refl, ap, sym, ◌∙◌, arith, subst, nat_le}
+use Rattle.std.proofs.Common.{Result, Ok, Err, ◌==◌, ◌⊎◌, inl, inr, Contains, not-suc-le-zero}
 use Rattle.bbm_events.specs.declared.certificate.ClaimItem.{ClaimItem}
 use Rattle.bbm_events.specs.declared.certificate.ClaimItem.TheVariants as claim_item
 use Rattle.bbm_events.specs.declared.claim.Claim.{Claim}
@@ -20,17 +22,26 @@ use Rattle.bbm_certificate.specs.declared.turn.LineFault.{LineFault}
 use Rattle.bbm_certificate.specs.declared.turn.LineFault.TheVariants as line_fault
 use Rattle.bbm_certificate.specs.declared.turn.Turn.{Turn as ReadTurn}
 use Rattle.bbm_certificate.specs.declared.turn.Turn.TheVariants as turn
-use Rattle.bbm_certificate.specs.Reading.{AreRead, Reached, AtHeader, AtEvents, BehindLog, AtClaims, AtEnd, EndsAt, IsSound, Turned as LineTurned, Stops as LineStops, GoesOn, after_event, after_log, after_item, after_first, after_claim, after_claims, after_claim_item, after_header, after_line, claims_by, claim_limit, event_limit, kept_at, next_number, reached_in, too_long_at, turned_by as line_turned_by, Said, Stopped, Whole, cut_at, end_of, Read, read_after, read_from, read_of}
-use Rattle.bbm_certificate.specs.Reading as read
+use Rattle.bbm_certificate.specs.CertificateReading.{AreRead, Reached, AtHeader, AtEvents, BehindLog, AtClaims, AtEnd}
+use Rattle.bbm_certificate.specs.CertificateReading.{EndsAt, IsSound, Turned as LineTurned, Stops as LineStops, GoesOn}
+use Rattle.bbm_certificate.specs.CertificateReading.{after_event, after_log, after_item, after_first, after_claim}
+use Rattle.bbm_certificate.specs.CertificateReading.{after_claims, after_claim_item, after_header, after_line}
+use Rattle.bbm_certificate.specs.CertificateReading.{claims_by, claim_limit, event_limit, kept_at, next_number}
+use Rattle.bbm_certificate.specs.CertificateReading.{reached_in, too_long_at, turned_by as line_turned_by, Said}
+use Rattle.bbm_certificate.specs.CertificateReading.{Stopped, Whole, cut_at, end_of, Read, read_after, read_from}
+use Rattle.bbm_certificate.specs.CertificateReading.{read_of}
+use Rattle.bbm_certificate.specs.CertificateReading as read
 use Rattle.bbm_session.specs.declared.stop.Stop.{Stop}
 use Rattle.bbm_session.specs.declared.stop.Turn.{Turn}
-use Rattle.bbm_session.specs.Certificates.{CertifiedReadFor, CertifiedToFault, CertifiedToWant, certified_goes_on, certified_lines, certified_lines_from}
-use Rattle.bbm_session.specs.Fold.{Fold, Halts, Ending, turned_by, end_by, ending_after, ending_from, ending_at, passes_to, lines_from, header_by, IsStart, IsInside, IsEnd}
+use Rattle.bbm_session.specs.Certificates.{CertifiedReadFor, certified_leads, certified_lines}
+use Rattle.bbm_session.specs.Fold.{Fold, Halts, Ending, turned_by, end_by, ending_after, ending_from, ending_at}
+use Rattle.bbm_session.specs.Fold.{passes_to, lines_from, header_by, IsStart, IsInside, IsEnd}
 use Rattle.bbm_session.specs.Folds.{Certifies, TurnsRead, certified_by, certifying, whole_read}
 use Rattle.bbm_session.specs.Run.{ReadAs}
-use Rattle.bbm_session.specs.Stages.{KnowsThat, MayTakeLine, TakesLine}
+use Rattle.bbm_session.specs.Stages.{MayTakeLine, TakesLine}
+use Rattle.bbm_texts.specs.Known.{KnowsThat}
 use Rattle.bbm_session.proofs.Judgements.{named_line, read_for}
-use Rattle.bbm_session.proofs.ReadBytes.{ByName, Named, ToFault, ToWant, read-by}
+use Rattle.bbm_session.proofs.ReadBytes.{ByName, Named, if-by, reaches, read-by}
 
 contains-none : (e : Event) → Contains [] e → ⊥
 contains-none e there = not-suc-le-zero there.1
@@ -229,11 +240,7 @@ read_said o = record { says = o.says; unread = o.unread }
 
 turned-is : (n : ℕ) (p : Reached) (line : List ℕ) → turned_by certifying n p line ≡ certified_by (line_turned_by n p line)
 unfolding turned_by
-turned-is n p line = by (is_too_long line)
-  where
-    by : (b : Bool) → (if b then Halts (Stopped (too_long_at n p)) else certified_by (after_line n p line)) ≡ certified_by (if b then LineStops (too_long_at n p) else after_line n p line)
-    by true = refl
-    by false = refl
+turned-is n p line = if-by certified_by (is_too_long line) (LineStops (too_long_at n p)) (after_line n p line)
 
 end-is : (n : ℕ) (p : Reached) (rest : List ℕ) → end_by certifying n p rest ≡ end_of n p rest
 unfolding end_by
@@ -252,15 +259,13 @@ outcome-is n p (line ∷ lines) rest =
 pub read-said : (bytes : List ℕ) → read_of bytes ≡ read_said (ending_at certifying 1 AtHeader bytes)
 read-said bytes = outcome-is 1 AtHeader (text_of bytes).lines (text_of bytes).rest
 
-goes-is : (n : ℕ) (lines : List (List ℕ)) (t : LineTurned) → ((next : Reached) → certified_lines_from (suc n) next lines ≡ lines_from certifying (suc n) next lines)
-    → certified_goes_on (λ next. certified_lines_from (suc n) next lines) t ≡ passes_to (λ next. lines_from certifying (suc n) next lines) (certified_by t)
-goes-is n lines (LineStops v) behind = refl
-goes-is n lines (GoesOn next) behind = behind next
+leads-is : (on : Reached → Option Reached) (t : LineTurned) → option_and_then on (certified_leads t) ≡ passes_to on (certified_by t)
+leads-is on (LineStops v) = refl
+leads-is on (GoesOn next) = refl
 
-read-is : (n : ℕ) (p : Reached) (lines : List (List ℕ)) → certified_lines_from n p lines ≡ lines_from certifying n p lines
-read-is n p [] = refl
-read-is n p (line ∷ lines) =
-    rw (turned-is n p line) (goes-is n lines (line_turned_by n p line) (λ next. read-is (suc n) next lines))
+pub certified-lines : (lines : List (List ℕ)) → certified_lines lines ≡ lines_from certifying 1 AtHeader lines
+certified-lines lines = reaches certifying (λ n p line. certified_leads (line_turned_by n p line))
+    (λ n p line on. leads-is on (line_turned_by n p line) ∙ ap (passes_to on) (sym (turned-is n p line))) 1 AtHeader lines
 
 -- ---- the line that is named
 
@@ -314,26 +319,6 @@ certified-read-to bytes left is =
     let said = read-said bytes in
     rw (ap (λ (x : Read). x.says) said)
     (k.0, o.unread, k.1, is ∙ ap (λ (x : Read). Some x.unread) said, certified_read_for o.says (text_of k.0) o.unread k.2)
-
-pub certified-fault : (bytes : List ℕ) (left : Option (List ℕ)) → ToFault certifying AtHeader bytes left → CertifiedToFault bytes left
-certified-fault bytes left fault = record {
-  part = fault.part;
-  reached = fault.reached;
-  undecided = ap certified_lines fault.are ∙ read-is 1 AtHeader fault.lines ∙ fault.undecided;
-  short = fault.short;
-}
-
-pub certified-want : (bytes : List ℕ) (left : Option (List ℕ)) → ToWant certifying AtHeader bytes left → CertifiedToWant bytes left
-certified-want bytes left want = record {
-  part = want.part;
-  before = want.before;
-  line = want.line;
-  reached = want.reached;
-  lines = want.lines;
-  undecided = read-is 1 AtHeader want.before ∙ want.undecided;
-  short = want.short;
-  needs = want.needs;
-}
 
 -- ---- no line accepts anything
 

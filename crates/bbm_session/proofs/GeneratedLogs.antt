@@ -1,5 +1,6 @@
 -- The text of a generated log: each line is read as what was written, and the log is accepted.
-use Rattle.std.proofs.Common.{◌≡◌, ℕ, zero, suc, ◌+◌, ◌<◌, ◌≤◌, ◌==◌, nat_le, true, false, List, [], ◌∷◌, ◌++◌, length, None, Ok, refl, ap, sym, ◌∙◌, subst, arith, append_assoc}
+use Rattle.std.proofs.Common.{◌≡◌, ℕ, zero, suc, ◌+◌, ◌<◌, ◌≤◌, ◌==◌, nat_le, true, false, List, [], ◌∷◌, ◌++◌, length}
+use Rattle.std.proofs.Common.{None, Ok, refl, ap, sym, ◌∙◌, subst, arith, append_assoc}
 use Rattle.std.proofs.lemmas.Bool.Decides.{nat_tests}
 use Rattle.bbm_io.specs.Flow.{plain}
 use Rattle.bbm_gen.specs.Generated.{heading, event_at, log_of}
@@ -15,7 +16,7 @@ use Rattle.bbm_rules.specs.Outcome.{AtHeader, AtEvents, AtEnd, Outcome, Progress
 use Rattle.bbm_rules.specs.declared.verdict.Verdict.TheVariants.{Accepted}
 use Rattle.bbm_session.specs.Fold.{Ending, Fold, Passes, alone, end_by, ending_at}
 use Rattle.bbm_session.specs.Folds.{Judged, judged_at, judging}
-use Rattle.bbm_session.specs.Generating.{gen_begin, gen_text}
+use Rattle.bbm_texts.specs.Generating.{gen_begin, gen_text}
 use Rattle.bbm_session.proofs.Judgements.{outcome_said, outcome-said}
 use Rattle.bbm_session.proofs.Stages.{ending-line}
 

@@ -1,5 +1,7 @@
 -- The fold that judges events: its parts, its lines, and that what it says is the outcome of the bytes.
-use Rattle.std.proofs.Common.{◌≡◌, ◌≢◌, not, ℕ, suc, ◌<◌, ◌+◌, Bool, true, false, if◌then◌else◌, List, [], ◌∷◌, length, Option, Some, None, refl, ap, sym, ◌∙◌, arith, subst, ◌^◌, Result, Ok, Err, IfOk, IfErr, OnOk, ◌==◌, ◌⊎◌, inl, inr}
+use Rattle.std.proofs.Common.{◌≡◌, ◌≢◌, not, ℕ, suc, ◌<◌, ◌+◌, Bool, true, false, if◌then◌else◌, List, [], ◌∷◌, length}
+use Rattle.std.proofs.Common.{Option, Some, None, refl, ap, sym, ◌∙◌, arith, subst, ◌^◌, Result, Ok, Err, IfOk, IfErr}
+use Rattle.std.proofs.Common.{OnOk, ◌==◌, ◌⊎◌, inl, inr}
 use Rattle.std.proofs.lemmas.Bool.{and_parts}
 use Rattle.bbm_regimes.specs.declared.regime.Which.{Which}
 use Rattle.bbm_events.specs.declared.event.Event.{Event as EventOf}
@@ -20,20 +22,29 @@ use Rattle.bbm_rules.specs.Broken.{Breach, broken}
 use Rattle.bbm_rules.specs.Claims.{Patterns}
 use Rattle.bbm_rules.specs.Limits.{limit_of}
 use Rattle.bbm_rules.specs.declared.limits.Limits.{Limits}
-use Rattle.bbm_rules.specs.Outcome.{Text, is_too_long, limit_after, limit_at, AtHeader, AtEvents, AtEnd, after_header, after_item, after_event, after_judged, after_kept, after_line, too_long_at, cut_at, Progress, Step, Decides, GoesOn, Outcome, outcome_from, outcome_of, outcome_after, verdict_of_bytes, read_from, read_lines, goes_on_to, step_of, end_of, events_in, text_of}
-use Rattle.bbm_session.specs.declared.command.Command.{Command}
-use Rattle.bbm_session.specs.declared.command.Command.TheVariants.{Check, Slow, Explain, Walk, Show}
-use Rattle.bbm_session.specs.declared.stop.Decision.{Decision}
+use Rattle.bbm_rules.specs.Outcome.{Text, is_too_long, limit_after, limit_at, AtHeader, AtEvents, AtEnd, after_header}
+use Rattle.bbm_rules.specs.Outcome.{after_item, after_event, after_judged, after_kept, after_line, too_long_at, cut_at}
+use Rattle.bbm_rules.specs.Outcome.{Progress, Step, Decides, GoesOn, Outcome, outcome_from, outcome_of, outcome_after}
+use Rattle.bbm_rules.specs.Outcome.{verdict_of_bytes, read_from, goes_on_to, step_of, end_of, events_in, text_of}
+use Rattle.bbm_texts.specs.declared.commands.Command.{Command}
+use Rattle.bbm_texts.specs.declared.commands.Command.TheVariants.{Check, Slow, Explain, Walk, Show}
+use Rattle.bbm_texts.specs.declared.decision.Decision.{Decision}
 use Rattle.bbm_session.specs.declared.stop.Stop.{Stop}
 use Rattle.bbm_session.specs.declared.stop.Stop.TheVariants.{Decided, ReadFault, NoMemory}
 use Rattle.bbm_session.specs.declared.stop.Turn.{Turn}
 use Rattle.bbm_session.specs.declared.stop.Turn.TheVariants.{Taken, End}
-use Rattle.bbm_session.specs.Fold.{Fold, Turned, Halts, alone, refusing, Ending, turned_by, end_by, ending_after, ending_from, ending_at, passes_to, lines_from, header_by, IsStart, IsInside, IsEnd}
-use Rattle.bbm_session.specs.Folds.{Judged, Judges, StopsKnown, judged_at, judged_by, event_on, event_needs, item_needs, line_needs, is_frugal, judging, judging_for}
-use Rattle.bbm_session.specs.Run.{EventNeeds, ItemNeeds, NeedsMemory, NeedsRoom, ReadFor, ReadTo, ReadToFault, ReadToWant, UpTo, limits_of}
-use Rattle.bbm_session.specs.Refused.{IsRefused, event_in}
-use Rattle.bbm_session.specs.Stages.{StopsAt, MayJudge, MayTakeLine, Keeps, KnowsAt, KnowsThat, KnowsWhy, RefusedOn, TellsEvent, JudgesLine, TakesLine, Ends}
-use Rattle.bbm_session.proofs.ReadBytes.{ByName, Named, ToFault, ToWant, read-by}
+use Rattle.bbm_session.specs.Fold.{Fold, Turned, Halts, alone, refusing, Ending, turned_by, end_by, ending_after}
+use Rattle.bbm_session.specs.Fold.{ending_from, ending_at, passes_to, lines_from, header_by, IsStart, IsInside, IsEnd}
+use Rattle.bbm_session.specs.Folds.{Judged, Judges, StopsKnown, judged_at, judged_by, event_on, event_needs, item_needs}
+use Rattle.bbm_session.specs.Folds.{line_needs, is_frugal, judging, judging_for}
+use Rattle.bbm_session.specs.Run.{EventNeeds, ItemNeeds, NeedsMemory, NeedsRoom, ReadFor, ReadTo, UpTo, command_lines}
+use Rattle.bbm_session.specs.Run.{limits_of}
+use Rattle.bbm_session.specs.Refused.{event_in}
+use Rattle.bbm_texts.specs.Known.{IsRefused}
+use Rattle.bbm_session.specs.Stages.{StopsAt, MayJudge, MayTakeLine, KnowsAt, KnowsWhy, RefusedOn, JudgesLine}
+use Rattle.bbm_session.specs.Stages.{TakesLine, Ends}
+use Rattle.bbm_texts.specs.Known.{Keeps, KnowsThat, TellsEvent}
+use Rattle.bbm_session.proofs.ReadBytes.{ByName, Named, read-by}
 
 -- ---- an event
 
@@ -408,14 +419,6 @@ module _ (frugal : Bool) (limits : Limits) where
       rw (ap (λ (x : Outcome). x.verdict) said)
       (k.0, o.unread, k.1, is ∙ ap (λ (x : Outcome). Some x.unread) said, read_for o.says.verdict (text_of k.0) o.unread k.2)
 
-  pub fault-is : (bytes : List ℕ) (left : Option (List ℕ)) → ToFault (judging frugal limits) AtHeader bytes left → ReadToFault limits bytes left
-  fault-is bytes left fault = record {
-    part = fault.part;
-    reached = fault.reached;
-    undecided = ap (read_lines Patterns limits) fault.are ∙ read-is 1 AtHeader fault.lines ∙ fault.undecided;
-    short = fault.short;
-  }
-
 -- ---- the line for which there was no memory
 
 not-is : (b : Bool) → not b ≡ true → b ≡ false
@@ -439,19 +442,10 @@ needs-item command heading h (Ok (item.Event event label)) is = needs-event comm
 needs-item command heading h (Ok (item.End count)) is = cc
 needs-item command heading h (Err cause) is = cc
 
-needs-memory : (command : Command) (p : Progress) (line : List ℕ) → line_needs (is_frugal command) p line ≡ true → NeedsMemory command p line
+pub needs-memory : (command : Command) (p : Progress) (line : List ℕ) → line_needs (is_frugal command) p line ≡ true → NeedsMemory command p line
 needs-memory command AtHeader line needs = needs
 needs-memory command (AtEvents heading h) line needs = needs-item command heading h (item_of heading line) needs
 needs-memory command (AtEnd h) line needs = cc
 
-pub want-is : (command : Command) (bytes : List ℕ) (left : Option (List ℕ)) → ToWant (judging_for command) AtHeader bytes left → ReadToWant command bytes left
-want-is command bytes left want = record {
-  part = want.part;
-  before = want.before;
-  line = want.line;
-  reached = want.reached;
-  lines = want.lines;
-  undecided = read-is (is_frugal command) (limits_of command) 1 AtHeader want.before ∙ want.undecided;
-  short = want.short;
-  needs = needs-memory command want.reached want.line want.needs;
-}
+pub command-lines : (command : Command) (lines : List (List ℕ)) → command_lines command lines ≡ lines_from (judging_for command) 1 AtHeader lines
+command-lines command lines = read-is (is_frugal command) (limits_of command) 1 AtHeader lines

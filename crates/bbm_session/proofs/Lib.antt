@@ -1,10 +1,5 @@
 pub mod Texts
 pub mod RefusedLines
-pub mod Refusals
-pub mod Puts
-pub mod Pouring
-pub mod ManyLines
-pub mod ConflictRuns
 pub mod Stages
 pub mod ReadBytes
 pub mod Judgements
@@ -13,5 +8,4 @@ pub mod CertificateLines
 pub mod ShownLogs
 pub mod RefusedEvents
 pub mod Served
-pub mod Selftests
 pub mod GeneratedLogs

@@ -1,14 +1,18 @@
 -- Which bytes are read for what is said of a text: all of them where no line is named, and else those up to the line.
-use Rattle.std.proofs.Common.{◌≡◌, ◌⊎◌, ℕ, zero, suc, ◌+◌, ◌≤◌, ◌<◌, Bool, true, false, nat_eq, if◌then◌else◌, List, [], ◌∷◌, ◌++◌, length, drop, Option, Some, None, refl, ap, sym, ◌∙◌, subst, inl, inr, arith, append_assoc, append-nil}
+use Rattle.std.proofs.Common.{◌≡◌, ◌⊎◌, ℕ, zero, suc, ◌+◌, ◌≤◌, ◌<◌, Bool, true, false, nat_eq, if◌then◌else◌, List, []}
+use Rattle.std.proofs.Common.{◌∷◌, ◌++◌, length, drop, Option, Some, None, option_and_then, refl, ap, sym, ◌∙◌, subst}
+use Rattle.std.proofs.Common.{inl, inr, arith, append_assoc, append-nil}
 use Rattle.std.proofs.Math.ListN.{drop_of_length-le}
 use Rattle.std.proofs.lemmas.Bool.{and_parts}
 use Rattle.std.proofs.lemmas.Bool.Decides.{nat_tests}
 use Rattle.bbm_io.specs.Flow.{plain}
 use Rattle.bbm_rules.specs.Outcome.{Text, before_text, text_of, bytes_of, is_too_long}
-use Rattle.bbm_session.specs.Fold.{Fold, Turned, Halts, Passes, Ending, end_by, ending_after, ending_from, ending_at, lines_from}
-use Rattle.bbm_session.specs.Run.{ReadPart}
+use Rattle.bbm_session.specs.Fold.{turned_by, Fold, Turned, Halts, Passes, Ending, end_by, ending_after, ending_from, ending_at}
+use Rattle.bbm_session.specs.Fold.{passes_to, lines_from}
+use Rattle.bbm_session.specs.Run.{ReadToFault, ReadToWant, reached_from}
 use Rattle.bbm_session.specs.Stages.{plain_lines, Broke, Breaks, Starved, Starves}
-use Rattle.bbm_session.proofs.Stages.{turned-short, turned-long, end-short, end-long, seam, bytes_of-append, plain_lines-append}
+use Rattle.bbm_session.proofs.Stages.{turned-short, turned-long, end-short, end-long, seam, bytes_of-append}
+use Rattle.bbm_session.proofs.Stages.{plain_lines-append}
 use Rattle.bbm_session.proofs.Texts.{plain-head, text_of-line, text_of-plain, bytes_of-text_of}
 
 -- ---- what was read, from line number n on, by the line that is named
@@ -201,28 +205,29 @@ text_of-bytes_of (line ∷ lines) rest clean r =
     let parts = and_parts (plain line) (plain_lines lines) clean in
     rw (text_of-line line (bytes_of lines rest) parts.0, text_of-bytes_of lines rest parts.1 r) refl
 
--- a read failed: what was read, of which no line halts
-pub record ToFault {P V : Type 0} (fold : Fold P V) (start : P) (bytes : List ℕ) (left : Option (List ℕ)) : Type 0 where
-  pub part : ReadPart bytes left
-  pub reached : P
-  pub lines : List (List ℕ)
-  pub are : (text_of part.read).lines ≡ lines
-  pub undecided : lines_from fold 1 start lines ≡ Some reached
-  pub short : length (text_of part.read).rest ≤ 200
+-- what is made of one of two
+pub if-by : {A B : Type 0} (f : A → B) (b : Bool) (x y : A) → (if b then f x else f y) ≡ f (if b then x else y)
+if-by f true x y = refl
+if-by f false x y = refl
 
--- there was no memory for a line: what was read ends with it
-pub record ToWant {P V : Type 0} (fold : Fold P V) (start : P) (bytes : List ℕ) (left : Option (List ℕ)) : Type 0 where
-  pub part : ReadPart bytes left
-  pub before : List (List ℕ)
-  pub line : List ℕ
-  pub reached : P
-  pub lines : text_of part.read ≡ record { lines = before ++ line ∷ []; rest = [] }
-  pub undecided : lines_from fold 1 start before ≡ Some reached
-  pub short : length line ≤ 200
-  pub needs : fold.needs (suc (length before)) reached line ≡ true
+-- Lines are read as far as by a fold, where each line leads as far as it passes.
+pub reaches : {P V : Type 0} (fold : Fold P V) (leads : ℕ → P → List ℕ → Option P)
+    → ((n : ℕ) (p : P) (line : List ℕ) (on : P → Option P) → option_and_then on (leads n p line) ≡ passes_to on (turned_by fold n p line))
+    → (n : ℕ) (p : P) (lines : List (List ℕ)) → reached_from leads n p lines ≡ lines_from fold n p lines
+reaches fold leads each n p [] = refl
+reaches {P} {V} fold leads each n p (line ∷ lines) =
+    each n p line (λ next. reached_from leads (suc n) next lines)
+    ∙ behind (turned_by fold n p line) (λ next. reaches fold leads each (suc n) next lines)
+  where
+    behind : (t : Turned P V) → ((next : P) → reached_from leads (suc n) next lines ≡ lines_from fold (suc n) next lines)
+        → passes_to (λ next. reached_from leads (suc n) next lines) t ≡ passes_to (λ next. lines_from fold (suc n) next lines) t
+    behind (Halts v) same = refl
+    behind (Passes next) same = same next
 
-module _ {P V : Type 0} (fold : Fold P V) (start : P) where
-  fault_at : (bytes rest : List ℕ) → Broke fold 1 start bytes rest → ToFault fold start bytes (Some rest)
+module _ {P V : Type 0} (fold : Fold P V) (start : P) (reads : List (List ℕ) → Option P)
+    (same : (lines : List (List ℕ)) → reads lines ≡ lines_from fold 1 start lines) where
+  -- a read failed: none of the lines that were read halts
+  fault_at : (bytes rest : List ℕ) → Broke fold 1 start bytes rest → ReadToFault reads bytes (Some rest)
   fault_at bytes rest broke =
       let lines = broke.passed.lines in
       let text = text_of-bytes_of lines broke.piece broke.passed.clean broke.clean in
@@ -234,38 +239,38 @@ module _ {P V : Type 0} (fold : Fold P V) (start : P) where
           now = refl;
         };
         reached = broke.reached;
-        lines = lines;
-        are = ap (λ (t : Text). t.lines) text;
-        undecided = broke.passed.read;
+        undecided = ap (λ (t : Text). reads t.lines) text ∙ same lines ∙ broke.passed.read;
         short = subst (λ (t : Text). length t.rest ≤ 200) (sym text) broke.short;
       }
 
-  pub to_fault : (bytes : List ℕ) (left : Option (List ℕ)) → Breaks fold 1 start (Some bytes) left → ToFault fold start bytes left
+  pub to_fault : (bytes : List ℕ) (left : Option (List ℕ)) → Breaks fold 1 start (Some bytes) left → ReadToFault reads bytes left
   to_fault bytes None breaks = absurd breaks
   to_fault bytes (Some rest) breaks = fault_at bytes rest breaks
 
-  want_at : (bytes rest : List ℕ) → Starved fold 1 start bytes rest → ToWant fold start bytes (Some rest)
-  want_at bytes rest starved =
-      let lines = starved.passed.lines in
-      let line = starved.line in
-      let whole : List (List ℕ) = lines ++ line ∷ [] in
-      let last : plain_lines (line ∷ []) ≡ true = rw starved.clean refl in
-      let text = text_of-bytes_of whole [] (plain_lines-append lines (line ∷ []) starved.passed.clean last) refl in
-      let behind : bytes_of lines (line ++ 10 ∷ rest) ≡ bytes_of whole [] ++ rest =
-      ap (bytes_of lines) (sym (append_assoc line (10 ∷ []) rest)) ∙ bytes_of-behind lines (line ++ 10 ∷ []) rest
-      ∙ ap (λ x. x ++ rest) (sym (bytes_of-append lines (line ∷ []) [])) in
-      let at : starved.at ≡ suc (length lines) = omega (arith, starved.passed.count) in
-      record {
-        part = record { read = bytes_of whole []; unread = rest; is = starved.passed.is ∙ behind; now = refl };
-        before = lines;
-        line = line;
-        reached = starved.reached;
-        lines = text;
-        undecided = starved.passed.read;
-        short = starved.short;
-        needs = subst (λ (n : ℕ). fold.needs n starved.reached line ≡ true) at starved.needs;
-      }
+  -- there was no memory for a line: what was read ends with it
+  module _ (Needs : ℕ → P → List ℕ → Type 0) (needing : (n : ℕ) (p : P) (line : List ℕ) → fold.needs n p line ≡ true → Needs n p line) where
+    want_at : (bytes rest : List ℕ) → Starved fold 1 start bytes rest → ReadToWant reads Needs bytes (Some rest)
+    want_at bytes rest starved =
+        let lines = starved.passed.lines in
+        let line = starved.line in
+        let whole : List (List ℕ) = lines ++ line ∷ [] in
+        let last : plain_lines (line ∷ []) ≡ true = rw starved.clean refl in
+        let text = text_of-bytes_of whole [] (plain_lines-append lines (line ∷ []) starved.passed.clean last) refl in
+        let behind : bytes_of lines (line ++ 10 ∷ rest) ≡ bytes_of whole [] ++ rest =
+        ap (bytes_of lines) (sym (append_assoc line (10 ∷ []) rest)) ∙ bytes_of-behind lines (line ++ 10 ∷ []) rest
+        ∙ ap (λ x. x ++ rest) (sym (bytes_of-append lines (line ∷ []) [])) in
+        let at : starved.at ≡ suc (length lines) = omega (arith, starved.passed.count) in
+        record {
+          part = record { read = bytes_of whole []; unread = rest; is = starved.passed.is ∙ behind; now = refl };
+          before = lines;
+          line = line;
+          reached = starved.reached;
+          lines = text;
+          undecided = same lines ∙ starved.passed.read;
+          short = starved.short;
+          needs = needing (suc (length lines)) starved.reached line (subst (λ (n : ℕ). fold.needs n starved.reached line ≡ true) at starved.needs);
+        }
 
-  pub to_want : (bytes : List ℕ) (left : Option (List ℕ)) → Starves fold 1 start (Some bytes) left → ToWant fold start bytes left
-  to_want bytes None starves = absurd starves
-  to_want bytes (Some rest) starves = want_at bytes rest starves
+    pub to_want : (bytes : List ℕ) (left : Option (List ℕ)) → Starves fold 1 start (Some bytes) left → ReadToWant reads Needs bytes left
+    to_want bytes None starves = absurd starves
+    to_want bytes (Some rest) starves = want_at bytes rest starves

@@ -1,5 +1,6 @@
 -- The line of a text that refuses an event.
-use Rattle.std.proofs.Common.{◌≡◌, ℕ, suc, ◌+◌, Bool, true, false, if◌then◌else◌, List, [], ◌∷◌, ◌++◌, length, Option, Some, None, refl, ap, sym, ◌∙◌, arith, subst, Result, Ok, Err, ◌==◌}
+use Rattle.std.proofs.Common.{◌≡◌, ℕ, suc, ◌+◌, Bool, true, false, if◌then◌else◌, List, [], ◌∷◌, ◌++◌, length, Option}
+use Rattle.std.proofs.Common.{Some, None, refl, ap, sym, ◌∙◌, arith, subst, Result, Ok, Err, ◌==◌}
 use Rattle.std.specs.Result.{result_ok}
 use Rattle.bbm_regimes.specs.declared.regime.Which.{Which}
 use Rattle.bbm_events.specs.declared.event.Event.{Event as EventOf}
@@ -16,15 +17,18 @@ use Rattle.bbm_rules.specs.Broken.{Breach, broken}
 use Rattle.bbm_rules.specs.Claims.{Patterns}
 use Rattle.bbm_rules.specs.Limits.{limit_of}
 use Rattle.bbm_rules.specs.declared.limits.Limits.{Limits}
-use Rattle.bbm_rules.specs.Outcome.{AtHeader, AtEvents, AtEnd, Decides, GoesOn, Progress, Step, after_header, after_item, after_judged, after_kept, after_line, cut_at, end_of, events_in, goes_on_to, is_too_long, limit_at, read_from, step_of, text_of, too_long_at}
+use Rattle.bbm_rules.specs.Outcome.{AtHeader, AtEvents, AtEnd, Decides, GoesOn, Progress, Step, after_header}
+use Rattle.bbm_rules.specs.Outcome.{after_item, after_judged, after_kept, after_line, cut_at, end_of, events_in}
+use Rattle.bbm_rules.specs.Outcome.{goes_on_to, is_too_long, limit_at, read_from, step_of, text_of, too_long_at}
 use Rattle.bbm_report.specs.Further.{heading_in}
-use Rattle.bbm_session.specs.declared.stop.Decision.{Decision}
+use Rattle.bbm_texts.specs.declared.decision.Decision.{Decision}
 use Rattle.bbm_session.specs.declared.stop.Stop.{Stop}
 use Rattle.bbm_session.specs.declared.stop.Stop.TheVariants.{Decided, ReadFault, NoMemory}
 use Rattle.bbm_session.specs.Fold.{Turned, Halts, refusing, ending_after, ending_at, ending_from}
 use Rattle.bbm_session.specs.Folds.{Judged, event_on, judged_at, judged_by, judging}
 use Rattle.bbm_session.specs.JudgedLog.{RefusesIn, StopsIn}
-use Rattle.bbm_session.specs.Refused.{IsRefused, RefusedIn, event_in}
+use Rattle.bbm_session.specs.Refused.{RefusedIn, event_in}
+use Rattle.bbm_texts.specs.Known.{IsRefused}
 use Rattle.bbm_session.specs.Stages.{Stops}
 use Rattle.bbm_session.specs.Writing.{Heads}
 use Rattle.bbm_session.proofs.Judgements.{AllFit, decided-by, end-is, fits-read, refuses-item, step-is}

@@ -1,5 +1,7 @@
 -- The fold that keeps the steps of a run: its parts, its lines, and that what it says is what comes of the run.
-use Rattle.std.proofs.Common.{◌≡◌, ℕ, suc, ◌<◌, ◌≤◌, ◌+◌, Bool, true, false, if◌then◌else◌, List, [], ◌∷◌, length, reverse, Option, Some, None, refl, ap, sym, ◌∙◌, arith, subst, nat_le, Result, Ok, Err, ◌==◌, ◌⊎◌, inl, inr}
+use Rattle.std.proofs.Common.{◌≡◌, ℕ, suc, ◌<◌, ◌≤◌, ◌+◌, Bool, true, false, if◌then◌else◌, List, [], ◌∷◌, length}
+use Rattle.std.proofs.Common.{reverse, Option, Some, None, option_and_then, refl, ap, sym, ◌∙◌, arith, subst, nat_le}
+use Rattle.std.proofs.Common.{Result, Ok, Err, ◌==◌, ◌⊎◌, inl, inr}
 use Rattle.std.proofs.lemmas.List.{length-reverse}
 use Rattle.bbm_events.specs.declared.event.Item.{Item}
 use Rattle.bbm_events.specs.declared.event.Item.TheVariants as item
@@ -16,17 +18,23 @@ use Rattle.bbm_follow.specs.declared.turn.LineFault.{LineFault}
 use Rattle.bbm_follow.specs.declared.turn.LineFault.TheVariants as line_fault
 use Rattle.bbm_follow.specs.declared.turn.Turn.{Turn as RunTurn}
 use Rattle.bbm_follow.specs.declared.turn.Turn.TheVariants as turn
-use Rattle.bbm_follow.specs.Following.{Reached, AtHeader, AtSteps, AtEnd, Turned as RunTurned, Stops as RunStops, GoesOn, after_step, after_end, after_item, after_machine, is_machine, after_header, after_line, too_long_at, turned_by as run_turned_by, RunSays, Stopped, Whole, cut_at, end_of, RunOutcome, outcome_after, run_from, run_of, step_limit, is_step, event_count}
+use Rattle.bbm_follow.specs.Following.{Reached, AtHeader, AtSteps, AtEnd, Turned as RunTurned, Stops as RunStops}
+use Rattle.bbm_follow.specs.Following.{GoesOn, after_step, after_end, after_item, after_machine, is_machine}
+use Rattle.bbm_follow.specs.Following.{after_header, after_line, too_long_at, turned_by as run_turned_by, RunSays}
+use Rattle.bbm_follow.specs.Following.{Stopped, Whole, cut_at, end_of, RunOutcome, outcome_after, run_from, run_of}
+use Rattle.bbm_follow.specs.Following.{step_limit, is_step, event_count}
 use Rattle.bbm_follow.specs.Following as run
 use Rattle.bbm_session.specs.declared.stop.Stop.{Stop}
 use Rattle.bbm_session.specs.declared.stop.Turn.{Turn}
-use Rattle.bbm_session.specs.Fold.{Fold, Halts, Ending, turned_by, end_by, ending_after, ending_from, ending_at, passes_to, lines_from, header_by, IsStart, IsInside, IsEnd}
+use Rattle.bbm_session.specs.Fold.{Fold, Halts, Ending, turned_by, end_by, ending_after, ending_from, ending_at}
+use Rattle.bbm_session.specs.Fold.{passes_to, lines_from, header_by, IsStart, IsInside, IsEnd}
 use Rattle.bbm_session.specs.Folds.{Follows, Turns, following, kept_by}
 use Rattle.bbm_session.specs.Run.{ReadAs}
-use Rattle.bbm_session.specs.Runs.{RunReadFor, RunToFault, RunToWant, run_goes_on, run_lines_from, run_lines}
-use Rattle.bbm_session.specs.Stages.{KnowsThat, MayTakeLine, TakesLine}
+use Rattle.bbm_session.specs.Runs.{RunReadFor, run_leads, run_lines}
+use Rattle.bbm_session.specs.Stages.{MayTakeLine, TakesLine}
+use Rattle.bbm_texts.specs.Known.{KnowsThat}
 use Rattle.bbm_session.proofs.Judgements.{named_line, read_for}
-use Rattle.bbm_session.proofs.ReadBytes.{ByName, Named, ToFault, ToWant, read-by}
+use Rattle.bbm_session.proofs.ReadBytes.{ByName, Named, if-by, reaches, read-by}
 
 -- ---- the parts of a run
 
@@ -139,11 +147,7 @@ outcome_said o = record { says = o.says; unread = o.unread }
 
 turned-is : (n : ℕ) (p : Reached) (line : List ℕ) → turned_by following n p line ≡ kept_by (run_turned_by n p line)
 unfolding turned_by
-turned-is n p line = by (is_too_long line)
-  where
-    by : (b : Bool) → (if b then Halts (Stopped (too_long_at n p)) else kept_by (after_line n p line)) ≡ kept_by (if b then RunStops (too_long_at n p) else after_line n p line)
-    by true = refl
-    by false = refl
+turned-is n p line = if-by kept_by (is_too_long line) (RunStops (too_long_at n p)) (after_line n p line)
 
 end-is : (n : ℕ) (p : Reached) (rest : List ℕ) → end_by following n p rest ≡ end_of n p rest
 unfolding end_by
@@ -162,15 +166,13 @@ outcome-is n p (line ∷ lines) rest =
 pub run-said : (bytes : List ℕ) → run_of bytes ≡ outcome_said (ending_at following 1 AtHeader bytes)
 run-said bytes = outcome-is 1 AtHeader (text_of bytes).lines (text_of bytes).rest
 
-goes-is : (n : ℕ) (lines : List (List ℕ)) (t : RunTurned) → ((next : Reached) → run_lines_from (suc n) next lines ≡ lines_from following (suc n) next lines)
-    → run_goes_on (λ next. run_lines_from (suc n) next lines) t ≡ passes_to (λ next. lines_from following (suc n) next lines) (kept_by t)
-goes-is n lines (RunStops v) behind = refl
-goes-is n lines (GoesOn next) behind = behind next
+leads-is : (on : Reached → Option Reached) (t : RunTurned) → option_and_then on (run_leads t) ≡ passes_to on (kept_by t)
+leads-is on (RunStops v) = refl
+leads-is on (GoesOn next) = refl
 
-read-is : (n : ℕ) (p : Reached) (lines : List (List ℕ)) → run_lines_from n p lines ≡ lines_from following n p lines
-read-is n p [] = refl
-read-is n p (line ∷ lines) =
-    rw (turned-is n p line) (goes-is n lines (run_turned_by n p line) (λ next. read-is (suc n) next lines))
+pub run-lines : (lines : List (List ℕ)) → run_lines lines ≡ lines_from following 1 AtHeader lines
+run-lines lines = reaches following (λ n p line. run_leads (run_turned_by n p line))
+    (λ n p line on. leads-is on (run_turned_by n p line) ∙ ap (passes_to on) (sym (turned-is n p line))) 1 AtHeader lines
 
 -- ---- the line that is named
 
@@ -220,23 +222,3 @@ run-read-to bytes left is =
     let said = run-said bytes in
     rw (ap (λ (x : RunOutcome). x.says) said)
     (k.0, o.unread, k.1, is ∙ ap (λ (x : RunOutcome). Some x.unread) said, run_read_for o.says (text_of k.0) o.unread k.2)
-
-pub run-fault : (bytes : List ℕ) (left : Option (List ℕ)) → ToFault following AtHeader bytes left → RunToFault bytes left
-run-fault bytes left fault = record {
-  part = fault.part;
-  reached = fault.reached;
-  undecided = ap run_lines fault.are ∙ read-is 1 AtHeader fault.lines ∙ fault.undecided;
-  short = fault.short;
-}
-
-pub run-want : (bytes : List ℕ) (left : Option (List ℕ)) → ToWant following AtHeader bytes left → RunToWant bytes left
-run-want bytes left want = record {
-  part = want.part;
-  before = want.before;
-  line = want.line;
-  reached = want.reached;
-  lines = want.lines;
-  undecided = read-is 1 AtHeader want.before ∙ want.undecided;
-  short = want.short;
-  needs = want.needs;
-}

@@ -1,5 +1,6 @@
 -- What a text that was read says of a call of the program: the bytes that were read and written, and the status.
-use Rattle.std.proofs.Common.{◌≡◌, ◌⊎◌, ℕ, ◌<◌, true, false, List, [], Option, Some, None, Result, Ok, Err, refl, ap, sym, ◌∙◌, subst, inl, inr, arith, reverse, length, IfOk}
+use Rattle.std.proofs.Common.{◌≡◌, ◌⊎◌, ℕ, ◌<◌, true, false, List, [], Option, Some, None, Result, Ok, Err, refl, ap}
+use Rattle.std.proofs.Common.{sym, ◌∙◌, subst, inl, inr, arith, reverse, length, IfOk}
 use Rattle.std.proofs.lemmas.Bool.{false≢true}
 use Rattle.bbm_io.specs.Faults.{Rose}
 use Rattle.bbm_io.specs.Flow.{extended}
@@ -10,7 +11,7 @@ use Rattle.bbm_cert.specs.declared.judged.Judged.{Judged as JudgedBy}
 use Rattle.bbm_cert.specs.declared.judged.Judged.TheVariants.{Yes, No}
 use Rattle.bbm_cert.specs.Judged.{judged}
 use Rattle.bbm_certificate.specs.declared.kept.Kept.{Kept}
-use Rattle.bbm_certificate.specs.Reading as read
+use Rattle.bbm_certificate.specs.CertificateReading as read
 use Rattle.bbm_follow.specs.declared.followed.Followed.{Followed}
 use Rattle.bbm_follow.specs.declared.followed.Followed.TheVariants.{Run, BadStep}
 use Rattle.bbm_follow.specs.Following as run
@@ -20,27 +21,37 @@ use Rattle.bbm_rules.specs.Claims.{Patterns}
 use Rattle.bbm_rules.specs.Outcome.{AtHeader, Outcome, Text, text_of, outcome_of, verdict_of_bytes}
 use Rattle.bbm_report.specs.Further.{heading_in}
 use Rattle.bbm_tlb_machine.specs.declared.step.Step.{Step}
-use Rattle.bbm_session.specs.declared.command.Command.{Command}
+use Rattle.bbm_texts.specs.declared.commands.Command.{Command}
 use Rattle.bbm_session.specs.declared.command.Request.{Request}
 use Rattle.bbm_session.specs.declared.command.Request.TheVariants.{Judge, Follow, Verify, Generate, Selftest}
-use Rattle.bbm_session.specs.declared.status.Status.{Status}
-use Rattle.bbm_session.specs.declared.status.Status.TheVariants as status
-use Rattle.bbm_session.specs.declared.stop.Decision.{Decision}
+use Rattle.bbm_texts.specs.declared.status.Status.{Status}
+use Rattle.bbm_texts.specs.declared.status.Status.TheVariants as status
+use Rattle.bbm_texts.specs.declared.decision.Decision.{Decision}
 use Rattle.bbm_session.specs.declared.stop.Stop.{Stop}
 use Rattle.bbm_session.specs.declared.stop.Stop.TheVariants.{Decided, ReadFault, NoMemory}
-use Rattle.bbm_session.specs.Certificates.{CertifiedReadFor, judged_status as status_judged, judged_text as text_judged, read_status, read_text}
+use Rattle.bbm_session.specs.Certificates.{CertifiedReadFor, certified_lines, certified_needs, read_status, read_text}
+use Rattle.bbm_texts.specs.Statuses.{judged_status as status_judged}
+use Rattle.bbm_texts.specs.Says.{judged_text as text_judged}
 use Rattle.bbm_session.specs.Fold.{Fold, ending_at}
-use Rattle.bbm_session.specs.Folds.{Certifies, Follows, Judged, certifying, is_frugal, judging_for, following, whole_read, whole_run}
-use Rattle.bbm_session.specs.Requests.{status_for, IsTextFor, IsSomeTextFor, unread_for, ReadForAll, FaultAt, WantAt, reads_input}
-use Rattle.bbm_session.specs.Generating.{gen_text, selftest_text}
-use Rattle.bbm_session.specs.Run.{IsTextOf, Says, ReadFor, ShowsMore, Wants, limits_of, status_of, tells_verdict}
+use Rattle.bbm_session.specs.Folds.{Certifies, Follows, Judged, certifying, is_frugal, judging_for, following}
+use Rattle.bbm_session.specs.Folds.{whole_read, whole_run}
+use Rattle.bbm_session.specs.Requests.{status_for, IsTextFor, IsSomeTextFor, unread_for, ReadForAll, FaultAt, WantAt}
+use Rattle.bbm_session.specs.Requests.{reads_input}
+use Rattle.bbm_texts.specs.Generating.{gen_text, selftest_text}
+use Rattle.bbm_session.specs.Run.{IsTextOf, NeedsMemory, ReadFor, Wants, command_lines, limits_of, tells_verdict}
+use Rattle.bbm_texts.specs.Says.{Says, ShowsMore}
+use Rattle.bbm_texts.specs.Statuses.{status_of}
 use Rattle.bbm_session.specs.Refused.{refused_in}
-use Rattle.bbm_session.specs.Runs.{RunReadFor, followed_status, run_status}
+use Rattle.bbm_session.specs.Runs.{RunReadFor, run_lines, run_status, step_needs}
+use Rattle.bbm_texts.specs.Statuses.{followed_status}
 use Rattle.bbm_session.specs.Stages.{Breaks, Concludes, Continues, Ends, HeaderLine, Starts, Starves, Stops}
-use Rattle.bbm_session.specs.Writing.{Answered, Heads, IsLine, Obeys, FollowsRun, ReportsJudged, ReportsRun, Part, Reports, Serves, Silent, Told, Verifies, WantsJudged, WantsRead, WantsRun, Wrote}
-use Rattle.bbm_session.proofs.CertificateLines.{NotAccepted, certifying-start, certified-whole, certified-fault, certified-read-to, certified-want, read-said, not-accepted}
-use Rattle.bbm_session.proofs.RunLines.{following-start, run-said, run-read-to, run-fault, run-want}
-use Rattle.bbm_session.proofs.Judgements.{AllFit, outcome-said, read-to, fault-is, want-is}
+use Rattle.bbm_session.specs.Writing.{Answered, Heads, IsLine, Obeys, FollowsRun, Reports, Serves, Told, Verifies}
+use Rattle.bbm_session.specs.Writing.{WantsJudged, WantsRead, WantsRun}
+use Rattle.bbm_texts.specs.Writing.{ReportsJudged, ReportsRun, Part, Silent, Wrote}
+use Rattle.bbm_session.proofs.CertificateLines.{NotAccepted, certifying-start, certified-lines, certified-whole}
+use Rattle.bbm_session.proofs.CertificateLines.{certified-read-to, read-said, not-accepted}
+use Rattle.bbm_session.proofs.RunLines.{following-start, run-lines, run-said, run-read-to}
+use Rattle.bbm_session.proofs.Judgements.{AllFit, command-lines, needs-memory, outcome-said, read-to}
 use Rattle.bbm_session.proofs.RefusedEvents.{says-refused}
 use Rattle.bbm_session.proofs.ReadBytes.{to_fault, to_want}
 use Rattle.bbm_session.proofs.Stages.{continues-concludes, continues-stops, header-passes}
@@ -363,7 +374,7 @@ whole_left bytes left heading steps whole is =
     r.3 ∙ ap Some (subst (λ (s : run.RunSays). RunReadFor s (text_of r.0) r.1) whole r.4)
 
 run_wants : (bytes : List ℕ) (left : Option (List ℕ)) → WantsRun (Some bytes) left → WantAt Follow bytes left
-run_wants bytes left (inl starves) = inl (run-want bytes left (to_want following run.AtHeader bytes left starves))
+run_wants bytes left (inl starves) = inl (to_want following run.AtHeader run_lines run-lines (λ n p line. step_needs n p line ≡ true) (λ n p line needs. needs) bytes left starves)
 run_wants bytes left (inr whole) =
     let is = unread_is following run.AtHeader bytes left (run.Whole whole.heading whole.steps) whole.concludes in
     let said = run-said bytes in
@@ -381,7 +392,7 @@ both_left bytes left heading h claims whole is =
     r.3 ∙ ap Some (subst (λ (s : read.Said). CertifiedReadFor s (text_of r.0) r.1) whole r.4)
 
 read_wants : (bytes : List ℕ) (left : Option (List ℕ)) → WantsRead (Some bytes) left → WantAt Verify bytes left
-read_wants bytes left (inl starves) = inl (certified-want bytes left (to_want certifying read.AtHeader bytes left starves))
+read_wants bytes left (inl starves) = inl (to_want certifying read.AtHeader certified_lines certified-lines (λ n p line. certified_needs n p line ≡ true) (λ n p line needs. needs) bytes left starves)
 read_wants bytes left (inr whole) =
     let is = unread_is certifying read.AtHeader bytes left (read.Whole whole.heading whole.log whole.claims) whole.concludes in
     let said = read-said bytes in
@@ -715,13 +726,13 @@ module _ (result : Status) (old new : Option (List ℕ)) (f f' : ℕ) (held held
     served-fault (Judge command) o fault =
         let fold = judging_for command in
         let breaks = (broke fold AtHeader (JudgedText command o.heading) (judged_status command) (λ v. tells_of v.verdict) (WantsJudged command) result old new f f' held held' w w' o.answered fault).0 in
-        fault-is (is_frugal command) (limits_of command) bytes new (to_fault fold AtHeader bytes new (subst (λ (x : Option (List ℕ)). Breaks fold 1 AtHeader x new) is breaks))
+        to_fault fold AtHeader (command_lines command) (command-lines command) bytes new (subst (λ (x : Option (List ℕ)). Breaks fold 1 AtHeader x new) is breaks)
     served-fault Follow o fault =
         let breaks = (broke following run.AtHeader RunText run_status tells_run WantsRun result old new f f' held held' w w' o fault).0 in
-        run-fault bytes new (to_fault following run.AtHeader bytes new (subst (λ (x : Option (List ℕ)). Breaks following 1 run.AtHeader x new) is breaks))
+        to_fault following run.AtHeader run_lines run-lines bytes new (subst (λ (x : Option (List ℕ)). Breaks following 1 run.AtHeader x new) is breaks)
     served-fault Verify o fault =
         let breaks = (broke certifying read.AtHeader ReadText read_status tells_read WantsRead result old new f f' held held' w w' o fault).0 in
-        certified-fault bytes new (to_fault certifying read.AtHeader bytes new (subst (λ (x : Option (List ℕ)). Breaks certifying 1 read.AtHeader x new) is breaks))
+        to_fault certifying read.AtHeader certified_lines certified-lines bytes new (subst (λ (x : Option (List ℕ)). Breaks certifying 1 read.AtHeader x new) is breaks)
     served-fault (Generate n count) o fault = wrote_sound (gen_text n count) o.2 (inl fault)
     served-fault (Selftest n count) o fault = tested_only (selftest_text n count) o.2 status.ReadFault (λ same. cc) (λ same. cc) (λ same. cc) fault
 
@@ -729,7 +740,8 @@ module _ (result : Status) (old new : Option (List ℕ)) (f f' : ℕ) (held held
     judged_wants : (command : Command) → WantsJudged command old new → Wants command bytes new
     judged_wants command (inl starves) =
         let fold = judging_for command in
-        inl (want-is command bytes new (to_want fold AtHeader bytes new (subst (λ (x : Option (List ℕ)). Starves fold 1 AtHeader x new) is starves)))
+        inl (to_want fold AtHeader (command_lines command) (command-lines command) (λ n. NeedsMemory command) (λ n. needs-memory command) bytes new
+        (subst (λ (x : Option (List ℕ)). Starves fold 1 AtHeader x new) is starves))
     judged_wants command (inr whole) =
         let k = judged_concluded command whole.says whole.concludes in
         inr (record {

@@ -1,6 +1,8 @@
 -- How what is said of a text goes on after one line, over what a source had left and has left, for any fold over the
 -- lines of a log.
-use Rattle.std.proofs.Common.{◌≡◌, ◌≢◌, ℕ, suc, ◌<◌, ◌≤◌, ◌+◌, true, false, nat_eq, List, [], ◌++◌, length, drop, Option, Some, None, refl, ap, sym, ◌∙◌, arith, append_assoc, append-nil, length-append, add-one, subst, ◌∷◌, Result, Ok, Err, IfErr}
+use Rattle.std.proofs.Common.{◌≡◌, ◌≢◌, ℕ, suc, ◌<◌, ◌≤◌, ◌+◌, true, false, nat_eq, List, [], ◌++◌, length, drop}
+use Rattle.std.proofs.Common.{Option, Some, None, refl, ap, sym, ◌∙◌, arith, append_assoc, append-nil, length-append}
+use Rattle.std.proofs.Common.{add-one, subst, ◌∷◌, Result, Ok, Err, IfErr}
 use Rattle.std.specs.Result.{result_ok}
 use Rattle.std.proofs.Math.ListN.{drop_of_length-le}
 use Rattle.std.proofs.Math.Seq.{drop-append_seam}
@@ -19,16 +21,21 @@ use Rattle.bbm_rules.specs.Outcome.{text_of, bytes_of, is_too_long}
 use Rattle.bbm_report.specs.Further.{heading_in}
 use Rattle.bbm_session.specs.declared.line.Piece.{Piece}
 use Rattle.bbm_session.specs.declared.line.Piece.TheVariants as piece
-use Rattle.bbm_session.specs.declared.stop.Decision.{Decision}
+use Rattle.bbm_texts.specs.declared.decision.Decision.{Decision}
 use Rattle.bbm_session.specs.declared.stop.Stop.{Stop}
 use Rattle.bbm_session.specs.declared.stop.Stop.TheVariants.{Decided, ReadFault, NoMemory}
 use Rattle.bbm_session.specs.declared.stop.Turn.{Turn}
 use Rattle.bbm_session.specs.declared.stop.Turn.TheVariants.{Taken, End}
-use Rattle.bbm_session.specs.Fold.{Fold, alone, Turned, Halts, Passes, Ending, turned_by, end_by, ending_after, ending_from, ending_at, passes_to, lines_from, header_by, IsStart, IsInside, IsEnd}
+use Rattle.bbm_session.specs.Fold.{Fold, alone, Turned, Halts, Passes, Ending, turned_by, end_by, ending_after}
+use Rattle.bbm_session.specs.Fold.{ending_from, ending_at, passes_to, lines_from, header_by, IsStart, IsInside, IsEnd}
 use Rattle.bbm_session.specs.Pieces.{Takes, Finds, TakesFound}
-use Rattle.bbm_session.specs.Stages.{plain_lines, Passed, Breaks, Starves, Shrinks, Continues, Concludes, Stops, EndsThere, IsBrief, KnowsThat, KnowsWhy, RefusedOn, ReadsHeader, HeaderLine, Starts, TakesLine, Advances, Going, Reaches, Closes, Ends}
+use Rattle.bbm_session.specs.Stages.{plain_lines, Passed, Breaks, Starves, Shrinks, Continues, Concludes, Stops}
+use Rattle.bbm_session.specs.Stages.{IsBrief, KnowsWhy, RefusedOn, ReadsHeader, HeaderLine, Starts, TakesLine, Advances}
+use Rattle.bbm_session.specs.Stages.{Going, Reaches, Closes, Ends}
+use Rattle.bbm_texts.specs.Known.{EndsThere, KnowsThat}
 use Rattle.bbm_session.specs.Writing.{Heads}
-use Rattle.bbm_session.proofs.Texts.{plain-head, text_of-line, text_of-plain, text_of-prefix, bytes_of-text_of, prefixed}
+use Rattle.bbm_session.proofs.Texts.{plain-head, text_of-line, text_of-plain, text_of-prefix, bytes_of-text_of}
+use Rattle.bbm_session.proofs.Texts.{prefixed}
 
 short : (line : List ℕ) → length line ≤ 200 → is_too_long line ≡ false
 short line h = grind (arith, nat_tests)

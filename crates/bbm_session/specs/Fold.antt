@@ -11,7 +11,7 @@ use Rattle.bbm_events.specs.Lines.{header_of}
 use Rattle.bbm_rules.specs.declared.verdict.Verdict.{Verdict}
 use Rattle.bbm_rules.specs.declared.verdict.Verdict.TheVariants.{Refused, Malformed, Limit}
 use Rattle.bbm_rules.specs.Outcome.{text_of, is_too_long, unread_after}
-use Rattle.bbm_session.specs.declared.stop.Decision.{Decision}
+use Rattle.bbm_texts.specs.declared.decision.Decision.{Decision}
 
 -- a verdict that refuses no event
 abbrev pub alone : Verdict → Decision

@@ -1,6 +1,7 @@
 -- The folds over the lines of a log: one judges its events, one keeps the steps of a run, and one keeps the events and
 -- the claims of a certificate behind them. No public contract cites these words.
-use Rattle.std.specs.Prelude.{◌≡◌, ℕ, ◌+◌, ◌≤◌, Bool, true, false, not, ◌&&◌, is_ok, List, [], length, reverse, Option, None}
+use Rattle.std.specs.Prelude.{◌≡◌, ℕ, ◌+◌, ◌≤◌, Bool, true, false, not, ◌&&◌, is_ok, List, [], length, reverse, Option}
+use Rattle.std.specs.Prelude.{None}
 use Rattle.std.specs.Prelude.{Result, Ok, Err}
 use Rattle.bbm_events.specs.declared.event.Event.{Event}
 use Rattle.bbm_events.specs.declared.event.Item.{Item}
@@ -26,16 +27,17 @@ use Rattle.bbm_certificate.specs.declared.turn.LineFault.{LineFault as ReadFault
 use Rattle.bbm_certificate.specs.declared.turn.LineFault.TheVariants as read_fault
 use Rattle.bbm_certificate.specs.declared.turn.Turn.{Turn as ReadTurn}
 use Rattle.bbm_certificate.specs.declared.turn.Turn.TheVariants as read_turn
-use Rattle.bbm_certificate.specs.Reading as read
+use Rattle.bbm_certificate.specs.CertificateReading as read
 use Rattle.bbm_session.specs.Certificates.{certified_needs}
-use Rattle.bbm_session.specs.declared.command.Command.{Command}
-use Rattle.bbm_session.specs.declared.command.Command.TheVariants.{Check, Slow, Explain, Walk, Show}
+use Rattle.bbm_texts.specs.declared.commands.Command.{Command}
+use Rattle.bbm_texts.specs.declared.commands.Command.TheVariants.{Check, Slow, Explain, Walk, Show}
 use Rattle.bbm_session.specs.Fold.{Fold, Turned, Halts, Passes, alone, refusing}
 use Rattle.bbm_session.specs.Run.{limits_of}
 use Rattle.bbm_session.specs.Runs.{step_needs}
 use Rattle.bbm_session.specs.Refused.{event_in}
-use Rattle.bbm_session.specs.Stages.{Keeps, KnowsAt, Stops}
-use Rattle.bbm_session.specs.declared.stop.Decision.{Decision}
+use Rattle.bbm_session.specs.Stages.{KnowsAt, Stops}
+use Rattle.bbm_texts.specs.Known.{Keeps}
+use Rattle.bbm_texts.specs.declared.decision.Decision.{Decision}
 use Rattle.bbm_session.specs.declared.stop.Stop.{Stop}
 use Rattle.bbm_session.specs.declared.stop.Stop.TheVariants.{Decided, NoMemory}
 use Rattle.bbm_session.specs.declared.stop.Turn.{Turn}

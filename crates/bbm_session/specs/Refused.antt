@@ -1,26 +1,19 @@
 -- The event that a verdict refuses.
 -- Source: project's own choice.
-use Rattle.std.specs.Prelude.{◌≡◌, ℕ, suc, ◌-◌, true, List, [], ◌∷◌, ◌++◌, length, get_or, Option, Some, None, Result, Ok}
+use Rattle.std.specs.Prelude.{◌≡◌, ℕ, suc, ◌-◌, List, [], ◌∷◌, ◌++◌, length, get_or, Option, Some, None, Result, Ok}
 use Rattle.bbm_events.specs.declared.event.Event.{Event}
 use Rattle.bbm_events.specs.declared.event.Item.{Item}
 use Rattle.bbm_events.specs.declared.event.Item.TheVariants as item
 use Rattle.bbm_events.specs.declared.malformed.Malformed.{Malformed as Cause}
-use Rattle.bbm_events.specs.Fits.{fits_heading}
 use Rattle.bbm_events.specs.Heading.{Heading}
 use Rattle.bbm_events.specs.Lines.{item_of}
 use Rattle.bbm_rules.specs.declared.limits.Limits.{Limits}
 use Rattle.bbm_rules.specs.declared.rule.Rule.{Rule}
 use Rattle.bbm_rules.specs.declared.verdict.Verdict.{Verdict}
 use Rattle.bbm_rules.specs.declared.verdict.Verdict.TheVariants.{Refused}
-use Rattle.bbm_rules.specs.Broken.{broken}
 use Rattle.bbm_rules.specs.Claims.{Patterns}
 use Rattle.bbm_rules.specs.Outcome.{AtEvents, read_lines, text_of}
-
--- A refused event: it fits the header, and this is the least rule that it breaks after the history, with the number that
--- the rule names.
-pub record IsRefused (heading : Heading) (h : List Event) (rule : Rule) (at : ℕ) (event : Event) : Type 0 where
-  pub fits : fits_heading heading event ≡ true
-  pub breaks : broken heading Patterns h event ≡ Some (record { rule = rule; at = at })
+use Rattle.bbm_texts.specs.Known.{IsRefused}
 
 -- The line of these bytes that refuses an event: it has this number, and says this event with this label. The lines
 -- before it decide nothing, and are read to this header and this history, which the event is refused after.

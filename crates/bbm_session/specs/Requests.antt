@@ -5,7 +5,7 @@ use Rattle.std.specs.Prelude.{◌≡◌, ℕ, nat_le, Bool, true, false, List, [
 use Rattle.std.specs.Prelude.{bytes_eq, if◌then◌else◌}
 use Rattle.bbm_events.specs.Lines.{passing}
 use Rattle.bbm_events.specs.Spelling.{decimal_value}
-use Rattle.bbm_certificate.specs.Reading.{Said, read_of}
+use Rattle.bbm_certificate.specs.CertificateReading.{Said, read_of}
 use Rattle.bbm_follow.specs.Following.{RunSays, run_of, run_text}
 use Rattle.bbm_rules.specs.Claims.{Patterns}
 use Rattle.bbm_rules.specs.Lists.{◌>>=◌}
@@ -13,13 +13,15 @@ use Rattle.bbm_rules.specs.declared.verdict.Verdict.{Verdict}
 use Rattle.bbm_rules.specs.Outcome.{outcome_of, verdict_of_bytes}
 use Rattle.bbm_session.specs.declared.command.Request.{Request}
 use Rattle.bbm_session.specs.declared.command.Request.TheVariants.{Judge, Follow, Verify, Generate, Selftest}
-use Rattle.bbm_session.specs.declared.status.Status.{Status}
-use Rattle.bbm_session.specs.declared.status.Status.TheVariants as status
-use Rattle.bbm_session.specs.Certificates.{CertifiedReadFor, CertifiedToFault, CertifiedWants, read_status, read_text}
-use Rattle.bbm_session.specs.Generating.{gen_text, selftest_text}
-use Rattle.bbm_session.specs.Run.{IsTextOf, IsSomeText, ReadAs, ReadTo, ReadToFault, Wants, command_of, limits_of}
-use Rattle.bbm_session.specs.Run.{or_else, status_of}
-use Rattle.bbm_session.specs.Runs.{RunReadFor, RunToFault, RunWants, run_status}
+use Rattle.bbm_texts.specs.declared.status.Status.{Status}
+use Rattle.bbm_texts.specs.declared.status.Status.TheVariants as status
+use Rattle.bbm_session.specs.Certificates.{CertifiedReadFor, CertifiedWants, certified_lines, read_status, read_text}
+use Rattle.bbm_texts.specs.Generating.{gen_text, selftest_text}
+use Rattle.bbm_session.specs.Run.{IsTextOf, IsSomeText, ReadAs, ReadTo, ReadToFault, Wants, command_lines, command_of}
+use Rattle.bbm_session.specs.Run.{limits_of}
+use Rattle.bbm_session.specs.Run.{or_else}
+use Rattle.bbm_texts.specs.Statuses.{status_of}
+use Rattle.bbm_session.specs.Runs.{RunReadFor, RunWants, run_lines, run_status}
 
 -- the request of one word that isn't a command
 abbrev pub request_at : List ℕ → Option Request
@@ -110,9 +112,9 @@ ReadForAll (Selftest n count) bytes left = left ≡ Some bytes
 
 -- a read failed, which can't be where nothing is read
 abbrev pub FaultAt : Request → List ℕ → Option (List ℕ) → Type 0
-FaultAt (Judge command) bytes left = ReadToFault (limits_of command) bytes left
-FaultAt Follow bytes left = RunToFault bytes left
-FaultAt Verify bytes left = CertifiedToFault bytes left
+FaultAt (Judge command) bytes left = ReadToFault (command_lines command) bytes left
+FaultAt Follow bytes left = ReadToFault run_lines bytes left
+FaultAt Verify bytes left = ReadToFault certified_lines bytes left
 FaultAt (Generate n count) bytes left = ⊥
 FaultAt (Selftest n count) bytes left = ⊥
 

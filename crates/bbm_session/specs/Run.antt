@@ -1,8 +1,8 @@
 -- What the program's words ask for, and what it says.
 -- Source: project's own choice.
 use Rattle.std.specs.Prelude.{◌≡◌, ◌⊎◌, ℕ, suc, ◌≤◌, List, [], ◌∷◌, ◌++◌, length, Option, Some, None, option_map}
+use Rattle.std.specs.Prelude.{option_and_then}
 use Rattle.std.specs.Prelude.{Result, Ok, IsOk, Bool, true, false, codes, bytes_eq, if◌then◌else◌}
-use Rattle.bbm_rules.specs.declared.rule.Rule.TheVariants.{BreakBeforeMake}
 use Rattle.bbm_rules.specs.declared.verdict.Verdict.{Verdict}
 use Rattle.bbm_rules.specs.declared.verdict.Verdict.TheVariants.{Accepted, Refused, Malformed, Limit}
 use Rattle.bbm_events.specs.declared.event.Item.{Item}
@@ -16,16 +16,15 @@ use Rattle.bbm_rules.specs.Claims.{Patterns}
 use Rattle.bbm_rules.specs.declared.limits.Limits.{Limits}
 use Rattle.bbm_rules.specs.Outcome.{check_limits, slow_limits, Outcome, outcome_of, verdict_of_bytes, Progress}
 use Rattle.bbm_rules.specs.Outcome.{AtHeader, AtEvents, AtEnd, Text, text_of, read_lines}
-use Rattle.bbm_rules.specs.Texts.{verdict_text}
-use Rattle.bbm_report.specs.Further.{Walked, explained, heading_in}
+use Rattle.bbm_report.specs.Further.{heading_in}
 use Rattle.bbm_report.specs.Questions.{walk_asked}
-use Rattle.bbm_session.specs.declared.command.Command.{Command}
-use Rattle.bbm_session.specs.declared.command.Command.TheVariants.{Check, Slow, Explain, Walk, Show}
-use Rattle.bbm_session.specs.declared.command.Evidence.TheVariants.{Idle, Counterrun, Cert}
+use Rattle.bbm_texts.specs.declared.commands.Command.{Command}
+use Rattle.bbm_texts.specs.declared.commands.Command.TheVariants.{Check, Slow, Explain, Walk, Show}
+use Rattle.bbm_texts.specs.declared.commands.Evidence.TheVariants.{Idle, Counterrun, Cert}
 use Rattle.bbm_session.specs.Refused.{refused_in}
-use Rattle.bbm_session.specs.Shown.{Shown}
-use Rattle.bbm_session.specs.declared.status.Status.{Status}
-use Rattle.bbm_session.specs.declared.status.Status.TheVariants as status
+use Rattle.bbm_texts.specs.declared.status.Status.{Status}
+use Rattle.bbm_texts.specs.declared.status.Status.TheVariants as status
+use Rattle.bbm_texts.specs.Says.{Says, ShowsMore}
 
 -- the command of one word
 abbrev pub command_at : List ℕ → Option Command
@@ -58,21 +57,6 @@ limits_of Explain = check_limits
 limits_of (Walk question) = check_limits
 limits_of (Show evidence) = slow_limits
 
--- The text of a command for a verdict, after these events of a log with this heading, and for the event that the verdict
--- refuses, if there is one: the line of the verdict, and what is said behind it; or what the command shows.
-abbrev pub SaysIn : Command → Heading → List Event → Option Event → Verdict → List ℕ → Type 0
-SaysIn Check heading h refused verdict text = text ≡ verdict_text verdict
-SaysIn Slow heading h refused verdict text = text ≡ verdict_text verdict
-SaysIn Explain heading h refused verdict text = text ≡ verdict_text verdict ++ explained heading h verdict
-SaysIn (Walk question) heading h refused verdict text =
-    (further : List ℕ) × (text ≡ verdict_text verdict ++ further) × Walked heading h question verdict further
-SaysIn (Show evidence) heading h refused verdict text = Shown evidence heading h refused verdict text
-
--- The same; where the log has no heading it is the line of the verdict.
-abbrev pub Says : Command → Option Heading → List Event → Option Event → Verdict → List ℕ → Type 0
-Says command None h refused verdict text = text ≡ verdict_text verdict
-Says command (Some heading) h refused verdict text = SaysIn command heading h refused verdict text
-
 -- The text of a command for these bytes: by their verdict, the events before the line that decides, and the event of that
 -- line where it is refused.
 abbrev pub IsTextOf : Command → List ℕ → List ℕ → Type 0
@@ -85,28 +69,6 @@ IsTextOf command bytes text =
 abbrev pub IsSomeText : Command → Verdict → List ℕ → Type 0
 IsSomeText command verdict text =
     (heading : Option Heading) × (h : List Event) × (refused : Option Event) × Says command heading h refused verdict text
-
--- the usage line, which names all commands
-abbrev pub usage_text : List ℕ
-usage_text = codes "usage: bbm check | slow | explain | walk KIND ROOT ADDR | gen N COUNT | selftest N COUNT | follow | counterrun | cert | verify | idle\n"
-
--- the status of a verdict
-abbrev pub status_of : Verdict → Status
-status_of (Accepted events) = status.Accepted
-status_of (Refused line rule at label) = status.Refused
-status_of (Malformed line cause) = status.Malformed
-status_of (Limit line which) = status.Limit
-
--- the number of a status, with which the program ends
-abbrev pub number_of : Status → ℕ
-number_of status.Accepted = 0
-number_of status.Refused = 1
-number_of status.Malformed = 2
-number_of status.Usage = 3
-number_of status.ReadFault = 4
-number_of status.WriteFault = 5
-number_of status.NoMemory = 6
-number_of status.Limit = 7
 
 -- whether a status says that the text of a verdict was written whole
 abbrev pub tells_verdict : Status → Bool
@@ -146,12 +108,31 @@ pub record ReadPart (bytes : List ℕ) (left : Option (List ℕ)) : Type 0 where
   pub is : bytes ≡ read ++ unread
   pub now : left ≡ Some unread
 
--- A read failed: no line that was read decides, and of the next one at most 200 bytes were read.
-pub record ReadToFault (limits : Limits) (bytes : List ℕ) (left : Option (List ℕ)) : Type 0 where
+-- How far lines are read, from line number n on, by how far each line leads; None where one of them stops reading.
+abbrev pub reached_from : {P : Type 0} → (ℕ → P → List ℕ → Option P) → ℕ → P → List (List ℕ) → Option P
+reached_from leads n p [] = Some p
+reached_from leads n p (line ∷ lines) = option_and_then (λ next. reached_from leads (suc n) next lines) (leads n p line)
+
+-- A read failed: none of the lines that were read stops reading, and of the next one at most 200 bytes were read.
+pub record ReadToFault {P : Type 0} (reads : List (List ℕ) → Option P) (bytes : List ℕ) (left : Option (List ℕ))
+    : Type 0 where
   pub part : ReadPart bytes left
-  pub reached : Progress
-  pub undecided : read_lines Patterns limits (text_of part.read).lines ≡ Some reached
+  pub reached : P
+  pub undecided : reads (text_of part.read).lines ≡ Some reached
   pub short : length (text_of part.read).rest ≤ 200
+
+-- There was no memory: what was read ends with a line that needs memory, by its number and how far the lines before it
+-- are read, and none of these stops reading.
+pub record ReadToWant {P : Type 0} (reads : List (List ℕ) → Option P) (Needs : ℕ → P → List ℕ → Type 0)
+    (bytes : List ℕ) (left : Option (List ℕ)) : Type 0 where
+  pub part : ReadPart bytes left
+  pub before : List (List ℕ)
+  pub line : List ℕ
+  pub reached : P
+  pub lines : text_of part.read ≡ record { lines = before ++ line ∷ []; rest = [] }
+  pub undecided : reads before ≡ Some reached
+  pub short : length line ≤ 200
+  pub needs : Needs (suc (length before)) reached line
 
 -- An event for which new room may be needed, after these: it is none of `dsb`, `dmb`, `isb`, `lock` and `unlock`, and
 -- no write that attaches nothing at a place that was written since the last init of its page.
@@ -177,28 +158,9 @@ NeedsMemory command AtHeader line = IsOk (header_of line)
 NeedsMemory command (AtEvents heading h) line = ItemNeeds command heading h (item_of heading line)
 NeedsMemory command (AtEnd h) line = ⊥
 
--- There was no memory: what was read ends with a line that needs memory, and no line before it decides.
-pub record ReadToWant (command : Command) (bytes : List ℕ) (left : Option (List ℕ)) : Type 0 where
-  pub part : ReadPart bytes left
-  pub before : List (List ℕ)
-  pub line : List ℕ
-  pub reached : Progress
-  pub lines : text_of part.read ≡ record { lines = before ++ line ∷ []; rest = [] }
-  pub undecided : read_lines Patterns (limits_of command) before ≡ Some reached
-  pub short : length line ≤ 200
-  pub needs : NeedsMemory command reached line
-
--- whether a command shows more of the events
-abbrev pub shows : Command → Bool
-shows (Show evidence) = true
-shows _ = false
-
--- A command may show more of the events for this verdict.
-abbrev pub ShowsMore : Command → Verdict → Type 0
-ShowsMore (Show Idle) (Accepted events) = Unit {0}
-ShowsMore (Show Counterrun) (Refused line BreakBeforeMake at label) = Unit {0}
-ShowsMore (Show Cert) (Accepted events) = Unit {0}
-ShowsMore _ _ = ⊥
+-- how far these lines of a log are read for a command
+abbrev pub command_lines : Command → List (List ℕ) → Option Progress
+command_lines command lines = read_lines Patterns (limits_of command) lines
 
 -- There was no memory for what is shown: all was read that the verdict needs.
 pub record ShownWant (command : Command) (bytes : List ℕ) (left : Option (List ℕ)) : Type 0 where
@@ -207,4 +169,5 @@ pub record ShownWant (command : Command) (bytes : List ℕ) (left : Option (List
 
 -- There was no memory, for a line or for what is shown.
 abbrev pub Wants : Command → List ℕ → Option (List ℕ) → Type 0
-Wants command bytes left = ReadToWant command bytes left ⊎ ShownWant command bytes left
+Wants command bytes left =
+    ReadToWant (command_lines command) (λ number. NeedsMemory command) bytes left ⊎ ShownWant command bytes left

@@ -12,23 +12,18 @@ use Rattle.bbm_events.specs.declared.event.Event.{Event as EventOf}
 use Rattle.bbm_events.specs.declared.event.Item.{Item}
 use Rattle.bbm_events.specs.declared.event.Item.TheVariants as item
 use Rattle.bbm_events.specs.declared.malformed.Malformed.{Malformed as Cause}
-use Rattle.bbm_events.specs.Fits.{fits_heading, is_place}
-use Rattle.bbm_rules.specs.declared.rule.Rule.{Rule}
-use Rattle.bbm_rules.specs.declared.rule.Rule.TheVariants.{BreakBeforeMake}
 use Rattle.bbm_rules.specs.declared.verdict.Verdict.{Verdict}
-use Rattle.bbm_rules.specs.declared.verdict.Verdict.TheVariants.{Accepted, Refused, Malformed, Limit}
+use Rattle.bbm_rules.specs.declared.verdict.Verdict.TheVariants.{Refused, Malformed, Limit}
 use Rattle.bbm_rules.specs.Answers.{MayTake}
-use Rattle.bbm_rules.specs.Broken.{Breach, keeps}
-use Rattle.bbm_rules.specs.Claims.{Patterns}
-use Rattle.bbm_rules.specs.Lists.{every}
+use Rattle.bbm_rules.specs.Broken.{Breach}
 use Rattle.bbm_rules.specs.Outcome.{AtEvents, AtEnd, Step, Decides, GoesOn, bytes_of}
 use Rattle.bbm_session.specs.Fold.{Fold, Halts, Passes, alone, refusing, ending_at, lines_from, IsInside, IsEnd}
-use Rattle.bbm_session.specs.Refused.{IsRefused}
-use Rattle.bbm_session.specs.declared.stop.Decision.{Decision}
+use Rattle.bbm_texts.specs.declared.decision.Decision.{Decision}
 use Rattle.bbm_session.specs.declared.stop.Stop.{Stop}
 use Rattle.bbm_session.specs.declared.stop.Stop.TheVariants.{Decided, ReadFault, NoMemory}
 use Rattle.bbm_session.specs.declared.stop.Turn.{Turn}
 use Rattle.bbm_session.specs.declared.stop.Turn.TheVariants.{Taken, End}
+use Rattle.bbm_texts.specs.Known.{EndsThere, Keeps, KnowsDecided, KnowsThat}
 
 -- What a source had left begins with what was taken of it, at most so many bytes, and the rest is left now.
 abbrev pub Shrinks : ℕ → Option (List ℕ) → Option (List ℕ) → Type 0
@@ -101,12 +96,6 @@ Stops fold n p old (Decided decision) q new faults faults' =
 Stops fold n p old ReadFault q new faults faults' = Breaks fold n p old new × Rose faults faults'
 Stops fold n p old NoMemory q new faults faults' = Starves fold n p old new × (faults' ≡ faults)
 
--- Where a log is accepted, or an event of it refused, this holds of the lines before the line that decides.
-abbrev pub KnowsThat : Type 0 → Verdict → Type 0
-KnowsThat stands (Accepted events) = stands
-KnowsThat stands (Refused line rule at label) = stands
-KnowsThat stands _ = Unit {0}
-
 -- Where an event is refused, a line decides so, behind the lines before it, which were read up to p.
 abbrev pub RefusedOn : {P V : Type 0} → Fold P V → ℕ → P → Decision → Verdict → Type 0
 RefusedOn fold n p decision (Refused line rule at label) =
@@ -118,12 +107,6 @@ abbrev pub KnowsWhy : {P V : Type 0} → Fold P V → (P → ℕ → Type 0) →
 KnowsWhy fold stands n p (Decided decision) =
     KnowsThat (stands p n) decision.verdict × RefusedOn fold n p decision decision.verdict
 KnowsWhy fold stands n p _ = Unit {0}
-
--- a verdict behind which nothing is said
-abbrev pub EndsThere : Verdict → Type 0
-EndsThere (Accepted events) = ⊥
-EndsThere (Refused line rule at label) = ⊥
-EndsThere _ = Unit {0}
 
 -- a cause for which nothing is said behind the line of the verdict, if there is one
 abbrev pub IsBrief : Stop → Type 0
@@ -210,44 +193,10 @@ Closes fold p end (Err stop) n was now faults faults' = Stops fold n end was sto
 
 -- The judging of events.
 
--- whether each event of a history fits its header
-abbrev pub all_fit : Heading → List EventOf → Bool
-all_fit heading h = every (fits_heading heading) h
-
--- A checker stands for a history that keeps the rules, and whose events fit its header.
-pub record Keeps (stands : Heading → List EventOf → Type 0) (heading : Heading) (h : List EventOf) : Type 0 where
-  pub known : stands heading h
-  pub fit : all_fit heading h ≡ true
-  pub rules : keeps heading Patterns h ≡ true
-
--- the event that a verdict refuses is told
-abbrev pub TellsEvent : Heading → List EventOf → Verdict → Option EventOf → Type 0
-TellsEvent heading h (Refused line rule at label) refused =
-    (event : EventOf) × (refused ≡ Some event) × IsRefused heading h rule at event
-TellsEvent heading h _ refused = Unit {0}
-
--- Where a log is accepted, or an event of it refused, the checker stands for the events before the line that decides,
--- which keep the rules; and the event that is refused is told.
-abbrev pub KnowsDecided : (Heading → List EventOf → Type 0) → Heading → List EventOf → Decision → Type 0
-KnowsDecided stands heading h decision =
-    KnowsThat (Keeps stands heading h) decision.verdict × TellsEvent heading h decision.verdict decision.refused
-
 -- the same by why reading stopped
 abbrev pub KnowsAt : (Heading → List EventOf → Type 0) → Heading → List EventOf → Stop → Type 0
 KnowsAt stands heading h (Decided decision) = KnowsDecided stands heading h decision
 KnowsAt stands heading h _ = Unit {0}
-
--- break-before-make names a place
-abbrev pub NamesPlace : Rule → ℕ → Type 0
-NamesPlace BreakBeforeMake at = is_place at ≡ true
-NamesPlace _ at = Unit {0}
-
--- Where a log is accepted, or an event of it refused, the checker stands for the events before the line that decides,
--- and a place is named where break-before-make is broken.
-abbrev pub Knows : (Heading → List EventOf → Type 0) → Heading → List EventOf → Verdict → Type 0
-Knows stands heading h (Accepted events) = Keeps stands heading h
-Knows stands heading h (Refused line rule at label) = Keeps stands heading h × NamesPlace rule at
-Knows stands heading h _ = Unit {0}
 
 -- why reading stops at this event with this label that breaks this rule, or else reaches this limit of a history, or for
 -- which there was no memory

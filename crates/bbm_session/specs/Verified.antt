@@ -6,7 +6,7 @@ use Rattle.bbm_events.specs.declared.event.Event.{Event}
 use Rattle.bbm_events.specs.Heading.{Heading}
 use Rattle.bbm_rules.specs.Broken.{keeps}
 use Rattle.bbm_rules.specs.Claims.Trust.{Listed}
-use Rattle.bbm_certificate.specs.Reading.{Whole, read_of}
+use Rattle.bbm_certificate.specs.CertificateReading.{Whole, read_of}
 use Rattle.bbm_tlb_machine.specs.Safe.{IsLog, Safe}
 
 -- The bytes are a log of this header, newest first, and these claims, and nothing else. The log keeps the rules by the

@@ -1,88 +1,43 @@
 -- What became of a text that was to be written.
-use Rattle.std.specs.Prelude.{◌≡◌, ℕ, ◌<◌, List, ◌++◌, length, take, Option, Some, None, Result, Ok, Err, ◌⊎◌}
+use Rattle.std.specs.Prelude.{◌≡◌, ℕ, List, Option, Some, None, ◌⊎◌}
 use Rattle.bbm_io.specs.Faults.{Rose}
-use Rattle.bbm_io.specs.Flow.{extended}
-use Rattle.bbm_io.specs.declared.source.Failed.{Failed}
 use Rattle.bbm_events.specs.declared.claim.Claim.{Claim}
 use Rattle.bbm_events.specs.declared.event.Event.{Event}
 use Rattle.bbm_events.specs.Heading.{Heading}
 use Rattle.bbm_follow.specs.Following as run
-use Rattle.bbm_certificate.specs.Reading as read
-use Rattle.bbm_cert.specs.declared.judged.Judged.{Judged as JudgedBy}
-use Rattle.bbm_idle.specs.Idle.{idle_marks}
-use Rattle.bbm_follow.specs.declared.followed.Followed.{Followed}
-use Rattle.bbm_rules.specs.declared.verdict.Verdict.{Verdict}
+use Rattle.bbm_certificate.specs.CertificateReading as read
 use Rattle.bbm_rules.specs.Outcome.{AtHeader, text_of}
 use Rattle.bbm_rules.specs.Texts.{verdict_text}
 use Rattle.bbm_report.specs.Further.{heading_in}
 use Rattle.bbm_tlb_machine.specs.declared.step.Step.{Step}
-use Rattle.bbm_session.specs.declared.command.Command.{Command}
+use Rattle.bbm_texts.specs.declared.commands.Command.{Command}
 use Rattle.bbm_session.specs.declared.command.Request.{Request}
 use Rattle.bbm_session.specs.declared.command.Request.TheVariants.{Judge, Follow, Verify, Generate, Selftest}
-use Rattle.bbm_session.specs.declared.status.Status.{Status}
-use Rattle.bbm_session.specs.declared.status.Status.TheVariants as status
-use Rattle.bbm_session.specs.declared.stop.Decision.{Decision}
+use Rattle.bbm_texts.specs.declared.status.Status.{Status}
+use Rattle.bbm_texts.specs.declared.status.Status.TheVariants as status
+use Rattle.bbm_texts.specs.declared.decision.Decision.{Decision}
 use Rattle.bbm_session.specs.declared.stop.Stop.{Stop}
 use Rattle.bbm_session.specs.declared.stop.Stop.TheVariants.{Decided, ReadFault, NoMemory}
-use Rattle.bbm_session.specs.Certificates.{judged_status, judged_text, read_status, read_text}
+use Rattle.bbm_session.specs.Certificates.{read_status, read_text}
 use Rattle.bbm_session.specs.Fold.{Fold}
 use Rattle.bbm_session.specs.Folds.{Judged, judging_for, following, certifying}
-use Rattle.bbm_session.specs.Generating.{gen_text, selftest_text}
-use Rattle.bbm_session.specs.Run.{Says, ShowsMore, status_of}
-use Rattle.bbm_session.specs.Runs.{followed_status, run_status}
-use Rattle.bbm_session.specs.Shown.{marked_lines}
+use Rattle.bbm_texts.specs.Generating.{gen_text}
+use Rattle.bbm_texts.specs.Says.{Says, ShowsMore}
+use Rattle.bbm_texts.specs.Statuses.{status_of}
+use Rattle.bbm_session.specs.Runs.{run_status}
 use Rattle.bbm_session.specs.Stages.{Breaks, Concludes, Starves}
-
--- a proper prefix of the text was added to what the sink holds
-pub record Part (text : List ℕ) (old new : Option (List ℕ)) : Type 0 where
-  pub count : ℕ
-  pub proper : count < length text
-  pub added : new ≡ extended old (take count text)
-
--- The text was added whole, and the sink's count of faults stays; or a write failed, which comes only where the count
--- rose, and a proper prefix was added.
-abbrev pub Puts : List ℕ → Result (Unit {0}) Failed → Option (List ℕ) → Option (List ℕ) → ℕ → ℕ → Type 0
-Puts text (Ok _) old new faults faults' = (new ≡ extended old text) × (faults' ≡ faults)
-Puts text (Err _) old new faults faults' = Part text old new × Rose faults faults'
-
--- the same by the status: the wanted one where the text was added whole
-abbrev pub Wrote : Status → List ℕ → Status → Option (List ℕ) → Option (List ℕ) → ℕ → ℕ → Type 0
-Wrote wanted text result old new faults faults' =
-    ((result ≡ wanted) × (new ≡ extended old text) × (faults' ≡ faults))
-    ⊎ ((result ≡ status.WriteFault) × Rose faults faults' × Part text old new)
-
--- nothing was written, and this is the status
-abbrev pub Silent : Status → Status → Option (List ℕ) → Option (List ℕ) → ℕ → ℕ → Type 0
-Silent wanted result old new faults faults' = (result ≡ wanted) × (new ≡ old) × (faults' ≡ faults)
+use Rattle.bbm_texts.specs.Writing.{ReportsDecided, Silent, Tested, Wrote, WroteSome}
 
 -- What became of the answer where reading stopped for this cause; what was decided has some text.
 abbrev pub Reports : (Decision → List ℕ → Type 0) → Stop → Status → Option (List ℕ) → Option (List ℕ) → ℕ → ℕ → Type 0
 Reports Text (Decided decision) result old new faults faults' =
-    (text : List ℕ) × Text decision text × Wrote (status_of decision.verdict) text result old new faults faults'
+    WroteSome (Text decision) (status_of decision.verdict) result old new faults faults'
 Reports Text ReadFault result old new faults faults' = Silent status.ReadFault result old new faults faults'
 Reports Text NoMemory result old new faults faults' = Silent status.NoMemory result old new faults faults'
-
--- the same of a run that was read whole, if there was memory to follow it
-abbrev pub ReportsRun : {E : Type 0} → Result Followed E → Status → Option (List ℕ) → Option (List ℕ) → ℕ → ℕ → Type 0
-ReportsRun (Ok told) result old new faults faults' =
-    Wrote (followed_status told) (run.followed_text told) result old new faults faults'
-ReportsRun (Err _) result old new faults faults' = Silent status.NoMemory result old new faults faults'
-
--- the same of a log that was read whole with its certificate, with so many events and claims, if there was memory to
--- judge it
-abbrev pub ReportsJudged : {E : Type 0} → ℕ → ℕ → Result JudgedBy E → Status → Option (List ℕ) → Option (List ℕ) → ℕ → ℕ
-    → Type 0
-ReportsJudged events claims (Ok told) result old new faults faults' =
-    Wrote (judged_status told) (judged_text events claims told) result old new faults faults'
-ReportsJudged events claims (Err _) result old new faults faults' = Silent status.NoMemory result old new faults faults'
 
 -- the line of a verdict alone
 abbrev pub IsLine : Decision → List ℕ → Type 0
 IsLine decision text = text ≡ verdict_text decision.verdict
-
--- the text of a command for what was decided
-abbrev pub SaysFor : Command → Option Heading → List Event → Decision → List ℕ → Type 0
-SaysFor command heading h decision text = Says command heading h decision.refused decision.verdict text
 
 -- the heading of what is left, where that is told
 abbrev pub Heads : Option (List ℕ) → Option Heading → Type 0
@@ -143,20 +98,6 @@ pub record ReadBoth (left left' : Option (List ℕ)) : Type 0 where
 abbrev pub WantsRead : Option (List ℕ) → Option (List ℕ) → Type 0
 WantsRead left left' = Starves certifying 1 read.AtHeader left left' ⊎ ReadBoth left left'
 
--- a text like this was to be written with this status, or there was no memory for it
-abbrev pub ReportsText : (List ℕ → Type 0) → Status → Status → Option (List ℕ) → Option (List ℕ) → ℕ → ℕ → Type 0
-ReportsText Text wanted result old new faults faults' =
-    ((text : List ℕ) × Text text × Wrote wanted text result old new faults faults')
-    ⊎ Silent status.NoMemory result old new faults faults'
-
--- The text of a command for what was decided was to be written, or there was no memory for what it shows.
-abbrev pub ReportsDecided : Command → Option Heading → List Event → Decision → Status → Option (List ℕ)
-    → Option (List ℕ) → ℕ → ℕ → Type 0
-ReportsDecided command heading h decision result old new faults faults' =
-    ((text : List ℕ) × SaysFor command heading h decision text
-    × Wrote (status_of decision.verdict) text result old new faults faults')
-    ⊎ (ShowsMore command decision.verdict × Silent status.NoMemory result old new faults faults')
-
 -- the same by why reading stopped
 abbrev pub ReportsShown : Command → Option Heading → List Event → Stop → Status → Option (List ℕ) → Option (List ℕ)
     → ℕ → ℕ → Type 0
@@ -166,12 +107,6 @@ ReportsShown command heading h ReadFault result old new faults faults' =
     Silent status.ReadFault result old new faults faults'
 ReportsShown command heading h NoMemory result old new faults faults' =
     Silent status.NoMemory result old new faults faults'
-
--- a verdict with the lines of idle events behind it was to be written, or there was no memory for these
-abbrev pub ReportsIdle : Heading → List Event → Verdict → Status → Option (List ℕ) → Option (List ℕ) → ℕ → ℕ → Type 0
-ReportsIdle heading h verdict result old new faults faults' =
-    Wrote (status_of verdict) (verdict_text verdict ++ marked_lines (idle_marks heading h)) result old new faults faults'
-    ⊎ Silent status.NoMemory result old new faults faults'
 
 -- a log was read for its verdict, behind which a command shows more
 pub record ReadJudged (command : Command) (left left' : Option (List ℕ)) : Type 0 where
@@ -212,12 +147,6 @@ abbrev pub Generates : ℕ → ℕ → Status → Option (List ℕ) → Option (
 Generates n count result left left' reads reads' held held' writes writes' =
     (left' ≡ left) × (reads' ≡ reads) × Wrote status.Accepted (gen_text n count) result held held' writes writes'
 
--- a generated log was judged and the text of that was written, or there was no memory and nothing was written
-abbrev pub Tested : ℕ → ℕ → Status → Option (List ℕ) → Option (List ℕ) → ℕ → ℕ → Type 0
-Tested n count result held held' writes writes' =
-    Wrote status.Accepted (selftest_text n count) result held held' writes writes'
-    ⊎ Silent status.NoMemory result held held' writes writes'
-
 -- the same, and the source is as before
 abbrev pub Selftests : ℕ → ℕ → Status → Option (List ℕ) → Option (List ℕ) → ℕ → ℕ → Option (List ℕ)
     → Option (List ℕ) → ℕ → ℕ → Type 0
@@ -237,13 +166,3 @@ Serves (Generate n count) result left left' reads reads' held held' writes write
     Generates n count result left left' reads reads' held held' writes writes'
 Serves (Selftest n count) result left left' reads reads' held held' writes writes' =
     Selftests n count result left left' reads reads' held held' writes writes'
-
--- This much of a text was written, whole and without a fault, and the rest of it is buffered.
-abbrev pub Buffered : List ℕ → List ℕ → Option (List ℕ) → Option (List ℕ) → ℕ → ℕ → Type 0
-Buffered text buffer old new faults faults' =
-    (done : List ℕ) × (text ≡ done ++ buffer) × (new ≡ extended old done) × (faults' ≡ faults)
-
--- the same, or a write failed
-abbrev pub Pours : List ℕ → Result (Unit {0}) Failed → List ℕ → Option (List ℕ) → Option (List ℕ) → ℕ → ℕ → Type 0
-Pours text (Ok _) buffer old new faults faults' = Buffered text buffer old new faults faults'
-Pours text (Err _) buffer old new faults faults' = Part text old new × Rose faults faults'

@@ -1,41 +1,16 @@
-//! How what is said of a text is written.
+//! How why reading stopped is told.
 
-ghost use Rattle.std.specs.Prelude.{◌≡◌, ℕ, List, Option};
+ghost use Rattle.std.specs.Prelude.{List, Option};
 ghost use Rattle.bbm_events.specs.declared.event.Event.{Event};
 ghost use Rattle.bbm_events.specs.Heading.{Heading as HeadingOf};
-ghost use Rattle.bbm_session.specs.declared.command.Command.{Command as CommandOf};
-ghost use Rattle.bbm_session.specs.Run.{status_of};
+ghost use Rattle.bbm_texts.specs.declared.commands.Command.{Command as CommandOf};
+ghost use Rattle.bbm_texts.specs.Says.{SaysFor};
 ghost use Rattle.bbm_session.specs.Stages.{IsBrief};
-ghost use Rattle.bbm_session.specs.Writing.{IsLine, Wrote, Puts, Reports, SaysFor};
+ghost use Rattle.bbm_session.specs.Writing.{IsLine, Reports};
 
-use crate::status::Status;
 use crate::stop::Stop;
-use crate::telling::tell_verdict;
-use bbm_io::{Failed, Sink};
-use bbm_rules::Verdict;
-
-/// The status of a verdict.
-pub fn status(verdict: &Verdict) -> Status
-    ensures { result ≡ status_of verdict.now }
-{
-    match *verdict {
-        Verdict::Accepted { .. } => Status::Accepted,
-        Verdict::Refused { .. } => Status::Refused,
-        Verdict::Malformed { .. } => Status::Malformed,
-        Verdict::Limit { .. } => Status::Limit,
-    }
-}
-
-/// The wanted status where a text was written whole.
-pub fn settled(written: Result<(), Failed>, wanted: Status) -> Status
-    ensures { (text : List ℕ) (old : Option (List ℕ)) (new : Option (List ℕ)) (faults : ℕ) (faults' : ℕ) →
-        Puts text written old new faults faults' → Wrote wanted text result old new faults faults' }
-{
-    match written {
-        Ok(()) => wanted,
-        Err(Failed) => Status::WriteFault,
-    }
-}
+use bbm_io::Sink;
+use bbm_texts::{Status, report_verdict};
 
 /// Says why reading stopped, by the line of the verdict alone if there is one.
 pub fn report_stop<K: Sink>(stop: Stop, out: &mut K) -> Status
@@ -45,10 +20,7 @@ pub fn report_stop<K: Sink>(stop: Stop, out: &mut K) -> Status
         (K.faults out.old) (K.faults out.new) }
 {
     match stop {
-        Stop::Decided(decision) => settled(
-            tell_verdict(&decision.verdict, out),
-            status(&decision.verdict),
-        ),
+        Stop::Decided(decision) => report_verdict(&decision.verdict, out),
         Stop::ReadFault => Status::ReadFault,
         Stop::NoMemory => Status::NoMemory,
     }

@@ -1,4 +1,4 @@
-//! The commands of the program.
+//! What the words of the program ask for.
 //! Source: project's own choice, where no other is named.
 
 ghost use Rattle.std.specs.Prelude.{◌≡◌, map};
@@ -7,42 +7,15 @@ ghost use Rattle.bbm_session.specs.Requests.{event_count, gen_of, log_after, log
 ghost use Rattle.bbm_session.specs.Run.{command_alone, command_of, limits_of, or_else};
 
 use bbm_log_grammar::read_decimal;
-use bbm_report::{Question, asked};
+use bbm_report::asked;
 use bbm_rules::Limits;
+use bbm_texts::{Command, Evidence};
 
 /// The most events of a log that the oracle judges.
 const ORACLE_EVENTS: u64 = 2000;
 
 /// The most events of a generated log, which has at most 2^32 - 1 lines with its header and its end.
 const GENERATED_EVENTS: u64 = 4_294_967_293;
-
-/// A command that judges a log.
-#[derive(Clone, Copy, Debug)]
-pub enum Command {
-    /// Judges the log and writes the line of its verdict.
-    Check,
-    /// The same by a search of the whole history, to 2,000 events.
-    Slow,
-    /// The same as `Check`; where break-before-make is broken, behind it a line for each PE, how far the place has come
-    /// there.
-    Explain,
-    /// The same as `Check`; where the log is accepted, behind it the line of a walk over the values at its end.
-    Walk(Question),
-    /// The same as `Slow`, with what the events of the log show.
-    Show(Evidence),
-}
-
-/// What a command shows of the events of a log, for which it keeps them all.
-#[derive(Clone, Copy, Debug)]
-pub enum Evidence {
-    /// The events of an accepted log that it can do without.
-    Idle,
-    /// Where break-before-make refuses a write at a place that holds a leaf, in place of the line of the verdict a run of
-    /// the machine of TLBs that ends in a conflict at it.
-    Counterrun,
-    /// In place of the line of an accepted log its certificate: the claims by which alone it keeps the rules.
-    Cert,
-}
 
 /// What the program is asked for.
 #[derive(Clone, Copy, Debug)]

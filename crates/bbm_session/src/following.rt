@@ -2,24 +2,19 @@
 
 ghost use Rattle.std.specs.Prelude.{◌≡◌, ◌*◌, ◌<◌, Some, ok_or};
 ghost use Rattle.bbm_follow.specs.Following.{Reached, RunSays};
-ghost use Rattle.bbm_follow.specs.Following as following_of;
 ghost use Rattle.bbm_session.specs.Fold.{Fold};
 ghost use Rattle.bbm_session.specs.Folds.{Follows, Turns};
-ghost use Rattle.bbm_session.specs.Runs.{followed_status};
 ghost use Rattle.bbm_session.specs.Stages.{MayTakeLine, Shrinks, TakesLine};
-ghost use Rattle.bbm_session.specs.Writing.{FollowsRun, ReportsRun, Wrote};
+ghost use Rattle.bbm_session.specs.Writing.{FollowsRun};
 
-use crate::answering::{report_stop, settled};
+use crate::answering::report_stop;
 use crate::reading::{header_line, read_log};
-use crate::status::Status;
 use crate::stop::{Stop, Turn, decided};
 use crate::taker::Taker;
-use crate::telling::tell;
-use arrayvec::ArrayVec;
 use bbm_events::Header;
-use bbm_follow::{Followed, LineFault, Turn as RunTurn, follow_run, followed_text, take_line};
+use bbm_follow::{LineFault, Turn as RunTurn, follow_run, take_line};
 use bbm_io::{Lines, Sink, Source};
-use bbm_regimes::NoMemory;
+use bbm_texts::{Status, report_run};
 use bbm_tlb_machine::Step;
 use std::alloc::Global;
 
@@ -84,36 +79,6 @@ impl Taker for Following {
         stop: &mut Stop,
     ) -> Option<Turn> {
         follow_line(number, &mut self.steps, header, line, stop)
-    }
-}
-
-/// The status of a run that was read whole.
-fn run_status(told: &Followed) -> Status
-    ensures { result ≡ followed_status told.now }
-{
-    match *told {
-        Followed::Run { .. } => Status::Accepted,
-        Followed::BadStep { .. } => Status::Refused,
-    }
-}
-
-/// Writes what comes of a run that was read whole.
-fn tell_run<K: Sink>(told: Followed, out: &mut K) -> Status
-    ensures wrote { Wrote (followed_status told) (following_of.followed_text told) result
-        (K.held out.old) (K.held out.new) (K.faults out.old) (K.faults out.new) }
-{
-    let mut text = ArrayVec::new();
-    followed_text(told, &mut text);
-    settled(tell(&text, out), run_status(&told))
-}
-
-/// Says what comes of a run that was read whole, if there was memory to follow it.
-fn report_run<K: Sink>(told: Result<Followed, NoMemory>, out: &mut K) -> Status
-    ensures reports { ReportsRun told result (K.held out.old) (K.held out.new) (K.faults out.old) (K.faults out.new) }
-{
-    match told {
-        Ok(followed) => tell_run(followed, out),
-        Err(_) => Status::NoMemory,
     }
 }
 

@@ -12,16 +12,18 @@ ghost use Rattle.bbm_rules.specs.Outcome.{Progress, is_reached, limit_after, aft
 ghost use Rattle.bbm_log_grammar.specs.InLine.{read_in};
 ghost use Rattle.bbm_session.specs.Fold.{Fold};
 ghost use Rattle.bbm_session.specs.Folds.{Judged, Judges, event_needs, item_needs};
-ghost use Rattle.bbm_session.specs.Stages.{StopsAt, MayJudge, Keeps, JudgesLine, MayTakeLine, TakesLine};
+ghost use Rattle.bbm_session.specs.Stages.{StopsAt, MayJudge, JudgesLine, MayTakeLine, TakesLine};
+ghost use Rattle.bbm_texts.specs.Known.{Keeps};
 ghost use Rattle.bbm_session.specs.Refused.{event_in};
 
 use crate::reading::{limit, stop_limit, stop_malformed};
-use crate::stop::{Decision, Stop, Turn};
+use crate::stop::{Stop, Turn};
 use crate::taker::Taker;
 use bbm_events::{Event, Header, Malformed};
 use bbm_log_grammar::{LabelText, LineItem, kept_label, read_line};
 use bbm_regimes::Which;
 use bbm_rules::{Checker, Limits, StepFault, Verdict};
+use bbm_texts::Decision;
 use std::alloc::Global;
 
 /// Why reading stops at an event with this label that the checker didn't take.

@@ -1,12 +1,12 @@
 //! Laws of the text of a generated log, and of a log that keeps the rules by a certificate.
 
 ghost use Rattle.std.specs.Prelude.{◌≡◌, ◌≤◌, ◌++◌, ℕ, List, [], length, true};
-ghost use Rattle.bbm_certificate.specs.Reading.{Whole, read_of};
+ghost use Rattle.bbm_certificate.specs.CertificateReading.{Whole, read_of};
 ghost use Rattle.bbm_cert.specs.Judged.{judged};
 ghost use Rattle.bbm_cert.specs.declared.judged.Judged.TheVariants.{Yes};
 ghost use Rattle.bbm_tlb_machine.specs.Safe.{IsLog, Safe};
 ghost use Rattle.bbm_gen.specs.Generated.{heading, log_of};
-ghost use Rattle.bbm_certify.specs.Least.{IsCertificate};
+ghost use Rattle.bbm_certify.specs.LeastClaims.{IsCertificate};
 ghost use Rattle.bbm_events.specs.Heading.{Heading, heading_ok};
 ghost use Rattle.bbm_events.specs.declared.claim.Claim.{Claim};
 ghost use Rattle.bbm_events.specs.declared.event.Event.{Event};
@@ -18,7 +18,7 @@ ghost use Rattle.bbm_rules.specs.Pages.{initialised};
 ghost use Rattle.bbm_rules.specs.Phases.{restless_of};
 ghost use Rattle.bbm_rules.specs.Texts.{verdict_text};
 ghost use Rattle.bbm_rules.specs.declared.verdict.Verdict.TheVariants.{Accepted};
-ghost use Rattle.bbm_session.specs.Generating.{counts_text, gen_text, selftest_text};
+ghost use Rattle.bbm_texts.specs.Generating.{counts_text, gen_text, selftest_text};
 ghost use Rattle.bbm_session.specs.Verified.{IsVerified};
 
 use bbm_cert::law_judged;

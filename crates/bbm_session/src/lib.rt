@@ -3,12 +3,8 @@
 #![tactic(auto)]
 
 mod answering;
-mod buffering;
-mod certifying;
 mod command;
-mod counterrun;
 mod following;
-mod generating;
 mod judgement;
 mod judging;
 mod keeping;
@@ -16,18 +12,14 @@ pub mod laws;
 mod line;
 mod obeying;
 mod reading;
-mod selftesting;
 mod showing;
-pub mod status;
 mod stop;
 mod taker;
-mod telling;
 mod top;
 mod verifying;
 
-pub use command::{Command, Evidence, Request};
+pub use command::Request;
 pub use laws::{
     law_cert, law_certificate_says_yes, law_generated_is_accepted, law_verified_is_safe,
 };
-pub use status::{Status, number};
 pub use top::run;

@@ -3,23 +3,23 @@
 ghost use Rattle.std.specs.Prelude.{◌≡◌, ◌*◌, false, List, Some};
 ghost use Rattle.bbm_events.specs.declared.event.Event.{Event};
 ghost use Rattle.bbm_session.specs.Folds.{is_frugal};
-ghost use Rattle.bbm_session.specs.Run.{shows};
+ghost use Rattle.bbm_texts.specs.Says.{shows};
 ghost use Rattle.bbm_session.specs.Stages.{KnowsAt, Shrinks};
-ghost use Rattle.bbm_session.specs.Writing.{Reports, Obeys, SaysFor};
+ghost use Rattle.bbm_session.specs.Writing.{Reports, Obeys};
+ghost use Rattle.bbm_texts.specs.Says.{SaysFor};
 
-use crate::answering::{report_stop, settled, status};
-use crate::command::{Command, limits};
+use crate::answering::report_stop;
+use crate::command::limits;
 use crate::judgement::judge_log;
-use crate::status::Status;
 use crate::stop::Stop;
-use crate::telling::tell_all;
 use bbm_events::Header;
 use bbm_io::{Sink, Source};
 use bbm_rules::{Checker, Fresh};
+use bbm_texts::{Command, Status, report};
 use std::alloc::Global;
 
 /// Says why reading stopped behind the header.
-fn report<C: Checker, K: Sink>(
+fn report_stopped<C: Checker, K: Sink>(
     command: &Command,
     header: &Header,
     checker: &C,
@@ -33,10 +33,7 @@ fn report<C: Checker, K: Sink>(
         (K.faults out.old) (K.faults out.new) }
 {
     match stop {
-        Stop::Decided(decision) => settled(
-            tell_all(command, header, checker, &decision.verdict, out),
-            status(&decision.verdict),
-        ),
+        Stop::Decided(decision) => report(command, header, checker, &decision, out),
         Stop::ReadFault => Status::ReadFault,
         Stop::NoMemory => Status::NoMemory,
     }
@@ -57,7 +54,7 @@ pub fn obey<C: Fresh + Drop, S: Source, K: Sink>(
     ensures shrinks { Shrinks (201 * 4294967298) (S.left log.old) (S.left log.new) }
 {
     match judge_log::<C, S>(alloc, limits(command), log) {
-        Ok(judgement) => report(
+        Ok(judgement) => report_stopped(
             command,
             &judgement.header,
             &judgement.checker,

@@ -3,17 +3,8 @@
 ghost use Rattle.std.specs.Prelude.{◌≡◌};
 ghost use Rattle.bbm_session.specs.Fold.{alone};
 
-use bbm_events::Event;
 use bbm_rules::Verdict;
-
-/// What is decided.
-#[derive(Clone, Copy, Debug)]
-pub struct Decision {
-    /// The verdict.
-    pub verdict: Verdict,
-    /// The event that is refused; None where the verdict refuses none.
-    pub refused: Option<Event>,
-}
+use bbm_texts::Decision;
 
 /// Why reading a log stopped.
 #[derive(Clone, Copy, Debug)]

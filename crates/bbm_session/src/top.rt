@@ -7,49 +7,32 @@ ghost use Rattle.bbm_io.specs.Flow.{preceded, extended};
 ghost use Rattle.bbm_rules.specs.Claims.{Patterns};
 ghost use Rattle.bbm_session.specs.Verified.{IsVerified};
 ghost use Rattle.bbm_tlb_machine.specs.Accepted.{SafeBytes};
-ghost use Rattle.bbm_session.specs.declared.command.Command.{Command as CommandOf};
+ghost use Rattle.bbm_texts.specs.declared.commands.Command.{Command as CommandOf};
 ghost use Rattle.bbm_session.specs.declared.command.Request.{Request as RequestOf};
 ghost use Rattle.bbm_session.specs.declared.command.Request.TheVariants.{Generate, Selftest, Verify};
-ghost use Rattle.bbm_session.specs.declared.status.Status.{Status as StatusOf};
+ghost use Rattle.bbm_texts.specs.declared.status.Status.{Status as StatusOf};
 ghost use Rattle.bbm_session.specs.Requests.{FaultAt, IsSomeTextFor, IsTextFor, ReadForAll, WantAt, reads_input};
 ghost use Rattle.bbm_session.specs.Requests.{request_of, status_for, unread_for};
-ghost use Rattle.bbm_session.specs.Run.{command_of, limits_of, tells_verdict, usage_text};
+ghost use Rattle.bbm_session.specs.Run.{command_of, limits_of, tells_verdict};
+ghost use Rattle.bbm_texts.specs.Says.{usage_text};
 ghost use Rattle.bbm_session.specs.Stages.{Shrinks};
-ghost use Rattle.bbm_session.specs.Writing.{Obeys, Wrote, Part, Serves};
+ghost use Rattle.bbm_session.specs.Writing.{Obeys, Serves};
+ghost use Rattle.bbm_texts.specs.Writing.{Part};
 
-use crate::answering::settled;
-use crate::command::{Command, Request, said};
+use crate::command::{Request, said};
 use crate::following::follow;
-use crate::generating::generate;
 use crate::keeping::Keeping;
 use crate::laws::law_verified_is_safe;
 use crate::obeying::obey;
-use crate::selftesting::selftest;
 use crate::showing::show;
-use crate::status::Status;
-use crate::telling::tell;
 use crate::verifying::verify;
 use bbm_events::law_item_fits;
 use bbm_io::{Sink, Source};
 use bbm_oracle::Oracle;
 use bbm_replay::Replay;
+use bbm_texts::{Command, Status, generate, say_usage, selftest};
 use bbm_tlb_machine::law_accepted_is_safe;
 use std::alloc::Global;
-
-/// The usage line, which names all commands.
-fn usage() -> &'static [u8]
-    ensures { result.now ≡ usage_text }
-{
-    b"usage: bbm check | slow | explain | walk KIND ROOT ADDR | gen N COUNT | selftest N COUNT | follow | counterrun | cert | verify | idle\n"
-}
-
-/// Writes the usage line.
-fn say_usage<K: Sink>(out: &mut K) -> Status
-    ensures wrote { Wrote Status.Usage usage_text result (K.held out.old) (K.held out.new)
-        (K.faults out.old) (K.faults out.new) }
-{
-    settled(tell(usage(), out), Status::Usage)
-}
 
 /// Judges a log: for `slow` by the oracle, which searches the whole history, and else by the checker that keeps none,
 /// with a list of the events beside it where more of them is shown.

@@ -1,26 +1,20 @@
 //! A log and its certificate, taken line after line and judged by it.
 
-ghost use Rattle.std.specs.Prelude.{◌≡◌, ◌*◌, ◌<◌, Some, length, ok_or};
-ghost use Rattle.bbm_certificate.specs.Reading.{Reached, Said};
-ghost use Rattle.bbm_session.specs.Certificates.{judged_status as status_of_judged, judged_text};
+ghost use Rattle.std.specs.Prelude.{◌≡◌, ◌*◌, ◌<◌, Some, ok_or};
+ghost use Rattle.bbm_certificate.specs.CertificateReading.{Reached, Said};
 ghost use Rattle.bbm_session.specs.Fold.{Fold};
 ghost use Rattle.bbm_session.specs.Folds.{Certifies, TurnsRead};
 ghost use Rattle.bbm_session.specs.Stages.{MayTakeLine, Shrinks, TakesLine};
-ghost use Rattle.bbm_session.specs.Writing.{ReportsJudged, Verifies, Wrote};
+ghost use Rattle.bbm_session.specs.Writing.{Verifies};
 
-use crate::answering::{report_stop, settled};
+use crate::answering::report_stop;
 use crate::reading::{header_line, read_log};
-use crate::status::Status;
 use crate::stop::{Stop, Turn, decided};
 use crate::taker::Taker;
-use crate::telling::tell;
-use arrayvec::ArrayVec;
-use bbm_cert::Judged;
 use bbm_certificate::{Kept, LineFault, Turn as ReadTurn, judge_kept, take_line};
 use bbm_events::{Header, law_header_in_range};
 use bbm_io::{Lines, Sink, Source};
-use bbm_regimes::NoMemory;
-use bbm_report::{unverified_text, verified_text};
+use bbm_texts::{Status, report_judged};
 use std::alloc::Global;
 
 /// What a line decides that was taken or not.
@@ -66,7 +60,7 @@ pub struct Verifying {
 }
 
 impl Taker for Verifying {
-    ghost use Rattle.bbm_certificate.specs.Reading.{Reached, Said as SaidOfBoth};
+    ghost use Rattle.bbm_certificate.specs.CertificateReading.{Reached, Said as SaidOfBoth};
     ghost use Rattle.bbm_session.specs.Folds.{Certifies};
 
     ghost Reached = { Reached };
@@ -87,61 +81,6 @@ impl Taker for Verifying {
     }
 }
 
-/// The status of a log that was judged by its certificate.
-fn judged_status(told: &Judged) -> Status
-    ensures { result ≡ status_of_judged told.now }
-{
-    match *told {
-        Judged::Yes => Status::Accepted,
-        Judged::No { .. } => Status::Refused,
-    }
-}
-
-/// Writes what was judged of a log with so many events by its certificate with so many claims.
-fn tell_judged<K: Sink>(told: Judged, events: u64, claims: u64, out: &mut K) -> Status
-    ensures wrote { Wrote (status_of_judged told) (judged_text events claims told) result
-        (K.held out.old) (K.held out.new) (K.faults out.old) (K.faults out.new) }
-{
-    let mut text = ArrayVec::new();
-    match told {
-        Judged::Yes => verified_text(events, claims, &mut text),
-        Judged::No { position, rule, at } => {
-            unverified_text(u64::from(position) + 1, rule, at, &mut text)
-        }
-    }
-    settled(tell(&text, out), judged_status(&told))
-}
-
-/// Says what was judged, if there was memory for it.
-fn report_judged<K: Sink>(
-    told: Result<Judged, NoMemory>,
-    events: u64,
-    claims: u64,
-    out: &mut K,
-) -> Status
-    ensures reports { ReportsJudged events claims told result
-        (K.held out.old) (K.held out.new) (K.faults out.old) (K.faults out.new) }
-{
-    match told {
-        Ok(judged) => tell_judged(judged, events, claims, out),
-        Err(_) => Status::NoMemory,
-    }
-}
-
-/// How many events are kept.
-fn event_count(kept: &Kept) -> u64
-    ensures { result ≡ length kept.now.events.items }
-{
-    kept.events.len() as u64
-}
-
-/// How many claims are kept.
-fn claim_count(kept: &Kept) -> u64
-    ensures { result ≡ length kept.now.claims.items }
-{
-    kept.claims.len() as u64
-}
-
 /// Reads a log and its certificate, judges the one by the other, and writes the line of that. All lines are read before
 /// anything is judged.
 pub fn verify<S: Source, K: Sink>(alloc: Global, log: &mut S, out: &mut K) -> Status
@@ -159,8 +98,7 @@ pub fn verify<S: Source, K: Sink>(alloc: Global, log: &mut S, out: &mut K) -> St
             match read_log(alloc, &header, &mut verifying, &mut lines, log) {
                 Ok(()) => report_judged(
                     judge_kept(alloc, &header, &verifying.kept),
-                    event_count(&verifying.kept),
-                    claim_count(&verifying.kept),
+                    &verifying.kept,
                     out,
                 ),
                 Err(stop) => report_stop(stop, out),

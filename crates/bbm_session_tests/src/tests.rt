@@ -20,7 +20,8 @@ mod usage;
 mod verify;
 
 use bbm_io::{MemSink, MemSource};
-use bbm_session::{number, run};
+use bbm_session::run;
+use bbm_texts::number;
 use std::alloc::{AllocError, Global};
 
 /// The calls of the source and of the sink that fail, counted from 1 (0: none does), and the room of the

@@ -2,7 +2,7 @@
 
 ghost use Rattle.std.specs.Prelude.{◌≡◌, IfOk};
 ghost use Rattle.bbm_rules.specs.Answers.{MayAsk};
-ghost use Rattle.bbm_replay_roots.specs.Stands.{Stands};
+ghost use Rattle.bbm_replay_roots.specs.RootStateStands.{Stands};
 
 use bbm_barriers::{Domain, Dsb, Types};
 use bbm_events::Header;

@@ -2,7 +2,7 @@
 #![tactic(auto)]
 
 ghost use Rattle.std.specs.Prelude.{◌≡◌, ◌<◌, IfOk};
-ghost use Rattle.bbm_roots.specs.Stands.{pes_of, world_of};
+ghost use Rattle.bbm_roots.specs.RootsStand.{pes_of, world_of};
 
 use bbm_barriers::{Domain, Dsb, Types};
 use bbm_events::Header;

@@ -1,5 +1,7 @@
 -- A TLBI that covers a place of a part, and that was issued after the entry was made, takes the entry.
-use Rattle.std.proofs.Common.{◌≡◌, ℕ, suc, ◌+◌, ◌-◌, ◌<◌, ◌≤◌, ◌⊎◌, Bool, true, false, List, [], ◌∷◌, ◌++◌, length, Option, Some, None, is_some, Contains, refl, sym, ◌∙◌, ap, subst, inl, inr, arith, true≢false, length-append}
+use Rattle.std.proofs.Common.{◌≡◌, ℕ, suc, ◌+◌, ◌-◌, ◌<◌, ◌≤◌, ◌⊎◌, Bool, true, false, List, [], ◌∷◌, ◌++◌, length}
+use Rattle.std.proofs.Common.{Option, Some, None, is_some, Contains, refl, sym, ◌∙◌, ap, subst, inl, inr, arith}
+use Rattle.std.proofs.Common.{true≢false, length-append}
 use Rattle.std.proofs.lemmas.List.{append_assoc, append_cancel_left}
 use Rattle.bbm_regimes.specs.declared.regime.Kind.{Kind}
 use Rattle.bbm_regimes.specs.Extent.{Extent, holds}
@@ -24,10 +26,10 @@ use Rattle.bbm_rules.specs.Sentences.{Open}
 use Rattle.bbm_rules.specs.Tags.{tag_set, tags_of}
 use Rattle.bbm_rules.specs.Tree.{Node, held_at, is_childless, next_in, next_of, node_of, region_of, region_start, tree}
 use Rattle.bbm_rules.specs.TreeSentences.{Childless}
-use Rattle.bbm_histories.specs.Tree.{HeldBy, View}
+use Rattle.bbm_histories.specs.TreeChanges.{HeldBy, View}
 use Rattle.bbm_tlb_machine.specs.Entry.{Entry, Part, desc_in, head_of, is_leaf, parts_of, region_in, tag_of_entry}
 use Rattle.bbm_tlb_machine.specs.Invariant.{Fine, Holding, IsAt, IsBelow, IsNear}
-use Rattle.bbm_tlb_machine.specs.Known.{Known}
+use Rattle.bbm_tlb_machine.specs.KnownOfMachine.{Known}
 use Rattle.bbm_tlb_machine.proofs.Descs.{leaf_if_no_table, no_leaf_if_table, some_pages}
 use Rattle.bbm_tlb_machine.proofs.Elements.{events_append, events_length}
 use Rattle.bbm_tlb_machine.proofs.Facts.{has_tag, held_there, keeps_older, means, no_global, tag_then}

@@ -1,8 +1,10 @@
 -- What values of one core have in common, and what is known of tables and leaves.
-use Rattle.std.proofs.Common.{◌≡◌, ℕ, zero, suc, ◌+◌, ◌-◌, ◌*◌, ◌/◌, ◌^◌, ◌≤◌, Bool, true, false, cond, ◌==◌, Some, is_some, refl, sym, ◌∙◌, ap, subst, arith, true≢false}
+use Rattle.std.proofs.Common.{◌≡◌, ℕ, zero, suc, ◌+◌, ◌-◌, ◌*◌, ◌/◌, ◌^◌, ◌≤◌, Bool, true, false, cond, ◌==◌, Some}
+use Rattle.std.proofs.Common.{is_some, refl, sym, ◌∙◌, ap, subst, arith, true≢false}
 use Rattle.std.proofs.lemmas.Bool.{false_from_ne_true, not-false}
 use Rattle.bbm_regimes.specs.declared.regime.Kind.{Kind}
-use Rattle.bbm_descriptor.specs.Descriptor.{Form, core_in, desc_as, desc_of, desc_with, differ, form_of, is_valid, needs, same_core, valid_form}
+use Rattle.bbm_descriptor.specs.Descriptor.{Form, core_in, desc_as, desc_of, desc_with, differ, form_of, is_valid}
+use Rattle.bbm_descriptor.specs.Descriptor.{needs, same_core, valid_form}
 use Rattle.bbm_descriptor.specs.Fields.{type_bits}
 use Rattle.bbm_descriptor.specs.declared.desc.Core.{Core}
 use Rattle.bbm_descriptor.specs.declared.desc.Core.TheVariants.{Table as CoreTable, Leaf as CoreLeaf}
@@ -12,7 +14,7 @@ use Rattle.bbm_rules.specs.Claims.{Trust}
 use Rattle.bbm_rules.specs.Prelude.{Heading, input_pages}
 use Rattle.bbm_rules.specs.Tree.{next_in, next_of}
 use Rattle.bbm_tlb_machine.specs.Entry.{is_leaf}
-use Rattle.bbm_tlb_machine.specs.Known.{Known}
+use Rattle.bbm_tlb_machine.specs.KnownOfMachine.{Known}
 
 not_invalid : (form : Form) (kind : Kind) (level value : ℕ) → valid_form form ≡ true → desc_as form kind level value ≡ Invalid → ⊥
 not_invalid Form.invalid kind level value v e = true≢false (sym v)

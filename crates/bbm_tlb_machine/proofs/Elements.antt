@@ -1,29 +1,12 @@
 -- Elements of lists, splits, and PEs of a header.
-use Rattle.std.proofs.Common.{◌≡◌, ℕ, zero, suc, ◌+◌, ◌<◌, ◌≤◌, ◌⊎◌, ◌||◌, Bool, true, false, ◌==◌, List, [], ◌∷◌, ◌++◌, length, Contains, slice_index_or, refl, sym, ◌∙◌, ap, inl, inr, arith, true≢false, not-suc-le-zero, le_of_suc-le-suc, suc-le-suc, zero-le, length-append}
+use Rattle.std.proofs.Common.{◌≡◌, ℕ, zero, suc, ◌+◌, ◌<◌, ◌≤◌, ◌⊎◌, ◌||◌, Bool, true, false, ◌==◌, List, [], ◌∷◌, ◌++◌}
+use Rattle.std.proofs.Common.{length, Contains, slice_index_or, refl, sym, ◌∙◌, ap, inl, inr, arith, true≢false}
+use Rattle.std.proofs.Common.{not-suc-le-zero, le_of_suc-le-suc, suc-le-suc, zero-le, length-append}
 use Rattle.std.proofs.lemmas.Bool.{eq-eqb, eqb-true, or_left, or_right}
 use Rattle.bbm_rules.specs.Lists.{some_pe}
 use Rattle.bbm_rules.specs.Notes.{Noted, events_of}
 use Rattle.bbm_rules.specs.Prelude.{Event}
-
-pub contains_head : {X : Type 0} (xs : List X) (x : X) → Contains (x ∷ xs) x
-contains_head xs x = (0, suc-le-suc zero-le, refl)
-
-pub contains_more : {X : Type 0} (xs : List X) (y x : X) → Contains xs x → Contains (y ∷ xs) x
-contains_more xs y x c = (suc c.0, suc-le-suc c.1, c.2)
-
-pub contains_cases : {X : Type 0} (xs : List X) (y x : X) → Contains (y ∷ xs) x → (y ≡ x) ⊎ Contains xs x
-contains_cases {X} xs y x c = by c.0 c.1 c.2
-  where
-    by : (k : ℕ) → k < length (y ∷ xs) → slice_index_or (y ∷ xs) k x ≡ x → (y ≡ x) ⊎ Contains xs x
-    by zero below e = inl e
-    by (suc k) below e = inr (k, le_of_suc-le-suc below, e)
-
-pub contains_none : {X : Type 0} (x : X) → Contains [] x → ⊥
-contains_none x c = not-suc-le-zero c.1
-
-pub contains_after : {X : Type 0} (xs ys : List X) (x : X) → Contains ys x → Contains (xs ++ ys) x
-contains_after [] ys x c = c
-contains_after (y ∷ xs) ys x c = contains_more (xs ++ ys) y x (contains_after xs ys x c)
+use Rattle.bbm_lemmas.proofs.Elements.{contains_more}
 
 -- of two splits of one list, that with the longer second part lies before the other
 pub record Between {X : Type 0} (newer older first rest : List X) : Type 0 where

@@ -1,5 +1,6 @@
 -- An entry that is fine stays so after an event that breaks no rule and leaves it.
-use Rattle.std.proofs.Common.{◌≡◌, ℕ, suc, ◌≤◌, true, false, cond, List, [], ◌∷◌, length, Option, Some, None, Contains, refl, sym, ◌∙◌, ap, subst, inl, inr, arith}
+use Rattle.std.proofs.Common.{◌≡◌, ℕ, suc, ◌≤◌, true, false, cond, List, [], ◌∷◌, length, Option, Some, None, Contains}
+use Rattle.std.proofs.Common.{refl, sym, ◌∙◌, ap, subst, inl, inr, arith}
 use Rattle.bbm_regimes.specs.declared.regime.Kind.{Kind}
 use Rattle.bbm_descriptor.specs.Descriptor.{needs}
 use Rattle.bbm_tlbi_scope.specs.Agreement.{tag_of}
@@ -12,16 +13,17 @@ use Rattle.bbm_rules.specs.PatternSentences.{IsLastValid}
 use Rattle.bbm_rules.specs.Prelude.{Heading, El2, S2, Ttbr0, Ttbr1, Event, Dsb}
 use Rattle.bbm_rules.specs.Roots.{is_root}
 use Rattle.bbm_rules.specs.Tree.{Node, held_at}
-use Rattle.bbm_histories.specs.Tags.{kind_of_tag}
-use Rattle.bbm_histories.specs.Tree.{HeldChange}
+use Rattle.bbm_histories.specs.TagSteps.{kind_of_tag}
+use Rattle.bbm_histories.specs.TreeChanges.{HeldChange}
 use Rattle.bbm_tlb_machine.specs.Entry.{Entry, Part, head_of, parts_of, tag_of_entry}
 use Rattle.bbm_tlb_machine.specs.Invariant.{Fine, Holding, IsAt}
-use Rattle.bbm_tlb_machine.specs.Known.{Known}
+use Rattle.bbm_tlb_machine.specs.KnownOfMachine.{Known}
 use Rattle.bbm_tlb_machine.proofs.Descs.{no_need}
 use Rattle.bbm_tlb_machine.proofs.Facts.{held_there, held_valid, keeps_older, tag_now}
 use Rattle.bbm_tlb_machine.proofs.InTrees.{all_placed}
 use Rattle.bbm_tlb_machine.proofs.ListWords.{bind_some}
-use Rattle.bbm_tlb_machine.proofs.Patterns.{LeavesIt, joined_before_after, made_before_after, tagged_after, uncleansed_after}
+use Rattle.bbm_tlb_machine.proofs.Patterns.{LeavesIt, joined_before_after, made_before_after, tagged_after}
+use Rattle.bbm_tlb_machine.proofs.Patterns.{uncleansed_after}
 
 pub tag_kind : (kind : Kind) (e : EntryHead) → kind_of_tag (tag_of kind e) ≡ kind
 tag_kind El2 e = refl

@@ -1,6 +1,7 @@
 -- What a fine entry gives at once: the node, the value and the tag of its parts, in one place.
-use Rattle.std.proofs.Common.{◌≡◌, ℕ, ◌≤◌, ◌&&◌, Bool, true, false, List, [], ◌∷◌, ◌++◌, length, Some, is_none, refl, sym, ◌∙◌, ap, arith, true≢false}
-use Rattle.std.proofs.lemmas.Bool.{and_parts}
+use Rattle.std.proofs.Common.{◌≡◌, ℕ, ◌≤◌, ◌&&◌, Bool, true, false, List, [], ◌∷◌, ◌++◌, length, Some, is_none, refl}
+use Rattle.std.proofs.Common.{sym, ◌∙◌, ap, arith, true≢false}
+use Rattle.std.proofs.lemmas.Bool.{and_parts, and_right}
 use Rattle.bbm_regimes.specs.declared.regime.Kind.{Kind}
 use Rattle.bbm_descriptor.specs.Descriptor.{desc_of, is_valid}
 use Rattle.bbm_tlbi_scope.specs.Agreement.{HasTag}
@@ -17,13 +18,10 @@ use Rattle.bbm_rules.specs.Tags.{holds_at, holds_tag, tag_set, tags_of}
 use Rattle.bbm_rules.specs.Tree.{Node, held_at}
 use Rattle.bbm_tlb_machine.specs.Entry.{Entry, Part, desc_in, head_of, is_leaf, tag_of_entry}
 use Rattle.bbm_tlb_machine.specs.Invariant.{Fine, Holding, IsAt, Placed, Tagged}
-use Rattle.bbm_tlb_machine.specs.Known.{Known}
+use Rattle.bbm_tlb_machine.specs.KnownOfMachine.{Known}
 use Rattle.bbm_tlb_machine.proofs.Descs.{same_desc}
-use Rattle.bbm_tlb_machine.proofs.Elements.{Between, between_splits, contains_head, pe_finds}
-
-and_not_right : (a b : Bool) → b ≡ false → (a && b) ≡ false
-and_not_right true b e = e
-and_not_right false b e = refl
+use Rattle.bbm_tlb_machine.proofs.Elements.{Between, between_splits, pe_finds}
+use Rattle.bbm_lemmas.proofs.Elements.{contains_head}
 
 module _ (heading : Heading) (trust : Trust) where
   pub keeps_older : (newer older : List Event) → keeps heading trust (newer ++ older) ≡ true → keeps heading trust older ≡ true
@@ -83,7 +81,7 @@ module _ (heading : Heading) (trust : Trust) (k : Known heading trust) (h : List
       let i = contains_head x.above x.last in
       let p : Placed heading trust h x.root x.last = f.placed x.last i in
       let q : Holding heading trust h x.last = f.holding x.last i in
-      and_not_right (is_leaf (desc_in x.last)) (is_global (desc_in x.last))
+      and_right (is_leaf (desc_in x.last)) (is_global (desc_in x.last))
       (ap is_global (sym (means x.last p.node p.is_at q (f.shape.valid x.last i)))
       ∙ k.lower_leaves h kept p.node x.last.place q.value p.in_tree (p.is_at.kind ∙ lower) p.is_at.inside
       (held_there x.last p.node p.is_at q.value q.holds))

@@ -1,5 +1,6 @@
 -- What a step does to what `follow` has.
-use Rattle.std.proofs.Common.{◌≡◌, ℕ, ◌+◌, ◌<◌, Bool, true, false, List, [], ◌∷◌, ◌++◌, length, take, drop, get_or, reverse, Option, Some, None, Result, Ok, Err, IfOk, refl, sym, ◌∙◌, ap, subst, arith}
+use Rattle.std.proofs.Common.{◌≡◌, ℕ, ◌+◌, ◌<◌, Bool, true, false, List, [], ◌∷◌, ◌++◌, length, take, drop, get_or}
+use Rattle.std.proofs.Common.{reverse, Option, Some, None, Result, Ok, Err, IfOk, refl, sym, ◌∙◌, ap, subst, arith}
 use Rattle.std.proofs.lemmas.List.{length-reverse, length-take-le, reverse-append, take-append-drop, take_more}
 use Rattle.bbm_events.specs.declared.machine.MachineLine.{MachineLine}
 use Rattle.bbm_events.specs.declared.machine.MachineLine.TheVariants.{Start, Extend, Combine, Share, Drop}
@@ -9,8 +10,9 @@ use Rattle.bbm_tlb_machine.specs.declared.step.Step.{Step}
 use Rattle.bbm_tlb_machine.specs.declared.step.Step.TheVariants.{Machine, Event as Taken}
 use Rattle.bbm_tlb_machine.specs.Entry.{Entry}
 use Rattle.bbm_tlb_machine.specs.Followed.{Followed, Follows, GoesOn, entry_made, found}
-use Rattle.bbm_tlb_machine.specs.Pendings.{IsPending, Pending}
-use Rattle.bbm_tlb_machine.specs.Run.{Living, State, after_event, follow_steps, next_in, or_index, step_to, with_entry}
+use Rattle.bbm_tlb_machine.specs.MachinePendings.{IsPending, Pending}
+use Rattle.bbm_tlb_machine.specs.MachineRun.{Living, State, after_event, follow_steps, next_in, or_index, step_to}
+use Rattle.bbm_tlb_machine.specs.MachineRun.{with_entry}
 use Rattle.bbm_tlb_machine.specs.Safe.{conflicts_with, earlier, fails_at, first_conflict, in_conflict}
 use Rattle.bbm_tlb_machine.specs.Step.{combined, extended, is_stage2, may_extend, may_share, shared}
 

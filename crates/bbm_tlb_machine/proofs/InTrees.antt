@@ -1,6 +1,7 @@
 -- The places of the parts of an entry lie in pages of the trees, where its root is declared and each place holds the core
 -- of what was read.
-use Rattle.std.proofs.Common.{◌≡◌, ℕ, suc, ◌+◌, ◌*◌, ◌<◌, true, List, [], ◌∷◌, Some, Contains, refl, sym, ◌∙◌, ap, subst, inl, inr}
+use Rattle.std.proofs.Common.{◌≡◌, ℕ, suc, ◌+◌, ◌*◌, ◌<◌, true, List, [], ◌∷◌, Some, Contains, refl, sym, ◌∙◌, ap}
+use Rattle.std.proofs.Common.{subst, inl, inr}
 use Rattle.bbm_regimes.specs.declared.regime.Kind.{Kind}
 use Rattle.bbm_descriptor.specs.Descriptor.{is_valid}
 use Rattle.bbm_rules.specs.Broken.{keeps}
@@ -13,9 +14,9 @@ use Rattle.bbm_rules.specs.Roots.{is_root, roots_of}
 use Rattle.bbm_rules.specs.Tree.{Node, next_in, next_of, node_below, nodes_of_root}
 use Rattle.bbm_tlb_machine.specs.Entry.{Entry, Part}
 use Rattle.bbm_tlb_machine.specs.Invariant.{Begins, Chained, Holding, IsAt, IsBelow, Placed, start_nodes}
-use Rattle.bbm_tlb_machine.specs.Known.{Known}
-use Rattle.bbm_tlb_machine.proofs.Elements.{contains_cases, contains_head, contains_more, contains_none}
+use Rattle.bbm_tlb_machine.specs.KnownOfMachine.{Known}
 use Rattle.bbm_tlb_machine.proofs.Facts.{held_there, means}
+use Rattle.bbm_lemmas.proofs.Elements.{contains_cases, contains_head, contains_more, contains_none}
 
 module _ (heading : Heading) (trust : Trust) (k : Known heading trust) (h : List Event) (kept : keeps heading trust h ≡ true) (x : Entry) where
   abbrev notes : List Noted

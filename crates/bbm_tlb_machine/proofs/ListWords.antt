@@ -1,10 +1,11 @@
 -- Tests of a list and options in the words of sentences.
-use Rattle.std.proofs.Common.{◌≡◌, ℕ, Bool, true, false, ◌||◌, ◌==◌, List, [], ◌∷◌, map, Option, Some, None, Contains, refl, sym, ◌∙◌, ap, true≢false}
+use Rattle.std.proofs.Common.{◌≡◌, ℕ, Bool, true, false, ◌||◌, ◌==◌, List, [], ◌∷◌, map, Option, Some, None, Contains}
+use Rattle.std.proofs.Common.{refl, sym, ◌∙◌, ap, true≢false}
 use Rattle.std.proofs.lemmas.Bool.{false_from_ne_true}
 use Rattle.std.proofs.lemmas.List.Elements.{All-contains_itself, All-weaker}
 use Rattle.std.proofs.lemmas.List.Folds.{list_any_at, list_any_none}
 use Rattle.bbm_rules.specs.Lists.{◌>>=◌, among, any, if_so}
-use Rattle.bbm_rules.specs.Registers.{tag_number}
+use Rattle.bbm_rules.specs.RegisterValues.{tag_number}
 
 pub none_in : {X : Type 0} (p : X → Bool) (xs : List X) → any p xs ≡ false → (x : X) → Contains xs x → p x ≡ false
 none_in p xs k x c =

@@ -1,5 +1,6 @@
 -- One look back at an event, by the event.
-use Rattle.std.proofs.Common.{◌≡◌, ℕ, suc, ◌+◌, ◌<◌, Bool, true, false, cond, ◌&&◌, ◌||◌, ◌==◌, List, [], ◌∷◌, length, take, drop, get_or, reverse, refl, sym, ◌∙◌, ap, true≢false}
+use Rattle.std.proofs.Common.{◌≡◌, ℕ, suc, ◌+◌, ◌<◌, Bool, true, false, cond, ◌&&◌, ◌||◌, ◌==◌, List, [], ◌∷◌, length}
+use Rattle.std.proofs.Common.{take, drop, get_or, reverse, refl, sym, ◌∙◌, ap, true≢false}
 use Rattle.std.proofs.lemmas.Bool.{eq-eqb, eqb-true, false_from_ne_true, or_left}
 use Rattle.std.proofs.Math.Bool.{or_comm}
 use Rattle.std.proofs.Common.{add-one, drop-cons}
@@ -8,6 +9,7 @@ use Rattle.bbm_rules.specs.Lists.{among}
 use Rattle.bbm_rules.specs.Places.{page_of}
 use Rattle.bbm_rules.specs.Prelude.{Barrier, Heading, Event, Init, Write, Dsb}
 use Rattle.bbm_rules.specs.Values.{published, publishes_for, publishes_to, readable_before}
+use mathlib.Core.Bool.{or-false}
 
 -- a write at the place
 at_write : (v value : ℕ) (rest : List ℕ) (gone : Bool) → (v == value) ≡ false
@@ -60,11 +62,7 @@ pub init_here : (heading : Heading) (p place value : ℕ) (later older : List Ev
     → among value (readable_before heading later (Init q page ∷ older) place p) ≡ (0 == value)
 init_here heading p place value later older q page e =
     ap (λ b. among value (cond b (0 ∷ []) (readable_before heading (Init q page ∷ later) older place p))) e
-    ∙ or_false (0 == value)
-  where
-    or_false : (b : Bool) → (b || false) ≡ b
-    or_false true = refl
-    or_false false = refl
+    ∙ or-false (0 == value)
 
 -- the marks after a DSB
 same_test : (a b : ℕ) → (a == b) ≡ (b == a)

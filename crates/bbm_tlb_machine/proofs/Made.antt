@@ -1,5 +1,6 @@
 -- What a step of the machine makes of fine entries is fine: an entry that is started, extended, joined or copied.
-use Rattle.std.proofs.Common.{◌≡◌, ℕ, suc, ◌+◌, ◌<◌, ◌≤◌, nat_lt, true, false, List, [], ◌∷◌, length, Option, Some, None, Contains, refl, sym, ◌∙◌, ap, subst, inl, inr, arith, true≢false, length-append}
+use Rattle.std.proofs.Common.{◌≡◌, ℕ, suc, ◌+◌, ◌<◌, ◌≤◌, nat_lt, true, false, List, [], ◌∷◌, length, Option, Some}
+use Rattle.std.proofs.Common.{None, Contains, refl, sym, ◌∙◌, ap, subst, inl, inr, arith, true≢false, length-append}
 use Rattle.std.proofs.lemmas.Bool.{and_parts, eqb-true, ltb-true}
 use Rattle.bbm_regimes.specs.declared.regime.Kind.{Kind}
 use Rattle.bbm_descriptor.specs.Descriptor.{is_valid, needs}
@@ -22,18 +23,19 @@ use Rattle.bbm_rules.specs.Sentences.{HoldsTag, TakenAway}
 use Rattle.bbm_rules.specs.Tags.{reads}
 use Rattle.bbm_rules.specs.Tree.{Node, next_of}
 use Rattle.bbm_rules.specs.Values.{is_readable}
-use Rattle.bbm_histories.specs.Values.{Window}
+use Rattle.bbm_histories.specs.ValueChanges.{Window}
 use Rattle.bbm_tlb_machine.specs.Entry.{Entry, Part, head_of, parts_of, tag_of_entry}
 use Rattle.bbm_tlb_machine.specs.Invariant.{Fine, Holding, IsAt, IsBelow, IsNear, Placed, Tagged, start_nodes}
 use Rattle.bbm_tlb_machine.specs.Safe.{IsLog}
-use Rattle.bbm_tlb_machine.specs.Known.{Known}
-use Rattle.bbm_tlb_machine.specs.Step.{Extends, Starts, combined, entry_kind, extended, first_part, is_stage2, may_share, next_part, root_of, shared, started}
+use Rattle.bbm_tlb_machine.specs.KnownOfMachine.{Known}
+use Rattle.bbm_tlb_machine.specs.Step.{Extends, Starts, combined, entry_kind, extended, first_part, is_stage2}
+use Rattle.bbm_tlb_machine.specs.Step.{may_share, next_part, root_of, shared, started}
 use Rattle.bbm_tlb_machine.proofs.AfterEvent.{publication_answered}
-use Rattle.bbm_tlb_machine.proofs.Elements.{contains_cases, contains_head, contains_none}
 use Rattle.bbm_tlb_machine.proofs.EventSteps.{tag_kind}
 use Rattle.bbm_tlb_machine.proofs.Facts.{tag_now}
 use Rattle.bbm_tlb_machine.proofs.InTrees.{below_placed, start_placed}
 use Rattle.bbm_tlb_machine.proofs.Roots.{reads_at, start_node}
+use Rattle.bbm_lemmas.proofs.Elements.{contains_cases, contains_head, contains_none}
 
 -- the tag goes by the VMID and the ASID alone
 same_tag_of : (kind : Kind) (x y : Entry) → x.vmid ≡ y.vmid → x.asid ≡ y.asid → tag_of kind (head_of x) ≡ tag_of kind (head_of y)

@@ -5,7 +5,7 @@ use Rattle.bbm_rules.specs.Prelude.{Heading, Event}
 use Rattle.bbm_events.specs.declared.machine.MachineLine.TheVariants.{Extend, Share}
 use Rattle.bbm_tlb_machine.specs.Entry.{Entry}
 use Rattle.bbm_tlb_machine.specs.Followed.{entry_made, found}
-use Rattle.bbm_tlb_machine.specs.Run.{Living}
+use Rattle.bbm_tlb_machine.specs.MachineRun.{Living}
 use Rattle.bbm_tlb_machine.specs.Step.{combined, extended, is_stage2, may_extend, may_share, shared}
 
 module _ (heading : Heading) (h : List Event) (living : List Living) (n : ℕ) (x : Entry) (made : Option Entry) where

@@ -1,5 +1,6 @@
 -- A table stands above level 3, and what it names is its next page.
-use Rattle.std.proofs.Common.{◌≡◌, ℕ, zero, suc, ◌<◌, ◌≤◌, Bool, true, false, cond, ◌==◌, None, refl, sym, ◌∙◌, ap, arith, true≢false}
+use Rattle.std.proofs.Common.{◌≡◌, ℕ, zero, suc, ◌<◌, ◌≤◌, Bool, true, false, cond, ◌==◌, None, refl, sym, ◌∙◌, ap}
+use Rattle.std.proofs.Common.{arith, true≢false}
 use Rattle.bbm_descriptor.specs.Descriptor.{desc_as, desc_of, invalid, leaf}
 use Rattle.bbm_descriptor.specs.declared.desc.Desc.TheVariants.{Table}
 use Rattle.bbm_descriptor.specs.Fields.{type_bits}

@@ -1,12 +1,13 @@
 -- One more event after which no entry is left that a TLBI which it answers must have taken: the tag, and the patterns after
 -- the last valid writes of the parts' places.
-use Rattle.std.proofs.Common.{◌≡◌, ℕ, suc, ◌<◌, ◌≤◌, not, true, false, List, [], ◌∷◌, ◌++◌, length, Option, Some, None, Contains, refl, sym, ◌∙◌, ap, subst, inl, inr, arith, true≢false}
+use Rattle.std.proofs.Common.{◌≡◌, ℕ, suc, ◌<◌, ◌≤◌, not, true, false, List, [], ◌∷◌, ◌++◌, length, Option, Some, None}
+use Rattle.std.proofs.Common.{Contains, refl, sym, ◌∙◌, ap, subst, inl, inr, arith, true≢false}
 use Rattle.std.proofs.lemmas.Bool.{and_parts}
 use Rattle.std.proofs.lemmas.List.{append_assoc}
 use Rattle.bbm_regimes.specs.declared.regime.Kind.{Kind}
 use Rattle.bbm_tlbi_scope.specs.Agreement.{read_through, tag_of}
 use Rattle.bbm_tlbi_scope.specs.Numbers.{lacks_vmid as scope_lacks_vmid}
-use Rattle.bbm_tlbi_scope.specs.Tags.{takes_whole_tag, whole_tag_by}
+use Rattle.bbm_tlbi_scope.specs.ScopeTags.{takes_whole_tag, whole_tag_by}
 use Rattle.bbm_tlbi_scope.specs.Takes.{taken}
 use Rattle.bbm_tlbi_scope.specs.declared.op.TlbiOp.{TlbiOp}
 use Rattle.bbm_tlbi_scope.specs.declared.scope.Scope.{Scope}
@@ -22,14 +23,16 @@ use Rattle.bbm_rules.specs.Notes.{Noted, events_of}
 use Rattle.bbm_rules.specs.PatternSentences.{Answer, HalfBy, IsLastValid, Publication}
 use Rattle.bbm_rules.specs.Prelude.{Barrier, Heading, El2, S2, Ttbr0, Ttbr1, Tag, Event, Dsb, Tlbi}
 use Rattle.bbm_rules.specs.Reach.{Issued, completes, reaches, unanswered}
-use Rattle.bbm_rules.specs.Registers.{named_scope, vmid_of}
+use Rattle.bbm_rules.specs.RegisterValues.{named_scope, vmid_of}
 use Rattle.bbm_rules.specs.Sentences.{Open, TakenAway}
 use Rattle.bbm_rules.specs.Tags.{itself, takes_tag}
 use Rattle.bbm_tlb_machine.specs.Entry.{Entry, Part, age_by, head_of, parts_of, tag_of_entry}
-use Rattle.bbm_tlb_machine.specs.Invariant.{Fine, Goes, IsNear, JoinedBefore, MadeBefore, Tagged, Taken, Unanswered, Uncleansed}
-use Rattle.bbm_tlb_machine.specs.Known.{Known}
+use Rattle.bbm_tlb_machine.specs.Invariant.{Fine, Goes, IsNear, JoinedBefore, MadeBefore, Tagged, Taken, Unanswered}
+use Rattle.bbm_tlb_machine.specs.Invariant.{Uncleansed}
+use Rattle.bbm_tlb_machine.specs.KnownOfMachine.{Known}
 use Rattle.bbm_tlb_machine.specs.Step.{must_go}
-use Rattle.bbm_tlb_machine.proofs.AfterEvent.{AnswersNow, LastBefore, answer_after, half_before, last_step, no_answer, no_publication, publication_after}
+use Rattle.bbm_tlb_machine.proofs.AfterEvent.{AnswersNow, LastBefore, answer_after, half_before, last_step, no_answer}
+use Rattle.bbm_tlb_machine.proofs.AfterEvent.{no_publication, publication_after}
 use Rattle.bbm_tlb_machine.proofs.Elements.{events_length}
 use Rattle.bbm_tlb_machine.proofs.Facts.{no_global}
 use Rattle.bbm_tlb_machine.proofs.Scopes.{must_go_by, through_s2, whole_age}

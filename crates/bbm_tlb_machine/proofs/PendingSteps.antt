@@ -1,13 +1,15 @@
 -- What is kept of the unanswered TLBIs, and what it says of the entries that are left.
-use Rattle.std.proofs.Common.{◌≡◌, ℕ, Bool, true, false, cond, ◌&&◌, ◌||◌, not, ◌==◌, nat_le, List, [], ◌∷◌, map, filter, None, refl, sym, ◌∙◌, ap, true≢false}
+use Rattle.std.proofs.Common.{◌≡◌, ℕ, Bool, true, false, cond, ◌&&◌, ◌||◌, not, ◌==◌, nat_le, List, [], ◌∷◌, map}
+use Rattle.std.proofs.Common.{filter, None, refl, sym, ◌∙◌, ap, true≢false}
 use Rattle.std.proofs.lemmas.Bool.{eqb-true, eq-eqb, false_from_ne_true}
 use Rattle.bbm_rules.specs.Lists.{any}
 use Rattle.bbm_rules.specs.Prelude.{Barrier, TlbiOp, Heading, Event, Dsb, Tlbi}
 use Rattle.bbm_rules.specs.Reach.{Issued, completes, left_open, reaches, unanswered}
 use Rattle.bbm_rules.specs.Tags.{itself}
 use Rattle.bbm_tlb_machine.specs.Entry.{Entry, age_for}
-use Rattle.bbm_tlb_machine.specs.Pendings.{IsPending, Pending, is_answered, leaves_any, leaves_by, must_leave, pending_of}
-use Rattle.bbm_tlb_machine.specs.Run.{Living, State, leaves_some}
+use Rattle.bbm_tlb_machine.specs.MachinePendings.{IsPending, Pending, is_answered, leaves_any, leaves_by, must_leave}
+use Rattle.bbm_tlb_machine.specs.MachinePendings.{pending_of}
+use Rattle.bbm_tlb_machine.specs.MachineRun.{Living, State, leaves_some}
 use Rattle.bbm_tlb_machine.specs.Step.{must_go, takes_by}
 
 -- a TLBI without a scope takes nothing

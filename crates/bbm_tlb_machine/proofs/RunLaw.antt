@@ -1,6 +1,7 @@
 -- The run that is computed is the run that the relation names.
-use Rattle.std.proofs.Common.{◌≡◌, ℕ, Bool, true, false, ◌&&◌, not, ◌↔◌, List, [], ◌∷◌, ◌++◌, length, Option, Some, None, Result, Ok, Err, Contains, refl, sym, ◌∙◌, ap, true≢false}
-use Rattle.std.proofs.lemmas.Bool.{and_from, and_left, and_parts, and_right, not_from_false}
+use Rattle.std.proofs.Common.{◌≡◌, ℕ, Bool, true, false, ◌&&◌, not, ◌↔◌, List, [], ◌∷◌, ◌++◌, length, Option, Some}
+use Rattle.std.proofs.Common.{None, Result, Ok, Err, Contains, refl, sym, ◌∙◌, ap, true≢false}
+use Rattle.std.proofs.lemmas.Bool.{and_from, and_left, and_parts, and_right, not_from_false, not-true}
 use Rattle.bbm_events.specs.declared.machine.MachineLine.TheVariants.{Start, Extend, Combine, Share, Drop}
 use Rattle.bbm_rules.specs.Lists.{◌>>=◌, any, if_so}
 use Rattle.bbm_rules.specs.Prelude.{Barrier, Heading, Event, Dsb}
@@ -9,9 +10,11 @@ use Rattle.bbm_rules.specs.Tags.{itself}
 use Rattle.bbm_tlb_machine.specs.declared.step.Step.{Step}
 use Rattle.bbm_tlb_machine.specs.declared.step.Step.TheVariants.{Machine, Event as Taken}
 use Rattle.bbm_tlb_machine.specs.Entry.{Entry}
-use Rattle.bbm_tlb_machine.specs.Run.{IsRun, Leads, LeavesNone, Living, State, entry_at, next_in, follow_steps, leaves_some, or_index, step_to, with_entry, without}
+use Rattle.bbm_tlb_machine.specs.MachineRun.{IsRun, Leads, LeavesNone, Living, State, entry_at, next_in, follow_steps}
+use Rattle.bbm_tlb_machine.specs.MachineRun.{leaves_some, or_index, step_to, with_entry, without}
 use Rattle.bbm_tlb_machine.specs.First.{IsFirstBad}
-use Rattle.bbm_tlb_machine.specs.Step.{Extends, Starts, combined, extended, is_stage2, may_extend, may_share, may_start, must_go, shared}
+use Rattle.bbm_tlb_machine.specs.Step.{Extends, Starts, combined, extended, is_stage2, may_extend, may_share, may_start}
+use Rattle.bbm_tlb_machine.specs.Step.{must_go, shared}
 use Rattle.bbm_tlb_machine.proofs.ListWords.{bind_some, if_so_some, is_none, none_in, some_if_so}
 
 module _ (heading : Heading) where
@@ -63,10 +66,6 @@ module _ (heading : Heading) where
   none_left s (Dsb q dsb) k = leaves_to s q dsb k
   none_left s _ k = refl
 
-  from_not : (b : Bool) → not b ≡ true → b ≡ false
-  from_not false k = refl
-  from_not true k = absurd (true≢false (sym k))
-
   sound : (s : State) (step : Step) (next : State) → step_to heading s step ≡ Some next → Leads heading s step next
   sound s (Machine (Start p kind n place value)) next k =
       let r = if_so_some _ _ next k in (starts_from s.log _ n r.0, r.1)
@@ -81,7 +80,7 @@ module _ (heading : Heading) where
       let r = bind_some _ (entry_at s n) next k in
       let same : next ≡ without s n = cc (r.2) in (r.0, r.1, same)
   sound s (Taken e) next k =
-      let q = if_so_some _ _ next k in (leaves_none s e (from_not (leaves_some heading s e) q.0), q.1)
+      let q = if_so_some _ _ next k in (leaves_none s e (not-true (leaves_some heading s e) q.0), q.1)
 
   complete : (s : State) (step : Step) (next : State) → Leads heading s step next → step_to heading s step ≡ Some next
   complete s (Machine (Start p kind n place value)) next l = some_if_so _ _ next (starts_to s.log _ n l.0) l.1

@@ -1,5 +1,6 @@
 -- The words in which the worked cases are written: the text of a run, and the text of what comes of it.
-use Rattle.std.specs.Prelude.{ℕ, ◌+◌, List, [], ◌∷◌, ◌++◌, length, reverse, filter_map, Option, Some, None, Result, Ok, Err, codes, decimal}
+use Rattle.std.specs.Prelude.{ℕ, ◌+◌, List, [], ◌∷◌, ◌++◌, length, reverse, filter_map, Option, Some, None, Result, Ok}
+use Rattle.std.specs.Prelude.{Err, codes, decimal}
 use Rattle.std.specs.Fmt.{digits}
 use Prim.Native.String.{String}
 use Rattle.bbm_events.specs.declared.event.Item.{Item}
@@ -11,7 +12,7 @@ use Rattle.bbm_events.specs.Machine.{machine_of}
 use Rattle.bbm_events.specs.Spelling.{decimal_value, hex_value}
 use Rattle.bbm_tlb_machine.specs.declared.step.Step.{Step}
 use Rattle.bbm_tlb_machine.specs.declared.step.Step.TheVariants.{Machine, Event as Taken}
-use Rattle.bbm_tlb_machine.specs.Run.{State, follow_steps}
+use Rattle.bbm_tlb_machine.specs.MachineRun.{State, follow_steps}
 use Rattle.bbm_tlb_machine.specs.Safe.{first_conflict}
 
 -- the step of a line, None of the last line

@@ -1,5 +1,7 @@
 -- In each run over a log that keeps the rules each entry that is kept is fine; so the log is safe.
-use Rattle.std.proofs.Common.{◌≡◌, ℕ, suc, ◌<◌, ◌≤◌, arith, not, ◌&&◌, ◌==◌, nat_lt, Bool, true, false, cond, List, [], ◌∷◌, length, Option, Some, None, option_map, find, filter, Contains, refl, sym, ◌∙◌, ap, subst, inl, inr, true≢false}
+use Rattle.std.proofs.Common.{◌≡◌, ℕ, suc, ◌<◌, ◌≤◌, arith, not, ◌&&◌, ◌==◌, nat_lt, Bool, true, false, cond, List, []}
+use Rattle.std.proofs.Common.{◌∷◌, length, Option, Some, None, option_map, find, filter, Contains, refl, sym, ◌∙◌, ap}
+use Rattle.std.proofs.Common.{subst, inl, inr, true≢false}
 use Rattle.std.proofs.lemmas.Bool.{and_from, and_parts, eq-eqb, ltb-true, or_left, or_right}
 use Rattle.bbm_regimes.specs.declared.regime.Kind.{Kind}
 use Rattle.bbm_descriptor.specs.Descriptor.{needs}
@@ -19,16 +21,17 @@ use Rattle.bbm_tlb_machine.specs.declared.step.Step.{Step}
 use Rattle.bbm_tlb_machine.specs.declared.step.Step.TheVariants.{Machine, Event as Taken}
 use Rattle.bbm_tlb_machine.specs.Entry.{Entry, Part, parts_of, tag_of_entry}
 use Rattle.bbm_tlb_machine.specs.Invariant.{Fine, Holding, Placed, Taken as TakenBy}
-use Rattle.bbm_tlb_machine.specs.Known.{Known}
-use Rattle.bbm_tlb_machine.specs.Run.{IsRun, Leads, LeavesNone, Living, State, entry_at, with_entry}
+use Rattle.bbm_tlb_machine.specs.KnownOfMachine.{Known}
+use Rattle.bbm_tlb_machine.specs.MachineRun.{IsRun, Leads, LeavesNone, Living, State, entry_at, with_entry}
 use Rattle.bbm_tlb_machine.specs.Safe.{ComesTo, IsLog, Safe}
 use Rattle.bbm_tlb_machine.proofs.Descs.{no_need}
-use Rattle.bbm_tlb_machine.proofs.Elements.{contains_after, contains_cases, contains_head, contains_more, contains_none, pe_finds}
+use Rattle.bbm_tlb_machine.proofs.Elements.{pe_finds}
 use Rattle.bbm_tlb_machine.proofs.EventSteps.{fine_after}
 use Rattle.bbm_tlb_machine.proofs.Facts.{held_there, held_valid, keeps_older, tag_now}
 use Rattle.bbm_tlb_machine.proofs.Made.{fine_combined, fine_extended, fine_shared, fine_start}
 use Rattle.bbm_tlb_machine.proofs.Patterns.{LeavesIt, tagged_after}
 use Rattle.bbm_tlb_machine.proofs.Taken.{taken}
+use Rattle.bbm_lemmas.proofs.Elements.{contains_after, contains_cases, contains_head, contains_more, contains_none}
 
 -- ---- entries by number
 

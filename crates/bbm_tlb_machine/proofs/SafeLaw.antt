@@ -1,8 +1,9 @@
 -- The tests for conflicts say the same as the clauses of a safe log.
-use Rattle.std.proofs.Common.{◌≡◌, ℕ, Bool, true, false, ◌&&◌, not, ◌==◌, ◌↔◌, List, [], ◌∷◌, ◌++◌, length, Option, Some, None, Result, Ok, Err, Contains, refl, sym, ◌∙◌, ap, true≢false}
-use Rattle.std.proofs.lemmas.Bool.{eq-eqb, eqb-true, false_from_ne_true}
+use Rattle.std.proofs.Common.{◌≡◌, ℕ, Bool, true, false, ◌&&◌, not, ◌==◌, ◌↔◌, List, [], ◌∷◌, ◌++◌, length, Option}
+use Rattle.std.proofs.Common.{Some, None, Result, Ok, Err, Contains, refl, sym, ◌∙◌, ap, true≢false}
+use Rattle.std.proofs.lemmas.Bool.{eq-eqb, eqb-true, false_from_ne_true, not-false}
 use Rattle.bbm_descriptor.specs.Descriptor.{needs}
-use Rattle.bbm_regimes.specs.Same.{same_tag}
+use Rattle.bbm_regimes.specs.SameRegister.{same_tag}
 use Rattle.bbm_rules.specs.Lists.{any, if_so}
 use Rattle.bbm_rules.specs.Places.{page_of}
 use Rattle.bbm_rules.specs.Prelude.{Reg, Tag, El2Tag, Vmid, Asid, Ttbr1Tag, Heading, Event, Init, Write, Msr}
@@ -10,11 +11,13 @@ use Rattle.bbm_rules.specs.Tags.{Reading, readings}
 use Rattle.bbm_tlb_machine.specs.declared.step.Step.{Step}
 use Rattle.bbm_tlb_machine.specs.declared.step.Step.TheVariants.{Machine, Event as Taken}
 use Rattle.bbm_tlb_machine.specs.Entry.{Entry, Part, parts_of, tag_of_entry}
-use Rattle.bbm_tlb_machine.specs.Run.{IsRun, Living, State, follow_steps}
-use Rattle.bbm_tlb_machine.specs.Safe.{ComesTo, Safe, conflicts_with, earlier, fails_at, first_conflict, has_other_root, in_conflict, is_stale}
+use Rattle.bbm_tlb_machine.specs.MachineRun.{IsRun, Living, State, follow_steps}
+use Rattle.bbm_tlb_machine.specs.Safe.{ComesTo, Safe, conflicts_with, earlier, fails_at, first_conflict, has_other_root}
+use Rattle.bbm_tlb_machine.specs.Safe.{in_conflict, is_stale}
 use Rattle.bbm_tlb_machine.specs.First.{IsFirstConflict}
 use Rattle.bbm_tlb_machine.proofs.ListWords.{any_none, is_none, none_in}
 use Rattle.bbm_tlb_machine.proofs.RunLaw.{run_complete, run_sound}
+use Rattle.bbm_lemmas.proofs.Bools.{second_false, and_apart}
 
 tag_equal : (g k : Tag) → same_tag g k ≡ true → g ≡ k
 tag_equal El2Tag El2Tag e = refl
@@ -29,25 +32,12 @@ tag_self (Vmid v) = eq-eqb v v refl
 tag_self (Asid a) = eq-eqb a a refl
 tag_self Ttbr1Tag = refl
 
-other_false : (a b : Bool) → (a && b) ≡ false → a ≡ true → b ≡ false
-other_false true b k e = k
-other_false false b k e = absurd (true≢false (sym e))
-
-from_not : (b : Bool) → not b ≡ false → b ≡ true
-from_not true k = refl
-from_not false k = absurd (true≢false k)
-
--- by the two values of a first test
-and_false : (a b : Bool) → (a ≡ true → b ≡ false) → (a && b) ≡ false
-and_false true b k = k refl
-and_false false b k = refl
-
 module _ (heading : Heading) where
   -- one entry
   at_write : (x : Entry) (h : List Event) (pe place value : ℕ) → conflicts_with heading h (Write pe place value) x ≡ false
       → (part : Part) → Contains (parts_of x) part → part.place ≡ place → needs part.kind part.level part.value value ≡ false
   at_write x h pe place value k part i e =
-      other_false (part.place == place) _ (none_in (is_stale place value) (parts_of x) k part i) (eq-eqb part.place place e)
+      second_false (part.place == place) _ (none_in (is_stale place value) (parts_of x) k part i) (eq-eqb part.place place e)
 
   at_init : (x : Entry) (h : List Event) (pe page : ℕ) → conflicts_with heading h (Init pe page) x ≡ false
       → (part : Part) → Contains (parts_of x) part → page_of part.place ≡ page → ⊥
@@ -59,14 +49,14 @@ module _ (heading : Heading) where
   at_msr x h pe value reg k r i e =
       let none = none_in (has_other_root x) (readings heading (Msr pe reg value ∷ h) pe) k r i in
       let same : same_tag r.tag (tag_of_entry x) ≡ true = ap (λ g. same_tag g (tag_of_entry x)) e ∙ tag_self (tag_of_entry x) in
-      eqb-true r.root x.root (from_not _ (other_false (same_tag r.tag (tag_of_entry x)) _ none same))
+      eqb-true r.root x.root (not-false _ (second_false (same_tag r.tag (tag_of_entry x)) _ none same))
 
   no_write : (x : Entry) (h : List Event) (pe place value : ℕ)
       → ((part : Part) → Contains (parts_of x) part → part.place ≡ place → needs part.kind part.level part.value value ≡ false)
       → conflicts_with heading h (Write pe place value) x ≡ false
   no_write x h pe place value all =
       is_none (is_stale place value) (parts_of x) (λ part i.
-      and_false (part.place == place) _ (λ e. all part i (eqb-true part.place place e)))
+      and_apart (part.place == place) _ (λ e. all part i (eqb-true part.place place e)))
 
   no_init : (x : Entry) (h : List Event) (pe page : ℕ)
       → ((part : Part) → Contains (parts_of x) part → page_of part.place ≡ page → ⊥)
@@ -80,7 +70,7 @@ module _ (heading : Heading) where
       → conflicts_with heading h (Msr pe reg value) x ≡ false
   no_msr x h pe value reg all =
       is_none (has_other_root x) (readings heading (Msr pe reg value ∷ h) pe) (λ r i.
-      and_false (same_tag r.tag (tag_of_entry x)) _ (λ e.
+      and_apart (same_tag r.tag (tag_of_entry x)) _ (λ e.
       ap not (eq-eqb r.root x.root (all r i (tag_equal r.tag (tag_of_entry x) e)))))
 
   -- all of them

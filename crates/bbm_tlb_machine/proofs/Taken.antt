@@ -1,7 +1,8 @@
 -- An unanswered TLBI that covers a place of a part, behind a barrier that publishes a write of it, takes the entry.
-use Rattle.std.proofs.Common.{◌≡◌, ℕ, ◌<◌, ◌≤◌, true, false, List, ◌∷◌, length, Some, Contains, sym, ◌∙◌, ap, subst, inl, inr, arith}
+use Rattle.std.proofs.Common.{◌≡◌, ℕ, ◌<◌, ◌≤◌, true, false, List, ◌∷◌, length, Some, Contains, sym, ◌∙◌, ap, subst}
+use Rattle.std.proofs.Common.{inl, inr, arith}
 use Rattle.bbm_tlbi_scope.specs.Agreement.{read_through}
-use Rattle.bbm_tlbi_scope.specs.Covers.{cover_by, fits_place}
+use Rattle.bbm_tlbi_scope.specs.ScopeCovers.{cover_by, fits_place}
 use Rattle.bbm_tlbi_scope.specs.Takes.{taken as taken_by_scope}
 use Rattle.bbm_tlbi_scope.specs.declared.entry.Cover.{Cover}
 use Rattle.bbm_tlbi_scope.specs.declared.entry.Cover.TheVariants.{None as NoCover, Half, Second, Full}
@@ -15,12 +16,12 @@ use Rattle.bbm_rules.specs.Notes.{Noted, events_of}
 use Rattle.bbm_rules.specs.PatternSentences.{HalfBy, Publication}
 use Rattle.bbm_rules.specs.Prelude.{Heading, Event, S2}
 use Rattle.bbm_rules.specs.Reach.{Issued, reaches}
-use Rattle.bbm_rules.specs.Registers.{vmid_of}
+use Rattle.bbm_rules.specs.RegisterValues.{vmid_of}
 use Rattle.bbm_rules.specs.Sentences.{Open, completes_for}
 use Rattle.bbm_rules.specs.Tags.{itself}
 use Rattle.bbm_tlb_machine.specs.Entry.{Entry, Part, age_by, head_of, parts_of}
 use Rattle.bbm_tlb_machine.specs.Invariant.{Fine, Goes, IsNear, Taken, Unanswered}
-use Rattle.bbm_tlb_machine.specs.Known.{Known}
+use Rattle.bbm_tlb_machine.specs.KnownOfMachine.{Known}
 use Rattle.bbm_tlb_machine.proofs.AfterEvent.{half_before, publication_answered, publication_before}
 use Rattle.bbm_tlb_machine.proofs.Covered.{Covering, covering}
 use Rattle.bbm_tlb_machine.proofs.Elements.{At, event_at, events_append}

@@ -4,7 +4,7 @@ use Rattle.std.specs.Prelude.{◌≡◌, ℕ, true, List, ◌∷◌, ◌++◌, l
 use Rattle.bbm_rules.specs.Prelude.{Heading, Event}
 use Rattle.bbm_tlb_machine.specs.declared.step.Step.{Step}
 use Rattle.bbm_tlb_machine.specs.declared.step.Step.TheVariants.{Event as Taken}
-use Rattle.bbm_tlb_machine.specs.Run.{IsRun, Leads, State}
+use Rattle.bbm_tlb_machine.specs.MachineRun.{IsRun, Leads, State}
 use Rattle.bbm_tlb_machine.specs.Safe.{first_conflict, in_conflict}
 
 -- The step with this index, counted from 0, is the first that is none: the older ones are a run, and it leads nowhere

@@ -6,8 +6,8 @@ use Rattle.bbm_rules.specs.Lists.{◌>>=◌, if_so}
 use Rattle.bbm_rules.specs.Prelude.{Heading, Event}
 use Rattle.bbm_tlb_machine.specs.declared.step.Step.{Step}
 use Rattle.bbm_tlb_machine.specs.Entry.{Entry}
-use Rattle.bbm_tlb_machine.specs.Pendings.{IsPending, Pending}
-use Rattle.bbm_tlb_machine.specs.Run.{Living, State, follow_steps}
+use Rattle.bbm_tlb_machine.specs.MachinePendings.{IsPending, Pending}
+use Rattle.bbm_tlb_machine.specs.MachineRun.{Living, State, follow_steps}
 use Rattle.bbm_tlb_machine.specs.Safe.{first_conflict}
 use Rattle.bbm_tlb_machine.specs.Step.{combined, extended, is_stage2, may_extend, may_share, may_start, shared, started}
 

@@ -3,10 +3,10 @@ pub mod Entry
 pub mod First
 pub mod Followed
 pub mod Invariant
-pub mod Known
+pub mod KnownOfMachine
 pub mod Looking
-pub mod Pendings
-pub mod Registers
-pub mod Run
+pub mod MachinePendings
+pub mod MachineRegisters
+pub mod MachineRun
 pub mod Safe
 pub mod Step

@@ -10,11 +10,11 @@ use Rattle.bbm_rules.specs.Lists.{any, if_so}
 use Rattle.bbm_rules.specs.Places.{page_of}
 use Rattle.bbm_rules.specs.Prelude.{Reg, Heading, Event, Init, Write, Msr}
 use Rattle.bbm_rules.specs.Tags.{Reading, readings}
-use Rattle.bbm_regimes.specs.Same.{same_tag}
+use Rattle.bbm_regimes.specs.SameRegister.{same_tag}
 use Rattle.bbm_tlb_machine.specs.declared.step.Step.{Step}
 use Rattle.bbm_tlb_machine.specs.declared.step.Step.TheVariants.{Event as Taken}
 use Rattle.bbm_tlb_machine.specs.Entry.{Entry, Part, parts_of, tag_of_entry}
-use Rattle.bbm_tlb_machine.specs.Run.{IsRun, Living, State, follow_steps}
+use Rattle.bbm_tlb_machine.specs.MachineRun.{IsRun, Living, State, follow_steps}
 
 -- a run over the log comes to the state, and the event is the next one of the log
 pub record ComesTo (heading : Heading) (log : List Event) (s : State) (e : Event) : Type 0 where

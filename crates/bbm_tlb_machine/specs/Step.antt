@@ -15,7 +15,7 @@ use Rattle.bbm_rules.specs.Places.{index_of, page_of}
 use Rattle.bbm_rules.specs.Prelude.{AsidFrom, FromTtbr0, FromTtbr1, Kind, El2, S2, Ttbr0, Ttbr1, Reg, Ttbr0El1}
 use Rattle.bbm_rules.specs.Prelude.{Ttbr1El1, World, Hyp, Kernel, Scope, Heading, Event, Tlbi}
 use Rattle.bbm_rules.specs.Reach.{Issued, reaches}
-use Rattle.bbm_rules.specs.Registers.{named_scope, register_values, tag_number, vmid_of}
+use Rattle.bbm_rules.specs.RegisterValues.{named_scope, register_values, tag_number, vmid_of}
 use Rattle.bbm_rules.specs.Roots.{first_input_page, input_pages, page_count, start_of}
 use Rattle.bbm_rules.specs.Tags.{reads}
 use Rattle.bbm_rules.specs.Tree.{next_of}

@@ -7,7 +7,7 @@ ghost use Rattle.bbm_tlb_machine.specs.declared.step.Step.{Step};
 ghost use Rattle.bbm_tlb_machine.specs.declared.step.Step.TheVariants.{Event as Taken};
 ghost use Rattle.bbm_tlb_machine.specs.First.{IsFirstConflict, IsFirstBad};
 ghost use Rattle.bbm_tlb_machine.specs.Safe.{ComesTo, Safe, first_conflict, in_conflict};
-ghost use Rattle.bbm_tlb_machine.specs.Run.{IsRun, Leads, State, follow_steps, step_to};
+ghost use Rattle.bbm_tlb_machine.specs.MachineRun.{IsRun, Leads, State, follow_steps, step_to};
 
 /// A list of steps is a run to a state exactly where following it comes to that state, one step after the
 /// other; and following it stops exactly at the first step that leads nowhere. The call does nothing; the law

@@ -17,7 +17,7 @@ pub struct Living {
 }
 
 impl Model for Living {
-    ghost use Rattle.bbm_tlb_machine.specs.Run.{Living};
+    ghost use Rattle.bbm_tlb_machine.specs.MachineRun.{Living};
 
     ghost Value = { Living };
 

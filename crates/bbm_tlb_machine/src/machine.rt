@@ -10,9 +10,9 @@ ghost use Rattle.bbm_rules.specs.Lists.{any, if_so};
 ghost use Rattle.bbm_tlb_machine.specs.declared.step.Step.{Step as TheStep};
 ghost use Rattle.bbm_tlb_machine.specs.declared.step.Step.TheVariants.{Machine as MachineStep, Event as EventStep};
 ghost use Rattle.bbm_tlb_machine.specs.Followed.{Follows, GoesOn, entry_made};
-ghost use Rattle.bbm_tlb_machine.specs.Pendings.{IsPending, leaves_any as spec_leaves};
-ghost use Rattle.bbm_tlb_machine.specs.Run.{State, after_event, at_start, follow_steps, leaves_some, step_to};
-ghost use Rattle.bbm_tlb_machine.specs.Run.{with_entry};
+ghost use Rattle.bbm_tlb_machine.specs.MachinePendings.{IsPending, leaves_any as spec_leaves};
+ghost use Rattle.bbm_tlb_machine.specs.MachineRun.{State, after_event, at_start, follow_steps, leaves_some, step_to};
+ghost use Rattle.bbm_tlb_machine.specs.MachineRun.{with_entry};
 ghost use Rattle.bbm_tlb_machine.specs.Safe.{conflicts_with, earlier, in_conflict as spec_conflict};
 
 use crate::conflict::in_conflict;

@@ -2,7 +2,7 @@
 
 ghost use Rattle.std.specs.Prelude.{◌≡◌, ◌∷◌, not, filter, reverse, OnOk};
 ghost use Rattle.bbm_rules.specs.Prelude.{Tlbi};
-ghost use Rattle.bbm_tlb_machine.specs.Pendings as spec;
+ghost use Rattle.bbm_tlb_machine.specs.MachinePendings as spec;
 
 use crate::entry::Entry;
 use crate::living::Living;
@@ -30,7 +30,7 @@ pub struct Pending {
 }
 
 impl Model for Pending {
-    ghost use Rattle.bbm_tlb_machine.specs.Pendings.{Pending, pending_by};
+    ghost use Rattle.bbm_tlb_machine.specs.MachinePendings.{Pending, pending_by};
 
     ghost Value = { Pending };
 

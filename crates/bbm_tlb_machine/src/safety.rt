@@ -11,8 +11,8 @@ ghost use Rattle.bbm_rules.specs.declared.verdict.Verdict.TheVariants.{Accepted}
 ghost use Rattle.bbm_tlb_machine.specs.Accepted.{SafeBytes};
 ghost use Rattle.bbm_tlb_machine.specs.declared.step.Step.{Step};
 ghost use Rattle.bbm_tlb_machine.specs.Invariant.{Fine, Taken};
-ghost use Rattle.bbm_tlb_machine.specs.Known.{Known};
-ghost use Rattle.bbm_tlb_machine.specs.Run.{IsRun, Living, State};
+ghost use Rattle.bbm_tlb_machine.specs.KnownOfMachine.{Known};
+ghost use Rattle.bbm_tlb_machine.specs.MachineRun.{IsRun, Living, State};
 ghost use Rattle.bbm_tlb_machine.specs.Safe.{IsLog, Safe};
 
 use bbm_descriptor::laws::{law_need, law_same_core_is_equal};

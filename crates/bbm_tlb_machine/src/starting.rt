@@ -3,13 +3,13 @@
 ghost use Rattle.std.specs.Prelude.{◌≡◌, ℕ, ◌+◌, ◌<◌, ◌&&◌, ◌==◌, List, length, reverse, IfOk};
 ghost use Rattle.bbm_events.specs.declared.event.Event.{Event as TheEvent};
 ghost use Rattle.bbm_rules.specs.Lists.{among, any, if_so};
-ghost use Rattle.bbm_rules.specs.Registers.{tag_number as number_in};
+ghost use Rattle.bbm_rules.specs.RegisterValues.{tag_number as number_in};
 ghost use Rattle.bbm_rules.specs.Tags.{reads};
 ghost use Rattle.bbm_rules.specs.Values.{is_readable};
 ghost use Rattle.bbm_descriptor.specs.Descriptor.{is_valid as is_valid_value};
 ghost use Rattle.bbm_tlb_machine.specs.Entry.{tag_of_entry};
 ghost use Rattle.bbm_tlb_machine.specs.Step as spec;
-ghost use Rattle.bbm_tlb_machine.specs.Registers.{asids_by};
+ghost use Rattle.bbm_tlb_machine.specs.MachineRegisters.{asids_by};
 
 use crate::entry::{Entry, Part, is_valid};
 use crate::geometry::{first_of, root_of};

@@ -1,13 +1,15 @@
 -- What covers a place takes the entries that were read through it.
-use Rattle.std.proofs.Common.{◌≡◌, ℕ, Bool, true, false, Option, Some, None, is_none, ◌&&◌, ◌||◌, not, ◌≤◌, refl, ap, sym, ◌∙◌, arith, if◌then◌else◌}
-use Rattle.std.proofs.lemmas.Bool.{and_from, and_parts, or_left, or_right, not_from_false}
+use Rattle.std.proofs.Common.{◌≡◌, ℕ, Bool, true, false, Option, Some, None, is_none, ◌&&◌, ◌||◌, not, ◌≤◌, refl, ap}
+use Rattle.std.proofs.Common.{sym, ◌∙◌, arith, if◌then◌else◌}
+use Rattle.std.proofs.lemmas.Bool.{and_from, and_parts, or_left, or_right, not_from_false, not-true}
 use Rattle.std.proofs.lemmas.Bool.Decides.{nat_tests}
 use Rattle.bbm_regimes.specs.Extent.{Extent, meets, holds}
 use Rattle.bbm_regimes.specs.declared.regime.Kind.{Kind}
 use Rattle.bbm_regimes.specs.declared.regime.Kind.TheVariants.{El2, S2, Ttbr0, Ttbr1}
 use Rattle.bbm_regimes.specs.declared.regime.Tag.TheVariants.{El2 as El2Tag, Vmid, Asid as AsidTag, Ttbr1 as Ttbr1Tag}
 use Rattle.bbm_tlbi_scope.specs.declared.scope.Family.{Family}
-use Rattle.bbm_tlbi_scope.specs.declared.scope.Family.TheVariants.{El2All, El2Va, E1All, VmAll1, VmAll12, Ipa, Va, VaAll, Asid}
+use Rattle.bbm_tlbi_scope.specs.declared.scope.Family.TheVariants.{El2All, El2Va, E1All, VmAll1, VmAll12, Ipa, Va}
+use Rattle.bbm_tlbi_scope.specs.declared.scope.Family.TheVariants.{VaAll, Asid}
 use Rattle.bbm_tlbi_scope.specs.declared.scope.Scope.{Scope}
 use Rattle.bbm_tlbi_scope.specs.declared.entry.EntryKind.{EntryKind}
 use Rattle.bbm_tlbi_scope.specs.declared.entry.EntryKind.TheVariants.{El2 as El2Entry, Stage2, Combined, El1}
@@ -19,8 +21,9 @@ use Rattle.bbm_tlbi_scope.specs.declared.entry.Cover.{Cover}
 use Rattle.bbm_tlbi_scope.specs.declared.entry.Cover.TheVariants.{None as NoCover, Half, Second, Full}
 use Rattle.bbm_tlbi_scope.specs.Numbers.{is_number, lacks_vmid, hint_allows, names_some, names_all}
 use Rattle.bbm_tlbi_scope.specs.Takes.{fits_entry, is_global_leaf, taken_by, taken}
-use Rattle.bbm_tlbi_scope.specs.Covers.{fits_leaf, fits_place, vmid_matches, asid_matches, where_fits, cover_by, cover_of}
-use Rattle.bbm_tlbi_scope.specs.Tags.{whole_tag_by, takes_whole_tag}
+use Rattle.bbm_tlbi_scope.specs.ScopeCovers.{fits_leaf, fits_place, vmid_matches, asid_matches, where_fits, cover_by}
+use Rattle.bbm_tlbi_scope.specs.ScopeCovers.{cover_of}
+use Rattle.bbm_tlbi_scope.specs.ScopeTags.{whole_tag_by, takes_whole_tag}
 use Rattle.bbm_tlbi_scope.specs.Agreement.{read_through, tag_of, HasTag, EndsBy, Agrees}
 
 -- an interval that holds a region meets each interval within the region
@@ -128,10 +131,6 @@ record Fits (vk : Kind) (s : Scope) (e : EntryHead) (v : PlaceView) : Type 0 whe
   lower : vk ≡ Ttbr0 → is_global_leaf e ≡ false
   upper : vk ≡ Ttbr1 → v.table ≡ false → v.global ≡ true → is_global_leaf e ≡ true
 
-not_true : (b : Bool) → not b ≡ true → b ≡ false
-not_true true h = cc
-not_true false h = refl
-
 el2_full : (f : Family) (s : Scope) (vmid : Option ℕ) (e : EntryHead) (v : PlaceView) → Fits El2 s e v → cover_by El2 f (fits_place s v) s vmid v ≡ Full → taken_by El2Entry f (fits_entry s e) s vmid e ≡ true
 el2_full El2All s vmid e v a h = refl
 el2_full El2Va s vmid e v a h = a.fits (full_where (fits_place s v) h)
@@ -170,7 +169,7 @@ upper_full Va s vmid e v a h =
     let leaf : (not v.table && v.global) ≡ true = (and_parts (fits_place s v) (not v.table && v.global) fit).1 in
     and_from (fits_entry s e) (is_number s.asid e.asid || is_global_leaf e)
     (a.fits (and_parts (fits_place s v) (not v.table && v.global) fit).0)
-    (or_right (is_number s.asid e.asid) (is_global_leaf e) (a.upper refl (not_true v.table (and_parts (not v.table) v.global leaf).0) (and_parts (not v.table) v.global leaf).1))
+    (or_right (is_number s.asid e.asid) (is_global_leaf e) (a.upper refl (not-true v.table (and_parts (not v.table) v.global leaf).0) (and_parts (not v.table) v.global leaf).1))
 upper_full _ s vmid e v a h = cc
 
 full_by : (ek : EntryKind) (vk : Kind) (s : Scope) (vmid : Option ℕ) (e : EntryHead) (v : PlaceView) → read_through ek vk ≡ true → Fits vk s e v

@@ -1,5 +1,6 @@
 -- A scope over a range of pages takes and covers what the scopes with one page of it do.
-use Rattle.std.proofs.Common.{◌≡◌, ◌≢◌, ℕ, Bool, true, false, Option, Some, is_none, min, max, ◌&&◌, ◌||◌, not, ◌≤◌, ◌↔◌, refl, ap, sym, ◌∙◌, arith, if◌then◌else◌}
+use Rattle.std.proofs.Common.{◌≡◌, ◌≢◌, ℕ, Bool, true, false, Option, Some, is_none, min, max, ◌&&◌, ◌||◌, not, ◌≤◌}
+use Rattle.std.proofs.Common.{◌↔◌, refl, ap, sym, ◌∙◌, arith, if◌then◌else◌}
 use Rattle.std.proofs.lemmas.Bool.{and_from, and_parts}
 use Rattle.std.proofs.lemmas.Bool.Decides.{nat_tests}
 use Rattle.bbm_regimes.specs.Extent.{Extent, Has, meets, holds}
@@ -17,8 +18,9 @@ use Rattle.bbm_tlbi_scope.specs.declared.entry.Cover.TheVariants.{None as NoCove
 use Rattle.bbm_tlbi_scope.specs.Numbers.{is_number, lacks_vmid, hint_allows, names_some, names_all}
 use Rattle.bbm_tlbi_scope.specs.Decode.{one_page}
 use Rattle.bbm_tlbi_scope.specs.Takes.{fits_entry, taken_by, taken}
-use Rattle.bbm_tlbi_scope.specs.Covers.{fits_leaf, fits_place, cover_by, cover_of}
+use Rattle.bbm_tlbi_scope.specs.ScopeCovers.{fits_leaf, fits_place, cover_by, cover_of}
 use Rattle.bbm_tlbi_scope.specs.Ranges.{at_page, IsOver, AtSomePage, is_lowest}
+use Rattle.bbm_lemmas.proofs.Bools.{guarded_wider}
 
 -- some page of an interval is in a region exactly where the interval meets it
 page_in : Extent → Extent → ℕ
@@ -141,10 +143,6 @@ guarded_cover : (lacks : Bool) (given other c : Cover) → c ≢ NoCover → (gi
 guarded_cover true given other c some keeps h = h
 guarded_cover false given other c some keeps h = keeps h
 
-guarded_take : (lacks given other : Bool) → (given ≡ true → other ≡ true) → (not lacks && given) ≡ true → (not lacks && other) ≡ true
-guarded_take true given other keeps h = h
-guarded_take false given other keeps h = keeps h
-
 -- what the scope of one page covers, the scope of the range covers
 pub page_covers : (s : Scope) (pages : Extent) (n : ℕ) (vmid : Option ℕ) (v : PlaceView) (c : Cover) → IsOver s pages → Has pages n → c ≢ NoCover
     → cover_of (at_page s n) vmid v ≡ c → cover_of s vmid v ≡ c
@@ -173,7 +171,7 @@ range_covers s pages vmid v c over filled lowest some = (
 
 page_takes : (s : Scope) (pages : Extent) (n : ℕ) (vmid : Option ℕ) (e : EntryHead) → IsOver s pages → Has pages n → taken (at_page s n) vmid e ≡ true → taken s vmid e ≡ true
 page_takes s pages n vmid e over inside h =
-    guarded_take (lacks_vmid s.vmid_scoped vmid) (taken_by e.kind s.family (fits_entry (at_page s n) e) (at_page s n) vmid e) (taken_by e.kind s.family (fits_entry s e) s vmid e)
+    guarded_wider (lacks_vmid s.vmid_scoped vmid) (taken_by e.kind s.family (fits_entry (at_page s n) e) (at_page s n) vmid e) (taken_by e.kind s.family (fits_entry s e) s vmid e)
     (λ given. takes_wider (fits_entry (at_page s n) e) (fits_entry s e) e.kind s.family s vmid e
     (entry_wider s pages n e over inside)
     (sym (takes_at_page e.kind s.family (fits_entry (at_page s n) e) s n vmid e) ∙ given))

@@ -5,7 +5,7 @@ use Rattle.bbm_regimes.specs.Extent.{Extent}
 use Rattle.bbm_range.specs.declared.Range.{Range}
 use Rattle.bbm_range.specs.declared.BadRange.{BadRange}
 use Rattle.bbm_range.specs.declared.BadRange.TheVariants.{Granule, Unaligned}
-use Rattle.bbm_range.specs.Pages.{is_upper, range_of}
+use Rattle.bbm_range.specs.RangePages.{is_upper, range_of}
 use Rattle.bbm_tlbi_scope.specs.declared.op.TlbiOp.{TlbiOp}
 use Rattle.bbm_tlbi_scope.specs.declared.scope.Family.{Family}
 use Rattle.bbm_tlbi_scope.specs.declared.scope.Family.TheVariants.{El2Va, Ipa, Va, VaAll}

@@ -3,9 +3,9 @@ pub mod Operand
 pub mod Decode
 pub mod Numbers
 pub mod Takes
-pub mod Covers
-pub mod Tags
+pub mod ScopeCovers
+pub mod ScopeTags
 pub mod TagSets
 pub mod Agreement
 pub mod Ranges
-pub mod Same
+pub mod SameCover

@@ -1,7 +1,7 @@
 -- The fields of the operand of a TLBI for one page or an ASID: the value of its register Xt.
 -- Source: Arm ARM (DDI 0487), "TLB maintenance instructions", the argument of each operation.
 use Rattle.std.specs.Prelude.{ℕ, Option, Some, None, ◌==◌, if◌then◌else◌}
-use Rattle.bbm_range.specs.Operand.{bits}
+use Rattle.bbm_range.specs.RangeOperand.{bits}
 
 -- the ASID
 abbrev pub asid_field : ℕ → ℕ

@@ -1,7 +1,7 @@
 -- Which tags a test is true of, as a set of tags tells it.
 -- Source: project's own choice.
 use Rattle.std.specs.Prelude.{◌≡◌, Bool, true, false}
-use Rattle.bbm_regimes.specs.Same.{same_tag}
+use Rattle.bbm_regimes.specs.SameRegister.{same_tag}
 use Rattle.bbm_regimes.specs.declared.regime.Tag.{Tag}
 use Rattle.bbm_tlbi_scope.specs.declared.entry.TagSet.{TagSet}
 use Rattle.bbm_tlbi_scope.specs.declared.entry.TagSet.TheVariants.{None as NoTag, One, Many}

@@ -1,7 +1,7 @@
 //! Which places a TLBI covers, and how far.
 
 ghost use Rattle.std.specs.Prelude.{◌≡◌};
-ghost use Rattle.bbm_tlbi_scope.specs.Covers as covering;
+ghost use Rattle.bbm_tlbi_scope.specs.ScopeCovers as covering;
 
 use crate::entry::{Cover, PlaceView, TagSet};
 use crate::scope::{Family, Scope, is_number, lacks_vmid};

@@ -11,9 +11,9 @@ ghost use Rattle.bbm_tlbi_scope.specs.declared.entry.PlaceView.{PlaceView};
 ghost use Rattle.bbm_tlbi_scope.specs.declared.entry.Cover.{Cover};
 ghost use Rattle.bbm_tlbi_scope.specs.declared.entry.Cover.TheVariants.{None as NoCover, Half, Second, Full};
 ghost use Rattle.bbm_tlbi_scope.specs.Agreement.{Agrees, read_through, tag_of};
-ghost use Rattle.bbm_tlbi_scope.specs.Covers.{cover_of};
+ghost use Rattle.bbm_tlbi_scope.specs.ScopeCovers.{cover_of};
 ghost use Rattle.bbm_tlbi_scope.specs.Ranges.{IsOver, AtSomePage, at_page, is_lowest};
-ghost use Rattle.bbm_tlbi_scope.specs.Tags.{takes_whole_tag};
+ghost use Rattle.bbm_tlbi_scope.specs.ScopeTags.{takes_whole_tag};
 ghost use Rattle.bbm_tlbi_scope.specs.Takes.{taken, is_global_leaf};
 
 /// What covers a place takes the entries that were read through it: a full cover takes each of them, the

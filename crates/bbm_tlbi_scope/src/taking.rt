@@ -2,7 +2,7 @@
 
 ghost use Rattle.std.specs.Prelude.{◌≡◌};
 ghost use Rattle.bbm_tlbi_scope.specs.Takes as taking;
-ghost use Rattle.bbm_tlbi_scope.specs.Tags.{takes_whole_tag};
+ghost use Rattle.bbm_tlbi_scope.specs.ScopeTags.{takes_whole_tag};
 
 use crate::entry::{EntryHead, EntryKind};
 use crate::scope::{Family, Scope, is_number, lacks_vmid};

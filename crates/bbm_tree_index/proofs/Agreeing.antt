@@ -4,8 +4,8 @@ use Rattle.bbm_place_map.specs.Map.{marks_at, value_at}
 use Rattle.bbm_place_map.specs.declared.map.PlaceMap.{PlaceMap}
 use Rattle.bbm_rules.specs.Places.{page_of}
 use Rattle.bbm_rules.specs.Tree.{Node}
-use Rattle.bbm_tree_index.specs.Agreement.{Agrees, IsSound}
-use Rattle.bbm_tree_index.specs.Held.{core_with, next_at, next_in}
+use Rattle.bbm_tree_index.specs.IndexAgreement.{Agrees, IsSound}
+use Rattle.bbm_tree_index.specs.HeldCores.{core_with, next_at, next_in}
 use Rattle.bbm_tree_index.specs.Index.{node_in}
 use Rattle.bbm_tree_index.specs.declared.index.TreeIndex.{TreeIndex}
 

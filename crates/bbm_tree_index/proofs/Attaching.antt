@@ -1,5 +1,7 @@
 -- The words of an index after pages were attached.
-use Rattle.std.proofs.Common.{◌≡◌, ℕ, ◌<◌, ◌⊎◌, ◌&&◌, Bool, true, false, List, [], Option, Some, None, Contains, is_none, is_some, length, nat_eq, slice_get, unwrap_or, inl, inr, refl, sym, ap, ◌∙◌, subst, arith, if◌then◌else◌}
+use Rattle.std.proofs.Common.{◌≡◌, ℕ, ◌<◌, ◌⊎◌, ◌&&◌, Bool, true, false, List, [], Option, Some, None, Contains}
+use Rattle.std.proofs.Common.{is_none, is_some, length, nat_eq, slice_get, unwrap_or, inl, inr, refl, sym, ap, ◌∙◌}
+use Rattle.std.proofs.Common.{subst, arith, if◌then◌else◌}
 use Rattle.indexmap.specs.IndexMap.{IndexMap, get}
 use Rattle.bbm_place_map.specs.Map.{value_at}
 use Rattle.bbm_place_map.specs.declared.map.PlaceMap.{PlaceMap}
@@ -8,11 +10,11 @@ use Rattle.bbm_regimes.specs.declared.regime.Kind.{Kind}
 use Rattle.bbm_rules.specs.Places.{page_of}
 use Rattle.bbm_rules.specs.Roots.{pages_from}
 use Rattle.bbm_rules.specs.Tree.{Node, node_below, nodes_of_pages}
-use Rattle.bbm_tree_index.specs.Agreement.{IsSound, Sound}
+use Rattle.bbm_tree_index.specs.IndexAgreement.{IsSound, Sound}
 use Rattle.bbm_tree_index.specs.Hanging.{Hung}
 use Rattle.bbm_tree_index.specs.Index.{fresh_in, heading_of, known_in, node_in, null_in, role_in}
-use Rattle.bbm_tree_index.specs.Judged.{IsUnfresh, MayJudge, Never, names_pages}
-use Rattle.bbm_tree_index.specs.Least.{IsSurvey}
+use Rattle.bbm_tree_index.specs.Attaching.{IsUnfresh, MayJudge, Never, names_pages}
+use Rattle.bbm_tree_index.specs.LeastPages.{IsSurvey}
 use Rattle.bbm_tree_index.specs.Nodes.{is_fresh_role, node_by}
 use Rattle.bbm_tree_index.specs.Paths.{Attached, below_all, starts_of}
 use Rattle.bbm_tree_index.specs.Spots.{Fits, spot_with}
@@ -25,7 +27,8 @@ use Rattle.bbm_tree_index.specs.declared.role.Role.{Role}
 use Rattle.bbm_tree_index.specs.declared.role.Role.TheVariants.{Untracked}
 use Rattle.bbm_tree_index.proofs.Begins.{apart_of}
 use Rattle.bbm_tree_index.proofs.Begun.{only}
-use Rattle.bbm_tree_index.proofs.Hung.{Begins, Reach, fresh_hung, node_back, node_kept, node_reached, null_hung, sound_hung}
+use Rattle.bbm_tree_index.proofs.Hung.{Begins, Reach, fresh_hung, node_back, node_kept, node_reached, null_hung}
+use Rattle.bbm_tree_index.proofs.Hung.{sound_hung}
 use Rattle.bbm_tree_index.proofs.Reaching.{attached_reach, reach_attached, reach_fresh, reach_unique}
 use Rattle.bbm_tree_index.proofs.Rooted.{in_nodes}
 use Rattle.bbm_tree_index.proofs.Surveying.{all_hung, reach_fits, reach_plain, table_page}

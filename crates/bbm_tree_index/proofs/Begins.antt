@@ -1,5 +1,6 @@
 -- Where the paths of what is attached begin.
-use Rattle.std.proofs.Common.{◌≡◌, ℕ, suc, ◌≤◌, ◌<◌, ◌+◌, ◌*◌, ◌^◌, true, List, [], ◌∷◌, Option, Some, None, Contains, length, sym, ap, ◌∙◌, subst, arith}
+use Rattle.std.proofs.Common.{◌≡◌, ℕ, suc, ◌≤◌, ◌<◌, ◌+◌, ◌*◌, ◌^◌, true, List, [], ◌∷◌, Option, Some, None, Contains}
+use Rattle.std.proofs.Common.{length, sym, ap, ◌∙◌, subst, arith}
 use Rattle.std.proofs.lemmas.Option.{none-some, same_Some}
 use Rattle.indexmap.specs.IndexMap.{IndexMap}
 use Rattle.bbm_events.specs.Heading.{heading_ok}
@@ -10,8 +11,8 @@ use Rattle.bbm_rules.specs.Places.{page_of}
 use Rattle.bbm_rules.specs.Roots.{page_count, start_of}
 use Rattle.bbm_rules.specs.Tree.{Node, node_below}
 use Rattle.bbm_tree_index.specs.Index.{fresh_in, heading_of, node_in}
-use Rattle.bbm_tree_index.specs.Judged.{MayJudge}
-use Rattle.bbm_tree_index.specs.Least.{HavePages, IsSurvey, Told}
+use Rattle.bbm_tree_index.specs.Attaching.{MayJudge}
+use Rattle.bbm_tree_index.specs.LeastPages.{HavePages, IsSurvey, Told}
 use Rattle.bbm_tree_index.specs.Paths.{below_all, starts_of}
 use Rattle.bbm_tree_index.specs.Survey.{Starting, Well, root_marks}
 use Rattle.bbm_tree_index.specs.declared.index.TreeIndex.{TreeIndex}

@@ -1,11 +1,12 @@
 -- A table of marks after one more place.
-use Rattle.std.proofs.Common.{◌≡◌, ℕ, suc, ◌+◌, ◌*◌, Bool, true, false, ◌||◌, ◌==◌, List, Option, Some, None, refl, sym, ap, ◌∙◌, subst, true≢false, if◌then◌else◌}
+use Rattle.std.proofs.Common.{◌≡◌, ℕ, suc, ◌+◌, ◌*◌, Bool, true, false, ◌||◌, ◌==◌, List, Option, Some, None, refl, sym}
+use Rattle.std.proofs.Common.{ap, ◌∙◌, subst, true≢false, if◌then◌else◌}
 use Rattle.std.proofs.lemmas.Bool.{eqb-true, eq-eqb}
 use Rattle.std.proofs.lemmas.Option.{none-some, same_Some}
 use Rattle.bbm_rules.specs.Places.{index_of, page_of}
 use Rattle.bbm_rules.specs.Roots.{input_pages}
 use Rattle.bbm_rules.specs.Tree.{Node, next_of, node_below}
-use Rattle.bbm_tree_index.specs.Held.{is_at}
+use Rattle.bbm_tree_index.specs.HeldCores.{is_at}
 use Rattle.bbm_tree_index.specs.Spots.{StandsAt}
 use Rattle.bbm_tree_index.specs.Survey.{Counts, Found, Partly, Reached, Step, grown, joined, role_as}
 use Rattle.bbm_tree_index.specs.declared.mark.Mark.{Mark}

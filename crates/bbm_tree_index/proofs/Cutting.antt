@@ -6,7 +6,7 @@ use Rattle.bbm_regimes.specs.declared.regime.Kind.{Kind}
 use Rattle.bbm_rules.specs.Lists.{any}
 use Rattle.bbm_rules.specs.Places.{page_of}
 use Rattle.bbm_rules.specs.Tree.{Node}
-use Rattle.bbm_tree_index.specs.Agreement.{Sound}
+use Rattle.bbm_tree_index.specs.IndexAgreement.{Sound}
 use Rattle.bbm_tree_index.specs.Climbs.{cut_by}
 use Rattle.bbm_tree_index.specs.Nodes.{above_by, node_by, node_with}
 use Rattle.bbm_tree_index.specs.Spots.{StandsAt, spot_with}

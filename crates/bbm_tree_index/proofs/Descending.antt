@@ -6,7 +6,7 @@ use Rattle.bbm_rules.specs.Places.{index_of}
 use Rattle.bbm_rules.specs.Roots.{input_pages}
 use Rattle.bbm_rules.specs.Tree.{Node, region_start}
 use Rattle.bbm_tree_index.specs.Descent.{Translates}
-use Rattle.bbm_tree_index.specs.Held.{is_at}
+use Rattle.bbm_tree_index.specs.HeldCores.{is_at}
 use Rattle.bbm_tree_index.specs.Nodes.{path_at}
 use Rattle.bbm_tree_index.specs.Spots.{StandsAt}
 use Rattle.bbm_tree_index.specs.declared.role.Path.{Path}

@@ -1,5 +1,7 @@
 -- Well formed tables of marks, and the order of their keys.
-use Rattle.std.proofs.Common.{◌≡◌, ℕ, zero, suc, ◌<◌, ◌≤◌, ◌+◌, ◌*◌, ◌%◌, ◌^◌, Bool, true, false, ◌||◌, ◌==◌, List, [], ◌∷◌, ◌++◌, Option, Some, None, is_some, nat_eq, take, get_or, slice_get, refl, sym, ap, ◌∙◌, subst, true≢false, if◌then◌else◌, arith}
+use Rattle.std.proofs.Common.{◌≡◌, ℕ, zero, suc, ◌<◌, ◌≤◌, ◌+◌, ◌*◌, ◌%◌, ◌^◌, Bool, true, false, ◌||◌, ◌==◌, List, []}
+use Rattle.std.proofs.Common.{◌∷◌, ◌++◌, Option, Some, None, is_some, nat_eq, take, get_or, slice_get, refl, sym, ap}
+use Rattle.std.proofs.Common.{◌∙◌, subst, true≢false, if◌then◌else◌, arith}
 use Rattle.std.specs.List.{IsDistinct, list_any}
 use Rattle.std.proofs.lemmas.Bool.{eqb-true, eq-eqb}
 use Rattle.std.proofs.lemmas.Option.{get_or_from_slice_get, none-some, same_Some, slice_get_within}
@@ -16,6 +18,7 @@ use Rattle.bbm_tree_index.specs.Survey.{Well, grown, joined}
 use Rattle.bbm_tree_index.specs.declared.mark.Mark.{Mark}
 use Rattle.bbm_tree_index.specs.declared.spot.Spot.{Spot}
 use Rattle.bbm_tree_index.specs.declared.role.Role.TheVariants.{Hangs}
+use mathlib.Core.Bool.{or-false}
 
 below_low : (base index level : ℕ) → level < 3 → index < 512 → base + 512 * input_pages level ≤ 2 ^ 45
     → base + index * input_pages level + 512 * input_pages (suc level) ≤ 2 ^ 45
@@ -86,17 +89,13 @@ well_none heading g none = record {
   fit = λ p m e. absurd (none-some m (sym (none p) ∙ e));
 }
 
-or_false : (b : Bool) → (b || false) ≡ b
-or_false true = refl
-or_false false = refl
-
 -- one more key is among the first
 pub first_more_keys : (ks : List ℕ) (index page p : ℕ) → slice_get ks index ≡ Some page
     → list_any (nat_eq p) (take (index + 1) ks) ≡ (list_any (nat_eq p) (take index ks) || p == page)
 first_more_keys ks index page p at =
     ap (list_any (nat_eq p)) (take_more ks index 0 (slice_get_within ks index page at)
     ∙ ap (λ (x : ℕ). take index ks ++ x ∷ []) (get_or_from_slice_get ks index page 0 at))
-    ∙ list_any-append (nat_eq p) (take index ks) (page ∷ []) ∙ ap (λ b. list_any (nat_eq p) (take index ks) || b) (or_false (p == page))
+    ∙ list_any-append (nat_eq p) (take index ks) (page ∷ []) ∙ ap (λ b. list_any (nat_eq p) (take index ks) || b) (or-false (p == page))
 
 pub all_keys : {V S : Type 0} (table : IndexMap ℕ V S) (index : ℕ) → index_map_len table ≤ index → (p : ℕ)
     → list_any (nat_eq p) (take index (keys table)) ≡ is_some (get nat_eq table p)

@@ -1,5 +1,6 @@
 -- Tables of marks give pages their roles.
-use Rattle.std.proofs.Common.{◌≡◌, ℕ, ◌<◌, ◌+◌, ◌==◌, ◌||◌, Bool, true, false, List, Option, Some, None, is_some, nat_eq, slice_get, inl, inr, refl, sym, ap, ◌∙◌, true≢false, if◌then◌else◌, arith}
+use Rattle.std.proofs.Common.{◌≡◌, ℕ, ◌<◌, ◌+◌, ◌==◌, ◌||◌, Bool, true, false, List, Option, Some, None, is_some}
+use Rattle.std.proofs.Common.{nat_eq, slice_get, inl, inr, refl, sym, ap, ◌∙◌, true≢false, if◌then◌else◌, arith}
 use Rattle.std.proofs.lemmas.Bool.{eqb-true, eq-eqb}
 use Rattle.std.proofs.lemmas.Option.{same_Some}
 use Rattle.indexmap.specs.IndexMap.{IndexMap, get}

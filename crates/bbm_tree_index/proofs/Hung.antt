@@ -1,11 +1,12 @@
 -- Nodes and soundness after pages were hung: each page that is reached got the role of its node, the others kept theirs.
-use Rattle.std.proofs.Common.{◌≡◌, ℕ, zero, suc, ◌⊎◌, ◌&&◌, Bool, true, false, List, [], ◌∷◌, ◌++◌, Option, Some, None, is_none, Contains, inl, inr, refl, sym, ap, ◌∙◌, subst}
+use Rattle.std.proofs.Common.{◌≡◌, ℕ, zero, suc, ◌⊎◌, ◌&&◌, Bool, true, false, List, [], ◌∷◌, ◌++◌, Option, Some, None}
+use Rattle.std.proofs.Common.{is_none, Contains, inl, inr, refl, sym, ap, ◌∙◌, subst}
 use Rattle.std.proofs.lemmas.Option.{none-some, same_Some}
 use Rattle.bbm_events.specs.Heading.{Heading}
 use Rattle.bbm_regimes.specs.declared.regime.Kind.{Kind}
 use Rattle.bbm_rules.specs.Places.{page_of}
 use Rattle.bbm_rules.specs.Tree.{Above, Node, node_below, region_start}
-use Rattle.bbm_tree_index.specs.Agreement.{Below, Sound}
+use Rattle.bbm_tree_index.specs.IndexAgreement.{Below, Sound}
 use Rattle.bbm_tree_index.specs.Nodes.{above_by, is_fresh_role, is_null_role, node_by, node_with}
 use Rattle.bbm_tree_index.specs.Spots.{Fits, spot_with}
 use Rattle.bbm_tree_index.specs.Survey.{Goes, role_as, spot_as}
@@ -15,6 +16,7 @@ use Rattle.bbm_tree_index.proofs.Climbing.{fresh_part, out_part, tree_part}
 use Rattle.bbm_tree_index.proofs.Levels.{goes_on}
 use Rattle.bbm_tree_index.proofs.Places.{at_page}
 use Rattle.bbm_tree_index.proofs.Sweeping.{node_hang}
+use mathlib.Core.Bool.{and-false}
 
 -- a path from a start reaches the node
 pub record Reach (fresh : ℕ → Bool) (value : ℕ → ℕ) (starts : List Node) (m : Node) : Type 0 where
@@ -219,17 +221,13 @@ module _ (roles roles' : ℕ → Role) (heading : Heading) (sound : Sound roles 
     within = λ p n e. by_node p n _ e (sound.within p n) (λ r. (fits n r).within);
   }
 
-  and_false : (b : Bool) → (b && false) ≡ false
-  and_false true = refl
-  and_false false = refl
-
   at_hung : (p : ℕ) (h : IsHung p) → node_by roles' heading p ≡ Some h.0
   at_hung p h = subst (λ q. node_by roles' heading q ≡ Some h.0) h.2 (node_reached h.0 h.1)
 
   pub fresh_hung : (p : ℕ) → is_fresh_role (roles' p) ≡ (is_fresh_role (roles p) && is_none (node_by roles' heading p))
   fresh_hung p = by_hung p _
       (λ h. ap is_fresh_role h.3 ∙ hung_not_fresh h.0 h.0.above ∙ sym (ap (λ o. is_fresh_role (roles p) && is_none o) (at_hung p h)
-      ∙ and_false (is_fresh_role (roles p))))
+      ∙ and-false (is_fresh_role (roles p))))
       (λ h. ap is_fresh_role h.0 ∙ same h (is_fresh_role (roles p)) refl)
     where
       same : Same p → (b : Bool) → is_fresh_role (roles p) ≡ b → is_fresh_role (roles p) ≡ (is_fresh_role (roles p) && is_none (node_by roles' heading p))

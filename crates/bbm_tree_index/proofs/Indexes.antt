@@ -1,5 +1,6 @@
 -- What keeps nodes, soundness and agreement, said of indexes.
-use Rattle.std.proofs.Common.{◌≡◌, ℕ, ◌<◌, ◌%◌, ◌^◌, Bool, true, false, Option, Some, None, refl, sym, ap, subst, ◌∙◌, unwrap_or, ◌==◌, if◌then◌else◌}
+use Rattle.std.proofs.Common.{◌≡◌, ℕ, ◌<◌, ◌%◌, ◌^◌, Bool, true, false, Option, Some, None, refl, sym, ap, subst, ◌∙◌}
+use Rattle.std.proofs.Common.{unwrap_or, ◌==◌, if◌then◌else◌}
 use Rattle.std.proofs.Common.{nat_eq, is_some}
 use Rattle.indexmap.specs.IndexMap.{get}
 use Rattle.bbm_place_map.specs.declared.map.PlaceMap.{PlaceMap}
@@ -8,7 +9,7 @@ use Rattle.bbm_rules.specs.Tree.{Node}
 use Rattle.bbm_regimes.specs.declared.regime.Kind.{Kind}
 use Rattle.bbm_tree_index.specs.Climbs.{cut_by}
 use Rattle.bbm_tree_index.proofs.Cutting.{cut_node}
-use Rattle.bbm_tree_index.specs.Agreement.{Agrees, IsSound, Sound}
+use Rattle.bbm_tree_index.specs.IndexAgreement.{Agrees, IsSound, Sound}
 use Rattle.bbm_tree_index.specs.Index.{fresh_in, heading_of, known_in, node_in, role_in}
 use Rattle.bbm_tree_index.specs.Nodes.{node_by}
 use Rattle.bbm_tree_index.specs.declared.index.TreeIndex.{TreeIndex}

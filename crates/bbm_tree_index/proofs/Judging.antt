@@ -1,5 +1,6 @@
 -- What the tables of a survey say of the paths.
-use Rattle.std.proofs.Common.{◌≡◌, ℕ, zero, suc, ◌<◌, ◌+◌, ◌==◌, Bool, true, false, List, [], ◌∷◌, Option, Some, None, is_some, length, nat_eq, slice_get, inl, inr, refl, sym, ap, ◌∙◌, subst, arith}
+use Rattle.std.proofs.Common.{◌≡◌, ℕ, zero, suc, ◌<◌, ◌+◌, ◌==◌, Bool, true, false, List, [], ◌∷◌, Option, Some, None}
+use Rattle.std.proofs.Common.{is_some, length, nat_eq, slice_get, inl, inr, refl, sym, ap, ◌∙◌, subst, arith}
 use Rattle.std.proofs.lemmas.Bool.{eqb-true, eq-eqb}
 use Rattle.std.proofs.Common.{true≢false}
 use Rattle.std.proofs.lemmas.Option.{slice_get_within}
@@ -9,9 +10,9 @@ use Rattle.bbm_descriptor.specs.declared.desc.Desc.{Desc}
 use Rattle.bbm_regimes.specs.declared.regime.Kind.{Kind}
 use Rattle.bbm_rules.specs.Attach.{End, end_at}
 use Rattle.bbm_rules.specs.Tree.{Node}
-use Rattle.bbm_tree_index.specs.Held.{is_at}
-use Rattle.bbm_tree_index.specs.Judged.{EndsTwice, HasPlace, IsPath, IsUnfresh, UnfreshEnd}
-use Rattle.bbm_tree_index.specs.Least.{LeafPlace, Told, Wrong, WrongPage, elsewhere, many, unfresh}
+use Rattle.bbm_tree_index.specs.HeldCores.{is_at}
+use Rattle.bbm_tree_index.specs.Attaching.{EndsTwice, HasPlace, IsPath, IsUnfresh, UnfreshEnd}
+use Rattle.bbm_tree_index.specs.LeastPages.{LeafPlace, Told, Wrong, WrongPage, elsewhere, many, unfresh}
 use Rattle.bbm_tree_index.specs.Survey.{Counts, Found, Goes, Reached}
 use Rattle.bbm_tree_index.specs.declared.mark.Mark.{Mark}
 use Rattle.bbm_tree_index.proofs.Starts.{goes_kind}

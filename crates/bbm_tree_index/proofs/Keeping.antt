@@ -1,5 +1,6 @@
 -- Whether a page leaves, by its role and by its node, and while other pages leave.
-use Rattle.std.proofs.Common.{◌≡◌, ℕ, zero, suc, Bool, true, false, not, ◌&&◌, ◌||◌, ◌==◌, List, [], ◌∷◌, Option, Some, None, is_some, refl, sym, ap, ◌∙◌, subst, true≢false, if◌then◌else◌}
+use Rattle.std.proofs.Common.{◌≡◌, ℕ, zero, suc, Bool, true, false, not, ◌&&◌, ◌||◌, ◌==◌, List, [], ◌∷◌, Option, Some}
+use Rattle.std.proofs.Common.{None, is_some, refl, sym, ap, ◌∙◌, subst, true≢false, if◌then◌else◌}
 use Rattle.std.proofs.lemmas.Option.{none-some, same_Some}
 use Rattle.std.proofs.Math.Nat.{suc_inj}
 use Rattle.bbm_entry_state.specs.declared.marks.Marks.{Marks}
@@ -10,10 +11,10 @@ use Rattle.bbm_regimes.specs.declared.regime.Kind.{Kind}
 use Rattle.bbm_rules.specs.Lists.{any, every}
 use Rattle.bbm_rules.specs.Places.{page_of}
 use Rattle.bbm_rules.specs.Tree.{Node, node_below}
-use Rattle.bbm_tree_index.specs.Agreement.{Sound}
+use Rattle.bbm_tree_index.specs.IndexAgreement.{Sound}
 use Rattle.bbm_tree_index.specs.Climbs.{cut_by, passes_at}
-use Rattle.bbm_tree_index.specs.Held.{core_with, holds_at, is_held}
-use Rattle.bbm_tree_index.specs.Held.{leaves as leaves_node}
+use Rattle.bbm_tree_index.specs.HeldCores.{core_with, holds_at, is_held}
+use Rattle.bbm_tree_index.specs.HeldCores.{leaves as leaves_node}
 use Rattle.bbm_tree_index.specs.Leaving.{leaves_role, stays}
 use Rattle.bbm_tree_index.specs.Nodes.{node_by, node_with}
 use Rattle.bbm_tree_index.specs.declared.climb.Asked.TheVariants as asked
@@ -23,10 +24,7 @@ use Rattle.bbm_tree_index.specs.declared.role.Role.{Role}
 use Rattle.bbm_tree_index.specs.declared.role.Role.TheVariants.{Untracked, Fresh, RootPage, Hangs, Gone, Null}
 use Rattle.bbm_tree_index.proofs.Cutting.{cut_node}
 use Rattle.bbm_tree_index.proofs.Sweeping.{node_hang}
-
-not_not : (b : Bool) → not (not b) ≡ b
-not_not true = refl
-not_not false = refl
+use mathlib.Core.Bool.{not-not, or-true}
 
 any_not : {X : Type 0} (f : X → Bool) (xs : List X) → any (λ x. not (f x)) xs ≡ not (every f xs)
 any_not f [] = refl
@@ -46,7 +44,7 @@ module _ (map : PlaceMap) (roles : ℕ → Role) (heading : Heading) (sound : So
   by_node p Fresh n leaving r e = absurd (none-some n e)
   by_node p (RootPage kind first part) n Unheld r e = subst (Says p (RootPage kind first part) Unheld) (same_Some _ n e) refl
   by_node p (RootPage kind first part) n (Root page) r e =
-      subst (Says p (RootPage kind first part) (Root page)) (same_Some _ n e) (sym (not_not (first == page)))
+      subst (Says p (RootPage kind first part) (Root page)) (same_Some _ n e) (sym (not-not (first == page)))
   by_node p (RootPage kind first part) n (Under place) r e =
       subst (Says p (RootPage kind first part) (Under place)) (same_Some _ n e) refl
   by_node p (Hangs parent kind level base first) n Unheld r e =
@@ -55,12 +53,12 @@ module _ (map : PlaceMap) (roles : ℕ → Role) (heading : Heading) (sound : So
       ∙ cut_node (passes_at map asked.Unheld) roles heading sound p n (ap (node_with roles heading p) r ∙ e)
       ∙ any_not (λ a. holds_at map n.kind a.level a.place) n.above
   by_node p (Hangs parent kind level base first) n (Root page) r e =
-      subst (Says p (Hangs parent kind level base first) (Root page)) (same_Some _ n e) (sym (not_not (first == page)))
+      subst (Says p (Hangs parent kind level base first) (Root page)) (same_Some _ n e) (sym (not-not (first == page)))
   by_node p (Hangs parent kind level base first) n (Under place) r e =
       ap (λ l. cut_by (passes_at map (asked.This place)) roles l (Hangs parent kind level base first)) (ap (λ m. m.level) (same_Some _ n e))
       ∙ ap (cut_by (passes_at map (asked.This place)) roles n.level) (sym r)
       ∙ cut_node (passes_at map (asked.This place)) roles heading sound p n (ap (node_with roles heading p) r ∙ e)
-      ∙ sym (not_not (any (λ a. a.place == place) n.above))
+      ∙ sym (not-not (any (λ a. a.place == place) n.above))
   by_node p Gone n leaving r e = absurd (none-some n e)
   by_node p Null n leaving r e = absurd (none-some n e)
 
@@ -117,10 +115,6 @@ module _ (map : PlaceMap) (roles : ℕ → Role) (heading : Heading) (sound : So
       cut_gone zero = refl
       cut_gone (suc level) = refl
 
-      or_true : (b : Bool) → (b || true) ≡ true
-      or_true true = refl
-      or_true false = refl
-
       abbrev Same : ℕ → Role → Type 0
       Same level role = cut_by test' roles' level role ≡ cut_by test roles level role
 
@@ -132,10 +126,10 @@ module _ (map : PlaceMap) (roles : ℕ → Role) (heading : Heading) (sound : So
       hang_same level parent kind n at deep ih true h =
           ap (λ c. test' kind level parent || c)
           (ap (cut_by test' roles' level) (left (page_of parent) ∙ ap (λ b. if b then Gone else roles (page_of parent)) h) ∙ cut_gone level)
-          ∙ or_true (test' kind level parent)
+          ∙ or-true (test' kind level parent)
           ∙ sym (ap (λ c. test kind level parent || c)
           (subst (λ l. cut_by test roles l (roles (page_of parent)) ≡ true) deep (cuts (page_of parent) n at h))
-          ∙ or_true (test kind level parent))
+          ∙ or-true (test kind level parent))
       hang_same level parent kind n at deep ih false h =
           ap (λ c. c || cut_by test' roles' level (roles' (page_of parent))) (same kind level parent h)
           ∙ ap (λ c. test kind level parent || c)

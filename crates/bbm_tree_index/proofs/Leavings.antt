@@ -5,7 +5,7 @@ use Rattle.bbm_place_map.specs.Map.{marks_at, value_at}
 use Rattle.bbm_place_map.specs.declared.map.PlaceMap.{PlaceMap}
 use Rattle.bbm_regimes.specs.declared.regime.Kind.{Kind}
 use Rattle.bbm_rules.specs.Places.{page_of}
-use Rattle.bbm_tree_index.specs.Agreement.{Sound}
+use Rattle.bbm_tree_index.specs.IndexAgreement.{Sound}
 use Rattle.bbm_tree_index.specs.Climbs.{cut_by, passes_at}
 use Rattle.bbm_tree_index.specs.Leaving.{leaves_role}
 use Rattle.bbm_tree_index.specs.Nodes.{node_with}

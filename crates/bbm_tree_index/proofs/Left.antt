@@ -1,10 +1,11 @@
 -- The words of an index after pages left.
-use Rattle.std.proofs.Common.{◌≡◌, ℕ, Bool, true, false, not, Option, Some, None, refl, sym, ap, ◌∙◌, subst, if◌then◌else◌}
+use Rattle.std.proofs.Common.{◌≡◌, ℕ, Bool, true, false, not, Option, Some, None, refl, sym, ap, ◌∙◌, subst}
+use Rattle.std.proofs.Common.{if◌then◌else◌}
 use Rattle.bbm_place_map.specs.declared.map.PlaceMap.{PlaceMap}
 use Rattle.bbm_rules.specs.Tree.{Node}
-use Rattle.bbm_tree_index.specs.Agreement.{IsSound, Sound}
-use Rattle.bbm_tree_index.specs.Held.{kept}
-use Rattle.bbm_tree_index.specs.Held.{leaves as leaves_node}
+use Rattle.bbm_tree_index.specs.IndexAgreement.{IsSound, Sound}
+use Rattle.bbm_tree_index.specs.HeldCores.{kept}
+use Rattle.bbm_tree_index.specs.HeldCores.{leaves as leaves_node}
 use Rattle.bbm_tree_index.specs.Index.{fresh_in, heading_of, known_in, node_in, null_in, role_in}
 use Rattle.bbm_tree_index.specs.Leaving.{leaves_role, stays}
 use Rattle.bbm_tree_index.specs.Nodes.{is_fresh_role, is_null_role, node_by}

@@ -2,7 +2,7 @@
 use Rattle.std.proofs.Common.{◌≡◌, ℕ, ◌<◌, ◌≤◌, Some, refl, ap, arith}
 use Rattle.bbm_regimes.specs.declared.regime.Kind.{Kind}
 use Rattle.bbm_rules.specs.Tree.{Node}
-use Rattle.bbm_tree_index.specs.Agreement.{IsSound}
+use Rattle.bbm_tree_index.specs.IndexAgreement.{IsSound}
 use Rattle.bbm_tree_index.specs.Index.{heading_of, node_in, role_in}
 use Rattle.bbm_tree_index.specs.Nodes.{above_by, node_with}
 use Rattle.bbm_tree_index.specs.declared.index.TreeIndex.{TreeIndex}

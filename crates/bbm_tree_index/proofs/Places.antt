@@ -2,7 +2,7 @@
 use Rattle.std.proofs.Common.{◌≡◌, ℕ, ◌<◌, ◌+◌, ◌*◌, ◌/◌, ◌%◌, true, ◌==◌, sym, arith, subst}
 use Rattle.std.proofs.lemmas.Bool.{and_parts, eqb-true}
 use Rattle.bbm_rules.specs.Places.{page_of}
-use Rattle.bbm_tree_index.specs.Held.{is_at}
+use Rattle.bbm_tree_index.specs.HeldCores.{is_at}
 
 -- a place is the one of its number in its page
 place_number : (page a : ℕ) → a / 4096 * 4096 ≡ page → a % 8 ≡ 0 → a ≡ page + 8 * (a % 4096 / 8)

@@ -1,5 +1,6 @@
 -- Paths through fresh pages, by steps, and what it means that pages can be attached.
-use Rattle.std.proofs.Common.{◌≡◌, ℕ, zero, suc, ◌<◌, ◌+◌, ◌==◌, Bool, true, false, List, [], ◌∷◌, Some, None, Contains, length, inl, inr, refl, sym, ap, ◌∙◌, subst, true≢false, arith}
+use Rattle.std.proofs.Common.{◌≡◌, ℕ, zero, suc, ◌<◌, ◌+◌, ◌==◌, Bool, true, false, List, [], ◌∷◌, Some, None, Contains}
+use Rattle.std.proofs.Common.{length, inl, inr, refl, sym, ap, ◌∙◌, subst, true≢false, arith}
 use Rattle.std.proofs.lemmas.Bool.{eqb-true, eq-eqb}
 use Rattle.std.proofs.lemmas.Option.{none-some}
 use Rattle.bbm_descriptor.specs.Descriptor.{desc_as, invalid, leaf}
@@ -7,7 +8,7 @@ use Rattle.bbm_descriptor.specs.Fields.{type_bits}
 use Rattle.bbm_regimes.specs.declared.regime.Kind.{Kind}
 use Rattle.bbm_rules.specs.Attach.{end_at}
 use Rattle.bbm_rules.specs.Tree.{Node, next_in, next_of, node_below}
-use Rattle.bbm_tree_index.specs.Judged.{IsUnfresh, Never}
+use Rattle.bbm_tree_index.specs.Attaching.{IsUnfresh, Never}
 use Rattle.bbm_tree_index.specs.Paths.{Attached, Through}
 use Rattle.bbm_tree_index.specs.Survey.{Goes}
 use Rattle.bbm_tree_index.proofs.Hung.{Reach}

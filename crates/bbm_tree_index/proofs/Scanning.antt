@@ -1,11 +1,13 @@
 -- The places of a page, one after the other.
-use Rattle.std.proofs.Common.{◌≡◌, ℕ, ◌<◌, ◌≤◌, ◌+◌, ◌*◌, ◌/◌, ◌%◌, Bool, true, false, ◌&&◌, ◌||◌, ◌==◌, nat_lt, List, refl, sym, ap, ◌∙◌, true≢false, arith}
+use Rattle.std.proofs.Common.{◌≡◌, ℕ, ◌<◌, ◌≤◌, ◌+◌, ◌*◌, ◌/◌, ◌%◌, Bool, true, false, ◌&&◌, ◌||◌, ◌==◌, nat_lt, List}
+use Rattle.std.proofs.Common.{refl, sym, ap, ◌∙◌, true≢false, arith}
 use Rattle.std.proofs.lemmas.Bool.{eqb-true, eqb-false, ltb-true, lt-ltb}
 use Rattle.bbm_rules.specs.Places.{index_of, page_of}
 use Rattle.bbm_rules.specs.Tree.{Node}
-use Rattle.bbm_tree_index.specs.Held.{is_at}
+use Rattle.bbm_tree_index.specs.HeldCores.{is_at}
 use Rattle.bbm_tree_index.specs.Survey.{Partly}
 use Rattle.bbm_tree_index.proofs.Places.{at_page, place_is}
+use mathlib.Core.Bool.{and-false}
 
 -- two tests that agree on places
 pub partly_same : (fresh : ℕ → Bool) (value : ℕ → ℕ) (starts : List Node) (k : ℕ) (done done' : ℕ → Bool)
@@ -33,16 +35,12 @@ module _ (p j : ℕ) (inside : is_at p (p + 8 * j) ≡ true) where
   pub not_scanned : scanned p j (p + 8 * j) ≡ false
   not_scanned = by (nat_lt (index_of (p + 8 * j)) j) refl
     where
-      and_false : (b : Bool) → (b && false) ≡ false
-      and_false true = refl
-      and_false false = refl
-
       by : (b : Bool) → nat_lt (index_of (p + 8 * j)) j ≡ b → (page_of (p + 8 * j) == p && b) ≡ false
       by true e = absurd (less (index_of (p + 8 * j)) (ltb-true (index_of (p + 8 * j)) j e) number)
         where
           less : (i : ℕ) → i < j → i ≡ j → ⊥
           less i l s = omega (arith, l, s)
-      by false e = and_false (page_of (p + 8 * j) == p)
+      by false e = and-false (page_of (p + 8 * j) == p)
 
   -- a place is the next one exactly where it is that of the number in the page
   is_next : (page a : ℕ) → is_at page a ≡ true → (a == p + 8 * j) ≡ (page_of a == p && index_of a == j)

@@ -5,7 +5,7 @@ use Rattle.bbm_events.specs.Heading.{Heading}
 use Rattle.bbm_rules.specs.Places.{page_of}
 use Rattle.bbm_rules.specs.Roots.{input_pages}
 use Rattle.bbm_rules.specs.Tree.{Node}
-use Rattle.bbm_tree_index.specs.Agreement.{Sound}
+use Rattle.bbm_tree_index.specs.IndexAgreement.{Sound}
 use Rattle.bbm_tree_index.specs.Nodes.{node_with}
 use Rattle.bbm_tree_index.specs.Spots.{Fits, RoleFits, spot_with}
 use Rattle.bbm_tree_index.specs.declared.role.Role.{Role}

@@ -1,5 +1,7 @@
 -- What a survey tells, where pages can be attached.
-use Rattle.std.proofs.Common.{◌≡◌, ℕ, ◌<◌, ◌≤◌, ◌+◌, ◌⊎◌, Bool, true, List, Option, Some, None, Contains, is_some, get_or, length, nat_eq, slice_get, unwrap_or, inl, inr, refl, sym, ap, ◌∙◌, true≢false, arith}
+use Rattle.std.proofs.Common.{◌≡◌, ℕ, ◌<◌, ◌≤◌, ◌+◌, ◌⊎◌, Bool, true, List, Option, Some, None, Contains, is_some}
+use Rattle.std.proofs.Common.{get_or, length, nat_eq, slice_get, unwrap_or, inl, inr, refl, sym, ap, ◌∙◌, true≢false}
+use Rattle.std.proofs.Common.{arith}
 use Rattle.std.proofs.lemmas.Option.{none-some, same_Some, slice_get_cases}
 use Rattle.indexmap.specs.IndexMap.{IndexMap, get}
 use Rattle.bbm_events.specs.Heading.{Heading}

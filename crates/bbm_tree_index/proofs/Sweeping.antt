@@ -1,11 +1,12 @@
 -- Nodes and soundness after pages left, where with a page each page that hangs on it leaves.
-use Rattle.std.proofs.Common.{◌≡◌, ℕ, zero, suc, Bool, true, false, List, [], ◌∷◌, Option, Some, None, refl, sym, ap, ◌∙◌, subst, true≢false, if◌then◌else◌}
+use Rattle.std.proofs.Common.{◌≡◌, ℕ, zero, suc, Bool, true, false, List, [], ◌∷◌, Option, Some, None, refl, sym, ap}
+use Rattle.std.proofs.Common.{◌∙◌, subst, true≢false, if◌then◌else◌}
 use Rattle.std.proofs.lemmas.Option.{none-some}
 use Rattle.bbm_events.specs.Heading.{Heading}
 use Rattle.bbm_regimes.specs.declared.regime.Kind.{Kind}
 use Rattle.bbm_rules.specs.Places.{page_of}
 use Rattle.bbm_rules.specs.Tree.{Above, Node, node_below}
-use Rattle.bbm_tree_index.specs.Agreement.{Below, Sound}
+use Rattle.bbm_tree_index.specs.IndexAgreement.{Below, Sound}
 use Rattle.bbm_tree_index.specs.Nodes.{above_by, node_by, node_with}
 use Rattle.bbm_tree_index.specs.declared.role.Role.{Role}
 use Rattle.bbm_tree_index.specs.declared.role.Role.TheVariants.{Untracked, Fresh, RootPage, Hangs, Gone, Null}

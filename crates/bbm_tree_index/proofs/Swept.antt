@@ -1,19 +1,21 @@
 -- How far pages have left, over the table of roles.
-use Rattle.std.proofs.Common.{◌≡◌, ℕ, ◌≤◌, ◌+◌, Bool, true, false, ◌&&◌, ◌||◌, ◌==◌, [], ◌∷◌, ◌++◌, Option, Some, None, is_some, nat_eq, take, length, slice_get, refl, sym, ap, ◌∙◌, subst, true≢false, if◌then◌else◌, arith}
+use Rattle.std.proofs.Common.{◌≡◌, ℕ, ◌≤◌, ◌+◌, Bool, true, false, ◌&&◌, ◌||◌, ◌==◌, [], ◌∷◌, ◌++◌, Option, Some, None}
+use Rattle.std.proofs.Common.{is_some, nat_eq, take, length, slice_get, refl, sym, ap, ◌∙◌, subst, true≢false}
+use Rattle.std.proofs.Common.{if◌then◌else◌, arith}
 use Rattle.std.specs.List.{list_any}
 use Rattle.indexmap.specs.IndexMap.{IndexMap, get, keys}
 use Rattle.bbm_events.specs.Heading.{Heading}
 use Rattle.bbm_place_map.specs.Map.{is_tracked, marks_at, pends_at, value_at}
-use Rattle.bbm_entry_state.specs.Standing.{IsIdle}
+use Rattle.bbm_entry_state.specs.EntryStanding.{IsIdle}
 use Rattle.bbm_place_map.specs.declared.map.PlaceMap.{PlaceMap}
 use Rattle.bbm_rules.specs.Places.{page_of}
-use Rattle.bbm_tree_index.specs.Agreement.{Sound}
+use Rattle.bbm_tree_index.specs.IndexAgreement.{Sound}
 use Rattle.bbm_tree_index.specs.Leaving.{leaves_role, roles_of}
 use Rattle.bbm_tree_index.specs.declared.leaving.Leaving.{Leaving}
 use Rattle.bbm_tree_index.specs.declared.role.Role.{Role}
 use Rattle.bbm_tree_index.specs.declared.role.Role.TheVariants.{Untracked, Gone}
 use Rattle.bbm_tree_index.proofs.Leavings.{judged}
-use Rattle.std.proofs.lemmas.Bool.{and_parts, eqb-true}
+use Rattle.std.proofs.lemmas.Bool.{and_parts, eqb-true, or_parts}
 use Rattle.std.proofs.Common.{unwrap_or}
 use Rattle.std.proofs.lemmas.List.{length-map, take_all, take_more}
 use Rattle.std.proofs.lemmas.List.Folds.{list_any-append}
@@ -23,6 +25,7 @@ use Rattle.bbm_regimes.specs.declared.regime.Kind.{Kind}
 use Rattle.bbm_tree_index.specs.Nodes.{node_with}
 use Rattle.bbm_tree_index.specs.declared.role.Role.TheVariants.{Hangs}
 use Rattle.indexmap.specs.IndexMap.{index_map_len}
+use mathlib.Core.Bool.{or-false, and-false}
 
 module _ {S : Type 0} (table table' : IndexMap ℕ Role S) (map map' : PlaceMap) (leaving : Leaving) where
   abbrev pub leaves_first : ℕ → Bool
@@ -60,10 +63,6 @@ as_bool : (b : Bool) → b ≡ (if b then true else false)
 as_bool true = refl
 as_bool false = refl
 
-or_not : (a b : Bool) → (a || b) ≡ false → (a ≡ false) × (b ≡ false)
-or_not true b e = absurd (true≢false e)
-or_not false b e = (refl, e)
-
 module _ {S : Type 0} (table : IndexMap ℕ Role S) (map : PlaceMap) (leaving : Leaving) where
   pub start : Swept table table map map leaving 0
   start = record {
@@ -83,11 +82,7 @@ module _ {S : Type 0} (table : IndexMap ℕ Role S) (map : PlaceMap) (leaving : 
   first_more index page p at =
       ap (list_any (nat_eq p)) (take_more (keys table) index 0 (slice_get_within (keys table) index page at)
       ∙ ap (λ (x : ℕ). take index (keys table) ++ x ∷ []) (get_or_from_slice_get (keys table) index page 0 at))
-      ∙ list_any-append (nat_eq p) (take index (keys table)) (page ∷ []) ∙ ap (λ b. list_any (nat_eq p) (take index (keys table)) || b) (or_false (p == page))
-    where
-      or_false : (b : Bool) → (b || false) ≡ b
-      or_false true = refl
-      or_false false = refl
+      ∙ list_any-append (nat_eq p) (take index (keys table)) (page ∷ []) ∙ ap (λ b. list_any (nat_eq p) (take index (keys table)) || b) (or-false (p == page))
 
   module _ (table' : IndexMap ℕ Role S) (map' : PlaceMap) (heading : Heading) (sound : Sound (roles_of table) heading) (index : ℕ)
       (swept : Swept table table' map map' leaving index) where
@@ -137,7 +132,7 @@ module _ {S : Type 0} (table : IndexMap ℕ Role S) (map : PlaceMap) (leaving : 
           ∙ sym (as_bool (list_any (nat_eq p) (take (index + 1) (keys table)) && lf p))
 
       hid_not : (p : ℕ) → hid p ≡ false → ((p == page && now) ≡ false) × (hidden table table' map map' leaving index p ≡ false)
-      hid_not p e = or_not (p == page && now) (list_any (nat_eq p) (take index (keys table)) && lf p) e
+      hid_not p e = or_parts (p == page && now) (list_any (nat_eq p) (take index (keys table)) && lf p) e
 
       pub more : Swept table table'' map map'' leaving (index + 1)
       more = record {
@@ -169,14 +164,10 @@ module _ {S : Type 0} (table : IndexMap ℕ Role S) (map : PlaceMap) (leaving : 
         all = ap (list_any (nat_eq p)) (take_all index (keys table) (subst (λ n. n ≤ index) (sym (length-map table.entries (λ e. e.0))) end))
             ∙ sym (is_some-lookup (nat_eq p) table.entries)
 
-        and_false : (b : Bool) → (b && false) ≡ false
-        and_false true = refl
-        and_false false = refl
-
         by : (b : Bool) → leaves_role map (roles_of table) leaving (roles_of table p) ≡ b
             → (list_any (nat_eq p) (take index (keys table)) && b) ≡ b
         by true e = ap (λ a. a && true) (all ∙ known_leaves (get nat_eq table p) e)
-        by false e = and_false (list_any (nat_eq p) (take index (keys table)))
+        by false e = and-false (list_any (nat_eq p) (take index (keys table)))
 
 -- the levels of hanging pages
 pub level_low : (roles : ℕ → Role) (heading : Heading) → Sound roles heading → (p parent level base first : ℕ) (kind : Kind)

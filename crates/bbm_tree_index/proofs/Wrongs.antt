@@ -1,12 +1,13 @@
 -- What is wrong with a page, by the tables.
-use Rattle.std.proofs.Common.{◌≡◌, ℕ, ◌<◌, ◌≤◌, ◌+◌, ◌*◌, ◌/◌, ◌%◌, ◌==◌, Bool, true, false, List, Option, Some, is_some, nat_eq, get_or, slice_get, length, refl, sym, ap, ◌∙◌, subst, true≢false, arith}
+use Rattle.std.proofs.Common.{◌≡◌, ℕ, ◌<◌, ◌≤◌, ◌+◌, ◌*◌, ◌/◌, ◌%◌, ◌==◌, Bool, true, false, List, Option, Some}
+use Rattle.std.proofs.Common.{is_some, nat_eq, get_or, slice_get, length, refl, sym, ap, ◌∙◌, subst, true≢false, arith}
 use Rattle.std.proofs.lemmas.List.{length-map}
 use Rattle.std.proofs.lemmas.Bool.{eqb-true, eq-eqb}
 use Rattle.std.proofs.lemmas.Option.{same_Some, slice_get-get_or, slice_get_within}
 use Rattle.indexmap.specs.IndexMap.{IndexMap, get, index_map_len, keys}
 use Rattle.bbm_descriptor.specs.declared.desc.Desc.{Desc}
 use Rattle.bbm_regimes.specs.declared.regime.Kind.{Kind}
-use Rattle.bbm_tree_index.specs.Least.{Before, LeafIn, LeafOf, LeafPlace, LeastOf, WrongIn, WrongPage}
+use Rattle.bbm_tree_index.specs.LeastPages.{Before, LeafIn, LeafOf, LeafPlace, LeastOf, WrongIn, WrongPage}
 use Rattle.bbm_tree_index.specs.declared.mark.Mark.{Mark}
 use Rattle.bbm_tree_index.proofs.Growing.{all_keys, any_at}
 use Rattle.bbm_tree_index.proofs.Leasts.{least_same}

@@ -5,7 +5,7 @@ use Rattle.bbm_place_map.specs.Map.{value_at}
 use Rattle.bbm_place_map.specs.declared.map.PlaceMap.{PlaceMap}
 use Rattle.bbm_regimes.specs.declared.regime.Kind.{Kind}
 use Rattle.bbm_rules.specs.Places.{page_of}
-use Rattle.bbm_tree_index.specs.Held.{holds_at}
+use Rattle.bbm_tree_index.specs.HeldCores.{holds_at}
 use Rattle.bbm_tree_index.specs.declared.climb.Asked.{Asked}
 use Rattle.bbm_tree_index.specs.declared.climb.Asked.TheVariants.{Invalid, Unheld, This}
 use Rattle.bbm_tree_index.specs.declared.role.Role.{Role}

@@ -4,7 +4,7 @@ use Rattle.bbm_descriptor.specs.declared.desc.Core.{Core}
 use Rattle.bbm_regimes.specs.declared.regime.Kind.{Kind}
 use Rattle.bbm_rules.specs.Roots.{input_pages}
 use Rattle.bbm_rules.specs.Tree.{Node, region_start}
-use Rattle.bbm_tree_index.specs.Held.{is_at, next_in}
+use Rattle.bbm_tree_index.specs.HeldCores.{is_at, next_in}
 
 -- the place is one of the page, where the node stands, and translates the input page
 pub record Translates (page : ℕ) (n : Node) (at place : ℕ) : Type 0 where

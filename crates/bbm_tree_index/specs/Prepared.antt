@@ -4,8 +4,8 @@ use Rattle.bbm_place_map.specs.Map.{value_at}
 use Rattle.bbm_place_map.specs.declared.map.PlaceMap.{PlaceMap}
 use Rattle.bbm_rules.specs.Tree.{Node}
 use Rattle.bbm_tree_index.specs.Index.{fresh_in}
-use Rattle.bbm_tree_index.specs.Judged.{IsUnfresh, MayJudge, Never, names_pages}
-use Rattle.bbm_tree_index.specs.Least.{IsSurvey}
+use Rattle.bbm_tree_index.specs.Attaching.{IsUnfresh, MayJudge, Never, names_pages}
+use Rattle.bbm_tree_index.specs.LeastPages.{IsSurvey}
 use Rattle.bbm_tree_index.specs.Paths.{starts_of}
 use Rattle.bbm_tree_index.specs.declared.index.Prepared.{Prepared}
 use Rattle.bbm_tree_index.specs.declared.index.TreeIndex.{TreeIndex}

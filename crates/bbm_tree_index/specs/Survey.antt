@@ -11,7 +11,7 @@ use Rattle.bbm_tree_index.specs.Leaving.{roles_of}
 use Rattle.bbm_tree_index.specs.Nodes.{is_fresh_role}
 use Rattle.bbm_tree_index.specs.Spots.{RoleFits, spot_with}
 use Rattle.bbm_tree_index.specs.declared.spot.Spot.{Spot}
-use Rattle.bbm_tree_index.specs.Held.{is_at}
+use Rattle.bbm_tree_index.specs.HeldCores.{is_at}
 use Rattle.bbm_tree_index.specs.declared.mark.Mark.{Mark}
 use Rattle.bbm_tree_index.specs.declared.role.Role.{Role}
 use Rattle.bbm_tree_index.specs.declared.role.Role.TheVariants.{RootPage, Hangs}

@@ -1,7 +1,7 @@
 //! What the places of a page hold.
 
 ghost use Rattle.std.specs.Prelude.{◌≡◌, ◌≤◌, ◌<◌, ◌+◌, ◌*◌, ◌↔◌, ℕ, true, false, Some};
-ghost use Rattle.bbm_tree_index.specs.Held.{core_at, holds_at, is_at, next_in};
+ghost use Rattle.bbm_tree_index.specs.HeldCores.{core_at, holds_at, is_at, next_in};
 
 use bbm_descriptor::Core;
 use bbm_entry_state::EntryState;

@@ -4,11 +4,12 @@ ghost use Rattle.std.specs.Prelude.{◌≡◌, ◌≤◌, ◌<◌, ◌+◌, ◌*
 ghost use Rattle.indexmap.specs.IndexMap.{get, index_map_len, keys};
 ghost use Rattle.bbm_descriptor.specs.Descriptor.{desc_of};
 ghost use Rattle.bbm_place_map.specs.Map.{value_at};
-ghost use Rattle.bbm_regimes.specs.Same.{same_kind};
+ghost use Rattle.bbm_regimes.specs.SameRegister.{same_kind};
 ghost use Rattle.bbm_rules.specs.Tree.{Node};
-ghost use Rattle.bbm_tree_index.specs.Judged.{Judges, names_pages};
-ghost use Rattle.bbm_tree_index.specs.Least.{Elsewhere, HasPages, HavePages, LeafIn, LeafOf, LeafPlace, LeastOf, Told};
-ghost use Rattle.bbm_tree_index.specs.Least.{Wrong, WrongIn, WrongPage, asks, lesser};
+ghost use Rattle.bbm_tree_index.specs.Attaching.{Judges, names_pages};
+ghost use Rattle.bbm_tree_index.specs.LeastPages.{Elsewhere, HasPages, HavePages, LeafIn, LeafOf, LeafPlace, LeastOf};
+ghost use Rattle.bbm_tree_index.specs.LeastPages.{Told};
+ghost use Rattle.bbm_tree_index.specs.LeastPages.{Wrong, WrongIn, WrongPage, asks, lesser};
 ghost use Rattle.bbm_tree_index.specs.Survey.{fresh_of};
 
 use crate::fault::TreeFault;

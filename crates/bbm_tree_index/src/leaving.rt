@@ -5,10 +5,10 @@ ghost use Rattle.std.specs.Prelude.{slice_get, if◌then◌else◌};
 ghost use Rattle.indexmap.specs.IndexMap.{get, index_map_len, keys};
 ghost use Rattle.bbm_events.specs.Heading.{Heading};
 ghost use Rattle.bbm_place_map.specs.Map.{marks_at, pends_at, value_at, is_tracked};
-ghost use Rattle.bbm_entry_state.specs.Standing.{IsIdle};
+ghost use Rattle.bbm_entry_state.specs.EntryStanding.{IsIdle};
 ghost use Rattle.bbm_regimes.specs.declared.regime.Kind.{Kind};
 ghost use Rattle.bbm_rules.specs.Places.{page_of};
-ghost use Rattle.bbm_tree_index.specs.Agreement.{Sound};
+ghost use Rattle.bbm_tree_index.specs.IndexAgreement.{Sound};
 ghost use Rattle.bbm_tree_index.specs.Leaving.{leaves_role, leaves_root as spec_leaves_root, roles_of};
 
 use crate::climb::{Asked, is_cut};

@@ -3,7 +3,7 @@
 ghost use Rattle.std.specs.Prelude.{◌≡◌, ◌≤◌, ◌+◌, ◌-◌, ◌*◌, ℕ, suc};
 ghost use Rattle.bbm_place_map.specs.declared.map.PlaceMap.{PlaceMap as TheMap};
 ghost use Rattle.bbm_regimes.specs.declared.regime.Kind.{Kind as TheKind};
-ghost use Rattle.bbm_tree_index.specs.Held.{holds_at};
+ghost use Rattle.bbm_tree_index.specs.HeldCores.{holds_at};
 ghost use Rattle.bbm_regimes.specs.World.{input_pages as input_pages_of};
 ghost use Rattle.bbm_tree_index.specs.Spots.{spot_with, Fits, RoleFits};
 
@@ -71,7 +71,7 @@ fn deeper(level: u8) -> u8
 impl Spot {
     ghost use Rattle.std.specs.Prelude.{◌↔◌, ◌<◌, true, Some, IfSome};
     ghost use Rattle.bbm_rules.specs.Tree.{Node};
-    ghost use Rattle.bbm_tree_index.specs.Held.{Childless, is_at};
+    ghost use Rattle.bbm_tree_index.specs.HeldCores.{Childless, is_at};
     ghost use Rattle.bbm_tree_index.specs.Spots.{StandsAt};
     ghost use Rattle.bbm_rules.specs.Places.{index_of};
 

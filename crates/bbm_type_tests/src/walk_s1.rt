@@ -2,7 +2,7 @@
 
 ghost use Rattle.std.specs.Prelude.{◌≡◌, ◌<◌, ◌≤◌, ◌%◌, ◌^◌, ◌↔◌, IsTrue};
 ghost use Rattle.bbm_descriptor.specs.Listing.{NoLeaf};
-ghost use Rattle.bbm_walk_s1.specs.Ranges.{stage1_root};
+ghost use Rattle.bbm_walk_s1.specs.InputRanges.{stage1_root};
 
 use bbm_regimes::{Page, Place};
 use bbm_walk_s1::{Memory, Pairs, S1Root, Walk, walk};

@@ -1,8 +1,9 @@
 -- Where a walk begins: the input range of a root, and the place that its first nine bits select.
-use Rattle.std.proofs.Common.{◌≡◌, ℕ, zero, suc, ◌+◌, ◌-◌, ◌*◌, ◌/◌, ◌%◌, ◌^◌, ◌<◌, ◌≤◌, Bool, true, false, [], refl, ap, sym, ◌∙◌, subst, arith}
+use Rattle.std.proofs.Common.{◌≡◌, ℕ, zero, suc, ◌+◌, ◌-◌, ◌*◌, ◌/◌, ◌%◌, ◌^◌, ◌<◌, ◌≤◌, Bool, true, false, [], refl}
+use Rattle.std.proofs.Common.{ap, sym, ◌∙◌, subst, arith}
 use Rattle.bbm_regimes.specs.Extent.{span_of}
 use Rattle.bbm_descriptor.specs.Listing.{RegionHolds, IsAligned, ComesTo}
-use Rattle.bbm_walk_s1.specs.Ranges.{first_address, stage1_root}
+use Rattle.bbm_walk_s1.specs.InputRanges.{first_address, stage1_root}
 
 -- the first address is a multiple of what a place translates
 pub first_aligned : (start : ℕ) (high : Bool) → start ≤ 2 → first_address start high % span_of start ≡ 0

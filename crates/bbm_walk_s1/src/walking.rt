@@ -3,7 +3,7 @@
 ghost use Rattle.std.specs.Prelude.{◌≡◌, ℕ, ◌≤◌, ◌↔◌, [], IsTrue};
 ghost use Rattle.bbm_descriptor.specs.Listing.{IsAnswer, RegionHolds, WalkFits};
 ghost use Rattle.bbm_descriptor.specs.declared.walk.Walk.{Walk};
-ghost use Rattle.bbm_walk_s1.specs.Ranges.{first_address, stage1_root};
+ghost use Rattle.bbm_walk_s1.specs.InputRanges.{first_address, stage1_root};
 
 use crate::root::S1Root;
 use bbm_descriptor::laws::{law_one_answer, law_outside, law_walk_begins};

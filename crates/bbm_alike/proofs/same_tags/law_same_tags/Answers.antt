@@ -1,5 +1,5 @@
 use Rattle.std.proofs.Common.{◌≡◌, true, List, [], ◌∷◌, subst}
-use Rattle.bbm_lists.proofs.Elements.{to_contains}
+use Rattle.bbm_lemmas.proofs.Elements.{to_contains}
 use Rattle.bbm_rules.specs.Broken.{keeps}
 use Rattle.bbm_rules.specs.Claims.Trust.{Patterns}
 use Rattle.bbm_rules.specs.Prelude.{Event}

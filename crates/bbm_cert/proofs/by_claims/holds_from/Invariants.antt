@@ -1,7 +1,9 @@
-use Rattle.std.proofs.Common.{◌≡◌, take, reverse}
+use Rattle.std.proofs.Common.{◌≡◌, ◌≤◌, take, reverse}
 use Rattle.bbm_rules.specs.Claims.Trust.{Listed}
 use Rattle.bbm_rules.specs.Tags.{holds_at}
 use Rattle.bbm_cert.proofs.by_claims.holds_from.Given as goal
 
 abbrev pub invariant-loop-i : goal.invariant-loop-i
-invariant-loop-i l = l.holds ≡ holds_at l.header (Listed l.claims) l.pe l.root l.tag (reverse (take l.i l.events))
+invariant-loop-i l = (l.evidence.taken ≤ l.i)
+    × (l.holds ≡ holds_at l.header (Listed l.evidence.claims.now) l.asked.pe l.asked.root l.asked.tag
+    (reverse (take l.i l.events)))

@@ -1,4 +1,4 @@
-use Rattle.std.proofs.Common.{ℕ, Bool, ◌||◌, ◌&&◌, nat_lt, ◌==◌, reverse, sym, ◌∙◌, ap}
+use Rattle.std.proofs.Common.{Bool, ◌||◌, ◌&&◌, nat_lt, sym, ◌∙◌, ap}
 use Rattle.std.proofs.lemmas.Result.{on_ok_weaker}
 use Rattle.bbm_events.specs.declared.claim.Claim.{Claim}
 use Rattle.bbm_cert.specs.Cleansings.{tells}

@@ -1,9 +1,13 @@
 use Rattle.std.proofs.Common.{◌≡◌, ℕ, ◌&&◌, ◌||◌, nat_lt, reverse}
 use Rattle.bbm_regimes.specs.declared.regime.Tag.{Tag}
-use Rattle.bbm_rules.specs.Tags.{reads}
+use Rattle.bbm_rules.specs.Tags.{reads, reads_for_some}
 use Rattle.bbm_cert.specs.Holdings.{has}
+use Rattle.bbm_cert.specs.Spans.{lasts}
 use Rattle.bbm_cert.proofs.holdings.add_read.Given as goal
 
 abbrev pub invariant-loop-number : goal.invariant-loop-number
-invariant-loop-number l = (p root : ℕ) (tag : Tag) → has l.held.items p root tag
-    ≡ (has l.initial.held.items p root tag || (nat_lt p l.number && reads l.header (reverse l.events) p tag root))
+invariant-loop-number l =
+    ((p root : ℕ) (tag : Tag) → has l.tags.held.items p root tag ≡ (has l.initial.tags.held.items p root tag
+    || (nat_lt p l.number && reads l.header (reverse l.events) p tag root)))
+    × ((p n : ℕ) (tag : Tag) → lasts l.tags.spans.items p tag n ≡ (lasts l.initial.tags.spans.items p tag n
+    || (nat_lt p l.number && reads_for_some l.header (reverse l.events) p tag)))

@@ -1,6 +1,7 @@
 use Rattle.std.proofs.Common.{refl, sym, ◌∙◌}
 use Rattle.bbm_cert.proofs.Flushed.{flush_answered, flush_lost, flush_not, flush_yes}
-use Rattle.bbm_cert.proofs.marks.flush_before.Goals.{else-is_flush-via-then-is_flush+else-not-is_answered, else-is_flush-via-else-is_flush}
+use Rattle.bbm_cert.proofs.marks.flush_before.Goals.{else-is_flush-via-then-is_flush+else-not-is_answered}
+use Rattle.bbm_cert.proofs.marks.flush_before.Goals.{else-is_flush-via-else-is_flush}
 use Rattle.bbm_cert.proofs.marks.flush_before.Goals as goal
 
 pub returns-then-not-is_answered-clause-marks : goal.returns-then-not-is_answered-clause-marks

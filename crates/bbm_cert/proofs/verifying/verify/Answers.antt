@@ -3,8 +3,11 @@ use Rattle.bbm_rules.specs.Prelude.{Event}
 use Rattle.bbm_cert.specs.Cleansings.{tells}
 use Rattle.bbm_cert.specs.Holdings.{has}
 use Rattle.bbm_cert.specs.declared.cleansings.Cleansing.{Cleansing}
+use Rattle.bbm_cert.specs.Spans.{lasts}
 use Rattle.bbm_cert.specs.declared.holdings.Holding.{Holding}
+use Rattle.bbm_cert.specs.declared.spans.Span.{Span}
 use Rattle.bbm_cert.proofs.Cleansed.{tell_nothing}
+use Rattle.bbm_cert.proofs.Lasting.{nothing_lasts}
 use Rattle.bbm_cert.proofs.Verified.{going_next, going_start, stopped}
 use Rattle.bbm_cert.proofs.verifying.verify.Goals as goal
 
@@ -13,12 +16,15 @@ new-history-requires c = (
   (λ place p n. ap (λ (xs : List Cleansing). tells xs place p n) c.new.ensures.items
       ∙ tell_nothing c.args.header.now c.as_slice.result.now place p n),
   (λ p root tag below. ap (λ (xs : List Holding). has xs p root tag) c.new-2.ensures.items),
+  (λ p n tag below. ap (λ (xs : List Span). lasts xs p tag n) c.new-3.ensures.items ∙ nothing_lasts c.args.header.now p
+      tag n),
   refl,
 )
 
 pub loop-i-init : goal.loop-i-init
 loop-i-init c =
-    going_start c.new-history.result c.args.header.now c.args.claims.now.items c.as_slice.result.now c.new-history.ensures.is
+    going_start c.new-history.result c.args.header.now c.args.claims.now.items c.as_slice.result.now
+    c.new-history.ensures.is
     c.new-history.ensures.stands c.as_slice.ensures.value
 
 pub loop-i-preserved : goal.loop-i-preserved
@@ -41,4 +47,5 @@ returns-in_default c =
     let is : c.event-item.result ≡ get_or log c.loop-i.i c.event-item.result = cc (c.event-item.is, same) in
     stopped c.args.header.now c.args.claims.now.items c.loop-i.history log c.loop-i.i c.event-item.result below
     is c.loop-i.invariant c.in_ok-said.said
-    (c.in_ok-said.ensures c.args.header.now (reverse (take c.loop-i.i log)) c.loop-i.invariant.stands) c.in_default.not-Yes
+    (c.in_ok-said.ensures c.args.header.now (reverse (take c.loop-i.i log)) c.loop-i.invariant.stands)
+    c.in_default.not-Yes

@@ -1,5 +1,5 @@
 use Rattle.std.proofs.Common.{Result, subst}
-use Rattle.bbm_certificate.specs.Reading.{TakesLine, after_line, kept_at}
+use Rattle.bbm_certificate.specs.CertificateReading.{TakesLine, after_line, kept_at}
 use Rattle.bbm_certificate.specs.declared.turn.LineFault.{LineFault}
 use Rattle.bbm_certificate.specs.declared.turn.Turn.{Turn}
 use Rattle.bbm_certificate.proofs.Sound.{taken_sound}

@@ -5,7 +5,7 @@ use Rattle.bbm_events.specs.declared.claim.Claim.{Claim}
 use Rattle.bbm_rules.specs.Broken.{keeps}
 use Rattle.bbm_rules.specs.Claims.Trust.{Patterns}
 use Rattle.bbm_rules.specs.Prelude.{Event}
-use Rattle.bbm_certify.specs.Least.{IsCertificate}
+use Rattle.bbm_certify.specs.LeastClaims.{IsCertificate}
 use Rattle.bbm_certify.specs.Made.{IsMaking}
 use Rattle.bbm_certify.proofs.Finished.{certificate_next, first_count, keeps_first, passes_at, reverse_more}
 use Rattle.bbm_certify.proofs.making.make.Goals as goal

@@ -1,5 +1,5 @@
 use Rattle.std.proofs.Common.{take, reverse}
-use Rattle.bbm_certify.specs.Least.{IsCertificate}
+use Rattle.bbm_certify.specs.LeastClaims.{IsCertificate}
 use Rattle.bbm_certify.specs.Made.{IsMaking}
 use Rattle.bbm_certify.proofs.making.make.Given as goal
 

@@ -3,4 +3,5 @@ use Rattle.bbm_certify.specs.Taken.{takes}
 use Rattle.bbm_certify.proofs.tags.first_taking.Given as goal
 
 abbrev pub invariant-loop-i : goal.invariant-loop-i
-invariant-loop-i l = (n : ℕ) → n ≤ l.i → takes l.header l.holding.pe l.holding.tag l.issuer l.dsb (reverse l.before) n ≡ false
+invariant-loop-i l = (n : ℕ) → n ≤ l.i → takes l.header l.holding.pe l.holding.tag l.answer.issuer l.answer.dsb
+    (reverse l.before) n ≡ false

@@ -1,5 +1,5 @@
 use Rattle.std.proofs.Common.{List, reverse, ap, sym, ◌∙◌}
-use Rattle.bbm_lists.proofs.Elements.{to_contains}
+use Rattle.bbm_lemmas.proofs.Elements.{to_contains}
 use Rattle.bbm_rules.specs.Prelude.{Event}
 use Rattle.bbm_rules.specs.Reach.{unanswered}
 use Rattle.bbm_rules.specs.Tags.{itself}
@@ -10,9 +10,11 @@ use Rattle.bbm_certify.proofs.tags.is_taking.Goals as goal
 
 pub returns-else-is_open : goal.returns-else-is_open
 returns-else-is_open c =
-    sym (not_open c.args.header.now c.args.holding.now.pe c.args.holding.now.tag c.args.issuer c.args.dsb c.args.before.now
-    (λ t i. c.law_answered.ensures.sound c.args.issuer (reverse c.args.before.now) t
-    (to_contains (unanswered itself c.args.issuer (reverse c.args.before.now)) t i))
+    sym (not_open c.args.header.now c.args.holding.now.pe c.args.holding.now.tag c.args.answer.now.issuer
+    c.args.answer.now.dsb c.args.before.now
+    (λ t i. c.law_answered.ensures.sound c.args.answer.now.issuer (reverse c.args.before.now) t
+    (to_contains (unanswered itself c.args.answer.now.issuer (reverse c.args.before.now)) t i))
     c.args.i c.index-before-i.result c.index-before-i.is
-    (ap (λ (es : List Event). is_open c.args.issuer c.index-before-i.result es) (sym (behind c.args.before.now c.args.i))
+    (ap (λ (es : List Event). is_open c.args.answer.now.issuer c.index-before-i.result es)
+    (sym (behind c.args.before.now c.args.i))
     ∙ (sym c.is_open.ensures ∙ c.if-is_open.false)))

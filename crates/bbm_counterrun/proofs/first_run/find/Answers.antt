@@ -1,11 +1,9 @@
-use Rattle.std.proofs.Common.{◌-◌, ap, length, reverse, take, ◌∙◌}
-use Rattle.bbm_rules.specs.Prelude.{Event}
-use Rattle.bbm_counterrun.proofs.FindRun.{at_last, last_is}
+use Rattle.std.proofs.Common.{Vec, Global, Option, ap, is_some, sym, ◌∙◌}
+use Rattle.bbm_counterrun.proofs.FindRun.{no_leaf_at_last}
 use Rattle.bbm_counterrun.proofs.first_run.find.Goals as goal
+use Rattle.bbm_tlb_machine.specs.declared.step.Step.{Step}
 
-pub returns-in_ok-found-in-Write : goal.returns-in_ok-found-in-Write
-returns-in_ok-found-in-Write c h pe place value same =
-    let events = c.as_slice-events.result.now in
-    at_last c.args.header.now events (take (length events - 1) events) c.last-item.result c.in-Write.pe c.in-Write.place c.in-Write.value _
-    c.in-Write.is c.in_ok-found-in-Write.ensures (last_is events c.last-item.result c.in-len1-up.len_at_least c.last-item.is) h pe place value
-    (ap (reverse {A = Event}) c.as_slice-events.ensures.value ∙ same)
+pub returns-in-None : goal.returns-in-None
+returns-in-None c h pe place value same refused leaf =
+    no_leaf_at_last c.args.header.now h pe place value c.args.log.now.items same leaf
+    (sym (ap (λ (o : Option (Option (Vec Step Global))). is_some o) c.in-None.is) ∙ c.in_ok-found.ensures.leaf)

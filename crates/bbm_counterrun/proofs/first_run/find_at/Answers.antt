@@ -1,5 +1,5 @@
 use Rattle.std.proofs.Common.{List, option_map, reverse, subst, sym, ◌∙◌}
-use Rattle.bbm_counterrun.specs.Answers.{Answer, IsAnswers}
+use Rattle.bbm_counterrun.specs.TlbiAnswers.{Answer, IsAnswers}
 use Rattle.bbm_counterrun.proofs.FindRun.{no_tree_found, run_found}
 use Rattle.bbm_counterrun.proofs.first_run.find_at.Goals as goal
 
@@ -10,16 +10,16 @@ run_found-requires c = record {
       c.in_ok-answers-in-Some.ensures;
 }
 
-pub returns-in-Some : goal.returns-in-Some
-returns-in-Some c pe same refused leaf =
+pub returns-in_ok-found-in-Some : goal.returns-in_ok-found-in-Some
+returns-in_ok-found-in-Some c pe same refused leaf =
     run_found (record { tested = c.law_plain_is_tested.ensures; least = c.law_least_reads.ensures }) c.args.header.now c.args.before.now
-    c.said.ensures c.requires.fits c.in_ok-history.history c.in_ok-history.ensures.trust c.in_ok-history.ensures.stands pe c.args.place
+    c.said.ensures c.requires.fits c.args.history.now c.requires.trust c.requires.stands pe c.args.place
     c.args.value refused leaf c.args.log.now same c.in-Some.kind (sym c.in-Some.is ∙ c.kind_at.ensures) c.deref-in-Some.result.now
     (c.deref-in-Some.ensures.value ∙ c.in_ok-way-in-Some.ensures) (option_map (λ v. v.items) c.in_ok-found-in-Some.found)
     c.in_ok-found-in-Some.ensures
 
-pub returns : goal.returns
-returns c pe same refused leaf plan plain =
+pub returns-in-None : goal.returns-in-None
+returns-in-None c pe same refused leaf plan plain =
     no_tree_found (record { tested = c.law_plain_is_tested.ensures; least = c.law_least_reads.ensures }) c.args.header.now c.args.before.now
-    c.said.ensures c.requires.fits c.in_ok-history.history c.in_ok-history.ensures.trust c.in_ok-history.ensures.stands pe c.args.place
+    c.said.ensures c.requires.fits c.args.history.now c.requires.trust c.requires.stands pe c.args.place
     c.args.value refused leaf (sym c.in-None.is ∙ c.kind_at.ensures) plan plain

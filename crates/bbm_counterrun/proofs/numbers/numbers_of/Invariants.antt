@@ -1,5 +1,5 @@
 use Rattle.std.proofs.Common.{◌≡◌, take}
-use Rattle.bbm_counterrun.specs.Numbers as spec
+use Rattle.bbm_counterrun.specs.RunNumbers as spec
 use Rattle.bbm_counterrun.proofs.numbers.numbers_of.Given as goal
 
 abbrev pub invariant-loop-reading : goal.invariant-loop-reading

@@ -1,5 +1,6 @@
 use Rattle.bbm_rules.specs.Claims.Trust.{Patterns}
-use Rattle.bbm_histories.proofs.UniformLemmas.{flush_alike, half_alike, half_test_alike, publication_alike, published_alike, reached_alike, seen_alike}
+use Rattle.bbm_histories.proofs.UniformLemmas.{flush_alike, half_alike, half_test_alike, publication_alike}
+use Rattle.bbm_histories.proofs.UniformLemmas.{published_alike, reached_alike, seen_alike}
 use Rattle.bbm_histories.proofs.patterns.law_uniform.Goals as goal
 
 pub returns-clause-published : goal.returns-clause-published

@@ -6,7 +6,7 @@ use Rattle.bbm_rules.specs.Prelude.{Heading, Event}
 use Rattle.bbm_rules.specs.Tree.{Node, node_of}
 use Rattle.bbm_rules.specs.Values.{value_of}
 use Rattle.bbm_oracle_patterns.specs.Kept.{notes_of}
-use Rattle.bbm_oracle_patterns.specs.Phases.{phase_at}
+use Rattle.bbm_oracle_patterns.specs.PlacePhases.{phase_at}
 use Rattle.bbm_oracle_patterns.specs.declared.kept.Kept.{Kept}
 use Rattle.bbm_oracle_trees.specs.Past.{notes}
 use Rattle.bbm_idle.proofs.FindPhases.{at_node, at_no_node, phase_stands}

@@ -1,7 +1,7 @@
 use Rattle.std.proofs.Common.{◌≡◌, true, take, reverse}
 use Rattle.bbm_regimes.specs.declared.regime.Tag.{Tag}
 use Rattle.bbm_oracle_tags.specs.Moments.{IsMoment}
-use Rattle.bbm_oracle_tags.specs.TagSets.{has_tag, was_read}
+use Rattle.bbm_oracle_tags.specs.HeldTagSets.{has_tag, was_read}
 use Rattle.bbm_oracle_tags.proofs.tags.add_read_at.Given as goal
 
 abbrev pub invariant-loop-event : goal.invariant-loop-event

@@ -1,7 +1,7 @@
 use Rattle.std.proofs.Common.{◌∷◌, sym, ◌∙◌, inl, inr}
 use Rattle.std.proofs.lemmas.Bool.{or_cases}
 use Rattle.bbm_rules.specs.Tags.{reads}
-use Rattle.bbm_oracle_tags.specs.TagSets.{was_read}
+use Rattle.bbm_oracle_tags.specs.HeldTagSets.{was_read}
 use Rattle.bbm_oracle_tags.proofs.MomentLemmas.{reads-by}
 use Rattle.bbm_oracle_tags.proofs.TagLemmas.{was-read-before}
 use Rattle.bbm_oracle_tags.proofs.tags.add_read_now.Goals as goal

@@ -1,7 +1,7 @@
 use Rattle.std.proofs.Common.{◌≡◌, true, take}
 use Rattle.bbm_regimes.specs.declared.regime.Tag.{Tag}
 use Rattle.bbm_oracle_tags.specs.Moments.{is_read}
-use Rattle.bbm_oracle_tags.specs.TagSets.{has_tag}
+use Rattle.bbm_oracle_tags.specs.HeldTagSets.{has_tag}
 use Rattle.bbm_oracle_tags.proofs.tags.add_readings.Given as goal
 
 abbrev pub invariant-loop-reading : goal.invariant-loop-reading

@@ -1,6 +1,6 @@
 use Rattle.std.proofs.Common.{◌&&◌, take, reverse}
 use Rattle.bbm_rules.specs.Tags.{holds_tag}
-use Rattle.bbm_oracle_tags.specs.TagSets.{HasTags, has_tag}
+use Rattle.bbm_oracle_tags.specs.HeldTagSets.{HasTags, has_tag}
 use Rattle.bbm_oracle_tags.proofs.tags.held_among.Given as goal
 
 abbrev pub invariant-loop-tag : goal.invariant-loop-tag

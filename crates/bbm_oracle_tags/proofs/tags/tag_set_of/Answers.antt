@@ -2,9 +2,10 @@ use Rattle.std.proofs.Common.{◌≡◌, ◌&&◌, reverse, refl}
 use Rattle.std.proofs.lemmas.Result.{IfOk-weaker}
 use Rattle.bbm_rules.specs.Claims.{Trust}
 use Rattle.bbm_rules.specs.Tags.{holds_tag, tag_set, tags_of}
-use Rattle.bbm_oracle_tags.specs.TagSets.{HasTags, has_tag}
-use Rattle.bbm_oracle_tags.proofs.TagLemmas.{implied, same-set, set-same}
+use Rattle.bbm_oracle_tags.specs.HeldTagSets.{HasTags, has_tag}
+use Rattle.bbm_oracle_tags.proofs.TagLemmas.{same-set, set-same}
 use Rattle.bbm_oracle_tags.proofs.tags.tag_set_of.Goals as goal
+use Rattle.bbm_lemmas.proofs.Bools.{and_implied}
 
 pub returns : goal.returns
 returns g c =
@@ -18,7 +19,7 @@ returns g c =
     (λ set has. same-set (λ g k e. (c.law_equality_tests.ensures.tags g k).0 e) (λ g. (c.law_equality_tests.ensures.tags g g).1 refl)
     (λ g. holds_tag heading trust root g h) set (tag_set (tags_of heading trust root h))
     (set-same (λ g. has_tag g c.deref.result.now && holds_tag heading trust root g h) (λ g. holds_tag heading trust root g h) set
-    (λ g. implied (has_tag g c.deref.result.now) (holds_tag heading trust root g h)
+    (λ g. and_implied (has_tag g c.deref.result.now) (holds_tag heading trust root g h)
     (λ held. rw c.deref.ensures.value (c.in_ok-tags.ensures trust g held))) has)
     (λ e. c.law_tag_set.ensures.none heading trust root h e)
     (λ t e. c.law_tag_set.ensures.one heading trust root h t e)

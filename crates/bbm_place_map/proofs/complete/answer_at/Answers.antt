@@ -1,6 +1,6 @@
 use Rattle.std.proofs.Common.{ap, sym, ◌∙◌, arith, subst}
 use Rattle.bbm_entry_state.specs.Answered.{Answered}
-use Rattle.bbm_entry_state.specs.Calls.{Completed}
+use Rattle.bbm_entry_state.specs.EntryCalls.{Completed}
 use Rattle.bbm_entry_state.specs.declared.state.EntryState.TheVariants as state
 use Rattle.bbm_place_map.specs.Entries.{seat, pends_in, no_pends}
 use Rattle.bbm_place_map.specs.declared.entry.Entry.{Entry}

@@ -1,7 +1,8 @@
 use Rattle.std.proofs.Common.{sym, refl, ◌∙◌, inl, inr}
 use Rattle.std.proofs.lemmas.Bool.{false≢true}
 use Rattle.bbm_place_map.specs.Entries.{entry_in}
-use Rattle.bbm_place_map.proofs.Resting.{idle_kept, idle_answered, nothing_answered, stays_kept, answers_both, answers_none}
+use Rattle.bbm_place_map.proofs.Resting.{idle_kept, idle_answered, nothing_answered, stays_kept, answers_both}
+use Rattle.bbm_place_map.proofs.Resting.{answers_none}
 use Rattle.bbm_place_map.proofs.complete.complete_listed.Goals as goal
 
 pub returns-then-not-completes_local-clause-completed : goal.returns-then-not-completes_local-clause-completed

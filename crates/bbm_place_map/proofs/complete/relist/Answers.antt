@@ -1,7 +1,7 @@
 use Rattle.std.proofs.Common.{◌≡◌, ◌⊎◌, ◌<◌, arith, inl, inr, subst, sym, ap, ◌∙◌, slice_get, length}
 use Rattle.std.proofs.lemmas.Bool.{cases_eq}
 use Rattle.std.proofs.lemmas.Option.{slice_get_within}
-use Rattle.bbm_entry_state.specs.Standing.{IsIdle}
+use Rattle.bbm_entry_state.specs.EntryStanding.{IsIdle}
 use Rattle.bbm_place_map.specs.Entries.{pends_in}
 use Rattle.bbm_place_map.specs.Works.{Holds}
 use Rattle.bbm_place_map.specs.declared.entry.Entry.{Entry}

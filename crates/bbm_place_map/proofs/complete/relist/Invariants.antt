@@ -1,5 +1,5 @@
 use Rattle.std.proofs.Common.{◌≡◌, ℕ, ◌<◌, ◌⊎◌, Some, slice_get}
-use Rattle.bbm_entry_state.specs.Standing.{IsIdle}
+use Rattle.bbm_entry_state.specs.EntryStanding.{IsIdle}
 use Rattle.bbm_place_map.specs.Entries.{pends_in}
 use Rattle.bbm_place_map.specs.Works.{Holds}
 use Rattle.bbm_place_map.specs.declared.entry.Entry.{Entry}

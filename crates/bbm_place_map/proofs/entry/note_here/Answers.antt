@@ -1,6 +1,6 @@
 use Rattle.std.proofs.Common.{ap, sym, refl, subst, set, slice_index_or, ◌↔◌, IsTrue}
 use Rattle.bbm_entry_state.specs.Points.{waits}
-use Rattle.bbm_entry_state.specs.Standing.{IsIdle}
+use Rattle.bbm_entry_state.specs.EntryStanding.{IsIdle}
 use Rattle.bbm_entry_state.specs.declared.pending.Pends.{Pends}
 use Rattle.bbm_place_map.specs.Entries.{pends_in}
 use Rattle.bbm_place_map.proofs.Noting.{noted_alike}

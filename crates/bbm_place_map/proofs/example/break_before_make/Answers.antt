@@ -4,7 +4,7 @@ use Rattle.bbm_barriers.specs.declared.Dsb.{Dsb}
 use Rattle.bbm_barriers.specs.declared.Domain.TheVariants.{Inner}
 use Rattle.bbm_barriers.specs.declared.Types.TheVariants.{All, Stores}
 use Rattle.bbm_tlbi_scope.specs.declared.entry.Cover.TheVariants.{Full}
-use Rattle.bbm_entry_state.specs.Calls.{Written, Noted, Published, Completed}
+use Rattle.bbm_entry_state.specs.EntryCalls.{Written, Noted, Published, Completed}
 use Rattle.bbm_place_map.specs.Map.{marks_at, pends_at}
 use Rattle.bbm_place_map.specs.States.{state_from, marks_of_state}
 use Rattle.bbm_place_map.proofs.Shown.{broken_still, seen_everywhere, cleansed_by}

@@ -1,7 +1,7 @@
 use Rattle.std.proofs.Common.{nat_eq, ap, sym, ◌∙◌, inl, inr, slice_get, take}
 use Rattle.std.proofs.lemmas.Bool.{cases_Bool, eq-eqb, eqb-true, false≢true}
 use Rattle.bbm_place_map.specs.Finds.{is_found}
-use Rattle.bbm_place_map.specs.Notes.{Keeps}
+use Rattle.bbm_place_map.specs.PlaceNotes.{Keeps}
 use Rattle.bbm_place_map.specs.declared.found.Found.{Found}
 use Rattle.bbm_place_map.proofs.Advancing.{seat_kept}
 use Rattle.bbm_place_map.proofs.Finding.{found_off, take_more}

@@ -2,7 +2,7 @@ use Rattle.std.proofs.Common.{◌≡◌, ℕ, true, Some, length, slice_get, tak
 use Rattle.bbm_place_map.specs.Each.{Advances}
 use Rattle.bbm_place_map.specs.Entries.{HasRoom}
 use Rattle.bbm_place_map.specs.Finds.{is_found}
-use Rattle.bbm_place_map.specs.Notes.{Keeps}
+use Rattle.bbm_place_map.specs.PlaceNotes.{Keeps}
 use Rattle.bbm_place_map.specs.declared.entry.Entry.{Entry}
 use Rattle.bbm_place_map.proofs.issue.make_room_found.Given as goal
 

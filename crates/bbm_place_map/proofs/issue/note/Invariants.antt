@@ -1,6 +1,6 @@
 use Rattle.std.proofs.Common.{◌≡◌, ℕ, ◌<◌, ◌≤◌, length, slice_get, vec_capacity}
 use Rattle.bbm_place_map.specs.Each.{Advances}
-use Rattle.bbm_place_map.specs.Notes.{NotesAt}
+use Rattle.bbm_place_map.specs.PlaceNotes.{NotesAt}
 use Rattle.bbm_place_map.specs.Works.{HoldsFor, Waits}
 use Rattle.bbm_place_map.proofs.issue.note.Given as goal
 

@@ -1,7 +1,7 @@
 use Rattle.std.proofs.Common.{ap, sym, ◌∙◌, arith, subst, ◌↔◌, IsTrue}
 use Rattle.std.proofs.lemmas.Bool.{false≢true}
-use Rattle.bbm_entry_state.specs.Calls.{Noted}
-use Rattle.bbm_entry_state.specs.Standing.{IsIdle}
+use Rattle.bbm_entry_state.specs.EntryCalls.{Noted}
+use Rattle.bbm_entry_state.specs.EntryStanding.{IsIdle}
 use Rattle.bbm_entry_state.specs.declared.state.EntryState.TheVariants as state
 use Rattle.bbm_place_map.specs.Entries.{seat, pends_in}
 use Rattle.bbm_place_map.specs.declared.entry.Entry.{Entry}

@@ -1,6 +1,6 @@
 use Rattle.std.proofs.Common.{◌≡◌, ℕ, length, slice_get, take, vec_capacity}
 use Rattle.bbm_place_map.specs.Each.{Advances}
-use Rattle.bbm_place_map.specs.Notes.{NotesFound}
+use Rattle.bbm_place_map.specs.PlaceNotes.{NotesFound}
 use Rattle.bbm_place_map.specs.Works.{HoldsFor}
 use Rattle.bbm_place_map.proofs.issue.note_found.Given as goal
 

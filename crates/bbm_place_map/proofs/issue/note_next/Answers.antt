@@ -1,7 +1,7 @@
 use Rattle.std.proofs.Common.{[], ◌∷◌, ◌++◌, ap, sym, ◌∙◌, List, subst, take, slice_get}
 use Rattle.bbm_place_map.specs.Each.{Advances}
 use Rattle.bbm_place_map.specs.Finds.{is_found}
-use Rattle.bbm_place_map.specs.Notes.{NotesOne, NotesFound}
+use Rattle.bbm_place_map.specs.PlaceNotes.{NotesOne, NotesFound}
 use Rattle.bbm_place_map.specs.declared.found.Found.{Found}
 use Rattle.bbm_place_map.proofs.Advancing.{advance_by}
 use Rattle.bbm_place_map.proofs.Finding.{found_at, take_more}

@@ -1,8 +1,9 @@
-use Rattle.std.proofs.Common.{◌≡◌, ◌≤◌, ◌<◌, ◌+◌, ◌-◌, ℕ, Bool, true, Some, ◌&&◌, not, is_none, refl, sym, ◌∙◌, ap, arith}
+use Rattle.std.proofs.Common.{◌≡◌, ◌≤◌, ◌<◌, ◌+◌, ◌-◌, ℕ, Bool, true, Some, ◌&&◌, not, is_none, refl, sym, ◌∙◌, ap}
+use Rattle.std.proofs.Common.{arith}
 use Rattle.bbm_descriptor.specs.Descriptor.{core_of, desc_of}
 use Rattle.bbm_descriptor.specs.declared.desc.Core.{Core}
 use Rattle.bbm_place_map.specs.Map.{marks_at, value_at}
-use Rattle.bbm_tlbi_scope.specs.Covers as scopes
+use Rattle.bbm_tlbi_scope.specs.ScopeCovers as scopes
 use Rattle.bbm_place_map.specs.Each.{is_table}
 use Rattle.bbm_regimes.specs.World.{input_pages}
 use Rattle.bbm_tlbi_scope.specs.Numbers.{names_some}
@@ -15,10 +16,11 @@ use Rattle.bbm_tree_index.specs.Index.{node_in}
 use Rattle.bbm_tree_index.specs.declared.role.Path.{Path}
 use Rattle.bbm_replay_trees.specs.Told.{notes}
 use Rattle.bbm_replay.specs.Covering.{asks_tags}
-use Rattle.bbm_replay.specs.Standing.{view_of}
+use Rattle.bbm_replay.specs.ReplayStanding.{view_of}
 use Rattle.bbm_replay.specs.View.{core_at}
 use Rattle.bbm_replay.proofs.Asking.{alike}
-use Rattle.bbm_replay.proofs.Covered.{childless_from, childless_to, core_of_marks, covered, global_is, held_of, same_by_truth, table_is}
+use Rattle.bbm_replay.proofs.Covered.{childless_from, childless_to, core_of_marks, covered, global_is, held_of}
+use Rattle.bbm_replay.proofs.Covered.{same_by_truth, table_is}
 use Rattle.bbm_replay.proofs.Settling.{core_with_is}
 use Rattle.bbm_replay.proofs.Unmet.{some_width}
 use Rattle.bbm_replay.proofs.Writing.{cores}
@@ -27,9 +29,9 @@ use Rattle.bbm_replay.proofs.covers.cover_met.Goals as goal
 pub returns : goal.returns
 returns c over heading h pe op xt m =
     let map = c.args.map.now in
-    let index = c.args.index.now in
-    let scope = c.args.scope.now in
-    let vmid = c.args.vmid.now in
+    let index = c.args.by.now.index.now in
+    let scope = c.args.by.now.named.now.scope in
+    let vmid = c.args.by.now.named.now.vmid in
     let place = c.args.place in
     let view = view_of map index in
     let n = c.requires.path.0 in
@@ -74,7 +76,7 @@ returns c over heading h pe op xt m =
     c.childless_where.result childless c.tags_where.result tags same_childless same_tags
     ∙ covered heading h pe op xt scope vmid place n held.0 c.is_table.result c.is_global.result
     childless tags (c.law_notes_keep_the_events.ensures heading Patterns h)
-    m.named m.vmid_is (sym (m.told.nodes (page_of place)) ∙ is) held.1
+    m.names m.vmid_is (sym (m.told.nodes (page_of place)) ∙ is) held.1
     (c.is_table.ensures ∙ table_is (desc_of n.kind n.level held.0) core held.2)
     (c.is_global.ensures ∙ global_is (desc_of n.kind n.level held.0) core held.2) refl refl
   where

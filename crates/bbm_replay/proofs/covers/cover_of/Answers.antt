@@ -8,14 +8,14 @@ use Rattle.bbm_replay.proofs.covers.cover_of.Goals as goal
 
 pub returns-in-None : goal.returns-in-None
 returns-in-None c heading h pe op xt m =
-    let none = none_at (node_in c.args.index.now (page_of c.args.place)) c.args.place c.path.result c.in-None.is c.path.ensures in
+    let none = none_at (node_in c.args.by.now.index.now (page_of c.args.place)) c.args.place c.path.result c.in-None.is c.path.ensures in
     let whole = m.told.outside c.args.place none in
     absurd (none-some m.over.0 (sym whole ∙ m.over.1))
 
 pub cover_met-requires-clause-path : goal.cover_met-requires-clause-path
 cover_met-requires-clause-path c =
-    found_at (node_in c.args.index.now (page_of c.args.place)) c.args.place c.path.result c.in-Some.path c.in-Some.is c.path.ensures
+    found_at (node_in c.args.by.now.index.now (page_of c.args.place)) c.args.place c.path.result c.in-Some.path c.in-Some.is c.path.ensures
 
 pub returns-in-Some : goal.returns-in-Some
-returns-in-Some c heading h pe op xt m = c.cover_met.ensures m.over heading h pe op xt (issued heading h c.args.map.now c.args.index.now
-    c.args.roots.now pe op xt c.args.scope.now c.args.vmid.now c.args.place c.args.core m)
+returns-in-Some c heading h pe op xt m = c.cover_met.ensures m.over heading h pe op xt (issued heading h c.args.map.now c.args.by.now.index.now
+    c.args.by.now.roots.now pe op xt c.args.by.now.named.now c.args.place c.args.core m)

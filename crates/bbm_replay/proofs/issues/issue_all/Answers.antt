@@ -1,5 +1,5 @@
 use Rattle.std.proofs.Common.{◌≡◌, None, refl, sym, subst, rules}
-use Rattle.bbm_entry_state.specs.Calls.{Noted}
+use Rattle.bbm_entry_state.specs.EntryCalls.{Noted}
 use Rattle.bbm_place_map.specs.Map.{marks_at, pends_at}
 use Rattle.bbm_place_map.specs.States.{state_from}
 use Rattle.bbm_place_map.specs.declared.map.PlaceMap.{PlaceMap}
@@ -18,7 +18,7 @@ returns-clause-noted c =
     let map = c.args.map.now in
     let pe = c.args.pe in
     let new = c.issue.new.self in
-    on_ok c.issue.result c.issue.ensures.noted (λ all heading h xt m a broken.
+    on_ok c.issue.result c.issue.ensures.noted (λ all heading h xt headed m a broken.
     let n = all a broken in
     let shown = n.1.shown in
     let shows = n.1.shows in
@@ -26,9 +26,9 @@ returns-clause-noted c =
     let same : n.0 ≡ cover_at heading Patterns (notes heading h) (Tlbi pe c.args.op xt) a
     = (let told = says.met.1 in
     let core = n.1.marks.core in
-    let may : MayBeCovered heading h shown.now c.args.index.now c.args.roots.now pe c.args.op xt c.args.scope.now c.args.vmid.now a core
-    = subst (λ (x : PlaceMap). MayBeCovered heading h x c.args.index.now c.args.roots.now pe c.args.op xt c.args.scope.now c.args.vmid.now a core) (sym shows)
-    (may_cover heading h map c.args.index.now c.args.roots.now pe c.args.op xt c.args.scope.now c.args.vmid.now a core m (n.1.marks, n.1.broken, refl)) in
+    let may : MayBeCovered heading h shown.now c.args.by.now.index.now c.args.by.now.roots.now pe c.args.op xt c.args.by.now.named.now a core
+    = subst (λ (x : PlaceMap). MayBeCovered heading h x c.args.by.now.index.now c.args.by.now.roots.now pe c.args.op xt c.args.by.now.named.now a core) (sym shows)
+    (may_cover heading h map c.args.by.now.index.now c.args.by.now.roots.now pe c.args.op xt c.args.by.now.named.now a core m (n.1.marks, n.1.broken, refl)) in
     search rules) in
     let at : Noted (state_from None (marks_at map a)) (pends_at map pe a) c.args.reach c.is_broadcast.result n.0 (pends_at new pe a) = n.2 in
     subst (λ (x : Cover). Noted (state_from None (marks_at map a)) (pends_at map pe a) c.args.reach (operation c.args.op).broadcast x (pends_at new pe a)) same

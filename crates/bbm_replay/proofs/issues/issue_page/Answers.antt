@@ -1,5 +1,5 @@
 use Rattle.std.proofs.Common.{◌≡◌, Bool, true, false, List, None, refl, sym, ◌∙◌, ap, subst, true≢false}
-use Rattle.bbm_entry_state.specs.Calls.{Noted}
+use Rattle.bbm_entry_state.specs.EntryCalls.{Noted}
 use Rattle.bbm_entry_state.specs.declared.pending.Pends.{Pends}
 use Rattle.bbm_events.specs.Heading.{Heading}
 use Rattle.bbm_place_map.specs.Finds.{FoundAs, is_found}
@@ -13,27 +13,28 @@ use Rattle.bbm_tlbi_scope.specs.declared.entry.Cover.TheVariants as cover
 use Rattle.bbm_rules.specs.Claims.Trust.{Patterns}
 use Rattle.bbm_rules.specs.Covers.{cover_at}
 use Rattle.bbm_rules.specs.Prelude.{Tlbi}
-use Rattle.bbm_tree_index.specs.Held.{core_at}
+use Rattle.bbm_tree_index.specs.HeldCores.{core_at}
 use Rattle.bbm_tree_index.specs.Index.{node_in}
 use Rattle.bbm_replay_trees.specs.Told.{notes}
-use Rattle.bbm_replay.specs.OnePage.{IsFoundIn, MetFromAll}
-use Rattle.bbm_replay.proofs.Findings.{on_ok}
+use Rattle.bbm_replay.specs.OnePage.{IsFoundIn, MetFromAll, NamesOne}
+use Rattle.bbm_replay.proofs.Findings.{if_some, on_ok}
 use Rattle.bbm_replay.proofs.Unmet.{noted_none, uncovered}
 use Rattle.bbm_replay.proofs.issues.issue_page.Goals as goal
 
-pub returns-clause-noted : goal.returns-clause-noted
-returns-clause-noted c =
+pub returns-in_ok-found-in-Some-clause-noted : goal.returns-in_ok-found-in-Some-clause-noted
+returns-in_ok-found-in-Some-clause-noted c =
     let map = c.args.map.now in
-    let index = c.args.index.now in
-    let scope = c.args.scope.now in
+    let index = c.args.by.now.index.now in
+    let scope = c.args.by.now.named.now.scope in
     let pe = c.args.pe in
-    let items = c.in_ok-found.found.items in
+    let items = c.in_ok-found-in-Some.found.items in
     let found = c.deref.result.now in
+    let one : NamesOne scope c.in-Some.at = if_some (λ at. NamesOne scope at) c.one_page.result c.in-Some.at c.in-Some.is c.one_page.ensures in
     let new = c.issue_at.new.self in
     on_ok c.issue_at.result c.issue_at.ensures.noted (λ noted heading h xt same m a broken.
     let f = cover_at heading Patterns (notes heading h) (Tlbi pe c.args.op xt) in
     let told : FoundAs found f
-    = subst (λ (xs : List Found). FoundAs xs f) (sym c.deref.ensures.value) (c.in_ok-found.ensures.covers heading h pe c.args.op xt m) in
+    = subst (λ (xs : List Found). FoundAs xs f) (sym c.deref.ensures.value) (c.in_ok-found-in-Some.ensures.covers heading h pe c.args.op xt m) in
     let hit : is_found found a ≡ true → Noted (state_from None (marks_at map a)) (pends_at map pe a) c.args.reach
     (operation c.args.op).broadcast (f a) (pends_at new pe a)
     = λ e. subst (λ b. Noted (state_from None (marks_at map a)) (pends_at map pe a) c.args.reach b (f a) (pends_at new pe a))
@@ -42,10 +43,10 @@ returns-clause-noted c =
     = λ e has. true≢false (sym (has broken) ∙ ap (λ (xs : List Found). is_found xs a) (sym c.deref.ensures.value) ∙ e) in
     let away : is_found found a ≡ false → f a ≡ cover.None
     = λ e. uncovered heading (c.laws.ensures heading) h (c.law_starts.ensures heading h)
-    (c.law_notes_keep_the_events.ensures heading Patterns h) map index c.args.roots.now pe c.args.op xt scope
-    c.args.vmid.now m c.requires.sound c.args.at c.requires.one (IsFoundIn map items)
-    (λ r at covers. subst (λ (x : Heading). MetFromAll (node_in index) (core_at map) c.args.at r.page (page_count x.world r.kind)
-    (IsFoundIn map items)) same (c.in_ok-found.ensures.met heading h r m.stands at covers))
+    (c.law_notes_keep_the_events.ensures heading Patterns h) map index c.args.by.now.roots.now pe c.args.op xt
+    c.args.by.now.named.now m c.requires c.in-Some.at one (IsFoundIn map items)
+    (λ r at covers. subst (λ (x : Heading). MetFromAll (node_in index) (core_at map) c.in-Some.at r.page (page_count x.world r.kind)
+    (IsFoundIn map items)) same (c.in_ok-found-in-Some.ensures.met heading h r m.stands at covers))
     a broken (missed e) in
     let quiet : is_found found a ≡ false → Noted (state_from None (marks_at map a)) (pends_at map pe a) c.args.reach
     (operation c.args.op).broadcast (f a) (pends_at new pe a)

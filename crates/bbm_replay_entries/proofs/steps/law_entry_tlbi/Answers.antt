@@ -1,7 +1,7 @@
 use Rattle.std.proofs.Common.{refl, sym, ◌∙◌, subst, inl, inr, true≢false}
 use Rattle.bbm_tlbi_scope.specs.Operations.{operation}
 use Rattle.bbm_tlbi_scope.specs.declared.entry.Cover.{Cover}
-use Rattle.bbm_entry_state.specs.Calls.{Noted as Issues}
+use Rattle.bbm_entry_state.specs.EntryCalls.{Noted as Issues}
 use Rattle.bbm_events.specs.declared.event.Event.TheVariants.{Tlbi}
 use Rattle.bbm_rules.specs.Claims.Trust.{Patterns}
 use Rattle.bbm_rules.specs.Covers.{note, noted}

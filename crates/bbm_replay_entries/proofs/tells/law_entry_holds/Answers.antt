@@ -6,7 +6,7 @@ use Rattle.bbm_descriptor.specs.declared.desc.Desc.{Desc}
 use Rattle.bbm_descriptor.specs.declared.desc.Desc.TheVariants.{Invalid, Table, Leaf}
 use Rattle.bbm_regimes.specs.declared.regime.Kind.{Kind}
 use Rattle.bbm_rules.specs.Tree.{next_in, next_of}
-use Rattle.bbm_replay_entries.specs.Stands.{held_now, next_of_core}
+use Rattle.bbm_replay_entries.specs.EntryStands.{held_now, next_of_core}
 use Rattle.bbm_replay_entries.proofs.Places.{holds_core, present_core}
 use Rattle.bbm_replay_entries.proofs.tells.law_entry_holds.Goals as goal
 

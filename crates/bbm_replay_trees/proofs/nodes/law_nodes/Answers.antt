@@ -4,7 +4,8 @@ use Rattle.bbm_rules.specs.Places.{page_of}
 use Rattle.bbm_rules.specs.Tree.{node_below, nodes_of_root}
 use Rattle.bbm_tree_index.specs.Paths.{Attached}
 use Rattle.bbm_replay_trees.proofs.AttachLemmas.{core_none}
-use Rattle.bbm_replay_trees.proofs.NodeLemmas.{after_attach, after_dsb, after_nothing, after_quiet, after_unroot, root_mine, root_theirs, write_mine, write_theirs}
+use Rattle.bbm_replay_trees.proofs.NodeLemmas.{after_attach, after_dsb, after_nothing, after_quiet, after_unroot}
+use Rattle.bbm_replay_trees.proofs.NodeLemmas.{root_mine, root_theirs, write_mine, write_theirs}
 use Rattle.bbm_replay_trees.proofs.nodes.law_nodes.Goals as goal
 
 pub returns-clause-root : goal.returns-clause-root

@@ -1,4 +1,5 @@
-use Rattle.bbm_replay_trees.proofs.RuleLemmas.{held_rule, limbo_rule, lock_rule, null_rule, outside_rules, rewritten_rule, unroot_rule}
+use Rattle.bbm_replay_trees.proofs.RuleLemmas.{held_rule, limbo_rule, lock_rule, null_rule, outside_rules}
+use Rattle.bbm_replay_trees.proofs.RuleLemmas.{rewritten_rule, unroot_rule}
 use Rattle.bbm_replay_trees.proofs.rules.law_write_rules.Goals as goal
 
 pub returns-clause-null : goal.returns-clause-null

@@ -5,7 +5,8 @@ use Rattle.std.specs.String.{string_bytes}
 use Rattle.bbm_report.specs.Questions.{question_of}
 use Rattle.bbm_report.proofs.Words.{where_it_is, four_words, fewer_words, more_words}
 use Rattle.bbm_report.proofs.questions.asked.Goals as goal
-use Rattle.bbm_report.proofs.questions.asked.Goals.{in_default-via-then-words-lt4, in_default-via-else-words-lt4+else-words-lt5}
+use Rattle.bbm_report.proofs.questions.asked.Goals.{in_default-via-then-words-lt4}
+use Rattle.bbm_report.proofs.questions.asked.Goals.{in_default-via-else-words-lt4+else-words-lt5}
 
 pub returns-then-eq : goal.returns-then-eq
 returns-then-eq c =

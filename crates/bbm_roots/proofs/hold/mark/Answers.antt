@@ -1,4 +1,5 @@
-use Rattle.std.proofs.Common.{◌≡◌, ◌+◌, ◌∙◌, ◌&&◌, ◌||◌, nat_eq, not, take, arith, ap, sym, cond, ℕ, List, Bool, true, false}
+use Rattle.std.proofs.Common.{◌≡◌, ◌+◌, ◌∙◌, ◌&&◌, ◌||◌, nat_eq, not, take, arith, ap, sym, cond, ℕ, List, Bool, true}
+use Rattle.std.proofs.Common.{false}
 use Rattle.std.specs.List.{list_any}
 use Rattle.bbm_regimes.specs.declared.regime.Tag.{Tag}
 use Rattle.bbm_roots.specs.Holds.{hold_in}
@@ -6,14 +7,14 @@ use Rattle.bbm_roots.specs.Readings.{has_reading, is_reading, is_other, is_of_ta
 use Rattle.bbm_roots.specs.declared.reading.Reading.{Reading}
 use Rattle.bbm_roots.proofs.Bits.{same_tag-self}
 use Rattle.bbm_roots.proofs.Entries.{marked-step}
-use Rattle.bbm_roots.proofs.Leasts.{true-or}
 use Rattle.bbm_roots.proofs.Lists.{any-next, any-front, none-front}
 use Rattle.bbm_roots.proofs.hold.mark.Goals as goal
+use Rattle.std.proofs.lemmas.Bool.{or_right}
 
 -- what an element of the list passes
 there : (test : Reading → Bool) (xs : List Reading) (i : ℕ) (x : Reading) → list_any test (take (i + 1) xs) ≡ (list_any test (take i xs) || test x) →
     test x ≡ true → list_any test xs ≡ true
-there test xs i x next e = any-front test (i + 1) xs (next ∙ true-or (list_any test (take i xs)) (test x) e)
+there test xs i x next e = any-front test (i + 1) xs (next ∙ or_right (list_any test (take i xs)) (test x) e)
 
 other-there : (y : Reading) (g : Tag) (r : ℕ) → same_tag y.tag g ≡ true → nat_eq y.root r ≡ false → is_other g r y ≡ true
 other-there y g r same here = ap (λ (b : Bool). b && not (nat_eq y.root r)) same ∙ ap not here

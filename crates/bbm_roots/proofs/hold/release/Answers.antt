@@ -1,6 +1,6 @@
 use Rattle.std.proofs.Common.{◌≡◌, ◌∙◌, ◌&&◌, ◌||◌, not, take, arith, ap, sym, refl, Bool, true, false}
 use Rattle.bbm_roots.specs.Holds.{hold_in}
-use Rattle.bbm_roots.specs.Pendings.{answered_bit, answered_in}
+use Rattle.bbm_roots.specs.RootPendings.{answered_bit, answered_in}
 use Rattle.bbm_roots.proofs.Lists.{any-next}
 use Rattle.bbm_roots.proofs.hold.release.Goals as goal
 

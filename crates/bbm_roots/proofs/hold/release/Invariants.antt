@@ -1,7 +1,7 @@
 use Rattle.std.proofs.Common.{◌≡◌, ℕ, ◌&&◌, not, take}
 use Rattle.bbm_regimes.specs.declared.regime.Tag.{Tag}
 use Rattle.bbm_roots.specs.Holds.{hold_in}
-use Rattle.bbm_roots.specs.Pendings.{answered_in}
+use Rattle.bbm_roots.specs.RootPendings.{answered_in}
 use Rattle.bbm_roots.proofs.hold.release.Given as goal
 
 abbrev pub invariant-loop-pending : goal.invariant-loop-pending

@@ -1,8 +1,8 @@
 use Rattle.std.proofs.Common.{◌≡◌, ℕ, take, arith, ap, sym, ◌∙◌, ◌||◌, ◌&&◌, nat_eq, Bool, true, refl, ◌+◌, Vec, Global}
-use Rattle.std.proofs.lemmas.Bool.{false≢true, eq-eqb}
+use Rattle.std.proofs.lemmas.Bool.{false≢true, eq-eqb, or_left, or_right}
 use Rattle.bbm_regimes.specs.declared.regime.Tag.{Tag}
-use Rattle.bbm_tlbi_scope.specs.Tags.{takes_whole_tag}
-use Rattle.bbm_roots.specs.Pendings.{has_pending, pending_in, same_flag}
+use Rattle.bbm_tlbi_scope.specs.ScopeTags.{takes_whole_tag}
+use Rattle.bbm_roots.specs.RootPendings.{has_pending, pending_in, same_flag}
 use Rattle.bbm_roots.specs.Readings.{same_tag}
 use Rattle.bbm_roots.specs.declared.pending.Pending.{Pending}
 use Rattle.bbm_roots.specs.Holds.{is_hold, has_hold}
@@ -10,7 +10,7 @@ use Rattle.std.proofs.lemmas.List.{take_all}
 use Rattle.bbm_roots.proofs.Lists.{any-next}
 use Rattle.bbm_roots.proofs.Bits.{hold-tag, same_tag-self, same_flag-self}
 use Rattle.bbm_roots.proofs.Entries.{held-among}
-use Rattle.bbm_roots.proofs.Leasts.{or-split, or-true, true-or}
+use Rattle.bbm_roots.proofs.Leasts.{or-split}
 use Rattle.bbm_roots.proofs.issue.make_each.Goals.{then-takes+in_ok-make_entry, else-takes}
 use Rattle.bbm_roots.proofs.issue.make_each.Goals as goal
 
@@ -39,9 +39,9 @@ loop-held-preserved c =
             ∙ w.in_ok-make_entry.ensures.made issuer flag g
             ∙ or-split (has_hold g r (take c.loop-held.held-index c.entries-held-items.result.now)) (is_hold g r held)
             ((has_pending issuer flag g before || (nat_eq issuer issuer && same_flag flag flag && same_tag held.tag g)) ≡ true)
-            (λ k. or-true (has_pending issuer flag g before) (nat_eq issuer issuer && same_flag flag flag && same_tag held.tag g)
+            (λ k. or_left (has_pending issuer flag g before) (nat_eq issuer issuer && same_flag flag flag && same_tag held.tag g)
             (c.loop-held.invariant.made g r k takes))
-            (λ k. true-or (has_pending issuer flag g before) (nat_eq issuer issuer && same_flag flag flag && same_tag held.tag g)
+            (λ k. or_right (has_pending issuer flag g before) (nat_eq issuer issuer && same_flag flag flag && same_tag held.tag g)
             (ap (λ (b : Bool). b && same_flag flag flag && same_tag held.tag g) (eq-eqb issuer issuer refl)
             ∙ ap (λ (b : Bool). b && same_tag held.tag g) (same_flag-self flag)
             ∙ ap (λ (t : Tag). same_tag t g) (hold-tag g r held k) ∙ same_tag-self g))

@@ -1,8 +1,8 @@
 use Rattle.std.proofs.Common.{◌≡◌, ℕ, Bool, true, take}
 use Rattle.bbm_regimes.specs.declared.regime.Tag.{Tag}
-use Rattle.bbm_tlbi_scope.specs.Tags.{takes_whole_tag}
+use Rattle.bbm_tlbi_scope.specs.ScopeTags.{takes_whole_tag}
 use Rattle.bbm_roots.specs.Holds.{has_hold}
-use Rattle.bbm_roots.specs.Pendings.{has_pending, pending_in}
+use Rattle.bbm_roots.specs.RootPendings.{has_pending, pending_in}
 use Rattle.bbm_roots.proofs.issue.make_each.Given as goal
 
 abbrev pub invariant-loop-held : goal.invariant-loop-held

@@ -1,8 +1,8 @@
 use Rattle.std.proofs.Common.{arith, not, ◌&&◌, nat_eq, nat_lt}
 use Rattle.bbm_regimes.specs.PeMask.{pe_in}
-use Rattle.bbm_tlbi_scope.specs.Tags.{takes_whole_tag}
+use Rattle.bbm_tlbi_scope.specs.ScopeTags.{takes_whole_tag}
 use Rattle.bbm_roots.specs.Columns.{loads_in}
-use Rattle.bbm_roots.specs.Pendings.{pending_bit, is_pending, same_flag}
+use Rattle.bbm_roots.specs.RootPendings.{pending_bit, is_pending, same_flag}
 use Rattle.bbm_roots.specs.Readings.{reads_tag}
 use Rattle.bbm_roots.proofs.Lists.{marked-more, back-more}
 use Rattle.bbm_roots.proofs.issue.note.Goals as goal

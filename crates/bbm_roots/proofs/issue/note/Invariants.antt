@@ -1,9 +1,9 @@
 use Rattle.std.proofs.Common.{◌≡◌, ℕ, ◌≤◌, Bool, ◌&&◌, ◌||◌, not, nat_eq, nat_lt, take, get_or}
 use Rattle.bbm_regimes.specs.PeMask.{pe_in}
 use Rattle.bbm_regimes.specs.declared.regime.Tag.{Tag}
-use Rattle.bbm_tlbi_scope.specs.Tags.{takes_whole_tag}
+use Rattle.bbm_tlbi_scope.specs.ScopeTags.{takes_whole_tag}
 use Rattle.bbm_roots.specs.Columns.{loads_in}
-use Rattle.bbm_roots.specs.Pendings.{has_pending, pending_in, same_flag}
+use Rattle.bbm_roots.specs.RootPendings.{has_pending, pending_in, same_flag}
 use Rattle.bbm_roots.specs.Readings.{reads_tag}
 use Rattle.bbm_roots.specs.declared.pending.Pending.{Pending}
 use Rattle.bbm_roots.proofs.issue.note.Given as goal

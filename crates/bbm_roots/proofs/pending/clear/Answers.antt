@@ -1,5 +1,5 @@
 use Rattle.std.proofs.Common.{arith, not, ◌&&◌, nat_eq}
-use Rattle.bbm_roots.specs.Pendings.{pending_bit}
+use Rattle.bbm_roots.specs.RootPendings.{pending_bit}
 use Rattle.bbm_roots.specs.Readings.{has_tag}
 use Rattle.bbm_roots.proofs.Lists.{cleared-more, back-more}
 use Rattle.bbm_roots.proofs.pending.clear.Goals as goal

@@ -1,6 +1,6 @@
 use Rattle.std.proofs.Common.{◌≡◌, ℕ, ◌≤◌, Bool, ◌&&◌, not, nat_eq, take, get_or}
 use Rattle.bbm_regimes.specs.declared.regime.Tag.{Tag}
-use Rattle.bbm_roots.specs.Pendings.{pending_in}
+use Rattle.bbm_roots.specs.RootPendings.{pending_in}
 use Rattle.bbm_roots.specs.Readings.{has_tag}
 use Rattle.bbm_roots.specs.declared.pending.Pending.{Pending}
 use Rattle.bbm_roots.proofs.pending.clear.Given as goal

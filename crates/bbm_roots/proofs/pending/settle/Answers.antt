@@ -1,6 +1,6 @@
 use Rattle.std.proofs.Common.{◌∙◌, ap, rules, List}
 use Rattle.std.proofs.lemmas.Fn.{filter_same}
-use Rattle.bbm_roots.specs.Pendings.{is_open, pending_in}
+use Rattle.bbm_roots.specs.RootPendings.{is_open, pending_in}
 use Rattle.bbm_roots.specs.declared.pending.Pending.{Pending}
 use Rattle.bbm_roots.proofs.PendingBits.{any-open}
 use Rattle.bbm_roots.proofs.pending.settle.Goals as goal

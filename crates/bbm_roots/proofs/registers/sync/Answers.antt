@@ -1,5 +1,5 @@
 use Rattle.std.proofs.Common.{◌∙◌}
-use Rattle.bbm_roots.specs.Registers.{newest}
+use Rattle.bbm_roots.specs.RootRegisters.{newest}
 use Rattle.bbm_roots.proofs.Columns.{changed, take-one}
 use Rattle.bbm_roots.proofs.registers.sync.Goals as goal
 

@@ -1,13 +1,10 @@
 use Rattle.std.proofs.Common.{◌≡◌, ◌||◌, ◌&&◌, Bool, true, false, refl}
 use Rattle.bbm_roots.specs.Holds.{tag_in, is_clash}
-use Rattle.bbm_roots.specs.Least.{ReadingUpTo}
+use Rattle.bbm_roots.specs.LeastOf.{ReadingUpTo}
 use Rattle.bbm_roots.specs.Readings.{is_reading, is_other, has_other}
 use Rattle.bbm_roots.proofs.Leasts.{least-same}
 use Rattle.bbm_roots.proofs.search.with_clash.Goals as goal
-
-or_assoc : (a b c : Bool) → (a || (b || c)) ≡ ((a || b) || c)
-or_assoc true b c = refl
-or_assoc false b c = refl
+use Rattle.bbm_lemmas.proofs.Bools.{or_regroup}
 
 pub returns : goal.returns
 returns c = λ test h.
@@ -18,6 +15,6 @@ returns c = λ test h.
     least-same ReadingUpTo
     (λ x. (test x || (is_reading x.tag x.root y && has_other x.tag x.root seen)) || (is_other x.tag x.root y && tag_in holds n x.tag x.root))
     (λ x. test x || is_clash holds n seen x y)
-    (λ x. or_assoc (test x) (is_reading x.tag x.root y && has_other x.tag x.root seen) (is_other x.tag x.root y && tag_in holds n x.tag x.root))
+    (λ x. or_regroup (test x) (is_reading x.tag x.root y && has_other x.tag x.root seen) (is_other x.tag x.root y && tag_in holds n x.tag x.root))
     c.with_holder.result
     (c.with_holder.ensures (λ x. test x || (is_reading x.tag x.root y && has_other x.tag x.root seen)) (c.with_reading.ensures test h))

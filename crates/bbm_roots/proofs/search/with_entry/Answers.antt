@@ -1,8 +1,9 @@
 use Rattle.std.proofs.Common.{◌≡◌, ℕ, ◌&&◌, ap, ◌∙◌, sym, Bool}
 use Rattle.bbm_regimes.specs.declared.regime.Tag.{Tag}
 use Rattle.bbm_roots.specs.Holds.{is_hold, is_held_under}
-use Rattle.bbm_roots.proofs.Bits.{and-true, hold-tag, hold-self}
+use Rattle.bbm_roots.proofs.Bits.{hold-tag, hold-self}
 use Rattle.bbm_roots.proofs.search.with_entry.Goals as goal
+use mathlib.Core.Bool.{and-true}
 
 pub returns-then-is_held_under : goal.returns-then-is_held_under
 returns-then-is_held_under c = λ test h.

@@ -1,6 +1,6 @@
 use Rattle.std.proofs.Common.{◌||◌, ◌&&◌, ◌∙◌, ap, sym, nat_eq, Bool}
 use Rattle.bbm_roots.specs.Holds.{tag_in}
-use Rattle.bbm_roots.specs.Least.{ReadingUpTo}
+use Rattle.bbm_roots.specs.LeastOf.{ReadingUpTo}
 use Rattle.bbm_roots.specs.Readings.{is_other, same_tag}
 use Rattle.bbm_roots.proofs.Entries.{holder-clash}
 use Rattle.bbm_roots.proofs.Leasts.{least-same}

@@ -1,5 +1,5 @@
 use Rattle.std.proofs.Common.{◌||◌, ◌&&◌, ap, sym, ◌∙◌, nat_eq, Bool}
-use Rattle.bbm_roots.specs.Least.{ReadingUpTo}
+use Rattle.bbm_roots.specs.LeastOf.{ReadingUpTo}
 use Rattle.bbm_roots.specs.Readings.{is_reading, has_other, same_tag}
 use Rattle.bbm_roots.proofs.Entries.{reading-clash}
 use Rattle.bbm_roots.proofs.Leasts.{least-same}

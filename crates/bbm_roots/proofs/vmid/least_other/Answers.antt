@@ -1,6 +1,6 @@
 use Rattle.std.proofs.Common.{◌≡◌, ◌+◌, take, arith, ap, sym, ◌||◌, List}
 use Rattle.std.proofs.lemmas.List.{take_all}
-use Rattle.bbm_roots.specs.Least.{UpTo}
+use Rattle.bbm_roots.specs.LeastOf.{UpTo}
 use Rattle.bbm_roots.specs.Refusals.{is_other_number, other_number}
 use Rattle.bbm_roots.specs.declared.load.Load.{Load}
 use Rattle.bbm_roots.proofs.Leasts.{least-same}

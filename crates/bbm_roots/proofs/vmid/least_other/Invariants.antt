@@ -1,5 +1,5 @@
 use Rattle.std.proofs.Common.{take}
-use Rattle.bbm_roots.specs.Least.{IsLeast, UpTo}
+use Rattle.bbm_roots.specs.LeastOf.{IsLeast, UpTo}
 use Rattle.bbm_roots.specs.Refusals.{other_number}
 use Rattle.bbm_roots.proofs.vmid.least_other.Given as goal
 

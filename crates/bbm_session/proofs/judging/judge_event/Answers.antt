@@ -2,7 +2,7 @@ use Rattle.std.proofs.Common.{◌≡◌, ◌∷◌, suc, length, None, Err, true
 use Rattle.bbm_rules.specs.Outcome.{limit_after}
 use Rattle.bbm_session.specs.declared.stop.Stop.TheVariants.{NoMemory}
 use Rattle.bbm_session.specs.Folds.{event_needs}
-use Rattle.bbm_session.specs.Stages.{Keeps}
+use Rattle.bbm_texts.specs.Known.{Keeps}
 use Rattle.bbm_session.proofs.Judgements.{needed, event-refused, event-kept, keeps-more}
 use Rattle.bbm_session.proofs.judging.judge_event.Goals as goal
 

@@ -5,7 +5,7 @@ use Rattle.bbm_rules.specs.Outcome.{Outcome}
 use Rattle.bbm_rules.specs.Pages.{initialised}
 use Rattle.bbm_rules.specs.Phases.{restless_of}
 use Rattle.bbm_rules.specs.Texts.{verdict_text}
-use Rattle.bbm_session.specs.Generating.{counts_text, selftest_text}
+use Rattle.bbm_texts.specs.Generating.{counts_text, selftest_text}
 use Rattle.bbm_session.proofs.GeneratedLogs.{Facts, accepted}
 use Rattle.bbm_session.proofs.laws.law_generated_is_accepted.Goals as goal
 

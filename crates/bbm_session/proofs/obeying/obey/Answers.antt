@@ -3,14 +3,17 @@ use Rattle.bbm_rules.specs.declared.limits.Limits.{Limits}
 use Rattle.bbm_rules.specs.Outcome.{AtHeader, events_in}
 use Rattle.bbm_session.specs.Folds.{is_frugal, judging_for}
 use Rattle.bbm_session.specs.JudgedLog.{JudgedLog, Unjudged}
-use Rattle.bbm_session.specs.Run.{Says, limits_of, status_of}
-use Rattle.bbm_session.specs.Writing.{SaysFor, WantsJudged}
+use Rattle.bbm_session.specs.Run.{limits_of}
+use Rattle.bbm_texts.specs.Says.{Says}
+use Rattle.bbm_texts.specs.Statuses.{status_of}
+use Rattle.bbm_session.specs.Writing.{WantsJudged}
+use Rattle.bbm_texts.specs.Says.{SaysFor}
 use Rattle.bbm_session.proofs.Served.{answered}
 use Rattle.bbm_session.proofs.Stages.{some-heads}
 use Rattle.bbm_session.proofs.obeying.obey.Goals as goal
 
-pub report-requires-clause-known : goal.report-requires-clause-known
-report-requires-clause-known g c =
+pub report_stopped-requires-clause-known : goal.report_stopped-requires-clause-known
+report_stopped-requires-clause-known g c =
     let judged = c.in-Ok.ensures.judged.1 in
     (events_in judged.reached, judged.known)
 
@@ -27,8 +30,8 @@ returns-in-Ok-clause-obeys g c = λ frugal.
     record {
       heading = Some header;
       heads = judged.heads;
-      answered = answered fold AtHeader judged.reached (λ said text. Says command (Some header) said.log said.refused said.verdict text) (λ said. status_of said.verdict) (WantsJudged command) (SaysFor command (Some header) (events_in judged.reached)) stop c.report.result _ _ _ _ _ _ _ _
-          (λ v text says. says) (λ v. refl) (λ starves. inl starves) judged.stops (c.report.ensures (events_in judged.reached) judged.known);
+      answered = answered fold AtHeader judged.reached (λ said text. Says command (Some header) said.log said.refused said.verdict text) (λ said. status_of said.verdict) (WantsJudged command) (SaysFor command (Some header) (events_in judged.reached)) stop c.report_stopped.result _ _ _ _ _ _ _ _
+          (λ v text says. says) (λ v. refl) (λ starves. inl starves) judged.stops (c.report_stopped.ensures (events_in judged.reached) judged.known);
     }
 
 pub returns-in-Err-clause-obeys : goal.returns-in-Err-clause-obeys

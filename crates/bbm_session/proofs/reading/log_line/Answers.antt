@@ -2,7 +2,8 @@ use Rattle.std.proofs.Common.{◌∙◌, subst, ℕ, List, Ok, Err}
 use Rattle.bbm_io.specs.Reading.{shown}
 use Rattle.bbm_session.specs.declared.line.Piece.TheVariants as piece
 use Rattle.bbm_session.specs.Stages.{TakesLine}
-use Rattle.bbm_session.proofs.Stages.{found-takes, takes-shrinks, line-advances, rest-advances, long-advances, fault-advances}
+use Rattle.bbm_session.proofs.Stages.{found-takes, takes-shrinks, line-advances, rest-advances, long-advances}
+use Rattle.bbm_session.proofs.Stages.{fault-advances}
 use Rattle.bbm_session.proofs.reading.log_line.Goals as goal
 
 pub take-requires : goal.take-requires

@@ -1,6 +1,7 @@
 use Rattle.std.proofs.Common.{◌≡◌, length, nat_eq, true, false, sym, ap, ◌∙◌}
 use Rattle.bbm_session.specs.declared.line.Piece.TheVariants as piece
-use Rattle.bbm_session.proofs.Stages.{takes-shrinks, line-closes, nothing-closes, more-closes, long-closes, fault-closes}
+use Rattle.bbm_session.proofs.Stages.{takes-shrinks, line-closes, nothing-closes, more-closes, long-closes}
+use Rattle.bbm_session.proofs.Stages.{fault-closes}
 use Rattle.bbm_session.proofs.reading.nothing_follows.Goals as goal
 
 pub returns-in-Line-clause-closes : goal.returns-in-Line-clause-closes

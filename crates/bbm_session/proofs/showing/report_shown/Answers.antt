@@ -1,5 +1,5 @@
 use Rattle.std.proofs.Common.{Some, sym, subst}
-use Rattle.bbm_session.specs.declared.command.Command.TheVariants as command_of
+use Rattle.bbm_texts.specs.declared.commands.Command.TheVariants as command_of
 use Rattle.bbm_session.specs.declared.stop.Stop.{Stop}
 use Rattle.bbm_session.specs.Stages.{KnowsAt}
 use Rattle.bbm_session.specs.Writing.{ReportsShown}
@@ -10,5 +10,5 @@ returns-in-Decided g c = λ h knows.
     let header = c.args.header.now in
     let stands = g.C.Checker.stands c.args.checker.now in
     let known = subst (λ (s : Stop). KnowsAt stands header h s) c.in-Decided.is knows in
-    subst (λ (s : Stop). ReportsShown (command_of.Show c.args.evidence.now) (Some header) h s c.report_decided.result (g.K.Sink.held c.args.out.now) (g.K.Sink.held c.report_decided.new.out) (g.K.Sink.faults c.args.out.now) (g.K.Sink.faults c.report_decided.new.out)) (sym c.in-Decided.is)
-    (c.report_decided.ensures h known)
+    subst (λ (s : Stop). ReportsShown (command_of.Show c.args.evidence.now) (Some header) h s c.report_evidence.result (g.K.Sink.held c.args.out.now) (g.K.Sink.held c.report_evidence.new.out) (g.K.Sink.faults c.args.out.now) (g.K.Sink.faults c.report_evidence.new.out)) (sym c.in-Decided.is)
+    (c.report_evidence.ensures h known)

@@ -1,11 +1,14 @@
 use Rattle.std.proofs.Common.{[], Bool, Some, refl, subst, inl}
 use Rattle.bbm_rules.specs.declared.limits.Limits.{Limits}
 use Rattle.bbm_rules.specs.Outcome.{AtHeader, events_in}
-use Rattle.bbm_session.specs.declared.command.Command.TheVariants as command_of
+use Rattle.bbm_texts.specs.declared.commands.Command.TheVariants as command_of
 use Rattle.bbm_session.specs.Folds.{is_frugal, judging_for}
 use Rattle.bbm_session.specs.JudgedLog.{JudgedLog, Unjudged}
-use Rattle.bbm_session.specs.Run.{Says, limits_of, status_of}
-use Rattle.bbm_session.specs.Writing.{SaysFor, WantsJudged}
+use Rattle.bbm_session.specs.Run.{limits_of}
+use Rattle.bbm_texts.specs.Says.{Says}
+use Rattle.bbm_texts.specs.Statuses.{status_of}
+use Rattle.bbm_session.specs.Writing.{WantsJudged}
+use Rattle.bbm_texts.specs.Says.{SaysFor}
 use Rattle.bbm_session.proofs.Served.{answered}
 use Rattle.bbm_session.proofs.ShownLogs.{answered-shown}
 use Rattle.bbm_session.proofs.Stages.{some-heads}

@@ -2,15 +2,20 @@ use Rattle.std.proofs.Common.{◌≡◌, ℕ, List, Some, Option, true, false, a
 use Rattle.bbm_io.specs.Flow.{extended}
 use Rattle.bbm_rules.specs.Claims.{Patterns}
 use Rattle.std.specs.String.{string_bytes}
-use Rattle.bbm_session.specs.declared.command.Command.{Command}
+use Rattle.bbm_texts.specs.declared.commands.Command.{Command}
 use Rattle.bbm_session.specs.declared.command.Request.{Request}
 use Rattle.bbm_session.specs.declared.command.Request.TheVariants.{Judge, Verify, Generate, Selftest}
-use Rattle.bbm_session.specs.declared.status.Status.{Status}
-use Rattle.bbm_session.specs.Requests.{FaultAt, IsSomeTextFor, IsTextFor, ReadForAll, WantAt, reads_input, status_for, unread_for}
+use Rattle.bbm_texts.specs.declared.status.Status.{Status}
+use Rattle.bbm_session.specs.Requests.{FaultAt, IsSomeTextFor, IsTextFor, ReadForAll, WantAt, reads_input, status_for}
+use Rattle.bbm_session.specs.Requests.{unread_for}
 use Rattle.bbm_session.specs.Requests as requests
 use Rattle.bbm_session.specs.Run.{or_else}
-use Rattle.bbm_session.specs.Writing.{Part, Serves}
-use Rattle.bbm_session.proofs.Served.{served-some, served-part_of_some, served-status, served-text, served-part, served-unread, served-untold, served-read, served-accepted, served-accepts, served-verified, served-untouched, served-generated, served-selftested, served-fault, served-want}
+use Rattle.bbm_session.specs.Writing.{Serves}
+use Rattle.bbm_texts.specs.Writing.{Part}
+use Rattle.bbm_session.proofs.Served.{served-some, served-part_of_some, served-status, served-text, served-part}
+use Rattle.bbm_session.proofs.Served.{served-unread, served-untold, served-read, served-accepted, served-accepts}
+use Rattle.bbm_session.proofs.Served.{served-verified, served-untouched, served-generated, served-selftested}
+use Rattle.bbm_session.proofs.Served.{served-fault, served-want}
 use Rattle.bbm_session.proofs.top.run.Goals as goal
 
 pub returns-in-Some-clause-status : goal.returns-in-Some-clause-status

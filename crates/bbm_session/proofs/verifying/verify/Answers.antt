@@ -1,7 +1,7 @@
-use Rattle.std.proofs.Common.{[], ◌*◌, lit≤, reverse, sym, ◌∙◌}
+use Rattle.std.proofs.Common.{[], ◌*◌, lit≤, refl, sym}
 use Rattle.std.proofs.lemmas.List.{length-reverse}
 use Rattle.bbm_certificate.specs.declared.kept.Part.TheVariants as part
-use Rattle.bbm_certificate.specs.Reading as read
+use Rattle.bbm_certificate.specs.CertificateReading as read
 use Rattle.bbm_session.specs.Folds.{certifying}
 use Rattle.bbm_session.proofs.CertificateLines.{certified-read, certifies-none, certifying-inside, certifying-start}
 use Rattle.bbm_session.proofs.Served.{verified-whole, verified-stopped, verified-unread}
@@ -30,7 +30,7 @@ returns-in-Ok-read_log-clause-verifies g c =
     let starts = c.in-Ok.ensures.starts certifying read.AtHeader (λ h. read.AtEvents h []) certifying-start in
     let none = certifies-none header c.new.result (c.law_header_in_range.ensures starts.0.line header starts.0.header) c.new.ensures.part c.new.ensures.events c.new.ensures.claims in
     let ends = c.in-Ok-read_log.ensures.ends certifying (read.AtEvents header []) (certifying-inside header part.Events [] []) none in
-    verified-whole header kept c.event_count.result c.claim_count.result c.judge_kept.result c.report_judged.result _ _ _ _ _ _ _ _ _ _ starts.0 starts.1 ends (c.event_count.ensures ∙ sym (length-reverse kept.events.items)) c.claim_count.ensures c.judge_kept.ensures.judged c.report_judged.ensures.reports
+    verified-whole header kept _ _ c.judge_kept.result c.report_judged.result _ _ _ _ _ _ _ _ _ _ starts.0 starts.1 ends (sym (length-reverse kept.events.items)) refl c.judge_kept.ensures.judged c.report_judged.ensures.reports
 
 pub returns-in-Ok-read_log-clause-shrinks : goal.returns-in-Ok-read_log-clause-shrinks
 returns-in-Ok-read_log-clause-shrinks g c = shrinks-trans 201 (201 * 4294967297) (201 * 4294967298) _ _ _ (lit≤ tt) c.in-Ok.ensures.shrinks c.in-Ok-read_log.ensures.shrinks

@@ -1,5 +1,5 @@
 use Rattle.std.proofs.Common.{◌≡◌}
-use Rattle.bbm_roots.specs.Stands.{pes_of, world_of}
+use Rattle.bbm_roots.specs.RootsStand.{pes_of, world_of}
 use Rattle.bbm_state_tests.proofs.roots.answer.Given as goal
 
 abbrev pub invariant-loop-one : goal.invariant-loop-one

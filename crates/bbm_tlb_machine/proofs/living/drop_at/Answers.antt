@@ -1,6 +1,6 @@
 use Rattle.std.proofs.Common.{◌==◌, not, rules}
 use Rattle.std.proofs.lemmas.Fn.{filter_same}
-use Rattle.bbm_tlb_machine.specs.Run.{Living}
+use Rattle.bbm_tlb_machine.specs.MachineRun.{Living}
 use Rattle.bbm_tlb_machine.proofs.living.drop_at.Goals as goal
 
 pub returns : goal.returns

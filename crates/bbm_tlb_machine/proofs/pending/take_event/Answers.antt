@@ -1,6 +1,6 @@
 use Rattle.std.proofs.Common.{◌∷◌, List, reverse, subst, sym}
 use Rattle.bbm_rules.specs.Prelude.{Event, Dsb}
-use Rattle.bbm_tlb_machine.specs.Pendings.{IsPending, Pending}
+use Rattle.bbm_tlb_machine.specs.MachinePendings.{IsPending, Pending}
 use Rattle.bbm_tlb_machine.proofs.PendingSteps.{dsb_step}
 use Rattle.bbm_tlb_machine.proofs.pending.take_event.Goals as goal
 

@@ -1,5 +1,5 @@
 use Rattle.std.proofs.Common.{◌≡◌, false, arith, refl}
-use Rattle.bbm_tree_index.specs.Held.{holds_at}
+use Rattle.bbm_tree_index.specs.HeldCores.{holds_at}
 use Rattle.bbm_tree_index.proofs.Places.{each_place}
 use Rattle.bbm_tree_index.proofs.held.holds_none.Goals as goal
 

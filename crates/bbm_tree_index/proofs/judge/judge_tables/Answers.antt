@@ -4,8 +4,8 @@ use Rattle.bbm_descriptor.specs.declared.desc.Desc.{Desc}
 use Rattle.bbm_place_map.specs.Map.{value_at}
 use Rattle.bbm_regimes.specs.declared.regime.Kind.{Kind}
 use Rattle.bbm_rules.specs.Tree.{Node}
-use Rattle.bbm_tree_index.specs.Judged.{HasPlace, IsUnfresh, is_bad, is_user_global}
-use Rattle.bbm_tree_index.specs.Least.{LeafPlace, LeastOf, Told, WrongPage}
+use Rattle.bbm_tree_index.specs.Attaching.{HasPlace, IsUnfresh, is_bad, is_user_global}
+use Rattle.bbm_tree_index.specs.LeastPages.{LeafPlace, LeastOf, Told, WrongPage}
 use Rattle.bbm_tree_index.specs.Survey.{fresh_of}
 use Rattle.bbm_tree_index.specs.declared.mark.Mark.{Mark}
 use Rattle.bbm_tree_index.proofs.Judging.{leaf_of, of_leaf, of_wrong, wrong_of}

@@ -1,5 +1,5 @@
 use Rattle.bbm_place_map.specs.Map.{value_at}
-use Rattle.bbm_tree_index.specs.Least.{asks}
+use Rattle.bbm_tree_index.specs.LeastPages.{asks}
 use Rattle.bbm_tree_index.proofs.Leasts.{least_step}
 use Rattle.bbm_tree_index.proofs.Wrongs.{LeafNumber, all_numbers}
 use Rattle.bbm_tree_index.proofs.judge.leaf_of.Goals as goal

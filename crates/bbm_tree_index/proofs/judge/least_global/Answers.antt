@@ -1,6 +1,6 @@
 use Rattle.std.proofs.Common.{sym, ◌∙◌, true≢false}
 use Rattle.std.proofs.lemmas.Bool.{and_parts}
-use Rattle.bbm_regimes.specs.Same.{same_kind}
+use Rattle.bbm_regimes.specs.SameRegister.{same_kind}
 use Rattle.bbm_regimes.specs.declared.regime.Kind.TheVariants.{Ttbr0}
 use Rattle.bbm_tree_index.proofs.judge.least_global.Goals as goal
 

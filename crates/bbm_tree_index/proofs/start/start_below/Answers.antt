@@ -1,4 +1,5 @@
-use Rattle.std.proofs.Common.{◌≡◌, ℕ, ◌<◌, ◌%◌, ◌/◌, ◌==◌, Some, None, refl, ap, ◌∙◌, nat_eq, if◌then◌else◌, ◌+◌, ◌*◌, suc, add-one, arith, false}
+use Rattle.std.proofs.Common.{◌≡◌, ℕ, ◌<◌, ◌%◌, ◌/◌, ◌==◌, Some, None, refl, ap, ◌∙◌, nat_eq, if◌then◌else◌, ◌+◌, ◌*◌}
+use Rattle.std.proofs.Common.{suc, add-one, arith, false}
 use Rattle.std.specs.Map.{lookup}
 use Rattle.indexmap.specs.IndexMap.{get}
 use Rattle.bbm_rules.specs.Places.{index_of}

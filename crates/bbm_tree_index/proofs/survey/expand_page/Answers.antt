@@ -1,10 +1,11 @@
-use Rattle.std.proofs.Common.{◌≡◌, ℕ, Bool, true, ◌||◌, ◌==◌, ◌+◌, ◌*◌, List, Option, refl, sym, ap, ◌∙◌, nat_eq, subst, arith, suc}
+use Rattle.std.proofs.Common.{◌≡◌, ℕ, Bool, true, ◌||◌, ◌==◌, ◌+◌, ◌*◌, List, Option, refl, sym, ap, ◌∙◌, nat_eq, subst}
+use Rattle.std.proofs.Common.{arith, suc}
 use Rattle.bbm_rules.specs.Roots.{input_pages}
 use Rattle.indexmap.specs.IndexMap.{get}
 use Rattle.bbm_place_map.specs.Map.{value_at}
 use Rattle.bbm_rules.specs.Places.{index_of, page_of}
 use Rattle.bbm_rules.specs.Tree.{Node, next_of}
-use Rattle.bbm_tree_index.specs.Held.{is_at}
+use Rattle.bbm_tree_index.specs.HeldCores.{is_at}
 use Rattle.bbm_tree_index.specs.Survey.{Counts, Partly, grown}
 use Rattle.bbm_tree_index.specs.declared.mark.Mark.{Mark}
 use Rattle.bbm_tree_index.specs.declared.role.Role.TheVariants.{Hangs}

@@ -2,7 +2,7 @@
 use Rattle.std.proofs.Common.{[], refl, rules}
 use Rattle.bbm_descriptor.specs.Listing.{WalkRoot, RegionHolds}
 use Rattle.bbm_descriptor.specs.declared.walk.Walk.TheVariants.{Fault}
-use Rattle.bbm_walk_s1.specs.Ranges.{stage1_root}
+use Rattle.bbm_walk_s1.specs.InputRanges.{stage1_root}
 use Rattle.bbm_walk_s1.proofs.Starts.{root_aligned, begins_there}
 use Rattle.bbm_walk_s1.proofs.walking.walk.Goals as goal
 

@@ -3,9 +3,7 @@ use Rattle.std.specs.List.{list_any}
 use Rattle.std.proofs.lemmas.List.{length-reverse}
 use Rattle.bbm_oracle_patterns.specs.Kept.{note_of, notes_of}
 use Rattle.bbm_cert.specs.Cleansings.{ends_now, tells}
-use Rattle.bbm_cert.specs.Holdings.{has}
 use Rattle.bbm_cert.specs.declared.cleansings.Cleansing.{Cleansing}
-use Rattle.bbm_cert.specs.declared.holdings.Holding.{Holding}
 use Rattle.bbm_cert.proofs.Cleansed.{tell_next}
 use Rattle.bbm_cert.proofs.Kepts.{length_events}
 use Rattle.bbm_cert.proofs.by_claims.ByClaimsEvidence.after.Goals as goal
@@ -14,12 +12,14 @@ pub returns-clause-taken : goal.returns-clause-taken
 returns-clause-taken c = (
   (λ a p n.
       c.in_ok-add_completed.ensures a p n
-      ∙ ap (λ (b : Bool). b || list_any (ends_now c.args.header.now c.args.newest.now.event (notes_of (reverse c.args.log.now)) a p n)
+      ∙ ap (λ (b : Bool). b || list_any (ends_now c.args.header.now c.args.newest.now.event
+      (notes_of (reverse c.args.log.now)) a p n)
       c.args.self.now.claims.now)
-      (ap (λ (xs : List Cleansing). tells xs a p n) (c.in_ok-cleansings.ensures ∙ c.deref.ensures.value) ∙ c.requires.0 a p n)
+      (ap (λ (xs : List Cleansing). tells xs a p n) (c.in_ok-cleansings.ensures ∙ c.deref.ensures.value)
+      ∙ c.requires.0 a p n)
       ∙ tell_next c.args.header.now a p n c.args.self.now.claims.now (note_of (length c.args.log.now) c.args.newest.now)
       (notes_of (reverse c.args.log.now))),
-  c.in_ok-held.ensures (λ p root tag below.
-      ap (λ (xs : List Holding). has xs p root tag) c.deref-2.ensures.value ∙ c.requires.1 p root tag below),
+  c.in_ok-tags.ensures.held c.requires.1,
+  c.in_ok-tags.ensures.spans,
   omega (arith, length_events (reverse c.args.log.now), length-reverse c.args.log.now),
 )

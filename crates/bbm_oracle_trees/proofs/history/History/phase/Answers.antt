@@ -4,7 +4,7 @@ use Rattle.bbm_rules.specs.Notes.{events_of}
 use Rattle.bbm_rules.specs.Places.{page_of}
 use Rattle.bbm_rules.specs.Tree.{Node, node_of}
 use Rattle.bbm_rules.specs.Values.{value_of}
-use Rattle.bbm_oracle_patterns.specs.Phases.{phase_at}
+use Rattle.bbm_oracle_patterns.specs.PlacePhases.{phase_at}
 use Rattle.bbm_oracle_trees.specs.Past.{notes}
 use Rattle.bbm_oracle_trees.proofs.Phasing.{phase_at_node, phase_nowhere, phase_stands}
 use Rattle.bbm_oracle_trees.proofs.history.History.phase.Goals as goal

@@ -1,6 +1,6 @@
 use Rattle.std.proofs.Common.{◌≡◌, ℕ, length, slice_get, Some}
 use Rattle.bbm_tlbi_scope.specs.declared.entry.Cover.{Cover}
-use Rattle.bbm_place_map.specs.Calls.{MayCover}
+use Rattle.bbm_place_map.specs.MapCalls.{MayCover}
 use Rattle.bbm_place_map.specs.declared.entry.Entry.{Entry}
 use Rattle.bbm_place_map.proofs.map.PlaceMap.add_covers.Given as goal
 

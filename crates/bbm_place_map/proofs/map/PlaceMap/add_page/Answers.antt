@@ -1,4 +1,5 @@
-use Rattle.std.proofs.Common.{◌≡◌, refl, inr, ℕ, Bool, Some, nat_eq, ap, sym, arith, subst, ◌∙◌, vec_len, if◌then◌else◌, None}
+use Rattle.std.proofs.Common.{◌≡◌, refl, inr, ℕ, Bool, Some, nat_eq, ap, sym, arith, subst, ◌∙◌, vec_len, if◌then◌else◌}
+use Rattle.std.proofs.Common.{None}
 use Rattle.indexmap.specs.IndexMap.{get}
 use Rattle.bbm_place_map.specs.Map.{is_tracked}
 use Rattle.bbm_place_map.specs.Sound.{Numbered}

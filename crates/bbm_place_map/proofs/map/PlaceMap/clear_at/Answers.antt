@@ -1,6 +1,6 @@
 use Rattle.std.proofs.Common.{◌≡◌, ℕ, Option, None, List, ap, sym, subst, ◌∙◌}
 use Rattle.bbm_descriptor.specs.declared.desc.Core.{Core}
-use Rattle.bbm_entry_state.specs.Calls.{Written}
+use Rattle.bbm_entry_state.specs.EntryCalls.{Written}
 use Rattle.bbm_entry_state.specs.declared.state.EntryState.{EntryState}
 use Rattle.bbm_place_map.specs.Map.{IsSeat, marks_at, pends_at, state_at}
 use Rattle.bbm_place_map.specs.Parts.{marks_in}

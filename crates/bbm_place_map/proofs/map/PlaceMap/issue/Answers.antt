@@ -1,9 +1,9 @@
 use Rattle.std.proofs.Common.{ℕ, refl, nat_eq, ap, sym, arith, ◌∙◌, vec_len, slice_get, List, length}
 use Rattle.indexmap.specs.IndexMap.{get}
 use Rattle.bbm_tlbi_scope.specs.declared.entry.Cover.{Cover}
-use Rattle.bbm_place_map.specs.Calls.{MayCover}
+use Rattle.bbm_place_map.specs.MapCalls.{MayCover}
 use Rattle.bbm_place_map.specs.Map.{marks_at, pends_at}
-use Rattle.bbm_place_map.specs.Notes.{Keeps, NotesAt}
+use Rattle.bbm_place_map.specs.PlaceNotes.{Keeps, NotesAt}
 use Rattle.bbm_place_map.proofs.Advancing.{seat_kept}
 use Rattle.bbm_place_map.proofs.Issued.{noted_at}
 use Rattle.bbm_place_map.proofs.Seats.{linked_seated, placed_seated}

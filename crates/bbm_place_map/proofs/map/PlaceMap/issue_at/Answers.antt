@@ -5,7 +5,7 @@ use Rattle.bbm_place_map.specs.Sound.{Linked}
 use Rattle.bbm_place_map.specs.declared.cell.Cell.{Cell}
 use Rattle.bbm_place_map.specs.declared.entry.Entry.{Entry}
 use Rattle.bbm_place_map.specs.Map.{marks_at, pends_at}
-use Rattle.bbm_place_map.specs.Notes.{Keeps, NotesFound}
+use Rattle.bbm_place_map.specs.PlaceNotes.{Keeps, NotesFound}
 use Rattle.bbm_place_map.specs.Entries.{seat_at}
 use Rattle.bbm_place_map.proofs.Advancing.{seat_kept}
 use Rattle.bbm_place_map.proofs.Issued.{noted_found, unnoted_found}

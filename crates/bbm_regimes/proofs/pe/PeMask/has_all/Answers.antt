@@ -1,6 +1,6 @@
 use Rattle.std.proofs.Common.{Bool, ap, ◌∙◌, ◌&&◌, not}
 use Rattle.bbm_regimes.specs.PeMask.{pe_in}
-use Rattle.bbm_regimes.proofs.Every.{none_missing}
+use Rattle.bbm_lemmas.proofs.Every.{none_missing}
 use Rattle.bbm_regimes.proofs.pe.PeMask.has_all.Goals as goal
 
 pub returns : goal.returns

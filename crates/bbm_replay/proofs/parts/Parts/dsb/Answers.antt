@@ -1,10 +1,11 @@
 use Rattle.std.proofs.Common.{refl, ◌∙◌}
-use Rattle.bbm_tree_index.specs.Held.{is_held}
+use Rattle.bbm_tree_index.specs.HeldCores.{is_held}
 use Rattle.bbm_replay_trees.specs.Told.{is_held_by}
-use Rattle.bbm_replay.specs.Standing.{view_of}
+use Rattle.bbm_replay.specs.ReplayStanding.{view_of}
 use Rattle.bbm_replay.specs.declared.parts.Parts.{Parts}
 use Rattle.bbm_replay.proofs.Gone.{leaves_of}
-use Rattle.bbm_replay.proofs.Settling.{completes_of, dsb_meets, hears_of, held_is, holding, leaves_alike, nothing_leaves, still_outside}
+use Rattle.bbm_replay.proofs.Settling.{completes_of, dsb_meets, hears_of, held_is, holding, leaves_alike}
+use Rattle.bbm_replay.proofs.Settling.{nothing_leaves, still_outside}
 use Rattle.bbm_replay.proofs.parts.Parts.dsb.Goals as goal
 
 pub returns-then-complete : goal.returns-then-complete

@@ -1,4 +1,5 @@
-use Rattle.std.proofs.Common.{◌≡◌, ℕ, ◌<◌, ◌%◌, ◌==◌, ◌^◌, true, false, nat_lt, Option, Some, None, IsSome, sym, ◌∙◌, ap, true≢false}
+use Rattle.std.proofs.Common.{◌≡◌, ℕ, ◌<◌, ◌%◌, ◌==◌, ◌^◌, true, false, nat_lt, Option, Some, None, IsSome, sym, ◌∙◌}
+use Rattle.std.proofs.Common.{ap, true≢false}
 use Rattle.std.proofs.lemmas.Bool.{and_parts, eqb-true, ltb-true}
 use Rattle.std.specs.Option.{option_map_or}
 use Rattle.bbm_events.specs.Fits.{is_page}

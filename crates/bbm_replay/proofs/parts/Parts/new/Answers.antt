@@ -1,5 +1,5 @@
 use Rattle.std.proofs.Common.{refl}
-use Rattle.bbm_replay.specs.Standing.{view_of}
+use Rattle.bbm_replay.specs.ReplayStanding.{view_of}
 use Rattle.bbm_replay.proofs.Empty.{told_empty}
 use Rattle.bbm_replay.proofs.parts.Parts.new.Goals as goal
 

@@ -9,10 +9,11 @@ use Rattle.bbm_tree_index.specs.declared.index.TreeIndex.{TreeIndex}
 use Rattle.bbm_regimes.specs.declared.regime.Kind.{Kind}
 use Rattle.bbm_rules.specs.Lists.{least}
 use Rattle.bbm_tree_index.specs.declared.role.Attach.TheVariants as attach
-use Rattle.bbm_replay.specs.Standing.{view_of}
+use Rattle.bbm_replay.specs.ReplayStanding.{view_of}
 use Rattle.bbm_replay.specs.declared.parts.Parts.{Parts}
 use Rattle.bbm_replay.proofs.RootPages.{named_fresh, room_for}
-use Rattle.bbm_replay.proofs.Rooting.{attaches_of, root_fault, root_full, root_ok, root_page, root_used, root_world, starts, unbroken, unfresh_is}
+use Rattle.bbm_replay.proofs.Rooting.{attaches_of, root_fault, root_full, root_ok, root_page, root_used, root_world}
+use Rattle.bbm_replay.proofs.Rooting.{starts, unbroken, unfresh_is}
 use Rattle.bbm_replay.proofs.parts.Parts.root.Goals as goal
 
 pub returns-then-not-has_kind : goal.returns-then-not-has_kind

@@ -27,11 +27,11 @@ returns-in-Ok-issue c =
     (λ heading h s. (c.in-Ok.ensures heading h s).0) c.reach_of-reach.result c.reach_of-reach.ensures
     (λ heading h s a broken.
     let names = (c.in-Ok.ensures heading h s.roots).1 in
-    let m : MayBeIssued heading h old.map old.index c.prepare_issue.new.self c.args.pe c.args.op c.args.xt c.in-Ok.named.scope c.in-Ok.named.vmid
+    let m : MayBeIssued heading h old.map old.index c.prepare_issue.new.self c.args.pe c.args.op c.args.xt c.in-Ok.named
     = record {
       told = s.told;
       stands = c.prepare_issue.ensures.same heading h s.roots;
-      named = names.0;
+      names = names.0;
       vmid_is = names.1;
     } in
     e.noted heading h c.args.xt s.header m a broken)

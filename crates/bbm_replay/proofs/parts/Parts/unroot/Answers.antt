@@ -1,6 +1,6 @@
 use Rattle.std.proofs.Common.{not, ◌==◌, refl}
 use Rattle.bbm_rules.specs.Tree.{Node}
-use Rattle.bbm_replay.specs.Standing.{view_of}
+use Rattle.bbm_replay.specs.ReplayStanding.{view_of}
 use Rattle.bbm_replay.specs.declared.parts.Parts.{Parts}
 use Rattle.bbm_replay.proofs.Gone.{leaves_of, unroot_err, unroot_ok}
 use Rattle.bbm_replay.proofs.parts.Parts.unroot.Goals as goal

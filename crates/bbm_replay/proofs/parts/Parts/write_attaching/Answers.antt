@@ -1,6 +1,6 @@
 use Rattle.std.proofs.Common.{ℕ, Option, refl, ap, subst}
 use Rattle.bbm_descriptor.specs.declared.desc.Core.{Core}
-use Rattle.bbm_entry_state.specs.Calls.{Written}
+use Rattle.bbm_entry_state.specs.EntryCalls.{Written}
 use Rattle.bbm_entry_state.specs.Points.{core_in, waits}
 use Rattle.bbm_entry_state.specs.declared.pending.Pends.{Pends}
 use Rattle.bbm_entry_state.specs.declared.state.EntryState.{EntryState}
@@ -8,7 +8,7 @@ use Rattle.bbm_place_map.specs.Map.{state_at}
 use Rattle.bbm_tree_index.specs.declared.role.Path.{Path}
 use Rattle.bbm_tree_index.specs.Paths.{starts_of}
 use Rattle.bbm_tree_index.specs.declared.role.Attach.TheVariants as attach
-use Rattle.bbm_replay.specs.Standing.{view_of}
+use Rattle.bbm_replay.specs.ReplayStanding.{view_of}
 use Rattle.bbm_replay.specs.View.{state_of}
 use Rattle.bbm_replay.specs.declared.parts.Parts.{Parts}
 use Rattle.bbm_replay.proofs.Framing.{stands_still}
@@ -28,18 +28,18 @@ returns-in-Ok c =
     let left = e.written.2 in
     let a = c.in-Ok.ensures in
     let last : Parts = record old { map = c.write_at.new.self; index = c.attach.new.self } in
-    attach_ok c.laws.ensures c.rules.ensures old c.args.pe c.args.seat.now.place c.args.value c.requires.may
-    c.args.path.now c.requires.at (core_in (was c.args.self.now c.args.path.now c.args.seat.now.place)) c.args.table.now refl c.requires.table
+    attach_ok c.laws.ensures c.rules.ensures old c.args.write.now.pe c.args.write.now.seat.now.place c.args.write.now.value c.requires.may
+    c.args.write.now.path.now c.requires.at (core_in (was c.args.self.now c.args.write.now.path.now c.args.write.now.seat.now.place)) c.args.new.now refl c.requires.new
     c.requires.clear c.args.next c.requires.attaches a.judged c.law_others.ensures last
     (record { header = refl; index_header = c.attach.ensures.tracked.heading; sound = λ s. c.attach.ensures.sound }) refl state
-    (subst (λ (live : Option Core). Written (state_at old.map live c.args.seat.now.place) c.args.pe c.args.table.now state) c.requires.live e.written.1)
+    (subst (λ (live : Option Core). Written (state_at old.map live c.args.write.now.seat.now.place) c.args.write.now.pe c.args.new.now state) c.requires.live e.written.1)
     (record {
       value = e.values;
       marks = left.marks;
       pends = λ q a k b i p. ap (λ (x : Pends). waits x b i p) (left.pends q a k);
       dropped = left.dropped;
     })
-    (attaches_of (view_of old.map old.index) (view_of last.map last.index) (starts_of old.index (attach.Below c.args.seat.now.place c.args.next))
+    (attaches_of (view_of old.map old.index) (view_of last.map last.index) (starts_of old.index (attach.Below c.args.write.now.seat.now.place c.args.next))
     a.node a.fresh c.attach.ensures.null
     (record { tracked = e.pages; known = c.attach.ensures.tracked.known; pages = c.attach.ensures.tracked.pages }))
     c.law_idle.ensures
@@ -50,8 +50,8 @@ returns-in-Err c =
     let a = c.in-Err.ensures in
     let last : Parts = record old { index = c.attach.new.self } in
     rw c.step_fault.ensures
-    (attach_fault c.laws.ensures c.rules.ensures old c.args.pe c.args.seat.now.place c.args.value c.requires.may
-    c.args.path.now c.requires.at (core_in (was c.args.self.now c.args.path.now c.args.seat.now.place)) c.args.table.now refl c.requires.table
+    (attach_fault c.laws.ensures c.rules.ensures old c.args.write.now.pe c.args.write.now.seat.now.place c.args.write.now.value c.requires.may
+    c.args.write.now.path.now c.requires.at (core_in (was c.args.self.now c.args.write.now.path.now c.args.write.now.seat.now.place)) c.args.new.now refl c.requires.new
     c.requires.clear c.args.next c.requires.attaches last
     (λ heading h s. stands_still c.laws.ensures old last
     (record { header = refl; index_header = c.attach.ensures.tracked.heading; sound = λ s. c.attach.ensures.sound })
@@ -67,7 +67,7 @@ pub attach-requires-clause-may : goal.attach-requires-clause-may
 attach-requires-clause-may c = (
   c.requires.at.0,
   c.requires.at.1,
-  below_three c.laws.ensures c.rules.ensures c.args.self.now c.args.pe c.args.seat.now.place c.args.value c.requires.may
-      c.args.path.now c.requires.at (core_in (was c.args.self.now c.args.path.now c.args.seat.now.place)) c.args.table.now refl c.requires.table
+  below_three c.laws.ensures c.rules.ensures c.args.self.now c.args.write.now.pe c.args.write.now.seat.now.place c.args.write.now.value c.requires.may
+      c.args.write.now.path.now c.requires.at (core_in (was c.args.self.now c.args.write.now.path.now c.args.write.now.seat.now.place)) c.args.new.now refl c.requires.new
       c.requires.clear c.args.next c.requires.attaches,
 )

@@ -2,7 +2,7 @@ use Rattle.std.proofs.Common.{ℕ, ◌%◌, ◌==◌, ◌&&◌, not, refl, sym, 
 use Rattle.bbm_entry_state.specs.declared.pending.Pends.{Pends}
 use Rattle.bbm_entry_state.specs.declared.state.EntryState.{EntryState}
 use Rattle.bbm_replay.proofs.Moves.{Writes}
-use Rattle.bbm_replay.specs.Standing.{view_of}
+use Rattle.bbm_replay.specs.ReplayStanding.{view_of}
 use Rattle.bbm_tree_index.specs.Index.{fresh_in, null_in}
 use Rattle.bbm_entry_state.specs.Points.{waits}
 use Rattle.bbm_rules.specs.Places.{page_of}

@@ -5,7 +5,7 @@ use Rattle.bbm_regimes.specs.declared.regime.Which.TheVariants.{Roots}
 use Rattle.bbm_rules.specs.declared.step_fault.StepFault.TheVariants.{Limit}
 use Rattle.bbm_roots.specs.declared.fault.RootFault.{RootFault}
 use Rattle.bbm_roots.specs.declared.fault.RootFault.TheVariants as faults
-use Rattle.bbm_replay_roots.specs.Faults.{room_fault}
+use Rattle.bbm_replay_roots.specs.RootFaults.{room_fault}
 use Rattle.bbm_replay_roots.proofs.Judge.{full, room_up, stays}
 use Rattle.bbm_replay_roots.proofs.RootMaps.{count_same}
 use Rattle.bbm_replay_roots.proofs.state.RootState.prepare.Goals as goal

@@ -6,12 +6,13 @@ use Rattle.bbm_rules.specs.Claims.{Patterns}
 use Rattle.bbm_rules.specs.Covers.{noted}
 use Rattle.bbm_rules.specs.Limits.{limit_of}
 use Rattle.bbm_rules.specs.declared.step_fault.StepFault.{StepFault}
-use Rattle.bbm_roots.specs.Calls.{WriteReg}
-use Rattle.bbm_roots.specs.Registers.{is_of_world}
-use Rattle.bbm_roots.specs.Stands as lower
+use Rattle.bbm_roots.specs.RootCalls.{WriteReg}
+use Rattle.bbm_roots.specs.RootRegisters.{is_of_world}
+use Rattle.bbm_roots.specs.RootsStand as lower
 use Rattle.bbm_replay_roots.specs.Bridge.{calls_of}
 use Rattle.bbm_replay_roots.proofs.Judge.{agrees_by, in_range, stood}
-use Rattle.bbm_replay_roots.proofs.Writes.{msr_elsewhere, reg_of_world, right_world, world_here, write_by, write_err, write_ok}
+use Rattle.bbm_replay_roots.proofs.Writes.{msr_elsewhere, reg_of_world, right_world, world_here, write_by, write_err}
+use Rattle.bbm_replay_roots.proofs.Writes.{write_ok}
 use Rattle.bbm_replay_roots.proofs.state.RootState.write_reg.Goals as goal
 
 pub returns-in-Some-clause-judged : goal.returns-in-Some-clause-judged

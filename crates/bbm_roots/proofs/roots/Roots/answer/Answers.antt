@@ -1,10 +1,10 @@
 use Rattle.std.proofs.Common.{◌≡◌, ◌&&◌, ◌∙◌, ap, sym, not, Bool, false}
 use Rattle.std.specs.List.{list_any}
 use Rattle.bbm_roots.specs.Holds.{hold_in}
-use Rattle.bbm_roots.specs.Pendings.{is_answered}
-use Rattle.bbm_roots.proofs.Bits.{and-true}
+use Rattle.bbm_roots.specs.RootPendings.{is_answered}
 use Rattle.bbm_roots.proofs.PendingBits.{none-answered, all-open}
 use Rattle.bbm_roots.proofs.roots.Roots.answer.Goals as goal
+use mathlib.Core.Bool.{and-true}
 
 pub returns-else-has_answered-clause-holds : goal.returns-else-has_answered-clause-holds
 returns-else-has_answered-clause-holds c = λ g r p.

@@ -1,4 +1,5 @@
-use Rattle.std.proofs.Common.{◌≡◌, ◌∙◌, ap, sym, ℕ, Bool, ◌&&◌, List, [], ◌∷◌, not, nat_eq, length, true, false, refl, arith}
+use Rattle.std.proofs.Common.{◌≡◌, ◌∙◌, ap, sym, ℕ, Bool, ◌&&◌, List, [], ◌∷◌, not, nat_eq, length, true, false, refl}
+use Rattle.std.proofs.Common.{arith}
 use Rattle.std.specs.List.{list_any}
 use Rattle.std.proofs.lemmas.Bool.{eqb-true}
 use Rattle.bbm_barriers.specs.Options.{answers}
@@ -6,17 +7,17 @@ use Rattle.bbm_barriers.specs.declared.Dsb.{Dsb}
 use Rattle.bbm_regimes.specs.declared.regime.Tag.{Tag}
 use Rattle.bbm_roots.specs.Columns.{loads_in}
 use Rattle.bbm_roots.specs.Holds.{hold_in}
-use Rattle.bbm_roots.specs.Pendings.{pending_in, answered_in, is_answered}
-use Rattle.bbm_roots.specs.Stands.{Stands, world_of, pes_of}
+use Rattle.bbm_roots.specs.RootPendings.{pending_in, answered_in, is_answered}
+use Rattle.bbm_roots.specs.RootsStand.{Stands, world_of, pes_of}
 use Rattle.bbm_roots.specs.declared.pending.Pending.{Pending}
 use Rattle.bbm_roots.specs.declared.registers.Registers.{Registers}
 use Rattle.bbm_roots.specs.declared.roots.Roots.{Roots}
-use Rattle.bbm_roots.proofs.Bits.{and-true}
 use Rattle.bbm_roots.proofs.Made.{stands-made}
 use Rattle.bbm_roots.proofs.PendingBits.{answered-split, none-answered, all-open}
 use Rattle.bbm_roots.proofs.Steps.{holds-completed, held-before, not-before, awaited-complete}
-use Rattle.bbm_roots.specs.Calls.{Call, Complete}
+use Rattle.bbm_roots.specs.RootCalls.{Call, Complete}
 use Rattle.bbm_roots.proofs.roots.Roots.complete.Goals as goal
+use mathlib.Core.Bool.{and-true}
 
 -- roots from which what a DSB answers was taken away
 completed : (old new : Roots) (calls : List Call) (issuer : ℕ) (dsb : Dsb) → Stands old calls →

@@ -1,10 +1,10 @@
 use Rattle.std.proofs.Common.{◌≡◌, ◌∙◌, ap, sym, refl, nat_eq, List, ◌∷◌, true, cond, ℕ}
 use Rattle.bbm_regimes.specs.declared.regime.Tag.{Tag}
-use Rattle.bbm_roots.specs.Calls.{Isb}
+use Rattle.bbm_roots.specs.RootCalls.{Isb}
 use Rattle.bbm_roots.specs.Readings.{is_reading, is_of_tag}
-use Rattle.bbm_roots.specs.Registers.{newest, at_start, register_values, first_reg, second_reg}
-use Rattle.bbm_roots.specs.Stands.{world_of}
-use Rattle.bbm_roots.specs.Tags.{reads, reads_for_some}
+use Rattle.bbm_roots.specs.RootRegisters.{newest, at_start, register_values, first_reg, second_reg}
+use Rattle.bbm_roots.specs.RootsStand.{world_of}
+use Rattle.bbm_roots.specs.RootTags.{reads, reads_for_some}
 use Rattle.bbm_roots.specs.declared.load.Load.{Load}
 use Rattle.bbm_roots.proofs.Flat.{readings-isb, newest-same}
 use Rattle.bbm_roots.proofs.Rooted.{names-isb}

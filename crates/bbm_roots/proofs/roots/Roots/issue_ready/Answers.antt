@@ -1,23 +1,24 @@
-use Rattle.std.proofs.Common.{◌≡◌, ◌<◌, ◌≤◌, ◌∙◌, ap, sym, refl, Bool, ◌&&◌, nat_eq, nat_lt, List, true, ℕ, arith, ⊎_elim}
+use Rattle.std.proofs.Common.{◌≡◌, ◌<◌, ◌≤◌, ◌∙◌, ap, sym, refl, Bool, ◌&&◌, nat_eq, nat_lt, List, true, ℕ, arith}
+use Rattle.std.proofs.Common.{⊎_elim}
 use Rattle.std.proofs.lemmas.Bool.{false≢true, cases_lt, lt-ltb}
 use Rattle.std.proofs.lemmas.List.{with_items_is}
 use Rattle.bbm_regimes.specs.PeMask.{pe_in}
 use Rattle.bbm_regimes.specs.declared.regime.Tag.{Tag}
-use Rattle.bbm_tlbi_scope.specs.Tags.{takes_whole_tag}
-use Rattle.bbm_roots.specs.Calls.{Call, Issue}
+use Rattle.bbm_tlbi_scope.specs.ScopeTags.{takes_whole_tag}
+use Rattle.bbm_roots.specs.RootCalls.{Call, Issue}
 use Rattle.bbm_roots.specs.Columns.{loads_in}
-use Rattle.bbm_roots.specs.Pendings.{pending_in, has_pending, same_flag}
+use Rattle.bbm_roots.specs.RootPendings.{pending_in, has_pending, same_flag}
 use Rattle.bbm_roots.specs.Readings.{reads_tag}
-use Rattle.bbm_roots.specs.Registers.{register_values, first_reg, second_reg}
-use Rattle.bbm_roots.specs.Stands.{world_of, pes_of}
-use Rattle.bbm_roots.specs.Tags.{reads, reads_for_some, reaches, holds_at}
+use Rattle.bbm_roots.specs.RootRegisters.{register_values, first_reg, second_reg}
+use Rattle.bbm_roots.specs.RootsStand.{world_of, pes_of}
+use Rattle.bbm_roots.specs.RootTags.{reads, reads_for_some, reaches, holds_at}
 use Rattle.bbm_roots.specs.declared.load.Load.{Load}
 use Rattle.bbm_roots.specs.declared.pending.Pending.{Pending}
-use Rattle.bbm_roots.proofs.Bits.{and-false}
 use Rattle.bbm_roots.proofs.Flat.{reads_tag-is}
 use Rattle.bbm_roots.proofs.Steps.{holds-stay, awaited-stay, noted}
 use Rattle.bbm_roots.proofs.PendingBits.{entry-there}
 use Rattle.bbm_roots.proofs.roots.Roots.issue_ready.Goals as goal
+use mathlib.Core.Bool.{and-false}
 
 pub returns-clause-taken : goal.returns-clause-taken
 returns-clause-taken c = λ calls stands.

@@ -1,11 +1,12 @@
-use Rattle.std.proofs.Common.{◌≡◌, ◌∙◌, ap, sym, refl, Bool, nat_eq, ◌+◌, true, cond, ℕ, Option, None, is_some, IsSome, subst, arith}
+use Rattle.std.proofs.Common.{◌≡◌, ◌∙◌, ap, sym, refl, Bool, nat_eq, ◌+◌, true, cond, ℕ, Option, None, is_some, IsSome}
+use Rattle.std.proofs.Common.{subst, arith}
 use Rattle.indexmap.specs.IndexMap.{get, index_map_len}
 use Rattle.bbm_regimes.specs.declared.regime.Tag.{Tag}
-use Rattle.bbm_roots.specs.Calls.{Call, Retire}
-use Rattle.bbm_roots.specs.Registers.{kind_of_reg}
-use Rattle.bbm_roots.specs.Roots.{roots_of, root_at, is_of_kind}
-use Rattle.bbm_roots.specs.Stands.{world_of, pes_of}
-use Rattle.bbm_roots.specs.Tags.{reads, reads_for_some}
+use Rattle.bbm_roots.specs.RootCalls.{Call, Retire}
+use Rattle.bbm_roots.specs.RootRegisters.{kind_of_reg}
+use Rattle.bbm_roots.specs.DeclaredRoots.{roots_of, root_at, is_of_kind}
+use Rattle.bbm_roots.specs.RootsStand.{world_of, pes_of}
+use Rattle.bbm_roots.specs.RootTags.{reads, reads_for_some}
 use Rattle.bbm_roots.specs.declared.root.Declared.{Declared}
 use Rattle.bbm_roots.proofs.RootLists.{found-retired, kept-retired, apart-retired, retired-length, unlocked-retired}
 use Rattle.bbm_roots.proofs.Rooted.{retired-named, retired-holder}

@@ -2,8 +2,8 @@ use Rattle.std.proofs.Common.{◌≡◌, ◌∙◌, sym, ap, subst, List, ◌<�
 use Rattle.bbm_regimes.specs.declared.regime.World.{World}
 use Rattle.bbm_regimes.specs.declared.regime.Reg.TheVariants.{VttbrEl2}
 use Rattle.bbm_roots.specs.Refusals.{JudgesVmid}
-use Rattle.bbm_roots.specs.Registers.{register_values, second_reg}
-use Rattle.bbm_roots.specs.Tags.{vmid_of, one_number}
+use Rattle.bbm_roots.specs.RootRegisters.{register_values, second_reg}
+use Rattle.bbm_roots.specs.RootTags.{vmid_of, one_number}
 use Rattle.bbm_roots.specs.declared.load.Load.{Load}
 use Rattle.bbm_roots.proofs.Numbers.{some-value}
 use Rattle.bbm_roots.proofs.roots.Roots.vmid_of.Goals as goal

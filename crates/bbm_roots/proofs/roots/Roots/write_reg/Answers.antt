@@ -1,18 +1,20 @@
-use Rattle.std.proofs.Common.{◌≡◌, ◌≢◌, ◌≤◌, ◌∙◌, ap, sym, refl, Bool, ◌&&◌, ◌||◌, not, nat_eq, List, ◌∷◌, true, false, cond, ℕ, Option, Ok, Err, arith, Vec, Global}
+use Rattle.std.proofs.Common.{◌≡◌, ◌≢◌, ◌≤◌, ◌∙◌, ap, sym, refl, Bool, ◌&&◌, ◌||◌, not, nat_eq, List, ◌∷◌, true, false}
+use Rattle.std.proofs.Common.{cond, ℕ, Option, Ok, Err, arith, Vec, Global}
 use Rattle.std.proofs.lemmas.Bool.{ne_eqb}
 use Rattle.std.proofs.lemmas.Result.{err_from_is_err_and}
 use Rattle.bbm_regimes.specs.Registers.{tag_number}
 use Rattle.bbm_regimes.specs.declared.regime.Reg.{Reg}
 use Rattle.bbm_regimes.specs.declared.regime.Tag.{Tag}
-use Rattle.bbm_roots.specs.Calls.{Call, WriteReg}
+use Rattle.bbm_roots.specs.RootCalls.{Call, WriteReg}
 use Rattle.bbm_roots.specs.Columns.{loads_in}
 use Rattle.bbm_roots.specs.Holds.{conflict_in, IsCalm}
-use Rattle.bbm_roots.specs.Pendings.{pending_in}
+use Rattle.bbm_roots.specs.RootPendings.{pending_in}
 use Rattle.bbm_roots.specs.Readings.{has_reading}
-use Rattle.bbm_roots.specs.Registers.{register_values, first_reg, second_reg, is_first, same_reg, load_of, is_of_world, kind_of_reg, names_in}
-use Rattle.bbm_roots.specs.Roots.{root_at, is_root}
-use Rattle.bbm_roots.specs.Stands.{world_of, pes_of}
-use Rattle.bbm_roots.specs.Tags.{readings, holds_at}
+use Rattle.bbm_roots.specs.RootRegisters.{register_values, first_reg, second_reg, is_first, same_reg, load_of}
+use Rattle.bbm_roots.specs.RootRegisters.{is_of_world, kind_of_reg, names_in}
+use Rattle.bbm_roots.specs.DeclaredRoots.{root_at, is_root}
+use Rattle.bbm_roots.specs.RootsStand.{world_of, pes_of}
+use Rattle.bbm_roots.specs.RootTags.{readings, holds_at}
 use Rattle.bbm_roots.specs.declared.load.Load.{Load}
 use Rattle.bbm_roots.specs.declared.pending.Pending.{Pending}
 use Rattle.bbm_roots.specs.declared.registers.Registers.{Registers}

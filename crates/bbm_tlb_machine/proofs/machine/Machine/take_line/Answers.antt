@@ -1,7 +1,7 @@
 use Rattle.std.proofs.Common.{Some, ◌∙◌, ap, sym}
 use Rattle.bbm_events.specs.declared.machine.MachineLine.{MachineLine}
 use Rattle.bbm_tlb_machine.specs.declared.step.Step.TheVariants.{Machine}
-use Rattle.bbm_tlb_machine.specs.Run.{State, step_to}
+use Rattle.bbm_tlb_machine.specs.MachineRun.{State, step_to}
 use Rattle.bbm_tlb_machine.proofs.FollowSteps.{made_step}
 use Rattle.bbm_tlb_machine.proofs.machine.Machine.take_line.Goals as goal
 

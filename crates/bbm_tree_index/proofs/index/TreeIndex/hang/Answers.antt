@@ -1,5 +1,5 @@
 use Rattle.std.proofs.Common.{◌≡◌, ℕ, refl, sym, subst}
-use Rattle.bbm_tree_index.specs.Least.{IsSurvey}
+use Rattle.bbm_tree_index.specs.LeastPages.{IsSurvey}
 use Rattle.bbm_tree_index.specs.Index.{heading_of, known_in}
 use Rattle.bbm_tree_index.specs.declared.index.TreeIndex.{TreeIndex}
 use Rattle.bbm_tree_index.proofs.Attaching.{fresh_after, node_from, node_to, null_after, sound_after, tables_known}

@@ -3,7 +3,7 @@ use Rattle.std.specs.Option.{option_map_or}
 use Rattle.bbm_tree_index.proofs.Indexes.{cut_in}
 use Rattle.bbm_tree_index.proofs.Limbo.{hanging, level_low}
 use Rattle.bbm_tree_index.specs.Climbs.{cut_by, passes_at}
-use Rattle.bbm_tree_index.specs.Held.{limbo_at}
+use Rattle.bbm_tree_index.specs.HeldCores.{limbo_at}
 use Rattle.bbm_tree_index.specs.Index.{node_in, role_in}
 use Rattle.bbm_tree_index.specs.declared.climb.Asked.TheVariants.{Invalid}
 use Rattle.bbm_tree_index.specs.declared.role.Role.TheVariants.{Hangs}

@@ -1,7 +1,7 @@
 use Rattle.std.proofs.Common.{◌≡◌, ℕ, refl, sym, ap, ◌∙◌, length, if◌then◌else◌, None, true, false}
 use Rattle.std.proofs.lemmas.List.{length-map}
 use Rattle.bbm_place_map.specs.Map.{marks_at, pends_at}
-use Rattle.bbm_entry_state.specs.Standing.{IsIdle}
+use Rattle.bbm_entry_state.specs.EntryStanding.{IsIdle}
 use Rattle.bbm_rules.specs.Places.{page_of}
 use Rattle.bbm_tree_index.specs.Index.{heading_of, known_in, pages_in, role_in}
 use Rattle.bbm_tree_index.specs.Leaving.{leaves_role}

@@ -3,7 +3,7 @@ use Rattle.indexmap.specs.IndexMap.{get}
 use Rattle.bbm_tree_index.proofs.Climbing.{SameTrees, put_trees}
 use Rattle.bbm_tree_index.proofs.Indexes.{fresh_out, node_kept, put_role, sound_kept}
 use Rattle.bbm_tree_index.proofs.Agreeing.{agrees_same}
-use Rattle.bbm_tree_index.specs.Agreement.{IsSound}
+use Rattle.bbm_tree_index.specs.IndexAgreement.{IsSound}
 use Rattle.bbm_tree_index.specs.Index.{heading_of, known_in, node_in, role_in}
 use Rattle.bbm_tree_index.specs.declared.index.TreeIndex.{TreeIndex}
 use Rattle.bbm_tree_index.specs.declared.role.Role.TheVariants.{Null}

@@ -1,4 +1,5 @@
-use Rattle.std.proofs.Common.{◌≡◌, ℕ, refl, sym, ap, ◌∙◌, nat_eq, Some, None, is_some, Bool, true, false, ◌==◌, ◌||◌, if◌then◌else◌, ◌<◌, ◌%◌, ◌^◌, subst, arith}
+use Rattle.std.proofs.Common.{◌≡◌, ℕ, refl, sym, ap, ◌∙◌, nat_eq, Some, None, is_some, Bool, true, false, ◌==◌, ◌||◌}
+use Rattle.std.proofs.Common.{if◌then◌else◌, ◌<◌, ◌%◌, ◌^◌, subst, arith}
 use Rattle.std.proofs.lemmas.Bool.{eqb-true}
 use Rattle.std.proofs.lemmas.Grind.{common_steps}
 use Rattle.indexmap.specs.IndexMap.{get}
@@ -8,7 +9,7 @@ use Rattle.bbm_rules.specs.Tree.{Node}
 use Rattle.bbm_tree_index.proofs.Agreeing.{SamePlace, agrees_same}
 use Rattle.bbm_tree_index.proofs.Climbing.{SameTrees, put_trees}
 use Rattle.bbm_tree_index.proofs.Indexes.{agrees_alike, node_kept, node_out, put_role, sound_alike, sound_kept}
-use Rattle.bbm_tree_index.specs.Agreement.{IsSound}
+use Rattle.bbm_tree_index.specs.IndexAgreement.{IsSound}
 use Rattle.bbm_tree_index.specs.Index.{heading_of, known_in, node_in, role_in}
 use Rattle.bbm_tree_index.specs.declared.index.TreeIndex.{TreeIndex}
 use Rattle.bbm_tree_index.specs.declared.role.Role.TheVariants.{Fresh}

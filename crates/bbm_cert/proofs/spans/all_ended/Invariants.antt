@@ -1,0 +1,8 @@
+use Rattle.std.proofs.Common.{◌≡◌, ℕ, ◌&&◌, nat_lt, take}
+use Rattle.bbm_regimes.specs.declared.regime.Tag.{Tag}
+use Rattle.bbm_cert.specs.Spans.{lasts}
+use Rattle.bbm_cert.proofs.spans.all_ended.Given as goal
+
+abbrev pub invariant-loop-span : goal.invariant-loop-span
+invariant-loop-span l = (p n : ℕ) (tag : Tag) → lasts l.next.items p tag n
+    ≡ (lasts (take l.span-index l.spans) p tag n && nat_lt n l.count)

@@ -1,0 +1,18 @@
+use Rattle.std.proofs.Common.{sym, ◌∙◌}
+use Rattle.std.proofs.lemmas.Result.{on_ok_weaker}
+use Rattle.bbm_rules.specs.Claims.Trust.{Patterns}
+use Rattle.bbm_certify.proofs.DueAdds.{spot_without, unseen_none}
+use Rattle.bbm_certify.proofs.places.add_where_seen.Goals as goal
+
+pub returns-then-has : goal.returns-then-has
+returns-then-has c = on_ok_weaker c.add_spot.result (λ adds newest k seen told. adds newest k told) c.add_spot.ensures
+
+pub returns-else-has : goal.returns-else-has
+returns-else-has c = λ newest k seen told.
+    let s = c.args.spot.now in
+    let heading = c.args.header.now in
+    spot_without heading s.place s.pe s.before c.args.log.now newest
+    (c.law_cleansed.ensures.sound heading Patterns s.place s.pe) (c.law_cleansed.ensures.complete heading Patterns s.place s.pe)
+    c.args.answer.now c.args.due.now.items k
+    (unseen_none heading s.place s.pe s.before c.args.log.now c.args.answer.now
+    (c.law_seen.ensures.complete heading s.place s.pe) (sym seen ∙ (sym c.has.ensures ∙ c.if-has.false)))

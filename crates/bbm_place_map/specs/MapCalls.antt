@@ -1,0 +1,44 @@
+-- What the calls that concern all broken places say of each.
+-- Source: project's own choice.
+use Rattle.std.specs.Prelude.{◌≡◌, ℕ, Bool, false, Some, nat_eq, not, ◌&&◌, if◌then◌else◌}
+use Rattle.std.specs.Fn.{FnReturns, Shared}
+use denote.Ref.{Bor}
+use Rattle.bbm_descriptor.specs.declared.desc.Core.{Core}
+use Rattle.bbm_entry_state.specs.Points.{is_broken}
+use Rattle.bbm_entry_state.specs.EntryStanding.{IsIdle}
+use Rattle.bbm_entry_state.specs.declared.marks.Marks.{Marks}
+use Rattle.bbm_entry_state.specs.declared.state.EntryState.{EntryState}
+use Rattle.bbm_tlbi_scope.specs.declared.entry.Cover.{Cover}
+use Rattle.bbm_place_map.specs.Each.{loses_table}
+use Rattle.bbm_place_map.specs.Map.{value_at, marks_at, pends_at, is_tracked, restless_in, restless_place}
+use Rattle.bbm_place_map.specs.States.{marks_of_state}
+use Rattle.bbm_place_map.specs.declared.map.PlaceMap.{PlaceMap}
+
+-- The place is broken, and the closure may answer, of this map, the place and the core that it is broken over, that a
+-- TLBI covers the place so far.
+pub record MayCover {F : Type 0} (calls : Shared F (Bor PlaceMap × (ℕ × (Core × Unit {0}))) Cover) (f : F) (map : PlaceMap)
+    (place : ℕ) (cover : Cover) : Type 0 where
+  pub shown : Bor PlaceMap
+  pub shows : shown.now ≡ map
+  pub marks : Marks
+  pub broken : marks_at map place ≡ Some marks
+  pub says : FnReturns calls f (shown, (place, (marks.core, tt))) cover
+
+-- whether a place was broken over a table, and isn't broken any more
+abbrev pub lost_table : PlaceMap → PlaceMap → ℕ → Bool
+lost_table old new a = loses_table (marks_at old a) (marks_at new a)
+
+-- A write leaves this state at the place: its marks, and what waits there where it is broken. What is elsewhere stays.
+pub record Leaves (state : EntryState) (place : ℕ) (old new : PlaceMap) : Type 0 where
+  pub marks : (a : ℕ) → marks_at new a ≡ (if nat_eq a place then marks_of_state state else marks_at old a)
+  pub pends : (q a : ℕ) → (nat_eq a place && not (is_broken state)) ≡ false → pends_at new q a ≡ pends_at old q a
+  pub dropped : (q : ℕ) → is_broken state ≡ false → IsIdle (pends_at new q place)
+
+-- no word tells the two maps apart
+pub record IsSame (old new : PlaceMap) : Type 0 where
+  pub values : (a : ℕ) → value_at new a ≡ value_at old a
+  pub marks : (a : ℕ) → marks_at new a ≡ marks_at old a
+  pub pends : (q a : ℕ) → pends_at new q a ≡ pends_at old q a
+  pub pages : (p : ℕ) → is_tracked new p ≡ is_tracked old p
+  pub restless : restless_in new ≡ restless_in old
+  pub places : (i : ℕ) → restless_place new i ≡ restless_place old i

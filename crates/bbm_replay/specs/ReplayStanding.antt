@@ -1,0 +1,98 @@
+-- What a checker without a history stands for. A history is newest first. Source: project's own choice.
+use Rattle.std.specs.Prelude.{◌≡◌, ℕ, true, false, List, ◌∷◌, length, Option, Some, None, Result, Err, OnErr, OnOk}
+use Rattle.bbm_place_map.specs.Map.{is_tracked, marks_at, pends_at, value_at}
+use Rattle.bbm_place_map.specs.declared.map.PlaceMap.{PlaceMap}
+use Rattle.bbm_tree_index.specs.IndexAgreement.{IsSound}
+use Rattle.bbm_tree_index.specs.Index.{fresh_in, heading_of, known_in, node_in, null_in, pages_in}
+use Rattle.bbm_tree_index.specs.declared.index.TreeIndex.{TreeIndex}
+use Rattle.bbm_replay_roots.specs.RootStateStands as roots
+use Rattle.bbm_events.specs.Fits.{fits_heading}
+use Rattle.bbm_rules.specs.Answers.{Answers, rewrites, takes_no_memory}
+use Rattle.bbm_rules.specs.Broken.{broken}
+use Rattle.bbm_rules.specs.Claims.Trust.{Patterns}
+use Rattle.bbm_descriptor.specs.declared.desc.Core.{Core}
+use Rattle.bbm_rules.specs.Limits.{limit_of}
+use Rattle.bbm_rules.specs.Places.{page_of}
+use Rattle.bbm_rules.specs.Rules.{break_before_make, limbo_make, no_lock, null_written}
+use Rattle.bbm_rules.specs.Tree.{Node}
+use Rattle.bbm_tree_index.specs.Nodes.{path_at}
+use Rattle.bbm_tree_index.specs.declared.role.Path.{Path}
+use Rattle.bbm_replay_trees.specs.Told.{notes}
+use Rattle.bbm_rules.specs.Prelude.{Heading, Event}
+use Rattle.bbm_rules.specs.declared.step_fault.StepFault.{StepFault}
+use Rattle.bbm_rules.specs.declared.step_fault.StepFault.TheVariants.{NoMemory}
+use Rattle.bbm_replay.specs.ReplayTold.{Told}
+use Rattle.bbm_replay.specs.View.{View, core_at}
+use Rattle.bbm_replay.specs.declared.parts.Parts.{Parts}
+use Rattle.bbm_replay.specs.declared.replay.Replay.{Replay}
+
+-- what a map and an index say
+abbrev pub view_of : PlaceMap → TreeIndex → View
+view_of map index = record {
+  value = value_at map;
+  marks = marks_at map;
+  pends = pends_at map;
+  tracked = is_tracked map;
+  node = node_in index;
+  fresh = fresh_in index;
+  null = null_in index;
+  known = known_in index;
+  pages = pages_in index;
+}
+
+-- The parts stand for a history that keeps the rules over all patterns of events.
+pub record Stands (parts : Parts) (heading : Heading) (h : List Event) : Type 0 where
+  pub header : parts.header ≡ heading
+  pub index_header : heading_of parts.index ≡ heading
+  pub sound : IsSound parts.index
+  pub told : Told heading h (view_of parts.map parts.index)
+  pub roots : roots.Stands parts.roots heading h
+
+-- they stand for a history of the event's header
+abbrev pub MayMeet : Parts → Event → Type 0
+MayMeet parts e = (heading : Heading) × (h : List Event) × Stands parts heading h × (fits_heading heading e ≡ true)
+
+-- want of memory comes only of an event that may take memory
+abbrev pub IsFrugal : Parts → Event → Result (Unit {0}) StepFault → Type 0
+IsFrugal parts e (Err NoMemory) = (heading : Heading) (h : List Event) → Stands parts heading h
+    → (takes_no_memory e ≡ false) × (rewrites heading h e ≡ false)
+IsFrugal parts e _ = Unit {0}
+
+-- The answer to an event, and what the parts stand for then: for the history with the event after Ok, and else for what
+-- they stood for.
+pub record Meets (old new : Parts) (e : Event) (result : Result (Unit {0}) StepFault) : Type 0 where
+  pub judged : (heading : Heading) (h : List Event) → Stands old heading h
+      → Answers result (broken heading Patterns h e) (limit_of h e)
+  pub taken : OnOk result ((heading : Heading) (h : List Event) → Stands old heading h → Stands new heading (e ∷ h))
+  pub unchanged : OnErr result ((heading : Heading) (h : List Event) → Stands old heading h → Stands new heading h)
+  pub frugal : IsFrugal old e result
+
+-- the checker stands for a history, as its parts do and with as many events as it counted
+pub record StandsFor (replay : Replay) (heading : Heading) (h : List Event) : Type 0 where
+  pub parts : Stands replay.parts heading h
+  pub counted : replay.events ≡ length h
+
+-- what no event changes: the header, also that of the index; and the index stays sound
+pub record SameFrame (old new : Parts) : Type 0 where
+  pub header : new.header ≡ old.header
+  pub index_header : heading_of new.index ≡ heading_of old.index
+  pub sound : IsSound old.index → IsSound new.index
+
+-- Of a write in a tree: the rules on locks, on null pages, on break-before-make and on limbo, which come first, are
+-- kept;
+-- or the event breaks one of them, and this is the answer.
+pub record Clears (parts : Parts) (e : Event) (result : Result (Unit {0}) StepFault) : Type 0 where
+  pub passed : OnOk result ((heading : Heading) (h : List Event) → Stands parts heading h
+      → (no_lock heading Patterns (notes heading h) e ≡ None)
+      × (null_written heading Patterns (notes heading h) e ≡ None)
+      × (break_before_make heading Patterns (notes heading h) e ≡ None)
+      × (limbo_make heading Patterns (notes heading h) e ≡ None))
+  pub refused : OnErr result (Meets parts parts e result)
+
+-- the place is one of a tree, at this path
+abbrev pub IsAt : Parts → ℕ → Path → Type 0
+IsAt parts place path = (n : Node) × (node_in parts.index (page_of place) ≡ Some n) × (path ≡ path_at n place)
+
+-- what a place of a tree holds
+abbrev pub Holds : Parts → ℕ → Path → Option Core → Type 0
+Holds parts place path held = held ≡ core_at (view_of parts.map parts.index) path.kind path.level place

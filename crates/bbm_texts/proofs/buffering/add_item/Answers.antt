@@ -1,0 +1,11 @@
+use Rattle.std.proofs.Common.{◌++◌, List, ℕ, subst}
+use Rattle.bbm_texts.specs.Generating.{ended}
+use Rattle.bbm_texts.specs.Writing.{Pours}
+use Rattle.bbm_texts.proofs.buffering.add_item.Goals as goal
+
+pub returns : goal.returns
+returns g c = record {
+  poured = λ text start faults buffered.
+      subst (λ (l : List ℕ). Pours (text ++ ended l) c.add_line.result c.add_line.new.buffer.items start (g.K.Sink.held c.add_line.new.out) faults (g.K.Sink.faults c.add_line.new.out)) c.write_event.ensures.line
+      (c.add_line.ensures.poured text start faults buffered);
+}

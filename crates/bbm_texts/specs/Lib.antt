@@ -1,0 +1,10 @@
+pub mod CertTexts
+pub mod Counterruns
+pub mod Generating
+pub mod Known
+pub mod RefusedLogs
+pub mod Says
+pub mod Shown
+pub mod Statuses
+pub mod Telling
+pub mod Writing
