@@ -1,6 +1,6 @@
 //! The first field of a line, read from its left, and the fields after it.
 
-ghost use Rattle.std.specs.Prelude.{◌≡◌, ◌^◌, ◌<◌, ◌++◌, ◌∷◌, [], IfSome};
+ghost use Rattle.std.specs.Prelude.{◌≡◌, ◌+◌, ◌*◌, ◌^◌, ◌<◌, ◌≤◌, get_or, length};
 ghost use Rattle.bbm_barriers.specs.declared.Domain.TheVariants.{Inner};
 ghost use Rattle.bbm_events.specs.Spelling.{decimal_value, fields, hex_value};
 ghost use Rattle.bbm_log_grammar.specs.Digits.{next_number, number_of};
@@ -9,7 +9,7 @@ ghost use Rattle.bbm_events.specs.Lines as lines;
 
 use crate::fields::{Fields, found};
 use crate::numbers::{four_hex, low_hex, next_decimal, next_hex};
-use crate::words::{DSBS, KEYWORDS, Worded, op_of};
+use crate::words::{DSBS, KEYWORDS, op_of};
 use bbm_barriers::{Domain, Dsb, Types};
 use bbm_events::{Keyword, Malformed};
 use bbm_tlbi_scope::TlbiOp;
@@ -171,58 +171,65 @@ pub(crate) fn first_hex<'a>(line: &'a [u8]) -> Option<(u64, Fields<'a>)>
     }
 }
 
-/// What stands behind the word, where the line begins with it.
-#[inline(always)]
-fn behind<'a>(line: &'a [u8], word: &[u8]) -> Option<&'a [u8]>
-    ensures { IfSome result (λ rest. line.now ≡ word.now ++ rest.now) }
+/// The first word of a line that the next field is, and the fields after it.
+#[inline(never)]
+fn any_keyword<'a>(fields: Fields<'a>) -> Result<(Keyword, Fields<'a>), Malformed>
+    ensures { result ≡ lines.keyword_field fields.entry }
 {
-    line.strip_prefix(word)
+    fields.word_or(&KEYWORDS, Malformed::MissingField, Malformed::UnknownWord)
 }
 
-/// The value and the fields after it, where the first field of the line is its word.
+/// The bytes `w `.
+const WRITE: u16 = 0x2077;
+/// The bytes `dsb `.
+const DSB: u32 = 0x2062_7364;
+/// The bytes `isb `.
+const ISB: u32 = 0x2062_7369;
+/// The bytes `dmb `.
+const DMB: u32 = 0x2062_6d64;
+/// The bytes `msr `.
+const MSR: u32 = 0x2072_736d;
+/// The bytes `tlbi`.
+const TLBI: u32 = 0x6962_6c74;
+/// The bytes `lock`.
+const LOCK: u32 = 0x6b63_6f6c;
+
+/// The first two bytes as a number, of which the first byte is the lowest, and the two after them; 0 and 0 where there
+/// are fewer than four.
 #[inline(always)]
-#[tactic(auto, using(crate::proofs::Begun::begun))]
-fn first_is<'a, T: Worded>(line: &'a [u8], value: T) -> Option<(T, Fields<'a>)>
-    requires { fields (T.word_of value) ≡ T.word_of value ∷ [] }
-    ensures { IfSome result (λ x. (x.0 ≡ value) × (fields line.now ≡ T.word_of value ∷ x.1)) }
+fn first_pairs(line: &[u8]) -> (u16, u16)
+    ensures few { length line.now < 4 → result ≡ (0, 0) }
+    ensures first { 4 ≤ length line.now → result.0 ≡ get_or line.now 0 0 + get_or line.now 1 0 * 256 }
+    ensures second { 4 ≤ length line.now → result.1 ≡ get_or line.now 2 0 + get_or line.now 3 0 * 256 }
 {
-    match behind(line, value.word()) {
-        Some([]) => Some((value, Fields::none())),
-        Some([b' ', rest @ ..]) => Some((value, Fields::of(rest))),
-        _ => None,
+    match line {
+        [a, b, c, d, ..] => (u16::from_le_bytes([*a, *b]), u16::from_le_bytes([*c, *d])),
+        _ => (0, 0),
     }
 }
 
-/// The first word of the line, and the fields after it; those of most lines are sought first.
+/// The first word of the line, and the fields after it; the words of most lines are found at once, by their first four
+/// bytes.
 #[inline(always)]
+#[tactic(auto, using(crate::proofs::Begun::begun))]
 pub(crate) fn first_keyword<'a>(line: &'a [u8]) -> Result<(Keyword, Fields<'a>), Malformed>
     ensures { result ≡ lines.keyword_field (fields line.now) }
 {
-    if let Some(found) = first_is(line, Keyword::Write) {
-        return Ok(found);
+    let (first, second) = first_pairs(line);
+    let word = first as u32 + second as u32 * 65536;
+    match line {
+        [_, _, rest @ ..] if first == WRITE => Ok((Keyword::Write, Fields::of(rest))),
+        [_, _, _, _, rest @ ..] if word == DSB => Ok((Keyword::Dsb, Fields::of(rest))),
+        [_, _, _, _, b' ', rest @ ..] if word == TLBI => Ok((Keyword::Tlbi, Fields::of(rest))),
+        [_, _, _, _, rest @ ..] if word == ISB => Ok((Keyword::Isb, Fields::of(rest))),
+        [_, _, _, _, rest @ ..] if word == DMB => Ok((Keyword::Dmb, Fields::of(rest))),
+        [_, _, _, _, rest @ ..] if word == MSR => Ok((Keyword::Msr, Fields::of(rest))),
+        [_, _, _, _, b' ', rest @ ..] if word == LOCK => Ok((Keyword::Lock, Fields::of(rest))),
+        [b'u', b'n', b'l', b'o', b'c', b'k', b' ', rest @ ..] => {
+            Ok((Keyword::Unlock, Fields::of(rest)))
+        }
+        _ => any_keyword(Fields::of(line)),
     }
-    if let Some(found) = first_is(line, Keyword::Dsb) {
-        return Ok(found);
-    }
-    if let Some(found) = first_is(line, Keyword::Tlbi) {
-        return Ok(found);
-    }
-    if let Some(found) = first_is(line, Keyword::Isb) {
-        return Ok(found);
-    }
-    if let Some(found) = first_is(line, Keyword::Dmb) {
-        return Ok(found);
-    }
-    if let Some(found) = first_is(line, Keyword::Msr) {
-        return Ok(found);
-    }
-    if let Some(found) = first_is(line, Keyword::Lock) {
-        return Ok(found);
-    }
-    if let Some(found) = first_is(line, Keyword::Unlock) {
-        return Ok(found);
-    }
-    Fields::of(line).word_or(&KEYWORDS, Malformed::MissingField, Malformed::UnknownWord)
 }
 
 /// The barrier of the inner shareable domain for these accesses.
@@ -236,18 +243,29 @@ fn inner(types: Types) -> Dsb
     }
 }
 
-/// The option of a barrier that the line begins with, and the fields after it; those of most lines are sought first.
+/// The option of a barrier that the next field is, and the fields after it.
+#[inline(never)]
+fn any_dsb<'a>(fields: Fields<'a>) -> Result<(Dsb, Fields<'a>), Malformed>
+    ensures { result ≡ lines.dsb_field fields.entry }
+{
+    fields.word_or(&DSBS, Malformed::MissingField, Malformed::UnknownWord)
+}
+
+/// The option of a barrier that the line begins with, and the fields after it; those of most lines are found at once.
 #[inline(always)]
+#[tactic(auto, using(crate::proofs::Begun::options_begun))]
 pub(crate) fn first_dsb<'a>(line: &'a [u8]) -> Result<(Dsb, Fields<'a>), Malformed>
     ensures { result ≡ lines.dsb_field (fields line.now) }
 {
-    if let Some(found) = first_is(line, inner(Types::All)) {
-        return Ok(found);
+    match line {
+        b"ish" => Ok((inner(Types::All), Fields::none())),
+        b"ishst" => Ok((inner(Types::Stores), Fields::none())),
+        [b'i', b's', b'h', b' ', rest @ ..] => Ok((inner(Types::All), Fields::of(rest))),
+        [b'i', b's', b'h', b's', b't', b' ', rest @ ..] => {
+            Ok((inner(Types::Stores), Fields::of(rest)))
+        }
+        _ => any_dsb(Fields::of(line)),
     }
-    if let Some(found) = first_is(line, inner(Types::Stores)) {
-        return Ok(found);
-    }
-    Fields::of(line).word_or(&DSBS, Malformed::MissingField, Malformed::UnknownWord)
 }
 
 /// The operation of a TLBI that the next field is, and the fields after it.
@@ -261,31 +279,40 @@ fn any_op<'a>(fields: Fields<'a>) -> Result<(TlbiOp, Fields<'a>), Malformed>
     }
 }
 
-/// The operation of a TLBI that the line begins with, and the fields after it; those of most lines are sought first.
+/// The operation of a TLBI that the line begins with, and the fields after it; those of most lines are found at once.
 #[inline(always)]
+#[tactic(auto, using(crate::proofs::Begun::operations_begun))]
 pub(crate) fn first_op<'a>(line: &'a [u8]) -> Result<(TlbiOp, Fields<'a>), Malformed>
     ensures { result ≡ named_op (fields line.now) }
 {
-    if let Some(found) = first_is(line, TlbiOp::Vae2is) {
-        return Ok(found);
+    match line {
+        [b'v', b'a', b'e', b'2', b'i', b's', b' ', rest @ ..] => {
+            Ok((TlbiOp::Vae2is, Fields::of(rest)))
+        }
+        [b'v', b'a', b'l', b'e', b'2', b'i', b's', b' ', rest @ ..] => {
+            Ok((TlbiOp::Vale2is, Fields::of(rest)))
+        }
+        [b'v', b'a', b'e', b'1', b'i', b's', b' ', rest @ ..] => {
+            Ok((TlbiOp::Vae1is, Fields::of(rest)))
+        }
+        [b'v', b'a', b'l', b'e', b'1', b'i', b's', b' ', rest @ ..] => {
+            Ok((TlbiOp::Vale1is, Fields::of(rest)))
+        }
+        [
+            b'i',
+            b'p',
+            b'a',
+            b's',
+            b'2',
+            b'e',
+            b'1',
+            b'i',
+            b's',
+            b' ',
+            rest @ ..,
+        ] => { Ok((TlbiOp::Ipas2e1is, Fields::of(rest))) }
+        b"vmalle1is" => Ok((TlbiOp::Vmalle1is, Fields::none())),
+        b"alle2is" => Ok((TlbiOp::Alle2is, Fields::none())),
+        _ => any_op(Fields::of(line)),
     }
-    if let Some(found) = first_is(line, TlbiOp::Vale2is) {
-        return Ok(found);
-    }
-    if let Some(found) = first_is(line, TlbiOp::Vae1is) {
-        return Ok(found);
-    }
-    if let Some(found) = first_is(line, TlbiOp::Vale1is) {
-        return Ok(found);
-    }
-    if let Some(found) = first_is(line, TlbiOp::Ipas2e1is) {
-        return Ok(found);
-    }
-    if let Some(found) = first_is(line, TlbiOp::Vmalle1is) {
-        return Ok(found);
-    }
-    if let Some(found) = first_is(line, TlbiOp::Alle2is) {
-        return Ok(found);
-    }
-    any_op(Fields::of(line))
 }

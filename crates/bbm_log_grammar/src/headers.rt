@@ -1,8 +1,9 @@
 //! The first line.
 
-ghost use Rattle.std.specs.Prelude.{◌≡◌, ◌||◌, not, true, if◌then◌else◌, Some, None, IfOk, IfErr};
+ghost use Rattle.std.specs.Prelude.{◌≡◌, ◌||◌, not, true, if◌then◌else◌, Some, None, IfOk, IfErr, IfSome};
 ghost use Rattle.bbm_regimes.specs.declared.regime.World.TheVariants.{Hyp, Kernel};
 ghost use Rattle.bbm_regimes.specs.World.{world_ok};
+ghost use Rattle.bbm_regimes.specs.declared.regime.World.{World as TheWorld};
 ghost use Rattle.bbm_events.specs.Causes.{IsHeaderCause};
 ghost use Rattle.bbm_events.specs.Heading as heading;
 ghost use Rattle.bbm_events.specs.Spelling.{decimal_value};
@@ -62,7 +63,8 @@ fn are_pes(version: u8, pes: u64) -> bool
 
 /// The Hyp world with these numbers, where they are in their ranges.
 fn hyp_world(el2_start: u64, s2_start: u64, s2_pages: u64) -> Option<World>
-    ensures { result
+    ensures fits { IfSome result (λ world. world_ok world ≡ true) }
+    ensures world { result
         ≡ lines.passing world_ok
         (Some (Hyp (record { el2_start = el2_start; s2_start = s2_start; s2_pages = s2_pages }))) }
 {
@@ -84,7 +86,8 @@ fn hyp_world(el2_start: u64, s2_start: u64, s2_pages: u64) -> Option<World>
 
 /// The Kernel world with these numbers, where they are in their ranges.
 fn kernel_world(start0: u64, start1: u64, asid_from: AsidFrom) -> Option<World>
-    ensures { result
+    ensures fits { IfSome result (λ world. world_ok world ≡ true) }
+    ensures world { result
         ≡ lines.passing world_ok (Some (Kernel (record { start0 = start0; start1 = start1; asid_from = asid_from }))) }
 {
     if start0 <= 2 && start1 <= 2 {
@@ -122,51 +125,22 @@ fn checked(
     })
 }
 
-/// The header of the Hyp world with these numbers, where they are in their ranges.
+/// The header in this world, where there is one, the version allows so many PEs and no field is left.
 #[tactic(auto, using(crate::proofs::WorldFaults::unfit_world))]
-fn hyp_header(
+fn header_in(
     version: u8,
     pes: u64,
     cnp: bool,
-    numbers: (u64, u64, u64),
+    world: Option<World>,
     fields: Fields,
 ) -> Result<Header, Malformed>
     requires version { heading.is_version version ≡ true }
     requires shares { (heading.may_share version || not cnp) ≡ true }
-    ensures { result ≡ lines.checked (record {
-      version = version;
-      pes = pes;
-      cnp = cnp;
-      world
-          = Hyp (record { el2_start = numbers.0; s2_start = numbers.1; s2_pages = numbers.2 });
-    }) fields.entry }
+    requires world { IfSome world (λ it. world_ok it ≡ true) }
+    ensures { (it : TheWorld) → world ≡ lines.passing world_ok (Some it)
+        → result ≡ lines.checked (record { version = version; pes = pes; cnp = cnp; world = it }) fields.entry }
 {
-    match hyp_world(numbers.0, numbers.1, numbers.2) {
-        Some(world) => checked(version, pes, cnp, world, fields),
-        None => Err(Malformed::BadHeader),
-    }
-}
-
-/// The header of the Kernel world with these numbers, where they are in their ranges.
-#[tactic(auto, using(crate::proofs::WorldFaults::unfit_world))]
-fn kernel_header(
-    version: u8,
-    pes: u64,
-    cnp: bool,
-    starts: (u64, u64, AsidFrom),
-    fields: Fields,
-) -> Result<Header, Malformed>
-    requires version { heading.is_version version ≡ true }
-    requires shares { (heading.may_share version || not cnp) ≡ true }
-    ensures { result ≡ lines.checked (record {
-      version = version;
-      pes = pes;
-      cnp = cnp;
-      world
-          = Kernel (record { start0 = starts.0; start1 = starts.1; asid_from = starts.2 });
-    }) fields.entry }
-{
-    match kernel_world(starts.0, starts.1, starts.2) {
+    match world {
         Some(world) => checked(version, pes, cnp, world, fields),
         None => Err(Malformed::BadHeader),
     }
@@ -181,7 +155,13 @@ fn hyp_fields(version: u8, fields: Fields) -> Result<Header, Malformed>
     let (s2_start, fields) = number_field(fields)?;
     let (s2_pages, fields) = number_field(fields)?;
     let (cnp, fields) = cnp_field(version, fields)?;
-    hyp_header(version, pes, cnp, (el2_start, s2_start, s2_pages), fields)
+    header_in(
+        version,
+        pes,
+        cnp,
+        hyp_world(el2_start, s2_start, s2_pages),
+        fields,
+    )
 }
 
 fn kernel_fields(version: u8, fields: Fields) -> Result<Header, Malformed>
@@ -193,7 +173,13 @@ fn kernel_fields(version: u8, fields: Fields) -> Result<Header, Malformed>
     let (start1, fields) = number_field(fields)?;
     let (asid_from, fields) = asid_from_field(fields)?;
     let (cnp, fields) = cnp_field(version, fields)?;
-    kernel_header(version, pes, cnp, (start0, start1, asid_from), fields)
+    header_in(
+        version,
+        pes,
+        cnp,
+        kernel_world(start0, start1, asid_from),
+        fields,
+    )
 }
 
 /// The fields after the word of the world.
