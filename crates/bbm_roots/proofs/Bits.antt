@@ -62,28 +62,15 @@ same_tag-true (Asid v) (Asid w) e = ap Asid (eqb-true v w e)
 same_tag-true Ttbr1 Ttbr1 e = refl
 same_tag-true _ _ e = absurd (false≢true e)
 
-pub same_flag-comm : (a b : Bool) → same_flag a b ≡ same_flag b a
-same_flag-comm true true = refl
-same_flag-comm true false = refl
-same_flag-comm false true = refl
-same_flag-comm false false = refl
-
 pub same_tag-self : (g : Tag) → same_tag g g ≡ true
 same_tag-self El2 = refl
 same_tag-self (Vmid v) = eq-eqb v v refl
 same_tag-self (Asid a) = eq-eqb a a refl
 same_tag-self Ttbr1 = refl
 
--- the entry of a tag and a root is its own tag's and root's
+-- the entry of a tag and a root is its own tag's
 pub hold-tag : (g : Tag) (r : ℕ) (x : Held) → is_hold g r x ≡ true → x.tag ≡ g
 hold-tag g r x e = same_tag-true x.tag g (first_true (same_tag x.tag g) (nat_eq x.root r) e)
 
-pub hold-root : (g : Tag) (r : ℕ) (x : Held) → is_hold g r x ≡ true → x.root ≡ r
-hold-root g r x e = eqb-true x.root r (and_right (same_tag x.tag g) (nat_eq x.root r) e)
-
 pub hold-self : (x : Held) → is_hold x.tag x.root x ≡ true
 hold-self x = ap (λ (b : Bool). b && nat_eq x.root x.root) (same_tag-self x.tag) ∙ eq-eqb x.root x.root refl
-
-pub same_flag-self : (b : Bool) → same_flag b b ≡ true
-same_flag-self true = refl
-same_flag-self false = refl

@@ -9,13 +9,13 @@ use Rattle.std.proofs.lemmas.Option.{get_or_from_slice_get}
 use Rattle.indexmap.specs.IndexMap.{IndexMap, values}
 use Rattle.bbm_regimes.specs.PeMask.{pe_in}
 use Rattle.bbm_regimes.specs.declared.regime.Tag.{Tag}
-use Rattle.bbm_roots.specs.Holds.{is_hold, entry_bit, entry_held, is_held_by, is_held_under, has_hold, hold_in, tag_in}
+use Rattle.bbm_roots.specs.Holds.{is_hold, entry_bit, entry_held, is_held_by, is_held_under, hold_in, tag_in}
 use Rattle.bbm_roots.specs.Holds.{tag_key}
 use Rattle.bbm_roots.specs.Readings.{same_tag, has_other, is_reading, is_other}
 use Rattle.bbm_roots.specs.declared.hold.Held.{Held}
 use Rattle.bbm_roots.specs.declared.reading.Reading.{Reading}
 use Rattle.bbm_roots.proofs.Bits.{and_right, same_tag-true}
-use Rattle.bbm_roots.proofs.Lists.{any-next}
+use Rattle.bbm_roots.proofs.Lists.{any-next, any-front}
 use mathlib.Core.Bool.{or-false}
 use Rattle.bbm_lemmas.proofs.Bools.{first_true}
 
@@ -30,10 +30,15 @@ found-among entry test none some key (x ∷ xs) e = by_key (found-among entry te
     by_key rest true e = or_left (test x.1) (list_any test (values_of xs)) (some x.1 e)
     by_key rest false e = or_right (test x.1) (list_any test (values_of xs)) (rest e)
 
--- a tag that is held has an entry for its root
-pub held-among : {S : Type 0} (hs : IndexMap ℕ Held S) (g : Tag) (r p : ℕ) → hold_in hs g r p ≡ true → has_hold g r (values hs) ≡ true
+-- whether an entry is one of the tag
+abbrev pub is_held_as : Tag → Held → Bool
+is_held_as g x = same_tag x.tag g
+
+-- a tag that is held has an entry
+pub held-among : {S : Type 0} (hs : IndexMap ℕ Held S) (g : Tag) (r p : ℕ) → hold_in hs g r p ≡ true → list_any (is_held_as g) (values hs) ≡ true
 held-among hs g r p =
-    found-among (entry_bit g r p) (is_hold g r) refl (λ (x : Held) e. first_true (is_hold g r x) (pe_in x.pes p) e)
+    found-among (entry_bit g r p) (is_held_as g) refl
+    (λ (x : Held) e. first_true (same_tag x.tag g) (nat_eq x.root r) (first_true (is_hold g r x) (pe_in x.pes p) e))
     (nat_eq (tag_key g)) hs.entries
 
 module _ (n root : ℕ) where
@@ -71,6 +76,9 @@ module _ (n root : ℕ) where
     pub shown-next : (e : ℕ × Held) → i < length hs.entries → slice_get hs.entries i ≡ Some e → (g : Tag) →
         list_any (shows g) (take (i + 1) hs.entries) ≡ (shows_before g || shows g e)
     shown-next e below found g = any-next (shows g) hs.entries i e below (sym (get_or_from_slice_get hs.entries i e e found))
+
+    pub shown-front : IsDistinct nat_eq (keys_of hs.entries) → (g : Tag) → shows_before g ≡ true → tag_in hs n g root ≡ true
+    shown-front distinct g e = sym (shown-among g hs.entries distinct) ∙ any-front (shows g) i hs.entries e
 
     pub shown : IsDistinct nat_eq (keys_of hs.entries) → length hs.entries ≤ i → (g : Tag) → tag_in hs n g root ≡ shows_before g
     shown distinct all g = sym (ap (list_any (shows g)) (take_all i hs.entries all) ∙ shown-among g hs.entries distinct)

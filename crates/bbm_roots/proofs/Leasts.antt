@@ -37,15 +37,13 @@ module _ {X : Type 0} (before : X → X → Type 0) where
         IsLeast before (λ y. test y || hit y) (Some x)
     least-first x at none other = least-take x at (λ y e. absurd (false≢true (sym (none y) ∙ e))) other
 
-pub up-to-trans : (x y z : Reading) → ReadingUpTo x y → ReadingUpTo y z → ReadingUpTo x z
-up-to-trans x y z f g = (
-  omega (arith, f.0, g.0),
-  λ e. let xy : x.root ≡ y.root = omega (arith, f.0, g.0, e) in let yz : y.root ≡ z.root = omega (arith, f.0, g.0, e) in
-      omega (arith, f.1 xy, g.1 yz),
-)
-
 -- sets of tags
 pub tags-same : (test other : Tag → Bool) → ((g : Tag) → other g ≡ test g) → (set : TagSet) → HasTags test set → HasTags other set
 tags-same test other same NoTag h = λ g. same g ∙ h g
 tags-same test other same (One t) h = λ g. same g ∙ h g
 tags-same test other same Many h = (h.0, h.1, h.2, same h.0 ∙ h.3, same h.1 ∙ h.4)
+
+-- two tags stay two where more pass
+pub tags-more : (test other : Tag → Bool) → ((g : Tag) → test g ≡ true → other g ≡ true) → HasTags test Many →
+    HasTags other Many
+tags-more test other more h = (h.0, h.1, h.2, more h.0 h.3, more h.1 h.4)

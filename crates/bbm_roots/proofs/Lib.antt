@@ -1,6 +1,7 @@
 pub mod Columns
 pub mod Bits
 pub mod Lists
+pub mod Places
 pub mod PendingBits
 pub mod Flat
 pub mod Steps

@@ -26,7 +26,7 @@ pub record Made (world : World) (pes : ℕ) (roots : Roots) (cs : List Call) : T
   pub holds : (tag : Tag) (root p : ℕ) → hold_in roots.holds tag root p ≡ holds_at world cs tag root p
   pub inside : (tag : Tag) (root p : ℕ) → pes ≤ p → holds_at world cs tag root p ≡ false
   pub pendings : (q : ℕ) (broadcast : Bool) (tag : Tag) (root p : ℕ) → holds_at world cs tag root p ≡ true →
-      pending_in roots.pendings.items q broadcast tag p ≡ awaited world cs q broadcast tag p
+      pending_in roots.pendings q broadcast tag p ≡ awaited world cs q broadcast tag p
   pub apart : are_apart (roots_of cs) ≡ true
   pub named : (p : ℕ) (reg : Reg) (page : ℕ) → is_of_world world reg ≡ true →
       names_in (register_values cs p reg) page ≡ true → is_root cs (kind_of_reg reg) page ≡ true

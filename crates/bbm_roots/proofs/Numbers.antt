@@ -13,15 +13,6 @@ use Rattle.bbm_roots.proofs.Bits.{and_right}
 use Rattle.bbm_roots.proofs.Leasts.{or-split}
 use Rattle.bbm_lemmas.proofs.Bools.{first_none, second_none, first_true}
 
--- the first PE below a number at which a test holds
-pub first-found : (n pes : ℕ) (f : ℕ → Bool) → n < pes → f n ≡ true → ((p : ℕ) → p < n → f p ≡ false) →
-    IsLeast UpTo (λ p. nat_lt p pes && f p) (Some n)
-first-found n pes f lt at before = (
-  ap (λ (b : Bool). b && f n) (lt-ltb n pes lt) ∙ at,
-  λ y e. ⊎_elim (λ (less : y < n). absurd (false≢true (sym (before y less) ∙ and_right (nat_lt y pes) (f y) e)))
-      (λ (past : n ≤ y). past) (cases_lt y n),
-)
-
 pub none-found : (pes : ℕ) (f : ℕ → Bool) → ((p : ℕ) → p < pes → f p ≡ false) → IsLeast UpTo (λ p. nat_lt p pes && f p) None
 none-found pes f before p = by_case (nat_lt p pes) refl
   where

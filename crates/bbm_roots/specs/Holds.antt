@@ -1,7 +1,6 @@
 -- Which PEs hold a tag for a root: a map from the key of a tag to the root and the set of them.
 use Rattle.std.specs.Prelude.{◌≡◌, ℕ, zero, suc, ◌+◌, ◌*◌, Bool, true, false, ◌&&◌, ◌||◌, nat_eq, ◌==◌, List}
 use Rattle.std.specs.Prelude.{Option, Some, None, is_some}
-use Rattle.std.specs.List.{list_any}
 use Rattle.bbm_regimes.specs.PeMask.{pe_in}
 use Rattle.indexmap.specs.IndexMap.{IndexMap, get}
 use Rattle.bbm_regimes.specs.declared.regime.Tag.{Tag}
@@ -16,10 +15,6 @@ is_hold tag root held = same_tag held.tag tag && held.root == root
 
 abbrev pub holds_bit : Tag → ℕ → ℕ → Held → Bool
 holds_bit tag root p held = is_hold tag root held && pe_in held.pes p
-
--- whether one of the entries is that of the tag and the root
-abbrev pub has_hold : Tag → ℕ → List Held → Bool
-has_hold tag root holds = list_any (is_hold tag root) holds
 
 -- The key of a tag, which is no other tag's. Source: project's own choice.
 abbrev pub tag_key : Tag → ℕ

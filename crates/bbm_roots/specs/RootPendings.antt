@@ -1,41 +1,63 @@
--- Whole-tag TLBIs that no DSB has answered yet: for each issuer and tag the PEs at which the tag is taken away by
--- the answer.
-use Rattle.std.specs.Prelude.{ℕ, Bool, true, false, not, ◌&&◌, ◌==◌, List}
-use Rattle.std.specs.List.{list_any}
+-- Whole-tag TLBIs that no DSB has answered yet: for each issuer, broadcast ones and others apart, a map from the key
+-- of a tag to the PEs at which the tag is taken away by the answer.
+use Rattle.std.specs.Prelude.{ℕ, zero, suc, ◌+◌, ◌*◌, Bool, true, false, not, ◌&&◌, ◌||◌, nat_eq, nat_lt, List, [], ◌∷◌}
+use Rattle.std.specs.Prelude.{Option, Some, None, is_some}
+use Rattle.indexmap.specs.IndexMap.{IndexMap, get}
 use Rattle.bbm_barriers.specs.Options.{answers}
 use Rattle.bbm_barriers.specs.declared.Dsb.{Dsb}
 use Rattle.bbm_regimes.specs.PeMask.{pe_in}
 use Rattle.bbm_regimes.specs.declared.regime.Tag.{Tag}
-use Rattle.bbm_roots.specs.declared.pending.Pending.{Pending}
-use Rattle.bbm_roots.specs.Readings.{same_tag}
+use Rattle.bbm_roots.specs.Columns.{loads_in}
+use Rattle.bbm_roots.specs.Holds.{tag_key}
+use Rattle.bbm_roots.specs.Readings.{same_tag, reads_tag}
+use Rattle.bbm_roots.specs.declared.pending.Pendings.{Pendings}
+use Rattle.bbm_roots.specs.declared.pending.Waiting.{Waiting}
+use Rattle.bbm_roots.specs.declared.registers.Registers.{Registers}
 
 abbrev pub same_flag : Bool → Bool → Bool
 same_flag true b = b
 same_flag false b = not b
 
--- whether an entry is that of the issuer's TLBIs that are broadcast or aren't and take the tag, with p in it
-abbrev pub is_pending : ℕ → Bool → Tag → Pending → Bool
-is_pending q broadcast tag pending =
-    pending.issuer == q && same_flag pending.broadcast broadcast && same_tag pending.tag tag
+-- the place of an issuer's broadcast TLBIs, and that of its others
+abbrev pub slot_of : ℕ → Bool → ℕ
+slot_of q true = 2 * q + 1
+slot_of q false = 2 * q
 
-abbrev pub pending_bit : ℕ → Bool → Tag → ℕ → Pending → Bool
-pending_bit q broadcast tag p pending = is_pending q broadcast tag pending && pe_in pending.pes p
+-- whether an entry is that of the tag, with p in it
+abbrev pub wait_bit : Tag → ℕ → Option Waiting → Bool
+wait_bit tag p None = false
+wait_bit tag p (Some w) = same_tag w.tag tag && pe_in w.pes p
 
-abbrev pub has_pending : ℕ → Bool → Tag → List Pending → Bool
-has_pending q broadcast tag pendings = list_any (is_pending q broadcast tag) pendings
+-- the entry under a key in a place
+abbrev pub wait_at : {S : Type 0} → List (IndexMap ℕ Waiting S) → ℕ → ℕ → Option Waiting
+wait_at [] n key = None
+wait_at (m ∷ ms) zero key = get nat_eq m key
+wait_at (m ∷ ms) (suc n) key = wait_at ms n key
 
-abbrev pub pending_in : List Pending → ℕ → Bool → Tag → ℕ → Bool
-pending_in pendings q broadcast tag p = list_any (pending_bit q broadcast tag p) pendings
+-- whether a place has an entry of the tag, and one with p in it
+module _ {S : Type 0} (waits : IndexMap ℕ Waiting S) where
+  abbrev pub has_wait : Tag → Bool
+  has_wait tag = is_some (get nat_eq waits (tag_key tag))
 
--- whether a DSB of q answers the entry's TLBIs, and whether it takes the tag away at p
-abbrev pub is_answered : ℕ → Dsb → Pending → Bool
-is_answered q dsb pending = pending.issuer == q && answers dsb pending.broadcast
+  abbrev pub wait_in : Tag → ℕ → Bool
+  wait_in tag p = wait_bit tag p (get nat_eq waits (tag_key tag))
 
-abbrev pub is_open : ℕ → Dsb → Pending → Bool
-is_open q dsb pending = not (is_answered q dsb pending)
+-- whether there is an entry of q's TLBIs for the tag that are broadcast or aren't, and one with p in it
+abbrev pub has_pending : Pendings → ℕ → Bool → Tag → Bool
+has_pending ps q broadcast tag =
+    pe_in ps.issuers q && is_some (wait_at ps.waits.items (slot_of q broadcast) (tag_key tag))
 
-abbrev pub answered_bit : ℕ → Dsb → Tag → ℕ → Pending → Bool
-answered_bit q dsb tag p pending = is_answered q dsb pending && same_tag pending.tag tag && pe_in pending.pes p
+abbrev pub pending_in : Pendings → ℕ → Bool → Tag → ℕ → Bool
+pending_in ps q broadcast tag p =
+    pe_in ps.issuers q && wait_bit tag p (wait_at ps.waits.items (slot_of q broadcast) (tag_key tag))
 
-abbrev pub answered_in : List Pending → ℕ → Dsb → Tag → ℕ → Bool
-answered_in pendings q dsb tag p = list_any (answered_bit q dsb tag p) pendings
+-- whether a DSB of q takes the tag away at p
+abbrev pub answered_in : Pendings → ℕ → Dsb → Tag → ℕ → Bool
+answered_in ps q dsb tag p =
+    (answers dsb true && pending_in ps q true tag p) || (answers dsb false && pending_in ps q false tag p)
+
+-- whether a TLBI of q, broadcast or not, reaches p while the tag is readable there for no root
+abbrev pub unread_at : Registers → ℕ → Bool → Tag → ℕ → Bool
+unread_at registers q broadcast tag p =
+    nat_lt p registers.pes && ((broadcast || nat_eq p q)
+    && not (reads_tag registers.world (loads_in registers.first.items p) (loads_in registers.second.items p) tag))

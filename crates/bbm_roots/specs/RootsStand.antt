@@ -40,7 +40,7 @@ pub record Stands (roots : Roots) (cs : List Call) : Type 0 where
   pub holds : (tag : Tag) (root p : ℕ) → hold_in roots.holds tag root p ≡ holds_at (world_of roots) cs tag root p
   pub inside : (tag : Tag) (root p : ℕ) → pes_of roots ≤ p → holds_at (world_of roots) cs tag root p ≡ false
   pub pendings : (q : ℕ) (broadcast : Bool) (tag : Tag) (root p : ℕ) → holds_at (world_of roots) cs tag root p ≡ true →
-      pending_in roots.pendings.items q broadcast tag p ≡ awaited (world_of roots) cs q broadcast tag p
+      pending_in roots.pendings q broadcast tag p ≡ awaited (world_of roots) cs q broadcast tag p
   pub apart : are_apart (roots_of cs) ≡ true
   pub named : (p : ℕ) (reg : Reg) (page : ℕ) → is_of_world (world_of roots) reg ≡ true →
       names_in (register_values cs p reg) page ≡ true → is_root cs (kind_of_reg reg) page ≡ true
@@ -53,4 +53,4 @@ IsPrepared roots = (0 < spare roots.declared) × (index_map_len roots.declared <
 -- there is an entry for each tag that a TLBI of the issuer, of this scope and under this VMID, takes and that is held
 abbrev pub IsReady : Roots → ℕ → Scope → Option ℕ → Type 0
 IsReady roots issuer scope vmid = (tag : Tag) (root p : ℕ) → hold_in roots.holds tag root p ≡ true
-    → takes_whole_tag scope vmid tag ≡ true → has_pending issuer scope.broadcast tag roots.pendings.items ≡ true
+    → takes_whole_tag scope vmid tag ≡ true → has_pending roots.pendings issuer scope.broadcast tag ≡ true

@@ -7,11 +7,12 @@ ghost use Rattle.indexmap.specs.IndexMap.{get, values};
 ghost use Rattle.bbm_regimes.specs.PeMask.{pe_in};
 ghost use Rattle.bbm_regimes.specs.declared.regime.Tag.{Tag as TheTag};
 ghost use Rattle.bbm_roots.specs.Holds as spec;
-ghost use Rattle.bbm_roots.specs.RootPendings.{answered_bit, answered_in};
+ghost use Rattle.bbm_barriers.specs.Options.{answers as dsb_answers};
+ghost use Rattle.bbm_roots.specs.RootPendings.{same_flag, slot_of, wait_at, wait_bit, wait_in};
 ghost use Rattle.bbm_roots.specs.Readings.{same_tag as spec_same_tag, has_reading as spec_has_reading};
 ghost use Rattle.bbm_roots.specs.Readings.{has_tag as spec_has_tag};
 
-use crate::pending::{Pending, is_answered};
+use crate::pending::{Waiting, Waits, answers, slot};
 use crate::reading::Reading;
 use bbm_barriers::Dsb;
 use bbm_regimes::{NoMemory, Page, Pe, PeMask, Tag, same_tag};
@@ -205,22 +206,64 @@ fn without(held: Held, pes: PeMask) -> Option<Held>
     }
 }
 
-/// Takes the tags away that a DSB of the issuer takes away.
-pub fn release(holds: &mut Holds, pendings: &[Pending], issuer: Pe, dsb: Dsb)
-    ensures { (g : TheTag) (r p : ℕ) → spec.hold_in holds.new g r p
-        ≡ (spec.hold_in holds.old g r p && not (answered_in pendings.now issuer dsb g p)) }
+/// Takes away at these PEs the tag that waits under the key. Under the key of another tag nothing waits.
+fn release_under(holds: &mut Holds, key: u32, waiting: Waiting)
+    ensures { (g : TheTag) (r p : ℕ) → spec.hold_in holds.new g r p ≡ (spec.hold_in holds.old g r p
+        && not (nat_eq (spec.tag_key g) key && wait_bit g p (Some waiting))) }
 {
-    for pending in pendings {
-        release_one(holds, pending, issuer, dsb);
+    if tag_key(waiting.tag) == key {
+        take_from(holds, waiting.tag, waiting.pes);
     }
 }
 
-/// Takes the entry's tag away where a DSB of the issuer answers the entry's TLBIs.
-fn release_one(holds: &mut Holds, pending: &Pending, issuer: Pe, dsb: Dsb)
-    ensures { (g : TheTag) (r p : ℕ) → spec.hold_in holds.new g r p
-        ≡ (spec.hold_in holds.old g r p && not (answered_bit issuer dsb g p pending.now)) }
+/// Takes the tags away that wait in this place, and empties it.
+fn release_all(holds: &mut Holds, waits: &mut Waits)
+    ensures holds { (g : TheTag) (r p : ℕ) → spec.hold_in holds.new g r p
+        ≡ (spec.hold_in holds.old g r p && not (wait_in waits.old g p)) }
+    ensures waits { (key : ℕ) → get nat_eq waits.new key ≡ None }
 {
-    if is_answered(pending, issuer, dsb) {
-        take_from(holds, pending.tag, pending.pes);
+    for _count in 0..waits.len() {
+        if let Some((key, waiting)) = waits.pop() {
+            release_under(holds, key, waiting);
+        }
     }
+}
+
+/// The same of the place of this number, where it is there.
+fn release_place(holds: &mut Holds, waits: &mut Vec<Waits>, place: usize)
+    ensures holds { (g : TheTag) (r p : ℕ) → spec.hold_in holds.new g r p
+        ≡ (spec.hold_in holds.old g r p && not (wait_bit g p (wait_at waits.old.items place (spec.tag_key g)))) }
+    ensures waits { (n key : ℕ) → wait_at waits.new.items n key
+        ≡ (if nat_eq n place then None else wait_at waits.old.items n key) }
+{
+    if place < waits.len() {
+        release_all(holds, &mut waits[place]);
+    }
+}
+
+/// Takes the tags away that a DSB takes away by its issuer's TLBIs, broadcast ones or others, and forgets what it
+/// answers.
+fn release_one(holds: &mut Holds, waits: &mut Vec<Waits>, issuer: Pe, dsb: Dsb, broadcast: bool)
+    ensures holds { (g : TheTag) (r p : ℕ) → spec.hold_in holds.new g r p ≡ (spec.hold_in holds.old g r p
+        && not (dsb_answers dsb broadcast
+        && wait_bit g p (wait_at waits.old.items (slot_of issuer broadcast) (spec.tag_key g)))) }
+    ensures waits { (q : ℕ) (b : Bool) (key : ℕ) → wait_at waits.new.items (slot_of q b) key
+        ≡ (if (nat_eq q issuer && same_flag broadcast b) && dsb_answers dsb broadcast then None
+        else wait_at waits.old.items (slot_of q b) key) }
+{
+    if answers(dsb, broadcast) {
+        release_place(holds, waits, slot(issuer, broadcast));
+    }
+}
+
+/// Takes the tags away that a DSB of the issuer takes away, and forgets what it answers.
+pub fn release(holds: &mut Holds, waits: &mut Vec<Waits>, issuer: Pe, dsb: Dsb)
+    ensures holds { (g : TheTag) (r p : ℕ) → spec.hold_in holds.new g r p ≡ (spec.hold_in holds.old g r p
+        && not ((dsb_answers dsb true && wait_bit g p (wait_at waits.old.items (slot_of issuer true) (spec.tag_key g)))
+        || (dsb_answers dsb false && wait_bit g p (wait_at waits.old.items (slot_of issuer false) (spec.tag_key g))))) }
+    ensures waits { (q : ℕ) (b : Bool) (key : ℕ) → wait_at waits.new.items (slot_of q b) key
+        ≡ (if nat_eq q issuer && dsb_answers dsb b then None else wait_at waits.old.items (slot_of q b) key) }
+{
+    release_one(holds, waits, issuer, dsb, true);
+    release_one(holds, waits, issuer, dsb, false);
 }

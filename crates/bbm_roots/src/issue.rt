@@ -1,20 +1,22 @@
 //! What the issue of a whole-tag TLBI leaves to its answer.
 
-ghost use Rattle.std.specs.Prelude.{◌≡◌, ℕ, Bool, ◌&&◌, ◌||◌, not, nat_eq, nat_lt, true, false, Option, OnOk, IfSome};
+ghost use Rattle.std.specs.Prelude.{◌≡◌, ℕ, ◌<◌, Bool, ◌&&◌, ◌||◌, not, nat_eq, true, false, Option, Some, OnOk, IfSome};
+ghost use Rattle.std.specs.Prelude.{is_some, length};
+ghost use Rattle.indexmap.specs.IndexMap.{get};
 ghost use Rattle.bbm_regimes.specs.PeMask.{pe_in};
 ghost use Rattle.bbm_regimes.specs.declared.regime.Tag.{Tag as TheTag};
 ghost use Rattle.bbm_tlbi_scope.specs.Operations.{has_page};
 ghost use Rattle.bbm_tlbi_scope.specs.ScopeTags.{takes_whole_tag};
-ghost use Rattle.bbm_roots.specs.Columns.{loads_in};
-ghost use Rattle.bbm_roots.specs.Holds.{hold_in};
+ghost use Rattle.bbm_roots.specs.Holds.{hold_in, tag_key as key_of};
 ghost use Rattle.bbm_roots.specs.RootPendings as spec;
-ghost use Rattle.bbm_roots.specs.Readings.{same_tag as spec_same_tag, reads_tag as spec_reads_tag};
+ghost use Rattle.bbm_roots.specs.Readings.{same_tag as spec_same_tag};
 
 use crate::hold::{Holds, entries, tag_key};
-use crate::pending::{Pending, has_pending};
+use crate::pending::{Pendings, Waiting, Waits, open, slot};
 use crate::registers::Registers;
-use bbm_regimes::{NoMemory, Pe, PeMask, Tag};
+use bbm_regimes::{NoMemory, Pe, PeMask, Tag, same_tag};
 use bbm_tlbi_scope::{Family, Scope, whole_tag};
+use std::alloc::Global;
 
 /// Whether a TLBI of this scope, under this VMID, takes the whole tag.
 fn takes(scope: &Scope, vmid: Option<u16>, tag: Tag) -> bool
@@ -35,33 +37,6 @@ pub fn takes_tags(scope: &Scope) -> bool
     )
 }
 
-/// Makes an entry of the issuer and the tag, with no PE in it, where there is none.
-fn make_entry(
-    pendings: &mut Vec<Pending>,
-    issuer: Pe,
-    broadcast: bool,
-    tag: Tag,
-) -> Result<(), NoMemory>
-    ensures same { (q : ℕ) (b : Bool) (g : TheTag) (p : ℕ) → spec.pending_in pendings.new.items q b g p
-        ≡ spec.pending_in pendings.old.items q b g p }
-    ensures made { OnOk result ((q : ℕ) (b : Bool) (g : TheTag) → spec.has_pending q b g pendings.new.items
-        ≡ (spec.has_pending q b g pendings.old.items
-        || (nat_eq issuer q && spec.same_flag broadcast b && spec_same_tag tag g))) }
-{
-    if has_pending(pendings, issuer, broadcast, tag) {
-        return Ok(());
-    }
-    let pes = PeMask::none();
-    pendings
-        .push(Pending {
-            issuer,
-            broadcast,
-            tag,
-            pes,
-        })
-        .map_err(|_| NoMemory)
-}
-
 /// The one tag of which alone TLBIs of this scope, under this VMID, take the whole; None where there may be more.
 fn one_tag(scope: &Scope, vmid: Option<u16>) -> Option<Tag>
     ensures { IfSome result (λ one. (tag : TheTag) → takes_whole_tag scope.now vmid tag ≡ true → tag ≡ one) }
@@ -80,136 +55,254 @@ fn one_tag(scope: &Scope, vmid: Option<u16>) -> Option<Tag>
     }
 }
 
-/// Makes an entry of the issuer for the tag, where it is held.
-fn make_one(
-    pendings: &mut Vec<Pending>,
-    holds: &Holds,
-    issuer: Pe,
-    broadcast: bool,
-    tag: Tag,
-) -> Result<(), NoMemory>
-    ensures same { (q : ℕ) (b : Bool) (g : TheTag) (p : ℕ) → spec.pending_in pendings.new.items q b g p
-        ≡ spec.pending_in pendings.old.items q b g p }
-    ensures made { OnOk result ((r p : ℕ) → hold_in holds.now tag r p ≡ true
-        → spec.has_pending issuer broadcast tag pendings.new.items ≡ true) }
+/// Makes an entry of the tag, with no PE in it, where there is none.
+fn make_entry(waits: &mut Waits, tag: Tag) -> Result<(), NoMemory>
+    ensures same { (g : TheTag) (p : ℕ) → spec.wait_in waits.new g p ≡ spec.wait_in waits.old g p }
+    ensures made { OnOk result ((g : TheTag) → spec.has_wait waits.new g
+        ≡ (spec.has_wait waits.old g || spec_same_tag tag g)) }
+{
+    let key = tag_key(tag);
+    if waits.contains_key(&key) {
+        return Ok(());
+    }
+    let pes = PeMask::none();
+    match waits.insert(key, Waiting { tag, pes }) {
+        Ok(_) => Ok(()),
+        Err(_) => Err(NoMemory),
+    }
+}
+
+/// Makes an entry of the tag, where it is held.
+fn make_one(waits: &mut Waits, holds: &Holds, tag: Tag) -> Result<(), NoMemory>
+    ensures same { (g : TheTag) (p : ℕ) → spec.wait_in waits.new g p ≡ spec.wait_in waits.old g p }
+    ensures made { OnOk result ((r p : ℕ) → hold_in holds.now tag r p ≡ true → spec.has_wait waits.new tag ≡ true) }
 {
     if holds.contains_key(&tag_key(tag)) {
-        make_entry(pendings, issuer, broadcast, tag)
+        make_entry(waits, tag)
     } else {
         Ok(())
     }
 }
 
-/// Makes an entry of the issuer for each tag that is held and that its TLBI takes.
+/// Makes an entry of the tag, where the TLBI takes it.
+fn make_taken(waits: &mut Waits, scope: &Scope, vmid: Option<u16>, tag: Tag) -> Result<(), NoMemory>
+    ensures same { (g : TheTag) (p : ℕ) → spec.wait_in waits.new g p ≡ spec.wait_in waits.old g p }
+    ensures made { OnOk result ((g : TheTag) → spec.has_wait waits.new g
+        ≡ (spec.has_wait waits.old g || (takes_whole_tag scope.now vmid tag && spec_same_tag tag g))) }
+{
+    if takes(scope, vmid, tag) {
+        make_entry(waits, tag)
+    } else {
+        Ok(())
+    }
+}
+
+/// Makes an entry of each tag that is held and that the TLBI takes.
 fn make_each(
-    pendings: &mut Vec<Pending>,
+    waits: &mut Waits,
     holds: &Holds,
-    issuer: Pe,
     scope: &Scope,
     vmid: Option<u16>,
 ) -> Result<(), NoMemory>
-    ensures same { (q : ℕ) (b : Bool) (g : TheTag) (p : ℕ) → spec.pending_in pendings.new.items q b g p
-        ≡ spec.pending_in pendings.old.items q b g p }
+    ensures same { (g : TheTag) (p : ℕ) → spec.wait_in waits.new g p ≡ spec.wait_in waits.old g p }
     ensures made { OnOk result ((g : TheTag) (r p : ℕ) → hold_in holds.now g r p ≡ true
-        → takes_whole_tag scope.now vmid g ≡ true
-        → spec.has_pending issuer scope.now.broadcast g pendings.new.items ≡ true) }
+        → takes_whole_tag scope.now vmid g ≡ true → spec.has_wait waits.new g ≡ true) }
 {
     for held in entries(holds) {
-        if takes(scope, vmid, held.tag) {
-            make_entry(pendings, issuer, scope.broadcast, held.tag)?;
-        }
+        make_taken(waits, scope, vmid, held.tag)?;
     }
     Ok(())
 }
 
+/// The same. A TLBI that takes one tag alone looks at that tag alone.
+fn make_entries(
+    waits: &mut Waits,
+    holds: &Holds,
+    scope: &Scope,
+    vmid: Option<u16>,
+) -> Result<(), NoMemory>
+    ensures same { (g : TheTag) (p : ℕ) → spec.wait_in waits.new g p ≡ spec.wait_in waits.old g p }
+    ensures made { OnOk result ((g : TheTag) (r p : ℕ) → hold_in holds.now g r p ≡ true
+        → takes_whole_tag scope.now vmid g ≡ true → spec.has_wait waits.new g ≡ true) }
+{
+    match one_tag(scope, vmid) {
+        Some(tag) => make_one(waits, holds, tag),
+        None => make_each(waits, holds, scope, vmid),
+    }
+}
+
+/// The same in the place of this number.
+fn make_place(
+    waits: &mut Vec<Waits>,
+    place: usize,
+    holds: &Holds,
+    scope: &Scope,
+    vmid: Option<u16>,
+) -> Result<(), NoMemory>
+    requires { place < length waits.old.items }
+    ensures same { (n : ℕ) (g : TheTag) (p : ℕ) → spec.wait_bit g p (spec.wait_at waits.new.items n (key_of g))
+        ≡ spec.wait_bit g p (spec.wait_at waits.old.items n (key_of g)) }
+    ensures made { OnOk result ((g : TheTag) (r p : ℕ) → hold_in holds.now g r p ≡ true
+        → takes_whole_tag scope.now vmid g ≡ true
+        → is_some (spec.wait_at waits.new.items place (key_of g)) ≡ true) }
+{
+    make_entries(&mut waits[place], holds, scope, vmid)
+}
+
 /// Makes an entry of the issuer for each tag that is held and that its TLBI takes. `NoMemory` where there is none.
-/// No DSB takes more or less away. A TLBI that takes one tag alone looks at that tag alone.
+/// No DSB takes more or less away.
 pub fn make_room(
-    pendings: &mut Vec<Pending>,
+    alloc: Global,
+    pendings: &mut Pendings,
     holds: &Holds,
     issuer: Pe,
     scope: &Scope,
     vmid: Option<u16>,
 ) -> Result<(), NoMemory>
-    ensures same { (q : ℕ) (b : Bool) (g : TheTag) (p : ℕ) → spec.pending_in pendings.new.items q b g p
-        ≡ spec.pending_in pendings.old.items q b g p }
+    ensures same { (q : ℕ) (b : Bool) (g : TheTag) (p : ℕ) → spec.pending_in pendings.new q b g p
+        ≡ spec.pending_in pendings.old q b g p }
     ensures made { OnOk result ((g : TheTag) (r p : ℕ) → hold_in holds.now g r p ≡ true
         → takes_whole_tag scope.now vmid g ≡ true
-        → spec.has_pending issuer scope.now.broadcast g pendings.new.items ≡ true) }
+        → spec.has_pending pendings.new issuer scope.now.broadcast g ≡ true) }
+{
+    open(pendings, alloc, issuer)?;
+    let place = slot(issuer, scope.broadcast);
+    make_place(&mut pendings.waits, place, holds, scope, vmid)
+}
+
+/// The PEs that a TLBI of the issuer reaches and at which the tag is readable for no root.
+fn unread(registers: &Registers, issuer: Pe, broadcast: bool, tag: Tag) -> PeMask
+    ensures { (p : ℕ) → pe_in result p ≡ spec.unread_at registers.now issuer broadcast tag p }
+{
+    let reach = if broadcast {
+        PeMask::all(registers.pes)
+    } else {
+        PeMask::one(issuer)
+    };
+    registers.unread(reach, tag)
+}
+
+/// The entry with these PEs in it, as one of the tag.
+fn widened(waiting: Waiting, tag: Tag, pes: PeMask) -> Waiting
+    ensures same { result.tag ≡ tag }
+    ensures bits { (p : ℕ) → spec.wait_bit tag p (Some result) ≡ (spec.wait_bit tag p (Some waiting) || pe_in pes p) }
+{
+    let pes = if same_tag(waiting.tag, tag) {
+        waiting.pes.or(pes)
+    } else {
+        pes
+    };
+    Waiting { tag, pes }
+}
+
+/// Puts the PEs into the entry under the key, as one of the tag.
+fn widen(waits: &mut Waits, key: u32, tag: Tag, pes: PeMask)
+    ensures others { (k : ℕ) → nat_eq key k ≡ false → get nat_eq waits.new k ≡ get nat_eq waits.old k }
+    ensures here { (p : ℕ) → spec.wait_bit tag p (get nat_eq waits.new key)
+        ≡ (spec.wait_bit tag p (get nat_eq waits.old key) || (is_some (get nat_eq waits.old key) && pe_in pes p)) }
+    ensures known { (k : ℕ) → is_some (get nat_eq waits.new k) ≡ is_some (get nat_eq waits.old k) }
+{
+    match waits.get_mut(&key) {
+        Some(waiting) => *waiting = widened(*waiting, tag, pes),
+        None => {}
+    }
+}
+
+/// Notes a TLBI of the issuer in the entry of the tag, where it takes it: the PEs that it reaches and at which the tag
+/// is readable for no root.
+fn note_one(
+    waits: &mut Waits,
+    registers: &Registers,
+    issuer: Pe,
+    scope: &Scope,
+    vmid: Option<u16>,
+    tag: Tag,
+)
+    ensures bits { (g : TheTag) (p : ℕ) → spec.wait_in waits.new g p
+        ≡ (spec.wait_in waits.old g p || (spec.has_wait waits.old g
+        && (spec_same_tag tag g && (takes_whole_tag scope.now vmid g
+        && spec.unread_at registers.now issuer scope.now.broadcast g p)))) }
+    ensures known { (g : TheTag) → spec.has_wait waits.new g ≡ spec.has_wait waits.old g }
+{
+    if takes(scope, vmid, tag) {
+        let pes = unread(registers, issuer, scope.broadcast, tag);
+        widen(waits, tag_key(tag), tag, pes);
+    }
+}
+
+/// Notes a TLBI of the issuer in the entries of the tags that are held and that it takes.
+fn note_each(
+    waits: &mut Waits,
+    holds: &Holds,
+    registers: &Registers,
+    issuer: Pe,
+    scope: &Scope,
+    vmid: Option<u16>,
+)
+    ensures { (g : TheTag) (r h p : ℕ) → hold_in holds.now g r h ≡ true → spec.wait_in waits.new g p
+        ≡ (spec.wait_in waits.old g p || (spec.has_wait waits.old g && (takes_whole_tag scope.now vmid g
+        && spec.unread_at registers.now issuer scope.now.broadcast g p))) }
+{
+    for held in entries(holds) {
+        note_one(waits, registers, issuer, scope, vmid, held.tag);
+    }
+}
+
+/// The same. A TLBI that takes one tag alone looks at that tag alone.
+fn note_entries(
+    waits: &mut Waits,
+    holds: &Holds,
+    registers: &Registers,
+    issuer: Pe,
+    scope: &Scope,
+    vmid: Option<u16>,
+)
+    ensures { (g : TheTag) (r h p : ℕ) → hold_in holds.now g r h ≡ true → spec.wait_in waits.new g p
+        ≡ (spec.wait_in waits.old g p || (spec.has_wait waits.old g && (takes_whole_tag scope.now vmid g
+        && spec.unread_at registers.now issuer scope.now.broadcast g p))) }
 {
     match one_tag(scope, vmid) {
-        Some(tag) => make_one(pendings, holds, issuer, scope.broadcast, tag),
-        None => make_each(pendings, holds, issuer, scope, vmid),
+        Some(tag) => note_one(waits, registers, issuer, scope, vmid, tag),
+        None => note_each(waits, holds, registers, issuer, scope, vmid),
     }
 }
 
-/// Whether the entry is one of the issuer's, broadcast or not.
-fn is_of(pending: &Pending, issuer: Pe, broadcast: bool) -> bool
-    ensures { result ≡ (nat_eq pending.now.issuer issuer && spec.same_flag pending.now.broadcast broadcast) }
-{
-    pending.issuer.get() == issuer.get() && pending.broadcast == broadcast
-}
-
-/// The PEs that the TLBI reaches and at which the entry's tag is readable for no root, where the entry is one of the
-/// issuer and the TLBI takes its tag.
-fn added(
-    pending: &Pending,
+/// The same in the place of the issuer.
+fn note_place(
+    waits: &mut Vec<Waits>,
+    holds: &Holds,
     registers: &Registers,
-    reach: PeMask,
-    issuer: Pe,
-    scope: &Scope,
-    vmid: Option<u16>,
-) -> PeMask
-    ensures { (p : ℕ) → pe_in result p
-        ≡ ((nat_eq pending.now.issuer issuer && spec.same_flag pending.now.broadcast scope.now.broadcast
-        && takes_whole_tag scope.now vmid pending.now.tag)
-        && (nat_lt p registers.now.pes && (pe_in reach p && not (spec_reads_tag registers.now.world
-        (loads_in registers.now.first.items p) (loads_in registers.now.second.items p) pending.now.tag)))) }
-{
-    if is_of(pending, issuer, scope.broadcast) && takes(scope, vmid, pending.tag) {
-        registers.unread(reach, pending.tag)
-    } else {
-        PeMask::none()
-    }
-}
-
-/// Puts these PEs into the entry.
-fn note_one(
-    pending: &mut Pending,
-    registers: &Registers,
-    reach: PeMask,
     issuer: Pe,
     scope: &Scope,
     vmid: Option<u16>,
 )
-    ensures { (q : ℕ) (b : Bool) (g : TheTag) (p : ℕ) → spec.pending_bit q b g p pending.new
-        ≡ (spec.pending_bit q b g p pending.old || (spec.is_pending q b g pending.old
-        && ((nat_eq q issuer && spec.same_flag scope.now.broadcast b && takes_whole_tag scope.now vmid g)
-        && (nat_lt p registers.now.pes && (pe_in reach p && not (spec_reads_tag registers.now.world
-        (loads_in registers.now.first.items p) (loads_in registers.now.second.items p) g)))))) }
+    ensures { (n : ℕ) (g : TheTag) (r h p : ℕ) → hold_in holds.now g r h ≡ true
+        → spec.wait_bit g p (spec.wait_at waits.new.items n (key_of g))
+        ≡ (spec.wait_bit g p (spec.wait_at waits.old.items n (key_of g))
+        || (is_some (spec.wait_at waits.old.items n (key_of g)) && (nat_eq n (spec.slot_of issuer scope.now.broadcast)
+        && (takes_whole_tag scope.now vmid g && spec.unread_at registers.now issuer scope.now.broadcast g p)))) }
 {
-    pending.pes = pending
-        .pes
-        .or(added(pending, registers, reach, issuer, scope, vmid));
+    let place = slot(issuer, scope.broadcast);
+    if place < waits.len() {
+        note_entries(&mut waits[place], holds, registers, issuer, scope, vmid);
+    }
 }
 
-/// Notes a TLBI of the issuer in the entries of the tags that it takes: the PEs that it reaches and at which the tag
-/// is readable for no root.
+/// Notes a TLBI of the issuer in the entries of the tags that are held and that it takes: the PEs that it reaches and
+/// at which the tag is readable for no root. It takes no memory.
 pub fn note(
-    pendings: &mut [Pending],
+    pendings: &mut Pendings,
+    holds: &Holds,
     registers: &Registers,
-    reach: PeMask,
     issuer: Pe,
     scope: &Scope,
     vmid: Option<u16>,
 )
-    ensures { (q : ℕ) (b : Bool) (g : TheTag) (p : ℕ) → spec.pending_in pendings.new q b g p
-        ≡ (spec.pending_in pendings.old q b g p || (spec.has_pending q b g pendings.old
+    ensures { (q : ℕ) (b : Bool) (g : TheTag) (r h p : ℕ) → hold_in holds.now g r h ≡ true
+        → spec.pending_in pendings.new q b g p
+        ≡ (spec.pending_in pendings.old q b g p || (spec.has_pending pendings.old q b g
         && ((nat_eq q issuer && spec.same_flag scope.now.broadcast b && takes_whole_tag scope.now vmid g)
-        && (nat_lt p registers.now.pes && (pe_in reach p && not (spec_reads_tag registers.now.world
-        (loads_in registers.now.first.items p) (loads_in registers.now.second.items p) g)))))) }
+        && spec.unread_at registers.now issuer scope.now.broadcast g p))) }
 {
-    for pending in pendings.iter_mut() {
-        note_one(pending, registers, reach, issuer, scope, vmid);
-    }
+    note_place(&mut pendings.waits, holds, registers, issuer, scope, vmid);
 }

@@ -1,29 +1,52 @@
 //! Whole-tag TLBIs that no DSB has answered yet.
+//! Source: project's own choice, where no other is named.
 
-ghost use Rattle.std.specs.Prelude.{◌≡◌, ℕ, Bool, ◌&&◌, ◌||◌, not, nat_eq, IsTrue, IsSome, OnOk};
-ghost use Rattle.std.specs.List.{list_any};
+ghost use Rattle.std.specs.Prelude.{◌≡◌, ℕ, ◌+◌, ◌<◌, ◌≤◌, Bool, ◌&&◌, ◌||◌, not, nat_eq, true, false, None, OnOk};
+ghost use Rattle.std.specs.Prelude.{if◌then◌else◌, length};
+ghost use Rattle.indexmap.specs.IndexMap.{get};
 ghost use Rattle.bbm_barriers.specs.Options.{answers as dsb_answers};
 ghost use Rattle.bbm_regimes.specs.PeMask.{pe_in};
 ghost use Rattle.bbm_regimes.specs.declared.regime.Tag.{Tag as TheTag};
+ghost use Rattle.bbm_roots.specs.Holds.{tag_key as key_of};
 ghost use Rattle.bbm_roots.specs.RootPendings as spec;
-ghost use Rattle.bbm_roots.specs.Readings.{has_tag as spec_has_tag};
+ghost use Rattle.bbm_roots.specs.Readings.{has_tag as spec_has_tag, same_tag as spec_same_tag};
 
-use crate::reading::{Reading, has_tag};
+use crate::hold::tag_key;
+use crate::reading::Reading;
 use bbm_barriers::{Dsb, completes_broadcast, completes_local};
-use bbm_regimes::{Pe, PeMask, Tag, same_tag};
+use bbm_regimes::{NoMemory, Pe, PeMask, Tag};
+use indexmap::IndexMap;
+use std::alloc::Global;
 
-/// The whole-tag TLBIs of an issuer for one tag, broadcast or not, that no DSB has answered yet. Source: project's
-/// own choice.
+/// The whole-tag TLBIs of an issuer for one tag that no DSB has answered yet.
 #[derive(Clone, Copy, Debug)]
-pub struct Pending {
-    /// The PE that issued them.
-    pub issuer: Pe,
-    /// Whether they reach every PE, and not the issuer alone.
-    pub broadcast: bool,
+pub struct Waiting {
     /// The tag that they take.
     pub tag: Tag,
     /// The PEs that one of them reaches and at which the tag has been readable for no root since its issue.
     pub pes: PeMask,
+}
+
+/// Those of one issuer, its broadcast ones or its others, by the key of the tag.
+pub type Waits = IndexMap<u32, Waiting>;
+
+/// Those of all issuers.
+#[derive(Drop)]
+pub struct Pendings {
+    /// The issuers that may have some. Of any other nothing waits, whatever stands in its places.
+    pub issuers: PeMask,
+    /// Two places for each issuer: of its TLBIs that aren't broadcast, and of those that are.
+    pub waits: Vec<Waits>,
+}
+
+/// Where nothing waits. It takes no memory.
+pub fn no_pendings(alloc: Global) -> Pendings
+    ensures { (q : ℕ) (b : Bool) (g : TheTag) (p : ℕ) → spec.pending_in result q b g p ≡ false }
+{
+    Pendings {
+        issuers: PeMask::none(),
+        waits: Vec::new(alloc),
+    }
 }
 
 /// Whether a DSB answers its issuer's TLBIs that are broadcast, or that aren't. Source: Arm ARM (DDI 0487), "TLB
@@ -38,68 +61,150 @@ pub fn answers(dsb: Dsb, broadcast: bool) -> bool
     }
 }
 
-/// Whether the entry is that of the issuer and the tag.
-fn is_pending(pending: &Pending, issuer: Pe, broadcast: bool, tag: Tag) -> bool
-    ensures { result ≡ spec.is_pending issuer broadcast tag pending.now }
+/// The place of the issuer's TLBIs, broadcast ones or others, 0 to 255.
+pub fn slot(issuer: Pe, broadcast: bool) -> usize
+    ensures slot { result ≡ spec.slot_of issuer broadcast }
+    ensures small { result < 256 }
 {
-    pending.issuer.get() == issuer.get()
-        && pending.broadcast == broadcast
-        && same_tag(pending.tag, tag)
+    let first = 2 * issuer.get() as usize;
+    if broadcast { first + 1 } else { first }
 }
 
-/// Whether there is an entry of the issuer and the tag.
-pub fn has_pending(pendings: &[Pending], issuer: Pe, broadcast: bool, tag: Tag) -> bool
-    ensures { result ≡ spec.has_pending issuer broadcast tag pendings.now }
+/// One more place, where nothing waits.
+#[tactic(auto, using(crate::proofs::Places::growing))]
+fn add_place(waits: &mut Vec<Waits>, alloc: Global) -> Result<(), NoMemory>
+    ensures len { OnOk result (length waits.new.items ≡ length waits.old.items + 1) }
+    ensures same { (n key : ℕ) → spec.wait_at waits.new.items n key ≡ spec.wait_at waits.old.items n key }
 {
-    pendings
-        .iter()
-        .any(|pending| is_pending(pending, issuer, broadcast, tag))
+    match waits.push(IndexMap::new(alloc)) {
+        Ok(()) => Ok(()),
+        Err(_) => Err(NoMemory),
+    }
 }
 
-/// Whether a DSB of the issuer answers the entry's TLBIs.
-pub fn is_answered(pending: &Pending, issuer: Pe, dsb: Dsb) -> bool
-    ensures { result ≡ spec.is_answered issuer dsb pending.now }
+/// Makes places up to this number.
+fn add_places(waits: &mut Vec<Waits>, alloc: Global, count: usize) -> Result<(), NoMemory>
+    ensures len { OnOk result (count ≤ length waits.new.items) }
+    ensures same { (n key : ℕ) → spec.wait_at waits.new.items n key ≡ spec.wait_at waits.old.items n key }
 {
-    pending.issuer.get() == issuer.get() && answers(dsb, pending.broadcast)
+    while waits.len() < count {
+        add_place(waits, alloc)?;
+    }
+    Ok(())
 }
 
-/// Whether a DSB of the issuer answers any of these TLBIs.
-pub fn has_answered(pendings: &[Pending], issuer: Pe, dsb: Dsb) -> bool
-    ensures { result ≡ list_any (spec.is_answered issuer dsb) pendings.now }
+/// Empties a place.
+fn empty(map: &mut Waits)
+    ensures { (key : ℕ) → get nat_eq map.new key ≡ None }
 {
-    pendings
-        .iter()
-        .any(|pending| is_answered(pending, issuer, dsb))
+    if !map.is_empty() {
+        map.clear();
+    }
 }
 
-/// Forgets what a DSB of the issuer answers.
-pub fn settle(pendings: &mut Vec<Pending>, issuer: Pe, dsb: Dsb)
-    ensures { (q : ℕ) (broadcast : Bool) (tag : TheTag) (p : ℕ) → spec.pending_in pendings.new.items q broadcast tag p
-        ≡ (spec.pending_in pendings.old.items q broadcast tag p && not (nat_eq q issuer && dsb_answers dsb broadcast)) }
+/// Empties the place of this number.
+fn forget(waits: &mut Vec<Waits>, place: usize)
+    requires { place < length waits.old.items }
+    ensures waits { (n key : ℕ) → spec.wait_at waits.new.items n key
+        ≡ (if nat_eq n place then None else spec.wait_at waits.old.items n key) }
+    ensures len { length waits.new.items ≡ length waits.old.items }
 {
-    pendings.retain(
-        |pending| -> bool
-            ensures { result ≡ spec.is_open issuer dsb pending.now }
-        { !is_answered(pending, issuer, dsb) },
-    );
+    empty(&mut waits[place]);
 }
 
-/// Takes the PE out of the entry where the entry's tag is among those that are readable.
-fn clear_one(pending: &mut Pending, readings: &[Reading], pe: Pe)
-    ensures { (q : ℕ) (broadcast : Bool) (tag : TheTag) (p : ℕ) → spec.pending_bit q broadcast tag p pending.new
-        ≡ (spec.pending_bit q broadcast tag p pending.old && not (nat_eq p pe && spec_has_tag tag readings.now)) }
+/// Makes the places of an issuer. `NoMemory` where there is none. What waits stays.
+pub fn open(pendings: &mut Pendings, alloc: Global, issuer: Pe) -> Result<(), NoMemory>
+    ensures same { (q : ℕ) (b : Bool) (g : TheTag) (p : ℕ) → spec.pending_in pendings.new q b g p
+        ≡ spec.pending_in pendings.old q b g p }
+    ensures known { OnOk result (pe_in pendings.new.issuers issuer ≡ true) }
+    ensures room { OnOk result ((b : Bool) → spec.slot_of issuer b < length pendings.new.waits.items) }
 {
-    if has_tag(readings, pending.tag) {
-        pending.pes = pending.pes.minus(PeMask::one(pe));
+    add_places(&mut pendings.waits, alloc, slot(issuer, true) + 1)?;
+    if !pendings.issuers.has(issuer) {
+        forget(&mut pendings.waits, slot(issuer, false));
+        forget(&mut pendings.waits, slot(issuer, true));
+        pendings.issuers = pendings.issuers.or(PeMask::one(issuer));
+    }
+    Ok(())
+}
+
+/// Whether the place is empty, or isn't there.
+fn is_quiet(waits: &Vec<Waits>, place: usize) -> bool
+    ensures { result ≡ true → (key : ℕ) → spec.wait_at waits.now.items place key ≡ None }
+{
+    place >= waits.len() || waits[place].is_empty()
+}
+
+/// Forgets an issuer whose places are empty. What waits stays.
+pub fn close(pendings: &mut Pendings, issuer: Pe)
+    ensures { (q : ℕ) (b : Bool) (g : TheTag) (p : ℕ) → spec.pending_in pendings.new q b g p
+        ≡ spec.pending_in pendings.old q b g p }
+{
+    if is_quiet(&pendings.waits, slot(issuer, false))
+        && is_quiet(&pendings.waits, slot(issuer, true))
+    {
+        pendings.issuers = pendings.issuers.minus(PeMask::one(issuer));
+    }
+}
+
+/// Takes the PE out of the entry under the key.
+fn narrow(map: &mut Waits, key: u32, pe: Pe)
+    ensures others { (k : ℕ) → nat_eq key k ≡ false → get nat_eq map.new k ≡ get nat_eq map.old k }
+    ensures here { (g : TheTag) (p : ℕ) → spec.wait_bit g p (get nat_eq map.new key)
+        ≡ (spec.wait_bit g p (get nat_eq map.old key) && not (nat_eq p pe)) }
+{
+    match map.get_mut(&key) {
+        Some(waiting) => waiting.pes = waiting.pes.minus(PeMask::one(pe)),
+        None => {}
+    }
+}
+
+/// Takes the PE out of the entry of the tag.
+fn clear_tag(map: &mut Waits, tag: Tag, pe: Pe)
+    ensures { (g : TheTag) (p : ℕ) → spec.wait_in map.new g p
+        ≡ (spec.wait_in map.old g p && not (nat_eq p pe && spec_same_tag tag g)) }
+{
+    narrow(map, tag_key(tag), pe);
+}
+
+/// Takes the PE out of the entries of the tags that are readable.
+fn clear_tags(map: &mut Waits, readings: &[Reading], pe: Pe)
+    ensures { (g : TheTag) (p : ℕ) → spec.wait_in map.new g p
+        ≡ (spec.wait_in map.old g p && not (nat_eq p pe && spec_has_tag g readings.now)) }
+{
+    for reading in readings {
+        clear_tag(map, reading.tag, pe);
+    }
+}
+
+/// The same, without a look at the readable tags where the place is empty.
+fn clear_place(map: &mut Waits, readings: &[Reading], pe: Pe)
+    ensures { (g : TheTag) (p : ℕ) → spec.wait_in map.new g p
+        ≡ (spec.wait_in map.old g p && not (nat_eq p pe && spec_has_tag g readings.now)) }
+{
+    if !map.is_empty() {
+        clear_tags(map, readings, pe);
+    }
+}
+
+/// The same of every place.
+#[inline(never)]
+fn clear_places(waits: &mut [Waits], readings: &[Reading], pe: Pe)
+    ensures { (n : ℕ) (g : TheTag) (p : ℕ) → spec.wait_bit g p (spec.wait_at waits.new n (key_of g))
+        ≡ (spec.wait_bit g p (spec.wait_at waits.old n (key_of g)) && not (nat_eq p pe && spec_has_tag g readings.now)) }
+{
+    for map in waits.iter_mut() {
+        clear_place(map, readings, pe);
     }
 }
 
 /// Takes the PE out of the entries of the tags that are readable.
-pub fn clear(pendings: &mut [Pending], readings: &[Reading], pe: Pe)
-    ensures { (q : ℕ) (broadcast : Bool) (tag : TheTag) (p : ℕ) → spec.pending_in pendings.new q broadcast tag p
-        ≡ (spec.pending_in pendings.old q broadcast tag p && not (nat_eq p pe && spec_has_tag tag readings.now)) }
+#[inline]
+pub fn clear(pendings: &mut Pendings, readings: &[Reading], pe: Pe)
+    ensures { (q : ℕ) (b : Bool) (g : TheTag) (p : ℕ) → spec.pending_in pendings.new q b g p
+        ≡ (spec.pending_in pendings.old q b g p && not (nat_eq p pe && spec_has_tag g readings.now)) }
 {
-    for pending in pendings.iter_mut() {
-        clear_one(pending, readings, pe);
+    if !pendings.issuers.is_empty() {
+        clear_places(&mut pendings.waits, readings, pe);
     }
 }

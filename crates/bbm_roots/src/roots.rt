@@ -4,16 +4,14 @@
 use crate::fault::{InUse, RootFault, Unsynced};
 use crate::hold::Holds;
 use crate::load::{Load, names_null};
-use crate::pending::Pending;
+use crate::pending::Pendings;
 use crate::reading::{Reading, Readings};
 use crate::registers::Registers;
 use crate::root::{Declared, same_kind};
 use crate::{hold, issue, pending, registers, search, vmid};
 use bbm_barriers::Dsb;
 use bbm_events::Header;
-use bbm_regimes::{
-    Kind, NoMemory, Page, Pe, PeMask, Reg, Which, World, base_of, kind_of, tag_number,
-};
+use bbm_regimes::{Kind, NoMemory, Page, Pe, Reg, Which, World, base_of, kind_of, tag_number};
 use bbm_tlbi_scope::{Scope, TagSet};
 use indexmap::IndexMap;
 use std::alloc::Global;
@@ -28,7 +26,7 @@ pub struct Roots {
     registers: Registers,
     declared: IndexMap<u64, Declared>,
     holds: Holds,
-    pendings: Vec<Pending>,
+    pendings: Pendings,
     /// Whether any root was declared with a lock, also one that is retired. Where not, no declared root has one.
     names_locks: bool,
 }
@@ -67,7 +65,7 @@ impl Roots {
             registers: Registers::new(alloc, header)?,
             declared: IndexMap::new(alloc),
             holds: IndexMap::new(alloc),
-            pendings: Vec::new(alloc),
+            pendings: pending::no_pendings(alloc),
             names_locks: false,
         })
     }
@@ -274,7 +272,7 @@ impl Roots {
         ensures pes { pes_of self.new ≡ pes_of self.old }
         ensures world { world_of self.new ≡ world_of self.old }
     {
-        if !self.pendings.is_empty() {
+        if self.pendings.issuers.has(issuer) {
             self.answer(issuer, dsb);
         }
     }
@@ -282,18 +280,17 @@ impl Roots {
     /// Takes the tags away that a DSB of the issuer takes away, and forgets what it answers.
     #[inline(never)]
     fn answer(&mut self, issuer: Pe, dsb: Dsb)
+        requires { pe_in self.old.pendings.issuers issuer ≡ true }
         ensures holds { (g : TheTag) (r p : ℕ) → hold_in self.new.holds g r p
-            ≡ (hold_in self.old.holds g r p && not (answered_in self.old.pendings.items issuer dsb g p)) }
-        ensures pendings { (q : ℕ) (b : Bool) (g : TheTag) (p : ℕ) → pending_in self.new.pendings.items q b g p
-            ≡ (pending_in self.old.pendings.items q b g p && not (nat_eq q issuer && dsb_answers dsb b)) }
+            ≡ (hold_in self.old.holds g r p && not (answered_in self.old.pendings issuer dsb g p)) }
+        ensures pendings { (q : ℕ) (b : Bool) (g : TheTag) (p : ℕ) → pending_in self.new.pendings q b g p
+            ≡ (pending_in self.old.pendings q b g p && not (nat_eq q issuer && dsb_answers dsb b)) }
         ensures registers { self.new.registers ≡ self.old.registers }
         ensures declared { self.new.declared ≡ self.old.declared }
         ensures names_locks { self.new.names_locks ≡ self.old.names_locks }
     {
-        if pending::has_answered(&self.pendings, issuer, dsb) {
-            hold::release(&mut self.holds, &self.pendings, issuer, dsb);
-            pending::settle(&mut self.pendings, issuer, dsb);
-        }
+        hold::release(&mut self.holds, &mut self.pendings.waits, issuer, dsb);
+        pending::close(&mut self.pendings, issuer);
     }
 
     /// A TLBI of the PE, of this scope and under this VMID, 0 to 65535; with None a TLBI for one VMID alone takes no
@@ -327,7 +324,7 @@ impl Roots {
     /// They stand for what they stood for. After Ok `issue_ready` takes that TLBI without memory.
     pub fn prepare_issue(
         &mut self,
-        _alloc: Global,
+        alloc: Global,
         issuer: Pe,
         scope: &Scope,
         vmid: Option<u16>,
@@ -342,7 +339,7 @@ impl Roots {
         if !issue::takes_tags(scope) {
             return Ok(());
         }
-        issue::make_room(&mut self.pendings, &self.holds, issuer, scope, vmid)?;
+        issue::make_room(alloc, &mut self.pendings, &self.holds, issuer, scope, vmid)?;
         Ok(())
     }
 
@@ -359,26 +356,14 @@ impl Roots {
         if !issue::takes_tags(scope) {
             return;
         }
-        let reach = self.reach(issuer, scope.broadcast);
         issue::note(
             &mut self.pendings,
+            &self.holds,
             &self.registers,
-            reach,
             issuer,
             scope,
             vmid,
         );
-    }
-
-    /// The PEs that a TLBI of the issuer reaches.
-    fn reach(&self, issuer: Pe, broadcast: bool) -> PeMask
-        ensures { (p : ℕ) → p < pes_of self.now → pe_in result p ≡ (broadcast || nat_eq p issuer) }
-    {
-        if broadcast {
-            PeMask::all(self.registers.pes)
-        } else {
-            PeMask::one(issuer)
-        }
     }
 
     /// The root that a value names, None where it names none; `NoRoot` with its base where that is no declared root.
@@ -437,8 +422,8 @@ impl Roots {
             else loads_in self.old.registers.second.items p) }
         ensures holds { IsCalm self.old.holds seen.now → (g : TheTag) (r p : ℕ) → hold_in self.new.holds g r p
             ≡ (hold_in self.old.holds g r p || (nat_eq p pe && has_reading g r seen.now)) }
-        ensures pendings { (q : ℕ) (b : Bool) (g : TheTag) (p : ℕ) → pending_in self.new.pendings.items q b g p
-            ≡ (pending_in self.old.pendings.items q b g p && not (nat_eq p pe && has_tag g seen.now)) }
+        ensures pendings { (q : ℕ) (b : Bool) (g : TheTag) (p : ℕ) → pending_in self.new.pendings q b g p
+            ≡ (pending_in self.old.pendings q b g p && not (nat_eq p pe && has_tag g seen.now)) }
         ensures declared { self.new.declared ≡ self.old.declared }
         ensures names_locks { self.new.names_locks ≡ self.old.names_locks }
         ensures pes { pes_of self.new ≡ pes_of self.old }

@@ -187,7 +187,14 @@ fn with_entry(set: TagSet, key: u32, held: &Held, n: u8, root: Page) -> TagSet
     }
 }
 
-/// The tags that the root holds at one of the first n PEs.
+/// Whether there is more than one tag.
+fn is_many(set: TagSet) -> bool
+    ensures { result ≡ true → set ≡ TagSet.Many }
+{
+    matches!(set, TagSet::Many)
+}
+
+/// The tags that the root holds at one of the first n PEs. It stops where it has found two.
 pub fn tags_in(holds: &Holds, n: u8, root: Page) -> TagSet
     requires some { 1 ≤ n }
     requires within { n ≤ 128 }
@@ -195,6 +202,9 @@ pub fn tags_in(holds: &Holds, n: u8, root: Page) -> TagSet
 {
     let mut tags = TagSet::None;
     for index in 0..holds.len() {
+        if is_many(tags) {
+            return TagSet::Many;
+        }
         if let Some((key, held)) = holds.get_index(index) {
             tags = with_entry(tags, *key, held, n, root);
         }

@@ -4,8 +4,8 @@ use Rattle.bbm_tlbi_scope.specs.declared.entry.TagSet.{TagSet}
 use Rattle.bbm_tlbi_scope.specs.TagSets.{HasTags}
 use Rattle.bbm_roots.specs.Holds.{tag_in}
 use Rattle.bbm_roots.specs.declared.hold.Held.{Held}
-use Rattle.bbm_roots.proofs.Entries.{shows, shows_before, shown, shown-next}
-use Rattle.bbm_roots.proofs.Leasts.{tags-same}
+use Rattle.bbm_roots.proofs.Entries.{shows, shows_before, shown, shown-front, shown-next}
+use Rattle.bbm_roots.proofs.Leasts.{tags-same, tags-more}
 use Rattle.bbm_roots.proofs.search.tags_in.Goals as goal
 use Rattle.bbm_roots.proofs.search.tags_in.Goals.{in-Some, in_default}
 
@@ -25,6 +25,14 @@ loop-index-preserved c =
           w.with_entry-tags.result (w.with_entry-tags.ensures before c.loop-index.invariant))
       | in_default w ↦ absurd (false≢true (w.in_default.ensures.found.1 (omega arith)))
     ]
+
+pub returns-then-is_many : goal.returns-then-is_many
+returns-then-is_many c =
+    let i = c.loop-index.index in
+    let before = shows_before c.args.n c.args.root c.args.holds.now i in
+    tags-more before (λ g. tag_in c.args.holds.now c.args.n g c.args.root)
+    (shown-front c.args.n c.args.root c.args.holds.now i c.len-index-end.ensures.unique)
+    (subst (HasTags before) (c.is_many.ensures c.if-is_many.true) c.loop-index.invariant)
 
 pub returns : goal.returns
 returns c =

@@ -1,24 +1,36 @@
-use Rattle.std.proofs.Common.{◌≡◌, ◌&&◌, ◌∙◌, ap, sym, not, Bool, false}
-use Rattle.std.specs.List.{list_any}
-use Rattle.bbm_roots.specs.Holds.{hold_in}
-use Rattle.bbm_roots.specs.RootPendings.{is_answered}
-use Rattle.bbm_roots.proofs.PendingBits.{none-answered, all-open}
+use Rattle.std.proofs.Common.{◌≡◌, ◌&&◌, ◌||◌, ◌∙◌, ap, sym, not, Bool, true, false, refl, cond, Option, None, nat_eq}
+use Rattle.std.proofs.Common.{ℕ}
+use Rattle.bbm_barriers.specs.Options.{answers}
+use Rattle.bbm_regimes.specs.PeMask.{pe_in}
+use Rattle.bbm_regimes.specs.declared.regime.Tag.{Tag}
+use Rattle.bbm_roots.specs.Holds.{hold_in, tag_key}
+use Rattle.bbm_roots.specs.RootPendings.{slot_of, wait_at, wait_bit}
+use Rattle.bbm_roots.specs.declared.pending.Waiting.{Waiting}
 use Rattle.bbm_roots.proofs.roots.Roots.answer.Goals as goal
-use mathlib.Core.Bool.{and-true}
+use mathlib.Core.Bool.{and-true, and-false}
 
-pub returns-else-has_answered-clause-holds : goal.returns-else-has_answered-clause-holds
-returns-else-has_answered-clause-holds c = λ g r p.
+without : (g : Tag) (p : ℕ) (k t : Bool) (o : Option Waiting) →
+    (k && wait_bit g p (cond t None o)) ≡ ((k && wait_bit g p o) && not t)
+without g p false t o = refl
+without g p true true o = sym (and-false (wait_bit g p o))
+without g p true false o = sym (and-true (wait_bit g p o))
+
+pub returns-clause-holds : goal.returns-clause-holds
+returns-clause-holds c = λ g r p.
     let old = c.args.self.now in
-    let pendings = old.pendings.items in
-    let none : list_any (is_answered c.args.issuer c.args.dsb) pendings ≡ false =
-    ap (list_any (is_answered c.args.issuer c.args.dsb)) (sym c.deref.ensures.value)
-    ∙ sym c.has_answered.ensures ∙ c.if-has_answered.false in
-    sym (ap (λ (b : Bool). hold_in old.holds g r p && not b) (none-answered c.args.issuer c.args.dsb g p pendings none)
-    ∙ and-true (hold_in old.holds g r p))
+    let dsb = c.args.dsb in
+    let ms = old.pendings.waits.items in
+    let all = wait_bit g p (wait_at ms (slot_of c.args.issuer true) (tag_key g)) in
+    let local = wait_bit g p (wait_at ms (slot_of c.args.issuer false) (tag_key g)) in
+    c.release.ensures.holds g r p
+    ∙ ap (λ (b : Bool). hold_in old.holds g r p && not ((answers dsb true && (b && all))
+    || (answers dsb false && (b && local)))) (sym c.requires)
 
-pub returns-else-has_answered-clause-pendings : goal.returns-else-has_answered-clause-pendings
-returns-else-has_answered-clause-pendings c = λ q b g p.
-    let pendings = c.args.self.now.pendings.items in
-    all-open c.args.issuer c.args.dsb q b g p pendings
-    (ap (list_any (is_answered c.args.issuer c.args.dsb)) (sym c.deref.ensures.value)
-    ∙ sym c.has_answered.ensures ∙ c.if-has_answered.false)
+pub returns-clause-pendings : goal.returns-clause-pendings
+returns-clause-pendings c = λ q b g p.
+    let old = c.args.self.now in
+    let here = pe_in old.pendings.issuers q in
+    c.close.ensures q b g p
+    ∙ ap (λ (o : Option Waiting). here && wait_bit g p o) (c.release.ensures.waits q b (tag_key g))
+    ∙ without g p here (nat_eq q c.args.issuer
+    && answers c.args.dsb b) (wait_at old.pendings.waits.items (slot_of q b) (tag_key g))

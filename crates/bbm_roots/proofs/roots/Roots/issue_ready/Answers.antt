@@ -1,8 +1,6 @@
 use Rattle.std.proofs.Common.{◌≡◌, ◌<◌, ◌≤◌, ◌∙◌, ap, sym, refl, Bool, ◌&&◌, nat_eq, nat_lt, List, true, ℕ, arith}
 use Rattle.std.proofs.Common.{⊎_elim}
 use Rattle.std.proofs.lemmas.Bool.{false≢true, cases_lt, lt-ltb}
-use Rattle.std.proofs.lemmas.List.{with_items_is}
-use Rattle.bbm_regimes.specs.PeMask.{pe_in}
 use Rattle.bbm_regimes.specs.declared.regime.Tag.{Tag}
 use Rattle.bbm_tlbi_scope.specs.ScopeTags.{takes_whole_tag}
 use Rattle.bbm_roots.specs.RootCalls.{Call, Issue}
@@ -13,7 +11,6 @@ use Rattle.bbm_roots.specs.RootRegisters.{register_values, first_reg, second_reg
 use Rattle.bbm_roots.specs.RootsStand.{world_of, pes_of}
 use Rattle.bbm_roots.specs.RootTags.{reads, reads_for_some, reaches, holds_at}
 use Rattle.bbm_roots.specs.declared.load.Load.{Load}
-use Rattle.bbm_roots.specs.declared.pending.Pending.{Pending}
 use Rattle.bbm_roots.proofs.Flat.{reads_tag-is}
 use Rattle.bbm_roots.proofs.Steps.{holds-stay, awaited-stay, noted}
 use Rattle.bbm_roots.proofs.PendingBits.{entry-there}
@@ -43,21 +40,16 @@ returns-clause-taken c = λ calls stands.
           ⊎_elim (λ (lt : p < pes_of c.args.self.now). lt)
           (λ (past : pes_of c.args.self.now ≤ p). absurd (false≢true (sym (stands.inside g r p past) ∙ held)))
           (cases_lt p (pes_of c.args.self.now)) in
-          ap (λ (xs : List Pending). pending_in xs q b g p)
-          (with_items_is c.args.self.now.pendings c.note.new.pendings (omega (arith, c.note.auto.pendings)))
-          ∙ c.note.ensures q b g p
+          c.note.ensures q b g r p p (stands.holds g r p ∙ held)
           ∙ noted world c.args.issuer c.args.scope.now c.args.vmid calls q b g p
-          (pending_in c.deref_mut.result.now q b g p) (has_pending q b g c.deref_mut.result.now)
-          (nat_lt p (pes_of c.args.self.now)) (pe_in c.reach-reach.result p)
+          (pending_in c.args.self.now.pendings q b g p) (has_pending c.args.self.now.pendings q b g)
+          (nat_lt p (pes_of c.args.self.now)) (reaches c.args.scope.now c.args.issuer p)
           (reads_tag world (loads_in c.args.self.now.registers.first.items p) (loads_in c.args.self.now.registers.second.items p) g)
-          (ap (λ (xs : List Pending). pending_in xs q b g p) c.deref_mut.ensures.value
-          ∙ stands.pendings q b g r p held)
-          (λ key. ap (λ (xs : List Pending). has_pending q b g xs) c.deref_mut.ensures.value
-          ∙ entry-there q c.args.issuer c.args.scope.now.broadcast b (takes_whole_tag c.args.scope.now c.args.vmid g) g
-          c.args.self.now.pendings.items key
-          (c.requires.ready g r p (stands.holds g r p ∙ held)))
+          (stands.pendings q b g r p held)
+          (λ key. entry-there q c.args.issuer c.args.scope.now.broadcast b (takes_whole_tag c.args.scope.now c.args.vmid g) g
+          c.args.self.now.pendings key (c.requires.ready g r p (stands.holds g r p ∙ held)))
           (lt-ltb p (pes_of c.args.self.now) below)
-          (c.reach-reach.ensures p below)
+          refl
           (ap (λ (xs : List Load). reads_tag world xs (loads_in c.args.self.now.registers.second.items p) g) (stands.first p below)
           ∙ ap (λ (ys : List Load). reads_tag world (register_values calls p (first_reg world)) ys g) (stands.second p below)
           ∙ sym (reads_tag-is world (register_values calls p (first_reg world)) (register_values calls p (second_reg world)) g));

@@ -1,5 +1,5 @@
 use Rattle.std.proofs.Common.{◌≡◌, ◌≢◌, ◌≤◌, ◌∙◌, ap, sym, refl, Bool, ◌&&◌, ◌||◌, not, nat_eq, List, ◌∷◌, true, false}
-use Rattle.std.proofs.Common.{cond, ℕ, Option, Ok, Err, arith, Vec, Global}
+use Rattle.std.proofs.Common.{cond, ℕ, Option, Ok, Err, arith}
 use Rattle.std.proofs.lemmas.Bool.{ne_eqb}
 use Rattle.std.proofs.lemmas.Result.{err_from_is_err_and}
 use Rattle.bbm_regimes.specs.Registers.{tag_number}
@@ -16,7 +16,7 @@ use Rattle.bbm_roots.specs.DeclaredRoots.{root_at, is_root}
 use Rattle.bbm_roots.specs.RootsStand.{world_of, pes_of}
 use Rattle.bbm_roots.specs.RootTags.{readings, holds_at}
 use Rattle.bbm_roots.specs.declared.load.Load.{Load}
-use Rattle.bbm_roots.specs.declared.pending.Pending.{Pending}
+use Rattle.bbm_roots.specs.declared.pending.Pendings.{Pendings}
 use Rattle.bbm_roots.specs.declared.registers.Registers.{Registers}
 use Rattle.bbm_roots.specs.declared.reading.Reading.{Reading}
 use Rattle.bbm_roots.proofs.Conflicts.{calm-from}
@@ -105,8 +105,8 @@ returns-clause-taken c = λ calls stands.
       pendings = λ q b g r p held.
           c.take.ensures.pendings q b g p
           ∙ awaited-written world call calls pe seen here there (λ g p. refl) q b g r p
-          (pending_in c.make_room.new.self.pendings.items q b g p) refl refl held
-          (λ before. ap (λ (v : Vec Pending Global). pending_in v.items q b g p) c.in_ok-make_room.ensures.pendings
+          (pending_in c.make_room.new.self.pendings q b g p) refl refl held
+          (λ before. ap (λ (v : Pendings). pending_in v q b g p) c.in_ok-make_room.ensures.pendings
           ∙ stands.pendings q b g r p before);
     })
 

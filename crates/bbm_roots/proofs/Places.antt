@@ -1,0 +1,229 @@
+-- The places of issuers, where their TLBIs wait.
+use Rattle.std.proofs.Common.{◌≡◌, ℕ, zero, suc, ◌<◌, ◌≤◌, ◌++◌, Bool, true, false, ◌&&◌, nat_eq, List, [], ◌∷◌, length}
+use Rattle.std.proofs.Common.{set, get_or, refl, sym, ◌∙◌, ◌+◌, ◌||◌, not, ap, arith, cond, Option, Some, None}
+use Rattle.std.proofs.Common.{is_some, ⊎_elim}
+use Rattle.std.specs.Map.{lookup}
+use Rattle.std.proofs.lemmas.Bool.{eqb-true, eq-eqb, cases_lt, false≢true}
+use Rattle.std.proofs.lemmas.Bool.Decides.{nat_tests}
+use Rattle.std.proofs.Math.Dec.{eqb-suc-zero, eqb-zero-suc, eqb-suc-suc}
+use Rattle.indexmap.specs.IndexMap.{IndexMap, get, index_map_len, Updates}
+use Rattle.bbm_regimes.specs.declared.regime.Tag.{Tag}
+use Rattle.bbm_roots.specs.Holds.{tag_key}
+use Rattle.bbm_roots.specs.RootPendings.{slot_of, same_flag, wait_at, wait_bit, wait_in, has_wait}
+use Rattle.bbm_roots.specs.declared.pending.Waiting.{Waiting}
+use mathlib.Core.Bool.{and-true, and-false, or-false}
+
+none-among : (key : ℕ) (es : List (ℕ × Waiting)) → length es ≡ 0 → lookup (nat_eq key) es ≡ None
+none-among key [] e = refl
+none-among key (x ∷ xs) e = absurd (omega (arith, e))
+
+lookup-last : (test : ℕ → Bool) (es : List (ℕ × Waiting)) (e : ℕ × Waiting) → lookup test es ≡ None → test e.0 ≡ true →
+    lookup test (es ++ e ∷ []) ≡ Some e.1
+lookup-last test [] e none hit = ap (λ (b : Bool). cond b (Some e.1) None) hit
+lookup-last test (x ∷ xs) e none hit = by_case (test x.0) (lookup-last test xs e) none
+  where
+    by_case : (b : Bool) → (lookup test xs ≡ None → test e.0 ≡ true → lookup test (xs ++ e ∷ []) ≡ Some e.1) →
+        cond b (Some x.1) (lookup test xs) ≡ None → cond b (Some x.1) (lookup test (xs ++ e ∷ [])) ≡ Some e.1
+    by_case true rest none = absurd (cc)
+    by_case false rest none = rest none hit
+
+module _ {S : Type 0} where
+  -- the entry under a key in a place that is there
+  pub at-get_or : (ms : List (IndexMap ℕ Waiting S)) (n key : ℕ) (d : IndexMap ℕ Waiting S) → n < length ms →
+      wait_at ms n key ≡ get nat_eq (get_or ms n d) key
+  at-get_or [] n key d h = absurd (omega arith)
+  at-get_or (m ∷ ms) zero key d h = refl
+  at-get_or (m ∷ ms) (suc n) key d h = at-get_or ms n key d (omega arith)
+
+  -- one place written
+  pub at-set : (ms : List (IndexMap ℕ Waiting S)) (i : ℕ) (new : IndexMap ℕ Waiting S) (n key : ℕ) → i < length ms →
+      wait_at (set ms i new) n key ≡ cond (nat_eq n i) (get nat_eq new key) (wait_at ms n key)
+  at-set [] i new n key h = absurd (omega arith)
+  at-set (m ∷ ms) zero new zero key h = refl
+  at-set (m ∷ ms) zero new (suc n) key h = rw (eqb-suc-zero n) refl
+  at-set (m ∷ ms) (suc i) new zero key h = rw (eqb-zero-suc i) refl
+  at-set (m ∷ ms) (suc i) new (suc n) key h = rw (eqb-suc-suc n i) (at-set ms i new n key (omega arith))
+
+  -- past the last place there is nothing
+  pub at-past : (ms : List (IndexMap ℕ Waiting S)) (n key : ℕ) → length ms ≤ n → wait_at ms n key ≡ None
+  at-past [] n key h = refl
+  at-past (m ∷ ms) zero key h = absurd (omega arith)
+  at-past (m ∷ ms) (suc n) key h = at-past ms n key (omega arith)
+
+  -- one more place, which is empty
+  pub at-push : (m : IndexMap ℕ Waiting S) → ((key : ℕ) → get nat_eq m key ≡ None) →
+      (ms : List (IndexMap ℕ Waiting S)) (n key : ℕ) →
+      wait_at (ms ++ m ∷ []) n key ≡ wait_at ms n key
+  at-push m none [] zero key = none key
+  at-push m none [] (suc n) key = refl
+  at-push m none (x ∷ xs) zero key = refl
+  at-push m none (x ∷ xs) (suc n) key = at-push m none xs n key
+
+  pub at-place : (ms : List (IndexMap ℕ Waiting S)) (i : ℕ) (m : IndexMap ℕ Waiting S) → i < length ms →
+      m ≡ get_or ms i m → (key : ℕ) →
+      wait_at ms i key ≡ get nat_eq m key
+  at-place ms i m h is key = at-get_or ms i key m h ∙ ap (λ (x : IndexMap ℕ Waiting S). get nat_eq x key) (sym is)
+
+  -- one more place, as a loop makes it
+  pub at-grown : (m : IndexMap ℕ Waiting S) (ms ns : List (IndexMap ℕ Waiting S)) → ns ≡ ms ++ m ∷ [] →
+      m.entries ≡ [] → (n key : ℕ) →
+      wait_at ns n key ≡ wait_at ms n key
+  at-grown m ms ns is empty n key =
+      ap (λ (xs : List (IndexMap ℕ Waiting S)). wait_at xs n key) is
+      ∙ at-push m (λ k. ap (λ (es : List (ℕ × Waiting)). lookup (nat_eq k) es) empty) ms n key
+
+  -- one place emptied, where it is there
+  pub at-emptied : (ms : List (IndexMap ℕ Waiting S)) (i : ℕ) (new : IndexMap ℕ Waiting S) → ((key : ℕ) →
+      get nat_eq new key ≡ None) →
+      i < length ms → (n key : ℕ) → wait_at (set ms i new) n key ≡ cond (nat_eq n i) None (wait_at ms n key)
+  at-emptied ms i new none h n key =
+      at-set ms i new n key h ∙ ap (λ (o : Option Waiting). cond (nat_eq n i) o (wait_at ms n key)) (none key)
+
+  pub at-outside : (ms : List (IndexMap ℕ Waiting S)) (i : ℕ) → length ms ≤ i → (n key : ℕ) →
+      wait_at ms n key ≡ cond (nat_eq n i) None (wait_at ms n key)
+  at-outside ms i past n key = by_case (nat_eq n i) refl
+    where
+      by_case : (b : Bool) → nat_eq n i ≡ b → wait_at ms n key ≡ cond b None (wait_at ms n key)
+      by_case false e = refl
+      by_case true e = let at : n ≡ i = eqb-true n i e in at-past ms n key (omega arith)
+
+  pub none-in : (m : IndexMap ℕ Waiting S) → index_map_len m ≡ 0 → (key : ℕ) → get nat_eq m key ≡ None
+  none-in m e key = none-among key m.entries e
+
+  -- each place up to this one, which was just written, has the tag at the PE where it had it and c holds
+  pub at-next : (g : Tag) (p : ℕ) (c : Bool) (now old : List (IndexMap ℕ Waiting S)) (i : ℕ)
+      (d y : IndexMap ℕ Waiting S) → i < length now →
+      wait_at now i (tag_key g) ≡ wait_at old i (tag_key g) → wait_in y g p ≡ (wait_in (get_or now i d) g p && c) →
+      ((n : ℕ) → n < i → wait_bit g p (wait_at now n (tag_key g)) ≡ (wait_bit g p (wait_at old n (tag_key g)) && c)) →
+      (n : ℕ) → n < i + 1 →
+      wait_bit g p (wait_at (set now i y) n (tag_key g)) ≡ (wait_bit g p (wait_at old n (tag_key g)) && c)
+  at-next g p c now old i d y h same here front n lt =
+      ap (wait_bit g p) (at-set now i y n (tag_key g) h) ∙ by_case (nat_eq n i) refl
+    where
+      by_case : (b : Bool) → nat_eq n i ≡ b →
+          wait_bit g p (cond b (get nat_eq y (tag_key g)) (wait_at now n (tag_key g)))
+          ≡ (wait_bit g p (wait_at old n (tag_key g)) && c)
+      by_case true e =
+          let at : n ≡ i = eqb-true n i e in
+          here
+          ∙ ap (λ (o : Option Waiting). wait_bit g p o && c) (sym (at-get_or now i (tag_key g) d h) ∙ same)
+          ∙ ap (λ (k : ℕ). wait_bit g p (wait_at old k (tag_key g)) && c) (sym at)
+      by_case false e =
+          ⊎_elim (λ (less : n < i). front n less)
+          (λ (past : i ≤ n). let at : n ≡ i = omega arith in absurd (false≢true (sym e ∙ eq-eqb n i at)))
+          (cases_lt n i)
+
+  pub at-behind : (now : List (IndexMap ℕ Waiting S)) (i : ℕ) (y : IndexMap ℕ Waiting S) → i < length now →
+      (n key : ℕ) → i + 1 ≤ n →
+      wait_at (set now i y) n key ≡ wait_at now n key
+  at-behind now i y h n key le =
+      at-set now i y n key h
+      ∙ ap (λ (b : Bool). cond b (get nat_eq y key) (wait_at now n key)) (apart (nat_eq n i) refl)
+    where
+      apart : (b : Bool) → nat_eq n i ≡ b → nat_eq n i ≡ false
+      apart false e = e
+      apart true e = let at : n ≡ i = eqb-true n i e in absurd (omega arith)
+
+  -- one place changed, where the entries of a tag at a PE stay
+  pub at-kept : (ms : List (IndexMap ℕ Waiting S)) (i : ℕ) (m new : IndexMap ℕ Waiting S) → i < length ms →
+      m ≡ get_or ms i m →
+      ((g : Tag) (p : ℕ) → wait_in new g p ≡ wait_in m g p) → (n : ℕ) (g : Tag) (p : ℕ) →
+      wait_bit g p (wait_at (set ms i new) n (tag_key g)) ≡ wait_bit g p (wait_at ms n (tag_key g))
+  at-kept ms i m new h is same n g p = ap (wait_bit g p) (at-set ms i new n (tag_key g) h) ∙ by_case (nat_eq n i) refl
+    where
+      by_case : (b : Bool) → nat_eq n i ≡ b →
+          wait_bit g p (cond b (get nat_eq new (tag_key g)) (wait_at ms n (tag_key g)))
+          ≡ wait_bit g p (wait_at ms n (tag_key g))
+      by_case false e = refl
+      by_case true e =
+          same g p ∙ ap (wait_bit g p) (sym (at-place ms i m h is (tag_key g)))
+          ∙ ap (λ (k : ℕ). wait_bit g p (wait_at ms k (tag_key g))) (sym (eqb-true n i e))
+
+  -- the place that was just written
+  pub at-here : (ms : List (IndexMap ℕ Waiting S)) (i : ℕ) (new : IndexMap ℕ Waiting S) → i < length ms → (key : ℕ) →
+      wait_at (set ms i new) i key ≡ get nat_eq new key
+  at-here ms i new h key =
+      at-set ms i new i key h ∙ ap (λ (b : Bool). cond b (get nat_eq new key) (wait_at ms i key)) (eq-eqb i i refl)
+
+  -- one place changed, where the entry of a tag gets a PE if z holds
+  pub at-noted : (ms : List (IndexMap ℕ Waiting S)) (i : ℕ) (m new : IndexMap ℕ Waiting S) → i < length ms →
+      m ≡ get_or ms i m →
+      (g : Tag) (p : ℕ) (z : Bool) → wait_in new g p ≡ (wait_in m g p || (has_wait m g && z)) → (n : ℕ) →
+      wait_bit g p (wait_at (set ms i new) n (tag_key g))
+      ≡ (wait_bit g p (wait_at ms n (tag_key g)) || (is_some (wait_at ms n (tag_key g)) && (nat_eq n i && z)))
+  at-noted ms i m new h is g p z noted n = ap (wait_bit g p) (at-set ms i new n (tag_key g) h)
+      ∙ by_case (nat_eq n i) refl
+    where
+      by_case : (b : Bool) → nat_eq n i ≡ b →
+          wait_bit g p (cond b (get nat_eq new (tag_key g)) (wait_at ms n (tag_key g)))
+          ≡ (wait_bit g p (wait_at ms n (tag_key g)) || (is_some (wait_at ms n (tag_key g)) && (b && z)))
+      by_case false e =
+          sym (or-false (wait_bit g p (wait_at ms n (tag_key g))))
+          ∙ ap (λ (b : Bool). wait_bit g p (wait_at ms n (tag_key g))
+          || b) (sym (and-false (is_some (wait_at ms n (tag_key g)))))
+      by_case true e =
+          noted
+          ∙ ap (λ (o : Option Waiting). wait_bit g p o || (is_some o && z)) (sym (at-place ms i m h is (tag_key g)))
+          ∙ ap (λ (k : ℕ). wait_bit g p (wait_at ms k (tag_key g))
+          || (is_some (wait_at ms k (tag_key g)) && z)) (sym (eqb-true n i e))
+
+  -- where the place isn't there, there is no entry
+  pub at-unnoted : (ms : List (IndexMap ℕ Waiting S)) (i : ℕ) → length ms ≤ i → (g : Tag) (p : ℕ) (z : Bool) (n : ℕ) →
+      wait_bit g p (wait_at ms n (tag_key g))
+      ≡ (wait_bit g p (wait_at ms n (tag_key g)) || (is_some (wait_at ms n (tag_key g)) && (nat_eq n i && z)))
+  at-unnoted ms i past g p z n = by_case (nat_eq n i) refl
+    where
+      by_case : (b : Bool) → nat_eq n i ≡ b →
+          wait_bit g p (wait_at ms n (tag_key g))
+          ≡ (wait_bit g p (wait_at ms n (tag_key g)) || (is_some (wait_at ms n (tag_key g)) && (b && z)))
+      by_case false e =
+          sym (or-false (wait_bit g p (wait_at ms n (tag_key g))))
+          ∙ ap (λ (b : Bool). wait_bit g p (wait_at ms n (tag_key g))
+          || b) (sym (and-false (is_some (wait_at ms n (tag_key g)))))
+      by_case true e =
+          let at : n ≡ i = eqb-true n i e in
+          let none : wait_at ms n (tag_key g) ≡ None = at-past ms n (tag_key g) (omega arith) in
+          ap (wait_bit g p) none ∙ ap (λ (o : Option Waiting). wait_bit g p o || (is_some o && z)) (sym none)
+
+  -- an entry taken out at the end
+  pub popped-step : (old new : IndexMap ℕ Waiting S) (key : ℕ) (w : Waiting) →
+      old.entries ≡ new.entries ++ (key, w) ∷ [] →
+      Updates nat_eq old new key None → (g : Tag) (p : ℕ) (h : Bool) →
+      ((h && not (nat_eq (tag_key g) key && wait_bit g p (Some w))) && not (wait_in new g p))
+      ≡ (h && not (wait_in old g p))
+  popped-step old new key w is updates g p h = by_case (nat_eq (tag_key g) key) refl
+    where
+      gone : get nat_eq new key ≡ None
+      gone = updates.1
+
+      was : get nat_eq old key ≡ Some w
+      was =
+          ap (λ (es : List (ℕ × Waiting)). lookup (nat_eq key) es) is
+          ∙ lookup-last (nat_eq key) new.entries (key, w) gone (eq-eqb key key refl)
+
+      by_case : (b : Bool) → nat_eq (tag_key g) key ≡ b →
+          ((h && not (b && wait_bit g p (Some w))) && not (wait_in new g p)) ≡ (h && not (wait_in old g p))
+      by_case true e =
+          let at : tag_key g ≡ key = eqb-true (tag_key g) key e in
+          ap (λ (k : ℕ). (h && not (wait_bit g p (Some w))) && not (wait_bit g p (get nat_eq new k))) at
+          ∙ ap (λ (o : Option Waiting). (h && not (wait_bit g p (Some w))) && not (wait_bit g p o)) gone
+          ∙ and-true (h && not (wait_bit g p (Some w)))
+          ∙ ap (λ (o : Option Waiting). h && not (wait_bit g p o)) (sym was)
+          ∙ ap (λ (k : ℕ). h && not (wait_bit g p (get nat_eq old k))) (sym at)
+      by_case false e =
+          ap (λ (b : Bool). b && not (wait_in new g p)) (and-true h)
+          ∙ ap (λ (o : Option Waiting). h
+          && not (wait_bit g p o)) (updates.2 (tag_key g) (apart (nat_eq key (tag_key g)) refl))
+        where
+          apart : (b : Bool) → nat_eq key (tag_key g) ≡ b → nat_eq key (tag_key g) ≡ false
+          apart false k = k
+          apart true k = absurd (false≢true (sym e ∙ eq-eqb (tag_key g) key (sym (eqb-true key (tag_key g) k))))
+
+-- each issuer has two places of its own
+pub slots : (q : ℕ) (b : Bool) (r : ℕ) (c : Bool) → nat_eq (slot_of q b) (slot_of r c) ≡ (nat_eq q r && same_flag c b)
+slots q true r true = grind (arith, nat_tests)
+slots q true r false = grind (arith, nat_tests)
+slots q false r true = grind (arith, nat_tests)
+slots q false r false = grind (arith, nat_tests)
+
+pub ruleset growing = (at-grown)

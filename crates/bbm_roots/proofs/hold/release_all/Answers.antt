@@ -1,0 +1,39 @@
+use Rattle.std.proofs.Common.{◌≡◌, ◌∙◌, ◌&&◌, not, arith, ap, sym, Bool, Option, ℕ, HashMap}
+use Rattle.std.proofs.Common.{BuildHasherDefault, FoldHasher}
+use Rattle.std.proofs.lemmas.Bool.{false≢true}
+use Rattle.bbm_roots.specs.Holds.{hold_in, tag_key}
+use Rattle.bbm_roots.specs.RootPendings.{wait_in, wait_bit}
+use Rattle.bbm_roots.specs.declared.hold.Held.{Held}
+use Rattle.bbm_roots.specs.declared.pending.Waiting.{Waiting}
+use Rattle.bbm_roots.proofs.Places.{none-in, popped-step}
+use Rattle.bbm_roots.proofs.hold.release_all.Goals.{in-Some, in_default}
+use Rattle.bbm_roots.proofs.hold.release_all.Goals as goal
+use mathlib.Core.Bool.{and-true}
+
+pub loop-count-preserved : goal.loop-count-preserved
+loop-count-preserved c =
+    let after = c.pop.new.self in
+    elim c.match-pop.branch [
+      | in-Some w ↦ record {
+        len = omega (arith, w.in-Some.ensures.len, c.loop-count.invariant.len);
+        bits = λ g r p.
+            ap (λ (h : HashMap ℕ Held (BuildHasherDefault FoldHasher)). hold_in h g r p
+            && not (wait_in after g p)) w.holds-is
+            ∙ ap (λ (b : Bool). b && not (wait_in after g p)) (w.release_under.ensures g r p)
+            ∙ popped-step c.loop-count.waits after w.in-Some.key w.in-Some.waiting w.in-Some.ensures.entries
+            w.in-Some.ensures.updates g p (hold_in c.loop-count.holds g r p)
+            ∙ c.loop-count.invariant.bits g r p;
+      }
+      | in_default w ↦
+          absurd (false≢true (w.in_default.ensures.found.1
+          (omega (arith, c.loop-count.invariant.len, c.loop-count-test.true, c.len-count-end.ensures.len))))
+    ]
+
+pub returns-clause-holds : goal.returns-clause-holds
+returns-clause-holds c = λ g r p.
+    sym (ap (λ (o : Option Waiting). hold_in c.loop-count.holds g r p && not (wait_bit g p o))
+    (none-in c.loop-count.waits (omega arith) (tag_key g)) ∙ and-true (hold_in c.loop-count.holds g r p))
+    ∙ c.loop-count.invariant.bits g r p
+
+pub returns-clause-waits : goal.returns-clause-waits
+returns-clause-waits c = none-in c.loop-count.waits (omega arith)

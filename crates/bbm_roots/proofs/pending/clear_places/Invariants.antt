@@ -1,0 +1,13 @@
+use Rattle.std.proofs.Common.{◌≡◌, ℕ, ◌<◌, ◌≤◌, ◌&&◌, not, nat_eq}
+use Rattle.bbm_regimes.specs.declared.regime.Tag.{Tag}
+use Rattle.bbm_roots.specs.Holds.{tag_key}
+use Rattle.bbm_roots.specs.RootPendings.{wait_at, wait_bit}
+use Rattle.bbm_roots.specs.Readings.{has_tag}
+use Rattle.bbm_roots.proofs.pending.clear_places.Given as goal
+
+abbrev pub invariant-loop-map : goal.invariant-loop-map
+invariant-loop-map l = record {
+  front : (n : ℕ) (g : Tag) (p : ℕ) → n < l.map-index → wait_bit g p (wait_at l.waits n (tag_key g))
+      ≡ (wait_bit g p (wait_at l.initial.waits n (tag_key g)) && not (nat_eq p l.pe && has_tag g l.readings));
+  back : (n key : ℕ) → l.map-index ≤ n → wait_at l.waits n key ≡ wait_at l.initial.waits n key;
+}

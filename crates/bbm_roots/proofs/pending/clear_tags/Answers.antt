@@ -1,0 +1,24 @@
+use Rattle.std.proofs.Common.{◌≡◌, ◌∙◌, ◌&&◌, ◌||◌, not, take, arith, ap, sym, refl, Bool, true, false, nat_eq}
+use Rattle.bbm_roots.specs.RootPendings.{wait_in}
+use Rattle.bbm_roots.specs.Readings.{has_tag, is_of_tag, same_tag}
+use Rattle.bbm_roots.proofs.Lists.{any-next}
+use Rattle.bbm_roots.proofs.pending.clear_tags.Goals as goal
+
+cleared : (h k a b : Bool) → ((h && not (k && a)) && not (k && b)) ≡ (h && not (k && (a || b)))
+cleared true true true b = refl
+cleared true true false b = refl
+cleared true false a b = refl
+cleared false k a b = refl
+
+pub loop-reading-preserved : goal.loop-reading-preserved
+loop-reading-preserved c = λ g p.
+    let readings = c.args.readings.now in
+    let i = c.loop-reading.reading-index in
+    let x = c.reading-item.result in
+    let old = wait_in c.args.map.now g p in
+    let here = nat_eq p c.args.pe in
+    c.clear_tag.ensures g p
+    ∙ ap (λ (b : Bool). b && not (here && same_tag x.tag g)) (c.loop-reading.invariant g p)
+    ∙ cleared old here (has_tag g (take i readings)) (same_tag x.tag g)
+    ∙ ap (λ (b : Bool). old && not (here
+    && b)) (sym (any-next (is_of_tag g) readings i x (omega arith) c.reading-item.is))

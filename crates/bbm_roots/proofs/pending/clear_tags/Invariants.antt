@@ -1,0 +1,10 @@
+use Rattle.std.proofs.Common.{◌≡◌, ℕ, ◌&&◌, not, nat_eq, take}
+use Rattle.bbm_regimes.specs.declared.regime.Tag.{Tag}
+use Rattle.bbm_roots.specs.RootPendings.{wait_in}
+use Rattle.bbm_roots.specs.Readings.{has_tag}
+use Rattle.bbm_roots.proofs.pending.clear_tags.Given as goal
+
+abbrev pub invariant-loop-reading : goal.invariant-loop-reading
+invariant-loop-reading l =
+    (g : Tag) (p : ℕ) → wait_in l.map g p
+    ≡ (wait_in l.initial.map g p && not (nat_eq p l.pe && has_tag g (take l.reading-index l.readings)))
