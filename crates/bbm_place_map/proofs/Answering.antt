@@ -1,9 +1,8 @@
 -- One entry that a DSB answered, among the others.
-use Rattle.std.proofs.Common.{◌≡◌, ◌≢◌, ℕ, Bool, true, false, ◌&&◌, nat_eq, List, [], length, Option, Some, None, refl}
+use Rattle.std.proofs.Common.{◌≡◌, ◌≢◌, ℕ, Bool, true, false, nat_eq, List, [], length, Option, Some, None, refl}
 use Rattle.std.proofs.Common.{ap, sym, subst, ◌∙◌, if◌then◌else◌, slice_get}
 use Rattle.std.specs.Option.{option_map}
 use Rattle.std.proofs.lemmas.Bool.{eq-eqb, ne_eqb, cond-true, cond-false}
-use Rattle.bbm_barriers.specs.declared.Dsb.{Dsb}
 use Rattle.bbm_entry_state.specs.EntryCalls.{Completed}
 use Rattle.bbm_entry_state.specs.Points.{waits}
 use Rattle.bbm_entry_state.specs.declared.pending.Pends.{Pends}
@@ -15,16 +14,17 @@ use Rattle.bbm_place_map.specs.Parts.{marks_in}
 use Rattle.bbm_place_map.specs.Sound.{Linked, Placed}
 use Rattle.bbm_place_map.specs.declared.cell.Cell.{Cell}
 use Rattle.bbm_place_map.specs.declared.entry.Entry.{Entry}
+use Rattle.bbm_place_map.specs.declared.orders.Barrier.{Barrier}
 use Rattle.bbm_place_map.proofs.Completing.{completes_none}
 use Rattle.bbm_place_map.proofs.Idle.{nothing_waits}
 use Rattle.bbm_place_map.proofs.Seats.{cells_same, linked_seated, placed_seated, seats_changed, entries_changed}
 use Rattle.bbm_lemmas.proofs.Bools.{with_true}
 
-pub completes_at : (issuer : ℕ) (dsb : Dsb) (n : ℕ) (o o' p p' : Option Entry) → o ≡ o' → p ≡ p'
-    → Completes issuer dsb n o' p' → Completes issuer dsb n o p
-completes_at issuer dsb n o o' p p' is is' h =
-    let P : Option Entry → Type 0 = λ x. Completes issuer dsb n x p' in
-    let Q : Option Entry → Type 0 = λ y. Completes issuer dsb n o y in
+pub completes_at : (by : Barrier) (o o' p p' : Option Entry) → o ≡ o' → p ≡ p'
+    → Completes by o' p' → Completes by o p
+completes_at by o o' p p' is is' h =
+    let P : Option Entry → Type 0 = λ x. Completes by x p' in
+    let Q : Option Entry → Type 0 = λ y. Completes by o y in
     subst Q (sym is') (subst P (sym is) h)
 
 none_broken : (entries : List Entry) → entries ≡ [] → (o : Option ℕ) → entry_of entries o ≡ None
@@ -32,17 +32,17 @@ none_broken entries none None = refl
 none_broken entries none (Some k) = ap (λ (es : List Entry). slice_get es k) none
 
 -- where no place is broken nothing is answered
-pub completes_whole : (issuer : ℕ) (dsb : Dsb) (n : ℕ) (cells : List Cell) (entries : List Entry) → entries ≡ [] → (j : ℕ)
-    → Completes issuer dsb n (entry_in cells entries j) (entry_in cells entries j)
-completes_whole issuer dsb n cells entries none j =
+pub completes_whole : (by : Barrier) (cells : List Cell) (entries : List Entry) → entries ≡ [] → (j : ℕ)
+    → Completes by (entry_in cells entries j) (entry_in cells entries j)
+completes_whole by cells entries none j =
     let is = none_broken entries none (slot_in cells j) in
-    completes_at issuer dsb n (entry_in cells entries j) None (entry_in cells entries j) None is is (completes_none issuer dsb n)
+    completes_at by (entry_in cells entries j) None (entry_in cells entries j) None is is (completes_none by)
 
 none_twice : (b : Bool) (x y : Option Entry) → (if b then None else if b then x else y) ≡ (if b then None else y)
 none_twice true x y = refl
 none_twice false x y = refl
 
-module _ (issuer n : ℕ) (dsb : Dsb) (cells : List Cell) (entries : List Entry) (k : ℕ) (e : Entry)
+module _ (by : Barrier) (cells : List Cell) (entries : List Entry) (k : ℕ) (e : Entry)
     (linked : Linked cells entries) (was : slice_get entries k ≡ Some e) where
   old_entry : (j : ℕ) → cell_at entries k ≡ Some j → entry_in cells entries j ≡ Some e
   old_entry j at = ap (entry_of entries) (linked.back j k at) ∙ was
@@ -72,11 +72,11 @@ module _ (issuer n : ℕ) (dsb : Dsb) (cells : List Cell) (entries : List Entry)
       mid_here : entry_in cells mid j ≡ Some f
       mid_here = mid_is j ∙ cond-true (nat_eq j j) (Some f) (entry_in cells entries j) (eq-eqb j j refl)
 
-      pub here_kept : Completed (Broken e.marks) (pends_in e.pends.items issuer) dsb n (Broken f.marks) (pends_in f.pends.items issuer)
-          → ((q : ℕ) → q ≢ issuer → pends_in f.pends.items q ≡ pends_in e.pends.items q)
-          → Completes issuer dsb n (entry_in cells entries j) (entry_in cells mid j)
+      pub here_kept : Completed (Broken e.marks) (pends_in e.pends.items by.issuer) by.dsb by.n (Broken f.marks) (pends_in f.pends.items by.issuer)
+          → ((q : ℕ) → q ≢ by.issuer → pends_in f.pends.items q ≡ pends_in e.pends.items q)
+          → Completes by (entry_in cells entries j) (entry_in cells mid j)
       here_kept done others =
-          completes_at issuer dsb n (entry_in cells entries j) (Some e) (entry_in cells mid j) (Some f) (old_entry j at) mid_here (record {
+          completes_at by (entry_in cells entries j) (Some e) (entry_in cells mid j) (Some f) (old_entry j at) mid_here (record {
             own = done;
             others = λ q other b c p. ap (λ (x : Pends). waits x b c p) (others q other);
           })
@@ -92,10 +92,10 @@ module _ (issuer n : ℕ) (dsb : Dsb) (cells : List Cell) (entries : List Entry)
         none_here : entry_in cells' entries' j ≡ None
         none_here = gone_is j ∙ cond-true (nat_eq j j) None (entry_in cells entries j) (eq-eqb j j refl)
 
-        pub here_gone : Completed (Broken e.marks) (pends_in e.pends.items issuer) dsb n Clean no_pends
-            → Completes issuer dsb n (entry_in cells entries j) (entry_in cells' entries' j)
+        pub here_gone : Completed (Broken e.marks) (pends_in e.pends.items by.issuer) by.dsb by.n Clean no_pends
+            → Completes by (entry_in cells entries j) (entry_in cells' entries' j)
         here_gone done =
-            completes_at issuer dsb n (entry_in cells entries j) (Some e) (entry_in cells' entries' j) None (old_entry j at) none_here (record {
+            completes_at by (entry_in cells entries j) (Some e) (entry_in cells' entries' j) None (old_entry j at) none_here (record {
               own = done;
               others = λ q other. nothing_waits;
             })

@@ -4,7 +4,6 @@ use Rattle.std.proofs.Common.{◌∙◌, slice_get}
 use Rattle.std.specs.Option.{option_map}
 use Rattle.std.proofs.lemmas.Bool.{false≢true}
 use Rattle.std.proofs.lemmas.Option.{same_Some}
-use Rattle.bbm_barriers.specs.declared.Dsb.{Dsb}
 use Rattle.bbm_tlbi_scope.specs.declared.entry.Cover.{Cover}
 use Rattle.bbm_entry_state.specs.EntryCalls.{Completed}
 use Rattle.bbm_entry_state.specs.Points.{waits}
@@ -17,18 +16,19 @@ use Rattle.bbm_place_map.specs.Sound.{Linked, Placed, index_of, at_index}
 use Rattle.bbm_place_map.specs.States.{state_from}
 use Rattle.bbm_place_map.specs.declared.cell.Cell.{Cell}
 use Rattle.bbm_place_map.specs.declared.entry.Entry.{Entry}
+use Rattle.bbm_place_map.specs.declared.orders.Barrier.{Barrier}
 use Rattle.bbm_place_map.proofs.Completing.{completes_none}
 use Rattle.bbm_place_map.proofs.Idle.{nothing_waits}
 
-module _ (issuer : ℕ) (dsb : Dsb) (n : ℕ) (cells cells' : List Cell) (entries entries' : List Entry)
-    (each : (j : ℕ) → Completes issuer dsb n (entry_in cells entries j) (entry_in cells' entries' j)) where
+module _ (by : Barrier) (cells cells' : List Cell) (entries entries' : List Entry)
+    (each : (j : ℕ) → Completes by (entry_in cells entries j) (entry_in cells' entries' j)) where
   pub completed_at : (o : Option ℕ)
-      → Completed (state_from None (at_index None (marks_in cells entries) o)) (at_index no_pends (pends_for cells entries issuer) o) dsb n
-      (state_from None (at_index None (marks_in cells' entries') o)) (at_index no_pends (pends_for cells' entries' issuer) o)
-  completed_at None = (completes_none issuer dsb n).own
+      → Completed (state_from None (at_index None (marks_in cells entries) o)) (at_index no_pends (pends_for cells entries by.issuer) o) by.dsb by.n
+      (state_from None (at_index None (marks_in cells' entries') o)) (at_index no_pends (pends_for cells' entries' by.issuer) o)
+  completed_at None = (completes_none by).own
   completed_at (Some j) = (each j).own
 
-  pub others_at : (q : ℕ) → q ≢ issuer → (o : Option ℕ) (b : Bool) (c : Cover) (p : ℕ)
+  pub others_at : (q : ℕ) → q ≢ by.issuer → (o : Option ℕ) (b : Bool) (c : Cover) (p : ℕ)
       → waits (at_index no_pends (pends_for cells' entries' q) o) b c p
       ≡ (is_some (at_index None (marks_in cells' entries') o) && waits (at_index no_pends (pends_for cells entries q) o) b c p)
   others_at q other None b c p = nothing_waits b c p

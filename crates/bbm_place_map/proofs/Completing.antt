@@ -1,7 +1,7 @@
 -- What a DSB answers, of one place.
-use Rattle.std.proofs.Common.{◌≡◌, ℕ, Bool, true, false, Option, None, refl, if◌then◌else◌}
+use Rattle.std.proofs.Common.{◌≡◌, Bool, true, false, Option, None, refl, if◌then◌else◌}
 use Rattle.bbm_descriptor.specs.declared.desc.Core.{Core}
-use Rattle.bbm_barriers.specs.declared.Dsb.{Dsb}
+use Rattle.bbm_place_map.specs.declared.orders.Barrier.{Barrier}
 use Rattle.bbm_lemmas.specs.EveryPe.{every_pe}
 use Rattle.bbm_entry_state.specs.EntryCalls.{clean_after}
 use Rattle.bbm_entry_state.specs.declared.state.EntryState.TheVariants.{Clean}
@@ -14,10 +14,10 @@ cases true = refl
 cases false = refl
 
 -- a place that wasn't broken
-pub completes_none : (issuer : ℕ) (dsb : Dsb) (n : ℕ) → Completes issuer dsb n None None
-completes_none issuer dsb n = record {
+pub completes_none : (by : Barrier) → Completes by None None
+completes_none by = record {
   own = record {
-    core = cases (every_pe n (clean_after Clean no_pends dsb));
+    core = cases (every_pe by.n (clean_after Clean no_pends by.dsb));
     broken = refl;
     writers = λ p. refl;
     seen = λ p. refl;

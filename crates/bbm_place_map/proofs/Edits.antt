@@ -37,12 +37,6 @@ room_for cells entries j linked within free =
     let as_many : count_by is_listed cells ≡ length entries = linked.count in
     omega arith
 
-pub few_entries : (cells : List Cell) (entries : List Entry) → Linked cells entries → length entries ≤ length cells
-few_entries cells entries linked =
-    let most : count_by is_listed cells ≤ length cells = count_by-le-length is_listed cells in
-    let as_many : count_by is_listed cells ≡ length entries = linked.count in
-    omega arith
-
 -- the number in a cell that was read
 pub slot_read : (cells : List Cell) (j : ℕ) (x : Cell) → j < length cells → x ≡ get_or cells j x → (o : Option ℕ) → x.slot ≡ o
     → slot_in cells j ≡ o

@@ -10,13 +10,6 @@ use Rattle.bbm_place_map.specs.Finds.{cover_in, is_found, FoundAs}
 use Rattle.bbm_place_map.specs.declared.found.Found.{Found}
 use mathlib.Core.Bool.{or-false, or-true}
 
-pub cover_step : (xs : List Found) (i : ℕ) (x : Found) (a : ℕ) → i < length xs → x ≡ get_or xs i x
-    → cover_in (drop i xs) a ≡ (if nat_eq x.place a then x.cover else cover_in (drop (i + 1) xs) a)
-cover_step xs i x a within is =
-    ap (λ (ys : List Found). cover_in ys a) (drop-cons xs i x within)
-    ∙ ap (λ (y : Found). if nat_eq y.place a then y.cover else cover_in (drop (suc i) xs) a) (sym is)
-    ∙ ap (λ (n : ℕ). if nat_eq x.place a then x.cover else cover_in (drop n xs) a) (sym (add-one i))
-
 pub cover_none : (xs : List Found) (a : ℕ) → is_found xs a ≡ false → cover_in xs a ≡ NoCover
 cover_none [] a none = refl
 cover_none (x ∷ xs) a none =
@@ -64,9 +57,6 @@ module _ (xs : List Found) (x : Found) (a : ℕ) where
 
   pub found_here : nat_eq x.place a ≡ true → is_found (xs ++ x ∷ []) a ≡ true
   found_here is = found_append xs (x ∷ []) a ∙ ap (λ (b : Bool). is_found xs a || (b || false)) is ∙ or-true (is_found xs a)
-
-  pub found_old : is_found xs a ≡ true → is_found (xs ++ x ∷ []) a ≡ true
-  found_old old = found_append xs (x ∷ []) a ∙ ap (λ (b : Bool). b || is_found (x ∷ []) a) old
 
   pub cover_old : is_found xs a ≡ true → cover_in (xs ++ x ∷ []) a ≡ cover_in xs a
   cover_old old = cover_append xs (x ∷ []) a ∙ cond-true (is_found xs a) (cover_in xs a) (cover_in (x ∷ []) a) old

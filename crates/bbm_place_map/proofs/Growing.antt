@@ -69,33 +69,6 @@ module _ (old new : ℕ → Option ℕ) (page count : ℕ) (updates : (p : ℕ) 
         | inr other ↦ index_old e.place other ∙ placed k e h
       ]
 
-  past_new : {X : Type 0} (d : X) (f g : ℕ → X) → ((i : ℕ) → g i ≡ f i) → ((i : ℕ) → count ≤ i → f i ≡ d)
-      → (a : ℕ) → a / 4096 * 4096 ≡ page → (t : Bool) → at_index d g (if t then option_map (λ b. b + a % 4096 / 8) (Some count) else None) ≡ d
-  past_new d f g same past a is true = same (count + a % 4096 / 8) ∙ past (count + a % 4096 / 8) (omega arith)
-  past_new d f g same past a is false = refl
-
-  pub at_grown : {X : Type 0} (d : X) (f g : ℕ → X) → ((i : ℕ) → g i ≡ f i) → ((i : ℕ) → count ≤ i → f i ≡ d)
-      → (a : ℕ) → at_index d g (index_of new a) ≡ at_index d f (index_of old a)
-  at_grown d f g same past a =
-      elim (cases_eq (a / 4096 * 4096) page) [
-        | inl is ↦
-            ap (at_index d g) (index_at a (Some count) (at_new (a / 4096 * 4096) is)) ∙ past_new d f g same past a is (a % 8 == 0)
-            ∙ sym (ap (at_index d f) (none_old a is))
-        | inr other ↦ ap (at_index d g) (index_old a other) ∙ at_same d f g same (index_of old a)
-      ]
-
-pub past_value : (cells : List Cell) (i : ℕ) → length cells ≤ i → value_in cells i ≡ 0
-past_value cells i past = ap (λ (c : Cell). c.value) (get_or_past cells i no_cell past)
-
-pub past_slot : (cells : List Cell) (i : ℕ) → length cells ≤ i → slot_in cells i ≡ None
-past_slot cells i past = ap (λ (c : Cell). c.slot) (get_or_past cells i no_cell past)
-
-pub past_marks : (cells : List Cell) (entries : List Entry) (i : ℕ) → length cells ≤ i → marks_in cells entries i ≡ None
-past_marks cells entries i past = ap (λ (o : Option ℕ). marks_of (entry_of entries o)) (past_slot cells i past)
-
-pub past_pends : (cells : List Cell) (entries : List Entry) (q i : ℕ) → length cells ≤ i → pends_for cells entries q i ≡ no_pends
-past_pends cells entries q i past = ap (λ (o : Option ℕ). pends_of q (entry_of entries o)) (past_slot cells i past)
-
 -- a test with its sides exchanged
 pub flip : (key page p : ℕ) → key ≡ page → nat_eq key p ≡ nat_eq p page
 flip key page p is =

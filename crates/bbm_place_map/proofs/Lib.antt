@@ -1,3 +1,4 @@
+pub mod Made
 pub mod Lists
 pub mod Edits
 pub mod Linking
@@ -5,6 +6,7 @@ pub mod Leaving
 pub mod Seats
 pub mod Pages
 pub mod Places
+pub mod Blank
 pub mod Idle
 pub mod Restless
 pub mod Pendings

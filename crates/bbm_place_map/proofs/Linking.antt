@@ -31,12 +31,6 @@ choose : (b : Bool) (x : Entry) (o : Option Entry) → option_map the_cell (if b
 choose true x o = refl
 choose false x o = refl
 
-choose_two : (b c : Bool) (o r : Option Entry)
-    → option_map the_cell (if b then None else if c then o else r) ≡ (if b then None else if c then option_map the_cell o else option_map the_cell r)
-choose_two true c o r = refl
-choose_two false true o r = refl
-choose_two false false o r = refl
-
 pub choose_marks : (b : Bool) (x : Entry) (o : Option Entry) → marks_of (if b then Some x else o) ≡ (if b then Some x.marks else marks_of o)
 choose_marks true x o = refl
 choose_marks false x o = refl

@@ -6,10 +6,8 @@ use Rattle.std.proofs.lemmas.Bool.{cases_Bool, cases_eq, cond-true, cond-false, 
 use Rattle.std.proofs.lemmas.Option.{same_Some, none-some}
 use Rattle.smallvec.specs.SmallVec.{SmallVec}
 use mathlib.Core.Path.{fun_ext}
-use Rattle.bbm_barriers.specs.declared.Dsb.{Dsb}
 use Rattle.bbm_lemmas.specs.EveryPe.{every_pe}
 use Rattle.bbm_regimes.specs.PeMask.{pe_in}
-use Rattle.bbm_regimes.specs.declared.pe.PeMask.{PeMask}
 use Rattle.bbm_tlbi_scope.specs.declared.entry.Cover.{Cover}
 use Rattle.bbm_entry_state.specs.Points.{is_broken}
 use Rattle.bbm_entry_state.specs.EntryStanding.{IsIdle}
@@ -27,6 +25,8 @@ use Rattle.bbm_place_map.specs.States.{marks_of_state}
 use Rattle.bbm_place_map.specs.Works.{HoldsFor, IsTold, IsToldAsBefore, GivesUp, Listed, Waits, is_clean}
 use Rattle.bbm_place_map.specs.declared.cell.Cell.{Cell}
 use Rattle.bbm_place_map.specs.declared.entry.Entry.{Entry}
+use Rattle.bbm_place_map.specs.declared.orders.Barrier.{Barrier}
+use Rattle.bbm_place_map.specs.declared.orders.Issuing.{Issuing}
 use Rattle.bbm_place_map.specs.declared.entry.Pending.{Pending}
 use Rattle.bbm_place_map.specs.declared.work.Work.{Work}
 use Rattle.bbm_place_map.specs.declared.work.WorkList.{WorkList}
@@ -242,36 +242,36 @@ listed_broken w w' cells cells' entries entries' j marks before pes was told kep
     stays false p = refl
 
 -- a DSB publishes
-pends_same : (issuer : ℕ) (dsb : Dsb) (n q : ℕ) (o p : Option Entry) → Advances (Publishes issuer dsb n) o p → pends_of q p ≡ pends_of q o
-pends_same issuer dsb n q None None h = refl
-pends_same issuer dsb n q None (Some f) h = absurd h
-pends_same issuer dsb n q (Some e) None h = absurd h
-pends_same issuer dsb n q (Some e) (Some f) h = ap (λ (v : SmallVec Pending). pends_in v.items q) h.1.0
+pends_same : (by : Barrier) (q : ℕ) (o p : Option Entry) → Advances (Publishes by) o p → pends_of q p ≡ pends_of q o
+pends_same by q None None h = refl
+pends_same by q None (Some f) h = absurd h
+pends_same by q (Some e) None h = absurd h
+pends_same by q (Some e) (Some f) h = ap (λ (v : SmallVec Pending). pends_in v.items q) h.1.0
 
-clean_same : (issuer : ℕ) (dsb : Dsb) (n m : ℕ) (o p : Option Entry) → Advances (Publishes issuer dsb n) o p
+clean_same : (by : Barrier) (m : ℕ) (o p : Option Entry) → Advances (Publishes by) o p
     → ((marks : Marks) → marks_of o ≡ Some marks → is_clean m marks ≡ false) → (marks : Marks) → marks_of p ≡ Some marks → is_clean m marks ≡ false
-clean_same issuer dsb n m None None h known marks is = known marks is
-clean_same issuer dsb n m None (Some f) h known marks is = absurd h
-clean_same issuer dsb n m (Some e) None h known marks is = absurd h
-clean_same issuer dsb n m (Some e) (Some f) h known marks is =
+clean_same by m None None h known marks is = known marks is
+clean_same by m None (Some f) h known marks is = absurd h
+clean_same by m (Some e) None h known marks is = absurd h
+clean_same by m (Some e) (Some f) h known marks is =
     ap (is_clean m) (sym (same_Some f.marks marks is)) ∙ ap (every_pe m) (fun_ext h.1.1.clean) ∙ known e.marks refl
 
-module _ (w w' : Work) (issuer : ℕ) (dsb : Dsb) (n : ℕ) (cells : List Cell) (entries entries' : List Entry)
-    (number : w.pes ≡ n) (pes : w'.pes ≡ w.pes) (settled : w'.settled ≡ w.settled) (waiting : w'.waiting.items ≡ w.waiting.items)
-    (each : (k : ℕ) → Advances (Publishes issuer dsb n) (slice_get entries k) (slice_get entries' k))
-    (known : (k : ℕ) (e : Entry) → slice_get entries' k ≡ Some e → HoldsFor w'.unpublished.items issuer e.cell ⊎ IsTold n issuer e.marks)
-    (others : (q j : ℕ) → q ≢ issuer → HoldsFor w.unpublished.items q j → HoldsFor w'.unpublished.items q j)
+module _ (w w' : Work) (by : Barrier) (cells : List Cell) (entries entries' : List Entry)
+    (number : w.pes ≡ by.n) (pes : w'.pes ≡ w.pes) (settled : w'.settled ≡ w.settled) (waiting : w'.waiting.items ≡ w.waiting.items)
+    (each : (k : ℕ) → Advances (Publishes by) (slice_get entries k) (slice_get entries' k))
+    (known : (k : ℕ) (e : Entry) → slice_get entries' k ≡ Some e → HoldsFor w'.unpublished.items by.issuer e.cell ⊎ IsTold by.n by.issuer e.marks)
+    (others : (q j : ℕ) → q ≢ by.issuer → HoldsFor w.unpublished.items q j → HoldsFor w'.unpublished.items q j)
     (linked : Linked cells entries) (linked' : Linked cells entries') (listed : Listed w cells entries) where
-  by_issuer : (q : ℕ) → q < n → (k : ℕ) (e : Entry) → slice_get entries' k ≡ Some e → HoldsFor w'.unpublished.items q e.cell ⊎ IsTold n q e.marks
+  by_issuer : (q : ℕ) → q < by.n → (k : ℕ) (e : Entry) → slice_get entries' k ≡ Some e → HoldsFor w'.unpublished.items q e.cell ⊎ IsTold by.n q e.marks
   by_issuer q below =
-      elim (cases_eq q issuer) [
+      elim (cases_eq q by.issuer) [
         | inl same ↦
-            let P : ℕ → Type 0 = λ x. (k : ℕ) (e : Entry) → slice_get entries' k ≡ Some e → HoldsFor w'.unpublished.items x e.cell ⊎ IsTold n x e.marks in
+            let P : ℕ → Type 0 = λ x. (k : ℕ) (e : Entry) → slice_get entries' k ≡ Some e → HoldsFor w'.unpublished.items x e.cell ⊎ IsTold by.n x e.marks in
             subst P (sym same) known
         | inr other ↦
-            known_kept issuer dsb n q (HoldsFor w'.unpublished.items q) entries entries'
+            known_kept by q (HoldsFor w'.unpublished.items q) entries entries'
             (λ k e is.
-            elim (told_entry cells entries linked (HoldsFor w.unpublished.items q) n q
+            elim (told_entry cells entries linked (HoldsFor w.unpublished.items q) by.n q
             (subst (λ (x : ℕ). (j : ℕ) (marks : Marks) → marks_in cells entries j ≡ Some marks → HoldsFor w.unpublished.items q j ⊎ IsTold x q marks) number
             (λ j marks. told_of w cells entries listed q j marks (subst (λ (x : ℕ). q < x) (sym number) below))) k e is) [
               | inl holds ↦ inl (others q e.cell other holds)
@@ -281,31 +281,31 @@ module _ (w w' : Work) (issuer : ℕ) (dsb : Dsb) (n : ℕ) (cells : List Cell) 
 
   pub listed_published : Listed w' cells entries'
   listed_published =
-      let all : w'.pes ≡ n = pes ∙ number in
+      let all : w'.pes ≡ by.n = pes ∙ number in
       listed_by w' cells entries' (subst (λ (x : ℕ). 1 ≤ x) (sym pes) listed.some) (subst (λ (x : ℕ). x ≤ 128) (sym pes) listed.most)
       (λ q j marks below is.
       subst (λ (x : ℕ). HoldsFor w'.unpublished.items q j ⊎ IsTold x q marks) (sym all)
-      (told_by_cell cells entries' linked' (HoldsFor w'.unpublished.items q) n q (by_issuer q (subst (λ (x : ℕ). q < x) all below)) j marks is))
+      (told_by_cell cells entries' linked' (HoldsFor w'.unpublished.items q) by.n q (by_issuer q (subst (λ (x : ℕ). q < x) all below)) j marks is))
       (λ q j.
       elim (idle_of w cells entries listed q j) [
         | inl holds ↦ inl (subst (λ (xs : List WorkList). HoldsFor xs q j) (sym waiting) holds)
         | inr idle ↦
             inr (subst (λ (x : Pends). IsIdle x)
-            (sym (pends_same issuer dsb n q (entry_in cells entries j) (entry_in cells entries' j) (of_cell (Publishes issuer dsb n) entries entries' each (slot_in cells j)))) idle)
+            (sym (pends_same by q (entry_in cells entries j) (entry_in cells entries' j) (of_cell (Publishes by) entries entries' each (slot_in cells j)))) idle)
       ])
       (λ is j marks at.
       subst (λ (x : ℕ). is_clean x marks ≡ false) (sym pes)
-      (clean_same issuer dsb n w.pes (entry_in cells entries j) (entry_in cells entries' j) (of_cell (Publishes issuer dsb n) entries entries' each (slot_in cells j))
+      (clean_same by w.pes (entry_in cells entries j) (entry_in cells entries' j) (of_cell (Publishes by) entries entries' each (slot_in cells j))
       (listed.settled (sym settled ∙ is) j) marks at))
 
 -- a DSB answers
-module _ (w w' : Work) (issuer : ℕ) (dsb : Dsb) (n : ℕ) (cells cells' : List Cell) (entries entries' : List Entry)
-    (number : w.pes ≡ n) (pes : w'.pes ≡ w.pes) (unpublished : w'.unpublished.items ≡ w.unpublished.items)
-    (each : (j : ℕ) → Completes issuer dsb n (entry_in cells entries j) (entry_in cells' entries' j))
-    (known : (j : ℕ) → HoldsFor w'.waiting.items issuer j ⊎ IsIdle (pends_for cells' entries' issuer j))
-    (others : (q j : ℕ) → q ≢ issuer → HoldsFor w.waiting.items q j → HoldsFor w'.waiting.items q j)
+module _ (w w' : Work) (by : Barrier) (cells cells' : List Cell) (entries entries' : List Entry)
+    (number : w.pes ≡ by.n) (pes : w'.pes ≡ w.pes) (unpublished : w'.unpublished.items ≡ w.unpublished.items)
+    (each : (j : ℕ) → Completes by (entry_in cells entries j) (entry_in cells' entries' j))
+    (known : (j : ℕ) → HoldsFor w'.waiting.items by.issuer j ⊎ IsIdle (pends_for cells' entries' by.issuer j))
+    (others : (q j : ℕ) → q ≢ by.issuer → HoldsFor w.waiting.items q j → HoldsFor w'.waiting.items q j)
     (listed : Listed w cells entries) where
-  told_then : (q j : ℕ) (marks : Marks) → q < w.pes → (o p : Option Entry) → Completes issuer dsb n o p
+  told_then : (q j : ℕ) (marks : Marks) → q < w.pes → (o p : Option Entry) → Completes by o p
       → ((m : Marks) → marks_of o ≡ Some m → HoldsFor w.unpublished.items q j ⊎ IsTold w.pes q m) → marks_of p ≡ Some marks
       → HoldsFor w.unpublished.items q j ⊎ IsTold w.pes q marks
   told_then q j marks below o None h known is = absurd (none-some marks is)
@@ -315,13 +315,13 @@ module _ (w w' : Work) (issuer : ℕ) (dsb : Dsb) (n : ℕ) (cells cells' : List
         | inl holds ↦ inl holds
         | inr told ↦
             inr (subst (λ (m : Marks). IsTold w.pes q m) (same_Some f.marks marks is)
-            (told_completed issuer dsb n w.pes q (Some e) f h
+            (told_completed by w.pes q (Some e) f h
             (λ x at. subst (λ (y : Entry). IsTold w.pes q y.marks) (same_Some e x at) told)))
       ]
 
-  unclean_then : (marks : Marks) (o p : Option Entry) → Completes issuer dsb n o p → marks_of p ≡ Some marks → is_clean n marks ≡ false
+  unclean_then : (marks : Marks) (o p : Option Entry) → Completes by o p → marks_of p ≡ Some marks → is_clean by.n marks ≡ false
   unclean_then marks o None h is = absurd (none-some marks is)
-  unclean_then marks o (Some f) h is = ap (is_clean n) (sym (same_Some f.marks marks is)) ∙ completes_unclean issuer dsb n o f h
+  unclean_then marks o (Some f) h is = ap (is_clean by.n) (sym (same_Some f.marks marks is)) ∙ completes_unclean by o f h
 
   pub listed_completed : Listed w' cells' entries'
   listed_completed =
@@ -333,12 +333,12 @@ module _ (w w' : Work) (issuer : ℕ) (dsb : Dsb) (n : ℕ) (cells cells' : List
         | inr told ↦ inr (subst (λ (x : ℕ). IsTold x q marks) (sym pes) told)
       ])
       (λ q j.
-      elim (cases_eq q issuer) [
+      elim (cases_eq q by.issuer) [
         | inl same ↦ subst (λ (x : ℕ). HoldsFor w'.waiting.items x j ⊎ IsIdle (pends_for cells' entries' x j)) (sym same) (known j)
         | inr other ↦
             elim (idle_of w cells entries listed q j) [
               | inl holds ↦ inl (others q j other holds)
-              | inr idle ↦ inr (idle_others issuer dsb n q other (entry_in cells entries j) (entry_in cells' entries' j) (each j) idle)
+              | inr idle ↦ inr (idle_others by q other (entry_in cells entries j) (entry_in cells' entries' j) (each j) idle)
             ]
       ])
       (λ is j marks at.
@@ -404,17 +404,17 @@ module _ (cells : List Cell) (entries mid : List Entry) (kept : (k : ℕ) → Ad
       listed_changed w w cells entries mid refl refl refl (λ q j holds. holds) room_marks
       (λ q j. inr (λ idle. subst (λ (x : Pends). IsIdle x) (sym (room_pends q j)) idle)) listed
 
-  module _ (new : List Entry) (covers : List Cover) (issuer : ℕ) (reach : PeMask) (broadcast : Bool) (w w' : Work) (linked : Linked cells mid)
+  module _ (new : List Entry) (covers : List Cover) (by : Issuing) (w w' : Work) (linked : Linked cells mid)
       (pes : w'.pes ≡ w.pes) (settled : w'.settled ≡ w.settled) (unpublished : w'.unpublished.items ≡ w.unpublished.items)
-      (each : (k : ℕ) → Advances (NotesAt covers issuer reach broadcast k) (slice_get mid k) (slice_get new k))
-      (waits : (k : ℕ) → Advances (Waits w'.waiting.items issuer) (slice_get mid k) (slice_get new k))
+      (each : (k : ℕ) → Advances (NotesAt covers by k) (slice_get mid k) (slice_get new k))
+      (waits : (k : ℕ) → Advances (Waits w'.waiting.items by.issuer) (slice_get mid k) (slice_get new k))
       (grown : (q j : ℕ) → HoldsFor w.waiting.items q j → HoldsFor w'.waiting.items q j) where
-    noted_all : (k : ℕ) → Advances (NotesAll issuer) (slice_get mid k) (slice_get new k)
+    noted_all : (k : ℕ) → Advances (NotesAll by.issuer) (slice_get mid k) (slice_get new k)
     noted_all k =
-        advance_by (NotesAt covers issuer reach broadcast k) (NotesAll issuer) (λ e f h. (h.0, h.1)) (slice_get mid k) (slice_get new k) (each k)
+        advance_by (NotesAt covers by k) (NotesAll by.issuer) (λ e f h. (h.0, h.1)) (slice_get mid k) (slice_get new k) (each k)
 
     waits_at : (j : ℕ) (s : Option ℕ) → slot_in cells j ≡ s → (o p : Option Entry) → entry_of mid s ≡ o → entry_of new s ≡ p
-        → Advances (Waits w'.waiting.items issuer) o p → HoldsFor w'.waiting.items issuer j ⊎ (IsIdle (pends_of issuer o) → IsIdle (pends_of issuer p))
+        → Advances (Waits w'.waiting.items by.issuer) o p → HoldsFor w'.waiting.items by.issuer j ⊎ (IsIdle (pends_of by.issuer o) → IsIdle (pends_of by.issuer p))
     waits_at j s at None None was now h = inr (λ idle. idle)
     waits_at j s at None (Some f) was now h = absurd h
     waits_at j s at (Some e) None was now h = absurd h
@@ -422,28 +422,28 @@ module _ (cells : List Cell) (entries mid : List Entry) (kept : (k : ℕ) → Ad
     waits_at j (Some k) at (Some e) (Some f) was now h =
         let cell : e.cell ≡ j = same_Some e.cell j (sym (ap (option_map (λ (x : Entry). x.cell)) was) ∙ linked.forth j k at) in
         elim h.1 [
-          | inl holds ↦ inl (subst (λ (x : ℕ). HoldsFor w'.waiting.items issuer x) cell holds)
+          | inl holds ↦ inl (subst (λ (x : ℕ). HoldsFor w'.waiting.items by.issuer x) cell holds)
           | inr still ↦ inr still
         ]
 
     waits_then : (q j : ℕ) → HoldsFor w'.waiting.items q j ⊎ (IsIdle (pends_for cells mid q j) → IsIdle (pends_for cells new q j))
     waits_then q j =
-        elim (cases_eq q issuer) [
+        elim (cases_eq q by.issuer) [
           | inl same ↦
               let P : ℕ → Type 0 = λ x. HoldsFor w'.waiting.items x j ⊎ (IsIdle (pends_for cells mid x j) → IsIdle (pends_for cells new x j)) in
               subst P (sym same)
               (waits_at j (slot_in cells j) refl (entry_in cells mid j) (entry_in cells new j) refl refl
-              (of_cell (Waits w'.waiting.items issuer) mid new waits (slot_in cells j)))
+              (of_cell (Waits w'.waiting.items by.issuer) mid new waits (slot_in cells j)))
           | inr other ↦
               inr (λ idle. subst (λ (x : Pends). IsIdle x)
-              (sym (noted_pends (NotesAll issuer) q (λ e f h. h.1 q other) (entry_in cells mid j) (entry_in cells new j) (of_cell (NotesAll issuer) mid new noted_all (slot_in cells j)))) idle)
+              (sym (noted_pends (NotesAll by.issuer) q (λ e f h. h.1 q other) (entry_in cells mid j) (entry_in cells new j) (of_cell (NotesAll by.issuer) mid new noted_all (slot_in cells j)))) idle)
         ]
 
     -- and a TLBI is noted
     pub listed_noted : Listed w cells entries → Listed w' cells new
     listed_noted listed =
         listed_changed w w' cells mid new pes settled unpublished grown
-        (λ j. noted_marks (NotesAll issuer) (λ e f h. h.0) (entry_in cells mid j) (entry_in cells new j) (of_cell (NotesAll issuer) mid new noted_all (slot_in cells j)))
+        (λ j. noted_marks (NotesAll by.issuer) (λ e f h. h.0) (entry_in cells mid j) (entry_in cells new j) (of_cell (NotesAll by.issuer) mid new noted_all (slot_in cells j)))
         waits_then (listed_roomed w listed)
 
 -- an entry of a page that is cleared is gone, and any other one stays

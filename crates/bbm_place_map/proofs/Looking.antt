@@ -4,7 +4,6 @@ use Rattle.std.proofs.Common.{refl, ap, sym, ◌∙◌, arith, inl, inr, slice_g
 use Rattle.std.specs.Option.{option_map}
 use Rattle.std.proofs.lemmas.Bool.{cases_eq, lt-ltb, ltb-true, both_ways, false_from_ne_true}
 use Rattle.std.proofs.lemmas.Option.{same_Some}
-use Rattle.bbm_barriers.specs.declared.Dsb.{Dsb}
 use Rattle.bbm_place_map.specs.Cells.{slot_in}
 use Rattle.bbm_place_map.specs.Each.{Completes, loses_table}
 use Rattle.bbm_place_map.specs.Entries.{cell_at, entry_of, entry_in, marks_of}
@@ -12,6 +11,7 @@ use Rattle.bbm_place_map.specs.Parts.{marks_in}
 use Rattle.bbm_place_map.specs.Sound.{Linked}
 use Rattle.bbm_place_map.specs.declared.cell.Cell.{Cell}
 use Rattle.bbm_place_map.specs.declared.entry.Entry.{Entry}
+use Rattle.bbm_place_map.specs.declared.orders.Barrier.{Barrier}
 use Rattle.bbm_place_map.proofs.Answering.{completes_at}
 use Rattle.bbm_place_map.proofs.Completing.{completes_none}
 use Rattle.bbm_place_map.proofs.Linking.{cell_within}
@@ -28,9 +28,9 @@ some_below : (k : ℕ) (o : Option ℕ) → is_below k o ≡ true → (m : ℕ) 
 some_below k None h = cc
 some_below k (Some m) h = (m, refl, ltb-true m k h)
 
-pub record Looked (issuer : ℕ) (dsb : Dsb) (n k : ℕ) (lost : Bool) (cells cells' : List Cell) (entries entries' : List Entry) : Type 0 where
+pub record Looked (by : Barrier) (k : ℕ) (lost : Bool) (cells cells' : List Cell) (entries entries' : List Entry) : Type 0 where
   pub untouched : (j : ℕ) → is_below k (slot_in cells' j) ≡ true → entry_in cells' entries' j ≡ entry_in cells entries j
-  pub done : (j : ℕ) → is_below k (slot_in cells' j) ≡ false → Completes issuer dsb n (entry_in cells entries j) (entry_in cells' entries' j)
+  pub done : (j : ℕ) → is_below k (slot_in cells' j) ≡ false → Completes by (entry_in cells entries j) (entry_in cells' entries' j)
   pub found : lost ≡ true → (j : ℕ) × (is_below k (slot_in cells' j) ≡ false)
       × (loses_table (marks_in cells entries j) (marks_in cells' entries' j) ≡ true)
   pub none : lost ≡ false → (j : ℕ) → is_below k (slot_in cells' j) ≡ false
@@ -39,7 +39,7 @@ pub record Looked (issuer : ℕ) (dsb : Dsb) (n k : ℕ) (lost : Bool) (cells ce
 lose_none : (o : Option Entry) → o ≡ None → loses_table (marks_of o) (marks_of o) ≡ false
 lose_none o is = ap (λ (x : Option Entry). loses_table (marks_of x) (marks_of x)) is
 
-module _ (issuer n : ℕ) (dsb : Dsb) where
+module _ (by : Barrier) where
   -- an entry that isn't among the first ones of the whole list isn't there
   not_there : (cells : List Cell) (entries : List Entry) → Linked cells entries → (k : ℕ) → length entries ≤ k
       → (j : ℕ) (s : Option ℕ) → slot_in cells j ≡ s → is_below k s ≡ false → entry_of entries s ≡ None
@@ -49,21 +49,21 @@ module _ (issuer n : ℕ) (dsb : Dsb) where
       absurd (both_ways (nat_lt m k) h (lt-ltb m k (omega arith)))
 
   pub looked_none : (cells : List Cell) (entries : List Entry) (k : ℕ) → Linked cells entries → k ≡ length entries
-      → Looked issuer dsb n k false cells cells entries entries
+      → Looked by k false cells cells entries entries
   looked_none cells entries k linked whole = record {
     untouched = λ j h. refl;
     done = λ j h.
         let is = not_there cells entries linked k (omega arith) j (slot_in cells j) refl h in
-        completes_at issuer dsb n (entry_in cells entries j) None (entry_in cells entries j) None is is (completes_none issuer dsb n);
+        completes_at by (entry_in cells entries j) None (entry_in cells entries j) None is is (completes_none by);
     found = λ h. cc;
     none = λ _ j h. lose_none (entry_in cells entries j) (not_there cells entries linked k (omega arith) j (slot_in cells j) refl h);
   }
 
   module _ (k m : ℕ) (lost answer : Bool) (cells cells' new : List Cell) (entries entries' after : List Entry)
       (step : k ≡ m + 1) (within : m < length entries')
-      (looked : Looked issuer dsb n k lost cells cells' entries entries')
+      (looked : Looked by k lost cells cells' entries entries')
       (linked : Linked cells' entries') (linked' : Linked new after)
-      (here : (j : ℕ) → cell_at entries' m ≡ Some j → Completes issuer dsb n (entry_in cells' entries' j) (entry_in new after j))
+      (here : (j : ℕ) → cell_at entries' m ≡ Some j → Completes by (entry_in cells' entries' j) (entry_in new after j))
       (answers : (j : ℕ) → cell_at entries' m ≡ Some j → answer ≡ loses_table (marks_in cells' entries' j) (marks_in new after j))
       (others : (i j : ℕ) → cell_at entries' m ≡ Some j → i ≢ j → entry_in new after i ≡ entry_in cells' entries' i)
       (below : (i o : ℕ) → o < m → slot_in new i ≡ Some o → slot_in cells' i ≡ Some o)
@@ -118,14 +118,14 @@ module _ (issuer n : ℕ) (dsb : Dsb) where
           | inr other ↦ others i j at other ∙ looked.untouched i (still i h)
         ]
 
-    done : (i : ℕ) → is_below m (slot_in new i) ≡ false → Completes issuer dsb n (entry_in cells entries i) (entry_in new after i)
+    done : (i : ℕ) → is_below m (slot_in new i) ≡ false → Completes by (entry_in cells entries i) (entry_in new after i)
     done i h =
         elim (cases_eq i j) [
           | inl same ↦
-              completes_at issuer dsb n (entry_in cells entries i) (entry_in cells' entries' j) (entry_in new after i) (entry_in new after j)
+              completes_at by (entry_in cells entries i) (entry_in cells' entries' j) (entry_in new after i) (entry_in new after j)
               (ap (entry_in cells entries) same ∙ sym old_j) (ap (entry_in new after) same) (here j at)
           | inr other ↦
-              completes_at issuer dsb n (entry_in cells entries i) (entry_in cells entries i) (entry_in new after i) (entry_in cells' entries' i)
+              completes_at by (entry_in cells entries i) (entry_in cells entries i) (entry_in new after i) (entry_in cells' entries' i)
               refl (others i j at other) (looked.done i (no_more i other h))
         ]
 
@@ -138,7 +138,7 @@ module _ (issuer n : ℕ) (dsb : Dsb) where
         both_ways (is_below k (slot_in cells' i)) h
         (below_some k m (slot_in cells' i) (ap (slot_in cells') same ∙ slot_j) (omega arith))
 
-    pub looked_answer : answer ≡ true → Looked issuer dsb n m true cells new entries after
+    pub looked_answer : answer ≡ true → Looked by m true cells new entries after
     looked_answer h = record {
       untouched = untouched;
       done = done;
@@ -146,7 +146,7 @@ module _ (issuer n : ℕ) (dsb : Dsb) where
       none = λ t. cc;
     }
 
-    pub looked_on : answer ≡ false → Looked issuer dsb n m lost cells new entries after
+    pub looked_on : answer ≡ false → Looked by m lost cells new entries after
     looked_on not-here = record {
       untouched = untouched;
       done = done;

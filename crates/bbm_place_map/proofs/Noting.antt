@@ -18,6 +18,7 @@ use Rattle.bbm_place_map.specs.Entries.{WaitsAlike, pends_in}
 use Rattle.bbm_place_map.specs.PlaceNotes.{NotesAs, NotesAt, is_cover}
 use Rattle.bbm_place_map.specs.Works.{HoldsFor, Waits}
 use Rattle.bbm_place_map.specs.declared.entry.Entry.{Entry}
+use Rattle.bbm_place_map.specs.declared.orders.Issuing.{Issuing}
 use Rattle.bbm_place_map.specs.declared.work.WorkList.{WorkList}
 
 pub noted_alike : (marks marks' : Marks) (r r' after after' : Pends) (reach : PeMask) (broadcast : Bool) (cover : Cover)
@@ -46,13 +47,13 @@ noted_none marks r reach broadcast b c p =
     nothing (same_bool broadcast b) (pe_in reach p) (waits r b c p)
     ∙ ap (λ (x : Bool). (same_bool broadcast b && (pe_in reach p && x)) || waits r b c p) (sym (none_counts marks c p))
 
-pub notes_at : (covers : List Cover) (k : ℕ) (cover : Cover) (issuer : ℕ) (reach : PeMask) (broadcast : Bool) (e f : Entry)
-    → slice_get covers k ≡ Some cover → NotesAs cover issuer reach broadcast e f → NotesAt covers issuer reach broadcast k e f
-notes_at covers k cover issuer reach broadcast e f is notes = (
+pub notes_at : (covers : List Cover) (k : ℕ) (cover : Cover) (by : Issuing) (e f : Entry)
+    → slice_get covers k ≡ Some cover → NotesAs cover by e f → NotesAt covers by k e f
+notes_at covers k cover by e f is notes = (
   notes.0,
   notes.1,
   λ c at.
-      let P : Cover → Type 0 = λ x. Noted (Broken e.marks) (pends_in e.pends.items issuer) reach broadcast x (pends_in f.pends.items issuer) in
+      let P : Cover → Type 0 = λ x. Noted (Broken e.marks) (pends_in e.pends.items by.issuer) by.reach by.broadcast x (pends_in f.pends.items by.issuer) in
       subst P (same_Some cover c (sym is ∙ at)) notes.2,
   λ c at none. notes.3 (ap is_cover (same_Some cover c (sym is ∙ at)) ∙ none),
 )
@@ -72,13 +73,13 @@ uncovered Second none = cc
 uncovered Full none = cc
 
 -- an entry that isn't covered stays
-pub not_noted : (cover : Cover) (issuer : ℕ) (reach : PeMask) (broadcast : Bool) (e : Entry) → is_cover cover ≡ false
-    → NotesAs cover issuer reach broadcast e e
-not_noted cover issuer reach broadcast e none = (
+pub not_noted : (cover : Cover) (by : Issuing) (e : Entry) → is_cover cover ≡ false
+    → NotesAs cover by e e
+not_noted cover by e none = (
   refl,
   λ q other. refl,
-  let P : Cover → Type 0 = λ x. Noted (Broken e.marks) (pends_in e.pends.items issuer) reach broadcast x (pends_in e.pends.items issuer) in
-      subst P (sym (uncovered cover none)) (noted_none e.marks (pends_in e.pends.items issuer) reach broadcast),
+  let P : Cover → Type 0 = λ x. Noted (Broken e.marks) (pends_in e.pends.items by.issuer) by.reach by.broadcast x (pends_in e.pends.items by.issuer) in
+      subst P (sym (uncovered cover none)) (noted_none e.marks (pends_in e.pends.items by.issuer) by.reach by.broadcast),
   λ same. refl,
 )
 

@@ -38,11 +38,36 @@ index_none base a is =
       | inr f ↦ cond-false (a % 8 == 0) (option_map (λ n. n + a % 4096 / 8) (base (a / 4096 * 4096))) None f
     ]
 
+-- a place of a page that has a cell has the one of its number
+pub cell_of : (base : ℕ → Option ℕ) (page b a j : ℕ) → base page ≡ Some b → a / 4096 * 4096 ≡ page
+    → index_of base a ≡ Some j → b + a % 4096 / 8 ≡ j
+cell_of base page b a j is same h =
+    let w = found base a j h in
+    let start : w.start ≡ b = same_Some w.start b (sym w.is ∙ ap base same ∙ is) in
+    let sum : w.start + a % 4096 / 8 ≡ j = w.sum in
+    omega arith
+
 pub number_below : (a : ℕ) → a % 4096 / 8 < 512
 number_below a = omega arith
 
 same_address : (a a' : ℕ) → a / 4096 * 4096 ≡ a' / 4096 * 4096 → a % 8 ≡ 0 → a' % 8 ≡ 0 → a % 4096 / 8 ≡ a' % 4096 / 8 → a ≡ a'
 same_address a a' page aligned aligned' same = omega arith
+
+-- the places of a page from its first one on
+pub page_at : (page i : ℕ) → page % 4096 ≡ 0 → i < 512 → (page + 8 * i) / 4096 * 4096 ≡ page
+page_at page i first below = omega (arith, first, below)
+
+pub eighth_at : (page i : ℕ) → page % 4096 ≡ 0 → (page + 8 * i) % 8 ≡ 0
+eighth_at page i first = omega (arith, first)
+
+pub number_at : (page i : ℕ) → page % 4096 ≡ 0 → i < 512 → (page + 8 * i) % 4096 / 8 ≡ i
+number_at page i first below = omega (arith, first, below)
+
+whole : (page : ℕ) → page % 4096 ≡ 0 → page / 4096 * 4096 ≡ page
+whole page first = omega (arith, first)
+
+none_before : (page : ℕ) → page % 4096 ≡ 0 → page % 4096 / 8 ≡ 0
+none_before page first = omega (arith, first)
 
 module _ (base : ℕ → Option ℕ) (count : ℕ) (numbered : Numbered base count) where
   pub index_inside : (a j : ℕ) → index_of base a ≡ Some j → j < count
@@ -52,6 +77,26 @@ module _ (base : ℕ → Option ℕ) (count : ℕ) (numbered : Numbered base cou
       let in' : f.start + 512 ≤ count = numbered.within (a / 4096 * 4096) f.start f.is in
       let sum : f.start + a % 4096 / 8 ≡ j = f.sum in
       omega arith
+
+  -- the places of a page have the cells from that of its first place on
+  page_start : (page j : ℕ) → index_of base page ≡ Some j → page % 4096 ≡ 0 → base page ≡ Some j
+  page_start page j h first =
+      let f = found base page j h in
+      let sum : f.start + page % 4096 / 8 ≡ j = f.sum in
+      let start : f.start ≡ j = omega (arith, sum, none_before page first) in
+      sym (ap base (whole page first)) ∙ f.is ∙ ap (λ (n : ℕ). Some n) start
+
+  pub page_inside : (page j i : ℕ) → index_of base page ≡ Some j → page % 4096 ≡ 0 → i < 512 → j + i < count
+  page_inside page j i h first below =
+      let in' : j + 512 ≤ count = numbered.within page j (page_start page j h first) in
+      omega arith
+
+  pub index_behind : (page j i : ℕ) → index_of base page ≡ Some j → page % 4096 ≡ 0 → i < 512
+      → index_of base (page + 8 * i) ≡ Some (j + i)
+  index_behind page j i h first below =
+      index_from base (page + 8 * i) j (eighth_at page i first)
+      (ap base (page_at page i first below) ∙ page_start page j h first)
+      ∙ ap (λ (n : ℕ). Some (j + n)) (number_at page i first below)
 
   -- two bases with a cell in common are one, and of one page
   pub one_page : (p q b c m n : ℕ) → base p ≡ Some b → base q ≡ Some c → m < 512 → n < 512 → b + m ≡ c + n → p ≡ q
@@ -111,20 +156,6 @@ module _ (base : ℕ → Option ℕ) (count : ℕ) (numbered : Numbered base cou
   out_of_page d f g page b is new a other None h = refl
   out_of_page d f g page b is new a other (Some i) h =
       new i ∙ cond-false (in_page b 512 i) d (f i) (not_in_page page b a i is other h)
-
-  -- one cell changes: so does one place
-  pub at_set : {X : Type 0} (d v : X) (f g : ℕ → X) (place j : ℕ) → index_of base place ≡ Some j
-      → ((i : ℕ) → g i ≡ (if nat_eq i j then v else f i))
-      → (a : ℕ) → at_index d g (index_of base a) ≡ (if nat_eq a place then v else at_index d f (index_of base a))
-  at_set d v f g place j here new a =
-      elim (cases_eq a place) [
-        | inl same ↦
-            ap (at_index d g) (ap (index_of base) same ∙ here) ∙ new j ∙ cond-true (nat_eq j j) v (f j) (eq-eqb j j refl)
-            ∙ sym (cond-true (nat_eq a place) v (at_index d f (index_of base a)) (eq-eqb a place same))
-        | inr other ↦
-            elsewhere d v f g place j here new a other (index_of base a) refl
-            ∙ sym (cond-false (nat_eq a place) v (at_index d f (index_of base a)) (ne_eqb a place other))
-      ]
 
   -- the cells of a page change: so do its places
   pub at_page : {X : Type 0} (d : X) (f g : ℕ → X) (page b : ℕ) → base page ≡ Some b

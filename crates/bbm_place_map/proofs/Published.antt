@@ -1,7 +1,6 @@
 -- What a DSB publishes, of a place.
 use Rattle.std.proofs.Common.{◌≡◌, ℕ, Bool, true, false, ◌&&◌, ◌||◌, List, Option, Some, None, refl, ap, slice_get}
 use Rattle.smallvec.specs.SmallVec.{SmallVec}
-use Rattle.bbm_barriers.specs.declared.Dsb.{Dsb}
 use Rattle.bbm_barriers.specs.Options.{publishes}
 use Rattle.bbm_descriptor.specs.declared.desc.Core.{Core}
 use Rattle.bbm_entry_state.specs.EntryCalls.{Published}
@@ -13,6 +12,7 @@ use Rattle.bbm_place_map.specs.Sound.{at_index}
 use Rattle.bbm_place_map.specs.States.{state_from}
 use Rattle.bbm_place_map.specs.declared.cell.Cell.{Cell}
 use Rattle.bbm_place_map.specs.declared.entry.Entry.{Entry}
+use Rattle.bbm_place_map.specs.declared.orders.Barrier.{Barrier}
 use Rattle.bbm_place_map.specs.declared.entry.Pending.{Pending}
 use Rattle.bbm_place_map.proofs.Advancing.{of_cell}
 
@@ -20,13 +20,13 @@ none_seen : (b : Bool) → false ≡ ((b && false) || false)
 none_seen true = refl
 none_seen false = refl
 
-module _ (issuer : ℕ) (dsb : Dsb) (n : ℕ) where
-  whole : (live : Option Core) → Published (state_from live None) issuer dsb n (state_from live None)
+module _ (by : Barrier) where
+  whole : (live : Option Core) → Published (state_from live None) by.issuer by.dsb by.n (state_from live None)
   whole None = record {
     core = refl;
     broken = refl;
     writers = λ p. refl;
-    seen = λ p. none_seen (publishes dsb issuer n p);
+    seen = λ p. none_seen (publishes by.dsb by.issuer by.n p);
     half = λ p. refl;
     clean = λ p. refl;
   }
@@ -34,33 +34,33 @@ module _ (issuer : ℕ) (dsb : Dsb) (n : ℕ) where
     core = refl;
     broken = refl;
     writers = λ p. refl;
-    seen = λ p. none_seen (publishes dsb issuer n p);
+    seen = λ p. none_seen (publishes by.dsb by.issuer by.n p);
     half = λ p. refl;
     clean = λ p. refl;
   }
 
-  of_entry : (live : Option Core) (o p : Option Entry) → Advances (Publishes issuer dsb n) o p
-      → Published (state_from live (marks_of o)) issuer dsb n (state_from live (marks_of p))
+  of_entry : (live : Option Core) (o p : Option Entry) → Advances (Publishes by) o p
+      → Published (state_from live (marks_of o)) by.issuer by.dsb by.n (state_from live (marks_of p))
   of_entry live None None h = whole live
   of_entry live None (Some f) h = absurd h
   of_entry live (Some e) None h = absurd h
   of_entry live (Some e) (Some f) h = h.1.1
 
-  same_pends : (q : ℕ) (o p : Option Entry) → Advances (Publishes issuer dsb n) o p → pends_of q p ≡ pends_of q o
+  same_pends : (q : ℕ) (o p : Option Entry) → Advances (Publishes by) o p → pends_of q p ≡ pends_of q o
   same_pends q None None h = refl
   same_pends q None (Some f) h = absurd h
   same_pends q (Some e) None h = absurd h
   same_pends q (Some e) (Some f) h = ap (λ (v : SmallVec Pending). pends_in v.items q) h.1.0
 
   module _ (cells : List Cell) (old new : List Entry)
-      (each : (k : ℕ) → Advances (Publishes issuer dsb n) (slice_get old k) (slice_get new k)) where
+      (each : (k : ℕ) → Advances (Publishes by) (slice_get old k) (slice_get new k)) where
     pub published_at : (live : Option Core) (o : Option ℕ)
-        → Published (state_from live (at_index None (marks_in cells old) o)) issuer dsb n (state_from live (at_index None (marks_in cells new) o))
+        → Published (state_from live (at_index None (marks_in cells old) o)) by.issuer by.dsb by.n (state_from live (at_index None (marks_in cells new) o))
     published_at live None = whole live
     published_at live (Some j) =
-        of_entry live (entry_in cells old j) (entry_in cells new j) (of_cell (Publishes issuer dsb n) old new each (slot_in cells j))
+        of_entry live (entry_in cells old j) (entry_in cells new j) (of_cell (Publishes by) old new each (slot_in cells j))
 
     pub pends_at_same : (q : ℕ) (o : Option ℕ) → at_index no_pends (pends_for cells new q) o ≡ at_index no_pends (pends_for cells old q) o
     pends_at_same q None = refl
     pends_at_same q (Some j) =
-        same_pends q (entry_in cells old j) (entry_in cells new j) (of_cell (Publishes issuer dsb n) old new each (slot_in cells j))
+        same_pends q (entry_in cells old j) (entry_in cells new j) (of_cell (Publishes by) old new each (slot_in cells j))

@@ -5,7 +5,6 @@ use Rattle.std.specs.Option.{option_map}
 use Rattle.std.proofs.lemmas.Bool.{false≢true, cases_eq}
 use Rattle.std.proofs.lemmas.Option.{same_Some, none-some}
 use Rattle.std.proofs.lemmas.List.{get_or_default}
-use Rattle.bbm_barriers.specs.declared.Dsb.{Dsb}
 use Rattle.bbm_barriers.specs.Options.{publishes}
 use Rattle.bbm_place_map.specs.Cells.{slot_in}
 use Rattle.bbm_place_map.specs.Each.{Advances, Publishes}
@@ -13,53 +12,54 @@ use Rattle.bbm_place_map.specs.Sound.{Linked}
 use Rattle.bbm_place_map.specs.Works.{Holds, IsTold, MayPublish}
 use Rattle.bbm_place_map.specs.declared.cell.Cell.{Cell}
 use Rattle.bbm_place_map.specs.declared.entry.Entry.{Entry}
+use Rattle.bbm_place_map.specs.declared.orders.Barrier.{Barrier}
 use Rattle.bbm_place_map.specs.declared.work.WorkList.{WorkList}
 use Rattle.bbm_place_map.proofs.Telling.{told_advances, told_after, told_kept, again, slot_cases}
 use Rattle.bbm_place_map.proofs.Advancing.{at_both}
 
-module _ (issuer : ℕ) (dsb : Dsb) (n : ℕ) where
+module _ (by : Barrier) where
   -- one more cell is visited
   module _ (cells : List Cell) (list : List ℕ) (start mid new : List Entry) (i : ℕ)
       (here : (m k : ℕ) → m < i → slot_in cells (slice_index list m) ≡ Some k
-      → Advances (Publishes issuer dsb n) (slice_get start k) (slice_get mid k))
-      (each : (k : ℕ) → MayPublish issuer dsb n (slice_get start k) (slice_get mid k))
+      → Advances (Publishes by) (slice_get start k) (slice_get mid k))
+      (each : (k : ℕ) → MayPublish by (slice_get start k) (slice_get mid k))
       (now : (k : ℕ) → slot_in cells (slice_index list i) ≡ Some k
-      → Advances (Publishes issuer dsb n) (slice_get mid k) (slice_get new k))
+      → Advances (Publishes by) (slice_get mid k) (slice_get new k))
       (others : (k : ℕ) → (slot_in cells (slice_index list i) ≡ Some k → ⊥) → slice_get new k ≡ slice_get mid k) where
     pub here_more : (m k : ℕ) → m < i + 1 → slot_in cells (slice_index list m) ≡ Some k
-        → Advances (Publishes issuer dsb n) (slice_get start k) (slice_get new k)
+        → Advances (Publishes by) (slice_get start k) (slice_get new k)
     here_more m k below at =
         elim (slot_cases (slot_in cells (slice_index list i)) k) [
-          | inl is ↦ again issuer dsb n (slice_get start k) (slice_get mid k) (slice_get new k) (each k) (now k is)
+          | inl is ↦ again by (slice_get start k) (slice_get mid k) (slice_get new k) (each k) (now k is)
           | inr other ↦
               elim (cases_eq m i) [
                 | inl same ↦ absurd (other (ap (λ (x : ℕ). slot_in cells (slice_index list x)) (sym same) ∙ at))
                 | inr apart ↦
-                    at_both (Publishes issuer dsb n) (slice_get start k) (slice_get start k) (slice_get new k) (slice_get mid k) refl (others k other)
+                    at_both (Publishes by) (slice_get start k) (slice_get start k) (slice_get new k) (slice_get mid k) refl (others k other)
                     (here m k (omega arith) at)
               ]
         ]
 
-    pub each_more : (k : ℕ) → MayPublish issuer dsb n (slice_get start k) (slice_get new k)
+    pub each_more : (k : ℕ) → MayPublish by (slice_get start k) (slice_get new k)
     each_more k =
         elim (slot_cases (slot_in cells (slice_index list i)) k) [
-          | inl is ↦ inr (again issuer dsb n (slice_get start k) (slice_get mid k) (slice_get new k) (each k) (now k is))
+          | inl is ↦ inr (again by (slice_get start k) (slice_get mid k) (slice_get new k) (each k) (now k is))
           | inr other ↦
               elim (each k) [
                 | inl same ↦ inl (others k other ∙ same)
                 | inr did ↦
-                    inr (at_both (Publishes issuer dsb n) (slice_get start k) (slice_get start k) (slice_get new k) (slice_get mid k) refl (others k other) did)
+                    inr (at_both (Publishes by) (slice_get start k) (slice_get start k) (slice_get new k) (slice_get mid k) refl (others k other) did)
               ]
         ]
 
   module _ (cells : List Cell) (list : WorkList) (start new : List Entry) (linked : Linked cells start) (open' : list.given_up ≡ false)
-      (known : (k : ℕ) (e : Entry) → slice_get start k ≡ Some e → Holds list e.cell ⊎ IsTold n issuer e.marks)
+      (known : (k : ℕ) (e : Entry) → slice_get start k ≡ Some e → Holds list e.cell ⊎ IsTold by.n by.issuer e.marks)
       (here : (i k : ℕ) → i < length list.cells.items → slot_in cells (slice_index list.cells.items i) ≡ Some k
-      → Advances (Publishes issuer dsb n) (slice_get start k) (slice_get new k))
-      (each : (k : ℕ) → MayPublish issuer dsb n (slice_get start k) (slice_get new k)) where
-    by_entry : (k : ℕ) (o : Option Entry) → slice_get start k ≡ o → Advances (Publishes issuer dsb n) (slice_get start k) (slice_get new k)
+      → Advances (Publishes by) (slice_get start k) (slice_get new k))
+      (each : (k : ℕ) → MayPublish by (slice_get start k) (slice_get new k)) where
+    by_entry : (k : ℕ) (o : Option Entry) → slice_get start k ≡ o → Advances (Publishes by) (slice_get start k) (slice_get new k)
     by_entry k None at =
-        told_advances issuer dsb n (slice_get start k) (slice_get new k) (λ e is. absurd (none-some e (sym at ∙ is))) (each k)
+        told_advances by (slice_get start k) (slice_get new k) (λ e is. absurd (none-some e (sym at ∙ is))) (each k)
     by_entry k (Some e) at =
         elim (known k e at) [
           | inl holds ↦
@@ -71,44 +71,44 @@ module _ (issuer : ℕ) (dsb : Dsb) (n : ℕ) where
                     ∙ linked.back e.cell k (ap (option_map (λ (x : Entry). x.cell)) at))
               ]
           | inr told ↦
-              told_advances issuer dsb n (slice_get start k) (slice_get new k)
-              (λ f is. let P : Entry → Type 0 = λ x. IsTold n issuer x.marks in subst P (same_Some e f (sym at ∙ is)) told) (each k)
+              told_advances by (slice_get start k) (slice_get new k)
+              (λ f is. let P : Entry → Type 0 = λ x. IsTold by.n by.issuer x.marks in subst P (same_Some e f (sym at ∙ is)) told) (each k)
         ]
 
-    pub all_published : (k : ℕ) → Advances (Publishes issuer dsb n) (slice_get start k) (slice_get new k)
+    pub all_published : (k : ℕ) → Advances (Publishes by) (slice_get start k) (slice_get new k)
     all_published k = by_entry k (slice_get start k) refl
 
-  told_from : (o p : Option Entry) (f : Entry) → issuer < n → ((p : ℕ) → p < n → publishes dsb issuer n p ≡ true)
-      → Advances (Publishes issuer dsb n) o p → p ≡ Some f → IsTold n issuer f.marks
+  told_from : (o p : Option Entry) (f : Entry) → by.issuer < by.n → ((p : ℕ) → p < by.n → publishes by.dsb by.issuer by.n p ≡ true)
+      → Advances (Publishes by) o p → p ≡ Some f → IsTold by.n by.issuer f.marks
   told_from None None f below all h is = absurd (none-some f is)
   told_from None (Some g) f below all h is = absurd h
   told_from (Some e) None f below all h is = absurd h
   told_from (Some e) (Some g) f below all h is =
-      let P : Entry → Type 0 = λ x. IsTold n issuer x.marks in
-      subst P (same_Some g f is) (told_after issuer dsb n e g below all h.1)
+      let P : Entry → Type 0 = λ x. IsTold by.n by.issuer x.marks in
+      subst P (same_Some g f is) (told_after by e g below all h.1)
 
   -- a DSB that reached every PE leaves nothing to publish
-  pub none_untold : (start new : List Entry) → issuer < n → ((p : ℕ) → p < n → publishes dsb issuer n p ≡ true)
-      → ((k : ℕ) → Advances (Publishes issuer dsb n) (slice_get start k) (slice_get new k))
-      → (k : ℕ) (f : Entry) → slice_get new k ≡ Some f → IsTold n issuer f.marks
+  pub none_untold : (start new : List Entry) → by.issuer < by.n → ((p : ℕ) → p < by.n → publishes by.dsb by.issuer by.n p ≡ true)
+      → ((k : ℕ) → Advances (Publishes by) (slice_get start k) (slice_get new k))
+      → (k : ℕ) (f : Entry) → slice_get new k ≡ Some f → IsTold by.n by.issuer f.marks
   none_untold start new below all each k f is = told_from (slice_get start k) (slice_get new k) f below all (each k) is
 
-  kept_from : (q : ℕ) (P : ℕ → Type 0) (o p : Option Entry) (f : Entry) → ((e : Entry) → o ≡ Some e → P e.cell ⊎ IsTold n q e.marks)
-      → Advances (Publishes issuer dsb n) o p → p ≡ Some f → P f.cell ⊎ IsTold n q f.marks
+  kept_from : (q : ℕ) (P : ℕ → Type 0) (o p : Option Entry) (f : Entry) → ((e : Entry) → o ≡ Some e → P e.cell ⊎ IsTold by.n q e.marks)
+      → Advances (Publishes by) o p → p ≡ Some f → P f.cell ⊎ IsTold by.n q f.marks
   kept_from q P None None f known h is = absurd (none-some f is)
   kept_from q P None (Some g) f known h is = absurd h
   kept_from q P (Some e) None f known h is = absurd h
   kept_from q P (Some e) (Some g) f known h is =
-      let Q : Entry → Type 0 = λ x. P x.cell ⊎ IsTold n q x.marks in
+      let Q : Entry → Type 0 = λ x. P x.cell ⊎ IsTold by.n q x.marks in
       subst Q (same_Some g f is)
       (elim (known e refl) [
         | inl holds ↦ inl (subst P (sym (ap (λ (s : ℕ × ℕ). s.1) h.0)) holds)
-        | inr told ↦ inr (told_kept issuer dsb n q e g h.1 told)
+        | inr told ↦ inr (told_kept by q e g h.1 told)
       ])
 
   -- of any PE, what a list has or is told stays so
   pub known_kept : (q : ℕ) (P : ℕ → Type 0) (start new : List Entry)
-      → ((k : ℕ) (e : Entry) → slice_get start k ≡ Some e → P e.cell ⊎ IsTold n q e.marks)
-      → ((k : ℕ) → Advances (Publishes issuer dsb n) (slice_get start k) (slice_get new k))
-      → (k : ℕ) (f : Entry) → slice_get new k ≡ Some f → P f.cell ⊎ IsTold n q f.marks
+      → ((k : ℕ) (e : Entry) → slice_get start k ≡ Some e → P e.cell ⊎ IsTold by.n q e.marks)
+      → ((k : ℕ) → Advances (Publishes by) (slice_get start k) (slice_get new k))
+      → (k : ℕ) (f : Entry) → slice_get new k ≡ Some f → P f.cell ⊎ IsTold by.n q f.marks
   known_kept q P start new known each k f is = kept_from q P (slice_get start k) (slice_get new k) f (known k) (each k) is

@@ -25,6 +25,7 @@ use Rattle.bbm_place_map.specs.Entries.{pends_in, pends_of, marks_of}
 use Rattle.bbm_place_map.specs.States.{state_from}
 use Rattle.bbm_place_map.specs.Works.{IsTold, MayComplete, is_clean}
 use Rattle.bbm_place_map.specs.declared.entry.Entry.{Entry}
+use Rattle.bbm_place_map.specs.declared.orders.Barrier.{Barrier}
 use Rattle.bbm_place_map.proofs.Answering.{completes_at}
 use Rattle.bbm_place_map.proofs.Completing.{completes_none}
 use mathlib.Core.Bool.{and-false, and_self_left}
@@ -61,37 +62,37 @@ answers_both dsb = has_both (completed dsb.domain dsb.types)
 pub answers_none : (dsb : Dsb) → answers_local dsb ≡ false → answers_broadcast dsb ≡ false
 answers_none dsb = has_none (completed dsb.domain dsb.types)
 
-module _ (issuer : ℕ) (dsb : Dsb) (n : ℕ) where
+module _ (by : Barrier) where
   -- where the answered TLBIs wait for nothing a DSB changes nothing
-  module _ (e : Entry) (none : (c : Cover) (p : ℕ) → answered_at (pends_in e.pends.items issuer) dsb c p ≡ false) where
-    clean_still : (p : ℕ) → clean_after (Broken e.marks) (pends_in e.pends.items issuer) dsb p ≡ pe_in e.marks.clean p
+  module _ (e : Entry) (none : (c : Cover) (p : ℕ) → answered_at (pends_in e.pends.items by.issuer) by.dsb c p ≡ false) where
+    clean_still : (p : ℕ) → clean_after (Broken e.marks) (pends_in e.pends.items by.issuer) by.dsb p ≡ pe_in e.marks.clean p
     clean_still p =
-        ap (λ (b : Bool). pe_in e.marks.clean p || (pe_in e.marks.seen p && (b || answered_at (pends_in e.pends.items issuer) dsb Second p))) (none Full p)
+        ap (λ (b : Bool). pe_in e.marks.clean p || (pe_in e.marks.seen p && (b || answered_at (pends_in e.pends.items by.issuer) by.dsb Second p))) (none Full p)
         ∙ ap (λ (b : Bool). pe_in e.marks.clean p || (pe_in e.marks.seen p && (false || b))) (none Second p)
         ∙ or_none (pe_in e.marks.clean p) (pe_in e.marks.seen p)
 
-    half_still : (p : ℕ) → half_after (Broken e.marks) (pends_in e.pends.items issuer) dsb p ≡ pe_in e.marks.half p
+    half_still : (p : ℕ) → half_after (Broken e.marks) (pends_in e.pends.items by.issuer) by.dsb p ≡ pe_in e.marks.half p
     half_still p =
         ap (λ (b : Bool). pe_in e.marks.half p || (pe_in e.marks.seen p && b)) (none Half p) ∙ or_none (pe_in e.marks.half p) (pe_in e.marks.seen p)
 
-    every_still : every_pe n (clean_after (Broken e.marks) (pends_in e.pends.items issuer) dsb) ≡ is_clean n e.marks
-    every_still = ap (every_pe n) (fun_ext clean_still)
+    every_still : every_pe by.n (clean_after (Broken e.marks) (pends_in e.pends.items by.issuer) by.dsb) ≡ is_clean by.n e.marks
+    every_still = ap (every_pe by.n) (fun_ext clean_still)
 
-  idle_none : (r : Pends) → IsIdle r → (c : Cover) (p : ℕ) → answered_at r dsb c p ≡ false
+  idle_none : (r : Pends) → IsIdle r → (c : Cover) (p : ℕ) → answered_at r by.dsb c p ≡ false
   idle_none r idle c p =
-      ap (λ (b : Bool). (answers dsb true && b) || (answers dsb false && waits r false c p)) (idle true c p)
-      ∙ ap (λ (b : Bool). (answers dsb true && false) || (answers dsb false && b)) (idle false c p)
-      ∙ ap (λ (b : Bool). b || (answers dsb false && false)) (and-false (answers dsb true)) ∙ and-false (answers dsb false)
+      ap (λ (b : Bool). (answers by.dsb true && b) || (answers by.dsb false && waits r false c p)) (idle true c p)
+      ∙ ap (λ (b : Bool). (answers by.dsb true && false) || (answers by.dsb false && b)) (idle false c p)
+      ∙ ap (λ (b : Bool). b || (answers by.dsb false && false)) (and-false (answers by.dsb true)) ∙ and-false (answers by.dsb false)
 
-  unanswered : (r : Pends) → answers dsb true ≡ false → answers dsb false ≡ false → (c : Cover) (p : ℕ) → answered_at r dsb c p ≡ false
+  unanswered : (r : Pends) → answers by.dsb true ≡ false → answers by.dsb false ≡ false → (c : Cover) (p : ℕ) → answered_at r by.dsb c p ≡ false
   unanswered r none none' c p =
-      ap (λ (b : Bool). (b && waits r true c p) || (answers dsb false && waits r false c p)) none
+      ap (λ (b : Bool). (b && waits r true c p) || (answers by.dsb false && waits r false c p)) none
       ∙ ap (λ (b : Bool). b && waits r false c p) none'
 
-  still : (e : Entry) → ((c : Cover) (p : ℕ) → answered_at (pends_in e.pends.items issuer) dsb c p ≡ false)
-      → is_clean n e.marks ≡ false
-      → ((b : Bool) (c : Cover) (p : ℕ) → waits (pends_in e.pends.items issuer) b c p ≡ (not (answers dsb b) && waits (pends_in e.pends.items issuer) b c p))
-      → Completes issuer dsb n (Some e) (Some e)
+  still : (e : Entry) → ((c : Cover) (p : ℕ) → answered_at (pends_in e.pends.items by.issuer) by.dsb c p ≡ false)
+      → is_clean by.n e.marks ≡ false
+      → ((b : Bool) (c : Cover) (p : ℕ) → waits (pends_in e.pends.items by.issuer) b c p ≡ (not (answers by.dsb b) && waits (pends_in e.pends.items by.issuer) b c p))
+      → Completes by (Some e) (Some e)
   still e none unclean waiting = record {
     own = record {
       core = sym (ap (λ (b : Bool). if b then None else Some e.marks.core) (every_still e none ∙ unclean));
@@ -105,59 +106,59 @@ module _ (issuer : ℕ) (dsb : Dsb) (n : ℕ) where
     others = λ q other b c p. refl;
   }
 
-  pub idle_same : (o : Option Entry) → IsIdle (pends_of issuer o) → ((marks : Marks) → marks_of o ≡ Some marks → is_clean n marks ≡ false)
-      → Completes issuer dsb n o o
-  idle_same None idle unclean = completes_none issuer dsb n
+  pub idle_same : (o : Option Entry) → IsIdle (pends_of by.issuer o) → ((marks : Marks) → marks_of o ≡ Some marks → is_clean by.n marks ≡ false)
+      → Completes by o o
+  idle_same None idle unclean = completes_none by
   idle_same (Some e) idle unclean =
-      still e (idle_none (pends_in e.pends.items issuer) idle) (unclean e.marks refl)
-      (λ b c p. idle b c p ∙ sym (ap (λ (x : Bool). not (answers dsb b) && x) (idle b c p) ∙ and-false (not (answers dsb b))))
+      still e (idle_none (pends_in e.pends.items by.issuer) idle) (unclean e.marks refl)
+      (λ b c p. idle b c p ∙ sym (ap (λ (x : Bool). not (answers by.dsb b) && x) (idle b c p) ∙ and-false (not (answers by.dsb b))))
 
-  not_answered : (none : answers dsb true ≡ false) (none' : answers dsb false ≡ false) (b : Bool) (w : Bool) → w ≡ (not (answers dsb b) && w)
+  not_answered : (none : answers by.dsb true ≡ false) (none' : answers by.dsb false ≡ false) (b : Bool) (w : Bool) → w ≡ (not (answers by.dsb b) && w)
   not_answered none none' true w = sym (ap (λ (x : Bool). not x && w) none)
   not_answered none none' false w = sym (ap (λ (x : Bool). not x && w) none')
 
-  pub nothing_answered : answers dsb true ≡ false → answers dsb false ≡ false → (o : Option Entry)
-      → ((marks : Marks) → marks_of o ≡ Some marks → is_clean n marks ≡ false) → Completes issuer dsb n o o
-  nothing_answered none none' None unclean = completes_none issuer dsb n
+  pub nothing_answered : answers by.dsb true ≡ false → answers by.dsb false ≡ false → (o : Option Entry)
+      → ((marks : Marks) → marks_of o ≡ Some marks → is_clean by.n marks ≡ false) → Completes by o o
+  nothing_answered none none' None unclean = completes_none by
   nothing_answered none none' (Some e) unclean =
-      still e (unanswered (pends_in e.pends.items issuer) none none') (unclean e.marks refl)
-      (λ b c p. not_answered none none' b (waits (pends_in e.pends.items issuer) b c p))
+      still e (unanswered (pends_in e.pends.items by.issuer) none none') (unclean e.marks refl)
+      (λ b c p. not_answered none none' b (waits (pends_in e.pends.items by.issuer) b c p))
 
-  none_stays : (f : Entry) → Completes issuer dsb n None (Some f) → ⊥
+  none_stays : (f : Entry) → Completes by None (Some f) → ⊥
   none_stays f h = absurd (false≢true (sym h.own.broken))
 
-  left_none : (e f : Entry) → Completes issuer dsb n (Some e) (Some f) → (c : Cover) (p : ℕ) → answered_at (pends_in f.pends.items issuer) dsb c p ≡ false
+  left_none : (e f : Entry) → Completes by (Some e) (Some f) → (c : Cover) (p : ℕ) → answered_at (pends_in f.pends.items by.issuer) by.dsb c p ≡ false
   left_none e f h c p =
-      ap (λ (b : Bool). (answers dsb true && b) || (answers dsb false && waits (pends_in f.pends.items issuer) false c p)) (h.own.waiting true c p)
-      ∙ ap (λ (b : Bool). b || (answers dsb false && waits (pends_in f.pends.items issuer) false c p))
-      (none_answered (answers dsb true) (waits (pends_in e.pends.items issuer) true c p))
-      ∙ ap (λ (b : Bool). answers dsb false && b) (h.own.waiting false c p)
-      ∙ none_answered (answers dsb false) (waits (pends_in e.pends.items issuer) false c p)
+      ap (λ (b : Bool). (answers by.dsb true && b) || (answers by.dsb false && waits (pends_in f.pends.items by.issuer) false c p)) (h.own.waiting true c p)
+      ∙ ap (λ (b : Bool). b || (answers by.dsb false && waits (pends_in f.pends.items by.issuer) false c p))
+      (none_answered (answers by.dsb true) (waits (pends_in e.pends.items by.issuer) true c p))
+      ∙ ap (λ (b : Bool). answers by.dsb false && b) (h.own.waiting false c p)
+      ∙ none_answered (answers by.dsb false) (waits (pends_in e.pends.items by.issuer) false c p)
 
-  some_unclean : (e f : Entry) → Completes issuer dsb n (Some e) (Some f)
-      → every_pe n (clean_after (Broken e.marks) (pends_in e.pends.items issuer) dsb) ≡ false
+  some_unclean : (e f : Entry) → Completes by (Some e) (Some f)
+      → every_pe by.n (clean_after (Broken e.marks) (pends_in e.pends.items by.issuer) by.dsb) ≡ false
   some_unclean e f h =
-      elim (cases_Bool (every_pe n (clean_after (Broken e.marks) (pends_in e.pends.items issuer) dsb))) [
+      elim (cases_Bool (every_pe by.n (clean_after (Broken e.marks) (pends_in e.pends.items by.issuer) by.dsb))) [
         | inl all ↦ absurd (none-some f.marks.core (sym (h.own.core ∙ ap (λ (b : Bool). if b then None else Some e.marks.core) all)))
         | inr some ↦ some
       ]
 
   -- what is left is unclean at some PE
-  pub completes_unclean : (o : Option Entry) (f : Entry) → Completes issuer dsb n o (Some f) → is_clean n f.marks ≡ false
+  pub completes_unclean : (o : Option Entry) (f : Entry) → Completes by o (Some f) → is_clean by.n f.marks ≡ false
   completes_unclean None f h = absurd (none_stays f h)
-  completes_unclean (Some e) f h = ap (every_pe n) (fun_ext h.own.clean) ∙ some_unclean e f h
+  completes_unclean (Some e) f h = ap (every_pe by.n) (fun_ext h.own.clean) ∙ some_unclean e f h
 
-  core_kept : (e f : Entry) → Completes issuer dsb n (Some e) (Some f) → f.marks.core ≡ e.marks.core
+  core_kept : (e f : Entry) → Completes by (Some e) (Some f) → f.marks.core ≡ e.marks.core
   core_kept e f h =
       same_Some f.marks.core e.marks.core (h.own.core ∙ ap (λ (b : Bool). if b then None else Some e.marks.core) (some_unclean e f h))
 
-  gone_twice : (e f : Entry) → Completes issuer dsb n (Some e) (Some f) → Completes issuer dsb n (Some f) None → ⊥
+  gone_twice : (e f : Entry) → Completes by (Some e) (Some f) → Completes by (Some f) None → ⊥
   gone_twice e f h h' =
       none-some f.marks.core
       (h'.own.core ∙ ap (λ (b : Bool). if b then None else Some f.marks.core) (every_still f (left_none e f h) ∙ completes_unclean (Some e) f h))
 
-  some_twice : (e f g : Entry) → Completes issuer dsb n (Some e) (Some f) → Completes issuer dsb n (Some f) (Some g)
-      → Completes issuer dsb n (Some e) (Some g)
+  some_twice : (e f g : Entry) → Completes by (Some e) (Some f) → Completes by (Some f) (Some g)
+      → Completes by (Some e) (Some g)
   some_twice e f g h h' = record {
     own = record {
       core =
@@ -169,13 +170,13 @@ module _ (issuer : ℕ) (dsb : Dsb) (n : ℕ) where
       half = λ p. h'.own.half p ∙ half_still f (left_none e f h) p ∙ h.own.half p;
       clean = λ p. h'.own.clean p ∙ clean_still f (left_none e f h) p ∙ h.own.clean p;
       waiting = λ b c p.
-          h'.own.waiting b c p ∙ ap (λ (x : Bool). not (answers dsb b) && x) (h.own.waiting b c p)
-          ∙ and_self_left (not (answers dsb b)) (waits (pends_in e.pends.items issuer) b c p);
+          h'.own.waiting b c p ∙ ap (λ (x : Bool). not (answers by.dsb b) && x) (h.own.waiting b c p)
+          ∙ and_self_left (not (answers by.dsb b)) (waits (pends_in e.pends.items by.issuer) b c p);
     };
     others = λ q other b c p. h'.others q other b c p ∙ h.others q other b c p;
   }
 
-  twice : (o p r : Option Entry) → Completes issuer dsb n o p → Completes issuer dsb n p r → Completes issuer dsb n o r
+  twice : (o p r : Option Entry) → Completes by o p → Completes by p r → Completes by o r
   twice None None r h h' = h'
   twice None (Some f) r h h' = absurd (none_stays f h)
   twice (Some e) None None h h' = h
@@ -184,21 +185,21 @@ module _ (issuer : ℕ) (dsb : Dsb) (n : ℕ) where
   twice (Some e) (Some f) (Some g) h h' = some_twice e f g h h'
 
   -- a DSB that answers twice answers the same once
-  pub answers_again : (o p r : Option Entry) → MayComplete issuer dsb n o p → Completes issuer dsb n p r → Completes issuer dsb n o r
+  pub answers_again : (o p r : Option Entry) → MayComplete by o p → Completes by p r → Completes by o r
   answers_again o p r may h =
       elim may [
-        | inl same ↦ completes_at issuer dsb n o p r r (sym same) refl h
+        | inl same ↦ completes_at by o p r r (sym same) refl h
         | inr did ↦ twice o p r did h
       ]
 
   -- a table that left stays away, and where none left none left at all
-  pub lost_stays : (s p r : Option Entry) → Completes issuer dsb n p r → loses_table (marks_of s) (marks_of p) ≡ true
+  pub lost_stays : (s p r : Option Entry) → Completes by p r → loses_table (marks_of s) (marks_of p) ≡ true
       → loses_table (marks_of s) (marks_of r) ≡ true
   lost_stays s None None h lost = lost
   lost_stays s None (Some g) h lost = absurd (none_stays g h)
   lost_stays s (Some f) r h lost = absurd (false≢true (sym (and-false (has_table (marks_of s))) ∙ lost))
 
-  pub none_lost : (s p r : Option Entry) → MayComplete issuer dsb n s p → Completes issuer dsb n p r
+  pub none_lost : (s p r : Option Entry) → MayComplete by s p → Completes by p r
       → loses_table (marks_of s) (marks_of p) ≡ false → loses_table (marks_of p) (marks_of r) ≡ false
       → loses_table (marks_of s) (marks_of r) ≡ false
   none_lost None p r may h none none' = refl
@@ -210,7 +211,7 @@ module _ (issuer : ℕ) (dsb : Dsb) (n : ℕ) where
         | inr did ↦ ap (λ (x : Core). is_table x && true) (sym (core_kept e f did)) ∙ none'
       ]
 
-  pub lost_here : (s p r : Option Entry) → MayComplete issuer dsb n s p → loses_table (marks_of p) (marks_of r) ≡ true
+  pub lost_here : (s p r : Option Entry) → MayComplete by s p → loses_table (marks_of p) (marks_of r) ≡ true
       → loses_table (marks_of s) (marks_of r) ≡ true
   lost_here s None r may lost = absurd (false≢true lost)
   lost_here None (Some f) r may lost =
@@ -225,29 +226,29 @@ module _ (issuer : ℕ) (dsb : Dsb) (n : ℕ) where
       ]
 
   -- what waits nowhere waits nowhere after
-  pub idle_kept : (o p : Option Entry) → Completes issuer dsb n o p → IsIdle (pends_of issuer o) → IsIdle (pends_of issuer p)
+  pub idle_kept : (o p : Option Entry) → Completes by o p → IsIdle (pends_of by.issuer o) → IsIdle (pends_of by.issuer p)
   idle_kept o p h idle b c x =
       h.own.waiting b c x
-      ∙ ap (λ (w : Bool). is_some (core_in (state_from None (marks_of p))) && (not (answers dsb b) && w)) (idle b c x)
-      ∙ and_none (is_some (core_in (state_from None (marks_of p)))) (not (answers dsb b))
+      ∙ ap (λ (w : Bool). is_some (core_in (state_from None (marks_of p))) && (not (answers by.dsb b) && w)) (idle b c x)
+      ∙ and_none (is_some (core_in (state_from None (marks_of p)))) (not (answers by.dsb b))
 
-  pub idle_others : (q : ℕ) → q ≢ issuer → (o p : Option Entry) → Completes issuer dsb n o p → IsIdle (pends_of q o) → IsIdle (pends_of q p)
+  pub idle_others : (q : ℕ) → q ≢ by.issuer → (o p : Option Entry) → Completes by o p → IsIdle (pends_of q o) → IsIdle (pends_of q p)
   idle_others q other o p h idle b c x =
       h.others q other b c x ∙ ap (λ (w : Bool). is_some (marks_of p) && w) (idle b c x) ∙ and-false (is_some (marks_of p))
 
-  off : (answers dsb true ≡ true) → (answers dsb false ≡ true) → (b : Bool) → not (answers dsb b) ≡ false
+  off : (answers by.dsb true ≡ true) → (answers by.dsb false ≡ true) → (b : Bool) → not (answers by.dsb b) ≡ false
   off all all' true = ap not all
   off all all' false = ap not all'
 
-  pub idle_answered : answers dsb true ≡ true → answers dsb false ≡ true → (o p : Option Entry) → Completes issuer dsb n o p
-      → IsIdle (pends_of issuer p)
+  pub idle_answered : answers by.dsb true ≡ true → answers by.dsb false ≡ true → (o p : Option Entry) → Completes by o p
+      → IsIdle (pends_of by.issuer p)
   idle_answered all all' o p h b c x =
       h.own.waiting b c x
-      ∙ ap (λ (w : Bool). is_some (core_in (state_from None (marks_of p))) && (w && waits (pends_of issuer o) b c x)) (off all all' b)
+      ∙ ap (λ (w : Bool). is_some (core_in (state_from None (marks_of p))) && (w && waits (pends_of by.issuer o) b c x)) (off all all' b)
       ∙ and-false (is_some (core_in (state_from None (marks_of p))))
 
   -- of any PE, where nothing more was published nothing more is
-  pub told_completed : (m q : ℕ) (o : Option Entry) (f : Entry) → Completes issuer dsb n o (Some f)
+  pub told_completed : (m q : ℕ) (o : Option Entry) (f : Entry) → Completes by o (Some f)
       → ((e : Entry) → o ≡ Some e → IsTold m q e.marks) → IsTold m q f.marks
   told_completed m q None f h told = absurd (none_stays f h)
   told_completed m q (Some e) f h told = λ dsb' p heard wrote. h.own.seen p ∙ told e refl dsb' p heard (sym (h.own.writers q) ∙ wrote)

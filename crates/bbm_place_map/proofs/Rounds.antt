@@ -3,46 +3,46 @@ use Rattle.std.proofs.Common.{◌≡◌, ◌≢◌, ℕ, ◌+◌, ◌<◌, ◌�
 use Rattle.std.proofs.Common.{◌∙◌, arith, inl, inr, slice_index}
 use Rattle.std.proofs.lemmas.Bool.{cases_eq, false≢true}
 use Rattle.std.proofs.lemmas.List.{get_or_default}
-use Rattle.bbm_barriers.specs.declared.Dsb.{Dsb}
 use Rattle.bbm_entry_state.specs.EntryStanding.{IsIdle}
 use Rattle.bbm_entry_state.specs.declared.marks.Marks.{Marks}
 use Rattle.bbm_place_map.specs.Each.{Completes, loses_table}
 use Rattle.bbm_place_map.specs.Entries.{marks_of, pends_of}
 use Rattle.bbm_place_map.specs.Works.{Holds, MayComplete, is_clean}
 use Rattle.bbm_place_map.specs.declared.entry.Entry.{Entry}
+use Rattle.bbm_place_map.specs.declared.orders.Barrier.{Barrier}
 use Rattle.bbm_place_map.specs.declared.work.WorkList.{WorkList}
 use Rattle.bbm_place_map.proofs.Answering.{completes_at}
 use Rattle.bbm_place_map.proofs.Resting.{answers_again, lost_stays, none_lost, lost_here, idle_same}
 
-module _ (issuer : ℕ) (dsb : Dsb) (n : ℕ) (start mid new : ℕ → Option Entry) (m : ℕ)
-    (each : (j : ℕ) → MayComplete issuer dsb n (start j) (mid j))
-    (here : Completes issuer dsb n (mid m) (new m)) (others : (i : ℕ) → i ≢ m → new i ≡ mid i) where
-  pub each_more : (j : ℕ) → MayComplete issuer dsb n (start j) (new j)
+module _ (by : Barrier) (start mid new : ℕ → Option Entry) (m : ℕ)
+    (each : (j : ℕ) → MayComplete by (start j) (mid j))
+    (here : Completes by (mid m) (new m)) (others : (i : ℕ) → i ≢ m → new i ≡ mid i) where
+  pub each_more : (j : ℕ) → MayComplete by (start j) (new j)
   each_more j =
       elim (cases_eq j m) [
         | inl same ↦
-            let P : ℕ → Type 0 = λ x. MayComplete issuer dsb n (start x) (new x) in
-            subst P (sym same) (inr (answers_again issuer dsb n (start m) (mid m) (new m) (each m) here))
+            let P : ℕ → Type 0 = λ x. MayComplete by (start x) (new x) in
+            subst P (sym same) (inr (answers_again by (start m) (mid m) (new m) (each m) here))
         | inr other ↦
             elim (each j) [
               | inl stayed ↦ inl (others j other ∙ stayed)
-              | inr did ↦ inr (completes_at issuer dsb n (start j) (start j) (new j) (mid j) refl (others j other) did)
+              | inr did ↦ inr (completes_at by (start j) (start j) (new j) (mid j) refl (others j other) did)
             ]
       ]
 
   pub here_more : (list : List ℕ) (k : ℕ) → slice_index list k ≡ m
-      → ((i : ℕ) → i < k → Completes issuer dsb n (start (slice_index list i)) (mid (slice_index list i)))
-      → (i : ℕ) → i < k + 1 → Completes issuer dsb n (start (slice_index list i)) (new (slice_index list i))
+      → ((i : ℕ) → i < k → Completes by (start (slice_index list i)) (mid (slice_index list i)))
+      → (i : ℕ) → i < k + 1 → Completes by (start (slice_index list i)) (new (slice_index list i))
   here_more list k at done i below =
       elim (cases_eq (slice_index list i) m) [
         | inl same ↦
-            let P : ℕ → Type 0 = λ x. Completes issuer dsb n (start x) (new x) in
-            subst P (sym same) (answers_again issuer dsb n (start m) (mid m) (new m) (each m) here)
+            let P : ℕ → Type 0 = λ x. Completes by (start x) (new x) in
+            subst P (sym same) (answers_again by (start m) (mid m) (new m) (each m) here)
         | inr other ↦
             elim (cases_eq i k) [
               | inl last ↦ absurd (other (ap (slice_index list) last ∙ at))
               | inr apart ↦
-                  completes_at issuer dsb n (start (slice_index list i)) (start (slice_index list i)) (new (slice_index list i)) (mid (slice_index list i)) refl
+                  completes_at by (start (slice_index list i)) (start (slice_index list i)) (new (slice_index list i)) (mid (slice_index list i)) refl
                   (others (slice_index list i) other) (done i (omega arith))
             ]
       ]
@@ -53,12 +53,12 @@ module _ (issuer : ℕ) (dsb : Dsb) (n : ℕ) (start mid new : ℕ → Option En
         | inl same ↦
             let P : ℕ → Type 0 = λ x. loses_table (marks_of (start x)) (marks_of (mid x)) ≡ true in
             let Q : ℕ → Type 0 = λ x. loses_table (marks_of (start x)) (marks_of (new x)) ≡ true in
-            subst Q (sym same) (lost_stays issuer dsb n (start m) (mid m) (new m) here (subst P same lost))
+            subst Q (sym same) (lost_stays by (start m) (mid m) (new m) here (subst P same lost))
         | inr other ↦ ap (λ (o : Option Entry). loses_table (marks_of (start j)) (marks_of o)) (others j other) ∙ lost
       ]
 
   pub found_now : loses_table (marks_of (mid m)) (marks_of (new m)) ≡ true → loses_table (marks_of (start m)) (marks_of (new m)) ≡ true
-  found_now lost = lost_here issuer dsb n (start m) (mid m) (new m) (each m) lost
+  found_now lost = lost_here by (start m) (mid m) (new m) (each m) lost
 
   pub none_more : loses_table (marks_of (mid m)) (marks_of (new m)) ≡ false
       → ((j : ℕ) → loses_table (marks_of (start j)) (marks_of (mid j)) ≡ false)
@@ -67,31 +67,31 @@ module _ (issuer : ℕ) (dsb : Dsb) (n : ℕ) (start mid new : ℕ → Option En
       elim (cases_eq j m) [
         | inl same ↦
             let Q : ℕ → Type 0 = λ x. loses_table (marks_of (start x)) (marks_of (new x)) ≡ false in
-            subst Q (sym same) (none_lost issuer dsb n (start m) (mid m) (new m) (each m) here (none m) kept)
+            subst Q (sym same) (none_lost by (start m) (mid m) (new m) (each m) here (none m) kept)
         | inr other ↦ ap (λ (o : Option Entry). loses_table (marks_of (start j)) (marks_of o)) (others j other) ∙ none j
       ]
 
 -- the list has every cell at which something waits
-module _ (issuer : ℕ) (dsb : Dsb) (n : ℕ) (list : WorkList) (start new : ℕ → Option Entry) (open' : list.given_up ≡ false)
-    (known : (j : ℕ) → Holds list j ⊎ IsIdle (pends_of issuer (start j)))
-    (settled : (j : ℕ) (marks : Marks) → marks_of (start j) ≡ Some marks → is_clean n marks ≡ false)
+module _ (by : Barrier) (list : WorkList) (start new : ℕ → Option Entry) (open' : list.given_up ≡ false)
+    (known : (j : ℕ) → Holds list j ⊎ IsIdle (pends_of by.issuer (start j)))
+    (settled : (j : ℕ) (marks : Marks) → marks_of (start j) ≡ Some marks → is_clean by.n marks ≡ false)
     (here : (i : ℕ) → i < length list.cells.items
-    → Completes issuer dsb n (start (slice_index list.cells.items i)) (new (slice_index list.cells.items i)))
-    (each : (j : ℕ) → MayComplete issuer dsb n (start j) (new j)) where
-  pub all_answered : (j : ℕ) → Completes issuer dsb n (start j) (new j)
+    → Completes by (start (slice_index list.cells.items i)) (new (slice_index list.cells.items i)))
+    (each : (j : ℕ) → MayComplete by (start j) (new j)) where
+  pub all_answered : (j : ℕ) → Completes by (start j) (new j)
   all_answered j =
       elim (known j) [
         | inl holds ↦
             elim holds [
               | inl up ↦ absurd (false≢true (sym open' ∙ up))
               | inr c ↦
-                  let P : ℕ → Type 0 = λ x. Completes issuer dsb n (start x) (new x) in
+                  let P : ℕ → Type 0 = λ x. Completes by (start x) (new x) in
                   subst P (get_or_default list.cells.items c.0 0 j c.1 ∙ c.2) (here c.0 c.1)
             ]
         | inr idle ↦
             elim (each j) [
               | inl same ↦
-                  completes_at issuer dsb n (start j) (start j) (new j) (start j) refl same (idle_same issuer dsb n (start j) idle (settled j))
+                  completes_at by (start j) (start j) (new j) (start j) refl same (idle_same by (start j) idle (settled j))
               | inr did ↦ did
             ]
       ]

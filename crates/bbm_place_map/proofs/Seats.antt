@@ -1,6 +1,8 @@
 -- Entries that change, each in its place.
 use Rattle.std.proofs.Common.{◌≡◌, ◌≢◌, ℕ, nat_eq, List, length, Option, Some, None, refl, ap, sym, ◌∙◌, inl, inr}
 use Rattle.std.proofs.Common.{if◌then◌else◌, slice_get}
+use Rattle.std.specs.Prelude.{Vec}
+use Rattle.std.specs.declared.alloc.Global.{Global}
 use Rattle.std.specs.Option.{option_map}
 use Rattle.std.proofs.lemmas.Bool.{cases_eq, eq-eqb, ne_eqb, cond-true, cond-false}
 use Rattle.std.proofs.lemmas.Option.{same_Some, none-some}
@@ -8,7 +10,7 @@ use Rattle.smallvec.specs.SmallVec.{SmallVec}
 use Rattle.bbm_place_map.specs.Cells.{slot_in}
 use Rattle.bbm_place_map.specs.Entries.{seat, seat_at, cell_at, entry_of, entry_in, marks_of, pends_of, pends_in}
 use Rattle.bbm_place_map.specs.Parts.{marks_in, pends_for}
-use Rattle.bbm_place_map.specs.Sound.{Linked, Placed, index_of}
+use Rattle.bbm_place_map.specs.Sound.{Linked, Placed, StillSound, index_of}
 use Rattle.bbm_place_map.specs.declared.cell.Cell.{Cell}
 use Rattle.bbm_place_map.specs.declared.entry.Entry.{Entry}
 use Rattle.bbm_place_map.specs.declared.entry.Pending.{Pending}
@@ -101,3 +103,17 @@ found_in (Some e) j h = (e, refl)
 
 pub found : (entries : List Entry) (k j : ℕ) → cell_at entries k ≡ Some j → (e : Entry) × (slice_get entries k ≡ Some e)
 found entries k j h = found_in (slice_get entries k) j h
+
+-- cells and entries that stay as they are, and one edit after another
+pub still_same : (cells : Vec Cell Global) (entries : Vec Entry Global) → Linked cells.items entries.items → StillSound cells cells entries entries
+still_same cells entries linked = record { linked = linked; len = refl; room = refl; values = λ i. refl; placed = λ base placed. placed }
+
+pub still_more : {cells cells' cells'' : Vec Cell Global} {old mid new : Vec Entry Global} → StillSound cells cells' old mid
+    → StillSound cells' cells'' mid new → StillSound cells cells'' old new
+still_more a b = record {
+  linked = b.linked;
+  len = b.len ∙ a.len;
+  room = b.room ∙ a.room;
+  values = λ i. b.values i ∙ a.values i;
+  placed = λ base placed. b.placed base (a.placed base placed);
+}

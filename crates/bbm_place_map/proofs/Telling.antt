@@ -11,6 +11,7 @@ use Rattle.bbm_entry_state.specs.declared.marks.Marks.{Marks}
 use Rattle.bbm_place_map.specs.Each.{Advances, Publishes}
 use Rattle.bbm_place_map.specs.Works.{IsTold, MayPublish}
 use Rattle.bbm_place_map.specs.declared.entry.Entry.{Entry}
+use Rattle.bbm_place_map.specs.declared.orders.Barrier.{Barrier}
 use mathlib.Core.Bool.{or_self_left}
 
 hears_within : (a : Audience) (issuer n p : ℕ) → issuer < n → hears a issuer n p ≡ true → p < n
@@ -26,8 +27,8 @@ once true true s h = h refl refl
 once true false s h = refl
 once false y s h = refl
 
-module _ (issuer : ℕ) (dsb : Dsb) (n : ℕ) where
-  again_entry : (e f g : Entry) → Publishes issuer dsb n e f → Publishes issuer dsb n f g → Publishes issuer dsb n e g
+module _ (by : Barrier) where
+  again_entry : (e f g : Entry) → Publishes by e f → Publishes by f g → Publishes by e g
   again_entry e f g h h' = (
     h'.0 ∙ h.0,
     record {
@@ -35,16 +36,16 @@ module _ (issuer : ℕ) (dsb : Dsb) (n : ℕ) where
       broken = h'.1.broken ∙ h.1.broken;
       writers = λ p. h'.1.writers p ∙ h.1.writers p;
       seen = λ p.
-          h'.1.seen p ∙ ap (λ (b : Bool). (publishes dsb issuer n p && b) || pe_in f.marks.seen p) (h.1.writers issuer)
-          ∙ ap (λ (b : Bool). (publishes dsb issuer n p && pe_in e.marks.writers issuer) || b) (h.1.seen p)
-          ∙ or_self_left (publishes dsb issuer n p && pe_in e.marks.writers issuer) (pe_in e.marks.seen p);
+          h'.1.seen p ∙ ap (λ (b : Bool). (publishes by.dsb by.issuer by.n p && b) || pe_in f.marks.seen p) (h.1.writers by.issuer)
+          ∙ ap (λ (b : Bool). (publishes by.dsb by.issuer by.n p && pe_in e.marks.writers by.issuer) || b) (h.1.seen p)
+          ∙ or_self_left (publishes by.dsb by.issuer by.n p && pe_in e.marks.writers by.issuer) (pe_in e.marks.seen p);
       half = λ p. h'.1.half p ∙ h.1.half p;
       clean = λ p. h'.1.clean p ∙ h.1.clean p;
     },
   )
 
-  again_both : (o p r : Option Entry) → Advances (Publishes issuer dsb n) o p → Advances (Publishes issuer dsb n) p r
-      → Advances (Publishes issuer dsb n) o r
+  again_both : (o p r : Option Entry) → Advances (Publishes by) o p → Advances (Publishes by) p r
+      → Advances (Publishes by) o r
   again_both None None r h h' = h'
   again_both None (Some f) r h h' = absurd h
   again_both (Some e) None r h h' = absurd h
@@ -52,69 +53,62 @@ module _ (issuer : ℕ) (dsb : Dsb) (n : ℕ) where
   again_both (Some e) (Some f) (Some g) h h' = (h'.0 ∙ h.0, again_entry e f g h.1 h'.1)
 
   -- a DSB that publishes or_self_left publishes the same once
-  pub again : (o p r : Option Entry) → MayPublish issuer dsb n o p → Advances (Publishes issuer dsb n) p r
-      → Advances (Publishes issuer dsb n) o r
+  pub again : (o p r : Option Entry) → MayPublish by o p → Advances (Publishes by) p r
+      → Advances (Publishes by) o r
   again o p r may h =
       elim may [
-        | inl same ↦ let P : Option Entry → Type 0 = λ x. Advances (Publishes issuer dsb n) x r in subst P same h
+        | inl same ↦ let P : Option Entry → Type 0 = λ x. Advances (Publishes by) x r in subst P same h
         | inr did ↦ again_both o p r did h
       ]
 
-  pub same_published : (e : Entry) → ((p : ℕ) → publishes dsb issuer n p ≡ true → pe_in e.marks.writers issuer ≡ true → pe_in e.marks.seen p ≡ true)
-      → Publishes issuer dsb n e e
+  pub same_published : (e : Entry) → ((p : ℕ) → publishes by.dsb by.issuer by.n p ≡ true → pe_in e.marks.writers by.issuer ≡ true → pe_in e.marks.seen p ≡ true)
+      → Publishes by e e
   same_published e told = (
     refl,
     record {
       core = refl;
       broken = refl;
       writers = λ p. refl;
-      seen = λ p. once (publishes dsb issuer n p) (pe_in e.marks.writers issuer) (pe_in e.marks.seen p) (told p);
+      seen = λ p. once (publishes by.dsb by.issuer by.n p) (pe_in e.marks.writers by.issuer) (pe_in e.marks.seen p) (told p);
       half = λ p. refl;
       clean = λ p. refl;
     },
   )
 
   -- where nothing more is published, an entry that may have been visited was
-  pub told_advances : (o p : Option Entry) → ((e : Entry) → o ≡ Some e → IsTold n issuer e.marks) → MayPublish issuer dsb n o p
-      → Advances (Publishes issuer dsb n) o p
+  pub told_advances : (o p : Option Entry) → ((e : Entry) → o ≡ Some e → IsTold by.n by.issuer e.marks) → MayPublish by o p
+      → Advances (Publishes by) o p
   told_advances None p told may =
       elim may [
-        | inl same ↦ let P : Option Entry → Type 0 = λ x. Advances (Publishes issuer dsb n) None x in subst P (sym same) tt
+        | inl same ↦ let P : Option Entry → Type 0 = λ x. Advances (Publishes by) None x in subst P (sym same) tt
         | inr did ↦ did
       ]
   told_advances (Some e) p told may =
       elim may [
         | inl same ↦
-            let P : Option Entry → Type 0 = λ x. Advances (Publishes issuer dsb n) (Some e) x in
-            subst P (sym same) (refl, same_published e (told e refl dsb))
+            let P : Option Entry → Type 0 = λ x. Advances (Publishes by) (Some e) x in
+            subst P (sym same) (refl, same_published e (told e refl by.dsb))
         | inr did ↦ did
       ]
 
-  pub none_published : (o : Option Entry) → ((p : ℕ) → publishes dsb issuer n p ≡ false) → Advances (Publishes issuer dsb n) o o
-  none_published None none = tt
-  none_published (Some e) none = (refl, same_published e (λ p h. absurd (false≢true (sym (none p) ∙ h))))
-
   -- where a DSB reached every PE no more is published
-  pub told_after : (e f : Entry) → issuer < n → ((p : ℕ) → p < n → publishes dsb issuer n p ≡ true) → Publishes issuer dsb n e f
-      → IsTold n issuer f.marks
+  pub told_after : (e f : Entry) → by.issuer < by.n → ((p : ℕ) → p < by.n → publishes by.dsb by.issuer by.n p ≡ true) → Publishes by e f
+      → IsTold by.n by.issuer f.marks
   told_after e f below all h dsb' p heard wrote =
       h.1.seen p
-      ∙ or_left (publishes dsb issuer n p && pe_in e.marks.writers issuer) (pe_in e.marks.seen p)
-      (and_from (publishes dsb issuer n p) (pe_in e.marks.writers issuer) (all p (publishes_within dsb' issuer n p below heard))
-      (sym (h.1.writers issuer) ∙ wrote))
+      ∙ or_left (publishes by.dsb by.issuer by.n p && pe_in e.marks.writers by.issuer) (pe_in e.marks.seen p)
+      (and_from (publishes by.dsb by.issuer by.n p) (pe_in e.marks.writers by.issuer) (all p (publishes_within dsb' by.issuer by.n p below heard))
+      (sym (h.1.writers by.issuer) ∙ wrote))
 
   -- of any PE, where nothing more was published nothing more is
-  pub told_kept : (q : ℕ) (e f : Entry) → Publishes issuer dsb n e f → IsTold n q e.marks → IsTold n q f.marks
+  pub told_kept : (q : ℕ) (e f : Entry) → Publishes by e f → IsTold by.n q e.marks → IsTold by.n q f.marks
   told_kept q e f h told dsb' p heard wrote =
       h.1.seen p
-      ∙ or_right (publishes dsb issuer n p && pe_in e.marks.writers issuer) (pe_in e.marks.seen p)
+      ∙ or_right (publishes by.dsb by.issuer by.n p && pe_in e.marks.writers by.issuer) (pe_in e.marks.seen p)
       (told dsb' p heard (sym (h.1.writers q) ∙ wrote))
 
 pub told_no_writer : (n q : ℕ) (marks : Marks) → pe_in marks.writers q ≡ false → IsTold n q marks
 told_no_writer n q marks none dsb p heard wrote = absurd (false≢true (sym none ∙ wrote))
-
-pub told_all_seen : (n q : ℕ) (marks : Marks) → q < n → ((p : ℕ) → p < n → pe_in marks.seen p ≡ true) → IsTold n q marks
-told_all_seen n q marks below all dsb p heard wrote = all p (publishes_within dsb q n p below heard)
 
 pub told_after_write : (n q : ℕ) (b marks : Marks) → pe_in b.writers q ≡ true → ((p : ℕ) → pe_in b.seen p ≡ true → pe_in marks.seen p ≡ true)
     → IsTold n q b → IsTold n q marks

@@ -1,10 +1,9 @@
 -- Where a TLBI is noted at the places of a few items, and at no others.
-use Rattle.std.proofs.Common.{◌≡◌, ◌≢◌, ℕ, Bool, true, false, nat_eq, List, [], ◌∷◌, ◌++◌, Option, Some, None, refl, ap}
+use Rattle.std.proofs.Common.{◌≡◌, ◌≢◌, ℕ, true, false, nat_eq, List, [], ◌∷◌, ◌++◌, Option, Some, None, refl, ap}
 use Rattle.std.proofs.Common.{sym, subst, ◌∙◌, inl, inr, if◌then◌else◌, slice_get, map}
 use Rattle.std.specs.Option.{option_map}
 use Rattle.std.proofs.lemmas.Bool.{cases_eq, cases_Bool, eq-eqb, ne_eqb, eqb-true, false≢true, cond-true, cond-false}
 use Rattle.std.proofs.lemmas.Option.{same_Some, none-some, slice_get-map}
-use Rattle.bbm_regimes.specs.declared.pe.PeMask.{PeMask}
 use Rattle.bbm_tlbi_scope.specs.declared.entry.Cover.{Cover}
 use Rattle.bbm_place_map.specs.Cells.{slot_in}
 use Rattle.bbm_place_map.specs.Each.{Advances}
@@ -16,6 +15,7 @@ use Rattle.bbm_place_map.specs.Works.{HoldsFor, Waits}
 use Rattle.bbm_place_map.specs.declared.cell.Cell.{Cell}
 use Rattle.bbm_place_map.specs.declared.entry.Entry.{Entry}
 use Rattle.bbm_place_map.specs.declared.found.Found.{Found}
+use Rattle.bbm_place_map.specs.declared.orders.Issuing.{Issuing}
 use Rattle.bbm_place_map.specs.declared.work.WorkList.{WorkList}
 use Rattle.bbm_place_map.proofs.Advancing.{advance_by, at_both}
 use Rattle.bbm_place_map.proofs.Finding.{cover_here, cover_off, cover_old, found_here, found_off}
@@ -77,14 +77,14 @@ advance_then A B C by (Some e) (Some f) None h h' = absurd h'
 advance_then A B C by (Some e) (Some f) (Some g) h h' = (h'.0 ∙ h.0, by e f g h.0 h.1 h'.1)
 
 -- one more item
-module _ (xs : List Found) (x : Found) (issuer : ℕ) (reach : PeMask) (broadcast : Bool) (lists lists' : List WorkList)
+module _ (xs : List Found) (x : Found) (by : Issuing) (lists lists' : List WorkList)
     (kept : (q j : ℕ) → HoldsFor lists q j → HoldsFor lists' q j) where
-  by_cover : (c c' : Cover) (e f : Entry) → c' ≡ c → NotesAs c issuer reach broadcast e f → NotesAs c' issuer reach broadcast e f
-  by_cover c c' e f is notes = let P : Cover → Type 0 = λ y. NotesAs y issuer reach broadcast e f in subst P (sym is) notes
+  by_cover : (c c' : Cover) (e f : Entry) → c' ≡ c → NotesAs c by e f → NotesAs c' by e f
+  by_cover c c' e f is notes = let P : Cover → Type 0 = λ y. NotesAs y by e f in subst P (sym is) notes
 
   -- one that counts
-  pub note_step : is_found xs x.place ≡ false → (e f g : Entry) → seat f ≡ seat e → NotesFound xs issuer reach broadcast lists e f
-      → NotesOne x.place x.cover issuer reach broadcast lists' f g → NotesFound (xs ++ x ∷ []) issuer reach broadcast lists' e g
+  pub note_step : is_found xs x.place ≡ false → (e f g : Entry) → seat f ≡ seat e → NotesFound xs by lists e f
+      → NotesOne x.place x.cover by lists' f g → NotesFound (xs ++ x ∷ []) by lists' e g
   note_step fresh e f g seated before now =
       let place : f.place ≡ e.place = ap (λ (s : ℕ × ℕ). s.0) seated in
       elim (cases_Bool (nat_eq x.place e.place)) [
@@ -92,25 +92,25 @@ module _ (xs : List Found) (x : Found) (issuer : ℕ) (reach : PeMask) (broadcas
             let here : x.place ≡ e.place = eqb-true x.place e.place is in
             let new : is_found xs e.place ≡ false = ap (is_found xs) (sym here) ∙ fresh in
             let same : f ≡ e = before.1 new in
-            let P : Entry → Type 0 = λ y. NotesAs x.cover issuer reach broadcast y g in
-            let W : Entry → Type 0 = λ y. Waits lists' issuer y g in (
+            let P : Entry → Type 0 = λ y. NotesAs x.cover by y g in
+            let W : Entry → Type 0 = λ y. Waits lists' by.issuer y g in (
               by_cover x.cover (cover_in (xs ++ x ∷ []) e.place) e g (cover_here xs x e.place new is) (subst P same (now.0 (place ∙ sym here))),
               λ none. absurd (false≢true (sym none ∙ found_here xs x e.place is)),
               subst W same now.2,
             )
         | inr off ↦
             let same : g ≡ f = now.1 (λ at. false≢true (sym off ∙ eq-eqb x.place e.place (sym at ∙ place))) in
-            let P : Entry → Type 0 = λ y. NotesAs (cover_in xs e.place) issuer reach broadcast e y in
-            let W : Entry → Type 0 = λ y. Waits lists' issuer e y in (
+            let P : Entry → Type 0 = λ y. NotesAs (cover_in xs e.place) by e y in
+            let W : Entry → Type 0 = λ y. Waits lists' by.issuer e y in (
               by_cover (cover_in xs e.place) (cover_in (xs ++ x ∷ []) e.place) e g (cover_off xs x e.place off) (subst P (sym same) before.0),
               λ none. same ∙ before.1 (sym (found_off xs x e.place off) ∙ none),
-              subst W (sym same) (waits_kept lists lists' issuer kept e f before.2),
+              subst W (sym same) (waits_kept lists lists' by.issuer kept e f before.2),
             )
       ]
 
   -- one whose place an item before it has
-  pub skip_step : is_found xs x.place ≡ true → (e f : Entry) → NotesFound xs issuer reach broadcast lists e f
-      → NotesFound (xs ++ x ∷ []) issuer reach broadcast lists e f
+  pub skip_step : is_found xs x.place ≡ true → (e f : Entry) → NotesFound xs by lists e f
+      → NotesFound (xs ++ x ∷ []) by lists e f
   skip_step old e f before =
       elim (cases_Bool (nat_eq x.place e.place)) [
         | inl is ↦
@@ -127,10 +127,10 @@ module _ (xs : List Found) (x : Found) (issuer : ℕ) (reach : PeMask) (broadcas
       ]
 
 -- an entry whose place isn't among the items is as it was
-pub unfound_kept : (xs : List Found) (issuer : ℕ) (reach : PeMask) (broadcast : Bool) (lists : List WorkList) (o : Option Entry) (e : Entry)
-    → Advances (NotesFound xs issuer reach broadcast lists) o (Some e) → is_found xs e.place ≡ false → o ≡ Some e
-unfound_kept xs issuer reach broadcast lists None e h none = absurd h
-unfound_kept xs issuer reach broadcast lists (Some e') e h none =
+pub unfound_kept : (xs : List Found) (by : Issuing) (lists : List WorkList) (o : Option Entry) (e : Entry)
+    → Advances (NotesFound xs by lists) o (Some e) → is_found xs e.place ≡ false → o ≡ Some e
+unfound_kept xs by lists None e h none = absurd h
+unfound_kept xs by lists (Some e') e h none =
     ap (λ (y : Entry). Some y) (sym (h.1.1 (ap (λ (s : ℕ × ℕ). is_found xs s.0) (sym h.0) ∙ none)))
 
 -- how far the items cover each entry
@@ -153,18 +153,18 @@ module _ (xs : List Found) (entries : List Entry) where
   cover_was old kept m e c is at =
       cover_in_old m e c (slice_get entries m) refl (at_both Keeps (Some e) (slice_get old m) (slice_get entries m) (slice_get entries m) (sym is) refl (kept m)) at
 
-  module _ (issuer : ℕ) (reach : PeMask) (broadcast : Bool) (lists : List WorkList) (new : List Entry)
-      (each : (m : ℕ) → Advances (NotesFound xs issuer reach broadcast lists) (slice_get entries m) (slice_get new m)) where
-    notes_in : (m : ℕ) (o p : Option Entry) → slice_get entries m ≡ o → Advances (NotesFound xs issuer reach broadcast lists) o p
-        → Advances (NotesAt covers_of issuer reach broadcast m) o p
+  module _ (by : Issuing) (lists : List WorkList) (new : List Entry)
+      (each : (m : ℕ) → Advances (NotesFound xs by lists) (slice_get entries m) (slice_get new m)) where
+    notes_in : (m : ℕ) (o p : Option Entry) → slice_get entries m ≡ o → Advances (NotesFound xs by lists) o p
+        → Advances (NotesAt covers_of by m) o p
     notes_in m None None at h = tt
     notes_in m None (Some f) at h = absurd h
     notes_in m (Some e) None at h = absurd h
-    notes_in m (Some e) (Some f) at h = (h.0, notes_at covers_of m (cover_in xs e.place) issuer reach broadcast e f (cover_got m e at) h.1.0)
+    notes_in m (Some e) (Some f) at h = (h.0, notes_at covers_of m (cover_in xs e.place) by e f (cover_got m e at) h.1.0)
 
-    pub notes_each : (m : ℕ) → Advances (NotesAt covers_of issuer reach broadcast m) (slice_get entries m) (slice_get new m)
+    pub notes_each : (m : ℕ) → Advances (NotesAt covers_of by m) (slice_get entries m) (slice_get new m)
     notes_each m = notes_in m (slice_get entries m) (slice_get new m) refl (each m)
 
-    pub waits_each : (m : ℕ) → Advances (Waits lists issuer) (slice_get entries m) (slice_get new m)
+    pub waits_each : (m : ℕ) → Advances (Waits lists by.issuer) (slice_get entries m) (slice_get new m)
     waits_each m =
-        advance_by (NotesFound xs issuer reach broadcast lists) (Waits lists issuer) (λ e f h. h.2) (slice_get entries m) (slice_get new m) (each m)
+        advance_by (NotesFound xs by lists) (Waits lists by.issuer) (λ e f h. h.2) (slice_get entries m) (slice_get new m) (each m)

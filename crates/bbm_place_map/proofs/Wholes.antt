@@ -1,7 +1,6 @@
 -- What a write leaves at a place that isn't broken after.
-use Rattle.std.proofs.Common.{◌≡◌, ℕ, Bool, true, false, not, ◌&&◌, nat_eq, Option, Some, None, refl, ap, sym, ◌∙◌}
+use Rattle.std.proofs.Common.{◌≡◌, ℕ, false, nat_eq, Option, Some, None, refl, ap, sym, ◌∙◌}
 use Rattle.std.proofs.Common.{if◌then◌else◌}
-use Rattle.std.proofs.lemmas.Bool.{true≢false}
 use Rattle.bbm_descriptor.specs.declared.desc.Core.{Core}
 use Rattle.bbm_entry_state.specs.EntryCalls.{Written}
 use Rattle.bbm_entry_state.specs.Points.{is_broken}

@@ -1,7 +1,6 @@
 -- How each entry changes in a call that concerns all of them.
 -- Source: project's own choice.
 use Rattle.std.specs.Prelude.{◌≡◌, ◌≢◌, ℕ, Bool, true, false, Option, Some, None, is_none, is_some, ◌&&◌}
-use Rattle.bbm_barriers.specs.declared.Dsb.{Dsb}
 use Rattle.bbm_entry_state.specs.EntryCalls.{Published, Completed}
 use Rattle.bbm_entry_state.specs.Points.{waits}
 use Rattle.bbm_descriptor.specs.declared.desc.Core.{Core}
@@ -12,6 +11,7 @@ use Rattle.bbm_entry_state.specs.declared.state.EntryState.TheVariants.{Broken}
 use Rattle.bbm_place_map.specs.Entries.{seat, marks_of, pends_of}
 use Rattle.bbm_place_map.specs.States.{state_from}
 use Rattle.bbm_place_map.specs.declared.entry.Entry.{Entry}
+use Rattle.bbm_place_map.specs.declared.orders.Barrier.{Barrier}
 
 -- the place and the cell stay, and the rest is as the relation says
 abbrev pub Advances : (Entry → Entry → Type 0) → Option Entry → Option Entry → Type 0
@@ -20,14 +20,14 @@ Advances R None (Some f) = ⊥
 Advances R (Some e) None = ⊥
 Advances R (Some e) (Some f) = (seat f ≡ seat e) × R e f
 
-abbrev pub Publishes : ℕ → Dsb → ℕ → Entry → Entry → Type 0
-Publishes issuer dsb n e f = (f.pends ≡ e.pends) × Published (Broken e.marks) issuer dsb n (Broken f.marks)
+abbrev pub Publishes : Barrier → Entry → Entry → Type 0
+Publishes by e f = (f.pends ≡ e.pends) × Published (Broken e.marks) by.issuer by.dsb by.n (Broken f.marks)
 
 -- a DSB of the issuer answered its TLBIs
-pub record Completes (issuer : ℕ) (dsb : Dsb) (n : ℕ) (old new : Option Entry) : Type 0 where
-  pub own : Completed (state_from None (marks_of old)) (pends_of issuer old) dsb n
-      (state_from None (marks_of new)) (pends_of issuer new)
-  pub others : (q : ℕ) → q ≢ issuer → (b : Bool) (c : Cover) (p : ℕ)
+pub record Completes (by : Barrier) (old new : Option Entry) : Type 0 where
+  pub own : Completed (state_from None (marks_of old)) (pends_of by.issuer old) by.dsb by.n
+      (state_from None (marks_of new)) (pends_of by.issuer new)
+  pub others : (q : ℕ) → q ≢ by.issuer → (b : Bool) (c : Cover) (p : ℕ)
       → waits (pends_of q new) b c p ≡ (is_some (marks_of new) && waits (pends_of q old) b c p)
 
 -- whether a place was broken over a table, and isn't broken any more

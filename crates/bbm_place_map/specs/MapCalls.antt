@@ -28,6 +28,11 @@ pub record MayCover {F : Type 0} (calls : Shared F (Bor PlaceMap × (ℕ × (Cor
 abbrev pub lost_table : PlaceMap → PlaceMap → ℕ → Bool
 lost_table old new a = loses_table (marks_at old a) (marks_at new a)
 
+-- A value is written at the place, and no other value changes, and the same pages are tracked.
+pub record Puts (value place : ℕ) (old new : PlaceMap) : Type 0 where
+  pub values : (a : ℕ) → value_at new a ≡ (if nat_eq a place then value else value_at old a)
+  pub pages : (page : ℕ) → is_tracked new page ≡ is_tracked old page
+
 -- A write leaves this state at the place: its marks, and what waits there where it is broken. What is elsewhere stays.
 pub record Leaves (state : EntryState) (place : ℕ) (old new : PlaceMap) : Type 0 where
   pub marks : (a : ℕ) → marks_at new a ≡ (if nat_eq a place then marks_of_state state else marks_at old a)

@@ -1,16 +1,18 @@
 -- What the issue of a TLBI makes of each entry.
 -- Source: project's own choice.
 use Rattle.std.specs.Prelude.{◌≡◌, ◌≢◌, ℕ, Bool, true, false, List, Some, slice_get}
-use Rattle.bbm_regimes.specs.declared.pe.PeMask.{PeMask}
+use Rattle.std.specs.Prelude.{Vec, length, vec_capacity}
+use Rattle.std.specs.declared.alloc.Global.{Global}
 use Rattle.bbm_tlbi_scope.specs.declared.entry.Cover.{Cover}
 use Rattle.bbm_tlbi_scope.specs.declared.entry.Cover.TheVariants.{None as NoCover, Half, Second, Full}
 use Rattle.bbm_entry_state.specs.EntryCalls.{Noted}
 use Rattle.bbm_entry_state.specs.declared.state.EntryState.TheVariants.{Broken}
 use Rattle.bbm_place_map.specs.Entries.{pends_in, HasRoom}
 use Rattle.bbm_place_map.specs.Finds.{cover_in, is_found}
-use Rattle.bbm_place_map.specs.Works.{Waits}
+use Rattle.bbm_place_map.specs.Works.{HoldsFor, Waits}
 use Rattle.bbm_place_map.specs.declared.entry.Entry.{Entry}
 use Rattle.bbm_place_map.specs.declared.found.Found.{Found}
+use Rattle.bbm_place_map.specs.declared.orders.Issuing.{Issuing}
 use Rattle.bbm_place_map.specs.declared.work.WorkList.{WorkList}
 
 abbrev pub is_cover : Cover → Bool
@@ -30,26 +32,32 @@ Readies issuer covers m e f =
     × ((c : Cover) → slice_get covers m ≡ Some c → is_cover c ≡ true → HasRoom f.pends issuer)
 
 -- the TLBI is noted, which covers the place so far
-abbrev pub NotesAs : Cover → ℕ → PeMask → Bool → Entry → Entry → Type 0
-NotesAs cover issuer reach broadcast e f =
-    (f.marks ≡ e.marks) × ((q : ℕ) → q ≢ issuer → pends_in f.pends.items q ≡ pends_in e.pends.items q)
-    × Noted (Broken e.marks) (pends_in e.pends.items issuer) reach broadcast cover (pends_in f.pends.items issuer)
+abbrev pub NotesAs : Cover → Issuing → Entry → Entry → Type 0
+NotesAs cover by e f =
+    (f.marks ≡ e.marks) × ((q : ℕ) → q ≢ by.issuer → pends_in f.pends.items q ≡ pends_in e.pends.items q)
+    × Noted (Broken e.marks) (pends_in e.pends.items by.issuer) by.reach by.broadcast cover (pends_in f.pends.items by.issuer)
     × (is_cover cover ≡ false → f.pends.items ≡ e.pends.items)
 
 -- the TLBI is noted as far as it covers the place
-abbrev pub NotesAt : List Cover → ℕ → PeMask → Bool → ℕ → Entry → Entry → Type 0
-NotesAt covers issuer reach broadcast m e f =
-    (f.marks ≡ e.marks) × ((q : ℕ) → q ≢ issuer → pends_in f.pends.items q ≡ pends_in e.pends.items q)
+abbrev pub NotesAt : List Cover → Issuing → ℕ → Entry → Entry → Type 0
+NotesAt covers by m e f =
+    (f.marks ≡ e.marks) × ((q : ℕ) → q ≢ by.issuer → pends_in f.pends.items q ≡ pends_in e.pends.items q)
     × ((c : Cover) → slice_get covers m ≡ Some c
-    → Noted (Broken e.marks) (pends_in e.pends.items issuer) reach broadcast c (pends_in f.pends.items issuer))
+    → Noted (Broken e.marks) (pends_in e.pends.items by.issuer) by.reach by.broadcast c (pends_in f.pends.items by.issuer))
     × ((c : Cover) → slice_get covers m ≡ Some c → is_cover c ≡ false → f.pends.items ≡ e.pends.items)
 
 -- the TLBI is noted at one place, and no other entry changes
-abbrev pub NotesOne : ℕ → Cover → ℕ → PeMask → Bool → List WorkList → Entry → Entry → Type 0
-NotesOne place cover issuer reach broadcast lists e f =
-    (e.place ≡ place → NotesAs cover issuer reach broadcast e f) × (e.place ≢ place → f ≡ e) × Waits lists issuer e f
+abbrev pub NotesOne : ℕ → Cover → Issuing → List WorkList → Entry → Entry → Type 0
+NotesOne place cover by lists e f =
+    (e.place ≡ place → NotesAs cover by e f) × (e.place ≢ place → f ≡ e) × Waits lists by.issuer e f
 
 -- the TLBI is noted as far as the items cover the place, and an entry whose place isn't among them stays
-abbrev pub NotesFound : List Found → ℕ → PeMask → Bool → List WorkList → Entry → Entry → Type 0
-NotesFound found issuer reach broadcast lists e f =
-    NotesAs (cover_in found e.place) issuer reach broadcast e f × (is_found found e.place ≡ false → f ≡ e) × Waits lists issuer e f
+abbrev pub NotesFound : List Found → Issuing → List WorkList → Entry → Entry → Type 0
+NotesFound found by lists e f =
+    NotesAs (cover_in found e.place) by e f × (is_found found e.place ≡ false → f ≡ e) × Waits lists by.issuer e f
+
+-- As many entries, in as much room, and the lists have what they had.
+pub record OnlyNotes (old new : Vec Entry Global) (lists lists' : List WorkList) : Type 0 where
+  pub len : length new.items ≡ length old.items
+  pub room : vec_capacity new ≡ vec_capacity old
+  pub kept : (q j : ℕ) → HoldsFor lists q j → HoldsFor lists' q j

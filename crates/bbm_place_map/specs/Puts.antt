@@ -6,7 +6,7 @@ use Rattle.bbm_entry_state.specs.declared.marks.Marks.{Marks}
 use Rattle.bbm_place_map.specs.Cells.{value_in}
 use Rattle.bbm_place_map.specs.Entries.{entry_in}
 use Rattle.bbm_place_map.specs.Parts.{marks_in, pends_for}
-use Rattle.bbm_place_map.specs.Sound.{Linked, Placed, index_of}
+use Rattle.bbm_place_map.specs.Sound.{Linked, Placed, StillSound, index_of}
 use Rattle.bbm_place_map.specs.declared.cell.Cell.{Cell}
 use Rattle.bbm_place_map.specs.declared.entry.Entry.{Entry}
 
@@ -22,9 +22,12 @@ pub record Breaks (j place : ℕ) (by : Marks) (cells cells' : Vec Cell Global) 
 
 -- The places of these cells aren't broken, and nothing waits there. The rest stays.
 pub record Clears (these : ℕ → Bool) (cells cells' : Vec Cell Global) (old new : Vec Entry Global) : Type 0 where
+  pub sound : StillSound cells cells' old new
+  pub entries : (i : ℕ) → entry_in cells'.items new.items i ≡ (if these i then None else entry_in cells.items old.items i)
+
+-- A value is written into cell j. Cells and entries go on naming each other, in as much room.
+pub record Writes (j value : ℕ) (cells cells' : Vec Cell Global) (old new : Vec Entry Global) : Type 0 where
   pub linked : Linked cells'.items new.items
   pub len : vec_len cells' ≡ vec_len cells
   pub room : vec_capacity new ≡ vec_capacity old
-  pub values : (i : ℕ) → value_in cells'.items i ≡ value_in cells.items i
-  pub entries : (i : ℕ) → entry_in cells'.items new.items i ≡ (if these i then None else entry_in cells.items old.items i)
-  pub placed : (base : ℕ → Option ℕ) → Placed base old.items → Placed base new.items
+  pub values : (i : ℕ) → value_in cells'.items i ≡ (if nat_eq i j then value else value_in cells.items i)

@@ -1,9 +1,10 @@
 -- How pages, cells and entries hang together.
 -- Source: project's own choice.
-use Rattle.std.specs.Prelude.{◌≡◌, ℕ, ◌+◌, ◌*◌, ◌/◌, ◌%◌, ◌<◌, ◌≤◌, ◌==◌, Option, Some, None, List, length, count_by}
-use Rattle.std.specs.Prelude.{slice_get, if◌then◌else◌}
+use Rattle.std.specs.Prelude.{◌≡◌, ℕ, ◌+◌, ◌*◌, ◌/◌, ◌%◌, ◌^◌, ◌<◌, ◌≤◌, ◌==◌, Option, Some, None, List, length}
+use Rattle.std.specs.Prelude.{count_by, slice_get, if◌then◌else◌, Vec, vec_len, vec_capacity}
 use Rattle.std.specs.Option.{option_map}
-use Rattle.bbm_place_map.specs.Cells.{slot_in, is_listed}
+use Rattle.std.specs.declared.alloc.Global.{Global}
+use Rattle.bbm_place_map.specs.Cells.{value_in, slot_in, is_listed}
 use Rattle.bbm_place_map.specs.Entries.{cell_at}
 use Rattle.bbm_place_map.specs.declared.cell.Cell.{Cell}
 use Rattle.bbm_place_map.specs.declared.entry.Entry.{Entry}
@@ -27,10 +28,62 @@ index_of base a = if a % 8 == 0 then option_map (λ b. b + a % 4096 / 8) (base (
 abbrev pub Placed : (ℕ → Option ℕ) → List Entry → Type 0
 Placed base entries = (k : ℕ) (e : Entry) → slice_get entries k ≡ Some e → index_of base e.place ≡ Some e.cell
 
+-- As many entries, in as much room.
+pub record SameSize (old new : Vec Entry Global) : Type 0 where
+  pub len : length new.items ≡ length old.items
+  pub room : vec_capacity new ≡ vec_capacity old
+
+-- The cells name the same entries.
+pub record KeepsSlots (cells cells' : List Cell) : Type 0 where
+  pub slots : (i : ℕ) → slot_in cells' i ≡ slot_in cells i
+  pub linked : (entries : List Entry) → Linked cells entries → Linked cells' entries
+
+-- Below entry k each entry stays, and no cell names one that it didn't name.
+pub record FrontStays (k : ℕ) (cells cells' : List Cell) (entries entries' : List Entry) : Type 0 where
+  pub below : (i m : ℕ) → m < k → slot_in cells' i ≡ Some m → slot_in cells i ≡ Some m
+  pub front : (m : ℕ) → m < k → slice_get entries' m ≡ slice_get entries m
+
+-- Cells, fewer than 2^32, and entries that can be edited.
+pub record FewLinked (cells : Vec Cell Global) (entries : Vec Entry Global) : Type 0 where
+  pub linked : Linked cells.items entries.items
+  pub few : vec_len cells < 2 ^ 32
+
+-- And there is room to break the place of cell j.
+pub record CanBreak (j : ℕ) (cells : Vec Cell Global) (entries : Vec Entry Global) : Type 0 where
+  pub linked : Linked cells.items entries.items
+  pub within : j < vec_len cells
+  pub few : vec_len cells < 2 ^ 32
+  pub room : vec_len cells ≤ vec_capacity entries
+
+-- The values stay, and cells and entries go on naming each other, at the places where they were, in as much room.
+pub record StillSound (cells cells' : Vec Cell Global) (old new : Vec Entry Global) : Type 0 where
+  pub linked : Linked cells'.items new.items
+  pub len : vec_len cells' ≡ vec_len cells
+  pub room : vec_capacity new ≡ vec_capacity old
+  pub values : (i : ℕ) → value_in cells'.items i ≡ value_in cells.items i
+  pub placed : (base : ℕ → Option ℕ) → Placed base old.items → Placed base new.items
+
 -- what is kept of a cell, or a default where there is no cell
 abbrev pub at_index : {X : Type 0} → X → (ℕ → X) → Option ℕ → X
 at_index d f None = d
 at_index d f (Some j) = f j
+
+-- And there are fewer than 2^32 cells.
+pub record FewNumbered (base : ℕ → Option ℕ) (count : ℕ) : Type 0 where
+  pub numbered : Numbered base count
+  pub few : count < 2 ^ 32
+
+-- Cells and entries name each other, and there is a cell j.
+pub record HasCell (j : ℕ) (cells : List Cell) (entries : List Entry) : Type 0 where
+  pub linked : Linked cells entries
+  pub within : j < length cells
+
+-- Pages, cells, fewer than 2^32, and entries hang together.
+pub record IsSound (base : ℕ → Option ℕ) (cells : List Cell) (entries : List Entry) : Type 0 where
+  pub numbered : Numbered base (length cells)
+  pub few : length cells < 2 ^ 32
+  pub linked : Linked cells entries
+  pub placed : Placed base entries
 
 -- the number of the entry of a place
 abbrev pub slot_at : (ℕ → Option ℕ) → List Cell → ℕ → Option ℕ

@@ -6,6 +6,7 @@ use Rattle.bbm_barriers.specs.declared.Dsb.{Dsb}
 use Rattle.bbm_barriers.specs.Options.{publishes}
 use Rattle.bbm_lemmas.specs.EveryPe.{every_pe}
 use Rattle.bbm_regimes.specs.PeMask.{pe_in}
+use Rattle.bbm_regimes.specs.declared.pe.PeMask.{PeMask}
 use Rattle.bbm_entry_state.specs.EntryStanding.{IsIdle}
 use Rattle.bbm_entry_state.specs.declared.marks.Marks.{Marks}
 use Rattle.bbm_place_map.specs.Each.{Advances, Publishes, Completes}
@@ -13,6 +14,7 @@ use Rattle.bbm_place_map.specs.Entries.{pends_in}
 use Rattle.bbm_place_map.specs.Parts.{marks_in, pends_for}
 use Rattle.bbm_place_map.specs.declared.cell.Cell.{Cell}
 use Rattle.bbm_place_map.specs.declared.entry.Entry.{Entry}
+use Rattle.bbm_place_map.specs.declared.orders.Barrier.{Barrier}
 use Rattle.bbm_place_map.specs.declared.work.Work.{Work}
 use Rattle.bbm_place_map.specs.declared.work.WorkList.{WorkList}
 
@@ -23,6 +25,11 @@ Holds list j = (list.given_up ≡ true) ⊎ Contains list.cells.items j
 -- so does the list of a PE, if it has one
 abbrev pub HoldsFor : List WorkList → ℕ → ℕ → Type 0
 HoldsFor lists q j = (list : WorkList) → slice_get lists q ≡ Some list → Holds list j
+
+-- The lists of these PEs, of the first n, have the cell. What they had they have.
+pub record AddsAll (these : PeMask) (n cell : ℕ) (old new : List WorkList) : Type 0 where
+  pub there : (q : ℕ) → q < n → pe_in these q ≡ true → HoldsFor new q cell
+  pub kept : (q j : ℕ) → HoldsFor old q j → HoldsFor new q j
 
 -- no DSB of the PE, in a log with n PEs, publishes more of a place with these marks
 abbrev pub IsTold : ℕ → ℕ → Marks → Type 0
@@ -73,12 +80,12 @@ pub record Listed (work : Work) (cells : List Cell) (entries : List Entry) : Typ
       → is_clean work.pes marks ≡ false
 
 -- a DSB of the issuer published its writes, or nothing changed
-abbrev pub MayPublish : ℕ → Dsb → ℕ → Option Entry → Option Entry → Type 0
-MayPublish issuer dsb n old new = (new ≡ old) ⊎ Advances (Publishes issuer dsb n) old new
+abbrev pub MayPublish : Barrier → Option Entry → Option Entry → Type 0
+MayPublish by old new = (new ≡ old) ⊎ Advances (Publishes by) old new
 
 -- a DSB of the issuer answered its TLBIs, or nothing changed
-abbrev pub MayComplete : ℕ → Dsb → ℕ → Option Entry → Option Entry → Type 0
-MayComplete issuer dsb n old new = (new ≡ old) ⊎ Completes issuer dsb n old new
+abbrev pub MayComplete : Barrier → Option Entry → Option Entry → Type 0
+MayComplete by old new = (new ≡ old) ⊎ Completes by old new
 
 -- something may wait at an entry only where the list of the issuer has its cell, or something may have waited before
 abbrev pub Waits : List WorkList → ℕ → Entry → Entry → Type 0

@@ -5,21 +5,22 @@ ghost use Rattle.std.specs.Prelude.{slice_get, slice_index, nat_eq, true, false,
 ghost use Rattle.bbm_entry_state.specs.EntryCalls.{Completed};
 ghost use Rattle.bbm_entry_state.specs.EntryStanding.{IsIdle};
 ghost use Rattle.bbm_entry_state.specs.declared.state.EntryState.TheVariants as state;
-ghost use Rattle.bbm_place_map.specs.Cells.{value_in, slot_in};
-ghost use Rattle.bbm_place_map.specs.Dsbs.{CanAnswer, CompletesAll, HoldWaiting, IsSettled};
+ghost use Rattle.bbm_place_map.specs.Cells.{slot_in};
+ghost use Rattle.bbm_place_map.specs.Dsbs.{CanAnswer, CompletesAll, HasWaiting, HoldWaiting, IsSettled};
 ghost use Rattle.bbm_place_map.specs.Each.{Completes, loses_table, is_table as spec_is_table};
 ghost use Rattle.bbm_place_map.specs.Entries.{cell_at, entry_in, no_pends, pends_in, seat};
 ghost use Rattle.bbm_place_map.specs.Parts.{marks_in};
-ghost use Rattle.bbm_place_map.specs.Sound.{Linked, Placed};
+ghost use Rattle.bbm_place_map.specs.Sound.{FrontStays, SameSize, StillSound};
 ghost use Rattle.bbm_place_map.specs.Works.{Holds, HoldsFor, MayComplete};
 ghost use Rattle.bbm_place_map.specs.declared.entry.Entry.{Entry as TheEntry};
 
 use crate::cell::Cell;
 use crate::entry::{Entry, is_idle, pends_of, take_answered};
 use crate::links::unlink;
+use crate::orders::Barrier;
 use crate::read::slot_of;
 use crate::work::{WorkList, add, restart};
-use bbm_barriers::{Dsb, completes_broadcast, completes_local};
+use bbm_barriers::{completes_broadcast, completes_local};
 use bbm_descriptor::Core;
 use bbm_entry_state::law_completes;
 use bbm_regimes::Pe;
@@ -34,56 +35,44 @@ fn is_table(core: Core) -> bool
 }
 
 /// A DSB of the issuer answered its TLBIs at one entry, which stays for now. Whether its place is cleansed at every PE.
-fn answer_at(broken: &mut Vec<Entry>, k: usize, issuer: Pe, dsb: Dsb, n: u8) -> bool
-    requires some { 1 ≤ n }
-    requires most { n ≤ 128 }
+fn answer_at(broken: &mut Vec<Entry>, k: usize, barrier: &Barrier) -> bool
+    requires some { 1 ≤ barrier.now.n }
+    requires most { barrier.now.n ≤ 128 }
     requires within { k < vec_len broken.old }
     ensures entry { (e : TheEntry) → slice_get broken.old.items k ≡ Some e → (f : TheEntry) × (seat f ≡ seat e)
-        × (result ≡ true → Completed (state.Broken e.marks) (pends_in e.pends.items issuer) dsb n state.Clean no_pends)
-        × (result ≡ false → Completed (state.Broken e.marks) (pends_in e.pends.items issuer) dsb n
-        (state.Broken f.marks) (pends_in f.pends.items issuer))
-        × ((q : ℕ) → q ≢ issuer → pends_in f.pends.items q ≡ pends_in e.pends.items q)
+        × (result ≡ true → Completed (state.Broken e.marks) (pends_in e.pends.items barrier.now.issuer)
+        barrier.now.dsb barrier.now.n state.Clean no_pends)
+        × (result ≡ false → Completed (state.Broken e.marks) (pends_in e.pends.items barrier.now.issuer)
+        barrier.now.dsb barrier.now.n (state.Broken f.marks) (pends_in f.pends.items barrier.now.issuer))
+        × ((q : ℕ) → q ≢ barrier.now.issuer → pends_in f.pends.items q ≡ pends_in e.pends.items q)
         × ((i : ℕ) → slice_get broken.new.items i ≡ (if nat_eq i k then Some f else slice_get broken.old.items i)) }
-    ensures len { length broken.new.items ≡ length broken.old.items }
-    ensures room { vec_capacity broken.new ≡ vec_capacity broken.old }
+    ensures size { SameSize broken.old broken.new }
 {
     law_completes();
     let entry = &mut broken[k];
-    let done = take_answered(&mut entry.pends, issuer, dsb);
+    let done = take_answered(&mut entry.pends, barrier.issuer, barrier.dsb);
     entry.marks.answer(done);
-    entry.marks.is_clean(n)
+    entry.marks.is_clean(barrier.n)
 }
 
 /// A DSB of the issuer answered its TLBIs at one entry, which leaves where its place is cleansed at every PE. Whether
 /// it left, and its core is a table.
 #[inline(always)]
-fn complete_at(
-    cells: &mut Vec<Cell>,
-    broken: &mut Vec<Entry>,
-    k: usize,
-    issuer: Pe,
-    dsb: Dsb,
-    n: u8,
-) -> bool
-    requires able { CanAnswer n cells.old broken.old }
+fn complete_at(cells: &mut Vec<Cell>, broken: &mut Vec<Entry>, k: usize, barrier: &Barrier) -> bool
+    requires able { CanAnswer barrier.now cells.old broken.old }
     requires within { k < vec_len broken.old }
-    ensures linked { Linked cells.new.items broken.new.items }
-    ensures len { vec_len cells.new ≡ vec_len cells.old }
-    ensures room { vec_capacity broken.new ≡ vec_capacity broken.old }
-    ensures values { (i : ℕ) → value_in cells.new.items i ≡ value_in cells.old.items i }
+    ensures sound { StillSound cells.old cells.new broken.old broken.new }
     ensures short { length broken.old.items ≤ length broken.new.items + 1 }
-    ensures here { (j : ℕ) → cell_at broken.old.items k ≡ Some j → Completes issuer dsb n
+    ensures here { (j : ℕ) → cell_at broken.old.items k ≡ Some j → Completes barrier.now
         (entry_in cells.old.items broken.old.items j) (entry_in cells.new.items broken.new.items j) }
     ensures answer { (j : ℕ) → cell_at broken.old.items k ≡ Some j → result
         ≡ loses_table (marks_in cells.old.items broken.old.items j) (marks_in cells.new.items broken.new.items j) }
     ensures others { (i j : ℕ) → cell_at broken.old.items k ≡ Some j → i ≢ j
         → entry_in cells.new.items broken.new.items i ≡ entry_in cells.old.items broken.old.items i }
-    ensures below { (i m : ℕ) → m < k → slot_in cells.new.items i ≡ Some m → slot_in cells.old.items i ≡ Some m }
-    ensures front { (m : ℕ) → m < k → slice_get broken.new.items m ≡ slice_get broken.old.items m }
-    ensures placed { (base : ℕ → Option ℕ) → Placed base broken.old.items → Placed base broken.new.items }
+    ensures front { FrontStays k cells.old.items cells.new.items broken.old.items broken.new.items }
 {
     let core = broken[k].marks.core;
-    if answer_at(broken, k, issuer, dsb, n) {
+    if answer_at(broken, k, barrier) {
         unlink(cells, broken, k);
         is_table(core)
     } else {
@@ -93,15 +82,15 @@ fn complete_at(
 
 /// A DSB of the issuer answered its TLBIs at each entry. One whose place is cleansed at every PE leaves. Whether one
 /// over a table left.
-fn complete_all(cells: &mut Vec<Cell>, broken: &mut Vec<Entry>, issuer: Pe, dsb: Dsb, n: u8) -> bool
-    requires { CanAnswer n cells.old broken.old }
-    ensures { CompletesAll issuer dsb n cells.old cells.new broken.old broken.new result }
+fn complete_all(cells: &mut Vec<Cell>, broken: &mut Vec<Entry>, barrier: &Barrier) -> bool
+    requires { CanAnswer barrier.now cells.old broken.old }
+    ensures { CompletesAll barrier.now cells.old cells.new broken.old broken.new result }
 {
     let mut lost = false;
     let mut k = broken.len();
     while k > 0 {
         k -= 1;
-        if complete_at(cells, broken, k, issuer, dsb, n) {
+        if complete_at(cells, broken, k, barrier) {
             lost = true;
         }
     }
@@ -113,25 +102,19 @@ fn complete_cell(
     cells: &mut Vec<Cell>,
     broken: &mut Vec<Entry>,
     cell: u32,
-    issuer: Pe,
-    dsb: Dsb,
-    n: u8,
+    barrier: &Barrier,
 ) -> bool
-    requires { CanAnswer n cells.old broken.old }
-    ensures linked { Linked cells.new.items broken.new.items }
-    ensures len { vec_len cells.new ≡ vec_len cells.old }
-    ensures room { vec_capacity broken.new ≡ vec_capacity broken.old }
-    ensures values { (i : ℕ) → value_in cells.new.items i ≡ value_in cells.old.items i }
-    ensures here { Completes issuer dsb n (entry_in cells.old.items broken.old.items cell)
+    requires { CanAnswer barrier.now cells.old broken.old }
+    ensures sound { StillSound cells.old cells.new broken.old broken.new }
+    ensures here { Completes barrier.now (entry_in cells.old.items broken.old.items cell)
         (entry_in cells.new.items broken.new.items cell) }
     ensures answer { result ≡ loses_table (marks_in cells.old.items broken.old.items cell)
         (marks_in cells.new.items broken.new.items cell) }
     ensures others { (i : ℕ) → i ≢ cell → entry_in cells.new.items broken.new.items i
         ≡ entry_in cells.old.items broken.old.items i }
-    ensures placed { (base : ℕ → Option ℕ) → Placed base broken.old.items → Placed base broken.new.items }
 {
     match slot_of(cells, cell) {
-        Some(k) => complete_at(cells, broken, k as usize, issuer, dsb, n),
+        Some(k) => complete_at(cells, broken, k as usize, barrier),
         None => false,
     }
 }
@@ -141,29 +124,23 @@ fn complete_cells(
     cells: &mut Vec<Cell>,
     broken: &mut Vec<Entry>,
     list: &[u32],
-    issuer: Pe,
-    dsb: Dsb,
-    n: u8,
+    barrier: &Barrier,
 ) -> bool
-    requires { CanAnswer n cells.old broken.old }
-    ensures linked { Linked cells.new.items broken.new.items }
-    ensures len { vec_len cells.new ≡ vec_len cells.old }
-    ensures room { vec_capacity broken.new ≡ vec_capacity broken.old }
-    ensures values { (i : ℕ) → value_in cells.new.items i ≡ value_in cells.old.items i }
-    ensures here { (i : ℕ) → i < length list.now → Completes issuer dsb n
+    requires { CanAnswer barrier.now cells.old broken.old }
+    ensures sound { StillSound cells.old cells.new broken.old broken.new }
+    ensures here { (i : ℕ) → i < length list.now → Completes barrier.now
         (entry_in cells.old.items broken.old.items (slice_index list.now i))
         (entry_in cells.new.items broken.new.items (slice_index list.now i)) }
-    ensures each { (j : ℕ) → MayComplete issuer dsb n (entry_in cells.old.items broken.old.items j)
+    ensures each { (j : ℕ) → MayComplete barrier.now (entry_in cells.old.items broken.old.items j)
         (entry_in cells.new.items broken.new.items j) }
     ensures lost { result ≡ true → (j : ℕ) × (loses_table (marks_in cells.old.items broken.old.items j)
         (marks_in cells.new.items broken.new.items j) ≡ true) }
     ensures kept { result ≡ false → (j : ℕ) → loses_table (marks_in cells.old.items broken.old.items j)
         (marks_in cells.new.items broken.new.items j) ≡ false }
-    ensures placed { (base : ℕ → Option ℕ) → Placed base broken.old.items → Placed base broken.new.items }
 {
     let mut lost = false;
     for i in 0..list.len() {
-        if complete_cell(cells, broken, list[i], issuer, dsb, n) {
+        if complete_cell(cells, broken, list[i], barrier) {
             lost = true;
         }
     }
@@ -196,17 +173,13 @@ fn complete_list(
     cells: &mut Vec<Cell>,
     broken: &mut Vec<Entry>,
     list: &WorkList,
-    issuer: Pe,
-    dsb: Dsb,
-    n: u8,
+    barrier: &Barrier,
 ) -> bool
-    requires able { CanAnswer n cells.old broken.old }
-    requires open { list.now.given_up ≡ false }
-    requires known { HoldWaiting (Holds list.now) issuer cells.old.items broken.old.items }
-    requires settled { IsSettled n cells.old.items broken.old.items }
-    ensures { CompletesAll issuer dsb n cells.old cells.new broken.old broken.new result }
+    requires able { CanAnswer barrier.now cells.old broken.old }
+    requires waiting { HasWaiting list.now barrier.now cells.old.items broken.old.items }
+    ensures { CompletesAll barrier.now cells.old cells.new broken.old broken.new result }
 {
-    complete_cells(cells, broken, &list.cells, issuer, dsb, n)
+    complete_cells(cells, broken, &list.cells, barrier)
 }
 
 /// The same, where nothing may stay in the list.
@@ -214,22 +187,18 @@ fn complete_listed(
     cells: &mut Vec<Cell>,
     broken: &mut Vec<Entry>,
     list: &mut WorkList,
-    issuer: Pe,
-    dsb: Dsb,
-    n: u8,
+    barrier: &Barrier,
 ) -> bool
-    requires able { CanAnswer n cells.old broken.old }
-    requires open { list.old.given_up ≡ false }
-    requires known { HoldWaiting (Holds list.old) issuer cells.old.items broken.old.items }
-    requires settled { IsSettled n cells.old.items broken.old.items }
-    ensures completed { CompletesAll issuer dsb n cells.old cells.new broken.old broken.new result }
-    ensures known { HoldWaiting (Holds list.new) issuer cells.new.items broken.new.items }
+    requires able { CanAnswer barrier.now cells.old broken.old }
+    requires waiting { HasWaiting list.old barrier.now cells.old.items broken.old.items }
+    ensures completed { CompletesAll barrier.now cells.old cells.new broken.old broken.new result }
+    ensures known { HoldWaiting (Holds list.new) barrier.now cells.new.items broken.new.items }
 {
-    if !completes_local(dsb) {
+    if !completes_local(barrier.dsb) {
         return false;
     }
-    let lost = complete_list(cells, broken, list, issuer, dsb, n);
-    if completes_broadcast(dsb) {
+    let lost = complete_list(cells, broken, list, barrier);
+    if completes_broadcast(barrier.dsb) {
         list.cells.clear();
     }
     lost
@@ -241,21 +210,19 @@ fn complete_by(
     broken: &mut Vec<Entry>,
     list: &mut WorkList,
     settled: bool,
-    issuer: Pe,
-    dsb: Dsb,
-    n: u8,
+    barrier: &Barrier,
 ) -> bool
-    requires able { CanAnswer n cells.old broken.old }
-    requires known { HoldWaiting (Holds list.old) issuer cells.old.items broken.old.items }
-    requires settled { settled ≡ true → IsSettled n cells.old.items broken.old.items }
-    ensures completed { CompletesAll issuer dsb n cells.old cells.new broken.old broken.new result }
-    ensures known { HoldWaiting (Holds list.new) issuer cells.new.items broken.new.items }
+    requires able { CanAnswer barrier.now cells.old broken.old }
+    requires known { HoldWaiting (Holds list.old) barrier.now cells.old.items broken.old.items }
+    requires settled { settled ≡ true → IsSettled barrier.now cells.old.items broken.old.items }
+    ensures completed { CompletesAll barrier.now cells.old cells.new broken.old broken.new result }
+    ensures known { HoldWaiting (Holds list.new) barrier.now cells.new.items broken.new.items }
 {
     if settled && !list.given_up {
-        complete_listed(cells, broken, list, issuer, dsb, n)
+        complete_listed(cells, broken, list, barrier)
     } else {
-        let lost = complete_all(cells, broken, issuer, dsb, n);
-        relist(broken, list, issuer);
+        let lost = complete_all(cells, broken, barrier);
+        relist(broken, list, barrier.issuer);
         lost
     }
 }
@@ -268,21 +235,22 @@ pub fn complete(
     broken: &mut Vec<Entry>,
     lists: &mut Vec<WorkList>,
     settled: bool,
-    issuer: Pe,
-    dsb: Dsb,
-    n: u8,
+    barrier: &Barrier,
 ) -> bool
-    requires able { CanAnswer n cells.old broken.old }
-    requires known { HoldWaiting (HoldsFor lists.old.items issuer) issuer cells.old.items broken.old.items }
-    requires settled { settled ≡ true → IsSettled n cells.old.items broken.old.items }
-    ensures completed { CompletesAll issuer dsb n cells.old cells.new broken.old broken.new result }
-    ensures known { HoldWaiting (HoldsFor lists.new.items issuer) issuer cells.new.items broken.new.items }
-    ensures kept_lists { (q j : ℕ) → q ≢ issuer → HoldsFor lists.old.items q j → HoldsFor lists.new.items q j }
+    requires able { CanAnswer barrier.now cells.old broken.old }
+    requires known { HoldWaiting (HoldsFor lists.old.items barrier.now.issuer) barrier.now cells.old.items
+        broken.old.items }
+    requires settled { settled ≡ true → IsSettled barrier.now cells.old.items broken.old.items }
+    ensures completed { CompletesAll barrier.now cells.old cells.new broken.old broken.new result }
+    ensures known { HoldWaiting (HoldsFor lists.new.items barrier.now.issuer) barrier.now cells.new.items
+        broken.new.items }
+    ensures kept_lists { (q j : ℕ) → q ≢ barrier.now.issuer → HoldsFor lists.old.items q j
+        → HoldsFor lists.new.items q j }
 {
-    let q = issuer.get() as usize;
+    let q = barrier.issuer.get() as usize;
     if q < lists.len() {
-        complete_by(cells, broken, &mut lists[q], settled, issuer, dsb, n)
+        complete_by(cells, broken, &mut lists[q], settled, barrier)
     } else {
-        complete_all(cells, broken, issuer, dsb, n)
+        complete_all(cells, broken, barrier)
     }
 }

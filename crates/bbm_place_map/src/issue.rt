@@ -10,20 +10,30 @@ ghost use Rattle.bbm_place_map.specs.Each.{Advances};
 ghost use Rattle.bbm_place_map.specs.Entries.{seat, pends_in, HasRoom};
 ghost use Rattle.bbm_place_map.specs.Finds.{is_found};
 ghost use Rattle.indexmap.specs.IndexMap.{get};
-ghost use Rattle.bbm_place_map.specs.Sound.{Linked, Numbered, Placed};
+ghost use Rattle.bbm_place_map.specs.Sound.{IsSound, SameSize};
 ghost use Rattle.bbm_place_map.specs.PlaceNotes.{Keeps, Readies, NotesAs, NotesAt, NotesFound, NotesOne};
-ghost use Rattle.bbm_place_map.specs.PlaceNotes.{is_cover as spec_is_cover};
-ghost use Rattle.bbm_place_map.specs.Works.{HoldsFor, Waits};
+ghost use Rattle.bbm_place_map.specs.PlaceNotes.{OnlyNotes, is_cover as spec_is_cover};
+ghost use Rattle.bbm_place_map.specs.Works.{Waits};
 ghost use Rattle.bbm_place_map.specs.declared.entry.Entry.{Entry as TheEntry};
 
 use crate::cell::Cell;
 use crate::entry::{Entry, make_room_for_issuer, note_pends};
 use crate::found::{Answer, Found};
+use crate::orders::Issuing;
 use crate::read::entry_at;
 use crate::work::{WorkList, add_for};
-use bbm_regimes::{NoMemory, Pe, PeMask, Place};
+use bbm_regimes::{NoMemory, Pe, Place};
 use bbm_tlbi_scope::Cover;
 use indexmap::IndexMap;
+
+/// Where each place is kept.
+#[derive(Clone, Copy)]
+pub struct Kept<'a> {
+    /// The number of the first cell of each page.
+    pub pages: &'a IndexMap<u64, usize>,
+    /// The cells.
+    pub cells: &'a [Cell],
+}
 
 /// Whether a TLBI covers a place at all.
 fn is_cover(cover: Cover) -> bool
@@ -43,8 +53,7 @@ fn make_room_at(broken: &mut Vec<Entry>, k: usize, issuer: Pe) -> Result<(), NoM
     ensures entry { (e : TheEntry) → slice_get broken.old.items k ≡ Some e → (f : TheEntry) × (seat f ≡ seat e)
         × Keeps e f × OnOk result (HasRoom f.pends issuer)
         × ((i : ℕ) → slice_get broken.new.items i ≡ (if nat_eq i k then Some f else slice_get broken.old.items i)) }
-    ensures len { length broken.new.items ≡ length broken.old.items }
-    ensures room { vec_capacity broken.new ≡ vec_capacity broken.old }
+    ensures size { SameSize broken.old broken.new }
 {
     let entry = &mut broken[k];
     make_room_for_issuer(&mut entry.pends, issuer)
@@ -52,28 +61,28 @@ fn make_room_at(broken: &mut Vec<Entry>, k: usize, issuer: Pe) -> Result<(), NoM
 
 /// Notes the TLBI at an entry with room for its issuer. Whether nothing waited there.
 #[inline(always)]
-fn note_at(
-    broken: &mut Vec<Entry>,
-    k: usize,
-    issuer: Pe,
-    reach: PeMask,
-    broadcast: bool,
-    cover: Cover,
-) -> bool
+fn note_at(broken: &mut Vec<Entry>, k: usize, tlbi: &Issuing, cover: Cover) -> bool
     requires within { k < vec_len broken.old }
-    requires ready { (e : TheEntry) → slice_get broken.old.items k ≡ Some e → HasRoom e.pends issuer }
+    requires ready { (e : TheEntry) → slice_get broken.old.items k ≡ Some e → HasRoom e.pends tlbi.now.issuer }
     ensures entry { (e : TheEntry) → slice_get broken.old.items k ≡ Some e → (f : TheEntry) × (seat f ≡ seat e)
-        × (f.marks ≡ e.marks) × ((q : ℕ) → q ≢ issuer → pends_in f.pends.items q ≡ pends_in e.pends.items q)
-        × Noted (state.Broken e.marks) (pends_in e.pends.items issuer) reach broadcast cover
-        (pends_in f.pends.items issuer)
-        × (result ≡ false → IsIdle (pends_in e.pends.items issuer) → IsIdle (pends_in f.pends.items issuer))
+        × (f.marks ≡ e.marks) × ((q : ℕ) → q ≢ tlbi.now.issuer → pends_in f.pends.items q ≡ pends_in e.pends.items q)
+        × Noted (state.Broken e.marks) (pends_in e.pends.items tlbi.now.issuer) tlbi.now.reach tlbi.now.broadcast cover
+        (pends_in f.pends.items tlbi.now.issuer)
+        × (result ≡ false → IsIdle (pends_in e.pends.items tlbi.now.issuer)
+        → IsIdle (pends_in f.pends.items tlbi.now.issuer))
         × ((i : ℕ) → slice_get broken.new.items i ≡ (if nat_eq i k then Some f else slice_get broken.old.items i)) }
-    ensures len { length broken.new.items ≡ length broken.old.items }
-    ensures room { vec_capacity broken.new ≡ vec_capacity broken.old }
+    ensures size { SameSize broken.old broken.new }
 {
     let entry = &mut broken[k];
     let marks = &entry.marks;
-    note_pends(&mut entry.pends, issuer, marks, reach, broadcast, cover)
+    note_pends(
+        &mut entry.pends,
+        tlbi.issuer,
+        marks,
+        tlbi.reach,
+        tlbi.broadcast,
+        cover,
+    )
 }
 
 /// The same at an entry that is covered so far. The cell of one at which nothing waited is listed for the issuer.
@@ -81,25 +90,21 @@ fn note_at(
 fn note_entry(
     broken: &mut Vec<Entry>,
     k: usize,
-    issuer: Pe,
-    reach: PeMask,
-    broadcast: bool,
+    tlbi: &Issuing,
     cover: Cover,
     lists: &mut Vec<WorkList>,
 )
     requires within { k < vec_len broken.old }
     requires ready { (e : TheEntry) → slice_get broken.old.items k ≡ Some e → spec_is_cover cover ≡ true
-        → HasRoom e.pends issuer }
+        → HasRoom e.pends tlbi.now.issuer }
     ensures entry { (e : TheEntry) → slice_get broken.old.items k ≡ Some e → (f : TheEntry) × (seat f ≡ seat e)
-        × NotesAs cover issuer reach broadcast e f × Waits lists.new.items issuer e f
+        × NotesAs cover tlbi.now e f × Waits lists.new.items tlbi.now.issuer e f
         × ((i : ℕ) → slice_get broken.new.items i ≡ (if nat_eq i k then Some f else slice_get broken.old.items i)) }
-    ensures kept { (q j : ℕ) → HoldsFor lists.old.items q j → HoldsFor lists.new.items q j }
-    ensures len { length broken.new.items ≡ length broken.old.items }
-    ensures room { vec_capacity broken.new ≡ vec_capacity broken.old }
+    ensures rest { OnlyNotes broken.old broken.new lists.old.items lists.new.items }
 {
     if is_cover(cover) {
-        if note_at(broken, k, issuer, reach, broadcast, cover) {
-            add_for(lists, issuer, broken[k].cell, broken.len());
+        if note_at(broken, k, tlbi, cover) {
+            add_for(lists, tlbi.issuer, broken[k].cell, broken.len());
         }
     }
 }
@@ -110,8 +115,7 @@ pub fn make_room(broken: &mut Vec<Entry>, covers: &[Answer], issuer: Pe) -> Resu
     ensures each { (m : ℕ) → Advances Keeps (slice_get broken.old.items m) (slice_get broken.new.items m) }
     ensures ready { OnOk result ((m : ℕ)
         → Advances (Readies issuer covers.now m) (slice_get broken.old.items m) (slice_get broken.new.items m)) }
-    ensures len { length broken.new.items ≡ length broken.old.items }
-    ensures room { vec_capacity broken.new ≡ vec_capacity broken.old }
+    ensures size { SameSize broken.old broken.new }
 {
     for k in 0..broken.len() {
         if is_cover(covers[k].get()) {
@@ -123,29 +127,21 @@ pub fn make_room(broken: &mut Vec<Entry>, covers: &[Answer], issuer: Pe) -> Resu
 
 /// Notes the TLBI at each place that is covered, where there is room for its issuer. The cells of those at which
 /// something waits now are listed for the issuer.
-pub fn note(
-    broken: &mut Vec<Entry>,
-    covers: &[Answer],
-    issuer: Pe,
-    reach: PeMask,
-    broadcast: bool,
-    lists: &mut Vec<WorkList>,
-)
+pub fn note(broken: &mut Vec<Entry>, covers: &[Answer], tlbi: &Issuing, lists: &mut Vec<WorkList>)
     requires len { length covers.now ≡ length broken.old.items }
     requires ready { (m : ℕ) (e : TheEntry) → slice_get broken.old.items m ≡ Some e → (c : TheCover)
-        → slice_get covers.now m ≡ Some c → spec_is_cover c ≡ true → HasRoom e.pends issuer }
+        → slice_get covers.now m ≡ Some c → spec_is_cover c ≡ true → HasRoom e.pends tlbi.now.issuer }
     ensures each { (m : ℕ)
-        → Advances (NotesAt covers.now issuer reach broadcast m) (slice_get broken.old.items m)
+        → Advances (NotesAt covers.now tlbi.now m) (slice_get broken.old.items m)
         (slice_get broken.new.items m) }
     ensures waits { (m : ℕ)
-        → Advances (Waits lists.new.items issuer) (slice_get broken.old.items m) (slice_get broken.new.items m) }
-    ensures kept { (q j : ℕ) → HoldsFor lists.old.items q j → HoldsFor lists.new.items q j }
-    ensures len { length broken.new.items ≡ length broken.old.items }
-    ensures room { vec_capacity broken.new ≡ vec_capacity broken.old }
+        → Advances (Waits lists.new.items tlbi.now.issuer) (slice_get broken.old.items m)
+        (slice_get broken.new.items m) }
+    ensures rest { OnlyNotes broken.old broken.new lists.old.items lists.new.items }
 {
     for k in 0..broken.len() {
         let cover = covers[k].get();
-        note_entry(broken, k, issuer, reach, broadcast, cover, lists);
+        note_entry(broken, k, tlbi, cover, lists);
     }
 }
 
@@ -163,25 +159,20 @@ fn is_among(found: &[Found], place: Place) -> bool
 
 /// Makes room for the issuer at a place, if it is broken. `NoMemory` where there is none.
 fn make_room_for(
-    pages: &IndexMap<u64, usize>,
-    cells: &[Cell],
+    kept: &Kept,
     broken: &mut Vec<Entry>,
     place: Place,
     issuer: Pe,
 ) -> Result<(), NoMemory>
-    requires numbered { Numbered (get nat_eq pages.now) (length cells.now) }
-    requires few { length cells.now < 2 ^ 32 }
-    requires linked { Linked cells.now broken.old.items }
-    requires placed { Placed (get nat_eq pages.now) broken.old.items }
+    requires { IsSound (get nat_eq kept.now.pages.now) kept.now.cells.now broken.old.items }
     ensures each { (m : ℕ) → Advances Keeps (slice_get broken.old.items m) (slice_get broken.new.items m) }
     ensures ready { OnOk result ((m : ℕ) (e : TheEntry) → slice_get broken.new.items m ≡ Some e → e.place ≡ place
         → HasRoom e.pends issuer) }
     ensures others { (m : ℕ) (e : TheEntry) → slice_get broken.new.items m ≡ Some e → e.place ≢ place
         → slice_get broken.new.items m ≡ slice_get broken.old.items m }
-    ensures len { length broken.new.items ≡ length broken.old.items }
-    ensures room { vec_capacity broken.new ≡ vec_capacity broken.old }
+    ensures size { SameSize broken.old broken.new }
 {
-    match entry_at(pages, cells, place) {
+    match entry_at(kept.pages, kept.cells, place) {
         Some(k) => make_room_at(broken, k as usize, issuer),
         None => Ok(()),
     }
@@ -189,24 +180,19 @@ fn make_room_for(
 
 /// Makes room for the issuer at each broken place of these items. `NoMemory` where there is none.
 pub fn make_room_found(
-    pages: &IndexMap<u64, usize>,
-    cells: &[Cell],
+    kept: &Kept,
     broken: &mut Vec<Entry>,
     found: &[Found],
     issuer: Pe,
 ) -> Result<(), NoMemory>
-    requires numbered { Numbered (get nat_eq pages.now) (length cells.now) }
-    requires few { length cells.now < 2 ^ 32 }
-    requires linked { Linked cells.now broken.old.items }
-    requires placed { Placed (get nat_eq pages.now) broken.old.items }
+    requires { IsSound (get nat_eq kept.now.pages.now) kept.now.cells.now broken.old.items }
     ensures each { (m : ℕ) → Advances Keeps (slice_get broken.old.items m) (slice_get broken.new.items m) }
     ensures ready { OnOk result ((m : ℕ) (e : TheEntry) → slice_get broken.new.items m ≡ Some e
         → is_found found.now e.place ≡ true → HasRoom e.pends issuer) }
-    ensures len { length broken.new.items ≡ length broken.old.items }
-    ensures room { vec_capacity broken.new ≡ vec_capacity broken.old }
+    ensures size { SameSize broken.old broken.new }
 {
     for i in 0..found.len() {
-        make_room_for(pages, cells, broken, found[i].place, issuer)?;
+        make_room_for(kept, broken, found[i].place, issuer)?;
     }
     Ok(())
 }
@@ -214,96 +200,68 @@ pub fn make_room_found(
 /// Notes the TLBI at a place that is covered so far, if it is broken. Its cell is listed for the issuer where something
 /// waits there now.
 fn note_for(
-    pages: &IndexMap<u64, usize>,
-    cells: &[Cell],
+    kept: &Kept,
     broken: &mut Vec<Entry>,
     item: Found,
-    issuer: Pe,
-    reach: PeMask,
-    broadcast: bool,
+    tlbi: &Issuing,
     lists: &mut Vec<WorkList>,
 )
-    requires numbered { Numbered (get nat_eq pages.now) (length cells.now) }
-    requires few { length cells.now < 2 ^ 32 }
-    requires linked { Linked cells.now broken.old.items }
-    requires placed { Placed (get nat_eq pages.now) broken.old.items }
+    requires sound { IsSound (get nat_eq kept.now.pages.now) kept.now.cells.now broken.old.items }
     requires ready { (m : ℕ) (e : TheEntry) → slice_get broken.old.items m ≡ Some e → e.place ≡ item.place
-        → HasRoom e.pends issuer }
-    ensures each { (m : ℕ) → Advances (NotesOne item.place item.cover issuer reach broadcast lists.new.items)
+        → HasRoom e.pends tlbi.now.issuer }
+    ensures each { (m : ℕ) → Advances (NotesOne item.place item.cover tlbi.now lists.new.items)
         (slice_get broken.old.items m) (slice_get broken.new.items m) }
-    ensures kept { (q j : ℕ) → HoldsFor lists.old.items q j → HoldsFor lists.new.items q j }
-    ensures len { length broken.new.items ≡ length broken.old.items }
-    ensures room { vec_capacity broken.new ≡ vec_capacity broken.old }
+    ensures rest { OnlyNotes broken.old broken.new lists.old.items lists.new.items }
 {
-    if let Some(k) = entry_at(pages, cells, item.place) {
-        note_entry(
-            broken, k as usize, issuer, reach, broadcast, item.cover, lists,
-        );
+    if let Some(k) = entry_at(kept.pages, kept.cells, item.place) {
+        note_entry(broken, k as usize, tlbi, item.cover, lists);
     }
 }
 
 /// Notes the TLBI at the place of one of the items, if no item before it is of that place.
 fn note_next(
-    pages: &IndexMap<u64, usize>,
-    cells: &[Cell],
+    kept: &Kept,
     broken: &mut Vec<Entry>,
     found: &[Found],
     i: usize,
-    issuer: Pe,
-    reach: PeMask,
-    broadcast: bool,
+    tlbi: &Issuing,
     lists: &mut Vec<WorkList>,
 )
-    requires numbered { Numbered (get nat_eq pages.now) (length cells.now) }
-    requires few { length cells.now < 2 ^ 32 }
-    requires linked { Linked cells.now broken.old.items }
-    requires placed { Placed (get nat_eq pages.now) broken.old.items }
+    requires sound { IsSound (get nat_eq kept.now.pages.now) kept.now.cells.now broken.old.items }
     requires within { i < length found.now }
     requires ready { (m : ℕ) (e : TheEntry) → slice_get broken.old.items m ≡ Some e
         → is_found found.now e.place ≡ true → is_found (take i found.now) e.place ≡ false
-        → HasRoom e.pends issuer }
+        → HasRoom e.pends tlbi.now.issuer }
     ensures each { (start : List TheEntry) → ((m : ℕ)
-        → Advances (NotesFound (take i found.now) issuer reach broadcast lists.old.items)
+        → Advances (NotesFound (take i found.now) tlbi.now lists.old.items)
         (slice_get start m) (slice_get broken.old.items m)) → (m : ℕ)
-        → Advances (NotesFound (take (i + 1) found.now) issuer reach broadcast lists.new.items)
+        → Advances (NotesFound (take (i + 1) found.now) tlbi.now lists.new.items)
         (slice_get start m) (slice_get broken.new.items m) }
-    ensures kept { (q j : ℕ) → HoldsFor lists.old.items q j → HoldsFor lists.new.items q j }
-    ensures len { length broken.new.items ≡ length broken.old.items }
-    ensures room { vec_capacity broken.new ≡ vec_capacity broken.old }
+    ensures rest { OnlyNotes broken.old broken.new lists.old.items lists.new.items }
 {
     let item = found[i];
     if !is_among(&found[..i], item.place) {
-        note_for(pages, cells, broken, item, issuer, reach, broadcast, lists);
+        note_for(kept, broken, item, tlbi, lists);
     }
 }
 
 /// Notes the TLBI at each broken place of these items, as far as the first item of it says, where there is room for its
 /// issuer. The cells of those at which something waits now are listed for the issuer.
 pub fn note_found(
-    pages: &IndexMap<u64, usize>,
-    cells: &[Cell],
+    kept: &Kept,
     broken: &mut Vec<Entry>,
     found: &[Found],
-    issuer: Pe,
-    reach: PeMask,
-    broadcast: bool,
+    tlbi: &Issuing,
     lists: &mut Vec<WorkList>,
 )
-    requires numbered { Numbered (get nat_eq pages.now) (length cells.now) }
-    requires few { length cells.now < 2 ^ 32 }
-    requires linked { Linked cells.now broken.old.items }
-    requires placed { Placed (get nat_eq pages.now) broken.old.items }
+    requires sound { IsSound (get nat_eq kept.now.pages.now) kept.now.cells.now broken.old.items }
     requires ready { (m : ℕ) (e : TheEntry) → slice_get broken.old.items m ≡ Some e
-        → is_found found.now e.place ≡ true → HasRoom e.pends issuer }
-    ensures each { (m : ℕ) → Advances (NotesFound found.now issuer reach broadcast lists.new.items)
+        → is_found found.now e.place ≡ true → HasRoom e.pends tlbi.now.issuer }
+    ensures each { (m : ℕ) → Advances (NotesFound found.now tlbi.now lists.new.items)
         (slice_get broken.old.items m) (slice_get broken.new.items m) }
-    ensures kept { (q j : ℕ) → HoldsFor lists.old.items q j → HoldsFor lists.new.items q j }
-    ensures len { length broken.new.items ≡ length broken.old.items }
-    ensures room { vec_capacity broken.new ≡ vec_capacity broken.old }
+    ensures rest { OnlyNotes broken.old broken.new lists.old.items lists.new.items }
 {
     for i in 0..found.len() {
-        note_next(
-            pages, cells, broken, found, i, issuer, reach, broadcast, lists,
-        );
+        note_next(kept, broken, found, i, tlbi, lists);
     }
 }

@@ -5,7 +5,7 @@ ghost use Rattle.std.specs.Prelude.{vec_capacity, count_by, slice_get, cond, if�
 ghost use Rattle.bbm_place_map.specs.Cells.{value_in, slot_in, is_listed};
 ghost use Rattle.bbm_place_map.specs.Entries.{cell_at, entry_in};
 ghost use Rattle.bbm_place_map.specs.Puts.{Breaks};
-ghost use Rattle.bbm_place_map.specs.Sound.{Linked, Placed};
+ghost use Rattle.bbm_place_map.specs.Sound.{CanBreak, FewLinked, FrontStays, StillSound};
 
 use crate::cell::Cell;
 use crate::entry::Entry;
@@ -48,11 +48,8 @@ pub fn link(
     marks: Marks,
     alloc: Global,
 )
-    requires linked { Linked cells.old.items broken.old.items }
-    requires within { j < vec_len cells.old }
-    requires few { vec_len cells.old < 2 ^ 32 }
+    requires able { CanBreak j cells.old broken.old }
     requires free { slot_in cells.old.items j ≡ None }
-    requires room { vec_len cells.old ≤ vec_capacity broken.old }
     ensures { Breaks j place marks cells.old cells.new broken.old broken.new }
 {
     let number = broken.len() as u32;
@@ -67,20 +64,14 @@ pub fn link(
 
 /// Takes an entry out. The last one takes its number.
 pub fn unlink(cells: &mut Vec<Cell>, broken: &mut Vec<Entry>, k: usize)
-    requires linked { Linked cells.old.items broken.old.items }
+    requires able { FewLinked cells.old broken.old }
     requires within { k < vec_len broken.old }
-    requires few { vec_len cells.old < 2 ^ 32 }
-    ensures linked { Linked cells.new.items broken.new.items }
-    ensures len { vec_len cells.new ≡ vec_len cells.old }
-    ensures room { vec_capacity broken.new ≡ vec_capacity broken.old }
+    ensures sound { StillSound cells.old cells.new broken.old broken.new }
     ensures count { vec_len broken.new + 1 ≡ vec_len broken.old }
-    ensures values { (i : ℕ) → value_in cells.new.items i ≡ value_in cells.old.items i }
     ensures entries { (j : ℕ) → cell_at broken.old.items k ≡ Some j → (i : ℕ)
         → entry_in cells.new.items broken.new.items i
         ≡ (if nat_eq i j then None else entry_in cells.old.items broken.old.items i) }
-    ensures below { (i m : ℕ) → m < k → slot_in cells.new.items i ≡ Some m → slot_in cells.old.items i ≡ Some m }
-    ensures front { (m : ℕ) → m < k → slice_get broken.new.items m ≡ slice_get broken.old.items m }
-    ensures placed { (base : ℕ → Option ℕ) → Placed base broken.old.items → Placed base broken.new.items }
+    ensures front { FrontStays k cells.old.items cells.new.items broken.old.items broken.new.items }
 {
     let cell = broken[k].cell as usize;
     let last = broken[broken.len() - 1].cell as usize;

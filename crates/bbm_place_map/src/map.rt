@@ -10,6 +10,8 @@ ghost use Rattle.bbm_place_map.specs.Works.{Listed};
 use crate::cell::Cell;
 use crate::entry::Entry;
 use crate::found::{Answer, Found};
+use crate::issue::Kept;
+use crate::orders::{Barrier, Issuing};
 use crate::seat::Seat;
 use crate::work::{self, Work};
 use crate::{complete, issue, publish, read, write};
@@ -44,12 +46,13 @@ pub struct PlaceMap {
 #[tactic(auto, unfolding(crate::specs::Map::value_at, crate::specs::Map::marks_at, crate::specs::Map::pends_at, crate::specs::Map::is_tracked, crate::specs::Map::IsSeat, crate::specs::Map::restless_in, crate::specs::Map::restless_place))]
 impl PlaceMap {
     ghost use Rattle.std.specs.Prelude.{ℕ, Bool, Some, None, [], true, false, Option, IsSome, IfSome, IfOk, length};
-    ghost use Rattle.std.specs.Prelude.{slice_get, is_some, OnOk, OnErr, ◌||◌, not, ◌&&◌, ◌+◌, if◌then◌else◌};
+    ghost use Rattle.std.specs.Prelude.{slice_get, is_some, OnOk, OnErr, ◌||◌, not, ◌&&◌, ◌+◌, ◌*◌, ◌%◌, ◌↔◌};
+    ghost use Rattle.std.specs.Prelude.{if◌then◌else◌};
     ghost use Rattle.bbm_entry_state.specs.Points.{core_in, is_broken, waits};
     ghost use Rattle.bbm_entry_state.specs.declared.state.EntryState.{EntryState as TheState};
     ghost use Rattle.bbm_tlbi_scope.specs.declared.entry.Cover.{Cover as TheCover};
     ghost use Rattle.bbm_place_map.specs.Finds.{is_found, FoundAs};
-    ghost use Rattle.bbm_place_map.specs.MapCalls.{lost_table, IsSame, Leaves, MayCover};
+    ghost use Rattle.bbm_place_map.specs.MapCalls.{lost_table, IsSame, Leaves, MayCover, Puts};
     ghost use Rattle.bbm_place_map.specs.declared.entry.Entry.{Entry as TheEntry};
     ghost use Rattle.bbm_entry_state.specs.EntryCalls.{Written, Published, Noted, Completed};
     ghost use Rattle.bbm_descriptor.specs.Descriptor.{core_of};
@@ -158,6 +161,41 @@ impl PlaceMap {
         }
     }
 
+    /// Whether each place of the page has the value 0 and isn't broken. A page that isn't tracked is blank.
+    pub fn is_blank(&self, page: Page) -> bool
+        ensures blank { (result ≡ true) ↔ ((a : ℕ) → page_of a ≡ page
+            → (value_at self.now a ≡ 0) × (marks_at self.now a ≡ None)) }
+        ensures tracked { result ≡ false → is_tracked self.now page ≡ true }
+    {
+        let _ = page.get();
+        match self.base(page) {
+            Some(base) => read::is_blank(&self.cells, base),
+            None => true,
+        }
+    }
+
+    /// The seat of the first place of a tracked page, from which the places of the page are read.
+    pub fn first_seat(&self, page: Page) -> Seat
+        requires { is_tracked self.now page ≡ true }
+        ensures place { result.place ≡ page }
+        ensures seat { IsSeat self.now result }
+        ensures first { result.place % 4096 ≡ 0 }
+    {
+        let place = Place::new(page.get()).unwrap();
+        let index = self.base(page).unwrap();
+        Seat { place, index }
+    }
+
+    /// The value of the place with this number, 0 to 511, of the page whose first place the seat has.
+    pub fn value_from(&self, seat: &Seat, number: u64) -> u64
+        requires seat { IsSeat self.now seat.now }
+        requires first { seat.now.place % 4096 ≡ 0 }
+        requires within { number < 512 }
+        ensures { result ≡ value_at self.now (seat.now.place + 8 * number) }
+    {
+        self.cells[seat.index + number as usize].value
+    }
+
     /// How many places are broken.
     pub fn restless(&self) -> u64
         ensures count { result ≡ restless_in self.now }
@@ -212,9 +250,7 @@ impl PlaceMap {
         requires { IsSeat self.old seat.now }
         ensures written { (state : TheState) × Written (state_at self.old live.now seat.now.place) pe None state
             × Leaves state seat.now.place self.old self.new }
-        ensures values { (a : ℕ) → value_at self.new a
-            ≡ (if nat_eq a seat.now.place then value else value_at self.old a) }
-        ensures pages { (page : ℕ) → is_tracked self.new page ≡ is_tracked self.old page }
+        ensures put { Puts value seat.now.place self.old self.new }
     {
         match read::state(&self.cells, &self.broken, seat.index, *live) {
             EntryState::Live { core } => {
@@ -233,9 +269,7 @@ impl PlaceMap {
         requires { IsSeat self.old seat.now }
         ensures written { (after : TheState) × Written state pe None after
             × Leaves after seat.now.place self.old self.new }
-        ensures values { (a : ℕ) → value_at self.new a
-            ≡ (if nat_eq a seat.now.place then value else value_at self.old a) }
-        ensures pages { (page : ℕ) → is_tracked self.new page ≡ is_tracked self.old page }
+        ensures put { Puts value seat.now.place self.old self.new }
     {
         match state.write(pe, None) {
             EntryState::Broken { marks } => self.put_broken(seat, pe, value, marks),
@@ -247,13 +281,11 @@ impl PlaceMap {
     /// Writes a value at a seat's place, which isn't broken after. What waits there is dropped. Nothing else changes.
     fn put_whole(&mut self, seat: &Seat, value: u64)
         requires { IsSeat self.old seat.now }
-        ensures values { (a : ℕ) → value_at self.new a
-            ≡ (if nat_eq a seat.now.place then value else value_at self.old a) }
+        ensures put { Puts value seat.now.place self.old self.new }
         ensures marks { (a : ℕ) → marks_at self.new a
             ≡ (if nat_eq a seat.now.place then None else marks_at self.old a) }
         ensures pends { (q a : ℕ) → nat_eq a seat.now.place ≡ false → pends_at self.new q a ≡ pends_at self.old q a }
         ensures dropped { (q : ℕ) → IsIdle (pends_at self.new q seat.now.place) }
-        ensures pages { (page : ℕ) → is_tracked self.new page ≡ is_tracked self.old page }
     {
         write::put_whole(&mut self.cells, &mut self.broken, seat.index, value);
     }
@@ -263,12 +295,10 @@ impl PlaceMap {
     #[inline(always)]
     fn put_broken(&mut self, seat: &Seat, mostly: Pe, value: u64, marks: Marks)
         requires { IsSeat self.old seat.now }
-        ensures values { (a : ℕ) → value_at self.new a
-            ≡ (if nat_eq a seat.now.place then value else value_at self.old a) }
+        ensures put { Puts value seat.now.place self.old self.new }
         ensures marks { (a : ℕ) → marks_at self.new a
             ≡ (if nat_eq a seat.now.place then Some marks else marks_at self.old a) }
         ensures pends { (q a : ℕ) → pends_at self.new q a ≡ pends_at self.old q a }
-        ensures pages { (page : ℕ) → is_tracked self.new page ≡ is_tracked self.old page }
     {
         let j = seat.index;
         let before = read::marks(&self.cells, &self.broken, j);
@@ -277,8 +307,7 @@ impl PlaceMap {
         write::put_broken(
             &mut self.cells,
             &mut self.broken,
-            j,
-            seat.place,
+            seat,
             value,
             marks,
             self.alloc,
@@ -343,9 +372,7 @@ impl PlaceMap {
             &self.cells,
             &mut self.broken,
             &mut self.work.unpublished,
-            issuer,
-            dsb,
-            n,
+            &Barrier { issuer, dsb, n },
         );
     }
 
@@ -373,9 +400,7 @@ impl PlaceMap {
             &mut self.broken,
             &mut self.work.waiting,
             self.work.settled,
-            issuer,
-            dsb,
-            n,
+            &Barrier { issuer, dsb, n },
         );
         self.work.settled = true;
         lost
@@ -495,9 +520,11 @@ impl PlaceMap {
         issue::note(
             &mut self.broken,
             &covers,
-            issuer,
-            reach,
-            broadcast,
+            &Issuing {
+                issuer,
+                reach,
+                broadcast,
+            },
             &mut self.work.waiting,
         );
         Ok(())
@@ -532,15 +559,20 @@ impl PlaceMap {
         if found.is_empty() {
             return Ok(());
         }
-        issue::make_room_found(&self.pages, &self.cells, &mut self.broken, found, issuer)?;
+        let kept = Kept {
+            pages: &self.pages,
+            cells: &self.cells,
+        };
+        issue::make_room_found(&kept, &mut self.broken, found, issuer)?;
         issue::note_found(
-            &self.pages,
-            &self.cells,
+            &kept,
             &mut self.broken,
             found,
-            issuer,
-            reach,
-            broadcast,
+            &Issuing {
+                issuer,
+                reach,
+                broadcast,
+            },
             &mut self.work.waiting,
         );
         Ok(())

@@ -1,12 +1,12 @@
 //! What is kept of a cell.
 
-ghost use Rattle.std.specs.Prelude.{◌≡◌, ◌<◌, ◌^◌, IfSome, length, None, nat_eq, true};
+ghost use Rattle.std.specs.Prelude.{◌≡◌, ◌<◌, IfSome, length, None, nat_eq, true, ◌≤◌, ◌+◌, ◌^◌, ◌↔◌, ℕ};
 ghost use Rattle.bbm_entry_state.specs.Points.{core_in, is_broken};
-ghost use Rattle.bbm_place_map.specs.Cells.{slot_in};
+ghost use Rattle.bbm_place_map.specs.Cells.{blank_at, slot_in};
 ghost use Rattle.bbm_place_map.specs.Entries.{WaitsAlike, entry_in};
 ghost use Rattle.std.specs.Option.{option_copied};
 ghost use Rattle.bbm_place_map.specs.Parts.{marks_in, pends_for};
-ghost use Rattle.bbm_place_map.specs.Sound.{Linked, Numbered, index_of, slot_at};
+ghost use Rattle.bbm_place_map.specs.Sound.{FewNumbered, HasCell, index_of, slot_at};
 ghost use Rattle.indexmap.specs.IndexMap.{get};
 ghost use Rattle.bbm_place_map.specs.States.{state_from};
 
@@ -51,8 +51,7 @@ pub fn slot_of(cells: &[Cell], j: u32) -> Option<u32>
 
 /// The number of a place's cell; None where its page isn't tracked.
 pub fn index_at(pages: &IndexMap<u64, usize>, cells: &[Cell], place: Place) -> Option<usize>
-    requires numbered { Numbered (get nat_eq pages.now) (length cells.now) }
-    requires few { length cells.now < 2 ^ 32 }
+    requires { FewNumbered (get nat_eq pages.now) (length cells.now) }
     ensures index { result ≡ index_of (get nat_eq pages.now) place }
     ensures within { IfSome result (λ j. j < length cells.now) }
 {
@@ -65,8 +64,7 @@ pub fn index_at(pages: &IndexMap<u64, usize>, cells: &[Cell], place: Place) -> O
 
 /// The number of a place's entry; None where the place isn't broken.
 pub fn entry_at(pages: &IndexMap<u64, usize>, cells: &[Cell], place: Place) -> Option<u32>
-    requires numbered { Numbered (get nat_eq pages.now) (length cells.now) }
-    requires few { length cells.now < 2 ^ 32 }
+    requires { FewNumbered (get nat_eq pages.now) (length cells.now) }
     ensures { result ≡ slot_at (get nat_eq pages.now) cells.now place }
 {
     match index_at(pages, cells, place) {
@@ -77,8 +75,7 @@ pub fn entry_at(pages: &IndexMap<u64, usize>, cells: &[Cell], place: Place) -> O
 
 /// The entry of a cell; None where its place isn't broken.
 fn entry<'a>(cells: &[Cell], broken: &'a [Entry], j: usize) -> Option<&'a Entry>
-    requires linked { Linked cells.now broken.now }
-    requires within { j < length cells.now }
+    requires { HasCell j cells.now broken.now }
     ensures { option_copied result ≡ entry_in cells.now broken.now j }
 {
     match cells[j].slot {
@@ -89,8 +86,7 @@ fn entry<'a>(cells: &[Cell], broken: &'a [Entry], j: usize) -> Option<&'a Entry>
 
 /// The state of a cell's place.
 pub fn state(cells: &[Cell], broken: &[Entry], j: usize, live: Option<Core>) -> EntryState
-    requires linked { Linked cells.now broken.now }
-    requires within { j < length cells.now }
+    requires { HasCell j cells.now broken.now }
     ensures { result ≡ state_from live (marks_in cells.now broken.now j) }
 {
     match entry(cells, broken, j) {
@@ -101,8 +97,7 @@ pub fn state(cells: &[Cell], broken: &[Entry], j: usize, live: Option<Core>) -> 
 
 /// The core that a cell's place is broken over; where it isn't broken, this one.
 pub fn core(cells: &[Cell], broken: &[Entry], j: usize, live: Option<Core>) -> Option<Core>
-    requires linked { Linked cells.now broken.now }
-    requires within { j < length cells.now }
+    requires { HasCell j cells.now broken.now }
     ensures { result ≡ core_in (state_from live (marks_in cells.now broken.now j)) }
 {
     match entry(cells, broken, j) {
@@ -113,8 +108,7 @@ pub fn core(cells: &[Cell], broken: &[Entry], j: usize, live: Option<Core>) -> O
 
 /// The marks of a cell's place; None where it isn't broken.
 pub fn marks(cells: &[Cell], broken: &[Entry], j: usize) -> Option<Marks>
-    requires linked { Linked cells.now broken.now }
-    requires within { j < length cells.now }
+    requires { HasCell j cells.now broken.now }
     ensures { result ≡ marks_in cells.now broken.now j }
 {
     match entry(cells, broken, j) {
@@ -125,12 +119,35 @@ pub fn marks(cells: &[Cell], broken: &[Entry], j: usize) -> Option<Marks>
 
 /// What waits at a cell's place for the answers of the issuer's TLBIs.
 pub fn pends(cells: &[Cell], broken: &[Entry], j: usize, issuer: Pe) -> Pends
-    requires linked { Linked cells.now broken.now }
-    requires within { j < length cells.now }
+    requires { HasCell j cells.now broken.now }
     ensures { WaitsAlike (pends_for cells.now broken.now issuer j) result }
 {
     match entry(cells, broken, j) {
         Some(entry) => pends_of(&entry.pends, issuer),
         None => Pends::none(),
     }
+}
+
+/// Whether a cell has the value 0, and its place isn't broken.
+fn is_clear(cells: &[Cell], j: usize) -> bool
+    requires { j < length cells.now }
+    ensures { result ≡ blank_at cells.now j }
+{
+    if cells[j].value != 0 {
+        return false;
+    }
+    cells[j].slot.is_none()
+}
+
+/// Whether each of the 512 cells from the base on has the value 0, and its place isn't broken.
+pub fn is_blank(cells: &[Cell], base: usize) -> bool
+    requires { base + 512 ≤ length cells.now }
+    ensures { (result ≡ true) ↔ ((i : ℕ) → i < 512 → blank_at cells.now (base + i) ≡ true) }
+{
+    for i in 0..512 {
+        if !is_clear(cells, base + i) {
+            return false;
+        }
+    }
+    true
 }

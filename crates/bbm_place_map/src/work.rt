@@ -4,7 +4,7 @@
 ghost use Rattle.std.specs.Prelude.{◌≡◌, ◌≢◌, ◌≤◌, ◌<◌, ◌⊎◌, ℕ, Some, true, false, Contains, vec_len, length};
 ghost use Rattle.std.specs.Prelude.{slice_get};
 ghost use Rattle.bbm_regimes.specs.PeMask.{pe_in};
-ghost use Rattle.bbm_place_map.specs.Works.{GivesUp, Holds, HoldsFor, is_clean, IsToldAsBefore};
+ghost use Rattle.bbm_place_map.specs.Works.{AddsAll, GivesUp, Holds, HoldsFor, is_clean, IsToldAsBefore};
 
 use bbm_entry_state::Marks;
 use bbm_regimes::{Pe, PeMask};
@@ -116,8 +116,7 @@ fn add_writer(lists: &mut Vec<WorkList>, writers: PeMask, i: u8, cell: u32, brok
 /// Adds a cell to the lists of these PEs, of the first `pes`.
 fn add_writers(lists: &mut Vec<WorkList>, writers: PeMask, pes: u8, cell: u32, broken: usize)
     requires { pes ≤ 128 }
-    ensures there { (q : ℕ) → q < pes → pe_in writers q ≡ true → HoldsFor lists.new.items q cell }
-    ensures kept { (q j : ℕ) → HoldsFor lists.old.items q j → HoldsFor lists.new.items q j }
+    ensures { AddsAll writers pes cell lists.old.items lists.new.items }
 {
     for i in 0..pes {
         add_writer(lists, writers, i, cell, broken);
@@ -135,8 +134,7 @@ fn add_mostly(
     broken: usize,
 )
     requires { pes ≤ 128 }
-    ensures there { (q : ℕ) → q < pes → pe_in writers q ≡ true → HoldsFor lists.new.items q cell }
-    ensures kept { (q j : ℕ) → HoldsFor lists.old.items q j → HoldsFor lists.new.items q j }
+    ensures { AddsAll writers pes cell lists.old.items lists.new.items }
 {
     add_for(lists, mostly, cell, broken);
     let others = writers.minus(PeMask::one(mostly));
@@ -145,26 +143,21 @@ fn add_mostly(
     }
 }
 
-/// Adds the cell of a place that is broken with these marks, with the marks before if it was broken. Most often this PE
-/// is the only one that wrote there since.
+/// The same, where there may be none of them.
 #[inline(always)]
-fn add_broken(
+fn add_fresh(
     lists: &mut Vec<WorkList>,
-    pes: u8,
+    writers: PeMask,
     mostly: Pe,
+    pes: u8,
     cell: u32,
-    before: &Option<Marks>,
-    marks: &Marks,
     broken: usize,
 )
     requires { pes ≤ 128 }
-    ensures told { (q : ℕ) → q < pes → HoldsFor lists.new.items q cell
-        ⊎ ((pe_in marks.now.writers q ≡ false) ⊎ IsToldAsBefore before.now marks.now q) }
-    ensures kept { (q j : ℕ) → HoldsFor lists.old.items q j → HoldsFor lists.new.items q j }
+    ensures { AddsAll writers pes cell lists.old.items lists.new.items }
 {
-    let fresh = fresh_writers(before, marks);
-    if !fresh.is_empty() {
-        add_mostly(lists, fresh, mostly, pes, cell, broken);
+    if !writers.is_empty() {
+        add_mostly(lists, writers, mostly, pes, cell, broken);
     }
 }
 
@@ -190,15 +183,8 @@ pub fn note_write(
     ensures unclean { work.new.settled ≡ true → is_clean work.old.pes marks.now ≡ false }
 {
     let pes = work.pes;
-    add_broken(
-        &mut work.unpublished,
-        pes,
-        mostly,
-        cell,
-        before,
-        marks,
-        broken,
-    );
+    let fresh = fresh_writers(before, marks);
+    add_fresh(&mut work.unpublished, fresh, mostly, pes, cell, broken);
     if marks.is_clean(work.pes) {
         work.settled = false;
     }

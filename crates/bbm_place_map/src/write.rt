@@ -5,13 +5,14 @@ ghost use Rattle.std.specs.Prelude.{slice_get, length, List, if◌then◌else◌
 ghost use Rattle.bbm_place_map.specs.Cells.{value_in, slot_in, in_page};
 ghost use Rattle.bbm_place_map.specs.Entries.{no_pends};
 ghost use Rattle.bbm_place_map.specs.Parts.{marks_in, pends_for};
-ghost use Rattle.bbm_place_map.specs.Puts.{Breaks, Clears};
-ghost use Rattle.bbm_place_map.specs.Sound.{Linked, Placed, index_of};
+ghost use Rattle.bbm_place_map.specs.Puts.{Breaks, Clears, Writes};
+ghost use Rattle.bbm_place_map.specs.Sound.{CanBreak, FewLinked, KeepsSlots, Linked, Placed, SameSize, index_of};
 ghost use Rattle.bbm_place_map.specs.declared.entry.Entry.{Entry as TheEntry};
 
 use crate::cell::Cell;
 use crate::entry::Entry;
 use crate::links::{link, put_value, unlink};
+use crate::seat::Seat;
 use bbm_entry_state::Marks;
 use bbm_regimes::Place;
 use std::alloc::Global;
@@ -21,8 +22,7 @@ pub fn remark(broken: &mut Vec<Entry>, k: usize, marks: Marks)
     requires { k < vec_len broken.old }
     ensures entry { (e : TheEntry) → slice_get broken.old.items k ≡ Some e → (i : ℕ) → slice_get broken.new.items i
         ≡ (if nat_eq i k then Some (record e { marks = marks }) else slice_get broken.old.items i) }
-    ensures len { length broken.new.items ≡ length broken.old.items }
-    ensures room { vec_capacity broken.new ≡ vec_capacity broken.old }
+    ensures size { SameSize broken.old broken.new }
 {
     let entry = &mut broken[k];
     entry.marks = marks;
@@ -37,10 +37,7 @@ fn mark(
     marks: Marks,
     alloc: Global,
 )
-    requires linked { Linked cells.old.items broken.old.items }
-    requires within { j < vec_len cells.old }
-    requires few { vec_len cells.old < 2 ^ 32 }
-    requires room { vec_len cells.old ≤ vec_capacity broken.old }
+    requires { CanBreak j cells.old broken.old }
     ensures { Breaks j place marks cells.old cells.new broken.old broken.new }
 {
     match cells[j].slot {
@@ -51,9 +48,8 @@ fn mark(
 
 /// The place of a cell isn't broken, and nothing waits there.
 pub fn clear(cells: &mut Vec<Cell>, broken: &mut Vec<Entry>, j: usize)
-    requires linked { Linked cells.old.items broken.old.items }
+    requires able { FewLinked cells.old broken.old }
     requires within { j < vec_len cells.old }
-    requires few { vec_len cells.old < 2 ^ 32 }
     ensures { Clears (λ i. nat_eq i j) cells.old cells.new broken.old broken.new }
 {
     if let Some(k) = cells[j].slot {
@@ -63,13 +59,9 @@ pub fn clear(cells: &mut Vec<Cell>, broken: &mut Vec<Entry>, j: usize)
 
 /// Writes a value, and the place isn't broken after. What waits there is dropped.
 pub fn put_whole(cells: &mut Vec<Cell>, broken: &mut Vec<Entry>, j: usize, value: u64)
-    requires linked { Linked cells.old.items broken.old.items }
+    requires able { FewLinked cells.old broken.old }
     requires within { j < vec_len cells.old }
-    requires few { vec_len cells.old < 2 ^ 32 }
-    ensures linked { Linked cells.new.items broken.new.items }
-    ensures len { vec_len cells.new ≡ vec_len cells.old }
-    ensures room { vec_capacity broken.new ≡ vec_capacity broken.old }
-    ensures values { (i : ℕ) → value_in cells.new.items i ≡ (if nat_eq i j then value else value_in cells.old.items i) }
+    ensures written { Writes j value cells.old cells.new broken.old broken.new }
     ensures marks { (i : ℕ) → marks_in cells.new.items broken.new.items i
         ≡ (if nat_eq i j then None else marks_in cells.old.items broken.old.items i) }
     ensures pends { (q i : ℕ) → pends_for cells.new.items broken.new.items q i
@@ -80,40 +72,32 @@ pub fn put_whole(cells: &mut Vec<Cell>, broken: &mut Vec<Entry>, j: usize, value
     clear(cells, broken, j);
 }
 
-/// Writes a value, and the place is broken with these marks after. What waits there stays.
+/// Writes a value, and a seat's place is broken with these marks after. What waits there stays.
 pub fn put_broken(
     cells: &mut Vec<Cell>,
     broken: &mut Vec<Entry>,
-    j: usize,
-    place: Place,
+    seat: &Seat,
     value: u64,
     marks: Marks,
     alloc: Global,
 )
-    requires linked { Linked cells.old.items broken.old.items }
-    requires within { j < vec_len cells.old }
-    requires few { vec_len cells.old < 2 ^ 32 }
-    requires room { vec_len cells.old ≤ vec_capacity broken.old }
-    ensures linked { Linked cells.new.items broken.new.items }
-    ensures len { vec_len cells.new ≡ vec_len cells.old }
-    ensures room { vec_capacity broken.new ≡ vec_capacity broken.old }
-    ensures values { (i : ℕ) → value_in cells.new.items i ≡ (if nat_eq i j then value else value_in cells.old.items i) }
+    requires { CanBreak seat.now.index cells.old broken.old }
+    ensures written { Writes seat.now.index value cells.old cells.new broken.old broken.new }
     ensures marks { (i : ℕ) → marks_in cells.new.items broken.new.items i
-        ≡ (if nat_eq i j then Some marks else marks_in cells.old.items broken.old.items i) }
+        ≡ (if nat_eq i seat.now.index then Some marks else marks_in cells.old.items broken.old.items i) }
     ensures pends { (q i : ℕ) → pends_for cells.new.items broken.new.items q i
         ≡ pends_for cells.old.items broken.old.items q i }
-    ensures placed { (base : ℕ → Option ℕ) → index_of base place ≡ Some j → Placed base broken.old.items
-        → Placed base broken.new.items }
+    ensures placed { (base : ℕ → Option ℕ) → index_of base seat.now.place ≡ Some seat.now.index
+        → Placed base broken.old.items → Placed base broken.new.items }
 {
-    put_value(cells, j, value);
-    mark(cells, broken, j, place, marks, alloc);
+    put_value(cells, seat.index, value);
+    mark(cells, broken, seat.index, seat.place, marks, alloc);
 }
 
 /// No place of the 512 cells from the base on is broken, and nothing waits there.
 pub fn clear_page(cells: &mut Vec<Cell>, broken: &mut Vec<Entry>, base: usize)
-    requires linked { Linked cells.old.items broken.old.items }
+    requires able { FewLinked cells.old broken.old }
     requires within { base + 512 ≤ vec_len cells.old }
-    requires few { vec_len cells.old < 2 ^ 32 }
     ensures { Clears (in_page base 512) cells.old cells.new broken.old broken.new }
 {
     for i in 0..512 {
@@ -127,8 +111,7 @@ pub fn zero_page(cells: &mut Vec<Cell>, base: usize)
     ensures len { vec_len cells.new ≡ vec_len cells.old }
     ensures values { (i : ℕ) → value_in cells.new.items i
         ≡ (if in_page base 512 i then 0 else value_in cells.old.items i) }
-    ensures slots { (i : ℕ) → slot_in cells.new.items i ≡ slot_in cells.old.items i }
-    ensures linked { (entries : List TheEntry) → Linked cells.old.items entries → Linked cells.new.items entries }
+    ensures kept { KeepsSlots cells.old.items cells.new.items }
 {
     for i in 0..512 {
         put_value(cells, base + i, 0);
@@ -140,8 +123,7 @@ pub fn add_cells(cells: &mut Vec<Cell>)
     requires { vec_len cells.old + 512 ≤ vec_capacity cells.old }
     ensures len { vec_len cells.new ≡ vec_len cells.old + 512 }
     ensures values { (i : ℕ) → value_in cells.new.items i ≡ value_in cells.old.items i }
-    ensures slots { (i : ℕ) → slot_in cells.new.items i ≡ slot_in cells.old.items i }
-    ensures linked { (entries : List TheEntry) → Linked cells.old.items entries → Linked cells.new.items entries }
+    ensures kept { KeepsSlots cells.old.items cells.new.items }
 {
     for i in 0..512usize {
         let _ = i;

@@ -9,9 +9,9 @@ use Rattle.bbm_tree_index.specs.Nodes.{path_at}
 use Rattle.bbm_tree_index.specs.declared.role.Path.{Path}
 use Rattle.bbm_replay.specs.ReplayLaws.{Laws}
 use Rattle.bbm_replay.specs.ReplayStanding.{IsAt, Stands}
-use Rattle.bbm_replay.specs.declared.parts.Parts.{Parts}
+use Rattle.bbm_replay.specs.declared.parts.ReplayState.{ReplayState}
 
-pub at_path : (p : Parts) (place : ℕ) (r : Option Path) (path : Path) → r ≡ Some path
+pub at_path : (p : ReplayState) (place : ℕ) (r : Option Path) (path : Path) → r ≡ Some path
     → r ≡ option_map (λ n. path_at n place) (node_in p.index (page_of place)) → IsAt p place path
 at_path p place r path e k = by (node_in p.index (page_of place)) refl
   where
@@ -23,7 +23,7 @@ at_path p place r path e k = by (node_in p.index (page_of place)) refl
         let same : path ≡ path_at n place = cc in
         (n, is, same)
 
-pub no_path : (p : Parts) (place : ℕ) (r : Option Path) → r ≡ None
+pub no_path : (p : ReplayState) (place : ℕ) (r : Option Path) → r ≡ None
     → r ≡ option_map (λ n. path_at n place) (node_in p.index (page_of place)) → node_in p.index (page_of place) ≡ None
 no_path p place r e k = by (node_in p.index (page_of place)) refl
   where
@@ -32,7 +32,7 @@ no_path p place r e k = by (node_in p.index (page_of place)) refl
     by (Some n) is =
         let bad : None ≡ Some (path_at n place) = sym e ∙ k ∙ ap (λ (o : Option Node). option_map (λ n. path_at n place) o) is in absurd cc
 
-pub shallow : (heading : Heading) → Laws heading → (h : List Event) (p : Parts) → Stands p heading h → (place : ℕ) (path : Path)
+pub shallow : (heading : Heading) → Laws heading → (h : List Event) (p : ReplayState) → Stands p heading h → (place : ℕ) (path : Path)
     → IsAt p place path → path.level ≤ 3
 shallow heading laws h p s place path at =
     let own = laws.nodes.own h (node_in p.index) (page_of place) at.0 s.told.nodes at.1 in

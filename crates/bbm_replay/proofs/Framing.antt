@@ -12,10 +12,10 @@ use Rattle.bbm_replay.specs.ReplayLaws.{Laws}
 use Rattle.bbm_replay.proofs.Moves.{Same}
 use Rattle.bbm_replay.specs.ReplayStanding.{SameFrame, Stands, view_of}
 use Rattle.bbm_replay.specs.ReplayTold.{Told}
-use Rattle.bbm_replay.specs.declared.parts.Parts.{Parts}
+use Rattle.bbm_replay.specs.declared.parts.ReplayState.{ReplayState}
 use Rattle.bbm_replay.proofs.Quiet.{told_same}
 
-pub stands_next : (old new : Parts) → SameFrame old new → (heading : Heading) (h next : List Event) → Stands old heading h
+pub stands_next : (old new : ReplayState) → SameFrame old new → (heading : Heading) (h next : List Event) → Stands old heading h
     → Told heading next (view_of new.map new.index) → roots.Stands new.roots heading next → Stands new heading next
 stands_next old new f heading h next s told roots = record {
   header = f.header ∙ s.header;
@@ -25,7 +25,7 @@ stands_next old new f heading h next s told roots = record {
   roots = roots;
 }
 
-pub stands_still : ((heading : Heading) → Laws heading) → (old new : Parts) → SameFrame old new
+pub stands_still : ((heading : Heading) → Laws heading) → (old new : ReplayState) → SameFrame old new
     → Same (view_of old.map old.index) (view_of new.map new.index)
     → (heading : Heading) (h : List Event) → Stands old heading h → roots.Stands new.roots heading h → Stands new heading h
 stands_still laws old new f same heading h s roots = stands_next old new f heading h h s

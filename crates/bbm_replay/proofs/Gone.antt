@@ -18,7 +18,7 @@ use Rattle.bbm_replay.proofs.Moves.{Leaves, SamePages, SameTracked}
 use Rattle.bbm_replay.specs.ReplayRules.{Rules}
 use Rattle.bbm_replay.specs.ReplayStanding.{MayMeet, Meets, SameFrame, Stands, view_of}
 use Rattle.bbm_replay.specs.View.{View}
-use Rattle.bbm_replay.specs.declared.parts.Parts.{Parts}
+use Rattle.bbm_replay.specs.declared.parts.ReplayState.{ReplayState}
 use Rattle.bbm_replay.proofs.Framing.{stands_next}
 use Rattle.bbm_replay.proofs.Leaving.{after_unroot}
 use Rattle.bbm_replay.proofs.Meeting.{answers, fits_all, frugal_else}
@@ -59,7 +59,7 @@ leaves_of old new keeps outside node value marks pends roles tracking = record {
   tracking = tracking;
 }
 
-module _ (laws : (heading : Heading) → Laws heading) (rules : (heading : Heading) → Rules heading) (old : Parts)
+module _ (laws : (heading : Heading) → Laws heading) (rules : (heading : Heading) → Rules heading) (old : ReplayState)
     (pe page : ℕ) (m : MayMeet old (Unroot pe page)) where
   pub unroot_err : (fault : StepFault)
       → ((heading : Heading) (h : List Event) → roots.Stands old.roots heading h
@@ -71,7 +71,7 @@ module _ (laws : (heading : Heading) → Laws heading) (rules : (heading : Headi
     frugal = frugal_else old (Unroot pe page) (Err fault) (λ heading h s. (refl, refl));
   }
 
-  pub unroot_ok : (new : Parts)
+  pub unroot_ok : (new : ReplayState)
       → ((heading : Heading) (h : List Event) → roots.Stands old.roots heading h
       → broken heading Patterns h (Unroot pe page) ≡ None)
       → SameFrame old new

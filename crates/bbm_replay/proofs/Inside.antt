@@ -48,7 +48,7 @@ use Rattle.bbm_replay.specs.ReplayRules.{Rules}
 use Rattle.bbm_replay.specs.ReplayStanding.{Clears, Holds, IsAt, MayMeet, Meets, SameFrame, Stands, view_of}
 use Rattle.bbm_replay.specs.ReplayTold.{Told}
 use Rattle.bbm_replay.specs.View.{View, core_at, state_of}
-use Rattle.bbm_replay.specs.declared.parts.Parts.{Parts}
+use Rattle.bbm_replay.specs.declared.parts.ReplayState.{ReplayState}
 use Rattle.bbm_replay.proofs.Framing.{stands_next}
 use Rattle.bbm_replay.proofs.Judging.{Verdict, passes, stops, verdict, where_false, where_true, write_is}
 use Rattle.bbm_replay.proofs.Meeting.{fits_all}
@@ -102,7 +102,7 @@ table_level kind (suc (suc (suc zero))) v next below k = by (type_bits v == 3) (
 table_level kind (suc (suc (suc (suc level)))) v next below k = absurd (omega arith)
 
 module _ (laws : (heading : Heading) → Laws heading) (rules : (heading : Heading) → Rules heading)
-    (old : Parts) (pe place v : ℕ) (m : MayMeet old (Write pe place v)) (path : Path) (at : IsAt old place path)
+    (old : ReplayState) (pe place v : ℕ) (m : MayMeet old (Write pe place v)) (path : Path) (at : IsAt old place path)
     (held new : Option Core) (holds : Holds old place path held) (new_is : new ≡ core_of path.kind path.level v) where
   abbrev e : Event
   e = Write pe place v
@@ -251,7 +251,7 @@ module _ (laws : (heading : Heading) → Laws heading) (rules : (heading : Headi
             ∙ passes BadKind _ _ (bad_is heading h s ∙ where_false (is_contiguous_core new) place good)
             ∙ passes GlobalUser _ _ (user_is heading h s ∙ where_false (same_kind path.kind Ttbr0 && is_global_core new) place own)
 
-        pub plain_ok : Others → (next : Parts) → SameFrame old next → next.roots ≡ old.roots → next.index ≡ old.index
+        pub plain_ok : Others → (next : ReplayState) → SameFrame old next → next.roots ≡ old.roots → next.index ≡ old.index
             → (state : EntryState) → Written (state_of v_old path.kind path.level place) pe new state
             → Writes v_old (view_of next.map old.index) place v state
             → ((p : ℕ) → (view_of next.map old.index).tracked p ≡ v_old.tracked p)
@@ -317,7 +317,7 @@ module _ (laws : (heading : Heading) → Laws heading) (rules : (heading : Headi
             → is_none (attached_by heading Patterns (notes heading h) e) ≡ false
         some_attached empty = rw (node_is, empty, both.1) refl
 
-    pub attach_fault : (last : Parts) → ((heading : Heading) (h : List Event) → Stands old heading h → Stands last heading h)
+    pub attach_fault : (last : ReplayState) → ((heading : Heading) (h : List Event) → Stands old heading h → Stands last heading h)
         → (fault : TreeFault)
         → index.Judges (fresh_in old.index) (value_at old.map) (index_paths.starts_of old.index (attach.Below place next)) {A = Unit {0}} false (Err fault)
         → Meets old last e (Err (step_fault fault))
@@ -365,7 +365,7 @@ module _ (laws : (heading : Heading) → Laws heading) (rules : (heading : Headi
           ∙ passes BreakBeforeMake _ _ first.2 ∙ passes LimboMake _ _ first.3 ∙ passes NotFresh _ _ w.0
           ∙ passes RewrittenFresh _ _ (rewritten_none heading h s) ∙ passes BadKind _ _ w.1 ∙ passes GlobalUser _ _ w.2
 
-      pub attach_ok : Others → (last : Parts) → SameFrame old last → last.roots ≡ old.roots
+      pub attach_ok : Others → (last : ReplayState) → SameFrame old last → last.roots ≡ old.roots
           → (state : EntryState) → Written (state_of v_old path.kind path.level place) pe new state
           → Writes v_old (view_of last.map last.index) place v state
           → Attaches v_old (view_of last.map last.index) (index_paths.starts_of old.index (attach.Below place next))

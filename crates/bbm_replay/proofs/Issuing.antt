@@ -23,12 +23,12 @@ use Rattle.bbm_replay.specs.ReplayLaws.{Laws}
 use Rattle.bbm_replay.proofs.Moves.{Alike}
 use Rattle.bbm_replay.specs.ReplayRules.{Rules}
 use Rattle.bbm_replay.specs.ReplayStanding.{MayMeet, Meets, Stands, view_of}
-use Rattle.bbm_replay.specs.declared.parts.Parts.{Parts}
+use Rattle.bbm_replay.specs.declared.parts.ReplayState.{ReplayState}
 use Rattle.bbm_replay.proofs.Framing.{stands_next}
 use Rattle.bbm_replay.proofs.Meeting.{fits_all}
 use Rattle.bbm_replay.proofs.TlbiMoves.{after_tlbi}
 
-pub tlbi_meets : ((heading : Heading) → Laws heading) → ((heading : Heading) → Rules heading) → (old : Parts) (map : PlaceMap)
+pub tlbi_meets : ((heading : Heading) → Laws heading) → ((heading : Heading) → Rules heading) → (old : ReplayState) (map : PlaceMap)
     (r : RootState) (pe : ℕ) (op : TlbiOp) (xt : ℕ) → MayMeet old (Tlbi pe op xt)
     → ((heading : Heading) (h : List Event) → roots.Stands old.roots heading h → broken heading Patterns h (Tlbi pe op xt) ≡ None)
     → (reach : PeMask) → ((p : ℕ) → p < old.header.pes

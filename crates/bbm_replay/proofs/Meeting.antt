@@ -21,25 +21,20 @@ use Rattle.bbm_replay_trees.specs.Told.{AllFit}
 use Rattle.bbm_replay.specs.ReplayLaws.{Laws}
 use Rattle.bbm_replay.proofs.Moves.{is_quiet}
 use Rattle.bbm_replay.specs.ReplayStanding.{IsFrugal, MayMeet, Meets, Stands, view_of}
-use Rattle.bbm_replay.specs.declared.parts.Parts.{Parts}
+use Rattle.bbm_replay.specs.declared.parts.ReplayState.{ReplayState}
 use Rattle.bbm_replay.proofs.Quiet.{after_quiet}
 
 -- the event fits the header of every history that the parts stand for
-pub fits_all : (p : Parts) (e : Event) → MayMeet p e → (heading : Heading) (h : List Event) → Stands p heading h
+pub fits_all : (p : ReplayState) (e : Event) → MayMeet p e → (heading : Heading) (h : List Event) → Stands p heading h
     → fits_heading heading e ≡ true
 fits_all p e m heading h s =
     subst (λ (x : Heading). fits_heading x e ≡ true) (sym m.2.header ∙ s.header) m.3
 
--- what the roots are asked
-pub may_ask : (p : Parts) (e : Event) (pe : ℕ) → MayMeet p e
-    → ((heading : Heading) → fits_heading heading e ≡ true → pe < heading.pes) → MayAsk (roots.Stands p.roots) pe
-may_ask p e pe m below = (m.0, m.1, m.2.roots, below m.0 m.3)
-
 -- the parts with other roots
-abbrev pub with_roots : Parts → RootState → Parts
+abbrev pub with_roots : ReplayState → RootState → ReplayState
 with_roots p r = record p { roots = r }
 
-pub stands_quiet : ((heading : Heading) → Laws heading) → (p : Parts) (r : RootState) (e : Event) → is_quiet e ≡ true
+pub stands_quiet : ((heading : Heading) → Laws heading) → (p : ReplayState) (r : RootState) (e : Event) → is_quiet e ≡ true
     → (heading : Heading) (h : List Event) → Stands p heading h → fits_heading heading e ≡ true
     → broken heading Patterns h e ≡ None → roots.Stands r heading (e ∷ h) → Stands (with_roots p r) heading (e ∷ h)
 stands_quiet laws p r e quiet heading h s fits unbroken taken = record {
@@ -55,7 +50,7 @@ stands_quiet laws p r e quiet heading h s fits unbroken taken = record {
   roots = taken;
 }
 
-pub stands_same : (p : Parts) (r : RootState) (heading : Heading) (h : List Event) → Stands p heading h
+pub stands_same : (p : ReplayState) (r : RootState) (heading : Heading) (h : List Event) → Stands p heading h
     → roots.Stands r heading h → Stands (with_roots p r) heading h
 stands_same p r heading h s same = record {
   header = s.header;
@@ -73,7 +68,7 @@ answers (Err (Limit which)) breach limit j k = absurd j
 answers (Err NoMemory) breach limit j k = absurd j
 
 -- an event that may take memory
-pub frugal_else : (p : Parts) (e : Event) (r : Result (Unit {0}) StepFault)
+pub frugal_else : (p : ReplayState) (e : Event) (r : Result (Unit {0}) StepFault)
     → ((heading : Heading) (h : List Event) → Stands p heading h
     → (takes_no_memory e ≡ false) × (rewrites heading h e ≡ false)) → IsFrugal p e r
 frugal_else p e (Ok u) k = tt
@@ -82,7 +77,7 @@ frugal_else p e (Err (Limit which)) k = tt
 frugal_else p e (Err NoMemory) k = k
 
 -- an answer that is never want of memory
-frugal_judged : (p : Parts) (e : Event) (fault : StepFault)
+frugal_judged : (p : ReplayState) (e : Event) (fault : StepFault)
     → ((heading : Heading) (h : List Event) → Stands p heading h → roots.Judges (Err fault) (broken heading Patterns h e))
     → IsFrugal p e (Err fault)
 frugal_judged p e (Broken rule at) k = tt
@@ -90,7 +85,7 @@ frugal_judged p e (Limit which) k = tt
 frugal_judged p e NoMemory k = λ heading h s. absurd (k heading h s)
 
 -- a call of the roots that judges the event and takes it
-pub meets_judged : ((heading : Heading) → Laws heading) → (p : Parts) (r : RootState) (e : Event) → MayMeet p e
+pub meets_judged : ((heading : Heading) → Laws heading) → (p : ReplayState) (r : RootState) (e : Event) → MayMeet p e
     → is_quiet e ≡ true → (result : Result (Unit {0}) StepFault)
     → ((heading : Heading) (h : List Event) → roots.Stands p.roots heading h → roots.Judges result (broken heading Patterns h e))
     → ((h : List Event) → limit_of h e ≡ None)
@@ -112,7 +107,7 @@ meets_judged laws p r e m quiet (Err fault) judged limit taken same = record {
 }
 
 -- the same of a register write
-pub meets_answered : ((heading : Heading) → Laws heading) → (p : Parts) (r : RootState) (e : Event) → MayMeet p e
+pub meets_answered : ((heading : Heading) → Laws heading) → (p : ReplayState) (r : RootState) (e : Event) → MayMeet p e
     → is_quiet e ≡ true → (result : Result (Unit {0}) StepFault)
     → ((heading : Heading) (h : List Event) → Stands p heading h → Answers result (broken heading Patterns h e) (limit_of h e))
     → OnOk result ((heading : Heading) (h : List Event) → Stands p heading h → roots.Stands r heading (e ∷ h))
@@ -157,7 +152,7 @@ null_page heading (Msr pe reg v ∷ h) page fit k = null_page heading h page (an
 null_page heading (Lock pe lock ∷ h) page fit k = null_page heading h page (and_parts (fits_heading heading (Lock pe lock)) _ fit).1 k
 null_page heading (Unlock pe lock ∷ h) page fit k = null_page heading h page (and_parts (fits_heading heading (Unlock pe lock)) _ fit).1 k
 
-pub meets_msr : ((heading : Heading) → Laws heading) → (p : Parts) (r : RootState) (pe : ℕ) (reg : Reg) (value : ℕ)
+pub meets_msr : ((heading : Heading) → Laws heading) → (p : ReplayState) (r : RootState) (pe : ℕ) (reg : Reg) (value : ℕ)
     → MayMeet p (Msr pe reg value) → (result : Result (Unit {0}) StepFault) (null : Bool)
     → ((heading : Heading) (h : List Event) → Stands p heading h → null ≡ has_null_base h value)
     → ((heading : Heading) (h : List Event) → roots.Stands p.roots heading h → null ≡ has_null_base h value

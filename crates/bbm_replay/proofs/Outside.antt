@@ -22,7 +22,7 @@ use Rattle.bbm_replay.proofs.Moves.{Writes}
 use Rattle.bbm_replay.specs.ReplayRules.{Rules}
 use Rattle.bbm_replay.specs.ReplayStanding.{MayMeet, Meets, SameFrame, Stands, view_of}
 use Rattle.bbm_replay.specs.ReplayTold.{Told}
-use Rattle.bbm_replay.specs.declared.parts.Parts.{Parts}
+use Rattle.bbm_replay.specs.declared.parts.ReplayState.{ReplayState}
 use Rattle.bbm_replay.proofs.Framing.{stands_next}
 use Rattle.bbm_replay.proofs.Judging.{passes, stops, where_false, where_true, write_is}
 use Rattle.bbm_replay.proofs.Meeting.{fits_all}
@@ -30,7 +30,7 @@ use Rattle.bbm_replay.proofs.Starting.{Others, meets_broken}
 use Rattle.bbm_replay.proofs.Writing.{after_write_outside}
 
 module _ (laws : (heading : Heading) → Laws heading) (rules : (heading : Heading) → Rules heading) (others : Others)
-    (old : Parts) (pe place v : ℕ) (m : MayMeet old (Write pe place v)) (away : node_in old.index (page_of place) ≡ None) where
+    (old : ReplayState) (pe place v : ℕ) (m : MayMeet old (Write pe place v)) (away : node_in old.index (page_of place) ≡ None) where
   module _ (heading : Heading) (h : List Event) (s : Stands old heading h) where
     null_is : null_written heading Patterns (notes heading h) (Write pe place v) ≡ if_so (null_in old.index (page_of place)) place
     null_is = (rules heading).null h (null_in old.index) pe place v s.told.null
@@ -106,7 +106,7 @@ module _ (laws : (heading : Heading) → Laws heading) (rules : (heading : Headi
 
   pub outside_ok : null_in old.index (page_of place) ≡ false → fresh_in old.index (page_of place) ≡ true
       → (value_at old.map place % 2 == 1 && not (value_at old.map place == v)) ≡ false
-      → (new : Parts) → SameFrame old new → new.roots ≡ old.roots → new.index ≡ old.index
+      → (new : ReplayState) → SameFrame old new → new.roots ≡ old.roots → new.index ≡ old.index
       → Writes (view_of old.map old.index) (view_of new.map old.index) place v state.Clean
       → ((p : ℕ) → (view_of new.map old.index).tracked p ≡ (view_of old.map old.index).tracked p)
       → Meets old new (Write pe place v) (Ok tt)

@@ -28,9 +28,6 @@ pub record Plain (e : Event) : Type 0 where
   pub trees : leaves_trees e ≡ true
   pub unattached : (heading : Heading) (ns : List Noted) → attached_by heading Patterns ns e ≡ None
 
-pub plain_tlbi : (pe : ℕ) → (op : _) (xt : ℕ) → Plain (Tlbi pe op xt)
-plain_tlbi pe op xt = record { values = refl; inits = refl; nulls = refl; trees = refl; unattached = λ heading ns. refl }
-
 plain_of : (e : Event) → is_quiet e ≡ true → Plain e
 plain_of (Dmb pe dsb) k = record { values = refl; inits = refl; nulls = refl; trees = refl; unattached = λ heading ns. refl }
 plain_of (Isb pe) k = record { values = refl; inits = refl; nulls = refl; trees = refl; unattached = λ heading ns. refl }

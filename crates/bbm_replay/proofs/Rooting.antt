@@ -31,7 +31,7 @@ use Rattle.bbm_replay.specs.ReplayLaws.{Laws}
 use Rattle.bbm_replay.proofs.Moves.{Attaches, SameMap, SameTracked}
 use Rattle.bbm_replay.specs.ReplayRules.{Rules}
 use Rattle.bbm_replay.specs.ReplayStanding.{MayMeet, Meets, SameFrame, Stands, view_of}
-use Rattle.bbm_replay.specs.declared.parts.Parts.{Parts}
+use Rattle.bbm_replay.specs.declared.parts.ReplayState.{ReplayState}
 use Rattle.bbm_replay.proofs.Framing.{stands_next}
 use Rattle.bbm_replay.proofs.Growing.{after_root}
 use Rattle.bbm_replay.proofs.Judging.{Verdict, passes, root_is, stops, verdict, where_false, where_true}
@@ -43,7 +43,7 @@ use Rattle.bbm_lemmas.proofs.Bools.{third_true}
 abbrev pub starts : Heading → Kind → ℕ → List Node
 starts heading kind page = nodes_of_root heading (record { page = page; kind = kind; lock = None })
 
-module _ (laws : (heading : Heading) → Laws heading) (rules : (heading : Heading) → Rules heading) (old : Parts)
+module _ (laws : (heading : Heading) → Laws heading) (rules : (heading : Heading) → Rules heading) (old : ReplayState)
     (pe page : ℕ) (kind : Kind) (lock : Option ℕ) (m : MayMeet old (Root pe kind lock page)) where
   abbrev e : Event
   e = Root pe kind lock page
@@ -135,7 +135,7 @@ module _ (laws : (heading : Heading) → Laws heading) (rules : (heading : Headi
                 let bad : Limit which ≡ NoMemory = none (λ k. absurd cc) in absurd cc
 
         -- there is, and the pages are attached
-        pub root_ok : (new : Parts) → SameFrame old new
+        pub root_ok : (new : ReplayState) → SameFrame old new
             → ((heading : Heading) (h : List Event) → roots.Stands old.roots heading h → limit_of h e ≡ Some Roots → ⊥)
             → SameMap (view_of old.map old.index) (view_of new.map new.index)
             → Attaches (view_of old.map old.index) (view_of new.map new.index) (starts (heading_of old.index) kind page)
@@ -162,22 +162,13 @@ module _ (laws : (heading : Heading) → Laws heading) (rules : (heading : Headi
                 by false k = ap (λ b. if_so b Roots) k
                 by true k = absurd (room heading h s.roots (ap (λ b. if_so b Roots) k))
 
-  pub stays_after : (fault : StepFault) → fault ≡ NoMemory → (new : Parts)
-      → ((heading : Heading) (h : List Event) → Stands old heading h → Stands new heading h) → Meets old new e (Err fault)
-  stays_after fault k new same = record {
-    judged = λ heading h s. subst (λ (f : StepFault). Answers (Err f) (broken heading Patterns h e) (limit_of h e)) (sym k) tt;
-    taken = tt;
-    unchanged = same;
-    frugal = frugal_else old e (Err fault) (λ heading h s. (refl, refl));
-  }
-
 -- the page of a root fits
 pub root_page : (heading : Heading) (pe : ℕ) (lock : Option ℕ) (kind : Kind) (page : ℕ)
     → fits_heading heading (Root pe kind lock page) ≡ true → is_root_page heading.world kind page ≡ true
 root_page heading pe lock kind page fits = third_true (is_pe heading pe) (is_root_lock lock) (is_root_page heading.world kind page) fits
 
 -- the pages of a root are consecutive ones
-pub unfresh_is : (p : Parts) (kind : Kind) (page count : ℕ) (heading : Heading) → p.header ≡ heading
+pub unfresh_is : (p : ReplayState) (kind : Kind) (page count : ℕ) (heading : Heading) → p.header ≡ heading
     → kind_in_world p.header.world kind ≡ true → count ≡ page_count p.header.world kind
     → least (filter (λ x. not (fresh_in p.index x)) (root_pages heading.world kind page))
     ≡ least (filter (λ x. not (fresh_in p.index x)) (pages_from page count))

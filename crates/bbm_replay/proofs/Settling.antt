@@ -29,7 +29,7 @@ use Rattle.bbm_replay.specs.ReplayLaws.{Laws}
 use Rattle.bbm_replay.proofs.Moves.{Completes, Hears, Leaves}
 use Rattle.bbm_replay.specs.ReplayStanding.{MayMeet, Meets, SameFrame, Stands, view_of}
 use Rattle.bbm_replay.specs.View.{View, core_at}
-use Rattle.bbm_replay.specs.declared.parts.Parts.{Parts}
+use Rattle.bbm_replay.specs.declared.parts.ReplayState.{ReplayState}
 use Rattle.bbm_replay.proofs.DsbMoves.{after_dsb, all_held, whole_stays}
 use Rattle.bbm_replay.proofs.Framing.{stands_next}
 use Rattle.bbm_replay.proofs.Growing.{core_whole}
@@ -53,7 +53,7 @@ every_alike f g (x ∷ xs) same = ap (λ b. b && every f xs) (same x) ∙ ap (λ
 abbrev pub holding : View → Kind → ℕ → ℕ → Bool
 holding v kind level a = is_some (core_at v kind level a)
 
-pub held_is : (p : Parts) (map : PlaceMap) (m : Node) → is_held map m ≡ is_held_by (holding (view_of map p.index)) m
+pub held_is : (p : ReplayState) (map : PlaceMap) (m : Node) → is_held map m ≡ is_held_by (holding (view_of map p.index)) m
 held_is p map m = every_alike (λ a. is_some (core_with (marks_at map a.place) m.kind a.level (value_at map a.place)))
     (λ a. holding (view_of map p.index) m.kind a.level a.place) m.above
     (λ a. ap (λ (o : Option Core). is_some o) (core_with_is (marks_at map a.place) m.kind a.level (value_at map a.place)))
@@ -84,7 +84,7 @@ not_lost (Some marks) None next k table = by marks.core refl
     by (Leaf out attrs share global contiguous) e =
         let bad : None ≡ Some next = sym (ap (λ (x : Core). next_in (Some x)) e) ∙ table in absurd cc
 
-module _ (laws : (heading : Heading) → Laws heading) (old new : Parts) (m1 m2 : PlaceMap) (pe : ℕ) (dsb : Barrier)
+module _ (laws : (heading : Heading) → Laws heading) (old new : ReplayState) (m1 m2 : PlaceMap) (pe : ℕ) (dsb : Barrier)
     (may : MayMeet old (Dsb pe dsb))
     (hears : Hears (view_of old.map old.index) (view_of m1 old.index) (old.header.cnp && is_non dsb.domain) pe dsb old.header.pes)
     (completes : Completes (view_of m1 old.index) (view_of m2 old.index) pe dsb old.header.pes)
@@ -133,7 +133,7 @@ module _ (laws : (heading : Heading) → Laws heading) (old new : Parts) (m1 m2 
     frugal = tt;
   }
 
-pub hears_of : (old : Parts) (m1 : PlaceMap) (pe : ℕ) (dsb : Barrier) (s : Bool) (n : ℕ)
+pub hears_of : (old : ReplayState) (m1 : PlaceMap) (pe : ℕ) (dsb : Barrier) (s : Bool) (n : ℕ)
     → s ≡ (old.header.cnp && is_non dsb.domain) → n ≡ old.header.pes
     → (s ≡ false → (live : Option Core) (a : ℕ) → Published (state_from live (marks_at old.map a)) pe dsb n (state_from live (marks_at m1 a)))
     → (s ≡ true → (a : ℕ) → marks_at m1 a ≡ marks_at old.map a) → ((a : ℕ) → value_at m1 a ≡ value_at old.map a)
@@ -147,7 +147,7 @@ hears_of old m1 pe dsb s n silent count published unheard values pends = record 
   pends = λ q a b i x. ap (λ (w : Pends). waits w b i x) (pends q a);
 }
 
-pub completes_of : (old : Parts) (m1 m2 : PlaceMap) (pe : ℕ) (dsb : Barrier) (n : ℕ) → n ≡ old.header.pes
+pub completes_of : (old : ReplayState) (m1 m2 : PlaceMap) (pe : ℕ) (dsb : Barrier) (n : ℕ) → n ≡ old.header.pes
     → ((a : ℕ) → Completed (state_from None (marks_at m1 a)) (pends_at m1 pe a) dsb n (state_from None (marks_at m2 a)) (pends_at m2 pe a))
     → ((q a : ℕ) (b : Bool) (c : Cover) (i : ℕ) → nat_eq q pe ≡ false
     → waits (pends_at m2 q a) b c i ≡ (is_some (marks_at m2 a) && waits (pends_at m1 q a) b c i))

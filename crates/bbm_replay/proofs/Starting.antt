@@ -26,7 +26,7 @@ use Rattle.bbm_replay.specs.ReplayLaws.{Laws}
 use Rattle.bbm_replay.proofs.Moves.{Begins, Nullifies, Same}
 use Rattle.bbm_replay.specs.ReplayRules.{Rules}
 use Rattle.bbm_replay.specs.ReplayStanding.{MayMeet, Meets, SameFrame, Stands, view_of}
-use Rattle.bbm_replay.specs.declared.parts.Parts.{Parts}
+use Rattle.bbm_replay.specs.declared.parts.ReplayState.{ReplayState}
 use Rattle.bbm_replay.proofs.Framing.{stands_next, stands_still}
 use Rattle.bbm_replay.proofs.Judging.{init_free, init_limit, init_no_limit, init_used, null_free, null_used, null_wrong}
 use Rattle.bbm_replay.proofs.Meeting.{fits_all, frugal_else}
@@ -38,13 +38,13 @@ Others = (state : RootState) (heading : Heading) (h : List Event) (e : Event) �
     → concerns_roots e ≡ false → broken heading Patterns h e ≡ None → roots.Stands state heading (e ∷ h)
 
 -- an event that breaks a rule
-pub meets_broken : (p : Parts) (e : Event) (rule : Rule) (at : ℕ)
+pub meets_broken : (p : ReplayState) (e : Event) (rule : Rule) (at : ℕ)
     → ((heading : Heading) (h : List Event) → Stands p heading h
     → broken heading Patterns h e ≡ Some (record { rule = rule; at = at })) → Meets p p e (Err (Broken rule at))
 meets_broken p e rule at k = record { judged = k; taken = tt; unchanged = λ heading h s. s; frugal = tt }
 
 module _ (laws : (heading : Heading) → Laws heading) (rules : (heading : Heading) → Rules heading) (others : Others)
-    (old new : Parts) (pe page : ℕ) where
+    (old new : ReplayState) (pe page : ℕ) where
   module _ (m : MayMeet old (Init pe page)) where
     pub init_refused : (is_some (node_in old.index page) || null_in old.index page) ≡ true
         → Meets old old (Init pe page) (Err (Broken PageInUse page))

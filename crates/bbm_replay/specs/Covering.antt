@@ -2,7 +2,7 @@
 use Rattle.std.specs.Prelude.{◌≡◌, ℕ, Bool, true, false, List, Option, Some, None, is_some}
 use Rattle.bbm_descriptor.specs.declared.desc.Core.{Core}
 use Rattle.bbm_entry_state.specs.declared.marks.Marks.{Marks}
-use Rattle.bbm_place_map.specs.Finds.{FoundAs}
+use Rattle.bbm_place_map.specs.Finds.{FoundAs, is_found}
 use Rattle.bbm_entry_state.specs.EntryCalls.{Noted}
 use Rattle.bbm_place_map.specs.Map.{marks_at, pends_at}
 use Rattle.bbm_place_map.specs.States.{state_from}
@@ -54,9 +54,10 @@ AreCovered map index state named found = (heading : Heading) (h : List Event) (p
     → MayBeIssued heading h map index state pe op xt named
     → FoundAs found (cover_at heading Patterns (notes heading h) (Tlbi pe op xt))
 
--- what was found stays covered as said beside it
-abbrev pub StayCovered : PlaceMap → TreeIndex → RootState → NamedTlbi → List Found → List Found → Type 0
-StayCovered map index state named old new = AreCovered map index state named old → AreCovered map index state named new
+-- what was found stays covered as said beside it, and among what is found
+abbrev pub Grows : PlaceMap → TreeIndex → RootState → NamedTlbi → List Found → List Found → Type 0
+Grows map index state named old new = (AreCovered map index state named old → AreCovered map index state named new)
+    × ((a : ℕ) → is_found old a ≡ true → is_found new a ≡ true)
 
 -- What the issue of a TLBI by a PE, which reaches these PEs, leaves of a map: it is noted at each broken place, as far as
 -- it covers it.

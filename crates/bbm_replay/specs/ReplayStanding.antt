@@ -23,7 +23,7 @@ use Rattle.bbm_rules.specs.declared.step_fault.StepFault.{StepFault}
 use Rattle.bbm_rules.specs.declared.step_fault.StepFault.TheVariants.{NoMemory}
 use Rattle.bbm_replay.specs.ReplayTold.{Told}
 use Rattle.bbm_replay.specs.View.{View, core_at}
-use Rattle.bbm_replay.specs.declared.parts.Parts.{Parts}
+use Rattle.bbm_replay.specs.declared.parts.ReplayState.{ReplayState}
 use Rattle.bbm_replay.specs.declared.replay.Replay.{Replay}
 
 -- what a map and an index say
@@ -41,7 +41,7 @@ view_of map index = record {
 }
 
 -- The parts stand for a history that keeps the rules over all patterns of events.
-pub record Stands (parts : Parts) (heading : Heading) (h : List Event) : Type 0 where
+pub record Stands (parts : ReplayState) (heading : Heading) (h : List Event) : Type 0 where
   pub header : parts.header ≡ heading
   pub index_header : heading_of parts.index ≡ heading
   pub sound : IsSound parts.index
@@ -49,18 +49,18 @@ pub record Stands (parts : Parts) (heading : Heading) (h : List Event) : Type 0 
   pub roots : roots.Stands parts.roots heading h
 
 -- they stand for a history of the event's header
-abbrev pub MayMeet : Parts → Event → Type 0
+abbrev pub MayMeet : ReplayState → Event → Type 0
 MayMeet parts e = (heading : Heading) × (h : List Event) × Stands parts heading h × (fits_heading heading e ≡ true)
 
 -- want of memory comes only of an event that may take memory
-abbrev pub IsFrugal : Parts → Event → Result (Unit {0}) StepFault → Type 0
+abbrev pub IsFrugal : ReplayState → Event → Result (Unit {0}) StepFault → Type 0
 IsFrugal parts e (Err NoMemory) = (heading : Heading) (h : List Event) → Stands parts heading h
     → (takes_no_memory e ≡ false) × (rewrites heading h e ≡ false)
 IsFrugal parts e _ = Unit {0}
 
 -- The answer to an event, and what the parts stand for then: for the history with the event after Ok, and else for what
 -- they stood for.
-pub record Meets (old new : Parts) (e : Event) (result : Result (Unit {0}) StepFault) : Type 0 where
+pub record Meets (old new : ReplayState) (e : Event) (result : Result (Unit {0}) StepFault) : Type 0 where
   pub judged : (heading : Heading) (h : List Event) → Stands old heading h
       → Answers result (broken heading Patterns h e) (limit_of h e)
   pub taken : OnOk result ((heading : Heading) (h : List Event) → Stands old heading h → Stands new heading (e ∷ h))
@@ -73,7 +73,7 @@ pub record StandsFor (replay : Replay) (heading : Heading) (h : List Event) : Ty
   pub counted : replay.events ≡ length h
 
 -- what no event changes: the header, also that of the index; and the index stays sound
-pub record SameFrame (old new : Parts) : Type 0 where
+pub record SameFrame (old new : ReplayState) : Type 0 where
   pub header : new.header ≡ old.header
   pub index_header : heading_of new.index ≡ heading_of old.index
   pub sound : IsSound old.index → IsSound new.index
@@ -81,7 +81,7 @@ pub record SameFrame (old new : Parts) : Type 0 where
 -- Of a write in a tree: the rules on locks, on null pages, on break-before-make and on limbo, which come first, are
 -- kept;
 -- or the event breaks one of them, and this is the answer.
-pub record Clears (parts : Parts) (e : Event) (result : Result (Unit {0}) StepFault) : Type 0 where
+pub record Clears (parts : ReplayState) (e : Event) (result : Result (Unit {0}) StepFault) : Type 0 where
   pub passed : OnOk result ((heading : Heading) (h : List Event) → Stands parts heading h
       → (no_lock heading Patterns (notes heading h) e ≡ None)
       × (null_written heading Patterns (notes heading h) e ≡ None)
@@ -90,9 +90,9 @@ pub record Clears (parts : Parts) (e : Event) (result : Result (Unit {0}) StepFa
   pub refused : OnErr result (Meets parts parts e result)
 
 -- the place is one of a tree, at this path
-abbrev pub IsAt : Parts → ℕ → Path → Type 0
+abbrev pub IsAt : ReplayState → ℕ → Path → Type 0
 IsAt parts place path = (n : Node) × (node_in parts.index (page_of place) ≡ Some n) × (path ≡ path_at n place)
 
 -- what a place of a tree holds
-abbrev pub Holds : Parts → ℕ → Path → Option Core → Type 0
+abbrev pub Holds : ReplayState → ℕ → Path → Option Core → Type 0
 Holds parts place path held = held ≡ core_at (view_of parts.map parts.index) path.kind path.level place

@@ -9,7 +9,7 @@ ghost use Rattle.bbm_place_map.specs.Map.{is_tracked, marks_at, pends_at, state_
 ghost use Rattle.bbm_replay.specs.ReplayStanding.{MayMeet, Meets};
 
 use crate::laws::laws;
-use crate::parts::Parts;
+use crate::parts::ReplayState;
 use bbm_barriers::{Dsb, is_non};
 use bbm_events::Header;
 use bbm_place_map::PlaceMap;
@@ -40,7 +40,7 @@ fn publish(map: &mut PlaceMap, silent: bool, pe: Pe, dsb: Dsb, n: u8)
     }
 }
 
-impl Parts {
+impl ReplayState {
     /// A DMB, which changes nothing.
     pub(crate) fn dmb(&mut self, pe: Pe, dsb: Dsb)
         requires { MayMeet self.old (Dmb pe dsb) }

@@ -6,7 +6,6 @@ ghost use Rattle.bbm_descriptor.specs.Descriptor.{core_of};
 ghost use Rattle.bbm_entry_state.specs.Points.{core_in};
 ghost use Rattle.bbm_events.specs.Heading.{Heading};
 ghost use Rattle.bbm_events.specs.declared.event.Event.{Event};
-ghost use Rattle.bbm_place_map.specs.Finds.{is_found};
 ghost use Rattle.bbm_place_map.specs.Map.{marks_at, state_at, value_at};
 ghost use Rattle.bbm_regimes.specs.World as spec;
 ghost use Rattle.bbm_regimes.specs.declared.regime.Kind.{Kind as TheKind};
@@ -20,7 +19,7 @@ ghost use Rattle.bbm_tree_index.specs.Index.{node_in};
 ghost use Rattle.bbm_tree_index.specs.Nodes.{path_at};
 ghost use Rattle.bbm_replay_roots.specs.RootsByNumber.{nth_in};
 ghost use Rattle.bbm_replay_roots.specs.RootStateStands.{Stands};
-ghost use Rattle.bbm_replay.specs.Covering.{AreCovered, StayCovered};
+ghost use Rattle.bbm_replay.specs.Covering.{AreCovered, Grows};
 ghost use Rattle.bbm_replay.specs.OnePage.{IsFoundIn, MetFrom, MetFromAll, NamesOne, covers_kind as spec_covers_kind};
 
 use crate::covering::Covering;
@@ -33,8 +32,11 @@ use bbm_tlbi_scope::{Family, Scope};
 use bbm_tree_index::Path;
 use std::alloc::Global;
 
+/// How many places may be broken for a TLBI of one page to look at each of them. Source: project's own choice.
+const FEW: u64 = 8;
+
 /// The one input page that the scope names by its address, None where it names none or more.
-pub(crate) fn one_page(scope: &Scope) -> Option<u64>
+fn one_page(scope: &Scope) -> Option<u64>
     ensures { IfSome result (λ at. NamesOne scope.now at) }
 {
     match scope.interval {
@@ -47,6 +49,17 @@ pub(crate) fn one_page(scope: &Scope) -> Option<u64>
         }
         None => None,
     }
+}
+
+/// The one input page that the TLBI names by its address, where more places are broken than are looked at one by one.
+pub(crate) fn page_looked_at(by: &Covering, map: &PlaceMap) -> Option<u64>
+    ensures { IfSome result (λ at. NamesOne by.now.named.now.scope at) }
+{
+    let broken = map.restless();
+    if broken <= FEW || broken <= by.roots.count() as u64 {
+        return None;
+    }
+    one_page(&by.named.scope)
 }
 
 /// Whether an operation by address of this family can cover places of a root of this kind.
@@ -65,10 +78,8 @@ fn covers_kind(family: Family, kind: Kind) -> bool
 fn push_found(found: &mut Vec<Found>, item: Found) -> Result<(), NoMemory>
     ensures { OnOk result (found.new.items ≡ found.old.items ++ item ∷ []) }
 {
-    match found.push(item) {
-        Ok(()) => Ok(()),
-        Err(_) => Err(NoMemory),
-    }
+    found.push(item)?;
+    Ok(())
 }
 
 /// Adds the place, which has this path and this state, with its cover, where it is broken.
@@ -85,9 +96,8 @@ fn add_met(
         × (path.now ≡ path_at n place) }
     requires state { state.now
         ≡ state_at map.now (core_of path.now.kind path.now.level (value_at map.now place)) place }
-    ensures covers { OnOk result (StayCovered map.now by.now.index.now by.now.roots.now by.now.named.now
+    ensures grows { OnOk result (Grows map.now by.now.index.now by.now.roots.now by.now.named.now
         found.old.items found.new.items) }
-    ensures kept { OnOk result ((a : ℕ) → is_found found.old.items a ≡ true → is_found found.new.items a ≡ true) }
     ensures added { OnOk result (IsFoundIn map.now found.new.items place) }
 {
     match state {
@@ -131,16 +141,15 @@ fn descend(
     found: &mut Vec<Found>,
 ) -> Result<(), NoMemory>
     requires { IsSound by.now.index.now }
-    ensures covers { OnOk result (StayCovered map.now by.now.index.now by.now.roots.now by.now.named.now
+    ensures grows { OnOk result (Grows map.now by.now.index.now by.now.roots.now by.now.named.now
         found.old.items found.new.items) }
-    ensures kept { OnOk result ((a : ℕ) → is_found found.old.items a ≡ true → is_found found.new.items a ≡ true) }
     ensures met { OnOk result ((way : List ℕ) (a : ℕ) → length way < left
         → IsWay (node_in by.now.index.now) (core_at map.now) at page way a → IsFoundIn map.now found.new.items a) }
 {
     if left == 0 {
         return Ok(());
     }
-    match by.index.meet(page, at) {
+    match by.index.place_translating(page, at) {
         Some(met) => {
             let state = map.state_by(met.0, met.1.kind, met.1.level);
             add_met(by, map, met.0, &met.1, &state, found)?;
@@ -162,9 +171,8 @@ fn descend_at(
     found: &mut Vec<Found>,
 ) -> Result<(), NoMemory>
     requires { IsSound by.now.index.now }
-    ensures covers { OnOk result (StayCovered map.now by.now.index.now by.now.roots.now by.now.named.now
+    ensures grows { OnOk result (Grows map.now by.now.index.now by.now.roots.now by.now.named.now
         found.old.items found.new.items) }
-    ensures kept { OnOk result ((a : ℕ) → is_found found.old.items a ≡ true → is_found found.new.items a ≡ true) }
     ensures met { OnOk result
         (MetFrom (node_in by.now.index.now) (core_at map.now) at addr (IsFoundIn map.now found.new.items)) }
 {
@@ -184,9 +192,8 @@ fn descend_all(
     found: &mut Vec<Found>,
 ) -> Result<(), NoMemory>
     requires { IsSound by.now.index.now }
-    ensures covers { OnOk result (StayCovered map.now by.now.index.now by.now.roots.now by.now.named.now
+    ensures grows { OnOk result (Grows map.now by.now.index.now by.now.roots.now by.now.named.now
         found.old.items found.new.items) }
-    ensures kept { OnOk result ((a : ℕ) → is_found found.old.items a ≡ true → is_found found.new.items a ≡ true) }
     ensures met { OnOk result (MetFromAll (node_in by.now.index.now) (core_at map.now) at first count
         (IsFoundIn map.now found.new.items)) }
 {
@@ -199,7 +206,7 @@ fn descend_all(
 
 /// Adds those that are met on the way down from the pages of the root with this number, if there is one and the
 /// operation can cover places of its kind.
-fn visit(
+fn add_of_root(
     by: &Covering,
     map: &PlaceMap,
     at: u64,
@@ -207,9 +214,8 @@ fn visit(
     found: &mut Vec<Found>,
 ) -> Result<(), NoMemory>
     requires { IsSound by.now.index.now }
-    ensures covers { OnOk result (StayCovered map.now by.now.index.now by.now.roots.now by.now.named.now
+    ensures grows { OnOk result (Grows map.now by.now.index.now by.now.roots.now by.now.named.now
         found.old.items found.new.items) }
-    ensures kept { OnOk result ((a : ℕ) → is_found found.old.items a ≡ true → is_found found.new.items a ≡ true) }
     ensures met { OnOk result ((kind : TheKind) (first : ℕ) → nth_in by.now.roots.now number ≡ Some (kind, first)
         → spec_covers_kind by.now.named.now.scope.family kind ≡ true
         → MetFromAll (node_in by.now.index.now) (core_at map.now) at first
@@ -230,7 +236,7 @@ fn visit(
 
 /// The broken places that are met on the way down to an input page from the pages of each declared root of which the
 /// operation can cover places, each with its cover. `NoMemory` where there is none.
-pub(crate) fn found_on_ways(
+pub(crate) fn broken_on_ways(
     alloc: Global,
     by: &Covering,
     map: &PlaceMap,
@@ -247,7 +253,7 @@ pub(crate) fn found_on_ways(
 {
     let mut found = Vec::new(alloc);
     for number in 0..by.roots.count() {
-        visit(by, map, at, number, &mut found)?;
+        add_of_root(by, map, at, number, &mut found)?;
     }
     Ok(found)
 }

@@ -6,7 +6,7 @@ ghost use Rattle.bbm_place_map.specs.Map.{is_tracked, marks_at, pends_at, value_
 ghost use Rattle.bbm_tree_index.specs.IndexAgreement.{IsSound};
 ghost use Rattle.bbm_replay.specs.Covering.{IsNoted};
 
-use crate::by_page::{found_on_ways, one_page};
+use crate::by_page::{broken_on_ways, page_looked_at};
 use crate::covering::Covering;
 use crate::covers::cover_of;
 use crate::laws::laws;
@@ -17,34 +17,10 @@ use bbm_rules::law_notes_keep_the_events;
 use bbm_tlbi_scope::TlbiOp;
 use std::alloc::Global;
 
-/// How many places may be broken for a TLBI of one page to look at each of them. Source: project's own choice.
-const FEW: u64 = 8;
-
-/// A TLBI of any scope looks at each broken place.
-fn issue_all(
-    alloc: Global,
-    by: &Covering,
-    map: &mut PlaceMap,
-    pe: Pe,
-    op: TlbiOp,
-    reach: PeMask,
-) -> Result<(), NoMemory>
-    requires { IsSound by.now.index.now }
-    ensures noted { OnOk result (IsNoted by.now.header.now by.now.index.now by.now.roots.now by.now.named.now
-        pe op reach map.old map.new) }
-    ensures others { (q a : ℕ) → nat_eq q pe ≡ false → pends_at map.new q a ≡ pends_at map.old q a }
-    ensures kept { OnErr result (IsSame map.old map.new) }
-    ensures values { (a : ℕ) → value_at map.new a ≡ value_at map.old a }
-    ensures marks { (a : ℕ) → marks_at map.new a ≡ marks_at map.old a }
-    ensures pages { (p : ℕ) → is_tracked map.new p ≡ is_tracked map.old p }
-{
-    map.issue(alloc, pe, reach, op.is_broadcast(), |map, place, core| {
-        cover_of(by, map, place, core)
-    })
-}
-
-/// A TLBI of one input page looks at the broken places on the way down to it, any other at each.
-fn issue_page(
+/// The issue of a TLBI, which reaches these PEs: it is noted at each broken place that it covers, as far as it does. Where
+/// many are broken, a TLBI of one input page looks at those on the way down to it, any other at each. `NoMemory` where
+/// there is none, and nothing changes then.
+pub(crate) fn issue(
     alloc: Global,
     by: &Covering,
     map: &mut PlaceMap,
@@ -64,37 +40,14 @@ fn issue_page(
     laws();
     law_notes_keep_the_events();
     law_starts();
-    match one_page(&by.named.scope) {
+    let broadcast = op.is_broadcast();
+    match page_looked_at(by, map) {
         Some(at) => {
-            let found = found_on_ways(alloc, by, map, at)?;
-            map.issue_at(alloc, pe, reach, op.is_broadcast(), &found)
+            let found = broken_on_ways(alloc, by, map, at)?;
+            map.issue_at(alloc, pe, reach, broadcast, &found)
         }
-        None => issue_all(alloc, by, map, pe, op, reach),
-    }
-}
-
-/// The issue of a TLBI, which reaches these PEs: it is noted at each broken place that it covers, as far as it does.
-/// `NoMemory` where there is none, and nothing changes then.
-pub(crate) fn issue(
-    alloc: Global,
-    by: &Covering,
-    map: &mut PlaceMap,
-    pe: Pe,
-    op: TlbiOp,
-    reach: PeMask,
-) -> Result<(), NoMemory>
-    requires { IsSound by.now.index.now }
-    ensures noted { OnOk result (IsNoted by.now.header.now by.now.index.now by.now.roots.now by.now.named.now
-        pe op reach map.old map.new) }
-    ensures others { (q a : ℕ) → nat_eq q pe ≡ false → pends_at map.new q a ≡ pends_at map.old q a }
-    ensures kept { OnErr result (IsSame map.old map.new) }
-    ensures values { (a : ℕ) → value_at map.new a ≡ value_at map.old a }
-    ensures marks { (a : ℕ) → marks_at map.new a ≡ marks_at map.old a }
-    ensures pages { (p : ℕ) → is_tracked map.new p ≡ is_tracked map.old p }
-{
-    if map.restless() > FEW && map.restless() > by.roots.count() as u64 {
-        issue_page(alloc, by, map, pe, op, reach)
-    } else {
-        issue_all(alloc, by, map, pe, op, reach)
+        None => map.issue(alloc, pe, reach, broadcast, |map, place, core| {
+            cover_of(by, map, place, core)
+        }),
     }
 }

@@ -9,7 +9,7 @@ ghost use Rattle.bbm_replay.specs.ReplayStanding.{MayMeet, Meets};
 
 use crate::faults::step_fault;
 use crate::laws::{laws, rules};
-use crate::parts::Parts;
+use crate::parts::ReplayState;
 use bbm_descriptor::Memory;
 use bbm_place_map::PlaceMap;
 use bbm_regimes::{Kind, Page, Pe, Place};
@@ -32,7 +32,7 @@ fn is_zero(map: &PlaceMap, page: Page) -> bool
     true
 }
 
-impl Parts {
+impl ReplayState {
     /// Whether the page is in a tree or a null page.
     fn is_used(&self, page: Page) -> bool
         ensures { result ≡ (is_some (node_in self.now.index page) || null_in self.now.index page) }

@@ -14,7 +14,7 @@ use std::alloc::Global;
 /// The header of a log, the places, the trees, and the roots with registers, tags and locks. Clauses speak of the
 /// history that they stand for. Source: project's own choice.
 #[derive(Drop)]
-pub struct Parts {
+pub struct ReplayState {
     /// The header.
     pub(crate) header: Header,
     /// The values of places, and what is known of broken ones.
@@ -25,24 +25,22 @@ pub struct Parts {
     pub(crate) roots: RootState,
 }
 
-impl Parts {
+impl ReplayState {
     /// What stands for the empty history of the header.
-    pub(crate) fn new(alloc: Global, header: &Header) -> Result<Parts, NoMemory>
+    pub(crate) fn new(alloc: Global, header: &Header) -> Result<ReplayState, NoMemory>
         ensures { IfOk result (λ parts. Stands parts header.now []) }
     {
         header.in_ranges();
-        match TreeIndex::new(alloc, header) {
-            Ok(index) => match RootState::new(alloc, header) {
-                Ok(roots) => Ok(Parts {
-                    header: *header,
-                    map: PlaceMap::new(alloc),
-                    index,
-                    roots,
-                }),
-                Err(_) => Err(NoMemory),
-            },
-            Err(_) => Err(NoMemory),
-        }
+        let Ok(index) = TreeIndex::new(alloc, header) else {
+            return Err(NoMemory);
+        };
+        let roots = RootState::new(alloc, header)?;
+        Ok(ReplayState {
+            header: *header,
+            map: PlaceMap::new(alloc),
+            index,
+            roots,
+        })
     }
 
     /// Judges and takes an event.

@@ -10,14 +10,14 @@ ghost use Rattle.bbm_replay.specs.ReplayStanding.{MayMeet, Meets, Stands};
 ghost use Rattle.bbm_barriers.specs.declared.Dsb.{Dsb as Barrier};
 
 use crate::laws::laws;
-use crate::parts::Parts;
+use crate::parts::ReplayState;
 use bbm_barriers::Dsb;
 use bbm_regimes::{Page, Pe, Reg, base_of};
 use bbm_replay_roots::law_barriers;
 use bbm_rules::StepFault;
 use std::alloc::Global;
 
-impl Parts {
+impl ReplayState {
     /// Whether the base of a register value is a null page.
     fn names_null(&self, value: u64) -> bool
         ensures { (heading : Heading) (h : List Event) → Stands self.now heading h → result ≡ has_null_base h value }

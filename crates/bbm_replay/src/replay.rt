@@ -7,7 +7,7 @@ ghost use Rattle.bbm_place_map.specs.Map as map;
 ghost use Rattle.bbm_rules.specs.Values as values;
 ghost use Rattle.bbm_replay.specs.ReplayStanding.{StandsFor};
 
-use crate::parts::Parts;
+use crate::parts::ReplayState;
 use bbm_descriptor::Memory;
 use bbm_events::{Event, Header};
 use bbm_regimes::{Kind, NoMemory, Page, Pe, Place};
@@ -18,7 +18,7 @@ use std::alloc::Global;
 /// and how many events it took. Source: project's own choice.
 #[derive(Drop)]
 pub struct Replay {
-    parts: Parts,
+    parts: ReplayState,
     events: u64,
 }
 
@@ -27,10 +27,8 @@ impl Replay {
     pub fn new(alloc: Global, header: &Header) -> Result<Replay, NoMemory>
         ensures { IfOk result (λ replay. StandsFor replay header.now []) }
     {
-        match Parts::new(alloc, header) {
-            Ok(parts) => Ok(Replay { parts, events: 0 }),
-            Err(_) => Err(NoMemory),
-        }
+        let parts = ReplayState::new(alloc, header)?;
+        Ok(Replay { parts, events: 0 })
     }
 }
 

@@ -12,7 +12,7 @@ ghost use Rattle.bbm_replay.specs.View.{state_of};
 ghost use Rattle.bbm_entry_state.specs.declared.state.EntryState.{EntryState as TheState};
 
 use crate::laws::laws;
-use crate::parts::Parts;
+use crate::parts::ReplayState;
 use bbm_entry_state::{EntryState, Marks};
 use bbm_regimes::{Pe, Place};
 use bbm_replay_entries::law_entry_phase;
@@ -46,7 +46,7 @@ fn phase_of_state(state: &EntryState, pe: Pe) -> Phase
     }
 }
 
-impl Parts {
+impl ReplayState {
     /// The state of a place of a tree.
     pub(crate) fn state_at(&self, place: Place, path: &Path) -> EntryState
         requires { path.now.level ≤ 3 }

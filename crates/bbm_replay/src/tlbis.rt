@@ -10,7 +10,7 @@ ghost use Rattle.bbm_replay.specs.ReplayStanding.{MayMeet, Meets};
 use crate::covering::Covering;
 use crate::issues::issue;
 use crate::laws::{laws, rules};
-use crate::parts::Parts;
+use crate::parts::ReplayState;
 use bbm_events::Header;
 use bbm_regimes::{Pe, PeMask};
 use bbm_rules::StepFault;
@@ -31,7 +31,7 @@ fn reach_of(header: &Header, pe: Pe, op: TlbiOp) -> PeMask
     }
 }
 
-impl Parts {
+impl ReplayState {
     /// A TLBI.
     pub(crate) fn tlbi(
         &mut self,

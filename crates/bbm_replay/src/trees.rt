@@ -9,7 +9,7 @@ ghost use Rattle.bbm_replay.specs.ReplayStanding.{MayMeet, Meets};
 
 use crate::faults::step_fault;
 use crate::laws::{laws, rules};
-use crate::parts::Parts;
+use crate::parts::ReplayState;
 use bbm_regimes::{Kind, Page, Pe};
 use bbm_rules::{Rule, StepFault};
 use bbm_tree_index::{Attach, Detach, TreeIndex};
@@ -41,7 +41,7 @@ fn first_unfresh(index: &TreeIndex, page: Page, count: u8) -> Option<u64>
     None
 }
 
-impl Parts {
+impl ReplayState {
     /// A root is declared.
     pub(crate) fn root(
         &mut self,
@@ -75,7 +75,7 @@ impl Parts {
             Err(fault) => return Err(fault),
         }
         self.map.law_idle();
-        self.index.hang(&prepared);
+        self.index.attach_prepared(&prepared);
         match self.roots.declare(alloc, kind, page, lock) {
             Ok(()) => Ok(()),
             Err(_) => Err(StepFault::NoMemory),

@@ -23,7 +23,7 @@ ghost use Rattle.bbm_replay.specs.ReplayStanding.{MayMeet, Meets};
 
 use crate::faults::step_fault;
 use crate::laws::{laws, rules};
-use crate::parts::Parts;
+use crate::parts::ReplayState;
 use bbm_descriptor::{Core, Memory, core};
 use bbm_entry_state::EntryState;
 use bbm_place_map::{PlaceMap, Seat};
@@ -120,7 +120,7 @@ struct TreeWrite<'a> {
     path: &'a Path,
 }
 
-impl Parts {
+impl ReplayState {
     /// A write at a place of no tree.
     fn write_outside(&mut self, pe: Pe, place: Place, value: u64) -> Result<(), StepFault>
         requires may { MayMeet self.old (Write pe place value) }
@@ -160,7 +160,7 @@ impl Parts {
     }
 
     /// The rules that come first of a write in a tree.
-    fn judge_entry(
+    fn judge_tree_write(
         &self,
         write: &TreeWrite,
         old: &Option<Core>,
@@ -291,7 +291,7 @@ impl Parts {
             value,
             path,
         };
-        match self.judge_entry(&write, &old, &new) {
+        match self.judge_tree_write(&write, &old, &new) {
             Ok(()) => match attached_next(&old, &new) {
                 Some(next) => self.write_attaching(alloc, &write, &live, &new, next),
                 None => self.write_plain(&write, &live, &new),

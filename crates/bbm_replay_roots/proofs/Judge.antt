@@ -143,9 +143,6 @@ others state heading h (Write pe place value) s none kept = stood state (Write p
 others state heading h (Dmb pe dsb) s none kept = stood state (Dmb pe dsb) s kept refl refl refl s.roots s.locks
 others state heading h e s none kept = absurd (true≢false none)
 
-pub state_header : {state : RootState} {heading : Heading} {h : List Event} → Stands state heading h → state.header ≡ heading
-state_header s = s.heading_is
-
 -- ---- locks
 
 lock_is : (heading : Heading) (h : List Event) (pe lock : ℕ) → Laws heading → (o : Option ℕ) → holder_of h lock ≡ o
@@ -248,15 +245,6 @@ pub named_by : (heading : Heading) (h : List Event) (pe : ℕ) (op : TlbiOp) (xt
     → scope_of op xt ≡ Ok scope → named_scope heading h pe op xt ≡ Some scope
 named_by heading h pe op xt scope lacks decoded =
     ap (λ (b : Bool). cond b None (result_ok (scope_of op xt))) lacks ∙ ap (λ (r : Result Scope BadOperandOf). result_ok r) decoded
-
--- the calls after a TLBI that names this
-pub tlbi_calls : (heading : Heading) (h : List Event) (pe : ℕ) (op : TlbiOp) (xt : ℕ) (named : NamedTlbi) (b : Bool)
-    → IsNamed heading h pe op xt named → (named.scope.broadcast || not heading.cnp) ≡ b
-    → calls_of heading (Tlbi pe op xt ∷ h) ≡ with_call (cond b (Some (Issue pe named.scope named.vmid)) None) (calls_of heading h)
-tlbi_calls heading h pe op xt named b is reaches =
-    ap (λ (o : Option Scope). with_call (issue_of heading pe (vmid_of heading h pe) o) (calls_of heading h)) is.0
-    ∙ (ap (λ (v : Option ℕ). with_call (issue_of heading pe v (Some named.scope)) (calls_of heading h)) (sym is.1)
-    ∙ ap (λ (c : Bool). with_call (cond c (Some (Issue pe named.scope named.vmid)) None) (calls_of heading h)) reaches)
 
 -- ---- limits
 

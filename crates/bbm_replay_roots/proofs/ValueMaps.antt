@@ -178,9 +178,6 @@ values_next heading h e none stay before p reg less = before p reg less
 abbrev pub as_reading : tags.Reading → Reading
 as_reading r = record { tag = r.tag; root = r.root }
 
-abbrev reading_by : Tag → Option ℕ → Option tags.Reading
-reading_by tag root = option_and_then (λ page. Some (record { tag = tag; root = page })) root
-
 one_reading : (tag : Tag) (h : List Event) (kind : Kind) (base : Option ℕ) (rest : List tags.Reading)
     → reading_at tag (root_in h kind base) ++ map as_reading rest
     ≡ map as_reading (cons_option (option_and_then (λ b. if_so (is_root h kind b) (record { tag = tag; root = b })) base) rest)

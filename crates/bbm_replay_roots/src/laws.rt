@@ -11,14 +11,14 @@ ghost use Rattle.bbm_rules.specs.Limits.{limit_of};
 ghost use Rattle.bbm_replay_roots.specs.RootStateStands.{Stands, concerns_roots};
 ghost use Rattle.bbm_replay_roots.specs.declared.state.RootState.{RootState as TheState};
 
-use crate::bridge::bridge;
+use crate::laws_below::laws_below;
 
 /// What stands for a history stands for it with an `init`, a `null`, a write or a DMB more that breaks no rule.
 pub fn law_others()
     ensures { (state : TheState) (heading : Heading) (h : List Event) (e : Event) → Stands state heading h
         → concerns_roots e ≡ false → broken heading Patterns h e ≡ None → Stands state heading (e ∷ h) }
 {
-    bridge();
+    laws_below();
 }
 
 /// A DSB, a DMB and an ISB break no rule and reach no limit.

@@ -4,8 +4,8 @@
 //! each event that breaks no rule.
 #![tactic(auto)]
 
-mod bridge;
 pub mod laws;
+mod laws_below;
 pub mod named;
 pub mod state;
 

@@ -3,7 +3,7 @@
 ghost use Rattle.std.specs.Prelude.{◌≡◌};
 ghost use Rattle.bbm_replay_roots.specs.RootFaults as faults;
 
-use crate::bridge::bridge;
+use crate::laws_below::laws_below;
 use crate::named::NamedTlbi;
 use bbm_barriers::Dsb;
 use bbm_events::{Event, Header};
@@ -106,7 +106,7 @@ impl RootState {
         ensures { (heading : Heading) (h : List TheEvent) → Stands self.now heading h → result
             ≡ spec.is_root h kind page }
     {
-        bridge();
+        laws_below();
         self.roots.is_root(kind, page)
     }
 
@@ -115,7 +115,7 @@ impl RootState {
         ensures { (heading : Heading) (h : List TheEvent) → Stands self.now heading h
             → result ≡ is_some (spec.root_at h page) }
     {
-        bridge();
+        laws_below();
         self.roots.is_declared(page)
     }
 
@@ -124,7 +124,7 @@ impl RootState {
     pub fn lock_of(&self, page: Page) -> Option<u16>
         ensures { (heading : Heading) (h : List TheEvent) → Stands self.now heading h → result ≡ spec.lock_of h page }
     {
-        bridge();
+        laws_below();
         self.roots.lock_of(page)
     }
 
@@ -164,7 +164,7 @@ impl RootState {
         ensures { (heading : Heading) (h : List TheEvent) → Stands self.now heading h
             → result ≡ tags.tag_set (tags.tags_of heading Patterns page h) }
     {
-        bridge();
+        laws_below();
         self.roots.tags_of(page)
     }
 
@@ -195,7 +195,7 @@ impl RootState {
         ensures { (heading : Heading) (h : List TheEvent) → Stands self.now heading h
             → Judges result (broken heading Patterns h (TheEvent.Unroot pe page)) }
     {
-        bridge();
+        laws_below();
         if let Some(at) = self.without_lock(pe, page, page.get()) {
             return Err(StepFault::Broken(Rule::NoLock, at));
         }
@@ -212,7 +212,7 @@ impl RootState {
         ensures { (heading : Heading) (h : List TheEvent) → Stands self.now heading h
             → result ≡ registers.vmid_of heading h pe }
     {
-        bridge();
+        laws_below();
         match self.roots.vmid_of(pe) {
             Ok(vmid) => Some(vmid),
             Err(_) => None,
@@ -226,7 +226,7 @@ impl RootState {
         ensures { (heading : Heading) (h : List TheEvent) → Stands self.now heading h
             → JudgesTlbi heading h pe op xt result }
     {
-        bridge();
+        laws_below();
         if !op.of_world(self.header.world) {
             return Err(StepFault::Broken(Rule::WrongWorld, 0));
         }
@@ -277,7 +277,7 @@ impl RootState {
         ensures same { OnErr result ((heading : Heading) (h : List TheEvent) → Stands self.old heading h
             → Stands self.new heading h) }
     {
-        bridge();
+        laws_below();
         match self.roots.declare(alloc, kind, page, lock) {
             Ok(()) => Ok(()),
             Err(_) => Err(NoMemory),
@@ -292,7 +292,7 @@ impl RootState {
             → Stands self.new heading (TheEvent.Unroot pe page ∷ h) }
         ensures room { HasRoom self.old → HasRoom self.new }
     {
-        bridge();
+        laws_below();
         match self.roots.retire(page) {
             Ok(()) => (),
             Err(_) => (),
@@ -322,7 +322,7 @@ impl RootState {
             → Stands self.new heading h) }
         ensures room { HasRoom self.old → HasRoom self.new }
     {
-        bridge();
+        laws_below();
         if let Some(at) = wrong_world(&self.header, &Event::Msr { pe, reg, value }) {
             return Err(StepFault::Broken(Rule::WrongWorld, at));
         }
@@ -339,7 +339,7 @@ impl RootState {
             → Stands self.new heading (TheEvent.Isb pe ∷ h) }
         ensures room { HasRoom self.old → HasRoom self.new }
     {
-        bridge();
+        laws_below();
         self.roots.isb(pe);
     }
 
@@ -386,7 +386,7 @@ impl RootState {
             → Stands self.new heading (TheEvent.Dsb pe dsb ∷ h) }
         ensures room { HasRoom self.old → HasRoom self.new }
     {
-        bridge();
+        laws_below();
         self.roots.complete(pe, dsb);
     }
 
@@ -403,7 +403,7 @@ impl RootState {
             → Stands self.new heading h) }
         ensures room { HasRoom self.old → HasRoom self.new }
     {
-        bridge();
+        laws_below();
         match self.locks.take(pe, lock) {
             Ok(()) => Ok(()),
             Err(busy) => Err(StepFault::Broken(Rule::LockBusy, busy.0.get() as u64)),
@@ -423,7 +423,7 @@ impl RootState {
             → Stands self.new heading h) }
         ensures room { HasRoom self.old → HasRoom self.new }
     {
-        bridge();
+        laws_below();
         match self.locks.give(pe, lock) {
             Ok(()) => Ok(()),
             Err(_) => Err(StepFault::Broken(Rule::LockNotMine, lock as u64)),

@@ -42,9 +42,6 @@ later_some : (n : Noted) (o : Option ValidWrite) (w : ValidWrite) → later n o 
 later_some n None w e = let none : None ≡ Some w = e in cc
 later_some n (Some x) w e = refl
 
-abbrev HasWrite : ℕ → List Noted → Option ValidWrite → Type 0
-HasWrite place ns o = is_some o ≡ true → In (written_places (events_of ns)) place
-
 written_after : (kind : Kind) (level place : ℕ) (e : Event) (n : Noted) (es : List Event) (o : Option ValidWrite) (w : ValidWrite)
     → (is_some o ≡ true → In (written_places es) place) → last_valid_after kind level place e n o ≡ Some w
     → In (written_places (e ∷ es)) place

@@ -69,9 +69,6 @@ module _ (index : TreeIndex) (at : Attach) (may : MayJudge index at) where
     low_below = let m = subst (MayJudge index) is may in
         subst (λ x. x.level < 3) (same_Some m.0 n (sym m.1 ∙ node)) m.2
 
-  pub no_below : (place next : ℕ) → at ≡ Below place next → node_in index (page_of place) ≡ None → ⊥
-  no_below place next is none = let m = subst (MayJudge index) is may in none-some m.0 (sym none ∙ m.1)
-
 pub apart_of : (index : TreeIndex) (at : Attach) → MayJudge index at → (s s' : Node) → Contains (starts_of index at) s
     → Contains (starts_of index at) s' → s.page ≡ s'.page → s ≡ s'
 apart_of index (Root kind first) may s s' c c' e =

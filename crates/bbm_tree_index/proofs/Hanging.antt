@@ -27,12 +27,6 @@ at_end None old = refl
 at_end (Some mark) old = refl
 
 module _ {S : Type 0} (tables : List (IndexMap ℕ Mark S)) (page : ℕ) (old : Option Role) where
-  pub none_yet : Hung tables 0 page old old
-  none_yet = inr ((λ level table below at. absurd (none level below)), refl)
-    where
-      none : (n : ℕ) → n < 0 → ⊥
-      none n l = omega (arith, l)
-
   module _ (index : ℕ) (table : IndexMap ℕ Mark S) (at : slice_get tables index ≡ Some table) (now new : Option Role)
       (put : new ≡ hung (get nat_eq table page) now) where
     passed : Passed tables index page → get nat_eq table page ≡ None → Passed tables (index + 1) page

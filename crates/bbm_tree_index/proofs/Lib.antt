@@ -14,6 +14,7 @@ pub mod Levels
 pub mod Starts
 pub mod Begun
 pub mod Leasts
+pub mod Blank
 pub mod Wrongs
 pub mod Ways
 pub mod Judging

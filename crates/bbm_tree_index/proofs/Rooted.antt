@@ -19,9 +19,6 @@ part_of first i = omega arith
 page_same : (first i j : ℕ) → first + 4096 * i ≡ first + 4096 * j → i ≡ j
 page_same first i j e = omega (arith, e)
 
-mark_of : Kind → ℕ → ℕ → Mark
-mark_of kind first i = record { role = RootPage kind first i; many = false }
-
 module _ (kind : Kind) (first : ℕ) where
   pub marks_some : (n q : ℕ) (mark : Mark) → root_marks kind first n q ≡ Some mark
       → (i : ℕ) × (i < n) × (q ≡ first + 4096 * i) × (mark ≡ record { role = RootPage kind first i; many = false })

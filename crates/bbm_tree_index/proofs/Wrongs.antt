@@ -1,12 +1,16 @@
 -- What is wrong with a page, by the tables.
 use Rattle.std.proofs.Common.{◌≡◌, ℕ, ◌<◌, ◌≤◌, ◌+◌, ◌*◌, ◌/◌, ◌%◌, ◌==◌, Bool, true, false, List, Option, Some}
-use Rattle.std.proofs.Common.{is_some, nat_eq, get_or, slice_get, length, refl, sym, ap, ◌∙◌, subst, true≢false, arith}
+use Rattle.std.proofs.Common.{inl, inr, is_some, nat_eq, get_or, slice_get, length, refl, sym, ap, ◌∙◌, subst}
+use Rattle.std.proofs.Common.{true≢false, arith}
 use Rattle.std.proofs.lemmas.List.{length-map}
-use Rattle.std.proofs.lemmas.Bool.{eqb-true, eq-eqb}
+use Rattle.std.proofs.lemmas.Bool.{cases_lt, eqb-true, eq-eqb}
 use Rattle.std.proofs.lemmas.Option.{same_Some, slice_get-get_or, slice_get_within}
 use Rattle.indexmap.specs.IndexMap.{IndexMap, get, index_map_len, keys}
+use Rattle.bbm_descriptor.specs.Descriptor.{desc_of}
 use Rattle.bbm_descriptor.specs.declared.desc.Desc.{Desc}
 use Rattle.bbm_regimes.specs.declared.regime.Kind.{Kind}
+use Rattle.bbm_tree_index.specs.Attaching.{IsLeast, Never}
+use Rattle.bbm_tree_index.specs.HeldCores.{is_at}
 use Rattle.bbm_tree_index.specs.LeastPages.{Before, LeafIn, LeafOf, LeafPlace, LeastOf, WrongIn, WrongPage}
 use Rattle.bbm_tree_index.specs.declared.mark.Mark.{Mark}
 use Rattle.bbm_tree_index.proofs.Growing.{all_keys, any_at}
@@ -17,26 +21,6 @@ use Rattle.bbm_tree_index.proofs.Places.{place_is}
 abbrev pub Clear : {S : Type 0} → List (IndexMap ℕ Mark S) → ℕ → ℕ → ℕ → Type 0
 Clear {S} tables level page n = (j : ℕ) (table : IndexMap ℕ Mark S) → j < n → (j ≡ level → ⊥) → slice_get tables j ≡ Some table
     → is_some (get nat_eq table page) ≡ false
-
-pub clear_none : {S : Type 0} (tables : List (IndexMap ℕ Mark S)) (level page : ℕ) → Clear tables level page 0
-clear_none tables level page = λ j table below. absurd (none j below)
-  where
-    none : (i : ℕ) → i < 0 → ⊥
-    none i l = omega (arith, l)
-
-pub clear_more : {S : Type 0} (tables : List (IndexMap ℕ Mark S)) (level page n : ℕ) → Clear tables level page n
-    → ((table : IndexMap ℕ Mark S) → (n ≡ level → ⊥) → slice_get tables n ≡ Some table → is_some (get nat_eq table page) ≡ false)
-    → Clear tables level page (n + 1)
-clear_more {S} tables level page n c new = λ j table below apart at. by j table below apart at (j == n) refl
-  where
-    before : (i : ℕ) → i < n + 1 → (i ≡ n → ⊥) → i < n
-    before i l e = omega (arith, l, e)
-
-    by : (j : ℕ) (table : IndexMap ℕ Mark S) → j < n + 1 → (j ≡ level → ⊥) → slice_get tables j ≡ Some table
-        → (t : Bool) → (j == n) ≡ t → is_some (get nat_eq table page) ≡ false
-    by j table below apart at true t = let e = eqb-true j n t in
-        new table (λ f. apart (e ∙ f)) (ap (slice_get tables) (sym e) ∙ at)
-    by j table below apart at false t = c j table (before j below (λ e. true≢false (sym (eq-eqb j n e) ∙ t))) apart at
 
 -- a page of a table stands at an index
 pub key_at : {V S : Type 0} (table : IndexMap ℕ V S) (p : ℕ) → is_some (get nat_eq table p) ≡ true
@@ -81,17 +65,47 @@ module _ {S : Type 0} (tables : List (IndexMap ℕ Mark S)) (fresh : ℕ → Boo
       under l = omega (arith, l, end)
 
 module _ (value : ℕ → ℕ) (test : Kind → Desc → Bool) (kind : Kind) where
-  abbrev pub LeafNumber : ℕ → ℕ → ℕ → ℕ → Type 0
-  LeafNumber level page j a = (a ≡ page + 8 * j) × LeafOf value test kind level page a
+  module _ (level page : ℕ) where
+    -- whether the place with this number passes
+    abbrev pub passes_at : ℕ → Bool
+    passes_at j = test kind (desc_of kind level (value (page + 8 * j)))
 
-  pub all_numbers : (level page n : ℕ) (o : Option ℕ) → 512 ≤ n → LeastOf (Before (LeafNumber level page) n) o
-      → LeastOf (LeafOf value test kind level page) o
-  all_numbers level page n o end = least_same (Before (LeafNumber level page) n) (LeafOf value test kind level page) o
-      (λ a b. b.that.1)
-      (λ a l. record { index = a % 4096 / 8; below = number a; that = (place_is page a l.inside, l) })
-    where
-      number : (a : ℕ) → a % 4096 / 8 < n
-      number a = omega (arith, end)
+    pub no_more : (n : ℕ) → ((j : ℕ) → j < n → passes_at j ≡ false) → passes_at n ≡ false → (j : ℕ) → j < n + 1
+        → passes_at j ≡ false
+    no_more n before now j below =
+        elim (cases_lt j n) [
+          | inl less ↦ before j less
+          | inr more ↦ subst (λ i. passes_at i ≡ false) (same more) now
+        ]
+      where
+        same : n ≤ j → n ≡ j
+        same more = omega (arith, below, more)
+
+    module _ (n : ℕ) (before : (j : ℕ) → j < n → passes_at j ≡ false) where
+      leaf_behind : (a : ℕ) → LeafOf value test kind level page a → a % 4096 / 8 < n → ⊥
+      leaf_behind a l less = true≢false (sym l.passes
+          ∙ ap (λ x. test kind (desc_of kind level (value x))) (place_is page a l.inside) ∙ before (a % 4096 / 8) less)
+
+      -- the first place that passes is the least
+      pub first_leaf : (place : ℕ) → place ≡ page + 8 * n → is_at page place ≡ true
+          → test kind (desc_of kind level (value place)) ≡ true → IsLeast (LeafOf value test kind level page) place
+      first_leaf place at inside passes = record {
+        that = record { inside = inside; passes = passes };
+        least = λ a l.
+            elim (cases_lt (a % 4096 / 8) n) [
+              | inl less ↦ absurd (leaf_behind a l less)
+              | inr more ↦ under a (a % 4096 / 8) (place_is page a l.inside) more
+            ];
+      }
+        where
+          under : (a i : ℕ) → a ≡ page + 8 * i → n ≤ i → place ≤ a
+          under a i is more = omega (arith, at, is, more)
+
+      pub no_leaves : 512 ≤ n → Never (LeafOf value test kind level page)
+      no_leaves end a l = leaf_behind a l (number a)
+        where
+          number : (a : ℕ) → a % 4096 / 8 < n
+          number a = omega (arith, end)
 
   module _ {S : Type 0} where
     abbrev pub LeafKey : ℕ → IndexMap ℕ Mark S → ℕ → ℕ → Type 0

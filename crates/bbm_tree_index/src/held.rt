@@ -58,6 +58,9 @@ pub fn holds_none(map: &PlaceMap, kind: Kind, level: u8, page: Page) -> bool
     requires { level ≤ 3 }
     ensures { (result ≡ true) ↔ ((a : ℕ) → is_at page a ≡ true → holds_at map.now kind level a ≡ false) }
 {
+    if map.is_blank(page) {
+        return true;
+    }
     for index in 0..PLACES {
         if core_at(map, kind, level, place_of(page, index)).is_some() {
             return false;

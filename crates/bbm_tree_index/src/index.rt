@@ -1,9 +1,9 @@
 //! The index of the trees.
 //! Source: project's own choice, where no other is named.
 
+use crate::attach_prepared::attach_all;
 use crate::climb::{Asked, is_cut};
 use crate::fault::TreeFault;
-use crate::hang::hang_all;
 use crate::judge::{is_named, judge_tables};
 use crate::leaving::{Leaving, sweep};
 use crate::mark::Mark;
@@ -148,7 +148,7 @@ impl TreeIndex {
     /// The place of a page that translates the input page, with what is known of it: where one goes on the way down
     /// from the page along the input page. None where the page is in no tree, or no place of it translates the input
     /// page.
-    pub fn meet(&self, page: Page, at: u64) -> Option<(Place, Path)>
+    pub fn place_translating(&self, page: Page, at: u64) -> Option<(Place, Path)>
         requires { IsSound self.now }
         ensures inside { IfSome result (λ met. is_at page met.0 ≡ true) }
         ensures path { IfSome result (λ met. (n : Node) × (node_in self.now page ≡ Some n)
@@ -399,7 +399,7 @@ impl TreeIndex {
     /// page; else `BadKind` with the least place exactly where an attached page has a leaf with the Contiguous hint;
     /// else `GlobalUser` with the least place exactly where, in a tree of the lower range, it has a leaf for every
     /// ASID. Or `NoMemory` where there is none. It takes time by the number of pages, not of paths. After Ok, what
-    /// `hang` attaches.
+    /// `attach_prepared` attaches.
     pub fn prepare(&self, alloc: Global, map: &PlaceMap, at: Attach) -> Result<Prepared, TreeFault>
         requires sound { IsSound self.now }
         requires may { MayJudge self.now at }
@@ -415,7 +415,7 @@ impl TreeIndex {
 
     /// Attaches pages that can be, as `prepare` found them in this index: those named, and all that paths through fresh
     /// pages reach from them. Named pages of a root are fresh.
-    pub fn hang(&mut self, prepared: &Prepared)
+    pub fn attach_prepared(&mut self, prepared: &Prepared)
         requires sound { IsSound self.old }
         requires prepared { (map : TheMap) × (at : TheAttach) × IsPrepared prepared.now self.old map at
             × AreNamedFresh self.old at }
@@ -428,7 +428,7 @@ impl TreeIndex {
         ensures tracked { SameTracked self.old self.new }
         ensures sound { IsSound self.new }
     {
-        hang_all(&mut self.roles, &prepared.tables);
+        attach_all(&mut self.roles, &prepared.tables);
     }
 
     /// Attaches pages that can be: those named, and all that paths through fresh pages reach from them. It answers as
@@ -449,7 +449,7 @@ impl TreeIndex {
     {
         match self.prepare(alloc, map, at) {
             Ok(prepared) => {
-                self.hang(&prepared);
+                self.attach_prepared(&prepared);
                 Ok(())
             }
             Err(fault) => Err(fault),

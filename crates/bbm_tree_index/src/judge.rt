@@ -1,6 +1,6 @@
 //! Which page or place keeps pages from being attached.
 
-ghost use Rattle.std.specs.Prelude.{◌≡◌, ◌≤◌, ◌<◌, ◌+◌, ◌*◌, ◌↔◌, ℕ, List, true, Some, length, nat_eq, slice_get};
+ghost use Rattle.std.specs.Prelude.{◌≡◌, ◌≤◌, ◌<◌, ◌+◌, ◌↔◌, ℕ, List, true, Some, length, nat_eq, slice_get};
 ghost use Rattle.indexmap.specs.IndexMap.{get, index_map_len, keys};
 ghost use Rattle.bbm_descriptor.specs.Descriptor.{desc_of};
 ghost use Rattle.bbm_place_map.specs.Map.{value_at};
@@ -18,7 +18,7 @@ use crate::mark::Mark;
 use crate::role::{Attach, Role};
 use crate::survey::entry_at;
 use crate::table::is_fresh;
-use bbm_descriptor::{Desc, Memory, read};
+use bbm_descriptor::{Desc, read};
 use bbm_place_map::PlaceMap;
 use bbm_regimes::{Kind, Page, Place};
 use indexmap::IndexMap;
@@ -185,39 +185,21 @@ fn lesser_place(place: Option<Place>, other: Option<Place>) -> Option<Place>
     }
 }
 
-/// The place of a page with this number, where it has a leaf that is asked for.
-fn leaf_at(
-    map: &PlaceMap,
-    leaf: &Leaf,
-    kind: Kind,
-    level: u8,
-    page: Page,
-    index: u64,
-) -> Option<Place>
-    requires low { level ≤ 3 }
-    requires within { index < 512 }
-    ensures { LeastOf (λ a. (a ≡ page + 8 * index)
-        × LeafOf (value_at map.now) (asks leaf.now) kind level page a) result }
-{
-    let place = place_of(page, index);
-    if is_leaf(leaf, kind, level, map.value(place)) {
-        Some(place)
-    } else {
-        None
-    }
-}
-
 /// The least place of a page with a leaf that is asked for.
 fn leaf_of(map: &PlaceMap, leaf: &Leaf, kind: Kind, level: u8, page: Page) -> Option<Place>
     requires { level ≤ 3 }
     ensures { LeastOf (LeafOf (value_at map.now) (asks leaf.now) kind level page) result }
 {
-    let mut least = None;
-    for index in 0..512 {
-        let found = leaf_at(map, leaf, kind, level, page, index);
-        least = lesser_place(least, found);
+    if map.is_blank(page) {
+        return None;
     }
-    least
+    let seat = map.first_seat(page);
+    for index in 0..512 {
+        if is_leaf(leaf, kind, level, map.value_from(&seat, index)) {
+            return Some(place_of(page, index));
+        }
+    }
+    None
 }
 
 /// The least place of the pages of a table with a leaf that is asked for.

@@ -6,7 +6,7 @@
 //! - Keep one `TreeIndex`, at first `TreeIndex::new` of the header, and one `PlaceMap`.
 //! - Call `track` at each page that is initialised, `nullify` at each that is declared null, `prune` after a DSB by
 //!   which a table's place came to hold nothing, and `detach` where a root goes.
-//! - `prepare` tells whether pages can be attached, and which page or place is in the way; `hang` attaches them.
+//! - `prepare` tells whether pages can be attached, and which page or place is in the way; `attach_prepared` attaches them.
 //!   `attach` does both.
 //! - `role`, `is_fresh`, `is_null`, `is_in_tree`, `pages`, `path`, `in_limbo` and `childless` tell what the calls come
 //!   to.
@@ -15,10 +15,10 @@
 //! calls, with its proof.
 #![tactic(auto)]
 
+mod attach_prepared;
 mod climb;
 pub mod example;
 mod fault;
-mod hang;
 mod held;
 mod index;
 mod judge;

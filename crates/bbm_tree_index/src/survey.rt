@@ -19,7 +19,7 @@ use crate::mark::{Mark, add};
 use crate::role::Role;
 use crate::spot::{Spot, spot_of};
 use crate::table::is_fresh;
-use bbm_descriptor::{Desc, Memory, read};
+use bbm_descriptor::{Desc, read};
 use bbm_events::Header;
 use bbm_place_map::PlaceMap;
 use bbm_regimes::{Kind, NoMemory, Page, Place};
@@ -39,26 +39,26 @@ fn next_page(kind: Kind, level: u8, value: u64) -> Option<Page>
     }
 }
 
-/// Notes the path that goes on through the place of a page that stands there.
+/// Notes the path that goes on through the place, which has this value, of a page that stands there.
 fn expand_place(
-    map: &PlaceMap,
     spot: &Spot,
     many: bool,
     place: Place,
+    value: u64,
     below: &mut IndexMap<u64, Mark>,
 ) -> Result<(), NoMemory>
     requires { Fits spot.now }
     ensures well { OnOk result ((heading : Heading) → Well heading (get nat_eq below.old)
         → Well heading (get nat_eq below.new)) }
     ensures grown { OnOk result ((q : ℕ) → get nat_eq below.new q
-        ≡ grown (next_of spot.now.kind spot.now.level (value_at map.now place))
+        ≡ grown (next_of spot.now.kind spot.now.level value)
         (record {
           role = Role.Hangs place spot.now.kind (suc spot.now.level)
               (spot.now.base + index_of place * input_pages spot.now.level) spot.now.first;
           many = many;
         }) (get nat_eq below.old) q) }
 {
-    match next_page(spot.kind, spot.level, map.value(place)) {
+    match next_page(spot.kind, spot.level, value) {
         Some(next) => {
             let role = Role::Hangs {
                 parent: place,
@@ -92,8 +92,13 @@ fn expand_page(
         (q : ℕ) → Counts (Partly fresh (value_at map.now) starts k (λ a. done a
         || page_of a == page)) q (get nat_eq below.new q)) }
 {
+    if map.is_blank(page) {
+        return Ok(());
+    }
+    let seat = map.first_seat(page);
     for index in 0..512 {
-        expand_place(map, spot, many, place_of(page, index), below)?;
+        let value = map.value_from(&seat, index);
+        expand_place(spot, many, place_of(page, index), value, below)?;
     }
     Ok(())
 }

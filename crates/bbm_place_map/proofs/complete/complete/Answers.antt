@@ -7,7 +7,7 @@ use Rattle.bbm_place_map.proofs.complete.complete.Goals as goal
 pub complete_by-requires-clause-known : goal.complete_by-requires-clause-known
 complete_by-requires-clause-known c = λ j.
     elim (c.requires.known j) [
-      | inl holds ↦ inl (read_for c.args.lists.now.items c.get-q.result c.args.issuer c.index_mut.result.now (omega arith) c.get-q.ensures.value c.index_mut.ensures.value j holds)
+      | inl holds ↦ inl (read_for c.args.lists.now.items c.get-q.result c.args.barrier.now.issuer c.index_mut.result.now (omega arith) c.get-q.ensures.value c.index_mut.ensures.value j holds)
       | inr idle ↦ inr idle
     ]
 
@@ -28,5 +28,5 @@ returns-then-q-len-clause-kept_lists c = λ q j other.
 pub returns-else-q-len-clause-known : goal.returns-else-q-len-clause-known
 returns-else-q-len-clause-known c = λ j. inl (λ list is.
     let value = c.get-q.ensures.value in
-    let past : length c.args.lists.now.items ≤ c.args.issuer = omega arith in
-    absurd (none-some list (sym (slice_get_past c.args.lists.now.items c.args.issuer past) ∙ is)))
+    let past : length c.args.lists.now.items ≤ c.args.barrier.now.issuer = omega arith in
+    absurd (none-some list (sym (slice_get_past c.args.lists.now.items c.args.barrier.now.issuer past) ∙ is)))

@@ -6,5 +6,5 @@ use Rattle.bbm_place_map.proofs.complete.complete_by.Goals as goal
 
 pub returns-else-settled-clause-known : goal.returns-else-settled-clause-known
 returns-else-settled-clause-known c =
-    idle_by_cell c.complete_all-lost.new.cells.items c.complete_all-lost.new.broken.items c.complete_all-lost.ensures.linked (Holds c.relist.new.list)
-    c.args.issuer (λ k e is. c.relist.ensures k e (ap (λ (xs : List Entry). slice_get xs k) c.deref.ensures.value ∙ is))
+    idle_by_cell c.complete_all-lost.new.cells.items c.complete_all-lost.new.broken.items c.complete_all-lost.ensures.sound.linked (Holds c.relist.new.list)
+    c.args.barrier.now.issuer (λ k e is. c.relist.ensures k e (ap (λ (xs : List Entry). slice_get xs k) c.deref.ensures.value ∙ is))

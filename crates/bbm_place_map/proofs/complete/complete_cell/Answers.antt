@@ -21,5 +21,5 @@ returns-in-None-clause-here c =
     let none : entry_in c.args.cells.now.items c.args.broken.now.items c.args.cell ≡ None
     = ap (entry_of c.args.broken.now.items)
     (ap (λ (xs : List Cell). slot_in xs c.args.cell) (sym c.deref.ensures.value) ∙ sym c.slot_of.ensures ∙ c.in-None.is) in
-    completes_at c.args.issuer c.args.dsb c.args.n (entry_in c.args.cells.now.items c.args.broken.now.items c.args.cell) None
-    (entry_in c.args.cells.now.items c.args.broken.now.items c.args.cell) None none none (completes_none c.args.issuer c.args.dsb c.args.n)
+    completes_at c.args.barrier.now (entry_in c.args.cells.now.items c.args.broken.now.items c.args.cell) None
+    (entry_in c.args.cells.now.items c.args.broken.now.items c.args.cell) None none none (completes_none c.args.barrier.now)

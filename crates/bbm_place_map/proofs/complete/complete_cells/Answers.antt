@@ -4,6 +4,7 @@ use Rattle.bbm_place_map.specs.Entries.{entry_in}
 use Rattle.bbm_place_map.specs.declared.entry.Entry.{Entry}
 use Rattle.std.proofs.Common.{Option}
 use Rattle.bbm_place_map.proofs.Rounds.{each_more, here_more, found_more, found_now, none_more}
+use Rattle.bbm_place_map.proofs.Seats.{still_more}
 use Rattle.bbm_place_map.proofs.complete.complete_cells.Goals as goal
 use Rattle.bbm_place_map.proofs.complete.complete_cells.Goals.{then-complete_cell, else-complete_cell}
 
@@ -22,26 +23,22 @@ loop-i-preserved c =
     let ens = c.complete_cell.ensures in
     let inv = c.loop-i.invariant in
     record {
-      linked = ens.linked;
-      len = ens.len ∙ inv.len;
-      room = ens.room ∙ inv.room;
-      values = λ i. ens.values i ∙ inv.values i;
-      here = here_more c.args.issuer c.args.dsb c.args.n (start c) (mid c) (new c) m inv.each ens.here ens.others c.args.list.now c.loop-i.i refl inv.here;
-      each = each_more c.args.issuer c.args.dsb c.args.n (start c) (mid c) (new c) m inv.each ens.here ens.others;
+      sound = still_more inv.sound ens.sound;
+      here = here_more c.args.barrier.now (start c) (mid c) (new c) m inv.each ens.here ens.others c.args.list.now c.loop-i.i refl inv.here;
+      each = each_more c.args.barrier.now (start c) (mid c) (new c) m inv.each ens.here ens.others;
       found = λ h.
           elim c.if-complete_cell.branch [
             | then-complete_cell w ↦
-                (m, found_now c.args.issuer c.args.dsb c.args.n (start c) (mid c) (new c) m inv.each ens.here ens.others (sym ens.answer ∙ w.if-complete_cell.true))
+                (m, found_now c.args.barrier.now (start c) (mid c) (new c) m inv.each ens.here ens.others (sym ens.answer ∙ w.if-complete_cell.true))
             | else-complete_cell w ↦
                 let f = inv.found (sym w.lost-is ∙ h) in
-                (f.0, found_more c.args.issuer c.args.dsb c.args.n (start c) (mid c) (new c) m inv.each ens.here ens.others f.0 f.1)
+                (f.0, found_more c.args.barrier.now (start c) (mid c) (new c) m inv.each ens.here ens.others f.0 f.1)
           ];
       none = λ h.
           elim c.if-complete_cell.branch [
             | then-complete_cell w ↦ absurd (false≢true (sym h ∙ w.lost-is))
             | else-complete_cell w ↦
-                none_more c.args.issuer c.args.dsb c.args.n (start c) (mid c) (new c) m inv.each ens.here ens.others (sym ens.answer ∙ w.if-complete_cell.false)
+                none_more c.args.barrier.now (start c) (mid c) (new c) m inv.each ens.here ens.others (sym ens.answer ∙ w.if-complete_cell.false)
                 (inv.none (sym w.lost-is ∙ h))
           ];
-      placed = λ base placed. ens.placed base (inv.placed base placed);
     }

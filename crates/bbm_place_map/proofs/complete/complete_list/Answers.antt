@@ -6,20 +6,16 @@ use Rattle.bbm_place_map.proofs.complete.complete_list.Goals as goal
 
 pub returns : goal.returns
 returns c =
-    let P : List ℕ → Type 0 = λ xs. (i : ℕ) → i < length xs → Completes c.args.issuer c.args.dsb c.args.n
+    let P : List ℕ → Type 0 = λ xs. (i : ℕ) → i < length xs → Completes c.args.barrier.now
     (entry_in c.args.cells.now.items c.args.broken.now.items (slice_index xs i))
     (entry_in c.complete_cells.new.cells.items c.complete_cells.new.broken.items (slice_index xs i)) in
     let done = c.complete_cells.ensures in
     record {
-      linked = done.linked;
-      len = done.len;
-      room = done.room;
-      values = done.values;
+      sound = done.sound;
       each =
-          all_answered c.args.issuer c.args.dsb c.args.n c.args.list.now (entry_in c.args.cells.now.items c.args.broken.now.items)
-          (entry_in c.complete_cells.new.cells.items c.complete_cells.new.broken.items) c.requires.open c.requires.known c.requires.settled
+          all_answered c.args.barrier.now c.args.list.now (entry_in c.args.cells.now.items c.args.broken.now.items)
+          (entry_in c.complete_cells.new.cells.items c.complete_cells.new.broken.items) c.requires.waiting.open' c.requires.waiting.known c.requires.waiting.settled
           (subst P c.deref.ensures.value done.here) done.each;
       lost = done.lost;
       kept = done.kept;
-      placed = done.placed;
     }

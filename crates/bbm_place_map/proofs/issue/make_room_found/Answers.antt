@@ -1,20 +1,27 @@
-use Rattle.std.proofs.Common.{nat_eq, ap, sym, ◌∙◌, inl, inr, slice_get, take}
+use Rattle.std.proofs.Common.{ℕ, nat_eq, ap, sym, ◌∙◌, inl, inr, slice_get, take}
 use Rattle.std.proofs.lemmas.Bool.{cases_Bool, eq-eqb, eqb-true, false≢true}
+use Rattle.indexmap.specs.IndexMap.{get}
 use Rattle.bbm_place_map.specs.Finds.{is_found}
 use Rattle.bbm_place_map.specs.PlaceNotes.{Keeps}
 use Rattle.bbm_place_map.specs.declared.found.Found.{Found}
 use Rattle.bbm_place_map.proofs.Advancing.{seat_kept}
 use Rattle.bbm_place_map.proofs.Finding.{found_off, take_more}
-use Rattle.bbm_place_map.proofs.Seats.{linked_seated}
+use Rattle.bbm_place_map.proofs.Seats.{linked_seated, placed_seated}
 use Rattle.bbm_place_map.proofs.Visiting.{advance_then}
 use Rattle.std.proofs.Common.{List}
 use Rattle.bbm_place_map.proofs.issue.make_room_found.Goals as goal
 
-pub make_room_for-requires-clause-linked : goal.make_room_for-requires-clause-linked
-make_room_for-requires-clause-linked c =
-    linked_seated c.args.broken.now.items c.loop-i.broken.items
-    (λ m. seat_kept Keeps (slice_get c.args.broken.now.items m) (slice_get c.loop-i.broken.items m) (c.loop-i.invariant.each m))
-    c.args.cells.now c.loop-i.invariant.len c.requires.linked
+pub make_room_for-requires : goal.make_room_for-requires
+make_room_for-requires c =
+    let old = c.args.broken.now.items in
+    let mid = c.loop-i.broken.items in
+    let seats = λ (m : ℕ). seat_kept Keeps (slice_get old m) (slice_get mid m) (c.loop-i.invariant.each m) in
+    record {
+      numbered = c.requires.numbered;
+      few = c.requires.few;
+      linked = linked_seated old mid seats c.args.kept.now.cells.now c.loop-i.invariant.len c.requires.linked;
+      placed = placed_seated old mid seats (get nat_eq c.args.kept.now.pages.now) c.requires.placed;
+    }
 
 pub loop-i-preserved : goal.loop-i-preserved
 loop-i-preserved c = record {
@@ -32,6 +39,6 @@ loop-i-preserved c = record {
             (sym (found_off xs x e.place off)
             ∙ sym (ap (λ (ys : List Found). is_found ys e.place) (take_more c.args.found.now c.loop-i.i x c.loop-i-test.true c.index-found-i.is)) ∙ among)
       ];
-  len = c.make_room_for.ensures.len ∙ c.loop-i.invariant.len;
-  room = c.make_room_for.ensures.room ∙ c.loop-i.invariant.room;
+  len = c.make_room_for.ensures.size.len ∙ c.loop-i.invariant.len;
+  room = c.make_room_for.ensures.size.room ∙ c.loop-i.invariant.room;
 }

@@ -21,29 +21,29 @@ loop-k-preserved c =
     let within : k < length mid = omega (arith, c.loop-k.invariant.len) in
     let e = entry_there mid k within in
     let f = c.note_entry.ensures.entry e.0 e.1 in
-    let R = NotesAt c.args.covers.now c.args.issuer c.args.reach c.args.broadcast in
-    let S = λ (m : ℕ). Waits c.note_entry.new.lists.items c.args.issuer in
-    let notes = notes_at c.args.covers.now k c.get-cover.result c.args.issuer c.args.reach c.args.broadcast e.0 f.0
+    let R = NotesAt c.args.covers.now c.args.tlbi.now in
+    let S = λ (m : ℕ). Waits c.note_entry.new.lists.items c.args.tlbi.now.issuer in
+    let notes = notes_at c.args.covers.now k c.get-cover.result c.args.tlbi.now e.0 f.0
     (cover_read c.args.covers.now k c.index-covers-k.result c.get-cover.result (omega arith) c.index-covers-k.is c.get-cover.ensures) f.2 in
     let waits = λ (m : ℕ) (below : m < k).
-    advance_by (Waits c.loop-k.lists.items c.args.issuer) (Waits c.note_entry.new.lists.items c.args.issuer)
-    (waits_kept c.loop-k.lists.items c.note_entry.new.lists.items c.args.issuer c.note_entry.ensures.kept) (slice_get start m) (slice_get mid m)
+    advance_by (Waits c.loop-k.lists.items c.args.tlbi.now.issuer) (Waits c.note_entry.new.lists.items c.args.tlbi.now.issuer)
+    (waits_kept c.loop-k.lists.items c.note_entry.new.lists.items c.args.tlbi.now.issuer c.note_entry.ensures.rest.kept) (slice_get start m) (slice_get mid m)
     (c.loop-k.invariant.waits m below) in
     record {
       done = done_more R start mid new k e.0 f.0 c.loop-k.invariant.done c.loop-k.invariant.rest e.1 f.1 notes f.4;
       waits = done_more S start mid new k e.0 f.0 waits c.loop-k.invariant.rest e.1 f.1 f.3 f.4;
-      kept = λ q j holds. c.note_entry.ensures.kept q j (c.loop-k.invariant.kept q j holds);
+      kept = λ q j holds. c.note_entry.ensures.rest.kept q j (c.loop-k.invariant.kept q j holds);
       rest = rest_more R start mid new k e.0 f.0 c.loop-k.invariant.done c.loop-k.invariant.rest e.1 f.1 notes f.4;
-      len = c.note_entry.ensures.len ∙ c.loop-k.invariant.len;
-      room = c.note_entry.ensures.room ∙ c.loop-k.invariant.room;
+      len = c.note_entry.ensures.rest.len ∙ c.loop-k.invariant.len;
+      room = c.note_entry.ensures.rest.room ∙ c.loop-k.invariant.room;
     }
 
 pub returns-clause-each : goal.returns-clause-each
 returns-clause-each c =
-    all_done (NotesAt c.args.covers.now c.args.issuer c.args.reach c.args.broadcast) c.args.broken.now.items c.loop-k.broken.items c.loop-k.k (omega arith)
+    all_done (NotesAt c.args.covers.now c.args.tlbi.now) c.args.broken.now.items c.loop-k.broken.items c.loop-k.k (omega arith)
     c.loop-k.invariant.done c.loop-k.invariant.rest
 
 pub returns-clause-waits : goal.returns-clause-waits
 returns-clause-waits c =
-    all_done (λ m. Waits c.loop-k.lists.items c.args.issuer) c.args.broken.now.items c.loop-k.broken.items c.loop-k.k (omega arith)
+    all_done (λ m. Waits c.loop-k.lists.items c.args.tlbi.now.issuer) c.args.broken.now.items c.loop-k.broken.items c.loop-k.k (omega arith)
     c.loop-k.invariant.waits c.loop-k.invariant.rest

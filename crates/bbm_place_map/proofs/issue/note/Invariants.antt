@@ -7,8 +7,8 @@ use Rattle.bbm_place_map.proofs.issue.note.Given as goal
 abbrev pub invariant-loop-k : goal.invariant-loop-k
 invariant-loop-k l = record {
   done : (m : ℕ) → m < l.k
-      → Advances (NotesAt l.covers l.issuer l.reach l.broadcast m) (slice_get l.initial.broken.items m) (slice_get l.broken.items m);
-  waits : (m : ℕ) → m < l.k → Advances (Waits l.lists.items l.issuer) (slice_get l.initial.broken.items m) (slice_get l.broken.items m);
+      → Advances (NotesAt l.covers l.tlbi m) (slice_get l.initial.broken.items m) (slice_get l.broken.items m);
+  waits : (m : ℕ) → m < l.k → Advances (Waits l.lists.items l.tlbi.issuer) (slice_get l.initial.broken.items m) (slice_get l.broken.items m);
   kept : (q j : ℕ) → HoldsFor l.initial.lists.items q j → HoldsFor l.lists.items q j;
   rest : (m : ℕ) → l.k ≤ m → slice_get l.broken.items m ≡ slice_get l.initial.broken.items m;
   len : length l.broken.items ≡ length l.initial.broken.items;

@@ -14,9 +14,9 @@ returns-clause-entry c = λ e is.
     let entries = c.args.broken.now.items in
     let same = entry_same entries c.args.k c.index_mut-entry.result.now e (omega arith) c.index_mut-entry.ensures.value is in
     let f : Entry = record c.index_mut-entry.result.now { pends = c.note_pends.new.pendings } in
-    let P : Entry → Type 0 = λ x. Noted (state.Broken x.marks) (pends_in x.pends.items c.args.issuer) c.args.reach c.args.broadcast c.args.cover
-    (pends_in c.note_pends.new.pendings.items c.args.issuer) in
-    let Q : Entry → Type 0 = λ x. IsTrue c.note_pends.result ↔ IsIdle (pends_in x.pends.items c.args.issuer) in (
+    let P : Entry → Type 0 = λ x. Noted (state.Broken x.marks) (pends_in x.pends.items c.args.tlbi.now.issuer) c.args.tlbi.now.reach c.args.tlbi.now.broadcast c.args.cover
+    (pends_in c.note_pends.new.pendings.items c.args.tlbi.now.issuer) in
+    let Q : Entry → Type 0 = λ x. IsTrue c.note_pends.result ↔ IsIdle (pends_in x.pends.items c.args.tlbi.now.issuer) in (
       f,
       ap seat same,
       ap (λ (x : Entry). x.marks) same,

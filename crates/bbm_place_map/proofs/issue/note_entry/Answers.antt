@@ -9,9 +9,9 @@ use Rattle.bbm_place_map.proofs.issue.note_entry.Goals as goal
 pub returns-then-note_at-clause-entry : goal.returns-then-note_at-clause-entry
 returns-then-note_at-clause-entry c = λ e is.
     let f = c.note_at.ensures.entry e is in
-    let P : ℕ → Type 0 = λ x. HoldsFor c.add_for.new.lists.items c.args.issuer x in
+    let P : ℕ → Type 0 = λ x. HoldsFor c.add_for.new.lists.items c.args.tlbi.now.issuer x in
     let now : c.index.result.now ≡ f.0
-    = entry_same c.note_at.new.broken.items c.args.k c.index.result.now f.0 (omega (arith, c.note_at.ensures.len)) c.index.ensures
+    = entry_same c.note_at.new.broken.items c.args.k c.index.result.now f.0 (omega (arith, c.note_at.ensures.size.len)) c.index.ensures
     (f.6 c.args.k ∙ cond-true (nat_eq c.args.k c.args.k) (Some f.0) (slice_get c.args.broken.now.items c.args.k) (eq-eqb c.args.k c.args.k refl)) in (
       f.0,
       f.1,
@@ -34,7 +34,7 @@ pub returns-else-is_cover-clause-entry : goal.returns-else-is_cover-clause-entry
 returns-else-is_cover-clause-entry c = λ e is. (
   e,
   refl,
-  not_noted c.args.cover c.args.issuer c.args.reach c.args.broadcast e (sym c.is_cover.ensures ∙ c.if-is_cover.false),
+  not_noted c.args.cover c.args.tlbi.now e (sym c.is_cover.ensures ∙ c.if-is_cover.false),
   inr (λ idle. idle),
   gets_same c.args.broken.now.items c.args.k e is,
 )

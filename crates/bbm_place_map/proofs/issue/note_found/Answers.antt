@@ -13,22 +13,22 @@ use Rattle.bbm_place_map.proofs.issue.note_found.Goals as goal
 
 seats : (c : goal.After-note_next-arg-in-loop-i-1) → (m : ℕ) → seat_at c.loop-i.broken.items m ≡ seat_at c.args.broken.now.items m
 seats c m =
-    seat_kept (NotesFound (take c.loop-i.i c.args.found.now) c.args.issuer c.args.reach c.args.broadcast c.loop-i.lists.items)
+    seat_kept (NotesFound (take c.loop-i.i c.args.found.now) c.args.tlbi.now c.loop-i.lists.items)
     (slice_get c.args.broken.now.items m) (slice_get c.loop-i.broken.items m) (c.loop-i.invariant.each m)
 
-pub note_next-requires-clause-linked : goal.note_next-requires-clause-linked
-note_next-requires-clause-linked c =
-    linked_seated c.args.broken.now.items c.loop-i.broken.items (seats c) c.args.cells.now c.loop-i.invariant.len c.requires.linked
-
-pub note_next-requires-clause-placed : goal.note_next-requires-clause-placed
-note_next-requires-clause-placed c =
-    placed_seated c.args.broken.now.items c.loop-i.broken.items (seats c) (get nat_eq c.args.pages.now) c.requires.placed
+pub note_next-requires-clause-sound : goal.note_next-requires-clause-sound
+note_next-requires-clause-sound c = record {
+  numbered = c.requires.sound.numbered;
+  few = c.requires.sound.few;
+  linked = linked_seated c.args.broken.now.items c.loop-i.broken.items (seats c) c.args.kept.now.cells.now c.loop-i.invariant.len c.requires.sound.linked;
+  placed = placed_seated c.args.broken.now.items c.loop-i.broken.items (seats c) (get nat_eq c.args.kept.now.pages.now) c.requires.sound.placed;
+}
 
 pub note_next-requires-clause-ready : goal.note_next-requires-clause-ready
 note_next-requires-clause-ready c = λ m e is among none.
     c.requires.ready m e
-    (unfound_kept (take c.loop-i.i c.args.found.now) c.args.issuer c.args.reach c.args.broadcast c.loop-i.lists.items (slice_get c.args.broken.now.items m) e
-    (let P : Option Entry → Type 0 = λ o. Advances (NotesFound (take c.loop-i.i c.args.found.now) c.args.issuer c.args.reach c.args.broadcast c.loop-i.lists.items)
+    (unfound_kept (take c.loop-i.i c.args.found.now) c.args.tlbi.now c.loop-i.lists.items (slice_get c.args.broken.now.items m) e
+    (let P : Option Entry → Type 0 = λ o. Advances (NotesFound (take c.loop-i.i c.args.found.now) c.args.tlbi.now c.loop-i.lists.items)
     (slice_get c.args.broken.now.items m) o in
     subst P is (c.loop-i.invariant.each m)) none)
     among
@@ -36,13 +36,13 @@ note_next-requires-clause-ready c = λ m e is among none.
 pub loop-i-preserved : goal.loop-i-preserved
 loop-i-preserved c = record {
   each = c.note_next.ensures.each c.args.broken.now.items c.loop-i.invariant.each;
-  kept = λ q j holds. c.note_next.ensures.kept q j (c.loop-i.invariant.kept q j holds);
-  len = c.note_next.ensures.len ∙ c.loop-i.invariant.len;
-  room = c.note_next.ensures.room ∙ c.loop-i.invariant.room;
+  kept = λ q j holds. c.note_next.ensures.rest.kept q j (c.loop-i.invariant.kept q j holds);
+  len = c.note_next.ensures.rest.len ∙ c.loop-i.invariant.len;
+  room = c.note_next.ensures.rest.room ∙ c.loop-i.invariant.room;
 }
 
 pub returns-clause-each : goal.returns-clause-each
 returns-clause-each c = λ m.
-    let P : List Found → Type 0 = λ ys. Advances (NotesFound ys c.args.issuer c.args.reach c.args.broadcast c.loop-i.lists.items)
+    let P : List Found → Type 0 = λ ys. Advances (NotesFound ys c.args.tlbi.now c.loop-i.lists.items)
     (slice_get c.args.broken.now.items m) (slice_get c.loop-i.broken.items m) in
     subst P (take_all c.loop-i.i c.args.found.now (omega arith)) (c.loop-i.invariant.each m)

@@ -6,7 +6,7 @@ use Rattle.bbm_place_map.proofs.issue.note_found.Given as goal
 
 abbrev pub invariant-loop-i : goal.invariant-loop-i
 invariant-loop-i l = record {
-  each : (m : ℕ) → Advances (NotesFound (take l.i l.found) l.issuer l.reach l.broadcast l.lists.items)
+  each : (m : ℕ) → Advances (NotesFound (take l.i l.found) l.tlbi l.lists.items)
       (slice_get l.initial.broken.items m) (slice_get l.broken.items m);
   kept : (q j : ℕ) → HoldsFor l.initial.lists.items q j → HoldsFor l.lists.items q j;
   len : length l.broken.items ≡ length l.initial.broken.items;

@@ -6,30 +6,31 @@ use Rattle.bbm_place_map.proofs.links.unlink.Goals as goal
 
 pub put_slot-requires : goal.put_slot-requires
 put_slot-requires c =
-    omega (arith, cell_inside c.args.cells.now.items c.args.broken.now.items (c.len.result - 1) c.index-2.result.now c.requires.linked (omega arith) c.index-2.ensures)
+    omega (arith, cell_inside c.args.cells.now.items c.args.broken.now.items (c.len.result - 1) c.index-2.result.now c.requires.able.linked (omega arith) c.index-2.ensures)
 
 pub put_slot-requires-2 : goal.put_slot-requires-2
 put_slot-requires-2 c =
-    omega (arith, cell_inside c.args.cells.now.items c.args.broken.now.items c.args.k c.index.result.now c.requires.linked (omega arith) c.index.ensures)
+    omega (arith, cell_inside c.args.cells.now.items c.args.broken.now.items c.args.k c.index.result.now c.requires.able.linked (omega arith) c.index.ensures)
 
 pub returns : goal.returns
 returns c =
     let all : Left c.args.cells.now.items c.put_slot-2.new.cells.items c.args.broken.now.items c.swap_remove.new.self.items c.index.result.now.cell c.args.k =
     left c.args.cells.now.items c.put_slot.new.cells.items c.put_slot-2.new.cells.items c.args.broken.now.items c.swap_remove.new.self.items
     c.args.k c.len.result c.index.result.now c.index-2.result.now c.swap_remove.result
-    c.requires.linked (omega arith) (omega arith) c.index.ensures c.index-2.ensures
+    c.requires.able.linked (omega arith) (omega arith) c.index.ensures c.index-2.ensures
     c.put_slot.ensures.slots c.put_slot-2.ensures.slots c.put_slot.ensures.count c.put_slot-2.ensures.count c.swap_remove.ensures.items in
     record {
-      linked = all.linked;
-      len = c.put_slot-2.ensures.len ∙ c.put_slot.ensures.len;
-      room = search rules;
+      sound = record {
+        linked = all.linked;
+        len = c.put_slot-2.ensures.len ∙ c.put_slot.ensures.len;
+        room = search rules;
+        values = λ i. c.put_slot-2.ensures.values i ∙ c.put_slot.ensures.values i;
+        placed = all.placed;
+      };
       count = omega arith;
-      values = λ i. c.put_slot-2.ensures.values i ∙ c.put_slot.ensures.values i;
       entries = λ j is i.
           all.kept i
           ∙ ap (λ (n : ℕ). if nat_eq i n then None else entry_in c.args.cells.now.items c.args.broken.now.items i)
           (same_Some c.index.result.now.cell j (sym (cell_read c.args.broken.now.items c.args.k c.index.result.now (omega arith) c.index.ensures) ∙ is));
-      below = all.below;
-      front = all.front;
-      placed = all.placed;
+      front = record { below = all.below; front = all.front };
     }

@@ -6,7 +6,7 @@ use Rattle.bbm_place_map.proofs.publish.publish.Goals as goal
 pub publish_by-requires-clause-known : goal.publish_by-requires-clause-known
 publish_by-requires-clause-known c = λ k e is.
     elim (c.requires.known k e is) [
-      | inl holds ↦ inl (read_for c.args.lists.now.items c.get-q.result c.args.issuer c.index_mut.result.now (omega arith) c.get-q.ensures.value c.index_mut.ensures.value e.cell holds)
+      | inl holds ↦ inl (read_for c.args.lists.now.items c.get-q.result c.args.barrier.now.issuer c.index_mut.result.now (omega arith) c.get-q.ensures.value c.index_mut.ensures.value e.cell holds)
       | inr told ↦ inr told
     ]
 

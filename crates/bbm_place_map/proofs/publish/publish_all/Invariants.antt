@@ -4,7 +4,7 @@ use Rattle.bbm_place_map.proofs.publish.publish_all.Given as goal
 
 abbrev pub invariant-loop-k : goal.invariant-loop-k
 invariant-loop-k l = record {
-  done : (m : ℕ) → m < l.k → Advances (Publishes l.issuer l.dsb l.n) (slice_get l.initial.broken.items m) (slice_get l.broken.items m);
+  done : (m : ℕ) → m < l.k → Advances (Publishes l.barrier) (slice_get l.initial.broken.items m) (slice_get l.broken.items m);
   rest : (m : ℕ) → l.k ≤ m → slice_get l.broken.items m ≡ slice_get l.initial.broken.items m;
   len : length l.broken.items ≡ length l.initial.broken.items;
   room : vec_capacity l.broken ≡ vec_capacity l.initial.broken;

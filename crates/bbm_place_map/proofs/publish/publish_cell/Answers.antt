@@ -28,15 +28,15 @@ returns-in-Some-clause-linked c =
     let f = c.publish_at.ensures.entry e.0 e.1 in
     linked_seated c.args.broken.now.items c.publish_at.new.broken.items
     (seats_changed c.args.cells.now c.args.broken.now.items c.publish_at.new.broken.items e.0 f.0 c.args.cell c.in-Some.k c.requires.linked (at c) e.1 f.1 f.3)
-    c.args.cells.now c.publish_at.ensures.len c.requires.linked
+    c.args.cells.now c.publish_at.ensures.size.len c.requires.linked
 
 pub returns-in-Some-clause-here : goal.returns-in-Some-clause-here
 returns-in-Some-clause-here c = λ k is.
     let e = was c in
     let f = c.publish_at.ensures.entry e.0 e.1 in
-    let P : ℕ → Type 0 = λ x. Advances (Publishes c.args.issuer c.args.dsb c.args.n) (slice_get c.args.broken.now.items x) (slice_get c.publish_at.new.broken.items x) in
+    let P : ℕ → Type 0 = λ x. Advances (Publishes c.args.barrier.now) (slice_get c.args.broken.now.items x) (slice_get c.publish_at.new.broken.items x) in
     subst P (same_Some c.in-Some.k k (sym (at c) ∙ is))
-    (at_both (Publishes c.args.issuer c.args.dsb c.args.n) (slice_get c.args.broken.now.items c.in-Some.k) (Some e.0)
+    (at_both (Publishes c.args.barrier.now) (slice_get c.args.broken.now.items c.in-Some.k) (Some e.0)
     (slice_get c.publish_at.new.broken.items c.in-Some.k) (Some f.0) e.1
     (f.3 c.in-Some.k ∙ cond-true (nat_eq c.in-Some.k c.in-Some.k) (Some f.0) (slice_get c.args.broken.now.items c.in-Some.k) (eq-eqb c.in-Some.k c.in-Some.k refl))
     (f.1, f.2))

@@ -9,8 +9,8 @@ abbrev pub invariant-loop-i : goal.invariant-loop-i
 invariant-loop-i l = record {
   linked : Linked l.cells l.broken.items;
   here : (i k : ℕ) → i < l.i → slot_in l.cells (slice_index l.list i) ≡ Some k
-      → Advances (Publishes l.issuer l.dsb l.n) (slice_get l.initial.broken.items k) (slice_get l.broken.items k);
-  each : (k : ℕ) → MayPublish l.issuer l.dsb l.n (slice_get l.initial.broken.items k) (slice_get l.broken.items k);
+      → Advances (Publishes l.barrier) (slice_get l.initial.broken.items k) (slice_get l.broken.items k);
+  each : (k : ℕ) → MayPublish l.barrier (slice_get l.initial.broken.items k) (slice_get l.broken.items k);
   len : length l.broken.items ≡ length l.initial.broken.items;
   room : vec_capacity l.broken ≡ vec_capacity l.initial.broken;
 }

@@ -7,11 +7,10 @@ use Rattle.bbm_place_map.proofs.publish.publish_list.Goals as goal
 pub returns : goal.returns
 returns c =
     let P : List ℕ → Type 0 = λ xs. (i k : ℕ) → i < length xs → slot_in c.args.cells.now (slice_index xs i) ≡ Some k
-    → Advances (Publishes c.args.issuer c.args.dsb c.args.n) (slice_get c.args.broken.now.items k) (slice_get c.publish_cells.new.broken.items k) in
+    → Advances (Publishes c.args.barrier.now) (slice_get c.args.broken.now.items k) (slice_get c.publish_cells.new.broken.items k) in
     record {
       each =
-          all_published c.args.issuer c.args.dsb c.args.n c.args.cells.now c.args.list.now c.args.broken.now.items c.publish_cells.new.broken.items
-          c.requires.linked c.requires.open c.requires.known (subst P c.deref.ensures.value c.publish_cells.ensures.here) c.publish_cells.ensures.each;
-      len = c.publish_cells.ensures.len;
-      room = c.publish_cells.ensures.room;
+          all_published c.args.barrier.now c.args.cells.now c.args.list.now c.args.broken.now.items c.publish_cells.new.broken.items
+          c.requires.able.linked c.requires.open c.requires.known (subst P c.deref.ensures.value c.publish_cells.ensures.here) c.publish_cells.ensures.each;
+      size = c.publish_cells.ensures.size;
     }

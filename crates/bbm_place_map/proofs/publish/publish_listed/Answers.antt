@@ -8,14 +8,14 @@ use Rattle.bbm_place_map.proofs.publish.publish_listed.Goals as goal
 
 pub returns-then-is_empty-clause-known : goal.returns-then-is_empty-clause-known
 returns-then-is_empty-clause-known c = λ k f is.
-    inr (none_untold c.args.issuer c.args.dsb c.args.n c.args.broken.now.items c.publish_list.new.broken.items c.requires.log.issuer_below
+    inr (none_untold c.args.barrier.now c.args.broken.now.items c.publish_list.new.broken.items c.requires.able.log.issuer_below
     (λ p below.
     sym (c.publishes_to-heard.ensures p)
     ∙ still_in (pe_in c.all.result p) (pe_in c.publishes_to-heard.result p)
     (sym (c.minus.ensures p) ∙ c.is_empty-then-not-is_empty.ensures.0 c.if-is_empty.true p)
-    (c.all.ensures p ∙ lt-ltb p c.args.n below)) c.publish_list.ensures.each k f is)
+    (c.all.ensures p ∙ lt-ltb p c.args.barrier.now.n below)) c.publish_list.ensures.each k f is)
 
 pub returns-else-is_empty-clause-known : goal.returns-else-is_empty-clause-known
 returns-else-is_empty-clause-known c =
-    known_kept c.args.issuer c.args.dsb c.args.n c.args.issuer (Holds c.args.list.now) c.args.broken.now.items c.publish_list.new.broken.items
+    known_kept c.args.barrier.now c.args.barrier.now.issuer (Holds c.args.list.now) c.args.broken.now.items c.publish_list.new.broken.items
     c.requires.known c.publish_list.ensures.each

@@ -13,7 +13,7 @@ loop-k-preserved c = λ m e below is.
           let entry : c.index-broken-k.result ≡ e
           = entry_same c.args.broken.now c.loop-k.k c.index-broken-k.result e (omega arith) c.index-broken-k.is
           (ap (slice_get c.args.broken.now) (sym same) ∙ is) in
-          let P : Entry → Type 0 = λ x. Holds c.list_untold.new.list x.cell ⊎ IsTold c.args.n c.args.issuer x.marks in
+          let P : Entry → Type 0 = λ x. Holds c.list_untold.new.list x.cell ⊎ IsTold c.args.barrier.now.n c.args.barrier.now.issuer x.marks in
           subst P entry c.list_untold.ensures.there
       | inr other ↦
           elim (c.loop-k.invariant m e (omega arith) is) [

@@ -4,4 +4,4 @@ use Rattle.bbm_place_map.specs.declared.entry.Entry.{Entry}
 use Rattle.bbm_place_map.proofs.publish.relist.Given as goal
 
 abbrev pub invariant-loop-k : goal.invariant-loop-k
-invariant-loop-k l = (m : ℕ) (e : Entry) → m < l.k → slice_get l.broken m ≡ Some e → Holds l.list e.cell ⊎ IsTold l.n l.issuer e.marks
+invariant-loop-k l = (m : ℕ) (e : Entry) → m < l.k → slice_get l.broken m ≡ Some e → Holds l.list e.cell ⊎ IsTold l.barrier.n l.barrier.issuer e.marks

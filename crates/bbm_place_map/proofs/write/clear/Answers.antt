@@ -7,6 +7,6 @@ pub unlink-requires-clause-within : goal.unlink-requires-clause-within
 unlink-requires-clause-within c =
     omega (
       arith,
-      cell_within c.args.broken.now.items c.in-Some.k c.args.j (c.requires.linked.forth c.args.j c.in-Some.k
+      cell_within c.args.broken.now.items c.in-Some.k c.args.j (c.requires.able.linked.forth c.args.j c.in-Some.k
           (slot_read c.args.cells.now.items c.args.j c.index.result.now (omega arith) c.index.ensures (Some c.in-Some.k) c.in-Some.is)),
     )

@@ -34,9 +34,9 @@ pub returns-in-Some : goal.returns-in-Some
 returns-in-Some c =
     let w = was c in
     record {
-      linked = linked_seated c.args.broken.now.items c.remark.new.broken.items (seats c) c.args.cells.now.items c.remark.ensures.len c.requires.linked;
+      linked = linked_seated c.args.broken.now.items c.remark.new.broken.items (seats c) c.args.cells.now.items c.remark.ensures.size.len c.requires.linked;
       len = refl;
-      room = c.remark.ensures.room;
+      room = c.remark.ensures.size.room;
       values = λ i. refl;
       marks =
           marks_changed c.args.cells.now.items c.args.broken.now.items c.remark.new.broken.items w.0 (after c w.0) c.args.j c.in-Some.k

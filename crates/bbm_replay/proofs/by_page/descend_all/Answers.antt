@@ -16,9 +16,8 @@ loop-part-preserved c =
     = subst (λ x. MetFrom (node_in c.args.by.now.index.now) (core_at map) c.args.at (x + 4096 * part) (IsFoundIn map new))
     c.get.ensures.value e.met in
     record {
-      covers = λ all. e.covers (v.covers all);
-      kept = λ a has. e.kept a (v.kept a has);
+      grows = (λ all. e.grows.0 (v.grows.0 all), λ a has. e.grows.1 a (v.grows.1 a has));
       met = λ j below. below_more (λ (i : ℕ). MetFrom (node_in c.args.by.now.index.now) (core_at map) c.args.at
           (c.args.first + 4096 * i) (IsFoundIn map new)) part
-          (λ i less page way a short w broken. e.kept a (v.met i less page way a short w broken)) here j below;
+          (λ i less page way a short w broken. e.grows.1 a (v.met i less page way a short w broken)) here j below;
     }

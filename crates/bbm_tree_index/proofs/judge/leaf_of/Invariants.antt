@@ -1,7 +1,9 @@
+use Rattle.std.proofs.Common.{◌≡◌, ℕ, ◌<◌, ◌+◌, ◌*◌, false}
+use Rattle.bbm_descriptor.specs.Descriptor.{desc_of}
 use Rattle.bbm_place_map.specs.Map.{value_at}
-use Rattle.bbm_tree_index.specs.LeastPages.{Before, LeastOf, asks}
-use Rattle.bbm_tree_index.proofs.Wrongs.{LeafNumber}
+use Rattle.bbm_tree_index.specs.LeastPages.{asks}
 use Rattle.bbm_tree_index.proofs.judge.leaf_of.Given as goal
 
 abbrev pub invariant-loop-index : goal.invariant-loop-index
-invariant-loop-index l = LeastOf (Before (LeafNumber (value_at l.map) (asks l.leaf) l.kind l.level l.page) l.index) l.least
+invariant-loop-index l = (j : ℕ) → j < l.index
+    → asks l.leaf l.kind (desc_of l.kind l.level (value_at l.map (l.page + 8 * j))) ≡ false

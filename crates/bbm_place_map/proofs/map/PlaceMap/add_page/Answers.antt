@@ -27,7 +27,7 @@ invariant_of-self c = record {
   numbered =
       numbered_more (get nat_eq c.has_room.new.self.pages) (get nat_eq c.insert.new.self) c.args.page c.len-base.result (updates c) (free c) (old_numbered c)
       (vec_len c.add_cells.new.cells) (omega arith);
-  linked = c.add_cells.ensures.linked c.has_room.new.self.broken.items c.has_room.new.self.linked;
+  linked = c.add_cells.ensures.kept.linked c.has_room.new.self.broken.items c.has_room.new.self.linked;
   placed =
       placed_more (get nat_eq c.has_room.new.self.pages) (get nat_eq c.insert.new.self) c.args.page c.len-base.result (updates c) (free c) (old_numbered c)
       c.has_room.new.self.broken.items c.has_room.new.self.placed;
@@ -38,6 +38,6 @@ invariant_of-self c = record {
       (record c.has_room.new.self.work { unpublished = c.make_lists.new.lists; waiting = c.make_lists-in-Ok.new.lists })
       c.has_room.new.self.cells.items c.add_cells.new.cells.items c.has_room.new.self.broken.items c.has_room.new.self.broken.items refl refl
       c.make_lists.ensures c.make_lists-in-Ok.ensures
-      (λ j. inr (by_slots c.has_room.new.self.cells.items c.add_cells.new.cells.items c.has_room.new.self.broken.items c.add_cells.ensures.slots j))
+      (λ j. inr (by_slots c.has_room.new.self.cells.items c.add_cells.new.cells.items c.has_room.new.self.broken.items c.add_cells.ensures.kept.slots j))
       c.has_room.new.self.listed;
 }

@@ -10,6 +10,7 @@ use Rattle.bbm_place_map.specs.Sound.{Numbered, index_of}
 use Rattle.bbm_place_map.proofs.Answering.{completes_whole}
 use Rattle.bbm_place_map.proofs.Completed.{completed_at, others_at, kept_at, lost_at}
 use Rattle.bbm_place_map.proofs.Listing.{listed_begun, listed_completed, idle_of}
+use Rattle.bbm_place_map.proofs.Made.{barrier}
 use Rattle.bbm_place_map.proofs.map.PlaceMap.complete.Goals as goal
 
 pub complete-lost-requires-clause-known : goal.complete-lost-requires-clause-known
@@ -25,13 +26,13 @@ complete-lost-requires-clause-settled c =
 
 pub invariant_of-self-2 : goal.invariant_of-self-2
 invariant_of-self-2 c = record {
-  numbered = let P : ℕ → Type 0 = Numbered (get nat_eq c.args.self.now.pages) in subst P (sym c.complete-lost.ensures.completed.len) c.args.self.now.numbered;
-  linked = c.complete-lost.ensures.completed.linked;
-  placed = c.complete-lost.ensures.completed.placed (get nat_eq c.args.self.now.pages) c.args.self.now.placed;
-  room = omega (arith, c.complete-lost.ensures.completed.len, c.complete-lost.ensures.completed.room);
-  few = omega (arith, c.complete-lost.ensures.completed.len);
+  numbered = let P : ℕ → Type 0 = Numbered (get nat_eq c.args.self.now.pages) in subst P (sym c.complete-lost.ensures.completed.sound.len) c.args.self.now.numbered;
+  linked = c.complete-lost.ensures.completed.sound.linked;
+  placed = c.complete-lost.ensures.completed.sound.placed (get nat_eq c.args.self.now.pages) c.args.self.now.placed;
+  room = omega (arith, c.complete-lost.ensures.completed.sound.len, c.complete-lost.ensures.completed.sound.room);
+  few = omega (arith, c.complete-lost.ensures.completed.sound.len);
   listed =
-      listed_completed c.begin.new.work (record c.begin.new.work { settled = true; waiting = c.complete-lost.new.lists }) c.args.issuer c.args.dsb c.args.n
+      listed_completed c.begin.new.work (record c.begin.new.work { settled = true; waiting = c.complete-lost.new.lists }) (barrier c.args.issuer c.args.dsb c.args.n)
       c.args.self.now.cells.items c.complete-lost.new.cells.items c.args.self.now.broken.items c.complete-lost.new.broken.items c.begin.ensures.pes refl refl
       c.complete-lost.ensures.completed.each c.complete-lost.ensures.known c.complete-lost.ensures.kept_lists (listed_begun c.args.self.now.work c.begin.new.work c.args.n c.len.result c.args.self.now.cells.items c.args.self.now.broken.items c.requires.some c.requires.within
       c.begin.ensures.pes (omega (arith, c.len.ensures)) c.begin.ensures.kept c.args.self.now.listed);
@@ -40,29 +41,29 @@ invariant_of-self-2 c = record {
 pub returns-then-is_empty-clause-completed : goal.returns-then-is_empty-clause-completed
 unfolding marks_at pends_at
 returns-then-is_empty-clause-completed c = λ a.
-    completed_at c.args.issuer c.args.dsb c.args.n c.args.self.now.cells.items c.args.self.now.cells.items c.args.self.now.broken.items c.args.self.now.broken.items
-    (completes_whole c.args.issuer c.args.dsb c.args.n c.args.self.now.cells.items c.args.self.now.broken.items
+    completed_at (barrier c.args.issuer c.args.dsb c.args.n) c.args.self.now.cells.items c.args.self.now.cells.items c.args.self.now.broken.items c.args.self.now.broken.items
+    (completes_whole (barrier c.args.issuer c.args.dsb c.args.n) c.args.self.now.cells.items c.args.self.now.broken.items
     (nil_from_length c.args.self.now.broken.items (omega (arith, eqb-true (vec_len c.args.self.now.broken) 0 (sym c.is_empty.ensures ∙ c.if-is_empty.true)))))
     (index_of (get nat_eq c.args.self.now.pages) a)
 
 pub returns-then-is_empty-clause-others : goal.returns-then-is_empty-clause-others
 unfolding marks_at pends_at
 returns-then-is_empty-clause-others c = λ q a b cover p other.
-    others_at c.args.issuer c.args.dsb c.args.n c.args.self.now.cells.items c.args.self.now.cells.items c.args.self.now.broken.items c.args.self.now.broken.items
-    (completes_whole c.args.issuer c.args.dsb c.args.n c.args.self.now.cells.items c.args.self.now.broken.items
+    others_at (barrier c.args.issuer c.args.dsb c.args.n) c.args.self.now.cells.items c.args.self.now.cells.items c.args.self.now.broken.items c.args.self.now.broken.items
+    (completes_whole (barrier c.args.issuer c.args.dsb c.args.n) c.args.self.now.cells.items c.args.self.now.broken.items
     (nil_from_length c.args.self.now.broken.items (omega (arith, eqb-true (vec_len c.args.self.now.broken) 0 (sym c.is_empty.ensures ∙ c.if-is_empty.true)))))
     q (eqb-false q c.args.issuer other) (index_of (get nat_eq c.args.self.now.pages) a) b cover p
 
 pub returns-clause-completed : goal.returns-clause-completed
 unfolding marks_at pends_at
 returns-clause-completed c = λ a.
-    completed_at c.args.issuer c.args.dsb c.args.n c.args.self.now.cells.items c.complete-lost.new.cells.items c.args.self.now.broken.items c.complete-lost.new.broken.items
+    completed_at (barrier c.args.issuer c.args.dsb c.args.n) c.args.self.now.cells.items c.complete-lost.new.cells.items c.args.self.now.broken.items c.complete-lost.new.broken.items
     c.complete-lost.ensures.completed.each (index_of (get nat_eq c.args.self.now.pages) a)
 
 pub returns-clause-others : goal.returns-clause-others
 unfolding marks_at pends_at
 returns-clause-others c = λ q a b cover p other.
-    others_at c.args.issuer c.args.dsb c.args.n c.args.self.now.cells.items c.complete-lost.new.cells.items c.args.self.now.broken.items c.complete-lost.new.broken.items
+    others_at (barrier c.args.issuer c.args.dsb c.args.n) c.args.self.now.cells.items c.complete-lost.new.cells.items c.args.self.now.broken.items c.complete-lost.new.broken.items
     c.complete-lost.ensures.completed.each q (eqb-false q c.args.issuer other) (index_of (get nat_eq c.args.self.now.pages) a) b cover p
 
 pub returns-clause-lost : goal.returns-clause-lost

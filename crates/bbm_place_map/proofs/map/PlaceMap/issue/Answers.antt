@@ -8,6 +8,7 @@ use Rattle.bbm_place_map.proofs.Advancing.{seat_kept}
 use Rattle.bbm_place_map.proofs.Issued.{noted_at}
 use Rattle.bbm_place_map.proofs.Seats.{linked_seated, placed_seated}
 use Rattle.bbm_place_map.proofs.Listing.{listed_roomed, listed_noted}
+use Rattle.bbm_place_map.proofs.Made.{issuing}
 use Rattle.bbm_place_map.proofs.map.PlaceMap.issue.Goals as goal
 
 pub invariant_of-self : goal.invariant_of-self
@@ -17,9 +18,9 @@ invariant_of-self g c =
     let seats = λ (m : ℕ). seat_kept Keeps (slice_get old m) (slice_get mid m) (c.make_room.ensures.each m) in
     record {
       numbered = c.args.self.now.numbered;
-      linked = linked_seated old mid seats c.args.self.now.cells.items c.make_room.ensures.len c.args.self.now.linked;
+      linked = linked_seated old mid seats c.args.self.now.cells.items c.make_room.ensures.size.len c.args.self.now.linked;
       placed = placed_seated old mid seats (get nat_eq c.args.self.now.pages) c.args.self.now.placed;
-      room = omega arith;
+      room = omega (arith, c.make_room.ensures.size.room);
       few = c.args.self.now.few;
       listed = listed_roomed c.args.self.now.cells.items old mid c.make_room.ensures.each c.args.self.now.work c.args.self.now.listed;
     }
@@ -30,26 +31,26 @@ invariant_of-self-2 g c =
     let mid = c.make_room.new.broken.items in
     let new = c.note.new.broken.items in
     let seats = λ (m : ℕ).
-    seat_kept (NotesAt c.deref-2.result.now c.args.issuer c.args.reach c.args.broadcast m) (slice_get mid m) (slice_get new m) (c.note.ensures.each m)
+    seat_kept (NotesAt c.deref-2.result.now (issuing c.args.issuer c.args.reach c.args.broadcast) m) (slice_get mid m) (slice_get new m) (c.note.ensures.each m)
     ∙ seat_kept Keeps (slice_get old m) (slice_get mid m) (c.make_room.ensures.each m) in
     record {
       numbered = c.args.self.now.numbered;
-      linked = linked_seated old new seats c.args.self.now.cells.items (c.note.ensures.len ∙ c.make_room.ensures.len) c.args.self.now.linked;
+      linked = linked_seated old new seats c.args.self.now.cells.items (c.note.ensures.rest.len ∙ c.make_room.ensures.size.len) c.args.self.now.linked;
       placed = placed_seated old new seats (get nat_eq c.args.self.now.pages) c.args.self.now.placed;
-      room = omega arith;
+      room = omega (arith, c.make_room.ensures.size.room, c.note.ensures.rest.room);
       few = c.args.self.now.few;
       listed =
-          listed_noted c.args.self.now.cells.items old mid c.make_room.ensures.each new c.deref-2.result.now c.args.issuer c.args.reach c.args.broadcast
+          listed_noted c.args.self.now.cells.items old mid c.make_room.ensures.each new c.deref-2.result.now (issuing c.args.issuer c.args.reach c.args.broadcast)
           c.args.self.now.work (record c.args.self.now.work { waiting = c.note.new.lists })
-          (linked_seated old mid (λ (m : ℕ). seat_kept Keeps (slice_get old m) (slice_get mid m) (c.make_room.ensures.each m)) c.args.self.now.cells.items c.make_room.ensures.len c.args.self.now.linked)
-          refl refl refl c.note.ensures.each c.note.ensures.waits c.note.ensures.kept c.args.self.now.listed;
+          (linked_seated old mid (λ (m : ℕ). seat_kept Keeps (slice_get old m) (slice_get mid m) (c.make_room.ensures.each m)) c.args.self.now.cells.items c.make_room.ensures.size.len c.args.self.now.linked)
+          refl refl refl c.note.ensures.each c.note.ensures.waits c.note.ensures.rest.kept c.args.self.now.listed;
     }
 
 pub returns-clause-noted : goal.returns-clause-noted
 unfolding marks_at pends_at
 returns-clause-noted g c =
     noted_at (get nat_eq c.args.self.now.pages) c.args.self.now.cells.items c.args.self.now.broken.items c.make_room.new.broken.items c.note.new.broken.items
-    c.deref-2.result.now c.args.issuer c.args.reach c.args.broadcast c.args.self.now.linked c.args.self.now.placed c.make_room.ensures.each c.note.ensures.each
+    c.deref-2.result.now (issuing c.args.issuer c.args.reach c.args.broadcast) c.args.self.now.linked c.args.self.now.placed c.make_room.ensures.each c.note.ensures.each
     (ap (λ (xs : List Cover). length xs) c.deref-2.ensures ∙ c.in_ok-add_covers.ensures.len)
     (MayCover g.F.Fn c.args.cover c.args.self.now)
     (λ m e cov at is. c.in_ok-add_covers.ensures.each m e cov at (sym (ap (λ (xs : List Cover). slice_get xs m) c.deref-2.ensures) ∙ is))

@@ -1,7 +1,7 @@
-use Rattle.std.proofs.Common.{ℕ, ◌≡◌, List, sym, subst, refl, nat_eq, arith, ◌∙◌, vec_len, slice_get}
+use Rattle.std.proofs.Common.{ℕ, ◌≡◌, List, sym, subst, refl, nat_eq, arith, ◌∙◌, vec_len, length, slice_get}
 use Rattle.indexmap.specs.IndexMap.{get}
 use Rattle.bbm_place_map.specs.Each.{Advances}
-use Rattle.bbm_place_map.specs.Sound.{Linked}
+use Rattle.bbm_place_map.specs.Sound.{IsSound, Numbered}
 use Rattle.bbm_place_map.specs.declared.cell.Cell.{Cell}
 use Rattle.bbm_place_map.specs.declared.entry.Entry.{Entry}
 use Rattle.bbm_place_map.specs.Map.{marks_at, pends_at}
@@ -12,6 +12,7 @@ use Rattle.bbm_place_map.proofs.Issued.{noted_found, unnoted_found}
 use Rattle.bbm_place_map.proofs.Seats.{linked_seated, placed_seated}
 use Rattle.bbm_place_map.proofs.Listing.{listed_roomed, listed_noted}
 use Rattle.bbm_place_map.proofs.Visiting.{covers_of, notes_each, waits_each}
+use Rattle.bbm_place_map.proofs.Made.{issuing}
 use Rattle.bbm_place_map.proofs.map.PlaceMap.issue_at.Goals as goal
 
 seats : (old mid : List Entry) → ((m : ℕ) → Advances Keeps (slice_get old m) (slice_get mid m)) → (m : ℕ) → seat_at mid m ≡ seat_at old m
@@ -23,20 +24,36 @@ invariant_of-self c =
     let mid = c.make_room_found.new.broken.items in
     record {
       numbered = c.args.self.now.numbered;
-      linked = linked_seated old mid (seats old mid c.make_room_found.ensures.each) c.args.self.now.cells.items c.make_room_found.ensures.len c.args.self.now.linked;
+      linked = linked_seated old mid (seats old mid c.make_room_found.ensures.each) c.args.self.now.cells.items c.make_room_found.ensures.size.len c.args.self.now.linked;
       placed = placed_seated old mid (seats old mid c.make_room_found.ensures.each) (get nat_eq c.args.self.now.pages) c.args.self.now.placed;
-      room = omega arith;
+      room = omega (arith, c.make_room_found.ensures.size.room);
       few = c.args.self.now.few;
       listed = listed_roomed c.args.self.now.cells.items old mid c.make_room_found.ensures.each c.args.self.now.work c.args.self.now.listed;
     }
 
-pub note_found-requires-clause-linked : goal.note_found-requires-clause-linked
-note_found-requires-clause-linked c =
-    let old = c.args.self.now.broken.items in
+pub make_room_found-requires : goal.make_room_found-requires
+make_room_found-requires c =
+    let self = c.args.self.now in
+    let P : List Cell → Type 0 = λ xs. IsSound (get nat_eq self.pages) xs self.broken.items in
+    let N : ℕ → Type 0 = Numbered (get nat_eq self.pages) in
+    let len : vec_len self.cells ≡ length self.cells.items = omega arith in
+    subst P (sym c.deref.ensures.value)
+    (record { numbered = subst N len self.numbered; few = omega arith; linked = self.linked; placed = self.placed })
+
+pub note_found-requires-clause-sound : goal.note_found-requires-clause-sound
+note_found-requires-clause-sound c =
+    let self = c.args.self.now in
     let mid = c.make_room_found.new.broken.items in
-    let P : List Cell → Type 0 = λ xs. Linked xs mid in
-    subst P (sym c.deref-2.ensures.value)
-    (linked_seated old mid (seats old mid c.make_room_found.ensures.each) c.args.self.now.cells.items c.make_room_found.ensures.len c.args.self.now.linked)
+    let all = seats self.broken.items mid c.make_room_found.ensures.each in
+    let P : List Cell → Type 0 = λ xs. IsSound (get nat_eq self.pages) xs mid in
+    let N : ℕ → Type 0 = Numbered (get nat_eq self.pages) in
+    let len : vec_len self.cells ≡ length self.cells.items = omega arith in
+    subst P (sym c.deref.ensures.value) (record {
+      numbered = subst N len self.numbered;
+      few = omega arith;
+      linked = linked_seated self.broken.items mid all self.cells.items c.make_room_found.ensures.size.len self.linked;
+      placed = placed_seated self.broken.items mid all (get nat_eq self.pages) self.placed;
+    })
 
 pub invariant_of-self-2 : goal.invariant_of-self-2
 invariant_of-self-2 c =
@@ -46,34 +63,34 @@ invariant_of-self-2 c =
     let found = c.args.found.now in
     let each = c.note_found.ensures.each in
     let all = λ (m : ℕ).
-    seat_kept (NotesFound found c.args.issuer c.args.reach c.args.broadcast c.note_found.new.lists.items) (slice_get mid m) (slice_get new m) (each m) ∙ seats old mid c.make_room_found.ensures.each m in
+    seat_kept (NotesFound found (issuing c.args.issuer c.args.reach c.args.broadcast) c.note_found.new.lists.items) (slice_get mid m) (slice_get new m) (each m) ∙ seats old mid c.make_room_found.ensures.each m in
     record {
       numbered = c.args.self.now.numbered;
-      linked = linked_seated old new all c.args.self.now.cells.items (c.note_found.ensures.len ∙ c.make_room_found.ensures.len) c.args.self.now.linked;
+      linked = linked_seated old new all c.args.self.now.cells.items (c.note_found.ensures.rest.len ∙ c.make_room_found.ensures.size.len) c.args.self.now.linked;
       placed = placed_seated old new all (get nat_eq c.args.self.now.pages) c.args.self.now.placed;
-      room = omega arith;
+      room = omega (arith, c.make_room_found.ensures.size.room, c.note_found.ensures.rest.room);
       few = c.args.self.now.few;
       listed =
-          listed_noted c.args.self.now.cells.items old mid c.make_room_found.ensures.each new (covers_of found mid) c.args.issuer c.args.reach c.args.broadcast
+          listed_noted c.args.self.now.cells.items old mid c.make_room_found.ensures.each new (covers_of found mid) (issuing c.args.issuer c.args.reach c.args.broadcast)
           c.args.self.now.work (record c.args.self.now.work { waiting = c.note_found.new.lists })
-          (linked_seated old mid (seats old mid c.make_room_found.ensures.each) c.args.self.now.cells.items c.make_room_found.ensures.len c.args.self.now.linked)
-          refl refl refl (notes_each found mid c.args.issuer c.args.reach c.args.broadcast c.note_found.new.lists.items new each)
-          (waits_each found mid c.args.issuer c.args.reach c.args.broadcast c.note_found.new.lists.items new each)
-          c.note_found.ensures.kept c.args.self.now.listed;
+          (linked_seated old mid (seats old mid c.make_room_found.ensures.each) c.args.self.now.cells.items c.make_room_found.ensures.size.len c.args.self.now.linked)
+          refl refl refl (notes_each found mid (issuing c.args.issuer c.args.reach c.args.broadcast) c.note_found.new.lists.items new each)
+          (waits_each found mid (issuing c.args.issuer c.args.reach c.args.broadcast) c.note_found.new.lists.items new each)
+          c.note_found.ensures.rest.kept c.args.self.now.listed;
     }
 
 pub returns-clause-noted : goal.returns-clause-noted
 unfolding marks_at pends_at
 returns-clause-noted c =
     noted_found (get nat_eq c.args.self.now.pages) c.args.self.now.cells.items c.args.self.now.broken.items c.make_room_found.new.broken.items
-    c.note_found.new.broken.items c.args.found.now c.args.issuer c.args.reach c.args.broadcast c.note_found.new.lists.items c.args.self.now.linked
-    c.args.self.now.placed c.make_room_found.ensures.each c.make_room_found.ensures.len c.note_found.ensures.each
+    c.note_found.new.broken.items c.args.found.now (issuing c.args.issuer c.args.reach c.args.broadcast) c.note_found.new.lists.items c.args.self.now.linked
+    c.args.self.now.placed c.make_room_found.ensures.each c.make_room_found.ensures.size.len c.note_found.ensures.each
     (vec_len c.args.self.now.cells) c.args.self.now.numbered
 
 pub returns-clause-unnoted : goal.returns-clause-unnoted
 unfolding pends_at
 returns-clause-unnoted c =
     unnoted_found (get nat_eq c.args.self.now.pages) c.args.self.now.cells.items c.args.self.now.broken.items c.make_room_found.new.broken.items
-    c.note_found.new.broken.items c.args.found.now c.args.issuer c.args.reach c.args.broadcast c.note_found.new.lists.items c.args.self.now.linked
-    c.args.self.now.placed c.make_room_found.ensures.each c.make_room_found.ensures.len c.note_found.ensures.each
+    c.note_found.new.broken.items c.args.found.now (issuing c.args.issuer c.args.reach c.args.broadcast) c.note_found.new.lists.items c.args.self.now.linked
+    c.args.self.now.placed c.make_room_found.ensures.each c.make_room_found.ensures.size.len c.note_found.ensures.each
     (vec_len c.args.self.now.cells) c.args.self.now.numbered

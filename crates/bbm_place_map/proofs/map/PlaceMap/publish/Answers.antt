@@ -1,6 +1,6 @@
 use Rattle.std.proofs.Common.{ℕ, nat_eq, arith, slice_get, ◌≡◌, ◌⊎◌, ◌<◌, List, Some, refl, subst}
 use Rattle.indexmap.specs.IndexMap.{get}
-use Rattle.bbm_barriers.specs.declared.Dsb.{Dsb}
+use Rattle.bbm_place_map.specs.declared.orders.Barrier.{Barrier}
 use Rattle.bbm_place_map.specs.Each.{Advances, Publishes}
 use Rattle.bbm_place_map.specs.Map.{marks_at, pends_at, restless_in, restless_place}
 use Rattle.bbm_entry_state.specs.declared.marks.Marks.{Marks}
@@ -14,6 +14,7 @@ use Rattle.bbm_place_map.proofs.Published.{published_at, pends_at_same}
 use Rattle.bbm_place_map.proofs.Seats.{linked_seated, placed_seated}
 use Rattle.bbm_place_map.specs.Entries.{seat_at}
 use Rattle.bbm_place_map.proofs.Listing.{listed_begun, listed_published, told_of}
+use Rattle.bbm_place_map.proofs.Made.{barrier}
 use Rattle.bbm_place_map.proofs.map.PlaceMap.publish.Goals as goal
 
 pub publish-requires-clause-known : goal.publish-requires-clause-known
@@ -25,22 +26,22 @@ publish-requires-clause-known c =
     c.begin.ensures.pes (omega (arith, c.len.ensures)) c.begin.ensures.kept c.args.self.now.listed) c.args.issuer)
     j marks c.requires.issuer_below is)
 
-seats : (issuer : ℕ) (dsb : Dsb) (n : ℕ) (old new : List Entry) → ((k : ℕ) → Advances (Publishes issuer dsb n) (slice_get old k) (slice_get new k))
+seats : (by : Barrier) (old new : List Entry) → ((k : ℕ) → Advances (Publishes by) (slice_get old k) (slice_get new k))
     → (m : ℕ) → seat_at new m ≡ seat_at old m
-seats issuer dsb n old new each m = seat_kept (Publishes issuer dsb n) (slice_get old m) (slice_get new m) (each m)
+seats by old new each m = seat_kept (Publishes by) (slice_get old m) (slice_get new m) (each m)
 
 pub invariant_of-self-2 : goal.invariant_of-self-2
 invariant_of-self-2 c = record {
   numbered = c.args.self.now.numbered;
-  linked = linked_seated c.args.self.now.broken.items c.publish.new.broken.items (seats c.args.issuer c.args.dsb c.args.n c.args.self.now.broken.items c.publish.new.broken.items c.publish.ensures.published.each) c.args.self.now.cells.items c.publish.ensures.published.len c.args.self.now.linked;
-  placed = placed_seated c.args.self.now.broken.items c.publish.new.broken.items (seats c.args.issuer c.args.dsb c.args.n c.args.self.now.broken.items c.publish.new.broken.items c.publish.ensures.published.each) (get nat_eq c.args.self.now.pages) c.args.self.now.placed;
-  room = omega (arith, c.publish.ensures.published.room);
+  linked = linked_seated c.args.self.now.broken.items c.publish.new.broken.items (seats (barrier c.args.issuer c.args.dsb c.args.n) c.args.self.now.broken.items c.publish.new.broken.items c.publish.ensures.published.each) c.args.self.now.cells.items c.publish.ensures.published.size.len c.args.self.now.linked;
+  placed = placed_seated c.args.self.now.broken.items c.publish.new.broken.items (seats (barrier c.args.issuer c.args.dsb c.args.n) c.args.self.now.broken.items c.publish.new.broken.items c.publish.ensures.published.each) (get nat_eq c.args.self.now.pages) c.args.self.now.placed;
+  room = omega (arith, c.publish.ensures.published.size.room);
   few = c.args.self.now.few;
   listed =
-      listed_published c.begin.new.work (record c.begin.new.work { unpublished = c.publish.new.lists }) c.args.issuer c.args.dsb c.args.n
+      listed_published c.begin.new.work (record c.begin.new.work { unpublished = c.publish.new.lists }) (barrier c.args.issuer c.args.dsb c.args.n)
       c.args.self.now.cells.items c.args.self.now.broken.items c.publish.new.broken.items c.begin.ensures.pes refl refl refl
       c.publish.ensures.published.each c.publish.ensures.known c.publish.ensures.others c.args.self.now.linked
-      (linked_seated c.args.self.now.broken.items c.publish.new.broken.items (seats c.args.issuer c.args.dsb c.args.n c.args.self.now.broken.items c.publish.new.broken.items c.publish.ensures.published.each) c.args.self.now.cells.items c.publish.ensures.published.len c.args.self.now.linked)
+      (linked_seated c.args.self.now.broken.items c.publish.new.broken.items (seats (barrier c.args.issuer c.args.dsb c.args.n) c.args.self.now.broken.items c.publish.new.broken.items c.publish.ensures.published.each) c.args.self.now.cells.items c.publish.ensures.published.size.len c.args.self.now.linked)
       (listed_begun c.args.self.now.work c.begin.new.work c.args.n c.len.result c.args.self.now.cells.items c.args.self.now.broken.items c.requires.some c.requires.within
       c.begin.ensures.pes (omega (arith, c.len.ensures)) c.begin.ensures.kept c.args.self.now.listed);
 }
@@ -48,21 +49,21 @@ invariant_of-self-2 c = record {
 pub returns-clause-published : goal.returns-clause-published
 unfolding marks_at
 returns-clause-published c = λ live a.
-    published_at c.args.issuer c.args.dsb c.args.n c.args.self.now.cells.items c.args.self.now.broken.items c.publish.new.broken.items c.publish.ensures.published.each
+    published_at (barrier c.args.issuer c.args.dsb c.args.n) c.args.self.now.cells.items c.args.self.now.broken.items c.publish.new.broken.items c.publish.ensures.published.each
     live (index_of (get nat_eq c.args.self.now.pages) a)
 
 pub returns-clause-pends : goal.returns-clause-pends
 unfolding pends_at
 returns-clause-pends c = λ q a.
-    pends_at_same c.args.issuer c.args.dsb c.args.n c.args.self.now.cells.items c.args.self.now.broken.items c.publish.new.broken.items c.publish.ensures.published.each
+    pends_at_same (barrier c.args.issuer c.args.dsb c.args.n) c.args.self.now.cells.items c.args.self.now.broken.items c.publish.new.broken.items c.publish.ensures.published.each
     q (index_of (get nat_eq c.args.self.now.pages) a)
 
 pub returns-clause-restless : goal.returns-clause-restless
 unfolding restless_in
-returns-clause-restless c = c.publish.ensures.published.len
+returns-clause-restless c = c.publish.ensures.published.size.len
 
 pub returns-clause-places : goal.returns-clause-places
 unfolding restless_place
 returns-clause-places c = λ i.
     place_kept (slice_get c.args.self.now.broken.items i) (slice_get c.publish.new.broken.items i)
-    (seat_kept (Publishes c.args.issuer c.args.dsb c.args.n) (slice_get c.args.self.now.broken.items i) (slice_get c.publish.new.broken.items i) (c.publish.ensures.published.each i))
+    (seat_kept (Publishes (barrier c.args.issuer c.args.dsb c.args.n)) (slice_get c.args.self.now.broken.items i) (slice_get c.publish.new.broken.items i) (c.publish.ensures.published.each i))

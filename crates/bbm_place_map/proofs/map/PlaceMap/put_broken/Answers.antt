@@ -11,11 +11,11 @@ use Rattle.bbm_place_map.proofs.map.PlaceMap.put_broken.Goals as goal
 pub invariant_of-self : goal.invariant_of-self
 unfolding IsSeat
 invariant_of-self c = record {
-  numbered = let P : ℕ → Type 0 = Numbered (get nat_eq c.args.self.now.pages) in subst P (sym c.put_broken.ensures.len) c.args.self.now.numbered;
-  linked = c.put_broken.ensures.linked;
+  numbered = let P : ℕ → Type 0 = Numbered (get nat_eq c.args.self.now.pages) in subst P (sym c.put_broken.ensures.written.len) c.args.self.now.numbered;
+  linked = c.put_broken.ensures.written.linked;
   placed = c.put_broken.ensures.placed (get nat_eq c.args.self.now.pages) c.requires c.args.self.now.placed;
-  room = omega arith;
-  few = omega arith;
+  room = omega (arith, c.put_broken.ensures.written.len, c.put_broken.ensures.written.room);
+  few = omega (arith, c.put_broken.ensures.written.len);
   listed =
       listed_broken c.args.self.now.work c.note_write.new.work c.args.self.now.cells.items c.put_broken.new.cells.items c.args.self.now.broken.items c.put_broken.new.broken.items
       c.args.seat.now.index c.args.marks c.marks-before.result c.note_write.ensures.pes

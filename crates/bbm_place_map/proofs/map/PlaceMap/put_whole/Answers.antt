@@ -12,11 +12,11 @@ use Rattle.bbm_place_map.proofs.map.PlaceMap.put_whole.Goals as goal
 pub invariant_of-self : goal.invariant_of-self
 unfolding IsSeat
 invariant_of-self c = record {
-  numbered = let P : ℕ → Type 0 = Numbered (get nat_eq c.args.self.now.pages) in subst P (sym c.put_whole.ensures.len) c.args.self.now.numbered;
-  linked = c.put_whole.ensures.linked;
+  numbered = let P : ℕ → Type 0 = Numbered (get nat_eq c.args.self.now.pages) in subst P (sym c.put_whole.ensures.written.len) c.args.self.now.numbered;
+  linked = c.put_whole.ensures.written.linked;
   placed = c.put_whole.ensures.placed (get nat_eq c.args.self.now.pages) c.args.self.now.placed;
-  room = omega arith;
-  few = omega arith;
+  room = omega (arith, c.put_whole.ensures.written.len, c.put_whole.ensures.written.room);
+  few = omega (arith, c.put_whole.ensures.written.len);
   listed =
       listed_whole c.args.self.now.work c.args.self.now.cells.items c.put_whole.new.cells.items c.args.self.now.broken.items
       c.put_whole.new.broken.items c.args.seat.now.index c.put_whole.ensures.marks c.put_whole.ensures.pends c.args.self.now.listed;

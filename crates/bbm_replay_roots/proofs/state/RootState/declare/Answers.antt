@@ -7,7 +7,7 @@ use Rattle.bbm_replay_roots.proofs.state.RootState.declare.Goals as goal
 pub declare-requires : goal.declare-requires
 declare-requires c =
     let m = c.requires.1 in
-    undeclared c.args.page m.2 (free_page c.requires.0 c.args.page c.args.kind c.args.lock (c.bridge.ensures m.0) m.2 m.4)
+    undeclared c.args.page m.2 (free_page c.requires.0 c.args.page c.args.kind c.args.lock (c.laws_below.ensures m.0) m.2 m.4)
 
 pub returns-in-Ok-clause-taken : goal.returns-in-Ok-clause-taken
 returns-in-Ok-clause-taken c heading h pe s none =

@@ -5,4 +5,4 @@ use Rattle.bbm_replay_roots.proofs.state.RootState.is_root.Goals as goal
 
 pub returns : goal.returns
 returns c heading h s =
-    c.is_root.ensures (calls_of heading h) s.roots ∙ is_root_same heading (c.bridge.ensures heading) h c.args.kind c.args.page
+    c.is_root.ensures (calls_of heading h) s.roots ∙ is_root_same heading (c.laws_below.ensures heading) h c.args.kind c.args.page

@@ -8,12 +8,12 @@ use Rattle.bbm_replay_roots.proofs.state.RootState.judge_tlbi.Goals as goal
 
 pub returns-then-not-of_world : goal.returns-then-not-of_world
 returns-then-not-of_world c heading h s =
-    tlbi_elsewhere heading h c.args.pe c.args.op c.args.xt (c.bridge.ensures heading)
+    tlbi_elsewhere heading h c.args.pe c.args.op c.args.xt (c.laws_below.ensures heading)
     (world_by s _ c.args.op false (ap (λ (x : RootState). x.header.world) (sym c.self.view_is)) (sym c.of_world.ensures ∙ c.if-not-of_world.true))
 
 pub returns-then-lacks_vmid : goal.returns-then-lacks_vmid
 returns-then-lacks_vmid c heading h s =
-    tlbi_is heading h c.args.pe c.args.op c.args.xt (c.bridge.ensures heading) true true _
+    tlbi_is heading h c.args.pe c.args.op c.args.xt (c.laws_below.ensures heading) true true _
     (world_by s _ c.args.op true (ap (λ (x : RootState). x.header.world) (sym c.self.view_is)) (sym c.of_world.ensures ∙ c.if-not-of_world.false))
     (ap (λ (v : Option ℕ). scoped_by_vmid c.args.op && is_none v) (sym (c.vmid_of-vmid.ensures heading h s))
     ∙ (ap (λ (b : Bool). b && is_none c.vmid_of-vmid.result) (sym c.scoped_by_vmid.ensures)
@@ -25,7 +25,7 @@ returns-in-Ok c heading h s =
     let lacks = ap (λ (v : Option ℕ). scoped_by_vmid c.args.op && is_none v) (sym (c.vmid_of-vmid.ensures heading h s))
     ∙ (ap (λ (b : Bool). b && is_none c.vmid_of-vmid.result) (sym c.scoped_by_vmid.ensures)
     ∙ sym c.lacks_vmid.ensures ∙ c.if-lacks_vmid.false) in (
-      tlbi_is heading h c.args.pe c.args.op c.args.xt (c.bridge.ensures heading) true false (Ok c.in-Ok.scope)
+      tlbi_is heading h c.args.pe c.args.op c.args.xt (c.laws_below.ensures heading) true false (Ok c.in-Ok.scope)
           (world_by s _ c.args.op true (ap (λ (x : RootState). x.header.world) (sym c.self.view_is)) (sym c.of_world.ensures ∙ c.if-not-of_world.false))
           lacks (sym c.in-Ok.ensures.scope),
       (
@@ -36,7 +36,7 @@ returns-in-Ok c heading h s =
 
 pub returns-in-Err : goal.returns-in-Err
 returns-in-Err c heading h s =
-    tlbi_is heading h c.args.pe c.args.op c.args.xt (c.bridge.ensures heading) true false (Err c.in-Err.field-0)
+    tlbi_is heading h c.args.pe c.args.op c.args.xt (c.laws_below.ensures heading) true false (Err c.in-Err.field-0)
     (world_by s _ c.args.op true (ap (λ (x : RootState). x.header.world) (sym c.self.view_is)) (sym c.of_world.ensures ∙ c.if-not-of_world.false))
     (ap (λ (v : Option ℕ). scoped_by_vmid c.args.op && is_none v) (sym (c.vmid_of-vmid.ensures heading h s))
     ∙ (ap (λ (b : Bool). b && is_none c.vmid_of-vmid.result) (sym c.scoped_by_vmid.ensures)

@@ -6,7 +6,7 @@ use Rattle.bbm_replay_roots.proofs.state.RootState.lock.Goals as goal
 
 pub returns-in-Ok-clause-judged : goal.returns-in-Ok-clause-judged
 returns-in-Ok-clause-judged c heading h s =
-    lock_free heading h c.args.pe c.args.lock (c.bridge.ensures heading) (λ q e.
+    lock_free heading h c.args.pe c.args.lock (c.laws_below.ensures heading) (λ q e.
     let k = (c.in-Ok.ensures.busy q).1 (s.locks c.args.lock ∙ e) in cc)
 
 pub returns-in-Ok-clause-taken : goal.returns-in-Ok-clause-taken
@@ -16,7 +16,7 @@ returns-in-Ok-clause-taken c heading h s =
 
 pub returns-in-Err-clause-judged : goal.returns-in-Err-clause-judged
 returns-in-Err-clause-judged c heading h s =
-    lock_held heading h c.args.pe c.args.lock c.in-Err.busy.0 (c.bridge.ensures heading)
+    lock_held heading h c.args.pe c.args.lock c.in-Err.busy.0 (c.laws_below.ensures heading)
     (sym (s.locks c.args.lock) ∙ (c.in-Err.ensures.busy c.in-Err.busy.0).0 refl)
     ∙ ap (λ (n : ℕ). Some (record { rule = LockBusy; at = n })) (sym c.get.ensures.value)
 

@@ -7,7 +7,7 @@ use Rattle.bbm_replay_roots.proofs.state.RootState.retire.Goals as goal
 
 pub returns-in-Err-clause-taken : goal.returns-in-Err-clause-taken
 returns-in-Err-clause-taken c heading h pe s none =
-    let laws = c.bridge.ensures heading in
+    let laws = c.laws_below.ensures heading in
     absurd (unroot_taken heading laws (laws.proper s.proper) h s.kept (agrees_by laws s) pe c.args.page (outside_by s) c.in-Err.field-0
     (judged_by s c.args.page (Err c.in-Err.field-0) (c.in-Err.ensures.judged (calls_of heading h) s.roots)) none)
 

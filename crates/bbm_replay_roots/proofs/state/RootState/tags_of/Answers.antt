@@ -3,4 +3,4 @@ use Rattle.bbm_replay_roots.proofs.Unroots.{set_by}
 use Rattle.bbm_replay_roots.proofs.state.RootState.tags_of.Goals as goal
 
 pub returns : goal.returns
-returns c heading h s = set_by s (c.bridge.ensures heading) c.args.page _ (c.tags_of.ensures (calls_of heading h) s.roots)
+returns c heading h s = set_by s (c.laws_below.ensures heading) c.args.page _ (c.tags_of.ensures (calls_of heading h) s.roots)

@@ -5,7 +5,7 @@ use Rattle.bbm_replay_roots.proofs.state.RootState.unlock.Goals as goal
 
 pub returns-in-Ok-clause-judged : goal.returns-in-Ok-clause-judged
 returns-in-Ok-clause-judged c heading h s =
-    unlock_mine heading h c.args.pe c.args.lock (c.bridge.ensures heading)
+    unlock_mine heading h c.args.pe c.args.lock (c.laws_below.ensures heading)
     (sym (s.locks c.args.lock) ∙ c.in-Ok.ensures.held.0 (search rules))
 
 pub returns-in-Ok-clause-taken : goal.returns-in-Ok-clause-taken
@@ -15,7 +15,7 @@ returns-in-Ok-clause-taken c heading h s =
 
 pub returns-in-Err-clause-judged : goal.returns-in-Err-clause-judged
 returns-in-Err-clause-judged c heading h s =
-    unlock_other heading h c.args.pe c.args.lock (c.bridge.ensures heading) (λ e.
+    unlock_other heading h c.args.pe c.args.lock (c.laws_below.ensures heading) (λ e.
     true≢false (sym (c.in-Err.ensures.held.1 (s.locks c.args.lock ∙ e))))
 
 pub returns-in-Err-clause-same : goal.returns-in-Err-clause-same

@@ -13,10 +13,10 @@ pub returns-in-Ok : goal.returns-in-Ok
 returns-in-Ok c heading h s =
     sym (c.in-Ok.ensures (calls_of heading h) s.roots)
     ∙ (ap (λ (w : World). held.vmid_of w (calls_of heading h) c.args.pe) s.world
-    ∙ vmid_same heading h (agrees_by (c.bridge.ensures heading) s).values c.args.pe (in_range c.requires.2 s c.requires.3))
+    ∙ vmid_same heading h (agrees_by (c.laws_below.ensures heading) s).values c.args.pe (in_range c.requires.2 s c.requires.3))
 
 pub returns-in-Err : goal.returns-in-Err
 returns-in-Err c heading h s =
     sym (c.in-Err.ensures (calls_of heading h) s.roots).0
     ∙ (ap (λ (w : World). held.vmid_of w (calls_of heading h) c.args.pe) s.world
-    ∙ vmid_same heading h (agrees_by (c.bridge.ensures heading) s).values c.args.pe (in_range c.requires.2 s c.requires.3))
+    ∙ vmid_same heading h (agrees_by (c.laws_below.ensures heading) s).values c.args.pe (in_range c.requires.2 s c.requires.3))

@@ -28,7 +28,7 @@ write_reg-requires-clause-of_world c =
 
 pub returns-in-Ok-clause-judged : goal.returns-in-Ok-clause-judged
 returns-in-Ok-clause-judged c heading h s e =
-    let laws = c.bridge.ensures heading in
+    let laws = c.laws_below.ensures heading in
     write_ok heading laws (laws.proper s.proper) h s.kept (agrees_by laws s) c.args.pe c.args.reg c.args.value
     (in_range c.requires.2 s c.requires.3)
     (world_here s (noted heading Patterns h) c.args.pe c.args.reg c.args.value (c.in_default.ensures Patterns (noted heading Patterns h)))
@@ -43,7 +43,7 @@ returns-in-Ok-clause-taken c heading h s e =
 
 pub returns-in-Err-clause-judged : goal.returns-in-Err-clause-judged
 returns-in-Err-clause-judged c heading h s e =
-    let laws = c.bridge.ensures heading in
+    let laws = c.laws_below.ensures heading in
     subst (λ (f : StepFault). Answers (Err f) (broken heading Patterns h (Msr c.args.pe c.args.reg c.args.value)) (limit_of h (Msr c.args.pe c.args.reg c.args.value)))
     (sym c.write_fault.ensures)
     (write_err heading laws (laws.proper s.proper) h s.kept (agrees_by laws s) c.args.pe c.args.reg c.args.value

@@ -1,0 +1,27 @@
+//! What a PE orders: a DSB or a TLBI.
+//! Source: project's own choice, where no other is named.
+
+use bbm_barriers::Dsb;
+use bbm_regimes::{Pe, PeMask};
+
+/// A DSB.
+#[derive(Clone, Copy, Debug)]
+pub struct Barrier {
+    /// The PE that issued it.
+    pub issuer: Pe,
+    /// Its option.
+    pub dsb: Dsb,
+    /// The number of PEs of the log.
+    pub n: u8,
+}
+
+/// A TLBI, without how far it covers a place.
+#[derive(Clone, Copy, Debug)]
+pub struct Issuing {
+    /// The PE that issued it.
+    pub issuer: Pe,
+    /// The PEs that it reaches.
+    pub reach: PeMask,
+    /// Whether it is broadcast.
+    pub broadcast: bool,
+}

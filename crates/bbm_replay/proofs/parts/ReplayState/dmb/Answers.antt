@@ -1,0 +1,13 @@
+use Rattle.std.proofs.Common.{refl, Ok}
+use Rattle.bbm_rules.specs.Prelude.{Dmb}
+use Rattle.bbm_replay.proofs.Meeting.{meets_judged}
+use Rattle.bbm_replay.proofs.parts.ReplayState.dmb.Goals as goal
+
+pub returns : goal.returns
+returns c =
+    let old = c.args.self.now in
+    meets_judged c.laws.ensures old old.roots (Dmb c.args.pe c.args.dsb) c.requires refl (Ok tt)
+    (λ heading h s. c.law_barriers.ensures.dmb heading h c.args.pe c.args.dsb)
+    (λ h. c.law_barriers.ensures.dmb_limit h c.args.pe c.args.dsb)
+    (λ heading h s. c.law_others.ensures old.roots heading h (Dmb c.args.pe c.args.dsb) s refl
+    (c.law_barriers.ensures.dmb heading h c.args.pe c.args.dsb)) tt

@@ -1,0 +1,25 @@
+use Rattle.std.proofs.Common.{◌≡◌, ℕ, ◌<◌, ◌%◌, ◌==◌, ◌^◌, true, false, nat_lt, Option, Some, None, IsSome, sym, ◌∙◌}
+use Rattle.std.proofs.Common.{ap, true≢false}
+use Rattle.std.proofs.lemmas.Bool.{and_parts, eqb-true, ltb-true}
+use Rattle.std.specs.Option.{option_map_or}
+use Rattle.bbm_events.specs.Fits.{is_page}
+use Rattle.bbm_rules.specs.Pages.{is_null}
+use Rattle.bbm_replay.proofs.Meeting.{never_null}
+use Rattle.bbm_replay.proofs.parts.ReplayState.names_null.Goals as goal
+
+is_one : (base : ℕ) (o : Option ℕ) → o ≡ None → (((base < 2 ^ 48) × (base % 4096 ≡ 0)) → IsSome o) → is_page base ≡ true → ⊥
+is_one base o none some page =
+    let both = and_parts (nat_lt base (2 ^ 48)) (base % 4096 == 0) page in
+    let s : IsSome o = some (ltb-true base (2 ^ 48) both.0, eqb-true (base % 4096) 0 both.1) in
+    no (o) none s
+  where
+    no : (x : Option ℕ) → x ≡ None → IsSome x → ⊥
+    no None e s = absurd (true≢false (sym s))
+    no (Some n) e s = let bad : Some n ≡ None = e in absurd cc
+
+pub returns-in-None-new : goal.returns-in-None-new
+returns-in-None-new c heading h s =
+    let base = c.in-Some.base in
+    let named = sym c.in-Some.is ∙ c.base_of.ensures in
+    never_null heading h base s.told.fit (is_one base c.new.result c.in-None-new.is c.new.ensures.is_one.1)
+    ∙ ap (λ (o : Option ℕ). option_map_or (λ x. is_null h x) o false) named

@@ -1,0 +1,27 @@
+use Rattle.std.proofs.Common.{not, ◌==◌, refl}
+use Rattle.bbm_rules.specs.Tree.{Node}
+use Rattle.bbm_replay.specs.ReplayStanding.{view_of}
+use Rattle.bbm_replay.specs.declared.parts.ReplayState.{ReplayState}
+use Rattle.bbm_replay.proofs.Gone.{leaves_of, unroot_err, unroot_ok}
+use Rattle.bbm_replay.proofs.parts.ReplayState.unroot.Goals as goal
+
+pub retire-requires : goal.retire-requires
+retire-requires c =
+    let m = c.requires in
+    (c.args.pe, (m.0, m.1, m.2.roots, m.3, c.in-Ok.ensures m.0 m.1 m.2.roots))
+
+pub returns-in-Ok : goal.returns-in-Ok
+returns-in-Ok c =
+    let old = c.args.self.now in
+    let e = c.detach.ensures in
+    let new : ReplayState = record old { map = c.detach.new.map; index = c.detach.new.self; roots = c.retire.new.self } in
+    unroot_ok c.laws.ensures c.rules.ensures old c.args.pe c.args.page c.requires new c.in-Ok.ensures
+    (record { header = refl; index_header = e.tracked.heading; sound = λ s. e.sound })
+    (λ heading h s. leaves_of (view_of old.map old.index) (view_of new.map new.index) (λ (n : Node). not (n.root == c.args.page))
+    s.told.outside e.node e.values e.marks e.pends
+    (record { fresh = e.fresh; null = e.null })
+    (record { tracked = e.map_pages; known = e.tracked.known; pages = e.tracked.pages }))
+    (λ heading h s free. c.retire.ensures.taken heading h c.args.pe s free)
+
+pub returns-in-Err : goal.returns-in-Err
+returns-in-Err c = unroot_err c.laws.ensures c.rules.ensures c.args.self.now c.args.pe c.args.page c.requires c.in-Err.fault c.in-Err.ensures

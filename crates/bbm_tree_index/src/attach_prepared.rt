@@ -1,0 +1,40 @@
+//! Pages of a survey get their roles.
+
+ghost use Rattle.std.specs.Prelude.{◌≡◌, ◌<◌, ◌%◌, ◌^◌, ℕ, true, List, Some, is_some, length, nat_eq, slice_get};
+ghost use Rattle.indexmap.specs.IndexMap.{get, index_map_len, keys, IndexMap as TheTable};
+ghost use Rattle.bbm_tree_index.specs.Hanging.{Hung, hung};
+
+use crate::mark::Mark;
+use crate::role::Role;
+use crate::survey::entry_at;
+use crate::table::put;
+use indexmap::IndexMap;
+
+/// The pages of a level get the roles that their marks tell.
+fn attach_prepared(roles: &mut IndexMap<u64, Role>, level: &IndexMap<u64, Mark>)
+    requires pages { (p : ℕ) → is_some (get nat_eq level.now p) ≡ true → (p < 2 ^ 48) × (p % 4096 ≡ 0) }
+    requires known { (p : ℕ) → is_some (get nat_eq level.now p) ≡ true → is_some (get nat_eq roles.old p) ≡ true }
+    ensures roles { (p : ℕ) → get nat_eq roles.new p ≡ hung (get nat_eq level.now p) (get nat_eq roles.old p) }
+    ensures known { (p : ℕ) → is_some (get nat_eq roles.new p) ≡ is_some (get nat_eq roles.old p) }
+    ensures len { index_map_len roles.new ≡ index_map_len roles.old }
+{
+    for index in 0..level.len() {
+        let (page, mark) = entry_at(level, index);
+        put(roles, page, mark.role);
+    }
+}
+
+/// The pages of all levels get the roles that their marks tell.
+pub fn attach_all(roles: &mut IndexMap<u64, Role>, tables: &[IndexMap<u64, Mark>])
+    requires pages { (k p : ℕ) → (table : _) → slice_get tables.now k ≡ Some table
+        → is_some (get nat_eq table p) ≡ true → (p < 2 ^ 48) × (p % 4096 ≡ 0) }
+    requires known { (k p : ℕ) → (table : _) → slice_get tables.now k ≡ Some table
+        → is_some (get nat_eq table p) ≡ true → is_some (get nat_eq roles.old p) ≡ true }
+    ensures roles { (p : ℕ) → Hung tables.now (length tables.now) p (get nat_eq roles.old p) (get nat_eq roles.new p) }
+    ensures known { (p : ℕ) → is_some (get nat_eq roles.new p) ≡ is_some (get nat_eq roles.old p) }
+    ensures len { index_map_len roles.new ≡ index_map_len roles.old }
+{
+    for index in 0..tables.len() {
+        attach_prepared(roles, &tables[index]);
+    }
+}
