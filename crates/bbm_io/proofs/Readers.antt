@@ -42,27 +42,4 @@ pub hand-rest : (hand buffer : List ℕ) (at count end : ℕ) → slice_range bu
 hand-rest hand buffer at count end is within =
     range-rest buffer at count end (subst (λ xs. count ≤ length xs) (sym is) within) ∙ ap (drop count) is
 
--- further bytes were read ahead, and all that was unread stays so
-pub further-kept : (a b : Option (List ℕ)) (hand hand' further : List ℕ) → hand' ≡ hand ++ further → Consumes a b further → Keeps (prepend_known hand a) (prepend_known hand' b)
-further-kept None b hand hand' further is taken = tt
-further-kept (Some xs) None hand hand' further is taken = absurd taken
-further-kept (Some xs) (Some ys) hand hand' further is taken =
-    ap (λ hs. hs ++ ys) is ∙ append_assoc hand further ys ∙ ap (λ rest. hand ++ rest) (sym taken)
-
--- nothing was read ahead
-pub same-kept : (a b : Option (List ℕ)) (hand hand' : List ℕ) → hand' ≡ hand → Keeps a b → Keeps (prepend_known hand a) (prepend_known hand' b)
-same-kept None b hand hand' is kept = tt
-same-kept (Some xs) None hand hand' is kept = absurd kept
-same-kept (Some xs) (Some ys) hand hand' is kept = ap (λ hs. hs ++ ys) is ∙ ap (λ rest. hand ++ rest) kept
-
--- bytes at hand were taken
-pub hand-consumed : (a : Option (List ℕ)) (hand hand' taken : List ℕ) → hand ≡ taken ++ hand' → Consumes (prepend_known hand a) (prepend_known hand' a) taken
-hand-consumed None hand hand' taken is = tt
-hand-consumed (Some xs) hand hand' taken is = ap (λ hs. hs ++ xs) is ∙ append_assoc taken hand' xs
-
--- nothing is at hand, and the reader is at its end
-pub hand-ended : (a : Option (List ℕ)) (hand : List ℕ) → hand ≡ [] → IsAtEnd a → IsAtEnd (prepend_known hand a)
-hand-ended None hand none end = tt
-hand-ended (Some xs) hand none end = rw (none, end) refl
-
 pub ruleset readers = (keeps-consumes, keeps-appends, appends-nothing)

@@ -87,9 +87,6 @@ module _ (stands : Heading → List EventOf → Type 0) (limits : Limits) (headi
   kept-event : (n : ℕ) (h : List EventOf) (e : EventOf) (label : Option (List ℕ)) (which : Option Which) → broken heading Patterns h e ≡ None → limit_of h e ≡ None → limit_after limits n (length h) ≡ which → after_event Patterns limits n heading h e label ≡ after_kept n heading h e which
   kept-event n h e label which kept free reached = rw (kept, free, reached) refl
 
-  pub event-limit : (n : ℕ) (h : List EventOf) (e : EventOf) (label : Option (List ℕ)) (which : Which) → broken heading Patterns h e ≡ None → limit_of h e ≡ None → limit_after limits n (length h) ≡ Some which → after_event Patterns limits n heading h e label ≡ Decides (Limit n which)
-  event-limit n h e label which kept free reached = kept-event n h e label (Some which) kept free reached
-
   pub event-kept : (n : ℕ) (h : List EventOf) (e : EventOf) (label : Option (List ℕ)) → broken heading Patterns h e ≡ None → limit_of h e ≡ None → limit_after limits n (length h) ≡ None → after_event Patterns limits n heading h e label ≡ GoesOn (AtEvents heading (e ∷ h))
   event-kept n h e label kept free reached = kept-event n h e label None kept free reached
 

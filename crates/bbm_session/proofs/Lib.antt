@@ -5,7 +5,6 @@ pub mod ReadBytes
 pub mod Judgements
 pub mod RunLines
 pub mod CertificateLines
-pub mod ShownLogs
 pub mod RefusedEvents
 pub mod Served
 pub mod GeneratedLogs

@@ -7,7 +7,8 @@ use Rattle.std.proofs.lemmas.Bool.{and_parts}
 use Rattle.std.proofs.lemmas.Bool.Decides.{nat_tests}
 use Rattle.bbm_io.specs.Flow.{plain}
 use Rattle.bbm_rules.specs.Outcome.{Text, before_text, text_of, bytes_of, is_too_long}
-use Rattle.bbm_session.specs.Fold.{turned_by, Fold, Turned, Halts, Passes, Ending, end_by, ending_after, ending_from, ending_at}
+use Rattle.bbm_session.specs.Fold.{turned_by, Fold, Turned, Halts, Passes, Ending, end_by, ending_after}
+use Rattle.bbm_session.specs.Fold.{ending_at, ending_from}
 use Rattle.bbm_session.specs.Fold.{passes_to, lines_from}
 use Rattle.bbm_session.specs.Run.{ReadToFault, ReadToWant, reached_from}
 use Rattle.bbm_session.specs.Stages.{plain_lines, Broke, Breaks, Starved, Starves}

@@ -30,7 +30,7 @@ use Rattle.bbm_session.specs.JudgedLog.{RefusesIn, StopsIn}
 use Rattle.bbm_session.specs.Refused.{RefusedIn, event_in}
 use Rattle.bbm_texts.specs.Known.{IsRefused}
 use Rattle.bbm_session.specs.Stages.{Stops}
-use Rattle.bbm_session.specs.Writing.{Heads}
+use Rattle.bbm_session.specs.Serving.{Heads}
 use Rattle.bbm_session.proofs.Judgements.{AllFit, decided-by, end-is, fits-read, refuses-item, step-is}
 
 -- the lines are read under this header

@@ -33,7 +33,7 @@ use Rattle.bbm_session.specs.Stages.{plain_lines, Passed, Breaks, Starves, Shrin
 use Rattle.bbm_session.specs.Stages.{IsBrief, KnowsWhy, RefusedOn, ReadsHeader, HeaderLine, Starts, TakesLine, Advances}
 use Rattle.bbm_session.specs.Stages.{Going, Reaches, Closes, Ends}
 use Rattle.bbm_texts.specs.Known.{EndsThere, KnowsThat}
-use Rattle.bbm_session.specs.Writing.{Heads}
+use Rattle.bbm_session.specs.Serving.{Heads}
 use Rattle.bbm_session.proofs.Texts.{plain-head, text_of-line, text_of-plain, text_of-prefix, bytes_of-text_of}
 use Rattle.bbm_session.proofs.Texts.{prefixed}
 
@@ -369,10 +369,6 @@ module _ {P V : Type 0} (fold : Fold P V) where
   continues-trans n1 n2 n3 p1 p2 p3 (Some a) None new first second = absurd first
   continues-trans n1 n2 n3 p1 p2 p3 (Some a) (Some b) None first second = absurd second
   continues-trans n1 n2 n3 p1 p2 p3 (Some a) (Some b) (Some c) first second = passed-trans n1 n2 n3 p1 p2 p3 a b c first second
-
-  pub continues-none : (n : ℕ) (p : P) (old : Option (List ℕ)) → Continues fold n p old n p old
-  continues-none n p None = tt
-  continues-none n p (Some a) = passed-none n p a
 
   pub continues-concludes : (n1 n2 : ℕ) (p1 p2 : P) (v : V) (old mid new : Option (List ℕ)) → Continues fold n1 p1 old n2 p2 mid → Concludes fold n2 p2 mid v new → Concludes fold n1 p1 old v new
   continues-concludes n1 n2 p1 p2 v None mid new first second = tt

@@ -11,7 +11,7 @@ use Rattle.bbm_session.specs.declared.stop.Stop.TheVariants.{Decided}
 use Rattle.bbm_session.specs.Folds.{judging}
 use Rattle.bbm_session.specs.Refused.{RefusedIn}
 use Rattle.bbm_session.specs.Stages.{IsBrief, KnowsAt, Stops}
-use Rattle.bbm_session.specs.Writing.{Heads}
+use Rattle.bbm_session.specs.Serving.{Heads}
 
 -- the event that a verdict on these bytes refuses is that of its line
 abbrev pub RefusesIn : Limits → List ℕ → Heading → List Event → Verdict → Option Event → Type 0

@@ -8,6 +8,6 @@ pub mod Refused
 pub mod Requests
 pub mod Run
 pub mod Runs
+pub mod Serving
 pub mod Stages
 pub mod Verified
-pub mod Writing

@@ -6,7 +6,7 @@ ghost use Rattle.bbm_events.specs.Heading.{Heading as HeadingOf};
 ghost use Rattle.bbm_texts.specs.declared.commands.Command.{Command as CommandOf};
 ghost use Rattle.bbm_texts.specs.Says.{SaysFor};
 ghost use Rattle.bbm_session.specs.Stages.{IsBrief};
-ghost use Rattle.bbm_session.specs.Writing.{IsLine, Reports};
+ghost use Rattle.bbm_session.specs.Serving.{IsLine, Reports};
 
 use crate::stop::Stop;
 use bbm_io::Sink;

@@ -3,7 +3,8 @@
 
 ghost use Rattle.std.specs.Prelude.{◌≡◌, map};
 ghost use Rattle.std.specs.String.{string_bytes};
-ghost use Rattle.bbm_session.specs.Requests.{event_count, gen_of, log_after, log_asked, request_alone, request_of, selftest_of};
+ghost use Rattle.bbm_session.specs.Requests.{event_count, gen_of, log_after, log_asked, request_alone, request_of};
+ghost use Rattle.bbm_session.specs.Requests.{selftest_of};
 ghost use Rattle.bbm_session.specs.Run.{command_alone, command_of, limits_of, or_else};
 
 use bbm_log_grammar::read_decimal;

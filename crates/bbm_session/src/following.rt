@@ -5,7 +5,7 @@ ghost use Rattle.bbm_follow.specs.Following.{Reached, RunSays};
 ghost use Rattle.bbm_session.specs.Fold.{Fold};
 ghost use Rattle.bbm_session.specs.Folds.{Follows, Turns};
 ghost use Rattle.bbm_session.specs.Stages.{MayTakeLine, Shrinks, TakesLine};
-ghost use Rattle.bbm_session.specs.Writing.{FollowsRun};
+ghost use Rattle.bbm_session.specs.Serving.{FollowsRun, streams_of};
 
 use crate::answering::report_stop;
 use crate::reading::{header_line, read_log};
@@ -84,8 +84,7 @@ impl Taker for Following {
 
 /// Reads a run, follows it, and writes its text. The whole text is read before a step that is none is named.
 pub fn follow<S: Source, K: Sink>(alloc: Global, log: &mut S, out: &mut K) -> Status
-    ensures follows { FollowsRun result (S.left log.old) (S.left log.new) (S.faults log.old) (S.faults log.new)
-        (K.held out.old) (K.held out.new) (K.faults out.old) (K.faults out.new) }
+    ensures follows { FollowsRun result (streams_of S.left S.faults log.old log.new K.held K.faults out.old out.new) }
     ensures shrinks { Shrinks (201 * 4294967298) (S.left log.old) (S.left log.new) }
 {
     let mut lines = Lines::new();

@@ -5,7 +5,7 @@ ghost use Rattle.bbm_events.specs.declared.event.Event.{Event};
 ghost use Rattle.bbm_session.specs.Folds.{is_frugal};
 ghost use Rattle.bbm_texts.specs.Says.{shows};
 ghost use Rattle.bbm_session.specs.Stages.{KnowsAt, Shrinks};
-ghost use Rattle.bbm_session.specs.Writing.{Reports, Obeys};
+ghost use Rattle.bbm_session.specs.Serving.{Obeys, Reports, streams_of};
 ghost use Rattle.bbm_texts.specs.Says.{SaysFor};
 
 use crate::answering::report_stop;
@@ -49,8 +49,8 @@ pub fn obey<C: Fresh + Drop, S: Source, K: Sink>(
 ) -> Status
     requires plain { shows command.now ≡ false }
     ensures obeys { ((checker : C) → C.frugal checker ≡ is_frugal command.now)
-        → Obeys command.now result (S.left log.old) (S.left log.new) (S.faults log.old) (S.faults log.new)
-        (K.held out.old) (K.held out.new) (K.faults out.old) (K.faults out.new) }
+        → Obeys command.now result
+        (streams_of S.left S.faults log.old log.new K.held K.faults out.old out.new) }
     ensures shrinks { Shrinks (201 * 4294967298) (S.left log.old) (S.left log.new) }
 {
     match judge_log::<C, S>(alloc, limits(command), log) {

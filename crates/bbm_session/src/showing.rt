@@ -4,7 +4,7 @@ ghost use Rattle.std.specs.Prelude.{◌≡◌, ◌*◌, false, List, Some};
 ghost use Rattle.bbm_events.specs.declared.event.Event.{Event};
 ghost use Rattle.bbm_texts.specs.declared.commands.Command.TheVariants as command_of;
 ghost use Rattle.bbm_session.specs.Stages.{KnowsAt, Shrinks};
-ghost use Rattle.bbm_session.specs.Writing.{Obeys, ReportsShown};
+ghost use Rattle.bbm_session.specs.Serving.{Obeys, ReportsShown, streams_of};
 
 use crate::answering::report_stop;
 use crate::command::limits;
@@ -48,8 +48,8 @@ pub fn show<C: Fresh + Logged + Drop, S: Source, K: Sink>(
     out: &mut K,
 ) -> Status
     ensures obeys { ((checker : C) → C.frugal checker ≡ false)
-        → Obeys (command_of.Show evidence.now) result (S.left log.old) (S.left log.new)
-        (S.faults log.old) (S.faults log.new) (K.held out.old) (K.held out.new) (K.faults out.old) (K.faults out.new) }
+        → Obeys (command_of.Show evidence.now) result
+        (streams_of S.left S.faults log.old log.new K.held K.faults out.old out.new) }
     ensures shrinks { Shrinks (201 * 4294967298) (S.left log.old) (S.left log.new) }
 {
     match judge_log::<C, S>(alloc, limits(&Command::Show(*evidence)), log) {

@@ -1,6 +1,7 @@
 //! The top call.
 
-ghost use Rattle.std.specs.Prelude.{◌≡◌, ◌*◌, ◌<◌, ◌^◌, ◌⊎◌, length, ℕ, List, [], Option, Some, None, IsSome, true, false, map};
+ghost use Rattle.std.specs.Prelude.{◌≡◌, ◌*◌, ◌<◌, ◌^◌, ◌⊎◌, ℕ, List, [], Option, Some, None, IsSome, true, false};
+ghost use Rattle.std.specs.Prelude.{length, map};
 ghost use Rattle.std.specs.String.{string_bytes};
 ghost use Rattle.bbm_io.specs.Faults.{Rose};
 ghost use Rattle.bbm_io.specs.Flow.{preceded, extended};
@@ -16,7 +17,7 @@ ghost use Rattle.bbm_session.specs.Requests.{request_of, status_for, unread_for}
 ghost use Rattle.bbm_session.specs.Run.{command_of, limits_of, tells_verdict};
 ghost use Rattle.bbm_texts.specs.Says.{usage_text};
 ghost use Rattle.bbm_session.specs.Stages.{Shrinks};
-ghost use Rattle.bbm_session.specs.Writing.{Obeys, Serves};
+ghost use Rattle.bbm_session.specs.Serving.{Obeys, Serves, streams_of};
 ghost use Rattle.bbm_texts.specs.Writing.{Part};
 
 use crate::command::{Request, said};
@@ -37,8 +38,8 @@ use std::alloc::Global;
 /// Judges a log: for `slow` by the oracle, which searches the whole history, and else by the checker that keeps none,
 /// with a list of the events beside it where more of them is shown.
 fn judge<S: Source, K: Sink>(alloc: Global, command: &Command, log: &mut S, out: &mut K) -> Status
-    ensures obeys { Obeys command.now result (S.left log.old) (S.left log.new) (S.faults log.old) (S.faults log.new)
-        (K.held out.old) (K.held out.new) (K.faults out.old) (K.faults out.new) }
+    ensures obeys { Obeys command.now result
+        (streams_of S.left S.faults log.old log.new K.held K.faults out.old out.new) }
     ensures shrinks { Shrinks (201 * 4294967298) (S.left log.old) (S.left log.new) }
 {
     match command {
@@ -52,8 +53,8 @@ fn judge<S: Source, K: Sink>(alloc: Global, command: &Command, log: &mut S, out:
 
 /// Does what was asked for.
 fn serve<S: Source, K: Sink>(alloc: Global, request: &Request, log: &mut S, out: &mut K) -> Status
-    ensures serves { Serves request.now result (S.left log.old) (S.left log.new) (S.faults log.old) (S.faults log.new)
-        (K.held out.old) (K.held out.new) (K.faults out.old) (K.faults out.new) }
+    ensures serves { Serves request.now result
+        (streams_of S.left S.faults log.old log.new K.held K.faults out.old out.new) }
     ensures shrinks { Shrinks (201 * 4294967298) (S.left log.old) (S.left log.new) }
 {
     match request {

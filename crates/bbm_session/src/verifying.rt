@@ -5,7 +5,7 @@ ghost use Rattle.bbm_certificate.specs.CertificateReading.{Reached, Said};
 ghost use Rattle.bbm_session.specs.Fold.{Fold};
 ghost use Rattle.bbm_session.specs.Folds.{Certifies, TurnsRead};
 ghost use Rattle.bbm_session.specs.Stages.{MayTakeLine, Shrinks, TakesLine};
-ghost use Rattle.bbm_session.specs.Writing.{Verifies};
+ghost use Rattle.bbm_session.specs.Serving.{Verifies, streams_of};
 
 use crate::answering::report_stop;
 use crate::reading::{header_line, read_log};
@@ -84,8 +84,7 @@ impl Taker for Verifying {
 /// Reads a log and its certificate, judges the one by the other, and writes the line of that. All lines are read before
 /// anything is judged.
 pub fn verify<S: Source, K: Sink>(alloc: Global, log: &mut S, out: &mut K) -> Status
-    ensures verifies { Verifies result (S.left log.old) (S.left log.new) (S.faults log.old) (S.faults log.new)
-        (K.held out.old) (K.held out.new) (K.faults out.old) (K.faults out.new) }
+    ensures verifies { Verifies result (streams_of S.left S.faults log.old log.new K.held K.faults out.old out.new) }
     ensures shrinks { Shrinks (201 * 4294967298) (S.left log.old) (S.left log.new) }
 {
     law_header_in_range();

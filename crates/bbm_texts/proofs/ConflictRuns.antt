@@ -262,13 +262,6 @@ reports-run heading h d e result old new f f' is (inl told) =
     inl (told.0, subst (λ (o : Option Event). RunOf heading h d.verdict told.0 o) (sym is) told.1, told.2)
 reports-run heading h d e result old new f f' is (inr silent) = inr (shows-run d.verdict e d.refused is, silent)
 
--- of another verdict
-pub reports-line : (heading : Heading) (h : List Event) (d : Decision) (result : Status) (old new : Option (List ℕ)) (f f' : ℕ)
-    → refused_write d.refused d.verdict ≡ None → Wrote (status_of d.verdict) (verdict_text d.verdict) result old new f f'
-    → ReportsDecided (Show Counterrun) (Some heading) h d result old new f f'
-reports-line heading h d result old new f f' is wrote =
-    inl (verdict_text d.verdict, subst (λ (o : Option Event). RunOf heading h d.verdict (verdict_text d.verdict) o) (sym is) refl, wrote)
-
 -- the same of what holds the steps
 some-mapped : {V : Type 0} (items : V → List Step) (P : List Step → Type 0) (found : Option V) → IfSome (option_map items found) P → IfSome found (λ v. P (items v))
 some-mapped items P None fit = tt

@@ -62,9 +62,6 @@ pub puts-longer : (a more : List ℕ) (e : Failed) (old new : Option (List ℕ))
     → Puts a (Err e) old new f f' → Puts (a ++ more) (Err e) old new f f'
 puts-longer a more e old new f f' puts = (part-longer a more old new puts.0, puts.1)
 
-pub puts-nothing : (a : List ℕ) (old new : Option (List ℕ)) (f f' : ℕ) → Puts a (Ok tt) old new f f' → Puts (a ++ []) (Ok tt) old new f f'
-puts-nothing a old new f f' puts = subst (λ (t : List ℕ). Puts t (Ok tt) old new f f') (sym (append-nil a)) puts
-
 -- nothing was written yet
 pub puts-none : (old : Option (List ℕ)) → old ≡ extended old []
 puts-none None = refl

@@ -22,7 +22,8 @@ returns-in-Ok-read_log-clause-follows g c =
     let header = c.in-Ok.header in
     let starts = c.in-Ok.ensures.starts following_of run.AtHeader (λ h. run.AtSteps h []) following-start in
     let ends = c.in-Ok-read_log.ensures.ends following_of (run.AtSteps header []) (following-inside header []) (follows-none header c.new.result.items c.new.ensures.items) in
-    followed-whole header c.read_log.new.taker.steps.items c.follow_run.result c.report_run.result _ _ _ _ _ _ _ _ _ _ starts.0 starts.1 ends c.follow_run.ensures.followed c.report_run.ensures.reports
+    followed-whole _ _ header c.read_log.new.taker.steps.items c.follow_run.result _ _ starts.0 starts.1 ends
+    c.follow_run.ensures.followed c.report_run.ensures.reports
 
 pub returns-in-Ok-read_log-clause-shrinks : goal.returns-in-Ok-read_log-clause-shrinks
 returns-in-Ok-read_log-clause-shrinks g c = shrinks-trans 201 (201 * 4294967297) (201 * 4294967298) _ _ _ (lit≤ tt) c.in-Ok.ensures.shrinks c.in-Ok-read_log.ensures.shrinks
@@ -32,11 +33,14 @@ returns-in-Ok-clause-follows g c =
     let header = c.in-Ok.header in
     let starts = c.in-Ok.ensures.starts following_of run.AtHeader (λ h. run.AtSteps h []) following-start in
     let ends = c.in-Err-read_log.ensures.ends following_of (run.AtSteps header []) (following-inside header []) (follows-none header c.new.result.items c.new.ensures.items) in
-    followed-stopped header c.read_log.new.taker.steps.items c.in-Err-read_log.stop c.report_stop.result _ _ _ _ _ _ _ _ _ _ starts.0 starts.1 ends c.report_stop.ensures.line
+    followed-stopped _ _ header c.read_log.new.taker.steps.items c.in-Err-read_log.stop _ _ starts.0 starts.1 ends
+    c.report_stop.ensures.line
 
 pub returns-in-Ok-clause-shrinks : goal.returns-in-Ok-clause-shrinks
 returns-in-Ok-clause-shrinks g c = shrinks-trans 201 (201 * 4294967297) (201 * 4294967298) _ _ _ (lit≤ tt) c.in-Ok.ensures.shrinks c.in-Err-read_log.ensures.shrinks
 
 pub returns-clause-follows : goal.returns-clause-follows
 returns-clause-follows g c =
-    followed-unread c.in-Err.stop c.report_stop-in-Err.result _ _ _ _ _ _ _ _ (c.in-Err.ensures.starts following_of run.AtHeader (λ h. run.AtSteps h []) following-start) c.report_stop-in-Err.ensures.line
+    followed-unread _ _ c.in-Err.stop
+    (c.in-Err.ensures.starts following_of run.AtHeader (λ h. run.AtSteps h []) following-start)
+    c.report_stop-in-Err.ensures.line

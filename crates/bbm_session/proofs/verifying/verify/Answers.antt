@@ -30,7 +30,8 @@ returns-in-Ok-read_log-clause-verifies g c =
     let starts = c.in-Ok.ensures.starts certifying read.AtHeader (λ h. read.AtEvents h []) certifying-start in
     let none = certifies-none header c.new.result (c.law_header_in_range.ensures starts.0.line header starts.0.header) c.new.ensures.part c.new.ensures.events c.new.ensures.claims in
     let ends = c.in-Ok-read_log.ensures.ends certifying (read.AtEvents header []) (certifying-inside header part.Events [] []) none in
-    verified-whole header kept _ _ c.judge_kept.result c.report_judged.result _ _ _ _ _ _ _ _ _ _ starts.0 starts.1 ends (sym (length-reverse kept.events.items)) refl c.judge_kept.ensures.judged c.report_judged.ensures.reports
+    verified-whole _ _ header kept _ _ c.judge_kept.result _ _ starts.0 starts.1 ends
+    (sym (length-reverse kept.events.items)) refl c.judge_kept.ensures.judged c.report_judged.ensures.reports
 
 pub returns-in-Ok-read_log-clause-shrinks : goal.returns-in-Ok-read_log-clause-shrinks
 returns-in-Ok-read_log-clause-shrinks g c = shrinks-trans 201 (201 * 4294967297) (201 * 4294967298) _ _ _ (lit≤ tt) c.in-Ok.ensures.shrinks c.in-Ok-read_log.ensures.shrinks
@@ -41,11 +42,14 @@ returns-in-Ok-clause-verifies g c =
     let starts = c.in-Ok.ensures.starts certifying read.AtHeader (λ h. read.AtEvents h []) certifying-start in
     let none = certifies-none header c.new.result (c.law_header_in_range.ensures starts.0.line header starts.0.header) c.new.ensures.part c.new.ensures.events c.new.ensures.claims in
     let ends = c.in-Err-read_log.ensures.ends certifying (read.AtEvents header []) (certifying-inside header part.Events [] []) none in
-    verified-stopped header c.read_log.new.taker.kept c.in-Err-read_log.stop c.report_stop.result _ _ _ _ _ _ _ _ _ _ starts.0 starts.1 ends c.report_stop.ensures.line
+    verified-stopped _ _ header c.read_log.new.taker.kept c.in-Err-read_log.stop _ _ starts.0 starts.1 ends
+    c.report_stop.ensures.line
 
 pub returns-in-Ok-clause-shrinks : goal.returns-in-Ok-clause-shrinks
 returns-in-Ok-clause-shrinks g c = shrinks-trans 201 (201 * 4294967297) (201 * 4294967298) _ _ _ (lit≤ tt) c.in-Ok.ensures.shrinks c.in-Err-read_log.ensures.shrinks
 
 pub returns-clause-verifies : goal.returns-clause-verifies
 returns-clause-verifies g c =
-    verified-unread c.in-Err.stop c.report_stop-in-Err.result _ _ _ _ _ _ _ _ (c.in-Err.ensures.starts certifying read.AtHeader (λ h. read.AtEvents h []) certifying-start) c.report_stop-in-Err.ensures.line
+    verified-unread _ _ c.in-Err.stop
+    (c.in-Err.ensures.starts certifying read.AtHeader (λ h. read.AtEvents h []) certifying-start)
+    c.report_stop-in-Err.ensures.line

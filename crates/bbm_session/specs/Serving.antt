@@ -1,4 +1,4 @@
--- What became of a text that was to be written.
+-- What became of what was asked for, by what was read and written.
 use Rattle.std.specs.Prelude.{◌≡◌, ℕ, List, Option, Some, None, ◌⊎◌}
 use Rattle.bbm_io.specs.Faults.{Rose}
 use Rattle.bbm_events.specs.declared.claim.Claim.{Claim}
@@ -44,38 +44,71 @@ abbrev pub Heads : Option (List ℕ) → Option Heading → Type 0
 Heads None heading = Unit {0}
 Heads (Some bytes) heading = heading_in (text_of bytes).lines ≡ heading
 
--- something was said of a text, of which this was left and is left, and its line was written
+-- What a source has left and a sink holds before a call and after it, where they tell that, and how many reads and how
+-- many writes have failed.
+pub record Streams : Type 0 where
+  pub left_before : Option (List ℕ)
+  pub left_after : Option (List ℕ)
+  pub read_faults_before : ℕ
+  pub read_faults_after : ℕ
+  pub held_before : Option (List ℕ)
+  pub held_after : Option (List ℕ)
+  pub write_faults_before : ℕ
+  pub write_faults_after : ℕ
+
+-- the same by what is told of a source and of a sink, of each as it was and as it is
+abbrev pub streams_of : {S K : Type 0} → (S → Option (List ℕ)) → (S → ℕ) → S → S → (K → Option (List ℕ)) → (K → ℕ)
+    → K → K → Streams
+streams_of left read_faults log log' held write_faults out out' = record {
+  left_before = left log;
+  left_after = left log';
+  read_faults_before = read_faults log;
+  read_faults_after = read_faults log';
+  held_before = held out;
+  held_after = held out';
+  write_faults_before = write_faults out;
+  write_faults_after = write_faults out';
+}
+
+-- this text was to be written with this status
+abbrev pub WroteTo : Status → List ℕ → Status → Streams → Type 0
+WroteTo wanted text result streams =
+    Wrote wanted text result streams.held_before streams.held_after streams.write_faults_before
+    streams.write_faults_after
+
+-- nothing was written, and this is the status
+abbrev pub SilentTo : Status → Status → Streams → Type 0
+SilentTo wanted result streams =
+    Silent wanted result streams.held_before streams.held_after streams.write_faults_before streams.write_faults_after
+
+-- something was said of the text that was left, and its line was written
 pub record Told {P V : Type 0} (fold : Fold P V) (start : P) (Text : V → List ℕ → Type 0) (tells : V → Status)
-    (result : Status) (left left' : Option (List ℕ)) (reads reads' : ℕ) (held held' : Option (List ℕ))
-    (writes writes' : ℕ) : Type 0 where
+    (result : Status) (streams : Streams) : Type 0 where
   pub says : V
-  pub concludes : Concludes fold 1 start left says left'
-  pub sound : reads' ≡ reads
+  pub concludes : Concludes fold 1 start streams.left_before says streams.left_after
+  pub sound : streams.read_faults_after ≡ streams.read_faults_before
   pub text : List ℕ
   pub is : Text says text
-  pub wrote : Wrote (tells says) text result held held' writes writes'
+  pub wrote : WroteTo (tells says) text result streams
 
 -- nothing was said: a read failed, or there was no memory
-pub record ReadFailed {P V : Type 0} (fold : Fold P V) (start : P) (result : Status) (left left' : Option (List ℕ))
-    (reads reads' : ℕ) (held held' : Option (List ℕ)) (writes writes' : ℕ) : Type 0 where
-  pub breaks : Breaks fold 1 start left left'
-  pub rose : Rose reads reads'
-  pub silent : Silent status.ReadFault result held held' writes writes'
+pub record ReadFailed {P V : Type 0} (fold : Fold P V) (start : P) (result : Status) (streams : Streams) : Type 0 where
+  pub breaks : Breaks fold 1 start streams.left_before streams.left_after
+  pub rose : Rose streams.read_faults_before streams.read_faults_after
+  pub silent : SilentTo status.ReadFault result streams
 
-pub record Wanted (Wants : Option (List ℕ) → Option (List ℕ) → Type 0) (result : Status) (left left' : Option (List ℕ))
-    (reads reads' : ℕ) (held held' : Option (List ℕ)) (writes writes' : ℕ) : Type 0 where
-  pub wants : Wants left left'
-  pub sound : reads' ≡ reads
-  pub silent : Silent status.NoMemory result held held' writes writes'
+pub record Wanted (Wants : Option (List ℕ) → Option (List ℕ) → Type 0) (result : Status) (streams : Streams)
+    : Type 0 where
+  pub wants : Wants streams.left_before streams.left_after
+  pub sound : streams.read_faults_after ≡ streams.read_faults_before
+  pub silent : SilentTo status.NoMemory result streams
 
 -- a text was read, and the answer was written
 abbrev pub Answered : {P V : Type 0} → Fold P V → P → (V → List ℕ → Type 0) → (V → Status)
-    → (Option (List ℕ) → Option (List ℕ) → Type 0) → Status → Option (List ℕ) → Option (List ℕ) → ℕ → ℕ
-    → Option (List ℕ) → Option (List ℕ) → ℕ → ℕ → Type 0
-Answered fold start Text tells Wants result left left' reads reads' held held' writes writes' =
-    Told fold start Text tells result left left' reads reads' held held' writes writes'
-    ⊎ (ReadFailed fold start result left left' reads reads' held held' writes writes'
-    ⊎ Wanted Wants result left left' reads reads' held held' writes writes')
+    → (Option (List ℕ) → Option (List ℕ) → Type 0) → Status → Streams → Type 0
+Answered fold start Text tells Wants result streams =
+    Told fold start Text tells result streams
+    ⊎ (ReadFailed fold start result streams ⊎ Wanted Wants result streams)
 
 -- a run was read whole
 pub record ReadWhole (left left' : Option (List ℕ)) : Type 0 where
@@ -119,50 +152,40 @@ abbrev pub WantsJudged : Command → Option (List ℕ) → Option (List ℕ) →
 WantsJudged command left left' = Starves (judging_for command) 1 AtHeader left left' ⊎ ReadJudged command left left'
 
 -- a log was judged for a command
-pub record Obeys (command : Command) (result : Status) (left left' : Option (List ℕ)) (reads reads' : ℕ)
-    (held held' : Option (List ℕ)) (writes writes' : ℕ) : Type 0 where
+pub record Obeys (command : Command) (result : Status) (streams : Streams) : Type 0 where
   pub heading : Option Heading
-  pub heads : Heads left heading
+  pub heads : Heads streams.left_before heading
   pub answered : Answered (judging_for command) AtHeader
       (λ said text. Says command heading said.log said.refused said.verdict text) (λ said. status_of said.verdict)
-      (WantsJudged command) result left left' reads reads' held held' writes writes'
+      (WantsJudged command) result streams
 
 -- a run was followed
-abbrev pub FollowsRun : Status → Option (List ℕ) → Option (List ℕ) → ℕ → ℕ → Option (List ℕ) → Option (List ℕ) → ℕ → ℕ
-    → Type 0
-FollowsRun result left left' reads reads' held held' writes writes' =
-    Answered following run.AtHeader (λ says text. text ≡ run.run_text says) run_status WantsRun result left left'
-    reads reads' held held' writes writes'
+abbrev pub FollowsRun : Status → Streams → Type 0
+FollowsRun result streams =
+    Answered following run.AtHeader (λ says text. text ≡ run.run_text says) run_status WantsRun result streams
 
 -- a log was judged by its certificate
-abbrev pub Verifies : Status → Option (List ℕ) → Option (List ℕ) → ℕ → ℕ → Option (List ℕ) → Option (List ℕ) → ℕ → ℕ
-    → Type 0
-Verifies result left left' reads reads' held held' writes writes' =
-    Answered certifying read.AtHeader (λ says text. text ≡ read_text says) read_status WantsRead result left left'
-    reads reads' held held' writes writes'
+abbrev pub Verifies : Status → Streams → Type 0
+Verifies result streams =
+    Answered certifying read.AtHeader (λ says text. text ≡ read_text says) read_status WantsRead result streams
 
 -- a generated log was written, and the source is as before
-abbrev pub Generates : ℕ → ℕ → Status → Option (List ℕ) → Option (List ℕ) → ℕ → ℕ → Option (List ℕ) → Option (List ℕ)
-    → ℕ → ℕ → Type 0
-Generates n count result left left' reads reads' held held' writes writes' =
-    (left' ≡ left) × (reads' ≡ reads) × Wrote status.Accepted (gen_text n count) result held held' writes writes'
+abbrev pub Generates : ℕ → ℕ → Status → Streams → Type 0
+Generates n count result streams =
+    (streams.left_after ≡ streams.left_before) × (streams.read_faults_after ≡ streams.read_faults_before)
+    × WroteTo status.Accepted (gen_text n count) result streams
 
--- the same, and the source is as before
-abbrev pub Selftests : ℕ → ℕ → Status → Option (List ℕ) → Option (List ℕ) → ℕ → ℕ → Option (List ℕ)
-    → Option (List ℕ) → ℕ → ℕ → Type 0
-Selftests n count result left left' reads reads' held held' writes writes' =
-    (left' ≡ left) × (reads' ≡ reads) × Tested n count result held held' writes writes'
+-- the same of a self-test
+abbrev pub Selftests : ℕ → ℕ → Status → Streams → Type 0
+Selftests n count result streams =
+    (streams.left_after ≡ streams.left_before) × (streams.read_faults_after ≡ streams.read_faults_before)
+    × Tested n count result streams.held_before streams.held_after streams.write_faults_before
+    streams.write_faults_after
 
 -- what was asked for was done
-abbrev pub Serves : Request → Status → Option (List ℕ) → Option (List ℕ) → ℕ → ℕ → Option (List ℕ) → Option (List ℕ)
-    → ℕ → ℕ → Type 0
-Serves (Judge command) result left left' reads reads' held held' writes writes' =
-    Obeys command result left left' reads reads' held held' writes writes'
-Serves Follow result left left' reads reads' held held' writes writes' =
-    FollowsRun result left left' reads reads' held held' writes writes'
-Serves Verify result left left' reads reads' held held' writes writes' =
-    Verifies result left left' reads reads' held held' writes writes'
-Serves (Generate n count) result left left' reads reads' held held' writes writes' =
-    Generates n count result left left' reads reads' held held' writes writes'
-Serves (Selftest n count) result left left' reads reads' held held' writes writes' =
-    Selftests n count result left left' reads reads' held held' writes writes'
+abbrev pub Serves : Request → Status → Streams → Type 0
+Serves (Judge command) result streams = Obeys command result streams
+Serves Follow result streams = FollowsRun result streams
+Serves Verify result streams = Verifies result streams
+Serves (Generate n count) result streams = Generates n count result streams
+Serves (Selftest n count) result streams = Selftests n count result streams
