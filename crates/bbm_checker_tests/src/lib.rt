@@ -1,14 +1,12 @@
-//! Tests of checkers, of the generated log, and of the machine of TLBs with its texts: what no clause says. They stand
-//! in a crate of their own, so that each crate is proved once.
+//! Tests of checkers, of the generated log, and of the machine of TLBs with its texts: each public call once, with what
+//! was worked out by hand. They stand in a crate of their own, so that each crate is proved once.
 #![tactic(auto)]
 
 #[cfg(test)]
 mod checkers;
 #[cfg(test)]
-mod follow;
-#[cfg(test)]
 mod generator;
 #[cfg(test)]
-mod report;
+mod runs;
 #[cfg(test)]
-mod tlb_machine;
+mod texts;

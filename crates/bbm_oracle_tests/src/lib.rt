@@ -1,12 +1,10 @@
-//! Tests of the crates that judge by the whole history: what no clause says. They stand in a crate of their own, so
-//! that each crate is proved once.
+//! Tests of the crates that judge by the whole history: each public call once, over one log, with what was worked out by
+//! hand. They stand in a crate of their own, so that each crate is proved once.
 #![tactic(auto)]
 
 #[cfg(test)]
-mod judge;
+mod events;
 #[cfg(test)]
-mod oracle_patterns;
+mod history;
 #[cfg(test)]
-mod oracle_tags;
-#[cfg(test)]
-mod oracle_trees;
+mod lists;

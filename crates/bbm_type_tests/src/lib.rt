@@ -1,27 +1,11 @@
-//! Tests of the crates of types, tables and automata: what no clause says. They stand in a crate of their own, so that
-//! each crate is proved once.
+//! Tests of the crates of types, tables and automata: what no clause says. Values that were worked out by hand stand in
+//! `proofs`, as worked cases of the definitions by which those crates' contracts speak.
 #![tactic(auto)]
 
 #[cfg(test)]
-mod barriers;
-#[cfg(test)]
-mod descriptor;
-#[cfg(test)]
 mod entry_state;
 #[cfg(test)]
-mod events;
-#[cfg(test)]
 mod io;
-#[cfg(test)]
-mod locks;
-#[cfg(test)]
-mod log_grammar;
-#[cfg(test)]
-mod range;
-#[cfg(test)]
-mod regimes;
-#[cfg(test)]
-mod tlbi_scope;
 #[cfg(test)]
 mod walk_s1;
 #[cfg(test)]

@@ -1,124 +1,165 @@
-//! Each read of a log and each write of a text failing in turn. The texts are those of the same logs without a fault.
+//! Reads of a log and writes of a text that fail.
 
-use super::{CLEARED_AFTER_A_DSB, EL2_ROOT, Faults, TABLE_CLEARED, judged, log};
+use super::{Faults, NO_FAULTS, NOT_FLUSHED, REMAP, Said, judged, says};
 use std::alloc::{AllocError, Global};
 use std::test::Fail;
 
-/// Behind `TABLE_CLEARED`: the table is flushed whole, initialised and linked at another place.
-const LINKED_ELSEWHERE: &[u8] =
-    b"tlbi 0 vmalls12e1is\ndsb 0 ish\ninit 0 0x40003000\nw 0 0x40002010 0x40003003\nend 13\n";
-
-/// The status and the text of `check` on the log where this read fails.
-fn checked_to(alloc: Global, read: u64) -> Result<(u8, Vec<u8>), AllocError> {
-    let bytes = log(alloc, TABLE_CLEARED, LINKED_ELSEWHERE, 1, b"")?;
-    let faults = Faults {
-        read,
-        write: 0,
-        room: 200,
-    };
-    let (status, sink) = judged(alloc, "check", bytes, faults)?;
-    Ok((status, sink.bytes().to_vec(alloc)?))
+/// Whether `check` ends with the status of a fault and no text, where this read of the log fails.
+fn is_cut_at(alloc: Global, read: u64) -> Result<bool, AllocError> {
+    says(
+        alloc,
+        "check",
+        REMAP,
+        Faults { read, ..NO_FAULTS },
+        (b"", 4),
+    )
 }
 
-/// There is a read for each byte, and one that finds the end.
+/// The first read at which it doesn't.
+fn first_taken(alloc: Global) -> Result<Option<u64>, AllocError> {
+    for read in 1..=200 {
+        if !is_cut_at(alloc, read)? {
+            return Ok(Some(read));
+        }
+    }
+    Ok(None)
+}
+
+/// The log of 175 bytes is read byte by byte, so its end is found by read 176, and no further one is made.
 #[test]
 fn each_read_fails_in_turn(rt: HostRuntime) -> Result<(), Fail> {
-    let reads = 283;
-    for read in 1..=reads {
-        let (status, text) = checked_to(rt.alloc(), read)?;
-        assert!(rt; status == 4 && text.is_empty(), "read {read}");
-    }
-    let (status, text) = checked_to(rt.alloc(), reads + 1)?;
-    assert_eq!(rt; text.as_slice(), b"accepted 13 events\n".as_slice());
-    assert_eq!(rt; status, 0);
+    assert_eq!(rt; first_taken(rt.alloc())?, Some(177));
     Ok(())
 }
 
-/// A command, how a log begins, the rest of it, the text, the status, and how many writes the text takes.
-#[derive(Clone, Copy)]
-struct Told {
-    command: &'static str,
-    begin: &'static [u8],
-    rest: &'static [u8],
-    text: &'static [u8],
-    status: u8,
-    writes: u64,
-}
+/// A run whose second step is none.
+const BAD: &[u8] = b"bbmlog 1 hyp 2 1 1 1
+isb 0
+m drop 1
+end 1
+";
 
-const TOLD: [Told; 3] = [
-    // The TLBI is issued before the clear is published.
-    Told {
-        command: "explain",
-        begin: CLEARED_AFTER_A_DSB,
-        rest: b"tlbi 0 vae2is 0x40000\ndsb 0 ish\nw 0 0x40000008 0xc0000701\nend 8\n",
-        text: b"refused line 9 rule 4 break-before-make at 0x40000008\npe 0 seen\npe 1 seen\n",
-        status: 1,
-        writes: 3,
-    },
-    // A block that is moved by break-before-make.
-    Told {
-        command: "walk el2 0x40000000 0x40001234",
-        begin: CLEARED_AFTER_A_DSB,
-        rest: b"dsb 0 ishst\ntlbi 0 vae2is 0x40000\ndsb 0 ish\nw 0 0x40000008 0xc0000701\nend 9\n",
-        text: b"accepted 9 events\nwalk out 0xc0001234 level 1\n",
-        status: 0,
-        writes: 2,
-    },
-    // A TLB reads the old value after the TLBI.
-    Told {
-        command: "follow",
-        begin: EL2_ROOT,
-        rest: b"msr 1 ttbr0_el2 0x40000000
-w 0 0x40000008 0x80000701
-w 0 0x40000008 0x0
-tlbi 0 vae2is 0x40000
-m start 1 el2 0 0x40000008 0x80000701
-dsb 0 ish
-w 0 0x40000008 0xc0000701
-end 8
-",
-        text: b"run 9 steps conflict line 10\n",
-        status: 0,
-        writes: 1,
-    },
+/// The words, the log, the read and the write that fail with the sink's room, what is written, and the status.
+type Row = (&'static str, &'static [u8], (u64, u64, usize), Said);
+
+const OF_A_LOG: [Row; 7] = [
+    ("check", REMAP, (177, 0, 200), (b"accepted 8 events\n", 0)),
+    ("check", REMAP, (0, 1, 200), (b"", 5)),
+    ("check", REMAP, (0, 2, 200), (b"accepted 8 events\n", 0)),
+    ("check", REMAP, (0, 0, 0), (b"", 5)),
+    ("check", REMAP, (0, 0, 5), (b"accep", 5)),
+    ("check", REMAP, (0, 0, 18), (b"accepted 8 events\n", 0)),
+    // The fault of the read comes first.
+    ("check", REMAP, (5, 1, 200), (b"", 4)),
 ];
 
-/// Whether the command ends with its status and its whole text, where this write fails or none.
-fn is_whole(status: u8, text: &[u8], told: &Told) -> bool {
-    status == told.status && text == told.text
-}
+/// Texts of several writes, each of which fails in turn, and a sink that is full before their end.
+const OF_LINES: [Row; 8] = [
+    ("explain", NOT_FLUSHED, (0, 1, 200), (b"", 5)),
+    (
+        "explain",
+        NOT_FLUSHED,
+        (0, 2, 200),
+        (
+            b"refused line 6 rule 4 break-before-make at 0x40000008\n",
+            5,
+        ),
+    ),
+    (
+        "explain",
+        NOT_FLUSHED,
+        (0, 3, 200),
+        (
+            b"refused line 6 rule 4 break-before-make at 0x40000008\npe 0 broken\n",
+            5,
+        ),
+    ),
+    (
+        "explain",
+        NOT_FLUSHED,
+        (0, 0, 60),
+        (
+            b"refused line 6 rule 4 break-before-make at 0x40000008\npe 0 b",
+            5,
+        ),
+    ),
+    (
+        "walk el2 0x40000000 0x40001234",
+        REMAP,
+        (0, 2, 200),
+        (b"accepted 8 events\n", 5),
+    ),
+    (
+        "walk el2 0x40000000 0x40001234",
+        REMAP,
+        (0, 3, 200),
+        (b"accepted 8 events\nwalk out 0xc0001234 level 1\n", 0),
+    ),
+    (
+        "selftest 0 10",
+        b"",
+        (1, 2, 200),
+        (b"accepted 10 events\n", 5),
+    ),
+    (
+        "selftest 0 10",
+        b"",
+        (1, 0, 36),
+        (b"accepted 10 events\npages 2 restless ", 5),
+    ),
+];
 
-/// Whether it ends with the status of a failed write, and a proper prefix of its text.
-fn is_cut(status: u8, text: &[u8], told: &Told) -> bool {
-    status == 5 && text.len() < told.text.len() && told.text.starts_with(text)
-}
+/// Of the 42 bytes of the run the end is found by read 43.
+const OF_A_RUN: [Row; 5] = [
+    ("follow", BAD, (30, 1, 200), (b"", 4)),
+    ("follow", BAD, (43, 0, 200), (b"", 4)),
+    ("follow", BAD, (44, 0, 200), (b"bad step line 3\n", 1)),
+    ("follow", BAD, (0, 1, 200), (b"", 5)),
+    ("follow", BAD, (0, 0, 5), (b"bad s", 5)),
+];
 
-/// Whether the command ends as it should where this write fails.
-fn ends_at(alloc: Global, told: &Told, write: u64) -> Result<bool, AllocError> {
-    let bytes = log(alloc, told.begin, told.rest, 1, b"")?;
-    let faults = Faults {
-        read: 0,
-        write,
-        room: 200,
-    };
-    let (status, sink) = judged(alloc, told.command, bytes, faults)?;
-    Ok(if write <= told.writes {
-        is_cut(status, sink.bytes(), told)
-    } else {
-        is_whole(status, sink.bytes(), told)
-    })
+/// The first row of which its command says something else.
+fn first_other(alloc: Global, rows: &[Row]) -> Result<Option<usize>, AllocError> {
+    for (at, row) in rows.iter().enumerate() {
+        let (read, write, room) = row.2;
+        let faults = Faults { read, write, room };
+        if !says(alloc, row.0, row.1, faults, row.3)? {
+            return Ok(Some(at));
+        }
+    }
+    Ok(None)
 }
 
 #[test]
-fn each_write_fails_in_turn(rt: HostRuntime) -> Result<(), Fail> {
-    for told in TOLD {
-        for write in 1..=told.writes + 1 {
-            assert!(rt;
-                ends_at(rt.alloc(), &told, write)?,
-                "{} write {write}",
-                told.command
-            );
-        }
-    }
+fn faults_are_told(rt: HostRuntime) -> Result<(), Fail> {
+    assert_eq!(rt; first_other(rt.alloc(), &OF_A_LOG)?, None);
+    assert_eq!(rt; first_other(rt.alloc(), &OF_LINES)?, None);
+    assert_eq!(rt; first_other(rt.alloc(), &OF_A_RUN)?, None);
+    Ok(())
+}
+
+/// The status and the number of bytes written, where this write of a generated log fails, or the sink has this room.
+fn written(
+    alloc: Global,
+    command: &str,
+    write: u64,
+    room: usize,
+) -> Result<(u8, usize), AllocError> {
+    let faults = Faults {
+        read: 1,
+        write,
+        room,
+    };
+    let (status, sink) = judged(alloc, command, Vec::new(alloc), faults)?;
+    Ok((status, sink.bytes().len()))
+}
+
+/// A write takes 4 KiB at least, but for the last.
+#[test]
+fn faults_of_a_generated_log_are_told(rt: HostRuntime) -> Result<(), Fail> {
+    assert!(rt; written(rt.alloc(), "gen 7 4294967293", 1, 200)? == (5, 0));
+    assert!(rt; written(rt.alloc(), "gen 3 8", 0, 5)? == (5, 5));
+    let (status, bytes) = written(rt.alloc(), "gen 7 5000", 2, 100000)?;
+    assert!(rt; status == 5 && bytes >= 4096 && bytes <= 79000);
     Ok(())
 }

@@ -1,0 +1,119 @@
+//! Each command once. The texts were worked out by hand.
+
+use super::{Faults, NO_FAULTS, NOT_FLUSHED, REMAP, Said, judged, says};
+use std::alloc::{AllocError, Global};
+use std::test::Fail;
+
+/// A block is replaced while PE 1 may read it.
+const REPLACED: &[u8] = b"bbmlog 1 hyp 2 1 1 1
+init 0 0x40000000
+root 0 el2 - 0x40000000
+msr 1 ttbr0_el2 0x40000000
+w 0 0x40000008 0x80000701
+w 0 0x40000008 0xc0000701
+end 5
+";
+
+/// PE 1 has read it.
+const RUN: &[u8] = b"bbmlog 1 hyp 2 1 1 1
+init 0 0x40000000
+root 0 el2 - 0x40000000
+msr 1 ttbr0_el2 0x40000000
+w 0 0x40000008 0x80000701
+m start 1 el2 0 0x40000008 0x80000701
+w 0 0x40000008 0xc0000701
+end 5
+";
+
+/// The words, the log, the text and the status. No contract says that there is memory: with ample memory the log of the
+/// first row is accepted, so a body that always answers want of memory fails here.
+const RUNS: [(&str, &[u8], Said); 8] = [
+    ("check", REMAP, (b"accepted 8 events\n", 0)),
+    ("slow", REMAP, (b"accepted 8 events\n", 0)),
+    (
+        "explain",
+        NOT_FLUSHED,
+        (
+            b"refused line 6 rule 4 break-before-make at 0x40000008\npe 0 broken\npe 1 broken\n",
+            1,
+        ),
+    ),
+    (
+        "walk el2 0x40000000 0x40001234",
+        REMAP,
+        (b"accepted 8 events\nwalk out 0xc0001234 level 1\n", 0),
+    ),
+    (
+        "idle",
+        b"bbmlog 1 hyp 2 1 1 1\ndmb 0 ish\nisb 0\nend 2\n",
+        (b"accepted 2 events\nidle line 2\nidle line 3\n", 0),
+    ),
+    ("counterrun", REPLACED, (RUN, 1)),
+    ("follow", RUN, (b"run 6 steps conflict line 7\n", 0)),
+    (
+        "cert",
+        REMAP,
+        (
+            b"bbmcert 1\nc place 0 0x40000008 5 6 7\nc place 1 0x40000008 5 6 7\nend 2\n",
+            0,
+        ),
+    ),
+];
+
+/// The first row of which its command says something else.
+fn first_other(alloc: Global) -> Result<Option<usize>, AllocError> {
+    for (at, row) in RUNS.iter().enumerate() {
+        if !says(alloc, row.0, row.1, NO_FAULTS, row.2)? {
+            return Ok(Some(at));
+        }
+    }
+    Ok(None)
+}
+
+#[test]
+fn each_command_judges(rt: HostRuntime) -> Result<(), Fail> {
+    assert_eq!(rt; first_other(rt.alloc())?, None);
+    Ok(())
+}
+
+/// Whether `verify` takes what `cert` wrote.
+fn is_verified(alloc: Global) -> Result<bool, AllocError> {
+    let (_, sink) = judged(alloc, "cert", REMAP.to_vec(alloc)?, NO_FAULTS)?;
+    let mut both = REMAP.to_vec(alloc)?;
+    both.extend_from_slice(sink.bytes())?;
+    says(
+        alloc,
+        "verify",
+        &both,
+        NO_FAULTS,
+        (b"verified 8 events 2 claims\n", 0),
+    )
+}
+
+#[test]
+fn a_certificate_is_verified(rt: HostRuntime) -> Result<(), Fail> {
+    assert!(rt; is_verified(rt.alloc())?);
+    Ok(())
+}
+
+/// Whether these words say this without a read, which would fail.
+fn says_unread(alloc: Global, command: &str, text: &'static [u8]) -> Result<bool, AllocError> {
+    let unread = Faults {
+        read: 1,
+        ..NO_FAULTS
+    };
+    says(alloc, command, b"", unread, (text, 0))
+}
+
+#[test]
+fn generated_logs_are_made_without_a_read(rt: HostRuntime) -> Result<(), Fail> {
+    assert!(rt; says_unread(rt.alloc(), "gen 0 0", b"bbmlog 1 hyp 4 1 1 1\nend 0\n")?);
+    assert!(rt;
+        says_unread(
+            rt.alloc(),
+            "selftest 0 10",
+            b"accepted 10 events\npages 2 restless 1\n"
+        )?
+    );
+    Ok(())
+}
